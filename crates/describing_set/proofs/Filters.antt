@@ -1,0 +1,157 @@
+-- What the tests of a set against a filter say of the coordinates that the set covers.
+use Rattle.std.proofs.Common.{ℕ, ◌≡◌, ◌≢◌, ◌+◌, ◌-◌, ◌<◌, ◌≤◌, Bool, true, false, nat_lt, List, [], ◌∷◌, length, get_or, refl, sym, ap, subst, ◌∙◌, arith, inl, inr, Contains, ◌||◌, ◌⊎◌}
+use Rattle.std.specs.Prelude.{All as Each, Any, ◌↔◌, IsTrue}
+use Rattle.std.specs.List.{list_any, list_all}
+use Rattle.std.proofs.lemmas.Bool.{and_parts, and_from, cases_lt, false≢true, lt-ltb, ltb-true}
+use Rattle.std.proofs.lemmas.List.{get_or_default}
+use Rattle.std.proofs.lemmas.List.Folds.{Any-from_list_any, list_any-from_Any}
+use Rattle.std.proofs.lemmas.List.Elements.{All-contains, All-head, All-tail, All-cons, All-nil}
+use Rattle.dim_hierarchy.specs.Tree.{Tree, IsConcept, IsTree, IsUnder, is_under, up, climb}
+use Rattle.dim_hierarchy.specs.Dimension.{Dimension, tree}
+use Rattle.dim_hierarchy.specs.Row.{concept_at}
+use Rattle.dim_hierarchy.specs.Filter.{pick_at, IsPicked, is_picked, IsPickOf, IsFilterOf, Matches}
+use Rattle.dim_hierarchy.specs.declared.row.Coord.{Coord}
+use Rattle.dim_hierarchy.specs.declared.filter.Pick.{Pick}
+use Rattle.dim_hierarchy.specs.declared.filter.Pick.TheVariants.{All, Ids}
+use Rattle.dim_hierarchy.proofs.Ancestors.{climb-climb, IsUnder-trans, under_up, is_under-IsUnder}
+use Rattle.dim_hierarchy.proofs.Matching.{is_picked-IsPicked}
+use Rattle.describing_set.specs.declared.part.Part.{Part}
+use Rattle.describing_set.specs.declared.set.DescSet.{DescSet}
+use Rattle.describing_set.specs.DescSet.{part_at, IsDescSetOf, Covers}
+use Rattle.describing_set.specs.Filter.{IsInside, is_part_inside, is_inside, AreRelated, are_related, IsMet, is_met, is_part_met, Overlaps, overlaps}
+use Rattle.describing_set.proofs.Covering.{in_each-from, in_each-at}
+use Rattle.describing_set.proofs.Sets.{part_at-IsPart, IsPart-concepts}
+
+-- a pick as the code reads it
+pub pick_read : (f read : List Pick) (i dim : ℕ) (p : Pick) → read ≡ f → i ≡ dim → dim < length f → p ≡ get_or read i p → p ≡ pick_at f dim
+pick_read f read i dim p e n lt is = is ∙ ap (λ l. get_or l i p) e ∙ ap (λ k. get_or f k p) n ∙ get_or_default f dim p All lt
+
+-- Inside.
+
+-- a test of each concept of a list that means a fact
+list_all-All : (test : ℕ → Bool) (P : ℕ → Type 0) (xs : List ℕ) → Each (λ x. IsTrue (test x) ↔ P x) xs → IsTrue (list_all test xs) ↔ Each P xs
+list_all-All test P [] m = (λ b. All-nil P, λ a. refl)
+list_all-All test P (x ∷ xs) m =
+    let here = All-head (λ y. IsTrue (test y) ↔ P y) x xs m in
+    let rest = list_all-All test P xs (All-tail (λ y. IsTrue (test y) ↔ P y) x xs m) in (
+      λ b. let both = and_parts (test x) (list_all test xs) b in All-cons P x xs (here.0 both.0) (rest.0 both.1),
+      λ a. and_from (test x) (list_all test xs) (here.1 (All-head P x xs a)) (rest.1 (All-tail P x xs a)),
+    )
+
+part_inside-meaning : (t : Tree) → IsTree t → (p : Part) (pick : Pick) → Each (IsConcept t) p.ids.items → IsTrue (is_part_inside t p pick) ↔ Each (IsPicked t pick) p.ids.items
+part_inside-meaning t w p pick all =
+    list_all-All (is_picked t pick) (IsPicked t pick) p.ids.items (λ k x lt. is_picked-IsPicked t w pick (get_or p.ids.items k x) (all k x lt))
+
+pub is_inside-IsInside : (h : List Dimension) (set : DescSet) (f : List Pick) → IsDescSetOf h set → IsFilterOf h f → IsTrue (is_inside h set f) ↔ IsInside h set f
+is_inside-IsInside h set f s v =
+    let meaning : (dim : ℕ) → dim < length h → IsTrue (is_part_inside (tree h dim) (part_at set dim) (pick_at f dim)) ↔ Each (IsPicked (tree h dim) (pick_at f dim)) (part_at set dim).ids.items =
+    λ dim lt. part_inside-meaning (tree h dim) (s.hierarchy.each dim lt).tree (part_at set dim) (pick_at f dim) (IsPart-concepts (tree h dim) (part_at set dim) (part_at-IsPart h set dim lt s)) in (
+      λ b. record { picked = λ dim lt. (meaning dim lt).0 (in_each-at is_part_inside h set.parts.items f All b dim lt) },
+      λ i. in_each-from is_part_inside h set.parts.items f All s.set_of.count (let n = v.count in omega arith) (λ dim lt. (meaning dim lt).1 (i.picked dim lt)),
+    )
+
+-- a concept is picked where an ancestor is
+picked_below : (t : Tree) (pick : Pick) (id level : ℕ) → IsPicked t pick (up t id level) → IsPicked t pick id
+picked_below t All id level p = tt
+picked_below t (Ids ids) id level p = (p.0, p.1, p.2, p.3, IsUnder-trans t id (up t id level) p.1 (under_up t id level) p.4)
+
+-- a coordinate that the set covers is matched where the set is inside the filter
+pub inside_matches : (h : List Dimension) (set : DescSet) (f : List Pick) (at : Coord) → IsInside h set f → Covers h set at → Matches h f at
+inside_matches h set f at i c = record {
+  picked = λ dim lt.
+      let t = tree h dim in
+      let p = part_at set dim in
+      picked_below t (pick_at f dim) (concept_at at dim) p.level (All-contains (IsPicked t (pick_at f dim)) p.ids.items (up t (concept_at at dim) p.level) (i.picked dim lt) (c.ancestor dim lt));
+}
+
+-- Overlapping.
+
+-- a test of some element of a list that means a fact
+list_any-Any : (test : ℕ → Bool) (P : ℕ → Type 0) (xs : List ℕ) → Each (λ x. IsTrue (test x) ↔ P x) xs → IsTrue (list_any test xs) ↔ Any P xs
+list_any-Any test P xs m = (
+  λ b.
+      let a = Any-from_list_any test xs b in
+      (a.0, a.1, a.2, a.3, (subst (λ x. IsTrue (test x) ↔ P x) a.3 (m a.0 a.1 a.2)).0 a.4),
+  λ a. list_any-from_Any test xs (a.0, a.1, a.2, a.3, (subst (λ x. IsTrue (test x) ↔ P x) a.3 (m a.0 a.1 a.2)).1 a.4),
+)
+
+related-meaning : (t : Tree) → IsTree t → (a b : ℕ) → IsConcept t a → IsConcept t b → IsTrue (are_related t a b) ↔ AreRelated t a b
+related-meaning t w a b ca cb =
+    let down = is_under-IsUnder t w a b ca in
+    let above = is_under-IsUnder t w b a cb in (
+      λ e. elim (either (is_under t a b) (is_under t b a) e) [ inl l ↦ inl (down.0 l) | inr r ↦ inr (above.0 r) ],
+      λ r. elim r [ inl u ↦ left (is_under t a b) (is_under t b a) (down.1 u) | inr u ↦ right (is_under t a b) (is_under t b a) (above.1 u) ],
+    )
+  where
+    either : (x y : Bool) → (x || y) ≡ true → (x ≡ true) ⊎ (y ≡ true)
+    either true y e = inl refl
+    either false y e = inr e
+
+    left : (x y : Bool) → x ≡ true → (x || y) ≡ true
+    left true y e = refl
+    left false y e = absurd (false≢true e)
+
+    right : (x y : Bool) → y ≡ true → (x || y) ≡ true
+    right true y e = refl
+    right false y e = e
+
+met-meaning : (t : Tree) → IsTree t → (ids : List ℕ) (pick : Pick) → Each (IsConcept t) ids → IsPickOf t pick → IsTrue (is_met t ids pick) ↔ IsMet t ids pick
+met-meaning t w ids All all v = (λ b. tt, λ m. refl)
+met-meaning t w ids (Ids tops) all v =
+    list_any-Any (λ id. list_any (are_related t id) tops) (λ id. Any (AreRelated t id) tops) ids (λ k x lt.
+    list_any-Any (are_related t (get_or ids k x)) (AreRelated t (get_or ids k x)) tops (λ j y less. related-meaning t w (get_or ids k x) (get_or tops j y) (all k x lt) (v.1 j y less)))
+
+some-meaning : (xs : List ℕ) → IsTrue (nat_lt 0 (length xs)) ↔ (xs ≢ [])
+some-meaning [] = (λ b e. false≢true b, λ n. absurd (n refl))
+some-meaning (x ∷ xs) = (λ b e. cc, λ n. lt-ltb 0 (length (x ∷ xs)) (omega arith))
+
+pub overlaps-Overlaps : (h : List Dimension) (set : DescSet) (f : List Pick) → IsDescSetOf h set → IsFilterOf h f → IsTrue (overlaps h set f) ↔ Overlaps h set f
+overlaps-Overlaps h set f s v =
+    let some : (dim : ℕ) → IsTrue (nat_lt 0 (length (part_at set dim).ids.items)) ↔ ((part_at set dim).ids.items ≢ []) = λ dim. some-meaning (part_at set dim).ids.items in
+    let met : (dim : ℕ) → dim < length h → IsTrue (is_met (tree h dim) (part_at set dim).ids.items (pick_at f dim)) ↔ IsMet (tree h dim) (part_at set dim).ids.items (pick_at f dim) =
+    λ dim lt. met-meaning (tree h dim) (s.hierarchy.each dim lt).tree (part_at set dim).ids.items (pick_at f dim) (IsPart-concepts (tree h dim) (part_at set dim) (part_at-IsPart h set dim lt s)) (v.picks dim lt) in (
+      λ b.
+          let both = and_parts (nat_lt 0 (length h)) _ b in
+          let here : (dim : ℕ) → dim < length h → is_part_met (tree h dim) (part_at set dim) (pick_at f dim) ≡ true = in_each-at is_part_met h set.parts.items f All both.1 in
+          record {
+            dims = ltb-true 0 (length h) both.0;
+            some = λ dim lt. (some dim).0 (and_parts (nat_lt 0 (length (part_at set dim).ids.items)) _ (here dim lt)).0;
+            met = λ dim lt. (met dim lt).0 (and_parts (nat_lt 0 (length (part_at set dim).ids.items)) _ (here dim lt)).1;
+          },
+      λ o.
+          and_from (nat_lt 0 (length h)) _ (lt-ltb 0 (length h) o.dims)
+          (in_each-from is_part_met h set.parts.items f All s.set_of.count (let n = v.count in omega arith) (λ dim lt. and_from _ _ ((some dim).1 (o.some dim lt)) ((met dim lt).1 (o.met dim lt)))),
+    )
+
+-- of two ancestors one is under the other
+related_ancestors : (t : Tree) (id a b : ℕ) → IsUnder t id a → IsUnder t id b → AreRelated t a b
+related_ancestors t id a b p q = elim (cases_lt q.steps p.steps) [
+  | inl h ↦ inr (further b a q p (omega arith))
+  | inr h ↦ inl (further a b p q h)
+]
+  where
+    further : (x y : ℕ) → (u : IsUnder t id x) (v : IsUnder t id y) → u.steps ≤ v.steps → IsUnder t x y
+    further x y u v h =
+        let e : u.steps + (v.steps - u.steps) ≡ v.steps = omega arith in
+        record {
+          steps = v.steps - u.steps;
+          reached = ap (λ z. climb t (v.steps - u.steps) z) (sym u.reached) ∙ climb-climb t u.steps (v.steps - u.steps) id ∙ ap (λ n. climb t n id) e ∙ v.reached;
+        }
+
+not_nil : (xs : List ℕ) (x : ℕ) → Contains xs x → xs ≢ []
+not_nil [] x k e = omega (arith, k.1)
+not_nil (y ∷ ys) x k e = cc
+
+met_by : (t : Tree) (pick : Pick) (ids : List ℕ) (id level : ℕ) → Contains ids (up t id level) → IsPicked t pick id → IsMet t ids pick
+met_by t All ids id level k p = tt
+met_by t (Ids tops) ids id level k p =
+    let r : AreRelated t (up t id level) p.1 = related_ancestors t id (up t id level) p.1 (under_up t id level) p.4 in
+    (k.0, up t id level, k.1, k.2, (p.0, p.1, p.2, p.3, r))
+
+-- a filter that matches a coordinate that the set covers overlaps the set
+pub matched_overlaps : (h : List Dimension) (set : DescSet) (f : List Pick) (at : Coord) → 0 < length h → Covers h set at → Matches h f at → Overlaps h set f
+matched_overlaps h set f at lt c m = record {
+  dims = lt;
+  some = λ dim l. not_nil (part_at set dim).ids.items (up (tree h dim) (concept_at at dim) (part_at set dim).level) (c.ancestor dim l);
+  met = λ dim l. met_by (tree h dim) (pick_at f dim) (part_at set dim).ids.items (concept_at at dim) (part_at set dim).level (c.ancestor dim l) (m.picked dim l);
+}

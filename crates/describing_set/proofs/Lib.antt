@@ -1,0 +1,6 @@
+pub mod Sorted
+pub mod Parts
+pub mod Sets
+pub mod Covering
+pub mod Filters
+pub mod Laws

@@ -1,0 +1,153 @@
+-- The set of a list of coordinates.
+use Rattle.std.proofs.Common.{ℕ, ◌≡◌, ◌≢◌, ◌+◌, ◌<◌, ◌≤◌, List, [], ◌∷◌, ◌++◌, length, map, get_or, set, refl, sym, ap, subst, ◌∙◌, arith, inl, inr}
+use Rattle.std.specs.Prelude.{All as Each}
+use Rattle.std.proofs.lemmas.List.{get_or_default, get_or-set_same, get_or-set_other, length-set}
+use Rattle.std.proofs.lemmas.List.Elements.{All-head, All-tail, All-cons, All-nil, All-append}
+use Rattle.std.proofs.lemmas.Bool.{cases_lt}
+use Rattle.arrayvec.specs.ArrayVec.{with_items}
+use Rattle.arrayvec.proofs.ArrayVecLemmas.{items-with_items}
+use Rattle.dim_hierarchy.specs.Concept.{level_of}
+use Rattle.dim_hierarchy.specs.Tree.{Tree, IsConcept, IsLeaf, leaf_level}
+use Rattle.dim_hierarchy.specs.Dimension.{Dimension, tree, IsHierarchy}
+use Rattle.dim_hierarchy.specs.Row.{IsCoordOf, concept_at}
+use Rattle.dim_hierarchy.specs.declared.row.Coord.{Coord}
+use Rattle.describing_set.specs.Ascending.{In}
+use Rattle.describing_set.specs.declared.part.Part.{Part}
+use Rattle.describing_set.specs.declared.set.DescSet.{DescSet}
+use Rattle.describing_set.specs.Part.{part, part_of, AreConcepts, IsPart, GrowsPart, JoinsParts}
+use Rattle.describing_set.specs.DescSet.{part_at, column, IsSetOf, IsDescSetOf, GrowsBy, JoinsTo}
+use Rattle.describing_set.proofs.Sorted.{All-from_In}
+use Rattle.describing_set.proofs.Parts.{deepest, part_from-few, part_from-IsPart}
+
+-- Coordinates by dimension.
+
+-- the concepts of coordinates in a dimension are leaf concepts
+column_leaf : (h : List Dimension) (rows : List Coord) (dim : ℕ) → dim < length h → Each (IsCoordOf h) rows → (id : ℕ) → In id (column rows dim) → IsLeaf (tree h dim) id
+column_leaf h [] dim lt all id i = absurd i
+column_leaf h (at ∷ rows) dim lt all id i = elim i [
+  | inl q ↦ subst (IsLeaf (tree h dim)) (sym q) ((All-head (IsCoordOf h) at rows all).leaf dim lt)
+  | inr s ↦ column_leaf h rows dim lt (All-tail (IsCoordOf h) at rows all) id s
+]
+
+pub column-AreConcepts : (h : List Dimension) (rows : List Coord) (dim : ℕ) → dim < length h → Each (IsCoordOf h) rows → AreConcepts (tree h dim) (leaf_level (tree h dim)) (column rows dim)
+column-AreConcepts h rows dim lt all = record {
+  concept = λ id i. (column_leaf h rows dim lt all id i).concept;
+  level = λ id i. let e = (column_leaf h rows dim lt all id i).last in omega (arith, e);
+}
+
+-- What is known of a part of a set.
+
+pub part_at-IsPart : (h : List Dimension) (set : DescSet) (dim : ℕ) → dim < length h → IsDescSetOf h set → IsPart (tree h dim) (part_at set dim)
+part_at-IsPart h set dim lt s =
+    let t = tree h dim in
+    subst (IsPart t) (sym (s.set_of.parts dim lt)) (part_from-IsPart t (s.hierarchy.each dim lt).tree (leaf_level t) (column s.rows dim) (column-AreConcepts h s.rows dim lt s.valid))
+
+pub part_at-level : (h : List Dimension) (set : DescSet) (dim : ℕ) → dim < length h → IsDescSetOf h set → (part_at set dim).level ≤ leaf_level (tree h dim)
+part_at-level h set dim lt s =
+    let t = tree h dim in
+    (deepest t (leaf_level t) (column s.rows dim) (part_at set dim) (s.set_of.parts dim lt)).level
+
+-- a part is not deeper than a coordinate's concept
+pub part_at-above : (h : List Dimension) (set : DescSet) (at : Coord) (dim : ℕ) → dim < length h → IsDescSetOf h set → IsCoordOf h at → (part_at set dim).level ≤ level_of (concept_at at dim)
+part_at-above h set at dim lt s a = let low = part_at-level h set dim lt s in let e = (a.leaf dim lt).last in omega (arith, low, e)
+
+pub IsPart-concepts : (t : Tree) (p : Part) → IsPart t p → Each (IsConcept t) p.ids.items
+IsPart-concepts t p i = All-from_In (IsConcept t) p.ids.items i.concept
+
+-- what the code reads is the part
+pub part_read : (set : DescSet) (xs : List Part) (i dim : ℕ) (x : Part) → xs ≡ set.parts.items → i ≡ dim → dim < length set.parts.items → x ≡ get_or xs i x → x ≡ part_at set dim
+part_read set xs i dim x a b lt e = e ∙ ap (λ l. get_or l i x) a ∙ ap (λ k. get_or set.parts.items k x) b ∙ get_or_default set.parts.items dim x (part 0 []) lt
+
+-- Sets as they are made.
+
+pub IsDescSetOf-empty : (h : List Dimension) (set : DescSet) → IsHierarchy h → IsSetOf h [] set → IsDescSetOf h set
+IsDescSetOf-empty h set w s = record { hierarchy = w; rows = []; valid = All-nil (IsCoordOf h); set_of = s }
+
+-- parts of leaf levels without concepts make the set of no coordinate
+pub IsSetOf-empty : (h : List Dimension) (set : DescSet) → length set.parts.items ≡ length h → ((dim : ℕ) → dim < length h → part_at set dim ≡ part (leaf_level (tree h dim)) []) → IsSetOf h [] set
+IsSetOf-empty h set count f = record {
+  count = count;
+  parts = λ dim lt. f dim lt ∙ sym (part_from-few (tree h dim) (leaf_level (tree h dim)) [] (omega arith));
+}
+
+-- parts that grew make a set that grew
+grown_set : (h : List Dimension) (at : Coord) (old new : DescSet) → length new.parts.items ≡ length old.parts.items → ((dim : ℕ) → dim < length h → GrowsPart (tree h dim) (concept_at at dim) (part_at old dim) (part_at new dim)) → GrowsBy h at old new
+grown_set h at old new len g = record {
+  grown = λ rows all s. record {
+    count = len ∙ s.count;
+    parts = λ dim lt. (g dim lt).grown (leaf_level (tree h dim)) (column rows dim) (column-AreConcepts h rows dim lt all) (s.parts dim lt);
+  };
+}
+
+pub IsDescSetOf-grown : (h : List Dimension) (at : Coord) (old new : DescSet) → IsDescSetOf h old → IsCoordOf h at → GrowsBy h at old new → IsDescSetOf h new
+IsDescSetOf-grown h at old new s a g = record {
+  hierarchy = s.hierarchy;
+  rows = at ∷ s.rows;
+  valid = All-cons (IsCoordOf h) at s.rows a s.valid;
+  set_of = g.grown s.rows s.valid s.set_of;
+}
+
+map-append : (f : Coord → ℕ) (xs ys : List Coord) → map f (xs ++ ys) ≡ map f xs ++ map f ys
+map-append f [] ys = refl
+map-append f (x ∷ xs) ys = ap (λ l. f x ∷ l) (map-append f xs ys)
+
+-- parts that are joined make a set that is joined
+pub joined_set : (h : List Dimension) (left right result : DescSet) → length result.parts.items ≡ length h → ((dim : ℕ) → dim < length h → JoinsParts (tree h dim) (part_at left dim) (part_at right dim) (part_at result dim)) → JoinsTo h left right result
+joined_set h left right result count j = record {
+  joined = λ xs ys cx cy sx sy. record {
+    count = count;
+    parts = λ dim lt.
+        let t = tree h dim in
+        (j dim lt).joined (leaf_level t) (column xs dim) (column ys dim) (column-AreConcepts h xs dim lt cx) (column-AreConcepts h ys dim lt cy) (sx.parts dim lt) (sy.parts dim lt)
+        ∙ ap (λ l. part_of t l) (sym (map-append (λ at. concept_at at dim) xs ys));
+  };
+}
+
+pub IsDescSetOf-joined : (h : List Dimension) (left right result : DescSet) → IsDescSetOf h left → IsDescSetOf h right → JoinsTo h left right result → IsDescSetOf h result
+IsDescSetOf-joined h left right result l r j = record {
+  hierarchy = l.hierarchy;
+  rows = l.rows ++ r.rows;
+  valid = All-append (IsCoordOf h) l.rows r.rows l.valid r.valid;
+  set_of = j.joined l.rows r.rows l.valid r.valid l.set_of r.set_of;
+}
+
+-- How far the loop of `grow` is: the parts before the dimension grew, and the others are as they were.
+pub record Growing (h : List Dimension) (at : Coord) (start now : List Part) (dim : ℕ) : Type 0 where
+  pub count : length now ≡ length start
+  pub done : (k : ℕ) → k < dim → GrowsPart (tree h k) (concept_at at k) (get_or start k (part 0 [])) (get_or now k (part 0 []))
+  pub rest : (k : ℕ) → dim ≤ k → get_or now k (part 0 []) ≡ get_or start k (part 0 [])
+
+-- a part that the loop has not reached
+pub untouched : (h : List Dimension) (at : Coord) (start now items : List Part) (i dim : ℕ) (r : Part) → i ≡ dim → start ≡ items → dim < length now → Growing h at start now dim → get_or now i r ≡ get_or items dim (part 0 [])
+untouched h at start now items i dim r e s lt g =
+    ap (λ k. get_or now k r) e ∙ get_or_default now dim r (part 0 []) lt ∙ g.rest dim (omega arith) ∙ ap (λ xs. get_or xs dim (part 0 [])) s
+
+pub Growing-next : (h : List Dimension) (at : Coord) (start now : List Part) (i dim id : ℕ) (r new : Part) → i ≡ dim → id ≡ concept_at at dim → dim < length now → Growing h at start now dim → GrowsPart (tree h dim) id (get_or now i r) new → Growing h at start (set now i new) (dim + 1)
+Growing-next h at start now i dim id r new e q lt g one = record {
+  count = length-set now i new ∙ g.count;
+  done = λ k less. elim (cases_lt k dim) [
+    | inl b ↦
+        let ne : k ≢ i = omega arith in
+        subst (GrowsPart (tree h k) (concept_at at k) (get_or start k (part 0 []))) (sym (get_or-set_other now i k new (part 0 []) ne)) (g.done k b)
+    | inr b ↦
+        let k_is : k ≡ dim = omega arith in
+        let k_i : k ≡ i = omega arith in
+        let il : i < length now = omega arith in
+        let old : get_or now i r ≡ get_or start k (part 0 []) = untouched h at start now start i dim r e refl lt g ∙ ap (λ j. get_or start j (part 0 [])) (sym k_is) in
+        let same : new ≡ get_or (set now i new) k (part 0 []) = sym (get_or-set_same now i new (part 0 []) il) ∙ ap (λ j. get_or (set now i new) j (part 0 [])) (sym k_i) in
+        let a : GrowsPart (tree h k) id (get_or now i r) new = subst (λ j. GrowsPart (tree h j) id (get_or now i r) new) (sym k_is) one in
+        let b : GrowsPart (tree h k) (concept_at at k) (get_or now i r) new = subst (λ x. GrowsPart (tree h k) x (get_or now i r) new) (q ∙ ap (λ j. concept_at at j) (sym k_is)) a in
+        let c : GrowsPart (tree h k) (concept_at at k) (get_or start k (part 0 [])) new = subst (λ o. GrowsPart (tree h k) (concept_at at k) o new) old b in
+        subst (GrowsPart (tree h k) (concept_at at k) (get_or start k (part 0 []))) same c
+  ];
+  rest = λ k le.
+      let ne : k ≢ i = omega arith in
+      let more : dim ≤ k = omega arith in
+      get_or-set_other now i k new (part 0 []) ne ∙ g.rest k more;
+}
+
+pub grown_parts : (h : List Dimension) (at : Coord) (old : DescSet) (start now : List Part) (dim : ℕ) → start ≡ old.parts.items → Growing h at start now dim → length h ≤ dim → GrowsBy h at old (record { parts = with_items old.parts now })
+grown_parts h at old start now dim e g le =
+    let k : Growing h at old.parts.items now dim = subst (λ xs. Growing h at xs now dim) e g in
+    subst (λ xs. GrowsBy h at old (record { parts = record { items = xs } })) (sym (items-with_items old.parts now k.count))
+    (grown_set h at old (record { parts = record { items = now } }) k.count (λ j lt. k.done j (omega arith)))

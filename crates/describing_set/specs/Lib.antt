@@ -1,0 +1,5 @@
+pub mod Ascending
+pub mod Part
+pub mod DescSet
+pub mod Filter
+pub mod Plane

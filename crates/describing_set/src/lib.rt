@@ -1,0 +1,17 @@
+//! Describing sets: for each dimension a level and at most six concepts, which describe a list of
+//! rows in one way only.
+#![tactic(auto)]
+
+mod ids;
+mod listing;
+mod part;
+mod picks;
+mod plane;
+mod set;
+#[cfg(test)]
+mod tests;
+
+pub use listing::{Listing, Path, Spot};
+pub use part::Part;
+pub use plane::{Plane, goes_left, plane_of};
+pub use set::DescSet;

@@ -1,0 +1,137 @@
+ghost use Rattle.std.specs.Prelude.{◌≡◌, ◌<◌, ◌≤◌, ◌-◌, length, All};
+ghost use Rattle.dim_hierarchy.specs.Concept.{level_of};
+ghost use Rattle.dim_hierarchy.specs.Tree.{IsConcept};
+ghost use Rattle.dim_hierarchy.specs.Dimension.{tree, IsHierarchy};
+ghost use Rattle.dim_hierarchy.specs.Filter.{IsPickOf};
+
+use crate::ids::{add_id, copy_ids, has_id};
+use crate::picks::{is_met, is_picked};
+use arrayvec::ArrayVec;
+use dim_hierarchy::{ConceptId, Hierarchy, Pick};
+
+/// One dimension of a describing set: a level, and at most 6 concepts of it, ascending.
+#[derive(Debug, Default, Drop, PartialEq)]
+pub struct Part {
+    pub level: u8,
+    pub ids: ArrayVec<ConceptId, 6>,
+}
+
+impl Part {
+    ghost use Rattle.describing_set.specs.Part.{IsPart, GrowsPart, JoinsParts, ancestors, has_ancestor};
+    ghost use Rattle.describing_set.specs.Filter.{is_part_inside, is_part_met};
+
+    /// The same part, without taking memory.
+    pub(crate) fn copy(&self) -> Part
+        ensures { result ≡ self.now }
+    {
+        Part {
+            level: self.level,
+            ids: copy_ids(&self.ids),
+        }
+    }
+
+    /// Each concept becomes its parent.
+    fn lift(&mut self, h: &Hierarchy, dim: u8)
+        requires dim { dim < length h.now }
+        requires part { IsPart (tree h.now dim) self.old }
+        requires below { 0 < self.old.level }
+        ensures level { self.new.level ≡ self.old.level - 1 }
+        ensures ids { self.new.ids.items
+            ≡ ancestors (tree h.now dim) (self.old.level - 1) self.old.ids.items }
+    {
+        let level = self.level - 1;
+        let mut ids = ArrayVec::new();
+        for id in self.ids.as_slice() {
+            let parent = h.up(dim, *id, level);
+            let _fits = add_id(&mut ids, parent);
+        }
+        self.level = level;
+        self.ids = ids;
+    }
+
+    /// Adds a concept's ancestor. While it would be the seventh concept, each becomes its parent.
+    pub(crate) fn add(&mut self, h: &Hierarchy, dim: u8, id: ConceptId)
+        requires hierarchy { IsHierarchy h.now }
+        requires dim { dim < length h.now }
+        requires part { IsPart (tree h.now dim) self.old }
+        requires concept { IsConcept (tree h.now dim) id }
+        requires level { self.old.level ≤ level_of id }
+        ensures part { IsPart (tree h.now dim) self.new }
+        ensures level { self.new.level ≤ self.old.level }
+        ensures grown { GrowsPart (tree h.now dim) id self.old self.new }
+    {
+        loop {
+            let ancestor = h.up(dim, id, self.level);
+            if add_id(&mut self.ids, ancestor) {
+                return;
+            }
+            self.lift(h, dim);
+        }
+    }
+
+    /// This part with the concepts of one that is at its level or deeper.
+    fn join_deeper(&self, h: &Hierarchy, dim: u8, deeper: &Part) -> Part
+        requires hierarchy { IsHierarchy h.now }
+        requires dim { dim < length h.now }
+        requires left { IsPart (tree h.now dim) self.now }
+        requires right { IsPart (tree h.now dim) deeper.now }
+        requires level { self.now.level ≤ deeper.now.level }
+        ensures { JoinsParts (tree h.now dim) self.now deeper.now result }
+    {
+        let mut part = self.copy();
+        for id in deeper.ids.as_slice() {
+            part.add(h, dim, *id);
+        }
+        part
+    }
+
+    /// The part of both parts' concepts.
+    pub(crate) fn join(&self, h: &Hierarchy, dim: u8, other: &Part) -> Part
+        requires hierarchy { IsHierarchy h.now }
+        requires dim { dim < length h.now }
+        requires left { IsPart (tree h.now dim) self.now }
+        requires right { IsPart (tree h.now dim) other.now }
+        ensures { JoinsParts (tree h.now dim) self.now other.now result }
+    {
+        if other.level < self.level {
+            other.join_deeper(h, dim, self)
+        } else {
+            self.join_deeper(h, dim, other)
+        }
+    }
+
+    /// Whether the concept's ancestor at the part's level is in the part.
+    pub(crate) fn covers(&self, h: &Hierarchy, dim: u8, id: ConceptId) -> bool
+        requires dim { dim < length h.now }
+        requires concept { IsConcept (tree h.now dim) id }
+        requires level { self.now.level ≤ level_of id }
+        ensures { result ≡ has_ancestor (tree h.now dim) self.now id }
+    {
+        has_id(self.ids.as_slice(), h.up(dim, id, self.level))
+    }
+
+    /// Whether the pick has each concept of the part.
+    pub(crate) fn is_inside(&self, h: &Hierarchy, dim: u8, pick: &Pick) -> bool
+        requires dim { dim < length h.now }
+        requires concepts { All (IsConcept (tree h.now dim)) self.now.ids.items }
+        requires pick { IsPickOf (tree h.now dim) pick.now }
+        ensures { result ≡ is_part_inside (tree h.now dim) self.now pick.now }
+    {
+        for id in self.ids.as_slice() {
+            if !is_picked(h, dim, *id, pick) {
+                return false;
+            }
+        }
+        true
+    }
+
+    /// Whether the part has a concept, and the pick meets its concepts.
+    pub(crate) fn is_met(&self, h: &Hierarchy, dim: u8, pick: &Pick) -> bool
+        requires dim { dim < length h.now }
+        requires concepts { All (IsConcept (tree h.now dim)) self.now.ids.items }
+        requires pick { IsPickOf (tree h.now dim) pick.now }
+        ensures { result ≡ is_part_met (tree h.now dim) self.now pick.now }
+    {
+        !self.ids.is_empty() && is_met(h, dim, self.ids.as_slice(), pick)
+    }
+}

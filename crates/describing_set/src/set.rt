@@ -1,0 +1,213 @@
+ghost use Rattle.std.specs.Prelude.{◌≡◌, ◌<◌, ◌≤◌, ◌↔◌, [], ◌∷◌, length, IsTrue, List, All, Contains};
+ghost use Rattle.std.specs.Bool.{OnTrue, OnFalse};
+ghost use Rattle.dim_hierarchy.specs.Tree.{IsConcept, leaf_level};
+ghost use Rattle.dim_hierarchy.specs.Dimension.{tree, IsHierarchy};
+ghost use Rattle.dim_hierarchy.specs.Row.{IsCoordOf};
+ghost use Rattle.dim_hierarchy.specs.Filter.{IsFilterOf, Matches};
+
+use crate::part::Part;
+use arrayvec::ArrayVec;
+use dim_hierarchy::{Coord, Filter, Hierarchy};
+
+/// A part for each dimension. No call on sets takes memory.
+#[derive(Debug, Default, Drop, PartialEq)]
+pub struct DescSet {
+    pub parts: ArrayVec<Part, 8>,
+}
+
+impl DescSet {
+    ghost use Rattle.dim_hierarchy.specs.declared.row.Coord.{Coord};
+    ghost use Rattle.describing_set.specs.declared.set.DescSet.{DescSet};
+    ghost use Rattle.describing_set.specs.Part.{IsPart};
+    ghost use Rattle.describing_set.specs.DescSet.{part_at, IsSetOf, IsDescSetOf, GrowsBy, JoinsTo, Covers, covers, growth_of, size_of, Describes, AreAmong};
+    ghost use Rattle.describing_set.specs.Filter.{IsInside, is_inside, Overlaps, overlaps};
+
+    /// The set of no coordinate: the leaf level and no concept everywhere.
+    pub fn empty(h: &Hierarchy) -> DescSet
+        ensures set_of { IsSetOf h.now [] result }
+        ensures valid { IsDescSetOf h.now result }
+    {
+        let mut parts = ArrayVec::new();
+        for dim in 0..h.dims() {
+            parts.push(Part {
+                level: h.levels(dim),
+                ids: ArrayVec::new(),
+            });
+        }
+        DescSet { parts }
+    }
+
+    /// The set of one coordinate.
+    pub fn of_coord(h: &Hierarchy, at: &Coord) -> DescSet
+        requires { IsCoordOf h.now at.now }
+        ensures set_of { IsSetOf h.now (at.now ∷ []) result }
+        ensures valid { IsDescSetOf h.now result }
+    {
+        let mut set = DescSet::empty(h);
+        set.grow(h, at);
+        set
+    }
+
+    /// Adds a coordinate: in each dimension its ancestor at the set's level joins the concepts.
+    /// While it would be the seventh, the level falls by one and each concept becomes its parent.
+    pub fn grow(&mut self, h: &Hierarchy, at: &Coord)
+        requires set { IsDescSetOf h.now self.old }
+        requires at { IsCoordOf h.now at.now }
+        ensures grown { GrowsBy h.now at.now self.old self.new }
+        ensures valid { IsDescSetOf h.now self.new }
+    {
+        let parts = self.parts.as_mut_slice();
+        for dim in 0..h.dims() {
+            parts[usize::from(dim)].add(h, dim, at.concept(dim));
+        }
+    }
+
+    /// The set of the coordinates of both sets.
+    pub fn join(&self, h: &Hierarchy, other: &DescSet) -> DescSet
+        requires set { IsDescSetOf h.now self.now }
+        requires other { IsDescSetOf h.now other.now }
+        ensures joined { JoinsTo h.now self.now other.now result }
+        ensures valid { IsDescSetOf h.now result }
+    {
+        let mut parts = ArrayVec::new();
+        for dim in 0..h.dims() {
+            parts.push(self.part(h, dim).join(h, dim, other.part(h, dim)));
+        }
+        DescSet { parts }
+    }
+
+    /// Whether in each dimension the coordinate's ancestor at the set's level is in the set.
+    pub fn covers(&self, h: &Hierarchy, at: &Coord) -> bool
+        requires set { IsDescSetOf h.now self.now }
+        requires at { IsCoordOf h.now at.now }
+        ensures test { result ≡ covers h.now self.now at.now }
+        ensures meaning { IsTrue result ↔ Covers h.now self.now at.now }
+        ensures members { (rows : List Coord)
+            → IsSetOf h.now rows self.now → Contains rows at.now → IsTrue result }
+    {
+        for dim in 0..h.dims() {
+            if !self.part(h, dim).covers(h, dim, at.concept(dim)) {
+                return false;
+            }
+        }
+        true
+    }
+
+    /// Whether in each dimension the filter picks each concept of the set. It then matches each
+    /// coordinate that the set covers.
+    pub fn inside(&self, h: &Hierarchy, filter: &Filter) -> bool
+        requires set { IsDescSetOf h.now self.now }
+        requires filter { IsFilterOf h.now filter.now }
+        ensures test { result ≡ is_inside h.now self.now filter.now }
+        ensures meaning { IsTrue result ↔ IsInside h.now self.now filter.now }
+        ensures all_match { OnTrue result
+            ((at : Coord) → Covers h.now self.now at → Matches h.now filter.now at) }
+    {
+        let picks = filter.as_slice();
+        for dim in 0..h.dims() {
+            if !self
+                .part(h, dim)
+                .is_inside(h, dim, &picks[usize::from(dim)])
+            {
+                return false;
+            }
+        }
+        true
+    }
+
+    /// Whether the set is not empty, and in each dimension the filter is all or lists a concept of
+    /// which one of the set's is an ancestor or a descendant. Else the filter matches no coordinate
+    /// that the set covers. False where there is no dimension.
+    pub fn overlaps(&self, h: &Hierarchy, filter: &Filter) -> bool
+        requires set { IsDescSetOf h.now self.now }
+        requires filter { IsFilterOf h.now filter.now }
+        ensures test { result ≡ overlaps h.now self.now filter.now }
+        ensures meaning { IsTrue result ↔ Overlaps h.now self.now filter.now }
+        ensures none_match { OnFalse result (0 < length h.now
+            → (at : Coord) → Covers h.now self.now at → ¬ Matches h.now filter.now at) }
+    {
+        let picks = filter.as_slice();
+        for dim in 0..h.dims() {
+            if !self.part(h, dim).is_met(h, dim, &picks[usize::from(dim)]) {
+                return false;
+            }
+        }
+        h.dims() > 0
+    }
+
+    /// In how many dimensions the coordinate is not covered.
+    pub fn growth(&self, h: &Hierarchy, at: &Coord) -> u32
+        requires set { IsDescSetOf h.now self.now }
+        requires at { IsCoordOf h.now at.now }
+        ensures { result ≡ growth_of h.now self.now at.now }
+    {
+        let mut growth = 0;
+        for dim in 0..h.dims() {
+            if !self.part(h, dim).covers(h, dim, at.concept(dim)) {
+                growth += 1;
+            }
+        }
+        growth
+    }
+
+    /// The sum over the dimensions of 8 for each level from the set's down to the leaves, and 1
+    /// for each concept.
+    pub fn size(&self, h: &Hierarchy) -> u32
+        requires { IsDescSetOf h.now self.now }
+        ensures { result ≡ size_of h.now self.now }
+    {
+        let mut size = 0;
+        for dim in 0..h.dims() {
+            let part = self.part(h, dim);
+            size += 8 * u32::from(h.levels(dim) - part.level) + part.ids.len() as u32;
+        }
+        size
+    }
+
+    /// The same set, without taking memory.
+    pub fn copy(&self) -> DescSet
+        ensures { result ≡ self.now }
+    {
+        let mut parts = ArrayVec::new();
+        for part in self.parts.as_slice() {
+            parts.push(part.copy());
+        }
+        DescSet { parts }
+    }
+
+    /// Laws of sets, with no code: what the set of some coordinates is, that it depends on which of
+    /// them occur alone, and that the set of more coordinates covers more.
+    pub fn laws(h: &Hierarchy)
+        ensures describes { (rows : List Coord) (set : DescSet)
+            → All (IsCoordOf h.now) rows → IsSetOf h.now rows set → Describes h.now rows set }
+        ensures unique { (rows : List Coord) (set other : DescSet)
+            → IsSetOf h.now rows set → IsSetOf h.now rows other → set ≡ other }
+        ensures same { (rows others : List Coord) (set : DescSet)
+            → AreAmong rows others → AreAmong others rows
+            → IsSetOf h.now rows set → IsSetOf h.now others set }
+        ensures wider { (rows more : List Coord) (set other : DescSet) (at : Coord)
+            → All (IsCoordOf h.now) more → AreAmong rows more → IsCoordOf h.now at
+            → IsSetOf h.now rows set → IsSetOf h.now more other
+            → Covers h.now set at → Covers h.now other at }
+        ensures members { (rows some : List Coord) (set : DescSet)
+            → AreAmong some rows → IsSetOf h.now rows set → All (Covers h.now set) some }
+        ensures test { (set : DescSet) (at : Coord)
+            → IsDescSetOf h.now set → IsCoordOf h.now at
+            → IsTrue (covers h.now set at) ↔ Covers h.now set at }
+    {
+        // This call says that it is a hierarchy.
+        let _dims = h.dims();
+    }
+
+    /// The part in a dimension.
+    fn part(&self, h: &Hierarchy, dim: u8) -> &Part
+        requires dim { dim < length h.now }
+        requires set { IsDescSetOf h.now self.now }
+        ensures value { result.now ≡ part_at self.now dim }
+        ensures part { IsPart (tree h.now dim) result.now }
+        ensures concepts { All (IsConcept (tree h.now dim)) result.now.ids.items }
+        ensures level { result.now.level ≤ leaf_level (tree h.now dim) }
+    {
+        &self.parts.as_slice()[usize::from(dim)]
+    }
+}

@@ -1,0 +1,18 @@
+-- Dimensions by number, and what their names stand for.
+use Rattle.std.proofs.Common.{ℕ, ◌≡◌, ◌<◌, ◌≤◌, List, length, get_or, ap, ◌∙◌}
+use Rattle.std.specs.Prelude.{None}
+use Rattle.std.specs.FinMap as map
+use Rattle.std.specs.Ordering.{nat_cmp}
+use Rattle.std.specs.Cmp.Lexicographic.{slice_cmp}
+use Rattle.std.proofs.lemmas.List.{get_or_default, get_or_past}
+use Rattle.dim_hierarchy.specs.Dimension.{Dimension, dimension, no_dimension, find}
+
+-- past the last dimension there is no name
+pub find-past : (h : List Dimension) (dim : ℕ) (name : List ℕ) → length h ≤ dim → find h dim name ≡ None
+find-past h dim name le =
+    ap (λ (d : Dimension). map.get d.names name) (get_or_past h dim no_dimension le) ∙ map.get-empty (slice_cmp nat_cmp) name
+
+-- a dimension as the code reads it
+pub dimension-read : (h read : List Dimension) (i dim : ℕ) (d : Dimension) → read ≡ h → i ≡ dim → dim < length h → d ≡ get_or read i d → d ≡ dimension h dim
+dimension-read h read i dim d e n lt is =
+    is ∙ ap (λ (l : List Dimension). get_or l i d) e ∙ ap (λ k. get_or h k d) n ∙ get_or_default h dim d no_dimension lt

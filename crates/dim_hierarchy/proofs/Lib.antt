@@ -1,0 +1,9 @@
+pub mod Ancestors
+pub mod Coordinates
+pub mod Dimensions
+pub mod Faults
+pub mod Growth
+pub mod Matching
+pub mod Named
+pub mod Names
+pub mod Places

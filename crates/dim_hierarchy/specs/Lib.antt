@@ -1,0 +1,5 @@
+pub mod Concept
+pub mod Tree
+pub mod Dimension
+pub mod Row
+pub mod Filter

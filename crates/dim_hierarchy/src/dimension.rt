@@ -1,0 +1,239 @@
+ghost use Rattle.std.specs.Prelude.{◌≡◌, ◌+◌, ◌≤◌, ◌<◌, ◌^◌, List, ℕ, length, is_some, IsSome, IfOk, OnOk, OnErr};
+ghost use Rattle.std.specs.List.{list_any};
+ghost use Rattle.std.specs.FinMap as map;
+ghost use Rattle.dim_hierarchy.specs.Concept.{level_of};
+ghost use Rattle.dim_hierarchy.specs.Tree.{IsConcept, IsTree, is_concept, is_under, leaf_level, next_under, parent, parents_at, up};
+ghost use Rattle.dim_hierarchy.specs.Row.{leaf_named};
+ghost use Rattle.dim_hierarchy.specs.Filter.{is_picked, pick_named, ids_named};
+
+use crate::concept::ConceptId;
+use crate::filter::{IdList, NamePick, Pick};
+use crate::items::Name;
+use crate::name_table::NameTable;
+use std::alloc::{AllocError, Global};
+use std::marker::Model;
+
+// The concepts of one level: their parents by number.
+#[derive(Drop)]
+struct Level {
+    parents: Vec<ConceptId>,
+}
+
+impl Model for Level {
+    ghost Value = { List ℕ };
+
+    ghost view = { λ l. l.parents.items };
+}
+
+/// A dimension. Contracts see its name, its tree of concepts and the concepts by name.
+#[derive(Drop)]
+pub struct DimensionTable {
+    name: Name,
+    levels: Vec<Level>,
+    names: NameTable,
+}
+
+impl Model for DimensionTable {
+    ghost use Rattle.dim_hierarchy.specs.Dimension.{Dimension, dimension_code};
+
+    ghost Value = { Dimension };
+
+    ghost coded = { dimension_code };
+
+    ghost view = { λ d. record { name = d.name; tree = d.levels.items; names = d.names } };
+}
+
+impl DimensionTable {
+    ghost use Rattle.dim_hierarchy.specs.Dimension.{new_dimension, with_concept};
+
+    /// A dimension with so many levels below `ALL`, and no concept on them.
+    pub fn new(alloc: Global, name: &Name, levels: u8) -> Result<DimensionTable, AllocError>
+        ensures { IfOk result (λ d. d ≡ new_dimension name.now levels) }
+    {
+        let mut all = Vec::new(alloc);
+        all.push(Level {
+            parents: vec![in alloc; ConceptId::ALL]?,
+        })?;
+        for _ in 0..levels {
+            all.push(Level {
+                parents: Vec::new(alloc),
+            })?;
+        }
+        Ok(DimensionTable {
+            name: Name::from_bytes(alloc, name.as_slice())?,
+            levels: all,
+            names: NameTable::new(alloc),
+        })
+    }
+
+    /// Adds a concept of this name below its parent.
+    pub fn add(
+        &mut self,
+        alloc: Global,
+        name: &Name,
+        parent: ConceptId,
+    ) -> Result<ConceptId, AllocError>
+        requires few { length self.old.tree ≤ 9 }
+        requires level { level_of parent + 1 < length self.old.tree }
+        requires room { length (parents_at self.old.tree (level_of parent + 1)) < 2 ^ 28 }
+        ensures id { IfOk result (λ id. id ≡ next_under self.old.tree parent) }
+        ensures ok { OnOk result (self.new ≡ with_concept self.old name.now parent) }
+        ensures err { OnErr result (self.new ≡ self.old) }
+    {
+        // What can fail comes first: the key, room for the parent, and the name.
+        let key = Name::from_bytes(alloc, name.as_slice())?;
+        let below = parent.level() + 1;
+        let level = &mut self.levels[usize::from(below)];
+        let id = ConceptId::new(below, level.parents.len() as u32);
+        level.parents.reserve(1)?;
+        self.names.add(key, id)?;
+        level.parents.push(parent)?;
+        Ok(id)
+    }
+
+    /// The dimension's name.
+    pub fn name(&self) -> &[u8]
+        ensures { result.now ≡ self.now.name }
+    {
+        self.name.as_slice()
+    }
+
+    /// The level of the leaves.
+    pub fn leaf_level(&self) -> u8
+        requires { IsTree self.now.tree }
+        ensures { result ≡ leaf_level self.now.tree }
+    {
+        (self.levels.len() - 1) as u8
+    }
+
+    /// The concept with a name.
+    pub fn find(&self, name: &[u8]) -> Option<ConceptId>
+        ensures { result ≡ map.get self.now.names name.now }
+    {
+        self.names.find(name)
+    }
+
+    /// Whether the id is a concept of the dimension.
+    pub fn has(&self, id: ConceptId) -> bool
+        ensures { result ≡ is_concept self.now.tree id }
+    {
+        let at = usize::from(id.level());
+        if at >= self.levels.len() {
+            return false;
+        }
+        let level = &self.levels[at];
+        (id.number() as usize) < level.parents.len()
+    }
+
+    /// The parent of a concept; that of `ALL` is itself.
+    pub fn parent(&self, id: ConceptId) -> ConceptId
+        requires { IsConcept self.now.tree id }
+        ensures { result ≡ parent self.now.tree id }
+    {
+        let level = &self.levels[usize::from(id.level())];
+        level.parents[id.number() as usize]
+    }
+
+    /// The ancestor of a concept at a level that is not below its own.
+    pub fn up(&self, id: ConceptId, level: u8) -> ConceptId
+        requires tree { IsTree self.now.tree }
+        requires concept { IsConcept self.now.tree id }
+        requires level { level ≤ level_of id }
+        ensures { result ≡ up self.now.tree id level }
+    {
+        let mut at = id;
+        while at.level() > level {
+            at = self.parent(at);
+        }
+        at
+    }
+
+    /// Whether the first concept is the second or is reached from it by parents.
+    pub fn is_under(&self, id: ConceptId, top: ConceptId) -> bool
+        requires tree { IsTree self.now.tree }
+        requires concept { IsConcept self.now.tree id }
+        ensures { result ≡ is_under self.now.tree id top }
+    {
+        top.level() <= id.level() && self.up(id, top.level()) == top
+    }
+
+    /// Whether the pick is `All` or lists a concept that this one is under.
+    pub fn is_picked(&self, pick: &Pick, id: ConceptId) -> bool
+        requires tree { IsTree self.now.tree }
+        requires concept { IsConcept self.now.tree id }
+        ensures { result ≡ is_picked self.now.tree pick.now id }
+    {
+        match pick {
+            Pick::All => true,
+            Pick::Ids(ids) => self.is_under_any(id, ids.as_slice()),
+        }
+    }
+
+    // Whether the concept is under one of these.
+    fn is_under_any(&self, id: ConceptId, tops: &[ConceptId]) -> bool
+        requires tree { IsTree self.now.tree }
+        requires concept { IsConcept self.now.tree id }
+        ensures { result ≡ list_any (is_under self.now.tree id) tops.now }
+    {
+        tops.iter().any(|top| self.is_under(id, *top))
+    }
+
+    /// The leaf concept with a name.
+    pub fn find_leaf(&self, name: &[u8]) -> Option<ConceptId>
+        requires { IsTree self.now.tree }
+        ensures { result ≡ leaf_named self.now name.now }
+    {
+        let id = self.find(name)?;
+        if id.level() == self.leaf_level() {
+            Some(id)
+        } else {
+            None
+        }
+    }
+
+    /// Whether each name of the pick is that of a concept.
+    pub fn knows(&self, pick: &NamePick) -> bool
+        ensures { result ≡ is_some (pick_named self.now pick.now) }
+    {
+        match pick {
+            NamePick::All => true,
+            NamePick::Any(names) => self.knows_all(names.as_slice()),
+        }
+    }
+
+    // Whether each of these names is that of a concept.
+    fn knows_all(&self, names: &[Name]) -> bool
+        ensures { result ≡ is_some (ids_named self.now names.now) }
+    {
+        for name in names {
+            if self.find(name.as_slice()).is_none() {
+                return false;
+            }
+        }
+        true
+    }
+
+    /// The pick of a pick by names that are all known.
+    pub fn pick(&self, alloc: Global, pick: &NamePick) -> Result<Pick, AllocError>
+        requires { IsSome (pick_named self.now pick.now) }
+        ensures { IfOk result (λ ids. pick_named self.now pick.now ≡ Some ids) }
+    {
+        match pick {
+            NamePick::All => Ok(Pick::All),
+            NamePick::Any(names) => Ok(Pick::Ids(self.ids(alloc, names.as_slice())?)),
+        }
+    }
+
+    // The concepts of names that are all known.
+    fn ids(&self, alloc: Global, names: &[Name]) -> Result<IdList, AllocError>
+        requires { IsSome (ids_named self.now names.now) }
+        ensures { IfOk result (λ ids. ids_named self.now names.now ≡ Some ids) }
+    {
+        let mut ids = IdList::new(alloc);
+        for name in names {
+            let id = self.find(name.as_slice()).unwrap();
+            ids.push(id)?;
+        }
+        Ok(ids)
+    }
+}

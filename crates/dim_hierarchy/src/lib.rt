@@ -1,0 +1,18 @@
+//! Concept hierarchies, and the rows and filters over them.
+#![tactic(auto)]
+
+mod concept;
+mod dimension;
+mod filter;
+mod hierarchy;
+mod items;
+mod name_table;
+mod row;
+#[cfg(test)]
+mod tests;
+
+pub use concept::ConceptId;
+pub use filter::{Filter, IdList, NameFilter, NamePick, Pick};
+pub use hierarchy::{ConceptFault, DimFault, FilterFault, Hierarchy};
+pub use items::{Items, Name, Names};
+pub use row::{Coord, Row};

@@ -1,0 +1,10 @@
+pub mod CommandFacts
+pub mod ConceptFacts
+pub mod FaultFacts
+pub mod KeepsSteps
+pub mod Known
+pub mod OneWord
+pub mod RecordFacts
+pub mod RunSteps
+pub mod ScriptFacts
+pub mod Zips

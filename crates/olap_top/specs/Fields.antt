@@ -1,0 +1,45 @@
+-- Numbers, measures and names as the fields of a record spell them.
+use Rattle.std.specs.Prelude.{ℕ, ◌+◌, ◌-◌, ◌*◌, ◌==◌, ◌&&◌, nat_lt, nat_le, not, Bool, ℤ, pos, neg_ℤ, Option, Some, None, unwrap_or, option_and_then, if◌then◌else◌, List, [], ◌∷◌, length, fold, codes}
+use Rattle.std.specs.List.{list_any, list_all}
+use Rattle.std.specs.Str.{bytes_eq}
+use Rattle.csv.specs.Records.{field_at}
+
+-- a record: its fields in order, each a list of bytes
+abbrev pub Record : Type 0
+Record = List (List ℕ)
+
+-- the field at a place, empty where there is none
+abbrev pub field : Record → ℕ → List ℕ
+field r i = unwrap_or (field_at r i) []
+
+-- Numbers: 1 to 20 decimal digits.
+
+abbrev pub is_digit : ℕ → Bool
+is_digit b = nat_le 48 b && nat_le b 57
+
+-- the number that digits spell, the first digit the highest
+abbrev pub digits_value : List ℕ → ℕ
+digits_value text = fold (λ value b. 10 * value + (b - 48)) 0 text
+
+abbrev pub number_of : List ℕ → Option ℕ
+number_of text = if nat_le 1 (length text) && nat_le (length text) 20 && list_all is_digit text then Some (digits_value text) else None
+
+-- Measures: a number with one `-` in front or without, from -2^63 to 2^63 - 1.
+
+abbrev pub not_below_zero : ℕ → Option ℤ
+not_below_zero value = if nat_lt value 9223372036854775808 then Some (pos value) else None
+
+abbrev pub below_zero : ℕ → Option ℤ
+below_zero value = if nat_le value 9223372036854775808 then Some (neg_ℤ (pos value)) else None
+
+abbrev pub measure_of : List ℕ → Option ℤ
+measure_of [] = None
+measure_of (b ∷ bs) = if b == 45 then option_and_then below_zero (number_of bs) else option_and_then not_below_zero (number_of (b ∷ bs))
+
+-- Names: 1 to 64 bytes, no vertical bar among them, and not the one byte `*`.
+
+abbrev pub is_star : List ℕ → Bool
+is_star text = bytes_eq text (codes "*")
+
+abbrev pub is_name : List ℕ → Bool
+is_name text = nat_le 1 (length text) && nat_le (length text) 64 && not (list_any (λ b. b == 124) text) && not (is_star text)

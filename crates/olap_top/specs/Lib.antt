@@ -1,0 +1,7 @@
+pub mod Fields
+pub mod Form
+pub mod Runs
+pub mod Told
+pub mod Keeps
+pub mod RunSoFar
+pub mod Outcomes

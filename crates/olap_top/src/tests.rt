@@ -1,0 +1,237 @@
+use crate::{Outcome, Status, olap};
+use std::alloc::{AllocError, Global};
+use std::process::Abort;
+use std::sync::Wait;
+use std::test::Fail;
+use std::thread::Threads;
+use volap_io::{MemSink, MemSource, Quiet};
+
+const BASE: &[u8] = b"volap,1\ndim,geo,2\nconcept,geo,de,*\nconcept,geo,berlin,de\n";
+
+/// The base and then these lines.
+fn on_base(alloc: Global, lines: &[u8]) -> Result<Vec<u8>, AllocError> {
+    let mut text = BASE.to_vec(alloc)?;
+    text.extend_from_slice(lines)?;
+    Ok(text)
+}
+
+fn words(alloc: Global, all: &[&str]) -> Result<Vec<String>, AllocError> {
+    let mut words = Vec::new(alloc);
+    for word in all {
+        words.push(String::from_str(alloc, word)?)?;
+    }
+    Ok(words)
+}
+
+fn step<R: Threads + Wait + Sync>(
+    rt: &R,
+    alloc: Global,
+    source: &mut MemSource,
+    sink: &mut MemSink,
+) -> Result<Outcome, AllocError> {
+    let words = words(alloc, &["step"])?;
+    Ok(olap(rt, alloc, words.as_slice(), source, sink, &Quiet))
+}
+
+/// Runs a text from a source and into a sink of so many bytes a call, and compares.
+fn expect<R: Abort + Threads + Wait + Sync>(
+    rt: &R,
+    alloc: Global,
+    text: &[u8],
+    status: Status,
+    printed: &[u8],
+) -> Result<(), Fail> {
+    for most in [1, 4096] {
+        let mut source = MemSource::new(text.to_vec(alloc)?, Vec::new(alloc), most);
+        let mut sink = MemSink::new(alloc, 1000, Vec::new(alloc), most)?;
+        let outcome = step(rt, alloc, &mut source, &mut sink)?;
+        assert_eq!(rt; outcome.status, status);
+        assert_eq!(rt; sink.taken(), printed);
+    }
+    Ok(())
+}
+
+#[test]
+fn scripts_and_their_answers(rt: HostRuntime) -> Result<(), Fail> {
+    let alloc = rt.alloc();
+    let rows: [(&[u8], &[u8]); 8] = [
+        (
+            b"insert,0,5,berlin\nquery,0,de\n",
+            b"1 insert ok\n2 query 1 5 5 5\n",
+        ),
+        (b"", b""),
+        (b"query,0,*\n", b"1 query 0 0 - -\n"),
+        (
+            b"insert,0,-9223372036854775808,berlin\ninsert,0,9223372036854775807,berlin\nquery,0,*\n",
+            b"1 insert ok\n2 insert ok\n3 query 2 -1 -9223372036854775808 9223372036854775807\n",
+        ),
+        (
+            b"concept,geo,fr,*\nconcept,geo,paris,fr\ninsert,0,7,paris\ninsert,0,5,berlin\nquery,0,fr\nquery,0,berlin\nquery,0,*\n",
+            b"1 insert ok\n2 insert ok\n3 query 1 7 7 7\n4 query 1 5 5 5\n5 query 2 12 5 7\n",
+        ),
+        (
+            b"insert,00,-005,berlin\nquery,0,de",
+            b"1 insert ok\n2 query 1 -5 -5 -5\n",
+        ),
+        (
+            b"\r\n\"insert\",0,\"5\",berlin\r\n\nquery,0,\"de\"\r\n",
+            b"1 insert ok\n2 query 1 5 5 5\n",
+        ),
+        (
+            b"concept,geo,\"a,\"\"b\",de\ninsert,0,1,\"a,\"\"b\"\nquery,0,\"a,\"\"b\"\n",
+            b"1 insert ok\n2 query 1 1 1 1\n",
+        ),
+    ];
+    for (lines, printed) in rows {
+        expect(&rt, alloc, &on_base(alloc, lines)?, Status::Done, printed)?;
+    }
+    expect(&rt, alloc, b"volap,1\ndim,geo,2\n", Status::Done, b"")?;
+    expect(
+        &rt,
+        alloc,
+        b"\xef\xbb\xbfvolap,1\ndim,geo,1\nquery,0,*\n",
+        Status::Done,
+        b"1 query 0 0 - -\n",
+    )
+}
+
+#[test]
+fn what_is_no_script(rt: HostRuntime) -> Result<(), Fail> {
+    let alloc = rt.alloc();
+    let texts: [&[u8]; 9] = [
+        b"",
+        b"volap,1\n",
+        b"volap,2\ndim,geo,2\n",
+        b"volap\ndim,geo,2\n",
+        b"dim,geo,2\nvolap,1\n",
+        b"volap,1\ndim,geo,0\n",
+        b"volap,1\ndim,geo,9\n",
+        b"volap,1\ndim,*,2\n",
+        b"volap,1\ndim,geo,2\ndim,time,2\n",
+    ];
+    for text in texts {
+        expect(&rt, alloc, text, Status::BadScript, b"bad\n")?;
+    }
+    let lines: [&[u8]; 18] = [
+        b"insert,0,5,berlin\nsync,0\n",
+        b"insert,0,5\n",
+        b"insert,0,5,berlin,de\n",
+        b"insert,1,5,berlin\n",
+        b"insert,0,9223372036854775808,berlin\n",
+        b"insert,0,+5,berlin\n",
+        b"insert,0,,berlin\n",
+        b"insert,000000000000000000000,5,berlin\n",
+        b"insert,0,5,de\n",
+        b"insert,0,5,paris\n",
+        b"insert,0,5,*\n",
+        b"query,0,paris\n",
+        b"query,0,de|berlin\n",
+        b"query,0,de\nconcept,geo,fr,*\n",
+        b"concept,time,fr,*\n",
+        b"concept,geo,de,*\n",
+        b"concept,geo,mitte,berlin\n",
+        b"concept,geo,paris,fr\n",
+    ];
+    for bad in lines {
+        expect(
+            &rt,
+            alloc,
+            &on_base(alloc, bad)?,
+            Status::BadScript,
+            b"bad\n",
+        )?;
+    }
+    Ok(())
+}
+
+#[test]
+fn a_failing_source(rt: HostRuntime) -> Result<(), Fail> {
+    let alloc = rt.alloc();
+    let text = on_base(alloc, b"insert,0,5,berlin\nquery,0,de\n")?;
+    assert_eq!(rt; text.len(), 86);
+    for call in 0..11u64 {
+        let mut source = MemSource::new(text.clone()?, vec![in alloc; call]?, 10);
+        let mut sink = MemSink::new(alloc, 100, Vec::new(alloc), 100)?;
+        let outcome = step(&rt, alloc, &mut source, &mut sink)?;
+        if call < 10 {
+            assert_eq!(rt; outcome.status, Status::ReadFault, "at call {call}");
+            assert_eq!(rt; sink.taken(), b"".as_slice());
+        } else {
+            assert_eq!(rt; outcome.status, Status::Done);
+        }
+    }
+    Ok(())
+}
+
+#[test]
+fn a_failing_sink(rt: HostRuntime) -> Result<(), Fail> {
+    let alloc = rt.alloc();
+    let good = on_base(alloc, b"insert,0,5,berlin\nquery,0,de\n")?;
+    let bad = on_base(alloc, b"sync,0\n")?;
+    let rows: [(&[u8], u64, usize, Status, &[u8]); 4] = [
+        (good.as_slice(), 0, 100, Status::WriteFault, b""),
+        (good.as_slice(), 1, 3, Status::WriteFault, b"1 i"),
+        (
+            good.as_slice(),
+            9,
+            3,
+            Status::WriteFault,
+            b"1 insert ok\n2 query 1 5 5 5",
+        ),
+        (bad.as_slice(), 1, 3, Status::BadScript, b"bad"),
+    ];
+    for (text, call, most, status, taken) in rows {
+        let mut source = MemSource::new(text.to_vec(alloc)?, Vec::new(alloc), 10);
+        let mut sink = MemSink::new(alloc, 100, vec![in alloc; call]?, most)?;
+        let outcome = step(&rt, alloc, &mut source, &mut sink)?;
+        assert_eq!(rt; outcome.status, status);
+        assert_eq!(rt; sink.taken(), taken);
+    }
+    Ok(())
+}
+
+// Behind a call, so that the proof of the test doesn't lay out so long a list.
+fn one_too_many() -> usize {
+    (1 << 26) + 1
+}
+
+#[test]
+fn more_bytes_than_a_script_may_have(rt: HostRuntime) -> Result<(), Fail> {
+    let alloc = rt.alloc();
+    for most in [1, 4096] {
+        let bytes = vec![in alloc; b'a'; one_too_many()]?;
+        let mut source = MemSource::new(bytes, Vec::new(alloc), most);
+        let mut sink = MemSink::new(alloc, 100, Vec::new(alloc), 100)?;
+        let outcome = step(&rt, alloc, &mut source, &mut sink)?;
+        assert_eq!(rt; outcome.status, Status::TooLarge);
+        assert_eq!(rt; sink.taken(), b"".as_slice());
+    }
+    Ok(())
+}
+
+#[test]
+fn words_that_are_not_known(rt: HostRuntime) -> Result<(), Fail> {
+    let alloc = rt.alloc();
+    let text = on_base(alloc, b"insert,0,5,berlin\nquery,0,de\n")?;
+    let mut source = MemSource::new(text, Vec::new(alloc), 100);
+    let mut sink = MemSink::new(alloc, 100, Vec::new(alloc), 100)?;
+    let lists: [&[&str]; 7] = [
+        &[],
+        &[""],
+        &["Step"],
+        &["step", "step"],
+        &["run"],
+        &["step", "--"],
+        &["--help"],
+    ];
+    for list in lists {
+        let words = words(alloc, list)?;
+        let outcome = olap(&rt, alloc, words.as_slice(), &mut source, &mut sink, &Quiet);
+        assert_eq!(rt; outcome.status, Status::BadWords);
+    }
+    let outcome = step(&rt, alloc, &mut source, &mut sink)?;
+    assert_eq!(rt; outcome.status, Status::Done);
+    assert_eq!(rt; outcome.ledger.len(), 4);
+    assert_eq!(rt; sink.taken(), b"1 insert ok\n2 query 1 5 5 5\n".as_slice());
+    Ok(())
+}

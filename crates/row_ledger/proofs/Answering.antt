@@ -1,0 +1,173 @@
+-- A flat list of rows answers rightly, and is kept by whole commands.
+use Rattle.std.proofs.Common.{◌≡◌, ℕ, ◌<◌, List, [], ◌∷◌, ◌++◌, Bool, false, IsTrue, length, refl, subst, arith, ◌==◌}
+use Rattle.std.specs.Prelude.{Some, nat_lt, nat_eq, All, Contains, filter}
+use Rattle.std.specs.List.{IsDistinct, AllByRecursion, list_any}
+use Rattle.std.specs.Cmp.{nat_eq_equiv}
+use Rattle.std.proofs.lemmas.List.{map-append}
+use Rattle.std.proofs.lemmas.Map.Keys.{IsDistinct-push}
+use Rattle.std.proofs.lemmas.Bool.Decides.{nat_tests}
+use Rattle.std.proofs.lemmas.Bool.{cond_both, or_from}
+use Rattle.std.proofs.lemmas.List.Elements.{All-nil, All-cons, All-push, Contains-push, Contains-append_left, All-head, All-tail, All-filter, All-map, All-weaker, filter_passes}
+use Rattle.dim_hierarchy.specs.declared.row.Row.{Row}
+use Rattle.dim_hierarchy.specs.declared.filter.Pick.{Pick}
+use Rattle.dim_hierarchy.specs.Dimension.{Dimension}
+use Rattle.dim_hierarchy.specs.Filter.{matches}
+use Rattle.measure_agg.specs.Aggregate.{Aggregate, agg}
+use Rattle.row_ledger.specs.declared.event.Event.{Event}
+use Rattle.row_ledger.specs.declared.event.Event.TheVariants.{Begun, Acked, Asked, Answered}
+use Rattle.row_ledger.specs.Past.{Ack, Query, begun, before, query_at, ack_in, acked, has_ended}
+use Rattle.row_ledger.specs.Bounds.{own, must, may, numbers, IsAllowed}
+use Rattle.row_ledger.specs.Right.{Site, IsRightAnswer, KeepsRight}
+use Rattle.row_ledger.proofs.Elements.{All-cons_option, Contains-filter, Contains-filtered}
+use Rattle.row_ledger.proofs.Positions.{event_at-here}
+use Rattle.row_ledger.proofs.Growth.{KeepsRight-begun, KeepsRight-acked, KeepsRight-asked, KeepsRight-answered, fresh, begun-within, Within, may-within, may-older}
+
+-- These rows can answer any query behind this past: each stands once and may be counted, and all that were
+-- acknowledged are there.
+pub record CanAnswer (usable : ℕ → Bool) (past : List Event) (rows : List Row) : Type 0 where
+  pub once : IsDistinct nat_eq (numbers rows)
+  pub allowed : All (Contains (may usable past)) rows
+  pub known : All (λ (a : Ack). Contains rows a.row) (acked past)
+
+apart-filter : (number : ℕ) (test : Row → Bool) (rows : List Row)
+    → AllByRecursion (λ other. nat_eq number other ≡ false) (numbers rows)
+    → AllByRecursion (λ other. nat_eq number other ≡ false) (numbers (filter test rows))
+apart-filter number test [] apart = apart
+apart-filter number test (r ∷ rows) apart =
+    let rest = apart-filter number test rows apart.1 in
+    cond_both (test r) (r ∷ filter test rows) (filter test rows) (λ kept. AllByRecursion (λ other. nat_eq number other ≡ false) (numbers kept))
+    (λ _. (apart.0, rest))
+    (λ _. rest)
+
+IsDistinct-filter : (test : Row → Bool) (rows : List Row) → IsDistinct nat_eq (numbers rows) → IsDistinct nat_eq (numbers (filter test rows))
+unfolding IsDistinct
+IsDistinct-filter test [] once = once
+IsDistinct-filter test (r ∷ rows) once =
+    let rest : IsDistinct nat_eq (numbers (filter test rows)) = IsDistinct-filter test rows once.1 in
+    cond_both (test r) (r ∷ filter test rows) (filter test rows) (λ kept. IsDistinct nat_eq (numbers kept))
+    (λ _. (apart-filter r.no test rows once.0, rest))
+    (λ _. rest)
+
+-- what holds of all that was acknowledged holds of what was before a position
+All-acked_before : (P : Ack → Type 0) (past : List Event) (of : ℕ) → All P (acked past) → All P (acked (before past of))
+All-acked_before P [] of all = all
+All-acked_before P (e ∷ past) of all =
+    cond_both (nat_lt (length past) of) (e ∷ past) (before past of) (λ earlier. All P (acked earlier))
+    (λ _. all)
+    (λ _. All-acked_before P past of (All-cons_option P (ack_in past e) (acked past) all))
+
+pub IsAllowed-flat : (h : List Dimension) (usable : ℕ → Bool) (past : List Event) (rows : List Row) → CanAnswer usable past rows → (of server : ℕ) (filter_ : List Pick)
+    → IsAllowed h (must (before past of) server) (may usable past) filter_ (agg (filter (λ r. matches h filter_ r.at) rows))
+IsAllowed-flat h usable past rows can of server filter_ = record {
+  rows = filter test rows;
+  once = IsDistinct-filter test rows can.once;
+  known = All-map IsCounted (λ (a : Ack). a.row) (own (before past of) server)
+      (All-filter (λ (a : Ack). a.server == server) (λ (a : Ack). IsCounted a.row) (acked (before past of))
+      (All-acked_before (λ (a : Ack). IsCounted a.row) past of counted));
+  usable = All-filter test (Contains (may usable past)) rows can.allowed;
+  matching = filter_passes test rows;
+  total = refl;
+}
+  where
+    test : Row → Bool
+    test r = matches h filter_ r.at
+
+    IsCounted : Row → Type 0
+    IsCounted r = IsTrue (test r) → Contains (filter test rows) r
+
+    counted : All (λ (a : Ack). IsCounted a.row) (acked past)
+    counted = All-weaker (λ (a : Ack). Contains rows a.row) (λ (a : Ack). IsCounted a.row)
+        (λ a has. Contains-filter test rows a.row has) (acked past) can.known
+
+pub IsRightAnswer-flat : (site : Site) (usable : ℕ → Bool) (past : List Event) (rows : List Row) → CanAnswer usable past rows
+    → (of : ℕ) (query : Query) → query_at past of ≡ Some query → has_ended past of ≡ false
+    → IsRightAnswer site usable past of (agg (filter (λ r. matches site.hierarchy query.filter r.at) rows))
+IsRightAnswer-flat site usable past rows can of query asked is_open = record {
+  query = query;
+  asked = asked;
+  is_open = is_open;
+  allowed = IsAllowed-flat site.hierarchy usable past rows can of query.server query.filter;
+}
+
+-- a right answer is allowed for the query that it answers
+pub IsAllowed-right : (site : Site) (usable : ℕ → Bool) (past : List Event) (of : ℕ) (answer : Aggregate) → IsRightAnswer site usable past of answer
+    → (query : Query) → query_at past of ≡ Some query → IsAllowed site.hierarchy (must (before past of) query.server) (may usable past) query.filter answer
+IsAllowed-right site usable past of answer right query asked =
+    let found : query_at past of ≡ Some right.query = right.asked in
+    let same : right.query ≡ query = cc in
+    subst (λ (q : Query). IsAllowed site.hierarchy (must (before past of) q.server) (may usable past) q.filter answer) same right.allowed
+
+-- How such a list grows with the history.
+
+pub CanAnswer-nil : (usable : ℕ → Bool) → CanAnswer usable [] []
+unfolding IsDistinct
+CanAnswer-nil usable = record { once = tt; allowed = All-nil (Contains (may usable [])); known = All-nil (λ (a : Ack). Contains [] a.row) }
+
+pub CanAnswer-within : (fewer more : ℕ → Bool) (past : List Event) (rows : List Row) → CanAnswer fewer past rows → Within fewer more → CanAnswer more past rows
+CanAnswer-within fewer more past rows can within = record {
+  once = can.once;
+  allowed = All-weaker (Contains (may fewer past)) (Contains (may more past)) (may-within fewer more within past) rows can.allowed;
+  known = can.known;
+}
+
+-- behind an event that acknowledges nothing the same rows can answer
+pub CanAnswer-older : (usable : ℕ → Bool) (e : Event) (past : List Event) (rows : List Row)
+    → CanAnswer usable past rows → acked (e ∷ past) ≡ acked past → CanAnswer usable (e ∷ past) rows
+CanAnswer-older usable e past rows can same = record {
+  once = can.once;
+  allowed = All-weaker (Contains (may usable past)) (Contains (may usable (e ∷ past))) (may-older usable e past) rows can.allowed;
+  known = rw same can.known;
+}
+
+-- a number above those of all rows is none of them
+is_new-above : (number : ℕ) (rows : List Row) → All (λ r. r.no < number) rows → list_any (nat_eq number) (numbers rows) ≡ false
+is_new-above number [] below = refl
+is_new-above number (r ∷ rows) below =
+    let first : r.no < number = All-head (λ (r : Row). r.no < number) r rows below in
+    or_from (nat_eq number r.no) (list_any (nat_eq number) (numbers rows))
+    (grind (arith, nat_tests))
+    (is_new-above number rows (All-tail (λ (r : Row). r.no < number) r rows below))
+
+-- behind an insert these and its own can
+pub CanAnswer-insert : (site : Site) (placed : ℕ → Bool) (h : List Event) (rows : List Row) (session server : ℕ) (row : Row) (path : List ℕ)
+    → KeepsRight site placed h → CanAnswer placed h rows → row.no ≡ length h → IsTrue (placed row.no)
+    → CanAnswer placed (Acked (length h) path ∷ Begun session server row ∷ h) (rows ++ row ∷ [])
+CanAnswer-insert site placed h rows session server row path keeps can numbered is_placed =
+    let inserting = Begun session server row ∷ h in
+    let older : (r : Row) → Contains (may placed h) r → r.no < row.no =
+    λ r has. rw numbered (begun-within site placed h keeps.right r (Contains-filtered (λ r. placed r.no) (begun h) r has)) in
+    let below : All (λ r. r.no < row.no) rows = All-weaker (Contains (may placed h)) (λ r. r.no < row.no) older rows can.allowed in
+    let new : Contains (may placed inserting) row = rw is_placed (0, omega arith, refl) in
+    record {
+      once = rw map-append (IsDistinct-push nat_eq_equiv (numbers rows) row.no can.once (is_new-above row.no rows below));
+      allowed = All-push (Contains (may placed inserting)) rows row (CanAnswer-older placed (Begun session server row) h rows can refl).allowed new;
+      known = rw event_at-here
+          (All-cons (λ (a : Ack). Contains (rows ++ row ∷ []) a.row) (record { server = server; row = row; path = path }) (acked h) (Contains-push rows row)
+          (All-weaker (λ (a : Ack). Contains rows a.row) (λ (a : Ack). Contains (rows ++ row ∷ []) a.row)
+          (λ a has. Contains-append_left rows (row ∷ []) a.row has) (acked h) can.known));
+    }
+
+-- Whole commands, the end right behind the beginning.
+
+pub KeepsRight-insert : (site : Site) (placed : ℕ → Bool) (h : List Event) (session server : ℕ) (row : Row) (path : List ℕ)
+    → KeepsRight site placed h → row.no ≡ length h → KeepsRight site placed (Acked (length h) path ∷ Begun session server row ∷ h)
+KeepsRight-insert site placed h session server row path keeps numbered =
+    KeepsRight-acked site placed (Begun session server row ∷ h) (length h) path
+    (KeepsRight-begun site placed h session server row keeps numbered)
+    (record {
+      insert = record { server = server; row = row };
+      begun = rw event_at-here refl;
+      is_open = fresh site placed h keeps.right (length h) (omega arith);
+    })
+
+pub KeepsRight-query : (site : Site) (placed : ℕ → Bool) (h : List Event) (session server : ℕ) (filter_ : List Pick) (rows : List Row) (answer : Aggregate)
+    → KeepsRight site placed h → CanAnswer placed h rows → answer ≡ agg (filter (λ r. matches site.hierarchy filter_ r.at) rows)
+    → KeepsRight site placed (Answered (length h) answer ∷ Asked session server filter_ ∷ h)
+KeepsRight-query site placed h session server filter_ rows answer keeps can total =
+    KeepsRight-answered site placed (Asked session server filter_ ∷ h) (length h) answer
+    (KeepsRight-asked site placed h session server filter_ keeps)
+    (rw total (IsRightAnswer-flat site placed (Asked session server filter_ ∷ h) rows
+    (CanAnswer-older placed (Asked session server filter_) h rows can refl)
+    (length h) (record { server = server; filter = filter_ })
+    (rw event_at-here refl)
+    (fresh site placed h keeps.right (length h) (omega arith))))

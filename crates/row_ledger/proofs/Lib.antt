@@ -1,0 +1,4 @@
+pub mod Elements
+pub mod Positions
+pub mod Growth
+pub mod Answering

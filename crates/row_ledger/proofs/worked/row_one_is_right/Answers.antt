@@ -1,0 +1,16 @@
+use Rattle.std.proofs.Common.{ℕ, Bool, true, [], ◌∷◌, refl}
+use Rattle.dim_hierarchy.specs.Tree.{is_under, way_up}
+use Rattle.row_ledger.specs.Worked.{site, row, for_de, once, answered}
+use Rattle.row_ledger.proofs.Growth.{KeepsRight-nil, IsRight-kept}
+use Rattle.row_ledger.proofs.Answering.{CanAnswer-nil, CanAnswer-insert, KeepsRight-insert, KeepsRight-query}
+use Rattle.row_ledger.proofs.worked.row_one_is_right.Goals as goal
+
+abbrev all : ℕ → Bool
+all number = true
+
+pub returns : goal.returns
+unfolding is_under way_up
+returns c =
+    let keeps = KeepsRight-insert site all [] 0 0 row (0 ∷ []) (KeepsRight-nil site all) refl in
+    let can = CanAnswer-insert site all [] [] 0 0 row (0 ∷ []) (KeepsRight-nil site all) (CanAnswer-nil all) refl refl in
+    IsRight-kept site all (answered once) (KeepsRight-query site all _ 0 0 for_de (row ∷ []) once keeps can refl)

@@ -1,0 +1,5 @@
+pub mod Past
+pub mod Bounds
+pub mod Right
+pub mod LedgerValue
+pub mod Worked

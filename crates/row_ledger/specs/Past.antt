@@ -1,0 +1,109 @@
+-- A history is a list of events, the newest first. What stands behind an event in the list is its past,
+-- and the length of its past is its position. So every notion "before a position" is a function of a past
+-- alone, and nothing that is said of an earlier event changes when the history grows.
+use Rattle.std.specs.Prelude.{ℕ, ◌==◌, Bool, true, false, not, nat_lt, Option, Some, None, option_map, option_and_then, if◌then◌else◌, List, [], ◌∷◌, length, map, filter, filter_map}
+use Rattle.std.specs.List.{list_any, cons_option}
+use Rattle.std.specs.Option.{option_map_or}
+use Rattle.dim_hierarchy.specs.declared.row.Row.{Row}
+use Rattle.dim_hierarchy.specs.declared.filter.Pick.{Pick}
+use Rattle.row_ledger.specs.declared.event.Event.{Event}
+use Rattle.row_ledger.specs.declared.event.Event.TheVariants.{Begun, Acked, Asked, Answered, Failed}
+
+-- Positions.
+
+-- the event at a position
+abbrev pub event_at : List Event → ℕ → Option Event
+event_at [] p = None
+event_at (e ∷ past) p = if p == length past then Some e else event_at past p
+
+-- the events before a position
+abbrev pub before : List Event → ℕ → List Event
+before [] p = []
+before (e ∷ past) p = if nat_lt (length past) p then e ∷ past else before past p
+
+-- What an event tells.
+
+-- an insert that begins: its server and its row
+pub record Insert : Type 0 where
+  pub server : ℕ
+  pub row : Row
+
+abbrev pub insert_in : Event → Option Insert
+insert_in (Begun session server row) = Some (record { server = server; row = row })
+insert_in _ = None
+
+-- a query that begins: its server and its filter
+pub record Query : Type 0 where
+  pub server : ℕ
+  pub filter : List Pick
+
+abbrev pub query_in : Event → Option Query
+query_in (Asked session server filter) = Some (record { server = server; filter = filter })
+query_in _ = None
+
+-- whether an event begins a command
+abbrev pub is_beginning : Event → Bool
+is_beginning (Begun session server row) = true
+is_beginning (Asked session server filter) = true
+is_beginning _ = false
+
+-- the position of the command that an event ends
+abbrev pub end_in : Event → Option ℕ
+end_in (Acked of path) = Some of
+end_in (Answered of agg) = Some of
+end_in (Failed of) = Some of
+end_in _ = None
+
+-- the position of the command that an event ends for want of memory
+abbrev pub failed_in : Event → Option ℕ
+failed_in (Failed of) = Some of
+failed_in _ = None
+
+-- Commands.
+
+-- the insert, or query, that began at a position
+abbrev pub insert_at : List Event → ℕ → Option Insert
+insert_at past p = option_and_then insert_in (event_at past p)
+
+abbrev pub query_at : List Event → ℕ → Option Query
+query_at past p = option_and_then query_in (event_at past p)
+
+-- whether an event ends the command that began at a position
+abbrev pub is_end_of : ℕ → Event → Bool
+is_end_of p e = option_map_or (λ of. of == p) (end_in e) false
+
+abbrev pub has_ended : List Event → ℕ → Bool
+has_ended past p = list_any (is_end_of p) past
+
+-- Rows.
+
+-- the rows of the inserts that began, the newest first
+abbrev pub begun : List Event → List Row
+begun past = map (λ (i : Insert). i.row) (filter_map insert_in past)
+
+-- a row that was acknowledged: the server of its insert, the row, and its path
+pub record Ack : Type 0 where
+  pub server : ℕ
+  pub row : Row
+  pub path : List ℕ
+
+abbrev pub ack_of : List ℕ → Insert → Ack
+ack_of path i = record { server = i.server; row = i.row; path = path }
+
+-- what an event acknowledges, behind this past
+abbrev pub ack_in : List Event → Event → Option Ack
+ack_in past (Acked of path) = option_map (ack_of path) (insert_at past of)
+ack_in past _ = None
+
+-- the rows that were acknowledged, the newest first
+abbrev pub acked : List Event → List Ack
+acked [] = []
+acked (e ∷ past) = cons_option (ack_in past e) (acked past)
+
+-- the positions of the commands that ended for want of memory
+abbrev pub failed : List Event → List ℕ
+failed past = filter_map failed_in past
+
+-- the row's insert is none of them
+abbrev pub is_kept : List Event → ℕ → Bool
+is_kept h number = not (list_any (λ of. of == number) (failed h))

@@ -1,0 +1,57 @@
+-- When a history is right: one fact for each kind of event, over the past behind it.
+use Rattle.std.specs.Prelude.{ℕ, ◌≡◌, Bool, false, IsTrue, Some, is_some, ◌||◌, List, [], ◌∷◌, length, ⊤}
+use Rattle.dim_hierarchy.specs.Dimension.{Dimension}
+use Rattle.measure_agg.specs.Aggregate.{Aggregate}
+use Rattle.row_ledger.specs.declared.event.Event.{Event}
+use Rattle.row_ledger.specs.declared.event.Event.TheVariants.{Begun, Acked, Asked, Answered, Failed}
+use Rattle.row_ledger.specs.Past.{Insert, Query, before, insert_at, query_at, has_ended, is_kept}
+use Rattle.row_ledger.specs.Bounds.{must, may, IsAllowed}
+
+-- what a history is about
+pub record Site : Type 0 where
+  pub hierarchy : List Dimension
+
+-- P holds of each event, with the past behind it
+abbrev pub Each : (List Event → Event → Type 0) → List Event → Type 0
+Each P [] = ⊤
+Each P (e ∷ past) = P past e × Each P past
+
+-- an acknowledgement is of an insert that hasn't ended
+pub record IsRightAck (past : List Event) (of : ℕ) : Type 0 where
+  pub insert : Insert
+  pub begun : insert_at past of ≡ Some insert
+  pub is_open : has_ended past of ≡ false
+
+-- an answer is to a query that hasn't ended, and is allowed
+pub record IsRightAnswer (site : Site) (usable : ℕ → Bool) (past : List Event) (of : ℕ) (answer : Aggregate) : Type 0 where
+  pub query : Query
+  pub asked : query_at past of ≡ Some query
+  pub is_open : has_ended past of ≡ false
+  pub allowed : IsAllowed site.hierarchy (must (before past of) query.server) (may usable past) query.filter answer
+
+-- a failure is of an insert or a query that hasn't ended
+pub record IsRightFailure (past : List Event) (of : ℕ) : Type 0 where
+  pub begun : IsTrue (is_some (insert_at past of) || is_some (query_at past of))
+  pub is_open : has_ended past of ≡ false
+
+-- the event stands rightly behind this past; a row's number is the position of its beginning
+abbrev pub Stands : Site → (ℕ → Bool) → List Event → Event → Type 0
+Stands site usable past (Begun session server row) = row.no ≡ length past
+Stands site usable past (Acked of path) = IsRightAck past of
+Stands site usable past (Asked session server filter) = ⊤
+Stands site usable past (Answered of answer) = IsRightAnswer site usable past of answer
+Stands site usable past (Failed of) = IsRightFailure past of
+
+-- each event stands rightly, and only usable rows are in answers
+pub record StandsRight (site : Site) (usable : ℕ → Bool) (h : List Event) : Type 0 where
+  pub each : Each (Stands site usable) h
+
+-- a right history: its usable rows are those whose insert ends nowhere in it for want of memory
+abbrev pub IsRight : Site → List Event → Type 0
+IsRight site h = StandsRight site (is_kept h) h
+
+-- What a run keeps: the history is right over the rows that have found their place, and none of these ever fails.
+-- A right history doesn't stay right when a failure follows, since an earlier answer may have counted that row; this does.
+pub record KeepsRight (site : Site) (placed : ℕ → Bool) (h : List Event) : Type 0 where
+  pub right : StandsRight site placed h
+  pub kept : (number : ℕ) → IsTrue (placed number) → IsTrue (is_kept h number)

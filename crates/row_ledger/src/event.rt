@@ -1,0 +1,34 @@
+use describing_set::Path;
+use dim_hierarchy::{Filter, Row};
+use measure_agg::Agg;
+
+/// What happened. `of` is the place in the history of the event that began the command.
+#[derive(Drop)]
+pub enum Event {
+    /// An insert begins; `row.no` is the place of this event.
+    Begun {
+        session: u16,
+        server: u8,
+        row: Row,
+    },
+    /// The insert is acknowledged.
+    Acked {
+        of: u64,
+        path: Path,
+    },
+    /// A query begins.
+    Asked {
+        session: u16,
+        server: u8,
+        filter: Filter,
+    },
+    /// The query is answered.
+    Answered {
+        of: u64,
+        agg: Agg,
+    },
+    /// The insert or query ends for want of memory; an insert then left no row anywhere.
+    Failed {
+        of: u64,
+    },
+}

@@ -1,0 +1,56 @@
+//! The program: runs a script from standard input, and prints the answers.
+#![tactic(auto)]
+
+use olap_top::{Status, olap};
+use std::process::ExitCode;
+use std::{env, io};
+use volap_io::{Quiet, StdSink, StdSource};
+
+/// The words of the command line without the program's name. Words that are no text are none that
+/// the program knows.
+fn words(rt: &HostRuntime) -> Result<Vec<String>, Status> {
+    let Ok(args) = env::args(rt) else {
+        return Err(Status::BadWords);
+    };
+    let mut words = Vec::new(rt.alloc());
+    for word in args.skip(1) {
+        let Ok(()) = words.push(word) else {
+            return Err(Status::NoMemory);
+        };
+    }
+    Ok(words)
+}
+
+fn name_of(status: Status) -> &'static str {
+    match status {
+        Status::Done => "Done",
+        Status::ReadFault => "ReadFault",
+        Status::BadWords => "BadWords",
+        Status::BadScript => "BadScript",
+        Status::WriteFault => "WriteFault",
+        Status::NoMemory => "NoMemory",
+        Status::TooLarge => "TooLarge",
+    }
+}
+
+fn main(rt: HostRuntime) -> ExitCode {
+    let mut source = StdSource::new(rt.stdin());
+    let mut sink = StdSink::new(io::writer(&rt));
+    let status = match words(&rt) {
+        Ok(words) => olap(
+            &rt,
+            rt.alloc(),
+            words.as_slice(),
+            &mut source,
+            &mut sink,
+            &Quiet,
+        )
+        .status,
+        Err(status) => status,
+    };
+    if status != Status::Done {
+        let name = name_of(status);
+        let _ = eprintln!(rt; "volap: {name}");
+    }
+    ExitCode::from(status.code())
+}

@@ -1,0 +1,15 @@
+-- What a count of faults says of an answer.
+use Rattle.std.specs.Prelude.{ℕ, ◌+◌, ◌-◌, ◌^◌, ◌≤◌, min, Result, OnErr}
+
+-- one more, in a count of 64 bits that stays at its last value
+abbrev pub one_more : ℕ → ℕ
+one_more count = min (count + 1) (2 ^ 64 - 1)
+
+-- the count has risen, or stands at its last value
+abbrev pub Rose : ℕ → ℕ → Type 0
+Rose before now = one_more before ≤ now
+
+-- the count has not fallen, and an error comes only where it rose
+pub record HasCause {T E : Type 0} (before now : ℕ) (result : Result T E) : Type 0 where
+  pub later : before ≤ now
+  pub failed : OnErr result (Rose before now)
