@@ -115,8 +115,11 @@ impl Hierarchy {
     /// dimensions, `Twice` where one has the name, `BadLevels` where `levels` is not 1 to 8.
     pub fn add_dim(&mut self, name: &Name, levels: u8) -> Result<u8, DimFault>
         ensures fault { IfSome (dim_fault self.old name.now levels) (λ fault. result ≡ Err fault) }
-        ensures no_fault { IfNone (dim_fault self.old name.now levels) (IsOkUnless result DimFault.NoMemory) }
-        ensures ok { IfOk result (λ dim. (dim ≡ length self.old) × (self.new ≡ self.old ++ new_dimension name.now levels ∷ [])) }
+        ensures no_fault { IfNone (dim_fault self.old name.now levels)
+            (IsOkUnless result DimFault.NoMemory) }
+        ensures ok { IfOk result (λ dim.
+            (dim ≡ length self.old)
+            × (self.new ≡ self.old ++ new_dimension name.now levels ∷ [])) }
         ensures err { OnErr result (self.new ≡ self.old) }
     {
         if let Some(fault) = self.dim_fault(name, levels) {
@@ -160,12 +163,15 @@ impl Hierarchy {
         parent: Option<ConceptId>,
     ) -> Result<ConceptId, ConceptFault>
         requires { concept_count self.old < 2 ^ 28 }
-        ensures fault { IfSome (concept_fault self.old dim name.now (unwrap_or parent 0)) (λ fault. result ≡ Err fault) }
-        ensures no_fault { IfNone (concept_fault self.old dim name.now (unwrap_or parent 0)) (IsOkUnless result ConceptFault.NoMemory) }
-        ensures ok { IfOk result
-            (λ id.
+        ensures fault { IfSome (concept_fault self.old dim name.now (unwrap_or parent 0))
+            (λ fault. result ≡ Err fault) }
+        ensures no_fault { IfNone (concept_fault self.old dim name.now (unwrap_or parent 0))
+            (IsOkUnless result ConceptFault.NoMemory) }
+        ensures ok { IfOk result (λ id.
             (id ≡ next_under (tree self.old dim) (unwrap_or parent 0))
-            × (self.new ≡ slice_set self.old dim (with_concept (dimension self.old dim) name.now (unwrap_or parent 0)))) }
+            × (self.new
+            ≡ slice_set self.old dim
+            (with_concept (dimension self.old dim) name.now (unwrap_or parent 0)))) }
         ensures err { OnErr result (self.new ≡ self.old) }
     {
         let parent = parent.unwrap_or(ConceptId::ALL);
@@ -270,7 +276,8 @@ impl Hierarchy {
     /// is not that of a leaf concept. Takes no memory.
     pub fn coord(&self, names: &Names) -> Result<Coord, u8>
         requires { length names.now ≡ length self.now }
-        ensures unknown { IfSome (position is_none (leaves self.now names.now)) (λ dim. result ≡ Err dim) }
+        ensures unknown { IfSome (position is_none (leaves self.now names.now))
+            (λ dim. result ≡ Err dim) }
         ensures known { IfNone (position is_none (leaves self.now names.now)) (IsOk result) }
         ensures ok { IfOk result (IsCoordNamed self.now names.now) }
     {
@@ -299,8 +306,10 @@ impl Hierarchy {
     pub fn filter(&self, alloc: Global, names: &NameFilter) -> Result<Filter, FilterFault>
         requires count { length names.now ≡ length self.now }
         requires some { All IsNamePick names.now }
-        ensures unknown { IfSome (position is_none (picks self.now names.now)) (λ dim. result ≡ Err (FilterFault.Unknown dim)) }
-        ensures known { IfNone (position is_none (picks self.now names.now)) (IsOkUnless result FilterFault.NoMemory) }
+        ensures unknown { IfSome (position is_none (picks self.now names.now))
+            (λ dim. result ≡ Err (FilterFault.Unknown dim)) }
+        ensures known { IfNone (position is_none (picks self.now names.now))
+            (IsOkUnless result FilterFault.NoMemory) }
         ensures ok { IfOk result (IsFilterNamed self.now names.now) }
     {
         if let Some(dim) = self.first_unknown(names) {
@@ -365,10 +374,13 @@ impl Hierarchy {
     pub fn ancestor_laws(&self, dim: u8)
         requires { dim < length self.now }
         ensures own_level { (id : ℕ) → up (tree self.now dim) id (level_of id) ≡ id }
-        ensures up_twice { (id high low : ℕ) → IsConcept (tree self.now dim) id → low ≤ high → high ≤ level_of id
-            → up (tree self.now dim) (up (tree self.now dim) id high) low ≡ up (tree self.now dim) id low }
+        ensures up_twice { (id high low : ℕ)
+            → IsConcept (tree self.now dim) id → low ≤ high → high ≤ level_of id
+            → up (tree self.now dim) (up (tree self.now dim) id high) low
+            ≡ up (tree self.now dim) id low }
         ensures under_itself { (id : ℕ) → IsUnder (tree self.now dim) id id }
-        ensures under_under { (id middle top : ℕ) → IsUnder (tree self.now dim) id middle → IsUnder (tree self.now dim) middle top
+        ensures under_under { (id middle top : ℕ)
+            → IsUnder (tree self.now dim) id middle → IsUnder (tree self.now dim) middle top
             → IsUnder (tree self.now dim) id top }
     {
         let _ = self.dims();
@@ -377,9 +389,12 @@ impl Hierarchy {
     /// Laws of filters, with no code: the tests say what the facts say, and a pick is the same with
     /// more concepts in its list that are listed already or under a listed one.
     pub fn filter_laws(&self)
-        ensures meaning { (filter : List Pick) (at : Coord) → IsFilterOf self.now filter → IsCoordOf self.now at
+        ensures meaning { (filter : List Pick) (at : Coord)
+            → IsFilterOf self.now filter → IsCoordOf self.now at
             → IsTrue (matches self.now filter at) ↔ Matches self.now filter at }
-        ensures nested { (dim id : ℕ) (ids more : List ℕ) → All (λ m. Any (IsUnder (tree self.now dim) m) ids) more
-            → IsPicked (tree self.now dim) (Pick.Ids (ids ++ more)) id ↔ IsPicked (tree self.now dim) (Pick.Ids ids) id }
+        ensures nested { (dim id : ℕ) (ids more : List ℕ)
+            → All (λ m. Any (IsUnder (tree self.now dim) m) ids) more
+            → IsPicked (tree self.now dim) (Pick.Ids (ids ++ more)) id
+            ↔ IsPicked (tree self.now dim) (Pick.Ids ids) id }
     {}
 }

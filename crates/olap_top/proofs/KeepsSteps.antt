@@ -1,12 +1,9 @@
 -- One command more of what a run keeps.
-use Rattle.std.proofs.Common.{◌≡◌, ◌∙◌, ℕ, zero, suc, ◌+◌, ◌<◌, Bool, true, false, IsTrue, Some, List, [], ◌∷◌, ◌++◌, length, filter, refl, sym, ap, subst, arith, inl, inr, ◌⊎◌, get_or}
-use Rattle.std.specs.Prelude.{All, Contains, ◌||◌, ◌==◌, nat_eq, option_map, option_and_then}
-use Rattle.std.specs.List.{list_any, IsDistinct, cons_option}
-use Rattle.std.proofs.lemmas.Bool.{ne_eqb, eq-eqb, eqb-true, or_right}
+use Rattle.std.proofs.Common.{◌≡◌, ◌∙◌, ℕ, ◌+◌, ◌<◌, Bool, true, false, IsTrue, Some, List, [], ◌∷◌, ◌++◌, length, filter, refl, sym, ap, arith, inl, inr, ◌⊎◌}
+use Rattle.std.specs.Prelude.{◌||◌, ◌==◌}
+use Rattle.std.proofs.lemmas.Bool.{eq-eqb, eqb-true, or_right}
 use Rattle.std.proofs.lemmas.List.Folds.{list_any-append}
-use Rattle.std.proofs.lemmas.List.Elements.{All-cons, All-nil, All-tail, All-push, All-weaker, Contains-append_left, Contains-append_right, Contains-push, Contains-get_or}
-use Rattle.std.proofs.lemmas.Map.Keys.{IsDistinct-push}
-use Rattle.std.specs.Cmp.{nat_eq_equiv}
+use Rattle.std.proofs.lemmas.List.Elements.{All-nil, All-push}
 use Rattle.dim_hierarchy.specs.declared.row.Row.{Row}
 use Rattle.dim_hierarchy.specs.declared.filter.Pick.{Pick}
 use Rattle.dim_hierarchy.specs.Dimension.{Dimension}
@@ -15,13 +12,10 @@ use Rattle.dim_hierarchy.specs.Row.{IsCoordNamed}
 use Rattle.measure_agg.specs.Aggregate.{Aggregate, agg}
 use Rattle.row_ledger.specs.declared.event.Event.{Event}
 use Rattle.row_ledger.specs.declared.event.Event.TheVariants.{Begun, Acked, Asked, Answered}
-use Rattle.row_ledger.specs.Past.{Ack, begun, acked, ack_in, ack_of, insert_in, has_ended}
-use Rattle.row_ledger.specs.Bounds.{numbers}
+use Rattle.row_ledger.specs.Past.{has_ended}
 use Rattle.row_ledger.specs.Right.{KeepsRight}
-use Rattle.row_ledger.proofs.Elements.{Contains-filter}
-use Rattle.row_ledger.proofs.Positions.{event_at-here}
 use Rattle.row_ledger.proofs.Growth.{KeepsRight-nil, KeepsRight-place, IsRight-kept, is_kept-fresh}
-use Rattle.row_ledger.proofs.Answering.{CanAnswer, KeepsRight-insert, KeepsRight-query}
+use Rattle.row_ledger.proofs.Answering.{CanAnswer-nil, CanAnswer-within, CanAnswer-older, CanAnswer-insert, KeepsRight-insert, KeepsRight-query}
 use Rattle.olap_top.specs.declared.script.Command.{Command}
 use Rattle.olap_top.specs.declared.script.Command.TheVariants.{Insert, Query}
 use Rattle.olap_top.specs.declared.script.NewRow.{NewRow}
@@ -30,69 +24,19 @@ use Rattle.olap_top.specs.Runs.{BeginsAt}
 use Rattle.olap_top.specs.Told.{insert_line, answer_line}
 use Rattle.olap_top.specs.declared.script.Script.{Script}
 use Rattle.olap_top.specs.Outcomes.{HasRun}
-use Rattle.olap_top.specs.Keeps.{site, is_placed, KeepsRows, KeepsRun}
+use Rattle.olap_top.specs.Keeps.{site, is_placed, KeepsRun}
 use Rattle.olap_top.proofs.Zips.{AllZip-length}
 use Rattle.olap_top.proofs.RunSteps.{IsPair, IsRunOf-more, IsSerial-more, told-more, told-nil}
 
--- The rows.
-
-unlike-earlier : (rows : List Row) (n : ℕ) → All (λ r. r.no < n) rows → list_any (nat_eq n) (numbers rows) ≡ false
-unlike-earlier [] n earlier = refl
-unlike-earlier (r ∷ rows) n earlier =
-    let first : nat_eq n r.no ≡ false = ne_eqb n r.no (λ same. let lt : r.no < n = earlier 0 r (omega arith) in let no_way : ⊥ = omega arith in no_way) in
-    rw first (unlike-earlier rows n (All-tail (λ s. s.no < n) r rows earlier))
-
-numbers-push : (rows : List Row) (row : Row) → numbers (rows ++ row ∷ []) ≡ numbers rows ++ row.no ∷ []
-numbers-push [] row = refl
-numbers-push (r ∷ rows) row = ap (λ ns. r.no ∷ ns) (numbers-push rows row)
-
-is_placed-itself : (rows : List Row) (r : Row) → Contains rows r → IsTrue (is_placed rows r.no)
-is_placed-itself [] r has = absurd (let lt : has.0 < 0 = has.1 in omega arith)
-is_placed-itself (s ∷ rows) r (zero, within, here) = rw (eq-eqb s.no r.no (ap (λ (x : Row). x.no) here)) refl
-is_placed-itself (s ∷ rows) r (suc k, within, here) = or_right (s.no == r.no) (is_placed rows r.no) (is_placed-itself rows r (k, omega arith, here))
-
--- a list that keeps its rows can answer
-can_answer : (rows : List Row) (history : List Event) → KeepsRows rows history → CanAnswer (is_placed rows) history rows
-can_answer rows history keeps = record {
-  once = keeps.once;
-  allowed = λ k d within.
-      let r = get_or rows k d in
-      Contains-filter (λ s. is_placed rows s.no) (begun history) r (keeps.begun k d within) (is_placed-itself rows r (Contains-get_or rows k d within));
-  known = keeps.acked;
-}
-
--- where every number is known, one row more
-pub KeepsRows-insert : (rows : List Row) (history : List Event) (session server : ℕ) (row : Row) (path : List ℕ) → row.no ≡ length history
-    → KeepsRows rows history → KeepsRows (rows ++ row ∷ []) (Acked (length history) path ∷ Begun session server row ∷ history)
-KeepsRows-insert rows history session server row path numbered keeps =
-    let all = Acked (length history) path ∷ Begun session server row ∷ history in
-    let is : ack_in (Begun session server row ∷ history) (Acked (length history) path) ≡ Some (record { server = server; row = row; path = path }) =
-    ap (λ e. option_map (ack_of path) (option_and_then insert_in e)) (event_at-here (Begun session server row) history) in
-    record {
-      once = rw (numbers-push rows row)
-          (IsDistinct-push nat_eq_equiv (numbers rows) row.no keeps.once (unlike-earlier rows row.no (λ k d within. let lt = keeps.earlier k d within in omega arith)));
-      begun = All-push (Contains (begun all)) rows row
-          (λ k d within. Contains-append_right (row ∷ []) (begun history) (get_or rows k d) (keeps.begun k d within))
-          (0, omega arith, refl);
-      earlier = All-push (λ r. r.no < length all) rows row (λ k d within. let lt = keeps.earlier k d within in omega arith) (omega arith);
-      acked = subst (λ o. All (λ (a : Ack). Contains (rows ++ row ∷ []) a.row) (cons_option o (acked history))) (sym is)
-          (All-cons (λ (a : Ack). Contains (rows ++ row ∷ []) a.row) _ (acked history) (Contains-push rows row)
-          (All-weaker (λ (a : Ack). Contains rows a.row) (λ (a : Ack). Contains (rows ++ row ∷ []) a.row) (λ a has. Contains-append_left rows (row ∷ []) a.row has) (acked history) keeps.acked));
-    }
-
-pub KeepsRows-query : (rows : List Row) (history : List Event) (session server : ℕ) (wanted : List Pick) (of : ℕ) (answer : Aggregate)
-    → KeepsRows rows history → KeepsRows rows (Answered of answer ∷ Asked session server wanted ∷ history)
-KeepsRows-query rows history session server wanted of answer keeps = record {
-  once = keeps.once;
-  begun = keeps.begun;
-  earlier = λ k d within. let lt = keeps.earlier k d within in omega arith;
-  acked = keeps.acked;
-}
-
--- The right history.
+-- Rows that have found their place.
 
 placed-more : (rows : List Row) (row : Row) (number : ℕ) → IsTrue (is_placed rows number) → IsTrue (is_placed (rows ++ row ∷ []) number)
 placed-more rows row number placed = list_any-append (λ r. r.no == number) rows (row ∷ []) ∙ ap (λ b. b || ((row.no == number) || false)) placed
+
+placed-last : (rows : List Row) (row : Row) → IsTrue (is_placed (rows ++ row ∷ []) row.no)
+placed-last rows row =
+    list_any-append (λ r. r.no == row.no) rows (row ∷ [])
+    ∙ or_right (is_placed rows row.no) ((row.no == row.no) || false) (rw (eq-eqb row.no row.no refl) refl)
 
 placed-cases : (rows : List Row) (row : Row) (number : ℕ) → IsTrue (is_placed (rows ++ row ∷ []) number) → IsTrue (is_placed rows number) ⊎ (row.no ≡ number)
 placed-cases rows row number placed =
@@ -103,13 +47,11 @@ placed-cases rows row number placed =
     go false true p q h = inr (eqb-true row.no number q)
     go false false p q h = cc
 
-KeepsRight-row : (h : List Dimension) (rows : List Row) (history : List Event) (session server : ℕ) (row : Row) (path : List ℕ) → row.no ≡ length history
-    → KeepsRight (site h) (is_placed rows) history
-    → KeepsRight (site h) (is_placed (rows ++ row ∷ [])) (Acked (length history) path ∷ Begun session server row ∷ history)
-KeepsRight-row h rows history session server row path numbered keeps =
-    KeepsRight-place (site h) (is_placed rows) (is_placed (rows ++ row ∷ [])) (Acked (length history) path ∷ Begun session server row ∷ history)
-    (KeepsRight-insert (site h) (is_placed rows) history session server row path keeps numbered)
-    (placed-more rows row)
+-- a row with the next number finds its place
+KeepsRight-placed : (h : List Dimension) (rows : List Row) (history : List Event) (row : Row) → row.no ≡ length history
+    → KeepsRight (site h) (is_placed rows) history → KeepsRight (site h) (is_placed (rows ++ row ∷ [])) history
+KeepsRight-placed h rows history row numbered keeps =
+    KeepsRight-place (site h) (is_placed rows) (is_placed (rows ++ row ∷ [])) history keeps (placed-more rows row)
     (λ number placed. elim (placed-cases rows row number placed) [
       | inl old ↦ keeps.kept number old
       | inr new ↦ is_kept-fresh (site h) (is_placed rows) history keeps.right number (omega arith)
@@ -124,15 +66,9 @@ query-pair : (history : List Event) (session server : ℕ) (wanted : List Pick) 
 query-pair history session server wanted answer = record { begins = refl; goes_on = refl; begins_none = refl; ends = refl }
 
 pub KeepsRun-nil : (h : List Dimension) → KeepsRun h [] [] [] []
-unfolding IsDistinct
 KeepsRun-nil h = record {
   right = KeepsRight-nil (site h) (is_placed []);
-  flat = record {
-    once = tt;
-    begun = All-nil (Contains (begun []));
-    earlier = All-nil (λ r. r.no < 0);
-    acked = All-nil (λ (a : Ack). Contains [] a.row);
-  };
+  flat = CanAnswer-nil (is_placed []);
   begins = [];
   earlier = All-nil (λ p. p < 0);
   run = record {
@@ -153,11 +89,14 @@ pub KeepsRun-insert : (h : List Dimension) (done : List Command) (history : List
 KeepsRun-insert h done history rows text new row path numbered measured named keeps =
     let b = Begun new.server new.server row in
     let e = Acked (length history) path in
+    let more = is_placed (rows ++ row ∷ []) in
+    let placed = KeepsRight-placed h rows history row numbered keeps.right in
+    let can = CanAnswer-within (is_placed rows) more history rows keeps.flat (placed-more rows row) in
     let pair = insert-pair history new.server new.server row path in
     let same : length done ≡ length keeps.begins = AllZip-length (BeginsAt h history) done keeps.begins keeps.run.begun in
     record {
-      right = KeepsRight-row h rows history new.server new.server row path numbered keeps.right;
-      flat = KeepsRows-insert rows history new.server new.server row path numbered keeps.flat;
+      right = KeepsRight-insert (site h) more history new.server new.server row path placed numbered;
+      flat = CanAnswer-insert (site h) more history rows new.server new.server row path placed can numbered (placed-last rows row);
       begins = keeps.begins ++ length history ∷ [];
       earlier = All-push (λ p. p < length (e ∷ b ∷ history)) keeps.begins (length history) (λ k d within. let lt = keeps.earlier k d within in omega arith) (omega arith);
       run = IsRunOf-more h done history keeps.begins (Insert new) b e pair (refl, refl, measured, named) keeps.earlier keeps.run;
@@ -176,8 +115,8 @@ KeepsRun-query h done history rows text question wanted answer named total keeps
     let pair = query-pair history question.server question.server wanted answer in
     let same : length done ≡ length keeps.begins = AllZip-length (BeginsAt h history) done keeps.begins keeps.run.begun in
     record {
-      right = KeepsRight-query (site h) (is_placed rows) history question.server question.server wanted rows answer keeps.right (can_answer rows history keeps.flat) total;
-      flat = KeepsRows-query rows history question.server question.server wanted (length history) answer keeps.flat;
+      right = KeepsRight-query (site h) (is_placed rows) history question.server question.server wanted rows answer keeps.right keeps.flat total;
+      flat = CanAnswer-older (is_placed rows) e (b ∷ history) rows (CanAnswer-older (is_placed rows) b history rows keeps.flat refl) refl;
       begins = keeps.begins ++ length history ∷ [];
       earlier = All-push (λ p. p < length (e ∷ b ∷ history)) keeps.begins (length history) (λ k d within. let lt = keeps.earlier k d within in omega arith) (omega arith);
       run = IsRunOf-more h done history keeps.begins (Query question) b e pair (refl, refl, named) keeps.earlier keeps.run;

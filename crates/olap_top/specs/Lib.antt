@@ -5,3 +5,4 @@ pub mod Told
 pub mod Keeps
 pub mod RunSoFar
 pub mod Outcomes
+pub mod Statuses

@@ -20,11 +20,12 @@ pub enum Status {
 }
 
 impl Status {
-    ghost use Rattle.std.specs.Prelude.{◌<◌};
+    ghost use Rattle.std.specs.Prelude.{◌≡◌};
+    ghost use Rattle.olap_top.specs.Statuses.{code_of};
 
     /// The number with which a process ends that ends so.
     pub fn code(&self) -> u8
-        ensures { result < 7 }
+        ensures { result ≡ code_of self.now }
     {
         *self as u8
     }

@@ -16,18 +16,11 @@ use Rattle.measure_agg.specs.Aggregate.{Aggregate, agg}
 use Rattle.row_ledger.specs.declared.event.Event.{Event}
 use Rattle.row_ledger.specs.declared.event.Event.TheVariants.{Begun, Acked, Asked, Answered}
 use Rattle.row_ledger.specs.Past.{Ack, Query, begun, before, query_at, ack_in, acked, has_ended}
-use Rattle.row_ledger.specs.Bounds.{own, must, may, numbers, IsAllowed}
+use Rattle.row_ledger.specs.Bounds.{own, must, may, numbers, IsAllowed, CanAnswer}
 use Rattle.row_ledger.specs.Right.{Site, IsRightAnswer, KeepsRight}
 use Rattle.row_ledger.proofs.Elements.{All-cons_option, Contains-filter, Contains-filtered}
 use Rattle.row_ledger.proofs.Positions.{event_at-here}
 use Rattle.row_ledger.proofs.Growth.{KeepsRight-begun, KeepsRight-acked, KeepsRight-asked, KeepsRight-answered, fresh, begun-within, Within, may-within, may-older}
-
--- These rows can answer any query behind this past: each stands once and may be counted, and all that were
--- acknowledged are there.
-pub record CanAnswer (usable : ℕ → Bool) (past : List Event) (rows : List Row) : Type 0 where
-  pub once : IsDistinct nat_eq (numbers rows)
-  pub allowed : All (Contains (may usable past)) rows
-  pub known : All (λ (a : Ack). Contains rows a.row) (acked past)
 
 apart-filter : (number : ℕ) (test : Row → Bool) (rows : List Row)
     → AllByRecursion (λ other. nat_eq number other ≡ false) (numbers rows)

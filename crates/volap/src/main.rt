@@ -9,8 +9,10 @@ use volap_io::{Quiet, StdSink, StdSource};
 /// The words of the command line without the program's name. Words that are no text are none that
 /// the program knows.
 fn words(rt: &HostRuntime) -> Result<Vec<String>, Status> {
-    let Ok(args) = env::args(rt) else {
-        return Err(Status::BadWords);
+    let args = match env::args(rt) {
+        Ok(args) => args,
+        Err(e) if e.kind() == io::ErrorKind::OutOfMemory => return Err(Status::NoMemory),
+        Err(_) => return Err(Status::BadWords),
     };
     let mut words = Vec::new(rt.alloc());
     for word in args.skip(1) {

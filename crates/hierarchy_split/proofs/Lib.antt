@@ -1,0 +1,4 @@
+pub mod Lifts
+pub mod Orders
+pub mod Shares
+pub mod Cuts

@@ -1,0 +1,11 @@
+//! Cuts: by which dimension and where a full list of items with describing sets is divided in two.
+#![tactic(auto)]
+
+mod cut;
+mod leasts;
+mod order;
+mod overlap;
+#[cfg(test)]
+mod tests;
+
+pub use cut::{Cut, choose};

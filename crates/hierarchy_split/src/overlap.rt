@@ -1,0 +1,92 @@
+ghost use Rattle.std.specs.Prelude.{◌≡◌, ◌+◌, ◌<◌, ◌≤◌, ◌++◌, length, All};
+ghost use Rattle.describing_set.specs.DescSet.{part_at, IsDescSetOf};
+ghost use Rattle.hierarchy_split.specs.Order.{shared_count};
+ghost use Rattle.hierarchy_split.specs.Cut.{lifted, IsAbove, concepts_of};
+
+use crate::leasts::part;
+use arrayvec::ArrayVec;
+use describing_set::DescSet;
+use dim_hierarchy::{ConceptId, Hierarchy};
+
+/// Adds a set's lifted concepts to a list.
+fn add_lifted(
+    concepts: &mut ArrayVec<ConceptId, 192>,
+    set: &DescSet,
+    h: &Hierarchy,
+    dim: u8,
+    level: u8,
+)
+    requires dim { dim < length h.now }
+    requires set { IsDescSetOf h.now set.now }
+    requires level { level ≤ (part_at set.now dim).level }
+    requires room { length concepts.old.items + 6 ≤ 192 }
+    ensures added { concepts.new.items ≡ concepts.old.items ++ lifted h.now dim level set.now }
+    ensures few { length concepts.new.items ≤ length concepts.old.items + 6 }
+{
+    for id in part(set, h, dim).ids.as_slice() {
+        concepts.push(h.up(dim, *id, level));
+    }
+}
+
+/// The lifted concepts of the items at some places.
+fn concepts_of(
+    sets: &[DescSet],
+    h: &Hierarchy,
+    dim: u8,
+    level: u8,
+    places: &[u8],
+) -> ArrayVec<ConceptId, 192>
+    requires dim { dim < length h.now }
+    requires sets { All (IsDescSetOf h.now) sets.now }
+    requires level { IsAbove sets.now dim level }
+    requires places { All (λ place. place < length sets.now) places.now }
+    requires many { length places.now ≤ 32 }
+    ensures { result.items ≡ concepts_of h.now sets.now dim level places.now }
+{
+    let mut concepts = ArrayVec::new();
+    for place in places {
+        add_lifted(&mut concepts, &sets[usize::from(*place)], h, dim, level);
+    }
+    concepts
+}
+
+/// How many different concepts of the first list the second has too. Each counts where it stands
+/// for the last time.
+fn shared_count(left: &[ConceptId], right: &[ConceptId]) -> usize
+    ensures value { result ≡ shared_count left.now right.now }
+    ensures fits { result ≤ length left.now }
+{
+    let mut count = 0;
+    for (i, id) in left.iter().enumerate() {
+        if right.contains(id) && !left[i + 1..].contains(id) {
+            count += 1;
+        }
+    }
+    count
+}
+
+/// How many concepts of a level the lifted items at places on both sides have.
+pub fn overlap(
+    sets: &[DescSet],
+    h: &Hierarchy,
+    dim: u8,
+    level: u8,
+    left: &[u8],
+    right: &[u8],
+) -> usize
+    requires dim { dim < length h.now }
+    requires sets { All (IsDescSetOf h.now) sets.now }
+    requires level { IsAbove sets.now dim level }
+    requires left { All (λ place. place < length sets.now) left.now }
+    requires right { All (λ place. place < length sets.now) right.now }
+    requires left_few { length left.now ≤ 32 }
+    requires right_few { length right.now ≤ 32 }
+    ensures value { result
+        ≡ shared_count (concepts_of h.now sets.now dim level left.now)
+        (concepts_of h.now sets.now dim level right.now) }
+    ensures fits { result ≤ 192 }
+{
+    let left = concepts_of(sets, h, dim, level, left);
+    let right = concepts_of(sets, h, dim, level, right);
+    shared_count(left.as_slice(), right.as_slice())
+}
