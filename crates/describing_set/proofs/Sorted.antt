@@ -24,13 +24,13 @@ is_equal x y h = grind (arith, nat_tests)
 not_equal : (x y : ℕ) → y < x → nat_eq x y ≡ false
 not_equal x y h = grind (arith, nat_tests)
 
-with_id-before : (x y : ℕ) (ys : List ℕ) → x < y → with_id x (y ∷ ys) ≡ x ∷ y ∷ ys
+pub with_id-before : (x y : ℕ) (ys : List ℕ) → x < y → with_id x (y ∷ ys) ≡ x ∷ y ∷ ys
 with_id-before x y ys h = rw (is_less x y h) refl
 
-with_id-here : (x y : ℕ) (ys : List ℕ) → x ≡ y → with_id x (y ∷ ys) ≡ y ∷ ys
+pub with_id-here : (x y : ℕ) (ys : List ℕ) → x ≡ y → with_id x (y ∷ ys) ≡ y ∷ ys
 with_id-here x y ys h = let le : y ≤ x = omega arith in rw (not_less x y le, is_equal x y h) refl
 
-with_id-after : (x y : ℕ) (ys : List ℕ) → y < x → with_id x (y ∷ ys) ≡ y ∷ with_id x ys
+pub with_id-after : (x y : ℕ) (ys : List ℕ) → y < x → with_id x (y ∷ ys) ≡ y ∷ with_id x ys
 with_id-after x y ys h = let le : y ≤ x = omega arith in rw (not_less x y le, not_equal x y h) refl
 
 -- what holds in each of the three cases holds of the list with one number more
@@ -69,7 +69,7 @@ Below-less : (a b : ℕ) (ys : List ℕ) → a < b → Below b ys → Below a ys
 Below-less a b [] l w = tt
 Below-less a b (y ∷ ys) l w = (omega arith, Below-less a b ys l w.1)
 
-Below-In : (b z : ℕ) (ys : List ℕ) → Below b ys → In z ys → b < z
+pub Below-In : (b z : ℕ) (ys : List ℕ) → Below b ys → In z ys → b < z
 Below-In b z [] w i = absurd i
 Below-In b z (y ∷ ys) w i = elim i [ inl q ↦ omega arith | inr r ↦ Below-In b z ys w.1 r ]
 

@@ -1,29 +1,16 @@
 -- How many different numbers of a list another has too, from the list's end on.
-use Rattle.std.proofs.Common.{ℕ, ◌≡◌, ◌+◌, ◌<◌, ◌≤◌, true, false, cond, Bool, eqb, List, [], ◌∷◌, length, get_or, drop, refl, sym, ap, ◌∙◌, arith, inl, inr}
+use Rattle.std.proofs.Common.{ℕ, ◌≡◌, ◌+◌, ◌<◌, true, false, cond, Bool, eqb, List, [], ◌∷◌, length, get_or, drop, refl, sym, ap, ◌∙◌, arith, inl, inr}
 use Rattle.std.specs.Prelude.{count_by}
 use Rattle.std.specs.List.{list_any}
-use Rattle.std.proofs.lemmas.Bool.{cases_order, lt-ltb, le-ltb, eq-eqb, ne_eqb, false≢true}
+use Rattle.std.proofs.lemmas.Bool.{cases_order, false≢true}
 use Rattle.std.proofs.lemmas.List.{at_drop_more}
 use Rattle.std.proofs.lemmas.List.Sums.{sum_by-cons}
-use Rattle.describing_set.specs.Ascending.{with_id, ascending, In, Below, Ascends}
-use Rattle.describing_set.proofs.Sorted.{Ascends-ascending, In-ascending, In-from_ascending, In-from_Contains, Contains-from_In}
+use Rattle.describing_set.specs.Ascending.{with_id, ascending, In, Ascends}
+use Rattle.describing_set.proofs.Sorted.{with_id-before, with_id-here, with_id-after, Below-In, Ascends-ascending, In-ascending, In-from_ascending, In-from_Contains, Contains-from_In}
 use Rattle.describing_set.proofs.Covering.{has-Contains}
 use Rattle.hierarchy_split.specs.Order.{shared_count}
 
 -- A number that is new to the list, and one that is not.
-
-with_id-before : (x y : ℕ) (ys : List ℕ) → x < y → with_id x (y ∷ ys) ≡ x ∷ y ∷ ys
-with_id-before x y ys h = rw (lt-ltb x y h) refl
-
-with_id-here : (x y : ℕ) (ys : List ℕ) → x ≡ y → with_id x (y ∷ ys) ≡ y ∷ ys
-with_id-here x y ys h = let le : y ≤ x = omega arith in rw (le-ltb x y le, eq-eqb x y h) refl
-
-with_id-after : (x y : ℕ) (ys : List ℕ) → y < x → with_id x (y ∷ ys) ≡ y ∷ with_id x ys
-with_id-after x y ys h = let le : y ≤ x = omega arith in rw (le-ltb x y le, ne_eqb x y (λ e. omega (arith, e, h))) refl
-
-Below-In : (b z : ℕ) (ys : List ℕ) → Below b ys → In z ys → b < z
-Below-In b z [] w i = absurd i
-Below-In b z (y ∷ ys) w i = elim i [ inl q ↦ omega (arith, q, w.0) | inr r ↦ Below-In b z ys w.1 r ]
 
 count_by-with_id : (p : ℕ → Bool) (x : ℕ) (ys : List ℕ) → ¬ In x ys → count_by p (with_id x ys) ≡ cond (p x) 1 0 + count_by p ys
 count_by-with_id p x [] new = sum_by-cons (λ v. cond (p v) 1 0) x []

@@ -14,7 +14,7 @@ use Rattle.dim_hierarchy.specs.declared.filter.Pick.TheVariants.{Ids}
 use Rattle.dim_hierarchy.specs.Row.{leaf_named}
 use Rattle.olap_top.specs.declared.script.Command.{Command}
 use Rattle.olap_top.specs.declared.script.Command.TheVariants.{Insert, Query}
-use Rattle.olap_top.specs.Fields.{Record, field, is_star, measure_of}
+use Rattle.script_form.specs.Fields.{Record, field, is_star, measure_of}
 use Rattle.olap_top.specs.Form.{IsKnown, command_of, commands_of, insert_of, is_command, query_of}
 
 -- the commands made, and then those of the records that are left, are the commands of all records

@@ -8,7 +8,7 @@ use Rattle.std.proofs.lemmas.List.Sums.{sum_by-set, take_while-cons}
 use Rattle.dim_hierarchy.specs.Concept.{level_of}
 use Rattle.dim_hierarchy.specs.Dimension.{Dimension, concept_count, concept_fault, find_dim, with_concept}
 use Rattle.dim_hierarchy.specs.Tree.{Tree, parents_at}
-use Rattle.olap_top.specs.Fields.{Record, field, is_name}
+use Rattle.script_form.specs.Fields.{Record, field, is_name}
 use Rattle.olap_top.specs.Form.{concept_added, concept_records, concepts_added, is_concept, is_kind, parent_of, with_named}
 
 -- The number of concepts grows by one.

@@ -18,8 +18,8 @@ use Rattle.row_ledger.proofs.Growth.{KeepsRight-nil, KeepsRight-place, IsRight-k
 use Rattle.row_ledger.proofs.Answering.{CanAnswer-nil, CanAnswer-within, CanAnswer-older, CanAnswer-insert, KeepsRight-insert, KeepsRight-query}
 use Rattle.olap_top.specs.declared.script.Command.{Command}
 use Rattle.olap_top.specs.declared.script.Command.TheVariants.{Insert, Query}
-use Rattle.olap_top.specs.declared.script.NewRow.{NewRow}
-use Rattle.olap_top.specs.declared.script.Question.{Question}
+use Rattle.script_form.specs.declared.script.NewRow.{NewRow}
+use Rattle.script_form.specs.declared.script.Question.{Question}
 use Rattle.olap_top.specs.Runs.{BeginsAt}
 use Rattle.olap_top.specs.Told.{insert_line, answer_line}
 use Rattle.olap_top.specs.declared.script.Script.{Script}

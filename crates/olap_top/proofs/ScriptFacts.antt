@@ -4,7 +4,7 @@ use Rattle.std.specs.Prelude.{option_and_then, option_map}
 use Rattle.std.proofs.lemmas.List.{length-drop, take_all}
 use Rattle.std.specs.List.{drop-map}
 use Rattle.dim_hierarchy.specs.Dimension.{Dimension}
-use Rattle.olap_top.specs.Fields.{Record}
+use Rattle.script_form.specs.Fields.{Record}
 use Rattle.olap_top.specs.Form.{command_records, commands_of, concept_records, concepts_added, dim_of, is_version, script_from, script_of, script_with}
 
 -- the items of a slice from a place on

@@ -5,7 +5,6 @@
 use Rattle.std.specs.Prelude.{ℕ, ◌≡◌, ◌==◌, ◌&&◌, Bool, Option, Some, None, option_map, option_and_then, is_some, is_none, false, if◌then◌else◌, List, [], ◌∷◌, length, drop, take_while, codes, All}
 use Rattle.std.specs.Option.{option_map_or}
 use Rattle.std.specs.Str.{bytes_eq}
-use Rattle.csv.specs.Reading.{records, default_config, strip_bom}
 use Rattle.dim_hierarchy.specs.Dimension.{Dimension, dimension, find, find_dim, new_dimension, dim_fault, with_concept, concept_fault}
 use Rattle.dim_hierarchy.specs.Row.{leaf_named, leaves}
 use Rattle.dim_hierarchy.specs.Filter.{picks, IsNamePick}
@@ -13,11 +12,7 @@ use Rattle.dim_hierarchy.specs.declared.filter.NamePick.TheVariants as pick
 use Rattle.olap_top.specs.declared.script.Command.{Command}
 use Rattle.olap_top.specs.declared.script.Command.TheVariants.{Insert, Query}
 use Rattle.olap_top.specs.declared.script.Script.{Script}
-use Rattle.olap_top.specs.Fields.{Record, field, number_of, measure_of, is_name, is_star}
-
--- the records of a text: comma, double quotes, any number of fields, one leading byte order mark dropped
-abbrev pub records_of : List ℕ → List Record
-records_of text = records default_config (strip_bom text)
+use Rattle.script_form.specs.Fields.{Record, field, number_of, measure_of, is_name, is_star}
 
 -- a record of so many fields that begins with this word
 abbrev pub is_kind : Record → List ℕ → ℕ → Bool

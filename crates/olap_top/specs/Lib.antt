@@ -1,4 +1,3 @@
-pub mod Fields
 pub mod Form
 pub mod Runs
 pub mod Told

@@ -9,7 +9,8 @@ use Rattle.row_ledger.specs.declared.event.Event.{Event}
 use Rattle.row_ledger.specs.Past.{failed}
 use Rattle.row_ledger.specs.Right.{IsRight}
 use Rattle.olap_top.specs.declared.script.Script.{Script}
-use Rattle.olap_top.specs.Form.{records_of, script_of}
+use Rattle.olap_top.specs.Form.{script_of}
+use Rattle.script_form.specs.Scripts.{records_of}
 use Rattle.olap_top.specs.Keeps.{site}
 use Rattle.olap_top.specs.Runs.{IsRunOf, IsSerial}
 use Rattle.olap_top.specs.Told.{told}

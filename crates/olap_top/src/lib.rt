@@ -1,7 +1,6 @@
 //! The top call: what the words of a command line ask, over a source and a sink.
 #![tactic(auto)]
 
-mod field;
 mod line;
 mod outcome;
 mod reader;
@@ -11,7 +10,7 @@ mod script;
 mod top;
 
 pub use outcome::{Outcome, Status};
-pub use script::{Command, Commands, NewRow, Question, Script};
+pub use script::{Command, Commands, Script};
 pub use top::{olap, step};
 
 #[cfg(test)]

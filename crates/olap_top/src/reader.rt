@@ -3,15 +3,17 @@ ghost use Rattle.std.specs.Prelude.{◌≡◌, ◌+◌, ◌^◌, ◌<◌, ◌≤
 ghost use Rattle.csv.specs.Records.{fields_of};
 ghost use Rattle.dim_hierarchy.specs.Dimension.{concept_count, dimension};
 ghost use Rattle.dim_hierarchy.specs.Row.{leaf_named};
-ghost use Rattle.olap_top.specs.Form.{IsKnown, command_of, commands_of, concept_added, concept_records, concepts_added, dim_of, insert_of, is_command, is_concept, is_kind, is_version, parent_of, query_of, records_of, script_of};
+ghost use Rattle.olap_top.specs.Form.{IsKnown, command_of, commands_of, concept_added, concept_records, concepts_added, dim_of, insert_of, is_command, is_concept, is_kind, is_version, parent_of, query_of, script_of};
+ghost use Rattle.script_form.specs.Scripts.{records_of};
 
-use crate::field::{field, is_name, is_star, measure, number};
 use crate::records::records;
-use crate::script::{Command, Commands, NewRow, Question, Script};
+use crate::script::{Command, Commands, Script};
 use csv::ByteRecord;
 use dim_hierarchy::{
     ConceptFault, ConceptId, DimFault, Hierarchy, Name, NameFilter, NamePick, Names,
 };
+use script_form::field::{field, is_name, is_star, measure, number};
+use script_form::{NewRow, Question};
 use std::alloc::{AllocError, Global};
 
 /// Why a text was not read as a script.

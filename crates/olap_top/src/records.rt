@@ -2,7 +2,7 @@
 ghost use Rattle.std.specs.Prelude.{◌≡◌, ◌≤◌, true, length, map, vec_len, IfOk};
 ghost use Rattle.csv.specs.Reading.{error_kind, stops_reader};
 ghost use Rattle.csv.specs.Records.{fields_of};
-ghost use Rattle.olap_top.specs.Form.{records_of};
+ghost use Rattle.script_form.specs.Scripts.{records_of};
 
 use csv::{ByteRecord, Error, ErrorKind, ReaderBuilder};
 use std::alloc::{AllocError, Global};

@@ -8,11 +8,12 @@ ghost use Rattle.olap_top.specs.Keeps.{AreRowsOf};
 ghost use Rattle.olap_top.specs.declared.script.Command.{Command};
 
 use crate::line::{AnswerLine, InsertLine};
-use crate::script::{Command, NewRow, Question};
+use crate::script::Command;
 use describing_set::Path;
 use dim_hierarchy::{Filter, FilterFault, Hierarchy, Row};
 use measure_agg::Agg;
 use row_ledger::{Event, Ledger};
+use script_form::{NewRow, Question};
 use std::alloc::{AllocError, Global};
 use std::fmt::{Display, Write};
 

@@ -1,20 +1,5 @@
-use dim_hierarchy::{Hierarchy, Items, NameFilter, Names};
-
-/// A row to be inserted through a server: its measure, and the name of a leaf concept for each
-/// dimension.
-#[derive(Drop)]
-pub struct NewRow {
-    pub server: u8,
-    pub measure: i64,
-    pub names: Names,
-}
-
-/// A query to a server: what it asks of each dimension, by names.
-#[derive(Drop)]
-pub struct Question {
-    pub server: u8,
-    pub filter: NameFilter,
-}
+use dim_hierarchy::{Hierarchy, Items};
+use script_form::{NewRow, Question};
 
 /// A command of a script.
 #[derive(Drop)]

@@ -3,7 +3,8 @@ ghost use Rattle.std.specs.Prelude.{◌≡◌, ◌≢◌, ◌+◌, ◌≤◌, �
 ghost use Rattle.std.specs.Io.KnownBytes.{Appends};
 ghost use Rattle.volap_io.specs.Causes.{Rose};
 ghost use Rattle.volap_io.specs.Source.{Gave};
-ghost use Rattle.olap_top.specs.Form.{IsKnown, records_of, script_of};
+ghost use Rattle.olap_top.specs.Form.{IsKnown, script_of};
+ghost use Rattle.script_form.specs.Scripts.{records_of};
 ghost use Rattle.olap_top.specs.Outcomes.{HasRun, TookPart, IsStep, IsDone, IsCutOff, IsNoScript, IsGood, bad_line};
 ghost use Rattle.olap_top.specs.declared.script.Script.{Script};
 

@@ -4,6 +4,7 @@
 mod event;
 mod history;
 mod ledger;
+mod settings;
 #[cfg(test)]
 mod tests;
 pub mod worked;
@@ -11,3 +12,4 @@ pub mod worked;
 pub use event::Event;
 pub use history::History;
 pub use ledger::Ledger;
+pub use settings::{Call, Use};

@@ -1,6 +1,7 @@
--- Numbers, measures and names as the fields of a record spell them.
-use Rattle.std.specs.Prelude.{ℕ, ◌+◌, ◌-◌, ◌*◌, ◌==◌, ◌&&◌, nat_lt, nat_le, not, Bool, ℤ, pos, neg_ℤ, Option, Some, None, unwrap_or, option_and_then, if◌then◌else◌, List, [], ◌∷◌, length, fold, codes}
-use Rattle.std.specs.List.{list_any, list_all}
+-- Numbers, measures, names and filters as the fields of a record spell them.
+use Rattle.std.specs.Prelude.{ℕ, ◌+◌, ◌-◌, ◌*◌, ◌==◌, ◌&&◌, ◌||◌, nat_lt, nat_le, not, Bool, false, ℤ, pos, neg_ℤ, Option, Some, None, unwrap_or, option_and_then, if◌then◌else◌, List, [], ◌∷◌, length, fold, codes}
+use Rattle.std.specs.List.{list_any, list_all, slice_split}
+use Rattle.std.specs.Option.{option_map_or}
 use Rattle.std.specs.Str.{bytes_eq}
 use Rattle.csv.specs.Records.{field_at}
 
@@ -24,6 +25,18 @@ digits_value text = fold (λ value b. 10 * value + (b - 48)) 0 text
 abbrev pub number_of : List ℕ → Option ℕ
 number_of text = if nat_le 1 (length text) && nat_le (length text) 20 && list_all is_digit text then Some (digits_value text) else None
 
+-- a number from low to high
+abbrev pub in_range : List ℕ → ℕ → ℕ → Bool
+in_range text low high = option_map_or (λ value. nat_le low value && nat_le value high) (number_of text) false
+
+-- a number below a limit
+abbrev pub is_below : List ℕ → ℕ → Bool
+is_below text limit = option_map_or (λ value. nat_lt value limit) (number_of text) false
+
+-- the value of a number, and 0 where there is none
+abbrev pub value_of : List ℕ → ℕ
+value_of text = unwrap_or (number_of text) 0
+
 -- Measures: a number with one `-` in front or without, from -2^63 to 2^63 - 1.
 
 abbrev pub not_below_zero : ℕ → Option ℤ
@@ -41,5 +54,16 @@ measure_of (b ∷ bs) = if b == 45 then option_and_then below_zero (number_of bs
 abbrev pub is_star : List ℕ → Bool
 is_star text = bytes_eq text (codes "*")
 
+abbrev pub is_bar : ℕ → Bool
+is_bar b = b == 124
+
 abbrev pub is_name : List ℕ → Bool
-is_name text = nat_le 1 (length text) && nat_le (length text) 64 && not (list_any (λ b. b == 124) text) && not (is_star text)
+is_name text = nat_le 1 (length text) && nat_le (length text) 64 && not (list_any is_bar text) && not (is_star text)
+
+-- Picks of a filter: `*`, or names joined by vertical bars.
+
+abbrev pub pieces : List ℕ → List (List ℕ)
+pieces text = slice_split is_bar text
+
+abbrev pub is_pick : List ℕ → Bool
+is_pick text = is_star text || list_all is_name (pieces text)

@@ -1,19 +1,19 @@
 //! Numbers, measures and names as the fields of a record spell them.
-ghost use Rattle.std.specs.Prelude.{◌≡◌};
+ghost use Rattle.std.specs.Prelude.{◌≡◌, true};
 ghost use Rattle.csv.specs.Records.{fields_of};
-ghost use Rattle.olap_top.specs.Fields.{field, is_name, is_star, measure_of, number_of};
+ghost use Rattle.script_form.specs.Fields.{field, in_range, is_below, is_name, is_star, measure_of, number_of, value_of};
 
 use csv::ByteRecord;
 
 /// The field at a place, empty where there is none.
-pub(crate) fn field(row: &ByteRecord, i: usize) -> &[u8]
+pub fn field(row: &ByteRecord, i: usize) -> &[u8]
     ensures { result.now ≡ field (fields_of row.now) i }
 {
     row.get(i).unwrap_or(&[])
 }
 
 /// A number: 1 to 20 decimal digits.
-pub(crate) fn number(text: &[u8]) -> Option<u128>
+pub fn number(text: &[u8]) -> Option<u128>
     ensures { result ≡ number_of text.now }
 {
     if text.is_empty() || text.len() > 20 {
@@ -29,8 +29,46 @@ pub(crate) fn number(text: &[u8]) -> Option<u128>
     Some(value)
 }
 
+/// Whether this is a number from `low` to `high`.
+pub(crate) fn in_range(text: &[u8], low: u128, high: u128) -> bool
+    ensures { result ≡ in_range text.now low high }
+{
+    match number(text) {
+        Some(value) => low <= value && value <= high,
+        None => false,
+    }
+}
+
+/// Whether this is a number below a limit.
+pub(crate) fn is_below(text: &[u8], limit: u128) -> bool
+    ensures { result ≡ is_below text.now limit }
+{
+    match number(text) {
+        Some(value) => value < limit,
+        None => false,
+    }
+}
+
+/// The value of a number below 2^8.
+#[tactic(auto, using(crate::proofs::NumberFacts::value_below))]
+pub(crate) fn value_u8(text: &[u8]) -> u8
+    requires { is_below text.now 256 ≡ true }
+    ensures { result ≡ value_of text.now }
+{
+    number(text).unwrap_or(0) as u8
+}
+
+/// The value of a number below 2^32.
+#[tactic(auto, using(crate::proofs::NumberFacts::value_below))]
+pub(crate) fn value_u32(text: &[u8]) -> u32
+    requires { is_below text.now 4294967296 ≡ true }
+    ensures { result ≡ value_of text.now }
+{
+    number(text).unwrap_or(0) as u32
+}
+
 /// A measure: a number with one `-` in front or without, from -2^63 to 2^63 - 1.
-pub(crate) fn measure(text: &[u8]) -> Option<i64>
+pub fn measure(text: &[u8]) -> Option<i64>
     ensures { result ≡ measure_of text.now }
 {
     if let [b'-', digits @ ..] = text {
@@ -51,7 +89,7 @@ pub(crate) fn measure(text: &[u8]) -> Option<i64>
 }
 
 /// Whether this is the one byte `*`, which stands for all concepts.
-pub(crate) fn is_star(text: &[u8]) -> bool
+pub fn is_star(text: &[u8]) -> bool
     ensures { result ≡ is_star text.now }
 {
     text == b"*".as_slice()
@@ -59,7 +97,7 @@ pub(crate) fn is_star(text: &[u8]) -> bool
 
 /// Whether this can be the name of a dimension or a concept: 1 to 64 bytes, no vertical bar among
 /// them, and not the one byte `*`.
-pub(crate) fn is_name(text: &[u8]) -> bool
+pub fn is_name(text: &[u8]) -> bool
     ensures { result ≡ is_name text.now }
 {
     !text.is_empty() && text.len() <= 64 && !text.contains(&b'|') && !is_star(text)

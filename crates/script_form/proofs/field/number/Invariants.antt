@@ -1,7 +1,7 @@
 use Rattle.std.proofs.Common.{◌≡◌, ◌<◌, ◌^◌, ◌+◌, ◌*◌, ◌-◌, fold, drop}
 use Rattle.std.specs.List.{list_all}
-use Rattle.olap_top.specs.Fields.{digits_value, is_digit}
-use Rattle.olap_top.proofs.field.number.Given as goal
+use Rattle.script_form.specs.Fields.{digits_value, is_digit}
+use Rattle.script_form.proofs.field.number.Given as goal
 
 abbrev pub invariant-loop-digit : goal.invariant-loop-digit
 invariant-loop-digit l = record {

@@ -1,0 +1,179 @@
+-- The script of the records read so far.
+use Rattle.std.proofs.Common.{◌≡◌, ◌≢◌, ◌≤◌, ◌<◌, ◌+◌, ◌++◌, ℕ, List, get_or, [], ◌∷◌, length, map, drop, Bool, true, false, Option, Some, None, Ok, Err, arith, refl, sym, ◌∙◌, ap, All, ◌&&◌, length-append, length-drop}
+use Rattle.std.specs.Prelude.{codes, not, unwrap_or, ◌==◌}
+use Rattle.std.specs.List.{cons_option}
+use Rattle.std.specs.Option.{option_to_list}
+use Rattle.std.specs.Str.{bytes_eq}
+use Rattle.std.proofs.lemmas.Bool.{and_parts}
+use Rattle.std.proofs.lemmas.Bool.Decides.{nat_tests}
+use Rattle.std.proofs.lemmas.List.{append_assoc, append-nil, length-map, nil_from_length}
+use Rattle.std.proofs.lemmas.List.Elements.{All-map, All-push, filter_map-append}
+use Rattle.std.proofs.lemmas.List.Splits.{length-slice_split}
+use Rattle.std.proofs.lemmas.List.Sums.{fold-append}
+use Rattle.dim_hierarchy.specs.Dimension.{Dimension, concept_count, find_dim}
+use Rattle.dim_hierarchy.specs.Filter.{IsNamePick}
+use Rattle.script_form.specs.Causes.{MayStand, cause_at, parent_of, is_version}
+use Rattle.script_form.specs.Fields.{Record, field, is_bar, is_star, value_of}
+use Rattle.script_form.specs.Kinds.{kind_of}
+use Rattle.script_form.specs.Scripts.{AreSettings, Fits, IsTaken, after, command_by, command_of, default_settings, first_cause, first_fault, hierarchy_with, pick_of, script, script_of, settings_with}
+use Rattle.script_form.specs.declared.kind.Kind.{Kind}
+use Rattle.script_form.specs.declared.kind.Kind.TheVariants as kind
+use Rattle.script_form.specs.declared.script.Cause.{Cause}
+use Rattle.script_form.specs.declared.script.Cause.TheVariants as cause
+use Rattle.script_form.specs.declared.script.Command.{Command}
+use Rattle.script_form.specs.declared.script.Script.{Script}
+use Rattle.script_form.specs.declared.script.ScriptFault.{ScriptFault}
+use Rattle.script_form.specs.declared.script.ScriptFault.TheVariants as fault
+use Rattle.script_form.proofs.ConceptCounts.{concept_count-new, concept_count-with_named}
+use Rattle.script_form.proofs.NumberFacts.{insert_server, query_server, settings_more, value_below}
+
+-- of the records so far none has a cause, and this is their script
+pub record SoFar (rows : List Record) (at : ℕ) (s : Script) : Type 0 where
+  pub count : length rows ≡ at
+  pub script : s ≡ script_of rows
+  pub sound : (rest : List Record) → first_fault [] (rows ++ rest) ≡ first_fault rows rest
+  pub room : concept_count s.hierarchy ≤ at
+  pub begun : at ≤ 1 → s.commands ≡ []
+  pub settings : AreSettings s.with
+  pub fits : All (Fits s) s.commands
+
+pub none_so_far : SoFar [] 0 (script_of [])
+none_so_far = record {
+  count = refl;
+  script = refl;
+  sound = λ rest. refl;
+  room = omega arith;
+  begun = λ _. refl;
+  settings = record { servers = (omega arith, omega arith); workers = (omega arith, omega arith); threads = (omega arith, omega arith); cells = (omega arith, omega arith) };
+  fits = λ k d within. absurd (omega arith);
+}
+
+-- One record more.
+
+option_list : {X : Type 0} (o : Option X) → cons_option o [] ≡ option_to_list o
+option_list None = refl
+option_list (Some x) = refl
+
+script_of-push : (rows : List Record) (r : Record) → script_of (rows ++ r ∷ []) ≡ after (script_of rows) r
+script_of-push rows r =
+    rw (fold-append (λ with x. settings_with (kind_of (field x 0)) with x) default_settings rows (r ∷ []), fold-append (λ h x. hierarchy_with (kind_of (field x 0)) h x) [] rows (r ∷ []), filter_map-append command_of rows (r ∷ []), option_list (command_of r)) refl
+
+-- the script with what a record of this kind says
+after_kind : Kind → Script → Record → Script
+after_kind k s r = record { with = settings_with (Some k) s.with r; hierarchy = hierarchy_with (Some k) s.hierarchy r; commands = s.commands ++ option_to_list (command_by (Some k) r) }
+
+after_by_kind : (s : Script) (r : Record) (k : Kind) → kind_of (field r 0) ≡ Some k → after s r ≡ after_kind k s r
+unfolding after_kind
+after_by_kind s r k is = rw is refl
+
+room_more : (h : List Dimension) (k : Kind) (r : Record) → concept_count (hierarchy_with (Some k) h r) ≤ concept_count h + 1
+room_more h kind.Dim r = omega (arith, concept_count-new h (field r 1) (value_of (field r 2)))
+room_more h kind.Concept r = concept_count-with_named h (unwrap_or (find_dim h (field r 1)) 0) (field r 2) (unwrap_or (parent_of h (unwrap_or (find_dim h (field r 1)) 0) (field r 3)) 0)
+room_more h _ r = omega arith
+
+-- The first record has no command, and so a `use` record has none before it.
+
+version_kind : (r : Record) → is_version r ≡ true → kind_of (field r 0) ≡ Some kind.Volap
+version_kind r is =
+    let both = and_parts ((length r == 2) && bytes_eq (field r 0) (codes "volap")) (bytes_eq (field r 1) (codes "1")) is in
+    let word = and_parts (length r == 2) (bytes_eq (field r 0) (codes "volap")) both.0 in
+    rw word.1 refl
+
+no_commands : (xs : List Command) → not (length xs == 0) ≡ false → xs ≡ []
+no_commands xs none = nil_from_length xs (grind (arith, nat_tests))
+
+stands_second : (place : ℕ) → not (place == 1) ≡ false → place ≡ 1
+stands_second place is = grind (arith, nat_tests)
+
+begun_more : (at : ℕ) (s : Script) (r : Record) → (at ≤ 1 → s.commands ≡ []) → (at ≡ 0 → is_version r ≡ true) → at + 1 ≤ 1 → (after s r).commands ≡ []
+begun_more at s r begun version early =
+    rw (version_kind r (version (omega arith)), begun (omega arith)) refl
+
+-- The commands fit.
+
+none_fit : (s : Script) (xs : List Command) → xs ≡ [] → All (Fits s) (xs ++ [])
+none_fit s xs none = rw none (λ k d within. absurd (omega arith))
+
+not_nil : {X : Type 0} (xs : List X) → 0 < length xs → xs ≢ []
+not_nil xs some none = omega (arith, ap length none)
+
+pick_lists : (text : List ℕ) (star : Bool) → star ≡ is_star text → IsNamePick (pick_of text)
+pick_lists text true star = rw (← star) tt
+pick_lists text false star = rw (← star) (not_nil _ (omega (arith, length-slice_split is_bar text)))
+
+picks_list : (texts : Record) → All IsNamePick (map pick_of texts)
+picks_list texts = All-map IsNamePick pick_of texts (λ k d within. let text = get_or texts k d in pick_lists text (is_star text) refl)
+
+fits_more : (place : ℕ) (s : Script) (k : Kind) (r : Record) → MayStand place s k r → (place ≤ 1 → s.commands ≡ []) → All (Fits s) s.commands → All (Fits (after_kind k s r)) (after_kind k s r).commands
+unfolding after_kind
+fits_more place s kind.Volap r stands begun fits = rw append-nil fits
+fits_more place s kind.Use r stands begun fits = let one = stands_second place stands.order in none_fit (after_kind kind.Use s r) s.commands (begun (omega arith))
+fits_more place s kind.Dim r stands begun fits = none_fit (after_kind kind.Dim s r) s.commands (no_commands s.commands stands.order)
+fits_more place s kind.Concept r stands begun fits = none_fit (after_kind kind.Concept s r) s.commands (no_commands s.commands stands.order)
+fits_more place s kind.Insert r stands begun fits =
+    All-push (Fits s) s.commands _ fits (
+      value_below (field r 1) s.with.servers (insert_server s.with.servers r stands.form.number),
+      omega (arith, stands.form.fields, length-drop 3 r),
+    )
+fits_more place s kind.Query r stands begun fits =
+    All-push (Fits s) s.commands _ fits (
+      value_below (field r 1) s.with.servers (query_server s.with.servers r stands.form.number),
+      omega (arith, stands.form.fields, length-drop 2 r, length-map (drop 2 r) pick_of),
+      picks_list (drop 2 r),
+    )
+fits_more place s _ r stands begun fits = All-push (Fits s) s.commands _ fits tt
+
+-- The records so far and one more.
+
+fits_same : (s t : Script) → s ≡ t → All (Fits t) t.commands → All (Fits s) s.commands
+fits_same s t same fits = rw same fits
+
+-- what the code tells of a record is its cause behind the rows
+pub cause_is : (rows : List Record) (at : ℕ) (s : Script) (r : Record) → SoFar rows at s → first_cause rows r ≡ cause_at at s r
+cause_is rows at s r so_far = rw (← so_far.count, so_far.script) refl
+
+first_more : (rows rest : List Record) (r : Record) → first_cause rows r ≡ None → first_fault rows (r ∷ rest) ≡ first_fault (rows ++ r ∷ []) rest
+first_more rows rest r none = rw none refl
+
+first_bad : (rows rest : List Record) (r : Record) (c : Cause) → first_cause rows r ≡ Some c → first_fault rows (r ∷ rest) ≡ Some (fault.Bad (length rows + 1) c)
+first_bad rows rest r c bad = rw bad refl
+
+pub one_more : (rows : List Record) (at : ℕ) (s t : Script) (r : Record) → SoFar rows at s → IsTaken at s t r → SoFar (rows ++ r ∷ []) (at + 1) t
+one_more rows at s t r so_far taken =
+    let none : first_cause rows r ≡ None = cause_is rows at s r so_far ∙ taken.stands.cause ∙ taken.fine in
+    let by_kind = after_by_kind s r taken.kind taken.stands.form.kind in
+    record {
+      count = omega (arith, length-append rows (r ∷ []), so_far.count);
+      script = taken.script ∙ ap (λ u. after u r) so_far.script ∙ sym (script_of-push rows r);
+      sound = λ rest. rw append_assoc (so_far.sound (r ∷ rest) ∙ first_more rows rest r none);
+      room = rw (taken.script, taken.stands.form.kind) (let more = room_more s.hierarchy taken.kind r in let room = so_far.room in omega arith);
+      begun = λ early. ap (λ u. u.commands) taken.script ∙ begun_more at s r so_far.begun taken.stands.version early;
+      settings = rw (taken.script, taken.stands.form.kind) (settings_more s.with.servers s.with taken.kind r taken.stands.form.number so_far.settings);
+      fits = fits_same t (after_kind taken.kind s r) (taken.script ∙ by_kind) (fits_more at s taken.kind r taken.stands so_far.begun so_far.fits);
+    }
+
+-- The end.
+
+script_fault : (all : List Record) (f : ScriptFault) → first_fault [] all ≡ Some f → script all ≡ Err f
+script_fault [] f is = cc
+script_fault (r ∷ rest) f is = rw is refl
+
+-- a record with a cause behind those so far
+pub script_bad : (all rows rest : List Record) (at : ℕ) (s : Script) (r : Record) (c : Cause) → all ≡ (rows ++ r ∷ []) ++ rest → SoFar rows at s → cause_at at s r ≡ Some c
+    → script all ≡ Err (fault.Bad (at + 1) c)
+script_bad all rows rest at s r c is so_far bad =
+    script_fault all (fault.Bad (at + 1) c) (rw (is, append_assoc, ← so_far.count) (so_far.sound (r ∷ rest) ∙ first_bad rows rest r c (cause_is rows at s r so_far ∙ bad)))
+
+script_fine : (all : List Record) → 0 < length all → first_fault [] all ≡ None → script all ≡ Ok (script_of all)
+script_fine [] some is = absurd (omega arith)
+script_fine (r ∷ rest) some is = rw is refl
+
+-- no record is left behind those so far
+pub script_good : (all rows : List Record) (at : ℕ) (s : Script) → all ≡ rows → SoFar rows at s → 0 < at → script all ≡ Ok s
+script_good all rows at s is so_far some =
+    let none : first_fault [] rows ≡ None = rw (append-nil rows) at (so_far.sound []) in
+    rw (is, so_far.script) (script_fine rows (omega (arith, so_far.count)) none)
+
+pub script_empty : (all rows : List Record) (at : ℕ) (s : Script) → all ≡ rows → SoFar rows at s → at ≡ 0 → script all ≡ Err (fault.Bad 1 cause.Version)
+script_empty all [] at s is so_far none = rw is refl
+script_empty all (r ∷ rest) at s is so_far none = absurd (omega (arith, so_far.count))

@@ -1,0 +1,122 @@
+-- The causes for which a record is bad, given the script of the records before it.
+use Rattle.std.specs.Prelude.{ℕ, ◌≡◌, ◌<◌, ◌==◌, ◌&&◌, ◌||◌, not, Bool, true, false, ⊤, Option, Some, None, is_some, option_and_then, if◌then◌else◌, List, length, drop, codes}
+use Rattle.std.specs.List.{list_all}
+use Rattle.std.specs.Str.{bytes_eq}
+use Rattle.dim_hierarchy.specs.Dimension.{Dimension, concept_fault, dim_fault, find, find_dim}
+use Rattle.dim_hierarchy.specs.declared.hierarchy.DimFault.{DimFault}
+use Rattle.dim_hierarchy.specs.declared.hierarchy.DimFault.TheVariants as dim
+use Rattle.dim_hierarchy.specs.declared.hierarchy.ConceptFault.{ConceptFault}
+use Rattle.dim_hierarchy.specs.declared.hierarchy.ConceptFault.TheVariants as concept
+use Rattle.script_form.specs.Fields.{Record, field, in_range, is_below, is_name, is_pick, is_star, measure_of, value_of}
+use Rattle.script_form.specs.Kinds.{kind_of, width}
+use Rattle.script_form.specs.declared.kind.Kind.{Kind}
+use Rattle.script_form.specs.declared.kind.Kind.TheVariants as kind
+use Rattle.script_form.specs.declared.script.Cause.{Cause}
+use Rattle.script_form.specs.declared.script.Cause.TheVariants as cause
+use Rattle.script_form.specs.declared.script.Script.{Script}
+use Rattle.script_form.specs.declared.record.RecordFault.{RecordFault}
+use Rattle.script_form.specs.declared.record.RecordFault.TheVariants as fault
+
+-- `volap`, `1`
+abbrev pub is_version : Record → Bool
+is_version r = (length r == 2) && bytes_eq (field r 0) (codes "volap") && bytes_eq (field r 1) (codes "1")
+
+-- a record that may not stand behind so many records and their script
+abbrev pub wrong_order : ℕ → Script → Kind → Bool
+wrong_order place before kind.Volap = not (place == 0)
+wrong_order place before kind.Use = not (place == 1)
+wrong_order place before kind.Dim = not (length before.commands == 0)
+wrong_order place before kind.Concept = not (length before.commands == 0)
+wrong_order place before _ = length before.hierarchy == 0
+
+-- a number field is no number in its range
+abbrev pub wrong_number : ℕ → Kind → Record → Bool
+wrong_number servers kind.Volap r = false
+wrong_number servers kind.Use r = not (in_range (field r 1) 1 16 && in_range (field r 2) 1 16 && in_range (field r 3) 1 8 && in_range (field r 4) 64 65536)
+wrong_number servers kind.Dim r = not (in_range (field r 2) 1 8)
+wrong_number servers kind.Concept r = false
+wrong_number servers kind.Insert r = not (is_below (field r 1) servers && is_some (measure_of (field r 2)))
+wrong_number servers kind.Query r = not (is_below (field r 1) servers)
+wrong_number servers kind.Barrier r = false
+
+-- a name field, or a piece of a filter, is no name
+abbrev pub wrong_name : Kind → Record → Bool
+wrong_name kind.Volap r = false
+wrong_name kind.Use r = false
+wrong_name kind.Dim r = not (is_name (field r 1))
+wrong_name kind.Concept r = not (is_name (field r 1) && is_name (field r 2) && (is_star (field r 3) || is_name (field r 3)))
+wrong_name kind.Insert r = not (list_all is_name (drop 3 r))
+wrong_name kind.Query r = not (list_all is_pick (drop 2 r))
+wrong_name kind.Barrier r = false
+
+-- What the hierarchy says against a dimension or a concept.
+
+abbrev pub dim_cause : DimFault → Option Cause
+dim_cause dim.Full = Some cause.DimFull
+dim_cause dim.Twice = Some cause.DimTwice
+dim_cause dim.BadLevels = Some cause.Number
+dim_cause dim.NoMemory = None
+
+abbrev pub concept_cause : ConceptFault → Option Cause
+concept_cause concept.NoDim = Some cause.NoDim
+concept_cause concept.NoParent = Some cause.NoParent
+concept_cause concept.Twice = Some cause.ConceptTwice
+concept_cause concept.TooDeep = Some cause.TooDeep
+concept_cause concept.NoMemory = None
+
+-- the concept that a field names as a parent: ALL for `*`
+abbrev pub parent_of : List Dimension → ℕ → List ℕ → Option ℕ
+parent_of h dim name = if is_star name then Some 0 else find h dim name
+
+-- against a concept of this name, by its dimension and its parent where these stand
+abbrev pub cause_under : List Dimension → ℕ → List ℕ → Option ℕ → Option Cause
+cause_under h dim name None = Some cause.NoParent
+cause_under h dim name (Some parent) = option_and_then concept_cause (concept_fault h dim name parent)
+
+abbrev pub cause_in : List Dimension → Option ℕ → Record → Option Cause
+cause_in h None r = Some cause.NoDim
+cause_in h (Some dim) r = cause_under h dim (field r 2) (parent_of h dim (field r 3))
+
+abbrev pub hierarchy_cause : List Dimension → Kind → Record → Option Cause
+hierarchy_cause h kind.Dim r = option_and_then dim_cause (dim_fault h (field r 1) (value_of (field r 2)))
+hierarchy_cause h kind.Concept r = cause_in h (find_dim h (field r 1)) r
+hierarchy_cause h _ r = None
+
+-- The first cause of a record, in the order in which causes count.
+
+abbrev pub cause_by_kind : ℕ → Script → Option Kind → Record → Option Cause
+cause_by_kind place before None r = Some cause.Kind
+cause_by_kind place before (Some k) r =
+    if wrong_order place before k then Some cause.Order
+    else if not (length r == width k (length before.hierarchy)) then Some cause.Fields
+    else if wrong_number before.with.servers k r then Some cause.Number
+    else if wrong_name k r then Some cause.Name
+    else hierarchy_cause before.hierarchy k r
+
+-- the first cause of a record behind so many records and their script
+abbrev pub cause_at : ℕ → Script → Record → Option Cause
+cause_at place before r =
+    if (place == 0) && not (is_version r) then Some cause.Version
+    else cause_by_kind place before (kind_of (field r 0)) r
+
+-- What the code tells of a record.
+
+-- a record of this kind has the fields of its kind
+pub record HasForm (before : Script) (k : Kind) (r : Record) : Type 0 where
+  pub kind : kind_of (field r 0) ≡ Some k
+  pub fields : length r ≡ width k (length before.hierarchy)
+  pub number : wrong_number before.with.servers k r ≡ false
+  pub name : wrong_name k r ≡ false
+  pub servers : before.with.servers < 256
+
+-- and nothing but the hierarchy can stand against it
+pub record MayStand (place : ℕ) (before : Script) (k : Kind) (r : Record) : Type 0 where
+  pub form : HasForm before k r
+  pub version : place ≡ 0 → is_version r ≡ true
+  pub order : wrong_order place before k ≡ false
+  pub cause : cause_at place before r ≡ hierarchy_cause before.hierarchy k r
+
+-- want of memory, or this cause
+abbrev pub TellsCause : Option Cause → RecordFault → Type 0
+TellsCause cause (fault.Bad told) = cause ≡ Some told
+TellsCause cause fault.NoMemory = ⊤

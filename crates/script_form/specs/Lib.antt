@@ -1,0 +1,4 @@
+pub mod Fields
+pub mod Kinds
+pub mod Causes
+pub mod Scripts

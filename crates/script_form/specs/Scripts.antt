@@ -1,0 +1,149 @@
+-- The script that a list of records is, or where and why it is bad.
+use Rattle.std.specs.Prelude.{ℕ, pos, ◌≡◌, ◌+◌, ◌<◌, ◌≤◌, Option, Some, None, option_map, unwrap_or, Result, Ok, Err, if◌then◌else◌, ⊤, List, [], ◌∷◌, ◌++◌, length, drop, map, fold, slice_set, All}
+use Rattle.std.specs.List.{filter_map}
+use Rattle.std.specs.Option.{option_or, option_to_list}
+use Rattle.csv.specs.Reading.{default_config, records, strip_bom}
+use Rattle.dim_hierarchy.specs.Dimension.{Dimension, dimension, find_dim, new_dimension, with_concept}
+use Rattle.dim_hierarchy.specs.Filter.{IsNamePick}
+use Rattle.dim_hierarchy.specs.declared.filter.NamePick.{NamePick}
+use Rattle.dim_hierarchy.specs.declared.filter.NamePick.TheVariants as pick
+use Rattle.row_ledger.specs.declared.settings.Use.{Use}
+use Rattle.row_ledger.specs.declared.settings.Call.TheVariants as call
+use Rattle.script_form.specs.Fields.{Record, field, is_star, measure_of, pieces, value_of}
+use Rattle.script_form.specs.Kinds.{kind_of}
+use Rattle.script_form.specs.Causes.{MayStand, cause_at, hierarchy_cause, parent_of}
+use Rattle.script_form.specs.declared.kind.Kind.{Kind}
+use Rattle.script_form.specs.declared.kind.Kind.TheVariants as kind
+use Rattle.script_form.specs.declared.script.Cause.{Cause}
+use Rattle.script_form.specs.declared.script.Cause.TheVariants as cause
+use Rattle.script_form.specs.declared.script.Command.{Command}
+use Rattle.script_form.specs.declared.script.Command.TheVariants as command
+use Rattle.script_form.specs.declared.script.Script.{Script}
+use Rattle.script_form.specs.declared.script.ScriptFault.{ScriptFault}
+use Rattle.script_form.specs.declared.script.ScriptFault.TheVariants as fault
+
+-- the records of a text: comma, double quotes, any number of fields, one leading byte order mark dropped
+abbrev pub records_of : List ℕ → List Record
+records_of text = records default_config (strip_bom text)
+
+-- Settings.
+
+abbrev pub default_settings : Use
+default_settings = record { servers = 2; workers = 2; threads = 2; cells = 16384 }
+
+abbrev pub settings_in : Record → Use
+settings_in r = record { servers = value_of (field r 1); workers = value_of (field r 2); threads = value_of (field r 3); cells = value_of (field r 4) }
+
+abbrev pub settings_with : Option Kind → Use → Record → Use
+settings_with (Some kind.Use) with r = settings_in r
+settings_with _ with r = with
+
+abbrev pub settings_of : List Record → Use
+settings_of rs = fold (λ with r. settings_with (kind_of (field r 0)) with r) default_settings rs
+
+-- The hierarchy.
+
+abbrev pub with_named : List Dimension → ℕ → List ℕ → ℕ → List Dimension
+with_named h dim name parent = slice_set h dim (with_concept (dimension h dim) name parent)
+
+-- with the concept of a record in the dimension with this number
+abbrev pub concept_added : List Dimension → ℕ → Record → List Dimension
+concept_added h dim r = with_named h dim (field r 2) (unwrap_or (parent_of h dim (field r 3)) 0)
+
+abbrev pub hierarchy_with : Option Kind → List Dimension → Record → List Dimension
+hierarchy_with (Some kind.Dim) h r = h ++ new_dimension (field r 1) (value_of (field r 2)) ∷ []
+hierarchy_with (Some kind.Concept) h r = concept_added h (unwrap_or (find_dim h (field r 1)) 0) r
+hierarchy_with _ h r = h
+
+abbrev pub hierarchy_of : List Record → List Dimension
+hierarchy_of rs = fold (λ h r. hierarchy_with (kind_of (field r 0)) h r) [] rs
+
+-- The commands.
+
+abbrev pub pick_of : List ℕ → NamePick
+pick_of text = if is_star text then pick.All else pick.Any (pieces text)
+
+-- the command that a record of a kind is, if it is one
+abbrev pub command_by : Option Kind → Record → Option Command
+command_by (Some kind.Insert) r =
+    Some (command.Insert (record { server = value_of (field r 1); measure = unwrap_or (measure_of (field r 2)) (pos 0); names = drop 3 r }))
+command_by (Some kind.Query) r = Some (command.Query (record { server = value_of (field r 1); filter = map pick_of (drop 2 r) }))
+command_by (Some kind.Barrier) r = Some (command.Control call.Barrier)
+command_by _ r = None
+
+abbrev pub command_of : Record → Option Command
+command_of r = command_by (kind_of (field r 0)) r
+
+abbrev pub commands_of : List Record → List Command
+commands_of rs = filter_map command_of rs
+
+-- The whole.
+
+-- the script of records of which none is bad
+abbrev pub script_of : List Record → Script
+script_of rs = record { with = settings_of rs; hierarchy = hierarchy_of rs; commands = commands_of rs }
+
+-- the script of the records before it, after one more
+abbrev pub after : Script → Record → Script
+after s r = record { with = settings_with (kind_of (field r 0)) s.with r; hierarchy = hierarchy_with (kind_of (field r 0)) s.hierarchy r; commands = s.commands ++ option_to_list (command_of r) }
+
+-- the first cause of a record, given the records before it
+abbrev pub first_cause : List Record → Record → Option Cause
+first_cause before r = cause_at (length before) (script_of before) r
+
+-- the first fault of records that stand behind others
+abbrev pub first_fault : List Record → List Record → Option ScriptFault
+first_fault before [] = None
+first_fault before (r ∷ rest) =
+    option_or (option_map (λ c. fault.Bad (length before + 1) c) (first_cause before r)) (first_fault (before ++ r ∷ []) rest)
+
+abbrev pub unless : Option ScriptFault → Script → Result Script ScriptFault
+unless None s = Ok s
+unless (Some f) s = Err f
+
+-- the script that records are, or the first fault
+abbrev pub script : List Record → Result Script ScriptFault
+script [] = Err (fault.Bad 1 cause.Version)
+script (r ∷ rest) = unless (first_fault [] (r ∷ rest)) (script_of (r ∷ rest))
+
+-- What contracts say of scripts.
+
+-- want of memory, or this answer
+abbrev pub IsAnswer : Result Script ScriptFault → Result Script ScriptFault → Type 0
+IsAnswer answer (Ok s) = answer ≡ Ok s
+IsAnswer answer (Err (fault.Bad at cause)) = answer ≡ Err (fault.Bad at cause)
+IsAnswer answer (Err fault.NoMemory) = ⊤
+
+-- settings in their ranges
+pub record AreSettings (with : Use) : Type 0 where
+  pub servers : (1 ≤ with.servers) × (with.servers ≤ 16)
+  pub workers : (1 ≤ with.workers) × (with.workers ≤ 16)
+  pub threads : (1 ≤ with.threads) × (with.threads ≤ 8)
+  pub cells : (64 ≤ with.cells) × (with.cells ≤ 65536)
+
+-- a command of a server of the script, with a name or a pick for each dimension
+abbrev pub Fits : Script → Command → Type 0
+Fits s (command.Insert row) = (row.server < s.with.servers) × (length row.names ≡ length s.hierarchy)
+Fits s (command.Query question) = (question.server < s.with.servers) × (length question.filter ≡ length s.hierarchy) × All IsNamePick question.filter
+Fits s (command.Control call) = ⊤
+
+-- none of the records has a cause, each behind those before it
+abbrev pub AreFine : List Record → Type 0
+AreFine rs = (before : List Record) (r : Record) (after : List Record) → rs ≡ before ++ r ∷ after → first_cause before r ≡ None
+
+-- the record with this number is the first with a cause, and this is its first cause
+pub record IsFirstFault (rs : List Record) (at : ℕ) (c : Cause) : Type 0 where
+  pub front : List Record
+  pub bad : Record
+  pub rest : List Record
+  pub whole : rs ≡ front ++ bad ∷ rest
+  pub fine : AreFine front
+  pub cause : first_cause front bad ≡ Some c
+  pub number : at ≡ length front + 1
+
+-- a record that nothing stands against, with the script of those before it and with its own
+pub record IsTaken (place : ℕ) (before new : Script) (r : Record) : Type 0 where
+  pub kind : Kind
+  pub stands : MayStand place before kind r
+  pub fine : hierarchy_cause before.hierarchy kind r ≡ None
+  pub script : new ≡ after before r

@@ -1,0 +1,54 @@
+//! The kinds of record.
+ghost use Rattle.std.specs.Prelude.{◌≡◌, ◌≤◌};
+ghost use Rattle.script_form.specs.Kinds.{kind_of, width};
+
+/// What the first field of a record says that it is.
+#[derive(Clone, Copy, Debug, PartialEq, Eq)]
+pub(crate) enum Kind {
+    Volap,
+    Use,
+    Dim,
+    Concept,
+    Insert,
+    Query,
+    Barrier,
+}
+
+/// The kind that a first field names.
+pub(crate) fn kind_of(word: &[u8]) -> Option<Kind>
+    ensures { result ≡ kind_of word.now }
+{
+    if word == b"volap".as_slice() {
+        Some(Kind::Volap)
+    } else if word == b"use".as_slice() {
+        Some(Kind::Use)
+    } else if word == b"dim".as_slice() {
+        Some(Kind::Dim)
+    } else if word == b"concept".as_slice() {
+        Some(Kind::Concept)
+    } else if word == b"insert".as_slice() {
+        Some(Kind::Insert)
+    } else if word == b"query".as_slice() {
+        Some(Kind::Query)
+    } else if word == b"barrier".as_slice() {
+        Some(Kind::Barrier)
+    } else {
+        None
+    }
+}
+
+/// How many fields a record of a kind has where there are so many dimensions.
+pub(crate) fn width(kind: Kind, dims: u8) -> usize
+    requires { dims ≤ 8 }
+    ensures { result ≡ width kind dims }
+{
+    match kind {
+        Kind::Volap => 2,
+        Kind::Use => 5,
+        Kind::Dim => 3,
+        Kind::Concept => 4,
+        Kind::Insert => 3 + usize::from(dims),
+        Kind::Query => 2 + usize::from(dims),
+        Kind::Barrier => 1,
+    }
+}

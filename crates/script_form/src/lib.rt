@@ -1,0 +1,18 @@
+//! Scripts: what a text must be to be run, and the reader of such texts.
+#![tactic(auto)]
+
+pub mod field;
+mod form;
+mod kind;
+mod laws;
+mod names;
+mod reader;
+mod record;
+mod script;
+
+pub use laws::script_laws;
+pub use reader::read_script;
+pub use script::{Cause, Command, Commands, NewRow, Question, Script, ScriptFault};
+
+#[cfg(test)]
+mod tests;

@@ -1,0 +1,188 @@
+//! What a record adds to the script of those before it.
+ghost use Rattle.std.specs.Prelude.{◌≡◌, ◌≤◌, ◌<◌, ◌^◌, true, false, length, IfOk, IfErr, OnErr, OnOk};
+ghost use Rattle.csv.specs.Records.{fields_of};
+ghost use Rattle.dim_hierarchy.specs.Dimension.{concept_count};
+ghost use Rattle.script_form.specs.Fields.{field, in_range, is_below};
+ghost use Rattle.script_form.specs.Causes.{HasForm, TellsCause, cause_at, hierarchy_cause, parent_of, wrong_number};
+ghost use Rattle.script_form.specs.Scripts.{IsTaken, after, command_by, hierarchy_with, settings_in};
+ghost use Rattle.script_form.specs.declared.kind.Kind.TheVariants as kind;
+
+use crate::field::{field, is_star, measure, value_u8, value_u32};
+use crate::form::kind_at;
+use crate::kind::Kind;
+use crate::names::{filter, names};
+use crate::script::{Cause, Command, NewRow, Question, Script};
+use csv::ByteRecord;
+use dim_hierarchy::{ConceptFault, ConceptId, DimFault, Hierarchy, Name};
+use row_ledger::{Call, Use};
+use std::alloc::{AllocError, Global};
+
+/// Why a record was not taken.
+pub(crate) enum RecordFault {
+    Bad(Cause),
+    NoMemory,
+}
+
+impl From<AllocError> for RecordFault {
+    ghost use Rattle.std.specs.Prelude.{◌≡◌};
+    ghost use Rattle.script_form.specs.declared.record.RecordFault.TheVariants.{NoMemory};
+
+    ghost from_gives = { λ _ e. e ≡ NoMemory };
+
+    fn from(_: AllocError) -> Self {
+        RecordFault::NoMemory
+    }
+}
+
+/// Takes a record behind so many others into their script, which an error leaves as it was.
+pub(crate) fn take_record(
+    alloc: Global,
+    at: u64,
+    script: &mut Script,
+    row: &ByteRecord,
+) -> Result<(), RecordFault>
+    requires { concept_count script.old.hierarchy < 2 ^ 28 }
+    ensures ok { OnOk result (IsTaken at script.old script.new (fields_of row.now)) }
+    ensures bad { IfErr result (TellsCause (cause_at at script.old (fields_of row.now))) }
+    ensures err { OnErr result (script.new ≡ script.old) }
+{
+    match kind_at(at, script, row) {
+        Ok(kind) => add_record(alloc, script, kind, row),
+        Err(cause) => Err(RecordFault::Bad(cause)),
+    }
+}
+
+// Adds what a record of this kind says.
+fn add_record(
+    alloc: Global,
+    script: &mut Script,
+    kind: Kind,
+    row: &ByteRecord,
+) -> Result<(), RecordFault>
+    requires form { HasForm script.old kind (fields_of row.now) }
+    requires room { concept_count script.old.hierarchy < 2 ^ 28 }
+    ensures fine { OnOk result (hierarchy_cause script.old.hierarchy kind (fields_of row.now) ≡ None) }
+    ensures ok { OnOk result (script.new ≡ after script.old (fields_of row.now)) }
+    ensures bad { IfErr result (TellsCause (hierarchy_cause script.old.hierarchy kind (fields_of row.now))) }
+    ensures err { OnErr result (script.new ≡ script.old) }
+{
+    match kind {
+        Kind::Volap => Ok(()),
+        Kind::Use => {
+            script.with = settings(row);
+            Ok(())
+        }
+        Kind::Dim => add_dim(alloc, &mut script.hierarchy, row),
+        Kind::Concept => add_concept(alloc, &mut script.hierarchy, row),
+        Kind::Insert => {
+            script.commands.push(Command::Insert(new_row(alloc, row)?))?;
+            Ok(())
+        }
+        Kind::Query => {
+            script.commands.push(Command::Query(question(alloc, row)?))?;
+            Ok(())
+        }
+        Kind::Barrier => {
+            script.commands.push(Command::Control(Call::Barrier))?;
+            Ok(())
+        }
+    }
+}
+
+// The settings of a `use` record.
+fn settings(row: &ByteRecord) -> Use
+    requires { wrong_number 0 kind.Use (fields_of row.now) ≡ false }
+    ensures { result ≡ settings_in (fields_of row.now) }
+{
+    Use {
+        servers: value_u8(field(row, 1)),
+        workers: value_u8(field(row, 2)),
+        threads: value_u8(field(row, 3)),
+        cells: value_u32(field(row, 4)),
+    }
+}
+
+// Adds the dimension of a `dim` record.
+fn add_dim(alloc: Global, hierarchy: &mut Hierarchy, row: &ByteRecord) -> Result<(), RecordFault>
+    requires { in_range (field (fields_of row.now) 2) 1 8 ≡ true }
+    ensures fine { OnOk result (hierarchy_cause hierarchy.old kind.Dim (fields_of row.now) ≡ None) }
+    ensures ok { OnOk result (hierarchy.new ≡ hierarchy_with (Some kind.Dim) hierarchy.old (fields_of row.now)) }
+    ensures bad { IfErr result (TellsCause (hierarchy_cause hierarchy.old kind.Dim (fields_of row.now))) }
+    ensures err { OnErr result (hierarchy.new ≡ hierarchy.old) }
+{
+    let name = Name::from_bytes(alloc, field(row, 1))?;
+    match hierarchy.add_dim(&name, value_u8(field(row, 2))) {
+        Ok(_) => Ok(()),
+        Err(DimFault::Full) => Err(RecordFault::Bad(Cause::DimFull)),
+        Err(DimFault::Twice) => Err(RecordFault::Bad(Cause::DimTwice)),
+        Err(DimFault::BadLevels) => Err(RecordFault::Bad(Cause::Number)),
+        Err(DimFault::NoMemory) => Err(RecordFault::NoMemory),
+    }
+}
+
+// Adds the concept of a `concept` record.
+fn add_concept(
+    alloc: Global,
+    hierarchy: &mut Hierarchy,
+    row: &ByteRecord,
+) -> Result<(), RecordFault>
+    requires { concept_count hierarchy.old < 2 ^ 28 }
+    ensures fine { OnOk result (hierarchy_cause hierarchy.old kind.Concept (fields_of row.now) ≡ None) }
+    ensures ok { OnOk result (hierarchy.new ≡ hierarchy_with (Some kind.Concept) hierarchy.old (fields_of row.now)) }
+    ensures bad { IfErr result (TellsCause (hierarchy_cause hierarchy.old kind.Concept (fields_of row.now))) }
+    ensures err { OnErr result (hierarchy.new ≡ hierarchy.old) }
+{
+    let Some(dim) = hierarchy.find_dim(field(row, 1)) else {
+        return Err(RecordFault::Bad(Cause::NoDim));
+    };
+    let Some(parent) = parent(hierarchy, dim, field(row, 3)) else {
+        return Err(RecordFault::Bad(Cause::NoParent));
+    };
+    let name = Name::from_bytes(alloc, field(row, 2))?;
+    match hierarchy.add_concept(dim, &name, Some(parent)) {
+        Ok(_) => Ok(()),
+        Err(ConceptFault::NoDim) => Err(RecordFault::Bad(Cause::NoDim)),
+        Err(ConceptFault::NoParent) => Err(RecordFault::Bad(Cause::NoParent)),
+        Err(ConceptFault::Twice) => Err(RecordFault::Bad(Cause::ConceptTwice)),
+        Err(ConceptFault::TooDeep) => Err(RecordFault::Bad(Cause::TooDeep)),
+        Err(ConceptFault::NoMemory) => Err(RecordFault::NoMemory),
+    }
+}
+
+// The concept that a field names as a parent: `ALL` for `*`.
+fn parent(hierarchy: &Hierarchy, dim: u8, name: &[u8]) -> Option<ConceptId>
+    ensures { result ≡ parent_of hierarchy.now dim name.now }
+{
+    if is_star(name) {
+        Some(ConceptId::ALL)
+    } else {
+        hierarchy.find_bytes(dim, name)
+    }
+}
+
+// The row of an `insert` record.
+fn new_row(alloc: Global, row: &ByteRecord) -> Result<NewRow, AllocError>
+    requires server { is_below (field (fields_of row.now) 1) 256 ≡ true }
+    requires fields { 3 ≤ length (fields_of row.now) }
+    ensures { IfOk result
+        (λ new. command_by (Some kind.Insert) (fields_of row.now) ≡ Some (Command.Insert new)) }
+{
+    Ok(NewRow {
+        server: value_u8(field(row, 1)),
+        measure: measure(field(row, 2)).unwrap_or(0),
+        names: names(alloc, row, 3)?,
+    })
+}
+
+// The question of a `query` record.
+fn question(alloc: Global, row: &ByteRecord) -> Result<Question, AllocError>
+    requires server { is_below (field (fields_of row.now) 1) 256 ≡ true }
+    requires fields { 2 ≤ length (fields_of row.now) }
+    ensures { IfOk result
+        (λ question. command_by (Some kind.Query) (fields_of row.now) ≡ Some (Command.Query question)) }
+{
+    Ok(Question {
+        server: value_u8(field(row, 1)),
+        filter: filter(alloc, row, 2)?,
+    })
+}

@@ -1,0 +1,73 @@
+use dim_hierarchy::{Hierarchy, Items, NameFilter, Names};
+use row_ledger::{Call, Use};
+
+/// Why a record is bad, in the order in which causes count.
+#[derive(Clone, Copy, Debug, PartialEq, Eq)]
+pub enum Cause {
+    /// The first record is not the two fields `volap`, `1`, or there is none.
+    Version,
+    /// The first field names no kind of record.
+    Kind,
+    /// A record of this kind may not stand here.
+    Order,
+    /// It has another number of fields than its kind.
+    Fields,
+    /// A number field is no number in its range.
+    Number,
+    /// A name field, or a piece of a filter, is no name.
+    Name,
+    /// There are 8 dimensions already.
+    DimFull,
+    /// A dimension has the name already.
+    DimTwice,
+    /// The concept's dimension doesn't stand.
+    NoDim,
+    /// The parent is neither `*` nor a concept of the dimension.
+    NoParent,
+    /// A concept of the dimension has the name already.
+    ConceptTwice,
+    /// The parent is on the leaf level.
+    TooDeep,
+}
+
+/// Why a text was not read as a script.
+#[derive(Clone, Copy, Debug, PartialEq, Eq)]
+pub enum ScriptFault {
+    /// The record with this number, counted from 1, is the first bad one, and why.
+    Bad { at: u64, cause: Cause },
+    NoMemory,
+}
+
+/// A row to be inserted through a server: its measure, and a name for each dimension.
+#[derive(Drop)]
+pub struct NewRow {
+    pub server: u8,
+    pub measure: i64,
+    pub names: Names,
+}
+
+/// A query to a server: what it asks of each dimension, by names.
+#[derive(Drop)]
+pub struct Question {
+    pub server: u8,
+    pub filter: NameFilter,
+}
+
+/// A command of a script.
+#[derive(Drop)]
+pub enum Command {
+    Insert(NewRow),
+    Query(Question),
+    Control(Call),
+}
+
+/// Commands in the order of the script.
+pub type Commands = Items<Command>;
+
+/// A script: its settings, its dimensions and concepts, and its commands.
+#[derive(Drop)]
+pub struct Script {
+    pub with: Use,
+    pub hierarchy: Hierarchy,
+    pub commands: Commands,
+}
