@@ -3,7 +3,7 @@ ghost use Rattle.std.specs.Prelude.{◌≡◌, ◌<◌};
 use crate::concept::ConceptId;
 
 /// A leaf concept for each dimension; places past the last dimension are `ALL`.
-#[derive(Clone, Copy, Debug, PartialEq, Eq)]
+#[derive(Clone, Copy, Debug, Default, PartialEq, Eq)]
 pub struct Coord {
     pub at: [ConceptId; 8],
 }
@@ -22,7 +22,7 @@ impl Coord {
 
 /// A row: its number, which is the place of its beginning in the history, its coordinate and its
 /// measure.
-#[derive(Clone, Copy, Debug, PartialEq, Eq)]
+#[derive(Clone, Copy, Debug, Default, PartialEq, Eq)]
 pub struct Row {
     pub no: u64,
     pub at: Coord,

@@ -6,7 +6,7 @@ use std::marker::Model;
 
 /// How many rows there are, the sum of their measures, and the least and the greatest of them, which
 /// are missing where there is no row. There are fewer than 2^63 rows.
-#[derive(Clone, Copy, Debug, PartialEq, Eq)]
+#[derive(Clone, Copy, Debug, Default, PartialEq, Eq)]
 pub struct Agg {
     count: u64,
     sum: i128,

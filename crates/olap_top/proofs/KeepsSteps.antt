@@ -1,32 +1,41 @@
--- One command more of what a run keeps.
-use Rattle.std.proofs.Common.{◌≡◌, ◌∙◌, ℕ, ◌+◌, ◌<◌, Bool, true, false, IsTrue, Some, List, [], ◌∷◌, ◌++◌, length, filter, refl, sym, ap, arith, inl, inr, ◌⊎◌}
-use Rattle.std.specs.Prelude.{◌||◌, ◌==◌}
-use Rattle.std.proofs.lemmas.Bool.{eq-eqb, eqb-true, or_right}
+-- One command more of what a run keeps, by what happens to it.
+use Rattle.std.proofs.Common.{◌≡◌, ◌∙◌, ℕ, suc, ◌+◌, ◌<◌, Bool, true, false, IsTrue, List, [], ◌∷◌, ◌++◌, length, filter, refl, sym, ap, arith, inl, inr, ◌⊎◌}
+use Rattle.std.specs.Prelude.{Option, Some, None, All, Contains, is_none, position, ◌||◌, ◌==◌}
+use Rattle.std.proofs.lemmas.Bool.{eq-eqb, eqb-true, ne_eqb, or_right, or_from, or_parts}
 use Rattle.std.proofs.lemmas.List.Folds.{list_any-append}
-use Rattle.std.proofs.lemmas.List.Elements.{All-nil, All-push}
+use Rattle.std.proofs.lemmas.List.Elements.{All-nil, All-weaker}
 use Rattle.dim_hierarchy.specs.declared.row.Row.{Row}
 use Rattle.dim_hierarchy.specs.declared.filter.Pick.{Pick}
 use Rattle.dim_hierarchy.specs.Dimension.{Dimension}
-use Rattle.dim_hierarchy.specs.Filter.{matches, IsFilterNamed}
-use Rattle.dim_hierarchy.specs.Row.{IsCoordNamed}
+use Rattle.dim_hierarchy.specs.Filter.{matches, IsFilterNamed, picks}
+use Rattle.dim_hierarchy.specs.Row.{IsCoordNamed, leaves}
 use Rattle.measure_agg.specs.Aggregate.{Aggregate, agg}
 use Rattle.row_ledger.specs.declared.event.Event.{Event}
-use Rattle.row_ledger.specs.declared.event.Event.TheVariants.{Begun, Acked, Asked, Answered}
-use Rattle.row_ledger.specs.Past.{has_ended}
-use Rattle.row_ledger.specs.Right.{KeepsRight}
-use Rattle.row_ledger.proofs.Growth.{KeepsRight-nil, KeepsRight-place, IsRight-kept, is_kept-fresh}
+use Rattle.row_ledger.specs.declared.event.Event.TheVariants.{Begun, Acked, Asked, Answered, Unknown, Failed, Refused, Called, Ended}
+use Rattle.row_ledger.specs.declared.settings.Call.{Call}
+use Rattle.row_ledger.specs.declared.settings.Call.TheVariants.{Barrier}
+use Rattle.row_ledger.specs.declared.settings.How.TheVariants.{Fine}
+use Rattle.row_ledger.specs.declared.settings.Use.{Use}
+use Rattle.row_ledger.specs.Past.{has_ended, is_end_of, is_over, begun, end_in}
+use Rattle.row_ledger.specs.Bounds.{may, CanAnswer}
+use Rattle.row_ledger.specs.Right.{KeepsRight, MayEnd}
+use Rattle.row_ledger.proofs.Elements.{Contains-filtered}
+use Rattle.row_ledger.proofs.Positions.{event_at-here}
+use Rattle.row_ledger.proofs.Growth.{KeepsRight-nil, KeepsRight-place, KeepsRight-begun, KeepsRight-failed, KeepsRight-unknown, KeepsRight-refused, KeepsRight-called, KeepsRight-ended, is_kept-fresh, fresh, begun-within}
 use Rattle.row_ledger.proofs.Answering.{CanAnswer-nil, CanAnswer-within, CanAnswer-older, CanAnswer-insert, KeepsRight-insert, KeepsRight-query}
-use Rattle.olap_top.specs.declared.script.Command.{Command}
-use Rattle.olap_top.specs.declared.script.Command.TheVariants.{Insert, Query}
+use Rattle.script_form.specs.declared.script.Command.{Command}
+use Rattle.script_form.specs.declared.script.Command.TheVariants.{Insert, Query, Control}
 use Rattle.script_form.specs.declared.script.NewRow.{NewRow}
 use Rattle.script_form.specs.declared.script.Question.{Question}
-use Rattle.olap_top.specs.Runs.{BeginsAt}
-use Rattle.olap_top.specs.Told.{insert_line, answer_line}
-use Rattle.olap_top.specs.declared.script.Script.{Script}
-use Rattle.olap_top.specs.Outcomes.{HasRun}
+use Rattle.answer_text.specs.Places.{begins_of, places, places_behind}
+use Rattle.answer_text.specs.Printed.{answer_text, end_of, line, word_of}
+use Rattle.answer_text.specs.Answer.{said}
+use Rattle.answer_text.specs.declared.answer.Answer.{Answer}
+use Rattle.answer_text.specs.declared.answer.Answer.TheVariants as answer
+use Rattle.olap_top.specs.Runs.{Begins, InsertEnds}
 use Rattle.olap_top.specs.Keeps.{site, is_placed, KeepsRun}
-use Rattle.olap_top.proofs.Zips.{AllZip-length}
-use Rattle.olap_top.proofs.RunSteps.{IsPair, IsRunOf-more, IsSerial-more, told-more, told-nil}
+use Rattle.olap_top.specs.RunSoFar.{Does, lines_of}
+use Rattle.olap_top.proofs.CommandSteps.{IsCommand, IsCommand-pair, IsCommand-single, HasDone-more, lines_of-more, KeepsLines-more}
 
 -- Rows that have found their place.
 
@@ -57,86 +66,202 @@ KeepsRight-placed h rows history row numbered keeps =
       | inr new ↦ is_kept-fresh (site h) (is_placed rows) history keeps.right number (omega arith)
     ])
 
--- The run.
+own-end : (history : List Event) (b e : Event) → end_in e ≡ Some (length history) → end_of (e ∷ b ∷ history) (length history) ≡ Some e
+own-end history b e ends = rw (ends, eq-eqb (length history) (length history) refl) refl
 
-insert-pair : (history : List Event) (session server : ℕ) (row : Row) (path : List ℕ) → IsPair history (Begun session server row) (Acked (length history) path)
-insert-pair history session server row path = record { begins = refl; goes_on = refl; begins_none = refl; ends = refl }
+-- At the start nothing is done.
 
-query-pair : (history : List Event) (session server : ℕ) (wanted : List Pick) (answer : Aggregate) → IsPair history (Asked session server wanted) (Answered (length history) answer)
-query-pair history session server wanted answer = record { begins = refl; goes_on = refl; begins_none = refl; ends = refl }
+unfolded-begins : (session : ℕ) → length (begins_of [] session) ≡ 0
+unfolding begins_of
+unfolded-begins session = refl
 
-pub KeepsRun-nil : (h : List Dimension) → KeepsRun h [] [] [] []
-KeepsRun-nil h = record {
+nothing-placed : (with : Use) → places with [] [] ≡ []
+unfolding places_behind
+nothing-placed with = refl
+
+pub KeepsRun-nil : (with : Use) (h : List Dimension) → KeepsRun with h [] [] []
+KeepsRun-nil with h = record {
   right = KeepsRight-nil (site h) (is_placed []);
   flat = CanAnswer-nil (is_placed []);
-  begins = [];
-  earlier = All-nil (λ p. p < 0);
-  run = record {
+  has = record {
+    begins = [];
+    places_are = nothing-placed with;
+    counts = unfolded-begins;
+    earlier = All-nil (λ p. p < 0);
     begun = tt;
     only = λ p e at is. cc;
-    in_order = λ i j d below within. absurd (omega (arith, within));
-    ended = All-nil (λ p. IsTrue (has_ended [] p));
+    over = All-nil (λ p. IsTrue (is_over [] p));
+    serial = λ i j d below within. absurd (omega (arith, within));
+    inserts = tt;
   };
-  serial = λ i j d below within. absurd (omega (arith, within));
-  none_failed = refl;
-  told = sym told-nil;
 }
 
-pub KeepsRun-insert : (h : List Dimension) (done : List Command) (history : List Event) (rows : List Row) (text : List ℕ) (new : NewRow) (row : Row) (path : List ℕ)
-    → row.no ≡ length history → row.measure ≡ new.measure → IsCoordNamed h new.names row.at → KeepsRun h done history rows text
-    → KeepsRun h (done ++ Insert new ∷ []) (Acked (length history) path ∷ Begun new.server new.server row ∷ history) (rows ++ row ∷ [])
-    (text ++ insert_line (1 + length done) (Some (Acked (length history) path)))
-KeepsRun-insert h done history rows text new row path numbered measured named keeps =
+-- What is done with a command, from what its events are.
+
+does : (with : Use) (h : List Dimension) (c : Command) (history now : List Event) (rows rows_now : List Row) (told : Answer) (b : Event) (end : Option Event)
+    → ((done : List Command) → KeepsRun with h done history rows → IsCommand with c history now b end)
+    → Begins with h c b → InsertEnds h now c (Some (length history)) → answer_text (Some b) end ≡ said told
+    → (KeepsRight (site h) (is_placed rows) history → CanAnswer (is_placed rows) history rows → KeepsRight (site h) (is_placed rows_now) now × CanAnswer (is_placed rows_now) now rows_now)
+    → Does with h c history now rows rows_now told
+does with h c history now rows rows_now told b end is begins ends said_is grows = record {
+  keeps = λ done keeps.
+      let grown = grows keeps.right keeps.flat in
+      record { right = grown.0; flat = grown.1; has = HasDone-more with h done c history now b end (is done keeps) begins ends keeps.has };
+  told = λ done keeps. lines_of-more with h done c history now b end (is done keeps) keeps.has
+      ∙ ap (λ t. lines_of with done history ++ line (1 + length done) (word_of c) t) said_is;
+  kept = λ done keeps. KeepsLines-more with h done c history now b end (is done keeps) keeps.has;
+}
+
+-- No command ended at a position that is still to come.
+
+none-ends : (p : ℕ) (history : List Event) → has_ended history p ≡ false → end_of history p ≡ None
+none-ends p [] none = refl
+none-ends p (e ∷ past) none =
+    let parts = or_parts (is_end_of p e) (has_ended past p) none in
+    rw parts.0 (none-ends p past parts.1)
+
+none-yet : (h : List Dimension) (rows : List Row) (history : List Event) → KeepsRight (site h) (is_placed rows) history → end_of history (length history) ≡ None
+none-yet h rows history keeps = none-ends (length history) history (fresh (site h) (is_placed rows) history keeps.right (length history) (omega arith))
+
+-- a number that no row has
+is_placed-none : (rows : List Row) (number : ℕ) → All (λ (r : Row). r.no < number) rows → is_placed rows number ≡ false
+is_placed-none [] number below = refl
+is_placed-none (r ∷ rows) number below =
+    let lt : r.no < number = below 0 r (omega arith) in
+    or_from (r.no == number) (is_placed rows number)
+    (ne_eqb r.no number (λ same. let no_way : ⊥ = omega arith in no_way))
+    (is_placed-none rows number (λ k d within. below (suc k) d (omega (arith, within))))
+
+not-placed : (h : List Dimension) (rows : List Row) (history : List Event) → KeepsRight (site h) (is_placed rows) history → CanAnswer (is_placed rows) history rows
+    → is_placed rows (length history) ≡ false
+not-placed h rows history keeps can =
+    is_placed-none rows (length history)
+    (All-weaker (Contains (may (is_placed rows) history)) (λ (r : Row). r.no < length history)
+    (λ r has. begun-within (site h) (is_placed rows) history keeps.right r (Contains-filtered (λ (r : Row). is_placed rows r.no) (begun history) r has)) rows can.allowed)
+
+-- Each way.
+
+pub unknown-insert : (with : Use) (h : List Dimension) (history : List Event) (rows : List Row) (new : NewRow) (dim : ℕ)
+    → position is_none (leaves h new.names) ≡ Some dim
+    → Does with h (Insert new) history (Unknown new.server new.server dim ∷ history) rows rows (answer.Unknown dim)
+unknown-insert with h history rows new dim first =
+    let b = Unknown new.server new.server dim in
+    does with h (Insert new) history (b ∷ history) rows rows _ b None
+    (λ done keeps. IsCommand-single with (Insert new) history b (record { session = refl; goes_on = refl; own_end = refl; none_yet = none-yet h rows history keeps.right }))
+    (refl, refl, first)
+    (λ known. absurd (let no_way : ⊥ = cc (first, known) in no_way))
+    refl
+    (λ keeps can. (KeepsRight-unknown (site h) (is_placed rows) history new.server new.server dim keeps, CanAnswer-older (is_placed rows) b history rows can refl))
+
+pub unknown-query : (with : Use) (h : List Dimension) (history : List Event) (rows : List Row) (question : Question) (dim : ℕ)
+    → position is_none (picks h question.filter) ≡ Some dim
+    → Does with h (Query question) history (Unknown question.server question.server dim ∷ history) rows rows (answer.Unknown dim)
+unknown-query with h history rows question dim first =
+    let b = Unknown question.server question.server dim in
+    does with h (Query question) history (b ∷ history) rows rows _ b None
+    (λ done keeps. IsCommand-single with (Query question) history b (record { session = refl; goes_on = refl; own_end = refl; none_yet = none-yet h rows history keeps.right }))
+    (refl, refl, first)
+    tt
+    refl
+    (λ keeps can. (KeepsRight-unknown (site h) (is_placed rows) history question.server question.server dim keeps, CanAnswer-older (is_placed rows) b history rows can refl))
+
+pub refused-insert : (with : Use) (h : List Dimension) (history : List Event) (rows : List Row) (new : NewRow)
+    → Does with h (Insert new) history (Refused new.server ∷ history) rows rows answer.NoMemory
+refused-insert with h history rows new =
+    let b = Refused new.server in
+    does with h (Insert new) history (b ∷ history) rows rows _ b None
+    (λ done keeps. IsCommand-single with (Insert new) history b (record { session = refl; goes_on = refl; own_end = refl; none_yet = none-yet h rows history keeps.right }))
+    refl
+    (λ known. inr (inr (event_at-here b history)))
+    refl
+    (λ keeps can. (KeepsRight-refused (site h) (is_placed rows) history new.server keeps, CanAnswer-older (is_placed rows) b history rows can refl))
+
+pub refused-query : (with : Use) (h : List Dimension) (history : List Event) (rows : List Row) (question : Question)
+    → Does with h (Query question) history (Refused question.server ∷ history) rows rows answer.NoMemory
+refused-query with h history rows question =
+    let b = Refused question.server in
+    does with h (Query question) history (b ∷ history) rows rows _ b None
+    (λ done keeps. IsCommand-single with (Query question) history b (record { session = refl; goes_on = refl; own_end = refl; none_yet = none-yet h rows history keeps.right }))
+    refl
+    tt
+    refl
+    (λ keeps can. (KeepsRight-refused (site h) (is_placed rows) history question.server keeps, CanAnswer-older (is_placed rows) b history rows can refl))
+
+pub acked-insert : (with : Use) (h : List Dimension) (history : List Event) (rows : List Row) (new : NewRow) (row : Row) (path : List ℕ)
+    → row.no ≡ length history → row.measure ≡ new.measure → IsCoordNamed h new.names row.at
+    → Does with h (Insert new) history (Acked (length history) path ∷ Begun new.server new.server row ∷ history) rows (rows ++ row ∷ []) answer.Ok
+acked-insert with h history rows new row path numbered measured named =
     let b = Begun new.server new.server row in
     let e = Acked (length history) path in
-    let more = is_placed (rows ++ row ∷ []) in
-    let placed = KeepsRight-placed h rows history row numbered keeps.right in
-    let can = CanAnswer-within (is_placed rows) more history rows keeps.flat (placed-more rows row) in
-    let pair = insert-pair history new.server new.server row path in
-    let same : length done ≡ length keeps.begins = AllZip-length (BeginsAt h history) done keeps.begins keeps.run.begun in
-    record {
-      right = KeepsRight-insert (site h) more history new.server new.server row path placed numbered;
-      flat = CanAnswer-insert (site h) more history rows new.server new.server row path placed can numbered (placed-last rows row);
-      begins = keeps.begins ++ length history ∷ [];
-      earlier = All-push (λ p. p < length (e ∷ b ∷ history)) keeps.begins (length history) (λ k d within. let lt = keeps.earlier k d within in omega arith) (omega arith);
-      run = IsRunOf-more h done history keeps.begins (Insert new) b e pair (refl, refl, measured, named) keeps.earlier keeps.run;
-      serial = IsSerial-more history keeps.begins b e keeps.earlier keeps.run.ended keeps.serial;
-      none_failed = keeps.none_failed;
-      told = ap (λ t. t ++ insert_line (1 + length done) (Some e)) keeps.told ∙ sym (told-more h done history keeps.begins (Insert new) b e pair keeps.earlier same);
-    }
+    let is = λ (done : List Command) (keeps : KeepsRun with h done history rows). IsCommand-pair with (Insert new) history b e (record { session = refl; goes_on = refl; begins_none = refl; ends = refl }) in
+    does with h (Insert new) history (e ∷ b ∷ history) rows (rows ++ row ∷ []) _ b (Some e)
+    is
+    (refl, refl, measured, named)
+    (λ known. inl (path, own-end history b e refl))
+    refl
+    (λ keeps can.
+    let placed = KeepsRight-placed h rows history row numbered keeps in
+    let fits = CanAnswer-within (is_placed rows) (is_placed (rows ++ row ∷ [])) history rows can (placed-more rows row) in (
+      KeepsRight-insert (site h) (is_placed (rows ++ row ∷ [])) history new.server new.server row path placed numbered,
+      CanAnswer-insert (site h) (is_placed (rows ++ row ∷ [])) history rows new.server new.server row path placed fits numbered (placed-last rows row),
+    ))
 
-pub KeepsRun-query : (h : List Dimension) (done : List Command) (history : List Event) (rows : List Row) (text : List ℕ) (question : Question) (wanted : List Pick) (answer : Aggregate)
-    → IsFilterNamed h question.filter wanted → answer ≡ agg (filter (λ r. matches h wanted r.at) rows) → KeepsRun h done history rows text
-    → KeepsRun h (done ++ Query question ∷ []) (Answered (length history) answer ∷ Asked question.server question.server wanted ∷ history) rows
-    (text ++ answer_line (1 + length done) answer)
-KeepsRun-query h done history rows text question wanted answer named total keeps =
+pub failed-insert : (with : Use) (h : List Dimension) (history : List Event) (rows : List Row) (new : NewRow) (row : Row)
+    → row.no ≡ length history → row.measure ≡ new.measure → IsCoordNamed h new.names row.at
+    → Does with h (Insert new) history (Failed (length history) ∷ Begun new.server new.server row ∷ history) rows rows answer.NoMemory
+failed-insert with h history rows new row numbered measured named =
+    let b = Begun new.server new.server row in
+    let e = Failed (length history) in
+    does with h (Insert new) history (e ∷ b ∷ history) rows rows _ b (Some e)
+    (λ done keeps. IsCommand-pair with (Insert new) history b e (record { session = refl; goes_on = refl; begins_none = refl; ends = refl }))
+    (refl, refl, measured, named)
+    (λ known. inr (inl (own-end history b e refl)))
+    refl
+    (λ keeps can.
+    let begun = KeepsRight-begun (site h) (is_placed rows) history new.server new.server row keeps numbered in (
+      KeepsRight-failed (site h) (is_placed rows) (b ∷ history) (length history) begun (not-placed h rows history keeps can)
+          (record { begun = rw event_at-here refl; is_open = fresh (site h) (is_placed rows) history keeps.right (length history) (omega arith) }),
+      CanAnswer-older (is_placed rows) e (b ∷ history) rows (CanAnswer-older (is_placed rows) b history rows can refl) refl,
+    ))
+
+pub answered-query : (with : Use) (h : List Dimension) (history : List Event) (rows : List Row) (question : Question) (wanted : List Pick) (total : Aggregate)
+    → IsFilterNamed h question.filter wanted → total ≡ agg (filter (λ r. matches h wanted r.at) rows)
+    → Does with h (Query question) history (Answered (length history) total ∷ Asked question.server question.server wanted ∷ history) rows rows (answer.Total total)
+answered-query with h history rows question wanted total named is_total =
     let b = Asked question.server question.server wanted in
-    let e = Answered (length history) answer in
-    let pair = query-pair history question.server question.server wanted answer in
-    let same : length done ≡ length keeps.begins = AllZip-length (BeginsAt h history) done keeps.begins keeps.run.begun in
-    record {
-      right = KeepsRight-query (site h) (is_placed rows) history question.server question.server wanted rows answer keeps.right keeps.flat total;
-      flat = CanAnswer-older (is_placed rows) e (b ∷ history) rows (CanAnswer-older (is_placed rows) b history rows keeps.flat refl) refl;
-      begins = keeps.begins ++ length history ∷ [];
-      earlier = All-push (λ p. p < length (e ∷ b ∷ history)) keeps.begins (length history) (λ k d within. let lt = keeps.earlier k d within in omega arith) (omega arith);
-      run = IsRunOf-more h done history keeps.begins (Query question) b e pair (refl, refl, named) keeps.earlier keeps.run;
-      serial = IsSerial-more history keeps.begins b e keeps.earlier keeps.run.ended keeps.serial;
-      none_failed = keeps.none_failed;
-      told = ap (λ t. t ++ answer_line (1 + length done) answer) keeps.told ∙ sym (told-more h done history keeps.begins (Query question) b e pair keeps.earlier same);
-    }
+    let e = Answered (length history) total in
+    does with h (Query question) history (e ∷ b ∷ history) rows rows _ b (Some e)
+    (λ done keeps. IsCommand-pair with (Query question) history b e (record { session = refl; goes_on = refl; begins_none = refl; ends = refl }))
+    (refl, refl, named)
+    tt
+    refl
+    (λ keeps can. (
+      KeepsRight-query (site h) (is_placed rows) history question.server question.server wanted rows total keeps can is_total,
+      CanAnswer-older (is_placed rows) e (b ∷ history) rows (CanAnswer-older (is_placed rows) b history rows can refl) refl,
+    ))
 
--- the same run by other names for its parts
-pub KeepsRun-same : (h : List Dimension) (done : List Command) (history history' : List Event) (rows rows' : List Row) (text text' : List ℕ)
-    → history' ≡ history → rows' ≡ rows → text' ≡ text → KeepsRun h done history rows text → KeepsRun h done history' rows' text'
-KeepsRun-same h done history history' rows rows' text text' a b c keeps = rw (a, b, c) keeps
+-- a called command may end so
+may-end : (call : Call) → MayEnd call Fine
+may-end Barrier = refl
 
--- what a run keeps to the end is what the script's run is to be
-pub HasRun-kept : (script : Script) (history : List Event) (rows : List Row) (text : List ℕ) → KeepsRun script.hierarchy script.commands history rows text → HasRun script history text
-HasRun-kept script history rows text keeps = record {
-  right = IsRight-kept (site script.hierarchy) (is_placed rows) history keeps.right;
-  begins = keeps.begins;
-  run = keeps.run;
-  serial = keeps.serial;
-  none_failed = keeps.none_failed;
-  told = keeps.told;
-}
+pub ended-call : (with : Use) (h : List Dimension) (history : List Event) (rows : List Row) (call : Call)
+    → Does with h (Control call) history (Ended (length history) Fine ∷ Called (with.servers + 1) call ∷ history) rows rows answer.Ok
+ended-call with h history rows call =
+    let b = Called (with.servers + 1) call in
+    let e = Ended (length history) Fine in
+    does with h (Control call) history (e ∷ b ∷ history) rows rows _ b (Some e)
+    (λ done keeps. IsCommand-pair with (Control call) history b e (record { session = refl; goes_on = refl; begins_none = refl; ends = refl }))
+    (refl, refl)
+    tt
+    refl
+    (λ keeps can.
+    let called = KeepsRight-called (site h) (is_placed rows) history (with.servers + 1) call keeps in (
+      KeepsRight-ended (site h) (is_placed rows) (b ∷ history) (length history) Fine called
+          (record { call = call; called = rw event_at-here refl; is_open = fresh (site h) (is_placed rows) history keeps.right (length history) (omega arith); may_end = may-end call }),
+      CanAnswer-older (is_placed rows) e (b ∷ history) rows (CanAnswer-older (is_placed rows) b history rows can refl) refl,
+    ))
+
+-- the same by another name for the history
+pub Does-same : (with : Use) (h : List Dimension) (c : Command) (history now now' : List Event) (rows rows_now rows_now' : List Row) (told : Answer)
+    → now' ≡ now → rows_now' ≡ rows_now → Does with h c history now rows rows_now told → Does with h c history now' rows rows_now' told
+Does-same with h c history now now' rows rows_now rows_now' told a b does = rw (a, b) does

@@ -1,16 +1,17 @@
--- Names that all stand for something.
-use Rattle.std.proofs.Common.{◌≡◌, Bool, false, List, [], ◌∷◌, length, refl, arith}
-use Rattle.std.specs.Prelude.{None, All, position}
-use Rattle.std.specs.List.{position_or_len}
-use Rattle.std.proofs.lemmas.Bool.Decides.{nat_tests}
-use Rattle.std.proofs.lemmas.List.Elements.{All-tail}
+-- The first dimension in which a name is not known, from what a look-up answers.
+use Rattle.std.proofs.Common.{◌≡◌, ℕ, Err}
+use Rattle.std.specs.Prelude.{Option, Some, None, Result, IsOk, IfSome}
+use Rattle.std.specs.Option.{IfNone}
+use Rattle.std.specs.Result.{IsOkUnless}
+use Rattle.dim_hierarchy.specs.declared.hierarchy.FilterFault.{FilterFault}
+use Rattle.dim_hierarchy.specs.declared.hierarchy.FilterFault.TheVariants.{Unknown, NoMemory}
 
-runs_to_end : {X : Type 0} (test : X → Bool) (xs : List X) → All (λ x. test x ≡ false) xs → position_or_len test xs ≡ length xs
-runs_to_end test [] none = refl
-runs_to_end test (x ∷ xs) none =
-    let rest : position_or_len test xs ≡ length xs = runs_to_end test xs (All-tail (λ y. test y ≡ false) x xs none) in
-    rw (none 0 x (omega arith)) (omega arith)
+-- of the names of a coordinate
+pub first_unknown : {A : Type 0} (first : Option ℕ) (dim : ℕ) (r : Result A ℕ) → r ≡ Err dim → IfSome first (λ d. r ≡ Err d) → IfNone first (IsOk r) → first ≡ Some dim
+first_unknown None dim r is unknown known = let no_way = rw is at known in cc
+first_unknown (Some d) dim r is unknown known = cc
 
--- where the test passes nowhere there is no first place
-pub position-none : {X : Type 0} (test : X → Bool) (xs : List X) → All (λ x. test x ≡ false) xs → position test xs ≡ None
-position-none test xs none = let all : position_or_len test xs ≡ length xs = runs_to_end test xs none in grind (arith, nat_tests)
+-- of the names of a filter
+pub first_unpicked : {A : Type 0} (first : Option ℕ) (dim : ℕ) (r : Result A FilterFault) → r ≡ Err (Unknown dim) → IfSome first (λ d. r ≡ Err (Unknown d)) → IfNone first (IsOkUnless r NoMemory) → first ≡ Some dim
+first_unpicked None dim r is unknown known = let no_way = rw is at known in cc
+first_unpicked (Some d) dim r is unknown known = cc

@@ -1,10 +1,9 @@
-pub mod CommandFacts
-pub mod ConceptFacts
-pub mod FaultFacts
+pub mod Zips
+pub mod OneWord
+pub mod CommandSteps
 pub mod KeepsSteps
 pub mod Known
-pub mod OneWord
-pub mod RecordFacts
 pub mod RunSteps
-pub mod ScriptFacts
-pub mod Zips
+pub mod Ends
+pub mod RunFacts
+pub mod PhaseSteps

@@ -1,148 +1,115 @@
--- A run with one command more: its beginning and its end, one behind the other.
-use Rattle.std.proofs.Common.{◌≡◌, ◌∙◌, ℕ, suc, ◌+◌, ◌<◌, ◌≤◌, Bool, true, false, IsTrue, Some, List, [], ◌∷◌, ◌++◌, length, refl, sym, ap, subst, arith, inl, inr, append_assoc, append-nil, get_or}
-use Rattle.std.specs.Prelude.{All, Contains, zip, ◌||◌, ◌==◌, None}
-use Rattle.std.proofs.lemmas.Bool.{cases_lt, eq-eqb, ne_eqb}
-use Rattle.std.proofs.lemmas.List.Quantifiers.{all_pairs_push}
-use Rattle.std.proofs.lemmas.List.Elements.{All-push, Contains-append_left, Contains-push}
+-- A run, from its start on, command by command.
+use Rattle.std.proofs.Common.{◌≡◌, ◌∙◌, ℕ, ◌+◌, List, [], ◌∷◌, ◌++◌, length, take, refl, sym, ap, subst, arith, string_bytes, append_assoc, append-nil, length-append}
+use Rattle.std.proofs.Math.Seq.{take-append-add}
+use Rattle.std.proofs.lemmas.List.{take-append-le}
 use Rattle.dim_hierarchy.specs.Dimension.{Dimension}
+use Rattle.dim_hierarchy.specs.declared.row.Row.{Row}
 use Rattle.row_ledger.specs.declared.event.Event.{Event}
-use Rattle.row_ledger.specs.Past.{event_at, before, end_in, is_end_of, has_ended, is_beginning}
-use Rattle.row_ledger.proofs.Positions.{event_at-here, event_at-older, event_at-past, before-here, before-older}
-use Rattle.olap_top.specs.declared.script.Command.{Command}
-use Rattle.olap_top.specs.Runs.{Begins, BeginsAt, IsRunOf, IsSerial, session_of}
-use Rattle.olap_top.specs.Told.{told, line, end_of}
-use Rattle.olap_top.proofs.Zips.{AllZip-push, AllZip-weaker, AllZip-length, zip-push, All-zip}
+use Rattle.row_ledger.specs.declared.settings.Use.{Use}
+use Rattle.row_ledger.proofs.Growth.{IsRight-kept}
+use Rattle.script_form.specs.declared.script.Command.{Command}
+use Rattle.answer_text.specs.Answer.{said}
+use Rattle.answer_text.specs.Printed.{line, lines, word_of}
+use Rattle.answer_text.specs.declared.answer.Answer.{Answer}
+use Rattle.olap_top.specs.Keeps.{HasDone, is_placed, site}
+use Rattle.olap_top.specs.RunSoFar.{Does, IsRun, IsHalted, HasGone, KeepsLines, lines_of}
+use Rattle.olap_top.specs.declared.run.Run.{Run}
+use Rattle.olap_top.proofs.KeepsSteps.{KeepsRun-nil}
 
--- a command's two events behind a history: b begins it and e ends it
-pub record IsPair (history : List Event) (b e : Event) : Type 0 where
-  pub begins : is_beginning b ≡ true
-  pub goes_on : end_in b ≡ None
-  pub begins_none : is_beginning e ≡ false
-  pub ends : end_in e ≡ Some (length history)
+lines_of-nil : (with : Use) (history : List Event) → lines_of with [] history ≡ []
+unfolding lines
+lines_of-nil with history = refl
 
--- What stands at an earlier position stays.
+pub IsRun-nil : (with : Use) (h : List Dimension) (run : Run) → run.flat.ledger.history ≡ [] → run.flat.rows.items ≡ [] → string_bytes run.text ≡ [] → run.done ≡ 0
+    → IsRun with h [] [] run
+IsRun-nil with h run history rows text done = record {
+  keeps = rw (history, rows) (KeepsRun-nil with h);
+  count = done;
+  text = text ∙ sym (lines_of-nil with run.flat.ledger.history);
+}
 
-earlier-event : (history : List Event) (b e : Event) (p : ℕ) → p < length history → event_at (e ∷ b ∷ history) p ≡ event_at history p
-earlier-event history b e p older = event_at-older e (b ∷ history) p (omega arith) ∙ event_at-older b history p older
+pub KeepsLines-same : (with : Use) (done : List Command) (history now : List Event) → now ≡ history → KeepsLines with done history now
+KeepsLines-same with done history now e = record { same = λ front back whole. ap (lines_of with front) e }
 
-known-event : (history : List Event) (p : ℕ) (x : Event) → event_at history p ≡ Some x → p < length history
-known-event history p x at = elim (cases_lt p (length history)) [
-  | inl lt ↦ lt
-  | inr le ↦ absurd (let none : ⊥ = let past = event_at-past history p le in cc in none)
-]
+KeepsLines-front : (with : Use) (done more : List Command) (history now : List Event) → KeepsLines with (done ++ more) history now → KeepsLines with done history now
+KeepsLines-front with done more history now kept = record { same = λ front back whole. kept.same front (back ++ more) (sym (append_assoc front back more) ∙ ap (λ l. l ++ more) whole) }
 
-second-event : (history : List Event) (b e : Event) → event_at (e ∷ b ∷ history) (length history) ≡ Some b
-second-event history b e = event_at-older e (b ∷ history) (length history) (omega arith) ∙ event_at-here b history
+KeepsLines-on : (with : Use) (done : List Command) (history middle now : List Event) → KeepsLines with done history middle → KeepsLines with done middle now → KeepsLines with done history now
+KeepsLines-on with done history middle now first second = record { same = λ front back whole. second.same front back whole ∙ first.same front back whole }
 
--- the pair ends its own command alone
-
-ends-own : (history : List Event) (b e : Event) → IsPair history b e → IsTrue (has_ended (e ∷ b ∷ history) (length history))
-ends-own history b e pair = rw (pair.ends, eq-eqb (length history) (length history) refl) refl
-
-ended-still : (history : List Event) (b e : Event) (p : ℕ) → IsTrue (has_ended history p) → IsTrue (has_ended (e ∷ b ∷ history) p)
-ended-still history b e p ended = or-true (is_end_of p e) (is_end_of p b) (has_ended history p) ended
-  where
-    or-true : (x y z : Bool) → z ≡ true → (x || (y || z)) ≡ true
-    or-true true y z h = refl
-    or-true false true z h = refl
-    or-true false false z h = h
-
-earlier-end : (history : List Event) (b e : Event) (p : ℕ) → IsPair history b e → p < length history → end_of (e ∷ b ∷ history) p ≡ end_of history p
-earlier-end history b e p pair older =
-    let apart : (length history == p) ≡ false = ne_eqb (length history) p (λ same. let no_way : ⊥ = omega arith in no_way) in
-    rw (pair.ends, apart, pair.goes_on) refl
-
-own-end : (history : List Event) (b e : Event) → IsPair history b e → end_of (e ∷ b ∷ history) (length history) ≡ Some e
-own-end history b e pair = rw (pair.ends, eq-eqb (length history) (length history) refl) refl
-
-earlier-past : (history : List Event) (b e : Event) (q : ℕ) → q ≤ length history → before (e ∷ b ∷ history) q ≡ before history q
-earlier-past history b e q older = before-older e (b ∷ history) q (omega arith) ∙ before-older b history q older
-
-own-past : (history : List Event) (b e : Event) → before (e ∷ b ∷ history) (length history) ≡ history
-own-past history b e = before-older e (b ∷ history) (length history) (omega arith) ∙ before-here b history
-
--- The run.
-
-only-more : (history : List Event) (begins : List ℕ) (b e : Event) → IsPair history b e
-    → ((p : ℕ) (x : Event) → event_at history p ≡ Some x → IsTrue (is_beginning x) → Contains begins p)
-    → (p : ℕ) (x : Event) → event_at (e ∷ b ∷ history) p ≡ Some x → IsTrue (is_beginning x) → Contains (begins ++ length history ∷ []) p
-only-more history begins b e pair only p x at is = elim (cases_lt p (length history)) [
-  | inl lt ↦ Contains-append_left begins (length history ∷ []) p (only p x (sym (earlier-event history b e p lt) ∙ at) is)
-  | inr le ↦ elim (cases_lt (length history) p) [
-    | inr ge ↦
-        let here : length history ≡ p = omega arith in
-        subst (λ k. Contains (begins ++ length history ∷ []) k) here (Contains-push begins (length history))
-    | inl gt ↦ absurd (later (known-event (e ∷ b ∷ history) p x at) gt)
-  ]
-]
-  where
-    later : p < length (e ∷ b ∷ history) → length history < p → ⊥
-    later within gt =
-        let there : p ≡ length (b ∷ history) = omega arith in
-        let newest : event_at (e ∷ b ∷ history) p ≡ Some e = ap (λ k. event_at (e ∷ b ∷ history) k) there ∙ event_at-here e (b ∷ history) in
-        let same : e ≡ x = cc in
-        let none : is_beginning x ≡ false = ap is_beginning (sym same) ∙ pair.begins_none in
-        cc
-
-pub IsRunOf-more : (h : List Dimension) (done : List Command) (history : List Event) (begins : List ℕ) (c : Command) (b e : Event)
-    → IsPair history b e → Begins h c b → All (λ p. p < length history) begins
-    → IsRunOf h done history begins → IsRunOf h (done ++ c ∷ []) (e ∷ b ∷ history) (begins ++ length history ∷ [])
-IsRunOf-more h done history begins c b e pair begun earlier run =
-    let same : length done ≡ length begins = AllZip-length (BeginsAt h history) done begins run.begun in
+-- a command more, with its line at the end of the text
+pub step-done : (with : Use) (h : List Dimension) (done : List Command) (written : List ℕ) (c : Command) (run now : Run) (told : Answer)
+    → Does with h c run.flat.ledger.history now.flat.ledger.history run.flat.rows.items now.flat.rows.items told
+    → now.done ≡ run.done + 1 → string_bytes now.text ≡ string_bytes run.text ++ line (run.done + 1) (word_of c) (said told)
+    → IsRun with h done written run → HasGone with h done (c ∷ []) written run.flat.ledger.history now
+step-done with h done written c run now told does count text is =
+    let number : run.done + 1 ≡ 1 + length done = omega (arith, is.count) in
     record {
-      begun = AllZip-push (BeginsAt h (e ∷ b ∷ history)) done begins c (length history)
-          (AllZip-weaker (BeginsAt h history) (BeginsAt h (e ∷ b ∷ history)) done begins
-          (λ d p at. (at.0, earlier-event history b e p (known-event history p at.0 at.1) ∙ at.1, at.2)) run.begun)
-          (b, second-event history b e, begun);
-      only = only-more history begins b e pair run.only;
-      in_order = rw (zip-push done begins c (length history) same)
-          (all_pairs_push (λ a z. session_of a.0 ≡ session_of z.0 → a.1 < z.1) (zip done begins) (c, length history) run.in_order
-          (λ k d within _. All-zip (λ p. p < length history) done begins earlier k d within));
-      ended = All-push (λ p. IsTrue (has_ended (e ∷ b ∷ history) p)) begins (length history)
-          (λ k d within. ended-still history b e (get_or begins k d) (run.ended k d within)) (ends-own history b e pair);
+      run_is = record {
+        keeps = does.keeps done is.keeps;
+        count = omega (arith, is.count, count, length-append done (c ∷ []));
+        text =
+            ap (λ t. written ++ t) (text ∙ ap (λ n. string_bytes run.text ++ line n (word_of c) (said told)) number)
+            ∙ sym (append_assoc written (string_bytes run.text) (line (1 + length done) (word_of c) (said told)))
+            ∙ ap (λ t. t ++ line (1 + length done) (word_of c) (said told)) is.text
+            ∙ sym (does.told done is.keeps);
+      };
+      kept = does.kept done is.keeps;
     }
 
-pub IsSerial-more : (history : List Event) (begins : List ℕ) (b e : Event)
-    → All (λ p. p < length history) begins → All (λ p. IsTrue (has_ended history p)) begins
-    → IsSerial history begins → IsSerial (e ∷ b ∷ history) (begins ++ length history ∷ [])
-IsSerial-more history begins b e earlier ended serial =
-    all_pairs_push (λ p q. (p < q) × IsTrue (has_ended (before (e ∷ b ∷ history) q) p)) begins (length history)
-    (λ i j d below within.
-    let pair = serial i j d below within in
-    (pair.0, ap (λ past. has_ended past (get_or begins i d)) (earlier-past history b e (get_or begins j d) (let r = earlier j d within in omega arith)) ∙ pair.1))
-    (λ k d within. (earlier k d within, ap (λ past. has_ended past (get_or begins k d)) (own-past history b e) ∙ ended k d within))
+-- no memory before the command, or behind it
 
--- The text.
+pub halted-before : (with : Use) (h : List Dimension) (done more : List Command) (written : List ℕ) (run : Run) (now : List Event) → now ≡ run.flat.ledger.history
+    → IsRun with h done written run → IsHalted with h done more run.flat.ledger.history now
+halted-before with h done more written run now same is = record {
+  count = 0;
+  within = omega arith;
+  right = rw same (IsRight-kept (site h) (is_placed run.flat.rows.items) run.flat.ledger.history is.keeps.right);
+  has = rw (same, append-nil done) is.keeps.has;
+  kept = KeepsLines-same with done run.flat.ledger.history now same;
+}
 
-told-earlier : (n : ℕ) (cs : List Command) (history : List Event) (begins : List ℕ) (b e : Event) → IsPair history b e
-    → All (λ p. p < length history) begins → told n cs (e ∷ b ∷ history) begins ≡ told n cs history begins
-unfolding told
-told-earlier n [] history begins b e pair earlier = refl
-told-earlier n (c ∷ cs) history [] b e pair earlier = refl
-told-earlier n (c ∷ cs) history (p ∷ ps) b e pair earlier =
-    ap (λ end. line n c end ++ told (n + 1) cs (e ∷ b ∷ history) ps) (earlier-end history b e p pair (earlier 0 p (omega arith)))
-    ∙ ap (λ rest. line n c (end_of history p) ++ rest) (told-earlier (n + 1) cs history ps b e pair (λ k d within. earlier (suc k) d (omega (arith, within))))
+pub halted-behind : (with : Use) (h : List Dimension) (done : List Command) (written : List ℕ) (c : Command) (run : Run) (now : List Event) (rows_now : List Row) (told : Answer)
+    → Does with h c run.flat.ledger.history now run.flat.rows.items rows_now told
+    → IsRun with h done written run → IsHalted with h done (c ∷ []) run.flat.ledger.history now
+halted-behind with h done written c run now rows_now told does is =
+    let keeps = does.keeps done is.keeps in
+    record {
+      count = 1;
+      within = omega arith;
+      right = IsRight-kept (site h) (is_placed rows_now) now keeps.right;
+      has = keeps.has;
+      kept = does.kept done is.keeps;
+    }
 
-told-push : (n : ℕ) (cs : List Command) (history : List Event) (begins : List ℕ) (c : Command) (p : ℕ) → length cs ≡ length begins
-    → told n (cs ++ c ∷ []) history (begins ++ p ∷ []) ≡ told n cs history begins ++ line (n + length cs) c (end_of history p)
-unfolding told
-told-push n [] history [] c p same = append-nil (line n c (end_of history p)) ∙ ap (λ k. line k c (end_of history p)) (let k : n ≡ n + 0 = omega arith in k)
-told-push n [] history (q ∷ qs) c p same = absurd (omega arith)
-told-push n (d ∷ cs) history [] c p same = absurd (omega arith)
-told-push n (d ∷ cs) history (q ∷ qs) c p same =
-    ap (λ rest. line n d (end_of history q) ++ rest) (told-push (n + 1) cs history qs c p (omega arith))
-    ∙ sym (append_assoc (line n d (end_of history q)) (told (n + 1) cs history qs) (line (n + 1 + length cs) c (end_of history p)))
-    ∙ ap (λ k. (line n d (end_of history q) ++ told (n + 1) cs history qs) ++ line k c (end_of history p)) (let k : n + 1 + length cs ≡ n + suc (length cs) = omega arith in k)
+-- More commands, one after the other.
 
--- the text of one command more ends with its line
-pub told-more : (h : List Dimension) (done : List Command) (history : List Event) (begins : List ℕ) (c : Command) (b e : Event)
-    → IsPair history b e → All (λ p. p < length history) begins → length done ≡ length begins
-    → told 1 (done ++ c ∷ []) (e ∷ b ∷ history) (begins ++ length history ∷ []) ≡ told 1 done history begins ++ line (1 + length done) c (Some e)
-told-more h done history begins c b e pair earlier same =
-    told-push 1 done (e ∷ b ∷ history) begins c (length history) same
-    ∙ ap (λ text. text ++ line (1 + length done) c (end_of (e ∷ b ∷ history) (length history))) (told-earlier 1 done history begins b e pair earlier)
-    ∙ ap (λ end. told 1 done history begins ++ line (1 + length done) c end) (own-end history b e pair)
+pub gone-none : (with : Use) (h : List Dimension) (done : List Command) (written : List ℕ) (run : Run) → IsRun with h done written run → HasGone with h done [] written run.flat.ledger.history run
+gone-none with h done written run is = record {
+  run_is = subst (λ l. IsRun with h l written run) (sym (append-nil done)) is;
+  kept = KeepsLines-same with done run.flat.ledger.history run.flat.ledger.history refl;
+}
 
-pub told-nil : told 1 [] [] [] ≡ []
-unfolding told
-told-nil = refl
+pub gone-more : (with : Use) (h : List Dimension) (done more next : List Command) (written : List ℕ) (before : List Event) (run now : Run)
+    → HasGone with h done more written before run → HasGone with h (done ++ more) next written run.flat.ledger.history now → HasGone with h done (more ++ next) written before now
+gone-more with h done more next written before run now gone goes = record {
+  run_is = subst (λ l. IsRun with h l written now) (append_assoc done more next) goes.run_is;
+  kept = KeepsLines-on with done before run.flat.ledger.history now.flat.ledger.history gone.kept (KeepsLines-front with done more run.flat.ledger.history now.flat.ledger.history goes.kept);
+}
+
+-- halted at the next of them
+pub halted-at : (with : Use) (h : List Dimension) (done more next all rest : List Command) (written : List ℕ) (before : List Event) (run : Run) (now : List Event)
+    → all ≡ more ++ next ++ rest → HasGone with h done more written before run → IsHalted with h (done ++ more) next run.flat.ledger.history now
+    → IsHalted with h done all before now
+halted-at with h done more next all rest written before run now whole gone halted =
+    let front : take (length more + halted.count) all ≡ more ++ take halted.count next =
+    ap (take (length more + halted.count)) (whole ∙ append_assoc more next rest)
+    ∙ take-append-add more (next ++ rest) halted.count
+    ∙ ap (λ l. more ++ l) (take-append-le halted.count next rest halted.within) in
+    record {
+      count = length more + halted.count;
+      within = omega (arith, halted.within, ap length whole, length-append (more ++ next) rest, length-append more next);
+      right = halted.right;
+      has = subst (λ l. HasDone with h l now) (append_assoc done more (take halted.count next) ∙ ap (λ l. done ++ l) (sym front)) halted.has;
+      kept = KeepsLines-on with done before run.flat.ledger.history now gone.kept (KeepsLines-front with done more run.flat.ledger.history now halted.kept);
+    }

@@ -16,6 +16,13 @@ AllZip-weaker R S [] (y0 ∷ ys) f all = absurd all
 AllZip-weaker R S (x0 ∷ xs) [] f all = absurd all
 AllZip-weaker R S (x0 ∷ xs) (y0 ∷ ys) f all = (f x0 y0 all.0, AllZip-weaker R S xs ys f all.1)
 
+-- what follows from two facts of each pair
+pub AllZip-both : {A B : Type 0} (R S T : A → B → Type 0) (xs : List A) (ys : List B) → ((x : A) (y : B) → R x y → S x y → T x y) → AllZip R xs ys → AllZip S xs ys → AllZip T xs ys
+AllZip-both R S T [] [] f all both = tt
+AllZip-both R S T [] (y0 ∷ ys) f all both = absurd all
+AllZip-both R S T (x0 ∷ xs) [] f all both = absurd all
+AllZip-both R S T (x0 ∷ xs) (y0 ∷ ys) f all both = (f x0 y0 all.0 both.0, AllZip-both R S T xs ys f all.1 both.1)
+
 pub AllZip-length : {A B : Type 0} (R : A → B → Type 0) (xs : List A) (ys : List B) → AllZip R xs ys → length xs ≡ length ys
 AllZip-length R [] [] all = refl
 AllZip-length R [] (y0 ∷ ys) all = absurd all

@@ -1,16 +1,17 @@
 -- What a run over a flat list of rows keeps, command by command.
-use Rattle.std.specs.Prelude.{ℕ, ◌≡◌, ◌<◌, ◌==◌, Bool, List, [], length, All}
-use Rattle.std.specs.List.{list_any}
+use Rattle.std.specs.Prelude.{ℕ, ◌≡◌, ◌<◌, ◌==◌, Bool, Some, IsTrue, List, length, map, All, Contains, AllPairs}
+use Rattle.std.specs.List.{list_any, AllZip}
 use Rattle.dim_hierarchy.specs.declared.row.Row.{Row}
 use Rattle.dim_hierarchy.specs.Dimension.{Dimension}
 use Rattle.dim_hierarchy.specs.Row.{IsRowOf}
 use Rattle.row_ledger.specs.declared.event.Event.{Event}
-use Rattle.row_ledger.specs.Past.{failed}
+use Rattle.row_ledger.specs.declared.settings.Use.{Use}
+use Rattle.row_ledger.specs.Past.{event_at, before, is_over, is_beginning}
 use Rattle.row_ledger.specs.Bounds.{CanAnswer}
 use Rattle.row_ledger.specs.Right.{Site, KeepsRight}
-use Rattle.olap_top.specs.declared.script.Command.{Command}
-use Rattle.olap_top.specs.Runs.{IsRunOf, IsSerial}
-use Rattle.olap_top.specs.Told.{told}
+use Rattle.script_form.specs.declared.script.Command.{Command}
+use Rattle.answer_text.specs.Places.{begins_of, count_of, places}
+use Rattle.olap_top.specs.Runs.{BeginsAt, InsertEnds}
 
 -- what a history of this hierarchy is about
 abbrev pub site : List Dimension → Site
@@ -24,13 +25,20 @@ is_placed rows number = list_any (λ r. r.no == number) rows
 abbrev pub AreRowsOf : List Dimension → List Row → Type 0
 AreRowsOf h rows = All (IsRowOf h) rows
 
--- these commands are done: the history is right and a serial run of them, and this is its text
-pub record KeepsRun (h : List Dimension) (done : List Command) (history : List Event) (rows : List Row) (text : List ℕ) : Type 0 where
+-- these commands are done, one after the other: where they began, and that the history is right and holds nothing else
+pub record HasDone (with : Use) (h : List Dimension) (done : List Command) (history : List Event) : Type 0 where
+  pub begins : List ℕ
+  pub places_are : places with done history ≡ map Some begins
+  pub counts : (session : ℕ) → length (begins_of history session) ≡ count_of with session done
+  pub earlier : All (λ p. p < length history) begins
+  pub begun : AllZip (λ c p. BeginsAt with h history c (Some p)) done begins
+  pub only : (p : ℕ) (e : Event) → event_at history p ≡ Some e → IsTrue (is_beginning e) → Contains begins p
+  pub over : All (λ p. IsTrue (is_over history p)) begins
+  pub serial : AllPairs (λ p q. (p < q) × IsTrue (is_over (before history q) p)) begins
+  pub inserts : AllZip (λ c p. InsertEnds h history c (Some p)) done begins
+
+-- and the rows can answer any query that comes next
+pub record KeepsRun (with : Use) (h : List Dimension) (done : List Command) (history : List Event) (rows : List Row) : Type 0 where
   pub right : KeepsRight (site h) (is_placed rows) history
   pub flat : CanAnswer (is_placed rows) history rows
-  pub begins : List ℕ
-  pub earlier : All (λ p. p < length history) begins
-  pub run : IsRunOf h done history begins
-  pub serial : IsSerial history begins
-  pub none_failed : failed history ≡ []
-  pub told : text ≡ told 1 done history begins
+  pub has : HasDone with h done history

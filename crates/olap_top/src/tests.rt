@@ -54,7 +54,7 @@ fn expect<R: Abort + Threads + Wait + Sync>(
 #[test]
 fn scripts_and_their_answers(rt: HostRuntime) -> Result<(), Fail> {
     let alloc = rt.alloc();
-    let rows: [(&[u8], &[u8]); 8] = [
+    let rows: [(&[u8], &[u8]); 14] = [
         (
             b"insert,0,5,berlin\nquery,0,de\n",
             b"1 insert ok\n2 query 1 5 5 5\n",
@@ -81,6 +81,30 @@ fn scripts_and_their_answers(rt: HostRuntime) -> Result<(), Fail> {
             b"concept,geo,\"a,\"\"b\",de\ninsert,0,1,\"a,\"\"b\"\nquery,0,\"a,\"\"b\"\n",
             b"1 insert ok\n2 query 1 1 1 1\n",
         ),
+        (
+            b"insert,0,5,paris\ninsert,0,6,berlin\n",
+            b"1 insert unknown 0\n2 insert ok\n",
+        ),
+        (
+            b"insert,0,5,de\nquery,0,de\nquery,0,rome\n",
+            b"1 insert unknown 0\n2 query 0 0 - -\n3 query unknown 0\n",
+        ),
+        (
+            b"concept,geo,munich,de\ninsert,0,5,berlin\ninsert,0,7,munich\nquery,0,berlin|berlin|de\nquery,0,munich|munich\n",
+            b"1 insert ok\n2 insert ok\n3 query 2 12 5 7\n4 query 1 7 7 7\n",
+        ),
+        (
+            b"dim,day,1\nconcept,day,mon,*\ninsert,0,1,berlin,mon\ninsert,0,1,paris,noon\ninsert,0,1,berlin,noon\nquery,0,rome,noon\nquery,0,*,mon|noon\nquery,0,de,mon\n",
+            b"1 insert ok\n2 insert unknown 0\n3 insert unknown 1\n4 query unknown 0\n5 query unknown 1\n6 query 1 1 1 1\n",
+        ),
+        (
+            b"insert,0,5,berlin\ninsert,1,7,berlin\nbarrier\nquery,0,*\nquery,1,*\nbarrier\nbarrier\n",
+            b"1 insert ok\n2 insert ok\n3 barrier ok\n4 query 2 12 5 7\n5 query 2 12 5 7\n6 barrier ok\n7 barrier ok\n",
+        ),
+        (
+            b"barrier\nquery,1,rome\ninsert,1,3,berlin",
+            b"1 barrier ok\n2 query unknown 0\n3 insert ok\n",
+        ),
     ];
     for (lines, printed) in rows {
         expect(&rt, alloc, &on_base(alloc, lines)?, Status::Done, printed)?;
@@ -89,56 +113,90 @@ fn scripts_and_their_answers(rt: HostRuntime) -> Result<(), Fail> {
     expect(
         &rt,
         alloc,
-        b"\xef\xbb\xbfvolap,1\ndim,geo,1\nquery,0,*\n",
+        b"\xef\xbb\xbfvolap,1\nuse,3,1,1,64\ndim,geo,1\nquery,2,*\n",
         Status::Done,
         b"1 query 0 0 - -\n",
     )
 }
 
 #[test]
-fn what_is_no_script(rt: HostRuntime) -> Result<(), Fail> {
+fn bad_scripts_and_their_causes(rt: HostRuntime) -> Result<(), Fail> {
     let alloc = rt.alloc();
-    let texts: [&[u8]; 9] = [
-        b"",
-        b"volap,1\n",
-        b"volap,2\ndim,geo,2\n",
-        b"volap\ndim,geo,2\n",
-        b"dim,geo,2\nvolap,1\n",
-        b"volap,1\ndim,geo,0\n",
-        b"volap,1\ndim,geo,9\n",
-        b"volap,1\ndim,*,2\n",
-        b"volap,1\ndim,geo,2\ndim,time,2\n",
+    let texts: [(&[u8], &[u8]); 14] = [
+        (b"", b"bad 1 version\n"),
+        (b"volap,2\ndim,geo,2\n", b"bad 1 version\n"),
+        (b"volap\ndim,geo,2\n", b"bad 1 version\n"),
+        (b"settle\n", b"bad 1 version\n"),
+        (b"dim,geo,0\n", b"bad 1 version\n"),
+        (b"dim,*,2\n", b"bad 1 version\n"),
+        (b"concept,geo,de,*\n", b"bad 1 version\n"),
+        (b"insert,0,5,berlin\n", b"bad 1 version\n"),
+        (b"volap,1\ndim,geo,0\n", b"bad 2 number\n"),
+        (b"volap,1\ndim,geo,9\n", b"bad 2 number\n"),
+        (b"volap,1\ndim,*,2\n", b"bad 2 name\n"),
+        (b"volap,1\nquery,0\n", b"bad 2 order\n"),
+        (
+            b"volap,1\nuse,1,1,1,64\ndim,geo,1\nquery,1,*\n",
+            b"bad 4 number\n",
+        ),
+        (
+            b"volap,1\ndim,a,1\ndim,b,1\ndim,c,1\ndim,d,1\ndim,e,1\ndim,f,1\ndim,g,1\ndim,h,1\ndim,i,1\n",
+            b"bad 10 dimfull\n",
+        ),
     ];
-    for text in texts {
-        expect(&rt, alloc, text, Status::BadScript, b"bad\n")?;
+    for (text, printed) in texts {
+        expect(&rt, alloc, text, Status::BadScript, printed)?;
     }
-    let lines: [&[u8]; 18] = [
-        b"insert,0,5,berlin\nsync,0\n",
-        b"insert,0,5\n",
-        b"insert,0,5,berlin,de\n",
-        b"insert,1,5,berlin\n",
-        b"insert,0,9223372036854775808,berlin\n",
-        b"insert,0,+5,berlin\n",
-        b"insert,0,,berlin\n",
-        b"insert,000000000000000000000,5,berlin\n",
-        b"insert,0,5,de\n",
-        b"insert,0,5,paris\n",
-        b"insert,0,5,*\n",
-        b"query,0,paris\n",
-        b"query,0,de|berlin\n",
-        b"query,0,de\nconcept,geo,fr,*\n",
-        b"concept,time,fr,*\n",
-        b"concept,geo,de,*\n",
-        b"concept,geo,mitte,berlin\n",
-        b"concept,geo,paris,fr\n",
+    let lines: [(&[u8], &[u8]); 32] = [
+        (b"insert,0,5", b"bad 5 fields\n"),
+        (b"insert,0,,berlin\n", b"bad 5 number\n"),
+        (b"insert,2,5,berlin\n", b"bad 5 number\n"),
+        (b"insert,0,9223372036854775808,berlin\n", b"bad 5 number\n"),
+        (
+            b"insert,0,000000000000000000005,berlin\n",
+            b"bad 5 number\n",
+        ),
+        (b"insert,0,5,*\n", b"bad 5 name\n"),
+        (b"query,0,de|*\n", b"bad 5 name\n"),
+        (
+            b"concept,geo,aaaaaaaaaaaaaaaaaaaaaaaaaaaaaaaaaaaaaaaaaaaaaaaaaaaaaaaaaaaaaaaaa,de\n",
+            b"bad 5 name\n",
+        ),
+        (b"sync,0\n", b"bad 5 kind\n"),
+        (b"sync\n", b"bad 5 kind\n"),
+        (b"use,2,2,2,64\n", b"bad 5 order\n"),
+        (b"query,0,de\nconcept,geo,fr,*\n", b"bad 6 order\n"),
+        (b"barrier\ndim,x,0\n", b"bad 6 order\n"),
+        (b"barrier\ndim,*,1\n", b"bad 6 order\n"),
+        (b"barrier\ndim,geo,1\n", b"bad 6 order\n"),
+        (b"barrier\nconcept,day,mon,*\n", b"bad 6 order\n"),
+        (b"barrier\nconcept,geo,rome,it\n", b"bad 6 order\n"),
+        (b"barrier\nconcept,geo,berlin,de\n", b"bad 6 order\n"),
+        (b"barrier\nconcept,geo,mitte,berlin\n", b"bad 6 order\n"),
+        (b"dim,*\n", b"bad 5 fields\n"),
+        (b"concept,day,mon\n", b"bad 5 fields\n"),
+        (b"concept,geo,berlin,de,\n", b"bad 5 fields\n"),
+        (b"concept,geo,mitte,berlin,\n", b"bad 5 fields\n"),
+        (b"dim,geo,0\n", b"bad 5 number\n"),
+        (b"dim,geo,2\n", b"bad 5 dimtwice\n"),
+        (b"concept,day,|,*\n", b"bad 5 name\n"),
+        (b"concept,geo,berlin,\n", b"bad 5 name\n"),
+        (b"concept,day,mon,*\n", b"bad 5 nodim\n"),
+        (b"concept,geo,paris,fr\n", b"bad 5 noparent\n"),
+        (b"concept,geo,de,*\n", b"bad 5 concepttwice\n"),
+        (b"concept,geo,mitte,berlin\n", b"bad 5 toodeep\n"),
+        (
+            b"insert,0,5,berlin\nquery,0,de\nquery,9,de\n",
+            b"bad 7 number\n",
+        ),
     ];
-    for bad in lines {
+    for (bad, printed) in lines {
         expect(
             &rt,
             alloc,
             &on_base(alloc, bad)?,
             Status::BadScript,
-            b"bad\n",
+            printed,
         )?;
     }
     Ok(())
@@ -168,7 +226,30 @@ fn a_failing_sink(rt: HostRuntime) -> Result<(), Fail> {
     let alloc = rt.alloc();
     let good = on_base(alloc, b"insert,0,5,berlin\nquery,0,de\n")?;
     let bad = on_base(alloc, b"sync,0\n")?;
-    let rows: [(&[u8], u64, usize, Status, &[u8]); 4] = [
+    let phases = on_base(alloc, b"insert,0,5,berlin\nbarrier\nquery,0,de\nbarrier\n")?;
+    let rows: [(&[u8], u64, usize, Status, &[u8]); 8] = [
+        (
+            phases.as_slice(),
+            1,
+            100,
+            Status::WriteFault,
+            b"1 insert ok\n2 barrier ok\n",
+        ),
+        (phases.as_slice(), 0, 100, Status::WriteFault, b""),
+        (
+            phases.as_slice(),
+            6,
+            5,
+            Status::WriteFault,
+            b"1 insert ok\n2 barrier ok\n3 que",
+        ),
+        (
+            phases.as_slice(),
+            2,
+            100,
+            Status::Done,
+            b"1 insert ok\n2 barrier ok\n3 query 1 5 5 5\n4 barrier ok\n",
+        ),
         (good.as_slice(), 0, 100, Status::WriteFault, b""),
         (good.as_slice(), 1, 3, Status::WriteFault, b"1 i"),
         (

@@ -1,18 +1,21 @@
 // The top call.
-ghost use Rattle.std.specs.Prelude.{◌≡◌, ◌≢◌, ◌+◌, ◌≤◌, ◌^◌, ◌⊎◌, ◌↔◌, List, ℕ, [], ◌∷◌, All, Some, None, length, map, codes, string_bytes, take, IsTrue};
+ghost use Rattle.std.specs.Prelude.{◌≡◌, ◌≢◌, ◌+◌, ◌≤◌, ◌^◌, ◌⊎◌, ◌↔◌, List, ℕ, [], ◌∷◌, Ok, Err, All, length, map, codes, string_bytes, IsTrue};
 ghost use Rattle.std.specs.Io.KnownBytes.{Appends};
 ghost use Rattle.volap_io.specs.Causes.{Rose};
 ghost use Rattle.volap_io.specs.Source.{Gave};
-ghost use Rattle.olap_top.specs.Form.{IsKnown, script_of};
-ghost use Rattle.script_form.specs.Scripts.{records_of};
-ghost use Rattle.olap_top.specs.Outcomes.{HasRun, TookPart, IsStep, IsDone, IsCutOff, IsNoScript, IsGood, bad_line};
-ghost use Rattle.olap_top.specs.declared.script.Script.{Script};
+ghost use Rattle.script_form.specs.Scripts.{Fits, records_of, script};
+ghost use Rattle.script_form.specs.declared.script.Cause.{Cause};
+ghost use Rattle.script_form.specs.declared.script.Script.{Script};
+ghost use Rattle.script_form.specs.declared.script.ScriptFault.TheVariants as fault;
+ghost use Rattle.answer_text.specs.Printed.{told, bad_line};
+ghost use Rattle.olap_top.specs.RunSoFar.{IsRun};
+ghost use Rattle.olap_top.specs.Outcomes.{TookPart, IsStep, HasRun, RanTo, RanInto, IsDone, IsCutOff, IsStarved, IsNoScript, IsGood};
 
 use crate::outcome::{Outcome, Status};
-use crate::reader::{ScriptFault, read_script};
 use crate::run::Run;
-use crate::script::Script;
+use answer_text::{BadLine, phase_len};
 use row_ledger::Ledger;
+use script_form::{Cause, Script, ScriptFault, read_script};
 use std::alloc::Global;
 use std::sync::Wait;
 use std::thread::Threads;
@@ -31,38 +34,81 @@ fn without_history(alloc: Global, status: Status) -> Outcome
     }
 }
 
-/// Runs a script to its end, and then writes its text as one piece.
+/// Runs a script phase by phase, and writes the text of each as one piece when it has ended.
+fn run_phases<K: Sink>(run: &mut Run, alloc: Global, script: &Script, sink: &mut K) -> Status
+    requires fits { All (Fits script.now) script.now.commands }
+    requires start { IsRun script.now.with script.now.hierarchy [] [] run.old }
+    requires rows { run.old.flat.rows.items ≡ [] }
+    requires text { string_bytes run.old.text ≡ [] }
+    ensures kinds { (result ≡ Status.Done) ⊎ (result ≡ Status.WriteFault) ⊎ (result ≡ Status.NoMemory) }
+    ensures no_memory { result ≡ Status.NoMemory
+        → RanInto script.now (K.taken sink.old) (K.taken sink.new) run.new.flat.ledger.history }
+    ensures write_fault { result ≡ Status.WriteFault
+        → Rose (K.faults sink.old) (K.faults sink.new)
+        × RanTo script.now (K.taken sink.old) (K.taken sink.new) run.new.flat.ledger.history }
+    ensures done { result ≡ Status.Done
+        → HasRun script.now.with script.now.hierarchy script.now.commands run.new.flat.ledger.history
+        × Appends (K.taken sink.old) (K.taken sink.new)
+        (told script.now.with script.now.commands run.new.flat.ledger.history) }
+{
+    let mut rest = script.commands.as_slice();
+    while !rest.is_empty() {
+        let (phase, more) = rest.split_at(phase_len(rest));
+        let Ok(()) = run.phase(alloc, script, phase) else {
+            return Status::NoMemory;
+        };
+        let Ok(()) = write_all(sink, run.text.as_str().as_bytes()) else {
+            return Status::WriteFault;
+        };
+        run.text.clear();
+        rest = more;
+    }
+    Status::Done
+}
+
+/// Runs a script to its end.
 fn run_script<K: Sink>(alloc: Global, script: &Script, sink: &mut K) -> Outcome
-    requires { All (IsKnown script.now.hierarchy) script.now.commands }
+    requires { All (Fits script.now) script.now.commands }
     ensures kinds { (result.status ≡ Status.Done)
         ⊎ (result.status ≡ Status.WriteFault)
         ⊎ (result.status ≡ Status.NoMemory) }
     ensures no_memory { result.status ≡ Status.NoMemory
-        → (sink.new ≡ sink.old) × (result.ledger.history ≡ []) }
+        → RanInto script.now (K.taken sink.old) (K.taken sink.new) result.ledger.history }
     ensures write_fault { result.status ≡ Status.WriteFault
         → Rose (K.faults sink.old) (K.faults sink.new)
-        × ((text : List ℕ)
-        × HasRun script.now result.ledger.history text
-        × TookPart (K.taken sink.old) (K.taken sink.new) text) }
+        × RanTo script.now (K.taken sink.old) (K.taken sink.new) result.ledger.history }
     ensures done { result.status ≡ Status.Done
-        → (text : List ℕ)
-        × HasRun script.now result.ledger.history text
-        × Appends (K.taken sink.old) (K.taken sink.new) text }
+        → HasRun script.now.with script.now.hierarchy script.now.commands result.ledger.history
+        × Appends (K.taken sink.old) (K.taken sink.new)
+        (told script.now.with script.now.commands result.ledger.history) }
 {
-    let Ok(run) = Run::of_commands(alloc, &script.hierarchy, script.commands.as_slice()) else {
-        return without_history(alloc, Status::NoMemory);
-    };
-    let status = match write_all(sink, run.text.as_str().as_bytes()) {
-        Ok(()) => Status::Done,
-        Err(_) => Status::WriteFault,
-    };
+    let mut run = Run::new(alloc);
+    let status = run_phases(&mut run, alloc, script, sink);
     Outcome {
         status,
-        ledger: run.ledger,
+        ledger: run.flat.ledger,
     }
 }
 
-/// Reads a script and runs it, or says that it is none.
+/// Answers a bad script by its line.
+fn tell_bad<K: Sink>(alloc: Global, at: u64, cause: Cause, sink: &mut K) -> Outcome
+    ensures kinds { (result.status ≡ Status.BadScript) ⊎ (result.status ≡ Status.NoMemory) }
+    ensures history { result.ledger.history ≡ [] }
+    ensures no_memory { result.status ≡ Status.NoMemory → sink.new ≡ sink.old }
+    ensures bad_script { result.status ≡ Status.BadScript
+        → Appends (K.taken sink.old) (K.taken sink.new) (bad_line at cause)
+        ⊎ (Rose (K.faults sink.old) (K.faults sink.new)
+        × TookPart (K.taken sink.old) (K.taken sink.new) (bad_line at cause)) }
+{
+    let line = BadLine { at, cause };
+    let Ok(text) = format!(in alloc; "{line}") else {
+        return without_history(alloc, Status::NoMemory);
+    };
+    let _ = write_all(sink, text.as_str().as_bytes());
+    without_history(alloc, Status::BadScript)
+}
+
+/// Reads a script and runs it, or says why it is none.
 fn run_bytes<K: Sink>(alloc: Global, bytes: &[u8], sink: &mut K) -> Outcome
     requires { length bytes.now ≤ 2 ^ 26 }
     ensures kinds { (result.status ≡ Status.Done)
@@ -70,32 +116,32 @@ fn run_bytes<K: Sink>(alloc: Global, bytes: &[u8], sink: &mut K) -> Outcome
         ⊎ (result.status ≡ Status.WriteFault)
         ⊎ (result.status ≡ Status.NoMemory) }
     ensures bad_script { result.status ≡ Status.BadScript
-        → (script_of (records_of bytes.now) ≡ None)
+        → (at : ℕ) × (cause : Cause)
+        × (script (records_of bytes.now) ≡ Err (fault.Bad at cause))
         × (result.ledger.history ≡ [])
-        × (Appends (K.taken sink.old) (K.taken sink.new) bad_line
+        × (Appends (K.taken sink.old) (K.taken sink.new) (bad_line at cause)
         ⊎ (Rose (K.faults sink.old) (K.faults sink.new)
-        × TookPart (K.taken sink.old) (K.taken sink.new) bad_line)) }
+        × TookPart (K.taken sink.old) (K.taken sink.new) (bad_line at cause))) }
     ensures no_memory { result.status ≡ Status.NoMemory
-        → (sink.new ≡ sink.old) × (result.ledger.history ≡ []) }
+        → ((sink.new ≡ sink.old) × (result.ledger.history ≡ []))
+        ⊎ ((s : Script)
+        × (script (records_of bytes.now) ≡ Ok s)
+        × RanInto s (K.taken sink.old) (K.taken sink.new) result.ledger.history) }
     ensures write_fault { result.status ≡ Status.WriteFault
         → Rose (K.faults sink.old) (K.faults sink.new)
-        × ((script : Script) × (text : List ℕ)
-        × (script_of (records_of bytes.now) ≡ Some script)
-        × HasRun script result.ledger.history text
-        × TookPart (K.taken sink.old) (K.taken sink.new) text) }
+        × ((s : Script)
+        × (script (records_of bytes.now) ≡ Ok s)
+        × RanTo s (K.taken sink.old) (K.taken sink.new) result.ledger.history) }
     ensures done { result.status ≡ Status.Done
-        → (script : Script) × (text : List ℕ)
-        × (script_of (records_of bytes.now) ≡ Some script)
-        × HasRun script result.ledger.history text
-        × Appends (K.taken sink.old) (K.taken sink.new) text }
+        → (s : Script)
+        × (script (records_of bytes.now) ≡ Ok s)
+        × HasRun s.with s.hierarchy s.commands result.ledger.history
+        × Appends (K.taken sink.old) (K.taken sink.new) (told s.with s.commands result.ledger.history) }
 {
     match read_script(alloc, bytes) {
         Ok(script) => run_script(alloc, &script, sink),
         Err(ScriptFault::NoMemory) => without_history(alloc, Status::NoMemory),
-        Err(ScriptFault::Bad) => {
-            let _ = write_all(sink, b"bad\n");
-            without_history(alloc, Status::BadScript)
-        }
+        Err(ScriptFault::Bad { at, cause }) => tell_bad(alloc, at, cause, sink),
     }
 }
 
@@ -123,7 +169,11 @@ pub fn step<S: Source, K: Sink>(alloc: Global, source: &mut S, sink: &mut K) -> 
         (K.taken sink.old) (K.taken sink.new)
         result.ledger.history }
     ensures no_memory { result.status ≡ Status.NoMemory
-        → (sink.new ≡ sink.old) × (result.ledger.history ≡ []) }
+        → ((sink.new ≡ sink.old) × (result.ledger.history ≡ []))
+        ⊎ IsStarved
+        (S.left source.old) (S.left source.new)
+        (K.taken sink.old) (K.taken sink.new)
+        result.ledger.history }
     ensures done { result.status ≡ Status.Done
         → IsDone
         (S.left source.old) (S.left source.new)
@@ -183,7 +233,11 @@ pub fn olap<R: Threads + Wait + Sync, S: Source, K: Sink, M: Meet>(
         (K.taken sink.old) (K.taken sink.new)
         result.ledger.history }
     ensures no_memory { result.status ≡ Status.NoMemory
-        → (sink.new ≡ sink.old) × (result.ledger.history ≡ []) }
+        → ((sink.new ≡ sink.old) × (result.ledger.history ≡ []))
+        ⊎ IsStarved
+        (S.left source.old) (S.left source.new)
+        (K.taken sink.old) (K.taken sink.new)
+        result.ledger.history }
 
     // The headline; in the history each command ends before the next begins.
     ensures done { result.status ≡ Status.Done

@@ -9,10 +9,12 @@ use Rattle.dim_hierarchy.specs.declared.row.Row.{Row}
 use Rattle.dim_hierarchy.specs.declared.filter.Pick.{Pick}
 use Rattle.measure_agg.specs.Aggregate.{Aggregate}
 use Rattle.row_ledger.specs.declared.event.Event.{Event}
-use Rattle.row_ledger.specs.declared.event.Event.TheVariants.{Begun, Acked, Asked, Answered, Failed}
-use Rattle.row_ledger.specs.Past.{Ack, insert_at, query_at, event_at, ack_in, is_end_of, has_ended, begun, acked, failed, is_kept}
+use Rattle.row_ledger.specs.declared.event.Event.TheVariants.{Begun, Acked, Asked, Answered, Unknown, Failed, Refused, Called, Ended}
+use Rattle.row_ledger.specs.declared.settings.Call.{Call}
+use Rattle.row_ledger.specs.declared.settings.How.{How}
+use Rattle.row_ledger.specs.Past.{Ack, insert_at, query_at, call_at, event_at, ack_in, is_end_of, has_ended, begun, acked, failed, is_kept}
 use Rattle.row_ledger.specs.Bounds.{may}
-use Rattle.row_ledger.specs.Right.{Site, Each, IsRightAck, IsRightAnswer, IsRightFailure, Stands, StandsRight, KeepsRight, IsRight}
+use Rattle.row_ledger.specs.Right.{Site, Each, IsRightAck, IsRightAnswer, IsRightFailure, IsRightEnd, Stands, StandsRight, KeepsRight, IsRight}
 use Rattle.row_ledger.proofs.Elements.{Contains-cons_option, Contains-filter, Contains-filtered, IsTrue-filtered}
 use Rattle.row_ledger.proofs.Positions.{event_at-past}
 
@@ -99,6 +101,22 @@ pub KeepsRight-answered : (site : Site) (placed : ℕ → Bool) (h : List Event)
     → KeepsRight site placed h → IsRightAnswer site placed h of answer → KeepsRight site placed (Answered of answer ∷ h)
 KeepsRight-answered site placed h of answer keeps right = KeepsRight-grown site placed h (Answered of answer) keeps right refl
 
+pub KeepsRight-unknown : (site : Site) (placed : ℕ → Bool) (h : List Event) (session server dim : ℕ)
+    → KeepsRight site placed h → KeepsRight site placed (Unknown session server dim ∷ h)
+KeepsRight-unknown site placed h session server dim keeps = KeepsRight-grown site placed h (Unknown session server dim) keeps tt refl
+
+pub KeepsRight-refused : (site : Site) (placed : ℕ → Bool) (h : List Event) (session : ℕ)
+    → KeepsRight site placed h → KeepsRight site placed (Refused session ∷ h)
+KeepsRight-refused site placed h session keeps = KeepsRight-grown site placed h (Refused session) keeps tt refl
+
+pub KeepsRight-called : (site : Site) (placed : ℕ → Bool) (h : List Event) (session : ℕ) (call : Call)
+    → KeepsRight site placed h → KeepsRight site placed (Called session call ∷ h)
+KeepsRight-called site placed h session call keeps = KeepsRight-grown site placed h (Called session call) keeps tt refl
+
+pub KeepsRight-ended : (site : Site) (placed : ℕ → Bool) (h : List Event) (of : ℕ) (how : How)
+    → KeepsRight site placed h → IsRightEnd h of how → KeepsRight site placed (Ended of how ∷ h)
+KeepsRight-ended site placed h of how keeps right = KeepsRight-grown site placed h (Ended of how) keeps right refl
+
 -- the failure of an insert whose row has no place, or of a query
 pub KeepsRight-failed : (site : Site) (placed : ℕ → Bool) (h : List Event) (of : ℕ)
     → KeepsRight site placed h → placed of ≡ false → IsRightFailure h of → KeepsRight site placed (Failed of ∷ h)
@@ -138,6 +156,12 @@ IsRightAnswer-within site usable past of answer right = event_at-within past of 
 IsRightFailure-within : (past : List Event) (of : ℕ) → IsRightFailure past of → of < length past
 IsRightFailure-within past of right = event_at-within past of (λ none. false≢true (rw none at right.begun))
 
+IsRightEnd-within : (past : List Event) (of : ℕ) (how : How) → IsRightEnd past of how → of < length past
+IsRightEnd-within past of how right = event_at-within past of (λ none.
+    let called : call_at past of ≡ Some right.call = right.called in
+    let nothing : call_at past of ≡ None = rw none refl in
+    cc)
+
 is_end_of-fresh : (site : Site) (usable : ℕ → Bool) (past : List Event) (e : Event)
     → Stands site usable past e → (p : ℕ) → length past ≤ p → is_end_of p e ≡ false
 is_end_of-fresh site usable past (Acked of path) right p beyond =
@@ -146,6 +170,8 @@ is_end_of-fresh site usable past (Answered of answer) right p beyond =
     let within : of < length past = IsRightAnswer-within site usable past of answer right in grind (arith, nat_tests)
 is_end_of-fresh site usable past (Failed of) right p beyond =
     let within : of < length past = IsRightFailure-within past of right in grind (arith, nat_tests)
+is_end_of-fresh site usable past (Ended of how) right p beyond =
+    let within : of < length past = IsRightEnd-within past of how right in grind (arith, nat_tests)
 is_end_of-fresh site usable past _ right p beyond = refl
 
 pub fresh : (site : Site) (usable : ℕ → Bool) (h : List Event) → StandsRight site usable h → (p : ℕ) → length h ≤ p → has_ended h p ≡ false

@@ -1,13 +1,14 @@
 -- A history is a list of events, the newest first. What stands behind an event in the list is its past,
 -- and the length of its past is its position. So every notion "before a position" is a function of a past
 -- alone, and nothing that is said of an earlier event changes when the history grows.
-use Rattle.std.specs.Prelude.{ℕ, ◌==◌, Bool, true, false, not, nat_lt, Option, Some, None, option_map, option_and_then, if◌then◌else◌, List, [], ◌∷◌, length, map, filter, filter_map}
+use Rattle.std.specs.Prelude.{ℕ, ◌==◌, Bool, true, false, not, ◌||◌, nat_lt, Option, Some, None, is_some, option_map, option_and_then, if◌then◌else◌, List, [], ◌∷◌, length, map, filter, filter_map}
 use Rattle.std.specs.List.{list_any, cons_option}
 use Rattle.std.specs.Option.{option_map_or}
 use Rattle.dim_hierarchy.specs.declared.row.Row.{Row}
 use Rattle.dim_hierarchy.specs.declared.filter.Pick.{Pick}
 use Rattle.row_ledger.specs.declared.event.Event.{Event}
-use Rattle.row_ledger.specs.declared.event.Event.TheVariants.{Begun, Acked, Asked, Answered, Failed}
+use Rattle.row_ledger.specs.declared.event.Event.TheVariants.{Begun, Acked, Asked, Answered, Unknown, Failed, Refused, Called, Ended}
+use Rattle.row_ledger.specs.declared.settings.Call.{Call}
 
 -- Positions.
 
@@ -41,17 +42,36 @@ abbrev pub query_in : Event → Option Query
 query_in (Asked session server filter) = Some (record { server = server; filter = filter })
 query_in _ = None
 
+-- a command of another kind that begins
+abbrev pub call_in : Event → Option Call
+call_in (Called session call) = Some call
+call_in _ = None
+
+-- the session of the command that an event begins
+abbrev pub session_in : Event → Option ℕ
+session_in (Begun session server row) = Some session
+session_in (Asked session server filter) = Some session
+session_in (Unknown session server dim) = Some session
+session_in (Refused session) = Some session
+session_in (Called session call) = Some session
+session_in _ = None
+
 -- whether an event begins a command
 abbrev pub is_beginning : Event → Bool
-is_beginning (Begun session server row) = true
-is_beginning (Asked session server filter) = true
-is_beginning _ = false
+is_beginning e = is_some (session_in e)
+
+-- whether the event that begins a command is its end too
+abbrev pub ends_itself : Event → Bool
+ends_itself (Unknown session server dim) = true
+ends_itself (Refused session) = true
+ends_itself _ = false
 
 -- the position of the command that an event ends
 abbrev pub end_in : Event → Option ℕ
 end_in (Acked of path) = Some of
 end_in (Answered of agg) = Some of
 end_in (Failed of) = Some of
+end_in (Ended of how) = Some of
 end_in _ = None
 
 -- the position of the command that an event ends for want of memory
@@ -61,12 +81,15 @@ failed_in _ = None
 
 -- Commands.
 
--- the insert, or query, that began at a position
+-- the insert, the query, or the other command that began at a position
 abbrev pub insert_at : List Event → ℕ → Option Insert
 insert_at past p = option_and_then insert_in (event_at past p)
 
 abbrev pub query_at : List Event → ℕ → Option Query
 query_at past p = option_and_then query_in (event_at past p)
+
+abbrev pub call_at : List Event → ℕ → Option Call
+call_at past p = option_and_then call_in (event_at past p)
 
 -- whether an event ends the command that began at a position
 abbrev pub is_end_of : ℕ → Event → Bool
@@ -74,6 +97,10 @@ is_end_of p e = option_map_or (λ of. of == p) (end_in e) false
 
 abbrev pub has_ended : List Event → ℕ → Bool
 has_ended past p = list_any (is_end_of p) past
+
+-- whether the command that began at a position has its end, which may be its beginning
+abbrev pub is_over : List Event → ℕ → Bool
+is_over past p = has_ended past p || option_map_or ends_itself (event_at past p) false
 
 -- Rows.
 

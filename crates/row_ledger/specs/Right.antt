@@ -3,8 +3,12 @@ use Rattle.std.specs.Prelude.{ℕ, ◌≡◌, Bool, false, IsTrue, Some, is_some
 use Rattle.dim_hierarchy.specs.Dimension.{Dimension}
 use Rattle.measure_agg.specs.Aggregate.{Aggregate}
 use Rattle.row_ledger.specs.declared.event.Event.{Event}
-use Rattle.row_ledger.specs.declared.event.Event.TheVariants.{Begun, Acked, Asked, Answered, Failed}
-use Rattle.row_ledger.specs.Past.{Insert, Query, before, insert_at, query_at, has_ended, is_kept}
+use Rattle.row_ledger.specs.declared.event.Event.TheVariants.{Begun, Acked, Asked, Answered, Unknown, Failed, Refused, Called, Ended}
+use Rattle.row_ledger.specs.declared.settings.Call.{Call}
+use Rattle.row_ledger.specs.declared.settings.Call.TheVariants.{Barrier}
+use Rattle.row_ledger.specs.declared.settings.How.{How}
+use Rattle.row_ledger.specs.declared.settings.How.TheVariants.{Fine}
+use Rattle.row_ledger.specs.Past.{Insert, Query, before, insert_at, query_at, call_at, has_ended, is_kept}
 use Rattle.row_ledger.specs.Bounds.{must, may, IsAllowed}
 
 -- what a history is about
@@ -34,6 +38,17 @@ pub record IsRightFailure (past : List Event) (of : ℕ) : Type 0 where
   pub begun : IsTrue (is_some (insert_at past of) || is_some (query_at past of))
   pub is_open : has_ended past of ≡ false
 
+-- how a called command may end: a barrier is always fine
+abbrev pub MayEnd : Call → How → Type 0
+MayEnd Barrier how = how ≡ Fine
+
+-- an end is of a called command that hasn't ended, and is one that its kind may have
+pub record IsRightEnd (past : List Event) (of : ℕ) (how : How) : Type 0 where
+  pub call : Call
+  pub called : call_at past of ≡ Some call
+  pub is_open : has_ended past of ≡ false
+  pub may_end : MayEnd call how
+
 -- the event stands rightly behind this past; a row's number is the position of its beginning
 abbrev pub Stands : Site → (ℕ → Bool) → List Event → Event → Type 0
 Stands site usable past (Begun session server row) = row.no ≡ length past
@@ -41,6 +56,10 @@ Stands site usable past (Acked of path) = IsRightAck past of
 Stands site usable past (Asked session server filter) = ⊤
 Stands site usable past (Answered of answer) = IsRightAnswer site usable past of answer
 Stands site usable past (Failed of) = IsRightFailure past of
+Stands site usable past (Ended of how) = IsRightEnd past of how
+Stands site usable past (Unknown session server dim) = ⊤
+Stands site usable past (Refused session) = ⊤
+Stands site usable past (Called session call) = ⊤
 
 -- each event stands rightly, and only usable rows are in answers
 pub record StandsRight (site : Site) (usable : ℕ → Bool) (h : List Event) : Type 0 where

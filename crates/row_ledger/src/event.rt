@@ -1,3 +1,4 @@
+use crate::settings::{Call, How};
 use describing_set::Path;
 use dim_hierarchy::{Filter, Row};
 use measure_agg::Agg;
@@ -5,7 +6,7 @@ use measure_agg::Agg;
 /// What happened. `of` is the place in the history of the event that began the command.
 #[derive(Drop)]
 pub enum Event {
-    /// An insert begins; `row.no` is the place of this event.
+    /// An insert of known leaf concepts begins; `row.no` is the place of this event.
     Begun {
         session: u16,
         server: u8,
@@ -27,8 +28,28 @@ pub enum Event {
         of: u64,
         agg: Agg,
     },
+    /// An insert or a query names what isn't known, first in this dimension. It ends with this.
+    Unknown {
+        session: u16,
+        server: u8,
+        dim: u8,
+    },
     /// The insert or query ends for want of memory; an insert then left no row anywhere.
     Failed {
         of: u64,
+    },
+    /// A command finds no memory before it began. It ends with this.
+    Refused {
+        session: u16,
+    },
+    /// A command that is no insert and no query begins.
+    Called {
+        session: u16,
+        call: Call,
+    },
+    /// The called command ends.
+    Ended {
+        of: u64,
+        how: How,
     },
 }

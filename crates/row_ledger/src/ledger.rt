@@ -66,6 +66,7 @@ impl Ledger {
         ensures history { self.new.history ≡ self.old.history }
         ensures ok { OnOk result (self.new.promised ≡ self.old.promised + n) }
         ensures err { OnErr result (self.new.promised ≡ self.old.promised) }
+        ensures few { length self.new.history + self.new.promised < 2 ^ 31 }
     {
         let room = MOST - 1 - self.events.len() - self.promised;
         if n > room as u64 {

@@ -12,4 +12,4 @@ pub mod worked;
 pub use event::Event;
 pub use history::History;
 pub use ledger::Ledger;
-pub use settings::{Call, Use};
+pub use settings::{Call, How, Use};

@@ -13,3 +13,10 @@ pub enum Call {
     /// Nothing; it ends its phase.
     Barrier,
 }
+
+/// How a called command ends.
+#[derive(Clone, Copy, Debug, PartialEq, Eq)]
+pub enum How {
+    /// It did what it was to do.
+    Fine,
+}

@@ -1,9 +1,6 @@
-use Rattle.std.proofs.Common.{refl, []}
-use Rattle.olap_top.proofs.KeepsSteps.{KeepsRun-nil, KeepsRun-same}
+use Rattle.std.proofs.Common.{refl}
+use Rattle.olap_top.proofs.RunSteps.{IsRun-nil}
 use Rattle.olap_top.proofs.run.Run.new.Goals as goal
 
 pub returns-clause-run : goal.returns-clause-run
-returns-clause-run c = λ h. record {
-  keeps = KeepsRun-same h [] [] _ [] _ [] _ c.new-2.ensures.history c.new.ensures.items c.new-3.ensures.bytes (KeepsRun-nil h);
-  count = refl;
-}
+returns-clause-run c = λ with h. IsRun-nil with h _ c.new.ensures.history c.new.ensures.rows c.new-2.ensures.bytes refl

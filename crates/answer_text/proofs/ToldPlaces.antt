@@ -1,0 +1,116 @@
+-- Where commands begin, one command more at a time.
+use Rattle.std.proofs.Common.{◌≡◌, ◌∙◌, ℕ, ◌+◌, ◌<◌, ◌≤◌, List, [], ◌∷◌, ◌++◌, true, false, Option, Some, None, length, get_or, set, take, drop, replicate, append-nil, refl, ap, sym, inl, inr, arith}
+use Rattle.std.specs.Prelude.{All, slice_get, ◌==◌}
+use Rattle.std.proofs.lemmas.Bool.{cases_Bool, eqb-true, eqb-false, eq-eqb}
+use Rattle.std.proofs.lemmas.Option.{slice_get_within, get_or_from_slice_get}
+use Rattle.std.proofs.lemmas.List.{append_assoc, drop_more, drop_all, drop_at, take_more, take_at, take-append-drop, length-drop, length-take, length-take-le, length-set, get_or-set_same, get_or-set_other, get_or-replicate, get_or_read, length-replicate}
+use Rattle.std.proofs.lemmas.List.Elements.{All-nil, All-cons, All-get_or}
+use Rattle.std.proofs.lemmas.List.Sums.{count_by_more_yes, count_by_more_no, count_by-le-length}
+use Rattle.row_ledger.specs.declared.event.Event.{Event}
+use Rattle.row_ledger.specs.declared.settings.Use.{Use}
+use Rattle.script_form.specs.declared.script.Command.{Command}
+use Rattle.answer_text.specs.Places.{begins_of, count_of, place_behind, places, places_behind, session_of}
+use Rattle.answer_text.specs.Index.{IsPlace}
+use Rattle.answer_text.proofs.IndexFacts.{begins_of-below}
+use Rattle.answer_text.proofs.PlaceFacts.{places_behind-append, places_behind-length}
+
+-- The commands of each session so far.
+
+pub record Counts (counts : List ℕ) (with : Use) (before : List Command) : Type 0 where
+  pub sessions : length counts ≡ 257
+  pub counted : (s : ℕ) → s < 257 → get_or counts s 0 ≡ count_of with s before
+
+pub counts_none : (counts : List ℕ) (with : Use) (n : ℕ) → n ≡ 257 → counts ≡ replicate n 0 → Counts counts with []
+counts_none counts with n all made =
+    rw made (record {
+      sessions = length-replicate n 0 ∙ all;
+      counted = λ s below. get_or-replicate n s 0 0 (omega arith);
+    })
+
+pub count_read : (counts : List ℕ) (with : Use) (before : List Command) (session count : ℕ) → Counts counts with before → session < 257
+    → count ≡ get_or counts session count → count ≡ count_of with session before
+count_read counts with before session count so_far few read =
+    get_or_read counts session count (rw so_far.sessions few) read 0 ∙ so_far.counted session few
+
+counted_at : (counts : List ℕ) (with : Use) (cs : List Command) (i : ℕ) (c : Command) (session count s : ℕ) → i < length cs → c ≡ get_or cs i c
+    → session ≡ session_of with c → count ≡ count_of with session (take i cs) → s < length counts → get_or counts s 0 ≡ count_of with s (take i cs)
+    → get_or (set counts session (count + 1)) s 0 ≡ count_of with s (take (i + 1) cs)
+counted_at counts with cs i c session count s inside is its here below old =
+    elim (cases_Bool (session == s)) [
+      | inl same ↦
+          let at : session ≡ s = eqb-true session s same in
+          let few : session < length counts = omega arith in
+          let passes : session_of with (get_or cs i c) == session ≡ true = rw (← is, ← its) (eq-eqb session session refl) in
+          rw (← at) (get_or-set_same counts session (count + 1) 0 few ∙ (ap (λ n. n + 1) here ∙ sym (count_by_more_yes (λ x. session_of with x == session) cs i c inside passes)))
+      | inr other ↦
+          let fails : session_of with (get_or cs i c) == s ≡ false = rw (← is, ← its) other in
+          get_or-set_other counts session s (count + 1) 0 (λ e. eqb-false session s other (sym e)) ∙ (old ∙ sym (count_by_more_no (λ x. session_of with x == s) cs i c inside fails))
+    ]
+
+pub counts_more : (counts : List ℕ) (with : Use) (cs : List Command) (i : ℕ) (c : Command) (session count : ℕ) → i < length cs → c ≡ get_or cs i c
+    → session ≡ session_of with c → count ≡ count_of with session (take i cs) → Counts counts with (take i cs) → Counts (set counts session (count + 1)) with (take (i + 1) cs)
+counts_more counts with cs i c session count inside is its here so_far =
+    record {
+      sessions = length-set counts session (count + 1) ∙ so_far.sessions;
+      counted = λ s below. counted_at counts with cs i c session count s inside is its here (rw so_far.sessions below) (so_far.counted s below);
+    }
+
+-- there are at most as many as commands
+pub counts-le : (with : Use) (cs : List Command) (i s : ℕ) → count_of with s (take i cs) ≤ i
+counts-le with cs i s = omega (arith, count_by-le-length (λ c. session_of with c == s) (take i cs), length-take i cs)
+
+-- The places.
+
+pub places_more : (with : Use) (cs : List Command) (i : ℕ) (c : Command) (h : List Event) → i < length cs → c ≡ get_or cs i c
+    → places_behind with (take i cs) (drop i cs) h ≡ place_behind with (take i cs) c h ∷ places_behind with (take (i + 1) cs) (drop (i + 1) cs) h
+unfolding places_behind
+places_more with cs i c h inside is = rw (drop_more cs i c inside, ← is, take_more cs i c inside, ← is) refl
+
+pub places_end : (with : Use) (cs : List Command) (i : ℕ) (h : List Event) → length cs ≤ i → places_behind with (take i cs) (drop i cs) h ≡ []
+unfolding places_behind
+places_end with cs i h all = rw (drop_all i cs all) refl
+
+-- a loop that takes them
+pub taken_more : (taken whole : List (Option ℕ)) (with : Use) (cs : List Command) (i : ℕ) (c : Command) (h : List Event) (session count : ℕ) (place : Option ℕ)
+    → i < length cs → c ≡ get_or cs i c → session ≡ session_of with c → count ≡ count_of with session (take i cs) → place ≡ slice_get (begins_of h session) count
+    → taken ++ places_behind with (take i cs) (drop i cs) h ≡ whole → (taken ++ place ∷ []) ++ places_behind with (take (i + 1) cs) (drop (i + 1) cs) h ≡ whole
+taken_more taken whole with cs i c h session count place inside is its here at so_far =
+    let begins : place ≡ place_behind with (take i cs) c h = rw (← its, ← here) at in
+    rw (append_assoc, begins, ← places_more with cs i c h inside is) so_far
+
+pub taken_all : (taken whole : List (Option ℕ)) (with : Use) (cs : List Command) (i : ℕ) (h : List Event) → length cs ≤ i
+    → taken ++ places_behind with (take i cs) (drop i cs) h ≡ whole → taken ≡ whole
+taken_all taken whole with cs i h all so_far = let end = rw (places_end with cs i h all, append-nil taken) at so_far in end
+
+places-split : (with : Use) (before cs : List Command) (n : ℕ) (h : List Event)
+    → places_behind with before cs h ≡ places_behind with before (take n cs) h ++ places_behind with (before ++ take n cs) (drop n cs) h
+places-split with before cs n h =
+    ap (λ l. places_behind with before l h) (sym (take-append-drop n cs)) ∙ places_behind-append with before (take n cs) (drop n cs) h
+
+places-drop : (with : Use) (cs : List Command) (start : ℕ) (h : List Event) → start ≤ length cs
+    → drop start (places with cs h) ≡ places_behind with (take start cs) (drop start cs) h
+places-drop with cs start h within =
+    ap (drop start) (places-split with [] cs start h) ∙ drop_at (places_behind with [] (take start cs) h) (places_behind with (take start cs) (drop start cs) h) start (places_behind-length with [] (take start cs) h ∙ length-take-le start cs within)
+
+places-take : (with : Use) (before cs : List Command) (count : ℕ) (h : List Event) → count ≤ length cs
+    → take count (places_behind with before cs h) ≡ places_behind with before (take count cs) h
+places-take with before cs count h within =
+    ap (take count) (places-split with before cs count h) ∙ take_at (places_behind with before (take count cs) h) (places_behind with (before ++ take count cs) (drop count cs) h) count (places_behind-length with before (take count cs) h ∙ length-take-le count cs within)
+
+-- the places of a part of the commands
+pub places-part : (with : Use) (cs : List Command) (start count : ℕ) (h : List Event) → start + count ≤ length cs
+    → take count (drop start (places with cs h)) ≡ places_behind with (take start cs) (take count (drop start cs)) h
+places-part with cs start count h within =
+    ap (take count) (places-drop with cs start h (omega arith)) ∙ places-take with (take start cs) (drop start cs) count h (omega (arith, length-drop start cs))
+
+place-is : (h : List Event) (s n : ℕ) (place : Option ℕ) → slice_get (begins_of h s) n ≡ place → IsPlace h place
+place-is h s n None is = tt
+place-is h s n (Some p) is =
+    let within : n < length (begins_of h s) = slice_get_within (begins_of h s) n p is in
+    rw (← get_or_from_slice_get (begins_of h s) n p 0 is) (All-get_or (λ q. q < length h) (begins_of h s) n 0 within (begins_of-below h s))
+
+pub places-are : (with : Use) (before cs : List Command) (h : List Event) → All (IsPlace h) (places_behind with before cs h)
+unfolding places_behind
+places-are with before [] h = All-nil (IsPlace h)
+places-are with before (c ∷ cs) h =
+    All-cons (IsPlace h) (place_behind with before c h) (places_behind with (before ++ c ∷ []) cs h) (place-is h (session_of with c) (count_of with (session_of with c) before) (place_behind with before c h) refl) (places-are with (before ++ c ∷ []) cs h)

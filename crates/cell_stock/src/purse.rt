@@ -1,0 +1,103 @@
+ghost use Rattle.std.specs.Prelude.{◌≡◌, ◌+◌, ◌<◌, ◌≤◌, ◌^◌, ◌∷◌, ◌++◌, [], length, vec_len, vec_capacity, OnOk};
+ghost use Rattle.cell_stock.specs.Stock.{Fills};
+
+use std::alloc::{AllocError, Global};
+use std::marker::Model;
+
+/// A cell that nobody else has, and a stamp that no block had.
+#[derive(Clone, Copy, Debug, PartialEq, Eq)]
+pub struct Spare {
+    pub cell: u32,
+    pub stamp: u64,
+}
+
+/// Spares that an actor took from the stock.
+#[derive(Drop)]
+pub struct Purse {
+    spares: Vec<Spare>,
+}
+
+impl Model for Purse {
+    ghost use Rattle.std.specs.Prelude.{◌-◌, vec_capacity, vec_len};
+    ghost use Rattle.cell_stock.specs.Stock.{PurseValue};
+
+    ghost Value = { PurseValue };
+
+    ghost view = { λ a. record { spares = a.spares.items; room = vec_capacity a.spares - vec_len a.spares } };
+}
+
+impl Purse {
+    /// The empty purse. Takes no memory.
+    pub fn new(alloc: Global) -> Purse
+        ensures { result.spares ≡ [] }
+    {
+        Purse {
+            spares: Vec::new(alloc),
+        }
+    }
+
+    /// Makes room for `n` further spares.
+    pub fn reserve(&mut self, n: u64) -> Result<(), AllocError>
+        ensures spares { self.new.spares ≡ self.old.spares }
+        ensures ok { OnOk result (n ≤ self.new.room) }
+    {
+        self.spares.reserve(n as usize)?;
+        Ok(())
+    }
+
+    /// How many spares there are.
+    pub fn len(&self) -> usize
+        ensures { result ≡ length self.now.spares }
+    {
+        self.spares.len()
+    }
+
+    /// Takes the last spare out. Takes no memory.
+    pub fn next(&mut self) -> Spare
+        requires { 0 < length self.old.spares }
+        ensures taken { self.old.spares ≡ self.new.spares ++ result ∷ [] }
+        ensures room { self.new.room ≡ self.old.room + 1 }
+    {
+        self.spares.take_last()
+    }
+
+    /// Adds spares of these cells, with stamps from `stamp` on. Takes no memory.
+    pub(crate) fn fill(&mut self, cells: &[u32], stamp: u64)
+        requires room { length cells.now ≤ self.old.room }
+        requires stamps { stamp + length cells.now < 2 ^ 63 }
+        ensures filled { Fills cells.now stamp self.old.spares self.new.spares }
+        ensures room { self.new.room + length cells.now ≡ self.old.room }
+    {
+        fill(&mut self.spares, cells, stamp);
+    }
+
+    /// The spares in order.
+    pub(crate) fn spares(&self) -> &[Spare]
+        ensures { result.now ≡ self.now.spares }
+    {
+        self.spares.as_slice()
+    }
+
+    /// Takes all spares out.
+    pub(crate) fn clear(&mut self)
+        ensures spares { self.new.spares ≡ [] }
+        ensures room { self.new.room ≡ self.old.room + length self.old.spares }
+    {
+        self.spares.clear();
+    }
+}
+
+// Adds spares of these cells to a vector with room for them.
+fn fill(spares: &mut Vec<Spare>, cells: &[u32], stamp: u64)
+    requires room { vec_len spares.old + length cells.now ≤ vec_capacity spares.old }
+    requires stamps { stamp + length cells.now < 2 ^ 63 }
+    ensures filled { Fills cells.now stamp spares.old.items spares.new.items }
+    ensures capacity { vec_capacity spares.new ≡ vec_capacity spares.old }
+{
+    for (i, cell) in cells.iter().enumerate() {
+        spares.push_reserved(Spare {
+            cell: *cell,
+            stamp: stamp + i as u64,
+        });
+    }
+}

@@ -1,0 +1,15 @@
+-- An entry put in place of another.
+use Rattle.std.proofs.Common.{◌≡◌, ℕ, ◌+◌, ◌<◌, List, [], ◌∷◌, ◌++◌, length, take, drop, sym, ap, ◌∙◌, add-one, append_assoc}
+use Rattle.std.specs.List.{refill}
+use Rattle.std.specs.Prelude.{slice_set}
+use Rattle.std.proofs.lemmas.List.{take_at, length-set, set_split}
+use Rattle.dc_node.specs.Block.{replaced}
+use Rattle.dc_node.specs.declared.entry.Entry.{Entry}
+
+-- a write through the slice of all entries
+pub set-replaced : (xs ys : List Entry) (place : ℕ) (e : Entry) → ys ≡ xs → place < length xs → refill (length xs) xs (slice_set ys place e) ≡ replaced xs place (e ∷ [])
+set-replaced xs ys place e same within =
+    rw same
+    (take_at (slice_set xs place e) (drop (length (slice_set xs place e)) xs) (length xs) (length-set xs place e)
+    ∙ set_split xs place e within
+    ∙ sym (append_assoc (take place xs) (e ∷ []) (drop (place + 1) xs) ∙ ap (λ n. take place xs ++ e ∷ drop n xs) (add-one place)))

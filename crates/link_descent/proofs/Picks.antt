@@ -1,0 +1,129 @@
+-- The pick of a directory's first entries, and how it grows.
+use Rattle.std.proofs.Common.{ℕ, ◌≡◌, ◌+◌, ◌<◌, ◌≤◌, ◌⊎◌, List, [], ◌∷◌, length, get_or, map, Some, refl, sym, ap, subst, ◌∙◌, arith, inl, inr}
+use Rattle.std.specs.Prelude.{slice_get, option_map}
+use Rattle.std.proofs.lemmas.Bool.{cases_lt}
+use Rattle.std.proofs.lemmas.Option.{slice_get-map, same_Some, slice_get_within, slice_get-get_or}
+use Rattle.dim_hierarchy.specs.Dimension.{Dimension}
+use Rattle.dim_hierarchy.specs.declared.row.Coord.{Coord}
+use Rattle.describing_set.specs.DescSet.{growth_of, size_of}
+use Rattle.describing_set.specs.declared.set.DescSet.{DescSet}
+use Rattle.dc_node.specs.declared.entry.Entry.{Entry}
+use Rattle.link_descent.specs.Pick.{ComesFirst, IsPick}
+
+-- The order, over its numbers: growth, size and place.
+
+abbrev pub Before : ℕ → ℕ → ℕ → ℕ → Type 0
+Before growth_a size_a growth_b size_b = (growth_a < growth_b) ⊎ ((growth_a ≡ growth_b) × (size_a < size_b))
+
+abbrev pub First : ℕ → ℕ → ℕ → ℕ → ℕ → ℕ → Type 0
+First growth_a size_a i growth_b size_b j = (growth_a < growth_b) ⊎ ((growth_a ≡ growth_b) × ((size_a < size_b) ⊎ ((size_a ≡ size_b) × (i ≤ j))))
+
+-- what no other comes before is first, where its place is not later
+first_unless : (ga sa i gb sb j : ℕ) → i ≤ j → ¬ Before gb sb ga sa → First ga sa i gb sb j
+first_unless ga sa i gb sb j le unless = elim (cases_lt ga gb) [
+  | inl less ↦ inl less
+  | inr ge ↦ elim (cases_lt gb ga) [
+    | inl more ↦ absurd (unless (inl more))
+    | inr same ↦ elim (cases_lt sa sb) [
+      | inl smaller ↦ inr (omega arith, inl smaller)
+      | inr not_smaller ↦ elim (cases_lt sb sa) [
+        | inl larger ↦ absurd (unless (inr (omega arith, larger)))
+        | inr as_large ↦ inr (omega arith, inr (omega arith, le))
+      ]
+    ]
+  ]
+]
+
+-- what comes before one that is first is first, at any place
+first_before : (ga sa i gb sb j gc sc k : ℕ) → Before gc sc ga sa → First ga sa i gb sb j → First gc sc k gb sb j
+first_before ga sa i gb sb j gc sc k before first = elim before [
+  | inl less ↦ elim first [ inl a ↦ inl (omega (arith, less, a)) | inr a ↦ inl (omega (arith, less, a.0)) ]
+  | inr less ↦ elim first [
+    | inl a ↦ inl (omega (arith, less.0, a))
+    | inr a ↦ inr (omega (arith, less.0, a.0), inl (elim a.1 [ inl b ↦ omega (arith, less.1, b) | inr b ↦ omega (arith, less.1, b.0) ]))
+  ]
+]
+
+-- The same of sets.
+
+abbrev pub IsBefore : List Dimension → Coord → DescSet → DescSet → Type 0
+IsBefore h at a b = Before (growth_of h a at) (size_of h a) (growth_of h b at) (size_of h b)
+
+pub ComesFirst-unless : (h : List Dimension) (at : Coord) (a : DescSet) (i : ℕ) (b : DescSet) (j : ℕ) → i ≤ j → ¬ IsBefore h at b a → ComesFirst h at a i b j
+ComesFirst-unless h at a i b j = first_unless (growth_of h a at) (size_of h a) i (growth_of h b at) (size_of h b) j
+
+pub ComesFirst-before : (h : List Dimension) (at : Coord) (a : DescSet) (i : ℕ) (b : DescSet) (j : ℕ) (c : DescSet) (k : ℕ) → IsBefore h at c a → ComesFirst h at a i b j → ComesFirst h at c k b j
+ComesFirst-before h at a i b j c k = first_before (growth_of h a at) (size_of h a) i (growth_of h b at) (size_of h b) j (growth_of h c at) (size_of h c) k
+
+not_before_itself : (g s : ℕ) → ¬ Before g s g s
+not_before_itself g s before = elim before [ inl less ↦ omega (arith, less) | inr less ↦ omega (arith, less.1) ]
+
+ComesFirst-same : (h : List Dimension) (at : Coord) (a b : DescSet) (i j : ℕ) → a ≡ b → i ≤ j → ComesFirst h at a i b j
+ComesFirst-same h at a b i j e le =
+    subst (λ s. ComesFirst h at a i s j) e (ComesFirst-unless h at a i a j le (not_before_itself (growth_of h a at) (size_of h a)))
+
+-- the set at a place comes first of the first n
+pub record IsBestOf (h : List Dimension) (at : Coord) (sets : List DescSet) (n best : ℕ) : Type 0 where
+  pub within : best < n
+  pub first : (set other : DescSet) (j : ℕ) → j < n → slice_get sets best ≡ Some set → slice_get sets j ≡ Some other → ComesFirst h at set best other j
+
+pub IsBestOf-one : (h : List Dimension) (at : Coord) (sets : List DescSet) → IsBestOf h at sets 1 0
+IsBestOf-one h at sets = record {
+  within = omega arith;
+  first = λ set other j lt p q.
+      let e : j ≡ 0 = omega arith in
+      ComesFirst-same h at set other 0 j (same_Some set other (sym p ∙ ap (slice_get sets) (sym e) ∙ q)) (omega arith);
+}
+
+pub IsBestOf-keeps : (h : List Dimension) (at : Coord) (sets : List DescSet) (n best : ℕ) (set next : DescSet) → IsBestOf h at sets n best → slice_get sets best ≡ Some set → slice_get sets n ≡ Some next → ¬ IsBefore h at next set → IsBestOf h at sets (n + 1) best
+IsBestOf-keeps h at sets n best set next b here there unless = record {
+  within = let w = b.within in omega (arith, w);
+  first = λ one other j lt p q. elim (cases_lt j n) [
+    | inl less ↦ b.first one other j less p q
+    | inr ge ↦
+        let e : j ≡ n = omega arith in
+        let w = b.within in
+        let one_is : set ≡ one = same_Some set one (sym here ∙ p) in
+        let other_is : next ≡ other = same_Some next other (sym there ∙ ap (slice_get sets) (sym e) ∙ q) in
+        subst (λ s. ComesFirst h at s best other j) one_is
+        (subst (λ s. ComesFirst h at set best s j) other_is (ComesFirst-unless h at set best next j (omega (arith, w, ge)) unless))
+  ];
+}
+
+pub IsBestOf-takes : (h : List Dimension) (at : Coord) (sets : List DescSet) (n best : ℕ) (set next : DescSet) → IsBestOf h at sets n best → slice_get sets best ≡ Some set → slice_get sets n ≡ Some next → IsBefore h at next set → IsBestOf h at sets (n + 1) n
+IsBestOf-takes h at sets n best set next b here there before = record {
+  within = omega arith;
+  first = λ one other j lt p q.
+      let one_is : next ≡ one = same_Some next one (sym there ∙ p) in
+      elim (cases_lt j n) [
+        | inl less ↦ subst (λ s. ComesFirst h at s n other j) one_is (ComesFirst-before h at set best other j next n before (b.first set other j less here q))
+        | inr ge ↦
+            let e : j ≡ n = omega arith in
+            ComesFirst-same h at one other n j (same_Some one other (sym p ∙ ap (slice_get sets) (sym e) ∙ q)) (omega arith)
+      ];
+}
+
+pub IsPick-from_best : (h : List Dimension) (at : Coord) (sets : List DescSet) (n best : ℕ) → n ≡ length sets → IsBestOf h at sets n best → IsPick h at sets best
+IsPick-from_best h at sets n best all b = record {
+  within = let w = b.within in omega (arith, w, all);
+  first = λ set other j p q. b.first set other j (let lt = slice_get_within sets j other q in omega (arith, lt, all)) p q;
+}
+
+-- what the code reads
+pub set_at : (entries : List Entry) (k i : ℕ) (d : Entry) → k ≡ i → k < length entries → slice_get (map (λ e. e.set) entries) i ≡ Some (get_or entries k d).set
+set_at entries k i d same within =
+    ap (slice_get (map (λ e. e.set) entries)) (sym same)
+    ∙ slice_get-map (λ e. e.set) entries k
+    ∙ ap (option_map (λ e. e.set)) (slice_get-get_or entries k d within)
+
+-- the pick of two
+
+pub IsPick-right : (h : List Dimension) (at : Coord) (left right : DescSet) → IsBefore h at right left → IsPick h at (left ∷ right ∷ []) 1
+IsPick-right h at left right before =
+    let sets = left ∷ right ∷ [] in
+    IsPick-from_best h at sets 2 1 refl (IsBestOf-takes h at sets 1 0 left right (IsBestOf-one h at sets) refl refl before)
+
+pub IsPick-left : (h : List Dimension) (at : Coord) (left right : DescSet) → ¬ IsBefore h at right left → IsPick h at (left ∷ right ∷ []) 0
+IsPick-left h at left right unless =
+    let sets = left ∷ right ∷ [] in
+    IsPick-from_best h at sets 2 0 refl (IsBestOf-keeps h at sets 1 0 left right (IsBestOf-one h at sets) refl refl unless)

@@ -1,0 +1,12 @@
+use Rattle.std.proofs.Common.{◌≡◌, [], ◌∷◌, length, take}
+use Rattle.std.specs.Prelude.{All}
+use Rattle.std.specs.List.{AllZip}
+use Rattle.describing_set.specs.DescSet.{IsSetOf, IsDescSetOf}
+use Rattle.link_descent.proofs.divide.row_sets.Given as goal
+
+abbrev pub invariant-loop-row : goal.invariant-loop-row
+invariant-loop-row l = record {
+  sets : AllZip (λ r s. IsSetOf l.h (r.at ∷ []) s) (take l.row-index l.rows) l.sets.items;
+  valid : All (IsDescSetOf l.h) l.sets.items;
+  count : length l.sets.items ≡ l.row-index;
+}

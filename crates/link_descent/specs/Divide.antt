@@ -1,0 +1,69 @@
+-- How a full head is divided in two.
+use Rattle.std.specs.Prelude.{ℕ, ◌≡◌, Some, List, [], ◌∷◌, map, take, drop, slice_get, IsPermutation}
+use Rattle.std.specs.List.{AllZip, range_with_len, filter_map}
+use Rattle.dim_hierarchy.specs.Dimension.{Dimension}
+use Rattle.describing_set.specs.DescSet.{IsSetOf}
+use Rattle.describing_set.specs.declared.set.DescSet.{DescSet}
+use Rattle.hierarchy_split.specs.Cut.{IsDimCut, IsGood, IsGoodCut}
+use Rattle.hierarchy_split.specs.declared.cut.Cut.{Cut}
+use Rattle.dc_node.specs.Block.{size}
+use Rattle.dc_node.specs.declared.block.Body.{Body}
+use Rattle.dc_node.specs.declared.block.Body.TheVariants.{Rows, Entries}
+use Rattle.dc_node.specs.declared.block.Block.{Block}
+
+-- Parts of a body: the items at some places, in their order; the first ones; and the rest.
+
+abbrev pub items_at : {A : Type 0} → List A → List ℕ → List A
+items_at xs places = filter_map (λ place. slice_get xs place) places
+
+abbrev pub body_at : Body → List ℕ → Body
+body_at (Rows rows) places = Rows (record { items = items_at rows.items places })
+body_at (Entries entries) places = Entries (record { items = items_at entries.items places })
+
+abbrev pub front : Body → ℕ → Body
+front (Rows rows) n = Rows (record { items = take n rows.items })
+front (Entries entries) n = Entries (record { items = take n entries.items })
+
+abbrev pub rest : Body → ℕ → Body
+rest (Rows rows) n = Rows (record { items = drop n rows.items })
+rest (Entries entries) n = Entries (record { items = drop n entries.items })
+
+-- half of what a body has room for
+abbrev pub half : Body → ℕ
+half (Rows rows) = 16
+half (Entries entries) = 8
+
+-- the describing sets of the items: of a row that of its coordinate
+abbrev pub AreItemSets : List Dimension → Body → List DescSet → Type 0
+AreItemSets h (Rows rows) sets = AllZip (λ r s. IsSetOf h (r.at ∷ []) s) rows.items sets
+AreItemSets h (Entries entries) sets = sets ≡ map (λ e. e.set) entries.items
+
+-- The block that is divided, as it was and as it is, and the new block in its cell. The old block keeps its cell,
+-- takes the fresh stamp and links to the new one, which has the old stamp and the old link.
+
+abbrev pub left_block : ℕ → ℕ → Body → Block
+left_block cell stamp body = record { stamp = stamp; right = Some cell; body = body }
+
+abbrev pub right_block : Block → Body → Block
+right_block old body = record { stamp = old.stamp; right = old.right; body = body }
+
+-- by the good cut: the left items stay, in cut order, and the right ones go to the new block
+pub record IsCutInTwo (h : List Dimension) (old : Block) (cell stamp : ℕ) (head new : Block) : Type 0 where
+  pub sets : List DescSet
+  pub are_sets : AreItemSets h old.body sets
+  pub cut : Cut
+  pub good : IsGoodCut h sets cut
+  pub order : IsPermutation (range_with_len 0 (size old.body)) cut.order.items
+  pub head_is : head ≡ left_block cell stamp (body_at old.body (take cut.left cut.order.items))
+  pub new_is : new ≡ right_block old (body_at old.body (drop cut.left cut.order.items))
+
+-- there is no good cut
+pub record HasNoCut (h : List Dimension) (body : Body) : Type 0 where
+  pub sets : List DescSet
+  pub are_sets : AreItemSets h body sets
+  pub none : (cut : Cut) → IsDimCut h sets cut → ¬ IsGood h sets cut
+
+-- by halves: the first half of the items goes to the new block, and the rest stays
+pub record IsHalved (old : Block) (cell stamp : ℕ) (head new : Block) : Type 0 where
+  pub head_is : head ≡ left_block cell stamp (rest old.body (half old.body))
+  pub new_is : new ≡ right_block old (front old.body (half old.body))

@@ -1,0 +1,53 @@
+ghost use Rattle.std.specs.Prelude.{◌≡◌, ◌<◌, ◌≤◌, ◌⊎◌, ◌↔◌, length, map, All, IsTrue};
+ghost use Rattle.dim_hierarchy.specs.Row.{IsCoordOf};
+ghost use Rattle.describing_set.specs.DescSet.{growth_of, size_of, IsDescSetOf};
+ghost use Rattle.dc_node.specs.Block.{entries_in, IsBodyOf};
+ghost use Rattle.link_descent.specs.Pick.{IsPick};
+
+use dc_node::{Block, Entry};
+use describing_set::DescSet;
+use dim_hierarchy::{Coord, Hierarchy};
+
+/// Whether the first set is grown less by the coordinate than the second, or as much and is smaller.
+pub fn is_before(a: &DescSet, b: &DescSet, h: &Hierarchy, at: &Coord) -> bool
+    requires a { IsDescSetOf h.now a.now }
+    requires b { IsDescSetOf h.now b.now }
+    requires at { IsCoordOf h.now at.now }
+    ensures { IsTrue result ↔ ((growth_of h.now a.now at.now < growth_of h.now b.now at.now)
+        ⊎ ((growth_of h.now a.now at.now ≡ growth_of h.now b.now at.now)
+        × (size_of h.now a.now < size_of h.now b.now))) }
+{
+    let one = a.growth(h, at);
+    let other = b.growth(h, at);
+    one < other || (one == other && a.size(h) < b.size(h))
+}
+
+/// The place of the entry that comes first for a coordinate.
+fn place_of(entries: &[Entry], h: &Hierarchy, at: &Coord) -> u8
+    requires some { 0 < length entries.now }
+    requires few { length entries.now ≤ 16 }
+    requires sets { All (λ e. IsDescSetOf h.now e.set) entries.now }
+    requires at { IsCoordOf h.now at.now }
+    ensures { IsPick h.now at.now (map (λ e. e.set) entries.now) result }
+{
+    let mut best = 0;
+    for place in 1..entries.len() as u8 {
+        let first = &entries[usize::from(best)].set;
+        let next = &entries[usize::from(place)].set;
+        if is_before(next, first, h, at) {
+            best = place;
+        }
+    }
+    best
+}
+
+/// The place of the entry by which a coordinate goes down: the one whose set is grown least by it,
+/// then the smallest set, then the lowest place. The block is a directory with an entry.
+pub fn pick(block: &Block, h: &Hierarchy, at: &Coord) -> u8
+    requires some { 0 < length (entries_in block.now.body) }
+    requires body { IsBodyOf h.now block.now.body }
+    requires at { IsCoordOf h.now at.now }
+    ensures { IsPick h.now at.now (map (λ e. e.set) (entries_in block.now.body)) result }
+{
+    place_of(block.entries(), h, at)
+}

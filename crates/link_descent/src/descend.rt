@@ -1,0 +1,244 @@
+ghost use Rattle.std.specs.Prelude.{◌≡◌, ◌+◌, ◌^◌, ◌<◌, ◌≤◌, true, false, List, [], ◌∷◌, ◌++◌, length, map, slice_get, All, IfSome};
+ghost use Rattle.dim_hierarchy.specs.Dimension.{Dimension};
+ghost use Rattle.dim_hierarchy.specs.Row.{IsRowOf};
+ghost use Rattle.describing_set.specs.DescSet.{IsDescSetOf};
+ghost use Rattle.dc_node.specs.Block.{rows_in, entries_in, is_leaf, is_full, with_rows, IsBodyOf};
+ghost use Rattle.dc_node.specs.Summary.{row_count};
+ghost use Rattle.shard_store.specs.Gate.{root_entry};
+ghost use Rattle.shard_store.specs.declared.gate.Phase.TheVariants.{Open};
+ghost use Rattle.dc_node.specs.declared.block.Body.TheVariants.{Entries};
+ghost use Rattle.link_descent.specs.Pick.{IsPick};
+ghost use Rattle.link_descent.specs.Descend.{IsWithRow, IsEntryOf, IsShared, StepsDown, Enters};
+ghost use Rattle.link_descent.specs.Room.{MakesRoom, HasRoom, AreNew, IsRaised};
+ghost use Rattle.dc_node.specs.declared.entry.Entry.{Entry};
+
+use crate::choice::is_before;
+use crate::divide::{Division, divide};
+use crate::entered::{Entered, Fresh};
+use cell_stock::Purse;
+use dc_node::{Block, Entry};
+use dim_hierarchy::{Hierarchy, Row};
+use measure_agg::Agg;
+use shard_store::Gate;
+
+/// How room was made for a row at the head of an entry's group.
+#[derive(Drop)]
+pub enum Room {
+    /// The head had room.
+    Had,
+    /// The head was halved, with this new block.
+    Half(Fresh),
+    /// The head was cut in two, with this new block; the entries of both, from left to right.
+    Two(Fresh, Entry, Entry),
+}
+
+/// Counts a row beneath an entry.
+fn add_row(entry: &mut Entry, h: &Hierarchy, row: &Row)
+    requires set { IsDescSetOf h.now entry.old.set }
+    requires row { IsRowOf h.now row.now }
+    requires few { entry.old.agg.count + 1 < 2 ^ 63 }
+    ensures { IsWithRow h.now row.now entry.old entry.new }
+{
+    entry.agg = entry.agg.join(&Agg::one(row.measure));
+    entry.set.grow(h, &row.at);
+}
+
+/// The entry of a block that is a whole group.
+fn entry_of(block: &Block, cell: u32, h: &Hierarchy) -> Entry
+    requires body { IsBodyOf h.now block.now.body }
+    requires few { row_count block.now.body < 2 ^ 63 }
+    ensures { IsEntryOf h.now cell block.now result }
+{
+    let (agg, set) = block.summary(h);
+    Entry {
+        child: cell,
+        stamp: block.stamp,
+        agg,
+        set,
+    }
+}
+
+/// A gate as the entry of its root's group.
+fn root_entry(gate: &Gate) -> Entry
+    ensures { result ≡ root_entry gate.now }
+{
+    Entry {
+        child: gate.root,
+        stamp: gate.stamp,
+        agg: gate.agg,
+        set: gate.set.copy(),
+    }
+}
+
+/// Counts a row beneath that of two entries that comes first for it, and tells that entry's child.
+fn share(left: &mut Entry, right: &mut Entry, h: &Hierarchy, row: &Row) -> u32
+    requires left { IsDescSetOf h.now left.old.set }
+    requires right { IsDescSetOf h.now right.old.set }
+    requires row { IsRowOf h.now row.now }
+    requires few_left { left.old.agg.count + 1 < 2 ^ 63 }
+    requires few_right { right.old.agg.count + 1 < 2 ^ 63 }
+    ensures shared { (chosen : Entry)
+        × IsShared h.now row.now left.old right.old left.new right.new chosen
+        × (result ≡ chosen.child) }
+    ensures left { IsDescSetOf h.now left.new.set }
+    ensures right { IsDescSetOf h.now right.new.set }
+{
+    if is_before(&right.set, &left.set, h, &row.at) {
+        add_row(right, h, row);
+        right.child
+    } else {
+        add_row(left, h, row);
+        left.child
+    }
+}
+
+/// Makes room at the head of an entry's group: where it is full, it is divided.
+fn make_room(head: &mut Block, entry: &Entry, purse: &mut Purse, h: &Hierarchy) -> Room
+    requires body { IsBodyOf h.now head.old.body }
+    requires few { row_count head.old.body < 2 ^ 63 }
+    requires purse { 0 < length purse.old.spares }
+    ensures step { MakesRoom h.now entry.now head.old head.new purse.old purse.new result }
+    ensures head { HasRoom h.now head.new }
+    ensures new { AreNew h.now (row_count head.old.body) result }
+{
+    if !head.is_full() {
+        return Room::Had;
+    }
+    let spare = purse.next();
+    match divide(head, entry.stamp, spare, h) {
+        Division::Halved(block) => Room::Half(Fresh {
+            cell: spare.cell,
+            block,
+        }),
+        Division::Cut(block) => {
+            let left = entry_of(head, entry.child, h);
+            let right = entry_of(&block, spare.cell, h);
+            let fresh = Fresh {
+                cell: spare.cell,
+                block,
+            };
+            Room::Two(fresh, left, right)
+        }
+    }
+}
+
+/// Takes a row from a directory down to a child, the one at the place that `pick` tells. Where the
+/// child is full it is divided first. Tells the new blocks, and where the row is carried then.
+pub fn step_down(
+    parent: &mut Block,
+    place: u8,
+    child: &mut Block,
+    purse: &mut Purse,
+    h: &Hierarchy,
+    row: &Row,
+) -> Entered
+    requires room { is_full parent.old.body ≡ false }
+    requires parent { IsBodyOf h.now parent.old.body }
+    requires child { IsBodyOf h.now child.old.body }
+    requires row { IsRowOf h.now row.now }
+    requires place { IsPick h.now row.now.at (map (λ e. e.set) (entries_in parent.old.body)) place }
+    requires purse { 0 < length purse.old.spares }
+    requires few { IfSome (slice_get (entries_in parent.old.body) place) (λ e. e.agg.count + 1 < 2 ^ 63) }
+    requires few_beneath { row_count child.old.body + 1 < 2 ^ 63 }
+    ensures step { StepsDown h.now row.now place parent.old parent.new child.old child.new purse.old purse.new result }
+    ensures parent { IsBodyOf h.now parent.new.body }
+    ensures child { HasRoom h.now child.new }
+    ensures fresh { All (λ f. HasRoom h.now f.block) result.fresh.items }
+    ensures entries { length (entries_in parent.new.body) ≤ 16 }
+{
+    let place = usize::from(place);
+    let mut entry = parent.entries()[place].copy();
+    match make_room(child, &entry, purse, h) {
+        Room::Had => {
+            let at = entry.child;
+            add_row(&mut entry, h, row);
+            parent.set_entry(place, entry);
+            Entered::none(at)
+        }
+        Room::Half(fresh) => {
+            let at = entry.child;
+            add_row(&mut entry, h, row);
+            parent.set_entry(place, entry);
+            Entered::one(fresh, at)
+        }
+        Room::Two(fresh, left, right) => {
+            let mut left = left;
+            let mut right = right;
+            let at = share(&mut left, &mut right, h, row);
+            parent.split_entry(place, left, right);
+            Entered::one(fresh, at)
+        }
+    }
+}
+
+/// The directory of two entries.
+fn directory_of(stamp: u64, left: Entry, right: Entry) -> Block
+    ensures { result ≡ record { stamp = stamp; right = None; body = Entries (record { items = left ∷ right ∷ [] }) } }
+{
+    let mut block = Block::directory(stamp);
+    block.add_entry(left);
+    block.add_entry(right);
+    block
+}
+
+/// Sets a gate's root to a new directory over the two blocks into which the root was cut.
+fn raise(gate: &mut Gate, cut: Fresh, left: Entry, right: Entry, purse: &mut Purse) -> Entered
+    requires purse { 0 < length purse.old.spares }
+    requires low { gate.old.height + 1 < 2 ^ 32 }
+    ensures { IsRaised gate.old gate.new cut left right purse.old purse.new result }
+{
+    let top = purse.next();
+    gate.root = top.cell;
+    gate.stamp = top.stamp;
+    gate.height += 1;
+    let mut entered = Entered::one(cut, top.cell);
+    entered.fresh.push(Fresh {
+        cell: top.cell,
+        block: directory_of(top.stamp, left, right),
+    });
+    entered
+}
+
+/// Takes a row in at an open gate, to the root of its tree. Where the root is full it is divided
+/// first; where it is cut in two, a new root stands above both, at which the row is carried.
+pub fn enter_root(
+    gate: &mut Gate,
+    root: &mut Block,
+    purse: &mut Purse,
+    h: &Hierarchy,
+    row: &Row,
+) -> Entered
+    requires open { gate.old.phase ≡ Open }
+    requires purse { gate.old.height + 2 ≤ length purse.old.spares }
+    requires root { IsBodyOf h.now root.old.body }
+    requires row { IsRowOf h.now row.now }
+    requires set { IsDescSetOf h.now gate.old.set }
+    requires few { gate.old.agg.count + 1 < 2 ^ 63 }
+    requires few_beneath { row_count root.old.body + 1 < 2 ^ 63 }
+    requires low { gate.old.height + 1 < 2 ^ 32 }
+    ensures step { Enters h.now row.now gate.old gate.new root.old root.new purse.old purse.new result }
+    ensures set { IsDescSetOf h.now gate.new.set }
+    ensures root { HasRoom h.now root.new }
+    ensures fresh { All (λ f. HasRoom h.now f.block) result.fresh.items }
+{
+    let mut entry = root_entry(gate);
+    let room = make_room(root, &entry, purse, h);
+    add_row(&mut entry, h, row);
+    gate.agg = entry.agg;
+    gate.set = entry.set;
+    match room {
+        Room::Had => Entered::none(entry.child),
+        Room::Half(fresh) => Entered::one(fresh, entry.child),
+        Room::Two(fresh, left, right) => raise(gate, fresh, left, right, purse),
+    }
+}
+
+/// Puts a row into a leaf with room, behind its rows.
+pub fn put_leaf(block: &mut Block, row: &Row)
+    requires leaf { is_leaf block.old.body ≡ true }
+    requires room { is_full block.old.body ≡ false }
+    ensures row { block.new ≡ with_rows block.old (rows_in block.old.body ++ row.now ∷ []) }
+    ensures valid { (h : List Dimension) → IsBodyOf h block.old.body → IsRowOf h row.now → IsBodyOf h block.new.body }
+{
+    block.add_row(row);
+}

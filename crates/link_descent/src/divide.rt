@@ -1,0 +1,213 @@
+ghost use Rattle.std.specs.Prelude.{◌≡◌, ◌<◌, ◌≤◌, ◌⊎◌, ◌-◌, true, [], ◌∷◌, length, map, take, drop, All, IfSome, IfNone, IsPermutation};
+ghost use Rattle.std.specs.List.{AllZip, range_with_len};
+ghost use Rattle.dim_hierarchy.specs.Row.{IsRowOf};
+ghost use Rattle.describing_set.specs.DescSet.{IsSetOf, IsDescSetOf};
+ghost use Rattle.dc_node.specs.Block.{size, is_full, IsBodyOf};
+ghost use Rattle.link_descent.specs.Divide.{items_at, body_at, front, rest, half, AreItemSets, left_block, right_block, IsHalved};
+ghost use Rattle.link_descent.specs.Room.{IsCutBy, IsTheCut, WhyHalved, Divides};
+
+use arrayvec::ArrayVec;
+use cell_stock::Spare;
+use dc_node::{Block, Body, Entry};
+use describing_set::DescSet;
+use dim_hierarchy::{Hierarchy, Row};
+use hierarchy_split::{Cut, choose};
+
+/// How a full head was divided, with the new block.
+#[derive(Drop)]
+pub enum Division {
+    /// The new block has the first half of the items.
+    Halved(Block),
+    /// The new block has the items on the right of the good cut.
+    Cut(Block),
+}
+
+/// The describing sets of rows.
+fn row_sets(rows: &[Row], h: &Hierarchy) -> ArrayVec<DescSet, 32>
+    requires many { length rows.now ≤ 32 }
+    requires rows { All (IsRowOf h.now) rows.now }
+    ensures sets { AllZip (λ r s. IsSetOf h.now (r.at ∷ []) s) rows.now result.items }
+    ensures valid { All (IsDescSetOf h.now) result.items }
+    ensures count { length result.items ≡ length rows.now }
+{
+    let mut sets = ArrayVec::new();
+    for row in rows {
+        sets.push(DescSet::of_coord(h, &row.at));
+    }
+    sets
+}
+
+/// The describing sets of entries.
+fn entry_sets(entries: &[Entry]) -> ArrayVec<DescSet, 32>
+    requires { length entries.now ≤ 32 }
+    ensures { result.items ≡ map (λ e. e.set) entries.now }
+{
+    let mut sets = ArrayVec::new();
+    for entry in entries {
+        sets.push(entry.set.copy());
+    }
+    sets
+}
+
+/// The describing sets of a body's items.
+fn item_sets(body: &Body, h: &Hierarchy) -> ArrayVec<DescSet, 32>
+    requires { IsBodyOf h.now body.now }
+    ensures sets { AreItemSets h.now body.now result.items }
+    ensures valid { All (IsDescSetOf h.now) result.items }
+    ensures count { length result.items ≡ size body.now }
+{
+    match body {
+        Body::Rows(rows) => row_sets(rows.as_slice(), h),
+        Body::Entries(entries) => entry_sets(entries.as_slice()),
+    }
+}
+
+/// The good cut of a full head that is its whole group, as it has the stamp that is expected of the
+/// group's last block.
+fn head_cut(head: &Block, expected: u64, h: &Hierarchy) -> Option<Cut>
+    requires full { is_full head.now.body ≡ true }
+    requires body { IsBodyOf h.now head.now.body }
+    ensures cut { IfSome result (IsTheCut h.now head.now expected) }
+    ensures none { IfNone result (WhyHalved h.now head.now expected) }
+{
+    if head.stamp != expected {
+        return None;
+    }
+    choose(item_sets(&head.body, h).as_slice(), h)
+}
+
+/// Copies of the rows at some places.
+fn rows_at(rows: &[Row], places: &[u8]) -> ArrayVec<Row, 32>
+    requires few { length places.now ≤ 32 }
+    requires places { All (λ place. place < length rows.now) places.now }
+    ensures { result.items ≡ items_at rows.now places.now }
+{
+    let mut some = ArrayVec::new();
+    for place in places {
+        some.push(rows[usize::from(*place)]);
+    }
+    some
+}
+
+/// Copies of the entries at some places.
+fn entries_at(entries: &[Entry], places: &[u8]) -> ArrayVec<Entry, 16>
+    requires few { length places.now ≤ 16 }
+    requires places { All (λ place. place < length entries.now) places.now }
+    ensures { result.items ≡ items_at entries.now places.now }
+{
+    let mut some = ArrayVec::new();
+    for place in places {
+        some.push(entries[usize::from(*place)].copy());
+    }
+    some
+}
+
+/// The items of a body at some places.
+fn body_at(body: &Body, places: &[u8]) -> Body
+    requires few { length places.now ≤ size body.now }
+    requires places { All (λ place. place < size body.now) places.now }
+    ensures { result ≡ body_at body.now places.now }
+{
+    match body {
+        Body::Rows(rows) => Body::Rows(rows_at(rows.as_slice(), places)),
+        Body::Entries(entries) => Body::Entries(entries_at(entries.as_slice(), places)),
+    }
+}
+
+/// Copies of all rows.
+fn copy_rows(rows: &[Row]) -> ArrayVec<Row, 32>
+    requires { length rows.now ≤ 32 }
+    ensures { result.items ≡ rows.now }
+{
+    let mut copies = ArrayVec::new();
+    for row in rows {
+        copies.push(*row);
+    }
+    copies
+}
+
+/// Copies of all entries.
+fn copy_entries(entries: &[Entry]) -> ArrayVec<Entry, 16>
+    requires { length entries.now ≤ 16 }
+    ensures { result.items ≡ entries.now }
+{
+    let mut copies = ArrayVec::new();
+    for entry in entries {
+        copies.push(entry.copy());
+    }
+    copies
+}
+
+/// The first half of a full body's items.
+fn first_half(body: &Body) -> Body
+    requires { is_full body.now ≡ true }
+    ensures { result ≡ front body.now (half body.now) }
+{
+    match body {
+        Body::Rows(rows) => Body::Rows(copy_rows(&rows.as_slice()[..16])),
+        Body::Entries(entries) => Body::Entries(copy_entries(&entries.as_slice()[..8])),
+    }
+}
+
+/// The second half of a full body's items.
+fn second_half(body: &Body) -> Body
+    requires { is_full body.now ≡ true }
+    ensures { result ≡ rest body.now (half body.now) }
+{
+    match body {
+        Body::Rows(rows) => Body::Rows(copy_rows(&rows.as_slice()[16..])),
+        Body::Entries(entries) => Body::Entries(copy_entries(&entries.as_slice()[8..])),
+    }
+}
+
+/// Leaves one part of a head's items where they are, under a fresh stamp, and gives a new block to
+/// its right with the other part, the old stamp and the old link.
+fn part(head: &mut Block, stays: Body, goes: Body, spare: Spare) -> Block
+    ensures head { head.new ≡ left_block spare.cell spare.stamp stays }
+    ensures new { result ≡ right_block head.old goes }
+{
+    let new = Block {
+        stamp: head.stamp,
+        right: head.right,
+        body: goes,
+    };
+    head.stamp = spare.stamp;
+    head.right = Some(spare.cell);
+    head.body = stays;
+    new
+}
+
+/// Divides a full head by halves.
+fn halve(head: &mut Block, spare: Spare) -> Block
+    requires { is_full head.old.body ≡ true }
+    ensures { IsHalved head.old spare.cell spare.stamp head.new result }
+{
+    let stays = second_half(&head.body);
+    let goes = first_half(&head.body);
+    part(head, stays, goes, spare)
+}
+
+/// Divides a full head by a cut.
+fn cut_in_two(head: &mut Block, cut: &Cut, spare: Spare) -> Block
+    requires order { IsPermutation (range_with_len 0 (size head.old.body)) cut.now.order.items }
+    requires left { cut.now.left ≤ size head.old.body }
+    ensures { IsCutBy cut.now head.old spare.cell spare.stamp head.new result }
+{
+    let (left, right) = cut.order.as_slice().split_at(usize::from(cut.left));
+    let stays = body_at(&head.body, left);
+    let goes = body_at(&head.body, right);
+    part(head, stays, goes, spare)
+}
+
+/// Divides a full head whose group's last block is expected to have a stamp: by the good cut where
+/// the head is the whole group and has one, else by halves.
+pub fn divide(head: &mut Block, expected: u64, spare: Spare, h: &Hierarchy) -> Division
+    requires full { is_full head.old.body ≡ true }
+    requires body { IsBodyOf h.now head.old.body }
+    ensures { Divides h.now head.old expected spare head.new result }
+{
+    match head_cut(head, expected, h) {
+        Some(cut) => Division::Cut(cut_in_two(head, &cut, spare)),
+        None => Division::Halved(halve(head, spare)),
+    }
+}

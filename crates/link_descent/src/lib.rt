@@ -1,0 +1,18 @@
+//! The steps of queries and inserts on blocks: a visit, and the way of a row down a tree, with the
+//! division of full blocks.
+#![tactic(auto)]
+
+mod choice;
+mod descend;
+mod divide;
+mod entered;
+#[cfg(test)]
+mod tests;
+#[cfg(test)]
+mod visit_tests;
+mod visits;
+
+pub use choice::pick;
+pub use descend::{enter_root, put_leaf, step_down};
+pub use entered::{Entered, Fresh};
+pub use visits::visit;

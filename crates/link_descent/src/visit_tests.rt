@@ -1,0 +1,167 @@
+ghost use Rattle.std.specs.Prelude.{◌≡◌, ◌≢◌, ◌^◌, ◌<◌, length, IfOk, IsSome};
+ghost use Rattle.dim_hierarchy.specs.Row.{IsRowOf};
+ghost use Rattle.dim_hierarchy.specs.Filter.{IsFilterOf};
+ghost use Rattle.describing_set.specs.DescSet.{IsDescSetOf};
+ghost use Rattle.dc_node.specs.Block.{IsBodyOf};
+ghost use Rattle.dc_node.specs.Summary.{row_count};
+
+use crate::visits::visit;
+use dc_node::{Block, Entry, Item, Todo};
+use describing_set::DescSet;
+use dim_hierarchy::{Filter, Hierarchy, Name, NameFilter, NamePick, Names, Row};
+use measure_agg::Agg;
+use std::alloc::{AllocError, Global};
+use std::test::Fail;
+
+/// One dimension of one level, whose concepts are a, b, c and d.
+fn hierarchy(alloc: Global) -> Result<Hierarchy, Fail>
+    ensures { IfOk result (λ h. length h ≡ 1) }
+{
+    let mut h = Hierarchy::new(alloc);
+    let dim = h.add_dim(&Name::from_bytes(alloc, b"place")?, 1)?;
+    for letter in b"abcd" {
+        if h.concepts() >= 0x1000_0000 {
+            return Err(AllocError.into());
+        }
+        let top = h.find_bytes(dim, b"");
+        h.add_concept(dim, &Name::from_bytes(alloc, &[*letter])?, top)?;
+    }
+    Ok(h)
+}
+
+/// A row at the concept of a letter.
+fn row(alloc: Global, h: &Hierarchy, letter: u8, measure: i64) -> Result<Row, Fail>
+    requires { length h.now ≡ 1 }
+    ensures { IfOk result (IsRowOf h.now) }
+{
+    let mut names = Names::new(alloc);
+    names.push(Name::from_bytes(alloc, &[letter])?)?;
+    Ok(Row {
+        no: 0,
+        at: h.coord(&names)?,
+        measure,
+    })
+}
+
+/// The set of the concepts of letters.
+fn set_of(alloc: Global, h: &Hierarchy, letters: &[u8]) -> Result<DescSet, Fail>
+    requires { length h.now ≡ 1 }
+    ensures { IfOk result (IsDescSetOf h.now) }
+{
+    let mut set = DescSet::empty(h);
+    for letter in letters {
+        set.grow(h, &row(alloc, h, *letter, 0)?.at);
+    }
+    Ok(set)
+}
+
+/// The filter that asks for a or b.
+fn a_or_b(alloc: Global, h: &Hierarchy) -> Result<Filter, Fail>
+    requires { length h.now ≡ 1 }
+    ensures { IfOk result (IsFilterOf h.now) }
+{
+    let mut names = Names::new(alloc);
+    names.push(Name::from_bytes(alloc, b"a")?)?;
+    names.push(Name::from_bytes(alloc, b"b")?)?;
+    let mut picks = NameFilter::new(alloc);
+    picks.push(NamePick::Any(names))?;
+    Ok(h.filter(alloc, &picks)?)
+}
+
+/// A leaf of three rows at a, c and b, with a right link.
+fn leaf(alloc: Global, h: &Hierarchy) -> Result<Block, Fail>
+    requires { length h.now ≡ 1 }
+    ensures body { IfOk result (λ block. IsBodyOf h.now block.body) }
+    ensures count { IfOk result (λ block. row_count block.body ≡ 3) }
+    ensures right { IfOk result (λ block. block.right ≡ Some 6) }
+{
+    let first = row(alloc, h, b'a', 5)?;
+    let second = row(alloc, h, b'c', 9)?;
+    let third = row(alloc, h, b'b', -7)?;
+    let mut block = Block::leaf(1);
+    block.add_row(&first);
+    block.add_row(&second);
+    block.add_row(&third);
+    block.right = Some(6);
+    Ok(block)
+}
+
+/// A directory of three entries, each of one row as far as its aggregate says.
+fn directory(alloc: Global, h: &Hierarchy) -> Result<Block, Fail>
+    requires { length h.now ≡ 1 }
+    ensures body { IfOk result (λ block. IsBodyOf h.now block.body) }
+    ensures count { IfOk result (λ block. row_count block.body ≡ 3) }
+    ensures stamp { IfOk result (λ block. block.stamp ≡ 3) }
+{
+    let inside = set_of(alloc, h, b"a")?;
+    let overlapping = set_of(alloc, h, b"bc")?;
+    let apart = set_of(alloc, h, b"d")?;
+    let mut block = Block::directory(3);
+    block.add_entry(entry(4, 6, inside));
+    block.add_entry(entry(9, -1, overlapping));
+    block.add_entry(entry(7, 100, apart));
+    Ok(block)
+}
+
+/// The entry of one row.
+fn entry(child: u32, measure: i64, set: DescSet) -> Entry
+    ensures set { result.set ≡ set }
+    ensures count { result.agg.count ≡ 1 }
+{
+    Entry {
+        child,
+        stamp: 2,
+        agg: Agg::one(measure),
+        set,
+    }
+}
+
+/// What a visit adds to nothing.
+fn visited(
+    block: &Block,
+    stamp: u64,
+    filter: &Filter,
+    h: &Hierarchy,
+    todo: &mut Todo,
+) -> Result<Agg, Fail>
+    requires filter { IsFilterOf h.now filter.now }
+    requires body { IsBodyOf h.now block.now.body }
+    requires link { block.now.stamp ≢ stamp → IsSome block.now.right }
+    requires few { row_count block.now.body < 2 ^ 63 }
+{
+    todo.reserve(17)?;
+    let mut agg = Agg::EMPTY;
+    visit(block, stamp, filter, h, &mut agg, todo);
+    Ok(agg)
+}
+
+#[test]
+fn a_visit_adds_matching_rows(rt: HostRuntime) -> Result<(), Fail> {
+    let alloc = rt.alloc();
+    let h = hierarchy(alloc)?;
+    let filter = a_or_b(alloc, &h)?;
+    let block = leaf(alloc, &h)?;
+    let both = Agg::one(5).join(&Agg::one(-7));
+
+    let mut todo = Todo::new(alloc);
+    assert_eq!(rt; visited(&block, 1, &filter, &h, &mut todo)?, both);
+    assert_eq!(rt; todo.pop(), None);
+    assert_eq!(rt; visited(&block, 2, &filter, &h, &mut todo)?, both);
+    assert_eq!(rt; todo.pop(), Some(Item { cell: 6, stamp: 2 }));
+    assert_eq!(rt; todo.pop(), None);
+    Ok(())
+}
+
+#[test]
+fn a_visit_adds_or_notes_entries(rt: HostRuntime) -> Result<(), Fail> {
+    let alloc = rt.alloc();
+    let h = hierarchy(alloc)?;
+    let filter = a_or_b(alloc, &h)?;
+    let block = directory(alloc, &h)?;
+
+    let mut todo = Todo::new(alloc);
+    assert_eq!(rt; visited(&block, 3, &filter, &h, &mut todo)?, Agg::one(6));
+    assert_eq!(rt; todo.pop(), Some(Item { cell: 9, stamp: 2 }));
+    assert_eq!(rt; todo.pop(), None);
+    Ok(())
+}

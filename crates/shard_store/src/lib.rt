@@ -1,0 +1,10 @@
+//! Shards as a worker keeps them: the gate, which leads to a tree and has a queue beside it.
+#![tactic(auto)]
+
+mod gate;
+mod queue;
+#[cfg(test)]
+mod tests;
+
+pub use gate::{Gate, Phase};
+pub use queue::{Queue, RowList};

@@ -1,0 +1,228 @@
+-- A row comes down from a directory onto the head of an entry's group: the words of the calls' contracts, put as relations
+-- of nodes
+use Rattle.std.proofs.Common.{◌≡◌, ◌≢◌, ℕ, ◌+◌, ◌-◌, ◌≤◌, ◌⊎◌, true, false, eqb, List, [], ◌∷◌, ◌++◌, refl, sym, ap, ◌∙◌, subst, arith}
+use Rattle.std.specs.Prelude.{Some}
+use Rattle.dim_hierarchy.specs.Row.{IsRowOf}
+use Rattle.dc_node.specs.Block.{rows_in, entries_in, is_leaf}
+use Rattle.dc_node.specs.declared.block.Body.{Body}
+use Rattle.dc_node.specs.declared.block.Body.TheVariants.{Rows, Entries}
+use Rattle.dc_node.specs.Summary.{IsSummary}
+use Rattle.link_descent.specs.Descend.{IsWithRow, IsEntryOf}
+use Rattle.dc_node.specs.declared.block.Block.{Block}
+use Rattle.dc_node.specs.declared.entry.Entry.{Entry}
+use Rattle.dim_hierarchy.specs.declared.row.Row.{Row}
+use Rattle.tree_shape.specs.Counts.{Among, Each, times, total}
+use Rattle.tree_shape.specs.Shape.{Node, Shape, Table, node_of, numbers}
+use Rattle.tree_shape.specs.Trees.{EntryOk, TreeOk, lies}
+use Rattle.tree_shape.proofs.Relations.{CutUnder, DownJoined, DownParted, DownPassed, IsSumOf, NoneHas, Relinked, Touch, Touched, parted, rows_of}
+use Rattle.tree_shape.proofs.Walks.{on_bool, eqb-eq, eqb-ne, same_is}
+use Rattle.tree_shape.proofs.Sums.{sum-block}
+use Rattle.tree_shape.proofs.Contents.{ArePartsOf}
+use Rattle.tree_shape.proofs.Divisions.{each-of, each-map}
+use Rattle.tree_shape.proofs.Onto.{child_in, child_head, child_above, entry_ok, touched-one, touched-two}
+
+-- the rows of a leaf of the tree are valid
+pub leaf-valid : (g : Shape) (look : ℕ → Node) (table : Table) (c : ℕ) (block : Block) → TreeOk g look table → g.inside c ≡ true → g.level c ≡ 0 → look c ≡ node_of block
+    → Each (λ r. table.row r.no ≡ r) (rows_in block.body) → ((q : ℕ) → g.placed q ≡ true → IsRowOf table.hierarchy (table.row q)) → Each (IsRowOf table.hierarchy) (rows_in block.body)
+leaf-valid g look table c block tree ci cl is named valid = go (rows_in block.body) named (λ q. ap (λ (x : Node). times q x.rows) (sym is) ∙ tree.leaves c ci cl q)
+  where
+    there : (q : ℕ) → 1 ≤ lies g c q → g.placed q ≡ true
+    there q h = on_bool (g.placed q) (λ p. p) (λ p. let z : lies g c q ≡ 0 = rw p refl in absurd (omega arith))
+
+    all : (rows : List Row) → Each (λ r. table.row r.no ≡ r) rows → ((q : ℕ) → 1 ≤ times q (numbers rows) → g.placed q ≡ true) → Each (IsRowOf table.hierarchy) rows
+    all [] n h = tt
+    all (r ∷ rows) n h =
+        let o = same_is r.no r.no refl in
+        (subst (IsRowOf table.hierarchy) n.0 (valid r.no (h r.no (omega arith))), all rows n.1 (λ q k. h q (omega arith)))
+
+    go : (rows : List Row) → Each (λ r. table.row r.no ≡ r) rows → ((q : ℕ) → times q (numbers rows) ≡ lies g c q) → Each (IsRowOf table.hierarchy) rows
+    go rows n h = all rows n (λ q k. let e = h q in there q (omega arith))
+
+module _ (g : Shape) (look look3 : ℕ → Node) (table : Table) (tree : TreeOk g look table) (r p k : ℕ)
+    (placed : g.placed r ≡ true) (carried : g.carried r ≡ true) (at : g.at r ≡ p) (numbered : IsRowOf table.hierarchy (table.row r)) (pl : g.level p ≡ k + 1)
+    (e : Entry) (before behind : List Entry) (is : (look p).entries ≡ before ++ e ∷ behind)
+    (top_rows : (look3 p).rows ≡ (look p).rows) (top_stamp : (look3 p).stamp ≡ (look p).stamp) (top_right : (look3 p).right ≡ (look p).right) where
+  abbrev c : ℕ
+  c = e.child
+
+  p_in : g.inside p ≡ true
+  p_in = subst (λ y. g.inside y ≡ true) at (tree.shape.stands r placed)
+
+  pub c_in : (g.inside c ≡ true) × (g.level c ≡ k)
+  c_in = child_in g look table tree p k p_in pl e before behind is
+
+  pub c_head : g.head c ≡ c
+  c_head = child_head g look table tree p k p_in pl e before behind is
+
+  c_above : g.above c (k + 1) ≡ g.at r
+  c_above = child_above g look table tree p k p_in pl e before behind is ∙ sym at
+
+  pub c_top : c ≢ p
+  c_top q = let a : g.level c ≡ g.level p = ap g.level q in let b = c_in.1 in absurd (omega arith)
+
+  next : g.level (g.at r) ≡ k + 1
+  next = ap g.level at ∙ pl
+
+  one-touched : (e2 : Entry) → IsWithRow table.hierarchy (table.row r) e e2 → (look3 p).entries ≡ (before ++ e2 ∷ []) ++ behind → Touched table r c (look (g.at r)).entries (look3 (g.at r)).entries
+  one-touched e2 w i = subst (λ y. Touched table r c (look y).entries (look3 y).entries) (sym at) (rw i (touched-one g look table tree p k p_in pl e before behind is r e2 w))
+
+  pub passed : (e2 : Entry) → IsWithRow table.hierarchy (table.row r) e e2 → (look3 p).entries ≡ (before ++ e2 ∷ []) ++ behind → ((y : ℕ) → y ≢ p → look3 y ≡ look y) → DownPassed g look look3 table k c r
+  passed e2 w i other = record {
+    r_placed = placed;
+    r_carried = carried;
+    c_inside = c_in.0;
+    c_level = c_in.1;
+    next = next;
+    c_above = c_above;
+    c_head = c_head;
+    numbered = numbered;
+    top = one-touched e2 w i;
+    top_rows = rw at top_rows;
+    top_stamp = rw at top_stamp;
+    top_right = rw at top_right;
+    other = λ y h. other y (λ q. h (q ∙ sym at));
+  }
+
+  module _ (old head new : Block) (n t : ℕ) (old_is : look c ≡ node_of old) (head_is : look3 c ≡ node_of head) (new_is : look3 n ≡ node_of new)
+      (fresh : g.inside n ≡ false) (unused : NoneHas g look t) (idle : (q : ℕ) → g.placed q ≡ true → g.carried q ≡ true → g.at q ≢ c)
+      (other : (y : ℕ) → y ≢ c → y ≢ n → y ≢ p → look3 y ≡ look y)
+      (parts : ArePartsOf old.body head.body new.body)
+      (head_stamp : head.stamp ≡ t) (head_right : head.right ≡ Some n) (new_stamp : new.stamp ≡ old.stamp) (new_right : new.right ≡ old.right) where
+    pub relinked : Relinked look look3 c n t
+    relinked = record {
+      head_stamp = ap (λ (x : Node). x.stamp) head_is ∙ head_stamp;
+      head_right = ap (λ (x : Node). x.right) head_is ∙ head_right;
+      new_stamp = ap (λ (x : Node). x.stamp) new_is ∙ new_stamp ∙ sym (ap (λ (x : Node). x.stamp) old_is);
+      new_right = ap (λ (x : Node). x.right) new_is ∙ new_right ∙ sym (ap (λ (x : Node). x.right) old_is);
+      other_stamp = λ y yc yn. on_bool (eqb y p)
+          (λ q. let z = eqb-eq _ _ q in rw z top_stamp)
+          (λ q. ap (λ (x : Node). x.stamp) (other y yc yn (eqb-ne _ _ q)));
+      other_right = λ y yc yn. on_bool (eqb y p)
+          (λ q. let z = eqb-eq _ _ q in rw z top_right)
+          (λ q. ap (λ (x : Node). x.right) (other y yc yn (eqb-ne _ _ q)));
+    }
+
+    pub part-rows : (q : ℕ) → times q (look c).rows ≡ times q (look3 c).rows + times q (look3 n).rows
+    part-rows q = rw (old_is, head_is, new_is) (parts.rows q)
+
+    pub part-entries : (f : Entry → ℕ) → total f (look c).entries ≡ total f (look3 c).entries + total f (look3 n).entries
+    part-entries f = rw (old_is, head_is, new_is) (parts.entries f)
+
+    pub part-left : Each (λ x. Among x (look c).entries) (look3 c).entries
+    part-left = rw (old_is, head_is) parts.left_entries
+
+    pub part-right : Each (λ x. Among x (look c).entries) (look3 n).entries
+    part-right = rw (old_is, new_is) parts.right_entries
+
+    pub joins : (e2 : Entry) → IsWithRow table.hierarchy (table.row r) e e2 → (look3 p).entries ≡ (before ++ e2 ∷ []) ++ behind → DownJoined g look look3 table k c n t r
+    joins e2 w i = record {
+      r_placed = placed;
+      r_carried = carried;
+      c_inside = c_in.0;
+      c_level = c_in.1;
+      next = next;
+      c_above = c_above;
+      c_head = c_head;
+      fresh = fresh;
+      free = idle;
+      waits = unused;
+      relinked = relinked;
+      rows = part-rows;
+      entries = part-entries;
+      left = part-left;
+      right = part-right;
+      top = one-touched e2 w i;
+      numbered = numbered;
+      top_rows = rw at top_rows;
+      other = λ y yc yn yt. other y yc yn (λ q. yt (q ∙ sym at));
+    }
+
+    module _ (kind : is_leaf old.body ≡ eqb k 0) (named : Each (λ r. table.row r.no ≡ r) (rows_in old.body)) (valid : (q : ℕ) → g.placed q ≡ true → IsRowOf table.hierarchy (table.row q)) where
+      old-valid : k ≡ 0 → Each (IsRowOf table.hierarchy) (rows_in old.body)
+      old-valid z = leaf-valid g look table c old tree c_in.0 (c_in.1 ∙ z) old_is named valid
+
+      old-sums : Each (λ x. IsSumOf table (g.below x.child) x) (look c).entries
+      old-sums = on_bool (eqb k 0)
+          (λ q. rw old_is (no-entries old.body (kind ∙ q)))
+          (λ q. let z = eqb-ne _ _ q in
+          let lv : g.level c ≡ (k - 1) + 1 = (let w = c_in.1 in omega arith) in
+          each-map (EntryOk g look table (k - 1)) (λ x. IsSumOf table (g.below x.child) x) (look c).entries (λ x w. w.summary) (tree.dirs c (k - 1) c_in.0 lv).entries)
+        where
+          no-entries : (body : Body) → is_leaf body ≡ true → Each (λ x. IsSumOf table (g.below x.child) x) (entries_in body)
+          no-entries (Rows rows) h = tt
+          no-entries (Entries entries) h = cc
+
+      part-sum : (block : Block) (y : ℕ) (a : Entry) → look3 y ≡ node_of block → is_leaf block.body ≡ is_leaf old.body → Each (λ x. Among x (rows_in old.body)) (rows_in block.body)
+          → Each (λ x. Among x (look c).entries) (look3 y).entries → IsSummary table.hierarchy block.body a.agg a.set → IsSumOf table (rows_of g (look3 y) k) a
+      part-sum block y a bi same_kind rows entries s =
+          rw bi (sum-block g table k block a (same_kind ∙ kind)
+          (each-of (λ r. table.row r.no ≡ r) (rows_in old.body) (rows_in block.body) named rows)
+          (λ z. each-of (IsRowOf table.hierarchy) (rows_in old.body) (rows_in block.body) (old-valid z) rows)
+          (subst (λ (x : Node). Each (λ x. IsSumOf table (g.below x.child) x) x.entries) bi (each-of (λ x. IsSumOf table (g.below x.child) x) (look c).entries (look3 y).entries old-sums entries)) s)
+
+      pub splits : (x : ℕ) (a b a2 b2 : Entry) → e.stamp ≡ old.stamp → IsEntryOf table.hierarchy c head a → IsEntryOf table.hierarchy n new b
+          → Touch table r x a a2 → Touch table r x b b2 → (x ≡ c) ⊎ (x ≡ n) → (look3 p).entries ≡ (before ++ a2 ∷ b2 ∷ []) ++ behind → DownParted g look look3 table k c n t r x a b e
+      splits x a b a2 b2 one ea eb ta tb which i = record {
+        r_placed = placed;
+        r_carried = carried;
+        c_inside = c_in.0;
+        c_level = c_in.1;
+        next = next;
+        c_above = c_above;
+        c_head = c_head;
+        fresh = fresh;
+        free = idle;
+        waits = unused;
+        relinked = relinked;
+        rows = part-rows;
+        entries = part-entries;
+        left = part-left;
+        right = part-right;
+        old_ok = entry_ok g look table tree p k p_in pl e before behind is;
+        old_child = refl;
+        one_block = one ∙ sym (ap (λ (x : Node). x.stamp) old_is);
+        a_child = ea.child;
+        a_stamp = ea.stamp ∙ head_stamp;
+        a_sum = part-sum head c a head_is parts.left_kind parts.left_rows part-left ea.summary;
+        b_child = eb.child;
+        b_stamp = eb.stamp ∙ new_stamp ∙ sym (ap (λ (x : Node). x.stamp) old_is);
+        b_sum = part-sum new n b new_is parts.right_kind parts.right_rows part-right eb.summary;
+        chosen = which;
+        top = subst (λ y. Touched table r x (parted c a b (look y).entries) (look3 y).entries) (sym at) (rw i (touched-two g look table tree p k p_in pl e before behind is r n x a b a2 b2 fresh ta tb which));
+        numbered = numbered;
+        top_rows = rw at top_rows;
+        other = λ y yc yn yt. other y yc yn (λ q. yt (q ∙ sym at));
+      }
+
+      -- the same, where no row moves
+      pub cuts-under : (a b : Entry) → e.stamp ≡ old.stamp → IsEntryOf table.hierarchy c head a → IsEntryOf table.hierarchy n new b → (look3 p).entries ≡ parted c a b (look p).entries → CutUnder g look look3 table k c n t p a b e
+      cuts-under a b one ea eb i = record {
+        p_inside = p_in;
+        p_level = pl;
+        c_inside = c_in.0;
+        c_level = c_in.1;
+        c_above = c_above ∙ at;
+        c_head = c_head;
+        fresh = fresh;
+        free = idle;
+        waits = unused;
+        relinked = relinked;
+        rows = part-rows;
+        entries = part-entries;
+        left = part-left;
+        right = part-right;
+        old_ok = entry_ok g look table tree p k p_in pl e before behind is;
+        old_child = refl;
+        one_block = one ∙ sym (ap (λ (x : Node). x.stamp) old_is);
+        a_child = ea.child;
+        a_stamp = ea.stamp ∙ head_stamp;
+        a_sum = part-sum head c a head_is parts.left_kind parts.left_rows part-left ea.summary;
+        b_child = eb.child;
+        b_stamp = eb.stamp ∙ new_stamp ∙ sym (ap (λ (x : Node). x.stamp) old_is);
+        b_sum = part-sum new n b new_is parts.right_kind parts.right_rows part-right eb.summary;
+        top = i;
+        other_rows = λ y yc yn. on_bool (eqb y p)
+            (λ q. let z = eqb-eq _ _ q in rw z top_rows)
+            (λ q. ap (λ (x : Node). x.rows) (other y yc yn (eqb-ne _ _ q)));
+        other = λ y yc yn yp. ap (λ (x : Node). x.entries) (other y yc yn yp);
+      }

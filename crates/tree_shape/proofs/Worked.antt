@@ -1,0 +1,390 @@
+-- The worked example, step by step through the laws
+use Rattle.std.proofs.Common.{◌≡◌, ◌≢◌, ℕ, zero, suc, ◌<◌, ◌≤◌, inl, inr, Bool, true, false, cond, eqb, leb, List, [], ◌∷◌, ◌++◌, length, map, take, drop, refl, sym, ap, ◌∙◌, subst, arith, add-one}
+use Rattle.std.specs.Prelude.{Some, All}
+use Rattle.std.specs.List.{AllZip}
+use Rattle.std.proofs.lemmas.List.Elements.{All-nil, All-cons}
+use Rattle.dim_hierarchy.specs.Dimension.{Dimension}
+use Rattle.dim_hierarchy.specs.declared.row.Coord.{Coord}
+use Rattle.measure_agg.specs.Aggregate.{one}
+use Rattle.describing_set.specs.DescSet.{IsSetOf, GrowsBy}
+use Rattle.describing_set.specs.declared.set.DescSet.{DescSet}
+use Rattle.hierarchy_split.specs.Cut.{leasts, lifted}
+use Rattle.hierarchy_split.specs.Order.{AreEqual, least}
+use Rattle.dc_node.specs.Block.{is_leaf, is_full, rows_in}
+use Rattle.dc_node.specs.declared.block.Body.TheVariants.{Rows}
+use Rattle.cell_stock.specs.Stock.{PurseValue}
+use Rattle.cell_stock.specs.declared.purse.Spare.{Spare}
+use Rattle.shard_store.specs.Gate.{root_entry}
+use Rattle.link_descent.specs.Descend.{IsWithRow, Enters, Halves}
+use Rattle.link_descent.specs.Divide.{HasNoCut}
+use Rattle.link_descent.specs.declared.entered.Entered.{Entered}
+use Rattle.dc_node.specs.declared.block.Block.{Block}
+use Rattle.dc_node.specs.declared.entry.Entry.{Entry}
+use Rattle.dc_node.specs.declared.todo.Item.{Item}
+use Rattle.dim_hierarchy.specs.declared.row.Row.{Row}
+use Rattle.tree_shape.specs.Counts.{Each, times}
+use Rattle.tree_shape.specs.Example.{Asks, Holds, IsAnswered, IsSample, Sample, Works, cells_at, first_rows, gate_after, halved_cells, leaf_of}
+use Rattle.tree_shape.specs.Queries.{IsUnfinished, NoneWaits, fits}
+use Rattle.tree_shape.specs.Shape.{Node, Shape, Table, TreeCells, nodes, numbers}
+use Rattle.tree_shape.specs.Steps.{AfterBegin, AfterPut, AfterStep, AfterVisit, IsIdle, IsSpare, root_items}
+use Rattle.tree_shape.proofs.Walks.{on_bool, eqb-eq, eqb-ne, eqb-no, eqb-yes}
+use Rattle.tree_shape.proofs.Descends.{length-plus}
+use Rattle.tree_shape.proofs.Parts.{each-append}
+use Rattle.tree_shape.proofs.Assembled.{node-gate, root-at}
+use Rattle.tree_shape.proofs.ComesIn.{goes-in}
+use Rattle.tree_shape.proofs.Puts.{after-put}
+use Rattle.dim_hierarchy.specs.declared.filter.Pick.{Pick}
+use Rattle.link_descent.specs.Visit.{noted_in, noted_right}
+use Rattle.tree_shape.proofs.Queries.{leb-le, leb-gt}
+use Rattle.tree_shape.proofs.Rows.{after-all}
+use Rattle.tree_shape.proofs.Beginnings.{after-begin}
+use Rattle.tree_shape.proofs.Readings.{after-visit}
+use Rattle.tree_shape.proofs.Openings.{after-opening}
+
+length-first : (table : Table) (n : ℕ) → length (first_rows table n) ≡ n
+length-first table zero = refl
+length-first table (suc n) = let a = length-plus (first_rows table n) (table.row n ∷ []) in let b = length-first table n in omega arith
+
+-- rows of one place have no cut
+
+all-same : (h : List Dimension) (one : DescSet) (dim level : ℕ) (rows : List Row) → All (λ y. y ≡ least (lifted h dim level one)) (leasts h (map (λ r. one) rows) dim level)
+all-same h one dim level [] = All-nil (λ y. y ≡ least (lifted h dim level one))
+all-same h one dim level (r ∷ rows) = All-cons (λ y. y ≡ least (lifted h dim level one)) (least (lifted h dim level one)) (leasts h (map (λ r. one) rows) dim level) refl (all-same h one dim level rows)
+
+const-equal : (h : List Dimension) (one : DescSet) (dim level : ℕ) (rows : List Row) → AreEqual (leasts h (map (λ r. one) rows) dim level)
+const-equal h one dim level [] = All-nil _
+const-equal h one dim level (r ∷ rows) = all-same h one dim level (r ∷ rows)
+
+module _ (table : Table) (x : Sample) (d : IsSample table x) where
+  off : {A : Type 0} (a b : ℕ) (u v : A) → a ≢ b → cond (eqb a b) u v ≡ v
+  off a b u v q = rw (eqb-no a b q) refl
+
+  on : {A : Type 0} (a : ℕ) (u v : A) → cond (eqb a a) u v ≡ u
+  on a u v = rw (eqb-yes a a refl) refl
+
+  -- one row more at the gate
+  with-row : (n : ℕ) → IsWithRow table.hierarchy (table.row n) (root_entry (gate_after table x n)) (root_entry (gate_after table x (suc n)))
+  with-row n = record {
+    child = refl;
+    stamp = refl;
+    agg = refl;
+    grown = subst (λ (at : Coord). GrowsBy table.hierarchy at (x.set n) (x.set (suc n))) (sym (d.numbered n).1) (subst (λ m. GrowsBy table.hierarchy x.place (x.set n) (x.set m)) (add-one n) (d.grown n));
+    valid = d.valid (suc n);
+  }
+
+  abbrev empty_purse : PurseValue
+  empty_purse = record { spares = []; room = 0 }
+
+  abbrev plain : Entered
+  plain = record { fresh = record { items = [] }; at = x.root }
+
+  root-block : (n m : ℕ) → (cells_at table x n m).block x.root ≡ leaf_of x.stamp (first_rows table m)
+  root-block n m = on x.root (leaf_of x.stamp (first_rows table m)) (leaf_of x.stamp [])
+
+  other-block : (n m y : ℕ) → y ≢ x.root → (cells_at table x n m).block y ≡ leaf_of x.stamp []
+  other-block n m y q = off y x.root (leaf_of x.stamp (first_rows table m)) (leaf_of x.stamp []) q
+
+  -- and what else holds on the way
+  record Filled (n : ℕ) : Type 0 where
+    holds : Holds table (cells_at table x n n) n
+    only : (y : ℕ) → y ≢ x.gate_cell → y ≢ x.root → holds.shape.inside y ≡ false
+
+  start : Filled 0
+  start =
+      let o = after-opening table (cells_at table x 0 0) x.stamp (record { root = root-block 0 0; apart = d.root; stamp = refl; height = refl; agg = refl; set = d.empty }) in
+      record {
+        holds = record {
+          shape = o.shape;
+          tree = o.tree;
+          known = λ r p. let z : true ≡ false = sym p ∙ o.empty r in cc;
+          there = λ r lt. absurd (omega arith);
+          settled = λ r p. let z : true ≡ false = sym p ∙ o.empty r in cc;
+        };
+        only = o.others;
+      }
+
+  next : (n : ℕ) → n < 32 → Filled n → Filled (suc n)
+  next n lt f =
+      let b = f.holds in
+      let g = b.shape in
+      let row_new : g.placed n ≡ false = on_bool (g.placed n) (λ p. let z = b.known n p in absurd (omega arith)) (λ p. p) in
+      let room : is_full ((cells_at table x n n).block x.root).body ≡ false = rw (root-block n n) (let z = length-first table n in eqb-no _ _ (omega arith)) in
+      let idle : IsIdle g x.root = λ q p c e. (let z : true ≡ false = sym c ∙ b.settled q p in cc) in
+      let step : Enters table.hierarchy (table.row n) (gate_after table x n) (gate_after table x (suc n)) ((cells_at table x n n).block x.root) ((cells_at table x (suc n) n).block x.root) empty_purse empty_purse plain =
+      record { step = inl (root_entry (gate_after table x (suc n)), record { gate_is = refl }, record { room = room; entry_is = with-row n; head_is = refl; purse_is = refl; fresh = refl; at = refl }) } in
+      let a = goes-in table g n (cells_at table x n n) (cells_at table x (suc n) n) empty_purse empty_purse plain b.tree (record {
+        gate_now = gate_after table x (suc n);
+        new = row_new;
+        numbered = (d.numbered n).0;
+        valid = (d.numbered n).2;
+        step = step;
+        idle = idle;
+        spares = tt;
+        filled = tt;
+        other = λ y yc fr. refl;
+        gate_cell = refl;
+        gate = record { root = refl; height = refl };
+      }) in
+      let p = after-put table a.shape n (cells_at table x (suc n) n) (cells_at table x (suc n) (suc n)) a.tree (record {
+        leaf = x.root;
+        placed = a.row.placed;
+        carried = a.row.carried;
+        at = a.row.at;
+        kind = ap (λ (z : Block). is_leaf z.body) (root-block (suc n) n);
+        stamp = ap (λ (z : Block). z.stamp) (root-block (suc n) (suc n)) ∙ sym (ap (λ (z : Block). z.stamp) (root-block (suc n) n));
+        right = ap (λ (z : Block). z.right) (root-block (suc n) (suc n)) ∙ sym (ap (λ (z : Block). z.right) (root-block (suc n) n));
+        body = ap (λ (z : Block). z.body) (root-block (suc n) (suc n)) ∙ ap (λ (z : Block). let rows : List Row = rows_in z.body ++ table.row n ∷ [] in Rows (record { items = rows })) (sym (root-block (suc n) n));
+        other = λ y q. other-block (suc n) (suc n) y q ∙ sym (other-block (suc n) n y q);
+        gate_cell = refl;
+        gate = record { root = refl; height = refl };
+      }) in
+      let none : a.used ≡ [] = sym a.purse_is in
+      record {
+        holds = record {
+          shape = p.shape;
+          tree = p.tree;
+          known = λ r pr. on_bool (eqb r n)
+              (λ z. let e = eqb-eq _ _ z in omega arith)
+              (λ z. let k = b.known r (sym (a.row.others_placed r (eqb-ne _ _ z)) ∙ sym (p.placed r) ∙ pr) in omega arith);
+          there = λ r lr. on_bool (eqb r n)
+              (λ z. p.placed r ∙ ap a.shape.placed (eqb-eq _ _ z) ∙ a.row.placed)
+              (λ z. let ne = eqb-ne _ _ z in p.placed r ∙ a.row.others_placed r ne ∙ b.there r (omega arith));
+          settled = λ r pr. on_bool (eqb r n)
+              (λ z. ap p.shape.carried (eqb-eq _ _ z) ∙ p.settled)
+              (λ z. let ne = eqb-ne _ _ z in p.carried r ne ∙ a.row.others_carried r ne ∙ b.settled r (sym (a.row.others_placed r ne) ∙ sym (p.placed r) ∙ pr));
+        };
+        only = λ y yg yr. p.inside y ∙ a.inside y (subst (Each (λ (s : Spare). y ≢ s.cell)) (sym none) tt) ∙ f.only y yg yr;
+      }
+
+  fill : (n : ℕ) → n ≤ 32 → Filled n
+  fill zero le = start
+  fill (suc n) le = next n (omega arith) (fill n (omega arith))
+
+  -- the 33rd row
+
+  item-sets : (rows : List Row) → Each (λ r. r.at ≡ x.place) rows → AllZip (λ r s. IsSetOf table.hierarchy (r.at ∷ []) s) rows (map (λ r. x.set 1) rows)
+  item-sets [] h = tt
+  item-sets (r ∷ rows) h = (subst (λ (at : Coord). IsSetOf table.hierarchy (at ∷ []) (x.set 1)) (sym h.0) ((d.grown 0).grown [] (All-nil _) d.empty), item-sets rows h.1)
+
+  places-first : (n : ℕ) → Each (λ r. r.at ≡ x.place) (first_rows table n)
+  places-first zero = tt
+  places-first (suc n) = each-append (λ r. r.at ≡ x.place) (first_rows table n) (table.row n ∷ []) (places-first n) ((d.numbered n).1, tt)
+
+  no-cut : (rows : List Row) → Each (λ r. r.at ≡ x.place) rows → HasNoCut table.hierarchy (Rows (record { items = rows }))
+  no-cut rows h = record {
+    sets = map (λ r. x.set 1) rows;
+    are_sets = item-sets rows h;
+    none = λ cut c good. c.level.differ (const-equal table.hierarchy (x.set 1) cut.dim cut.level rows);
+  }
+
+  module _ (m : ℕ) (is32 : m ≡ 32) where
+    abbrev before : TreeCells
+    before = cells_at table x m m
+
+    abbrev middle : TreeCells
+    middle = halved_cells table x m (drop 16 (first_rows table m))
+
+    abbrev after : TreeCells
+    after = halved_cells table x m (drop 16 (first_rows table m) ++ table.row m ∷ [])
+
+    abbrev n : ℕ
+    n = x.spare.cell
+
+    abbrev old : Block
+    old = leaf_of x.stamp (first_rows table m)
+
+    abbrev head_of : List Row → Block
+    head_of rows = record { stamp = x.spare.stamp; right = Some x.spare.cell; body = Rows (record { items = rows }) }
+
+    abbrev new : Block
+    new = leaf_of x.stamp (take 16 (first_rows table m))
+
+    abbrev one_spare : PurseValue
+    one_spare = record { spares = x.spare ∷ []; room = 0 }
+
+    abbrev divided : Entered
+    divided = record { fresh = record { items = record { cell = x.spare.cell; block = leaf_of x.stamp (take 16 (first_rows table m)) } ∷ [] }; at = x.root }
+
+    head-block : (rows : List Row) → (halved_cells table x m rows).block x.root ≡ head_of rows
+    head-block rows = on x.root (head_of rows) (cond (eqb x.root n) new (leaf_of x.stamp []))
+
+    new-block : (rows : List Row) → (halved_cells table x m rows).block n ≡ new
+    new-block rows = off n x.root (head_of rows) (cond (eqb n n) new (leaf_of x.stamp [])) d.spare_root ∙ on n new (leaf_of x.stamp [])
+
+    far-block : (rows : List Row) (y : ℕ) → y ≢ x.root → y ≢ n → (halved_cells table x m rows).block y ≡ leaf_of x.stamp []
+    far-block rows y yr yn = off y x.root (head_of rows) (cond (eqb y n) new (leaf_of x.stamp [])) yr ∙ off y n new (leaf_of x.stamp []) yn
+
+    f : Filled m
+    f = fill m (omega arith)
+
+    abbrev b : Holds table before m
+    b = f.holds
+
+    abbrev g : Shape
+    g = b.shape
+
+    root-in : (g.inside x.root ≡ true) × (g.level x.root ≡ 0)
+    root-in = root-at table before g b.tree
+
+    spare-ok : IsSpare g (nodes before) x.spare
+    spare-ok = record {
+      cell = f.only n d.spare_gate d.spare_root;
+      unexpected = λ y l i e. on_bool (eqb y x.gate_cell)
+          (λ q. let z = eqb-eq _ _ q in
+          subst (Each (λ (v : Entry). v.stamp ≢ x.spare.stamp)) (sym (ap (λ (u : ℕ). (nodes before u).entries) z ∙ ap (λ (w : Node). w.entries) (node-gate before))) (d.spare_stamp, tt))
+          (λ q. let yg = eqb-ne _ _ q in on_bool (eqb y x.root)
+          (λ q2. let u = ap g.level (eqb-eq _ _ q2) in let v = root-in.1 in absurd (omega arith))
+          (λ q2. let bad : true ≡ false = sym i ∙ f.only y yg (eqb-ne _ _ q2) in cc));
+    }
+
+    halves : Halves table.hierarchy (table.row m) (root_entry (gate_after table x m)) (root_entry (gate_after table x (suc m))) old (head_of (drop 16 (first_rows table m))) one_spare empty_purse divided
+    halves = record {
+      full = (let z = length-first table m in eqb-yes _ _ (omega arith));
+      why = inr (no-cut (first_rows table m) (places-first m));
+      spare = x.spare;
+      purse_is = refl;
+      new = new;
+      halved = record { head_is = refl; new_is = refl };
+      entry_is = with-row m;
+      fresh = refl;
+      at = refl;
+    }
+
+    step : Enters table.hierarchy (table.row m) (gate_after table x m) (gate_after table x (suc m)) (before.block x.root) (middle.block x.root) one_spare empty_purse divided
+    step = subst (λ (u : Block). Enters table.hierarchy (table.row m) (gate_after table x m) (gate_after table x (suc m)) u (middle.block x.root) one_spare empty_purse divided) (sym (root-block m m))
+        (subst (λ (u : Block). Enters table.hierarchy (table.row m) (gate_after table x m) (gate_after table x (suc m)) old u one_spare empty_purse divided) (sym (head-block (drop 16 (first_rows table m))))
+        (record { step = inr (inl (root_entry (gate_after table x (suc m)), record { gate_is = refl }, halves)) }))
+
+    came : AfterStep table g m x.root 1 before middle (x.spare ∷ []) []
+    came = goes-in table g m before middle one_spare empty_purse divided b.tree (record {
+      gate_now = gate_after table x (suc m);
+      new = on_bool (g.placed m) (λ p. let z = b.known m p in absurd (omega arith)) (λ p. p);
+      numbered = (d.numbered m).0;
+      valid = (d.numbered m).2;
+      step = step;
+      idle = λ q p c e. (let z : true ≡ false = sym c ∙ b.settled q p in cc);
+      spares = (spare-ok, tt, tt);
+      filled = (new-block (drop 16 (first_rows table m)), tt);
+      other = λ y yr fr. far-block (drop 16 (first_rows table m)) y yr fr.0 ∙ sym (other-block m m y yr);
+      gate_cell = refl;
+      gate = record { root = refl; height = refl };
+    })
+
+    put-in : AfterPut table came.shape m middle after
+    put-in = after-put table came.shape m middle after came.tree (record {
+      leaf = x.root;
+      placed = came.row.placed;
+      carried = came.row.carried;
+      at = came.row.at;
+      kind = ap (λ (z : Block). is_leaf z.body) (head-block (drop 16 (first_rows table m)));
+      stamp = ap (λ (z : Block). z.stamp) (head-block (drop 16 (first_rows table m) ++ table.row m ∷ [])) ∙ sym (ap (λ (z : Block). z.stamp) (head-block (drop 16 (first_rows table m))));
+      right = ap (λ (z : Block). z.right) (head-block (drop 16 (first_rows table m) ++ table.row m ∷ [])) ∙ sym (ap (λ (z : Block). z.right) (head-block (drop 16 (first_rows table m))));
+      body = ap (λ (z : Block). z.body) (head-block (drop 16 (first_rows table m) ++ table.row m ∷ [])) ∙ ap (λ (z : Block). let rows : List Row = rows_in z.body ++ table.row m ∷ [] in Rows (record { items = rows })) (sym (head-block (drop 16 (first_rows table m))));
+      other = λ y q. on_bool (eqb y n)
+          (λ z. let e = eqb-eq _ _ z in rw e (new-block (drop 16 (first_rows table m) ++ table.row m ∷ []) ∙ sym (new-block (drop 16 (first_rows table m)))))
+          (λ z. let yn = eqb-ne _ _ z in far-block (drop 16 (first_rows table m) ++ table.row m ∷ []) y q yn ∙ sym (far-block (drop 16 (first_rows table m)) y q yn));
+      gate_cell = refl;
+      gate = record { root = refl; height = refl };
+    })
+
+    all-there : (r : ℕ) → r < suc m → put-in.shape.placed r ≡ true
+    all-there r lr = on_bool (eqb r m)
+        (λ z. put-in.placed r ∙ ap came.shape.placed (eqb-eq _ _ z) ∙ came.row.placed)
+        (λ z. let ne = eqb-ne _ _ z in put-in.placed r ∙ came.row.others_placed r ne ∙ b.there r (omega arith))
+
+    all-settled : (r : ℕ) → put-in.shape.placed r ≡ true → put-in.shape.carried r ≡ false
+    all-settled r pr = on_bool (eqb r m)
+        (λ z. ap put-in.shape.carried (eqb-eq _ _ z) ∙ put-in.settled)
+        (λ z. let ne = eqb-ne _ _ z in put-in.carried r ne ∙ came.row.others_carried r ne ∙ b.settled r (sym (came.row.others_placed r ne) ∙ sym (put-in.placed r) ∙ pr))
+
+    pub halved : Holds table after (suc m)
+    halved = record {
+      shape = put-in.shape;
+      tree = put-in.tree;
+      known = λ r pr. on_bool (eqb r m)
+          (λ z. let e = eqb-eq _ _ z in omega arith)
+          (λ z. let k = b.known r (sym (came.row.others_placed r (eqb-ne _ _ z)) ∙ sym (put-in.placed r) ∙ pr) in omega arith);
+      there = all-there;
+      settled = all-settled;
+    }
+
+    -- a query that noted the root before
+
+    module _ (must : ℕ → Bool) (f2 : List Pick) (a : Asks table x m must f2) where
+      abbrev fit : ℕ → Bool
+      fit = fits table f2
+
+      abbrev first : Item
+      first = record { cell = x.root; stamp = x.stamp }
+
+      abbrev second : Item
+      second = record { cell = x.spare.cell; stamp = x.stamp }
+
+      no-rows_queued : (r : ℕ) → times r (numbers x.gate.queue.rows) ≡ 0
+      no-rows_queued r = ap (λ xs. times r (numbers xs)) a.empty
+
+      begun : AfterBegin table before g must f2 []
+      begun = after-begin table before g must f2 [] b.tree (record {
+        asked = a.asked;
+        queue = a.queue;
+        rows = rw a.empty tt;
+        once = λ r. let z = no-rows_queued r in omega arith;
+        apart = λ r p. let z = no-rows_queued r in omega arith;
+        fitting = λ r h. absurd (omega arith);
+      })
+
+      at-root : root_items table.hierarchy f2 (gate_after table x m) ≡ first ∷ []
+      at-root = rw a.noted refl
+
+      unseen : times m begun.now ≡ 0
+      unseen = on_bool (leb 1 (times m begun.now))
+          (λ q. elim (begun.known m (leb-le _ _ q)) [
+            | inl z ↦ (let y = no-rows_queued m in absurd (omega arith))
+            | inr z ↦ (let y = b.known m z in absurd (omega arith))
+          ])
+          (λ q. let y = leb-gt _ _ q in omega arith)
+
+      used-one : came.used ≡ x.spare ∷ []
+      used-one = sym came.purse_is
+
+      waiting : IsUnfinished put-in.shape (nodes after) must fit (first ∷ []) begun.now
+      waiting =
+          let none : Each (λ (s : Spare). NoneWaits s.stamp (first ∷ [])) came.used = subst (Each (λ (s : Spare). NoneWaits s.stamp (first ∷ []))) (sym used-one) ((d.spare_stamp, tt), tt) in
+          put-in.queries must fit (first ∷ []) begun.now
+          (came.queries must fit (first ∷ []) begun.now none (λ z. (unseen, a.later))
+          (subst (λ items. IsUnfinished g (nodes before) must fit items begun.now) at-root begun.unfinished))
+
+      nobody : (c : ℕ) → IsIdle put-in.shape c
+      nobody c q p ca e = let z : true ≡ false = sym ca ∙ all-settled q p in cc
+
+      here : AfterVisit table after put-in.shape must f2 [] first begun.now
+      here = after-visit table after put-in.shape must f2 [] first begun.now put-in.tree (record { asked = a.asked; unfinished = waiting; block = d.root; idle = nobody x.root })
+
+      to-right : [] ++ noted_in table.hierarchy f2 (after.block x.root).body ++ noted_right (after.block x.root) x.stamp ≡ [] ++ second ∷ []
+      to-right = ap (λ (u : Block). [] ++ noted_in table.hierarchy f2 u.body ++ noted_right u x.stamp) (head-block (drop 16 (first_rows table m) ++ table.row m ∷ []))
+          ∙ (rw (eqb-no x.spare.stamp x.stamp (λ e. d.spare_stamp (sym e))) refl)
+
+      there : AfterVisit table after put-in.shape must f2 [] second here.now
+      there = after-visit table after put-in.shape must f2 [] second here.now put-in.tree (record {
+        asked = a.asked;
+        unfinished = subst (λ items. IsUnfinished put-in.shape (nodes after) must fit items here.now) to-right here.unfinished;
+        block = d.spare_gate;
+        idle = nobody n;
+      })
+
+      to-end : [] ++ noted_in table.hierarchy f2 (after.block n).body ++ noted_right (after.block n) x.stamp ≡ []
+      to-end = ap (λ (u : Block). [] ++ noted_in table.hierarchy f2 u.body ++ noted_right u x.stamp) (new-block (drop 16 (first_rows table m) ++ table.row m ∷ []))
+          ∙ (rw (eqb-yes x.stamp x.stamp refl) refl)
+
+      pub answered : IsAnswered table m must f2
+      answered =
+          let all = after-all put-in.shape (nodes after) must fit there.now (subst (λ items. IsUnfinished put-in.shape (nodes after) must fit items there.now) to-end there.unfinished) in
+          record {
+            counted = there.now;
+            once = all.once;
+            fitting = all.fitting;
+            whole = λ r lt mu ft. all.whole r (all-there r (omega arith)) mu ft;
+          }
+
+  pub works : Works table x
+  works = record { filled = λ n le. (fill n le).holds; halved = halved; answered = answered }

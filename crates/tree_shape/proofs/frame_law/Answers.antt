@@ -1,0 +1,5 @@
+use Rattle.tree_shape.proofs.Others.{after-other}
+use Rattle.tree_shape.proofs.frame_law.Goals as goal
+
+pub returns : goal.returns
+returns _ = λ table g before now tree d. after-other table g before now tree d

@@ -1,0 +1,11 @@
+use Rattle.tree_shape.proofs.ComesIn.{goes-in}
+use Rattle.tree_shape.proofs.Descends.{goes-down}
+use Rattle.tree_shape.proofs.Puts.{after-put}
+use Rattle.tree_shape.proofs.insert_laws.Goals as goal
+
+pub returns : goal.returns
+returns _ = record {
+  comes_in = λ table g r before now purse purse_now entered tree d. goes-in table g r before now purse purse_now entered tree d;
+  goes_down = λ table g r before now purse purse_now entered tree d. goes-down table g r before now purse purse_now entered tree d;
+  put = λ table g r before now tree d. after-put table g r before now tree d;
+}

@@ -1,0 +1,12 @@
+use Rattle.tree_shape.proofs.Readings.{after-visit, elsewhere}
+use Rattle.tree_shape.proofs.Beginnings.{after-begin}
+use Rattle.tree_shape.proofs.Rows.{after-all}
+use Rattle.tree_shape.proofs.query_laws.Goals as goal
+
+pub returns : goal.returns
+returns _ = record {
+  begins = λ table cells g must f counted tree d. after-begin table cells g must f counted tree d;
+  visits = λ table cells g must f items item counted tree d. after-visit table cells g must f items item counted tree d;
+  elsewhere = elsewhere;
+  ends = after-all;
+}

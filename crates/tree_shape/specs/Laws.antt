@@ -1,0 +1,84 @@
+-- The laws: each step keeps the tree, the places of its rows, and every unfinished query.
+use Rattle.std.specs.Prelude.{ℕ, ◌≡◌, ◌≢◌, Bool, true, cond, IsSome, Some, slice_get, List, [], ◌∷◌, ◌++◌, map}
+use Rattle.dim_hierarchy.specs.Dimension.{IsHierarchy}
+use Rattle.measure_agg.specs.Aggregate.{agg}
+use Rattle.describing_set.specs.DescSet.{IsSetOf}
+use Rattle.describing_set.specs.declared.set.DescSet.{DescSet}
+use Rattle.dc_node.specs.Block.{entries_in}
+use Rattle.dc_node.specs.declared.entry.Entry.{Entry}
+use Rattle.dc_node.specs.Summary.{IsSummaryOf, coords}
+use Rattle.tree_shape.specs.Counts.{times}
+use Rattle.dim_hierarchy.specs.declared.filter.Pick.{Pick}
+use Rattle.dc_node.specs.declared.block.Block.{Block}
+use Rattle.dc_node.specs.declared.todo.Item.{Item}
+use Rattle.cell_stock.specs.Stock.{PurseValue}
+use Rattle.link_descent.specs.declared.entered.Entered.{Entered}
+use Rattle.tree_shape.specs.Shape.{Table, Node, TreeCells, nodes, Shape}
+use Rattle.tree_shape.specs.Trees.{IsTree, BlockFits, IsBelow}
+use Rattle.tree_shape.specs.Queries.{IsUnfinished}
+use Rattle.tree_shape.specs.Steps.{Opens, AfterOpening, LeavesTree, AfterOther, GoesDown, GoesIn, AfterStep, IsPut, AfterPut, Visits, AfterVisit, Begins, AfterBegin, CountsElsewhere, AfterAll}
+
+-- a leaf block is the root of a new tree
+abbrev pub OpeningLaw : Block → Type 0
+OpeningLaw leaf = (table : Table) (cells : TreeCells) → Opens table cells leaf → AfterOpening table cells
+
+-- what isn't of a tree doesn't touch it
+abbrev pub OtherLaw : Type 0
+OtherLaw = (table : Table) (g : Shape) (before now : TreeCells) → IsTree table before g → LeavesTree g before now → AfterOther table g before now
+
+-- aggregates and sets go by which rows there are and how often each is
+abbrev pub OrderLaw : Type 0
+OrderLaw = (table : Table) (ns ms : List ℕ) (set : DescSet) → ((r : ℕ) → times r ns ≡ times r ms)
+    → (agg (map table.row ns) ≡ agg (map table.row ms)) × (IsSetOf table.hierarchy (coords (map table.row ns)) set → IsSetOf table.hierarchy (coords (map table.row ms)) set)
+
+-- the gate tells of the rows of its tree, each once
+abbrev pub GateLaw : Type 0
+GateLaw = (table : Table) (cells : TreeCells) (g : Shape) → IsTree table cells g → (ns : List ℕ) → ((r : ℕ) → times r ns ≡ cond (g.placed r) 1 0)
+    → IsSummaryOf table.hierarchy (map table.row ns) cells.gate.agg cells.gate.set
+
+-- a block of the tree is such as the calls ask for, and its group goes on where a walk does
+abbrev pub BlockLaw : Type 0
+BlockLaw = (table : Table) (cells : TreeCells) (g : Shape) (b : ℕ) → IsTree table cells g → IsHierarchy table.hierarchy → g.inside b ≡ true → b ≢ cells.gate_cell → BlockFits table cells b
+
+-- an entry leads to a block one level below its directory, and the gate to one below itself
+abbrev pub ChildLaw : Type 0
+ChildLaw = (table : Table) (cells : TreeCells) (g : Shape) (b place : ℕ) (e : Entry) → IsTree table cells g → g.inside b ≡ true → b ≢ cells.gate_cell
+    → slice_get (entries_in (cells.block b).body) place ≡ Some e → IsBelow cells g e.child (g.level b)
+
+abbrev pub RootLaw : Type 0
+RootLaw = (table : Table) (cells : TreeCells) (g : Shape) → IsTree table cells g → IsBelow cells g cells.gate.root cells.gate.height
+
+abbrev pub LinkLaw : Type 0
+LinkLaw = (cells : TreeCells) (g : Shape) (must fits : ℕ → Bool) (items : List Item) (item : Item) (counted : List ℕ) → item.cell ≢ cells.gate_cell
+    → IsUnfinished g (nodes cells) must fits (items ++ item ∷ []) counted
+    → (g.inside item.cell ≡ true) × ((cells.block item.cell).stamp ≢ item.stamp → IsSome (cells.block item.cell).right)
+
+-- a row comes in at the gate, with or without a division of the root's head, or under a new root
+abbrev pub InLaw : Type 0
+InLaw = (table : Table) (g : Shape) (r : ℕ) (before now : TreeCells) (purse purse_now : PurseValue) (entered : Entered) → IsTree table before g
+    → GoesIn table g r before now purse purse_now entered → AfterStep table g r entered.at now.gate.height before now purse.spares purse_now.spares
+
+-- a row goes down by an entry, with or without a division of the head that the entry leads to
+abbrev pub DownLaw : Type 0
+DownLaw = (table : Table) (g : Shape) (r : ℕ) (before now : TreeCells) (purse purse_now : PurseValue) (entered : Entered) → IsTree table before g
+    → GoesDown table g r before now purse purse_now entered → AfterStep table g r entered.at (g.level (g.at r)) before now purse.spares purse_now.spares
+
+-- a row is put in its leaf
+abbrev pub PutLaw : Type 0
+PutLaw = (table : Table) (g : Shape) (r : ℕ) (before now : TreeCells) → IsTree table before g → IsPut table g r before now → AfterPut table g r before now
+
+-- a query begins at the gate, visits a block, counts at other gates, and ends
+
+abbrev pub BeginLaw : Type 0
+BeginLaw = (table : Table) (cells : TreeCells) (g : Shape) (must : ℕ → Bool) (f : List Pick) (counted : List ℕ) → IsTree table cells g → Begins table cells g f counted → AfterBegin table cells g must f counted
+
+abbrev pub VisitLaw : Type 0
+VisitLaw = (table : Table) (cells : TreeCells) (g : Shape) (must : ℕ → Bool) (f : List Pick) (items : List Item) (item : Item) (counted : List ℕ) → IsTree table cells g
+    → Visits table cells g must f items item counted → AfterVisit table cells g must f items item counted
+
+abbrev pub ElsewhereLaw : Type 0
+ElsewhereLaw = (g : Shape) (look : ℕ → Node) (must fits : ℕ → Bool) (items : List Item) (counted now : List ℕ)
+    → CountsElsewhere g fits counted now → IsUnfinished g look must fits items counted → IsUnfinished g look must fits items now
+
+abbrev pub EndLaw : Type 0
+EndLaw = (g : Shape) (look : ℕ → Node) (must fits : ℕ → Bool) (counted : List ℕ) → IsUnfinished g look must fits [] counted → AfterAll g must fits counted

@@ -1,0 +1,63 @@
+//! What it means that cells hold a tree of blocks, where each row is, and what an unfinished query has
+//! still before it; and that the steps of inserts and queries keep it.
+#![tactic(auto)]
+
+ghost use Rattle.std.specs.Prelude.{◌≡◌};
+ghost use Rattle.tree_shape.specs.Trees.{leaf_without_rows};
+ghost use Rattle.tree_shape.specs.Example.{ExampleLaw};
+ghost use Rattle.tree_shape.specs.Laws.{OpeningLaw, OrderLaw, GateLaw, BlockLaw, ChildLaw, RootLaw, LinkLaw, OtherLaw, InLaw, DownLaw, PutLaw, BeginLaw, VisitLaw, ElsewhereLaw, EndLaw};
+
+use arrayvec::ArrayVec;
+use dc_node::{Block, Body};
+
+/// The root with which a tree begins: a leaf that is its own group. Takes no memory.
+pub fn empty_leaf(stamp: u64) -> Block
+    ensures block { result ≡ leaf_without_rows stamp }
+    ensures opens { OpeningLaw result }
+{
+    Block {
+        stamp,
+        right: None,
+        body: Body::Rows(ArrayVec::new()),
+    }
+}
+
+/// Aggregates and sets go by which rows there are, so a gate tells of its tree's rows; and each block
+/// of a tree is such as the steps ask for.
+pub fn tree_laws()
+    ensures order { OrderLaw }
+    ensures gate { GateLaw }
+    ensures block { BlockLaw }
+    ensures child { ChildLaw }
+    ensures root { RootLaw }
+    ensures link { LinkLaw }
+{}
+
+/// What a step does to other trees' blocks, to the queue or to the rest of a gate leaves a tree as it
+/// is.
+pub fn frame_law()
+    ensures { OtherLaw }
+{}
+
+/// The steps of inserts leave a tree, with the rows where the steps say, and every unfinished query
+/// right.
+pub fn insert_laws()
+    ensures comes_in { InLaw }
+    ensures goes_down { DownLaw }
+    ensures put { PutLaw }
+{}
+
+/// One tree taken through the laws: 33 rows of one place come to an empty leaf, and a query that began
+/// before the last of them is answered after it.
+pub fn worked_example()
+    ensures { ExampleLaw }
+{}
+
+/// The steps of a query leave it right, and with nothing noted any more it has counted what it had to,
+/// each row once.
+pub fn query_laws()
+    ensures begins { BeginLaw }
+    ensures visits { VisitLaw }
+    ensures elsewhere { ElsewhereLaw }
+    ensures ends { EndLaw }
+{}
