@@ -1,4 +1,6 @@
 use crate::{Outcome, Status, olap};
+use answer_text::{phase, told};
+use script_form::read_script;
 use std::alloc::{AllocError, Global};
 use std::process::Abort;
 use std::sync::Wait;
@@ -314,5 +316,30 @@ fn words_that_are_not_known(rt: HostRuntime) -> Result<(), Fail> {
     assert_eq!(rt; outcome.status, Status::Done);
     assert_eq!(rt; outcome.ledger.len(), 4);
     assert_eq!(rt; sink.taken(), b"1 insert ok\n2 query 1 5 5 5\n".as_slice());
+    Ok(())
+}
+
+#[test]
+fn a_history_tells_what_was_printed(rt: HostRuntime) -> Result<(), Fail> {
+    let alloc = rt.alloc();
+    let text = on_base(
+        alloc,
+        b"insert,0,5,berlin\ninsert,1,7,paris\nbarrier\nquery,1,*\nquery,0,rome\nbarrier\ninsert,1,-9,berlin\nquery,0,de",
+    )?;
+    let mut source = MemSource::new(text.clone()?, Vec::new(alloc), 4096);
+    let mut sink = MemSink::new(alloc, 1000, Vec::new(alloc), 4096)?;
+    let outcome = step(&rt, alloc, &mut source, &mut sink)?;
+    assert!(rt; text.len() < 1000);
+    let Ok(script) = read_script(alloc, &text) else {
+        panic!(rt; "the script is good");
+    };
+    let history = outcome.ledger.history();
+    let told = told(alloc, &script.with, &script.commands, &history)?;
+    assert_eq!(rt; told.as_slice(), sink.taken());
+    let middle = phase(alloc, &script.with, &script.commands, &history, 1)?;
+    assert_eq!(rt;
+        middle.as_slice(),
+        b"4 query 1 5 5 5\n5 query unknown 0\n6 barrier ok\n".as_slice()
+    );
     Ok(())
 }
