@@ -32,7 +32,7 @@ use Rattle.tree_shape.specs.Walks.{AreNoted, IsNoted, IsTail, Noted, pending}
 use Rattle.tree_shape.proofs.Relations.{IsSumOf, Note, Skip, Take, Verdict, VerdictOk, fitting, left_over, notes, takes}
 use Rattle.tree_shape.proofs.Walks.{on_bool, eqb-eq, eqb-ne, eqb-no, eqb-yes}
 use Rattle.tree_shape.proofs.Sums.{coords-valid}
-use Rattle.tree_shape.proofs.Visits.{unplaced, times-fitting, times-unfitting, query-visit_dir, query-visit_leaf, pending-append, all_noted-append, times-append}
+use Rattle.tree_shape.proofs.Visits.{unplaced, times-fitting, times-unfitting, query-visit_dir, query-visit_leaf, leaf-split, pending-fewer, pending-append, all_noted-append, times-append}
 use Rattle.tree_shape.proofs.Assembled.{node-block}
 
 -- The order of noted blocks and of counted rows doesn't matter.
@@ -242,6 +242,9 @@ module _ (table : Table) (cells : TreeCells) (g : Shape) (must : ℕ → Bool) (
   p-noted : IsNoted g look p
   p-noted = (noted-right g look ps (p ∷ []) all-noted).0
 
+  was : (y : ℕ) → pending g (p ∷ ps) y ≡ pending g d.unfinished.noted y
+  was y = let e : pending g (ps ++ p ∷ []) y ≡ pending g d.unfinished.noted y = ap (λ xs. pending g xs y) (sym w.is) in omega (arith, e, pending-append g ps (p ∷ []) y)
+
   -- that block first
   q : QueryOk g look must fit (p ∷ ps) counted
   q = query-order g look must fit (ps ++ p ∷ []) (p ∷ ps) counted (p-noted, noted-left g look ps (p ∷ []) all-noted)
@@ -277,7 +280,7 @@ module _ (table : Table) (cells : TreeCells) (g : Shape) (must : ℕ → Bool) (
       (λ pr. inr pr)
       (λ pr. let z = none pr in let s = times-append r more counted in inl (omega arith))
 
-  at-leaf : p.level ≡ 0 → AfterVisit table cells g must f items item counted
+  at-leaf : p.level ≡ 0 → AfterVisit table cells g must f items item counted d.unfinished.noted
   at-leaf z =
       let bl : g.level b ≡ 0 = b_in.1 ∙ z in
       let kind : is_leaf block.body ≡ true = ok.kind ∙ eqb-yes (g.level b) 0 bl in
@@ -299,9 +302,17 @@ module _ (table : Table) (cells : TreeCells) (g : Shape) (must : ℕ → Bool) (
             let z : lies g b r ≡ 0 = rw pr refl in
             let y = tree.tree.leaves b b_in.0 bl r in
             omega arith);
+        kept = λ r. omega (arith, times-append r (fitting fit (look b).rows) counted);
+        fewer = λ y yi. omega (
+          arith,
+          was y,
+          pending-append g ps lo y,
+          pending-append g lo ps y,
+          leaf-split g look must fit b p p-noted.walks.0 ps counted tree.tree.shape (tree.tree.leaves b b_in.0 bl) b_in.0 bl d.idle at_b z q y yi,
+        );
       }
 
-  at-directory : p.level ≢ 0 → AfterVisit table cells g must f items item counted
+  at-directory : p.level ≢ 0 → AfterVisit table cells g must f items item counted d.unfinished.noted
   at-directory z =
       let l : ℕ = p.level - 1 in
       let pl : p.level ≡ l + 1 = omega arith in
@@ -328,7 +339,17 @@ module _ (table : Table) (cells : TreeCells) (g : Shape) (must : ℕ → Bool) (
         };
         total = agg-both table (takes g v (look b).entries) counted ∙ ap (λ x. join (agg (map table.row counted)) x) (takes-are g look table f l (look b).entries dir.entries ∙ ap (λ xs. joined (aggs (taken table.hierarchy f xs))) es ∙ sym part.1);
         known = λ r h. seen-before r (takes g v (look b).entries) h (unplaced g look table fit v b l (look b).entries r dir.entries);
+        kept = λ r. omega (arith, times-append r (takes g v (look b).entries) counted);
+        fewer = λ y yi. omega (
+          arith,
+          was y,
+          pending-append g (ps ++ ns) lo y,
+          pending-append g ps ns y,
+          pending-append g ns (lo ++ ps) y,
+          pending-append g lo ps y,
+          pending-fewer g look table must fit v b l p p-noted.walks.0 ps counted tree.tree.shape dir b_in.0 bl d.idle at_b pl (judged-all g look table f l (look b).entries d.asked dir.entries) q y yi,
+        );
       }
 
-  pub after-visit : AfterVisit table cells g must f items item counted
+  pub after-visit : AfterVisit table cells g must f items item counted d.unfinished.noted
   after-visit = on_bool (eqb p.level 0) (λ z. at-leaf (eqb-eq _ _ z)) (λ z. at-directory (eqb-ne _ _ z))

@@ -1,5 +1,5 @@
 -- A query visits a block
-use Rattle.std.proofs.Common.{◌≡◌, ◌≢◌, ℕ, ◌+◌, ◌<◌, ◌≤◌, Bool, true, false, leb, List, [], ◌∷◌, ◌++◌, refl, sym, ap, ◌∙◌, arith}
+use Rattle.std.proofs.Common.{◌≡◌, ◌≢◌, ℕ, ◌+◌, ◌<◌, ◌≤◌, Bool, true, false, leb, eqb, List, [], ◌∷◌, ◌++◌, refl, sym, ap, ◌∙◌, arith}
 use Rattle.dc_node.specs.declared.entry.Entry.{Entry}
 use Rattle.tree_shape.specs.Counts.{Each, same, times, total}
 use Rattle.tree_shape.specs.Queries.{QueryOk, fits}
@@ -7,7 +7,7 @@ use Rattle.tree_shape.specs.Shape.{Node, Shape, ShapeOk, Table}
 use Rattle.tree_shape.specs.Trees.{DirOk, EntryOk, lies}
 use Rattle.tree_shape.specs.Walks.{AreNoted, IsNoted, IsTail, Noted, noted_of, pending, reach}
 use Rattle.tree_shape.proofs.Relations.{Note, Skip, Take, Verdict, VerdictOk, fitting, left_over, notes, takes}
-use Rattle.tree_shape.proofs.Walks.{on_bool, same_not}
+use Rattle.tree_shape.proofs.Walks.{on_bool, same_not, eqb-eq, eqb-ne}
 use Rattle.tree_shape.proofs.Queries.{leb-le, leb-gt, reach-low, reach-high}
 
 pub times-append : (r : ℕ) (xs ys : List ℕ) → times r (xs ++ ys) ≡ times r xs + times r ys
@@ -204,6 +204,22 @@ module _ (g : Shape) (look : ℕ → Node) (table : Table) (must fits : ℕ → 
       let z = left-high g p.stamp p.level zs y gt2 in
       omega arith))
 
+  -- and b less often
+  pub pending-fewer : (y : ℕ) → g.inside y ≡ true → pending g after_visit y + same y b ≤ pending g (p ∷ ps) y
+  pending-fewer y yi =
+      let more = pending-no_more y yi in
+      on_bool (eqb (g.level y) (l + 1))
+      (λ c. let lev : g.level y ≡ l + 1 = eqb-eq _ _ c in
+      let self : g.above y (l + 1) ≡ y = ap (g.above y) (sym lev) ∙ ok.itself y yi in
+      let a = pending-after y in
+      let n = none_noted g look table fits v b l (look b).entries y (omega arith) in
+      let r = reach-split y (omega arith) in
+      let s : same (g.above y (l + 1)) b ≡ same y b = ap (λ (w : ℕ). same w b) self in
+      omega arith)
+      (λ c. let ne : g.level y ≢ l + 1 = eqb-ne _ _ c in
+      let s = same_not y b (λ e. ne (ap g.level e ∙ bl)) in
+      omega arith)
+
   -- a row is counted and pending as often as before; one that is skipped does not fit
   sum_low : (r : ℕ) → g.placed r ≡ true → g.level (g.at r) ≤ l
       → (times r (takes g v (look b).entries) + pending g after_visit (g.at r)) + times r (skips g v (look b).entries) ≡ pending g (p ∷ ps) (g.at r)
@@ -318,7 +334,7 @@ module _ (g : Shape) (look : ℕ → Node) (must fits : ℕ → Bool) (b : ℕ) 
   abbrev pub after_leaf : List Noted
   after_leaf = left_over p.stamp p.level zs ++ ps
 
-  leaf-split : (y : ℕ) → g.inside y ≡ true → pending g (p ∷ ps) y ≡ same y b + pending g after_leaf y
+  pub leaf-split : (y : ℕ) → g.inside y ≡ true → pending g (p ∷ ps) y ≡ same y b + pending g after_leaf y
   leaf-split y yi =
       let a = pending-append g (left_over p.stamp p.level zs) ps y in
       on_bool (leb (g.level y) 0)

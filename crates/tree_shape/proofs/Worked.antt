@@ -357,17 +357,20 @@ module _ (table : Table) (x : Sample) (d : IsSample table x) where
       nobody : (c : ℕ) → IsIdle put-in.shape c
       nobody c q p ca e = let z : true ≡ false = sym ca ∙ all-settled q p in cc
 
-      here : AfterVisit table after put-in.shape must f2 [] first begun.now
+      here : AfterVisit table after put-in.shape must f2 [] first begun.now waiting.noted
       here = after-visit table after put-in.shape must f2 [] first begun.now put-in.tree (record { asked = a.asked; unfinished = waiting; block = d.root; idle = nobody x.root })
 
       to-right : [] ++ noted_in table.hierarchy f2 (after.block x.root).body ++ noted_right (after.block x.root) x.stamp ≡ [] ++ second ∷ []
       to-right = ap (λ (u : Block). [] ++ noted_in table.hierarchy f2 u.body ++ noted_right u x.stamp) (head-block (drop 16 (first_rows table m) ++ table.row m ∷ []))
           ∙ (rw (eqb-no x.spare.stamp x.stamp (λ e. d.spare_stamp (sym e))) refl)
 
-      there : AfterVisit table after put-in.shape must f2 [] second here.now
+      waiting-right : IsUnfinished put-in.shape (nodes after) must fit ([] ++ second ∷ []) here.now
+      waiting-right = subst (λ items. IsUnfinished put-in.shape (nodes after) must fit items here.now) to-right here.unfinished
+
+      there : AfterVisit table after put-in.shape must f2 [] second here.now waiting-right.noted
       there = after-visit table after put-in.shape must f2 [] second here.now put-in.tree (record {
         asked = a.asked;
-        unfinished = subst (λ items. IsUnfinished put-in.shape (nodes after) must fit items here.now) to-right here.unfinished;
+        unfinished = waiting-right;
         block = d.spare_gate;
         idle = nobody n;
       })

@@ -74,7 +74,7 @@ BeginLaw = (table : Table) (cells : TreeCells) (g : Shape) (must : ℕ → Bool)
 
 abbrev pub VisitLaw : Type 0
 VisitLaw = (table : Table) (cells : TreeCells) (g : Shape) (must : ℕ → Bool) (f : List Pick) (items : List Item) (item : Item) (counted : List ℕ) → IsTree table cells g
-    → Visits table cells g must f items item counted → AfterVisit table cells g must f items item counted
+    → (v : Visits table cells g must f items item counted) → AfterVisit table cells g must f items item counted v.unfinished.noted
 
 abbrev pub ElsewhereLaw : Type 0
 ElsewhereLaw = (g : Shape) (look : ℕ → Node) (must fits : ℕ → Bool) (items : List Item) (counted now : List ℕ)

@@ -21,9 +21,10 @@ use Rattle.shard_store.specs.declared.gate.Gate.{Gate}
 use Rattle.link_descent.specs.Visit.{matching, taken, noted, noted_in, noted_right, counted as block_part}
 use Rattle.link_descent.specs.Descend.{StepsDown, Enters}
 use Rattle.link_descent.specs.declared.entered.Entered.{Entered}
-use Rattle.tree_shape.specs.Counts.{Each, times}
+use Rattle.tree_shape.specs.Counts.{Each, same, times}
 use Rattle.tree_shape.specs.Shape.{Table, Node, TreeCells, nodes, Shape, numbers}
 use Rattle.tree_shape.specs.Trees.{IsTree}
+use Rattle.tree_shape.specs.Walks.{Noted, pending}
 use Rattle.tree_shape.specs.Queries.{IsUnfinished, NoneWaits, fits}
 
 -- Spares: the cell is of no block of the tree, and no entry of the tree expects the stamp.
@@ -179,13 +180,17 @@ pub record Visits (table : Table) (cells : TreeCells) (g : Shape) (must : ℕ �
   pub block : item.cell ≢ cells.gate_cell
   pub idle : IsIdle g item.cell
 
--- With what it counts there and what it notes there the query is right. What it counts is in the tree.
-pub record AfterVisit (table : Table) (cells : TreeCells) (g : Shape) (must : ℕ → Bool) (f : List Pick) (items : List Item) (item : Item) (counted : List ℕ) : Type 0 where
+-- With what it counts there and what it notes there the query is right. What it counts is in the tree, and what it has
+-- counted it keeps. No block is reached more often than from the blocks noted before, and the visited one less often, so
+-- that visits come to an end.
+pub record AfterVisit (table : Table) (cells : TreeCells) (g : Shape) (must : ℕ → Bool) (f : List Pick) (items : List Item) (item : Item) (counted : List ℕ) (before : List Noted) : Type 0 where
   pub now : List ℕ
   pub unfinished : IsUnfinished g (nodes cells) must (fits table f)
       (items ++ noted_in table.hierarchy f (cells.block item.cell).body ++ noted_right (cells.block item.cell) item.stamp) now
   pub total : agg (map table.row now) ≡ join (agg (map table.row counted)) (block_part table.hierarchy f (cells.block item.cell).body)
   pub known : (r : ℕ) → 1 ≤ times r now → (1 ≤ times r counted) ⊎ (g.placed r ≡ true)
+  pub kept : (r : ℕ) → times r counted ≤ times r now
+  pub fewer : (y : ℕ) → g.inside y ≡ true → pending g unfinished.noted y + same y item.cell ≤ pending g before y
 
 -- What a query finds at a gate: the queue's rows are in no tree, and none of them is there twice. What it has counted
 -- before, at other gates, fits and is neither in this queue nor in this tree.
