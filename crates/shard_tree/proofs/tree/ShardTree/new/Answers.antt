@@ -1,0 +1,75 @@
+use Rattle.std.proofs.Common.{ℕ, ◌≡◌, ◌∙◌, ◌<◌, ◌^◌, ◌++◌, [], length, set, replicate, sym, ap, subst, arith, append-nil}
+use Rattle.std.specs.Prelude.{All}
+use Rattle.std.proofs.lemmas.List.{length-replicate}
+use Rattle.cell_stock.specs.Stock.{StockValue, PurseValue, IsStock, AreOut, Takes, cells_of as stock_cells}
+use Rattle.tree_shape.specs.Trees.{leaf_without_rows}
+use Rattle.tree_shape.specs.Laws.{OpeningLaw}
+use Rattle.shard_tree.proofs.Inserts.{taken-some}
+use Rattle.shard_tree.proofs.News.{full_stock, root-in, made-rows, made-shard}
+use Rattle.shard_tree.proofs.tree.ShardTree.new.Goals as goal
+
+pub put-requires : goal.put-requires
+put-requires c =
+    let n = c.args.cells in
+    let stock1 : StockValue = c.take-taken.new.self in
+    let purse0 : PurseValue = c.reserve.new.self in
+    let purse1 : PurseValue = c.take-taken.new.purse in
+    let purse2 : PurseValue = c.next-home.new.self in
+    let purse3 : PurseValue = c.next-root.new.self in
+    let st : c.in_ok-stock.stock ≡ full_stock n = c.in_ok-stock.ensures in
+    let valid : IsStock (full_stock n) = subst IsStock st c.free.ensures.valid in
+    let empty0 : purse0.spares ≡ [] = c.in_ok-reserve.ensures.spares ∙ c.new-purse.ensures in
+    let taken0 : Takes 2 c.in_ok-stock.stock stock1 purse0 purse1 = taken-some c.take-taken.result (Takes 2 c.in_ok-stock.stock stock1 purse0 purse1) c.take-taken.ensures.some
+    (λ e. let l = c.take-taken.ensures.none.0 e in let f = c.free.ensures.value in let t = c.if-free-lt2.false in absurd (omega arith)) in
+    let takes : Takes 2 (full_stock n) stock1 purse0 purse1 = subst (λ (s : StockValue). Takes 2 s stock1 purse0 purse1) st taken0 in
+    let fresh = c.laws.ensures.fresh 2 (full_stock n) stock1 purse0 purse1 valid takes in
+    let out : AreOut stock1 purse1.spares = rw append-nil at (c.laws.ensures.taken 2 (full_stock n) stock1 purse0 purse1 [] valid (subst (λ xs. AreOut (full_stock n) (xs ++ [])) (sym empty0) (c.laws.ensures.none (full_stock n) valid)) takes) in
+    let known : All (λ x. x < n) (stock_cells purse1.spares) = subst (λ (m : ℕ). All (λ x. x < m) (stock_cells purse1.spares)) takes.all out.known in
+    let w = root-in n stock1 purse0 purse1 purse2 purse3 c.next-home.result c.next-root.result empty0 takes fresh c.next-home.ensures.taken c.next-root.ensures.taken known in
+    let l = ap length c.in_ok-blocks.ensures in
+    let m = length-replicate n (leaf_without_rows 0) in
+    omega arith
+
+pub returns-clause-rows : goal.returns-clause-rows
+returns-clause-rows c =
+    let n = c.args.cells in
+    let stock1 : StockValue = c.take-taken.new.self in
+    let purse0 : PurseValue = c.reserve.new.self in
+    let purse1 : PurseValue = c.take-taken.new.purse in
+    let purse2 : PurseValue = c.next-home.new.self in
+    let purse3 : PurseValue = c.next-root.new.self in
+    let st : c.in_ok-stock.stock ≡ full_stock n = c.in_ok-stock.ensures in
+    let valid : IsStock (full_stock n) = subst IsStock st c.free.ensures.valid in
+    let empty0 : purse0.spares ≡ [] = c.in_ok-reserve.ensures.spares ∙ c.new-purse.ensures in
+    let taken0 : Takes 2 c.in_ok-stock.stock stock1 purse0 purse1 = taken-some c.take-taken.result (Takes 2 c.in_ok-stock.stock stock1 purse0 purse1) c.take-taken.ensures.some
+    (λ e. let l = c.take-taken.ensures.none.0 e in let f = c.free.ensures.value in let t = c.if-free-lt2.false in absurd (omega arith)) in
+    let takes : Takes 2 (full_stock n) stock1 purse0 purse1 = subst (λ (s : StockValue). Takes 2 s stock1 purse0 purse1) st taken0 in
+    let fresh = c.laws.ensures.fresh 2 (full_stock n) stock1 purse0 purse1 valid takes in
+    let out : AreOut stock1 purse1.spares = rw append-nil at (c.laws.ensures.taken 2 (full_stock n) stock1 purse0 purse1 [] valid (subst (λ xs. AreOut (full_stock n) (xs ++ [])) (sym empty0) (c.laws.ensures.none (full_stock n) valid)) takes) in
+    let known : All (λ x. x < n) (stock_cells purse1.spares) = subst (λ (m : ℕ). All (λ x. x < m) (stock_cells purse1.spares)) takes.all out.known in
+    let blocks : c.put.new.blocks.items ≡ set (replicate n (leaf_without_rows 0)) c.next-root.result.cell (leaf_without_rows c.next-root.result.stamp)
+    = c.put.ensures ∙ ap (λ b. set c.in_ok-blocks.blocks.items c.next-root.result.cell b) c.empty_leaf.ensures.block ∙ ap (λ bs. set bs c.next-root.result.cell (leaf_without_rows c.next-root.result.stamp)) c.in_ok-blocks.ensures in
+    let small : n < 2 ^ 32 = (let r = c.ranges.cells.fits in omega arith) in
+    made-rows n stock1 purse0 purse1 purse2 purse3 c.next-home.result c.next-root.result empty0 takes fresh c.next-home.ensures.taken c.next-root.ensures.taken known c.args.h.now c.requires.dims c.new-gate.result c.empty-empty.result c.new-gate.ensures c.empty-empty.ensures.set_of c.empty-empty.ensures.valid (subst OpeningLaw c.empty_leaf.ensures.block c.empty_leaf.ensures.opens) c.put.new.blocks.items blocks small
+
+pub returns-clause-shard : goal.returns-clause-shard
+returns-clause-shard c =
+    let n = c.args.cells in
+    let stock1 : StockValue = c.take-taken.new.self in
+    let purse0 : PurseValue = c.reserve.new.self in
+    let purse1 : PurseValue = c.take-taken.new.purse in
+    let purse2 : PurseValue = c.next-home.new.self in
+    let purse3 : PurseValue = c.next-root.new.self in
+    let st : c.in_ok-stock.stock ≡ full_stock n = c.in_ok-stock.ensures in
+    let valid : IsStock (full_stock n) = subst IsStock st c.free.ensures.valid in
+    let empty0 : purse0.spares ≡ [] = c.in_ok-reserve.ensures.spares ∙ c.new-purse.ensures in
+    let taken0 : Takes 2 c.in_ok-stock.stock stock1 purse0 purse1 = taken-some c.take-taken.result (Takes 2 c.in_ok-stock.stock stock1 purse0 purse1) c.take-taken.ensures.some
+    (λ e. let l = c.take-taken.ensures.none.0 e in let f = c.free.ensures.value in let t = c.if-free-lt2.false in absurd (omega arith)) in
+    let takes : Takes 2 (full_stock n) stock1 purse0 purse1 = subst (λ (s : StockValue). Takes 2 s stock1 purse0 purse1) st taken0 in
+    let fresh = c.laws.ensures.fresh 2 (full_stock n) stock1 purse0 purse1 valid takes in
+    let out : AreOut stock1 purse1.spares = rw append-nil at (c.laws.ensures.taken 2 (full_stock n) stock1 purse0 purse1 [] valid (subst (λ xs. AreOut (full_stock n) (xs ++ [])) (sym empty0) (c.laws.ensures.none (full_stock n) valid)) takes) in
+    let known : All (λ x. x < n) (stock_cells purse1.spares) = subst (λ (m : ℕ). All (λ x. x < m) (stock_cells purse1.spares)) takes.all out.known in
+    let blocks : c.put.new.blocks.items ≡ set (replicate n (leaf_without_rows 0)) c.next-root.result.cell (leaf_without_rows c.next-root.result.stamp)
+    = c.put.ensures ∙ ap (λ b. set c.in_ok-blocks.blocks.items c.next-root.result.cell b) c.empty_leaf.ensures.block ∙ ap (λ bs. set bs c.next-root.result.cell (leaf_without_rows c.next-root.result.stamp)) c.in_ok-blocks.ensures in
+    let small : n < 2 ^ 32 = (let r = c.ranges.cells.fits in omega arith) in
+    made-shard n stock1 purse0 purse1 purse2 purse3 c.next-home.result c.next-root.result empty0 takes fresh c.next-home.ensures.taken c.next-root.ensures.taken known c.args.h.now c.requires.dims c.new-gate.result c.empty-empty.result c.new-gate.ensures c.empty-empty.ensures.set_of c.empty-empty.ensures.valid (subst OpeningLaw c.empty_leaf.ensures.block c.empty_leaf.ensures.opens) c.put.new.blocks.items blocks small
