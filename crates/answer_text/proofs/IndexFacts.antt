@@ -1,6 +1,7 @@
 -- An index, one event more at a time.
-use Rattle.std.proofs.Common.{◌≡◌, ◌∙◌, ℕ, ◌+◌, ◌<◌, ◌≤◌, List, [], ◌∷◌, ◌++◌, if◌then◌else◌, ◌==◌, Option, Some, None, length, get_or, set, take, reverse, replicate, refl, sym, inl, inr, arith}
-use Rattle.std.specs.Prelude.{is_some, option_and_then, All}
+use Rattle.std.proofs.Common.{◌≡◌, ◌∙◌, ℕ, ◌+◌, ◌<◌, ◌≤◌, List, [], ◌∷◌, ◌++◌, if◌then◌else◌, ◌==◌, Option, Some, None, length, get_or, set, take, reverse, replicate, refl, ap, sym, inl, inr, arith}
+use Rattle.std.specs.Prelude.{false, find, is_some, option_and_then, true, All}
+use Rattle.std.specs.Option.{option_or}
 use Rattle.std.proofs.lemmas.Grind.{common_steps}
 use Rattle.std.proofs.lemmas.Bool.{cases_Bool, eqb-true, eqb-false}
 use Rattle.std.proofs.lemmas.Bool.Decides.{nat_tests}
@@ -8,10 +9,13 @@ use Rattle.std.proofs.lemmas.Option.{same_Some}
 use Rattle.std.proofs.lemmas.List.{take_more, reverse-append, length-reverse, length-take-le, length-set, get_or-set_same, get_or-set_other, get_or-replicate}
 use Rattle.std.proofs.lemmas.List.Elements.{All-nil, All-push, All-weaker}
 use Rattle.row_ledger.specs.declared.event.Event.{Event}
-use Rattle.row_ledger.specs.Past.{event_at, has_ended, is_end_of, session_in}
+use Rattle.row_ledger.specs.declared.event.Event.TheVariants.{Shown}
+use Rattle.row_ledger.specs.declared.page.Page.{Page}
+use Rattle.row_ledger.specs.Past.{event_at, has_ended, is_end_of, page_in, page_of, session_in}
 use Rattle.answer_text.specs.Places.{begins_in, begins_of}
 use Rattle.answer_text.specs.Printed.{end_of}
-use Rattle.answer_text.specs.Index.{end_place}
+use Rattle.answer_text.specs.Index.{is_at, marked, newest, shown, shown_for}
+use Rattle.answer_text.specs.declared.index.Mark.TheVariants as mark
 
 -- a loop over events, the newest first
 pub past_more : (events : List Event) (i : ℕ) (e : Event) → i < length events → e ≡ get_or events i e → reverse (take (i + 1) events) ≡ e ∷ reverse (take i events)
@@ -63,34 +67,34 @@ begins_more lists e past session i known here at =
 pub begins_same : (lists : List (List ℕ)) (e : Event) (past : List Event) → KnowsBegins lists past → session_in e ≡ None → KnowsBegins lists (e ∷ past)
 begins_same lists e past known none = record { sessions = known.sessions; begun = λ s below. known.begun s below ∙ sym (begins_of-other e past s none) }
 
--- The ends by position.
+-- The newest marks by position.
 
-pub record KnowsEnds (ends : List (Option ℕ)) (events past : List Event) : Type 0 where
-  pub positions : length ends ≡ length events
-  pub ended : (p : ℕ) → p < length events → get_or ends p None ≡ end_place past p
+pub record KnowsNewest (marks : Event → Option ℕ) (noted : List (Option ℕ)) (events past : List Event) : Type 0 where
+  pub positions : length noted ≡ length events
+  pub known : (p : ℕ) → p < length events → get_or noted p None ≡ newest marks past p
 
-pub ends_none : (events : List Event) → KnowsEnds (replicate (length events) None) events []
-unfolding end_place
-ends_none events = record { positions = grind (arith, common_steps); ended = λ p below. get_or-replicate (length events) p None None below }
+pub newest_none : (marks : Event → Option ℕ) (events : List Event) → KnowsNewest marks (replicate (length events) None) events []
+unfolding newest
+newest_none marks events = record { positions = grind (arith, common_steps); known = λ p below. get_or-replicate (length events) p None None below }
 
-pub ends_more : (ends new : List (Option ℕ)) (events past : List Event) (e : Event) (i : ℕ) → KnowsEnds ends events past → length past ≡ i → length new ≡ length ends
-    → ((p : ℕ) → p < length ends → get_or new p None ≡ (if is_end_of p e then Some i else get_or ends p None)) → KnowsEnds new events (e ∷ past)
-unfolding end_place
-ends_more ends new events past e i known at len noted =
+pub newest_more : (marks : Event → Option ℕ) (noted new : List (Option ℕ)) (events past : List Event) (e : Event) (i : ℕ) → KnowsNewest marks noted events past → length past ≡ i
+    → length new ≡ length noted → ((p : ℕ) → p < length noted → get_or new p None ≡ (if is_at p (marks e) then Some i else get_or noted p None)) → KnowsNewest marks new events (e ∷ past)
+unfolding newest
+newest_more marks noted new events past e i so_far at len notes =
     record {
-      positions = len ∙ known.positions;
-      ended = λ p below. rw (noted p (rw known.positions below), known.ended p below, at) refl;
+      positions = len ∙ so_far.positions;
+      known = λ p below. rw (notes p (rw so_far.positions below), so_far.known p below, at) refl;
     }
 
--- The event at the position of an end.
+-- The event at the position of a mark.
 
-pub end_place-below : (h : List Event) (p q : ℕ) → end_place h p ≡ Some q → q < length h
-unfolding end_place
-end_place-below [] p q is = absurd (cc)
-end_place-below (e ∷ past) p q is =
-    elim (cases_Bool (is_end_of p e)) [
+pub newest-below : (marks : Event → Option ℕ) (h : List Event) (p q : ℕ) → newest marks h p ≡ Some q → q < length h
+unfolding newest
+newest-below marks [] p q is = absurd (cc)
+newest-below marks (e ∷ past) p q is =
+    elim (cases_Bool (is_at p (marks e))) [
       | inl here ↦ let same = rw here at is in let at : length past ≡ q = same_Some (length past) q same in omega arith
-      | inr older ↦ let before = rw older at is in omega (arith, end_place-below past p q before)
+      | inr older ↦ let before = rw older at is in omega (arith, newest-below marks past p q before)
     ]
 
 event_at-older : (e : Event) (past : List Event) (place : Option ℕ) → ((q : ℕ) → place ≡ Some q → q < length past)
@@ -101,23 +105,46 @@ event_at-older e past (Some q) below = let older = below q refl in grind (arith,
 event_at-newest : (e : Event) (past : List Event) → event_at (e ∷ past) (length past) ≡ Some e
 event_at-newest e past = grind (arith, nat_tests)
 
-pub end_of-at : (h : List Event) (p : ℕ) → option_and_then (event_at h) (end_place h p) ≡ end_of h p
-unfolding end_place
-end_of-at [] p = refl
-end_of-at (e ∷ past) p =
-    elim (cases_Bool (is_end_of p e)) [
+-- the newest event that marks a command
+newest_event : (marks : Event → Option ℕ) (h : List Event) (p : ℕ) → option_and_then (event_at h) (newest marks h p) ≡ find (λ e. is_at p (marks e)) h
+unfolding newest
+newest_event marks [] p = refl
+newest_event marks (e ∷ past) p =
+    elim (cases_Bool (is_at p (marks e))) [
       | inl here ↦ rw here (event_at-newest e past)
-      | inr older ↦ rw older (event_at-older e past (end_place past p) (end_place-below past p) ∙ end_of-at past p)
+      | inr older ↦ rw older (event_at-older e past (newest marks past p) (newest-below marks past p) ∙ newest_event marks past p)
     ]
 
-pub has_ended-at : (h : List Event) (p : ℕ) → is_some (end_place h p) ≡ has_ended h p
-unfolding end_place
+pub end_of-at : (h : List Event) (p : ℕ) → option_and_then (event_at h) (newest (marked mark.End) h p) ≡ end_of h p
+end_of-at h p = newest_event (marked mark.End) h p
+
+pub has_ended-at : (h : List Event) (p : ℕ) → is_some (newest (marked mark.End) h p) ≡ has_ended h p
+unfolding newest
 has_ended-at [] p = refl
 has_ended-at (e ∷ past) p =
     elim (cases_Bool (is_end_of p e)) [
       | inl here ↦ rw here refl
       | inr older ↦ rw older (has_ended-at past p)
     ]
+
+page_in-here : (e : Event) (p : ℕ) (older : Option Page) → is_at p (shown_for e) ≡ true → option_or (page_in p e) older ≡ shown e
+page_in-here (Shown of page) p older here = rw here refl
+page_in-here e p older here = absurd (cc)
+
+page_in-other : (e : Event) (p : ℕ) (older : Option Page) → is_at p (shown_for e) ≡ false → option_or (page_in p e) older ≡ older
+page_in-other (Shown of page) p older other = rw other refl
+page_in-other e p older other = refl
+
+pub page_of-at : (h : List Event) (p : ℕ) → option_and_then shown (option_and_then (event_at h) (newest (marked mark.Page) h p)) ≡ page_of h p
+page_of-at h p = ap (option_and_then shown) (newest_event (marked mark.Page) h p) ∙ found h p
+  where
+    found : (h : List Event) (p : ℕ) → option_and_then shown (find (λ e. is_at p (shown_for e)) h) ≡ page_of h p
+    found [] p = refl
+    found (e ∷ past) p =
+        elim (cases_Bool (is_at p (shown_for e))) [
+          | inl here ↦ rw (here, page_in-here e p (page_of past p) here) refl
+          | inr older ↦ rw (older, page_in-other e p (page_of past p) older) (found past p)
+        ]
 
 -- Beginnings are positions.
 

@@ -8,11 +8,11 @@ use Rattle.std.proofs.lemmas.Bool.{and_parts}
 use Rattle.std.proofs.lemmas.List.Folds.{list_all-append}
 use Rattle.row_ledger.specs.declared.event.Event.{Event}
 use Rattle.row_ledger.specs.declared.settings.Use.{Use}
-use Rattle.row_ledger.specs.Past.{event_at}
+use Rattle.row_ledger.specs.Past.{event_at, page_of}
 use Rattle.script_form.specs.declared.script.Command.{Command}
 use Rattle.answer_text.specs.Phases.{phases, all_of}
 use Rattle.answer_text.specs.Places.{places_behind, places, are_over, is_over_at}
-use Rattle.answer_text.specs.Printed.{line_at, end_of, lines, phase_behind, texts_behind, texts, told, told_to}
+use Rattle.answer_text.specs.Printed.{end_of, lines, phase_behind, texts_behind, texts, text_at, told, told_to}
 use Rattle.answer_text.proofs.PlaceFacts.{NoneMore, places_behind-append, places_behind-length, places_behind-none, count_of-append}
 use Rattle.answer_text.proofs.PhaseFacts.{IsSome}
 
@@ -25,15 +25,16 @@ lines-append n [] ys [] qs history same = ap (λ k. lines k ys qs history) (let 
 lines-append n [] ys (p ∷ ps) qs history same = absurd (omega arith)
 lines-append n (x ∷ xs) ys [] qs history same = absurd (omega arith)
 lines-append n (x ∷ xs) ys (p ∷ ps) qs history same =
-    ap (λ rest. line_at n x history p ++ rest)
+    ap (λ rest. text_at n x history p ++ rest)
     (lines-append (n + 1) xs ys ps qs history (omega arith)
     ∙ ap (λ k. lines (n + 1) xs ps history ++ lines k ys qs history) (let k : n + 1 + length xs ≡ n + suc (length xs) = omega arith in k))
-    ∙ sym (append_assoc (line_at n x history p) (lines (n + 1) xs ps history) (lines (n + suc (length xs)) ys qs history))
+    ∙ sym (append_assoc (text_at n x history p) (lines (n + 1) xs ps history) (lines (n + suc (length xs)) ys qs history))
 
--- what began at a position and how it ended are the same in both histories
+-- what began at a position, how it ended and the page that was shown for it are the same in both histories
 pub record IsSameAt (history later : List Event) (p : ℕ) : Type 0 where
   pub event : event_at later p ≡ event_at history p
   pub end : end_of later p ≡ end_of history p
+  pub page : page_of later p ≡ page_of history p
 
 pub lines-kept : (n : ℕ) (cs : List Command) (begins : List ℕ) (history later : List Event) → AllByRecursion (IsSameAt history later) begins
     → lines n cs (map Some begins) later ≡ lines n cs (map Some begins) history
@@ -41,7 +42,7 @@ unfolding lines
 lines-kept n [] begins history later same = refl
 lines-kept n (c ∷ cs) [] history later same = refl
 lines-kept n (c ∷ cs) (p ∷ ps) history later same =
-    rw (same.0.event, same.0.end) (ap (λ rest. line_at n c history (Some p) ++ rest) (lines-kept (n + 1) cs ps history later same.1))
+    rw (same.0.event, same.0.end, same.0.page) (ap (λ rest. text_at n c history (Some p) ++ rest) (lines-kept (n + 1) cs ps history later same.1))
 
 -- Texts of phases.
 

@@ -1,37 +1,32 @@
 -- Lines, one command more at a time, and the texts of phases.
 use Rattle.std.proofs.Common.{◌≡◌, ◌∙◌, ℕ, ◌+◌, ◌-◌, ◌<◌, ◌≤◌, List, [], ◌∷◌, ◌++◌, Option, None, length, get_or, take, drop, take-add, append-nil, refl, ap, sym, arith}
-use Rattle.std.specs.Prelude.{option_and_then}
 use Rattle.std.specs.List.{flat_map}
 use Rattle.std.proofs.lemmas.Grind.{get_or_tail}
 use Rattle.std.proofs.lemmas.List.{append_assoc, drop_more, drop_all, drop-drop}
 use Rattle.row_ledger.specs.declared.event.Event.{Event}
 use Rattle.row_ledger.specs.declared.settings.Use.{Use}
-use Rattle.row_ledger.specs.Past.{event_at}
 use Rattle.script_form.specs.declared.script.Command.{Command}
 use Rattle.answer_text.specs.Phases.{phases}
 use Rattle.answer_text.specs.Places.{places_behind}
-use Rattle.answer_text.specs.Printed.{answer_text, end_of, line, line_at, lines, phase_behind, texts_behind, word_of}
+use Rattle.answer_text.specs.Printed.{lines, phase_behind, text_at, texts_behind}
 use Rattle.answer_text.specs.Index.{phase_lines}
 use Rattle.answer_text.proofs.PhaseFacts.{phases-nil}
 
 lines_more : (first i : ℕ) (cs : List Command) (ps : List (Option ℕ)) (h : List Event) (c : Command) → i < length cs → length ps ≡ length cs → c ≡ get_or cs i c
-    → lines (first + i) (drop i cs) (drop i ps) h ≡ line_at (first + i) c h (get_or ps i None) ++ lines (first + (i + 1)) (drop (i + 1) cs) (drop (i + 1) ps) h
+    → lines (first + i) (drop i cs) (drop i ps) h ≡ text_at (first + i) c h (get_or ps i None) ++ lines (first + (i + 1)) (drop (i + 1) cs) (drop (i + 1) ps) h
 unfolding lines
 lines_more first i cs ps h c inside same is =
     let within : i < length ps = omega arith in
     let next : first + i + 1 ≡ first + (i + 1) = omega arith in
     rw (drop_more cs i c inside, ← is, drop_more ps i None within, next) refl
 
--- a line was added
-pub lines_pushed : (old new whole : List ℕ) (first i : ℕ) (cs : List Command) (ps : List (Option ℕ)) (h : List Event) (c : Command) (word said : List ℕ)
-    → i < length cs → length ps ≡ length cs → c ≡ get_or cs i c → word ≡ word_of c
-    → said ≡ answer_text (option_and_then (event_at h) (get_or ps i None)) (option_and_then (end_of h) (get_or ps i None))
-    → new ≡ old ++ line (first + i) word said → old ++ lines (first + i) (drop i cs) (drop i ps) h ≡ whole
-    → new ++ lines (first + (i + 1)) (drop (i + 1) cs) (drop (i + 1) ps) h ≡ whole
-lines_pushed old new whole first i cs ps h c word said inside same is its answer pushed so_far =
-    let here : line (first + i) word said ≡ line_at (first + i) c h (get_or ps i None) = rw (its, answer) refl in
+-- what is told of a command was added
+pub lines_pushed : (old new whole : List ℕ) (first i : ℕ) (cs : List Command) (ps : List (Option ℕ)) (h : List Event) (c : Command)
+    → i < length cs → length ps ≡ length cs → c ≡ get_or cs i c → new ≡ old ++ text_at (first + i) c h (get_or ps i None)
+    → old ++ lines (first + i) (drop i cs) (drop i ps) h ≡ whole → new ++ lines (first + (i + 1)) (drop (i + 1) cs) (drop (i + 1) ps) h ≡ whole
+lines_pushed old new whole first i cs ps h c inside same is pushed so_far =
     let rest = lines (first + (i + 1)) (drop (i + 1) cs) (drop (i + 1) ps) h in
-    ap (λ l. l ++ rest) (pushed ∙ ap (λ l. old ++ l) here) ∙ (append_assoc old (line_at (first + i) c h (get_or ps i None)) rest ∙ (ap (λ l. old ++ l) (sym (lines_more first i cs ps h c inside same is)) ∙ so_far))
+    ap (λ l. l ++ rest) pushed ∙ (append_assoc old (text_at (first + i) c h (get_or ps i None)) rest ∙ (ap (λ l. old ++ l) (sym (lines_more first i cs ps h c inside same is)) ∙ so_far))
 
 lines_end : (first i : ℕ) (cs : List Command) (ps : List (Option ℕ)) (h : List Event) → length cs ≤ i → lines (first + i) (drop i cs) (drop i ps) h ≡ []
 unfolding lines

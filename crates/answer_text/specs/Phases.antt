@@ -2,7 +2,7 @@
 use Rattle.std.specs.Prelude.{ℕ, ◌+◌, ◌*◌, Bool, true, false, if◌then◌else◌, List, [], ◌∷◌, take}
 use Rattle.std.specs.List.{flat_map}
 use Rattle.row_ledger.specs.declared.settings.Call.{Call}
-use Rattle.row_ledger.specs.declared.settings.Call.TheVariants.{Barrier}
+use Rattle.row_ledger.specs.declared.settings.Call.TheVariants.{Barrier, Tree}
 use Rattle.script_form.specs.declared.script.Command.{Command}
 use Rattle.script_form.specs.declared.script.Command.TheVariants.{Insert, Query, Control}
 
@@ -10,6 +10,7 @@ use Rattle.script_form.specs.declared.script.Command.TheVariants.{Insert, Query,
 
 abbrev pub is_closing : Call → Bool
 is_closing Barrier = true
+is_closing (Tree shard) = true
 
 abbrev pub closes : Command → Bool
 closes (Insert new) = false

@@ -1,5 +1,5 @@
 use measure_agg::Agg;
-use row_ledger::{Event, How};
+use row_ledger::{Decline, Event, How};
 use std::fmt;
 
 // A number, or a dash for none.
@@ -20,9 +20,9 @@ impl fmt::Display for OrDash {
     }
 }
 
-// An aggregate: count, sum, least and greatest.
+/// An aggregate: count, sum, least and greatest.
 #[derive(Drop)]
-struct Total(Agg);
+pub(crate) struct Total(pub(crate) Agg);
 
 impl fmt::Display for Total {
     ghost use Rattle.std.specs.Prelude.{Some};
@@ -47,6 +47,8 @@ pub enum Answer {
     Ok,
     /// A name of this dimension, the first such one, isn't known.
     Unknown { dim: u8 },
+    /// It did nothing, and why.
+    Declined(Decline),
     /// It found no memory.
     NoMemory,
     /// The answer to a query.
@@ -57,7 +59,18 @@ impl Answer {
     ghost use Rattle.std.specs.Prelude.{◌≡◌};
     ghost use Rattle.std.specs.Option.{option_copied};
     ghost use Rattle.answer_text.specs.Answer.{said};
-    ghost use Rattle.answer_text.specs.Printed.{answer_text};
+    ghost use Rattle.answer_text.specs.Printed.{answer_text, how_text};
+
+    // What is said of a called command by how it ended.
+    fn of_end(how: How) -> Answer
+        ensures { said result ≡ how_text how }
+    {
+        match how {
+            How::Fine => Answer::Ok,
+            How::Declined(why) => Answer::Declined(why),
+            How::NoMemory => Answer::NoMemory,
+        }
+    }
 
     /// What is said of a command by the events that begin and end it; without an end it found no
     /// memory.
@@ -70,7 +83,7 @@ impl Answer {
         match end {
             Some(Event::Acked { .. }) => Answer::Ok,
             Some(Event::Answered { agg, .. }) => Answer::Total(*agg),
-            Some(Event::Ended { how: How::Fine, .. }) => Answer::Ok,
+            Some(Event::Ended { how, .. }) => Answer::of_end(*how),
             _ => Answer::NoMemory,
         }
     }
@@ -86,6 +99,7 @@ impl fmt::Display for Answer {
         match self {
             Answer::Ok => write!(f, "ok"),
             Answer::Unknown { dim } => write!(f, "unknown {dim}"),
+            Answer::Declined(Decline::Unknown) => write!(f, "declined unknown"),
             Answer::NoMemory => write!(f, "nomem"),
             Answer::Total(total) => {
                 let total = Total(*total);

@@ -1,12 +1,15 @@
-//! Where the commands of each session begin in a history, and which events end them.
+//! Where the commands of each session begin in a history, which events end them, and which show
+//! their pages.
 ghost use Rattle.std.specs.Prelude.{◌≡◌, ◌∷◌, ◌++◌, [], ℕ, ◌<◌, None, Some, if◌then◌else◌, length, reverse, slice_index_or, slice_set, IfOk, OnOk};
-ghost use Rattle.row_ledger.specs.Past.{end_in, ends_itself, is_end_of, session_in};
+ghost use Rattle.std.specs.Option.{option_copied};
+ghost use Rattle.row_ledger.specs.Past.{end_in, ends_itself, session_in};
 ghost use Rattle.answer_text.specs.Places.{begins_of, session_of};
-ghost use Rattle.answer_text.specs.Index.{end_place};
+ghost use Rattle.answer_text.specs.Index.{is_at, marked, newest, shown, shown_for};
+ghost use Rattle.answer_text.specs.declared.index.Mark.TheVariants as mark;
 
 use crate::answer::Answer;
 use dim_hierarchy::Items;
-use row_ledger::{Event, History, Use};
+use row_ledger::{Event, History, Page, Use};
 use script_form::Command;
 use std::alloc::{AllocError, Global};
 
@@ -40,6 +43,26 @@ fn end_in(event: &Event) -> Option<u64>
         | Event::Answered { of, .. }
         | Event::Failed { of }
         | Event::Ended { of, .. } => Some(*of),
+        _ => None,
+    }
+}
+
+// The position of the command for which an event shows a page.
+fn shown_for(event: &Event) -> Option<u64>
+    ensures { result ≡ shown_for event.now }
+{
+    match event {
+        Event::Shown { of, .. } => Some(*of),
+        _ => None,
+    }
+}
+
+// The page that an event shows.
+fn shown(event: &Event) -> Option<&Page>
+    ensures { option_copied result ≡ shown event.now }
+{
+    match event {
+        Event::Shown { page, .. } => Some(page),
         _ => None,
     }
 }
@@ -99,31 +122,51 @@ fn begins(alloc: Global, events: &[Event]) -> Result<Vec<Positions>, AllocError>
     Ok(begins)
 }
 
-// Notes which command an event at a position ends; an end of no position is left out.
-fn add_end(ends: &mut Vec<Option<usize>>, event: &Event, position: usize)
-    ensures len { length ends.new.items ≡ length ends.old.items }
-    ensures noted { (p : ℕ) → p < length ends.old.items → slice_index_or ends.new.items p None ≡ (if is_end_of p event.now then Some position else slice_index_or ends.old.items p None) }
+// What an event is to a command that began before.
+#[derive(Clone, Copy)]
+enum Mark {
+    // It ends the command.
+    End,
+    // It shows a page for the command.
+    Page,
+}
+
+// The position of the command that an event marks so.
+fn marked(mark: Mark, event: &Event) -> Option<u64>
+    ensures { result ≡ marked mark event.now }
 {
-    if let Some(of) = end_in(event)
-        && of < ends.len() as u64
+    match mark {
+        Mark::End => end_in(event),
+        Mark::Page => shown_for(event),
+    }
+}
+
+// Notes a position for the command at another; where the history has no such one, it is left out.
+fn note(noted: &mut Vec<Option<usize>>, of: Option<u64>, position: usize)
+    ensures len { length noted.new.items ≡ length noted.old.items }
+    ensures noted { (p : ℕ) → p < length noted.old.items → slice_index_or noted.new.items p None ≡ (if is_at p of then Some position else slice_index_or noted.old.items p None) }
+{
+    if let Some(of) = of
+        && of < noted.len() as u64
     {
-        ends[of as usize] = Some(position);
+        noted[of as usize] = Some(position);
     }
 }
 
-// For each position, that of the newest event that ends the command begun there.
-fn ends(alloc: Global, events: &[Event]) -> Result<Vec<Option<usize>>, AllocError>
+// For each position, that of the newest event that marks the command begun there.
+fn newest(alloc: Global, events: &[Event], mark: Mark) -> Result<Vec<Option<usize>>, AllocError>
     ensures len { IfOk result (λ v. length v.items ≡ length events.now) }
-    ensures known { IfOk result (λ v. (p : ℕ) → p < length events.now → slice_index_or v.items p None ≡ end_place (reverse events.now) p) }
+    ensures known { IfOk result (λ v. (p : ℕ) → p < length events.now → slice_index_or v.items p None ≡ newest (marked mark) (reverse events.now) p) }
 {
-    let mut ends = vec![in alloc; None; events.len()]?;
+    let mut noted = vec![in alloc; None; events.len()]?;
     for (i, event) in events.iter().enumerate() {
-        add_end(&mut ends, event, i);
+        note(&mut noted, marked(mark, event), i);
     }
-    Ok(ends)
+    Ok(noted)
 }
 
-/// Where the commands of each session begin in a history, and by which events they end.
+/// Where the commands of each session begin in a history, by which events they end, and by which
+/// their pages are shown.
 #[derive(Drop)]
 pub(crate) struct Index<'a> {
     history: &'a History,
@@ -131,31 +174,37 @@ pub(crate) struct Index<'a> {
     begins: Vec<Positions>,
     // for each position that of the newest event that ends the command begun there
     ends: Vec<Option<usize>>,
+    // for each position that of the newest event that shows a page for that command
+    pages: Vec<Option<usize>>,
     ghost sessions: { length begins.items ≡ 257 },
     ghost begun: { (s : ℕ) → s < 257 → slice_index_or begins.items s [] ≡ begins_of history.now s },
     ghost positions: { length ends.items ≡ length history.now },
-    ghost ended: { (p : ℕ) → p < length history.now → slice_index_or ends.items p None ≡ end_place history.now p },
+    ghost ended: { (p : ℕ) → p < length history.now → slice_index_or ends.items p None ≡ newest (marked mark.End) history.now p },
+    ghost page_positions: { length pages.items ≡ length history.now },
+    ghost shown: { (p : ℕ) → p < length history.now → slice_index_or pages.items p None ≡ newest (marked mark.Page) history.now p },
 }
 
 impl<'a> Index<'a> {
     ghost use Rattle.std.specs.Prelude.{slice_get, option_and_then};
     ghost use Rattle.std.specs.Option.{option_copied};
-    ghost use Rattle.row_ledger.specs.Past.{event_at, is_over};
+    ghost use Rattle.row_ledger.specs.Past.{event_at, is_over, page_of};
     ghost use Rattle.answer_text.specs.Answer.{said};
     ghost use Rattle.answer_text.specs.Printed.{answer_text, end_of};
     ghost use Rattle.answer_text.specs.Places.{is_over_at};
     ghost use Rattle.answer_text.specs.Index.{IsPlace};
 
-    /// The index of a history, made in one pass for the beginnings and one for the ends.
+    /// The index of a history, made in one pass each for the beginnings, the ends and the pages.
     pub(crate) fn of(alloc: Global, history: &'a History) -> Result<Index<'a>, AllocError>
         ensures { IfOk result (λ index. index.history.now ≡ history.now) }
     {
         let begins = begins(alloc, history.events())?;
-        let ends = ends(alloc, history.events())?;
+        let ends = newest(alloc, history.events(), Mark::End)?;
+        let pages = newest(alloc, history.events(), Mark::Page)?;
         Ok(Index {
             history,
             begins,
             ends,
+            pages,
         })
     }
 
@@ -207,6 +256,28 @@ impl<'a> Index<'a> {
                 Answer::of(Some(self.history.get(position)), self.end_of(position))
             }
             None => Answer::of(None, None),
+        }
+    }
+
+    // The page that was shown for the command begun at a position.
+    fn page_of(&self, position: usize) -> Option<&Page>
+        requires { position < length self.now.history.now }
+        ensures { option_copied result ≡ page_of self.now.history.now position }
+    {
+        match self.pages[position] {
+            Some(at) => shown(self.history.get(at)),
+            None => None,
+        }
+    }
+
+    /// The page that was shown for a command that began at a place.
+    pub(crate) fn page_at(&self, place: Option<usize>) -> Option<&Page>
+        requires { IsPlace self.now.history.now place }
+        ensures { option_copied result ≡ option_and_then (page_of self.now.history.now) place }
+    {
+        match place {
+            Some(position) => self.page_of(position),
+            None => None,
         }
     }
 }

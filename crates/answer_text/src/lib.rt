@@ -5,12 +5,14 @@ mod answer;
 mod bad;
 mod index;
 mod line;
+mod pages;
 mod phases;
 mod text;
 
 pub use answer::Answer;
 pub use bad::BadLine;
 pub use line::{Line, Word, push_line};
+pub use pages::push_page;
 pub use phases::phase_len;
 pub use text::{phase, told};
 

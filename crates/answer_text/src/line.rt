@@ -14,6 +14,7 @@ pub enum Word {
     Insert,
     Query,
     Barrier,
+    Tree,
 }
 
 impl Word {
@@ -29,6 +30,7 @@ impl Word {
             Command::Insert(_) => Word::Insert,
             Command::Query(_) => Word::Query,
             Command::Control(Call::Barrier) => Word::Barrier,
+            Command::Control(Call::Tree(_)) => Word::Tree,
         }
     }
 }
@@ -44,6 +46,7 @@ impl fmt::Display for Word {
             Word::Insert => write!(f, "insert"),
             Word::Query => write!(f, "query"),
             Word::Barrier => write!(f, "barrier"),
+            Word::Tree => write!(f, "tree"),
         }
     }
 }

@@ -11,7 +11,7 @@ fn closes(command: &Command) -> bool
 {
     match command {
         Command::Insert(_) | Command::Query(_) => false,
-        Command::Control(Call::Barrier) => true,
+        Command::Control(Call::Barrier | Call::Tree(_)) => true,
     }
 }
 

@@ -3,11 +3,12 @@ ghost use Rattle.std.specs.Prelude.{◌≡◌, ◌+◌, ◌<◌, ◌≤◌, ◌^
 ghost use Rattle.std.specs.String.{string_bytes};
 ghost use Rattle.answer_text.specs.Phases.{phases};
 ghost use Rattle.answer_text.specs.Places.{are_over, places};
-ghost use Rattle.answer_text.specs.Printed.{lines, phase_behind, phase_text, told};
+ghost use Rattle.answer_text.specs.Printed.{lines, phase_behind, phase_text, text_at, told};
 ghost use Rattle.answer_text.specs.Index.{IsPlace, phase_lines};
 
 use crate::index::{Index, SESSIONS, session_of};
 use crate::line::{Line, Word, push_line};
+use crate::pages::push_page;
 use crate::phases::phase_len;
 use row_ledger::{History, Use};
 use script_form::{Command, Commands};
@@ -47,6 +48,34 @@ fn are_over(index: &Index, places: &[Option<usize>]) -> bool
     true
 }
 
+// Adds what is told of a command that began at a place: its page, or one line.
+fn push_text(
+    text: &mut String,
+    number: u64,
+    command: &Command,
+    place: Option<usize>,
+    index: &Index,
+) -> Result<(), AllocError>
+    requires { IsPlace index.now.history.now place }
+    ensures { OnOk result (string_bytes text.new ≡ string_bytes text.old ++ text_at number command.now index.now.history.now place) }
+{
+    match index.page_at(place) {
+        Some(page) => push_page(text, number, page),
+        None => {
+            let word = Word::of(command);
+            let answer = index.answer_at(place);
+            push_line(
+                text,
+                &Line {
+                    number,
+                    word,
+                    answer,
+                },
+            )
+        }
+    }
+}
+
 // Adds the lines of commands that begin at these places, numbered from `first`.
 fn push_lines(
     text: &mut String,
@@ -62,17 +91,7 @@ fn push_lines(
 {
     for (i, command) in commands.iter().enumerate() {
         let number = first + i as u64;
-        let word = Word::of(command);
-        let place = places[i];
-        let answer = index.answer_at(place);
-        push_line(
-            text,
-            &Line {
-                number,
-                word,
-                answer,
-            },
-        )?;
+        push_text(text, number, command, places[i], index)?;
     }
     Ok(())
 }
@@ -152,8 +171,8 @@ impl<'a> Outline<'a> {
     }
 }
 
-/// The text that a history tells of a script's commands: a line for each, phase by phase, without
-/// the phases of which a command has no end.
+/// The text that a history tells of a script's commands: a line or a page for each, phase by phase,
+/// without the phases of which a command has no end.
 pub fn told(
     alloc: Global,
     with: &Use,

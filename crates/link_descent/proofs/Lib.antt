@@ -5,3 +5,5 @@ pub mod Items
 pub mod Divisions
 pub mod Parts
 pub mod Steps
+pub mod Passes
+pub mod Ranks

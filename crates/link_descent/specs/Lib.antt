@@ -1,4 +1,5 @@
 pub mod Visit
+pub mod Pass
 pub mod Pick
 pub mod Divide
 pub mod Descend

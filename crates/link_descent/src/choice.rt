@@ -8,6 +8,36 @@ use dc_node::{Block, Entry};
 use describing_set::DescSet;
 use dim_hierarchy::{Coord, Hierarchy};
 
+/// How a set ranks for a coordinate: by how much it is grown, then by how large it is.
+#[derive(Clone, Copy)]
+struct Rank {
+    growth: u32,
+    size: u32,
+}
+
+impl Rank {
+    /// The rank of a set.
+    fn of(set: &DescSet, h: &Hierarchy, at: &Coord) -> Rank
+        requires set { IsDescSetOf h.now set.now }
+        requires at { IsCoordOf h.now at.now }
+        ensures growth { result.growth ≡ growth_of h.now set.now at.now }
+        ensures size { result.size ≡ size_of h.now set.now }
+    {
+        Rank {
+            growth: set.growth(h, at),
+            size: set.size(h),
+        }
+    }
+
+    /// Whether the growth is less, or the same and the size is less.
+    fn is_before(&self, other: &Rank) -> bool
+        ensures { IsTrue result ↔ ((self.now.growth < other.now.growth)
+            ⊎ ((self.now.growth ≡ other.now.growth) × (self.now.size < other.now.size))) }
+    {
+        self.growth < other.growth || (self.growth == other.growth && self.size < other.size)
+    }
+}
+
 /// Whether the first set is grown less by the coordinate than the second, or as much and is smaller.
 pub fn is_before(a: &DescSet, b: &DescSet, h: &Hierarchy, at: &Coord) -> bool
     requires a { IsDescSetOf h.now a.now }
@@ -17,9 +47,7 @@ pub fn is_before(a: &DescSet, b: &DescSet, h: &Hierarchy, at: &Coord) -> bool
         ⊎ ((growth_of h.now a.now at.now ≡ growth_of h.now b.now at.now)
         × (size_of h.now a.now < size_of h.now b.now))) }
 {
-    let one = a.growth(h, at);
-    let other = b.growth(h, at);
-    one < other || (one == other && a.size(h) < b.size(h))
+    Rank::of(a, h, at).is_before(&Rank::of(b, h, at))
 }
 
 /// The place of the entry that comes first for a coordinate.
@@ -31,11 +59,12 @@ fn place_of(entries: &[Entry], h: &Hierarchy, at: &Coord) -> u8
     ensures { IsPick h.now at.now (map (λ e. e.set) entries.now) result }
 {
     let mut best = 0;
+    let mut least = Rank::of(&entries[0].set, h, at);
     for place in 1..entries.len() as u8 {
-        let first = &entries[usize::from(best)].set;
-        let next = &entries[usize::from(place)].set;
-        if is_before(next, first, h, at) {
+        let next = Rank::of(&entries[usize::from(place)].set, h, at);
+        if next.is_before(&least) {
             best = place;
+            least = next;
         }
     }
     best

@@ -9,6 +9,7 @@ ghost use Rattle.shard_store.specs.declared.gate.Phase.TheVariants.{Open};
 ghost use Rattle.dc_node.specs.declared.block.Body.TheVariants.{Entries};
 ghost use Rattle.link_descent.specs.Pick.{IsPick};
 ghost use Rattle.link_descent.specs.Descend.{IsWithRow, IsEntryOf, IsShared, StepsDown, Enters};
+ghost use Rattle.link_descent.specs.Pass.{PassesDown, PassesIn};
 ghost use Rattle.link_descent.specs.Room.{MakesRoom, HasRoom, AreNew, IsRaised};
 ghost use Rattle.dc_node.specs.declared.entry.Entry.{Entry};
 
@@ -16,7 +17,7 @@ use crate::choice::is_before;
 use crate::divide::{Division, divide};
 use crate::entered::{Entered, Fresh};
 use cell_stock::Purse;
-use dc_node::{Block, Entry};
+use dc_node::{Block, Body, Entry};
 use dim_hierarchy::{Hierarchy, Row};
 use measure_agg::Agg;
 use shard_store::Gate;
@@ -231,6 +232,32 @@ pub fn enter_root(
         Room::Half(fresh) => Entered::one(fresh, entry.child),
         Room::Two(fresh, left, right) => raise(gate, fresh, left, right, purse),
     }
+}
+
+/// Counts a row beneath the entry at a place of a directory. Where the entry's child has room, that
+/// is the whole step down.
+pub fn pass_down(parent: &mut Block, place: u8, h: &Hierarchy, row: &Row)
+    requires parent { IsBodyOf h.now parent.old.body }
+    requires row { IsRowOf h.now row.now }
+    requires place { place < length (entries_in parent.old.body) }
+    requires few { IfSome (slice_get (entries_in parent.old.body) place) (λ e. e.agg.count + 1 < 2 ^ 63) }
+    ensures { PassesDown h.now row.now place parent.old parent.new }
+{
+    if let Body::Entries(entries) = &mut parent.body {
+        add_row(&mut entries[usize::from(place)], h, row);
+    }
+}
+
+/// Counts a row in at an open gate. Where the root has room, that is the whole step in.
+pub fn pass_root(gate: &mut Gate, h: &Hierarchy, row: &Row)
+    requires set { IsDescSetOf h.now gate.old.set }
+    requires row { IsRowOf h.now row.now }
+    requires few { gate.old.agg.count + 1 < 2 ^ 63 }
+    ensures step { PassesIn h.now row.now gate.old gate.new }
+    ensures set { IsDescSetOf h.now gate.new.set }
+{
+    gate.agg = gate.agg.join(&Agg::one(row.measure));
+    gate.set.grow(h, &row.at);
 }
 
 /// Puts a row into a leaf with room, behind its rows.

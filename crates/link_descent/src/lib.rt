@@ -13,6 +13,6 @@ mod visit_tests;
 mod visits;
 
 pub use choice::pick;
-pub use descend::{enter_root, put_leaf, step_down};
+pub use descend::{enter_root, pass_down, pass_root, put_leaf, step_down};
 pub use entered::{Entered, Fresh};
 pub use visits::visit;

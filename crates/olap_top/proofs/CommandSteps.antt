@@ -10,13 +10,16 @@ use Rattle.std.proofs.lemmas.List.Elements.{All-push, All-take, Contains-append_
 use Rattle.std.proofs.lemmas.List.Quantifiers.{all_pairs_push}
 use Rattle.dim_hierarchy.specs.Dimension.{Dimension}
 use Rattle.row_ledger.specs.declared.event.Event.{Event}
+use Rattle.row_ledger.specs.declared.event.Event.TheVariants.{Shown, Ended}
+use Rattle.row_ledger.specs.declared.page.Page.{Page}
+use Rattle.row_ledger.specs.declared.settings.How.{How}
 use Rattle.row_ledger.specs.declared.settings.Use.{Use}
-use Rattle.row_ledger.specs.Past.{event_at, before, end_in, is_end_of, has_ended, is_over, ends_itself, session_in, is_beginning}
+use Rattle.row_ledger.specs.Past.{event_at, before, end_in, is_end_of, has_ended, is_over, ends_itself, session_in, is_beginning, page_in, page_of}
 use Rattle.row_ledger.proofs.Positions.{event_at-here, event_at-older, event_at-past, before-here, before-older}
 use Rattle.script_form.specs.declared.script.Command.{Command}
 use Rattle.script_form.specs.declared.script.Command.TheVariants.{Insert, Query, Control}
 use Rattle.answer_text.specs.Places.{session_of, count_of, begins_in, begins_of, places, places_behind}
-use Rattle.answer_text.specs.Printed.{answer_text, end_of, line, lines, word_of}
+use Rattle.answer_text.specs.Printed.{answer_text, end_of, line, line_at, lines, page_text, word_of}
 use Rattle.answer_text.proofs.PlaceFacts.{GoesOn, HaveBegun, begins_of-here, begins_of-other, count_of-append, places_behind-append, places_behind-kept, places_behind-length, places-push}
 use Rattle.answer_text.proofs.TextFacts.{IsSameAt, lines-append, lines-kept}
 use Rattle.olap_top.specs.Runs.{Begins, BeginsAt, InsertEnds}
@@ -34,6 +37,7 @@ pub record IsCommand (with : Use) (c : Command) (history grown : List Event) (b 
   pub only : (p : ℕ) (x : Event) → event_at grown p ≡ Some x → IsTrue (is_beginning x) → p ≤ length history
   pub end_is : end_of grown (length history) ≡ end
   pub end_older : (p : ℕ) → p < length history → end_of grown p ≡ end_of history p
+  pub page_older : (p : ℕ) → p < length history → page_of grown p ≡ page_of history p
   pub over : IsTrue (is_over grown (length history))
   pub over_older : (p : ℕ) → p < length history → IsTrue (is_over history p) → IsTrue (is_over grown p)
   pub past_here : before grown (length history) ≡ history
@@ -55,8 +59,10 @@ begins-true e s is = rw is refl
 pub record IsPair (with : Use) (c : Command) (history : List Event) (b e : Event) : Type 0 where
   pub session : session_in b ≡ Some (session_of with c)
   pub goes_on : end_in b ≡ None
+  pub shows_none : (p : ℕ) → page_in p b ≡ None
   pub begins_none : session_in e ≡ None
   pub ends : end_in e ≡ Some (length history)
+  pub end_shows_none : (p : ℕ) → page_in p e ≡ None
 
 or-later : (x y z w v : Bool) → (z || w) ≡ true → w ≡ v → ((x || (y || z)) || v) ≡ true
 or-later true y z w v h e = refl
@@ -78,6 +84,7 @@ IsCommand-pair with c history b e pair = record {
   end_older = λ p lt.
       let apart : (length history == p) ≡ false = ne_eqb (length history) p (λ same. let no_way : ⊥ = omega arith in no_way) in
       rw (pair.ends, apart, pair.goes_on) refl;
+  page_older = λ p lt. rw (pair.end_shows_none p, pair.shows_none p) refl;
   over = rw (pair.ends, eq-eqb (length history) (length history) refl) refl;
   over_older = λ p lt over. or-later (is_end_of p e) (is_end_of p b) (has_ended history p) _ _ over (ap (λ o. option_map_or ends_itself o false) (sym (older p lt)));
   past_here = before-older e (b ∷ history) (length history) (omega arith) ∙ before-here b history;
@@ -97,11 +104,70 @@ IsCommand-pair with c history b e pair = record {
         let none : is_beginning x ≡ false = ap is_beginning (sym same) ∙ rw pair.begins_none refl in
         cc
 
+-- Three events: the first begins the command, the second shows its page, and the third ends it.
+
+pub record IsTriple (with : Use) (c : Command) (history : List Event) (b : Event) (page : Page) (how : How) : Type 0 where
+  pub session : session_in b ≡ Some (session_of with c)
+  pub goes_on : end_in b ≡ None
+  pub shows_none : (p : ℕ) → page_in p b ≡ None
+
+pub IsCommand-triple : (with : Use) (c : Command) (history : List Event) (b : Event) (page : Page) (how : How) → IsTriple with c history b page how
+    → IsCommand with c history (Ended (length history) how ∷ Shown (length history) page ∷ b ∷ history) b (Some (Ended (length history) how))
+IsCommand-triple with c history b page how triple = record {
+  session = triple.session;
+  longer = omega arith;
+  at = event_at-older e (s ∷ b ∷ history) (length history) (omega arith) ∙ event_at-older s (b ∷ history) (length history) (omega arith) ∙ event_at-here b history;
+  older = older;
+  only = λ p x at is. elim (cases_lt (length history) p) [
+    | inl gt ↦ absurd (later p x at is gt)
+    | inr le ↦ le
+  ];
+  end_is = rw (eq-eqb (length history) (length history) refl) refl;
+  end_older = λ p lt. rw (apart p lt, triple.goes_on) refl;
+  page_older = λ p lt. rw (apart p lt, triple.shows_none p) refl;
+  over = rw (eq-eqb (length history) (length history) refl) refl;
+  over_older = λ p lt over. or-later (is_end_of p e) (is_end_of p b) (has_ended history p) _ _ over (ap (λ o. option_map_or ends_itself o false) (sym (older p lt)));
+  past_here = before-older e (s ∷ b ∷ history) (length history) (omega arith) ∙ before-older s (b ∷ history) (length history) (omega arith) ∙ before-here b history;
+  past_older = λ q le. before-older e (s ∷ b ∷ history) q (omega arith) ∙ before-older s (b ∷ history) q (omega arith) ∙ before-older b history q le;
+  starts = λ session. begins_of-other e (s ∷ b ∷ history) session refl ∙ begins_of-other s (b ∷ history) session refl;
+}
+  where
+    e : Event
+    e = Ended (length history) how
+
+    s : Event
+    s = Shown (length history) page
+
+    apart : (p : ℕ) → p < length history → (length history == p) ≡ false
+    apart p lt = ne_eqb (length history) p (λ same. let no_way : ⊥ = omega arith in no_way)
+
+    older : (p : ℕ) → p < length history → event_at (e ∷ s ∷ b ∷ history) p ≡ event_at history p
+    older p lt = event_at-older e (s ∷ b ∷ history) p (omega arith) ∙ event_at-older s (b ∷ history) p (omega arith) ∙ event_at-older b history p lt
+
+    later : (p : ℕ) (x : Event) → event_at (e ∷ s ∷ b ∷ history) p ≡ Some x → IsTrue (is_beginning x) → length history < p → ⊥
+    later p x at is gt = elim (cases_lt p (length (s ∷ b ∷ history))) [
+      | inl lt ↦
+          let there : p ≡ length (b ∷ history) = omega arith in
+          let newest : event_at (e ∷ s ∷ b ∷ history) p ≡ Some s =
+          event_at-older e (s ∷ b ∷ history) p lt ∙ ap (λ k. event_at (s ∷ b ∷ history) k) there ∙ event_at-here s (b ∷ history) in
+          let same : s ≡ x = cc in
+          let none : is_beginning x ≡ false = ap is_beginning (sym same) in
+          cc
+      | inr le ↦
+          let within : p < length (e ∷ s ∷ b ∷ history) = known-event (e ∷ s ∷ b ∷ history) p x at in
+          let there : p ≡ length (s ∷ b ∷ history) = omega arith in
+          let newest : event_at (e ∷ s ∷ b ∷ history) p ≡ Some e = ap (λ k. event_at (e ∷ s ∷ b ∷ history) k) there ∙ event_at-here e (s ∷ b ∷ history) in
+          let same : e ≡ x = cc in
+          let none : is_beginning x ≡ false = ap is_beginning (sym same) in
+          cc
+    ]
+
 -- One event that is its own end.
 
 pub record IsSingle (with : Use) (c : Command) (history : List Event) (b : Event) : Type 0 where
   pub session : session_in b ≡ Some (session_of with c)
   pub goes_on : end_in b ≡ None
+  pub shows_none : (p : ℕ) → page_in p b ≡ None
   pub own_end : ends_itself b ≡ true
   pub none_yet : end_of history (length history) ≡ None
 
@@ -118,6 +184,7 @@ IsCommand-single with c history b single = record {
   only = λ p x at is. let within : p < length (b ∷ history) = known-event (b ∷ history) p x at in omega arith;
   end_is = rw single.goes_on single.none_yet;
   end_older = λ p lt. rw single.goes_on refl;
+  page_older = λ p lt. rw (single.shows_none p) refl;
   over = or-own (has_ended (b ∷ history) (length history)) _ (ap (λ o. option_map_or ends_itself o false) (event_at-here b history) ∙ single.own_end);
   over_older = λ p lt over. or-later false (is_end_of p b) (has_ended history p) _ _ over (ap (λ o. option_map_or ends_itself o false) (sym (event_at-older b history p lt)));
   past_here = before-here b history;
@@ -228,24 +295,33 @@ same-at : (with : Use) (c : Command) (history grown : List Event) (b : Event) (e
 same-at with c history grown b end [] is earlier = tt
 same-at with c history grown b end (p ∷ ps) is earlier =
     let lt = earlier 0 p (omega arith) in
-    (record { event = is.older p lt; end = is.end_older p lt }, same-at with c history grown b end ps is (λ k d within. earlier (suc k) d (omega (arith, within))))
+    (record { event = is.older p lt; end = is.end_older p lt; page = is.page_older p lt }, same-at with c history grown b end ps is (λ k d within. earlier (suc k) d (omega (arith, within))))
 
-lines-one : (n : ℕ) (c : Command) (p : ℕ) (grown : List Event) (b : Event) (end : Option Event) → event_at grown p ≡ Some b → end_of grown p ≡ end
-    → lines n (c ∷ []) (Some p ∷ []) grown ≡ line n (word_of c) (answer_text (Some b) end)
+-- what is told of the command with this number: the page that it showed, or its line
+abbrev pub told_by : ℕ → Command → Event → Option Event → Option Page → List ℕ
+told_by n c b end page = option_map_or (page_text n) page (line n (word_of c) (answer_text (Some b) end))
+
+lines-one : (n : ℕ) (c : Command) (p : ℕ) (grown : List Event) (b : Event) (end : Option Event) (page : Option Page)
+    → event_at grown p ≡ Some b → end_of grown p ≡ end → page_of grown p ≡ page
+    → lines n (c ∷ []) (Some p ∷ []) grown ≡ told_by n c b end page
 unfolding lines
-lines-one n c p grown b end at is = append-nil _ ∙ ap (λ o. line n (word_of c) (answer_text o (end_of grown p))) at ∙ ap (λ o. line n (word_of c) (answer_text (Some b) o)) is
+lines-one n c p grown b end page at is shown =
+    append-nil _
+    ∙ ap (λ o. option_map_or (page_text n) o (line_at n c grown (Some p))) shown
+    ∙ ap (λ o. option_map_or (page_text n) page (line n (word_of c) (answer_text o (end_of grown p)))) at
+    ∙ ap (λ o. option_map_or (page_text n) page (line n (word_of c) (answer_text (Some b) o))) is
 
-pub lines_of-more : (with : Use) (h : List Dimension) (done : List Command) (c : Command) (history grown : List Event) (b : Event) (end : Option Event)
-    → IsCommand with c history grown b end → HasDone with h done history
-    → lines_of with (done ++ c ∷ []) grown ≡ lines_of with done history ++ line (1 + length done) (word_of c) (answer_text (Some b) end)
-lines_of-more with h done c history grown b end is has =
+pub lines_of-more : (with : Use) (h : List Dimension) (done : List Command) (c : Command) (history grown : List Event) (b : Event) (end : Option Event) (page : Option Page)
+    → IsCommand with c history grown b end → page_of grown (length history) ≡ page → HasDone with h done history
+    → lines_of with (done ++ c ∷ []) grown ≡ lines_of with done history ++ told_by (1 + length done) c b end page
+lines_of-more with h done c history grown b end page is shown has =
     let long : length done ≡ length (places with done history) = sym (places_behind-length with [] done history) in
     ap (λ ps. lines 1 (done ++ c ∷ []) ps grown) (places-more with h done c history grown b end is has)
     ∙ lines-append 1 done (c ∷ []) (places with done history) (Some (length history) ∷ []) grown long
     ∙ ap (λ t. t ++ lines (1 + length done) (c ∷ []) (Some (length history) ∷ []) grown)
     (ap (λ ps. lines 1 done ps grown) has.places_are ∙ lines-kept 1 done has.begins history grown (same-at with c history grown b end has.begins is has.earlier)
     ∙ ap (λ ps. lines 1 done ps history) (sym has.places_are))
-    ∙ ap (λ t. lines_of with done history ++ t) (lines-one (1 + length done) c (length history) grown b end is.at is.end_is)
+    ∙ ap (λ t. lines_of with done history ++ t) (lines-one (1 + length done) c (length history) grown b end page is.at is.end_is shown)
 
 -- The lines of the first commands: where these began is where the first of all began.
 places-front : (with : Use) (h : List Dimension) (front back : List Command) (history : List Event) → HasDone with h (front ++ back) history

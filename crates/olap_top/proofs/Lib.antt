@@ -2,6 +2,9 @@ pub mod Zips
 pub mod OneWord
 pub mod CommandSteps
 pub mod KeepsSteps
+pub mod Orders
+pub mod ShardSteps
+pub mod ShownSteps
 pub mod Known
 pub mod RunSteps
 pub mod Ends

@@ -5,6 +5,8 @@ use Rattle.std.specs.Io.KnownBytes.{Appends}
 use Rattle.std.proofs.Math.Seq.{take-append_seam, take-append-add}
 use Rattle.std.proofs.lemmas.List.{take-append-drop}
 use Rattle.row_ledger.specs.declared.event.Event.{Event}
+use Rattle.row_ledger.specs.Past.{acked_rows}
+use Rattle.row_ledger.specs.Right.{IsRight}
 use Rattle.row_ledger.proofs.Growth.{IsRight-kept}
 use Rattle.script_form.specs.declared.script.Command.{Command}
 use Rattle.script_form.specs.declared.script.Script.{Script}
@@ -17,6 +19,8 @@ use Rattle.olap_top.specs.Outcomes.{HasRun, RanTo, RanInto, TookPart}
 use Rattle.olap_top.specs.Runs.{IsPart}
 use Rattle.olap_top.specs.RunSoFar.{IsRun, IsHalted, HasGone, lines_of}
 use Rattle.olap_top.specs.declared.run.Run.{Run}
+use Rattle.olap_top.proofs.KeepsSteps.{KeepsRun-nil}
+use Rattle.olap_top.proofs.RunSteps.{lines_of-nil}
 use Rattle.olap_top.proofs.RunFacts.{IsPart-done, IsRunOf-done, IsSerial-done, inserts-done, are_over-done, are_over-first, none_more}
 
 -- What a sink took.
@@ -44,7 +48,7 @@ pub record IsAtPhase (s : Script) (rest : List Command) (taken_before taken_now 
 
 -- what was written is the text of the phases that are done
 written-is : (s : Script) (rest : List Command) (taken_before taken_now : Option (List ℕ)) (run : Run) (at : IsAtPhase s rest taken_before taken_now run)
-    → at.written ≡ lines_of s.with (all_of at.ps) run.flat.ledger.history
+    → at.written ≡ lines_of s.with (all_of at.ps) run.store.ledger.history
 written-is s rest taken_before taken_now run at = sym (append-nil at.written) ∙ ap (λ t. at.written ++ t) (sym at.empty) ∙ at.run_is.text
 
 pub at-start : (s : Script) (taken : Option (List ℕ)) (run : Run) → IsRun s.with s.hierarchy [] [] run → string_bytes run.text ≡ [] → IsAtPhase s s.commands taken taken run
@@ -58,19 +62,19 @@ at-start s taken run is empty = record {
 }
 
 -- the run of the commands that are done
-has_run : (s : Script) (done : List Command) (written : List ℕ) (run : Run) → IsRun s.with s.hierarchy done written run → HasRun s.with s.hierarchy done run.flat.ledger.history
+has_run : (s : Script) (done : List Command) (written : List ℕ) (run : Run) → IsRun s.with s.hierarchy done written run → HasRun s.with s.hierarchy done run.store.ledger.history
 has_run s done written run is = record {
-  right = IsRight-kept (site s.hierarchy) (is_placed run.flat.rows.items) run.flat.ledger.history is.keeps.right;
-  run = IsRunOf-done s.with s.hierarchy done run.flat.ledger.history is.keeps.has;
-  serial = IsSerial-done s.with s.hierarchy done run.flat.ledger.history is.keeps.has;
-  inserts = inserts-done s.with s.hierarchy done run.flat.ledger.history is.keeps.has;
+  right = IsRight-kept (site s.hierarchy) (is_placed (acked_rows run.store.ledger.history)) run.store.ledger.history is.keeps.right;
+  run = IsRunOf-done s.with s.hierarchy done run.store.ledger.history is.keeps.has;
+  serial = IsSerial-done s.with s.hierarchy done run.store.ledger.history is.keeps.has;
+  inserts = inserts-done s.with s.hierarchy done run.store.ledger.history is.keeps.has;
 }
 
 -- Where nothing is left, all is done.
 pub at-done : (s : Script) (taken_before taken_now : Option (List ℕ)) (run : Run) → IsAtPhase s [] taken_before taken_now run
-    → HasRun s.with s.hierarchy s.commands run.flat.ledger.history × Appends taken_before taken_now (told s.with s.commands run.flat.ledger.history)
+    → HasRun s.with s.hierarchy s.commands run.store.ledger.history × Appends taken_before taken_now (told s.with s.commands run.store.ledger.history)
 at-done s taken_before taken_now run at =
-    let history = run.flat.ledger.history in
+    let history = run.store.ledger.history in
     let whole : phases s.commands ≡ at.ps = at.first.split ∙ ap (λ l. at.ps ++ l) phases-nil ∙ append-nil at.ps in
     let all : all_of at.ps ≡ s.commands = ap all_of (sym whole) ∙ all_of-phases s.commands in
     let text : told s.with s.commands history ≡ at.written =
@@ -80,6 +84,42 @@ at-done s taken_before taken_now run at =
       subst (λ l. HasRun s.with s.hierarchy l history) all (has_run s (all_of at.ps) at.written run at.run_is),
       subst (Appends taken_before taken_now) (sym text) at.took,
     )
+
+-- Where nothing has begun: what has run is no command, of a script that has none, or the first none of another.
+
+has_none : (s : Script) → HasDone s.with s.hierarchy [] []
+has_none s = (KeepsRun-nil s.with s.hierarchy).has
+
+right-none : (s : Script) → IsRight (site s.hierarchy) []
+right-none s = IsRight-kept (site s.hierarchy) (is_placed []) [] (KeepsRun-nil s.with s.hierarchy).right
+
+pub at-none : (s : Script) (taken : Option (List ℕ)) (history : List Event) → s.commands ≡ [] → history ≡ []
+    → HasRun s.with s.hierarchy s.commands history × Appends taken taken (told s.with s.commands history)
+at-none s taken history empty none =
+    let over = are_over-done s.with s.hierarchy [] [] (has_none s) in
+    let text : told s.with [] [] ≡ [] =
+    told-first s.with [] [] (phases []) [] (record { split = refl }) (phases-some []) over (none_more s.with s.hierarchy [] [] (has_none s))
+    ∙ lines_of-nil s.with [] in
+    rw (empty, none) (
+      record {
+        right = right-none s;
+        run = IsRunOf-done s.with s.hierarchy [] [] (has_none s);
+        serial = IsSerial-done s.with s.hierarchy [] [] (has_none s);
+        inserts = inserts-done s.with s.hierarchy [] [] (has_none s);
+      },
+      subst (Appends taken taken) (sym text) (Appends-nil taken),
+    )
+
+pub into-none : (s : Script) (taken : Option (List ℕ)) (history : List Event) → history ≡ [] → RanInto s taken taken history
+into-none s taken history none = rw none (record {
+  phase = 0;
+  right = right-none s;
+  run = record {
+    part = IsPart-done s.with s.hierarchy [] (phases_to (0 + 1) s.commands) [] (has_none s);
+    over = are_over-done s.with s.hierarchy [] [] (has_none s);
+  };
+  took = Appends-nil taken;
+})
 
 -- the next phase, and what is left behind it
 pub record IsNext (rest phase more : List Command) : Type 0 where
@@ -109,7 +149,7 @@ next-phases s rest phase more ps first next =
 -- Memory ran out in the next phase.
 pub at-halt : (s : Script) (rest phase more : List Command) (taken_before taken_now : Option (List ℕ)) (run : Run) (now : List Event)
     → IsNext rest phase more → (at : IsAtPhase s rest taken_before taken_now run)
-    → IsHalted s.with s.hierarchy (all_of at.ps) phase run.flat.ledger.history now → RanInto s taken_before taken_now now
+    → IsHalted s.with s.hierarchy (all_of at.ps) phase run.store.ledger.history now → RanInto s taken_before taken_now now
 at-halt s rest phase more taken_before taken_now run now next at halted =
     let done = all_of at.ps in
     let part = take halted.count phase in
@@ -134,10 +174,10 @@ at-halt s rest phase more taken_before taken_now run now next at halted =
 
 text-with-next : (s : Script) (rest phase more : List Command) (taken_before taken_now : Option (List ℕ)) (run now : Run)
     → IsNext rest phase more → (at : IsAtPhase s rest taken_before taken_now run)
-    → HasGone s.with s.hierarchy (all_of at.ps) phase at.written run.flat.ledger.history now
-    → told s.with s.commands now.flat.ledger.history ≡ at.written ++ string_bytes now.text
+    → HasGone s.with s.hierarchy (all_of at.ps) phase at.written run.store.ledger.history now
+    → told s.with s.commands now.store.ledger.history ≡ at.written ++ string_bytes now.text
 text-with-next s rest phase more taken_before taken_now run now next at gone =
-    let history = now.flat.ledger.history in
+    let history = now.store.ledger.history in
     let both = at.ps ++ phase ∷ [] in
     let has : HasDone s.with s.hierarchy (all_of both) history = subst (λ l. HasDone s.with s.hierarchy l history) (sym (with-next at.ps phase)) gone.run_is.keeps.has in
     told-first s.with s.commands both (phases more) history (next-first s rest phase more at.ps at.first next) (phases-some more)
@@ -148,10 +188,10 @@ text-with-next s rest phase more taken_before taken_now run now next at gone =
 -- The sink failed in it.
 pub at-fault : (s : Script) (rest phase more : List Command) (taken_before taken_middle taken_now : Option (List ℕ)) (run now : Run)
     → IsNext rest phase more → (at : IsAtPhase s rest taken_before taken_middle run)
-    → HasGone s.with s.hierarchy (all_of at.ps) phase at.written run.flat.ledger.history now
-    → TookPart taken_middle taken_now (string_bytes now.text) → RanTo s taken_before taken_now now.flat.ledger.history
+    → HasGone s.with s.hierarchy (all_of at.ps) phase at.written run.store.ledger.history now
+    → TookPart taken_middle taken_now (string_bytes now.text) → RanTo s taken_before taken_now now.store.ledger.history
 at-fault s rest phase more taken_before taken_middle taken_now run now next at gone part =
-    let history = now.flat.ledger.history in
+    let history = now.store.ledger.history in
     let text = text-with-next s rest phase more taken_before taken_middle run now next at gone in
     let took : take (length at.written + part.count) (told s.with s.commands history) ≡ at.written ++ take part.count (string_bytes now.text) =
     ap (take (length at.written + part.count)) text ∙ take-append-add at.written (string_bytes now.text) part.count in
@@ -173,18 +213,18 @@ at-fault s rest phase more taken_before taken_middle taken_now run now next at g
 -- The sink took it.
 pub at-next : (s : Script) (rest phase more : List Command) (taken_before taken_middle taken_now : Option (List ℕ)) (run now cleared : Run)
     → IsNext rest phase more → (at : IsAtPhase s rest taken_before taken_middle run)
-    → HasGone s.with s.hierarchy (all_of at.ps) phase at.written run.flat.ledger.history now
+    → HasGone s.with s.hierarchy (all_of at.ps) phase at.written run.store.ledger.history now
     → Appends taken_middle taken_now (string_bytes now.text)
-    → cleared.flat ≡ now.flat → cleared.done ≡ now.done → string_bytes cleared.text ≡ []
+    → cleared.store ≡ now.store → cleared.done ≡ now.done → string_bytes cleared.text ≡ []
     → IsAtPhase s more taken_before taken_now cleared
-at-next s rest phase more taken_before taken_middle taken_now run now cleared next at gone took flat count empty = record {
+at-next s rest phase more taken_before taken_middle taken_now run now cleared next at gone took store count empty = record {
   ps = at.ps ++ phase ∷ [];
   first = next-first s rest phase more at.ps at.first next;
   written = at.written ++ string_bytes now.text;
   run_is = subst (λ l. IsRun s.with s.hierarchy l (at.written ++ string_bytes now.text) cleared) (sym (with-next at.ps phase)) (record {
-    keeps = rw flat gone.run_is.keeps;
+    keeps = rw store gone.run_is.keeps;
     count = count ∙ gone.run_is.count;
-    text = ap (λ t. (at.written ++ string_bytes now.text) ++ t) empty ∙ append-nil _ ∙ gone.run_is.text ∙ ap (λ f. lines_of s.with (all_of at.ps ++ phase) f.ledger.history) (sym flat);
+    text = ap (λ t. (at.written ++ string_bytes now.text) ++ t) empty ∙ append-nil _ ∙ gone.run_is.text ∙ ap (λ f. lines_of s.with (all_of at.ps ++ phase) f.ledger.history) (sym store);
   });
   empty = empty;
   took = Appends-more taken_before taken_middle taken_now at.written (string_bytes now.text) at.took took;

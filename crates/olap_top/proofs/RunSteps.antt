@@ -3,29 +3,27 @@ use Rattle.std.proofs.Common.{◌≡◌, ◌∙◌, ℕ, ◌+◌, List, [], ◌�
 use Rattle.std.proofs.Math.Seq.{take-append-add}
 use Rattle.std.proofs.lemmas.List.{take-append-le}
 use Rattle.dim_hierarchy.specs.Dimension.{Dimension}
-use Rattle.dim_hierarchy.specs.declared.row.Row.{Row}
 use Rattle.row_ledger.specs.declared.event.Event.{Event}
 use Rattle.row_ledger.specs.declared.settings.Use.{Use}
+use Rattle.row_ledger.specs.Past.{acked_rows}
 use Rattle.row_ledger.proofs.Growth.{IsRight-kept}
 use Rattle.script_form.specs.declared.script.Command.{Command}
-use Rattle.answer_text.specs.Answer.{said}
-use Rattle.answer_text.specs.Printed.{line, lines, word_of}
-use Rattle.answer_text.specs.declared.answer.Answer.{Answer}
+use Rattle.answer_text.specs.Printed.{lines}
 use Rattle.olap_top.specs.Keeps.{HasDone, is_placed, site}
 use Rattle.olap_top.specs.RunSoFar.{Does, IsRun, IsHalted, HasGone, KeepsLines, lines_of}
 use Rattle.olap_top.specs.declared.run.Run.{Run}
 use Rattle.olap_top.proofs.KeepsSteps.{KeepsRun-nil}
 
-lines_of-nil : (with : Use) (history : List Event) → lines_of with [] history ≡ []
+pub lines_of-nil : (with : Use) (history : List Event) → lines_of with [] history ≡ []
 unfolding lines
 lines_of-nil with history = refl
 
-pub IsRun-nil : (with : Use) (h : List Dimension) (run : Run) → run.flat.ledger.history ≡ [] → run.flat.rows.items ≡ [] → string_bytes run.text ≡ [] → run.done ≡ 0
+pub IsRun-nil : (with : Use) (h : List Dimension) (run : Run) → run.store.ledger.history ≡ [] → string_bytes run.text ≡ [] → run.done ≡ 0
     → IsRun with h [] [] run
-IsRun-nil with h run history rows text done = record {
-  keeps = rw (history, rows) (KeepsRun-nil with h);
+IsRun-nil with h run history text done = record {
+  keeps = rw history (KeepsRun-nil with h);
   count = done;
-  text = text ∙ sym (lines_of-nil with run.flat.ledger.history);
+  text = text ∙ sym (lines_of-nil with run.store.ledger.history);
 }
 
 pub KeepsLines-same : (with : Use) (done : List Command) (history now : List Event) → now ≡ history → KeepsLines with done history now
@@ -37,69 +35,67 @@ KeepsLines-front with done more history now kept = record { same = λ front back
 KeepsLines-on : (with : Use) (done : List Command) (history middle now : List Event) → KeepsLines with done history middle → KeepsLines with done middle now → KeepsLines with done history now
 KeepsLines-on with done history middle now first second = record { same = λ front back whole. second.same front back whole ∙ first.same front back whole }
 
--- a command more, with its line at the end of the text
-pub step-done : (with : Use) (h : List Dimension) (done : List Command) (written : List ℕ) (c : Command) (run now : Run) (told : Answer)
-    → Does with h c run.flat.ledger.history now.flat.ledger.history run.flat.rows.items now.flat.rows.items told
-    → now.done ≡ run.done + 1 → string_bytes now.text ≡ string_bytes run.text ++ line (run.done + 1) (word_of c) (said told)
-    → IsRun with h done written run → HasGone with h done (c ∷ []) written run.flat.ledger.history now
-step-done with h done written c run now told does count text is =
-    let number : run.done + 1 ≡ 1 + length done = omega (arith, is.count) in
-    record {
-      run_is = record {
-        keeps = does.keeps done is.keeps;
-        count = omega (arith, is.count, count, length-append done (c ∷ []));
-        text =
-            ap (λ t. written ++ t) (text ∙ ap (λ n. string_bytes run.text ++ line n (word_of c) (said told)) number)
-            ∙ sym (append_assoc written (string_bytes run.text) (line (1 + length done) (word_of c) (said told)))
-            ∙ ap (λ t. t ++ line (1 + length done) (word_of c) (said told)) is.text
-            ∙ sym (does.told done is.keeps);
-      };
-      kept = does.kept done is.keeps;
-    }
+-- a command more, with what is told of it at the end of the text
+pub step-done : (with : Use) (h : List Dimension) (done : List Command) (written : List ℕ) (c : Command) (run now : Run) (text : List ℕ)
+    → Does with h c (run.done + 1) run.store.ledger.history now.store.ledger.history text
+    → now.done ≡ run.done + 1 → string_bytes now.text ≡ string_bytes run.text ++ text
+    → IsRun with h done written run → HasGone with h done (c ∷ []) written run.store.ledger.history now
+step-done with h done written c run now text does count grown is = record {
+  run_is = record {
+    keeps = does.keeps done is.keeps;
+    count = omega (arith, is.count, count, length-append done (c ∷ []));
+    text =
+        ap (λ t. written ++ t) grown
+        ∙ sym (append_assoc written (string_bytes run.text) text)
+        ∙ ap (λ t. t ++ text) is.text
+        ∙ sym (does.told done is.keeps (omega (arith, is.count)));
+  };
+  kept = does.kept done is.keeps;
+}
 
 -- no memory before the command, or behind it
 
-pub halted-before : (with : Use) (h : List Dimension) (done more : List Command) (written : List ℕ) (run : Run) (now : List Event) → now ≡ run.flat.ledger.history
-    → IsRun with h done written run → IsHalted with h done more run.flat.ledger.history now
+pub halted-before : (with : Use) (h : List Dimension) (done more : List Command) (written : List ℕ) (run : Run) (now : List Event) → now ≡ run.store.ledger.history
+    → IsRun with h done written run → IsHalted with h done more run.store.ledger.history now
 halted-before with h done more written run now same is = record {
   count = 0;
   within = omega arith;
-  right = rw same (IsRight-kept (site h) (is_placed run.flat.rows.items) run.flat.ledger.history is.keeps.right);
+  right = rw same (IsRight-kept (site h) (is_placed (acked_rows run.store.ledger.history)) run.store.ledger.history is.keeps.right);
   has = rw (same, append-nil done) is.keeps.has;
-  kept = KeepsLines-same with done run.flat.ledger.history now same;
+  kept = KeepsLines-same with done run.store.ledger.history now same;
 }
 
-pub halted-behind : (with : Use) (h : List Dimension) (done : List Command) (written : List ℕ) (c : Command) (run : Run) (now : List Event) (rows_now : List Row) (told : Answer)
-    → Does with h c run.flat.ledger.history now run.flat.rows.items rows_now told
-    → IsRun with h done written run → IsHalted with h done (c ∷ []) run.flat.ledger.history now
-halted-behind with h done written c run now rows_now told does is =
+pub halted-behind : (with : Use) (h : List Dimension) (done : List Command) (written : List ℕ) (c : Command) (run : Run) (now : List Event) (number : ℕ) (text : List ℕ)
+    → Does with h c number run.store.ledger.history now text
+    → IsRun with h done written run → IsHalted with h done (c ∷ []) run.store.ledger.history now
+halted-behind with h done written c run now number text does is =
     let keeps = does.keeps done is.keeps in
     record {
       count = 1;
       within = omega arith;
-      right = IsRight-kept (site h) (is_placed rows_now) now keeps.right;
+      right = IsRight-kept (site h) (is_placed (acked_rows now)) now keeps.right;
       has = keeps.has;
       kept = does.kept done is.keeps;
     }
 
 -- More commands, one after the other.
 
-pub gone-none : (with : Use) (h : List Dimension) (done : List Command) (written : List ℕ) (run : Run) → IsRun with h done written run → HasGone with h done [] written run.flat.ledger.history run
+pub gone-none : (with : Use) (h : List Dimension) (done : List Command) (written : List ℕ) (run : Run) → IsRun with h done written run → HasGone with h done [] written run.store.ledger.history run
 gone-none with h done written run is = record {
   run_is = subst (λ l. IsRun with h l written run) (sym (append-nil done)) is;
-  kept = KeepsLines-same with done run.flat.ledger.history run.flat.ledger.history refl;
+  kept = KeepsLines-same with done run.store.ledger.history run.store.ledger.history refl;
 }
 
 pub gone-more : (with : Use) (h : List Dimension) (done more next : List Command) (written : List ℕ) (before : List Event) (run now : Run)
-    → HasGone with h done more written before run → HasGone with h (done ++ more) next written run.flat.ledger.history now → HasGone with h done (more ++ next) written before now
+    → HasGone with h done more written before run → HasGone with h (done ++ more) next written run.store.ledger.history now → HasGone with h done (more ++ next) written before now
 gone-more with h done more next written before run now gone goes = record {
   run_is = subst (λ l. IsRun with h l written now) (append_assoc done more next) goes.run_is;
-  kept = KeepsLines-on with done before run.flat.ledger.history now.flat.ledger.history gone.kept (KeepsLines-front with done more run.flat.ledger.history now.flat.ledger.history goes.kept);
+  kept = KeepsLines-on with done before run.store.ledger.history now.store.ledger.history gone.kept (KeepsLines-front with done more run.store.ledger.history now.store.ledger.history goes.kept);
 }
 
 -- halted at the next of them
 pub halted-at : (with : Use) (h : List Dimension) (done more next all rest : List Command) (written : List ℕ) (before : List Event) (run : Run) (now : List Event)
-    → all ≡ more ++ next ++ rest → HasGone with h done more written before run → IsHalted with h (done ++ more) next run.flat.ledger.history now
+    → all ≡ more ++ next ++ rest → HasGone with h done more written before run → IsHalted with h (done ++ more) next run.store.ledger.history now
     → IsHalted with h done all before now
 halted-at with h done more next all rest written before run now whole gone halted =
     let front : take (length more + halted.count) all ≡ more ++ take halted.count next =
@@ -111,5 +107,5 @@ halted-at with h done more next all rest written before run now whole gone halte
       within = omega (arith, halted.within, ap length whole, length-append (more ++ next) rest, length-append more next);
       right = halted.right;
       has = subst (λ l. HasDone with h l now) (append_assoc done more (take halted.count next) ∙ ap (λ l. done ++ l) (sym front)) halted.has;
-      kept = KeepsLines-on with done before run.flat.ledger.history now gone.kept (KeepsLines-front with done more run.flat.ledger.history now halted.kept);
+      kept = KeepsLines-on with done before run.store.ledger.history now gone.kept (KeepsLines-front with done more run.store.ledger.history now halted.kept);
     }

@@ -1,14 +1,17 @@
--- What a run over a flat list of rows keeps, command by command.
-use Rattle.std.specs.Prelude.{ℕ, ◌≡◌, ◌<◌, ◌==◌, Bool, Some, IsTrue, List, length, map, All, Contains, AllPairs}
+-- What a run over the one shard keeps, command by command.
+use Rattle.std.specs.Prelude.{ℕ, ◌≡◌, ◌<◌, ◌==◌, Bool, Some, IsTrue, List, length, map, All, Contains, AllPairs, IsPermutation}
 use Rattle.std.specs.List.{list_any, AllZip}
 use Rattle.dim_hierarchy.specs.declared.row.Row.{Row}
 use Rattle.dim_hierarchy.specs.Dimension.{Dimension}
-use Rattle.dim_hierarchy.specs.Row.{IsRowOf}
 use Rattle.row_ledger.specs.declared.event.Event.{Event}
+use Rattle.row_ledger.specs.declared.page.Page.{Page}
+use Rattle.row_ledger.specs.declared.page.Page.TheVariants as page
 use Rattle.row_ledger.specs.declared.settings.Use.{Use}
-use Rattle.row_ledger.specs.Past.{event_at, before, is_over, is_beginning}
+use Rattle.row_ledger.specs.Past.{event_at, before, is_over, is_beginning, acked_rows}
 use Rattle.row_ledger.specs.Bounds.{CanAnswer}
+use Rattle.row_ledger.specs.Pages.{IsPageOf}
 use Rattle.row_ledger.specs.Right.{Site, KeepsRight}
+use Rattle.shard_tree.specs.Shard.{ShardValue, rows_of, IsShardOf}
 use Rattle.script_form.specs.declared.script.Command.{Command}
 use Rattle.answer_text.specs.Places.{begins_of, count_of, places}
 use Rattle.olap_top.specs.Runs.{BeginsAt, InsertEnds}
@@ -17,13 +20,9 @@ use Rattle.olap_top.specs.Runs.{BeginsAt, InsertEnds}
 abbrev pub site : List Dimension → Site
 site h = record { hierarchy = h }
 
--- the number of a row that has found its place in the list
+-- the number of a row that has found its place in the shard
 abbrev pub is_placed : List Row → ℕ → Bool
 is_placed rows number = list_any (λ r. r.no == number) rows
-
--- each row is one of the hierarchy
-abbrev pub AreRowsOf : List Dimension → List Row → Type 0
-AreRowsOf h rows = All (IsRowOf h) rows
 
 -- these commands are done, one after the other: where they began, and that the history is right and holds nothing else
 pub record HasDone (with : Use) (h : List Dimension) (done : List Command) (history : List Event) : Type 0 where
@@ -37,8 +36,20 @@ pub record HasDone (with : Use) (h : List Dimension) (done : List Command) (hist
   pub serial : AllPairs (λ p q. (p < q) × IsTrue (is_over (before history q) p)) begins
   pub inserts : AllZip (λ c p. InsertEnds h history c (Some p)) done begins
 
--- and the rows can answer any query that comes next
-pub record KeepsRun (with : Use) (h : List Dimension) (done : List Command) (history : List Event) (rows : List Row) : Type 0 where
-  pub right : KeepsRight (site h) (is_placed rows) history
-  pub flat : CanAnswer (is_placed rows) history rows
+-- and the rows that were acknowledged can answer any query that comes next
+pub record KeepsRun (with : Use) (h : List Dimension) (done : List Command) (history : List Event) : Type 0 where
+  pub right : KeepsRight (site h) (is_placed (acked_rows history)) history
+  pub flat : CanAnswer (is_placed (acked_rows history)) history (acked_rows history)
   pub has : HasDone with h done history
+
+-- and the shard, which is shard 0, has just these rows; each number is a position in the history, so that the next is none
+-- of them
+pub record KeepsShard (h : List Dimension) (shard : ShardValue) (history : List Event) : Type 0 where
+  pub is_shard : IsShardOf h shard
+  pub first : shard.gate.shard ≡ 0
+  pub rows : IsPermutation shard.rows (acked_rows history)
+  pub earlier : All (λ (r : Row). r.no < length history) (acked_rows history)
+
+-- a page of this shard
+abbrev pub ShowsShard : List Dimension → ShardValue → Page → Type 0
+ShowsShard h shard (page.Tree tree) = (tree.shard ≡ shard.gate.shard) × IsPageOf h (rows_of shard.blocks) shard.gate.queue.rows tree

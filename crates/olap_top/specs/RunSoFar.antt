@@ -1,15 +1,12 @@
 -- What a run has made when these commands are done.
 use Rattle.std.specs.Prelude.{◌≡◌, ◌≤◌, ◌+◌, ℕ, List, [], ◌∷◌, ◌++◌, length, take, string_bytes}
-use Rattle.dim_hierarchy.specs.declared.row.Row.{Row}
 use Rattle.dim_hierarchy.specs.Dimension.{Dimension}
 use Rattle.row_ledger.specs.declared.event.Event.{Event}
 use Rattle.row_ledger.specs.declared.settings.Use.{Use}
 use Rattle.row_ledger.specs.Right.{IsRight}
 use Rattle.script_form.specs.declared.script.Command.{Command}
 use Rattle.answer_text.specs.Places.{places}
-use Rattle.answer_text.specs.Answer.{said}
-use Rattle.answer_text.specs.Printed.{line, lines, word_of}
-use Rattle.answer_text.specs.declared.answer.Answer.{Answer}
+use Rattle.answer_text.specs.Printed.{lines}
 use Rattle.olap_top.specs.declared.run.Run.{Run}
 use Rattle.olap_top.specs.Keeps.{KeepsRun, HasDone, site}
 
@@ -21,18 +18,19 @@ lines_of with done history = lines 1 done (places with done history) history
 pub record KeepsLines (with : Use) (done : List Command) (history now : List Event) : Type 0 where
   pub same : (front back : List Command) → front ++ back ≡ done → lines_of with front now ≡ lines_of with front history
 
--- A command was done behind any others: what a run keeps it keeps still, and the command's line is behind theirs.
-pub record Does (with : Use) (h : List Dimension) (c : Command) (history now : List Event) (rows rows_now : List Row) (answer : Answer) : Type 0 where
-  pub keeps : (done : List Command) → KeepsRun with h done history rows → KeepsRun with h (done ++ c ∷ []) now rows_now
-  pub told : (done : List Command) → KeepsRun with h done history rows
-      → lines_of with (done ++ c ∷ []) now ≡ lines_of with done history ++ line (1 + length done) (word_of c) (said answer)
-  pub kept : (done : List Command) → KeepsRun with h done history rows → KeepsLines with done history now
+-- A command with this number was done behind any others: what a run keeps it keeps still, and this text of the command is
+-- behind theirs.
+pub record Does (with : Use) (h : List Dimension) (c : Command) (number : ℕ) (history now : List Event) (text : List ℕ) : Type 0 where
+  pub keeps : (done : List Command) → KeepsRun with h done history → KeepsRun with h (done ++ c ∷ []) now
+  pub told : (done : List Command) → KeepsRun with h done history → number ≡ 1 + length done
+      → lines_of with (done ++ c ∷ []) now ≡ lines_of with done history ++ text
+  pub kept : (done : List Command) → KeepsRun with h done history → KeepsLines with done history now
 
 -- these bytes of the text were written, and the run holds the rest of it
 pub record IsRun (with : Use) (h : List Dimension) (done : List Command) (written : List ℕ) (run : Run) : Type 0 where
-  pub keeps : KeepsRun with h done run.flat.ledger.history run.flat.rows.items
+  pub keeps : KeepsRun with h done run.store.ledger.history
   pub count : run.done ≡ length done
-  pub text : written ++ string_bytes run.text ≡ lines_of with done run.flat.ledger.history
+  pub text : written ++ string_bytes run.text ≡ lines_of with done run.store.ledger.history
 
 -- A run was halted for want of memory when the first of some more commands were done.
 pub record IsHalted (with : Use) (h : List Dimension) (done more : List Command) (before history : List Event) : Type 0 where
@@ -45,4 +43,4 @@ pub record IsHalted (with : Use) (h : List Dimension) (done more : List Command)
 -- more commands were done, one after the other
 pub record HasGone (with : Use) (h : List Dimension) (done more : List Command) (written : List ℕ) (before : List Event) (run : Run) : Type 0 where
   pub run_is : IsRun with h (done ++ more) written run
-  pub kept : KeepsLines with done before run.flat.ledger.history
+  pub kept : KeepsLines with done before run.store.ledger.history

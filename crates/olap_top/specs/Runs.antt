@@ -6,6 +6,7 @@ use Rattle.dim_hierarchy.specs.Row.{IsCoordNamed, leaves}
 use Rattle.dim_hierarchy.specs.Filter.{IsFilterNamed, picks}
 use Rattle.row_ledger.specs.declared.event.Event.{Event}
 use Rattle.row_ledger.specs.declared.event.Event.TheVariants.{Begun, Acked, Asked, Unknown, Failed, Refused, Called}
+use Rattle.row_ledger.specs.declared.settings.Call.TheVariants.{Tree}
 use Rattle.row_ledger.specs.declared.settings.Use.{Use}
 use Rattle.row_ledger.specs.Past.{event_at, before, is_over, is_beginning}
 use Rattle.script_form.specs.declared.script.Command.{Command}
@@ -28,6 +29,7 @@ Begins with h (Query question) (Asked session server filter) =
 Begins with h (Query question) (Unknown session server dim) =
     (session ≡ question.server) × (server ≡ question.server) × (position is_none (picks h question.filter) ≡ Some dim)
 Begins with h (Query question) (Refused session) = session ≡ question.server
+Begins with h (Control (Tree shard)) (Refused session) = session ≡ with.servers + 1
 Begins with h (Control call) (Called session called) = (session ≡ with.servers + 1) × (called ≡ call)
 Begins with h _ _ = ⊥
 

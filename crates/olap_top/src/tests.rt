@@ -25,7 +25,8 @@ fn words(alloc: Global, all: &[&str]) -> Result<Vec<String>, AllocError> {
     Ok(words)
 }
 
-fn step<R: Threads + Wait + Sync>(
+/// Runs what the word `step` asks.
+pub(crate) fn step<R: Threads + Wait + Sync>(
     rt: &R,
     alloc: Global,
     source: &mut MemSource,
@@ -324,7 +325,7 @@ fn a_history_tells_what_was_printed(rt: HostRuntime) -> Result<(), Fail> {
     let alloc = rt.alloc();
     let text = on_base(
         alloc,
-        b"insert,0,5,berlin\ninsert,1,7,paris\nbarrier\nquery,1,*\nquery,0,rome\nbarrier\ninsert,1,-9,berlin\nquery,0,de",
+        b"insert,0,5,berlin\ninsert,1,7,paris\nbarrier\nquery,1,*\nquery,0,rome\ntree,0\ninsert,1,-9,berlin\ntree,7\nquery,0,de",
     )?;
     let mut source = MemSource::new(text.clone()?, Vec::new(alloc), 4096);
     let mut sink = MemSink::new(alloc, 1000, Vec::new(alloc), 4096)?;
@@ -339,7 +340,7 @@ fn a_history_tells_what_was_printed(rt: HostRuntime) -> Result<(), Fail> {
     let middle = phase(alloc, &script.with, &script.commands, &history, 1)?;
     assert_eq!(rt;
         middle.as_slice(),
-        b"4 query 1 5 5 5\n5 query unknown 0\n6 barrier ok\n".as_slice()
+        b"4 query 1 5 5 5\n5 query unknown 0\n6 tree 0 height 1 rows 1 queued 0\n6 node 0 leaf 1 1 1 5 5 5 2:0\n".as_slice()
     );
     Ok(())
 }

@@ -1,5 +1,5 @@
 // The top call.
-ghost use Rattle.std.specs.Prelude.{◌≡◌, ◌≢◌, ◌+◌, ◌≤◌, ◌^◌, ◌⊎◌, ◌↔◌, List, ℕ, [], ◌∷◌, Ok, Err, All, length, map, codes, string_bytes, IsTrue};
+ghost use Rattle.std.specs.Prelude.{◌≡◌, ◌≢◌, ◌+◌, ◌≤◌, ◌^◌, ◌⊎◌, ◌↔◌, ◌<◌, List, ℕ, [], ◌∷◌, Ok, Err, All, length, map, codes, string_bytes, IsTrue};
 ghost use Rattle.std.specs.Io.KnownBytes.{Appends};
 ghost use Rattle.volap_io.specs.Causes.{Rose};
 ghost use Rattle.volap_io.specs.Source.{Gave};
@@ -8,6 +8,7 @@ ghost use Rattle.script_form.specs.declared.script.Cause.{Cause};
 ghost use Rattle.script_form.specs.declared.script.Script.{Script};
 ghost use Rattle.script_form.specs.declared.script.ScriptFault.TheVariants as fault;
 ghost use Rattle.answer_text.specs.Printed.{told, bad_line};
+ghost use Rattle.olap_top.specs.Keeps.{KeepsShard};
 ghost use Rattle.olap_top.specs.RunSoFar.{IsRun};
 ghost use Rattle.olap_top.specs.Outcomes.{TookPart, IsStep, HasRun, RanTo, RanInto, IsDone, IsCutOff, IsStarved, IsNoScript, IsGood};
 
@@ -38,18 +39,18 @@ fn without_history(alloc: Global, status: Status) -> Outcome
 fn run_phases<K: Sink>(run: &mut Run, alloc: Global, script: &Script, sink: &mut K) -> Status
     requires fits { All (Fits script.now) script.now.commands }
     requires start { IsRun script.now.with script.now.hierarchy [] [] run.old }
-    requires rows { run.old.flat.rows.items ≡ [] }
+    requires shard { KeepsShard script.now.hierarchy run.old.store.shard run.old.store.ledger.history }
     requires text { string_bytes run.old.text ≡ [] }
     ensures kinds { (result ≡ Status.Done) ⊎ (result ≡ Status.WriteFault) ⊎ (result ≡ Status.NoMemory) }
     ensures no_memory { result ≡ Status.NoMemory
-        → RanInto script.now (K.taken sink.old) (K.taken sink.new) run.new.flat.ledger.history }
+        → RanInto script.now (K.taken sink.old) (K.taken sink.new) run.new.store.ledger.history }
     ensures write_fault { result ≡ Status.WriteFault
         → Rose (K.faults sink.old) (K.faults sink.new)
-        × RanTo script.now (K.taken sink.old) (K.taken sink.new) run.new.flat.ledger.history }
+        × RanTo script.now (K.taken sink.old) (K.taken sink.new) run.new.store.ledger.history }
     ensures done { result ≡ Status.Done
-        → HasRun script.now.with script.now.hierarchy script.now.commands run.new.flat.ledger.history
+        → HasRun script.now.with script.now.hierarchy script.now.commands run.new.store.ledger.history
         × Appends (K.taken sink.old) (K.taken sink.new)
-        (told script.now.with script.now.commands run.new.flat.ledger.history) }
+        (told script.now.with script.now.commands run.new.store.ledger.history) }
 {
     let mut rest = script.commands.as_slice();
     while !rest.is_empty() {
@@ -66,9 +67,10 @@ fn run_phases<K: Sink>(run: &mut Run, alloc: Global, script: &Script, sink: &mut
     Status::Done
 }
 
-/// Runs a script to its end.
+/// Runs a script to its end. One without commands opens no shard.
 fn run_script<K: Sink>(alloc: Global, script: &Script, sink: &mut K) -> Outcome
-    requires { All (Fits script.now) script.now.commands }
+    requires fits { All (Fits script.now) script.now.commands }
+    requires dims { 0 < length script.now.commands → 0 < length script.now.hierarchy }
     ensures kinds { (result.status ≡ Status.Done)
         ⊎ (result.status ≡ Status.WriteFault)
         ⊎ (result.status ≡ Status.NoMemory) }
@@ -82,11 +84,16 @@ fn run_script<K: Sink>(alloc: Global, script: &Script, sink: &mut K) -> Outcome
         × Appends (K.taken sink.old) (K.taken sink.new)
         (told script.now.with script.now.commands result.ledger.history) }
 {
-    let mut run = Run::new(alloc);
+    if script.commands.is_empty() {
+        return without_history(alloc, Status::Done);
+    }
+    let Ok(mut run) = Run::new(alloc, &script.hierarchy, script.with.cells) else {
+        return without_history(alloc, Status::NoMemory);
+    };
     let status = run_phases(&mut run, alloc, script, sink);
     Outcome {
         status,
-        ledger: run.flat.ledger,
+        ledger: run.store.ledger,
     }
 }
 

@@ -1,13 +1,10 @@
 -- A flat list of rows answers rightly, and is kept by whole commands.
-use Rattle.std.proofs.Common.{◌≡◌, ℕ, ◌<◌, List, [], ◌∷◌, ◌++◌, Bool, false, IsTrue, length, refl, subst, arith, ◌==◌}
+use Rattle.std.proofs.Common.{◌≡◌, ℕ, ◌<◌, List, [], ◌∷◌, Bool, false, IsTrue, length, refl, subst, arith, ◌==◌}
 use Rattle.std.specs.Prelude.{Some, nat_lt, nat_eq, All, Contains, filter}
-use Rattle.std.specs.List.{IsDistinct, AllByRecursion, list_any}
-use Rattle.std.specs.Cmp.{nat_eq_equiv}
-use Rattle.std.proofs.lemmas.List.{map-append}
-use Rattle.std.proofs.lemmas.Map.Keys.{IsDistinct-push}
+use Rattle.std.specs.List.{IsDistinct, AllByRecursion}
 use Rattle.std.proofs.lemmas.Bool.Decides.{nat_tests}
-use Rattle.std.proofs.lemmas.Bool.{cond_both, or_from}
-use Rattle.std.proofs.lemmas.List.Elements.{All-nil, All-cons, All-push, Contains-push, Contains-append_left, All-head, All-tail, All-filter, All-map, All-weaker, filter_passes}
+use Rattle.std.proofs.lemmas.Bool.{cond_both}
+use Rattle.std.proofs.lemmas.List.Elements.{All-nil, All-cons, Contains-append_right, All-head, All-tail, All-filter, All-map, All-weaker, filter_passes}
 use Rattle.dim_hierarchy.specs.declared.row.Row.{Row}
 use Rattle.dim_hierarchy.specs.declared.filter.Pick.{Pick}
 use Rattle.dim_hierarchy.specs.Dimension.{Dimension}
@@ -15,7 +12,7 @@ use Rattle.dim_hierarchy.specs.Filter.{matches}
 use Rattle.measure_agg.specs.Aggregate.{Aggregate, agg}
 use Rattle.row_ledger.specs.declared.event.Event.{Event}
 use Rattle.row_ledger.specs.declared.event.Event.TheVariants.{Begun, Acked, Asked, Answered}
-use Rattle.row_ledger.specs.Past.{Ack, Query, begun, before, query_at, ack_in, acked, has_ended}
+use Rattle.row_ledger.specs.Past.{Ack, Query, begun, before, query_at, ack_in, acked, acked_rows, has_ended}
 use Rattle.row_ledger.specs.Bounds.{own, must, may, numbers, IsAllowed, CanAnswer}
 use Rattle.row_ledger.specs.Right.{Site, IsRightAnswer, KeepsRight}
 use Rattle.row_ledger.proofs.Elements.{All-cons_option, Contains-filter, Contains-filtered}
@@ -113,18 +110,22 @@ CanAnswer-older usable e past rows can same = record {
 }
 
 -- a number above those of all rows is none of them
-is_new-above : (number : ℕ) (rows : List Row) → All (λ r. r.no < number) rows → list_any (nat_eq number) (numbers rows) ≡ false
-is_new-above number [] below = refl
-is_new-above number (r ∷ rows) below =
-    let first : r.no < number = All-head (λ (r : Row). r.no < number) r rows below in
-    or_from (nat_eq number r.no) (list_any (nat_eq number) (numbers rows))
-    (grind (arith, nat_tests))
-    (is_new-above number rows (All-tail (λ (r : Row). r.no < number) r rows below))
+apart-above : (number : ℕ) (rows : List Row) → All (λ r. r.no < number) rows → AllByRecursion (λ other. nat_eq number other ≡ false) (numbers rows)
+apart-above number [] below = tt
+apart-above number (r ∷ rows) below =
+    let first : r.no < number = All-head (λ (r : Row). r.no < number) r rows below in (
+      grind (arith, nat_tests),
+      apart-above number rows (All-tail (λ (r : Row). r.no < number) r rows below),
+    )
 
--- behind an insert these and its own can
+distinct-above : (row : Row) (rows : List Row) → All (λ r. r.no < row.no) rows → IsDistinct nat_eq (numbers rows) → IsDistinct nat_eq (numbers (row ∷ rows))
+unfolding IsDistinct
+distinct-above row rows below once = (apart-above row.no rows below, once)
+
+-- behind an insert its own row and these can
 pub CanAnswer-insert : (site : Site) (placed : ℕ → Bool) (h : List Event) (rows : List Row) (session server : ℕ) (row : Row) (path : List ℕ)
     → KeepsRight site placed h → CanAnswer placed h rows → row.no ≡ length h → IsTrue (placed row.no)
-    → CanAnswer placed (Acked (length h) path ∷ Begun session server row ∷ h) (rows ++ row ∷ [])
+    → CanAnswer placed (Acked (length h) path ∷ Begun session server row ∷ h) (row ∷ rows)
 CanAnswer-insert site placed h rows session server row path keeps can numbered is_placed =
     let inserting = Begun session server row ∷ h in
     let older : (r : Row) → Contains (may placed h) r → r.no < row.no =
@@ -132,13 +133,18 @@ CanAnswer-insert site placed h rows session server row path keeps can numbered i
     let below : All (λ r. r.no < row.no) rows = All-weaker (Contains (may placed h)) (λ r. r.no < row.no) older rows can.allowed in
     let new : Contains (may placed inserting) row = rw is_placed (0, omega arith, refl) in
     record {
-      once = rw map-append (IsDistinct-push nat_eq_equiv (numbers rows) row.no can.once (is_new-above row.no rows below));
-      allowed = All-push (Contains (may placed inserting)) rows row (CanAnswer-older placed (Begun session server row) h rows can refl).allowed new;
+      once = distinct-above row rows below can.once;
+      allowed = All-cons (Contains (may placed inserting)) row rows new (CanAnswer-older placed (Begun session server row) h rows can refl).allowed;
       known = rw event_at-here
-          (All-cons (λ (a : Ack). Contains (rows ++ row ∷ []) a.row) (record { server = server; row = row; path = path }) (acked h) (Contains-push rows row)
-          (All-weaker (λ (a : Ack). Contains rows a.row) (λ (a : Ack). Contains (rows ++ row ∷ []) a.row)
-          (λ a has. Contains-append_left rows (row ∷ []) a.row has) (acked h) can.known));
+          (All-cons (λ (a : Ack). Contains (row ∷ rows) a.row) (record { server = server; row = row; path = path }) (acked h) (0, omega arith, refl)
+          (All-weaker (λ (a : Ack). Contains rows a.row) (λ (a : Ack). Contains (row ∷ rows) a.row)
+          (λ a has. Contains-append_right (row ∷ []) rows a.row has) (acked h) can.known));
     }
+
+-- what an insert acknowledges stands in front
+pub acked_rows-insert : (h : List Event) (session server : ℕ) (row : Row) (path : List ℕ)
+    → acked_rows (Acked (length h) path ∷ Begun session server row ∷ h) ≡ row ∷ acked_rows h
+acked_rows-insert h session server row path = rw event_at-here refl
 
 -- Whole commands, the end right behind the beginning.
 

@@ -9,12 +9,13 @@ use Rattle.dim_hierarchy.specs.declared.row.Row.{Row}
 use Rattle.dim_hierarchy.specs.declared.filter.Pick.{Pick}
 use Rattle.measure_agg.specs.Aggregate.{Aggregate}
 use Rattle.row_ledger.specs.declared.event.Event.{Event}
-use Rattle.row_ledger.specs.declared.event.Event.TheVariants.{Begun, Acked, Asked, Answered, Unknown, Failed, Refused, Called, Ended}
+use Rattle.row_ledger.specs.declared.event.Event.TheVariants.{Begun, Acked, Asked, Answered, Unknown, Failed, Refused, Called, Shown, Ended}
+use Rattle.row_ledger.specs.declared.page.Page.{Page}
 use Rattle.row_ledger.specs.declared.settings.Call.{Call}
 use Rattle.row_ledger.specs.declared.settings.How.{How}
-use Rattle.row_ledger.specs.Past.{Ack, insert_at, query_at, call_at, event_at, ack_in, is_end_of, has_ended, begun, acked, failed, is_kept}
+use Rattle.row_ledger.specs.Past.{Ack, insert_at, query_at, call_at, event_at, ack_in, is_end_of, has_ended, page_in, page_of, begun, acked, failed, is_kept}
 use Rattle.row_ledger.specs.Bounds.{may}
-use Rattle.row_ledger.specs.Right.{Site, Each, IsRightAck, IsRightAnswer, IsRightFailure, IsRightEnd, Stands, StandsRight, KeepsRight, IsRight}
+use Rattle.row_ledger.specs.Right.{Site, Each, IsRightAck, IsRightAnswer, IsRightFailure, IsRightPage, IsRightEnd, Stands, StandsRight, KeepsRight, IsRight}
 use Rattle.row_ledger.proofs.Elements.{Contains-cons_option, Contains-filter, Contains-filtered, IsTrue-filtered}
 use Rattle.row_ledger.proofs.Positions.{event_at-past}
 
@@ -113,6 +114,10 @@ pub KeepsRight-called : (site : Site) (placed : ℕ → Bool) (h : List Event) (
     → KeepsRight site placed h → KeepsRight site placed (Called session call ∷ h)
 KeepsRight-called site placed h session call keeps = KeepsRight-grown site placed h (Called session call) keeps tt refl
 
+pub KeepsRight-shown : (site : Site) (placed : ℕ → Bool) (h : List Event) (of : ℕ) (page : Page)
+    → KeepsRight site placed h → IsRightPage site h of page → KeepsRight site placed (Shown of page ∷ h)
+KeepsRight-shown site placed h of page keeps right = KeepsRight-grown site placed h (Shown of page) keeps right refl
+
 pub KeepsRight-ended : (site : Site) (placed : ℕ → Bool) (h : List Event) (of : ℕ) (how : How)
     → KeepsRight site placed h → IsRightEnd h of how → KeepsRight site placed (Ended of how ∷ h)
 KeepsRight-ended site placed h of how keeps right = KeepsRight-grown site placed h (Ended of how) keeps right refl
@@ -156,6 +161,12 @@ IsRightAnswer-within site usable past of answer right = event_at-within past of 
 IsRightFailure-within : (past : List Event) (of : ℕ) → IsRightFailure past of → of < length past
 IsRightFailure-within past of right = event_at-within past of (λ none. false≢true (rw none at right.begun))
 
+IsRightPage-within : (site : Site) (past : List Event) (of : ℕ) (page : Page) → IsRightPage site past of page → of < length past
+IsRightPage-within site past of page right = event_at-within past of (λ none.
+    let called : call_at past of ≡ Some right.call = right.called in
+    let nothing : call_at past of ≡ None = rw none refl in
+    cc)
+
 IsRightEnd-within : (past : List Event) (of : ℕ) (how : How) → IsRightEnd past of how → of < length past
 IsRightEnd-within past of how right = event_at-within past of (λ none.
     let called : call_at past of ≡ Some right.call = right.called in
@@ -180,6 +191,19 @@ fresh site usable (e ∷ past) right p beyond =
     or_from (is_end_of p e) (has_ended past p)
     (is_end_of-fresh site usable past e right.each.0 p (omega arith))
     (fresh site usable past (record { each = right.each.1 }) p (omega arith))
+
+page_in-fresh : (site : Site) (usable : ℕ → Bool) (past : List Event) (e : Event)
+    → Stands site usable past e → (p : ℕ) → length past ≤ p → page_in p e ≡ None
+page_in-fresh site usable past (Shown of page) right p beyond =
+    let within : of < length past = IsRightPage-within site past of page right in grind (arith, nat_tests)
+page_in-fresh site usable past _ right p beyond = refl
+
+-- nor is a page shown for one
+pub pageless : (site : Site) (usable : ℕ → Bool) (h : List Event) → StandsRight site usable h → (p : ℕ) → length h ≤ p → page_of h p ≡ None
+pageless site usable [] right p beyond = refl
+pageless site usable (e ∷ past) right p beyond =
+    rw (page_in-fresh site usable past e right.each.0 p (omega arith))
+    (pageless site usable past (record { each = right.each.1 }) p (omega arith))
 
 -- no row has begun there
 pub begun-within : (site : Site) (usable : ℕ → Bool) (h : List Event) → StandsRight site usable h → (r : Row) → Contains (begun h) r → r.no < length h

@@ -3,11 +3,12 @@
 -- alone, and nothing that is said of an earlier event changes when the history grows.
 use Rattle.std.specs.Prelude.{ℕ, ◌==◌, Bool, true, false, not, ◌||◌, nat_lt, Option, Some, None, is_some, option_map, option_and_then, if◌then◌else◌, List, [], ◌∷◌, length, map, filter, filter_map}
 use Rattle.std.specs.List.{list_any, cons_option}
-use Rattle.std.specs.Option.{option_map_or}
+use Rattle.std.specs.Option.{option_map_or, option_or}
 use Rattle.dim_hierarchy.specs.declared.row.Row.{Row}
 use Rattle.dim_hierarchy.specs.declared.filter.Pick.{Pick}
 use Rattle.row_ledger.specs.declared.event.Event.{Event}
-use Rattle.row_ledger.specs.declared.event.Event.TheVariants.{Begun, Acked, Asked, Answered, Unknown, Failed, Refused, Called, Ended}
+use Rattle.row_ledger.specs.declared.event.Event.TheVariants.{Begun, Acked, Asked, Answered, Unknown, Failed, Refused, Called, Shown, Ended}
+use Rattle.row_ledger.specs.declared.page.Page.{Page}
 use Rattle.row_ledger.specs.declared.settings.Call.{Call}
 
 -- Positions.
@@ -102,6 +103,30 @@ has_ended past p = list_any (is_end_of p) past
 abbrev pub is_over : List Event → ℕ → Bool
 is_over past p = has_ended past p || option_map_or ends_itself (event_at past p) false
 
+-- Pages.
+
+-- the page that an event shows for the command that began at a position
+abbrev pub page_in : ℕ → Event → Option Page
+page_in p (Shown of page) = if of == p then Some page else None
+page_in p _ = None
+
+-- the page that was shown for that command, the newest one
+abbrev pub page_of : List Event → ℕ → Option Page
+page_of [] p = None
+page_of (e ∷ past) p = option_or (page_in p e) (page_of past p)
+
+abbrev pub has_page : List Event → ℕ → Bool
+has_page past p = is_some (page_of past p)
+
+-- Shards.
+
+-- the shards that stand: so far the first one alone
+abbrev pub frontier : List Event → List ℕ
+frontier past = 0 ∷ []
+
+abbrev pub is_live : List Event → ℕ → Bool
+is_live past shard = list_any (λ x. x == shard) (frontier past)
+
 -- Rows.
 
 -- the rows of the inserts that began, the newest first
@@ -126,6 +151,19 @@ ack_in past _ = None
 abbrev pub acked : List Event → List Ack
 acked [] = []
 acked (e ∷ past) = cons_option (ack_in past e) (acked past)
+
+abbrev pub acked_rows : List Event → List Row
+acked_rows past = map (λ (a : Ack). a.row) (acked past)
+
+-- whether a path ends with a shard
+abbrev pub ends_with : ℕ → List ℕ → Bool
+ends_with shard [] = false
+ends_with shard (x ∷ []) = x == shard
+ends_with shard (x ∷ y ∷ path) = ends_with shard (y ∷ path)
+
+-- the rows that came to a shard: those of which the path ends with it
+abbrev pub acked_into : ℕ → List Event → List Ack
+acked_into shard past = filter (λ (a : Ack). ends_with shard a.path) (acked past)
 
 -- the positions of the commands that ended for want of memory
 abbrev pub failed : List Event → List ℕ

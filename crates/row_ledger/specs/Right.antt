@@ -1,15 +1,19 @@
 -- When a history is right: one fact for each kind of event, over the past behind it.
-use Rattle.std.specs.Prelude.{ℕ, ◌≡◌, Bool, false, IsTrue, Some, is_some, ◌||◌, List, [], ◌∷◌, length, ⊤}
+use Rattle.std.specs.Prelude.{ℕ, ◌≡◌, Bool, true, false, IsTrue, Some, is_some, ◌||◌, List, [], ◌∷◌, length, ⊤}
 use Rattle.dim_hierarchy.specs.Dimension.{Dimension}
 use Rattle.measure_agg.specs.Aggregate.{Aggregate}
 use Rattle.row_ledger.specs.declared.event.Event.{Event}
-use Rattle.row_ledger.specs.declared.event.Event.TheVariants.{Begun, Acked, Asked, Answered, Unknown, Failed, Refused, Called, Ended}
+use Rattle.row_ledger.specs.declared.event.Event.TheVariants.{Begun, Acked, Asked, Answered, Unknown, Failed, Refused, Called, Shown, Ended}
+use Rattle.row_ledger.specs.declared.page.Page.{Page}
+use Rattle.row_ledger.specs.declared.page.Page.TheVariants as page
 use Rattle.row_ledger.specs.declared.settings.Call.{Call}
-use Rattle.row_ledger.specs.declared.settings.Call.TheVariants.{Barrier}
+use Rattle.row_ledger.specs.declared.settings.Call.TheVariants.{Barrier, Tree}
+use Rattle.row_ledger.specs.declared.settings.Decline.TheVariants as decline
 use Rattle.row_ledger.specs.declared.settings.How.{How}
-use Rattle.row_ledger.specs.declared.settings.How.TheVariants.{Fine}
-use Rattle.row_ledger.specs.Past.{Insert, Query, before, insert_at, query_at, call_at, has_ended, is_kept}
+use Rattle.row_ledger.specs.declared.settings.How.TheVariants.{Fine, Declined, NoMemory}
+use Rattle.row_ledger.specs.Past.{Insert, Query, before, insert_at, query_at, call_at, has_ended, has_page, is_live, is_kept}
 use Rattle.row_ledger.specs.Bounds.{must, may, IsAllowed}
+use Rattle.row_ledger.specs.Pages.{IsShownTree}
 
 -- what a history is about
 pub record Site : Type 0 where
@@ -38,16 +42,46 @@ pub record IsRightFailure (past : List Event) (of : ℕ) : Type 0 where
   pub begun : IsTrue (is_some (insert_at past of) || is_some (query_at past of))
   pub is_open : has_ended past of ≡ false
 
--- how a called command may end: a barrier is always fine
-abbrev pub MayEnd : Call → How → Type 0
-MayEnd Barrier how = how ≡ Fine
+-- a page is such as a command asks for: a tree's is that of its shard
+abbrev pub Asks : Call → Page → Type 0
+Asks Barrier page = ⊥
+Asks (Tree shard) (page.Tree shown) = shown.shard ≡ shard
 
--- an end is of a called command that hasn't ended, and is one that its kind may have
+-- what a page tells is so behind this past
+abbrev pub IsShown : Site → List Event → Page → Type 0
+IsShown site past (page.Tree shown) = IsShownTree site.hierarchy past shown
+
+-- a page is such as a called command asks for that hasn't ended, the first one for it, and what it tells was so when
+-- the command began
+pub record IsRightPage (site : Site) (past : List Event) (of : ℕ) (page : Page) : Type 0 where
+  pub call : Call
+  pub called : call_at past of ≡ Some call
+  pub is_open : has_ended past of ≡ false
+  pub first : has_page past of ≡ false
+  pub asked : Asks call page
+  pub shown : IsShown site (before past of) page
+
+-- How a called command may end that began behind this past. A barrier is always fine; a tree is declined exactly where
+-- its shard doesn't stand, unless it finds no memory.
+abbrev pub MayEnd : List Event → Call → How → Type 0
+MayEnd past Barrier Fine = ⊤
+MayEnd past (Tree shard) Fine = IsTrue (is_live past shard)
+MayEnd past (Tree shard) (Declined decline.Unknown) = is_live past shard ≡ false
+MayEnd past (Tree shard) NoMemory = ⊤
+MayEnd past call how = ⊥
+
+-- whether a command that ends so has shown a page: a tree that is fine has, and no other has
+abbrev pub shows : Call → How → Bool
+shows (Tree shard) Fine = true
+shows call how = false
+
+-- an end is of a called command that hasn't ended, and is one that its kind may have, with a page where it has to
 pub record IsRightEnd (past : List Event) (of : ℕ) (how : How) : Type 0 where
   pub call : Call
   pub called : call_at past of ≡ Some call
   pub is_open : has_ended past of ≡ false
-  pub may_end : MayEnd call how
+  pub may_end : MayEnd (before past of) call how
+  pub page : has_page past of ≡ shows call how
 
 -- the event stands rightly behind this past; a row's number is the position of its beginning
 abbrev pub Stands : Site → (ℕ → Bool) → List Event → Event → Type 0
@@ -56,6 +90,7 @@ Stands site usable past (Acked of path) = IsRightAck past of
 Stands site usable past (Asked session server filter) = ⊤
 Stands site usable past (Answered of answer) = IsRightAnswer site usable past of answer
 Stands site usable past (Failed of) = IsRightFailure past of
+Stands site usable past (Shown of page) = IsRightPage site past of page
 Stands site usable past (Ended of how) = IsRightEnd past of how
 Stands site usable past (Unknown session server dim) = ⊤
 Stands site usable past (Refused session) = ⊤

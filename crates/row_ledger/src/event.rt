@@ -1,3 +1,4 @@
+use crate::page::Page;
 use crate::settings::{Call, How};
 use describing_set::Path;
 use dim_hierarchy::{Filter, Row};
@@ -46,6 +47,11 @@ pub enum Event {
     Called {
         session: u16,
         call: Call,
+    },
+    /// The called command shows a page.
+    Shown {
+        of: u64,
+        page: Page,
     },
     /// The called command ends.
     Ended {

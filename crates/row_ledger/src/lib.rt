@@ -4,6 +4,7 @@
 mod event;
 mod history;
 mod ledger;
+mod page;
 mod settings;
 #[cfg(test)]
 mod tests;
@@ -12,4 +13,5 @@ pub mod worked;
 pub use event::Event;
 pub use history::History;
 pub use ledger::Ledger;
-pub use settings::{Call, How, Use};
+pub use page::{NodeLine, NodeList, Page, TreePage};
+pub use settings::{Call, Decline, How, Use};

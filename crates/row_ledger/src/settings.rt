@@ -12,6 +12,15 @@ pub struct Use {
 pub enum Call {
     /// Nothing; it ends its phase.
     Barrier,
+    /// To show the tree of the shard with this id.
+    Tree(u32),
+}
+
+/// Why a called command is declined.
+#[derive(Clone, Copy, Debug, PartialEq, Eq)]
+pub enum Decline {
+    /// No such shard stands.
+    Unknown,
 }
 
 /// How a called command ends.
@@ -19,4 +28,8 @@ pub enum Call {
 pub enum How {
     /// It did what it was to do.
     Fine,
+    /// It did nothing, and why.
+    Declined(Decline),
+    /// It found no memory, and did nothing.
+    NoMemory,
 }

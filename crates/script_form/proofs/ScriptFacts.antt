@@ -6,11 +6,11 @@ use Rattle.std.specs.Option.{option_to_list}
 use Rattle.std.specs.Str.{bytes_eq}
 use Rattle.std.proofs.lemmas.Bool.{and_parts}
 use Rattle.std.proofs.lemmas.Bool.Decides.{nat_tests}
-use Rattle.std.proofs.lemmas.List.{append_assoc, append-nil, length-map, nil_from_length}
+use Rattle.std.proofs.lemmas.List.{append_assoc, append-nil, length-map, length-set, nil_from_length}
 use Rattle.std.proofs.lemmas.List.Elements.{All-map, All-push, filter_map-append}
 use Rattle.std.proofs.lemmas.List.Splits.{length-slice_split}
 use Rattle.std.proofs.lemmas.List.Sums.{fold-append}
-use Rattle.dim_hierarchy.specs.Dimension.{Dimension, concept_count, find_dim}
+use Rattle.dim_hierarchy.specs.Dimension.{Dimension, concept_count, find_dim, new_dimension}
 use Rattle.dim_hierarchy.specs.Filter.{IsNamePick}
 use Rattle.script_form.specs.Causes.{MayStand, cause_at, parent_of, is_version}
 use Rattle.script_form.specs.Fields.{Record, field, is_bar, is_star, value_of}
@@ -36,6 +36,7 @@ pub record SoFar (rows : List Record) (at : ℕ) (s : Script) : Type 0 where
   pub begun : at ≤ 1 → s.commands ≡ []
   pub settings : AreSettings s.with
   pub fits : All (Fits s) s.commands
+  pub dims : 0 < length s.commands → 0 < length s.hierarchy
 
 pub none_so_far : SoFar [] 0 (script_of [])
 none_so_far = record {
@@ -46,6 +47,7 @@ none_so_far = record {
   begun = λ _. refl;
   settings = record { servers = (omega arith, omega arith); workers = (omega arith, omega arith); threads = (omega arith, omega arith); cells = (omega arith, omega arith) };
   fits = λ k d within. absurd (omega arith);
+  dims = λ some. absurd (omega arith);
 }
 
 -- One record more.
@@ -123,6 +125,33 @@ fits_more place s kind.Query r stands begun fits =
     )
 fits_more place s _ r stands begun fits = All-push (Fits s) s.commands _ fits tt
 
+-- A command stands behind a dimension, and no record takes a dimension away.
+
+dims_stand : (h : List Dimension) (k : Kind) (r : Record) → length h ≤ length (hierarchy_with (Some k) h r)
+dims_stand h kind.Dim r = omega (arith, length-append h (new_dimension (field r 1) (value_of (field r 2)) ∷ []))
+dims_stand h kind.Concept r = simp length-set (omega arith)
+dims_stand h _ r = omega arith
+
+some_dims : (h : List Dimension) → (length h == 0) ≡ false → 0 < length h
+some_dims h some = grind (arith, nat_tests)
+
+-- a record that is no command adds none
+dims_kept : (s : Script) (k : Kind) (r : Record) → command_by (Some k) r ≡ None → (0 < length s.commands → 0 < length s.hierarchy) → 0 < length (after_kind k s r).commands → 0 < length (after_kind k s r).hierarchy
+unfolding after_kind
+dims_kept s k r none dims some =
+    let before = dims (rw (none, append-nil) at some) in
+    omega (arith, dims_stand s.hierarchy k r)
+
+-- where a script that has a command has a dimension, so it is with a record more
+dims_more : (place : ℕ) (s : Script) (k : Kind) (r : Record) → MayStand place s k r → (0 < length s.commands → 0 < length s.hierarchy)
+    → 0 < length (after_kind k s r).commands → 0 < length (after_kind k s r).hierarchy
+unfolding after_kind
+dims_more place s kind.Volap r stands dims some = dims_kept s kind.Volap r refl dims some
+dims_more place s kind.Use r stands dims some = dims_kept s kind.Use r refl dims some
+dims_more place s kind.Dim r stands dims some = dims_kept s kind.Dim r refl dims some
+dims_more place s kind.Concept r stands dims some = dims_kept s kind.Concept r refl dims some
+dims_more place s _ r stands dims some = some_dims s.hierarchy stands.order
+
 -- The records so far and one more.
 
 fits_same : (s t : Script) → s ≡ t → All (Fits t) t.commands → All (Fits s) s.commands
@@ -150,6 +179,7 @@ one_more rows at s t r so_far taken =
       begun = λ early. ap (λ u. u.commands) taken.script ∙ begun_more at s r so_far.begun taken.stands.version early;
       settings = rw (taken.script, taken.stands.form.kind) (settings_more s.with.servers s.with taken.kind r taken.stands.form.number so_far.settings);
       fits = fits_same t (after_kind taken.kind s r) (taken.script ∙ by_kind) (fits_more at s taken.kind r taken.stands so_far.begun so_far.fits);
+      dims = rw (taken.script ∙ by_kind) (dims_more at s taken.kind r taken.stands so_far.dims);
     }
 
 -- The end.

@@ -38,6 +38,7 @@ wrong_number servers kind.Concept r = false
 wrong_number servers kind.Insert r = not (is_below (field r 1) servers && is_some (measure_of (field r 2)))
 wrong_number servers kind.Query r = not (is_below (field r 1) servers)
 wrong_number servers kind.Barrier r = false
+wrong_number servers kind.Tree r = not (is_below (field r 1) 4294967296)
 
 -- a name field, or a piece of a filter, is no name
 abbrev pub wrong_name : Kind → Record → Bool
@@ -48,6 +49,7 @@ wrong_name kind.Concept r = not (is_name (field r 1) && is_name (field r 2) && (
 wrong_name kind.Insert r = not (list_all is_name (drop 3 r))
 wrong_name kind.Query r = not (list_all is_pick (drop 2 r))
 wrong_name kind.Barrier r = false
+wrong_name kind.Tree r = false
 
 -- What the hierarchy says against a dimension or a concept.
 

@@ -14,6 +14,7 @@ kind_of word =
     else if bytes_eq word (codes "insert") then Some kind.Insert
     else if bytes_eq word (codes "query") then Some kind.Query
     else if bytes_eq word (codes "barrier") then Some kind.Barrier
+    else if bytes_eq word (codes "tree") then Some kind.Tree
     else None
 
 -- how many fields a record of a kind has where there are so many dimensions
@@ -25,3 +26,4 @@ width kind.Concept dims = 4
 width kind.Insert dims = 3 + dims
 width kind.Query dims = 2 + dims
 width kind.Barrier dims = 1
+width kind.Tree dims = 2

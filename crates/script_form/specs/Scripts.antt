@@ -69,6 +69,7 @@ command_by (Some kind.Insert) r =
     Some (command.Insert (record { server = value_of (field r 1); measure = unwrap_or (measure_of (field r 2)) (pos 0); names = drop 3 r }))
 command_by (Some kind.Query) r = Some (command.Query (record { server = value_of (field r 1); filter = map pick_of (drop 2 r) }))
 command_by (Some kind.Barrier) r = Some (command.Control call.Barrier)
+command_by (Some kind.Tree) r = Some (command.Control (call.Tree (value_of (field r 1))))
 command_by _ r = None
 
 abbrev pub command_of : Record → Option Command

@@ -50,7 +50,7 @@ fn is_wrong_order(at: u64, script: &Script, kind: Kind) -> bool
         Kind::Volap => at != 0,
         Kind::Use => at != 1,
         Kind::Dim | Kind::Concept => !script.commands.is_empty(),
-        Kind::Insert | Kind::Query | Kind::Barrier => script.hierarchy.dims() == 0,
+        Kind::Insert | Kind::Query | Kind::Barrier | Kind::Tree => script.hierarchy.dims() == 0,
     }
 }
 
@@ -71,6 +71,7 @@ fn is_wrong_number(servers: u8, kind: Kind, row: &ByteRecord) -> bool
             !(is_below(field(row, 1), u128::from(servers)) && measure(field(row, 2)).is_some())
         }
         Kind::Query => !is_below(field(row, 1), u128::from(servers)),
+        Kind::Tree => !is_below(field(row, 1), 1 << 32),
     }
 }
 
@@ -79,7 +80,7 @@ fn is_wrong_name(kind: Kind, row: &ByteRecord) -> bool
     ensures { result ≡ wrong_name kind (fields_of row.now) }
 {
     match kind {
-        Kind::Volap | Kind::Use | Kind::Barrier => false,
+        Kind::Volap | Kind::Use | Kind::Barrier | Kind::Tree => false,
         Kind::Dim => !is_name(field(row, 1)),
         Kind::Concept => {
             !(is_name(field(row, 1))

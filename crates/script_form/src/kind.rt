@@ -12,6 +12,7 @@ pub(crate) enum Kind {
     Insert,
     Query,
     Barrier,
+    Tree,
 }
 
 /// The kind that a first field names.
@@ -32,6 +33,8 @@ pub(crate) fn kind_of(word: &[u8]) -> Option<Kind>
         Some(Kind::Query)
     } else if word == b"barrier".as_slice() {
         Some(Kind::Barrier)
+    } else if word == b"tree".as_slice() {
+        Some(Kind::Tree)
     } else {
         None
     }
@@ -50,5 +53,6 @@ pub(crate) fn width(kind: Kind, dims: u8) -> usize
         Kind::Insert => 3 + usize::from(dims),
         Kind::Query => 2 + usize::from(dims),
         Kind::Barrier => 1,
+        Kind::Tree => 2,
     }
 }

@@ -19,13 +19,15 @@ const DEFAULT: Use = Use {
 };
 
 /// The script of a text of at most 2^26 bytes; else the first record that is bad and its first
-/// cause, or want of memory. The settings of a script are in their ranges, and each of its
-/// commands names one of its servers and has a name or a pick for each dimension.
+/// cause, or want of memory. The settings of a script are in their ranges, each insert and query
+/// names one of its servers and has a name or a pick for each dimension, and where there is a
+/// command there is a dimension.
 pub fn read_script(alloc: Global, text: &[u8]) -> Result<Script, ScriptFault>
     requires { length text.now ≤ 2 ^ 26 }
     ensures answer { IsAnswer (script (records_of text.now)) result }
     ensures settings { IfOk result (λ s. AreSettings s.with) }
     ensures fits { IfOk result (λ s. All (Fits s) s.commands) }
+    ensures dims { IfOk result (λ s. 0 < length s.commands → 0 < length s.hierarchy) }
 {
     let mut reader = ReaderBuilder::new()
         .has_headers(false)

@@ -86,6 +86,11 @@ fn add_record(
             script.commands.push(Command::Control(Call::Barrier))?;
             Ok(())
         }
+        Kind::Tree => {
+            let shard = value_u32(field(row, 1));
+            script.commands.push(Command::Control(Call::Tree(shard)))?;
+            Ok(())
+        }
     }
 }
 

@@ -1,6 +1,6 @@
 use crate::{Cause, Command, ScriptFault, read_script, script_laws};
 use dim_hierarchy::NamePick;
-use row_ledger::Use;
+use row_ledger::{Call, Use};
 use std::alloc::{AllocError, Global};
 use std::process::Abort;
 use std::test::Fail;
@@ -24,7 +24,7 @@ fn outcome(rt: &impl Abort, alloc: Global, text: &[u8]) -> Result<usize, ScriptF
 #[test]
 fn bad_texts(rt: HostRuntime) -> Result<(), Fail> {
     let alloc = rt.alloc();
-    let rows: [(&[u8], u64, Cause); 20] = [
+    let rows: [(&[u8], u64, Cause); 21] = [
         (b"", 1, Cause::Version),
         (b"\n\r\n", 1, Cause::Version),
         (b"volap,2", 1, Cause::Version),
@@ -34,6 +34,7 @@ fn bad_texts(rt: HostRuntime) -> Result<(), Fail> {
         (b"dim,geo,2", 1, Cause::Version),
         (b"\xEF\xBB\xBF\xEF\xBB\xBFvolap,1", 1, Cause::Version),
         (b"volap,1\nbarrier", 2, Cause::Order),
+        (b"volap,1\ntree,0", 2, Cause::Order),
         (b"volap,1\ninsert,0", 2, Cause::Order),
         (b"volap,1\nuse,2,2,2", 2, Cause::Fields),
         (b"volap,1\nuse,0,2,2,64", 2, Cause::Number),
@@ -66,13 +67,15 @@ fn bad_texts(rt: HostRuntime) -> Result<(), Fail> {
 #[test]
 fn bad_records_behind_the_base(rt: HostRuntime) -> Result<(), Fail> {
     let alloc = rt.alloc();
-    let rows: [(&[u8], u64, Cause); 52] = [
+    let rows: [(&[u8], u64, Cause); 62] = [
         (b"insert,0,5", 6, Cause::Fields),
         (b"insert,0,5,berlin,berlin", 6, Cause::Fields),
         (b"insert,0,x", 6, Cause::Fields),
         (b"query,0", 6, Cause::Fields),
         (b"dim,geo", 6, Cause::Fields),
         (b"barrier,", 6, Cause::Fields),
+        (b"tree", 6, Cause::Fields),
+        (b"tree,0,1", 6, Cause::Fields),
         (b"insert,0,,berlin", 6, Cause::Number),
         (b"insert,2,5,berlin", 6, Cause::Number),
         (b"insert,,5,berlin", 6, Cause::Number),
@@ -87,6 +90,11 @@ fn bad_records_behind_the_base(rt: HostRuntime) -> Result<(), Fail> {
         (b"insert,0,-000000000000000000005,berlin", 6, Cause::Number),
         (b"query,-0,de", 6, Cause::Number),
         (b"query,99999999999999999999,de|", 6, Cause::Number),
+        (b"tree,x", 6, Cause::Number),
+        (b"tree,", 6, Cause::Number),
+        (b"tree,-1", 6, Cause::Number),
+        (b"tree,4294967296", 6, Cause::Number),
+        (b"tree,000000000000000000000", 6, Cause::Number),
         (b"dim,x,0", 6, Cause::Number),
         (b"dim,*,9", 6, Cause::Number),
         (b"dim,*,2", 6, Cause::Name),
@@ -125,6 +133,8 @@ fn bad_records_behind_the_base(rt: HostRuntime) -> Result<(), Fail> {
         (b"volap,1", 6, Cause::Order),
         (b"use,1,1,1,64", 6, Cause::Order),
         (b"barrier\ndim,x", 7, Cause::Order),
+        (b"tree,0\ndim,x,1", 7, Cause::Order),
+        (b"tree,0\nconcept,geo,rome,de", 7, Cause::Order),
         (
             b"insert,0,5,berlin\n\n\nconcept,geo,rome,de\n",
             7,
@@ -132,6 +142,7 @@ fn bad_records_behind_the_base(rt: HostRuntime) -> Result<(), Fail> {
         ),
         (b"dim,x,1\ninsert,0,5,berlin", 7, Cause::Fields),
         (b"settle", 6, Cause::Kind),
+        (b"trees,0", 6, Cause::Kind),
         (b"Insert,0,5,berlin", 6, Cause::Kind),
         (b"\"\"", 6, Cause::Kind),
         (b"query,0,de\nbarrier\nquery,0,de|\n", 8, Cause::Name),
@@ -149,7 +160,7 @@ fn bad_records_behind_the_base(rt: HostRuntime) -> Result<(), Fail> {
 #[test]
 fn good_texts(rt: HostRuntime) -> Result<(), Fail> {
     let alloc = rt.alloc();
-    let rows: [(&[u8], usize); 8] = [
+    let rows: [(&[u8], usize); 10] = [
         (b"", 0),
         (b"insert,0,5,\"berlin\"\r\nquery,1,de|berlin\r\nbarrier", 3),
         (
@@ -170,6 +181,11 @@ fn good_texts(rt: HostRuntime) -> Result<(), Fail> {
             b"dim,day,1\nconcept,day,mon,*\ninsert,0,7,berlin,mon\nquery,0,*,mon",
             2,
         ),
+        (b"tree,4294967295", 1),
+        (
+            b"tree,0\ninsert,0,5,berlin\ntree,00000000000000000001\nbarrier",
+            4,
+        ),
     ];
     for (lines, commands) in rows {
         let text = on_base(alloc, lines)?;
@@ -182,7 +198,7 @@ fn good_texts(rt: HostRuntime) -> Result<(), Fail> {
 #[test]
 fn what_a_script_holds(rt: HostRuntime) -> Result<(), Fail> {
     let text =
-        b"volap,1\nuse,3,16,8,64\ndim,geo,2\nconcept,geo,de,*\ndim,day,1\nconcept,day,mon,*\ninsert,2,-5,berlin,mon\nquery,0,de|fr,*\n";
+        b"volap,1\nuse,3,16,8,64\ndim,geo,2\nconcept,geo,de,*\ndim,day,1\nconcept,day,mon,*\ninsert,2,-5,berlin,mon\nquery,0,de|fr,*\ntree,4294967295\nbarrier\n";
     let script = read_script(rt.alloc(), text)?;
     script_laws();
     let with = Use {
@@ -194,9 +210,16 @@ fn what_a_script_holds(rt: HostRuntime) -> Result<(), Fail> {
     assert_eq!(rt; script.with, with);
     assert_eq!(rt; script.hierarchy.dims(), 2);
     assert_eq!(rt; script.hierarchy.concepts(), 2);
-    let [Command::Insert(row), Command::Query(question)] = script.commands.as_slice() else {
+    let [
+        Command::Insert(row),
+        Command::Query(question),
+        Command::Control(Call::Tree(shard)),
+        Command::Control(Call::Barrier),
+    ] = script.commands.as_slice()
+    else {
         panic!(rt; "other commands");
     };
+    assert_eq!(rt; *shard, 4294967295);
     assert_eq!(rt; row.server, 2);
     assert_eq!(rt; row.measure, -5);
     assert_eq!(rt; row.names.len(), 2);

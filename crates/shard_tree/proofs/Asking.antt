@@ -20,8 +20,13 @@ use Rattle.tree_shape.specs.Walks.{Noted, AreNoted, IsNoted, pending, reach}
 use Rattle.tree_shape.specs.Queries.{IsUnfinished, items_of, fits}
 use Rattle.tree_shape.specs.Steps.{queue_part, tree_part, root_items}
 use Rattle.tree_shape.specs.Laws.{OrderLaw, GateLaw, BlockLaw, RootLaw, LinkLaw, BeginLaw, VisitLaw, EndLaw}
-use Rattle.shard_tree.specs.Shard.{ShardValue, table_of, cells_of, block_at, rows_of, Holds, IsShardOf}
-use Rattle.shard_tree.proofs.Lists.{on_bool, eqb-eq, eqb-ne, same_is, leb-le, leb-gt, times-rows, each-append_right, lookup, found, rows-back, found-filter, times-passing, times-failing, length-le}
+use Rattle.shard_tree.specs.Shard.{ShardValue, table_of, cells_of, rows_of, Holds, IsShardOf}
+use Rattle.shard_tree.proofs.Lists.{lookup, found, rows-back, found-filter, times-passing, times-failing}
+use Rattle.tree_shape.proofs.Queries.{leb-le, leb-gt}
+use Rattle.tree_shape.proofs.Walks.{on_bool, eqb-eq, eqb-ne, same_is}
+use Rattle.block_cells.proofs.Lists.{each-append_right}
+use Rattle.tree_page.proofs.Numbers.{times-rows, length-le}
+use Rattle.block_cells.specs.Blocks.{block_at}
 
 -- how often the blocks of the tree before cell n are still reached
 abbrev pub weight : Shape → List Noted → ℕ → ℕ

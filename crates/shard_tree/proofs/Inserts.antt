@@ -23,10 +23,15 @@ use Rattle.tree_shape.specs.Counts.{Each, times}
 use Rattle.tree_shape.specs.Shape.{Table, Node, nodes, Shape, numbers}
 use Rattle.tree_shape.specs.Steps.{IsSpare, AreSpares, AreApart, LeadsAs}
 use Rattle.tree_shape.specs.Laws.{OtherLaw}
-use Rattle.shard_tree.specs.Shard.{ShardValue, table_of, cells_of, rows_of, Holds, IsShardOf}
+use Rattle.shard_tree.specs.Shard.{ShardValue, table_of, cells_of, rows_of, Holds, AreMade, IsShardOf}
 use Rattle.shard_tree.specs.Ways.{with_parts, IsOut, CanEnter, Added}
-use Rattle.shard_tree.proofs.Lists.{on_bool, eqb-eq, eqb-ne, same_is, same_not, times-rows, each-append_left, each-append_right, each-append, lookup, found, rows-back, split-at, times-split}
+use Rattle.shard_tree.proofs.Lists.{lookup, found, rows-back}
+use Rattle.tree_shape.proofs.Parts.{each-append}
+use Rattle.tree_shape.proofs.Walks.{on_bool, eqb-eq, eqb-ne, same_is, same_not}
+use Rattle.block_cells.proofs.Lists.{each-append_left, each-append_right}
+use Rattle.tree_page.proofs.Numbers.{times-rows, split-at, times-split}
 use Rattle.shard_tree.proofs.Asking.{no_row}
+use Rattle.shard_tree.proofs.Made.{taken-made, front-made, given-made, fewer-missing}
 
 pub taken-some : (r : Option (Unit {0})) (P : Type 0) → IfSome r (λ _. P) → (IsNone r → ⊥) → P
 taken-some (Some u) P p q = p
@@ -99,7 +104,7 @@ each-map P Q f (x ∷ xs) h = (f x h.0, each-map P Q f xs h.1)
 
 -- the shard with another stock and purse
 abbrev pub with_stock : ShardValue → StockValue → PurseValue → ShardValue
-with_stock s stock purse = record { rows = s.rows; home = s.home; gate = s.gate; blocks = s.blocks; stock = stock; purse = purse }
+with_stock s stock purse = record { rows = s.rows; home = s.home; gate = s.gate; blocks = s.blocks; missing = s.missing; stock = stock; purse = purse }
 
 module _ (table : Table) (s : ShardValue) (holds : Holds table s) (none : s.purse.spares ≡ []) (n : ℕ) (stock : StockValue) (before purse : PurseValue) (empty : before.spares ≡ [])
     (takes : Takes n s.stock stock before purse) (fresh : AreFresh s.stock stock takes.spares) where
@@ -121,7 +126,7 @@ module _ (table : Table) (s : ShardValue) (holds : Holds table s) (none : s.purs
     tree = holds.tree;
     settled = holds.settled;
     placed = holds.placed;
-    outside = record { blank = holds.outside.blank; home = holds.outside.home; known = holds.outside.known };
+    outside = record { blank = holds.outside.blank; home = holds.outside.home; known = holds.outside.known; made = holds.outside.made };
     own = subst (AreSpares holds.shape (nodes (cells_of s))) (sym purse-is)
         (fresh-spares holds.shape (nodes (cells_of s)) s.stock.stamps takes.spares fresh.apart stamps-at
         (each-map (λ (x : Spare). Contains s.stock.free x.cell × (s.stock.stamps ≤ x.stamp) × (x.stamp < stock.stamps)) (IsSpare holds.shape (nodes (cells_of s))) (λ x e. old-spare x e.0 e.1) takes.spares
@@ -129,24 +134,25 @@ module _ (table : Table) (s : ShardValue) (holds : Holds table s) (none : s.purs
     spares = λ x c l. old-spare x (subst (λ xs. Contains xs x.cell) (sym all-free) c) (let e = takes.next in omega arith);
   }
 
-  pub out-filled : AreOut stock purse.spares → s.stock.cells ≡ length s.blocks → IsOut (with_stock s stock purse)
-  out-filled out cells = record {
+  pub out-filled : AreOut stock purse.spares → s.stock.cells ≡ length s.blocks → Each (λ (x : Spare). s.missing ≤ x.cell) takes.spares → IsOut (with_stock s stock purse)
+  out-filled out cells low = record {
     out = out;
     stamps = subst (Each (λ (x : Spare). x.stamp < stock.stamps)) (sym purse-is)
         (each-map (λ (x : Spare). Contains s.stock.free x.cell × (s.stock.stamps ≤ x.stamp) × (x.stamp < stock.stamps)) (λ (x : Spare). x.stamp < stock.stamps) (λ x e. e.2) takes.spares
         (each-taken s.stock.free (λ c. ¬ Contains stock.free c) s.stock.stamps stock.stamps takes.spares fresh.cells fresh.stamps));
     cells = takes.all ∙ cells;
+    made = subst (Each (λ (x : Spare). s.missing ≤ x.cell)) (sym purse-is) low;
   }
 
 -- the rest of the purse is given back
 pub holds-given : (table : Table) (s : ShardValue) (rows : List Row) (stock : StockValue) (purse : PurseValue) → Holds table s → Gives s.stock stock s.purse purse
-    → Holds table (record { rows = rows; home = s.home; gate = s.gate; blocks = s.blocks; stock = stock; purse = purse })
+    → Holds table (record { rows = rows; home = s.home; gate = s.gate; blocks = s.blocks; missing = s.missing; stock = stock; purse = purse })
 holds-given table s rows stock purse holds gives = record {
   shape = holds.shape;
   tree = holds.tree;
   settled = holds.settled;
   placed = holds.placed;
-  outside = record { blank = holds.outside.blank; home = holds.outside.home; known = holds.outside.known };
+  outside = record { blank = holds.outside.blank; home = holds.outside.home; known = holds.outside.known; made = holds.outside.made };
   own = subst (AreSpares holds.shape (nodes (cells_of s))) (sym gives.emptied) tt;
   spares = λ x c l. holds.spares x (subst (λ xs. Contains xs x.cell) (ap (λ ys. stock.free ++ stock_cells ys) gives.emptied ∙ append-nil stock.free ∙ gives.cells) c) (let e = gives.stamps in omega arith);
 }
@@ -164,7 +170,7 @@ shard-room h s purse d e = record {
     tree = t.tree;
     settled = t.settled;
     placed = t.placed;
-    outside = record { blank = t.outside.blank; home = t.outside.home; known = t.outside.known };
+    outside = record { blank = t.outside.blank; home = t.outside.home; known = t.outside.known; made = t.outside.made };
     own = subst (AreSpares t.shape (nodes (cells_of s))) (sym e) t.own;
     spares = λ x c l. t.spares x (subst (λ ys. Contains (s.stock.free ++ stock_cells ys) x.cell) e c) l;
   };
@@ -173,8 +179,38 @@ shard-room h s purse d e = record {
   opened = d.opened;
   cells = d.cells;
   small = d.small;
+  made = d.made;
   purse = e ∙ d.purse;
 }
+
+-- the shard with more blocks made
+abbrev pub with_made : ShardValue → List Block → ℕ → ShardValue
+with_made s blocks missing = record { rows = rows_of blocks ++ s.gate.queue.rows; home = s.home; gate = s.gate; blocks = blocks; missing = missing; stock = s.stock; purse = s.purse }
+
+pub shard-made : (h : List Dimension) (s : ShardValue) (blocks : List Block) (missing : ℕ) → IsShardOf h s → blocks ≡ s.blocks → missing ≤ s.missing → IsShardOf h (with_made s blocks missing)
+shard-made h s blocks missing d e le = subst (λ bs. IsShardOf h (with_made s bs missing)) (sym e) (record {
+  dims = d.dims;
+  valid = subst (All (IsRowOf h)) d.held d.valid;
+  few = subst (λ (xs : List Row). length xs < 2 ^ 62) d.held d.few;
+  once = λ r. subst (λ (xs : List Row). times r (numbers xs) ≤ 1) d.held (d.once r);
+  held = refl;
+  trees = λ find b. let t = d.trees find (subst (Each (λ r. find r.no ≡ r)) (sym d.held) b) in record {
+    shape = t.shape;
+    tree = t.tree;
+    settled = t.settled;
+    placed = t.placed;
+    outside = record { blank = t.outside.blank; home = t.outside.home; known = t.outside.known; made = λ y i. let m = t.outside.made y i in omega arith };
+    own = t.own;
+    spares = t.spares;
+  };
+  queue = d.queue;
+  set = d.set;
+  opened = d.opened;
+  cells = d.cells;
+  small = d.small;
+  made = fewer-missing s.stock.free s.missing missing le d.made;
+  purse = d.purse;
+})
 
 module _ (h : List Dimension) (s : ShardValue) (d : IsShardOf h s) (row : Row) (valid : IsRowOf h row) (new : times row.no (numbers s.rows) ≡ 0) (few : length s.rows + 1 < 2 ^ 62) where
   abbrev pub first_find : ℕ → Row
@@ -204,7 +240,7 @@ module _ (h : List Dimension) (s : ShardValue) (d : IsShardOf h s) (row : Row) (
   module _ (now : ShardValue) (held : now.rows ≡ rows_of now.blocks ++ now.gate.queue.rows) (counts : (r : ℕ) → times r (numbers now.rows) ≡ times r (numbers (row ∷ s.rows)))
       (known : Each (λ r. first_find r.no ≡ r) now.rows)
       (trees : (find : ℕ → Row) → find row.no ≡ row → Each (λ r. find r.no ≡ r) s.rows → Holds (table_of h find) now)
-      (queue : IsQueueOf h now.gate.queue) (set : IsDescSetOf h now.gate.set) (opened : now.gate.phase ≡ Open) (cells : now.stock.cells ≡ length now.blocks) (same_cells : now.stock.cells ≡ s.stock.cells) (empty : now.purse.spares ≡ []) where
+      (queue : IsQueueOf h now.gate.queue) (set : IsDescSetOf h now.gate.set) (opened : now.gate.phase ≡ Open) (cells : now.stock.cells ≡ length now.blocks) (same_cells : now.stock.cells ≡ s.stock.cells) (made : AreMade now.stock.free now.missing) (empty : now.purse.spares ≡ []) where
     pub perm-now : IsPermutation now.rows (row ∷ s.rows)
     perm-now = perm-rows first_find now.rows (row ∷ s.rows) known find-all counts
 
@@ -234,22 +270,25 @@ module _ (h : List Dimension) (s : ShardValue) (d : IsShardOf h s) (row : Row) (
       opened = opened;
       cells = cells;
       small = (let a = d.small in omega arith);
+      made = made;
       purse = empty;
     }
 
   -- into the tree
-  module _ (stock1 : StockValue) (purse0 purse1 : PurseValue) (empty0 : purse0.spares ≡ []) (takes : Takes (s.gate.height + 2) s.stock stock1 purse0 purse1) (fresh : AreFresh s.stock stock1 takes.spares) (out : AreOut stock1 purse1.spares) where
+  module _ (stock1 : StockValue) (purse0 purse1 : PurseValue) (empty0 : purse0.spares ≡ []) (takes : Takes (s.gate.height + 2) s.stock stock1 purse0 purse1) (fresh : AreFresh s.stock stock1 takes.spares) (out : AreOut stock1 purse1.spares) (kept : s.missing ≤ length stock1.free) where
     holds1 : (find : ℕ → Row) → Each (λ r. find r.no ≡ r) s.rows → Holds (table_of h find) (with_stock s stock1 purse1)
     holds1 find b = holds-filled (table_of h find) s (d.trees find b) d.purse (s.gate.height + 2) stock1 purse0 purse1 empty0 takes fresh
 
     out1 : IsOut (with_stock s stock1 purse1)
     out1 = out-filled (table_of h first_find) s (d.trees first_find find-all.1) d.purse (s.gate.height + 2) stock1 purse0 purse1 empty0 takes fresh out d.cells
+        (taken-made s.stock.free stock1.free s.missing takes.spares takes.cells d.made kept)
 
-    pub can-enter : CanEnter h row s.gate s.blocks purse1
+    pub can-enter : CanEnter h row s.gate s.blocks s.missing purse1
     can-enter = record {
       find = first_find;
       found = find-all.0;
       shard = with_stock s stock1 purse1;
+      made = refl;
       holds = holds1 first_find find-all.1;
       new = new-blocks;
       few = few-blocks;
@@ -268,7 +307,7 @@ module _ (h : List Dimension) (s : ShardValue) (d : IsShardOf h s) (row : Row) (
 
       module _ (stock3 : StockValue) (purse3 : PurseValue) (gives : Gives stock1 stock3 purse2 purse3) where
         abbrev now : ShardValue
-        now = record { rows = rows_of blocks2 ++ gate2.queue.rows; home = s.home; gate = gate2; blocks = blocks2; stock = stock3; purse = purse3 }
+        now = record { rows = rows_of blocks2 ++ gate2.queue.rows; home = s.home; gate = gate2; blocks = blocks2; missing = s.missing; stock = stock3; purse = purse3 }
 
         counts-now : (r : ℕ) → times r (numbers (rows_of blocks2 ++ gate2.queue.rows)) ≡ times r (numbers (row ∷ s.rows))
         counts-now r =
@@ -292,16 +331,20 @@ module _ (h : List Dimension) (s : ShardValue) (d : IsShardOf h s) (row : Row) (
         stock-now : stock3.cells ≡ s.stock.cells
         stock-now = gives.all ∙ takes.all
 
+        made-now : AreMade stock3.free s.missing
+        made-now = subst (λ xs. AreMade xs s.missing) (sym gives.cells)
+            (given-made stock1.free s.missing purse2.spares (front-made s.stock.free stock1.free s.missing takes.spares takes.cells d.made) first.out.made)
+
         pub perm-in : IsPermutation (rows_of blocks2 ++ gate2.queue.rows) (row ∷ s.rows)
-        perm-in = perm-now now refl counts-now known-now trees-now queue-now set opened (stock-now ∙ d.cells ∙ sym count) stock-now gives.emptied
+        perm-in = perm-now now refl counts-now known-now trees-now queue-now set opened (stock-now ∙ d.cells ∙ sym count) stock-now made-now gives.emptied
 
         pub shard-in : IsShardOf h now
-        shard-in = shard-now now refl counts-now known-now trees-now queue-now set opened (stock-now ∙ d.cells ∙ sym count) stock-now gives.emptied
+        shard-in = shard-now now refl counts-now known-now trees-now queue-now set opened (stock-now ∙ d.cells ∙ sym count) stock-now made-now gives.emptied
 
   -- into the queue
   module _ (others : OtherLaw) (gate2 : Gate) (is : gate2 ≡ record s.gate { queue = gate2.queue }) (enq : Enqueues h row s.gate.queue gate2.queue) where
     abbrev later-on : ShardValue
-    later-on = record { rows = rows_of s.blocks ++ gate2.queue.rows; home = s.home; gate = gate2; blocks = s.blocks; stock = s.stock; purse = s.purse }
+    later-on = record { rows = rows_of s.blocks ++ gate2.queue.rows; home = s.home; gate = gate2; blocks = s.blocks; missing = s.missing; stock = s.stock; purse = s.purse }
 
     counts-queue : (r : ℕ) → times r (numbers (rows_of s.blocks ++ gate2.queue.rows)) ≡ times r (numbers (row ∷ s.rows))
     counts-queue r =
@@ -328,13 +371,13 @@ module _ (h : List Dimension) (s : ShardValue) (d : IsShardOf h s) (row : Row) (
           tree = o.tree;
           settled = t.settled;
           placed = t.placed;
-          outside = record { blank = t.outside.blank; home = t.outside.home; known = t.outside.known };
+          outside = record { blank = t.outside.blank; home = t.outside.home; known = t.outside.known; made = t.outside.made };
           own = subst (AreSpares t.shape (nodes (cells_of later-on))) (sym d.purse) tt;
           spares = λ x c l. o.spares x (t.spares x c l);
         }
 
     pub perm-queue : IsPermutation (rows_of s.blocks ++ gate2.queue.rows) (row ∷ s.rows)
-    perm-queue = perm-now later-on refl counts-queue known-queue trees-queue enq.queue (subst (IsDescSetOf h) (sym (ap (λ (g : Gate). g.set) is)) d.set) (ap (λ (g : Gate). g.phase) is ∙ d.opened) d.cells refl d.purse
+    perm-queue = perm-now later-on refl counts-queue known-queue trees-queue enq.queue (subst (IsDescSetOf h) (sym (ap (λ (g : Gate). g.set) is)) d.set) (ap (λ (g : Gate). g.phase) is ∙ d.opened) d.cells refl d.made d.purse
 
     pub shard-queue : IsShardOf h later-on
-    shard-queue = shard-now later-on refl counts-queue known-queue trees-queue enq.queue (subst (IsDescSetOf h) (sym (ap (λ (g : Gate). g.set) is)) d.set) (ap (λ (g : Gate). g.phase) is ∙ d.opened) d.cells refl d.purse
+    shard-queue = shard-now later-on refl counts-queue known-queue trees-queue enq.queue (subst (IsDescSetOf h) (sym (ap (λ (g : Gate). g.set) is)) d.set) (ap (λ (g : Gate). g.phase) is ∙ d.opened) d.cells refl d.made d.purse

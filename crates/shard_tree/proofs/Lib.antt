@@ -1,8 +1,11 @@
 pub mod Lists
 pub mod Asking
-pub mod Blocks
 pub mod Ways
 pub mod Puts
 pub mod Inserts
 pub mod News
 pub mod Fresh
+pub mod Passing
+pub mod Ids
+pub mod Showing
+pub mod Made

@@ -21,10 +21,13 @@ use Rattle.tree_shape.specs.Shape.{Node, nodes, node_of, numbers}
 use Rattle.tree_shape.specs.Trees.{leaf_without_rows}
 use Rattle.tree_shape.specs.Steps.{IsSpare, AreSpares, AfterOpening}
 use Rattle.tree_shape.specs.Laws.{OpeningLaw}
-use Rattle.shard_tree.specs.Shard.{ShardValue, table_of, cells_of, block_at, rows_of, Holds, IsShardOf}
-use Rattle.shard_tree.proofs.Lists.{on_bool, eqb-eq, eqb-ne}
+use Rattle.shard_tree.specs.Shard.{ShardValue, table_of, cells_of, rows_of, Holds, AreMade, IsShardOf}
+use Rattle.block_cells.specs.Blocks.{block_at}
+use Rattle.tree_shape.proofs.Walks.{on_bool, eqb-eq, eqb-ne}
 use Rattle.cell_stock.proofs.Cells.{IsDistinct-apart}
 use Rattle.shard_tree.proofs.Inserts.{apart-from}
+use Rattle.shard_tree.proofs.Made.{taken-made, front-made}
+use Rattle.std.proofs.lemmas.List.FromFn.{get_or-range_with_len, length-range_with_len}
 
 each-cells : (P : ℕ → Type 0) (ss : List Spare) → All P (stock_cells ss) → Each (λ (x : Spare). P x.cell) ss
 each-cells P [] h = tt
@@ -51,7 +54,7 @@ abbrev pub full_stock : ℕ → StockValue
 full_stock n = record { cells = n; free = range_with_len 0 n; stamps = 0; ids = 0 }
 
 module _ (n : ℕ) (stock1 : StockValue) (purse0 purse1 purse2 purse3 : PurseValue) (home root : Spare) (empty0 : purse0.spares ≡ []) (takes : Takes 2 (full_stock n) stock1 purse0 purse1) (fresh : AreFresh (full_stock n) stock1 takes.spares)
-    (t1 : purse1.spares ≡ purse2.spares ++ home ∷ []) (t2 : purse2.spares ≡ purse3.spares ++ root ∷ []) (known : All (λ c. c < n) (stock_cells purse1.spares)) where
+    (t1 : purse1.spares ≡ purse2.spares ++ home ∷ []) (t2 : purse2.spares ≡ purse3.spares ++ root ∷ []) (known : All (λ c. c < n) (stock_cells purse1.spares)) (missing : ℕ) (kept : missing ≤ length stock1.free) where
   taken-is : purse1.spares ≡ takes.spares
   taken-is = takes.filled ∙ ap (λ xs. xs ++ takes.spares) empty0
 
@@ -75,11 +78,20 @@ module _ (n : ℕ) (stock1 : StockValue) (purse0 purse1 purse2 purse3 : PurseVal
   within-both : Each (λ (x : Spare). x.cell < n) (root ∷ home ∷ [])
   within-both = subst (Each (λ (x : Spare). x.cell < n)) (taken-is ∙ both) (each-cells (λ c. c < n) purse1.spares known)
 
+  all-made : AreMade (range_with_len 0 n) missing
+  all-made = λ place least a b lt. let m = length-range_with_len 0 n in let e = get_or-range_with_len 0 n place 0 (omega arith) in omega arith
+
+  made-both : Each (λ (x : Spare). missing ≤ x.cell) (root ∷ home ∷ [])
+  made-both = subst (Each (λ (x : Spare). missing ≤ x.cell)) both (taken-made (range_with_len 0 n) stock1.free missing takes.spares takes.cells all-made kept)
+
   root-not-home : root.cell ≢ home.cell
   root-not-home = (apart-from root.cell (home ∷ []) (IsDistinct-apart (root.cell ∷ []) (home.cell ∷ []) (subst (λ ss. IsDistinct eqb (stock_cells ss)) both fresh.apart))).0
 
   pub root-in : root.cell < n
   root-in = within-both.0
+
+  pub root-low : missing ≤ root.cell
+  root-low = made-both.0
 
   module _ (h : List Dimension) (dims : 0 < length h) (gate : Gate) (none : DescSet) (new : IsNewGate h 0 root.cell root.stamp 1 (agg []) none gate) (set_of : IsSetOf h [] none) (valid : IsDescSetOf h none)
       (opens : OpeningLaw (leaf_without_rows root.stamp)) (blocks : List Block) (is : blocks ≡ set (replicate n (leaf_without_rows 0)) root.cell (leaf_without_rows root.stamp)) (small : n < 2 ^ 32) where
@@ -101,7 +113,7 @@ module _ (n : ℕ) (stock1 : StockValue) (purse0 purse1 purse2 purse3 : PurseVal
     none-in-blocks = nothing-in blocks (λ y lt. no-rows y)
 
     abbrev made : ShardValue
-    made = record { rows = rows_of blocks ++ gate.queue.rows; home = home.cell; gate = gate; blocks = blocks; stock = stock1; purse = purse3 }
+    made = record { rows = rows_of blocks ++ gate.queue.rows; home = home.cell; gate = gate; blocks = blocks; missing = missing; stock = stock1; purse = purse3 }
 
     pub made-rows : rows_of blocks ++ gate.queue.rows ≡ []
     made-rows = ap (λ xs. xs ++ gate.queue.rows) none-in-blocks ∙ new.empty
@@ -143,6 +155,9 @@ module _ (n : ℕ) (stock1 : StockValue) (purse0 purse1 purse2 purse3 : PurseVal
           known = λ y i. on_bool (eqb y home.cell)
               (λ q. let e = eqb-eq _ _ q in let w = within-both.1.0 in let c = count in omega arith)
               (λ q. let e = inside-is y i (eqb-ne _ _ q) in let w = root-in in let c = count in omega arith);
+          made = λ y i. on_bool (eqb y home.cell)
+              (λ q. let e = eqb-eq _ _ q in let w = made-both.1.0 in omega arith)
+              (λ q. let e = inside-is y i (eqb-ne _ _ q) in let w = made-both.0 in omega arith);
         };
         own = subst (AreSpares after.shape (nodes (cells_of made))) (sym none-left) tt;
         spares = λ x c l. made-spare x (subst (λ xs. Contains xs x.cell) (ap (λ ss. stock1.free ++ stock_cells ss) none-left ∙ append-nil stock1.free) c) l;
@@ -161,5 +176,6 @@ module _ (n : ℕ) (stock1 : StockValue) (purse0 purse1 purse2 purse3 : PurseVal
       opened = new.phase;
       cells = takes.all ∙ sym count;
       small = (let a = takes.all in omega arith);
+      made = front-made (range_with_len 0 n) stock1.free missing takes.spares takes.cells all-made;
       purse = none-left;
     }

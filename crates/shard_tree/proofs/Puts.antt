@@ -1,5 +1,5 @@
 -- The row comes to its leaf, and the rows of the tree are those of the blocks again.
-use Rattle.std.proofs.Common.{ℕ, zero, suc, ◌≡◌, ◌≢◌, ◌+◌, ◌<◌, true, false, cond, eqb, List, [], ◌∷◌, ◌++◌, length, set, refl, sym, ap, ◌∙◌, subst, arith}
+use Rattle.std.proofs.Common.{ℕ, zero, suc, ◌≡◌, ◌≢◌, ◌+◌, ◌<◌, ◌≤◌, true, false, cond, eqb, List, [], ◌∷◌, ◌++◌, length, set, refl, sym, ap, ◌∙◌, subst, arith}
 use Rattle.std.proofs.lemmas.List.{length-set}
 use Rattle.dim_hierarchy.specs.declared.row.Row.{Row}
 use Rattle.dim_hierarchy.specs.Dimension.{Dimension}
@@ -9,14 +9,17 @@ use Rattle.dc_node.specs.declared.block.Body.TheVariants.{Rows, Entries}
 use Rattle.dc_node.specs.declared.block.Block.{Block}
 use Rattle.tree_shape.specs.Counts.{Each, same, times}
 use Rattle.tree_shape.specs.Shape.{Table, Node, nodes, node_of, Shape, numbers}
-use Rattle.tree_shape.specs.Trees.{IsTree, leaf_without_rows, lies}
+use Rattle.tree_shape.specs.Trees.{IsTree, lies}
 use Rattle.tree_shape.specs.Steps.{AfterPut, IsSpare, AreSpares}
 use Rattle.cell_stock.specs.declared.purse.Spare.{Spare}
 use Rattle.tree_shape.specs.Laws.{PutLaw}
-use Rattle.shard_tree.specs.Shard.{ShardValue, table_of, cells_of, block_at, rows_of, Holds, IsBlankOutside}
-use Rattle.shard_tree.specs.Ways.{lent, with_parts, Carries}
-use Rattle.shard_tree.proofs.Lists.{on_bool, eqb-eq, eqb-ne, same_is, same_not, times-rows, each-append}
-use Rattle.shard_tree.proofs.Blocks.{set-here, set-there}
+use Rattle.shard_tree.specs.Shard.{ShardValue, table_of, cells_of, rows_of, Holds, IsBlankOutside}
+use Rattle.shard_tree.specs.Ways.{with_parts, Carries}
+use Rattle.tree_shape.proofs.Parts.{each-append}
+use Rattle.tree_shape.proofs.Walks.{on_bool, eqb-eq, eqb-ne, same_is, same_not}
+use Rattle.block_cells.proofs.Fresh.{set-here, set-there}
+use Rattle.tree_page.proofs.Numbers.{times-rows}
+use Rattle.block_cells.specs.Blocks.{block_at}
 
 leaf-none : (body : Body) → is_leaf body ≡ false → rows_in body ≡ []
 leaf-none (Rows rows) q = cc
@@ -120,27 +123,27 @@ module _ (h : List Dimension) (row : Row) (find : ℕ → Row) (found : find row
   pub leaf-within : at < length s.blocks
   leaf-within = ca.outside.known at inside1
 
+  pub leaf-made : s.missing ≤ at
+  leaf-made = ca.outside.made at inside1
+
   pub leaf-kind : is_leaf (block_at s.blocks at).body ≡ true
   leaf-kind = (ca.tree.blocks at inside1 home1).kind ∙ (let l = ca.level_is in let e : eqb (g1.level at) 0 ≡ true = rw l refl in e)
 
   pub leaf-room : is_full (block_at s.blocks at).body ≡ false
   leaf-room = (ca.tree.blocks at inside1 home1).room row.no ca.row_placed ca.row_carried ca.row_at
 
-  module _ (blocks : List Block) (is : blocks ≡ lent s.blocks at (with_rows (block_at s.blocks at) (rows_in (block_at s.blocks at).body ++ row ∷ []))) where
+  module _ (blocks : List Block) (is : blocks ≡ set s.blocks at (with_rows (block_at s.blocks at) (rows_in (block_at s.blocks at).body ++ row ∷ []))) where
     abbrev leaf : Block
     leaf = with_rows (block_at s.blocks at) (rows_in (block_at s.blocks at).body ++ row ∷ [])
 
-    count1 : length (set s.blocks at (leaf_without_rows 0)) ≡ length s.blocks
-    count1 = length-set s.blocks at (leaf_without_rows 0)
-
     pub count-put : length blocks ≡ length s.blocks
-    count-put = ap length is ∙ length-set (set s.blocks at (leaf_without_rows 0)) at (with_rows (block_at s.blocks at) (rows_in (block_at s.blocks at).body ++ row ∷ [])) ∙ count1
+    count-put = ap length is ∙ length-set s.blocks at (with_rows (block_at s.blocks at) (rows_in (block_at s.blocks at).body ++ row ∷ []))
 
     here1 : block_at blocks at ≡ with_rows (block_at s.blocks at) (rows_in (block_at s.blocks at).body ++ row ∷ [])
-    here1 = ap (λ bs. block_at bs at) is ∙ set-here (set s.blocks at (leaf_without_rows 0)) at (with_rows (block_at s.blocks at) (rows_in (block_at s.blocks at).body ++ row ∷ [])) (let n = count1 in let m = leaf-within in omega arith)
+    here1 = ap (λ bs. block_at bs at) is ∙ set-here s.blocks at (with_rows (block_at s.blocks at) (rows_in (block_at s.blocks at).body ++ row ∷ [])) leaf-within
 
     there1 : (y : ℕ) → y ≢ at → block_at blocks y ≡ block_at s.blocks y
-    there1 y ne = ap (λ bs. block_at bs y) is ∙ set-there (set s.blocks at (leaf_without_rows 0)) at y (with_rows (block_at s.blocks at) (rows_in (block_at s.blocks at).body ++ row ∷ [])) ne ∙ set-there s.blocks at y (leaf_without_rows 0) ne
+    there1 y ne = ap (λ bs. block_at bs y) is ∙ set-there s.blocks at y (with_rows (block_at s.blocks at) (rows_in (block_at s.blocks at).body ++ row ∷ [])) ne
 
     pub put-holds : PutLaw → Holds (table_of h find) (with_parts s s.gate blocks s.purse) × ((q : ℕ) → times q (numbers (rows_of blocks)) ≡ times q (numbers before) + same q row.no) × Each (λ r. find r.no ≡ r) (rows_of blocks)
     put-holds puts =
@@ -167,6 +170,7 @@ module _ (h : List Dimension) (row : Row) (find : ℕ → Row) (found : find row
               ap (λ (b : Block). rows_in b.body) (there1 y (λ e. let bad : false ≡ true = sym i ∙ ap g1.inside e ∙ inside1 in cc)) ∙ ca.outside.blank y i;
           home = ap (λ (b : Block). rows_in b.body) (there1 s.home (λ e. home1 (sym e))) ∙ ca.outside.home;
           known = λ y o. let k = ca.outside.known y (sym (a.inside y) ∙ o) in let n = count-put in omega arith;
+          made = λ y o. ca.outside.made y (sym (a.inside y) ∙ o);
         } in
         let are = placed-are t now a.shape a.tree settled outside in (
           record {

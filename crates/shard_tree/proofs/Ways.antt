@@ -26,10 +26,13 @@ use Rattle.tree_shape.specs.Shape.{Table, Node, nodes, Shape, numbers}
 use Rattle.tree_shape.specs.Trees.{BlockFits, BlockOk, IsBelow, leaf_without_rows}
 use Rattle.tree_shape.specs.Steps.{IsSpare, AreSpares, AreApart, IsIdle, AfterStep}
 use Rattle.tree_shape.specs.Laws.{GateLaw, BlockLaw, ChildLaw, RootLaw, DownLaw, InLaw}
-use Rattle.shard_tree.specs.Shard.{ShardValue, table_of, cells_of, block_at, rows_of, Holds, IsBlankOutside}
+use Rattle.shard_tree.specs.Shard.{ShardValue, table_of, cells_of, rows_of, Holds, IsBlankOutside}
 use Rattle.shard_tree.specs.Ways.{with_parts, IsOut, Carries, WentDown, WentIn, CanGoDown}
-use Rattle.shard_tree.proofs.Lists.{on_bool, eqb-eq, eqb-ne, same_is, same_not, leb-le, leb-gt, each-append_left, each-append_right}
-use Rattle.shard_tree.proofs.Blocks.{AreNewCells, length-with_fresh, fresh-other, fresh-filled, set-here, set-there}
+use Rattle.tree_shape.proofs.Queries.{leb-le, leb-gt}
+use Rattle.tree_shape.proofs.Walks.{on_bool, eqb-eq, eqb-ne, same_is, same_not}
+use Rattle.block_cells.proofs.Fresh.{AreNewCells, length-with_fresh, fresh-other, fresh-filled, set-here, set-there}
+use Rattle.block_cells.proofs.Lists.{each-append_left, each-append_right}
+use Rattle.block_cells.specs.Blocks.{block_at}
 
 -- spares at the front of a purse stay out and spare
 
@@ -71,6 +74,7 @@ out-front s gate blocks purse used e n o =
       };
       stamps = each-append_left (λ (x : Spare). x.stamp < s.stock.stamps) purse.spares used (subst (Each (λ (x : Spare). x.stamp < s.stock.stamps)) e o.stamps);
       cells = o.cells ∙ sym n;
+      made = each-append_left (λ (x : Spare). s.missing ≤ x.cell) purse.spares used (subst (Each (λ (x : Spare). s.missing ≤ x.cell)) e o.made);
     }
 
 -- where new blocks stand: in the cells of the spares that were used
@@ -185,6 +189,13 @@ module _ (table : Table) (r : ℕ) (rows : List Row) (s : ShardValue) (g : Shape
   within = each-append_right (λ (u : Spare). u.cell < length s.blocks) purse.spares a.used
       (subst (AreWithin (length s.blocks)) a.purse_is (all-within (length s.blocks) s.purse.spares (subst (λ n. All (λ c. c < n) (stock_cells s.purse.spares)) out.cells out.out.known)))
 
+  near : (y : ℕ) (us : List Spare) → y < s.missing → Each (λ u. s.missing ≤ u.cell) us → Each (λ u. y ≢ u.cell) us
+  near y [] o h = tt
+  near y (u ∷ us) o h = ((λ e. let w = h.0 in absurd (omega arith)), near y us o h.1)
+
+  used-made : Each (λ (u : Spare). s.missing ≤ u.cell) a.used
+  used-made = each-append_right (λ (u : Spare). s.missing ≤ u.cell) purse.spares a.used (subst (Each (λ (u : Spare). s.missing ≤ u.cell)) a.purse_is out.made)
+
   apart-all : (x : Spare) (us : List Spare) → s.stock.stamps ≤ x.stamp → Each (λ (u : Spare). u.stamp < s.stock.stamps) us → Each (λ (u : Spare). x.cell ≢ u.cell) us → Each (AreApart x) us
   apart-all x [] l h k = tt
   apart-all x (u ∷ us) l h k = ((k.0, (λ e. let b = h.0 in absurd (omega arith))), apart-all x us l h.1 k.1)
@@ -233,6 +244,9 @@ module _ (table : Table) (r : ℕ) (rows : List Row) (s : ShardValue) (g : Shape
       known = λ y i. on_bool (leb (length s.blocks) y)
           (λ q. let k = outside.known y (sym (a.inside y (far y a.used (leb-le _ _ q) within)) ∙ i) in let z = leb-le _ _ q in absurd (omega arith))
           (λ q. let z = leb-gt _ _ q in omega arith);
+      made = λ y i. on_bool (leb s.missing y)
+          (λ q. leb-le _ _ q)
+          (λ q. let z = leb-gt _ _ q in let k = outside.made y (sym (a.inside y (near y a.used z used-made)) ∙ i) in absurd (omega arith));
     };
     own = a.own;
     spares = now-spares;
@@ -272,6 +286,9 @@ module _ (h : List Dimension) (row : Row) (find : ℕ → Row) (found : find row
 
   at-within : at < length s.blocks
   at-within = ca.outside.known at at-inside
+
+  pub at-made : s.missing ≤ at
+  at-made = ca.outside.made at at-inside
 
   -- nobody else carries a row
   others-idle : (c : ℕ) → c ≢ at → IsIdle g c
@@ -326,11 +343,14 @@ module _ (h : List Dimension) (row : Row) (find : ℕ → Row) (found : find row
       below : IsBelow (cells_of s) g e.child (g.level at)
       below = kids (table_of h find) (cells_of s) g at place e ca.tree at-inside at-home entry_at
 
-      child-apart : e.child ≢ at
+      pub child-apart : e.child ≢ at
       child-apart q = let l = below.below in let z = ap g.level q in absurd (omega arith)
 
       pub child-within : e.child < length s.blocks
       child-within = ca.outside.known e.child below.inside
+
+      pub child-made : s.missing ≤ e.child
+      child-made = ca.outside.made e.child below.inside
 
       fit-child : BlockFits (table_of h find) (cells_of s) e.child
       fit-child = fits (table_of h find) (cells_of s) g e.child ca.tree valid.hierarchy below.inside below.block
@@ -447,7 +467,7 @@ module _ (h : List Dimension) (row : Row) (find : ℕ → Row) (found : find row
 
 -- what the code of a step down asks for
 
-module _ (h : List Dimension) (row : Row) (gate : Gate) (blocks : List Block) (purse : PurseValue) (at level : ℕ) (k : CanGoDown h row gate blocks purse at (level + 1)) (valid : IsRowOf h row) where
+module _ (h : List Dimension) (row : Row) (gate : Gate) (blocks : List Block) (missing : ℕ) (purse : PurseValue) (at level : ℕ) (k : CanGoDown h row gate blocks missing purse at (level + 1)) (valid : IsRowOf h row) where
   abbrev was : ShardValue
   was = with_parts k.shard gate blocks purse
 
@@ -458,6 +478,9 @@ module _ (h : List Dimension) (row : Row) (gate : Gate) (blocks : List Block) (p
 
   pub asks-within : at < length blocks
   asks-within = at-within h row k.find k.found k.before none-before was at level k.carries
+
+  pub asks-made : missing ≤ at
+  asks-made = let w = at-made h row k.find k.found k.before none-before was at level k.carries in let m = k.made in omega arith
 
   pub asks-some : 0 < length (entries_in (block_at blocks at).body)
   asks-some = some-entries h row k.find k.found k.before none-before was at level k.carries
@@ -475,6 +498,12 @@ module _ (h : List Dimension) (row : Row) (gate : Gate) (blocks : List Block) (p
     module _ (place : ℕ) (e : Entry) (entry_at : slice_get (entries_in (block_at blocks at).body) place ≡ Some e) (child : ℕ) (is : child ≡ e.child) where
       pub asks-child-within : child < length blocks
       asks-child-within = let w = child-within h row k.find k.found k.before none-before was at level k.carries valid fits kids gates k.few place e entry_at in omega arith
+
+      pub asks-child-made : missing ≤ child
+      asks-child-made = let w = child-made h row k.find k.found k.before none-before was at level k.carries valid fits kids gates k.few place e entry_at in let m = k.made in omega arith
+
+      pub asks-apart : at ≢ child
+      asks-apart q = child-apart h row k.find k.found k.before none-before was at level k.carries valid fits kids gates k.few place e entry_at (sym (q ∙ is))
 
       pub asks-child : IsBodyOf h (block_at (set blocks at (leaf_without_rows 0)) child).body
       asks-child = subst (λ (c : ℕ). IsBodyOf h (block_at (set blocks at (leaf_without_rows 0)) c).body) (sym is)
@@ -495,6 +524,14 @@ module _ (h : List Dimension) (row : Row) (gate : Gate) (blocks : List Block) (p
       subst (λ (m : ℕ). Each (λ f. f.cell < m) entered.fresh.items) (sym e)
       (fresh-each (λ c. c < length blocks) fr.0.used entered.fresh.items (each-append_right (λ (u : Spare). u.cell < length blocks) purse_now.spares fr.0.used (subst (AreWithin (length blocks)) fr.0.purse_is within)) fr.0.cells)
 
+  -- the new blocks stand where blocks are made
+  pub asks-fresh-made : (place : ℕ) (parent parent_now head head_now : Block) (purse_now : PurseValue) (entered : Entered) → StepsDown h row place parent parent_now head head_now purse purse_now entered
+      → (n : ℕ) → n ≡ missing → Each (λ f. n ≤ f.cell) entered.fresh.items
+  asks-fresh-made place parent parent_now head head_now purse_now entered step n e =
+      let fr = fresh-down (length blocks) h row place parent parent_now head head_now purse purse_now entered step in
+      let made : Each (λ (x : Spare). n ≤ x.cell) purse.spares = subst (λ (m : ℕ). Each (λ (x : Spare). m ≤ x.cell) purse.spares) (k.made ∙ sym e) k.carries.out.made in
+      fresh-each (λ c. n ≤ c) fr.0.used entered.fresh.items (each-append_right (λ (u : Spare). n ≤ u.cell) purse_now.spares fr.0.used (subst (Each (λ (u : Spare). n ≤ u.cell)) fr.0.purse_is made)) fr.0.cells
+
 -- a step in at the gate
 
 module _ (h : List Dimension) (row : Row) (find : ℕ → Row) (found : find row.no ≡ row) (s : ShardValue) (holds : Holds (table_of h find) s)
@@ -508,6 +545,9 @@ module _ (h : List Dimension) (row : Row) (find : ℕ → Row) (found : find row
   pub root-within : s.gate.root < length s.blocks
   root-within = holds.outside.known s.gate.root root-below.inside
 
+  pub root-made : s.missing ≤ s.gate.root
+  root-made = holds.outside.made s.gate.root root-below.inside
+
   not-placed : g0.placed row.no ≡ false
   not-placed = on_bool (g0.placed row.no)
       (λ q. let p : times row.no (numbers (rows_of s.blocks)) ≡ 1 = holds.placed row.no ∙ (rw q refl) in absurd (omega arith))
@@ -520,6 +560,13 @@ module _ (h : List Dimension) (row : Row) (find : ℕ → Row) (found : find row
       let within = all-within (length s.blocks) s.purse.spares (subst (λ (m : ℕ). All (λ c. c < m) (stock_cells s.purse.spares)) out.cells out.out.known) in
       subst (λ (m : ℕ). Each (λ f. f.cell < m) entered.fresh.items) (sym e)
       (fresh-each (λ c. c < length s.blocks) fr.0.used entered.fresh.items (each-append_right (λ (u : Spare). u.cell < length s.blocks) purse_now.spares fr.0.used (subst (AreWithin (length s.blocks)) fr.0.purse_is within)) fr.0.cells)
+
+  pub in-fresh-made : (gate_now : Gate) (root root_now : Block) (purse_now : PurseValue) (entered : Entered) → Enters h row s.gate gate_now root root_now s.purse purse_now entered → s.gate.height + 2 ≤ length s.purse.spares
+      → (n : ℕ) → n ≡ s.missing → Each (λ f. n ≤ f.cell) entered.fresh.items
+  in-fresh-made gate_now root root_now purse_now entered step enough n e =
+      let fr = fresh-in (length s.blocks) h row s.gate gate_now root root_now s.purse purse_now entered step enough (nodes (cells_of s)) g0 holds.own in
+      let made : Each (λ (x : Spare). n ≤ x.cell) s.purse.spares = subst (λ (m : ℕ). Each (λ (x : Spare). m ≤ x.cell) s.purse.spares) (sym e) out.made in
+      fresh-each (λ c. n ≤ c) fr.0.used entered.fresh.items (each-append_right (λ (u : Spare). n ≤ u.cell) purse_now.spares fr.0.used (subst (Each (λ (u : Spare). n ≤ u.cell)) fr.0.purse_is made)) fr.0.cells
 
   module _ (valid : IsRowOf h row) (fits : BlockLaw) (gates : GateLaw) (few : length (rows_of s.blocks) + 1 < 2 ^ 62) where
     fit-root : BlockFits (table_of h find) (cells_of s) s.gate.root

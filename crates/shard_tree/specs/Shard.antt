@@ -15,24 +15,22 @@ use Rattle.shard_store.specs.declared.gate.Gate.{Gate}
 use Rattle.shard_store.specs.declared.gate.Phase.TheVariants.{Open}
 use Rattle.tree_shape.specs.Counts.{Each, times}
 use Rattle.tree_shape.specs.Shape.{Table, TreeCells, nodes, Shape, numbers}
-use Rattle.tree_shape.specs.Trees.{IsTree, leaf_without_rows}
+use Rattle.tree_shape.specs.Trees.{IsTree}
 use Rattle.tree_shape.specs.Steps.{IsSpare, AreSpares}
-
--- the block in a cell; past the last cell a leaf without rows
-abbrev pub block_at : List Block → ℕ → Block
-block_at blocks cell = get_or blocks cell (leaf_without_rows 0)
+use Rattle.block_cells.specs.Blocks.{block_at}
 
 -- the rows of all blocks
 abbrev pub rows_of : List Block → List Row
 rows_of blocks = flat_map (λ b. rows_in b.body) blocks
 
 -- The rows of a shard, which are those of its blocks and those of its queue; the gate with its cell, and the blocks by
--- their cells; and the cells that are free.
+-- their cells, of which so many are not made yet; and the cells that are free.
 pub record ShardValue : Type 0 where
   pub rows : List Row
   pub home : ℕ
   pub gate : Gate
   pub blocks : List Block
+  pub missing : ℕ
   pub stock : StockValue
   pub purse : PurseValue
 
@@ -42,11 +40,12 @@ cells_of s = record { gate_cell = s.home; gate = s.gate; block = block_at s.bloc
 abbrev pub table_of : List Dimension → (ℕ → Row) → Table
 table_of h row = record { hierarchy = h; row = row }
 
--- the tree is of the shard's cells; a cell that isn't of it holds no row, and neither does the gate's
+-- the tree is of the shard's cells, whose blocks are made; a cell that isn't of it holds no row, and neither does the gate's
 pub record IsBlankOutside (s : ShardValue) (g : Shape) : Type 0 where
   pub blank : (y : ℕ) → g.inside y ≡ false → rows_in (block_at s.blocks y).body ≡ []
   pub home : rows_in (block_at s.blocks s.home).body ≡ []
   pub known : (y : ℕ) → g.inside y ≡ true → y < length s.blocks
+  pub made : (y : ℕ) → g.inside y ≡ true → s.missing ≤ y
 
 -- The cells hold a tree, through which no row is on its way. It has the rows of the blocks, each once. A cell that isn't
 -- of the tree holds no row; one that is free or in the purse isn't of the tree, and no entry expects a stamp that is still
@@ -59,6 +58,11 @@ pub record Holds (table : Table) (s : ShardValue) : Type 0 where
   pub outside : IsBlankOutside s shape
   pub own : AreSpares shape (nodes (cells_of s)) s.purse.spares
   pub spares : (x : Spare) → Contains (s.stock.free ++ stock_cells s.purse.spares) x.cell → s.stock.stamps ≤ x.stamp → IsSpare shape (nodes (cells_of s)) x
+
+-- The free cell at a place of the list is at least the lesser of that place and the number of missing blocks. So where the
+-- stock keeps as many free cells as blocks are missing, each cell that it gives out has its block.
+abbrev pub AreMade : List ℕ → ℕ → Type 0
+AreMade free missing = (place least : ℕ) → least ≤ place → least ≤ missing → place < length free → least ≤ get_or free place 0
 
 -- A shard of this hierarchy: its rows are of it and differ in their numbers, and there are fewer than 2^62; whatever rows other
 -- numbers may stand for, they stand in a tree and in the queue; and all spares are in the stock.
@@ -74,4 +78,5 @@ pub record IsShardOf (h : List Dimension) (s : ShardValue) : Type 0 where
   pub opened : s.gate.phase ≡ Open
   pub cells : s.stock.cells ≡ length s.blocks
   pub small : s.stock.cells < 2 ^ 32
+  pub made : AreMade s.stock.free s.missing
   pub purse : s.purse.spares ≡ []

@@ -1,5 +1,5 @@
 -- The way of a row down the tree: what the steps find in the cells and leave there.
-use Rattle.std.specs.Prelude.{ℕ, ◌≡◌, ◌≢◌, ◌+◌, ◌<◌, ◌≤◌, ◌^◌, true, false, cond, Some, slice_get, List, [], ◌∷◌, ◌++◌, length, Contains}
+use Rattle.std.specs.Prelude.{ℕ, ◌≡◌, ◌≢◌, ◌+◌, ◌<◌, ◌≤◌, ◌^◌, true, false, cond, Some, slice_get, List, ◌++◌, length, Contains}
 use Rattle.std.proofs.Common.{set}
 use Rattle.dim_hierarchy.specs.declared.row.Row.{Row}
 use Rattle.dim_hierarchy.specs.Dimension.{Dimension}
@@ -11,17 +11,12 @@ use Rattle.dc_node.specs.declared.entry.Entry.{Entry}
 use Rattle.shard_store.specs.declared.gate.Gate.{Gate}
 use Rattle.link_descent.specs.Descend.{StepsDown, Enters}
 use Rattle.link_descent.specs.declared.entered.Entered.{Entered}
-use Rattle.link_descent.specs.declared.entered.Fresh.{Fresh}
 use Rattle.tree_shape.specs.Counts.{Each, same, times}
 use Rattle.tree_shape.specs.Shape.{Table, nodes, Shape, numbers}
 use Rattle.tree_shape.specs.Trees.{IsTree, leaf_without_rows}
 use Rattle.tree_shape.specs.Steps.{IsSpare, AreSpares}
-use Rattle.shard_tree.specs.Shard.{ShardValue, table_of, cells_of, block_at, rows_of, Holds, IsBlankOutside}
-
--- new blocks in their cells
-abbrev pub with_fresh : List Block → List Fresh → List Block
-with_fresh blocks [] = blocks
-with_fresh blocks (f ∷ fs) = set (with_fresh blocks fs) f.cell f.block
+use Rattle.shard_tree.specs.Shard.{ShardValue, table_of, cells_of, rows_of, Holds, IsBlankOutside}
+use Rattle.block_cells.specs.Blocks.{block_at, with_fresh}
 
 -- a block that was lent from its cell is back in it, changed
 abbrev pub lent : List Block → ℕ → Block → List Block
@@ -29,13 +24,14 @@ lent blocks cell block = set (set blocks cell (leaf_without_rows 0)) cell block
 
 -- the shard with other parts
 abbrev pub with_parts : ShardValue → Gate → List Block → PurseValue → ShardValue
-with_parts s gate blocks purse = record { rows = s.rows; home = s.home; gate = gate; blocks = blocks; stock = s.stock; purse = purse }
+with_parts s gate blocks purse = record { rows = s.rows; home = s.home; gate = gate; blocks = blocks; missing = s.missing; stock = s.stock; purse = purse }
 
--- what the purse of a shard has was given out by its stock, which has as many cells as there are
+-- what the purse of a shard has was given out by its stock, which has as many cells as there are, and its blocks are made
 pub record IsOut (s : ShardValue) : Type 0 where
   pub out : AreOut s.stock s.purse.spares
   pub stamps : Each (λ x. x.stamp < s.stock.stamps) s.purse.spares
   pub cells : s.stock.cells ≡ length s.blocks
+  pub made : Each (λ x. s.missing ≤ x.cell) s.purse.spares
 
 -- The row r, which is none of those before, is carried at a cell on a level of the tree; the others are settled. The
 -- purse has a spare for each further level.
@@ -75,19 +71,21 @@ pub record WentIn (h : List Dimension) (row : Row) (result : ℕ) (gate gate_now
   pub at_is : result ≡ entered.at
 
 -- for some table the row is carried there
-pub record CanGoDown (h : List Dimension) (row : Row) (gate : Gate) (blocks : List Block) (purse : PurseValue) (at level : ℕ) : Type 0 where
+pub record CanGoDown (h : List Dimension) (row : Row) (gate : Gate) (blocks : List Block) (missing : ℕ) (purse : PurseValue) (at level : ℕ) : Type 0 where
   pub find : ℕ → Row
   pub found : find row.no ≡ row
   pub before : List Row
   pub shard : ShardValue
+  pub made : shard.missing ≡ missing
   pub carries : Carries (table_of h find) row.no before (with_parts shard gate blocks purse) at level
   pub few : length before + 1 < 2 ^ 62
 
 -- for some table there is a tree without the row, and the purse has the spares for a way down
-pub record CanEnter (h : List Dimension) (row : Row) (gate : Gate) (blocks : List Block) (purse : PurseValue) : Type 0 where
+pub record CanEnter (h : List Dimension) (row : Row) (gate : Gate) (blocks : List Block) (missing : ℕ) (purse : PurseValue) : Type 0 where
   pub find : ℕ → Row
   pub found : find row.no ≡ row
   pub shard : ShardValue
+  pub made : shard.missing ≡ missing
   pub holds : Holds (table_of h find) (with_parts shard gate blocks purse)
   pub new : times row.no (numbers (rows_of blocks)) ≡ 0
   pub few : length (rows_of blocks) + 1 < 2 ^ 62

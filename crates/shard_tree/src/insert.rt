@@ -1,21 +1,23 @@
-ghost use Rattle.std.specs.Prelude.{ℕ, Some, slice_get, true, false, ◌≡◌, ◌+◌, ◌<◌, ◌≤◌, ◌^◌, [], ◌∷◌, ◌++◌, length, OnOk, OnErr, IsPermutation};
+ghost use Rattle.std.specs.Prelude.{ℕ, Some, slice_get, ◌≡◌, ◌+◌, ◌<◌, ◌≤◌, ◌^◌, [], ◌∷◌, ◌++◌, length, map, OnOk, OnErr, IsPermutation};
 ghost use Rattle.dim_hierarchy.specs.declared.row.Row.{Row};
 ghost use Rattle.dim_hierarchy.specs.Row.{IsRowOf};
-ghost use Rattle.dc_node.specs.Block.{rows_in, entries_in, is_leaf, is_full, with_rows};
+ghost use Rattle.dc_node.specs.Block.{entries_in};
 ghost use Rattle.describing_set.specs.DescSet.{IsDescSetOf};
 ghost use Rattle.dc_node.specs.declared.entry.Entry.{Entry};
 ghost use Rattle.shard_store.specs.declared.gate.Phase.TheVariants.{Open};
+ghost use Rattle.link_descent.specs.Pick.{IsPick};
 ghost use Rattle.tree_shape.specs.Counts.{times};
 ghost use Rattle.tree_shape.specs.Shape.{numbers};
-ghost use Rattle.shard_tree.specs.Shard.{ShardValue, table_of, block_at, rows_of, Holds, IsShardOf};
-ghost use Rattle.shard_tree.specs.Ways.{lent, with_parts, IsOut, WentDown, WentIn, CanGoDown, CanEnter, Added};
+ghost use Rattle.shard_tree.specs.Shard.{ShardValue, table_of, Holds, IsShardOf};
+ghost use Rattle.block_cells.specs.Blocks.{block_at};
+ghost use Rattle.shard_tree.specs.Ways.{with_parts, IsOut, WentDown, WentIn, CanGoDown, CanEnter, Added};
 
-use crate::cells::{lift, put, put_fresh};
 use crate::tree::ShardTree;
+use block_cells::Blocks;
 use cell_stock::Purse;
 use dc_node::Block;
 use dim_hierarchy::{Hierarchy, Row};
-use link_descent::{enter_root, pick, put_leaf, step_down};
+use link_descent::{enter_root, pass_root, pick, step_down};
 use shard_store::Gate;
 use std::alloc::AllocError;
 use tree_shape::{frame_law, insert_laws, tree_laws};
@@ -38,6 +40,7 @@ impl ShardTree {
         ensures queued { OnOk result (length self.old.stock.free < self.old.gate.height + 2
             → self.new.gate.queue.rows ≡ self.old.gate.queue.rows ++ row.now ∷ []) }
         ensures err { OnErr result (self.new.rows ≡ self.old.rows) }
+        ensures id { self.new.gate.shard ≡ self.old.gate.shard }
         ensures shard { IsShardOf h.now self.new }
     {
         frame_law();
@@ -49,6 +52,7 @@ impl ShardTree {
         if self.stock.stamps() >= MANY_STAMPS {
             return Err(AllocError);
         }
+        self.blocks.make(self.stock.free() - need)?;
         self.purse.reserve(need)?;
         let taken = self.stock.take(need, &mut self.purse);
         prove!(taken.is_some());
@@ -60,16 +64,18 @@ impl ShardTree {
 }
 
 /// Adds a row to the tree, for which the purse has the cells.
-fn add(gate: &mut Gate, blocks: &mut Vec<Block>, purse: &mut Purse, h: &Hierarchy, row: &Row)
+fn add(gate: &mut Gate, blocks: &mut Blocks, purse: &mut Purse, h: &Hierarchy, row: &Row)
     requires open { gate.old.phase ≡ Open }
     requires set { IsDescSetOf h.now gate.old.set }
     requires low { gate.old.height + 1 < 2 ^ 32 }
     requires row { IsRowOf h.now row.now }
-    requires enters { CanEnter h.now row.now gate.old blocks.old.items purse.old }
+    requires enters { CanEnter h.now row.now gate.old blocks.old.items blocks.old.missing purse.old }
     ensures queue { gate.new.queue ≡ gate.old.queue }
+    ensures id { gate.new.shard ≡ gate.old.shard }
     ensures open { gate.new.phase ≡ Open }
     ensures set { IsDescSetOf h.now gate.new.set }
     ensures count { length blocks.new.items ≡ length blocks.old.items }
+    ensures missing { blocks.new.missing ≡ blocks.old.missing }
     ensures added { (find : ℕ → Row) (s : ShardValue) → find row.now.no ≡ row.now
         → Holds (table_of h.now find) (with_parts s gate.old blocks.old.items purse.old)
         → IsOut (with_parts s gate.old blocks.old.items purse.old)
@@ -83,13 +89,35 @@ fn add(gate: &mut Gate, blocks: &mut Vec<Block>, purse: &mut Purse, h: &Hierarch
     for _ in 1..gate.height {
         at = down(gate, blocks, purse, h, row, at);
     }
-    settle(blocks, at, row);
+    blocks.settle(at, row);
 }
 
 /// Takes a row in at the gate, and tells at which cell it is carried.
-fn enter(
+fn enter(gate: &mut Gate, blocks: &mut Blocks, purse: &mut Purse, h: &Hierarchy, row: &Row) -> u32
+    requires open { gate.old.phase ≡ Open }
+    requires set { IsDescSetOf h.now gate.old.set }
+    requires low { gate.old.height + 1 < 2 ^ 32 }
+    requires row { IsRowOf h.now row.now }
+    requires enters { CanEnter h.now row.now gate.old blocks.old.items blocks.old.missing purse.old }
+    ensures step { WentIn h.now row.now result gate.old gate.new blocks.old.items blocks.new.items purse.old purse.new }
+    ensures id { gate.new.shard ≡ gate.old.shard }
+    ensures missing { blocks.new.missing ≡ blocks.old.missing }
+    ensures set { IsDescSetOf h.now gate.new.set }
+{
+    tree_laws();
+    let cell = gate.root;
+    if !blocks.at(cell).is_full() {
+        pass_root(gate, h, row);
+        return cell;
+    }
+    divide_root(gate, blocks, purse, h, row)
+}
+
+/// Takes a row in at the gate, where the root is divided. A function of its own, as a function pays at
+/// each call for the blocks among its locals.
+fn divide_root(
     gate: &mut Gate,
-    blocks: &mut Vec<Block>,
+    blocks: &mut Blocks,
     purse: &mut Purse,
     h: &Hierarchy,
     row: &Row,
@@ -98,17 +126,19 @@ fn enter(
     requires set { IsDescSetOf h.now gate.old.set }
     requires low { gate.old.height + 1 < 2 ^ 32 }
     requires row { IsRowOf h.now row.now }
-    requires enters { CanEnter h.now row.now gate.old blocks.old.items purse.old }
+    requires enters { CanEnter h.now row.now gate.old blocks.old.items blocks.old.missing purse.old }
     ensures step { WentIn h.now row.now result gate.old gate.new blocks.old.items blocks.new.items purse.old purse.new }
+    ensures id { gate.new.shard ≡ gate.old.shard }
+    ensures missing { blocks.new.missing ≡ blocks.old.missing }
     ensures set { IsDescSetOf h.now gate.new.set }
 {
     tree_laws();
     let cell = gate.root;
-    let mut root = lift(blocks, cell);
+    let mut root = blocks.lift(cell);
     let entered = enter_root(gate, &mut root, purse, h, row);
-    put(blocks, cell, root);
+    blocks.put(cell, root);
     let at = entered.at;
-    put_fresh(blocks, entered.fresh);
+    blocks.put_fresh(entered.fresh);
     at
 }
 
@@ -126,38 +156,56 @@ fn child_at(parent: &Block, place: u8) -> u32
 /// the tree.
 fn down(
     gate: &Gate,
-    blocks: &mut Vec<Block>,
+    blocks: &mut Blocks,
     purse: &mut Purse,
     h: &Hierarchy,
     row: &Row,
     at: u32,
 ) -> u32
     requires row { IsRowOf h.now row.now }
-    requires goes { (level : ℕ) × CanGoDown h.now row.now gate.now blocks.old.items purse.old at (level + 1) }
+    requires goes { (level : ℕ) × CanGoDown h.now row.now gate.now blocks.old.items blocks.old.missing purse.old at (level + 1) }
     ensures step { WentDown h.now row.now at result blocks.old.items blocks.new.items purse.old purse.new }
+    ensures missing { blocks.new.missing ≡ blocks.old.missing }
 {
     tree_laws();
-    let mut parent = lift(blocks, at);
-    let place = pick(&parent, h, &row.at);
-    let cell = child_at(&parent, place);
-    let mut child = lift(blocks, cell);
-    let entered = step_down(&mut parent, place, &mut child, purse, h, row);
-    put(blocks, at, parent);
-    put(blocks, cell, child);
-    let at = entered.at;
-    put_fresh(blocks, entered.fresh);
-    at
+    let parent = blocks.at(at);
+    let place = pick(parent, h, &row.at);
+    let cell = child_at(parent, place);
+    if !blocks.at(cell).is_full() {
+        blocks.pass(at, place, h, row);
+        return cell;
+    }
+    divide_child(gate, blocks, purse, h, row, at, place, cell)
 }
 
-/// Puts a row into the leaf at which it is carried.
-fn settle(blocks: &mut Vec<Block>, at: u32, row: &Row)
-    requires within { at < length blocks.old.items }
-    requires leaf { is_leaf (block_at blocks.old.items at).body ≡ true }
-    requires room { is_full (block_at blocks.old.items at).body ≡ false }
-    ensures { blocks.new.items ≡ lent blocks.old.items at
-        (with_rows (block_at blocks.old.items at) (rows_in (block_at blocks.old.items at).body ++ row.now ∷ [])) }
+/// Takes a row down to the child in a cell, to which the entry at a place leads, where the child is
+/// divided.
+fn divide_child(
+    gate: &Gate,
+    blocks: &mut Blocks,
+    purse: &mut Purse,
+    h: &Hierarchy,
+    row: &Row,
+    at: u32,
+    place: u8,
+    cell: u32,
+) -> u32
+    requires row { IsRowOf h.now row.now }
+    requires goes { (level : ℕ) × CanGoDown h.now row.now gate.now blocks.old.items blocks.old.missing purse.old at (level + 1) }
+    requires place { IsPick h.now row.now.at (map (λ e. e.set) (entries_in (block_at blocks.old.items at).body)) place }
+    requires leads { (entry : Entry)
+        × (slice_get (entries_in (block_at blocks.old.items at).body) place ≡ Some entry)
+        × (cell ≡ entry.child) }
+    ensures step { WentDown h.now row.now at result blocks.old.items blocks.new.items purse.old purse.new }
+    ensures missing { blocks.new.missing ≡ blocks.old.missing }
 {
-    let mut leaf = lift(blocks, at);
-    put_leaf(&mut leaf, row);
-    put(blocks, at, leaf);
+    tree_laws();
+    let mut parent = blocks.lift(at);
+    let mut child = blocks.lift(cell);
+    let entered = step_down(&mut parent, place, &mut child, purse, h, row);
+    blocks.put(at, parent);
+    blocks.put(cell, child);
+    let at = entered.at;
+    blocks.put_fresh(entered.fresh);
+    at
 }

@@ -2,11 +2,13 @@
 //! who call it.
 #![tactic(auto)]
 
-mod cells;
+mod flat;
 mod insert;
+mod page;
 mod query;
 #[cfg(test)]
 mod tests;
 mod tree;
 
+pub use flat::FlatShard;
 pub use tree::ShardTree;

@@ -36,7 +36,7 @@ impl ShardTree {
                 return Ok(total);
             };
             todo.reserve(17)?;
-            let block = &self.blocks[item.cell as usize];
+            let block = self.blocks.at(item.cell);
             visit(block, item.stamp, wanted, h, &mut total, &mut todo);
         }
         Ok(total)

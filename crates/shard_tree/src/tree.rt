@@ -1,9 +1,8 @@
-ghost use Rattle.std.specs.Prelude.{◌≡◌, ◌<◌, ◌≤◌, [], length, IfOk};
+ghost use Rattle.std.specs.Prelude.{◌≡◌, ◌+◌, ◌<◌, ◌≤◌, [], length, IfOk};
 ghost use Rattle.shard_tree.specs.Shard.{IsShardOf};
 
-use crate::cells::{blank_blocks, put};
+use block_cells::Blocks;
 use cell_stock::{Purse, Stock};
-use dc_node::Block;
 use describing_set::DescSet;
 use dim_hierarchy::Hierarchy;
 use measure_agg::Agg;
@@ -18,7 +17,7 @@ use tree_shape::empty_leaf;
 pub struct ShardTree {
     pub(crate) home: u32,
     pub(crate) gate: Gate,
-    pub(crate) blocks: Vec<Block>,
+    pub(crate) blocks: Blocks,
     pub(crate) stock: Stock,
     pub(crate) purse: Purse,
 }
@@ -34,17 +33,22 @@ impl Model for ShardTree {
       home = a.home;
       gate = a.gate;
       blocks = a.blocks.items;
+      missing = a.blocks.missing;
       stock = a.stock;
       purse = a.purse;
     } };
 }
 
 impl ShardTree {
-    /// A shard of no row, with so many cells, of which the gate and the root take one each. Answers
+    /// Shard 0 with no row and so many cells, of which the gate and the root take one each. Answers
     /// want of memory also where there are fewer than two.
     pub fn new(alloc: Global, h: &Hierarchy, cells: u32) -> Result<ShardTree, AllocError>
         requires dims { 0 < length h.now }
+        ensures id { IfOk result (λ s. s.gate.shard ≡ 0) }
         ensures rows { IfOk result (λ s. s.rows ≡ []) }
+        ensures cells { IfOk result (λ s. s.stock.cells ≡ cells) }
+        ensures free { IfOk result (λ s. length s.stock.free + 2 ≡ cells) }
+        ensures height { IfOk result (λ s. s.gate.height ≡ 1) }
         ensures shard { IfOk result (λ s. IsShardOf h.now s) }
     {
         cell_stock::laws();
@@ -52,14 +56,15 @@ impl ShardTree {
         if stock.free() < 2 {
             return Err(AllocError);
         }
-        let mut blocks = blank_blocks(alloc, cells)?;
+        let mut blocks = Blocks::new(alloc, cells);
+        blocks.make(stock.free() - 2)?;
         let mut purse = Purse::new(alloc);
         purse.reserve(2)?;
         let taken = stock.take(2, &mut purse);
         prove!(taken.is_some());
         let home = purse.next();
         let root = purse.next();
-        put(&mut blocks, root.cell, empty_leaf(root.stamp));
+        blocks.put(root.cell, empty_leaf(root.stamp));
         let empty = DescSet::empty(h);
         let gate = Gate::new(alloc, h, 0, root.cell, root.stamp, 1, Agg::EMPTY, empty);
         Ok(ShardTree {
@@ -69,6 +74,13 @@ impl ShardTree {
             stock,
             purse,
         })
+    }
+
+    /// The shard's id.
+    pub fn id(&self) -> u32
+        ensures { result ≡ self.now.gate.shard }
+    {
+        self.gate.shard
     }
 
     /// How high the tree is: 1 where the root is a leaf.

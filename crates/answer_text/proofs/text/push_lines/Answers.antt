@@ -3,7 +3,8 @@ use Rattle.answer_text.proofs.text.push_lines.Goals as goal
 
 pub loop-i-preserved : goal.loop-i-preserved
 loop-i-preserved c =
-    lines_pushed _ _ _ c.args.first c.loop-i.i c.args.commands.now c.args.places.now c.args.index.now.history.now c.index-commands-i.result _ _ c.loop-i-test.true c.requires.same c.index-commands-i.is c.of-word.ensures c.answer_at-answer.ensures c.in_ok-push_line.ensures c.loop-i.invariant
+    let pushed = c.in_ok-push_text.ensures in
+    lines_pushed _ _ _ c.args.first c.loop-i.i c.args.commands.now c.args.places.now c.args.index.now.history.now c.index-commands-i.result c.loop-i-test.true c.requires.same c.index-commands-i.is pushed c.loop-i.invariant
 
 pub returns : goal.returns
 returns c =

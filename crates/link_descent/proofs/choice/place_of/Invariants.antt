@@ -1,6 +1,6 @@
 use Rattle.std.proofs.Common.{map}
-use Rattle.link_descent.proofs.Picks.{IsBestOf}
+use Rattle.link_descent.proofs.Ranks.{IsBestRanked}
 use Rattle.link_descent.proofs.choice.place_of.Given as goal
 
 abbrev pub invariant-loop-place : goal.invariant-loop-place
-invariant-loop-place l = IsBestOf l.h l.at (map (λ e. e.set) l.entries) l.place l.best
+invariant-loop-place l = IsBestRanked l.h l.at (map (λ e. e.set) l.entries) l.place l.best l.least.growth l.least.size

@@ -1,10 +1,9 @@
 use Rattle.std.proofs.Common.{◌≡◌, ◌∙◌, ◌≤◌, [], List, length, refl, sym, subst, arith}
 use Rattle.std.proofs.lemmas.Bool.{eqb-true}
 use Rattle.std.proofs.lemmas.List.{nil_from_length}
-use Rattle.std.proofs.lemmas.List.Elements.{All-nil, All-take, All-drop}
+use Rattle.std.proofs.lemmas.List.Elements.{All-take, All-drop}
 use Rattle.volap_io.specs.Causes.{Rose}
 use Rattle.answer_text.specs.Phases.{all_of}
-use Rattle.dim_hierarchy.specs.Row.{IsRowOf}
 use Rattle.script_form.specs.declared.script.Command.{Command}
 use Rattle.script_form.specs.Scripts.{Fits}
 use Rattle.olap_top.proofs.PhaseSteps.{IsAtPhase, IsNext, next-is, at-start, at-done, at-halt, at-fault, at-next}
@@ -14,7 +13,7 @@ pub loop-rest-init : goal.loop-rest-init
 loop-rest-init g c = record {
   at = rw c.as_slice-rest.ensures (at-start c.args.script.now (g.K.Sink.taken c.args.sink.now) c.args.run.now c.requires.start c.requires.text);
   later = omega arith;
-  rows = rw c.requires.rows (All-nil (IsRowOf c.args.script.now.hierarchy));
+  shard = c.requires.shard;
   fits = rw c.as_slice-rest.ensures c.requires.fits;
 }
 
@@ -55,7 +54,7 @@ loop-rest-preserved g c =
       at = at-next c.args.script.now c.loop-rest.rest.now c.split_at.result.0.now c.split_at.result.1.now (g.K.Sink.taken c.args.sink.now) (g.K.Sink.taken c.loop-rest.sink) (g.K.Sink.taken c.write_all.new.sink) c.loop-rest.run c.phase.new.self _
           next at (c.in-Ok.ensures.run (all_of at.ps) at.written at.run_is) (rw text at c.in-Ok-write_all.ensures.all) refl refl c.clear.ensures.bytes;
       later = omega arith;
-      rows = c.in-Ok.ensures.rows;
+      shard = c.in-Ok.ensures.shard;
       fits = rw c.split_at.ensures.back (All-drop (Fits c.args.script.now) c.phase_len.result c.loop-rest.rest.now c.loop-rest.invariant.fits);
     }
 

@@ -2,8 +2,8 @@ use Rattle.std.proofs.Common.{ℕ, ◌≡◌, ◌∙◌, ◌+◌, ◌-◌, sym, 
 use Rattle.shard_tree.specs.Shard.{table_of, rows_of}
 use Rattle.shard_tree.specs.Ways.{with_parts, Carries}
 use Rattle.shard_tree.proofs.Ways.{gone-in, gone-down, enters-keeps, count-in, count-down}
-use Rattle.shard_tree.proofs.Puts.{leaf-within, leaf-kind, leaf-room, put-holds, count-put}
-use Rattle.shard_tree.specs.Shard.{block_at}
+use Rattle.shard_tree.proofs.Puts.{leaf-within, leaf-made, leaf-kind, leaf-room, put-holds, count-put}
+use Rattle.block_cells.specs.Blocks.{block_at}
 use Rattle.shard_tree.proofs.insert.add.Goals as goal
 
 pub loop-init : goal.loop-init
@@ -16,6 +16,7 @@ loop-init c =
     record {
       count = count-in h row k.find k.found (with_parts k.shard c.args.gate.now c.args.blocks.now.items c.args.purse.now) k.holds k.new k.out c.tree_laws.ensures.root c.requires.row c.tree_laws.ensures.block c.tree_laws.ensures.gate k.few
           c.enter-at.new.gate c.enter-at.result c.enter-at.new.blocks.items c.enter-at.new.purse w k.enough;
+      missing = c.enter-at.ensures.missing;
       within = (let a = keeps.2 in let b = k.holds.tree.some in omega arith);
       carries = λ find s level e found holds out.
           gone-in h row find found (with_parts s c.args.gate.now c.args.blocks.now.items c.args.purse.now) holds k.new out c.tree_laws.ensures.root c.requires.row c.tree_laws.ensures.block c.tree_laws.ensures.gate k.few
@@ -35,6 +36,7 @@ loop-preserved c =
     record {
       count = count-down h row k.find k.found before k.new (with_parts k.shard c.enter-at.new.gate c.loop.blocks.items c.loop.purse) c.loop.at left here c.requires.row c.tree_laws.ensures.block c.tree_laws.ensures.child c.tree_laws.ensures.gate k.few
           c.down-at.result c.down-at.new.blocks.items c.down-at.new.purse w ∙ c.loop.invariant.count;
+      missing = c.down-at.ensures.missing ∙ c.loop.invariant.missing;
       within = (let t = c.loop-test.true in omega arith);
       carries = λ find s level e found holds out.
           gone-down h row find found before k.new (with_parts s c.enter-at.new.gate c.loop.blocks.items c.loop.purse) c.loop.at level (c.loop.invariant.carries find s (level + 1) (omega arith) found holds out)
@@ -52,6 +54,7 @@ down-at-requires-clause-goes c =
         found = k.found;
         before = rows_of c.args.blocks.now.items;
         shard = k.shard;
+        made = k.made ∙ sym c.loop.invariant.missing;
         carries = c.loop.invariant.carries k.find k.shard (left + 1) (omega arith) k.found k.holds k.out;
         few = k.few;
       },
@@ -62,6 +65,15 @@ settle-requires-clause-within c =
     let k = c.requires.enters in
     let e = (let t = c.loop-test.false in let w = c.loop.invariant.within in let q : 0 + c.loop.counter ≡ c.enter-at.new.gate.height = omega arith in q) in
     leaf-within c.args.h.now c.args.row.now k.find k.found (rows_of c.args.blocks.now.items) (with_parts k.shard c.enter-at.new.gate c.loop.blocks.items c.loop.purse) c.loop.at (c.loop.invariant.carries k.find k.shard 0 e k.found k.holds k.out)
+
+pub settle-requires-clause-made : goal.settle-requires-clause-made
+settle-requires-clause-made c =
+    let k = c.requires.enters in
+    let e = (let t = c.loop-test.false in let w = c.loop.invariant.within in let q : 0 + c.loop.counter ≡ c.enter-at.new.gate.height = omega arith in q) in
+    let w = leaf-made c.args.h.now c.args.row.now k.find k.found (rows_of c.args.blocks.now.items) (with_parts k.shard c.enter-at.new.gate c.loop.blocks.items c.loop.purse) c.loop.at (c.loop.invariant.carries k.find k.shard 0 e k.found k.holds k.out) in
+    let m = k.made in
+    let n = c.loop.invariant.missing in
+    omega arith
 
 pub settle-requires-clause-leaf : goal.settle-requires-clause-leaf
 settle-requires-clause-leaf c =
@@ -90,7 +102,7 @@ returns-clause-count c =
     let k = c.requires.enters in
     let e = (let t = c.loop-test.false in let w = c.loop.invariant.within in let q : 0 + c.loop.counter ≡ c.enter-at.new.gate.height = omega arith in q) in
     count-put c.args.h.now c.args.row.now k.find k.found (rows_of c.args.blocks.now.items) (with_parts k.shard c.enter-at.new.gate c.loop.blocks.items c.loop.purse) c.loop.at (c.loop.invariant.carries k.find k.shard 0 e k.found k.holds k.out)
-    c.settle.new.blocks.items c.settle.ensures ∙ c.loop.invariant.count
+    c.settle.new.self.items c.settle.ensures.blocks ∙ c.loop.invariant.count
 
 pub returns-clause-added : goal.returns-clause-added
 returns-clause-added c = λ find s found holds out.
@@ -101,11 +113,11 @@ returns-clause-added c = λ find s found holds out.
     let now = with_parts s c.enter-at.new.gate c.loop.blocks.items c.loop.purse in
     let e = (let t = c.loop-test.false in let w = c.loop.invariant.within in let q : 0 + c.loop.counter ≡ c.enter-at.new.gate.height = omega arith in q) in
     let ca : Carries (table_of h find) row.no before now c.loop.at 0 = c.loop.invariant.carries find s 0 e found holds out in
-    let n = count-put h row find found before now c.loop.at ca c.settle.new.blocks.items c.settle.ensures in
-    let p = put-holds h row find found before now c.loop.at ca c.settle.new.blocks.items c.settle.ensures c.insert_laws.ensures.put in
+    let n = count-put h row find found before now c.loop.at ca c.settle.new.self.items c.settle.ensures.blocks in
+    let p = put-holds h row find found before now c.loop.at ca c.settle.new.self.items c.settle.ensures.blocks c.insert_laws.ensures.put in
     record {
       holds = p.0;
       rows = p.1;
       found = p.2;
-      out = record { out = ca.out.out; stamps = ca.out.stamps; cells = ca.out.cells ∙ sym n };
+      out = record { out = ca.out.out; stamps = ca.out.stamps; cells = ca.out.cells ∙ sym n; made = ca.out.made };
     }

@@ -7,6 +7,7 @@ use Rattle.shard_tree.proofs.insert.add.Given as goal
 abbrev pub invariant-loop : goal.invariant-loop
 invariant-loop l = record {
   count : length l.blocks.items ≡ length l.fn.blocks.items;
+  missing : l.blocks.missing ≡ l.fn.blocks.missing;
   within : l.counter ≤ l.end;
   carries : (find : ℕ → Row) (s : ShardValue) (level : ℕ) → level + l.counter ≡ l.end → find l.row.no ≡ l.row
       → Holds (table_of l.h find) (with_parts s l.fn.gate l.fn.blocks.items l.fn.purse)

@@ -1,58 +1,29 @@
-use Rattle.std.proofs.Common.{◌∙◌, ◌+◌, ◌<◌, ◌^◌, length, set, sym, ap, subst, refl, arith}
-use Rattle.std.proofs.lemmas.List.{length-set}
-use Rattle.dc_node.specs.Block.{IsBodyOf}
-use Rattle.dc_node.specs.Summary.{row_count}
+use Rattle.std.proofs.Common.{◌∙◌, sym, ap}
+use Rattle.dc_node.specs.Block.{is_full}
 use Rattle.dc_node.specs.declared.block.Block.{Block}
-use Rattle.link_descent.specs.Descend.{Enters}
-use Rattle.tree_shape.specs.Trees.{leaf_without_rows}
-use Rattle.shard_tree.specs.Ways.{with_fresh, with_parts}
-use Rattle.shard_tree.proofs.Ways.{root-within, root-valid, gate-few-in, root-few, in-fresh}
+use Rattle.shard_tree.specs.Ways.{with_parts}
+use Rattle.block_cells.specs.Blocks.{block_at}
+use Rattle.shard_tree.proofs.Passing.{passed-in}
+use Rattle.shard_tree.proofs.Ids.{entered-id}
+use Rattle.shard_tree.proofs.Ways.{root-within, gate-few-in}
 use Rattle.shard_tree.proofs.insert.enter.Goals as goal
 
-pub lift-root-requires : goal.lift-root-requires
-lift-root-requires c =
+pub at-requires : goal.at-requires
+at-requires c =
     let k = c.requires.enters in
     root-within c.args.h.now c.args.row.now k.find k.found (with_parts k.shard c.args.gate.now c.args.blocks.now.items c.args.purse.now) k.holds k.new k.out c.tree_laws.ensures.root
 
-pub enter_root-entered-requires-clause-root : goal.enter_root-entered-requires-clause-root
-enter_root-entered-requires-clause-root c =
-    let k = c.requires.enters in
-    subst (λ (b : Block). IsBodyOf c.args.h.now b.body) (sym c.lift-root.ensures.block)
-    (root-valid c.args.h.now c.args.row.now k.find k.found (with_parts k.shard c.args.gate.now c.args.blocks.now.items c.args.purse.now) k.holds k.new k.out c.tree_laws.ensures.root c.requires.row c.tree_laws.ensures.block c.tree_laws.ensures.gate k.few)
-
-pub enter_root-entered-requires-clause-few : goal.enter_root-entered-requires-clause-few
-enter_root-entered-requires-clause-few c =
+pub pass_root-requires-clause-few : goal.pass_root-requires-clause-few
+pass_root-requires-clause-few c =
     let k = c.requires.enters in
     gate-few-in c.args.h.now c.args.row.now k.find k.found (with_parts k.shard c.args.gate.now c.args.blocks.now.items c.args.purse.now) k.holds k.new k.out c.tree_laws.ensures.root c.requires.row c.tree_laws.ensures.block c.tree_laws.ensures.gate k.few
 
-pub enter_root-entered-requires-clause-few_beneath : goal.enter_root-entered-requires-clause-few_beneath
-enter_root-entered-requires-clause-few_beneath c =
-    let k = c.requires.enters in
-    let few : row_count c.lift-root.result.body + 1 < 2 ^ 63 = subst (λ (b : Block). row_count b.body + 1 < 2 ^ 63) (sym c.lift-root.ensures.block)
-    (root-few c.args.h.now c.args.row.now k.find k.found (with_parts k.shard c.args.gate.now c.args.blocks.now.items c.args.purse.now) k.holds k.new k.out c.tree_laws.ensures.root c.requires.row c.tree_laws.ensures.block c.tree_laws.ensures.gate k.few) in
-    few
+pub returns-then-not-is_full-clause-step : goal.returns-then-not-is_full-clause-step
+returns-then-not-is_full-clause-step c =
+    let room = ap (λ (b : Block). is_full b.body) (sym c.at.ensures) ∙ sym c.is_full.ensures ∙ c.if-not-is_full.true in
+    passed-in c.args.h.now c.args.row.now c.args.gate.now c.pass_root.new.gate c.args.blocks.now.items c.args.purse.now c.pass_root.ensures.step room
 
-pub put_fresh-requires : goal.put_fresh-requires
-put_fresh-requires c =
-    let k = c.requires.enters in
-    let n = ap length c.lift-root.ensures.blocks ∙ length-set c.args.blocks.now.items c.args.gate.now.root (leaf_without_rows 0) in
-    let m = ap length c.put.ensures ∙ length-set c.lift-root.new.blocks.items c.args.gate.now.root c.enter_root-entered.new.root in
-    in-fresh c.args.h.now c.args.row.now k.find k.found (with_parts k.shard c.args.gate.now c.args.blocks.now.items c.args.purse.now) k.holds k.new k.out c.tree_laws.ensures.root
-    c.enter_root-entered.new.gate c.lift-root.result c.enter_root-entered.new.root c.enter_root-entered.new.purse c.enter_root-entered.result c.enter_root-entered.ensures.step k.enough (length c.put.new.blocks.items) (m ∙ n)
-
-pub returns-clause-step : goal.returns-clause-step
-returns-clause-step c = record {
-  root_now = c.enter_root-entered.new.root;
-  entered = c.enter_root-entered.result;
-  step = subst (λ (b : Block). Enters c.args.h.now c.args.row.now c.args.gate.now c.enter_root-entered.new.gate b c.enter_root-entered.new.root c.args.purse.now c.enter_root-entered.new.purse c.enter_root-entered.result) c.lift-root.ensures.block c.enter_root-entered.ensures.step;
-  blocks_are = c.put_fresh.ensures ∙ ap (λ bs. with_fresh bs c.enter_root-entered.result.fresh.items)
-      (c.put.ensures ∙ ap (λ bs. set bs c.args.gate.now.root c.enter_root-entered.new.root) c.lift-root.ensures.blocks);
-  at_is = refl;
-}
-
-pub put-requires : goal.put-requires
-put-requires c =
-    let k = c.requires.enters in
-    let w = root-within c.args.h.now c.args.row.now k.find k.found (with_parts k.shard c.args.gate.now c.args.blocks.now.items c.args.purse.now) k.holds k.new k.out c.tree_laws.ensures.root in
-    let n = ap length c.lift-root.ensures.blocks ∙ length-set c.args.blocks.now.items c.args.gate.now.root (leaf_without_rows 0) in
-    omega arith
+pub returns-then-not-is_full-clause-id : goal.returns-then-not-is_full-clause-id
+returns-then-not-is_full-clause-id c =
+    let room = ap (λ (b : Block). is_full b.body) (sym c.at.ensures) ∙ sym c.is_full.ensures ∙ c.if-not-is_full.true in
+    entered-id c.args.h.now c.args.row.now c.args.gate.now c.pass_root.new.gate _ _ _ _ _ (c.pass_root.ensures.step (block_at c.args.blocks.now.items c.args.gate.now.root) c.args.purse.now room)

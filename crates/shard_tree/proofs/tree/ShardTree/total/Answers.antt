@@ -7,8 +7,8 @@ use Rattle.tree_shape.specs.Steps.{queue_part, tree_part, root_items}
 use Rattle.std.specs.Prelude.{IsSome}
 use Rattle.dc_node.specs.Block.{IsBodyOf}
 use Rattle.dc_node.specs.Summary.{row_count}
-use Rattle.shard_tree.proofs.Lists.{block-read}
-use Rattle.shard_tree.specs.Shard.{ShardValue, block_at}
+use Rattle.shard_tree.specs.Shard.{ShardValue}
+use Rattle.block_cells.specs.Blocks.{block_at}
 use Rattle.shard_tree.proofs.Asking.{Asking, begun, exhausted, answered, can-visit, visited, gate-few}
 use Rattle.shard_tree.proofs.tree.ShardTree.total.Goals as goal
 
@@ -28,7 +28,7 @@ loop-init c =
       query = begun h f c.args.self.now c.requires.shard c.requires.filter c.query_laws.ensures.begins c.tree_laws.ensures.root c.laws.ensures.empty_left c.begin-total.result c.begin-total.new.todo.items
           (c.begin-total.ensures.total ∙ ap (λ g. join (queue_part h f g.queue) (tree_part h f g)) gate)
           (c.begin-total.ensures.todo ∙ ap (λ xs. xs ++ root_items h f c.self.inside.gate) none ∙ ap (root_items h f) gate);
-      cells = c.len-end.ensures ∙ c.self.inside.blocks.ok.0 ∙ ap length (ap (λ (x : ShardValue). x.blocks) c.self.view_is);
+      cells = c.len-end.ensures ∙ ap length (ap (λ (x : ShardValue). x.blocks) c.self.view_is);
     }
 
 pub loop-preserved : goal.loop-preserved
@@ -42,7 +42,7 @@ loop-preserved c =
     let q : Asking h f s (items ++ item ∷ []) c.loop.total c.loop.counter = subst (λ xs. Asking h f s xs c.loop.total c.loop.counter) was c.loop.invariant.query in
     let can = can-visit h f s c.requires.shard c.requires.filter c.tree_laws.ensures.gate c.tree_laws.ensures.block c.tree_laws.ensures.link items item c.loop.total c.loop.counter q in
     let blocks : c.self.inside.blocks.items ≡ s.blocks = ap (λ (x : ShardValue). x.blocks) c.self.view_is in
-    let block : c.index-block.result.now ≡ block_at s.blocks item.cell = block-read c.self.inside.blocks.items s.blocks item.cell c.index-block.result.now blocks can.within c.index-block.ensures in
+    let block : c.at-block.result.now ≡ block_at s.blocks item.cell = c.at-block.ensures ∙ ap (λ bs. block_at bs item.cell) blocks in
     let kept : c.reserve-in-loop.new.self.items ≡ items = c.in_ok-reserve-2.ensures.items in
     let next = visited h f s c.requires.shard c.requires.filter c.query_laws.ensures.visits items item c.loop.total c.loop.counter q in
     let total : c.visit.new.agg ≡ join c.loop.total (counted h f (block_at s.blocks item.cell).body) = c.visit.ensures.agg ∙ ap (λ (b : Block). join c.loop.total (counted h f b.body)) block in
@@ -63,8 +63,8 @@ returns-in_default c =
     answered h f s c.requires.shard c.requires.filter c.tree_laws.ensures.order c.query_laws.ensures.ends c.loop.total c.loop.counter
     (subst (λ xs. Asking h f s xs c.loop.total c.loop.counter) none c.loop.invariant.query)
 
-pub index-block-requires : goal.index-block-requires
-index-block-requires c =
+pub at-block-requires : goal.at-block-requires
+at-block-requires c =
     let h = c.args.h.now in
     let f = c.args.wanted.now in
     let s = c.args.self.now in
@@ -73,10 +73,8 @@ index-block-requires c =
     let was : c.loop.todo.items ≡ items ++ item ∷ [] = c.in-Some.ensures.items in
     let q : Asking h f s (items ++ item ∷ []) c.loop.total c.loop.counter = subst (λ xs. Asking h f s xs c.loop.total c.loop.counter) was c.loop.invariant.query in
     let can = can-visit h f s c.requires.shard c.requires.filter c.tree_laws.ensures.gate c.tree_laws.ensures.block c.tree_laws.ensures.link items item c.loop.total c.loop.counter q in
-    let blocks : c.self.inside.blocks.items ≡ s.blocks = ap (λ (x : ShardValue). x.blocks) c.self.view_is in
     let w = can.within in
-    let n = ap length blocks in
-    let o = c.self.inside.blocks.ok.0 in
+    let n = ap length (ap (λ (x : ShardValue). x.blocks) c.self.view_is) in
     omega arith
 
 pub visit-requires-clause-body : goal.visit-requires-clause-body
@@ -90,7 +88,7 @@ visit-requires-clause-body c =
     let q : Asking h f s (items ++ item ∷ []) c.loop.total c.loop.counter = subst (λ xs. Asking h f s xs c.loop.total c.loop.counter) was c.loop.invariant.query in
     let can = can-visit h f s c.requires.shard c.requires.filter c.tree_laws.ensures.gate c.tree_laws.ensures.block c.tree_laws.ensures.link items item c.loop.total c.loop.counter q in
     let blocks : c.self.inside.blocks.items ≡ s.blocks = ap (λ (x : ShardValue). x.blocks) c.self.view_is in
-    let block : c.index-block.result.now ≡ block_at s.blocks item.cell = block-read c.self.inside.blocks.items s.blocks item.cell c.index-block.result.now blocks can.within c.index-block.ensures in
+    let block : c.at-block.result.now ≡ block_at s.blocks item.cell = c.at-block.ensures ∙ ap (λ bs. block_at bs item.cell) blocks in
     subst (λ (b : Block). IsBodyOf h b.body) (sym block) can.body
 
 pub visit-requires-clause-link : goal.visit-requires-clause-link
@@ -104,7 +102,7 @@ visit-requires-clause-link c =
     let q : Asking h f s (items ++ item ∷ []) c.loop.total c.loop.counter = subst (λ xs. Asking h f s xs c.loop.total c.loop.counter) was c.loop.invariant.query in
     let can = can-visit h f s c.requires.shard c.requires.filter c.tree_laws.ensures.gate c.tree_laws.ensures.block c.tree_laws.ensures.link items item c.loop.total c.loop.counter q in
     let blocks : c.self.inside.blocks.items ≡ s.blocks = ap (λ (x : ShardValue). x.blocks) c.self.view_is in
-    let block : c.index-block.result.now ≡ block_at s.blocks item.cell = block-read c.self.inside.blocks.items s.blocks item.cell c.index-block.result.now blocks can.within c.index-block.ensures in
+    let block : c.at-block.result.now ≡ block_at s.blocks item.cell = c.at-block.ensures ∙ ap (λ bs. block_at bs item.cell) blocks in
     subst (λ (b : Block). b.stamp ≢ item.stamp → IsSome b.right) (sym block) can.link
 
 pub visit-requires-clause-few : goal.visit-requires-clause-few
@@ -118,8 +116,8 @@ visit-requires-clause-few c =
     let q : Asking h f s (items ++ item ∷ []) c.loop.total c.loop.counter = subst (λ xs. Asking h f s xs c.loop.total c.loop.counter) was c.loop.invariant.query in
     let can = can-visit h f s c.requires.shard c.requires.filter c.tree_laws.ensures.gate c.tree_laws.ensures.block c.tree_laws.ensures.link items item c.loop.total c.loop.counter q in
     let blocks : c.self.inside.blocks.items ≡ s.blocks = ap (λ (x : ShardValue). x.blocks) c.self.view_is in
-    let block : c.index-block.result.now ≡ block_at s.blocks item.cell = block-read c.self.inside.blocks.items s.blocks item.cell c.index-block.result.now blocks can.within c.index-block.ensures in
-    let few : c.loop.total.count + row_count c.index-block.result.now.body < 2 ^ 63 = subst (λ (b : Block). c.loop.total.count + row_count b.body < 2 ^ 63) (sym block) can.few in
+    let block : c.at-block.result.now ≡ block_at s.blocks item.cell = c.at-block.ensures ∙ ap (λ bs. block_at bs item.cell) blocks in
+    let few : c.loop.total.count + row_count c.at-block.result.now.body < 2 ^ 63 = subst (λ (b : Block). c.loop.total.count + row_count b.body < 2 ^ 63) (sym block) can.few in
     few
 
 pub returns : goal.returns

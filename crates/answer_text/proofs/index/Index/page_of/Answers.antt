@@ -1,0 +1,21 @@
+use Rattle.std.proofs.Common.{◌≡◌, Some, None, refl, arith}
+use Rattle.std.proofs.lemmas.Grind.{common_steps}
+use Rattle.answer_text.specs.Index.{marked, newest}
+use Rattle.answer_text.specs.declared.index.Mark.TheVariants as mark
+use Rattle.answer_text.proofs.IndexFacts.{newest-below, page_of-at}
+use Rattle.answer_text.proofs.index.Index.page_of.Goals as goal
+
+pub get-requires : goal.get-requires
+get-requires c =
+    let known : newest (marked mark.Page) c.args.self.now.history.now c.args.position ≡ Some c.in-Some.at = grind (arith, common_steps) in
+    newest-below (marked mark.Page) c.args.self.now.history.now c.args.position c.in-Some.at known
+
+pub returns-in-Some : goal.returns-in-Some
+returns-in-Some c =
+    let known : newest (marked mark.Page) c.args.self.now.history.now c.args.position ≡ Some c.in-Some.at = grind (arith, common_steps) in
+    rw (← page_of-at c.args.self.now.history.now c.args.position, known, c.get.ensures) c.shown.ensures
+
+pub returns-in-None : goal.returns-in-None
+returns-in-None c =
+    let known : newest (marked mark.Page) c.args.self.now.history.now c.args.position ≡ None = grind (arith, common_steps) in
+    rw (← page_of-at c.args.self.now.history.now c.args.position, known) refl

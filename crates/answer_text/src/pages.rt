@@ -1,0 +1,176 @@
+//! The lines of the pages that commands show.
+ghost use Rattle.std.specs.Prelude.{◌≡◌, ◌++◌, codes, OnOk, string_bytes};
+ghost use Rattle.std.specs.List.{flat_map};
+ghost use Rattle.answer_text.specs.Printed.{line, node_said, page_text, tree_said};
+
+use crate::answer::Total;
+use describing_set::{DescSet, Part};
+use dim_hierarchy::ConceptId;
+use row_ledger::{NodeLine, Page, TreePage};
+use std::alloc::AllocError;
+use std::fmt::{self, Write};
+
+// The numbers of concepts within their level, joined by `+`.
+#[derive(Drop)]
+struct Numbers<'a>(&'a [ConceptId]);
+
+impl fmt::Display for Numbers<'_> {
+    ghost use Rattle.std.specs.Prelude.{Some, codes};
+    ghost use Rattle.answer_text.specs.Printed.{numbers_text};
+
+    ghost output = { λ n. Some (numbers_text n.0.now) };
+
+    fn fmt<W: fmt::Write>(&self, f: &mut fmt::Formatter<W>) -> fmt::Result {
+        if let [first, rest @ ..] = self.0 {
+            let number = first.number();
+            write!(f, "{number}")?;
+            for id in rest {
+                let number = id.number();
+                write!(f, "+{number}")?;
+            }
+        }
+        Ok(())
+    }
+}
+
+// One dimension of a set: its level and the numbers of its concepts.
+#[derive(Drop)]
+struct PartText<'a>(&'a Part);
+
+impl fmt::Display for PartText<'_> {
+    ghost use Rattle.std.specs.Prelude.{Some};
+    ghost use Rattle.answer_text.specs.Printed.{part_text};
+
+    ghost output = { λ p. Some (part_text p.0.now) };
+
+    fn fmt<W: fmt::Write>(&self, f: &mut fmt::Formatter<W>) -> fmt::Result {
+        let level = self.0.level;
+        let numbers = Numbers(self.0.ids.as_slice());
+        write!(f, "{level}:{numbers}")
+    }
+}
+
+// A set: its dimensions, joined by `/`.
+#[derive(Drop)]
+struct BoxText<'a>(&'a DescSet);
+
+impl fmt::Display for BoxText<'_> {
+    ghost use Rattle.std.specs.Prelude.{Some};
+    ghost use Rattle.answer_text.specs.Printed.{box_text};
+
+    ghost output = { λ b. Some (box_text b.0.now) };
+
+    fn fmt<W: fmt::Write>(&self, f: &mut fmt::Formatter<W>) -> fmt::Result {
+        if let [first, rest @ ..] = self.0.parts.as_slice() {
+            let part = PartText(first);
+            write!(f, "{part}")?;
+            for part in rest {
+                let part = PartText(part);
+                write!(f, "/{part}")?;
+            }
+        }
+        Ok(())
+    }
+}
+
+// The word of a group's kind.
+#[derive(Drop)]
+struct KindWord {
+    leaf: bool,
+}
+
+impl fmt::Display for KindWord {
+    ghost use Rattle.std.specs.Prelude.{Some};
+    ghost use Rattle.answer_text.specs.Printed.{kind_text};
+
+    ghost output = { λ k. Some (kind_text k.leaf) };
+
+    fn fmt<W: fmt::Write>(&self, f: &mut fmt::Formatter<W>) -> fmt::Result {
+        if self.leaf {
+            write!(f, "leaf")
+        } else {
+            write!(f, "dir")
+        }
+    }
+}
+
+// What is said of a group of a tree.
+#[derive(Drop)]
+struct NodeText<'a>(&'a NodeLine);
+
+impl fmt::Display for NodeText<'_> {
+    ghost use Rattle.std.specs.Prelude.{Some};
+    ghost use Rattle.answer_text.specs.Printed.{node_said};
+
+    ghost output = { λ n. Some (node_said n.0.now) };
+
+    fn fmt<W: fmt::Write>(&self, f: &mut fmt::Formatter<W>) -> fmt::Result {
+        let node = self.0;
+        let depth = node.depth;
+        let kind = KindWord { leaf: node.leaf };
+        let blocks = node.blocks;
+        let items = node.items;
+        let total = Total(node.agg);
+        let set = BoxText(&node.set);
+        write!(f, "{depth} {kind} {blocks} {items} {total} {set}")
+    }
+}
+
+// What is said of a tree.
+#[derive(Drop)]
+struct TreeText<'a>(&'a TreePage);
+
+impl fmt::Display for TreeText<'_> {
+    ghost use Rattle.std.specs.Prelude.{Some};
+    ghost use Rattle.answer_text.specs.Printed.{tree_said};
+
+    ghost output = { λ t. Some (tree_said t.0.now) };
+
+    fn fmt<W: fmt::Write>(&self, f: &mut fmt::Formatter<W>) -> fmt::Result {
+        let tree = self.0;
+        let shard = tree.shard;
+        let height = tree.height;
+        let rows = tree.rows;
+        let queued = tree.queued;
+        write!(f, "{shard} height {height} rows {rows} queued {queued}")
+    }
+}
+
+// Adds the line of a group.
+fn push_node(text: &mut String, number: u64, node: &NodeLine) -> Result<(), AllocError>
+    ensures { OnOk result (string_bytes text.new ≡ string_bytes text.old ++ line number (codes "node") (node_said node.now)) }
+{
+    let said = NodeText(node);
+    writeln!(text, "{number} node {said}")
+}
+
+// Adds the line of a tree.
+fn push_head(text: &mut String, number: u64, tree: &TreePage) -> Result<(), AllocError>
+    ensures { OnOk result (string_bytes text.new ≡ string_bytes text.old ++ line number (codes "tree") (tree_said tree.now)) }
+{
+    let said = TreeText(tree);
+    writeln!(text, "{number} tree {said}")
+}
+
+// Adds the lines of groups.
+fn push_nodes(text: &mut String, number: u64, nodes: &[NodeLine]) -> Result<(), AllocError>
+    ensures { OnOk result (string_bytes text.new ≡ string_bytes text.old ++ flat_map (λ node. line number (codes "node") (node_said node)) nodes.now) }
+{
+    for node in nodes {
+        push_node(text, number, node)?;
+    }
+    Ok(())
+}
+
+/// Adds the lines of a page that a command with this number shows: one for the page itself, and one
+/// for each of its groups.
+pub fn push_page(text: &mut String, number: u64, page: &Page) -> Result<(), AllocError>
+    ensures { OnOk result (string_bytes text.new ≡ string_bytes text.old ++ page_text number page.now) }
+{
+    match page {
+        Page::Tree(tree) => {
+            push_head(text, number, tree)?;
+            push_nodes(text, number, tree.nodes.as_slice())
+        }
+    }
+}

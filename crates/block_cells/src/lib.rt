@@ -1,0 +1,8 @@
+//! The blocks of a shard's cells, each made when its cell is first taken.
+#![tactic(auto)]
+
+mod blocks;
+#[cfg(test)]
+mod tests;
+
+pub use blocks::Blocks;

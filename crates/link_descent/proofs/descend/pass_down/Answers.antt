@@ -1,0 +1,15 @@
+use Rattle.std.proofs.Common.{◌<◌, length, sym, subst, refl}
+use Rattle.dc_node.specs.declared.block.Block.{Block}
+use Rattle.dc_node.specs.declared.block.Body.TheVariants.{Entries}
+use Rattle.dc_node.specs.declared.entry.Entry.{Entry}
+use Rattle.link_descent.specs.Descend.{IsWithRow}
+use Rattle.link_descent.proofs.Passes.{passes-down}
+use Rattle.link_descent.proofs.descend.pass_down.Goals as goal
+
+pub returns-in-Entries : goal.returns-in-Entries
+returns-in-Entries c =
+    let within : c.args.place < length c.in-Entries.entries.items = rw c.in-Entries.is at c.requires.place in
+    let parent : Block = record { stamp = c.args.parent.now.stamp; right = c.args.parent.now.right; body = Entries c.in-Entries.entries } in
+    let counted = subst (λ (e : Entry). IsWithRow c.args.h.now c.args.row.now e c.add_row.new.entry) (sym c.index-deref_mut-from.is) c.add_row.ensures in
+    rw c.in-Entries.is
+    (passes-down c.args.h.now c.args.row.now c.args.place c.from.result parent _ c.deref_mut.result.now c.index-deref_mut-from.result c.add_row.new.entry c.deref_mut.ensures.value c.from.ensures within c.index-deref_mut-from.is counted refl)

@@ -1,0 +1,5 @@
+use Rattle.std.proofs.Common.{arith}
+use Rattle.row_ledger.proofs.worked.page_with_the_row_twice_is_wrong.Goals as goal
+
+pub returns : goal.returns
+returns c right = let shown = right.each.1.0.shown in omega (arith, shown.most)

@@ -1,0 +1,91 @@
+-- What a page tells of the rows of its shard.
+use Rattle.std.specs.Prelude.{ℕ, ◌≡◌, ◌+◌, ◌*◌, ◌<◌, ◌≤◌, true, false, ⊤, List, [], ◌∷◌, ◌++◌, length, map, All, Contains, IsPermutation, nat_eq}
+use Rattle.std.specs.List.{IsDistinct}
+use Rattle.dim_hierarchy.specs.declared.row.Row.{Row}
+use Rattle.dim_hierarchy.specs.Dimension.{Dimension}
+use Rattle.measure_agg.specs.Aggregate.{agg}
+use Rattle.describing_set.specs.DescSet.{IsSetOf}
+use Rattle.row_ledger.specs.declared.event.Event.{Event}
+use Rattle.row_ledger.specs.declared.page.NodeLine.{NodeLine}
+use Rattle.row_ledger.specs.declared.page.TreePage.{TreePage}
+use Rattle.row_ledger.specs.Past.{Ack, acked, acked_rows, acked_into}
+use Rattle.row_ledger.specs.Bounds.{numbers}
+
+-- The groups of a tree as they hang together: none; or a leaf group, by its line and its rows, and then more; or a
+-- directory group, by its line and the groups beneath it, and then more.
+pub data Groups : Type 0 where
+  none : Groups
+  leaf : NodeLine → List Row → Groups → Groups
+  directory : NodeLine → Groups → Groups → Groups
+
+-- the lines of these groups, without those beneath
+abbrev pub tops : Groups → List NodeLine
+tops none = []
+tops (leaf line rows more) = line ∷ tops more
+tops (directory line below more) = line ∷ tops more
+
+-- the lines of all groups, each followed by those beneath it
+abbrev pub listing : Groups → List NodeLine
+listing none = []
+listing (leaf line rows more) = line ∷ listing more
+listing (directory line below more) = line ∷ (listing below ++ listing more)
+
+-- the rows of all leaf groups
+abbrev pub rows_beneath : Groups → List Row
+rows_beneath none = []
+rows_beneath (leaf line rows more) = rows ++ rows_beneath more
+rows_beneath (directory line below more) = rows_beneath below ++ rows_beneath more
+
+-- A leaf group with these rows, so many groups below the root: its items are the rows, and it lies as deep as the tree is
+-- high. A block has room for 32.
+pub record IsLeaf (h : List Dimension) (height at : ℕ) (rows : List Row) (line : NodeLine) : Type 0 where
+  pub depth : line.depth ≡ at
+  pub lowest : at + 1 ≡ height
+  pub leaf : line.leaf ≡ true
+  pub blocks : 1 ≤ line.blocks
+  pub items : line.items ≡ length rows
+  pub room : line.items ≤ 32 * line.blocks
+  pub agg : line.agg ≡ agg rows
+  pub set : IsSetOf h (map (λ r. r.at) rows) line.set
+
+-- A directory group with these groups beneath it: its items are these groups, at least one. A block has room for 16.
+pub record IsDirectory (h : List Dimension) (height at : ℕ) (below : Groups) (line : NodeLine) : Type 0 where
+  pub depth : line.depth ≡ at
+  pub higher : at + 1 < height
+  pub leaf : line.leaf ≡ false
+  pub blocks : 1 ≤ line.blocks
+  pub items : line.items ≡ length (tops below)
+  pub some : 1 ≤ line.items
+  pub room : line.items ≤ 16 * line.blocks
+  pub agg : line.agg ≡ agg (rows_beneath below)
+  pub set : IsSetOf h (map (λ r. r.at) (rows_beneath below)) line.set
+
+-- each group is one or the other, and those beneath it lie one deeper
+abbrev pub AreGroups : List Dimension → ℕ → ℕ → Groups → Type 0
+AreGroups h height at none = ⊤
+AreGroups h height at (leaf line rows more) = IsLeaf h height at rows line × AreGroups h height at more
+AreGroups h height at (directory line below more) =
+    IsDirectory h height at below line × AreGroups h height (at + 1) below × AreGroups h height at more
+
+-- The page of a shard with these rows in its tree and these in its queue: the root's group and all beneath it, in whose
+-- leaves are the tree's rows.
+pub record IsPageOf (h : List Dimension) (tree queue : List Row) (page : TreePage) : Type 0 where
+  pub groups : Groups
+  pub listed : page.nodes ≡ listing groups
+  pub root : length (tops groups) ≡ 1
+  pub shape : AreGroups h page.height 0 groups
+  pub beneath : IsPermutation (rows_beneath groups) tree
+  pub rows : page.rows ≡ length tree
+  pub queued : page.queued ≡ length queue
+
+-- What a page may show behind this past: the shard's rows are acknowledged ones, each once, and all those that came to it
+-- are among them. So there are at least as many as came to it, and at most as many as were acknowledged.
+pub record IsShownTree (h : List Dimension) (past : List Event) (page : TreePage) : Type 0 where
+  pub tree : List Row
+  pub queue : List Row
+  pub is_page : IsPageOf h tree queue page
+  pub once : IsDistinct nat_eq (numbers (tree ++ queue))
+  pub allowed : All (Contains (acked_rows past)) (tree ++ queue)
+  pub known : All (λ (a : Ack). Contains (tree ++ queue) a.row) (acked_into page.shard past)
+  pub least : length (acked_into page.shard past) ≤ page.rows + page.queued
+  pub most : page.rows + page.queued ≤ length (acked past)

@@ -1,0 +1,42 @@
+use describing_set::DescSet;
+use dim_hierarchy::Items;
+use measure_agg::Agg;
+
+/// A group of blocks of a tree.
+#[derive(Drop)]
+pub struct NodeLine {
+    /// How many groups lie above it.
+    pub depth: u32,
+    /// Whether its blocks have rows, not entries.
+    pub leaf: bool,
+    /// How many blocks it has.
+    pub blocks: u64,
+    /// How many items its blocks have together.
+    pub items: u64,
+    /// The aggregate of the rows beneath it.
+    pub agg: Agg,
+    /// The describing set of the rows beneath it.
+    pub set: DescSet,
+}
+
+/// Groups, the root's first, each followed by those beneath it.
+pub type NodeList = Items<NodeLine>;
+
+/// What a shard's tree looks like.
+#[derive(Drop)]
+pub struct TreePage {
+    pub shard: u32,
+    /// On how many levels the tree has blocks.
+    pub height: u32,
+    /// How many rows are in the tree.
+    pub rows: u64,
+    /// How many rows are in the queue.
+    pub queued: u64,
+    pub nodes: NodeList,
+}
+
+/// What a command shows.
+#[derive(Drop)]
+pub enum Page {
+    Tree(TreePage),
+}

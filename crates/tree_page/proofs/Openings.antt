@@ -1,0 +1,34 @@
+-- A gate over an empty leaf has a page.
+use Rattle.std.proofs.Common.{ℕ, ◌≡◌, ◌<◌, true, false, eqb, List, [], length, sym, ◌∙◌, arith}
+use Rattle.dim_hierarchy.specs.Dimension.{Dimension}
+use Rattle.std.specs.Prelude.{pos}
+use Rattle.dc_node.specs.declared.block.Block.{Block}
+use Rattle.shard_store.specs.declared.gate.Gate.{Gate}
+use Rattle.tree_shape.specs.Shape.{Table}
+use Rattle.tree_shape.specs.Laws.{OpeningLaw}
+use Rattle.tree_shape.specs.Steps.{Opens, AfterOpening}
+use Rattle.tree_shape.proofs.Walks.{on_bool, eqb-eq, eqb-ne}
+use Rattle.tree_page.specs.Still.{cells_with, CanShow}
+
+-- any rows will do
+abbrev pub no_table : List Dimension → Table
+no_table h = record { hierarchy = h; row = λ _. record { no = 0; at = record { at = [] }; measure = pos 0 } }
+
+pub opened-can_show : (h : List Dimension) (home : ℕ) (gate : Gate) (blocks : List Block) (leaf : Block) → OpeningLaw leaf → Opens (no_table h) (cells_with home gate blocks) leaf
+    → home < length blocks → gate.root < length blocks → CanShow gate blocks
+opened-can_show h home gate blocks leaf law opens home_in root_in =
+    let after : AfterOpening (no_table h) (cells_with home gate blocks) = law (no_table h) (cells_with home gate blocks) opens in
+    record {
+      table = no_table h;
+      home = home;
+      shape = after.shape;
+      still = record {
+        tree = after.tree;
+        settled = λ r p. (let bad : true ≡ false = sym p ∙ after.empty r in cc);
+        known = λ y i. on_bool (eqb y home)
+            (λ p. let e = eqb-eq _ _ p in omega arith)
+            (λ p. on_bool (eqb y gate.root)
+            (λ q. let e = eqb-eq _ _ q in omega arith)
+            (λ q. let bad : true ≡ false = sym i ∙ after.others y (eqb-ne _ _ p) (eqb-ne _ _ q) in cc));
+      };
+    }

@@ -1,0 +1,156 @@
+-- The page of a tree.
+use Rattle.std.proofs.Common.{ℕ, zero, suc, ◌≡◌, ◌+◌, ◌-◌, ◌<◌, ◌≤◌, true, false, cond, eqb, List, [], ◌∷◌, length, map, refl, sym, ap, ◌∙◌, subst, arith, append-nil}
+use Rattle.std.specs.Prelude.{IsPermutation}
+use Rattle.std.proofs.lemmas.List.{length-map}
+use Rattle.measure_agg.specs.Aggregate.{Aggregate, agg}
+use Rattle.describing_set.specs.DescSet.{IsSetOf}
+use Rattle.dc_node.specs.Block.{rows_in, entries_in, is_leaf, size}
+use Rattle.dc_node.specs.Summary.{coords}
+use Rattle.dc_node.specs.declared.block.Block.{Block}
+use Rattle.dc_node.specs.declared.entry.Entry.{Entry}
+use Rattle.shard_store.specs.Gate.{root_entry}
+use Rattle.shard_store.specs.declared.gate.Gate.{Gate}
+use Rattle.row_ledger.specs.declared.page.NodeLine.{NodeLine}
+use Rattle.row_ledger.specs.Pages.{Groups, none, IsLeaf, IsDirectory, AreGroups, IsPageOf}
+use Rattle.tree_shape.specs.Counts.{Each, times}
+use Rattle.tree_shape.specs.Shape.{Table, Shape, numbers}
+use Rattle.tree_shape.specs.Laws.{OrderLaw, GateLaw}
+use Rattle.tree_shape.proofs.Sums.{rows-named}
+use Rattle.tree_shape.proofs.Walks.{eqb-no}
+use Rattle.tree_page.specs.Still.{cells_with, IsStill}
+use Rattle.block_cells.specs.Blocks.{block_at}
+use Rattle.tree_page.specs.Lines.{group, beneath, line, lines}
+use Rattle.tree_page.proofs.Numbers.{perm-rows, length-flat, total-same}
+use Rattle.tree_page.proofs.Bodies.{leaf-size, leaf-limit, directory-size, directory-limit, each-mapped, total-few, total-some}
+use Rattle.tree_page.proofs.Listing.{leaf_rows, rows_at, all_groups, grouped, listing-one, rows-one, rows-beneath, tops-one, tops-all}
+use Rattle.tree_page.proofs.Counts.{IsOn, IsEntry, block-ok, on-level, group-some, group-is, entries-ok, root-ok, root-times, rows-ok, named-ok}
+
+-- what is known of a block of a leaf group, and of one of a directory group
+
+record IsLeafBlock (b : Block) : Type 0 where
+  items : size b.body ≡ length (rows_in b.body)
+  few : size b.body ≤ 32
+
+record IsDirectoryBlock (b : Block) : Type 0 where
+  items : size b.body ≡ length (entries_in b.body)
+  some : 1 ≤ size b.body
+  few : size b.body ≤ 16
+
+module _ (table : Table) (home : ℕ) (gate : Gate) (blocks : List Block) (g : Shape) (still : IsStill table home gate blocks g) (order : OrderLaw) where
+  abbrev Entry_ok : ℕ → Entry → Type 0
+  Entry_ok l e = IsEntry table home gate blocks g still l e
+
+  -- the blocks of a group
+
+  leaf-blocks : (e : Entry) → 0 < gate.height → Entry_ok 0 e → Each IsLeafBlock (group blocks e)
+  leaf-blocks e lt ok = subst (Each IsLeafBlock) (sym (group-is table home gate blocks g still 0 e lt ok))
+      (each-mapped (IsOn table home gate blocks g still 0) IsLeafBlock (block_at blocks) (g.group e.child)
+      (λ y on.
+      let b = block-ok table home gate blocks g still 0 y lt on in
+      let kind : is_leaf (block_at blocks y).body ≡ true = b.kind ∙ ap (λ l. eqb l 0) on.1 in
+      let few = b.few in
+      let room = leaf-limit (block_at blocks y).body kind in
+      record { items = leaf-size (block_at blocks y).body kind; few = omega arith })
+      (on-level table home gate blocks g still 0 e ok))
+
+  directory-blocks : (l : ℕ) (e : Entry) → suc l < gate.height → Entry_ok (suc l) e → Each IsDirectoryBlock (group blocks e)
+  directory-blocks l e lt ok = subst (Each IsDirectoryBlock) (sym (group-is table home gate blocks g still (suc l) e lt ok))
+      (each-mapped (IsOn table home gate blocks g still (suc l)) IsDirectoryBlock (block_at blocks) (g.group e.child)
+      (λ y on.
+      let b = block-ok table home gate blocks g still (suc l) y lt on in
+      let kind : is_leaf (block_at blocks y).body ≡ false = b.kind ∙ ap (λ k. eqb k 0) on.1 ∙ eqb-no (suc l) 0 (λ q. absurd (omega arith)) in
+      let few = b.few in
+      let room = directory-limit (block_at blocks y).body kind in
+      let high = on.1 in
+      record { items = directory-size (block_at blocks y).body kind; some = b.some (omega arith); few = omega arith })
+      (on-level table home gate blocks g still (suc l) e ok))
+
+  blocks-some : (l : ℕ) (e : Entry) → l < gate.height → Entry_ok l e → 1 ≤ length (group blocks e)
+  blocks-some l e lt ok =
+      let a = ap length (group-is table home gate blocks g still l e lt ok) in
+      let b = length-map (g.group e.child) (block_at blocks) in
+      let s = group-some table home gate blocks g still l e ok in
+      omega arith
+
+  -- aggregates and sets
+
+  agg-ok : (l : ℕ) (e : Entry) → l < gate.height → Entry_ok l e → e.agg ≡ agg (rows_at blocks l e)
+  agg-ok l e lt ok =
+      ok.summary.agg
+      ∙ (order table (g.below e.child) (numbers (rows_at blocks l e)) e.set (λ r. sym (rows-ok table home gate blocks g still l e lt ok r))).0
+      ∙ ap agg (rows-named table (rows_at blocks l e) (named-ok table home gate blocks g still l e lt ok))
+
+  set-ok : (l : ℕ) (e : Entry) → l < gate.height → Entry_ok l e → IsSetOf table.hierarchy (coords (rows_at blocks l e)) e.set
+  set-ok l e lt ok = subst (λ rs. IsSetOf table.hierarchy (coords rs) e.set) (rows-named table (rows_at blocks l e) (named-ok table home gate blocks g still l e lt ok))
+      ((order table (g.below e.child) (numbers (rows_at blocks l e)) e.set (λ r. sym (rows-ok table home gate blocks g still l e lt ok r))).1 ok.summary.set_of)
+
+  -- groups
+
+  leaf-ok : (d : ℕ) (e : Entry) → d + 1 ≡ gate.height → Entry_ok 0 e → IsLeaf table.hierarchy gate.height d (leaf_rows blocks e) (line true d (group blocks e) e)
+  leaf-ok d e h ok =
+      let lt : 0 < gate.height = omega arith in
+      let bs = leaf-blocks e lt ok in
+      record {
+        depth = refl;
+        lowest = h;
+        leaf = refl;
+        blocks = blocks-some 0 e lt ok;
+        items = total-same IsLeafBlock (λ (b : Block). size b.body) (λ (b : Block). length (rows_in b.body)) (group blocks e) (λ b w. w.items) bs ∙ sym (length-flat (λ (b : Block). rows_in b.body) (group blocks e));
+        room = total-few IsLeafBlock (λ (b : Block). size b.body) 32 (group blocks e) (λ b w. w.few) bs;
+        agg = agg-ok 0 e lt ok;
+        set = set-ok 0 e lt ok;
+      }
+
+  directory-ok : (l d : ℕ) (e : Entry) → d + suc l + 1 ≡ gate.height → Entry_ok (suc l) e
+      → IsDirectory table.hierarchy gate.height d (all_groups (λ x m. grouped blocks l (d + 1) x m) (beneath blocks e)) (line false d (group blocks e) e)
+  directory-ok l d e h ok =
+      let lt : suc l < gate.height = omega arith in
+      let bs = directory-blocks l e lt ok in
+      let rows = rows-beneath blocks l (d + 1) (beneath blocks e) in
+      record {
+        depth = refl;
+        higher = omega arith;
+        leaf = refl;
+        blocks = blocks-some (suc l) e lt ok;
+        items = total-same IsDirectoryBlock (λ (b : Block). size b.body) (λ (b : Block). length (entries_in b.body)) (group blocks e) (λ b w. w.items) bs ∙ sym (length-flat (λ (b : Block). entries_in b.body) (group blocks e))
+            ∙ sym (tops-all blocks l (d + 1) (beneath blocks e));
+        some = total-some IsDirectoryBlock (λ (b : Block). size b.body) (group blocks e) (λ b w. w.some) bs (blocks-some (suc l) e lt ok);
+        room = total-few IsDirectoryBlock (λ (b : Block). size b.body) 16 (group blocks e) (λ b w. w.few) bs;
+        agg = agg-ok (suc l) e lt ok ∙ ap agg (sym rows);
+        set = subst (λ rs. IsSetOf table.hierarchy (coords rs) e.set) (sym rows) (set-ok (suc l) e lt ok);
+      }
+
+  all-ok : (l d : ℕ) → ((e : Entry) → Entry_ok l e → (more : Groups) → AreGroups table.hierarchy gate.height d more → AreGroups table.hierarchy gate.height d (grouped blocks l d e more))
+      → (es : List Entry) → Each (Entry_ok l) es → AreGroups table.hierarchy gate.height d (all_groups (λ x m. grouped blocks l d x m) es)
+  all-ok l d one [] w = tt
+  all-ok l d one (e ∷ es) w = one e w.0 (all_groups (λ x m. grouped blocks l d x m) es) (all-ok l d one es w.1)
+
+  groups-ok : (l d : ℕ) → d + l + 1 ≡ gate.height → (e : Entry) → Entry_ok l e → (more : Groups) → AreGroups table.hierarchy gate.height d more → AreGroups table.hierarchy gate.height d (grouped blocks l d e more)
+  groups-ok zero d h e ok more rest = (leaf-ok d e (omega arith) ok, rest)
+  groups-ok (suc l) d h e ok more rest = (
+    directory-ok l d e h ok,
+    all-ok l (d + 1) (groups-ok l (d + 1) (omega arith)) (beneath blocks e) (entries-ok table home gate blocks g still l (suc l) e (omega arith) (omega arith) ok),
+    rest,
+  )
+
+  module _ (gate_law : GateLaw) (ns : List ℕ) (here : (r : ℕ) → times r ns ≡ cond (g.placed r) 1 0) where
+    pub page-ok : (rows queued : ℕ) (nodes : List NodeLine) → rows ≡ gate.agg.count → queued ≡ length gate.queue.rows → nodes ≡ lines blocks (gate.height - 1) 0 (root_entry gate)
+        → IsPageOf table.hierarchy (map table.row ns) gate.queue.rows (record { shard = gate.shard; height = gate.height; rows = rows; queued = queued; nodes = nodes })
+    page-ok rows queued nodes r q n =
+        let some = still.tree.some in
+        let l = gate.height - 1 in
+        let lt : gate.height - 1 < gate.height = omega arith in
+        let ok = root-ok table home gate blocks g still in
+        let root = root_entry gate in
+        let count = ap (λ (a : Aggregate). a.count) (gate_law table (cells_with home gate blocks) g still.tree ns here).agg in
+        record {
+          groups = grouped blocks l 0 root none;
+          listed = n ∙ sym (append-nil (lines blocks l 0 root)) ∙ sym (listing-one blocks l 0 root none);
+          root = tops-one blocks l 0 root none;
+          shape = groups-ok l 0 (omega arith) root ok none tt;
+          beneath = subst (λ rs. IsPermutation rs (map table.row ns)) (sym (rows-one blocks l 0 root none ∙ append-nil (rows_at blocks l root)))
+              (perm-rows table (rows_at blocks l root) ns (named-ok table home gate blocks g still l root lt ok)
+              (λ x. rows-ok table home gate blocks g still l root lt ok x ∙ root-times table home gate blocks g still x ∙ sym (here x)));
+          rows = r ∙ count;
+          queued = q;
+        }

@@ -1,0 +1,43 @@
+-- The blocks that are left of a walk.
+use Rattle.std.proofs.Common.{ℕ, zero, suc, ◌≡◌, ◌+◌, Option, Some, None, List, [], ◌∷◌, ◌++◌, refl, sym, ap, ◌∙◌, append_assoc, arith, true, false}
+use Rattle.std.specs.List.{flat_map}
+use Rattle.std.proofs.lemmas.List.Concat.{flat_map-append}
+use Rattle.dc_node.specs.Block.{entries_in}
+use Rattle.dc_node.specs.declared.block.Block.{Block}
+use Rattle.dc_node.specs.declared.entry.Entry.{Entry}
+use Rattle.row_ledger.specs.declared.page.NodeLine.{NodeLine}
+use Rattle.tree_page.specs.Lines.{after, walk, line, lines, group, beneath}
+
+pub walk-none : (blocks : List Block) (stamp n : ℕ) → walk blocks stamp n None ≡ []
+walk-none blocks stamp zero = refl
+walk-none blocks stamp (suc n) = refl
+
+pub walk-done : (blocks : List Block) (stamp n : ℕ) (next : Option Block) → n ≡ 0 → walk blocks stamp n next ≡ []
+walk-done blocks stamp zero next h = refl
+walk-done blocks stamp (suc n) next h = absurd (omega arith)
+
+-- one block, and those behind it
+pub walk-on : (blocks : List Block) (stamp n m : ℕ) (block : Block) (next following : Option Block) → n ≡ m + 1 → next ≡ Some block → following ≡ after blocks stamp block
+    → walk blocks stamp n next ≡ block ∷ walk blocks stamp m following
+walk-on blocks stamp zero m block next following h is behind = absurd (omega arith)
+walk-on blocks stamp (suc n) m block next following h is behind =
+    let e : n ≡ m = omega arith in
+    ap (walk blocks stamp (suc n)) is ∙ ap (λ k. block ∷ walk blocks stamp k (after blocks stamp block)) e ∙ ap (λ o. block ∷ walk blocks stamp m o) (sym behind)
+
+pub lines-low : (blocks : List Block) (level depth : ℕ) (e : Entry) → level ≡ 0 → lines blocks level depth e ≡ line true depth (group blocks e) e ∷ []
+lines-low blocks zero depth e h = refl
+lines-low blocks (suc l) depth e h = absurd (omega arith)
+
+pub lines-high : (blocks : List Block) (level l depth : ℕ) (e : Entry) → level ≡ l + 1 → lines blocks level depth e ≡ line false depth (group blocks e) e ∷ flat_map (λ x. lines blocks l (depth + 1) x) (beneath blocks e)
+lines-high blocks zero l depth e h = absurd (omega arith)
+lines-high blocks (suc level) l depth e h = let i : level ≡ l = omega arith in ap (λ k. line false depth (group blocks e) e ∷ flat_map (λ x. lines blocks k (depth + 1) x) (beneath blocks e)) i
+
+-- the lines of a block's entries are added, and those of the blocks behind it are left
+pub lines-on : (f : Entry → List NodeLine) (old new all : List NodeLine) (block : Block) (left rest : List Block) → left ≡ block ∷ rest
+    → new ≡ old ++ flat_map f (entries_in block.body) → old ++ flat_map f (flat_map (λ b. entries_in b.body) left) ≡ all → new ++ flat_map f (flat_map (λ b. entries_in b.body) rest) ≡ all
+lines-on f old new all block left rest is added before =
+    ap (λ xs. xs ++ flat_map f (flat_map (λ (b : Block). entries_in b.body) rest)) added
+    ∙ append_assoc old (flat_map f (entries_in block.body)) (flat_map f (flat_map (λ (b : Block). entries_in b.body) rest))
+    ∙ ap (λ xs. old ++ xs) (sym (flat_map-append f (entries_in block.body) (flat_map (λ (b : Block). entries_in b.body) rest)))
+    ∙ ap (λ (bs : List Block). old ++ flat_map f (flat_map (λ (b : Block). entries_in b.body) bs)) (sym is)
+    ∙ before

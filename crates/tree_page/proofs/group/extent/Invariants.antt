@@ -1,0 +1,15 @@
+use Rattle.std.proofs.Common.{◌≡◌, ◌+◌, ◌-◌, ◌*◌, ◌≤◌, length}
+use Rattle.std.specs.Option.{option_copied}
+use Rattle.dc_node.specs.Block.{size}
+use Rattle.tree_shape.specs.Counts.{total}
+use Rattle.tree_page.specs.Lines.{walk, group}
+use Rattle.tree_page.proofs.group.extent.Given as goal
+
+abbrev pub invariant-loop : goal.invariant-loop
+invariant-loop l = record {
+  count : l.count + length (walk l.blocks.items l.entry.stamp (l.end - l.counter) (option_copied l.next)) ≡ length (group l.blocks.items l.entry);
+  items : l.items + total (λ b. size b.body) (walk l.blocks.items l.entry.stamp (l.end - l.counter) (option_copied l.next)) ≡ total (λ b. size b.body) (group l.blocks.items l.entry);
+  few : l.count ≤ l.counter;
+  few_items : l.items ≤ 256 * l.counter;
+  end : l.end ≡ length l.blocks.items;
+}

@@ -1,0 +1,114 @@
+ghost use Rattle.std.specs.Prelude.{ℕ, ◌≡◌, ◌+◌, ◌<◌, ◌^◌, ◌++◌, List, map, length, cond, IfOk, OnOk};
+ghost use Rattle.std.specs.List.{flat_map};
+ghost use Rattle.dc_node.specs.Block.{entries_in};
+ghost use Rattle.row_ledger.specs.Pages.{IsPageOf};
+ghost use Rattle.tree_shape.specs.Counts.{times};
+ghost use Rattle.tree_shape.specs.Shape.{Table, Shape};
+ghost use Rattle.tree_page.specs.Still.{IsStill, CanShow};
+ghost use Rattle.tree_page.specs.Lines.{lines, beneath};
+
+use crate::group::{after, extent};
+use block_cells::Blocks;
+use dc_node::{Block, Entry};
+use row_ledger::{NodeLine, NodeList, TreePage};
+use shard_store::Gate;
+use std::alloc::{AllocError, Global};
+use tree_shape::tree_laws;
+
+/// What the tree of a gate looks like, through which no row is on its way. Takes memory for the
+/// lines. Goes over each block of the tree twice.
+pub fn tree_page(alloc: Global, gate: &Gate, blocks: &Blocks) -> Result<TreePage, AllocError>
+    requires tree { CanShow gate.now blocks.now.items }
+    ensures page { IfOk result (λ p. (table : Table) (home : ℕ) (g : Shape) → IsStill table home gate.now blocks.now.items g
+        → (ns : List ℕ) → ((r : ℕ) → times r ns ≡ cond (g.placed r) 1 0)
+        → IsPageOf table.hierarchy (map table.row ns) gate.now.queue.rows p) }
+    ensures shard { IfOk result (λ p. p.shard ≡ gate.now.shard) }
+    ensures height { IfOk result (λ p. p.height ≡ gate.now.height) }
+{
+    tree_laws();
+    let root = Entry {
+        child: gate.root,
+        stamp: gate.stamp,
+        agg: gate.agg,
+        set: gate.set.copy(),
+    };
+    let mut nodes = NodeList::new(alloc);
+    push_group(&mut nodes, blocks, &root, 0, gate.height - 1)?;
+    Ok(TreePage {
+        shard: gate.shard,
+        height: gate.height,
+        rows: gate.agg.count(),
+        queued: gate.queue.rows.len() as u64,
+        nodes,
+    })
+}
+
+/// Adds the line of an entry's group, so many groups below the root and so many levels above the
+/// leaves, and then the lines of all groups beneath it.
+#[cycle(group)]
+fn push_group(
+    nodes: &mut NodeList,
+    blocks: &Blocks,
+    entry: &Entry,
+    depth: u32,
+    level: u32,
+) -> Result<(), AllocError>
+    requires { depth + level < 2 ^ 32 }
+    ensures { OnOk result (nodes.new ≡ nodes.old ++ lines blocks.now.items level depth entry.now) }
+{
+    let (count, items) = extent(blocks, entry);
+    let line = NodeLine {
+        depth,
+        leaf: level == 0,
+        blocks: count,
+        items,
+        agg: entry.agg,
+        set: entry.set.copy(),
+    };
+    nodes.push(line)?;
+    if level > 0 {
+        push_beneath(nodes, blocks, entry, depth + 1, level - 1)?;
+    }
+    Ok(())
+}
+
+/// Adds the lines of the groups of the entries of an entry's group.
+#[cycle(group)]
+fn push_beneath(
+    nodes: &mut NodeList,
+    blocks: &Blocks,
+    entry: &Entry,
+    depth: u32,
+    level: u32,
+) -> Result<(), AllocError>
+    requires { depth + level < 2 ^ 32 }
+    ensures { OnOk result (nodes.new ≡ nodes.old ++ flat_map (λ e. lines blocks.now.items level depth e) (beneath blocks.now.items entry.now)) }
+{
+    let mut next = blocks.get(entry.child);
+    for _ in 0..blocks.len() {
+        let Some(block) = next else {
+            return Ok(());
+        };
+        push_entries(nodes, blocks, block, depth, level)?;
+        next = after(blocks, block, entry.stamp);
+    }
+    Ok(())
+}
+
+/// Adds the lines of the groups of a block's entries.
+#[cycle(group)]
+fn push_entries(
+    nodes: &mut NodeList,
+    blocks: &Blocks,
+    block: &Block,
+    depth: u32,
+    level: u32,
+) -> Result<(), AllocError>
+    requires { depth + level < 2 ^ 32 }
+    ensures { OnOk result (nodes.new ≡ nodes.old ++ flat_map (λ e. lines blocks.now.items level depth e) (entries_in block.now.body)) }
+{
+    for entry in block.entries() {
+        push_group(nodes, blocks, entry, depth, level)?;
+    }
+    Ok(())
+}
