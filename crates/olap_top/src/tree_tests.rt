@@ -10,7 +10,7 @@ use std::test::Fail;
 use std::thread::Threads;
 use volap_io::{MemSink, MemSource};
 
-/// Settings, and a country with two cities.
+/// A country with two cities.
 const CITIES: &str = "dim,geo,2\nconcept,geo,de,*\nconcept,geo,berlin,de\nconcept,geo,munich,de\n";
 
 /// A country with eight cities.
@@ -138,30 +138,40 @@ fn trees_and_their_pages(rt: HostRuntime) -> Result<(), Fail> {
     Ok(())
 }
 
-#[test]
-fn rows_for_which_there_are_no_cells_are_queued(rt: HostRuntime) -> Result<(), Fail> {
-    let alloc = rt.alloc();
+/// How many rows of 2000 are in the tree, and how many in the queue, where there are so many cells.
+fn shown_rows<R: Abort + Threads + Wait + Sync>(
+    rt: &R,
+    alloc: Global,
+    cells: u64,
+) -> Result<(u64, u64), Fail> {
     let places = ["berlin", "munich"];
-    let text = script(alloc, 64, CITIES, &places, 2000, "tree,0\nquery,0,*\n")?;
+    let text = script(alloc, cells, CITIES, &places, 2000, "tree,0\nquery,0,*\n")?;
     let bytes = text.as_str().as_bytes().to_vec(alloc)?;
     let mut source = MemSource::new(bytes, Vec::new(alloc), 4096);
     let mut sink = MemSink::new(alloc, 1_000_000, Vec::new(alloc), 4096)?;
-    let outcome = step(&rt, alloc, &mut source, &mut sink)?;
+    let outcome = step(rt, alloc, &mut source, &mut sink)?;
     assert_eq!(rt; outcome.status, Status::Done);
-    let mut pages = 0u32;
+    assert!(rt; sink.taken().ends_with(b"\n2002 query 2000 2000 1 1\n"));
     for event in outcome.ledger.events() {
         if let Event::Shown {
             page: Page::Tree(tree),
             ..
         } = event
         {
-            pages = pages.saturating_add(1);
             assert_eq!(rt; tree.height, 2);
-            assert!(rt; tree.queued > 0);
-            assert_eq!(rt; tree.rows.saturating_add(tree.queued), 2000);
+            return Ok((tree.rows, tree.queued));
         }
     }
-    assert_eq!(rt; pages, 1);
-    assert!(rt; sink.taken().ends_with(b"\n2002 query 2000 2000 1 1\n"));
+    Err("no page".into())
+}
+
+#[test]
+fn rows_for_which_there_are_no_cells_are_queued(rt: HostRuntime) -> Result<(), Fail> {
+    let alloc = rt.alloc();
+    let (rows, queued) = shown_rows(&rt, alloc, 64)?;
+    assert!(rt; queued > 0);
+    assert_eq!(rt; rows.saturating_add(queued), 2000);
+    let many = shown_rows(&rt, alloc, 256)?;
+    assert_eq!(rt; many, (2000, 0));
     Ok(())
 }
