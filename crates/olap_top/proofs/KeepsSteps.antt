@@ -81,7 +81,7 @@ nothing-placed with = refl
 pub KeepsRun-nil : (with : Use) (h : List Dimension) → KeepsRun with h [] []
 KeepsRun-nil with h = record {
   right = KeepsRight-nil (site h) (is_placed []);
-  flat = CanAnswer-nil (is_placed []);
+  answers = CanAnswer-nil (is_placed []);
   has = record {
     begins = [];
     places_are = nothing-placed with;
@@ -110,8 +110,8 @@ done-with : (with : Use) (h : List Dimension) (c : Command) (number : ℕ) (hist
     → Does with h c number history now (text number)
 done-with with h c number history now b end page text is begins ends shows tells grows = record {
   keeps = λ done keeps.
-      let grown = grows keeps.right keeps.flat in
-      record { right = grown.0; flat = grown.1; has = HasDone-more with h done c history now b end (is done keeps) begins ends keeps.has };
+      let grown = grows keeps.right keeps.answers in
+      record { right = grown.0; answers = grown.1; has = HasDone-more with h done c history now b end (is done keeps) begins ends keeps.has };
   told = λ done keeps numbered. lines_of-more with h done c history now b end page (is done keeps) (shows keeps.right) keeps.has
       ∙ ap (λ t. lines_of with done history ++ t) (tells (1 + length done) ∙ ap text (sym numbered));
   kept = λ done keeps. KeepsLines-more with h done c history now b end (is done keeps) keeps.has;

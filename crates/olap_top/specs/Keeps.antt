@@ -39,7 +39,7 @@ pub record HasDone (with : Use) (h : List Dimension) (done : List Command) (hist
 -- and the rows that were acknowledged can answer any query that comes next
 pub record KeepsRun (with : Use) (h : List Dimension) (done : List Command) (history : List Event) : Type 0 where
   pub right : KeepsRight (site h) (is_placed (acked_rows history)) history
-  pub flat : CanAnswer (is_placed (acked_rows history)) history (acked_rows history)
+  pub answers : CanAnswer (is_placed (acked_rows history)) history (acked_rows history)
   pub has : HasDone with h done history
 
 -- and the shard, which is shard 0, has just these rows; each number is a position in the history, so that the next is none

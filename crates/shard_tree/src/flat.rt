@@ -3,6 +3,7 @@ ghost use Rattle.dim_hierarchy.specs.Filter.{IsFilterOf, matches};
 ghost use Rattle.dim_hierarchy.specs.Row.{IsRowOf};
 ghost use Rattle.measure_agg.specs.Aggregate.{agg};
 
+use crate::query::of_rows;
 use dim_hierarchy::{Coord, Filter, Hierarchy, Items, Row};
 use measure_agg::Agg;
 use shard_store::RowList;
@@ -41,12 +42,6 @@ impl FlatShard {
         requires rows { All (IsRowOf h.now) self.now.rows }
         ensures { result ≡ agg (filter (λ r. matches h.now wanted.now r.at) self.now.rows) }
     {
-        let mut total = Agg::EMPTY;
-        for row in self.rows.as_slice() {
-            if h.matches(wanted, &row.at) {
-                total = total.join(&Agg::one(row.measure));
-            }
-        }
-        total
+        of_rows(self.rows.as_slice(), wanted, h)
     }
 }

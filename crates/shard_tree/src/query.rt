@@ -86,7 +86,7 @@ fn of_queue(queue: &Queue, wanted: &Filter, h: &Hierarchy) -> Agg
 }
 
 /// The aggregate of the rows that a filter matches.
-fn of_rows(rows: &[Row], wanted: &Filter, h: &Hierarchy) -> Agg
+pub(crate) fn of_rows(rows: &[Row], wanted: &Filter, h: &Hierarchy) -> Agg
     requires filter { IsFilterOf h.now wanted.now }
     requires rows { All (IsRowOf h.now) rows.now }
     ensures { result ≡ agg (matching h.now wanted.now rows.now) }
