@@ -1,0 +1,11 @@
+use Rattle.std.proofs.Common.{◌∙◌}
+use Rattle.balancer.proofs.Fullest.{fullest-takes, fullest-stays}
+use Rattle.balancer.proofs.workers.fullest.Goals as goal
+use Rattle.balancer.proofs.workers.fullest.Goals.{then-rows_on, else-rows_on}
+
+pub loop-worker-preserved : goal.loop-worker-preserved
+loop-worker-preserved c =
+    elim c.if-rows_on.branch [
+      | then-rows_on w ↦ w.found-is ∙ fullest-takes c.args.loads.now c.loop-worker.worker c.loop-worker.found c.rows_on.result c.rows_on-in-loop-worker.result c.loop-worker.invariant c.rows_on.ensures c.rows_on-in-loop-worker.ensures w.if-rows_on.true
+      | else-rows_on w ↦ w.found-is ∙ fullest-stays c.args.loads.now c.loop-worker.worker c.loop-worker.found c.rows_on.result c.rows_on-in-loop-worker.result c.loop-worker.invariant c.rows_on.ensures c.rows_on-in-loop-worker.ensures w.if-rows_on.false
+    ]

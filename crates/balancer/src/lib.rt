@@ -1,0 +1,10 @@
+//! The plan of a balance: which shards go from the fullest worker to the emptiest one, and which is split.
+#![tactic(auto)]
+
+mod balance;
+mod shards;
+#[cfg(test)]
+mod tests;
+mod workers;
+
+pub use balance::plan;

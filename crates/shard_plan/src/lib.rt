@@ -1,0 +1,10 @@
+//! How large a built tree is, and what a balance plans: the rules that shards are split and moved by.
+#![tactic(auto)]
+
+mod action;
+mod building;
+#[cfg(test)]
+mod tests;
+
+pub use action::{Action, Load};
+pub use building::{cells_for, levels_for, parts_fit, split_need};

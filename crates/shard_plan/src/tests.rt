@@ -1,0 +1,20 @@
+use crate::{cells_for, levels_for, parts_fit, split_need};
+
+#[test]
+fn built_trees_have_so_many_blocks_and_levels(rt: HostRuntime) {
+    parts_fit();
+    let cases = [
+        (0, 1, 1, 5),
+        (2, 1, 1, 5),
+        (24, 1, 1, 5),
+        (25, 3, 2, 9),
+        (288, 13, 2, 19),
+        (289, 16, 3, 24),
+        (2000, 92, 3, 100),
+    ];
+    for (n, cells, levels, need) in cases {
+        assert_eq!(rt; cells_for(n), cells);
+        assert_eq!(rt; levels_for(n), levels);
+        assert_eq!(rt; split_need(n), need);
+    }
+}

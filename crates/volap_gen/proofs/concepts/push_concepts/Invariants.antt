@@ -1,0 +1,8 @@
+use Rattle.std.proofs.Common.{◌≡◌, ◌∷◌, ◌++◌, string_bytes}
+use Rattle.std.specs.List.{flat_map, range_with_len}
+use Rattle.volap_gen.specs.Generated.{text_of, top_record, middle_records}
+use Rattle.volap_gen.proofs.concepts.push_concepts.Given as goal
+
+abbrev pub invariant-loop-number : goal.invariant-loop-number
+invariant-loop-number l =
+    string_bytes l.text ≡ string_bytes l.initial.text ++ text_of (flat_map (λ i. top_record l.dim i ∷ middle_records l.dim i) (range_with_len 0 l.number))

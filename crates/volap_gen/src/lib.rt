@@ -1,0 +1,12 @@
+//! The generated script: a hierarchy of three dimensions, rows, and what is done beside them, from two
+//! numbers.
+#![tactic(auto)]
+
+mod concepts;
+mod names;
+mod rows;
+mod script;
+#[cfg(test)]
+mod tests;
+
+pub use script::generate;
