@@ -1,0 +1,20 @@
+-- Counters whose sum stays.
+use Rattle.std.specs.Prelude.{◌≡◌, ℕ, List, []}
+use Rattle.std.specs.List.{sum}
+use Rattle.std.proofs.Common.{◌∙◌, refl}
+use mathlib.Core.Option.{some}
+use lib.ListN.{get_elem?}
+use Rattle.turn_table.specs.Numbered.{value_of, AreApart, write_all}
+use Rattle.turn_table.specs.Law.{IsLawful}
+
+-- the sum of all counters
+abbrev pub whole : ℕ
+whole = 30
+
+-- the held counters change so that the sum of all counters stays, whatever the others are
+abbrev pub KeepsSum : List (ℕ × ℕ) → List (ℕ × ℕ) → Type 0
+KeepsSum held new = (cells : List ℕ) → ((k c : ℕ) → value_of held k ≡ some c → get_elem? cells k ≡ some c) → AreApart new → sum (write_all cells new) ≡ sum cells
+
+-- a change that keeps the sum is lawful; there is no list
+pub lawful : IsLawful {Cell = ℕ} {Actor = ℕ} {Entry = ℕ} (λ cells _. sum cells ≡ whole) 0 (λ _. []) (λ _ _. ⊥) (λ s new _ _ _. KeepsSum s.held new)
+lawful cells actors s new i a b valid _ _ held _ _ _ _ apart _ change = (change cells held apart ∙ valid, λ d e _ _. ([], refl))

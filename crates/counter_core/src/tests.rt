@@ -1,0 +1,73 @@
+ghost use Rattle.std.specs.Prelude.{◌≡◌, ◌<◌, [], false};
+ghost use mathlib.Core.Option.{some};
+ghost use Rattle.turn_table.specs.Numbered.{value_of};
+ghost use Rattle.turn_table.specs.Seat.{cell_count};
+
+use crate::{Counters, transfer};
+use std::sync::Wait;
+use std::test::Fail;
+use std::thread::join;
+use turn_table::{Seat, TurnTable};
+
+// Thousands of transfers up and down between two counters.
+fn work<R: Wait>(
+    rt: &R,
+    table: &TurnTable<Counters>,
+    mut seat: Seat<Counters>,
+    number: u32,
+    low: u32,
+    high: u32,
+) -> Seat<Counters>
+    requires own { seat.table_id ≡ table.now }
+    requires cells { (low < high) × (high < cell_count table.now) }
+    requires bare { (seat.view.held ≡ []) × (seat.ranks ≡ []) × (seat.lifted ≡ false) }
+    requires actor { value_of seat.view.actors number ≡ some 0 }
+    ensures own { result.table_id ≡ seat.table_id }
+    ensures bare { (result.view.held ≡ []) × (result.lifted ≡ false) }
+    ensures actors { (result.view.actors ≡ seat.view.actors) × (result.view.actor_count ≡ seat.view.actor_count) }
+{
+    for _ in 0..2000 {
+        transfer(rt, table, &mut seat, number, low, high, true);
+        transfer(rt, table, &mut seat, number, low, high, false);
+    }
+    seat
+}
+
+#[test]
+fn two_threads_keep_the_sum(rt: HostRuntime) -> Result<(), Fail> {
+    let cells = vec![in rt.alloc(); 10u64, 10, 10]?;
+    let actors = vec![in rt.alloc(); 0u64, 0]?;
+    let (table, mut seat) = TurnTable::<Counters>::new(rt.alloc(), cells, &actors)?;
+    assert_eq!(rt; table.len(), 3);
+
+    let other = table.split_seat(&mut seat, 0);
+    let (mut seat, other) = join(
+        &rt,
+        || work(&rt, &table, seat, 1, 0, 1),
+        || work(&rt, &table, other, 0, 1, 2),
+    );
+    table.join_seat(&mut seat, other);
+    let mut sum = 0u64;
+    for cell in table.close(seat) {
+        sum = sum.saturating_add(cell.unwrap_or(0));
+    }
+    assert_eq!(rt; sum, 30);
+    Ok(())
+}
+
+// A second seat gets each free cell, and at a held one it reads the word of its holder.
+#[test]
+fn a_held_cell_is_busy_and_others_are_free(rt: HostRuntime) -> Result<(), Fail> {
+    let cells = vec![in rt.alloc(); 10u64, 10, 10]?;
+    let actors = vec![in rt.alloc(); 0u64, 0]?;
+    let (table, mut seat) = TurnTable::<Counters>::new(rt.alloc(), cells, &actors)?;
+    let mut other = table.split_seat(&mut seat, 0);
+    assert!(rt; table.try_take(&mut seat, 1).is_ok());
+    match table.try_take(&mut other, 1) {
+        Ok(()) => return Err("a held cell is busy".into()),
+        Err(busy) => assert_eq!(rt; (busy.cell, busy.word), (1, 2)),
+    }
+    assert!(rt; table.try_take(&mut other, 0).is_ok());
+    assert!(rt; table.try_take(&mut other, 2).is_ok());
+    Ok(())
+}

@@ -1,0 +1,22 @@
+//! Cells under turns: a table of cells and actors that several threads change, one event at a time,
+//! for any core whose law is proved.
+#![tactic(auto)]
+
+mod cores;
+mod ends;
+mod held;
+mod moves;
+mod rule;
+mod seat;
+mod steps;
+mod table;
+mod turns;
+mod view;
+
+pub use cores::Core;
+pub use held::Held;
+pub use rule::{Key, Place, Turns};
+pub use seat::Seat;
+pub use table::TurnTable;
+pub use turns::Busy;
+pub use view::View;

@@ -1,0 +1,28 @@
+//! A seat, with the actors and the cells that it has.
+use crate::cores::Core;
+use crate::rule::Place;
+use arrayvec::ArrayVec;
+use std::marker::Model;
+
+/// How many cells a seat holds at most.
+pub const MOST: usize = 7;
+
+/// The right to step on a table with some of its actors. The actors themselves stay with the caller.
+#[derive(Drop)]
+pub struct Seat<C: Core> {
+    pub(crate) number: u32,
+    // The held cells, the first taken first, each with the rank that was told for it.
+    pub(crate) row: ArrayVec<(u32, Option<u8>), MOST>,
+    pub(crate) lifted: bool,
+    pub(crate) place: Place<C>,
+}
+
+impl<C: Core> Model for Seat<C> {
+    ghost use Rattle.turn_table.specs.Seat.{SeatValue, IsSeated};
+
+    ghost Value = { SeatValue C.Cell C.Actor C.Entry };
+
+    ghost view = { λ s. record { table_id = s.place.table_id; lifted = s.lifted; ranks = s.row.items; view = s.place.me.0 } };
+
+    ghost invariant = { λ s. IsSeated C.invariant C.log_at C.log C.needs s.place.table_id.words s.number s.row.items s.lifted s.place.me };
+}
