@@ -1,5 +1,6 @@
-ghost use Rattle.std.specs.Prelude.{◌≡◌, ◌+◌, ◌<◌, ◌≤◌, ◌^◌, ◌∷◌, ◌++◌, [], length, vec_len, vec_capacity, OnOk};
+ghost use Rattle.std.specs.Prelude.{◌≡◌, ◌+◌, ◌<◌, ◌≤◌, ◌^◌, List, None, ◌∷◌, ◌++◌, [], length, vec_len, vec_capacity, OnOk, IfSome};
 ghost use Rattle.cell_stock.specs.Stock.{Fills};
+ghost use Rattle.cell_stock.specs.declared.purse.Spare as declared;
 
 use std::alloc::{AllocError, Global};
 use std::marker::Model;
@@ -52,6 +53,24 @@ impl Purse {
         self.spares.len()
     }
 
+    /// The spare that `next` would take out: the last one. None where there is none.
+    pub fn last(&self) -> Option<Spare>
+        ensures some { IfSome result (λ s. (front : List declared.Spare) × (self.now.spares ≡ front ++ s ∷ [])) }
+        ensures none { result ≡ None → self.now.spares ≡ [] }
+    {
+        let at = self.spares.len().checked_sub(1)?;
+        Some(self.spares[at])
+    }
+
+    /// Adds a spare behind the others. Takes no memory.
+    pub fn put(&mut self, spare: Spare)
+        requires { 0 < self.old.room }
+        ensures spares { self.new.spares ≡ self.old.spares ++ spare ∷ [] }
+        ensures room { self.new.room + 1 ≡ self.old.room }
+    {
+        self.spares.push_reserved(spare);
+    }
+
     /// Takes the last spare out. Takes no memory.
     pub fn next(&mut self) -> Spare
         requires { 0 < length self.old.spares }
@@ -87,7 +106,7 @@ impl Purse {
     }
 }
 
-// Adds spares of these cells to a vector with room for them.
+/// Adds spares of these cells to a vector with room for them.
 fn fill(spares: &mut Vec<Spare>, cells: &[u32], stamp: u64)
     requires room { vec_len spares.old + length cells.now ≤ vec_capacity spares.old }
     requires stamps { stamp + length cells.now < 2 ^ 63 }

@@ -108,7 +108,7 @@ pub fn laws()
         → AreOut now others }
 {}
 
-// Adds the cells of spares to a vector with room for them.
+/// Adds the cells of spares to a vector with room for them.
 fn put_back(free: &mut Vec<u32>, spares: &[Spare])
     requires { vec_len free.old + length spares.now ≤ vec_capacity free.old }
     ensures cells { free.new.items ≡ free.old.items ++ cells_of spares.now }

@@ -120,7 +120,7 @@ pub fn laws()
         MatchOption (greatest_of xs) (xs ≡ []) (λ m. Contains xs m × All (λ x. x ≤ℤ m) xs) }
 {}
 
-// The lesser of two numbers, either of which may be missing.
+/// The lesser of two numbers, either of which may be missing.
 fn lesser(a: Option<i64>, b: Option<i64>) -> Option<i64>
     ensures { result ≡ lesser a b }
 {
@@ -130,7 +130,7 @@ fn lesser(a: Option<i64>, b: Option<i64>) -> Option<i64>
     }
 }
 
-// The greater of two numbers, either of which may be missing.
+/// The greater of two numbers, either of which may be missing.
 fn greater(a: Option<i64>, b: Option<i64>) -> Option<i64>
     ensures { result ≡ greater a b }
 {

@@ -1,4 +1,4 @@
-// Points at which the threads of a run may meet.
+//! Points at which the threads of a run may meet.
 use std::sync::Wait;
 
 /// What a run passes by at numbered points, always at a moment when it holds no turn.

@@ -1,5 +1,5 @@
-// Bytes that come in.
-ghost use Rattle.std.specs.Prelude.{◌≡◌, ◌+◌, ◌^◌, ◌<◌, ◌≤◌, List, ℕ, Option, vec_len, IfOk, IsErrOf};
+//! Bytes that come in.
+ghost use Rattle.std.specs.Prelude.{◌≡◌, ◌+◌, ◌≤◌, List, ℕ, Option, vec_len, IfOk, IsErrOf};
 ghost use Rattle.std.specs.Io.{ReadsAtMost};
 ghost use Rattle.std.specs.Io.KnownBytes.{Consumes, IsAtEnd, ReadConsumes};
 ghost use Rattle.volap_io.specs.Causes.{HasCause, Rose};
@@ -50,7 +50,6 @@ const PIECE: usize = 4096;
 
 /// All the bytes of a source, of which there may be `limit`. It asks for at most one byte more.
 pub fn read_all<S: Source>(alloc: Global, source: &mut S, limit: u64) -> Result<Vec<u8>, ReadEnd>
-    requires { limit < 2 ^ 62 }
     ensures all { IfOk result (λ v. Consumes (S.left source.old) (S.left source.new) v.items
         × IsAtEnd (S.left source.new)) }
     ensures within { IfOk result (λ v. vec_len v ≤ limit) }
@@ -71,7 +70,7 @@ pub fn read_all<S: Source>(alloc: Global, source: &mut S, limit: u64) -> Result<
     let mut buf = [0u8; PIECE];
     'pieces: loop {
         let room = limit - bytes.len();
-        let lent = (room + 1).min(PIECE);
+        let lent = room.saturating_add(1).min(PIECE);
         let Ok(count) = source.read(&mut buf[..lent]) else {
             return Err(ReadEnd::ReadFault);
         };

@@ -1,4 +1,4 @@
-// A source over any reader of std, and a sink over any writer. Those of the process tell no content.
+//! A source over any reader of std, and a sink over any writer. Those of the process tell no content.
 ghost use Rattle.std.specs.Prelude.{◌≡◌};
 
 use crate::{Failed, Sink, Source};
