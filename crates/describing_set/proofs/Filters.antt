@@ -1,6 +1,6 @@
 -- What the tests of a set against a filter say of the coordinates that the set covers.
 use Rattle.std.proofs.Common.{ℕ, ◌≡◌, ◌≢◌, ◌+◌, ◌-◌, ◌<◌, ◌≤◌, Bool, true, false, nat_lt, List, [], ◌∷◌, length, get_or, refl, sym, ap, subst, ◌∙◌, arith, inl, inr, Contains, ◌||◌, ◌⊎◌}
-use Rattle.std.specs.Prelude.{All as Each, Any, ◌↔◌, IsTrue}
+use Rattle.std.specs.Prelude.{All as Each, Any, ◌↔◌, IsTrue, ◌&&◌}
 use Rattle.std.specs.List.{list_any, list_all}
 use Rattle.std.proofs.lemmas.Bool.{and_parts, and_from, cases_lt, false≢true, lt-ltb, ltb-true}
 use Rattle.std.proofs.lemmas.List.{get_or_default}
@@ -18,6 +18,7 @@ use Rattle.dim_hierarchy.proofs.Matching.{is_picked-IsPicked}
 use Rattle.describing_set.specs.declared.part.Part.{Part}
 use Rattle.describing_set.specs.declared.set.DescSet.{DescSet}
 use Rattle.describing_set.specs.DescSet.{part_at, IsDescSetOf, Covers}
+use Rattle.dim_hierarchy.specs.Compiled.{is_related}
 use Rattle.describing_set.specs.Filter.{IsInside, is_part_inside, is_inside, AreRelated, are_related, IsMet, is_met, is_part_met, Overlaps, overlaps}
 use Rattle.describing_set.proofs.Covering.{in_each-from, in_each-at}
 use Rattle.describing_set.proofs.Sets.{part_at-IsPart, IsPart-concepts}
@@ -155,3 +156,31 @@ matched_overlaps h set f at lt c m = record {
   some = λ dim l. not_nil (part_at set dim).ids.items (up (tree h dim) (concept_at at dim) (part_at set dim).level) (c.ancestor dim l);
   met = λ dim l. met_by (tree h dim) (pick_at f dim) (part_at set dim).ids.items (concept_at at dim) (part_at set dim).level (c.ancestor dim l) (m.picked dim l);
 }
+
+-- The test of one concept at a time.
+
+any_or : (p q : ℕ → Bool) (xs : List ℕ) → list_any (λ x. p x || q x) xs ≡ (list_any p xs || list_any q xs)
+any_or p q [] = refl
+any_or p q (x ∷ xs) = rw (any_or p q xs) (swap (p x) (q x) (list_any p xs) (list_any q xs))
+  where
+    swap : (a b c d : Bool) → ((a || b) || (c || d)) ≡ ((a || c) || (b || d))
+    swap true b c d = refl
+    swap false true true d = refl
+    swap false true false d = refl
+    swap false false c d = refl
+
+pub related_met : (t : Tree) (p : Pick) (part : Part) → list_any (is_related t p) part.ids.items ≡ is_part_met t part p
+related_met t All part = whole part.ids.items
+  where
+    whole : (ids : List ℕ) → list_any (is_related t All) ids ≡ (nat_lt 0 (length ids) && true)
+    whole [] = refl
+    whole (x ∷ xs) = rw (lt-ltb 0 (length (x ∷ xs)) (omega arith)) refl
+related_met t (Ids tops) part = some part.ids.items
+  where
+    again : (ys : List ℕ) → list_any (is_related t (Ids tops)) ys ≡ list_any (λ id. list_any (are_related t id) tops) ys
+    again [] = refl
+    again (y ∷ ys) = rw (any_or (is_under t y) (λ top. is_under t top y) tops, again ys) refl
+
+    some : (ids : List ℕ) → list_any (is_related t (Ids tops)) ids ≡ (nat_lt 0 (length ids) && list_any (λ id. list_any (are_related t id) tops) ids)
+    some [] = refl
+    some (x ∷ xs) = rw (lt-ltb 0 (length (x ∷ xs)) (omega arith)) (again (x ∷ xs))

@@ -4,3 +4,4 @@ pub mod Sets
 pub mod Covering
 pub mod Filters
 pub mod Laws
+pub mod Membership

@@ -1,4 +1,5 @@
 pub mod Ascending
+pub mod Places
 pub mod Part
 pub mod DescSet
 pub mod Filter

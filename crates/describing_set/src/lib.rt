@@ -2,7 +2,7 @@
 //! rows in one way only.
 #![tactic(auto)]
 
-mod ids;
+mod few;
 mod listing;
 mod part;
 mod picks;
@@ -11,6 +11,7 @@ mod set;
 #[cfg(test)]
 mod tests;
 
+pub use few::FewConcepts;
 pub use listing::{Listing, Path, Spot};
 pub use part::Part;
 pub use plane::{Plane, goes_left, plane_of};

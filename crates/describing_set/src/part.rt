@@ -2,18 +2,19 @@ ghost use Rattle.std.specs.Prelude.{◌≡◌, ◌<◌, ◌≤◌, ◌-◌, leng
 ghost use Rattle.dim_hierarchy.specs.Concept.{level_of};
 ghost use Rattle.dim_hierarchy.specs.Tree.{IsConcept};
 ghost use Rattle.dim_hierarchy.specs.Dimension.{tree, IsHierarchy};
-ghost use Rattle.dim_hierarchy.specs.Filter.{IsPickOf};
+ghost use Rattle.dim_hierarchy.specs.Filter.{IsPickOf, pick_at};
+ghost use Rattle.dim_hierarchy.specs.Compiled.{is_related};
+ghost use Rattle.std.specs.List.{list_any};
 
-use crate::ids::{add_id, copy_ids, has_id};
+use crate::few::FewConcepts;
 use crate::picks::{is_met, is_picked};
-use arrayvec::ArrayVec;
-use dim_hierarchy::{ConceptId, Hierarchy, Pick};
+use dim_hierarchy::{CompiledFilter, ConceptId, Hierarchy, Pick};
 
 /// One dimension of a describing set: a level, and at most 6 concepts of it, ascending.
 #[derive(Debug, Default, Drop, PartialEq)]
 pub struct Part {
     pub level: u8,
-    pub ids: ArrayVec<ConceptId, 6>,
+    pub ids: FewConcepts,
 }
 
 impl Part {
@@ -26,7 +27,7 @@ impl Part {
     {
         Part {
             level: self.level,
-            ids: copy_ids(&self.ids),
+            ids: self.ids,
         }
     }
 
@@ -40,10 +41,10 @@ impl Part {
             ≡ ancestors (tree h.now dim) (self.old.level - 1) self.old.ids.items }
     {
         let level = self.level - 1;
-        let mut ids = ArrayVec::new();
+        let mut ids = FewConcepts::new();
         for id in self.ids.as_slice() {
             let parent = h.up(dim, *id, level);
-            let _fits = add_id(&mut ids, parent);
+            let _fits = ids.put(parent);
         }
         self.level = level;
         self.ids = ids;
@@ -62,7 +63,7 @@ impl Part {
     {
         loop {
             let ancestor = h.up(dim, id, self.level);
-            if add_id(&mut self.ids, ancestor) {
+            if self.ids.add(ancestor) {
                 return;
             }
             self.lift(h, dim);
@@ -102,12 +103,13 @@ impl Part {
 
     /// Whether the concept's ancestor at the part's level is in the part.
     pub(crate) fn covers(&self, h: &Hierarchy, dim: u8, id: ConceptId) -> bool
+        requires hierarchy { IsHierarchy h.now }
         requires dim { dim < length h.now }
         requires concept { IsConcept (tree h.now dim) id }
         requires level { self.now.level ≤ level_of id }
         ensures { result ≡ has_ancestor (tree h.now dim) self.now id }
     {
-        has_id(self.ids.as_slice(), h.up(dim, id, self.level))
+        self.ids.has(h.up(dim, id, self.level))
     }
 
     /// Whether the pick has each concept of the part.
@@ -134,4 +136,39 @@ impl Part {
     {
         !self.ids.is_empty() && is_met(h, dim, self.ids.as_slice(), pick)
     }
+
+    /// Whether the filter picks each concept of the part.
+    pub(crate) fn is_inside_of(&self, wanted: &CompiledFilter, dim: u8) -> bool
+        requires dim { dim < length wanted.now.hierarchy }
+        requires concepts { All (IsConcept (tree wanted.now.hierarchy dim)) self.now.ids.items }
+        ensures { result
+            ≡ is_part_inside (tree wanted.now.hierarchy dim) self.now (pick_at wanted.now.picks dim) }
+    {
+        for id in self.ids.as_slice() {
+            if !wanted.has(dim, *id) {
+                return false;
+            }
+        }
+        true
+    }
+
+    /// Whether the filter picks a concept of the part or lists one that is under it.
+    pub(crate) fn is_met_by(&self, wanted: &CompiledFilter, dim: u8) -> bool
+        requires dim { dim < length wanted.now.hierarchy }
+        requires concepts { All (IsConcept (tree wanted.now.hierarchy dim)) self.now.ids.items }
+        ensures { result
+            ≡ is_part_met (tree wanted.now.hierarchy dim) self.now (pick_at wanted.now.picks dim) }
+    {
+        meets_any(wanted, dim, self.ids.as_slice())
+    }
+}
+
+/// Whether the filter picks one of these concepts or lists one that is under one of them.
+fn meets_any(wanted: &CompiledFilter, dim: u8, ids: &[ConceptId]) -> bool
+    requires dim { dim < length wanted.now.hierarchy }
+    requires concepts { All (IsConcept (tree wanted.now.hierarchy dim)) ids.now }
+    ensures { result
+        ≡ list_any (is_related (tree wanted.now.hierarchy dim) (pick_at wanted.now.picks dim)) ids.now }
+{
+    ids.iter().any(|id| wanted.meets(dim, *id))
 }

@@ -1,18 +1,17 @@
 ghost use Rattle.std.specs.Prelude.{◌≡◌, ℕ, ◌<◌, ◌⊎◌, ◌↔◌, length, IsTrue, IsNone, IfSome};
 ghost use Rattle.dim_hierarchy.specs.Row.{IsCoordOf};
 
-use crate::ids::{copy_ids, has_id};
+use crate::few::FewConcepts;
 use crate::part::Part;
 use crate::set::DescSet;
-use arrayvec::ArrayVec;
-use dim_hierarchy::{ConceptId, Coord, Hierarchy};
+use dim_hierarchy::{Coord, Hierarchy};
 
 /// A level of a dimension, and the concepts of it whose rows go left, ascending.
 #[derive(Debug, Default, Drop, PartialEq)]
 pub struct Plane {
     pub dim: u8,
     pub level: u8,
-    pub left: ArrayVec<ConceptId, 6>,
+    pub left: FewConcepts,
 }
 
 impl Plane {
@@ -23,7 +22,7 @@ impl Plane {
         Plane {
             dim: self.dim,
             level: self.level,
-            left: copy_ids(&self.left),
+            left: self.left,
         }
     }
 }
@@ -63,7 +62,7 @@ pub fn plane_of(set: &DescSet) -> Option<Plane>
     if part.ids.len() < 2 {
         return None;
     }
-    let mut left = ArrayVec::new();
+    let mut left = FewConcepts::new();
     for id in &part.ids.as_slice()[..part.ids.len() / 2] {
         left.push(*id);
     }
@@ -83,5 +82,5 @@ pub fn goes_left(h: &Hierarchy, plane: &Plane, at: &Coord) -> bool
 {
     let id = at.concept(plane.dim);
     let ancestor = h.up(plane.dim, id, plane.level);
-    has_id(plane.left.as_slice(), ancestor)
+    plane.left.has(ancestor)
 }

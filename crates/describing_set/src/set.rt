@@ -5,9 +5,10 @@ ghost use Rattle.dim_hierarchy.specs.Dimension.{tree, IsHierarchy};
 ghost use Rattle.dim_hierarchy.specs.Row.{IsCoordOf};
 ghost use Rattle.dim_hierarchy.specs.Filter.{IsFilterOf, Matches};
 
+use crate::few::FewConcepts;
 use crate::part::Part;
 use arrayvec::ArrayVec;
-use dim_hierarchy::{Coord, Filter, Hierarchy};
+use dim_hierarchy::{CompiledFilter, Coord, Filter, Hierarchy};
 
 /// A part for each dimension. No call on sets takes memory.
 #[derive(Debug, Default, Drop, PartialEq)]
@@ -31,7 +32,7 @@ impl DescSet {
         for dim in 0..h.dims() {
             parts.push(Part {
                 level: h.levels(dim),
-                ids: ArrayVec::new(),
+                ids: FewConcepts::new(),
             });
         }
         DescSet { parts }
@@ -135,6 +136,42 @@ impl DescSet {
         h.dims() > 0
     }
 
+    /// As `inside`, of a compiled filter.
+    pub fn inside_of(&self, wanted: &CompiledFilter) -> bool
+        requires { IsDescSetOf wanted.now.hierarchy self.now }
+        ensures test { result ≡ is_inside wanted.now.hierarchy self.now wanted.now.picks }
+        ensures meaning { IsTrue result
+            ↔ IsInside wanted.now.hierarchy self.now wanted.now.picks }
+        ensures all_match { OnTrue result
+            ((at : Coord) → Covers wanted.now.hierarchy self.now at
+            → Matches wanted.now.hierarchy wanted.now.picks at) }
+    {
+        for dim in 0..wanted.dims() {
+            if !self.part_for(wanted, dim).is_inside_of(wanted, dim) {
+                return false;
+            }
+        }
+        true
+    }
+
+    /// As `overlaps`, with a compiled filter.
+    pub fn overlaps_with(&self, wanted: &CompiledFilter) -> bool
+        requires { IsDescSetOf wanted.now.hierarchy self.now }
+        ensures test { result ≡ overlaps wanted.now.hierarchy self.now wanted.now.picks }
+        ensures meaning { IsTrue result
+            ↔ Overlaps wanted.now.hierarchy self.now wanted.now.picks }
+        ensures none_match { OnFalse result (0 < length wanted.now.hierarchy
+            → (at : Coord) → Covers wanted.now.hierarchy self.now at
+            → ¬ Matches wanted.now.hierarchy wanted.now.picks at) }
+    {
+        for dim in 0..wanted.dims() {
+            if !self.part_for(wanted, dim).is_met_by(wanted, dim) {
+                return false;
+            }
+        }
+        wanted.dims() > 0
+    }
+
     /// In how many dimensions the coordinate is not covered.
     pub fn growth(&self, h: &Hierarchy, at: &Coord) -> u32
         requires set { IsDescSetOf h.now self.now }
@@ -207,6 +244,16 @@ impl DescSet {
         ensures part { IsPart (tree h.now dim) result.now }
         ensures concepts { All (IsConcept (tree h.now dim)) result.now.ids.items }
         ensures level { result.now.level ≤ leaf_level (tree h.now dim) }
+    {
+        &self.parts.as_slice()[usize::from(dim)]
+    }
+
+    /// The part in a dimension of a compiled filter's hierarchy.
+    fn part_for(&self, wanted: &CompiledFilter, dim: u8) -> &Part
+        requires dim { dim < length wanted.now.hierarchy }
+        requires set { IsDescSetOf wanted.now.hierarchy self.now }
+        ensures value { result.now ≡ part_at self.now dim }
+        ensures concepts { All (IsConcept (tree wanted.now.hierarchy dim)) result.now.ids.items }
     {
         &self.parts.as_slice()[usize::from(dim)]
     }

@@ -15,12 +15,12 @@ use Rattle.dim_hierarchy.specs.Dimension.{Dimension, IsDimension, IsHierarchy, I
 use Rattle.dim_hierarchy.proofs.Names.{same_name, get-insert_same, get-insert_other}
 use Rattle.dim_hierarchy.proofs.Places.{position-None}
 
-same_or_not : (a b : ℕ) → (a ≡ b) ⊎ (a ≢ b)
+pub same_or_not : (a b : ℕ) → (a ≡ b) ⊎ (a ≢ b)
 same_or_not a b = grind arith
 
 -- A tree with no concept but ALL.
 
-none_deeper : (n k : ℕ) → get_or (replicate n (let e : List ℕ = [] in e)) k [] ≡ []
+pub none_deeper : (n k : ℕ) → get_or (replicate n (let e : List ℕ = [] in e)) k [] ≡ []
 none_deeper n k = elim (cases_lt k n) [
   | inl h ↦ get_or-replicate n k [] [] h
   | inr h ↦ get_or_past (replicate n []) k [] (let e = length-replicate n (let x : List ℕ = [] in x) in omega (arith, e, h))
@@ -30,7 +30,7 @@ one_zero : (n : ℕ) → let xs : List ℕ = 0 ∷ [] in get_or xs n 0 ≡ 0
 one_zero zero = refl
 one_zero (suc n) = refl
 
-concept_of_new : (n id : ℕ) → IsConcept (new_tree n) id → level_of id ≡ 0
+pub concept_of_new : (n id : ℕ) → IsConcept (new_tree n) id → level_of id ≡ 0
 concept_of_new n id c = elim (level_of id) as (λ k. k ≡ level_of id → k ≡ 0) [
   | zero ↦ λ e. refl
   | suc k ↦ λ e.
@@ -64,10 +64,10 @@ IsDimension-new_dimension name n low high =
 
 -- A tree with a concept more.
 
-parents_same : (t : Tree) (p : ℕ) → level_of p + 1 < length t → parents_at (with_child t p) (level_of p + 1) ≡ parents_at t (level_of p + 1) ++ p ∷ []
+pub parents_same : (t : Tree) (p : ℕ) → level_of p + 1 < length t → parents_at (with_child t p) (level_of p + 1) ≡ parents_at t (level_of p + 1) ++ p ∷ []
 parents_same t p lt = get_or-set_same t (level_of p + 1) (parents_at t (level_of p + 1) ++ p ∷ []) [] lt
 
-parents_other : (t : Tree) (p level : ℕ) → level ≢ level_of p + 1 → parents_at (with_child t p) level ≡ parents_at t level
+pub parents_other : (t : Tree) (p level : ℕ) → level ≢ level_of p + 1 → parents_at (with_child t p) level ≡ parents_at t level
 parents_other t p level ne = get_or-set_other t (level_of p + 1) level (parents_at t (level_of p + 1) ++ p ∷ []) [] ne
 
 -- the concepts of before stay

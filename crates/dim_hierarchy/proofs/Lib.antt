@@ -1,8 +1,11 @@
 pub mod Ancestors
+pub mod Compiling
 pub mod Coordinates
 pub mod Dimensions
 pub mod Faults
 pub mod Growth
+pub mod Lineages
+pub mod Marking
 pub mod Matching
 pub mod Named
 pub mod Names

@@ -1,3 +1,4 @@
+//! Concepts as numbers.
 ghost use Rattle.std.specs.Prelude.{◌≡◌, ℕ, ◌<◌, ◌^◌};
 ghost use Rattle.dim_hierarchy.specs.Concept.{level_of, number_of, id_of};
 

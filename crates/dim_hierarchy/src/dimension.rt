@@ -1,5 +1,5 @@
 ghost use Rattle.std.specs.Prelude.{◌≡◌, ◌+◌, ◌≤◌, ◌<◌, ◌^◌, List, ℕ, length, is_some, IsSome, IfOk, OnOk, OnErr};
-ghost use Rattle.std.specs.List.{list_any};
+ghost use Rattle.std.specs.List.{list_any, slice_index_or};
 ghost use Rattle.std.specs.FinMap as map;
 ghost use Rattle.dim_hierarchy.specs.Concept.{level_of};
 ghost use Rattle.dim_hierarchy.specs.Tree.{IsConcept, IsTree, is_concept, is_under, leaf_level, next_under, parent, parents_at, up};
@@ -25,22 +25,44 @@ impl Model for Level {
     ghost view = { λ l. l.parents.items };
 }
 
+// A concept's ancestors by their level, itself at its own, and `ALL` past that.
+type Lineage = [ConceptId; 9];
+
+// The lineages of the concepts of one level, by number.
+#[derive(Drop)]
+struct LevelLineages {
+    all: Vec<Lineage>,
+}
+
+impl Model for LevelLineages {
+    ghost Value = { List (List ℕ) };
+
+    ghost view = { λ l. l.all.items };
+}
+
 /// A dimension. Contracts see its name, its tree of concepts and the concepts by name.
+///
+/// The tree is the parents in `levels`. The lineages have them too, but read off there a tree would
+/// be a map over lineages in each contract; so both are kept, and any ancestor is one read.
 #[derive(Drop)]
 pub struct DimensionTable {
     name: Name,
     levels: Vec<Level>,
+    lineages: Vec<LevelLineages>,
     names: NameTable,
 }
 
 impl Model for DimensionTable {
     ghost use Rattle.dim_hierarchy.specs.Dimension.{Dimension, dimension_code};
+    ghost use Rattle.dim_hierarchy.specs.Lineage.{AreLineagesOf};
 
     ghost Value = { Dimension };
 
     ghost coded = { dimension_code };
 
     ghost view = { λ d. record { name = d.name; tree = d.levels.items; names = d.names } };
+
+    ghost invariant = { λ d. AreLineagesOf d.levels.items d.lineages.items };
 }
 
 impl DimensionTable {
@@ -54,14 +76,22 @@ impl DimensionTable {
         all.push(Level {
             parents: vec![in alloc; ConceptId::ALL]?,
         })?;
+        let mut lineages = Vec::new(alloc);
+        lineages.push(LevelLineages {
+            all: vec![in alloc; [ConceptId::ALL; 9]]?,
+        })?;
         for _ in 0..levels {
             all.push(Level {
                 parents: Vec::new(alloc),
+            })?;
+            lineages.push(LevelLineages {
+                all: Vec::new(alloc),
             })?;
         }
         Ok(DimensionTable {
             name: Name::from_bytes(alloc, name.as_slice())?,
             levels: all,
+            lineages,
             names: NameTable::new(alloc),
         })
     }
@@ -73,21 +103,27 @@ impl DimensionTable {
         name: &Name,
         parent: ConceptId,
     ) -> Result<ConceptId, AllocError>
-        requires few { length self.old.tree ≤ 9 }
+        requires tree { IsTree self.old.tree }
+        requires concept { IsConcept self.old.tree parent }
         requires level { level_of parent + 1 < length self.old.tree }
         requires room { length (parents_at self.old.tree (level_of parent + 1)) < 2 ^ 28 }
         ensures id { IfOk result (λ id. id ≡ next_under self.old.tree parent) }
         ensures ok { OnOk result (self.new ≡ with_concept self.old name.now parent) }
         ensures err { OnErr result (self.new ≡ self.old) }
     {
-        // What can fail comes first: the key, room for the parent, and the name.
+        // What can fail comes first: the key, room for the parent and the lineage, and the name.
         let key = Name::from_bytes(alloc, name.as_slice())?;
         let below = parent.level() + 1;
+        let mut own = self.lineage(parent);
         let level = &mut self.levels[usize::from(below)];
         let id = ConceptId::new(below, level.parents.len() as u32);
+        own[usize::from(below)] = id;
+        let lineages = &mut self.lineages[usize::from(below)];
         level.parents.reserve(1)?;
+        lineages.all.reserve(1)?;
         self.names.add(key, id)?;
         level.parents.push(parent)?;
+        lineages.all.push(own)?;
         Ok(id)
     }
 
@@ -104,6 +140,15 @@ impl DimensionTable {
         ensures { result ≡ leaf_level self.now.tree }
     {
         (self.levels.len() - 1) as u8
+    }
+
+    /// How many concepts a level has.
+    pub fn level_len(&self, level: u8) -> usize
+        requires { level < length self.now.tree }
+        ensures { result ≡ length (parents_at self.now.tree level) }
+    {
+        let level = &self.levels[usize::from(level)];
+        level.parents.len()
     }
 
     /// The concept with a name.
@@ -134,6 +179,17 @@ impl DimensionTable {
         level.parents[id.number() as usize]
     }
 
+    // The lineage of a concept.
+    fn lineage(&self, id: ConceptId) -> Lineage
+        requires { IsConcept self.now.tree id }
+        ensures long { length result ≡ 9 }
+        ensures ancestors { (level : ℕ) → level ≤ level_of id
+            → slice_index_or result level 0 ≡ up self.now.tree id level }
+    {
+        let lineages = &self.lineages[usize::from(id.level())];
+        lineages.all[id.number() as usize]
+    }
+
     /// The ancestor of a concept at a level that is not below its own.
     pub fn up(&self, id: ConceptId, level: u8) -> ConceptId
         requires tree { IsTree self.now.tree }
@@ -141,11 +197,8 @@ impl DimensionTable {
         requires level { level ≤ level_of id }
         ensures { result ≡ up self.now.tree id level }
     {
-        let mut at = id;
-        while at.level() > level {
-            at = self.parent(at);
-        }
-        at
+        let lineages = &self.lineages[usize::from(id.level())];
+        lineages.all[id.number() as usize][usize::from(level)]
     }
 
     /// Whether the first concept is the second or is reached from it by parents.

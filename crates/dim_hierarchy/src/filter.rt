@@ -1,3 +1,4 @@
+//! Filters, by concept and by name.
 use crate::concept::ConceptId;
 use crate::items::{Items, Names};
 

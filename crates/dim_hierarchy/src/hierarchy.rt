@@ -1,3 +1,4 @@
+//! The dimensions together, and what rows and filters say over them.
 ghost use Rattle.std.specs.Prelude.{◌≡◌, ◌+◌, ◌<◌, ◌≤◌, ◌^◌, ◌↔◌, List, [], ℕ, ◌∷◌, ◌++◌, length, unwrap_or, position, is_none, All, Any, IsTrue, IsOk, IfOk, IfSome, IfNone, OnErr, IsOkUnless};
 ghost use Rattle.dim_hierarchy.specs.Concept.{level_of};
 ghost use Rattle.dim_hierarchy.specs.Tree.{IsConcept, is_concept, IsLeaf, leaf_level, up, is_under, IsUnder, next_under};
@@ -11,6 +12,9 @@ use crate::items::{Name, Names};
 use crate::row::Coord;
 use std::alloc::{AllocError, Global};
 use std::marker::Model;
+
+/// How many concepts a hierarchy has at most, so that a number of 28 bits is enough on each level.
+const MOST_CONCEPTS: u32 = 0x1000_0000;
 
 /// Why a dimension was not added.
 #[derive(Clone, Copy, Debug, PartialEq, Eq)]
@@ -85,8 +89,8 @@ impl Hierarchy {
         self.dims.len() as u8
     }
 
-    // The dimension with a number.
-    fn table(&self, dim: u8) -> &DimensionTable
+    /// The dimension with a number.
+    pub(crate) fn table(&self, dim: u8) -> &DimensionTable
         requires { dim < length self.now }
         ensures value { result.now ≡ dimension self.now dim }
         ensures valid { IsDimension result.now }
@@ -135,7 +139,7 @@ impl Hierarchy {
         }
     }
 
-    // What stands against a new dimension.
+    /// What stands against a new dimension.
     fn dim_fault(&self, name: &Name, levels: u8) -> Option<DimFault>
         ensures { result ≡ dim_fault self.now name.now levels }
     {
@@ -155,14 +159,14 @@ impl Hierarchy {
     ///
     /// The first fault in this order counts, and changes nothing: `NoDim` where there is no such
     /// dimension, `NoParent` where the parent is no concept of it, `Twice` where one of its
-    /// concepts has the name, `TooDeep` where the parent is on the leaf level.
+    /// concepts has the name, `TooDeep` where the parent is on the leaf level. Want of memory is
+    /// told as well where there are 2^28 concepts.
     pub fn add_concept(
         &mut self,
         dim: u8,
         name: &Name,
         parent: Option<ConceptId>,
     ) -> Result<ConceptId, ConceptFault>
-        requires { concept_count self.old < 2 ^ 28 }
         ensures fault { IfSome (concept_fault self.old dim name.now (unwrap_or parent 0))
             (λ fault. result ≡ Err fault) }
         ensures no_fault { IfNone (concept_fault self.old dim name.now (unwrap_or parent 0))
@@ -178,6 +182,9 @@ impl Hierarchy {
         if let Some(fault) = self.concept_fault(dim, name, parent) {
             return Err(fault);
         }
+        if self.concepts >= MOST_CONCEPTS {
+            return Err(ConceptFault::NoMemory);
+        }
         match self.dims[usize::from(dim)].add(self.alloc, name, parent) {
             Ok(id) => {
                 self.concepts += 1;
@@ -187,7 +194,7 @@ impl Hierarchy {
         }
     }
 
-    // What stands against a new concept.
+    /// What stands against a new concept.
     fn concept_fault(&self, dim: u8, name: &Name, parent: ConceptId) -> Option<ConceptFault>
         ensures { result ≡ concept_fault self.now dim name.now parent }
     {
@@ -243,12 +250,12 @@ impl Hierarchy {
         dim < self.dims() && self.table(dim).has(id)
     }
 
-    /// Whether the id is a concept of the dimension's last level.
+    /// Whether the id is a concept of the dimension's last level; never where there is no such
+    /// dimension.
     pub fn is_leaf(&self, dim: u8, id: ConceptId) -> bool
-        requires { dim < length self.now }
         ensures { IsTrue result ↔ IsLeaf (tree self.now dim) id }
     {
-        id.level() == self.levels(dim) && self.has(dim, id)
+        self.has(dim, id) && id.level() == self.levels(dim)
     }
 
     /// The ancestor of a concept at a level that is not below its own.
@@ -291,7 +298,7 @@ impl Hierarchy {
         Ok(Coord { at })
     }
 
-    // The leaf concept of a dimension's name among these.
+    /// The leaf concept of a dimension's name among these.
     fn leaf(&self, names: &Names, dim: u8) -> Option<ConceptId>
         requires count { length names.now ≡ length self.now }
         requires dim { dim < length self.now }
@@ -321,7 +328,7 @@ impl Hierarchy {
         }
     }
 
-    // The first dimension with a name that is not that of a concept.
+    /// The first dimension with a name that is not that of a concept.
     fn first_unknown(&self, names: &NameFilter) -> Option<u8>
         requires { length names.now ≡ length self.now }
         ensures { result ≡ position is_none (picks self.now names.now) }
@@ -335,7 +342,7 @@ impl Hierarchy {
         None
     }
 
-    // The filter of picks by names that are all known.
+    /// The filter of picks by names that are all known.
     fn picks(&self, alloc: Global, names: &NameFilter) -> Result<Filter, AllocError>
         requires count { length names.now ≡ length self.now }
         requires some { All IsNamePick names.now }

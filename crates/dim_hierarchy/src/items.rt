@@ -1,3 +1,4 @@
+//! Lists that contracts see as lists.
 ghost use Rattle.std.specs.Prelude.{◌≡◌, ◌==◌, List, [], ◌∷◌, ◌++◌, OnOk, OnErr, IfOk, length};
 
 use std::alloc::{AllocError, Global};

@@ -1,16 +1,21 @@
 //! Concept hierarchies, and the rows and filters over them.
 #![tactic(auto)]
 
+mod compiled;
+#[cfg(test)]
+mod compiled_tests;
 mod concept;
 mod dimension;
 mod filter;
 mod hierarchy;
 mod items;
+mod marks;
 mod name_table;
 mod row;
 #[cfg(test)]
 mod tests;
 
+pub use compiled::CompiledFilter;
 pub use concept::ConceptId;
 pub use filter::{Filter, IdList, NameFilter, NamePick, Pick};
 pub use hierarchy::{ConceptFault, DimFault, FilterFault, Hierarchy};

@@ -1,3 +1,4 @@
+//! The concepts of a dimension by name.
 ghost use Rattle.std.specs.Prelude.{◌≡◌, OnOk, OnErr};
 ghost use Rattle.std.specs.FinMap as map;
 

@@ -1,3 +1,4 @@
+//! Coordinates and rows.
 ghost use Rattle.std.specs.Prelude.{◌≡◌, ◌<◌};
 
 use crate::concept::ConceptId;

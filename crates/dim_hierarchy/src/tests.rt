@@ -36,13 +36,10 @@ fn add_concept(
     let Ok(name) = Name::from_bytes(alloc, name.as_bytes()) else {
         return Err(ConceptFault::NoMemory);
     };
-    if h.concepts() >= 0x1000_0000 {
-        return Err(ConceptFault::NoMemory);
-    }
     h.add_concept(dim, &name, parent)
 }
 
-/// The cities Berlin and Paris in their countries, and the colors red and blue.
+/// Three cities in their countries, and the colors red and blue.
 fn world(alloc: Global) -> Result<Hierarchy, Fail> {
     let mut h = Hierarchy::new(alloc);
     h.add_dim(&Name::from_bytes(alloc, b"geo")?, 2)?;
@@ -50,6 +47,7 @@ fn world(alloc: Global) -> Result<Hierarchy, Fail> {
     let de = add_concept(alloc, &mut h, 0, "de", None)?;
     let fr = add_concept(alloc, &mut h, 0, "fr", None)?;
     add_concept(alloc, &mut h, 0, "berlin", Some(de))?;
+    add_concept(alloc, &mut h, 0, "munich", Some(de))?;
     add_concept(alloc, &mut h, 0, "paris", Some(fr))?;
     add_concept(alloc, &mut h, 1, "red", None)?;
     add_concept(alloc, &mut h, 1, "blue", None)?;
@@ -103,6 +101,9 @@ fn concepts_are_added(rt: HostRuntime) -> Result<(), Fail> {
         assert_eq!(rt; add_concept(rt.alloc(), &mut h, dim, name, parent), answer);
     }
     assert_eq!(rt; h.concepts(), 4);
+    assert!(rt; h.is_leaf(0, ConceptId(0x2000_0001)));
+    assert!(rt; !h.is_leaf(0, ConceptId(0x1000_0001)));
+    assert!(rt; !h.is_leaf(1, ConceptId(0x2000_0001)));
     assert_eq!(rt; h.find_bytes(0, b"paris"), Some(ConceptId(0x2000_0001)));
     assert_eq!(rt; h.find_bytes(1, b"paris"), None);
     Ok(())
@@ -112,7 +113,7 @@ fn concepts_are_added(rt: HostRuntime) -> Result<(), Fail> {
 fn names_make_coordinates(rt: HostRuntime) -> Result<(), Fail> {
     let h = world(rt.alloc())?;
     let mut at = [ConceptId::ALL; 8];
-    at[0] = ConceptId(0x2000_0001);
+    at[0] = ConceptId(0x2000_0002);
     at[1] = ConceptId(0x1000_0001);
     let rows = [
         (["paris", "blue"], Ok(Coord { at })),

@@ -17,6 +17,6 @@ up-parent-requires-clause-level c =
 
 pub loop-id-preserved : goal.loop-id-preserved
 loop-id-preserved c =
-    let six : length c.as_slice-id-items.result.now ≤ 6 = omega (arith, c.as_slice-id-items.ensures.fits) in
-    add_mapped (λ id. up (tree c.args.h.now c.args.dim) id (c.args.self.now.level - 1)) c.as_slice-id-items.result.now c.loop-id.ids.items c.add_id-fits.new.ids.items c.loop-id.id-index c.id-item.result c.up-parent.result c.add_id-fits.result
-    c.loop-id-test.true six c.id-item.is c.up-parent.ensures c.loop-id.invariant.0 c.loop-id.invariant.1 c.add_id-fits.ensures.added c.add_id-fits.ensures.seventh
+    let six : length c.as_slice-id-items.result.now ≤ 6 = omega (arith, c.as_slice-id-items.ensures.few) in
+    add_mapped (λ id. up (tree c.args.h.now c.args.dim) id (c.args.self.now.level - 1)) c.as_slice-id-items.result.now c.loop-id.ids.items c.put-fits.new.self.items c.loop-id.id-index c.id-item.result c.up-parent.result c.put-fits.result
+    c.loop-id-test.true six c.id-item.is c.up-parent.ensures c.loop-id.invariant.0 c.loop-id.invariant.1 c.put-fits.ensures.added c.put-fits.ensures.seventh

@@ -1,0 +1,90 @@
+-- Membership in six places, read without a count.
+use Rattle.std.proofs.Common.{ℕ, zero, suc, ◌≡◌, ◌≢◌, ◌+◌, ◌-◌, ◌<◌, List, [], ◌∷◌, ◌++◌, length, take, set, Bool, true, false, eqb, refl, sym, ap, ◌∙◌, arith, get_or, length-append, append_assoc, inl, inr}
+use Rattle.std.specs.Prelude.{◌||◌, replicate}
+use Rattle.std.specs.List.{list_any}
+use Rattle.std.proofs.lemmas.Bool.{eqb-true}
+use Rattle.std.proofs.lemmas.List.{get_or_default, take_more_set, length-set}
+use Rattle.dim_hierarchy.specs.Tree.{Tree, IsConcept, IsTree}
+use Rattle.describing_set.specs.Ascending.{with_id, In, Ascends}
+use Rattle.describing_set.specs.Places.{no_concept, AreFew}
+use Rattle.describing_set.proofs.Sorted.{with_id-here, with_id-after, Below-In}
+
+-- no concept of a tree has the number of none
+pub concept_is_one : (t : Tree) → IsTree t → (id : ℕ) → IsConcept t id → id ≢ no_concept
+concept_is_one t w id c e = let few = w.few in let level = c.level in absurd (omega (arith, few, level, e))
+
+not_no_concept : (id : ℕ) → id ≢ no_concept → eqb no_concept id ≡ false
+not_no_concept id ne = elim (eqb no_concept id) as (λ b. b ≡ eqb no_concept id → b ≡ false) [
+  | true ↦ λ h. absurd (ne (sym (eqb-true no_concept id (sym h))))
+  | false ↦ λ h. refl
+] refl
+
+none_unused : (k id : ℕ) → id ≢ no_concept → list_any (λ x. eqb x id) (replicate k no_concept) ≡ false
+none_unused zero id ne = refl
+none_unused (suc k) id ne = ap (λ b. b || list_any (λ x. eqb x id) (replicate k no_concept)) (not_no_concept id ne) ∙ none_unused k id ne
+
+any-filled : (used : List ℕ) (k id : ℕ) → id ≢ no_concept → list_any (λ x. eqb x id) (used ++ replicate k no_concept) ≡ list_any (λ x. eqb x id) used
+any-filled [] k id ne = none_unused k id ne
+any-filled (x ∷ xs) k id ne = ap (λ b. eqb x id || b) (any-filled xs k id ne)
+
+-- the used places have what all six have
+pub any-take : (n : ℕ) (xs : List ℕ) (id : ℕ) → AreFew n xs → id ≢ no_concept → list_any (λ x. eqb x id) (take n xs) ≡ list_any (λ x. eqb x id) xs
+any-take n xs id f ne =
+    sym (any-filled (take n xs) (6 - length (take n xs)) id ne) ∙ ap (list_any (λ x. eqb x id)) f.unused
+
+or_false : (b : Bool) → (b || false) ≡ b
+or_false true = refl
+or_false false = refl
+
+-- what a compare of one place says
+pub read : (xs : List ℕ) (k r id : ℕ) (b : Bool) → k < length xs → b ≡ eqb (get_or xs k r) id → b ≡ eqb (get_or xs k 0) id
+read xs k r id b lt h = h ∙ ap (λ y. eqb y id) (get_or_default xs k r 0 lt)
+
+-- six compares
+pub any-six : (xs : List ℕ) (id : ℕ) → length xs ≡ 6
+    → list_any (λ x. eqb x id) xs
+    ≡ (eqb (get_or xs 0 0) id || (eqb (get_or xs 1 0) id || (eqb (get_or xs 2 0) id || (eqb (get_or xs 3 0) id || (eqb (get_or xs 4 0) id || eqb (get_or xs 5 0) id)))))
+any-six (a ∷ b ∷ c ∷ d ∷ e ∷ f ∷ []) id l = ap (λ z. eqb a id || (eqb b id || (eqb c id || (eqb d id || (eqb e id || z))))) (or_false (eqb f id))
+any-six [] id l = absurd (omega arith)
+any-six (a ∷ []) id l = absurd (omega arith)
+any-six (a ∷ b ∷ []) id l = absurd (omega arith)
+any-six (a ∷ b ∷ c ∷ []) id l = absurd (omega arith)
+any-six (a ∷ b ∷ c ∷ d ∷ []) id l = absurd (omega arith)
+any-six (a ∷ b ∷ c ∷ d ∷ e ∷ []) id l = absurd (omega arith)
+any-six (a ∷ b ∷ c ∷ d ∷ e ∷ f ∷ g ∷ xs) id l = absurd (omega arith)
+
+-- One place more is used.
+
+set-filled : (used : List ℕ) (k x : ℕ) → set (used ++ replicate (suc k) no_concept) (length used) x ≡ used ++ x ∷ replicate k no_concept
+set-filled [] k x = refl
+set-filled (y ∷ ys) k x = ap (λ l. y ∷ l) (set-filled ys k x)
+
+pub AreFew-more : (n x : ℕ) (xs : List ℕ) → AreFew n xs → n < 6 → AreFew (n + 1) (set xs n x)
+AreFew-more n x xs f lt =
+    let six = f.six in
+    let more : take (n + 1) (set xs n x) ≡ take n xs ++ x ∷ [] = take_more_set xs n x (omega arith) in
+    let used = f.used in
+    let long : length (take n xs ++ x ∷ []) ≡ n + 1 = length-append (take n xs) (x ∷ []) ∙ ap (λ k. k + 1) used in
+    let k : 6 - length (take n xs) ≡ suc (5 - n) = omega arith in
+    let filled : take n xs ++ replicate (suc (5 - n)) no_concept ≡ xs = ap (λ j. take n xs ++ replicate j no_concept) (sym k) ∙ f.unused in
+    let placed : set xs n x ≡ take n xs ++ x ∷ replicate (5 - n) no_concept =
+    ap (λ l. set l n x) (sym filled) ∙ ap (λ j. set (take n xs ++ replicate (suc (5 - n)) no_concept) j x) (sym used) ∙ set-filled (take n xs) (5 - n) x in
+    record {
+      few = omega arith;
+      six = length-set xs n x ∙ six;
+      used = ap length more ∙ long;
+      unused =
+          ap (λ l. l ++ replicate (6 - length l) no_concept) more
+          ∙ ap (λ j. (take n xs ++ x ∷ []) ++ replicate (6 - j) no_concept) long
+          ∙ ap (λ j. (take n xs ++ x ∷ []) ++ replicate j no_concept) (let e : 6 - (n + 1) ≡ 5 - n = omega arith in e)
+          ∙ append_assoc (take n xs) (x ∷ []) (replicate (5 - n) no_concept)
+          ∙ sym placed;
+    }
+
+-- a number of ascending ones is no number more
+pub with_id-member : (x : ℕ) (ys : List ℕ) → Ascends ys → In x ys → with_id x ys ≡ ys
+with_id-member x [] a i = absurd i
+with_id-member x (y ∷ ys) a i = elim i [
+  | inl q ↦ with_id-here x y ys q
+  | inr r ↦ with_id-after x y ys (Below-In y x ys a.0 r) ∙ ap (λ l. y ∷ l) (with_id-member x ys a.1 r)
+]

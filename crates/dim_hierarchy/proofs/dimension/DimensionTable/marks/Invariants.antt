@@ -1,0 +1,5 @@
+use Rattle.dim_hierarchy.specs.Marks.{AreUpperMarks}
+use Rattle.dim_hierarchy.proofs.dimension.DimensionTable.marks.Given as goal
+
+abbrev pub invariant-loop-level : goal.invariant-loop-level
+invariant-loop-level l = AreUpperMarks l.self.tree l.pick l.level l.levels.items

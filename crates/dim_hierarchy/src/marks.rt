@@ -1,0 +1,199 @@
+ghost use Rattle.std.specs.Prelude.{◌≡◌, ◌==◌, ◌<◌, ◌-◌, ℕ, List, [], All, length, if◌then◌else◌, slice_set, IfOk};
+ghost use Rattle.std.specs.List.{slice_index_or};
+ghost use Rattle.dim_hierarchy.specs.Concept.{level_of, number_of};
+ghost use Rattle.dim_hierarchy.specs.Tree.{IsConcept, IsTree, parent, parents_at};
+ghost use Rattle.dim_hierarchy.specs.Filter.{IsPickOf};
+ghost use Rattle.dim_hierarchy.specs.Marks.{AreLevelMarks, AreUpperMarks, AreMarksOf, AreListed, Notes, Inherits, mark_at};
+
+use crate::concept::ConceptId;
+use crate::dimension::DimensionTable;
+use crate::filter::Pick;
+use std::alloc::{AllocError, Global};
+use std::marker::Model;
+
+// The mark of a concept that is neither of these two.
+const APART: u8 = 0;
+
+// The mark of a concept that is not under a listed one, and above one.
+const ABOVE: u8 = 1;
+
+/// The mark of a concept that the pick has.
+pub const UNDER: u8 = 2;
+
+// The marks of the concepts of one level, by number.
+#[derive(Drop)]
+pub struct LevelMarks {
+    all: Vec<u8>,
+}
+
+impl Model for LevelMarks {
+    ghost Value = { List ℕ };
+
+    ghost view = { λ m. m.all.items };
+}
+
+/// The marks of the concepts of one dimension by a pick: whether it has the concept, and else
+/// whether the concept lies above a listed one.
+#[derive(Drop)]
+pub struct DimMarks {
+    levels: Vec<LevelMarks>,
+}
+
+impl Model for DimMarks {
+    ghost Value = { List (List ℕ) };
+
+    ghost view = { λ m. m.levels.items };
+}
+
+impl DimMarks {
+    /// The mark of a concept.
+    pub fn mark(&self, id: ConceptId) -> u8
+        requires level { level_of id < length self.now }
+        requires number { number_of id < length (slice_index_or self.now (level_of id) []) }
+        ensures { result ≡ mark_at self.now id }
+    {
+        let level = &self.levels[usize::from(id.level())];
+        level.all[id.number() as usize]
+    }
+}
+
+impl DimensionTable {
+    /// The marks of the concepts by a pick.
+    pub fn marks(&self, alloc: Global, pick: &Pick) -> Result<DimMarks, AllocError>
+        requires tree { IsTree self.now.tree }
+        requires pick { IsPickOf self.now.tree pick.now }
+        ensures { IfOk result (AreMarksOf self.now.tree pick.now) }
+    {
+        let mut levels = Vec::new(alloc);
+        for level in 0..self.leaf_level() + 1 {
+            let marks = self.level_marks(alloc, pick, level, levels.as_slice())?;
+            levels.push(marks)?;
+        }
+        Ok(DimMarks { levels })
+    }
+
+    // The marks of the concepts of a level, by those of the levels above.
+    fn level_marks(
+        &self,
+        alloc: Global,
+        pick: &Pick,
+        level: u8,
+        upper: &[LevelMarks],
+    ) -> Result<LevelMarks, AllocError>
+        requires tree { IsTree self.now.tree }
+        requires pick { IsPickOf self.now.tree pick.now }
+        requires level { level < length self.now.tree }
+        requires upper { AreUpperMarks self.now.tree pick.now level upper.now }
+        ensures { IfOk result (AreLevelMarks self.now.tree pick.now level) }
+    {
+        match pick {
+            Pick::All => {
+                let all = vec![in alloc; UNDER; self.level_len(level)]?;
+                Ok(LevelMarks { all })
+            }
+            Pick::Ids(ids) => self.listed_marks(alloc, ids.as_slice(), level, upper),
+        }
+    }
+
+    // The same where these concepts are listed.
+    fn listed_marks(
+        &self,
+        alloc: Global,
+        ids: &[ConceptId],
+        level: u8,
+        upper: &[LevelMarks],
+    ) -> Result<LevelMarks, AllocError>
+        requires tree { IsTree self.now.tree }
+        requires ids { All (IsConcept self.now.tree) ids.now }
+        requires level { level < length self.now.tree }
+        requires upper { AreUpperMarks self.now.tree (Pick.Ids ids.now) level upper.now }
+        ensures { IfOk result (AreLevelMarks self.now.tree (Pick.Ids ids.now) level) }
+    {
+        let mut all = vec![in alloc; APART; self.level_len(level)]?;
+        let marks = all.as_mut_slice();
+        self.note_all(level, ids, marks);
+        self.inherit(level, upper, marks);
+        Ok(LevelMarks { all })
+    }
+
+    // Marks the listed concepts of a level, and those that lie above a listed one.
+    fn note_all(&self, level: u8, ids: &[ConceptId], marks: &mut [u8])
+        requires tree { IsTree self.now.tree }
+        requires ids { All (IsConcept self.now.tree) ids.now }
+        requires level { level < length self.now.tree }
+        requires count { length marks.old ≡ length (parents_at self.now.tree level) }
+        requires none { AreListed self.now.tree level [] marks.old }
+        ensures { AreListed self.now.tree level ids.now marks.new }
+    {
+        for id in ids {
+            self.note(level, *id, marks);
+        }
+    }
+
+    // Marks a listed concept of a level, or that which lies above it.
+    fn note(&self, level: u8, id: ConceptId, marks: &mut [u8])
+        requires tree { IsTree self.now.tree }
+        requires concept { IsConcept self.now.tree id }
+        requires level { level < length self.now.tree }
+        requires count { length marks.old ≡ length (parents_at self.now.tree level) }
+        ensures { Notes self.now.tree level id marks.old marks.new }
+    {
+        if id.level() < level {
+            return;
+        }
+        let number = self.up(id, level).number() as usize;
+        if id.level() == level {
+            marks[number] = UNDER;
+        } else if marks[number] == APART {
+            marks[number] = ABOVE;
+        }
+    }
+
+    // Each concept of a level has the mark of its parent, where the pick has that.
+    fn inherit(&self, level: u8, upper: &[LevelMarks], marks: &mut [u8])
+        requires tree { IsTree self.now.tree }
+        requires level { level < length self.now.tree }
+        requires upper { length upper.now ≡ level }
+        requires each { (k : ℕ) → k < level
+            → length (slice_index_or upper.now k []) ≡ length (parents_at self.now.tree k) }
+        requires count { length marks.old ≡ length (parents_at self.now.tree level) }
+        ensures top { level ≡ 0 → marks.new ≡ marks.old }
+        ensures below { 0 < level
+            → Inherits self.now.tree level (slice_index_or upper.now (level - 1) []) marks.old marks.new }
+    {
+        if level > 0 {
+            let above = &upper[usize::from(level - 1)];
+            self.inherit_from(level, above.all.as_slice(), marks);
+        }
+    }
+
+    // The same from the marks of the level above.
+    fn inherit_from(&self, level: u8, upper: &[u8], marks: &mut [u8])
+        requires tree { IsTree self.now.tree }
+        requires level { level < length self.now.tree }
+        requires below { 0 < level }
+        requires upper { length upper.now ≡ length (parents_at self.now.tree (level - 1)) }
+        requires count { length marks.old ≡ length (parents_at self.now.tree level) }
+        ensures { Inherits self.now.tree level upper.now marks.old marks.new }
+    {
+        let count = marks.len().min(0x1000_0000);
+        for number in 0..count {
+            self.inherit_one(ConceptId::new(level, number as u32), upper, marks);
+        }
+    }
+
+    // The same for one concept.
+    fn inherit_one(&self, id: ConceptId, upper: &[u8], marks: &mut [u8])
+        requires tree { IsTree self.now.tree }
+        requires concept { IsConcept self.now.tree id }
+        requires upper { length upper.now ≡ length (parents_at self.now.tree (level_of id - 1)) }
+        requires count { length marks.old ≡ length (parents_at self.now.tree (level_of id)) }
+        ensures { marks.new
+            ≡ (if slice_index_or upper.now (number_of (parent self.now.tree id)) 0 == 2
+            then slice_set marks.old (number_of id) 2 else marks.old) }
+    {
+        if upper[self.parent(id).number() as usize] == UNDER {
+            marks[id.number() as usize] = UNDER;
+        }
+    }
+}
