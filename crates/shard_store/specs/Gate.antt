@@ -9,7 +9,8 @@ use Rattle.dc_node.specs.Summary.{IsSummaryOf}
 use Rattle.dc_node.specs.declared.entry.Entry.{Entry}
 use Rattle.shard_store.specs.declared.queue.Queue.{Queue}
 use Rattle.shard_store.specs.declared.gate.Gate.{Gate}
-use Rattle.shard_store.specs.declared.gate.Phase.TheVariants.{Open}
+use Rattle.shard_store.specs.declared.gate.Phase.{Phase}
+use Rattle.shard_store.specs.declared.gate.Phase.TheVariants.{Open, Frozen, Gone}
 
 -- the queue's aggregate and set are those of its rows, all of this hierarchy
 pub record IsQueueOf (h : List Dimension) (q : Queue) : Type 0 where
@@ -29,6 +30,12 @@ pub record IsNewGate (h : List Dimension) (shard root stamp height : ℕ) (total
   pub pins : g.pins ≡ 0
   pub empty : g.queue.rows ≡ []
   pub queue : IsQueueOf h g.queue
+
+-- inserts go to the queue, and the shard has no successors
+abbrev pub IsFrozen : Phase → Type 0
+IsFrozen Open = ⊥
+IsFrozen (Frozen upto) = Unit {0}
+IsFrozen Gone = ⊥
 
 -- the queue has one row more, at its end
 pub record Enqueues (h : List Dimension) (row : Row) (before now : Queue) : Type 0 where

@@ -1,4 +1,4 @@
-ghost use Rattle.std.specs.Prelude.{◌≡◌, ◌+◌, ◌<◌, ◌^◌, OnOk, OnErr};
+ghost use Rattle.std.specs.Prelude.{◌≡◌, ◌≢◌, ◌↔◌, ◌+◌, ◌<◌, ◌^◌, [], length, IsOk, IfErr, OnOk, OnErr};
 ghost use Rattle.dim_hierarchy.specs.Row.{IsRowOf};
 
 use crate::queue::Queue;
@@ -6,6 +6,7 @@ use describing_set::DescSet;
 use dim_hierarchy::{Hierarchy, Row};
 use measure_agg::Agg;
 use std::alloc::{AllocError, Global};
+use std::mem;
 
 /// Whether inserts enter the tree of a shard.
 #[derive(Clone, Copy, Debug, PartialEq, Eq)]
@@ -16,6 +17,12 @@ pub enum Phase {
     Frozen { upto: u64 },
     /// The shard has successors.
     Gone,
+}
+
+/// So many inserters are still inside the tree.
+#[derive(Clone, Copy, Debug, PartialEq, Eq)]
+pub struct NotYet {
+    pub active: u64,
 }
 
 /// The way into a shard: its tree, of which it has the root with the stamp that ends the root's
@@ -36,7 +43,7 @@ pub struct Gate {
 }
 
 impl Gate {
-    ghost use Rattle.shard_store.specs.Gate.{IsQueueOf, IsNewGate, Enqueues};
+    ghost use Rattle.shard_store.specs.Gate.{IsQueueOf, IsNewGate, IsFrozen, Enqueues};
 
     /// The open gate of a tree with this root, with nobody inside and an empty queue. `agg` and
     /// `set` are those of the tree's rows. Takes no memory.
@@ -93,5 +100,59 @@ impl Gate {
         ensures { self.old ≡ record self.new { active = self.new.active + 1 } }
     {
         self.active -= 1;
+    }
+
+    /// Counts a query that noted the root.
+    pub fn pin(&mut self)
+        requires { self.old.pins + 1 < 2 ^ 64 }
+        ensures { self.new ≡ record self.old { pins = self.old.pins + 1 } }
+    {
+        self.pins += 1;
+    }
+
+    /// Counts a query that noted the root and is at an end.
+    pub fn unpin(&mut self)
+        requires { 0 < self.old.pins }
+        ensures { self.old ≡ record self.new { pins = self.new.pins + 1 } }
+    {
+        self.pins -= 1;
+    }
+
+    /// Lets inserts go to the queue from now on. A gate that is frozen is frozen anew, at the length
+    /// that its queue has now.
+    pub fn freeze(&mut self)
+        requires { self.old.phase ≢ Phase.Gone }
+        ensures { self.new ≡ record self.old { phase = Phase.Frozen (length self.old.queue.rows) } }
+    {
+        let upto = self.queue.rows.len() as u64;
+        self.phase = Phase::Frozen { upto };
+    }
+
+    /// Whether no inserter is inside the tree.
+    pub fn drained(&self) -> Result<(), NotYet>
+        ensures ok { IsOk result ↔ (self.now.active ≡ 0) }
+        ensures err { IfErr result (λ e. e.active ≡ self.now.active) }
+    {
+        if self.active == 0 {
+            Ok(())
+        } else {
+            Err(NotYet {
+                active: self.active,
+            })
+        }
+    }
+
+    /// Says that the shard has successors, and hands its queue out for theirs. What leads to the
+    /// tree stays as it was, for the queries that noted the root. Takes no memory.
+    pub fn retire(&mut self, alloc: Global, h: &Hierarchy) -> Queue
+        requires frozen { IsFrozen self.old.phase }
+        requires drained { self.old.active ≡ 0 }
+        ensures queue { result ≡ self.old.queue }
+        ensures gone { self.new ≡ record self.old { phase = Phase.Gone; queue = self.new.queue } }
+        ensures empty { self.new.queue.rows ≡ [] }
+        ensures valid { IsQueueOf h.now self.new.queue }
+    {
+        self.phase = Phase::Gone;
+        mem::replace(&mut self.queue, Queue::new(alloc, h))
     }
 }

@@ -6,5 +6,5 @@ mod queue;
 #[cfg(test)]
 mod tests;
 
-pub use gate::{Gate, Phase};
+pub use gate::{Gate, NotYet, Phase};
 pub use queue::{Queue, RowList};

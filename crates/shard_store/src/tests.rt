@@ -1,7 +1,7 @@
 ghost use Rattle.std.specs.Prelude.{◌≡◌, length, IfOk};
 ghost use Rattle.dim_hierarchy.specs.Row.{IsRowOf};
 
-use crate::gate::{Gate, Phase};
+use crate::gate::{Gate, NotYet, Phase};
 use describing_set::DescSet;
 use dim_hierarchy::{Hierarchy, Name, Names, Row};
 use measure_agg::Agg;
@@ -73,5 +73,37 @@ fn counts_inserters(rt: HostRuntime) -> Result<(), Fail> {
     assert_eq!(rt; gate.active, 2);
     gate.leave();
     assert_eq!(rt; gate.active, 1);
+    Ok(())
+}
+
+#[test]
+fn a_frozen_gate_is_frozen_anew_and_retired(rt: HostRuntime) -> Result<(), Fail> {
+    let alloc = rt.alloc();
+    let h = hierarchy(alloc, b"a")?;
+    let mut gate = Gate::new(alloc, &h, 7, 3, 9, 2, Agg::one(1), DescSet::empty(&h));
+    gate.enter();
+    gate.freeze();
+    assert_eq!(rt; gate.phase, Phase::Frozen { upto: 0 });
+    assert_eq!(rt; gate.drained(), Err(NotYet { active: 1 }));
+
+    let row = row(alloc, &h, b'a', 5)?;
+    gate.enqueue(&h, &row)?;
+    gate.leave();
+    gate.pin();
+    gate.freeze();
+    assert_eq!(rt; gate.phase, Phase::Frozen { upto: 1 });
+    assert_eq!(rt; gate.drained(), Ok(()));
+
+    let queue = gate.retire(alloc, &h);
+    assert_eq!(rt; queue.rows.as_slice(), [row].as_slice());
+    assert_eq!(rt; gate.phase, Phase::Gone);
+    assert!(rt; gate.queue.rows.is_empty());
+    assert_eq!(rt;
+        (gate.root, gate.stamp, gate.height, gate.pins),
+        (3, 9, 2, 1)
+    );
+    assert_eq!(rt; gate.agg, Agg::one(1));
+    gate.unpin();
+    assert_eq!(rt; gate.pins, 0);
     Ok(())
 }

@@ -1,0 +1,10 @@
+//! The table of one worker: where the id of a shard leads.
+#![tactic(auto)]
+
+mod map_table;
+mod place;
+#[cfg(test)]
+mod tests;
+
+pub use map_table::MapTable;
+pub use place::Where;

@@ -1,0 +1,139 @@
+-- How the boxes of spots grow.
+use Rattle.std.proofs.Common.{ℕ, zero, suc, ◌≡◌, ◌+◌, ◌<◌, List, [], ◌∷◌, ◌++◌, length, get_or, set, take, drop, refl, sym, ap, ◌∙◌, subst, arith, All, add-zero}
+use Rattle.std.specs.Prelude.{◌==◌, if◌then◌else◌}
+use Rattle.std.specs.List.{AllZip, range_with_len}
+use Rattle.std.proofs.lemmas.List.{append-nil, append_assoc, take_more_set, drop-set-lt, length-set, get_or-drop, drop-drop}
+use Rattle.std.proofs.lemmas.List.{map-id}
+use Rattle.std.proofs.lemmas.List.FromFn.{map-range_with_len_more}
+use Rattle.std.proofs.lemmas.List.Elements.{All-append, All-cons, All-nil, All-set, all_zip_more}
+use Rattle.dim_hierarchy.specs.Dimension.{Dimension}
+use Rattle.dim_hierarchy.specs.Row.{IsCoordOf}
+use Rattle.dim_hierarchy.specs.declared.row.Coord.{Coord}
+use Rattle.describing_set.specs.Ascending.{Below, Ascends}
+use Rattle.describing_set.specs.DescSet.{IsSetOf, IsDescSetOf}
+use Rattle.describing_set.specs.declared.set.DescSet.{DescSet}
+use Rattle.describing_set.specs.declared.listing.Spot.{Spot}
+use Rattle.server_image.specs.declared.image.Growth.{Growth}
+use Rattle.server_image.specs.Spots.{ids_of, is_among, IsWidened, Widens, IsGrown, Grows, AreBoxes, along}
+use Rattle.server_image.specs.Registry.{IsFirst}
+use Rattle.server_image.specs.Image.{noted, AreGrowths}
+use Rattle.server_image.proofs.Lists.{by_test}
+
+-- Lists place by place.
+
+pub AllZip-snoc : {A B : Type 0} (R : A → B → Type 0) (xs : List A) (ys : List B) (x : A) (y : B) → AllZip R xs ys → R x y → AllZip R (xs ++ x ∷ []) (ys ++ y ∷ [])
+AllZip-snoc R [] [] x y all r = (r, tt)
+AllZip-snoc R [] (b ∷ ys) x y all r = absurd all
+AllZip-snoc R (a ∷ xs) [] x y all r = absurd all
+AllZip-snoc R (a ∷ xs) (b ∷ ys) x y all r = (all.0, AllZip-snoc R xs ys x y all.1 r)
+
+pub Widens-ids : (h : List Dimension) (ids : List ℕ) (by : DescSet) (xs ys : List Spot) → Widens h ids by xs ys → ids_of ys ≡ ids_of xs
+Widens-ids h ids by [] [] w = refl
+Widens-ids h ids by [] (y ∷ ys) w = absurd w
+Widens-ids h ids by (x ∷ xs) [] w = absurd w
+Widens-ids h ids by (x ∷ xs) (y ∷ ys) w = let first = w.0.shard in let rest = Widens-ids h ids by xs ys w.1 in cc
+
+pub Widens-length : (h : List Dimension) (ids : List ℕ) (by : DescSet) (xs ys : List Spot) → Widens h ids by xs ys → length ys ≡ length xs
+Widens-length h ids by [] [] w = refl
+Widens-length h ids by [] (y ∷ ys) w = absurd w
+Widens-length h ids by (x ∷ xs) [] w = absurd w
+Widens-length h ids by (x ∷ xs) (y ∷ ys) w = ap (λ n. suc n) (Widens-length h ids by xs ys w.1)
+
+-- one spot more is widened
+pub widens-more : (h : List Dimension) (ids : List ℕ) (by : DescSet) (before now : List Spot) (i : ℕ) (x y : Spot) → i < length now → length now ≡ length before → x ≡ get_or now i x → IsWidened h ids by x y → IsDescSetOf h y.set
+    → Widens h ids by (take i before) (take i now) → drop i now ≡ drop i before → AreBoxes h now
+    → Widens h ids by (take (i + 1) before) (take (i + 1) (set now i y)) × (drop (i + 1) (set now i y) ≡ drop (i + 1) before) × AreBoxes h (set now i y) × (length (set now i y) ≡ length before)
+widens-more h ids by before now i x y lt same is w valid front back boxes =
+    let here : get_or before i x ≡ get_or now i x = at_drop before ∙ sym (ap (λ l. get_or l 0 x) back) ∙ sym (at_drop now) in (
+      subst (Widens h ids by (take (i + 1) before)) (sym (take_more_set now i y lt))
+          (all_zip_more (IsWidened h ids by) before (take i now) i x y (omega (arith, lt, same)) (is ∙ sym here) front w),
+      drop-set-lt (i + 1) now i y (omega arith) ∙ drop_more now ∙ ap (drop 1) back ∙ sym (drop_more before),
+      All-set (λ s. IsDescSetOf h s.set) now i y valid boxes,
+      length-set now i y ∙ same,
+    )
+  where
+    at_drop : (l : List Spot) → get_or l i x ≡ get_or (drop i l) 0 x
+    at_drop l = ap (λ n. get_or l n x) (sym (add-zero i)) ∙ sym (get_or-drop i l 0 x)
+
+    drop_more : (l : List Spot) → drop (i + 1) l ≡ drop 1 (drop i l)
+    drop_more l = sym (drop-drop 1 i l)
+
+-- The box that is joined with the set of one coordinate grows by it.
+
+no_more : (h : List Dimension) (rows : List Coord) (set : DescSet) → IsSetOf h rows set → IsSetOf h (rows ++ []) set
+no_more h rows set s = subst (λ l. IsSetOf h l set) (sym (append-nil rows)) s
+
+pub IsWidened-IsGrown : (h : List Dimension) (path : List ℕ) (at : Coord) (by : DescSet) (old new : Spot) → IsCoordOf h at → IsSetOf h (at ∷ []) by → IsWidened h path by old new → IsGrown h (along path at old.shard) old new
+IsWidened-IsGrown h path at by old new valid one w = record {
+  shard = w.shard;
+  worker = w.worker;
+  set = λ rows all s. by_test (is_among path old.shard)
+      (λ e. subst (λ b. IsSetOf h (rows ++ (if b then at ∷ [] else [])) new.set) (sym e)
+      ((w.joined e).joined rows (at ∷ []) all (All-cons (IsCoordOf h) at [] valid (All-nil (IsCoordOf h))) s one))
+      (λ e. subst (λ b. IsSetOf h (rows ++ (if b then at ∷ [] else [])) new.set) (sym e)
+      (no_more h rows new.set (subst (λ d. IsSetOf h rows d) (sym (w.other e)) s)));
+}
+
+pub Widens-Grows : (h : List Dimension) (path : List ℕ) (at : Coord) (by : DescSet) (xs ys : List Spot) → IsCoordOf h at → IsSetOf h (at ∷ []) by → Widens h path by xs ys → Grows h (along path at) xs ys
+Widens-Grows h path at by [] [] valid one w = tt
+Widens-Grows h path at by [] (y ∷ ys) valid one w = absurd w
+Widens-Grows h path at by (x ∷ xs) [] valid one w = absurd w
+Widens-Grows h path at by (x ∷ xs) (y ∷ ys) valid one w = (IsWidened-IsGrown h path at by x y valid one w.0, Widens-Grows h path at by xs ys valid one w.1)
+
+-- One growth after another.
+
+pub Grows-nothing : (h : List Dimension) (xs : List Spot) → Grows h (noted []) xs xs
+Grows-nothing h [] = tt
+Grows-nothing h (x ∷ xs) = (record { shard = refl; worker = refl; set = λ rows all s. no_more h rows x.set s }, Grows-nothing h xs)
+
+noted-valid : (h : List Dimension) (gs : List Growth) (id : ℕ) → AreGrowths h gs → All (IsCoordOf h) (noted gs id)
+noted-valid h [] id all = All-nil (IsCoordOf h)
+noted-valid h (g ∷ gs) id all = by_test (g.shard == id)
+    (λ e. rw e (All-cons (IsCoordOf h) g.at (noted gs id) (all 0 g (omega arith)) (noted-valid h gs id (λ k d lt. all (suc k) d (omega (arith, lt))))))
+    (λ e. rw e (noted-valid h gs id (λ k d lt. all (suc k) d (omega (arith, lt)))))
+
+noted-push : (gs : List Growth) (g : Growth) (id : ℕ) → noted (gs ++ g ∷ []) id ≡ noted gs id ++ along (g.shard ∷ []) g.at id
+noted-push [] g id = by_test (g.shard == id) (λ e. rw e) (λ e. rw e)
+noted-push (x ∷ gs) g id = by_test (x.shard == id)
+    (λ e. rw e (ap (λ l. x.at ∷ l) (noted-push gs g id)))
+    (λ e. rw e (noted-push gs g id))
+
+IsGrown-again : (h : List Dimension) (a b : List Coord) (old mid new : Spot) → All (IsCoordOf h) a → IsGrown h a old mid → IsGrown h b mid new → IsGrown h (a ++ b) old new
+IsGrown-again h a b old mid new valid first second = record {
+  shard = second.shard ∙ first.shard;
+  worker = second.worker ∙ first.worker;
+  set = λ rows all s. subst (λ l. IsSetOf h l new.set) (append_assoc rows a b)
+      (second.set (rows ++ a) (All-append (IsCoordOf h) rows a all valid) (first.set rows all s));
+}
+
+pub Grows-more : (h : List Dimension) (gs : List Growth) (g : Growth) (xs ys zs : List Spot) → AreGrowths h gs → Grows h (noted gs) xs ys → Grows h (along (g.shard ∷ []) g.at) ys zs → Grows h (noted (gs ++ g ∷ [])) xs zs
+Grows-more h gs g [] [] [] valid first second = tt
+Grows-more h gs g [] [] (z ∷ zs) valid first second = absurd second
+Grows-more h gs g [] (y ∷ ys) zs valid first second = absurd first
+Grows-more h gs g (x ∷ xs) [] zs valid first second = absurd first
+Grows-more h gs g (x ∷ xs) (y ∷ ys) [] valid first second = absurd second
+Grows-more h gs g (x ∷ xs) (y ∷ ys) (z ∷ zs) valid first second = (
+  subst (λ l. IsGrown h l x z) (sym (noted-push gs g x.shard))
+      (IsGrown-again h (noted gs x.shard) (along (g.shard ∷ []) g.at x.shard) x y z (noted-valid h gs x.shard valid) first.0
+      (subst (λ id. IsGrown h (along (g.shard ∷ []) g.at id) y z) first.0.shard second.0)),
+  Grows-more h gs g xs ys zs valid first.1 second.1,
+)
+
+-- The first shards.
+
+pub first-ids : (h : List Dimension) (xs : List ℕ) (ys : List Spot) → AllZip (IsFirst h) xs ys → ids_of ys ≡ xs
+first-ids h [] [] all = refl
+first-ids h [] (y ∷ ys) all = absurd all
+first-ids h (x ∷ xs) [] all = absurd all
+first-ids h (x ∷ xs) (y ∷ ys) all = let first = all.0.shard in let rest = first-ids h xs ys all.1 in cc
+
+range-Below : (m a n : ℕ) → m < a → Below m (range_with_len a n)
+range-Below m a zero lt = tt
+range-Below m a (suc n) lt = (lt, range-Below m (a + 1) n (omega (arith, lt)))
+
+pub range-Ascends : (a n : ℕ) → Ascends (range_with_len a n)
+range-Ascends a zero = tt
+range-Ascends a (suc n) = (range-Below a (a + 1) n (omega arith), range-Ascends (a + 1) n)
+
+pub range-more : (n : ℕ) → range_with_len 0 (n + 1) ≡ range_with_len 0 n ++ n ∷ []
+range-more n = sym (map-id (range_with_len 0 (n + 1))) ∙ map-range_with_len_more (λ x. x) 0 n n (omega arith) ∙ ap (λ l. l ++ n ∷ []) (map-id (range_with_len 0 n))

@@ -1,0 +1,149 @@
+-- Lists of spots when one is found, taken out or put in.
+use Rattle.std.proofs.Common.{ℕ, suc, ◌≡◌, ◌+◌, ◌<◌, ◌≤◌, ◌⊎◌, inl, inr, Bool, true, false, Option, Some, None, List, [], ◌∷◌, length, refl, sym, ap, subst, arith}
+use Rattle.std.specs.Prelude.{◌==◌, nat_lt, position, unwrap_or, is_some}
+use Rattle.std.specs.List.{position_or_len, list_any, insert, remove}
+use Rattle.std.specs.Option.{option_or}
+use Rattle.std.proofs.lemmas.Bool.{false≢true, eqb-false, ltb-true, ltb-false}
+use Rattle.describing_set.specs.Ascending.{Below, Ascends, In}
+use Rattle.describing_set.specs.declared.listing.Spot.{Spot}
+use Rattle.server_image.specs.Spots.{ids_of, place_of, worker_in, without, with_spot}
+use Rattle.server_image.specs.Registry.{IsRegistry}
+
+-- a test is true or false
+pub by_test : {P : Type 0} (b : Bool) → (b ≡ true → P) → (b ≡ false → P) → P
+by_test {P} b then_it else_it = elim b as (λ v. (v ≡ true → P) → (v ≡ false → P) → P) [ true ↦ λ y n. y refl | false ↦ λ y n. n refl ] then_it else_it
+
+-- Places.
+
+pub position_or_len-le : {X : Type 0} (p : X → Bool) (xs : List X) → position_or_len p xs ≤ length xs
+position_or_len-le p [] = omega arith
+position_or_len-le p (x ∷ xs) = by_test (p x) (λ e. rw e (omega arith)) (λ e. rw e (omega (arith, position_or_len-le p xs)))
+
+-- the first place that passes, or the length
+pub unwrap-position : {X : Type 0} (p : X → Bool) (xs : List X) → unwrap_or (position p xs) (length xs) ≡ position_or_len p xs
+unwrap-position p xs = by_test (nat_lt (position_or_len p xs) (length xs))
+    (λ e. rw e)
+    (λ e. rw e (let le = position_or_len-le p xs in let ge = ltb-false (position_or_len p xs) (length xs) e in omega (arith, le, ge)))
+
+-- where one passes, the place is one of the list's
+pub place-within : {X : Type 0} (p : X → Bool) (xs : List X) → list_any p xs ≡ true → position_or_len p xs < length xs
+place-within p [] e = absurd (false≢true e)
+place-within p (x ∷ xs) e = by_test (p x)
+    (λ t. rw t (omega arith))
+    (λ t. rw t (omega (arith, place-within p xs (rw t at e))))
+
+-- A spot is put in or taken out.
+
+one_more : (n : ℕ) → 1 + n ≡ suc n
+one_more n = omega arith
+
+insert-later : (s x : Spot) (xs : List Spot) (n : ℕ) → insert (x ∷ xs) (1 + n) s ≡ x ∷ insert xs n s
+insert-later s x xs n = ap (λ m. insert (x ∷ xs) m s) (one_more n)
+
+remove-later : (x : Spot) (xs : List Spot) (n : ℕ) → remove (x ∷ xs) (1 + n) ≡ x ∷ remove xs n
+remove-later x xs n = ap (λ m. remove (x ∷ xs) m) (one_more n)
+
+with_spot-before : (s x : Spot) (xs : List Spot) → nat_lt s.shard x.shard ≡ true → with_spot s (x ∷ xs) ≡ s ∷ x ∷ xs
+with_spot-before s x xs e = rw e
+
+with_spot-after : (s x : Spot) (xs : List Spot) → nat_lt s.shard x.shard ≡ false → with_spot s (x ∷ xs) ≡ x ∷ with_spot s xs
+with_spot-after s x xs e = rw e (insert-later s x xs (position_or_len (λ y. nat_lt s.shard y.shard) xs))
+
+without-here : (id : ℕ) (x : Spot) (xs : List Spot) → (x.shard == id) ≡ true → without id (x ∷ xs) ≡ xs
+without-here id x xs e = rw e
+
+without-later : (id : ℕ) (x : Spot) (xs : List Spot) → (x.shard == id) ≡ false → without id (x ∷ xs) ≡ x ∷ without id xs
+without-later id x xs e = rw e (remove-later x xs (place_of id xs))
+
+pub with_spot-some : (s : Spot) (xs : List Spot) → 0 < length (with_spot s xs)
+with_spot-some s [] = omega arith
+with_spot-some s (x ∷ xs) = by_test (nat_lt s.shard x.shard)
+    (λ e. subst (λ l. 0 < length l) (sym (with_spot-before s x xs e)) (omega arith))
+    (λ e. subst (λ l. 0 < length l) (sym (with_spot-after s x xs e)) (omega arith))
+
+Below-lt : (m n : ℕ) (xs : List ℕ) → m < n → Below n xs → Below m xs
+Below-lt m n [] lt b = tt
+Below-lt m n (x ∷ xs) lt b = (let first = b.0 in omega (arith, first), Below-lt m n xs lt b.1)
+
+Below-without : (n id : ℕ) (xs : List Spot) → Below n (ids_of xs) → Below n (ids_of (without id xs))
+Below-without n id [] b = tt
+Below-without n id (x ∷ xs) b = by_test (x.shard == id)
+    (λ e. subst (λ l. Below n (ids_of l)) (sym (without-here id x xs e)) b.1)
+    (λ e. subst (λ l. Below n (ids_of l)) (sym (without-later id x xs e)) (b.0, Below-without n id xs b.1))
+
+pub Ascends-without : (id : ℕ) (xs : List Spot) → Ascends (ids_of xs) → Ascends (ids_of (without id xs))
+Ascends-without id [] a = tt
+Ascends-without id (x ∷ xs) a = by_test (x.shard == id)
+    (λ e. subst (λ l. Ascends (ids_of l)) (sym (without-here id x xs e)) a.1)
+    (λ e. subst (λ l. Ascends (ids_of l)) (sym (without-later id x xs e)) (Below-without x.shard id xs a.0, Ascends-without id xs a.1))
+
+Below-with_spot : (n : ℕ) (s : Spot) (xs : List Spot) → n < s.shard → Below n (ids_of xs) → Below n (ids_of (with_spot s xs))
+Below-with_spot n s [] lt b = (lt, tt)
+Below-with_spot n s (x ∷ xs) lt b = by_test (nat_lt s.shard x.shard)
+    (λ e. subst (λ l. Below n (ids_of l)) (sym (with_spot-before s x xs e)) (lt, b))
+    (λ e. subst (λ l. Below n (ids_of l)) (sym (with_spot-after s x xs e)) (b.0, Below-with_spot n s xs lt b.1))
+
+pub Ascends-with_spot : (s : Spot) (xs : List Spot) → ¬ In s.shard (ids_of xs) → Ascends (ids_of xs) → Ascends (ids_of (with_spot s xs))
+Ascends-with_spot s [] new a = (tt, tt)
+Ascends-with_spot s (x ∷ xs) new a = by_test (nat_lt s.shard x.shard)
+    (λ e.
+    let lt : s.shard < x.shard = ltb-true s.shard x.shard e in
+    subst (λ l. Ascends (ids_of l)) (sym (with_spot-before s x xs e)) ((lt, Below-lt s.shard x.shard (ids_of xs) lt a.0), a))
+    (λ e.
+    let ge = ltb-false s.shard x.shard e in
+    let apart : s.shard ≡ x.shard → ⊥ = λ same. new (inl same) in
+    let gt : x.shard < s.shard = omega (arith, ge, apart) in
+    subst (λ l. Ascends (ids_of l)) (sym (with_spot-after s x xs e)) (Below-with_spot x.shard s xs gt a.0, Ascends-with_spot s xs (λ i. new (inr i)) a.1))
+
+-- Ids that are new.
+
+pub In-without : (z id : ℕ) (xs : List Spot) → In z (ids_of (without id xs)) → In z (ids_of xs)
+In-without z id [] i = i
+In-without z id (x ∷ xs) i = by_test (x.shard == id)
+    (λ e. inr (subst (λ l. In z (ids_of l)) (without-here id x xs e) i))
+    (λ e. elim (subst (λ l. In z (ids_of l)) (without-later id x xs e) i) [ inl here ↦ inl here | inr later ↦ inr (In-without z id xs later) ])
+
+pub In-with_spot : (z : ℕ) (s : Spot) (xs : List Spot) → In z (ids_of (with_spot s xs)) → (z ≡ s.shard) ⊎ In z (ids_of xs)
+In-with_spot z s [] i = i
+In-with_spot z s (x ∷ xs) i = by_test (nat_lt s.shard x.shard)
+    (λ e. subst (λ l. In z (ids_of l)) (with_spot-before s x xs e) i)
+    (λ e. elim (subst (λ l. In z (ids_of l)) (with_spot-after s x xs e) i) [
+      | inl here ↦ inr (inl here)
+      | inr later ↦ elim (In-with_spot z s xs later) [ inl same ↦ inl same | inr old ↦ inr (inr old) ]
+    ])
+
+none≢some : (w : ℕ) → Some w ≡ None → ⊥
+none≢some w e = cc
+
+pub not_in : (id : ℕ) (xs : List Spot) → worker_in id xs ≡ None → ¬ In id (ids_of xs)
+not_in id [] none = λ i. i
+not_in id (x ∷ xs) none = by_test (x.shard == id)
+    (λ e. absurd (none≢some x.worker (rw e at none)))
+    (λ e. λ i. elim i [
+      | inl here ↦ eqb-false x.shard id e (sym here)
+      | inr later ↦ not_in id xs (rw e at none) later
+    ])
+
+pub first_none : (a b : Option ℕ) → option_or a b ≡ None → a ≡ None
+first_none None b e = refl
+first_none (Some w) b e = absurd (none≢some w e)
+
+none_is : (o : Option ℕ) → is_some o ≡ false → o ≡ None
+none_is None e = refl
+none_is (Some w) e = absurd (false≢true (sym e))
+
+-- what has no host is not on the frontier
+pub new_id : (id : ℕ) (xs old : List Spot) → is_some (option_or (worker_in id xs) (worker_in id old)) ≡ false → ¬ In id (ids_of xs)
+new_id id xs old none = not_in id xs (first_none (worker_in id xs) (worker_in id old) (none_is (option_or (worker_in id xs) (worker_in id old)) none))
+
+-- a registry after a split
+pub IsRegistry-split : (id : ℕ) (left right : Spot) (xs old now : List Spot) → IsRegistry (record { frontier = xs; retired = old }) → ¬ In left.shard (ids_of xs) → ¬ In right.shard (ids_of xs) → (left.shard ≡ right.shard → ⊥)
+    → IsRegistry (record { frontier = with_spot right (with_spot left (without id xs)); retired = now })
+IsRegistry-split id left right xs old now r new_left new_right apart =
+    let rest = without id xs in
+    record {
+      some = with_spot-some right (with_spot left rest);
+      ascending = Ascends-with_spot right (with_spot left rest)
+          (λ i. elim (In-with_spot right.shard left rest i) [ inl same ↦ apart (sym same) | inr had ↦ new_right (In-without right.shard id xs had) ])
+          (Ascends-with_spot left rest (λ i. new_left (In-without left.shard id xs i)) (Ascends-without id xs r.ascending));
+    }

@@ -1,0 +1,56 @@
+use Rattle.std.proofs.Common.{List, ◌≡◌, ◌∙◌, ◌++◌, ◌∷◌, [], get_or, subst, sym, ap, arith, Some, true}
+use Rattle.std.specs.Prelude.{◌==◌, IsTrue, IsNone}
+use Rattle.std.specs.List.{remove}
+use Rattle.std.proofs.lemmas.Option.{slice_get-get_or}
+use Rattle.describing_set.specs.declared.listing.Spot.{Spot}
+use Rattle.server_image.specs.Spots.{is_listed, place_of, without, with_spot}
+use Rattle.server_image.specs.Registry.{RegistryValue, IsRegistry, IsSplit, on_frontier, host_of}
+use Rattle.server_image.proofs.Lists.{place-within, new_id, IsRegistry-split}
+use Rattle.server_image.proofs.registry.Registry.split.Goals as goal
+
+pub remove-spot-requires : goal.remove-spot-requires
+remove-spot-requires c =
+    let xs = c.self.inside.frontier.items in
+    let on : is_listed c.args.id xs ≡ true = subst (λ (v : RegistryValue). IsTrue (on_frontier c.args.id v)) (sym c.self.view_is) c.requires.frontier in
+    let within = place-within (λ (s : Spot). s.shard == c.args.id) xs on in
+    let place : c.place_of.result ≡ place_of c.args.id xs = c.place_of.ensures ∙ ap (place_of c.args.id) (c.deref.ensures.value ∙ c.reserve.ensures.items) in
+    omega (arith, within, place, c.self.inside.frontier.ok, c.reserve.ensures.len)
+
+pub invariant_of-self-2 : goal.invariant_of-self-2
+invariant_of-self-2 c =
+    let xs = c.self.inside.frontier.items in
+    let id = c.args.id in
+    let spot = c.remove-spot.result in
+    let left : Spot = record { shard = c.args.left; worker = spot.worker; set = c.args.left_box } in
+    let right : Spot = record { shard = c.args.right; worker = spot.worker; set = c.args.right_box } in
+    let items = c.reserve.ensures.items in
+    let place : c.place_of.result ≡ place_of id xs = c.place_of.ensures ∙ ap (place_of id) (c.deref.ensures.value ∙ items) in
+    let out : c.remove-spot.new.self.items ≡ without id xs = c.remove-spot.ensures.items ∙ ap (λ (l : List Spot). remove l c.place_of.result) items ∙ ap (remove xs) place in
+    let all : c.put_spot-2.new.spots.items ≡ with_spot right (with_spot left (without id xs)) =
+    c.put_spot-2.ensures.spots ∙ ap (with_spot right) (c.put_spot.ensures.spots ∙ ap (with_spot left) out) in
+    let none_left = subst (λ (v : RegistryValue). IsNone (host_of c.args.left v)) (sym c.self.view_is) c.requires.left in
+    let none_right = subst (λ (v : RegistryValue). IsNone (host_of c.args.right v)) (sym c.self.view_is) c.requires.right in
+    let old = c.self.inside.retired.items in
+    subst (λ (l : List Spot). IsRegistry (record { frontier = l; retired = c.push_reserved.new.self.items })) (sym all)
+    (IsRegistry-split id left right xs old c.push_reserved.new.self.items c.self.invariant (new_id c.args.left xs old none_left) (new_id c.args.right xs old none_right) c.requires.apart)
+
+pub returns-clause-ok : goal.returns-clause-ok
+returns-clause-ok c =
+    let xs = c.self.inside.frontier.items in
+    let id = c.args.id in
+    let spot = c.remove-spot.result in
+    let left : Spot = record { shard = c.args.left; worker = spot.worker; set = c.args.left_box } in
+    let right : Spot = record { shard = c.args.right; worker = spot.worker; set = c.args.right_box } in
+    let items = c.reserve.ensures.items in
+    let place : c.place_of.result ≡ place_of id xs = c.place_of.ensures ∙ ap (place_of id) (c.deref.ensures.value ∙ items) in
+    let out : c.remove-spot.new.self.items ≡ without id xs = c.remove-spot.ensures.items ∙ ap (λ (l : List Spot). remove l c.place_of.result) items ∙ ap (remove xs) place in
+    let on : is_listed id xs ≡ true = subst (λ (v : RegistryValue). IsTrue (on_frontier id v)) (sym c.self.view_is) c.requires.frontier in
+    let within = place-within (λ (s : Spot). s.shard == id) xs on in
+    let now : RegistryValue = record { frontier = c.put_spot-2.new.spots.items; retired = c.push_reserved.new.self.items } in
+    subst (λ (v : RegistryValue). IsSplit id c.args.left c.args.left_box c.args.right c.args.right_box v now) c.self.view_is (record {
+      spot = spot;
+      was = slice_get-get_or xs (place_of id xs) spot within
+          ∙ ap Some (ap (λ p. get_or xs p spot) (sym place) ∙ ap (λ (l : List Spot). get_or l c.place_of.result spot) (sym items) ∙ sym c.remove-spot.ensures.value);
+      retired = c.push_reserved.ensures.items ∙ ap (λ (l : List Spot). l ++ spot ∷ []) c.reserve-2.ensures.items;
+      frontier = c.put_spot-2.ensures.spots ∙ ap (with_spot right) (c.put_spot.ensures.spots ∙ ap (with_spot left) out);
+    })

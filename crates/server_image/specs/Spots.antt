@@ -1,0 +1,69 @@
+-- Lists of spots: finding one, and how their boxes grow.
+use Rattle.std.specs.Prelude.{ℕ, ◌≡◌, ◌==◌, nat_lt, Bool, true, false, if◌then◌else◌, Option, Some, None, List, [], ◌∷◌, ◌++◌, map, All}
+use Rattle.std.specs.List.{AllZip, insert, remove, position_or_len, list_any}
+use Rattle.dim_hierarchy.specs.declared.row.Coord.{Coord}
+use Rattle.dim_hierarchy.specs.Dimension.{Dimension}
+use Rattle.dim_hierarchy.specs.Row.{IsCoordOf}
+use Rattle.describing_set.specs.DescSet.{IsSetOf, IsDescSetOf, JoinsTo}
+use Rattle.describing_set.specs.declared.set.DescSet.{DescSet}
+use Rattle.describing_set.specs.declared.listing.Spot.{Spot}
+
+-- the boxes are sets of this hierarchy
+abbrev pub AreBoxes : List Dimension → List Spot → Type 0
+AreBoxes h spots = All (λ s. IsDescSetOf h s.set) spots
+
+-- the ids of the spots
+abbrev pub ids_of : List Spot → List ℕ
+ids_of spots = map (λ s. s.shard) spots
+
+-- a spot has this id
+abbrev pub is_listed : ℕ → List Spot → Bool
+is_listed id spots = list_any (λ s. s.shard == id) spots
+
+-- the place of the first spot of this id; past the last one where there is none
+abbrev pub place_of : ℕ → List Spot → ℕ
+place_of id spots = position_or_len (λ s. s.shard == id) spots
+
+-- the worker of the first spot of this id
+abbrev pub worker_in : ℕ → List Spot → Option ℕ
+worker_in id [] = None
+worker_in id (s ∷ spots) = if s.shard == id then Some s.worker else worker_in id spots
+
+-- the list without the first spot of this id
+abbrev pub without : ℕ → List Spot → List Spot
+without id spots = remove spots (place_of id spots)
+
+-- the list with a spot more, before the first one of a higher id
+abbrev pub with_spot : Spot → List Spot → List Spot
+with_spot s spots = insert spots (position_or_len (λ x. nat_lt s.shard x.shard) spots) s
+
+-- Growth.
+
+-- one of the ids
+abbrev pub is_among : List ℕ → ℕ → Bool
+is_among ids id = list_any (λ x. x == id) ids
+
+-- the box is joined with a set where the spot has one of these ids; nothing else changes
+pub record IsWidened (h : List Dimension) (ids : List ℕ) (by : DescSet) (old new : Spot) : Type 0 where
+  pub shard : new.shard ≡ old.shard
+  pub worker : new.worker ≡ old.worker
+  pub joined : is_among ids old.shard ≡ true → JoinsTo h old.set by new.set
+  pub other : is_among ids old.shard ≡ false → new.set ≡ old.set
+
+-- the box of each spot of these ids is joined with a set
+abbrev pub Widens : List Dimension → List ℕ → DescSet → List Spot → List Spot → Type 0
+Widens h ids by before now = AllZip (IsWidened h ids by) before now
+
+-- the box becomes that of its coordinates with these; nothing else changes
+pub record IsGrown (h : List Dimension) (more : List Coord) (old new : Spot) : Type 0 where
+  pub shard : new.shard ≡ old.shard
+  pub worker : new.worker ≡ old.worker
+  pub set : (rows : List Coord) → All (IsCoordOf h) rows → IsSetOf h rows old.set → IsSetOf h (rows ++ more) new.set
+
+-- the box of each spot grows by the coordinates that its id has
+abbrev pub Grows : List Dimension → (ℕ → List Coord) → List Spot → List Spot → Type 0
+Grows h more before now = AllZip (λ old new. IsGrown h (more old.shard) old new) before now
+
+-- a coordinate for each of these ids, and none for others
+abbrev pub along : List ℕ → Coord → ℕ → List Coord
+along ids at id = if is_among ids id then at ∷ [] else []

@@ -1,0 +1,120 @@
+ghost use Rattle.std.specs.Prelude.{◌≡◌, ◌==◌, ◌+◌, ◌<◌, ◌≤◌, ◌++◌, nat_lt, length, vec_len, vec_capacity};
+ghost use Rattle.std.specs.List.{position_or_len, position};
+ghost use Rattle.dim_hierarchy.specs.Row.{IsCoordOf};
+ghost use Rattle.describing_set.specs.DescSet.{IsDescSetOf};
+ghost use Rattle.server_image.specs.Spots.{AreBoxes, is_among, is_listed, place_of, worker_in, with_spot, IsWidened, Widens, along, Grows};
+
+use describing_set::{DescSet, Spot};
+use dim_hierarchy::{Coord, Hierarchy};
+
+/// Whether a spot has this id.
+pub fn is_listed(id: u32, spots: &[Spot]) -> bool
+    ensures { result ≡ is_listed id spots.now }
+{
+    spots.iter().any(|spot| spot.shard == id)
+}
+
+/// The place of the first spot of this id.
+fn find(id: u32, spots: &[Spot]) -> Option<usize>
+    ensures { result ≡ position (λ x. x.shard == id) spots.now }
+{
+    spots.iter().position(|spot| spot.shard == id)
+}
+
+/// The place of the first spot of this id; past the last one where there is none.
+pub fn place_of(id: u32, spots: &[Spot]) -> usize
+    ensures { result ≡ place_of id spots.now }
+{
+    find(id, spots).unwrap_or(spots.len())
+}
+
+/// The place of the first spot of a higher id.
+fn find_above(id: u32, spots: &[Spot]) -> Option<usize>
+    ensures { result ≡ position (λ x. nat_lt id x.shard) spots.now }
+{
+    spots.iter().position(|spot| id < spot.shard)
+}
+
+/// The place of the first spot of a higher id; past the last one where there is none.
+fn place_for(id: u32, spots: &[Spot]) -> usize
+    ensures value { result ≡ position_or_len (λ x. nat_lt id x.shard) spots.now }
+    ensures few { result ≤ length spots.now }
+{
+    find_above(id, spots).unwrap_or(spots.len())
+}
+
+/// The worker of the first spot of this id.
+pub fn worker_in(id: u32, spots: &[Spot]) -> Option<u8>
+    ensures { result ≡ worker_in id spots.now }
+{
+    for spot in spots {
+        if spot.shard == id {
+            return Some(spot.worker);
+        }
+    }
+    None
+}
+
+/// Adds a spot before the first one of a higher id. Takes no memory: there is room.
+pub fn put_spot(spots: &mut Vec<Spot>, spot: Spot)
+    requires { vec_len spots.old < vec_capacity spots.old }
+    ensures spots { spots.new.items ≡ with_spot spot spots.old.items }
+    ensures len { vec_len spots.new ≡ vec_len spots.old + 1 }
+    ensures capacity { vec_capacity spots.old ≤ vec_capacity spots.new }
+{
+    let place = place_for(spot.shard, spots);
+    let put = spots.insert(place, spot);
+    prove!(put.is_ok());
+}
+
+/// Adds copies of these spots at the end. Takes no memory: there is room.
+pub fn copy_spots(spots: &[Spot], into: &mut Vec<Spot>)
+    requires { vec_len into.old + length spots.now ≤ vec_capacity into.old }
+    ensures spots { into.new.items ≡ into.old.items ++ spots.now }
+    ensures capacity { vec_capacity into.new ≡ vec_capacity into.old }
+{
+    for spot in spots {
+        into.push_reserved(spot.copy());
+    }
+}
+
+/// Joins a spot's box with a set where it has one of these ids.
+fn widen_spot(spot: &mut Spot, ids: &[u32], by: &DescSet, h: &Hierarchy)
+    requires box_of { IsDescSetOf h.now spot.old.set }
+    requires by { IsDescSetOf h.now by.now }
+    ensures widened { IsWidened h.now ids.now by.now spot.old spot.new }
+    ensures valid { IsDescSetOf h.now spot.new.set }
+{
+    if is_among(ids, spot.shard) {
+        spot.set = spot.set.join(h, by);
+    }
+}
+
+/// Whether the id is one of these.
+fn is_among(ids: &[u32], id: u32) -> bool
+    ensures { result ≡ is_among ids.now id }
+{
+    ids.iter().any(|x| *x == id)
+}
+
+/// Joins the box of each spot of these ids with a set.
+pub fn widen_spots(spots: &mut Vec<Spot>, ids: &[u32], by: &DescSet, h: &Hierarchy)
+    requires boxes { AreBoxes h.now spots.old.items }
+    requires by { IsDescSetOf h.now by.now }
+    ensures widened { Widens h.now ids.now by.now spots.old.items spots.new.items }
+    ensures boxes { AreBoxes h.now spots.new.items }
+{
+    for place in 0..spots.len() {
+        widen_spot(&mut spots[place], ids, by, h);
+    }
+}
+
+/// Grows the box of each spot of these ids by a coordinate.
+pub fn grow_spots(spots: &mut Vec<Spot>, ids: &[u32], at: &Coord, h: &Hierarchy)
+    requires boxes { AreBoxes h.now spots.old.items }
+    requires at { IsCoordOf h.now at.now }
+    ensures grown { Grows h.now (along ids.now at.now) spots.old.items spots.new.items }
+    ensures boxes { AreBoxes h.now spots.new.items }
+{
+    widen_spots(spots, ids, &DescSet::of_coord(h, at), h);
+}
