@@ -9,7 +9,7 @@ ghost use Rattle.tree_shape.specs.Trees.{leaf_without_rows};
 ghost use Rattle.block_cells.specs.Blocks.{block_at, with_fresh};
 
 use arrayvec::ArrayVec;
-use dc_node::Block;
+use dc_node::{Blanks, Block};
 use dim_hierarchy::{Hierarchy, Row};
 use link_descent::{Fresh, pass_down, put_leaf};
 use std::alloc::{AllocError, Global};
@@ -169,17 +169,19 @@ impl Blocks {
         pass_down(&mut self.made[at], place, h, row);
     }
 
-    /// Puts a row into the leaf in a cell.
-    pub fn settle(&mut self, cell: u32, row: &Row)
+    /// Puts a row into the leaf in a cell. The first one's box comes from the blanks.
+    pub fn settle(&mut self, cell: u32, row: &Row, blanks: &mut Blanks)
         requires made { self.old.missing ≤ cell }
         requires within { cell < length self.old.items }
         requires leaf { is_leaf (block_at self.old.items cell).body ≡ true }
         requires room { is_full (block_at self.old.items cell).body ≡ false }
+        requires blanks { 0 < blanks.old }
+        ensures blanks { blanks.old ≤ blanks.new + 1 }
         ensures blocks { self.new.items ≡ set self.old.items cell
             (with_rows (block_at self.old.items cell) (rows_in (block_at self.old.items cell).body ++ row.now ∷ [])) }
         ensures missing { self.new.missing ≡ self.old.missing }
     {
         let at = self.place(cell);
-        put_leaf(&mut self.made[at], row);
+        put_leaf(&mut self.made[at], row, blanks);
     }
 }

@@ -13,3 +13,9 @@ set-replaced xs ys place e same within =
     (take_at (slice_set xs place e) (drop (length (slice_set xs place e)) xs) (length xs) (length-set xs place e)
     ∙ set_split xs place e within
     ∙ sym (append_assoc (take place xs) (e ∷ []) (drop (place + 1) xs) ∙ ap (λ n. take place xs ++ e ∷ drop n xs) (add-one place)))
+
+-- a write of one entry
+pub set-entry : (xs : List Entry) (place : ℕ) (e : Entry) → place < length xs → slice_set xs place e ≡ replaced xs place (e ∷ [])
+set-entry xs place e within =
+    set_split xs place e within
+    ∙ sym (append_assoc (take place xs) (e ∷ []) (drop (place + 1) xs) ∙ ap (λ n. take place xs ++ e ∷ drop n xs) (add-one place))

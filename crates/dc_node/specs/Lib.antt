@@ -1,3 +1,4 @@
 pub mod Block
 pub mod Summary
 pub mod Todo
+pub mod Leaf

@@ -1,25 +1,27 @@
-ghost use Rattle.std.specs.Prelude.{◌≡◌, ◌<◌, ◌≤◌, ◌^◌, ◌∷◌, ◌++◌, [], true, false, length};
+ghost use Rattle.std.specs.Prelude.{◌≡◌, ◌+◌, ◌<◌, ◌≤◌, ◌^◌, ◌∷◌, ◌++◌, [], true, false, length};
 ghost use Rattle.dc_node.specs.Block.{rows_in, entries_in, is_leaf, is_full, with_rows, with_entries, replaced, IsBodyOf};
 ghost use Rattle.dc_node.specs.Summary.{row_count, IsSummary};
 ghost use Rattle.describing_set.specs.DescSet.{IsDescSetOf};
 
+use crate::blanks::Blanks;
+use crate::boxed::EntryBox;
 use crate::entry::Entry;
+use crate::leaf::LeafRows;
 use crate::summary::{agg_of_entries, set_of_entries, set_of_rows};
-use arrayvec::ArrayVec;
 use describing_set::DescSet;
 use dim_hierarchy::{Hierarchy, Row};
 use measure_agg::Agg;
 
 /// The items of a block: the rows of a leaf, or the entries of a directory.
-#[derive(Debug, Drop, PartialEq)]
+#[derive(Drop)]
 pub enum Body {
-    Rows(ArrayVec<Row, 32>),
-    Entries(ArrayVec<Entry, 16>),
+    Rows(LeafRows),
+    Entries(EntryBox),
 }
 
 /// A node of a tree. Its right link is the cell of the next block of its group; the last block of a
 /// group is the first one with the stamp that the group's entry expects.
-#[derive(Debug, Drop, PartialEq)]
+#[derive(Drop)]
 pub struct Block {
     pub stamp: u64,
     pub right: Option<u32>,
@@ -30,25 +32,27 @@ pub struct Block {
 impl Block {
     ghost use Rattle.dc_node.specs.declared.block.Body.TheVariants.{Rows, Entries};
 
-    /// A leaf with no rows and no right link.
+    /// A leaf with no rows and no right link. It has no box until the first row comes.
     pub fn leaf(stamp: u64) -> Block
         ensures { result ≡ record { stamp = stamp; right = None; body = Rows (record { items = [] }) } }
     {
         Block {
             stamp,
             right: None,
-            body: Body::Rows(ArrayVec::new()),
+            body: Body::Rows(LeafRows::new()),
         }
     }
 
-    /// A directory with no entries and no right link.
-    pub fn directory(stamp: u64) -> Block
+    /// A directory in this box, whose entries go, with no entries and no right link.
+    pub fn directory(entries: EntryBox, stamp: u64) -> Block
         ensures { result ≡ record { stamp = stamp; right = None; body = Entries (record { items = [] }) } }
     {
+        let mut entries = entries;
+        entries.clear();
         Block {
             stamp,
             right: None,
-            body: Body::Entries(ArrayVec::new()),
+            body: Body::Entries(entries),
         }
     }
 
@@ -94,15 +98,17 @@ impl Block {
         }
     }
 
-    /// Adds a row at the end of a leaf that has room.
-    pub fn add_row(&mut self, row: &Row)
+    /// Adds a row at the end of a leaf that has room. The first row's box comes from the blanks.
+    pub fn add_row(&mut self, row: &Row, blanks: &mut Blanks)
         requires leaf { is_leaf self.old.body ≡ true }
         requires room { is_full self.old.body ≡ false }
-        ensures { self.new ≡ with_rows self.old (rows_in self.old.body ++ row.now ∷ []) }
+        requires blanks { 0 < blanks.old }
+        ensures blanks { blanks.old ≤ blanks.new + 1 }
+        ensures row { self.new ≡ with_rows self.old (rows_in self.old.body ++ row.now ∷ []) }
     {
         if let Body::Rows(rows) = &mut self.body {
             prove!(!rows.is_full());
-            rows.push(*row);
+            rows.push(row, blanks);
         }
     }
 
@@ -124,7 +130,7 @@ impl Block {
         ensures { self.new ≡ with_entries self.old (replaced (entries_in self.old.body) place (entry ∷ [])) }
     {
         if let Body::Entries(entries) = &mut self.body {
-            entries[place] = entry;
+            entries.set(place, entry);
         }
     }
 
@@ -136,7 +142,7 @@ impl Block {
     {
         if let Body::Entries(entries) = &mut self.body {
             prove!(!entries.is_full());
-            entries[place] = left;
+            entries.set(place, left);
             entries.insert(place + 1, right);
         }
     }

@@ -1,14 +1,20 @@
 //! Blocks, which are the nodes of a tree of rows, and the list of blocks that a query has still to visit.
 #![tactic(auto)]
 
+mod blanks;
 mod block;
+mod boxed;
 mod entry;
+mod leaf;
 mod summary;
 #[cfg(test)]
 mod tests;
 mod todo;
 
+pub use blanks::Blanks;
 pub use block::{Block, Body};
+pub use boxed::{EntryBox, RowBox};
 pub use entry::Entry;
+pub use leaf::LeafRows;
 pub use summary::laws;
 pub use todo::{Item, Todo};

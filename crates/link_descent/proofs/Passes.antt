@@ -1,13 +1,12 @@
 -- Steps at which nothing is divided.
 use Rattle.std.proofs.Common.{ℕ, ◌≡◌, ◌<◌, inl, List, length, get_or, refl, sym, ap, ◌∙◌, subst}
 use Rattle.std.specs.Prelude.{slice_get, slice_set, Some}
-use Rattle.std.specs.List.{refill}
 use Rattle.dim_hierarchy.specs.declared.row.Row.{Row}
 use Rattle.dim_hierarchy.specs.Dimension.{Dimension}
 use Rattle.dc_node.specs.Block.{entries_in, with_entries}
 use Rattle.dc_node.specs.declared.block.Block.{Block}
 use Rattle.dc_node.specs.declared.entry.Entry.{Entry}
-use Rattle.dc_node.proofs.Places.{set-replaced}
+use Rattle.dc_node.proofs.Places.{set-entry}
 use Rattle.shard_store.specs.Gate.{root_entry}
 use Rattle.shard_store.specs.declared.gate.Gate.{Gate}
 use Rattle.link_descent.specs.Descend.{IsWithRow}
@@ -17,7 +16,7 @@ use Rattle.link_descent.proofs.Steps.{entry_here}
 -- the entry was changed where it stands
 pub passes-down : (h : List Dimension) (row : Row) (place n : ℕ) (parent parent_now : Block) (ys : List Entry) (entry entry_now : Entry) → ys ≡ entries_in parent.body → n ≡ place → place < length (entries_in parent.body)
     → entry ≡ get_or ys n entry → IsWithRow h row entry entry_now
-    → parent_now ≡ with_entries parent (refill (length (entries_in parent.body)) (entries_in parent.body) (slice_set ys n entry_now))
+    → parent_now ≡ with_entries parent (slice_set (entries_in parent.body) n entry_now)
     → PassesDown h row place parent parent_now
 passes-down h row place n parent parent_now ys entry entry_now same at within read counted is =
     let entries = entries_in parent.body in
@@ -32,8 +31,8 @@ passes-down h row place n parent parent_now ys entry entry_now same at within re
           entry_now,
           record {
             parent_is = is
-                ∙ ap (λ k. with_entries parent (refill (length entries) entries (slice_set ys k entry_now))) at
-                ∙ ap (with_entries parent) (set-replaced entries ys place entry_now same within);
+                ∙ ap (λ k. with_entries parent (slice_set entries k entry_now)) at
+                ∙ ap (with_entries parent) (set-entry entries place entry_now within);
           },
           record { room = room; entry_is = counted; head_is = refl; purse_is = refl; fresh = refl; at = refl },
         );

@@ -8,36 +8,32 @@ use Rattle.describing_set.specs.DescSet.{growth_of, size_of}
 use Rattle.describing_set.specs.declared.set.DescSet.{DescSet}
 use Rattle.link_descent.proofs.Picks.{Before, IsBestOf, IsBestOf-one, IsBestOf-keeps, IsBestOf-takes}
 
--- the set at a place comes first of the first n, and has this growth and this size
-pub record IsBestRanked (h : List Dimension) (at : Coord) (sets : List DescSet) (n place least_growth least_size : ℕ) : Type 0 where
+-- the set at a place comes first of the first n, and grows so much
+pub record IsBestRanked (h : List Dimension) (at : Coord) (sets : List DescSet) (n place least : ℕ) : Type 0 where
   pub best : IsBestOf h at sets n place
-  pub growth : (set : DescSet) → slice_get sets place ≡ Some set → least_growth ≡ growth_of h set at
-  pub size : (set : DescSet) → slice_get sets place ≡ Some set → least_size ≡ size_of h set
+  pub growth : (set : DescSet) → slice_get sets place ≡ Some set → least ≡ growth_of h set at
 
-pub first-ranked : (h : List Dimension) (at : Coord) (sets : List DescSet) (set : DescSet) (growth size : ℕ) → slice_get sets 0 ≡ Some set → growth ≡ growth_of h set at → size ≡ size_of h set → IsBestRanked h at sets 1 0 growth size
-first-ranked h at sets set growth size here g s = record {
+pub first-ranked : (h : List Dimension) (at : Coord) (sets : List DescSet) (set : DescSet) (growth : ℕ) → slice_get sets 0 ≡ Some set → growth ≡ growth_of h set at → IsBestRanked h at sets 1 0 growth
+first-ranked h at sets set growth here g = record {
   best = IsBestOf-one h at sets;
   growth = λ one p. g ∙ ap (λ x. growth_of h x at) (same_Some set one (sym here ∙ p));
-  size = λ one p. s ∙ ap (size_of h) (same_Some set one (sym here ∙ p));
 }
 
-before-as : (ga sa gb sb gc sc gd sd : ℕ) → ga ≡ gc → sa ≡ sc → gb ≡ gd → sb ≡ sd → Before ga sa gb sb → Before gc sc gd sd
-before-as ga sa gb sb gc sc gd sd p q r s b = elim b [ inl l ↦ inl (omega arith) | inr l ↦ (let x = l.0 in let y = l.1 in inr (omega arith, omega arith)) ]
+before-as : (ga gb gc gd s t : ℕ) → ga ≡ gc → gb ≡ gd → Before ga s gb t → Before gc s gd t
+before-as ga gb gc gd s t p q b = elim b [ inl l ↦ inl (omega arith) | inr l ↦ (let x = l.0 in inr (omega arith, l.1)) ]
 
-module _ (h : List Dimension) (at : Coord) (sets : List DescSet) (n best growth size : ℕ) (was : IsBestRanked h at sets n best growth size) (set next : DescSet) (here : slice_get sets best ≡ Some set) (there : slice_get sets n ≡ Some next)
-    (g s : ℕ) (growth_is : g ≡ growth_of h next at) (size_is : s ≡ size_of h next) where
-  pub takes-ranked : Before g s growth size → IsBestRanked h at sets (n + 1) n g s
+module _ (h : List Dimension) (at : Coord) (sets : List DescSet) (n best least : ℕ) (was : IsBestRanked h at sets n best least) (set next : DescSet) (here : slice_get sets best ≡ Some set) (there : slice_get sets n ≡ Some next)
+    (growth : ℕ) (growth_is : growth ≡ growth_of h next at) where
+  pub takes-ranked : Before growth (size_of h next) least (size_of h set) → IsBestRanked h at sets (n + 1) n growth
   takes-ranked b = record {
     best = IsBestOf-takes h at sets n best set next was.best here there
-        (before-as g s growth size (growth_of h next at) (size_of h next) (growth_of h set at) (size_of h set) growth_is size_is (was.growth set here) (was.size set here) b);
+        (before-as growth least (growth_of h next at) (growth_of h set at) (size_of h next) (size_of h set) growth_is (was.growth set here) b);
     growth = λ one p. growth_is ∙ ap (λ x. growth_of h x at) (same_Some next one (sym there ∙ p));
-    size = λ one p. size_is ∙ ap (size_of h) (same_Some next one (sym there ∙ p));
   }
 
-  pub keeps-ranked : ¬ Before g s growth size → IsBestRanked h at sets (n + 1) best growth size
+  pub keeps-ranked : ¬ Before growth (size_of h next) least (size_of h set) → IsBestRanked h at sets (n + 1) best least
   keeps-ranked b = record {
     best = IsBestOf-keeps h at sets n best set next was.best here there
-        (λ k. b (before-as (growth_of h next at) (size_of h next) (growth_of h set at) (size_of h set) g s growth size (sym growth_is) (sym size_is) (sym (was.growth set here)) (sym (was.size set here)) k));
+        (λ k. b (before-as (growth_of h next at) (growth_of h set at) growth least (size_of h next) (size_of h set) (sym growth_is) (sym (was.growth set here)) k));
     growth = was.growth;
-    size = was.size;
   }

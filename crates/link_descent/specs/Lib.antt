@@ -1,5 +1,6 @@
 pub mod Visit
 pub mod Pass
+pub mod GateRead
 pub mod Pick
 pub mod Divide
 pub mod Descend

@@ -8,34 +8,18 @@ use dc_node::{Block, Entry};
 use describing_set::DescSet;
 use dim_hierarchy::{Coord, Hierarchy};
 
-/// How a set ranks for a coordinate: by how much it is grown, then by how large it is.
-#[derive(Clone, Copy)]
-struct Rank {
-    growth: u32,
-    size: u32,
-}
-
-impl Rank {
-    /// The rank of a set.
-    fn of(set: &DescSet, h: &Hierarchy, at: &Coord) -> Rank
-        requires set { IsDescSetOf h.now set.now }
-        requires at { IsCoordOf h.now at.now }
-        ensures growth { result.growth ≡ growth_of h.now set.now at.now }
-        ensures size { result.size ≡ size_of h.now set.now }
-    {
-        Rank {
-            growth: set.growth(h, at),
-            size: set.size(h),
-        }
+/// Whether a set that grows so much comes before one that grows `least`: by less growth, or by as
+/// much where it is smaller. Sizes are counted on a tie only.
+fn comes_before(set: &DescSet, growth: u32, best: &DescSet, least: u32, h: &Hierarchy) -> bool
+    requires set { IsDescSetOf h.now set.now }
+    requires best { IsDescSetOf h.now best.now }
+    ensures { IsTrue result ↔ ((growth < least)
+        ⊎ ((growth ≡ least) × (size_of h.now set.now < size_of h.now best.now))) }
+{
+    if growth != least {
+        return growth < least;
     }
-
-    /// Whether the growth is less, or the same and the size is less.
-    fn is_before(&self, other: &Rank) -> bool
-        ensures { IsTrue result ↔ ((self.now.growth < other.now.growth)
-            ⊎ ((self.now.growth ≡ other.now.growth) × (self.now.size < other.now.size))) }
-    {
-        self.growth < other.growth || (self.growth == other.growth && self.size < other.size)
-    }
+    set.size(h) < best.size(h)
 }
 
 /// Whether the first set is grown less by the coordinate than the second, or as much and is smaller.
@@ -47,7 +31,7 @@ pub fn is_before(a: &DescSet, b: &DescSet, h: &Hierarchy, at: &Coord) -> bool
         ⊎ ((growth_of h.now a.now at.now ≡ growth_of h.now b.now at.now)
         × (size_of h.now a.now < size_of h.now b.now))) }
 {
-    Rank::of(a, h, at).is_before(&Rank::of(b, h, at))
+    comes_before(a, a.growth(h, at), b, b.growth(h, at), h)
 }
 
 /// The place of the entry that comes first for a coordinate.
@@ -59,12 +43,13 @@ fn place_of(entries: &[Entry], h: &Hierarchy, at: &Coord) -> u8
     ensures { IsPick h.now at.now (map (λ e. e.set) entries.now) result }
 {
     let mut best = 0;
-    let mut least = Rank::of(&entries[0].set, h, at);
+    let mut least = entries[0].set.growth(h, at);
     for place in 1..entries.len() as u8 {
-        let next = Rank::of(&entries[usize::from(place)].set, h, at);
-        if next.is_before(&least) {
+        let next = &entries[usize::from(place)].set;
+        let growth = next.growth(h, at);
+        if comes_before(next, growth, &entries[usize::from(best)].set, least, h) {
             best = place;
-            least = next;
+            least = growth;
         }
     }
     best

@@ -17,7 +17,7 @@ use crate::choice::is_before;
 use crate::divide::{Division, divide};
 use crate::entered::{Entered, Fresh};
 use cell_stock::Purse;
-use dc_node::{Block, Body, Entry};
+use dc_node::{Blanks, Block, Body, Entry, EntryBox};
 use dim_hierarchy::{Hierarchy, Row};
 use measure_agg::Agg;
 use shard_store::Gate;
@@ -60,7 +60,7 @@ fn entry_of(block: &Block, cell: u32, h: &Hierarchy) -> Entry
 }
 
 /// A gate as the entry of its root's group.
-fn root_entry(gate: &Gate) -> Entry
+pub(crate) fn root_entry(gate: &Gate) -> Entry
     ensures { result ≡ root_entry gate.now }
 {
     Entry {
@@ -94,19 +94,27 @@ fn share(left: &mut Entry, right: &mut Entry, h: &Hierarchy, row: &Row) -> u32
 }
 
 /// Makes room at the head of an entry's group: where it is full, it is divided.
-fn make_room(head: &mut Block, entry: &Entry, purse: &mut Purse, h: &Hierarchy) -> Room
+fn make_room(
+    head: &mut Block,
+    entry: &Entry,
+    purse: &mut Purse,
+    blanks: &mut Blanks,
+    h: &Hierarchy,
+) -> Room
     requires body { IsBodyOf h.now head.old.body }
     requires few { row_count head.old.body < 2 ^ 63 }
     requires purse { 0 < length purse.old.spares }
+    requires blanks { 2 ≤ blanks.old }
     ensures step { MakesRoom h.now entry.now head.old head.new purse.old purse.new result }
     ensures head { HasRoom h.now head.new }
     ensures new { AreNew h.now (row_count head.old.body) result }
+    ensures blanks { blanks.old ≤ blanks.new + 2 }
 {
     if !head.is_full() {
         return Room::Had;
     }
     let spare = purse.next();
-    match divide(head, entry.stamp, spare, h) {
+    match divide(head, entry.stamp, spare, blanks, h) {
         Division::Halved(block) => Room::Half(Fresh {
             cell: spare.cell,
             block,
@@ -124,12 +132,14 @@ fn make_room(head: &mut Block, entry: &Entry, purse: &mut Purse, h: &Hierarchy) 
 }
 
 /// Takes a row from a directory down to a child, the one at the place that `pick` tells. Where the
-/// child is full it is divided first. Tells the new blocks, and where the row is carried then.
+/// child is full it is divided first, into blank boxes. Tells the new blocks, and where the row is
+/// carried then. Takes no memory.
 pub fn step_down(
     parent: &mut Block,
     place: u8,
     child: &mut Block,
     purse: &mut Purse,
+    blanks: &mut Blanks,
     h: &Hierarchy,
     row: &Row,
 ) -> Entered
@@ -141,15 +151,17 @@ pub fn step_down(
     requires purse { 0 < length purse.old.spares }
     requires few { IfSome (slice_get (entries_in parent.old.body) place) (λ e. e.agg.count + 1 < 2 ^ 63) }
     requires few_beneath { row_count child.old.body + 1 < 2 ^ 63 }
+    requires blanks { 2 ≤ blanks.old }
     ensures step { StepsDown h.now row.now place parent.old parent.new child.old child.new purse.old purse.new result }
     ensures parent { IsBodyOf h.now parent.new.body }
     ensures child { HasRoom h.now child.new }
     ensures fresh { All (λ f. HasRoom h.now f.block) result.fresh.items }
     ensures entries { length (entries_in parent.new.body) ≤ 16 }
+    ensures blanks { blanks.old ≤ blanks.new + 2 }
 {
     let place = usize::from(place);
     let mut entry = parent.entries()[place].copy();
-    match make_room(child, &entry, purse, h) {
+    match make_room(child, &entry, purse, blanks, h) {
         Room::Had => {
             let at = entry.child;
             add_row(&mut entry, h, row);
@@ -172,21 +184,30 @@ pub fn step_down(
     }
 }
 
-/// The directory of two entries.
-fn directory_of(stamp: u64, left: Entry, right: Entry) -> Block
+/// The directory of two entries, in this box.
+fn directory_of(entries: EntryBox, stamp: u64, left: Entry, right: Entry) -> Block
     ensures { result ≡ record { stamp = stamp; right = None; body = Entries (record { items = left ∷ right ∷ [] }) } }
 {
-    let mut block = Block::directory(stamp);
+    let mut block = Block::directory(entries, stamp);
     block.add_entry(left);
     block.add_entry(right);
     block
 }
 
 /// Sets a gate's root to a new directory over the two blocks into which the root was cut.
-fn raise(gate: &mut Gate, cut: Fresh, left: Entry, right: Entry, purse: &mut Purse) -> Entered
+fn raise(
+    gate: &mut Gate,
+    cut: Fresh,
+    left: Entry,
+    right: Entry,
+    purse: &mut Purse,
+    blanks: &mut Blanks,
+) -> Entered
     requires purse { 0 < length purse.old.spares }
     requires low { gate.old.height + 1 < 2 ^ 32 }
-    ensures { IsRaised gate.old gate.new cut left right purse.old purse.new result }
+    requires blanks { 0 < blanks.old }
+    ensures blanks { blanks.old ≤ blanks.new + 1 }
+    ensures raised { IsRaised gate.old gate.new cut left right purse.old purse.new result }
 {
     let top = purse.next();
     gate.root = top.cell;
@@ -195,17 +216,19 @@ fn raise(gate: &mut Gate, cut: Fresh, left: Entry, right: Entry, purse: &mut Pur
     let mut entered = Entered::one(cut, top.cell);
     entered.fresh.push(Fresh {
         cell: top.cell,
-        block: directory_of(top.stamp, left, right),
+        block: directory_of(blanks.directory(), top.stamp, left, right),
     });
     entered
 }
 
 /// Takes a row in at an open gate, to the root of its tree. Where the root is full it is divided
-/// first; where it is cut in two, a new root stands above both, at which the row is carried.
+/// first; where it is cut in two, a new root stands above both, at which the row is carried. Takes no
+/// memory: there are blank boxes for what is new.
 pub fn enter_root(
     gate: &mut Gate,
     root: &mut Block,
     purse: &mut Purse,
+    blanks: &mut Blanks,
     h: &Hierarchy,
     row: &Row,
 ) -> Entered
@@ -217,20 +240,23 @@ pub fn enter_root(
     requires few { gate.old.agg.count + 1 < 2 ^ 63 }
     requires few_beneath { row_count root.old.body + 1 < 2 ^ 63 }
     requires low { gate.old.height + 1 < 2 ^ 32 }
+    requires blanks { 3 ≤ blanks.old }
     ensures step { Enters h.now row.now gate.old gate.new root.old root.new purse.old purse.new result }
     ensures set { IsDescSetOf h.now gate.new.set }
     ensures root { HasRoom h.now root.new }
+    ensures height { gate.new.height ≤ gate.old.height + 1 }
+    ensures blanks { blanks.old ≤ blanks.new + 3 }
     ensures fresh { All (λ f. HasRoom h.now f.block) result.fresh.items }
 {
     let mut entry = root_entry(gate);
-    let room = make_room(root, &entry, purse, h);
+    let room = make_room(root, &entry, purse, blanks, h);
     add_row(&mut entry, h, row);
     gate.agg = entry.agg;
     gate.set = entry.set;
     match room {
         Room::Had => Entered::none(entry.child),
         Room::Half(fresh) => Entered::one(fresh, entry.child),
-        Room::Two(fresh, left, right) => raise(gate, fresh, left, right, purse),
+        Room::Two(fresh, left, right) => raise(gate, fresh, left, right, purse, blanks),
     }
 }
 
@@ -244,7 +270,10 @@ pub fn pass_down(parent: &mut Block, place: u8, h: &Hierarchy, row: &Row)
     ensures { PassesDown h.now row.now place parent.old parent.new }
 {
     if let Body::Entries(entries) = &mut parent.body {
-        add_row(&mut entries[usize::from(place)], h, row);
+        let place = usize::from(place);
+        let mut entry = entries.as_slice()[place].copy();
+        add_row(&mut entry, h, row);
+        entries.set(place, entry);
     }
 }
 
@@ -255,17 +284,20 @@ pub fn pass_root(gate: &mut Gate, h: &Hierarchy, row: &Row)
     requires few { gate.old.agg.count + 1 < 2 ^ 63 }
     ensures step { PassesIn h.now row.now gate.old gate.new }
     ensures set { IsDescSetOf h.now gate.new.set }
+    ensures height { gate.new.height ≡ gate.old.height }
 {
     gate.agg = gate.agg.join(&Agg::one(row.measure));
     gate.set.grow(h, &row.at);
 }
 
-/// Puts a row into a leaf with room, behind its rows.
-pub fn put_leaf(block: &mut Block, row: &Row)
+/// Puts a row into a leaf with room, behind its rows. The first one's box comes from the blanks.
+pub fn put_leaf(block: &mut Block, row: &Row, blanks: &mut Blanks)
     requires leaf { is_leaf block.old.body ≡ true }
     requires room { is_full block.old.body ≡ false }
+    requires blanks { 0 < blanks.old }
+    ensures blanks { blanks.old ≤ blanks.new + 1 }
     ensures row { block.new ≡ with_rows block.old (rows_in block.old.body ++ row.now ∷ []) }
     ensures valid { (h : List Dimension) → IsBodyOf h block.old.body → IsRowOf h row.now → IsBodyOf h block.new.body }
 {
-    block.add_row(row);
+    block.add_row(row, blanks);
 }

@@ -1,4 +1,4 @@
-ghost use Rattle.std.specs.Prelude.{◌≡◌, ◌<◌, ◌≤◌, ◌⊎◌, ◌-◌, true, [], ◌∷◌, length, map, take, drop, All, IfSome, IfNone, IsPermutation};
+ghost use Rattle.std.specs.Prelude.{◌≡◌, ◌+◌, ◌<◌, ◌≤◌, ◌⊎◌, ◌-◌, true, [], ◌∷◌, length, map, take, drop, All, IfSome, IfNone, IsPermutation};
 ghost use Rattle.std.specs.List.{AllZip, range_with_len};
 ghost use Rattle.dim_hierarchy.specs.Row.{IsRowOf};
 ghost use Rattle.describing_set.specs.DescSet.{IsSetOf, IsDescSetOf};
@@ -8,10 +8,11 @@ ghost use Rattle.link_descent.specs.Room.{IsCutBy, IsTheCut, WhyHalved, Divides}
 
 use arrayvec::ArrayVec;
 use cell_stock::Spare;
-use dc_node::{Block, Body, Entry};
+use dc_node::{Blanks, Block, Body, Entry, EntryBox, LeafRows, RowBox};
 use describing_set::DescSet;
 use dim_hierarchy::{Hierarchy, Row};
 use hierarchy_split::{Cut, choose};
+use std::mem;
 
 /// How a full head was divided, with the new block.
 #[derive(Drop)]
@@ -76,95 +77,110 @@ fn head_cut(head: &Block, expected: u64, h: &Hierarchy) -> Option<Cut>
     choose(item_sets(&head.body, h).as_slice(), h)
 }
 
-/// Copies of the rows at some places.
-fn rows_at(rows: &[Row], places: &[u8]) -> ArrayVec<Row, 32>
+/// Copies of the rows at some places, in a blank box.
+fn rows_at(rows: &[Row], places: &[u8], blanks: &mut Blanks) -> RowBox
     requires few { length places.now ≤ 32 }
     requires places { All (λ place. place < length rows.now) places.now }
-    ensures { result.items ≡ items_at rows.now places.now }
+    requires blanks { 0 < blanks.old }
+    ensures rows { result.items ≡ items_at rows.now places.now }
+    ensures blanks { blanks.old ≤ blanks.new + 1 }
 {
-    let mut some = ArrayVec::new();
+    let mut some = blanks.leaf();
     for place in places {
-        some.push(rows[usize::from(*place)]);
+        some.push(&rows[usize::from(*place)]);
     }
     some
 }
 
-/// Copies of the entries at some places.
-fn entries_at(entries: &[Entry], places: &[u8]) -> ArrayVec<Entry, 16>
+/// Copies of the entries at some places, in a blank box.
+fn entries_at(entries: &[Entry], places: &[u8], blanks: &mut Blanks) -> EntryBox
     requires few { length places.now ≤ 16 }
     requires places { All (λ place. place < length entries.now) places.now }
-    ensures { result.items ≡ items_at entries.now places.now }
+    requires blanks { 0 < blanks.old }
+    ensures entries { result.items ≡ items_at entries.now places.now }
+    ensures blanks { blanks.old ≤ blanks.new + 1 }
 {
-    let mut some = ArrayVec::new();
+    let mut some = blanks.directory();
     for place in places {
         some.push(entries[usize::from(*place)].copy());
     }
     some
 }
 
-/// The items of a body at some places.
-fn body_at(body: &Body, places: &[u8]) -> Body
+/// The items of a body at some places, in a blank box.
+fn body_at(body: &Body, places: &[u8], blanks: &mut Blanks) -> Body
     requires few { length places.now ≤ size body.now }
     requires places { All (λ place. place < size body.now) places.now }
-    ensures { result ≡ body_at body.now places.now }
+    requires blanks { 0 < blanks.old }
+    ensures body { result ≡ body_at body.now places.now }
+    ensures blanks { blanks.old ≤ blanks.new + 1 }
 {
     match body {
-        Body::Rows(rows) => Body::Rows(rows_at(rows.as_slice(), places)),
-        Body::Entries(entries) => Body::Entries(entries_at(entries.as_slice(), places)),
+        Body::Rows(rows) => Body::Rows(LeafRows::of(rows_at(rows.as_slice(), places, blanks))),
+        Body::Entries(entries) => Body::Entries(entries_at(entries.as_slice(), places, blanks)),
     }
 }
 
-/// Copies of all rows.
-fn copy_rows(rows: &[Row]) -> ArrayVec<Row, 32>
-    requires { length rows.now ≤ 32 }
-    ensures { result.items ≡ rows.now }
+/// Copies of all rows, in a blank box.
+fn copy_rows(rows: &[Row], blanks: &mut Blanks) -> RowBox
+    requires few { length rows.now ≤ 32 }
+    requires blanks { 0 < blanks.old }
+    ensures rows { result.items ≡ rows.now }
+    ensures blanks { blanks.old ≤ blanks.new + 1 }
 {
-    let mut copies = ArrayVec::new();
+    let mut copies = blanks.leaf();
     for row in rows {
-        copies.push(*row);
+        copies.push(row);
     }
     copies
 }
 
-/// Copies of all entries.
-fn copy_entries(entries: &[Entry]) -> ArrayVec<Entry, 16>
-    requires { length entries.now ≤ 16 }
-    ensures { result.items ≡ entries.now }
+/// Copies of all entries, in a blank box.
+fn copy_entries(entries: &[Entry], blanks: &mut Blanks) -> EntryBox
+    requires few { length entries.now ≤ 16 }
+    requires blanks { 0 < blanks.old }
+    ensures entries { result.items ≡ entries.now }
+    ensures blanks { blanks.old ≤ blanks.new + 1 }
 {
-    let mut copies = ArrayVec::new();
+    let mut copies = blanks.directory();
     for entry in entries {
         copies.push(entry.copy());
     }
     copies
 }
 
-/// The first half of a full body's items.
-fn first_half(body: &Body) -> Body
-    requires { is_full body.now ≡ true }
-    ensures { result ≡ front body.now (half body.now) }
+/// The first half of a full body's items, in a blank box.
+fn first_half(body: &Body, blanks: &mut Blanks) -> Body
+    requires full { is_full body.now ≡ true }
+    requires blanks { 0 < blanks.old }
+    ensures body { result ≡ front body.now (half body.now) }
+    ensures blanks { blanks.old ≤ blanks.new + 1 }
 {
     match body {
-        Body::Rows(rows) => Body::Rows(copy_rows(&rows.as_slice()[..16])),
-        Body::Entries(entries) => Body::Entries(copy_entries(&entries.as_slice()[..8])),
+        Body::Rows(rows) => Body::Rows(LeafRows::of(copy_rows(&rows.as_slice()[..16], blanks))),
+        Body::Entries(entries) => Body::Entries(copy_entries(&entries.as_slice()[..8], blanks)),
     }
 }
 
-/// The second half of a full body's items.
-fn second_half(body: &Body) -> Body
-    requires { is_full body.now ≡ true }
-    ensures { result ≡ rest body.now (half body.now) }
+/// The second half of a full body's items, in a blank box.
+fn second_half(body: &Body, blanks: &mut Blanks) -> Body
+    requires full { is_full body.now ≡ true }
+    requires blanks { 0 < blanks.old }
+    ensures body { result ≡ rest body.now (half body.now) }
+    ensures blanks { blanks.old ≤ blanks.new + 1 }
 {
     match body {
-        Body::Rows(rows) => Body::Rows(copy_rows(&rows.as_slice()[16..])),
-        Body::Entries(entries) => Body::Entries(copy_entries(&entries.as_slice()[8..])),
+        Body::Rows(rows) => Body::Rows(LeafRows::of(copy_rows(&rows.as_slice()[16..], blanks))),
+        Body::Entries(entries) => Body::Entries(copy_entries(&entries.as_slice()[8..], blanks)),
     }
 }
 
 /// Leaves one part of a head's items where they are, under a fresh stamp, and gives a new block to
-/// its right with the other part, the old stamp and the old link.
-fn part(head: &mut Block, stays: Body, goes: Body, spare: Spare) -> Block
+/// its right with the other part, the old stamp and the old link. The box of the whole becomes a blank.
+fn part(head: &mut Block, stays: Body, goes: Body, spare: Spare, blanks: &mut Blanks) -> Block
     ensures head { head.new ≡ left_block spare.cell spare.stamp stays }
     ensures new { result ≡ right_block head.old goes }
+    ensures blanks { blanks.old ≤ blanks.new }
 {
     let new = Block {
         stamp: head.stamp,
@@ -173,41 +189,53 @@ fn part(head: &mut Block, stays: Body, goes: Body, spare: Spare) -> Block
     };
     head.stamp = spare.stamp;
     head.right = Some(spare.cell);
-    head.body = stays;
+    blanks.give(mem::replace(&mut head.body, stays));
     new
 }
 
 /// Divides a full head by halves.
-fn halve(head: &mut Block, spare: Spare) -> Block
-    requires { is_full head.old.body ≡ true }
-    ensures { IsHalved head.old spare.cell spare.stamp head.new result }
+fn halve(head: &mut Block, spare: Spare, blanks: &mut Blanks) -> Block
+    requires full { is_full head.old.body ≡ true }
+    requires blanks { 2 ≤ blanks.old }
+    ensures halved { IsHalved head.old spare.cell spare.stamp head.new result }
+    ensures blanks { blanks.old ≤ blanks.new + 2 }
 {
-    let stays = second_half(&head.body);
-    let goes = first_half(&head.body);
-    part(head, stays, goes, spare)
+    let stays = second_half(&head.body, blanks);
+    let goes = first_half(&head.body, blanks);
+    part(head, stays, goes, spare, blanks)
 }
 
 /// Divides a full head by a cut.
-fn cut_in_two(head: &mut Block, cut: &Cut, spare: Spare) -> Block
+fn cut_in_two(head: &mut Block, cut: &Cut, spare: Spare, blanks: &mut Blanks) -> Block
     requires order { IsPermutation (range_with_len 0 (size head.old.body)) cut.now.order.items }
     requires left { cut.now.left ≤ size head.old.body }
-    ensures { IsCutBy cut.now head.old spare.cell spare.stamp head.new result }
+    requires blanks { 2 ≤ blanks.old }
+    ensures cut { IsCutBy cut.now head.old spare.cell spare.stamp head.new result }
+    ensures blanks { blanks.old ≤ blanks.new + 2 }
 {
     let (left, right) = cut.order.as_slice().split_at(usize::from(cut.left));
-    let stays = body_at(&head.body, left);
-    let goes = body_at(&head.body, right);
-    part(head, stays, goes, spare)
+    let stays = body_at(&head.body, left, blanks);
+    let goes = body_at(&head.body, right, blanks);
+    part(head, stays, goes, spare, blanks)
 }
 
 /// Divides a full head whose group's last block is expected to have a stamp: by the good cut where
 /// the head is the whole group and has one, else by halves.
-pub fn divide(head: &mut Block, expected: u64, spare: Spare, h: &Hierarchy) -> Division
+pub fn divide(
+    head: &mut Block,
+    expected: u64,
+    spare: Spare,
+    blanks: &mut Blanks,
+    h: &Hierarchy,
+) -> Division
     requires full { is_full head.old.body ≡ true }
     requires body { IsBodyOf h.now head.old.body }
-    ensures { Divides h.now head.old expected spare head.new result }
+    requires blanks { 2 ≤ blanks.old }
+    ensures divided { Divides h.now head.old expected spare head.new result }
+    ensures blanks { blanks.old ≤ blanks.new + 2 }
 {
     match head_cut(head, expected, h) {
-        Some(cut) => Division::Cut(cut_in_two(head, &cut, spare)),
-        None => Division::Halved(halve(head, spare)),
+        Some(cut) => Division::Cut(cut_in_two(head, &cut, spare, blanks)),
+        None => Division::Halved(halve(head, spare, blanks)),
     }
 }

@@ -4,7 +4,7 @@ use arrayvec::ArrayVec;
 use dc_node::Block;
 
 /// A new block with the cell that it fills.
-#[derive(Debug, Drop, PartialEq)]
+#[derive(Drop)]
 pub struct Fresh {
     pub cell: u32,
     pub block: Block,
@@ -22,7 +22,7 @@ impl Default for Fresh {
 
 /// What a step of an insert leaves beside the blocks that it was lent: the new blocks, and the cell
 /// of the block at which the row is carried.
-#[derive(Debug, Drop, PartialEq)]
+#[derive(Drop)]
 pub struct Entered {
     pub fresh: ArrayVec<Fresh, 2>,
     pub at: u32,

@@ -6,6 +6,7 @@ mod choice;
 mod descend;
 mod divide;
 mod entered;
+mod gate_reads;
 #[cfg(test)]
 mod tests;
 #[cfg(test)]
@@ -15,4 +16,5 @@ mod visits;
 pub use choice::pick;
 pub use descend::{enter_root, pass_down, pass_root, put_leaf, step_down};
 pub use entered::{Entered, Fresh};
+pub use gate_reads::read_gate;
 pub use visits::visit;

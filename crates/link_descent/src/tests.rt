@@ -8,7 +8,7 @@ ghost use Rattle.link_descent.specs.Room.{HasRoom};
 use crate::{Fresh, enter_root, pick, put_leaf, step_down};
 use arrayvec::ArrayVec;
 use cell_stock::{Purse, Stock};
-use dc_node::{Block, Entry};
+use dc_node::{Blanks, Block, Entry};
 use describing_set::DescSet;
 use dim_hierarchy::{ConceptId, Hierarchy, Name, Names, Row};
 use measure_agg::Agg;
@@ -165,6 +165,7 @@ fn enter(
     gate: &mut Gate,
     blocks: &mut Vec<Block>,
     purse: &mut Purse,
+    blanks: &mut Blanks,
     h: &Hierarchy,
     row: &Row,
 ) -> Result<u32, Fail>
@@ -183,7 +184,8 @@ fn enter(
     let cell = gate.root;
     let mut root = lift(blocks, h, cell)?;
     count_beneath(&root)?;
-    let entered = enter_root(gate, &mut root, purse, h, row);
+    blanks.refill(3)?;
+    let entered = enter_root(gate, &mut root, purse, blanks, h, row);
     put(blocks, h, cell, root)?;
     put_fresh(blocks, h, entered.fresh)?;
     Ok(entered.at)
@@ -193,6 +195,7 @@ fn enter(
 fn down(
     blocks: &mut Vec<Block>,
     purse: &mut Purse,
+    blanks: &mut Blanks,
     h: &Hierarchy,
     row: &Row,
     at: u32,
@@ -210,7 +213,8 @@ fn down(
     let cell = parent.entries()[usize::from(place)].child;
     let mut child = lift(blocks, h, cell)?;
     count_beneath(&child)?;
-    let entered = step_down(&mut parent, place, &mut child, purse, h, row);
+    blanks.refill(2)?;
+    let entered = step_down(&mut parent, place, &mut child, purse, blanks, h, row);
     put(blocks, h, at, parent)?;
     put(blocks, h, cell, child)?;
     put_fresh(blocks, h, entered.fresh)?;
@@ -222,6 +226,7 @@ fn insert(
     gate: &mut Gate,
     blocks: &mut Vec<Block>,
     purse: &mut Purse,
+    blanks: &mut Blanks,
     h: &Hierarchy,
     row: &Row,
 ) -> Result<(), Fail>
@@ -231,15 +236,16 @@ fn insert(
     ensures blocks { All (λ b. IsBodyOf h.now b.body) blocks.new.items }
     ensures set { IsDescSetOf h.now gate.new.set }
 {
-    let mut at = enter(gate, blocks, purse, h, row)?;
+    let mut at = enter(gate, blocks, purse, blanks, h, row)?;
     for _ in 1..gate.height {
-        at = down(blocks, purse, h, row, at)?;
+        at = down(blocks, purse, blanks, h, row, at)?;
     }
     let mut leaf = lift(blocks, h, at)?;
     if !leaf.is_leaf() || leaf.is_full() {
         return Err("no leaf with room".into());
     }
-    put_leaf(&mut leaf, row);
+    blanks.refill(1)?;
+    put_leaf(&mut leaf, row, blanks);
     put(blocks, h, at, leaf)
 }
 
@@ -338,6 +344,7 @@ fn filled_purse(alloc: Global, count: u32) -> Result<Purse, Fail> {
 fn grown(alloc: Global, shape: &Shape, count: u64) -> Result<(u32, usize), Fail> {
     let h = &hierarchy(alloc)?;
     let mut purse = filled_purse(alloc, 1024)?;
+    let mut blanks = Blanks::new(alloc);
     let mut blocks = blank_blocks(alloc, h, 1024)?;
     if purse.len() == 0 {
         return Err("no spare".into());
@@ -349,7 +356,7 @@ fn grown(alloc: Global, shape: &Shape, count: u64) -> Result<(u32, usize), Fail>
     let mut rows = Vec::new(alloc);
     for no in 0..count {
         let row = &row(alloc, h, shape, no)?;
-        insert(&mut gate, &mut blocks, &mut purse, h, row)?;
+        insert(&mut gate, &mut blocks, &mut purse, &mut blanks, h, row)?;
         rows.push(*row)?;
     }
     check_rows(alloc, &blocks, &rows)?;

@@ -1,12 +1,13 @@
-ghost use Rattle.std.specs.Prelude.{◌≡◌, ◌≢◌, ◌^◌, ◌<◌, length, IfOk, IsSome};
+ghost use Rattle.std.specs.Prelude.{◌≡◌, ◌≢◌, ◌^◌, ◌<◌, length, All, IfOk, IsSome};
 ghost use Rattle.dim_hierarchy.specs.Row.{IsRowOf};
 ghost use Rattle.dim_hierarchy.specs.Filter.{IsFilterOf};
 ghost use Rattle.describing_set.specs.DescSet.{IsDescSetOf};
 ghost use Rattle.dc_node.specs.Block.{IsBodyOf};
 ghost use Rattle.dc_node.specs.Summary.{row_count};
 
+use crate::put_leaf;
 use crate::visits::visit;
-use dc_node::{Block, Entry, Item, Todo};
+use dc_node::{Blanks, Block, Entry, Item, Todo};
 use describing_set::DescSet;
 use dim_hierarchy::{Filter, Hierarchy, Name, NameFilter, NamePick, Names, Row};
 use measure_agg::Agg;
@@ -68,20 +69,20 @@ fn a_or_b(alloc: Global, h: &Hierarchy) -> Result<Filter, Fail>
     Ok(h.filter(alloc, &picks)?)
 }
 
-/// A leaf of three rows at a, c and b, with a right link.
-fn leaf(alloc: Global, h: &Hierarchy) -> Result<Block, Fail>
-    requires { length h.now ≡ 1 }
+/// A leaf of these three rows, with a right link.
+fn leaf(alloc: Global, h: &Hierarchy, rows: &[Row]) -> Result<Block, Fail>
+    requires count { length rows.now ≡ 3 }
+    requires valid { All (IsRowOf h.now) rows.now }
     ensures body { IfOk result (λ block. IsBodyOf h.now block.body) }
     ensures count { IfOk result (λ block. row_count block.body ≡ 3) }
     ensures right { IfOk result (λ block. block.right ≡ Some 6) }
 {
-    let first = row(alloc, h, b'a', 5)?;
-    let second = row(alloc, h, b'c', 9)?;
-    let third = row(alloc, h, b'b', -7)?;
+    let mut blanks = Blanks::new(alloc);
+    blanks.refill(3)?;
     let mut block = Block::leaf(1);
-    block.add_row(&first);
-    block.add_row(&second);
-    block.add_row(&third);
+    put_leaf(&mut block, &rows[0], &mut blanks);
+    put_leaf(&mut block, &rows[1], &mut blanks);
+    put_leaf(&mut block, &rows[2], &mut blanks);
     block.right = Some(6);
     Ok(block)
 }
@@ -96,7 +97,9 @@ fn directory(alloc: Global, h: &Hierarchy) -> Result<Block, Fail>
     let inside = set_of(alloc, h, b"a")?;
     let overlapping = set_of(alloc, h, b"bc")?;
     let apart = set_of(alloc, h, b"d")?;
-    let mut block = Block::directory(3);
+    let mut blanks = Blanks::new(alloc);
+    blanks.refill(1)?;
+    let mut block = Block::directory(blanks.directory(), 3);
     block.add_entry(entry(4, 6, inside));
     block.add_entry(entry(9, -1, overlapping));
     block.add_entry(entry(7, 100, apart));
@@ -140,7 +143,11 @@ fn a_visit_adds_matching_rows(rt: HostRuntime) -> Result<(), Fail> {
     let alloc = rt.alloc();
     let h = hierarchy(alloc)?;
     let filter = a_or_b(alloc, &h)?;
-    let block = leaf(alloc, &h)?;
+    let mut rows = Vec::new(alloc);
+    rows.push(row(alloc, &h, b'a', 5)?)?;
+    rows.push(row(alloc, &h, b'c', 9)?)?;
+    rows.push(row(alloc, &h, b'b', -7)?)?;
+    let block = leaf(alloc, &h, rows.as_slice())?;
     let both = Agg::one(5).join(&Agg::one(-7));
 
     let mut todo = Todo::new(alloc);

@@ -41,7 +41,7 @@ pub fn visit(
 }
 
 /// Adds the rows that the filter matches.
-fn visit_rows(rows: &[Row], filter: &Filter, h: &Hierarchy, total: &mut Agg)
+pub(crate) fn visit_rows(rows: &[Row], filter: &Filter, h: &Hierarchy, total: &mut Agg)
     requires filter { IsFilterOf h.now filter.now }
     requires rows { All (IsRowOf h.now) rows.now }
     requires few { total.old.count + length rows.now < 2 ^ 63 }
@@ -80,7 +80,13 @@ fn visit_entries(
 }
 
 /// Adds an entry inside the filter, or notes the child of one that else overlaps it.
-fn visit_entry(entry: &Entry, filter: &Filter, h: &Hierarchy, total: &mut Agg, todo: &mut Todo)
+pub(crate) fn visit_entry(
+    entry: &Entry,
+    filter: &Filter,
+    h: &Hierarchy,
+    total: &mut Agg,
+    todo: &mut Todo,
+)
     requires filter { IsFilterOf h.now filter.now }
     requires set { IsDescSetOf h.now entry.now.set }
     requires few { total.old.count + entry.now.agg.count < 2 ^ 63 }

@@ -18,7 +18,7 @@ use Rattle.tree_shape.specs.Counts.{Each, same, times}
 use Rattle.tree_shape.specs.Shape.{Node, nodes, Shape, ShapeOk, numbers}
 use Rattle.tree_shape.specs.Walks.{Noted, AreNoted, IsNoted, pending, reach}
 use Rattle.tree_shape.specs.Queries.{IsUnfinished, items_of, fits}
-use Rattle.tree_shape.specs.Steps.{queue_part, tree_part, root_items}
+use Rattle.link_descent.specs.GateRead.{queue_part, tree_part, root_items}
 use Rattle.tree_shape.specs.Laws.{OrderLaw, GateLaw, BlockLaw, RootLaw, LinkLaw, BeginLaw, VisitLaw, EndLaw}
 use Rattle.shard_tree.specs.Shard.{ShardValue, table_of, cells_of, rows_of, Holds, IsShardOf}
 use Rattle.shard_tree.proofs.Lists.{lookup, found, rows-back, found-filter, times-passing, times-failing}

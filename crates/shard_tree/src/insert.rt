@@ -1,4 +1,4 @@
-ghost use Rattle.std.specs.Prelude.{ℕ, Some, slice_get, ◌≡◌, ◌+◌, ◌<◌, ◌≤◌, ◌^◌, [], ◌∷◌, ◌++◌, length, map, OnOk, OnErr, IsPermutation};
+ghost use Rattle.std.specs.Prelude.{ℕ, Some, slice_get, ◌≡◌, ◌+◌, ◌*◌, ◌<◌, ◌≤◌, ◌^◌, [], ◌∷◌, ◌++◌, length, map, OnOk, OnErr, IsPermutation};
 ghost use Rattle.dim_hierarchy.specs.declared.row.Row.{Row};
 ghost use Rattle.dim_hierarchy.specs.Row.{IsRowOf};
 ghost use Rattle.dc_node.specs.Block.{entries_in};
@@ -15,7 +15,7 @@ ghost use Rattle.shard_tree.specs.Ways.{with_parts, IsOut, WentDown, WentIn, Can
 use crate::tree::ShardTree;
 use block_cells::Blocks;
 use cell_stock::Purse;
-use dc_node::Block;
+use dc_node::{Blanks, Block};
 use dim_hierarchy::{Hierarchy, Row};
 use link_descent::{enter_root, pass_root, pick, step_down};
 use shard_store::Gate;
@@ -52,24 +52,34 @@ impl ShardTree {
         if self.stock.stamps() >= MANY_STAMPS {
             return Err(AllocError);
         }
+        self.blanks.refill(2 * need)?;
         self.blocks.make(self.stock.free() - need)?;
         self.purse.reserve(need)?;
         let taken = self.stock.take(need, &mut self.purse);
         prove!(taken.is_some());
-        let (gate, blocks, purse) = (&mut self.gate, &mut self.blocks, &mut self.purse);
-        add(gate, blocks, purse, h, row);
+        let (gate, blocks) = (&mut self.gate, &mut self.blocks);
+        add(gate, blocks, &mut self.purse, &mut self.blanks, h, row);
         self.stock.give(&mut self.purse);
         Ok(())
     }
 }
 
-/// Adds a row to the tree, for which the purse has the cells.
-fn add(gate: &mut Gate, blocks: &mut Blocks, purse: &mut Purse, h: &Hierarchy, row: &Row)
+/// Adds a row to the tree, for which the purse has the cells and the blanks the boxes: two for each
+/// block that may be divided, of which one is given back.
+fn add(
+    gate: &mut Gate,
+    blocks: &mut Blocks,
+    purse: &mut Purse,
+    blanks: &mut Blanks,
+    h: &Hierarchy,
+    row: &Row,
+)
     requires open { gate.old.phase ≡ Open }
     requires set { IsDescSetOf h.now gate.old.set }
     requires low { gate.old.height + 1 < 2 ^ 32 }
     requires row { IsRowOf h.now row.now }
     requires enters { CanEnter h.now row.now gate.old blocks.old.items blocks.old.missing purse.old }
+    requires blanks { gate.old.height * 2 + 4 ≤ blanks.old }
     ensures queue { gate.new.queue ≡ gate.old.queue }
     ensures id { gate.new.shard ≡ gate.old.shard }
     ensures open { gate.new.phase ≡ Open }
@@ -85,40 +95,19 @@ fn add(gate: &mut Gate, blocks: &mut Blocks, purse: &mut Purse, h: &Hierarchy, r
 {
     insert_laws();
     tree_laws();
-    let mut at = enter(gate, blocks, purse, h, row);
+    let mut at = enter(gate, blocks, purse, blanks, h, row);
     for _ in 1..gate.height {
-        at = down(gate, blocks, purse, h, row, at);
+        at = down(gate, blocks, purse, blanks, h, row, at);
     }
-    blocks.settle(at, row);
+    blocks.settle(at, row, blanks);
 }
 
 /// Takes a row in at the gate, and tells at which cell it is carried.
-fn enter(gate: &mut Gate, blocks: &mut Blocks, purse: &mut Purse, h: &Hierarchy, row: &Row) -> u32
-    requires open { gate.old.phase ≡ Open }
-    requires set { IsDescSetOf h.now gate.old.set }
-    requires low { gate.old.height + 1 < 2 ^ 32 }
-    requires row { IsRowOf h.now row.now }
-    requires enters { CanEnter h.now row.now gate.old blocks.old.items blocks.old.missing purse.old }
-    ensures step { WentIn h.now row.now result gate.old gate.new blocks.old.items blocks.new.items purse.old purse.new }
-    ensures id { gate.new.shard ≡ gate.old.shard }
-    ensures missing { blocks.new.missing ≡ blocks.old.missing }
-    ensures set { IsDescSetOf h.now gate.new.set }
-{
-    tree_laws();
-    let cell = gate.root;
-    if !blocks.at(cell).is_full() {
-        pass_root(gate, h, row);
-        return cell;
-    }
-    divide_root(gate, blocks, purse, h, row)
-}
-
-/// Takes a row in at the gate, where the root is divided. A function of its own, as a function pays at
-/// each call for the blocks among its locals.
-fn divide_root(
+fn enter(
     gate: &mut Gate,
     blocks: &mut Blocks,
     purse: &mut Purse,
+    blanks: &mut Blanks,
     h: &Hierarchy,
     row: &Row,
 ) -> u32
@@ -127,15 +116,50 @@ fn divide_root(
     requires low { gate.old.height + 1 < 2 ^ 32 }
     requires row { IsRowOf h.now row.now }
     requires enters { CanEnter h.now row.now gate.old blocks.old.items blocks.old.missing purse.old }
+    requires blanks { 3 ≤ blanks.old }
     ensures step { WentIn h.now row.now result gate.old gate.new blocks.old.items blocks.new.items purse.old purse.new }
     ensures id { gate.new.shard ≡ gate.old.shard }
     ensures missing { blocks.new.missing ≡ blocks.old.missing }
     ensures set { IsDescSetOf h.now gate.new.set }
+    ensures height { gate.new.height ≤ gate.old.height + 1 }
+    ensures blanks { blanks.old ≤ blanks.new + 3 }
+{
+    tree_laws();
+    let cell = gate.root;
+    if !blocks.at(cell).is_full() {
+        pass_root(gate, h, row);
+        return cell;
+    }
+    divide_root(gate, blocks, purse, blanks, h, row)
+}
+
+/// Takes a row in at the gate, where the root is divided. A function of its own, as a function pays at
+/// each call for the blocks among its locals.
+fn divide_root(
+    gate: &mut Gate,
+    blocks: &mut Blocks,
+    purse: &mut Purse,
+    blanks: &mut Blanks,
+    h: &Hierarchy,
+    row: &Row,
+) -> u32
+    requires open { gate.old.phase ≡ Open }
+    requires set { IsDescSetOf h.now gate.old.set }
+    requires low { gate.old.height + 1 < 2 ^ 32 }
+    requires row { IsRowOf h.now row.now }
+    requires enters { CanEnter h.now row.now gate.old blocks.old.items blocks.old.missing purse.old }
+    requires blanks { 3 ≤ blanks.old }
+    ensures step { WentIn h.now row.now result gate.old gate.new blocks.old.items blocks.new.items purse.old purse.new }
+    ensures id { gate.new.shard ≡ gate.old.shard }
+    ensures missing { blocks.new.missing ≡ blocks.old.missing }
+    ensures set { IsDescSetOf h.now gate.new.set }
+    ensures height { gate.new.height ≤ gate.old.height + 1 }
+    ensures blanks { blanks.old ≤ blanks.new + 3 }
 {
     tree_laws();
     let cell = gate.root;
     let mut root = blocks.lift(cell);
-    let entered = enter_root(gate, &mut root, purse, h, row);
+    let entered = enter_root(gate, &mut root, purse, blanks, h, row);
     blocks.put(cell, root);
     let at = entered.at;
     blocks.put_fresh(entered.fresh);
@@ -158,14 +182,17 @@ fn down(
     gate: &Gate,
     blocks: &mut Blocks,
     purse: &mut Purse,
+    blanks: &mut Blanks,
     h: &Hierarchy,
     row: &Row,
     at: u32,
 ) -> u32
     requires row { IsRowOf h.now row.now }
     requires goes { (level : ℕ) × CanGoDown h.now row.now gate.now blocks.old.items blocks.old.missing purse.old at (level + 1) }
+    requires blanks { 2 ≤ blanks.old }
     ensures step { WentDown h.now row.now at result blocks.old.items blocks.new.items purse.old purse.new }
     ensures missing { blocks.new.missing ≡ blocks.old.missing }
+    ensures blanks { blanks.old ≤ blanks.new + 2 }
 {
     tree_laws();
     let parent = blocks.at(at);
@@ -175,7 +202,7 @@ fn down(
         blocks.pass(at, place, h, row);
         return cell;
     }
-    divide_child(gate, blocks, purse, h, row, at, place, cell)
+    divide_child(gate, blocks, purse, blanks, h, row, at, place, cell)
 }
 
 /// Takes a row down to the child in a cell, to which the entry at a place leads, where the child is
@@ -184,6 +211,7 @@ fn divide_child(
     gate: &Gate,
     blocks: &mut Blocks,
     purse: &mut Purse,
+    blanks: &mut Blanks,
     h: &Hierarchy,
     row: &Row,
     at: u32,
@@ -196,13 +224,15 @@ fn divide_child(
     requires leads { (entry : Entry)
         × (slice_get (entries_in (block_at blocks.old.items at).body) place ≡ Some entry)
         × (cell ≡ entry.child) }
+    requires blanks { 2 ≤ blanks.old }
     ensures step { WentDown h.now row.now at result blocks.old.items blocks.new.items purse.old purse.new }
     ensures missing { blocks.new.missing ≡ blocks.old.missing }
+    ensures blanks { blanks.old ≤ blanks.new + 2 }
 {
     tree_laws();
     let mut parent = blocks.lift(at);
     let mut child = blocks.lift(cell);
-    let entered = step_down(&mut parent, place, &mut child, purse, h, row);
+    let entered = step_down(&mut parent, place, &mut child, purse, blanks, h, row);
     blocks.put(at, parent);
     blocks.put(cell, child);
     let at = entered.at;

@@ -3,16 +3,18 @@ ghost use Rattle.shard_tree.specs.Shard.{IsShardOf};
 
 use block_cells::Blocks;
 use cell_stock::{Purse, Stock};
+use dc_node::{Blanks, Block};
 use describing_set::DescSet;
 use dim_hierarchy::Hierarchy;
 use measure_agg::Agg;
 use shard_store::Gate;
 use std::alloc::{AllocError, Global};
 use std::marker::Model;
-use tree_shape::empty_leaf;
+use tree_shape::opening_law;
 
 /// Rows in a tree of blocks and in a queue beside it. Each block and the gate fill a cell; a row for
-/// which there may be too few cells goes to the queue. One actor inserts and asks.
+/// which there may be too few cells goes to the queue. One actor inserts and asks. It keeps blank
+/// boxes for the blocks that the next insert may make; contracts don't see them.
 #[derive(Drop)]
 pub struct ShardTree {
     pub(crate) home: u32,
@@ -20,6 +22,7 @@ pub struct ShardTree {
     pub(crate) blocks: Blocks,
     pub(crate) stock: Stock,
     pub(crate) purse: Purse,
+    pub(crate) blanks: Blanks,
 }
 
 impl Model for ShardTree {
@@ -52,6 +55,7 @@ impl ShardTree {
         ensures shard { IfOk result (λ s. IsShardOf h.now s) }
     {
         cell_stock::laws();
+        opening_law();
         let mut stock = Stock::new(alloc, cells)?;
         if stock.free() < 2 {
             return Err(AllocError);
@@ -64,7 +68,7 @@ impl ShardTree {
         prove!(taken.is_some());
         let home = purse.next();
         let root = purse.next();
-        blocks.put(root.cell, empty_leaf(root.stamp));
+        blocks.put(root.cell, Block::leaf(root.stamp));
         let empty = DescSet::empty(h);
         let gate = Gate::new(alloc, h, 0, root.cell, root.stamp, 1, Agg::EMPTY, empty);
         Ok(ShardTree {
@@ -73,6 +77,7 @@ impl ShardTree {
             blocks,
             stock,
             purse,
+            blanks: Blanks::new(alloc),
         })
     }
 

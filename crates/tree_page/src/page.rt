@@ -1,7 +1,8 @@
-ghost use Rattle.std.specs.Prelude.{ℕ, ◌≡◌, ◌+◌, ◌<◌, ◌^◌, ◌++◌, List, map, length, cond, IfOk, OnOk};
+ghost use Rattle.std.specs.Prelude.{ℕ, ◌≡◌, ◌+◌, ◌-◌, ◌<◌, ◌^◌, ◌++◌, List, map, length, cond, IfOk, OnOk};
 ghost use Rattle.std.specs.List.{flat_map};
 ghost use Rattle.dc_node.specs.Block.{entries_in};
 ghost use Rattle.row_ledger.specs.Pages.{IsPageOf};
+ghost use Rattle.shard_store.specs.Gate.{root_entry};
 ghost use Rattle.tree_shape.specs.Counts.{times};
 ghost use Rattle.tree_shape.specs.Shape.{Table, Shape};
 ghost use Rattle.tree_page.specs.Still.{IsStill, CanShow};
@@ -24,6 +25,9 @@ pub fn tree_page(alloc: Global, gate: &Gate, blocks: &Blocks) -> Result<TreePage
         → IsPageOf table.hierarchy (map table.row ns) gate.now.queue.rows p) }
     ensures shard { IfOk result (λ p. p.shard ≡ gate.now.shard) }
     ensures height { IfOk result (λ p. p.height ≡ gate.now.height) }
+    ensures nodes { IfOk result (λ p. p.nodes ≡ lines blocks.now.items (gate.now.height - 1) 0 (root_entry gate.now)) }
+    ensures rows { IfOk result (λ p. p.rows ≡ gate.now.agg.count) }
+    ensures queued { IfOk result (λ p. p.queued ≡ length gate.now.queue.rows) }
 {
     tree_laws();
     let root = Entry {

@@ -1,21 +1,23 @@
 use crate::tree_page;
 use block_cells::Blocks;
+use dc_node::Block;
 use describing_set::DescSet;
 use dim_hierarchy::{Hierarchy, Name};
 use measure_agg::Agg;
 use shard_store::Gate;
 use std::test::Fail;
-use tree_shape::empty_leaf;
+use tree_shape::opening_law;
 
 #[test]
 fn shows_an_empty_leaf(rt: HostRuntime) -> Result<(), Fail> {
+    opening_law();
     let alloc = rt.alloc();
     let mut h = Hierarchy::new(alloc);
     h.add_dim(&Name::from_bytes(alloc, b"place")?, 1)?;
     let gate = Gate::new(alloc, &h, 7, 1, 9, 1, Agg::EMPTY, DescSet::empty(&h));
     let mut cells = Blocks::new(alloc, 2);
     cells.make(0)?;
-    cells.put(1, empty_leaf(9));
+    cells.put(1, Block::leaf(9));
     let page = tree_page(alloc, &gate, &cells)?;
     assert_eq!(rt; page.shard, 7);
     assert_eq!(rt; page.height, 1);

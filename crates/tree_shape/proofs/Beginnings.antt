@@ -14,7 +14,8 @@ use Rattle.dim_hierarchy.specs.declared.row.Row.{Row}
 use Rattle.tree_shape.specs.Counts.{Each, times}
 use Rattle.tree_shape.specs.Queries.{QueryOk, fits, items_of}
 use Rattle.tree_shape.specs.Shape.{Node, Shape, Table, TreeCells, nodes, numbers}
-use Rattle.tree_shape.specs.Steps.{AfterBegin, Begins, queue_part}
+use Rattle.tree_shape.specs.Steps.{AfterBegin, Begins}
+use Rattle.link_descent.specs.GateRead.{queue_part}
 use Rattle.tree_shape.specs.Trees.{DirOk, IsTree}
 use Rattle.tree_shape.specs.Walks.{IsNoted, Noted}
 use Rattle.tree_shape.proofs.Relations.{IsSumOf, Verdict, fitting, notes, takes}

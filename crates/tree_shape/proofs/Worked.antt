@@ -26,7 +26,8 @@ use Rattle.tree_shape.specs.Counts.{Each, times}
 use Rattle.tree_shape.specs.Example.{Asks, Holds, IsAnswered, IsSample, Sample, Works, cells_at, first_rows, gate_after, halved_cells, leaf_of}
 use Rattle.tree_shape.specs.Queries.{IsUnfinished, NoneWaits, fits}
 use Rattle.tree_shape.specs.Shape.{Node, Shape, Table, TreeCells, nodes, numbers}
-use Rattle.tree_shape.specs.Steps.{AfterBegin, AfterPut, AfterStep, AfterVisit, IsIdle, IsSpare, root_items}
+use Rattle.tree_shape.specs.Steps.{AfterBegin, AfterPut, AfterStep, AfterVisit, IsIdle, IsSpare}
+use Rattle.link_descent.specs.GateRead.{root_items}
 use Rattle.tree_shape.proofs.Walks.{on_bool, eqb-eq, eqb-ne, eqb-no, eqb-yes}
 use Rattle.tree_shape.proofs.Descends.{length-plus}
 use Rattle.tree_shape.proofs.Parts.{each-append}

@@ -20,6 +20,7 @@ use Rattle.shard_store.specs.declared.queue.Queue.{Queue}
 use Rattle.shard_store.specs.declared.gate.Gate.{Gate}
 use Rattle.link_descent.specs.Visit.{matching, taken, noted, noted_in, noted_right, counted as block_part}
 use Rattle.link_descent.specs.Descend.{StepsDown, Enters}
+use Rattle.link_descent.specs.GateRead.{queue_part, tree_part, root_items}
 use Rattle.link_descent.specs.declared.entered.Entered.{Entered}
 use Rattle.tree_shape.specs.Counts.{Each, same, times}
 use Rattle.tree_shape.specs.Shape.{Table, Node, TreeCells, nodes, Shape, numbers}
@@ -201,18 +202,6 @@ pub record Begins (table : Table) (cells : TreeCells) (g : Shape) (f : List Pick
   pub once : (r : ℕ) → times r counted + times r (numbers cells.gate.queue.rows) ≤ 1
   pub apart : (r : ℕ) → g.placed r ≡ true → times r counted + times r (numbers cells.gate.queue.rows) ≡ 0
   pub fitting : (r : ℕ) → 1 ≤ times r counted → fits table f r ≡ true
-
--- What it takes of the queue, and of the tree: an aggregate where the set is inside the filter, the matching rows one by
--- one or the root noted where it overlaps else.
-
-abbrev pub queue_part : List Dimension → List Pick → Queue → Aggregate
-queue_part h f queue = if is_inside h queue.set f then queue.agg else if overlaps h queue.set f then agg (matching h f queue.rows) else agg []
-
-abbrev pub tree_part : List Dimension → List Pick → Gate → Aggregate
-tree_part h f gate = joined (aggs (taken h f (root_entry gate ∷ [])))
-
-abbrev pub root_items : List Dimension → List Pick → Gate → List Item
-root_items h f gate = noted h f (root_entry gate ∷ [])
 
 -- The query has begun: it is right with what it took and what it noted, and it has each of the queue's matching rows.
 pub record AfterBegin (table : Table) (cells : TreeCells) (g : Shape) (must : ℕ → Bool) (f : List Pick) (counted : List ℕ) : Type 0 where

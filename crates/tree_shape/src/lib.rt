@@ -2,25 +2,15 @@
 //! still before it; and that the steps of inserts and queries keep it.
 #![tactic(auto)]
 
-ghost use Rattle.std.specs.Prelude.{◌≡◌};
+ghost use Rattle.std.specs.Prelude.{ℕ};
 ghost use Rattle.tree_shape.specs.Trees.{leaf_without_rows};
 ghost use Rattle.tree_shape.specs.Example.{ExampleLaw};
 ghost use Rattle.tree_shape.specs.Laws.{OpeningLaw, OrderLaw, GateLaw, BlockLaw, ChildLaw, RootLaw, LinkLaw, OtherLaw, InLaw, DownLaw, PutLaw, BeginLaw, VisitLaw, ElsewhereLaw, EndLaw};
 
-use arrayvec::ArrayVec;
-use dc_node::{Block, Body};
-
-/// The root with which a tree begins: a leaf that is its own group. Takes no memory.
-pub fn empty_leaf(stamp: u64) -> Block
-    ensures block { result ≡ leaf_without_rows stamp }
-    ensures opens { OpeningLaw result }
-{
-    Block {
-        stamp,
-        right: None,
-        body: Body::Rows(ArrayVec::new()),
-    }
-}
+/// A leaf without rows, which is its own group, is the root of a new tree.
+pub fn opening_law()
+    ensures { (stamp : ℕ) → OpeningLaw (leaf_without_rows stamp) }
+{}
 
 /// Aggregates and sets go by which rows there are, so a gate tells of its tree's rows; and each block
 /// of a tree is such as the steps ask for.

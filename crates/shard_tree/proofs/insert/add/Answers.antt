@@ -18,6 +18,7 @@ loop-init c =
           c.enter-at.new.gate c.enter-at.result c.enter-at.new.blocks.items c.enter-at.new.purse w k.enough;
       missing = c.enter-at.ensures.missing;
       within = (let a = keeps.2 in let b = k.holds.tree.some in omega arith);
+      blanks = (let a = c.enter-at.ensures.blanks in let b = c.enter-at.ensures.height in let r = c.requires.blanks in omega arith);
       carries = λ find s level e found holds out.
           gone-in h row find found (with_parts s c.args.gate.now c.args.blocks.now.items c.args.purse.now) holds k.new out c.tree_laws.ensures.root c.requires.row c.tree_laws.ensures.block c.tree_laws.ensures.gate k.few
           c.enter-at.new.gate c.enter-at.result c.enter-at.new.blocks.items c.enter-at.new.purse w k.enough c.insert_laws.ensures.comes_in level (sym e);
@@ -38,6 +39,7 @@ loop-preserved c =
           c.down-at.result c.down-at.new.blocks.items c.down-at.new.purse w ∙ c.loop.invariant.count;
       missing = c.down-at.ensures.missing ∙ c.loop.invariant.missing;
       within = (let t = c.loop-test.true in omega arith);
+      blanks = (let a = c.down-at.ensures.blanks in let i = c.loop.invariant.blanks in omega arith);
       carries = λ find s level e found holds out.
           gone-down h row find found before k.new (with_parts s c.enter-at.new.gate c.loop.blocks.items c.loop.purse) c.loop.at level (c.loop.invariant.carries find s (level + 1) (omega arith) found holds out)
           c.requires.row c.tree_laws.ensures.block c.tree_laws.ensures.child c.tree_laws.ensures.gate k.few c.down-at.result c.down-at.new.blocks.items c.down-at.new.purse w c.insert_laws.ensures.goes_down;
@@ -121,3 +123,16 @@ returns-clause-added c = λ find s found holds out.
       found = p.2;
       out = record { out = ca.out.out; stamps = ca.out.stamps; cells = ca.out.cells ∙ sym n; made = ca.out.made };
     }
+
+pub down-at-requires-clause-blanks : goal.down-at-requires-clause-blanks
+down-at-requires-clause-blanks c =
+    let i = c.loop.invariant.blanks in
+    let t = c.loop-test.true in
+    omega arith
+
+pub settle-requires-clause-blanks : goal.settle-requires-clause-blanks
+settle-requires-clause-blanks c =
+    let i = c.loop.invariant.blanks in
+    let w = c.loop.invariant.within in
+    let t = c.loop-test.false in
+    omega arith

@@ -11,3 +11,10 @@ returns-clause-page c table home g still ns here =
     let of_set = λ (s : DescSet). lines blocks (gate.height - 1) 0 (record { child = gate.root; stamp = gate.stamp; agg = gate.agg; set = s }) in
     page-ok table home gate blocks g still c.tree_laws.ensures.order c.tree_laws.ensures.gate ns here c.count.result c.len.result c.push_group.new.nodes c.count.ensures c.len.ensures
     (c.in_ok-push_group.ensures ∙ ap (λ xs. xs ++ of_set c.copy.result) c.new-nodes.ensures ∙ ap of_set c.copy.ensures)
+
+pub returns-clause-nodes : goal.returns-clause-nodes
+returns-clause-nodes c =
+    let gate = c.args.gate.now in
+    let blocks = c.args.blocks.now.items in
+    let of_set = λ (s : DescSet). lines blocks (gate.height - 1) 0 (record { child = gate.root; stamp = gate.stamp; agg = gate.agg; set = s }) in
+    c.in_ok-push_group.ensures ∙ ap (λ xs. xs ++ of_set c.copy.result) c.new-nodes.ensures ∙ ap of_set c.copy.ensures

@@ -4,7 +4,6 @@ use Rattle.std.proofs.lemmas.List.{length-append, length-replicate}
 use Rattle.std.proofs.lemmas.List.FromFn.{length-range_with_len}
 use Rattle.cell_stock.specs.Stock.{StockValue, PurseValue, IsStock, AreOut, Takes, cells_of as stock_cells}
 use Rattle.tree_shape.specs.Trees.{leaf_without_rows}
-use Rattle.tree_shape.specs.Laws.{OpeningLaw}
 use Rattle.shard_tree.proofs.Inserts.{taken-some}
 use Rattle.shard_tree.proofs.Made.{cells-long}
 use Rattle.shard_tree.proofs.News.{full_stock, root-in, root-low, made-rows, made-shard}
@@ -73,9 +72,9 @@ returns-clause-rows c =
     let known : All (λ x. x < n) (stock_cells purse1.spares) = subst (λ (m : ℕ). All (λ x. x < m) (stock_cells purse1.spares)) takes.all out.known in
     let kept : c.put.new.self.missing ≤ length stock1.free = (let m = c.in_ok-make.ensures.ok in let q = c.put.ensures.missing in let f = c.free-2.ensures.value in let l = ap length takes.cells ∙ length-append stock1.free (stock_cells takes.spares) in let k = cells-long takes.spares in let t = takes.count in let e = ap (λ (s : StockValue). length s.free) st in omega arith) in
     let blocks : c.put.new.self.items ≡ set (replicate n (leaf_without_rows 0)) c.next-root.result.cell (leaf_without_rows c.next-root.result.stamp)
-    = c.put.ensures.blocks ∙ ap (λ b. set c.make.new.self.items c.next-root.result.cell b) c.empty_leaf.ensures.block ∙ ap (λ bs. set bs c.next-root.result.cell (leaf_without_rows c.next-root.result.stamp)) (c.make.ensures.items ∙ c.new-blocks.ensures.items) in
+    = c.put.ensures.blocks ∙ ap (λ b. set c.make.new.self.items c.next-root.result.cell b) c.leaf.ensures ∙ ap (λ bs. set bs c.next-root.result.cell (leaf_without_rows c.next-root.result.stamp)) (c.make.ensures.items ∙ c.new-blocks.ensures.items) in
     let small : n < 2 ^ 32 = (let r = c.ranges.cells.fits in omega arith) in
-    made-rows n stock1 purse0 purse1 purse2 purse3 c.next-home.result c.next-root.result empty0 takes fresh c.next-home.ensures.taken c.next-root.ensures.taken known c.put.new.self.missing kept c.args.h.now c.requires.dims c.new-gate.result c.empty-empty.result c.new-gate.ensures c.empty-empty.ensures.set_of c.empty-empty.ensures.valid (subst OpeningLaw c.empty_leaf.ensures.block c.empty_leaf.ensures.opens) c.put.new.self.items blocks small
+    made-rows n stock1 purse0 purse1 purse2 purse3 c.next-home.result c.next-root.result empty0 takes fresh c.next-home.ensures.taken c.next-root.ensures.taken known c.put.new.self.missing kept c.args.h.now c.requires.dims c.new-gate.result c.empty-empty.result c.new-gate.ensures c.empty-empty.ensures.set_of c.empty-empty.ensures.valid (c.opening_law.ensures c.next-root.result.stamp) c.put.new.self.items blocks small
 
 pub returns-clause-shard : goal.returns-clause-shard
 returns-clause-shard c =
@@ -96,9 +95,9 @@ returns-clause-shard c =
     let known : All (λ x. x < n) (stock_cells purse1.spares) = subst (λ (m : ℕ). All (λ x. x < m) (stock_cells purse1.spares)) takes.all out.known in
     let kept : c.put.new.self.missing ≤ length stock1.free = (let m = c.in_ok-make.ensures.ok in let q = c.put.ensures.missing in let f = c.free-2.ensures.value in let l = ap length takes.cells ∙ length-append stock1.free (stock_cells takes.spares) in let k = cells-long takes.spares in let t = takes.count in let e = ap (λ (s : StockValue). length s.free) st in omega arith) in
     let blocks : c.put.new.self.items ≡ set (replicate n (leaf_without_rows 0)) c.next-root.result.cell (leaf_without_rows c.next-root.result.stamp)
-    = c.put.ensures.blocks ∙ ap (λ b. set c.make.new.self.items c.next-root.result.cell b) c.empty_leaf.ensures.block ∙ ap (λ bs. set bs c.next-root.result.cell (leaf_without_rows c.next-root.result.stamp)) (c.make.ensures.items ∙ c.new-blocks.ensures.items) in
+    = c.put.ensures.blocks ∙ ap (λ b. set c.make.new.self.items c.next-root.result.cell b) c.leaf.ensures ∙ ap (λ bs. set bs c.next-root.result.cell (leaf_without_rows c.next-root.result.stamp)) (c.make.ensures.items ∙ c.new-blocks.ensures.items) in
     let small : n < 2 ^ 32 = (let r = c.ranges.cells.fits in omega arith) in
-    made-shard n stock1 purse0 purse1 purse2 purse3 c.next-home.result c.next-root.result empty0 takes fresh c.next-home.ensures.taken c.next-root.ensures.taken known c.put.new.self.missing kept c.args.h.now c.requires.dims c.new-gate.result c.empty-empty.result c.new-gate.ensures c.empty-empty.ensures.set_of c.empty-empty.ensures.valid (subst OpeningLaw c.empty_leaf.ensures.block c.empty_leaf.ensures.opens) c.put.new.self.items blocks small
+    made-shard n stock1 purse0 purse1 purse2 purse3 c.next-home.result c.next-root.result empty0 takes fresh c.next-home.ensures.taken c.next-root.ensures.taken known c.put.new.self.missing kept c.args.h.now c.requires.dims c.new-gate.result c.empty-empty.result c.new-gate.ensures c.empty-empty.ensures.set_of c.empty-empty.ensures.valid (c.opening_law.ensures c.next-root.result.stamp) c.put.new.self.items blocks small
 
 pub returns-clause-free : goal.returns-clause-free
 returns-clause-free c =

@@ -3,7 +3,7 @@ use Rattle.dc_node.specs.declared.block.Block.{Block}
 use Rattle.dc_node.specs.declared.todo.Item.{Item}
 use Rattle.measure_agg.specs.Aggregate.{join}
 use Rattle.link_descent.specs.Visit.{noted_in, noted_right, counted}
-use Rattle.tree_shape.specs.Steps.{queue_part, tree_part, root_items}
+use Rattle.link_descent.specs.GateRead.{queue_part, tree_part, root_items}
 use Rattle.std.specs.Prelude.{IsSome}
 use Rattle.dc_node.specs.Block.{IsBodyOf}
 use Rattle.dc_node.specs.Summary.{row_count}
@@ -12,8 +12,8 @@ use Rattle.block_cells.specs.Blocks.{block_at}
 use Rattle.shard_tree.proofs.Asking.{Asking, begun, exhausted, answered, can-visit, visited, gate-few}
 use Rattle.shard_tree.proofs.tree.ShardTree.total.Goals as goal
 
-pub begin-total-requires-clause-few : goal.begin-total-requires-clause-few
-begin-total-requires-clause-few c =
+pub read_gate-requires-clause-few : goal.read_gate-requires-clause-few
+read_gate-requires-clause-few c =
     let few = gate-few c.args.h.now c.args.wanted.now c.args.self.now c.requires.shard c.requires.filter c.tree_laws.ensures.gate in
     let e = ap (λ (s : ShardValue). s.gate.queue.agg.count + s.gate.agg.count) c.self.view_is in
     omega (arith, few, e)
@@ -25,9 +25,10 @@ loop-init c =
     let gate = ap (λ (s : ShardValue). s.gate) c.self.view_is in
     let none : c.reserve.new.self.items ≡ [] = c.in_ok-reserve.ensures.items ∙ c.new-todo.ensures in
     record {
-      query = begun h f c.args.self.now c.requires.shard c.requires.filter c.query_laws.ensures.begins c.tree_laws.ensures.root c.laws.ensures.empty_left c.begin-total.result c.begin-total.new.todo.items
-          (c.begin-total.ensures.total ∙ ap (λ g. join (queue_part h f g.queue) (tree_part h f g)) gate)
-          (c.begin-total.ensures.todo ∙ ap (λ xs. xs ++ root_items h f c.self.inside.gate) none ∙ ap (root_items h f) gate);
+      query = begun h f c.args.self.now c.requires.shard c.requires.filter c.query_laws.ensures.begins c.tree_laws.ensures.root c.laws.ensures.empty_left c.read_gate.new.agg c.read_gate.new.todo.items
+          (c.read_gate.ensures.agg ∙ ap (λ a. join a (tree_part h f c.self.inside.gate)) (c.laws.ensures.empty_left (queue_part h f c.self.inside.gate.queue))
+          ∙ ap (λ g. join (queue_part h f g.queue) (tree_part h f g)) gate)
+          (c.read_gate.ensures.todo ∙ ap (λ xs. xs ++ root_items h f c.self.inside.gate) none ∙ ap (root_items h f) gate);
       cells = c.len-end.ensures ∙ ap length (ap (λ (x : ShardValue). x.blocks) c.self.view_is);
     }
 
