@@ -1,7 +1,7 @@
 -- Elements of a list with an optional head, and of a filtered list.
-use Rattle.std.proofs.Common.{◌≡◌, zero, suc, List, [], ◌∷◌, Bool, true, IsTrue, ap, ◌∙◌, arith}
+use Rattle.std.proofs.Common.{◌≡◌, ◌<◌, zero, suc, refl, sym, map, length, List, [], ◌∷◌, Bool, true, IsTrue, ap, ◌∙◌, arith}
 use Rattle.std.specs.Prelude.{Option, Some, None, All, Contains, filter}
-use Rattle.std.specs.List.{cons_option}
+use Rattle.std.specs.List.{cons_option, AllZip}
 use Rattle.std.proofs.lemmas.Bool.{cond_both}
 use Rattle.std.proofs.lemmas.List.Elements.{All-contains, All-contains_itself, All-filter, All-tail, Contains-append_right, filter_passes}
 
@@ -30,3 +30,36 @@ Contains-filter test (y ∷ ys) x (suc k, within, here) passes =
     cond_both (test y) (y ∷ filter test ys) (filter test ys) (λ kept. Contains kept x)
     (λ _. Contains-append_right (y ∷ []) (filter test ys) x rest)
     (λ _. rest)
+
+pub Contains-nil : {X : Type 0} (x : X) → Contains [] x → ⊥
+Contains-nil x has = let below : has.0 < 0 = has.1 in omega arith
+
+pub Contains-map : {X Y : Type 0} (f : X → Y) (xs : List X) (x : X) → Contains xs x → Contains (map f xs) (f x)
+Contains-map f [] x has = absurd (Contains-nil x has)
+Contains-map f (y ∷ ys) x (zero, within, here) = (0, omega arith, ap f here)
+Contains-map f (y ∷ ys) x (suc k, within, here) = Contains-append_right (f y ∷ []) (map f ys) (f x) (Contains-map f ys x (k, omega arith, here))
+
+-- what stands in a mapped list comes from an element
+pub Contains-mapped : {X Y : Type 0} (f : X → Y) (xs : List X) (y : Y) → Contains (map f xs) y → (x : X) × Contains xs x × (f x ≡ y)
+Contains-mapped f [] y has = absurd (Contains-nil y has)
+Contains-mapped f (x ∷ xs) y (zero, within, here) = (x, (0, omega arith, refl), here)
+Contains-mapped f (x ∷ xs) y (suc k, within, here) =
+    let found = Contains-mapped f xs y (k, omega arith, here) in (found.0, Contains-append_right (x ∷ []) xs found.0 found.1, found.2)
+
+-- a list of one element has no two
+pub only : {X : Type 0} (xs : List X) (x y : X) → 1 ≡ length xs → Contains xs x → Contains xs y → x ≡ y
+only [] x y one has_x has_y = absurd (Contains-nil x has_x)
+only (z ∷ []) x y one (zero, within, here) (zero, low, there) = sym here ∙ there
+only (z ∷ []) x y one (zero, within, here) (suc k, low, there) = absurd (omega arith)
+only (z ∷ []) x y one (suc k, within, here) has_y = absurd (omega arith)
+only (z ∷ w ∷ xs) x y one has_x has_y = absurd (omega arith)
+
+pub Some-same : {X : Type 0} (x y : X) → Some x ≡ Some y → y ≡ x
+Some-same x y same = cc
+
+-- lists that agree place by place are equally long
+pub length-AllZip : {A B : Type 0} (R : A → B → Type 0) (xs : List A) (ys : List B) → AllZip R xs ys → length xs ≡ length ys
+length-AllZip R [] [] all = refl
+length-AllZip R [] (y ∷ ys) all = absurd all
+length-AllZip R (x ∷ xs) [] all = absurd all
+length-AllZip R (x ∷ xs) (y ∷ ys) all = let rest : length xs ≡ length ys = length-AllZip R xs ys all.1 in omega arith

@@ -6,7 +6,7 @@ use Rattle.std.proofs.lemmas.List.{reverse-append, reverse-reverse}
 use Rattle.std.proofs.lemmas.Option.{gets}
 use Rattle.std.proofs.lemmas.Bool.Decides.{nat_tests}
 use Rattle.row_ledger.specs.declared.event.Event.{Event}
-use Rattle.row_ledger.specs.Past.{event_at, before}
+use Rattle.row_ledger.specs.Past.{event_at, before, since}
 
 -- the newest event stands at the length of its past
 pub event_at-here : (e : Event) (past : List Event) → event_at (e ∷ past) (length past) ≡ Some e
@@ -45,3 +45,11 @@ before-all (e ∷ past) = grind (arith, nat_tests)
 -- before the newest event stands its past
 pub before-here : (e : Event) (past : List Event) → before (e ∷ past) (length past) ≡ past
 before-here e past = grind (arith, before-older, before-all)
+
+-- the events behind a position that the newest event stands behind, or doesn't
+
+pub since-inside : (e : Event) (past : List Event) (p : ℕ) → p < length past → since (e ∷ past) p ≡ e ∷ since past p
+since-inside e past p inside = grind (arith, nat_tests)
+
+pub since-outside : (e : Event) (past : List Event) (p : ℕ) → length past ≤ p → since (e ∷ past) p ≡ []
+since-outside e past p outside = grind (arith, nat_tests)

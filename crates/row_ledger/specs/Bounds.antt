@@ -1,21 +1,53 @@
 -- What an answer must and may count, and when it is allowed.
-use Rattle.std.specs.Prelude.{ℕ, ◌≡◌, ◌==◌, nat_eq, Bool, IsTrue, List, map, filter, All, Contains}
-use Rattle.std.specs.List.{IsDistinct}
+use Rattle.std.specs.Prelude.{ℕ, ◌≡◌, ◌==◌, nat_eq, Bool, ◌&&◌, IsTrue, if◌then◌else◌, List, [], ◌∷◌, ◌++◌, map, filter, All, Contains}
+use Rattle.std.specs.List.{list_any, IsDistinct}
+use Rattle.std.specs.Option.{option_map_or}
 use Rattle.dim_hierarchy.specs.declared.row.Row.{Row}
 use Rattle.dim_hierarchy.specs.declared.filter.Pick.{Pick}
 use Rattle.dim_hierarchy.specs.Dimension.{Dimension}
 use Rattle.dim_hierarchy.specs.Filter.{matches}
 use Rattle.measure_agg.specs.Aggregate.{Aggregate, agg}
+use Rattle.describing_set.specs.declared.listing.Spot.{Spot}
+use Rattle.describing_set.specs.DescSet.{covers}
 use Rattle.row_ledger.specs.declared.event.Event.{Event}
-use Rattle.row_ledger.specs.Past.{Ack, acked, begun}
+use Rattle.row_ledger.specs.Past.{Ack, Pull, pull_in, acked, begun}
 
 -- what was acknowledged through a server
 abbrev pub own : List Event → ℕ → List Ack
 own past server = filter (λ (a : Ack). a.server == server) (acked past)
 
+-- what servers acknowledged before a pull of their own, which tells the others of it
+abbrev pub published : List Event → List Ack
+published [] = []
+published (e ∷ past) = option_map_or (λ (p : Pull). own past p.server) (pull_in e) [] ++ published past
+
+-- what was published before a pull of the server
+abbrev pub passed : List Event → ℕ → List Ack
+passed [] server = []
+passed (e ∷ past) server =
+    option_map_or (λ (p : Pull). if p.server == server then published past else []) (pull_in e) [] ++ passed past server
+
+-- what the server pulled last
+abbrev pub listing_of : List Event → ℕ → List Spot
+listing_of [] server = []
+listing_of (e ∷ past) server =
+    option_map_or (λ (p : Pull). if p.server == server then p.listing else listing_of past server) (pull_in e) (listing_of past server)
+
+-- a shard of the row's path is listed with a box that covers the row
+abbrev pub is_listed : List Dimension → List Spot → Ack → Bool
+is_listed h spots a = list_any (λ (spot : Spot). list_any (λ x. x == spot.shard) a.path && covers h spot.set a.row.at) spots
+
+-- what was acknowledged under a box that the server pulled last
+abbrev pub listed : List Dimension → List Event → ℕ → List Ack
+listed h past server = filter (is_listed h (listing_of past server)) (acked past)
+
+-- what a server must know: what it acknowledged itself, what the others told it, and what lies in its boxes
+abbrev pub known : List Dimension → List Event → ℕ → List Ack
+known h past server = own past server ++ passed past server ++ listed h past server
+
 -- the rows that a server must know
-abbrev pub must : List Event → ℕ → List Row
-must past server = map (λ (a : Ack). a.row) (own past server)
+abbrev pub must : List Dimension → List Event → ℕ → List Row
+must h past server = map (λ (a : Ack). a.row) (known h past server)
 
 -- the rows that an answer behind this past may count: those begun, and of them only usable ones.
 -- In a right history the usable ones are those whose insert ends for want of memory nowhere in it, not even later.

@@ -1,6 +1,16 @@
 pub mod Past
+pub mod Site
+pub mod Shards
 pub mod Bounds
+pub mod Listings
 pub mod Pages
+pub mod Work
 pub mod Right
+pub mod Settled
+pub mod Changes
+pub mod Laws
 pub mod LedgerValue
 pub mod Worked
+pub mod WorkedPulls
+pub mod WorkedShards
+pub mod WorkedBalance

@@ -1,15 +1,23 @@
--- What a page tells of the rows of its shard.
+-- What pages tell: of the tree of a shard, of the shards that stand, and of all rows.
 use Rattle.std.specs.Prelude.{ℕ, ◌≡◌, ◌+◌, ◌*◌, ◌<◌, ◌≤◌, true, false, ⊤, List, [], ◌∷◌, ◌++◌, length, map, All, Contains, IsPermutation, nat_eq}
-use Rattle.std.specs.List.{IsDistinct}
+use Rattle.std.specs.List.{IsDistinct, AllZip, flat_map}
 use Rattle.dim_hierarchy.specs.declared.row.Row.{Row}
 use Rattle.dim_hierarchy.specs.Dimension.{Dimension}
 use Rattle.measure_agg.specs.Aggregate.{agg}
 use Rattle.describing_set.specs.DescSet.{IsSetOf}
 use Rattle.row_ledger.specs.declared.event.Event.{Event}
+use Rattle.row_ledger.specs.declared.page.AuditLine.{AuditLine}
 use Rattle.row_ledger.specs.declared.page.NodeLine.{NodeLine}
+use Rattle.row_ledger.specs.declared.page.Page.{Page}
+use Rattle.row_ledger.specs.declared.page.Page.TheVariants as page
+use Rattle.row_ledger.specs.declared.page.ShardLine.{ShardLine}
 use Rattle.row_ledger.specs.declared.page.TreePage.{TreePage}
 use Rattle.row_ledger.specs.Past.{Ack, acked, acked_rows, acked_into}
 use Rattle.row_ledger.specs.Bounds.{numbers}
+use Rattle.row_ledger.specs.Shards.{Place, place, frontier}
+use Rattle.row_ledger.specs.Site.{Site}
+
+-- Trees.
 
 -- The groups of a tree as they hang together: none; or a leaf group, by its line and its rows, and then more; or a
 -- directory group, by its line and the groups beneath it, and then more.
@@ -89,3 +97,34 @@ pub record IsShownTree (h : List Dimension) (past : List Event) (page : TreePage
   pub known : All (λ (a : Ack). Contains (tree ++ queue) a.row) (acked_into page.shard past)
   pub least : length (acked_into page.shard past) ≤ page.rows + page.queued
   pub most : page.rows + page.queued ≤ length (acked past)
+
+-- Shards.
+
+-- the rows in a line's shard: as many as its tree and its queue have, their set, and among them all that came to the shard
+pub record IsShardLine (h : List Dimension) (past : List Event) (line : ShardLine) (rows : List Row) : Type 0 where
+  pub count : line.rows + line.queued ≡ length rows
+  pub set : IsSetOf h (map (λ r. r.at) rows) line.set
+  pub came : All (λ (a : Ack). Contains rows a.row) (acked_into line.shard past)
+
+-- the shards and workers of a page
+abbrev pub places_shown : List ShardLine → List Place
+places_shown lines = map (λ (line : ShardLine). place line.shard line.worker) lines
+
+-- What a page of the shards may show behind this past: those that stand, and the acknowledged rows divided among them,
+-- each row in one of them.
+pub record AreShownShards (site : Site) (past : List Event) (lines : List ShardLine) : Type 0 where
+  pub places : places_shown lines ≡ frontier site.workers past
+  pub parts : List (List Row)
+  pub each : AllZip (IsShardLine site.hierarchy past) lines parts
+  pub divided : IsPermutation (acked_rows past) (flat_map (λ rows. rows) parts)
+
+-- what an audit may show: the aggregate of the acknowledged rows, and how many shards stand
+pub record IsShownAudit (site : Site) (past : List Event) (audit : AuditLine) : Type 0 where
+  pub total : audit.agg ≡ agg (acked_rows past)
+  pub count : audit.shards ≡ length (frontier site.workers past)
+
+-- what a page tells is so behind this past
+abbrev pub IsShown : Site → List Event → Page → Type 0
+IsShown site past (page.Shards lines) = AreShownShards site past lines
+IsShown site past (page.Tree tree) = IsShownTree site.hierarchy past tree
+IsShown site past (page.Audit audit) = IsShownAudit site past audit

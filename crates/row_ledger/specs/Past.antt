@@ -1,13 +1,14 @@
 -- A history is a list of events, the newest first. What stands behind an event in the list is its past,
 -- and the length of its past is its position. So every notion "before a position" is a function of a past
 -- alone, and nothing that is said of an earlier event changes when the history grows.
-use Rattle.std.specs.Prelude.{ℕ, ◌==◌, Bool, true, false, not, ◌||◌, nat_lt, Option, Some, None, is_some, option_map, option_and_then, if◌then◌else◌, List, [], ◌∷◌, length, map, filter, filter_map}
-use Rattle.std.specs.List.{list_any, cons_option}
+use Rattle.std.specs.Prelude.{ℕ, ◌==◌, Bool, true, false, not, ◌&&◌, ◌||◌, nat_lt, Option, Some, None, is_some, option_map, option_and_then, if◌then◌else◌, List, [], ◌∷◌, length, map, filter, filter_map}
+use Rattle.std.specs.List.{list_any, list_all, cons_option}
 use Rattle.std.specs.Option.{option_map_or, option_or}
 use Rattle.dim_hierarchy.specs.declared.row.Row.{Row}
 use Rattle.dim_hierarchy.specs.declared.filter.Pick.{Pick}
+use Rattle.describing_set.specs.declared.listing.Spot.{Spot}
 use Rattle.row_ledger.specs.declared.event.Event.{Event}
-use Rattle.row_ledger.specs.declared.event.Event.TheVariants.{Begun, Acked, Asked, Answered, Unknown, Failed, Refused, Called, Shown, Ended}
+use Rattle.row_ledger.specs.declared.event.Event.TheVariants.{Synced, Begun, Acked, Asked, Answered, Unknown, Failed, Refused, Called, Split, Moved, Left, Shown, Ended}
 use Rattle.row_ledger.specs.declared.page.Page.{Page}
 use Rattle.row_ledger.specs.declared.settings.Call.{Call}
 
@@ -22,6 +23,11 @@ event_at (e ∷ past) p = if p == length past then Some e else event_at past p
 abbrev pub before : List Event → ℕ → List Event
 before [] p = []
 before (e ∷ past) p = if nat_lt (length past) p then e ∷ past else before past p
+
+-- the events behind a position, the newest first
+abbrev pub since : List Event → ℕ → List Event
+since [] p = []
+since (e ∷ past) p = if nat_lt p (length past) then e ∷ since past p else []
 
 -- What an event tells.
 
@@ -47,6 +53,29 @@ query_in _ = None
 abbrev pub call_in : Event → Option Call
 call_in (Called session call) = Some call
 call_in _ = None
+
+-- a pull: its server, and what it lists
+pub record Pull : Type 0 where
+  pub server : ℕ
+  pub listing : List Spot
+
+abbrev pub pull_in : Event → Option Pull
+pull_in (Synced server listing) = Some (record { server = server; listing = listing })
+pull_in _ = None
+
+-- whether an event is a pull of the server
+abbrev pub is_pull_of : ℕ → Event → Bool
+is_pull_of server e = option_map_or (λ (p : Pull). p.server == server) (pull_in e) false
+
+-- a shard that was split, and its two children
+pub record Children : Type 0 where
+  pub shard : ℕ
+  pub left : ℕ
+  pub right : ℕ
+
+abbrev pub split_in : Event → Option Children
+split_in (Split of shard left right) = Some (record { shard = shard; left = left; right = right })
+split_in _ = None
 
 -- the session of the command that an event begins
 abbrev pub session_in : Event → Option ℕ
@@ -74,6 +103,18 @@ end_in (Answered of agg) = Some of
 end_in (Failed of) = Some of
 end_in (Ended of how) = Some of
 end_in _ = None
+
+-- the position of the command that an event belongs to and doesn't begin
+abbrev pub number_in : Event → Option ℕ
+number_in (Acked of path) = Some of
+number_in (Answered of agg) = Some of
+number_in (Failed of) = Some of
+number_in (Split of shard left right) = Some of
+number_in (Moved of shard worker) = Some of
+number_in (Left of shard how) = Some of
+number_in (Shown of page) = Some of
+number_in (Ended of how) = Some of
+number_in _ = None
 
 -- the position of the command that an event ends for want of memory
 abbrev pub failed_in : Event → Option ℕ
@@ -103,6 +144,37 @@ has_ended past p = list_any (is_end_of p) past
 abbrev pub is_over : List Event → ℕ → Bool
 is_over past p = has_ended past p || option_map_or ends_itself (event_at past p) false
 
+-- the positions of the commands that began
+abbrev pub beginnings : List Event → List ℕ
+beginnings [] = []
+beginnings (e ∷ past) = if is_beginning e then length past ∷ beginnings past else beginnings past
+
+-- no command is open: each that began has its end
+abbrev pub is_idle : List Event → Bool
+is_idle past = list_all (is_over past) (beginnings past)
+
+-- Work of called commands: splits and moves that are done, and planned ones that were left.
+
+abbrev pub is_work : Event → Bool
+is_work (Split of shard left right) = true
+is_work (Moved of shard worker) = true
+is_work (Left of shard how) = true
+is_work _ = false
+
+-- whether an event is work of the command that began at a position
+abbrev pub is_work_of : ℕ → Event → Bool
+is_work_of p e = is_work e && option_map_or (λ of. of == p) (number_in e) false
+
+-- an event and the past behind it
+pub record Step : Type 0 where
+  pub event : Event
+  pub past : List Event
+
+-- the work of that command, the newest first
+abbrev pub work : List Event → ℕ → List Step
+work [] p = []
+work (e ∷ past) p = if is_work_of p e then record { event = e; past = past } ∷ work past p else work past p
+
 -- Pages.
 
 -- the page that an event shows for the command that began at a position
@@ -117,15 +189,6 @@ page_of (e ∷ past) p = option_or (page_in p e) (page_of past p)
 
 abbrev pub has_page : List Event → ℕ → Bool
 has_page past p = is_some (page_of past p)
-
--- Shards.
-
--- the shards that stand: so far the first one alone
-abbrev pub frontier : List Event → List ℕ
-frontier past = 0 ∷ []
-
-abbrev pub is_live : List Event → ℕ → Bool
-is_live past shard = list_any (λ x. x == shard) (frontier past)
 
 -- Rows.
 
@@ -154,6 +217,12 @@ acked (e ∷ past) = cons_option (ack_in past e) (acked past)
 
 abbrev pub acked_rows : List Event → List Row
 acked_rows past = map (λ (a : Ack). a.row) (acked past)
+
+-- the last shard of a path, which took the row; an empty path, which no row has, counts as that of shard 0
+abbrev pub last_of : List ℕ → ℕ
+last_of [] = 0
+last_of (x ∷ []) = x
+last_of (x ∷ y ∷ path) = last_of (y ∷ path)
 
 -- whether a path ends with a shard
 abbrev pub ends_with : ℕ → List ℕ → Bool

@@ -1,103 +1,228 @@
 -- When a history is right: one fact for each kind of event, over the past behind it.
-use Rattle.std.specs.Prelude.{ℕ, ◌≡◌, Bool, true, false, IsTrue, Some, is_some, ◌||◌, List, [], ◌∷◌, length, ⊤}
-use Rattle.dim_hierarchy.specs.Dimension.{Dimension}
+use Rattle.std.specs.Prelude.{ℕ, ◌≡◌, ◌==◌, ◌+◌, ◌<◌, ◌≤◌, Bool, true, false, IsTrue, Some, is_some, ◌||◌, List, [], ◌∷◌, length, ⊤}
+use Rattle.std.specs.List.{list_any}
 use Rattle.measure_agg.specs.Aggregate.{Aggregate}
+use Rattle.describing_set.specs.declared.listing.Spot.{Spot}
+use Rattle.shard_plan.specs.declared.action.Action.TheVariants as action
 use Rattle.row_ledger.specs.declared.event.Event.{Event}
-use Rattle.row_ledger.specs.declared.event.Event.TheVariants.{Begun, Acked, Asked, Answered, Unknown, Failed, Refused, Called, Shown, Ended}
+use Rattle.row_ledger.specs.declared.event.Event.TheVariants as event
 use Rattle.row_ledger.specs.declared.page.Page.{Page}
 use Rattle.row_ledger.specs.declared.page.Page.TheVariants as page
 use Rattle.row_ledger.specs.declared.settings.Call.{Call}
-use Rattle.row_ledger.specs.declared.settings.Call.TheVariants.{Barrier, Tree}
+use Rattle.row_ledger.specs.declared.settings.Call.TheVariants.{Sync, Split, Move, Balance, Barrier, Settle, Shards, Tree, Audit}
+use Rattle.row_ledger.specs.declared.settings.Decline.TheVariants.{OnePlace, NoCell}
 use Rattle.row_ledger.specs.declared.settings.Decline.TheVariants as decline
 use Rattle.row_ledger.specs.declared.settings.How.{How}
-use Rattle.row_ledger.specs.declared.settings.How.TheVariants.{Fine, Declined, NoMemory}
-use Rattle.row_ledger.specs.Past.{Insert, Query, before, insert_at, query_at, call_at, has_ended, has_page, is_live, is_kept}
+use Rattle.row_ledger.specs.declared.settings.How.TheVariants.{Fine, Balanced, Declined, Postponed, NoMemory}
+use Rattle.row_ledger.specs.Past.{Insert, Query, before, since, insert_at, query_at, call_at, has_ended, is_idle, has_page, is_kept, is_pull_of, work}
+pub use Rattle.row_ledger.specs.Site.{Site}
+use Rattle.row_ledger.specs.Shards.{is_live, ids_made, is_path}
 use Rattle.row_ledger.specs.Bounds.{must, may, IsAllowed}
-use Rattle.row_ledger.specs.Pages.{IsShownTree}
-
--- what a history is about
-pub record Site : Type 0 where
-  pub hierarchy : List Dimension
+use Rattle.row_ledger.specs.Listings.{IsFirstListing, IsListing}
+pub use Rattle.row_ledger.specs.Pages.{IsShown}
+use Rattle.row_ledger.specs.Work.{MayEndAction, IsRightBalance}
 
 -- P holds of each event, with the past behind it
 abbrev pub Each : (List Event → Event → Type 0) → List Event → Type 0
 Each P [] = ⊤
 Each P (e ∷ past) = P past e × Each P past
 
--- an acknowledgement is of an insert that hasn't ended
-pub record IsRightAck (past : List Event) (of : ℕ) : Type 0 where
+-- Openings.
+
+-- one of the first events: the pull of the server with the number of its position, which lists the first shards
+abbrev pub IsFirstPull : Site → List Event → Event → Type 0
+IsFirstPull site past (event.Synced server listing) = (server ≡ length past) × IsFirstListing site listing
+IsFirstPull site past e = ⊥
+
+-- as many events as there are servers are first pulls
+abbrev pub Opens : Site → List Event → Event → Type 0
+Opens site past e = length past < site.servers → IsFirstPull site past e
+
+-- an opening so far: only first pulls
+pub record IsOpening (site : Site) (h : List Event) : Type 0 where
+  pub few : length h ≤ site.servers
+  pub pulls : Each (IsFirstPull site) h
+
+-- Inserts and queries.
+
+-- an acknowledgement is of an insert that hasn't ended, by a path from a shard that its server has pulled down finished splits
+pub record IsRightAck (past : List Event) (of : ℕ) (path : List ℕ) : Type 0 where
   pub insert : Insert
   pub begun : insert_at past of ≡ Some insert
   pub is_open : has_ended past of ≡ false
+  pub descends : IsTrue (is_path past insert.server path)
 
 -- an answer is to a query that hasn't ended, and is allowed
 pub record IsRightAnswer (site : Site) (usable : ℕ → Bool) (past : List Event) (of : ℕ) (answer : Aggregate) : Type 0 where
   pub query : Query
   pub asked : query_at past of ≡ Some query
   pub is_open : has_ended past of ≡ false
-  pub allowed : IsAllowed site.hierarchy (must (before past of) query.server) (may usable past) query.filter answer
+  pub allowed : IsAllowed site.hierarchy (must site.hierarchy (before past of) query.server) (may usable past) query.filter answer
 
 -- a failure is of an insert or a query that hasn't ended
 pub record IsRightFailure (past : List Event) (of : ℕ) : Type 0 where
   pub begun : IsTrue (is_some (insert_at past of) || is_some (query_at past of))
   pub is_open : has_ended past of ≡ false
 
+-- Pulls.
+
+-- a call pulls for a server: a sync of it does, and a settle
+abbrev pub pulls_for : ℕ → Call → Bool
+pulls_for server (Sync s) = s == server
+pulls_for server Settle = true
+pulls_for server call = false
+
+-- a pull stands while a call is open that pulls for its server, and lists what stands
+pub record IsLaterPull (site : Site) (usable : ℕ → Bool) (past : List Event) (server : ℕ) (listing : List Spot) : Type 0 where
+  pub of : ℕ
+  pub call : Call
+  pub called : call_at past of ≡ Some call
+  pub is_open : has_ended past of ≡ false
+  pub pulls : IsTrue (pulls_for server call)
+  pub lists : IsListing site usable past server listing
+
+-- the first pulls aside, one for each server
+pub record IsRightPull (site : Site) (usable : ℕ → Bool) (past : List Event) (server : ℕ) (listing : List Spot) : Type 0 where
+  pub later : site.servers ≤ length past → IsLaterPull site usable past server listing
+
+-- Splits and moves.
+
+-- a call asks for this split as its only work, or plans it
+abbrev pub AsksSplit : List Event → ℕ → Call → ℕ → Type 0
+AsksSplit past of (Split x) shard = (shard ≡ x) × (work past of ≡ [])
+AsksSplit past of (Balance most) shard = ⊤
+AsksSplit past of call shard = ⊥
+
+-- a call asks for this move as its only work, or plans it
+abbrev pub AsksMove : List Event → ℕ → Call → ℕ → ℕ → Type 0
+AsksMove past of (Move x w) shard worker = (shard ≡ x) × (worker ≡ w) × (work past of ≡ [])
+AsksMove past of (Balance most) shard worker = ⊤
+AsksMove past of call shard worker = ⊥
+
+-- a split is for a call that hasn't ended, of a shard that stands, whose children have the next two ids
+pub record IsRightSplit (site : Site) (past : List Event) (of shard left right : ℕ) : Type 0 where
+  pub call : Call
+  pub called : call_at past of ≡ Some call
+  pub is_open : has_ended past of ≡ false
+  pub asked : AsksSplit past of call shard
+  pub live : IsTrue (is_live site.workers past shard)
+  pub next : left ≡ ids_made site.workers past
+  pub after : right ≡ ids_made site.workers past + 1
+
+-- a move is for a call that hasn't ended, of a shard that stands
+pub record IsRightMove (site : Site) (past : List Event) (of shard worker : ℕ) : Type 0 where
+  pub call : Call
+  pub called : call_at past of ≡ Some call
+  pub is_open : has_ended past of ≡ false
+  pub asked : AsksMove past of call shard worker
+  pub live : IsTrue (is_live site.workers past shard)
+
+-- only a balance leaves a planned action
+abbrev pub Plans : Call → Type 0
+Plans (Balance most) = ⊤
+Plans call = ⊥
+
+-- how a planned action may be left
+abbrev pub MayLeave : How → Type 0
+MayLeave (Declined OnePlace) = ⊤
+MayLeave (Declined (NoCell need free)) = ⊤
+MayLeave Postponed = ⊤
+MayLeave how = ⊥
+
+-- an action is left by a balance that hasn't ended
+pub record IsRightLeft (past : List Event) (of : ℕ) (how : How) : Type 0 where
+  pub call : Call
+  pub called : call_at past of ≡ Some call
+  pub is_open : has_ended past of ≡ false
+  pub plans : Plans call
+  pub may_leave : MayLeave how
+
+-- Pages.
+
 -- a page is such as a command asks for: a tree's is that of its shard
 abbrev pub Asks : Call → Page → Type 0
-Asks Barrier page = ⊥
+Asks Shards (page.Shards lines) = ⊤
 Asks (Tree shard) (page.Tree shown) = shown.shard ≡ shard
+Asks Audit (page.Audit audit) = ⊤
+Asks call shown = ⊥
 
--- what a page tells is so behind this past
-abbrev pub IsShown : Site → List Event → Page → Type 0
-IsShown site past (page.Tree shown) = IsShownTree site.hierarchy past shown
-
--- a page is such as a called command asks for that hasn't ended, the first one for it, and what it tells was so when
--- the command began
+-- A page is such as a called command asks for that hasn't ended, the first one for it, and what it tells was so when the
+-- command began. It stands right behind the command's beginning, and no other command was open there.
 pub record IsRightPage (site : Site) (past : List Event) (of : ℕ) (page : Page) : Type 0 where
   pub call : Call
   pub called : call_at past of ≡ Some call
   pub is_open : has_ended past of ≡ false
   pub first : has_page past of ≡ false
   pub asked : Asks call page
+  pub next : length past ≡ of + 1
+  pub alone : IsTrue (is_idle (before past of))
   pub shown : IsShown site (before past of) page
 
--- How a called command may end that began behind this past. A barrier is always fine; a tree is declined exactly where
--- its shard doesn't stand, unless it finds no memory.
-abbrev pub MayEnd : List Event → Call → How → Type 0
-MayEnd past Barrier Fine = ⊤
-MayEnd past (Tree shard) Fine = IsTrue (is_live past shard)
-MayEnd past (Tree shard) (Declined decline.Unknown) = is_live past shard ≡ false
-MayEnd past (Tree shard) NoMemory = ⊤
-MayEnd past call how = ⊥
+-- Ends.
 
--- whether a command that ends so has shown a page: a tree that is fine has, and no other has
+-- the server has pulled since the command began at this position
+abbrev pub has_pulled : List Event → ℕ → ℕ → Bool
+has_pulled past of server = list_any (is_pull_of server) (since past of)
+
+-- How a called command may end that began at `of`, behind this past. A barrier is always fine; a sync is where its server
+-- has pulled; a tree is declined exactly where its shard doesn't stand, unless it finds no memory.
+abbrev pub MayEnd : Site → (ℕ → Bool) → List Event → ℕ → Call → How → Type 0
+MayEnd site usable past of Barrier Fine = ⊤
+MayEnd site usable past of (Sync server) Fine = IsTrue (has_pulled past of server)
+MayEnd site usable past of (Sync server) NoMemory = ⊤
+MayEnd site usable past of Settle Fine = ⊤
+MayEnd site usable past of Settle NoMemory = ⊤
+MayEnd site usable past of (Split shard) how = MayEndAction site usable past of (action.Split shard) how
+MayEnd site usable past of (Move shard worker) how = MayEndAction site usable past of (action.Move shard worker) how
+MayEnd site usable past of (Balance most) (Balanced done planned) = IsRightBalance site usable past of most done planned
+MayEnd site usable past of (Balance most) NoMemory = work past of ≡ []
+MayEnd site usable past of (Tree shard) Fine = IsTrue (is_live site.workers (before past of) shard)
+MayEnd site usable past of (Tree shard) (Declined decline.Unknown) = is_live site.workers (before past of) shard ≡ false
+MayEnd site usable past of (Tree shard) NoMemory = ⊤
+MayEnd site usable past of Shards Fine = ⊤
+MayEnd site usable past of Shards NoMemory = ⊤
+MayEnd site usable past of Audit Fine = ⊤
+MayEnd site usable past of Audit NoMemory = ⊤
+MayEnd site usable past of call how = ⊥
+
+-- whether a command that ends so has shown a page: one that asks for a page and is fine has, and no other has
 abbrev pub shows : Call → How → Bool
+shows Shards Fine = true
 shows (Tree shard) Fine = true
+shows Audit Fine = true
 shows call how = false
 
--- an end is of a called command that hasn't ended, and is one that its kind may have, with a page where it has to
-pub record IsRightEnd (past : List Event) (of : ℕ) (how : How) : Type 0 where
+-- an end is of a called command that hasn't ended, and is one that it may have, with a page where it has to
+pub record IsRightEnd (site : Site) (usable : ℕ → Bool) (past : List Event) (of : ℕ) (how : How) : Type 0 where
   pub call : Call
   pub called : call_at past of ≡ Some call
   pub is_open : has_ended past of ≡ false
-  pub may_end : MayEnd (before past of) call how
+  pub may_end : MayEnd site usable past of call how
   pub page : has_page past of ≡ shows call how
+
+-- Histories.
 
 -- the event stands rightly behind this past; a row's number is the position of its beginning
 abbrev pub Stands : Site → (ℕ → Bool) → List Event → Event → Type 0
-Stands site usable past (Begun session server row) = row.no ≡ length past
-Stands site usable past (Acked of path) = IsRightAck past of
-Stands site usable past (Asked session server filter) = ⊤
-Stands site usable past (Answered of answer) = IsRightAnswer site usable past of answer
-Stands site usable past (Failed of) = IsRightFailure past of
-Stands site usable past (Shown of page) = IsRightPage site past of page
-Stands site usable past (Ended of how) = IsRightEnd past of how
-Stands site usable past (Unknown session server dim) = ⊤
-Stands site usable past (Refused session) = ⊤
-Stands site usable past (Called session call) = ⊤
+Stands site usable past (event.Synced server listing) = IsRightPull site usable past server listing
+Stands site usable past (event.Begun session server row) = row.no ≡ length past
+Stands site usable past (event.Acked of path) = IsRightAck past of path
+Stands site usable past (event.Asked session server filter) = ⊤
+Stands site usable past (event.Answered of answer) = IsRightAnswer site usable past of answer
+Stands site usable past (event.Failed of) = IsRightFailure past of
+Stands site usable past (event.Split of shard left right) = IsRightSplit site past of shard left right
+Stands site usable past (event.Moved of shard worker) = IsRightMove site past of shard worker
+Stands site usable past (event.Left of shard how) = IsRightLeft past of how
+Stands site usable past (event.Shown of page) = IsRightPage site past of page
+Stands site usable past (event.Ended of how) = IsRightEnd site usable past of how
+Stands site usable past (event.Unknown session server dim) = ⊤
+Stands site usable past (event.Refused session) = ⊤
+Stands site usable past (event.Called session call) = ⊤
 
--- each event stands rightly, and only usable rows are in answers
+-- the first events open the history, each event stands rightly, and only usable rows are in answers, boxes and counts
 pub record StandsRight (site : Site) (usable : ℕ → Bool) (h : List Event) : Type 0 where
+  pub opened : site.servers ≤ length h
+  pub opening : Each (Opens site) h
   pub each : Each (Stands site usable) h
 
 -- a right history: its usable rows are those whose insert ends nowhere in it for want of memory

@@ -1,19 +1,24 @@
 use crate::page::Page;
 use crate::settings::{Call, How};
-use describing_set::Path;
+use describing_set::{Listing, Path};
 use dim_hierarchy::{Filter, Row};
 use measure_agg::Agg;
 
 /// What happened. `of` is the place in the history of the event that began the command.
 #[derive(Drop)]
 pub enum Event {
+    /// The server knows these shards from here on; one for each server stands first.
+    Synced {
+        server: u8,
+        listing: Listing,
+    },
     /// An insert of known leaf concepts begins; `row.no` is the place of this event.
     Begun {
         session: u16,
         server: u8,
         row: Row,
     },
-    /// The insert is acknowledged.
+    /// The insert is acknowledged; its row went to the last shard of the path.
     Acked {
         of: u64,
         path: Path,
@@ -47,6 +52,25 @@ pub enum Event {
     Called {
         session: u16,
         call: Call,
+    },
+    /// The called command has split a shard into two.
+    Split {
+        of: u64,
+        shard: u32,
+        left: u32,
+        right: u32,
+    },
+    /// The called command has moved a shard to this worker.
+    Moved {
+        of: u64,
+        shard: u32,
+        worker: u8,
+    },
+    /// The called balance leaves a planned action on this shard, which is declined or postponed.
+    Left {
+        of: u64,
+        shard: u32,
+        how: How,
     },
     /// The called command shows a page.
     Shown {

@@ -3,15 +3,20 @@
 
 mod event;
 mod history;
+pub mod laws;
 mod ledger;
 mod page;
 mod settings;
+pub mod settled;
 #[cfg(test)]
 mod tests;
 pub mod worked;
+pub mod worked_balance;
+pub mod worked_pulls;
+pub mod worked_shards;
 
 pub use event::Event;
 pub use history::History;
 pub use ledger::Ledger;
-pub use page::{NodeLine, NodeList, Page, TreePage};
+pub use page::{AuditLine, NodeLine, NodeList, Page, ShardLine, ShardList, TreePage};
 pub use settings::{Call, Decline, How, Use};

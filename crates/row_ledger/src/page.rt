@@ -35,8 +35,33 @@ pub struct TreePage {
     pub nodes: NodeList,
 }
 
+/// A shard that stands, its worker, how many rows its tree and its queue have, and the describing
+/// set of them all.
+#[derive(Drop)]
+pub struct ShardLine {
+    pub shard: u32,
+    pub worker: u8,
+    /// How many rows are in the tree.
+    pub rows: u64,
+    /// How many rows are in the queue.
+    pub queued: u64,
+    pub set: DescSet,
+}
+
+/// The shards that stand, in the order of their ids.
+pub type ShardList = Items<ShardLine>;
+
+/// The aggregate of all rows, and how many shards stand.
+#[derive(Drop)]
+pub struct AuditLine {
+    pub agg: Agg,
+    pub shards: u64,
+}
+
 /// What a command shows.
 #[derive(Drop)]
 pub enum Page {
+    Shards(ShardList),
     Tree(TreePage),
+    Audit(AuditLine),
 }

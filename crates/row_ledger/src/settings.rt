@@ -10,17 +10,35 @@ pub struct Use {
 /// A command that is no insert and no query.
 #[derive(Clone, Copy, Debug, PartialEq, Eq)]
 pub enum Call {
+    /// The server pushes what it has seen grow, and pulls the shards that stand.
+    Sync(u8),
+    /// The shard with this id becomes two.
+    Split(u32),
+    /// The shard with this id goes to this worker.
+    Move(u32, u8),
+    /// At most so many shards are moved or split.
+    Balance(u8),
     /// Nothing; it ends its phase.
     Barrier,
+    /// Each server pulls, in the order of their numbers, and then each once more.
+    Settle,
+    /// To show the shards that stand.
+    Shards,
     /// To show the tree of the shard with this id.
     Tree(u32),
+    /// To show the aggregate of all rows.
+    Audit,
 }
 
 /// Why a called command is declined.
 #[derive(Clone, Copy, Debug, PartialEq, Eq)]
 pub enum Decline {
-    /// No such shard stands.
+    /// No such shard, or no such worker, stands.
     Unknown,
+    /// The shard's rows have one concept at most in each dimension of its set, so nothing tells them apart.
+    OnePlace,
+    /// There are fewer free cells than the work needs.
+    NoCell { need: u64, free: u64 },
 }
 
 /// How a called command ends.
@@ -28,8 +46,12 @@ pub enum Decline {
 pub enum How {
     /// It did what it was to do.
     Fine,
+    /// The balance did so many of the actions that it had planned.
+    Balanced { done: u8, planned: u8 },
     /// It did nothing, and why.
     Declined(Decline),
+    /// It found no memory after it had begun on the shard, which stays as it was.
+    Postponed,
     /// It found no memory, and did nothing.
     NoMemory,
 }

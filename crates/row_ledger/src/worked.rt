@@ -54,5 +54,5 @@ pub fn page_of_another_shard_is_wrong()
 
 /// A tree that ends fine without a page is wrong.
 pub fn tree_without_a_page_is_wrong()
-    ensures { IsRight site (Ended 2 Fine ∷ called) → ⊥ }
+    ensures { IsRight site (Ended 4 Fine ∷ called) → ⊥ }
 {}

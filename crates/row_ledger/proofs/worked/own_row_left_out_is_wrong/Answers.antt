@@ -9,7 +9,7 @@ use Rattle.row_ledger.proofs.worked.own_row_left_out_is_wrong.Goals as goal
 pub returns : goal.returns
 unfolding is_under way_up
 returns c right =
-    let allowed = IsAllowed-right site _ _ 2 nothing right.each.0 (record { server = 0; filter = for_de }) refl in
+    let allowed = IsAllowed-right site _ _ 4 nothing right.each.0 (record { server = 0; filter = for_de }) refl in
     let counted : Contains allowed.rows row = allowed.known 0 row (omega arith) refl in
     let none : 0 ≡ length allowed.rows = ap (λ (a : Aggregate). a.count) allowed.total in
     omega (arith, counted.1)

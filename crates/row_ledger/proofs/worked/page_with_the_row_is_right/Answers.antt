@@ -1,12 +1,8 @@
-use Rattle.std.proofs.Common.{◌≡◌, ◌<◌, ℕ, zero, suc, Bool, false, List, [], ◌∷◌, refl, arith}
+use Rattle.std.proofs.Common.{ℕ, Bool, false, List, [], ◌∷◌, refl, arith}
 use Rattle.std.specs.Prelude.{nat_eq, Contains}
 use Rattle.std.specs.List.{IsDistinct}
 use Rattle.std.proofs.lemmas.List.Elements.{All-from_recursion}
 use Rattle.std.proofs.lemmas.List.Sorted.{IsPermutation-refl}
-use Rattle.dim_hierarchy.specs.Dimension.{tree}
-use Rattle.dim_hierarchy.specs.Tree as way
-use Rattle.describing_set.specs.Part.{part_of, part_from}
-use Rattle.describing_set.specs.DescSet.{part_at, column}
 use Rattle.row_ledger.specs.declared.event.Event.{Event}
 use Rattle.row_ledger.specs.declared.event.Event.TheVariants.{Begun, Acked}
 use Rattle.row_ledger.specs.declared.page.Page.TheVariants as page
@@ -15,25 +11,21 @@ use Rattle.row_ledger.specs.declared.settings.How.TheVariants.{Fine}
 use Rattle.row_ledger.specs.Past.{Ack, acked_into}
 use Rattle.row_ledger.specs.Bounds.{numbers}
 use Rattle.row_ledger.specs.Pages.{leaf, none, IsPageOf, IsShownTree}
-use Rattle.row_ledger.specs.Worked.{site, row, once, at_berlin, one_leaf, page_with, called, shown}
-use Rattle.row_ledger.proofs.Growth.{KeepsRight-nil, KeepsRight-called, KeepsRight-shown, KeepsRight-ended, IsRight-kept}
+use Rattle.row_ledger.specs.Worked.{site, row, once, one_leaf, page_with, called, shown, opened}
+use Rattle.row_ledger.proofs.Growth.{KeepsRight-called, KeepsRight-shown, KeepsRight-ended, IsRight-kept}
 use Rattle.row_ledger.proofs.Answering.{KeepsRight-insert}
+use Rattle.row_ledger.proofs.Opened.{opened_right, berlin_box}
 use Rattle.row_ledger.proofs.worked.page_with_the_row_is_right.Goals as goal
 
 abbrev placeless : ℕ → Bool
 placeless number = false
-
-in_berlin : (dim : ℕ) → dim < 1 → part_at at_berlin dim ≡ part_of (tree site.hierarchy dim) (column (row.at ∷ []) dim)
-unfolding part_from way.up way.climb
-in_berlin zero low = refl
-in_berlin (suc dim) low = absurd (omega arith)
 
 is_page : IsPageOf site.hierarchy (row ∷ []) [] (page_with 0 1 once)
 is_page = record {
   groups = leaf (one_leaf 1 once) (row ∷ []) none;
   listed = refl;
   root = refl;
-  shape = (record { depth = refl; lowest = refl; leaf = refl; blocks = omega arith; items = refl; room = omega arith; agg = refl; set = record { count = refl; parts = in_berlin } }, tt);
+  shape = (record { depth = refl; lowest = refl; leaf = refl; blocks = omega arith; items = refl; room = omega arith; agg = refl; set = berlin_box }, tt);
   beneath = IsPermutation-refl (row ∷ []);
   rows = refl;
   queued = refl;
@@ -45,7 +37,7 @@ distinct = (tt, tt)
 
 -- what was acknowledged before the tree was asked for
 abbrev past : List Event
-past = Acked 0 (0 ∷ []) ∷ Begun 0 0 row ∷ []
+past = Acked 2 (0 ∷ []) ∷ Begun 0 0 row ∷ opened
 
 is_shown : IsShownTree site.hierarchy past (page_with 0 1 once)
 is_shown = record {
@@ -61,9 +53,9 @@ is_shown = record {
 
 pub returns : goal.returns
 returns c =
-    let acked = KeepsRight-insert site placeless [] 0 0 row (0 ∷ []) (KeepsRight-nil site placeless) refl in
+    let acked = KeepsRight-insert site placeless opened 0 0 row (0 ∷ []) (opened_right placeless) refl refl in
     let asked = KeepsRight-called site placeless past 3 (Tree 0) acked in
-    let told = KeepsRight-shown site placeless called 2 (page.Tree (page_with 0 1 once)) asked
-    (record { call = Tree 0; called = refl; is_open = refl; first = refl; asked = refl; shown = is_shown }) in
-    let ended = KeepsRight-ended site placeless _ 2 Fine told (record { call = Tree 0; called = refl; is_open = refl; may_end = refl; page = refl }) in
+    let told = KeepsRight-shown site placeless called 4 (page.Tree (page_with 0 1 once)) asked
+    (record { call = Tree 0; called = refl; is_open = refl; first = refl; asked = refl; next = refl; alone = refl; shown = is_shown }) in
+    let ended = KeepsRight-ended site placeless _ 4 Fine told (record { call = Tree 0; called = refl; is_open = refl; may_end = refl; page = refl }) in
     IsRight-kept site placeless (shown (page_with 0 1 once)) ended

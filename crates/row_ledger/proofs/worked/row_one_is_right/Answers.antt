@@ -1,8 +1,9 @@
 use Rattle.std.proofs.Common.{ℕ, Bool, true, [], ◌∷◌, refl}
 use Rattle.dim_hierarchy.specs.Tree.{is_under, way_up}
-use Rattle.row_ledger.specs.Worked.{site, row, for_de, once, answered}
-use Rattle.row_ledger.proofs.Growth.{KeepsRight-nil, IsRight-kept}
-use Rattle.row_ledger.proofs.Answering.{CanAnswer-nil, CanAnswer-insert, KeepsRight-insert, KeepsRight-query}
+use Rattle.row_ledger.specs.Worked.{site, row, for_de, once, opened, answered}
+use Rattle.row_ledger.proofs.Growth.{IsRight-kept}
+use Rattle.row_ledger.proofs.Answering.{CanAnswer-insert, KeepsRight-insert, KeepsRight-query}
+use Rattle.row_ledger.proofs.Opened.{opened_right, opened_answer}
 use Rattle.row_ledger.proofs.worked.row_one_is_right.Goals as goal
 
 abbrev all : ℕ → Bool
@@ -11,6 +12,6 @@ all number = true
 pub returns : goal.returns
 unfolding is_under way_up
 returns c =
-    let keeps = KeepsRight-insert site all [] 0 0 row (0 ∷ []) (KeepsRight-nil site all) refl in
-    let can = CanAnswer-insert site all [] [] 0 0 row (0 ∷ []) (KeepsRight-nil site all) (CanAnswer-nil all) refl refl in
+    let keeps = KeepsRight-insert site all opened 0 0 row (0 ∷ []) (opened_right all) refl refl in
+    let can = CanAnswer-insert site all opened [] 0 0 row (0 ∷ []) (opened_right all) (opened_answer all) refl refl in
     IsRight-kept site all (answered once) (KeepsRight-query site all _ 0 0 for_de (row ∷ []) once keeps can refl)

@@ -1,0 +1,22 @@
+use Rattle.std.proofs.Common.{refl}
+use Rattle.row_ledger.specs.declared.settings.Call.TheVariants.{Move}
+use Rattle.row_ledger.specs.declared.settings.Decline.TheVariants.{Unknown}
+use Rattle.row_ledger.specs.declared.settings.How.TheVariants.{Fine, Declined}
+use Rattle.row_ledger.specs.Worked.{site}
+use Rattle.row_ledger.specs.WorkedPulls.{inserted}
+use Rattle.row_ledger.specs.WorkedShards.{moved}
+use Rattle.row_ledger.proofs.Growth.{KeepsRight-called, KeepsRight-moved, KeepsRight-ended, IsRight-kept}
+use Rattle.row_ledger.proofs.PulledRight.{all, inserted_right}
+use Rattle.row_ledger.proofs.worked_shards.declined_and_fine_moves_are_right.Goals as goal
+
+pub returns : goal.returns
+returns c =
+    let asked = KeepsRight-called site all inserted 3 (Move 0 7) inserted_right in
+    let declined = KeepsRight-ended site all _ 4 (Declined Unknown) asked
+    (record { call = Move 0 7; called = refl; is_open = refl; may_end = (refl, refl); page = refl }) in
+    let again = KeepsRight-called site all _ 3 (Move 0 1) declined in
+    let done = KeepsRight-moved site all _ 6 0 1 again
+    (record { call = Move 0 1; called = refl; is_open = refl; asked = (refl, refl, refl); live = refl }) in
+    IsRight-kept site all moved
+    (KeepsRight-ended site all _ 6 Fine done
+    (record { call = Move 0 1; called = refl; is_open = refl; may_end = (refl, (refl, refl)); page = refl }))

@@ -1,0 +1,14 @@
+-- What a history is about.
+use Rattle.std.specs.Prelude.{ℕ, List}
+use Rattle.dim_hierarchy.specs.Dimension.{Dimension}
+use Rattle.row_ledger.specs.declared.settings.Use.{Use}
+
+-- the hierarchy, and how many servers and workers there are
+pub record Site : Type 0 where
+  pub hierarchy : List Dimension
+  pub servers : ℕ
+  pub workers : ℕ
+
+-- what the history of a run with these settings is about
+abbrev pub site_of : Use → List Dimension → Site
+site_of with h = record { hierarchy = h; servers = with.servers; workers = with.workers }
