@@ -1,6 +1,6 @@
-pub mod PlaceFacts
-pub mod PhaseFacts
 pub mod TextFacts
-pub mod IndexFacts
+pub mod MarkFacts
 pub mod ToldPlaces
 pub mod ToldLines
+pub mod TellerFacts
+pub mod Referring

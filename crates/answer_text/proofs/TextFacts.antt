@@ -10,11 +10,12 @@ use Rattle.row_ledger.specs.declared.event.Event.{Event}
 use Rattle.row_ledger.specs.declared.settings.Use.{Use}
 use Rattle.row_ledger.specs.Past.{event_at, page_of}
 use Rattle.script_form.specs.declared.script.Command.{Command}
-use Rattle.answer_text.specs.Phases.{phases, all_of}
-use Rattle.answer_text.specs.Places.{places_behind, places, are_over, is_over_at}
-use Rattle.answer_text.specs.Printed.{end_of, lines, phase_behind, texts_behind, texts, text_at, told, told_to}
-use Rattle.answer_text.proofs.PlaceFacts.{NoneMore, places_behind-append, places_behind-length, places_behind-none, count_of-append}
-use Rattle.answer_text.proofs.PhaseFacts.{IsSome}
+use Rattle.script_run.specs.Phases.{phases, all_of}
+use Rattle.script_run.specs.Places.{places_behind, places, are_over, is_over_at}
+use Rattle.answer_text.specs.Printed.{split_of, lines, phase_behind, texts_behind, texts, text_at, told, told_to}
+use Rattle.script_run.specs.Places.{end_of}
+use Rattle.script_run.proofs.PlaceFacts.{NoneMore, places_behind-append, places_behind-length, places_behind-none, count_of-append}
+use Rattle.script_run.proofs.PhaseFacts.{IsSome}
 
 -- Lines.
 
@@ -34,6 +35,7 @@ lines-append n (x ∷ xs) ys (p ∷ ps) qs history same =
 pub record IsSameAt (history later : List Event) (p : ℕ) : Type 0 where
   pub event : event_at later p ≡ event_at history p
   pub end : end_of later p ≡ end_of history p
+  pub split : split_of later p ≡ split_of history p
   pub page : page_of later p ≡ page_of history p
 
 pub lines-kept : (n : ℕ) (cs : List Command) (begins : List ℕ) (history later : List Event) → AllByRecursion (IsSameAt history later) begins
@@ -42,7 +44,7 @@ unfolding lines
 lines-kept n [] begins history later same = refl
 lines-kept n (c ∷ cs) [] history later same = refl
 lines-kept n (c ∷ cs) (p ∷ ps) history later same =
-    rw (same.0.event, same.0.end, same.0.page) (ap (λ rest. text_at n c history (Some p) ++ rest) (lines-kept (n + 1) cs ps history later same.1))
+    rw (same.0.event, same.0.end, same.0.split, same.0.page) (ap (λ rest. text_at n c history (Some p) ++ rest) (lines-kept (n + 1) cs ps history later same.1))
 
 -- Texts of phases.
 

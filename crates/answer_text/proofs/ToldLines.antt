@@ -6,11 +6,10 @@ use Rattle.std.proofs.lemmas.List.{append_assoc, drop_more, drop_all, drop-drop}
 use Rattle.row_ledger.specs.declared.event.Event.{Event}
 use Rattle.row_ledger.specs.declared.settings.Use.{Use}
 use Rattle.script_form.specs.declared.script.Command.{Command}
-use Rattle.answer_text.specs.Phases.{phases}
-use Rattle.answer_text.specs.Places.{places_behind}
-use Rattle.answer_text.specs.Printed.{lines, phase_behind, text_at, texts_behind}
-use Rattle.answer_text.specs.Index.{phase_lines}
-use Rattle.answer_text.proofs.PhaseFacts.{phases-nil}
+use Rattle.script_run.specs.Phases.{phases}
+use Rattle.script_run.specs.Places.{places_behind}
+use Rattle.answer_text.specs.Printed.{lines, phase_behind, phase_lines, text_at, texts_behind}
+use Rattle.script_run.proofs.PhaseFacts.{phases-nil}
 
 lines_more : (first i : ℕ) (cs : List Command) (ps : List (Option ℕ)) (h : List Event) (c : Command) → i < length cs → length ps ≡ length cs → c ≡ get_or cs i c
     → lines (first + i) (drop i cs) (drop i ps) h ≡ text_at (first + i) c h (get_or ps i None) ++ lines (first + (i + 1)) (drop (i + 1) cs) (drop (i + 1) ps) h

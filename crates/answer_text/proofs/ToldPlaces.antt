@@ -3,34 +3,29 @@ use Rattle.std.proofs.Common.{◌≡◌, ◌∙◌, ℕ, ◌+◌, ◌<◌, ◌�
 use Rattle.std.specs.Prelude.{All, slice_get, ◌==◌}
 use Rattle.std.proofs.lemmas.Bool.{cases_Bool, eqb-true, eqb-false, eq-eqb}
 use Rattle.std.proofs.lemmas.Option.{slice_get_within, get_or_from_slice_get}
-use Rattle.std.proofs.lemmas.List.{append_assoc, drop_more, drop_all, drop_at, take_more, take_at, take-append-drop, length-drop, length-take, length-take-le, length-set, get_or-set_same, get_or-set_other, get_or-replicate, get_or_read, length-replicate}
+use Rattle.std.proofs.lemmas.List.{append_assoc, drop_more, drop_all, take_more, length-take, length-set, get_or-set_same, get_or-set_other, get_or-replicate, get_or_read, length-replicate}
 use Rattle.std.proofs.lemmas.List.Elements.{All-nil, All-cons, All-get_or}
 use Rattle.std.proofs.lemmas.List.Sums.{count_by_more_yes, count_by_more_no, count_by-le-length}
 use Rattle.row_ledger.specs.declared.event.Event.{Event}
 use Rattle.row_ledger.specs.declared.settings.Use.{Use}
 use Rattle.script_form.specs.declared.script.Command.{Command}
-use Rattle.answer_text.specs.Places.{begins_of, count_of, place_behind, places, places_behind, session_of}
-use Rattle.answer_text.specs.Index.{IsPlace}
-use Rattle.answer_text.proofs.IndexFacts.{begins_of-below}
-use Rattle.answer_text.proofs.PlaceFacts.{places_behind-append, places_behind-length}
+use Rattle.script_run.specs.Places.{sessions, begins_of, count_of, place_behind, places_behind, session_of}
+use Rattle.answer_text.specs.Marks.{Counts, IsPlace}
+use Rattle.answer_text.proofs.MarkFacts.{begins_of-below}
 
 -- The commands of each session so far.
 
-pub record Counts (counts : List ℕ) (with : Use) (before : List Command) : Type 0 where
-  pub sessions : length counts ≡ 257
-  pub counted : (s : ℕ) → s < 257 → get_or counts s 0 ≡ count_of with s before
-
-pub counts_none : (counts : List ℕ) (with : Use) (n : ℕ) → n ≡ 257 → counts ≡ replicate n 0 → Counts counts with []
+pub counts_none : (counts : List ℕ) (with : Use) (n : ℕ) → n ≡ sessions → counts ≡ replicate n 0 → Counts counts with []
 counts_none counts with n all made =
     rw made (record {
-      sessions = length-replicate n 0 ∙ all;
+      len = length-replicate n 0 ∙ all;
       counted = λ s below. get_or-replicate n s 0 0 (omega arith);
     })
 
-pub count_read : (counts : List ℕ) (with : Use) (before : List Command) (session count : ℕ) → Counts counts with before → session < 257
+pub count_read : (counts : List ℕ) (with : Use) (before : List Command) (session count : ℕ) → Counts counts with before → session < sessions
     → count ≡ get_or counts session count → count ≡ count_of with session before
 count_read counts with before session count so_far few read =
-    get_or_read counts session count (rw so_far.sessions few) read 0 ∙ so_far.counted session few
+    get_or_read counts session count (rw so_far.len few) read 0 ∙ so_far.counted session few
 
 counted_at : (counts : List ℕ) (with : Use) (cs : List Command) (i : ℕ) (c : Command) (session count s : ℕ) → i < length cs → c ≡ get_or cs i c
     → session ≡ session_of with c → count ≡ count_of with session (take i cs) → s < length counts → get_or counts s 0 ≡ count_of with s (take i cs)
@@ -51,8 +46,8 @@ pub counts_more : (counts : List ℕ) (with : Use) (cs : List Command) (i : ℕ)
     → session ≡ session_of with c → count ≡ count_of with session (take i cs) → Counts counts with (take i cs) → Counts (set counts session (count + 1)) with (take (i + 1) cs)
 counts_more counts with cs i c session count inside is its here so_far =
     record {
-      sessions = length-set counts session (count + 1) ∙ so_far.sessions;
-      counted = λ s below. counted_at counts with cs i c session count s inside is its here (rw so_far.sessions below) (so_far.counted s below);
+      len = length-set counts session (count + 1) ∙ so_far.len;
+      counted = λ s below. counted_at counts with cs i c session count s inside is its here (rw so_far.len below) (so_far.counted s below);
     }
 
 -- there are at most as many as commands
@@ -81,27 +76,6 @@ taken_more taken whole with cs i c h session count place inside is its here at s
 pub taken_all : (taken whole : List (Option ℕ)) (with : Use) (cs : List Command) (i : ℕ) (h : List Event) → length cs ≤ i
     → taken ++ places_behind with (take i cs) (drop i cs) h ≡ whole → taken ≡ whole
 taken_all taken whole with cs i h all so_far = let end = rw (places_end with cs i h all, append-nil taken) at so_far in end
-
-places-split : (with : Use) (before cs : List Command) (n : ℕ) (h : List Event)
-    → places_behind with before cs h ≡ places_behind with before (take n cs) h ++ places_behind with (before ++ take n cs) (drop n cs) h
-places-split with before cs n h =
-    ap (λ l. places_behind with before l h) (sym (take-append-drop n cs)) ∙ places_behind-append with before (take n cs) (drop n cs) h
-
-places-drop : (with : Use) (cs : List Command) (start : ℕ) (h : List Event) → start ≤ length cs
-    → drop start (places with cs h) ≡ places_behind with (take start cs) (drop start cs) h
-places-drop with cs start h within =
-    ap (drop start) (places-split with [] cs start h) ∙ drop_at (places_behind with [] (take start cs) h) (places_behind with (take start cs) (drop start cs) h) start (places_behind-length with [] (take start cs) h ∙ length-take-le start cs within)
-
-places-take : (with : Use) (before cs : List Command) (count : ℕ) (h : List Event) → count ≤ length cs
-    → take count (places_behind with before cs h) ≡ places_behind with before (take count cs) h
-places-take with before cs count h within =
-    ap (take count) (places-split with before cs count h) ∙ take_at (places_behind with before (take count cs) h) (places_behind with (before ++ take count cs) (drop count cs) h) count (places_behind-length with before (take count cs) h ∙ length-take-le count cs within)
-
--- the places of a part of the commands
-pub places-part : (with : Use) (cs : List Command) (start count : ℕ) (h : List Event) → start + count ≤ length cs
-    → take count (drop start (places with cs h)) ≡ places_behind with (take start cs) (take count (drop start cs)) h
-places-part with cs start count h within =
-    ap (take count) (places-drop with cs start h (omega arith)) ∙ places-take with (take start cs) (drop start cs) count h (omega (arith, length-drop start cs))
 
 place-is : (h : List Event) (s n : ℕ) (place : Option ℕ) → slice_get (begins_of h s) n ≡ place → IsPlace h place
 place-is h s n None is = tt

@@ -1,5 +1,5 @@
-pub mod Phases
-pub mod Places
 pub mod Printed
 pub mod Answer
-pub mod Index
+pub mod Marks
+pub mod Notes
+pub mod Told

@@ -1,6 +1,6 @@
 -- The text that a history tells of a script: a line or a page for each command, in the order of the script, phase by
 -- phase.
-use Rattle.std.specs.Prelude.{ℕ, ◌+◌, ℤ, Bool, Option, Some, None, option_and_then, if◌then◌else◌, List, [], ◌∷◌, ◌++◌, length, take, find, codes}
+use Rattle.std.specs.Prelude.{ℕ, ◌+◌, ℤ, ◌==◌, Bool, false, Option, Some, None, option_and_then, if◌then◌else◌, List, [], ◌∷◌, ◌++◌, length, take, find, codes}
 use Rattle.std.specs.List.{flat_map, join_by, slice_index_or}
 use Rattle.std.specs.Option.{option_map_or}
 use Rattle.std.specs.Fmt.{decimal, signed_decimal}
@@ -9,38 +9,47 @@ use Rattle.measure_agg.specs.Aggregate.{Aggregate}
 use Rattle.describing_set.specs.declared.part.Part.{Part}
 use Rattle.describing_set.specs.declared.set.DescSet.{DescSet}
 use Rattle.row_ledger.specs.declared.event.Event.{Event}
-use Rattle.row_ledger.specs.declared.event.Event.TheVariants.{Acked, Answered, Unknown, Ended}
+use Rattle.row_ledger.specs.declared.event.Event.TheVariants.{Acked, Answered, Unknown, Split, Ended}
+use Rattle.row_ledger.specs.declared.page.AuditLine.{AuditLine}
 use Rattle.row_ledger.specs.declared.page.NodeLine.{NodeLine}
 use Rattle.row_ledger.specs.declared.page.Page.{Page}
 use Rattle.row_ledger.specs.declared.page.Page.TheVariants as page
+use Rattle.row_ledger.specs.declared.page.ShardLine.{ShardLine}
 use Rattle.row_ledger.specs.declared.page.TreePage.{TreePage}
 use Rattle.row_ledger.specs.declared.settings.Call.{Call}
-use Rattle.row_ledger.specs.declared.settings.Call.TheVariants.{Barrier, Tree}
+use Rattle.row_ledger.specs.declared.settings.Call.TheVariants as call
 use Rattle.row_ledger.specs.declared.settings.Decline.{Decline}
 use Rattle.row_ledger.specs.declared.settings.Decline.TheVariants as decline
 use Rattle.row_ledger.specs.declared.settings.How.{How}
-use Rattle.row_ledger.specs.declared.settings.How.TheVariants.{Fine, Declined, NoMemory}
+use Rattle.row_ledger.specs.declared.settings.How.TheVariants.{Fine, Balanced, Declined, Postponed, NoMemory}
 use Rattle.row_ledger.specs.declared.settings.Use.{Use}
-use Rattle.row_ledger.specs.Past.{event_at, is_end_of, page_of}
+use Rattle.row_ledger.specs.Past.{event_at, page_of}
 use Rattle.script_form.specs.declared.script.Cause.{Cause}
 use Rattle.script_form.specs.declared.script.Cause.TheVariants as cause
 use Rattle.script_form.specs.declared.script.Command.{Command}
 use Rattle.script_form.specs.declared.script.Command.TheVariants.{Insert, Query, Control}
-use Rattle.answer_text.specs.Phases.{phases}
-use Rattle.answer_text.specs.Places.{places_behind, are_over}
+use Rattle.script_run.specs.Phases.{phases}
+use Rattle.script_run.specs.Places.{places_behind, are_over, end_of}
 
 -- The line of a command.
 
 -- the word of its kind
 
 abbrev pub call_word : Call → List ℕ
-call_word Barrier = codes "barrier"
-call_word (Tree shard) = codes "tree"
+call_word (call.Sync server) = codes "sync"
+call_word (call.Split shard) = codes "split"
+call_word (call.Move shard worker) = codes "move"
+call_word (call.Balance most) = codes "balance"
+call_word call.Barrier = codes "barrier"
+call_word call.Settle = codes "settle"
+call_word call.Shards = codes "shards"
+call_word (call.Tree shard) = codes "tree"
+call_word call.Audit = codes "audit"
 
 abbrev pub word_of : Command → List ℕ
 word_of (Insert new) = codes "insert"
 word_of (Query question) = codes "query"
-word_of (Control call) = call_word call
+word_of (Control called) = call_word called
 
 -- a number, or a dash for none
 abbrev pub or_dash : Option ℤ → List ℕ
@@ -52,34 +61,72 @@ abbrev pub total_text : Aggregate → List ℕ
 total_text a =
     decimal a.count ++ (codes " " ++ (signed_decimal a.sum ++ (codes " " ++ (or_dash a.least ++ (codes " " ++ or_dash a.greatest)))))
 
--- why a command is declined
-abbrev pub decline_word : Decline → List ℕ
-decline_word decline.Unknown = codes "unknown"
+-- two numbers
+abbrev pub pair_text : ℕ → ℕ → List ℕ
+pair_text a b = decimal a ++ (codes " " ++ decimal b)
 
-abbrev pub how_text : How → List ℕ
-how_text Fine = codes "ok"
-how_text (Declined why) = codes "declined " ++ decline_word why
-how_text NoMemory = codes "nomem"
+-- why a command is declined; where cells are wanting, how many it needs and how many are free
+abbrev pub decline_text : Decline → List ℕ
+decline_text decline.Unknown = codes "unknown"
+decline_text decline.OnePlace = codes "oneplace"
+decline_text (decline.NoCell need free) = codes "nocell " ++ pair_text need free
 
--- what is said of a command by the events that begin and end it; without an end it found no memory
-abbrev pub answer_text : Option Event → Option Event → List ℕ
-answer_text (Some (Unknown session server dim)) end = codes "unknown " ++ decimal dim
-answer_text begin (Some (Acked of path)) = codes "ok"
-answer_text begin (Some (Answered of total)) = total_text total
-answer_text begin (Some (Ended of how)) = how_text how
-answer_text begin end = codes "nomem"
+-- what is said of a called command that found no memory: a split and a move are postponed
+abbrev pub starved_call_text : Call → List ℕ
+starved_call_text (call.Split shard) = codes "postponed"
+starved_call_text (call.Move shard worker) = codes "postponed"
+starved_call_text called = codes "nomem"
+
+abbrev pub starved_text : Command → List ℕ
+starved_text (Control called) = starved_call_text called
+starved_text c = codes "nomem"
+
+-- what is said of a called command that did what it was to do: a split names the two shards that it made
+abbrev pub fine_text : Call → Option Event → List ℕ
+fine_text (call.Split shard) (Some (Split of parent left right)) = codes "ok " ++ pair_text left right
+fine_text called split = codes "ok"
+
+abbrev pub how_text : Call → Option Event → How → List ℕ
+how_text called split Fine = fine_text called split
+how_text called split (Balanced done planned) = pair_text done planned
+how_text called split (Declined why) = codes "declined " ++ decline_text why
+how_text called split Postponed = codes "postponed"
+how_text called split NoMemory = starved_call_text called
+
+-- what is said of a command that ended so
+abbrev pub end_text : Command → Option Event → How → List ℕ
+end_text (Control called) split how = how_text called split how
+end_text c split how = starved_text c
+
+-- what is said of a command by the events that begin and end it and the newest that splits a shard for it; without an end
+-- it found no memory
+abbrev pub answer_text : Command → Option Event → Option Event → Option Event → List ℕ
+answer_text c (Some (Unknown session server dim)) end split = codes "unknown " ++ decimal dim
+answer_text c begin (Some (Acked of path)) split = codes "ok"
+answer_text c begin (Some (Answered of total)) split = total_text total
+answer_text c begin (Some (Ended of how)) split = end_text c split how
+answer_text c begin end split = starved_text c
 
 -- a command's number from 1, its word, and what is said
 abbrev pub line : ℕ → List ℕ → List ℕ → List ℕ
 line n word said = decimal n ++ (codes " " ++ (word ++ (codes " " ++ (said ++ codes "\n"))))
 
--- the event that ends the command that began at a position
-abbrev pub end_of : List Event → ℕ → Option Event
-end_of history p = find (is_end_of p) history
+-- the newest event that splits a shard for the command that began at a position
 
--- the line of a command that began at a place
+abbrev pub split_for : Event → Option ℕ
+split_for (Split of shard left right) = Some of
+split_for e = None
+
+abbrev pub split_of : List Event → ℕ → Option Event
+split_of history p = find (λ e. option_map_or (λ of. of == p) (split_for e) false) history
+
+-- what is said of a command that began at a place
+abbrev pub answer_at : Command → List Event → Option ℕ → List ℕ
+answer_at c history place =
+    answer_text c (option_and_then (event_at history) place) (option_and_then (end_of history) place) (option_and_then (split_of history) place)
+
 abbrev pub line_at : ℕ → Command → List Event → Option ℕ → List ℕ
-line_at n c history place = line n (word_of c) (answer_text (option_and_then (event_at history) place) (option_and_then (end_of history) place))
+line_at n c history place = line n (word_of c) (answer_at c history place)
 
 -- The lines of a page.
 
@@ -107,8 +154,19 @@ abbrev pub tree_said : TreePage → List ℕ
 tree_said tree =
     decimal tree.shard ++ (codes " height " ++ (decimal tree.height ++ (codes " rows " ++ (decimal tree.rows ++ (codes " queued " ++ decimal tree.queued)))))
 
--- a line for the tree, and one for each of its groups
+-- a shard: its id and worker, how many rows are in its tree and in its queue, and the set of them all
+abbrev pub shard_said : ShardLine → List ℕ
+shard_said shard =
+    decimal shard.shard ++ (codes " worker " ++ (decimal shard.worker ++ (codes " rows " ++ (decimal shard.rows ++ (codes " queued " ++ (decimal shard.queued ++ (codes " box " ++ box_text shard.set)))))))
+
+-- the aggregate of all rows, and how many shards there are
+abbrev pub audit_said : AuditLine → List ℕ
+audit_said audit = total_text audit.agg ++ (codes " shards " ++ decimal audit.shards)
+
+-- a line for each shard; a line for the tree, and one for each of its groups; or the line of an audit
 abbrev pub page_text : ℕ → Page → List ℕ
+page_text n (page.Shards shards) = flat_map (λ shard. line n (codes "shard") (shard_said shard)) shards
+page_text n (page.Audit audit) = line n (codes "audit") (audit_said audit)
 page_text n (page.Tree tree) = line n (codes "tree") (tree_said tree) ++ flat_map (λ node. line n (codes "node") (node_said node)) tree.nodes
 
 -- what is told of a command that began at a place: the page that was shown for it, or else one line
@@ -122,10 +180,13 @@ lines n _ _ history = []
 
 -- The text of phases.
 
--- the text of a phase behind these commands: its lines, or nothing where one of its commands has no end
+-- the lines of a phase, numbered from n, or nothing where one of its commands has no end
+abbrev pub phase_lines : ℕ → List Command → List (Option ℕ) → List Event → List ℕ
+phase_lines n phase ps history = if are_over history ps then lines n phase ps history else []
+
+-- the text of a phase behind these commands
 unfoldable pub phase_behind : Use → List Command → List Command → List Event → List ℕ
-phase_behind with before phase history =
-    if are_over history (places_behind with before phase history) then lines (length before + 1) phase (places_behind with before phase history) history else []
+phase_behind with before phase history = phase_lines (length before + 1) phase (places_behind with before phase history) history
 
 unfoldable pub texts_behind : Use → List Command → List (List Command) → List Event → List (List ℕ)
 texts_behind with before [] history = []

@@ -1,20 +1,21 @@
-//! What is printed: the lines of commands, the text of a history, and the answer to a bad script.
+//! What is printed: the lines of commands, the text of a history, whole or phase by phase, and the
+//! answer to a bad script.
 #![tactic(auto)]
 
 mod answer;
 mod bad;
 mod index;
+pub mod laws;
 mod line;
+mod notes;
 mod pages;
-mod phases;
 mod text;
 
 pub use answer::Answer;
 pub use bad::BadLine;
 pub use line::{Line, Word, push_line};
 pub use pages::push_page;
-pub use phases::phase_len;
-pub use text::{phase, told};
+pub use text::{Teller, phase, told};
 
 #[cfg(test)]
 mod tests;

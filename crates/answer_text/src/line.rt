@@ -13,14 +13,38 @@ use std::fmt::{self, Write};
 pub enum Word {
     Insert,
     Query,
+    Sync,
+    Split,
+    Move,
+    Balance,
     Barrier,
+    Settle,
+    Shards,
     Tree,
+    Audit,
 }
 
 impl Word {
     ghost use Rattle.std.specs.Prelude.{◌≡◌};
     ghost use Rattle.answer_text.specs.Answer.{spelled};
-    ghost use Rattle.answer_text.specs.Printed.{word_of};
+    ghost use Rattle.answer_text.specs.Printed.{call_word, word_of};
+
+    // The word of a called command.
+    fn of_call(call: &Call) -> Word
+        ensures { spelled result ≡ call_word call.now }
+    {
+        match call {
+            Call::Sync(_) => Word::Sync,
+            Call::Split(_) => Word::Split,
+            Call::Move(_, _) => Word::Move,
+            Call::Balance(_) => Word::Balance,
+            Call::Barrier => Word::Barrier,
+            Call::Settle => Word::Settle,
+            Call::Shards => Word::Shards,
+            Call::Tree(_) => Word::Tree,
+            Call::Audit => Word::Audit,
+        }
+    }
 
     /// The word of a command.
     pub fn of(command: &Command) -> Word
@@ -29,8 +53,7 @@ impl Word {
         match command {
             Command::Insert(_) => Word::Insert,
             Command::Query(_) => Word::Query,
-            Command::Control(Call::Barrier) => Word::Barrier,
-            Command::Control(Call::Tree(_)) => Word::Tree,
+            Command::Control(call) => Word::of_call(call),
         }
     }
 }
@@ -45,8 +68,15 @@ impl fmt::Display for Word {
         match self {
             Word::Insert => write!(f, "insert"),
             Word::Query => write!(f, "query"),
+            Word::Sync => write!(f, "sync"),
+            Word::Split => write!(f, "split"),
+            Word::Move => write!(f, "move"),
+            Word::Balance => write!(f, "balance"),
             Word::Barrier => write!(f, "barrier"),
+            Word::Settle => write!(f, "settle"),
+            Word::Shards => write!(f, "shards"),
             Word::Tree => write!(f, "tree"),
+            Word::Audit => write!(f, "audit"),
         }
     }
 }

@@ -1,12 +1,12 @@
 //! The lines of the pages that commands show.
 ghost use Rattle.std.specs.Prelude.{◌≡◌, ◌++◌, codes, OnOk, string_bytes};
 ghost use Rattle.std.specs.List.{flat_map};
-ghost use Rattle.answer_text.specs.Printed.{line, node_said, page_text, tree_said};
+ghost use Rattle.answer_text.specs.Printed.{audit_said, line, node_said, page_text, shard_said, tree_said};
 
 use crate::answer::Total;
 use describing_set::{DescSet, Part};
 use dim_hierarchy::ConceptId;
-use row_ledger::{NodeLine, Page, TreePage};
+use row_ledger::{AuditLine, NodeLine, Page, ShardLine, TreePage};
 use std::alloc::AllocError;
 use std::fmt::{self, Write};
 
@@ -136,6 +136,47 @@ impl fmt::Display for TreeText<'_> {
     }
 }
 
+// What is said of a shard.
+#[derive(Drop)]
+struct ShardText<'a>(&'a ShardLine);
+
+impl fmt::Display for ShardText<'_> {
+    ghost use Rattle.std.specs.Prelude.{Some};
+    ghost use Rattle.answer_text.specs.Printed.{shard_said};
+
+    ghost output = { λ s. Some (shard_said s.0.now) };
+
+    fn fmt<W: fmt::Write>(&self, f: &mut fmt::Formatter<W>) -> fmt::Result {
+        let line = self.0;
+        let shard = line.shard;
+        let worker = line.worker;
+        let rows = line.rows;
+        let queued = line.queued;
+        let set = BoxText(&line.set);
+        write!(
+            f,
+            "{shard} worker {worker} rows {rows} queued {queued} box {set}"
+        )
+    }
+}
+
+// What is said of all rows.
+#[derive(Drop)]
+struct AuditText<'a>(&'a AuditLine);
+
+impl fmt::Display for AuditText<'_> {
+    ghost use Rattle.std.specs.Prelude.{Some};
+    ghost use Rattle.answer_text.specs.Printed.{audit_said};
+
+    ghost output = { λ a. Some (audit_said a.0.now) };
+
+    fn fmt<W: fmt::Write>(&self, f: &mut fmt::Formatter<W>) -> fmt::Result {
+        let total = Total(self.0.agg);
+        let shards = self.0.shards;
+        write!(f, "{total} shards {shards}")
+    }
+}
+
 // Adds the line of a group.
 fn push_node(text: &mut String, number: u64, node: &NodeLine) -> Result<(), AllocError>
     ensures { OnOk result (string_bytes text.new ≡ string_bytes text.old ++ line number (codes "node") (node_said node.now)) }
@@ -162,12 +203,40 @@ fn push_nodes(text: &mut String, number: u64, nodes: &[NodeLine]) -> Result<(), 
     Ok(())
 }
 
-/// Adds the lines of a page that a command with this number shows: one for the page itself, and one
-/// for each of its groups.
+// Adds the line of a shard.
+fn push_shard(text: &mut String, number: u64, shard: &ShardLine) -> Result<(), AllocError>
+    ensures { OnOk result (string_bytes text.new ≡ string_bytes text.old ++ line number (codes "shard") (shard_said shard.now)) }
+{
+    let said = ShardText(shard);
+    writeln!(text, "{number} shard {said}")
+}
+
+// Adds the lines of shards.
+fn push_shards(text: &mut String, number: u64, shards: &[ShardLine]) -> Result<(), AllocError>
+    ensures { OnOk result (string_bytes text.new ≡ string_bytes text.old ++ flat_map (λ shard. line number (codes "shard") (shard_said shard)) shards.now) }
+{
+    for shard in shards {
+        push_shard(text, number, shard)?;
+    }
+    Ok(())
+}
+
+// Adds the line of an audit.
+fn push_audit(text: &mut String, number: u64, audit: &AuditLine) -> Result<(), AllocError>
+    ensures { OnOk result (string_bytes text.new ≡ string_bytes text.old ++ line number (codes "audit") (audit_said audit.now)) }
+{
+    let said = AuditText(audit);
+    writeln!(text, "{number} audit {said}")
+}
+
+/// Adds the lines of a page that a command with this number shows: one for each shard; one for a
+/// tree, and one for each of its groups; or one for all rows.
 pub fn push_page(text: &mut String, number: u64, page: &Page) -> Result<(), AllocError>
     ensures { OnOk result (string_bytes text.new ≡ string_bytes text.old ++ page_text number page.now) }
 {
     match page {
+        Page::Shards(shards) => push_shards(text, number, shards.as_slice()),
+        Page::Audit(audit) => push_audit(text, number, audit),
         Page::Tree(tree) => {
             push_head(text, number, tree)?;
             push_nodes(text, number, tree.nodes.as_slice())

@@ -1,8 +1,11 @@
-use crate::{phase, told};
+use crate::{Teller, phase, told};
 use describing_set::{DescSet, Part, Path};
 use dim_hierarchy::{ConceptId, Filter, Row};
 use measure_agg::Agg;
-use row_ledger::{Call, Decline, Event, History, How, NodeLine, NodeList, Page, TreePage, Use};
+use row_ledger::{
+    AuditLine, Call, Decline, Event, History, How, NodeLine, NodeList, Page, ShardLine, ShardList,
+    TreePage, Use,
+};
 use script_form::{Command, Commands, Script, ScriptFault, read_script};
 use std::alloc::{AllocError, Global};
 use std::process::Abort;
@@ -24,7 +27,8 @@ fn script(rt: &impl Abort, alloc: Global, commands: &[u8]) -> Result<Script, Scr
     read_script(alloc, &text)
 }
 
-// The events of small histories. Sessions 0, 1 and 2 are those of the servers, 4 is the controlling one.
+// The events of small histories. Sessions 0, 1 and 2 are those of the servers, 3 is the pulling
+// one and 4 the controlling one.
 
 fn begun(session: u16) -> Event {
     Event::Begun {
@@ -50,18 +54,8 @@ fn unknown(session: u16, dim: u8) -> Event {
     }
 }
 
-fn barrier() -> Event {
-    Event::Called {
-        session: 4,
-        call: Call::Barrier,
-    }
-}
-
-fn tree(shard: u32) -> Event {
-    Event::Called {
-        session: 4,
-        call: Call::Tree(shard),
-    }
+fn called(call: Call) -> Event {
+    Event::Called { session: 4, call }
 }
 
 fn acked(alloc: Global, of: u64) -> Event {
@@ -75,21 +69,20 @@ fn answered(of: u64, agg: Agg) -> Event {
     Event::Answered { of, agg }
 }
 
-fn ended(of: u64) -> Event {
-    Event::Ended { of, how: How::Fine }
+fn ended(of: u64, how: How) -> Event {
+    Event::Ended { of, how }
 }
 
-fn declined(of: u64) -> Event {
-    Event::Ended {
-        of,
-        how: How::Declined(Decline::Unknown),
-    }
+fn declined(of: u64, why: Decline) -> Event {
+    ended(of, How::Declined(why))
 }
 
-fn without_memory(of: u64) -> Event {
-    Event::Ended {
+fn split(of: u64, left: u32, right: u32) -> Event {
+    Event::Split {
         of,
-        how: How::NoMemory,
+        shard: 0,
+        left,
+        right,
     }
 }
 
@@ -101,7 +94,7 @@ fn part(level: u8, numbers: &[u32]) -> Part {
     part.level = level;
     for number in numbers {
         let id = ConceptId((level as u32) << 28 | *number);
-        let _room = part.ids.try_push(id);
+        let _room = part.ids.put(id);
     }
     part
 }
@@ -137,7 +130,7 @@ fn leaf(depth: u32, items: u64, agg: Agg, set: DescSet) -> NodeLine {
 }
 
 /// A tree of height 2 shown for a command.
-fn shown(of: u64, rows: u64, queued: u64, nodes: Vec<NodeLine>) -> Event {
+fn shown_tree(of: u64, rows: u64, queued: u64, nodes: Vec<NodeLine>) -> Event {
     Event::Shown {
         of,
         page: Page::Tree(TreePage {
@@ -150,26 +143,25 @@ fn shown(of: u64, rows: u64, queued: u64, nodes: Vec<NodeLine>) -> Event {
     }
 }
 
+fn shard(id: u32, rows: u64, set: DescSet) -> ShardLine {
+    ShardLine {
+        shard: id,
+        worker: 1,
+        rows,
+        queued: 3,
+        set,
+    }
+}
+
 #[test]
-fn texts(rt: HostRuntime) -> Result<(), Fail> {
+fn lines_of_inserts_and_queries(rt: HostRuntime) -> Result<(), Fail> {
     let alloc = rt.alloc();
-    let both = Agg::one(-3).join(&Agg::one(8));
-    let rows: [(&[u8], Vec<Event>, &[u8]); 10] = [
+    let rows: [(&[u8], Vec<Event>, &[u8]); 5] = [
         (b"", vec![in alloc; begun(0)]?, b""),
         (
-            b"insert,0,5,de",
-            vec![in alloc; begun(0), acked(alloc, 0)]?,
-            b"1 insert ok\n",
-        ),
-        (
-            b"insert,0,5,fr",
-            vec![in alloc; unknown(0, 0)]?,
-            b"1 insert unknown 0\n",
-        ),
-        (
-            b"query,2,fr",
-            vec![in alloc; unknown(2, 7)]?,
-            b"1 query unknown 7\n",
+            b"insert,0,5,fr\nquery,2,fr",
+            vec![in alloc; unknown(2, 7), unknown(0, 0)]?,
+            b"1 insert unknown 0\n2 query unknown 7\n",
         ),
         (
             b"insert,0,5,de\ninsert,0,6,de\nquery,0,de",
@@ -183,60 +175,22 @@ fn texts(rt: HostRuntime) -> Result<(), Fail> {
             b"1 insert nomem\n2 insert nomem\n3 query nomem\n",
         ),
         (
-            b"query,0,*\nquery,0,de",
-            vec![in alloc;
-                asked(alloc, 0),
-                answered(0, Agg::EMPTY),
-                asked(alloc, 0),
-                answered(2, both),
-            ]?,
-            b"1 query 0 0 - -\n2 query 2 5 -3 8\n",
-        ),
-        (
-            b"insert,0,1,de\nbarrier\nquery,0,de\nbarrier",
-            vec![in alloc;
-                begun(0),
-                acked(alloc, 0),
-                barrier(),
-                ended(2),
-                asked(alloc, 0),
-                answered(4, Agg::one(1)),
-                barrier(),
-                ended(6),
-            ]?,
-            b"1 insert ok\n2 barrier ok\n3 query 1 1 1 1\n4 barrier ok\n",
-        ),
-        (
-            b"insert,0,1,de\nquery,1,de\ninsert,1,2,fr\nquery,0,de",
+            b"insert,0,1,de\nquery,1,de\nquery,0,*",
             vec![in alloc;
                 asked(alloc, 1),
                 begun(0),
                 answered(0, Agg::one(9)),
-                unknown(1, 0),
                 acked(alloc, 1),
                 asked(alloc, 0),
-                answered(5, Agg::one(1)),
+                answered(4, Agg::EMPTY),
             ]?,
-            b"1 insert ok\n2 query 1 9 9 9\n3 insert unknown 0\n4 query 1 1 1 1\n",
+            b"1 insert ok\n2 query 1 9 9 9\n3 query 0 0 - -\n",
         ),
         (
-            b"insert,0,1,de\nbarrier\nquery,1,de\nquery,0,de",
-            vec![in alloc;
-                begun(0),
-                acked(alloc, 0),
-                barrier(),
-                ended(2),
-                asked(alloc, 0),
-                answered(4, Agg::one(1)),
-                asked(alloc, 1),
-            ]?,
-            b"1 insert ok\n2 barrier ok\n",
-        ),
-        (
-            b"insert,0,1,de\nbarrier\nquery,0,de",
+            b"insert,0,1,de\nquery,0,de",
             vec![in alloc;
                 asked(alloc, 0),
-                answered(0, both),
+                answered(0, Agg::one(9)),
                 begun(7),
                 acked(alloc, 90),
                 begun(300),
@@ -253,44 +207,6 @@ fn texts(rt: HostRuntime) -> Result<(), Fail> {
     Ok(())
 }
 
-#[test]
-fn phases(rt: HostRuntime) -> Result<(), Fail> {
-    let alloc = rt.alloc();
-    let script = script(
-        &rt,
-        alloc,
-        b"insert,0,1,de\nbarrier\nbarrier\nquery,1,de\nquery,0,de\nbarrier",
-    )?;
-    let history = History::from_vec(vec![in alloc;
-        begun(0),
-        acked(alloc, 0),
-        barrier(),
-        ended(2),
-        barrier(),
-        ended(4),
-        asked(alloc, 0),
-        answered(6, Agg::one(1)),
-        asked(alloc, 1),
-    ]?);
-    let rows: [(u64, &[u8]); 5] = [
-        (0, b"1 insert ok\n2 barrier ok\n"),
-        (1, b"3 barrier ok\n"),
-        (2, b""),
-        (3, b""),
-        (u64::MAX, b""),
-    ];
-    for (n, text) in rows {
-        let said = phase(alloc, &script.with, &script.commands, &history, n)?;
-        assert_eq!(rt; said.as_slice(), text);
-    }
-    let all = told(alloc, &script.with, &script.commands, &history)?;
-    assert_eq!(rt;
-        all.as_slice(),
-        b"1 insert ok\n2 barrier ok\n3 barrier ok\n".as_slice()
-    );
-    Ok(())
-}
-
 const WITH: Use = Use {
     servers: 3,
     workers: 1,
@@ -298,20 +214,9 @@ const WITH: Use = Use {
     cells: 64,
 };
 
-/// A directory over two leaves.
-fn three_groups(alloc: Global) -> Result<Vec<NodeLine>, AllocError> {
-    let few = Agg::one(-3);
-    let many = few.join(&Agg::one(8));
-    let groups = vec![in alloc;
-        directory(2, many, set_of(part(1, &[0, 2]), part(0, &[0]))),
-        leaf(1, 1, few, set_of(part(2, &[0, 1, 7]), part(1, &[11]))),
-        leaf(1, 1, Agg::one(8), set_of(part(1, &[2]), part(1, &[3, 4]))),
-    ]?;
-    Ok(groups)
-}
-
-/// Commands, and behind them some of the controlling session.
-fn and_calls(mut commands: Commands, calls: &[Call]) -> Result<Commands, AllocError> {
+/// The commands that make these calls.
+fn commands_of(alloc: Global, calls: &[Call]) -> Result<Commands, AllocError> {
+    let mut commands = Commands::new(alloc);
     for call in calls {
         commands.push(Command::Control(*call))?;
     }
@@ -319,68 +224,85 @@ fn and_calls(mut commands: Commands, calls: &[Call]) -> Result<Commands, AllocEr
 }
 
 #[test]
-fn trees(rt: HostRuntime) -> Result<(), Fail> {
+fn lines_of_calls(rt: HostRuntime) -> Result<(), Fail> {
     let alloc = rt.alloc();
-    let none = leaf(0, 0, Agg::EMPTY, set_of(part(2, &[]), part(1, &[])));
-    let one = leaf(0, 1, Agg::one(4), set_of(part(2, &[5]), part(1, &[])));
-    let old = leaf(0, 1, Agg::one(5), set_of(part(2, &[5]), part(1, &[])));
-    let rows: [(&[Call], Vec<Event>, &[u8]); 6] = [
+    let refused = Event::Refused { session: 4 };
+    let pull = Event::Called {
+        session: 3,
+        call: Call::Sync(2),
+    };
+    let rows: [(&[Call], Vec<Event>, &[u8]); 5] = [
         (
-            &[Call::Tree(9)],
-            vec![in alloc; tree(9), declined(0)]?,
-            b"1 tree declined unknown\n",
-        ),
-        (
-            &[Call::Tree(0)],
-            vec![in alloc; tree(0), without_memory(0)]?,
-            b"1 tree nomem\n",
-        ),
-        (
-            &[Call::Tree(0), Call::Barrier],
-            vec![in alloc; Event::Refused { session: 4 }, barrier(), ended(1)]?,
-            b"1 tree nomem\n2 barrier ok\n",
-        ),
-        (
-            &[Call::Barrier, Call::Tree(0)],
+            &[Call::Sync(2), Call::Barrier, Call::Settle],
             vec![in alloc;
-                barrier(),
-                ended(0),
-                tree(0),
-                shown(2, 2, 4, three_groups(alloc)?),
-                ended(2),
+                pull,
+                ended(0, How::Fine),
+                called(Call::Barrier),
+                ended(2, How::Fine),
+                called(Call::Settle),
+                ended(4, How::NoMemory),
             ]?,
-            b"1 barrier ok\n2 tree 0 height 2 rows 2 queued 4\n2 node 0 dir 1 2 2 5 -3 8 1:0+2/0:0\n2 node 1 leaf 2 1 1 -3 -3 -3 2:0+1+7/1:11\n2 node 1 leaf 2 1 1 8 8 8 1:2/1:3+4\n",
+            b"1 sync ok\n2 barrier ok\n3 settle nomem\n",
         ),
         (
-            &[Call::Tree(0), Call::Tree(3), Call::Tree(0)],
+            &[Call::Split(0), Call::Split(1), Call::Move(2, 0)],
             vec![in alloc;
-                tree(0),
-                shown(0, 0, 0, vec![in alloc; none]?),
-                ended(0),
-                tree(3),
-                declined(3),
-                tree(0),
-                shown(70, 7, 7, three_groups(alloc)?),
-                shown(5, 3, 0, vec![in alloc; old]?),
-                shown(5, 1, 0, vec![in alloc; one]?),
-                ended(5),
+                called(Call::Split(0)),
+                split(0, 1, 2),
+                ended(0, How::Fine),
+                called(Call::Split(1)),
+                declined(3, Decline::OnePlace),
+                called(Call::Move(2, 0)),
+                ended(5, How::Fine),
             ]?,
-            b"1 tree 0 height 2 rows 0 queued 0\n1 node 0 leaf 2 0 0 0 - - 2:/1:\n2 tree declined unknown\n3 tree 0 height 2 rows 1 queued 0\n3 node 0 leaf 2 1 1 4 4 4 2:5/1:\n",
+            b"1 split ok 1 2\n2 split declined oneplace\n3 move ok\n",
         ),
         (
-            &[Call::Tree(0), Call::Tree(0)],
+            &[Call::Split(9), Call::Split(0), Call::Move(0, 1)],
             vec![in alloc;
-                tree(0),
-                shown(0, 2, 4, Vec::new(alloc)),
-                ended(0),
-                tree(0),
-                shown(3, 2, 4, three_groups(alloc)?),
+                called(Call::Split(9)),
+                ended(0, How::NoMemory),
+                called(Call::Split(0)),
+                ended(2, How::Postponed),
+                refused,
             ]?,
-            b"1 tree 0 height 2 rows 2 queued 4\n",
+            b"1 split postponed\n2 split postponed\n3 move postponed\n",
+        ),
+        (
+            &[Call::Move(0, 7), Call::Split(0), Call::Balance(4)],
+            vec![in alloc;
+                called(Call::Move(0, 7)),
+                declined(0, Decline::Unknown),
+                called(Call::Split(0)),
+                declined(2, Decline::NoCell { need: 100, free: 3 }),
+                called(Call::Balance(4)),
+                split(4, 1, 2),
+                ended(
+                    4,
+                    How::Balanced {
+                        done: 1,
+                        planned: 3
+                    }
+                ),
+            ]?,
+            b"1 move declined unknown\n2 split declined nocell 100 3\n3 balance 1 3\n",
+        ),
+        (
+            &[Call::Balance(1), Call::Shards, Call::Tree(5), Call::Audit],
+            vec![in alloc;
+                Event::Refused { session: 4 },
+                called(Call::Shards),
+                ended(1, How::NoMemory),
+                called(Call::Tree(5)),
+                declined(3, Decline::Unknown),
+                called(Call::Audit),
+                ended(5, How::NoMemory),
+            ]?,
+            b"1 balance nomem\n2 shards nomem\n3 tree declined unknown\n4 audit nomem\n",
         ),
     ];
-    for (called, events, text) in rows {
-        let commands = and_calls(Commands::new(alloc), called)?;
+    for (calls, events, text) in rows {
+        let commands = commands_of(alloc, calls)?;
         let history = History::from_vec(events);
         let said = told(alloc, &WITH, &commands, &history)?;
         assert_eq!(rt; said.as_slice(), text);
@@ -388,46 +310,85 @@ fn trees(rt: HostRuntime) -> Result<(), Fail> {
     Ok(())
 }
 
+/// A history that shows a tree of a directory over one leaf, then the shards, then all rows, of which
+/// the last audit has no end.
+fn pages(alloc: Global) -> Result<Vec<Event>, AllocError> {
+    let many = Agg::one(-3).join(&Agg::one(8));
+    let groups = vec![in alloc;
+        directory(1, many, set_of(part(1, &[0, 2]), part(0, &[0]))),
+        leaf(1, 2, many, set_of(part(2, &[0, 7]), part(1, &[11]))),
+    ]?;
+    let shards = vec![in alloc;
+        shard(1, 2, set_of(part(2, &[0, 7]), part(1, &[11]))),
+        shard(2, 0, set_of(part(2, &[]), part(1, &[]))),
+    ]?;
+    let audit = Event::Shown {
+        of: 6,
+        page: Page::Audit(AuditLine {
+            agg: many,
+            shards: 2,
+        }),
+    };
+    let events = vec![in alloc;
+        called(Call::Tree(0)),
+        shown_tree(0, 2, 4, groups),
+        ended(0, How::Fine),
+        called(Call::Shards),
+        Event::Shown {
+            of: 3,
+            page: Page::Shards(ShardList::from_vec(shards)),
+        },
+        ended(3, How::Fine),
+        called(Call::Audit),
+        audit,
+        ended(6, How::Fine),
+        called(Call::Audit),
+    ]?;
+    Ok(events)
+}
+
 #[test]
-fn phases_of_trees(rt: HostRuntime) -> Result<(), Fail> {
+fn pages_are_told_phase_by_phase(rt: HostRuntime) -> Result<(), Fail> {
     let alloc = rt.alloc();
-    let script = script(&rt, alloc, b"insert,0,1,de")?;
-    let commands = and_calls(
-        script.commands,
-        &[
-            Call::Tree(0),
-            Call::Tree(1),
-            Call::Tree(0),
-            Call::Tree(0),
-            Call::Tree(0),
-        ],
-    )?;
-    let history = History::from_vec(vec![in alloc;
-        begun(0),
-        acked(alloc, 0),
-        tree(0),
-        shown(2, 2, 4, three_groups(alloc)?),
-        ended(2),
-        tree(1),
-        declined(5),
-        tree(0),
-        without_memory(7),
-        Event::Refused { session: 4 },
-        tree(0),
-    ]?);
+    let calls = [Call::Tree(0), Call::Shards, Call::Audit, Call::Audit];
+    let commands = commands_of(alloc, &calls)?;
+    let history = History::from_vec(pages(alloc)?);
     let rows: [(u64, &[u8]); 5] = [
         (
             0,
-            b"1 insert ok\n2 tree 0 height 2 rows 2 queued 4\n2 node 0 dir 1 2 2 5 -3 8 1:0+2/0:0\n2 node 1 leaf 2 1 1 -3 -3 -3 2:0+1+7/1:11\n2 node 1 leaf 2 1 1 8 8 8 1:2/1:3+4\n",
+            b"1 tree 0 height 2 rows 2 queued 4\n1 node 0 dir 1 1 2 5 -3 8 1:0+2/0:0\n1 node 1 leaf 2 2 2 5 -3 8 2:0+7/1:11\n",
         ),
-        (1, b"3 tree declined unknown\n"),
-        (2, b"4 tree nomem\n"),
-        (3, b"5 tree nomem\n"),
-        (4, b""),
+        (
+            1,
+            b"2 shard 1 worker 1 rows 2 queued 3 box 2:0+7/1:11\n2 shard 2 worker 1 rows 0 queued 3 box 2:/1:\n",
+        ),
+        (2, b"3 audit 2 5 -3 8 shards 2\n"),
+        (3, b""),
+        (u64::MAX, b""),
     ];
     for (n, text) in rows {
-        let said = phase(alloc, &script.with, &commands, &history, n)?;
+        let said = phase(alloc, &WITH, &commands, &history, n)?;
         assert_eq!(rt; said.as_slice(), text);
     }
+    Ok(())
+}
+
+/// What a new teller tells of one phase.
+fn first_phase(
+    alloc: Global,
+    commands: &Commands,
+    events: &[Event],
+) -> Result<Vec<u8>, AllocError> {
+    let mut teller = Teller::new(alloc)?;
+    teller.phase(alloc, &WITH, commands.as_slice(), events)
+}
+
+#[test]
+fn a_teller_tells_a_phase(rt: HostRuntime) -> Result<(), Fail> {
+    let alloc = rt.alloc();
+    let events = vec![in alloc; called(Call::Barrier), ended(0, How::Fine)]?;
+    let commands = commands_of(alloc, &[Call::Barrier])?;
+    let said = first_phase(alloc, &commands, &events)?;
+    assert_eq!(rt; said.as_slice(), b"1 barrier ok\n".as_slice());
     Ok(())
 }

@@ -1,33 +1,37 @@
 //! The text that a history tells of a script.
-ghost use Rattle.std.specs.Prelude.{◌≡◌, ◌+◌, ◌<◌, ◌≤◌, ◌^◌, ◌∷◌, ◌++◌, length, take, drop, IfOk, OnOk, All};
+ghost use Rattle.std.specs.Prelude.{◌≡◌, ◌∷◌, ◌+◌, ◌-◌, ◌<◌, ◌≤◌, ◌^◌, ◌++◌, length, reverse, take, drop, IfOk, OnOk, All};
 ghost use Rattle.std.specs.String.{string_bytes};
-ghost use Rattle.answer_text.specs.Phases.{phases};
-ghost use Rattle.answer_text.specs.Places.{are_over, places};
-ghost use Rattle.answer_text.specs.Printed.{lines, phase_behind, phase_text, text_at, told};
-ghost use Rattle.answer_text.specs.Index.{IsPlace, phase_lines};
+ghost use Rattle.script_run.specs.Phases.{phases};
+ghost use Rattle.script_run.specs.Places.{are_over, places_behind};
+ghost use Rattle.answer_text.specs.Printed.{lines, phase_behind, phase_lines, phase_text, text_at, told};
+ghost use Rattle.answer_text.specs.Marks.{Counts, IsPlace, RefersBack};
 
-use crate::index::{Index, SESSIONS, session_of};
+use crate::index::Index;
 use crate::line::{Line, Word, push_line};
+use crate::notes::Notes;
 use crate::pages::push_page;
-use crate::phases::phase_len;
-use row_ledger::{History, Use};
+use row_ledger::{Event, History, Use};
 use script_form::{Command, Commands};
+use script_run::{SESSIONS, phase_len, session_of};
 use std::alloc::{AllocError, Global};
 
-// Where each command begins.
+// Where the commands from a place on begin; they are counted by session with those before.
 fn places(
     alloc: Global,
+    counts: &mut Vec<usize>,
     with: &Use,
     commands: &[Command],
+    start: usize,
     index: &Index,
 ) -> Result<Vec<Option<usize>>, AllocError>
-    ensures len { IfOk result (λ v. length v.items ≡ length commands.now) }
-    ensures places { IfOk result (λ v. v.items ≡ places with.now commands.now index.now.history.now) }
+    requires within { start ≤ length commands.now }
+    requires counted { Counts counts.old.items with.now (take start commands.now) }
+    ensures counted { OnOk result (Counts counts.new.items with.now commands.now) }
+    ensures places { IfOk result (λ v. v.items ≡ places_behind with.now (take start commands.now) (drop start commands.now) (reverse index.now.events.now)) }
 {
-    let mut counts = vec![in alloc; 0usize; SESSIONS]?;
-    let mut places = Vec::with_capacity(alloc, commands.len())?;
-    for command in commands {
-        let session = session_of(with, command);
+    let mut places = Vec::with_capacity(alloc, commands.len() - start)?;
+    for i in start..commands.len() {
+        let session = session_of(with, &commands[i]) as usize;
         let count = counts[session];
         places.push(index.place(session, count))?;
         counts[session] = count + 1;
@@ -37,8 +41,8 @@ fn places(
 
 // Whether all commands that begin at these places have begun and have their ends.
 fn are_over(index: &Index, places: &[Option<usize>]) -> bool
-    requires { All (IsPlace index.now.history.now) places.now }
-    ensures { result ≡ are_over index.now.history.now places.now }
+    requires { All (IsPlace (reverse index.now.events.now)) places.now }
+    ensures { result ≡ are_over (reverse index.now.events.now) places.now }
 {
     for place in places {
         if !index.is_over_at(*place) {
@@ -56,14 +60,14 @@ fn push_text(
     place: Option<usize>,
     index: &Index,
 ) -> Result<(), AllocError>
-    requires { IsPlace index.now.history.now place }
-    ensures { OnOk result (string_bytes text.new ≡ string_bytes text.old ++ text_at number command.now index.now.history.now place) }
+    requires { IsPlace (reverse index.now.events.now) place }
+    ensures { OnOk result (string_bytes text.new ≡ string_bytes text.old ++ text_at number command.now (reverse index.now.events.now) place) }
 {
     match index.page_at(place) {
         Some(page) => push_page(text, number, page),
         None => {
             let word = Word::of(command);
-            let answer = index.answer_at(place);
+            let answer = index.answer_at(command, place);
             push_line(
                 text,
                 &Line {
@@ -86,8 +90,8 @@ fn push_lines(
 ) -> Result<(), AllocError>
     requires few { first + length commands.now ≤ 2 ^ 64 }
     requires same { length places.now ≡ length commands.now }
-    requires places { All (IsPlace index.now.history.now) places.now }
-    ensures { OnOk result (string_bytes text.new ≡ string_bytes text.old ++ lines first commands.now places.now index.now.history.now) }
+    requires places { All (IsPlace (reverse index.now.events.now)) places.now }
+    ensures { OnOk result (string_bytes text.new ≡ string_bytes text.old ++ lines first commands.now places.now (reverse index.now.events.now)) }
 {
     for (i, command) in commands.iter().enumerate() {
         let number = first + i as u64;
@@ -106,8 +110,8 @@ fn push_phase(
 ) -> Result<(), AllocError>
     requires few { first + length phase.now ≤ 2 ^ 64 }
     requires same { length places.now ≡ length phase.now }
-    requires places { All (IsPlace index.now.history.now) places.now }
-    ensures { OnOk result (string_bytes text.new ≡ string_bytes text.old ++ phase_lines first phase.now places.now index.now.history.now) }
+    requires places { All (IsPlace (reverse index.now.events.now)) places.now }
+    ensures { OnOk result (string_bytes text.new ≡ string_bytes text.old ++ phase_lines first phase.now places.now (reverse index.now.events.now)) }
 {
     if are_over(index, places) {
         push_lines(text, first, phase, places, index)?;
@@ -115,59 +119,94 @@ fn push_phase(
     Ok(())
 }
 
-// A script's commands, with where each begins in a history.
-#[derive(Drop)]
-struct Outline<'a> {
-    with: &'a Use,
-    commands: &'a [Command],
-    index: Index<'a>,
-    begun: Vec<Option<usize>>,
-    ghost all: { length begun.items ≡ length commands.now },
-    ghost placed: { begun.items ≡ places with.now commands.now index.history.now },
+// Where the phase ends that begins at a place.
+fn phase_end(commands: &[Command], start: usize) -> usize
+    requires { start < length commands.now }
+    ensures some { start < result }
+    ensures within { result ≤ length commands.now }
+    ensures phase { phases (drop start commands.now) ≡ take (result - start) (drop start commands.now) ∷ phases (drop (result - start) (drop start commands.now)) }
+{
+    start + phase_len(&commands[start..])
 }
 
-impl<'a> Outline<'a> {
-    fn of(
-        alloc: Global,
-        with: &'a Use,
-        commands: &'a Commands,
-        history: &'a History,
-    ) -> Result<Outline<'a>, AllocError>
-        ensures with { IfOk result (λ o. o.with.now ≡ with.now) }
-        ensures commands { IfOk result (λ o. o.commands.now ≡ commands.now) }
-        ensures history { IfOk result (λ o. o.index.history.now ≡ history.now) }
+/// Tells a run phase by phase: how many of its commands are told, how many of each session, and what
+/// is known of the history that was read for them.
+#[derive(Drop)]
+pub struct Teller {
+    told: usize,
+    counts: Vec<usize>,
+    notes: Notes,
+}
+
+impl Teller {
+    ghost use Rattle.std.specs.Prelude.{[]};
+    ghost use Rattle.answer_text.specs.Told.{HasTold, IsTeller, IsToldOf, seen_of};
+
+    /// Nothing is told, and no event read.
+    pub fn new(alloc: Global) -> Result<Teller, AllocError>
+        ensures { IfOk result (λ teller. IsTeller teller) }
     {
-        let commands = commands.as_slice();
-        let index = Index::of(alloc, history)?;
-        let begun = places(alloc, with, commands, &index)?;
-        Ok(Outline {
-            with,
-            commands,
-            index,
-            begun,
+        let counts = vec![in alloc; 0usize; SESSIONS]?;
+        let notes = Notes::new(alloc)?;
+        Ok(Teller {
+            told: 0,
+            counts,
+            notes,
         })
     }
 
-    // How many commands the phase has that begins with the command at `start`.
-    fn phase_len(&self, start: usize) -> usize
-        requires { start < length self.now.commands.now }
-        ensures some { 0 < result }
-        ensures within { start + result ≤ length self.now.commands.now }
-        ensures phase { phases (drop start self.now.commands.now) ≡ take result (drop start self.now.commands.now) ∷ phases (drop result (drop start self.now.commands.now)) }
+    // Adds the text of the next phase, whose last command is the last of these; the history was read
+    // to its end.
+    fn push_next(
+        &mut self,
+        alloc: Global,
+        text: &mut String,
+        with: &Use,
+        commands: &[Command],
+        events: &[Event],
+    ) -> Result<(), AllocError>
+        requires within { self.old.told ≤ length commands.now }
+        requires told { HasTold with.now (take self.old.told commands.now) (reverse events.now) self.old }
+        ensures text { OnOk result (string_bytes text.new ≡ string_bytes text.old ++ phase_behind with.now (take self.old.told commands.now) (drop self.old.told commands.now) (reverse events.now)) }
+        ensures told { OnOk result (HasTold with.now commands.now (reverse events.now) self.new) }
     {
-        phase_len(&self.commands[start..])
+        let start = self.told;
+        let index = Index::of(events, &self.notes);
+        let places = places(alloc, &mut self.counts, with, commands, start, &index)?;
+        push_phase(text, start as u64 + 1, &commands[start..], &places, &index)?;
+        self.told = commands.len();
+        Ok(())
     }
 
-    // Adds the text of the phase of `count` commands from `start` on.
-    fn push_phase(&self, text: &mut String, start: usize, count: usize) -> Result<(), AllocError>
-        requires some { 0 < count }
-        requires within { start + count ≤ length self.now.commands.now }
-        ensures { OnOk result (string_bytes text.new ≡ string_bytes text.old ++ phase_behind self.now.with.now (take start self.now.commands.now) (take count (drop start self.now.commands.now)) self.now.index.history.now) }
+    /// The text of the phase behind those that are told, whose last command is the last of these;
+    /// nothing where one of its commands has no end. The events, the oldest first, are all that
+    /// happened; those that came since are read.
+    pub fn phase(
+        &mut self,
+        alloc: Global,
+        with: &Use,
+        commands: &[Command],
+        events: &[Event],
+    ) -> Result<Vec<u8>, AllocError>
+        requires told { IsToldOf with.now commands.now events.now self.old }
+        requires refers { RefersBack (reverse (take (seen_of self.old) events.now)) }
+        ensures text { IfOk result (λ v. v.items ≡ phase_behind with.now (take self.old.told commands.now) (drop self.old.told commands.now) (reverse events.now)) }
+        ensures told { OnOk result (HasTold with.now commands.now (reverse events.now) self.new) }
     {
-        let end = start + count;
-        let phase = &self.commands[start..end];
-        let places = &self.begun[start..end];
-        push_phase(text, start as u64 + 1, phase, places, &self.index)
+        let mut text = String::new(alloc);
+        self.notes.read(events)?;
+        self.push_next(alloc, &mut text, with, commands, events)?;
+        Ok(text.into_bytes())
+    }
+
+    // Reads a whole history, and tells nothing so far.
+    fn of(alloc: Global, with: &Use, events: &[Event]) -> Result<Teller, AllocError>
+        ensures told { IfOk result (λ teller. teller.told ≡ 0) }
+        ensures read { IfOk result (λ teller. HasTold with.now [] (reverse events.now) teller) }
+    {
+        let mut teller = Teller::new(alloc)?;
+        teller.notes.read(events)?;
+        Ok(teller)
     }
 }
 
@@ -181,13 +220,13 @@ pub fn told(
 ) -> Result<Vec<u8>, AllocError>
     ensures { IfOk result (λ v. v.items ≡ told with.now commands.now history.now) }
 {
-    let outline = Outline::of(alloc, with, commands, history)?;
+    let all = commands.as_slice();
+    let events = history.events();
+    let mut teller = Teller::of(alloc, with, events)?;
     let mut text = String::new(alloc);
-    let mut start = 0;
-    while start < outline.commands.len() {
-        let count = outline.phase_len(start);
-        outline.push_phase(&mut text, start, count)?;
-        start += count;
+    while teller.told < all.len() {
+        let end = phase_end(all, teller.told);
+        teller.push_next(alloc, &mut text, with, &all[..end], events)?;
     }
     Ok(text.into_bytes())
 }
@@ -203,18 +242,18 @@ pub fn phase(
 ) -> Result<Vec<u8>, AllocError>
     ensures { IfOk result (λ v. v.items ≡ phase_text with.now commands.now history.now n) }
 {
-    let outline = Outline::of(alloc, with, commands, history)?;
+    let all = commands.as_slice();
+    let events = history.events();
+    let mut teller = Teller::of(alloc, with, events)?;
     let mut left = n;
-    let mut start = 0;
-    while start < outline.commands.len() {
-        let count = outline.phase_len(start);
+    while teller.told < all.len() {
+        let end = phase_end(all, teller.told);
+        let mut text = String::new(alloc);
+        teller.push_next(alloc, &mut text, with, &all[..end], events)?;
         if left == 0 {
-            let mut text = String::new(alloc);
-            outline.push_phase(&mut text, start, count)?;
             return Ok(text.into_bytes());
         }
         left -= 1;
-        start += count;
     }
     Ok(Vec::new(alloc))
 }

@@ -8,6 +8,7 @@ use Rattle.dim_hierarchy.specs.Filter.{IsNamePick}
 use Rattle.dim_hierarchy.specs.declared.filter.NamePick.{NamePick}
 use Rattle.dim_hierarchy.specs.declared.filter.NamePick.TheVariants as pick
 use Rattle.row_ledger.specs.declared.settings.Use.{Use}
+use Rattle.row_ledger.specs.declared.settings.Call.{Call}
 use Rattle.row_ledger.specs.declared.settings.Call.TheVariants as call
 use Rattle.script_form.specs.Fields.{Record, field, is_star, measure_of, pieces, value_of}
 use Rattle.script_form.specs.Kinds.{kind_of}
@@ -122,11 +123,17 @@ pub record AreSettings (with : Use) : Type 0 where
   pub threads : (1 ≤ with.threads) × (with.threads ≤ 8)
   pub cells : (64 ≤ with.cells) × (with.cells ≤ 65536)
 
+-- a call that scripts can ask for so far
+abbrev pub IsRead : Call → Type 0
+IsRead call.Barrier = ⊤
+IsRead (call.Tree shard) = ⊤
+IsRead other = ⊥
+
 -- a command of a server of the script, with a name or a pick for each dimension
 abbrev pub Fits : Script → Command → Type 0
 Fits s (command.Insert row) = (row.server < s.with.servers) × (length row.names ≡ length s.hierarchy)
 Fits s (command.Query question) = (question.server < s.with.servers) × (length question.filter ≡ length s.hierarchy) × All IsNamePick question.filter
-Fits s (command.Control call) = ⊤
+Fits s (command.Control call) = IsRead call
 
 -- none of the records has a cause, each behind those before it
 abbrev pub AreFine : List Record → Type 0

@@ -42,7 +42,7 @@ fn is_version(row: &ByteRecord) -> bool
     row.len() == 2 && field(row, 0) == b"volap".as_slice() && field(row, 1) == b"1".as_slice()
 }
 
-// Whether a record of this kind may not stand here.
+/// Whether a record of this kind may not stand here.
 fn is_wrong_order(at: u64, script: &Script, kind: Kind) -> bool
     ensures { result ≡ wrong_order at script.now kind }
 {
@@ -54,7 +54,7 @@ fn is_wrong_order(at: u64, script: &Script, kind: Kind) -> bool
     }
 }
 
-// Whether a number field is no number in its range.
+/// Whether a number field is no number in its range.
 fn is_wrong_number(servers: u8, kind: Kind, row: &ByteRecord) -> bool
     ensures { result ≡ wrong_number servers kind (fields_of row.now) }
 {
@@ -75,7 +75,7 @@ fn is_wrong_number(servers: u8, kind: Kind, row: &ByteRecord) -> bool
     }
 }
 
-// Whether a name field, or a piece of a filter, is no name.
+/// Whether a name field, or a piece of a filter, is no name.
 fn is_wrong_name(kind: Kind, row: &ByteRecord) -> bool
     ensures { result ≡ wrong_name kind (fields_of row.now) }
 {

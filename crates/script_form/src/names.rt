@@ -10,14 +10,14 @@ use csv::ByteRecord;
 use dim_hierarchy::{Name, NameFilter, NamePick, Names};
 use std::alloc::{AllocError, Global};
 
-// The place of the first vertical bar.
+/// The place of the first vertical bar.
 fn first_bar(text: &[u8]) -> Option<usize>
     ensures { result ≡ position is_bar text.now }
 {
     text.iter().position(|b| *b == b'|')
 }
 
-// Whether this can be a pick of a filter: `*`, or names joined by vertical bars.
+/// Whether this can be a pick of a filter: `*`, or names joined by vertical bars.
 #[tactic(auto, using(crate::proofs::PieceFacts::split_some, crate::proofs::PieceFacts::split_none, crate::proofs::PieceFacts::position_below))]
 fn is_pick(text: &[u8]) -> bool
     ensures { result ≡ is_pick text.now }
@@ -85,7 +85,7 @@ pub(crate) fn filter(alloc: Global, row: &ByteRecord, from: usize) -> Result<Nam
     Ok(filter)
 }
 
-// What a field picks.
+/// What a field picks.
 fn pick(alloc: Global, text: &[u8]) -> Result<NamePick, AllocError>
     ensures { IfOk result (λ pick. pick ≡ pick_of text.now) }
 {
@@ -96,7 +96,7 @@ fn pick(alloc: Global, text: &[u8]) -> Result<NamePick, AllocError>
     }
 }
 
-// The names that vertical bars part.
+/// The names that vertical bars part.
 #[tactic(auto, using(crate::proofs::PieceFacts::split_some, crate::proofs::PieceFacts::split_none, crate::proofs::PieceFacts::position_below))]
 fn pieces(alloc: Global, text: &[u8]) -> Result<Names, AllocError>
     ensures { IfOk result (λ names. names ≡ pieces text.now) }

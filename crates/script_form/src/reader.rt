@@ -1,5 +1,5 @@
 //! The reader of scripts.
-ghost use Rattle.std.specs.Prelude.{◌≡◌, ◌≤◌, ◌<◌, ◌+◌, ◌^◌, true, length, All, IfOk};
+ghost use Rattle.std.specs.Prelude.{◌≡◌, ◌<◌, ◌+◌, true, length, All, IfOk};
 ghost use Rattle.csv.specs.Reading.{error_kind, stops_reader};
 ghost use Rattle.script_form.specs.Scripts.{AreSettings, Fits, IsAnswer, records_of, script};
 
@@ -18,12 +18,11 @@ const DEFAULT: Use = Use {
     cells: 16384,
 };
 
-/// The script of a text of at most 2^26 bytes; else the first record that is bad and its first
-/// cause, or want of memory. The settings of a script are in their ranges, each insert and query
+/// The script of a text; else the first record that is bad and its first cause, or want of memory,
+/// which it tells as well at 2^28 concepts. The settings of a script are in their ranges, each insert and query
 /// names one of its servers and has a name or a pick for each dimension, and where there is a
 /// command there is a dimension.
 pub fn read_script(alloc: Global, text: &[u8]) -> Result<Script, ScriptFault>
-    requires { length text.now ≤ 2 ^ 26 }
     ensures answer { IsAnswer (script (records_of text.now)) result }
     ensures settings { IfOk result (λ s. AreSettings s.with) }
     ensures fits { IfOk result (λ s. All (Fits s) s.commands) }
@@ -59,7 +58,7 @@ pub fn read_script(alloc: Global, text: &[u8]) -> Result<Script, ScriptFault>
     unreachable!()
 }
 
-// The record behind so many is bad.
+/// The record behind so many is bad.
 fn bad(at: u64, cause: Cause) -> ScriptFault
     requires { at < u64.MAX }
     ensures { result ≡ ScriptFault.Bad (at + 1) cause }
@@ -67,7 +66,7 @@ fn bad(at: u64, cause: Cause) -> ScriptFault
     ScriptFault::Bad { at: at + 1, cause }
 }
 
-// The errors that stop a reader are want of memory here: no read of a slice fails.
+/// The errors that stop a reader are want of memory here: no read of a slice fails.
 fn want_of_memory(error: &Error) -> ScriptFault
     requires { stops_reader (error_kind error.now) ≡ true }
     ensures { result ≡ ScriptFault.NoMemory }

@@ -1,7 +1,6 @@
 //! What a record adds to the script of those before it.
-ghost use Rattle.std.specs.Prelude.{◌≡◌, ◌≤◌, ◌<◌, ◌^◌, true, false, length, IfOk, IfErr, OnErr, OnOk};
+ghost use Rattle.std.specs.Prelude.{◌≡◌, ◌≤◌, true, false, length, IfOk, IfErr, OnErr, OnOk};
 ghost use Rattle.csv.specs.Records.{fields_of};
-ghost use Rattle.dim_hierarchy.specs.Dimension.{concept_count};
 ghost use Rattle.script_form.specs.Fields.{field, in_range, is_below};
 ghost use Rattle.script_form.specs.Causes.{HasForm, TellsCause, cause_at, hierarchy_cause, parent_of, wrong_number};
 ghost use Rattle.script_form.specs.Scripts.{IsTaken, after, command_by, hierarchy_with, settings_in};
@@ -41,7 +40,6 @@ pub(crate) fn take_record(
     script: &mut Script,
     row: &ByteRecord,
 ) -> Result<(), RecordFault>
-    requires { concept_count script.old.hierarchy < 2 ^ 28 }
     ensures ok { OnOk result (IsTaken at script.old script.new (fields_of row.now)) }
     ensures bad { IfErr result (TellsCause (cause_at at script.old (fields_of row.now))) }
     ensures err { OnErr result (script.new ≡ script.old) }
@@ -52,15 +50,14 @@ pub(crate) fn take_record(
     }
 }
 
-// Adds what a record of this kind says.
+/// Adds what a record of this kind says.
 fn add_record(
     alloc: Global,
     script: &mut Script,
     kind: Kind,
     row: &ByteRecord,
 ) -> Result<(), RecordFault>
-    requires form { HasForm script.old kind (fields_of row.now) }
-    requires room { concept_count script.old.hierarchy < 2 ^ 28 }
+    requires { HasForm script.old kind (fields_of row.now) }
     ensures fine { OnOk result (hierarchy_cause script.old.hierarchy kind (fields_of row.now) ≡ None) }
     ensures ok { OnOk result (script.new ≡ after script.old (fields_of row.now)) }
     ensures bad { IfErr result (TellsCause (hierarchy_cause script.old.hierarchy kind (fields_of row.now))) }
@@ -94,7 +91,7 @@ fn add_record(
     }
 }
 
-// The settings of a `use` record.
+/// The settings of a `use` record.
 fn settings(row: &ByteRecord) -> Use
     requires { wrong_number 0 kind.Use (fields_of row.now) ≡ false }
     ensures { result ≡ settings_in (fields_of row.now) }
@@ -107,7 +104,7 @@ fn settings(row: &ByteRecord) -> Use
     }
 }
 
-// Adds the dimension of a `dim` record.
+/// Adds the dimension of a `dim` record.
 fn add_dim(alloc: Global, hierarchy: &mut Hierarchy, row: &ByteRecord) -> Result<(), RecordFault>
     requires { in_range (field (fields_of row.now) 2) 1 8 ≡ true }
     ensures fine { OnOk result (hierarchy_cause hierarchy.old kind.Dim (fields_of row.now) ≡ None) }
@@ -125,13 +122,12 @@ fn add_dim(alloc: Global, hierarchy: &mut Hierarchy, row: &ByteRecord) -> Result
     }
 }
 
-// Adds the concept of a `concept` record.
+/// Adds the concept of a `concept` record.
 fn add_concept(
     alloc: Global,
     hierarchy: &mut Hierarchy,
     row: &ByteRecord,
 ) -> Result<(), RecordFault>
-    requires { concept_count hierarchy.old < 2 ^ 28 }
     ensures fine { OnOk result (hierarchy_cause hierarchy.old kind.Concept (fields_of row.now) ≡ None) }
     ensures ok { OnOk result (hierarchy.new ≡ hierarchy_with (Some kind.Concept) hierarchy.old (fields_of row.now)) }
     ensures bad { IfErr result (TellsCause (hierarchy_cause hierarchy.old kind.Concept (fields_of row.now))) }
@@ -154,7 +150,7 @@ fn add_concept(
     }
 }
 
-// The concept that a field names as a parent: `ALL` for `*`.
+/// The concept that a field names as a parent: `ALL` for `*`.
 fn parent(hierarchy: &Hierarchy, dim: u8, name: &[u8]) -> Option<ConceptId>
     ensures { result ≡ parent_of hierarchy.now dim name.now }
 {
@@ -165,7 +161,7 @@ fn parent(hierarchy: &Hierarchy, dim: u8, name: &[u8]) -> Option<ConceptId>
     }
 }
 
-// The row of an `insert` record.
+/// The row of an `insert` record.
 fn new_row(alloc: Global, row: &ByteRecord) -> Result<NewRow, AllocError>
     requires server { is_below (field (fields_of row.now) 1) 256 ≡ true }
     requires fields { 3 ≤ length (fields_of row.now) }
@@ -179,7 +175,7 @@ fn new_row(alloc: Global, row: &ByteRecord) -> Result<NewRow, AllocError>
     })
 }
 
-// The question of a `query` record.
+/// The question of a `query` record.
 fn question(alloc: Global, row: &ByteRecord) -> Result<Question, AllocError>
     requires server { is_below (field (fields_of row.now) 1) 256 ≡ true }
     requires fields { 2 ≤ length (fields_of row.now) }

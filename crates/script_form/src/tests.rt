@@ -2,7 +2,6 @@ use crate::{Cause, Command, ScriptFault, read_script, script_laws};
 use dim_hierarchy::NamePick;
 use row_ledger::{Call, Use};
 use std::alloc::{AllocError, Global};
-use std::process::Abort;
 use std::test::Fail;
 
 const BASE: &[u8] =
@@ -16,8 +15,7 @@ fn on_base(alloc: Global, lines: &[u8]) -> Result<Vec<u8>, AllocError> {
 }
 
 /// The fault of a text, or how many commands it has.
-fn outcome(rt: &impl Abort, alloc: Global, text: &[u8]) -> Result<usize, ScriptFault> {
-    assert!(rt; text.len() < 1000);
+fn outcome(alloc: Global, text: &[u8]) -> Result<usize, ScriptFault> {
     Ok(read_script(alloc, text)?.commands.len())
 }
 
@@ -56,10 +54,7 @@ fn bad_texts(rt: HostRuntime) -> Result<(), Fail> {
         ),
     ];
     for (text, at, cause) in rows {
-        assert_eq!(rt;
-            outcome(&rt, alloc, text),
-            Err(ScriptFault::Bad { at, cause })
-        );
+        assert_eq!(rt; outcome(alloc, text), Err(ScriptFault::Bad { at, cause }));
     }
     Ok(())
 }
@@ -149,10 +144,7 @@ fn bad_records_behind_the_base(rt: HostRuntime) -> Result<(), Fail> {
     ];
     for (lines, at, cause) in rows {
         let text = on_base(alloc, lines)?;
-        assert_eq!(rt;
-            outcome(&rt, alloc, &text),
-            Err(ScriptFault::Bad { at, cause })
-        );
+        assert_eq!(rt; outcome(alloc, &text), Err(ScriptFault::Bad { at, cause }));
     }
     Ok(())
 }
@@ -189,9 +181,9 @@ fn good_texts(rt: HostRuntime) -> Result<(), Fail> {
     ];
     for (lines, commands) in rows {
         let text = on_base(alloc, lines)?;
-        assert_eq!(rt; outcome(&rt, alloc, &text), Ok(commands));
+        assert_eq!(rt; outcome(alloc, &text), Ok(commands));
     }
-    assert_eq!(rt; outcome(&rt, alloc, b"\xEF\xBB\xBFvolap,1\r\n\r\n"), Ok(0));
+    assert_eq!(rt; outcome(alloc, b"\xEF\xBB\xBFvolap,1\r\n\r\n"), Ok(0));
     Ok(())
 }
 

@@ -1,11 +1,15 @@
-use Rattle.std.proofs.Common.{◌≡◌, ◌-◌, ◌≤◌, [], length, take, drop, get_or}
-use Rattle.answer_text.specs.Phases.{phases}
+use Rattle.std.proofs.Common.{◌≡◌, ◌-◌, ◌≤◌, [], length, take, drop, reverse, get_or}
+use Rattle.script_run.specs.Phases.{phases}
 use Rattle.answer_text.specs.Printed.{phase_text, texts_behind}
+use Rattle.answer_text.specs.Told.{HasTold}
 use Rattle.answer_text.proofs.text.phase.Given as goal
 
-abbrev pub invariant-loop-start : goal.invariant-loop-start
-invariant-loop-start l =
-    (l.start ≤ length l.outline.commands.now) × (get_or (texts_behind l.outline.with.now (take l.start l.outline.commands.now) (phases (drop l.start l.outline.commands.now)) l.outline.index.history.now) l.left [] ≡ phase_text l.outline.with.now l.outline.commands.now l.outline.index.history.now l.n)
+abbrev pub invariant-loop-teller : goal.invariant-loop-teller
+invariant-loop-teller l = record {
+  within : l.teller.told ≤ length l.all;
+  has : HasTold l.with (take l.teller.told l.all) (reverse l.events) l.teller;
+  text : get_or (texts_behind l.with (take l.teller.told l.all) (phases (drop l.teller.told l.all)) (reverse l.events)) l.left [] ≡ phase_text l.with l.all (reverse l.events) l.n;
+}
 
-abbrev pub decreases-loop-start : goal.decreases-loop-start
-decreases-loop-start l = length l.outline.commands.now - l.start
+abbrev pub decreases-loop-teller : goal.decreases-loop-teller
+decreases-loop-teller l = length l.all - l.teller.told

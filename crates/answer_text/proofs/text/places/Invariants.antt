@@ -1,10 +1,10 @@
-use Rattle.std.proofs.Common.{◌≡◌, ◌++◌, take, drop}
-use Rattle.answer_text.specs.Places.{places, places_behind}
-use Rattle.answer_text.proofs.ToldPlaces.{Counts}
+use Rattle.std.proofs.Common.{◌≡◌, ◌++◌, take, drop, reverse}
+use Rattle.script_run.specs.Places.{places_behind}
+use Rattle.answer_text.specs.Marks.{Counts}
 use Rattle.answer_text.proofs.text.places.Given as goal
 
-abbrev pub invariant-loop-command : goal.invariant-loop-command
-invariant-loop-command l = record {
-  counts : Counts l.counts.items l.with (take l.command-index l.commands);
-  places : l.places.items ++ places_behind l.with (take l.command-index l.commands) (drop l.command-index l.commands) l.index.history.now ≡ places l.with l.commands l.index.history.now;
+abbrev pub invariant-loop-i : goal.invariant-loop-i
+invariant-loop-i l = record {
+  counts : Counts l.counts.items l.with (take l.i l.commands);
+  places : l.places.items ++ places_behind l.with (take l.i l.commands) (drop l.i l.commands) (reverse l.index.events.now) ≡ places_behind l.with (take l.start l.commands) (drop l.start l.commands) (reverse l.index.events.now);
 }

@@ -1,14 +1,24 @@
-use Rattle.answer_text.proofs.ToldLines.{texts_all, texts_pushed}
+use Rattle.std.proofs.Common.{reverse, arith}
+use Rattle.answer_text.proofs.TellerFacts.{has-next, told-end, text-next}
+use Rattle.answer_text.proofs.ToldLines.{texts_all}
 use Rattle.answer_text.proofs.text.told.Goals as goal
 
-pub loop-start-preserved : goal.loop-start-preserved
-loop-start-preserved c =
-    let o = c.in_ok-outline.outline in (
-      c.phase_len-count.ensures.within,
-      texts_pushed _ _ _ o.with.now o.commands.now c.loop-start.start c.phase_len-count.result o.index.history.now c.phase_len-count.ensures.phase c.in_ok-push_phase.ensures c.loop-start.invariant.1,
-    )
+pub loop-teller-preserved : goal.loop-teller-preserved
+loop-teller-preserved c =
+    let t = c.loop-teller.teller in
+    let all = c.as_slice-all.result.now in
+    let h = reverse c.events-events.result.now in
+    let end = c.phase_end-end.result in
+    let low = c.phase_end-end.ensures.within in
+    let has = c.in_ok-push_next.ensures.told in
+    let new = c.push_next.new.self in
+    record {
+      within = omega (arith, told-end c.args.with.now all h _ end new (omega arith) low has, low);
+      has = has-next c.args.with.now all h _ end new (omega arith) low has;
+      text = text-next c.args.with.now all t.told _ end h _ _ _ new (omega arith) c.phase_end-end.ensures.some low c.phase_end-end.ensures.phase c.in_ok-push_next.ensures.text has c.loop-teller.invariant.text;
+    }
 
 pub returns : goal.returns
 returns c =
-    let o = c.in_ok-outline.outline in
-    rw (c.into_bytes.ensures.value, ← c.in_ok-outline.ensures.with, ← c.in_ok-outline.ensures.commands, ← c.in_ok-outline.ensures.history) (texts_all _ _ o.with.now o.commands.now c.loop-start.start o.index.history.now c.loop-start-test.false c.loop-start.invariant.1)
+    rw (c.into_bytes.ensures.value, ← c.events-events.ensures, ← c.as_slice-all.ensures)
+    (texts_all _ _ c.args.with.now c.as_slice-all.result.now c.loop-teller.teller.told (reverse c.events-events.result.now) c.loop-teller-test.false c.loop-teller.invariant.text)

@@ -1,0 +1,23 @@
+use Rattle.std.proofs.Common.{◌≡◌, Some, None, reverse, refl, arith}
+use Rattle.std.proofs.lemmas.Grind.{common_steps}
+use Rattle.std.proofs.lemmas.List.{length-reverse}
+use Rattle.answer_text.specs.Marks.{marked, newest}
+use Rattle.answer_text.specs.declared.notes.Mark.TheVariants as mark
+use Rattle.answer_text.proofs.MarkFacts.{split_of-at, newest-below}
+use Rattle.answer_text.proofs.index.Index.split_of.Goals as goal
+
+pub get-requires : goal.get-requires
+get-requires c =
+    let known : newest (marked mark.Split) (reverse c.args.self.now.events.now) c.args.position ≡ Some c.in-Some.split = let fact = c.args.self.now.known.splits.known c.args.position (omega (arith, length-reverse c.args.self.now.events.now)) in grind (arith, common_steps) in
+    let below = newest-below (marked mark.Split) (reverse c.args.self.now.events.now) c.args.position c.in-Some.split known in
+    rw (length-reverse c.args.self.now.events.now) at below
+
+pub returns-in-Some : goal.returns-in-Some
+returns-in-Some c =
+    let known : newest (marked mark.Split) (reverse c.args.self.now.events.now) c.args.position ≡ Some c.in-Some.split = let fact = c.args.self.now.known.splits.known c.args.position (omega (arith, length-reverse c.args.self.now.events.now)) in grind (arith, common_steps) in
+    rw (← split_of-at (reverse c.args.self.now.events.now) c.args.position, known, c.get.ensures) refl
+
+pub returns-in-None : goal.returns-in-None
+returns-in-None c =
+    let known : newest (marked mark.Split) (reverse c.args.self.now.events.now) c.args.position ≡ None = let fact = c.args.self.now.known.splits.known c.args.position (omega (arith, length-reverse c.args.self.now.events.now)) in grind (arith, common_steps) in
+    rw (← split_of-at (reverse c.args.self.now.events.now) c.args.position, known) refl

@@ -1,6 +1,0 @@
-use Rattle.std.proofs.Common.{take}
-use Rattle.answer_text.proofs.PhaseFacts.{NoneCloses}
-use Rattle.answer_text.proofs.phases.phase_len.Given as goal
-
-abbrev pub invariant-loop-i : goal.invariant-loop-i
-invariant-loop-i l = record { open_so_far : NoneCloses (take l.i l.commands) }

@@ -1,0 +1,67 @@
+-- What is noted of a history: beginnings, and the newest events that end commands, show pages or split shards for them.
+use Rattle.std.specs.Prelude.{ℕ, ◌≡◌, ◌<◌, ◌≤◌, ◌==◌, Bool, false, Option, Some, None, IfSome, if◌then◌else◌, List, [], ◌∷◌, length, ⊤}
+use Rattle.std.specs.List.{slice_index_or}
+use Rattle.std.specs.Option.{MatchOption, option_map_or}
+use Rattle.row_ledger.specs.declared.event.Event.{Event}
+use Rattle.row_ledger.specs.declared.event.Event.TheVariants.{Shown}
+use Rattle.row_ledger.specs.declared.page.Page.{Page}
+use Rattle.row_ledger.specs.declared.settings.Use.{Use}
+use Rattle.row_ledger.specs.Past.{end_in, number_in}
+use Rattle.row_ledger.specs.Right.{Each}
+use Rattle.script_form.specs.declared.script.Command.{Command}
+use Rattle.script_run.specs.Places.{sessions, begins_of, count_of}
+use Rattle.answer_text.specs.Printed.{split_for}
+use Rattle.answer_text.specs.declared.notes.Mark.{Mark}
+use Rattle.answer_text.specs.declared.notes.Mark.TheVariants as mark
+
+-- the position of the command for which an event shows a page
+abbrev pub shown_for : Event → Option ℕ
+shown_for (Shown of page) = Some of
+shown_for _ = None
+
+-- the page that an event shows
+abbrev pub shown : Event → Option Page
+shown (Shown of page) = Some page
+shown _ = None
+
+-- the position of the command that an event ends, or for which it shows a page
+abbrev pub marked : Mark → Event → Option ℕ
+marked mark.End e = end_in e
+marked mark.Page e = shown_for e
+marked mark.Split e = split_for e
+
+-- whether this is the position
+abbrev pub is_at : ℕ → Option ℕ → Bool
+is_at p place = option_map_or (λ of. of == p) place false
+
+-- the position of the newest event that marks the command that began at a position
+unfoldable pub newest : (Event → Option ℕ) → List Event → ℕ → Option ℕ
+newest marks [] p = None
+newest marks (e ∷ past) p = if is_at p (marks e) then Some (length past) else newest marks past p
+
+-- no place, or a position of the history
+abbrev pub IsPlace : List Event → Option ℕ → Type 0
+IsPlace history place = MatchOption place ⊤ (λ p. p < length history)
+
+-- for each session its beginnings
+pub record KnowsBegins (lists : List (List ℕ)) (past : List Event) : Type 0 where
+  pub len : length lists ≡ sessions
+  pub begun : (s : ℕ) → s < sessions → slice_index_or lists s [] ≡ begins_of past s
+
+-- for each of the first n positions the newest event that marks its command
+pub record KnowsNewest (marks : Event → Option ℕ) (n : ℕ) (noted : List (Option ℕ)) (past : List Event) : Type 0 where
+  pub positions : length noted ≡ n
+  pub known : (p : ℕ) → p < n → slice_index_or noted p None ≡ newest marks past p
+
+-- no event marks a command that begins behind this past
+abbrev pub IsQuiet : (Event → Option ℕ) → List Event → Type 0
+IsQuiet marks past = (p : ℕ) → length past ≤ p → newest marks past p ≡ None
+
+-- each event that belongs to a command stands behind its beginning
+abbrev pub RefersBack : List Event → Type 0
+RefersBack history = Each (λ past e. IfSome (number_in e) (λ of. of < length past)) history
+
+-- how many of these commands are of each session
+pub record Counts (counts : List ℕ) (with : Use) (commands : List Command) : Type 0 where
+  pub len : length counts ≡ sessions
+  pub counted : (s : ℕ) → s < sessions → slice_index_or counts s 0 ≡ count_of with s commands

@@ -1,0 +1,11 @@
+pub mod PhaseFacts
+pub mod PlaceFacts
+pub mod Grow
+pub mod Begin
+pub mod Whole
+pub mod NextCommand
+pub mod StreamSteps
+pub mod PhaseEnds
+pub mod Ranks
+pub mod InPhase
+pub mod WorkedRuns

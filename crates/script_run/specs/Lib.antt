@@ -1,0 +1,7 @@
+pub mod Phases
+pub mod Places
+pub mod Pulls
+pub mod Runs
+pub mod Parts
+pub mod Streams
+pub mod Worked

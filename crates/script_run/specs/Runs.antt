@@ -1,0 +1,90 @@
+-- A history is a run of a script's commands, whole or in part.
+use Rattle.std.specs.Prelude.{ℕ, ◌≡◌, ◌+◌, ◌<◌, ◌⊎◌, ⊤, Bool, true, false, IsTrue, Option, Some, None, is_none, List, zip, position, AllPairs, Contains}
+use Rattle.std.specs.List.{AllZip}
+use Rattle.dim_hierarchy.specs.Dimension.{Dimension}
+use Rattle.dim_hierarchy.specs.Row.{IsCoordNamed, leaves}
+use Rattle.dim_hierarchy.specs.Filter.{IsFilterNamed, picks}
+use Rattle.row_ledger.specs.declared.event.Event.{Event}
+use Rattle.row_ledger.specs.declared.event.Event.TheVariants.{Begun, Acked, Asked, Unknown, Failed, Refused, Called}
+use Rattle.row_ledger.specs.declared.settings.Call.{Call}
+use Rattle.row_ledger.specs.declared.settings.Call.TheVariants.{Barrier}
+use Rattle.row_ledger.specs.declared.settings.Use.{Use}
+use Rattle.row_ledger.specs.Past.{event_at, before, is_over, is_beginning}
+use Rattle.row_ledger.specs.Right.{Each}
+use Rattle.script_form.specs.declared.script.Command.{Command}
+use Rattle.script_form.specs.declared.script.Command.TheVariants.{Insert, Query, Control}
+use Rattle.script_run.specs.Phases.{phases_to, ranks}
+use Rattle.script_run.specs.Pulls.{HasPulls}
+use Rattle.script_run.specs.Places.{session_of, session_of_call, places, are_over, end_of}
+
+-- a barrier takes no memory, so it is never refused
+abbrev pub can_be_refused : Call → Bool
+can_be_refused Barrier = false
+can_be_refused called = true
+
+-- An event begins a command, with the command's session: an insert or a query with its server and what its names
+-- stand for, or with the first dimension in which one is not known; a command of another kind as that call; or, but
+-- for a barrier, it is refused.
+abbrev pub Begins : Use → List Dimension → Command → Event → Type 0
+Begins with h (Insert new) (Begun session server row) =
+    (session ≡ new.server) × (server ≡ new.server) × (row.measure ≡ new.measure) × IsCoordNamed h new.names row.at
+Begins with h (Insert new) (Unknown session server dim) =
+    (session ≡ new.server) × (server ≡ new.server) × (position is_none (leaves h new.names) ≡ Some dim)
+Begins with h (Insert new) (Refused session) = session ≡ new.server
+Begins with h (Query question) (Asked session server filter) =
+    (session ≡ question.server) × (server ≡ question.server) × IsFilterNamed h question.filter filter
+Begins with h (Query question) (Unknown session server dim) =
+    (session ≡ question.server) × (server ≡ question.server) × (position is_none (picks h question.filter) ≡ Some dim)
+Begins with h (Query question) (Refused session) = session ≡ question.server
+Begins with h (Control called) (Refused session) = (session ≡ session_of_call with called) × IsTrue (can_be_refused called)
+Begins with h (Control called) (Called session call) = (session ≡ session_of_call with called) × (call ≡ called)
+Begins with h _ _ = ⊥
+
+-- a command begins at its place, where it has one
+abbrev pub BeginsAt : Use → List Dimension → List Event → Command → Option ℕ → Type 0
+BeginsAt with h history c None = ⊤
+BeginsAt with h history c (Some p) = (e : Event) × (event_at history p ≡ Some e) × Begins with h c e
+
+-- where the second command has begun, the first one had begun and ended before
+abbrev pub EndsBefore : List Event → Option ℕ → Option ℕ → Type 0
+EndsBefore history place None = ⊤
+EndsBefore history None (Some q) = ⊥
+EndsBefore history (Some p) (Some q) = (p < q) × IsTrue (is_over (before history q) p)
+
+-- The history is a part of a run of exactly these commands: each that has begun begins as it is to, and nothing else
+-- begins; a session begins one when the one before has ended; and a command that closes a phase begins when all
+-- others of the phase have ended, as the next phase's do when it has ended. A sync and a settle that have ended pulled as
+-- they were to.
+pub record IsPart (with : Use) (h : List Dimension) (commands : List Command) (history : List Event) : Type 0 where
+  pub begun : AllZip (BeginsAt with h history) commands (places with commands history)
+  pub only : (p : ℕ) (e : Event) → event_at history p ≡ Some e → IsTrue (is_beginning e) → Contains (places with commands history) (Some p)
+  pub in_order : AllPairs (λ a b. session_of with a.0 ≡ session_of with b.0 → EndsBefore history a.1 b.1) (zip commands (places with commands history))
+  pub phased : AllPairs (λ a b. a.0 < b.0 → EndsBefore history a.1 b.1) (zip (ranks commands) (places with commands history))
+  pub pulls : Each (HasPulls with) history
+
+-- a run: each command has begun and has its end
+pub record IsRunOf (with : Use) (h : List Dimension) (commands : List Command) (history : List Event) : Type 0 where
+  pub part : IsPart with h commands history
+  pub over : IsTrue (are_over history (places with commands history))
+
+-- a run of the first k phases, and nothing of a later one
+abbrev pub IsRunTo : ℕ → Use → List Dimension → List Command → List Event → Type 0
+IsRunTo k with h commands history = IsRunOf with h (phases_to k commands) history
+
+-- a run of the first k phases, and besides a part of the next one, of each session the first commands
+pub record IsRunInto (k : ℕ) (with : Use) (h : List Dimension) (commands : List Command) (history : List Event) : Type 0 where
+  pub part : IsPart with h (phases_to (k + 1) commands) history
+  pub over : IsTrue (are_over history (places with (phases_to k commands) history))
+
+-- the commands begin in the order of the script, and each ends before the next begins
+abbrev pub IsSerial : Use → List Command → List Event → Type 0
+IsSerial with commands history = AllPairs (EndsBefore history) (places with commands history)
+
+-- an insert of known leaf concepts is acknowledged, or ends for want of memory: refused before it began, or failed after
+abbrev pub InsertEnds : List Dimension → List Event → Command → Option ℕ → Type 0
+InsertEnds h history (Insert new) (Some p) =
+    position is_none (leaves h new.names) ≡ None
+    → ((path : List ℕ) × (end_of history p ≡ Some (Acked p path)))
+    ⊎ (end_of history p ≡ Some (Failed p))
+    ⊎ (event_at history p ≡ Some (Refused new.server))
+InsertEnds h history _ _ = ⊤

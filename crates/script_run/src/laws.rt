@@ -1,0 +1,26 @@
+//! Laws of runs, as histories grow.
+ghost use Rattle.script_run.specs.Parts.{PartLaw, SerialLaw};
+ghost use Rattle.script_run.specs.Streams.{BeginLaw, FinishLaw, NextLaw, OtherLaw, PhaseBeginLaw, PhaseOtherLaw, RankLaw, StartLaw};
+
+/// A part by places is a part of a run; and a serial one, where each command waits for all before
+/// it.
+pub fn parts_by_places()
+    ensures part { PartLaw }
+    ensures serial { SerialLaw }
+{}
+
+/// A session begins its commands in their order.
+pub fn streams_go_on()
+    ensures next { NextLaw }
+    ensures begin { BeginLaw }
+    ensures other { OtherLaw }
+    ensures start { StartLaw }
+    ensures finish { FinishLaw }
+{}
+
+/// A phase goes on, event by event.
+pub fn phases_go_on()
+    ensures begin { PhaseBeginLaw }
+    ensures other { PhaseOtherLaw }
+    ensures rank { RankLaw }
+{}
