@@ -18,11 +18,14 @@ use Rattle.row_ledger.specs.Past.{event_at, before, end_in, is_end_of, has_ended
 use Rattle.row_ledger.proofs.Positions.{event_at-here, event_at-older, event_at-past, before-here, before-older}
 use Rattle.script_form.specs.declared.script.Command.{Command}
 use Rattle.script_form.specs.declared.script.Command.TheVariants.{Insert, Query, Control}
-use Rattle.answer_text.specs.Places.{session_of, count_of, begins_in, begins_of, places, places_behind}
-use Rattle.answer_text.specs.Printed.{answer_text, end_of, line, line_at, lines, page_text, word_of}
-use Rattle.answer_text.proofs.PlaceFacts.{GoesOn, HaveBegun, begins_of-here, begins_of-other, count_of-append, places_behind-append, places_behind-kept, places_behind-length, places-push}
+use Rattle.script_run.specs.Places.{session_of, count_of, begins_in, begins_of, places, places_behind}
+use Rattle.answer_text.specs.Printed.{answer_text, line, line_at, lines, page_text, split_for, split_of, word_of}
+use Rattle.script_run.specs.Places.{end_of}
+use Rattle.script_run.proofs.PlaceFacts.{GoesOn, HaveBegun, begins_of-here, begins_of-other, count_of-append, places_behind-append, places_behind-kept, places_behind-length, places-push}
 use Rattle.answer_text.proofs.TextFacts.{IsSameAt, lines-append, lines-kept}
-use Rattle.olap_top.specs.Runs.{Begins, BeginsAt, InsertEnds}
+use Rattle.row_ledger.specs.Right.{Each}
+use Rattle.script_run.specs.Pulls.{HasPulls}
+use Rattle.script_run.specs.Runs.{Begins, BeginsAt, InsertEnds}
 use Rattle.olap_top.specs.Keeps.{HasDone}
 use Rattle.olap_top.specs.RunSoFar.{lines_of, KeepsLines}
 use Rattle.olap_top.proofs.Zips.{AllZip-push, AllZip-weaker, AllZip-both}
@@ -37,12 +40,14 @@ pub record IsCommand (with : Use) (c : Command) (history grown : List Event) (b 
   pub only : (p : ℕ) (x : Event) → event_at grown p ≡ Some x → IsTrue (is_beginning x) → p ≤ length history
   pub end_is : end_of grown (length history) ≡ end
   pub end_older : (p : ℕ) → p < length history → end_of grown p ≡ end_of history p
+  pub split_older : (p : ℕ) → p < length history → split_of grown p ≡ split_of history p
   pub page_older : (p : ℕ) → p < length history → page_of grown p ≡ page_of history p
   pub over : IsTrue (is_over grown (length history))
   pub over_older : (p : ℕ) → p < length history → IsTrue (is_over history p) → IsTrue (is_over grown p)
   pub past_here : before grown (length history) ≡ history
   pub past_older : (q : ℕ) → q ≤ length history → before grown q ≡ before history q
   pub starts : (session : ℕ) → begins_of grown session ≡ begins_of (b ∷ history) session
+  pub pulls : Each (HasPulls with) history → Each (HasPulls with) grown
 
 -- where an event stands is within the history
 pub known-event : (history : List Event) (p : ℕ) (x : Event) → event_at history p ≡ Some x → p < length history
@@ -59,10 +64,14 @@ begins-true e s is = rw is refl
 pub record IsPair (with : Use) (c : Command) (history : List Event) (b e : Event) : Type 0 where
   pub session : session_in b ≡ Some (session_of with c)
   pub goes_on : end_in b ≡ None
+  pub splits_none : split_for b ≡ None
   pub shows_none : (p : ℕ) → page_in p b ≡ None
   pub begins_none : session_in e ≡ None
   pub ends : end_in e ≡ Some (length history)
+  pub end_splits_none : split_for e ≡ None
   pub end_shows_none : (p : ℕ) → page_in p e ≡ None
+  pub pulls : HasPulls with history b
+  pub end_pulls : HasPulls with (b ∷ history) e
 
 or-later : (x y z w v : Bool) → (z || w) ≡ true → w ≡ v → ((x || (y || z)) || v) ≡ true
 or-later true y z w v h e = refl
@@ -84,12 +93,14 @@ IsCommand-pair with c history b e pair = record {
   end_older = λ p lt.
       let apart : (length history == p) ≡ false = ne_eqb (length history) p (λ same. let no_way : ⊥ = omega arith in no_way) in
       rw (pair.ends, apart, pair.goes_on) refl;
+  split_older = λ p lt. rw (pair.end_splits_none, pair.splits_none) refl;
   page_older = λ p lt. rw (pair.end_shows_none p, pair.shows_none p) refl;
   over = rw (pair.ends, eq-eqb (length history) (length history) refl) refl;
   over_older = λ p lt over. or-later (is_end_of p e) (is_end_of p b) (has_ended history p) _ _ over (ap (λ o. option_map_or ends_itself o false) (sym (older p lt)));
   past_here = before-older e (b ∷ history) (length history) (omega arith) ∙ before-here b history;
   past_older = λ q le. before-older e (b ∷ history) q (omega arith) ∙ before-older b history q le;
   starts = λ session. begins_of-other e (b ∷ history) session (rw pair.begins_none refl);
+  pulls = λ older. (pair.end_pulls, (pair.pulls, older));
 }
   where
     older : (p : ℕ) → p < length history → event_at (e ∷ b ∷ history) p ≡ event_at history p
@@ -109,7 +120,10 @@ IsCommand-pair with c history b e pair = record {
 pub record IsTriple (with : Use) (c : Command) (history : List Event) (b : Event) (page : Page) (how : How) : Type 0 where
   pub session : session_in b ≡ Some (session_of with c)
   pub goes_on : end_in b ≡ None
+  pub splits_none : split_for b ≡ None
   pub shows_none : (p : ℕ) → page_in p b ≡ None
+  pub pulls : HasPulls with history b
+  pub end_pulls : HasPulls with (Shown (length history) page ∷ b ∷ history) (Ended (length history) how)
 
 pub IsCommand-triple : (with : Use) (c : Command) (history : List Event) (b : Event) (page : Page) (how : How) → IsTriple with c history b page how
     → IsCommand with c history (Ended (length history) how ∷ Shown (length history) page ∷ b ∷ history) b (Some (Ended (length history) how))
@@ -124,12 +138,14 @@ IsCommand-triple with c history b page how triple = record {
   ];
   end_is = rw (eq-eqb (length history) (length history) refl) refl;
   end_older = λ p lt. rw (apart p lt, triple.goes_on) refl;
+  split_older = λ p lt. rw triple.splits_none refl;
   page_older = λ p lt. rw (apart p lt, triple.shows_none p) refl;
   over = rw (eq-eqb (length history) (length history) refl) refl;
   over_older = λ p lt over. or-later (is_end_of p e) (is_end_of p b) (has_ended history p) _ _ over (ap (λ o. option_map_or ends_itself o false) (sym (older p lt)));
   past_here = before-older e (s ∷ b ∷ history) (length history) (omega arith) ∙ before-older s (b ∷ history) (length history) (omega arith) ∙ before-here b history;
   past_older = λ q le. before-older e (s ∷ b ∷ history) q (omega arith) ∙ before-older s (b ∷ history) q (omega arith) ∙ before-older b history q le;
   starts = λ session. begins_of-other e (s ∷ b ∷ history) session refl ∙ begins_of-other s (b ∷ history) session refl;
+  pulls = λ older. (triple.end_pulls, (tt, (triple.pulls, older)));
 }
   where
     e : Event
@@ -167,9 +183,11 @@ IsCommand-triple with c history b page how triple = record {
 pub record IsSingle (with : Use) (c : Command) (history : List Event) (b : Event) : Type 0 where
   pub session : session_in b ≡ Some (session_of with c)
   pub goes_on : end_in b ≡ None
+  pub splits_none : split_for b ≡ None
   pub shows_none : (p : ℕ) → page_in p b ≡ None
   pub own_end : ends_itself b ≡ true
   pub none_yet : end_of history (length history) ≡ None
+  pub pulls : HasPulls with history b
 
 or-own : (x v : Bool) → v ≡ true → (x || v) ≡ true
 or-own true v h = refl
@@ -184,12 +202,14 @@ IsCommand-single with c history b single = record {
   only = λ p x at is. let within : p < length (b ∷ history) = known-event (b ∷ history) p x at in omega arith;
   end_is = rw single.goes_on single.none_yet;
   end_older = λ p lt. rw single.goes_on refl;
+  split_older = λ p lt. rw single.splits_none refl;
   page_older = λ p lt. rw (single.shows_none p) refl;
   over = or-own (has_ended (b ∷ history) (length history)) _ (ap (λ o. option_map_or ends_itself o false) (event_at-here b history) ∙ single.own_end);
   over_older = λ p lt over. or-later false (is_end_of p b) (has_ended history p) _ _ over (ap (λ o. option_map_or ends_itself o false) (sym (event_at-older b history p lt)));
   past_here = before-here b history;
   past_older = λ q le. before-older b history q le;
   starts = λ session. refl;
+  pulls = λ older. (single.pulls, older);
 }
 
 -- What is done, with the command.
@@ -277,6 +297,7 @@ HasDone-more with h done c history grown b end is begins ends has = record {
   ];
   over = All-push (λ p. IsTrue (is_over grown p)) has.begins (length history)
       (λ k d within. is.over_older (get_or has.begins k d) (has.earlier k d within) (has.over k d within)) is.over;
+  pulls = is.pulls has.pulls;
   serial = all_pairs_push (λ p q. (p < q) × IsTrue (is_over (before grown q) p)) has.begins (length history)
       (λ i j d below within.
       let pair = has.serial i j d below within in
@@ -295,25 +316,25 @@ same-at : (with : Use) (c : Command) (history grown : List Event) (b : Event) (e
 same-at with c history grown b end [] is earlier = tt
 same-at with c history grown b end (p ∷ ps) is earlier =
     let lt = earlier 0 p (omega arith) in
-    (record { event = is.older p lt; end = is.end_older p lt; page = is.page_older p lt }, same-at with c history grown b end ps is (λ k d within. earlier (suc k) d (omega (arith, within))))
+    (record { event = is.older p lt; end = is.end_older p lt; split = is.split_older p lt; page = is.page_older p lt }, same-at with c history grown b end ps is (λ k d within. earlier (suc k) d (omega (arith, within))))
 
 -- what is told of the command with this number: the page that it showed, or its line
-abbrev pub told_by : ℕ → Command → Event → Option Event → Option Page → List ℕ
-told_by n c b end page = option_map_or (page_text n) page (line n (word_of c) (answer_text (Some b) end))
+abbrev pub told_by : ℕ → Command → Event → Option Event → Option Event → Option Page → List ℕ
+told_by n c b end split page = option_map_or (page_text n) page (line n (word_of c) (answer_text c (Some b) end split))
 
 lines-one : (n : ℕ) (c : Command) (p : ℕ) (grown : List Event) (b : Event) (end : Option Event) (page : Option Page)
     → event_at grown p ≡ Some b → end_of grown p ≡ end → page_of grown p ≡ page
-    → lines n (c ∷ []) (Some p ∷ []) grown ≡ told_by n c b end page
+    → lines n (c ∷ []) (Some p ∷ []) grown ≡ told_by n c b end (split_of grown p) page
 unfolding lines
 lines-one n c p grown b end page at is shown =
     append-nil _
     ∙ ap (λ o. option_map_or (page_text n) o (line_at n c grown (Some p))) shown
-    ∙ ap (λ o. option_map_or (page_text n) page (line n (word_of c) (answer_text o (end_of grown p)))) at
-    ∙ ap (λ o. option_map_or (page_text n) page (line n (word_of c) (answer_text (Some b) o))) is
+    ∙ ap (λ o. option_map_or (page_text n) page (line n (word_of c) (answer_text c o (end_of grown p) (split_of grown p)))) at
+    ∙ ap (λ o. option_map_or (page_text n) page (line n (word_of c) (answer_text c (Some b) o (split_of grown p)))) is
 
 pub lines_of-more : (with : Use) (h : List Dimension) (done : List Command) (c : Command) (history grown : List Event) (b : Event) (end : Option Event) (page : Option Page)
     → IsCommand with c history grown b end → page_of grown (length history) ≡ page → HasDone with h done history
-    → lines_of with (done ++ c ∷ []) grown ≡ lines_of with done history ++ told_by (1 + length done) c b end page
+    → lines_of with (done ++ c ∷ []) grown ≡ lines_of with done history ++ told_by (1 + length done) c b end (split_of grown (length history)) page
 lines_of-more with h done c history grown b end page is shown has =
     let long : length done ≡ length (places with done history) = sym (places_behind-length with [] done history) in
     ap (λ ps. lines 1 (done ++ c ∷ []) ps grown) (places-more with h done c history grown b end is has)

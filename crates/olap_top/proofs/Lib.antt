@@ -1,6 +1,7 @@
 pub mod Zips
 pub mod OneWord
 pub mod CommandSteps
+pub mod Openings
 pub mod KeepsSteps
 pub mod Orders
 pub mod ShardSteps

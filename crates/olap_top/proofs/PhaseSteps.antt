@@ -1,27 +1,30 @@
 -- A run between two phases, and how it goes on from there.
 use Rattle.std.proofs.Common.{◌≡◌, ◌∙◌, ℕ, ◌+◌, List, [], ◌∷◌, ◌++◌, length, take, drop, refl, sym, ap, subst, arith, string_bytes, append_assoc, append-nil, length-append}
-use Rattle.std.specs.Prelude.{Option, Some, None}
+use Rattle.std.specs.Prelude.{Option, Some, None, IsTrue}
+use Rattle.std.specs.List.{AllZip}
 use Rattle.std.specs.Io.KnownBytes.{Appends}
 use Rattle.std.proofs.Math.Seq.{take-append_seam, take-append-add}
 use Rattle.std.proofs.lemmas.List.{take-append-drop}
 use Rattle.row_ledger.specs.declared.event.Event.{Event}
 use Rattle.row_ledger.specs.Past.{acked_rows}
-use Rattle.row_ledger.specs.Right.{IsRight}
 use Rattle.row_ledger.proofs.Growth.{IsRight-kept}
 use Rattle.script_form.specs.declared.script.Command.{Command}
 use Rattle.script_form.specs.declared.script.Script.{Script}
-use Rattle.answer_text.specs.Phases.{phases, all_of, phases_to}
+use Rattle.script_run.specs.Phases.{phases, all_of, phases_to}
+use Rattle.script_run.specs.Places.{places, is_over_at}
 use Rattle.answer_text.specs.Printed.{told, told_to}
-use Rattle.answer_text.proofs.PhaseFacts.{all_of-append, all_of-phases, phases-nil, phases-some}
+use Rattle.script_run.proofs.PhaseFacts.{all_of-append, all_of-phases, phases-nil, phases-some}
 use Rattle.answer_text.proofs.TextFacts.{AreFirst, told_to-first, told-first}
-use Rattle.olap_top.specs.Keeps.{HasDone, site, is_placed}
-use Rattle.olap_top.specs.Outcomes.{HasRun, RanTo, RanInto, TookPart}
-use Rattle.olap_top.specs.Runs.{IsPart}
+use Rattle.olap_top.specs.Keeps.{HasDone, IsOpened, is_placed}
+use Rattle.olap_top.specs.Site.{site}
+use Rattle.olap_top.specs.Outcomes.{HasRun, RunsInOrder, RanTo, RanInto, TookPart}
+use Rattle.olap_top.specs.declared.words.Request.TheVariants.{Step}
+use Rattle.script_run.specs.Runs.{IsPart, IsSerial, InsertEnds}
 use Rattle.olap_top.specs.RunSoFar.{IsRun, IsHalted, HasGone, lines_of}
 use Rattle.olap_top.specs.declared.run.Run.{Run}
-use Rattle.olap_top.proofs.KeepsSteps.{KeepsRun-nil}
+use Rattle.olap_top.proofs.KeepsSteps.{KeepsRun-opened}
 use Rattle.olap_top.proofs.RunSteps.{lines_of-nil}
-use Rattle.olap_top.proofs.RunFacts.{IsPart-done, IsRunOf-done, IsSerial-done, inserts-done, are_over-done, are_over-first, none_more}
+use Rattle.olap_top.proofs.RunFacts.{IsPart-done, IsRunOf-done, IsSerial-into, inserts-done, inserts-into, are_over-done, are_over-first, none_more}
 
 -- What a sink took.
 
@@ -64,9 +67,8 @@ at-start s taken run is empty = record {
 -- the run of the commands that are done
 has_run : (s : Script) (done : List Command) (written : List ℕ) (run : Run) → IsRun s.with s.hierarchy done written run → HasRun s.with s.hierarchy done run.store.ledger.history
 has_run s done written run is = record {
-  right = IsRight-kept (site s.hierarchy) (is_placed (acked_rows run.store.ledger.history)) run.store.ledger.history is.keeps.right;
+  right = IsRight-kept (site s.with s.hierarchy) (is_placed (acked_rows run.store.ledger.history)) run.store.ledger.history is.keeps.right;
   run = IsRunOf-done s.with s.hierarchy done run.store.ledger.history is.keeps.has;
-  serial = IsSerial-done s.with s.hierarchy done run.store.ledger.history is.keeps.has;
   inserts = inserts-done s.with s.hierarchy done run.store.ledger.history is.keeps.has;
 }
 
@@ -85,41 +87,23 @@ at-done s taken_before taken_now run at =
       subst (Appends taken_before taken_now) (sym text) at.took,
     )
 
--- Where nothing has begun: what has run is no command, of a script that has none, or the first none of another.
-
-has_none : (s : Script) → HasDone s.with s.hierarchy [] []
-has_none s = (KeepsRun-nil s.with s.hierarchy).has
-
-right-none : (s : Script) → IsRight (site s.hierarchy) []
-right-none s = IsRight-kept (site s.hierarchy) (is_placed []) [] (KeepsRun-nil s.with s.hierarchy).right
-
-pub at-none : (s : Script) (taken : Option (List ℕ)) (history : List Event) → s.commands ≡ [] → history ≡ []
+-- Where a script has no commands, its opening is all that runs.
+pub at-none : (s : Script) (taken : Option (List ℕ)) (history : List Event) → s.commands ≡ [] → IsOpened s.with s.hierarchy history
     → HasRun s.with s.hierarchy s.commands history × Appends taken taken (told s.with s.commands history)
-at-none s taken history empty none =
-    let over = are_over-done s.with s.hierarchy [] [] (has_none s) in
-    let text : told s.with [] [] ≡ [] =
-    told-first s.with [] [] (phases []) [] (record { split = refl }) (phases-some []) over (none_more s.with s.hierarchy [] [] (has_none s))
-    ∙ lines_of-nil s.with [] in
-    rw (empty, none) (
+at-none s taken history empty opened =
+    let keeps = KeepsRun-opened s.with s.hierarchy history opened in
+    let over = are_over-done s.with s.hierarchy [] history keeps.has in
+    let text : told s.with [] history ≡ [] =
+    told-first s.with [] [] (phases []) history (record { split = refl }) (phases-some []) over (none_more s.with s.hierarchy [] history keeps.has)
+    ∙ lines_of-nil s.with history in
+    rw empty (
       record {
-        right = right-none s;
-        run = IsRunOf-done s.with s.hierarchy [] [] (has_none s);
-        serial = IsSerial-done s.with s.hierarchy [] [] (has_none s);
-        inserts = inserts-done s.with s.hierarchy [] [] (has_none s);
+        right = IsRight-kept (site s.with s.hierarchy) (is_placed (acked_rows history)) history keeps.right;
+        run = IsRunOf-done s.with s.hierarchy [] history keeps.has;
+        inserts = inserts-done s.with s.hierarchy [] history keeps.has;
       },
       subst (Appends taken taken) (sym text) (Appends-nil taken),
     )
-
-pub into-none : (s : Script) (taken : Option (List ℕ)) (history : List Event) → history ≡ [] → RanInto s taken taken history
-into-none s taken history none = rw none (record {
-  phase = 0;
-  right = right-none s;
-  run = record {
-    part = IsPart-done s.with s.hierarchy [] (phases_to (0 + 1) s.commands) [] (has_none s);
-    over = are_over-done s.with s.hierarchy [] [] (has_none s);
-  };
-  took = Appends-nil taken;
-})
 
 -- the next phase, and what is left behind it
 pub record IsNext (rest phase more : List Command) : Type 0 where
@@ -146,10 +130,58 @@ next-phases s rest phase more ps first next =
     ∙ first-phases s (ps ++ phase ∷ []) (phases more) (next-first s rest phase more ps first next)
     ∙ with-next ps phase
 
+-- the phases that are done, and what is left
+first-all : (s : Script) (rest : List Command) (ps : List (List Command)) → AreFirst s.commands ps (phases rest) → all_of ps ++ rest ≡ s.commands
+first-all s rest ps first = sym (ap all_of first.split ∙ all_of-append ps (phases rest) ∙ ap (λ l. all_of ps ++ l) (all_of-phases rest)) ∙ all_of-phases s.commands
+
+next-all : (rest phase more : List Command) → IsNext rest phase more → rest ≡ phase ++ more
+next-all rest phase more next = sym (all_of-phases rest) ∙ ap all_of next.split ∙ ap (λ l. phase ++ l) (all_of-phases more)
+
+-- What is done is a part of a run, in which each command ends before the next begins.
+pub in_order-done : (s : Script) (done rest : List Command) (history : List Event) → HasDone s.with s.hierarchy done history → done ++ rest ≡ s.commands → RunsInOrder s history
+in_order-done s done rest history has whole = record {
+  part = subst (λ l. IsPart s.with s.hierarchy l history) whole (IsPart-done s.with s.hierarchy done rest history has);
+  serial = subst (λ l. IsSerial s.with l history) whole (IsSerial-into s.with s.hierarchy done rest history has);
+}
+
+pub in_order-none : (s : Script) (history : List Event) → IsOpened s.with s.hierarchy history → RunsInOrder s history
+in_order-none s history opened = in_order-done s [] s.commands history (KeepsRun-opened s.with s.hierarchy history opened).has refl
+
+-- between two phases
+pub in_order-at : (s : Script) (rest : List Command) (taken_before taken_now : Option (List ℕ)) (run : Run) → IsAtPhase s rest taken_before taken_now run
+    → RunsInOrder s run.store.ledger.history
+in_order-at s rest taken_before taken_now run at =
+    in_order-done s (all_of at.ps) rest run.store.ledger.history at.run_is.keeps.has (first-all s rest at.ps at.first)
+
+-- where memory ran out in the next phase
+
+halt-all : (s : Script) (rest phase more : List Command) (taken_before taken_now : Option (List ℕ)) (run : Run) (now : List Event)
+    → IsNext rest phase more → (at : IsAtPhase s rest taken_before taken_now run)
+    → (halted : IsHalted s.with s.hierarchy (all_of at.ps) phase run.store.ledger.history now)
+    → (all_of at.ps ++ take halted.count phase) ++ (drop halted.count phase ++ more) ≡ s.commands
+halt-all s rest phase more taken_before taken_now run now next at halted =
+    append_assoc (all_of at.ps) (take halted.count phase) (drop halted.count phase ++ more)
+    ∙ ap (λ l. all_of at.ps ++ l) (sym (append_assoc (take halted.count phase) (drop halted.count phase) more) ∙ ap (λ l. l ++ more) (take-append-drop halted.count phase) ∙ sym (next-all rest phase more next))
+    ∙ first-all s rest at.ps at.first
+
+pub in_order-halt : (s : Script) (rest phase more : List Command) (taken_before taken_now : Option (List ℕ)) (run : Run) (now : List Event)
+    → IsNext rest phase more → (at : IsAtPhase s rest taken_before taken_now run)
+    → IsHalted s.with s.hierarchy (all_of at.ps) phase run.store.ledger.history now → RunsInOrder s now
+in_order-halt s rest phase more taken_before taken_now run now next at halted =
+    in_order-done s (all_of at.ps ++ take halted.count phase) (drop halted.count phase ++ more) now halted.has (halt-all s rest phase more taken_before taken_now run now next at halted)
+
+-- where the sink failed behind it
+pub in_order-fault : (s : Script) (rest phase more : List Command) (taken_before taken_now : Option (List ℕ)) (run now : Run)
+    → IsNext rest phase more → (at : IsAtPhase s rest taken_before taken_now run)
+    → HasGone s.with s.hierarchy (all_of at.ps) phase at.written run.store.ledger.history now → RunsInOrder s now.store.ledger.history
+in_order-fault s rest phase more taken_before taken_now run now next at gone =
+    in_order-done s (all_of at.ps ++ phase) more now.store.ledger.history gone.run_is.keeps.has
+    (append_assoc (all_of at.ps) phase more ∙ ap (λ l. all_of at.ps ++ l) (sym (next-all rest phase more next)) ∙ first-all s rest at.ps at.first)
+
 -- Memory ran out in the next phase.
 pub at-halt : (s : Script) (rest phase more : List Command) (taken_before taken_now : Option (List ℕ)) (run : Run) (now : List Event)
     → IsNext rest phase more → (at : IsAtPhase s rest taken_before taken_now run)
-    → IsHalted s.with s.hierarchy (all_of at.ps) phase run.store.ledger.history now → RanInto s taken_before taken_now now
+    → IsHalted s.with s.hierarchy (all_of at.ps) phase run.store.ledger.history now → RanInto Step s taken_before taken_now now
 at-halt s rest phase more taken_before taken_now run now next at halted =
     let done = all_of at.ps in
     let part = take halted.count phase in
@@ -167,6 +199,8 @@ at-halt s rest phase more taken_before taken_now run now next at halted =
         part = subst (λ l. IsPart s.with s.hierarchy l now) whole (IsPart-done s.with s.hierarchy (done ++ part) (drop halted.count phase) now halted.has);
         over = rw (first-phases s at.ps (phases rest) at.first) over;
       };
+      inserts = subst (λ l. AllZip (λ c p. IsTrue (is_over_at now p) → InsertEnds s.hierarchy now c p) l (places s.with l now)) (halt-all s rest phase more taken_before taken_now run now next at halted)
+          (inserts-into s.with s.hierarchy (done ++ part) (drop halted.count phase ++ more) now halted.has);
       took = subst (Appends taken_before taken_now) text at.took;
     }
 
@@ -189,7 +223,7 @@ text-with-next s rest phase more taken_before taken_now run now next at gone =
 pub at-fault : (s : Script) (rest phase more : List Command) (taken_before taken_middle taken_now : Option (List ℕ)) (run now : Run)
     → IsNext rest phase more → (at : IsAtPhase s rest taken_before taken_middle run)
     → HasGone s.with s.hierarchy (all_of at.ps) phase at.written run.store.ledger.history now
-    → TookPart taken_middle taken_now (string_bytes now.text) → RanTo s taken_before taken_now now.store.ledger.history
+    → TookPart taken_middle taken_now (string_bytes now.text) → RanTo Step s taken_before taken_now now.store.ledger.history
 at-fault s rest phase more taken_before taken_middle taken_now run now next at gone part =
     let history = now.store.ledger.history in
     let text = text-with-next s rest phase more taken_before taken_middle run now next at gone in

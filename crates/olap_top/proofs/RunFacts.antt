@@ -11,12 +11,12 @@ use Rattle.row_ledger.specs.declared.event.Event.{Event}
 use Rattle.row_ledger.specs.declared.settings.Use.{Use}
 use Rattle.row_ledger.specs.Past.{before, is_over}
 use Rattle.script_form.specs.declared.script.Command.{Command}
-use Rattle.answer_text.specs.Phases.{ranks}
-use Rattle.answer_text.specs.Places.{places, places_behind, are_over, is_over_at}
-use Rattle.answer_text.proofs.PlaceFacts.{NoneMore, places_behind-append, places_behind-none}
+use Rattle.script_run.specs.Phases.{ranks}
+use Rattle.script_run.specs.Places.{places, places_behind, are_over, is_over_at}
+use Rattle.script_run.proofs.PlaceFacts.{NoneMore, places_behind-append, places_behind-none}
 use Rattle.olap_top.specs.Keeps.{HasDone}
-use Rattle.olap_top.specs.Runs.{BeginsAt, EndsBefore, InsertEnds, IsPart, IsRunOf, IsSerial}
-use Rattle.olap_top.proofs.Zips.{All-zip}
+use Rattle.script_run.specs.Runs.{BeginsAt, EndsBefore, InsertEnds, IsPart, IsRunOf, IsSerial}
+use Rattle.olap_top.proofs.Zips.{All-zip, AllZip-weaker}
 
 -- Lists side by side.
 
@@ -91,6 +91,7 @@ IsPart-done with h done rest history has =
           (Contains-append_left (map Some has.begins) (map (λ c. None) rest) (Some p) (some-among has.begins p (has.only p e is beginning)));
       in_order = λ i j d below within same. pairs-zip (EndsBefore history) (done ++ rest) (places with (done ++ rest) history) pairs i j d below within;
       phased = λ i j d below within lower. pairs-zip (EndsBefore history) (ranks (done ++ rest)) (places with (done ++ rest) history) pairs i j d below within;
+      pulls = has.pulls;
     }
   where
     some-among : (xs : List ℕ) (x : ℕ) → Contains xs x → Contains (map Some xs) (Some x)
@@ -120,9 +121,18 @@ IsRunOf-done with h done history has = record {
   over = are_over-done with h done history has;
 }
 
-pub IsSerial-done : (with : Use) (h : List Dimension) (done : List Command) (history : List Event) → HasDone with h done history → IsSerial with done history
-IsSerial-done with h done history has =
-    subst (AllPairs (EndsBefore history)) (append-nil (map Some has.begins) ∙ sym has.places_are) (in_turn history has.begins [] has.serial)
+-- in order, whatever is to come behind it
+pub IsSerial-into : (with : Use) (h : List Dimension) (done rest : List Command) (history : List Event) → HasDone with h done history → IsSerial with (done ++ rest) history
+IsSerial-into with h done rest history has = subst (AllPairs (EndsBefore history)) (sym (places-with with h done rest history has)) (in_turn history has.begins rest has.serial)
 
 pub inserts-done : (with : Use) (h : List Dimension) (done : List Command) (history : List Event) → HasDone with h done history → AllZip (InsertEnds h history) done (places with done history)
 inserts-done with h done history has = subst (AllZip (InsertEnds h history) done) (sym has.places_are) (AllZip-some (InsertEnds h history) done has.begins has.inserts)
+
+pub inserts-into : (with : Use) (h : List Dimension) (done rest : List Command) (history : List Event) → HasDone with h done history
+    → AllZip (λ c p. IsTrue (is_over_at history p) → InsertEnds h history c p) (done ++ rest) (places with (done ++ rest) history)
+inserts-into with h done rest history has =
+    subst (AllZip (λ c p. IsTrue (is_over_at history p) → InsertEnds h history c p) (done ++ rest)) (sym (places-with with h done rest history has))
+    (AllZip-append (λ c p. IsTrue (is_over_at history p) → InsertEnds h history c p) done rest (map Some has.begins) (map (λ c. None) rest)
+    (AllZip-some (λ c p. IsTrue (is_over_at history p) → InsertEnds h history c p) done has.begins
+    (AllZip-weaker (λ c p. InsertEnds h history c (Some p)) (λ c p. IsTrue (is_over history p) → InsertEnds h history c (Some p)) done has.begins (λ c p ends over. ends) has.inserts))
+    (AllZip-none (λ c p. IsTrue (is_over_at history p) → InsertEnds h history c p) rest (λ c over. absurd (let none : ⊥ = cc in none))))

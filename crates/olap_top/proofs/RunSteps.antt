@@ -9,19 +9,20 @@ use Rattle.row_ledger.specs.Past.{acked_rows}
 use Rattle.row_ledger.proofs.Growth.{IsRight-kept}
 use Rattle.script_form.specs.declared.script.Command.{Command}
 use Rattle.answer_text.specs.Printed.{lines}
-use Rattle.olap_top.specs.Keeps.{HasDone, is_placed, site}
+use Rattle.olap_top.specs.Keeps.{HasDone, IsOpened, is_placed}
+use Rattle.olap_top.specs.Site.{site}
 use Rattle.olap_top.specs.RunSoFar.{Does, IsRun, IsHalted, HasGone, KeepsLines, lines_of}
 use Rattle.olap_top.specs.declared.run.Run.{Run}
-use Rattle.olap_top.proofs.KeepsSteps.{KeepsRun-nil}
+use Rattle.olap_top.proofs.KeepsSteps.{KeepsRun-opened}
 
 pub lines_of-nil : (with : Use) (history : List Event) → lines_of with [] history ≡ []
 unfolding lines
 lines_of-nil with history = refl
 
-pub IsRun-nil : (with : Use) (h : List Dimension) (run : Run) → run.store.ledger.history ≡ [] → string_bytes run.text ≡ [] → run.done ≡ 0
+pub IsRun-opened : (with : Use) (h : List Dimension) (run : Run) → IsOpened with h run.store.ledger.history → string_bytes run.text ≡ [] → run.done ≡ 0
     → IsRun with h [] [] run
-IsRun-nil with h run history text done = record {
-  keeps = rw history (KeepsRun-nil with h);
+IsRun-opened with h run opened text done = record {
+  keeps = KeepsRun-opened with h run.store.ledger.history opened;
   count = done;
   text = text ∙ sym (lines_of-nil with run.store.ledger.history);
 }
@@ -60,7 +61,7 @@ pub halted-before : (with : Use) (h : List Dimension) (done more : List Command)
 halted-before with h done more written run now same is = record {
   count = 0;
   within = omega arith;
-  right = rw same (IsRight-kept (site h) (is_placed (acked_rows run.store.ledger.history)) run.store.ledger.history is.keeps.right);
+  right = rw same (IsRight-kept (site with h) (is_placed (acked_rows run.store.ledger.history)) run.store.ledger.history is.keeps.right);
   has = rw (same, append-nil done) is.keeps.has;
   kept = KeepsLines-same with done run.store.ledger.history now same;
 }
@@ -73,7 +74,7 @@ halted-behind with h done written c run now number text does is =
     record {
       count = 1;
       within = omega arith;
-      right = IsRight-kept (site h) (is_placed (acked_rows now)) now keeps.right;
+      right = IsRight-kept (site with h) (is_placed (acked_rows now)) now keeps.right;
       has = keeps.has;
       kept = does.kept done is.keeps;
     }

@@ -1,5 +1,5 @@
 -- One command more of what the shard keeps.
-use Rattle.std.proofs.Common.{◌≡◌, ◌∙◌, ℕ, suc, ◌+◌, ◌<◌, ◌≤◌, ◌^◌, Bool, List, [], ◌∷◌, length, map, filter, refl, sym, subst, arith}
+use Rattle.std.proofs.Common.{◌≡◌, ◌∙◌, ℕ, suc, ◌+◌, ◌<◌, ◌≤◌, ◌^◌, Bool, List, [], ◌∷◌, length, map, filter, refl, sym, ap, subst, arith}
 use Rattle.std.specs.Prelude.{All, Option, Some, None, IsPermutation}
 use Rattle.std.specs.List.{cons_option}
 use Rattle.std.proofs.lemmas.Bool.{ne_eqb}
@@ -16,11 +16,23 @@ use Rattle.row_ledger.proofs.Answering.{acked_rows-insert}
 use Rattle.tree_shape.specs.Counts.{times}
 use Rattle.tree_shape.specs.Shape.{numbers}
 use Rattle.shard_tree.specs.Shard.{ShardValue, IsShardOf}
-use Rattle.olap_top.specs.Keeps.{KeepsShard}
+use Rattle.row_ledger.specs.declared.settings.Use.{Use}
+use Rattle.olap_top.specs.Keeps.{IsOpened, KeepsShard}
+use Rattle.olap_top.specs.Site.{site}
+use Rattle.olap_top.proofs.Openings.{opening-acked}
 use Rattle.olap_top.proofs.Orders.{IsPermutation-filter}
 
-pub KeepsShard-nil : (h : List Dimension) (shard : ShardValue) (history : List Event) → history ≡ [] → IsShardOf h shard → shard.gate.shard ≡ 0 → shard.rows ≡ [] → KeepsShard h shard history
-KeepsShard-nil h shard history none is first empty = rw none (record { is_shard = is; first = first; rows = rw empty (IsPermutation-refl []); earlier = All-nil (λ (r : Row). r.no < 0) })
+-- behind an opening
+pub KeepsShard-opened : (with : Use) (h : List Dimension) (shard : ShardValue) (history : List Event) → IsOpened with h history → IsShardOf h shard → shard.gate.shard ≡ 0 → shard.rows ≡ []
+    → KeepsShard h shard history
+KeepsShard-opened with h shard history opened is first empty =
+    let none : acked_rows history ≡ [] = ap (map (λ (a : Ack). a.row)) (opening-acked (site with h) history opened.opening) in
+    record {
+      is_shard = is;
+      first = first;
+      rows = rw (empty, none) (IsPermutation-refl []);
+      earlier = rw none (All-nil (λ (r : Row). r.no < length history));
+    }
 
 -- behind events that acknowledge nothing
 pub KeepsShard-older : (h : List Dimension) (shard shard_now : ShardValue) (history now : List Event) → KeepsShard h shard history

@@ -17,11 +17,13 @@ use Rattle.row_ledger.specs.declared.page.TreePage.{TreePage}
 use Rattle.row_ledger.specs.declared.settings.Call.TheVariants.{Tree}
 use Rattle.row_ledger.specs.Past.{Ack, acked, acked_rows, ends_with}
 use Rattle.row_ledger.specs.Bounds.{numbers}
-use Rattle.row_ledger.specs.Pages.{IsPageOf, IsShownTree}
-use Rattle.row_ledger.specs.Right.{Asks, IsShown}
+use Rattle.row_ledger.specs.declared.settings.Use.{Use}
+use Rattle.row_ledger.specs.Pages.{IsPageOf, IsShown, IsShownTree}
+use Rattle.row_ledger.specs.Right.{Asks}
 use Rattle.tree_shape.specs.Counts.{times}
 use Rattle.shard_tree.specs.Shard.{ShardValue, rows_of}
-use Rattle.olap_top.specs.Keeps.{site, KeepsShard, ShowsShard}
+use Rattle.olap_top.specs.Keeps.{KeepsShard, ShowsShard}
+use Rattle.olap_top.specs.Site.{site}
 
 -- numbers of which none stands twice differ
 
@@ -71,6 +73,7 @@ is-shown h shard history tree keeps is = record {
         let each = length-map (acked history) (λ (a : Ack). a.row) in
         omega (arith, is.rows, is.queued)
 
-pub shows-shard : (h : List Dimension) (shard : ShardValue) (history : List Event) (page : Page) → KeepsShard h shard history → ShowsShard h shard page
-    → Asks (Tree 0) page × IsShown (site h) history page
-shows-shard h shard history (page.Tree tree) keeps shows = (shows.0 ∙ keeps.first, is-shown h shard history tree keeps shows.1)
+pub shows-shard : (with : Use) (h : List Dimension) (shard : ShardValue) (history : List Event) (page : Page) → KeepsShard h shard history → ShowsShard h shard page
+    → Asks (Tree 0) page × IsShown (site with h) history page
+shows-shard with h shard history (page.Tree tree) keeps shows = (shows.0 ∙ keeps.first, is-shown h shard history tree keeps shows.1)
+shows-shard with h shard history _ keeps shows = absurd shows

@@ -1,6 +1,7 @@
-pub mod Runs
+pub mod Site
 pub mod Keeps
 pub mod Told
 pub mod RunSoFar
+pub mod Words
 pub mod Outcomes
 pub mod Statuses

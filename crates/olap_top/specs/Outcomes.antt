@@ -1,9 +1,8 @@
 -- What each answer of the top call says of the source, the sink and the history.
 --
 -- `before` and `now` are what a source has left, or a sink has taken, before the call and after it, where it tells that.
-use Rattle.std.specs.Prelude.{ℕ, ◌≡◌, ◌+◌, ◌<◌, ◌≤◌, ◌^◌, ◌⊎◌, Option, Some, Ok, Err, List, [], ◌∷◌, length, map, take, codes, string_bytes, String}
+use Rattle.std.specs.Prelude.{ℕ, ◌≡◌, ◌+◌, ◌<◌, ◌≤◌, ◌^◌, ◌⊎◌, IsTrue, Option, Some, Ok, Err, List, length, take}
 use Rattle.std.specs.List.{AllZip}
-use Rattle.std.specs.declared.alloc.Global.{Global}
 use Rattle.std.specs.Io.KnownBytes.{Appends, Consumes, IsAtEnd}
 use Rattle.volap_io.specs.Causes.{Rose}
 use Rattle.dim_hierarchy.specs.Dimension.{Dimension}
@@ -15,15 +14,15 @@ use Rattle.script_form.specs.declared.script.Command.{Command}
 use Rattle.script_form.specs.declared.script.Script.{Script}
 use Rattle.script_form.specs.declared.script.ScriptFault.TheVariants.{Bad}
 use Rattle.script_form.specs.Scripts.{records_of, script}
-use Rattle.answer_text.specs.Phases.{phases_to}
-use Rattle.answer_text.specs.Places.{places}
+use Rattle.script_run.specs.Phases.{phases_to}
+use Rattle.script_run.specs.Places.{places, is_over_at}
 use Rattle.answer_text.specs.Printed.{told, told_to, bad_line}
-use Rattle.olap_top.specs.Keeps.{site}
-use Rattle.olap_top.specs.Runs.{IsRunOf, IsRunInto, IsSerial, InsertEnds}
+use Rattle.olap_top.specs.Site.{site}
+use Rattle.script_run.specs.Runs.{IsPart, IsRunOf, IsRunInto, IsSerial, InsertEnds}
+use Rattle.olap_top.specs.declared.words.Request.{Request}
+use Rattle.olap_top.specs.declared.words.Request.TheVariants.{Step}
 
--- the words are the one word `step`
-abbrev pub IsStep : List (String Global) → Type 0
-IsStep words = map string_bytes words ≡ codes "step" ∷ []
+-- What was read.
 
 -- the source was read to its end, and gave these bytes, at most 2^26 of them
 pub record IsReadWhole (before now : Option (List ℕ)) (bytes : List ℕ) : Type 0 where
@@ -37,51 +36,79 @@ pub record IsReadScript (before now : Option (List ℕ)) (s : Script) : Type 0 w
   pub read : IsReadWhole before now bytes
   pub is_script : script (records_of bytes) ≡ Ok s
 
+-- this script is asked for: by the word `step` that of the bytes which the source gave
+abbrev pub IsAskedScript : Request → Option (List ℕ) → Option (List ℕ) → Script → Type 0
+IsAskedScript Step before now s = IsReadScript before now s
+
+-- What is written.
+
+-- what is asked to be written of a script that ran with this history, whole and of the first k phases
+abbrev pub asked_text : Request → Script → List Event → List ℕ
+asked_text Step s history = told s.with s.commands history
+
+abbrev pub asked_text_to : ℕ → Request → Script → List Event → List ℕ
+asked_text_to k Step s history = told_to k s.with s.commands history
+
 -- the sink took the first bytes of this text, and not all of it
 pub record TookPart (taken_before taken_now : Option (List ℕ)) (text : List ℕ) : Type 0 where
   pub count : ℕ
   pub part : count < length text
   pub took : Appends taken_before taken_now (take count text)
 
--- The history is right and a run of exactly these commands, one after the other; and each insert of known leaf concepts
--- is acknowledged or ended for want of memory.
+-- What ran.
+
+-- The history is right and a run of exactly these commands, and each insert of known leaf concepts is acknowledged or
+-- ended for want of memory.
 pub record HasRun (with : Use) (h : List Dimension) (commands : List Command) (history : List Event) : Type 0 where
-  pub right : IsRight (site h) history
+  pub right : IsRight (site with h) history
   pub run : IsRunOf with h commands history
-  pub serial : IsSerial with commands history
   pub inserts : AllZip (InsertEnds h history) commands (places with commands history)
 
--- the script ran, and the sink took its whole text
-pub record IsDone (left_before left_now taken_before taken_now : Option (List ℕ)) (history : List Event) : Type 0 where
+-- the history is a part of a run of this script, and in it the commands begin in order, each when the one before has ended
+pub record RunsInOrder (s : Script) (history : List Event) : Type 0 where
+  pub part : IsPart s.with s.hierarchy s.commands history
+  pub serial : IsSerial s.with s.commands history
+
+pub record IsSerialRun (request : Request) (left_before left_now : Option (List ℕ)) (history : List Event) : Type 0 where
   pub script : Script
-  pub read : IsReadScript left_before left_now script
+  pub read : IsAskedScript request left_before left_now script
+  pub runs : RunsInOrder script history
+
+-- What each answer says.
+
+-- the script that was asked for ran, and the sink took its whole text
+pub record IsDone (request : Request) (left_before left_now taken_before taken_now : Option (List ℕ)) (history : List Event) : Type 0 where
+  pub script : Script
+  pub read : IsAskedScript request left_before left_now script
   pub ran : HasRun script.with script.hierarchy script.commands history
-  pub took : Appends taken_before taken_now (told script.with script.commands history)
+  pub took : Appends taken_before taken_now (asked_text request script history)
 
 -- The script ran up to the end of a phase, in whose text the sink failed: it took the first bytes of the text, and the
 -- whole text of the phases before.
-pub record RanTo (s : Script) (taken_before taken_now : Option (List ℕ)) (history : List Event) : Type 0 where
+pub record RanTo (request : Request) (s : Script) (taken_before taken_now : Option (List ℕ)) (history : List Event) : Type 0 where
   pub phase : ℕ
   pub ran : HasRun s.with s.hierarchy (phases_to (phase + 1) s.commands) history
-  pub took : TookPart taken_before taken_now (told s.with s.commands history)
-  pub phases : length (told_to phase s.with s.commands history) ≤ took.count
+  pub took : TookPart taken_before taken_now (asked_text request s history)
+  pub phases : length (asked_text_to phase request s history) ≤ took.count
 
-pub record IsCutOff (left_before left_now taken_before taken_now : Option (List ℕ)) (history : List Event) : Type 0 where
+pub record IsCutOff (request : Request) (left_before left_now taken_before taken_now : Option (List ℕ)) (history : List Event) : Type 0 where
   pub script : Script
-  pub read : IsReadScript left_before left_now script
-  pub ran : RanTo script taken_before taken_now history
+  pub read : IsAskedScript request left_before left_now script
+  pub ran : RanTo request script taken_before taken_now history
 
--- The script ran into a phase, in which memory ran out; the sink took the whole text of the phases before.
-pub record RanInto (s : Script) (taken_before taken_now : Option (List ℕ)) (history : List Event) : Type 0 where
+-- The script ran into a phase, in which memory ran out; the sink took the whole text of the phases before. An insert of
+-- known leaf concepts that is over was acknowledged or ended for want of memory.
+pub record RanInto (request : Request) (s : Script) (taken_before taken_now : Option (List ℕ)) (history : List Event) : Type 0 where
   pub phase : ℕ
-  pub right : IsRight (site s.hierarchy) history
+  pub right : IsRight (site s.with s.hierarchy) history
   pub run : IsRunInto phase s.with s.hierarchy s.commands history
-  pub took : Appends taken_before taken_now (told_to phase s.with s.commands history)
+  pub inserts : AllZip (λ c p. IsTrue (is_over_at history p) → InsertEnds s.hierarchy history c p) s.commands (places s.with s.commands history)
+  pub took : Appends taken_before taken_now (asked_text_to phase request s history)
 
-pub record IsStarved (left_before left_now taken_before taken_now : Option (List ℕ)) (history : List Event) : Type 0 where
+pub record IsStarved (request : Request) (left_before left_now taken_before taken_now : Option (List ℕ)) (history : List Event) : Type 0 where
   pub script : Script
-  pub read : IsReadScript left_before left_now script
-  pub ran : RanInto script taken_before taken_now history
+  pub read : IsAskedScript request left_before left_now script
+  pub ran : RanInto request script taken_before taken_now history
 
 -- what was read is no script: the sink took the line that tells the first bad record and its first cause, or failed at
 -- a part of it

@@ -5,10 +5,11 @@ use Rattle.row_ledger.specs.declared.event.Event.{Event}
 use Rattle.row_ledger.specs.declared.settings.Use.{Use}
 use Rattle.row_ledger.specs.Right.{IsRight}
 use Rattle.script_form.specs.declared.script.Command.{Command}
-use Rattle.answer_text.specs.Places.{places}
+use Rattle.script_run.specs.Places.{places}
 use Rattle.answer_text.specs.Printed.{lines}
 use Rattle.olap_top.specs.declared.run.Run.{Run}
-use Rattle.olap_top.specs.Keeps.{KeepsRun, HasDone, site}
+use Rattle.olap_top.specs.Keeps.{KeepsRun, HasDone}
+use Rattle.olap_top.specs.Site.{site}
 
 -- the lines of all commands that are done
 abbrev pub lines_of : Use → List Command → List Event → List ℕ
@@ -36,7 +37,7 @@ pub record IsRun (with : Use) (h : List Dimension) (done : List Command) (writte
 pub record IsHalted (with : Use) (h : List Dimension) (done more : List Command) (before history : List Event) : Type 0 where
   pub count : ℕ
   pub within : count ≤ length more
-  pub right : IsRight (site h) history
+  pub right : IsRight (site with h) history
   pub has : HasDone with h (done ++ take count more) history
   pub kept : KeepsLines with done before history
 

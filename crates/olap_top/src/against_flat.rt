@@ -7,6 +7,8 @@ ghost use Rattle.script_form.specs.declared.script.Command.TheVariants as comman
 use crate::{Status, step};
 use answer_text::{Answer, Line, Word, push_line};
 use dim_hierarchy::{FilterFault, Row};
+use rand_core::utils::NextWord;
+use rand_pcg::Pcg32;
 use script_form::{Command, NewRow, Question, Script, read_script};
 use shard_tree::FlatShard;
 use std::alloc::{AllocError, Global};
@@ -15,21 +17,24 @@ use std::process::Abort;
 use std::test::Fail;
 use volap_io::{MemSink, MemSource};
 
+/// How many concepts the levels of the first dimension have, and the one level of the second.
+const PLACES: [u64; 3] = [3, 9, 40];
+
+const DAYS: u64 = 6;
+
 /// Numbers by chance, the same ones in each run.
 #[derive(Drop)]
 struct Dice {
-    state: u64,
+    words: Pcg32,
 }
 
 impl Dice {
     /// A number below `sides`, which is 0 where that is 0.
     fn roll(&mut self, sides: u64) -> u64
         ensures below { 0 < sides → result < sides }
-        ensures small { result < 2 ^ 31 }
+        ensures small { result < 2 ^ 32 }
     {
-        let more = self.state.wrapping_mul(6_364_136_223_846_793_005);
-        self.state = more.wrapping_add(1_442_695_040_888_963_407);
-        (self.state >> 33) % sides.max(1)
+        u64::from(self.words.next_word()) % sides.max(1)
     }
 
     /// Whether one of so many sides is up.
@@ -38,167 +43,82 @@ impl Dice {
     }
 }
 
-/// How many concepts a dimension has at each of its levels, and 0 past the last one.
-type Counts = [u64; 3];
-
-/// At most as many concepts at each level of a dimension as these.
-const MOST: [Counts; 4] = [[3, 20, 60], [6, 12, 0], [4, 7, 90], [9, 0, 0]];
-
-/// So many dimensions with one to three levels each; an absent one has none.
-fn shape(dice: &mut Dice) -> [Counts; 4] {
-    let mut shape = [[0; 3]; 4];
-    let first = dice.roll(4) as usize;
-    for (dim, counts) in shape.iter_mut().enumerate() {
-        if dim <= first {
-            *counts = levels(dice);
-        }
-    }
-    shape
-}
-
-/// The levels of one dimension.
-fn levels(dice: &mut Dice) -> Counts {
-    let depth = dice.roll(3);
-    let most = MOST[dice.roll(4) as usize];
-    let first = 1 + dice.roll(most[0]);
-    match depth {
-        0 => [first, 0, 0],
-        1 => [first, 1 + dice.roll(most[1]), 0],
-        _ => [first, 1 + dice.roll(most[1]), 1 + dice.roll(most[2])],
-    }
-}
-
-/// The leaf level of a dimension, counted from 0, and how many concepts it has.
-fn leaf(counts: &Counts) -> Option<(u64, u64)> {
-    match *counts {
-        [0, _, _] => None,
-        [first, 0, _] => Some((0, first)),
-        [_, second, 0] => Some((1, second)),
-        [_, _, third] => Some((2, third)),
-    }
-}
-
-/// Adds the concepts of a level, each beneath one of the level above.
-fn push_level(
-    text: &mut String,
-    dim: usize,
-    level: usize,
-    above: u64,
-    count: u64,
-) -> Result<(), AllocError> {
+/// Adds the concepts of a level of the first dimension, each beneath one of the level above.
+fn push_level(text: &mut String, level: u64, count: u64, above: u64) -> Result<(), AllocError> {
     for number in 0..count {
-        write!(text, "concept,d{dim},{level}x{number},")?;
-        if above == 0 {
+        write!(text, "concept,place,{level}x{number},")?;
+        if level == 0 {
             writeln!(text, "*")?;
         } else {
-            let over = level.saturating_sub(1);
-            let parent = number % above;
+            let over = level - 1;
+            let parent = number % above.max(1);
             writeln!(text, "{over}x{parent}")?;
         }
     }
     Ok(())
 }
 
-/// Adds a dimension with its concepts, where it has any.
-fn push_dim(text: &mut String, dim: usize, counts: &Counts) -> Result<(), AllocError> {
-    let Some((level, _)) = leaf(counts) else {
-        return Ok(());
-    };
-    let depth = level.saturating_add(1);
-    writeln!(text, "dim,d{dim},{depth}")?;
-    let mut above = 0;
-    for (level, count) in counts.iter().enumerate() {
-        push_level(text, dim, level, above, *count)?;
-        above = *count;
-    }
-    Ok(())
-}
-
-/// Adds the name of a concept of a level: now and then one that isn't known.
-fn push_name(text: &mut String, dice: &mut Dice, level: u64, count: u64) -> Result<(), AllocError> {
-    let number = if dice.hits(40) {
-        count
-    } else {
-        dice.roll(count)
-    };
-    write!(text, "{level}x{number}")
-}
-
-/// Adds the field of a dimension in an insert.
-fn push_leaf(text: &mut String, dice: &mut Dice, counts: &Counts) -> Result<(), AllocError> {
-    let Some((level, count)) = leaf(counts) else {
-        return Ok(());
-    };
-    write!(text, ",")?;
-    push_name(text, dice, level, count)
-}
-
-/// Adds an insert; now and then its measure is as low as can be.
-fn push_insert(text: &mut String, dice: &mut Dice, shape: &[Counts; 4]) -> Result<(), AllocError> {
-    let server = dice.roll(2);
-    let low = if dice.hits(30) { i64::MIN } else { -1000 };
-    let measure = low.saturating_add(dice.roll(2000) as i64);
-    write!(text, "insert,{server},{measure}")?;
-    for counts in shape {
-        push_leaf(text, dice, counts)?;
-    }
-    writeln!(text, "")
-}
-
-/// Adds the field of a dimension in a query: a star, or up to three concepts of any levels.
-fn push_pick(text: &mut String, dice: &mut Dice, counts: &Counts) -> Result<(), AllocError> {
-    let Some((last, _)) = leaf(counts) else {
-        return Ok(());
-    };
-    if dice.hits(3) {
-        return write!(text, ",*");
-    }
-    for i in 0..1 + dice.roll(3) {
-        let level = dice.roll(last.saturating_add(1));
-        let count = counts.get(level as usize).copied().unwrap_or(1);
-        let mark = if i == 0 { "," } else { "|" };
-        write!(text, "{mark}")?;
-        push_name(text, dice, level, count)?;
-    }
-    Ok(())
-}
-
-/// Adds a query.
-fn push_query(text: &mut String, dice: &mut Dice, shape: &[Counts; 4]) -> Result<(), AllocError> {
-    let server = dice.roll(2);
-    write!(text, "query,{server}")?;
-    for counts in shape {
-        push_pick(text, dice, counts)?;
-    }
-    writeln!(text, "")
-}
-
-/// Adds a command: of each 16 about one a query and now and then a barrier.
-fn push_command(text: &mut String, dice: &mut Dice, shape: &[Counts; 4]) -> Result<(), AllocError> {
-    match dice.roll(32) {
-        0..=1 => push_query(text, dice, shape),
-        2 => writeln!(text, "barrier"),
-        _ => push_insert(text, dice, shape),
-    }
-}
-
 /// The records before the first command.
-fn head(alloc: Global, cells: u64, shape: &[Counts; 4]) -> Result<String, AllocError> {
+fn head(alloc: Global, cells: u64) -> Result<String, AllocError> {
     let mut text = String::new(alloc);
-    writeln!(text, "volap,1")?;
-    writeln!(text, "use,2,1,1,{cells}")?;
-    for (dim, counts) in shape.iter().enumerate() {
-        push_dim(&mut text, dim, counts)?;
+    write!(text, "volap,1\nuse,2,1,1,{cells}\ndim,place,3\ndim,day,1\n")?;
+    push_level(&mut text, 0, PLACES[0], 1)?;
+    push_level(&mut text, 1, PLACES[1], PLACES[0])?;
+    push_level(&mut text, 2, PLACES[2], PLACES[1])?;
+    for number in 0..DAYS {
+        writeln!(text, "concept,day,{number},*")?;
     }
     Ok(text)
 }
 
+/// Adds an insert; now and then its measure is as low as can be, or its place isn't known.
+fn push_insert(text: &mut String, dice: &mut Dice) -> Result<(), AllocError> {
+    let server = dice.roll(2);
+    let low = if dice.hits(30) { i64::MIN } else { -1000 };
+    let measure = low.saturating_add(dice.roll(2000) as i64);
+    let place = dice.roll(PLACES[2] + 1);
+    let day = dice.roll(DAYS);
+    writeln!(text, "insert,{server},{measure},2x{place},{day}")
+}
+
+/// Adds the field of a query for the first dimension: a star, or up to three concepts of any levels.
+fn push_places(text: &mut String, dice: &mut Dice) -> Result<(), AllocError> {
+    if dice.hits(3) {
+        return write!(text, "*");
+    }
+    for i in 0..1 + dice.roll(3) {
+        let level = dice.roll(3);
+        let number = dice.roll(PLACES[level as usize]);
+        let mark = if i == 0 { "" } else { "|" };
+        write!(text, "{mark}{level}x{number}")?;
+    }
+    Ok(())
+}
+
+/// Adds a command: of 16 about one is a query, and now and then there is a barrier.
+fn push_command(text: &mut String, dice: &mut Dice) -> Result<(), AllocError> {
+    match dice.roll(32) {
+        0 | 1 => {
+            let server = dice.roll(2);
+            let day = dice.roll(DAYS + 1);
+            write!(text, "query,{server},")?;
+            push_places(text, dice)?;
+            if day == DAYS {
+                writeln!(text, ",*")
+            } else {
+                writeln!(text, ",{day}")
+            }
+        }
+        2 => writeln!(text, "barrier"),
+        _ => push_insert(text, dice),
+    }
+}
+
 /// A script of so many commands.
 fn script(alloc: Global, dice: &mut Dice, cells: u64, count: u64) -> Result<String, AllocError> {
-    let shape = shape(dice);
-    let mut text = head(alloc, cells, &shape)?;
+    let mut text = head(alloc, cells)?;
     for _ in 0..count {
-        push_command(&mut text, dice, &shape)?;
+        push_command(&mut text, dice)?;
     }
     Ok(text)
 }
@@ -294,11 +214,13 @@ fn compare<R: Abort>(rt: &R, alloc: Global, text: &[u8]) -> Result<(), Fail> {
 #[test]
 fn scripts_by_chance(rt: HostRuntime) -> Result<(), Fail> {
     let alloc = rt.alloc();
-    let dice = &mut Dice { state: 1 };
-    for _ in 0..300 {
+    let dice = &mut Dice {
+        words: Pcg32::new(1, 1),
+    };
+    for round in 0..200 {
         // Few cells, which the longer ones of these scripts use up.
-        let cells = [64, 64, 80, 256][dice.roll(4) as usize];
-        let count = if dice.hits(25) {
+        let cells = 64 + 16 * dice.roll(3);
+        let count = if round % 20 == 0 {
             2000
         } else {
             30 + dice.roll(270)

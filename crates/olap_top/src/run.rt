@@ -1,13 +1,12 @@
 // A script's run, command by command, and its text, phase by phase.
 ghost use Rattle.std.specs.Prelude.{◌≡◌, ◌<◌, ◌≤◌, List, ℕ, [], ◌∷◌, ◌++◌, length, string_bytes, All, IfOk, OnOk, OnErr};
-ghost use Rattle.row_ledger.specs.declared.settings.Use as settings;
 ghost use Rattle.script_form.specs.Scripts.{Fits};
 ghost use Rattle.script_form.specs.declared.script.Command.{Command};
-ghost use Rattle.olap_top.specs.Keeps.{KeepsShard};
+ghost use Rattle.olap_top.specs.Keeps.{IsOpened, KeepsShard};
 
 use crate::store::Store;
 use crate::told::push_told;
-use dim_hierarchy::Hierarchy;
+use row_ledger::Ledger;
 use script_form::{Command, Script};
 use std::alloc::{AllocError, Global};
 
@@ -23,15 +22,16 @@ pub struct Run {
 impl Run {
     ghost use Rattle.olap_top.specs.RunSoFar.{IsRun, IsHalted, HasGone};
 
-    /// No command done, and a shard of so many cells.
-    pub fn new(alloc: Global, h: &Hierarchy, cells: u32) -> Result<Run, AllocError>
-        requires dims { 0 < length h.now }
-        ensures run { IfOk result (λ r. (with : settings.Use) → IsRun with h.now [] [] r) }
-        ensures shard { IfOk result (λ r. KeepsShard h.now r.store.shard r.store.ledger.history) }
+    /// No command done, behind this history of an opening.
+    pub fn new(alloc: Global, script: &Script, ledger: Ledger) -> Result<Run, AllocError>
+        requires dims { 0 < length script.now.hierarchy }
+        requires opened { IsOpened script.now.with script.now.hierarchy ledger.history }
+        ensures run { IfOk result (IsRun script.now.with script.now.hierarchy [] []) }
+        ensures shard { IfOk result (λ r. KeepsShard script.now.hierarchy r.store.shard r.store.ledger.history) }
         ensures text { IfOk result (λ r. string_bytes r.text ≡ []) }
     {
         Ok(Run {
-            store: Store::new(alloc, h, cells)?,
+            store: Store::new(alloc, script, ledger)?,
             text: String::new(alloc),
             done: 0,
         })

@@ -23,19 +23,21 @@ impl Store {
     ghost use Rattle.shard_tree.specs.Shard.{IsShardOf};
     ghost use Rattle.answer_text.specs.Answer.{said};
     ghost use Rattle.answer_text.specs.Printed.{line, page_text};
-    ghost use Rattle.olap_top.specs.Keeps.{KeepsShard, ShowsShard};
+    ghost use Rattle.olap_top.specs.Keeps.{IsOpened, KeepsShard, ShowsShard};
     ghost use Rattle.olap_top.specs.RunSoFar.{Does};
     ghost use Rattle.olap_top.specs.Told.{told_as};
 
-    /// A shard of no row with so many cells, and nothing has happened.
-    pub fn new(alloc: Global, h: &Hierarchy, cells: u32) -> Result<Store, AllocError>
-        requires dims { 0 < length h.now }
-        ensures shard { IfOk result (λ s. KeepsShard h.now s.shard s.ledger.history) }
-        ensures history { IfOk result (λ s. s.ledger.history ≡ []) }
+    /// A shard of no row with so many cells, for a history in which nothing has happened but its
+    /// opening.
+    pub fn new(alloc: Global, script: &Script, ledger: Ledger) -> Result<Store, AllocError>
+        requires dims { 0 < length script.now.hierarchy }
+        requires opened { IsOpened script.now.with script.now.hierarchy ledger.history }
+        ensures shard { IfOk result (λ s. KeepsShard script.now.hierarchy s.shard s.ledger.history) }
+        ensures history { IfOk result (λ s. s.ledger.history ≡ ledger.history) }
     {
         Ok(Store {
-            shard: ShardTree::new(alloc, h, cells)?,
-            ledger: Ledger::new(alloc),
+            shard: ShardTree::new(alloc, &script.hierarchy, script.with.cells)?,
+            ledger,
         })
     }
 
@@ -228,6 +230,7 @@ impl Store {
             Command::Query(question) => Told::Line(self.query(alloc, script, question)),
             Command::Control(Call::Barrier) => Told::Line(self.barrier(script)),
             Command::Control(Call::Tree(shard)) => self.tree(alloc, script, *shard, number),
+            Command::Control(_) => unreachable!(),
         }
     }
 }

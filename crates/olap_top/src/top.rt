@@ -1,5 +1,5 @@
 // The top call.
-ghost use Rattle.std.specs.Prelude.{◌≡◌, ◌≢◌, ◌+◌, ◌≤◌, ◌^◌, ◌⊎◌, ◌↔◌, ◌<◌, List, ℕ, [], ◌∷◌, Ok, Err, All, length, map, codes, string_bytes, IsTrue};
+ghost use Rattle.std.specs.Prelude.{◌≡◌, ◌≢◌, ◌+◌, ◌≤◌, ◌^◌, ◌⊎◌, ◌↔◌, ◌<◌, List, ℕ, [], ◌∷◌, Ok, Err, All, length, string_bytes};
 ghost use Rattle.std.specs.Io.KnownBytes.{Appends};
 ghost use Rattle.volap_io.specs.Causes.{Rose};
 ghost use Rattle.volap_io.specs.Source.{Gave};
@@ -10,13 +10,18 @@ ghost use Rattle.script_form.specs.declared.script.ScriptFault.TheVariants as fa
 ghost use Rattle.answer_text.specs.Printed.{told, bad_line};
 ghost use Rattle.olap_top.specs.Keeps.{KeepsShard};
 ghost use Rattle.olap_top.specs.RunSoFar.{IsRun};
-ghost use Rattle.olap_top.specs.Outcomes.{TookPart, IsStep, HasRun, RanTo, RanInto, IsDone, IsCutOff, IsStarved, IsNoScript, IsGood};
+ghost use Rattle.olap_top.specs.Outcomes.{TookPart, HasRun, RunsInOrder, IsSerialRun, RanTo, RanInto, IsDone, IsCutOff, IsStarved, IsNoScript, IsGood};
+ghost use Rattle.olap_top.specs.Words.{AskFor, Asked};
+ghost use Rattle.olap_top.specs.declared.words.Request.{Request};
 
+use crate::opening::opened;
 use crate::outcome::{Outcome, Status};
 use crate::run::Run;
-use answer_text::{BadLine, phase_len};
+use crate::words::Request;
+use answer_text::BadLine;
 use row_ledger::Ledger;
 use script_form::{Cause, Script, ScriptFault, read_script};
+use script_run::phase_len;
 use std::alloc::Global;
 use std::sync::Wait;
 use std::thread::Threads;
@@ -43,14 +48,15 @@ fn run_phases<K: Sink>(run: &mut Run, alloc: Global, script: &Script, sink: &mut
     requires text { string_bytes run.old.text ≡ [] }
     ensures kinds { (result ≡ Status.Done) ⊎ (result ≡ Status.WriteFault) ⊎ (result ≡ Status.NoMemory) }
     ensures no_memory { result ≡ Status.NoMemory
-        → RanInto script.now (K.taken sink.old) (K.taken sink.new) run.new.store.ledger.history }
+        → RanInto Request.Step script.now (K.taken sink.old) (K.taken sink.new) run.new.store.ledger.history }
     ensures write_fault { result ≡ Status.WriteFault
         → Rose (K.faults sink.old) (K.faults sink.new)
-        × RanTo script.now (K.taken sink.old) (K.taken sink.new) run.new.store.ledger.history }
+        × RanTo Request.Step script.now (K.taken sink.old) (K.taken sink.new) run.new.store.ledger.history }
     ensures done { result ≡ Status.Done
         → HasRun script.now.with script.now.hierarchy script.now.commands run.new.store.ledger.history
         × Appends (K.taken sink.old) (K.taken sink.new)
         (told script.now.with script.now.commands run.new.store.ledger.history) }
+    ensures serial { RunsInOrder script.now run.new.store.ledger.history }
 {
     let mut rest = script.commands.as_slice();
     while !rest.is_empty() {
@@ -67,7 +73,7 @@ fn run_phases<K: Sink>(run: &mut Run, alloc: Global, script: &Script, sink: &mut
     Status::Done
 }
 
-/// Runs a script to its end. One without commands opens no shard.
+/// Runs a script to its end. One without commands has the history of its opening, and opens no shard.
 fn run_script<K: Sink>(alloc: Global, script: &Script, sink: &mut K) -> Outcome
     requires fits { All (Fits script.now) script.now.commands }
     requires dims { 0 < length script.now.commands → 0 < length script.now.hierarchy }
@@ -75,19 +81,27 @@ fn run_script<K: Sink>(alloc: Global, script: &Script, sink: &mut K) -> Outcome
         ⊎ (result.status ≡ Status.WriteFault)
         ⊎ (result.status ≡ Status.NoMemory) }
     ensures no_memory { result.status ≡ Status.NoMemory
-        → RanInto script.now (K.taken sink.old) (K.taken sink.new) result.ledger.history }
+        → ((sink.new ≡ sink.old) × (result.ledger.history ≡ []))
+        ⊎ RanInto Request.Step script.now (K.taken sink.old) (K.taken sink.new) result.ledger.history }
     ensures write_fault { result.status ≡ Status.WriteFault
         → Rose (K.faults sink.old) (K.faults sink.new)
-        × RanTo script.now (K.taken sink.old) (K.taken sink.new) result.ledger.history }
+        × RanTo Request.Step script.now (K.taken sink.old) (K.taken sink.new) result.ledger.history }
     ensures done { result.status ≡ Status.Done
         → HasRun script.now.with script.now.hierarchy script.now.commands result.ledger.history
         × Appends (K.taken sink.old) (K.taken sink.new)
         (told script.now.with script.now.commands result.ledger.history) }
+    ensures serial { (result.ledger.history ≡ []) ⊎ RunsInOrder script.now result.ledger.history }
 {
+    let Ok(ledger) = opened(alloc, script) else {
+        return without_history(alloc, Status::NoMemory);
+    };
     if script.commands.is_empty() {
-        return without_history(alloc, Status::Done);
+        return Outcome {
+            status: Status::Done,
+            ledger,
+        };
     }
-    let Ok(mut run) = Run::new(alloc, &script.hierarchy, script.with.cells) else {
+    let Ok(mut run) = Run::new(alloc, script, ledger) else {
         return without_history(alloc, Status::NoMemory);
     };
     let status = run_phases(&mut run, alloc, script, sink);
@@ -133,17 +147,19 @@ fn run_bytes<K: Sink>(alloc: Global, bytes: &[u8], sink: &mut K) -> Outcome
         → ((sink.new ≡ sink.old) × (result.ledger.history ≡ []))
         ⊎ ((s : Script)
         × (script (records_of bytes.now) ≡ Ok s)
-        × RanInto s (K.taken sink.old) (K.taken sink.new) result.ledger.history) }
+        × RanInto Request.Step s (K.taken sink.old) (K.taken sink.new) result.ledger.history) }
     ensures write_fault { result.status ≡ Status.WriteFault
         → Rose (K.faults sink.old) (K.faults sink.new)
         × ((s : Script)
         × (script (records_of bytes.now) ≡ Ok s)
-        × RanTo s (K.taken sink.old) (K.taken sink.new) result.ledger.history) }
+        × RanTo Request.Step s (K.taken sink.old) (K.taken sink.new) result.ledger.history) }
     ensures done { result.status ≡ Status.Done
         → (s : Script)
         × (script (records_of bytes.now) ≡ Ok s)
         × HasRun s.with s.hierarchy s.commands result.ledger.history
         × Appends (K.taken sink.old) (K.taken sink.new) (told s.with s.commands result.ledger.history) }
+    ensures serial { (result.ledger.history ≡ [])
+        ⊎ ((s : Script) × (script (records_of bytes.now) ≡ Ok s) × RunsInOrder s result.ledger.history) }
 {
     match read_script(alloc, bytes) {
         Ok(script) => run_script(alloc, &script, sink),
@@ -171,37 +187,29 @@ pub fn step<S: Source, K: Sink>(alloc: Global, source: &mut S, sink: &mut K) -> 
         × (result.ledger.history ≡ []) }
     ensures write_fault { result.status ≡ Status.WriteFault
         → Rose (K.faults sink.old) (K.faults sink.new)
-        × IsCutOff
+        × IsCutOff Request.Step
         (S.left source.old) (S.left source.new)
         (K.taken sink.old) (K.taken sink.new)
         result.ledger.history }
     ensures no_memory { result.status ≡ Status.NoMemory
         → ((sink.new ≡ sink.old) × (result.ledger.history ≡ []))
-        ⊎ IsStarved
+        ⊎ IsStarved Request.Step
         (S.left source.old) (S.left source.new)
         (K.taken sink.old) (K.taken sink.new)
         result.ledger.history }
     ensures done { result.status ≡ Status.Done
-        → IsDone
+        → IsDone Request.Step
         (S.left source.old) (S.left source.new)
         (K.taken sink.old) (K.taken sink.new)
         result.ledger.history }
+    ensures serial { (result.ledger.history ≡ [])
+        ⊎ IsSerialRun Request.Step (S.left source.old) (S.left source.new) result.ledger.history }
 {
     match read_all(alloc, source, LIMIT) {
         Ok(bytes) => run_bytes(alloc, &bytes, sink),
         Err(ReadEnd::ReadFault) => without_history(alloc, Status::ReadFault),
         Err(ReadEnd::TooLarge) => without_history(alloc, Status::TooLarge),
         Err(ReadEnd::NoMemory) => without_history(alloc, Status::NoMemory),
-    }
-}
-
-/// Whether the words are those of a run on this thread in script order.
-fn asks_step(words: &[String]) -> bool
-    ensures { IsTrue result ↔ IsStep words.now }
-{
-    match words {
-        [word] => word.as_str() == "step",
-        _ => false,
     }
 }
 
@@ -217,7 +225,7 @@ pub fn olap<R: Threads + Wait + Sync, S: Source, K: Sink, M: Meet>(
     sink: &mut K,
     _meet: &M,
 ) -> Outcome
-    ensures words { (result.status ≡ Status.BadWords) ↔ ¬ IsStep words.now }
+    ensures words { (result.status ≡ Status.BadWords) ↔ ((r : Request) → ¬ AskFor words.now r) }
     ensures bad_words { result.status ≡ Status.BadWords
         → (source.new ≡ source.old) × (sink.new ≡ sink.old) × (result.ledger.history ≡ []) }
     ensures read_fault { result.status ≡ Status.ReadFault
@@ -235,34 +243,38 @@ pub fn olap<R: Threads + Wait + Sync, S: Source, K: Sink, M: Meet>(
         × (result.ledger.history ≡ []) }
     ensures write_fault { result.status ≡ Status.WriteFault
         → Rose (K.faults sink.old) (K.faults sink.new)
-        × IsCutOff
+        × Asked words.now (λ r. IsCutOff r
         (S.left source.old) (S.left source.new)
         (K.taken sink.old) (K.taken sink.new)
-        result.ledger.history }
+        result.ledger.history) }
     ensures no_memory { result.status ≡ Status.NoMemory
         → ((sink.new ≡ sink.old) × (result.ledger.history ≡ []))
-        ⊎ IsStarved
+        ⊎ Asked words.now (λ r. IsStarved r
         (S.left source.old) (S.left source.new)
         (K.taken sink.old) (K.taken sink.new)
-        result.ledger.history }
+        result.ledger.history) }
 
-    // The headline; in the history each command ends before the next begins.
+    // The headline.
     ensures done { result.status ≡ Status.Done
-        → IsDone
+        → Asked words.now (λ r. IsDone r
         (S.left source.old) (S.left source.new)
         (K.taken sink.old) (K.taken sink.new)
-        result.ledger.history }
+        result.ledger.history) }
+
+    // Where the word is `step`, each command ends before the next begins, whatever the answer.
+    ensures serial { AskFor words.now Request.Step
+        → (result.ledger.history ≡ [])
+        ⊎ IsSerialRun Request.Step (S.left source.old) (S.left source.new) result.ledger.history }
 
     // A good script on which no fault rises is run to its end, unless memory runs out.
-    ensures complete { IsStep words.now
+    ensures complete { AskFor words.now Request.Step
         → IsGood (S.left source.old)
         → ¬ Rose (S.faults source.old) (S.faults source.new)
         → ¬ Rose (K.faults sink.old) (K.faults sink.new)
         → (result.status ≡ Status.Done) ⊎ (result.status ≡ Status.NoMemory) }
 {
-    if asks_step(words) {
-        step(alloc, source, sink)
-    } else {
-        without_history(alloc, Status::BadWords)
+    match Request::of_words(words) {
+        Some(Request::Step) => step(alloc, source, sink),
+        None => without_history(alloc, Status::BadWords),
     }
 }

@@ -3,10 +3,10 @@ use Rattle.std.proofs.lemmas.Bool.{eqb-true}
 use Rattle.std.proofs.lemmas.List.{nil_from_length}
 use Rattle.std.proofs.lemmas.List.Elements.{All-take, All-drop}
 use Rattle.volap_io.specs.Causes.{Rose}
-use Rattle.answer_text.specs.Phases.{all_of}
+use Rattle.script_run.specs.Phases.{all_of}
 use Rattle.script_form.specs.declared.script.Command.{Command}
 use Rattle.script_form.specs.Scripts.{Fits}
-use Rattle.olap_top.proofs.PhaseSteps.{IsAtPhase, IsNext, next-is, at-start, at-done, at-halt, at-fault, at-next}
+use Rattle.olap_top.proofs.PhaseSteps.{IsAtPhase, IsNext, next-is, at-start, at-done, at-halt, at-fault, at-next, in_order-at, in_order-halt, in_order-fault}
 use Rattle.olap_top.proofs.top.run_phases.Goals as goal
 
 pub loop-rest-init : goal.loop-rest-init
@@ -60,3 +60,18 @@ loop-rest-preserved g c =
 
 pub phase-requires-clause-fits : goal.phase-requires-clause-fits
 phase-requires-clause-fits g c = rw c.split_at.ensures.front (All-take (Fits c.args.script.now) c.phase_len.result c.loop-rest.rest.now c.loop-rest.invariant.fits)
+
+pub returns-clause-serial : goal.returns-clause-serial
+returns-clause-serial g c = in_order-at c.args.script.now c.loop-rest.rest.now (g.K.Sink.taken c.args.sink.now) (g.K.Sink.taken c.loop-rest.sink) c.loop-rest.run c.loop-rest.invariant.at
+
+pub returns-in_default-clause-serial : goal.returns-in_default-clause-serial
+returns-in_default-clause-serial g c =
+    let at = c.loop-rest.invariant.at in
+    in_order-halt c.args.script.now c.loop-rest.rest.now c.split_at.result.0.now c.split_at.result.1.now (g.K.Sink.taken c.args.sink.now) (g.K.Sink.taken c.loop-rest.sink) c.loop-rest.run _
+    (next-is _ _ _ _ c.phase_len.ensures.phase c.split_at.ensures.front c.split_at.ensures.back) at (c.in_default.ensures.stopped (all_of at.ps) at.written at.run_is)
+
+pub returns-in_default-write_all-clause-serial : goal.returns-in_default-write_all-clause-serial
+returns-in_default-write_all-clause-serial g c =
+    let at = c.loop-rest.invariant.at in
+    in_order-fault c.args.script.now c.loop-rest.rest.now c.split_at.result.0.now c.split_at.result.1.now (g.K.Sink.taken c.args.sink.now) (g.K.Sink.taken c.loop-rest.sink) c.loop-rest.run c.phase.new.self
+    (next-is _ _ _ _ c.phase_len.ensures.phase c.split_at.ensures.front c.split_at.ensures.back) at (c.in-Ok.ensures.run (all_of at.ps) at.written at.run_is)

@@ -1,4 +1,4 @@
-use Rattle.std.proofs.Common.{◌≡◌, ◌∙◌, ◌∷◌, List, ℕ, length, sym, ap, subst, arith, rules, to_z, of_z, w64}
+use Rattle.std.proofs.Common.{◌≡◌, ◌∙◌, ◌∷◌, ◌++◌, [], List, ℕ, length, sym, ap, subst, arith, rules, to_z, of_z, w64}
 use Rattle.std.specs.Prelude.{Some, is_none, position}
 use Rattle.std.proofs.lemmas.Int.{to_z-of_z}
 use Rattle.dim_hierarchy.specs.Row.{leaves}
@@ -46,7 +46,7 @@ returns-clause-does c number =
     ∙ ap (λ n. Acked n path ∷ Begun c.from-session.result new.server row ∷ past) c.len-of.ensures.value
     ∙ ap (λ n. Acked (length past) path ∷ Begun n new.server row ∷ past) c.from-session.ensures in
     Does-same c.args.script.now.with c.args.script.now.hierarchy _ number past _ _ _ now
-    (acked-insert c.args.script.now.with c.args.script.now.hierarchy number past new row path c.len-of.ensures.value measured c.in-Ok.ensures.ok)
+    (acked-insert c.args.script.now.with c.args.script.now.hierarchy number past new row path c.requires.fits.0 (c.in-Ok-push.ensures.ok ∙ ap (λ l. l ++ 0 ∷ []) c.new-path.ensures) c.len-of.ensures.value measured c.in-Ok.ensures.ok)
 
 pub returns-in_default-insert-clause-shard : goal.returns-in_default-insert-clause-shard
 returns-in_default-insert-clause-shard c =

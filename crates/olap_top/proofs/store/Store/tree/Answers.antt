@@ -54,7 +54,7 @@ returns-clause-does c =
     let shard : ShardValue = c.args.self.now.shard in
     let shows : ShowsShard h shard page =
     subst (λ (s : ShardValue). IsShardOf h s → ShowsShard h s page) c.begin.ensures.shard (c.in-Ok.ensures.page h) c.requires.shard.is_shard in
-    let may = shows-shard h shard past page c.requires.shard shows in
+    let may = shows-shard with h shard past page c.requires.shard shows in
     subst (λ text. Does with h (Control (Tree c.args.shard)) c.args.number past c.push-3.new.self.history text) (sym c.in-Ok.ensures.text)
     (Does-same with h _ c.args.number past _ _ _ now
     (shown-tree with h c.args.number past c.args.shard page first (subst (λ n. Asks (Tree n) page) (sym first) may.0) may.1))
