@@ -11,7 +11,7 @@ tree_page-requires g c =
     let made = c.new-gate.ensures in
     let leaf = leaf_without_rows 9 in
     let blocks = c.put.new.self.items in
-    let is : blocks ≡ leaf_without_rows 0 ∷ leaf ∷ [] = c.put.ensures.blocks ∙ ap (λ b. set c.in_ok-make.new.self.items 1 b) c.leaf.ensures ∙ ap (λ bs. set bs 1 leaf) (c.in_ok-make.ensures.items ∙ c.new-cells.ensures.items) in
+    let is : blocks ≡ leaf_without_rows 0 ∷ leaf ∷ [] = c.put.ensures.blocks ∙ ap (λ b. set c.make.new.self.items 1 b) c.leaf.ensures ∙ ap (λ bs. set bs 1 leaf) (c.in_ok-make.ensures.items ∙ c.new-cells.ensures.items) in
     let root = made.root_is in
     let n = ap length is in
     record {
