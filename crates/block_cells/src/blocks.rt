@@ -8,6 +8,7 @@ ghost use Rattle.tree_shape.specs.Counts.{Each};
 ghost use Rattle.tree_shape.specs.Trees.{leaf_without_rows};
 ghost use Rattle.block_cells.specs.Blocks.{block_at, with_fresh};
 
+use crate::cells::BlockCells;
 use arrayvec::ArrayVec;
 use dc_node::{Blanks, Block};
 use dim_hierarchy::{Hierarchy, Row};
@@ -106,16 +107,6 @@ impl Blocks {
         self.made.get(self.place(cell)).unwrap_or(&self.blank)
     }
 
-    /// The block in a cell; none past the last cell.
-    pub fn get(&self, cell: u32) -> Option<&Block>
-        ensures { option_copied result ≡ slice_get self.now.items cell }
-    {
-        if cell >= self.cells {
-            return None;
-        }
-        Some(self.at(cell))
-    }
-
     /// Takes the block of a cell out, and leaves an empty leaf.
     pub fn lift(&mut self, cell: u32) -> Block
         requires made { self.old.missing ≤ cell }
@@ -183,5 +174,26 @@ impl Blocks {
     {
         let at = self.place(cell);
         put_leaf(&mut self.made[at], row, blanks);
+    }
+}
+
+impl BlockCells for Blocks {
+    ghost use Rattle.block_cells.specs.Blocks.{seen};
+
+    ghost blocks = { λ b. seen b.items };
+
+    fn cells(&self) -> u32
+        ensures { result ≡ length self.now.items }
+    {
+        self.len()
+    }
+
+    fn block(&self, cell: u32) -> &Block
+        ensures { result.now ≡ block_at self.now.items cell }
+    {
+        if cell >= self.cells {
+            return &self.blank;
+        }
+        self.at(cell)
     }
 }

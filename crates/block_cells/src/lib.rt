@@ -2,7 +2,9 @@
 #![tactic(auto)]
 
 mod blocks;
+mod cells;
 #[cfg(test)]
 mod tests;
 
 pub use blocks::Blocks;
+pub use cells::BlockCells;

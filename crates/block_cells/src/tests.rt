@@ -1,4 +1,4 @@
-use crate::Blocks;
+use crate::{BlockCells, Blocks};
 use dc_node::Block;
 use std::test::Fail;
 
@@ -7,13 +7,13 @@ fn cells_are_read_whether_made_or_not(rt: HostRuntime) -> Result<(), Fail> {
     let mut blocks = Blocks::new(rt.alloc(), 4);
     assert_eq!(rt; blocks.make(2), Ok(()));
     blocks.put(3, Block::leaf(9));
-    let mut stamps = [None; 5];
+    let mut stamps = [0; 5];
     for cell in 0..5 {
-        stamps[cell as usize] = blocks.get(cell).map(|block| block.stamp);
+        stamps[cell as usize] = blocks.block(cell).stamp;
     }
-    assert_eq!(rt; stamps, [Some(0), Some(0), Some(0), Some(9), None]);
+    assert_eq!(rt; stamps, [0, 0, 0, 9, 0]);
+    assert_eq!(rt; blocks.cells(), 4);
     assert_eq!(rt; blocks.lift(3).stamp, 9);
     assert_eq!(rt; blocks.at(3).stamp, 0);
-    assert_eq!(rt; blocks.len(), 4);
     Ok(())
 }

@@ -1,7 +1,6 @@
 -- What contracts see of a shard: its rows, and beside them the cells in which they stand.
-use Rattle.std.specs.Prelude.{ℕ, ◌≡◌, ◌<◌, ◌≤◌, ◌^◌, true, false, cond, List, [], ◌++◌, length, All, Contains}
+use Rattle.std.specs.Prelude.{ℕ, ◌≡◌, ◌<◌, ◌≤◌, ◌^◌, true, false, cond, List, [], ◌++◌, length, All, Contains, get_or}
 use Rattle.std.specs.List.{flat_map}
-use Rattle.std.proofs.Common.{get_or}
 use Rattle.dim_hierarchy.specs.declared.row.Row.{Row}
 use Rattle.dim_hierarchy.specs.Dimension.{Dimension}
 use Rattle.dim_hierarchy.specs.Row.{IsRowOf}

@@ -1,6 +1,5 @@
 -- The way of a row down the tree: what the steps find in the cells and leave there.
-use Rattle.std.specs.Prelude.{ℕ, ◌≡◌, ◌≢◌, ◌+◌, ◌<◌, ◌≤◌, ◌^◌, true, false, cond, Some, slice_get, List, ◌++◌, length, Contains}
-use Rattle.std.proofs.Common.{set}
+use Rattle.std.specs.Prelude.{ℕ, ◌≡◌, ◌≢◌, ◌+◌, ◌<◌, ◌≤◌, ◌^◌, true, false, cond, Some, slice_get, List, ◌++◌, length, Contains, set}
 use Rattle.dim_hierarchy.specs.declared.row.Row.{Row}
 use Rattle.dim_hierarchy.specs.Dimension.{Dimension}
 use Rattle.cell_stock.specs.Stock.{PurseValue, AreOut, cells_of as stock_cells}

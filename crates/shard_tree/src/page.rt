@@ -2,6 +2,7 @@ ghost use Rattle.std.specs.Prelude.{◌≡◌, ◌-◌, List, length, IfOk};
 ghost use Rattle.dim_hierarchy.specs.Dimension.{Dimension};
 ghost use Rattle.row_ledger.specs.Pages.{IsPageOf};
 ghost use Rattle.shard_store.specs.Gate.{root_entry};
+ghost use Rattle.block_cells.specs.Blocks.{seen};
 ghost use Rattle.tree_page.specs.Lines.{lines};
 ghost use Rattle.shard_tree.specs.Shard.{rows_of, IsShardOf};
 
@@ -16,7 +17,7 @@ impl ShardTree {
         requires shard { (h : List Dimension) × IsShardOf h self.now }
         ensures page { IfOk result (λ p. (h : List Dimension) → IsShardOf h self.now
             → IsPageOf h (rows_of self.now.blocks) self.now.gate.queue.rows p) }
-        ensures nodes { IfOk result (λ p. p.nodes ≡ lines self.now.blocks (self.now.gate.height - 1) 0 (root_entry self.now.gate)) }
+        ensures nodes { IfOk result (λ p. p.nodes ≡ lines (seen self.now.blocks) (self.now.gate.height - 1) 0 (root_entry self.now.gate)) }
         ensures id { IfOk result (λ p. p.shard ≡ self.now.gate.shard) }
         ensures height { IfOk result (λ p. p.height ≡ self.now.gate.height) }
         ensures rows { IfOk result (λ p. p.rows ≡ self.now.gate.agg.count) }

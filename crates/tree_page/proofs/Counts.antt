@@ -1,5 +1,5 @@
 -- What a tree through which no row is on its way has beneath its entries.
-use Rattle.std.proofs.Common.{ℕ, zero, suc, ◌≡◌, ◌≢◌, ◌+◌, ◌-◌, ◌<◌, ◌≤◌, true, cond, eqb, List, [], ◌∷◌, length, map, refl, sym, ap, ◌∙◌, subst, arith}
+use Rattle.std.proofs.Common.{ℕ, zero, suc, ◌≡◌, ◌≢◌, ◌+◌, ◌-◌, ◌<◌, ◌≤◌, true, cond, eqb, [], ◌∷◌, length, map, refl, sym, ap, ◌∙◌, subst, arith}
 use Rattle.std.specs.List.{flat_map}
 use Rattle.dim_hierarchy.specs.declared.row.Row.{Row}
 use Rattle.dc_node.specs.Block.{rows_in, entries_in}
@@ -17,7 +17,7 @@ use Rattle.tree_shape.proofs.Parts.{total-map}
 use Rattle.tree_shape.proofs.Queries.{reach-low}
 use Rattle.tree_shape.proofs.Walks.{on_bool, same_is}
 use Rattle.tree_page.specs.Still.{cells_with, IsStill}
-use Rattle.block_cells.specs.Blocks.{block_at}
+use Rattle.block_cells.specs.Cells.{CellBlocks}
 use Rattle.tree_page.specs.Lines.{group, beneath}
 use Rattle.tree_page.proofs.Numbers.{length-few, each-times, times-flat, each-flat, total-flat, total-same}
 use Rattle.tree_page.proofs.Bodies.{each-mapped, total-none}
@@ -27,7 +27,7 @@ use Rattle.tree_page.proofs.Listing.{leaf_rows, rows_at}
 same-le : (a b : ℕ) → same a b ≤ 1
 same-le a b = on_bool (eqb a b) (λ q. rw q (omega arith)) (λ q. rw q (omega arith))
 
-module _ (table : Table) (home : ℕ) (gate : Gate) (blocks : List Block) (g : Shape) (still : IsStill table home gate blocks g) where
+module _ (table : Table) (home : ℕ) (gate : Gate) (blocks : CellBlocks) (g : Shape) (still : IsStill table home gate blocks g) where
   abbrev cells : TreeCells
   cells = cells_with home gate blocks
 
@@ -46,14 +46,14 @@ module _ (table : Table) (home : ℕ) (gate : Gate) (blocks : List Block) (g : S
   seen : (l y : ℕ) → l < gate.height → IsOn l y → IsSeen blocks look y
   seen l y lt on = record { is = node-block cells y (not-home l y lt on); within = still.known y on.0 }
 
-  pub block-ok : (l y : ℕ) → l < gate.height → IsOn l y → BlockOk table g y (block_at blocks y)
+  pub block-ok : (l y : ℕ) → l < gate.height → IsOn l y → BlockOk table g y (blocks.block y)
   block-ok l y lt on = still.tree.blocks y on.0 (not-home l y lt on)
 
   pub on-level : (l : ℕ) (e : Entry) → IsEntry l e → Each (IsOn l) (g.group e.child)
   on-level l e ok = each-times (IsOn l) (g.group e.child) ok.group.cells
 
-  group-few : (l : ℕ) (e : Entry) → IsEntry l e → length (g.group e.child) ≤ length blocks
-  group-few l e ok = length-few (g.group e.child) (length blocks) (λ y k.
+  group-few : (l : ℕ) (e : Entry) → IsEntry l e → length (g.group e.child) ≤ blocks.count
+  group-few l e ok = length-few (g.group e.child) (blocks.count) (λ y k.
       let on = ok.group.cells y k in
       let m = ok.members y on.0 on.1 in
       let s = same-le (g.head y) e.child in
@@ -63,25 +63,25 @@ module _ (table : Table) (home : ℕ) (gate : Gate) (blocks : List Block) (g : S
   group-some l e ok = let a = ap length ok.group.walks.1 in omega arith
 
   -- the blocks that the calls go over are those of the tree's group
-  pub group-is : (l : ℕ) (e : Entry) → l < gate.height → IsEntry l e → group blocks e ≡ map (block_at blocks) (g.group e.child)
+  pub group-is : (l : ℕ) (e : Entry) → l < gate.height → IsEntry l e → group blocks e ≡ map (blocks.block) (g.group e.child)
   group-is l e lt ok =
       let w = ok.group.walks in
       let s : Each (IsSeen blocks look) (e.child ∷ w.0) = subst (Each (IsSeen blocks look)) w.1 (each-map (IsOn l) (IsSeen blocks look) (g.group e.child) (λ y. seen l y lt) (on-level l e ok)) in
       let a = ap length w.1 in
       let f = group-few l e ok in
-      walk-cells blocks look e.stamp (length blocks) e.child w.0 s w.2 (omega arith) ∙ ap (map (block_at blocks)) (sym w.1)
+      walk-cells blocks look e.stamp (blocks.count) e.child w.0 s w.2 (omega arith) ∙ ap (map (blocks.block)) (sym w.1)
 
   -- rows of leaves
 
   pub leaf-times : (e : Entry) → 0 < gate.height → IsEntry 0 e → (r : ℕ) → times r (numbers (leaf_rows blocks e)) ≡ times r (g.below e.child)
   leaf-times e lt ok r =
       let ws = g.group e.child in
-      let in_cell : ℕ → ℕ = λ y. times r (numbers (rows_in (block_at blocks y).body)) in
+      let in_cell : ℕ → ℕ = λ y. times r (numbers (rows_in (blocks.block y).body)) in
       let lie : (y : ℕ) → IsOn 0 y → in_cell y ≡ lies g y r = λ y on. ap (λ (n : Node). times r n.rows) (sym (seen 0 y lt on).is) ∙ still.tree.tree.leaves y on.0 on.1 r in
       let all : times r (numbers (leaf_rows blocks e)) ≡ total in_cell ws =
       ap (λ bs. times r (numbers (flat_map (λ (b : Block). rows_in b.body) bs))) (group-is 0 e lt ok)
-      ∙ times-flat (λ (b : Block). rows_in b.body) r (map (block_at blocks) ws)
-      ∙ total-map (λ (b : Block). times r (numbers (rows_in b.body))) (block_at blocks) ws in
+      ∙ times-flat (λ (b : Block). rows_in b.body) r (map (blocks.block) ws)
+      ∙ total-map (λ (b : Block). times r (numbers (rows_in b.body))) (blocks.block) ws in
       on_bool (g.placed r)
       (λ p.
       let c = still.settled r p in
@@ -114,21 +114,21 @@ module _ (table : Table) (home : ℕ) (gate : Gate) (blocks : List Block) (g : S
 
   pub entries-ok : (l k : ℕ) (e : Entry) → k ≡ l + 1 → k < gate.height → IsEntry k e → Each (IsEntry l) (beneath blocks e)
   entries-ok l k e up lt ok = subst (λ bs. Each (IsEntry l) (flat_map (λ (b : Block). entries_in b.body) bs)) (sym (group-is k e lt ok))
-      (each-flat (IsEntry l) (λ (b : Block). entries_in b.body) (map (block_at blocks) (g.group e.child))
-      (each-mapped (IsOn k) (λ (b : Block). Each (IsEntry l) (entries_in b.body)) (block_at blocks) (g.group e.child)
+      (each-flat (IsEntry l) (λ (b : Block). entries_in b.body) (map (blocks.block) (g.group e.child))
+      (each-mapped (IsOn k) (λ (b : Block). Each (IsEntry l) (entries_in b.body)) (blocks.block) (g.group e.child)
       (λ y on. subst (λ (n : Node). Each (IsEntry l) n.entries) (seen k y lt on).is (still.tree.tree.dirs y l on.0 (on.1 ∙ up)).entries) (on-level k e ok)))
 
   pub dir-times : (l k : ℕ) (e : Entry) → k ≡ l + 1 → k < gate.height → IsEntry k e → (r : ℕ) → total (λ x. times r (g.below x.child)) (beneath blocks e) ≡ times r (g.below e.child)
   dir-times l k e up lt ok r =
       let ws = g.group e.child in
       let w : Entry → ℕ = λ x. times r (g.below x.child) in
-      let in_cell : ℕ → ℕ = λ y. total w (entries_in (block_at blocks y).body) in
+      let in_cell : ℕ → ℕ = λ y. total w (entries_in (blocks.block y).body) in
       let sum : (y : ℕ) → IsOn k y → in_cell y ≡ cond (g.placed r) (same (g.above (g.at r) k) y) 0
       = λ y on. ap (λ (n : Node). total w n.entries) (sym (seen k y lt on).is) ∙ dir-sum y l r on.0 (on.1 ∙ up) ∙ ap (λ m. cond (g.placed r) (same (g.above (g.at r) m) y) 0) (sym up) in
       let all : total w (beneath blocks e) ≡ total in_cell ws =
       ap (λ bs. total w (flat_map (λ (b : Block). entries_in b.body) bs)) (group-is k e lt ok)
-      ∙ total-flat w (λ (b : Block). entries_in b.body) (map (block_at blocks) ws)
-      ∙ total-map (λ (b : Block). total w (entries_in b.body)) (block_at blocks) ws in
+      ∙ total-flat w (λ (b : Block). entries_in b.body) (map (blocks.block) ws)
+      ∙ total-map (λ (b : Block). total w (entries_in b.body)) (blocks.block) ws in
       on_bool (g.placed r)
       (λ p.
       let c = still.settled r p in
@@ -182,7 +182,7 @@ module _ (table : Table) (home : ℕ) (gate : Gate) (blocks : List Block) (g : S
 
   pub named-ok : (l : ℕ) (e : Entry) → l < gate.height → IsEntry l e → Each (λ r. table.row r.no ≡ r) (rows_at blocks l e)
   named-ok zero e lt ok = subst (λ bs. Each (λ r. table.row r.no ≡ r) (flat_map (λ (b : Block). rows_in b.body) bs)) (sym (group-is 0 e lt ok))
-      (each-flat (λ (r : Row). table.row r.no ≡ r) (λ (b : Block). rows_in b.body) (map (block_at blocks) (g.group e.child))
-      (each-mapped (IsOn 0) (λ (b : Block). Each (λ r. table.row r.no ≡ r) (rows_in b.body)) (block_at blocks) (g.group e.child) (λ y on. (block-ok 0 y lt on).rows) (on-level 0 e ok)))
+      (each-flat (λ (r : Row). table.row r.no ≡ r) (λ (b : Block). rows_in b.body) (map (blocks.block) (g.group e.child))
+      (each-mapped (IsOn 0) (λ (b : Block). Each (λ r. table.row r.no ≡ r) (rows_in b.body)) (blocks.block) (g.group e.child) (λ y on. (block-ok 0 y lt on).rows) (on-level 0 e ok)))
   named-ok (suc l) e lt ok = each-flat (λ (r : Row). table.row r.no ≡ r) (λ x. rows_at blocks l x) (beneath blocks e)
       (each-map (IsEntry l) (λ x. Each (λ r. table.row r.no ≡ r) (rows_at blocks l x)) (beneath blocks e) (λ x o. named-ok l x (omega arith) o) (entries-ok l (suc l) e (omega arith) lt ok))

@@ -1,5 +1,5 @@
 -- A gate over an empty leaf has a page.
-use Rattle.std.proofs.Common.{ℕ, ◌≡◌, ◌<◌, true, false, eqb, List, [], length, sym, ◌∙◌, arith}
+use Rattle.std.proofs.Common.{ℕ, ◌≡◌, ◌<◌, true, false, eqb, List, [], sym, ◌∙◌, arith}
 use Rattle.dim_hierarchy.specs.Dimension.{Dimension}
 use Rattle.std.specs.Prelude.{pos}
 use Rattle.dc_node.specs.declared.block.Block.{Block}
@@ -8,14 +8,15 @@ use Rattle.tree_shape.specs.Shape.{Table}
 use Rattle.tree_shape.specs.Laws.{OpeningLaw}
 use Rattle.tree_shape.specs.Steps.{Opens, AfterOpening}
 use Rattle.tree_shape.proofs.Walks.{on_bool, eqb-eq, eqb-ne}
+use Rattle.block_cells.specs.Cells.{CellBlocks}
 use Rattle.tree_page.specs.Still.{cells_with, CanShow}
 
 -- any rows will do
 abbrev pub no_table : List Dimension → Table
 no_table h = record { hierarchy = h; row = λ _. record { no = 0; at = record { at = [] }; measure = pos 0 } }
 
-pub opened-can_show : (h : List Dimension) (home : ℕ) (gate : Gate) (blocks : List Block) (leaf : Block) → OpeningLaw leaf → Opens (no_table h) (cells_with home gate blocks) leaf
-    → home < length blocks → gate.root < length blocks → CanShow gate blocks
+pub opened-can_show : (h : List Dimension) (home : ℕ) (gate : Gate) (blocks : CellBlocks) (leaf : Block) → OpeningLaw leaf → Opens (no_table h) (cells_with home gate blocks) leaf
+    → home < blocks.count → gate.root < blocks.count → CanShow gate blocks
 opened-can_show h home gate blocks leaf law opens home_in root_in =
     let after : AfterOpening (no_table h) (cells_with home gate blocks) = law (no_table h) (cells_with home gate blocks) opens in
     record {

@@ -18,7 +18,7 @@ use Rattle.tree_shape.specs.Laws.{OrderLaw, GateLaw}
 use Rattle.tree_shape.proofs.Sums.{rows-named}
 use Rattle.tree_shape.proofs.Walks.{eqb-no}
 use Rattle.tree_page.specs.Still.{cells_with, IsStill}
-use Rattle.block_cells.specs.Blocks.{block_at}
+use Rattle.block_cells.specs.Cells.{CellBlocks}
 use Rattle.tree_page.specs.Lines.{group, beneath, line, lines}
 use Rattle.tree_page.proofs.Numbers.{perm-rows, length-flat, total-same}
 use Rattle.tree_page.proofs.Bodies.{leaf-size, leaf-limit, directory-size, directory-limit, each-mapped, total-few, total-some}
@@ -36,7 +36,7 @@ record IsDirectoryBlock (b : Block) : Type 0 where
   some : 1 ≤ size b.body
   few : size b.body ≤ 16
 
-module _ (table : Table) (home : ℕ) (gate : Gate) (blocks : List Block) (g : Shape) (still : IsStill table home gate blocks g) (order : OrderLaw) where
+module _ (table : Table) (home : ℕ) (gate : Gate) (blocks : CellBlocks) (g : Shape) (still : IsStill table home gate blocks g) (order : OrderLaw) where
   abbrev Entry_ok : ℕ → Entry → Type 0
   Entry_ok l e = IsEntry table home gate blocks g still l e
 
@@ -44,31 +44,31 @@ module _ (table : Table) (home : ℕ) (gate : Gate) (blocks : List Block) (g : S
 
   leaf-blocks : (e : Entry) → 0 < gate.height → Entry_ok 0 e → Each IsLeafBlock (group blocks e)
   leaf-blocks e lt ok = subst (Each IsLeafBlock) (sym (group-is table home gate blocks g still 0 e lt ok))
-      (each-mapped (IsOn table home gate blocks g still 0) IsLeafBlock (block_at blocks) (g.group e.child)
+      (each-mapped (IsOn table home gate blocks g still 0) IsLeafBlock (blocks.block) (g.group e.child)
       (λ y on.
       let b = block-ok table home gate blocks g still 0 y lt on in
-      let kind : is_leaf (block_at blocks y).body ≡ true = b.kind ∙ ap (λ l. eqb l 0) on.1 in
+      let kind : is_leaf (blocks.block y).body ≡ true = b.kind ∙ ap (λ l. eqb l 0) on.1 in
       let few = b.few in
-      let room = leaf-limit (block_at blocks y).body kind in
-      record { items = leaf-size (block_at blocks y).body kind; few = omega arith })
+      let room = leaf-limit (blocks.block y).body kind in
+      record { items = leaf-size (blocks.block y).body kind; few = omega arith })
       (on-level table home gate blocks g still 0 e ok))
 
   directory-blocks : (l : ℕ) (e : Entry) → suc l < gate.height → Entry_ok (suc l) e → Each IsDirectoryBlock (group blocks e)
   directory-blocks l e lt ok = subst (Each IsDirectoryBlock) (sym (group-is table home gate blocks g still (suc l) e lt ok))
-      (each-mapped (IsOn table home gate blocks g still (suc l)) IsDirectoryBlock (block_at blocks) (g.group e.child)
+      (each-mapped (IsOn table home gate blocks g still (suc l)) IsDirectoryBlock (blocks.block) (g.group e.child)
       (λ y on.
       let b = block-ok table home gate blocks g still (suc l) y lt on in
-      let kind : is_leaf (block_at blocks y).body ≡ false = b.kind ∙ ap (λ k. eqb k 0) on.1 ∙ eqb-no (suc l) 0 (λ q. absurd (omega arith)) in
+      let kind : is_leaf (blocks.block y).body ≡ false = b.kind ∙ ap (λ k. eqb k 0) on.1 ∙ eqb-no (suc l) 0 (λ q. absurd (omega arith)) in
       let few = b.few in
-      let room = directory-limit (block_at blocks y).body kind in
+      let room = directory-limit (blocks.block y).body kind in
       let high = on.1 in
-      record { items = directory-size (block_at blocks y).body kind; some = b.some (omega arith); few = omega arith })
+      record { items = directory-size (blocks.block y).body kind; some = b.some (omega arith); few = omega arith })
       (on-level table home gate blocks g still (suc l) e ok))
 
   blocks-some : (l : ℕ) (e : Entry) → l < gate.height → Entry_ok l e → 1 ≤ length (group blocks e)
   blocks-some l e lt ok =
       let a = ap length (group-is table home gate blocks g still l e lt ok) in
-      let b = length-map (g.group e.child) (block_at blocks) in
+      let b = length-map (g.group e.child) (blocks.block) in
       let s = group-some table home gate blocks g still l e ok in
       omega arith
 

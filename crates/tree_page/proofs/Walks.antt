@@ -6,29 +6,30 @@ use Rattle.dc_node.specs.Block.{entries_in}
 use Rattle.dc_node.specs.declared.block.Block.{Block}
 use Rattle.dc_node.specs.declared.entry.Entry.{Entry}
 use Rattle.row_ledger.specs.declared.page.NodeLine.{NodeLine}
+use Rattle.block_cells.specs.Cells.{CellBlocks}
 use Rattle.tree_page.specs.Lines.{after, walk, line, lines, group, beneath}
 
-pub walk-none : (blocks : List Block) (stamp n : ℕ) → walk blocks stamp n None ≡ []
+pub walk-none : (blocks : CellBlocks) (stamp n : ℕ) → walk blocks stamp n None ≡ []
 walk-none blocks stamp zero = refl
 walk-none blocks stamp (suc n) = refl
 
-pub walk-done : (blocks : List Block) (stamp n : ℕ) (next : Option Block) → n ≡ 0 → walk blocks stamp n next ≡ []
+pub walk-done : (blocks : CellBlocks) (stamp n : ℕ) (next : Option Block) → n ≡ 0 → walk blocks stamp n next ≡ []
 walk-done blocks stamp zero next h = refl
 walk-done blocks stamp (suc n) next h = absurd (omega arith)
 
 -- one block, and those behind it
-pub walk-on : (blocks : List Block) (stamp n m : ℕ) (block : Block) (next following : Option Block) → n ≡ m + 1 → next ≡ Some block → following ≡ after blocks stamp block
+pub walk-on : (blocks : CellBlocks) (stamp n m : ℕ) (block : Block) (next following : Option Block) → n ≡ m + 1 → next ≡ Some block → following ≡ after blocks stamp block
     → walk blocks stamp n next ≡ block ∷ walk blocks stamp m following
 walk-on blocks stamp zero m block next following h is behind = absurd (omega arith)
 walk-on blocks stamp (suc n) m block next following h is behind =
     let e : n ≡ m = omega arith in
     ap (walk blocks stamp (suc n)) is ∙ ap (λ k. block ∷ walk blocks stamp k (after blocks stamp block)) e ∙ ap (λ o. block ∷ walk blocks stamp m o) (sym behind)
 
-pub lines-low : (blocks : List Block) (level depth : ℕ) (e : Entry) → level ≡ 0 → lines blocks level depth e ≡ line true depth (group blocks e) e ∷ []
+pub lines-low : (blocks : CellBlocks) (level depth : ℕ) (e : Entry) → level ≡ 0 → lines blocks level depth e ≡ line true depth (group blocks e) e ∷ []
 lines-low blocks zero depth e h = refl
 lines-low blocks (suc l) depth e h = absurd (omega arith)
 
-pub lines-high : (blocks : List Block) (level l depth : ℕ) (e : Entry) → level ≡ l + 1 → lines blocks level depth e ≡ line false depth (group blocks e) e ∷ flat_map (λ x. lines blocks l (depth + 1) x) (beneath blocks e)
+pub lines-high : (blocks : CellBlocks) (level l depth : ℕ) (e : Entry) → level ≡ l + 1 → lines blocks level depth e ≡ line false depth (group blocks e) e ∷ flat_map (λ x. lines blocks l (depth + 1) x) (beneath blocks e)
 lines-high blocks zero l depth e h = absurd (omega arith)
 lines-high blocks (suc level) l depth e h = let i : level ≡ l = omega arith in ap (λ k. line false depth (group blocks e) e ∷ flat_map (λ x. lines blocks k (depth + 1) x) (beneath blocks e)) i
 

@@ -1,33 +1,34 @@
 -- The lines that the calls add to a page, whatever the blocks may hold: a group ends at the stamp that the entry expects,
--- where no link leads on, or where there is no cell any more.
-use Rattle.std.specs.Prelude.{ℕ, zero, suc, ◌+◌, Bool, true, false, cond, eqb, Option, Some, None, slice_get, List, [], ◌∷◌, length}
+-- or where no link leads on; it has no more blocks than there are cells.
+use Rattle.std.specs.Prelude.{ℕ, zero, suc, ◌+◌, Bool, true, false, cond, eqb, Option, Some, None, List, [], ◌∷◌, length}
 use Rattle.std.specs.List.{flat_map}
 use Rattle.dc_node.specs.Block.{entries_in, size}
 use Rattle.dc_node.specs.declared.block.Block.{Block}
 use Rattle.dc_node.specs.declared.entry.Entry.{Entry}
 use Rattle.row_ledger.specs.declared.page.NodeLine.{NodeLine}
 use Rattle.tree_shape.specs.Counts.{total}
+use Rattle.block_cells.specs.Cells.{CellBlocks}
 
-abbrev pub linked : List Block → Option ℕ → Option Block
+abbrev pub linked : CellBlocks → Option ℕ → Option Block
 linked blocks None = None
-linked blocks (Some cell) = slice_get blocks cell
+linked blocks (Some cell) = Some (blocks.block cell)
 
 -- the block that follows in a group
-abbrev pub after : List Block → ℕ → Block → Option Block
+abbrev pub after : CellBlocks → ℕ → Block → Option Block
 after blocks stamp block = cond (eqb block.stamp stamp) None (linked blocks block.right)
 
 -- the blocks from one on, so many at most
-abbrev pub walk : List Block → ℕ → ℕ → Option Block → List Block
+abbrev pub walk : CellBlocks → ℕ → ℕ → Option Block → List Block
 walk blocks stamp zero next = []
 walk blocks stamp (suc n) None = []
 walk blocks stamp (suc n) (Some block) = block ∷ walk blocks stamp n (after blocks stamp block)
 
 -- the blocks of an entry's group, and their entries
 
-abbrev pub group : List Block → Entry → List Block
-group blocks entry = walk blocks entry.stamp (length blocks) (slice_get blocks entry.child)
+abbrev pub group : CellBlocks → Entry → List Block
+group blocks entry = walk blocks entry.stamp blocks.count (Some (blocks.block entry.child))
 
-abbrev pub beneath : List Block → Entry → List Entry
+abbrev pub beneath : CellBlocks → Entry → List Entry
 beneath blocks entry = flat_map (λ b. entries_in b.body) (group blocks entry)
 
 -- the line of a group
@@ -42,6 +43,6 @@ line leaf depth blocks entry = record {
 }
 
 -- the line of a group on a level, and of those beneath it
-abbrev pub lines : List Block → ℕ → ℕ → Entry → List NodeLine
+abbrev pub lines : CellBlocks → ℕ → ℕ → Entry → List NodeLine
 lines blocks zero depth entry = line true depth (group blocks entry) entry ∷ []
 lines blocks (suc level) depth entry = line false depth (group blocks entry) entry ∷ flat_map (λ e. lines blocks level (depth + 1) e) (beneath blocks entry)

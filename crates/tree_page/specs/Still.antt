@@ -1,22 +1,21 @@
 -- What a tree is that a page can show: no row is on its way through it.
-use Rattle.std.specs.Prelude.{ℕ, ◌≡◌, ◌<◌, true, false, List, length}
-use Rattle.dc_node.specs.declared.block.Block.{Block}
+use Rattle.std.specs.Prelude.{ℕ, ◌≡◌, ◌<◌, true, false}
 use Rattle.shard_store.specs.declared.gate.Gate.{Gate}
 use Rattle.tree_shape.specs.Shape.{Table, TreeCells, Shape}
 use Rattle.tree_shape.specs.Trees.{IsTree}
-use Rattle.block_cells.specs.Blocks.{block_at}
+use Rattle.block_cells.specs.Cells.{CellBlocks}
 
-abbrev pub cells_with : ℕ → Gate → List Block → TreeCells
-cells_with home gate blocks = record { gate_cell = home; gate = gate; block = block_at blocks }
+abbrev pub cells_with : ℕ → Gate → CellBlocks → TreeCells
+cells_with home gate blocks = record { gate_cell = home; gate = gate; block = blocks.block }
 
 -- The blocks hold the tree of a gate, through which no row is on its way.
-pub record IsStill (table : Table) (home : ℕ) (gate : Gate) (blocks : List Block) (g : Shape) : Type 0 where
+pub record IsStill (table : Table) (home : ℕ) (gate : Gate) (blocks : CellBlocks) (g : Shape) : Type 0 where
   pub tree : IsTree table (cells_with home gate blocks) g
   pub settled : (r : ℕ) → g.placed r ≡ true → g.carried r ≡ false
-  pub known : (y : ℕ) → g.inside y ≡ true → y < length blocks
+  pub known : (y : ℕ) → g.inside y ≡ true → y < blocks.count
 
 -- they do for some table and shape
-pub record CanShow (gate : Gate) (blocks : List Block) : Type 0 where
+pub record CanShow (gate : Gate) (blocks : CellBlocks) : Type 0 where
   pub table : Table
   pub home : ℕ
   pub shape : Shape

@@ -1,20 +1,20 @@
-ghost use Rattle.std.specs.Prelude.{◌≡◌, ◌<◌, ◌^◌, length, slice_get};
+ghost use Rattle.std.specs.Prelude.{◌≡◌, ◌<◌, ◌^◌, length};
 ghost use Rattle.std.specs.Option.{option_copied};
 ghost use Rattle.dc_node.specs.Block.{size};
 ghost use Rattle.tree_shape.specs.Counts.{total};
 ghost use Rattle.tree_page.specs.Lines.{after, group};
 
-use block_cells::Blocks;
+use block_cells::BlockCells;
 use dc_node::{Block, Body, Entry};
 
 /// The block that follows in a group; none behind the one with the stamp that ends the group.
-pub fn after<'a>(blocks: &'a Blocks, block: &Block, stamp: u64) -> Option<&'a Block>
-    ensures { option_copied result ≡ after blocks.now.items stamp block.now }
+pub fn after<'a, C: BlockCells>(cells: &'a C, block: &Block, stamp: u64) -> Option<&'a Block>
+    ensures { option_copied result ≡ after (C.blocks cells.now) stamp block.now }
 {
     if block.stamp == stamp {
         return None;
     }
-    blocks.get(block.right?)
+    Some(cells.block(block.right?))
 }
 
 /// How many items a block has.
@@ -29,20 +29,20 @@ fn items_of(block: &Block) -> u64
 }
 
 /// How many blocks the group of an entry has, and how many items these have together.
-pub fn extent(blocks: &Blocks, entry: &Entry) -> (u64, u64)
-    ensures blocks { result.0 ≡ length (group blocks.now.items entry.now) }
-    ensures items { result.1 ≡ total (λ b. size b.body) (group blocks.now.items entry.now) }
+pub fn extent<C: BlockCells>(cells: &C, entry: &Entry) -> (u64, u64)
+    ensures blocks { result.0 ≡ length (group (C.blocks cells.now) entry.now) }
+    ensures items { result.1 ≡ total (λ b. size b.body) (group (C.blocks cells.now) entry.now) }
 {
     let mut count = 0;
     let mut items = 0;
-    let mut next = blocks.get(entry.child);
-    for _ in 0..blocks.len() {
+    let mut next = Some(cells.block(entry.child));
+    for _ in 0..cells.cells() {
         let Some(block) = next else {
             return (count, items);
         };
         count += 1;
         items += items_of(block);
-        next = after(blocks, block, entry.stamp);
+        next = after(cells, block, entry.stamp);
     }
     (count, items)
 }

@@ -9,7 +9,7 @@ ghost use Rattle.tree_page.specs.Still.{IsStill, CanShow};
 ghost use Rattle.tree_page.specs.Lines.{lines, beneath};
 
 use crate::group::{after, extent};
-use block_cells::Blocks;
+use block_cells::BlockCells;
 use dc_node::{Block, Entry};
 use row_ledger::{NodeLine, NodeList, TreePage};
 use shard_store::Gate;
@@ -18,14 +18,18 @@ use tree_shape::tree_laws;
 
 /// What the tree of a gate looks like, through which no row is on its way. Takes memory for the
 /// lines. Goes over each block of the tree twice.
-pub fn tree_page(alloc: Global, gate: &Gate, blocks: &Blocks) -> Result<TreePage, AllocError>
-    requires tree { CanShow gate.now blocks.now.items }
-    ensures page { IfOk result (λ p. (table : Table) (home : ℕ) (g : Shape) → IsStill table home gate.now blocks.now.items g
+pub fn tree_page<C: BlockCells>(
+    alloc: Global,
+    gate: &Gate,
+    cells: &C,
+) -> Result<TreePage, AllocError>
+    requires tree { CanShow gate.now (C.blocks cells.now) }
+    ensures page { IfOk result (λ p. (table : Table) (home : ℕ) (g : Shape) → IsStill table home gate.now (C.blocks cells.now) g
         → (ns : List ℕ) → ((r : ℕ) → times r ns ≡ cond (g.placed r) 1 0)
         → IsPageOf table.hierarchy (map table.row ns) gate.now.queue.rows p) }
     ensures shard { IfOk result (λ p. p.shard ≡ gate.now.shard) }
     ensures height { IfOk result (λ p. p.height ≡ gate.now.height) }
-    ensures nodes { IfOk result (λ p. p.nodes ≡ lines blocks.now.items (gate.now.height - 1) 0 (root_entry gate.now)) }
+    ensures nodes { IfOk result (λ p. p.nodes ≡ lines (C.blocks cells.now) (gate.now.height - 1) 0 (root_entry gate.now)) }
     ensures rows { IfOk result (λ p. p.rows ≡ gate.now.agg.count) }
     ensures queued { IfOk result (λ p. p.queued ≡ length gate.now.queue.rows) }
 {
@@ -37,7 +41,7 @@ pub fn tree_page(alloc: Global, gate: &Gate, blocks: &Blocks) -> Result<TreePage
         set: gate.set.copy(),
     };
     let mut nodes = NodeList::new(alloc);
-    push_group(&mut nodes, blocks, &root, 0, gate.height - 1)?;
+    push_group(&mut nodes, cells, &root, 0, gate.height - 1)?;
     Ok(TreePage {
         shard: gate.shard,
         height: gate.height,
@@ -50,17 +54,17 @@ pub fn tree_page(alloc: Global, gate: &Gate, blocks: &Blocks) -> Result<TreePage
 /// Adds the line of an entry's group, so many groups below the root and so many levels above the
 /// leaves, and then the lines of all groups beneath it.
 #[cycle(group)]
-fn push_group(
+fn push_group<C: BlockCells>(
     nodes: &mut NodeList,
-    blocks: &Blocks,
+    cells: &C,
     entry: &Entry,
     depth: u32,
     level: u32,
 ) -> Result<(), AllocError>
     requires { depth + level < 2 ^ 32 }
-    ensures { OnOk result (nodes.new ≡ nodes.old ++ lines blocks.now.items level depth entry.now) }
+    ensures { OnOk result (nodes.new ≡ nodes.old ++ lines (C.blocks cells.now) level depth entry.now) }
 {
-    let (count, items) = extent(blocks, entry);
+    let (count, items) = extent(cells, entry);
     let line = NodeLine {
         depth,
         leaf: level == 0,
@@ -71,48 +75,48 @@ fn push_group(
     };
     nodes.push(line)?;
     if level > 0 {
-        push_beneath(nodes, blocks, entry, depth + 1, level - 1)?;
+        push_beneath(nodes, cells, entry, depth + 1, level - 1)?;
     }
     Ok(())
 }
 
 /// Adds the lines of the groups of the entries of an entry's group.
 #[cycle(group)]
-fn push_beneath(
+fn push_beneath<C: BlockCells>(
     nodes: &mut NodeList,
-    blocks: &Blocks,
+    cells: &C,
     entry: &Entry,
     depth: u32,
     level: u32,
 ) -> Result<(), AllocError>
     requires { depth + level < 2 ^ 32 }
-    ensures { OnOk result (nodes.new ≡ nodes.old ++ flat_map (λ e. lines blocks.now.items level depth e) (beneath blocks.now.items entry.now)) }
+    ensures { OnOk result (nodes.new ≡ nodes.old ++ flat_map (λ e. lines (C.blocks cells.now) level depth e) (beneath (C.blocks cells.now) entry.now)) }
 {
-    let mut next = blocks.get(entry.child);
-    for _ in 0..blocks.len() {
+    let mut next = Some(cells.block(entry.child));
+    for _ in 0..cells.cells() {
         let Some(block) = next else {
             return Ok(());
         };
-        push_entries(nodes, blocks, block, depth, level)?;
-        next = after(blocks, block, entry.stamp);
+        push_entries(nodes, cells, block, depth, level)?;
+        next = after(cells, block, entry.stamp);
     }
     Ok(())
 }
 
 /// Adds the lines of the groups of a block's entries.
 #[cycle(group)]
-fn push_entries(
+fn push_entries<C: BlockCells>(
     nodes: &mut NodeList,
-    blocks: &Blocks,
+    cells: &C,
     block: &Block,
     depth: u32,
     level: u32,
 ) -> Result<(), AllocError>
     requires { depth + level < 2 ^ 32 }
-    ensures { OnOk result (nodes.new ≡ nodes.old ++ flat_map (λ e. lines blocks.now.items level depth e) (entries_in block.now.body)) }
+    ensures { OnOk result (nodes.new ≡ nodes.old ++ flat_map (λ e. lines (C.blocks cells.now) level depth e) (entries_in block.now.body)) }
 {
     for entry in block.entries() {
-        push_group(nodes, blocks, entry, depth, level)?;
+        push_group(nodes, cells, entry, depth, level)?;
     }
     Ok(())
 }

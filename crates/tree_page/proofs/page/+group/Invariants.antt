@@ -1,4 +1,4 @@
-use Rattle.std.proofs.Common.{◌≡◌, ◌+◌, ◌-◌, ◌*◌, ◌++◌, length, drop}
+use Rattle.std.proofs.Common.{◌≡◌, ◌+◌, ◌-◌, ◌*◌, ◌++◌, drop}
 use Rattle.std.specs.List.{flat_map}
 use Rattle.std.specs.Option.{option_copied}
 use Rattle.dc_node.specs.Block.{entries_in}
@@ -6,23 +6,23 @@ use Rattle.tree_page.specs.Lines.{walk, lines, beneath}
 use Rattle.tree_page.proofs.page.+group.Given as goal
 
 abbrev pub decreases-push_beneath : goal.decreases-push_beneath
-decreases-push_beneath l = 3 * l.level + 2
+decreases-push_beneath g l = 3 * l.level + 2
 
 abbrev pub decreases-push_entries : goal.decreases-push_entries
-decreases-push_entries l = 3 * l.level + 1
+decreases-push_entries g l = 3 * l.level + 1
 
 abbrev pub decreases-push_group : goal.decreases-push_group
-decreases-push_group l = 3 * l.level
+decreases-push_group g l = 3 * l.level
 
 abbrev pub invariant-push_beneath-loop : goal.invariant-push_beneath-loop
-invariant-push_beneath-loop l = record {
-  lines : l.nodes ++ flat_map (λ e. lines l.blocks.items l.level l.depth e) (flat_map (λ b. entries_in b.body) (walk l.blocks.items l.entry.stamp (l.end - l.counter) (option_copied l.next)))
-      ≡ l.initial.nodes ++ flat_map (λ e. lines l.blocks.items l.level l.depth e) (beneath l.blocks.items l.entry);
-  end : l.end ≡ length l.blocks.items;
+invariant-push_beneath-loop g l = record {
+  lines : l.nodes ++ flat_map (λ e. lines (g.C.BlockCells.blocks l.cells) l.level l.depth e) (flat_map (λ b. entries_in b.body) (walk (g.C.BlockCells.blocks l.cells) l.entry.stamp (l.end - l.counter) (option_copied l.next)))
+      ≡ l.initial.nodes ++ flat_map (λ e. lines (g.C.BlockCells.blocks l.cells) l.level l.depth e) (beneath (g.C.BlockCells.blocks l.cells) l.entry);
+  end : l.end ≡ (g.C.BlockCells.blocks l.cells).count;
 }
 
 abbrev pub invariant-push_entries-loop-entry : goal.invariant-push_entries-loop-entry
-invariant-push_entries-loop-entry l = record {
-  lines : l.nodes ++ flat_map (λ e. lines l.blocks.items l.level l.depth e) (drop l.entry-index (entries_in l.block.body)) ≡ l.initial.nodes ++ flat_map (λ e. lines l.blocks.items l.level l.depth e) (entries_in l.block.body);
+invariant-push_entries-loop-entry g l = record {
+  lines : l.nodes ++ flat_map (λ e. lines (g.C.BlockCells.blocks l.cells) l.level l.depth e) (drop l.entry-index (entries_in l.block.body)) ≡ l.initial.nodes ++ flat_map (λ e. lines (g.C.BlockCells.blocks l.cells) l.level l.depth e) (entries_in l.block.body);
   items : l.entry-items ≡ entries_in l.block.body;
 }

@@ -2,7 +2,7 @@ use Rattle.std.proofs.Common.{◌≡◌, [], ◌∷◌, length, set, sym, ap, �
 use Rattle.describing_set.specs.DescSet.{IsSetOf}
 use Rattle.dc_node.specs.declared.block.Block.{Block}
 use Rattle.tree_shape.specs.Trees.{leaf_without_rows}
-use Rattle.block_cells.specs.Blocks.{block_at}
+use Rattle.block_cells.specs.Blocks.{block_at, seen}
 use Rattle.tree_page.proofs.Openings.{opened-can_show}
 use Rattle.tree_page.proofs.tests.shows_an_empty_leaf.Goals as goal
 
@@ -15,7 +15,7 @@ tree_page-requires g c =
     let root = made.root_is in
     let n = ap length is in
     record {
-      tree = opened-can_show c.add_dim.new.self 0 c.new-gate.result blocks leaf (c.opening_law.ensures 9)
+      tree = opened-can_show c.add_dim.new.self 0 c.new-gate.result (seen blocks) leaf (c.opening_law.ensures 9)
           (record {
             root = ap (block_at blocks) made.root_is ∙ ap (λ bs. block_at bs 1) is;
             apart = λ e. omega arith;
