@@ -6,6 +6,7 @@ ghost use Rattle.std.specs.Prelude.{ℕ};
 ghost use Rattle.tree_shape.specs.Trees.{leaf_without_rows};
 ghost use Rattle.tree_shape.specs.Example.{ExampleLaw};
 ghost use Rattle.tree_shape.specs.Laws.{OpeningLaw, OrderLaw, GateLaw, BlockLaw, ChildLaw, RootLaw, LinkLaw, OtherLaw, InLaw, DownLaw, PutLaw, BeginLaw, VisitLaw, ElsewhereLaw, EndLaw};
+ghost use Rattle.tree_shape.specs.Laws.{TreeTableLaw, QueryTableLaw, CollectBeginLaw, ReadableLaw, ReadLaw, CollectOtherLaw, CollectEndLaw};
 
 /// A leaf without rows, which is its own group, is the root of a new tree.
 pub fn opening_law()
@@ -50,4 +51,21 @@ pub fn query_laws()
     ensures visits { VisitLaw }
     ensures elsewhere { ElsewhereLaw }
     ensures ends { EndLaw }
+{}
+
+/// A tree stands over each table that has the same rows in it, so a row that begins disturbs none; and an
+/// unfinished query is right over each table that has also the rows that it has counted.
+pub fn table_laws()
+    ensures tree { TreeTableLaw }
+    ensures query { QueryTableLaw }
+{}
+
+/// An administrator reads a tree block by block, and in the end it has read each block and collected each
+/// row of the tree, once.
+pub fn collect_laws()
+    ensures begins { CollectBeginLaw }
+    ensures block { ReadableLaw }
+    ensures reads { ReadLaw }
+    ensures elsewhere { CollectOtherLaw }
+    ensures ends { CollectEndLaw }
 {}
