@@ -32,4 +32,6 @@ pub mod Totals
 pub mod Tables
 pub mod Collects
 pub mod Worked
+pub mod CityFacts
+pub mod Cities
 pub mod Comes

@@ -8,3 +8,4 @@ pub mod Tables
 pub mod Collecting
 pub mod Laws
 pub mod Example
+pub mod Cities

@@ -5,6 +5,7 @@
 ghost use Rattle.std.specs.Prelude.{ℕ};
 ghost use Rattle.tree_shape.specs.Trees.{leaf_without_rows};
 ghost use Rattle.tree_shape.specs.Example.{ExampleLaw};
+ghost use Rattle.tree_shape.specs.Cities.{CitiesLaw};
 ghost use Rattle.tree_shape.specs.Laws.{OpeningLaw, OrderLaw, GateLaw, BlockLaw, ChildLaw, RootLaw, LinkLaw, OtherLaw, InLaw, DownLaw, PutLaw, BeginLaw, VisitLaw, ElsewhereLaw, EndLaw};
 ghost use Rattle.tree_shape.specs.Laws.{TreeTableLaw, QueryTableLaw, CollectBeginLaw, ReadableLaw, ReadLaw, CollectOtherLaw, CollectEndLaw};
 
@@ -38,10 +39,17 @@ pub fn insert_laws()
     ensures put { PutLaw }
 {}
 
-/// One tree taken through the laws: 33 rows of one place come to an empty leaf, and a query that began
-/// before the last of them is answered after it.
+/// One tree taken through the laws: 33 rows come to an empty leaf, which is halved, and a query that
+/// began before the last of them is answered after it.
 pub fn worked_example()
     ensures { ExampleLaw }
+{}
+
+/// Trees with all values given. One meets what the worked example asks for. The root of the other has a
+/// good cut: the last row begins, comes in at a new root and goes down to its leaf, a query is answered,
+/// and the blocks are collected.
+pub fn worked_cities()
+    ensures { CitiesLaw }
 {}
 
 /// The steps of a query leave it right, and with nothing noted any more it has counted what it had to,
@@ -66,6 +74,6 @@ pub fn collect_laws()
     ensures begins { CollectBeginLaw }
     ensures block { ReadableLaw }
     ensures reads { ReadLaw }
-    ensures elsewhere { CollectOtherLaw }
+    ensures other { CollectOtherLaw }
     ensures ends { CollectEndLaw }
 {}
