@@ -5,9 +5,9 @@
 ghost use Rattle.std.specs.Prelude.{ℕ};
 ghost use Rattle.tree_shape.specs.Trees.{leaf_without_rows};
 ghost use Rattle.tree_shape.specs.Example.{ExampleLaw};
-ghost use Rattle.tree_shape.specs.Cities.{CitiesLaw};
 ghost use Rattle.tree_shape.specs.Laws.{OpeningLaw, OrderLaw, GateLaw, BlockLaw, ChildLaw, RootLaw, LinkLaw, OtherLaw, InLaw, DownLaw, PutLaw, BeginLaw, VisitLaw, ElsewhereLaw, EndLaw};
 ghost use Rattle.tree_shape.specs.Laws.{TreeTableLaw, QueryTableLaw, CollectBeginLaw, ReadableLaw, ReadLaw, CollectOtherLaw, CollectEndLaw};
+ghost use Rattle.tree_shape.specs.Cities.{CitiesLaw};
 
 /// A leaf without rows, which is its own group, is the root of a new tree.
 pub fn opening_law()
