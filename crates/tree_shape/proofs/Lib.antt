@@ -29,5 +29,9 @@ pub mod Beginnings
 pub mod Others
 pub mod Openings
 pub mod Totals
+pub mod Tables
+pub mod Collects
 pub mod Worked
+pub mod CityFacts
+pub mod Cities
 pub mod Comes

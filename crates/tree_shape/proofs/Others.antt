@@ -66,7 +66,7 @@ module _ (g : Shape) (look look2 : ℕ → Node) (table : Table) (same_node : (y
   }
 
 module _ (table : Table) (g : Shape) (before now : TreeCells) (tree : IsTree table before g) (d : LeavesTree g before now) where
-  same-node : (y : ℕ) → g.inside y ≡ true → nodes now y ≡ nodes before y
+  pub same-node : (y : ℕ) → g.inside y ≡ true → nodes now y ≡ nodes before y
   same-node y i = on_bool (eqb y before.gate_cell)
       (λ q. let z = eqb-eq _ _ q in
       let a : nodes now y ≡ gate_node now.gate = ap (nodes now) (z ∙ sym d.gate_cell) ∙ node-gate now in

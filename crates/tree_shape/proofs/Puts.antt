@@ -20,7 +20,7 @@ use Rattle.tree_shape.proofs.Rows.{query-settled}
 use Rattle.tree_shape.proofs.Descends.{length-plus}
 use Rattle.tree_shape.proofs.Assembled.{node-block, node-gate, block-kept}
 
-leaf-entries : (body : Body) → is_leaf body ≡ true → entries_in body ≡ []
+pub leaf-entries : (body : Body) → is_leaf body ≡ true → entries_in body ≡ []
 leaf-entries (Rows rows) h = refl
 leaf-entries (Entries entries) h = cc
 
@@ -180,6 +180,7 @@ module _ (table : Table) (g : Shape) (r : ℕ) (before now : TreeCells) (tree : 
     placed = λ q. refl;
     carried = off;
     at = λ q. refl;
+    levels = λ y. refl;
     inside = λ y. refl;
     spares = λ s h. record { cell = h.cell; unexpected = λ b l i e. rw (entries-now b) (h.unexpected b l i e) };
     queries = λ must fits items counted u. record {

@@ -63,7 +63,7 @@ elsewhere g look must fit items counted now e u = record {
   };
 }
 
-noted-left : (g : Shape) (look : ℕ → Node) (ps qs : List Noted) → AreNoted g look (ps ++ qs) → AreNoted g look ps
+pub noted-left : (g : Shape) (look : ℕ → Node) (ps qs : List Noted) → AreNoted g look (ps ++ qs) → AreNoted g look ps
 noted-left g look [] qs h = tt
 noted-left g look (p ∷ ps) qs h = (h.0, noted-left g look ps qs h.1)
 
@@ -308,7 +308,7 @@ module _ (table : Table) (cells : TreeCells) (g : Shape) (must : ℕ → Bool) (
           was y,
           pending-append g ps lo y,
           pending-append g lo ps y,
-          leaf-split g look must fit b p p-noted.walks.0 ps counted tree.tree.shape (tree.tree.leaves b b_in.0 bl) b_in.0 bl d.idle at_b z q y yi,
+          leaf-split g b p p-noted.walks.0 ps tree.tree.shape bl at_b z y yi,
         );
       }
 

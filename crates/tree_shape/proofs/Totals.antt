@@ -23,7 +23,7 @@ use Rattle.tree_shape.specs.Counts.{Each, same, times, total}
 use Rattle.tree_shape.specs.Queries.{IsUnfinished}
 use Rattle.tree_shape.specs.Shape.{Node, Shape, Table, TreeCells, node_of, nodes, numbers}
 use Rattle.tree_shape.specs.Trees.{BlockFits, BlockOk, DirOk, EntryOk, IsBelow, IsTree, lies}
-use Rattle.tree_shape.specs.Walks.{AreNoted, IsNoted, IsTail, noted_of}
+use Rattle.tree_shape.specs.Walks.{AreNoted, IsNoted, IsTail, noted_of, reach}
 use Rattle.tree_shape.proofs.Relations.{all_below}
 use Rattle.tree_shape.proofs.Walks.{on_bool, eqb-eq, eqb-ne, same_is, same_not}
 use Rattle.tree_shape.proofs.Sums.{coords-valid}
@@ -134,24 +134,30 @@ module _ (table : Table) (cells : TreeCells) (g : Shape) (tree : IsTree table ce
   root_ok : EntryOk g (nodes cells) table l root
   root_ok = (subst (Each (EntryOk g (nodes cells) table l)) es dir.entries).0
 
-  -- each row of the tree is beneath the root once
-  all-beneath : (r : ℕ) → times r (g.below cells.gate.root) ≡ cond (g.placed r) 1 0
-  all-beneath r = root_ok.rows r ∙ on_bool (g.placed r)
-      (λ p.
-      let si = tree.tree.shape.stands r p in
-      let b = tree.tree.shape.below (g.at r) si in
+  pub root-noted : IsNoted g (nodes cells) (noted_of g l root)
+  root-noted = root_ok.group
+
+  -- each block but the gate is reached from the root once
+  pub reach-root : (y : ℕ) → g.inside y ≡ true → y ≢ gate → reach g (noted_of g l root) y ≡ 1
+  reach-root y yi yg =
+      let b = tree.tree.shape.below y yi in
       let hh = tree.height in
       let hs = tree.some in
-      let ne : g.level (g.at r) ≢ cells.gate.height = (λ e. tree.entered r p (tree.only (g.at r) si e)) in
-      let le : g.level (g.at r) ≤ l = omega arith in
-      let u = tree.tree.shape.higher (g.at r) l si le (omega arith) in
-      let v = tree.tree.shape.higher (g.at r) (l + 1) si (omega arith) (omega arith) in
-      let top : g.above (g.above (g.at r) l) (l + 1) ≡ gate = tree.tree.shape.coherent (g.at r) l (l + 1) si le (omega arith) (omega arith) ∙ tree.only _ v.0 (let z = v.1 in omega arith) in
-      let s = dir.each (g.above (g.at r) l) u.0 u.1 in
+      let ne : g.level y ≢ cells.gate.height = (λ e. yg (tree.only y yi e)) in
+      let le : g.level y ≤ l = omega arith in
+      let u = tree.tree.shape.higher y l yi le (omega arith) in
+      let v = tree.tree.shape.higher y (l + 1) yi (omega arith) (omega arith) in
+      let top : g.above (g.above y l) (l + 1) ≡ gate = tree.tree.shape.coherent y l (l + 1) yi le (omega arith) (omega arith) ∙ tree.only _ v.0 (let z = v.1 in omega arith) in
+      let s = dir.each (g.above y l) u.0 u.1 in
       let s1 = same_is _ _ top in
-      let s2 : spans g (g.above (g.at r) l) (root ∷ []) ≡ spans g (g.above (g.at r) l) (nodes cells gate).entries = ap (spans g (g.above (g.at r) l)) (sym es) in
-      let e = reach-low g (noted_of g l root) (g.at r) le in
-      rw p (omega arith))
+      let s2 : spans g (g.above y l) (root ∷ []) ≡ spans g (g.above y l) (nodes cells gate).entries = ap (spans g (g.above y l)) (sym es) in
+      let e = reach-low g (noted_of g l root) y le in
+      omega arith
+
+  -- and each row of the tree is beneath it once
+  all-beneath : (r : ℕ) → times r (g.below cells.gate.root) ≡ cond (g.placed r) 1 0
+  all-beneath r = root_ok.rows r ∙ on_bool (g.placed r)
+      (λ p. rw p (reach-root (g.at r) (tree.tree.shape.stands r p) (tree.entered r p)))
       (λ p. rw p refl)
 
   pub gate-sum : (ns : List ℕ) → ((r : ℕ) → times r ns ≡ cond (g.placed r) 1 0) → IsSummaryOf table.hierarchy (map table.row ns) cells.gate.agg cells.gate.set
@@ -259,6 +265,14 @@ module _ (table : Table) (cells : TreeCells) (g : Shape) (tree : IsTree table ce
         (λ q. let ne = eqb-ne _ _ q in dir-fits (g.level b - 1) (omega arith) (cells.block b).body refl (ok.kind ∙ q)) in
         record { body = all.0; count = all.1; entries = all.2 }
 
+-- a block links on where its walk goes on
+pub goes-on : (cells : TreeCells) (item : Item) (zs : List ℕ) → nodes cells item.cell ≡ node_of (cells.block item.cell) → IsTail (nodes cells) item.stamp item.cell zs
+    → (cells.block item.cell).stamp ≢ item.stamp → IsSome (cells.block item.cell).right
+goes-on cells item [] n h ne = absurd (ne (sym (ap (λ (x : Node). x.stamp) n) ∙ h))
+goes-on cells item (z ∷ zs) n h ne =
+    let r : (cells.block item.cell).right ≡ Some z = sym (ap (λ (x : Node). x.right) n) ∙ h.1 in
+    rw r refl
+
 -- a noted block is of the tree, and links on where its walk goes on
 pub links-on : (cells : TreeCells) (g : Shape) (must fit : ℕ → Bool) (items : List Item) (item : Item) (counted : List ℕ) → item.cell ≢ cells.gate_cell
     → IsUnfinished g (nodes cells) must fit (items ++ item ∷ []) counted → (g.inside item.cell ≡ true) × ((cells.block item.cell).stamp ≢ item.stamp → IsSome (cells.block item.cell).right)
@@ -268,13 +282,7 @@ links-on cells g must fit items item counted bg u =
     let o = same_is w.last.cell w.last.cell refl in
     let i = (n.cells w.last.cell (rw n.walks.1 (omega arith))).0 in
     let tail : IsTail (nodes cells) item.stamp item.cell n.walks.0 = subst (λ c. IsTail (nodes cells) item.stamp c n.walks.0) w.cell (subst (λ s. IsTail (nodes cells) s w.last.cell n.walks.0) w.stamp n.walks.2) in
-    (subst (λ y. g.inside y ≡ true) w.cell i, go n.walks.0 (node-block cells item.cell bg) tail)
-  where
-    go : (zs : List ℕ) → nodes cells item.cell ≡ node_of (cells.block item.cell) → IsTail (nodes cells) item.stamp item.cell zs → (cells.block item.cell).stamp ≢ item.stamp → IsSome (cells.block item.cell).right
-    go [] n h ne = absurd (ne (sym (ap (λ (x : Node). x.stamp) n) ∙ h))
-    go (z ∷ zs) n h ne =
-        let r : (cells.block item.cell).right ≡ Some z = sym (ap (λ (x : Node). x.right) n) ∙ h.1 in
-        rw r refl
+    (subst (λ y. g.inside y ≡ true) w.cell i, goes-on cells item n.walks.0 (node-block cells item.cell bg) tail)
 
 -- Where entries and gates lead.
 

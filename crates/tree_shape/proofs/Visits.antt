@@ -130,20 +130,20 @@ module _ (g : Shape) (look : ℕ → Node) (table : Table) (fits : ℕ → Bool)
       (λ w. rw w ih)
       (λ w. rw w ih)
 
-left-low : (g : Shape) (s l : ℕ) (zs : List ℕ) (y : ℕ) → g.level y ≤ l → pending g (left_over s l zs) y ≡ times (g.above y l) zs
+pub left-low : (g : Shape) (s l : ℕ) (zs : List ℕ) (y : ℕ) → g.level y ≤ l → pending g (left_over s l zs) y ≡ times (g.above y l) zs
 left-low g s l [] y le = refl
 left-low g s l (z ∷ zs) y le =
     let a = reach-low g (record { cell = z; stamp = s; level = l; walk = z ∷ zs }) y le in
     omega arith
 
-left-high : (g : Shape) (s l : ℕ) (zs : List ℕ) (y : ℕ) → l < g.level y → pending g (left_over s l zs) y ≡ 0
+pub left-high : (g : Shape) (s l : ℕ) (zs : List ℕ) (y : ℕ) → l < g.level y → pending g (left_over s l zs) y ≡ 0
 left-high g s l [] y lt = refl
 left-high g s l (z ∷ zs) y lt =
     let a = reach-high g (record { cell = z; stamp = s; level = l; walk = z ∷ zs }) y lt in
     omega arith
 
 -- what is left of a walk is a noted block
-left_are : (g : Shape) (look : ℕ → Node) (p : Noted) (b : ℕ) (zs : List ℕ) → IsNoted g look p → p.walk ≡ b ∷ zs → AreNoted g look (left_over p.stamp p.level zs)
+pub left_are : (g : Shape) (look : ℕ → Node) (p : Noted) (b : ℕ) (zs : List ℕ) → IsNoted g look p → p.walk ≡ b ∷ zs → AreNoted g look (left_over p.stamp p.level zs)
 left_are g look p b [] t e = tt
 left_are g look p b (z ∷ zs) t e =
     let w = t.walks in
@@ -326,6 +326,29 @@ times-unfitting fits r (x ∷ rs) f =
     (λ c. let ne : r ≢ x = (λ e. let bad : true ≡ false = sym c ∙ ap fits (sym e) ∙ f in cc) in rw c (omega (arith, same_not r x ne)))
     (λ c. rw c ih)
 
+-- what is reached from the rest of a leaf's group, and the leaf itself, are what was reached before
+pub leaf-split : (g : Shape) (b : ℕ) (p : Noted) (zs : List ℕ) (ps : List Noted) → ShapeOk g → g.level b ≡ 0 → p.walk ≡ b ∷ zs → p.level ≡ 0
+    → (y : ℕ) → g.inside y ≡ true → pending g (p ∷ ps) y ≡ same y b + pending g (left_over p.stamp p.level zs ++ ps) y
+leaf-split g b p zs ps ok bl at_b pl y yi =
+    let a = pending-append g (left_over p.stamp p.level zs) ps y in
+    on_bool (leb (g.level y) 0)
+    (λ c. let le = leb-le _ _ c in
+    let le2 : g.level y ≤ p.level = omega arith in
+    let lev : p.level ≡ g.level y = omega arith in
+    let self : g.above y p.level ≡ y = ap (g.above y) lev ∙ ok.itself y yi in
+    let e = reach-low g p y le2 in
+    let z = left-low g p.stamp p.level zs y le2 in
+    let d : times (g.above y p.level) p.walk ≡ same (g.above y p.level) b + times (g.above y p.level) zs = rw at_b refl in
+    let s : same (g.above y p.level) b ≡ same y b = ap (λ (w : ℕ). same w b) self in
+    omega arith)
+    (λ c. let gt = leb-gt _ _ c in
+    let gt2 : p.level < g.level y = omega arith in
+    let e = reach-high g p y gt2 in
+    let z = left-high g p.stamp p.level zs y gt2 in
+    let ne : y ≢ b = (λ w. let k : g.level y ≡ 0 = ap g.level w ∙ bl in absurd (omega arith)) in
+    let s = same_not y b ne in
+    omega arith)
+
 module _ (g : Shape) (look : ℕ → Node) (must fits : ℕ → Bool) (b : ℕ) (p : Noted) (zs : List ℕ) (ps : List Noted) (counted : List ℕ)
     (ok : ShapeOk g) (leaf : (r : ℕ) → times r (look b).rows ≡ lies g b r) (bi : g.inside b ≡ true) (bl : g.level b ≡ 0)
     (free : (r : ℕ) → g.placed r ≡ true → g.carried r ≡ true → g.at r ≢ b)
@@ -334,26 +357,8 @@ module _ (g : Shape) (look : ℕ → Node) (must fits : ℕ → Bool) (b : ℕ) 
   abbrev pub after_leaf : List Noted
   after_leaf = left_over p.stamp p.level zs ++ ps
 
-  pub leaf-split : (y : ℕ) → g.inside y ≡ true → pending g (p ∷ ps) y ≡ same y b + pending g after_leaf y
-  leaf-split y yi =
-      let a = pending-append g (left_over p.stamp p.level zs) ps y in
-      on_bool (leb (g.level y) 0)
-      (λ c. let le = leb-le _ _ c in
-      let le2 : g.level y ≤ p.level = omega arith in
-      let lev : p.level ≡ g.level y = omega arith in
-      let self : g.above y p.level ≡ y = ap (g.above y) lev ∙ ok.itself y yi in
-      let e = reach-low g p y le2 in
-      let z = left-low g p.stamp p.level zs y le2 in
-      let d : times (g.above y p.level) p.walk ≡ same (g.above y p.level) b + times (g.above y p.level) zs = rw at_b refl in
-      let s : same (g.above y p.level) b ≡ same y b = ap (λ (w : ℕ). same w b) self in
-      omega arith)
-      (λ c. let gt = leb-gt _ _ c in
-      let gt2 : p.level < g.level y = omega arith in
-      let e = reach-high g p y gt2 in
-      let z = left-high g p.stamp p.level zs y gt2 in
-      let ne : y ≢ b = (λ w. let k : g.level y ≡ 0 = ap g.level w ∙ bl in absurd (omega arith)) in
-      let s = same_not y b ne in
-      omega arith)
+  split : (y : ℕ) → g.inside y ≡ true → pending g (p ∷ ps) y ≡ same y b + pending g after_leaf y
+  split y yi = leaf-split g b p zs ps ok bl at_b pl y yi
 
   -- each row that stands at b lies in it
   lies-same : (r : ℕ) → g.placed r ≡ true → times r (look b).rows ≡ same (g.at r) b
@@ -364,27 +369,27 @@ module _ (g : Shape) (look : ℕ → Node) (must fits : ℕ → Bool) (b : ℕ) 
   pub query-visit_leaf : QueryOk g look must fits after_leaf (fitting fits (look b).rows ++ counted)
   query-visit_leaf = record {
     noted = all_noted-append g look _ _ (left_are g look p b zs q.noted.0 at_b) q.noted.1;
-    blocks = λ y yi. let s = leaf-split y yi in let o = q.blocks y yi in omega arith;
+    blocks = λ y yi. let s = split y yi in let o = q.blocks y yi in omega arith;
     distinct = λ r. let s = times-append r (fitting fits (look b).rows) counted in let d = q.distinct r in
         on_bool (fits r)
         (λ f. let t = times-fitting fits r (look b).rows f in on_bool (g.placed r)
-        (λ pr. let o = q.once r pr in let w = lies-same r pr in let z = leaf-split (g.at r) (ok.stands r pr) in omega arith)
+        (λ pr. let o = q.once r pr in let w = lies-same r pr in let z = split (g.at r) (ok.stands r pr) in omega arith)
         (λ pr. let none : times r (look b).rows ≡ 0 = leaf r ∙ (rw pr refl) in omega arith))
         (λ f. let t = times-unfitting fits r (look b).rows f in omega arith);
     fitting = λ r h. on_bool (fits r) (λ f. f)
         (λ f. let s = times-append r (fitting fits (look b).rows) counted in let t = times-unfitting fits r (look b).rows f in q.fitting r (omega arith));
     once = λ r pr. let s = times-append r (fitting fits (look b).rows) counted in
-        let o = q.once r pr in let w = lies-same r pr in let z = leaf-split (g.at r) (ok.stands r pr) in
+        let o = q.once r pr in let w = lies-same r pr in let z = split (g.at r) (ok.stands r pr) in
         on_bool (fits r)
         (λ f. let t = times-fitting fits r (look b).rows f in omega arith)
         (λ f. let t = times-unfitting fits r (look b).rows f in omega arith);
     whole = λ r pr m f. let s = times-append r (fitting fits (look b).rows) counted in
-        let o = q.whole r pr m f in let w = lies-same r pr in let z = leaf-split (g.at r) (ok.stands r pr) in
+        let o = q.whole r pr m f in let w = lies-same r pr in let z = split (g.at r) (ok.stands r pr) in
         let t = times-fitting fits r (look b).rows f in omega arith;
     passed = λ r pr ca seen y yi le up.
         let none : times r (look b).rows ≡ 0 = lies-same r pr ∙ same_not (g.at r) b (free r pr ca) in
         let s = times-append r (fitting fits (look b).rows) counted in
-        let z = leaf-split y yi in
+        let z = split y yi in
         on_bool (fits r)
         (λ f. let t = times-fitting fits r (look b).rows f in let o = q.passed r pr ca (omega arith) y yi le up in omega arith)
         (λ f. let t = times-unfitting fits r (look b).rows f in let o = q.passed r pr ca (omega arith) y yi le up in omega arith);

@@ -16,14 +16,13 @@ use Rattle.cell_stock.specs.Stock.{PurseValue}
 use Rattle.cell_stock.specs.declared.purse.Spare.{Spare}
 use Rattle.shard_store.specs.Gate.{root_entry}
 use Rattle.link_descent.specs.Descend.{IsWithRow, Enters, Halves}
-use Rattle.link_descent.specs.Divide.{HasNoCut}
 use Rattle.link_descent.specs.declared.entered.Entered.{Entered}
 use Rattle.dc_node.specs.declared.block.Block.{Block}
 use Rattle.dc_node.specs.declared.entry.Entry.{Entry}
 use Rattle.dc_node.specs.declared.todo.Item.{Item}
 use Rattle.dim_hierarchy.specs.declared.row.Row.{Row}
 use Rattle.tree_shape.specs.Counts.{Each, times}
-use Rattle.tree_shape.specs.Example.{Asks, Holds, IsAnswered, IsSample, Sample, Works, cells_at, first_rows, gate_after, halved_cells, leaf_of}
+use Rattle.tree_shape.specs.Example.{Asks, Holds, IsAnswered, IsSample, IsUncut, Sample, Works, cells_at, first_rows, gate_after, halved_cells, leaf_of}
 use Rattle.tree_shape.specs.Queries.{IsUnfinished, NoneWaits, fits}
 use Rattle.tree_shape.specs.Shape.{Node, Shape, Table, TreeCells, nodes, numbers}
 use Rattle.tree_shape.specs.Steps.{AfterBegin, AfterPut, AfterStep, AfterVisit, IsIdle, IsSpare}
@@ -64,12 +63,12 @@ module _ (table : Table) (x : Sample) (d : IsSample table x) where
   on a u v = rw (eqb-yes a a refl) refl
 
   -- one row more at the gate
-  with-row : (n : ℕ) → IsWithRow table.hierarchy (table.row n) (root_entry (gate_after table x n)) (root_entry (gate_after table x (suc n)))
+  pub with-row : (n : ℕ) → IsWithRow table.hierarchy (table.row n) (root_entry (gate_after table x n)) (root_entry (gate_after table x (suc n)))
   with-row n = record {
     child = refl;
     stamp = refl;
     agg = refl;
-    grown = subst (λ (at : Coord). GrowsBy table.hierarchy at (x.set n) (x.set (suc n))) (sym (d.numbered n).1) (subst (λ m. GrowsBy table.hierarchy x.place (x.set n) (x.set m)) (add-one n) (d.grown n));
+    grown = subst (λ (at : Coord). GrowsBy table.hierarchy at (x.set n) (x.set (suc n))) (sym (d.numbered n).1) (subst (λ m. GrowsBy table.hierarchy (x.place n) (x.set n) (x.set m)) (add-one n) (d.grown n));
     valid = d.valid (suc n);
   }
 
@@ -86,9 +85,9 @@ module _ (table : Table) (x : Sample) (d : IsSample table x) where
   other-block n m y q = off y x.root (leaf_of x.stamp (first_rows table m)) (leaf_of x.stamp []) q
 
   -- and what else holds on the way
-  record Filled (n : ℕ) : Type 0 where
-    holds : Holds table (cells_at table x n n) n
-    only : (y : ℕ) → y ≢ x.gate_cell → y ≢ x.root → holds.shape.inside y ≡ false
+  pub record Filled (n : ℕ) : Type 0 where
+    pub holds : Holds table (cells_at table x n n) n
+    pub only : (y : ℕ) → y ≢ x.gate_cell → y ≢ x.root → holds.shape.inside y ≡ false
 
   start : Filled 0
   start =
@@ -157,28 +156,43 @@ module _ (table : Table) (x : Sample) (d : IsSample table x) where
         only = λ y yg yr. p.inside y ∙ a.inside y (subst (Each (λ (s : Spare). y ≢ s.cell)) (sym none) tt) ∙ f.only y yg yr;
       }
 
-  fill : (n : ℕ) → n ≤ 32 → Filled n
+  pub fill : (n : ℕ) → n ≤ 32 → Filled n
   fill zero le = start
   fill (suc n) le = next n (omega arith) (fill n (omega arith))
 
   -- the 33rd row
 
-  item-sets : (rows : List Row) → Each (λ r. r.at ≡ x.place) rows → AllZip (λ r s. IsSetOf table.hierarchy (r.at ∷ []) s) rows (map (λ r. x.set 1) rows)
+  item-sets : (rows : List Row) → Each (λ r. r.at ≡ x.place 0) rows → AllZip (λ r s. IsSetOf table.hierarchy (r.at ∷ []) s) rows (map (λ r. x.set 1) rows)
   item-sets [] h = tt
   item-sets (r ∷ rows) h = (subst (λ (at : Coord). IsSetOf table.hierarchy (at ∷ []) (x.set 1)) (sym h.0) ((d.grown 0).grown [] (All-nil _) d.empty), item-sets rows h.1)
 
-  places-first : (n : ℕ) → Each (λ r. r.at ≡ x.place) (first_rows table n)
-  places-first zero = tt
-  places-first (suc n) = each-append (λ r. r.at ≡ x.place) (first_rows table n) (table.row n ∷ []) (places-first n) ((d.numbered n).1, tt)
+  places-first : ((r : ℕ) → x.place r ≡ x.place 0) → (n : ℕ) → Each (λ r. r.at ≡ x.place 0) (first_rows table n)
+  places-first one zero = tt
+  places-first one (suc n) = each-append (λ r. r.at ≡ x.place 0) (first_rows table n) (table.row n ∷ []) (places-first one n) ((d.numbered n).1 ∙ one n, tt)
 
-  no-cut : (rows : List Row) → Each (λ r. r.at ≡ x.place) rows → HasNoCut table.hierarchy (Rows (record { items = rows }))
-  no-cut rows h = record {
-    sets = map (λ r. x.set 1) rows;
-    are_sets = item-sets rows h;
-    none = λ cut c good. c.level.differ (const-equal table.hierarchy (x.set 1) cut.dim cut.level rows);
+  no-cut : ((r : ℕ) → x.place r ≡ x.place 0) → (m : ℕ) → IsUncut table m
+  no-cut one m = record {
+    sets = map (λ r. x.set 1) (first_rows table m);
+    are_sets = item-sets (first_rows table m) (places-first one m);
+    none = λ cut c good. c.level.differ (const-equal table.hierarchy (x.set 1) cut.dim cut.level (first_rows table m));
   }
 
-  module _ (m : ℕ) (is32 : m ≡ 32) where
+  -- a spare is none of the sample's cells
+  pub spare-ok : (n : ℕ) (f : Filled n) (s : Spare) → s.cell ≢ x.gate_cell → s.cell ≢ x.root → x.stamp ≢ s.stamp → IsSpare f.holds.shape (nodes (cells_at table x n n)) s
+  spare-ok n f s sg sr st = record {
+    cell = f.only s.cell sg sr;
+    unexpected = λ y l i e. on_bool (eqb y x.gate_cell)
+        (λ q. let z = eqb-eq _ _ q in
+        subst (Each (λ (v : Entry). v.stamp ≢ s.stamp)) (sym (ap (λ (u : ℕ). (nodes cells u).entries) z ∙ ap (λ (w : Node). w.entries) (node-gate cells))) (st, tt))
+        (λ q. let yg = eqb-ne _ _ q in on_bool (eqb y x.root)
+        (λ q2. let u = ap f.holds.shape.level (eqb-eq _ _ q2) in let v = (root-at table cells f.holds.shape f.holds.tree).1 in absurd (omega arith))
+        (λ q2. let bad : true ≡ false = sym i ∙ f.only y yg (eqb-ne _ _ q2) in cc));
+  }
+    where
+      cells : TreeCells
+      cells = cells_at table x n n
+
+  module _ (m : ℕ) (is32 : m ≡ 32) (uncut : IsUncut table m) where
     abbrev before : TreeCells
     before = cells_at table x m m
 
@@ -224,24 +238,10 @@ module _ (table : Table) (x : Sample) (d : IsSample table x) where
     abbrev g : Shape
     g = b.shape
 
-    root-in : (g.inside x.root ≡ true) × (g.level x.root ≡ 0)
-    root-in = root-at table before g b.tree
-
-    spare-ok : IsSpare g (nodes before) x.spare
-    spare-ok = record {
-      cell = f.only n d.spare_gate d.spare_root;
-      unexpected = λ y l i e. on_bool (eqb y x.gate_cell)
-          (λ q. let z = eqb-eq _ _ q in
-          subst (Each (λ (v : Entry). v.stamp ≢ x.spare.stamp)) (sym (ap (λ (u : ℕ). (nodes before u).entries) z ∙ ap (λ (w : Node). w.entries) (node-gate before))) (d.spare_stamp, tt))
-          (λ q. let yg = eqb-ne _ _ q in on_bool (eqb y x.root)
-          (λ q2. let u = ap g.level (eqb-eq _ _ q2) in let v = root-in.1 in absurd (omega arith))
-          (λ q2. let bad : true ≡ false = sym i ∙ f.only y yg (eqb-ne _ _ q2) in cc));
-    }
-
     halves : Halves table.hierarchy (table.row m) (root_entry (gate_after table x m)) (root_entry (gate_after table x (suc m))) old (head_of (drop 16 (first_rows table m))) one_spare empty_purse divided
     halves = record {
       full = (let z = length-first table m in eqb-yes _ _ (omega arith));
-      why = inr (no-cut (first_rows table m) (places-first m));
+      why = inr uncut;
       spare = x.spare;
       purse_is = refl;
       new = new;
@@ -264,7 +264,7 @@ module _ (table : Table) (x : Sample) (d : IsSample table x) where
       valid = (d.numbered m).2;
       step = step;
       idle = λ q p c e. (let z : true ≡ false = sym c ∙ b.settled q p in cc);
-      spares = (spare-ok, tt, tt);
+      spares = (spare-ok m f x.spare d.spare_gate d.spare_root d.spare_stamp, tt, tt);
       filled = (new-block (drop 16 (first_rows table m)), tt);
       other = λ y yr fr. far-block (drop 16 (first_rows table m)) y yr fr.0 ∙ sym (other-block m m y yr);
       gate_cell = refl;
@@ -391,4 +391,4 @@ module _ (table : Table) (x : Sample) (d : IsSample table x) where
           }
 
   pub works : Works table x
-  works = record { filled = λ n le. (fill n le).holds; halved = halved; answered = answered }
+  works = record { filled = λ n le. (fill n le).holds; one_place = no-cut; halved = halved; answered = answered }

@@ -1,6 +1,6 @@
--- A worked example: a tree that begins as an empty leaf and takes 33 rows of one place. The 33rd finds the root's head full
--- and no good cut, so the root's group has two blocks from then on. A query that noted the root before is answered
--- after it.
+-- A worked example: a tree that begins as an empty leaf and takes 33 rows. The 33rd finds the root's head full; where it
+-- has no good cut, as where all rows are of one place, the root's group has two blocks from then on, and a query that
+-- noted the root before is answered after it. Where it has a good cut, Cities goes on.
 use Rattle.std.specs.Prelude.{ℕ, zero, suc, ◌≡◌, ◌≢◌, ◌+◌, ◌<◌, ◌≤◌, Bool, true, false, cond, eqb, Some, None, List, [], ◌∷◌, ◌++◌, take, drop}
 use Rattle.dim_hierarchy.specs.declared.row.Row.{Row}
 use Rattle.dim_hierarchy.specs.declared.row.Coord.{Coord}
@@ -11,6 +11,7 @@ use Rattle.describing_set.specs.declared.set.DescSet.{DescSet}
 use Rattle.dim_hierarchy.specs.declared.filter.Pick.{Pick}
 use Rattle.shard_store.specs.Gate.{root_entry, IsQueueOf}
 use Rattle.link_descent.specs.Visit.{is_noted}
+use Rattle.link_descent.specs.Divide.{HasNoCut}
 use Rattle.tree_shape.specs.Counts.{times}
 use Rattle.tree_shape.specs.Queries.{fits}
 use Rattle.tree_shape.specs.Steps.{IsAsked}
@@ -21,21 +22,22 @@ use Rattle.shard_store.specs.declared.gate.Gate.{Gate}
 use Rattle.tree_shape.specs.Shape.{Table, TreeCells, Shape}
 use Rattle.tree_shape.specs.Trees.{IsTree}
 
--- a gate with its cell, the root's cell and stamp, a spare, and the set of the first rows for each number of them
+-- a gate with its cell, the root's cell and stamp, a spare, the place of each row, and the set of the first rows for each
+-- number of them
 pub record Sample : Type 0 where
   pub gate : Gate
   pub gate_cell : ℕ
   pub root : ℕ
   pub stamp : ℕ
   pub spare : Spare
-  pub place : Coord
+  pub place : ℕ → Coord
   pub set : ℕ → DescSet
 
--- rows 0, 1 .. are of one place; the sets are those that growing from the empty one by the place gives
+-- rows 0, 1 .. are of these places; the sets are those that growing from the empty one by them gives
 pub record IsSample (table : Table) (x : Sample) : Type 0 where
-  pub numbered : (r : ℕ) → ((table.row r).no ≡ r) × ((table.row r).at ≡ x.place) × IsRowOf table.hierarchy (table.row r)
+  pub numbered : (r : ℕ) → ((table.row r).no ≡ r) × ((table.row r).at ≡ x.place r) × IsRowOf table.hierarchy (table.row r)
   pub empty : IsSetOf table.hierarchy [] (x.set 0)
-  pub grown : (n : ℕ) → GrowsBy table.hierarchy x.place (x.set n) (x.set (n + 1))
+  pub grown : (n : ℕ) → GrowsBy table.hierarchy (x.place n) (x.set n) (x.set (n + 1))
   pub valid : (n : ℕ) → IsDescSetOf table.hierarchy (x.set n)
   pub root : x.root ≢ x.gate_cell
   pub spare_gate : x.spare.cell ≢ x.gate_cell
@@ -99,11 +101,16 @@ pub record IsAnswered (table : Table) (m : ℕ) (must : ℕ → Bool) (f : List 
   pub fitting : (r : ℕ) → 1 ≤ times r counted → fits table f r ≡ true
   pub whole : (r : ℕ) → r < m → must r ≡ true → fits table f r ≡ true → times r counted ≡ 1
 
--- the tree after each of the first 32 rows, and after the 33rd, and the query's answer
+-- the first rows of the sample, in one leaf, have no good cut
+abbrev pub IsUncut : Table → ℕ → Type 0
+IsUncut table m = HasNoCut table.hierarchy (Rows (record { items = first_rows table m }))
+
+-- the tree after each of the first 32 rows, and after the 33rd where there is no good cut, and the query's answer
 pub record Works (table : Table) (x : Sample) : Type 0 where
   pub filled : (n : ℕ) → n ≤ 32 → Holds table (cells_at table x n n) n
-  pub halved : (m : ℕ) → m ≡ 32 → Holds table (halved_cells table x m (drop 16 (first_rows table m) ++ table.row m ∷ [])) (suc m)
-  pub answered : (m : ℕ) → m ≡ 32 → (must : ℕ → Bool) (f : List Pick) → Asks table x m must f → IsAnswered table m must f
+  pub one_place : ((r : ℕ) → x.place r ≡ x.place 0) → (m : ℕ) → IsUncut table m
+  pub halved : (m : ℕ) → m ≡ 32 → IsUncut table m → Holds table (halved_cells table x m (drop 16 (first_rows table m) ++ table.row m ∷ [])) (suc m)
+  pub answered : (m : ℕ) → m ≡ 32 → IsUncut table m → (must : ℕ → Bool) (f : List Pick) → Asks table x m must f → IsAnswered table m must f
 
 abbrev pub ExampleLaw : Type 0
 ExampleLaw = (table : Table) (x : Sample) → IsSample table x → Works table x

@@ -15,7 +15,9 @@ use Rattle.cell_stock.specs.Stock.{PurseValue}
 use Rattle.link_descent.specs.declared.entered.Entered.{Entered}
 use Rattle.tree_shape.specs.Shape.{Table, Node, TreeCells, nodes, Shape}
 use Rattle.tree_shape.specs.Trees.{IsTree, BlockFits, IsBelow}
-use Rattle.tree_shape.specs.Queries.{IsUnfinished}
+use Rattle.tree_shape.specs.Queries.{IsUnfinished, fits}
+use Rattle.tree_shape.specs.Tables.{AreAlike, IsThere, IsThereOrCounted, AfterTable}
+use Rattle.tree_shape.specs.Collecting.{IsCollecting, IsReadable, Reads, AfterRead, AfterCollecting, root_item}
 use Rattle.tree_shape.specs.Steps.{Opens, AfterOpening, LeavesTree, AfterOther, GoesDown, GoesIn, AfterStep, IsPut, AfterPut, Visits, AfterVisit, Begins, AfterBegin, CountsElsewhere, AfterAll}
 
 -- a leaf block is the root of a new tree
@@ -82,3 +84,33 @@ ElsewhereLaw = (g : Shape) (look : ℕ → Node) (must fits : ℕ → Bool) (ite
 
 abbrev pub EndLaw : Type 0
 EndLaw = (g : Shape) (look : ℕ → Node) (must fits : ℕ → Bool) (counted : List ℕ) → IsUnfinished g look must fits [] counted → AfterAll g must fits counted
+
+-- another table with the same rows in the tree, and for a query those that it has counted too
+
+abbrev pub TreeTableLaw : Type 0
+TreeTableLaw = (table other : Table) (cells : TreeCells) (g : Shape) → AreAlike (IsThere g) table other → IsTree table cells g → IsTree other cells g
+
+abbrev pub QueryTableLaw : Type 0
+QueryTableLaw = (table other : Table) (g : Shape) (look : ℕ → Node) (must : ℕ → Bool) (f : List Pick) (items : List Item) (counted : List ℕ)
+    → AreAlike (IsThereOrCounted g counted) table other → IsUnfinished g look must (fits table f) items counted → AfterTable table other g look must f items counted
+
+-- an administrator begins at the root, finds blocks of the tree alone, reads one, and ends; steps elsewhere leave it as it is
+
+abbrev pub CollectBeginLaw : Type 0
+CollectBeginLaw = (table : Table) (cells : TreeCells) (g : Shape) → IsTree table cells g → IsCollecting cells g (root_item cells.gate ∷ []) [] []
+
+abbrev pub ReadableLaw : Type 0
+ReadableLaw = (table : Table) (cells : TreeCells) (g : Shape) (items : List Item) (item : Item) (read collected : List ℕ) → IsTree table cells g
+    → IsCollecting cells g (items ++ item ∷ []) read collected → IsReadable cells g item
+
+abbrev pub ReadLaw : Type 0
+ReadLaw = (table : Table) (cells : TreeCells) (g : Shape) (items : List Item) (item : Item) (read collected : List ℕ) → IsTree table cells g
+    → (d : Reads cells g items item read collected) → AfterRead cells g items item read collected d.collecting.noted
+
+abbrev pub CollectOtherLaw : Type 0
+CollectOtherLaw = (table : Table) (g : Shape) (before now : TreeCells) (items : List Item) (read collected : List ℕ) → IsTree table before g
+    → LeavesTree g before now → IsCollecting before g items read collected → IsCollecting now g items read collected
+
+abbrev pub CollectEndLaw : Type 0
+CollectEndLaw = (table : Table) (cells : TreeCells) (g : Shape) (read collected : List ℕ) → IsTree table cells g
+    → IsCollecting cells g [] read collected → AfterCollecting table cells g read collected

@@ -4,5 +4,8 @@ pub mod Walks
 pub mod Trees
 pub mod Queries
 pub mod Steps
+pub mod Tables
+pub mod Collecting
 pub mod Laws
 pub mod Example
+pub mod Cities

@@ -1,12 +1,10 @@
 -- What the steps of inserts and queries find in the cells and leave there, in the words of the calls' contracts.
-use Rattle.std.specs.Prelude.{ℕ, ◌≡◌, ◌≢◌, ◌+◌, ◌<◌, ◌≤◌, ◌⊎◌, Bool, true, false, if◌then◌else◌, Some, List, [], ◌∷◌, ◌++◌, map, length, slice_get}
+use Rattle.std.specs.Prelude.{ℕ, ◌≡◌, ◌≢◌, ◌+◌, ◌<◌, ◌≤◌, ◌⊎◌, Bool, true, false, Some, List, [], ◌∷◌, ◌++◌, map, length, slice_get}
 use Rattle.dim_hierarchy.specs.declared.filter.Pick.{Pick}
-use Rattle.dim_hierarchy.specs.Dimension.{Dimension}
 use Rattle.dim_hierarchy.specs.Row.{IsRowOf}
 use Rattle.dim_hierarchy.specs.Filter.{IsFilterOf}
 use Rattle.describing_set.specs.DescSet.{IsSetOf}
-use Rattle.describing_set.specs.Filter.{is_inside, overlaps}
-use Rattle.measure_agg.specs.Aggregate.{Aggregate, agg, join}
+use Rattle.measure_agg.specs.Aggregate.{agg, join}
 use Rattle.dc_node.specs.Block.{rows_in, entries_in, is_leaf}
 use Rattle.dc_node.specs.declared.block.Body.TheVariants.{Rows}
 use Rattle.dc_node.specs.declared.block.Block.{Block}
@@ -14,11 +12,9 @@ use Rattle.dc_node.specs.declared.entry.Entry.{Entry}
 use Rattle.dc_node.specs.declared.todo.Item.{Item}
 use Rattle.cell_stock.specs.Stock.{PurseValue}
 use Rattle.cell_stock.specs.declared.purse.Spare.{Spare}
-use Rattle.dc_node.specs.Summary.{joined, aggs}
 use Rattle.shard_store.specs.Gate.{root_entry, IsQueueOf}
-use Rattle.shard_store.specs.declared.queue.Queue.{Queue}
 use Rattle.shard_store.specs.declared.gate.Gate.{Gate}
-use Rattle.link_descent.specs.Visit.{matching, taken, noted, noted_in, noted_right, counted as block_part}
+use Rattle.link_descent.specs.Visit.{noted_in, noted_right, counted as block_part}
 use Rattle.link_descent.specs.Descend.{StepsDown, Enters}
 use Rattle.link_descent.specs.GateRead.{queue_part, tree_part, root_items}
 use Rattle.link_descent.specs.declared.entered.Entered.{Entered}
@@ -126,7 +122,7 @@ pub record IsPut (table : Table) (g : Shape) (r : ℕ) (before now : TreeCells) 
   pub gate_cell : now.gate_cell ≡ before.gate_cell
   pub gate : LeadsAs before.gate now.gate
 
--- and is in the leaf from then on
+-- It is in the leaf from then on, and all else is as it was: each other row, and each block with its level.
 pub record AfterPut (table : Table) (g : Shape) (r : ℕ) (before now : TreeCells) : Type 0 where
   pub shape : Shape
   pub tree : IsTree table now shape
@@ -134,6 +130,7 @@ pub record AfterPut (table : Table) (g : Shape) (r : ℕ) (before now : TreeCell
   pub placed : (q : ℕ) → shape.placed q ≡ g.placed q
   pub carried : (q : ℕ) → q ≢ r → shape.carried q ≡ g.carried q
   pub at : (q : ℕ) → shape.at q ≡ g.at q
+  pub levels : (y : ℕ) → shape.level y ≡ g.level y
   pub inside : (y : ℕ) → shape.inside y ≡ g.inside y
   pub spares : (s : Spare) → IsSpare g (nodes before) s → IsSpare shape (nodes now) s
   pub queries : (must fits : ℕ → Bool) (items : List Item) (counted : List ℕ)

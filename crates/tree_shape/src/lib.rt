@@ -6,6 +6,8 @@ ghost use Rattle.std.specs.Prelude.{ℕ};
 ghost use Rattle.tree_shape.specs.Trees.{leaf_without_rows};
 ghost use Rattle.tree_shape.specs.Example.{ExampleLaw};
 ghost use Rattle.tree_shape.specs.Laws.{OpeningLaw, OrderLaw, GateLaw, BlockLaw, ChildLaw, RootLaw, LinkLaw, OtherLaw, InLaw, DownLaw, PutLaw, BeginLaw, VisitLaw, ElsewhereLaw, EndLaw};
+ghost use Rattle.tree_shape.specs.Laws.{TreeTableLaw, QueryTableLaw, CollectBeginLaw, ReadableLaw, ReadLaw, CollectOtherLaw, CollectEndLaw};
+ghost use Rattle.tree_shape.specs.Cities.{CitiesLaw};
 
 /// A leaf without rows, which is its own group, is the root of a new tree.
 pub fn opening_law()
@@ -37,10 +39,17 @@ pub fn insert_laws()
     ensures put { PutLaw }
 {}
 
-/// One tree taken through the laws: 33 rows of one place come to an empty leaf, and a query that began
-/// before the last of them is answered after it.
+/// One tree taken through the laws: 33 rows come to an empty leaf, which is halved, and a query that
+/// began before the last of them is answered after it.
 pub fn worked_example()
     ensures { ExampleLaw }
+{}
+
+/// Trees with all values given. One meets what the worked example asks for. The root of the other has a
+/// good cut: the last row begins, comes in at a new root and goes down to its leaf, a query is answered,
+/// and the blocks are collected.
+pub fn worked_cities()
+    ensures { CitiesLaw }
 {}
 
 /// The steps of a query leave it right, and with nothing noted any more it has counted what it had to,
@@ -50,4 +59,21 @@ pub fn query_laws()
     ensures visits { VisitLaw }
     ensures elsewhere { ElsewhereLaw }
     ensures ends { EndLaw }
+{}
+
+/// A tree stands over each table that has the same rows in it, so a row that begins disturbs none; and an
+/// unfinished query is right over each table that has also the rows that it has counted.
+pub fn table_laws()
+    ensures tree { TreeTableLaw }
+    ensures query { QueryTableLaw }
+{}
+
+/// An administrator reads a tree block by block, and in the end it has read each block and collected each
+/// row of the tree, once.
+pub fn collect_laws()
+    ensures begins { CollectBeginLaw }
+    ensures block { ReadableLaw }
+    ensures reads { ReadLaw }
+    ensures other { CollectOtherLaw }
+    ensures ends { CollectEndLaw }
 {}

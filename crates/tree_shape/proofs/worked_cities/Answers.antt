@@ -1,0 +1,5 @@
+use Rattle.tree_shape.proofs.Cities.{all-work}
+use Rattle.tree_shape.proofs.worked_cities.Goals as goal
+
+pub returns : goal.returns
+returns _ = all-work
