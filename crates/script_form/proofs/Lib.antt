@@ -2,6 +2,5 @@ pub mod NumberFacts
 pub mod PieceFacts
 pub mod FieldFacts
 pub mod RecordFacts
-pub mod ConceptCounts
 pub mod ScriptFacts
 pub mod ScriptLaws

@@ -1,5 +1,6 @@
 -- The values of numbers in a range.
 use Rattle.std.proofs.Common.{◌≡◌, ◌≤◌, ◌<◌, ℕ, List, Bool, true, false, ◌&&◌, Option, Some, None, arith, refl}
+use Rattle.script_form.specs.Limits.{most_servers, most_workers, most_threads, fewest_cells, most_cells}
 use Rattle.std.specs.Prelude.{nat_le, nat_lt, not, is_some, unwrap_or}
 use Rattle.std.specs.Option.{option_map_or}
 use Rattle.std.proofs.lemmas.Bool.{and_parts}
@@ -40,14 +41,14 @@ query_server servers r fine = not_wrong _ fine
 -- settings stay in their ranges
 pub settings_more : (servers : ℕ) (with : Use) (k : Kind) (r : Record) → wrong_number servers k r ≡ false → AreSettings with → AreSettings (settings_with (Some k) with r)
 settings_more servers with kind.Use r fine settings =
-    let all = not_wrong (in_range (field r 1) 1 16 && in_range (field r 2) 1 16 && in_range (field r 3) 1 8 && in_range (field r 4) 64 65536) fine in
-    let three = and_parts (in_range (field r 1) 1 16 && in_range (field r 2) 1 16 && in_range (field r 3) 1 8) (in_range (field r 4) 64 65536) all in
-    let two = and_parts (in_range (field r 1) 1 16 && in_range (field r 2) 1 16) (in_range (field r 3) 1 8) three.0 in
-    let one = and_parts (in_range (field r 1) 1 16) (in_range (field r 2) 1 16) two.0 in
+    let all = not_wrong (in_range (field r 1) 1 most_servers && in_range (field r 2) 1 most_workers && in_range (field r 3) 1 most_threads && in_range (field r 4) fewest_cells most_cells) fine in
+    let three = and_parts (in_range (field r 1) 1 most_servers && in_range (field r 2) 1 most_workers && in_range (field r 3) 1 most_threads) (in_range (field r 4) fewest_cells most_cells) all in
+    let two = and_parts (in_range (field r 1) 1 most_servers && in_range (field r 2) 1 most_workers) (in_range (field r 3) 1 most_threads) three.0 in
+    let one = and_parts (in_range (field r 1) 1 most_servers) (in_range (field r 2) 1 most_workers) two.0 in
     record {
-      servers = value_within (field r 1) 1 16 one.0;
-      workers = value_within (field r 2) 1 16 one.1;
-      threads = value_within (field r 3) 1 8 two.1;
-      cells = value_within (field r 4) 64 65536 three.1;
+      servers = value_within (field r 1) 1 most_servers one.0;
+      workers = value_within (field r 2) 1 most_workers one.1;
+      threads = value_within (field r 3) 1 most_threads two.1;
+      cells = value_within (field r 4) fewest_cells most_cells three.1;
     }
 settings_more servers with _ r fine settings = settings

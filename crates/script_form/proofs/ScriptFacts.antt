@@ -10,7 +10,7 @@ use Rattle.std.proofs.lemmas.List.{append_assoc, append-nil, length-map, length-
 use Rattle.std.proofs.lemmas.List.Elements.{All-map, All-push, filter_map-append}
 use Rattle.std.proofs.lemmas.List.Splits.{length-slice_split}
 use Rattle.std.proofs.lemmas.List.Sums.{fold-append}
-use Rattle.dim_hierarchy.specs.Dimension.{Dimension, concept_count, find_dim, new_dimension}
+use Rattle.dim_hierarchy.specs.Dimension.{Dimension, find_dim, new_dimension}
 use Rattle.dim_hierarchy.specs.Filter.{IsNamePick}
 use Rattle.script_form.specs.Causes.{MayStand, cause_at, parent_of, is_version}
 use Rattle.script_form.specs.Fields.{Record, field, is_bar, is_star, value_of}
@@ -24,7 +24,6 @@ use Rattle.script_form.specs.declared.script.Command.{Command}
 use Rattle.script_form.specs.declared.script.Script.{Script}
 use Rattle.script_form.specs.declared.script.ScriptFault.{ScriptFault}
 use Rattle.script_form.specs.declared.script.ScriptFault.TheVariants as fault
-use Rattle.script_form.proofs.ConceptCounts.{concept_count-new, concept_count-with_named}
 use Rattle.script_form.proofs.NumberFacts.{insert_server, query_server, settings_more, value_below}
 
 -- of the records so far none has a cause, and this is their script
@@ -32,7 +31,6 @@ pub record SoFar (rows : List Record) (at : ℕ) (s : Script) : Type 0 where
   pub count : length rows ≡ at
   pub script : s ≡ script_of rows
   pub sound : (rest : List Record) → first_fault [] (rows ++ rest) ≡ first_fault rows rest
-  pub room : concept_count s.hierarchy ≤ at
   pub begun : at ≤ 1 → s.commands ≡ []
   pub settings : AreSettings s.with
   pub fits : All (Fits s) s.commands
@@ -43,7 +41,6 @@ none_so_far = record {
   count = refl;
   script = refl;
   sound = λ rest. refl;
-  room = omega arith;
   begun = λ _. refl;
   settings = record { servers = (omega arith, omega arith); workers = (omega arith, omega arith); threads = (omega arith, omega arith); cells = (omega arith, omega arith) };
   fits = λ k d within. absurd (omega arith);
@@ -67,11 +64,6 @@ after_kind k s r = record { with = settings_with (Some k) s.with r; hierarchy = 
 after_by_kind : (s : Script) (r : Record) (k : Kind) → kind_of (field r 0) ≡ Some k → after s r ≡ after_kind k s r
 unfolding after_kind
 after_by_kind s r k is = rw is refl
-
-room_more : (h : List Dimension) (k : Kind) (r : Record) → concept_count (hierarchy_with (Some k) h r) ≤ concept_count h + 1
-room_more h kind.Dim r = omega (arith, concept_count-new h (field r 1) (value_of (field r 2)))
-room_more h kind.Concept r = concept_count-with_named h (unwrap_or (find_dim h (field r 1)) 0) (field r 2) (unwrap_or (parent_of h (unwrap_or (find_dim h (field r 1)) 0) (field r 3)) 0)
-room_more h _ r = omega arith
 
 -- The first record has no command, and so a `use` record has none before it.
 
@@ -175,7 +167,6 @@ one_more rows at s t r so_far taken =
       count = omega (arith, length-append rows (r ∷ []), so_far.count);
       script = taken.script ∙ ap (λ u. after u r) so_far.script ∙ sym (script_of-push rows r);
       sound = λ rest. rw append_assoc (so_far.sound (r ∷ rest) ∙ first_more rows rest r none);
-      room = rw (taken.script, taken.stands.form.kind) (let more = room_more s.hierarchy taken.kind r in let room = so_far.room in omega arith);
       begun = λ early. ap (λ u. u.commands) taken.script ∙ begun_more at s r so_far.begun taken.stands.version early;
       settings = rw (taken.script, taken.stands.form.kind) (settings_more s.with.servers s.with taken.kind r taken.stands.form.number so_far.settings);
       fits = fits_same t (after_kind taken.kind s r) (taken.script ∙ by_kind) (fits_more at s taken.kind r taken.stands so_far.begun so_far.fits);

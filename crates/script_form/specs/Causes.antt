@@ -1,4 +1,5 @@
 -- The causes for which a record is bad, given the script of the records before it.
+use Rattle.script_form.specs.Limits.{most_servers, most_workers, most_threads, fewest_cells, most_cells, most_levels, shard_ids}
 use Rattle.std.specs.Prelude.{ℕ, ◌≡◌, ◌<◌, ◌==◌, ◌&&◌, ◌||◌, not, Bool, true, false, ⊤, Option, Some, None, is_some, option_and_then, if◌then◌else◌, List, length, drop, codes}
 use Rattle.std.specs.List.{list_all}
 use Rattle.std.specs.Str.{bytes_eq}
@@ -32,13 +33,13 @@ wrong_order place before _ = length before.hierarchy == 0
 -- a number field is no number in its range
 abbrev pub wrong_number : ℕ → Kind → Record → Bool
 wrong_number servers kind.Volap r = false
-wrong_number servers kind.Use r = not (in_range (field r 1) 1 16 && in_range (field r 2) 1 16 && in_range (field r 3) 1 8 && in_range (field r 4) 64 65536)
-wrong_number servers kind.Dim r = not (in_range (field r 2) 1 8)
+wrong_number servers kind.Use r = not (in_range (field r 1) 1 most_servers && in_range (field r 2) 1 most_workers && in_range (field r 3) 1 most_threads && in_range (field r 4) fewest_cells most_cells)
+wrong_number servers kind.Dim r = not (in_range (field r 2) 1 most_levels)
 wrong_number servers kind.Concept r = false
 wrong_number servers kind.Insert r = not (is_below (field r 1) servers && is_some (measure_of (field r 2)))
 wrong_number servers kind.Query r = not (is_below (field r 1) servers)
 wrong_number servers kind.Barrier r = false
-wrong_number servers kind.Tree r = not (is_below (field r 1) 4294967296)
+wrong_number servers kind.Tree r = not (is_below (field r 1) shard_ids)
 
 -- a name field, or a piece of a filter, is no name
 abbrev pub wrong_name : Kind → Record → Bool

@@ -1,4 +1,5 @@
 -- Numbers, measures, names and filters as the fields of a record spell them.
+use Rattle.script_form.specs.Limits.{most_bytes}
 use Rattle.std.specs.Prelude.{ℕ, ◌+◌, ◌-◌, ◌*◌, ◌==◌, ◌&&◌, ◌||◌, nat_lt, nat_le, not, Bool, false, ℤ, pos, neg_ℤ, Option, Some, None, unwrap_or, option_and_then, if◌then◌else◌, List, [], ◌∷◌, length, fold, codes}
 use Rattle.std.specs.List.{list_any, list_all, slice_split}
 use Rattle.std.specs.Option.{option_map_or}
@@ -58,7 +59,7 @@ abbrev pub is_bar : ℕ → Bool
 is_bar b = b == 124
 
 abbrev pub is_name : List ℕ → Bool
-is_name text = nat_le 1 (length text) && nat_le (length text) 64 && not (list_any is_bar text) && not (is_star text)
+is_name text = nat_le 1 (length text) && nat_le (length text) most_bytes && not (list_any is_bar text) && not (is_star text)
 
 -- Picks of a filter: `*`, or names joined by vertical bars.
 

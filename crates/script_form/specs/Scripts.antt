@@ -1,4 +1,5 @@
 -- The script that a list of records is, or where and why it is bad.
+use Rattle.script_form.specs.Limits.{most_servers, most_workers, most_threads, fewest_cells, most_cells}
 use Rattle.std.specs.Prelude.{ℕ, pos, ◌≡◌, ◌+◌, ◌<◌, ◌≤◌, Option, Some, None, option_map, unwrap_or, Result, Ok, Err, if◌then◌else◌, ⊤, List, [], ◌∷◌, ◌++◌, length, drop, map, fold, slice_set, All}
 use Rattle.std.specs.List.{filter_map}
 use Rattle.std.specs.Option.{option_or, option_to_list}
@@ -118,22 +119,22 @@ IsAnswer answer (Err fault.NoMemory) = ⊤
 
 -- settings in their ranges
 pub record AreSettings (with : Use) : Type 0 where
-  pub servers : (1 ≤ with.servers) × (with.servers ≤ 16)
-  pub workers : (1 ≤ with.workers) × (with.workers ≤ 16)
-  pub threads : (1 ≤ with.threads) × (with.threads ≤ 8)
-  pub cells : (64 ≤ with.cells) × (with.cells ≤ 65536)
+  pub servers : (1 ≤ with.servers) × (with.servers ≤ most_servers)
+  pub workers : (1 ≤ with.workers) × (with.workers ≤ most_workers)
+  pub threads : (1 ≤ with.threads) × (with.threads ≤ most_threads)
+  pub cells : (fewest_cells ≤ with.cells) × (with.cells ≤ most_cells)
 
 -- a call that scripts can ask for so far
-abbrev pub IsRead : Call → Type 0
-IsRead call.Barrier = ⊤
-IsRead (call.Tree shard) = ⊤
-IsRead other = ⊥
+abbrev pub IsScriptCall : Call → Type 0
+IsScriptCall call.Barrier = ⊤
+IsScriptCall (call.Tree shard) = ⊤
+IsScriptCall other = ⊥
 
 -- a command of a server of the script, with a name or a pick for each dimension
 abbrev pub Fits : Script → Command → Type 0
 Fits s (command.Insert row) = (row.server < s.with.servers) × (length row.names ≡ length s.hierarchy)
 Fits s (command.Query question) = (question.server < s.with.servers) × (length question.filter ≡ length s.hierarchy) × All IsNamePick question.filter
-Fits s (command.Control call) = IsRead call
+Fits s (command.Control call) = IsScriptCall call
 
 -- none of the records has a cause, each behind those before it
 abbrev pub AreFine : List Record → Type 0

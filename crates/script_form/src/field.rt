@@ -3,6 +3,7 @@ ghost use Rattle.std.specs.Prelude.{◌≡◌, true};
 ghost use Rattle.csv.specs.Records.{fields_of};
 ghost use Rattle.script_form.specs.Fields.{field, in_range, is_below, is_name, is_star, measure_of, number_of, value_of};
 
+use crate::limits::MOST_BYTES;
 use csv::ByteRecord;
 
 /// The field at a place, empty where there is none.
@@ -100,5 +101,5 @@ pub fn is_star(text: &[u8]) -> bool
 pub fn is_name(text: &[u8]) -> bool
     ensures { result ≡ is_name text.now }
 {
-    !text.is_empty() && text.len() <= 64 && !text.contains(&b'|') && !is_star(text)
+    !text.is_empty() && text.len() <= MOST_BYTES && !text.contains(&b'|') && !is_star(text)
 }

@@ -5,6 +5,9 @@ ghost use Rattle.script_form.specs.Causes.{MayStand, cause_at, is_version, wrong
 
 use crate::field::{field, in_range, is_below, is_name, is_star, measure};
 use crate::kind::{Kind, kind_of, width};
+use crate::limits::{
+    FEWEST_CELLS, MOST_CELLS, MOST_LEVELS, MOST_SERVERS, MOST_THREADS, MOST_WORKERS, SHARD_IDS,
+};
 use crate::names::{are_names, are_picks};
 use crate::script::{Cause, Script};
 use csv::ByteRecord;
@@ -13,7 +16,7 @@ use csv::ByteRecord;
 /// its first cause. What the hierarchy says against it is not asked here.
 pub(crate) fn kind_at(at: u64, script: &Script, row: &ByteRecord) -> Result<Kind, Cause>
     ensures ok { IfOk result (λ kind. MayStand at script.now kind (fields_of row.now)) }
-    ensures bad { IfErr result (λ cause. cause_at at script.now (fields_of row.now) ≡ Some cause) }
+    ensures err { IfErr result (λ cause. cause_at at script.now (fields_of row.now) ≡ Some cause) }
 {
     if at == 0 && !is_version(row) {
         return Err(Cause::Version);
@@ -61,17 +64,17 @@ fn is_wrong_number(servers: u8, kind: Kind, row: &ByteRecord) -> bool
     match kind {
         Kind::Volap | Kind::Concept | Kind::Barrier => false,
         Kind::Use => {
-            !(in_range(field(row, 1), 1, 16)
-                && in_range(field(row, 2), 1, 16)
-                && in_range(field(row, 3), 1, 8)
-                && in_range(field(row, 4), 64, 65536))
+            !(in_range(field(row, 1), 1, MOST_SERVERS)
+                && in_range(field(row, 2), 1, MOST_WORKERS)
+                && in_range(field(row, 3), 1, MOST_THREADS)
+                && in_range(field(row, 4), FEWEST_CELLS, MOST_CELLS))
         }
-        Kind::Dim => !in_range(field(row, 2), 1, 8),
+        Kind::Dim => !in_range(field(row, 2), 1, MOST_LEVELS),
         Kind::Insert => {
             !(is_below(field(row, 1), u128::from(servers)) && measure(field(row, 2)).is_some())
         }
         Kind::Query => !is_below(field(row, 1), u128::from(servers)),
-        Kind::Tree => !is_below(field(row, 1), 1 << 32),
+        Kind::Tree => !is_below(field(row, 1), SHARD_IDS),
     }
 }
 

@@ -5,6 +5,7 @@ pub mod field;
 mod form;
 mod kind;
 mod laws;
+mod limits;
 mod names;
 mod reader;
 mod record;

@@ -1,6 +1,7 @@
 //! What a record adds to the script of those before it.
 ghost use Rattle.std.specs.Prelude.{◌≡◌, ◌≤◌, true, false, length, IfOk, IfErr, OnErr, OnOk};
 ghost use Rattle.csv.specs.Records.{fields_of};
+ghost use Rattle.script_form.specs.Limits.{most_levels};
 ghost use Rattle.script_form.specs.Fields.{field, in_range, is_below};
 ghost use Rattle.script_form.specs.Causes.{HasForm, TellsCause, cause_at, hierarchy_cause, parent_of, wrong_number};
 ghost use Rattle.script_form.specs.Scripts.{IsTaken, after, command_by, hierarchy_with, settings_in};
@@ -41,7 +42,7 @@ pub(crate) fn take_record(
     row: &ByteRecord,
 ) -> Result<(), RecordFault>
     ensures ok { OnOk result (IsTaken at script.old script.new (fields_of row.now)) }
-    ensures bad { IfErr result (TellsCause (cause_at at script.old (fields_of row.now))) }
+    ensures cause { IfErr result (TellsCause (cause_at at script.old (fields_of row.now))) }
     ensures err { OnErr result (script.new ≡ script.old) }
 {
     match kind_at(at, script, row) {
@@ -58,9 +59,9 @@ fn add_record(
     row: &ByteRecord,
 ) -> Result<(), RecordFault>
     requires { HasForm script.old kind (fields_of row.now) }
-    ensures fine { OnOk result (hierarchy_cause script.old.hierarchy kind (fields_of row.now) ≡ None) }
+    ensures no_cause { OnOk result (hierarchy_cause script.old.hierarchy kind (fields_of row.now) ≡ None) }
     ensures ok { OnOk result (script.new ≡ after script.old (fields_of row.now)) }
-    ensures bad { IfErr result (TellsCause (hierarchy_cause script.old.hierarchy kind (fields_of row.now))) }
+    ensures cause { IfErr result (TellsCause (hierarchy_cause script.old.hierarchy kind (fields_of row.now))) }
     ensures err { OnErr result (script.new ≡ script.old) }
 {
     match kind {
@@ -106,10 +107,10 @@ fn settings(row: &ByteRecord) -> Use
 
 /// Adds the dimension of a `dim` record.
 fn add_dim(alloc: Global, hierarchy: &mut Hierarchy, row: &ByteRecord) -> Result<(), RecordFault>
-    requires { in_range (field (fields_of row.now) 2) 1 8 ≡ true }
-    ensures fine { OnOk result (hierarchy_cause hierarchy.old kind.Dim (fields_of row.now) ≡ None) }
+    requires { in_range (field (fields_of row.now) 2) 1 most_levels ≡ true }
+    ensures no_cause { OnOk result (hierarchy_cause hierarchy.old kind.Dim (fields_of row.now) ≡ None) }
     ensures ok { OnOk result (hierarchy.new ≡ hierarchy_with (Some kind.Dim) hierarchy.old (fields_of row.now)) }
-    ensures bad { IfErr result (TellsCause (hierarchy_cause hierarchy.old kind.Dim (fields_of row.now))) }
+    ensures cause { IfErr result (TellsCause (hierarchy_cause hierarchy.old kind.Dim (fields_of row.now))) }
     ensures err { OnErr result (hierarchy.new ≡ hierarchy.old) }
 {
     let name = Name::from_bytes(alloc, field(row, 1))?;
@@ -128,9 +129,9 @@ fn add_concept(
     hierarchy: &mut Hierarchy,
     row: &ByteRecord,
 ) -> Result<(), RecordFault>
-    ensures fine { OnOk result (hierarchy_cause hierarchy.old kind.Concept (fields_of row.now) ≡ None) }
+    ensures no_cause { OnOk result (hierarchy_cause hierarchy.old kind.Concept (fields_of row.now) ≡ None) }
     ensures ok { OnOk result (hierarchy.new ≡ hierarchy_with (Some kind.Concept) hierarchy.old (fields_of row.now)) }
-    ensures bad { IfErr result (TellsCause (hierarchy_cause hierarchy.old kind.Concept (fields_of row.now))) }
+    ensures cause { IfErr result (TellsCause (hierarchy_cause hierarchy.old kind.Concept (fields_of row.now))) }
     ensures err { OnErr result (hierarchy.new ≡ hierarchy.old) }
 {
     let Some(dim) = hierarchy.find_dim(field(row, 1)) else {

@@ -43,7 +43,7 @@ returns-in-Err-Bad-clause-answer c =
     let row = fields_of c.read_byte_record.new.row in
     let read = rw c.in-Ok-true.field-0-test at (c.in-Ok-true.ensures.reads inv.reading.plain inv.reading.ready) in
     let reading = reading_more c.loop-at.reader c.read_byte_record.new.self c.args.text.now inv.rows row inv.reading read (inl (c.in-Ok-true.ensures.ready inv.reading.plain)) c.in-Ok-true.ensures.flexible in
-    let bad = rw c.in-Err-Bad.field-0-is at c.in-Err-Bad.ensures.bad in
+    let bad = rw c.in-Err-Bad.field-0-is at c.in-Err-Bad.ensures.cause in
     rw (c.bad-in-Err-Bad.ensures, c.in-Err-Bad.field-0-is) (script_bad _ inv.rows (records_from default_config reading.read.more c.read_byte_record.new.self.state reading.left) c.loop-at.at c.loop-at.script row c.in-Err-Bad.cause reading.read.all inv.so_far bad)
 
 pub loop-at-preserved : goal.loop-at-preserved
