@@ -5,7 +5,7 @@ use Rattle.std.proofs.lemmas.Bool.{false≢true}
 use Rattle.row_ledger.specs.declared.event.Event.{Event}
 use Rattle.row_ledger.specs.declared.event.Event.TheVariants as event
 use Rattle.row_ledger.specs.Past.{call_in, insert_in, number_in, query_in}
-use Rattle.row_ledger.specs.Right.{Each, Stands, StandsRight}
+use Rattle.row_ledger.specs.Right.{EachEvent, Stands, StandsRight}
 use Rattle.row_ledger.specs.Site.{Site}
 use Rattle.row_ledger.proofs.Fresh.{event_at-within, kind-within}
 use Rattle.answer_text.specs.Marks.{RefersBack}
@@ -21,7 +21,7 @@ refers site usable past (event.Shown of page) right = kind-within call_in past o
 refers site usable past (event.Ended of how) right = kind-within call_in past of right.call right.called
 refers site usable past e right = tt
 
-refers-all : (site : Site) (usable : ℕ → Bool) (h : List Event) → Each (Stands site usable) h → RefersBack h
+refers-all : (site : Site) (usable : ℕ → Bool) (h : List Event) → EachEvent (Stands site usable) h → RefersBack h
 refers-all site usable [] each = tt
 refers-all site usable (e ∷ past) each = (refers site usable past e each.0, refers-all site usable past each.1)
 

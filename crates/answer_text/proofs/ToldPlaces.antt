@@ -10,7 +10,7 @@ use Rattle.row_ledger.specs.declared.event.Event.{Event}
 use Rattle.row_ledger.specs.declared.settings.Use.{Use}
 use Rattle.script_form.specs.declared.script.Command.{Command}
 use Rattle.script_run.specs.Places.{sessions, begins_of, count_of, place_behind, places_behind, session_of}
-use Rattle.answer_text.specs.Marks.{Counts, IsPlace}
+use Rattle.answer_text.specs.Marks.{Counts, IsPosition}
 use Rattle.answer_text.proofs.MarkFacts.{begins_of-below}
 
 -- The commands of each session so far.
@@ -77,14 +77,14 @@ pub taken_all : (taken whole : List (Option ℕ)) (with : Use) (cs : List Comman
     → taken ++ places_behind with (take i cs) (drop i cs) h ≡ whole → taken ≡ whole
 taken_all taken whole with cs i h all so_far = let end = rw (places_end with cs i h all, append-nil taken) at so_far in end
 
-place-is : (h : List Event) (s n : ℕ) (place : Option ℕ) → slice_get (begins_of h s) n ≡ place → IsPlace h place
+place-is : (h : List Event) (s n : ℕ) (place : Option ℕ) → slice_get (begins_of h s) n ≡ place → IsPosition h place
 place-is h s n None is = tt
 place-is h s n (Some p) is =
     let within : n < length (begins_of h s) = slice_get_within (begins_of h s) n p is in
     rw (← get_or_from_slice_get (begins_of h s) n p 0 is) (All-get_or (λ q. q < length h) (begins_of h s) n 0 within (begins_of-below h s))
 
-pub places-are : (with : Use) (before cs : List Command) (h : List Event) → All (IsPlace h) (places_behind with before cs h)
+pub places-are : (with : Use) (before cs : List Command) (h : List Event) → All (IsPosition h) (places_behind with before cs h)
 unfolding places_behind
-places-are with before [] h = All-nil (IsPlace h)
+places-are with before [] h = All-nil (IsPosition h)
 places-are with before (c ∷ cs) h =
-    All-cons (IsPlace h) (place_behind with before c h) (places_behind with (before ++ c ∷ []) cs h) (place-is h (session_of with c) (count_of with (session_of with c) before) (place_behind with before c h) refl) (places-are with (before ++ c ∷ []) cs h)
+    All-cons (IsPosition h) (place_behind with before c h) (places_behind with (before ++ c ∷ []) cs h) (place-is h (session_of with c) (count_of with (session_of with c) before) (place_behind with before c h) refl) (places-are with (before ++ c ∷ []) cs h)

@@ -7,7 +7,7 @@ use Rattle.row_ledger.specs.declared.event.Event.TheVariants.{Shown}
 use Rattle.row_ledger.specs.declared.page.Page.{Page}
 use Rattle.row_ledger.specs.declared.settings.Use.{Use}
 use Rattle.row_ledger.specs.Past.{end_in, number_in}
-use Rattle.row_ledger.specs.Right.{Each}
+use Rattle.row_ledger.specs.Right.{EachEvent}
 use Rattle.script_form.specs.declared.script.Command.{Command}
 use Rattle.script_run.specs.Places.{sessions, begins_of, count_of}
 use Rattle.answer_text.specs.Printed.{split_for}
@@ -40,8 +40,8 @@ newest marks [] p = None
 newest marks (e ∷ past) p = if is_at p (marks e) then Some (length past) else newest marks past p
 
 -- no place, or a position of the history
-abbrev pub IsPlace : List Event → Option ℕ → Type 0
-IsPlace history place = MatchOption place ⊤ (λ p. p < length history)
+abbrev pub IsPosition : List Event → Option ℕ → Type 0
+IsPosition history place = MatchOption place ⊤ (λ p. p < length history)
 
 -- for each session its beginnings
 pub record KnowsBegins (lists : List (List ℕ)) (past : List Event) : Type 0 where
@@ -59,7 +59,7 @@ IsQuiet marks past = (p : ℕ) → length past ≤ p → newest marks past p ≡
 
 -- each event that belongs to a command stands behind its beginning
 abbrev pub RefersBack : List Event → Type 0
-RefersBack history = Each (λ past e. IfSome (number_in e) (λ of. of < length past)) history
+RefersBack history = EachEvent (λ past e. IfSome (number_in e) (λ of. of < length past)) history
 
 -- how many of these commands are of each session
 pub record Counts (counts : List ℕ) (with : Use) (commands : List Command) : Type 0 where

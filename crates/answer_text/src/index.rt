@@ -41,7 +41,7 @@ impl<'a> Index<'a> {
     ghost use Rattle.script_run.specs.Places.{sessions, begins_of, end_of, is_over_at};
     ghost use Rattle.answer_text.specs.Answer.{said};
     ghost use Rattle.answer_text.specs.Printed.{answer_at, split_of};
-    ghost use Rattle.answer_text.specs.Marks.{IsPlace};
+    ghost use Rattle.answer_text.specs.Marks.{IsPosition};
 
     /// The index of these events.
     pub(crate) fn of(events: &'a [Event], notes: &'a Notes) -> Index<'a>
@@ -77,7 +77,7 @@ impl<'a> Index<'a> {
 
     /// Whether a command has begun and has its end.
     pub(crate) fn is_over_at(&self, place: Option<usize>) -> bool
-        requires { IsPlace (reverse self.now.events.now) place }
+        requires { IsPosition (reverse self.now.events.now) place }
         ensures { result ≡ is_over_at (reverse self.now.events.now) place }
     {
         match place {
@@ -110,7 +110,7 @@ impl<'a> Index<'a> {
 
     /// What is said of a command that began at a place.
     pub(crate) fn answer_at(&self, command: &Command, place: Option<usize>) -> Answer
-        requires { IsPlace (reverse self.now.events.now) place }
+        requires { IsPosition (reverse self.now.events.now) place }
         ensures { said result ≡ answer_at command.now (reverse self.now.events.now) place }
     {
         match place {
@@ -137,7 +137,7 @@ impl<'a> Index<'a> {
 
     /// The page that was shown for a command that began at a place.
     pub(crate) fn page_at(&self, place: Option<usize>) -> Option<&Page>
-        requires { IsPlace (reverse self.now.events.now) place }
+        requires { IsPosition (reverse self.now.events.now) place }
         ensures { option_copied result ≡ option_and_then (page_of (reverse self.now.events.now)) place }
     {
         match place {

@@ -4,7 +4,7 @@ ghost use Rattle.std.specs.String.{string_bytes};
 ghost use Rattle.script_run.specs.Phases.{phases};
 ghost use Rattle.script_run.specs.Places.{are_over, places_behind};
 ghost use Rattle.answer_text.specs.Printed.{lines, phase_behind, phase_lines, phase_text, text_at, told};
-ghost use Rattle.answer_text.specs.Marks.{Counts, IsPlace, RefersBack};
+ghost use Rattle.answer_text.specs.Marks.{Counts, IsPosition, RefersBack};
 
 use crate::index::Index;
 use crate::line::{Line, Word, push_line};
@@ -41,7 +41,7 @@ fn places(
 
 // Whether all commands that begin at these places have begun and have their ends.
 fn are_over(index: &Index, places: &[Option<usize>]) -> bool
-    requires { All (IsPlace (reverse index.now.events.now)) places.now }
+    requires { All (IsPosition (reverse index.now.events.now)) places.now }
     ensures { result ≡ are_over (reverse index.now.events.now) places.now }
 {
     for place in places {
@@ -60,7 +60,7 @@ fn push_text(
     place: Option<usize>,
     index: &Index,
 ) -> Result<(), AllocError>
-    requires { IsPlace (reverse index.now.events.now) place }
+    requires { IsPosition (reverse index.now.events.now) place }
     ensures { OnOk result (string_bytes text.new ≡ string_bytes text.old ++ text_at number command.now (reverse index.now.events.now) place) }
 {
     match index.page_at(place) {
@@ -90,7 +90,7 @@ fn push_lines(
 ) -> Result<(), AllocError>
     requires few { first + length commands.now ≤ 2 ^ 64 }
     requires same { length places.now ≡ length commands.now }
-    requires places { All (IsPlace (reverse index.now.events.now)) places.now }
+    requires places { All (IsPosition (reverse index.now.events.now)) places.now }
     ensures { OnOk result (string_bytes text.new ≡ string_bytes text.old ++ lines first commands.now places.now (reverse index.now.events.now)) }
 {
     for (i, command) in commands.iter().enumerate() {
@@ -110,7 +110,7 @@ fn push_phase(
 ) -> Result<(), AllocError>
     requires few { first + length phase.now ≤ 2 ^ 64 }
     requires same { length places.now ≡ length phase.now }
-    requires places { All (IsPlace (reverse index.now.events.now)) places.now }
+    requires places { All (IsPosition (reverse index.now.events.now)) places.now }
     ensures { OnOk result (string_bytes text.new ≡ string_bytes text.old ++ phase_lines first phase.now places.now (reverse index.now.events.now)) }
 {
     if are_over(index, places) {

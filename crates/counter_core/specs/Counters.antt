@@ -4,7 +4,7 @@ use Rattle.std.specs.List.{sum}
 use Rattle.std.proofs.Common.{◌∙◌, refl}
 use mathlib.Core.Option.{some}
 use lib.ListN.{get_elem?}
-use Rattle.turn_table.specs.Numbered.{value_of, AreApart, write_all}
+use Rattle.turn_table.specs.Numbered.{value_of, HaveOwnNumbers, write_all}
 use Rattle.turn_table.specs.Law.{IsLawful}
 
 -- the sum of all counters
@@ -13,7 +13,7 @@ whole = 30
 
 -- the held counters change so that the sum of all counters stays, whatever the others are
 abbrev pub KeepsSum : List (ℕ × ℕ) → List (ℕ × ℕ) → Type 0
-KeepsSum held new = (cells : List ℕ) → ((k c : ℕ) → value_of held k ≡ some c → get_elem? cells k ≡ some c) → AreApart new → sum (write_all cells new) ≡ sum cells
+KeepsSum held new = (cells : List ℕ) → ((k c : ℕ) → value_of held k ≡ some c → get_elem? cells k ≡ some c) → HaveOwnNumbers new → sum (write_all cells new) ≡ sum cells
 
 -- a change that keeps the sum is lawful; there is no list
 pub lawful : IsLawful {Cell = ℕ} {Actor = ℕ} {Entry = ℕ} (λ cells _. sum cells ≡ whole) 0 (λ _. []) (λ _ _. ⊥) (λ s new _ _ _. KeepsSum s.held new)

@@ -7,7 +7,7 @@ use Rattle.std.proofs.lemmas.List.{length-map, take_rest}
 use Rattle.dim_hierarchy.specs.Dimension.{Dimension}
 use Rattle.describing_set.specs.declared.set.DescSet.{DescSet}
 use Rattle.hierarchy_split.specs.Order.{least, IsOrder, IsBetween, IsPlace, shared_count}
-use Rattle.hierarchy_split.specs.Cut.{lifted, leasts, IsCutLevel, IsDimCut, concepts_of, overlap, IsGood, ComesFirst, IsGoodCut}
+use Rattle.hierarchy_split.specs.Cut.{lifted, leasts, IsCutLevel, IsDimCut, concepts_of, overlap, IsGood, IsBetterCut, IsGoodCut}
 use Rattle.hierarchy_split.specs.declared.cut.Cut.{Cut}
 use Rattle.hierarchy_split.specs.declared.cut.Candidate.{Candidate}
 use Rattle.hierarchy_split.proofs.Orders.{places_length, places_below, IsOrder-unique, IsPlace-unique}
@@ -98,7 +98,7 @@ pub record IsCandidate (h : List Dimension) (sets : List DescSet) (found : Candi
 pub record IsBestOf (h : List Dimension) (sets : List DescSet) (n : ℕ) (found : Candidate) : Type 0 where
   pub candidate : IsCandidate h sets found
   pub below : found.cut.dim < n
-  pub first : (other : Cut) → other.dim < n → IsDimCut h sets other → IsGood h sets other → ComesFirst h sets found.cut other
+  pub first : (other : Cut) → other.dim < n → IsDimCut h sets other → IsGood h sets other → IsBetterCut h sets found.cut other
 
 abbrev pub HasNoGood : List Dimension → List DescSet → ℕ → Type 0
 HasNoGood h sets n = (other : Cut) → other.dim < n → IsDimCut h sets other → ¬ IsGood h sets other
@@ -122,7 +122,7 @@ Choosing-skips h sets n (Some best) i here = record {
 }
 
 -- the other cut of the same dimension comes at the same place
-same_first : (h : List Dimension) (sets : List DescSet) (cut a b : Cut) → SameCut a b → ComesFirst h sets cut a → ComesFirst h sets cut b
+same_first : (h : List Dimension) (sets : List DescSet) (cut a b : Cut) → SameCut a b → IsBetterCut h sets cut a → IsBetterCut h sets cut b
 same_first h sets cut a b s f =
     let e = overlap-same h sets a b s in
     let l = s.level in
@@ -147,7 +147,7 @@ Choosing-keeps h sets n (Some best) found i c d some better = record {
   ];
 }
   where
-    before : ComesFirst h sets best.cut found.cut
+    before : IsBetterCut h sets best.cut found.cut
     before =
         let a = i.candidate.overlap in
         let b = c.overlap in
@@ -169,7 +169,7 @@ Choosing-keeps h sets n (Some best) found i c d some better = record {
         ]
 
 -- what comes before a cut of a lower dimension comes before what that one comes before
-better_first : (h : List Dimension) (sets : List DescSet) (found best : Candidate) (other : Cut) → IsCandidate h sets found → IsCandidate h sets best → IsBetter found best → ComesFirst h sets best.cut other → ComesFirst h sets found.cut other
+better_first : (h : List Dimension) (sets : List DescSet) (found best : Candidate) (other : Cut) → IsCandidate h sets found → IsCandidate h sets best → IsBetter found best → IsBetterCut h sets best.cut other → IsBetterCut h sets found.cut other
 better_first h sets found best other c b better f =
     let p = c.overlap in
     let q = b.overlap in
@@ -191,13 +191,13 @@ Choosing-takes h sets n best found i c d better = record {
   ];
 }
   where
-    below : (best : Option Candidate) → Choosing h sets n best → IfSome best (λ b. IsTrue true ↔ IsBetter found b) → (other : Cut) → other.dim < n → IsDimCut h sets other → IsGood h sets other → ComesFirst h sets found.cut other
+    below : (best : Option Candidate) → Choosing h sets n best → IfSome best (λ b. IsTrue true ↔ IsBetter found b) → (other : Cut) → other.dim < n → IsDimCut h sets other → IsGood h sets other → IsBetterCut h sets found.cut other
     below None none better other less o g = absurd (none other less o g)
     below (Some best) i better other less o g = better_first h sets found best other c i.candidate (better.0 refl) (i.first other less o g)
 
 -- There is one good cut at most.
 
-same_dim : (h : List Dimension) (sets : List DescSet) (a b : Cut) → ComesFirst h sets a b → ComesFirst h sets b a → a.dim ≡ b.dim
+same_dim : (h : List Dimension) (sets : List DescSet) (a b : Cut) → IsBetterCut h sets a b → IsBetterCut h sets b a → a.dim ≡ b.dim
 same_dim h sets a b p q = elim p [
   | inl x ↦ elim q [ inl y ↦ absurd (omega (arith, x, y)) | inr y ↦ absurd (omega (arith, x, y.0)) ]
   | inr x ↦ elim q [

@@ -51,8 +51,8 @@ pub record IsGood (h : List Dimension) (sets : List DescSet) (cut : Cut) : Type 
   pub overlap : 5 * overlap h sets cut ≤ length sets
 
 -- the first cut has the smaller overlap; or the same, and a level of a lower number; or that too, and no higher dimension
-abbrev pub ComesFirst : List Dimension → List DescSet → Cut → Cut → Type 0
-ComesFirst h sets cut other =
+abbrev pub IsBetterCut : List Dimension → List DescSet → Cut → Cut → Type 0
+IsBetterCut h sets cut other =
     (overlap h sets cut < overlap h sets other)
     ⊎ ((overlap h sets cut ≡ overlap h sets other)
     × ((cut.level < other.level) ⊎ ((cut.level ≡ other.level) × (cut.dim ≤ other.dim))))
@@ -61,4 +61,4 @@ ComesFirst h sets cut other =
 pub record IsGoodCut (h : List Dimension) (sets : List DescSet) (cut : Cut) : Type 0 where
   pub dim_cut : IsDimCut h sets cut
   pub good : IsGood h sets cut
-  pub first : (other : Cut) → IsDimCut h sets other → IsGood h sets other → ComesFirst h sets cut other
+  pub first : (other : Cut) → IsDimCut h sets other → IsGood h sets other → IsBetterCut h sets cut other

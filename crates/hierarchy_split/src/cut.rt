@@ -1,8 +1,10 @@
 ghost use Rattle.std.specs.Prelude.{◌≡◌, ◌<◌, ◌≤◌, ◌⊎◌, ◌↔◌, length, All, IsTrue, IfSome, IfNone, IsPermutation};
 ghost use Rattle.std.specs.List.{range_with_len};
 ghost use Rattle.describing_set.specs.DescSet.{IsDescSetOf};
+ghost use Rattle.hierarchy_split.specs.Limits.{most_items};
 
 use crate::leasts::cut_level;
+use crate::limits::MOST_ITEMS;
 use crate::order::{cut_place, order};
 use crate::overlap::overlap;
 use arrayvec::ArrayVec;
@@ -15,7 +17,7 @@ use dim_hierarchy::Hierarchy;
 pub struct Cut {
     pub dim: u8,
     pub level: u8,
-    pub order: ArrayVec<u8, 32>,
+    pub order: ArrayVec<u8, MOST_ITEMS>,
     pub left: u8,
 }
 
@@ -41,7 +43,7 @@ impl Cut {
 fn dim_cut(sets: &[DescSet], h: &Hierarchy, dim: u8) -> Option<Cut>
     requires dim { dim < length h.now }
     requires some { 0 < length sets.now }
-    requires many { length sets.now ≤ 32 }
+    requires few { length sets.now ≤ most_items }
     requires sets { All (IsDescSetOf h.now) sets.now }
     ensures dim { IfSome result (λ cut. cut.dim ≡ dim) }
     ensures some { IfSome result (IsDimCut h.now sets.now) }
@@ -62,7 +64,7 @@ fn dim_cut(sets: &[DescSet], h: &Hierarchy, dim: u8) -> Option<Cut>
 fn good_cut(sets: &[DescSet], h: &Hierarchy, dim: u8) -> Option<Candidate>
     requires dim { dim < length h.now }
     requires some { 0 < length sets.now }
-    requires many { length sets.now ≤ 32 }
+    requires few { length sets.now ≤ most_items }
     requires sets { All (IsDescSetOf h.now) sets.now }
     ensures dim { IfSome result (λ found. found.cut.dim ≡ dim) }
     ensures cut { IfSome result (λ found. IsDimCut h.now sets.now found.cut) }
@@ -108,8 +110,8 @@ fn is_better(found: &Candidate, best: &Option<Candidate>) -> bool
 /// Of the dimensions whose cuts are good it is the one with the least overlap, then with the
 /// lower-numbered level, then with the lower number. A set without concepts has `ALL` as its least.
 pub fn choose(sets: &[DescSet], h: &Hierarchy) -> Option<Cut>
-    requires few { 2 ≤ length sets.now }
-    requires many { length sets.now ≤ 32 }
+    requires some { 2 ≤ length sets.now }
+    requires few { length sets.now ≤ most_items }
     requires sets { All (IsDescSetOf h.now) sets.now }
     ensures cut { IfSome result (IsGoodCut h.now sets.now) }
     ensures none { IfNone result

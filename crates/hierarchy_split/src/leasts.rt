@@ -5,7 +5,9 @@ ghost use Rattle.dim_hierarchy.specs.Dimension.{tree};
 ghost use Rattle.describing_set.specs.DescSet.{part_at, IsDescSetOf};
 ghost use Rattle.hierarchy_split.specs.Order.{least, AreEqual};
 ghost use Rattle.hierarchy_split.specs.Cut.{lifted, leasts, IsAbove, IsCutLevel};
+ghost use Rattle.hierarchy_split.specs.Limits.{most_items};
 
+use crate::limits::MOST_ITEMS;
 use arrayvec::ArrayVec;
 use describing_set::{DescSet, Part};
 use dim_hierarchy::{ConceptId, Hierarchy};
@@ -14,7 +16,7 @@ use dim_hierarchy::{ConceptId, Hierarchy};
 #[derive(Drop)]
 pub struct Lift {
     pub level: u8,
-    pub leasts: ArrayVec<ConceptId, 32>,
+    pub leasts: ArrayVec<ConceptId, MOST_ITEMS>,
 }
 
 /// The part of a set in a dimension.
@@ -51,9 +53,9 @@ fn least(set: &DescSet, h: &Hierarchy, dim: u8, level: u8) -> ConceptId
 }
 
 /// The least lifted concept of each item.
-fn leasts(sets: &[DescSet], h: &Hierarchy, dim: u8, level: u8) -> ArrayVec<ConceptId, 32>
+fn leasts(sets: &[DescSet], h: &Hierarchy, dim: u8, level: u8) -> ArrayVec<ConceptId, MOST_ITEMS>
     requires dim { dim < length h.now }
-    requires many { length sets.now ≤ 32 }
+    requires few { length sets.now ≤ most_items }
     requires sets { All (IsDescSetOf h.now) sets.now }
     requires level { IsAbove sets.now dim level }
     ensures { result.items ≡ leasts h.now sets.now dim level }
@@ -97,7 +99,7 @@ fn are_equal(leasts: &[ConceptId]) -> bool
 pub fn cut_level(sets: &[DescSet], h: &Hierarchy, dim: u8) -> Option<Lift>
     requires dim { dim < length h.now }
     requires some { 0 < length sets.now }
-    requires many { length sets.now ≤ 32 }
+    requires few { length sets.now ≤ most_items }
     requires sets { All (IsDescSetOf h.now) sets.now }
     ensures level { IfSome result (λ lift. IsCutLevel h.now sets.now dim lift.level) }
     ensures leasts { IfSome result (λ lift. lift.leasts.items ≡ leasts h.now sets.now dim lift.level) }

@@ -3,6 +3,7 @@
 
 mod cut;
 mod leasts;
+mod limits;
 mod order;
 mod overlap;
 #[cfg(test)]

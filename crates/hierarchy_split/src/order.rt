@@ -1,6 +1,8 @@
 ghost use Rattle.std.specs.Prelude.{◌≡◌, ◌-◌, ◌<◌, ◌≤◌, ◌↔◌, ℕ, length, slice_index, All, IsTrue, IfSome, IfNone};
 ghost use Rattle.hierarchy_split.specs.Order.{IsOrder, IsBetween, distance, IsPlace};
+ghost use Rattle.hierarchy_split.specs.Limits.{most_items};
 
+use crate::limits::MOST_ITEMS;
 use arrayvec::ArrayVec;
 use dim_hierarchy::ConceptId;
 
@@ -23,8 +25,8 @@ fn spot(order: &[u8], leasts: &[ConceptId], place: u8) -> usize
 }
 
 /// The places of the items by their least concepts, ties by place.
-pub fn order(leasts: &[ConceptId]) -> ArrayVec<u8, 32>
-    requires { length leasts.now ≤ 32 }
+pub fn order(leasts: &[ConceptId]) -> ArrayVec<u8, MOST_ITEMS>
+    requires { length leasts.now ≤ most_items }
     ensures { IsOrder leasts.now result.items }
 {
     let mut order = ArrayVec::new();
@@ -37,7 +39,7 @@ pub fn order(leasts: &[ConceptId]) -> ArrayVec<u8, 32>
 
 /// How far the two sides of a cut at k are from having as many items.
 fn distance(n: u8, k: u8) -> u8
-    requires n { n ≤ 32 }
+    requires n { n ≤ most_items }
     requires k { k ≤ n }
     ensures { result ≡ distance n k }
 {
@@ -58,7 +60,7 @@ fn is_between(leasts: &[ConceptId], order: &[u8], k: u8) -> bool
 /// Where the cut nearest to the middle lies, the lower one of two. There is none where all items
 /// have the same least concept.
 pub fn cut_place(leasts: &[ConceptId], order: &[u8]) -> Option<u8>
-    requires many { length leasts.now ≤ 32 }
+    requires few { length leasts.now ≤ most_items }
     requires order { IsOrder leasts.now order.now }
     ensures some { IfSome result (IsPlace leasts.now order.now) }
     ensures none { IfNone result ((k : ℕ) → ¬ IsBetween leasts.now order.now k) }
@@ -75,7 +77,7 @@ pub fn cut_place(leasts: &[ConceptId], order: &[u8]) -> Option<u8>
 
 /// Whether a cut at k is nearer to the middle than the best one so far, if there is one.
 fn is_nearer(n: u8, k: u8, best: Option<u8>) -> bool
-    requires n { n ≤ 32 }
+    requires n { n ≤ most_items }
     requires k { k ≤ n }
     requires best { IfSome best (λ b. b ≤ n) }
     ensures some { IfSome best (λ b. IsTrue result ↔ (distance n k < distance n b)) }

@@ -2,15 +2,17 @@ ghost use Rattle.std.specs.Prelude.{◌≡◌, ◌+◌, ◌<◌, ◌≤◌, ◌+
 ghost use Rattle.describing_set.specs.DescSet.{part_at, IsDescSetOf};
 ghost use Rattle.hierarchy_split.specs.Order.{shared_count};
 ghost use Rattle.hierarchy_split.specs.Cut.{lifted, IsAbove, concepts_of};
+ghost use Rattle.hierarchy_split.specs.Limits.{most_items, most_concepts};
 
 use crate::leasts::part;
+use crate::limits::MOST_CONCEPTS;
 use arrayvec::ArrayVec;
 use describing_set::DescSet;
 use dim_hierarchy::{ConceptId, Hierarchy};
 
 /// Adds a set's lifted concepts to a list.
 fn add_lifted(
-    concepts: &mut ArrayVec<ConceptId, 192>,
+    concepts: &mut ArrayVec<ConceptId, MOST_CONCEPTS>,
     set: &DescSet,
     h: &Hierarchy,
     dim: u8,
@@ -19,7 +21,7 @@ fn add_lifted(
     requires dim { dim < length h.now }
     requires set { IsDescSetOf h.now set.now }
     requires level { level ≤ (part_at set.now dim).level }
-    requires room { length concepts.old.items + 6 ≤ 192 }
+    requires room { length concepts.old.items + 6 ≤ most_concepts }
     ensures added { concepts.new.items ≡ concepts.old.items ++ lifted h.now dim level set.now }
     ensures few { length concepts.new.items ≤ length concepts.old.items + 6 }
 {
@@ -35,12 +37,12 @@ fn concepts_of(
     dim: u8,
     level: u8,
     places: &[u8],
-) -> ArrayVec<ConceptId, 192>
+) -> ArrayVec<ConceptId, MOST_CONCEPTS>
     requires dim { dim < length h.now }
     requires sets { All (IsDescSetOf h.now) sets.now }
     requires level { IsAbove sets.now dim level }
     requires places { All (λ place. place < length sets.now) places.now }
-    requires many { length places.now ≤ 32 }
+    requires few { length places.now ≤ most_items }
     ensures { result.items ≡ concepts_of h.now sets.now dim level places.now }
 {
     let mut concepts = ArrayVec::new();
@@ -79,12 +81,12 @@ pub fn overlap(
     requires level { IsAbove sets.now dim level }
     requires left { All (λ place. place < length sets.now) left.now }
     requires right { All (λ place. place < length sets.now) right.now }
-    requires left_few { length left.now ≤ 32 }
-    requires right_few { length right.now ≤ 32 }
+    requires few_left { length left.now ≤ most_items }
+    requires few_right { length right.now ≤ most_items }
     ensures value { result
         ≡ shared_count (concepts_of h.now sets.now dim level left.now)
         (concepts_of h.now sets.now dim level right.now) }
-    ensures fits { result ≤ 192 }
+    ensures fits { result ≤ most_concepts }
 {
     let left = concepts_of(sets, h, dim, level, left);
     let right = concepts_of(sets, h, dim, level, right);

@@ -8,7 +8,7 @@ use Rattle.dim_hierarchy.specs.declared.row.Coord.{Coord}
 use Rattle.describing_set.specs.DescSet.{growth_of, size_of}
 use Rattle.describing_set.specs.declared.set.DescSet.{DescSet}
 use Rattle.dc_node.specs.declared.entry.Entry.{Entry}
-use Rattle.link_descent.specs.Pick.{ComesFirst, IsPick}
+use Rattle.link_descent.specs.Pick.{IsPickedBefore, IsPick}
 
 -- The order, over its numbers: growth, size and place.
 
@@ -49,30 +49,30 @@ first_before ga sa i gb sb j gc sc k before first = elim before [
 abbrev pub IsBefore : List Dimension → Coord → DescSet → DescSet → Type 0
 IsBefore h at a b = Before (growth_of h a at) (size_of h a) (growth_of h b at) (size_of h b)
 
-pub ComesFirst-unless : (h : List Dimension) (at : Coord) (a : DescSet) (i : ℕ) (b : DescSet) (j : ℕ) → i ≤ j → ¬ IsBefore h at b a → ComesFirst h at a i b j
-ComesFirst-unless h at a i b j = first_unless (growth_of h a at) (size_of h a) i (growth_of h b at) (size_of h b) j
+pub IsPickedBefore-unless : (h : List Dimension) (at : Coord) (a : DescSet) (i : ℕ) (b : DescSet) (j : ℕ) → i ≤ j → ¬ IsBefore h at b a → IsPickedBefore h at a i b j
+IsPickedBefore-unless h at a i b j = first_unless (growth_of h a at) (size_of h a) i (growth_of h b at) (size_of h b) j
 
-pub ComesFirst-before : (h : List Dimension) (at : Coord) (a : DescSet) (i : ℕ) (b : DescSet) (j : ℕ) (c : DescSet) (k : ℕ) → IsBefore h at c a → ComesFirst h at a i b j → ComesFirst h at c k b j
-ComesFirst-before h at a i b j c k = first_before (growth_of h a at) (size_of h a) i (growth_of h b at) (size_of h b) j (growth_of h c at) (size_of h c) k
+pub IsPickedBefore-before : (h : List Dimension) (at : Coord) (a : DescSet) (i : ℕ) (b : DescSet) (j : ℕ) (c : DescSet) (k : ℕ) → IsBefore h at c a → IsPickedBefore h at a i b j → IsPickedBefore h at c k b j
+IsPickedBefore-before h at a i b j c k = first_before (growth_of h a at) (size_of h a) i (growth_of h b at) (size_of h b) j (growth_of h c at) (size_of h c) k
 
 not_before_itself : (g s : ℕ) → ¬ Before g s g s
 not_before_itself g s before = elim before [ inl less ↦ omega (arith, less) | inr less ↦ omega (arith, less.1) ]
 
-ComesFirst-same : (h : List Dimension) (at : Coord) (a b : DescSet) (i j : ℕ) → a ≡ b → i ≤ j → ComesFirst h at a i b j
-ComesFirst-same h at a b i j e le =
-    subst (λ s. ComesFirst h at a i s j) e (ComesFirst-unless h at a i a j le (not_before_itself (growth_of h a at) (size_of h a)))
+IsPickedBefore-same : (h : List Dimension) (at : Coord) (a b : DescSet) (i j : ℕ) → a ≡ b → i ≤ j → IsPickedBefore h at a i b j
+IsPickedBefore-same h at a b i j e le =
+    subst (λ s. IsPickedBefore h at a i s j) e (IsPickedBefore-unless h at a i a j le (not_before_itself (growth_of h a at) (size_of h a)))
 
 -- the set at a place comes first of the first n
 pub record IsBestOf (h : List Dimension) (at : Coord) (sets : List DescSet) (n best : ℕ) : Type 0 where
   pub within : best < n
-  pub first : (set other : DescSet) (j : ℕ) → j < n → slice_get sets best ≡ Some set → slice_get sets j ≡ Some other → ComesFirst h at set best other j
+  pub first : (set other : DescSet) (j : ℕ) → j < n → slice_get sets best ≡ Some set → slice_get sets j ≡ Some other → IsPickedBefore h at set best other j
 
 pub IsBestOf-one : (h : List Dimension) (at : Coord) (sets : List DescSet) → IsBestOf h at sets 1 0
 IsBestOf-one h at sets = record {
   within = omega arith;
   first = λ set other j lt p q.
       let e : j ≡ 0 = omega arith in
-      ComesFirst-same h at set other 0 j (same_Some set other (sym p ∙ ap (slice_get sets) (sym e) ∙ q)) (omega arith);
+      IsPickedBefore-same h at set other 0 j (same_Some set other (sym p ∙ ap (slice_get sets) (sym e) ∙ q)) (omega arith);
 }
 
 pub IsBestOf-keeps : (h : List Dimension) (at : Coord) (sets : List DescSet) (n best : ℕ) (set next : DescSet) → IsBestOf h at sets n best → slice_get sets best ≡ Some set → slice_get sets n ≡ Some next → ¬ IsBefore h at next set → IsBestOf h at sets (n + 1) best
@@ -85,8 +85,8 @@ IsBestOf-keeps h at sets n best set next b here there unless = record {
         let w = b.within in
         let one_is : set ≡ one = same_Some set one (sym here ∙ p) in
         let other_is : next ≡ other = same_Some next other (sym there ∙ ap (slice_get sets) (sym e) ∙ q) in
-        subst (λ s. ComesFirst h at s best other j) one_is
-        (subst (λ s. ComesFirst h at set best s j) other_is (ComesFirst-unless h at set best next j (omega (arith, w, ge)) unless))
+        subst (λ s. IsPickedBefore h at s best other j) one_is
+        (subst (λ s. IsPickedBefore h at set best s j) other_is (IsPickedBefore-unless h at set best next j (omega (arith, w, ge)) unless))
   ];
 }
 
@@ -96,10 +96,10 @@ IsBestOf-takes h at sets n best set next b here there before = record {
   first = λ one other j lt p q.
       let one_is : next ≡ one = same_Some next one (sym there ∙ p) in
       elim (cases_lt j n) [
-        | inl less ↦ subst (λ s. ComesFirst h at s n other j) one_is (ComesFirst-before h at set best other j next n before (b.first set other j less here q))
+        | inl less ↦ subst (λ s. IsPickedBefore h at s n other j) one_is (IsPickedBefore-before h at set best other j next n before (b.first set other j less here q))
         | inr ge ↦
             let e : j ≡ n = omega arith in
-            ComesFirst-same h at one other n j (same_Some one other (sym p ∙ ap (slice_get sets) (sym e) ∙ q)) (omega arith)
+            IsPickedBefore-same h at one other n j (same_Some one other (sym p ∙ ap (slice_get sets) (sym e) ∙ q)) (omega arith)
       ];
 }
 

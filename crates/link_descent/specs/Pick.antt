@@ -6,8 +6,8 @@ use Rattle.describing_set.specs.DescSet.{growth_of, size_of}
 use Rattle.describing_set.specs.declared.set.DescSet.{DescSet}
 
 -- the first set is grown less by the coordinate; or as much, and it is smaller; or as large, and it stands at no later place
-abbrev pub ComesFirst : List Dimension → Coord → DescSet → ℕ → DescSet → ℕ → Type 0
-ComesFirst h at a i b j =
+abbrev pub IsPickedBefore : List Dimension → Coord → DescSet → ℕ → DescSet → ℕ → Type 0
+IsPickedBefore h at a i b j =
     (growth_of h a at < growth_of h b at)
     ⊎ ((growth_of h a at ≡ growth_of h b at)
     × ((size_of h a < size_of h b) ⊎ ((size_of h a ≡ size_of h b) × (i ≤ j))))
@@ -15,4 +15,4 @@ ComesFirst h at a i b j =
 -- the place of the set that comes first for a coordinate
 pub record IsPick (h : List Dimension) (at : Coord) (sets : List DescSet) (place : ℕ) : Type 0 where
   pub within : place < length sets
-  pub first : (set other : DescSet) (j : ℕ) → slice_get sets place ≡ Some set → slice_get sets j ≡ Some other → ComesFirst h at set place other j
+  pub first : (set other : DescSet) (j : ℕ) → slice_get sets place ≡ Some set → slice_get sets j ≡ Some other → IsPickedBefore h at set place other j

@@ -23,7 +23,7 @@ use Rattle.answer_text.specs.Printed.{answer_text, line, line_at, lines, page_te
 use Rattle.script_run.specs.Places.{end_of}
 use Rattle.script_run.proofs.PlaceFacts.{GoesOn, HaveBegun, begins_of-here, begins_of-other, count_of-append, places_behind-append, places_behind-kept, places_behind-length, places-push}
 use Rattle.answer_text.proofs.TextFacts.{IsSameAt, lines-append, lines-kept}
-use Rattle.row_ledger.specs.Right.{Each}
+use Rattle.row_ledger.specs.Right.{EachEvent}
 use Rattle.script_run.specs.Pulls.{HasPulls}
 use Rattle.script_run.specs.Runs.{Begins, BeginsAt, InsertEnds}
 use Rattle.olap_top.specs.Keeps.{HasDone}
@@ -47,7 +47,7 @@ pub record IsCommand (with : Use) (c : Command) (history grown : List Event) (b 
   pub past_here : before grown (length history) ≡ history
   pub past_older : (q : ℕ) → q ≤ length history → before grown q ≡ before history q
   pub starts : (session : ℕ) → begins_of grown session ≡ begins_of (b ∷ history) session
-  pub pulls : Each (HasPulls with) history → Each (HasPulls with) grown
+  pub pulls : EachEvent (HasPulls with) history → EachEvent (HasPulls with) grown
 
 -- where an event stands is within the history
 pub known-event : (history : List Event) (p : ℕ) (x : Event) → event_at history p ≡ Some x → p < length history

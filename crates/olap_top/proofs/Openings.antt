@@ -12,7 +12,7 @@ use Rattle.row_ledger.specs.Past.{event_at, is_beginning, pull_in, acked}
 use Rattle.row_ledger.specs.Shards.{Place, place, frontier, places_after, was_listed}
 use Rattle.row_ledger.specs.Bounds.{CanAnswer}
 use Rattle.row_ledger.specs.Listings.{IsFirstListing, places_of}
-use Rattle.row_ledger.specs.Right.{Site, Each, IsFirstPull, IsOpening}
+use Rattle.row_ledger.specs.Right.{Site, EachEvent, IsFirstPull, IsOpening}
 use Rattle.row_ledger.proofs.Answering.{CanAnswer-nil, CanAnswer-older}
 use Rattle.script_run.specs.Places.{begins_of}
 use Rattle.script_run.specs.Pulls.{HasPulls}
@@ -74,8 +74,8 @@ opening-none site = along site (λ h. (p : ℕ) (e : Event) → event_at h p ≡
           older p e (sym before ∙ at)
     ]
 
-pub opening-pulls : (with : Use) (h : List Dimension) (history : List Event) → IsOpening (site with h) history → Each (HasPulls with) history
-opening-pulls with h = along (site with h) (Each (HasPulls with)) tt (λ past listing first early older. (tt, older))
+pub opening-pulls : (with : Use) (h : List Dimension) (history : List Event) → IsOpening (site with h) history → EachEvent (HasPulls with) history
+opening-pulls with h = along (site with h) (EachEvent (HasPulls with)) tt (λ past listing first early older. (tt, older))
 
 opening-frontier : (site : Site) (h : List Event) → IsOpening site h → frontier 1 h ≡ place 0 0 ∷ []
 opening-frontier site = along site (λ h. frontier 1 h ≡ place 0 0 ∷ []) refl (λ past listing first early is. is)

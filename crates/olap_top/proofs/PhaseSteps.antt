@@ -19,12 +19,12 @@ use Rattle.olap_top.specs.Keeps.{HasDone, IsOpened, is_placed}
 use Rattle.olap_top.specs.Site.{site}
 use Rattle.olap_top.specs.Outcomes.{HasRun, RunsInOrder, RanTo, RanInto, TookPart}
 use Rattle.olap_top.specs.declared.words.Request.TheVariants.{Step}
-use Rattle.script_run.specs.Runs.{IsPart, IsSerial, InsertEnds}
+use Rattle.script_run.specs.Runs.{IsRunSoFar, IsSerial, InsertEnds}
 use Rattle.olap_top.specs.RunSoFar.{IsRun, IsHalted, HasGone, lines_of}
 use Rattle.olap_top.specs.declared.run.Run.{Run}
 use Rattle.olap_top.proofs.KeepsSteps.{KeepsRun-opened}
 use Rattle.olap_top.proofs.RunSteps.{lines_of-nil}
-use Rattle.olap_top.proofs.RunFacts.{IsPart-done, IsRunOf-done, IsSerial-into, inserts-done, inserts-into, are_over-done, are_over-first, none_more}
+use Rattle.olap_top.proofs.RunFacts.{IsRunSoFar-done, IsRunOf-done, IsSerial-into, inserts-done, inserts-into, are_over-done, are_over-first, none_more}
 
 -- What a sink took.
 
@@ -140,7 +140,7 @@ next-all rest phase more next = sym (all_of-phases rest) ∙ ap all_of next.spli
 -- What is done is a part of a run, in which each command ends before the next begins.
 pub in_order-done : (s : Script) (done rest : List Command) (history : List Event) → HasDone s.with s.hierarchy done history → done ++ rest ≡ s.commands → RunsInOrder s history
 in_order-done s done rest history has whole = record {
-  part = subst (λ l. IsPart s.with s.hierarchy l history) whole (IsPart-done s.with s.hierarchy done rest history has);
+  part = subst (λ l. IsRunSoFar s.with s.hierarchy l history) whole (IsRunSoFar-done s.with s.hierarchy done rest history has);
   serial = subst (λ l. IsSerial s.with l history) whole (IsSerial-into s.with s.hierarchy done rest history has);
 }
 
@@ -196,7 +196,7 @@ at-halt s rest phase more taken_before taken_now run now next at halted =
       phase = length at.ps;
       right = halted.right;
       run = record {
-        part = subst (λ l. IsPart s.with s.hierarchy l now) whole (IsPart-done s.with s.hierarchy (done ++ part) (drop halted.count phase) now halted.has);
+        part = subst (λ l. IsRunSoFar s.with s.hierarchy l now) whole (IsRunSoFar-done s.with s.hierarchy (done ++ part) (drop halted.count phase) now halted.has);
         over = rw (first-phases s at.ps (phases rest) at.first) over;
       };
       inserts = subst (λ l. AllZip (λ c p. IsTrue (is_over_at now p) → InsertEnds s.hierarchy now c p) l (places s.with l now)) (halt-all s rest phase more taken_before taken_now run now next at halted)

@@ -15,7 +15,7 @@ use Rattle.script_run.specs.Phases.{ranks}
 use Rattle.script_run.specs.Places.{places, places_behind, are_over, is_over_at}
 use Rattle.script_run.proofs.PlaceFacts.{NoneMore, places_behind-append, places_behind-none}
 use Rattle.olap_top.specs.Keeps.{HasDone}
-use Rattle.script_run.specs.Runs.{BeginsAt, EndsBefore, InsertEnds, IsPart, IsRunOf, IsSerial}
+use Rattle.script_run.specs.Runs.{BeginsAt, EndsBefore, InsertEnds, IsRunSoFar, IsRunOf, IsSerial}
 use Rattle.olap_top.proofs.Zips.{All-zip, AllZip-weaker}
 
 -- Lists side by side.
@@ -77,8 +77,8 @@ in_turn history (p ∷ ps) rest serial =
 
 -- Parts and whole runs.
 
-pub IsPart-done : (with : Use) (h : List Dimension) (done rest : List Command) (history : List Event) → HasDone with h done history → IsPart with h (done ++ rest) history
-IsPart-done with h done rest history has =
+pub IsRunSoFar-done : (with : Use) (h : List Dimension) (done rest : List Command) (history : List Event) → HasDone with h done history → IsRunSoFar with h (done ++ rest) history
+IsRunSoFar-done with h done rest history has =
     let at = places-with with h done rest history has in
     let pairs : AllPairs (EndsBefore history) (places with (done ++ rest) history) =
     subst (AllPairs (EndsBefore history)) (sym at) (in_turn history has.begins rest has.serial) in
@@ -117,7 +117,7 @@ are_over-first with h front back history has =
 
 pub IsRunOf-done : (with : Use) (h : List Dimension) (done : List Command) (history : List Event) → HasDone with h done history → IsRunOf with h done history
 IsRunOf-done with h done history has = record {
-  part = subst (λ l. IsPart with h l history) (append-nil done) (IsPart-done with h done [] history has);
+  part = subst (λ l. IsRunSoFar with h l history) (append-nil done) (IsRunSoFar-done with h done [] history has);
   over = are_over-done with h done history has;
 }
 

@@ -11,7 +11,7 @@ use Rattle.row_ledger.specs.Past.{event_at, before, is_over, is_beginning, acked
 use Rattle.row_ledger.specs.Bounds.{CanAnswer}
 use Rattle.row_ledger.specs.Shards.{place, frontier, was_listed}
 use Rattle.row_ledger.specs.Pages.{IsPageOf}
-use Rattle.row_ledger.specs.Right.{Each, IsOpening, KeepsRight}
+use Rattle.row_ledger.specs.Right.{EachEvent, IsOpening, KeepsRight}
 use Rattle.shard_tree.specs.Shard.{ShardValue, rows_of, IsShardOf}
 use Rattle.script_form.specs.declared.script.Command.{Command}
 use Rattle.olap_top.specs.Site.{site}
@@ -42,7 +42,7 @@ pub record HasDone (with : Use) (h : List Dimension) (done : List Command) (hist
   pub begun : AllZip (λ c p. BeginsAt with h history c (Some p)) done begins
   pub only : (p : ℕ) (e : Event) → event_at history p ≡ Some e → IsTrue (is_beginning e) → Contains begins p
   pub over : All (λ p. IsTrue (is_over history p)) begins
-  pub pulls : Each (HasPulls with) history
+  pub pulls : EachEvent (HasPulls with) history
   pub serial : AllPairs (λ p q. (p < q) × IsTrue (is_over (before history q) p)) begins
   pub inserts : AllZip (λ c p. InsertEnds h history c (Some p)) done begins
 

@@ -18,7 +18,7 @@ use Rattle.script_run.specs.Phases.{phases_to}
 use Rattle.script_run.specs.Places.{places, is_over_at}
 use Rattle.answer_text.specs.Printed.{told, told_to, bad_line}
 use Rattle.olap_top.specs.Site.{site}
-use Rattle.script_run.specs.Runs.{IsPart, IsRunOf, IsRunInto, IsSerial, InsertEnds}
+use Rattle.script_run.specs.Runs.{IsRunSoFar, IsRunOf, IsRunInto, IsSerial, InsertEnds}
 use Rattle.olap_top.specs.declared.words.Request.{Request}
 use Rattle.olap_top.specs.declared.words.Request.TheVariants.{Step}
 
@@ -66,7 +66,7 @@ pub record HasRun (with : Use) (h : List Dimension) (commands : List Command) (h
 
 -- the history is a part of a run of this script, and in it the commands begin in order, each when the one before has ended
 pub record RunsInOrder (s : Script) (history : List Event) : Type 0 where
-  pub part : IsPart s.with s.hierarchy s.commands history
+  pub part : IsRunSoFar s.with s.hierarchy s.commands history
   pub serial : IsSerial s.with s.commands history
 
 pub record IsSerialRun (request : Request) (left_before left_now : Option (List ℕ)) (history : List Event) : Type 0 where
@@ -122,7 +122,7 @@ pub record IsNoScript (left_before left_now taken_before taken_now : Option (Lis
       ⊎ (Rose faults_before faults_now × TookPart taken_before taken_now (bad_line at cause))
 
 -- the source tells its bytes, and they are a script
-pub record IsGood (left : Option (List ℕ)) : Type 0 where
+pub record IsGoodScript (left : Option (List ℕ)) : Type 0 where
   pub bytes : List ℕ
   pub tells : left ≡ Some bytes
   pub few : length bytes ≤ 2 ^ 26

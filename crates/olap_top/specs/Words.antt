@@ -9,5 +9,5 @@ abbrev pub AskFor : List (String Global) → Request → Type 0
 AskFor words Step = map string_bytes words ≡ codes "step" ∷ []
 
 -- the words ask for something of which this holds
-abbrev pub Asked : List (String Global) → (Request → Type 0) → Type 0
-Asked words P = (request : Request) × AskFor words request × P request
+abbrev pub ForSomeRequest : List (String Global) → (Request → Type 0) → Type 0
+ForSomeRequest words P = (request : Request) × AskFor words request × P request

@@ -10,8 +10,8 @@ ghost use Rattle.script_form.specs.declared.script.ScriptFault.TheVariants as fa
 ghost use Rattle.answer_text.specs.Printed.{told, bad_line};
 ghost use Rattle.olap_top.specs.Keeps.{KeepsShard};
 ghost use Rattle.olap_top.specs.RunSoFar.{IsRun};
-ghost use Rattle.olap_top.specs.Outcomes.{TookPart, HasRun, RunsInOrder, IsSerialRun, RanTo, RanInto, IsDone, IsCutOff, IsStarved, IsNoScript, IsGood};
-ghost use Rattle.olap_top.specs.Words.{AskFor, Asked};
+ghost use Rattle.olap_top.specs.Outcomes.{TookPart, HasRun, RunsInOrder, IsSerialRun, RanTo, RanInto, IsDone, IsCutOff, IsStarved, IsNoScript, IsGoodScript};
+ghost use Rattle.olap_top.specs.Words.{AskFor, ForSomeRequest};
 ghost use Rattle.olap_top.specs.declared.words.Request.{Request};
 
 use crate::opening::opened;
@@ -243,20 +243,20 @@ pub fn olap<R: Threads + Wait + Sync, S: Source, K: Sink, M: Meet>(
         × (result.ledger.history ≡ []) }
     ensures write_fault { result.status ≡ Status.WriteFault
         → Rose (K.faults sink.old) (K.faults sink.new)
-        × Asked words.now (λ r. IsCutOff r
+        × ForSomeRequest words.now (λ r. IsCutOff r
         (S.left source.old) (S.left source.new)
         (K.taken sink.old) (K.taken sink.new)
         result.ledger.history) }
     ensures no_memory { result.status ≡ Status.NoMemory
         → ((sink.new ≡ sink.old) × (result.ledger.history ≡ []))
-        ⊎ Asked words.now (λ r. IsStarved r
+        ⊎ ForSomeRequest words.now (λ r. IsStarved r
         (S.left source.old) (S.left source.new)
         (K.taken sink.old) (K.taken sink.new)
         result.ledger.history) }
 
     // The headline.
     ensures done { result.status ≡ Status.Done
-        → Asked words.now (λ r. IsDone r
+        → ForSomeRequest words.now (λ r. IsDone r
         (S.left source.old) (S.left source.new)
         (K.taken sink.old) (K.taken sink.new)
         result.ledger.history) }
@@ -268,7 +268,7 @@ pub fn olap<R: Threads + Wait + Sync, S: Source, K: Sink, M: Meet>(
 
     // A good script on which no fault rises is run to its end, unless memory runs out.
     ensures complete { AskFor words.now Request.Step
-        → IsGood (S.left source.old)
+        → IsGoodScript (S.left source.old)
         → ¬ Rose (S.faults source.old) (S.faults source.new)
         → ¬ Rose (K.faults sink.old) (K.faults sink.new)
         → (result.status ≡ Status.Done) ⊎ (result.status ≡ Status.NoMemory) }

@@ -16,7 +16,7 @@ use Rattle.row_ledger.specs.declared.event.Event.TheVariants.{Begun, Acked, Aske
 use Rattle.row_ledger.specs.Past.{Ack, Query, Pull, begun, before, query_at, ack_in, pull_in, acked, acked_rows, has_ended}
 use Rattle.row_ledger.specs.Shards.{is_path}
 use Rattle.row_ledger.specs.Bounds.{own, published, passed, listing_of, is_listed, listed, known, must, may, numbers, IsAllowed, CanAnswer}
-use Rattle.row_ledger.specs.Right.{Site, Each, Stands, IsRightAnswer, KeepsRight}
+use Rattle.row_ledger.specs.Right.{Site, EachEvent, Stands, IsRightAnswer, KeepsRight}
 use Rattle.row_ledger.proofs.Elements.{All-cons_option, Contains-filter, Contains-filtered}
 use Rattle.row_ledger.proofs.Positions.{event_at-here}
 use Rattle.row_ledger.proofs.Older.{may-older, is_path-older}
@@ -165,7 +165,7 @@ unfolding IsDistinct
 distinct-above row rows below once = (apart-above row.no rows below, once)
 
 -- no row begins twice
-pub begun-distinct : (site : Site) (usable : ℕ → Bool) (past : List Event) → Each (Stands site usable) past → IsDistinct nat_eq (numbers (begun past))
+pub begun-distinct : (site : Site) (usable : ℕ → Bool) (past : List Event) → EachEvent (Stands site usable) past → IsDistinct nat_eq (numbers (begun past))
 unfolding IsDistinct
 begun-distinct site usable [] each = tt
 begun-distinct site usable (Begun session server row ∷ past) each =

@@ -7,7 +7,7 @@ use Rattle.row_ledger.specs.declared.event.Event.{Event}
 use Rattle.row_ledger.specs.declared.event.Event.TheVariants.{Split, Moved}
 use Rattle.row_ledger.specs.Shards.{Place, place, is_of, children, worker_of, frontier, ids_made}
 use Rattle.row_ledger.specs.Laws.{AscendFrom}
-use Rattle.row_ledger.specs.Right.{Site, Each, Stands}
+use Rattle.row_ledger.specs.Right.{Site, EachEvent, Stands}
 use Rattle.row_ledger.proofs.Descent.{live-made}
 
 AscendFrom-lower : (low high : ℕ) (places : List Place) → low ≤ high → AscendFrom high places → AscendFrom low places
@@ -71,7 +71,7 @@ filtered-any shard y (p ∷ places) is = at (filtered-any shard y places) (is_of
         here rest true is = refl
         here rest false is = rest is
 
-pub frontier-ascends : (site : Site) (usable : ℕ → Bool) (h : List Event) → Each (Stands site usable) h → AscendFrom 0 (frontier site.workers h)
+pub frontier-ascends : (site : Site) (usable : ℕ → Bool) (h : List Event) → EachEvent (Stands site usable) h → AscendFrom 0 (frontier site.workers h)
 frontier-ascends site usable [] each = AscendFrom-first 0 site.workers
 frontier-ascends site usable (Split of shard left right ∷ past) each =
     let next : left ≡ ids_made site.workers past = each.0.next in

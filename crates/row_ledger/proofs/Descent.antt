@@ -7,7 +7,7 @@ use Rattle.std.proofs.lemmas.Bool.Decides.{nat_tests}
 use Rattle.row_ledger.specs.declared.event.Event.{Event}
 use Rattle.row_ledger.specs.declared.event.Event.TheVariants.{Split, Moved}
 use Rattle.row_ledger.specs.Shards.{Place, place, is_of, worker_of, children, frontier, is_live, ids_made, parent_in, comes_from}
-use Rattle.row_ledger.specs.Right.{Site, Each, Stands, IsRightSplit}
+use Rattle.row_ledger.specs.Right.{Site, EachEvent, Stands, IsRightSplit}
 use Rattle.row_ledger.proofs.Elements.{Contains-nil}
 
 -- a shard is its own line
@@ -82,7 +82,7 @@ live-split workers past of shard left right y is =
     ]
 
 -- a shard that stands has an id that was made
-pub live-made : (site : Site) (usable : ℕ → Bool) (past : List Event) (y : ℕ) → Each (Stands site usable) past → is_live site.workers past y ≡ true → y < ids_made site.workers past
+pub live-made : (site : Site) (usable : ℕ → Bool) (past : List Event) (y : ℕ) → EachEvent (Stands site usable) past → is_live site.workers past y ≡ true → y < ids_made site.workers past
 live-made site usable [] y each is = let below : y < 0 + site.workers = first-made 0 site.workers y is in omega arith
 live-made site usable (Split of shard left right ∷ past) y each is =
     let next : left ≡ ids_made site.workers past = each.0.next in
@@ -114,7 +114,7 @@ parent_in-older site usable past _ y stands made = refl
 
 -- the shard from which one is made, or that one itself, had its id before
 parent_in-made : (site : Site) (usable : ℕ → Bool) (past : List Event) (e : Event) (y : ℕ)
-    → Each (Stands site usable) past → Stands site usable past e → y < ids_made site.workers (e ∷ past) → parent_in e y < ids_made site.workers past
+    → EachEvent (Stands site usable) past → Stands site usable past e → y < ids_made site.workers (e ∷ past) → parent_in e y < ids_made site.workers past
 parent_in-made site usable past (Split of shard left right) y each stands made =
     let next : left ≡ ids_made site.workers past = stands.next in
     let after : right ≡ ids_made site.workers past + 1 = stands.after in
@@ -145,7 +145,7 @@ ids_made-older site _ past x below = below
 
 -- what a shard with an id comes from had an id
 pub comes_from-made : (site : Site) (usable : ℕ → Bool) (past : List Event) (x y : ℕ)
-    → Each (Stands site usable) past → y < ids_made site.workers past → comes_from past x y ≡ true → x < ids_made site.workers past
+    → EachEvent (Stands site usable) past → y < ids_made site.workers past → comes_from past x y ≡ true → x < ids_made site.workers past
 comes_from-made site usable [] x y each made is = let same : y ≡ x = eqb-true y x is in omega arith
 comes_from-made site usable (e ∷ past) x y each made is = elim (or_cases (y == x) (comes_from past x (parent_in e y)) is) [
   | inl same ↦ let q : y ≡ x = eqb-true y x same in omega arith
@@ -157,13 +157,13 @@ comes_from-made site usable (e ∷ past) x y each made is = elim (or_cases (y ==
 
 -- a shard without an id is what no shard with one comes from
 comes_from-unmade : (site : Site) (usable : ℕ → Bool) (past : List Event) (x y : ℕ)
-    → Each (Stands site usable) past → y < ids_made site.workers past → ids_made site.workers past ≤ x → comes_from past x y ≡ true → ⊥
+    → EachEvent (Stands site usable) past → y < ids_made site.workers past → ids_made site.workers past ≤ x → comes_from past x y ≡ true → ⊥
 comes_from-unmade site usable past x y each made unmade is =
     let below : x < ids_made site.workers past = comes_from-made site usable past x y each made is in omega arith
 
 -- of the shards that stand none comes from another
 pub live-apart : (site : Site) (usable : ℕ → Bool) (past : List Event) (x y : ℕ)
-    → Each (Stands site usable) past → is_live site.workers past x ≡ true → is_live site.workers past y ≡ true → comes_from past x y ≡ true → y ≡ x
+    → EachEvent (Stands site usable) past → is_live site.workers past x ≡ true → is_live site.workers past y ≡ true → comes_from past x y ≡ true → y ≡ x
 live-apart site usable [] x y each live_x live_y is = eqb-true y x is
 live-apart site usable (Split of shard left right ∷ past) x y each live_x live_y is =
     elim (or_cases (y == x) _ is) [
@@ -208,7 +208,7 @@ live-apart site usable (e ∷ past) x y each live_x live_y is =
 
 -- what stands, or the shard from which it was just made, stood before
 live-parent : (site : Site) (usable : ℕ → Bool) (past : List Event) (e : Event) (y : ℕ)
-    → Each (Stands site usable) past → Stands site usable past e → is_live site.workers (e ∷ past) y ≡ true → is_live site.workers past (parent_in e y) ≡ true
+    → EachEvent (Stands site usable) past → Stands site usable past e → is_live site.workers (e ∷ past) y ≡ true → is_live site.workers past (parent_in e y) ≡ true
 live-parent site usable past (Split of shard left right) y each stands live =
     elim (live-split site.workers past of shard left right y live) [
       | inl old ↦ rw (parent_in-older site usable past (Split of shard left right) y stands (live-made site usable past y each old.0)) old.0
@@ -242,7 +242,7 @@ abbrev pub WasSplit : List Event → ℕ → ℕ → ℕ → Type 0
 WasSplit past shard left right = (of : ℕ) × Contains past (Split of shard left right)
 
 -- the shard of a split and its children have ids
-pub split-made : (site : Site) (usable : ℕ → Bool) (past : List Event) (shard left right : ℕ) → Each (Stands site usable) past → WasSplit past shard left right
+pub split-made : (site : Site) (usable : ℕ → Bool) (past : List Event) (shard left right : ℕ) → EachEvent (Stands site usable) past → WasSplit past shard left right
     → (shard < ids_made site.workers past) × (left < ids_made site.workers past) × (right < ids_made site.workers past)
 split-made site usable [] shard left right each was = absurd (Contains-nil _ was.1)
 split-made site usable (e ∷ past) shard left right each (of, (zero, within, here)) =
@@ -257,7 +257,7 @@ split-made site usable (e ∷ past) shard left right each (of, (suc k, within, h
     (ids_made-older site e past shard older.0, ids_made-older site e past left older.1, ids_made-older site e past right older.2)
 
 newest_child : (site : Site) (usable : ℕ → Bool) (past : List Event) (of shard left right y : ℕ)
-    → Each (Stands site usable) past → IsRightSplit site past of shard left right → is_live site.workers (Split of shard left right ∷ past) y ≡ true
+    → EachEvent (Stands site usable) past → IsRightSplit site past of shard left right → is_live site.workers (Split of shard left right ∷ past) y ≡ true
     → comes_from (Split of shard left right ∷ past) shard y ≡ true
     → comes_from (Split of shard left right ∷ past) left y ≡ not (comes_from (Split of shard left right ∷ past) right y)
 newest_child site usable past of shard left right y each stands live is =
@@ -282,7 +282,7 @@ newest_child site usable past of shard left right y each stands live is =
 
 -- a shard that stands and comes from one that was split comes from one of its children, and not from the other
 pub comes_from-child : (site : Site) (usable : ℕ → Bool) (past : List Event) (shard left right y : ℕ)
-    → Each (Stands site usable) past → WasSplit past shard left right → is_live site.workers past y ≡ true → comes_from past shard y ≡ true
+    → EachEvent (Stands site usable) past → WasSplit past shard left right → is_live site.workers past y ≡ true → comes_from past shard y ≡ true
     → comes_from past left y ≡ not (comes_from past right y)
 comes_from-child site usable [] shard left right y each was live is = absurd (Contains-nil _ was.1)
 comes_from-child site usable (e ∷ past) shard left right y each (of, (zero, within, here)) live is =

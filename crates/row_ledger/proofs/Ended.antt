@@ -10,7 +10,7 @@ use Rattle.row_ledger.specs.declared.event.Event.{Event}
 use Rattle.row_ledger.specs.declared.event.Event.TheVariants.{Begun, Acked, Answered, Failed, Ended}
 use Rattle.row_ledger.specs.Past.{Ack, Insert, ack_in, ack_of, acked, acked_rows, insert_in, insert_at, query_at, call_at, event_at, failed, failed_in, end_in, has_ended}
 use Rattle.row_ledger.specs.Bounds.{numbers}
-use Rattle.row_ledger.specs.Right.{Site, Each, Stands, IsRightAck, IsRightAnswer, IsRightEnd}
+use Rattle.row_ledger.specs.Right.{Site, EachEvent, Stands, IsRightAck, IsRightAnswer, IsRightEnd}
 use Rattle.row_ledger.proofs.Elements.{Contains-nil, Contains-cons_option}
 use Rattle.row_ledger.proofs.Positions.{event_at-here, event_at-older, event_at-past}
 use Rattle.row_ledger.proofs.Older.{has_ended-older}
@@ -22,7 +22,7 @@ insert_at-is (Some (Begun n s r)) i q = let j : record { server = s; row = r } �
 insert_at-is (Some _) i q = cc
 
 -- a row's number is its position
-pub number_at : (site : Site) (usable : ℕ → Bool) (past : List Event) (o n s : ℕ) (r : Row) → Each (Stands site usable) past → event_at past o ≡ Some (Begun n s r) → r.no ≡ o
+pub number_at : (site : Site) (usable : ℕ → Bool) (past : List Event) (o n s : ℕ) (r : Row) → EachEvent (Stands site usable) past → event_at past o ≡ Some (Begun n s r) → r.no ≡ o
 number_at site usable [] o n s r w q = cc
 number_at site usable (e ∷ past) o n s r w q = elim (cases_lt o (length past)) [
   | inl b ↦ number_at site usable past o n s r w.1 (sym (event_at-older e past o b) ∙ q)
@@ -37,11 +37,11 @@ number_at site usable (e ∷ past) o n s r w q = elim (cases_lt o (length past))
   ]
 ]
 
-number_of : (site : Site) (usable : ℕ → Bool) (past : List Event) (o : ℕ) (i : Insert) → Each (Stands site usable) past → insert_at past o ≡ Some i → i.row.no ≡ o
+number_of : (site : Site) (usable : ℕ → Bool) (past : List Event) (o : ℕ) (i : Insert) → EachEvent (Stands site usable) past → insert_at past o ≡ Some i → i.row.no ≡ o
 number_of site usable past o i w q = let f = insert_at-is (event_at past o) i q in number_at site usable past o f.0 i.server i.row w f.1
 
 -- an acknowledged row's insert has ended
-pub acked-ended : (site : Site) (usable : ℕ → Bool) (past : List Event) (b : Ack) → Each (Stands site usable) past → Contains (acked past) b → has_ended past b.row.no ≡ true
+pub acked-ended : (site : Site) (usable : ℕ → Bool) (past : List Event) (b : Ack) → EachEvent (Stands site usable) past → Contains (acked past) b → has_ended past b.row.no ≡ true
 acked-ended site usable [] b w c = absurd (Contains-nil b c)
 acked-ended site usable (Acked o path ∷ past) b w c =
     let a : IsRightAck past o path = w.0 in
@@ -55,7 +55,7 @@ acked-ended site usable (Acked o path ∷ past) b w c =
 acked-ended site usable (e ∷ past) b w c = has_ended-older e past b.row.no (acked-ended site usable past b w.1 c)
 
 -- no row is acknowledged twice
-pub acked-distinct : (site : Site) (usable : ℕ → Bool) (past : List Event) → Each (Stands site usable) past → IsDistinct nat_eq (numbers (acked_rows past))
+pub acked-distinct : (site : Site) (usable : ℕ → Bool) (past : List Event) → EachEvent (Stands site usable) past → IsDistinct nat_eq (numbers (acked_rows past))
 unfolding IsDistinct
 acked-distinct site usable [] w = tt
 acked-distinct site usable (Acked o path ∷ past) w =
@@ -103,7 +103,7 @@ at_end site usable past (Ended o how) n m s r w q t =
     absurd (let some : call_at past o ≡ Some a.call = a.called in cc)
 at_end site usable past _ n m s r w q t = cc
 
-pub ended-cases : (site : Site) (usable : ℕ → Bool) (past : List Event) (n m s : ℕ) (r : Row) → Each (Stands site usable) past → event_at past n ≡ Some (Begun m s r) → has_ended past n ≡ true → AckedOrFailed past n r
+pub ended-cases : (site : Site) (usable : ℕ → Bool) (past : List Event) (n m s : ℕ) (r : Row) → EachEvent (Stands site usable) past → event_at past n ≡ Some (Begun m s r) → has_ended past n ≡ true → AckedOrFailed past n r
 ended-cases site usable [] n m s r w q h = cc
 ended-cases site usable (e ∷ past) n m s r w q h = elim (cases_lt n (length past)) [
   | inl b ↦

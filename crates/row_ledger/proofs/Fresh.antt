@@ -8,7 +8,7 @@ use Rattle.measure_agg.specs.Aggregate.{Aggregate}
 use Rattle.row_ledger.specs.declared.event.Event.{Event}
 use Rattle.row_ledger.specs.declared.event.Event.TheVariants.{Begun, Acked, Answered, Failed, Split, Moved, Left, Shown, Ended}
 use Rattle.row_ledger.specs.Past.{insert_in, query_in, call_in, event_at, is_end_of, has_ended, is_work_of, work, page_in, page_of, begun, is_kept}
-use Rattle.row_ledger.specs.Right.{Site, Each, IsRightAck, IsRightAnswer, IsRightFailure, Stands}
+use Rattle.row_ledger.specs.Right.{Site, EachEvent, IsRightAck, IsRightAnswer, IsRightFailure, Stands}
 use Rattle.row_ledger.proofs.Positions.{event_at-past}
 
 -- where an event stands is within the past
@@ -47,14 +47,14 @@ is_end_of-fresh site usable past (Ended of how) right p beyond =
 is_end_of-fresh site usable past _ right p beyond = refl
 
 -- nothing ends a command that begins behind it
-pub fresh : (site : Site) (usable : ℕ → Bool) (h : List Event) → Each (Stands site usable) h → (p : ℕ) → length h ≤ p → has_ended h p ≡ false
+pub fresh : (site : Site) (usable : ℕ → Bool) (h : List Event) → EachEvent (Stands site usable) h → (p : ℕ) → length h ≤ p → has_ended h p ≡ false
 fresh site usable [] each p beyond = refl
 fresh site usable (e ∷ past) each p beyond =
     or_from (is_end_of p e) (has_ended past p)
     (is_end_of-fresh site usable past e each.0 p (omega arith))
     (fresh site usable past each.1 p (omega arith))
 
-pub fresh-newest : (site : Site) (usable : ℕ → Bool) (e : Event) (past : List Event) → Each (Stands site usable) (e ∷ past)
+pub fresh-newest : (site : Site) (usable : ℕ → Bool) (e : Event) (past : List Event) → EachEvent (Stands site usable) (e ∷ past)
     → (p : ℕ) → length past ≤ p → has_ended (e ∷ past) p ≡ false
 fresh-newest site usable e past each p beyond =
     or_from (is_end_of p e) (has_ended past p) (is_end_of-fresh site usable past e each.0 p beyond) (fresh site usable past each.1 p beyond)
@@ -68,7 +68,7 @@ page_in-fresh site usable past (Shown of page) right p beyond =
 page_in-fresh site usable past _ right p beyond = refl
 
 -- no page is shown for one
-pub pageless : (site : Site) (usable : ℕ → Bool) (h : List Event) → Each (Stands site usable) h → (p : ℕ) → length h ≤ p → page_of h p ≡ None
+pub pageless : (site : Site) (usable : ℕ → Bool) (h : List Event) → EachEvent (Stands site usable) h → (p : ℕ) → length h ≤ p → page_of h p ≡ None
 pageless site usable [] each p beyond = refl
 pageless site usable (e ∷ past) each p beyond =
     rw (page_in-fresh site usable past e each.0 p (omega arith))
@@ -87,7 +87,7 @@ is_work_of-fresh site usable past (Left of shard how) is_right p beyond =
 is_work_of-fresh site usable past _ is_right p beyond = refl
 
 -- nor is work done for one
-pub workless : (site : Site) (usable : ℕ → Bool) (h : List Event) → Each (Stands site usable) h → (p : ℕ) → length h ≤ p → work h p ≡ []
+pub workless : (site : Site) (usable : ℕ → Bool) (h : List Event) → EachEvent (Stands site usable) h → (p : ℕ) → length h ≤ p → work h p ≡ []
 workless site usable [] each p beyond = refl
 workless site usable (e ∷ past) each p beyond =
     rw (is_work_of-fresh site usable past e each.0 p (omega arith))
@@ -96,7 +96,7 @@ workless site usable (e ∷ past) each p beyond =
 -- Rows.
 
 -- no row has begun there
-pub begun-within : (site : Site) (usable : ℕ → Bool) (h : List Event) → Each (Stands site usable) h → (r : Row) → Contains (begun h) r → r.no < length h
+pub begun-within : (site : Site) (usable : ℕ → Bool) (h : List Event) → EachEvent (Stands site usable) h → (r : Row) → Contains (begun h) r → r.no < length h
 begun-within site usable [] each r has = absurd (omega arith)
 begun-within site usable (Begun session server row ∷ past) each r (zero, within, here) =
     let numbered : row.no ≡ length past = each.0 in omega (arith, ap (λ (r : Row). r.no) here)
@@ -112,5 +112,5 @@ is_kept-open (Failed of ∷ past) p is_open =
     let parts = or_parts (of == p) (has_ended past p) is_open in rw parts.0 (is_kept-open past p parts.1)
 is_kept-open (e ∷ past) p is_open = is_kept-open past p (or_parts (is_end_of p e) (has_ended past p) is_open).1
 
-pub is_kept-fresh : (site : Site) (usable : ℕ → Bool) (h : List Event) → Each (Stands site usable) h → (p : ℕ) → length h ≤ p → is_kept h p ≡ true
+pub is_kept-fresh : (site : Site) (usable : ℕ → Bool) (h : List Event) → EachEvent (Stands site usable) h → (p : ℕ) → length h ≤ p → is_kept h p ≡ true
 is_kept-fresh site usable h each p beyond = is_kept-open h p (fresh site usable h each p beyond)

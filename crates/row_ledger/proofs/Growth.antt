@@ -14,7 +14,7 @@ use Rattle.row_ledger.specs.declared.settings.How.{How}
 use Rattle.row_ledger.specs.Past.{failed, is_kept}
 use Rattle.row_ledger.specs.Listings.{IsFirstListing}
 pub use Rattle.row_ledger.specs.Right.{IsOpening}
-use Rattle.row_ledger.specs.Right.{Site, Each, IsFirstPull, Opens, IsRightAck, IsRightAnswer, IsRightFailure, IsLaterPull, IsRightSplit, IsRightMove, IsRightLeft, IsRightPage, IsRightEnd, Stands, StandsRight, KeepsRight, IsRight}
+use Rattle.row_ledger.specs.Right.{Site, EachEvent, IsFirstPull, Opens, IsRightAck, IsRightAnswer, IsRightFailure, IsLaterPull, IsRightSplit, IsRightMove, IsRightLeft, IsRightPage, IsRightEnd, Stands, StandsRight, KeepsRight, IsRight}
 use Rattle.row_ledger.proofs.Within.{Within, StandsRight-within}
 
 -- The opening.
@@ -27,17 +27,17 @@ pub IsOpening-pull : (site : Site) (h : List Event) (listing : List Spot)
     → IsOpening site h → length h < site.servers → IsFirstListing site listing → IsOpening site (Synced (length h) listing ∷ h)
 IsOpening-pull site h listing opens more lists = record { few = omega arith; pulls = ((refl, lists), opens.pulls) }
 
-Each-opens : (site : Site) (h : List Event) → Each (IsFirstPull site) h → Each (Opens site) h
-Each-opens site [] pulls = tt
-Each-opens site (e ∷ past) pulls = (λ first. pulls.0, Each-opens site past pulls.1)
+EachEvent-opens : (site : Site) (h : List Event) → EachEvent (IsFirstPull site) h → EachEvent (Opens site) h
+EachEvent-opens site [] pulls = tt
+EachEvent-opens site (e ∷ past) pulls = (λ first. pulls.0, EachEvent-opens site past pulls.1)
 
-Each-stands : (site : Site) (usable : ℕ → Bool) (h : List Event) → length h ≤ site.servers → Each (IsFirstPull site) h → Each (Stands site usable) h
-Each-stands site usable [] few pulls = tt
-Each-stands site usable (Synced server listing ∷ past) few pulls =
-    (record { later = λ behind. absurd (omega arith) }, Each-stands site usable past (omega arith) pulls.1)
-Each-stands site usable (_ ∷ past) few pulls = absurd pulls.0
+EachEvent-stands : (site : Site) (usable : ℕ → Bool) (h : List Event) → length h ≤ site.servers → EachEvent (IsFirstPull site) h → EachEvent (Stands site usable) h
+EachEvent-stands site usable [] few pulls = tt
+EachEvent-stands site usable (Synced server listing ∷ past) few pulls =
+    (record { later = λ behind. absurd (omega arith) }, EachEvent-stands site usable past (omega arith) pulls.1)
+EachEvent-stands site usable (_ ∷ past) few pulls = absurd pulls.0
 
-failed-none : (site : Site) (h : List Event) → Each (IsFirstPull site) h → failed h ≡ []
+failed-none : (site : Site) (h : List Event) → EachEvent (IsFirstPull site) h → failed h ≡ []
 failed-none site [] pulls = refl
 failed-none site (Failed of ∷ past) pulls = absurd pulls.0
 failed-none site (e ∷ past) pulls = failed-none site past pulls.1
@@ -45,7 +45,7 @@ failed-none site (e ∷ past) pulls = failed-none site past pulls.1
 -- where each server has pulled, the history begins right
 pub KeepsRight-opened : (site : Site) (placed : ℕ → Bool) (h : List Event) → IsOpening site h → length h ≡ site.servers → KeepsRight site placed h
 KeepsRight-opened site placed h opens all = record {
-  right = record { opened = omega arith; opening = Each-opens site h opens.pulls; each = Each-stands site placed h opens.few opens.pulls };
+  right = record { opened = omega arith; opening = EachEvent-opens site h opens.pulls; each = EachEvent-stands site placed h opens.few opens.pulls };
   kept = λ number is_placed. rw (failed-none site h opens.pulls) refl;
 }
 

@@ -11,7 +11,7 @@ use Rattle.row_ledger.specs.declared.event.Event.{Event}
 use Rattle.row_ledger.specs.declared.event.Event.TheVariants.{Begun, Answered}
 use Rattle.row_ledger.specs.Past.{Insert, Query, acked_rows, begun, insert_in, insert_at, query_in, query_at, event_at, before, since, failed, failed_in, has_ended, is_kept}
 use Rattle.row_ledger.specs.Bounds.{must, may, numbers, IsAllowed}
-use Rattle.row_ledger.specs.Right.{Site, Each, Stands, IsRight}
+use Rattle.row_ledger.specs.Right.{Site, EachEvent, Stands, IsRight}
 use Rattle.row_ledger.specs.Settled.{IsSettled}
 use Rattle.row_ledger.proofs.Elements.{Contains-nil, Contains-cons_option, Contains-filter, Contains-filtered, IsTrue-filtered}
 use Rattle.row_ledger.proofs.Positions.{event_at-here, event_at-older, before-older, before-all, since-inside}
@@ -26,7 +26,7 @@ begun_at-older : (past : List Event) (m s : ℕ) (e : Event) (r : Row) → event
 begun_at-older past m s e r q = event_at-older e past r.no (event_at-within past r.no (λ none. cc)) ∙ q
 
 -- a begun row stands at its number
-pub begun-at : (site : Site) (usable : ℕ → Bool) (past : List Event) (r : Row) → Each (Stands site usable) past → Contains (begun past) r → (m : ℕ) × (s : ℕ) × (event_at past r.no ≡ Some (Begun m s r))
+pub begun-at : (site : Site) (usable : ℕ → Bool) (past : List Event) (r : Row) → EachEvent (Stands site usable) past → Contains (begun past) r → (m : ℕ) × (s : ℕ) × (event_at past r.no ≡ Some (Begun m s r))
 begun-at site usable [] r w c = absurd (Contains-nil r c)
 begun-at site usable (Begun m s r' ∷ past) r w (zero, b, e) =
     let here : r' ≡ r = e in
@@ -37,11 +37,11 @@ begun-at site usable (Begun m s r' ∷ past) r w (suc k, b, e) =
 begun-at site usable (e ∷ past) r w c = let f = begun-at site usable past r w.1 c in (f.0, f.1, begun_at-older past f.0 f.1 e r f.2)
 
 -- what events owe they owe before a position
-pub Each-before : (site : Site) (usable : ℕ → Bool) (past : List Event) (o : ℕ) → Each (Stands site usable) past → Each (Stands site usable) (before past o)
-Each-before site usable [] o w = tt
-Each-before site usable (e ∷ past) o w = go (Each-before site usable past o w.1) (nat_lt (length past) o)
+pub EachEvent-before : (site : Site) (usable : ℕ → Bool) (past : List Event) (o : ℕ) → EachEvent (Stands site usable) past → EachEvent (Stands site usable) (before past o)
+EachEvent-before site usable [] o w = tt
+EachEvent-before site usable (e ∷ past) o w = go (EachEvent-before site usable past o w.1) (nat_lt (length past) o)
   where
-    go : Each (Stands site usable) (before past o) → (v : Bool) → Each (Stands site usable) (if v then e ∷ past else before past o)
+    go : EachEvent (Stands site usable) (before past o) → (v : Bool) → EachEvent (Stands site usable) (if v then e ∷ past else before past o)
     go rest true = w
     go rest false = rest
 
@@ -94,14 +94,14 @@ kept-not_failed : (h : List Event) (n : ℕ) → IsTrue (is_kept h n) → Contai
 kept-not_failed h n kept has = false≢true (ap not (sym (is_failed (failed h) n has)) ∙ kept)
 
 -- what an event of a right history owes, it owes behind its past
-pub Each-later : (P : List Event → Event → Type 0) (later past : List Event) → Each P (later ++ past) → Each P past
-Each-later P [] past each = each
-Each-later P (e ∷ later) past each = Each-later P later past each.1
+pub EachEvent-later : (P : List Event → Event → Type 0) (later past : List Event) → EachEvent P (later ++ past) → EachEvent P past
+EachEvent-later P [] past each = each
+EachEvent-later P (e ∷ later) past each = EachEvent-later P later past each.1
 
 -- Settled answers.
 
 settled-allowed : (site : Site) (usable : ℕ → Bool) (past : List Event) (of : ℕ) (answer : Aggregate) (query : Query)
-    → Each (Stands site usable) past → ((n : ℕ) → IsTrue (usable n) → Contains (failed (before past of)) n → ⊥)
+    → EachEvent (Stands site usable) past → ((n : ℕ) → IsTrue (usable n) → Contains (failed (before past of)) n → ⊥)
     → query_at past of ≡ Some query → IsSettled site past of query
     → (allowed : IsAllowed site.hierarchy (must site.hierarchy (before past of) query.server) (may usable past) query.filter answer)
     → answer ≡ agg (filter (λ (r : Row). matches site.hierarchy query.filter r.at) (acked_rows (before past of)))
@@ -114,8 +114,8 @@ settled-allowed site usable past of answer query each kept asked settled allowed
     known : List Row
     known = acked_rows (before past of)
 
-    early : Each (Stands site usable) (before past of)
-    early = Each-before site usable past of each
+    early : EachEvent (Stands site usable) (before past of)
+    early = EachEvent-before site usable past of each
 
     once : IsDistinct nat_eq (numbers (filter matching known))
     once = IsDistinct-filter matching known (acked-distinct site usable (before past of) early)
@@ -149,7 +149,7 @@ pub settled-is_all : (site : Site) (later past : List Event) (of : ℕ) (answer 
     → answer ≡ agg (filter (λ (r : Row). matches site.hierarchy query.filter r.at) (acked_rows (before past of)))
 settled-is_all site later past of answer query right asked settled =
     let h : List Event = later ++ Answered of answer ∷ past in
-    let each : Each (Stands site (is_kept h)) (Answered of answer ∷ past) = Each-later (Stands site (is_kept h)) later (Answered of answer ∷ past) right.each in
+    let each : EachEvent (Stands site (is_kept h)) (Answered of answer ∷ past) = EachEvent-later (Stands site (is_kept h)) later (Answered of answer ∷ past) right.each in
     settled-allowed site (is_kept h) past of answer query each.1
     (λ n kept has. kept-not_failed h n kept (failed-later later (Answered of answer ∷ past) n (failed-before past of n has)))
     asked settled (IsAllowed-right site (is_kept h) past of answer each.0 query asked)

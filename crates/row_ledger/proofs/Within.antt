@@ -22,7 +22,7 @@ use Rattle.row_ledger.specs.Past.{Step, begun}
 use Rattle.row_ledger.specs.Bounds.{may}
 use Rattle.row_ledger.specs.Listings.{IsBox, IsListing}
 use Rattle.row_ledger.specs.Work.{IsRightDecline, MayEndAction, Settles, IsRightBalance, rows_read}
-use Rattle.row_ledger.specs.Right.{Site, Each, IsRightAnswer, IsLaterPull, IsRightPull, MayEnd, IsRightEnd, Stands, StandsRight}
+use Rattle.row_ledger.specs.Right.{Site, EachEvent, IsRightAnswer, IsLaterPull, IsRightPull, MayEnd, IsRightEnd, Stands, StandsRight}
 use Rattle.row_ledger.proofs.Elements.{Contains-filter, Contains-filtered, IsTrue-filtered}
 
 -- each number that the first has the second has
@@ -158,14 +158,14 @@ Stands-within site fewer more within past (event.Answered of answer) right = IsR
 Stands-within site fewer more within past (event.Ended of how) right = IsRightEnd-within site fewer more within past of how right
 Stands-within site fewer more within past _ right = right
 
-Each-within : (site : Site) (fewer more : ℕ → Bool) → Within fewer more → (h : List Event) → Each (Stands site fewer) h → Each (Stands site more) h
-Each-within site fewer more within [] each = tt
-Each-within site fewer more within (e ∷ past) each =
-    (Stands-within site fewer more within past e each.0, Each-within site fewer more within past each.1)
+EachEvent-within : (site : Site) (fewer more : ℕ → Bool) → Within fewer more → (h : List Event) → EachEvent (Stands site fewer) h → EachEvent (Stands site more) h
+EachEvent-within site fewer more within [] each = tt
+EachEvent-within site fewer more within (e ∷ past) each =
+    (Stands-within site fewer more within past e each.0, EachEvent-within site fewer more within past each.1)
 
 pub StandsRight-within : (site : Site) (fewer more : ℕ → Bool) (h : List Event) → Within fewer more → StandsRight site fewer h → StandsRight site more h
 StandsRight-within site fewer more h within right = record {
   opened = right.opened;
   opening = right.opening;
-  each = Each-within site fewer more within h right.each;
+  each = EachEvent-within site fewer more within h right.each;
 }

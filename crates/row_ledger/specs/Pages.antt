@@ -46,7 +46,7 @@ rows_beneath (directory line below more) = rows_beneath below ++ rows_beneath mo
 
 -- A leaf group with these rows, so many groups below the root: its items are the rows, and it lies as deep as the tree is
 -- high. A block has room for 32.
-pub record IsLeaf (h : List Dimension) (height at : ℕ) (rows : List Row) (line : NodeLine) : Type 0 where
+pub record IsLeafGroup (h : List Dimension) (height at : ℕ) (rows : List Row) (line : NodeLine) : Type 0 where
   pub depth : line.depth ≡ at
   pub lowest : at + 1 ≡ height
   pub leaf : line.leaf ≡ true
@@ -57,7 +57,7 @@ pub record IsLeaf (h : List Dimension) (height at : ℕ) (rows : List Row) (line
   pub set : IsSetOf h (map (λ r. r.at) rows) line.set
 
 -- A directory group with these groups beneath it: its items are these groups, at least one. A block has room for 16.
-pub record IsDirectory (h : List Dimension) (height at : ℕ) (below : Groups) (line : NodeLine) : Type 0 where
+pub record IsDirectoryGroup (h : List Dimension) (height at : ℕ) (below : Groups) (line : NodeLine) : Type 0 where
   pub depth : line.depth ≡ at
   pub higher : at + 1 < height
   pub leaf : line.leaf ≡ false
@@ -71,9 +71,9 @@ pub record IsDirectory (h : List Dimension) (height at : ℕ) (below : Groups) (
 -- each group is one or the other, and those beneath it lie one deeper
 abbrev pub AreGroups : List Dimension → ℕ → ℕ → Groups → Type 0
 AreGroups h height at none = ⊤
-AreGroups h height at (leaf line rows more) = IsLeaf h height at rows line × AreGroups h height at more
+AreGroups h height at (leaf line rows more) = IsLeafGroup h height at rows line × AreGroups h height at more
 AreGroups h height at (directory line below more) =
-    IsDirectory h height at below line × AreGroups h height (at + 1) below × AreGroups h height at more
+    IsDirectoryGroup h height at below line × AreGroups h height (at + 1) below × AreGroups h height at more
 
 -- The page of a shard with these rows in its tree and these in its queue: the root's group and all beneath it, in whose
 -- leaves are the tree's rows.

@@ -23,9 +23,9 @@ pub use Rattle.row_ledger.specs.Pages.{IsShown}
 use Rattle.row_ledger.specs.Work.{MayEndAction, IsRightBalance}
 
 -- P holds of each event, with the past behind it
-abbrev pub Each : (List Event → Event → Type 0) → List Event → Type 0
-Each P [] = ⊤
-Each P (e ∷ past) = P past e × Each P past
+abbrev pub EachEvent : (List Event → Event → Type 0) → List Event → Type 0
+EachEvent P [] = ⊤
+EachEvent P (e ∷ past) = P past e × EachEvent P past
 
 -- Openings.
 
@@ -41,7 +41,7 @@ Opens site past e = length past < site.servers → IsFirstPull site past e
 -- an opening so far: only first pulls
 pub record IsOpening (site : Site) (h : List Event) : Type 0 where
   pub few : length h ≤ site.servers
-  pub pulls : Each (IsFirstPull site) h
+  pub pulls : EachEvent (IsFirstPull site) h
 
 -- Inserts and queries.
 
@@ -222,8 +222,8 @@ Stands site usable past (event.Called session call) = ⊤
 -- the first events open the history, each event stands rightly, and only usable rows are in answers, boxes and counts
 pub record StandsRight (site : Site) (usable : ℕ → Bool) (h : List Event) : Type 0 where
   pub opened : site.servers ≤ length h
-  pub opening : Each (Opens site) h
-  pub each : Each (Stands site usable) h
+  pub opening : EachEvent (Opens site) h
+  pub each : EachEvent (Stands site usable) h
 
 -- a right history: its usable rows are those whose insert ends nowhere in it for want of memory
 abbrev pub IsRight : Site → List Event → Type 0

@@ -10,7 +10,7 @@ use Rattle.script_form.specs.declared.script.Command.{Command}
 use Rattle.script_run.specs.Places.{session_of, count_of, begins_in, begins_of}
 use Rattle.script_run.proofs.PlaceFacts.{begins_of-here, begins_of-other}
 use Rattle.script_run.specs.Parts.{place_in}
-use Rattle.script_run.specs.Streams.{BeginLaw, OtherLaw}
+use Rattle.script_run.specs.Streams.{StreamBeginLaw, StreamOtherLaw}
 use Rattle.script_run.proofs.Grow.{within, same-or, below-or}
 use Rattle.script_run.proofs.Begin.{begins-none, begins-own, begins-same, bool-or, places-other}
 use Rattle.script_run.proofs.NextCommand.{take-front, get-middle, some-eq, over-now, has-place}
@@ -38,7 +38,7 @@ over-older e history p over =
     or-more (has_ended history p) (option_map_or ends_itself (event_at history p) false) (has_ended (e ∷ history) p) (option_map_or ends_itself (event_at (e ∷ history) p) false)
     (has_ended-older e history p) (λ t. ends-older e history p (event_at history p) refl t) over
 
-pub other_law : OtherLaw
+pub other_law : StreamOtherLaw
 other_law with commands e history next opened now_opened streams none ends = record {
   counts = λ s. streams.counts s ∙ sym (ap length (begins_of-other e history s (begins-none s e none)));
   begun = λ i c at low.
@@ -52,7 +52,7 @@ other_law with commands e history next opened now_opened streams none ends = rec
       );
 }
 
-pub begin_law : BeginLaw
+pub begin_law : StreamBeginLaw
 begin_law with front c back e history next now_next opened now_opened streams is none session on =
     let commands = front ++ c ∷ back in
     let s = session_of with c in

@@ -4,11 +4,11 @@ use Rattle.dim_hierarchy.specs.Dimension.{Dimension}
 use Rattle.row_ledger.specs.declared.event.Event.{Event}
 use Rattle.row_ledger.specs.declared.settings.Use.{Use}
 use Rattle.row_ledger.specs.Past.{event_at, is_over, is_beginning}
-use Rattle.row_ledger.specs.Right.{Each}
+use Rattle.row_ledger.specs.Right.{EachEvent}
 use Rattle.script_form.specs.declared.script.Command.{Command}
 use Rattle.script_run.specs.Places.{session_of, places}
 use Rattle.script_run.specs.Pulls.{HasPulls}
-use Rattle.script_run.specs.Runs.{Begins, BeginsAt, EndsBefore, IsPart, IsSerial}
+use Rattle.script_run.specs.Runs.{Begins, BeginsAt, EndsBefore, IsRunSoFar, IsSerial}
 use Rattle.script_run.specs.Phases.{ranks}
 use Rattle.std.specs.List.{slice_index_or}
 
@@ -18,7 +18,7 @@ pub record IsPartAt (with : Use) (h : List Dimension) (commands : List Command) 
   pub begun : (i : ℕ) (c : Command) → slice_get commands i ≡ Some c → BeginsAt with h history c (place i)
   pub only : (p : ℕ) (e : Event) → event_at history p ≡ Some e → IsTrue (is_beginning e) → (i : ℕ) × (c : Command) × (slice_get commands i ≡ Some c) × (place i ≡ Some p)
   pub in_turn : (i j : ℕ) (c d : Command) → slice_get commands i ≡ Some c → slice_get commands j ≡ Some d → waits i j → EndsBefore history (place i) (place j)
-  pub pulls : Each (HasPulls with) history
+  pub pulls : EachEvent (HasPulls with) history
 
 -- the k-th of the commands begins with this event, behind this history
 pub record IsNext (with : Use) (h : List Dimension) (commands : List Command) (waits : ℕ → ℕ → Type 0) (history : List Event) (place : ℕ → Option ℕ) (k : ℕ) (e : Event) : Type 0 where
@@ -48,7 +48,7 @@ place_in with commands history i = slice_index_or (places with commands history)
 -- Such a part is a part of a run, and where each command waits for all before it also in the order of the script.
 abbrev pub PartLaw : Type 0
 PartLaw = (with : Use) (h : List Dimension) (commands : List Command) (history : List Event)
-    → IsPartAt with h commands (Waits with commands) history (place_in with commands history) → IsPart with h commands history
+    → IsPartAt with h commands (Waits with commands) history (place_in with commands history) → IsRunSoFar with h commands history
 
 abbrev pub SerialLaw : Type 0
 SerialLaw = (with : Use) (h : List Dimension) (commands : List Command) (history : List Event)

@@ -10,7 +10,7 @@ use Rattle.row_ledger.specs.declared.settings.Call.{Call}
 use Rattle.row_ledger.specs.declared.settings.Call.TheVariants.{Barrier}
 use Rattle.row_ledger.specs.declared.settings.Use.{Use}
 use Rattle.row_ledger.specs.Past.{event_at, before, is_over, is_beginning}
-use Rattle.row_ledger.specs.Right.{Each}
+use Rattle.row_ledger.specs.Right.{EachEvent}
 use Rattle.script_form.specs.declared.script.Command.{Command}
 use Rattle.script_form.specs.declared.script.Command.TheVariants.{Insert, Query, Control}
 use Rattle.script_run.specs.Phases.{phases_to, ranks}
@@ -55,16 +55,16 @@ EndsBefore history (Some p) (Some q) = (p < q) × IsTrue (is_over (before histor
 -- begins; a session begins one when the one before has ended; and a command that closes a phase begins when all
 -- others of the phase have ended, as the next phase's do when it has ended. A sync and a settle that have ended pulled as
 -- they were to.
-pub record IsPart (with : Use) (h : List Dimension) (commands : List Command) (history : List Event) : Type 0 where
+pub record IsRunSoFar (with : Use) (h : List Dimension) (commands : List Command) (history : List Event) : Type 0 where
   pub begun : AllZip (BeginsAt with h history) commands (places with commands history)
   pub only : (p : ℕ) (e : Event) → event_at history p ≡ Some e → IsTrue (is_beginning e) → Contains (places with commands history) (Some p)
   pub in_order : AllPairs (λ a b. session_of with a.0 ≡ session_of with b.0 → EndsBefore history a.1 b.1) (zip commands (places with commands history))
   pub phased : AllPairs (λ a b. a.0 < b.0 → EndsBefore history a.1 b.1) (zip (ranks commands) (places with commands history))
-  pub pulls : Each (HasPulls with) history
+  pub pulls : EachEvent (HasPulls with) history
 
 -- a run: each command has begun and has its end
 pub record IsRunOf (with : Use) (h : List Dimension) (commands : List Command) (history : List Event) : Type 0 where
-  pub part : IsPart with h commands history
+  pub part : IsRunSoFar with h commands history
   pub over : IsTrue (are_over history (places with commands history))
 
 -- a run of the first k phases, and nothing of a later one
@@ -73,7 +73,7 @@ IsRunTo k with h commands history = IsRunOf with h (phases_to k commands) histor
 
 -- a run of the first k phases, and besides a part of the next one, of each session the first commands
 pub record IsRunInto (k : ℕ) (with : Use) (h : List Dimension) (commands : List Command) (history : List Event) : Type 0 where
-  pub part : IsPart with h (phases_to (k + 1) commands) history
+  pub part : IsRunSoFar with h (phases_to (k + 1) commands) history
   pub over : IsTrue (are_over history (places with (phases_to k commands) history))
 
 -- the commands begin in the order of the script, and each ends before the next begins

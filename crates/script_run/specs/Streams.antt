@@ -41,16 +41,16 @@ pub record StepsOn (with : Use) (commands : List Command) (e : Event) (history :
   pub others : (t : ℕ) → t ≢ s → (now_next t ≡ next t) × (now_opened t ≡ opened t)
   pub opens : IsTrue (is_over (e ∷ history) (length history)) ⊎ (now_opened s ≡ Some (length history))
 
-abbrev pub BeginLaw : Type 0
-BeginLaw = (with : Use) (front : List Command) (c : Command) (back : List Command) (e : Event) (history : List Event) (next now_next : ℕ → ℕ) (opened now_opened : ℕ → Option ℕ)
+abbrev pub StreamBeginLaw : Type 0
+StreamBeginLaw = (with : Use) (front : List Command) (c : Command) (back : List Command) (e : Event) (history : List Event) (next now_next : ℕ → ℕ) (opened now_opened : ℕ → Option ℕ)
     → AreStreams with (front ++ c ∷ back) history next opened → next (session_of with c) ≡ length front → opened (session_of with c) ≡ None
     → session_in e ≡ Some (session_of with c)
     → StepsOn with (front ++ c ∷ back) e history (session_of with c) (length front) next now_next opened now_opened
     → AreStreams with (front ++ c ∷ back) (e ∷ history) now_next now_opened
 
 -- An event that begins nothing: what was open is so still, or is over.
-abbrev pub OtherLaw : Type 0
-OtherLaw = (with : Use) (commands : List Command) (e : Event) (history : List Event) (next : ℕ → ℕ) (opened now_opened : ℕ → Option ℕ)
+abbrev pub StreamOtherLaw : Type 0
+StreamOtherLaw = (with : Use) (commands : List Command) (e : Event) (history : List Event) (next : ℕ → ℕ) (opened now_opened : ℕ → Option ℕ)
     → AreStreams with commands history next opened → session_in e ≡ None
     → ((t p : ℕ) → opened t ≡ Some p → IsTrue (is_over (e ∷ history) p) ⊎ (now_opened t ≡ Some p))
     → AreStreams with commands (e ∷ history) next now_opened

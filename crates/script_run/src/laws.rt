@@ -1,6 +1,6 @@
 //! Laws of runs, as histories grow.
 ghost use Rattle.script_run.specs.Parts.{PartLaw, SerialLaw};
-ghost use Rattle.script_run.specs.Streams.{BeginLaw, FinishLaw, NextLaw, OtherLaw, PhaseBeginLaw, PhaseOtherLaw, RankLaw, StartLaw};
+ghost use Rattle.script_run.specs.Streams.{StreamBeginLaw, FinishLaw, NextLaw, StreamOtherLaw, PhaseBeginLaw, PhaseOtherLaw, RankLaw, StartLaw};
 
 /// A part by places is a part of a run; and a serial one, where each command waits for all before
 /// it.
@@ -12,8 +12,8 @@ pub fn parts_by_places()
 /// A session begins its commands in their order.
 pub fn streams_go_on()
     ensures next { NextLaw }
-    ensures begin { BeginLaw }
-    ensures other { OtherLaw }
+    ensures begin { StreamBeginLaw }
+    ensures other { StreamOtherLaw }
     ensures start { StartLaw }
     ensures finish { FinishLaw }
 {}

@@ -14,8 +14,8 @@ use Rattle.describing_set.specs.DescSet.{IsSetOf, IsDescSetOf}
 use Rattle.describing_set.specs.declared.set.DescSet.{DescSet}
 use Rattle.describing_set.specs.declared.listing.Spot.{Spot}
 use Rattle.server_image.specs.declared.image.Growth.{Growth}
-use Rattle.server_image.specs.Spots.{ids_of, is_among, IsWidened, Widens, IsGrown, Grows, AreBoxes, along}
-use Rattle.server_image.specs.Registry.{IsFirst}
+use Rattle.server_image.specs.Spots.{spot_ids, is_among, IsWidened, Widens, IsGrown, Grows, AreBoxes, along}
+use Rattle.server_image.specs.Registry.{IsFirstShard}
 use Rattle.server_image.specs.Image.{noted, AreGrowths}
 use Rattle.server_image.proofs.Lists.{by_test}
 
@@ -27,7 +27,7 @@ AllZip-snoc R [] (b ∷ ys) x y all r = absurd all
 AllZip-snoc R (a ∷ xs) [] x y all r = absurd all
 AllZip-snoc R (a ∷ xs) (b ∷ ys) x y all r = (all.0, AllZip-snoc R xs ys x y all.1 r)
 
-pub Widens-ids : (h : List Dimension) (ids : List ℕ) (by : DescSet) (xs ys : List Spot) → Widens h ids by xs ys → ids_of ys ≡ ids_of xs
+pub Widens-ids : (h : List Dimension) (ids : List ℕ) (by : DescSet) (xs ys : List Spot) → Widens h ids by xs ys → spot_ids ys ≡ spot_ids xs
 Widens-ids h ids by [] [] w = refl
 Widens-ids h ids by [] (y ∷ ys) w = absurd w
 Widens-ids h ids by (x ∷ xs) [] w = absurd w
@@ -121,7 +121,7 @@ Grows-more h gs g (x ∷ xs) (y ∷ ys) (z ∷ zs) valid first second = (
 
 -- The first shards.
 
-pub first-ids : (h : List Dimension) (xs : List ℕ) (ys : List Spot) → AllZip (IsFirst h) xs ys → ids_of ys ≡ xs
+pub first-ids : (h : List Dimension) (xs : List ℕ) (ys : List Spot) → AllZip (IsFirstShard h) xs ys → spot_ids ys ≡ xs
 first-ids h [] [] all = refl
 first-ids h [] (y ∷ ys) all = absurd all
 first-ids h (x ∷ xs) [] all = absurd all

@@ -6,7 +6,7 @@ use Rattle.std.specs.Option.{option_or}
 use Rattle.std.proofs.lemmas.Bool.{false≢true, eqb-false, ltb-true, ltb-false}
 use Rattle.describing_set.specs.Ascending.{Below, Ascends, In}
 use Rattle.describing_set.specs.declared.listing.Spot.{Spot}
-use Rattle.server_image.specs.Spots.{ids_of, place_of, worker_in, without, with_spot}
+use Rattle.server_image.specs.Spots.{spot_ids, place_of, worker_in, without, with_spot}
 use Rattle.server_image.specs.Registry.{IsRegistry}
 
 -- a test is true or false
@@ -65,49 +65,49 @@ Below-lt : (m n : ℕ) (xs : List ℕ) → m < n → Below n xs → Below m xs
 Below-lt m n [] lt b = tt
 Below-lt m n (x ∷ xs) lt b = (let first = b.0 in omega (arith, first), Below-lt m n xs lt b.1)
 
-Below-without : (n id : ℕ) (xs : List Spot) → Below n (ids_of xs) → Below n (ids_of (without id xs))
+Below-without : (n id : ℕ) (xs : List Spot) → Below n (spot_ids xs) → Below n (spot_ids (without id xs))
 Below-without n id [] b = tt
 Below-without n id (x ∷ xs) b = by_test (x.shard == id)
-    (λ e. subst (λ l. Below n (ids_of l)) (sym (without-here id x xs e)) b.1)
-    (λ e. subst (λ l. Below n (ids_of l)) (sym (without-later id x xs e)) (b.0, Below-without n id xs b.1))
+    (λ e. subst (λ l. Below n (spot_ids l)) (sym (without-here id x xs e)) b.1)
+    (λ e. subst (λ l. Below n (spot_ids l)) (sym (without-later id x xs e)) (b.0, Below-without n id xs b.1))
 
-pub Ascends-without : (id : ℕ) (xs : List Spot) → Ascends (ids_of xs) → Ascends (ids_of (without id xs))
+pub Ascends-without : (id : ℕ) (xs : List Spot) → Ascends (spot_ids xs) → Ascends (spot_ids (without id xs))
 Ascends-without id [] a = tt
 Ascends-without id (x ∷ xs) a = by_test (x.shard == id)
-    (λ e. subst (λ l. Ascends (ids_of l)) (sym (without-here id x xs e)) a.1)
-    (λ e. subst (λ l. Ascends (ids_of l)) (sym (without-later id x xs e)) (Below-without x.shard id xs a.0, Ascends-without id xs a.1))
+    (λ e. subst (λ l. Ascends (spot_ids l)) (sym (without-here id x xs e)) a.1)
+    (λ e. subst (λ l. Ascends (spot_ids l)) (sym (without-later id x xs e)) (Below-without x.shard id xs a.0, Ascends-without id xs a.1))
 
-Below-with_spot : (n : ℕ) (s : Spot) (xs : List Spot) → n < s.shard → Below n (ids_of xs) → Below n (ids_of (with_spot s xs))
+Below-with_spot : (n : ℕ) (s : Spot) (xs : List Spot) → n < s.shard → Below n (spot_ids xs) → Below n (spot_ids (with_spot s xs))
 Below-with_spot n s [] lt b = (lt, tt)
 Below-with_spot n s (x ∷ xs) lt b = by_test (nat_lt s.shard x.shard)
-    (λ e. subst (λ l. Below n (ids_of l)) (sym (with_spot-before s x xs e)) (lt, b))
-    (λ e. subst (λ l. Below n (ids_of l)) (sym (with_spot-after s x xs e)) (b.0, Below-with_spot n s xs lt b.1))
+    (λ e. subst (λ l. Below n (spot_ids l)) (sym (with_spot-before s x xs e)) (lt, b))
+    (λ e. subst (λ l. Below n (spot_ids l)) (sym (with_spot-after s x xs e)) (b.0, Below-with_spot n s xs lt b.1))
 
-pub Ascends-with_spot : (s : Spot) (xs : List Spot) → ¬ In s.shard (ids_of xs) → Ascends (ids_of xs) → Ascends (ids_of (with_spot s xs))
+pub Ascends-with_spot : (s : Spot) (xs : List Spot) → ¬ In s.shard (spot_ids xs) → Ascends (spot_ids xs) → Ascends (spot_ids (with_spot s xs))
 Ascends-with_spot s [] new a = (tt, tt)
 Ascends-with_spot s (x ∷ xs) new a = by_test (nat_lt s.shard x.shard)
     (λ e.
     let lt : s.shard < x.shard = ltb-true s.shard x.shard e in
-    subst (λ l. Ascends (ids_of l)) (sym (with_spot-before s x xs e)) ((lt, Below-lt s.shard x.shard (ids_of xs) lt a.0), a))
+    subst (λ l. Ascends (spot_ids l)) (sym (with_spot-before s x xs e)) ((lt, Below-lt s.shard x.shard (spot_ids xs) lt a.0), a))
     (λ e.
     let ge = ltb-false s.shard x.shard e in
     let apart : s.shard ≡ x.shard → ⊥ = λ same. new (inl same) in
     let gt : x.shard < s.shard = omega (arith, ge, apart) in
-    subst (λ l. Ascends (ids_of l)) (sym (with_spot-after s x xs e)) (Below-with_spot x.shard s xs gt a.0, Ascends-with_spot s xs (λ i. new (inr i)) a.1))
+    subst (λ l. Ascends (spot_ids l)) (sym (with_spot-after s x xs e)) (Below-with_spot x.shard s xs gt a.0, Ascends-with_spot s xs (λ i. new (inr i)) a.1))
 
 -- Ids that are new.
 
-pub In-without : (z id : ℕ) (xs : List Spot) → In z (ids_of (without id xs)) → In z (ids_of xs)
+pub In-without : (z id : ℕ) (xs : List Spot) → In z (spot_ids (without id xs)) → In z (spot_ids xs)
 In-without z id [] i = i
 In-without z id (x ∷ xs) i = by_test (x.shard == id)
-    (λ e. inr (subst (λ l. In z (ids_of l)) (without-here id x xs e) i))
-    (λ e. elim (subst (λ l. In z (ids_of l)) (without-later id x xs e) i) [ inl here ↦ inl here | inr later ↦ inr (In-without z id xs later) ])
+    (λ e. inr (subst (λ l. In z (spot_ids l)) (without-here id x xs e) i))
+    (λ e. elim (subst (λ l. In z (spot_ids l)) (without-later id x xs e) i) [ inl here ↦ inl here | inr later ↦ inr (In-without z id xs later) ])
 
-pub In-with_spot : (z : ℕ) (s : Spot) (xs : List Spot) → In z (ids_of (with_spot s xs)) → (z ≡ s.shard) ⊎ In z (ids_of xs)
+pub In-with_spot : (z : ℕ) (s : Spot) (xs : List Spot) → In z (spot_ids (with_spot s xs)) → (z ≡ s.shard) ⊎ In z (spot_ids xs)
 In-with_spot z s [] i = i
 In-with_spot z s (x ∷ xs) i = by_test (nat_lt s.shard x.shard)
-    (λ e. subst (λ l. In z (ids_of l)) (with_spot-before s x xs e) i)
-    (λ e. elim (subst (λ l. In z (ids_of l)) (with_spot-after s x xs e) i) [
+    (λ e. subst (λ l. In z (spot_ids l)) (with_spot-before s x xs e) i)
+    (λ e. elim (subst (λ l. In z (spot_ids l)) (with_spot-after s x xs e) i) [
       | inl here ↦ inr (inl here)
       | inr later ↦ elim (In-with_spot z s xs later) [ inl same ↦ inl same | inr old ↦ inr (inr old) ]
     ])
@@ -115,7 +115,7 @@ In-with_spot z s (x ∷ xs) i = by_test (nat_lt s.shard x.shard)
 none≢some : (w : ℕ) → Some w ≡ None → ⊥
 none≢some w e = cc
 
-pub not_in : (id : ℕ) (xs : List Spot) → worker_in id xs ≡ None → ¬ In id (ids_of xs)
+pub not_in : (id : ℕ) (xs : List Spot) → worker_in id xs ≡ None → ¬ In id (spot_ids xs)
 not_in id [] none = λ i. i
 not_in id (x ∷ xs) none = by_test (x.shard == id)
     (λ e. absurd (none≢some x.worker (rw e at none)))
@@ -133,11 +133,11 @@ none_is None e = refl
 none_is (Some w) e = absurd (false≢true (sym e))
 
 -- what has no host is not on the frontier
-pub new_id : (id : ℕ) (xs old : List Spot) → is_some (option_or (worker_in id xs) (worker_in id old)) ≡ false → ¬ In id (ids_of xs)
+pub new_id : (id : ℕ) (xs old : List Spot) → is_some (option_or (worker_in id xs) (worker_in id old)) ≡ false → ¬ In id (spot_ids xs)
 new_id id xs old none = not_in id xs (first_none (worker_in id xs) (worker_in id old) (none_is (option_or (worker_in id xs) (worker_in id old)) none))
 
 -- a registry after a split
-pub IsRegistry-split : (id : ℕ) (left right : Spot) (xs old now : List Spot) → IsRegistry (record { frontier = xs; retired = old }) → ¬ In left.shard (ids_of xs) → ¬ In right.shard (ids_of xs) → (left.shard ≡ right.shard → ⊥)
+pub IsRegistry-split : (id : ℕ) (left right : Spot) (xs old now : List Spot) → IsRegistry (record { frontier = xs; retired = old }) → ¬ In left.shard (spot_ids xs) → ¬ In right.shard (spot_ids xs) → (left.shard ≡ right.shard → ⊥)
     → IsRegistry (record { frontier = with_spot right (with_spot left (without id xs)); retired = now })
 IsRegistry-split id left right xs old now r new_left new_right apart =
     let rest = without id xs in

@@ -7,7 +7,7 @@ use Rattle.dim_hierarchy.specs.Dimension.{Dimension}
 use Rattle.dim_hierarchy.specs.declared.row.Coord.{Coord}
 use Rattle.describing_set.specs.DescSet.{growth_of, size_of}
 use Rattle.describing_set.specs.declared.listing.Spot.{Spot}
-use Rattle.server_image.specs.Image.{ComesBefore, IsRoute}
+use Rattle.server_image.specs.Image.{RanksBefore, IsRoute}
 
 -- The order, over its numbers: growth, size and id.
 
@@ -38,17 +38,17 @@ through ga sa ia gb sb ib gc sc ic p q = elim p [
   ]
 ]
 
-ComesBefore-not_itself : (h : List Dimension) (at : Coord) (a : Spot) → ¬ ComesBefore h at a a
-ComesBefore-not_itself h at a = not_itself (growth_of h a.set at) (size_of h a.set) a.shard
+RanksBefore-not_itself : (h : List Dimension) (at : Coord) (a : Spot) → ¬ RanksBefore h at a a
+RanksBefore-not_itself h at a = not_itself (growth_of h a.set at) (size_of h a.set) a.shard
 
-ComesBefore-through : (h : List Dimension) (at : Coord) (a b c : Spot) → ComesBefore h at a b → ComesBefore h at b c → ComesBefore h at a c
-ComesBefore-through h at a b c =
+RanksBefore-through : (h : List Dimension) (at : Coord) (a b c : Spot) → RanksBefore h at a b → RanksBefore h at b c → RanksBefore h at a c
+RanksBefore-through h at a b c =
     through (growth_of h a.set at) (size_of h a.set) a.shard (growth_of h b.set at) (size_of h b.set) b.shard (growth_of h c.set at) (size_of h c.set) c.shard
 
 -- of the first n spots none comes before the one at a place
 pub record IsFirstOf (h : List Dimension) (at : Coord) (spots : List Spot) (n best : ℕ) : Type 0 where
   pub within : best < n
-  pub first : (spot other : Spot) (k : ℕ) → k < n → slice_get spots best ≡ Some spot → slice_get spots k ≡ Some other → ¬ ComesBefore h at other spot
+  pub first : (spot other : Spot) (k : ℕ) → k < n → slice_get spots best ≡ Some spot → slice_get spots k ≡ Some other → ¬ RanksBefore h at other spot
 
 pub IsFirstOf-one : (h : List Dimension) (at : Coord) (spots : List Spot) → IsFirstOf h at spots 1 0
 IsFirstOf-one h at spots = record {
@@ -56,11 +56,11 @@ IsFirstOf-one h at spots = record {
   first = λ spot other k lt p q.
       let e : k ≡ 0 = omega (arith, lt) in
       let same : other ≡ spot = same_Some other spot (sym q ∙ ap (slice_get spots) e ∙ p) in
-      subst (λ s. ¬ ComesBefore h at other s) same (ComesBefore-not_itself h at other);
+      subst (λ s. ¬ RanksBefore h at other s) same (RanksBefore-not_itself h at other);
 }
 
 module _ (h : List Dimension) (at : Coord) (spots : List Spot) (n best : ℕ) (was : IsFirstOf h at spots n best) (spot next : Spot) (here : slice_get spots best ≡ Some spot) (there : slice_get spots n ≡ Some next) where
-  pub IsFirstOf-keeps : ¬ ComesBefore h at next spot → IsFirstOf h at spots (n + 1) best
+  pub IsFirstOf-keeps : ¬ RanksBefore h at next spot → IsFirstOf h at spots (n + 1) best
   IsFirstOf-keeps unless = record {
     within = let w = was.within in omega (arith, w);
     first = λ one other k lt p q. elim (cases_lt k n) [
@@ -69,21 +69,21 @@ module _ (h : List Dimension) (at : Coord) (spots : List Spot) (n best : ℕ) (w
           let e : k ≡ n = omega (arith, lt, ge) in
           let one_is : spot ≡ one = same_Some spot one (sym here ∙ p) in
           let other_is : next ≡ other = same_Some next other (sym there ∙ ap (slice_get spots) (sym e) ∙ q) in
-          subst (λ s. ¬ ComesBefore h at other s) one_is (subst (λ s. ¬ ComesBefore h at s spot) other_is unless)
+          subst (λ s. ¬ RanksBefore h at other s) one_is (subst (λ s. ¬ RanksBefore h at s spot) other_is unless)
     ];
   }
 
-  pub IsFirstOf-takes : ComesBefore h at next spot → IsFirstOf h at spots (n + 1) n
+  pub IsFirstOf-takes : RanksBefore h at next spot → IsFirstOf h at spots (n + 1) n
   IsFirstOf-takes before = record {
     within = omega arith;
     first = λ one other k lt p q.
         let one_is : next ≡ one = same_Some next one (sym there ∙ p) in
-        subst (λ s. ¬ ComesBefore h at other s) one_is (elim (cases_lt k n) [
-          | inl less ↦ λ b. was.first spot other k less here q (ComesBefore-through h at other next spot b before)
+        subst (λ s. ¬ RanksBefore h at other s) one_is (elim (cases_lt k n) [
+          | inl less ↦ λ b. was.first spot other k less here q (RanksBefore-through h at other next spot b before)
           | inr ge ↦
               let e : k ≡ n = omega (arith, lt, ge) in
               let same : next ≡ other = same_Some next other (sym there ∙ ap (slice_get spots) (sym e) ∙ q) in
-              subst (λ s. ¬ ComesBefore h at s next) same (ComesBefore-not_itself h at next)
+              subst (λ s. ¬ RanksBefore h at s next) same (RanksBefore-not_itself h at next)
         ]);
   }
 

@@ -28,8 +28,8 @@ noted growths id = map (λ g. g.at) (filter (λ g. g.shard == id) growths)
 -- Routing.
 
 -- the first spot's box is grown less by the coordinate; or as much, and it is smaller; or as large, and its id is lower
-abbrev pub ComesBefore : List Dimension → Coord → Spot → Spot → Type 0
-ComesBefore h at a b =
+abbrev pub RanksBefore : List Dimension → Coord → Spot → Spot → Type 0
+RanksBefore h at a b =
     (growth_of h a.set at < growth_of h b.set at)
     ⊎ ((growth_of h a.set at ≡ growth_of h b.set at)
     × ((size_of h a.set < size_of h b.set) ⊎ ((size_of h a.set ≡ size_of h b.set) × (a.shard < b.shard))))
@@ -38,7 +38,7 @@ ComesBefore h at a b =
 pub record IsRoute (h : List Dimension) (at : Coord) (spots : List Spot) (place : ℕ) : Type 0 where
   pub within : place < length spots
   pub first : (spot other : Spot) (k : ℕ) → slice_get spots place ≡ Some spot → slice_get spots k ≡ Some other
-      → ¬ ComesBefore h at other spot
+      → ¬ RanksBefore h at other spot
 
 -- the shards that a query asks: those whose boxes overlap its filter, in order
 abbrev pub planned : List Dimension → List Pick → List Spot → List Spot
@@ -47,13 +47,13 @@ planned h wanted spots = filter (λ s. overlaps h s.set wanted) spots
 -- Acknowledging and pulling.
 
 -- the last id of a path
-abbrev pub last_of : List ℕ → ℕ
-last_of path = slice_index_or path (length path - 1) 0
+abbrev pub last_shard : List ℕ → ℕ
+last_shard path = slice_index_or path (length path - 1) 0
 
 -- a row that went along a path is acknowledged
 pub record IsAcked (h : List Dimension) (path : List ℕ) (at : Coord) (before now : ImageValue) : Type 0 where
   pub boxes : Grows h (along path at) before.spots now.spots
-  pub noted : now.growths ≡ before.growths ++ record { shard = last_of path; at = at } ∷ []
+  pub noted : now.growths ≡ before.growths ++ record { shard = last_shard path; at = at } ∷ []
   pub owed : before.owed ≡ now.owed + 1
 
 -- the growths of shards of the frontier go to the registry, and its frontier comes back; what is owed stays

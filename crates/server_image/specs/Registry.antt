@@ -7,7 +7,7 @@ use Rattle.dim_hierarchy.specs.Dimension.{Dimension}
 use Rattle.describing_set.specs.DescSet.{IsSetOf}
 use Rattle.describing_set.specs.declared.set.DescSet.{DescSet}
 use Rattle.describing_set.specs.declared.listing.Spot.{Spot}
-use Rattle.server_image.specs.Spots.{ids_of, is_listed, place_of, worker_in, without, with_spot}
+use Rattle.server_image.specs.Spots.{spot_ids, has_spot, place_of, worker_in, without, with_spot}
 
 -- the shards without successors, by ascending id, and those with successors, as they were when they got them
 pub record RegistryValue : Type 0 where
@@ -17,25 +17,25 @@ pub record RegistryValue : Type 0 where
 -- there is a shard, and the ids of the frontier ascend
 pub record IsRegistry (r : RegistryValue) : Type 0 where
   pub some : 0 < length r.frontier
-  pub ascending : Ascends (ids_of r.frontier)
+  pub ascending : Ascends (spot_ids r.frontier)
 
 -- the shard has no successor
 abbrev pub on_frontier : ℕ → RegistryValue → Bool
-on_frontier id r = is_listed id r.frontier
+on_frontier id r = has_spot id r.frontier
 
 -- the worker that has a shard, or had it last
 abbrev pub host_of : ℕ → RegistryValue → Option ℕ
 host_of id r = option_or (worker_in id r.frontier) (worker_in id r.retired)
 
 -- a first shard: that of the worker of the same number, with an empty box
-pub record IsFirst (h : List Dimension) (id : ℕ) (spot : Spot) : Type 0 where
+pub record IsFirstShard (h : List Dimension) (id : ℕ) (spot : Spot) : Type 0 where
   pub shard : spot.shard ≡ id
   pub worker : spot.worker ≡ id
   pub box : IsSetOf h [] spot.set
 
 -- one first shard for each worker, and none retired
-pub record IsOpening (h : List Dimension) (workers : ℕ) (r : RegistryValue) : Type 0 where
-  pub first : AllZip (IsFirst h) (range_with_len 0 workers) r.frontier
+pub record IsNewRegistry (h : List Dimension) (workers : ℕ) (r : RegistryValue) : Type 0 where
+  pub first : AllZip (IsFirstShard h) (range_with_len 0 workers) r.frontier
   pub none : r.retired ≡ []
 
 -- a shard is retired, and two of its worker's stand in its place

@@ -13,12 +13,12 @@ abbrev pub AreBoxes : List Dimension → List Spot → Type 0
 AreBoxes h spots = All (λ s. IsDescSetOf h s.set) spots
 
 -- the ids of the spots
-abbrev pub ids_of : List Spot → List ℕ
-ids_of spots = map (λ s. s.shard) spots
+abbrev pub spot_ids : List Spot → List ℕ
+spot_ids spots = map (λ s. s.shard) spots
 
 -- a spot has this id
-abbrev pub is_listed : ℕ → List Spot → Bool
-is_listed id spots = list_any (λ s. s.shard == id) spots
+abbrev pub has_spot : ℕ → List Spot → Bool
+has_spot id spots = list_any (λ s. s.shard == id) spots
 
 -- the place of the first spot of this id; past the last one where there is none
 abbrev pub place_of : ℕ → List Spot → ℕ

@@ -1,7 +1,7 @@
 ghost use Rattle.std.specs.Prelude.{◌↔◌, IsTrue};
 ghost use Rattle.dim_hierarchy.specs.Row.{IsCoordOf};
 ghost use Rattle.describing_set.specs.DescSet.{IsDescSetOf};
-ghost use Rattle.server_image.specs.Image.{ComesBefore};
+ghost use Rattle.server_image.specs.Image.{RanksBefore};
 
 use describing_set::Spot;
 use dim_hierarchy::{Coord, Hierarchy};
@@ -12,7 +12,7 @@ pub fn comes_before(a: &Spot, b: &Spot, at: &Coord, h: &Hierarchy) -> bool
     requires a { IsDescSetOf h.now a.now.set }
     requires b { IsDescSetOf h.now b.now.set }
     requires at { IsCoordOf h.now at.now }
-    ensures { IsTrue result ↔ ComesBefore h.now at.now a.now b.now }
+    ensures { IsTrue result ↔ RanksBefore h.now at.now a.now b.now }
 {
     let (growth, other_growth) = (a.set.growth(h, at), b.set.growth(h, at));
     let (size, other_size) = (a.set.size(h), b.set.size(h));

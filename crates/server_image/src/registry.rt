@@ -4,7 +4,7 @@ ghost use Rattle.server_image.specs.Spots.{AreBoxes, Widens, Grows};
 ghost use Rattle.server_image.specs.Image.{noted, AreGrowths};
 
 use crate::image::Growth;
-use crate::spots::{copy_spots, is_listed, place_of, put_spot, widen_spots, worker_in};
+use crate::spots::{copy_spots, has_spot, place_of, put_spot, widen_spots, worker_in};
 use describing_set::{DescSet, Listing, Spot};
 use dim_hierarchy::Hierarchy;
 use std::alloc::{AllocError, Global};
@@ -29,12 +29,12 @@ impl Model for Registry {
 }
 
 impl Registry {
-    ghost use Rattle.server_image.specs.Registry.{IsRegistry, IsOpening, IsSplit, IsRehosted, on_frontier, host_of};
+    ghost use Rattle.server_image.specs.Registry.{IsRegistry, IsNewRegistry, IsSplit, IsRehosted, on_frontier, host_of};
 
     /// The first shards: one for each worker, with its number and an empty box.
     pub fn new(alloc: Global, workers: u8, h: &Hierarchy) -> Result<Registry, AllocError>
         requires { 0 < workers }
-        ensures opening { IfOk result (IsOpening h.now workers) }
+        ensures opening { IfOk result (IsNewRegistry h.now workers) }
         ensures boxes { IfOk result (λ r. AreBoxes h.now r.frontier) }
     {
         let mut frontier = Vec::new(alloc);
@@ -81,7 +81,7 @@ impl Registry {
     pub fn on_frontier(&self, id: u32) -> bool
         ensures { result ≡ on_frontier id self.now }
     {
-        is_listed(id, &self.frontier)
+        has_spot(id, &self.frontier)
     }
 
     /// The worker that has a shard, or had it last; `None` for one that was never made.

@@ -2,14 +2,14 @@ ghost use Rattle.std.specs.Prelude.{◌≡◌, ◌==◌, ◌+◌, ◌<◌, ◌�
 ghost use Rattle.std.specs.List.{position_or_len, position};
 ghost use Rattle.dim_hierarchy.specs.Row.{IsCoordOf};
 ghost use Rattle.describing_set.specs.DescSet.{IsDescSetOf};
-ghost use Rattle.server_image.specs.Spots.{AreBoxes, is_among, is_listed, place_of, worker_in, with_spot, IsWidened, Widens, along, Grows};
+ghost use Rattle.server_image.specs.Spots.{AreBoxes, is_among, has_spot, place_of, worker_in, with_spot, IsWidened, Widens, along, Grows};
 
 use describing_set::{DescSet, Spot};
 use dim_hierarchy::{Coord, Hierarchy};
 
 /// Whether a spot has this id.
-pub fn is_listed(id: u32, spots: &[Spot]) -> bool
-    ensures { result ≡ is_listed id spots.now }
+pub fn has_spot(id: u32, spots: &[Spot]) -> bool
+    ensures { result ≡ has_spot id spots.now }
 {
     spots.iter().any(|spot| spot.shard == id)
 }

@@ -11,7 +11,7 @@ use Rattle.dim_hierarchy.specs.Dimension.{Dimension}
 use Rattle.dim_hierarchy.specs.declared.row.Row.{Row}
 use Rattle.shard_codec.specs.declared.fault.CodecFault.{CodecFault}
 use Rattle.shard_codec.specs.declared.fault.CodecFault.TheVariants.{BadConcept}
-use Rattle.shard_codec.specs.Reading.{◌>>=◌, mark_at, byte_at, number_at, is_leaf, leaf_at, coord_at, row_at, rows_at, head_at, all_at_top, ended, decoded}
+use Rattle.shard_codec.specs.Reading.{◌>>=◌, mark_at, byte_at, number_at, is_leaf_concept, leaf_at, coord_at, row_at, rows_at, head_at, all_at_top, ended, decoded}
 use Rattle.shard_codec.specs.Spelled.{AreLeaves, IsSpelled, EachSpelled, AreSpelled}
 use Rattle.shard_codec.specs.Wire.{mark, id_wire, ids_wire, row_wire, head_wire, wire}
 
@@ -29,11 +29,11 @@ u64-again len n rest fits = number-again w64 len n rest refl (from_be_bytes-to_b
 
 -- The concepts of a row.
 
-leaf-again : (h : List Dimension) (len dim id : ℕ) (rest : List ℕ) → id < 2 ^ 32 → is_leaf h dim id ≡ true → leaf_at h len dim (id_wire id ++ rest) ≡ Ok (id, rest)
+leaf-again : (h : List Dimension) (len dim id : ℕ) (rest : List ℕ) → id < 2 ^ 32 → is_leaf_concept h dim id ≡ true → leaf_at h len dim (id_wire id ++ rest) ≡ Ok (id, rest)
 unfolding leaf_at id_wire
 leaf-again h len dim id rest fits leaf =
     let at = len - length (to_be_bytes w32 id ++ rest) in
-    ap (λ r. r >>= λ n. cond (is_leaf h dim n.0) (Ok n) (Err (BadConcept at n.0))) (number-again w32 len id rest refl (from_be_bytes-to_be_bytes_4 id fits))
+    ap (λ r. r >>= λ n. cond (is_leaf_concept h dim n.0) (Ok n) (Err (BadConcept at n.0))) (number-again w32 len id rest refl (from_be_bytes-to_be_bytes_4 id fits))
     ∙ ap (λ b. cond b (Ok (id, rest)) (Err (BadConcept at id))) leaf
 
 coord-again : (h : List Dimension) (len pad dim : ℕ) (done ids places rest : List ℕ) → length done ≡ dim → AreLeaves h dim ids → length places ≡ length ids

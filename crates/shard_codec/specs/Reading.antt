@@ -47,13 +47,13 @@ number_at w len bytes =
     if nat_lt (length bytes) (byte_len w) then Err (Short len) else Ok (from_be_bytes w (take (byte_len w) bytes), drop (byte_len w) bytes)
 
 -- the id is a leaf concept of the dimension
-abbrev pub is_leaf : List Dimension → ℕ → ℕ → Bool
-is_leaf h dim id = (level_of id == leaf_level (tree h dim)) && is_concept (tree h dim) id
+abbrev pub is_leaf_concept : List Dimension → ℕ → ℕ → Bool
+is_leaf_concept h dim id = (level_of id == leaf_level (tree h dim)) && is_concept (tree h dim) id
 
 unfoldable pub leaf_at : List Dimension → ℕ → ℕ → List ℕ → Result (ℕ × List ℕ) CodecFault
 leaf_at h len dim bytes = do
   n ← number_at w32 len bytes
-  if is_leaf h dim n.0 then Ok n else Err (BadConcept (len - length bytes) n.0)
+  if is_leaf_concept h dim n.0 then Ok n else Err (BadConcept (len - length bytes) n.0)
 
 -- Rows.
 

@@ -3,12 +3,12 @@ use Rattle.std.specs.Prelude.{ℕ, ◌≡◌, ◌+◌, ◌-◌, ◌^◌, ◌<◌
 use Rattle.std.specs.Int.{w64}
 use Rattle.dim_hierarchy.specs.Dimension.{Dimension}
 use Rattle.dim_hierarchy.specs.declared.row.Row.{Row}
-use Rattle.shard_codec.specs.Reading.{is_leaf}
+use Rattle.shard_codec.specs.Reading.{is_leaf_concept}
 
 -- leaf concepts of the dimensions from this one on
 abbrev pub AreLeaves : List Dimension → ℕ → List ℕ → Type 0
 AreLeaves h dim [] = ⊤
-AreLeaves h dim (id ∷ ids) = (id < 2 ^ 32) × (is_leaf h dim id ≡ true) × AreLeaves h (dim + 1) ids
+AreLeaves h dim (id ∷ ids) = (id < 2 ^ 32) × (is_leaf_concept h dim id ≡ true) × AreLeaves h (dim + 1) ids
 
 -- a leaf concept in each dimension and ALL past the last, and numbers of their widths
 pub record IsSpelled (h : List Dimension) (row : Row) : Type 0 where

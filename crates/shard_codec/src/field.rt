@@ -2,7 +2,7 @@
 //! of the whole text. None of these calls takes memory.
 ghost use Rattle.std.specs.Prelude.{◌≡◌, ◌<◌, length};
 ghost use Rattle.std.specs.Int.{w32, w64};
-ghost use Rattle.shard_codec.specs.Reading.{Gives, mark_at, byte_at, number_at, is_leaf, leaf_at};
+ghost use Rattle.shard_codec.specs.Reading.{Gives, mark_at, byte_at, number_at, is_leaf_concept, leaf_at};
 
 use crate::fault::CodecFault;
 use dim_hierarchy::{ConceptId, Hierarchy};
@@ -77,16 +77,16 @@ pub fn leaf_at<'a>(
 {
     let at = len.saturating_sub(bytes.len() as u64);
     let (id, rest) = u32_at(len, bytes)?;
-    if !is_leaf(h, dim, ConceptId(id)) {
+    if !is_leaf_concept(h, dim, ConceptId(id)) {
         return Err(CodecFault::BadConcept { at, id });
     }
     Ok((id, rest))
 }
 
 // Whether an id is a leaf concept of the dimension.
-fn is_leaf(h: &Hierarchy, dim: u8, id: ConceptId) -> bool
+fn is_leaf_concept(h: &Hierarchy, dim: u8, id: ConceptId) -> bool
     requires { dim < length h.now }
-    ensures { result ≡ is_leaf h.now dim id }
+    ensures { result ≡ is_leaf_concept h.now dim id }
 {
     id.level() == h.levels(dim) && h.has(dim, id)
 }

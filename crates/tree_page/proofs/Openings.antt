@@ -6,7 +6,7 @@ use Rattle.dc_node.specs.declared.block.Block.{Block}
 use Rattle.shard_store.specs.declared.gate.Gate.{Gate}
 use Rattle.tree_shape.specs.Shape.{Table}
 use Rattle.tree_shape.specs.Laws.{OpeningLaw}
-use Rattle.tree_shape.specs.Steps.{Opens, AfterOpening}
+use Rattle.tree_shape.specs.Steps.{OpensOver, AfterOpening}
 use Rattle.tree_shape.proofs.Walks.{on_bool, eqb-eq, eqb-ne}
 use Rattle.block_cells.specs.Cells.{CellBlocks}
 use Rattle.tree_page.specs.Still.{cells_with, CanShow}
@@ -15,7 +15,7 @@ use Rattle.tree_page.specs.Still.{cells_with, CanShow}
 abbrev pub no_table : List Dimension → Table
 no_table h = record { hierarchy = h; row = λ _. record { no = 0; at = record { at = [] }; measure = pos 0 } }
 
-pub opened-can_show : (h : List Dimension) (home : ℕ) (gate : Gate) (blocks : CellBlocks) (leaf : Block) → OpeningLaw leaf → Opens (no_table h) (cells_with home gate blocks) leaf
+pub opened-can_show : (h : List Dimension) (home : ℕ) (gate : Gate) (blocks : CellBlocks) (leaf : Block) → OpeningLaw leaf → OpensOver (no_table h) (cells_with home gate blocks) leaf
     → home < blocks.count → gate.root < blocks.count → CanShow gate blocks
 opened-can_show h home gate blocks leaf law opens home_in root_in =
     let after : AfterOpening (no_table h) (cells_with home gate blocks) = law (no_table h) (cells_with home gate blocks) opens in

@@ -11,7 +11,7 @@ use Rattle.dc_node.specs.declared.entry.Entry.{Entry}
 use Rattle.shard_store.specs.Gate.{root_entry}
 use Rattle.shard_store.specs.declared.gate.Gate.{Gate}
 use Rattle.row_ledger.specs.declared.page.NodeLine.{NodeLine}
-use Rattle.row_ledger.specs.Pages.{Groups, none, IsLeaf, IsDirectory, AreGroups, IsPageOf}
+use Rattle.row_ledger.specs.Pages.{Groups, none, IsLeafGroup, IsDirectoryGroup, AreGroups, IsPageOf}
 use Rattle.tree_shape.specs.Counts.{Each, times}
 use Rattle.tree_shape.specs.Shape.{Table, Shape, numbers}
 use Rattle.tree_shape.specs.Laws.{OrderLaw, GateLaw}
@@ -86,7 +86,7 @@ module _ (table : Table) (home : ℕ) (gate : Gate) (blocks : CellBlocks) (g : S
 
   -- groups
 
-  leaf-ok : (d : ℕ) (e : Entry) → d + 1 ≡ gate.height → Entry_ok 0 e → IsLeaf table.hierarchy gate.height d (leaf_rows blocks e) (line true d (group blocks e) e)
+  leaf-ok : (d : ℕ) (e : Entry) → d + 1 ≡ gate.height → Entry_ok 0 e → IsLeafGroup table.hierarchy gate.height d (leaf_rows blocks e) (line true d (group blocks e) e)
   leaf-ok d e h ok =
       let lt : 0 < gate.height = omega arith in
       let bs = leaf-blocks e lt ok in
@@ -102,7 +102,7 @@ module _ (table : Table) (home : ℕ) (gate : Gate) (blocks : CellBlocks) (g : S
       }
 
   directory-ok : (l d : ℕ) (e : Entry) → d + suc l + 1 ≡ gate.height → Entry_ok (suc l) e
-      → IsDirectory table.hierarchy gate.height d (all_groups (λ x m. grouped blocks l (d + 1) x m) (beneath blocks e)) (line false d (group blocks e) e)
+      → IsDirectoryGroup table.hierarchy gate.height d (all_groups (λ x m. grouped blocks l (d + 1) x m) (beneath blocks e)) (line false d (group blocks e) e)
   directory-ok l d e h ok =
       let lt : suc l < gate.height = omega arith in
       let bs = directory-blocks l e lt ok in

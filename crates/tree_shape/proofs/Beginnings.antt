@@ -14,7 +14,7 @@ use Rattle.dim_hierarchy.specs.declared.row.Row.{Row}
 use Rattle.tree_shape.specs.Counts.{Each, times}
 use Rattle.tree_shape.specs.Queries.{QueryOk, fits, items_of}
 use Rattle.tree_shape.specs.Shape.{Node, Shape, Table, TreeCells, nodes, numbers}
-use Rattle.tree_shape.specs.Steps.{AfterBegin, Begins}
+use Rattle.tree_shape.specs.Steps.{AfterBegin, BeginsQuery}
 use Rattle.link_descent.specs.GateRead.{queue_part}
 use Rattle.tree_shape.specs.Trees.{DirOk, IsTree}
 use Rattle.tree_shape.specs.Walks.{IsNoted, Noted}
@@ -47,7 +47,7 @@ each-number table f v (r ∷ rows) named h =
       each-number table f v rows named.1 (λ n k. h n (omega arith)),
     )
 
-module _ (table : Table) (cells : TreeCells) (g : Shape) (must : ℕ → Bool) (f : List Pick) (counted : List ℕ) (tree : IsTree table cells g) (d : Begins table cells g f counted) where
+module _ (table : Table) (cells : TreeCells) (g : Shape) (must : ℕ → Bool) (f : List Pick) (counted : List ℕ) (tree : IsTree table cells g) (d : BeginsQuery table cells g f counted) where
   abbrev look : ℕ → Node
   look = nodes cells
 

@@ -22,7 +22,7 @@ use Rattle.tree_shape.specs.Trees.{IsTree}
 use Rattle.tree_shape.specs.Queries.{IsUnfinished, NoneWaits, fits}
 use Rattle.tree_shape.specs.Steps.{AfterBegin, AfterPut, AfterStep, AfterVisit, IsAsked, IsIdle}
 use Rattle.tree_shape.specs.Collecting.{AfterRead}
-use Rattle.tree_shape.specs.Example.{Holds, IsAnswered, IsSample, gate_after}
+use Rattle.tree_shape.specs.Example.{HoldsFirst, IsAnswered, IsSample, gate_after}
 use Rattle.tree_shape.specs.Cities.{CitiesLaw, CitiesWork, IsHalvedExample, berlin, cities, coord_of, cut_cells, earlier, for_munich, full, gate_now, later, left_entry, left_rows, left_with, munich, must_hold, right_entry, rows_from, sample, set_of, settled, table_with, top}
 use Rattle.tree_shape.proofs.Walks.{on_bool, eqb-eq, eqb-ne, eqb-no}
 use Rattle.tree_shape.proofs.Queries.{leb-le, leb-gt}
@@ -152,7 +152,7 @@ module _ (f : Filled earlier (sample 16) real_sample 32) where
   begun : IsTree later full g
   begun = tree-alike earlier later g (record { hierarchy = refl; row = λ r p. same-row r (f.holds.known r p) }) full f.holds.tree
 
-  begun-holds : Holds later full 32
+  begun-holds : HoldsFirst later full 32
   begun-holds = record { shape = g; tree = begun; known = f.holds.known; there = f.holds.there; settled = f.holds.settled }
 
   idle-before : (c : ℕ) → IsIdle g c

@@ -9,7 +9,7 @@ use Rattle.dim_hierarchy.specs.declared.row.Row.{Row}
 use Rattle.tree_shape.specs.Counts.{times}
 use Rattle.tree_shape.specs.Laws.{OpeningLaw}
 use Rattle.tree_shape.specs.Shape.{Node, Shape, ShapeOk, Table, TreeCells, gate_node, node_of, nodes}
-use Rattle.tree_shape.specs.Steps.{AfterOpening, Opens}
+use Rattle.tree_shape.specs.Steps.{AfterOpening, OpensOver}
 use Rattle.tree_shape.specs.Trees.{BlockOk, EntryOk}
 use Rattle.tree_shape.proofs.Walks.{on_bool, eqb-eq, eqb-ne, same_is, same_not, eqb-no, eqb-yes}
 use Rattle.tree_shape.proofs.Assembled.{node-block, node-gate}
@@ -28,7 +28,7 @@ opening_shape gate root = record {
   at = λ r. root;
 }
 
-module _ (table : Table) (cells : TreeCells) (s : ℕ) (d : Opens table cells (record { stamp = s; right = None; body = Rows (record { items = [] }) })) where
+module _ (table : Table) (cells : TreeCells) (s : ℕ) (d : OpensOver table cells (record { stamp = s; right = None; body = Rows (record { items = [] }) })) where
   abbrev gate : ℕ
   gate = cells.gate_cell
 
@@ -142,4 +142,4 @@ module _ (table : Table) (cells : TreeCells) (s : ℕ) (d : Opens table cells (r
   }
 
 pub opening-law : (s : ℕ) (items : List Row) → items ≡ [] → OpeningLaw (record { stamp = s; right = None; body = Rows (record { items = items }) })
-opening-law s items e = λ table cells o. after-opening table cells s (subst (λ (xs : List Row). Opens table cells (record { stamp = s; right = None; body = Rows (record { items = xs }) })) e o)
+opening-law s items e = λ table cells o. after-opening table cells s (subst (λ (xs : List Row). OpensOver table cells (record { stamp = s; right = None; body = Rows (record { items = xs }) })) e o)

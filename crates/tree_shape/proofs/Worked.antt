@@ -22,7 +22,7 @@ use Rattle.dc_node.specs.declared.entry.Entry.{Entry}
 use Rattle.dc_node.specs.declared.todo.Item.{Item}
 use Rattle.dim_hierarchy.specs.declared.row.Row.{Row}
 use Rattle.tree_shape.specs.Counts.{Each, times}
-use Rattle.tree_shape.specs.Example.{Asks, Holds, IsAnswered, IsSample, IsUncut, Sample, Works, cells_at, first_rows, gate_after, halved_cells, leaf_of}
+use Rattle.tree_shape.specs.Example.{AsksFor, HoldsFirst, IsAnswered, IsSample, IsUncut, Sample, Works, cells_at, first_rows, gate_after, halved_cells, leaf_of}
 use Rattle.tree_shape.specs.Queries.{IsUnfinished, NoneWaits, fits}
 use Rattle.tree_shape.specs.Shape.{Node, Shape, Table, TreeCells, nodes, numbers}
 use Rattle.tree_shape.specs.Steps.{AfterBegin, AfterPut, AfterStep, AfterVisit, IsIdle, IsSpare}
@@ -86,7 +86,7 @@ module _ (table : Table) (x : Sample) (d : IsSample table x) where
 
   -- and what else holds on the way
   pub record Filled (n : ℕ) : Type 0 where
-    pub holds : Holds table (cells_at table x n n) n
+    pub holds : HoldsFirst table (cells_at table x n n) n
     pub only : (y : ℕ) → y ≢ x.gate_cell → y ≢ x.root → holds.shape.inside y ≡ false
 
   start : Filled 0
@@ -232,7 +232,7 @@ module _ (table : Table) (x : Sample) (d : IsSample table x) where
     f : Filled m
     f = fill m (omega arith)
 
-    abbrev b : Holds table before m
+    abbrev b : HoldsFirst table before m
     b = f.holds
 
     abbrev g : Shape
@@ -298,7 +298,7 @@ module _ (table : Table) (x : Sample) (d : IsSample table x) where
         (λ z. ap put-in.shape.carried (eqb-eq _ _ z) ∙ put-in.settled)
         (λ z. let ne = eqb-ne _ _ z in put-in.carried r ne ∙ came.row.others_carried r ne ∙ b.settled r (sym (came.row.others_placed r ne) ∙ sym (put-in.placed r) ∙ pr))
 
-    pub halved : Holds table after (suc m)
+    pub halved : HoldsFirst table after (suc m)
     halved = record {
       shape = put-in.shape;
       tree = put-in.tree;
@@ -311,7 +311,7 @@ module _ (table : Table) (x : Sample) (d : IsSample table x) where
 
     -- a query that noted the root before
 
-    module _ (must : ℕ → Bool) (f2 : List Pick) (a : Asks table x m must f2) where
+    module _ (must : ℕ → Bool) (f2 : List Pick) (a : AsksFor table x m must f2) where
       abbrev fit : ℕ → Bool
       fit = fits table f2
 

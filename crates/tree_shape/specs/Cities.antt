@@ -20,7 +20,7 @@ use Rattle.shard_store.specs.declared.gate.Phase.TheVariants.{Open}
 use Rattle.tree_shape.specs.Shape.{Table, TreeCells, Shape, numbers}
 use Rattle.tree_shape.specs.Trees.{IsTree}
 use Rattle.tree_shape.specs.Collecting.{AfterCollecting}
-use Rattle.tree_shape.specs.Example.{Sample, IsSample, Holds, IsUncut, Asks, IsAnswered, cells_at, first_agg, gate_after, leaf_of}
+use Rattle.tree_shape.specs.Example.{Sample, IsSample, HoldsFirst, IsUncut, AsksFor, IsAnswered, cells_at, first_agg, gate_after, leaf_of}
 
 -- a dimension with two places
 
@@ -84,7 +84,7 @@ must_hold r = ltb r 32
 pub record IsHalvedExample (table : Table) (x : Sample) : Type 0 where
   pub places : IsSample table x
   pub uncut : IsUncut table 32
-  pub asks : Asks table x 32 must_hold for_munich
+  pub asks : AsksFor table x 32 must_hold for_munich
 
 -- Tables that differ at number 32 alone. In the earlier one the row hasn't begun, and some other row stands there.
 
@@ -144,7 +144,7 @@ abbrev pub settled : TreeCells
 settled = cut_cells left_rows left_with
 
 -- a tree in which row 32 is carried at a cell
-pub record Carries (cells : TreeCells) (cell : ℕ) : Type 0 where
+pub record CarriesLast (cells : TreeCells) (cell : ℕ) : Type 0 where
   pub shape : Shape
   pub tree : IsTree later cells shape
   pub placed : shape.placed 32 ≡ true
@@ -154,11 +154,11 @@ pub record Carries (cells : TreeCells) (cell : ℕ) : Type 0 where
 -- Each step by its law. A query for Munich begins before row 32 does, and is answered at the end; and at the end the blocks
 -- are read one by one: the new root, Munich and Berlin.
 pub record CitiesWork : Type 0 where
-  pub filled : Holds earlier full 32
-  pub begun : Holds later full 32
-  pub cut : Carries (cut_cells (rows_from 0 16) left_entry) 3
-  pub down : Carries (cut_cells (rows_from 0 16) left_with) 1
-  pub put : Holds later settled 33
+  pub filled : HoldsFirst earlier full 32
+  pub begun : HoldsFirst later full 32
+  pub cut : CarriesLast (cut_cells (rows_from 0 16) left_entry) 3
+  pub down : CarriesLast (cut_cells (rows_from 0 16) left_with) 1
+  pub put : HoldsFirst later settled 33
   pub answered : IsAnswered later 32 must_hold for_munich
   pub collected : AfterCollecting later settled put.shape (3 ∷ 2 ∷ 1 ∷ []) (numbers (rows_from 16 16) ++ numbers left_rows)
 

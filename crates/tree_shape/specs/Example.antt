@@ -78,7 +78,7 @@ halved_cells table x m head = record {
 }
 
 -- a tree of the first n rows, with no row on its way
-pub record Holds (table : Table) (cells : TreeCells) (n : ℕ) : Type 0 where
+pub record HoldsFirst (table : Table) (cells : TreeCells) (n : ℕ) : Type 0 where
   pub shape : Shape
   pub tree : IsTree table cells shape
   pub known : (r : ℕ) → shape.placed r ≡ true → r < n
@@ -87,7 +87,7 @@ pub record Holds (table : Table) (cells : TreeCells) (n : ℕ) : Type 0 where
 
 -- A query begins when the 32 rows are in the tree. At the gate it notes the root; the queue is empty, and row m, which
 -- comes later, is none that it has to hold.
-pub record Asks (table : Table) (x : Sample) (m : ℕ) (must : ℕ → Bool) (f : List Pick) : Type 0 where
+pub record AsksFor (table : Table) (x : Sample) (m : ℕ) (must : ℕ → Bool) (f : List Pick) : Type 0 where
   pub asked : IsAsked table f
   pub queue : IsQueueOf table.hierarchy x.gate.queue
   pub empty : x.gate.queue.rows ≡ []
@@ -107,10 +107,10 @@ IsUncut table m = HasNoCut table.hierarchy (Rows (record { items = first_rows ta
 
 -- the tree after each of the first 32 rows, and after the 33rd where there is no good cut, and the query's answer
 pub record Works (table : Table) (x : Sample) : Type 0 where
-  pub filled : (n : ℕ) → n ≤ 32 → Holds table (cells_at table x n n) n
+  pub filled : (n : ℕ) → n ≤ 32 → HoldsFirst table (cells_at table x n n) n
   pub one_place : ((r : ℕ) → x.place r ≡ x.place 0) → (m : ℕ) → IsUncut table m
-  pub halved : (m : ℕ) → m ≡ 32 → IsUncut table m → Holds table (halved_cells table x m (drop 16 (first_rows table m) ++ table.row m ∷ [])) (suc m)
-  pub answered : (m : ℕ) → m ≡ 32 → IsUncut table m → (must : ℕ → Bool) (f : List Pick) → Asks table x m must f → IsAnswered table m must f
+  pub halved : (m : ℕ) → m ≡ 32 → IsUncut table m → HoldsFirst table (halved_cells table x m (drop 16 (first_rows table m) ++ table.row m ∷ [])) (suc m)
+  pub answered : (m : ℕ) → m ≡ 32 → IsUncut table m → (must : ℕ → Bool) (f : List Pick) → AsksFor table x m must f → IsAnswered table m must f
 
 abbrev pub ExampleLaw : Type 0
 ExampleLaw = (table : Table) (x : Sample) → IsSample table x → Works table x

@@ -18,11 +18,11 @@ use Rattle.tree_shape.specs.Trees.{IsTree, BlockFits, IsBelow}
 use Rattle.tree_shape.specs.Queries.{IsUnfinished, fits}
 use Rattle.tree_shape.specs.Tables.{AreAlike, IsThere, IsThereOrCounted, AfterTable}
 use Rattle.tree_shape.specs.Collecting.{IsCollecting, IsReadable, Reads, AfterRead, AfterCollecting, root_item}
-use Rattle.tree_shape.specs.Steps.{Opens, AfterOpening, LeavesTree, AfterOther, GoesDown, GoesIn, AfterStep, IsPut, AfterPut, Visits, AfterVisit, Begins, AfterBegin, CountsElsewhere, AfterAll}
+use Rattle.tree_shape.specs.Steps.{OpensOver, AfterOpening, LeavesTree, AfterOther, GoesDown, GoesIn, AfterStep, IsPut, AfterPut, Visits, AfterVisit, BeginsQuery, AfterBegin, CountsElsewhere, AfterAll}
 
 -- a leaf block is the root of a new tree
 abbrev pub OpeningLaw : Block → Type 0
-OpeningLaw leaf = (table : Table) (cells : TreeCells) → Opens table cells leaf → AfterOpening table cells
+OpeningLaw leaf = (table : Table) (cells : TreeCells) → OpensOver table cells leaf → AfterOpening table cells
 
 -- what isn't of a tree doesn't touch it
 abbrev pub OtherLaw : Type 0
@@ -72,7 +72,7 @@ PutLaw = (table : Table) (g : Shape) (r : ℕ) (before now : TreeCells) → IsTr
 -- a query begins at the gate, visits a block, counts at other gates, and ends
 
 abbrev pub BeginLaw : Type 0
-BeginLaw = (table : Table) (cells : TreeCells) (g : Shape) (must : ℕ → Bool) (f : List Pick) (counted : List ℕ) → IsTree table cells g → Begins table cells g f counted → AfterBegin table cells g must f counted
+BeginLaw = (table : Table) (cells : TreeCells) (g : Shape) (must : ℕ → Bool) (f : List Pick) (counted : List ℕ) → IsTree table cells g → BeginsQuery table cells g f counted → AfterBegin table cells g must f counted
 
 abbrev pub VisitLaw : Type 0
 VisitLaw = (table : Table) (cells : TreeCells) (g : Shape) (must : ℕ → Bool) (f : List Pick) (items : List Item) (item : Item) (counted : List ℕ) → IsTree table cells g

@@ -151,7 +151,7 @@ pub record AfterOther (table : Table) (g : Shape) (before now : TreeCells) : Typ
       → IsUnfinished g (nodes before) must fits items counted → IsUnfinished g (nodes now) must fits items counted
 
 -- A gate over an empty leaf, in a cell of its own.
-pub record Opens (table : Table) (cells : TreeCells) (leaf : Block) : Type 0 where
+pub record OpensOver (table : Table) (cells : TreeCells) (leaf : Block) : Type 0 where
   pub root : cells.block cells.gate.root ≡ leaf
   pub apart : cells.gate.root ≢ cells.gate_cell
   pub stamp : cells.gate.stamp ≡ leaf.stamp
@@ -192,7 +192,7 @@ pub record AfterVisit (table : Table) (cells : TreeCells) (g : Shape) (must : �
 
 -- What a query finds at a gate: the queue's rows are in no tree, and none of them is there twice. What it has counted
 -- before, at other gates, fits and is neither in this queue nor in this tree.
-pub record Begins (table : Table) (cells : TreeCells) (g : Shape) (f : List Pick) (counted : List ℕ) : Type 0 where
+pub record BeginsQuery (table : Table) (cells : TreeCells) (g : Shape) (f : List Pick) (counted : List ℕ) : Type 0 where
   pub asked : IsAsked table f
   pub queue : IsQueueOf table.hierarchy cells.gate.queue
   pub rows : Each (λ r. table.row r.no ≡ r) cells.gate.queue.rows

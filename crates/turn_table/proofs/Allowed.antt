@@ -8,10 +8,10 @@ use prog.Atomic.{either}
 use Rattle.atomic_table.specs.Table.{State, Me, step, takes as taking, gives as giving, keeps as staying, stepped, Allows, Splits, Joins, rest}
 use Rattle.atomic_table.proofs.Lists.{set_here, exchanged}
 use Rattle.turn_table.specs.declared.view.View.{View}
-use Rattle.turn_table.specs.Numbered.{value_of, AreApart, write_all, replace, Extends}
+use Rattle.turn_table.specs.Numbered.{value_of, HaveOwnNumbers, write_all, replace, Extends}
 use Rattle.turn_table.specs.Views.{HasAll, seen_of, after_take, after_commit, after_release, after_refusal, after_split, split_view, joined_view, spent_view}
 use Rattle.turn_table.specs.Rule.{Rests, IsHeld, IsUnderTurns}
-use Rattle.turn_table.specs.Law.{Sight, sight, AreSameCells, IsLawful, IsUnkept, IsPossible, Took, Gave, Looked, IsCommit, IsRelease}
+use Rattle.turn_table.specs.Law.{Sight, sight, AreSameCells, IsLawful, IsUnkept, IsPossible, Took, GaveBack, Looked, IsCommit, IsRelease}
 use Rattle.turn_table.proofs.Numbered.{below_length, there, find_same, replace_here, replace_else, length_write_all, write_all_here, write_all_else, starts_self, some_or_none, numbers_replace, replace_found, find_append_first, find_append_second, find_here, find_else, prefix_two, not_empty, without_else, back_in_front, apart_in_front}
 use Rattle.turn_table.proofs.Kept.{takes, gives, notes, splits, joins}
 
@@ -119,9 +119,9 @@ module _ {Cell Actor Entry : Type 0} (invariant : List Cell → List Actor → T
   pub commit_allowed : (change : Sight Cell Actor → List (ℕ × Cell) → ℕ → Actor → Actor → Type 0) → IsLawful invariant log_at log needs change
       → (slots id k : ℕ) (m : M) (c' : Cell) (others : List (ℕ × Cell)) (i : ℕ) (a b : Actor) (next : V → V)
       → m.1 ≡ (k, Some c') ∷ rest m.1 → next m.0 ≡ after_commit log_at log m.0 ((k, c') ∷ others) i b
-      → AreSameCells m.0.held ((k, c') ∷ others) → AreApart ((k, c') ∷ others) → value_of m.0.actors i ≡ some a → change (sight m.0) ((k, c') ∷ others) i a b
+      → AreSameCells m.0.held ((k, c') ∷ others) → HaveOwnNumbers ((k, c') ∷ others) → value_of m.0.actors i ≡ some a → change (sight m.0) ((k, c') ∷ others) i a b
       → ((j : ℕ) (x : Actor) (n : ℕ) → value_of (replace m.0.actors i b) j ≡ some x → needs x n → (d : Cell) × (value_of others n ≡ some d))
-      → Allows Rule slots id m k (λ _. 0) (Gave invariant log_at log needs next (step slots k 0 0 none) m)
+      → Allows Rule slots id m k (λ _. 0) (GaveBack invariant log_at log needs next (step slots k 0 0 none) m)
   commit_allowed change law slots id k m c' others i a b next front next_is same distinct has goes left s r deep at small =
       let v : V = m.0 in
       let new : List (ℕ × Cell) = (k, c') ∷ others in
@@ -162,9 +162,9 @@ module _ {Cell Actor Entry : Type 0} (invariant : List Cell → List Actor → T
 
   -- the release of the cell k, which no actor of the seat must keep
   pub release_allowed : (slots id k : ℕ) (m : M) (c : Cell) (next : V → V)
-      → m.1 ≡ (k, Some c) ∷ rest m.1 → next m.0 ≡ after_release m.0 k → value_of m.0.held k ≡ some c → AreApart m.0.held
+      → m.1 ≡ (k, Some c) ∷ rest m.1 → next m.0 ≡ after_release m.0 k → value_of m.0.held k ≡ some c → HaveOwnNumbers m.0.held
       → ((j : ℕ) (x : Actor) → value_of m.0.actors j ≡ some x → needs x k → ⊥)
-      → Allows Rule slots id m k (λ _. 0) (Gave invariant log_at log needs next (step slots k 0 0 none) m)
+      → Allows Rule slots id m k (λ _. 0) (GaveBack invariant log_at log needs next (step slots k 0 0 none) m)
   release_allowed slots id k m c next front next_is had distinct free s r deep at small =
       let v : V = m.0 in
       let w : V = after_release v k in
@@ -194,10 +194,10 @@ module _ {Cell Actor Entry : Type 0} (invariant : List Cell → List Actor → T
   join_allowed id v other w active bare s r at apart at' = joins invariant log_at log needs count s r id other v w at apart at' active bare
 
   pub commits_allowed : (change : Sight Cell Actor → List (ℕ × Cell) → ℕ → Actor → Actor → Type 0) → IsLawful invariant log_at log needs change
-      → (slots id k : ℕ) (m : M) (next : V → V) → IsCommit log_at log needs change m next k → Allows Rule slots id m k (λ _. 0) (Gave invariant log_at log needs next (step slots k 0 0 none) m)
+      → (slots id k : ℕ) (m : M) (next : V → V) → IsCommit log_at log needs change m next k → Allows Rule slots id m k (λ _. 0) (GaveBack invariant log_at log needs next (step slots k 0 0 none) m)
   commits_allowed change law slots id k m next p = commit_allowed change law slots id k m p.now p.others p.number p.before p.after next p.front p.next_is p.same p.distinct p.has p.goes p.left
 
-  pub releases_allowed : (slots id k : ℕ) (m : M) (next : V → V) → IsRelease needs m next k → Allows Rule slots id m k (λ _. 0) (Gave invariant log_at log needs next (step slots k 0 0 none) m)
+  pub releases_allowed : (slots id k : ℕ) (m : M) (next : V → V) → IsRelease needs m next k → Allows Rule slots id m k (λ _. 0) (GaveBack invariant log_at log needs next (step slots k 0 0 none) m)
   releases_allowed slots id k m next p = release_allowed slots id k m p.now next p.front p.next_is p.had p.distinct p.free
 
   pub look_allowed : (slots id k : ℕ) (m : M) → m.0.actors ≢ [] → length m.0.told ≤ length m.0.seen → Allows Rule slots id m k (λ n. n) (Looked invariant log_at log needs (step slots k 0 0 none) m)

@@ -10,7 +10,7 @@ use lib.Seq.{set-get_or}
 use Rattle.atomic_table.specs.Table.{State}
 use Rattle.atomic_table.proofs.Lists.{at_set, set_here, set_else, at_longer, at_last}
 use Rattle.turn_table.specs.declared.view.View.{View}
-use Rattle.turn_table.specs.Numbered.{value_of, numbers_of, AreApart, Extends, longer, shorter}
+use Rattle.turn_table.specs.Numbered.{value_of, numbers_of, HaveOwnNumbers, Extends, longer, shorter}
 use Rattle.turn_table.specs.Views.{HasAll, lone, seen_of, after_take, after_split, split_view, joined_view, spent_view}
 use Rattle.turn_table.specs.Rule.{Agrees, IsPlaced, Rests, IsHeld, IsUnderTurns}
 use Rattle.turn_table.proofs.Numbered.{put, put_here, put_else, find_here, find_else, found, some_or_none, find_same, below_length, there, starts_self, starts_nil, without_here, without_else, at_end, find_append, find_append_first, find_append_second, whole_prefix, distinct_end}
@@ -129,7 +129,7 @@ module _ {Cell Actor Entry : Type 0} (invariant : List Cell → List Actor → T
 
   -- a held cell is given back. The other held cells may have new values, and the seat's actors too
   pub gives : (s : St) (r : Rule s) (id k : ℕ) (v w : V) (c c' : Cell) (cells' : List Cell) (actors' : List Actor)
-      → get_elem? s.views id ≡ some v → value_of v.held k ≡ some c → AreApart ((k, c') ∷ w.held)
+      → get_elem? s.views id ≡ some v → value_of v.held k ≡ some c → HaveOwnNumbers ((k, c') ∷ w.held)
       → ((j : ℕ) (d : Cell) → value_of ((k, c') ∷ w.held) j ≡ some d → (e : Cell) × (value_of v.held j ≡ some e)) → ((j : ℕ) → value_of ((k, c') ∷ w.held) j ≡ none → value_of v.held j ≡ none) → w.number ≡ v.number → numbers_of w.actors ≡ numbers_of v.actors
       → invariant cells' actors' → length cells' ≡ length r.cells → length actors' ≡ length r.actors
       → ((j : ℕ) (d : Cell) → value_of ((k, c') ∷ w.held) j ≡ some d → get_elem? cells' j ≡ some d) → ((j : ℕ) → value_of ((k, c') ∷ w.held) j ≡ none → get_elem? cells' j ≡ get_elem? r.cells j)
@@ -262,7 +262,7 @@ module _ {Cell Actor Entry : Type 0} (invariant : List Cell → List Actor → T
           record {
             holds = λ k1 c1 f. let h = mine.1.holds k1 c1 (ap (λ (ps : List (ℕ × Cell)). value_of ps k1) (sym as_held) ∙ f) in (h.0, h.1 ∙ ap (λ (n : ℕ). n + 1) (sym as_number));
             has = λ i a f. mine.1.has i a (ap (λ (ps : List (ℕ × Actor)). value_of ps i) (sym as_actors) ∙ f);
-            distinct = subst AreApart (sym as_held) mine.1.distinct;
+            distinct = subst HaveOwnNumbers (sym as_held) mine.1.distinct;
             own = λ n. let o = mine.1.own (λ e. n (as_actors ∙ e)) in (o.0, (λ i. value_of (as_actors i) (as_number i)) ∙ o.1);
             bare = λ e. as_held ∙ mine.1.bare (sym as_actors ∙ e);
             keep = λ i a j f n. let o = mine.1.keep i a j (ap (λ (ps : List (ℕ × Actor)). value_of ps i) (sym as_actors) ∙ f) n in (o.0, ap (λ (ps : List (ℕ × Cell)). value_of ps j) as_held ∙ o.1);

@@ -5,7 +5,7 @@ use mathlib.Core.Option.{Option, none, some, some-injective, some-ne-none}
 use native.Mathlib.Decide.{ℕ_discrete}
 use lib.ListN.{get_elem?}
 use Rattle.atomic_table.proofs.Lists.{set_here, set_else}
-use Rattle.turn_table.specs.Numbered.{value_of, numbers_of, AreApart, write_all, replace, without, Extends}
+use Rattle.turn_table.specs.Numbered.{value_of, numbers_of, HaveOwnNumbers, write_all, replace, without, Extends}
 
 abbrev pick : {P : Type 0} → Dec P → ℕ → ℕ → ℕ
 pick (yes _) a b = a
@@ -118,11 +118,11 @@ module _ {A : Type 0} where
       (λ (here : p.0 ≡ j). subst (λ (z : ℕ). value_of (p ∷ without ps k) z ≡ value_of (p ∷ ps) z) here (find_here (without ps k) p.0 p.1 ∙ sym (find_here ps p.0 p.1)))
       (λ (other : p.0 ≢ j). find_else (without ps k) p.0 j p.1 other ∙ (without_else ps k j h ∙ sym (find_else ps p.0 j p.1 other))))
 
-  apart_without : (ps : List (ℕ × A)) (k : ℕ) → AreApart ps → AreApart (without ps k)
+  apart_without : (ps : List (ℕ × A)) (k : ℕ) → HaveOwnNumbers ps → HaveOwnNumbers (without ps k)
   apart_without [] k d = tt
   apart_without (p ∷ ps) k d = dite (ℕ_discrete p.0 k)
-      (λ (same : p.0 ≡ k). subst (λ (b : Bool). AreApart (cond b (without ps k) (p ∷ without ps k))) (sym (eq-eqb p.0 k same)) (apart_without ps k d.1))
-      (λ (ne : p.0 ≢ k). subst (λ (b : Bool). AreApart (cond b (without ps k) (p ∷ without ps k))) (sym (ne_eqb p.0 k ne)) (without_else ps k p.0 ne ∙ d.0, apart_without ps k d.1))
+      (λ (same : p.0 ≡ k). subst (λ (b : Bool). HaveOwnNumbers (cond b (without ps k) (p ∷ without ps k))) (sym (eq-eqb p.0 k same)) (apart_without ps k d.1))
+      (λ (ne : p.0 ≢ k). subst (λ (b : Bool). HaveOwnNumbers (cond b (without ps k) (p ∷ without ps k))) (sym (ne_eqb p.0 k ne)) (without_else ps k p.0 ne ∙ d.0, apart_without ps k d.1))
 
   -- a value put back in front of the others is found where it was
   pub back_in_front : (ps : List (ℕ × A)) (k : ℕ) (x : A) → value_of ps k ≡ some x → (j : ℕ) → value_of ((k, x) ∷ without ps k) j ≡ value_of ps j
@@ -130,11 +130,11 @@ module _ {A : Type 0} where
       (λ (same : k ≡ j). ap (value_of ((k, x) ∷ without ps k)) (sym same) ∙ (find_here (without ps k) k x ∙ (sym h ∙ ap (value_of ps) same)))
       (λ (ne : k ≢ j). find_else (without ps k) k j x ne ∙ without_else ps k j (λ e. ne (sym e)))
 
-  pub apart_in_front : (ps : List (ℕ × A)) (k : ℕ) (x : A) → AreApart ps → AreApart ((k, x) ∷ without ps k)
+  pub apart_in_front : (ps : List (ℕ × A)) (k : ℕ) (x : A) → HaveOwnNumbers ps → HaveOwnNumbers ((k, x) ∷ without ps k)
   apart_in_front ps k x d = (without_here ps k, apart_without ps k d)
 
   -- what stands at a place is found by its number
-  pub at_found : (ps : List (ℕ × A)) (i : ℕ) (p : ℕ × A) → AreApart ps → get_elem? ps i ≡ some p → value_of ps p.0 ≡ some p.1
+  pub at_found : (ps : List (ℕ × A)) (i : ℕ) (p : ℕ × A) → HaveOwnNumbers ps → get_elem? ps i ≡ some p → value_of ps p.0 ≡ some p.1
   at_found [] i p d e = absurd (some-ne-none p (sym e))
   at_found (q ∷ qs) zero p d e = let s : q ≡ p = some-injective q p e in subst (λ (z : ℕ × A). value_of (q ∷ qs) z.0 ≡ some z.1) s (find_here qs q.0 q.1)
   at_found (q ∷ qs) (suc i) p d e = let h : value_of qs p.0 ≡ some p.1 = at_found qs i p d.1 e in
@@ -147,7 +147,7 @@ module _ {A : Type 0} where
       (λ (ne : p.0 ≢ k). ap (λ (b : Bool). cond b (without ps k) (p ∷ without ps k)) (ne_eqb p.0 k ne) ∙ ap (λ (zs : List (ℕ × A)). p ∷ zs) (without_none ps k (sym (find_else ps p.0 k p.1 ne) ∙ h)))
 
   -- without the value at a place
-  pub without_at : (ps : List (ℕ × A)) (i : ℕ) (p : ℕ × A) → AreApart ps → get_elem? ps i ≡ some p → without ps p.0 ≡ remove ps i
+  pub without_at : (ps : List (ℕ × A)) (i : ℕ) (p : ℕ × A) → HaveOwnNumbers ps → get_elem? ps i ≡ some p → without ps p.0 ≡ remove ps i
   without_at [] i p d e = absurd (some-ne-none p (sym e))
   without_at (q ∷ qs) zero p d e = let s : q.0 ≡ p.0 = ap (λ (z : ℕ × A). z.0) (some-injective q p e) in
       ap (λ (b : Bool). cond b (without qs p.0) (q ∷ without qs p.0)) (eq-eqb q.0 p.0 s) ∙ without_none qs p.0 (ap (value_of qs) (sym s) ∙ d.0)
@@ -189,7 +189,7 @@ module _ {A : Type 0} where
       (λ (n : value_of ps i ≡ none). inr (sym (find_append_second ps qs i n) ∙ e))
       (some_or_none (value_of ps i))
 
-  pub distinct_end : (ps : List (ℕ × A)) (k : ℕ) (x : A) → value_of ps k ≡ none → AreApart ps → AreApart (ps ++ (k, x) ∷ [])
+  pub distinct_end : (ps : List (ℕ × A)) (k : ℕ) (x : A) → value_of ps k ≡ none → HaveOwnNumbers ps → HaveOwnNumbers (ps ++ (k, x) ∷ [])
   distinct_end [] k x n d = (refl, tt)
   distinct_end (p ∷ ps) k x n d = dite (ℕ_discrete p.0 k)
       (λ (same : p.0 ≡ k). absurd (some-ne-none p.1 (sym (find_here ps p.0 p.1) ∙ (ap (value_of (p ∷ ps)) same ∙ n))))
@@ -224,7 +224,7 @@ find_same {A} {B} (p ∷ ps) (q ∷ qs) k x e h = dite (ℕ_discrete p.0 k)
 pub none_same : {A B : Type 0} (ps : List (ℕ × A)) (qs : List (ℕ × B)) (k : ℕ) → numbers_of ps ≡ numbers_of qs → value_of ps k ≡ none → value_of qs k ≡ none
 none_same {A} {B} ps qs k e h = ⊎_elim (λ (t : (y : B) × (value_of qs k ≡ some y)). absurd (let u : (x : A) × (value_of ps k ≡ some x) = find_same qs ps k t.0 (sym e) t.1 in some-ne-none u.0 (sym u.1 ∙ h))) (λ (n : value_of qs k ≡ none). n) (some_none (value_of qs k))
 
-pub distinct_same : {A B : Type 0} (ps : List (ℕ × A)) (qs : List (ℕ × B)) → numbers_of ps ≡ numbers_of qs → AreApart ps → AreApart qs
+pub distinct_same : {A B : Type 0} (ps : List (ℕ × A)) (qs : List (ℕ × B)) → numbers_of ps ≡ numbers_of qs → HaveOwnNumbers ps → HaveOwnNumbers qs
 distinct_same [] [] e d = tt
 distinct_same [] (q ∷ qs) e d = absurd (cc)
 distinct_same (p ∷ ps) [] e d = absurd (cc)

@@ -11,7 +11,7 @@ use Rattle.std.proofs.lemmas.Bool.{lt-ltb, le-ltb}
 use mathlib.Core.List.{head-eq_of_cons-eq}
 use Rattle.atomic_table.specs.Table.{Me, turned, rest}
 use Rattle.turn_table.specs.declared.view.View.{View}
-use Rattle.turn_table.specs.Numbered.{value_of, numbers_of, AreApart, replace, without, after_first, Extends, longer, shorter}
+use Rattle.turn_table.specs.Numbered.{value_of, numbers_of, HaveOwnNumbers, replace, without, after_first, Extends, longer, shorter}
 use Rattle.turn_table.specs.Views.{HasAll, lone, after_take, after_commit, after_release, after_refusal, after_split, split_view, joined_view}
 use Rattle.turn_table.specs.Law.{Sight, sight, IsPossible, IsCommit, IsRelease}
 use Rattle.turn_table.specs.Seat.{IsSeated, slots_of, values_of}
@@ -136,7 +136,7 @@ module _ {Cell Actor Entry : Type 0} (invariant : List Cell → List Actor → T
       → m' ≡ (after_commit log_at log m.0 cells i b, rest (slots_of false cells)) → IsPossible invariant log_at log needs m'.0 → words' ≡ words → IsSeated invariant log_at log needs words' number (remove row 0) false m'
   seated_committed words words' number i b row m m' [] s same any is possible wide = absurd (omega arith)
   seated_committed words words' number i b row m m' (p ∷ ps) s same any is possible wide = let P : ℕ × M → Type 0 = λ x. IsSeated invariant log_at log needs x.0 number (remove row 0) false x.1 in
-      let d : AreApart (p ∷ ps) = distinct_same m.0.held (p ∷ ps) (sym same) s.distinct in subst P (λ z. (sym wide z, sym is z)) record {
+      let d : HaveOwnNumbers (p ∷ ps) = distinct_same m.0.held (p ∷ ps) (sym same) s.distinct in subst P (λ z. (sym wide z, sym is z)) record {
         numbered = s.numbered;
         own = find_same m.0.actors (replace m.0.actors i b) m.0.number s.own.0 (sym (numbers_replace m.0.actors i b)) s.own.1;
         active = λ e. not_empty m.0.actors (replace m.0.actors i b) (sym (numbers_replace m.0.actors i b)) s.active e;
@@ -154,7 +154,7 @@ module _ {Cell Actor Entry : Type 0} (invariant : List Cell → List Actor → T
   commit_ready change words number i k a b row m m' [] s same any is first has goes left = absurd (omega arith)
   commit_ready change words number i k a b row m m' (p ∷ ps) s same any is first has goes left =
       let P : M → Type 0 = λ x. IsCommit log_at log needs change x (λ v. after_commit log_at log v (values_of x.1) i b) k in
-      let d : AreApart (p ∷ ps) = distinct_same m.0.held (p ∷ ps) (sym same) s.distinct in
+      let d : HaveOwnNumbers (p ∷ ps) = distinct_same m.0.held (p ∷ ps) (sym same) s.distinct in
       let n : k ≡ p.0 = first ∙ ap (λ (ns : List ℕ). get_or ns 0 k) (s.rows ∙ sym same) in
       let entry : ℕ → ℕ × Cell = λ z. (z, p.1) in
       let Q : ℕ → Type 0 = λ z. IsCommit log_at log needs change (m.0, slots_of false (p ∷ ps)) (λ v. after_commit log_at log v (values_of (slots_of false (p ∷ ps))) i b) z in

@@ -7,6 +7,6 @@ before None ps = ps
 before (Some p) ps = p ∷ ps
 
 -- nothing stands behind an empty place
-abbrev pub IsFirst : {T : Type 0} → Option (ℕ × T) → List (ℕ × T) → Type 0
-IsFirst None ps = ps ≡ []
-IsFirst (Some p) ps = Unit {0}
+abbrev pub IsInFrontOf : {T : Type 0} → Option (ℕ × T) → List (ℕ × T) → Type 0
+IsInFrontOf None ps = ps ≡ []
+IsInFrontOf (Some p) ps = Unit {0}

@@ -4,7 +4,7 @@ use mathlib.Core.Option.{some, none}
 use lib.ListN.{get_elem?}
 use Rattle.atomic_table.specs.Table.{Me, Step, rest}
 use Rattle.turn_table.specs.declared.view.View.{View}
-use Rattle.turn_table.specs.Numbered.{value_of, AreApart, Extends, write_all, replace}
+use Rattle.turn_table.specs.Numbered.{value_of, HaveOwnNumbers, Extends, write_all, replace}
 use Rattle.turn_table.specs.Views.{HasAll, after_take, after_refusal, after_commit, after_release}
 use Rattle.turn_table.specs.Rule.{Agrees}
 
@@ -40,7 +40,7 @@ IsLawful {Cell} {Actor} {Entry} invariant log_at log needs change =
     → (((j : ℕ) → j < s.actor_count → (x : Actor) × (value_of s.mine j ≡ some x)) → (k : ℕ) (c : Cell) → value_of s.known k ≡ some c → get_elem? cells k ≡ some c)
     -- no other actor must keep a held cell
     → ((j : ℕ) (x : Actor) (k : ℕ) → get_elem? actors j ≡ some x → value_of s.mine j ≡ none → needs x k → value_of s.held k ≡ none)
-    → AreSameCells s.held new → AreApart new → value_of s.mine i ≡ some a → change s new i a b
+    → AreSameCells s.held new → HaveOwnNumbers new → value_of s.mine i ≡ some a → change s new i a b
     → invariant (write_all cells new) (slice_set actors i b)
     × ((d e : Cell) → get_elem? cells log_at ≡ some d → get_elem? (write_all cells new) log_at ≡ some e → Extends (log e) (log d))
 
@@ -75,9 +75,9 @@ module _ {Cell Actor Entry : Type 0} (invariant : List Cell → List Actor → T
       × (n ≢ 0 → (m' ≡ (after_refusal m.0 st.word n, m.1)) × (value_of m.0.held st.word ≡ none → n ≢ m.0.number + 1))
 
 -- the view is the one that the call picked, and the slot taken last is given back
-abbrev pub Gave : {Cell Actor Entry : Type 0} → (List Cell → List Actor → Type 0) → ℕ → (Cell → List Entry) → (Actor → ℕ → Type 0) → (View Cell Actor Entry → View Cell Actor Entry)
+abbrev pub GaveBack : {Cell Actor Entry : Type 0} → (List Cell → List Actor → Type 0) → ℕ → (Cell → List Entry) → (Actor → ℕ → Type 0) → (View Cell Actor Entry → View Cell Actor Entry)
     → Step (Option Cell) → Me (Option Cell) (View Cell Actor Entry) → ℕ → Me (Option Cell) (View Cell Actor Entry) → Type 0
-Gave invariant log_at log needs next st m n m' = (m' ≡ (next m.0, rest m.1)) × IsPossible invariant log_at log needs m'.0 × Extends m'.0.seen m.0.seen
+GaveBack invariant log_at log needs next st m n m' = (m' ≡ (next m.0, rest m.1)) × IsPossible invariant log_at log needs m'.0 × Extends m'.0.seen m.0.seen
 
 -- nothing changes
 abbrev pub Looked : {Cell Actor Entry : Type 0} → (List Cell → List Actor → Type 0) → ℕ → (Cell → List Entry) → (Actor → ℕ → Type 0)
@@ -94,7 +94,7 @@ pub record IsCommit {Cell Actor Entry : Type 0} (log_at : ℕ) (log : Cell → L
   pub front : m.1 ≡ (k, Some now) ∷ rest m.1
   pub next_is : next m.0 ≡ after_commit log_at log m.0 ((k, now) ∷ others) number after
   pub same : AreSameCells m.0.held ((k, now) ∷ others)
-  pub distinct : AreApart ((k, now) ∷ others)
+  pub distinct : HaveOwnNumbers ((k, now) ∷ others)
   pub has : value_of m.0.actors number ≡ some before
   pub goes : change (sight m.0) ((k, now) ∷ others) number before after
   pub left : (j : ℕ) (x : Actor) (n : ℕ) → value_of (replace m.0.actors number after) j ≡ some x → needs x n → (d : Cell) × (value_of others n ≡ some d)
@@ -105,7 +105,7 @@ pub record IsRelease {Cell Actor Entry : Type 0} (needs : Actor → ℕ → Type
   pub front : m.1 ≡ (k, Some now) ∷ rest m.1
   pub next_is : next m.0 ≡ after_release m.0 k
   pub had : value_of m.0.held k ≡ some now
-  pub distinct : AreApart m.0.held
+  pub distinct : HaveOwnNumbers m.0.held
   pub free : (j : ℕ) (x : Actor) → value_of m.0.actors j ≡ some x → needs x k → ⊥
 
 -- The end.

@@ -14,9 +14,9 @@ module _ {A : Type 0} where
   numbers_of (p ∷ ps) = p.0 ∷ numbers_of ps
 
   -- no number stands twice
-  abbrev pub AreApart : List (ℕ × A) → Type 0
-  AreApart [] = Unit {0}
-  AreApart (p ∷ ps) = (value_of ps p.0 ≡ none) × AreApart ps
+  abbrev pub HaveOwnNumbers : List (ℕ × A) → Type 0
+  HaveOwnNumbers [] = Unit {0}
+  HaveOwnNumbers (p ∷ ps) = (value_of ps p.0 ≡ none) × HaveOwnNumbers ps
 
   -- the list with each value written to the place of its number
   abbrev pub write_all : List A → List (ℕ × A) → List A

@@ -4,7 +4,7 @@ use mathlib.Core.Option.{some}
 use lib.ListN.{get_elem?}
 use Rattle.atomic_table.specs.Table.{State}
 use Rattle.turn_table.specs.declared.view.View.{View}
-use Rattle.turn_table.specs.Numbered.{value_of, AreApart, Extends}
+use Rattle.turn_table.specs.Numbered.{value_of, HaveOwnNumbers, Extends}
 use Rattle.turn_table.specs.Views.{HasAll}
 
 -- what a seat knows is so in this state
@@ -20,7 +20,7 @@ pub record Agrees {Cell Actor Entry : Type 0} (log_at : ℕ) (log : Cell → Lis
 pub record IsPlaced {Cell Actor Entry : Type 0} (needs : Actor → ℕ → Type 0) (holder home : ℕ → ℕ) (words : List ℕ) (j : ℕ) (v : View Cell Actor Entry) : Type 0 where
   pub holds : (k : ℕ) (c : Cell) → value_of v.held k ≡ some c → (holder k ≡ j) × (slice_index words k ≡ v.number + 1)
   pub has : (i : ℕ) (a : Actor) → value_of v.actors i ≡ some a → home i ≡ j
-  pub distinct : AreApart v.held
+  pub distinct : HaveOwnNumbers v.held
   -- a seat with an actor has the one of its own number, and one with none holds no cell
   pub own : v.actors ≢ [] → (a : Actor) × (value_of v.actors v.number ≡ some a)
   pub bare : v.actors ≡ [] → v.held ≡ []

@@ -4,7 +4,7 @@ use mathlib.Core.Option.{some}
 use Rattle.atomic_table.specs.Table.{Me}
 use Rattle.atomic_table.specs.Seated.{TableId}
 use Rattle.turn_table.specs.declared.view.View.{View}
-use Rattle.turn_table.specs.Numbered.{value_of, numbers_of, AreApart}
+use Rattle.turn_table.specs.Numbered.{value_of, numbers_of, HaveOwnNumbers}
 use Rattle.turn_table.specs.Law.{IsPossible}
 
 -- how many cells a table has, which is one for each word
@@ -49,6 +49,6 @@ pub record IsSeated {Cell Actor Entry : Type 0} (invariant : List Cell → List 
   pub own : (a : Actor) × (value_of me.0.actors me.0.number ≡ some a)
   pub rows : numbers_of row ≡ numbers_of me.0.held
   pub slots : me.1 ≡ slots_of lifted me.0.held
-  pub distinct : AreApart me.0.held
+  pub distinct : HaveOwnNumbers me.0.held
   pub possible : IsPossible invariant log_at log needs me.0
   pub inside : (k : ℕ) (c : Cell) → value_of me.0.held k ≡ some c → k < words

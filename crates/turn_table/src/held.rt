@@ -18,13 +18,13 @@ pub struct Held<T> {
 
 impl<T> Model for Held<T> {
     ghost use Rattle.std.specs.Prelude.{ℕ, List, [], ◌≡◌};
-    ghost use Rattle.turn_table.specs.Held.{before, IsFirst};
+    ghost use Rattle.turn_table.specs.Held.{before, IsInFrontOf};
 
     ghost Value = { List (ℕ × T) };
 
     ghost view = { λ h. (before h.first (before h.second (before h.third (before h.fourth (before h.fifth (before h.sixth (before h.seventh []))))))) };
 
-    ghost invariant = { λ h. IsFirst h.first (before h.second (before h.third (before h.fourth (before h.fifth (before h.sixth (before h.seventh [])))))) × IsFirst h.second (before h.third (before h.fourth (before h.fifth (before h.sixth (before h.seventh []))))) × IsFirst h.third (before h.fourth (before h.fifth (before h.sixth (before h.seventh [])))) × IsFirst h.fourth (before h.fifth (before h.sixth (before h.seventh []))) × IsFirst h.fifth (before h.sixth (before h.seventh [])) × IsFirst h.sixth (before h.seventh []) };
+    ghost invariant = { λ h. IsInFrontOf h.first (before h.second (before h.third (before h.fourth (before h.fifth (before h.sixth (before h.seventh [])))))) × IsInFrontOf h.second (before h.third (before h.fourth (before h.fifth (before h.sixth (before h.seventh []))))) × IsInFrontOf h.third (before h.fourth (before h.fifth (before h.sixth (before h.seventh [])))) × IsInFrontOf h.fourth (before h.fifth (before h.sixth (before h.seventh []))) × IsInFrontOf h.fifth (before h.sixth (before h.seventh [])) × IsInFrontOf h.sixth (before h.seventh []) };
 }
 
 impl<T: Drop> Held<T> {

@@ -34,9 +34,9 @@ impl<C: Core, B: Aim<View<C::Cell, C::Actor, C::Entry>>> Play<
     Option<C::Cell>,
     View<C::Cell, C::Actor, C::Entry>,
 > for Give<C, B> {
-    ghost use Rattle.turn_table.specs.Law.{Gave};
+    ghost use Rattle.turn_table.specs.Law.{GaveBack};
 
-    ghost then = { Gave C.invariant C.log_at C.log C.needs B.next };
+    ghost then = { GaveBack C.invariant C.log_at C.log C.needs B.next };
 }
 
 /// The two views of a cut, which a call picks.

@@ -1,7 +1,7 @@
 //! The calls on a seat. None of them takes memory.
 ghost use Rattle.std.specs.Prelude.{◌≡◌, ◌≢◌, ℕ, ◌+◌, ◌<◌, ◌≤◌, List, [], ◌∷◌, ◌++◌, length, true, false, Some, None, OnOk, IfOk, IfErr, OnErr};
 ghost use mathlib.Core.Option.{none, some};
-ghost use Rattle.turn_table.specs.Numbered.{value_of, AreApart, numbers_of, without, after_first, replace, Extends};
+ghost use Rattle.turn_table.specs.Numbered.{value_of, HaveOwnNumbers, numbers_of, without, after_first, replace, Extends};
 ghost use Rattle.turn_table.specs.Views.{HasAll, after_take, after_refusal, with_note, after_commit, after_split, split_view, joined_view, after_release};
 ghost use Rattle.turn_table.specs.Law.{IsPossible, sight};
 ghost use Rattle.turn_table.specs.Seat.{cell_count, IsInOrder};
@@ -110,7 +110,7 @@ impl<C: Core> TurnTable<C> {
         requires home { seat.old.lifted ≡ false }
         ensures seat { seat.new ≡ record seat.old { lifted = true } }
         ensures cells { result ≡ seat.old.view.held }
-        ensures distinct { AreApart result }
+        ensures distinct { HaveOwnNumbers result }
         ensures possible { IsPossible C.invariant C.log_at C.log C.needs seat.new.view }
     {
         let held = self.empty_slots(&mut seat.place, seat.row.as_slice());

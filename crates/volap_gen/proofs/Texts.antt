@@ -4,7 +4,7 @@ use Rattle.std.specs.List.{flat_map, range_with_len}
 use Rattle.std.proofs.lemmas.List.{flat_map_more}
 use Rattle.std.proofs.lemmas.List.Concat.{flat_map-append}
 use Rattle.std.proofs.lemmas.List.FromFn.{map-range_with_len_more}
-use Rattle.volap_gen.specs.Generated.{Record, line, text_of}
+use Rattle.volap_gen.specs.Generated.{Record, record_line, text_of}
 
 -- n numbers and one more
 range-push : (a n : ℕ) → range_with_len a (suc n) ≡ range_with_len a n ++ (a + n) ∷ []
@@ -30,14 +30,14 @@ texts-more f before now next n so_far more =
     more
     ∙ ap (λ t. t ++ text_of (f n)) so_far
     ∙ append_assoc before (text_of (flat_map f (range_with_len 0 n))) (text_of (f n))
-    ∙ ap (λ t. before ++ t) (sym (flat_map-append line (flat_map f (range_with_len 0 n)) (f n)))
+    ∙ ap (λ t. before ++ t) (sym (flat_map-append record_line (flat_map f (range_with_len 0 n)) (f n)))
     ∙ ap (λ rs. before ++ text_of rs) (sym (flat_map-range_more f n))
 
 -- the same with one record
 pub text-more : (f : ℕ → Record) (before now next : List ℕ) (n : ℕ) → now ≡ before ++ text_of (map f (range_with_len 0 n))
-    → next ≡ now ++ line (f n) → next ≡ before ++ text_of (map f (range_with_len 0 (n + 1)))
+    → next ≡ now ++ record_line (f n) → next ≡ before ++ text_of (map f (range_with_len 0 (n + 1)))
 text-more f before now next n so_far more =
     more
-    ∙ ap (λ t. t ++ line (f n)) so_far
-    ∙ flat_map_more line before (map f (range_with_len 0 n)) (f n)
+    ∙ ap (λ t. t ++ record_line (f n)) so_far
+    ∙ flat_map_more record_line before (map f (range_with_len 0 n)) (f n)
     ∙ ap (λ rs. before ++ text_of rs) (sym (map-range_with_len_more f 0 n n (omega arith)))

@@ -2,7 +2,7 @@
 use Rattle.std.specs.Prelude.{ℕ, ◌+◌, ◌*◌, ◌/◌, ◌%◌, ℤ, pos, ◌-ℤ◌, List, [], ◌∷◌, ◌++◌, map, ◌==◌, ◌||◌, if◌then◌else◌, codes}
 use Rattle.std.specs.List.{flat_map, join_with_byte, range_with_len}
 use Rattle.std.specs.Fmt.{decimal, signed_decimal}
-use Rattle.volap_gen.specs.Names.{dim_name, tops, middles, leaves, top_name, middle_name, leaf_name, leaf_at}
+use Rattle.volap_gen.specs.Names.{dim_name, top_count, middle_count, leaf_count, top_name, middle_name, leaf_name, leaf_at}
 use Rattle.volap_gen.specs.declared.names.Dim.{Dim}
 use Rattle.volap_gen.specs.declared.names.Dim.TheVariants.{Date, Store, Product}
 
@@ -11,11 +11,11 @@ abbrev pub Record : Type 0
 Record = List (List ℕ)
 
 -- a record's line: its fields with commas between them
-abbrev pub line : Record → List ℕ
-line r = join_with_byte 44 r ++ codes "\n"
+abbrev pub record_line : Record → List ℕ
+record_line r = join_with_byte 44 r ++ codes "\n"
 
 abbrev pub text_of : List Record → List ℕ
-text_of rs = flat_map line rs
+text_of rs = flat_map record_line rs
 
 -- The settings and the dimensions.
 
@@ -46,13 +46,13 @@ abbrev pub leaf_record : Dim → ℕ → ℕ → ℕ → Record
 leaf_record dim i j k = concept_record dim (leaf_name dim i j k) (middle_name dim i j)
 
 unfoldable pub leaf_records : Dim → ℕ → ℕ → List Record
-leaf_records dim i j = map (leaf_record dim i j) (range_with_len 0 (leaves dim))
+leaf_records dim i j = map (leaf_record dim i j) (range_with_len 0 (leaf_count dim))
 
 unfoldable pub middle_records : Dim → ℕ → List Record
-middle_records dim i = flat_map (λ j. middle_record dim i j ∷ leaf_records dim i j) (range_with_len 0 (middles dim))
+middle_records dim i = flat_map (λ j. middle_record dim i j ∷ leaf_records dim i j) (range_with_len 0 (middle_count dim))
 
 unfoldable pub concept_records : Dim → List Record
-concept_records dim = flat_map (λ i. top_record dim i ∷ middle_records dim i) (range_with_len 0 (tops dim))
+concept_records dim = flat_map (λ i. top_record dim i ∷ middle_records dim i) (range_with_len 0 (top_count dim))
 
 -- The rows. Row i is the shop `i % 100` in round `i / 100`.
 

@@ -11,20 +11,20 @@ dim_name Product = codes "product"
 
 -- How many concepts there are: of the first level, and under each of a level.
 
-abbrev pub tops : Dim → ℕ
-tops Date = 3
-tops Store = 4
-tops Product = 5
+abbrev pub top_count : Dim → ℕ
+top_count Date = 3
+top_count Store = 4
+top_count Product = 5
 
-abbrev pub middles : Dim → ℕ
-middles Date = 12
-middles Store = 5
-middles Product = 4
+abbrev pub middle_count : Dim → ℕ
+middle_count Date = 12
+middle_count Store = 5
+middle_count Product = 4
 
-abbrev pub leaves : Dim → ℕ
-leaves Date = 28
-leaves Store = 5
-leaves Product = 10
+abbrev pub leaf_count : Dim → ℕ
+leaf_count Date = 28
+leaf_count Store = 5
+leaf_count Product = 10
 
 -- Names: a letter for each level, with the number of the concept under the one above it.
 
@@ -54,4 +54,4 @@ leaf_name dim i j k = middle_name dim i j ++ (leaf_letter dim ++ decimal k)
 
 -- the name of the leaf concept with this number in its dimension, counted from 0
 abbrev pub leaf_at : Dim → ℕ → List ℕ
-leaf_at dim n = leaf_name dim (n / (middles dim * leaves dim)) (n % (middles dim * leaves dim) / leaves dim) (n % leaves dim)
+leaf_at dim n = leaf_name dim (n / (middle_count dim * leaf_count dim)) (n % (middle_count dim * leaf_count dim) / leaf_count dim) (n % leaf_count dim)

@@ -1,6 +1,6 @@
 //! The records of the concepts of a dimension.
 ghost use Rattle.std.specs.Prelude.{◌≡◌, ◌++◌, ◌∷◌, OnOk, string_bytes};
-ghost use Rattle.volap_gen.specs.Generated.{line, text_of, leaf_record, middle_record, top_record, leaf_records, middle_records, concept_records};
+ghost use Rattle.volap_gen.specs.Generated.{record_line, text_of, leaf_record, middle_record, top_record, leaf_records, middle_records, concept_records};
 
 use crate::names::{Dim, Leaf, Middle, Top};
 use std::alloc::AllocError;
@@ -10,7 +10,7 @@ use std::fmt::Write;
 pub fn push_concepts(text: &mut String, dim: Dim) -> Result<(), AllocError>
     ensures { OnOk result (string_bytes text.new ≡ string_bytes text.old ++ text_of (concept_records dim)) }
 {
-    for number in 0..dim.tops() {
+    for number in 0..dim.top_count() {
         push_top(text, Top { dim, number })?;
     }
     Ok(())
@@ -29,7 +29,7 @@ fn push_top(text: &mut String, concept: Top) -> Result<(), AllocError>
 fn push_middles(text: &mut String, above: Top) -> Result<(), AllocError>
     ensures { OnOk result (string_bytes text.new ≡ string_bytes text.old ++ text_of (middle_records above.dim above.number)) }
 {
-    for number in 0..above.dim.middles() {
+    for number in 0..above.dim.middle_count() {
         push_middle(text, Middle { above, number })?;
     }
     Ok(())
@@ -49,7 +49,7 @@ fn push_middle(text: &mut String, concept: Middle) -> Result<(), AllocError>
 fn push_leaves(text: &mut String, above: Middle) -> Result<(), AllocError>
     ensures { OnOk result (string_bytes text.new ≡ string_bytes text.old ++ text_of (leaf_records above.above.dim above.above.number above.number)) }
 {
-    for number in 0..above.above.dim.leaves() {
+    for number in 0..above.above.dim.leaf_count() {
         push_leaf(text, Leaf { above, number })?;
     }
     Ok(())
@@ -57,7 +57,7 @@ fn push_leaves(text: &mut String, above: Middle) -> Result<(), AllocError>
 
 // Adds a leaf concept.
 fn push_leaf(text: &mut String, concept: Leaf) -> Result<(), AllocError>
-    ensures { OnOk result (string_bytes text.new ≡ string_bytes text.old ++ line (leaf_record concept.above.above.dim concept.above.above.number concept.above.number concept.number)) }
+    ensures { OnOk result (string_bytes text.new ≡ string_bytes text.old ++ record_line (leaf_record concept.above.above.dim concept.above.above.number concept.above.number concept.number)) }
 {
     let above = concept.above;
     let dim = above.above.dim;

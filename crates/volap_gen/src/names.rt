@@ -12,11 +12,11 @@ pub enum Dim {
 
 impl Dim {
     ghost use Rattle.std.specs.Prelude.{◌≡◌};
-    ghost use Rattle.volap_gen.specs.Names.{tops, middles, leaves, top_letter, middle_letter, leaf_letter};
+    ghost use Rattle.volap_gen.specs.Names.{top_count, middle_count, leaf_count, top_letter, middle_letter, leaf_letter};
 
     /// How many concepts the first level has.
-    pub fn tops(self) -> u64
-        ensures { result ≡ tops self }
+    pub fn top_count(self) -> u64
+        ensures { result ≡ top_count self }
     {
         match self {
             Dim::Date => 3,
@@ -26,8 +26,8 @@ impl Dim {
     }
 
     /// How many concepts of the second level each of these has.
-    pub fn middles(self) -> u64
-        ensures { result ≡ middles self }
+    pub fn middle_count(self) -> u64
+        ensures { result ≡ middle_count self }
     {
         match self {
             Dim::Date => 12,
@@ -37,8 +37,8 @@ impl Dim {
     }
 
     /// How many concepts of the leaf level each of those has.
-    pub fn leaves(self) -> u64
-        ensures { result ≡ leaves self }
+    pub fn leaf_count(self) -> u64
+        ensures { result ≡ leaf_count self }
     {
         match self {
             Dim::Date => 28,
@@ -155,18 +155,18 @@ impl Leaf {
     pub fn at(dim: Dim, n: u64) -> Leaf
         ensures { leaf_text result ≡ leaf_at dim n }
     {
-        let under_top = dim.middles() * dim.leaves();
+        let under_top = dim.middle_count() * dim.leaf_count();
         let top = Top {
             dim,
             number: n / under_top,
         };
         let middle = Middle {
             above: top,
-            number: n % under_top / dim.leaves(),
+            number: n % under_top / dim.leaf_count(),
         };
         Leaf {
             above: middle,
-            number: n % dim.leaves(),
+            number: n % dim.leaf_count(),
         }
     }
 }

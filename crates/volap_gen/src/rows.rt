@@ -1,7 +1,7 @@
 //! The records of the rows, and of what is done after each thousand of them.
 ghost use Rattle.std.specs.Prelude.{◌≡◌, ◌++◌, ◌<◌, ◌≤◌, OnOk, string_bytes};
 ghost use Rattle.volap_gen.specs.Printed.{row_fields};
-ghost use Rattle.volap_gen.specs.Generated.{text_of, line, insert_record, measure_at, day_at, item_at, pulls, row_records, rows_of};
+ghost use Rattle.volap_gen.specs.Generated.{text_of, record_line, insert_record, measure_at, day_at, item_at, pulls, row_records, rows_of};
 
 use crate::names::{Dim, Leaf};
 use std::alloc::AllocError;
@@ -69,7 +69,7 @@ fn row_at(seed: u64, i: u64) -> NewRow
 
 // Adds a row's record.
 fn push_insert(text: &mut String, row: &NewRow) -> Result<(), AllocError>
-    ensures { OnOk result (string_bytes text.new ≡ string_bytes text.old ++ line (row_fields row.now)) }
+    ensures { OnOk result (string_bytes text.new ≡ string_bytes text.old ++ record_line (row_fields row.now)) }
 {
     let server = row.server;
     let measure = row.measure;

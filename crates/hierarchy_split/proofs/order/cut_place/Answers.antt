@@ -5,13 +5,13 @@ use Rattle.hierarchy_split.proofs.order.cut_place.Goals as goal
 use Rattle.hierarchy_split.proofs.order.cut_place.Goals.{then-is_between+then-is_nearer, else-is_between, else-is_between-via-then-is_between+else-is_nearer, else-is_between-via-else-is_between}
 
 pub overflow_cast-n : goal.overflow_cast-n
-overflow_cast-n c = let e = places_length (length c.args.leasts.now) c.args.order.now c.requires.order.places in omega (arith, e, c.requires.many)
+overflow_cast-n c = let e = places_length (length c.args.leasts.now) c.args.order.now c.requires.order.places in omega (arith, e, c.requires.few)
 
 pub is_between-requires-clause-order : goal.is_between-requires-clause-order
 is_between-requires-clause-order c = places_below (length c.args.leasts.now) c.args.order.now c.requires.order.places
 
 pub is_nearer-requires-clause-n : goal.is_nearer-requires-clause-n
-is_nearer-requires-clause-n c = let e = places_length (length c.args.leasts.now) c.args.order.now c.requires.order.places in omega (arith, e, c.requires.many)
+is_nearer-requires-clause-n c = let e = places_length (length c.args.leasts.now) c.args.order.now c.requires.order.places in omega (arith, e, c.requires.few)
 
 pub loop-k-preserved : goal.loop-k-preserved
 loop-k-preserved c =

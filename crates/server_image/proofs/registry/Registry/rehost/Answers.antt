@@ -5,7 +5,7 @@ use Rattle.std.proofs.lemmas.Option.{slice_get-get_or}
 use Rattle.std.proofs.Math.Seq.{map-set_same}
 use Rattle.describing_set.specs.Ascending.{Ascends}
 use Rattle.describing_set.specs.declared.listing.Spot.{Spot}
-use Rattle.server_image.specs.Spots.{is_listed, place_of}
+use Rattle.server_image.specs.Spots.{has_spot, place_of}
 use Rattle.server_image.specs.Registry.{RegistryValue, IsRehosted, on_frontier}
 use Rattle.server_image.proofs.Lists.{place-within}
 use Rattle.server_image.proofs.registry.Registry.rehost.Goals as goal
@@ -13,7 +13,7 @@ use Rattle.server_image.proofs.registry.Registry.rehost.Goals as goal
 pub index_mut-spot-requires : goal.index_mut-spot-requires
 index_mut-spot-requires c =
     let xs = c.self.inside.frontier.items in
-    let on : is_listed c.args.id xs ≡ true = subst (λ (v : RegistryValue). IsTrue (on_frontier c.args.id v)) (sym c.self.view_is) c.requires in
+    let on : has_spot c.args.id xs ≡ true = subst (λ (v : RegistryValue). IsTrue (on_frontier c.args.id v)) (sym c.self.view_is) c.requires in
     let within = place-within (λ (s : Spot). s.shard == c.args.id) xs on in
     let place : c.place_of-place.result ≡ place_of c.args.id xs = c.place_of-place.ensures ∙ ap (place_of c.args.id) c.deref.ensures.value in
     omega (arith, within, place, c.self.inside.frontier.ok)
@@ -38,7 +38,7 @@ returns c =
     let id = c.args.id in
     let spot = c.index_mut-spot.result.now in
     let new : Spot = record { shard = spot.shard; worker = c.args.worker; set = spot.set } in
-    let on : is_listed id xs ≡ true = subst (λ (v : RegistryValue). IsTrue (on_frontier id v)) (sym c.self.view_is) c.requires in
+    let on : has_spot id xs ≡ true = subst (λ (v : RegistryValue). IsTrue (on_frontier id v)) (sym c.self.view_is) c.requires in
     let within = place-within (λ (s : Spot). s.shard == id) xs on in
     let place : c.place_of-place.result ≡ place_of id xs = c.place_of-place.ensures ∙ ap (place_of id) c.deref.ensures.value in
     let now : RegistryValue = record { frontier = set xs c.place_of-place.result new; retired = c.self.inside.retired.items } in

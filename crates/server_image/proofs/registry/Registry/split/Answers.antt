@@ -3,7 +3,7 @@ use Rattle.std.specs.Prelude.{◌==◌, IsTrue, IsNone}
 use Rattle.std.specs.List.{remove}
 use Rattle.std.proofs.lemmas.Option.{slice_get-get_or}
 use Rattle.describing_set.specs.declared.listing.Spot.{Spot}
-use Rattle.server_image.specs.Spots.{is_listed, place_of, without, with_spot}
+use Rattle.server_image.specs.Spots.{has_spot, place_of, without, with_spot}
 use Rattle.server_image.specs.Registry.{RegistryValue, IsRegistry, IsSplit, on_frontier, host_of}
 use Rattle.server_image.proofs.Lists.{place-within, new_id, IsRegistry-split}
 use Rattle.server_image.proofs.registry.Registry.split.Goals as goal
@@ -11,7 +11,7 @@ use Rattle.server_image.proofs.registry.Registry.split.Goals as goal
 pub remove-spot-requires : goal.remove-spot-requires
 remove-spot-requires c =
     let xs = c.self.inside.frontier.items in
-    let on : is_listed c.args.id xs ≡ true = subst (λ (v : RegistryValue). IsTrue (on_frontier c.args.id v)) (sym c.self.view_is) c.requires.frontier in
+    let on : has_spot c.args.id xs ≡ true = subst (λ (v : RegistryValue). IsTrue (on_frontier c.args.id v)) (sym c.self.view_is) c.requires.frontier in
     let within = place-within (λ (s : Spot). s.shard == c.args.id) xs on in
     let place : c.place_of.result ≡ place_of c.args.id xs = c.place_of.ensures ∙ ap (place_of c.args.id) (c.deref.ensures.value ∙ c.reserve.ensures.items) in
     omega (arith, within, place, c.self.inside.frontier.ok, c.reserve.ensures.len)
@@ -44,7 +44,7 @@ returns-clause-ok c =
     let items = c.reserve.ensures.items in
     let place : c.place_of.result ≡ place_of id xs = c.place_of.ensures ∙ ap (place_of id) (c.deref.ensures.value ∙ items) in
     let out : c.remove-spot.new.self.items ≡ without id xs = c.remove-spot.ensures.items ∙ ap (λ (l : List Spot). remove l c.place_of.result) items ∙ ap (remove xs) place in
-    let on : is_listed id xs ≡ true = subst (λ (v : RegistryValue). IsTrue (on_frontier id v)) (sym c.self.view_is) c.requires.frontier in
+    let on : has_spot id xs ≡ true = subst (λ (v : RegistryValue). IsTrue (on_frontier id v)) (sym c.self.view_is) c.requires.frontier in
     let within = place-within (λ (s : Spot). s.shard == id) xs on in
     let now : RegistryValue = record { frontier = c.put_spot-2.new.spots.items; retired = c.push_reserved.new.self.items } in
     subst (λ (v : RegistryValue). IsSplit id c.args.left c.args.left_box c.args.right c.args.right_box v now) c.self.view_is (record {

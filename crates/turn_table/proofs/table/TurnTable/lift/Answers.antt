@@ -1,6 +1,6 @@
 use Rattle.std.proofs.Common.{◌≡◌, ◌≤◌, ℕ, List, length, true, false, sym, ap, ◌∙◌, subst, arith}
 use Rattle.atomic_table.specs.Seated.{TableId}
-use Rattle.turn_table.specs.Numbered.{numbers_of, AreApart}
+use Rattle.turn_table.specs.Numbered.{numbers_of, HaveOwnNumbers}
 use Rattle.turn_table.specs.Seat.{SeatValue, slots_of, values_of}
 use Rattle.turn_table.specs.declared.view.View.{View}
 use Rattle.turn_table.proofs.Seats.{seated_lifted, length_numbers, values_full}
@@ -42,4 +42,4 @@ returns-clause-distinct g c =
     let v : View g.row.C-Cell.Denot g.row.C-Actor.Denot g.row.C-Entry.Denot = c.seat.inside.place.me.0 in
     let home : c.seat.inside.lifted ≡ false = ap (λ (h : SeatValue g.row.C-Cell.Denot g.row.C-Actor.Denot g.row.C-Entry.Denot). h.lifted) c.seat.view_is ∙ c.requires.home in
     let all : values_of c.seat.inside.place.me.1 ≡ v.held = values_full v.held c.seat.inside.lifted c.seat.inside.place.me.1 c.seat.invariant.slots home in
-    subst (λ (l : List (ℕ × g.row.C-Cell.Denot)). AreApart l) (sym (c.empty_slots-held.ensures.values ∙ all)) c.seat.invariant.distinct
+    subst (λ (l : List (ℕ × g.row.C-Cell.Denot)). HaveOwnNumbers l) (sym (c.empty_slots-held.ensures.values ∙ all)) c.seat.invariant.distinct
