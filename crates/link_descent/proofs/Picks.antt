@@ -1,14 +1,17 @@
 -- The pick of a directory's first entries, and how it grows.
-use Rattle.std.proofs.Common.{ℕ, ◌≡◌, ◌+◌, ◌<◌, ◌≤◌, ◌⊎◌, List, [], ◌∷◌, length, get_or, map, Some, refl, sym, ap, subst, ◌∙◌, arith, inl, inr}
+use Rattle.std.proofs.Common.{ℕ, ◌≡◌, ◌+◌, ◌<◌, ◌≤◌, ◌⊎◌, List, [], ◌∷◌, length, get_or, map, true, false, cond, ltb, not, Some, None, refl, sym, ap, subst, ◌∙◌, arith, inl, inr}
 use Rattle.std.specs.Prelude.{slice_get, option_map}
-use Rattle.std.proofs.lemmas.Bool.{cases_lt}
-use Rattle.std.proofs.lemmas.Option.{slice_get-map, same_Some, slice_get_within, slice_get-get_or}
+use Rattle.std.specs.List.{list_any}
+use Rattle.std.proofs.lemmas.Bool.{and_from, and_parts, cases_lt, eq-eqb, eqb-true, false_from_ne_true, lt-ltb, ltb-true, not_from_false, not_from_true, or_cases, or_left, or_right}
+use Rattle.std.proofs.lemmas.List.Folds.{list_any_at, list_any_none}
+use Rattle.std.proofs.lemmas.List.Sums.{position_or_len_is}
+use Rattle.std.proofs.lemmas.Option.{get_or_from_slice_get, slice_get_cases, slice_get-map, same_Some, slice_get_within, slice_get-get_or}
 use Rattle.dim_hierarchy.specs.Dimension.{Dimension}
 use Rattle.dim_hierarchy.specs.declared.row.Coord.{Coord}
 use Rattle.describing_set.specs.DescSet.{growth_of, size_of}
 use Rattle.describing_set.specs.declared.set.DescSet.{DescSet}
 use Rattle.dc_node.specs.declared.entry.Entry.{Entry}
-use Rattle.link_descent.specs.Pick.{IsPickedBefore, IsPick}
+use Rattle.link_descent.specs.Pick.{IsPickedBefore, IsPick, is_before, pick_place}
 
 -- The order, over its numbers: growth, size and place.
 
@@ -127,3 +130,69 @@ pub IsPick-left : (h : List Dimension) (at : Coord) (left right : DescSet) → �
 IsPick-left h at left right unless =
     let sets = left ∷ right ∷ [] in
     IsPick-from_best h at sets 2 0 refl (IsBestOf-keeps h at sets 1 0 left right (IsBestOf-one h at sets) refl refl unless)
+
+-- The pick has one place, that of the function.
+
+-- what is first has no other before it
+first_stays : (ga sa i gb sb j : ℕ) → First ga sa i gb sb j → Before gb sb ga sa → ⊥
+first_stays ga sa i gb sb j first before = elim first [
+  | inl less ↦ elim before [ inl more ↦ omega (arith, less, more) | inr more ↦ omega (arith, less, more.0) ]
+  | inr less ↦ elim before [
+    | inl more ↦ omega (arith, less.0, more)
+    | inr more ↦ elim less.1 [ inl smaller ↦ omega (arith, smaller, more.1) | inr as_large ↦ omega (arith, as_large.0, more.1) ]
+  ]
+]
+
+-- and is before what stands at an earlier place
+first_earlier : (ga sa i gb sb j : ℕ) → First ga sa i gb sb j → j < i → Before ga sa gb sb
+first_earlier ga sa i gb sb j first lt = elim first [
+  | inl less ↦ inl less
+  | inr less ↦ elim less.1 [ inl smaller ↦ inr (less.0, smaller) | inr as_large ↦ absurd (omega (arith, as_large.1, lt)) ]
+]
+
+before_meaning : (h : List Dimension) (at : Coord) (a b : DescSet) → is_before h at a b ≡ true → IsBefore h at a b
+before_meaning h at a b test = elim (or_cases _ _ test) [
+  | inl less ↦ inl (ltb-true _ _ less)
+  | inr less ↦ (let p = and_parts _ _ less in inr (eqb-true _ _ p.0, ltb-true _ _ p.1))
+]
+
+before_test : (h : List Dimension) (at : Coord) (a b : DescSet) → IsBefore h at a b → is_before h at a b ≡ true
+before_test h at a b before = elim before [
+  | inl less ↦ or_left _ _ (lt-ltb _ _ less)
+  | inr less ↦ or_right _ _ (and_from _ _ (eq-eqb _ _ less.0) (lt-ltb _ _ less.1))
+]
+
+module _ (h : List Dimension) (at : Coord) (sets : List DescSet) (place : ℕ) (pick : IsPick h at sets place) (set : DescSet) (here : slice_get sets place ≡ Some set) where
+  is_set : get_or sets place set ≡ set
+  is_set = get_or_from_slice_get sets place set set here
+
+  none_before : list_any (λ other. is_before h at other set) sets ≡ false
+  none_before = list_any_none (λ other. is_before h at other set) sets (λ k d lt.
+      false_from_ne_true (is_before h at (get_or sets k d) set) (λ test.
+      first_stays _ _ _ _ _ _ (pick.first set (get_or sets k d) k here (slice_get-get_or sets k d lt)) (before_meaning h at (get_or sets k d) set test)))
+
+  one_before : (k : ℕ) → k < place → list_any (λ other. is_before h at other (get_or sets k set)) sets ≡ true
+  one_before k lt =
+      let earlier = get_or sets k set in
+      let within = pick.within in
+      let before = first_earlier _ _ _ _ _ _ (pick.first set earlier k here (slice_get-get_or sets k set (omega arith))) lt in
+      list_any_at (λ other. is_before h at other earlier) sets place set within (ap (λ s. is_before h at s earlier) is_set ∙ before_test h at set earlier before)
+
+  place_found : pick_place h at sets ≡ Some place
+  unfolding pick_place
+  place_found =
+      let test = λ (s : DescSet). not (list_any (λ other. is_before h at other s) sets) in
+      let within = pick.within in
+      let first = position_or_len_is test sets place set (omega arith)
+      (λ k lt. not_from_true _ (one_before k lt))
+      (λ _. ap test is_set ∙ not_from_false _ none_before) in
+      ap (λ i. cond (ltb i (length sets)) (Some i) None) first ∙ ap (λ b. cond b (Some place) None) (lt-ltb place (length sets) within)
+
+pub IsPick-place : (h : List Dimension) (at : Coord) (sets : List DescSet) (place : ℕ) → IsPick h at sets place → pick_place h at sets ≡ Some place
+IsPick-place h at sets place pick = elim (slice_get_cases sets place).1 [
+  | inl found ↦ place_found h at sets place pick found.0 found.2
+  | inr past ↦ (let within = pick.within in absurd (omega (arith, past.0)))
+]
+
+pub one_pick : (h : List Dimension) (at : Coord) (sets : List DescSet) (other place : ℕ) → IsPick h at sets other → IsPick h at sets place → other ≡ place
+one_pick h at sets other place one two = same_Some other place (sym (IsPick-place h at sets other one) ∙ IsPick-place h at sets place two)

@@ -1,5 +1,6 @@
 -- Which entry of a directory a row goes down by.
-use Rattle.std.specs.Prelude.{ℕ, ◌≡◌, ◌<◌, ◌≤◌, ◌⊎◌, List, length, slice_get, Some}
+use Rattle.std.specs.Prelude.{ℕ, ◌≡◌, ◌<◌, ◌≤◌, ◌⊎◌, List, length, slice_get, Option, Some, Bool, not, ◌&&◌, ◌||◌, ◌==◌, nat_lt, position}
+use Rattle.std.specs.List.{list_any}
 use Rattle.dim_hierarchy.specs.declared.row.Coord.{Coord}
 use Rattle.dim_hierarchy.specs.Dimension.{Dimension}
 use Rattle.describing_set.specs.DescSet.{growth_of, size_of}
@@ -16,3 +17,14 @@ IsPickedBefore h at a i b j =
 pub record IsPick (h : List Dimension) (at : Coord) (sets : List DescSet) (place : ℕ) : Type 0 where
   pub within : place < length sets
   pub first : (set other : DescSet) (j : ℕ) → slice_get sets place ≡ Some set → slice_get sets j ≡ Some other → IsPickedBefore h at set place other j
+
+-- The same place as a function, for what asks where a row would go.
+
+-- the first set is grown less by the coordinate than the second, or as much and is smaller
+abbrev pub is_before : List Dimension → Coord → DescSet → DescSet → Bool
+is_before h at a b =
+    nat_lt (growth_of h a at) (growth_of h b at) || ((growth_of h a at == growth_of h b at) && nat_lt (size_of h a) (size_of h b))
+
+-- the first place of a set that no other one is before; none where there are no sets
+unfoldable pub pick_place : List Dimension → Coord → List DescSet → Option ℕ
+pick_place h at sets = position (λ set. not (list_any (λ other. is_before h at other set) sets)) sets

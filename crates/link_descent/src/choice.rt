@@ -1,8 +1,8 @@
-ghost use Rattle.std.specs.Prelude.{◌≡◌, ◌<◌, ◌≤◌, ◌⊎◌, ◌↔◌, length, map, All, IsTrue};
+ghost use Rattle.std.specs.Prelude.{ℕ, ◌≡◌, ◌<◌, ◌≤◌, ◌⊎◌, ◌↔◌, Some, length, map, All, IsTrue};
 ghost use Rattle.dim_hierarchy.specs.Row.{IsCoordOf};
 ghost use Rattle.describing_set.specs.DescSet.{growth_of, size_of, IsDescSetOf};
 ghost use Rattle.dc_node.specs.Block.{entries_in, IsBodyOf};
-ghost use Rattle.link_descent.specs.Pick.{IsPick};
+ghost use Rattle.link_descent.specs.Pick.{IsPick, pick_place};
 
 use dc_node::{Block, Entry};
 use describing_set::DescSet;
@@ -61,7 +61,10 @@ pub fn pick(block: &Block, h: &Hierarchy, at: &Coord) -> u8
     requires some { 0 < length (entries_in block.now.body) }
     requires body { IsBodyOf h.now block.now.body }
     requires at { IsCoordOf h.now at.now }
-    ensures { IsPick h.now at.now (map (λ e. e.set) (entries_in block.now.body)) result }
+    ensures first { IsPick h.now at.now (map (λ e. e.set) (entries_in block.now.body)) result }
+    ensures place { pick_place h.now at.now (map (λ e. e.set) (entries_in block.now.body)) ≡ Some result }
+    ensures only { (other : ℕ) → IsPick h.now at.now (map (λ e. e.set) (entries_in block.now.body)) other
+        → other ≡ result }
 {
     place_of(block.entries(), h, at)
 }

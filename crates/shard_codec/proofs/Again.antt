@@ -1,19 +1,21 @@
 -- What is written is read again, whatever follows.
 use Rattle.std.proofs.Common.{◌≡◌, ℕ, ◌-◌, ◌+◌, ◌^◌, ◌≤◌, ◌<◌, true, false, cond, ltb, List, [], ◌∷◌, ◌++◌, length, take, replicate, Result, Ok, Err, refl, sym, ap, ◌∙◌, append_assoc, append-nil, arith}
 use Rattle.std.specs.Prelude.{ℤ, FitsSigned, slice_set}
-use Rattle.std.specs.List.{flat_map}
+use Rattle.std.specs.List.{AllByRecursion, flat_map}
 use Rattle.std.specs.Int.{Width, w32, w64, byte_len, to_be_bytes, from_be_bytes, cast_unsigned}
 use Rattle.std.proofs.lemmas.Bool.{le-ltb, eq-eqb}
 use Rattle.std.proofs.lemmas.Int.{ints, to_z-of_z}
 use Rattle.std.proofs.lemmas.List.{take_at, drop_at, set_at, length-append, length-replicate, replicate-append-replicate}
+use Rattle.std.proofs.lemmas.List.Elements.{recursion_from_All}
 use Rattle.std.proofs.lemmas.Nat.{from_be_bytes-to_be_bytes_4, from_be_bytes-to_be_bytes_8}
 use Rattle.dim_hierarchy.specs.Dimension.{Dimension}
 use Rattle.dim_hierarchy.specs.declared.row.Row.{Row}
 use Rattle.shard_codec.specs.declared.fault.CodecFault.{CodecFault}
 use Rattle.shard_codec.specs.declared.fault.CodecFault.TheVariants.{BadConcept}
 use Rattle.shard_codec.specs.Reading.{◌>>=◌, mark_at, byte_at, number_at, is_leaf_concept, leaf_at, coord_at, row_at, rows_at, head_at, all_at_top, ended, decoded}
-use Rattle.shard_codec.specs.Spelled.{AreLeaves, IsSpelled, EachSpelled, AreSpelled}
+use Rattle.shard_codec.specs.Spelled.{IsSpelled, AreSpelled}
 use Rattle.shard_codec.specs.Wire.{mark, id_wire, ids_wire, row_wire, head_wire, wire}
+use Rattle.shard_codec.proofs.Leaves.{AreLeaves, ArePlaces-of}
 
 -- Numbers.
 
@@ -53,7 +55,7 @@ coord-again h len pad dim done (id ∷ ids) (p ∷ places) rest count leaves sam
     ∙ coord-again h len pad (dim + 1) (done ++ id ∷ []) ids places rest longer leaves.2 fewer
     ∙ ap (λ a. Ok (a ++ replicate pad 0, rest)) (append_assoc done (id ∷ []) ids)
 
-all_at_top-splits : (dims : ℕ) → dims ≤ 8 → all_at_top ≡ replicate dims 0 ++ replicate (8 - dims) 0
+pub all_at_top-splits : (dims : ℕ) → dims ≤ 8 → all_at_top ≡ replicate dims 0 ++ replicate (8 - dims) 0
 all_at_top-splits dims few =
     let whole : dims + (8 - dims) ≡ 8 = omega arith in
     sym (replicate-append-replicate dims (8 - dims) 0 ∙ ap (λ n. replicate n 0) whole)
@@ -70,50 +72,51 @@ coords-again h len ids rest few count leaves =
 of_z-bound : (z : ℤ) → FitsSigned w64 z → cast_unsigned w64 z < 2 ^ 64
 of_z-bound z fits = omega (arith, ints)
 
-row-again : (h : List Dimension) (len : ℕ) (row : Row) (rest : List ℕ) → length h ≤ 8 → IsSpelled h row → row_at h len (row_wire (length h) row ++ rest) ≡ Ok (row, rest)
+row-again : (h : List Dimension) (len : ℕ) (row : Row) (rest : List ℕ) → IsSpelled h row → row_at h len (row_wire (length h) row ++ rest) ≡ Ok (row, rest)
 unfolding row_at row_wire
-row-again h len row rest few spelled =
+row-again h len row rest spelled =
+    let are = ArePlaces-of h row.at spelled.valid spelled.places in
     let ids = take (length h) row.at.at in
     let measure = to_be_bytes w64 (cast_unsigned w64 row.measure) in
     let after = ids_wire ids ++ (measure ++ rest) in
     let regrouped : row_wire (length h) row ++ rest ≡ to_be_bytes w64 row.no ++ after =
     append_assoc (to_be_bytes w64 row.no) (ids_wire ids ++ measure) rest ∙ ap (λ t. to_be_bytes w64 row.no ++ t) (append_assoc (ids_wire ids) measure rest) in
     let places : coord_at h len (length h) 0 all_at_top after ≡ Ok (row.at.at, measure ++ rest) =
-    coords-again h len ids (measure ++ rest) few spelled.count spelled.leaves ∙ ap (λ at. Ok (at, measure ++ rest)) (sym spelled.rest) in
+    coords-again h len ids (measure ++ rest) spelled.valid.hierarchy.few are.count are.leaves ∙ ap (λ at. Ok (at, measure ++ rest)) (sym are.rest) in
     ap (row_at h len) regrouped
     ∙ rw (u64-again len row.no after spelled.number, places, u64-again len (cast_unsigned w64 row.measure) rest (of_z-bound row.measure spelled.measure), to_z-of_z w64 row.measure spelled.measure) refl
 
-rows-again : (h : List Dimension) (len : ℕ) (front rows : List Row) (rest : List ℕ) → length h ≤ 8 → EachSpelled h rows
+rows-again : (h : List Dimension) (len : ℕ) (front rows : List Row) (rest : List ℕ) → AllByRecursion (IsSpelled h) rows
     → rows_at h len (length rows) front (flat_map (row_wire (length h)) rows ++ rest) ≡ Ok (front ++ rows, rest)
 unfolding rows_at
-rows-again h len front [] rest few each = ap (λ rs. Ok (rs, rest)) (sym (append-nil front))
-rows-again h len front (row ∷ rows) rest few each =
+rows-again h len front [] rest each = ap (λ rs. Ok (rs, rest)) (sym (append-nil front))
+rows-again h len front (row ∷ rows) rest each =
     let regrouped : flat_map (row_wire (length h)) (row ∷ rows) ++ rest ≡ row_wire (length h) row ++ (flat_map (row_wire (length h)) rows ++ rest) =
     append_assoc (row_wire (length h) row) (flat_map (row_wire (length h)) rows) rest in
     ap (λ bytes. row_at h len bytes >>= λ r. rows_at h len (length rows) (front ++ r.0 ∷ []) r.1) regrouped
-    ∙ ap (λ r. r >>= λ r. rows_at h len (length rows) (front ++ r.0 ∷ []) r.1) (row-again h len row (flat_map (row_wire (length h)) rows ++ rest) few each.0)
-    ∙ rows-again h len (front ++ row ∷ []) rows rest few each.1
+    ∙ ap (λ r. r >>= λ r. rows_at h len (length rows) (front ++ r.0 ∷ []) r.1) (row-again h len row (flat_map (row_wire (length h)) rows ++ rest) each.0)
+    ∙ rows-again h len (front ++ row ∷ []) rows rest each.1
     ∙ ap (λ rs. Ok (rs, rest)) (append_assoc front (row ∷ []) rows)
 
 -- The whole.
 
-head-again : (h : List Dimension) (len count : ℕ) (rest : List ℕ) → count < 2 ^ 64 → head_at h len (head_wire (length h) count ++ rest) ≡ Ok (count, rest)
+head-again : (dims len count : ℕ) (rest : List ℕ) → count < 2 ^ 64 → head_at dims len (head_wire dims count ++ rest) ≡ Ok (count, rest)
 unfolding head_at head_wire mark_at byte_at
-head-again h len count rest few =
+head-again dims len count rest few =
     let after = to_be_bytes w64 count ++ rest in
-    let long : ltb (length (mark ++ (length h ∷ after))) 8 ≡ false = le-ltb _ _ (omega (arith, length-append mark (length h ∷ after))) in
-    rw (long, eq-eqb (length h) (length h) refl, u64-again len count rest few) refl
+    let long : ltb (length (mark ++ (dims ∷ after))) 8 ≡ false = le-ltb _ _ (omega (arith, length-append mark (dims ∷ after))) in
+    rw (long, eq-eqb dims dims refl, u64-again len count rest few) refl
 
 -- the rows of a text and what follows them
 abbrev all_at : List Dimension → ℕ → List ℕ → Result (List Row × List ℕ) CodecFault
-all_at h len bytes = head_at h len bytes >>= λ count. rows_at h len count.0 [] count.1
+all_at h len bytes = head_at (length h) len bytes >>= λ count. rows_at h len count.0 [] count.1
 
 all-again : (h : List Dimension) (len : ℕ) (rows : List Row) (rest : List ℕ) → AreSpelled h rows → all_at h len (wire (length h) rows ++ rest) ≡ Ok (rows, rest)
 all-again h len rows rest spelled =
     let texts = flat_map (row_wire (length h)) rows in
     ap (all_at h len) (append_assoc (head_wire (length h) (length rows)) texts rest)
-    ∙ ap (λ r. r >>= λ count. rows_at h len count.0 [] count.1) (head-again h len (length rows) (texts ++ rest) spelled.few)
-    ∙ rows-again h len [] rows rest spelled.dims spelled.each
+    ∙ ap (λ r. r >>= λ count. rows_at h len count.0 [] count.1) (head-again (length h) len (length rows) (texts ++ rest) spelled.few)
+    ∙ rows-again h len [] rows rest (recursion_from_All (IsSpelled h) rows spelled.each)
 
 bind-bind : {A B C : Type 0} (r : Result A CodecFault) (f : A → Result B CodecFault) (g : B → Result C CodecFault) → (r >>= λ x. f x >>= g) ≡ ((r >>= f) >>= g)
 bind-bind (Ok x) f g = refl
@@ -124,7 +127,7 @@ unfolding decoded
 decoded-again h rows spelled =
     let text = wire (length h) rows in
     let whole : all_at h (length text) text ≡ Ok (rows, []) = ap (all_at h (length text)) (sym (append-nil text)) ∙ all-again h (length text) rows [] spelled in
-    bind-bind (head_at h (length text) text) (λ count. rows_at h (length text) count.0 [] count.1) (ended (length text)) ∙ ap (λ r. r >>= ended (length text)) whole
+    bind-bind (head_at (length h) (length text) text) (λ count. rows_at h (length text) count.0 [] count.1) (ended (length text)) ∙ ap (λ r. r >>= ended (length text)) whole
 
 abbrev done : {A : Type 0} → A → Result A CodecFault
 done x = Ok x

@@ -1,2 +1,4 @@
 pub mod Again
+pub mod Found
+pub mod Leaves
 pub mod Loops

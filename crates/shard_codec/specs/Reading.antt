@@ -85,11 +85,11 @@ rows_at h len (suc n) rows bytes = do
 -- The whole.
 
 -- the number of rows, behind the mark and the number of dimensions
-unfoldable pub head_at : List Dimension → ℕ → List ℕ → Result (ℕ × List ℕ) CodecFault
-head_at h len bytes = do
+unfoldable pub head_at : ℕ → ℕ → List ℕ → Result (ℕ × List ℕ) CodecFault
+head_at dims len bytes = do
   rest ← mark_at len bytes
   told ← byte_at len rest
-  if told.0 == length h then number_at w64 len told.1 else Err (BadCount told.0 (length h))
+  if told.0 == dims then number_at w64 len told.1 else Err (BadCount told.0 dims)
 
 -- nothing follows the last row
 abbrev pub ended : ℕ → List Row × List ℕ → Result (List Row) CodecFault
@@ -98,6 +98,6 @@ ended len read = if length read.1 == 0 then Ok read.0 else Err (Trailing (len - 
 -- the rows of a text, or its first fault
 unfoldable pub decoded : List Dimension → List ℕ → Result (List Row) CodecFault
 decoded h bytes = do
-  count ← head_at h (length bytes) bytes
+  count ← head_at (length h) (length bytes) bytes
   read ← rows_at h (length bytes) count.0 [] count.1
   ended (length bytes) read

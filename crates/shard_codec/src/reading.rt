@@ -1,6 +1,8 @@
-ghost use Rattle.std.specs.Prelude.{◌≡◌, List, [], length, Ok};
+ghost use Rattle.std.specs.Prelude.{◌≡◌, List, [], length, Ok, All, IfOk};
 ghost use Rattle.shard_codec.specs.Spelled.{AreSpelled};
 ghost use Rattle.shard_codec.specs.Wire.{wire};
+ghost use Rattle.dim_hierarchy.specs.Dimension.{IsHierarchy};
+ghost use Rattle.dim_hierarchy.specs.Row.{IsRowOf};
 ghost use Rattle.dim_hierarchy.specs.declared.row.Row.{Row};
 ghost use Rattle.shard_codec.specs.Reading.{Gives, GivesUnlessFull, coord_at, head_at, row_at, rows_at, decoded, all_at_top};
 
@@ -9,15 +11,19 @@ use crate::field::{byte_at, leaf_at, mark_at, u64_at};
 use dim_hierarchy::{ConceptId, Coord, Hierarchy, Row};
 use std::alloc::Global;
 
-/// The rows of a transfer text over the hierarchy, or its first fault.
+/// The rows whose transfer text the bytes are, each a row of the hierarchy; where they are no such
+/// text, the first fault from the left.
 ///
 /// It takes memory row by row, as the rows are read, and none for rows that are only told of.
 pub fn decode(alloc: Global, bytes: &[u8], h: &Hierarchy) -> Result<Vec<Row>, CodecFault>
-    // Which rows, or which fault it is.
-    ensures exact { GivesUnlessFull (λ rows. rows.items) result (decoded h.now bytes.now) }
-    // The text of rows gives these rows.
+    // It gives rows only where the bytes are their text and they are rows of the hierarchy,
+    ensures text { IfOk result (λ rows. bytes.now ≡ wire (length h.now) rows.items) }
+    ensures rows { IfOk result (λ rows. All (IsRowOf h.now) rows.items) }
+    // and wherever the bytes are the text of such rows, it gives these, unless memory runs out.
     ensures again { (rows : List Row) → AreSpelled h.now rows → bytes.now ≡ wire (length h.now) rows
         → GivesUnlessFull (λ rows. rows.items) result (Ok rows) }
+    // Which fault it is.
+    ensures exact { GivesUnlessFull (λ rows. rows.items) result (decoded h.now bytes.now) }
 {
     all_rows(alloc, bytes, h)
 }
@@ -25,10 +31,11 @@ pub fn decode(alloc: Global, bytes: &[u8], h: &Hierarchy) -> Result<Vec<Row>, Co
 // The rows of the whole text, or its first fault.
 #[tactic(auto, unfolding(crate::specs::Reading::decoded))]
 fn all_rows(alloc: Global, bytes: &[u8], h: &Hierarchy) -> Result<Vec<Row>, CodecFault>
-    ensures { GivesUnlessFull (λ rows. rows.items) result (decoded h.now bytes.now) }
+    ensures exact { GivesUnlessFull (λ rows. rows.items) result (decoded h.now bytes.now) }
+    ensures valid { IsHierarchy h.now }
 {
     let len = bytes.len() as u64;
-    let (count, rest) = head_at(h, len, bytes)?;
+    let (count, rest) = head_at(h.dims(), len, bytes)?;
     match rows_at(alloc, h, len, count, rest) {
         Ok((rows, [])) => Ok(rows),
         Ok((_, rest)) => Err(CodecFault::Trailing {
@@ -40,12 +47,11 @@ fn all_rows(alloc: Global, bytes: &[u8], h: &Hierarchy) -> Result<Vec<Row>, Code
 
 // The number of rows, behind the mark and the number of dimensions.
 #[tactic(auto, unfolding(crate::specs::Reading::head_at))]
-fn head_at<'a>(h: &Hierarchy, len: u64, bytes: &'a [u8]) -> Result<(u64, &'a [u8]), CodecFault>
-    ensures { Gives (λ x. (x.0, x.1.now)) result (head_at h.now len bytes.now) }
+fn head_at(dims: u8, len: u64, bytes: &[u8]) -> Result<(u64, &[u8]), CodecFault>
+    ensures { Gives (λ x. (x.0, x.1.now)) result (head_at dims len bytes.now) }
 {
     let rest = mark_at(len, bytes)?;
     let (told, rest) = byte_at(len, rest)?;
-    let dims = h.dims();
     if told != dims {
         return Err(CodecFault::BadCount { told, dims });
     }

@@ -11,17 +11,6 @@ const BYTES: [u8; 37] = [
     3, 0x20, 0, 0, 0, 0xff, 0xff, 0xff, 0xff, 0xff, 0xff, 0xff, 0xfe,
 ];
 
-// The same, with one byte more, and with the greatest number of rows told.
-const LONGER: [u8; 38] = [
-    0x56, 0x4f, 0x4c, 0x41, 0x50, 0x54, 0x52, 0x31, 1, 0, 0, 0, 0, 0, 0, 0, 1, 0, 0, 0, 0, 0, 0, 0,
-    3, 0x20, 0, 0, 0, 0xff, 0xff, 0xff, 0xff, 0xff, 0xff, 0xff, 0xfe, 0,
-];
-
-const MANY: [u8; 37] = [
-    0x56, 0x4f, 0x4c, 0x41, 0x50, 0x54, 0x52, 0x31, 1, 0xff, 0xff, 0xff, 0xff, 0xff, 0xff, 0xff,
-    0xff, 0, 0, 0, 0, 0, 0, 0, 3, 0x20, 0, 0, 0, 0xff, 0xff, 0xff, 0xff, 0xff, 0xff, 0xff, 0xfe,
-];
-
 fn row_at(no: u64, id: u32, measure: i64) -> Row {
     let mut at = [ConceptId::ALL; 8];
     at[0] = ConceptId(id);
@@ -74,10 +63,10 @@ fn a_row_has_its_bytes(rt: HostRuntime) -> Result<(), Fail> {
 #[test]
 fn the_first_fault_is_told(rt: HostRuntime) -> Result<(), Fail> {
     let h = one_city(rt.alloc())?;
-    let cases: [(&[u8], CodecFault); 8] = [
-        (&BYTES[..5], CodecFault::Short { len: 5 }),
-        (&BYTES[..36], CodecFault::Short { len: 36 }),
-        (&MANY, CodecFault::Short { len: 37 }),
+    let mut longer = Vec::from_slice(rt.alloc(), &BYTES)?;
+    longer.push(0)?;
+    let cases: [(&[u8], CodecFault); 6] = [
+        (b"VOLAP", CodecFault::Short { len: 5 }),
         (&changed(0, 0x57), CodecFault::BadMark),
         (&changed(8, 2), CodecFault::BadCount { told: 2, dims: 1 }),
         (
@@ -94,7 +83,7 @@ fn the_first_fault_is_told(rt: HostRuntime) -> Result<(), Fail> {
                 id: 0x2000_0001,
             },
         ),
-        (&LONGER, CodecFault::Trailing { at: 37 }),
+        (longer.as_slice(), CodecFault::Trailing { at: 37 }),
     ];
     for (bytes, fault) in cases {
         assert_eq!(rt; decode(rt.alloc(), bytes, &h).err(), Some(fault));
@@ -103,19 +92,68 @@ fn the_first_fault_is_told(rt: HostRuntime) -> Result<(), Fail> {
 }
 
 #[test]
-fn a_cut_text_is_short_and_a_flipped_bit_is_seen(rt: HostRuntime) -> Result<(), Fail> {
+fn a_cut_text_is_short(rt: HostRuntime) -> Result<(), Fail> {
+    let h = one_city(rt.alloc())?;
+    for len in 0..37_usize {
+        let fault = decode(rt.alloc(), &BYTES[..len], &h).err();
+        assert_eq!(rt; fault, Some(CodecFault::Short { len: len as u64 }));
+    }
+    Ok(())
+}
+
+// Rows that are only told of take no memory: it is asked for none that cannot be had.
+#[test]
+fn a_count_is_not_believed(rt: HostRuntime) -> Result<(), Fail> {
+    let h = one_city(rt.alloc())?;
+    let cases: [(u64, CodecFault); 6] = [
+        (0, CodecFault::Trailing { at: 17 }),
+        (2, CodecFault::Short { len: 37 }),
+        (0x1_0000_0000, CodecFault::Short { len: 37 }),
+        (0x0400_0000_0000_0000, CodecFault::Short { len: 37 }),
+        (0x8000_0000_0000_0000, CodecFault::Short { len: 37 }),
+        (0xffff_ffff_ffff_ffff, CodecFault::Short { len: 37 }),
+    ];
+    for (count, fault) in cases {
+        let mut bytes = BYTES;
+        bytes[9..17].copy_from_slice(&count.to_be_bytes());
+        assert_eq!(rt; decode(rt.alloc(), &bytes, &h).err(), Some(fault));
+    }
+    Ok(())
+}
+
+// What a byte of another value at a place makes of the bytes, if it isn't another row.
+fn fault_at(at: usize, to: u8) -> Option<CodecFault>
+    requires { at < 37 }
+{
+    match at {
+        0..=7 => Some(CodecFault::BadMark),
+        8 => Some(CodecFault::BadCount { told: to, dims: 1 }),
+        16 if to == 0 => Some(CodecFault::Trailing { at: 17 }),
+        9..=16 => Some(CodecFault::Short { len: 37 }),
+        25..=28 => {
+            let bytes = changed(at, to);
+            let id = u32::from_be_bytes([bytes[25], bytes[26], bytes[27], bytes[28]]);
+            Some(CodecFault::BadConcept { at: 25, id })
+        }
+        _ => None,
+    }
+}
+
+#[test]
+fn a_flipped_bit_is_another_row_or_a_fault(rt: HostRuntime) -> Result<(), Fail> {
     let h = one_city(rt.alloc())?;
     for at in 0..37_usize {
-        let short = decode(rt.alloc(), &BYTES[..at], &h).err();
-        assert_eq!(rt; short, Some(CodecFault::Short { len: at as u64 }));
         for bit in 0..8_u32 {
-            let bytes = changed(at, BYTES[at] ^ (1 << bit));
+            let to = BYTES[at] ^ (1 << bit);
+            let bytes = changed(at, to);
             match decode(rt.alloc(), &bytes, &h) {
                 Ok(rows) => {
+                    assert_eq!(rt; fault_at(at, to), None);
+                    assert_ne!(rt; rows.as_slice(), [row_at(3, 0x2000_0000, -2)].as_slice());
                     let again = encode(rt.alloc(), 1, rows.as_slice())?;
                     assert_eq!(rt; again.as_slice(), bytes.as_slice());
                 }
-                Err(fault) => assert_ne!(rt; fault, CodecFault::NoMemory),
+                Err(fault) => assert_eq!(rt; fault_at(at, to), Some(fault)),
             }
         }
     }
