@@ -31,3 +31,8 @@ pub mod Openings
 pub mod Totals
 pub mod Worked
 pub mod Comes
+pub mod Storeys
+pub mod Forests
+pub mod Leaves
+pub mod Levels
+pub mod Gates

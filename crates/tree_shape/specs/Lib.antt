@@ -5,4 +5,5 @@ pub mod Trees
 pub mod Queries
 pub mod Steps
 pub mod Laws
+pub mod Forest
 pub mod Example
