@@ -1,0 +1,8 @@
+//! Bulk building: the tree of a shard from a list of rows, as a split and a move need it.
+#![tactic(auto)]
+
+mod builder;
+mod order;
+mod site;
+
+pub use builder::{Built, build};
