@@ -2,12 +2,13 @@
 use Rattle.std.proofs.Common.{◌≡◌, ℕ, ◌+◌, ◌^◌, ◌<◌, ◌≤◌, true, false, List, [], ◌∷◌, ◌++◌, length, map, take, drop, refl, sym, ap, ◌∙◌, subst, arith, length-append}
 use Rattle.std.specs.Prelude.{None, sum_by, All}
 use Rattle.std.specs.List.{AllZip}
-use Rattle.std.proofs.lemmas.List.{drop_at, map-append, take-append-drop}
+use Rattle.std.proofs.lemmas.Grind.{flat_map-append}
+use Rattle.std.proofs.lemmas.List.{append-nil, drop_at, map-append, take-append-drop}
 use Rattle.std.proofs.lemmas.List.Elements.{All-append, All-head, All-tail}
 use Rattle.dim_hierarchy.specs.declared.row.Row.{Row}
 use Rattle.dim_hierarchy.specs.Dimension.{Dimension}
 use Rattle.dim_hierarchy.specs.Row.{IsRowOf}
-use Rattle.dc_node.specs.Block.{is_leaf, size}
+use Rattle.dc_node.specs.Block.{is_leaf, rows_in, size}
 use Rattle.dc_node.specs.Summary.{IsSummary}
 use Rattle.dc_node.specs.declared.block.Body.{Body}
 use Rattle.dc_node.specs.declared.block.Body.TheVariants.{Rows, Entries}
@@ -15,58 +16,46 @@ use Rattle.dc_node.specs.declared.block.Block.{Block}
 use Rattle.dc_node.specs.declared.entry.Entry.{Entry}
 use Rattle.link_descent.specs.Descend.{IsEntryOf}
 use Rattle.link_descent.specs.declared.entered.Fresh.{Fresh}
-use Rattle.shard_plan.specs.Building.{leaf_rows, parent_nodes}
 use Rattle.tree_shape.specs.Counts.{Each, times}
 use Rattle.tree_shape.specs.Shape.{numbers}
 use Rattle.tree_shape.specs.Trees.{limit}
-use Rattle.tree_shape.specs.Forest.{AreInCells, AreRowsOf, DirectoriesLaw, IsForest, LeavesLaw, all_entries, filled_cells}
+use Rattle.tree_shape.specs.Forest.{AreInCells, AreRowsOf, DirectoriesLaw, IsForest, LeavesLaw, all_entries, all_rows, filled_cells}
 use Rattle.tree_shape.proofs.Forests.{each-all}
 use Rattle.tree_shape.proofs.Parts.{each-left, each-right}
 use Rattle.tree_shape.proofs.Visits.{times-append}
-use Rattle.shard_build.specs.Building.{AreLeavesOf, AreParentsOf, IsEntryTo, IsGrown, rows_under}
-use Rattle.shard_build.proofs.Summed.{leaves-beneath, leaves-countable, parents-beneath, parents-countable}
+use Rattle.shard_build.specs.Building.{AreLeavesOf, AreParentsOf, AreSmall, IsEntryTo, IsGrown, most, rows_under}
+use Rattle.shard_build.proofs.Summed.{leaves-beneath, leaves-countable, parents-beneath, parents-countable, parents-rows}
 
 -- Leaves.
 
-within-leaf : (body : Body) → is_leaf body ≡ true → size body ≤ leaf_rows → size body ≤ limit body
-within-leaf (Rows rows) k le = omega arith
-within-leaf (Entries entries) k le = cc
+within : (body : Body) → size body ≤ most body → size body ≤ limit body
+within (Rows rows) le = omega arith
+within (Entries entries) le = omega arith
 
-leaves-within : (fs : List Fresh) → All (λ f. is_leaf f.block.body ≡ true) fs → All (λ f. size f.block.body ≤ leaf_rows) fs → Each (λ f. size f.block.body ≤ limit f.block.body) fs
-leaves-within [] k few = tt
-leaves-within (f ∷ fs) k few = (
-  within-leaf f.block.body (All-head (λ (f : Fresh). is_leaf f.block.body ≡ true) f fs k) (All-head (λ (f : Fresh). size f.block.body ≤ leaf_rows) f fs few),
-  leaves-within fs (All-tail (λ (f : Fresh). is_leaf f.block.body ≡ true) f fs k) (All-tail (λ (f : Fresh). size f.block.body ≤ leaf_rows) f fs few),
-)
+all-within : (fs : List Fresh) → AreSmall fs → Each (λ f. size f.block.body ≤ limit f.block.body) fs
+all-within [] small = tt
+all-within (f ∷ fs) small =
+    (within f.block.body (All-head (λ (f : Fresh). size f.block.body ≤ most f.block.body) f fs small), all-within fs (All-tail (λ (f : Fresh). size f.block.body ≤ most f.block.body) f fs small))
 
 pub leaves-grown : (h : List Dimension) (rows : List Row) (blocks : List Fresh) → LeavesLaw → All (IsRowOf h) rows → 0 < length blocks → AreLeavesOf rows blocks → IsGrown h rows blocks 0 0
 leaves-grown h rows blocks law valid some w = record {
   within = some;
-  countable = leaves-countable h blocks w.kind w.few (subst (All (IsRowOf h)) (sym w.rows_are) valid);
+  countable = leaves-countable h blocks w.kind w.small (subst (All (IsRowOf h)) (sym w.rows_are) valid);
   beneath = leaves-beneath blocks w.kind ∙ ap length w.rows_are;
+  small = w.small;
   alone = w.alone;
+  rows_are = w.rows_are;
   forest = λ table block is have stand apart.
       subst (λ (xs : List Row). IsForest table block 0 (filled_cells blocks) (filled_cells blocks) (numbers xs)) w.rows_are (law table block blocks (record {
         stand = stand;
         apart = apart;
         kind = each-all (λ f. is_leaf f.block.body ≡ true) blocks w.kind;
-        few = leaves-within blocks w.kind w.few;
+        few = all-within blocks w.small;
         rows = subst (AreRowsOf table) (sym w.rows_are) have;
       }));
 }
 
 -- Directories.
-
-within-directory : (body : Body) → is_leaf body ≡ false → size body ≤ parent_nodes → size body ≤ limit body
-within-directory (Rows rows) k le = cc
-within-directory (Entries entries) k le = omega arith
-
-directories-within : (fs : List Fresh) → All (λ f. is_leaf f.block.body ≡ false) fs → All (λ f. size f.block.body ≤ parent_nodes) fs → Each (λ f. size f.block.body ≤ limit f.block.body) fs
-directories-within [] k few = tt
-directories-within (f ∷ fs) k few = (
-  within-directory f.block.body (All-head (λ (f : Fresh). is_leaf f.block.body ≡ false) f fs k) (All-head (λ (f : Fresh). size f.block.body ≤ parent_nodes) f fs few),
-  directories-within fs (All-tail (λ (f : Fresh). is_leaf f.block.body ≡ false) f fs k) (All-tail (λ (f : Fresh). size f.block.body ≤ parent_nodes) f fs few),
-)
 
 -- an entry to a block is one of the block in its cell
 pub entry-in-cell : (h : List Dimension) (block : ℕ → Block) (f : Fresh) (e : Entry) → block f.cell ≡ f.block → IsEntryTo h f e → IsEntryOf h e.child (block e.child) e
@@ -105,7 +94,10 @@ level-grown h rows blocks parents from l law g w some few =
       within = omega (arith, length-append blocks parents);
       countable = rw tops (parents-countable h (drop from blocks) parents w.kind w.entries (omega (arith, g.beneath)));
       beneath = ap (sum_by rows_under) tops ∙ parents-beneath h (drop from blocks) parents w.kind w.entries ∙ g.beneath;
+      small = All-append (λ f. size f.block.body ≤ most f.block.body) blocks parents g.small w.small;
       alone = All-append (λ f. f.block.right ≡ None) blocks parents g.alone w.alone;
+      rows_are = flat_map-append (λ (f : Fresh). rows_in f.block.body) blocks parents ∙ ap (λ (xs : List Row). all_rows blocks ++ xs) (parents-rows parents w.kind)
+          ∙ append-nil (all_rows blocks) ∙ g.rows_are;
       forest = λ table block is have stand apart.
           let cells : filled_cells (blocks ++ parents) ≡ filled_cells blocks ++ filled_cells parents = map-append (λ (f : Fresh). f.cell) blocks parents in
           let apart2 : (y : ℕ) → times y (filled_cells blocks ++ filled_cells parents) ≤ 1 = subst (λ (xs : List ℕ). (y : ℕ) → times y xs ≤ 1) cells apart in
@@ -117,7 +109,7 @@ level-grown h rows blocks parents from l law g w some few =
             apart = apart2;
             kind = each-all (λ f. is_leaf f.block.body ≡ false) parents w.kind;
             some = each-all (λ f. 1 ≤ size f.block.body) parents w.some;
-            few = directories-within parents w.kind w.few;
+            few = all-within parents w.small;
             entries = subst (λ (x : List Dimension). Each (λ e. IsEntryOf x e.child (block e.child) e) (all_entries parents)) (sym is)
                 (entries-in-cells h block (drop from blocks) (all_entries parents) (in-cells-from block blocks from lower) w.entries);
             each = λ y. ap (times y) (entries-lead h (drop from blocks) (all_entries parents) w.entries);

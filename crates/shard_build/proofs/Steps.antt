@@ -14,7 +14,7 @@ use Rattle.cell_stock.specs.declared.purse.Spare.{Spare}
 use Rattle.link_descent.specs.declared.entered.Fresh.{Fresh}
 use Rattle.shard_plan.specs.Building.{leaf_rows, parent_nodes}
 use Rattle.tree_shape.specs.Forest.{all_entries}
-use Rattle.shard_build.specs.Building.{AddsDirectory, AddsLeaves, AddsLevel, AreLeavesOf, AreParentsOf, IsEntryTo, SiteValue, UsesUp, directory_in, leaf_in, spare_of}
+use Rattle.shard_build.specs.Building.{AddsDirectory, AddsLeaves, AddsLevel, AreLeavesOf, AreParentsOf, IsEntryTo, SiteValue, UsesUp, directory_in, leaf_in, most, spare_of}
 use Rattle.shard_build.proofs.Lists.{zip-append, zip-length, take-next, part-next, part-before}
 
 -- Spares.
@@ -38,7 +38,7 @@ uses-count blocks a b u =
 leaves-more : (xs ys : List Row) (blocks : List Fresh) (s : Spare) → AreLeavesOf xs blocks → length ys ≤ leaf_rows → AreLeavesOf (xs ++ ys) (blocks ++ leaf_in s ys ∷ [])
 leaves-more xs ys blocks s w le = record {
   kind = All-push (λ f. is_leaf f.block.body ≡ true) blocks (leaf_in s ys) w.kind refl;
-  few = All-push (λ f. size f.block.body ≤ leaf_rows) blocks (leaf_in s ys) w.few le;
+  small = All-push (λ f. size f.block.body ≤ most f.block.body) blocks (leaf_in s ys) w.small le;
   alone = All-push (λ f. f.block.right ≡ None) blocks (leaf_in s ys) w.alone refl;
   rows_are = flat_map-append (λ (f : Fresh). rows_in f.block.body) blocks (leaf_in s ys ∷ []) ∙ ap (λ zs. zs ++ (ys ++ [])) w.rows_are ∙ ap (λ zs. xs ++ zs) (append-nil ys);
 }
@@ -68,7 +68,7 @@ parents-more h cs ds ps s es w z some few =
     record {
       kind = All-push (λ f. is_leaf f.block.body ≡ false) ps d w.kind refl;
       some = All-push (λ f. 1 ≤ size f.block.body) ps d w.some (omega arith);
-      few = All-push (λ f. size f.block.body ≤ parent_nodes) ps d w.few (omega arith);
+      small = All-push (λ f. size f.block.body ≤ most f.block.body) ps d w.small (omega arith);
       alone = All-push (λ f. f.block.right ≡ None) ps d w.alone refl;
       entries = subst (AllZip (IsEntryTo h) (cs ++ ds))
           (sym (flat_map-append (λ (f : Fresh). entries_in f.block.body) ps (d ∷ []) ∙ ap (λ zs. all_entries ps ++ zs) (append-nil es)))

@@ -4,6 +4,7 @@ use Rattle.std.specs.Prelude.{sum_by, All}
 use Rattle.std.specs.List.{AllZip}
 use Rattle.std.proofs.lemmas.List.Sums.{sum_by-cons, sum_by-append}
 use Rattle.std.proofs.lemmas.List.Elements.{All-nil, All-cons, All-head, All-tail}
+use Rattle.dim_hierarchy.specs.declared.row.Row.{Row}
 use Rattle.dim_hierarchy.specs.Row.{IsRowOf}
 use Rattle.dim_hierarchy.specs.Dimension.{Dimension}
 use Rattle.measure_agg.specs.Aggregate.{Aggregate}
@@ -17,7 +18,8 @@ use Rattle.dc_node.specs.declared.entry.Entry.{Entry}
 use Rattle.link_descent.specs.declared.entered.Fresh.{Fresh}
 use Rattle.shard_plan.specs.Building.{leaf_rows}
 use Rattle.tree_shape.specs.Forest.{all_entries, all_rows}
-use Rattle.shard_build.specs.Building.{IsCountable, IsEntryTo, rows_under}
+use Rattle.tree_shape.proofs.Assembled.{no-rows}
+use Rattle.shard_build.specs.Building.{AreSmall, IsCountable, IsEntryTo, most, rows_under}
 
 abbrev pub entry_count : Entry → ℕ
 entry_count e = e.agg.count
@@ -36,9 +38,9 @@ leaf-count : (body : Body) → is_leaf body ≡ true → row_count body ≡ leng
 leaf-count (Rows rows) k = refl
 leaf-count (Entries entries) k = cc
 
-leaf-size : (body : Body) → is_leaf body ≡ true → size body ≡ length (rows_in body)
-leaf-size (Rows rows) k = refl
-leaf-size (Entries entries) k = cc
+leaf-few : (body : Body) → is_leaf body ≡ true → size body ≤ most body → length (rows_in body) ≤ leaf_rows
+leaf-few (Rows rows) k le = le
+leaf-few (Entries entries) k le = cc
 
 leaf-body : (h : List Dimension) (body : Body) → is_leaf body ≡ true → All (IsRowOf h) (rows_in body) → IsBodyOf h body
 leaf-body h (Rows rows) k v = v
@@ -51,17 +53,16 @@ leaves-beneath (f ∷ fs) k =
     let ih = leaves-beneath fs (All-tail (λ (f : Fresh). is_leaf f.block.body ≡ true) f fs k) in
     omega (arith, sum_by-cons rows_under f fs, length-append (rows_in f.block.body) (all_rows fs))
 
-pub leaves-countable : (h : List Dimension) (fs : List Fresh) → All (λ f. is_leaf f.block.body ≡ true) fs → All (λ f. size f.block.body ≤ leaf_rows) fs
+pub leaves-countable : (h : List Dimension) (fs : List Fresh) → All (λ f. is_leaf f.block.body ≡ true) fs → AreSmall fs
     → All (IsRowOf h) (all_rows fs) → All (IsCountable h) fs
 leaves-countable h [] k few v = All-nil (IsCountable h)
 leaves-countable h (f ∷ fs) k few v =
     let kind = All-head (λ (f : Fresh). is_leaf f.block.body ≡ true) f fs k in
-    let small = All-head (λ (f : Fresh). size f.block.body ≤ leaf_rows) f fs few in
     let a = leaf-count f.block.body kind in
-    let b = leaf-size f.block.body kind in
+    let b = leaf-few f.block.body kind (All-head (λ (f : Fresh). size f.block.body ≤ most f.block.body) f fs few) in
     All-cons (IsCountable h) f fs
     (record { body = leaf-body h f.block.body kind (all-left (IsRowOf h) (rows_in f.block.body) (all_rows fs) v); few = omega arith })
-    (leaves-countable h fs (All-tail (λ (f : Fresh). is_leaf f.block.body ≡ true) f fs k) (All-tail (λ (f : Fresh). size f.block.body ≤ leaf_rows) f fs few)
+    (leaves-countable h fs (All-tail (λ (f : Fresh). is_leaf f.block.body ≡ true) f fs k) (All-tail (λ (f : Fresh). size f.block.body ≤ most f.block.body) f fs few)
     (all-right (IsRowOf h) (rows_in f.block.body) (all_rows fs) v))
 
 -- Directories.
@@ -127,3 +128,10 @@ pub parents-countable : (h : List Dimension) (children parents : List Fresh) →
     → sum_by rows_under children < 2 ^ 63 → All (IsCountable h) parents
 parents-countable h children parents k z few =
     parents-ok h parents k (entries-valid h children (all_entries parents) z) (omega (arith, parents-beneath h children parents k z))
+
+-- directories have no rows of their own
+pub parents-rows : (parents : List Fresh) → All (λ f. is_leaf f.block.body ≡ false) parents → all_rows parents ≡ []
+parents-rows [] k = refl
+parents-rows (f ∷ fs) k =
+    ap (λ (xs : List Row). xs ++ all_rows fs) (no-rows f.block.body (All-head (λ (f : Fresh). is_leaf f.block.body ≡ false) f fs k))
+    ∙ parents-rows fs (All-tail (λ (f : Fresh). is_leaf f.block.body ≡ false) f fs k)

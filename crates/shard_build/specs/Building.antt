@@ -1,10 +1,13 @@
 -- What the steps of building leave: leaves of rows, and directories over blocks, each in the cell of a spare.
-use Rattle.std.specs.Prelude.{ℕ, ◌≡◌, ◌+◌, ◌-◌, ◌*◌, ◌^◌, ◌<◌, ◌≤◌, true, false, min, None, List, [], ◌∷◌, ◌++◌, length, map, reverse, take, drop, sum_by, All}
+use Rattle.std.specs.Prelude.{ℕ, ◌≡◌, ◌+◌, ◌-◌, ◌*◌, ◌^◌, ◌<◌, ◌≤◌, Bool, true, false, min, None, List, [], ◌∷◌, ◌++◌, length, map, reverse, take, drop, sum_by, All}
 use Rattle.std.specs.List.{AllZip}
+use Rattle.std.specs.Ordering.{nat_cmp, ordering_then, is_lt}
+use Rattle.std.specs.Cmp.Lexicographic.{slice_cmp}
 use Rattle.dim_hierarchy.specs.declared.row.Row.{Row}
 use Rattle.dim_hierarchy.specs.Dimension.{Dimension}
 use Rattle.dc_node.specs.Block.{is_leaf, size, IsBodyOf}
 use Rattle.dc_node.specs.Summary.{row_count}
+use Rattle.dc_node.specs.declared.block.Body.{Body}
 use Rattle.dc_node.specs.declared.block.Body.TheVariants.{Rows, Entries}
 use Rattle.dc_node.specs.declared.block.Block.{Block}
 use Rattle.dc_node.specs.declared.entry.Entry.{Entry}
@@ -40,6 +43,14 @@ pub record UsesUp (blocks : List Fresh) (before now : PurseValue) : Type 0 where
   pub spares : before.spares ≡ now.spares ++ reverse (map spare_of blocks)
   pub room : now.room ≡ before.room + length blocks
 
+-- how many items are put to a block: rows to a leaf, blocks to a parent
+abbrev pub most : Body → ℕ
+most (Rows rows) = leaf_rows
+most (Entries entries) = parent_nodes
+
+abbrev pub AreSmall : List Fresh → Type 0
+AreSmall blocks = All (λ f. size f.block.body ≤ most f.block.body) blocks
+
 -- no block has a link
 abbrev pub AreAlone : List Fresh → Type 0
 AreAlone blocks = All (λ f. f.block.right ≡ None) blocks
@@ -49,9 +60,13 @@ AreAlone blocks = All (λ f. f.block.right ≡ None) blocks
 -- leaves of these rows, in order
 pub record AreLeavesOf (rows : List Row) (blocks : List Fresh) : Type 0 where
   pub kind : All (λ f. is_leaf f.block.body ≡ true) blocks
-  pub few : All (λ f. size f.block.body ≤ leaf_rows) blocks
+  pub small : AreSmall blocks
   pub alone : AreAlone blocks
   pub rows_are : all_rows blocks ≡ rows
+
+-- by coordinate, dimension by dimension, then by number
+abbrev pub comes_before : Row → Row → Bool
+comes_before a b = is_lt (ordering_then (slice_cmp nat_cmp a.at.at b.at.at) (nat_cmp a.no b.no))
 
 -- the first rows, up to a place, were put to leaves, and as many as there may be to each but for the last
 pub record AddsLeaves (rows : List Row) (at : ℕ) (blocks : List Fresh) (purse purse_now : PurseValue) : Type 0 where
@@ -83,7 +98,7 @@ pub record AddsDirectory (h : List Dimension) (children : List Fresh) (spare : S
 pub record AreParentsOf (h : List Dimension) (children parents : List Fresh) : Type 0 where
   pub kind : All (λ f. is_leaf f.block.body ≡ false) parents
   pub some : All (λ f. 1 ≤ size f.block.body) parents
-  pub few : All (λ f. size f.block.body ≤ parent_nodes) parents
+  pub small : AreSmall parents
   pub alone : AreAlone parents
   pub entries : AllZip (IsEntryTo h) children (all_entries parents)
 
@@ -106,6 +121,8 @@ pub record IsGrown (h : List Dimension) (rows : List Row) (blocks : List Fresh) 
   pub within : from < length blocks
   pub countable : All (IsCountable h) (drop from blocks)
   pub beneath : sum_by rows_under (drop from blocks) ≡ length rows
+  pub small : AreSmall blocks
   pub alone : AreAlone blocks
+  pub rows_are : all_rows blocks ≡ rows
   pub forest : (table : Table) (block : ℕ → Block) → table.hierarchy ≡ h → AreRowsOf table rows → AreInCells block blocks → ((y : ℕ) → times y (filled_cells blocks) ≤ 1)
       → IsForest table block l (filled_cells (drop from blocks)) (filled_cells blocks) (numbers rows)

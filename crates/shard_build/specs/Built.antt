@@ -1,5 +1,6 @@
 -- A built tree.
-use Rattle.std.specs.Prelude.{ℕ, ◌≡◌, ◌≤◌, List, ◌∷◌, length}
+use Rattle.std.specs.Prelude.{ℕ, ◌≡◌, ◌≤◌, List, ◌∷◌, length, IsPermutation}
+use Rattle.std.specs.List.Sorted.{IsSortedBy}
 use Rattle.dim_hierarchy.specs.declared.row.Row.{Row}
 use Rattle.dim_hierarchy.specs.Dimension.{Dimension}
 use Rattle.dc_node.specs.declared.entry.Entry.{Entry}
@@ -8,8 +9,8 @@ use Rattle.shard_store.specs.Gate.{root_entry}
 use Rattle.shard_plan.specs.Building.{cells_for, levels_for}
 use Rattle.tree_shape.specs.Counts.{times}
 use Rattle.tree_shape.specs.Shape.{Table, TreeCells, numbers}
-use Rattle.tree_shape.specs.Forest.{AfterBuilding, AreInCells, AreRowsOf, filled_cells}
-use Rattle.shard_build.specs.Building.{AreAlone, UsesUp}
+use Rattle.tree_shape.specs.Forest.{AfterBuilding, AreInCells, AreRowsOf, all_rows, filled_cells}
+use Rattle.shard_build.specs.Building.{AreAlone, AreSmall, UsesUp, comes_before}
 use Rattle.shard_build.specs.declared.builder.Built.{Built}
 
 -- how a gate leads to the root
@@ -23,12 +24,15 @@ pub record IsInCells (cells : TreeCells) (b : Built) : Type 0 where
   pub root : root_entry cells.gate ≡ root_of b
   pub height : cells.gate.height ≡ b.height
 
--- A tree of rows: as many blocks and levels as the rule says, each block with a spare of the purse. In cells, under a gate, the
--- blocks are a tree of exactly these rows.
+-- A tree of rows: as many blocks and levels as the rule says, each block with a spare of the purse, and the rows in order in
+-- the leaves. In cells, under a gate, the blocks are a tree of exactly these rows.
 pub record IsBuilt (h : List Dimension) (rows : List Row) (before now : PurseValue) (b : Built) : Type 0 where
   pub count : length b.blocks.items ≡ cells_for (length rows)
   pub height : b.height ≡ levels_for (length rows)
   pub uses : UsesUp b.blocks.items before now
+  pub permutation : IsPermutation rows (all_rows b.blocks.items)
+  pub ordered : IsSortedBy comes_before (all_rows b.blocks.items)
+  pub small : AreSmall b.blocks.items
   pub alone : AreAlone b.blocks.items
   pub tree : (table : Table) (cells : TreeCells) → table.hierarchy ≡ h → AreRowsOf table rows → IsInCells cells b
       → AfterBuilding table cells (filled_cells b.blocks.items) (numbers rows)

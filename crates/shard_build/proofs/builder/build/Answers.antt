@@ -5,7 +5,10 @@ use Rattle.dim_hierarchy.specs.declared.row.Row.{Row}
 use Rattle.dim_hierarchy.specs.Row.{IsRowOf}
 use Rattle.link_descent.specs.declared.entered.Fresh.{Fresh}
 use Rattle.shard_plan.specs.Building.{leaves_for, cells_for, levels_for}
-use Rattle.shard_build.specs.Building.{AreAlone, AreLeavesOf, AreParentsOf, IsGrown, SiteValue, UsesUp}
+use Rattle.tree_shape.specs.Forest.{all_rows}
+use Rattle.std.specs.Prelude.{IsPermutation}
+use Rattle.std.specs.List.Sorted.{IsSortedBy}
+use Rattle.shard_build.specs.Building.{AreAlone, AreSmall, comes_before, AreLeavesOf, AreParentsOf, IsGrown, SiteValue, UsesUp}
 use Rattle.shard_build.proofs.Counts.{leaves-few, cells-first, cells-next, cells-all}
 use Rattle.shard_build.proofs.Grown.{leaves-grown, level-grown}
 use Rattle.shard_build.proofs.Finished.{built-tree}
@@ -75,6 +78,9 @@ returns-clause-ok c =
       count = ap length c.finished.ensures.blocks ∙ all.0 ∙ ap cells_for n;
       height = c.finished.ensures.height ∙ height ∙ ap levels_for n;
       uses = subst (λ (fs : List Fresh). UsesUp fs c.args.purse.now c.loop.purse) (sym c.finished.ensures.blocks) c.loop.invariant.uses;
+      permutation = subst (λ (fs : List Fresh). IsPermutation rows (all_rows fs)) (sym c.finished.ensures.blocks) (subst (IsPermutation rows) (sym g.rows_are) c.in_order-rows.ensures.permutation);
+      ordered = subst (λ (fs : List Fresh). IsSortedBy comes_before (all_rows fs)) (sym c.finished.ensures.blocks) (subst (IsSortedBy comes_before) (sym g.rows_are) c.in_order-rows.ensures.sorted);
+      small = subst AreSmall (sym c.finished.ensures.blocks) g.small;
       alone = subst AreAlone (sym c.finished.ensures.blocks) g.alone;
       tree = built-tree h rows ordered blocks c.loop.from (c.loop.counter - 1) one.0 b c.build_laws.ensures.tree c.in_order-rows.ensures.permutation g one.1
           (c.finished.ensures.root one.0 one.1) c.finished.ensures.blocks (omega (arith, c.finished.ensures.height, height, all.2, c.loop.auto.counter));
