@@ -4,5 +4,7 @@
 mod builder;
 mod order;
 mod site;
+#[cfg(test)]
+mod tests;
 
 pub use builder::{Built, build};
