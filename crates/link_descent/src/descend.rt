@@ -45,7 +45,7 @@ fn add_row(entry: &mut Entry, h: &Hierarchy, row: &Row)
 }
 
 /// The entry of a block that is a whole group.
-fn entry_of(block: &Block, cell: u32, h: &Hierarchy) -> Entry
+pub fn entry_of(block: &Block, cell: u32, h: &Hierarchy) -> Entry
     requires body { IsBodyOf h.now block.now.body }
     requires few { row_count block.now.body < 2 ^ 63 }
     ensures { IsEntryOf h.now cell block.now result }

@@ -14,7 +14,7 @@ mod visit_tests;
 mod visits;
 
 pub use choice::pick;
-pub use descend::{enter_root, pass_down, pass_root, put_leaf, step_down};
+pub use descend::{enter_root, entry_of, pass_down, pass_root, put_leaf, step_down};
 pub use entered::{Entered, Fresh};
 pub use gate_reads::read_gate;
 pub use visits::visit;

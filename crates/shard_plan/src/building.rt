@@ -1,11 +1,12 @@
-ghost use Rattle.std.specs.Prelude.{◌≡◌, ℕ, ◌+◌, ◌*◌, ◌^◌, ◌<◌, ◌≤◌};
-ghost use Rattle.shard_plan.specs.Building.{leaves_for, cells_for, levels_for, split_need};
+ghost use Rattle.std.specs.Prelude.{◌≡◌, ℕ, ◌+◌, ◌*◌, ◌^◌, ◌<◌, ◌≤◌, [], ◌∷◌};
+ghost use Rattle.std.specs.Int.{div_ceil};
+ghost use Rattle.shard_plan.specs.Building.{parent_nodes, leaves_for, levels_over, cells_for, levels_for, split_need};
 
-// How many rows a built leaf has, but for the last.
-const LEAF_ROWS: u64 = 24;
+/// How many rows a built leaf has, but for the last.
+pub const LEAF_ROWS: u64 = 24;
 
-// How many nodes a built parent has, but for the last of a level.
-const PARENT_NODES: u64 = 12;
+/// How many nodes a built parent has, but for the last of a level.
+pub const PARENT_NODES: u64 = 12;
 
 /// How many blocks a tree of so many rows is built of.
 pub fn cells_for(n: u64) -> u64
@@ -48,8 +49,16 @@ pub fn parts_fit()
     ensures { (a b : ℕ) → cells_for a + cells_for b + 2 ≤ split_need (a + b) }
 {}
 
-// How many leaves there are: one at least.
-fn leaves_for(n: u64) -> u64
+/// The levels of a tree from one of n nodes up: that one alone where it is the root, else that one and the
+/// levels from its parents up.
+pub fn level_laws()
+    ensures root { (n : ℕ) → n ≤ 1 → levels_over n n ≡ n ∷ [] }
+    ensures parents { (n : ℕ) → 1 < n
+        → levels_over n n ≡ n ∷ levels_over (div_ceil n parent_nodes) (div_ceil n parent_nodes) }
+{}
+
+/// How many leaves there are: one at least.
+pub fn leaves_for(n: u64) -> u64
     requires { n < 2 ^ 40 }
     ensures { result ≡ leaves_for n }
 {

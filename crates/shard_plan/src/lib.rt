@@ -7,4 +7,6 @@ mod building;
 mod tests;
 
 pub use action::{Action, Load};
-pub use building::{cells_for, levels_for, parts_fit, split_need};
+pub use building::{
+    LEAF_ROWS, PARENT_NODES, cells_for, leaves_for, level_laws, levels_for, parts_fit, split_need,
+};

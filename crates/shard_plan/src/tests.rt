@@ -1,8 +1,15 @@
-use crate::{cells_for, levels_for, parts_fit, split_need};
+use crate::{cells_for, leaves_for, level_laws, levels_for, parts_fit, split_need};
 
 #[test]
 fn built_trees_have_so_many_blocks_and_levels(rt: HostRuntime) {
     parts_fit();
+    level_laws();
+    assert_eq!(rt; leaves_for(289), 13);
+    assert_eq!(rt; (cells_for(1), levels_for(1), split_need(1)), (1, 1, 5));
+    assert_eq!(rt;
+        (cells_for(3457), levels_for(3457), split_need(3457)),
+        (161, 4, 171)
+    );
     let cases = [
         (0, 1, 1, 5),
         (2, 1, 1, 5),

@@ -35,3 +35,8 @@ pub mod Worked
 pub mod CityFacts
 pub mod Cities
 pub mod Comes
+pub mod Storeys
+pub mod Forests
+pub mod Leaves
+pub mod Levels
+pub mod Gates

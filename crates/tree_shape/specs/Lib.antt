@@ -7,5 +7,6 @@ pub mod Steps
 pub mod Tables
 pub mod Collecting
 pub mod Laws
+pub mod Forest
 pub mod Example
 pub mod Cities

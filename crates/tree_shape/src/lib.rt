@@ -5,6 +5,7 @@
 ghost use Rattle.std.specs.Prelude.{ℕ};
 ghost use Rattle.tree_shape.specs.Trees.{leaf_without_rows};
 ghost use Rattle.tree_shape.specs.Example.{ExampleLaw};
+ghost use Rattle.tree_shape.specs.Forest.{LeavesLaw, DirectoriesLaw, TreeLaw};
 ghost use Rattle.tree_shape.specs.Laws.{OpeningLaw, OrderLaw, GateLaw, BlockLaw, ChildLaw, RootLaw, LinkLaw, OtherLaw, InLaw, DownLaw, PutLaw, BeginLaw, VisitLaw, ElsewhereLaw, EndLaw};
 ghost use Rattle.tree_shape.specs.Laws.{TreeTableLaw, QueryTableLaw, CollectBeginLaw, ReadableLaw, ReadLaw, CollectOtherLaw, CollectEndLaw};
 ghost use Rattle.tree_shape.specs.Cities.{CitiesLaw};
@@ -12,6 +13,15 @@ ghost use Rattle.tree_shape.specs.Cities.{CitiesLaw};
 /// A leaf without rows, which is its own group, is the root of a new tree.
 pub fn opening_law()
     ensures { (stamp : ℕ) → OpeningLaw (leaf_without_rows stamp) }
+{}
+
+/// A tree can be built level by level: leaves in cells of their own are a forest, directories with an
+/// entry for each root of a forest are one that is a level higher, and a gate over a forest of one root
+/// is a tree of its rows.
+pub fn build_laws()
+    ensures leaves { LeavesLaw }
+    ensures directories { DirectoriesLaw }
+    ensures tree { TreeLaw }
 {}
 
 /// Aggregates and sets go by which rows there are, so a gate tells of its tree's rows; and each block

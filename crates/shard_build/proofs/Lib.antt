@@ -1,0 +1,6 @@
+pub mod Lists
+pub mod Steps
+pub mod Counts
+pub mod Summed
+pub mod Grown
+pub mod Finished

@@ -1,0 +1,13 @@
+use Rattle.std.proofs.Common.{◌≡◌, ◌+◌, ◌-◌, length, sum}
+use Rattle.shard_plan.specs.Building.{cells_for, levels_over, levels_for}
+use Rattle.shard_build.specs.Building.{IsGrown, UsesUp}
+use Rattle.shard_build.proofs.builder.build.Given as goal
+
+abbrev pub invariant-loop : goal.invariant-loop
+invariant-loop l = record {
+  grown : IsGrown l.h l.rows.items l.site.blocks l.from (l.counter - 1);
+  cells : length l.site.blocks + sum (levels_over (length l.site.blocks - l.from) (length l.site.blocks - l.from)) ≡ cells_for l.n + (length l.site.blocks - l.from);
+  levels : l.counter + length (levels_over (length l.site.blocks - l.from) (length l.site.blocks - l.from)) ≡ levels_for l.n + 1;
+  boxes : length l.site.blocks + l.site.directories ≡ cells_for l.n;
+  uses : UsesUp l.site.blocks l.fn.purse l.purse;
+}

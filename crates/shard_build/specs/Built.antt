@@ -1,0 +1,38 @@
+-- A built tree.
+use Rattle.std.specs.Prelude.{ℕ, ◌≡◌, ◌≤◌, List, ◌∷◌, length, IsPermutation}
+use Rattle.std.specs.List.Sorted.{IsSortedBy}
+use Rattle.dim_hierarchy.specs.declared.row.Row.{Row}
+use Rattle.dim_hierarchy.specs.Dimension.{Dimension}
+use Rattle.dc_node.specs.declared.entry.Entry.{Entry}
+use Rattle.cell_stock.specs.Stock.{PurseValue}
+use Rattle.shard_store.specs.Gate.{root_entry}
+use Rattle.shard_plan.specs.Building.{cells_for, levels_for}
+use Rattle.tree_shape.specs.Counts.{times}
+use Rattle.tree_shape.specs.Shape.{Table, TreeCells, numbers}
+use Rattle.tree_shape.specs.Forest.{AfterBuilding, AreInCells, AreRowsOf, all_rows, filled_cells}
+use Rattle.shard_build.specs.Building.{AreAlone, AreSmall, UsesUp, comes_before}
+use Rattle.shard_build.specs.declared.builder.Built.{Built}
+
+-- how a gate leads to the root
+abbrev pub root_of : Built → Entry
+root_of b = record { child = b.root; stamp = b.stamp; agg = b.agg; set = b.set }
+
+-- the blocks stand in their cells, no two in one and none in the gate's, and the gate leads to the root
+pub record IsInCells (cells : TreeCells) (b : Built) : Type 0 where
+  pub blocks : AreInCells cells.block b.blocks.items
+  pub apart : (y : ℕ) → times y (cells.gate_cell ∷ filled_cells b.blocks.items) ≤ 1
+  pub root : root_entry cells.gate ≡ root_of b
+  pub height : cells.gate.height ≡ b.height
+
+-- A tree of rows: as many blocks and levels as the rule says, each block with a spare of the purse, and the rows in order in
+-- the leaves. In cells, under a gate, the blocks are a tree of exactly these rows.
+pub record IsBuilt (h : List Dimension) (rows : List Row) (before now : PurseValue) (b : Built) : Type 0 where
+  pub count : length b.blocks.items ≡ cells_for (length rows)
+  pub height : b.height ≡ levels_for (length rows)
+  pub uses : UsesUp b.blocks.items before now
+  pub permutation : IsPermutation rows (all_rows b.blocks.items)
+  pub ordered : IsSortedBy comes_before (all_rows b.blocks.items)
+  pub small : AreSmall b.blocks.items
+  pub alone : AreAlone b.blocks.items
+  pub tree : (table : Table) (cells : TreeCells) → table.hierarchy ≡ h → AreRowsOf table rows → IsInCells cells b
+      → AfterBuilding table cells (filled_cells b.blocks.items) (numbers rows)

@@ -1,0 +1,10 @@
+//! Bulk building: the tree of a shard from a list of rows, as a split and a move need it.
+#![tactic(auto)]
+
+mod builder;
+mod order;
+mod site;
+#[cfg(test)]
+mod tests;
+
+pub use builder::{Built, build};
