@@ -2,8 +2,6 @@
 #![tactic(auto)]
 
 mod compiled;
-#[cfg(test)]
-mod compiled_tests;
 mod concept;
 mod dimension;
 mod filter;

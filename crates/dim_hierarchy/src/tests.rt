@@ -1,13 +1,124 @@
-ghost use Rattle.std.specs.Prelude.{◌≡◌, ◌<◌, length, IfOk};
-ghost use Rattle.dim_hierarchy.specs.Filter.{IsNamePick};
+ghost use Rattle.std.specs.Prelude.{◌≡◌, ◌+◌, ◌<◌, length, All, IfOk, OnOk};
+ghost use Rattle.dim_hierarchy.specs.Row.{IsCoordOf};
+ghost use Rattle.dim_hierarchy.specs.Filter.{IsFilterOf, IsNamePick};
 
+use crate::compiled::CompiledFilter;
 use crate::concept::ConceptId;
-use crate::filter::{NameFilter, NamePick, Pick};
+use crate::filter::{Filter, NameFilter, NamePick, Pick};
 use crate::hierarchy::{ConceptFault, DimFault, FilterFault, Hierarchy};
 use crate::items::{Name, Names};
 use crate::row::Coord;
 use std::alloc::{AllocError, Global};
 use std::test::Fail;
+
+// The dimension of a concept, its name and its parent.
+type Concept = (u8, &'static str, Option<ConceptId>);
+
+const DE: ConceptId = ConceptId(0x1000_0000);
+
+const FR: ConceptId = ConceptId(0x1000_0001);
+
+const BERLIN: ConceptId = ConceptId(0x2000_0000);
+
+const MUNICH: ConceptId = ConceptId(0x2000_0001);
+
+const PARIS: ConceptId = ConceptId(0x2000_0002);
+
+const MITTE: ConceptId = ConceptId(0x3000_0000);
+
+const BLUE: ConceptId = ConceptId(0x1000_0001);
+
+fn add_dim(alloc: Global, h: &mut Hierarchy, name: &str, levels: u8) -> Result<u8, DimFault>
+    ensures { OnOk result (length h.new ≡ length h.old + 1) }
+{
+    let Ok(name) = Name::from_bytes(alloc, name.as_bytes()) else {
+        return Err(DimFault::NoMemory);
+    };
+    h.add_dim(&name, levels)
+}
+
+fn add_concept(
+    alloc: Global,
+    h: &mut Hierarchy,
+    concept: &Concept,
+) -> Result<ConceptId, ConceptFault>
+    ensures { length h.new ≡ length h.old }
+{
+    let (dim, name, parent) = concept;
+    let Ok(name) = Name::from_bytes(alloc, name.as_bytes()) else {
+        return Err(ConceptFault::NoMemory);
+    };
+    h.add_concept(*dim, &name, *parent)
+}
+
+fn add_dims(alloc: Global, h: &mut Hierarchy, dims: &[(&str, u8)]) -> Result<(), DimFault>
+    ensures { OnOk result (length h.new ≡ length h.old + length dims.now) }
+{
+    for (name, levels) in dims {
+        add_dim(alloc, h, name, *levels)?;
+    }
+    Ok(())
+}
+
+fn add_concepts(alloc: Global, h: &mut Hierarchy, concepts: &[Concept]) -> Result<(), ConceptFault>
+    ensures { length h.new ≡ length h.old }
+{
+    for concept in concepts {
+        add_concept(alloc, h, concept)?;
+    }
+    Ok(())
+}
+
+fn fill(
+    alloc: Global,
+    h: &mut Hierarchy,
+    dims: &[(&str, u8)],
+    concepts: &[Concept],
+) -> Result<(), Fail>
+    ensures { OnOk result (length h.new ≡ length h.old + length dims.now) }
+{
+    add_dims(alloc, h, dims)?;
+    add_concepts(alloc, h, concepts)?;
+    Ok(())
+}
+
+fn hierarchy(alloc: Global, dims: &[(&str, u8)], concepts: &[Concept]) -> Result<Hierarchy, Fail>
+    ensures { IfOk result (λ h. length h ≡ length dims.now) }
+{
+    let mut h = Hierarchy::new(alloc);
+    fill(alloc, &mut h, dims, concepts)?;
+    Ok(h)
+}
+
+/// Three cities in their countries, and the colors red and blue.
+fn world(alloc: Global) -> Result<Hierarchy, Fail>
+    ensures { IfOk result (λ h. length h ≡ 2) }
+{
+    const CONCEPTS: [Concept; 7] = [
+        (0, "de", None),
+        (0, "fr", None),
+        (0, "berlin", Some(DE)),
+        (0, "munich", Some(DE)),
+        (0, "paris", Some(FR)),
+        (1, "red", None),
+        (1, "blue", None),
+    ];
+    hierarchy(alloc, &[("geo", 2), ("color", 1)], &CONCEPTS)
+}
+
+/// Two countries, two cities of one and a part of a city.
+fn towns(alloc: Global) -> Result<Hierarchy, Fail>
+    ensures { IfOk result (λ h. length h ≡ 1) }
+{
+    const CONCEPTS: [Concept; 5] = [
+        (0, "de", None),
+        (0, "fr", None),
+        (0, "berlin", Some(DE)),
+        (0, "munich", Some(DE)),
+        (0, "mitte", Some(BERLIN)),
+    ];
+    hierarchy(alloc, &[("geo", 3)], &CONCEPTS)
+}
 
 fn names(alloc: Global, texts: &[&str]) -> Result<Names, AllocError>
     ensures { IfOk result (λ names. length names ≡ length texts.now) }
@@ -19,45 +130,54 @@ fn names(alloc: Global, texts: &[&str]) -> Result<Names, AllocError>
     Ok(names)
 }
 
-fn any(alloc: Global, texts: &[&str]) -> Result<NamePick, AllocError>
-    requires { 0 < length texts.now }
+/// The coordinate of names, or the dimension of the first that is no leaf's; none without memory.
+fn coord(alloc: Global, h: &Hierarchy, texts: &[&str]) -> Result<Coord, Option<u8>>
+    requires { length texts.now ≡ length h.now }
+    ensures { IfOk result (IsCoordOf h.now) }
+{
+    let Ok(names) = names(alloc, texts) else {
+        return Err(None);
+    };
+    match h.coord(&names) {
+        Ok(at) => Ok(at),
+        Err(dim) => Err(Some(dim)),
+    }
+}
+
+/// A pick of these names, of all where there is none.
+fn pick(alloc: Global, texts: &[&str]) -> Result<NamePick, AllocError>
     ensures { IfOk result IsNamePick }
 {
+    if texts.is_empty() {
+        return Ok(NamePick::All);
+    }
     Ok(NamePick::Any(names(alloc, texts)?))
 }
 
-fn add_concept(
-    alloc: Global,
-    h: &mut Hierarchy,
-    dim: u8,
-    name: &str,
-    parent: Option<ConceptId>,
-) -> Result<ConceptId, ConceptFault> {
-    let Ok(name) = Name::from_bytes(alloc, name.as_bytes()) else {
-        return Err(ConceptFault::NoMemory);
-    };
-    h.add_concept(dim, &name, parent)
+fn picks(alloc: Global, lists: &[&[&str]]) -> Result<NameFilter, AllocError>
+    ensures count { IfOk result (λ picks. length picks ≡ length lists.now) }
+    ensures some { IfOk result (All IsNamePick) }
+{
+    let mut picks = NameFilter::new(alloc);
+    for texts in lists {
+        picks.push(pick(alloc, texts)?)?;
+    }
+    Ok(picks)
 }
 
-/// Three cities in their countries, and the colors red and blue.
-fn world(alloc: Global) -> Result<Hierarchy, Fail> {
-    let mut h = Hierarchy::new(alloc);
-    h.add_dim(&Name::from_bytes(alloc, b"geo")?, 2)?;
-    h.add_dim(&Name::from_bytes(alloc, b"color")?, 1)?;
-    let de = add_concept(alloc, &mut h, 0, "de", None)?;
-    let fr = add_concept(alloc, &mut h, 0, "fr", None)?;
-    add_concept(alloc, &mut h, 0, "berlin", Some(de))?;
-    add_concept(alloc, &mut h, 0, "munich", Some(de))?;
-    add_concept(alloc, &mut h, 0, "paris", Some(fr))?;
-    add_concept(alloc, &mut h, 1, "red", None)?;
-    add_concept(alloc, &mut h, 1, "blue", None)?;
-    Ok(h)
+fn filter(alloc: Global, h: &Hierarchy, lists: &[&[&str]]) -> Result<Filter, FilterFault>
+    requires { length lists.now ≡ length h.now }
+    ensures { IfOk result (IsFilterOf h.now) }
+{
+    let Ok(picks) = picks(alloc, lists) else {
+        return Err(FilterFault::NoMemory);
+    };
+    h.filter(alloc, &picks)
 }
 
 #[test]
-fn dimensions_are_added(rt: HostRuntime) -> Result<(), Fail> {
-    let mut h = Hierarchy::new(rt.alloc());
-    let rows = [
+fn dimensions_are_added(rt: HostRuntime) {
+    const CASES: [(&str, u8, Result<u8, DimFault>); 14] = [
         ("geo", 2, Ok(0)),
         ("geo", 2, Err(DimFault::Twice)),
         ("geo", 0, Err(DimFault::Twice)),
@@ -73,109 +193,157 @@ fn dimensions_are_added(rt: HostRuntime) -> Result<(), Fail> {
         ("i", 1, Err(DimFault::Full)),
         ("geo", 0, Err(DimFault::Full)),
     ];
-    for (name, levels, answer) in rows {
-        let name = Name::from_bytes(rt.alloc(), name.as_bytes())?;
-        assert_eq!(rt; h.add_dim(&name, levels), answer);
+    let alloc = rt.alloc();
+    let mut h = Hierarchy::new(alloc);
+    for (name, levels, answer) in &CASES {
+        assert_eq!(rt; add_dim(alloc, &mut h, name, *levels), *answer);
     }
-    assert_eq!(rt; h.find_dim(b"c"), Some(2));
-    assert_eq!(rt; h.find_dim(b"x"), None);
-    Ok(())
+    assert_eq!(rt;
+        (h.dims(), h.find_dim(b"c"), h.find_dim(b"x")),
+        (8, Some(2), None)
+    );
 }
 
 #[test]
 fn concepts_are_added(rt: HostRuntime) -> Result<(), Fail> {
-    let mut h = Hierarchy::new(rt.alloc());
-    h.add_dim(&Name::from_bytes(rt.alloc(), b"geo")?, 2)?;
-    let rows = [
-        (0, "de", None, Ok(ConceptId(0x1000_0000))),
-        (0, "berlin", Some(0x1000_0000), Ok(ConceptId(0x2000_0000))),
-        (0, "mitte", Some(0x2000_0000), Err(ConceptFault::TooDeep)),
-        (0, "de", Some(0x2000_0000), Err(ConceptFault::Twice)),
-        (0, "de", Some(0x1000_0001), Err(ConceptFault::NoParent)),
-        (1, "a", None, Err(ConceptFault::NoDim)),
-        (0, "fr", Some(0), Ok(ConceptId(0x1000_0001))),
-        (0, "paris", Some(0x1000_0001), Ok(ConceptId(0x2000_0001))),
+    const CASES: [(Concept, Result<ConceptId, ConceptFault>); 8] = [
+        ((0, "de", None), Ok(DE)),
+        ((0, "berlin", Some(DE)), Ok(BERLIN)),
+        ((0, "mitte", Some(BERLIN)), Err(ConceptFault::TooDeep)),
+        ((0, "de", Some(BERLIN)), Err(ConceptFault::Twice)),
+        ((0, "de", Some(FR)), Err(ConceptFault::NoParent)),
+        ((1, "a", None), Err(ConceptFault::NoDim)),
+        ((0, "fr", Some(ConceptId::ALL)), Ok(FR)),
+        ((0, "paris", Some(FR)), Ok(ConceptId(0x2000_0001))),
     ];
-    for (dim, name, parent, answer) in rows {
-        let parent = parent.map(|id: u32| ConceptId(id));
-        assert_eq!(rt; add_concept(rt.alloc(), &mut h, dim, name, parent), answer);
+    let alloc = rt.alloc();
+    let mut h = hierarchy(alloc, &[("geo", 2)], &[])?;
+    for (concept, answer) in &CASES {
+        assert_eq!(rt; add_concept(alloc, &mut h, concept), *answer);
     }
     assert_eq!(rt; h.concepts(), 4);
-    assert!(rt; h.is_leaf(0, ConceptId(0x2000_0001)));
-    assert!(rt; !h.is_leaf(0, ConceptId(0x1000_0001)));
-    assert!(rt; !h.is_leaf(1, ConceptId(0x2000_0001)));
-    assert_eq!(rt; h.find_bytes(0, b"paris"), Some(ConceptId(0x2000_0001)));
-    assert_eq!(rt; h.find_bytes(1, b"paris"), None);
+    Ok(())
+}
+
+#[test]
+fn leaves_are_told_and_names_found(rt: HostRuntime) -> Result<(), Fail> {
+    let h = world(rt.alloc())?;
+    let leaves = (h.is_leaf(0, PARIS), h.is_leaf(0, FR), h.is_leaf(1, PARIS));
+    let found = (h.find_bytes(0, b"paris"), h.find_bytes(1, b"paris"));
+    assert_eq!(rt;
+        (leaves, found),
+        ((true, false, false), (Some(PARIS), None))
+    );
     Ok(())
 }
 
 #[test]
 fn names_make_coordinates(rt: HostRuntime) -> Result<(), Fail> {
-    let h = world(rt.alloc())?;
-    let mut at = [ConceptId::ALL; 8];
-    at[0] = ConceptId(0x2000_0002);
-    at[1] = ConceptId(0x1000_0001);
-    let rows = [
-        (["paris", "blue"], Ok(Coord { at })),
-        (["de", "red"], Err(0)),
-        (["berlin", "green"], Err(1)),
-        (["rome", "green"], Err(0)),
+    const ALL: ConceptId = ConceptId::ALL;
+    const AT: [ConceptId; 8] = [PARIS, BLUE, ALL, ALL, ALL, ALL, ALL, ALL];
+    const CASES: [([&str; 2], Result<Coord, Option<u8>>); 4] = [
+        (["paris", "blue"], Ok(Coord { at: AT })),
+        (["de", "red"], Err(Some(0))),
+        (["berlin", "green"], Err(Some(1))),
+        (["rome", "green"], Err(Some(0))),
     ];
-    for (texts, answer) in rows {
-        let names = names(rt.alloc(), &texts)?;
-        assert_eq!(rt; names.len(), usize::from(h.dims()));
-        assert_eq!(rt; h.coord(&names), answer);
+    let alloc = rt.alloc();
+    let h = world(alloc)?;
+    for (texts, answer) in &CASES {
+        assert_eq!(rt; coord(alloc, &h, texts), *answer);
     }
     Ok(())
 }
 
+// The ids that are picked in the first dimension, where all are picked in the second.
+fn ids_of(filter: &Filter) -> Option<&[ConceptId]> {
+    match filter.as_slice() {
+        [Pick::Ids(ids), Pick::All] => Some(ids.as_slice()),
+        _ => None,
+    }
+}
+
 #[test]
 fn names_make_filters(rt: HostRuntime) -> Result<(), Fail> {
-    let h = world(rt.alloc())?;
-    assert_eq!(rt; h.dims(), 2);
-
-    let mut asked = NameFilter::new(rt.alloc());
-    asked.push(any(rt.alloc(), &["berlin", "de"])?)?;
-    asked.push(NamePick::All)?;
-    let filter = h.filter(rt.alloc(), &asked)?;
-    let [Pick::Ids(geo), Pick::All] = filter.as_slice() else {
-        return Err(Fail::from("other picks"));
-    };
-    assert_eq!(rt;
-        geo.as_slice(),
-        [ConceptId(0x2000_0000), ConceptId(0x1000_0000)].as_slice()
-    );
-
-    let mut unknown = NameFilter::new(rt.alloc());
-    unknown.push(any(rt.alloc(), &["de", "rome"])?)?;
-    unknown.push(any(rt.alloc(), &["green"])?)?;
-    assert_eq!(rt;
-        h.filter(rt.alloc(), &unknown).err(),
-        Some(FilterFault::Unknown { dim: 0 })
-    );
+    let alloc = rt.alloc();
+    let h = world(alloc)?;
+    let known = filter(alloc, &h, &[&["berlin", "de"], &[]])?;
+    assert_eq!(rt; ids_of(&known), Some([BERLIN, DE].as_slice()));
     Ok(())
 }
 
 #[test]
+fn an_unknown_name_makes_no_filter(rt: HostRuntime) -> Result<(), Fail> {
+    let alloc = rt.alloc();
+    let h = world(alloc)?;
+    let fault = filter(alloc, &h, &[&["de", "rome"], &["green"]]).err();
+    assert_eq!(rt; fault, Some(FilterFault::Unknown { dim: 0 }));
+    Ok(())
+}
+
+fn matches(alloc: Global, h: &Hierarchy, lists: &[&[&str]], at: &Coord) -> Result<bool, FilterFault>
+    requires lists { length lists.now ≡ length h.now }
+    requires at { IsCoordOf h.now at.now }
+{
+    Ok(h.matches(&filter(alloc, h, lists)?, at))
+}
+
+#[test]
 fn filters_match_what_is_under_a_pick(rt: HostRuntime) -> Result<(), Fail> {
-    let h = world(rt.alloc())?;
-    assert_eq!(rt; h.dims(), 2);
-    let at = names(rt.alloc(), &["berlin", "red"])?;
-    let Ok(at) = h.coord(&at) else {
+    const CASES: [([&[&str]; 2], bool); 4] = [
+        ([&["berlin", "de"], &["red"]], true),
+        ([&["paris", "fr", "de"], &["blue", "red"]], true),
+        ([&["de"], &["blue"]], false),
+        ([&["paris", "fr"], &["red"]], false),
+    ];
+    let alloc = rt.alloc();
+    let h = world(alloc)?;
+    let Ok(at) = coord(alloc, &h, &["berlin", "red"]) else {
         return Err(Fail::from("no coordinate"));
     };
-    let rows = [
-        (["berlin", "berlin", "de"], ["red", "red"], true),
-        (["paris", "fr", "de"], ["blue", "red"], true),
-        (["de", "de", "de"], ["blue", "blue"], false),
-        (["paris", "fr", "fr"], ["red", "red"], false),
+    for (lists, answer) in &CASES {
+        assert_eq!(rt; matches(alloc, &h, lists, &at), Ok(*answer));
+    }
+    Ok(())
+}
+
+fn compiled(alloc: Global, h: &Hierarchy, lists: &[&[&str]]) -> Result<CompiledFilter, FilterFault>
+    requires { length lists.now ≡ length h.now }
+    ensures { IfOk result (λ wanted. wanted.hierarchy ≡ h.now) }
+{
+    match h.compile(alloc, &filter(alloc, h, lists)?) {
+        Ok(wanted) => Ok(wanted),
+        Err(_) => Err(FilterFault::NoMemory),
+    }
+}
+
+// Whether the filter has a concept of the first dimension, and whether it meets it.
+fn marks(h: &Hierarchy, wanted: &CompiledFilter, id: ConceptId) -> Option<(bool, bool)>
+    requires some { 0 < length h.now }
+    requires same { wanted.now.hierarchy ≡ h.now }
+{
+    if !h.has(0, id) {
+        return None;
+    }
+    Some((wanted.has(0, id), wanted.meets(0, id)))
+}
+
+#[test]
+fn marks_tell_under_above_and_apart(rt: HostRuntime) -> Result<(), Fail> {
+    const CASES: [(ConceptId, Option<(bool, bool)>); 7] = [
+        (ConceptId::ALL, Some((false, true))),
+        (DE, Some((false, true))),
+        (FR, Some((false, false))),
+        (BERLIN, Some((true, true))),
+        (MUNICH, Some((false, false))),
+        (MITTE, Some((true, true))),
+        (ConceptId(0x3000_0001), None),
     ];
-    for (geo, color, answer) in rows {
-        let mut asked = NameFilter::new(rt.alloc());
-        asked.push(any(rt.alloc(), &geo)?)?;
-        asked.push(any(rt.alloc(), &color)?)?;
-        let filter = h.filter(rt.alloc(), &asked)?;
-        assert_eq!(rt; h.matches(&filter, &at), answer);
+    let alloc = rt.alloc();
+    let h = towns(alloc)?;
+    let wanted = compiled(alloc, &h, &[&["berlin"]])?;
+    for (id, answer) in &CASES {
+        assert_eq!(rt; marks(&h, &wanted, *id), *answer);
     }
     Ok(())
 }
