@@ -1,13 +1,14 @@
-ghost use Rattle.std.specs.Prelude.{◌≡◌, ◌<◌, length, IfOk};
+ghost use Rattle.std.specs.Prelude.{◌≡◌, ◌<◌, [], length, IfOk, OnOk};
 ghost use Rattle.dim_hierarchy.specs.Row.{IsCoordOf};
 ghost use Rattle.dim_hierarchy.specs.Filter.{IsFilterOf};
 ghost use Rattle.server_image.specs.Spots.{AreBoxes};
 ghost use Rattle.server_image.specs.Image.{AreGrowths};
 
 use crate::{Image, Registry};
-use describing_set::{DescSet, Listing, Path};
+use describing_set::{DescSet, Path, Spot};
 use dim_hierarchy::{Coord, Filter, Hierarchy, Name, NameFilter, NamePick, Names};
 use std::alloc::{AllocError, Global};
+use std::process::Abort;
 use std::test::Fail;
 
 /// One dimension of one level, with a concept for each letter.
@@ -47,13 +48,14 @@ fn asks(alloc: Global, h: &Hierarchy, letter: u8) -> Result<Filter, Fail>
     Ok(h.filter(alloc, &picks)?)
 }
 
-/// The ids of a listing.
-fn ids(alloc: Global, listing: &Listing) -> Result<Vec<u32>, Fail> {
+/// Compares the ids of shards that are listed.
+fn expect_ids<R: Abort>(rt: &R, alloc: Global, spots: &[Spot], wanted: &[u32]) -> Result<(), Fail> {
     let mut ids = Vec::new(alloc);
-    for spot in listing.as_slice() {
+    for spot in spots {
         ids.push(spot.shard)?;
     }
-    Ok(ids)
+    assert_eq!(rt; ids.as_slice(), wanted);
+    Ok(())
 }
 
 /// The path of a shard that was routed to and took the row.
@@ -65,41 +67,152 @@ fn path(alloc: Global, shard: u32) -> Result<Path, Fail>
     Ok(path)
 }
 
+/// A new image of the registry's shards.
+fn opened(alloc: Global, registry: &Registry, h: &Hierarchy) -> Result<Image, Fail>
+    requires { AreBoxes h.now registry.now.frontier }
+    ensures boxes { IfOk result (λ image. AreBoxes h.now image.spots) }
+    ensures growths { IfOk result (λ image. image.growths ≡ []) }
+{
+    Ok(Image::new(alloc, registry.frontier(alloc)?))
+}
+
+/// Compares the ids of the shards that a query for `a` asks.
+fn expect_asked<R: Abort>(
+    rt: &R,
+    alloc: Global,
+    image: &Image,
+    h: &Hierarchy,
+    wanted: &[u32],
+) -> Result<(), Fail>
+    requires dims { length h.now ≡ 1 }
+    requires boxes { AreBoxes h.now image.now.spots }
+{
+    let filter = asks(alloc, h, b'a')?;
+    let listing = image.plan(alloc, &filter, h)?;
+    expect_ids(rt, alloc, listing.as_slice(), wanted)
+}
+
+/// A row that goes through an image that has noted no growth, and that owes an acknowledgement more;
+/// the place to which it goes.
+fn take(alloc: Global, image: &mut Image, at: &Coord, h: &Hierarchy) -> Result<usize, Fail>
+    requires at { IsCoordOf h.now at.now }
+    requires boxes { AreBoxes h.now image.old.spots }
+    requires growths { image.old.growths ≡ [] }
+    ensures boxes { OnOk result (AreBoxes h.now image.new.spots) }
+    ensures growths { OnOk result (AreGrowths h.now image.new.growths) }
+{
+    image.begin()?;
+    image.begin()?;
+    let place = image.route(at, h);
+    image.acked(&path(alloc, 0)?, at, h);
+    Ok(place)
+}
+
+/// The box of a shard grows in the image through which the row went, and in no other.
+fn grows<R: Abort>(
+    rt: &R,
+    alloc: Global,
+    near: &mut Image,
+    far: &Image,
+    h: &Hierarchy,
+) -> Result<(), Fail>
+    requires dims { length h.now ≡ 1 }
+    requires near { AreBoxes h.now near.old.spots }
+    requires growths { near.old.growths ≡ [] }
+    requires far { AreBoxes h.now far.now.spots }
+    ensures boxes { OnOk result (AreBoxes h.now near.new.spots) }
+    ensures growths { OnOk result (AreGrowths h.now near.new.growths) }
+{
+    expect_asked(rt, alloc, near, h, &[])?;
+    assert_eq!(rt; take(alloc, near, &at(alloc, h, b'a')?, h)?, 0);
+    expect_asked(rt, alloc, near, h, &[0])?;
+    expect_asked(rt, alloc, far, h, &[])
+}
+
+/// What is owed stays when an image pulls, until it is given up.
+fn pushes<R: Abort>(
+    rt: &R,
+    alloc: Global,
+    near: &mut Image,
+    registry: &mut Registry,
+    h: &Hierarchy,
+) -> Result<(), Fail>
+    requires boxes { AreBoxes h.now registry.old.frontier }
+    requires growths { AreGrowths h.now near.old.growths }
+    ensures { OnOk result (AreBoxes h.now registry.new.frontier) }
+{
+    let pulled = near.sync(alloc, registry, h)?;
+    expect_ids(rt, alloc, pulled.as_slice(), &[0, 1])?;
+    assert_eq!(rt; near.owed(), 1);
+    near.forgo();
+    assert_eq!(rt; near.owed(), 0);
+    Ok(())
+}
+
+/// The grown box comes to an image that pulls.
+fn pulls<R: Abort>(
+    rt: &R,
+    alloc: Global,
+    far: &mut Image,
+    registry: &mut Registry,
+    h: &Hierarchy,
+) -> Result<(), Fail>
+    requires dims { length h.now ≡ 1 }
+    requires boxes { AreBoxes h.now registry.old.frontier }
+    requires growths { far.old.growths ≡ [] }
+{
+    let pulled = far.sync(alloc, registry, h)?;
+    assert_eq!(rt; pulled.as_slice(), far.spots());
+    expect_asked(rt, alloc, far, h, &[0])
+}
+
 #[test]
 fn a_pull_brings_the_boxes_to_another_server(rt: HostRuntime) -> Result<(), Fail> {
     let alloc = rt.alloc();
     let h = hierarchy(alloc, b"ab")?;
-    let wanted = asks(alloc, &h, b'a')?;
     let mut registry = Registry::new(alloc, 2, &h)?;
-    let opening = registry.frontier(alloc)?;
-    assert_eq!(rt; ids(alloc, &opening)?.as_slice(), [0, 1].as_slice());
-    let mut near = Image::new(alloc, opening);
-    let mut far = Image::new(alloc, registry.frontier(alloc)?);
-    assert!(rt; near.plan(alloc, &wanted, &h)?.is_empty());
+    let mut near = opened(alloc, &registry, &h)?;
+    let mut far = opened(alloc, &registry, &h)?;
+    expect_ids(&rt, alloc, near.spots(), &[0, 1])?;
+    grows(&rt, alloc, &mut near, &far, &h)?;
+    pushes(&rt, alloc, &mut near, &mut registry, &h)?;
+    pulls(&rt, alloc, &mut far, &mut registry, &h)
+}
 
-    near.begin()?;
-    near.begin()?;
-    let place = at(alloc, &h, b'a')?;
-    assert_eq!(rt; near.route(&place, &h), 0);
-    near.acked(&path(alloc, 0)?, &place, &h);
-    assert_eq!(rt;
-        ids(alloc, &near.plan(alloc, &wanted, &h)?)?.as_slice(),
-        [0].as_slice()
-    );
-    assert!(rt; far.plan(alloc, &wanted, &h)?.is_empty());
+/// The box of a letter.
+fn box_of(alloc: Global, h: &Hierarchy, letter: u8) -> Result<DescSet, Fail>
+    requires { length h.now ≡ 1 }
+{
+    Ok(DescSet::of_coord(h, &at(alloc, h, letter)?))
+}
 
-    let pulled = near.sync(alloc, &mut registry, &h)?;
-    assert_eq!(rt; ids(alloc, &pulled)?.as_slice(), [0, 1].as_slice());
-    assert_eq!(rt; near.owed(), 1);
-    near.forgo();
-    assert_eq!(rt; near.owed(), 0);
+/// The first shard stands until two new ones take its place.
+fn split_first<R: Abort>(
+    rt: &R,
+    registry: &mut Registry,
+    left: DescSet,
+    right: DescSet,
+) -> Result<(), Fail> {
+    assert!(rt; registry.on_frontier(0));
+    assert!(rt; registry.host(2).is_none());
+    assert!(rt; registry.host(3).is_none());
+    registry.split(0, 2, left, 3, right)?;
+    assert!(rt; !registry.on_frontier(0));
+    Ok(())
+}
 
-    let pulled = far.sync(alloc, &mut registry, &h)?;
-    assert_eq!(rt; pulled.as_slice(), far.spots());
-    assert_eq!(rt;
-        ids(alloc, &far.plan(alloc, &wanted, &h)?)?.as_slice(),
-        [0].as_slice()
-    );
+/// The frontier's shards, and the box of the second.
+fn standing<R: Abort>(
+    rt: &R,
+    alloc: Global,
+    registry: &Registry,
+    second: DescSet,
+) -> Result<(), Fail> {
+    let frontier = registry.frontier(alloc)?;
+    let spots = frontier.as_slice();
+    expect_ids(rt, alloc, spots, &[1, 2, 3])?;
+    assert_eq!(rt; spots.len(), 3);
+    assert_eq!(rt; spots[1].set, second);
     Ok(())
 }
 
@@ -110,24 +223,10 @@ fn two_shards_stand_in_the_place_of_one(rt: HostRuntime) -> Result<(), Fail> {
     let mut registry = Registry::new(alloc, 2, &h)?;
     assert!(rt; registry.on_frontier(1));
     registry.rehost(1, 0);
-    assert!(rt; registry.on_frontier(0));
-    assert!(rt; registry.host(2).is_none());
-    assert!(rt; registry.host(3).is_none());
-    let left = DescSet::of_coord(&h, &at(alloc, &h, b'a')?);
-    let right = DescSet::of_coord(&h, &at(alloc, &h, b'b')?);
-    registry.split(0, 2, left.copy(), 3, right)?;
-    let frontier = registry.frontier(alloc)?;
-    assert_eq!(rt; ids(alloc, &frontier)?.as_slice(), [1, 2, 3].as_slice());
-    assert!(rt; !registry.on_frontier(0));
-    let hosts = [
-        registry.host(0),
-        registry.host(1),
-        registry.host(2),
-        registry.host(4),
-    ];
+    let left = box_of(alloc, &h, b'a')?;
+    let right = box_of(alloc, &h, b'b')?;
+    split_first(&rt, &mut registry, left.copy(), right)?;
+    let hosts = [0, 1, 2, 4].map(|id| registry.host(id));
     assert_eq!(rt; hosts, [Some(0), Some(0), Some(0), None]);
-    let boxes = frontier.as_slice();
-    assert_eq!(rt; boxes.len(), 3);
-    assert_eq!(rt; boxes[1].set, left);
-    Ok(())
+    standing(&rt, alloc, &registry, left)
 }
