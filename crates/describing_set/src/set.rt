@@ -8,7 +8,7 @@ ghost use Rattle.dim_hierarchy.specs.Filter.{IsFilterOf, Matches};
 use crate::few::FewConcepts;
 use crate::part::Part;
 use arrayvec::ArrayVec;
-use dim_hierarchy::{CompiledFilter, Coord, Filter, Hierarchy};
+use dim_hierarchy::{CompiledFilter, Coord, CoordLineages, Filter, Hierarchy};
 
 /// A part for each dimension. No call on sets takes memory.
 #[derive(Debug, Default, Drop, PartialEq)]
@@ -78,16 +78,17 @@ impl DescSet {
     }
 
     /// Whether in each dimension the coordinate's ancestor at the set's level is in the set.
-    pub fn covers(&self, h: &Hierarchy, at: &Coord) -> bool
+    pub fn covers(&self, h: &Hierarchy, at: &CoordLineages) -> bool
         requires set { IsDescSetOf h.now self.now }
-        requires at { IsCoordOf h.now at.now }
-        ensures test { result ≡ covers h.now self.now at.now }
-        ensures meaning { IsTrue result ↔ Covers h.now self.now at.now }
+        requires at { at.now.hierarchy ≡ h.now }
+        ensures test { result ≡ covers h.now self.now at.now.coord }
+        ensures meaning { IsTrue result ↔ Covers h.now self.now at.now.coord }
         ensures members { (rows : List Coord)
-            → IsSetOf h.now rows self.now → Contains rows at.now → IsTrue result }
+            → IsSetOf h.now rows self.now → Contains rows at.now.coord → IsTrue result }
     {
+        at.law();
         for dim in 0..h.dims() {
-            if !self.part(h, dim).covers(h, dim, at.concept(dim)) {
+            if !self.part(h, dim).covers(h, dim, at) {
                 return false;
             }
         }
@@ -173,14 +174,14 @@ impl DescSet {
     }
 
     /// In how many dimensions the coordinate is not covered.
-    pub fn growth(&self, h: &Hierarchy, at: &Coord) -> u32
+    pub fn growth(&self, h: &Hierarchy, at: &CoordLineages) -> u32
         requires set { IsDescSetOf h.now self.now }
-        requires at { IsCoordOf h.now at.now }
-        ensures { result ≡ growth_of h.now self.now at.now }
+        requires at { at.now.hierarchy ≡ h.now }
+        ensures { result ≡ growth_of h.now self.now at.now.coord }
     {
         let mut growth = 0;
         for dim in 0..h.dims() {
-            if !self.part(h, dim).covers(h, dim, at.concept(dim)) {
+            if !self.part(h, dim).covers(h, dim, at) {
                 growth += 1;
             }
         }
