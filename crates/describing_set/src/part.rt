@@ -12,7 +12,7 @@ use crate::picks::{is_met, is_picked};
 use dim_hierarchy::{CompiledFilter, ConceptId, CoordLineages, Hierarchy, Pick};
 
 /// One dimension of a describing set: a level, and at most 6 concepts of it, ascending.
-#[derive(Debug, Default, Drop, PartialEq)]
+#[derive(Clone, Copy, Debug, Default, Drop, PartialEq)]
 pub struct Part {
     pub level: u8,
     pub ids: FewConcepts,
@@ -21,16 +21,6 @@ pub struct Part {
 impl Part {
     ghost use Rattle.describing_set.specs.Part.{IsPart, GrowsPart, JoinsParts, ancestors, has_ancestor};
     ghost use Rattle.describing_set.specs.Filter.{is_part_inside, is_part_met};
-
-    /// The same part, without taking memory.
-    pub(crate) fn copy(&self) -> Part
-        ensures { result ≡ self.now }
-    {
-        Part {
-            level: self.level,
-            ids: self.ids,
-        }
-    }
 
     /// Each concept becomes its parent.
     fn lift(&mut self, h: &Hierarchy, dim: u8)
@@ -80,7 +70,7 @@ impl Part {
         requires level { self.now.level ≤ deeper.now.level }
         ensures { JoinsParts (tree h.now dim) self.now deeper.now result }
     {
-        let mut part = self.copy();
+        let mut part = *self;
         for id in deeper.ids.as_slice() {
             part.add(h, dim, *id);
         }

@@ -7,13 +7,13 @@ ghost use Rattle.dim_hierarchy.specs.Filter.{IsFilterOf, Matches};
 
 use crate::few::FewConcepts;
 use crate::part::Part;
-use arrayvec::ArrayVec;
+use crate::part_list::PartList;
 use dim_hierarchy::{CompiledFilter, Coord, CoordLineages, Filter, Hierarchy};
 
 /// A part for each dimension. No call on sets takes memory.
 #[derive(Debug, Default, Drop, PartialEq)]
 pub struct DescSet {
-    pub parts: ArrayVec<Part, 8>,
+    pub parts: PartList,
 }
 
 impl DescSet {
@@ -28,7 +28,7 @@ impl DescSet {
         ensures set_of { IsSetOf h.now [] result }
         ensures valid { IsDescSetOf h.now result }
     {
-        let mut parts = ArrayVec::new();
+        let mut parts = PartList::new();
         for dim in 0..h.dims() {
             parts.push(Part {
                 level: h.levels(dim),
@@ -57,9 +57,8 @@ impl DescSet {
         ensures grown { GrowsBy h.now at.now self.old self.new }
         ensures valid { IsDescSetOf h.now self.new }
     {
-        let parts = self.parts.as_mut_slice();
         for dim in 0..h.dims() {
-            parts[usize::from(dim)].add(h, dim, at.concept(dim));
+            self.parts.add(h, dim, at.concept(dim));
         }
     }
 
@@ -70,7 +69,7 @@ impl DescSet {
         ensures joined { JoinsTo h.now self.now other.now result }
         ensures valid { IsDescSetOf h.now result }
     {
-        let mut parts = ArrayVec::new();
+        let mut parts = PartList::new();
         for dim in 0..h.dims() {
             parts.push(self.part(h, dim).join(h, dim, other.part(h, dim)));
         }
@@ -206,11 +205,7 @@ impl DescSet {
     pub fn copy(&self) -> DescSet
         ensures { result ≡ self.now }
     {
-        let mut parts = ArrayVec::new();
-        for part in self.parts.as_slice() {
-            parts.push(part.copy());
-        }
-        DescSet { parts }
+        DescSet { parts: self.parts }
     }
 
     /// Laws of sets, with no code: what the set of some coordinates is, that it depends on which of
