@@ -102,8 +102,8 @@ fn part(level: u8, numbers: &[u32]) -> Part {
 /// A set of two dimensions.
 fn set_of(first: Part, second: Part) -> DescSet {
     let mut set = DescSet::default();
-    let _room = set.parts.try_push(first);
-    let _room = set.parts.try_push(second);
+    set.parts.push(first);
+    set.parts.push(second);
     set
 }
 

@@ -5,3 +5,4 @@ pub mod Covering
 pub mod Filters
 pub mod Laws
 pub mod Membership
+pub mod Filled

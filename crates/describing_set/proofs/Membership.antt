@@ -53,34 +53,6 @@ any-six (a ∷ b ∷ c ∷ d ∷ []) id l = absurd (omega arith)
 any-six (a ∷ b ∷ c ∷ d ∷ e ∷ []) id l = absurd (omega arith)
 any-six (a ∷ b ∷ c ∷ d ∷ e ∷ f ∷ g ∷ xs) id l = absurd (omega arith)
 
--- One place more is used.
-
-set-filled : (used : List ℕ) (k x : ℕ) → set (used ++ replicate (suc k) no_concept) (length used) x ≡ used ++ x ∷ replicate k no_concept
-set-filled [] k x = refl
-set-filled (y ∷ ys) k x = ap (λ l. y ∷ l) (set-filled ys k x)
-
-pub AreFew-more : (n x : ℕ) (xs : List ℕ) → AreFew n xs → n < 6 → AreFew (n + 1) (set xs n x)
-AreFew-more n x xs f lt =
-    let six = f.six in
-    let more : take (n + 1) (set xs n x) ≡ take n xs ++ x ∷ [] = take_more_set xs n x (omega arith) in
-    let used = f.used in
-    let long : length (take n xs ++ x ∷ []) ≡ n + 1 = length-append (take n xs) (x ∷ []) ∙ ap (λ k. k + 1) used in
-    let k : 6 - length (take n xs) ≡ suc (5 - n) = omega arith in
-    let filled : take n xs ++ replicate (suc (5 - n)) no_concept ≡ xs = ap (λ j. take n xs ++ replicate j no_concept) (sym k) ∙ f.unused in
-    let placed : set xs n x ≡ take n xs ++ x ∷ replicate (5 - n) no_concept =
-    ap (λ l. set l n x) (sym filled) ∙ ap (λ j. set (take n xs ++ replicate (suc (5 - n)) no_concept) j x) (sym used) ∙ set-filled (take n xs) (5 - n) x in
-    record {
-      few = omega arith;
-      six = length-set xs n x ∙ six;
-      used = ap length more ∙ long;
-      unused =
-          ap (λ l. l ++ replicate (6 - length l) no_concept) more
-          ∙ ap (λ j. (take n xs ++ x ∷ []) ++ replicate (6 - j) no_concept) long
-          ∙ ap (λ j. (take n xs ++ x ∷ []) ++ replicate j no_concept) (let e : 6 - (n + 1) ≡ 5 - n = omega arith in e)
-          ∙ append_assoc (take n xs) (x ∷ []) (replicate (5 - n) no_concept)
-          ∙ sym placed;
-    }
-
 -- a number of ascending ones is no number more
 pub with_id-member : (x : ℕ) (ys : List ℕ) → Ascends ys → In x ys → with_id x ys ≡ ys
 with_id-member x [] a i = absurd i

@@ -4,8 +4,6 @@ use Rattle.std.specs.Prelude.{All as Each}
 use Rattle.std.proofs.lemmas.List.{get_or_default, get_or-set_same, get_or-set_other, length-set}
 use Rattle.std.proofs.lemmas.List.Elements.{All-head, All-tail, All-cons, All-nil, All-append}
 use Rattle.std.proofs.lemmas.Bool.{cases_lt}
-use Rattle.arrayvec.specs.ArrayVec.{with_items}
-use Rattle.arrayvec.proofs.ArrayVecLemmas.{items-with_items}
 use Rattle.dim_hierarchy.specs.Concept.{level_of}
 use Rattle.dim_hierarchy.specs.Tree.{Tree, IsConcept, IsLeaf, leaf_level}
 use Rattle.dim_hierarchy.specs.Dimension.{Dimension, tree, IsHierarchy}
@@ -14,7 +12,7 @@ use Rattle.dim_hierarchy.specs.declared.row.Coord.{Coord}
 use Rattle.describing_set.specs.Ascending.{In}
 use Rattle.describing_set.specs.declared.part.Part.{Part}
 use Rattle.describing_set.specs.declared.set.DescSet.{DescSet}
-use Rattle.describing_set.specs.Part.{part, part_of, AreConcepts, IsPart, GrowsPart, JoinsParts}
+use Rattle.describing_set.specs.Part.{part, part_of, AreConcepts, IsPart, GrowsPart, PartGrows, JoinsParts}
 use Rattle.describing_set.specs.DescSet.{part_at, column, IsSetOf, IsDescSetOf, GrowsBy, JoinsTo}
 use Rattle.describing_set.proofs.Sorted.{All-from_In}
 use Rattle.describing_set.proofs.Parts.{deepest, part_from-few, part_from-IsPart}
@@ -117,37 +115,28 @@ pub record Growing (h : List Dimension) (at : Coord) (start now : List Part) (di
   pub done : (k : ℕ) → k < dim → GrowsPart (tree h k) (concept_at at k) (get_or start k (part 0 [])) (get_or now k (part 0 []))
   pub rest : (k : ℕ) → dim ≤ k → get_or now k (part 0 []) ≡ get_or start k (part 0 [])
 
--- a part that the loop has not reached
-pub untouched : (h : List Dimension) (at : Coord) (start now items : List Part) (i dim : ℕ) (r : Part) → i ≡ dim → start ≡ items → dim < length now → Growing h at start now dim → get_or now i r ≡ get_or items dim (part 0 [])
-untouched h at start now items i dim r e s lt g =
-    ap (λ k. get_or now k r) e ∙ get_or_default now dim r (part 0 []) lt ∙ g.rest dim (omega arith) ∙ ap (λ xs. get_or xs dim (part 0 [])) s
+pub Growing-next : (h : List Dimension) (at : Coord) (start now next : List Part) (dim id : ℕ) → id ≡ concept_at at dim → dim < length now → Growing h at start now dim → PartGrows (tree h dim) dim id now next → Growing h at start next (dim + 1)
+Growing-next h at start now next dim id q lt g one =
+    subst (λ xs. Growing h at start xs (dim + 1)) (sym one.new_is) (record {
+      count = length-set now dim one.now ∙ g.count;
+      done = λ k less. elim (cases_lt k dim) [
+        | inl b ↦
+            let ne : k ≢ dim = omega arith in
+            subst (GrowsPart (tree h k) (concept_at at k) (get_or start k (part 0 []))) (sym (get_or-set_other now dim k one.now (part 0 []) ne)) (g.done k b)
+        | inr b ↦
+            let is : dim ≡ k = omega arith in
+            let old : get_or now dim (part 0 []) ≡ get_or start dim (part 0 []) = g.rest dim (omega arith) in
+            let grown : GrowsPart (tree h dim) (concept_at at dim) (get_or start dim (part 0 [])) one.now
+            = subst (λ x. GrowsPart (tree h dim) x (get_or start dim (part 0 [])) one.now) q (subst (λ o. GrowsPart (tree h dim) id o one.now) old one.grown) in
+            let here : GrowsPart (tree h dim) (concept_at at dim) (get_or start dim (part 0 [])) (get_or (set now dim one.now) dim (part 0 []))
+            = subst (GrowsPart (tree h dim) (concept_at at dim) (get_or start dim (part 0 []))) (sym (get_or-set_same now dim one.now (part 0 []) lt)) grown in
+            subst (λ j. GrowsPart (tree h j) (concept_at at j) (get_or start j (part 0 [])) (get_or (set now dim one.now) j (part 0 []))) is here
+      ];
+      rest = λ k le.
+          let ne : k ≢ dim = omega arith in
+          let more : dim ≤ k = omega arith in
+          get_or-set_other now dim k one.now (part 0 []) ne ∙ g.rest k more;
+    })
 
-pub Growing-next : (h : List Dimension) (at : Coord) (start now : List Part) (i dim id : ℕ) (r new : Part) → i ≡ dim → id ≡ concept_at at dim → dim < length now → Growing h at start now dim → GrowsPart (tree h dim) id (get_or now i r) new → Growing h at start (set now i new) (dim + 1)
-Growing-next h at start now i dim id r new e q lt g one = record {
-  count = length-set now i new ∙ g.count;
-  done = λ k less. elim (cases_lt k dim) [
-    | inl b ↦
-        let ne : k ≢ i = omega arith in
-        subst (GrowsPart (tree h k) (concept_at at k) (get_or start k (part 0 []))) (sym (get_or-set_other now i k new (part 0 []) ne)) (g.done k b)
-    | inr b ↦
-        let k_is : k ≡ dim = omega arith in
-        let k_i : k ≡ i = omega arith in
-        let il : i < length now = omega arith in
-        let old : get_or now i r ≡ get_or start k (part 0 []) = untouched h at start now start i dim r e refl lt g ∙ ap (λ j. get_or start j (part 0 [])) (sym k_is) in
-        let same : new ≡ get_or (set now i new) k (part 0 []) = sym (get_or-set_same now i new (part 0 []) il) ∙ ap (λ j. get_or (set now i new) j (part 0 [])) (sym k_i) in
-        let a : GrowsPart (tree h k) id (get_or now i r) new = subst (λ j. GrowsPart (tree h j) id (get_or now i r) new) (sym k_is) one in
-        let b : GrowsPart (tree h k) (concept_at at k) (get_or now i r) new = subst (λ x. GrowsPart (tree h k) x (get_or now i r) new) (q ∙ ap (λ j. concept_at at j) (sym k_is)) a in
-        let c : GrowsPart (tree h k) (concept_at at k) (get_or start k (part 0 [])) new = subst (λ o. GrowsPart (tree h k) (concept_at at k) o new) old b in
-        subst (GrowsPart (tree h k) (concept_at at k) (get_or start k (part 0 []))) same c
-  ];
-  rest = λ k le.
-      let ne : k ≢ i = omega arith in
-      let more : dim ≤ k = omega arith in
-      get_or-set_other now i k new (part 0 []) ne ∙ g.rest k more;
-}
-
-pub grown_parts : (h : List Dimension) (at : Coord) (old : DescSet) (start now : List Part) (dim : ℕ) → start ≡ old.parts.items → Growing h at start now dim → length h ≤ dim → GrowsBy h at old (record { parts = with_items old.parts now })
-grown_parts h at old start now dim e g le =
-    let k : Growing h at old.parts.items now dim = subst (λ xs. Growing h at xs now dim) e g in
-    subst (λ xs. GrowsBy h at old (record { parts = record { items = xs } })) (sym (items-with_items old.parts now k.count))
-    (grown_set h at old (record { parts = record { items = now } }) k.count (λ j lt. k.done j (omega arith)))
+pub grown_parts : (h : List Dimension) (at : Coord) (old new : DescSet) (dim : ℕ) → Growing h at old.parts.items new.parts.items dim → length h ≤ dim → GrowsBy h at old new
+grown_parts h at old new dim g le = grown_set h at old new g.count (λ j lt. g.done j (omega arith))

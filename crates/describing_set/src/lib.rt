@@ -5,6 +5,7 @@
 mod few;
 mod listing;
 mod part;
+mod part_list;
 mod picks;
 mod plane;
 mod set;
@@ -14,5 +15,6 @@ mod tests;
 pub use few::FewConcepts;
 pub use listing::{Listing, Path, Spot};
 pub use part::Part;
+pub use part_list::PartList;
 pub use plane::{Plane, goes_left, plane_of};
 pub use set::DescSet;

@@ -1,17 +1,18 @@
 ghost use Rattle.std.specs.Prelude.{◌≡◌, ◌<◌, ◌≤◌, ◌-◌, length, All};
 ghost use Rattle.dim_hierarchy.specs.Concept.{level_of};
-ghost use Rattle.dim_hierarchy.specs.Tree.{IsConcept};
+ghost use Rattle.dim_hierarchy.specs.Tree.{IsConcept, leaf_level};
 ghost use Rattle.dim_hierarchy.specs.Dimension.{tree, IsHierarchy};
+ghost use Rattle.dim_hierarchy.specs.Row.{concept_at};
 ghost use Rattle.dim_hierarchy.specs.Filter.{IsPickOf, pick_at};
 ghost use Rattle.dim_hierarchy.specs.Compiled.{is_related};
 ghost use Rattle.std.specs.List.{list_any};
 
 use crate::few::FewConcepts;
 use crate::picks::{is_met, is_picked};
-use dim_hierarchy::{CompiledFilter, ConceptId, Hierarchy, Pick};
+use dim_hierarchy::{CompiledFilter, ConceptId, CoordLineages, Hierarchy, Pick};
 
 /// One dimension of a describing set: a level, and at most 6 concepts of it, ascending.
-#[derive(Debug, Default, Drop, PartialEq)]
+#[derive(Clone, Copy, Debug, Default, Drop, PartialEq)]
 pub struct Part {
     pub level: u8,
     pub ids: FewConcepts,
@@ -20,16 +21,6 @@ pub struct Part {
 impl Part {
     ghost use Rattle.describing_set.specs.Part.{IsPart, GrowsPart, JoinsParts, ancestors, has_ancestor};
     ghost use Rattle.describing_set.specs.Filter.{is_part_inside, is_part_met};
-
-    /// The same part, without taking memory.
-    pub(crate) fn copy(&self) -> Part
-        ensures { result ≡ self.now }
-    {
-        Part {
-            level: self.level,
-            ids: self.ids,
-        }
-    }
 
     /// Each concept becomes its parent.
     fn lift(&mut self, h: &Hierarchy, dim: u8)
@@ -79,7 +70,7 @@ impl Part {
         requires level { self.now.level ≤ deeper.now.level }
         ensures { JoinsParts (tree h.now dim) self.now deeper.now result }
     {
-        let mut part = self.copy();
+        let mut part = *self;
         for id in deeper.ids.as_slice() {
             part.add(h, dim, *id);
         }
@@ -101,15 +92,14 @@ impl Part {
         }
     }
 
-    /// Whether the concept's ancestor at the part's level is in the part.
-    pub(crate) fn covers(&self, h: &Hierarchy, dim: u8, id: ConceptId) -> bool
-        requires hierarchy { IsHierarchy h.now }
+    /// Whether the ancestor of a coordinate's concept at the part's level is in the part.
+    pub(crate) fn covers(&self, h: &Hierarchy, dim: u8, at: &CoordLineages) -> bool
         requires dim { dim < length h.now }
-        requires concept { IsConcept (tree h.now dim) id }
-        requires level { self.now.level ≤ level_of id }
-        ensures { result ≡ has_ancestor (tree h.now dim) self.now id }
+        requires at { at.now.hierarchy ≡ h.now }
+        requires level { self.now.level ≤ leaf_level (tree h.now dim) }
+        ensures { result ≡ has_ancestor (tree h.now dim) self.now (concept_at at.now.coord dim) }
     {
-        self.ids.has(h.up(dim, id, self.level))
+        self.ids.has(at.up(dim, self.level))
     }
 
     /// Whether the pick has each concept of the part.

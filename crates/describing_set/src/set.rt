@@ -7,13 +7,13 @@ ghost use Rattle.dim_hierarchy.specs.Filter.{IsFilterOf, Matches};
 
 use crate::few::FewConcepts;
 use crate::part::Part;
-use arrayvec::ArrayVec;
-use dim_hierarchy::{CompiledFilter, Coord, Filter, Hierarchy};
+use crate::part_list::PartList;
+use dim_hierarchy::{CompiledFilter, Coord, CoordLineages, Filter, Hierarchy};
 
 /// A part for each dimension. No call on sets takes memory.
 #[derive(Debug, Default, Drop, PartialEq)]
 pub struct DescSet {
-    pub parts: ArrayVec<Part, 8>,
+    pub parts: PartList,
 }
 
 impl DescSet {
@@ -28,7 +28,7 @@ impl DescSet {
         ensures set_of { IsSetOf h.now [] result }
         ensures valid { IsDescSetOf h.now result }
     {
-        let mut parts = ArrayVec::new();
+        let mut parts = PartList::new();
         for dim in 0..h.dims() {
             parts.push(Part {
                 level: h.levels(dim),
@@ -57,9 +57,8 @@ impl DescSet {
         ensures grown { GrowsBy h.now at.now self.old self.new }
         ensures valid { IsDescSetOf h.now self.new }
     {
-        let parts = self.parts.as_mut_slice();
         for dim in 0..h.dims() {
-            parts[usize::from(dim)].add(h, dim, at.concept(dim));
+            self.parts.add(h, dim, at.concept(dim));
         }
     }
 
@@ -70,7 +69,7 @@ impl DescSet {
         ensures joined { JoinsTo h.now self.now other.now result }
         ensures valid { IsDescSetOf h.now result }
     {
-        let mut parts = ArrayVec::new();
+        let mut parts = PartList::new();
         for dim in 0..h.dims() {
             parts.push(self.part(h, dim).join(h, dim, other.part(h, dim)));
         }
@@ -78,16 +77,17 @@ impl DescSet {
     }
 
     /// Whether in each dimension the coordinate's ancestor at the set's level is in the set.
-    pub fn covers(&self, h: &Hierarchy, at: &Coord) -> bool
+    pub fn covers(&self, h: &Hierarchy, at: &CoordLineages) -> bool
         requires set { IsDescSetOf h.now self.now }
-        requires at { IsCoordOf h.now at.now }
-        ensures test { result ≡ covers h.now self.now at.now }
-        ensures meaning { IsTrue result ↔ Covers h.now self.now at.now }
+        requires at { at.now.hierarchy ≡ h.now }
+        ensures test { result ≡ covers h.now self.now at.now.coord }
+        ensures meaning { IsTrue result ↔ Covers h.now self.now at.now.coord }
         ensures members { (rows : List Coord)
-            → IsSetOf h.now rows self.now → Contains rows at.now → IsTrue result }
+            → IsSetOf h.now rows self.now → Contains rows at.now.coord → IsTrue result }
     {
+        at.law();
         for dim in 0..h.dims() {
-            if !self.part(h, dim).covers(h, dim, at.concept(dim)) {
+            if !self.part(h, dim).covers(h, dim, at) {
                 return false;
             }
         }
@@ -173,14 +173,14 @@ impl DescSet {
     }
 
     /// In how many dimensions the coordinate is not covered.
-    pub fn growth(&self, h: &Hierarchy, at: &Coord) -> u32
+    pub fn growth(&self, h: &Hierarchy, at: &CoordLineages) -> u32
         requires set { IsDescSetOf h.now self.now }
-        requires at { IsCoordOf h.now at.now }
-        ensures { result ≡ growth_of h.now self.now at.now }
+        requires at { at.now.hierarchy ≡ h.now }
+        ensures { result ≡ growth_of h.now self.now at.now.coord }
     {
         let mut growth = 0;
         for dim in 0..h.dims() {
-            if !self.part(h, dim).covers(h, dim, at.concept(dim)) {
+            if !self.part(h, dim).covers(h, dim, at) {
                 growth += 1;
             }
         }
@@ -205,11 +205,7 @@ impl DescSet {
     pub fn copy(&self) -> DescSet
         ensures { result ≡ self.now }
     {
-        let mut parts = ArrayVec::new();
-        for part in self.parts.as_slice() {
-            parts.push(part.copy());
-        }
-        DescSet { parts }
+        DescSet { parts: self.parts }
     }
 
     /// Laws of sets, with no code: what the set of some coordinates is, that it depends on which of

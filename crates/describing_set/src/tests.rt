@@ -89,9 +89,9 @@ fn the_seventh_concept_lifts_a_set(rt: HostRuntime) -> Result<(), Fail> {
     assert_eq!(rt; seven.size(&h), 9);
 
     let last = coord(alloc, &h, b"g")?;
-    assert_eq!(rt; six.growth(&h, &last), 1);
+    assert_eq!(rt; six.growth(&h, &h.lineages(&last)), 1);
     assert_eq!(rt; six.join(&h, &DescSet::of_coord(&h, &last)), seven);
-    assert!(rt; seven.covers(&h, &last));
+    assert!(rt; seven.covers(&h, &h.lineages(&last)));
     Ok(())
 }
 
@@ -126,7 +126,7 @@ fn eight_dimensions(rt: HostRuntime) -> Result<(), Fail> {
     let first = coord(alloc, &h, b"aaaaaaaa")?;
     let second = coord(alloc, &h, b"aababaaa")?;
     let mut set = DescSet::of_coord(&h, &first);
-    assert_eq!(rt; set.growth(&h, &second), 2);
+    assert_eq!(rt; set.growth(&h, &h.lineages(&second)), 2);
     set.grow(&h, &second);
     assert_eq!(rt; set.size(&h), 10);
     let plane = plane_of(&set).ok_or("a plane")?;

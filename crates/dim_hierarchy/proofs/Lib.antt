@@ -1,4 +1,5 @@
 pub mod Ancestors
+pub mod Ancestry
 pub mod Compiling
 pub mod Coordinates
 pub mod Dimensions

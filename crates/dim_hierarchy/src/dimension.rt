@@ -26,7 +26,7 @@ impl Model for Level {
 }
 
 // A concept's ancestors by their level, itself at its own, and `ALL` past that.
-type Lineage = [ConceptId; 9];
+pub(crate) type Lineage = [ConceptId; 9];
 
 // The lineages of the concepts of one level, by number.
 #[derive(Drop)]
@@ -179,8 +179,8 @@ impl DimensionTable {
         level.parents[id.number() as usize]
     }
 
-    // The lineage of a concept.
-    fn lineage(&self, id: ConceptId) -> Lineage
+    /// The lineage of a concept.
+    pub(crate) fn lineage(&self, id: ConceptId) -> Lineage
         requires { IsConcept self.now.tree id }
         ensures long { length result ≡ 9 }
         ensures ancestors { (level : ℕ) → level ≤ level_of id

@@ -3,6 +3,7 @@
 
 mod compiled;
 mod concept;
+mod coord_lineages;
 mod dimension;
 mod filter;
 mod hierarchy;
@@ -15,6 +16,7 @@ mod tests;
 
 pub use compiled::CompiledFilter;
 pub use concept::ConceptId;
+pub use coord_lineages::CoordLineages;
 pub use filter::{Filter, IdList, NameFilter, NamePick, Pick};
 pub use hierarchy::{ConceptFault, DimFault, FilterFault, Hierarchy};
 pub use items::{Items, Name, Names};

@@ -5,13 +5,13 @@ ghost use Rattle.std.specs.FinMap as map;
 use crate::concept::ConceptId;
 use crate::items::Name;
 use std::alloc::{AllocError, Global};
-use std::collections::BTreeMap;
+use std::collections::HashMap;
 use std::marker::Model;
 
 /// The concepts of a dimension by name. Contracts see a finite map from names to concepts.
 #[derive(Drop)]
 pub struct NameTable {
-    ids: BTreeMap<Vec<u8>, ConceptId>,
+    ids: HashMap<Vec<u8>, ConceptId>,
 }
 
 impl Model for NameTable {
@@ -35,7 +35,7 @@ impl NameTable {
         ensures { result ≡ map.empty }
     {
         NameTable {
-            ids: BTreeMap::new(alloc),
+            ids: HashMap::new(alloc),
         }
     }
 

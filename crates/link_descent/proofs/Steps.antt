@@ -27,7 +27,7 @@ use Rattle.link_descent.specs.declared.entered.Fresh.{Fresh}
 abbrev HasSet : List Dimension → Entry → Type 0
 HasSet h e = IsDescSetOf h e.set
 
-All-entries : (h : List Dimension) (b : Body) → IsBodyOf h b → All (HasSet h) (entries_in b)
+pub All-entries : (h : List Dimension) (b : Body) → IsBodyOf h b → All (HasSet h) (entries_in b)
 All-entries h (Rows rows) all = All-nil (HasSet h)
 All-entries h (Entries entries) all = all
 

@@ -1,12 +1,11 @@
 ghost use Rattle.std.specs.Prelude.{ℕ, ◌≡◌, ◌<◌, ◌≤◌, ◌⊎◌, ◌↔◌, Some, length, map, All, IsTrue};
-ghost use Rattle.dim_hierarchy.specs.Row.{IsCoordOf};
 ghost use Rattle.describing_set.specs.DescSet.{growth_of, size_of, IsDescSetOf};
 ghost use Rattle.dc_node.specs.Block.{entries_in, IsBodyOf};
 ghost use Rattle.link_descent.specs.Pick.{IsPick, pick_place};
 
 use dc_node::{Block, Entry};
 use describing_set::DescSet;
-use dim_hierarchy::{Coord, Hierarchy};
+use dim_hierarchy::{CoordLineages, Hierarchy};
 
 /// Whether a set that grows so much comes before one that grows `least`: by less growth, or by as
 /// much where it is smaller. Sizes are counted on a tie only.
@@ -23,24 +22,25 @@ fn comes_before(set: &DescSet, growth: u32, best: &DescSet, least: u32, h: &Hier
 }
 
 /// Whether the first set is grown less by the coordinate than the second, or as much and is smaller.
-pub fn is_before(a: &DescSet, b: &DescSet, h: &Hierarchy, at: &Coord) -> bool
+pub fn is_before(a: &DescSet, b: &DescSet, h: &Hierarchy, at: &CoordLineages) -> bool
     requires a { IsDescSetOf h.now a.now }
     requires b { IsDescSetOf h.now b.now }
-    requires at { IsCoordOf h.now at.now }
-    ensures { IsTrue result ↔ ((growth_of h.now a.now at.now < growth_of h.now b.now at.now)
-        ⊎ ((growth_of h.now a.now at.now ≡ growth_of h.now b.now at.now)
+    requires at { at.now.hierarchy ≡ h.now }
+    ensures { IsTrue result
+        ↔ ((growth_of h.now a.now at.now.coord < growth_of h.now b.now at.now.coord)
+        ⊎ ((growth_of h.now a.now at.now.coord ≡ growth_of h.now b.now at.now.coord)
         × (size_of h.now a.now < size_of h.now b.now))) }
 {
     comes_before(a, a.growth(h, at), b, b.growth(h, at), h)
 }
 
 /// The place of the entry that comes first for a coordinate.
-fn place_of(entries: &[Entry], h: &Hierarchy, at: &Coord) -> u8
+fn place_of(entries: &[Entry], h: &Hierarchy, at: &CoordLineages) -> u8
     requires some { 0 < length entries.now }
     requires few { length entries.now ≤ 16 }
     requires sets { All (λ e. IsDescSetOf h.now e.set) entries.now }
-    requires at { IsCoordOf h.now at.now }
-    ensures { IsPick h.now at.now (map (λ e. e.set) entries.now) result }
+    requires at { at.now.hierarchy ≡ h.now }
+    ensures { IsPick h.now at.now.coord (map (λ e. e.set) entries.now) result }
 {
     let mut best = 0;
     let mut least = entries[0].set.growth(h, at);
@@ -57,14 +57,14 @@ fn place_of(entries: &[Entry], h: &Hierarchy, at: &Coord) -> u8
 
 /// The place of the entry by which a coordinate goes down: the one whose set is grown least by it,
 /// then the smallest set, then the lowest place. The block is a directory with an entry.
-pub fn pick(block: &Block, h: &Hierarchy, at: &Coord) -> u8
+pub fn pick(block: &Block, h: &Hierarchy, at: &CoordLineages) -> u8
     requires some { 0 < length (entries_in block.now.body) }
     requires body { IsBodyOf h.now block.now.body }
-    requires at { IsCoordOf h.now at.now }
-    ensures first { IsPick h.now at.now (map (λ e. e.set) (entries_in block.now.body)) result }
-    ensures place { pick_place h.now at.now (map (λ e. e.set) (entries_in block.now.body)) ≡ Some result }
-    ensures only { (other : ℕ) → IsPick h.now at.now (map (λ e. e.set) (entries_in block.now.body)) other
-        → other ≡ result }
+    requires at { at.now.hierarchy ≡ h.now }
+    ensures first { IsPick h.now at.now.coord (map (λ e. e.set) (entries_in block.now.body)) result }
+    ensures place { pick_place h.now at.now.coord (map (λ e. e.set) (entries_in block.now.body)) ≡ Some result }
+    ensures only { (other : ℕ)
+        → IsPick h.now at.now.coord (map (λ e. e.set) (entries_in block.now.body)) other → other ≡ result }
 {
     place_of(block.entries(), h, at)
 }

@@ -84,7 +84,8 @@ fn share(left: &mut Entry, right: &mut Entry, h: &Hierarchy, row: &Row) -> u32
     ensures left { IsDescSetOf h.now left.new.set }
     ensures right { IsDescSetOf h.now right.new.set }
 {
-    if is_before(&right.set, &left.set, h, &row.at) {
+    let at = h.lineages(&row.at);
+    if is_before(&right.set, &left.set, h, &at) {
         add_row(right, h, row);
         right.child
     } else {

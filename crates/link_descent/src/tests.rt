@@ -208,7 +208,7 @@ fn down(
     if parent.is_full() || parent.entries().is_empty() || purse.len() == 0 {
         return Err("no way down".into());
     }
-    let place = pick(&parent, h, &row.at);
+    let place = pick(&parent, h, &h.lineages(&row.at));
     count_beneath(&parent)?;
     let cell = parent.entries()[usize::from(place)].child;
     let mut child = lift(blocks, h, cell)?;

@@ -7,7 +7,7 @@ use crate::rank::comes_before;
 use crate::registry::Registry;
 use crate::spots::grow_spots;
 use describing_set::{Listing, Path, Spot};
-use dim_hierarchy::{Coord, Filter, Hierarchy};
+use dim_hierarchy::{Coord, CoordLineages, Filter, Hierarchy};
 use std::alloc::{AllocError, Global};
 use std::marker::Model;
 
@@ -94,7 +94,7 @@ impl Image {
         requires at { IsCoordOf h.now at.now }
         ensures { IsRoute h.now at.now self.now.spots result }
     {
-        first_for(&self.spots, at, h)
+        first_for(&self.spots, &h.lineages(at), h)
     }
 
     /// Acknowledges a row that went along a path: the box of the path's shard that is listed grows
@@ -191,11 +191,11 @@ fn overlapping(
 }
 
 /// The place of the spot before which no other comes.
-fn first_for(spots: &[Spot], at: &Coord, h: &Hierarchy) -> usize
+fn first_for(spots: &[Spot], at: &CoordLineages, h: &Hierarchy) -> usize
     requires some { 0 < length spots.now }
     requires boxes { AreBoxes h.now spots.now }
-    requires at { IsCoordOf h.now at.now }
-    ensures { IsRoute h.now at.now spots.now result }
+    requires at { at.now.hierarchy ≡ h.now }
+    ensures { IsRoute h.now at.now.coord spots.now result }
 {
     let mut best = 0;
     for place in 1..spots.len() {

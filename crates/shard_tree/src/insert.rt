@@ -1,6 +1,7 @@
 ghost use Rattle.std.specs.Prelude.{ℕ, Some, slice_get, ◌≡◌, ◌+◌, ◌*◌, ◌<◌, ◌≤◌, ◌^◌, [], ◌∷◌, ◌++◌, length, map, OnOk, OnErr, IsPermutation};
 ghost use Rattle.dim_hierarchy.specs.declared.row.Row.{Row};
 ghost use Rattle.dim_hierarchy.specs.Row.{IsRowOf};
+ghost use Rattle.dim_hierarchy.specs.CoordLineages.{coord_of};
 ghost use Rattle.dc_node.specs.Block.{entries_in};
 ghost use Rattle.describing_set.specs.DescSet.{IsDescSetOf};
 ghost use Rattle.dc_node.specs.declared.entry.Entry.{Entry};
@@ -16,7 +17,7 @@ use crate::tree::ShardTree;
 use block_cells::Blocks;
 use cell_stock::Purse;
 use dc_node::{Blanks, Block};
-use dim_hierarchy::{Hierarchy, Row};
+use dim_hierarchy::{CoordLineages, Hierarchy, Row};
 use link_descent::{enter_root, pass_root, pick, step_down};
 use shard_store::Gate;
 use std::alloc::AllocError;
@@ -95,9 +96,10 @@ fn add(
 {
     insert_laws();
     tree_laws();
+    let lineages = h.lineages(&row.at);
     let mut at = enter(gate, blocks, purse, blanks, h, row);
     for _ in 1..gate.height {
-        at = down(gate, blocks, purse, blanks, h, row, at);
+        at = down(gate, blocks, purse, blanks, h, row, &lineages, at);
     }
     blocks.settle(at, row, blanks);
 }
@@ -185,9 +187,11 @@ fn down(
     blanks: &mut Blanks,
     h: &Hierarchy,
     row: &Row,
+    lineages: &CoordLineages,
     at: u32,
 ) -> u32
     requires row { IsRowOf h.now row.now }
+    requires lineages { lineages.now ≡ coord_of h.now row.now.at }
     requires goes { (level : ℕ) × CanGoDown h.now row.now gate.now blocks.old.items blocks.old.missing purse.old at (level + 1) }
     requires blanks { 2 ≤ blanks.old }
     ensures step { WentDown h.now row.now at result blocks.old.items blocks.new.items purse.old purse.new }
@@ -196,7 +200,7 @@ fn down(
 {
     tree_laws();
     let parent = blocks.at(at);
-    let place = pick(parent, h, &row.at);
+    let place = pick(parent, h, lineages);
     let cell = child_at(parent, place);
     if !blocks.at(cell).is_full() {
         blocks.pass(at, place, h, row);

@@ -10,12 +10,12 @@ pub loop-place-init : goal.loop-place-init
 loop-place-init c =
     let entries = c.args.entries.now in
     let first = get_or entries 0 c.index-entries-0.result in
-    first-ranked c.args.h.now c.args.at.now (map (λ e. e.set) entries) first.set c.growth-least.result (set_at entries 0 0 c.index-entries-0.result refl c.requires.some) c.growth-least.ensures
+    first-ranked c.args.h.now c.args.at.now.coord (map (λ e. e.set) entries) first.set c.growth-least.result (set_at entries 0 0 c.index-entries-0.result refl c.requires.some) c.growth-least.ensures
 
 pub loop-place-preserved : goal.loop-place-preserved
 loop-place-preserved c =
     let h = c.args.h.now in
-    let at = c.args.at.now in
+    let at = c.args.at.now.coord in
     let entries = c.args.entries.now in
     let sets = map (λ e. e.set) entries in
     let n = c.loop-place.place in
@@ -35,4 +35,4 @@ returns c =
     let entries = c.args.entries.now in
     let sets = map (λ e. e.set) entries in
     let m = length-map entries (λ e. e.set) in
-    IsPick-from_best c.args.h.now c.args.at.now sets c.loop-place.place c.loop-place.best (omega arith) c.loop-place.invariant.best
+    IsPick-from_best c.args.h.now c.args.at.now.coord sets c.loop-place.place c.loop-place.best (omega arith) c.loop-place.invariant.best

@@ -5,7 +5,8 @@ use Rattle.link_descent.proofs.descend.share.Goals as goal
 
 pub returns-then-is_before-clause-shared : goal.returns-then-is_before-clause-shared
 returns-then-is_before-clause-shared c =
-    let before = c.is_before.ensures.0 c.if-is_before.true in (
+    let tells = rw c.lineages-at.ensures at c.is_before.ensures in
+    let before = tells.0 c.if-is_before.true in (
       c.args.right.now,
       record {
         place = 1;
@@ -15,13 +16,14 @@ returns-then-is_before-clause-shared c =
       c.add_row.ensures.child,
     )
 
-pub returns-else-is_before-clause-shared : goal.returns-else-is_before-clause-shared
-returns-else-is_before-clause-shared c = (
-  c.args.left.now,
-  record {
-    place = 0;
-    pick = IsPick-left c.args.h.now c.args.row.now.at c.args.left.now.set c.args.right.now.set (λ b. false≢true (sym c.if-is_before.false ∙ c.is_before.ensures.1 b));
-    shared = inl (refl, c.add_row-else-is_before.ensures, refl, refl);
-  },
-  c.add_row-else-is_before.ensures.child,
-)
+pub returns-clause-shared : goal.returns-clause-shared
+returns-clause-shared c =
+    let tells = rw c.lineages-at.ensures at c.is_before.ensures in (
+      c.args.left.now,
+      record {
+        place = 0;
+        pick = IsPick-left c.args.h.now c.args.row.now.at c.args.left.now.set c.args.right.now.set (λ b. false≢true (sym c.if-is_before.false ∙ tells.1 b));
+        shared = inl (refl, c.add_row-else-is_before.ensures, refl, refl);
+      },
+      c.add_row-else-is_before.ensures.child,
+    )

@@ -49,7 +49,7 @@ returns-then-not-is_full-clause-step c =
 
 pub divide_child-requires-clause-place : goal.divide_child-requires-clause-place
 divide_child-requires-clause-place c =
-    subst (λ (b : Block). IsPick c.args.h.now c.args.row.now.at (map (λ (x : Entry). x.set) (entries_in b.body)) c.pick-place.result) c.at-parent.ensures c.pick-place.ensures.first
+    subst (λ (b : Block). IsPick c.args.h.now c.args.row.now.at (map (λ (x : Entry). x.set) (entries_in b.body)) c.pick-place.result) c.at-parent.ensures (rw c.requires.lineages at c.pick-place.ensures.first)
 
 pub divide_child-requires-clause-leads : goal.divide_child-requires-clause-leads
 divide_child-requires-clause-leads c =

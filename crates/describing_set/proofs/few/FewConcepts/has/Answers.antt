@@ -11,7 +11,7 @@ returns-clause-test c =
     let xs = c.self.inside.places in
     let id = c.args.id in
     let i = c.self.invariant in
-    let len = i.six in
+    let len = i.long in
     let all = any-take c.self.inside.count xs id i c.requires in
     let v = ap (λ (s : ArrayVec ℕ). list_any (λ x. x == id) s.items) c.self.view_is in
     let p = read xs 0 c.index-p-0.result id c.eq.result (omega (arith, len)) c.eq.ensures in

@@ -4,4 +4,4 @@ use Rattle.describing_set.proofs.Covering.{IsSumBelow}
 use Rattle.describing_set.proofs.set.DescSet.growth.Given as goal
 
 abbrev pub invariant-loop-dim : goal.invariant-loop-dim
-invariant-loop-dim l = IsSumBelow (growth_at l.h l.self l.fn.at) l.dim l.growth × (l.growth ≤ l.dim)
+invariant-loop-dim l = IsSumBelow (growth_at l.h l.self l.fn.at.coord) l.dim l.growth × (l.growth ≤ l.dim)
