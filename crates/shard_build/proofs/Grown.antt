@@ -24,6 +24,7 @@ use Rattle.tree_shape.proofs.Forests.{each-all}
 use Rattle.tree_shape.proofs.Parts.{each-left, each-right}
 use Rattle.tree_shape.proofs.Visits.{times-append}
 use Rattle.shard_build.specs.Building.{AreLeavesOf, AreParentsOf, AreSmall, IsEntryTo, IsGrown, most, rows_under}
+use Rattle.shard_build.proofs.Led.{leaves-led, level-led}
 use Rattle.shard_build.proofs.Summed.{leaves-beneath, leaves-countable, parents-beneath, parents-countable, parents-rows}
 
 -- Leaves.
@@ -45,6 +46,7 @@ leaves-grown h rows blocks law valid some w = record {
   small = w.small;
   alone = w.alone;
   rows_are = w.rows_are;
+  led = leaves-led blocks w.kind;
   forest = λ table block is have stand apart.
       subst (λ (xs : List Row). IsForest table block 0 (filled_cells blocks) (filled_cells blocks) (numbers xs)) w.rows_are (law table block blocks (record {
         stand = stand;
@@ -98,6 +100,7 @@ level-grown h rows blocks parents from l law g w some few =
       alone = All-append (λ f. f.block.right ≡ None) blocks parents g.alone w.alone;
       rows_are = flat_map-append (λ (f : Fresh). rows_in f.block.body) blocks parents ∙ ap (λ (xs : List Row). all_rows blocks ++ xs) (parents-rows parents w.kind)
           ∙ append-nil (all_rows blocks) ∙ g.rows_are;
+      led = level-led h blocks parents from g.led w.entries;
       forest = λ table block is have stand apart.
           let cells : filled_cells (blocks ++ parents) ≡ filled_cells blocks ++ filled_cells parents = map-append (λ (f : Fresh). f.cell) blocks parents in
           let apart2 : (y : ℕ) → times y (filled_cells blocks ++ filled_cells parents) ≤ 1 = subst (λ (xs : List ℕ). (y : ℕ) → times y xs ≤ 1) cells apart in

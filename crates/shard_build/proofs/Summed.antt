@@ -135,3 +135,14 @@ parents-rows [] k = refl
 parents-rows (f ∷ fs) k =
     ap (λ (xs : List Row). xs ++ all_rows fs) (no-rows f.block.body (All-head (λ (f : Fresh). is_leaf f.block.body ≡ false) f fs k))
     ∙ parents-rows fs (All-tail (λ (f : Fresh). is_leaf f.block.body ≡ false) f fs k)
+
+-- and leaves have no entries
+no-entries : (body : Body) → is_leaf body ≡ true → entries_in body ≡ []
+no-entries (Rows rows) k = refl
+no-entries (Entries entries) k = cc
+
+pub leaves-entries : (leaves : List Fresh) → All (λ f. is_leaf f.block.body ≡ true) leaves → all_entries leaves ≡ []
+leaves-entries [] k = refl
+leaves-entries (f ∷ fs) k =
+    ap (λ (es : List Entry). es ++ all_entries fs) (no-entries f.block.body (All-head (λ (f : Fresh). is_leaf f.block.body ≡ true) f fs k))
+    ∙ leaves-entries fs (All-tail (λ (f : Fresh). is_leaf f.block.body ≡ true) f fs k)

@@ -1,5 +1,5 @@
 -- What the steps of building leave: leaves of rows, and directories over blocks, each in the cell of a spare.
-use Rattle.std.specs.Prelude.{ℕ, ◌≡◌, ◌+◌, ◌-◌, ◌*◌, ◌^◌, ◌<◌, ◌≤◌, Bool, true, false, min, None, List, [], ◌∷◌, ◌++◌, length, map, reverse, take, drop, sum_by, All}
+use Rattle.std.specs.Prelude.{ℕ, ◌≡◌, ◌+◌, ◌-◌, ◌*◌, ◌^◌, ◌<◌, ◌≤◌, Bool, true, false, min, None, List, [], ◌∷◌, ◌++◌, length, map, reverse, take, drop, sum_by, All, Contains}
 use Rattle.std.specs.List.{AllZip}
 use Rattle.std.specs.Ordering.{nat_cmp, ordering_then, is_lt}
 use Rattle.std.specs.Cmp.Lexicographic.{slice_cmp}
@@ -42,6 +42,14 @@ spare_of f = record { cell = f.cell; stamp = f.block.stamp }
 pub record UsesUp (blocks : List Fresh) (before now : PurseValue) : Type 0 where
   pub spares : before.spares ≡ now.spares ++ reverse (map spare_of blocks)
   pub room : now.room ≡ before.room + length blocks
+
+-- the spare of the block that an entry leads to
+abbrev pub spare_to : Entry → Spare
+spare_to e = record { cell = e.child; stamp = e.stamp }
+
+-- each entry leads to one of the blocks
+abbrev pub AreLed : List Fresh → Type 0
+AreLed blocks = All (λ e. Contains (map spare_of blocks) (spare_to e)) (all_entries blocks)
 
 -- how many items are put to a block: rows to a leaf, blocks to a parent
 abbrev pub most : Body → ℕ
@@ -124,5 +132,6 @@ pub record IsGrown (h : List Dimension) (rows : List Row) (blocks : List Fresh) 
   pub small : AreSmall blocks
   pub alone : AreAlone blocks
   pub rows_are : all_rows blocks ≡ rows
+  pub led : AreLed blocks
   pub forest : (table : Table) (block : ℕ → Block) → table.hierarchy ≡ h → AreRowsOf table rows → AreInCells block blocks → ((y : ℕ) → times y (filled_cells blocks) ≤ 1)
       → IsForest table block l (filled_cells (drop from blocks)) (filled_cells blocks) (numbers rows)

@@ -1,5 +1,5 @@
 -- A built tree.
-use Rattle.std.specs.Prelude.{ℕ, ◌≡◌, ◌≤◌, List, ◌∷◌, length, IsPermutation}
+use Rattle.std.specs.Prelude.{ℕ, ◌≡◌, ◌≤◌, List, ◌∷◌, length, map, Contains, IsPermutation}
 use Rattle.std.specs.List.Sorted.{IsSortedBy}
 use Rattle.dim_hierarchy.specs.declared.row.Row.{Row}
 use Rattle.dim_hierarchy.specs.Dimension.{Dimension}
@@ -10,7 +10,7 @@ use Rattle.shard_plan.specs.Building.{cells_for, levels_for}
 use Rattle.tree_shape.specs.Counts.{times}
 use Rattle.tree_shape.specs.Shape.{Table, TreeCells, numbers}
 use Rattle.tree_shape.specs.Forest.{AfterBuilding, AreInCells, AreRowsOf, all_rows, filled_cells}
-use Rattle.shard_build.specs.Building.{AreAlone, AreSmall, UsesUp, comes_before}
+use Rattle.shard_build.specs.Building.{AreAlone, AreLed, AreSmall, UsesUp, comes_before, spare_of, spare_to}
 use Rattle.shard_build.specs.declared.builder.Built.{Built}
 
 -- how a gate leads to the root
@@ -34,5 +34,7 @@ pub record IsBuilt (h : List Dimension) (rows : List Row) (before now : PurseVal
   pub ordered : IsSortedBy comes_before (all_rows b.blocks.items)
   pub small : AreSmall b.blocks.items
   pub alone : AreAlone b.blocks.items
+  pub led : AreLed b.blocks.items
+  pub root : Contains (map spare_of b.blocks.items) (spare_to (root_of b))
   pub tree : (table : Table) (cells : TreeCells) → table.hierarchy ≡ h → AreRowsOf table rows → IsInCells cells b
       → AfterBuilding table cells (filled_cells b.blocks.items) (numbers rows)

@@ -64,7 +64,6 @@ pub fn build(
 fn add_leaves(site: &mut Site, rows: &[Row], purse: &mut Purse)
     requires empty { site.old.blocks ≡ [] }
     requires boxes { site.old.leaves ≡ leaves_for (length rows.now) }
-    requires few { length rows.now < 2 ^ 40 }
     requires spares { leaves_for (length rows.now) ≤ length purse.old.spares }
     ensures leaves { AddsLeaves rows.now (length rows.now) site.new.blocks purse.old purse.new }
     ensures count { length site.new.blocks ≡ leaves_for (length rows.now) }
@@ -81,7 +80,6 @@ fn add_leaves(site: &mut Site, rows: &[Row], purse: &mut Purse)
 /// Puts directories over the blocks from a place on, 12 to each.
 fn add_level(site: &mut Site, from: usize, purse: &mut Purse, h: &Hierarchy)
     requires within { from < length site.old.blocks }
-    requires few { length site.old.blocks < 2 ^ 60 }
     requires countable { All (IsCountable h.now) (drop from site.old.blocks) }
     requires boxes { length site.old.blocks ≤ from + parent_nodes * site.old.directories }
     requires spares { site.old.directories ≤ length purse.old.spares }

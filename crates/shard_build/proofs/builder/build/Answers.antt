@@ -1,4 +1,4 @@
-use Rattle.std.proofs.Common.{◌≡◌, ◌+◌, ◌-◌, ◌++◌, List, length, drop, sym, ap, ◌∙◌, subst, arith, length-append}
+use Rattle.std.proofs.Common.{◌≡◌, ◌+◌, ◌-◌, ◌++◌, List, [], map, length, drop, sym, ap, ◌∙◌, subst, arith, length-append}
 use Rattle.std.proofs.lemmas.List.{take_all, take_rest}
 use Rattle.std.proofs.lemmas.List.Sorted.{All-permutation}
 use Rattle.dim_hierarchy.specs.declared.row.Row.{Row}
@@ -6,9 +6,11 @@ use Rattle.dim_hierarchy.specs.Row.{IsRowOf}
 use Rattle.link_descent.specs.declared.entered.Fresh.{Fresh}
 use Rattle.shard_plan.specs.Building.{leaves_for, cells_for, levels_for}
 use Rattle.tree_shape.specs.Forest.{all_rows}
-use Rattle.std.specs.Prelude.{IsPermutation}
+use Rattle.std.specs.Prelude.{Contains, IsPermutation}
 use Rattle.std.specs.List.Sorted.{IsSortedBy}
-use Rattle.shard_build.specs.Building.{AreAlone, AreSmall, comes_before, AreLeavesOf, AreParentsOf, IsGrown, SiteValue, UsesUp}
+use Rattle.shard_build.specs.Building.{AreAlone, AreLeavesOf, AreLed, AreParentsOf, AreSmall, IsGrown, SiteValue, UsesUp, comes_before, spare_of, spare_to}
+use Rattle.shard_build.specs.Built.{root_of}
+use Rattle.shard_build.proofs.Led.{taken-first, taken-from}
 use Rattle.shard_build.proofs.Counts.{leaves-few, cells-first, cells-next, cells-all}
 use Rattle.shard_build.proofs.Grown.{leaves-grown, level-grown}
 use Rattle.shard_build.proofs.Finished.{built-tree}
@@ -82,6 +84,9 @@ returns-clause-ok c =
       ordered = subst (λ (fs : List Fresh). IsSortedBy comes_before (all_rows fs)) (sym c.finished.ensures.blocks) (subst (IsSortedBy comes_before) (sym g.rows_are) c.in_order-rows.ensures.sorted);
       small = subst AreSmall (sym c.finished.ensures.blocks) g.small;
       alone = subst AreAlone (sym c.finished.ensures.blocks) g.alone;
+      led = subst AreLed (sym c.finished.ensures.blocks) g.led;
+      root = subst (λ (fs : List Fresh). Contains (map spare_of fs) (spare_to (root_of b))) (sym c.finished.ensures.blocks) (taken-from c.loop.from blocks (spare_to (root_of b))
+          (subst (λ (fs : List Fresh). Contains (map spare_of fs) (spare_to (root_of b))) (sym one.1) (taken-first h one.0 [] (root_of b) (c.finished.ensures.root one.0 one.1))));
       tree = built-tree h rows ordered blocks c.loop.from (c.loop.counter - 1) one.0 b c.build_laws.ensures.tree c.in_order-rows.ensures.permutation g one.1
           (c.finished.ensures.root one.0 one.1) c.finished.ensures.blocks (omega (arith, c.finished.ensures.height, height, all.2, c.loop.auto.counter));
     }
