@@ -1,8 +1,11 @@
-ghost use Rattle.std.specs.Prelude.{◌≡◌, ◌==◌, ◌+◌, ◌<◌, ◌≤◌, [], ◌∷◌, ◌++◌, length, slice_set, insert, IfOk};
+ghost use Rattle.std.specs.Prelude.{◌≡◌, ◌==◌, ◌+◌, ◌<◌, ◌≤◌, ◌^◌, [], ◌∷◌, ◌++◌, length, slice_get, slice_set, insert, IfOk, IfSome};
+ghost use Rattle.dim_hierarchy.specs.Row.{IsRowOf};
+ghost use Rattle.describing_set.specs.DescSet.{IsDescSetOf};
+ghost use Rattle.dc_node.specs.Entry.{HasRowMore};
 
 use crate::entry::Entry;
 use arrayvec::ArrayVec;
-use dim_hierarchy::Row;
+use dim_hierarchy::{Hierarchy, Row};
 use std::alloc::{AllocError, Global};
 use std::marker::Model;
 use std::slice;
@@ -135,6 +138,18 @@ impl EntryBox {
         ensures { self.new.items ≡ insert self.old.items index element }
     {
         self.list.insert(index, element);
+    }
+
+    /// Counts a row beneath the entry at a place, where it stands.
+    pub fn add_row(&mut self, index: usize, h: &Hierarchy, row: &Row)
+        requires in_bounds { index < length self.old.items }
+        requires set { IfSome (slice_get self.old.items index) (λ e. IsDescSetOf h.now e.set) }
+        requires row { IsRowOf h.now row.now }
+        requires few { IfSome (slice_get self.old.items index) (λ e. e.agg.count + 1 < 2 ^ 63) }
+        ensures { HasRowMore h.now row.now index self.old.items self.new.items }
+    {
+        let entry = &mut self.list[index];
+        entry.add_row(h, row);
     }
 
     /// Puts an element in place of the one at a place.

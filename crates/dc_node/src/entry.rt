@@ -1,6 +1,9 @@
-ghost use Rattle.std.specs.Prelude.{◌≡◌};
+ghost use Rattle.std.specs.Prelude.{◌≡◌, ◌+◌, ◌<◌, ◌^◌};
+ghost use Rattle.dim_hierarchy.specs.Row.{IsRowOf};
+ghost use Rattle.describing_set.specs.DescSet.{IsDescSetOf};
 
 use describing_set::DescSet;
+use dim_hierarchy::{Hierarchy, Row};
 use measure_agg::Agg;
 
 /// What a directory says of a group of blocks beneath it: the cell of its head, the stamp of its last
@@ -14,6 +17,8 @@ pub struct Entry {
 }
 
 impl Entry {
+    ghost use Rattle.dc_node.specs.Entry.{IsWithRow};
+
     /// The same entry, without taking memory.
     pub fn copy(&self) -> Entry
         ensures { result ≡ self.now }
@@ -24,5 +29,16 @@ impl Entry {
             agg: self.agg,
             set: self.set.copy(),
         }
+    }
+
+    /// Counts a row beneath.
+    pub fn add_row(&mut self, h: &Hierarchy, row: &Row)
+        requires set { IsDescSetOf h.now self.old.set }
+        requires row { IsRowOf h.now row.now }
+        requires few { self.old.agg.count + 1 < 2 ^ 63 }
+        ensures { IsWithRow h.now row.now self.old self.new }
+    {
+        self.agg = self.agg.join(&Agg::one(row.measure));
+        self.set.grow(h, &row.at);
     }
 }

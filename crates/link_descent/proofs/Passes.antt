@@ -9,32 +9,28 @@ use Rattle.dc_node.specs.declared.entry.Entry.{Entry}
 use Rattle.dc_node.proofs.Places.{set-entry}
 use Rattle.shard_store.specs.Gate.{root_entry}
 use Rattle.shard_store.specs.declared.gate.Gate.{Gate}
-use Rattle.link_descent.specs.Descend.{IsWithRow}
+use Rattle.dc_node.specs.Entry.{IsWithRow, HasRowMore}
 use Rattle.link_descent.specs.Pass.{PassesDown, PassesIn}
-use Rattle.link_descent.proofs.Steps.{entry_here}
 
 -- the entry was changed where it stands
-pub passes-down : (h : List Dimension) (row : Row) (place n : ℕ) (parent parent_now : Block) (ys : List Entry) (entry entry_now : Entry) → ys ≡ entries_in parent.body → n ≡ place → place < length (entries_in parent.body)
-    → entry ≡ get_or ys n entry → IsWithRow h row entry entry_now
-    → parent_now ≡ with_entries parent (slice_set (entries_in parent.body) n entry_now)
+pub passes-down : (h : List Dimension) (row : Row) (place n : ℕ) (parent parent_now : Block) → n ≡ place → place < length (entries_in parent.body)
+    → (now : List Entry) → HasRowMore h row n (entries_in parent.body) now → parent_now ≡ with_entries parent now
     → PassesDown h row place parent parent_now
-passes-down h row place n parent parent_now ys entry entry_now same at within read counted is =
+passes-down h row place n parent parent_now at within now more is =
     let entries = entries_in parent.body in
-    let here : slice_get entries place ≡ Some entry = entry_here ys entries n place entry entry same at (subst (λ k. k < length entries) (sym at) within) read refl in
+    let here : slice_get entries place ≡ Some more.entry = ap (slice_get entries) (sym at) ∙ more.entry_at in
     record {
-      entry = entry;
+      entry = more.entry;
       entry_at = here;
       step = λ child purse room. record {
-        entry = entry;
+        entry = more.entry;
         entry_at = here;
         step = inl (
-          entry_now,
+          more.entry_now,
           record {
-            parent_is = is
-                ∙ ap (λ k. with_entries parent (slice_set entries k entry_now)) at
-                ∙ ap (with_entries parent) (set-entry entries place entry_now within);
+            parent_is = is ∙ ap (with_entries parent) (more.now_is ∙ ap (λ k. slice_set entries k more.entry_now) at ∙ set-entry entries place more.entry_now within);
           },
-          record { room = room; entry_is = counted; head_is = refl; purse_is = refl; fresh = refl; at = refl },
+          record { room = room; entry_is = more.counted; head_is = refl; purse_is = refl; fresh = refl; at = refl },
         );
       };
     }

@@ -17,7 +17,8 @@ use Rattle.dc_node.specs.declared.entry.Entry.{Entry}
 use Rattle.cell_stock.specs.Stock.{PurseValue}
 use Rattle.shard_store.specs.Gate.{root_entry}
 use Rattle.shard_store.specs.declared.gate.Gate.{Gate}
-use Rattle.link_descent.specs.Descend.{IsWithRow, IsShared, Cuts, StepsDown, Enters}
+use Rattle.dc_node.specs.Entry.{IsWithRow}
+use Rattle.link_descent.specs.Descend.{IsShared, Cuts, StepsDown, Enters}
 use Rattle.link_descent.specs.Room.{HalvesHead, CutsHead, HasRoom, IsRaised}
 use Rattle.link_descent.specs.declared.entered.Entered.{Entered}
 use Rattle.link_descent.specs.declared.entered.Fresh.{Fresh}

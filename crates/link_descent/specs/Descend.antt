@@ -6,6 +6,7 @@ use Rattle.measure_agg.specs.Aggregate.{join, one}
 use Rattle.describing_set.specs.DescSet.{GrowsBy, IsDescSetOf}
 use Rattle.dc_node.specs.Block.{is_full, entries_in, with_entries, replaced}
 use Rattle.dc_node.specs.Summary.{IsSummary}
+use Rattle.dc_node.specs.Entry.{IsWithRow}
 use Rattle.dc_node.specs.declared.block.Body.TheVariants.{Entries}
 use Rattle.dc_node.specs.declared.block.Block.{Block}
 use Rattle.dc_node.specs.declared.entry.Entry.{Entry}
@@ -16,14 +17,6 @@ use Rattle.shard_store.specs.declared.gate.Gate.{Gate}
 use Rattle.link_descent.specs.Pick.{IsPick}
 use Rattle.link_descent.specs.Divide.{IsCutInTwo, HasNoCut, IsHalved}
 use Rattle.link_descent.specs.declared.entered.Entered.{Entered}
-
--- an entry with a row more beneath its group
-pub record IsWithRow (h : List Dimension) (row : Row) (before now : Entry) : Type 0 where
-  pub child : now.child ≡ before.child
-  pub stamp : now.stamp ≡ before.stamp
-  pub agg : now.agg ≡ join before.agg (one row.measure)
-  pub grown : GrowsBy h row.at before.set now.set
-  pub valid : IsDescSetOf h now.set
 
 -- the entry of one block: its cell, its stamp, and the aggregate and the set of its items
 pub record IsEntryOf (h : List Dimension) (cell : ℕ) (block : Block) (e : Entry) : Type 0 where

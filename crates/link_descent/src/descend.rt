@@ -8,7 +8,8 @@ ghost use Rattle.shard_store.specs.Gate.{root_entry};
 ghost use Rattle.shard_store.specs.declared.gate.Phase.TheVariants.{Open};
 ghost use Rattle.dc_node.specs.declared.block.Body.TheVariants.{Entries};
 ghost use Rattle.link_descent.specs.Pick.{IsPick};
-ghost use Rattle.link_descent.specs.Descend.{IsWithRow, IsEntryOf, IsShared, StepsDown, Enters};
+ghost use Rattle.dc_node.specs.Entry.{IsWithRow};
+ghost use Rattle.link_descent.specs.Descend.{IsEntryOf, IsShared, StepsDown, Enters};
 ghost use Rattle.link_descent.specs.Pass.{PassesDown, PassesIn};
 ghost use Rattle.link_descent.specs.Room.{MakesRoom, HasRoom, AreNew, IsRaised};
 ghost use Rattle.dc_node.specs.declared.entry.Entry.{Entry};
@@ -31,17 +32,6 @@ pub enum Room {
     Half(Fresh),
     /// The head was cut in two, with this new block; the entries of both, from left to right.
     Two(Fresh, Entry, Entry),
-}
-
-/// Counts a row beneath an entry.
-fn add_row(entry: &mut Entry, h: &Hierarchy, row: &Row)
-    requires set { IsDescSetOf h.now entry.old.set }
-    requires row { IsRowOf h.now row.now }
-    requires few { entry.old.agg.count + 1 < 2 ^ 63 }
-    ensures { IsWithRow h.now row.now entry.old entry.new }
-{
-    entry.agg = entry.agg.join(&Agg::one(row.measure));
-    entry.set.grow(h, &row.at);
 }
 
 /// The entry of a block that is a whole group.
@@ -86,10 +76,10 @@ fn share(left: &mut Entry, right: &mut Entry, h: &Hierarchy, row: &Row) -> u32
 {
     let at = h.lineages(&row.at);
     if is_before(&right.set, &left.set, h, &at) {
-        add_row(right, h, row);
+        right.add_row(h, row);
         right.child
     } else {
-        add_row(left, h, row);
+        left.add_row(h, row);
         left.child
     }
 }
@@ -165,13 +155,13 @@ pub fn step_down(
     match make_room(child, &entry, purse, blanks, h) {
         Room::Had => {
             let at = entry.child;
-            add_row(&mut entry, h, row);
+            entry.add_row(h, row);
             parent.set_entry(place, entry);
             Entered::none(at)
         }
         Room::Half(fresh) => {
             let at = entry.child;
-            add_row(&mut entry, h, row);
+            entry.add_row(h, row);
             parent.set_entry(place, entry);
             Entered::one(fresh, at)
         }
@@ -251,7 +241,7 @@ pub fn enter_root(
 {
     let mut entry = root_entry(gate);
     let room = make_room(root, &entry, purse, blanks, h);
-    add_row(&mut entry, h, row);
+    entry.add_row(h, row);
     gate.agg = entry.agg;
     gate.set = entry.set;
     match room {
@@ -271,10 +261,7 @@ pub fn pass_down(parent: &mut Block, place: u8, h: &Hierarchy, row: &Row)
     ensures { PassesDown h.now row.now place parent.old parent.new }
 {
     if let Body::Entries(entries) = &mut parent.body {
-        let place = usize::from(place);
-        let mut entry = entries.as_slice()[place].copy();
-        add_row(&mut entry, h, row);
-        entries.set(place, entry);
+        entries.add_row(usize::from(place), h, row);
     }
 }
 

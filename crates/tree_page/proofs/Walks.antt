@@ -1,5 +1,6 @@
 -- The blocks that are left of a walk.
-use Rattle.std.proofs.Common.{ℕ, zero, suc, ◌≡◌, ◌+◌, Option, Some, None, List, [], ◌∷◌, ◌++◌, refl, sym, ap, ◌∙◌, append_assoc, arith, true, false}
+use Rattle.std.proofs.Common.{ℕ, zero, suc, ◌≡◌, ◌+◌, Option, Some, None, List, [], ◌∷◌, ◌++◌, refl, sym, ap, ◌∙◌, append_assoc, arith, true, false, eqb}
+use Rattle.std.proofs.Math.Dec.{eqb-suc-zero}
 use Rattle.std.specs.List.{flat_map}
 use Rattle.std.proofs.lemmas.List.Concat.{flat_map-append}
 use Rattle.dc_node.specs.Block.{entries_in}
@@ -42,3 +43,15 @@ lines-on f old new all block left rest is added before =
     ∙ ap (λ xs. old ++ xs) (sym (flat_map-append f (entries_in block.body) (flat_map (λ (b : Block). entries_in b.body) rest)))
     ∙ ap (λ (bs : List Block). old ++ flat_map f (flat_map (λ (b : Block). entries_in b.body) bs)) (sym is)
     ∙ before
+
+-- the line of a group, and then those beneath it
+pub lines-deeper : (blocks : List Block) (level m depth : ℕ) (entry : Entry) (nodes pushed all : List NodeLine) → level ≡ suc m
+    → pushed ≡ nodes ++ line (eqb level 0) depth (group blocks entry) entry ∷ []
+    → all ≡ pushed ++ flat_map (λ e. lines blocks m (depth + 1) e) (beneath blocks entry)
+    → all ≡ nodes ++ lines blocks level depth entry
+lines-deeper blocks level m depth entry nodes pushed all is p a =
+    let more = flat_map (λ e. lines blocks m (depth + 1) e) (beneath blocks entry) in
+    a
+    ∙ ap (λ l. l ++ more) (p ∙ ap (λ k. nodes ++ line (eqb k 0) depth (group blocks entry) entry ∷ []) is ∙ ap (λ b. nodes ++ line b depth (group blocks entry) entry ∷ []) (eqb-suc-zero m))
+    ∙ append_assoc nodes (line false depth (group blocks entry) entry ∷ []) more
+    ∙ ap (λ k. nodes ++ lines blocks k depth entry) (sym is)

@@ -12,7 +12,8 @@ use Rattle.dc_node.specs.declared.todo.Item.{Item}
 use Rattle.cell_stock.specs.Stock.{PurseValue}
 use Rattle.cell_stock.specs.declared.purse.Spare.{Spare}
 use Rattle.shard_store.specs.Gate.{IsQueueOf, root_entry}
-use Rattle.link_descent.specs.Descend.{Cuts, CutsRoot, IsWithRow}
+use Rattle.dc_node.specs.Entry.{IsWithRow}
+use Rattle.link_descent.specs.Descend.{Cuts, CutsRoot}
 use Rattle.link_descent.specs.GateRead.{root_items}
 use Rattle.link_descent.specs.Visit.{is_noted}
 use Rattle.link_descent.specs.declared.entered.Entered.{Entered}

@@ -5,7 +5,7 @@ use Rattle.dc_node.specs.Block.{is_full}
 use Rattle.cell_stock.specs.declared.purse.Spare.{Spare}
 use Rattle.shard_store.specs.Gate.{root_entry}
 use Rattle.shard_store.specs.declared.gate.Gate.{Gate}
-use Rattle.link_descent.specs.Descend.{IsWithRow}
+use Rattle.dc_node.specs.Entry.{IsWithRow}
 use Rattle.link_descent.specs.Divide.{IsHalved}
 use Rattle.dc_node.specs.declared.block.Block.{Block}
 use Rattle.dc_node.specs.declared.entry.Entry.{Entry}

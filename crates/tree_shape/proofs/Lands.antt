@@ -7,7 +7,8 @@ use Rattle.dc_node.specs.Block.{rows_in, entries_in, is_leaf}
 use Rattle.dc_node.specs.declared.block.Body.{Body}
 use Rattle.dc_node.specs.declared.block.Body.TheVariants.{Rows, Entries}
 use Rattle.dc_node.specs.Summary.{IsSummary}
-use Rattle.link_descent.specs.Descend.{IsWithRow, IsEntryOf}
+use Rattle.dc_node.specs.Entry.{IsWithRow}
+use Rattle.link_descent.specs.Descend.{IsEntryOf}
 use Rattle.dc_node.specs.declared.block.Block.{Block}
 use Rattle.dc_node.specs.declared.entry.Entry.{Entry}
 use Rattle.dim_hierarchy.specs.declared.row.Row.{Row}

@@ -1,7 +1,7 @@
 -- The head that an entry of a directory leads to, and the directory's entries around that entry
 use Rattle.std.proofs.Common.{◌≡◌, ◌≢◌, ℕ, ◌+◌, ◌≤◌, ◌⊎◌, inl, inr, true, false, eqb, List, [], ◌∷◌, ◌++◌, refl, sym, ap, ◌∙◌, subst, arith, append_assoc}
 use Rattle.dc_node.specs.declared.entry.Entry.{Entry}
-use Rattle.link_descent.specs.Descend.{IsWithRow}
+use Rattle.dc_node.specs.Entry.{IsWithRow}
 use Rattle.tree_shape.specs.Counts.{Each, same, times}
 use Rattle.tree_shape.specs.Shape.{Node, Shape, Table}
 use Rattle.tree_shape.specs.Trees.{DirOk, EntryOk, TreeOk}

@@ -2,7 +2,7 @@
 use Rattle.std.specs.Prelude.{◌≡◌, ◌≢◌, ℕ, ◌+◌, ◌-◌, ◌<◌, ◌≤◌, ◌⊎◌, Bool, true, false, cond, eqb, leb, List, [], ◌∷◌, ◌++◌, Some, map}
 use Rattle.dc_node.specs.Summary.{IsSummaryOf}
 use Rattle.dim_hierarchy.specs.Row.{IsRowOf}
-use Rattle.link_descent.specs.Descend.{IsWithRow}
+use Rattle.dc_node.specs.Entry.{IsWithRow}
 use Rattle.dc_node.specs.declared.entry.Entry.{Entry}
 use Rattle.tree_shape.specs.Counts.{Among, Each, same, times, total}
 use Rattle.tree_shape.specs.Queries.{fits}

@@ -7,7 +7,8 @@ use Rattle.cell_stock.specs.Stock.{PurseValue}
 use Rattle.cell_stock.specs.declared.purse.Spare.{Spare}
 use Rattle.shard_store.specs.Gate.{root_entry}
 use Rattle.shard_store.specs.declared.gate.Gate.{Gate}
-use Rattle.link_descent.specs.Descend.{IsWithRow, CutsRoot}
+use Rattle.dc_node.specs.Entry.{IsWithRow}
+use Rattle.link_descent.specs.Descend.{CutsRoot}
 use Rattle.link_descent.specs.declared.entered.Entered.{Entered}
 use Rattle.link_descent.specs.declared.entered.Fresh.{Fresh}
 use Rattle.dc_node.specs.declared.block.Block.{Block}

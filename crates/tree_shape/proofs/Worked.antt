@@ -15,7 +15,8 @@ use Rattle.dc_node.specs.declared.block.Body.TheVariants.{Rows}
 use Rattle.cell_stock.specs.Stock.{PurseValue}
 use Rattle.cell_stock.specs.declared.purse.Spare.{Spare}
 use Rattle.shard_store.specs.Gate.{root_entry}
-use Rattle.link_descent.specs.Descend.{IsWithRow, Enters, Halves}
+use Rattle.dc_node.specs.Entry.{IsWithRow}
+use Rattle.link_descent.specs.Descend.{Enters, Halves}
 use Rattle.link_descent.specs.declared.entered.Entered.{Entered}
 use Rattle.dc_node.specs.declared.block.Block.{Block}
 use Rattle.dc_node.specs.declared.entry.Entry.{Entry}

@@ -6,11 +6,11 @@ use Rattle.link_descent.proofs.descend.step_down.Goals as goal
 
 pub returns-in-Had-clause-parent : goal.returns-in-Had-clause-parent
 returns-in-Had-clause-parent c =
-    valid_with_one c.args.h.now c.args.parent.now c.set_entry.new.self c.from-place.result c.add_row.new.entry c.set_entry.ensures c.requires.parent c.add_row.ensures.valid
+    valid_with_one c.args.h.now c.args.parent.now c.set_entry.new.self c.from-place.result c.add_row.new.self c.set_entry.ensures c.requires.parent c.add_row.ensures.valid
 
 pub returns-in-Half-clause-parent : goal.returns-in-Half-clause-parent
 returns-in-Half-clause-parent c =
-    valid_with_one c.args.h.now c.args.parent.now c.set_entry-in-Half.new.self c.from-place.result c.add_row-in-Half.new.entry c.set_entry-in-Half.ensures c.requires.parent c.add_row-in-Half.ensures.valid
+    valid_with_one c.args.h.now c.args.parent.now c.set_entry-in-Half.new.self c.from-place.result c.add_row-in-Half.new.self c.set_entry-in-Half.ensures c.requires.parent c.add_row-in-Half.ensures.valid
 
 pub returns-in-Two-clause-parent : goal.returns-in-Two-clause-parent
 returns-in-Two-clause-parent c =
@@ -32,7 +32,7 @@ returns-in-Half-clause-step c =
     let m = length-map entries (λ e. e.set) in
     let here = entry_here c.entries.result.now entries c.from-place.result c.args.place c.index-entries-place.result c.copy-entry.result c.entries.ensures.value c.from-place.ensures (omega (arith, w, m, c.from-place.ensures)) c.index-entries-place.is c.copy-entry.ensures in
     StepsDown-halves c.args.h.now c.args.row.now c.args.place c.args.parent.now c.set_entry-in-Half.new.self c.args.child.now c.make_room.new.head c.args.purse.now c.make_room.new.purse c.one.result
-    c.copy-entry.result c.add_row-in-Half.new.entry c.in-Half.fresh c.from-place.result c.from-place.ensures here c.set_entry-in-Half.ensures c.in-Half.ensures.step c.add_row-in-Half.ensures c.one.ensures.fresh c.one.ensures.at
+    c.copy-entry.result c.add_row-in-Half.new.self c.in-Half.fresh c.from-place.result c.from-place.ensures here c.set_entry-in-Half.ensures c.in-Half.ensures.step c.add_row-in-Half.ensures c.one.ensures.fresh c.one.ensures.at
 
 pub returns-in-Two-clause-step : goal.returns-in-Two-clause-step
 returns-in-Two-clause-step c =

@@ -1,9 +1,9 @@
-use Rattle.std.proofs.Common.{◌+◌, ◌-◌, ◌++◌, ap, arith}
+use Rattle.std.proofs.Common.{◌≡◌, ◌+◌, ◌-◌, [], ◌∷◌, ◌++◌, ap, arith, eqb}
 use Rattle.std.specs.List.{flat_map}
 use Rattle.std.specs.Option.{option_copied}
 use Rattle.dc_node.specs.declared.entry.Entry.{Entry}
-use Rattle.tree_page.specs.Lines.{walk, lines, beneath}
-use Rattle.tree_page.proofs.Walks.{walk-on, lines-on}
+use Rattle.tree_page.specs.Lines.{walk, group, line, lines, beneath}
+use Rattle.tree_page.proofs.Walks.{walk-on, lines-on, lines-deeper}
 use Rattle.tree_page.proofs.page.+group.Goals as goal
 
 pub push_beneath-loop-preserved : goal.push_beneath-loop-preserved
@@ -20,3 +20,11 @@ push_beneath-loop-preserved g t c =
       lines = lines-on f c.loop.nodes c.push_entries.new.nodes (c.args.nodes.now ++ flat_map f (beneath blocks entry)) block left rest e c.in_ok-push_entries.ensures c.loop.invariant.lines;
       end = c.loop.invariant.end;
     }
+
+pub push_group-returns-in_ok-push_beneath : goal.push_group-returns-in_ok-push_beneath
+push_group-returns-in_ok-push_beneath t c =
+    let blocks = c.args.blocks.now.items in
+    let entry = c.args.entry.now in
+    let pushed : c.push.new.self ≡ c.args.nodes.now ++ line (eqb c.args.level 0) c.args.depth (group blocks entry) entry ∷ []
+    = rw (c.copy.ensures, c.extent-count.ensures.blocks, c.extent-count.ensures.items) at c.in_ok-push.ensures.ok in
+    lines-deeper blocks c.args.level (c.args.level - 1) c.args.depth entry c.args.nodes.now c.push.new.self c.push_beneath.new.nodes (omega (arith, c.if-level-gt0.true)) pushed c.in_ok-push_beneath.ensures
