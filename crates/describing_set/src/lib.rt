@@ -5,7 +5,6 @@
 mod few;
 mod listing;
 mod part;
-mod picks;
 mod plane;
 mod set;
 #[cfg(test)]

@@ -10,3 +10,4 @@ pub mod Matching
 pub mod Named
 pub mod Names
 pub mod Places
+pub mod Sifting

@@ -1,6 +1,7 @@
 //! Concept hierarchies, and the rows and filters over them.
 #![tactic(auto)]
 
+mod column;
 mod compiled;
 #[cfg(test)]
 mod compiled_tests;
@@ -15,6 +16,7 @@ mod row;
 #[cfg(test)]
 mod tests;
 
+pub use column::{Column, RowPlaces};
 pub use compiled::CompiledFilter;
 pub use concept::ConceptId;
 pub use filter::{Filter, IdList, NameFilter, NamePick, Pick};
