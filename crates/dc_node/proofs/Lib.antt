@@ -1,2 +1,4 @@
 pub mod Places
 pub mod Summaries
+pub mod Rows
+pub mod Keeping

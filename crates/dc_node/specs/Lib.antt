@@ -3,3 +3,4 @@ pub mod Summary
 pub mod Todo
 pub mod Leaf
 pub mod Entry
+pub mod Columns

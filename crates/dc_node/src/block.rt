@@ -7,7 +7,7 @@ use crate::blanks::Blanks;
 use crate::boxed::EntryBox;
 use crate::entry::Entry;
 use crate::leaf::LeafRows;
-use crate::summary::{agg_of_entries, set_of_entries, set_of_rows};
+use crate::summary::{agg_of_entries, set_of_entries};
 use describing_set::DescSet;
 use dim_hierarchy::{Hierarchy, Row};
 use measure_agg::Agg;
@@ -73,17 +73,6 @@ impl Block {
         match &self.body {
             Body::Rows(rows) => rows.is_full(),
             Body::Entries(entries) => entries.is_full(),
-        }
-    }
-
-    /// The rows of a leaf in order; none of a directory.
-    pub fn rows(&self) -> &[Row]
-        ensures value { result.now ≡ rows_in self.now.body }
-        ensures few { length result.now ≤ 32 }
-    {
-        match &self.body {
-            Body::Rows(rows) => rows.as_slice(),
-            Body::Entries(_) => &[],
         }
     }
 
@@ -155,10 +144,7 @@ impl Block {
         ensures valid { IsDescSetOf h.now result.1 }
     {
         match &self.body {
-            Body::Rows(rows) => {
-                let rows = rows.as_slice();
-                (Agg::of_rows(rows), set_of_rows(rows, h))
-            }
+            Body::Rows(rows) => (rows.total(), rows.set(h)),
             Body::Entries(entries) => {
                 let entries = entries.as_slice();
                 (agg_of_entries(entries), set_of_entries(entries, h))

@@ -1,77 +1,134 @@
-ghost use Rattle.std.specs.Prelude.{◌≡◌, ◌==◌, ◌+◌, ◌<◌, ◌≤◌, ◌^◌, [], ◌∷◌, ◌++◌, length, slice_get, slice_set, insert, IfOk, IfSome};
+ghost use Rattle.std.specs.Prelude.{◌≡◌, ◌==◌, ◌+◌, ◌<◌, ◌≤◌, ◌^◌, [], ◌∷◌, ◌++◌, All, filter, length, slice_get, slice_set, insert, IfOk, IfSome};
+ghost use Rattle.dim_hierarchy.specs.Filter.{matches};
 ghost use Rattle.dim_hierarchy.specs.Row.{IsRowOf};
-ghost use Rattle.describing_set.specs.DescSet.{IsDescSetOf};
+ghost use Rattle.measure_agg.specs.Aggregate.{agg};
+ghost use Rattle.describing_set.specs.DescSet.{IsSetOf, IsDescSetOf};
 ghost use Rattle.dc_node.specs.Entry.{HasRowMore};
+ghost use Rattle.dc_node.specs.Summary.{coords};
 
+use crate::columns::Columns;
 use crate::entry::Entry;
 use arrayvec::ArrayVec;
-use dim_hierarchy::{Hierarchy, Row};
+use describing_set::DescSet;
+use dim_hierarchy::{CompiledFilter, Hierarchy, Row};
+use measure_agg::Agg;
 use std::alloc::{AllocError, Global};
 use std::marker::Model;
-use std::slice;
 
-/// The rows of a leaf in a box of their own, at most 32. Contracts see the same as of an `ArrayVec`.
+/// The rows of a leaf by columns in a box of their own, at most 32. Contracts see the list of rows, as
+/// of an `ArrayVec`.
 #[derive(Drop)]
 pub struct RowBox {
-    list: Box<ArrayVec<Row, 32>>,
+    count: usize,
+    columns: Box<Columns>,
 }
 
 impl Model for RowBox {
+    ghost use Rattle.std.specs.Prelude.{◌≤◌};
     ghost use Rattle.arrayvec.specs.ArrayVec.{ArrayVec as Items};
     ghost use Rattle.dim_hierarchy.specs.declared.row.Row.{Row};
+    ghost use Rattle.dc_node.specs.Columns.{rows_of};
 
     ghost Value = { Items Row };
 
-    ghost view = { λ b. b.list.value };
+    ghost view = { λ b. record { items = rows_of b.columns.value b.count } };
+
+    ghost invariant = { λ b. b.count ≤ 32 };
 }
 
 impl RowBox {
-    /// No element.
+    /// No row.
     pub fn new(alloc: Global) -> Result<RowBox, AllocError>
         ensures { IfOk result (λ b. b.items ≡ []) }
     {
-        let list = Box::new(alloc, ArrayVec::new())?;
-        Ok(RowBox { list })
+        let columns = Box::new(alloc, Columns::new())?;
+        Ok(RowBox { count: 0, columns })
     }
 
-    /// The number of elements.
+    /// How many rows there are.
+    #[tactic(auto, using(crate::proofs::Rows::length_rows))]
     pub fn len(&self) -> usize
-        ensures { result ≡ length self.now.items }
+        ensures value { result ≡ length self.now.items }
+        ensures fits { result ≤ 32 }
     {
-        self.list.len()
+        self.count
     }
 
-    /// Whether there is no room left.
-    pub fn is_full(&self) -> bool
-        ensures value { result ≡ (length self.now.items == 32) }
-        ensures fits { length self.now.items ≤ 32 }
+    /// The row at a place.
+    #[tactic(auto, using(crate::proofs::Rows::length_rows, crate::proofs::Rows::row_of_rows))]
+    pub fn row(&self, place: usize) -> Row
+        requires { place < length self.now.items }
+        ensures { slice_get self.now.items place ≡ Some result }
     {
-        self.list.is_full()
+        self.columns.row(place)
     }
 
-    /// The elements.
-    pub fn as_slice(&self) -> &[Row]
-        ensures value { result.now ≡ self.now.items }
-        ensures fits { length result.now ≤ 32 }
-    {
-        self.list.as_slice()
-    }
-
-    /// Appends an element. There must be room.
-    pub fn push(&mut self, element: &Row)
+    /// Adds a row at the end. There must be room.
+    #[tactic(auto, using(crate::proofs::Rows::length_rows))]
+    pub fn push(&mut self, row: &Row)
         requires { length self.old.items < 32 }
-        ensures items { self.new.items ≡ self.old.items ++ element.now ∷ [] }
+        ensures items { self.new.items ≡ self.old.items ++ row.now ∷ [] }
         ensures len { length self.new.items ≡ length self.old.items + 1 }
     {
-        let pushed = self.list.try_extend_from_slice(slice::from_ref(element));
-        prove!(pushed.is_ok());
+        self.columns.put(self.count, row);
+        self.count += 1;
     }
 
-    /// Drops every element.
+    /// Drops every row.
     pub fn clear(&mut self)
         ensures { self.new.items ≡ [] }
     {
-        self.list.clear();
+        self.count = 0;
+    }
+
+    /// Adds a copy of the row at a place to another box, where there is room.
+    #[tactic(auto, using(crate::proofs::Rows::length_rows, crate::proofs::Rows::row_of_rows))]
+    pub fn copy_row(&self, place: usize, other: &mut RowBox)
+        requires place { place < length self.now.items }
+        requires room { length other.old.items < 32 }
+        ensures items { IfSome (slice_get self.now.items place)
+            (λ row. other.new.items ≡ other.old.items ++ row ∷ []) }
+        ensures len { length other.new.items ≡ length other.old.items + 1 }
+    {
+        self.columns
+            .copy_row(place, &mut other.columns, other.count);
+        other.count += 1;
+    }
+
+    /// The describing set of the row at a place.
+    #[tactic(auto, using(crate::proofs::Rows::length_rows, crate::proofs::Rows::row_of_rows))]
+    pub fn set_at(&self, place: usize, h: &Hierarchy) -> DescSet
+        requires place { place < length self.now.items }
+        requires rows { All (IsRowOf h.now) self.now.items }
+        ensures set { IfSome (slice_get self.now.items place)
+            (λ row. IsSetOf h.now (row.at ∷ []) result) }
+        ensures valid { IsDescSetOf h.now result }
+    {
+        self.columns.set_at(place, h)
+    }
+
+    /// The describing set of all rows.
+    pub fn set(&self, h: &Hierarchy) -> DescSet
+        requires { All (IsRowOf h.now) self.now.items }
+        ensures set { IsSetOf h.now (coords self.now.items) result }
+        ensures valid { IsDescSetOf h.now result }
+    {
+        self.columns.set(self.count, h)
+    }
+
+    /// The aggregate of all rows.
+    pub fn total(&self) -> Agg
+        ensures { result ≡ agg self.now.items }
+    {
+        self.columns.total(self.count)
+    }
+
+    /// The aggregate of the rows that a filter matches.
+    pub fn matching(&self, wanted: &CompiledFilter) -> Agg
+        requires { All (IsRowOf wanted.now.hierarchy) self.now.items }
+        ensures { result ≡ agg (filter (λ r. matches wanted.now.hierarchy wanted.now.picks r.at) self.now.items) }
+    {
+        self.columns.matching(self.count, wanted)
     }
 }
 

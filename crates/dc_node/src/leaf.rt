@@ -1,8 +1,15 @@
-ghost use Rattle.std.specs.Prelude.{◌≡◌, ◌==◌, ◌+◌, ◌<◌, ◌≤◌, [], ◌∷◌, ◌++◌, length};
+ghost use Rattle.std.specs.Prelude.{◌≡◌, ◌==◌, ◌+◌, ◌<◌, ◌≤◌, [], ◌∷◌, ◌++◌, All, filter, length, slice_get, IfSome};
+ghost use Rattle.dim_hierarchy.specs.Filter.{matches};
+ghost use Rattle.dim_hierarchy.specs.Row.{IsRowOf};
+ghost use Rattle.measure_agg.specs.Aggregate.{agg};
+ghost use Rattle.describing_set.specs.DescSet.{IsSetOf, IsDescSetOf};
+ghost use Rattle.dc_node.specs.Summary.{coords};
 
 use crate::blanks::Blanks;
 use crate::boxed::RowBox;
-use dim_hierarchy::Row;
+use describing_set::DescSet;
+use dim_hierarchy::{CompiledFilter, Hierarchy, Row};
+use measure_agg::Agg;
 use std::marker::Model;
 
 /// The rows of a leaf. They have no box until the first row comes, so that an empty leaf takes no
@@ -39,9 +46,13 @@ impl LeafRows {
 
     /// How many there are.
     pub fn len(&self) -> usize
-        ensures { result ≡ length self.now.items }
+        ensures value { result ≡ length self.now.items }
+        ensures few { result ≤ 32 }
     {
-        self.as_slice().len()
+        match &self.list {
+            Some(rows) => rows.len(),
+            None => 0,
+        }
     }
 
     /// Whether there is no room for a further one.
@@ -49,17 +60,77 @@ impl LeafRows {
         ensures value { result ≡ (length self.now.items == 32) }
         ensures few { length self.now.items ≤ 32 }
     {
-        self.as_slice().len() == 32
+        self.len() == 32
     }
 
-    /// The rows in order.
-    pub fn as_slice(&self) -> &[Row]
-        ensures value { result.now ≡ self.now.items }
-        ensures few { length result.now ≤ 32 }
+    /// The row at a place.
+    pub fn row(&self, place: usize) -> Option<Row>
+        ensures { result ≡ slice_get self.now.items place }
     {
         match &self.list {
-            Some(rows) => rows.as_slice(),
-            None => &[],
+            Some(rows) if place < rows.len() => Some(rows.row(place)),
+            _ => None,
+        }
+    }
+
+    /// Adds a copy of the row at a place to a box, where there is room.
+    pub fn copy_row(&self, place: usize, other: &mut RowBox)
+        requires place { place < length self.now.items }
+        requires room { length other.old.items < 32 }
+        ensures items { IfSome (slice_get self.now.items place)
+            (λ row. other.new.items ≡ other.old.items ++ row ∷ []) }
+        ensures len { length other.new.items ≡ length other.old.items + 1 }
+    {
+        if let Some(rows) = &self.list {
+            rows.copy_row(place, other);
+        }
+    }
+
+    /// The describing set of the row at a place.
+    pub fn set_at(&self, place: usize, h: &Hierarchy) -> DescSet
+        requires place { place < length self.now.items }
+        requires rows { All (IsRowOf h.now) self.now.items }
+        ensures set { IfSome (slice_get self.now.items place)
+            (λ row. IsSetOf h.now (row.at ∷ []) result) }
+        ensures valid { IsDescSetOf h.now result }
+    {
+        match &self.list {
+            Some(rows) => rows.set_at(place, h),
+            None => DescSet::empty(h),
+        }
+    }
+
+    /// The describing set of all rows.
+    pub fn set(&self, h: &Hierarchy) -> DescSet
+        requires { All (IsRowOf h.now) self.now.items }
+        ensures set { IsSetOf h.now (coords self.now.items) result }
+        ensures valid { IsDescSetOf h.now result }
+    {
+        match &self.list {
+            Some(rows) => rows.set(h),
+            None => DescSet::empty(h),
+        }
+    }
+
+    /// The aggregate of all rows.
+    pub fn total(&self) -> Agg
+        ensures { result ≡ agg self.now.items }
+    {
+        match &self.list {
+            Some(rows) => rows.total(),
+            None => Agg::EMPTY,
+        }
+    }
+
+    /// The aggregate of the rows that a filter matches.
+    pub fn matching(&self, wanted: &CompiledFilter) -> Agg
+        requires { All (IsRowOf wanted.now.hierarchy) self.now.items }
+        ensures value { result ≡ agg (filter (λ r. matches wanted.now.hierarchy wanted.now.picks r.at) self.now.items) }
+        ensures few { result.count ≤ length self.now.items }
+    {
+        match &self.list {
+            Some(rows) => rows.matching(wanted),
+            None => Agg::EMPTY,
         }
     }
 

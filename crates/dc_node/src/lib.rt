@@ -4,6 +4,7 @@
 mod blanks;
 mod block;
 mod boxed;
+mod columns;
 mod entry;
 mod leaf;
 mod summary;
@@ -16,5 +17,5 @@ pub use block::{Block, Body};
 pub use boxed::{EntryBox, RowBox};
 pub use entry::Entry;
 pub use leaf::LeafRows;
-pub use summary::laws;
+pub use summary::{agg_laws, laws};
 pub use todo::{Item, Todo};

@@ -11,22 +11,8 @@ ghost use Rattle.dc_node.specs.declared.entry.Entry.{Entry};
 
 use crate::entry::Entry;
 use describing_set::DescSet;
-use dim_hierarchy::{Hierarchy, Row};
+use dim_hierarchy::Hierarchy;
 use measure_agg::Agg;
-
-/// The set of the coordinates of rows.
-pub(crate) fn set_of_rows(rows: &[Row], h: &Hierarchy) -> DescSet
-    requires { All (IsRowOf h.now) rows.now }
-    ensures set { IsSetOf h.now (coords rows.now) result }
-    ensures valid { IsDescSetOf h.now result }
-{
-    DescSet::laws(h);
-    let mut set = DescSet::empty(h);
-    for row in rows {
-        set.grow(h, &row.at);
-    }
-    set
-}
 
 /// The aggregates of entries together.
 pub(crate) fn agg_of_entries(entries: &[Entry]) -> Agg
@@ -68,8 +54,6 @@ pub fn laws(h: &Hierarchy)
     ensures joined { (lists : List (List Row)) (entries : List Entry)
         → AllZip (λ rows e. e.agg ≡ agg rows) lists entries
         → joined (aggs entries) ≡ agg (flat_map (λ rows. rows) lists) }
-    ensures joined_append { (xs ys : List Aggregate)
-        → joined (xs ++ ys) ≡ join (joined xs) (joined ys) }
 
     ensures order { (rows others : List Row) (total : Aggregate) (set : DescSet)
         → IsPermutation rows others
@@ -91,5 +75,13 @@ pub fn laws(h: &Hierarchy)
     // The first call says that it is a hierarchy.
     let _dims = h.dims();
     DescSet::laws(h);
+    measure_agg::laws();
+}
+
+/// The law of the aggregates of two lists of entries together, with no code.
+pub fn agg_laws()
+    ensures joined_append { (xs ys : List Aggregate)
+        → joined (xs ++ ys) ≡ join (joined xs) (joined ys) }
+{
     measure_agg::laws();
 }

@@ -3,7 +3,6 @@ use Rattle.std.proofs.Common.{ℕ, ◌≡◌, ◌≢◌, ◌+◌, ◌-◌, ◌<�
 use Rattle.std.specs.Prelude.{All as Each, Any, ◌↔◌, IsTrue, ◌&&◌}
 use Rattle.std.specs.List.{list_any, list_all}
 use Rattle.std.proofs.lemmas.Bool.{and_parts, and_from, cases_lt, false≢true, lt-ltb, ltb-true}
-use Rattle.std.proofs.lemmas.List.{get_or_default}
 use Rattle.std.proofs.lemmas.List.Folds.{Any-from_list_any, list_any-from_Any}
 use Rattle.std.proofs.lemmas.List.Elements.{All-contains, All-head, All-tail, All-cons, All-nil}
 use Rattle.dim_hierarchy.specs.Tree.{Tree, IsConcept, IsTree, IsUnder, is_under, up, climb}
@@ -22,10 +21,6 @@ use Rattle.dim_hierarchy.specs.Compiled.{is_related}
 use Rattle.describing_set.specs.Filter.{IsInside, is_part_inside, is_inside, AreRelated, are_related, IsMet, is_met, is_part_met, Overlaps, overlaps}
 use Rattle.describing_set.proofs.Covering.{in_each-from, in_each-at}
 use Rattle.describing_set.proofs.Sets.{part_at-IsPart, IsPart-concepts}
-
--- a pick as the code reads it
-pub pick_read : (f read : List Pick) (i dim : ℕ) (p : Pick) → read ≡ f → i ≡ dim → dim < length f → p ≡ get_or read i p → p ≡ pick_at f dim
-pick_read f read i dim p e n lt is = is ∙ ap (λ l. get_or l i p) e ∙ ap (λ k. get_or f k p) n ∙ get_or_default f dim p All lt
 
 -- Inside.
 

@@ -8,6 +8,7 @@ use Rattle.dim_hierarchy.specs.Concept.{level_of}
 use Rattle.dim_hierarchy.specs.Tree.{Tree, IsConcept, IsLeaf, leaf_level}
 use Rattle.dim_hierarchy.specs.Dimension.{Dimension, tree, IsHierarchy}
 use Rattle.dim_hierarchy.specs.Row.{IsCoordOf, concept_at}
+use Rattle.dim_hierarchy.specs.Compiled.{AreOfLevel}
 use Rattle.dim_hierarchy.specs.declared.row.Coord.{Coord}
 use Rattle.describing_set.specs.Ascending.{In}
 use Rattle.describing_set.specs.declared.part.Part.{Part}
@@ -51,6 +52,12 @@ part_at-above h set at dim lt s a = let low = part_at-level h set dim lt s in le
 
 pub IsPart-concepts : (t : Tree) (p : Part) → IsPart t p → Each (IsConcept t) p.ids.items
 IsPart-concepts t p i = All-from_In (IsConcept t) p.ids.items i.concept
+
+pub IsPart-of_level : (t : Tree) (p : Part) → IsPart t p → AreOfLevel t p.level p.ids.items
+IsPart-of_level t p i = All-from_In (λ id. IsConcept t id × (level_of id ≡ p.level)) p.ids.items (λ id k. (i.concept id k, i.level id k))
+
+pub part_at-within : (h : List Dimension) (set : DescSet) (dim : ℕ) → dim < length h → IsDescSetOf h set → (part_at set dim).level < length (tree h dim)
+part_at-within h set dim lt s = let low = part_at-level h set dim lt s in let tall = (s.hierarchy.each dim lt).tree.some in omega (arith, low, tall)
 
 -- what the code reads is the part
 pub part_read : (set : DescSet) (xs : List Part) (i dim : ℕ) (x : Part) → xs ≡ set.parts.items → i ≡ dim → dim < length set.parts.items → x ≡ get_or xs i x → x ≡ part_at set dim

@@ -6,7 +6,6 @@ mod few;
 mod listing;
 mod part;
 mod part_list;
-mod picks;
 mod plane;
 mod set;
 #[cfg(test)]

@@ -1,15 +1,13 @@
-ghost use Rattle.std.specs.Prelude.{◌≡◌, ◌<◌, ◌≤◌, ◌-◌, length, All};
+ghost use Rattle.std.specs.Prelude.{◌≡◌, ◌<◌, ◌≤◌, ◌-◌, length};
 ghost use Rattle.dim_hierarchy.specs.Concept.{level_of};
 ghost use Rattle.dim_hierarchy.specs.Tree.{IsConcept, leaf_level};
 ghost use Rattle.dim_hierarchy.specs.Dimension.{tree, IsHierarchy};
 ghost use Rattle.dim_hierarchy.specs.Row.{concept_at};
-ghost use Rattle.dim_hierarchy.specs.Filter.{IsPickOf, pick_at};
-ghost use Rattle.dim_hierarchy.specs.Compiled.{is_related};
-ghost use Rattle.std.specs.List.{list_any};
+ghost use Rattle.dim_hierarchy.specs.Filter.{pick_at};
+ghost use Rattle.dim_hierarchy.specs.Compiled.{AreOfLevel};
 
 use crate::few::FewConcepts;
-use crate::picks::{is_met, is_picked};
-use dim_hierarchy::{CompiledFilter, ConceptId, CoordLineages, Hierarchy, Pick};
+use dim_hierarchy::{CompiledFilter, ConceptId, CoordLineages, Hierarchy};
 
 /// One dimension of a describing set: a level, and at most 6 concepts of it, ascending.
 #[derive(Clone, Copy, Debug, Default, Drop, PartialEq)]
@@ -102,63 +100,25 @@ impl Part {
         self.ids.has(at.up(dim, self.level))
     }
 
-    /// Whether the pick has each concept of the part.
-    pub(crate) fn is_inside(&self, h: &Hierarchy, dim: u8, pick: &Pick) -> bool
-        requires dim { dim < length h.now }
-        requires concepts { All (IsConcept (tree h.now dim)) self.now.ids.items }
-        requires pick { IsPickOf (tree h.now dim) pick.now }
-        ensures { result ≡ is_part_inside (tree h.now dim) self.now pick.now }
-    {
-        for id in self.ids.as_slice() {
-            if !is_picked(h, dim, *id, pick) {
-                return false;
-            }
-        }
-        true
-    }
-
-    /// Whether the part has a concept, and the pick meets its concepts.
-    pub(crate) fn is_met(&self, h: &Hierarchy, dim: u8, pick: &Pick) -> bool
-        requires dim { dim < length h.now }
-        requires concepts { All (IsConcept (tree h.now dim)) self.now.ids.items }
-        requires pick { IsPickOf (tree h.now dim) pick.now }
-        ensures { result ≡ is_part_met (tree h.now dim) self.now pick.now }
-    {
-        !self.ids.is_empty() && is_met(h, dim, self.ids.as_slice(), pick)
-    }
-
     /// Whether the filter picks each concept of the part.
-    pub(crate) fn is_inside_of(&self, wanted: &CompiledFilter, dim: u8) -> bool
+    pub(crate) fn is_inside(&self, wanted: &CompiledFilter, dim: u8) -> bool
         requires dim { dim < length wanted.now.hierarchy }
-        requires concepts { All (IsConcept (tree wanted.now.hierarchy dim)) self.now.ids.items }
+        requires level { self.now.level < length (tree wanted.now.hierarchy dim) }
+        requires concepts { AreOfLevel (tree wanted.now.hierarchy dim) self.now.level self.now.ids.items }
         ensures { result
             ≡ is_part_inside (tree wanted.now.hierarchy dim) self.now (pick_at wanted.now.picks dim) }
     {
-        for id in self.ids.as_slice() {
-            if !wanted.has(dim, *id) {
-                return false;
-            }
-        }
-        true
+        wanted.has_all(dim, self.level, self.ids.as_slice())
     }
 
     /// Whether the filter picks a concept of the part or lists one that is under it.
-    pub(crate) fn is_met_by(&self, wanted: &CompiledFilter, dim: u8) -> bool
+    pub(crate) fn is_met(&self, wanted: &CompiledFilter, dim: u8) -> bool
         requires dim { dim < length wanted.now.hierarchy }
-        requires concepts { All (IsConcept (tree wanted.now.hierarchy dim)) self.now.ids.items }
+        requires level { self.now.level < length (tree wanted.now.hierarchy dim) }
+        requires concepts { AreOfLevel (tree wanted.now.hierarchy dim) self.now.level self.now.ids.items }
         ensures { result
             ≡ is_part_met (tree wanted.now.hierarchy dim) self.now (pick_at wanted.now.picks dim) }
     {
-        meets_any(wanted, dim, self.ids.as_slice())
+        wanted.meets_any(dim, self.level, self.ids.as_slice())
     }
-}
-
-/// Whether the filter picks one of these concepts or lists one that is under one of them.
-fn meets_any(wanted: &CompiledFilter, dim: u8, ids: &[ConceptId]) -> bool
-    requires dim { dim < length wanted.now.hierarchy }
-    requires concepts { All (IsConcept (tree wanted.now.hierarchy dim)) ids.now }
-    ensures { result
-        ≡ list_any (is_related (tree wanted.now.hierarchy dim) (pick_at wanted.now.picks dim)) ids.now }
-{
-    ids.iter().any(|id| wanted.meets(dim, *id))
 }

@@ -3,12 +3,13 @@ ghost use Rattle.std.specs.Bool.{OnTrue, OnFalse};
 ghost use Rattle.dim_hierarchy.specs.Tree.{IsConcept, leaf_level};
 ghost use Rattle.dim_hierarchy.specs.Dimension.{tree, IsHierarchy};
 ghost use Rattle.dim_hierarchy.specs.Row.{IsCoordOf};
-ghost use Rattle.dim_hierarchy.specs.Filter.{IsFilterOf, Matches};
+ghost use Rattle.dim_hierarchy.specs.Filter.{Matches};
+ghost use Rattle.dim_hierarchy.specs.Compiled.{AreOfLevel};
 
 use crate::few::FewConcepts;
 use crate::part::Part;
 use crate::part_list::PartList;
-use dim_hierarchy::{CompiledFilter, Coord, CoordLineages, Filter, Hierarchy};
+use dim_hierarchy::{CompiledFilter, Coord, CoordLineages, Hierarchy};
 
 /// A part for each dimension. No call on sets takes memory.
 #[derive(Debug, Default, Drop, PartialEq)]
@@ -96,48 +97,7 @@ impl DescSet {
 
     /// Whether in each dimension the filter picks each concept of the set. It then matches each
     /// coordinate that the set covers.
-    pub fn inside(&self, h: &Hierarchy, filter: &Filter) -> bool
-        requires set { IsDescSetOf h.now self.now }
-        requires filter { IsFilterOf h.now filter.now }
-        ensures test { result ≡ is_inside h.now self.now filter.now }
-        ensures meaning { IsTrue result ↔ IsInside h.now self.now filter.now }
-        ensures all_match { OnTrue result
-            ((at : Coord) → Covers h.now self.now at → Matches h.now filter.now at) }
-    {
-        let picks = filter.as_slice();
-        for dim in 0..h.dims() {
-            if !self
-                .part(h, dim)
-                .is_inside(h, dim, &picks[usize::from(dim)])
-            {
-                return false;
-            }
-        }
-        true
-    }
-
-    /// Whether the set is not empty, and in each dimension the filter is all or lists a concept of
-    /// which one of the set's is an ancestor or a descendant. Else the filter matches no coordinate
-    /// that the set covers. False where there is no dimension.
-    pub fn overlaps(&self, h: &Hierarchy, filter: &Filter) -> bool
-        requires set { IsDescSetOf h.now self.now }
-        requires filter { IsFilterOf h.now filter.now }
-        ensures test { result ≡ overlaps h.now self.now filter.now }
-        ensures meaning { IsTrue result ↔ Overlaps h.now self.now filter.now }
-        ensures none_match { OnFalse result (0 < length h.now
-            → (at : Coord) → Covers h.now self.now at → ¬ Matches h.now filter.now at) }
-    {
-        let picks = filter.as_slice();
-        for dim in 0..h.dims() {
-            if !self.part(h, dim).is_met(h, dim, &picks[usize::from(dim)]) {
-                return false;
-            }
-        }
-        h.dims() > 0
-    }
-
-    /// As `inside`, of a compiled filter.
-    pub fn inside_of(&self, wanted: &CompiledFilter) -> bool
+    pub fn inside(&self, wanted: &CompiledFilter) -> bool
         requires { IsDescSetOf wanted.now.hierarchy self.now }
         ensures test { result ≡ is_inside wanted.now.hierarchy self.now wanted.now.picks }
         ensures meaning { IsTrue result
@@ -147,15 +107,17 @@ impl DescSet {
             → Matches wanted.now.hierarchy wanted.now.picks at) }
     {
         for dim in 0..wanted.dims() {
-            if !self.part_for(wanted, dim).is_inside_of(wanted, dim) {
+            if !self.part_for(wanted, dim).is_inside(wanted, dim) {
                 return false;
             }
         }
         true
     }
 
-    /// As `overlaps`, with a compiled filter.
-    pub fn overlaps_with(&self, wanted: &CompiledFilter) -> bool
+    /// Whether the set is not empty, and in each dimension the filter is all or lists a concept of
+    /// which one of the set's is an ancestor or a descendant. Else the filter matches no coordinate
+    /// that the set covers. False where there is no dimension.
+    pub fn overlaps(&self, wanted: &CompiledFilter) -> bool
         requires { IsDescSetOf wanted.now.hierarchy self.now }
         ensures test { result ≡ overlaps wanted.now.hierarchy self.now wanted.now.picks }
         ensures meaning { IsTrue result
@@ -165,7 +127,7 @@ impl DescSet {
             → ¬ Matches wanted.now.hierarchy wanted.now.picks at) }
     {
         for dim in 0..wanted.dims() {
-            if !self.part_for(wanted, dim).is_met_by(wanted, dim) {
+            if !self.part_for(wanted, dim).is_met(wanted, dim) {
                 return false;
             }
         }
@@ -249,7 +211,8 @@ impl DescSet {
         requires dim { dim < length wanted.now.hierarchy }
         requires set { IsDescSetOf wanted.now.hierarchy self.now }
         ensures value { result.now ≡ part_at self.now dim }
-        ensures concepts { All (IsConcept (tree wanted.now.hierarchy dim)) result.now.ids.items }
+        ensures level { result.now.level < length (tree wanted.now.hierarchy dim) }
+        ensures concepts { AreOfLevel (tree wanted.now.hierarchy dim) result.now.level result.now.ids.items }
     {
         &self.parts.as_slice()[usize::from(dim)]
     }

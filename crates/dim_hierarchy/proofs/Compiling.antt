@@ -1,55 +1,155 @@
 -- The marks of a filter, made and read.
-use Rattle.std.proofs.Common.{ℕ, ◌≡◌, ◌+◌, ◌<◌, List, [], ◌∷◌, ◌++◌, length, get_or, refl, sym, ap, subst, ◌∙◌, arith, inl, inr, length-append}
-use Rattle.std.proofs.lemmas.Bool.{cases_lt}
+use Rattle.std.proofs.Common.{ℕ, ◌≡◌, ◌+◌, ◌-◌, ◌<◌, ◌≤◌, Bool, true, false, eqb, List, [], ◌∷◌, ◌++◌, Option, None, length, get_or, refl, sym, ap, subst, ◌∙◌, arith, inl, inr, length-append}
+use Rattle.std.specs.Prelude.{All as Each, ◌==◌, filter, nat_lt, not}
+use Rattle.std.specs.List.{list_all, list_any}
+use Rattle.std.proofs.lemmas.Bool.{cases_lt, eqb-true}
 use Rattle.std.proofs.lemmas.List.{get_or_append_left, get_or_push, get_or_default}
+use Rattle.std.proofs.lemmas.List.Elements.{All-head, All-tail}
 use Rattle.dim_hierarchy.specs.Concept.{level_of, number_of}
-use Rattle.dim_hierarchy.specs.Tree.{Tree, IsConcept}
+use Rattle.dim_hierarchy.specs.Tree.{Tree, IsConcept, IsLeaf, leaf_level, parents_at}
 use Rattle.dim_hierarchy.specs.Dimension.{Dimension, tree}
-use Rattle.dim_hierarchy.specs.Filter.{IsFilterOf, pick_at}
+use Rattle.dim_hierarchy.specs.Filter.{IsFilterOf, is_picked, pick_at}
 use Rattle.dim_hierarchy.specs.declared.filter.Pick.{Pick}
+use Rattle.dim_hierarchy.specs.declared.filter.Pick.TheVariants.{All}
+use Rattle.dim_hierarchy.specs.Column.{is_marked}
 use Rattle.dim_hierarchy.specs.Marks.{mark, mark_at, AreMarksOf}
-use Rattle.dim_hierarchy.specs.Compiled.{AreFilterMarks}
+use Rattle.dim_hierarchy.specs.Compiled.{AreDimMarks, AreFilterMarks, AreOfLevel, is_related}
+use Rattle.dim_hierarchy.proofs.Marking.{mark_under, mark_some}
 
 -- the marks of the first dimensions
-pub record AreFirstMarks (h : List Dimension) (f : List Pick) (n : ℕ) (marks : List (List (List ℕ))) : Type 0 where
+pub record AreFirstMarks (h : List Dimension) (f : List Pick) (n : ℕ) (marks : List (Option (List (List ℕ)))) : Type 0 where
   pub count : length marks ≡ n
-  pub each : (dim : ℕ) → dim < n → AreMarksOf (tree h dim) (pick_at f dim) (get_or marks dim [])
+  pub each : (dim : ℕ) → dim < n → AreDimMarks (tree h dim) (pick_at f dim) (get_or marks dim None)
 
-pub AreFirstMarks-more : (h : List Dimension) (f : List Pick) (n : ℕ) (marks : List (List (List ℕ))) (more : List (List ℕ)) → AreFirstMarks h f n marks
-    → AreMarksOf (tree h n) (pick_at f n) more → AreFirstMarks h f (n + 1) (marks ++ more ∷ [])
+pub AreFirstMarks-more : (h : List Dimension) (f : List Pick) (n : ℕ) (marks : List (Option (List (List ℕ)))) (more : Option (List (List ℕ))) → AreFirstMarks h f n marks
+    → AreDimMarks (tree h n) (pick_at f n) more → AreFirstMarks h f (n + 1) (marks ++ more ∷ [])
 AreFirstMarks-more h f n marks more u m = record {
   count = length-append marks (more ∷ []) ∙ ap (λ k. k + 1) u.count;
   each = λ dim lt. elim (cases_lt dim n) [
-    | inl below ↦ subst (AreMarksOf (tree h dim) (pick_at f dim)) (sym (get_or_append_left marks (more ∷ []) [] dim (let c = u.count in omega (arith, c, below)))) (u.each dim below)
+    | inl below ↦ subst (AreDimMarks (tree h dim) (pick_at f dim)) (sym (get_or_append_left marks (more ∷ []) None dim (let c = u.count in omega (arith, c, below)))) (u.each dim below)
     | inr le ↦
         let is : dim ≡ n = omega (arith, le, lt) in
         let at : length marks ≡ dim = u.count ∙ sym is in
-        subst (AreMarksOf (tree h dim) (pick_at f dim)) (sym (get_or_push marks more [] dim at)) (subst (λ d. AreMarksOf (tree h d) (pick_at f d) more) (sym is) m)
+        subst (AreDimMarks (tree h dim) (pick_at f dim)) (sym (get_or_push marks more None dim at)) (subst (λ d. AreDimMarks (tree h d) (pick_at f d) more) (sym is) m)
   ];
 }
 
-pub AreFilterMarks-all : (h : List Dimension) (f : List Pick) (n : ℕ) (marks : List (List (List ℕ))) → IsFilterOf h f → n ≡ length h → AreFirstMarks h f n marks → AreFilterMarks h f marks
+pub AreFilterMarks-all : (h : List Dimension) (f : List Pick) (n : ℕ) (marks : List (Option (List (List ℕ)))) → IsFilterOf h f → n ≡ length h → AreFirstMarks h f n marks → AreFilterMarks h f marks
 AreFilterMarks-all h f n marks v e u = record {
   valid = v;
   count = u.count ∙ e;
   each = λ dim lt. u.each dim (omega (arith, e, lt));
 }
 
--- what is read at a concept
+-- the marks of a dimension, as the code reads them
+pub marks_read : (h : List Dimension) (f : List Pick) (all : List (Option (List (List ℕ)))) (i dim : ℕ) (marks : Option (List (List ℕ))) → AreFilterMarks h f all → dim < length h
+    → i ≡ dim → marks ≡ get_or all i marks → AreDimMarks (tree h dim) (pick_at f dim) marks
+marks_read h f all i dim marks a lt e read =
+    let within : dim < length all = let n = a.count in omega (arith, n, lt) in
+    let is : marks ≡ get_or all dim None = read ∙ ap (λ k. get_or all k marks) e ∙ get_or_default all dim marks None within in
+    subst (AreDimMarks (tree h dim) (pick_at f dim)) (sym is) (a.each dim lt)
+
+-- What is read at a concept.
+
 pub record IsRead (t : Tree) (p : Pick) (id : ℕ) (marks : List (List ℕ)) : Type 0 where
   pub level : level_of id < length marks
   pub number : number_of id < length (get_or marks (level_of id) [])
   pub is : mark_at marks id ≡ mark t p id
 
-pub IsRead-at : (h : List Dimension) (f : List Pick) (all : List (List (List ℕ))) (i dim id : ℕ) (marks : List (List ℕ)) → AreFilterMarks h f all → dim < length h → IsConcept (tree h dim) id
-    → i ≡ dim → marks ≡ get_or all i marks → IsRead (tree h dim) (pick_at f dim) id marks
-IsRead-at h f all i dim id marks a lt c e read =
-    let within : dim < length all = let n = a.count in omega (arith, n, lt) in
-    let is : marks ≡ get_or all dim [] = read ∙ ap (λ k. get_or all k marks) e ∙ get_or_default all dim marks [] within in
-    let m = a.each dim lt in
+pub IsRead-at : (t : Tree) (p : Pick) (id : ℕ) (marks : List (List ℕ)) → AreMarksOf t p marks → IsConcept t id → IsRead t p id marks
+IsRead-at t p id marks m c =
     let lc = c.level in
-    let level : level_of id < length (get_or all dim []) = let n = m.count in omega (arith, n, lc) in
-    let here = m.each (level_of id) lc in
-    let number : number_of id < length (get_or (get_or all dim []) (level_of id) []) = let n = here.count in let k = c.number in omega (arith, n, k) in
-    let value : mark_at (get_or all dim []) id ≡ mark (tree h dim) (pick_at f dim) id = here.each id c refl in
-    subst (IsRead (tree h dim) (pick_at f dim) id) (sym is) (record { level = level; number = number; is = value })
+    let here = m.each (level_of id) lc in record {
+      level = let n = m.count in omega (arith, n, lc);
+      number = let n = here.count in let k = c.number in omega (arith, n, k);
+      is = here.each id c refl;
+    }
+
+-- What is read at concepts of a level.
+
+list_all-same : (p q : ℕ → Bool) (xs : List ℕ) → Each (λ x. p x ≡ q x) xs → list_all p xs ≡ list_all q xs
+list_all-same p q [] e = refl
+list_all-same p q (x ∷ xs) e =
+    rw (All-head (λ y. p y ≡ q y) x xs e, list_all-same p q xs (All-tail (λ y. p y ≡ q y) x xs e)) refl
+
+list_any-same : (p q : ℕ → Bool) (xs : List ℕ) → Each (λ x. p x ≡ q x) xs → list_any p xs ≡ list_any q xs
+list_any-same p q [] e = refl
+list_any-same p q (x ∷ xs) e =
+    rw (All-head (λ y. p y ≡ q y) x xs e, list_any-same p q xs (All-tail (λ y. p y ≡ q y) x xs e)) refl
+
+filter-same : (p q : ℕ → Bool) (xs : List ℕ) → Each (λ x. p x ≡ q x) xs → filter p xs ≡ filter q xs
+filter-same p q [] e = refl
+filter-same p q (x ∷ xs) e =
+    rw (All-head (λ y. p y ≡ q y) x xs e, filter-same p q xs (All-tail (λ y. p y ≡ q y) x xs e)) refl
+
+-- a concept's number is in range, and its mark is read there
+pub number_within : (t : Tree) (p : Pick) (level id : ℕ) (marks : List (List ℕ)) → AreMarksOf t p marks → level < length t → IsConcept t id → level_of id ≡ level → number_of id < length (get_or marks level [])
+number_within t p level id marks m lt c e =
+    let n = (m.each level lt).count in
+    let same : length (parents_at t (level_of id)) ≡ length (parents_at t level) = ap (λ l. length (parents_at t l)) e in
+    let k = c.number in
+    omega (arith, n, same, k)
+
+pub numbers_within : (t : Tree) (p : Pick) (level : ℕ) (ids : List ℕ) (marks : List (List ℕ)) → AreMarksOf t p marks → level < length t → AreOfLevel t level ids → Each (λ id. number_of id < length (get_or marks level [])) ids
+numbers_within t p level ids marks m lt all = λ k d within. let c = all k d within in number_within t p level (get_or ids k d) marks m lt c.0 c.1
+
+pub all_under : (t : Tree) (p : Pick) (level : ℕ) (ids : List ℕ) (marks : List (List ℕ)) → AreMarksOf t p marks → level < length t → AreOfLevel t level ids
+    → list_all (λ id. get_or (get_or marks level []) (number_of id) 0 == 2) ids ≡ list_all (is_picked t p) ids
+all_under t p level ids marks m lt all =
+    list_all-same _ (is_picked t p) ids (λ k d within.
+    let c = all k d within in
+    ap (λ x. x == 2) ((m.each level lt).each (get_or ids k d) c.0 c.1) ∙ mark_under t p (get_or ids k d))
+
+pub any_related : (t : Tree) (p : Pick) (level : ℕ) (ids : List ℕ) (marks : List (List ℕ)) → AreMarksOf t p marks → level < length t → AreOfLevel t level ids
+    → list_any (λ id. nat_lt 0 (get_or (get_or marks level []) (number_of id) 0)) ids ≡ list_any (is_related t p) ids
+any_related t p level ids marks m lt all =
+    list_any-same _ (is_related t p) ids (λ k d within.
+    let c = all k d within in
+    ap (nat_lt 0) ((m.each level lt).each (get_or ids k d) c.0 c.1) ∙ mark_some t p (get_or ids k d))
+
+-- What is read at the leaves of a column.
+
+pub leaves_some : (t : Tree) (p : Pick) (marks : List (List ℕ)) → 2 ≤ length t → AreMarksOf t p marks → 0 < length marks
+leaves_some t p marks tall m = let n = m.count in omega (arith, n, tall)
+
+pub leaves_within : (t : Tree) (p : Pick) (column places : List ℕ) (marks : List (List ℕ)) → AreMarksOf t p marks → 0 < length marks → Each (λ place. IsLeaf t (get_or column place 0)) places
+    → Each (λ place. number_of (get_or column place 0) < length (get_or marks (length marks - 1) [])) places
+leaves_within t p column places marks m some all = λ k d within.
+    let leaf = all k d within in
+    let n = m.count in
+    let e : leaf_level t ≡ length marks - 1 = omega (arith, n) in
+    number_within t p (length marks - 1) (get_or column (get_or places k d) 0) marks m (omega (arith, n, some)) leaf.concept (leaf.last ∙ e)
+
+pub leaves_kept : (t : Tree) (p : Pick) (column places : List ℕ) (marks : List (List ℕ)) → AreMarksOf t p marks → 0 < length marks → Each (λ place. IsLeaf t (get_or column place 0)) places
+    → filter (is_marked column (get_or marks (length marks - 1) [])) places ≡ filter (λ place. is_picked t p (get_or column place 0)) places
+leaves_kept t p column places marks m some all =
+    filter-same _ (λ place. is_picked t p (get_or column place 0)) places (λ k d within.
+    let leaf = all k d within in
+    let n = m.count in
+    let e : leaf_level t ≡ length marks - 1 = omega (arith, n) in
+    let id = get_or column (get_or places k d) 0 in
+    ap (λ x. x == 2) ((m.each (length marks - 1) (omega (arith, n, some))).each id leaf.concept (leaf.last ∙ e)) ∙ mark_under t p id)
+
+-- Where all are picked.
+
+pub all_if_all : (t : Tree) (p : Pick) (ids : List ℕ) → p ≡ All → list_all (is_picked t p) ids ≡ true
+all_if_all t p ids e = rw e (each ids)
+  where
+    each : (xs : List ℕ) → list_all (is_picked t All) xs ≡ true
+    each [] = refl
+    each (x ∷ xs) = each xs
+
+pub any_if_all : (t : Tree) (p : Pick) (ids : List ℕ) → p ≡ All → list_any (is_related t p) ids ≡ not (length ids == 0)
+any_if_all t p [] e = refl
+any_if_all t p (x ∷ xs) e = rw e (some (eqb (length (x ∷ xs)) 0) refl)
+  where
+    some : (b : Bool) → b ≡ eqb (length (x ∷ xs)) 0 → true ≡ not b
+    some false q = refl
+    some true q = absurd (let z = eqb-true (length (x ∷ xs)) 0 (sym q) in omega arith)
+
+pub kept_if_all : (t : Tree) (p : Pick) (column places : List ℕ) → p ≡ All → filter (λ place. is_picked t p (get_or column place 0)) places ≡ places
+kept_if_all t p column places e = rw e (each places)
+  where
+    each : (xs : List ℕ) → filter (λ place. is_picked t All (get_or column place 0)) xs ≡ xs
+    each [] = refl
+    each (x ∷ xs) = ap (λ l. x ∷ l) (each xs)

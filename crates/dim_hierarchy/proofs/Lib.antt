@@ -11,3 +11,4 @@ pub mod Matching
 pub mod Named
 pub mod Names
 pub mod Places
+pub mod Sifting

@@ -1,8 +1,9 @@
 -- A filter with a mark for each concept of its hierarchy.
-use Rattle.std.specs.Prelude.{ℕ, ◌≡◌, ◌<◌, Bool, ◌||◌, Option, Some, None, refl, List, [], length}
+use Rattle.std.specs.Prelude.{ℕ, ◌≡◌, ◌<◌, Bool, ◌||◌, Option, Some, None, refl, List, [], length, All as Each}
 use Rattle.std.specs.List.{slice_index_or}
 use Rattle.std.specs.Coded.{Coded, code_by, coded×, coded_ℕ, coded_list, coded_option}
-use Rattle.dim_hierarchy.specs.Tree.{Tree}
+use Rattle.dim_hierarchy.specs.Concept.{level_of}
+use Rattle.dim_hierarchy.specs.Tree.{Tree, IsConcept}
 use Rattle.dim_hierarchy.specs.Dimension.{Dimension, dimension_code, tree}
 use Rattle.dim_hierarchy.specs.Filter.{IsFilterOf, is_picked, pick_at}
 use Rattle.dim_hierarchy.specs.Marks.{is_above, AreMarksOf}
@@ -21,11 +22,20 @@ compiled h f = record { hierarchy = h; picks = f }
 abbrev pub is_related : Tree → Pick → ℕ → Bool
 is_related t p id = is_picked t p id || is_above t p id
 
+-- concepts of a level
+abbrev pub AreOfLevel : Tree → ℕ → List ℕ → Type 0
+AreOfLevel t level ids = Each (λ id. IsConcept t id × (level_of id ≡ level)) ids
+
+-- the marks of a pick; there are none where it is All
+abbrev pub AreDimMarks : Tree → Pick → Option (List (List ℕ)) → Type 0
+AreDimMarks t p None = p ≡ All
+AreDimMarks t p (Some marks) = AreMarksOf t p marks
+
 -- the marks of each dimension are those of the filter's pick
-pub record AreFilterMarks (h : List Dimension) (f : List Pick) (marks : List (List (List ℕ))) : Type 0 where
+pub record AreFilterMarks (h : List Dimension) (f : List Pick) (marks : List (Option (List (List ℕ)))) : Type 0 where
   pub valid : IsFilterOf h f
   pub count : length marks ≡ length h
-  pub each : (dim : ℕ) → dim < length h → AreMarksOf (tree h dim) (pick_at f dim) (slice_index_or marks dim [])
+  pub each : (dim : ℕ) → dim < length h → AreDimMarks (tree h dim) (pick_at f dim) (slice_index_or marks dim None)
 
 -- How these are stored.
 

@@ -1,12 +1,13 @@
-ghost use Rattle.std.specs.Prelude.{◌≡◌, ◌<◌, ◌↔◌, [], length, IsTrue, IfOk};
-ghost use Rattle.dim_hierarchy.specs.Tree.{IsConcept};
+ghost use Rattle.std.specs.Prelude.{◌≡◌, ◌<◌, ◌↔◌, [], All, filter, length, option_map, slice_index, IsTrue, IfOk};
+ghost use Rattle.dim_hierarchy.specs.Tree.{IsConcept, IsLeaf};
+ghost use Rattle.std.specs.List.{list_all, list_any};
 ghost use Rattle.dim_hierarchy.specs.Dimension.{tree};
 ghost use Rattle.dim_hierarchy.specs.Row.{IsCoordOf};
 ghost use Rattle.dim_hierarchy.specs.Filter.{IsFilterOf, Matches, matches, is_picked, pick_at};
-ghost use Rattle.dim_hierarchy.specs.Marks.{AreMarksOf, mark};
 
+use crate::column::{Column, RowPlaces};
 use crate::concept::ConceptId;
-use crate::filter::Filter;
+use crate::filter::{Filter, Pick};
 use crate::hierarchy::Hierarchy;
 use crate::marks::{DimMarks, UNDER};
 use crate::row::Coord;
@@ -14,16 +15,16 @@ use std::alloc::{AllocError, Global};
 use std::marker::Model;
 use std::snapshot::Snapshot;
 
-/// A filter made ready for many questions, with a mark for each concept. Contracts see its picks,
-/// and the hierarchy over which it was made.
+/// A filter made ready for many questions, with a mark for each concept of the dimensions in which it
+/// lists some. Contracts see its picks, and the hierarchy over which it was made.
 ///
-/// It takes a byte for each concept, so it is made for a query and let go with it, and what is kept
+/// It takes a byte for each of these concepts, so it is made for a query and let go with it, and what is kept
 /// is the filter. It knows no concept that was added later.
 #[derive(Drop)]
 pub struct CompiledFilter {
     hierarchy: Snapshot<Hierarchy>,
     picks: Snapshot<Filter>,
-    dims: Vec<DimMarks>,
+    dims: Vec<Option<DimMarks>>,
 }
 
 impl Model for CompiledFilter {
@@ -39,14 +40,14 @@ impl Model for CompiledFilter {
 }
 
 impl Hierarchy {
-    ghost use Rattle.dim_hierarchy.specs.Compiled.{compiled};
+    ghost use Rattle.dim_hierarchy.specs.Compiled.{compiled, AreDimMarks};
 
     /// The filter with a mark for each concept.
     pub fn compile(&self, alloc: Global, filter: &Filter) -> Result<CompiledFilter, AllocError>
         requires { IsFilterOf self.now filter.now }
         ensures { IfOk result (λ c. c ≡ compiled self.now filter.now) }
     {
-        let mut dims = Vec::new(alloc);
+        let mut dims = Vec::with_capacity(alloc, usize::from(self.dims()))?;
         for dim in 0..self.dims() {
             let marks = self.dim_marks(alloc, filter, dim)?;
             dims.push(marks)?;
@@ -58,19 +59,26 @@ impl Hierarchy {
         })
     }
 
-    // The marks of the concepts of a dimension.
-    fn dim_marks(&self, alloc: Global, filter: &Filter, dim: u8) -> Result<DimMarks, AllocError>
+    // The marks of the concepts of a dimension; none where all are picked.
+    fn dim_marks(
+        &self,
+        alloc: Global,
+        filter: &Filter,
+        dim: u8,
+    ) -> Result<Option<DimMarks>, AllocError>
         requires filter { IsFilterOf self.now filter.now }
         requires dim { dim < length self.now }
-        ensures { IfOk result (AreMarksOf (tree self.now dim) (pick_at filter.now dim)) }
+        ensures { IfOk result (AreDimMarks (tree self.now dim) (pick_at filter.now dim)) }
     {
-        let pick = &filter.as_slice()[usize::from(dim)];
-        self.table(dim).marks(alloc, pick)
+        match &filter.as_slice()[usize::from(dim)] {
+            Pick::All => Ok(None),
+            Pick::Ids(ids) => Ok(Some(self.table(dim).marks(alloc, ids.as_slice())?)),
+        }
     }
 }
 
 impl CompiledFilter {
-    ghost use Rattle.dim_hierarchy.specs.Compiled.{is_related};
+    ghost use Rattle.dim_hierarchy.specs.Compiled.{is_related, AreDimMarks, AreOfLevel};
 
     /// How many dimensions the hierarchy has.
     pub fn dims(&self) -> u8
@@ -80,32 +88,68 @@ impl CompiledFilter {
         self.dims.len() as u8
     }
 
-    // The mark of a concept.
-    fn mark(&self, dim: u8, id: ConceptId) -> u8
-        requires dim { dim < length self.now.hierarchy }
-        requires concept { IsConcept (tree self.now.hierarchy dim) id }
-        ensures { result ≡ mark (tree self.now.hierarchy dim) (pick_at self.now.picks dim) id }
+    // The marks of the concepts of a dimension; none where all are picked.
+    fn marks(&self, dim: u8) -> Option<&DimMarks>
+        requires { dim < length self.now.hierarchy }
+        ensures marks { AreDimMarks (tree self.now.hierarchy dim) (pick_at self.now.picks dim) (option_map (λ m. m.now) result) }
+        ensures valid { IsFilterOf self.now.hierarchy self.now.picks }
     {
-        let marks = &self.dims[usize::from(dim)];
-        marks.mark(id)
+        self.dims[usize::from(dim)].as_ref()
     }
 
-    /// Whether the filter picks the concept in its dimension: it is under a listed one, or all are.
-    pub fn has(&self, dim: u8, id: ConceptId) -> bool
+    // Whether the filter picks the concept in its dimension: it is under a listed one, or all are.
+    fn has(&self, dim: u8, id: ConceptId) -> bool
         requires dim { dim < length self.now.hierarchy }
         requires concept { IsConcept (tree self.now.hierarchy dim) id }
         ensures { result ≡ is_picked (tree self.now.hierarchy dim) (pick_at self.now.picks dim) id }
     {
-        self.mark(dim, id) == UNDER
+        match self.marks(dim) {
+            Some(marks) => marks.mark(id) == UNDER,
+            None => true,
+        }
     }
 
-    /// Whether the filter picks the concept or lists one that is under it.
-    pub fn meets(&self, dim: u8, id: ConceptId) -> bool
+    /// Whether the filter picks each of these concepts of a level: it is under a listed one, or all
+    /// are.
+    pub fn has_all(&self, dim: u8, level: u8, ids: &[ConceptId]) -> bool
         requires dim { dim < length self.now.hierarchy }
-        requires concept { IsConcept (tree self.now.hierarchy dim) id }
-        ensures { result ≡ is_related (tree self.now.hierarchy dim) (pick_at self.now.picks dim) id }
+        requires level { level < length (tree self.now.hierarchy dim) }
+        requires concepts { AreOfLevel (tree self.now.hierarchy dim) level ids.now }
+        ensures { result
+            ≡ list_all (is_picked (tree self.now.hierarchy dim) (pick_at self.now.picks dim)) ids.now }
     {
-        0 < self.mark(dim, id)
+        match self.marks(dim) {
+            Some(marks) => marks.level(level).are_under(ids),
+            None => true,
+        }
+    }
+
+    /// Whether the filter picks one of these concepts of a level or lists one that is under one of
+    /// them.
+    pub fn meets_any(&self, dim: u8, level: u8, ids: &[ConceptId]) -> bool
+        requires dim { dim < length self.now.hierarchy }
+        requires level { level < length (tree self.now.hierarchy dim) }
+        requires concepts { AreOfLevel (tree self.now.hierarchy dim) level ids.now }
+        ensures { result
+            ≡ list_any (is_related (tree self.now.hierarchy dim) (pick_at self.now.picks dim)) ids.now }
+    {
+        match self.marks(dim) {
+            Some(marks) => marks.level(level).is_any_related(ids),
+            None => !ids.is_empty(),
+        }
+    }
+
+    /// Keeps the places at which the filter picks the column's leaf concept.
+    pub fn keep(&self, dim: u8, column: &Column, places: &mut RowPlaces)
+        requires dim { dim < length self.now.hierarchy }
+        requires leaves { All (λ place. IsLeaf (tree self.now.hierarchy dim) (slice_index column.now place)) places.old }
+        ensures { places.new
+            ≡ filter (λ place. is_picked (tree self.now.hierarchy dim) (pick_at self.now.picks dim) (slice_index column.now place)) places.old }
+    {
+        match self.marks(dim) {
+            Some(marks) => marks.leaves().keep(column, places),
+            None => {}
+        }
     }
 
     /// Whether in each dimension the filter picks all, or a concept that the coordinate's is under.

@@ -2,7 +2,7 @@ ghost use Rattle.std.specs.Prelude.{◌≡◌, ◌+◌, ◌≤◌, ◌<◌, ◌^
 ghost use Rattle.std.specs.List.{list_any, slice_index_or};
 ghost use Rattle.std.specs.FinMap as map;
 ghost use Rattle.dim_hierarchy.specs.Concept.{level_of};
-ghost use Rattle.dim_hierarchy.specs.Tree.{IsConcept, IsTree, is_concept, is_under, leaf_level, next_under, parent, parents_at, up};
+ghost use Rattle.dim_hierarchy.specs.Tree.{IsConcept, IsTree, is_concept, is_under, leaf_level, next_under, parents_at, up};
 ghost use Rattle.dim_hierarchy.specs.Row.{leaf_named};
 ghost use Rattle.dim_hierarchy.specs.Filter.{is_picked, pick_named, ids_named};
 
@@ -151,6 +151,15 @@ impl DimensionTable {
         level.parents.len()
     }
 
+    /// The parents of the concepts of a level, by number.
+    pub fn parents(&self, level: u8) -> &[ConceptId]
+        requires { level < length self.now.tree }
+        ensures { result.now ≡ parents_at self.now.tree level }
+    {
+        let level = &self.levels[usize::from(level)];
+        &level.parents
+    }
+
     /// The concept with a name.
     pub fn find(&self, name: &[u8]) -> Option<ConceptId>
         ensures { result ≡ map.get self.now.names name.now }
@@ -168,15 +177,6 @@ impl DimensionTable {
         }
         let level = &self.levels[at];
         (id.number() as usize) < level.parents.len()
-    }
-
-    /// The parent of a concept; that of `ALL` is itself.
-    pub fn parent(&self, id: ConceptId) -> ConceptId
-        requires { IsConcept self.now.tree id }
-        ensures { result ≡ parent self.now.tree id }
-    {
-        let level = &self.levels[usize::from(id.level())];
-        level.parents[id.number() as usize]
     }
 
     /// The lineage of a concept.

@@ -1,6 +1,7 @@
 //! Concept hierarchies, and the rows and filters over them.
 #![tactic(auto)]
 
+mod column;
 mod compiled;
 mod concept;
 mod coord_lineages;
@@ -14,6 +15,7 @@ mod row;
 #[cfg(test)]
 mod tests;
 
+pub use column::{Column, RowPlaces};
 pub use compiled::CompiledFilter;
 pub use concept::ConceptId;
 pub use coord_lineages::CoordLineages;

@@ -1,13 +1,14 @@
-ghost use Rattle.std.specs.Prelude.{◌≡◌, ◌==◌, ◌<◌, ◌-◌, ℕ, List, [], All, length, if◌then◌else◌, slice_set, IfOk};
-ghost use Rattle.std.specs.List.{slice_index_or};
+ghost use Rattle.std.specs.Prelude.{◌≡◌, ◌==◌, ◌<◌, ◌-◌, ℕ, List, [], All, filter, length, nat_lt, if◌then◌else◌, slice_index, slice_set, IfOk};
+ghost use Rattle.std.specs.List.{slice_index_or, list_all, list_any};
 ghost use Rattle.dim_hierarchy.specs.Concept.{level_of, number_of};
 ghost use Rattle.dim_hierarchy.specs.Tree.{IsConcept, IsTree, parent, parents_at};
-ghost use Rattle.dim_hierarchy.specs.Filter.{IsPickOf};
+ghost use Rattle.dim_hierarchy.specs.Column.{is_marked};
+ghost use Rattle.dim_hierarchy.specs.declared.filter.Pick.TheVariants.{Ids};
 ghost use Rattle.dim_hierarchy.specs.Marks.{AreLevelMarks, AreUpperMarks, AreMarksOf, AreListed, Notes, Inherits, mark_at};
 
+use crate::column::{Column, RowPlaces};
 use crate::concept::ConceptId;
 use crate::dimension::DimensionTable;
-use crate::filter::Pick;
 use std::alloc::{AllocError, Global};
 use std::marker::Model;
 
@@ -45,6 +46,40 @@ impl Model for DimMarks {
     ghost view = { λ m. m.levels.items };
 }
 
+impl LevelMarks {
+    // The mark of a concept of the level.
+    fn mark(&self, id: ConceptId) -> u8
+        requires { number_of id < length self.now }
+        ensures { result ≡ slice_index self.now (number_of id) }
+    {
+        self.all[id.number() as usize]
+    }
+
+    /// Whether each of these concepts of the level is marked `UNDER`.
+    pub fn are_under(&self, ids: &[ConceptId]) -> bool
+        requires { All (λ id. number_of id < length self.now) ids.now }
+        ensures { result ≡ list_all (λ id. slice_index self.now (number_of id) == 2) ids.now }
+    {
+        ids.iter().all(|id| self.mark(*id) == UNDER)
+    }
+
+    /// Whether one of these concepts of the level is not marked `APART`.
+    pub fn is_any_related(&self, ids: &[ConceptId]) -> bool
+        requires { All (λ id. number_of id < length self.now) ids.now }
+        ensures { result ≡ list_any (λ id. nat_lt 0 (slice_index self.now (number_of id))) ids.now }
+    {
+        ids.iter().any(|id| APART < self.mark(*id))
+    }
+
+    /// Keeps the places at which the column has a concept that is marked `UNDER`.
+    pub fn keep(&self, column: &Column, places: &mut RowPlaces)
+        requires { All (λ place. number_of (slice_index column.now place) < length self.now) places.old }
+        ensures { places.new ≡ filter (is_marked column.now self.now) places.old }
+    {
+        places.keep(column, &self.all);
+    }
+}
+
 impl DimMarks {
     /// The mark of a concept.
     pub fn mark(&self, id: ConceptId) -> u8
@@ -55,18 +90,35 @@ impl DimMarks {
         let level = &self.levels[usize::from(id.level())];
         level.all[id.number() as usize]
     }
+
+    /// The marks of the concepts of a level.
+    pub fn level(&self, level: u8) -> &LevelMarks
+        requires { level < length self.now }
+        ensures { result.now ≡ slice_index_or self.now level [] }
+    {
+        &self.levels[usize::from(level)]
+    }
+
+    /// The marks of the concepts of the last level.
+    pub fn leaves(&self) -> &LevelMarks
+        requires { 0 < length self.now }
+        ensures { result.now ≡ slice_index_or self.now (length self.now - 1) [] }
+    {
+        &self.levels[self.levels.len() - 1]
+    }
 }
 
 impl DimensionTable {
-    /// The marks of the concepts by a pick.
-    pub fn marks(&self, alloc: Global, pick: &Pick) -> Result<DimMarks, AllocError>
+    /// The marks of the concepts where these are listed.
+    pub fn marks(&self, alloc: Global, ids: &[ConceptId]) -> Result<DimMarks, AllocError>
         requires tree { IsTree self.now.tree }
-        requires pick { IsPickOf self.now.tree pick.now }
-        ensures { IfOk result (AreMarksOf self.now.tree pick.now) }
+        requires ids { All (IsConcept self.now.tree) ids.now }
+        ensures { IfOk result (AreMarksOf self.now.tree (Ids ids.now)) }
     {
-        let mut levels = Vec::new(alloc);
-        for level in 0..self.leaf_level() + 1 {
-            let marks = self.level_marks(alloc, pick, level, levels.as_slice())?;
+        let count = self.leaf_level() + 1;
+        let mut levels = Vec::with_capacity(alloc, usize::from(count))?;
+        for level in 0..count {
+            let marks = self.level_marks(alloc, ids, level, levels.as_slice())?;
             levels.push(marks)?;
         }
         Ok(DimMarks { levels })
@@ -76,29 +128,6 @@ impl DimensionTable {
     fn level_marks(
         &self,
         alloc: Global,
-        pick: &Pick,
-        level: u8,
-        upper: &[LevelMarks],
-    ) -> Result<LevelMarks, AllocError>
-        requires tree { IsTree self.now.tree }
-        requires pick { IsPickOf self.now.tree pick.now }
-        requires level { level < length self.now.tree }
-        requires upper { AreUpperMarks self.now.tree pick.now level upper.now }
-        ensures { IfOk result (AreLevelMarks self.now.tree pick.now level) }
-    {
-        match pick {
-            Pick::All => {
-                let all = vec![in alloc; UNDER; self.level_len(level)]?;
-                Ok(LevelMarks { all })
-            }
-            Pick::Ids(ids) => self.listed_marks(alloc, ids.as_slice(), level, upper),
-        }
-    }
-
-    // The same where these concepts are listed.
-    fn listed_marks(
-        &self,
-        alloc: Global,
         ids: &[ConceptId],
         level: u8,
         upper: &[LevelMarks],
@@ -106,8 +135,8 @@ impl DimensionTable {
         requires tree { IsTree self.now.tree }
         requires ids { All (IsConcept self.now.tree) ids.now }
         requires level { level < length self.now.tree }
-        requires upper { AreUpperMarks self.now.tree (Pick.Ids ids.now) level upper.now }
-        ensures { IfOk result (AreLevelMarks self.now.tree (Pick.Ids ids.now) level) }
+        requires upper { AreUpperMarks self.now.tree (Ids ids.now) level upper.now }
+        ensures { IfOk result (AreLevelMarks self.now.tree (Ids ids.now) level) }
     {
         let mut all = vec![in alloc; APART; self.level_len(level)]?;
         let marks = all.as_mut_slice();
@@ -176,23 +205,27 @@ impl DimensionTable {
         requires count { length marks.old ≡ length (parents_at self.now.tree level) }
         ensures { Inherits self.now.tree level upper.now marks.old marks.new }
     {
+        // Taken out of the loop, in which each write of a mark might else have changed where they are.
+        let parents = self.parents(level);
         let count = marks.len().min(0x1000_0000);
         for number in 0..count {
-            self.inherit_one(ConceptId::new(level, number as u32), upper, marks);
+            let id = ConceptId::new(level, number as u32);
+            self.inherit_one(id, parents[number], upper, marks);
         }
     }
 
-    // The same for one concept.
-    fn inherit_one(&self, id: ConceptId, upper: &[u8], marks: &mut [u8])
+    // The same for one concept, whose parent is `top`.
+    fn inherit_one(&self, id: ConceptId, top: ConceptId, upper: &[u8], marks: &mut [u8])
         requires tree { IsTree self.now.tree }
         requires concept { IsConcept self.now.tree id }
+        requires top { top ≡ parent self.now.tree id }
         requires upper { length upper.now ≡ length (parents_at self.now.tree (level_of id - 1)) }
         requires count { length marks.old ≡ length (parents_at self.now.tree (level_of id)) }
         ensures { marks.new
             ≡ (if slice_index_or upper.now (number_of (parent self.now.tree id)) 0 == 2
             then slice_set marks.old (number_of id) 2 else marks.old) }
     {
-        if upper[self.parent(id).number() as usize] == UNDER {
+        if upper[top.number() as usize] == UNDER {
             marks[id.number() as usize] = UNDER;
         }
     }

@@ -1,4 +1,6 @@
 ghost use Rattle.std.specs.Prelude.{◌≡◌, ◌+◌, ◌<◌, length, All, IfOk, OnOk};
+ghost use Rattle.dim_hierarchy.specs.Tree.{IsConcept};
+ghost use Rattle.dim_hierarchy.specs.Dimension.{tree};
 ghost use Rattle.dim_hierarchy.specs.Row.{IsCoordOf};
 ghost use Rattle.dim_hierarchy.specs.Filter.{IsFilterOf, IsNamePick};
 
@@ -317,7 +319,18 @@ fn compiled(alloc: Global, h: &Hierarchy, lists: &[&[&str]]) -> Result<CompiledF
     }
 }
 
-// Whether the filter has a concept of the first dimension, and whether it meets it.
+/// Whether the filter picks a concept of the first dimension, and whether it picks it or lists one
+/// under it.
+fn marked(wanted: &CompiledFilter, id: ConceptId) -> (bool, bool)
+    requires dim { 0 < length wanted.now.hierarchy }
+    requires concept { IsConcept (tree wanted.now.hierarchy 0) id }
+{
+    let ids = [id];
+    let has = wanted.has_all(0, id.level(), &ids);
+    (has, wanted.meets_any(0, id.level(), &ids))
+}
+
+/// The marks of a concept of the first dimension; none where it is no concept.
 fn marks(h: &Hierarchy, wanted: &CompiledFilter, id: ConceptId) -> Option<(bool, bool)>
     requires some { 0 < length h.now }
     requires same { wanted.now.hierarchy ≡ h.now }
@@ -325,7 +338,7 @@ fn marks(h: &Hierarchy, wanted: &CompiledFilter, id: ConceptId) -> Option<(bool,
     if !h.has(0, id) {
         return None;
     }
-    Some((wanted.has(0, id), wanted.meets(0, id)))
+    Some(marked(wanted, id))
 }
 
 #[test]

@@ -1,12 +1,13 @@
 -- The items of a list at some places.
-use Rattle.std.proofs.Common.{ℕ, ◌≡◌, ◌+◌, ◌<◌, List, [], ◌∷◌, ◌++◌, length, map, take, drop, get_or, Some, refl, sym, ap, subst, ◌∙◌, arith}
-use Rattle.std.specs.Prelude.{slice_get, All, IsPermutation}
+use Rattle.std.proofs.Common.{ℕ, ◌≡◌, ◌+◌, ◌<◌, List, [], ◌∷◌, ◌++◌, length, map, take, drop, get_or, pos, Some, refl, sym, ap, subst, ◌∙◌, arith}
+use Rattle.std.specs.Prelude.{slice_get, All, IfSome, IsPermutation}
 use Rattle.std.specs.List.{AllZip, cons_option, range_with_len}
-use Rattle.std.proofs.lemmas.List.{take_more, take-append-drop, length-map, nil_from_length}
+use Rattle.std.proofs.lemmas.List.{take_more, take-append-drop, length-map, nil_from_length, get_or_default}
 use Rattle.std.proofs.lemmas.List.Elements.{filter_map-append, All-nil, All-tail, All-same, All-map}
 use Rattle.std.proofs.lemmas.List.FromFn.{fill_by_all}
 use Rattle.std.proofs.lemmas.List.Sorted.{IsPermutation-refl, IsPermutation-map}
 use Rattle.std.proofs.lemmas.Option.{slice_get_read, slice_get-get_or}
+use Rattle.dim_hierarchy.specs.declared.row.Row.{Row}
 use Rattle.hierarchy_split.proofs.Orders.{places_length, places_below}
 use Rattle.link_descent.specs.Divide.{items_at}
 
@@ -73,3 +74,14 @@ AllZip-ends R (a ∷ xs) (b ∷ ys) x y all r = (all.0, AllZip-ends R xs ys x y 
 
 pub AllZip-more : {A B : Type 0} (R : A → B → Type 0) (xs : List A) (ys : List B) (i : ℕ) (x : A) (y : B) → i < length xs → x ≡ get_or xs i x → AllZip R (take i xs) ys → R x y → AllZip R (take (i + 1) xs) (ys ++ y ∷ [])
 AllZip-more R xs ys i x y lt read all r = rw (take_more xs i x lt, ← read) (AllZip-ends R (take i xs) ys x y all r)
+
+-- A row of a list, of which a call says something where it is there.
+
+pub no_row : Row
+no_row = record { no = 0; at = record { at = [] }; measure = pos 0 }
+
+pub row_there : (P : Row → Type 0) (rows : List Row) (place : ℕ) → place < length rows → IfSome (slice_get rows place) P → P (get_or rows place no_row)
+row_there P rows place lt f = subst (λ o. IfSome o P) (slice_get-get_or rows place no_row lt) f
+
+pub row_read : (rows : List Row) (place : ℕ) → place < length rows → get_or rows place no_row ≡ get_or rows place (get_or rows place no_row)
+row_read rows place lt = sym (get_or_default rows place (get_or rows place no_row) no_row lt)

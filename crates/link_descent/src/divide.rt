@@ -10,7 +10,7 @@ use arrayvec::ArrayVec;
 use cell_stock::Spare;
 use dc_node::{Blanks, Block, Body, Entry, EntryBox, LeafRows, RowBox};
 use describing_set::DescSet;
-use dim_hierarchy::{Hierarchy, Row};
+use dim_hierarchy::Hierarchy;
 use hierarchy_split::{Cut, choose};
 use std::mem;
 
@@ -24,16 +24,15 @@ pub enum Division {
 }
 
 /// The describing sets of rows.
-fn row_sets(rows: &[Row], h: &Hierarchy) -> ArrayVec<DescSet, 32>
-    requires many { length rows.now ≤ 32 }
-    requires rows { All (IsRowOf h.now) rows.now }
-    ensures sets { AllZip (λ r s. IsSetOf h.now (r.at ∷ []) s) rows.now result.items }
+fn row_sets(rows: &LeafRows, h: &Hierarchy) -> ArrayVec<DescSet, 32>
+    requires { All (IsRowOf h.now) rows.now.items }
+    ensures sets { AllZip (λ r s. IsSetOf h.now (r.at ∷ []) s) rows.now.items result.items }
     ensures valid { All (IsDescSetOf h.now) result.items }
-    ensures count { length result.items ≡ length rows.now }
+    ensures count { length result.items ≡ length rows.now.items }
 {
     let mut sets = ArrayVec::new();
-    for row in rows {
-        sets.push(DescSet::of_coord(h, &row.at));
+    for place in 0..rows.len() {
+        sets.push(rows.set_at(place, h));
     }
     sets
 }
@@ -58,7 +57,7 @@ fn item_sets(body: &Body, h: &Hierarchy) -> ArrayVec<DescSet, 32>
     ensures count { length result.items ≡ size body.now }
 {
     match body {
-        Body::Rows(rows) => row_sets(rows.as_slice(), h),
+        Body::Rows(rows) => row_sets(rows, h),
         Body::Entries(entries) => entry_sets(entries.as_slice()),
     }
 }
@@ -78,16 +77,17 @@ fn head_cut(head: &Block, expected: u64, h: &Hierarchy) -> Option<Cut>
 }
 
 /// Copies of the rows at some places, in a blank box.
-fn rows_at(rows: &[Row], places: &[u8], blanks: &mut Blanks) -> RowBox
-    requires few { length places.now ≤ 32 }
-    requires places { All (λ place. place < length rows.now) places.now }
+fn rows_at(rows: &LeafRows, places: &[u8], blanks: &mut Blanks) -> RowBox
+    requires few { length places.now ≤ length rows.now.items }
+    requires places { All (λ place. place < length rows.now.items) places.now }
     requires blanks { 0 < blanks.old }
-    ensures rows { result.items ≡ items_at rows.now places.now }
+    ensures rows { result.items ≡ items_at rows.now.items places.now }
     ensures blanks { blanks.old ≤ blanks.new + 1 }
 {
+    prove!(places.len() <= rows.len());
     let mut some = blanks.leaf();
     for place in places {
-        some.push(&rows[usize::from(*place)]);
+        rows.copy_row(usize::from(*place), &mut some);
     }
     some
 }
@@ -116,21 +116,22 @@ fn body_at(body: &Body, places: &[u8], blanks: &mut Blanks) -> Body
     ensures blanks { blanks.old ≤ blanks.new + 1 }
 {
     match body {
-        Body::Rows(rows) => Body::Rows(LeafRows::of(rows_at(rows.as_slice(), places, blanks))),
+        Body::Rows(rows) => Body::Rows(LeafRows::of(rows_at(rows, places, blanks))),
         Body::Entries(entries) => Body::Entries(entries_at(entries.as_slice(), places, blanks)),
     }
 }
 
-/// Copies of all rows, in a blank box.
-fn copy_rows(rows: &[Row], blanks: &mut Blanks) -> RowBox
-    requires few { length rows.now ≤ 32 }
+/// Copies of so many rows from a place on, in a blank box.
+fn copy_rows(rows: &LeafRows, first: usize, count: usize, blanks: &mut Blanks) -> RowBox
+    requires few { first + count ≤ 32 }
+    requires within { first + count ≤ length rows.now.items }
     requires blanks { 0 < blanks.old }
-    ensures rows { result.items ≡ rows.now }
+    ensures rows { result.items ≡ take count (drop first rows.now.items) }
     ensures blanks { blanks.old ≤ blanks.new + 1 }
 {
     let mut copies = blanks.leaf();
-    for row in rows {
-        copies.push(row);
+    for number in 0..count {
+        rows.copy_row(first + number, &mut copies);
     }
     copies
 }
@@ -157,7 +158,7 @@ fn first_half(body: &Body, blanks: &mut Blanks) -> Body
     ensures blanks { blanks.old ≤ blanks.new + 1 }
 {
     match body {
-        Body::Rows(rows) => Body::Rows(LeafRows::of(copy_rows(&rows.as_slice()[..16], blanks))),
+        Body::Rows(rows) => Body::Rows(LeafRows::of(copy_rows(rows, 0, 16, blanks))),
         Body::Entries(entries) => Body::Entries(copy_entries(&entries.as_slice()[..8], blanks)),
     }
 }
@@ -170,7 +171,7 @@ fn second_half(body: &Body, blanks: &mut Blanks) -> Body
     ensures blanks { blanks.old ≤ blanks.new + 1 }
 {
     match body {
-        Body::Rows(rows) => Body::Rows(LeafRows::of(copy_rows(&rows.as_slice()[16..], blanks))),
+        Body::Rows(rows) => Body::Rows(LeafRows::of(copy_rows(rows, 16, 16, blanks))),
         Body::Entries(entries) => Body::Entries(copy_entries(&entries.as_slice()[8..], blanks)),
     }
 }

@@ -1,46 +1,60 @@
-ghost use Rattle.std.specs.Prelude.{◌≡◌, ◌+◌, ◌<◌, ◌≤◌, ◌^◌, ◌++◌};
-ghost use Rattle.dim_hierarchy.specs.Filter.{IsFilterOf};
-ghost use Rattle.measure_agg.specs.Aggregate.{join};
+ghost use Rattle.std.specs.Prelude.{◌≡◌, ◌+◌, ◌<◌, ◌≤◌, ◌^◌, ◌++◌, All, length};
+ghost use Rattle.dim_hierarchy.specs.Row.{IsRowOf};
+ghost use Rattle.measure_agg.specs.Aggregate.{agg, join};
 ghost use Rattle.describing_set.specs.DescSet.{IsDescSetOf};
 ghost use Rattle.shard_store.specs.Gate.{IsQueueOf};
 ghost use Rattle.link_descent.specs.GateRead.{queue_part, tree_part, root_items};
+ghost use Rattle.link_descent.specs.Visit.{matching};
 
 use crate::descend::root_entry;
-use crate::visits::{visit_entry, visit_rows};
+use crate::visits::visit_entry;
 use dc_node::Todo;
-use dim_hierarchy::{Filter, Hierarchy};
+use dim_hierarchy::{CompiledFilter, Row};
 use measure_agg::Agg;
 use shard_store::{Gate, Queue};
 
 /// What a query does at a gate, in one step: it adds what it takes of the queue and of the tree, and
 /// notes the root where it has to go down. Takes no memory: there is room for one noted block.
-pub fn read_gate(gate: &Gate, filter: &Filter, h: &Hierarchy, agg: &mut Agg, todo: &mut Todo)
-    requires filter { IsFilterOf h.now filter.now }
-    requires queue { IsQueueOf h.now gate.now.queue }
-    requires set { IsDescSetOf h.now gate.now.set }
+pub fn read_gate(gate: &Gate, wanted: &CompiledFilter, agg: &mut Agg, todo: &mut Todo)
+    requires queue { IsQueueOf wanted.now.hierarchy gate.now.queue }
+    requires set { IsDescSetOf wanted.now.hierarchy gate.now.set }
     requires few { agg.old.count + gate.now.queue.agg.count + gate.now.agg.count < 2 ^ 63 }
     requires room { 0 < todo.old.room }
     ensures agg { agg.new
-        ≡ join (join agg.old (queue_part h.now filter.now gate.now.queue)) (tree_part h.now filter.now gate.now) }
-    ensures todo { todo.new.items ≡ todo.old.items ++ root_items h.now filter.now gate.now }
+        ≡ join (join agg.old (queue_part wanted.now.hierarchy wanted.now.picks gate.now.queue)) (tree_part wanted.now.hierarchy wanted.now.picks gate.now) }
+    ensures todo { todo.new.items ≡ todo.old.items ++ root_items wanted.now.hierarchy wanted.now.picks gate.now }
 {
     measure_agg::laws();
-    visit_queue(&gate.queue, filter, h, agg);
-    visit_entry(&root_entry(gate), filter, h, agg, todo);
+    visit_queue(&gate.queue, wanted, agg);
+    visit_entry(&root_entry(gate), wanted, agg, todo);
 }
 
 /// Adds what a query takes of a queue.
-fn visit_queue(queue: &Queue, filter: &Filter, h: &Hierarchy, total: &mut Agg)
-    requires filter { IsFilterOf h.now filter.now }
-    requires queue { IsQueueOf h.now queue.now }
+fn visit_queue(queue: &Queue, wanted: &CompiledFilter, total: &mut Agg)
+    requires queue { IsQueueOf wanted.now.hierarchy queue.now }
     requires few { total.old.count + queue.now.agg.count < 2 ^ 63 }
-    ensures total { total.new ≡ join total.old (queue_part h.now filter.now queue.now) }
+    ensures total { total.new ≡ join total.old (queue_part wanted.now.hierarchy wanted.now.picks queue.now) }
     ensures few { total.new.count ≤ total.old.count + queue.now.agg.count }
 {
     measure_agg::laws();
-    if queue.set.inside(h, filter) {
+    if queue.set.inside(wanted) {
         *total = total.join(&queue.agg);
-    } else if queue.set.overlaps(h, filter) {
-        visit_rows(queue.rows.as_slice(), filter, h, total);
+    } else if queue.set.overlaps(wanted) {
+        visit_rows(queue.rows.as_slice(), wanted, total);
+    }
+}
+
+/// Adds the rows of a list that the filter matches.
+fn visit_rows(rows: &[Row], wanted: &CompiledFilter, total: &mut Agg)
+    requires rows { All (IsRowOf wanted.now.hierarchy) rows.now }
+    requires few { total.old.count + length rows.now < 2 ^ 63 }
+    ensures { total.new ≡ join total.old (agg (matching wanted.now.hierarchy wanted.now.picks rows.now)) }
+{
+    measure_agg::laws();
+    for row in rows {
+        let matched = wanted.matches(&row.at);
+        if matched {
+            *total = total.join(&Agg::one(row.measure));
+        }
     }
 }

@@ -8,7 +8,7 @@ ghost use Rattle.link_descent.specs.Room.{HasRoom};
 use crate::{Fresh, enter_root, pick, put_leaf, step_down};
 use arrayvec::ArrayVec;
 use cell_stock::{Purse, Stock};
-use dc_node::{Blanks, Block, Entry};
+use dc_node::{Blanks, Block, Body, Entry};
 use describing_set::DescSet;
 use dim_hierarchy::{ConceptId, Hierarchy, Name, Names, Row};
 use measure_agg::Agg;
@@ -99,7 +99,10 @@ fn count_beneath(block: &Block) -> Result<u64, Fail>
     ensures value { IfOk result (λ n. row_count block.now.body ≡ n) }
     ensures few { IfOk result (λ n. n ≤ 16_000_032) }
 {
-    let mut count = block.rows().len() as u64;
+    let mut count = match &block.body {
+        Body::Rows(rows) => rows.len() as u64,
+        Body::Entries(_) => 0,
+    };
     for entry in block.entries() {
         if entry.agg.count() > 1_000_000 {
             return Err("a million rows".into());
@@ -253,9 +256,13 @@ fn insert(
 fn check_rows(alloc: Global, blocks: &[Block], rows: &[Row]) -> Result<(), Fail> {
     let mut seen = vec![in alloc; false; rows.len()]?;
     for block in blocks {
-        for row in block.rows() {
+        let Body::Rows(held) = &block.body else {
+            continue;
+        };
+        for place in 0..held.len() {
+            let row = held.row(place).ok_or("a row")?;
             let no = row.no as usize;
-            if no >= rows.len() || no >= seen.len() || seen[no] || rows[no] != *row {
+            if no >= rows.len() || no >= seen.len() || seen[no] || rows[no] != row {
                 return Err("another row".into());
             }
             seen[no] = true;

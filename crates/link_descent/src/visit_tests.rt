@@ -9,7 +9,7 @@ use crate::put_leaf;
 use crate::visits::visit;
 use dc_node::{Blanks, Block, Entry, Item, Todo};
 use describing_set::DescSet;
-use dim_hierarchy::{Filter, Hierarchy, Name, NameFilter, NamePick, Names, Row};
+use dim_hierarchy::{CompiledFilter, Filter, Hierarchy, Name, NameFilter, NamePick, Names, Row};
 use measure_agg::Agg;
 use std::alloc::{AllocError, Global};
 use std::test::Fail;
@@ -120,21 +120,14 @@ fn entry(child: u32, measure: i64, set: DescSet) -> Entry
 }
 
 /// What a visit adds to nothing.
-fn visited(
-    block: &Block,
-    stamp: u64,
-    filter: &Filter,
-    h: &Hierarchy,
-    todo: &mut Todo,
-) -> Result<Agg, Fail>
-    requires filter { IsFilterOf h.now filter.now }
-    requires body { IsBodyOf h.now block.now.body }
+fn visited(block: &Block, stamp: u64, wanted: &CompiledFilter, todo: &mut Todo) -> Result<Agg, Fail>
+    requires body { IsBodyOf wanted.now.hierarchy block.now.body }
     requires link { block.now.stamp ≢ stamp → IsSome block.now.right }
     requires few { row_count block.now.body < 2 ^ 63 }
 {
     todo.reserve(17)?;
     let mut agg = Agg::EMPTY;
-    visit(block, stamp, filter, h, &mut agg, todo);
+    visit(block, stamp, wanted, &mut agg, todo);
     Ok(agg)
 }
 
@@ -142,7 +135,7 @@ fn visited(
 fn a_visit_adds_matching_rows(rt: HostRuntime) -> Result<(), Fail> {
     let alloc = rt.alloc();
     let h = hierarchy(alloc)?;
-    let filter = a_or_b(alloc, &h)?;
+    let wanted = h.compile(alloc, &a_or_b(alloc, &h)?)?;
     let mut rows = Vec::new(alloc);
     rows.push(row(alloc, &h, b'a', 5)?)?;
     rows.push(row(alloc, &h, b'c', 9)?)?;
@@ -151,9 +144,9 @@ fn a_visit_adds_matching_rows(rt: HostRuntime) -> Result<(), Fail> {
     let both = Agg::one(5).join(&Agg::one(-7));
 
     let mut todo = Todo::new(alloc);
-    assert_eq!(rt; visited(&block, 1, &filter, &h, &mut todo)?, both);
+    assert_eq!(rt; visited(&block, 1, &wanted, &mut todo)?, both);
     assert_eq!(rt; todo.pop(), None);
-    assert_eq!(rt; visited(&block, 2, &filter, &h, &mut todo)?, both);
+    assert_eq!(rt; visited(&block, 2, &wanted, &mut todo)?, both);
     assert_eq!(rt; todo.pop(), Some(Item { cell: 6, stamp: 2 }));
     assert_eq!(rt; todo.pop(), None);
     Ok(())
@@ -163,11 +156,11 @@ fn a_visit_adds_matching_rows(rt: HostRuntime) -> Result<(), Fail> {
 fn a_visit_adds_or_notes_entries(rt: HostRuntime) -> Result<(), Fail> {
     let alloc = rt.alloc();
     let h = hierarchy(alloc)?;
-    let filter = a_or_b(alloc, &h)?;
+    let wanted = h.compile(alloc, &a_or_b(alloc, &h)?)?;
     let block = directory(alloc, &h)?;
 
     let mut todo = Todo::new(alloc);
-    assert_eq!(rt; visited(&block, 3, &filter, &h, &mut todo)?, Agg::one(6));
+    assert_eq!(rt; visited(&block, 3, &wanted, &mut todo)?, Agg::one(6));
     assert_eq!(rt; todo.pop(), Some(Item { cell: 9, stamp: 2 }));
     assert_eq!(rt; todo.pop(), None);
     Ok(())

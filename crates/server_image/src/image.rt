@@ -7,7 +7,7 @@ use crate::rank::comes_before;
 use crate::registry::Registry;
 use crate::spots::grow_spots;
 use describing_set::{Listing, Path, Spot};
-use dim_hierarchy::{Coord, CoordLineages, Filter, Hierarchy};
+use dim_hierarchy::{CompiledFilter, Coord, CoordLineages, Filter, Hierarchy};
 use std::alloc::{AllocError, Global};
 use std::marker::Model;
 
@@ -129,7 +129,8 @@ impl Image {
         requires filter { IsFilterOf h.now filter.now }
         ensures { IfOk result (λ listing. listing ≡ planned h.now filter.now self.now.spots) }
     {
-        overlapping(alloc, &self.spots, filter, h)
+        let wanted = h.compile(alloc, filter)?;
+        overlapping(alloc, &self.spots, &wanted)
     }
 
     /// Pushes the growths to the registry and takes its frontier. What is owed stays, with its
@@ -173,16 +174,14 @@ fn add<T: Copy>(items: &mut Vec<T>, item: &T)
 fn overlapping(
     alloc: Global,
     spots: &[Spot],
-    filter: &Filter,
-    h: &Hierarchy,
+    wanted: &CompiledFilter,
 ) -> Result<Listing, AllocError>
-    requires boxes { AreBoxes h.now spots.now }
-    requires filter { IsFilterOf h.now filter.now }
-    ensures { IfOk result (λ listing. listing ≡ planned h.now filter.now spots.now) }
+    requires boxes { AreBoxes wanted.now.hierarchy spots.now }
+    ensures { IfOk result (λ listing. listing ≡ planned wanted.now.hierarchy wanted.now.picks spots.now) }
 {
     let mut listing = Listing::new(alloc);
     for spot in spots {
-        let asked = spot.set.overlaps(h, filter);
+        let asked = spot.set.overlaps(wanted);
         if asked {
             listing.push(spot.copy())?;
         }

@@ -7,19 +7,29 @@ ghost use Rattle.shard_tree.specs.Shard.{IsShardOf};
 
 use crate::tree::ShardTree;
 use dc_node::Todo;
-use dim_hierarchy::{Filter, Hierarchy, Row};
+use dim_hierarchy::{CompiledFilter, Filter, Hierarchy, Row};
 use link_descent::{read_gate, visit};
 use measure_agg::Agg;
 use std::alloc::{AllocError, Global};
 use tree_shape::{query_laws, tree_laws};
 
 impl ShardTree {
-    /// The aggregate of the rows that a filter matches. Takes memory for the list of the blocks that
-    /// are still to be visited.
+    /// The aggregate of the rows that a filter matches. Takes memory for the marks of concepts
+    /// and for the list of the blocks that are still to be visited.
     pub fn total(&self, alloc: Global, h: &Hierarchy, wanted: &Filter) -> Result<Agg, AllocError>
         requires shard { IsShardOf h.now self.now }
         requires filter { IsFilterOf h.now wanted.now }
         ensures { IfOk result (λ a. a ≡ agg (filter (λ r. matches h.now wanted.now r.at) self.now.rows)) }
+    {
+        let wanted = h.compile(alloc, wanted)?;
+        self.total_of(alloc, &wanted)
+    }
+
+    /// The same of a compiled filter.
+    fn total_of(&self, alloc: Global, wanted: &CompiledFilter) -> Result<Agg, AllocError>
+        requires shard { IsShardOf wanted.now.hierarchy self.now }
+        requires filter { IsFilterOf wanted.now.hierarchy wanted.now.picks }
+        ensures { IfOk result (λ a. a ≡ agg (filter (λ r. matches wanted.now.hierarchy wanted.now.picks r.at) self.now.rows)) }
     {
         tree_laws();
         query_laws();
@@ -27,14 +37,14 @@ impl ShardTree {
         let mut todo = Todo::new(alloc);
         todo.reserve(1)?;
         let mut total = Agg::EMPTY;
-        read_gate(&self.gate, wanted, h, &mut total, &mut todo);
+        read_gate(&self.gate, wanted, &mut total, &mut todo);
         for _ in 0..self.blocks.len() {
             let Some(item) = todo.pop() else {
                 return Ok(total);
             };
             todo.reserve(17)?;
             let block = self.blocks.at(item.cell);
-            visit(block, item.stamp, wanted, h, &mut total, &mut todo);
+            visit(block, item.stamp, wanted, &mut total, &mut todo);
         }
         Ok(total)
     }

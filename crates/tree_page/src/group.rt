@@ -23,7 +23,7 @@ fn items_of(block: &Block) -> u64
     ensures few { result < 2 ^ 8 }
 {
     match &block.body {
-        Body::Rows(rows) => rows.as_slice().len() as u64,
+        Body::Rows(rows) => rows.len() as u64,
         Body::Entries(entries) => entries.as_slice().len() as u64,
     }
 }

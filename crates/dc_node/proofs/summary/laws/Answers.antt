@@ -1,6 +1,6 @@
 use Rattle.std.proofs.Common.{sym, ◌∙◌}
 use Rattle.dc_node.specs.Summary.{coords}
-use Rattle.dc_node.proofs.Summaries.{JoinLaws, joined-append, joined_lists, summary_of_lists, moved_summary, pushed_summary, appended_summary, valid_coords}
+use Rattle.dc_node.proofs.Summaries.{JoinLaws, joined_lists, summary_of_lists, moved_summary, pushed_summary, appended_summary, valid_coords}
 use Rattle.dc_node.proofs.summary.laws.Goals as goal
 
 pub returns : goal.returns
@@ -11,7 +11,6 @@ returns c =
       leaf = λ rows total set valid s. record { valid = valid; agg = s.0; set_of = s.1 };
       directory = λ lists entries total set z s. summary_of_lists laws h lists entries total set z s.0 s.1;
       joined = joined_lists laws;
-      joined_append = joined-append laws;
       order = moved_summary h c.laws.ensures.same c.laws-2.ensures.order;
       push = pushed_summary h c.laws.ensures.same laws;
       append = appended_summary h laws;

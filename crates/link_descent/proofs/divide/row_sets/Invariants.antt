@@ -4,9 +4,9 @@ use Rattle.std.specs.List.{AllZip}
 use Rattle.describing_set.specs.DescSet.{IsSetOf, IsDescSetOf}
 use Rattle.link_descent.proofs.divide.row_sets.Given as goal
 
-abbrev pub invariant-loop-row : goal.invariant-loop-row
-invariant-loop-row l = record {
-  sets : AllZip (λ r s. IsSetOf l.h (r.at ∷ []) s) (take l.row-index l.rows) l.sets.items;
+abbrev pub invariant-loop-place : goal.invariant-loop-place
+invariant-loop-place l = record {
+  sets : AllZip (λ r s. IsSetOf l.h (r.at ∷ []) s) (take l.place l.rows.items) l.sets.items;
   valid : All (IsDescSetOf l.h) l.sets.items;
-  count : length l.sets.items ≡ l.row-index;
+  count : length l.sets.items ≡ l.place;
 }

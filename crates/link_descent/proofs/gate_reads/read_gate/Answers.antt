@@ -20,8 +20,8 @@ one_taken h f a e empty = elim (is_inside h e.set f) as (λ b. (if b then join a
 
 pub returns-clause-agg : goal.returns-clause-agg
 returns-clause-agg c =
-    let h = c.args.h.now in
-    let f = c.args.filter.now in
+    let h = c.args.wanted.now.hierarchy in
+    let f = c.args.wanted.now.picks in
     let now = c.visit_queue.new.total in
     c.visit_entry.ensures.total
     ∙ ap (λ (e : Entry). if is_inside h e.set f then join now e.agg else now) c.root_entry.ensures

@@ -7,6 +7,6 @@ use Rattle.link_descent.proofs.gate_reads.visit_queue.Goals as goal
 
 pub returns-then-overlaps-clause-few : goal.returns-then-overlaps-clause-few
 returns-then-overlaps-clause-few c =
-    let test = λ (r : Row). matches c.args.h.now c.args.filter.now r.at in
+    let test = λ (r : Row). matches c.args.wanted.now.hierarchy c.args.wanted.now.picks r.at in
     let few = length-filter_both test (λ r. not (test r)) (λ r. refl) c.as_slice.result.now in
     omega (arith, few, ap (λ a. a.count) c.visit_rows.ensures, ap (λ a. a.count) c.requires.queue.summary.agg, ap length c.as_slice.ensures)

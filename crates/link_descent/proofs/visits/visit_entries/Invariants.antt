@@ -7,6 +7,6 @@ use Rattle.link_descent.proofs.visits.visit_entries.Given as goal
 -- the entries so far
 abbrev pub invariant-loop-entry : goal.invariant-loop-entry
 invariant-loop-entry l =
-    (l.total ≡ join l.initial.total (joined (aggs (taken l.h l.filter (take l.entry-index l.entries)))))
-    × (l.todo.items ≡ l.initial.todo.items ++ noted l.h l.filter (take l.entry-index l.entries))
+    (l.total ≡ join l.initial.total (joined (aggs (taken l.wanted.hierarchy l.wanted.picks (take l.entry-index l.entries)))))
+    × (l.todo.items ≡ l.initial.todo.items ++ noted l.wanted.hierarchy l.wanted.picks (take l.entry-index l.entries))
     × (l.initial.todo.room ≤ l.todo.room + l.entry-index)

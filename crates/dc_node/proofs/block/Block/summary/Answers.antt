@@ -1,11 +1,6 @@
 use Rattle.std.proofs.lemmas.List.Elements.{All-same}
-use Rattle.dim_hierarchy.specs.Row.{IsRowOf}
 use Rattle.describing_set.specs.DescSet.{IsDescSetOf}
 use Rattle.dc_node.proofs.block.Block.summary.Goals as goal
-
-pub set_of_rows-requires : goal.set_of_rows-requires
-set_of_rows-requires c =
-    All-same (IsRowOf c.args.h.now) c.as_slice-rows.result.now c.in-Rows.rows.items c.as_slice-rows.ensures.value (rw c.in-Rows.is at c.requires.body)
 
 pub set_of_entries-requires : goal.set_of_entries-requires
 set_of_entries-requires c =

@@ -5,4 +5,4 @@ use Rattle.describing_set.proofs.Covering.{test_at}
 use Rattle.describing_set.proofs.set.DescSet.overlaps.Given as goal
 
 abbrev pub invariant-loop-dim : goal.invariant-loop-dim
-invariant-loop-dim l = (k : ℕ) → k < l.dim → test_at is_part_met l.h l.self.parts.items l.fn.filter All k ≡ true
+invariant-loop-dim l = (k : ℕ) → k < l.dim → test_at is_part_met l.wanted.hierarchy l.self.parts.items l.wanted.picks All k ≡ true

@@ -4,5 +4,5 @@ use Rattle.dim_hierarchy.proofs.dimension.DimensionTable.inherit_from.Goals as g
 
 pub loop-number-preserved : goal.loop-number-preserved
 loop-number-preserved c =
-    Inheriting-more c.args.self.now.tree c.args.level c.args.upper.now c.loop-number.number c.new.result c.args.marks.now c.loop-number.marks c.inherit_one.new.marks
-    (search rules) c.new.ensures (search rules) c.inherit_one.ensures c.loop-number.invariant
+    Inheriting-more c.args.self.now.tree c.args.level c.args.upper.now c.loop-number.number c.new-id.result c.args.marks.now c.loop-number.marks c.inherit_one.new.marks
+    (search rules) c.new-id.ensures (search rules) c.inherit_one.ensures c.loop-number.invariant

@@ -1,0 +1,14 @@
+use Rattle.std.proofs.Common.{◌∙◌, ap}
+use Rattle.std.proofs.lemmas.List.Elements.{All-same}
+use Rattle.arrayvec.specs.ArrayVec.{ArrayVec as Items}
+use Rattle.dim_hierarchy.specs.declared.row.Row.{Row}
+use Rattle.dim_hierarchy.specs.Row.{IsRowOf}
+use Rattle.dc_node.specs.declared.columns.Columns.{Columns}
+use Rattle.dc_node.specs.Columns.{rows_of}
+use Rattle.dc_node.proofs.boxed.RowBox.matching.Goals as goal
+
+pub matching-requires-clause-rows : goal.matching-requires-clause-rows
+matching-requires-clause-rows c =
+    let box = c.deref.result.now in
+    All-same (IsRowOf c.args.wanted.now.hierarchy) (rows_of box c.self.inside.count) c.args.self.now.items
+    (ap (λ (b : Columns). rows_of b c.self.inside.count) c.deref.ensures ∙ ap (λ (v : Items Row). v.items) c.self.view_is) c.requires

@@ -1,0 +1,15 @@
+use Rattle.std.proofs.Common.{◌<◌, take, subst, sym, arith}
+use Rattle.std.specs.Prelude.{All}
+use Rattle.std.proofs.lemmas.List.Elements.{All-filter}
+use Rattle.dim_hierarchy.specs.Column.{is_marked}
+use Rattle.dim_hierarchy.proofs.column.RowPlaces.keep.Goals as goal
+
+pub invariant_of-self : goal.invariant_of-self
+invariant_of-self c =
+    let i = c.self.invariant in
+    let few = c.sift-self-inside.ensures.few in record {
+      few = omega (arith, few, i.few);
+      length = c.sift-self-inside.ensures.length;
+      within = subst (All (λ place. place < 32)) (sym c.sift-self-inside.ensures.kept)
+          (All-filter (is_marked c.args.column.now c.args.marks.now) (λ place. place < 32) (take c.self.inside.count c.self.inside.all) i.within);
+    }

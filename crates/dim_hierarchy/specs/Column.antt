@@ -1,0 +1,13 @@
+-- Places in a column of concepts.
+use Rattle.std.specs.Prelude.{ℕ, ◌≡◌, ◌==◌, ◌<◌, ◌≤◌, Bool, List, length, take, slice_index, All}
+use Rattle.dim_hierarchy.specs.Concept.{number_of}
+
+-- up to 32 of them, in front of an array
+pub record ArePlaces (count : ℕ) (all : List ℕ) : Type 0 where
+  pub few : count ≤ 32
+  pub length : length all ≡ 32
+  pub within : All (λ place. place < 32) (take count all)
+
+-- the concept at a place has the mark of those that are picked; the marks are those of a level by number
+abbrev pub is_marked : List ℕ → List ℕ → ℕ → Bool
+is_marked column marks place = slice_index marks (number_of (slice_index column place)) == 2
