@@ -129,16 +129,16 @@ fn tell_bad<K: Sink>(alloc: Global, at: u64, cause: Cause, sink: &mut K) -> Outc
     without_history(alloc, Status::BadScript)
 }
 
-/// Reads a script and runs it, or says why it is none.
-fn run_bytes<K: Sink>(alloc: Global, bytes: &[u8], sink: &mut K) -> Outcome
-    requires { length bytes.now ≤ 2 ^ 26 }
+/// Reads a script and runs it, or says why it is none. The bytes go before the run.
+fn run_bytes<K: Sink>(alloc: Global, bytes: Vec<u8>, sink: &mut K) -> Outcome
+    requires { length bytes.items ≤ 2 ^ 26 }
     ensures kinds { (result.status ≡ Status.Done)
         ⊎ (result.status ≡ Status.BadScript)
         ⊎ (result.status ≡ Status.WriteFault)
         ⊎ (result.status ≡ Status.NoMemory) }
     ensures bad_script { result.status ≡ Status.BadScript
         → (at : ℕ) × (cause : Cause)
-        × (script (records_of bytes.now) ≡ Err (fault.Bad at cause))
+        × (script (records_of bytes.items) ≡ Err (fault.Bad at cause))
         × (result.ledger.history ≡ [])
         × (Appends (K.taken sink.old) (K.taken sink.new) (bad_line at cause)
         ⊎ (Rose (K.faults sink.old) (K.faults sink.new)
@@ -146,22 +146,24 @@ fn run_bytes<K: Sink>(alloc: Global, bytes: &[u8], sink: &mut K) -> Outcome
     ensures no_memory { result.status ≡ Status.NoMemory
         → ((sink.new ≡ sink.old) × (result.ledger.history ≡ []))
         ⊎ ((s : Script)
-        × (script (records_of bytes.now) ≡ Ok s)
+        × (script (records_of bytes.items) ≡ Ok s)
         × RanInto Request.Step s (K.taken sink.old) (K.taken sink.new) result.ledger.history) }
     ensures write_fault { result.status ≡ Status.WriteFault
         → Rose (K.faults sink.old) (K.faults sink.new)
         × ((s : Script)
-        × (script (records_of bytes.now) ≡ Ok s)
+        × (script (records_of bytes.items) ≡ Ok s)
         × RanTo Request.Step s (K.taken sink.old) (K.taken sink.new) result.ledger.history) }
     ensures done { result.status ≡ Status.Done
         → (s : Script)
-        × (script (records_of bytes.now) ≡ Ok s)
+        × (script (records_of bytes.items) ≡ Ok s)
         × HasRun s.with s.hierarchy s.commands result.ledger.history
         × Appends (K.taken sink.old) (K.taken sink.new) (told s.with s.commands result.ledger.history) }
     ensures serial { (result.ledger.history ≡ [])
-        ⊎ ((s : Script) × (script (records_of bytes.now) ≡ Ok s) × RunsInOrder s result.ledger.history) }
+        ⊎ ((s : Script) × (script (records_of bytes.items) ≡ Ok s) × RunsInOrder s result.ledger.history) }
 {
-    match read_script(alloc, bytes) {
+    let read = read_script(alloc, &bytes);
+    drop(bytes);
+    match read {
         Ok(script) => run_script(alloc, &script, sink),
         Err(ScriptFault::NoMemory) => without_history(alloc, Status::NoMemory),
         Err(ScriptFault::Bad { at, cause }) => tell_bad(alloc, at, cause, sink),
@@ -206,7 +208,7 @@ pub fn step<S: Source, K: Sink>(alloc: Global, source: &mut S, sink: &mut K) -> 
         ⊎ IsSerialRun Request.Step (S.left source.old) (S.left source.new) result.ledger.history }
 {
     match read_all(alloc, source, LIMIT) {
-        Ok(bytes) => run_bytes(alloc, &bytes, sink),
+        Ok(bytes) => run_bytes(alloc, bytes, sink),
         Err(ReadEnd::ReadFault) => without_history(alloc, Status::ReadFault),
         Err(ReadEnd::TooLarge) => without_history(alloc, Status::TooLarge),
         Err(ReadEnd::NoMemory) => without_history(alloc, Status::NoMemory),

@@ -66,7 +66,7 @@ pub(crate) fn names(alloc: Global, row: &ByteRecord, from: usize) -> Result<Name
     requires { from ≤ length (fields_of row.now) }
     ensures { IfOk result (λ names. names ≡ drop from (fields_of row.now)) }
 {
-    let mut names = Names::new(alloc);
+    let mut names = Names::from_vec(Vec::with_capacity(alloc, row.len() - from)?);
     for i in from..row.len() {
         names.push(Name::from_bytes(alloc, field(row, i))?)?;
     }
