@@ -1,40 +1,58 @@
-ghost use Rattle.std.specs.Prelude.{◌≡◌, ◌+◌, length, IfOk, OnOk};
+ghost use Rattle.std.specs.Prelude.{◌≡◌, ◌+◌, ◌<◌, length, IfOk, OnOk};
 ghost use Rattle.dim_hierarchy.specs.Row.{IsCoordOf};
 ghost use Rattle.describing_set.specs.DescSet.{IsDescSetOf};
 
+use crate::few::FewConcepts;
 use crate::plane::{goes_left, plane_of};
 use crate::set::DescSet;
 use dim_hierarchy::{ConceptId, Coord, Hierarchy, Name, Names};
-use std::alloc::{AllocError, Global};
+use std::alloc::Global;
 use std::test::Fail;
 
-/// Adds a dimension whose concepts have names of one letter. Each is given after the letter of its
-/// parent, or after `-`.
+/// Adds a concept whose name is the second letter, under the one of the first, if there is one.
+fn add_concept(alloc: Global, h: &mut Hierarchy, dim: u8, concept: &[u8; 2]) -> Result<(), Fail>
+    ensures { OnOk result (length h.new ≡ length h.old) }
+{
+    let [parent, letter] = concept;
+    let parent = h.find_bytes(dim, &[*parent]);
+    h.add_concept(dim, &Name::from_bytes(alloc, &[*letter])?, parent)?;
+    Ok(())
+}
+
+/// Adds a dimension with such concepts.
 fn add_dim(
     alloc: Global,
     h: &mut Hierarchy,
-    name: &[u8],
+    name: u8,
     levels: u8,
     concepts: &[[u8; 2]],
 ) -> Result<(), Fail>
     ensures { OnOk result (length h.new ≡ length h.old + 1) }
 {
-    let dim = h.add_dim(&Name::from_bytes(alloc, name)?, levels)?;
-    add_concepts(alloc, h, dim, concepts)
-}
-
-/// Adds concepts to a dimension.
-fn add_concepts(alloc: Global, h: &mut Hierarchy, dim: u8, concepts: &[[u8; 2]]) -> Result<(), Fail>
-    ensures { OnOk result (length h.new ≡ length h.old) }
-{
-    for [parent, letter] in concepts {
-        if h.concepts() >= 0x1000_0000 {
-            return Err(AllocError.into());
-        }
-        let parent = h.find_bytes(dim, &[*parent]);
-        h.add_concept(dim, &Name::from_bytes(alloc, &[*letter])?, parent)?;
+    let dim = h.add_dim(&Name::from_bytes(alloc, &[name])?, levels)?;
+    for concept in concepts {
+        add_concept(alloc, h, dim, concept)?;
     }
     Ok(())
+}
+
+/// A hierarchy of one dimension.
+fn one_dim(alloc: Global, levels: u8, concepts: &[[u8; 2]]) -> Result<Hierarchy, Fail>
+    ensures { IfOk result (λ h. length h ≡ 1) }
+{
+    let mut h = Hierarchy::new(alloc);
+    add_dim(alloc, &mut h, b'p', levels, concepts)?;
+    Ok(h)
+}
+
+/// Seven places of one country.
+fn places(alloc: Global) -> Result<Hierarchy, Fail>
+    ensures { IfOk result (λ h. length h ≡ 1) }
+{
+    const CONCEPTS: [[u8; 2]; 8] = [
+        *b"-D", *b"Da", *b"Db", *b"Dc", *b"Dd", *b"De", *b"Df", *b"Dg",
+    ];
+    one_dim(alloc, 2, &CONCEPTS)
 }
 
 /// The coordinate of concepts of these letters, one for each dimension.
@@ -61,77 +79,171 @@ fn set_of(alloc: Global, h: &Hierarchy, letters: &[u8]) -> Result<DescSet, Fail>
     Ok(set)
 }
 
+/// The level of a set in the first dimension, how many concepts it has there, and its size.
+fn shape(h: &Hierarchy, set: &DescSet) -> (u8, usize, u32)
+    requires some { 0 < length h.now }
+    requires set { IsDescSetOf h.now set.now }
+{
+    let part = &set.parts.as_slice()[0];
+    (part.level, part.ids.len(), set.size(h))
+}
+
+/// The shape of the set of the coordinates of these letters.
+fn shape_of(alloc: Global, h: &Hierarchy, letters: &[u8]) -> Result<(u8, usize, u32), Fail>
+    requires { length h.now ≡ 1 }
+{
+    Ok(shape(h, &set_of(alloc, h, letters)?))
+}
+
 #[test]
 fn the_seventh_concept_lifts_a_set(rt: HostRuntime) -> Result<(), Fail> {
-    let alloc = rt.alloc();
-    let mut h = Hierarchy::new(alloc);
-    let places = [
-        *b"-D", *b"Da", *b"Db", *b"Dc", *b"Dd", *b"De", *b"Df", *b"Dg",
+    const CASES: [(&[u8], (u8, usize, u32)); 3] = [
+        (b"cab", (2, 3, 3)),
+        (b"abcdef", (2, 6, 6)),
+        (b"abcdefg", (1, 1, 9)),
     ];
-    add_dim(alloc, &mut h, b"place", 2, &places)?;
+    let alloc = rt.alloc();
+    let h = places(alloc)?;
+    for (letters, answer) in &CASES {
+        assert_eq!(rt; shape_of(alloc, &h, letters)?, *answer);
+    }
+    Ok(())
+}
 
-    let three = set_of(alloc, &h, b"cab")?;
-    assert_eq!(rt; three.size(&h), 3);
-    let plane = plane_of(&three).ok_or("a plane")?;
-    assert_eq!(rt; plane.left.as_slice(), [ConceptId::new(2, 0)].as_slice());
-    assert!(rt; plane_of(&set_of(alloc, &h, b"a")?).is_none());
-
-    let six = set_of(alloc, &h, b"abcdef")?;
-    assert_eq!(rt; six.parts.as_slice()[0].level, 2);
-    assert_eq!(rt; six.parts.as_slice()[0].ids.len(), 6);
-
+#[test]
+fn a_lifted_set_is_that_of_one_concept_above(rt: HostRuntime) -> Result<(), Fail> {
+    let alloc = rt.alloc();
+    let h = places(alloc)?;
     let seven = set_of(alloc, &h, b"abcdefg")?;
-    assert_eq!(rt; seven.parts.as_slice()[0].level, 1);
-    assert_eq!(rt;
-        seven.parts.as_slice()[0].ids.as_slice(),
-        [ConceptId::new(1, 0)].as_slice()
-    );
-    assert_eq!(rt; seven.size(&h), 9);
+    let ids = seven.parts.as_slice()[0].ids.as_slice();
+    assert_eq!(rt; ids, [ConceptId::new(1, 0)].as_slice());
+    Ok(())
+}
 
-    let last = coord(alloc, &h, b"g")?;
-    assert_eq!(rt; six.growth(&h, &h.lineages(&last)), 1);
-    assert_eq!(rt; six.join(&h, &DescSet::of_coord(&h, &last)), seven);
-    assert!(rt; seven.covers(&h, &h.lineages(&last)));
+/// How much the set of six letters grows by the seventh, whether they join to the set of all seven,
+/// and whether this covers it.
+fn seventh(alloc: Global, h: &Hierarchy) -> Result<(u32, bool, bool), Fail>
+    requires { length h.now ≡ 1 }
+{
+    let last = coord(alloc, h, b"g")?;
+    let six = set_of(alloc, h, b"abcdef")?;
+    let seven = set_of(alloc, h, b"abcdefg")?;
+    let joined = six.join(h, &DescSet::of_coord(h, &last));
+    Ok((
+        six.growth(h, &h.lineages(&last)),
+        joined == seven,
+        seven.covers(h, &h.lineages(&last)),
+    ))
+}
+
+#[test]
+fn the_seventh_concept_joins(rt: HostRuntime) -> Result<(), Fail> {
+    let alloc = rt.alloc();
+    let h = places(alloc)?;
+    assert_eq!(rt; seventh(alloc, &h)?, (1, true, true));
+    Ok(())
+}
+
+/// The concepts at the left of the plane of the set of these letters.
+fn left_of(alloc: Global, h: &Hierarchy, letters: &[u8]) -> Result<Option<FewConcepts>, Fail>
+    requires { length h.now ≡ 1 }
+{
+    match plane_of(&set_of(alloc, h, letters)?) {
+        Some(plane) => Ok(Some(plane.left)),
+        None => Ok(None),
+    }
+}
+
+#[test]
+fn a_plane_has_the_first_half_at_its_left(rt: HostRuntime) -> Result<(), Fail> {
+    let alloc = rt.alloc();
+    let h = places(alloc)?;
+    let left = left_of(alloc, &h, b"cab")?.ok_or("a plane")?;
+    assert_eq!(rt; left.as_slice(), [ConceptId::new(2, 0)].as_slice());
+    assert!(rt; left_of(alloc, &h, b"a")?.is_none());
     Ok(())
 }
 
 #[test]
 fn a_set_is_lifted_twice_at_once(rt: HostRuntime) -> Result<(), Fail> {
-    let alloc = rt.alloc();
-    let mut h = Hierarchy::new(alloc);
-    let uppers = [
-        *b"-T", *b"TA", *b"TB", *b"TC", *b"TD", *b"TE", *b"TF", *b"TG",
+    const CONCEPTS: [[u8; 2]; 15] = [
+        *b"-T", *b"TA", *b"TB", *b"TC", *b"TD", *b"TE", *b"TF", *b"TG", *b"Aa", *b"Bb", *b"Cc",
+        *b"Dd", *b"Ee", *b"Ff", *b"Gg",
     ];
-    let lowers = [*b"Aa", *b"Bb", *b"Cc", *b"Dd", *b"Ee", *b"Ff", *b"Gg"];
-    add_dim(alloc, &mut h, b"place", 3, &uppers)?;
-    add_concepts(alloc, &mut h, 0, &lowers)?;
-
-    let mut set = set_of(alloc, &h, b"abcdef")?;
-    assert_eq!(rt; set.parts.as_slice()[0].level, 3);
-    set.grow(&h, &coord(alloc, &h, b"g")?);
-    assert_eq!(rt; set.parts.as_slice()[0].level, 1);
-    assert_eq!(rt; set.size(&h), 17);
+    const CASES: [(&[u8], (u8, usize, u32)); 2] = [
+        (b"abcdef", (3, 6, 6)),
+        (b"abcdefg", (1, 1, 17)),
+    ];
+    let alloc = rt.alloc();
+    let h = one_dim(alloc, 3, &CONCEPTS)?;
+    for (letters, answer) in &CASES {
+        assert_eq!(rt; shape_of(alloc, &h, letters)?, *answer);
+    }
     Ok(())
+}
+
+fn add_eight(alloc: Global, h: &mut Hierarchy) -> Result<(), Fail>
+    ensures { OnOk result (length h.new ≡ length h.old + 8) }
+{
+    for digit in b'0'..b'8' {
+        add_dim(alloc, h, digit, 1, &[*b"-a", *b"-b"])?;
+    }
+    Ok(())
+}
+
+/// Eight dimensions of two concepts.
+fn eight_dims(alloc: Global) -> Result<Hierarchy, Fail>
+    ensures { IfOk result (λ h. length h ≡ 8) }
+{
+    let mut h = Hierarchy::new(alloc);
+    add_eight(alloc, &mut h)?;
+    Ok(h)
+}
+
+/// How much a set grows by the coordinate of these letters, which it takes in.
+fn grow(alloc: Global, h: &Hierarchy, set: &mut DescSet, letters: &[u8]) -> Result<u32, Fail>
+    requires set { IsDescSetOf h.now set.old }
+    requires letters { length letters.now ≡ length h.now }
+    ensures { IsDescSetOf h.now set.new }
+{
+    // Laid out, as the prover can't carry the answer itself to the next call.
+    let at = Coord {
+        at: coord(alloc, h, letters)?.at,
+    };
+    let growth = set.growth(h, &h.lineages(&at));
+    set.grow(h, &at);
+    Ok(growth)
+}
+
+/// The dimension of a set's plane, and whether the coordinate of these letters goes left.
+fn side(
+    alloc: Global,
+    h: &Hierarchy,
+    set: &DescSet,
+    letters: &[u8],
+) -> Result<Option<(u8, bool)>, Fail>
+    requires set { IsDescSetOf h.now set.now }
+    requires letters { length letters.now ≡ length h.now }
+{
+    let at = Coord {
+        at: coord(alloc, h, letters)?.at,
+    };
+    match plane_of(set) {
+        Some(plane) => Ok(Some((plane.dim, goes_left(h, &plane, &at)))),
+        None => Ok(None),
+    }
 }
 
 #[test]
 fn eight_dimensions(rt: HostRuntime) -> Result<(), Fail> {
     let alloc = rt.alloc();
-    let mut h = Hierarchy::new(alloc);
-    for digit in b'0'..b'8' {
-        add_dim(alloc, &mut h, &[digit], 1, &[*b"-a", *b"-b"])?;
-    }
-    assert_eq!(rt; h.dims(), 8);
-
-    let first = coord(alloc, &h, b"aaaaaaaa")?;
-    let second = coord(alloc, &h, b"aababaaa")?;
-    let mut set = DescSet::of_coord(&h, &first);
-    assert_eq!(rt; set.growth(&h, &h.lineages(&second)), 2);
-    set.grow(&h, &second);
-    assert_eq!(rt; set.size(&h), 10);
-    let plane = plane_of(&set).ok_or("a plane")?;
-    assert_eq!(rt; plane.dim, 2);
-    assert!(rt; goes_left(&h, &plane, &first));
-    assert!(rt; !goes_left(&h, &plane, &second));
+    let h = eight_dims(alloc)?;
+    let mut set = DescSet::empty(&h);
+    let all = grow(alloc, &h, &mut set, b"aaaaaaaa")?;
+    let two = grow(alloc, &h, &mut set, b"aababaaa")?;
+    assert_eq!(rt; (all, two, set.size(&h)), (8, 2, 10));
+    let left = side(alloc, &h, &set, b"aaaaaaaa")?;
+    let right = side(alloc, &h, &set, b"aababaaa")?;
+    assert_eq!(rt; (left, right), (Some((2, true)), Some((2, false))));
     Ok(())
 }
