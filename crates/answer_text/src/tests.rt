@@ -153,58 +153,77 @@ fn shard(id: u32, rows: u64, set: DescSet) -> ShardLine {
     }
 }
 
+/// Compares what is told of these commands when this has happened.
+fn expect_lines<R: Abort>(
+    rt: &R,
+    alloc: Global,
+    commands: &[u8],
+    events: Vec<Event>,
+    text: &[u8],
+) -> Result<(), Fail> {
+    let history = History::from_vec(events);
+    let script = script(rt, alloc, commands)?;
+    let said = told(alloc, &script.with, &script.commands, &history)?;
+    assert_eq!(rt; said.as_slice(), text);
+    Ok(())
+}
+
 #[test]
 fn lines_of_inserts_and_queries(rt: HostRuntime) -> Result<(), Fail> {
     let alloc = rt.alloc();
-    let rows: [(&[u8], Vec<Event>, &[u8]); 5] = [
-        (b"", vec![in alloc; begun(0)]?, b""),
-        (
-            b"insert,0,5,fr\nquery,2,fr",
-            vec![in alloc; unknown(2, 7), unknown(0, 0)]?,
-            b"1 insert unknown 0\n2 query unknown 7\n",
-        ),
-        (
-            b"insert,0,5,de\ninsert,0,6,de\nquery,0,de",
-            vec![in alloc;
-                begun(0),
-                Event::Refused { session: 0 },
-                Event::Failed { of: 0 },
-                asked(alloc, 0),
-                Event::Failed { of: 3 },
-            ]?,
-            b"1 insert nomem\n2 insert nomem\n3 query nomem\n",
-        ),
-        (
-            b"insert,0,1,de\nquery,1,de\nquery,0,*",
-            vec![in alloc;
-                asked(alloc, 1),
-                begun(0),
-                answered(0, Agg::one(9)),
-                acked(alloc, 1),
-                asked(alloc, 0),
-                answered(4, Agg::EMPTY),
-            ]?,
-            b"1 insert ok\n2 query 1 9 9 9\n3 query 0 0 - -\n",
-        ),
-        (
-            b"insert,0,1,de\nquery,0,de",
-            vec![in alloc;
-                asked(alloc, 0),
-                answered(0, Agg::one(9)),
-                begun(7),
-                acked(alloc, 90),
-                begun(300),
-            ]?,
-            b"",
-        ),
-    ];
-    for (commands, events, text) in rows {
-        let script = script(&rt, alloc, commands)?;
-        let history = History::from_vec(events);
-        let said = told(alloc, &script.with, &script.commands, &history)?;
-        assert_eq!(rt; said.as_slice(), text);
-    }
-    Ok(())
+    expect_lines(&rt, alloc, b"", vec![in alloc; begun(0)]?, b"")?;
+    expect_lines(
+        &rt,
+        alloc,
+        b"insert,0,5,fr\nquery,2,fr",
+        vec![in alloc; unknown(2, 7), unknown(0, 0)]?,
+        b"1 insert unknown 0\n2 query unknown 7\n",
+    )?;
+    expect_lines(
+        &rt,
+        alloc,
+        b"insert,0,1,de\nquery,0,de",
+        vec![in alloc;
+            asked(alloc, 0),
+            answered(0, Agg::one(9)),
+            begun(7),
+            acked(alloc, 90),
+            begun(300),
+        ]?,
+        b"",
+    )
+}
+
+#[test]
+fn lines_of_inserts_and_queries_at_their_end(rt: HostRuntime) -> Result<(), Fail> {
+    let alloc = rt.alloc();
+    expect_lines(
+        &rt,
+        alloc,
+        b"insert,0,5,de\ninsert,0,6,de\nquery,0,de",
+        vec![in alloc;
+            begun(0),
+            Event::Refused { session: 0 },
+            Event::Failed { of: 0 },
+            asked(alloc, 0),
+            Event::Failed { of: 3 },
+        ]?,
+        b"1 insert nomem\n2 insert nomem\n3 query nomem\n",
+    )?;
+    expect_lines(
+        &rt,
+        alloc,
+        b"insert,0,1,de\nquery,1,de\nquery,0,*",
+        vec![in alloc;
+            asked(alloc, 1),
+            begun(0),
+            answered(0, Agg::one(9)),
+            acked(alloc, 1),
+            asked(alloc, 0),
+            answered(4, Agg::EMPTY),
+        ]?,
+        b"1 insert ok\n2 query 1 9 9 9\n3 query 0 0 - -\n",
+    )
 }
 
 const WITH: Use = Use {
@@ -223,91 +242,111 @@ fn commands_of(alloc: Global, calls: &[Call]) -> Result<Commands, AllocError> {
     Ok(commands)
 }
 
+/// Compares what is told of these calls when this has happened.
+fn expect_calls<R: Abort>(
+    rt: &R,
+    alloc: Global,
+    calls: &[Call],
+    events: Vec<Event>,
+    text: &[u8],
+) -> Result<(), Fail> {
+    let history = History::from_vec(events);
+    let commands = commands_of(alloc, calls)?;
+    let said = told(alloc, &WITH, &commands, &history)?;
+    assert_eq!(rt; said.as_slice(), text);
+    Ok(())
+}
+
 #[test]
-fn lines_of_calls(rt: HostRuntime) -> Result<(), Fail> {
+fn lines_of_calls_that_end_well_or_are_put_off(rt: HostRuntime) -> Result<(), Fail> {
     let alloc = rt.alloc();
-    let refused = Event::Refused { session: 4 };
     let pull = Event::Called {
         session: 3,
         call: Call::Sync(2),
     };
-    let rows: [(&[Call], Vec<Event>, &[u8]); 5] = [
-        (
-            &[Call::Sync(2), Call::Barrier, Call::Settle],
-            vec![in alloc;
-                pull,
-                ended(0, How::Fine),
-                called(Call::Barrier),
-                ended(2, How::Fine),
-                called(Call::Settle),
-                ended(4, How::NoMemory),
-            ]?,
-            b"1 sync ok\n2 barrier ok\n3 settle nomem\n",
-        ),
-        (
-            &[Call::Split(0), Call::Split(1), Call::Move(2, 0)],
-            vec![in alloc;
-                called(Call::Split(0)),
-                split(0, 1, 2),
-                ended(0, How::Fine),
-                called(Call::Split(1)),
-                declined(3, Decline::OnePlace),
-                called(Call::Move(2, 0)),
-                ended(5, How::Fine),
-            ]?,
-            b"1 split ok 1 2\n2 split declined oneplace\n3 move ok\n",
-        ),
-        (
-            &[Call::Split(9), Call::Split(0), Call::Move(0, 1)],
-            vec![in alloc;
-                called(Call::Split(9)),
-                ended(0, How::NoMemory),
-                called(Call::Split(0)),
-                ended(2, How::Postponed),
-                refused,
-            ]?,
-            b"1 split postponed\n2 split postponed\n3 move postponed\n",
-        ),
-        (
-            &[Call::Move(0, 7), Call::Split(0), Call::Balance(4)],
-            vec![in alloc;
-                called(Call::Move(0, 7)),
-                declined(0, Decline::Unknown),
-                called(Call::Split(0)),
-                declined(2, Decline::NoCell { need: 100, free: 3 }),
-                called(Call::Balance(4)),
-                split(4, 1, 2),
-                ended(
-                    4,
-                    How::Balanced {
-                        done: 1,
-                        planned: 3
-                    }
-                ),
-            ]?,
-            b"1 move declined unknown\n2 split declined nocell 100 3\n3 balance 1 3\n",
-        ),
-        (
-            &[Call::Balance(1), Call::Shards, Call::Tree(5), Call::Audit],
-            vec![in alloc;
-                Event::Refused { session: 4 },
-                called(Call::Shards),
-                ended(1, How::NoMemory),
-                called(Call::Tree(5)),
-                declined(3, Decline::Unknown),
-                called(Call::Audit),
-                ended(5, How::NoMemory),
-            ]?,
-            b"1 balance nomem\n2 shards nomem\n3 tree declined unknown\n4 audit nomem\n",
-        ),
-    ];
-    for (calls, events, text) in rows {
-        let commands = commands_of(alloc, calls)?;
-        let history = History::from_vec(events);
-        let said = told(alloc, &WITH, &commands, &history)?;
-        assert_eq!(rt; said.as_slice(), text);
-    }
-    Ok(())
+    expect_calls(
+        &rt,
+        alloc,
+        &[Call::Sync(2), Call::Barrier, Call::Settle],
+        vec![in alloc;
+            pull,
+            ended(0, How::Fine),
+            called(Call::Barrier),
+            ended(2, How::Fine),
+            called(Call::Settle),
+            ended(4, How::NoMemory),
+        ]?,
+        b"1 sync ok\n2 barrier ok\n3 settle nomem\n",
+    )?;
+    expect_calls(
+        &rt,
+        alloc,
+        &[Call::Split(0), Call::Split(1), Call::Move(2, 0)],
+        vec![in alloc;
+            called(Call::Split(0)),
+            split(0, 1, 2),
+            ended(0, How::Fine),
+            called(Call::Split(1)),
+            declined(3, Decline::OnePlace),
+            called(Call::Move(2, 0)),
+            ended(5, How::Fine),
+        ]?,
+        b"1 split ok 1 2\n2 split declined oneplace\n3 move ok\n",
+    )?;
+    expect_calls(
+        &rt,
+        alloc,
+        &[Call::Split(9), Call::Split(0), Call::Move(0, 1)],
+        vec![in alloc;
+            called(Call::Split(9)),
+            ended(0, How::NoMemory),
+            called(Call::Split(0)),
+            ended(2, How::Postponed),
+            Event::Refused { session: 4 },
+        ]?,
+        b"1 split postponed\n2 split postponed\n3 move postponed\n",
+    )
+}
+
+#[test]
+fn lines_of_calls_that_are_declined_or_find_no_memory(rt: HostRuntime) -> Result<(), Fail> {
+    let alloc = rt.alloc();
+    expect_calls(
+        &rt,
+        alloc,
+        &[Call::Move(0, 7), Call::Split(0), Call::Balance(4)],
+        vec![in alloc;
+            called(Call::Move(0, 7)),
+            declined(0, Decline::Unknown),
+            called(Call::Split(0)),
+            declined(2, Decline::NoCell { need: 100, free: 3 }),
+            called(Call::Balance(4)),
+            split(4, 1, 2),
+            ended(
+                4,
+                How::Balanced {
+                    done: 1,
+                    planned: 3
+                }
+            ),
+        ]?,
+        b"1 move declined unknown\n2 split declined nocell 100 3\n3 balance 1 3\n",
+    )?;
+    expect_calls(
+        &rt,
+        alloc,
+        &[Call::Balance(1), Call::Shards, Call::Tree(5), Call::Audit],
+        vec![in alloc;
+            Event::Refused { session: 4 },
+            called(Call::Shards),
+            ended(1, How::NoMemory),
+            called(Call::Tree(5)),
+            declined(3, Decline::Unknown),
+            called(Call::Audit),
+            ended(5, How::NoMemory),
+        ]?,
+        b"1 balance nomem\n2 shards nomem\n3 tree declined unknown\n4 audit nomem\n",
+    )
 }
 
 /// A history that shows a tree of a directory over one leaf, then the shards, then all rows, of which

@@ -1,4 +1,4 @@
-ghost use Rattle.std.specs.Prelude.{◌+◌, ◌<◌, ◌^◌};
+ghost use Rattle.std.specs.Prelude.{◌≡◌, ◌+◌, ◌<◌, ◌^◌};
 ghost use Rattle.query_router.specs.Desk.{done_of};
 
 use crate::{Desk, Part, PartState, Verdict, Want};
@@ -6,6 +6,7 @@ use describing_set::Path;
 use dim_hierarchy::Filter;
 use measure_agg::Agg;
 use std::alloc::Global;
+use std::process::Abort;
 use std::test::Fail;
 
 /// A part of a shard that is with a worker or waits for it, asking for a filter of no dimension.
@@ -18,50 +19,77 @@ fn part(alloc: Global, shard: u32, worker: u8) -> Part {
     }
 }
 
-/// The shards of a desk's parts.
-fn shards(alloc: Global, desk: &Desk) -> Result<Vec<u32>, Fail> {
+/// A part that has come so far.
+fn part_in(alloc: Global, shard: u32, state: PartState) -> Part
+    ensures { result.state ≡ state }
+{
+    Part {
+        shard,
+        worker: 0,
+        path: Path::new(alloc),
+        state,
+    }
+}
+
+/// Compares the shards of a desk's parts.
+fn expect_shards<R: Abort>(rt: &R, alloc: Global, desk: &Desk, wanted: &[u32]) -> Result<(), Fail> {
     let mut shards = Vec::new(alloc);
     for part in desk.parts() {
         shards.push(part.shard)?;
     }
-    Ok(shards)
+    assert_eq!(rt; shards.as_slice(), wanted);
+    Ok(())
 }
 
-#[test]
-fn two_parts_stand_in_the_place_of_the_one_taken(rt: HostRuntime) -> Result<(), Fail> {
-    let alloc = rt.alloc();
+/// A desk with a command of a part for worker 1 and one for worker 0.
+fn two_parts(alloc: Global) -> Result<Desk, Fail> {
+    let parts = vec![in alloc; part(alloc, 4, 1), part(alloc, 0, 0)]?;
     let mut desk = Desk::new(alloc);
-    assert_eq!(rt; desk.op(), None);
-    let mut parts = Vec::new(alloc);
-    parts.push(part(alloc, 4, 1))?;
-    parts.push(part(alloc, 0, 0))?;
     desk.put(9, parts);
-    assert_eq!(rt; desk.op(), Some(9));
-    assert_eq!(rt;
-        [desk.ready(0), desk.ready(1), desk.ready(2)],
-        [Some(1), Some(0), None]
-    );
+    Ok(desk)
+}
 
-    let place = desk.ready(1).ok_or("a part for worker 1")?;
-    let taken = desk.take(place);
+/// Takes the first part that waits for a worker.
+fn take<R: Abort>(rt: &R, desk: &mut Desk, worker: u8) -> Part {
+    let place = desk.ready(worker).expect(rt, "a part that waits");
+    desk.take(place)
+}
+
+/// The first part is taken, and two stand in its place.
+fn expands<R: Abort>(rt: &R, alloc: Global, desk: &mut Desk) -> Result<(), Fail> {
+    let taken = take(rt, desk, 1);
     assert_eq!(rt; (taken.shard, taken.worker), (4, 1));
     assert_eq!(rt;
         [desk.ready(1), desk.taken(4, 1), desk.taken(4, 0)],
         [None, Some(0), None]
     );
-
-    let place = desk.taken(4, 1).ok_or("the part taken")?;
+    let place = desk.taken(4, 1).expect(rt, "the part taken");
     desk.expand(place, part(alloc, 5, 1), part(alloc, 6, 1))?;
-    assert_eq!(rt; shards(alloc, &desk)?.as_slice(), [5, 6, 0].as_slice());
+    Ok(())
+}
 
-    // The place of another part has shifted.
-    let place = desk.ready(0).ok_or("a part for worker 0")?;
-    assert_eq!(rt; place, 2);
-    let mut other = desk.take(place);
+/// The last part, whose place has shifted, is done.
+fn finishes<R: Abort>(rt: &R, desk: &mut Desk) {
+    assert_eq!(rt; desk.ready(0), Some(2));
+    let mut other = take(rt, desk, 0);
     other.state = PartState::Done(Agg::one(5));
-    let place = desk.taken(0, 0).ok_or("the part taken")?;
+    let place = desk.taken(0, 0).expect(rt, "the part taken");
     desk.set(place, other);
     assert_eq!(rt; [desk.ready(0), desk.taken(0, 0)], [None, None]);
+}
+
+#[test]
+fn two_parts_stand_in_the_place_of_the_one_taken(rt: HostRuntime) -> Result<(), Fail> {
+    let alloc = rt.alloc();
+    let desk = &mut two_parts(alloc)?;
+    assert_eq!(rt; desk.op(), Some(9));
+    assert_eq!(rt;
+        [desk.ready(0), desk.ready(1), desk.ready(2)],
+        [Some(1), Some(0), None]
+    );
+    expands(&rt, alloc, desk)?;
+    expect_shards(&rt, alloc, desk, &[5, 6, 0])?;
+    finishes(&rt, desk);
     Ok(())
 }
 
@@ -69,13 +97,7 @@ fn two_parts_stand_in_the_place_of_the_one_taken(rt: HostRuntime) -> Result<(), 
 fn verdict(alloc: Global, left: PartState, right: PartState) -> Result<Option<Verdict>, Fail>
     requires { (done_of left).count + (done_of right).count < 2 ^ 63 }
 {
-    let mut first = part(alloc, 0, 0);
-    first.state = left;
-    let mut second = part(alloc, 1, 0);
-    second.state = right;
-    let mut parts = Vec::new(alloc);
-    parts.push(first)?;
-    parts.push(second)?;
+    let parts = vec![in alloc; part_in(alloc, 0, left), part_in(alloc, 1, right)]?;
     let mut desk = Desk::new(alloc);
     desk.put(7, parts);
     Ok(desk.answer())
@@ -84,26 +106,35 @@ fn verdict(alloc: Global, left: PartState, right: PartState) -> Result<Option<Ve
 #[test]
 fn the_first_cause_in_order_is_the_verdict(rt: HostRuntime) -> Result<(), Fail> {
     let alloc = rt.alloc();
-    let open = verdict(alloc, PartState::NoMemory, PartState::Taken)?;
-    assert_eq!(rt; open, None);
-    let waits = PartState::Waiting(Want::Filter(Filter::new(alloc)));
-    assert_eq!(rt; verdict(alloc, PartState::Done(Agg::one(5)), waits)?, None);
-    let refused = verdict(
-        alloc,
-        PartState::Placed(Path::new(alloc)),
-        PartState::NoMemory,
-    )?;
-    assert_eq!(rt; refused, Some(Verdict::NoMemory));
-    let placed = verdict(
-        alloc,
-        PartState::Done(Agg::one(5)),
-        PartState::Placed(Path::new(alloc)),
-    )?;
-    assert_eq!(rt; placed, Some(Verdict::Placed));
-    let left = PartState::Done(Agg::one(5));
-    let right = PartState::Done(Agg::one(-7));
-    let both = Agg::one(5).join(&Agg::one(-7));
-    assert_eq!(rt; verdict(alloc, left, right)?, Some(Verdict::Sum(both)));
+    let five = Agg::one(5);
+    let less = Agg::one(-7);
+    let verdicts = [
+        verdict(alloc, PartState::NoMemory, PartState::Taken)?,
+        verdict(
+            alloc,
+            PartState::Done(five),
+            PartState::Waiting(Want::Filter(Filter::new(alloc))),
+        )?,
+        verdict(
+            alloc,
+            PartState::Placed(Path::new(alloc)),
+            PartState::NoMemory,
+        )?,
+        verdict(
+            alloc,
+            PartState::Done(five),
+            PartState::Placed(Path::new(alloc)),
+        )?,
+        verdict(alloc, PartState::Done(five), PartState::Done(less))?,
+    ];
+    let wanted = [
+        None,
+        None,
+        Some(Verdict::NoMemory),
+        Some(Verdict::Placed),
+        Some(Verdict::Sum(five.join(&less))),
+    ];
+    assert_eq!(rt; verdicts, wanted);
     Ok(())
 }
 
@@ -111,6 +142,7 @@ fn the_first_cause_in_order_is_the_verdict(rt: HostRuntime) -> Result<(), Fail> 
 fn a_command_without_parts_sums_to_nothing(rt: HostRuntime) {
     let alloc = rt.alloc();
     let mut desk = Desk::new(alloc);
+    assert_eq!(rt; desk.op(), None);
     desk.count_in();
     desk.put(3, Vec::new(alloc));
     assert_eq!(rt; desk.answer(), Some(Verdict::Sum(Agg::EMPTY)));
