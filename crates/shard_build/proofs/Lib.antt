@@ -1,6 +1,7 @@
 pub mod Lists
-pub mod Steps
 pub mod Counts
+pub mod Sizes
+pub mod Steps
 pub mod Summed
 pub mod Led
 pub mod Grown
