@@ -1,6 +1,7 @@
 pub mod Lists
 pub mod Counts
 pub mod Sizes
+pub mod LeavesFirst
 pub mod Steps
 pub mod Summed
 pub mod Led

@@ -64,6 +64,12 @@ AreSmall blocks = All (λ f. size f.block.body ≤ most f.block.body) blocks
 abbrev pub AreAlone : List Fresh → Type 0
 AreAlone blocks = All (λ f. f.block.right ≡ None) blocks
 
+-- the first n blocks are leaves, and the others directories
+pub record AreLeavesFirst (n : ℕ) (blocks : List Fresh) : Type 0 where
+  pub within : n ≤ length blocks
+  pub leaves : All (λ f. is_leaf f.block.body ≡ true) (take n blocks)
+  pub directories : All (λ f. is_leaf f.block.body ≡ false) (drop n blocks)
+
 -- Leaves.
 
 -- leaves of these rows, in order

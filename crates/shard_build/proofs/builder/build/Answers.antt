@@ -1,4 +1,4 @@
-use Rattle.std.proofs.Common.{◌≡◌, ◌+◌, ◌-◌, ◌++◌, List, [], map, length, drop, sym, ap, ◌∙◌, subst, arith, length-append}
+use Rattle.std.proofs.Common.{◌≡◌, ℕ, ◌+◌, ◌-◌, ◌++◌, List, [], map, length, drop, sym, ap, ◌∙◌, subst, arith, length-append}
 use Rattle.std.proofs.lemmas.List.{take_all, take_rest}
 use Rattle.std.proofs.lemmas.List.Sorted.{All-permutation}
 use Rattle.dim_hierarchy.specs.declared.row.Row.{Row}
@@ -8,12 +8,13 @@ use Rattle.shard_plan.specs.Building.{leaf_rows, leaves_for, cells_for, levels_f
 use Rattle.tree_shape.specs.Forest.{all_rows}
 use Rattle.std.specs.Prelude.{Contains, IsPermutation}
 use Rattle.std.specs.List.Sorted.{IsSortedBy}
-use Rattle.shard_build.specs.Building.{AreAlone, AreLeavesOf, AreLed, AreParentsOf, AreSmall, IsGrown, SiteValue, UsesUp, comes_before, spare_of, spare_to}
+use Rattle.shard_build.specs.Building.{AreAlone, AreLeavesFirst, AreLeavesOf, AreLed, AreParentsOf, AreSmall, IsGrown, SiteValue, UsesUp, comes_before, spare_of, spare_to}
 use Rattle.shard_build.specs.Built.{root_of}
 use Rattle.shard_build.specs.Sizes.{built_sizes, put_by, sizes_of}
 use Rattle.shard_build.proofs.Led.{taken-first, taken-from}
 use Rattle.shard_build.proofs.Counts.{leaves-few, cells-first, cells-next, cells-all, many, parents-count}
 use Rattle.shard_build.proofs.Sizes.{sizes-first, sizes-next, sizes-all}
+use Rattle.shard_build.proofs.LeavesFirst.{kinds-first, kinds-next}
 use Rattle.shard_build.proofs.Grown.{leaves-grown, level-grown}
 use Rattle.shard_build.proofs.Finished.{built-tree}
 use Rattle.shard_build.proofs.Lists.{one-left}
@@ -36,6 +37,7 @@ loop-init c =
           (All-permutation (IsRowOf c.args.h.now) c.args.rows.items ordered c.in_order-rows.ensures.permutation c.requires.rows) (omega (arith, count)) leaves;
       cells = first.0;
       levels = first.1;
+      kinds = kinds-first (leaves_for c.len-n.result) blocks count leaves.kind;
       sizes = sizes-first c.level_laws.ensures.root c.level_laws.ensures.parents blocks c.len-n.result count
           (c.add_leaves.ensures.leaves.sizes ∙ ap (put_by leaf_rows (length blocks)) (sym n));
       boxes = omega (arith, count, few, boxes, c.add_leaves.ensures.directories, c.cells_for.ensures, c.leaves_for.ensures);
@@ -65,6 +67,7 @@ loop-preserved c =
           (subst (IsGrown h ordered (blocks ++ w.parents) (length blocks)) up grown);
       cells = next.0;
       levels = next.1;
+      kinds = subst (AreLeavesFirst (leaves_for c.len-n.result)) (sym w.added) (kinds-next (leaves_for c.len-n.result) blocks w.parents c.loop.invariant.kinds are.kind);
       sizes = sizes-next c.level_laws.ensures.root c.level_laws.ensures.parents blocks w.parents c.add_level.new.site.blocks level c.len-n.result more made w.sizes
           c.loop.invariant.sizes w.added;
       boxes = omega (arith, now, w.directories, c.loop.invariant.boxes);
@@ -88,6 +91,7 @@ returns-clause-ok c =
     record {
       count = ap length c.finished.ensures.blocks ∙ all.0 ∙ ap cells_for n;
       height = c.finished.ensures.height ∙ height ∙ ap levels_for n;
+      kinds = subst (λ (k : ℕ). AreLeavesFirst (leaves_for k) b.blocks.items) n (subst (AreLeavesFirst (leaves_for c.len-n.result)) (sym c.finished.ensures.blocks) c.loop.invariant.kinds);
       sizes = ap sizes_of c.finished.ensures.blocks
           ∙ sizes-all c.level_laws.ensures.root c.level_laws.ensures.parents blocks (length blocks - c.loop.from) c.len-n.result (omega (arith, all.1)) c.loop.invariant.sizes
           ∙ ap built_sizes n;
