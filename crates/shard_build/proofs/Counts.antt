@@ -48,7 +48,7 @@ module _ (root : RootLaw) (parents : ParentsLaw) where
       (omega arith, omega arith)
 
   -- a level of one block is the last one
-  many : (level k n : ℕ) → k + length (levels_from level) ≡ levels_for n + 1 → k < levels_for n → 1 < level
+  pub many : (level k n : ℕ) → k + length (levels_from level) ≡ levels_for n + 1 → k < levels_for n → 1 < level
   many level k n levels lt = elim (cases_lt 1 level) [ inl m ↦ m | inr one ↦ absurd (omega (arith, count-one level one)) ]
 
   -- there are boxes for the next level
@@ -59,7 +59,7 @@ module _ (root : RootLaw) (parents : ParentsLaw) where
       omega (arith, cells-many (blocks - from) m, cells-some (div_ceil (blocks - from) parent_nodes))
 
   -- the next level's blocks
-  parents-count : (blocks from made : ℕ) → from < blocks → blocks ≡ min (from + parent_nodes * made) blocks → from + parent_nodes * made < blocks + parent_nodes
+  pub parents-count : (blocks from made : ℕ) → from < blocks → blocks ≡ min (from + parent_nodes * made) blocks → from + parent_nodes * made < blocks + parent_nodes
       → made ≡ div_ceil (blocks - from) parent_nodes
   parents-count blocks from made lt place last = omega arith
 

@@ -1,6 +1,8 @@
 pub mod Lists
-pub mod Steps
 pub mod Counts
+pub mod Sizes
+pub mod LeavesFirst
+pub mod Steps
 pub mod Summed
 pub mod Led
 pub mod Grown

@@ -1,5 +1,5 @@
 -- A leaf more, and a directory more
-use Rattle.std.proofs.Common.{◌≡◌, ℕ, ◌+◌, ◌-◌, ◌<◌, ◌≤◌, true, false, List, [], ◌∷◌, ◌++◌, length, map, take, drop, refl, sym, ap, ◌∙◌, subst, arith, length-append}
+use Rattle.std.proofs.Common.{◌≡◌, ℕ, ◌+◌, ◌-◌, ◌*◌, ◌<◌, ◌≤◌, true, false, List, [], ◌∷◌, ◌++◌, length, map, take, drop, refl, sym, ap, ◌∙◌, subst, arith, length-append}
 use Rattle.std.specs.Prelude.{min, None, reverse}
 use Rattle.std.specs.List.{AllZip}
 use Rattle.std.proofs.lemmas.List.{append-nil, append_assoc, map-append, reverse-append, length-reverse, length-map, length-take, length-drop}
@@ -16,6 +16,7 @@ use Rattle.shard_plan.specs.Building.{leaf_rows, parent_nodes}
 use Rattle.tree_shape.specs.Forest.{all_entries}
 use Rattle.shard_build.specs.Building.{AddsDirectory, AddsLeaves, AddsLevel, AreLeavesOf, AreParentsOf, IsEntryTo, SiteValue, UsesUp, directory_in, leaf_in, most, spare_of}
 use Rattle.shard_build.proofs.Lists.{zip-append, zip-length, take-next, part-next, part-before}
+use Rattle.shard_build.proofs.Sizes.{sizes-more}
 
 -- Spares.
 
@@ -51,10 +52,12 @@ adds-leaf rows at end blocks now s a b c w e is t r =
     let p = w.place in
     let le : at ≤ end = omega arith in
     let small : length piece ≤ leaf_rows = omega (arith, length-take (end - at) (drop at rows)) in
+    let takes : length piece ≡ min leaf_rows (length rows - leaf_rows * length blocks) = omega (arith, length-take (end - at) (drop at rows), length-drop at rows) in
     let f = leaf_in s piece in
     subst (λ zs. AddsLeaves rows end zs a c) (sym is) (record {
       leaves = subst (λ zs. AreLeavesOf zs (blocks ++ f ∷ [])) (sym (take-next at end rows le)) (leaves-more (take at rows) piece blocks s w.leaves small);
       place = omega (arith, length-append blocks (f ∷ []));
+      sizes = sizes-more leaf_rows (length rows) blocks f w.sizes takes;
       uses = uses-both blocks (f ∷ []) a b c w.uses (uses-one f b c t r);
     })
 
@@ -86,6 +89,7 @@ adds-directory h from at end before now next s a b c inner lt w e d left t r =
     let same : take (end - at) (drop at now.blocks) ≡ piece = ap (λ zs. take (end - at) (drop at zs)) w.added ∙ part-before at end before.blocks w.parents (omega arith) (omega arith) in
     let z : AllZip (IsEntryTo h) piece d.entries = subst (λ zs. AllZip (IsEntryTo h) zs d.entries) same d.are in
     let count : length piece ≡ end - at = omega (arith, length-take (end - at) (drop at before.blocks), length-drop at before.blocks) in
+    let takes : length d.entries ≡ min parent_nodes (length before.blocks - from - parent_nodes * length w.parents) = omega (arith, zip-length (IsEntryTo h) piece d.entries z, count) in
     let f = directory_in s d.entries in
     let more = length-append w.parents (f ∷ []) in
     record {
@@ -94,6 +98,7 @@ adds-directory h from at end before now next s a b c inner lt w e d left t r =
           (parents-more h (take (at - from) (drop from before.blocks)) piece w.parents s d.entries w.are z (omega arith) (omega arith));
       place = omega arith;
       last = omega arith;
+      sizes = sizes-more parent_nodes (length before.blocks - from) w.parents f w.sizes takes;
       added = d.added ∙ ap (λ zs. zs ++ f ∷ []) w.added ∙ append_assoc before.blocks w.parents (f ∷ []);
       directories = (let q = w.directories in omega arith);
       uses = uses-both w.parents (f ∷ []) a b c w.uses (uses-one f b c t r);

@@ -19,6 +19,7 @@ use Rattle.shard_plan.specs.Building.{leaf_rows, parent_nodes}
 use Rattle.tree_shape.specs.Counts.{times}
 use Rattle.tree_shape.specs.Shape.{Table, numbers}
 use Rattle.tree_shape.specs.Forest.{AreInCells, AreRowsOf, IsForest, all_entries, all_rows, filled_cells}
+use Rattle.shard_build.specs.Sizes.{put_by, sizes_of}
 
 -- the blocks so far, and for how many leaves and directories there are boxes
 pub record SiteValue : Type 0 where
@@ -63,6 +64,12 @@ AreSmall blocks = All (λ f. size f.block.body ≤ most f.block.body) blocks
 abbrev pub AreAlone : List Fresh → Type 0
 AreAlone blocks = All (λ f. f.block.right ≡ None) blocks
 
+-- the first n blocks are leaves, and the others directories
+pub record AreLeavesFirst (n : ℕ) (blocks : List Fresh) : Type 0 where
+  pub within : n ≤ length blocks
+  pub leaves : All (λ f. is_leaf f.block.body ≡ true) (take n blocks)
+  pub directories : All (λ f. is_leaf f.block.body ≡ false) (drop n blocks)
+
 -- Leaves.
 
 -- leaves of these rows, in order
@@ -80,6 +87,7 @@ comes_before a b = is_lt (ordering_then (slice_cmp nat_cmp a.at.at b.at.at) (nat
 pub record AddsLeaves (rows : List Row) (at : ℕ) (blocks : List Fresh) (purse purse_now : PurseValue) : Type 0 where
   pub leaves : AreLeavesOf (take at rows) blocks
   pub place : at ≡ min (leaf_rows * length blocks) (length rows)
+  pub sizes : sizes_of blocks ≡ put_by leaf_rows (length blocks) (length rows)
   pub uses : UsesUp blocks purse purse_now
 
 -- Directories.
@@ -117,6 +125,7 @@ pub record AddsLevel (h : List Dimension) (from at : ℕ) (before now : SiteValu
   pub are : AreParentsOf h (take (at - from) (drop from before.blocks)) parents
   pub place : at ≡ min (from + parent_nodes * length parents) (length before.blocks)
   pub last : from + parent_nodes * length parents < length before.blocks + parent_nodes
+  pub sizes : sizes_of parents ≡ put_by parent_nodes (length parents) (length before.blocks - from)
   pub added : now.blocks ≡ before.blocks ++ parents
   pub directories : now.directories + length parents ≡ before.directories
   pub uses : UsesUp parents purse purse_now

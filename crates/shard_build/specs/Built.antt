@@ -6,11 +6,12 @@ use Rattle.dim_hierarchy.specs.Dimension.{Dimension}
 use Rattle.dc_node.specs.declared.entry.Entry.{Entry}
 use Rattle.cell_stock.specs.Stock.{PurseValue}
 use Rattle.shard_store.specs.Gate.{root_entry}
-use Rattle.shard_plan.specs.Building.{cells_for, levels_for}
+use Rattle.shard_plan.specs.Building.{cells_for, leaves_for, levels_for}
 use Rattle.tree_shape.specs.Counts.{times}
 use Rattle.tree_shape.specs.Shape.{Table, TreeCells, numbers}
 use Rattle.tree_shape.specs.Forest.{AfterBuilding, AreInCells, AreRowsOf, all_rows, filled_cells}
-use Rattle.shard_build.specs.Building.{AreAlone, AreLed, AreSmall, UsesUp, comes_before, spare_of, spare_to}
+use Rattle.shard_build.specs.Building.{AreAlone, AreLeavesFirst, AreLed, AreSmall, UsesUp, comes_before, spare_of, spare_to}
+use Rattle.shard_build.specs.Sizes.{built_sizes, sizes_of}
 use Rattle.shard_build.specs.declared.builder.Built.{Built}
 
 -- how a gate leads to the root
@@ -24,11 +25,14 @@ pub record IsInCells (cells : TreeCells) (b : Built) : Type 0 where
   pub root : root_entry cells.gate ≡ root_of b
   pub height : cells.gate.height ≡ b.height
 
--- A tree of rows: as many blocks and levels as the rule says, each block with a spare of the purse, and the rows in order in
--- the leaves. In cells, under a gate, the blocks are a tree of exactly these rows.
+-- A tree of rows: as many blocks and levels as the rule says, the leaves first, then the parents level by level, each block
+-- with as many items as the rule says and a spare of the purse, and the rows in order in the leaves. In cells, under a gate,
+-- the blocks are a tree of exactly these rows.
 pub record IsBuilt (h : List Dimension) (rows : List Row) (before now : PurseValue) (b : Built) : Type 0 where
   pub count : length b.blocks.items ≡ cells_for (length rows)
   pub height : b.height ≡ levels_for (length rows)
+  pub kinds : AreLeavesFirst (leaves_for (length rows)) b.blocks.items
+  pub sizes : sizes_of b.blocks.items ≡ built_sizes (length rows)
   pub uses : UsesUp b.blocks.items before now
   pub permutation : IsPermutation rows (all_rows b.blocks.items)
   pub ordered : IsSortedBy comes_before (all_rows b.blocks.items)

@@ -6,5 +6,7 @@ mod order;
 mod site;
 #[cfg(test)]
 mod tests;
+mod worked;
 
 pub use builder::{Built, build};
+pub use worked::sizes_of_25_rows;

@@ -1,17 +1,20 @@
-use Rattle.std.proofs.Common.{◌≡◌, ◌+◌, ◌-◌, ◌++◌, List, [], map, length, drop, sym, ap, ◌∙◌, subst, arith, length-append}
+use Rattle.std.proofs.Common.{◌≡◌, ℕ, ◌+◌, ◌-◌, ◌++◌, List, [], map, length, drop, sym, ap, ◌∙◌, subst, arith, length-append}
 use Rattle.std.proofs.lemmas.List.{take_all, take_rest}
 use Rattle.std.proofs.lemmas.List.Sorted.{All-permutation}
 use Rattle.dim_hierarchy.specs.declared.row.Row.{Row}
 use Rattle.dim_hierarchy.specs.Row.{IsRowOf}
 use Rattle.link_descent.specs.declared.entered.Fresh.{Fresh}
-use Rattle.shard_plan.specs.Building.{leaves_for, cells_for, levels_for}
+use Rattle.shard_plan.specs.Building.{leaf_rows, leaves_for, cells_for, levels_for}
 use Rattle.tree_shape.specs.Forest.{all_rows}
 use Rattle.std.specs.Prelude.{Contains, IsPermutation}
 use Rattle.std.specs.List.Sorted.{IsSortedBy}
-use Rattle.shard_build.specs.Building.{AreAlone, AreLeavesOf, AreLed, AreParentsOf, AreSmall, IsGrown, SiteValue, UsesUp, comes_before, spare_of, spare_to}
+use Rattle.shard_build.specs.Building.{AreAlone, AreLeavesFirst, AreLeavesOf, AreLed, AreParentsOf, AreSmall, IsGrown, SiteValue, UsesUp, comes_before, spare_of, spare_to}
 use Rattle.shard_build.specs.Built.{root_of}
+use Rattle.shard_build.specs.Sizes.{built_sizes, put_by, sizes_of}
 use Rattle.shard_build.proofs.Led.{taken-first, taken-from}
-use Rattle.shard_build.proofs.Counts.{leaves-few, cells-first, cells-next, cells-all}
+use Rattle.shard_build.proofs.Counts.{leaves-few, cells-first, cells-next, cells-all, many, parents-count}
+use Rattle.shard_build.proofs.Sizes.{sizes-first, sizes-next, sizes-all}
+use Rattle.shard_build.proofs.LeavesFirst.{kinds-first, kinds-next}
 use Rattle.shard_build.proofs.Grown.{leaves-grown, level-grown}
 use Rattle.shard_build.proofs.Finished.{built-tree}
 use Rattle.shard_build.proofs.Lists.{one-left}
@@ -34,6 +37,9 @@ loop-init c =
           (All-permutation (IsRowOf c.args.h.now) c.args.rows.items ordered c.in_order-rows.ensures.permutation c.requires.rows) (omega (arith, count)) leaves;
       cells = first.0;
       levels = first.1;
+      kinds = kinds-first (leaves_for c.len-n.result) blocks count leaves.kind;
+      sizes = sizes-first c.level_laws.ensures.root c.level_laws.ensures.parents blocks c.len-n.result count
+          (c.add_leaves.ensures.leaves.sizes ∙ ap (put_by leaf_rows (length blocks)) (sym n));
       boxes = omega (arith, count, few, boxes, c.add_leaves.ensures.directories, c.cells_for.ensures, c.leaves_for.ensures);
       uses = c.add_leaves.ensures.leaves.uses;
     }
@@ -50,14 +56,20 @@ loop-preserved c =
     let now : length c.add_level.new.site.blocks ≡ length blocks + length w.parents = ap length w.added ∙ length-append blocks w.parents in
     let next = cells-next c.level_laws.ensures.root c.level_laws.ensures.parents (length blocks) c.loop.from (length w.parents) c.loop.counter c.len-n.result (length c.add_level.new.site.blocks)
     g.within w.place w.last c.loop.invariant.cells c.loop.invariant.levels (omega (arith, c.loop-test.true, height)) now in
+    let level = length blocks - c.loop.from in
+    let more = many c.level_laws.ensures.root c.level_laws.ensures.parents level c.loop.counter c.len-n.result c.loop.invariant.levels (omega (arith, c.loop-test.true, height)) in
+    let made = parents-count c.level_laws.ensures.root c.level_laws.ensures.parents (length blocks) c.loop.from (length w.parents) g.within w.place w.last in
     let grown = level-grown h ordered blocks w.parents c.loop.from (c.loop.counter - 1) c.build_laws.ensures.directories g are
     (omega (arith, g.within, w.place)) (omega (arith, c.in_order-rows.ensures.len, c.requires.few)) in
-    let level : c.loop.counter - 1 + 1 ≡ c.loop.counter + 1 - 1 = omega (arith, c.loop.auto.counter) in
+    let up : c.loop.counter - 1 + 1 ≡ c.loop.counter + 1 - 1 = omega (arith, c.loop.auto.counter) in
     rw c.blocks-to.ensures (record {
       grown = subst (λ (fs : List Fresh). IsGrown h ordered fs (length blocks) (c.loop.counter + 1 - 1)) (sym w.added)
-          (subst (IsGrown h ordered (blocks ++ w.parents) (length blocks)) level grown);
+          (subst (IsGrown h ordered (blocks ++ w.parents) (length blocks)) up grown);
       cells = next.0;
       levels = next.1;
+      kinds = subst (AreLeavesFirst (leaves_for c.len-n.result)) (sym w.added) (kinds-next (leaves_for c.len-n.result) blocks w.parents c.loop.invariant.kinds are.kind);
+      sizes = sizes-next c.level_laws.ensures.root c.level_laws.ensures.parents blocks w.parents c.add_level.new.site.blocks level c.len-n.result more made w.sizes
+          c.loop.invariant.sizes w.added;
       boxes = omega (arith, now, w.directories, c.loop.invariant.boxes);
       uses = subst (λ (fs : List Fresh). UsesUp fs c.args.purse.now c.add_level.new.purse) (sym w.added)
           (uses-both blocks w.parents c.args.purse.now c.loop.purse c.add_level.new.purse c.loop.invariant.uses w.uses);
@@ -79,6 +91,10 @@ returns-clause-ok c =
     record {
       count = ap length c.finished.ensures.blocks ∙ all.0 ∙ ap cells_for n;
       height = c.finished.ensures.height ∙ height ∙ ap levels_for n;
+      kinds = subst (λ (k : ℕ). AreLeavesFirst (leaves_for k) b.blocks.items) n (subst (AreLeavesFirst (leaves_for c.len-n.result)) (sym c.finished.ensures.blocks) c.loop.invariant.kinds);
+      sizes = ap sizes_of c.finished.ensures.blocks
+          ∙ sizes-all c.level_laws.ensures.root c.level_laws.ensures.parents blocks (length blocks - c.loop.from) c.len-n.result (omega (arith, all.1)) c.loop.invariant.sizes
+          ∙ ap built_sizes n;
       uses = subst (λ (fs : List Fresh). UsesUp fs c.args.purse.now c.loop.purse) (sym c.finished.ensures.blocks) c.loop.invariant.uses;
       permutation = subst (λ (fs : List Fresh). IsPermutation rows (all_rows fs)) (sym c.finished.ensures.blocks) (subst (IsPermutation rows) (sym g.rows_are) c.in_order-rows.ensures.permutation);
       ordered = subst (λ (fs : List Fresh). IsSortedBy comes_before (all_rows fs)) (sym c.finished.ensures.blocks) (subst (IsSortedBy comes_before) (sym g.rows_are) c.in_order-rows.ensures.sorted);
