@@ -1,3 +1,5 @@
+ghost use Rattle.std.specs.Prelude.{◌<◌};
+
 use crate::{Outcome, Status, olap};
 use answer_text::{phase, told};
 use script_form::read_script;
@@ -47,11 +49,35 @@ fn expect<R: Abort + Threads + Wait + Sync>(
 ) -> Result<(), Fail> {
     for most in [1, 4096] {
         let mut source = MemSource::new(text.as_bytes().to_vec(alloc)?, Vec::new(alloc), most);
-        let mut sink = MemSink::new(alloc, 1000, Vec::new(alloc), most)?;
-        let outcome = step(rt, alloc, &mut source, &mut sink)?;
-        assert_eq!(rt; outcome.status, status);
-        assert_eq!(rt; sink.taken(), printed.as_bytes());
+        expect_from(
+            rt,
+            alloc,
+            &mut source,
+            Vec::new(alloc),
+            most,
+            (status, printed),
+        )?;
     }
+    Ok(())
+}
+
+/// Runs what a source has into a sink of so many bytes a call, of which these calls fail, and
+/// compares.
+fn expect_from<R: Abort + Threads + Wait + Sync>(
+    rt: &R,
+    alloc: Global,
+    source: &mut MemSource,
+    fail: Vec<u64>,
+    most: usize,
+    wanted: (Status, &str),
+) -> Result<(), Fail>
+    requires { 0 < most }
+{
+    let (status, printed) = wanted;
+    let mut sink = MemSink::new(alloc, 1000, fail, most)?;
+    let outcome = step(rt, alloc, source, &mut sink)?;
+    assert_eq!(rt; outcome.status, status);
+    assert_eq!(rt; sink.taken(), printed.as_bytes());
     Ok(())
 }
 
@@ -114,6 +140,12 @@ fn scripts_and_their_answers(rt: HostRuntime) -> Result<(), Fail> {
             printed,
         )?;
     }
+    Ok(())
+}
+
+#[test]
+fn whole_scripts_and_their_answers(rt: HostRuntime) -> Result<(), Fail> {
+    let alloc = rt.alloc();
     let whole: [(&str, &str); 4] = [
         ("volap,1", ""),
         ("volap,1\ndim,geo,2\n", ""),
@@ -166,21 +198,31 @@ fn bad_scripts_and_their_causes(rt: HostRuntime) -> Result<(), Fail> {
     Ok(())
 }
 
+/// An insert and a query, and what is printed of them.
+const GOOD: &str = "insert,0,5,berlin\nquery,0,de\n";
+
+const GOOD_LINES: &str = "1 insert ok\n2 query 1 5 5 5\n";
+
+const PHASES: &str = "insert,0,5,berlin\nbarrier\nquery,0,de\nbarrier\n";
+
+/// A source of the base and these lines, of 10 bytes a call, of which these calls fail.
+fn source_of(alloc: Global, lines: &str, fail: Vec<u64>) -> Result<MemSource, AllocError> {
+    let text = on_base(alloc, lines)?;
+    Ok(MemSource::new(text.as_bytes().to_vec(alloc)?, fail, 10))
+}
+
 #[test]
 fn a_failing_source(rt: HostRuntime) -> Result<(), Fail> {
     let alloc = rt.alloc();
-    let text = on_base(alloc, "insert,0,5,berlin\nquery,0,de\n")?;
-    assert_eq!(rt; text.len(), 108);
+    assert_eq!(rt; on_base(alloc, GOOD)?.len(), 108);
     for call in 0..13u64 {
-        let mut source = MemSource::new(text.as_bytes().to_vec(alloc)?, vec![in alloc; call]?, 10);
-        let mut sink = MemSink::new(alloc, 100, Vec::new(alloc), 100)?;
-        let outcome = step(&rt, alloc, &mut source, &mut sink)?;
-        if call < 12 {
-            assert_eq!(rt; outcome.status, Status::ReadFault, "at call {call}");
-            assert_eq!(rt; sink.taken(), "".as_bytes());
+        let wanted = if call < 12 {
+            (Status::ReadFault, "")
         } else {
-            assert_eq!(rt; outcome.status, Status::Done);
-        }
+            (Status::Done, GOOD_LINES)
+        };
+        let mut source = source_of(alloc, GOOD, vec![in alloc; call]?)?;
+        expect_from(&rt, alloc, &mut source, Vec::new(alloc), 100, wanted)?;
     }
     Ok(())
 }
@@ -188,47 +230,42 @@ fn a_failing_source(rt: HostRuntime) -> Result<(), Fail> {
 #[test]
 fn a_failing_sink(rt: HostRuntime) -> Result<(), Fail> {
     let alloc = rt.alloc();
-    let good = on_base(alloc, "insert,0,5,berlin\nquery,0,de\n")?;
-    let bad = on_base(alloc, "sync,0\n")?;
-    let phases = on_base(alloc, "insert,0,5,berlin\nbarrier\nquery,0,de\nbarrier\n")?;
     let rows: [(&str, u64, usize, Status, &str); 6] = [
         (
-            phases.as_str(),
+            PHASES,
             1,
             100,
             Status::WriteFault,
             "1 insert ok\n2 barrier ok\n",
         ),
         (
-            phases.as_str(),
+            PHASES,
             6,
             5,
             Status::WriteFault,
             "1 insert ok\n2 barrier ok\n3 que",
         ),
         (
-            phases.as_str(),
+            PHASES,
             2,
             100,
             Status::Done,
             "1 insert ok\n2 barrier ok\n3 query 1 5 5 5\n4 barrier ok\n",
         ),
-        (good.as_str(), 0, 100, Status::WriteFault, ""),
+        (GOOD, 0, 100, Status::WriteFault, ""),
         (
-            good.as_str(),
+            GOOD,
             9,
             3,
             Status::WriteFault,
             "1 insert ok\n2 query 1 5 5 5",
         ),
-        (bad.as_str(), 1, 3, Status::BadScript, "bad"),
+        ("sync,0\n", 1, 3, Status::BadScript, "bad"),
     ];
-    for (text, call, most, status, taken) in rows {
-        let mut source = MemSource::new(text.as_bytes().to_vec(alloc)?, Vec::new(alloc), 10);
-        let mut sink = MemSink::new(alloc, 100, vec![in alloc; call]?, most)?;
-        let outcome = step(&rt, alloc, &mut source, &mut sink)?;
-        assert_eq!(rt; outcome.status, status);
-        assert_eq!(rt; sink.taken(), taken.as_bytes());
+    for (lines, call, most, status, taken) in rows {
+        let mut source = source_of(alloc, lines, Vec::new(alloc))?;
+        let fail = vec![in alloc; call]?;
+        expect_from(&rt, alloc, &mut source, fail, most, (status, taken))?;
     }
     Ok(())
 }
@@ -244,20 +281,19 @@ fn more_bytes_than_a_script_may_have(rt: HostRuntime) -> Result<(), Fail> {
     for most in [1, 4096] {
         let bytes = vec![in alloc; b'a'; one_too_many()]?;
         let mut source = MemSource::new(bytes, Vec::new(alloc), most);
-        let mut sink = MemSink::new(alloc, 100, Vec::new(alloc), 100)?;
-        let outcome = step(&rt, alloc, &mut source, &mut sink)?;
-        assert_eq!(rt; outcome.status, Status::TooLarge);
-        assert_eq!(rt; sink.taken(), "".as_bytes());
+        let wanted = (Status::TooLarge, "");
+        expect_from(&rt, alloc, &mut source, Vec::new(alloc), 100, wanted)?;
     }
     Ok(())
 }
 
-#[test]
-fn words_that_are_not_known(rt: HostRuntime) -> Result<(), Fail> {
-    let alloc = rt.alloc();
-    let text = on_base(alloc, "insert,0,5,berlin\nquery,0,de\n")?;
-    let mut source = MemSource::new(text.as_bytes().to_vec(alloc)?, Vec::new(alloc), 100);
-    let mut sink = MemSink::new(alloc, 100, Vec::new(alloc), 100)?;
+/// Runs lists of words that are not known, which read and write nothing.
+fn expect_bad_words<R: Abort + Threads + Wait + Sync>(
+    rt: &R,
+    alloc: Global,
+    source: &mut MemSource,
+    sink: &mut MemSink,
+) -> Result<(), Fail> {
     let lists: [&[&str]; 7] = [
         &[],
         &[""],
@@ -269,13 +305,22 @@ fn words_that_are_not_known(rt: HostRuntime) -> Result<(), Fail> {
     ];
     for list in lists {
         let words = words(alloc, list)?;
-        let outcome = olap(&rt, alloc, words.as_slice(), &mut source, &mut sink, &Quiet);
+        let outcome = olap(rt, alloc, words.as_slice(), source, sink, &Quiet);
         assert_eq!(rt; outcome.status, Status::BadWords);
     }
+    Ok(())
+}
+
+#[test]
+fn words_that_are_not_known(rt: HostRuntime) -> Result<(), Fail> {
+    let alloc = rt.alloc();
+    let mut source = source_of(alloc, GOOD, Vec::new(alloc))?;
+    let mut sink = MemSink::new(alloc, 100, Vec::new(alloc), 100)?;
+    expect_bad_words(&rt, alloc, &mut source, &mut sink)?;
     let outcome = step(&rt, alloc, &mut source, &mut sink)?;
     assert_eq!(rt; outcome.status, Status::Done);
     assert_eq!(rt; outcome.ledger.len(), 6);
-    assert_eq!(rt; sink.taken(), "1 insert ok\n2 query 1 5 5 5\n".as_bytes());
+    assert_eq!(rt; sink.taken(), GOOD_LINES.as_bytes());
     Ok(())
 }
 
