@@ -3,7 +3,7 @@ ghost use Rattle.dim_hierarchy.specs.Row.{IsCoordOf, IsRowOf};
 
 use crate::{Built, build};
 use cell_stock::{Purse, Stock};
-use dc_node::Block;
+use dc_node::{Block, Body};
 use dim_hierarchy::{Coord, Hierarchy, Name, Names, Row};
 use link_descent::Fresh;
 use shard_plan::cells_for;
@@ -100,6 +100,18 @@ fn block_in(blocks: &[Fresh], cell: u32) -> Option<&Block> {
     None
 }
 
+/// How many rows a block has, and the sum of their numbers.
+fn rows_of(block: &Block) -> (u64, u64) {
+    let Body::Rows(rows) = &block.body else {
+        return (0, 0);
+    };
+    let mut sum = 0_u64;
+    for place in 0..rows.len() {
+        sum = sum.wrapping_add(rows.row(place).map_or(0, |row| row.no));
+    }
+    (rows.len() as u64, sum)
+}
+
 /// How many rows a walk from the root finds, and the sum of their numbers. It visits as many blocks
 /// as there are.
 fn walked(alloc: Global, tree: &Built) -> Result<(u64, u64), Fail> {
@@ -110,10 +122,9 @@ fn walked(alloc: Global, tree: &Built) -> Result<(u64, u64), Fail> {
     for _ in 0..tree.blocks.len() {
         let cell = todo.pop().ok_or("a block that no entry leads to")?;
         let block = block_in(&tree.blocks, cell).ok_or("an entry that leads to no block")?;
-        for row in block.rows() {
-            count = count.wrapping_add(1);
-            sum = sum.wrapping_add(row.no);
-        }
+        let (rows, numbers) = rows_of(block);
+        count = count.wrapping_add(rows);
+        sum = sum.wrapping_add(numbers);
         for entry in block.entries() {
             todo.push(entry.child)?;
         }
