@@ -2,11 +2,16 @@
 #![tactic(auto)]
 
 mod cut;
+mod head;
+mod head_cut;
 mod leasts;
 mod limits;
+mod meet;
 mod order;
 mod overlap;
 #[cfg(test)]
 mod tests;
 
 pub use cut::{Cut, choose};
+pub use head::HeadCuts;
+pub use head_cut::HeadCut;
