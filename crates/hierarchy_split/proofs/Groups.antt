@@ -1,6 +1,6 @@
 -- What is kept of a group's head cuts, and what it says of them.
 use Rattle.std.proofs.Common.{ℕ, ◌≡◌, ◌+◌, ◌<◌, ◌≤◌, zero, suc, Bool, Option, Some, None, List, [], ◌∷◌, ◌++◌, length, map, get_or, refl, sym, ap, subst, ◌∙◌, arith, inl, inr}
-use Rattle.std.specs.Prelude.{All, IfSome, IfNone, ◌==◌}
+use Rattle.std.specs.Prelude.{IfSome, IfNone, ◌==◌}
 use Rattle.std.specs.List.{count_by}
 use Rattle.std.specs.Option.{unwrap_or}
 use Rattle.std.proofs.Math.Seq.{get_or-append_seam}
@@ -16,7 +16,7 @@ use Rattle.hierarchy_split.specs.Order.{least}
 use Rattle.hierarchy_split.specs.Cut.{lifted, leasts, IsAbove, IsCutLevel}
 use Rattle.hierarchy_split.specs.Meet.{is_met_in_head, is_met}
 use Rattle.hierarchy_split.specs.Head.{GroupItems, head_items, with_other, IsHeadLevel, is_kept, kept_items, IsHeadCut, IsGoodHead, IsGoodHeadCut}
-use Rattle.hierarchy_split.specs.Best.{IsFirstOf, IsBestOf, IsBetterOf, IsFlaggedGood, IsFlaggedAt}
+use Rattle.hierarchy_split.specs.Best.{IsBestOf, IsBetterOf, IsFlaggedGood, IsFlaggedAt}
 use Rattle.hierarchy_split.specs.Flags.{AreDimCutsOf, cuts_at, AreHeadCutsOf, IsFlaggedIn, IsFlagged}
 use Rattle.hierarchy_split.specs.declared.head_cut.HeadCut.{HeadCut}
 use Rattle.hierarchy_split.specs.declared.head.DimCuts.{DimCuts}

@@ -6,7 +6,7 @@ use Rattle.std.proofs.lemmas.Bool.{cases_lt, eqb-true}
 use Rattle.std.proofs.lemmas.List.Sums.{sum_by-cons}
 use Rattle.dim_hierarchy.specs.Dimension.{Dimension}
 use Rattle.hierarchy_split.specs.Head.{GroupItems, IsBetterHead, IsGoodHeadCut}
-use Rattle.hierarchy_split.specs.Best.{IsFirstOf, IsBestOf, IsAtLeast, IsBetterOf, IsFlaggedAt}
+use Rattle.hierarchy_split.specs.Best.{IsBestOf, IsAtLeast, IsBetterOf, IsFlaggedAt}
 use Rattle.hierarchy_split.specs.declared.head_cut.HeadCut.{HeadCut}
 
 IsBetterHead-trans : (a b c : HeadCut) → IsBetterHead a b → IsBetterHead b c → IsBetterHead a c

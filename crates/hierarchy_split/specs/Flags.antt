@@ -1,5 +1,5 @@
 -- What is kept of a group's head cuts: in each dimension the level, and which items of the head are met.
-use Rattle.std.specs.Prelude.{ℕ, ◌≡◌, ◌<◌, ◌≤◌, List, [], length, map, All, Option, None, Some, IfSome, IfNone}
+use Rattle.std.specs.Prelude.{ℕ, ◌≡◌, ◌<◌, ◌≤◌, List, [], length, map, All, None, Some, IfSome, IfNone}
 use Rattle.std.specs.List.{slice_index_or}
 use Rattle.dim_hierarchy.specs.Dimension.{Dimension}
 use Rattle.describing_set.specs.DescSet.{IsDescSetOf}

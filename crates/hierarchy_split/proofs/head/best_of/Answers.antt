@@ -1,4 +1,4 @@
-use Rattle.std.proofs.Common.{refl, sym, ◌∙◌}
+use Rattle.std.proofs.Common.{◌∙◌}
 use Rattle.hierarchy_split.proofs.Groups.{best_of_level}
 use Rattle.hierarchy_split.proofs.head.best_of.Goals as goal
 

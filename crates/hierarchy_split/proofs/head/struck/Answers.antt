@@ -1,4 +1,4 @@
-use Rattle.std.proofs.Common.{refl, sym, ◌∙◌}
+use Rattle.std.proofs.Common.{refl}
 use Rattle.hierarchy_split.proofs.Groups.{struck_none}
 use Rattle.hierarchy_split.proofs.head.struck.Goals as goal
 
