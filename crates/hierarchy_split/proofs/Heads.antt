@@ -6,7 +6,7 @@ use Rattle.std.proofs.lemmas.Bool.{cases_lt, eqb-true}
 use Rattle.std.proofs.lemmas.List.Sums.{sum_by-cons}
 use Rattle.dim_hierarchy.specs.Dimension.{Dimension}
 use Rattle.hierarchy_split.specs.Head.{GroupItems, IsBetterHead, IsGoodHeadCut}
-use Rattle.hierarchy_split.specs.Best.{IsBestOf, IsAtLeast, IsBetterOf, IsFlaggedAt}
+use Rattle.hierarchy_split.specs.Best.{IsBestWith, IsAtLeast, IsBetterOf, IsFlaggedAt}
 use Rattle.hierarchy_split.specs.declared.head_cut.HeadCut.{HeadCut}
 
 IsBetterHead-trans : (a b c : HeadCut) → IsBetterHead a b → IsBetterHead b c → IsBetterHead a c
@@ -68,25 +68,25 @@ IsGoodHeadCut-unique h items a b p q =
     ∙ ap (λ concept. F b.dim b.level concept a.kept) s.concept ∙ ap (λ kept. F b.dim b.level b.concept kept) s.kept
 
 -- what comes before the first cut with a property comes before each cut with it
-after : (P : HeadCut → Type 0) (one : Option HeadCut) (cut : HeadCut) → IsBestOf P one → IfSome one (IsAtLeast (Some cut)) → (other : HeadCut) → P other → IsBetterHead cut other
+after : (P : HeadCut → Type 0) (one : Option HeadCut) (cut : HeadCut) → IsBestWith P one → IfSome one (IsAtLeast (Some cut)) → (other : HeadCut) → P other → IsBetterHead cut other
 after P None cut best first other p = absurd (best other p)
 after P (Some a) cut best first other p = IsBetterHead-trans cut a other first (best.first other p)
 
 -- with no better one, no cut has the property
-none_with : (P : HeadCut → Type 0) (one : Option HeadCut) → IsBestOf P one → IfSome one (IsAtLeast None) → (other : HeadCut) → ¬ P other
+none_with : (P : HeadCut → Type 0) (one : Option HeadCut) → IsBestWith P one → IfSome one (IsAtLeast None) → (other : HeadCut) → ¬ P other
 none_with P None best first other p = best other p
 none_with P (Some a) best first other p = first
 
 -- the better one of two is the first of the cuts that have one of the properties
-pub IsBestOf-both : (P Q R : HeadCut → Type 0) (one two best : Option HeadCut) → ((cut : HeadCut) → R cut → P cut ⊎ Q cut) → ((cut : HeadCut) → P cut → R cut) → ((cut : HeadCut) → Q cut → R cut) → IsBestOf P one → IsBestOf Q two → IsBetterOf one two best → IsBestOf R best
-IsBestOf-both P Q R one two None split from_p from_q p q b = λ cut r. elim (split cut r) [
+pub IsBestWith-both : (P Q R : HeadCut → Type 0) (one two best : Option HeadCut) → ((cut : HeadCut) → R cut → P cut ⊎ Q cut) → ((cut : HeadCut) → P cut → R cut) → ((cut : HeadCut) → Q cut → R cut) → IsBestWith P one → IsBestWith Q two → IsBetterOf one two best → IsBestWith R best
+IsBestWith-both P Q R one two None split from_p from_q p q b = λ cut r. elim (split cut r) [
   | inl x ↦ none_with P one p b.first cut x
   | inr x ↦ none_with Q two q b.second cut x
 ]
-IsBestOf-both P Q R one two (Some cut) split from_p from_q p q b =
+IsBestWith-both P Q R one two (Some cut) split from_p from_q p q b =
     let holds : R cut = elim b.either [
-      | inl e ↦ let i : IsBestOf P (Some cut) = subst (IsBestOf P) (sym e) p in from_p cut i.holds
-      | inr e ↦ let i : IsBestOf Q (Some cut) = subst (IsBestOf Q) (sym e) q in from_q cut i.holds
+      | inl e ↦ let i : IsBestWith P (Some cut) = subst (IsBestWith P) (sym e) p in from_p cut i.holds
+      | inr e ↦ let i : IsBestWith Q (Some cut) = subst (IsBestWith Q) (sym e) q in from_q cut i.holds
     ] in
     record {
       holds = holds;
@@ -99,26 +99,26 @@ IsBestOf-both P Q R one two (Some cut) split from_p from_q p q b =
 -- The concepts of a level one by one.
 
 -- it is the least one of an item below a place
-pub record IsBelow (dim level : ℕ) (leasts : List ℕ) (met : List Bool) (n : ℕ) (cut : HeadCut) : Type 0 where
-  pub flagged : IsFlaggedAt dim level leasts met cut
+pub record IsBelow (dim level : ℕ) (leasts : List ℕ) (crossed : List Bool) (n : ℕ) (cut : HeadCut) : Type 0 where
+  pub flagged : IsFlaggedAt dim level leasts crossed cut
   pub place : ℕ
   pub below : place < n
   pub is : get_or leasts place 0 ≡ cut.concept
 
-pub record IsOfConcept (dim level : ℕ) (leasts : List ℕ) (met : List Bool) (concept : ℕ) (cut : HeadCut) : Type 0 where
-  pub flagged : IsFlaggedAt dim level leasts met cut
+pub record IsOfConcept (dim level : ℕ) (leasts : List ℕ) (crossed : List Bool) (concept : ℕ) (cut : HeadCut) : Type 0 where
+  pub flagged : IsFlaggedAt dim level leasts crossed cut
   pub concept_is : cut.concept ≡ concept
 
 abbrev pub IsBestBelow : ℕ → ℕ → List ℕ → List Bool → ℕ → Option HeadCut → Type 0
-IsBestBelow dim level leasts met n best = IsBestOf (IsBelow dim level leasts met n) best
+IsBestBelow dim level leasts crossed n best = IsBestWith (IsBelow dim level leasts crossed n) best
 
-pub IsBestBelow-none : (dim level : ℕ) (leasts : List ℕ) (met : List Bool) → IsBestBelow dim level leasts met 0 None
-IsBestBelow-none dim level leasts met = λ cut i. let b = i.below in omega (arith, b)
+pub IsBestBelow-none : (dim level : ℕ) (leasts : List ℕ) (crossed : List Bool) → IsBestBelow dim level leasts crossed 0 None
+IsBestBelow-none dim level leasts crossed = λ cut i. let b = i.below in omega (arith, b)
 
 -- the good cut of a concept is the first of the cuts of this concept
-pub IsBestOf-concept : (dim level : ℕ) (leasts : List ℕ) (met : List Bool) (concept : ℕ) (found : Option HeadCut) → IfSome found (λ cut. cut.concept ≡ concept) → IfSome found (IsFlaggedAt dim level leasts met) → IfNone found ((cut : HeadCut) → cut.concept ≡ concept → ¬ IsFlaggedAt dim level leasts met cut) → IsBestOf (IsOfConcept dim level leasts met concept) found
-IsBestOf-concept dim level leasts met concept None is good none = λ cut i. none cut i.concept_is i.flagged
-IsBestOf-concept dim level leasts met concept (Some cut) is good none = record {
+pub IsBestWith-concept : (dim level : ℕ) (leasts : List ℕ) (crossed : List Bool) (concept : ℕ) (found : Option HeadCut) → IfSome found (λ cut. cut.concept ≡ concept) → IfSome found (IsFlaggedAt dim level leasts crossed) → IfNone found ((cut : HeadCut) → cut.concept ≡ concept → ¬ IsFlaggedAt dim level leasts crossed cut) → IsBestWith (IsOfConcept dim level leasts crossed concept) found
+IsBestWith-concept dim level leasts crossed concept None is good none = λ cut i. none cut i.concept_is i.flagged
+IsBestWith-concept dim level leasts crossed concept (Some cut) is good none = record {
   holds = record { flagged = good; concept_is = is };
   first = λ other i.
       let same = is ∙ sym i.concept_is in
@@ -126,9 +126,9 @@ IsBestOf-concept dim level leasts met concept (Some cut) is good none = record {
       inr (kept, inr (good.at_level ∙ sym i.flagged.at_level, inr (good.in_dim ∙ sym i.flagged.in_dim, omega (arith, same))));
 }
 
-pub IsBestBelow-more : (dim level : ℕ) (leasts : List ℕ) (met : List Bool) (n concept : ℕ) (best found now : Option HeadCut) → n < length leasts → concept ≡ get_or leasts n 0 → IsBestBelow dim level leasts met n best → IsBestOf (IsOfConcept dim level leasts met concept) found → IsBetterOf best found now → IsBestBelow dim level leasts met (n + 1) now
-IsBestBelow-more dim level leasts met n concept best found now lt read b f better =
-    IsBestOf-both (IsBelow dim level leasts met n) (IsOfConcept dim level leasts met concept) (IsBelow dim level leasts met (n + 1)) best found now
+pub IsBestBelow-more : (dim level : ℕ) (leasts : List ℕ) (crossed : List Bool) (n concept : ℕ) (best found now : Option HeadCut) → n < length leasts → concept ≡ get_or leasts n 0 → IsBestBelow dim level leasts crossed n best → IsBestWith (IsOfConcept dim level leasts crossed concept) found → IsBetterOf best found now → IsBestBelow dim level leasts crossed (n + 1) now
+IsBestBelow-more dim level leasts crossed n concept best found now lt read b f better =
+    IsBestWith-both (IsBelow dim level leasts crossed n) (IsOfConcept dim level leasts crossed concept) (IsBelow dim level leasts crossed (n + 1)) best found now
     (λ cut i. elim (cases_lt i.place n) [
       | inl less ↦ inl (record { flagged = i.flagged; place = i.place; below = less; is = i.is })
       | inr high ↦
@@ -153,16 +153,16 @@ counted : (xs : List ℕ) (c : ℕ) → 0 < count_by (λ v. v == c) xs → (k : 
 counted [] c some = absurd (omega (arith, some))
 counted (x ∷ xs) c some = counted_here x c xs (eqb x c) refl some (counted xs c)
 
-pub best_at_all : (dim level : ℕ) (leasts : List ℕ) (met : List Bool) (n : ℕ) (best : Option HeadCut) → length leasts ≤ n → IsBestBelow dim level leasts met n best → IsBestOf (IsFlaggedAt dim level leasts met) best
-best_at_all dim level leasts met n best le b = all best b
+pub best_at_all : (dim level : ℕ) (leasts : List ℕ) (crossed : List Bool) (n : ℕ) (best : Option HeadCut) → length leasts ≤ n → IsBestBelow dim level leasts crossed n best → IsBestWith (IsFlaggedAt dim level leasts crossed) best
+best_at_all dim level leasts crossed n best le b = all best b
   where
-    to : (cut : HeadCut) → IsFlaggedAt dim level leasts met cut → IsBelow dim level leasts met n cut
+    to : (cut : HeadCut) → IsFlaggedAt dim level leasts crossed cut → IsBelow dim level leasts crossed n cut
     to cut f =
         let some : 0 < count_by (λ x. x == cut.concept) leasts = let a = f.good.kept in let b = f.good.third in let c = f.good.part in omega (arith, a, b, c) in
         let at = counted leasts cut.concept some in
         let lt = at.1 in
         record { flagged = f; place = at.0; below = omega (arith, lt, le); is = at.2 }
 
-    all : (best : Option HeadCut) → IsBestBelow dim level leasts met n best → IsBestOf (IsFlaggedAt dim level leasts met) best
+    all : (best : Option HeadCut) → IsBestBelow dim level leasts crossed n best → IsBestWith (IsFlaggedAt dim level leasts crossed) best
     all None none = λ cut f. none cut (to cut f)
     all (Some cut) b = record { holds = b.holds.flagged; first = λ other f. b.first other (to other f) }

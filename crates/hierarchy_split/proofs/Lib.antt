@@ -3,5 +3,5 @@ pub mod Orders
 pub mod Shares
 pub mod Cuts
 pub mod Heads
-pub mod Meets
+pub mod Crossings
 pub mod Groups

@@ -10,8 +10,8 @@ pub record IsFirstOf (P : HeadCut → Type 0) (cut : HeadCut) : Type 0 where
   pub first : (other : HeadCut) → P other → IsBetterHead cut other
 
 -- none where no cut has the property, or the first one that has
-abbrev pub IsBestOf : (HeadCut → Type 0) → Option HeadCut → Type 0
-IsBestOf P best = MatchOption best ((cut : HeadCut) → ¬ P cut) (IsFirstOf P)
+abbrev pub IsBestWith : (HeadCut → Type 0) → Option HeadCut → Type 0
+IsBestWith P best = MatchOption best ((cut : HeadCut) → ¬ P cut) (IsFirstOf P)
 
 -- there is a cut, and the other does not come before it
 abbrev pub IsAtLeast : Option HeadCut → HeadCut → Type 0
@@ -23,19 +23,19 @@ pub record IsBetterOf (one two best : Option HeadCut) : Type 0 where
   pub first : IfSome one (IsAtLeast best)
   pub second : IfSome two (IsAtLeast best)
 
--- no item with this least concept is met
-abbrev pub IsUnmet : List ℕ → List Bool → ℕ → Type 0
-IsUnmet leasts met concept = (k : ℕ) → k < length leasts → slice_index leasts k ≡ concept → slice_index_or met k true ≡ false
+-- no item with this least concept is crossed
+abbrev pub IsUncrossed : List ℕ → List Bool → ℕ → Type 0
+IsUncrossed leasts crossed concept = (k : ℕ) → k < length leasts → slice_index leasts k ≡ concept → slice_index_or crossed k true ≡ false
 
--- the cut of these least concepts is good, where the items that are met are known
-pub record IsFlaggedGood (leasts : List ℕ) (met : List Bool) (cut : HeadCut) : Type 0 where
+-- the cut of these least concepts is good, where the items that are crossed are known
+pub record IsFlaggedGood (leasts : List ℕ) (crossed : List Bool) (cut : HeadCut) : Type 0 where
   pub kept : cut.kept ≡ count_by (λ x. x == cut.concept) leasts
   pub third : length leasts ≤ 3 * cut.kept
   pub part : cut.kept < length leasts
-  pub apart : IsUnmet leasts met cut.concept
+  pub apart : IsUncrossed leasts crossed cut.concept
 
 -- it is one of a level of a dimension
-pub record IsFlaggedAt (dim level : ℕ) (leasts : List ℕ) (met : List Bool) (cut : HeadCut) : Type 0 where
+pub record IsFlaggedAt (dim level : ℕ) (leasts : List ℕ) (crossed : List Bool) (cut : HeadCut) : Type 0 where
   pub in_dim : cut.dim ≡ dim
   pub at_level : cut.level ≡ level
-  pub good : IsFlaggedGood leasts met cut
+  pub good : IsFlaggedGood leasts crossed cut

@@ -1,4 +1,4 @@
--- What is kept of a group's head cuts: in each dimension the level, and which items of the head are met.
+-- What is kept of a group's head cuts: in each dimension the level, and which items of the head are crossed.
 use Rattle.std.specs.Prelude.{ℕ, ◌≡◌, ◌<◌, ◌≤◌, List, [], length, map, All, None, Some, IfSome, IfNone}
 use Rattle.std.specs.List.{slice_index_or}
 use Rattle.dim_hierarchy.specs.Dimension.{Dimension}
@@ -6,7 +6,7 @@ use Rattle.describing_set.specs.DescSet.{IsDescSetOf}
 use Rattle.describing_set.specs.declared.set.DescSet.{DescSet}
 use Rattle.hierarchy_split.specs.Limits.{most_items}
 use Rattle.hierarchy_split.specs.Cut.{leasts}
-use Rattle.hierarchy_split.specs.Meet.{is_met}
+use Rattle.hierarchy_split.specs.Crossing.{is_crossed}
 use Rattle.hierarchy_split.specs.Head.{GroupItems, IsHeadLevel}
 use Rattle.hierarchy_split.specs.Best.{IsFlaggedGood}
 use Rattle.hierarchy_split.specs.declared.head_cut.HeadCut.{HeadCut}
@@ -17,11 +17,11 @@ use Rattle.hierarchy_split.specs.declared.head.HeadCuts.{HeadCuts}
 pub record AreDimCutsOf (h : List Dimension) (items : GroupItems) (dim : ℕ) (cuts : DimCuts) : Type 0 where
   pub level : IfSome cuts.level (IsHeadLevel h items dim)
   pub none : IfNone cuts.level ((level : ℕ) → ¬ IsHeadLevel h items dim level)
-  pub met : IfSome cuts.level (λ level. cuts.met.items ≡ map (is_met h items.head items.others dim level) items.head)
+  pub crossed : IfSome cuts.level (λ level. cuts.crossed.items ≡ map (is_crossed h items.head items.others dim level) items.head)
 
 -- what is kept for a dimension; past the last one there is none
 abbrev pub cuts_at : List DimCuts → ℕ → DimCuts
-cuts_at dims dim = slice_index_or dims dim (record { level = None; met = record { items = [] } })
+cuts_at dims dim = slice_index_or dims dim (record { level = None; crossed = record { items = [] } })
 
 -- the head cuts of a group with these items
 pub record AreHeadCutsOf (h : List Dimension) (items : GroupItems) (cuts : HeadCuts) : Type 0 where
@@ -41,7 +41,7 @@ pub record AreHeadCuts (h : List Dimension) (cuts : HeadCuts) : Type 0 where
 pub record IsFlaggedIn (h : List Dimension) (head : List DescSet) (dim : ℕ) (cuts : DimCuts) (cut : HeadCut) : Type 0 where
   pub in_dim : cut.dim ≡ dim
   pub level : cuts.level ≡ Some cut.level
-  pub good : IsFlaggedGood (leasts h head dim cut.level) cuts.met.items cut
+  pub good : IsFlaggedGood (leasts h head dim cut.level) cuts.crossed.items cut
 
 -- a cut is good by what is kept for its dimension
 pub record IsFlagged (h : List Dimension) (head : List DescSet) (dims : List DimCuts) (cut : HeadCut) : Type 0 where

@@ -1,7 +1,7 @@
 pub mod Limits
 pub mod Order
 pub mod Cut
-pub mod Meet
+pub mod Crossing
 pub mod Head
 pub mod Best
 pub mod Flags

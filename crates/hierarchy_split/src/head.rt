@@ -4,10 +4,10 @@ ghost use Rattle.describing_set.specs.DescSet.{IsDescSetOf};
 ghost use Rattle.hierarchy_split.specs.Limits.{most_items};
 ghost use Rattle.hierarchy_split.specs.Cut.{IsAbove};
 
+use crate::crossing::{crossed_in_head, crossed_with};
 use crate::head_cut::{HeadCut, best_at, better};
 use crate::leasts::{cut_level, leasts, part};
 use crate::limits::MOST_ITEMS;
-use crate::meet::{met_in_head, met_with};
 use arrayvec::ArrayVec;
 use describing_set::DescSet;
 use dim_hierarchy::Hierarchy;
@@ -17,7 +17,7 @@ use dim_hierarchy::Hierarchy;
 #[derive(Default, Drop)]
 struct DimCuts {
     level: Option<u8>,
-    met: ArrayVec<bool, MOST_ITEMS>,
+    crossed: ArrayVec<bool, MOST_ITEMS>,
 }
 
 /// The head cuts of a group, whose first block is its head. The items of the other blocks are told
@@ -30,7 +30,7 @@ pub struct HeadCuts<'a> {
 
 ghost use Rattle.hierarchy_split.specs.declared.head_cut.HeadCut.{HeadCut};
 ghost use Rattle.hierarchy_split.specs.Head.{GroupItems, head_items, with_other, IsHeadCut, IsGoodHead, IsGoodHeadCut};
-ghost use Rattle.hierarchy_split.specs.Best.{IsBestOf};
+ghost use Rattle.hierarchy_split.specs.Best.{IsBestWith};
 ghost use Rattle.hierarchy_split.specs.Flags.{IsFlaggedIn, cuts_at, AreDimCutsOf, AreHeadCutsOf, AreHeadCuts};
 
 /// The head cuts of a dimension, where no item of another block is known.
@@ -44,11 +44,11 @@ fn dim_cuts(head: &[DescSet], h: &Hierarchy, dim: u8) -> DimCuts
     match cut_level(head, h, dim) {
         Some(lift) => DimCuts {
             level: Some(lift.level),
-            met: met_in_head(head, h, dim, lift.level),
+            crossed: crossed_in_head(head, h, dim, lift.level),
         },
         None => DimCuts {
             level: None,
-            met: ArrayVec::new(),
+            crossed: ArrayVec::new(),
         },
     }
 }
@@ -60,7 +60,7 @@ fn struck(cuts: &DimCuts, head: &[DescSet], h: &Hierarchy, dim: u8, set: &DescSe
     requires head { All (IsDescSetOf h.now) head.now }
     requires set { IsDescSetOf h.now set.now }
     requires level { IfSome cuts.now.level (IsAbove head.now dim) }
-    requires met { IfSome cuts.now.level (λ level. length cuts.now.met.items ≡ length head.now) }
+    requires crossed { IfSome cuts.now.level (λ level. length cuts.now.crossed.items ≡ length head.now) }
     ensures { (items : GroupItems) → head.now ≡ items.head
         → AreDimCutsOf h.now items dim cuts.now
         → AreDimCutsOf h.now (with_other items set.now) dim result }
@@ -70,18 +70,18 @@ fn struck(cuts: &DimCuts, head: &[DescSet], h: &Hierarchy, dim: u8, set: &DescSe
             if level <= part(set, h, dim).level {
                 DimCuts {
                     level: Some(level),
-                    met: met_with(cuts.met.as_slice(), head, h, dim, level, set),
+                    crossed: crossed_with(cuts.crossed.as_slice(), head, h, dim, level, set),
                 }
             } else {
                 DimCuts {
                     level: None,
-                    met: ArrayVec::new(),
+                    crossed: ArrayVec::new(),
                 }
             }
         }
         None => DimCuts {
             level: None,
-            met: ArrayVec::new(),
+            crossed: ArrayVec::new(),
         },
     }
 }
@@ -92,12 +92,12 @@ fn best_of(cuts: &DimCuts, head: &[DescSet], h: &Hierarchy, dim: u8) -> Option<H
     requires few { length head.now ≤ most_items }
     requires head { All (IsDescSetOf h.now) head.now }
     requires level { IfSome cuts.now.level (IsAbove head.now dim) }
-    requires met { IfSome cuts.now.level (λ level. length cuts.now.met.items ≡ length head.now) }
-    ensures { IsBestOf (IsFlaggedIn h.now head.now dim cuts.now) result }
+    requires crossed { IfSome cuts.now.level (λ level. length cuts.now.crossed.items ≡ length head.now) }
+    ensures { IsBestWith (IsFlaggedIn h.now head.now dim cuts.now) result }
 {
     let level = cuts.level?;
     let leasts = leasts(head, h, dim, level);
-    best_at(dim, level, leasts.as_slice(), cuts.met.as_slice())
+    best_at(dim, level, leasts.as_slice(), cuts.crossed.as_slice())
 }
 
 impl<'a> HeadCuts<'a> {

@@ -18,7 +18,7 @@ pub struct HeadCut {
 
 ghost use Rattle.hierarchy_split.specs.declared.head_cut.HeadCut.{HeadCut};
 ghost use Rattle.hierarchy_split.specs.Head.{GroupItems, IsBetterHead, IsGoodHeadCut};
-ghost use Rattle.hierarchy_split.specs.Best.{IsBestOf, IsBetterOf, IsUnmet, IsFlaggedAt};
+ghost use Rattle.hierarchy_split.specs.Best.{IsBestWith, IsBetterOf, IsUncrossed, IsFlaggedAt};
 
 impl HeadCut {
     /// A law of head cuts, with no code: a group has one good head cut at most.
@@ -81,13 +81,13 @@ fn kept_count(leasts: &[ConceptId], concept: ConceptId) -> u8
     count
 }
 
-/// Whether no item with this least concept is met.
-fn is_unmet(leasts: &[ConceptId], met: &[bool], concept: ConceptId) -> bool
-    requires met { length met.now ≡ length leasts.now }
-    ensures { IsTrue result ↔ IsUnmet leasts.now met.now concept }
+/// Whether no item with this least concept is crossed.
+fn is_uncrossed(leasts: &[ConceptId], crossed: &[bool], concept: ConceptId) -> bool
+    requires crossed { length crossed.now ≡ length leasts.now }
+    ensures { IsTrue result ↔ IsUncrossed leasts.now crossed.now concept }
 {
     for (i, least) in leasts.iter().enumerate() {
-        if *least == concept && met[i] {
+        if *least == concept && crossed[i] {
             return false;
         }
     }
@@ -99,19 +99,19 @@ fn good_cut(
     dim: u8,
     level: u8,
     leasts: &[ConceptId],
-    met: &[bool],
+    crossed: &[bool],
     concept: ConceptId,
 ) -> Option<HeadCut>
     requires few { length leasts.now ≤ most_items }
-    requires met { length met.now ≡ length leasts.now }
+    requires crossed { length crossed.now ≡ length leasts.now }
     ensures concept { IfSome result (λ cut. cut.concept ≡ concept) }
-    ensures good { IfSome result (IsFlaggedAt dim level leasts.now met.now) }
+    ensures good { IfSome result (IsFlaggedAt dim level leasts.now crossed.now) }
     ensures none { IfNone result ((cut : HeadCut)
-        → cut.concept ≡ concept → ¬ IsFlaggedAt dim level leasts.now met.now cut) }
+        → cut.concept ≡ concept → ¬ IsFlaggedAt dim level leasts.now crossed.now cut) }
 {
     let n = leasts.len() as u8;
     let kept = kept_count(leasts, concept);
-    if 3 * kept < n || kept == n || !is_unmet(leasts, met, concept) {
+    if 3 * kept < n || kept == n || !is_uncrossed(leasts, crossed, concept) {
         return None;
     }
     Some(HeadCut {
@@ -123,14 +123,14 @@ fn good_cut(
 }
 
 /// The good head cut of a level that comes first.
-pub fn best_at(dim: u8, level: u8, leasts: &[ConceptId], met: &[bool]) -> Option<HeadCut>
+pub fn best_at(dim: u8, level: u8, leasts: &[ConceptId], crossed: &[bool]) -> Option<HeadCut>
     requires few { length leasts.now ≤ most_items }
-    requires met { length met.now ≡ length leasts.now }
-    ensures { IsBestOf (IsFlaggedAt dim level leasts.now met.now) result }
+    requires crossed { length crossed.now ≡ length leasts.now }
+    ensures { IsBestWith (IsFlaggedAt dim level leasts.now crossed.now) result }
 {
     let mut best = None;
     for concept in leasts {
-        best = better(best, good_cut(dim, level, leasts, met, *concept));
+        best = better(best, good_cut(dim, level, leasts, crossed, *concept));
     }
     best
 }

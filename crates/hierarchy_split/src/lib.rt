@@ -1,12 +1,12 @@
 //! Cuts: by which dimension and where a full list of items with describing sets is divided in two.
 #![tactic(auto)]
 
+mod crossing;
 mod cut;
 mod head;
 mod head_cut;
 mod leasts;
 mod limits;
-mod meet;
 mod order;
 mod overlap;
 #[cfg(test)]

@@ -3,7 +3,7 @@ ghost use Rattle.std.specs.Prelude.{◌≡◌, ◌++◌, ◌∷◌, [], ◌<◌,
 ghost use Rattle.describing_set.specs.DescSet.{part_at, IsDescSetOf};
 ghost use Rattle.describing_set.specs.declared.set.DescSet.{DescSet};
 ghost use Rattle.hierarchy_split.specs.Cut.{lifted, IsAbove};
-ghost use Rattle.hierarchy_split.specs.Meet.{meets, is_met_in_head, is_met};
+ghost use Rattle.hierarchy_split.specs.Crossing.{has_lifted, is_crossed_in_head, is_crossed};
 ghost use Rattle.hierarchy_split.specs.Limits.{most_items};
 
 use crate::leasts::{least, part};
@@ -26,11 +26,11 @@ fn lifted(set: &DescSet, h: &Hierarchy, dim: u8, level: u8) -> ArrayVec<ConceptI
 }
 
 /// Whether one of a set's lifted concepts is among these.
-fn meets(set: &DescSet, h: &Hierarchy, dim: u8, level: u8, concepts: &[ConceptId]) -> bool
+fn has_lifted(set: &DescSet, h: &Hierarchy, dim: u8, level: u8, concepts: &[ConceptId]) -> bool
     requires dim { dim < length h.now }
     requires set { IsDescSetOf h.now set.now }
     requires level { level ≤ (part_at set.now dim).level }
-    ensures { result ≡ meets h.now dim level set.now concepts.now }
+    ensures { result ≡ has_lifted h.now dim level set.now concepts.now }
 {
     part(set, h, dim)
         .ids
@@ -40,25 +40,25 @@ fn meets(set: &DescSet, h: &Hierarchy, dim: u8, level: u8, concepts: &[ConceptId
 }
 
 /// Whether an item of the head with another least concept has one of the set's lifted concepts.
-fn is_met_in_head(set: &DescSet, head: &[DescSet], h: &Hierarchy, dim: u8, level: u8) -> bool
+fn is_crossed_in_head(set: &DescSet, head: &[DescSet], h: &Hierarchy, dim: u8, level: u8) -> bool
     requires dim { dim < length h.now }
     requires set { IsDescSetOf h.now set.now }
     requires level { level ≤ (part_at set.now dim).level }
     requires head { All (IsDescSetOf h.now) head.now }
     requires above { IsAbove head.now dim level }
-    ensures { result ≡ is_met_in_head h.now head.now dim level set.now }
+    ensures { result ≡ is_crossed_in_head h.now head.now dim level set.now }
 {
     let own = least(set, h, dim, level);
     let concepts = lifted(set, h, dim, level);
     let concepts = concepts.as_slice();
     head.iter().any(|other| {
-        least(other, h, dim, level) != own && meets(other, h, dim, level, concepts)
+        least(other, h, dim, level) != own && has_lifted(other, h, dim, level, concepts)
     })
 }
 
 /// For each item of a head, whether another item of it has one of its lifted concepts, and another
 /// least one.
-pub fn met_in_head(
+pub fn crossed_in_head(
     head: &[DescSet],
     h: &Hierarchy,
     dim: u8,
@@ -68,19 +68,19 @@ pub fn met_in_head(
     requires few { length head.now ≤ most_items }
     requires head { All (IsDescSetOf h.now) head.now }
     requires level { IsAbove head.now dim level }
-    ensures { result.items ≡ map (is_met_in_head h.now head.now dim level) head.now }
+    ensures { result.items ≡ map (is_crossed_in_head h.now head.now dim level) head.now }
 {
-    let mut met = ArrayVec::new();
+    let mut crossed = ArrayVec::new();
     for set in head {
-        met.push(is_met_in_head(set, head, h, dim, level));
+        crossed.push(is_crossed_in_head(set, head, h, dim, level));
     }
-    met
+    crossed
 }
 
-/// For each item of a head, whether it is met, where an item of another block comes to those that
+/// For each item of a head, whether it is crossed, where an item of another block comes to those that
 /// were known.
-pub fn met_with(
-    met: &[bool],
+pub fn crossed_with(
+    crossed: &[bool],
     head: &[DescSet],
     h: &Hierarchy,
     dim: u8,
@@ -93,15 +93,15 @@ pub fn met_with(
     requires level { IsAbove head.now dim level }
     requires other { IsDescSetOf h.now other.now }
     requires other_level { level ≤ (part_at other.now dim).level }
-    requires met { length met.now ≡ length head.now }
+    requires crossed { length crossed.now ≡ length head.now }
     ensures { (others : List DescSet)
-        → met.now ≡ map (is_met h.now head.now others dim level) head.now
-        → result.items ≡ map (is_met h.now head.now (others ++ other.now ∷ []) dim level) head.now }
+        → crossed.now ≡ map (is_crossed h.now head.now others dim level) head.now
+        → result.items ≡ map (is_crossed h.now head.now (others ++ other.now ∷ []) dim level) head.now }
 {
     let concepts = lifted(other, h, dim, level);
     let mut now = ArrayVec::new();
     for (i, set) in head.iter().enumerate() {
-        now.push(met[i] || meets(set, h, dim, level, concepts.as_slice()));
+        now.push(crossed[i] || has_lifted(set, h, dim, level, concepts.as_slice()));
     }
     now
 }

@@ -1,4 +1,4 @@
--- What it says that an item of a head is met.
+-- What it says that an item of a head is crossed.
 use Rattle.std.proofs.Common.{ℕ, ◌≡◌, ◌+◌, ◌<◌, Bool, true, false, not, ◌&&◌, cond, eqb, zero, suc, List, [], ◌∷◌, ◌++◌, length, map, get_or, refl, sym, ap, subst, ◌∙◌, arith}
 use Rattle.std.specs.Prelude.{All, Contains}
 use Rattle.std.specs.List.{list_any, filter, count_by}
@@ -14,9 +14,9 @@ use Rattle.describing_set.specs.DescSet.{part_at}
 use Rattle.describing_set.specs.declared.set.DescSet.{DescSet}
 use Rattle.hierarchy_split.specs.Order.{least}
 use Rattle.hierarchy_split.specs.Cut.{lifted, leasts}
-use Rattle.hierarchy_split.specs.Meet.{meets, meets_apart, is_met_in_head, is_met_in_others, is_met}
+use Rattle.hierarchy_split.specs.Crossing.{has_lifted, crosses, is_crossed_in_head, is_crossed_in_others, is_crossed}
 use Rattle.hierarchy_split.specs.Head.{GroupItems, is_kept, kept_items, parted_items}
-use Rattle.hierarchy_split.specs.Best.{IsUnmet}
+use Rattle.hierarchy_split.specs.Best.{IsUncrossed}
 use Rattle.hierarchy_split.specs.declared.head_cut.HeadCut.{HeadCut}
 
 -- Tests.
@@ -97,21 +97,21 @@ apart_from_all xs ys a = record { apart = λ i j lti ltj e. a i 0 lti (j, ltj, g
 
 -- A set's lifted concepts and a list.
 
-meets_apart_lists : (h : List Dimension) (dim level : ℕ) (set : DescSet) (ys : List ℕ) → meets h dim level set ys ≡ false → AreApart (lifted h dim level set) ys
-meets_apart_lists h dim level set ys untrue = AreApart-from_test (λ id. up (tree h dim) id level) (part_at set dim).ids.items ys untrue
+apart_lists : (h : List Dimension) (dim level : ℕ) (set : DescSet) (ys : List ℕ) → has_lifted h dim level set ys ≡ false → AreApart (lifted h dim level set) ys
+apart_lists h dim level set ys untrue = AreApart-from_test (λ id. up (tree h dim) id level) (part_at set dim).ids.items ys untrue
 
-meets_not : (h : List Dimension) (dim level : ℕ) (set : DescSet) (ys : List ℕ) → AreApart (lifted h dim level set) ys → meets h dim level set ys ≡ false
-meets_not h dim level set ys a = test-from_AreApart (λ id. up (tree h dim) id level) (part_at set dim).ids.items ys a
+not_among : (h : List Dimension) (dim level : ℕ) (set : DescSet) (ys : List ℕ) → AreApart (lifted h dim level set) ys → has_lifted h dim level set ys ≡ false
+not_among h dim level set ys a = test-from_AreApart (λ id. up (tree h dim) id level) (part_at set dim).ids.items ys a
 
 -- With no item of another block.
 
-pub met_alone : (h : List Dimension) (head sets : List DescSet) (dim level : ℕ) → map (is_met_in_head h head dim level) sets ≡ map (is_met h head [] dim level) sets
-met_alone h head [] dim level = refl
-met_alone h head (x ∷ xs) dim level =
-    ap (λ b. b ∷ map (is_met_in_head h head dim level) xs) (sym (or-false (is_met_in_head h head dim level x)))
-    ∙ ap (λ l. is_met h head [] dim level x ∷ l) (met_alone h head xs dim level)
+pub crossed_alone : (h : List Dimension) (head sets : List DescSet) (dim level : ℕ) → map (is_crossed_in_head h head dim level) sets ≡ map (is_crossed h head [] dim level) sets
+crossed_alone h head [] dim level = refl
+crossed_alone h head (x ∷ xs) dim level =
+    ap (λ b. b ∷ map (is_crossed_in_head h head dim level) xs) (sym (or-false (is_crossed_in_head h head dim level x)))
+    ∙ ap (λ l. is_crossed h head [] dim level x ∷ l) (crossed_alone h head xs dim level)
 
--- That no kept item is met says that the kept items are apart from the others.
+-- That no kept item is crossed says that the kept items are apart from the others.
 
 abbrev ApartOf : List Dimension → HeadCut → DescSet → DescSet → Type 0
 ApartOf h cut kept other = All (λ id. ¬ Contains (lifted h cut.dim cut.level other) id) (lifted h cut.dim cut.level kept)
@@ -119,10 +119,10 @@ ApartOf h cut kept other = All (λ id. ¬ Contains (lifted h cut.dim cut.level o
 abbrev pub KeptApart : List Dimension → GroupItems → HeadCut → Type 0
 KeptApart h items cut = All (λ kept. All (ApartOf h cut kept) (parted_items h items cut)) (kept_items h items.head cut)
 
-abbrev pub Unmet : List Dimension → GroupItems → HeadCut → Type 0
-Unmet h items cut = IsUnmet (leasts h items.head cut.dim cut.level) (map (is_met h items.head items.others cut.dim cut.level) items.head) cut.concept
+abbrev pub Uncrossed : List Dimension → GroupItems → HeadCut → Type 0
+Uncrossed h items cut = IsUncrossed (leasts h items.head cut.dim cut.level) (map (is_crossed h items.head items.others cut.dim cut.level) items.head) cut.concept
 
-kept_apart : (h : List Dimension) (items : GroupItems) (cut : HeadCut) → Unmet h items cut → (k : ℕ) (d : DescSet) → k < length items.head → is_kept h cut (get_or items.head k d) ≡ true → All (ApartOf h cut (get_or items.head k d)) (parted_items h items cut)
+kept_apart : (h : List Dimension) (items : GroupItems) (cut : HeadCut) → Uncrossed h items cut → (k : ℕ) (d : DescSet) → k < length items.head → is_kept h cut (get_or items.head k d) ≡ true → All (ApartOf h cut (get_or items.head k d)) (parted_items h items cut)
 kept_apart h items cut u k d lt e =
     let head = items.head in
     let others = items.others in
@@ -133,26 +133,26 @@ kept_apart h items cut u k d lt e =
     let concept = eqb-true (own x) cut.concept e in
     let n = length-map head own in
     let flag = u k (omega (arith, n, lt)) (get_or-map own head k d 0 lt ∙ concept) in
-    let is = sym (get_or-map (is_met h head others dim level) head k d true lt) ∙ flag in
-    let parts = or_parts (is_met_in_head h head dim level x) (is_met_in_others h others dim level x) is in
+    let is = sym (get_or-map (is_crossed h head others dim level) head k d true lt) ∙ flag in
+    let parts = or_parts (is_crossed_in_head h head dim level x) (is_crossed_in_others h others dim level x) is in
     All-append (ApartOf h cut x) (filter (λ set. not (is_kept h cut set)) head) others
     (all_kept (λ set. not (is_kept h cut set)) (ApartOf h cut x) head (λ j z ltj ne.
     let other = get_or head j z in
     let differ = ap (λ c. not (eqb (own other) c)) concept ∙ ne in
-    let test = any_false_at (meets_apart h dim level x) head j z ltj parts.0 in
-    let met = second_false (not (eqb (own other) (own x))) (meets h dim level other (lifted h dim level x)) differ test in
+    let test = any_false_at (crosses h dim level x) head j z ltj parts.0 in
+    let crossed = second_false (not (eqb (own other) (own x))) (has_lifted h dim level other (lifted h dim level x)) differ test in
     all_apart (lifted h dim level x) (lifted h dim level other)
-    (AreApart-sym (lifted h dim level other) (lifted h dim level x) (meets_apart_lists h dim level other (lifted h dim level x) met))))
+    (AreApart-sym (lifted h dim level other) (lifted h dim level x) (apart_lists h dim level other (lifted h dim level x) crossed))))
     (λ j z ltj.
     let other = get_or others j z in
-    let met = any_false_at (λ set. meets h dim level x (lifted h dim level set)) others j z ltj parts.1 in
-    all_apart (lifted h dim level x) (lifted h dim level other) (meets_apart_lists h dim level x (lifted h dim level other) met))
+    let crossed = any_false_at (λ set. has_lifted h dim level x (lifted h dim level set)) others j z ltj parts.1 in
+    all_apart (lifted h dim level x) (lifted h dim level other) (apart_lists h dim level x (lifted h dim level other) crossed))
 
-pub apart_from_unmet : (h : List Dimension) (items : GroupItems) (cut : HeadCut) → Unmet h items cut → KeptApart h items cut
-apart_from_unmet h items cut u = all_kept (is_kept h cut) (λ kept. All (ApartOf h cut kept) (parted_items h items cut)) items.head (kept_apart h items cut u)
+pub apart_from_uncrossed : (h : List Dimension) (items : GroupItems) (cut : HeadCut) → Uncrossed h items cut → KeptApart h items cut
+apart_from_uncrossed h items cut u = all_kept (is_kept h cut) (λ kept. All (ApartOf h cut kept) (parted_items h items cut)) items.head (kept_apart h items cut u)
 
-pub unmet_from_apart : (h : List Dimension) (items : GroupItems) (cut : HeadCut) → KeptApart h items cut → Unmet h items cut
-unmet_from_apart h items cut a k within is =
+pub uncrossed_from_apart : (h : List Dimension) (items : GroupItems) (cut : HeadCut) → KeptApart h items cut → Uncrossed h items cut
+uncrossed_from_apart h items cut a k within is =
     let head = items.head in
     let others = items.others in
     let dim = cut.dim in
@@ -167,13 +167,13 @@ unmet_from_apart h items cut a k within is =
     let parted = filter (λ set. not (is_kept h cut set)) head in
     let first = all_left (ApartOf h cut x) parted others all in
     let second = all_right (ApartOf h cut x) parted others all in
-    get_or-map (is_met h head others dim level) head k none true lt
-    ∙ or_from (is_met_in_head h head dim level x) (is_met_in_others h others dim level x)
-    (list_any_none (meets_apart h dim level x) head (λ j z ltj.
+    get_or-map (is_crossed h head others dim level) head k none true lt
+    ∙ or_from (is_crossed_in_head h head dim level x) (is_crossed_in_others h others dim level x)
+    (list_any_none (crosses h dim level x) head (λ j z ltj.
     let other = get_or head j z in
-    and_false (not (eqb (own other) (own x))) (meets h dim level other (lifted h dim level x)) (λ differ.
+    and_false (not (eqb (own other) (own x))) (has_lifted h dim level other (lifted h dim level x)) (λ differ.
     let ne = ap (λ c. not (eqb (own other) c)) (sym concept) ∙ differ in
     let apart = kept_at (λ set. not (is_kept h cut set)) (ApartOf h cut x) head first j z ltj ne in
-    meets_not h dim level other (lifted h dim level x) (AreApart-sym (lifted h dim level x) (lifted h dim level other) (apart_from_all (lifted h dim level x) (lifted h dim level other) apart)))))
-    (list_any_none (λ set. meets h dim level x (lifted h dim level set)) others (λ j z ltj.
-    meets_not h dim level x (lifted h dim level (get_or others j z)) (apart_from_all (lifted h dim level x) (lifted h dim level (get_or others j z)) (second j z ltj))))
+    not_among h dim level other (lifted h dim level x) (AreApart-sym (lifted h dim level x) (lifted h dim level other) (apart_from_all (lifted h dim level x) (lifted h dim level other) apart)))))
+    (list_any_none (λ set. has_lifted h dim level x (lifted h dim level set)) others (λ j z ltj.
+    not_among h dim level x (lifted h dim level (get_or others j z)) (apart_from_all (lifted h dim level x) (lifted h dim level (get_or others j z)) (second j z ltj))))
