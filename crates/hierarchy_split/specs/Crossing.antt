@@ -1,4 +1,4 @@
--- Where the lifted concepts of items meet.
+-- Which items of a head have a lifted concept in common with an item that no head cut keeps beside them.
 use Rattle.std.specs.Prelude.{ℕ, ◌==◌, List, Bool, not, ◌&&◌, ◌||◌}
 use Rattle.std.specs.List.{list_any}
 use Rattle.dim_hierarchy.specs.Tree.{up}
