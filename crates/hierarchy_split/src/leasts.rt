@@ -32,7 +32,7 @@ pub fn part<'a>(set: &'a DescSet, h: &Hierarchy, dim: u8) -> &'a Part
 }
 
 /// The least of a set's lifted concepts, `ALL` where it has none.
-fn least(set: &DescSet, h: &Hierarchy, dim: u8, level: u8) -> ConceptId
+pub fn least(set: &DescSet, h: &Hierarchy, dim: u8, level: u8) -> ConceptId
     requires dim { dim < length h.now }
     requires set { IsDescSetOf h.now set.now }
     requires level { level ≤ (part_at set.now dim).level }
@@ -53,7 +53,12 @@ fn least(set: &DescSet, h: &Hierarchy, dim: u8, level: u8) -> ConceptId
 }
 
 /// The least lifted concept of each item.
-fn leasts(sets: &[DescSet], h: &Hierarchy, dim: u8, level: u8) -> ArrayVec<ConceptId, MOST_ITEMS>
+pub fn leasts(
+    sets: &[DescSet],
+    h: &Hierarchy,
+    dim: u8,
+    level: u8,
+) -> ArrayVec<ConceptId, MOST_ITEMS>
     requires dim { dim < length h.now }
     requires few { length sets.now ≤ most_items }
     requires sets { All (IsDescSetOf h.now) sets.now }

@@ -11,7 +11,7 @@ use describing_set::DescSet;
 use dim_hierarchy::{ConceptId, Hierarchy};
 
 /// Adds a set's lifted concepts to a list.
-fn add_lifted(
+pub fn add_lifted(
     concepts: &mut ArrayVec<ConceptId, MOST_CONCEPTS>,
     set: &DescSet,
     h: &Hierarchy,

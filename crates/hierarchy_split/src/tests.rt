@@ -3,6 +3,8 @@ ghost use Rattle.dim_hierarchy.specs.Row.{IsCoordOf};
 ghost use Rattle.describing_set.specs.DescSet.{IsDescSetOf};
 
 use crate::cut::choose;
+use crate::head::HeadCuts;
+use crate::head_cut::HeadCut;
 use describing_set::DescSet;
 use dim_hierarchy::{Coord, Hierarchy, Name, Names};
 use std::alloc::{AllocError, Global};
@@ -170,5 +172,132 @@ fn a_set_at_level_0_leaves_no_cut(rt: HostRuntime) -> Result<(), Fail> {
     assert_eq!(rt; cut.order.as_slice(), [1, 0].as_slice());
     let wide = set_of(alloc, &h, &rows)?;
     assert!(rt; choose(&[here, wide], &h).is_none());
+    Ok(())
+}
+
+/// The good head cut of a group of items of these kinds.
+fn head_cut_of(
+    alloc: Global,
+    h: &Hierarchy,
+    head: &[Kind; 2],
+    others: &[Kind; 2],
+) -> Result<Option<HeadCut>, Fail>
+    requires { length h.now ≡ 2 }
+{
+    let sets = sets_of(alloc, h, head)?;
+    if sets.len() < 2 || sets.len() > 32 {
+        return Err("not 2 to 32 items".into());
+    }
+    let others = sets_of(alloc, h, others)?;
+    let mut cuts = HeadCuts::of(&sets, h);
+    for set in &others {
+        cuts.strike(h, set);
+    }
+    Ok(cuts.best(h))
+}
+
+/// The dimension, the level, the letter of the concept and the number of kept items of a head cut.
+type Kept = Option<(u8, u8, u8, u8)>;
+
+/// The head cut that these letters and numbers tell.
+fn head_cut(h: &Hierarchy, kept: Kept) -> Result<Option<HeadCut>, Fail> {
+    let Some((dim, level, letter, kept)) = kept else {
+        return Ok(None);
+    };
+    let concept = h.find_bytes(dim, &[letter]).ok_or("a concept")?;
+    Ok(Some(HeadCut {
+        dim,
+        level,
+        concept,
+        kept,
+    }))
+}
+
+#[test]
+fn good_head_cuts(rt: HostRuntime) -> Result<(), Fail> {
+    let alloc = rt.alloc();
+    let mut h = Hierarchy::new(alloc);
+    let places = [*b"-D", *b"Da", *b"Db", *b"Dc"];
+    let years = [*b"-V", *b"Vx", *b"Vy", *b"Vz", *b"-W", *b"Ww"];
+    add_dim(alloc, &mut h, b"place", &places)?;
+    add_dim(alloc, &mut h, b"year", &years)?;
+
+    let none: Kind = (0, [*b"ax"; 2]);
+    let cases: [([Kind; 2], [Kind; 2], Kept); 8] = [
+        // two places of a country; the other blocks have the one, and neither
+        (
+            [(17, [*b"ax"; 2]), (15, [*b"bx"; 2])],
+            [(32, [*b"ax"; 2]), none],
+            Some((0, 2, b'b', 15)),
+        ),
+        (
+            [(17, [*b"ax"; 2]), (15, [*b"bx"; 2])],
+            [(32, [*b"cx"; 2]), none],
+            Some((0, 2, b'a', 17)),
+        ),
+        // a third of the items at least
+        (
+            [(11, [*b"ax"; 2]), (21, [*b"bx"; 2])],
+            [(1, [*b"bx"; 2]), none],
+            Some((0, 2, b'a', 11)),
+        ),
+        (
+            [(10, [*b"ax"; 2]), (22, [*b"bx"; 2])],
+            [(1, [*b"bx"; 2]), none],
+            None,
+        ),
+        // as many are kept: the lower level, then the lower dimension, then the lower concept
+        (
+            [(2, [*b"bw"; 2]), (2, [*b"ax"; 2])],
+            [(1, [*b"cz"; 2]), none],
+            Some((1, 1, b'W', 2)),
+        ),
+        (
+            [(2, [*b"by"; 2]), (2, [*b"ax"; 2])],
+            [(1, [*b"cz"; 2]), none],
+            Some((0, 2, b'a', 2)),
+        ),
+        // a concept of kept items that another item of the head has, or one of another block
+        (
+            [(2, [*b"ax", *b"bx"]), (2, [*b"bx"; 2])],
+            [(1, [*b"cx"; 2]), none],
+            None,
+        ),
+        (
+            [(2, [*b"ax", *b"bx"]), (2, [*b"cx"; 2])],
+            [(1, [*b"bx"; 2]), none],
+            Some((0, 2, b'c', 2)),
+        ),
+    ];
+    for (head, others, kept) in cases {
+        assert_eq!(rt;
+            head_cut_of(alloc, &h, &head, &others)?,
+            head_cut(&h, kept)?
+        );
+    }
+    Ok(())
+}
+
+#[test]
+fn an_item_of_a_higher_level_leaves_no_head_cut(rt: HostRuntime) -> Result<(), Fail> {
+    let alloc = rt.alloc();
+    let mut h = Hierarchy::new(alloc);
+    let places = [
+        *b"-D", *b"Da", *b"Db", *b"Dc", *b"Dd", *b"De", *b"Df", *b"Dg", *b"-E", *b"Eh",
+    ];
+    add_dim(alloc, &mut h, b"place", &places)?;
+    add_dim(alloc, &mut h, b"year", &[*b"-V", *b"Vx", *b"Vy", *b"Vz"])?;
+
+    let wide = [*b"az", *b"bz", *b"cz", *b"dz", *b"ez", *b"fz", *b"gz"];
+    let wide = set_of(alloc, &h, &wide)?;
+    let far = set_of(alloc, &h, &[*b"hx"])?;
+    let sets = sets_of(alloc, &h, &[(1, [*b"ax"; 2]), (1, [*b"by"; 2])])?;
+    assert_eq!(rt; sets.len(), 2);
+    let mut cuts = HeadCuts::of(&sets, &h);
+    assert_eq!(rt; cuts.best(&h), head_cut(&h, Some((0, 2, b'a', 1)))?);
+    cuts.strike(&h, &wide);
+    assert_eq!(rt; cuts.best(&h), head_cut(&h, Some((1, 2, b'x', 1)))?);
+    cuts.strike(&h, &far);
+    assert_eq!(rt; cuts.best(&h), head_cut(&h, Some((1, 2, b'y', 1)))?);
     Ok(())
 }
