@@ -45,7 +45,7 @@ lines-on f old new all block left rest is added before =
     ∙ before
 
 -- the line of a group, and then those beneath it
-pub lines-deeper : (blocks : List Block) (level m depth : ℕ) (entry : Entry) (nodes pushed all : List NodeLine) → level ≡ suc m
+pub lines-deeper : (blocks : CellBlocks) (level m depth : ℕ) (entry : Entry) (nodes pushed all : List NodeLine) → level ≡ suc m
     → pushed ≡ nodes ++ line (eqb level 0) depth (group blocks entry) entry ∷ []
     → all ≡ pushed ++ flat_map (λ e. lines blocks m (depth + 1) e) (beneath blocks entry)
     → all ≡ nodes ++ lines blocks level depth entry

@@ -22,8 +22,8 @@ push_beneath-loop-preserved g t c =
     }
 
 pub push_group-returns-in_ok-push_beneath : goal.push_group-returns-in_ok-push_beneath
-push_group-returns-in_ok-push_beneath t c =
-    let blocks = c.args.blocks.now.items in
+push_group-returns-in_ok-push_beneath g t c =
+    let blocks = g.C.BlockCells.blocks c.args.cells.now in
     let entry = c.args.entry.now in
     let pushed : c.push.new.self ≡ c.args.nodes.now ++ line (eqb c.args.level 0) c.args.depth (group blocks entry) entry ∷ []
     = rw (c.copy.ensures, c.extent-count.ensures.blocks, c.extent-count.ensures.items) at c.in_ok-push.ensures.ok in
