@@ -119,12 +119,28 @@ fn entry(child: u32, measure: i64, set: DescSet) -> Entry
     }
 }
 
+/// The compiled filter that asks for a or b.
+fn compiled(alloc: Global, h: &Hierarchy) -> Result<CompiledFilter, Fail>
+    requires { length h.now ≡ 1 }
+    ensures { IfOk result (λ wanted. wanted.hierarchy ≡ h.now) }
+{
+    Ok(h.compile(alloc, &a_or_b(alloc, h)?)?)
+}
+
 /// What a visit adds to nothing.
-fn visited(block: &Block, stamp: u64, wanted: &CompiledFilter, todo: &mut Todo) -> Result<Agg, Fail>
-    requires body { IsBodyOf wanted.now.hierarchy block.now.body }
+fn visited(
+    block: &Block,
+    stamp: u64,
+    h: &Hierarchy,
+    wanted: &CompiledFilter,
+    todo: &mut Todo,
+) -> Result<Agg, Fail>
+    requires same { wanted.now.hierarchy ≡ h.now }
+    requires body { IsBodyOf h.now block.now.body }
     requires link { block.now.stamp ≢ stamp → IsSome block.now.right }
     requires few { row_count block.now.body < 2 ^ 63 }
 {
+    let _ = h;
     todo.reserve(17)?;
     let mut agg = Agg::EMPTY;
     visit(block, stamp, wanted, &mut agg, todo);
@@ -135,7 +151,7 @@ fn visited(block: &Block, stamp: u64, wanted: &CompiledFilter, todo: &mut Todo) 
 fn a_visit_adds_matching_rows(rt: HostRuntime) -> Result<(), Fail> {
     let alloc = rt.alloc();
     let h = hierarchy(alloc)?;
-    let wanted = h.compile(alloc, &a_or_b(alloc, &h)?)?;
+    let wanted = compiled(alloc, &h)?;
     let mut rows = Vec::new(alloc);
     rows.push(row(alloc, &h, b'a', 5)?)?;
     rows.push(row(alloc, &h, b'c', 9)?)?;
@@ -144,9 +160,9 @@ fn a_visit_adds_matching_rows(rt: HostRuntime) -> Result<(), Fail> {
     let both = Agg::one(5).join(&Agg::one(-7));
 
     let mut todo = Todo::new(alloc);
-    assert_eq!(rt; visited(&block, 1, &wanted, &mut todo)?, both);
+    assert_eq!(rt; visited(&block, 1, &h, &wanted, &mut todo)?, both);
     assert_eq!(rt; todo.pop(), None);
-    assert_eq!(rt; visited(&block, 2, &wanted, &mut todo)?, both);
+    assert_eq!(rt; visited(&block, 2, &h, &wanted, &mut todo)?, both);
     assert_eq!(rt; todo.pop(), Some(Item { cell: 6, stamp: 2 }));
     assert_eq!(rt; todo.pop(), None);
     Ok(())
@@ -156,11 +172,11 @@ fn a_visit_adds_matching_rows(rt: HostRuntime) -> Result<(), Fail> {
 fn a_visit_adds_or_notes_entries(rt: HostRuntime) -> Result<(), Fail> {
     let alloc = rt.alloc();
     let h = hierarchy(alloc)?;
-    let wanted = h.compile(alloc, &a_or_b(alloc, &h)?)?;
+    let wanted = compiled(alloc, &h)?;
     let block = directory(alloc, &h)?;
 
     let mut todo = Todo::new(alloc);
-    assert_eq!(rt; visited(&block, 3, &wanted, &mut todo)?, Agg::one(6));
+    assert_eq!(rt; visited(&block, 3, &h, &wanted, &mut todo)?, Agg::one(6));
     assert_eq!(rt; todo.pop(), Some(Item { cell: 9, stamp: 2 }));
     assert_eq!(rt; todo.pop(), None);
     Ok(())
