@@ -1,7 +1,7 @@
 -- Counters whose sum stays.
 use Rattle.std.specs.Prelude.{◌≡◌, ℕ, List, []}
 use Rattle.std.specs.List.{sum}
-use Rattle.std.proofs.Common.{◌∙◌, refl}
+use mathlib.Core.Path.{◌∙◌, refl}
 use mathlib.Core.Option.{some}
 use lib.ListN.{get_elem?}
 use Rattle.turn_table.specs.Numbered.{value_of, HaveOwnNumbers, write_all}
