@@ -1,9 +1,9 @@
 -- Membership in six places, read without a count.
-use Rattle.std.proofs.Common.{ℕ, zero, suc, ◌≡◌, ◌≢◌, ◌+◌, ◌-◌, ◌<◌, List, [], ◌∷◌, ◌++◌, length, take, set, Bool, true, false, eqb, refl, sym, ap, ◌∙◌, arith, get_or, length-append, append_assoc, inl, inr}
+use Rattle.std.proofs.Common.{ℕ, zero, suc, ◌≡◌, ◌≢◌, ◌-◌, ◌<◌, List, [], ◌∷◌, ◌++◌, length, take, Bool, true, false, eqb, refl, sym, ap, ◌∙◌, arith, get_or, inl, inr}
 use Rattle.std.specs.Prelude.{◌||◌, replicate}
 use Rattle.std.specs.List.{list_any}
 use Rattle.std.proofs.lemmas.Bool.{eqb-true}
-use Rattle.std.proofs.lemmas.List.{get_or_default, take_more_set, length-set}
+use Rattle.std.proofs.lemmas.List.{get_or_default}
 use Rattle.dim_hierarchy.specs.Tree.{Tree, IsConcept, IsTree}
 use Rattle.describing_set.specs.Ascending.{with_id, In, Ascends}
 use Rattle.describing_set.specs.Places.{no_concept, AreFew}

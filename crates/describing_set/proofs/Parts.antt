@@ -10,6 +10,7 @@ use Rattle.dim_hierarchy.proofs.Ancestors.{up-up, up-IsConcept, level_of-up, con
 use Rattle.describing_set.specs.Ascending.{with_id, In, Ascends}
 use Rattle.describing_set.specs.declared.part.Part.{Part}
 use Rattle.describing_set.specs.Part.{part, part_from, ancestors, AreConcepts, IsPart, GrowsPart, JoinsParts}
+use Rattle.describing_set.proofs.Membership.{with_id-member}
 use Rattle.describing_set.proofs.Sorted.{length-ascending-within, In-take, In-append_left, In-append_right, In-append_cases, In-map, In-map-source, Source, In-ascending, In-from_ascending, In-with_id-cases, ascending-same, Ascends-ascending, Ascends-with_id, length-ascending, length-with_id-ge, length-with_id-le}
 
 -- Ancestors.
@@ -268,6 +269,11 @@ Adding-last t id start now new a l e few = record {
       let p : new ≡ part now.level (ancestors t now.level (id ∷ ids)) = ap (λ k. part k new.ids.items) l ∙ ap (λ xs. part now.level xs) is in
       p ∙ sym (part_from-few t now.level (id ∷ ids) six) ∙ sym m.passed;
 }
+
+-- a part with the concept's ancestor is also that of the list with the concept
+pub GrowsPart-kept : (t : Tree) (id : ℕ) (p : Part) → IsPart t p → In (up t id p.level) p.ids.items → GrowsPart t id p p
+GrowsPart-kept t id p i here =
+    Adding-last t id p p p (Adding-start t id p i) refl (sym (with_id-member (up t id p.level) p.ids.items i.ascends here)) i.few
 
 -- How far `join_deeper` is: so many concepts of the deeper part are added.
 pub record Joining (t : Tree) (start : Part) (xs : List ℕ) (k : ℕ) (now : Part) : Type 0 where

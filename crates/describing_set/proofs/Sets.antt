@@ -5,11 +5,12 @@ use Rattle.std.proofs.lemmas.List.{get_or_default, get_or-set_same, get_or-set_o
 use Rattle.std.proofs.lemmas.List.Elements.{All-head, All-tail, All-cons, All-nil, All-append}
 use Rattle.std.proofs.lemmas.Bool.{cases_lt}
 use Rattle.dim_hierarchy.specs.Concept.{level_of}
-use Rattle.dim_hierarchy.specs.Tree.{Tree, IsConcept, IsLeaf, leaf_level}
+use Rattle.dim_hierarchy.specs.Tree.{Tree, IsConcept, IsLeaf, leaf_level, up}
 use Rattle.dim_hierarchy.specs.Dimension.{Dimension, tree, IsHierarchy}
 use Rattle.dim_hierarchy.specs.Row.{IsCoordOf, concept_at}
 use Rattle.dim_hierarchy.specs.Compiled.{AreOfLevel}
 use Rattle.dim_hierarchy.specs.declared.row.Coord.{Coord}
+use Rattle.dim_hierarchy.proofs.Ancestors.{up-self}
 use Rattle.describing_set.specs.Ascending.{In}
 use Rattle.describing_set.specs.declared.part.Part.{Part}
 use Rattle.describing_set.specs.declared.set.DescSet.{DescSet}
@@ -74,6 +75,20 @@ IsSetOf-empty h set count f = record {
   count = count;
   parts = λ dim lt. f dim lt ∙ sym (part_from-few (tree h dim) (leaf_level (tree h dim)) [] (omega arith));
 }
+
+-- parts of leaf levels with the concept of a coordinate each make its set
+pub IsSetOf-one : (h : List Dimension) (at : Coord) (set : DescSet) → IsCoordOf h at → length set.parts.items ≡ length h → ((dim : ℕ) → dim < length h → part_at set dim ≡ part (leaf_level (tree h dim)) (concept_at at dim ∷ [])) → IsSetOf h (at ∷ []) set
+IsSetOf-one h at set a count f = record {
+  count = count;
+  parts = λ dim lt.
+      let t = tree h dim in
+      let id = concept_at at dim in
+      let top : up t id (leaf_level t) ≡ id = up-self t id (leaf_level t) (sym (a.leaf dim lt).last) in
+      f dim lt ∙ sym (part_from-few t (leaf_level t) (id ∷ []) (omega arith) ∙ ap (λ x. part (leaf_level t) (x ∷ [])) top);
+}
+
+pub IsDescSetOf-one : (h : List Dimension) (at : Coord) (set : DescSet) → IsCoordOf h at → IsSetOf h (at ∷ []) set → IsDescSetOf h set
+IsDescSetOf-one h at set a s = record { hierarchy = a.hierarchy; rows = at ∷ []; valid = All-cons (IsCoordOf h) at [] a (All-nil (IsCoordOf h)); set_of = s }
 
 -- parts that grew make a set that grew
 grown_set : (h : List Dimension) (at : Coord) (old new : DescSet) → length new.parts.items ≡ length old.parts.items → ((dim : ℕ) → dim < length h → GrowsPart (tree h dim) (concept_at at dim) (part_at old dim) (part_at new dim)) → GrowsBy h at old new

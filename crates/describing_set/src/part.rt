@@ -1,4 +1,5 @@
-ghost use Rattle.std.specs.Prelude.{◌≡◌, ◌<◌, ◌≤◌, ◌-◌, length};
+ghost use Rattle.std.specs.Prelude.{◌≡◌, ◌<◌, ◌≤◌, ◌-◌, [], ◌∷◌, length};
+ghost use Rattle.std.specs.Bool.{OnTrue};
 ghost use Rattle.dim_hierarchy.specs.Concept.{level_of};
 ghost use Rattle.dim_hierarchy.specs.Tree.{IsConcept, leaf_level};
 ghost use Rattle.dim_hierarchy.specs.Dimension.{tree, IsHierarchy};
@@ -17,8 +18,17 @@ pub struct Part {
 }
 
 impl Part {
-    ghost use Rattle.describing_set.specs.Part.{IsPart, GrowsPart, JoinsParts, ancestors, has_ancestor};
+    ghost use Rattle.describing_set.specs.Part.{part, IsPart, GrowsPart, JoinsParts, ancestors, has_ancestor};
     ghost use Rattle.describing_set.specs.Filter.{is_part_inside, is_part_met};
+
+    /// One concept of a level.
+    pub(crate) fn of(level: u8, id: ConceptId) -> Part
+        ensures { result ≡ part level (id ∷ []) }
+    {
+        let mut ids = FewConcepts::new();
+        ids.push(id);
+        Part { level, ids }
+    }
 
     /// Each concept becomes its parent.
     fn lift(&mut self, h: &Hierarchy, dim: u8)
@@ -57,6 +67,21 @@ impl Part {
             }
             self.lift(h, dim);
         }
+    }
+
+    /// Whether a concept's ancestor at the part's level is in the part. Where it is, the part stays as it
+    /// is when the concept is added.
+    pub(crate) fn has_ancestor(&self, h: &Hierarchy, dim: u8, id: ConceptId) -> bool
+        requires hierarchy { IsHierarchy h.now }
+        requires dim { dim < length h.now }
+        requires part { IsPart (tree h.now dim) self.now }
+        requires concept { IsConcept (tree h.now dim) id }
+        requires level { self.now.level ≤ level_of id }
+        ensures test { result ≡ has_ancestor (tree h.now dim) self.now id }
+        ensures kept { OnTrue result (GrowsPart (tree h.now dim) id self.now self.now) }
+    {
+        let ancestor = h.up(dim, id, self.level);
+        self.ids.has(ancestor)
     }
 
     /// This part with the concepts of one that is at its level or deeper.

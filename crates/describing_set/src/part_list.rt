@@ -75,7 +75,7 @@ impl PartList {
         self.count += 1;
     }
 
-    /// Adds a concept to the part of a dimension.
+    /// Adds a concept to the part of a dimension. A part that has the concept's ancestor is read only.
     pub(crate) fn add(&mut self, h: &Hierarchy, dim: u8, id: ConceptId)
         requires hierarchy { IsHierarchy h.now }
         requires dim { dim < length h.now }
@@ -86,6 +86,9 @@ impl PartList {
         ensures { PartGrows (tree h.now dim) dim id self.old.items self.new.items }
     {
         let mut part = self.as_slice()[usize::from(dim)];
+        if part.has_ancestor(h, dim, id) {
+            return;
+        }
         part.add(h, dim, id);
         self.places[usize::from(dim)] = part;
     }

@@ -45,9 +45,11 @@ impl DescSet {
         ensures set_of { IsSetOf h.now (at.now ∷ []) result }
         ensures valid { IsDescSetOf h.now result }
     {
-        let mut set = DescSet::empty(h);
-        set.grow(h, at);
-        set
+        let mut parts = PartList::new();
+        for dim in 0..h.dims() {
+            parts.push(Part::of(h.levels(dim), at.concept(dim)));
+        }
+        DescSet { parts }
     }
 
     /// Adds a coordinate: in each dimension its ancestor at the set's level joins the concepts.

@@ -1,4 +1,4 @@
-use Rattle.std.proofs.Common.{List, length, ◌≡◌, ◌<◌, ◌≤◌, ◌∙◌, ap, sym, subst}
+use Rattle.std.proofs.Common.{List, length, ◌<◌, ◌≤◌, ◌∙◌, ap, sym, subst}
 use Rattle.dim_hierarchy.specs.Tree.{leaf_level}
 use Rattle.dim_hierarchy.specs.Dimension.{Dimension, tree}
 use Rattle.dim_hierarchy.specs.Row.{concept_at}

@@ -1,5 +1,6 @@
-use Rattle.std.proofs.Common.{◌≡◌, ◌∙◌, ◌<◌, ◌≤◌, List, [], length, get_or, set, ap, sym, subst, arith}
+use Rattle.std.proofs.Common.{◌∙◌, ◌<◌, ◌≤◌, List, [], length, get_or, set, ap, sym, subst, arith}
 use Rattle.std.proofs.Math.Seq.{take-set-lt}
+use Rattle.std.proofs.lemmas.List.{set-get_or}
 use Rattle.arrayvec.specs.ArrayVec.{ArrayVec}
 use Rattle.dim_hierarchy.specs.Concept.{level_of}
 use Rattle.dim_hierarchy.specs.Dimension.{tree}
@@ -7,6 +8,26 @@ use Rattle.describing_set.specs.Part.{part, IsPart, GrowsPart}
 use Rattle.describing_set.specs.declared.part.Part.{Part}
 use Rattle.describing_set.proofs.Filled.{AreFilled-set, used-read}
 use Rattle.describing_set.proofs.part_list.PartList.add.Goals as goal
+
+pub has_ancestor-requires-clause-part : goal.has_ancestor-requires-clause-part
+has_ancestor-requires-clause-part c =
+    let read = used-read c.as_slice.result.now c.args.self.now.items c.from.result c.args.dim c.index-as_slice-from.result (part 0 []) c.as_slice.ensures.value c.from.ensures c.requires.within c.index-as_slice-from.is in
+    subst (IsPart (tree c.args.h.now c.args.dim)) (sym read) c.requires.part
+
+pub has_ancestor-requires-clause-level : goal.has_ancestor-requires-clause-level
+has_ancestor-requires-clause-level c =
+    let read = used-read c.as_slice.result.now c.args.self.now.items c.from.result c.args.dim c.index-as_slice-from.result (part 0 []) c.as_slice.ensures.value c.from.ensures c.requires.within c.index-as_slice-from.is in
+    subst (λ (p : Part). p.level ≤ level_of c.args.id) (sym read) c.requires.level
+
+pub returns-then-has_ancestor : goal.returns-then-has_ancestor
+returns-then-has_ancestor c =
+    let items = c.args.self.now.items in
+    let read = used-read c.as_slice.result.now items c.from.result c.args.dim c.index-as_slice-from.result (part 0 []) c.as_slice.ensures.value c.from.ensures c.requires.within c.index-as_slice-from.is in
+    record {
+      now = get_or items c.args.dim (part 0 []);
+      grown = subst (λ (o : Part). GrowsPart (tree c.args.h.now c.args.dim) c.args.id o o) read c.if-has_ancestor.ensures.kept;
+      new_is = sym (set-get_or items c.args.dim (part 0 []));
+    }
 
 pub add-requires-clause-part : goal.add-requires-clause-part
 add-requires-clause-part c =
