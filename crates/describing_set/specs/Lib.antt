@@ -4,3 +4,4 @@ pub mod Part
 pub mod DescSet
 pub mod Filter
 pub mod Plane
+pub mod Path

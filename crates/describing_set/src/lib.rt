@@ -6,14 +6,16 @@ mod few;
 mod listing;
 mod part;
 mod part_list;
+mod path;
 mod plane;
 mod set;
 #[cfg(test)]
 mod tests;
 
 pub use few::FewConcepts;
-pub use listing::{Listing, Path, Spot};
+pub use listing::{Listing, Spot};
 pub use part::Part;
 pub use part_list::PartList;
+pub use path::Path;
 pub use plane::{Plane, goes_left, plane_of};
 pub use set::DescSet;

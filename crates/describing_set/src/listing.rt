@@ -26,6 +26,3 @@ impl Spot {
 
 /// The shards that a server knows, in the order of their ids.
 pub type Listing = Items<Spot>;
-
-/// Ids of shards, each the child of the one before.
-pub type Path = Items<u32>;

@@ -3,6 +3,7 @@ ghost use Rattle.dim_hierarchy.specs.Row.{IsCoordOf};
 ghost use Rattle.describing_set.specs.DescSet.{IsDescSetOf};
 
 use crate::few::FewConcepts;
+use crate::path::Path;
 use crate::plane::{goes_left, plane_of};
 use crate::set::DescSet;
 use dim_hierarchy::{ConceptId, Coord, Hierarchy, Name, Names};
@@ -245,5 +246,17 @@ fn eight_dimensions(rt: HostRuntime) -> Result<(), Fail> {
     let left = side(alloc, &h, &set, b"aaaaaaaa")?;
     let right = side(alloc, &h, &set, b"aababaaa")?;
     assert_eq!(rt; (left, right), (Some((2, true)), Some((2, false))));
+    Ok(())
+}
+
+#[test]
+fn a_path_grows_by_its_ids_in_order(rt: HostRuntime) -> Result<(), Fail> {
+    let mut path = Path::new(rt.alloc());
+    assert_eq!(rt; path.as_slice().len(), 0);
+    assert_eq!(rt; path.push(7), Ok(()));
+    assert_eq!(rt; path.as_slice(), [7].as_slice());
+    assert_eq!(rt; path.push(9), Ok(()));
+    assert_eq!(rt; path.push(8), Ok(()));
+    assert_eq!(rt; path.as_slice(), [7, 9, 8].as_slice());
     Ok(())
 }
