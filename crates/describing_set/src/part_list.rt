@@ -85,10 +85,11 @@ impl PartList {
         requires level { (slice_index_or self.old.items dim (part 0 [])).level ≤ level_of id }
         ensures { PartGrows (tree h.now dim) dim id self.old.items self.new.items }
     {
-        let mut part = self.as_slice()[usize::from(dim)];
+        let part = &self.as_slice()[usize::from(dim)];
         if part.has_ancestor(h, dim, id) {
             return;
         }
+        let mut part = *part;
         part.add(h, dim, id);
         self.places[usize::from(dim)] = part;
     }
