@@ -1,28 +1,38 @@
-use crate::{Cause, Command, ScriptFault, read_script, script_laws};
+//! What is tested of `script_form`.
+use crate::fixtures::text_of;
 use dim_hierarchy::NamePick;
 use row_ledger::{Call, Use};
+use script_form::{
+    Cause, Command, NewRow, Question, Script, ScriptFault, read_script, script_laws,
+};
 use std::alloc::{AllocError, Global};
+use std::process::Abort;
 use std::test::Fail;
 
 const BASE: &[u8] =
     b"volap,1\ndim,geo,2\nconcept,geo,de,*\nconcept,geo,berlin,de\nconcept,geo,munich,de\n";
-
-/// The base and then these lines.
-fn on_base(alloc: Global, lines: &[u8]) -> Result<Vec<u8>, AllocError> {
-    let mut text = BASE.to_vec(alloc)?;
-    text.extend_from_slice(lines)?;
-    Ok(text)
-}
 
 /// The fault of a text, or how many commands it has.
 fn outcome(alloc: Global, text: &[u8]) -> Result<usize, ScriptFault> {
     Ok(read_script(alloc, text)?.commands.len())
 }
 
+/// The outcome of a text of the base and then these lines.
+fn on_base(alloc: Global, lines: &[u8]) -> Result<Result<usize, ScriptFault>, AllocError> {
+    Ok(outcome(alloc, &text_of(alloc, BASE, lines)?))
+}
+
+/// The outcome of a text whose first bad record this is.
+fn bad(at: u64, cause: Cause) -> Result<usize, ScriptFault> {
+    Err(ScriptFault::Bad { at, cause })
+}
+
+/// A text or some lines, and the number of the first bad record and its first cause.
+type BadCase = (&'static [u8], u64, Cause);
+
 #[test]
-fn bad_texts(rt: HostRuntime) -> Result<(), Fail> {
-    let alloc = rt.alloc();
-    let rows: [(&[u8], u64, Cause); 21] = [
+fn bad_texts(rt: HostRuntime) {
+    const CASES: [BadCase; 21] = [
         (b"", 1, Cause::Version),
         (b"\n\r\n", 1, Cause::Version),
         (b"volap,2", 1, Cause::Version),
@@ -53,16 +63,14 @@ fn bad_texts(rt: HostRuntime) -> Result<(), Fail> {
             Cause::DimFull,
         ),
     ];
-    for (text, at, cause) in rows {
-        assert_eq!(rt; outcome(alloc, text), Err(ScriptFault::Bad { at, cause }));
+    for (text, at, cause) in &CASES {
+        assert_eq!(rt; outcome(rt.alloc(), text), bad(*at, *cause));
     }
-    Ok(())
 }
 
 #[test]
 fn bad_records_behind_the_base(rt: HostRuntime) -> Result<(), Fail> {
-    let alloc = rt.alloc();
-    let rows: [(&[u8], u64, Cause); 62] = [
+    const CASES: [BadCase; 62] = [
         (b"insert,0,5", 6, Cause::Fields),
         (b"insert,0,5,berlin,berlin", 6, Cause::Fields),
         (b"insert,0,x", 6, Cause::Fields),
@@ -142,17 +150,15 @@ fn bad_records_behind_the_base(rt: HostRuntime) -> Result<(), Fail> {
         (b"\"\"", 6, Cause::Kind),
         (b"query,0,de\nbarrier\nquery,0,de|\n", 8, Cause::Name),
     ];
-    for (lines, at, cause) in rows {
-        let text = on_base(alloc, lines)?;
-        assert_eq!(rt; outcome(alloc, &text), Err(ScriptFault::Bad { at, cause }));
+    for (lines, at, cause) in &CASES {
+        assert_eq!(rt; on_base(rt.alloc(), lines)?, bad(*at, *cause));
     }
     Ok(())
 }
 
 #[test]
 fn good_texts(rt: HostRuntime) -> Result<(), Fail> {
-    let alloc = rt.alloc();
-    let rows: [(&[u8], usize); 10] = [
+    const CASES: [(&[u8], usize); 10] = [
         (b"", 0),
         (b"insert,0,5,\"berlin\"\r\nquery,1,de|berlin\r\nbarrier", 3),
         (
@@ -179,20 +185,16 @@ fn good_texts(rt: HostRuntime) -> Result<(), Fail> {
             4,
         ),
     ];
-    for (lines, commands) in rows {
-        let text = on_base(alloc, lines)?;
-        assert_eq!(rt; outcome(alloc, &text), Ok(commands));
+    for (lines, commands) in &CASES {
+        assert_eq!(rt; on_base(rt.alloc(), lines)?, Ok(*commands));
     }
-    assert_eq!(rt; outcome(alloc, b"\xEF\xBB\xBFvolap,1\r\n\r\n"), Ok(0));
+    let marked = outcome(rt.alloc(), b"\xEF\xBB\xBFvolap,1\r\n\r\n");
+    assert_eq!(rt; marked, Ok(0));
     Ok(())
 }
 
-#[test]
-fn what_a_script_holds(rt: HostRuntime) -> Result<(), Fail> {
-    let text =
-        b"volap,1\nuse,3,16,8,64\ndim,geo,2\nconcept,geo,de,*\ndim,day,1\nconcept,day,mon,*\ninsert,2,-5,berlin,mon\nquery,0,de|fr,*\ntree,4294967295\nbarrier\n";
-    let script = read_script(rt.alloc(), text)?;
-    script_laws();
+/// Compares the settings and the hierarchy of a script.
+fn expect_head<R: Abort>(rt: &R, script: &Script) {
     let with = Use {
         servers: 3,
         workers: 16,
@@ -202,24 +204,49 @@ fn what_a_script_holds(rt: HostRuntime) -> Result<(), Fail> {
     assert_eq!(rt; script.with, with);
     assert_eq!(rt; script.hierarchy.dims(), 2);
     assert_eq!(rt; script.hierarchy.concepts(), 2);
+}
+
+/// Compares an insert.
+fn expect_insert<R: Abort>(rt: &R, row: &NewRow) {
+    assert_eq!(rt; (row.server, row.measure), (2, -5));
+    let names = row.names.as_slice();
+    assert_eq!(rt; names.len(), 2);
+    assert_eq!(rt; names[0].as_slice(), b"berlin".as_slice());
+}
+
+/// Compares a query.
+fn expect_query<R: Abort>(rt: &R, question: &Question) {
+    let [NamePick::Any(names), NamePick::All] = question.filter.as_slice() else {
+        panic!(rt; "another filter");
+    };
+    let names = names.as_slice();
+    assert_eq!(rt; names.len(), 2);
+    assert_eq!(rt; names[1].as_slice(), b"fr".as_slice());
+}
+
+/// Compares the commands of a script.
+fn expect_commands<R: Abort>(rt: &R, commands: &[Command]) {
     let [
         Command::Insert(row),
         Command::Query(question),
         Command::Control(Call::Tree(shard)),
         Command::Control(Call::Barrier),
-    ] = script.commands.as_slice()
+    ] = commands
     else {
         panic!(rt; "other commands");
     };
     assert_eq!(rt; *shard, 4294967295);
-    assert_eq!(rt; row.server, 2);
-    assert_eq!(rt; row.measure, -5);
-    assert_eq!(rt; row.names.len(), 2);
-    assert_eq!(rt; row.names.as_slice()[0].as_slice(), b"berlin".as_slice());
-    let [NamePick::Any(names), NamePick::All] = question.filter.as_slice() else {
-        panic!(rt; "another filter");
-    };
-    assert_eq!(rt; names.len(), 2);
-    assert_eq!(rt; names.as_slice()[1].as_slice(), b"fr".as_slice());
+    expect_insert(rt, row);
+    expect_query(rt, question);
+}
+
+#[test]
+fn what_a_script_holds(rt: HostRuntime) -> Result<(), Fail> {
+    const TEXT: &[u8] =
+        b"volap,1\nuse,3,16,8,64\ndim,geo,2\nconcept,geo,de,*\ndim,day,1\nconcept,day,mon,*\ninsert,2,-5,berlin,mon\nquery,0,de|fr,*\ntree,4294967295\nbarrier\n";
+    let script = read_script(rt.alloc(), TEXT)?;
+    script_laws();
+    expect_head(&rt, &script);
+    expect_commands(&rt, script.commands.as_slice());
     Ok(())
 }

@@ -1,10 +1,9 @@
-use Rattle.std.proofs.Common.{◌≡◌, arith}
+use Rattle.std.proofs.Common.{◌≡◌}
 use Rattle.answer_text.specs.Told.{seen_of}
-use Rattle.answer_text.proofs.TellerFacts.{new_teller_law}
-use Rattle.answer_text.proofs.tests.first_phase.Goals as goal
+use Rattle.text_tests.proofs.answers.first_phase.Goals as goal
 
 pub phase-requires-clause-told : goal.phase-requires-clause-told
-phase-requires-clause-told c = new_teller_law _ _ _ c.in_ok-teller.teller c.in_ok-teller.ensures
+phase-requires-clause-told c = c.tellers_go_on.ensures.new _ _ _ c.in_ok-teller.teller c.in_ok-teller.ensures
 
 pub phase-requires-clause-refers : goal.phase-requires-clause-refers
 phase-requires-clause-refers c =
