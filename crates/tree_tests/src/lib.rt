@@ -2,9 +2,15 @@
 #![tactic(auto)]
 
 #[cfg(test)]
+mod aggregates;
+#[cfg(test)]
 mod blocks;
 #[cfg(test)]
 mod builds;
+#[cfg(test)]
+mod cells;
+#[cfg(test)]
+mod codec;
 #[cfg(test)]
 mod cuts;
 #[cfg(test)]
@@ -15,3 +21,13 @@ mod fixtures;
 mod gates;
 #[cfg(test)]
 mod hierarchies;
+#[cfg(test)]
+mod pages;
+#[cfg(test)]
+mod plans;
+#[cfg(test)]
+mod sizes;
+#[cfg(test)]
+mod stocks;
+#[cfg(test)]
+mod tables;

@@ -1,14 +1,11 @@
-use crate::Agg;
-use dim_hierarchy::{ConceptId, Coord, Row};
+//! What is tested of `measure_agg`.
+use dim_hierarchy::{Coord, Row};
+use measure_agg::Agg;
 
+/// A row with this measure.
 fn row(no: u64, measure: i64) -> Row {
-    Row {
-        no,
-        at: Coord {
-            at: [ConceptId::ALL; 8],
-        },
-        measure,
-    }
+    let at = Coord::default();
+    Row { no, at, measure }
 }
 
 #[test]
@@ -20,12 +17,12 @@ fn aggregates_rows(rt: HostRuntime) {
         (&ends, 2, -1, Some(i64::MIN), Some(i64::MAX)),
         (&three, 3, 3, Some(-7), Some(5)),
     ];
-    for (rows, count, sum, least, greatest) in cases {
-        let agg = Agg::of_rows(rows);
-        assert_eq!(rt; agg.count(), count);
-        assert_eq!(rt; agg.sum(), sum);
-        assert_eq!(rt; agg.least(), least);
-        assert_eq!(rt; agg.greatest(), greatest);
+    for (rows, count, sum, least, greatest) in &cases {
+        let agg = Agg::of_rows(*rows);
+        assert_eq!(rt; agg.count(), *count);
+        assert_eq!(rt; agg.sum(), *sum);
+        assert_eq!(rt; agg.least(), *least);
+        assert_eq!(rt; agg.greatest(), *greatest);
     }
 }
 

@@ -1,6 +1,7 @@
-use crate::{MapTable, Where};
+//! What is tested of `mapping_table`.
 use describing_set::{FewConcepts, Plane};
 use dim_hierarchy::ConceptId;
+use mapping_table::{MapTable, Where};
 use std::test::Fail;
 
 /// A plane in the first dimension with one concept on the left.

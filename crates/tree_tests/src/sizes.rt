@@ -1,4 +1,5 @@
-use crate::{cells_for, leaves_for, level_laws, levels_for, parts_fit, split_need};
+//! What is tested of `shard_plan`.
+use shard_plan::{cells_for, leaves_for, level_laws, levels_for, parts_fit, split_need};
 
 #[test]
 fn built_trees_have_so_many_blocks_and_levels(rt: HostRuntime) {
@@ -10,7 +11,7 @@ fn built_trees_have_so_many_blocks_and_levels(rt: HostRuntime) {
         (cells_for(3457), levels_for(3457), split_need(3457)),
         (161, 4, 171)
     );
-    let cases = [
+    const CASES: [(u64, u64, u32, u64); 7] = [
         (0, 1, 1, 5),
         (2, 1, 1, 5),
         (24, 1, 1, 5),
@@ -19,9 +20,8 @@ fn built_trees_have_so_many_blocks_and_levels(rt: HostRuntime) {
         (289, 16, 3, 24),
         (2000, 92, 3, 100),
     ];
-    for (n, cells, levels, need) in cases {
-        assert_eq!(rt; cells_for(n), cells);
-        assert_eq!(rt; levels_for(n), levels);
-        assert_eq!(rt; split_need(n), need);
+    for (n, cells, levels, need) in &CASES {
+        let told = (cells_for(*n), levels_for(*n), split_need(*n));
+        assert_eq!(rt; told, (*cells, *levels, *need));
     }
 }

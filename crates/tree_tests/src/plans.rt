@@ -1,10 +1,12 @@
+//! What is tested of `balancer`.
 ghost use Rattle.std.specs.Prelude.{◌^◌, ◌<◌, IsTrue};
 ghost use Rattle.balancer.specs.Turn.{rows_of_all};
 
-use crate::plan;
+use balancer::plan;
 use shard_plan::{Action, Load};
 use std::test::Fail;
 
+/// A shard on a worker, and its rows.
 fn load(shard: u32, worker: u8, rows: u64) -> Load {
     Load {
         shard,
@@ -13,15 +15,17 @@ fn load(shard: u32, worker: u8, rows: u64) -> Load {
     }
 }
 
+/// A shard is moved to a worker.
 fn moved(shard: u32, worker: u8) -> Action {
     Action::Move { shard, worker }
 }
 
+/// A shard is split.
 fn split(shard: u32) -> Action {
     Action::Split { shard }
 }
 
-// Whether the rows add up, as a plan asks.
+/// Whether the rows add up, as a plan asks.
 fn rows_add_up(loads: &[Load]) -> bool
     ensures { IsTrue result → rows_of_all loads.now < 2 ^ 63 }
 {
@@ -84,10 +88,10 @@ fn plans_and_their_loads(rt: HostRuntime) -> Result<(), Fail> {
         // A shard without rows isn't moved, and a split ends the plan.
         (&[load(0, 0, 0), load(1, 0, 70)], 2, 16, &[split(1)]),
     ];
-    for (loads, workers, n, actions) in cases {
+    for (loads, workers, n, actions) in &cases {
         assert!(rt; rows_add_up(loads));
-        let planned = plan(rt.alloc(), loads, workers, n)?;
-        assert_eq!(rt; planned.as_slice(), actions);
+        let planned = plan(rt.alloc(), loads, *workers, *n)?;
+        assert_eq!(rt; planned.as_slice(), *actions);
     }
     Ok(())
 }

@@ -1,7 +1,7 @@
 use Rattle.std.proofs.Common.{◌≡◌, [], ◌++◌, ◌∙◌, sym, subst}
 use Rattle.std.proofs.lemmas.List.{append-nil}
 use Rattle.cell_stock.specs.Stock.{StockValue, AreOut}
-use Rattle.cell_stock.proofs.tests.takes_and_gives.Goals as goal
+use Rattle.tree_tests.proofs.stocks.takes_and_gives.Goals as goal
 
 pub give-requires : goal.give-requires
 give-requires g c =

@@ -1,4 +1,5 @@
-use crate::{BlockCells, Blocks};
+//! What is tested of `block_cells`.
+use block_cells::{BlockCells, Blocks};
 use dc_node::Block;
 use std::test::Fail;
 

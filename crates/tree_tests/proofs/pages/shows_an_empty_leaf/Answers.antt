@@ -1,10 +1,9 @@
 use Rattle.std.proofs.Common.{◌≡◌, [], ◌∷◌, length, set, sym, ap, ◌∙◌, subst, arith}
 use Rattle.describing_set.specs.DescSet.{IsSetOf}
-use Rattle.dc_node.specs.declared.block.Block.{Block}
 use Rattle.tree_shape.specs.Trees.{leaf_without_rows}
 use Rattle.block_cells.specs.Blocks.{block_at, seen}
 use Rattle.tree_page.proofs.Openings.{opened-can_show}
-use Rattle.tree_page.proofs.tests.shows_an_empty_leaf.Goals as goal
+use Rattle.tree_tests.proofs.pages.shows_an_empty_leaf.Goals as goal
 
 pub tree_page-requires : goal.tree_page-requires
 tree_page-requires g c =

@@ -1,4 +1,4 @@
-use crate::tree_page;
+//! What is tested of `tree_page`.
 use block_cells::Blocks;
 use dc_node::Block;
 use describing_set::DescSet;
@@ -6,6 +6,7 @@ use dim_hierarchy::{Hierarchy, Name};
 use measure_agg::Agg;
 use shard_store::Gate;
 use std::test::Fail;
+use tree_page::tree_page;
 use tree_shape::opening_law;
 
 #[test]

@@ -1,4 +1,5 @@
-use crate::{Purse, Spare, Stock, laws};
+//! What is tested of `cell_stock`.
+use cell_stock::{Purse, Spare, Stock, laws};
 use std::test::Fail;
 
 #[test]
