@@ -1,4 +1,5 @@
-//! Tests of scripts and of what is told of them, by what the crates let out.
+//! Tests of scripts, of what is told of them, and of how their bytes come and go, by what the crates
+//! let out.
 #![tactic(auto)]
 
 #[cfg(test)]
@@ -6,4 +7,8 @@ mod answers;
 #[cfg(test)]
 mod fixtures;
 #[cfg(test)]
+mod generated;
+#[cfg(test)]
 mod scripts;
+#[cfg(test)]
+mod streams;

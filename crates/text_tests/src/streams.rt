@@ -1,10 +1,14 @@
+//! What is tested of `volap_io`.
 ghost use Rattle.std.specs.Prelude.{◌<◌, ◌≤◌, None, IfOk};
 
-use crate::*;
 use std::alloc::{AllocError, Global};
 use std::io;
 use std::io::{Read, Write};
 use std::test::Fail;
+use volap_io::{
+    Failed, Meet, MemSink, MemSource, Quiet, ReadEnd, Sink, Source, StdSink, StdSource, read_all,
+    write_all,
+};
 
 const TEXT: &[u8] = b"abcdef";
 
