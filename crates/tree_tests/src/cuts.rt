@@ -1,5 +1,5 @@
 //! What is tested of `hierarchy_split`.
-ghost use Rattle.std.specs.Prelude.{◌≡◌, length, All, IfOk, OnOk};
+ghost use Rattle.std.specs.Prelude.{◌≡◌, ◌≤◌, length, All, IfOk, OnOk};
 ghost use Rattle.describing_set.specs.DescSet.{IsDescSetOf};
 ghost use Rattle.hierarchy_split.specs.Flags.{AreHeadCuts};
 
@@ -234,6 +234,20 @@ fn a_set_at_level_0_leaves_no_cut(rt: HostRuntime) -> Result<(), Fail> {
     expect_order(&rt, alloc, &h, &KINDS, &[1, 0], Some((1, 2, 1)))
 }
 
+/// The good head cut of a group whose head and whose other blocks have items of these sets.
+fn best_of(h: &Hierarchy, head: &[DescSet], others: &[DescSet]) -> Option<HeadCut>
+    requires some { 2 ≤ length head.now }
+    requires few { length head.now ≤ 32 }
+    requires head { All (IsDescSetOf h.now) head.now }
+    requires others { All (IsDescSetOf h.now) others.now }
+{
+    let mut cuts = HeadCuts::of(head, h);
+    for set in others {
+        cuts.strike(h, set);
+    }
+    cuts.best(h)
+}
+
 /// The good head cut of a group whose head and whose other blocks have items of these kinds.
 fn head_cut_of(
     alloc: Global,
@@ -248,11 +262,7 @@ fn head_cut_of(
         return Err("not 2 to 32 items".into());
     }
     let others = sets_of(alloc, h, others)?;
-    let mut cuts = HeadCuts::of(&sets, h);
-    for set in &others {
-        cuts.strike(h, set);
-    }
-    Ok(cuts.best(h))
+    Ok(best_of(h, &sets, &others))
 }
 
 /// The dimension, the level, the name of the concept and the number of kept items of a head cut.

@@ -1,5 +1,5 @@
 use Rattle.hierarchy_split.specs.Flags.{AreHeadCuts}
-use Rattle.tree_tests.proofs.cuts.head_cut_of.Given as goal
+use Rattle.tree_tests.proofs.cuts.best_of.Given as goal
 
 abbrev pub invariant-loop-set : goal.invariant-loop-set
 invariant-loop-set l = AreHeadCuts l.h l.cuts
