@@ -16,6 +16,3 @@ pub use bad::BadLine;
 pub use line::{Line, Word, push_line};
 pub use pages::push_page;
 pub use text::{Teller, phase, told};
-
-#[cfg(test)]
-mod tests;

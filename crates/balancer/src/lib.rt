@@ -3,8 +3,6 @@
 
 mod balance;
 mod shards;
-#[cfg(test)]
-mod tests;
 mod workers;
 
 pub use balance::plan;

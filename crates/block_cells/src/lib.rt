@@ -3,8 +3,6 @@
 
 mod blocks;
 mod cells;
-#[cfg(test)]
-mod tests;
 
 pub use blocks::Blocks;
 pub use cells::BlockCells;

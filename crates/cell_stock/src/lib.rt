@@ -4,8 +4,6 @@
 
 mod purse;
 mod stock;
-#[cfg(test)]
-mod tests;
 
 pub use purse::{Purse, Spare};
 pub use stock::{Stock, laws};

@@ -8,8 +8,6 @@ mod columns;
 mod entry;
 mod leaf;
 mod summary;
-#[cfg(test)]
-mod tests;
 mod todo;
 
 pub use blanks::Blanks;

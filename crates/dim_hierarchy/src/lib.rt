@@ -12,8 +12,6 @@ mod items;
 mod marks;
 mod name_table;
 mod row;
-#[cfg(test)]
-mod tests;
 
 pub use column::{Column, RowPlaces};
 pub use compiled::CompiledFilter;

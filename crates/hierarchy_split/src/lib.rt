@@ -9,8 +9,6 @@ mod leasts;
 mod limits;
 mod order;
 mod overlap;
-#[cfg(test)]
-mod tests;
 
 pub use cut::{Cut, choose};
 pub use head::HeadCuts;

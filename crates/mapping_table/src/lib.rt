@@ -3,8 +3,6 @@
 
 mod map_table;
 mod place;
-#[cfg(test)]
-mod tests;
 
 pub use map_table::MapTable;
 pub use place::Where;

@@ -2,7 +2,5 @@
 #![tactic(auto)]
 
 mod agg;
-#[cfg(test)]
-mod tests;
 
 pub use agg::{Agg, laws};

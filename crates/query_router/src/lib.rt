@@ -4,8 +4,6 @@
 
 mod desk;
 mod part;
-#[cfg(test)]
-mod tests;
 
 pub use desk::Desk;
 pub use part::{Part, PartState, Verdict, Want};

@@ -14,6 +14,3 @@ mod script;
 pub use laws::script_laws;
 pub use reader::read_script;
 pub use script::{Cause, Command, Commands, NewRow, Question, Script, ScriptFault};
-
-#[cfg(test)]
-mod tests;

@@ -4,8 +4,6 @@
 mod builder;
 mod order;
 mod site;
-#[cfg(test)]
-mod tests;
 mod worked;
 
 pub use builder::{Built, build};

@@ -5,8 +5,6 @@ mod fault;
 mod field;
 mod laws;
 mod reading;
-#[cfg(test)]
-mod tests;
 mod writing;
 
 pub use fault::CodecFault;

@@ -3,8 +3,6 @@
 
 mod action;
 mod building;
-#[cfg(test)]
-mod tests;
 
 pub use action::{Action, Load};
 pub use building::{

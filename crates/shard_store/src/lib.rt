@@ -3,8 +3,6 @@
 
 mod gate;
 mod queue;
-#[cfg(test)]
-mod tests;
 
 pub use gate::{Gate, NotYet, Phase};
 pub use queue::{Queue, RowList};

@@ -4,7 +4,5 @@
 
 mod group;
 mod page;
-#[cfg(test)]
-mod tests;
 
 pub use page::tree_page;

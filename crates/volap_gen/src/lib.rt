@@ -6,7 +6,5 @@ mod concepts;
 mod names;
 mod rows;
 mod script;
-#[cfg(test)]
-mod tests;
 
 pub use script::generate;

@@ -16,6 +16,3 @@ pub use standard::{StdSink, StdSource};
 /// A read or a write failed.
 #[derive(Clone, Copy, Debug, PartialEq, Eq)]
 pub struct Failed;
-
-#[cfg(test)]
-mod tests;

@@ -1,5 +1,0 @@
-use Rattle.describing_set.specs.DescSet.{IsDescSetOf}
-use Rattle.hierarchy_split.proofs.tests.set_of.Given as goal
-
-abbrev pub invariant-loop-row : goal.invariant-loop-row
-invariant-loop-row l = IsDescSetOf l.h l.set

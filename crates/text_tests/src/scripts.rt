@@ -1,0 +1,252 @@
+//! What is tested of `script_form`.
+use crate::fixtures::text_of;
+use dim_hierarchy::NamePick;
+use row_ledger::{Call, Use};
+use script_form::{
+    Cause, Command, NewRow, Question, Script, ScriptFault, read_script, script_laws,
+};
+use std::alloc::{AllocError, Global};
+use std::process::Abort;
+use std::test::Fail;
+
+const BASE: &[u8] =
+    b"volap,1\ndim,geo,2\nconcept,geo,de,*\nconcept,geo,berlin,de\nconcept,geo,munich,de\n";
+
+/// The fault of a text, or how many commands it has.
+fn outcome(alloc: Global, text: &[u8]) -> Result<usize, ScriptFault> {
+    Ok(read_script(alloc, text)?.commands.len())
+}
+
+/// The outcome of a text of the base and then these lines.
+fn on_base(alloc: Global, lines: &[u8]) -> Result<Result<usize, ScriptFault>, AllocError> {
+    Ok(outcome(alloc, &text_of(alloc, BASE, lines)?))
+}
+
+/// The outcome of a text whose first bad record this is.
+fn bad(at: u64, cause: Cause) -> Result<usize, ScriptFault> {
+    Err(ScriptFault::Bad { at, cause })
+}
+
+/// A text or some lines, and the number of the first bad record and its first cause.
+type BadCase = (&'static [u8], u64, Cause);
+
+#[test]
+fn bad_texts(rt: HostRuntime) {
+    const CASES: [BadCase; 21] = [
+        (b"", 1, Cause::Version),
+        (b"\n\r\n", 1, Cause::Version),
+        (b"volap,2", 1, Cause::Version),
+        (b"volap", 1, Cause::Version),
+        (b"volap,1,", 1, Cause::Version),
+        (b"volap,01", 1, Cause::Version),
+        (b"dim,geo,2", 1, Cause::Version),
+        (b"\xEF\xBB\xBF\xEF\xBB\xBFvolap,1", 1, Cause::Version),
+        (b"volap,1\nbarrier", 2, Cause::Order),
+        (b"volap,1\ntree,0", 2, Cause::Order),
+        (b"volap,1\ninsert,0", 2, Cause::Order),
+        (b"volap,1\nuse,2,2,2", 2, Cause::Fields),
+        (b"volap,1\nuse,0,2,2,64", 2, Cause::Number),
+        (b"volap,1\nuse,17,2,2,64", 2, Cause::Number),
+        (b"volap,1\nuse,2,17,2,64", 2, Cause::Number),
+        (b"volap,1\nuse,2,2,9,64", 2, Cause::Number),
+        (b"volap,1\nuse,2,2,2,63", 2, Cause::Number),
+        (b"volap,1\nuse,2,2,2,65537", 2, Cause::Number),
+        (b"volap,1\nuse,1,1,1,64\nuse,1,1,1,64", 3, Cause::Order),
+        (
+            b"volap,1\nuse,1,1,1,64\ndim,a,1\nquery,1,*",
+            4,
+            Cause::Number,
+        ),
+        (
+            b"volap,1\ndim,a,1\ndim,b,1\ndim,c,1\ndim,d,1\ndim,e,1\ndim,f,1\ndim,g,1\ndim,h,1\ndim,a,1",
+            10,
+            Cause::DimFull,
+        ),
+    ];
+    for (text, at, cause) in &CASES {
+        assert_eq!(rt; outcome(rt.alloc(), text), bad(*at, *cause));
+    }
+}
+
+#[test]
+fn bad_records_behind_the_base(rt: HostRuntime) -> Result<(), Fail> {
+    const CASES: [BadCase; 62] = [
+        (b"insert,0,5", 6, Cause::Fields),
+        (b"insert,0,5,berlin,berlin", 6, Cause::Fields),
+        (b"insert,0,x", 6, Cause::Fields),
+        (b"query,0", 6, Cause::Fields),
+        (b"dim,geo", 6, Cause::Fields),
+        (b"barrier,", 6, Cause::Fields),
+        (b"tree", 6, Cause::Fields),
+        (b"tree,0,1", 6, Cause::Fields),
+        (b"insert,0,,berlin", 6, Cause::Number),
+        (b"insert,2,5,berlin", 6, Cause::Number),
+        (b"insert,,5,berlin", 6, Cause::Number),
+        (b"insert,0,+5,berlin", 6, Cause::Number),
+        (b"insert,0,--5,berlin", 6, Cause::Number),
+        (b"insert,0,-,*", 6, Cause::Number),
+        (b"insert,0, 5,berlin", 6, Cause::Number),
+        (b"insert,0,9223372036854775808,berlin", 6, Cause::Number),
+        (b"insert,0,-9223372036854775809,berlin", 6, Cause::Number),
+        (b"insert,000000000000000000000,5,berlin", 6, Cause::Number),
+        (b"insert,0,000000000000000000005,berlin", 6, Cause::Number),
+        (b"insert,0,-000000000000000000005,berlin", 6, Cause::Number),
+        (b"query,-0,de", 6, Cause::Number),
+        (b"query,99999999999999999999,de|", 6, Cause::Number),
+        (b"tree,x", 6, Cause::Number),
+        (b"tree,", 6, Cause::Number),
+        (b"tree,-1", 6, Cause::Number),
+        (b"tree,4294967296", 6, Cause::Number),
+        (b"tree,000000000000000000000", 6, Cause::Number),
+        (b"dim,x,0", 6, Cause::Number),
+        (b"dim,*,9", 6, Cause::Number),
+        (b"dim,*,2", 6, Cause::Name),
+        (b"dim,,2", 6, Cause::Name),
+        (b"insert,0,5,*", 6, Cause::Name),
+        (b"insert,0,5,\"\"", 6, Cause::Name),
+        (b"insert,0,5,berlin|munich", 6, Cause::Name),
+        (b"query,0,", 6, Cause::Name),
+        (b"query,0,berlin||de", 6, Cause::Name),
+        (b"query,0,|de", 6, Cause::Name),
+        (b"query,0,*|de", 6, Cause::Name),
+        (b"query,0,**|", 6, Cause::Name),
+        (
+            b"concept,geo,aaaaaaaaaaaaaaaaaaaaaaaaaaaaaaaaaaaaaaaaaaaaaaaaaaaaaaaaaaaaaaaaa,de",
+            6,
+            Cause::Name,
+        ),
+        (b"concept,date,rome,", 6, Cause::Name),
+        (b"dim,geo,8", 6, Cause::DimTwice),
+        (b"concept,date,berlin,rome", 6, Cause::NoDim),
+        (b"concept,geo,rome,it", 6, Cause::NoParent),
+        (b"concept,geo,berlin,rome", 6, Cause::NoParent),
+        (b"concept,geo,de,*", 6, Cause::ConceptTwice),
+        (b"concept,geo,munich,berlin", 6, Cause::ConceptTwice),
+        (b"concept,geo,mitte,berlin", 6, Cause::TooDeep),
+        (
+            b"\"concept\",\"geo\",\"mitte\",\"berlin\"\r\n",
+            6,
+            Cause::TooDeep,
+        ),
+        (
+            b"dim,day,1\nconcept,day,mon,*\nconcept,day,noon,mon",
+            8,
+            Cause::TooDeep,
+        ),
+        (b"volap,1", 6, Cause::Order),
+        (b"use,1,1,1,64", 6, Cause::Order),
+        (b"barrier\ndim,x", 7, Cause::Order),
+        (b"tree,0\ndim,x,1", 7, Cause::Order),
+        (b"tree,0\nconcept,geo,rome,de", 7, Cause::Order),
+        (
+            b"insert,0,5,berlin\n\n\nconcept,geo,rome,de\n",
+            7,
+            Cause::Order,
+        ),
+        (b"dim,x,1\ninsert,0,5,berlin", 7, Cause::Fields),
+        (b"settle", 6, Cause::Kind),
+        (b"trees,0", 6, Cause::Kind),
+        (b"Insert,0,5,berlin", 6, Cause::Kind),
+        (b"\"\"", 6, Cause::Kind),
+        (b"query,0,de\nbarrier\nquery,0,de|\n", 8, Cause::Name),
+    ];
+    for (lines, at, cause) in &CASES {
+        assert_eq!(rt; on_base(rt.alloc(), lines)?, bad(*at, *cause));
+    }
+    Ok(())
+}
+
+#[test]
+fn good_texts(rt: HostRuntime) -> Result<(), Fail> {
+    const CASES: [(&[u8], usize); 10] = [
+        (b"", 0),
+        (b"insert,0,5,\"berlin\"\r\nquery,1,de|berlin\r\nbarrier", 3),
+        (
+            b"insert,00000000000000000001,-9223372036854775808,berlin",
+            1,
+        ),
+        (b"insert,0,9223372036854775807,nowhere\n\nquery,0,*\n", 2),
+        (b"insert,0,-0,\xFF\xFE", 1),
+        (
+            b"concept,geo,aaaaaaaaaaaaaaaaaaaaaaaaaaaaaaaaaaaaaaaaaaaaaaaaaaaaaaaaaaaaaaaa,de",
+            0,
+        ),
+        (
+            b"concept,geo,\"rome, \"\"old\"\"\",de\ninsert,0,1,\"rome, \"\"old\"\"\"",
+            1,
+        ),
+        (
+            b"dim,day,1\nconcept,day,mon,*\ninsert,0,7,berlin,mon\nquery,0,*,mon",
+            2,
+        ),
+        (b"tree,4294967295", 1),
+        (
+            b"tree,0\ninsert,0,5,berlin\ntree,00000000000000000001\nbarrier",
+            4,
+        ),
+    ];
+    for (lines, commands) in &CASES {
+        assert_eq!(rt; on_base(rt.alloc(), lines)?, Ok(*commands));
+    }
+    let marked = outcome(rt.alloc(), b"\xEF\xBB\xBFvolap,1\r\n\r\n");
+    assert_eq!(rt; marked, Ok(0));
+    Ok(())
+}
+
+/// Compares the settings and the hierarchy of a script.
+fn expect_head<R: Abort>(rt: &R, script: &Script) {
+    let with = Use {
+        servers: 3,
+        workers: 16,
+        threads: 8,
+        cells: 64,
+    };
+    assert_eq!(rt; script.with, with);
+    assert_eq!(rt; script.hierarchy.dims(), 2);
+    assert_eq!(rt; script.hierarchy.concepts(), 2);
+}
+
+/// Compares an insert.
+fn expect_insert<R: Abort>(rt: &R, row: &NewRow) {
+    assert_eq!(rt; (row.server, row.measure), (2, -5));
+    let names = row.names.as_slice();
+    assert_eq!(rt; names.len(), 2);
+    assert_eq!(rt; names[0].as_slice(), b"berlin".as_slice());
+}
+
+/// Compares a query.
+fn expect_query<R: Abort>(rt: &R, question: &Question) {
+    let [NamePick::Any(names), NamePick::All] = question.filter.as_slice() else {
+        panic!(rt; "another filter");
+    };
+    let names = names.as_slice();
+    assert_eq!(rt; names.len(), 2);
+    assert_eq!(rt; names[1].as_slice(), b"fr".as_slice());
+}
+
+/// Compares the commands of a script.
+fn expect_commands<R: Abort>(rt: &R, commands: &[Command]) {
+    let [
+        Command::Insert(row),
+        Command::Query(question),
+        Command::Control(Call::Tree(shard)),
+        Command::Control(Call::Barrier),
+    ] = commands
+    else {
+        panic!(rt; "other commands");
+    };
+    assert_eq!(rt; *shard, 4294967295);
+    expect_insert(rt, row);
+    expect_query(rt, question);
+}
+
+#[test]
+fn what_a_script_holds(rt: HostRuntime) -> Result<(), Fail> {
+    const TEXT: &[u8] =
+        b"volap,1\nuse,3,16,8,64\ndim,geo,2\nconcept,geo,de,*\ndim,day,1\nconcept,day,mon,*\ninsert,2,-5,berlin,mon\nquery,0,de|fr,*\ntree,4294967295\nbarrier\n";
+    let script = read_script(rt.alloc(), TEXT)?;
+    script_laws();
+    expect_head(&rt, &script);
+    expect_commands(&rt, script.commands.as_slice());
+    Ok(())
+}
