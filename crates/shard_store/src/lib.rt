@@ -7,4 +7,4 @@ mod queue;
 mod tests;
 
 pub use gate::{Gate, NotYet, Phase};
-pub use queue::{Queue, RowList};
+pub use queue::{CellList, Queue, RowList};
