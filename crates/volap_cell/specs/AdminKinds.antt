@@ -139,11 +139,13 @@ pub record CollectsBlock (c : Change) (a b : ActorValue) : Type 0 where
   pub here : item.cell ≡ c.number
   pub block : Block
   pub reads : IsRead block c
-  pub actor_is : b ≡ record a { job = at_stage job (Collects (record collecting {
-    items = items ++ entry_items block.body ++ noted_right block item.stamp;
-    read = collecting.read ++ item.cell ∷ [];
-    rows = collecting.rows ++ rows_in block.body;
-  })) }
+  pub actor_is : b ≡ record a {
+    job = at_stage job (Collects (record collecting {
+      items = items ++ entry_items block.body ++ noted_right block item.stamp;
+      read = collecting.read ++ item.cell ∷ [];
+      rows = collecting.rows ++ rows_in block.body;
+    }));
+  }
 
 -- the queue as it was when the shard was frozen
 abbrev pub IsUpTo : Gate → ℕ → Type 0

@@ -363,12 +363,17 @@ pub record CountsSession (d : Change) (a b : ActorValue) : Type 0 where
   pub actor_is : b ≡ record a { counted = b.counted }
 
 -- with the ledger alone, or for a count the desk alone
-abbrev pub DoesNote : Change → ActorValue → ActorValue → Type 0
-DoesNote c a b =
-    NotesUnknown c a b ⊎ NotesRefused c a b ⊎ ((registry : RegistryValue) × NotesCalled registry false c a b) ⊎ NotesLeft c a b
-    ⊎ ((page : Page) × NotesShown page c a b) ⊎ NotesEnded c a b ⊎ CountsSession c a b
+pub data DoesNote (c : Change) (a b : ActorValue) : Type 0 where
+  OfUnknown : NotesUnknown c a b → DoesNote c a b
+  OfRefused : NotesRefused c a b → DoesNote c a b
+  OfCalled : (registry : RegistryValue) → NotesCalled registry false c a b → DoesNote c a b
+  OfLeft : NotesLeft c a b → DoesNote c a b
+  OfShown : (page : Page) → NotesShown page c a b → DoesNote c a b
+  OfEnded : NotesEnded c a b → DoesNote c a b
+  OfCount : CountsSession c a b → DoesNote c a b
 
 -- with one cell besides: the registry, the image, or the desk
-abbrev pub DoesNoteWith : Change → Change → ActorValue → ActorValue → Type 0
-DoesNoteWith c l a b =
-    ((registry : RegistryValue) × IsAsked registry c × NotesCalled registry true l a b) ⊎ FailsUnrouted c l a b ⊎ FailsQuery c l a b
+pub data DoesNoteWith (c l : Change) (a b : ActorValue) : Type 0 where
+  OfCalledAsking : (registry : RegistryValue) → IsAsked registry c → NotesCalled registry true l a b → DoesNoteWith c l a b
+  OfUnrouted : FailsUnrouted c l a b → DoesNoteWith c l a b
+  OfQuery : FailsQuery c l a b → DoesNoteWith c l a b

@@ -26,3 +26,7 @@ pub mod Desking
 pub mod Querying
 pub mod Working
 pub mod Invariant
+pub mod Falls
+pub mod Opening
+pub mod Sights
+pub mod Steps

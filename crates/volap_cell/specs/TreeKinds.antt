@@ -123,12 +123,14 @@ pub record DoesGateRead (h : List Dimension) (m g : Change) (a b : ActorValue) :
   pub leads : Leads m e.worker e.shard (where_is.Gate g.number)
   pub gate : Gate
   pub pinned : TurnsGate gate (record gate { pins = gate.pins + one_if_some (root_items h filter gate) }) g
-  pub actor_is : b ≡ record a { errand = with_reading e (record {
-    wanted = compiled h filter;
-    agg = join (queue_part h filter gate.queue) (tree_part h filter gate);
-    items = root_items h filter gate;
-    pin = pin_if g.number (root_items h filter gate);
-  }) }
+  pub actor_is : b ≡ record a {
+    errand = with_reading e (record {
+      wanted = compiled h filter;
+      agg = join (queue_part h filter gate.queue) (tree_part h filter gate);
+      items = root_items h filter gate;
+      pin = pin_if g.number (root_items h filter gate);
+    });
+  }
 
 -- the block that was noted last is visited; it stays as it is
 pub record DoesBlockVisit (h : List Dimension) (c : Change) (a b : ActorValue) : Type 0 where
@@ -142,10 +144,12 @@ pub record DoesBlockVisit (h : List Dimension) (c : Change) (a b : ActorValue) :
   pub here : item.cell ≡ c.number
   pub block : Block
   pub read : IsRead block c
-  pub actor_is : b ≡ record a { errand = with_reading e (record r {
-    agg = join r.agg (block_part h r.wanted.picks block.body);
-    items = items ++ noted_in h r.wanted.picks block.body ++ noted_right block item.stamp;
-  }) }
+  pub actor_is : b ≡ record a {
+    errand = with_reading e (record r {
+      agg = join r.agg (block_part h r.wanted.picks block.body);
+      items = items ++ noted_in h r.wanted.picks block.body ++ noted_right block item.stamp;
+    });
+  }
 
 -- Rows.
 

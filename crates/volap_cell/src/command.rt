@@ -13,23 +13,44 @@ pub struct Command {
 #[derive(Drop)]
 pub enum Work {
     /// Its row, and whether a part for it was put on the desk.
-    Insert { row: Row, routed: bool },
+    Insert {
+        row: Row,
+        routed: bool,
+    },
     Query,
     /// Whether the server has pulled.
-    Sync { server: u8, pulled: bool },
+    Sync {
+        server: u8,
+        pulled: bool,
+    },
     Barrier,
     /// How many pulls were made, of two for each server.
-    Settle { pulls: u16 },
+    Settle {
+        pulls: u16,
+    },
     /// A split or a move is at work as long as its actor has a job; without one its shard, or the worker
     /// that it was to go to, didn't stand when it began.
-    Split { shard: u32 },
-    Move { shard: u32, worker: u8 },
+    Split {
+        shard: u32,
+    },
+    Move {
+        shard: u32,
+        worker: u8,
+    },
     Balance(Balance),
     /// Whether the page was shown.
-    Shards { shown: bool },
+    Shards {
+        shown: bool,
+    },
     /// Whether the shard stood when the command began, and whether the page was shown.
-    Tree { shard: u32, stands: bool, shown: bool },
-    Audit { shown: bool },
+    Tree {
+        shard: u32,
+        stands: bool,
+        shown: bool,
+    },
+    Audit {
+        shown: bool,
+    },
 }
 
 /// How far a balance has come.
