@@ -1,0 +1,4 @@
+pub mod Standings
+pub mod Beginnings
+pub mod Knowing
+pub mod Promised

@@ -67,12 +67,15 @@ RowsLaw = (s : Setting) (w : World) → Inv s w → (t : Standing s (view s w))
     → ((i : Insert) × (insert_at (view s w).history r ≡ Some i)) × IsTrue (is_kept (view s w).history r) × IsInOne s (view s w) t r x)
     × ((k : Ack) → Contains (acked (view s w).history) k → (x : ℕ) × IsInOne s (view s w) t k.row.no x)
 
--- Each row that a server must know is in a shard that comes from one that its image lists, with a box that covers the row.
+-- an acknowledged row is in a shard that comes from one that the server's image lists, with a box that covers the row
+abbrev pub IsCoveredBy : (s : Setting) (v : View) → Standing s v → ℕ → Ack → Type 0
+IsCoveredBy s v t server k =
+    (x : ℕ) × IsInOne s v t k.row.no x
+    × Any (λ (spot : Spot). IsTrue (comes_from v.history spot.shard x) × (covers s.hierarchy spot.set k.row.at ≡ true)) (v.images server).spots
+
+-- So is each row that a server must know.
 abbrev pub ImageLaw : Type 0
-ImageLaw = (s : Setting) (w : World) → Inv s w → (t : Standing s (view s w)) × ((server : ℕ) → server < s.servers
-    → All (λ (k : Ack). (x : ℕ) × IsInOne s (view s w) t k.row.no x
-    × Any (λ (spot : Spot). IsTrue (comes_from (view s w).history spot.shard x) × (covers s.hierarchy spot.set k.row.at ≡ true)) ((view s w).images server).spots)
-    (known s.hierarchy (view s w).history server))
+ImageLaw = (s : Setting) (w : World) → Inv s w → (t : Standing s (view s w)) × ((server : ℕ) → server < s.servers → All (IsCoveredBy s (view s w) t server) (known s.hierarchy (view s w).history server))
 
 -- What the parts of an open query have counted: a list for each part's shard. No row stands in two of them or twice in one, each is
 -- begun, doesn't fail, and is one that the filter matches; and each that the query must hold is counted, or a part that isn't at its
