@@ -1,23 +1,32 @@
 -- The promises of the invariant: the one place of each row, and what images and queries have.
-use Rattle.std.proofs.Common.{◌≡◌, ◌≢◌, ℕ, ◌<◌, ◌≤◌, List, [], ◌∷◌, Bool, true, false, cond, eqb, get_or, refl, sym, ap, subst, arith, ◌∙◌, ◌⊎◌, inl, inr}
+use Rattle.std.proofs.Common.{◌≡◌, ◌≢◌, ℕ, zero, suc, ◌<◌, ◌≤◌, List, [], ◌∷◌, Bool, true, false, cond, eqb, get_or, refl, sym, ap, subst, arith, ◌∙◌, ◌⊎◌, inl, inr}
 use Rattle.std.specs.Prelude.{Option, Some, None, Contains, IsTrue, All, Any}
 use Rattle.std.proofs.lemmas.Bool.{false≢true}
-use Rattle.std.proofs.lemmas.List.Elements.{All-contains, All-contains_itself}
+use Rattle.std.proofs.lemmas.List.Elements.{All-contains, All-contains_itself, Contains-append_cases}
+use Rattle.row_ledger.proofs.Descent.{comes_from-comparable, live-made}
+use Rattle.tree_shape.specs.Counts.{times}
+use Rattle.tree_shape.specs.Queries.{fits}
+use Rattle.row_ledger.proofs.Elements.{Contains-nil}
 use Rattle.describing_set.specs.DescSet.{covers}
 use Rattle.describing_set.specs.declared.listing.Spot.{Spot}
 use Rattle.row_ledger.specs.Bounds.{known}
 use Rattle.dim_hierarchy.specs.declared.row.Row.{Row}
+use Rattle.query_router.specs.Desk.{is_open, is_refused}
 use Rattle.query_router.specs.declared.part.Part.{Part}
-use Rattle.row_ledger.specs.Past.{Ack, Insert, acked, insert_at, is_kept}
+use Rattle.query_router.specs.declared.part.PartState.{PartState}
+use Rattle.query_router.specs.declared.part.PartState.TheVariants as state_is
+use Rattle.row_ledger.specs.Past.{Ack, Insert, Query, acked, insert_at, is_kept, query_at}
 use Rattle.row_ledger.specs.Shards.{comes_from, is_live}
 use Rattle.row_ledger.specs.declared.event.Event.{Event}
-use Rattle.volap_cell.specs.Desking.{is_on_desk}
+use Rattle.volap_cell.specs.Desking.{is_on_desk, AreLinesApart, AreUnrelated, IsQueryState}
 use Rattle.volap_cell.specs.Ghost.{Ghost}
+use Rattle.volap_cell.specs.Growing.{IsUnder, table_of}
 use Rattle.volap_cell.specs.ImageKinds.{doing}
 use Rattle.volap_cell.specs.Imaging.{IsCovered}
 use Rattle.volap_cell.specs.Invariant.{InvWith}
-use Rattle.volap_cell.specs.Promises.{IsCoveredBy, IsOnDesk, IsUnrouted, IsInOne, times_in, PlaceLaw, RowsLaw, ImageLaw}
-use Rattle.volap_cell.specs.Setting.{Setting}
+use Rattle.volap_cell.specs.Promises.{IsCoveredBy, IsOnDesk, IsUnrouted, IsInOne, times_in, HasCounted, PlaceLaw, RowsLaw, ImageLaw, QueryLaw}
+use Rattle.volap_cell.specs.Querying.{IsCounted, IsEndOfPart, must_hold}
+use Rattle.volap_cell.specs.Setting.{Setting, site_in}
 use Rattle.volap_cell.specs.Steps.{Inv}
 use Rattle.volap_cell.specs.Telling.{IsProgress}
 use Rattle.volap_cell.specs.Values.{JobValue}
@@ -123,3 +132,69 @@ pub image-law : ImageLaw
 image-law s w inv =
     let v = view s w in let g = inv.ghost_of in let i = inv.holds in
     (standing s v g i, λ server within n d lt. covered s w g i server within (get_or (known s.hierarchy v.history server) n d) (All-contains_itself (known s.hierarchy v.history server) n d lt))
+
+-- Queries.
+
+-- the parts of a query with one shard are one, as a shard comes from itself
+apart-at : (h : List Event) (parts : List Part) (p other : Part) → AreLinesApart h parts → Contains parts p → Contains parts other → (p.shard ≡ other.shard) ⊎ AreUnrelated h p other
+apart-at h [] p other apart c d = absurd (Contains-nil p c)
+apart-at h (x ∷ parts) p other apart c d = elim (Contains-append_cases (x ∷ []) parts p c) [
+  | inl first ↦ elim (Contains-append_cases (x ∷ []) parts other d) [
+    | inl also ↦ inl (ap (λ (q : Part). q.shard) (sym (only-one x p first) ∙ only-one x other also))
+    | inr later ↦ inr (subst (λ (q : Part). AreUnrelated h q other) (only-one x p first) (All-contains (AreUnrelated h x) parts other apart.0 later))
+  ]
+  | inr later ↦ elim (Contains-append_cases (x ∷ []) parts other d) [
+    | inl first ↦ (let u = All-contains (AreUnrelated h x) parts p apart.0 later in inr (subst (λ (q : Part). AreUnrelated h p q) (only-one x other first) (u.1, u.0)))
+    | inr also ↦ apart-at h parts p other apart.1 later also
+  ]
+]
+  where
+    only-one : (x p : Part) → Contains (x ∷ []) p → x ≡ p
+    only-one x p (zero, lt, is) = is
+    only-one x p (suc n, lt, is) = absurd (omega arith)
+
+-- what a part, by its state, gives of a row that is under its shard and that the query must hold
+by-state : (s : Setting) (w : World) (g : Ghost) (i : InvWith s (view s w) g) (of r : ℕ) (q : Query) (p : Part) (counted : List ℕ) → IsUnder (view s w).history g.placed g.home p.shard r
+    → must_hold s.hierarchy (view s w).history of q r ≡ true → fits (table_of s (view s w).row) q.filter r ≡ true
+    → (state : PartState) → p.state ≡ state → IsQueryState q state → IsEndOfPart s (view s w).history (view s w).row g.placed g.home of q p.shard counted state
+    → (1 ≤ times r counted) ⊎ (((is_open p ≡ true) ⊎ (is_refused p ≡ true)) × ((x : ℕ) × IsInOne s (view s w) (standing s (view s w) g i) r x × IsTrue (comes_from (view s w).history p.shard x)))
+by-state s w g i of r q p counted under must fit (state_is.Waiting wanted) is valid end = inr (inl (rw is refl), (g.home r, in-one s (view s w) g i r under.is_placed, under.comes))
+by-state s w g i of r q p counted under must fit state_is.Taken is valid end = inr (inl (rw is refl), (g.home r, in-one s (view s w) g i r under.is_placed, under.comes))
+by-state s w g i of r q p counted under must fit (state_is.Done total) is valid end = elim (end.1 r must fit under) [ inl has ↦ inl has | inr never ↦ absurd never ]
+by-state s w g i of r q p counted under must fit (state_is.Placed path) is valid end = absurd valid
+by-state s w g i of r q p counted under must fit state_is.NoMemory is valid end = inr (inr (rw is refl), (g.home r, in-one s (view s w) g i r under.is_placed, under.comes))
+
+has-counted : (s : Setting) (w : World) (g : Ghost) (i : InvWith s (view s w) g) (server of : ℕ) (q : Query) → server < s.servers → ((view s w).desks server).op ≡ Some of
+    → query_at (view s w).history of ≡ Some q → HasCounted s (view s w) (standing s (view s w) g i) of server q
+has-counted s w g i server of q within op asked =
+    let v = view s w in
+    let parts = (v.desks server).parts in
+    let counts = i.querying.counts server of q within op asked in
+    let ends = i.querying.ends server of q within op asked in
+    let desk = i.desking.query server of q within op asked in
+    let one-part = All-contains (λ (p : Part). is_refused p ≡ false → IsCounted s v.history v.row g.placed g.home q p.shard (g.counted server p.shard)) parts in
+    record {
+      counted = g.counted server;
+      once = λ r n d lt well. (counts n d lt well).once r;
+      apart = λ r p other c d well well-other some some-other.
+          (let under = (one-part p counts c well).under r some in
+          let under-other = (one-part other counts d well-other).under r some-other in
+          let made = live-made (site_in s) _ v.history (g.home r) i.telling.right.right.each (i.placing.stands r under.is_placed) in
+          elim (apart-at v.history parts p other desk.1 c d) [
+            | inl same ↦ same
+            | inr u ↦ elim (comes_from-comparable (site_in s) _ v.history p.shard other.shard (g.home r) i.telling.right.right.each made under.comes under-other.comes) [
+              | inl below ↦ absurd (false≢true (sym u.0 ∙ below))
+              | inr below ↦ absurd (false≢true (sym u.1 ∙ below))
+            ]
+          ]);
+      usable = λ r p c well some. (let a = one-part p counts c well in
+          (i.telling.right.kept r (a.under r some).is_placed, a.fitting r some, (g.home r, in-one s v g i r (a.under r some).is_placed)));
+      whole = λ r must fit. (let found = i.querying.whole server of q within op asked r must fit in
+          let p = found.1 in
+          let end = All-contains (λ (p : Part). IsEndOfPart s v.history v.row g.placed g.home of q p.shard (g.counted server p.shard) p.state) parts p ends (found.0, found.2, found.3) in
+          let valid = All-contains (λ (p : Part). IsQueryState q p.state) parts p desk.0 (found.0, found.2, found.3) in
+          (found.0, p, found.2, found.3, by-state s w g i of r q p (g.counted server p.shard) found.4 must fit p.state refl valid end));
+    }
+
+pub query-law : QueryLaw
+query-law s w inv = (standing s (view s w) inv.ghost_of inv.holds, λ server of q within op asked. has-counted s w inv.ghost_of inv.holds server of q within op asked)
