@@ -1,7 +1,7 @@
 -- The promises of the invariant: the one place of each row, and what images and queries have.
 use Rattle.std.proofs.Common.{◌≡◌, ◌≢◌, ℕ, zero, suc, ◌<◌, ◌≤◌, List, [], ◌∷◌, Bool, true, false, cond, eqb, get_or, refl, sym, ap, subst, arith, ◌∙◌, ◌⊎◌, inl, inr}
 use Rattle.std.specs.Prelude.{Option, Some, None, Contains, IsTrue, All, Any}
-use Rattle.std.proofs.lemmas.Bool.{false≢true}
+use Rattle.std.proofs.lemmas.Bool.{cases_lt, eq-eqb, false≢true}
 use Rattle.std.proofs.lemmas.List.Elements.{All-contains, All-contains_itself, Contains-append_cases}
 use Rattle.row_ledger.proofs.Descent.{comes_from-comparable, live-made}
 use Rattle.tree_shape.specs.Counts.{times}
@@ -11,25 +11,28 @@ use Rattle.describing_set.specs.DescSet.{covers}
 use Rattle.describing_set.specs.declared.listing.Spot.{Spot}
 use Rattle.row_ledger.specs.Bounds.{known}
 use Rattle.dim_hierarchy.specs.declared.row.Row.{Row}
-use Rattle.query_router.specs.Desk.{is_open, is_refused}
+use Rattle.query_router.specs.Desk.{is_refused, is_taken}
 use Rattle.query_router.specs.declared.part.Part.{Part}
 use Rattle.query_router.specs.declared.part.PartState.{PartState}
 use Rattle.query_router.specs.declared.part.PartState.TheVariants as state_is
 use Rattle.row_ledger.specs.Past.{Ack, Insert, Query, acked, insert_at, is_kept, query_at}
 use Rattle.row_ledger.specs.Shards.{comes_from, is_live}
 use Rattle.row_ledger.specs.declared.event.Event.{Event}
-use Rattle.volap_cell.specs.Desking.{is_on_desk, AreLinesApart, AreUnrelated, IsQueryState}
+use Rattle.volap_cell.specs.Desking.{is_on_desk, AreLinesApart, AreUnrelated, IsQueryState, IsTaken}
+use Rattle.volap_cell.specs.Errands.{ReadPart, Taken, read_in_task, read_of, taken_by, taken_of}
 use Rattle.volap_cell.specs.Ghost.{Ghost}
 use Rattle.volap_cell.specs.Growing.{IsUnder, table_of}
 use Rattle.volap_cell.specs.ImageKinds.{doing}
 use Rattle.volap_cell.specs.Imaging.{IsCovered}
 use Rattle.volap_cell.specs.Invariant.{InvWith}
-use Rattle.volap_cell.specs.Promises.{IsCoveredBy, IsOnDesk, IsUnrouted, IsInOne, times_in, HasCounted, PlaceLaw, RowsLaw, ImageLaw, QueryLaw}
-use Rattle.volap_cell.specs.Querying.{IsCounted, IsEndOfPart, must_hold}
-use Rattle.volap_cell.specs.Setting.{Setting, site_in}
+use Rattle.volap_cell.specs.Promises.{HasNotRead, IsAheadOf, IsBeneath, IsCoveredBy, IsOnDesk, IsUnrouted, IsInOne, times_in, HasCounted, PlaceLaw, RowsLaw, ImageLaw, QueryLaw}
+use Rattle.volap_cell.specs.Querying.{IsCounted, IsEndOfPart, IsInTreeOf, IsReading, IsWalk, must_hold, pins_of}
+use Rattle.volap_cell.specs.Setting.{Setting, actor_count, site_in}
 use Rattle.volap_cell.specs.Steps.{Inv}
+use Rattle.volap_cell.specs.Stocking.{IsWhole}
+use Rattle.volap_cell.specs.Sums.{sum_below}
 use Rattle.volap_cell.specs.Telling.{IsProgress}
-use Rattle.volap_cell.specs.Values.{JobValue}
+use Rattle.volap_cell.specs.Values.{ErrandValue, JobValue, TaskValue, OfRow, Unread, Read}
 use Rattle.volap_cell.specs.View.{View, row_at, view}
 use Rattle.volap_cell.specs.World.{World}
 use Rattle.volap_cell.specs.declared.command.Command.{Command}
@@ -86,6 +89,9 @@ place-law s w inv =
 
 -- The rows of the shards that stand.
 
+eqb-cases : (x y : ℕ) → (x ≡ y) ⊎ (x ≢ y)
+eqb-cases x y = on_bool (eqb x y) (λ q. inl (eqb-eq x y q)) (λ q. inr (eqb-ne x y q))
+
 -- a row that a shard has has passed a gate
 is-placed : (s : Setting) (v : View) (g : Ghost) (i : InvWith s v g) (x r : ℕ) → is_live s.workers v.history x ≡ true → 1 ≤ times_in v (standing s v g i).gate (standing s v g i).shape x r → g.placed r ≡ true
 is-placed s v g i x r live some = on_bool (g.placed r) (λ placed. placed)
@@ -100,9 +106,6 @@ same-shard s v g i x r live some =
       | inl same ↦ subst (λ y. IsInOne s v (standing s v g i) r y) (sym same) one
       | inr other ↦ let none = one.others x live other in absurd (omega arith)
     ]
-  where
-    eqb-cases : (x y : ℕ) → (x ≡ y) ⊎ (x ≢ y)
-    eqb-cases x y = on_bool (eqb x y) (λ q. inl (eqb-eq x y q)) (λ q. inr (eqb-ne x y q))
 
 pub rows-law : RowsLaw
 rows-law s w inv =
@@ -153,16 +156,107 @@ apart-at h (x ∷ parts) p other apart c d = elim (Contains-append_cases (x ∷ 
     only-one x p (zero, lt, is) = is
     only-one x p (suc n, lt, is) = absurd (omega arith)
 
+-- one summand is no more than the sum
+one-of : (n a : ℕ) (f : ℕ → ℕ) → a < n → f a ≤ sum_below n f
+one-of zero a f lt = absurd (omega arith)
+one-of (suc n) a f lt = elim (eqb-cases a n) [
+  | inl same ↦ (let e : f a ≡ f n = ap f same in omega arith)
+  | inr other ↦ (let lower : a < n = omega arith in let ih = one-of n a f lower in omega arith)
+]
+
+-- who has read something has taken a part
+reads-taken : (errand : Option ErrandValue) (p : ReadPart) → read_of errand ≡ Some p → taken_of errand ≡ None → ⊥
+reads-taken None p is none = cc
+reads-taken (Some e) p is none = cc
+
+-- a gate to which an actor's part is pinned has a whole tree
+pinned-whole : (s : Setting) (w : World) (g : Ghost) → InvWith s (view s w) g → (a c : ℕ) (p : ReadPart) → (view s w).reads a ≡ Some p → p.reading.pin ≡ Some c
+    → IsWhole (view s w).gates (view s w).phases (view s w).pins c
+pinned-whole s w g i a c p reads pin =
+    let v = view s w in
+    let gate = i.pinning.shard a c p reads pin in
+    let within : a < actor_count s = elim (cases_lt a (actor_count s)) [
+      | inl lt ↦ lt
+      | inr beyond ↦ absurd (reads-taken (w.actors a).errand p reads (i.numbering.nobody a beyond).3)
+    ] in
+    let one : pins_of c (v.reads a) ≡ 1 = rw reads (rw pin (rw (eq-eqb c c refl) refl)) in
+    let sum = one-of (actor_count s) a (λ a. pins_of c (v.reads a)) within in
+    let all = i.pinning.counts c in
+    (rw gate refl, inr (omega arith))
+
+-- a row that a part which has read its gate must hold is counted, or beneath what is noted
+by-reading : (s : Setting) (w : World) (g : Ghost) (i : InvWith s (view s w) g) (server shard of r : ℕ) (q : Query) (a : ℕ) (p : ReadPart) → (view s w).reads a ≡ Some p → p.server ≡ server → p.shard ≡ shard
+    → IsUnder (view s w).history g.placed g.home shard r → must_hold s.hierarchy (view s w).history of q r ≡ true → fits (table_of s (view s w).row) q.filter r ≡ true
+    → IsReading s (view s w).history (view s w).row (view s w).blocks (view s w).trees g.shape g.placed g.home of q shard (g.counted server shard) p.reading
+    → (1 ≤ times r (g.counted server shard)) ⊎ IsBeneath s (view s w) server shard r
+by-reading s w g i server shard of r q a p reads same_server same_shard under must fit reading =
+    at p.reading.pin refl reading.walk (reading.holds r must fit under)
+  where
+    at : (pin : Option ℕ) → p.reading.pin ≡ pin → IsWalk s (view s w).history (view s w).row (view s w).blocks (view s w).trees g.shape of q (g.counted server shard) p.reading pin
+        → (1 ≤ times r (g.counted server shard)) ⊎ IsInTreeOf g.shape pin r → (1 ≤ times r (g.counted server shard)) ⊎ IsBeneath s (view s w) server shard r
+    at None is walk holds = elim holds [ inl has ↦ inl has | inr never ↦ absurd never ]
+    at (Some c) is walk holds = elim holds [
+      | inl has ↦ inl has
+      | inr there ↦
+          let u = walk.1 in
+          let some = u.ok.whole r there must fit in
+          let most = u.ok.once r there in
+          elim (cases_lt 0 (times r (g.counted server shard))) [
+            | inl has ↦ inl has
+            | inr none ↦ inr (record {
+              actor = a; part = p; reads = reads; server_is = same_server; shard_is = same_shard; gate = c; pinned = is;
+              shape = g.shape c;
+              tree = i.growing.tree c (pinned-whole s w g i a c p reads is);
+              noted = u.noted; items = u.are; walks = u.ok.noted;
+              placed = there;
+              once = (let below : times r (g.counted server shard) ≡ 0 = omega arith in omega arith);
+            })
+          ]
+    ]
+
+-- what an actor reads is of the part that it took
+
+by-task : (e : ErrandValue) (task : TaskValue) → e.task ≡ task → (part : ReadPart) (t : Taken) → read_in_task e e.task ≡ Some part → Some (taken_by e) ≡ Some t → (part.server ≡ t.server) × (part.shard ≡ t.shard)
+by-task e (OfRow x) is part t a b = (let none : read_in_task e e.task ≡ None = rw is refl in cc)
+by-task e (Unread f) is part t a b = (let none : read_in_task e e.task ≡ None = rw is refl in cc)
+by-task e (Read x) is part t a b =
+    (let some : read_in_task e e.task ≡ Some (record { server = e.server; shard = e.shard; reading = x }) = rw is refl in
+    let one : part ≡ record { server = e.server; shard = e.shard; reading = x } = cc in
+    let two : taken_by e ≡ t = cc in
+    (ap (λ (p : ReadPart). p.server) one ∙ ap (λ (u : Taken). u.server) two, ap (λ (p : ReadPart). p.shard) one ∙ ap (λ (u : Taken). u.shard) two))
+
+reads-same : (errand : Option ErrandValue) (part : ReadPart) (t : Taken) → read_of errand ≡ Some part → taken_of errand ≡ Some t → (part.server ≡ t.server) × (part.shard ≡ t.shard)
+reads-same None part t a b = cc
+reads-same (Some e) part t a b = by-task e e.task refl part t a b
+
 -- what a part, by its state, gives of a row that is under its shard and that the query must hold
-by-state : (s : Setting) (w : World) (g : Ghost) (i : InvWith s (view s w) g) (of r : ℕ) (q : Query) (p : Part) (counted : List ℕ) → IsUnder (view s w).history g.placed g.home p.shard r
-    → must_hold s.hierarchy (view s w).history of q r ≡ true → fits (table_of s (view s w).row) q.filter r ≡ true
-    → (state : PartState) → p.state ≡ state → IsQueryState q state → IsEndOfPart s (view s w).history (view s w).row g.placed g.home of q p.shard counted state
-    → (1 ≤ times r counted) ⊎ (((is_open p ≡ true) ⊎ (is_refused p ≡ true)) × ((x : ℕ) × IsInOne s (view s w) (standing s (view s w) g i) r x × IsTrue (comes_from (view s w).history p.shard x)))
-by-state s w g i of r q p counted under must fit (state_is.Waiting wanted) is valid end = inr (inl (rw is refl), (g.home r, in-one s (view s w) g i r under.is_placed, under.comes))
-by-state s w g i of r q p counted under must fit state_is.Taken is valid end = inr (inl (rw is refl), (g.home r, in-one s (view s w) g i r under.is_placed, under.comes))
-by-state s w g i of r q p counted under must fit (state_is.Done total) is valid end = elim (end.1 r must fit under) [ inl has ↦ inl has | inr never ↦ absurd never ]
-by-state s w g i of r q p counted under must fit (state_is.Placed path) is valid end = absurd valid
-by-state s w g i of r q p counted under must fit state_is.NoMemory is valid end = inr (inr (rw is refl), (g.home r, in-one s (view s w) g i r under.is_placed, under.comes))
+by-state : (s : Setting) (w : World) (g : Ghost) (i : InvWith s (view s w) g) (server of r : ℕ) (q : Query) (p : Part) → IsUnder (view s w).history g.placed g.home p.shard r
+    → must_hold s.hierarchy (view s w).history of q r ≡ true → fits (table_of s (view s w).row) q.filter r ≡ true → ((view s w).desks server).op ≡ Some of → query_at (view s w).history of ≡ Some q
+    → (is_taken p ≡ true → IsTaken (view s w).taken server p)
+    → (state : PartState) → p.state ≡ state → IsQueryState q state → IsEndOfPart s (view s w).history (view s w).row g.placed g.home of q p.shard (g.counted server p.shard) state
+    → (1 ≤ times r (g.counted server p.shard)) ⊎ IsBeneath s (view s w) server p.shard r ⊎ (HasNotRead (view s w) server p × IsAheadOf s (view s w) (standing s (view s w) g i) p r)
+by-state s w g i server of r q p under must fit op asked taker (state_is.Waiting wanted) is valid end = inr (inr (inl (rw is refl), (g.home r, in-one s (view s w) g i r under.is_placed, under.comes)))
+by-state s w g i server of r q p under must fit op asked taker state_is.Taken is valid end =
+    let t = taker (rw is refl) in
+    at t ((view s w).reads t.0) refl
+  where
+    at : (t : IsTaken (view s w).taken server p) → (o : Option ReadPart) → (view s w).reads t.0 ≡ o
+        → (1 ≤ times r (g.counted server p.shard)) ⊎ IsBeneath s (view s w) server p.shard r ⊎ (HasNotRead (view s w) server p × IsAheadOf s (view s w) (standing s (view s w) g i) p r)
+    at t None none = inr (inr (inr (inr (t.0, t.1, t.2, t.3, t.4, none)), (g.home r, in-one s (view s w) g i r under.is_placed, under.comes)))
+    at t (Some part) reads =
+        let same = reads-same (w.actors t.0).errand part t.1 reads t.2 in
+        let server_is : part.server ≡ server = same.0 ∙ t.3 in
+        let shard_is : part.shard ≡ p.shard = same.1 ∙ t.4 in
+        let reading = i.querying.reading t.0 of q part reads (ap (λ n. ((view s w).desks n).op) server_is ∙ op) asked in
+        elim (by-reading s w g i server p.shard of r q t.0 part reads server_is shard_is under must fit
+        (subst (λ n. IsReading s (view s w).history (view s w).row (view s w).blocks (view s w).trees g.shape g.placed g.home of q p.shard (g.counted n p.shard) part.reading) server_is
+        (subst (λ n. IsReading s (view s w).history (view s w).row (view s w).blocks (view s w).trees g.shape g.placed g.home of q n (g.counted part.server n) part.reading) shard_is reading))) [
+          | inl has ↦ inl has
+          | inr beneath ↦ inr (inl beneath)
+        ]
+by-state s w g i server of r q p under must fit op asked taker (state_is.Done total) is valid end = elim (end.1 r must fit under) [ inl has ↦ inl has | inr never ↦ absurd never ]
+by-state s w g i server of r q p under must fit op asked taker (state_is.Placed path) is valid end = absurd valid
+by-state s w g i server of r q p under must fit op asked taker state_is.NoMemory is valid end = inr (inr (inr (inl (rw is refl)), (g.home r, in-one s (view s w) g i r under.is_placed, under.comes)))
 
 has-counted : (s : Setting) (w : World) (g : Ghost) (i : InvWith s (view s w) g) (server of : ℕ) (q : Query) → server < s.servers → ((view s w).desks server).op ≡ Some of
     → query_at (view s w).history of ≡ Some q → HasCounted s (view s w) (standing s (view s w) g i) of server q
@@ -193,7 +287,7 @@ has-counted s w g i server of q within op asked =
           let p = found.1 in
           let end = All-contains (λ (p : Part). IsEndOfPart s v.history v.row g.placed g.home of q p.shard (g.counted server p.shard) p.state) parts p ends (found.0, found.2, found.3) in
           let valid = All-contains (λ (p : Part). IsQueryState q p.state) parts p desk.0 (found.0, found.2, found.3) in
-          (found.0, p, found.2, found.3, by-state s w g i of r q p (g.counted server p.shard) found.4 must fit p.state refl valid end));
+          (found.0, p, found.2, found.3, by-state s w g i server of r q p found.4 must fit op asked (All-contains (λ (p : Part). is_taken p ≡ true → IsTaken v.taken server p) parts p (i.desking.takers server within) (found.0, found.2, found.3)) p.state refl valid end));
     }
 
 pub query-law : QueryLaw

@@ -4,17 +4,18 @@ use Rattle.std.specs.Prelude.{ℕ, ◌≡◌, ◌≢◌, ◌+◌, ◌<◌, ◌�
 use Rattle.dim_hierarchy.specs.declared.row.Row.{Row}
 use Rattle.describing_set.specs.DescSet.{covers}
 use Rattle.describing_set.specs.declared.listing.Spot.{Spot}
-use Rattle.query_router.specs.Desk.{is_open, is_refused}
+use Rattle.query_router.specs.Desk.{is_refused, is_waiting}
 use Rattle.query_router.specs.declared.part.Part.{Part}
 use Rattle.row_ledger.specs.Bounds.{known}
 use Rattle.row_ledger.specs.Past.{Ack, Insert, Query, acked, insert_at, is_kept, query_at}
 use Rattle.row_ledger.specs.Shards.{comes_from, is_live}
 use Rattle.shard_store.specs.declared.gate.Phase.TheVariants.{Gone}
 use Rattle.tree_shape.specs.Counts.{times}
-use Rattle.tree_shape.specs.Queries.{fits}
-use Rattle.tree_shape.specs.Shape.{Shape, numbers}
+use Rattle.tree_shape.specs.Queries.{fits, items_of}
+use Rattle.tree_shape.specs.Shape.{Shape, nodes, numbers}
 use Rattle.tree_shape.specs.Trees.{IsTree}
-use Rattle.volap_cell.specs.Errands.{ReadPart}
+use Rattle.tree_shape.specs.Walks.{Noted, AreNoted, pending}
+use Rattle.volap_cell.specs.Errands.{ReadPart, Taken}
 use Rattle.volap_cell.specs.Growing.{table_of}
 use Rattle.volap_cell.specs.ImageKinds.{doing}
 use Rattle.volap_cell.specs.Querying.{must_hold}
@@ -77,9 +78,37 @@ IsCoveredBy s v t server k =
 abbrev pub ImageLaw : Type 0
 ImageLaw = (s : Setting) (w : World) → Inv s w → (t : Standing s (view s w)) × ((server : ℕ) → server < s.servers → All (IsCoveredBy s (view s w) t server) (known s.hierarchy (view s w).history server))
 
+-- A row is beneath what an actor has noted for the part of a query at a shard: it is in the tree of the gate to which the part is
+-- pinned, and is reached once from the noted blocks along right links and down.
+pub record IsBeneath (s : Setting) (v : View) (server shard r : ℕ) : Type 0 where
+  pub actor : ℕ
+  pub part : ReadPart
+  pub reads : v.reads actor ≡ Some part
+  pub server_is : part.server ≡ server
+  pub shard_is : part.shard ≡ shard
+  pub gate : ℕ
+  pub pinned : part.reading.pin ≡ Some gate
+  pub shape : Shape
+  pub tree : IsTree (table_of s v.row) (cells_at v.blocks v.trees gate) shape
+  pub noted : List Noted
+  pub items : items_of noted ≡ part.reading.items
+  pub walks : AreNoted shape (nodes (cells_at v.blocks v.trees gate)) noted
+  pub placed : shape.placed r ≡ true
+  pub once : pending shape noted (shape.at r) ≡ 1
+
+-- a part that has read no gate yet: it waits, or an actor has it and hasn't read; or no memory was found for it
+abbrev pub HasNotRead : View → ℕ → Part → Type 0
+HasNotRead v server p =
+    (is_waiting p ≡ true) ⊎ (is_refused p ≡ true)
+    ⊎ ((a : ℕ) × (t : Taken) × (v.taken a ≡ Some t) × (t.server ≡ server) × (t.shard ≡ p.shard) × (v.reads a ≡ None))
+
+-- the row is in a shard that is the part's or comes from it
+abbrev pub IsAheadOf : (s : Setting) (v : View) → Standing s v → Part → ℕ → Type 0
+IsAheadOf s v t p r = (x : ℕ) × IsInOne s v t r x × IsTrue (comes_from v.history p.shard x)
+
 -- What the parts of an open query have counted: a list for each part's shard. No row stands in two of them or twice in one, each is
--- begun, doesn't fail, and is one that the filter matches; and each that the query must hold is counted, or a part that isn't at its
--- end, or that found no memory, is for a shard from which the one that has the row comes.
+-- begun, doesn't fail, and is one that the filter matches; and each that the query must hold is counted, or is beneath what is noted
+-- for a part, or is in the line of the shard of a part that has read nothing.
 pub record HasCounted (s : Setting) (v : View) (t : Standing s v) (of server : ℕ) (q : Query) : Type 0 where
   pub counted : ℕ → List ℕ
   pub once : (r : ℕ) → All (λ (p : Part). is_refused p ≡ false → times r (counted p.shard) ≤ 1) (v.desks server).parts
@@ -88,7 +117,7 @@ pub record HasCounted (s : Setting) (v : View) (t : Standing s v) (of server : �
   pub usable : (r : ℕ) (p : Part) → Contains (v.desks server).parts p → is_refused p ≡ false → 1 ≤ times r (counted p.shard)
       → IsTrue (is_kept v.history r) × (fits (table_of s v.row) q.filter r ≡ true) × ((x : ℕ) × IsInOne s v t r x)
   pub whole : (r : ℕ) → must_hold s.hierarchy v.history of q r ≡ true → fits (table_of s v.row) q.filter r ≡ true
-      → Any (λ (p : Part). (1 ≤ times r (counted p.shard)) ⊎ (((is_open p ≡ true) ⊎ (is_refused p ≡ true)) × ((x : ℕ) × IsInOne s v t r x × IsTrue (comes_from v.history p.shard x)))) (v.desks server).parts
+      → Any (λ (p : Part). (1 ≤ times r (counted p.shard)) ⊎ IsBeneath s v server p.shard r ⊎ (HasNotRead v server p × IsAheadOf s v t p r)) (v.desks server).parts
 
 abbrev pub QueryLaw : Type 0
 QueryLaw = (s : Setting) (w : World) → Inv s w → (t : Standing s (view s w)) × ((server of : ℕ) (q : Query) → server < s.servers
