@@ -1,5 +1,5 @@
 -- What a commit leaves: one lemma for any number of cells, any projection of a cell, and any projection of an actor.
-use Rattle.std.proofs.Common.{◌≡◌, ◌≢◌, ℕ, Bool, true, false, cond, eqb, List, [], ◌∷◌, refl, sym, ap, ◌∙◌, subst, arith, ◌⊎◌, inl, inr}
+use Rattle.std.proofs.Common.{◌≡◌, ◌≢◌, ℕ, Bool, true, cond, eqb, List, [], ◌∷◌, refl, sym, ap, ◌∙◌, subst, ◌⊎◌, inl, inr}
 use mathlib.Core.Path.{fun_ext}
 use Rattle.tree_shape.specs.Counts.{Each, Among}
 use Rattle.tree_shape.proofs.Walks.{on_bool, eqb-eq, eqb-self, eqb-no}

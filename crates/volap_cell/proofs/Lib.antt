@@ -1,1 +1,3 @@
 pub mod Frames
+pub mod Seen
+pub mod Views
