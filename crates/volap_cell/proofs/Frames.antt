@@ -57,10 +57,13 @@ holds-still P (c ∷ cs) cells now y p =
 
 -- Actors, one of which changed.
 
-pub unmoved : {A : Type 0} (f : ActorValue → A) (actors : ℕ → ActorValue) (n : ℕ) (now : ActorValue) → f now ≡ f (actors n) → ◌≡◌ {A = ℕ → A} (λ a. f (cond (eqb a n) now (actors a))) (λ a. f (actors a))
-unmoved f actors n now same = fun_ext (λ a. on_bool (eqb a n)
+pub unmoved-one : {A : Type 0} (f : ActorValue → A) (actors : ℕ → ActorValue) (n : ℕ) (now : ActorValue) → f now ≡ f (actors n) → (a : ℕ) → f (cond (eqb a n) now (actors a)) ≡ f (actors a)
+unmoved-one f actors n now same a = on_bool (eqb a n)
     (λ q. let e = eqb-eq _ _ q in ap (λ (b : Bool). f (cond b now (actors a))) q ∙ same ∙ ap (λ (z : ℕ). f (actors z)) (sym e))
-    (λ q. ap (λ (b : Bool). f (cond b now (actors a))) q))
+    (λ q. ap (λ (b : Bool). f (cond b now (actors a))) q)
+
+pub unmoved : {A : Type 0} (f : ActorValue → A) (actors : ℕ → ActorValue) (n : ℕ) (now : ActorValue) → f now ≡ f (actors n) → ◌≡◌ {A = ℕ → A} (λ a. f (cond (eqb a n) now (actors a))) (λ a. f (actors a))
+unmoved f actors n now same = fun_ext (unmoved-one f actors n now same)
 
 -- the actor that changed, and another one
 

@@ -1,6 +1,6 @@
--- What is seen of a cell and of an actor, in one record each; and the same with some of it masked, which a change that touches
--- no more than that leaves.
-use Rattle.std.proofs.Common.{ℕ, Bool, false, List, [], Option, None}
+-- What is seen of a cell and of an actor, in one record each; and which fields of the view a commit touches. A change that leaves
+-- what is seen beside these leaves every other field.
+use Rattle.std.proofs.Common.{ℕ, Bool, true, false, cond, List, [], Option, None}
 use Rattle.dc_node.specs.declared.block.Block.{Block}
 use Rattle.shard_store.specs.declared.gate.Gate.{Gate}
 use Rattle.shard_store.specs.declared.gate.Phase.{Phase}
@@ -16,6 +16,7 @@ use Rattle.volap_cell.specs.Cells.{CellValue, FreeCell, Tag, tag_of, block_in, h
 use Rattle.volap_cell.specs.Errands.{Taken, RowWay, ReadPart, taken_of, way_of, read_of}
 use Rattle.volap_cell.specs.Setting.{Setting}
 use Rattle.volap_cell.specs.Values.{ActorValue, JobValue}
+use Rattle.volap_cell.specs.View.{View}
 use Rattle.volap_cell.specs.declared.command.Command.{Command}
 use Rattle.volap_cell.specs.declared.role.Role.{Role}
 
@@ -63,26 +64,6 @@ cell_seen c = record {
 abbrev pub bare : CellSeen
 bare = cell_seen FreeCell
 
--- a cell but for its block
-abbrev pub beside_blocks : CellValue → CellSeen
-beside_blocks c = record (cell_seen c) { block = bare.block; made = bare.made }
-
--- a cell but for an image, a desk or the ledger
-abbrev pub beside_books : CellValue → CellSeen
-beside_books c = record (cell_seen c) { image = bare.image; desk = bare.desk; ledger = bare.ledger }
-
--- a cell but for a gate, a desk, a block or the stock
-abbrev pub beside_gates : CellValue → CellSeen
-beside_gates c = record (cell_seen c) { gate = bare.gate; desk = bare.desk; block = bare.block; made = bare.made; stock = bare.stock }
-
--- a cell but for the stock
-abbrev pub beside_stock : CellValue → CellSeen
-beside_stock c = record (cell_seen c) { stock = bare.stock }
-
--- a cell but for an image, the registry or the ledger
-abbrev pub beside_pulls : CellValue → CellSeen
-beside_pulls c = record (cell_seen c) { image = bare.image; registry = bare.registry; ledger = bare.ledger }
-
 -- Actors.
 
 pub record ActorSeen : Type 0 where
@@ -115,34 +96,142 @@ actor_seen a = record {
   job = a.job;
 }
 
--- an actor but for its row's way, and the purse and the boxes that the row uses
-abbrev pub beside_row : ActorValue → ActorSeen
-beside_row a = record (actor_seen a) { purse = []; boxes = 0; way = None }
+-- Fields.
 
--- an actor but for what its query has read
-abbrev pub beside_reading : ActorValue → ActorSeen
-beside_reading a = record (actor_seen a) { reading = None }
+-- which fields of the view a commit touches; whose a cell is, and who an actor is, never changes
+pub record Touched : Type 0 where
+  pub blocks : Bool
+  pub gates : Bool
+  pub phases : Bool
+  pub trees : Bool
+  pub active : Bool
+  pub pins : Bool
+  pub queues : Bool
+  pub gone : Bool
+  pub ledger : Bool
+  pub stock : Bool
+  pub registry : Bool
+  pub images : Bool
+  pub desks : Bool
+  pub maps : Bool
+  pub seen : Bool
+  pub counted_in : Bool
+  pub purses : Bool
+  pub boxes : Bool
+  pub commands : Bool
+  pub taken : Bool
+  pub ways : Bool
+  pub reads : Bool
+  pub jobs : Bool
 
--- an actor but for its part
-abbrev pub beside_part : ActorValue → ActorSeen
-beside_part a = record (actor_seen a) { taken = None; way = None; reading = None }
+abbrev pub nothing : Touched
+nothing = record {
+  blocks = false;
+  gates = false;
+  phases = false;
+  trees = false;
+  active = false;
+  pins = false;
+  queues = false;
+  gone = false;
+  ledger = false;
+  stock = false;
+  registry = false;
+  images = false;
+  desks = false;
+  maps = false;
+  seen = false;
+  counted_in = false;
+  purses = false;
+  boxes = false;
+  commands = false;
+  taken = false;
+  ways = false;
+  reads = false;
+  jobs = false;
+}
 
--- an actor but for its job, and the purse that the job uses
-abbrev pub beside_job : ActorValue → ActorSeen
-beside_job a = record (actor_seen a) { purse = []; job = None }
+-- what is seen of a cell beside the fields that are touched
+abbrev pub beside : Touched → CellValue → CellSeen
+beside t c = record {
+  tag = tag_of c;
+  block = cond t.blocks bare.block (block_in c);
+  made = cond t.blocks bare.made (has_block c);
+  gate = record {
+    shard = cond t.gates bare.gate.shard (gate_shard c);
+    phase = cond t.phases bare.gate.phase (phase_of c);
+    tree = cond t.trees bare.gate.tree (way_in c);
+    active = cond t.active bare.gate.active (active_in c);
+    pins = cond t.pins bare.gate.pins (pins_in c);
+    queue = cond t.queues bare.gate.queue (queue_in c);
+    gone = cond t.gone bare.gate.gone (gone_in c);
+  };
+  ledger = cond t.ledger bare.ledger (ledger_in c);
+  stock = cond t.stock bare.stock (stock_in c);
+  registry = cond t.registry bare.registry (registry_in c);
+  image = cond t.images bare.image (image_in c);
+  desk = cond t.desks bare.desk (desk_in c);
+  table = cond t.maps bare.table (where_in c);
+}
 
--- an actor but for its command and its job, and what it has seen of the history
-abbrev pub beside_command : ActorValue → ActorSeen
-beside_command a = record (actor_seen a) { seen = 0; command = None; job = None }
+-- and of an actor
+abbrev pub actor_beside : Touched → ActorValue → ActorSeen
+actor_beside t a = record {
+  number = a.number;
+  role = a.role;
+  setting = a.setting;
+  seen = cond t.seen 0 a.seen;
+  counted = cond t.counted_in false a.counted;
+  purse = cond t.purses [] a.purse;
+  boxes = cond t.boxes 0 a.boxes;
+  command = cond t.commands None a.command;
+  taken = cond t.taken None (taken_of a.errand);
+  way = cond t.ways None (way_of a.errand);
+  reading = cond t.reads None (read_of a.errand);
+  job = cond t.jobs None a.job;
+}
 
--- an actor but for whether it is counted in
-abbrev pub beside_count : ActorValue → ActorSeen
-beside_count a = record (actor_seen a) { counted = false }
+-- a view with the touched fields of a new one
+abbrev pub renewed : Touched → View → View → View
+renewed t now v = record {
+  tags = v.tags;
+  blocks = cond t.blocks now.blocks v.blocks;
+  made = cond t.blocks now.made v.made;
+  gates = cond t.gates now.gates v.gates;
+  phases = cond t.phases now.phases v.phases;
+  trees = cond t.trees now.trees v.trees;
+  active = cond t.active now.active v.active;
+  pins = cond t.pins now.pins v.pins;
+  queues = cond t.queues now.queues v.queues;
+  gone = cond t.gone now.gone v.gone;
+  history = cond t.ledger now.history v.history;
+  promised = cond t.ledger now.promised v.promised;
+  row = cond t.ledger now.row v.row;
+  stock = cond t.stock now.stock v.stock;
+  registry = cond t.registry now.registry v.registry;
+  images = cond t.images now.images v.images;
+  desks = cond t.desks now.desks v.desks;
+  maps = cond t.maps now.maps v.maps;
+  numbers = v.numbers;
+  roles = v.roles;
+  settings = v.settings;
+  seen = cond t.seen now.seen v.seen;
+  counted_in = cond t.counted_in now.counted_in v.counted_in;
+  purses = cond t.purses now.purses v.purses;
+  boxes = cond t.boxes now.boxes v.boxes;
+  commands = cond t.commands now.commands v.commands;
+  taken = cond t.taken now.taken v.taken;
+  ways = cond t.ways now.ways v.ways;
+  reads = cond t.reads now.reads v.reads;
+  jobs = cond t.jobs now.jobs v.jobs;
+}
 
--- an actor but for its part and its job, and what they use
-abbrev pub beside_work : ActorValue → ActorSeen
-beside_work a = record (actor_seen a) { purse = []; boxes = 0; taken = None; way = None; reading = None; job = None }
+-- The groups of kinds.
 
--- an actor but for its command, its part and its job
-abbrev pub beside_books_of : ActorValue → ActorSeen
-beside_books_of a = record (actor_seen a) { seen = 0; counted = false; command = None; taken = None; way = None; reading = None; job = None }
+-- blocks
+abbrev pub of_blocks : Touched
+of_blocks = record nothing { blocks = true; purses = true; boxes = true; taken = true; ways = true; reads = true; jobs = true }
+
+-- desks, images and the ledger
+abbrev pub of_books : Touched
+of_books = record nothing { desks = true; images = true; ledger = true; seen = true; counted_in = true; commands = true; taken = true; ways = true; reads = true; jobs = true }

@@ -1,15 +1,15 @@
 -- What the changes of the kinds touch of a cell, told by the relations that say what becomes of it.
-use Rattle.std.proofs.Common.{◌≡◌, ℕ, Bool, true, false, List, [], ◌∷◌, ◌++◌, Option, Some, None, refl, sym, ap, ◌∙◌, subst}
+use Rattle.std.proofs.Common.{◌≡◌, ℕ, Bool, true, false, List, [], ◌∷◌, ◌++◌, None, refl, sym, ap, ◌∙◌, subst}
 use Rattle.dc_node.specs.Block.{is_full}
 use Rattle.dc_node.specs.declared.block.Block.{Block}
 use Rattle.link_descent.specs.declared.entered.Fresh.{Fresh}
 use Rattle.tree_shape.specs.Counts.{Each}
 use Rattle.tree_shape.proofs.Parts.{each-append}
 use Rattle.volap_cell.specs.Cells.{CellValue, FreeCell, LedgerCell, StockCell, RegistryCell, ImageCell, DeskCell, MapCell, GateCell, BlockCell, OfStock, tag_of, gate_shard, block_in}
-use Rattle.volap_cell.specs.TreeKinds.{Leads, IsRead, TurnsGate, TurnsBlock, AreFilled, AreBehind, IsTailOf, IsTailIf, most_behind}
-use Rattle.volap_cell.specs.World.{Change, put}
+use Rattle.volap_cell.specs.TreeKinds.{TurnsBlock, AreFilled, AreBehind, IsTailOf, IsTailIf, most_behind}
+use Rattle.volap_cell.specs.World.{Change}
 use Rattle.volap_cell.proofs.Frames.{Same}
-use Rattle.volap_cell.proofs.Seen.{CellSeen, bare, beside_blocks}
+use Rattle.volap_cell.proofs.Seen.{bare, beside, of_blocks}
 
 -- Cells that stay.
 
@@ -37,15 +37,15 @@ tail-read expected head cs t = tail-if-read (is_full head.body) expected head cs
 -- Blocks.
 
 -- a block that becomes another one
-pub turned-block : (old new : Block) (c : Change) → TurnsBlock old new c → beside_blocks c.now ≡ beside_blocks c.before
-turned-block old new c t = ap beside_blocks t.is ∙ sym (ap beside_blocks t.was)
+pub turned-block : (old new : Block) (c : Change) → TurnsBlock old new c → beside of_blocks c.now ≡ beside of_blocks c.before
+turned-block old new c t = ap (beside of_blocks) t.is ∙ sym (ap (beside of_blocks) t.was)
 
 -- a cell in which nothing is but perhaps a block
 pub record IsBlank (c : CellValue) : Type 0 where
   pub tag : tag_of c ≡ OfStock
   pub no_gate : gate_shard c ≡ None
 
-pub blank-bare : (c : CellValue) → tag_of c ≡ OfStock → gate_shard c ≡ None → beside_blocks c ≡ bare
+pub blank-bare : (c : CellValue) → tag_of c ≡ OfStock → gate_shard c ≡ None → beside of_blocks c ≡ bare
 blank-bare FreeCell t g = refl
 blank-bare (BlockCell b) t g = refl
 blank-bare (GateCell x) t g = cc
@@ -57,15 +57,15 @@ blank-bare (DeskCell s d) t g = cc
 blank-bare (MapCell w m) t g = cc
 
 -- a blank cell that gets a block
-pub filled-block : (block : Block) (c : Change) → IsBlank c.before → c.now ≡ BlockCell block → beside_blocks c.now ≡ beside_blocks c.before
-filled-block block c blank is = ap beside_blocks is ∙ sym (blank-bare c.before blank.tag blank.no_gate)
+pub filled-block : (block : Block) (c : Change) → IsBlank c.before → c.now ≡ BlockCell block → beside of_blocks c.now ≡ beside of_blocks c.before
+filled-block block c blank is = ap (beside of_blocks) is ∙ sym (blank-bare c.before blank.tag blank.no_gate)
 
-pub filled-blocks : (fresh : List Fresh) (cs : List Change) → AreFilled fresh cs → Each (λ c. IsBlank c.before) cs → Same beside_blocks cs
+pub filled-blocks : (fresh : List Fresh) (cs : List Change) → AreFilled fresh cs → Each (λ c. IsBlank c.before) cs → Same (beside of_blocks) cs
 filled-blocks [] [] f b = tt
 filled-blocks [] (c ∷ cs) f b = absurd f
 filled-blocks (x ∷ fresh) [] f b = absurd f
 filled-blocks (x ∷ fresh) (c ∷ cs) f b = (filled-block x.block c b.0 f.1, filled-blocks fresh cs f.2 b.1)
 
 -- blocks behind a head, and new ones
-pub others-blocks : (fresh : List Fresh) (tail filled : List Change) → AreRead tail → AreFilled fresh filled → Each (λ c. IsBlank c.before) filled → Same beside_blocks (tail ++ filled)
-others-blocks fresh tail filled r f b = each-append (λ c. beside_blocks c.now ≡ beside_blocks c.before) tail filled (all-read beside_blocks tail r) (filled-blocks fresh filled f b)
+pub others-blocks : (fresh : List Fresh) (tail filled : List Change) → AreRead tail → AreFilled fresh filled → Each (λ c. IsBlank c.before) filled → Same (beside of_blocks) (tail ++ filled)
+others-blocks fresh tail filled r f b = each-append (λ c. beside of_blocks c.now ≡ beside of_blocks c.before) tail filled (all-read (beside of_blocks) tail r) (filled-blocks fresh filled f b)
