@@ -1,4 +1,6 @@
 pub mod Frames
 pub mod Seen
 pub mod Touches
+pub mod Actors
 pub mod Views
+pub mod Numbers
