@@ -4,3 +4,4 @@ pub mod Touches
 pub mod Actors
 pub mod Views
 pub mod Numbers
+pub mod Sums

@@ -1,25 +1,23 @@
 -- What the changes of the kinds touch of a cell, told by the relations that say what becomes of it. Each lemma is for any touched
 -- fields among which the ones that change are; where these are written out `refl` says so.
-use Rattle.std.proofs.Common.{◌≡◌, ℕ, Bool, true, false, cond, List, [], ◌∷◌, ◌++◌, Option, None, refl, sym, ap, ◌∙◌, subst}
+use Rattle.std.proofs.Common.{◌≡◌, ℕ, Bool, true, false, cond, List, [], ◌∷◌, ◌++◌, None, refl, sym, ap, ◌∙◌, subst}
 use Rattle.dc_node.specs.Block.{is_full}
 use Rattle.dc_node.specs.declared.block.Block.{Block}
 use Rattle.link_descent.specs.declared.entered.Fresh.{Fresh}
-use Rattle.mapping_table.specs.declared.place.Where.{Where}
 use Rattle.query_router.specs.Desk.{DeskValue}
 use Rattle.row_ledger.specs.declared.event.Event.{Event}
 use Rattle.server_image.specs.Image.{ImageValue}
 use Rattle.cell_stock.specs.Stock.{StockValue}
-use Rattle.shard_store.specs.declared.gate.Gate.{Gate}
 use Rattle.tree_shape.specs.Counts.{Each}
 use Rattle.tree_shape.proofs.Parts.{each-append}
 use Rattle.volap_cell.specs.AdminKinds.{TurnsStock, PushesBoth}
 use Rattle.volap_cell.specs.Cells.{CellValue, FreeCell, LedgerCell, StockCell, RegistryCell, ImageCell, DeskCell, MapCell, GateCell, BlockCell, OfStock, tag_of, gate_shard, block_in}
 use Rattle.volap_cell.specs.ImageKinds.{Pushes, TurnsImage}
 use Rattle.volap_cell.specs.ShardKinds.{TurnsDesk}
-use Rattle.volap_cell.specs.TreeKinds.{Leads, IsRead, TurnsBlock, TurnsGate, AreFilled, AreBehind, IsTailOf, IsTailIf, most_behind}
+use Rattle.volap_cell.specs.TreeKinds.{TurnsBlock, AreFilled, AreBehind, IsTailOf, IsTailIf, most_behind}
 use Rattle.volap_cell.specs.World.{Change}
 use Rattle.volap_cell.proofs.Frames.{Same}
-use Rattle.volap_cell.proofs.Seen.{CellSeen, Touched, bare, beside}
+use Rattle.volap_cell.proofs.Seen.{Touched, bare, beside}
 
 -- a cell that becomes another one in which no more is seen
 pub turned : {A : Type 0} (f : CellValue → A) (c : Change) (old new : CellValue) → c.before ≡ old → c.now ≡ new → f new ≡ f old → f c.now ≡ f c.before
