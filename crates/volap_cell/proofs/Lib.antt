@@ -5,3 +5,4 @@ pub mod Actors
 pub mod Views
 pub mod Numbers
 pub mod Sums
+pub mod Fields
