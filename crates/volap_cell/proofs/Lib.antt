@@ -2,3 +2,11 @@ pub mod Standings
 pub mod Beginnings
 pub mod Knowing
 pub mod Promised
+pub mod Frames
+pub mod Seen
+pub mod Touches
+pub mod Actors
+pub mod Views
+pub mod Numbers
+pub mod Sums
+pub mod Fields
