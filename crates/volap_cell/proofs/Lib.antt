@@ -1,2 +1,3 @@
 pub mod Grows
 pub mod GrowsRows
+pub mod GrowsKnown
