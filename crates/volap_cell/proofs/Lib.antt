@@ -1,3 +1,4 @@
 pub mod Grows
 pub mod GrowsRows
 pub mod GrowsKnown
+pub mod AckedHistory
