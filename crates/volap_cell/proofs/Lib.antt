@@ -1,4 +1,5 @@
 pub mod Grows
 pub mod GrowsRows
 pub mod GrowsKnown
+pub mod GrowsDesks
 pub mod AckedHistory
