@@ -2,4 +2,5 @@ pub mod Grows
 pub mod GrowsRows
 pub mod GrowsKnown
 pub mod GrowsDesks
+pub mod GrowsWork
 pub mod AckedHistory
