@@ -3,4 +3,5 @@ pub mod GrowsRows
 pub mod GrowsKnown
 pub mod GrowsDesks
 pub mod GrowsWork
+pub mod GrowsTold
 pub mod AckedHistory
