@@ -10,3 +10,10 @@ pub mod Views
 pub mod Numbers
 pub mod Sums
 pub mod Fields
+pub mod Grows
+pub mod GrowsRows
+pub mod GrowsKnown
+pub mod GrowsDesks
+pub mod GrowsWork
+pub mod GrowsTold
+pub mod AckedHistory
