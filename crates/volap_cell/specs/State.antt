@@ -89,6 +89,10 @@ cells_now exchanges = map (λ x. (x.number, x.now)) exchanges
 abbrev pub changes_of : List Exchange → List Change
 changes_of exchanges = map (λ x. change x.number (cell_of x.before) (cell_of x.now)) exchanges
 
+-- cells that are held and aren't changed yet
+abbrev pub still : List (ℕ × Cell) → List Change
+still held = map (λ thing. change thing.0 (cell_of thing.1) (cell_of thing.1)) held
+
 -- no other actor must keep the cell
 abbrev pub IsUnkept : List (Option Actor) → ℕ → ℕ → Type 0
 IsUnkept actors n y = (a : ℕ) → a ≢ n → a < length actors → Has (get_or actors a None) (λ x. ¬ MustKeep (actor_of x) y)
