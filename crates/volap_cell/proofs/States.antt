@@ -77,12 +77,12 @@ given-at (x ∷ xs) base cells y lt f =
     let here : x.number < length (given (cells_now xs) base) = (let l = length-given (cells_now xs) base in let m = lt.0 in omega arith) in
     on_bool (eqb y x.number)
     (λ q. let e = eqb-eq _ _ q in
-      let got : get_or (set (given (cells_now xs) base) x.number (Some x.now)) y None ≡ Some x.now = get-set (given (cells_now xs) base) x.number (Some x.now) None here y ∙ (rw q refl) in
-      is-some (get_or (set (given (cells_now xs) base) x.number (Some x.now)) y None) (λ c. cell_of c ≡ cond (eqb y x.number) (cell_of x.now) (put (changes_of xs) cells y)) x.now got (rw q refl))
+    let got : get_or (set (given (cells_now xs) base) x.number (Some x.now)) y None ≡ Some x.now = get-set (given (cells_now xs) base) x.number (Some x.now) None here y ∙ (rw q refl) in
+    is-some (get_or (set (given (cells_now xs) base) x.number (Some x.now)) y None) (λ c. cell_of c ≡ cond (eqb y x.number) (cell_of x.now) (put (changes_of xs) cells y)) x.now got (rw q refl))
     (λ q. let ne = eqb-ne _ _ q in
-      let got : get_or (set (given (cells_now xs) base) x.number (Some x.now)) y None ≡ get_or (given (cells_now xs) base) y None = get_or-set_other (given (cells_now xs) base) x.number y (Some x.now) None ne in
-      let old : Has (get_or (given (cells_now xs) base) y None) (λ c. cell_of c ≡ cond (eqb y x.number) (cell_of x.now) (put (changes_of xs) cells y)) = rw q (given-at xs base cells y lt.1 (λ off. f (ne, off))) in
-      subst (λ (o : Option Cell). Has o (λ c. cell_of c ≡ cond (eqb y x.number) (cell_of x.now) (put (changes_of xs) cells y))) (sym got) old)
+    let got : get_or (set (given (cells_now xs) base) x.number (Some x.now)) y None ≡ get_or (given (cells_now xs) base) y None = get_or-set_other (given (cells_now xs) base) x.number y (Some x.now) None ne in
+    let old : Has (get_or (given (cells_now xs) base) y None) (λ c. cell_of c ≡ cond (eqb y x.number) (cell_of x.now) (put (changes_of xs) cells y)) = rw q (given-at xs base cells y lt.1 (λ off. f (ne, off))) in
+    subst (λ (o : Option Cell). Has o (λ c. cell_of c ≡ cond (eqb y x.number) (cell_of x.now) (put (changes_of xs) cells y))) (sym got) old)
 
 stand-within : (cells : List (Option Cell)) (xs : List Exchange) → Stand cells (cells_before xs) → Each (λ x. x.number < length cells) xs
 stand-within cells [] st = tt
@@ -102,20 +102,20 @@ world-after cells actors w xs n now is lt ln =
     let ln2 : n < length (set actors n None) = (let l = length-set actors n None in omega arith) in
     record {
       cell = λ y ly. (let ly2 : y < length cells = omega arith in
-        given-at xs (taken (numbers_of xs) cells) w.cells y (rw (length-taken (numbers_of xs) cells) lt)
-        (λ off. subst (λ (o : Option Cell). Has o (λ c. cell_of c ≡ w.cells y)) (sym (taken-off (numbers_of xs) cells y off)) (is.cell y ly2)));
+          given-at xs (taken (numbers_of xs) cells) w.cells y (rw (length-taken (numbers_of xs) cells) lt)
+          (λ off. subst (λ (o : Option Cell). Has o (λ c. cell_of c ≡ w.cells y)) (sym (taken-off (numbers_of xs) cells y off)) (is.cell y ly2)));
       no_cell = λ y ly. (let ly2 : length cells ≤ y = omega arith in past xs w.cells y (length cells) lt ly2 ∙ is.no_cell y ly2);
       actor = λ a la. (let la2 : a < length actors = omega arith in
-        on_bool (eqb a n)
-        (λ q. let got : get_or (set (set actors n None) n (Some now)) a None ≡ Some now = get-set (set actors n None) n (Some now) None ln2 a ∙ (rw q refl) in
-        is-some (get_or (set (set actors n None) n (Some now)) a None) (λ x. actor_of x ≡ cond (eqb a n) (actor_of now) (w.actors a)) now got (rw q refl))
-        (λ q. let ne = eqb-ne _ _ q in
-        let got : get_or (set (set actors n None) n (Some now)) a None ≡ get_or actors a None = get-set (set actors n None) n (Some now) None ln2 a ∙ (rw q (get_or-set_other actors n a None None ne)) in
-        let old : Has (get_or actors a None) (λ x. actor_of x ≡ cond (eqb a n) (actor_of now) (w.actors a)) = rw q (is.actor a la2) in
-        subst (λ (o : Option Actor). Has o (λ x. actor_of x ≡ cond (eqb a n) (actor_of now) (w.actors a))) (sym got) old));
+          on_bool (eqb a n)
+          (λ q. let got : get_or (set (set actors n None) n (Some now)) a None ≡ Some now = get-set (set actors n None) n (Some now) None ln2 a ∙ (rw q refl) in
+          is-some (get_or (set (set actors n None) n (Some now)) a None) (λ x. actor_of x ≡ cond (eqb a n) (actor_of now) (w.actors a)) now got (rw q refl))
+          (λ q. let ne = eqb-ne _ _ q in
+          let got : get_or (set (set actors n None) n (Some now)) a None ≡ get_or actors a None = get-set (set actors n None) n (Some now) None ln2 a ∙ (rw q (get_or-set_other actors n a None None ne)) in
+          let old : Has (get_or actors a None) (λ x. actor_of x ≡ cond (eqb a n) (actor_of now) (w.actors a)) = rw q (is.actor a la2) in
+          subst (λ (o : Option Actor). Has o (λ x. actor_of x ≡ cond (eqb a n) (actor_of now) (w.actors a))) (sym got) old));
       no_actor = λ a la. (let la2 : length actors ≤ a = omega arith in
-        let ne : a ≢ n = (λ e. absurd (omega arith)) in
-        subst (λ (x : ActorValue). IsFresh x.setting a x) (sym (rw (eqb-no a n ne) refl)) (is.no_actor a la2));
+          let ne : a ≢ n = (λ e. absurd (omega arith)) in
+          subst (λ (x : ActorValue). IsFresh x.setting a x) (sym (rw (eqb-no a n ne) refl)) (is.no_actor a la2));
     }
 
 -- What a kind asks.
@@ -210,13 +210,13 @@ has-stepped h kind cells actors xs n a now may makes sight = record {
   cells_kept = length-given (cells_now xs) (taken (numbers_of xs) cells) ∙ length-taken (numbers_of xs) cells;
   actors_kept = length-set (set actors n None) n (Some now) ∙ length-set actors n None;
   step = λ s w ghost same is holds reached. (
-    let kept = makes.keeps s w n ghost same holds (agrees-world cells actors w xs n a is may) (sight s w same is (record { ghost_of = ghost; holds = holds; reached = reached })) in
-    record {
-      now = after w (changes_of xs) n (actor_of now);
-      is = world-after cells actors w xs n now is (stand-within cells xs may.stand) (within actors n a may.actor_is);
-      kept = kept;
-      reached = reached-on s kind n w (after w (changes_of xs) n (actor_of now)) reached kept.step;
-    });
+      let kept = makes.keeps s w n ghost same holds (agrees-world cells actors w xs n a is may) (sight s w same is (record { ghost_of = ghost; holds = holds; reached = reached })) in
+      record {
+        now = after w (changes_of xs) n (actor_of now);
+        is = world-after cells actors w xs n now is (stand-within cells xs may.stand) (within actors n a may.actor_is);
+        kept = kept;
+        reached = reached-on s kind n w (after w (changes_of xs) n (actor_of now)) reached kept.step;
+      });
 }
 
 -- so they meet the invariant again

@@ -9,6 +9,7 @@ mod errand;
 mod job;
 mod kind;
 mod role;
+mod state;
 
 pub use actor::{About, Actor};
 pub use boxes::Boxes;
@@ -18,3 +19,7 @@ pub use errand::{Errand, Reading, RowErrand, Task, Way};
 pub use job::{Building, BuiltTree, Collecting, Frozen, Job, Stage, Unbuilt};
 pub use kind::Kind;
 pub use role::{Role, RoleList};
+pub use state::{
+    State, lift, lift_five, lift_four, lift_one, lift_seven, lift_six, lift_three, lift_two,
+    put_actor, put_five, put_four, put_one, put_seven, put_six, put_three, put_two,
+};
