@@ -10,6 +10,8 @@ mod job;
 mod kind;
 mod role;
 mod state;
+#[cfg(test)]
+mod tests;
 
 pub use actor::{About, Actor};
 pub use boxes::Boxes;
