@@ -1,5 +1,5 @@
 -- Who is who, and which cell is whose: what never changes.
-use Rattle.std.specs.Prelude.{ℕ, ◌≡◌, ◌==◌, ◌+◌, ◌-◌, ◌<◌, ◌≤◌, ⊤, Bool, false, nat_lt, List, [], Option, Some, None, All, slice_get, if◌then◌else◌}
+use Rattle.std.specs.Prelude.{ℕ, ◌≡◌, ◌==◌, ◌+◌, ◌-◌, ◌^◌, ◌<◌, ◌≤◌, ⊤, Bool, false, nat_lt, List, [], Option, Some, None, All, slice_get, if◌then◌else◌}
 use Rattle.dim_hierarchy.specs.Dimension.{IsHierarchy}
 use Rattle.cell_stock.specs.declared.purse.Spare.{Spare}
 use Rattle.volap_cell.specs.Cells.{Tag, OfStock, TheLedger, TheStock, TheRegistry, ImageOf, DeskOf, MapOf}
@@ -17,11 +17,12 @@ IsRoleOf s (Hand worker) = worker < s.workers
 IsRoleOf s Puller = ⊤
 IsRoleOf s Admin = ⊤
 
--- there is a server and a worker, and one administrator at most
+-- there is a server and a worker, a server's number is a byte, and there is one administrator at most
 pub record IsSetting (s : Setting) : Type 0 where
   pub hierarchy : IsHierarchy s.hierarchy
   pub servers : 0 < s.servers
   pub workers : 0 < s.workers
+  pub few : s.servers ≤ 2 ^ 8
   pub roles : All (IsRoleOf s) s.roles
   pub admin : (a b : ℕ) → slice_get s.roles a ≡ Some Admin → slice_get s.roles b ≡ Some Admin → a ≡ b
 

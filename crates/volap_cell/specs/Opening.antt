@@ -68,7 +68,9 @@ pub record IsOpening (s : Setting) (w : World) : Type 0 where
   pub tables : (worker : ℕ) → worker < s.workers → (table : map.FinMap nat_cmp Where) × (w.cells (map_cell s worker) ≡ MapCell worker table)
       × ((x : ℕ) → map.get table x ≡ (if x == worker then Some (where_is.Gate (gate worker)) else None))
   pub shards : (worker : ℕ) → worker < s.workers → IsFirstShard s w stock worker (gate worker) (root worker)
+  pub apart : (a b : ℕ) → a < s.workers → b < s.workers → root a ≡ root b → a ≡ b
   pub free : (y : ℕ) → first_stock_cell s ≤ y → y < cell_count s
       → ((worker : ℕ) → worker < s.workers → (y ≢ gate worker) × (y ≢ root worker)) → (w.cells y ≡ FreeCell) × (times y stock.free ≡ 1)
+  pub filled : (y : ℕ) → w.cells y ≢ FreeCell → times y stock.free ≡ 0
   pub rest : (y : ℕ) → cell_count s ≤ y → w.cells y ≡ FreeCell
   pub actors : (a : ℕ) → IsFresh s a (w.actors a)
