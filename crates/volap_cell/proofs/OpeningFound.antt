@@ -52,7 +52,7 @@ module _ (s : Setting) (w : World) (set : IsSetting s) (o : IsOpening s w) where
   ]
 
   -- the stock's
-  stock-tag : (y : ℕ) → first_stock_cell s ≤ y → tag_at s y ≡ OfStock
+  pub stock-tag : (y : ℕ) → first_stock_cell s ≤ y → tag_at s y ≡ OfStock
   stock-tag y high = rw (ne_eqb y ledger_cell (λ e. absurd (omega arith)), ne_eqb y stock_cell (λ e. absurd (omega arith)), ne_eqb y registry_cell (λ e. absurd (omega arith)),
       le-ltb y (3 + s.servers) (omega arith), le-ltb y (3 + s.servers + s.servers) (omega arith), le-ltb y (first_stock_cell s) high) refl
 
@@ -94,12 +94,16 @@ module _ (s : Setting) (w : World) (set : IsSetting s) (o : IsOpening s w) where
   abbrev pub FoundAt : ℕ → Type 0
   FoundAt y = Found s w o.gate o.root free_at owner_at y
 
+  -- the root is of its gate's tree
+  pub owner-root : (i : ℕ) → i < s.workers → owner_at (o.root i) ≡ InTree (o.gate i)
+  owner-root i low = ap (owner_in s o.gate o.root (o.root i)) (o.shards i low).root ∙ ap (λ (k : ℕ). InTree (o.gate k)) (root-of i low)
+
   found-gate : (i : ℕ) → i < s.workers → FoundAt (o.gate i)
   found-gate i low = IsGateOf i low refl (behind (o.gate i) (ap tag_of (gate-in i low))) (before-last (o.gate i) (gate-filled i low)) (ap (owner_in s o.gate o.root (o.gate i)) (gate-in i low)) (o.filled (o.gate i) (gate-filled i low))
 
   found-root : (i : ℕ) → i < s.workers → FoundAt (o.root i)
   found-root i low = IsRootOf i low refl (behind (o.root i) (ap tag_of (o.shards i low).root)) (before-last (o.root i) (root-filled i low))
-      (ap (owner_in s o.gate o.root (o.root i)) (o.shards i low).root ∙ ap (λ (k : ℕ). InTree (o.gate k)) (root-of i low)) (o.filled (o.root i) (root-filled i low)) (root-no_gate i low)
+      (owner-root i low) (o.filled (o.root i) (root-filled i low)) (root-no_gate i low)
 
   found-fixed : (y : ℕ) → y < first_stock_cell s → FoundAt y
   found-fixed y low =
