@@ -88,7 +88,7 @@ spot-of test x (spot ∷ spots) passes is = elim (or_cases (spot.shard == x) (li
 no-box : (h : List Dimension) (rows : List Row) (x : Spot) → IsSetOf h [] x.set → IsBox h rows x.set
 no-box h rows x is = record { rows = []; usable = All-nil (Contains rows); set_of = is }
 
-all-none : {A : Type 0} (P : A → Type 0) (xs : List A) → xs ≡ [] → All P xs
+pub all-none : {A : Type 0} (P : A → Type 0) (xs : List A) → xs ≡ [] → All P xs
 all-none P xs none = subst (All P) (sym none) (All-nil P)
 
 module _ (s : Setting) (w : World) (set : IsSetting s) (o : IsOpening s w) where
