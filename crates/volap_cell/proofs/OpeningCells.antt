@@ -1,17 +1,13 @@
 -- The cells of an opening: each is one of the fixed cells, a gate, a root or free.
-use Rattle.std.proofs.Common.{◌≡◌, ◌≢◌, ◌∙◌, ℕ, zero, suc, ◌+◌, ◌-◌, ◌<◌, ◌≤◌, ◌⊎◌, inl, inr, Bool, true, false, List, [], ◌∷◌, refl, sym, ap, subst, arith}
-use Rattle.std.specs.Prelude.{Option, Some, None, All, nat_lt, ◌==◌, if◌then◌else◌}
-use Rattle.std.proofs.lemmas.Bool.{cases_Bool, cases_lt, eq-eqb, eqb-true, eqb-false, ne_eqb, lt-ltb, le-ltb, ltb-true, ltb-false, false≢true, true≢false}
+use Rattle.std.proofs.Common.{◌≡◌, ◌≢◌, ◌∙◌, ℕ, zero, suc, ◌<◌, ◌≤◌, ◌⊎◌, inl, inr, List, [], ◌∷◌, refl, sym, ap, arith}
+use Rattle.std.specs.Prelude.{None, All, nat_lt, ◌==◌, if◌then◌else◌}
+use Rattle.std.proofs.lemmas.Bool.{cases_Bool, cases_lt, eqb-true, eqb-false}
 use Rattle.std.proofs.lemmas.List.Elements.{All-head, All-tail}
-use Rattle.shard_store.specs.declared.gate.Phase.{Phase}
-use Rattle.shard_store.specs.declared.gate.Phase.TheVariants.{Open}
 use Rattle.tree_shape.specs.Counts.{times}
 use Rattle.tree_shape.proofs.Walks.{same_not}
-use Rattle.volap_cell.specs.Cells.{CellValue, FreeCell, LedgerCell, StockCell, RegistryCell, ImageCell, DeskCell, MapCell, GateCell, BlockCell, Tag, OfStock, TheLedger, TheStock, TheRegistry, ImageOf, DeskOf, MapOf, tag_of, gate_shard, phase_of, active_in, pins_in, queue_in, gone_in, has_block, no_queue}
+use Rattle.volap_cell.specs.Cells.{CellValue, FreeCell, LedgerCell, StockCell, RegistryCell, ImageCell, DeskCell, MapCell, GateCell, BlockCell, OfStock, tag_of, gate_shard, phase_of, active_in, pins_in, queue_in, gone_in, no_queue}
 use Rattle.volap_cell.specs.Ghost.{Owner, NotOfStock, Unused, AGate, InTree}
-use Rattle.volap_cell.specs.Numbering.{tag_at}
-use Rattle.volap_cell.specs.Opening.{IsOpening, IsFirstShard}
-use Rattle.volap_cell.specs.Setting.{Setting, cell_count, first_stock_cell, ledger_cell, stock_cell, registry_cell}
+use Rattle.volap_cell.specs.Setting.{Setting, cell_count, first_stock_cell}
 use Rattle.volap_cell.specs.World.{World}
 
 -- Numbers below a bound, found by what a function says of them.

@@ -1,15 +1,12 @@
 -- What each cell of an opening is.
-use Rattle.std.proofs.Common.{◌≡◌, ◌≢◌, ◌∙◌, ℕ, zero, suc, ◌+◌, ◌-◌, ◌<◌, ◌≤◌, ◌⊎◌, inl, inr, Bool, true, false, List, [], ◌∷◌, refl, sym, ap, subst, arith}
-use Rattle.std.specs.Prelude.{Option, Some, None, nat_lt, ◌==◌}
+use Rattle.std.proofs.Common.{◌≡◌, ◌≢◌, ◌∙◌, ℕ, ◌+◌, ◌-◌, ◌<◌, ◌≤◌, inl, inr, refl, sym, ap, subst, arith}
+use Rattle.std.specs.Prelude.{nat_lt, ◌==◌}
 use Rattle.std.proofs.lemmas.Bool.{cases_Bool, cases_lt, eqb-true, eqb-false, ne_eqb, lt-ltb, le-ltb, ltb-true, ltb-false}
-use Rattle.shard_store.specs.declared.gate.Gate.{Gate}
-use Rattle.shard_store.specs.declared.gate.Phase.{Phase}
-use Rattle.shard_store.specs.declared.gate.Phase.TheVariants.{Open}
 use Rattle.tree_shape.specs.Counts.{times}
-use Rattle.volap_cell.specs.Cells.{CellValue, FreeCell, GateCell, BlockCell, Tag, OfStock, tag_of, gate_shard, phase_of, has_block}
-use Rattle.volap_cell.specs.Ghost.{Owner, NotOfStock, Unused, AGate, InTree}
+use Rattle.volap_cell.specs.Cells.{CellValue, FreeCell, GateCell, Tag, OfStock, tag_of, gate_shard}
+use Rattle.volap_cell.specs.Ghost.{Owner, InTree}
 use Rattle.volap_cell.specs.Numbering.{IsSetting, tag_at}
-use Rattle.volap_cell.specs.Opening.{IsOpening, IsFirstShard}
+use Rattle.volap_cell.specs.Opening.{IsOpening}
 use Rattle.volap_cell.specs.Setting.{Setting, cell_count, first_stock_cell, ledger_cell, stock_cell, registry_cell}
 use Rattle.volap_cell.specs.World.{World}
 use Rattle.volap_cell.proofs.OpeningCells.{Found, IsOther, IsSpare, IsGateOf, IsRootOf, NoGate, is-there, no-gate, not-of-stock, not-owned, owner_in, seek, seek-found, seek-within, times-above}
@@ -53,8 +50,14 @@ module _ (s : Setting) (w : World) (set : IsSetting s) (o : IsOpening s w) where
 
   -- the stock's
   pub stock-tag : (y : ℕ) → first_stock_cell s ≤ y → tag_at s y ≡ OfStock
-  stock-tag y high = rw (ne_eqb y ledger_cell (λ e. absurd (omega arith)), ne_eqb y stock_cell (λ e. absurd (omega arith)), ne_eqb y registry_cell (λ e. absurd (omega arith)),
-      le-ltb y (3 + s.servers) (omega arith), le-ltb y (3 + s.servers + s.servers) (omega arith), le-ltb y (first_stock_cell s) high) refl
+  stock-tag y high = rw (
+    ne_eqb y ledger_cell (λ e. absurd (omega arith)),
+    ne_eqb y stock_cell (λ e. absurd (omega arith)),
+    ne_eqb y registry_cell (λ e. absurd (omega arith)),
+    le-ltb y (3 + s.servers) (omega arith),
+    le-ltb y (3 + s.servers + s.servers) (omega arith),
+    le-ltb y (first_stock_cell s) high,
+  ) refl
 
   -- a cell with a tag of the stock isn't before the stock's
   behind : (y : ℕ) → tag_of (w.cells y) ≡ OfStock → first_stock_cell s ≤ y

@@ -1,26 +1,23 @@
 -- An opening meets the invariant.
-use Rattle.std.proofs.Common.{◌≡◌, ◌≢◌, ◌∙◌, ℕ, ◌+◌, ◌<◌, ◌≤◌, ◌⊎◌, inl, inr, Bool, true, false, cond, List, [], ◌∷◌, length, refl, sym, ap, subst, arith, ◌&&◌}
-use Rattle.std.specs.Prelude.{Option, Some, None, Contains, option_and_then}
+use Rattle.std.proofs.Common.{◌≡◌, ◌∙◌, ℕ, ◌+◌, Bool, true, cond, List, [], refl, sym, ap, subst, arith, ◌&&◌}
+use Rattle.std.specs.Prelude.{Some, Contains, option_and_then}
 use Rattle.std.proofs.lemmas.Bool.{and_right, false≢true}
 use Rattle.query_router.specs.Desk.{DeskValue, is_taken}
 use Rattle.row_ledger.specs.Past.{Ack, Insert, Query, acked, event_at, insert_at, query_at, session_in}
 use Rattle.row_ledger.proofs.Elements.{Contains-nil}
 use Rattle.row_ledger.proofs.Growth.{KeepsRight-opened}
-use Rattle.shard_store.specs.declared.queue.Queue.{Queue}
 use Rattle.tree_shape.specs.Counts.{same, times}
 use Rattle.tree_shape.specs.Shape.{numbers}
-use Rattle.row_ledger.specs.Shards.{is_live}
 use Rattle.volap_cell.specs.Desking.{Desking, IsTaken}
 use Rattle.volap_cell.specs.Ghost.{Ghost}
 use Rattle.volap_cell.specs.Invariant.{InvWith}
 use Rattle.volap_cell.specs.Numbering.{IsSetting, Numbering}
-use Rattle.volap_cell.specs.Opening.{IsOpening, IsFresh}
+use Rattle.volap_cell.specs.Opening.{IsOpening}
 use Rattle.volap_cell.specs.Owing.{Owing, is_insert, one_if, owed_by, serves}
 use Rattle.volap_cell.specs.Placing.{Inserting, Placing}
 use Rattle.volap_cell.specs.Querying.{Querying}
 use Rattle.volap_cell.specs.Setting.{Setting, actor_count, site_in}
 use Rattle.volap_cell.specs.Steps.{Inv}
-use Rattle.volap_cell.specs.Sums.{sum_below}
 use Rattle.volap_cell.specs.Telling.{Telling}
 use Rattle.volap_cell.specs.View.{View, view}
 use Rattle.volap_cell.specs.Working.{Balancing, Working}

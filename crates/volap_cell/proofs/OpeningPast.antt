@@ -1,6 +1,6 @@
 -- What stands behind an opening: the first shards, and no command.
-use Rattle.std.proofs.Common.{◌≡◌, ◌∙◌, ℕ, ◌+◌, ◌<◌, ◌≤◌, ◌⊎◌, inl, inr, Bool, true, false, List, [], ◌∷◌, length, refl, sym, ap, subst, arith}
-use Rattle.std.specs.Prelude.{zero, suc, map, Option, Some, None, option_and_then, ◌==◌, ◌&&◌}
+use Rattle.std.proofs.Common.{◌≡◌, ◌∙◌, ℕ, ◌+◌, ◌<◌, ◌≤◌, inl, inr, true, List, [], ◌∷◌, length, refl, sym, ap, subst, arith}
+use Rattle.std.specs.Prelude.{zero, suc, map, Option, None, option_and_then, ◌==◌, ◌&&◌}
 use Rattle.std.specs.List.{list_any, range_with_len}
 use Rattle.std.proofs.lemmas.Bool.{cases_Bool, eq-eqb, eqb-true, eqb-false, false≢true, or_cases, or_right, and_parts}
 use Rattle.describing_set.specs.declared.listing.Spot.{Spot}
@@ -10,7 +10,7 @@ use Rattle.row_ledger.specs.declared.event.Event.TheVariants.{Synced}
 use Rattle.row_ledger.specs.Bounds.{known, listing_of, own, passed, published}
 use Rattle.row_ledger.specs.Listings.{IsFirstListing}
 use Rattle.row_ledger.specs.Past.{acked, event_at, insert_at, insert_in, query_at, query_in, session_in}
-use Rattle.row_ledger.specs.Right.{EachEvent, IsFirstPull, IsOpening}
+use Rattle.row_ledger.specs.Right.{IsFirstPull, IsOpening}
 use Rattle.row_ledger.specs.Shards.{Place, place, is_of, comes_from, first_places, frontier, ids_made}
 use Rattle.row_ledger.specs.Site.{Site}
 
@@ -86,8 +86,11 @@ opening-published site h opens = (along site (λ h. (acked h ≡ []) × (publish
 
 passed-none : (site : Site) (h : List Event) → IsOpening site h → (server : ℕ) → passed h server ≡ []
 passed-none site h opens server = (along site (λ h. (acked h ≡ []) × (published h ≡ []) × (passed h server ≡ [])) (refl, refl, refl)
-    (λ past listing first older. (older.0, rw (own-none past (length past) older.0, older.1) refl,
-    elim (cases_Bool (length past == server)) [ inl here ↦ rw (here, older.1, older.2) refl | inr other ↦ rw (other, older.2) refl ])) h opens).2
+    (λ past listing first older. (
+      older.0,
+      rw (own-none past (length past) older.0, older.1) refl,
+      elim (cases_Bool (length past == server)) [ inl here ↦ rw (here, older.1, older.2) refl | inr other ↦ rw (other, older.2) refl ],
+    )) h opens).2
 
 pub opening-known : (site : Site) (h : List Event) → IsOpening site h → (hierarchy : List Dimension) (server : ℕ) → known hierarchy h server ≡ []
 opening-known site h opens hierarchy server =

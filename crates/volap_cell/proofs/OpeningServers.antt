@@ -1,8 +1,8 @@
 -- An opening meets the parts of the invariant that speak of shards, tables and images.
-use Rattle.std.proofs.Common.{◌≡◌, ◌≢◌, ◌∙◌, ℕ, zero, suc, ◌+◌, ◌<◌, ◌≤◌, ◌⊎◌, inl, inr, Bool, true, false, List, [], ◌∷◌, length, map, refl, sym, ap, subst, arith}
-use Rattle.std.specs.Prelude.{Option, Some, None, IsSome, IsTrue, is_some, All, Any, Contains, ◌==◌, ◌&&◌}
+use Rattle.std.proofs.Common.{◌≡◌, ◌≢◌, ◌∙◌, ℕ, zero, suc, ◌+◌, ◌<◌, ◌≤◌, ◌⊎◌, inl, inr, Bool, true, List, [], ◌∷◌, map, refl, sym, ap, subst, arith}
+use Rattle.std.specs.Prelude.{Some, IsSome, IsTrue, is_some, All, Any, Contains, ◌==◌, ◌&&◌}
 use Rattle.std.specs.List.{AllZip, list_any, range_with_len}
-use Rattle.std.proofs.lemmas.Bool.{cases_Bool, eqb-true, false≢true, or_cases, or_right}
+use Rattle.std.proofs.lemmas.Bool.{eqb-true, false≢true, or_cases, or_right}
 use Rattle.std.proofs.lemmas.List.Elements.{All-cons, All-nil, All-weaker}
 use Rattle.std.proofs.lemmas.List.Folds.{Any-from_list_any}
 use Rattle.dim_hierarchy.specs.Dimension.{Dimension}
@@ -11,18 +11,14 @@ use Rattle.describing_set.specs.DescSet.{IsSetOf}
 use Rattle.describing_set.specs.declared.listing.Spot.{Spot}
 use Rattle.describing_set.specs.declared.plane.Plane.{Plane}
 use Rattle.cell_stock.specs.Stock.{StockValue}
-use Rattle.mapping_table.specs.declared.place.Where.{Where}
 use Rattle.mapping_table.specs.declared.place.Where.TheVariants as where_is
 use Rattle.query_router.specs.declared.part.Part.{Part}
 use Rattle.query_router.specs.Desk.{is_open}
 use Rattle.row_ledger.specs.Bounds.{known, listing_of, may, published}
-use Rattle.row_ledger.specs.Listings.{IsBox, IsFirstListing, places_of}
+use Rattle.row_ledger.specs.Listings.{IsBox, places_of}
 use Rattle.row_ledger.specs.Past.{Ack, acked, last_of}
 use Rattle.row_ledger.specs.Shards.{Place, place, comes_from, first_places, frontier, ids_made, is_live, is_of, is_on}
-use Rattle.row_ledger.specs.declared.event.Event.{Event}
-use Rattle.row_ledger.proofs.Elements.{Contains-nil}
-use Rattle.server_image.specs.Registry.{RegistryValue, IsFirstShard as IsFirstSpot, IsNewRegistry}
-use Rattle.server_image.specs.declared.image.Growth.{Growth}
+use Rattle.server_image.specs.Registry.{RegistryValue, IsFirstShard as IsFirstSpot}
 use Rattle.shard_store.specs.declared.gate.Phase.TheVariants.{Gone}
 use Rattle.volap_cell.specs.Ghost.{Ghost}
 use Rattle.volap_cell.specs.Imaging.{Covering, Fits, HasGrown, Imaging, IsCovered, IsGrowth, IsImageOf}
@@ -32,7 +28,7 @@ use Rattle.volap_cell.specs.Opening.{IsOpening}
 use Rattle.volap_cell.specs.Setting.{Setting, site_in}
 use Rattle.volap_cell.specs.View.{View}
 use Rattle.volap_cell.specs.World.{World}
-use Rattle.volap_cell.proofs.OpeningPast.{first-is, first-live, first-on, first-there, opening-acked, opening-comes, opening-comes_self, opening-frontier, opening-ids, opening-known, opening-published}
+use Rattle.volap_cell.proofs.OpeningPast.{first-is, first-on, first-there, opening-acked, opening-comes, opening-comes_self, opening-frontier, opening-ids, opening-known, opening-published}
 use Rattle.volap_cell.proofs.OpeningShapes.{ghost, is-gate}
 use Rattle.volap_cell.proofs.OpeningView.{v, gate-shard, growths-none, lists, not-gone, opens, own-map, parts-none, registry-is, spots-are, stock-is, table-is}
 

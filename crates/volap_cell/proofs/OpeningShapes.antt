@@ -1,29 +1,25 @@
 -- The trees of an opening: each gate stands over an empty leaf.
-use Rattle.std.proofs.Common.{◌≡◌, ◌≢◌, ◌∙◌, ℕ, ◌+◌, ◌<◌, ◌≤◌, ◌⊎◌, inl, inr, Bool, true, false, List, [], ◌∷◌, refl, sym, ap, subst, arith}
-use Rattle.std.specs.Prelude.{Option, Some, None, IsSome}
+use Rattle.std.proofs.Common.{◌≡◌, ◌≢◌, ◌∙◌, ℕ, ◌<◌, inl, inr, true, false, [], refl, sym, ap, subst}
+use Rattle.std.specs.Prelude.{None, IsSome}
 use Rattle.std.proofs.lemmas.Bool.{cases_eq, false≢true, true≢false}
-use Rattle.measure_agg.specs.Aggregate.{agg}
-use Rattle.dc_node.specs.declared.block.Block.{Block}
 use Rattle.describing_set.specs.DescSet.{IsSetOf}
 use Rattle.describing_set.specs.declared.set.DescSet.{DescSet}
 use Rattle.shard_store.specs.declared.gate.Gate.{Gate}
-use Rattle.shard_store.specs.declared.gate.Phase.{Phase}
-use Rattle.shard_store.specs.declared.gate.Phase.TheVariants.{Open, Gone}
 use Rattle.tree_shape.specs.Shape.{Shape, TreeCells}
 use Rattle.tree_shape.specs.Steps.{AfterOpening, OpensOver}
 use Rattle.tree_shape.specs.Trees.{IsTree, leaf_without_rows}
 use Rattle.tree_shape.proofs.Openings.{opening-law}
 use Rattle.tree_shape.proofs.Totals.{leads-root}
-use Rattle.volap_cell.specs.Cells.{block_in, way_in, way_to_tree, gate_shard, phase_of}
+use Rattle.volap_cell.specs.Cells.{block_in, way_in, way_to_tree}
 use Rattle.volap_cell.specs.Ghost.{Ghost}
 use Rattle.volap_cell.specs.Growing.{table_of}
 use Rattle.volap_cell.specs.Numbering.{IsSetting}
-use Rattle.volap_cell.specs.Opening.{IsOpening, IsFirstShard}
+use Rattle.volap_cell.specs.Opening.{IsOpening}
 use Rattle.volap_cell.specs.Setting.{Setting}
 use Rattle.volap_cell.specs.Stocking.{cells_at}
 use Rattle.volap_cell.specs.View.{View, view}
 use Rattle.volap_cell.specs.World.{World}
-use Rattle.volap_cell.proofs.OpeningCells.{Found, IsOther, IsSpare, IsGateOf, IsRootOf, NoGate, seek, seek-found, seek-within}
+use Rattle.volap_cell.proofs.OpeningCells.{IsOther, IsSpare, IsGateOf, IsRootOf, seek, seek-found, seek-within}
 use Rattle.volap_cell.proofs.OpeningFound.{found, owner_at}
 
 module _ (s : Setting) (w : World) (set : IsSetting s) (o : IsOpening s w) where

@@ -1,24 +1,22 @@
 -- An opening meets the parts of the invariant that speak of cells, trees and queues.
-use Rattle.std.proofs.Common.{◌≡◌, ◌≢◌, ◌∙◌, ℕ, zero, suc, ◌+◌, ◌<◌, ◌≤◌, ◌⊎◌, inl, inr, Bool, true, false, cond, List, [], ◌∷◌, length, refl, sym, ap, subst, arith}
-use Rattle.std.specs.Prelude.{Option, Some, None, IsSome, is_some}
+use Rattle.std.proofs.Common.{◌≡◌, ◌≢◌, ◌∙◌, ℕ, ◌<◌, ◌≤◌, inl, inr, true, cond, List, [], length, sym, ap, subst, arith}
+use Rattle.std.specs.Prelude.{IsSome, is_some}
 use Rattle.std.proofs.lemmas.Bool.{cases_eq, false≢true}
-use Rattle.cell_stock.specs.Stock.{StockValue, IsStock, cells_of}
+use Rattle.cell_stock.specs.Stock.{StockValue, cells_of}
 use Rattle.cell_stock.specs.declared.purse.Spare.{Spare}
 use Rattle.dc_node.specs.declared.block.Block.{Block}
 use Rattle.dc_node.specs.declared.entry.Entry.{Entry}
 use Rattle.shard_store.specs.Gate.{IsQueueOf}
-use Rattle.shard_store.specs.declared.gate.Gate.{Gate}
-use Rattle.shard_store.specs.declared.queue.Queue.{Queue}
 use Rattle.tree_shape.specs.Counts.{Each, times}
 use Rattle.tree_shape.specs.Queries.{NoneWaits}
-use Rattle.tree_shape.specs.Shape.{Node, nodes, gate_node, node_of}
+use Rattle.tree_shape.specs.Shape.{Node, nodes, node_of}
 use Rattle.tree_shape.specs.Steps.{AreApart, AreSpares}
 use Rattle.tree_shape.proofs.Assembled.{node-block, node-gate}
-use Rattle.volap_cell.specs.Cells.{has_block, queue_in, way_in, gate_shard}
-use Rattle.volap_cell.specs.Ghost.{Ghost, Owner, NotOfStock, Unused, AGate, InTree, is_unused, is_in_purse, is_in_job}
+use Rattle.volap_cell.specs.Cells.{has_block, queue_in, way_in}
+use Rattle.volap_cell.specs.Ghost.{Ghost, Owner, NotOfStock, AGate, InTree, is_unused, is_in_purse, is_in_job}
 use Rattle.volap_cell.specs.Growing.{Growing, Queueing, Resting}
 use Rattle.volap_cell.specs.Numbering.{IsSetting}
-use Rattle.volap_cell.specs.Opening.{IsOpening, IsFirstShard}
+use Rattle.volap_cell.specs.Opening.{IsOpening}
 use Rattle.volap_cell.specs.Querying.{Pinning, pins_of}
 use Rattle.volap_cell.specs.Setting.{Setting, actor_count, cell_count, first_stock_cell}
 use Rattle.volap_cell.specs.Stocking.{Stocking, Stamping, IsWhole, NoneExpects, all_items, all_spares, cells_at, spent_of}
@@ -26,9 +24,9 @@ use Rattle.volap_cell.specs.Turning.{Turning, inside_of}
 use Rattle.volap_cell.specs.View.{View}
 use Rattle.volap_cell.specs.World.{World}
 use Rattle.tree_shape.specs.Trees.{leaf_without_rows}
-use Rattle.volap_cell.proofs.OpeningCells.{Found, IsOther, IsSpare, IsGateOf, IsRootOf, NoGate}
-use Rattle.volap_cell.proofs.OpeningFound.{found, owner_at, owner-root}
-use Rattle.volap_cell.proofs.OpeningShapes.{ghost, inside-root, is-gate, none-there, root-at, leaf-at, root-inside, shape_at, tree-at}
+use Rattle.volap_cell.proofs.OpeningCells.{IsOther, IsSpare, IsGateOf, IsRootOf}
+use Rattle.volap_cell.proofs.OpeningFound.{found, owner-root}
+use Rattle.volap_cell.proofs.OpeningShapes.{ghost, inside-root, is-gate, none-there, root-at, leaf-at, root-inside, tree-at}
 use Rattle.volap_cell.proofs.OpeningView.{v, gate-shard, items-none, job-none, no-read, no-way, not-frozen, not-gone, purse-none, quiet, read-none, spares-none, stock-is, sum-none, way-none}
 
 each-none : {A : Type 0} (P : A → Type 0) (xs : List A) → xs ≡ [] → Each P xs

@@ -1,36 +1,31 @@
 -- What the invariant sees of an opening: its history, its registry, images, desks, tables and actors, and that no gate is busy.
-use Rattle.std.proofs.Common.{◌≡◌, ◌≢◌, ◌∙◌, ℕ, zero, suc, ◌+◌, ◌<◌, ◌≤◌, ◌⊎◌, inl, inr, Bool, true, false, List, [], ◌∷◌, ◌++◌, length, refl, sym, ap, subst, arith}
+use Rattle.std.proofs.Common.{◌≡◌, ◌≢◌, ◌∙◌, ℕ, zero, suc, ◌<◌, ◌⊎◌, inl, inr, List, [], ◌++◌, length, refl, sym, ap, subst, arith}
 use Rattle.std.specs.Prelude.{Option, Some, None, ◌==◌, if◌then◌else◌}
-use Rattle.std.specs.FinMap as map
 use Rattle.std.proofs.lemmas.Bool.{cases_Bool, cases_lt, eq-eqb, eqb-true}
-use Rattle.cell_stock.specs.Stock.{StockValue}
 use Rattle.cell_stock.specs.declared.purse.Spare.{Spare}
 use Rattle.mapping_table.specs.declared.place.Where.{Where}
 use Rattle.mapping_table.specs.declared.place.Where.TheVariants as where_is
 use Rattle.query_router.specs.Desk.{DeskValue}
 use Rattle.row_ledger.specs.Bounds.{listing_of}
-use Rattle.row_ledger.specs.LedgerValue.{LedgerValue}
 use Rattle.row_ledger.specs.Listings.{IsFirstListing}
 use Rattle.row_ledger.specs.Right.{IsOpening as IsOpeningHistory}
 use Rattle.row_ledger.specs.declared.event.Event.{Event}
 use Rattle.server_image.specs.Image.{ImageValue}
-use Rattle.server_image.specs.Registry.{RegistryValue}
-use Rattle.shard_store.specs.declared.gate.Gate.{Gate}
 use Rattle.shard_store.specs.declared.gate.Phase.{Phase}
 use Rattle.shard_store.specs.declared.gate.Phase.TheVariants.{Open, Frozen, Gone}
 use Rattle.shard_store.specs.declared.queue.Queue.{Queue}
 use Rattle.volap_cell.specs.Cells.{CellValue, FreeCell, LedgerCell, StockCell, RegistryCell, ImageCell, DeskCell, MapCell, GateCell, BlockCell, OfStock, tag_of, gate_shard, phase_of, active_in, pins_in, queue_in, gone_in, ledger_in, stock_in, registry_in, image_in, desk_in, where_in}
 use Rattle.volap_cell.specs.Errands.{Taken, RowWay, ReadPart, taken_of, way_of, read_of}
 use Rattle.volap_cell.specs.Numbering.{IsSetting}
-use Rattle.volap_cell.specs.Opening.{IsOpening, IsFirstShard}
-use Rattle.volap_cell.specs.Setting.{Setting, site_in, ledger_cell, map_cell}
+use Rattle.volap_cell.specs.Opening.{IsOpening}
+use Rattle.volap_cell.specs.Setting.{Setting, site_in, map_cell}
 use Rattle.volap_cell.specs.Stocking.{all_items, all_spares, items_of_job, items_of_read, spent_of}
 use Rattle.volap_cell.specs.Sums.{sum_below}
 use Rattle.volap_cell.specs.Values.{JobValue}
 use Rattle.volap_cell.specs.View.{View, view}
 use Rattle.volap_cell.specs.World.{World}
 use Rattle.volap_cell.specs.declared.command.Command.{Command}
-use Rattle.volap_cell.proofs.OpeningCells.{Found, IsOther, IsSpare, IsGateOf, IsRootOf, NoGate}
+use Rattle.volap_cell.proofs.OpeningCells.{IsOther, IsSpare, IsGateOf, IsRootOf, NoGate}
 use Rattle.volap_cell.proofs.OpeningFound.{found, stock-tag, tag-is}
 use Rattle.volap_cell.proofs.OpeningPast.{opening-listing}
 

@@ -30,3 +30,4 @@ pub mod Falls
 pub mod Opening
 pub mod Sights
 pub mod Steps
+pub mod Laws

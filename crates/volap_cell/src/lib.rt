@@ -8,6 +8,7 @@ mod command;
 mod errand;
 mod job;
 mod kind;
+mod laws;
 mod role;
 
 pub use actor::{About, Actor};
@@ -17,4 +18,5 @@ pub use command::{Balance, Command, Work};
 pub use errand::{Errand, Reading, RowErrand, Task, Way};
 pub use job::{Building, BuiltTree, Collecting, Frozen, Job, Stage, Unbuilt};
 pub use kind::Kind;
+pub use laws::opening_law;
 pub use role::{Role, RoleList};
