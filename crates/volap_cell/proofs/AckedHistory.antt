@@ -2,25 +2,23 @@
 -- Where shards are: `lineage-acked`, `resting-acked`, `under-acked`. The table of rows: `rows-acked`, `growing-acked`, `queueing-acked`.
 -- Where rows are: `placing-acked`, with the new row's place; how far inserts are: `inserting-acked`. What is known: `imaging-acked`,
 -- `covering-acked`, with the new row covered where it must be.
-use Rattle.std.proofs.Common.{◌≡◌, ◌≢◌, ℕ, ◌<◌, ◌∙◌, List, [], ◌∷◌, ◌++◌, Bool, true, false, IsTrue, length, refl, sym, ap, subst, arith, ◌⊎◌, inl, inr, All, Any, Contains, ◌==◌, suc}
-use Rattle.std.specs.Prelude.{Option, Some, None, zero, slice_index_or, if◌then◌else◌}
+use Rattle.std.proofs.Common.{◌≡◌, ◌≢◌, ℕ, ◌<◌, ◌∙◌, List, [], ◌∷◌, ◌++◌, Bool, true, IsTrue, length, refl, sym, subst, arith, ◌⊎◌, inl, inr, All, Contains, ◌==◌, suc}
+use Rattle.std.specs.Prelude.{Option, Some, zero, slice_index_or}
 use Rattle.std.proofs.lemmas.Bool.{cond_both, eqb-true}
 use Rattle.std.proofs.lemmas.List.Elements.{All-weaker, All-cons, All-append, All-contains, All-contains_itself, Contains-append_left, Contains-append_right}
 use Rattle.dim_hierarchy.specs.declared.row.Row.{Row}
 use Rattle.cell_stock.specs.Stock.{StockValue}
 use Rattle.dc_node.specs.declared.block.Block.{Block}
-use Rattle.describing_set.specs.declared.listing.Spot.{Spot}
 use Rattle.mapping_table.specs.declared.place.Where.{Where}
 use Rattle.query_router.specs.Desk.{DeskValue}
 use Rattle.row_ledger.specs.declared.event.Event.{Event}
 use Rattle.row_ledger.specs.declared.event.Event.TheVariants.{Acked}
 use Rattle.row_ledger.specs.Past.{Ack, Insert, ack_of, insert_at, acked, last_of}
-use Rattle.row_ledger.specs.Bounds.{own, passed, listed, known, published, listing_of, is_listed}
+use Rattle.row_ledger.specs.Bounds.{own, passed, listed, known, listing_of, is_listed}
 use Rattle.row_ledger.specs.Changes.{AckChanges, ShardsStay}
 use Rattle.row_ledger.proofs.Changes.{acked-changes}
 use Rattle.server_image.specs.Image.{ImageValue}
 use Rattle.server_image.specs.Registry.{RegistryValue}
-use Rattle.server_image.specs.declared.image.Growth.{Growth}
 use Rattle.shard_store.specs.declared.gate.Gate.{Gate}
 use Rattle.shard_store.specs.declared.gate.Phase.{Phase}
 use Rattle.shard_store.specs.declared.queue.Queue.{Queue}
@@ -31,7 +29,7 @@ use Rattle.volap_cell.specs.Growing.{IsUnder, Growing, Queueing, Resting}
 use Rattle.volap_cell.specs.ImageKinds.{doing}
 use Rattle.volap_cell.specs.Imaging.{IsCovered, Fits, Covering, Imaging}
 use Rattle.volap_cell.specs.Lineage.{Lineage}
-use Rattle.volap_cell.specs.Placing.{NobodyAt, IsRouted, Placing, Inserting}
+use Rattle.volap_cell.specs.Placing.{NobodyAt, Placing, Inserting}
 use Rattle.volap_cell.specs.Setting.{Setting}
 use Rattle.volap_cell.specs.View.{row_at}
 use Rattle.volap_cell.specs.declared.command.Command.{Command}

@@ -1,10 +1,10 @@
 -- What began at a position of a history is of one kind, and an insert that ended there was acknowledged or has failed.
-use Rattle.std.proofs.Common.{◌≡◌, ◌≢◌, ℕ, zero, suc, List, [], ◌∷◌, Bool, true, false, not, refl, sym, ap, subst, arith, ◌==◌, ◌∙◌, ◌⊎◌, inl, inr, map}
+use Rattle.std.proofs.Common.{◌≡◌, ℕ, zero, suc, List, [], ◌∷◌, Bool, true, not, refl, sym, ap, arith, ◌==◌, ◌∙◌, inl, inr, map}
 use Rattle.std.specs.Prelude.{Option, Some, None, Contains, IsTrue, option_and_then}
 use Rattle.std.specs.List.{list_any}
-use Rattle.std.proofs.lemmas.Bool.{eq-eqb, eqb-true, false≢true, or_right}
+use Rattle.std.proofs.lemmas.Bool.{eq-eqb, false≢true, or_right}
 use Rattle.std.proofs.lemmas.List.Elements.{Contains-append_right}
-use Rattle.row_ledger.specs.Past.{Ack, Insert, Query, acked, acked_rows, call_at, call_in, event_at, failed, has_ended, insert_at, insert_in, is_kept, query_at, query_in}
+use Rattle.row_ledger.specs.Past.{Ack, Insert, Query, acked, call_at, call_in, event_at, failed, has_ended, insert_at, insert_in, is_kept, query_at, query_in}
 use Rattle.row_ledger.specs.Right.{Site, EachEvent, Stands}
 use Rattle.row_ledger.specs.declared.event.Event.{Event}
 use Rattle.row_ledger.specs.declared.event.Event.TheVariants.{Begun}

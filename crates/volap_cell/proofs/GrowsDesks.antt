@@ -1,5 +1,5 @@
 -- One event more, that splits and moves no shard: desks, and what the parts of queries have counted.
-use Rattle.std.proofs.Common.{◌≡◌, ◌≢◌, ℕ, ◌<◌, ◌≤◌, ◌∙◌, List, [], ◌∷◌, map, Bool, true, false, IsTrue, length, refl, sym, ap, subst, arith, ◌⊎◌, inl, inr, All, Any, Contains, ◌==◌, le_of_lt, eqb-true}
+use Rattle.std.proofs.Common.{◌≡◌, ℕ, ◌<◌, ◌≤◌, ◌∙◌, List, [], ◌∷◌, map, Bool, true, false, length, refl, sym, ap, subst, arith, ◌⊎◌, inl, inr, All, Contains, ◌==◌, le_of_lt, eqb-true}
 use Rattle.std.specs.Prelude.{Option, Some, None}
 use Rattle.std.specs.List.{list_any}
 use Rattle.std.proofs.lemmas.List.Elements.{All-weaker, All-contains, All-contains_itself}
@@ -9,7 +9,6 @@ use Rattle.dim_hierarchy.specs.Filter.{matches}
 use Rattle.dim_hierarchy.specs.declared.row.Row.{Row}
 use Rattle.dim_hierarchy.specs.declared.filter.Pick.{Pick}
 use Rattle.dc_node.specs.declared.block.Block.{Block}
-use Rattle.dc_node.specs.declared.todo.Item.{Item}
 use Rattle.measure_agg.specs.Aggregate.{agg}
 use Rattle.query_router.specs.Desk.{DeskValue, state_is_refused, is_refused}
 use Rattle.query_router.specs.declared.part.Part.{Part}
@@ -18,21 +17,20 @@ use Rattle.query_router.specs.declared.part.PartState.TheVariants as state
 use Rattle.query_router.specs.declared.part.Want.{Want}
 use Rattle.query_router.specs.declared.part.Want.TheVariants as want
 use Rattle.row_ledger.specs.declared.event.Event.{Event}
-use Rattle.row_ledger.specs.Past.{Ack, Insert, Query, insert_at, query_at, before, acked}
+use Rattle.row_ledger.specs.Past.{Ack, Query, insert_at, query_at, before, acked}
 use Rattle.row_ledger.specs.Bounds.{must, known}
-use Rattle.row_ledger.specs.Shards.{comes_from}
 use Rattle.row_ledger.specs.Changes.{ShardsStay}
 use Rattle.row_ledger.proofs.Answering.{All-acked_before}
 use Rattle.row_ledger.proofs.Elements.{Contains-mapped}
 use Rattle.row_ledger.proofs.Positions.{before-older}
 use Rattle.shard_store.specs.declared.gate.Gate.{Gate}
-use Rattle.tree_shape.specs.Counts.{Each, times}
+use Rattle.tree_shape.specs.Counts.{times}
 use Rattle.tree_shape.specs.Queries.{IsUnfinished, fits}
 use Rattle.tree_shape.specs.Shape.{Shape, nodes}
-use Rattle.tree_shape.specs.Tables.{AreAlike, IsThereOrCounted, AfterTable}
+use Rattle.tree_shape.specs.Tables.{AreAlike, IsThereOrCounted}
 use Rattle.tree_shape.proofs.Walks.{same_is}
-use Rattle.tree_shape.proofs.Tables.{query-alike, tree-alike}
-use Rattle.volap_cell.specs.Desking.{AreUnrelated, AreLinesApart, IsWantOf, IsAtPart, Desking}
+use Rattle.tree_shape.proofs.Tables.{query-alike}
+use Rattle.volap_cell.specs.Desking.{AreUnrelated, AreLinesApart, IsWantOf, Desking}
 use Rattle.volap_cell.specs.Errands.{Taken, ReadPart}
 use Rattle.volap_cell.specs.Growing.{table_of, IsUnder}
 use Rattle.volap_cell.specs.Querying.{must_hold, IsCounted, HoldsOr, IsEndOfPart, IsWalk, IsInTreeOf, IsReading, Querying}

@@ -1,6 +1,6 @@
 -- One event more, that splits and moves no shard and is no work of the commands in question: jobs and balances.
-use Rattle.std.proofs.Common.{◌≡◌, ◌≢◌, ℕ, ◌<◌, ◌≤◌, ◌∙◌, List, [], ◌∷◌, map, take, drop, reverse, Bool, true, false, IsTrue, length, refl, sym, ap, subst, arith, ◌⊎◌, inl, inr, All, Any, Contains, is_some, count_by}
-use Rattle.std.specs.Prelude.{Option, Some, None}
+use Rattle.std.proofs.Common.{◌≡◌, ℕ, ◌≤◌, ◌∙◌, List, ◌∷◌, take, drop, reverse, Bool, false, IsTrue, length, refl, sym, ap, subst, All, Contains, count_by}
+use Rattle.std.specs.Prelude.{Option, Some}
 use Rattle.std.specs.List.{AllZip}
 use Rattle.std.proofs.lemmas.List.Elements.{All-weaker}
 use Rattle.dim_hierarchy.specs.declared.row.Row.{Row}
@@ -11,8 +11,8 @@ use Rattle.row_ledger.specs.declared.settings.Decline.{Decline}
 use Rattle.row_ledger.specs.Past.{Ack, Step, acked, acked_into, before, work, is_work_of}
 use Rattle.row_ledger.specs.Bounds.{may}
 use Rattle.row_ledger.specs.Changes.{ShardsStay}
-use Rattle.row_ledger.specs.Shards.{Place, frontier, is_live, is_on, comes_from}
-use Rattle.row_ledger.specs.Work.{AreReadOf, Reading, Settles, is_done}
+use Rattle.row_ledger.specs.Shards.{frontier, comes_from}
+use Rattle.row_ledger.specs.Work.{Reading, Settles, is_done}
 use Rattle.row_ledger.proofs.Older.{may-older}
 use Rattle.row_ledger.proofs.Positions.{before-older}
 use Rattle.shard_plan.specs.declared.action.Action.{Action}

@@ -1,12 +1,12 @@
 -- What a server must know was acknowledged, and what was acknowledged began.
-use Rattle.std.proofs.Common.{◌≡◌, ℕ, zero, suc, ◌<◌, List, [], ◌∷◌, ◌++◌, Bool, true, false, refl, sym, ap, subst, arith, ◌==◌, ◌∙◌, ◌⊎◌, inl, inr}
+use Rattle.std.proofs.Common.{◌≡◌, ℕ, zero, suc, List, [], ◌∷◌, ◌++◌, Bool, true, false, refl, ap, subst, arith, ◌==◌, ◌∙◌, inl, inr}
 use Rattle.std.specs.Prelude.{Option, Some, None, Contains, if◌then◌else◌, option_map, option_and_then}
 use Rattle.std.specs.List.{cons_option}
 use Rattle.std.specs.Option.{option_map_or}
-use Rattle.std.proofs.lemmas.List.Elements.{Contains-append_cases, Contains-append_right}
+use Rattle.std.proofs.lemmas.List.Elements.{Contains-append_cases}
 use Rattle.dim_hierarchy.specs.Dimension.{Dimension}
 use Rattle.row_ledger.specs.Bounds.{is_listed, known, listed, listing_of, own, passed, published}
-use Rattle.row_ledger.specs.Past.{Ack, Insert, Pull, ack_in, ack_of, acked, event_at, insert_at, insert_in, pull_in}
+use Rattle.row_ledger.specs.Past.{Ack, Insert, Pull, ack_of, acked, insert_at, insert_in, pull_in}
 use Rattle.row_ledger.specs.Right.{Site, EachEvent, Stands, IsRightAck}
 use Rattle.row_ledger.specs.declared.event.Event.{Event}
 use Rattle.row_ledger.specs.declared.event.Event.TheVariants.{Acked}

@@ -1,17 +1,12 @@
 -- What the invariant gives of rows and of the shards that stand.
-use Rattle.std.proofs.Common.{◌≡◌, ◌≢◌, ℕ, ◌+◌, ◌<◌, ◌≤◌, List, [], ◌∷◌, Bool, true, false, cond, refl, sym, ap, subst, arith, ◌==◌, ◌∙◌, ◌&&◌, ◌||◌, ◌⊎◌, inl, inr}
-use Rattle.std.specs.Prelude.{Option, Some, None, Contains, IsSome, IsTrue, option_and_then}
+use Rattle.std.proofs.Common.{◌≡◌, ℕ, List, [], ◌∷◌, Bool, true, false, refl, sym, ◌==◌, ◌∙◌, ◌&&◌, ◌||◌, inl}
 use Rattle.std.specs.List.{list_any}
-use Rattle.std.proofs.lemmas.Bool.{eq-eqb, eqb-true, false≢true}
-use Rattle.tree_shape.specs.Counts.{same, times}
-use Rattle.tree_shape.specs.Shape.{numbers}
-use Rattle.tree_shape.proofs.Walks.{on_bool, eqb-eq, eqb-ne, eqb-self, eqb-no}
-use Rattle.shard_store.specs.declared.gate.Phase.TheVariants.{Gone}
-use Rattle.row_ledger.specs.Past.{Ack, Insert, acked, insert_at}
+use Rattle.std.proofs.lemmas.Bool.{eq-eqb}
+use Rattle.tree_shape.proofs.Walks.{eqb-self, eqb-no}
 use Rattle.row_ledger.specs.Shards.{Place, frontier, is_live, is_of, is_on}
 use Rattle.volap_cell.specs.Ghost.{Ghost}
 use Rattle.volap_cell.specs.Invariant.{InvWith}
-use Rattle.volap_cell.specs.Promises.{Standing, IsInOne, IsInNone, times_in}
+use Rattle.volap_cell.specs.Promises.{Standing, IsInOne, IsInNone}
 use Rattle.volap_cell.specs.Setting.{Setting}
 use Rattle.volap_cell.specs.View.{View}
 

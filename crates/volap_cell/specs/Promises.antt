@@ -1,6 +1,6 @@
 -- What the invariant gives, in the words of the rules: the one place of each row, what a query has and has still before it, and that
 -- images cover what their servers must know.
-use Rattle.std.specs.Prelude.{ℕ, ◌≡◌, ◌≢◌, ◌+◌, ◌<◌, ◌≤◌, ◌⊎◌, true, false, cond, IsTrue, List, [], ◌∷◌, Option, Some, None, All, Any, Contains}
+use Rattle.std.specs.Prelude.{ℕ, ◌≡◌, ◌≢◌, ◌+◌, ◌<◌, ◌≤◌, ◌⊎◌, true, false, cond, IsTrue, List, [], ◌∷◌, Some, None, All, Any, Contains}
 use Rattle.dim_hierarchy.specs.declared.row.Row.{Row}
 use Rattle.describing_set.specs.DescSet.{covers}
 use Rattle.describing_set.specs.declared.listing.Spot.{Spot}
@@ -24,7 +24,6 @@ use Rattle.volap_cell.specs.Steps.{Inv}
 use Rattle.volap_cell.specs.Stocking.{cells_at}
 use Rattle.volap_cell.specs.View.{View, view}
 use Rattle.volap_cell.specs.World.{World}
-use Rattle.volap_cell.specs.declared.command.Command.{Command}
 use Rattle.volap_cell.specs.declared.command.Work.TheVariants as work_is
 
 -- The gates of the shards that stand, and for each a shape that fits its tree.

@@ -1,6 +1,13 @@
-//! What follows of the invariant, in the words of the rules. There is nothing to do at run time.
+//! Laws of the invariant: that it is met to begin with, and what follows of it, in the words of the rules. There
+//! is nothing to do at run time.
 
+ghost use Rattle.volap_cell.specs.Laws.{OpeningLaw};
 ghost use Rattle.volap_cell.specs.Promises.{PlaceLaw, RowsLaw, ImageLaw, QueryLaw};
+
+/// What a core begins with meets the invariant.
+pub fn opening_law()
+    ensures { OpeningLaw }
+{}
 
 /// Each row whose insert began and didn't fail has one place: it is in one shard that stands, once, in
 /// its tree or its queue; or its insert stands on its server's desk, or no part for it was routed yet.
