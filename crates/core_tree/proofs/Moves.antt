@@ -20,7 +20,7 @@ use Rattle.tree_shape.proofs.Parts.{each-left, each-right}
 use Rattle.tree_shape.proofs.Visits.{times-append}
 use Rattle.tree_shape.proofs.Walks.{on_bool, eqb-eq, eqb-ne, eqb-self, eqb-no, same_is, same_not}
 use Rattle.volap_cell.specs.Errands.{RowWay, RowPlace, Outside, AtBlock, InLeaf, AtRest}
-use Rattle.volap_cell.specs.Ghost.{Ghost, Owner, InPurse, InTree, NotOfStock, AGate, is_in_purse}
+use Rattle.volap_cell.specs.Ghost.{Ghost, Owner, InPurse, InTree, NotOfStock, AGate, is_unused, is_in_purse, is_in_tree, is_in_job}
 use Rattle.volap_cell.specs.Growing.{table_of, Growing}
 use Rattle.volap_cell.specs.Invariant.{InvWith}
 use Rattle.volap_cell.specs.Numbering.{Numbering}
@@ -29,7 +29,7 @@ use Rattle.volap_cell.specs.Stocking.{cells_at, IsWhole, Stocking, Stamping, Non
 use Rattle.volap_cell.specs.Sums.{sum_below}
 use Rattle.volap_cell.specs.Turning.{Turning, IsIn, is_inside, inside_of}
 use Rattle.volap_cell.specs.View.{View}
-use Rattle.core_tree.proofs.Spares.{spares-each, spares-distinct, spares-from, each-drop, distinct-drop, used-apart, moved_owner, on_used}
+use Rattle.core_tree.proofs.Spares.{spares-each, spares-distinct, spares-from, each-drop, distinct-drop, used-apart, moved_owner, on_used, each-cell, each-times, times-off, times-cells, owner-purse, in-own, other-purse, other-tree}
 
 -- what a tree's law says: `used` are the spares that are blocks of the tree now
 pub record Moved (table : Table) (before now : TreeCells) (g g2 : Shape) (r : ℕ) (used : List Spare) : Type 0 where
@@ -89,6 +89,9 @@ pub record TreeMoves (s : Setting) (v v2 : View) (g g2 : Ghost) (n c : ℕ) : Ty
 module _ (s : Setting) (v v2 : View) (g g2 : Ghost) (n c : ℕ) (other : OtherLaw) (i : InvWith s v g) (m : TreeMoves s v v2 g g2 n c) where
   abbrev r : ℕ
   r = m.way.row.no
+
+  abbrev used : List Spare
+  used = m.used
 
   abbrev now : RowWay
   now = record m.way { place = m.place }
@@ -263,3 +266,76 @@ module _ (s : Setting) (v v2 : View) (g g2 : Ghost) (n c : ℕ) (other : OtherLa
   counts-same f d =
       i.turning.counts d ∙ ap (sum_below (actor_count s)) (fun_ext (λ a. sym (by_actor v.ways v2.ways (λ a o. inside_of d o ≡ inside_of d (v.ways a)) m.ways_off
       (ap (inside_of d) m.is ∙ f d ∙ ap (inside_of d) (sym m.was)) (λ a ne. refl) a)))
+
+  -- Stocking.
+
+  from-purse : Each (λ (x : Spare). g.owner x.cell ≡ InPurse n) used
+  from-purse = each-right (λ (x : Spare). g.owner x.cell ≡ InPurse n) (v2.purses n) used
+      (subst (Each (λ (x : Spare). g.owner x.cell ≡ InPurse n)) m.purse
+      (each-cell (λ y. g.owner y ≡ InPurse n) (v.purses n) (λ y h. owner-purse n (g.owner y) (by-count y h))))
+    where
+      by-count : (y : ℕ) → 1 ≤ times y (cells_of (v.purses n)) → is_in_purse n (g.owner y) ≡ true
+      by-count y h = on_bool (is_in_purse n (g.owner y)) (λ q. q) (λ q. let k : times y (cells_of (v.purses n)) ≡ 0 = i.stocking.purse n y ∙ ap (λ (b : Bool). cond b 1 0) q in absurd (omega arith))
+
+  -- a cell is a used one, which was in the purse and is the tree's now, or its owner is as before
+  on : {P : Type 0} (y : ℕ) → (g.owner y ≡ InPurse n → g2.owner y ≡ InTree c → ((Q : ℕ → Type 0) → Each (λ (x : Spare). Q x.cell) used → Q y) → P)
+      → (Each (λ (x : Spare). y ≢ x.cell) used → g2.owner y ≡ g.owner y → P) → P
+  on y f h = on_used used c n g.owner y from-purse (λ p t k. f p (m.owner y ∙ t) k) (λ o t. h o (m.owner y ∙ t))
+
+  purse-count : (y : ℕ) → times y (cells_of (v.purses n)) ≡ times y (cells_of (v2.purses n)) + times y (cells_of used)
+  purse-count y = ap (λ (ss : List Spare). times y (cells_of ss)) m.purse ∙ times-cells y (v2.purses n) used
+
+  as-before : (f : Owner → Bool) → f (InPurse n) ≡ false → f (InTree c) ≡ false → (y : ℕ) → ◌≡◌ {A = ℕ} (cond (f (g.owner y)) 1 0) (cond (f (g2.owner y)) 1 0)
+  as-before f a b y = on y
+      (λ p t u. ap (λ (o : Owner). cond (f o) 1 0) p ∙ ap (λ (z : Bool). cond z 1 0) (a ∙ sym b) ∙ ap (λ (o : Owner). cond (f o) 1 0) (sym t))
+      (λ o t. ap (λ (o : Owner). cond (f o) 1 0) (sym t))
+
+  my-purse : (y : ℕ) → times y (cells_of (v2.purses n)) ≡ cond (is_in_purse n (g2.owner y)) 1 0
+  my-purse y =
+      let old = i.stocking.purse n y in
+      let sum = purse-count y in
+      on y
+      (λ p t u.
+      let one = u (λ z. 1 ≤ times z (cells_of used)) (each-times used) in
+      let was : ◌≡◌ {A = ℕ} (cond (is_in_purse n (g.owner y)) 1 0) 1 = ap (λ (o : Owner). cond (is_in_purse n o) 1 0) p ∙ in-own n in
+      let is : ◌≡◌ {A = ℕ} (cond (is_in_purse n (g2.owner y)) 1 0) 0 = ap (λ (o : Owner). cond (is_in_purse n o) 1 0) t in omega arith)
+      (λ o t.
+      let none = times-off y used o in
+      let is : ◌≡◌ {A = ℕ} (cond (is_in_purse n (g2.owner y)) 1 0) (cond (is_in_purse n (g.owner y)) 1 0) = ap (λ (o : Owner). cond (is_in_purse n o) 1 0) t in omega arith)
+
+  pub moved-stocking : Stocking s v.stock v2.made v.gates v.phases v.pins v.gone v2.purses v.jobs g2.owner g2.shape
+  moved-stocking =
+      let k = i.stocking in
+      record {
+        valid = k.valid;
+        count = k.count;
+        within = λ y ne. on y (λ p t u. k.within y (λ z. let e : InPurse n ≡ NotOfStock = sym p ∙ z in cc)) (λ o t. k.within y (λ z. ne (t ∙ z)));
+        unused = λ y. k.unused y ∙ as-before is_unused refl refl y;
+        purse = λ a y. on_bool (eqb a n)
+            (λ q. subst (λ (z : ℕ). times y (cells_of (v2.purses z)) ≡ cond (is_in_purse z (g2.owner y)) 1 0) (sym (eqb-eq _ _ q)) (my-purse y))
+            (λ q. let ne = eqb-ne _ _ q in
+            ap (λ (ss : List Spare). times y (cells_of ss)) (m.purses_off a ne) ∙ k.purse a y ∙ as-before (is_in_purse a) (other-purse a n ne) refl y);
+        job = λ a y. k.job a y ∙ as-before (is_in_job a) refl refl y;
+        gate = λ d isg. on d (λ p t u. let z : InPurse n ≡ AGate = sym p ∙ k.gate d isg in cc) (λ o t. t ∙ k.gate d isg);
+        gate_back = λ d own. on d (λ p t u. let z : InTree c ≡ AGate = sym t ∙ own in cc) (λ o t. k.gate_back d (sym t ∙ own));
+        tree = λ d y w yi yd. by_gate (λ d z. IsWhole v.gates v.phases v.pins d → z.inside y ≡ true → y ≢ d → (g2.owner y ≡ InTree d) × (v2.made y ≡ true))
+            (λ w yi yd. on y
+            (λ p t u. (t, u (λ z. v2.made z ≡ true) m.fresh))
+            (λ o t. let e = k.tree c y w (sym (m.moved.inside y o) ∙ yi) yd in (t ∙ e.0, m.still y e.1)))
+            (λ d nd w yi yd. let e = k.tree d y w yi yd in
+            on y (λ p t u. let z : InPurse n ≡ InTree d = sym p ∙ e.0 in cc) (λ o t. (t ∙ e.0, m.still y e.1)))
+            d w yi yd;
+        tree_back = λ d y own. on y
+            (λ p t u.
+            let e : c ≡ d = (let z : InTree c ≡ InTree d = sym t ∙ own in cc) in
+            (subst (λ (z : ℕ). IsSome (v.gates z)) e m.is_gate,
+            (λ w. (subst (λ (z : ℕ). (g2.shape z).inside y ≡ true) e (u (λ z. (g2.shape c).inside z ≡ true) m.moved.filled),
+            (λ z. let q : InPurse n ≡ AGate = sym p ∙ ap g.owner z ∙ k.gate d (subst (λ (z : ℕ). IsSome (v.gates z)) e m.is_gate) in cc)))))
+            (λ o t.
+            let e = k.tree_back d y (sym t ∙ own) in
+            (e.0, (λ w. let f = e.1 w in (by_gate (λ d z. (g.shape d).inside y ≡ true → z.inside y ≡ true) (λ p. m.moved.inside y o ∙ p) (λ d nd p. p) d f.0, f.1))));
+        gone_cells = λ d isg y.
+            let nd : d ≢ c = (λ e. m.stands (subst (λ (z : ℕ). v.phases z ≡ Some Gone) e isg)) in
+            k.gone_cells d isg y ∙ as-before (is_in_tree d) refl (other-tree c d nd) y;
+        none_gone = k.none_gone;
+      }
