@@ -15,7 +15,7 @@ use Rattle.tree_shape.specs.Queries.{IsUnfinished, NoneWaits}
 use Rattle.tree_shape.specs.Shape.{Table, TreeCells, nodes, Shape}
 use Rattle.tree_shape.specs.Steps.{IsSpare, AreSpares, AreApart, AfterOther}
 use Rattle.tree_shape.specs.Trees.{IsTree}
-use Rattle.tree_shape.proofs.Divisions.{each-map}
+use Rattle.tree_shape.proofs.Divisions.{each-map, each-both}
 use Rattle.tree_shape.proofs.Parts.{each-left, each-right}
 use Rattle.tree_shape.proofs.Visits.{times-append}
 use Rattle.tree_shape.proofs.Walks.{on_bool, eqb-eq, eqb-ne, eqb-self, eqb-no, same_is, same_not}
@@ -29,7 +29,7 @@ use Rattle.volap_cell.specs.Stocking.{cells_at, IsWhole, Stocking, Stamping, Non
 use Rattle.volap_cell.specs.Sums.{sum_below}
 use Rattle.volap_cell.specs.Turning.{Turning, IsIn, is_inside, inside_of}
 use Rattle.volap_cell.specs.View.{View}
-use Rattle.core_tree.proofs.Spares.{spares-each, spares-distinct, spares-from, each-drop, distinct-drop, used-apart, moved_owner, on_used, each-cell, each-times, times-off, times-cells, owner-purse, in-own, other-purse, other-tree}
+use Rattle.core_tree.proofs.Spares.{spares-each, spares-distinct, spares-from, AreDistinct, each-drop, distinct-drop, used-apart, moved_owner, on_used, each-cell, each-times, times-off, times-cells, owner-purse, in-own, other-purse, other-tree}
 
 -- what a tree's law says: `used` are the spares that are blocks of the tree now
 pub record Moved (table : Table) (before now : TreeCells) (g g2 : Shape) (r : ℕ) (used : List Spare) : Type 0 where
@@ -338,4 +338,85 @@ module _ (s : Setting) (v v2 : View) (g g2 : Ghost) (n c : ℕ) (other : OtherLa
             let nd : d ≢ c = (λ e. m.stands (subst (λ (z : ℕ). v.phases z ≡ Some Gone) e isg)) in
             k.gone_cells d isg y ∙ as-before (is_in_tree d) refl (other-tree c d nd) y;
         none_gone = k.none_gone;
+      }
+
+  -- Stamping.
+
+  -- the spares of an actor are fewer than before, or as before
+  fewer : (P : Spare → Type 0) (a : ℕ) → Each P (all_spares v.purses v.jobs a) → Each P (all_spares v2.purses v.jobs a)
+  fewer P a e = on_bool (eqb a n)
+      (λ q. let is = eqb-eq _ _ q in
+      subst (λ (z : ℕ). Each P (all_spares v2.purses v.jobs z)) (sym is)
+      (each-drop P (v2.purses n) used (spent_of (v.jobs n)) (subst (λ (ss : List Spare). Each P (ss ++ spent_of (v.jobs n))) m.purse (subst (λ (z : ℕ). Each P (all_spares v.purses v.jobs z)) is e))))
+      (λ q. subst (λ (ss : List Spare). Each P (ss ++ spent_of (v.jobs a))) (sym (m.purses_off a (eqb-ne _ _ q))) e)
+
+  -- they are apart from each other
+  distinct : (a : ℕ) → AreDistinct (all_spares v.purses v.jobs a)
+  distinct a = spares-distinct (g.shape c) (nodes (cells_at v.blocks v.trees c)) (all_spares v.purses v.jobs a) (i.stamping.spare a c whole)
+
+  my-distinct : AreDistinct ((v2.purses n ++ used) ++ spent_of (v.jobs n))
+  my-distinct = subst (λ (ss : List Spare). AreDistinct (ss ++ spent_of (v.jobs n))) m.purse (distinct n)
+
+  distinct-now : (a : ℕ) → AreDistinct (all_spares v2.purses v.jobs a)
+  distinct-now = by_actor v.purses v2.purses (λ a ss. AreDistinct (ss ++ spent_of (v.jobs a))) m.purses_off
+      (distinct-drop (v2.purses n) used (spent_of (v.jobs n)) my-distinct)
+      (λ a ne. distinct a)
+
+  -- and from the used ones
+  used-part : (P : Spare → Type 0) → Each P (all_spares v.purses v.jobs n) → Each P used
+  used-part P e = each-right P (v2.purses n) used (each-left P (v2.purses n ++ used) (spent_of (v.jobs n)) (subst (λ (ss : List Spare). Each P (ss ++ spent_of (v.jobs n))) m.purse e))
+
+  away : (a : ℕ) → Each (λ (x : Spare). Each (AreApart x) used) (all_spares v2.purses v.jobs a)
+  away = by_actor v.purses v2.purses (λ a ss. Each (λ (x : Spare). Each (AreApart x) used) (ss ++ spent_of (v.jobs a))) m.purses_off
+      (used-apart (v2.purses n) used (spent_of (v.jobs n)) my-distinct)
+      (λ a ne. each-map (λ (x : Spare). Each (AreApart x) (all_spares v.purses v.jobs n)) (λ (x : Spare). Each (AreApart x) used) (all_spares v.purses v.jobs a)
+      (λ x e. used-part (AreApart x) e) (i.stamping.apart a n ne))
+
+  -- the first cell is in no tree
+  outside : (d : ℕ) → IsWhole v.gates v.phases v.pins d → (g.shape d).inside 0 ≡ false
+  outside d w = on_bool ((g.shape d).inside 0)
+      (λ q. on_bool (eqb 0 d)
+      (λ e. let own : g.owner 0 ≡ AGate = ap g.owner (eqb-eq _ _ e) ∙ i.stocking.gate d w.0 in
+      absurd (not-first (λ z. let k : AGate ≡ NotOfStock = sym own ∙ z in cc)))
+      (λ e. let own = (i.stocking.tree d 0 w q (eqb-ne _ _ e)).0 in
+      absurd (not-first (λ z. let k : InTree d ≡ NotOfStock = sym own ∙ z in cc))))
+      (λ q. q)
+    where
+      not-first : g.owner 0 ≢ NotOfStock → ⊥
+      not-first ne = (let k = (i.stocking.within 0 ne).0 in omega arith)
+
+  -- a stamp that isn't given out yet, in the first cell, is apart from all used spares
+  never : (stamp : ℕ) → v.stock.stamps ≤ stamp → Each (AreApart (record { cell = 0; stamp = stamp })) used
+  never stamp le = each-both (λ (x : Spare). g.owner x.cell ≡ InPurse n) (λ (x : Spare). x.stamp < v.stock.stamps) (AreApart (record { cell = 0; stamp = stamp })) used
+      (λ x p lt. ((λ e. absurd (in-stock x.cell p e)), (λ e. omega arith)))
+      from-purse (used-part (λ (x : Spare). x.stamp < v.stock.stamps) (i.stamping.given n))
+    where
+      in-stock : (y : ℕ) → g.owner y ≡ InPurse n → 0 ≡ y → ⊥
+      in-stock y p e = (let k = (i.stocking.within y (λ z. let q : InPurse n ≡ NotOfStock = sym p ∙ z in cc)).0 in omega arith)
+
+  pub moved-stamping : Stamping v.stock v2.blocks v2.trees v.gates v.phases v.pins v2.purses v.reads v.jobs g2.shape
+  moved-stamping =
+      let k = i.stamping in
+      record {
+        given = λ a. fewer (λ (x : Spare). x.stamp < v.stock.stamps) a (k.given a);
+        apart = λ a b ne. fewer (λ (x : Spare). Each (AreApart x) (all_spares v2.purses v.jobs b)) a
+            (each-map (λ (x : Spare). Each (AreApart x) (all_spares v.purses v.jobs b)) (λ (x : Spare). Each (AreApart x) (all_spares v2.purses v.jobs b)) (all_spares v.purses v.jobs a)
+            (λ x e. fewer (AreApart x) b e) (k.apart a b ne));
+        spare = λ a d w. by_gate (λ d z. IsWhole v.gates v.phases v.pins d → AreSpares z (nodes (cells_at v2.blocks v2.trees d)) (all_spares v2.purses v.jobs a))
+            (λ w. spares-from (g2.shape c) (nodes (cells_at v2.blocks v2.trees c)) (all_spares v2.purses v.jobs a)
+            (each-both (λ (x : Spare). Each (AreApart x) used) (IsSpare (g.shape c) (nodes (cells_at v.blocks v.trees c))) (IsSpare (g2.shape c) (nodes (cells_at v2.blocks v2.trees c))) (all_spares v2.purses v.jobs a)
+            (λ x o e. m.moved.spares x o e) (away a)
+            (fewer (IsSpare (g.shape c) (nodes (cells_at v.blocks v.trees c))) a (spares-each (g.shape c) (nodes (cells_at v.blocks v.trees c)) (all_spares v.purses v.jobs a) (k.spare a c w))))
+            (distinct-now a))
+            (λ d nd w. spares-from (g.shape d) (nodes (cells_at v2.blocks v2.trees d)) (all_spares v2.purses v.jobs a)
+            (each-map (IsSpare (g.shape d) (nodes (cells_at v.blocks v.trees d))) (IsSpare (g.shape d) (nodes (cells_at v2.blocks v2.trees d))) (all_spares v2.purses v.jobs a)
+            (λ x e. (apart d nd w).spares x e)
+            (fewer (IsSpare (g.shape d) (nodes (cells_at v.blocks v.trees d))) a (spares-each (g.shape d) (nodes (cells_at v.blocks v.trees d)) (all_spares v.purses v.jobs a) (k.spare a d w))))
+            (distinct-now a)) d w;
+        waits = λ a b. fewer (λ (x : Spare). NoneWaits x.stamp (all_items v.reads v.jobs b)) a (k.waits a b);
+        fresh = λ d stamp w le. by_gate (λ d z. IsWhole v.gates v.phases v.pins d → NoneExpects z (cells_at v2.blocks v2.trees d) stamp)
+            (λ w. (m.moved.spares (record { cell = 0; stamp = stamp }) (never stamp le) (record { cell = outside c w; unexpected = k.fresh c stamp w le })).unexpected)
+            (λ d nd w. ((apart d nd w).spares (record { cell = 0; stamp = stamp }) (record { cell = outside d w; unexpected = k.fresh d stamp w le })).unexpected)
+            d w;
+        fresh_waits = k.fresh_waits;
       }
