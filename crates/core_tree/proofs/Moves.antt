@@ -13,7 +13,7 @@ use Rattle.tree_shape.specs.Counts.{Each, same, times}
 use Rattle.tree_shape.specs.Laws.{OtherLaw}
 use Rattle.tree_shape.specs.Queries.{IsUnfinished, NoneWaits}
 use Rattle.tree_shape.specs.Shape.{Table, TreeCells, nodes, Shape}
-use Rattle.tree_shape.specs.Steps.{IsSpare, AreSpares, AreApart, AfterOther}
+use Rattle.tree_shape.specs.Steps.{IsSpare, AreSpares, AreApart, LeavesTree, AfterOther}
 use Rattle.tree_shape.specs.Trees.{IsTree}
 use Rattle.tree_shape.proofs.Divisions.{each-map, each-both}
 use Rattle.tree_shape.proofs.Parts.{each-left, each-right}
@@ -115,14 +115,17 @@ module _ (s : Setting) (v v2 : View) (g g2 : Ghost) (n c : ℕ) (other : OtherLa
   tree = i.growing.tree c whole
 
   -- another tree is as it was
+
+  pub leaves : (d : ℕ) → d ≢ c → IsWhole v.gates v.phases v.pins d → LeavesTree (g.shape d) (cells_at v.blocks v.trees d) (cells_at v2.blocks v2.trees d)
+  leaves d ne w = record {
+    gate_cell = refl;
+    gate = record { root = ap root_entry (m.trees_off d ne); height = ap (λ (z : Gate). z.height) (m.trees_off d ne) };
+    block = λ y yi yd. let p = (i.stocking.tree d y w yi yd).0 in
+        m.off y (λ e. let z : InTree d ≡ InTree c = sym p ∙ e in ne cc) (λ e. let z : InTree d ≡ InPurse n = sym p ∙ e in cc);
+  }
+
   pub apart : (d : ℕ) → d ≢ c → IsWhole v.gates v.phases v.pins d → AfterOther (table_of s v.row) (g.shape d) (cells_at v.blocks v.trees d) (cells_at v2.blocks v2.trees d)
-  apart d ne w = other (table_of s v.row) (g.shape d) (cells_at v.blocks v.trees d) (cells_at v2.blocks v2.trees d) (i.growing.tree d w)
-      (record {
-        gate_cell = refl;
-        gate = record { root = ap root_entry (m.trees_off d ne); height = ap (λ (z : Gate). z.height) (m.trees_off d ne) };
-        block = λ y yi yd. let p = (i.stocking.tree d y w yi yd).0 in
-            m.off y (λ e. let z : InTree d ≡ InTree c = sym p ∙ e in ne cc) (λ e. let z : InTree d ≡ InPurse n = sym p ∙ e in cc);
-      })
+  apart d ne w = other (table_of s v.row) (g.shape d) (cells_at v.blocks v.trees d) (cells_at v2.blocks v2.trees d) (i.growing.tree d w) (leaves d ne w)
 
   pub moved-growing : Growing s v.row v2.blocks v2.trees v.gates v.phases v.pins g2.shape
   moved-growing = record {
@@ -363,7 +366,7 @@ module _ (s : Setting) (v v2 : View) (g g2 : Ghost) (n c : ℕ) (other : OtherLa
       (λ a ne. distinct a)
 
   -- and from the used ones
-  used-part : (P : Spare → Type 0) → Each P (all_spares v.purses v.jobs n) → Each P used
+  pub used-part : (P : Spare → Type 0) → Each P (all_spares v.purses v.jobs n) → Each P used
   used-part P e = each-right P (v2.purses n) used (each-left P (v2.purses n ++ used) (spent_of (v.jobs n)) (subst (λ (ss : List Spare). Each P (ss ++ spent_of (v.jobs n))) m.purse e))
 
   away : (a : ℕ) → Each (λ (x : Spare). Each (AreApart x) used) (all_spares v2.purses v.jobs a)
