@@ -34,14 +34,9 @@ use Rattle.volap_cell.specs.Values.{JobValue, CollectingValue, BuildingValue, Co
 use Rattle.volap_cell.specs.View.{View}
 use Rattle.volap_cell.specs.Working.{Working, IsFrozenFor, IsCollected, IsBuilding, frozen_in}
 use Rattle.volap_cell.specs.declared.job.Frozen.{Frozen as FrozenFor}
+use Rattle.volap_cell.proofs.Sums.{sum-some}
 use Rattle.core_tree.proofs.Spares.{each-cell}
 use Rattle.core_tree.proofs.Moves.{TreeMoves, by_gate as at-gate, by_actor as at-actor, apart as others, leaves as leaves-others, row-before as rows-before, mine-now as my-way, used-part as of-used}
-
-pub sum-some : (n a : ℕ) (f : ℕ → ℕ) → a < n → f a ≤ sum_below n f
-sum-some zero a f lt = absurd (omega arith)
-sum-some (suc n) a f lt = on_bool (eqb a n)
-    (λ q. let e : f a ≡ f n = ap f (eqb-eq _ _ q) in omega arith)
-    (λ q. let ne = eqb-ne _ _ q in let k = sum-some n a f (omega arith) in omega arith)
 
 module _ (s : Setting) (v v2 : View) (g g2 : Ghost) (n c : ℕ) (other : OtherLaw) (i : InvWith s v g) (m : TreeMoves s v v2 g g2 n c) where
   abbrev r : ℕ
@@ -104,7 +99,7 @@ module _ (s : Setting) (v v2 : View) (g g2 : Ghost) (n c : ℕ) (other : OtherLa
   pinned-whole : (a d : ℕ) (p : ReadPart) → a < actor_count s → v.reads a ≡ Some p → p.reading.pin ≡ Some d → IsWhole v.gates v.phases v.pins d
   pinned-whole a d p few is pin =
       let one : ◌≡◌ {A = ℕ} (pins_of d (v.reads a)) 1 = ap (pins_of d) is ∙ ap (one_pin d) pin ∙ (rw (eqb-self d) refl) in
-      let some = sum-some (actor_count s) a (λ b. pins_of d (v.reads b)) few in
+      let some = sum-some (actor_count s) (λ b. pins_of d (v.reads b)) a few in
       let all = i.pinning.counts d in
       (subst IsSome (sym (i.pinning.shard a d p is pin)) refl, inr (omega arith))
 
