@@ -39,14 +39,13 @@ module _ (s : Setting) (w : World) (set : IsSetting s) (o : IsOpening s w) where
   abbrev g : Ghost
   g = ghost s w set o
 
-  pub turning : Turning s vs.ways vs.purses vs.boxes vs.jobs vs.phases vs.active g.gate g.shape g.home
+  pub turning : Turning s vs.ways vs.purses vs.boxes vs.phases vs.active g.gate g.shape g.home
   turning = record {
     one = λ a b m n is is2 same. no-way s w set o a m is;
     carrying = λ a c y m is at. no-way s w set o a m is;
     in_leaf = λ a c m is at. no-way s w set o a m is;
     carried = λ c r some placed. absurd (false≢true (sym (none-there s w set o c r) ∙ placed));
     enough = λ a c y m is at. no-way s w set o a m is;
-    boxed = λ a none some. (let few : length (vs.purses a) ≡ 0 = ap length (purse-none s w set o a) in absurd (omega arith));
     counts = λ c. (quiet s w set o c).active ∙ sym (sum-none (actor_count s) (λ a. inside_of c (vs.ways a)) (λ a. ap (inside_of c) (way-none s w set o a)));
   }
 

@@ -1,5 +1,5 @@
 -- Who is who, and which cell is whose: what never changes.
-use Rattle.std.specs.Prelude.{ℕ, ◌≡◌, ◌==◌, ◌+◌, ◌-◌, ◌^◌, ◌<◌, ◌≤◌, ⊤, Bool, false, nat_lt, List, [], Option, Some, None, All, slice_get, if◌then◌else◌}
+use Rattle.std.specs.Prelude.{ℕ, ◌≡◌, ◌≢◌, ◌==◌, ◌+◌, ◌-◌, ◌^◌, ◌<◌, ◌≤◌, ⊤, Bool, false, nat_lt, List, [], Option, Some, None, All, slice_get, if◌then◌else◌}
 use Rattle.dim_hierarchy.specs.Dimension.{IsHierarchy}
 use Rattle.cell_stock.specs.declared.purse.Spare.{Spare}
 use Rattle.volap_cell.specs.Cells.{Tag, OfStock, TheLedger, TheStock, TheRegistry, ImageOf, DeskOf, MapOf}
@@ -38,7 +38,7 @@ tag_at s y =
     else if nat_lt y (first_stock_cell s) then MapOf (y - (3 + s.servers + s.servers)) else OfStock
 
 -- Each cell holds what is its place's, each actor knows its number, its role and what it is about, and past the last one there
--- is nobody.
+-- is nobody. The administrator alone has jobs, and is at no part.
 pub record Numbering (s : Setting) (tags : ℕ → Tag) (numbers : ℕ → ℕ) (roles : ℕ → Role) (settings : ℕ → Setting) (counted_in : ℕ → Bool) (purses : ℕ → List Spare) (commands : ℕ → Option Command) (taken : ℕ → Option Taken) (jobs : ℕ → Option JobValue) : Type 0 where
   pub setting : IsSetting s
   pub tag : (y : ℕ) → tags y ≡ tag_at s y
@@ -47,3 +47,4 @@ pub record Numbering (s : Setting) (tags : ℕ → Tag) (numbers : ℕ → ℕ) 
   pub about : (a : ℕ) → settings a ≡ s
   pub nobody : (a : ℕ) → actor_count s ≤ a → (counted_in a ≡ false) × (purses a ≡ []) × (commands a ≡ None) × (taken a ≡ None) × (jobs a ≡ None)
   pub working : (a : ℕ) (j : JobValue) → jobs a ≡ Some j → roles a ≡ Admin
+  pub parts : (a : ℕ) (t : Taken) → taken a ≡ Some t → roles a ≢ Admin

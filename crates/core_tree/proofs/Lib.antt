@@ -1,0 +1,4 @@
+pub mod Spares
+pub mod Moves
+pub mod MovesRest
+pub mod Less
