@@ -47,21 +47,21 @@ pub row-stays : {a : ActorValue} {e : ErrandValue} {r : RowErrand} (way : Way) �
 row-stays {e} {r} way has same = (λ k. Some (record (row_way e r) { place = same k })) ∙ sym (row-at has)
 
 -- A row comes on, with what it uses of the purse and the boxes. Of what is touched nothing is asked, and `refl` says that.
-pub row-moved : (t : Touched) (a : ActorValue) (e : ErrandValue) (r : RowErrand) (way : Way) (purse : List Spare) (boxes : ℕ) → HasRow a e r
+pub row-moved : (t : Touched) {a b : ActorValue} {e : ErrandValue} {r : RowErrand} {way : Way} {purse : List Spare} {boxes : ℕ} → b ≡ record a { purse = purse; boxes = boxes; errand = on_way e r way } → HasRow a e r
     → cond t.ways None (way_of (on_way e r way)) ≡ cond t.ways None (way_of a.errand) → cond t.purses [] purse ≡ cond t.purses [] a.purse → cond t.boxes 0 boxes ≡ cond t.boxes 0 a.boxes
-    → actor_beside t (record a { purse = purse; boxes = boxes; errand = on_way e r way }) ≡ actor_beside t a
-row-moved t a e r way purse boxes has ways purses counts =
+    → actor_beside t b ≡ actor_beside t a
+row-moved t {a} {e} {r} {way} is has ways purses counts =
     let taken = row-taken way has in
     let reads = row-reads way has in
-    λ k. record (actor_beside t a) { purse = purses k; boxes = counts k; taken = cond t.taken None (taken k); way = ways k; reading = cond t.reads None (reads k) }
+    ap (actor_beside t) is ∙ (λ k. record (actor_beside t a) { purse = purses k; boxes = counts k; taken = cond t.taken None (taken k); way = ways k; reading = cond t.reads None (reads k) })
 
 -- Queries.
 
 -- a query reads on for the same part
-pub query-read : (t : Touched) (a : ActorValue) (e : ErrandValue) (task : TaskValue) (reading : ReadingValue) → a.errand ≡ Some e → e.task ≡ task
+pub query-read : (t : Touched) {a b : ActorValue} {e : ErrandValue} {task : TaskValue} {reading : ReadingValue} → b ≡ record a { errand = with_reading e reading } → a.errand ≡ Some e → e.task ≡ task
     → want.Filter reading.wanted.picks ≡ want_of task → way_in_task e task ≡ None → cond t.reads None (read_of (with_reading e reading)) ≡ cond t.reads None (read_of a.errand)
-    → actor_beside t (record a { errand = with_reading e reading }) ≡ actor_beside t a
-query-read t a e task reading is task_is same none reads =
-    let taken = taken-stays (Read reading) is task_is same in
-    let ways : None ≡ way_of a.errand = sym (way-is is task_is ∙ none) in
-    λ k. record (actor_beside t a) { taken = cond t.taken None (taken k); way = cond t.ways None (ways k); reading = reads k }
+    → actor_beside t b ≡ actor_beside t a
+query-read t {a} {reading} is errand task_is same none reads =
+    let taken = taken-stays (Read reading) errand task_is same in
+    let ways : None ≡ way_of a.errand = sym (way-is errand task_is ∙ none) in
+    ap (actor_beside t) is ∙ (λ k. record (actor_beside t a) { taken = cond t.taken None (taken k); way = cond t.ways None (ways k); reading = reads k })

@@ -235,3 +235,33 @@ of_blocks = record nothing { blocks = true; purses = true; boxes = true; taken =
 -- desks, images and the ledger
 abbrev pub of_books : Touched
 of_books = record nothing { desks = true; images = true; ledger = true; seen = true; counted_in = true; commands = true; taken = true; ways = true; reads = true; jobs = true }
+
+-- gates, beside desks, blocks and the stock
+abbrev pub of_gates : Touched
+of_gates = record nothing {
+  gates = true;
+  phases = true;
+  trees = true;
+  active = true;
+  pins = true;
+  queues = true;
+  gone = true;
+  desks = true;
+  blocks = true;
+  stock = true;
+  purses = true;
+  boxes = true;
+  commands = true;
+  taken = true;
+  ways = true;
+  reads = true;
+  jobs = true;
+}
+
+-- the stock, and what an actor gives it or gets from it
+abbrev pub of_stock : Touched
+of_stock = record nothing { stock = true; purses = true; boxes = true; ways = true }
+
+-- images, the registry and the ledger
+abbrev pub of_pulls : Touched
+of_pulls = record nothing { images = true; registry = true; ledger = true; seen = true; commands = true; jobs = true }

@@ -1,6 +1,6 @@
 -- The view after a commit: it is the view before, with those fields new that the commit touches. One lemma for all kinds, any
 -- number of cells, and any fields.
-use Rattle.std.proofs.Common.{◌≡◌, ℕ, Bool, true, false, cond, refl, ap, List, [], None}
+use Rattle.std.proofs.Common.{◌≡◌, ℕ, Bool, true, false, cond, refl, sym, ap, ◌∙◌, List, [], None}
 use mathlib.Core.Path.{fun_ext}
 use Rattle.cell_stock.specs.Stock.{StockValue}
 use Rattle.row_ledger.specs.LedgerValue.{LedgerValue}
@@ -9,9 +9,9 @@ use Rattle.volap_cell.specs.Cells.{ledger_in}
 use Rattle.volap_cell.specs.Setting.{Setting, ledger_cell, stock_cell, registry_cell, image_cell, desk_cell, map_cell}
 use Rattle.volap_cell.specs.Values.{ActorValue}
 use Rattle.volap_cell.specs.View.{view, row_at}
-use Rattle.volap_cell.specs.World.{World, Change, put, after}
+use Rattle.volap_cell.specs.World.{World, Change, Agrees, put, after}
 use Rattle.volap_cell.proofs.Frames.{AreAt, Same, kept-one, unmoved-one}
-use Rattle.volap_cell.proofs.Seen.{CellSeen, ActorSeen, Touched, bare, beside, actor_beside, renewed, of_blocks, of_books}
+use Rattle.volap_cell.proofs.Seen.{CellSeen, ActorSeen, Touched, bare, beside, actor_beside, renewed, of_blocks, of_books, of_gates, of_stock, of_pulls}
 
 -- a field by number that isn't touched is the one before
 untouched : {A : Type 0} (t : Bool) (none : A) (now was : ℕ → A) → ((i : ℕ) → cond t none (now i) ≡ cond t none (was i)) → now ≡ cond t now was
@@ -94,6 +94,11 @@ view-after t s w cs n now at same actor =
       jobs = jobs k;
     }
 
+-- the same of a step
+pub view-step : (t : Touched) (s : Setting) (w : World) (cs : List Change) (n : ℕ) (a b : ActorValue) → Agrees w cs n a → Same (beside t) cs → actor_beside t b ≡ actor_beside t a
+    → view s (after w cs n b) ≡ renewed t (view s (after w cs n b)) (view s w)
+view-step t s w cs n a b agrees same actor = view-after t s w cs n b agrees.cells same (actor ∙ sym (ap (actor_beside t) agrees.actor_is))
+
 -- The groups of kinds.
 
 -- put_in_leaf, down, block_visit, collect of blocks, build_block
@@ -127,3 +132,51 @@ pub view-books : (s : Setting) (w : World) (cs : List Change) (n : ℕ) (now : A
       jobs = (view s (after w cs n now)).jobs;
     }
 view-books = view-after of_books
+
+-- gate_read, enter_queue, enter_tree, leave_tree, finish_part, look_up, freeze, drained, collect of queue rows
+pub view-gates : (s : Setting) (w : World) (cs : List Change) (n : ℕ) (now : ActorValue) → AreAt w.cells cs → Same (beside of_gates) cs → actor_beside of_gates now ≡ actor_beside of_gates (w.actors n)
+    → view s (after w cs n now) ≡ record (view s w) {
+      blocks = (view s (after w cs n now)).blocks;
+      made = (view s (after w cs n now)).made;
+      gates = (view s (after w cs n now)).gates;
+      phases = (view s (after w cs n now)).phases;
+      trees = (view s (after w cs n now)).trees;
+      active = (view s (after w cs n now)).active;
+      pins = (view s (after w cs n now)).pins;
+      queues = (view s (after w cs n now)).queues;
+      gone = (view s (after w cs n now)).gone;
+      stock = (view s (after w cs n now)).stock;
+      desks = (view s (after w cs n now)).desks;
+      purses = (view s (after w cs n now)).purses;
+      boxes = (view s (after w cs n now)).boxes;
+      commands = (view s (after w cs n now)).commands;
+      taken = (view s (after w cs n now)).taken;
+      ways = (view s (after w cs n now)).ways;
+      reads = (view s (after w cs n now)).reads;
+      jobs = (view s (after w cs n now)).jobs;
+    }
+view-gates = view-after of_gates
+
+-- refill
+pub view-stock : (s : Setting) (w : World) (cs : List Change) (n : ℕ) (now : ActorValue) → AreAt w.cells cs → Same (beside of_stock) cs → actor_beside of_stock now ≡ actor_beside of_stock (w.actors n)
+    → view s (after w cs n now) ≡ record (view s w) {
+      stock = (view s (after w cs n now)).stock;
+      purses = (view s (after w cs n now)).purses;
+      boxes = (view s (after w cs n now)).boxes;
+      ways = (view s (after w cs n now)).ways;
+    }
+view-stock = view-after of_stock
+
+-- sync, and note where it asks the registry
+pub view-pulls : (s : Setting) (w : World) (cs : List Change) (n : ℕ) (now : ActorValue) → AreAt w.cells cs → Same (beside of_pulls) cs → actor_beside of_pulls now ≡ actor_beside of_pulls (w.actors n)
+    → view s (after w cs n now) ≡ record (view s w) {
+      history = (view s (after w cs n now)).history;
+      promised = (view s (after w cs n now)).promised;
+      row = (view s (after w cs n now)).row;
+      registry = (view s (after w cs n now)).registry;
+      images = (view s (after w cs n now)).images;
+      seen = (view s (after w cs n now)).seen;
+      commands = (view s (after w cs n now)).commands;
+      jobs = (view s (after w cs n now)).jobs;
+    }
+view-pulls = view-after of_pulls
