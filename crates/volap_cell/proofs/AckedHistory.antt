@@ -3,28 +3,26 @@
 -- Where rows are: `placing-acked`, with the new row's place; how far inserts are: `inserting-acked`. What is known: `imaging-acked`,
 -- `covering-acked`, with the new row covered where it must be. Desks and queries: `desking-acked`, `querying-acked`. Jobs and balances:
 -- `working-acked`, `balancing-acked`. Commands: `telling-acked`, with the insert ended; and `few-acked` of what is owed.
-use Rattle.std.proofs.Common.{◌≡◌, ◌≢◌, ℕ, ◌<◌, ◌∙◌, List, [], ◌∷◌, ◌++◌, Bool, true, false, IsTrue, length, refl, sym, ap, subst, arith, ◌⊎◌, inl, inr, All, Any, Contains, ◌==◌, ◌+◌, le_of_lt, suc}
-use Rattle.std.specs.Prelude.{Option, Some, None, ◌^◌, zero, slice_index_or, if◌then◌else◌}
+use Rattle.std.proofs.Common.{◌≡◌, ◌≢◌, ℕ, ◌<◌, ◌∙◌, List, [], ◌∷◌, ◌++◌, Bool, true, IsTrue, length, refl, sym, ap, subst, arith, ◌⊎◌, inl, inr, All, Contains, ◌==◌, ◌+◌, le_of_lt, suc}
+use Rattle.std.specs.Prelude.{Option, Some, None, ◌^◌, zero, slice_index_or}
 use Rattle.std.proofs.lemmas.Bool.{cond_both, eqb-true, eq-eqb, or_left}
 use Rattle.std.proofs.lemmas.List.Elements.{All-weaker, All-cons, All-append, All-contains, All-contains_itself, Contains-append_left, Contains-append_right}
 use Rattle.dim_hierarchy.specs.declared.row.Row.{Row}
 use Rattle.cell_stock.specs.Stock.{StockValue}
 use Rattle.cell_stock.specs.declared.purse.Spare.{Spare}
 use Rattle.dc_node.specs.declared.block.Block.{Block}
-use Rattle.describing_set.specs.declared.listing.Spot.{Spot}
 use Rattle.mapping_table.specs.declared.place.Where.{Where}
 use Rattle.query_router.specs.Desk.{DeskValue}
 use Rattle.row_ledger.specs.declared.event.Event.{Event}
 use Rattle.row_ledger.specs.declared.event.Event.TheVariants.{Acked}
 use Rattle.row_ledger.specs.Past.{Ack, Insert, Query, ack_of, insert_at, acked, last_of, is_end_of, has_ended}
-use Rattle.row_ledger.specs.Bounds.{own, passed, listed, known, published, listing_of, is_listed}
+use Rattle.row_ledger.specs.Bounds.{own, passed, listed, known, listing_of, is_listed}
 use Rattle.row_ledger.specs.Changes.{AckChanges, ShardsStay}
 use Rattle.row_ledger.specs.Shards.{is_path}
 use Rattle.row_ledger.proofs.Changes.{acked-changes}
 use Rattle.row_ledger.proofs.Growth.{KeepsRight-acked}
 use Rattle.server_image.specs.Image.{ImageValue}
 use Rattle.server_image.specs.Registry.{RegistryValue}
-use Rattle.server_image.specs.declared.image.Growth.{Growth}
 use Rattle.shard_store.specs.declared.gate.Gate.{Gate}
 use Rattle.shard_store.specs.declared.gate.Phase.{Phase}
 use Rattle.shard_store.specs.declared.queue.Queue.{Queue}
@@ -36,7 +34,7 @@ use Rattle.volap_cell.specs.Growing.{IsUnder, Growing, Queueing, Resting}
 use Rattle.volap_cell.specs.ImageKinds.{doing}
 use Rattle.volap_cell.specs.Imaging.{IsCovered, Fits, Covering, Imaging}
 use Rattle.volap_cell.specs.Lineage.{Lineage}
-use Rattle.volap_cell.specs.Placing.{NobodyAt, IsRouted, Placing, Inserting}
+use Rattle.volap_cell.specs.Placing.{NobodyAt, Placing, Inserting}
 use Rattle.volap_cell.specs.Querying.{Querying}
 use Rattle.volap_cell.specs.Setting.{Setting, site_in}
 use Rattle.volap_cell.specs.Telling.{Telling}
@@ -50,7 +48,7 @@ use Rattle.volap_cell.proofs.Grows.{insert-same, query-same, rows-same, live-sta
 use Rattle.volap_cell.proofs.GrowsRows.{under-grown, resting-grown, lineage-grown, inserting-grown}
 use Rattle.volap_cell.proofs.GrowsDesks.{desking-grown, querying-grown}
 use Rattle.volap_cell.proofs.GrowsWork.{working-grown, balancing-grown}
-use Rattle.volap_cell.proofs.GrowsTold.{IsOwn, IsNoted, telling-grown, few-pushed}
+use Rattle.volap_cell.proofs.GrowsTold.{IsOwn, telling-grown, few-pushed}
 use Rattle.volap_cell.proofs.GrowsKnown.{AreOlder, fits-grown, covered-grown, imaging-grown, boxes-grown, came-grown, pushed-grown, noted-grown, must-grown, unacked-grown}
 
 -- an element of a longer list is the first one or one of the others
@@ -141,17 +139,17 @@ module _ (s : Setting) (h : List Event) (of : ℕ) (way : List ℕ) (insert : In
       All-append P (own (Acked of way ∷ h) server ++ passed (Acked of way ∷ h) server) (listed s.hierarchy (Acked of way ∷ h) server)
       (All-append P (own (Acked of way ∷ h) server) (passed (Acked of way ∷ h) server)
       (subst (All P) (sym (ack-changes.own server)) (cond_both (insert.server == server) (ack_of way insert ∷ own h server) (own h server) (All P)
-          (λ q. All-cons P (ack_of way insert) (own h server) (new (inl (eqb-true insert.server server q))) owns) (λ q. owns)))
+      (λ q. All-cons P (ack_of way insert) (own h server) (new (inl (eqb-true insert.server server q))) owns) (λ q. owns)))
       (subst (All P) (sym (ack-changes.pulls.passed server)) told))
       (subst (All P) (sym (ack-changes.listed server)) (cond_both (is_listed s.hierarchy (listing_of h server) (ack_of way insert)) (ack_of way insert ∷ listed s.hierarchy h server) (listed s.hierarchy h server) (All P)
-          (λ q. All-cons P (ack_of way insert) (listed s.hierarchy h server) (new (inr q)) lists) (λ q. lists)))
+      (λ q. All-cons P (ack_of way insert) (listed s.hierarchy h server) (new (inr q)) lists) (λ q. lists)))
 
   -- the row that is acknowledged fits, or its server has noted it; and each server that must know it covers it
   pub covering-acked : (registry : RegistryValue) (images : ℕ → ImageValue) (placed : ℕ → Bool) (home : ℕ → ℕ) (path : ℕ → List ℕ)
       → AreOlder h placed → insert.row.no ≡ of → placed of ≡ true
       → Fits s.hierarchy (row_at h) home registry.frontier of ⊎ Contains (images insert.server).growths (record { shard = last_of way; at = insert.row.at })
       → ((server : ℕ) → server < s.servers → (insert.server ≡ server) ⊎ IsTrue (is_listed s.hierarchy (listing_of h server) (ack_of way insert))
-          → IsCovered s.hierarchy h (row_at h) home (images server).spots of)
+      → IsCovered s.hierarchy h (row_at h) home (images server).spots of)
       → Covering s h (row_at h) registry images placed home path → Covering s (Acked of way ∷ h) (row_at (Acked of way ∷ h)) registry images placed home path
   covering-acked registry images placed home path older number is_placed fits covers i = record {
     boxes = boxes-grown s (Acked of way) h ack-stays placed older registry images home path i;
@@ -169,7 +167,7 @@ module _ (s : Setting) (h : List Event) (of : ℕ) (way : List ℕ) (insert : In
         All-known-acked (λ (k : Ack). IsCovered s.hierarchy (Acked of way ∷ h) (row_at (Acked of way ∷ h)) home (images server).spots k.row.no) server
         (must-grown s (Acked of way) h ack-stays placed older registry images home path i server within)
         (λ why. subst (λ (r : ℕ). IsCovered s.hierarchy (Acked of way ∷ h) (row_at (Acked of way ∷ h)) home (images server).spots r) (sym number)
-            (covered-grown s (Acked of way) h ack-stays placed older home (images server).spots of is_placed (covers server within why)));
+        (covered-grown s (Acked of way) h ack-stays placed older home (images server).spots of is_placed (covers server within why)));
     unacked = unacked-grown s (Acked of way) h ack-stays placed older registry images home path i;
   }
 

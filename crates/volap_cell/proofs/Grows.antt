@@ -1,22 +1,19 @@
 -- One event more: what it leaves of what a past tells at older positions, of shards, and of rows that may be counted.
-use Rattle.std.proofs.Common.{◌≡◌, ℕ, ◌<◌, ◌≤◌, ◌∙◌, List, ◌∷◌, Bool, true, false, IsTrue, length, refl, sym, ap, arith, ◌==◌, ◌&&◌, inl, inr, eqb-true, eq-eqb, All, Any, Contains, ◌≢◌}
+use Rattle.std.proofs.Common.{◌≡◌, ℕ, ◌<◌, ◌∙◌, List, ◌∷◌, Bool, length, refl, sym, ap, arith, ◌==◌, ◌&&◌, eqb-true, eq-eqb, All, Any, Contains}
 use mathlib.Core.Path.{fun_ext}
 use Rattle.std.specs.Prelude.{Option, Some, None, option_and_then}
 use Rattle.std.specs.List.{list_any}
-use Rattle.std.proofs.lemmas.Bool.{cases_lt}
-use Rattle.std.proofs.lemmas.Bool.Decides.{nat_tests}
 use Rattle.std.proofs.lemmas.List.Elements.{All-weaker}
 use Rattle.dim_hierarchy.specs.Dimension.{Dimension}
-use Rattle.dim_hierarchy.specs.declared.row.Row.{Row}
 use Rattle.describing_set.specs.declared.listing.Spot.{Spot}
 use Rattle.row_ledger.specs.declared.event.Event.{Event}
 use Rattle.row_ledger.specs.Past.{Insert, Query, event_at, insert_at, insert_in, query_at, query_in, call_at, call_in}
 use Rattle.row_ledger.specs.declared.settings.Call.{Call}
-use Rattle.row_ledger.specs.Shards.{Place, is_of, frontier, is_live, is_on, comes_from}
+use Rattle.row_ledger.specs.Shards.{Place, is_of, is_live, is_on, comes_from}
 use Rattle.row_ledger.specs.Bounds.{may}
 use Rattle.row_ledger.specs.Changes.{ShardsStay}
 use Rattle.row_ledger.specs.Listings.{IsBox}
-use Rattle.row_ledger.proofs.Positions.{event_at-here, event_at-older, event_at-past}
+use Rattle.row_ledger.proofs.Positions.{event_at-older, event_at-past}
 use Rattle.row_ledger.proofs.Descent.{comes_from-self}
 use Rattle.row_ledger.proofs.Fresh.{kind-within}
 use Rattle.row_ledger.proofs.Older.{may-older}

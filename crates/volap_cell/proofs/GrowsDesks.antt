@@ -1,5 +1,5 @@
 -- One event more, that splits and moves no shard: desks, and what the parts of queries have counted.
-use Rattle.std.proofs.Common.{◌≡◌, ◌≢◌, ℕ, ◌<◌, ◌≤◌, ◌∙◌, List, [], ◌∷◌, map, Bool, true, false, IsTrue, length, refl, sym, ap, subst, arith, ◌⊎◌, inl, inr, All, Any, Contains, ◌==◌, le_of_lt, eqb-true}
+use Rattle.std.proofs.Common.{◌≡◌, ℕ, ◌<◌, ◌≤◌, ◌∙◌, List, [], ◌∷◌, map, Bool, true, false, length, refl, sym, ap, subst, arith, ◌⊎◌, inl, inr, All, Contains, ◌==◌, le_of_lt, eqb-true}
 use Rattle.std.specs.Prelude.{Option, Some, None}
 use Rattle.std.specs.List.{list_any}
 use Rattle.std.proofs.lemmas.List.Elements.{All-weaker, All-contains, All-contains_itself}
@@ -9,7 +9,6 @@ use Rattle.dim_hierarchy.specs.Filter.{matches}
 use Rattle.dim_hierarchy.specs.declared.row.Row.{Row}
 use Rattle.dim_hierarchy.specs.declared.filter.Pick.{Pick}
 use Rattle.dc_node.specs.declared.block.Block.{Block}
-use Rattle.dc_node.specs.declared.todo.Item.{Item}
 use Rattle.measure_agg.specs.Aggregate.{agg}
 use Rattle.query_router.specs.Desk.{DeskValue, state_is_refused, is_refused}
 use Rattle.query_router.specs.declared.part.Part.{Part}
@@ -18,21 +17,20 @@ use Rattle.query_router.specs.declared.part.PartState.TheVariants as state
 use Rattle.query_router.specs.declared.part.Want.{Want}
 use Rattle.query_router.specs.declared.part.Want.TheVariants as want
 use Rattle.row_ledger.specs.declared.event.Event.{Event}
-use Rattle.row_ledger.specs.Past.{Ack, Insert, Query, insert_at, query_at, before, acked}
+use Rattle.row_ledger.specs.Past.{Ack, Query, insert_at, query_at, before, acked}
 use Rattle.row_ledger.specs.Bounds.{must, known}
-use Rattle.row_ledger.specs.Shards.{comes_from}
 use Rattle.row_ledger.specs.Changes.{ShardsStay}
 use Rattle.row_ledger.proofs.Answering.{All-acked_before}
 use Rattle.row_ledger.proofs.Elements.{Contains-mapped}
 use Rattle.row_ledger.proofs.Positions.{before-older}
 use Rattle.shard_store.specs.declared.gate.Gate.{Gate}
-use Rattle.tree_shape.specs.Counts.{Each, times}
+use Rattle.tree_shape.specs.Counts.{times}
 use Rattle.tree_shape.specs.Queries.{IsUnfinished, fits}
 use Rattle.tree_shape.specs.Shape.{Shape, nodes}
-use Rattle.tree_shape.specs.Tables.{AreAlike, IsThereOrCounted, AfterTable}
+use Rattle.tree_shape.specs.Tables.{AreAlike, IsThereOrCounted}
 use Rattle.tree_shape.proofs.Walks.{same_is}
-use Rattle.tree_shape.proofs.Tables.{query-alike, tree-alike}
-use Rattle.volap_cell.specs.Desking.{AreUnrelated, AreLinesApart, IsWantOf, IsAtPart, Desking}
+use Rattle.tree_shape.proofs.Tables.{query-alike}
+use Rattle.volap_cell.specs.Desking.{AreUnrelated, AreLinesApart, IsWantOf, Desking}
 use Rattle.volap_cell.specs.Errands.{Taken, ReadPart}
 use Rattle.volap_cell.specs.Growing.{table_of, IsUnder}
 use Rattle.volap_cell.specs.Querying.{must_hold, IsCounted, HoldsOr, IsEndOfPart, IsWalk, IsInTreeOf, IsReading, Querying}
@@ -138,10 +136,12 @@ module _ (s : Setting) (e : Event) (h : List Event) (stay : ShardsStay s.workers
     walk-grown blocks trees shape of q counted r None began rows i = i
     walk-grown blocks trees shape of q counted r (Some c) began rows i =
         let alike : AreAlike (IsThereOrCounted (shape c) counted) (table_of s (row_at h)) (table_of s (row_at (e ∷ h))) =
-            record { hierarchy = refl; row = λ n there. rows n (elim there [ inl p ↦ inr p | inr some ↦ inl some ]) } in
-        let now = query-alike (table_of s (row_at h)) (table_of s (row_at (e ∷ h))) (shape c) (nodes (cells_at blocks trees c)) (must_hold s.hierarchy h of q) q.filter r.items counted alike i.1 in
-        (i.0, subst (λ (holds : ℕ → Bool). IsUnfinished (shape c) (nodes (cells_at blocks trees c)) holds (fits (table_of s (row_at (e ∷ h))) q.filter) r.items counted)
-            (sym (must_hold-grown s.hierarchy e h of q began)) now.unfinished)
+        record { hierarchy = refl; row = λ n there. rows n (elim there [ inl p ↦ inr p | inr some ↦ inl some ]) } in
+        let now = query-alike (table_of s (row_at h)) (table_of s (row_at (e ∷ h))) (shape c) (nodes (cells_at blocks trees c)) (must_hold s.hierarchy h of q) q.filter r.items counted alike i.1 in (
+          i.0,
+          subst (λ (holds : ℕ → Bool). IsUnfinished (shape c) (nodes (cells_at blocks trees c)) holds (fits (table_of s (row_at (e ∷ h))) q.filter) r.items counted)
+              (sym (must_hold-grown s.hierarchy e h of q began)) now.unfinished,
+        )
 
     pub reading-grown : (blocks : ℕ → Block) (trees : ℕ → Gate) (shape : ℕ → Shape) (of : ℕ) (q : Query) (x : ℕ) (counted : List ℕ) (r : ReadingValue) → of ≤ length h
         → ((n : ℕ) → (1 ≤ times n counted) ⊎ IsInTreeOf shape r.pin n → row_at (e ∷ h) n ≡ row_at h n)
@@ -157,7 +157,7 @@ module _ (s : Setting) (e : Event) (h : List Event) (stay : ShardsStay s.workers
     pub querying-grown : (blocks : ℕ → Block) (trees : ℕ → Gate) (desks : ℕ → DeskValue) (taken : ℕ → Option Taken) (reads : ℕ → Option ReadPart) (shape : ℕ → Shape) (counted : ℕ → ℕ → List ℕ)
         → ((server of : ℕ) → (desks server).op ≡ Some of → query_at (e ∷ h) of ≡ query_at h of)
         → ((a of : ℕ) (q : Query) (p : ReadPart) → reads a ≡ Some p → (desks p.server).op ≡ Some of → query_at h of ≡ Some q
-            → (n : ℕ) → (1 ≤ times n (counted p.server p.shard)) ⊎ IsInTreeOf shape p.reading.pin n → row_at (e ∷ h) n ≡ row_at h n)
+        → (n : ℕ) → (1 ≤ times n (counted p.server p.shard)) ⊎ IsInTreeOf shape p.reading.pin n → row_at (e ∷ h) n ≡ row_at h n)
         → Querying s h (row_at h) blocks trees desks taken reads shape placed home counted → Querying s (e ∷ h) (row_at (e ∷ h)) blocks trees desks taken reads shape placed home counted
     querying-grown blocks trees desks taken reads shape counted same rows i = record {
       counts = λ server of q within op is.
@@ -170,7 +170,7 @@ module _ (s : Setting) (e : Event) (h : List Event) (stay : ShardsStay s.workers
           All-inside (λ (p : Part). IsEndOfPart s h (row_at h) placed home of q p.shard (counted server p.shard) p.state)
           (λ (p : Part). IsEndOfPart s (e ∷ h) (row_at (e ∷ h)) placed home of q p.shard (counted server p.shard) p.state) (desks server).parts
           (λ p has f. end-of-part-grown of q p.shard (counted server p.shard) p.state (le_of_lt (query-within h of q was))
-              (All-contains (λ (p : Part). is_refused p ≡ false → IsCounted s h (row_at h) placed home q p.shard (counted server p.shard)) (desks server).parts p count has) f)
+          (All-contains (λ (p : Part). is_refused p ≡ false → IsCounted s h (row_at h) placed home q p.shard (counted server p.shard)) (desks server).parts p count has) f)
           (i.ends server of q within op was);
       whole = λ server of q within op is r m fit.
           let was : query_at h of ≡ Some q = sym (same server of op) ∙ is in

@@ -1,6 +1,6 @@
 -- One event more, that splits and moves no shard: what images list and cover, and what the registry's boxes cover.
-use Rattle.std.proofs.Common.{◌≡◌, ◌≢◌, ℕ, ◌<◌, ◌∙◌, List, [], ◌∷◌, ◌++◌, Bool, true, false, IsTrue, length, refl, sym, ap, subst, arith, ◌⊎◌, inl, inr, All, Any, Contains}
-use Rattle.std.specs.Prelude.{Option, Some, None}
+use Rattle.std.proofs.Common.{◌≡◌, ◌≢◌, ℕ, ◌<◌, ◌∙◌, List, ◌∷◌, Bool, true, IsTrue, length, refl, sym, ap, subst, ◌⊎◌, inl, inr, All, Any, Contains}
+use Rattle.std.specs.Prelude.{Option, Some}
 use Rattle.std.specs.List.{AllZip}
 use Rattle.std.proofs.lemmas.List.Elements.{All-weaker, All-contains, All-contains_itself}
 use Rattle.dim_hierarchy.specs.Dimension.{Dimension}
@@ -21,7 +21,7 @@ use Rattle.server_image.specs.declared.image.Growth.{Growth}
 use Rattle.shard_store.specs.declared.queue.Queue.{Queue}
 use Rattle.tree_shape.specs.Shape.{Shape}
 use Rattle.volap_cell.specs.Errands.{RowWay}
-use Rattle.volap_cell.specs.Imaging.{IsSpotOf, HasGrown, IsGrowth, IsImageOf, IsCovered, Fits, Covering, Imaging}
+use Rattle.volap_cell.specs.Imaging.{HasGrown, IsGrowth, IsImageOf, IsCovered, Fits, Covering, Imaging}
 use Rattle.volap_cell.specs.Placing.{Placing}
 use Rattle.volap_cell.specs.Setting.{Setting}
 use Rattle.volap_cell.specs.View.{row_at}

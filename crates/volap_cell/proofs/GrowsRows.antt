@@ -1,6 +1,6 @@
 -- One event more, that splits and moves no shard: where shards are, and where rows are.
-use Rattle.std.proofs.Common.{◌≡◌, ◌≢◌, ℕ, ◌<◌, ◌∙◌, List, [], ◌∷◌, Bool, true, false, IsTrue, length, refl, sym, ap, subst, arith, ◌⊎◌, inl, inr, All, Contains}
-use Rattle.std.specs.Prelude.{Option, Some, None, IsSome}
+use Rattle.std.proofs.Common.{◌≡◌, ℕ, ◌<◌, ◌∙◌, List, ◌∷◌, Bool, IsTrue, sym, subst, ◌⊎◌, Contains}
+use Rattle.std.specs.Prelude.{Option, Some, IsSome}
 use Rattle.std.proofs.lemmas.List.Elements.{All-weaker}
 use Rattle.describing_set.specs.declared.listing.Spot.{Spot}
 use Rattle.cell_stock.specs.Stock.{StockValue}
@@ -10,22 +10,19 @@ use Rattle.query_router.specs.declared.part.Part.{Part}
 use Rattle.query_router.specs.declared.part.PartState.{PartState}
 use Rattle.query_router.specs.declared.part.PartState.TheVariants as state
 use Rattle.row_ledger.specs.declared.event.Event.{Event}
-use Rattle.row_ledger.specs.declared.event.Event.TheVariants.{Acked}
-use Rattle.row_ledger.specs.Past.{Ack, Insert, ack_of, insert_at, acked}
-use Rattle.row_ledger.specs.Shards.{is_live, comes_from}
+use Rattle.row_ledger.specs.Past.{Ack, insert_at, acked}
+use Rattle.row_ledger.specs.Shards.{comes_from}
 use Rattle.row_ledger.specs.Changes.{ShardsStay}
-use Rattle.row_ledger.specs.Site.{Site}
 use Rattle.row_ledger.proofs.Older.{is_child-older, is_path-older}
 use Rattle.server_image.specs.Image.{ImageValue}
 use Rattle.server_image.specs.Registry.{RegistryValue}
 use Rattle.shard_store.specs.declared.gate.Phase.{Phase}
 use Rattle.shard_store.specs.declared.queue.Queue.{Queue}
 use Rattle.tree_shape.specs.Shape.{Shape}
-use Rattle.tree_shape.proofs.Walks.{on_bool, eqb-eq, eqb-ne}
 use Rattle.volap_cell.specs.Errands.{RowWay}
 use Rattle.volap_cell.specs.Growing.{IsUnder, Resting}
 use Rattle.volap_cell.specs.Lineage.{Lineage}
-use Rattle.volap_cell.specs.Placing.{NobodyAt, IsRouted, Placing, IsLead, IsRowPart, IsOnWay, Inserting}
+use Rattle.volap_cell.specs.Placing.{IsRouted, Placing, IsLead, IsRowPart, IsOnWay, Inserting}
 use Rattle.volap_cell.specs.Setting.{Setting}
 use Rattle.volap_cell.specs.declared.command.Command.{Command}
 use Rattle.volap_cell.proofs.Grows.{live-stays, on-stays, comes-stays, insert-kept}

@@ -1,21 +1,19 @@
 -- One event more, that an actor notes: what the history tells of each command, and what is owed to it.
-use Rattle.std.proofs.Common.{◌≡◌, ◌≢◌, ℕ, suc, ◌+◌, ◌<◌, ◌≤◌, ◌∙◌, List, [], ◌∷◌, Bool, true, false, IsTrue, length, refl, sym, ap, subst, arith, ◌⊎◌, inl, inr, ◌==◌, is_some, eqb-true, le_of_lt, le_of_eq}
+use Rattle.std.proofs.Common.{◌≡◌, ◌≢◌, ℕ, ◌+◌, ◌<◌, ◌≤◌, ◌∙◌, List, ◌∷◌, Bool, true, false, IsTrue, length, refl, sym, ap, subst, arith, ◌⊎◌, inl, inr, ◌==◌, is_some, eqb-true, le_of_lt, le_of_eq}
 use Rattle.std.specs.Prelude.{Option, Some, None, option_and_then}
 use Rattle.std.specs.List.{list_any}
-use Rattle.std.proofs.lemmas.Bool.{cases_lt, or_right}
+use Rattle.std.proofs.lemmas.Bool.{or_right}
 use Rattle.dim_hierarchy.specs.Filter.{IsFilterOf}
 use Rattle.dim_hierarchy.specs.Row.{IsRowOf}
 use Rattle.row_ledger.specs.declared.event.Event.{Event}
-use Rattle.row_ledger.specs.declared.event.Event.TheVariants.{Synced, Begun, Acked, Asked, Answered, Unknown, Failed, Refused, Called, Split, Moved, Left, Shown, Ended}
-use Rattle.row_ledger.specs.declared.page.Page.{Page}
-use Rattle.row_ledger.specs.Past.{Insert, Query, event_at, insert_at, insert_in, query_at, query_in, call_at, session_in, number_in, is_end_of, has_ended, is_work_of, work, page_in, page_of, has_page, before, since, is_pull_of}
+use Rattle.row_ledger.specs.declared.event.Event.TheVariants.{Acked, Answered, Failed, Split, Moved, Left, Shown, Ended}
+use Rattle.row_ledger.specs.Past.{Insert, Query, event_at, insert_at, insert_in, query_in, session_in, number_in, is_end_of, has_ended, is_work_of, page_in, has_page, since, is_pull_of}
 use Rattle.row_ledger.specs.Right.{KeepsRight, has_pulled}
 use Rattle.row_ledger.specs.Shards.{is_live}
 use Rattle.row_ledger.specs.Work.{is_known}
 use Rattle.row_ledger.proofs.Fresh.{kind-within}
 use Rattle.row_ledger.proofs.Older.{has_ended-older}
 use Rattle.row_ledger.proofs.Positions.{before-older, since-inside}
-use Rattle.shard_plan.specs.declared.action.Action.{Action}
 use Rattle.shard_plan.specs.declared.action.Action.TheVariants as action
 use Rattle.tree_shape.proofs.Walks.{on_bool, eqb-eq, eqb-ne, eqb-no}
 use Rattle.volap_cell.specs.Setting.{Setting, site_in}

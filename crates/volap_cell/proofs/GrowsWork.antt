@@ -1,6 +1,6 @@
 -- One event more, that splits and moves no shard and is no work of the commands in question: jobs and balances.
-use Rattle.std.proofs.Common.{◌≡◌, ◌≢◌, ℕ, ◌<◌, ◌≤◌, ◌∙◌, List, [], ◌∷◌, map, take, drop, reverse, Bool, true, false, IsTrue, length, refl, sym, ap, subst, arith, ◌⊎◌, inl, inr, All, Any, Contains, is_some, count_by}
-use Rattle.std.specs.Prelude.{Option, Some, None}
+use Rattle.std.proofs.Common.{◌≡◌, ℕ, ◌≤◌, ◌∙◌, List, ◌∷◌, take, drop, reverse, Bool, false, IsTrue, length, refl, sym, ap, subst, All, Contains, count_by}
+use Rattle.std.specs.Prelude.{Option, Some}
 use Rattle.std.specs.List.{AllZip}
 use Rattle.std.proofs.lemmas.List.Elements.{All-weaker}
 use Rattle.dim_hierarchy.specs.declared.row.Row.{Row}
@@ -11,8 +11,8 @@ use Rattle.row_ledger.specs.declared.settings.Decline.{Decline}
 use Rattle.row_ledger.specs.Past.{Ack, Step, acked, acked_into, before, work, is_work_of}
 use Rattle.row_ledger.specs.Bounds.{may}
 use Rattle.row_ledger.specs.Changes.{ShardsStay}
-use Rattle.row_ledger.specs.Shards.{Place, frontier, is_live, is_on, comes_from}
-use Rattle.row_ledger.specs.Work.{AreReadOf, Reading, Settles, is_done}
+use Rattle.row_ledger.specs.Shards.{frontier, comes_from}
+use Rattle.row_ledger.specs.Work.{Reading, Settles, is_done}
 use Rattle.row_ledger.proofs.Older.{may-older}
 use Rattle.row_ledger.proofs.Positions.{before-older}
 use Rattle.shard_plan.specs.declared.action.Action.{Action}
@@ -80,7 +80,7 @@ module _ (s : Setting) (e : Event) (h : List Event) (stay : ShardsStay s.workers
     usable = rows-may-grown placed e h r.rows i.usable;
     own = subst (λ (past : List Event). All (λ (k : Ack). IsUnder (e ∷ h) placed home r.load.shard k.row.no → Contains r.rows k.row) (acked past)) (sym (before-older e h of began))
         (All-weaker (λ (k : Ack). IsUnder h placed home r.load.shard k.row.no → Contains r.rows k.row) (λ (k : Ack). IsUnder (e ∷ h) placed home r.load.shard k.row.no → Contains r.rows k.row)
-            (λ k f u. f (under-was s e h stay placed home r.load.shard k.row.no u)) (acked (before h of)) i.own);
+        (λ k f u. f (under-was s e h stay placed home r.load.shard k.row.no u)) (acked (before h of)) i.own);
   }
 
   pub ahead-grown : (standing : List Load) (a : Action) → IsAhead s h standing a → IsAhead s (e ∷ h) standing a
