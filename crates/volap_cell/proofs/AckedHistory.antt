@@ -182,7 +182,7 @@ module _ (s : Setting) (h : List Event) (of : ℕ) (way : List ℕ) (insert : In
       → AreOlder h placed → Querying s h (row_at h) blocks trees desks taken reads shape placed home counted
       → Querying s (Acked of way ∷ h) (row_at (Acked of way ∷ h)) blocks trees desks taken reads shape placed home counted
   querying-acked blocks trees desks taken reads shape placed home counted older i = querying-grown s (Acked of way) h ack-stays placed home older blocks trees desks taken reads shape counted
-      (λ server b op. query-same (Acked of way) h refl b) (λ a b q p is op asked n some. ap (λ (row : ℕ → Row). row n) rows-acked) i
+      (λ server b known op. query-same (Acked of way) h refl b) (λ a b q p is op asked n some. ap (λ (row : ℕ → Row). row n) rows-acked) i
 
   pub working-acked : (blocks : ℕ → Block) (made : ℕ → Bool) (trees : ℕ → Gate) (phases : ℕ → Option Phase) (active : ℕ → ℕ) (queues : ℕ → Queue) (purses : ℕ → List Spare) (commands : ℕ → Option Command) (jobs : ℕ → Option JobValue) (gate : ℕ → ℕ) (shape : ℕ → Shape) (placed : ℕ → Bool)
       → ((a : ℕ) (c : Command) → commands a ≡ Some c → c.of < length h)
