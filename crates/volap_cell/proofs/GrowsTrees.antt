@@ -43,21 +43,22 @@ named-older h r some named = elim (cases_lt r (length h)) [
       omega arith
 ]
 
+-- the rows of a tree began before
+pub tree-row-older : (s : Setting) (h : List Event) → 0 < length h
+    → (blocks : ℕ → Block) (trees : ℕ → Gate) (gates : ℕ → Option ℕ) (phases : ℕ → Option Phase) (pins : ℕ → ℕ) (shape : ℕ → Shape)
+    → Growing s (row_at h) blocks trees gates phases pins shape → (c r : ℕ) → IsWhole gates phases pins c → (shape c).placed r ≡ true → r < length h
+tree-row-older s h some blocks trees gates phases pins shape i c r whole is_placed =
+    let tree = i.tree c whole in let named = tree.numbered r is_placed in named-older h r some named.0
+
 module _ (s : Setting) (e : Event) (h : List Event) (some : 0 < length h) where
   -- Trees.
-
-  -- the rows of a tree began before
-  pub tree-row-older : (blocks : ℕ → Block) (trees : ℕ → Gate) (gates : ℕ → Option ℕ) (phases : ℕ → Option Phase) (pins : ℕ → ℕ) (shape : ℕ → Shape)
-      → Growing s (row_at h) blocks trees gates phases pins shape → (c r : ℕ) → IsWhole gates phases pins c → (shape c).placed r ≡ true → r < length h
-  tree-row-older blocks trees gates phases pins shape i c r whole is_placed =
-      let tree = i.tree c whole in let named = tree.numbered r is_placed in named-older h r some named.0
 
   pub growing-grown : (blocks : ℕ → Block) (trees : ℕ → Gate) (gates : ℕ → Option ℕ) (phases : ℕ → Option Phase) (pins : ℕ → ℕ) (shape : ℕ → Shape)
       → Growing s (row_at h) blocks trees gates phases pins shape → Growing s (row_at (e ∷ h)) blocks trees gates phases pins shape
   growing-grown blocks trees gates phases pins shape i = record {
     tree = λ c whole.
         let alike : AreAlike (IsThere (shape c)) (table_of s (row_at h)) (table_of s (row_at (e ∷ h))) =
-            record { hierarchy = refl; row = λ r is_placed. row-older e h r (tree-row-older blocks trees gates phases pins shape i c r whole is_placed) } in
+            record { hierarchy = refl; row = λ r is_placed. row-older e h r (tree-row-older s h some blocks trees gates phases pins shape i c r whole is_placed) } in
         tree-alike (table_of s (row_at h)) (table_of s (row_at (e ∷ h))) (shape c) alike (cells_at blocks trees c) (i.tree c whole);
   }
 
