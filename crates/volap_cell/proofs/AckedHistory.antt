@@ -1,22 +1,26 @@
 -- What an acknowledgement adds to the history, and what it leaves of each part of the invariant that reads it.
 -- Where shards are: `lineage-acked`, `resting-acked`, `under-acked`. The table of rows: `rows-acked`, `growing-acked`, `queueing-acked`.
 -- Where rows are: `placing-acked`, with the new row's place; how far inserts are: `inserting-acked`. What is known: `imaging-acked`,
--- `covering-acked`, with the new row covered where it must be.
-use Rattle.std.proofs.Common.{◌≡◌, ◌≢◌, ℕ, ◌<◌, ◌∙◌, List, [], ◌∷◌, ◌++◌, Bool, true, IsTrue, length, refl, sym, subst, arith, ◌⊎◌, inl, inr, All, Contains, ◌==◌, suc}
-use Rattle.std.specs.Prelude.{Option, Some, zero, slice_index_or}
-use Rattle.std.proofs.lemmas.Bool.{cond_both, eqb-true}
+-- `covering-acked`, with the new row covered where it must be. Desks and queries: `desking-acked`, `querying-acked`. Jobs and balances:
+-- `working-acked`, `balancing-acked`. Commands: `telling-acked`, with the insert ended; and `few-acked` of what is owed.
+use Rattle.std.proofs.Common.{◌≡◌, ◌≢◌, ℕ, ◌<◌, ◌∙◌, List, [], ◌∷◌, ◌++◌, Bool, true, IsTrue, length, refl, sym, ap, subst, arith, ◌⊎◌, inl, inr, All, Contains, ◌==◌, ◌+◌, le_of_lt, suc}
+use Rattle.std.specs.Prelude.{Option, Some, None, ◌^◌, zero, slice_index_or}
+use Rattle.std.proofs.lemmas.Bool.{cond_both, eqb-true, eq-eqb, or_left}
 use Rattle.std.proofs.lemmas.List.Elements.{All-weaker, All-cons, All-append, All-contains, All-contains_itself, Contains-append_left, Contains-append_right}
 use Rattle.dim_hierarchy.specs.declared.row.Row.{Row}
 use Rattle.cell_stock.specs.Stock.{StockValue}
+use Rattle.cell_stock.specs.declared.purse.Spare.{Spare}
 use Rattle.dc_node.specs.declared.block.Block.{Block}
 use Rattle.mapping_table.specs.declared.place.Where.{Where}
 use Rattle.query_router.specs.Desk.{DeskValue}
 use Rattle.row_ledger.specs.declared.event.Event.{Event}
 use Rattle.row_ledger.specs.declared.event.Event.TheVariants.{Acked}
-use Rattle.row_ledger.specs.Past.{Ack, Insert, ack_of, insert_at, acked, last_of}
+use Rattle.row_ledger.specs.Past.{Ack, Insert, Query, ack_of, insert_at, acked, last_of, is_end_of, has_ended}
 use Rattle.row_ledger.specs.Bounds.{own, passed, listed, known, listing_of, is_listed}
 use Rattle.row_ledger.specs.Changes.{AckChanges, ShardsStay}
+use Rattle.row_ledger.specs.Shards.{is_path}
 use Rattle.row_ledger.proofs.Changes.{acked-changes}
+use Rattle.row_ledger.proofs.Growth.{KeepsRight-acked}
 use Rattle.server_image.specs.Image.{ImageValue}
 use Rattle.server_image.specs.Registry.{RegistryValue}
 use Rattle.shard_store.specs.declared.gate.Gate.{Gate}
@@ -24,18 +28,27 @@ use Rattle.shard_store.specs.declared.gate.Phase.{Phase}
 use Rattle.shard_store.specs.declared.queue.Queue.{Queue}
 use Rattle.tree_shape.specs.Shape.{Shape}
 use Rattle.tree_shape.proofs.Walks.{on_bool, eqb-ne}
-use Rattle.volap_cell.specs.Errands.{RowWay}
+use Rattle.volap_cell.specs.Desking.{Desking}
+use Rattle.volap_cell.specs.Errands.{ReadPart, RowWay, Taken}
 use Rattle.volap_cell.specs.Growing.{IsUnder, Growing, Queueing, Resting}
 use Rattle.volap_cell.specs.ImageKinds.{doing}
 use Rattle.volap_cell.specs.Imaging.{IsCovered, Fits, Covering, Imaging}
 use Rattle.volap_cell.specs.Lineage.{Lineage}
 use Rattle.volap_cell.specs.Placing.{NobodyAt, Placing, Inserting}
-use Rattle.volap_cell.specs.Setting.{Setting}
+use Rattle.volap_cell.specs.Querying.{Querying}
+use Rattle.volap_cell.specs.Setting.{Setting, site_in}
+use Rattle.volap_cell.specs.Telling.{Telling}
+use Rattle.volap_cell.specs.Values.{JobValue}
 use Rattle.volap_cell.specs.View.{row_at}
+use Rattle.volap_cell.specs.Working.{Working, Balancing}
 use Rattle.volap_cell.specs.declared.command.Command.{Command}
 use Rattle.volap_cell.specs.declared.command.Work.TheVariants as work_is
-use Rattle.volap_cell.proofs.Grows.{insert-same, rows-same, live-stays, comes-stays, insert-kept}
+use Rattle.volap_cell.specs.declared.role.Role.{Role}
+use Rattle.volap_cell.proofs.Grows.{insert-same, query-same, rows-same, live-stays, comes-stays, insert-kept}
 use Rattle.volap_cell.proofs.GrowsRows.{under-grown, resting-grown, lineage-grown, inserting-grown}
+use Rattle.volap_cell.proofs.GrowsDesks.{desking-grown, querying-grown}
+use Rattle.volap_cell.proofs.GrowsWork.{working-grown, balancing-grown}
+use Rattle.volap_cell.proofs.GrowsTold.{IsOwn, telling-grown, few-pushed}
 use Rattle.volap_cell.proofs.GrowsKnown.{AreOlder, fits-grown, covered-grown, imaging-grown, boxes-grown, came-grown, pushed-grown, noted-grown, must-grown, unacked-grown}
 
 -- an element of a longer list is the first one or one of the others
@@ -126,17 +139,17 @@ module _ (s : Setting) (h : List Event) (of : ℕ) (way : List ℕ) (insert : In
       All-append P (own (Acked of way ∷ h) server ++ passed (Acked of way ∷ h) server) (listed s.hierarchy (Acked of way ∷ h) server)
       (All-append P (own (Acked of way ∷ h) server) (passed (Acked of way ∷ h) server)
       (subst (All P) (sym (ack-changes.own server)) (cond_both (insert.server == server) (ack_of way insert ∷ own h server) (own h server) (All P)
-          (λ q. All-cons P (ack_of way insert) (own h server) (new (inl (eqb-true insert.server server q))) owns) (λ q. owns)))
+      (λ q. All-cons P (ack_of way insert) (own h server) (new (inl (eqb-true insert.server server q))) owns) (λ q. owns)))
       (subst (All P) (sym (ack-changes.pulls.passed server)) told))
       (subst (All P) (sym (ack-changes.listed server)) (cond_both (is_listed s.hierarchy (listing_of h server) (ack_of way insert)) (ack_of way insert ∷ listed s.hierarchy h server) (listed s.hierarchy h server) (All P)
-          (λ q. All-cons P (ack_of way insert) (listed s.hierarchy h server) (new (inr q)) lists) (λ q. lists)))
+      (λ q. All-cons P (ack_of way insert) (listed s.hierarchy h server) (new (inr q)) lists) (λ q. lists)))
 
   -- the row that is acknowledged fits, or its server has noted it; and each server that must know it covers it
   pub covering-acked : (registry : RegistryValue) (images : ℕ → ImageValue) (placed : ℕ → Bool) (home : ℕ → ℕ) (path : ℕ → List ℕ)
       → AreOlder h placed → insert.row.no ≡ of → placed of ≡ true
       → Fits s.hierarchy (row_at h) home registry.frontier of ⊎ Contains (images insert.server).growths (record { shard = last_of way; at = insert.row.at })
       → ((server : ℕ) → server < s.servers → (insert.server ≡ server) ⊎ IsTrue (is_listed s.hierarchy (listing_of h server) (ack_of way insert))
-          → IsCovered s.hierarchy h (row_at h) home (images server).spots of)
+      → IsCovered s.hierarchy h (row_at h) home (images server).spots of)
       → Covering s h (row_at h) registry images placed home path → Covering s (Acked of way ∷ h) (row_at (Acked of way ∷ h)) registry images placed home path
   covering-acked registry images placed home path older number is_placed fits covers i = record {
     boxes = boxes-grown s (Acked of way) h ack-stays placed older registry images home path i;
@@ -154,6 +167,58 @@ module _ (s : Setting) (h : List Event) (of : ℕ) (way : List ℕ) (insert : In
         All-known-acked (λ (k : Ack). IsCovered s.hierarchy (Acked of way ∷ h) (row_at (Acked of way ∷ h)) home (images server).spots k.row.no) server
         (must-grown s (Acked of way) h ack-stays placed older registry images home path i server within)
         (λ why. subst (λ (r : ℕ). IsCovered s.hierarchy (Acked of way ∷ h) (row_at (Acked of way ∷ h)) home (images server).spots r) (sym number)
-            (covered-grown s (Acked of way) h ack-stays placed older home (images server).spots of is_placed (covers server within why)));
+        (covered-grown s (Acked of way) h ack-stays placed older home (images server).spots of is_placed (covers server within why)));
     unacked = unacked-grown s (Acked of way) h ack-stays placed older registry images home path i;
   }
+
+  -- Desks, queries, jobs and balances.
+
+  pub desking-acked : (desks : ℕ → DeskValue) (roles : ℕ → Role) (commands : ℕ → Option Command) (taken : ℕ → Option Taken)
+      → Desking s h desks roles commands taken → Desking s (Acked of way ∷ h) desks roles commands taken
+  desking-acked desks roles commands taken i = desking-grown s (Acked of way) h ack-stays desks roles commands taken
+      (λ server b within op. (insert-same (Acked of way) h refl b, query-same (Acked of way) h refl b)) i
+
+  pub querying-acked : (blocks : ℕ → Block) (trees : ℕ → Gate) (desks : ℕ → DeskValue) (taken : ℕ → Option Taken) (reads : ℕ → Option ReadPart) (shape : ℕ → Shape) (placed : ℕ → Bool) (home : ℕ → ℕ) (counted : ℕ → ℕ → List ℕ)
+      → AreOlder h placed → Querying s h (row_at h) blocks trees desks taken reads shape placed home counted
+      → Querying s (Acked of way ∷ h) (row_at (Acked of way ∷ h)) blocks trees desks taken reads shape placed home counted
+  querying-acked blocks trees desks taken reads shape placed home counted older i = querying-grown s (Acked of way) h ack-stays placed home older blocks trees desks taken reads shape counted
+      (λ server b known op. query-same (Acked of way) h refl b) (λ a b q p is op asked n some. ap (λ (row : ℕ → Row). row n) rows-acked) i
+
+  pub working-acked : (blocks : ℕ → Block) (made : ℕ → Bool) (trees : ℕ → Gate) (phases : ℕ → Option Phase) (active : ℕ → ℕ) (queues : ℕ → Queue) (purses : ℕ → List Spare) (commands : ℕ → Option Command) (jobs : ℕ → Option JobValue) (gate : ℕ → ℕ) (shape : ℕ → Shape) (placed : ℕ → Bool)
+      → ((a : ℕ) (c : Command) → commands a ≡ Some c → c.of < length h)
+      → Working s h blocks made trees phases active queues purses commands jobs gate shape placed → Working s (Acked of way ∷ h) blocks made trees phases active queues purses commands jobs gate shape placed
+  working-acked blocks made trees phases active queues purses commands jobs gate shape placed began i =
+      working-grown s (Acked of way) h ack-stays blocks made trees phases active queues purses commands jobs gate shape placed (λ a c is. le_of_lt (began a c is)) i
+
+  pub balancing-acked : (commands : ℕ → Option Command) (jobs : ℕ → Option JobValue) (placed : ℕ → Bool) (home : ℕ → ℕ)
+      → ((a : ℕ) (c : Command) → commands a ≡ Some c → c.of < length h)
+      → Balancing s h commands jobs placed home → Balancing s (Acked of way ∷ h) commands jobs placed home
+  balancing-acked commands jobs placed home began i = balancing-grown s (Acked of way) h ack-stays commands jobs placed home (λ a b balance is. (le_of_lt (began a _ is), refl)) i
+
+  -- Commands. The actor of the insert has none afterwards, and has seen all.
+
+  pub telling-acked : (n : ℕ) (commands commands_now : ℕ → Option Command) (jobs : ℕ → Option JobValue) (roles : ℕ → Role) (seen seen_now : ℕ → ℕ) (placed : ℕ → Bool) (routed : Bool)
+      → commands n ≡ doing of (work_is.Insert insert.row routed) → commands_now n ≡ None → seen_now n ≡ length (Acked of way ∷ h)
+      → ((a : ℕ) → a ≢ n → (commands_now a ≡ commands a) × (seen_now a ≡ seen a))
+      → IsTrue (is_path h insert.server way)
+      → Telling s h commands jobs roles seen placed → Telling s (Acked of way ∷ h) commands_now jobs roles seen_now placed
+  telling-acked n commands commands_now jobs roles seen seen_now placed routed command ended all_seen others path i =
+      let its : Command = record { of = of; work = work_is.Insert insert.row routed } in
+      telling-grown s (Acked of way) h n commands commands_now jobs jobs roles seen seen_now placed
+      (record {
+        others = λ a off. let o = others a off in (o.0, refl, o.1);
+        whose = λ b is. let same : of ≡ b = cc in subst (λ (p : ℕ). IsOwn h p n) same (i.own n its command);
+        by = λ a is. let never : ◌≡◌ {A = Option ℕ} None (Some a) = is in cc;
+        mine = λ c is. let never : ◌≡◌ {A = Option Command} None (Some c) = sym ended ∙ is in cc;
+        all_seen = all_seen;
+        row = λ j is. let never : ◌≡◌ {A = Option Insert} None (Some j) = is in cc;
+        filter = λ q is. let never : ◌≡◌ {A = Option Query} None (Some q) = is in cc;
+        goes_on = λ c is there. let same : c ≡ its = cc in
+            inl (or_left (is_end_of c.of (Acked of way)) (has_ended h c.of) (eq-eqb of c.of (sym (ap (λ (d : Command). d.of) same))));
+      })
+      i
+      (KeepsRight-acked (site_in s) placed h of way i.right (record { insert = insert; begun = begun; is_open = i.is_open n its command; descends = path }))
+
+-- what is owed, with one promise used
+pub few-acked : (h : List Event) (of : ℕ) (way : List ℕ) (promised promised_now : ℕ) → promised + 0 ≡ promised_now + 1 → length h + promised < 2 ^ 31 → length (Acked of way ∷ h) + promised_now < 2 ^ 31
+few-acked h of way promised promised_now used few = few-pushed (Acked of way) h promised promised_now (2 ^ 31) (omega arith) few

@@ -44,6 +44,10 @@ use Rattle.volap_cell.proofs.Grows.{comes-stays, insert-kept, query-kept, row-ol
 use Rattle.volap_cell.proofs.GrowsRows.{under-grown, under-was}
 use Rattle.volap_cell.proofs.GrowsKnown.{AreOlder, All-inside, known-acked}
 
+-- an actor has read a gate for a query of the server
+abbrev pub IsReader : (ℕ → Option ReadPart) → ℕ → Type 0
+IsReader reads server = (a : ℕ) × (p : ReadPart) × (reads a ≡ Some p) × (p.server ≡ server)
+
 -- what a part's command asks for
 pub want-grown : (e : Event) (h : List Event) (of : ℕ) (w : Want) → IsWantOf h of w → IsWantOf (e ∷ h) of w
 want-grown e h of (want.Row row) i = (i.0, insert-kept e h of i.0 i.1, i.2)
@@ -136,10 +140,12 @@ module _ (s : Setting) (e : Event) (h : List Event) (stay : ShardsStay s.workers
     walk-grown blocks trees shape of q counted r None began rows i = i
     walk-grown blocks trees shape of q counted r (Some c) began rows i =
         let alike : AreAlike (IsThereOrCounted (shape c) counted) (table_of s (row_at h)) (table_of s (row_at (e ∷ h))) =
-            record { hierarchy = refl; row = λ n there. rows n (elim there [ inl p ↦ inr p | inr some ↦ inl some ]) } in
-        let now = query-alike (table_of s (row_at h)) (table_of s (row_at (e ∷ h))) (shape c) (nodes (cells_at blocks trees c)) (must_hold s.hierarchy h of q) q.filter r.items counted alike i.1 in
-        (i.0, subst (λ (holds : ℕ → Bool). IsUnfinished (shape c) (nodes (cells_at blocks trees c)) holds (fits (table_of s (row_at (e ∷ h))) q.filter) r.items counted)
-            (sym (must_hold-grown s.hierarchy e h of q began)) now.unfinished)
+        record { hierarchy = refl; row = λ n there. rows n (elim there [ inl p ↦ inr p | inr some ↦ inl some ]) } in
+        let now = query-alike (table_of s (row_at h)) (table_of s (row_at (e ∷ h))) (shape c) (nodes (cells_at blocks trees c)) (must_hold s.hierarchy h of q) q.filter r.items counted alike i.1 in (
+          i.0,
+          subst (λ (holds : ℕ → Bool). IsUnfinished (shape c) (nodes (cells_at blocks trees c)) holds (fits (table_of s (row_at (e ∷ h))) q.filter) r.items counted)
+              (sym (must_hold-grown s.hierarchy e h of q began)) now.unfinished,
+        )
 
     pub reading-grown : (blocks : ℕ → Block) (trees : ℕ → Gate) (shape : ℕ → Shape) (of : ℕ) (q : Query) (x : ℕ) (counted : List ℕ) (r : ReadingValue) → of ≤ length h
         → ((n : ℕ) → (1 ≤ times n counted) ⊎ IsInTreeOf shape r.pin n → row_at (e ∷ h) n ≡ row_at h n)
@@ -153,30 +159,30 @@ module _ (s : Setting) (e : Event) (h : List Event) (stay : ShardsStay s.workers
 
     -- what stands on desks began before, and so did the rows that readings have counted or may find
     pub querying-grown : (blocks : ℕ → Block) (trees : ℕ → Gate) (desks : ℕ → DeskValue) (taken : ℕ → Option Taken) (reads : ℕ → Option ReadPart) (shape : ℕ → Shape) (counted : ℕ → ℕ → List ℕ)
-        → ((server of : ℕ) → (desks server).op ≡ Some of → query_at (e ∷ h) of ≡ query_at h of)
+        → ((server of : ℕ) → (server < s.servers) ⊎ IsReader reads server → (desks server).op ≡ Some of → query_at (e ∷ h) of ≡ query_at h of)
         → ((a of : ℕ) (q : Query) (p : ReadPart) → reads a ≡ Some p → (desks p.server).op ≡ Some of → query_at h of ≡ Some q
-            → (n : ℕ) → (1 ≤ times n (counted p.server p.shard)) ⊎ IsInTreeOf shape p.reading.pin n → row_at (e ∷ h) n ≡ row_at h n)
+        → (n : ℕ) → (1 ≤ times n (counted p.server p.shard)) ⊎ IsInTreeOf shape p.reading.pin n → row_at (e ∷ h) n ≡ row_at h n)
         → Querying s h (row_at h) blocks trees desks taken reads shape placed home counted → Querying s (e ∷ h) (row_at (e ∷ h)) blocks trees desks taken reads shape placed home counted
     querying-grown blocks trees desks taken reads shape counted same rows i = record {
       counts = λ server of q within op is.
           All-weaker (λ (p : Part). is_refused p ≡ false → IsCounted s h (row_at h) placed home q p.shard (counted server p.shard))
           (λ (p : Part). is_refused p ≡ false → IsCounted s (e ∷ h) (row_at (e ∷ h)) placed home q p.shard (counted server p.shard))
-          (λ p f not_refused. counted-grown q p.shard (counted server p.shard) (f not_refused)) (desks server).parts (i.counts server of q within op (sym (same server of op) ∙ is));
+          (λ p f not_refused. counted-grown q p.shard (counted server p.shard) (f not_refused)) (desks server).parts (i.counts server of q within op (sym (same server of (inl within) op) ∙ is));
       ends = λ server of q within op is.
-          let was : query_at h of ≡ Some q = sym (same server of op) ∙ is in
+          let was : query_at h of ≡ Some q = sym (same server of (inl within) op) ∙ is in
           let count = i.counts server of q within op was in
           All-inside (λ (p : Part). IsEndOfPart s h (row_at h) placed home of q p.shard (counted server p.shard) p.state)
           (λ (p : Part). IsEndOfPart s (e ∷ h) (row_at (e ∷ h)) placed home of q p.shard (counted server p.shard) p.state) (desks server).parts
           (λ p has f. end-of-part-grown of q p.shard (counted server p.shard) p.state (le_of_lt (query-within h of q was))
-              (All-contains (λ (p : Part). is_refused p ≡ false → IsCounted s h (row_at h) placed home q p.shard (counted server p.shard)) (desks server).parts p count has) f)
+          (All-contains (λ (p : Part). is_refused p ≡ false → IsCounted s h (row_at h) placed home q p.shard (counted server p.shard)) (desks server).parts p count has) f)
           (i.ends server of q within op was);
       whole = λ server of q within op is r m fit.
-          let was : query_at h of ≡ Some q = sym (same server of op) ∙ is in
+          let was : query_at h of ≡ Some q = sym (same server of (inl within) op) ∙ is in
           let held : must_hold s.hierarchy h of q r ≡ true = ap (λ (f : ℕ → Bool). f r) (sym (must_hold-grown s.hierarchy e h of q (le_of_lt (query-within h of q was)))) ∙ m in
           Any-weaker (λ (p : Part). IsUnder h placed home p.shard r) (λ (p : Part). IsUnder (e ∷ h) placed home p.shard r) (λ p. under-grown s e h stay placed home p.shard r) (desks server).parts
           (i.whole server of q within op was r held (sym (fits-was q.filter r (must_hold-placed s.hierarchy h placed older of q r held)) ∙ fit));
       reading = λ a of q p is op asked.
-          let was : query_at h of ≡ Some q = sym (same p.server of op) ∙ asked in
+          let was : query_at h of ≡ Some q = sym (same p.server of (inr (a, p, is, refl)) op) ∙ asked in
           reading-grown blocks trees shape of q p.shard (counted p.server p.shard) p.reading (le_of_lt (query-within h of q was)) (rows a of q p is op was) (i.reading a of q p is op was);
       unread = i.unread;
     }

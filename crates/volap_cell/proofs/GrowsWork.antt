@@ -80,7 +80,7 @@ module _ (s : Setting) (e : Event) (h : List Event) (stay : ShardsStay s.workers
     usable = rows-may-grown placed e h r.rows i.usable;
     own = subst (λ (past : List Event). All (λ (k : Ack). IsUnder (e ∷ h) placed home r.load.shard k.row.no → Contains r.rows k.row) (acked past)) (sym (before-older e h of began))
         (All-weaker (λ (k : Ack). IsUnder h placed home r.load.shard k.row.no → Contains r.rows k.row) (λ (k : Ack). IsUnder (e ∷ h) placed home r.load.shard k.row.no → Contains r.rows k.row)
-            (λ k f u. f (under-was s e h stay placed home r.load.shard k.row.no u)) (acked (before h of)) i.own);
+        (λ k f u. f (under-was s e h stay placed home r.load.shard k.row.no u)) (acked (before h of)) i.own);
   }
 
   pub ahead-grown : (standing : List Load) (a : Action) → IsAhead s h standing a → IsAhead s (e ∷ h) standing a
