@@ -1,12 +1,10 @@
 -- A step from a reached state leads to a reached one, and what a kind keeps is the invariant.
-use Rattle.std.proofs.Common.{◌≡◌, ℕ, List, [], ◌∷◌, refl, sym, ◌∙◌, subst}
+use Rattle.std.proofs.Common.{◌≡◌, ℕ, List, ◌∷◌, refl}
 use Rattle.dim_hierarchy.specs.Dimension.{Dimension}
 use Rattle.volap_cell.specs.Ghost.{Ghost}
-use Rattle.volap_cell.specs.Invariant.{InvWith}
 use Rattle.volap_cell.specs.Setting.{Setting}
 use Rattle.volap_cell.specs.Steps.{HasSight, Inv, IsKept, IsReached, Makes, Step}
 use Rattle.volap_cell.specs.Values.{ActorValue}
-use Rattle.volap_cell.specs.View.{view}
 use Rattle.volap_cell.specs.World.{World, Change, Agrees, after}
 use Rattle.volap_cell.specs.declared.kind.Kind.{Kind}
 

@@ -1,28 +1,27 @@
 -- Cells that are moved out of a vector, changed by a kind and put back: what a kind asks is there, and the vectors are the state
 -- after its step. One lemma for any number of cells.
-use Rattle.std.proofs.Common.{◌≡◌, ◌≢◌, ℕ, zero, suc, ◌<◌, ◌≤◌, Bool, true, false, cond, eqb, List, [], ◌∷◌, map, length, Option, Some, None, get_or, set, slice_get, refl, sym, ap, ◌∙◌, subst, inl, inr, arith}
+use Rattle.std.proofs.Common.{◌≡◌, ◌≢◌, ℕ, zero, suc, ◌<◌, ◌≤◌, cond, eqb, List, [], ◌∷◌, map, length, Option, Some, None, get_or, set, refl, sym, ap, ◌∙◌, subst, inl, inr, arith}
 use Rattle.std.specs.Prelude.{⊤}
 use Rattle.std.proofs.lemmas.Bool.{cases_lt}
 use Rattle.std.proofs.lemmas.List.{length-set, get_or-set_same, get_or-set_other}
-use Rattle.std.proofs.lemmas.Option.{slice_get-get_or, get_or_from_slice_get}
 use Rattle.dim_hierarchy.specs.Dimension.{Dimension}
 use Rattle.tree_shape.specs.Counts.{Each}
-use Rattle.tree_shape.proofs.Walks.{on_bool, eqb-eq, eqb-ne, eqb-self, eqb-no}
+use Rattle.tree_shape.proofs.Walks.{on_bool, eqb-eq, eqb-ne, eqb-no}
 use Rattle.volap_cell.specs.Cells.{CellValue, cell_of}
 use Rattle.volap_cell.specs.Errands.{IsCarried, way_of}
 use Rattle.volap_cell.specs.Ghost.{Ghost}
 use Rattle.volap_cell.specs.Invariant.{InvWith}
 use Rattle.volap_cell.specs.Opening.{IsFresh}
 use Rattle.volap_cell.specs.Setting.{Setting}
-use Rattle.volap_cell.specs.State.{Has, IsWorldOf, HasInv, AreDifferent, CanLift, Stand, taken, given, Exchange, numbers_of, cells_before, cells_now, changes_of, still, IsUnkept, MayHold, IsStepped, Stepped}
-use Rattle.volap_cell.specs.Steps.{HasSight, Inv, IsHere, IsReached, Makes}
+use Rattle.volap_cell.specs.State.{Has, IsWorldOf, HasInv, Stand, taken, given, Exchange, numbers_of, cells_before, cells_now, changes_of, still, IsUnkept, MayHold, Stepped}
+use Rattle.volap_cell.specs.Steps.{HasSight, Inv, IsHere, Makes}
 use Rattle.volap_cell.specs.Values.{ActorValue, ErrandValue, actor_of}
 use Rattle.volap_cell.specs.View.{view}
 use Rattle.volap_cell.specs.World.{World, Change, Agrees, MustKeep, after, change, put}
 use Rattle.volap_cell.specs.declared.actor.Actor.{Actor}
 use Rattle.volap_cell.specs.declared.cell.Cell.{Cell}
 use Rattle.volap_cell.specs.declared.kind.Kind.{Kind}
-use Rattle.volap_cell.proofs.Runs.{reached-on, inv-kept}
+use Rattle.volap_cell.proofs.Runs.{reached-on}
 
 -- What stands at a place.
 

@@ -1,6 +1,5 @@
 -- What holds between steps. Its parts read fields of the view and of the ghost, and never the whole of either, so that a step keeps
 -- by its very statement each part whose fields it leaves as they are.
-use Rattle.std.specs.Prelude.{ℕ}
 use Rattle.volap_cell.specs.Desking.{Desking}
 use Rattle.volap_cell.specs.Ghost.{Ghost}
 use Rattle.volap_cell.specs.Growing.{Growing, Queueing, Resting}

@@ -30,4 +30,6 @@ pub mod Falls
 pub mod Opening
 pub mod Sights
 pub mod Steps
+pub mod Promises
 pub mod State
+pub mod Laws

@@ -8,6 +8,7 @@ mod command;
 mod errand;
 mod job;
 mod kind;
+mod laws;
 mod role;
 mod state;
 #[cfg(test)]
@@ -20,6 +21,9 @@ pub use command::{Balance, Command, Work};
 pub use errand::{Errand, Reading, RowErrand, Task, Way};
 pub use job::{Building, BuiltTree, Collecting, Frozen, Job, Stage, Unbuilt};
 pub use kind::Kind;
+pub use laws::{
+    each_row_has_one_place, images_cover, opening_law, queries_count_once, shards_have_the_rows,
+};
 pub use role::{Role, RoleList};
 pub use state::{
     State, lift, lift_five, lift_four, lift_one, lift_seven, lift_six, lift_three, lift_two,
