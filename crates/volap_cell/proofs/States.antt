@@ -235,3 +235,14 @@ inv-stepped h kind n cells cells_now actors actors_now has stepped =
 pub stepped-to : (h : List Dimension) (kind : Kind) (n : ℕ) (cells xs ys : List (Option Cell)) (actors zs us : List (Option Actor)) → ys ≡ xs → us ≡ zs → Stepped h kind n cells actors xs zs → Stepped h kind n cells actors ys us
 stepped-to h kind n cells xs ys actors zs us e f s =
     subst (λ (vs : List (Option Cell)). Stepped h kind n cells actors vs us) (sym e) (subst (λ (vs : List (Option Actor)). Stepped h kind n cells actors xs vs) (sym f) s)
+
+-- A driver's step in one: with the cells and the actor moved out, the kind made, and all put back, the vectors are stepped on.
+pub drives : (h : List Dimension) (kind : Kind) (cells cells_out cells_back : List (Option Cell)) (actors actors_out actors_back : List (Option Actor)) (xs : List Exchange) (n : ℕ) (a now : Actor)
+    → cells_out ≡ taken (numbers_of xs) cells → actors_out ≡ set actors n None → cells_back ≡ given (cells_now xs) cells_out → actors_back ≡ set actors_out n (Some now)
+    → MayHold cells actors (cells_before xs) n a → (makes : Makes h kind (changes_of xs) (actor_of a) (actor_of now))
+    → ((s : Setting) (w : World) → s.hierarchy ≡ h → IsWorldOf cells actors w → Inv s w → HasSight s w n h kind (changes_of xs) (actor_of a) (actor_of now) makes.does)
+    → Stepped h kind n cells actors cells_back actors_back
+drives h kind cells cells_out cells_back actors actors_out actors_back xs n a now e f e2 f2 may makes sight =
+    stepped-to h kind n cells (given (cells_now xs) (taken (numbers_of xs) cells)) cells_back actors (set (set actors n None) n (Some now)) actors_back
+    (e2 ∙ ap (λ (zs : List (Option Cell)). given (cells_now xs) zs) e) (f2 ∙ ap (λ (zs : List (Option Actor)). set zs n (Some now)) f)
+    (has-stepped h kind cells actors xs n a now may makes sight)
