@@ -30,4 +30,4 @@ pub mod Falls
 pub mod Opening
 pub mod Sights
 pub mod Steps
-pub mod Laws
+pub mod Promises

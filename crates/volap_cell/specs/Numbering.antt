@@ -4,7 +4,7 @@ use Rattle.dim_hierarchy.specs.Dimension.{IsHierarchy}
 use Rattle.cell_stock.specs.declared.purse.Spare.{Spare}
 use Rattle.volap_cell.specs.Cells.{Tag, OfStock, TheLedger, TheStock, TheRegistry, ImageOf, DeskOf, MapOf}
 use Rattle.volap_cell.specs.Errands.{Taken}
-use Rattle.volap_cell.specs.Setting.{Setting, actor_count, first_stock_cell, ledger_cell, stock_cell, registry_cell}
+use Rattle.volap_cell.specs.Setting.{Setting, actor_count, cell_count, first_stock_cell, ledger_cell, stock_cell, registry_cell}
 use Rattle.volap_cell.specs.Values.{JobValue}
 use Rattle.volap_cell.specs.declared.command.Command.{Command}
 use Rattle.volap_cell.specs.declared.role.Role.{Role}
@@ -17,12 +17,13 @@ IsRoleOf s (Hand worker) = worker < s.workers
 IsRoleOf s Puller = ⊤
 IsRoleOf s Admin = ⊤
 
--- there is a server and a worker, a server's number is a byte, and there is one administrator at most
+-- There is a server and a worker, the stock has the cells of the first shards, and there is one administrator at most.
 pub record IsSetting (s : Setting) : Type 0 where
   pub hierarchy : IsHierarchy s.hierarchy
   pub servers : 0 < s.servers
   pub workers : 0 < s.workers
-  pub few : s.servers ≤ 2 ^ 8
+  pub enough : s.workers + s.workers ≤ s.stock_cells
+  pub few : cell_count s < 2 ^ 32
   pub roles : All (IsRoleOf s) s.roles
   pub admin : (a b : ℕ) → slice_get s.roles a ≡ Some Admin → slice_get s.roles b ≡ Some Admin → a ≡ b
 

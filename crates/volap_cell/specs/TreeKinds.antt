@@ -27,7 +27,7 @@ use Rattle.mapping_table.specs.declared.place.Where.{Where}
 use Rattle.mapping_table.specs.declared.place.Where.TheVariants as where_is
 use Rattle.tree_shape.specs.Counts.{Each}
 use Rattle.volap_cell.specs.Cells.{MapCell, GateCell, BlockCell, StockCell, block_in}
-use Rattle.volap_cell.specs.Errands.{place_of, Outside, height_of, height_noted, is_filled}
+use Rattle.volap_cell.specs.Errands.{place_of, Outside, height_of, height_to_fill, is_filled}
 use Rattle.volap_cell.specs.Values.{ActorValue, ErrandValue, ReadingValue, TaskValue, OfRow, Unread, Read}
 use Rattle.volap_cell.specs.World.{Change, MustKeep}
 use Rattle.volap_cell.specs.declared.errand.RowErrand.{RowErrand}
@@ -276,11 +276,13 @@ pub record Fills (height : ℕ) (stock stock_now : StockValue) (a b : ActorValue
   pub r : RowErrand
   pub has : HasRow a e r
   pub noted : height_of r.way ≡ Some height
+  pub unfilled : is_filled r.way ≡ false
   pub actor_is : b ≡ record a { purse = b.purse; boxes = b.boxes; errand = on_way e r (Before (Some height) true) }
 
 -- the purse is emptied into the stock; no row is carried meanwhile, and none is to come in
 pub record Empties (stock stock_now : StockValue) (a b : ActorValue) : Type 0 where
-  pub none_to_fill : height_noted a.errand ≡ None
+  pub some : a.purse ≢ []
+  pub none_to_fill : height_to_fill a.errand ≡ None
   pub none_carried : (y : ℕ) → ¬ MustKeep a y
   pub purse : PurseValue
   pub purse_was : purse.spares ≡ a.purse
