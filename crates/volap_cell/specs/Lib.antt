@@ -31,3 +31,4 @@ pub mod Opening
 pub mod Sights
 pub mod Steps
 pub mod Promises
+pub mod State

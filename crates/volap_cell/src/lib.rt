@@ -10,6 +10,9 @@ mod job;
 mod kind;
 mod laws;
 mod role;
+mod state;
+#[cfg(test)]
+mod tests;
 
 pub use actor::{About, Actor};
 pub use boxes::Boxes;
@@ -22,3 +25,7 @@ pub use laws::{
     each_row_has_one_place, images_cover, opening_holds, queries_count_once, shards_have_the_rows,
 };
 pub use role::{Role, RoleList};
+pub use state::{
+    State, lift, lift_five, lift_four, lift_one, lift_seven, lift_six, lift_three, lift_two,
+    put_actor, put_five, put_four, put_one, put_seven, put_six, put_three, put_two,
+};
