@@ -16,8 +16,12 @@ use Rattle.tree_shape.specs.Shape.{Shape, nodes, numbers}
 use Rattle.tree_shape.specs.Trees.{IsTree}
 use Rattle.tree_shape.specs.Walks.{Noted, AreNoted, pending}
 use Rattle.volap_cell.specs.Errands.{ReadPart, Taken}
+use Rattle.volap_cell.specs.Ghost.{Ghost}
 use Rattle.volap_cell.specs.Growing.{table_of}
 use Rattle.volap_cell.specs.ImageKinds.{doing}
+use Rattle.volap_cell.specs.Invariant.{InvWith}
+use Rattle.volap_cell.specs.Numbering.{IsSetting}
+use Rattle.volap_cell.specs.Opening.{IsOpening}
 use Rattle.volap_cell.specs.Querying.{must_hold}
 use Rattle.volap_cell.specs.Setting.{Setting}
 use Rattle.volap_cell.specs.Steps.{Inv}
@@ -25,6 +29,10 @@ use Rattle.volap_cell.specs.Stocking.{cells_at}
 use Rattle.volap_cell.specs.View.{View, view}
 use Rattle.volap_cell.specs.World.{World}
 use Rattle.volap_cell.specs.declared.command.Work.TheVariants as work_is
+
+-- beside an opening there is a ghost with which all parts of the invariant hold, and it is reached
+abbrev pub OpeningLaw : Type 0
+OpeningLaw = (s : Setting) (w : World) → IsSetting s → IsOpening s w → ((g : Ghost) × InvWith s (view s w) g) × Inv s w
 
 -- The gates of the shards that stand, and for each a shape that fits its tree.
 pub record Standing (s : Setting) (v : View) : Type 0 where

@@ -1,11 +1,10 @@
 //! Laws of the invariant: that it is met to begin with, and what follows of it, in the words of the rules. There
 //! is nothing to do at run time.
 
-ghost use Rattle.volap_cell.specs.Laws.{OpeningLaw};
-ghost use Rattle.volap_cell.specs.Promises.{PlaceLaw, RowsLaw, ImageLaw, QueryLaw};
+ghost use Rattle.volap_cell.specs.Promises.{OpeningLaw, PlaceLaw, RowsLaw, ImageLaw, QueryLaw};
 
 /// What a core begins with meets the invariant.
-pub fn opening_law()
+pub fn opening_holds()
     ensures { OpeningLaw }
 {}
 

@@ -22,7 +22,7 @@ pub use errand::{Errand, Reading, RowErrand, Task, Way};
 pub use job::{Building, BuiltTree, Collecting, Frozen, Job, Stage, Unbuilt};
 pub use kind::Kind;
 pub use laws::{
-    each_row_has_one_place, images_cover, opening_law, queries_count_once, shards_have_the_rows,
+    each_row_has_one_place, images_cover, opening_holds, queries_count_once, shards_have_the_rows,
 };
 pub use role::{Role, RoleList};
 pub use state::{
