@@ -26,7 +26,7 @@ use Rattle.volap_cell.specs.Steps.{HasSight, IsKept}
 use Rattle.volap_cell.specs.Stocking.{cells_at}
 use Rattle.volap_cell.specs.Sums.{sum_below}
 use Rattle.volap_cell.specs.TreeKinds.{HasRow, on_way}
-use Rattle.volap_cell.specs.Turning.{IsIn, is_inside, inside_of}
+use Rattle.volap_cell.specs.Turning.{is_inside, inside_of}
 use Rattle.volap_cell.specs.Values.{ActorValue, ErrandValue, TaskValue, OfRow, Unread, Read}
 use Rattle.volap_cell.specs.View.{View, view}
 use Rattle.volap_cell.specs.World.{World, Change, put, after, Agrees}
@@ -39,6 +39,7 @@ use Rattle.volap_cell.proofs.Frames.{Same, AreAt, holds-still, actor-at, actor-o
 use Rattle.volap_cell.proofs.Seen.{Touched, ActorSeen, nothing, beside, actor_beside, renewed}
 use Rattle.volap_cell.proofs.Sums.{sum-same, sum-some}
 use Rattle.volap_cell.proofs.Views.{view-after}
+use Rattle.core_tree.proofs.Carriers.{Carries, carries}
 use Rattle.core_tree.proofs.Less.{sum-less, job-as-before, rows-as-before, any-front}
 use Rattle.core_tree.proofs.Moves.{Moved, Went, TreeMoves, moved-growing, moved-numbering, moved-turning, counts-same, level-kept, moved-stocking, moved-stamping}
 use Rattle.core_tree.proofs.MovesRest.{moved-resting, moved-placing, moved-inserting, moved-querying, moved-working}
@@ -99,17 +100,6 @@ pub record TreeStep (s : Setting) (w : World) (n : ℕ) (cs : List Change) (b : 
 
 -- Small facts.
 
-or-right : (a b : Bool) → b ≡ true → (a || b) ≡ true
-or-right true b e = refl
-or-right false b e = e
-
--- a shard that stands is on some worker
-live-on : (x : ℕ) (ps : List Place) → list_any (is_of x) ps ≡ true → (worker : ℕ) × (list_any (λ (p : Place). is_of x p && (p.worker == worker)) ps ≡ true)
-live-on x [] e = cc
-live-on x (p ∷ ps) e = on_bool (is_of x p)
-    (λ q. (p.worker, rw (q, eqb-self p.worker) refl))
-    (λ q. let k = live-on x ps (ap (λ (b : Bool). b || list_any (is_of x) ps) (sym q) ∙ e) in (k.0, or-right (is_of x p && (p.worker == k.0)) (list_any (λ (p : Place). is_of x p && (p.worker == k.0)) ps) k.1))
-
 none-of : {A : Type 0} (o : Option A) → ((x : A) → o ≡ Some x → ⊥) → o ≡ None
 none-of None f = refl
 none-of (Some x) f = absurd (f x refl)
@@ -160,15 +150,8 @@ module _ (s : Setting) (w : World) (n : ℕ) (cs : List Change) (b : ActorValue)
   at-block = ap place_of t.carried
 
   -- the row is in the tree of the gate of its shard, which stands
-  here : IsIn v.phases g.gate g.shape g.home way t.gate
-  here = (i.turning.carrying n t.gate t.block way was at-block).0
-
-  is-gate : IsSome (v.gates t.gate)
-  is-gate =
-      let pl : g.placed t.r.row.no ≡ true = (i.inserting.on_way n way was).passed ∙ ap has_passed at-block in
-      let on = live-on (g.home t.r.row.no) (frontier s.workers v.history) (i.placing.stands t.r.row.no pl) in
-      let at = (i.lineage.gate_of (g.home t.r.row.no) on.0 on.1).1 in
-      subst (λ (y : ℕ). IsSome (v.gates y)) here.gate_is (subst IsSome (sym at) refl)
+  here : Carries s v g t.gate t.block way
+  here = carries s v g refl i n t.gate t.block way was at-block
 
   shape-at : g2.shape t.gate ≡ t.shape
   shape-at = rw (eqb-self t.gate) refl
@@ -180,9 +163,9 @@ module _ (s : Setting) (w : World) (n : ℕ) (cs : List Change) (b : ActorValue)
     was = was;
     is = ap (λ (a : ActorValue). way_of a.errand) me ∙ ap way_of t.errand;
     from = λ d y p. let z : AtBlock d y ≡ AtBlock t.gate t.block = sym p ∙ at-block in cc;
-    is_gate = is-gate;
-    stands = here.stands;
-    gate_is = here.gate_is;
+    is_gate = here.whole.0;
+    stands = here.in_tree.stands;
+    gate_is = here.in_tree.gate_is;
     used = t.used;
     purse = subst (λ (a : ActorValue). (w.actors n).purse ≡ a.purse ++ t.used) (sym me) t.purse;
     moved = subst (λ (z : Shape). Moved (table_of s v.row) (cells_at v.blocks v.trees t.gate) (cells_at v2.blocks v.trees t.gate) (g.shape t.gate) z t.r.row.no t.used) (sym shape-at) t.moved;
@@ -209,7 +192,7 @@ module _ (s : Setting) (w : World) (n : ℕ) (cs : List Change) (b : ActorValue)
       let all = i.turning.counts t.gate in omega arith
 
   placed : (g.shape t.gate).placed t.r.row.no ≡ true
-  placed = here.placed
+  placed = here.in_tree.placed
 
   pub holds : InvWith s v2 g2
   unfolding moves
