@@ -32,4 +32,3 @@ pub mod Sights
 pub mod Steps
 pub mod Promises
 pub mod State
-pub mod Laws
