@@ -12,7 +12,7 @@ use Rattle.link_descent.specs.declared.entered.Fresh.{Fresh}
 use Rattle.shard_store.specs.declared.gate.Gate.{Gate}
 use Rattle.tree_shape.specs.Counts.{Each, Among}
 use Rattle.tree_shape.proofs.Parts.{among-left, among-right, each-right}
-use Rattle.volap_cell.specs.AdminKinds.{DoesBuildBlock, DoesFinishSplit, DoesFinishMove, spent_by}
+use Rattle.volap_cell.specs.AdminKinds.{DoesBuildBlock, DoesFinishSplit, DoesFinishMove, spent_by, spent_in}
 use Rattle.volap_cell.specs.Cells.{OfStock, tag_of}
 use Rattle.volap_cell.specs.Ghost.{Ghost}
 use Rattle.volap_cell.specs.Invariant.{InvWith}
@@ -101,3 +101,19 @@ move-blank s w k inv n h maps x g reg c led a b agrees d =
     let at = each-right (λ (z : Change). w.cells z.number ≡ z.before) maps (x ∷ g ∷ reg ∷ c ∷ led ∷ []) agrees.cells in
     let mine = subst (Among d.spare) (sym d.spares) (among-right d.rest (d.spare ∷ []) d.spare (inl refl)) in
     spare-at s w k inv n a g d.spare at.1.0 agrees.actor_is d.cell mine
+
+-- a block that isn't in its cell yet has a spare that its job has spent
+among-spent : (f : Fresh) (fs : List Fresh) → Among f fs → Among (record { cell = f.cell; stamp = f.block.stamp }) (spent_by fs)
+among-spent f [] m = absurd m
+among-spent f (x ∷ fs) m = elim m [ inl is ↦ inl (ap (λ (z : Fresh). record { cell = z.cell; stamp = z.block.stamp }) is) | inr more ↦ inr (among-spent f fs more) ]
+
+pub build-blank : (s : Setting) (w : World) (g : Ghost) → InvWith s (view s w) g → (n : ℕ) (c : Change) (a b : ActorValue) → Agrees w (c ∷ []) n a → DoesBuildBlock c a b → IsBlank c.before
+build-blank s w g inv n c a b agrees d =
+    let job : (w.actors n).job ≡ Some d.job = ap (λ (x : ActorValue). x.job) agrees.actor_is ∙ d.has.is_job in
+    let building = inv.working.building n d.job d.building job d.has.stage_is in
+    let next : Among d.next d.building.unbuilt = subst (Among d.next) (sym d.unbuilt) (among-right d.others (d.next ∷ []) d.next (inl refl)) in
+    let all = among-spent d.next (d.building.unbuilt ++ building.built) (among-left d.building.unbuilt building.built d.next next) in
+    let spare : Spare = record { cell = d.next.cell; stamp = d.next.block.stamp } in
+    let spent : spent_of (w.actors n).job ≡ d.building.spent = ap spent_of job ∙ ap spent_in d.has.stage_is in
+    let mine : Among spare (spent_of (w.actors n).job) = subst (Among spare) (sym (spent ∙ building.trees_are.spent)) all in
+    subst IsBlank (ap w.cells d.here ∙ agrees.cells.0) (spent-blank s w g inv n d.next.cell (among-cells spare (spent_of (w.actors n).job) mine))
