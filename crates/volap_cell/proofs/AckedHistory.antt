@@ -5,7 +5,7 @@
 -- `working-acked`, `balancing-acked`. Commands: `telling-acked`, with the insert ended; and `few-acked` of what is owed.
 use Rattle.std.proofs.Common.{◌≡◌, ◌≢◌, ℕ, ◌<◌, ◌∙◌, List, [], ◌∷◌, ◌++◌, Bool, true, IsTrue, length, refl, sym, ap, subst, arith, ◌⊎◌, inl, inr, All, Contains, ◌==◌, ◌+◌, le_of_lt, suc}
 use Rattle.std.specs.Prelude.{Option, Some, None, ◌^◌, zero, slice_index_or}
-use Rattle.std.proofs.lemmas.Bool.{cond_both, eqb-true, eq-eqb, or_left}
+use Rattle.std.proofs.lemmas.Bool.{cond_both, eqb-true}
 use Rattle.std.proofs.lemmas.List.Elements.{All-weaker, All-cons, All-append, All-contains, All-contains_itself, Contains-append_left, Contains-append_right}
 use Rattle.dim_hierarchy.specs.declared.row.Row.{Row}
 use Rattle.cell_stock.specs.Stock.{StockValue}
@@ -15,7 +15,7 @@ use Rattle.mapping_table.specs.declared.place.Where.{Where}
 use Rattle.query_router.specs.Desk.{DeskValue}
 use Rattle.row_ledger.specs.declared.event.Event.{Event}
 use Rattle.row_ledger.specs.declared.event.Event.TheVariants.{Acked}
-use Rattle.row_ledger.specs.Past.{Ack, Insert, Query, ack_of, insert_at, acked, last_of, is_end_of, has_ended}
+use Rattle.row_ledger.specs.Past.{Ack, Insert, ack_of, insert_at, acked, last_of}
 use Rattle.row_ledger.specs.Bounds.{own, passed, listed, known, listing_of, is_listed}
 use Rattle.row_ledger.specs.Changes.{AckChanges, ShardsStay}
 use Rattle.row_ledger.specs.Shards.{is_path}

@@ -1,13 +1,13 @@
 -- What the history tells of commands when an actor notes an event: it begins a command, goes on with its own, or ends it.
 -- `telling-begins`, `telling-goes-on`, `telling-ends`, each over a history that is right with the event; what is told of a command that
 -- begins: `new-own`, `new-open`, `new-workless`, `new-pageless`, `new-told`.
-use Rattle.std.proofs.Common.{◌≡◌, ◌≢◌, ℕ, ◌<◌, ◌≤◌, ◌∙◌, List, [], ◌∷◌, Bool, true, false, length, refl, sym, ap, subst, arith, ◌⊎◌, inl, inr, is_some, eq-eqb, le_of_lt, le_refl}
+use Rattle.std.proofs.Common.{◌≡◌, ◌≢◌, ℕ, ◌<◌, ◌∙◌, List, [], ◌∷◌, Bool, false, length, refl, sym, ap, subst, inl, inr, is_some, eq-eqb, le_refl}
 use Rattle.std.specs.Prelude.{Option, Some, None, option_and_then}
 use Rattle.std.proofs.lemmas.Bool.{or_left}
 use Rattle.dim_hierarchy.specs.Filter.{IsFilterOf}
 use Rattle.dim_hierarchy.specs.Row.{IsRowOf}
 use Rattle.row_ledger.specs.declared.event.Event.{Event}
-use Rattle.row_ledger.specs.declared.event.Event.TheVariants.{Synced, Begun, Acked, Asked, Answered, Unknown, Failed, Refused, Called, Split, Moved, Left, Shown, Ended}
+use Rattle.row_ledger.specs.declared.event.Event.TheVariants.{Begun, Acked, Asked, Answered, Unknown, Failed, Refused, Called, Ended}
 use Rattle.row_ledger.specs.Past.{Insert, Query, event_at, insert_in, query_in, session_in, number_in, end_in, is_end_of, has_ended, has_page, work}
 use Rattle.row_ledger.specs.Right.{KeepsRight}
 use Rattle.row_ledger.proofs.Fresh.{fresh-newest, pageless, workless}
@@ -19,7 +19,7 @@ use Rattle.volap_cell.specs.declared.command.Command.{Command}
 use Rattle.volap_cell.specs.declared.role.Role.{Role}
 use Rattle.volap_cell.proofs.Grows.{kind-older}
 use Rattle.volap_cell.proofs.GrowsWork.{work-same}
-use Rattle.volap_cell.proofs.GrowsTold.{IsOwn, IsNoted, commands-older, no-work, page-same, telling-grown}
+use Rattle.volap_cell.proofs.GrowsTold.{IsOwn, commands-older, no-work, page-same, telling-grown}
 
 -- Events. One that begins a command belongs to no other; one that doesn't begins no insert and no query.
 

@@ -4,8 +4,8 @@
 -- are: `placing-quiet`; how far inserts are: `inserting-quiet`; the row that begins: `new-row-out`, `nobody-at-new`. What is known:
 -- `imaging-quiet`, `covering-quiet`. Desks and queries: `desking-quiet`, `querying-quiet`. Jobs and balances: `working-quiet`, `balancing-quiet`.
 -- Commands: `telling-grown` in GrowsTold. All parts but that one, and but what is owed, together: `told-quiet`.
-use Rattle.std.proofs.Common.{◌≡◌, ◌≢◌, ℕ, ◌<◌, ◌≤◌, ◌∙◌, List, ◌∷◌, Bool, true, false, length, refl, sym, ap, subst, arith, ◌⊎◌, inl, inr, le_of_lt}
-use Rattle.std.specs.Prelude.{Option, Some, None}
+use Rattle.std.proofs.Common.{◌≡◌, ℕ, ◌<◌, ◌≤◌, ◌∙◌, List, ◌∷◌, Bool, true, false, length, subst, arith, ◌⊎◌, inl, inr, le_of_lt}
+use Rattle.std.specs.Prelude.{Option, Some}
 use Rattle.dim_hierarchy.specs.declared.row.Row.{Row}
 use Rattle.cell_stock.specs.Stock.{StockValue}
 use Rattle.cell_stock.specs.declared.purse.Spare.{Spare}
@@ -13,7 +13,7 @@ use Rattle.dc_node.specs.declared.block.Block.{Block}
 use Rattle.mapping_table.specs.declared.place.Where.{Where}
 use Rattle.query_router.specs.Desk.{DeskValue}
 use Rattle.row_ledger.specs.declared.event.Event.{Event}
-use Rattle.row_ledger.specs.Past.{Insert, Query, insert_at, insert_in, query_at, query_in, is_work_of}
+use Rattle.row_ledger.specs.Past.{Query, insert_in, query_at, query_in, is_work_of}
 use Rattle.row_ledger.specs.Changes.{is_quiet, AllStays, ShardsStay}
 use Rattle.row_ledger.proofs.Changes.{quiet}
 use Rattle.server_image.specs.Image.{ImageValue}
@@ -139,7 +139,7 @@ module _ (s : Setting) (e : Event) (h : List Event) (q : is_quiet e ≡ true) wh
       → AreOlder h placed
       → ((server b : ℕ) → (server < s.servers) ⊎ IsReader reads server → (desks server).op ≡ Some b → b < length h)
       → ((a b : ℕ) (query : Query) (p : ReadPart) → reads a ≡ Some p → (desks p.server).op ≡ Some b → query_at h b ≡ Some query
-          → (n : ℕ) → (1 ≤ times n (counted p.server p.shard)) ⊎ IsInTreeOf shape p.reading.pin n → n < length h)
+      → (n : ℕ) → (1 ≤ times n (counted p.server p.shard)) ⊎ IsInTreeOf shape p.reading.pin n → n < length h)
       → Querying s h (row_at h) blocks trees desks taken reads shape placed home counted
       → Querying s (e ∷ h) (row_at (e ∷ h)) blocks trees desks taken reads shape placed home counted
   querying-quiet blocks trees desks taken reads shape placed home counted older began rows i = querying-grown s e h shards placed home older blocks trees desks taken reads shape counted

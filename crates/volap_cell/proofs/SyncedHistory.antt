@@ -3,7 +3,7 @@
 -- queries: `desking-synced`, `querying-synced`. Jobs and balances: `working-synced`, `balancing-synced`. What is published and known:
 -- `All-published-synced`, `known-synced-other`, `All-known-synced`; the images of other servers: `image-synced-other`. Trees and queues:
 -- `growing-grown`, `queueing-grown` in GrowsTrees; commands: `telling-grown` in GrowsTold.
-use Rattle.std.proofs.Common.{◌≡◌, ◌≢◌, ℕ, ◌<◌, ◌≤◌, ◌∙◌, List, ◌∷◌, ◌++◌, Bool, true, false, IsTrue, length, refl, sym, ap, subst, arith, ◌⊎◌, inl, inr, All, Any, Contains, le_of_lt, ◌==◌}
+use Rattle.std.proofs.Common.{◌≡◌, ◌≢◌, ℕ, ◌<◌, List, ◌∷◌, ◌++◌, Bool, true, IsTrue, length, refl, sym, ap, subst, inl, inr, All, Contains, le_of_lt, ◌==◌}
 use Rattle.std.specs.Prelude.{Option, Some, None, [], filter, if◌then◌else◌}
 use Rattle.std.specs.Option.{option_map_or}
 use Rattle.std.proofs.lemmas.Bool.{cond_both}
@@ -22,7 +22,6 @@ use Rattle.row_ledger.specs.Past.{Ack, Pull, acked, pull_in}
 use Rattle.row_ledger.specs.Bounds.{own, passed, listed, known, published, listing_of, is_listed}
 use Rattle.row_ledger.specs.Changes.{PullChanges, ShardsStay}
 use Rattle.row_ledger.specs.Shards.{comes_from}
-use Rattle.row_ledger.proofs.Answering.{All-published}
 use Rattle.row_ledger.proofs.Changes.{synced-changes}
 use Rattle.row_ledger.proofs.Descent.{comes_from-self}
 use Rattle.row_ledger.proofs.Older.{published-older}
@@ -149,11 +148,11 @@ module _ (s : Setting) (h : List Event) (server : ℕ) (listing : List Spot) whe
       let before : All P (passed h server) = All-weaker (Contains (passed h server)) P (λ k has. All-contains P (published h) k told (passed-published h server k has)) (passed h server) (All-contains_itself (passed h server)) in
       let spots : List Spot = if server == server then listing else listing_of h server in
       let covered : All P (filter (is_listed s.hierarchy spots) (acked h)) = All-weaker (Contains (filter (is_listed s.hierarchy spots) (acked h))) P
-          (λ k has. lists k (Contains-filtered (is_listed s.hierarchy spots) (acked h) k has)
-              (subst (λ (there : List Spot). IsTrue (is_listed s.hierarchy there k)) listing-own (IsTrue-filtered (is_listed s.hierarchy spots) (acked h) k has)))
-          (filter (is_listed s.hierarchy spots) (acked h)) (All-contains_itself (filter (is_listed s.hierarchy spots) (acked h))) in
+      (λ k has. lists k (Contains-filtered (is_listed s.hierarchy spots) (acked h) k has)
+      (subst (λ (there : List Spot). IsTrue (is_listed s.hierarchy there k)) listing-own (IsTrue-filtered (is_listed s.hierarchy spots) (acked h) k has)))
+      (filter (is_listed s.hierarchy spots) (acked h)) (All-contains_itself (filter (is_listed s.hierarchy spots) (acked h))) in
       let passes : All P (passed (Synced server listing ∷ h) server) = subst (All P) (sym (pull-changes.passes server)) (All-append P (if server == server then published h else []) (passed h server)
-          (cond_both (server == server) (published h) [] (All P) (λ _. told) (λ _. All-nil P)) before) in
+      (cond_both (server == server) (published h) [] (All P) (λ _. told) (λ _. All-nil P)) before) in
       All-append P (own (Synced server listing ∷ h) server ++ passed (Synced server listing ∷ h) server) (listed s.hierarchy (Synced server listing ∷ h) server)
       (All-append P (own (Synced server listing ∷ h) server) (passed (Synced server listing ∷ h) server) (subst (All P) (sym (pull-changes.acks.own server)) owned) passes)
       (subst (All P) (sym (pull-changes.covers server)) covered)
