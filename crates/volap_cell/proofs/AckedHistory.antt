@@ -5,7 +5,7 @@
 -- `working-acked`, `balancing-acked`. Commands: `telling-acked`, with the insert ended; and `few-acked` of what is owed.
 use Rattle.std.proofs.Common.{◌≡◌, ◌≢◌, ℕ, ◌<◌, ◌∙◌, List, [], ◌∷◌, ◌++◌, Bool, true, IsTrue, length, refl, sym, ap, subst, arith, ◌⊎◌, inl, inr, All, Contains, ◌==◌, ◌+◌, le_of_lt, suc}
 use Rattle.std.specs.Prelude.{Option, Some, None, ◌^◌, zero, slice_index_or}
-use Rattle.std.proofs.lemmas.Bool.{cond_both, eqb-true, eq-eqb, or_left}
+use Rattle.std.proofs.lemmas.Bool.{cond_both, eqb-true}
 use Rattle.std.proofs.lemmas.List.Elements.{All-weaker, All-cons, All-append, All-contains, All-contains_itself, Contains-append_left, Contains-append_right}
 use Rattle.dim_hierarchy.specs.declared.row.Row.{Row}
 use Rattle.cell_stock.specs.Stock.{StockValue}
@@ -15,7 +15,7 @@ use Rattle.mapping_table.specs.declared.place.Where.{Where}
 use Rattle.query_router.specs.Desk.{DeskValue}
 use Rattle.row_ledger.specs.declared.event.Event.{Event}
 use Rattle.row_ledger.specs.declared.event.Event.TheVariants.{Acked}
-use Rattle.row_ledger.specs.Past.{Ack, Insert, Query, ack_of, insert_at, acked, last_of, is_end_of, has_ended}
+use Rattle.row_ledger.specs.Past.{Ack, Insert, ack_of, insert_at, acked, last_of}
 use Rattle.row_ledger.specs.Bounds.{own, passed, listed, known, listing_of, is_listed}
 use Rattle.row_ledger.specs.Changes.{AckChanges, ShardsStay}
 use Rattle.row_ledger.specs.Shards.{is_path}
@@ -48,7 +48,8 @@ use Rattle.volap_cell.proofs.Grows.{insert-same, query-same, rows-same, live-sta
 use Rattle.volap_cell.proofs.GrowsRows.{under-grown, resting-grown, lineage-grown, inserting-grown}
 use Rattle.volap_cell.proofs.GrowsDesks.{desking-grown, querying-grown}
 use Rattle.volap_cell.proofs.GrowsWork.{working-grown, balancing-grown}
-use Rattle.volap_cell.proofs.GrowsTold.{IsOwn, telling-grown, few-pushed}
+use Rattle.volap_cell.proofs.GrowsTold.{few-pushed}
+use Rattle.volap_cell.proofs.NotedCommands.{telling-ends}
 use Rattle.volap_cell.proofs.GrowsKnown.{AreOlder, fits-grown, covered-grown, imaging-grown, boxes-grown, came-grown, pushed-grown, noted-grown, must-grown, unacked-grown}
 
 -- an element of a longer list is the first one or one of the others
@@ -204,20 +205,10 @@ module _ (s : Setting) (h : List Event) (of : ℕ) (way : List ℕ) (insert : In
       → Telling s h commands jobs roles seen placed → Telling s (Acked of way ∷ h) commands_now jobs roles seen_now placed
   telling-acked n commands commands_now jobs roles seen seen_now placed routed command ended all_seen others path i =
       let its : Command = record { of = of; work = work_is.Insert insert.row routed } in
-      telling-grown s (Acked of way) h n commands commands_now jobs jobs roles seen seen_now placed
-      (record {
-        others = λ a off. let o = others a off in (o.0, refl, o.1);
-        whose = λ b is. let same : of ≡ b = cc in subst (λ (p : ℕ). IsOwn h p n) same (i.own n its command);
-        by = λ a is. let never : ◌≡◌ {A = Option ℕ} None (Some a) = is in cc;
-        mine = λ c is. let never : ◌≡◌ {A = Option Command} None (Some c) = sym ended ∙ is in cc;
-        all_seen = all_seen;
-        row = λ j is. let never : ◌≡◌ {A = Option Insert} None (Some j) = is in cc;
-        filter = λ q is. let never : ◌≡◌ {A = Option Query} None (Some q) = is in cc;
-        goes_on = λ c is there. let same : c ≡ its = cc in
-            inl (or_left (is_end_of c.of (Acked of way)) (has_ended h c.of) (eq-eqb of c.of (sym (ap (λ (d : Command). d.of) same))));
-      })
-      i
+      telling-ends s (Acked of way) h n commands commands_now jobs jobs roles seen seen_now placed
+      (record { others = λ a off. let o = others a off in (o.0, refl, o.1); all_seen = all_seen })
       (KeepsRight-acked (site_in s) placed h of way i.right (record { insert = insert; begun = begun; is_open = i.is_open n its command; descends = path }))
+      i its refl command ended
 
 -- what is owed, with one promise used
 pub few-acked : (h : List Event) (of : ℕ) (way : List ℕ) (promised promised_now : ℕ) → promised + 0 ≡ promised_now + 1 → length h + promised < 2 ^ 31 → length (Acked of way ∷ h) + promised_now < 2 ^ 31

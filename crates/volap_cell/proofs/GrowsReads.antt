@@ -1,10 +1,10 @@
 -- The rows that a query's reading has counted, or finds in the tree that it reads, began before the next event.
-use Rattle.std.proofs.Common.{◌≡◌, ◌≢◌, ℕ, ◌<◌, ◌≤◌, ◌∙◌, List, Bool, true, false, length, refl, sym, ap, subst, arith, ◌⊎◌, inl, inr, All, Any, Contains, ◌==◌, ◌&&◌, eqb-true}
+use Rattle.std.proofs.Common.{◌≡◌, ℕ, ◌<◌, ◌≤◌, ◌∙◌, List, Bool, true, false, length, refl, sym, ap, subst, ◌⊎◌, inl, inr, ◌==◌, ◌&&◌, eqb-true}
 use Rattle.std.specs.Prelude.{Option, Some, None}
 use Rattle.std.proofs.lemmas.Bool.{and_parts}
 use Rattle.std.proofs.lemmas.List.Elements.{All-contains}
 use Rattle.dc_node.specs.declared.block.Block.{Block}
-use Rattle.query_router.specs.Desk.{DeskValue, is_refused, is_taken, is_with, state_is_refused, state_is_taken}
+use Rattle.query_router.specs.Desk.{DeskValue, is_refused, is_taken, state_is_refused, state_is_taken}
 use Rattle.query_router.specs.declared.part.Part.{Part}
 use Rattle.query_router.specs.declared.part.PartState.{PartState}
 use Rattle.query_router.specs.declared.part.PartState.TheVariants as state

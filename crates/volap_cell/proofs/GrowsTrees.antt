@@ -1,21 +1,16 @@
 -- One event more, of any sort: trees and queues over a table of rows that changes at the newest position alone.
-use Rattle.std.proofs.Common.{◌≡◌, ◌≢◌, ℕ, zero, ◌+◌, ◌<◌, ◌≤◌, ◌∙◌, List, [], ◌∷◌, Bool, true, false, length, refl, sym, ap, subst, arith, ◌⊎◌, inl, inr, All, Any, le_trans, lt_of_lt_of_le}
-use Rattle.std.specs.Prelude.{Option, Some, None, IsSome}
-use Rattle.std.proofs.lemmas.Bool.{cases_lt, and_parts}
-use Rattle.std.proofs.lemmas.List.Elements.{All-contains}
+use Rattle.std.proofs.Common.{◌≡◌, ℕ, ◌<◌, ◌≤◌, ◌∙◌, List, [], ◌∷◌, Bool, true, length, refl, sym, ap, arith, inl, inr}
+use Rattle.std.specs.Prelude.{Option}
+use Rattle.std.proofs.lemmas.Bool.{cases_lt}
 use Rattle.dim_hierarchy.specs.declared.row.Row.{Row}
-use Rattle.cell_stock.specs.declared.purse.Spare.{Spare}
 use Rattle.dc_node.specs.declared.block.Block.{Block}
-use Rattle.query_router.specs.Desk.{DeskValue, is_refused, is_with}
-use Rattle.query_router.specs.declared.part.Part.{Part}
 use Rattle.row_ledger.specs.declared.event.Event.{Event}
-use Rattle.row_ledger.specs.Past.{Query, event_at, insert_at, query_at}
 use Rattle.row_ledger.specs.Right.{KeepsRight}
 use Rattle.row_ledger.proofs.Positions.{event_at-past}
 use Rattle.shard_store.specs.declared.gate.Gate.{Gate}
 use Rattle.shard_store.specs.declared.gate.Phase.{Phase}
 use Rattle.shard_store.specs.declared.queue.Queue.{Queue}
-use Rattle.tree_shape.specs.Counts.{Each, times}
+use Rattle.tree_shape.specs.Counts.{Each}
 use Rattle.tree_shape.specs.Shape.{Shape}
 use Rattle.tree_shape.specs.Tables.{AreAlike, IsThere}
 use Rattle.tree_shape.proofs.Tables.{tree-alike}
@@ -58,7 +53,7 @@ module _ (s : Setting) (e : Event) (h : List Event) (some : 0 < length h) where
   growing-grown blocks trees gates phases pins shape i = record {
     tree = λ c whole.
         let alike : AreAlike (IsThere (shape c)) (table_of s (row_at h)) (table_of s (row_at (e ∷ h))) =
-            record { hierarchy = refl; row = λ r is_placed. row-older e h r (tree-row-older s h some blocks trees gates phases pins shape i c r whole is_placed) } in
+        record { hierarchy = refl; row = λ r is_placed. row-older e h r (tree-row-older s h some blocks trees gates phases pins shape i c r whole is_placed) } in
         tree-alike (table_of s (row_at h)) (table_of s (row_at (e ∷ h))) (shape c) alike (cells_at blocks trees c) (i.tree c whole);
   }
 
