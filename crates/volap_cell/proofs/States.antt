@@ -57,7 +57,7 @@ length-given [] xs = refl
 length-given (t ∷ things) xs = length-set (given things xs) t.0 (Some t.1) ∙ length-given things xs
 
 -- what isn't taken stays
-taken-off : {A : Type 0} (ys : List ℕ) (xs : List (Option A)) (y : ℕ) → Each (λ z. y ≢ z) ys → get_or (taken ys xs) y None ≡ get_or xs y None
+pub taken-off : {A : Type 0} (ys : List ℕ) (xs : List (Option A)) (y : ℕ) → Each (λ z. y ≢ z) ys → get_or (taken ys xs) y None ≡ get_or xs y None
 taken-off [] xs y off = refl
 taken-off (z ∷ zs) xs y off = taken-off zs (set xs z None) y off.1 ∙ get_or-set_other xs z y None None off.0
 

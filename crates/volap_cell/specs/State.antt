@@ -1,6 +1,6 @@
 -- The state that vectors of cells and actors are, as one thread holds them; and what becomes of it when an actor and some cells are
 -- moved out, changed by a kind, and put back.
-use Rattle.std.specs.Prelude.{ℕ, ◌≡◌, ◌≢◌, ◌<◌, ◌≤◌, ⊤, List, [], ◌∷◌, map, length, get_or, set, Option, Some, None}
+use Rattle.std.specs.Prelude.{ℕ, ◌≡◌, ◌≢◌, ◌<◌, ◌≤◌, ⊤, Bool, if◌then◌else◌, List, [], ◌∷◌, map, length, get_or, set, Option, Some, None}
 use Rattle.dim_hierarchy.specs.Dimension.{Dimension}
 use Rattle.tree_shape.specs.Counts.{Each}
 use Rattle.volap_cell.specs.Cells.{FreeCell, cell_of}
@@ -65,6 +65,14 @@ abbrev pub given : {A : Type 0} → List (ℕ × A) → List (Option A) → List
 given [] places = places
 given (thing ∷ things) places = set (given things places) thing.0 (Some thing.1)
 
+-- a cell that is out at times only
+abbrev pub cell_if : ℕ → Option Cell → List (ℕ × Cell)
+cell_if number None = []
+cell_if number (Some cell) = (number, cell) ∷ []
+
+abbrev pub number_if : ℕ → Bool → List ℕ
+number_if number wanted = if wanted then number ∷ [] else []
+
 -- A kind between.
 
 -- a cell that is moved out, and the one that is put back in its place
@@ -75,6 +83,11 @@ pub record Exchange : Type 0 where
 
 abbrev pub exchange : ℕ → Cell → Cell → Exchange
 exchange number before now = record { number = number; before = before; now = now }
+
+-- one of a cell that is out at times only
+abbrev pub exchange_if : ℕ → Option Cell → Option Cell → List Exchange
+exchange_if number (Some before) (Some now) = exchange number before now ∷ []
+exchange_if number _ _ = []
 
 abbrev pub numbers_of : List Exchange → List ℕ
 numbers_of exchanges = map (λ x. x.number) exchanges

@@ -1,6 +1,6 @@
-ghost use Rattle.std.specs.Prelude.{◌≡◌, ◌<◌, ⊤, Some, None, [], ◌∷◌, length, get_or, set};
+ghost use Rattle.std.specs.Prelude.{◌≡◌, ◌<◌, ⊤, Some, None, [], ◌∷◌, length, get_or, set, is_some};
 ghost use Rattle.tree_shape.specs.Counts.{Each};
-ghost use Rattle.volap_cell.specs.State.{Has, CanLift, Stand, taken, given};
+ghost use Rattle.volap_cell.specs.State.{Has, CanLift, Stand, taken, given, cell_if, number_if};
 
 use crate::actor::Actor;
 use crate::cell::Cell;
@@ -144,6 +144,30 @@ pub fn lift_seven(
     let first = lift_one(cells, a);
     let (second, third, fourth, fifth, sixth, seventh) = lift_six(cells, b, c, d, e, f, g);
     (first, second, third, fourth, fifth, sixth, seventh)
+}
+
+/// Moves a cell out where it is wanted.
+pub fn lift_if(cells: &mut Vec<Option<Cell>>, at: u32, wanted: bool) -> Option<Cell>
+    requires there { CanLift cells.old.items (number_if at wanted) }
+    ensures some { is_some result ≡ wanted }
+    ensures value { Stand cells.old.items (cell_if at result) }
+    ensures rest { cells.new.items ≡ taken (number_if at wanted) cells.old.items }
+{
+    if wanted {
+        Some(lift_one(cells, at))
+    } else {
+        None
+    }
+}
+
+/// Puts a cell back where it was moved out.
+pub fn put_if(cells: &mut Vec<Option<Cell>>, at: u32, cell: Option<Cell>)
+    requires within { Each (λ thing. thing.0 < length cells.old.items) (cell_if at cell) }
+    ensures value { cells.new.items ≡ given (cell_if at cell) cells.old.items }
+{
+    if let Some(cell) = cell {
+        put_one(cells, at, cell);
+    }
 }
 
 /// Puts a cell back.
