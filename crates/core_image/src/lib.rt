@@ -1,0 +1,2 @@
+//! The steps of commands at images, desks and the ledger.
+#![tactic(auto)]
