@@ -1,2 +1,4 @@
 pub mod Paths
 pub mod Boxes
+pub mod Clears
+pub mod Ahead
