@@ -2,3 +2,4 @@ pub mod Paths
 pub mod Boxes
 pub mod Clears
 pub mod Ahead
+pub mod Widens
