@@ -3,3 +3,5 @@ pub mod Boxes
 pub mod Clears
 pub mod Ahead
 pub mod Widens
+pub mod Rows
+pub mod AcksInsert
