@@ -5,3 +5,4 @@ pub mod Ahead
 pub mod Widens
 pub mod Rows
 pub mod AcksInsert
+pub mod Ready
