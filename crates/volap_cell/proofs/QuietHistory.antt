@@ -3,8 +3,9 @@
 -- Where shards are: `lineage-quiet`, `resting-quiet`, `under-quiet`. Trees and queues: `growing-grown`, `queueing-grown` in GrowsTrees. Where rows
 -- are: `placing-quiet`; how far inserts are: `inserting-quiet`; the row that begins: `new-row-out`, `nobody-at-new`. What is known:
 -- `imaging-quiet`, `covering-quiet`. Desks and queries: `desking-quiet`, `querying-quiet`. Jobs and balances: `working-quiet`, `balancing-quiet`.
--- Commands: `telling-grown` in GrowsTold. All parts but that one, and but what is owed, together: `told-quiet`.
-use Rattle.std.proofs.Common.{◌≡◌, ℕ, ◌<◌, ◌≤◌, ◌∙◌, List, ◌∷◌, Bool, true, false, length, subst, arith, ◌⊎◌, inl, inr, le_of_lt}
+-- Commands: `telling-grown` in GrowsTold. All parts but that one, and but what is owed, together: `told-quiet`,
+-- and of a state `told-here`.
+use Rattle.std.proofs.Common.{◌≡◌, ℕ, ◌<◌, ◌≤◌, ◌∙◌, List, ◌∷◌, Bool, true, false, length, refl, subst, arith, ◌⊎◌, inl, inr, le_of_lt}
 use Rattle.std.specs.Prelude.{Option, Some}
 use Rattle.dim_hierarchy.specs.declared.row.Row.{Row}
 use Rattle.cell_stock.specs.Stock.{StockValue}
@@ -37,8 +38,9 @@ use Rattle.volap_cell.specs.Setting.{Setting}
 use Rattle.volap_cell.specs.Stocking.{IsWhole}
 use Rattle.volap_cell.specs.Telling.{Telling}
 use Rattle.volap_cell.specs.Values.{JobValue}
-use Rattle.volap_cell.specs.View.{View, row_at}
+use Rattle.volap_cell.specs.View.{View, row_at, view}
 use Rattle.volap_cell.specs.Working.{Working, Balancing}
+use Rattle.volap_cell.specs.World.{World}
 use Rattle.volap_cell.specs.declared.command.Balance.{Balance}
 use Rattle.volap_cell.specs.declared.command.Command.{Command}
 use Rattle.volap_cell.specs.declared.command.Work.TheVariants as work_is
@@ -48,7 +50,7 @@ use Rattle.volap_cell.proofs.GrowsRows.{under-grown, resting-grown, lineage-grow
 use Rattle.volap_cell.proofs.GrowsTrees.{past-there, growing-grown, queueing-grown}
 use Rattle.volap_cell.proofs.GrowsKnown.{AreOlder, older-rows, imaging-grown, covering-grown}
 use Rattle.volap_cell.proofs.GrowsDesks.{IsReader, desking-grown, querying-grown}
-use Rattle.volap_cell.proofs.GrowsReads.{ReadersTake, reading-rows-older}
+use Rattle.volap_cell.proofs.GrowsReads.{ReadersTake, readers-take, pinned-whole, reading-rows-older}
 use Rattle.volap_cell.proofs.GrowsWork.{working-grown, balancing-grown}
 use Rattle.volap_cell.proofs.GrowsTold.{commands-older}
 
@@ -223,3 +225,14 @@ told-quiet s v g e q rows takes pinned none i =
       working = working-quiet s e h q v.blocks v.made v.trees v.phases v.active v.queues v.purses v.commands v.jobs g.gate g.shape g.placed began t.working;
       balancing = balancing-quiet s e h q v.commands v.jobs g.placed g.home began none t.balancing;
     }
+
+-- the same of a state
+pub told-here : (s : Setting) (w : World) (g : Ghost) (e : Event) → is_quiet e ≡ true
+    → ((a b : ℕ) (balance : Balance) → (view s w).commands a ≡ Some (record { of = b; work = work_is.Balance balance }) → is_work_of b e ≡ false)
+    → InvWith s (view s w) g → Told s (view s w) g (e ∷ (view s w).history)
+told-here s w g e q none i =
+    let v : View = view s w in
+    let takes : ReadersTake v.taken v.reads = readers-take s w in
+    told-quiet s v g e q refl takes
+    (pinned-whole s v.tags v.numbers v.roles v.settings v.counted_in v.purses v.commands v.taken v.jobs v.gates v.phases v.pins v.reads i.numbering takes i.pinning)
+    none i
