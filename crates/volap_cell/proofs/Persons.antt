@@ -1,12 +1,11 @@
 -- Who is who stays: a step of an actor that is there leaves its number, its role and what it is about.
-use Rattle.std.proofs.Common.{◌≡◌, ◌≢◌, ℕ, ◌<◌, ◌≤◌, Bool, true, false, cond, eqb, List, [], ◌∷◌, Option, Some, None, refl, sym, ap, ◌∙◌, subst, arith}
-use Rattle.cell_stock.specs.declared.purse.Spare.{Spare}
-use Rattle.tree_shape.proofs.Walks.{on_bool, eqb-eq, eqb-ne}
+use Rattle.std.proofs.Common.{◌≡◌, ◌≢◌, ℕ, ◌<◌, ◌≤◌, Bool, true, false, cond, eqb, List, [], Some, None, sym, ap, ◌∙◌, subst, arith}
+use Rattle.tree_shape.proofs.Walks.{on_bool}
 use Rattle.volap_cell.specs.Cells.{tag_of}
-use Rattle.volap_cell.specs.Errands.{Taken, taken_of, taken_by}
+use Rattle.volap_cell.specs.Errands.{Taken, taken_of}
 use Rattle.volap_cell.specs.Numbering.{Numbering}
 use Rattle.volap_cell.specs.Setting.{Setting, actor_count}
-use Rattle.volap_cell.specs.Values.{ActorValue, ErrandValue, JobValue}
+use Rattle.volap_cell.specs.Values.{ActorValue, JobValue}
 use Rattle.volap_cell.specs.View.{View, view}
 use Rattle.volap_cell.specs.World.{World, Change, after}
 use Rattle.volap_cell.specs.declared.command.Command.{Command}
@@ -55,8 +54,8 @@ still-numbered s w cs n now at tags there same numbered =
       role = (λ a lt. numbered.role a lt ∙ ap Some (sym (roles a)));
       about = (λ a. unmoved-one (λ (x : ActorValue). x.setting) w.actors n now same.setting a ∙ numbered.about a);
       nobody = (λ a le. let ne : a ≢ n = (λ e. absurd (omega arith)) in
-        subst (λ (x : ActorValue). (x.counted ≡ false) × (x.purse ≡ []) × (x.command ≡ None) × (taken_of x.errand ≡ None) × (x.job ≡ None)) (sym (others a ne)) (numbered.nobody a le));
+          subst (λ (x : ActorValue). (x.counted ≡ false) × (x.purse ≡ []) × (x.command ≡ None) × (taken_of x.errand ≡ None) × (x.job ≡ None)) (sym (others a ne)) (numbered.nobody a le));
       working = (λ a j is. on_bool (eqb a n)
-        (λ q. let it = ap (λ (b : Bool). cond b now (w.actors a)) q in ap (λ (x : ActorValue). x.role) it ∙ same.working j (sym (ap (λ (x : ActorValue). x.job) it) ∙ is))
-        (λ q. let it = ap (λ (b : Bool). cond b now (w.actors a)) q in ap (λ (x : ActorValue). x.role) it ∙ numbered.working a j (sym (ap (λ (x : ActorValue). x.job) it) ∙ is)));
+          (λ q. let it = ap (λ (b : Bool). cond b now (w.actors a)) q in ap (λ (x : ActorValue). x.role) it ∙ same.working j (sym (ap (λ (x : ActorValue). x.job) it) ∙ is))
+          (λ q. let it = ap (λ (b : Bool). cond b now (w.actors a)) q in ap (λ (x : ActorValue). x.role) it ∙ numbered.working a j (sym (ap (λ (x : ActorValue). x.job) it) ∙ is)));
     }
