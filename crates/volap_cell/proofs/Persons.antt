@@ -1,11 +1,12 @@
 -- Who is who stays: a step of an actor that is there leaves its number, its role and what it is about.
-use Rattle.std.proofs.Common.{◌≡◌, ◌≢◌, ℕ, ◌<◌, ◌≤◌, Bool, true, false, cond, eqb, List, [], Some, None, sym, ap, ◌∙◌, subst, arith}
-use Rattle.tree_shape.proofs.Walks.{on_bool}
+use Rattle.std.proofs.Common.{◌≡◌, ◌≢◌, ℕ, ◌<◌, ◌≤◌, Bool, true, false, cond, eqb, List, [], ◌∷◌, Option, Some, None, refl, sym, ap, ◌∙◌, subst, arith}
+use Rattle.cell_stock.specs.declared.purse.Spare.{Spare}
+use Rattle.tree_shape.proofs.Walks.{on_bool, eqb-eq, eqb-ne}
 use Rattle.volap_cell.specs.Cells.{tag_of}
-use Rattle.volap_cell.specs.Errands.{Taken, taken_of}
+use Rattle.volap_cell.specs.Errands.{Taken, taken_of, taken_by}
 use Rattle.volap_cell.specs.Numbering.{Numbering}
 use Rattle.volap_cell.specs.Setting.{Setting, actor_count}
-use Rattle.volap_cell.specs.Values.{ActorValue, JobValue}
+use Rattle.volap_cell.specs.Values.{ActorValue, ErrandValue, JobValue}
 use Rattle.volap_cell.specs.View.{View, view}
 use Rattle.volap_cell.specs.World.{World, Change, after}
 use Rattle.volap_cell.specs.declared.command.Command.{Command}
@@ -42,6 +43,7 @@ pub record IsSamePerson (was now : ActorValue) : Type 0 where
   pub role : now.role ≡ was.role
   pub setting : now.setting ≡ was.setting
   pub working : (j : JobValue) → now.job ≡ Some j → now.role ≡ Admin
+  pub parts : (t : Taken) → taken_of now.errand ≡ Some t → now.role ≢ Admin
 
 pub still-numbered : (s : Setting) (w : World) (cs : List Change) (n : ℕ) (now : ActorValue) → AreAt w.cells cs → Same tag_of cs → n < actor_count s → IsSamePerson (w.actors n) now → IsNumbered s (view s w) → IsNumbered s (view s (after w cs n now))
 still-numbered s w cs n now at tags there same numbered =
@@ -54,8 +56,13 @@ still-numbered s w cs n now at tags there same numbered =
       role = (λ a lt. numbered.role a lt ∙ ap Some (sym (roles a)));
       about = (λ a. unmoved-one (λ (x : ActorValue). x.setting) w.actors n now same.setting a ∙ numbered.about a);
       nobody = (λ a le. let ne : a ≢ n = (λ e. absurd (omega arith)) in
-          subst (λ (x : ActorValue). (x.counted ≡ false) × (x.purse ≡ []) × (x.command ≡ None) × (taken_of x.errand ≡ None) × (x.job ≡ None)) (sym (others a ne)) (numbered.nobody a le));
+        subst (λ (x : ActorValue). (x.counted ≡ false) × (x.purse ≡ []) × (x.command ≡ None) × (taken_of x.errand ≡ None) × (x.job ≡ None)) (sym (others a ne)) (numbered.nobody a le));
       working = (λ a j is. on_bool (eqb a n)
-          (λ q. let it = ap (λ (b : Bool). cond b now (w.actors a)) q in ap (λ (x : ActorValue). x.role) it ∙ same.working j (sym (ap (λ (x : ActorValue). x.job) it) ∙ is))
-          (λ q. let it = ap (λ (b : Bool). cond b now (w.actors a)) q in ap (λ (x : ActorValue). x.role) it ∙ numbered.working a j (sym (ap (λ (x : ActorValue). x.job) it) ∙ is)));
+        (λ q. let it = ap (λ (b : Bool). cond b now (w.actors a)) q in ap (λ (x : ActorValue). x.role) it ∙ same.working j (sym (ap (λ (x : ActorValue). x.job) it) ∙ is))
+        (λ q. let it = ap (λ (b : Bool). cond b now (w.actors a)) q in ap (λ (x : ActorValue). x.role) it ∙ numbered.working a j (sym (ap (λ (x : ActorValue). x.job) it) ∙ is)));
+      parts = (λ a t is. on_bool (eqb a n)
+        (λ q. let it = ap (λ (b : Bool). cond b now (w.actors a)) q in
+          λ admin. same.parts t (sym (ap (λ (x : ActorValue). taken_of x.errand) it) ∙ is) (sym (ap (λ (x : ActorValue). x.role) it) ∙ admin))
+        (λ q. let it = ap (λ (b : Bool). cond b now (w.actors a)) q in
+          λ admin. numbered.parts a t (sym (ap (λ (x : ActorValue). taken_of x.errand) it) ∙ is) (sym (ap (λ (x : ActorValue). x.role) it) ∙ admin)));
     }

@@ -1,5 +1,5 @@
 -- What the steps of splits and moves do to the cells that they hold and to their actor, the one administrator.
-use Rattle.std.specs.Prelude.{ℕ, ◌≡◌, ◌≢◌, ◌==◌, ◌+◌, ◌<◌, ◌≤◌, ◌⊎◌, ⊤, Bool, true, false, not, List, [], ◌∷◌, ◌++◌, Option, Some, None, IsNone, map as each, drop, filter, length, slice_get, if◌then◌else◌}
+use Rattle.std.specs.Prelude.{ℕ, ◌≡◌, ◌≢◌, ◌+◌, ◌<◌, ◌≤◌, ◌⊎◌, ⊤, true, false, not, List, [], ◌∷◌, ◌++◌, Option, Some, None, map as each, drop, filter, length, slice_get}
 use Rattle.std.specs.FinMap as map
 use Rattle.std.specs.Ordering.{nat_cmp}
 use Rattle.dim_hierarchy.specs.Dimension.{Dimension}
@@ -30,7 +30,6 @@ use Rattle.shard_build.specs.declared.builder.Built.{Built}
 use Rattle.shard_plan.specs.Building.{cells_for, split_need}
 use Rattle.shard_store.specs.Gate.{IsQueueOf}
 use Rattle.shard_store.specs.declared.gate.Gate.{Gate}
-use Rattle.shard_store.specs.declared.gate.Phase.{Phase}
 use Rattle.shard_store.specs.declared.gate.Phase.TheVariants as phase
 use Rattle.tree_shape.specs.Collecting.{root_item, entry_items}
 use Rattle.volap_cell.specs.Cells.{FreeCell, LedgerCell, StockCell, RegistryCell, MapCell, GateCell, BlockCell}
@@ -40,7 +39,6 @@ use Rattle.volap_cell.specs.Planning.{next_job}
 use Rattle.volap_cell.specs.TreeKinds.{Leads, IsRead, TurnsGate}
 use Rattle.volap_cell.specs.Values.{ActorValue, JobValue, StageValue, IsCalled, IsDeclined, IsFrozen, Collects, Builds, CollectingValue, BuildingValue}
 use Rattle.volap_cell.specs.World.{Change}
-use Rattle.volap_cell.specs.declared.command.Balance.{Balance}
 use Rattle.volap_cell.specs.declared.command.Work.{Work}
 use Rattle.volap_cell.specs.declared.command.Work.TheVariants as work_is
 use Rattle.volap_cell.specs.declared.job.BuiltTree.{BuiltTree}

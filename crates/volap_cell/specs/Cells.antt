@@ -1,9 +1,8 @@
 -- What a cell is when pointers are left out, and what is seen of it. Each projection is a function of the cell alone, so that
 -- a step that leaves it as it was in each cell that it changes leaves it everywhere.
-use Rattle.std.specs.Prelude.{ℕ, ◌==◌, Bool, true, false, if◌then◌else◌, Option, Some, None, List, []}
+use Rattle.std.specs.Prelude.{ℕ, Bool, true, false, Option, Some, None, List, []}
 use Rattle.std.specs.FinMap as map
 use Rattle.std.specs.Ordering.{nat_cmp}
-use Rattle.dim_hierarchy.specs.declared.row.Row.{Row}
 use Rattle.measure_agg.specs.Aggregate.{agg}
 use Rattle.describing_set.specs.declared.set.DescSet.{DescSet}
 use Rattle.dc_node.specs.declared.block.Block.{Block}

@@ -1,5 +1,5 @@
 -- Commands: who may make which, what each still owes the history, which pull is next, and how each may end.
-use Rattle.std.specs.Prelude.{ℕ, ◌≡◌, ◌+◌, ◌*◌, ◌-◌, ⊤, Bool, true, false, nat_lt, List, [], ◌∷◌, Option, Some, None, length, if◌then◌else◌}
+use Rattle.std.specs.Prelude.{ℕ, ◌≡◌, ◌+◌, ◌-◌, ⊤, Bool, true, false, nat_lt, List, Option, Some, None, length, if◌then◌else◌}
 use Rattle.shard_plan.specs.Balancing.{after_move}
 use Rattle.shard_plan.specs.declared.action.Action.{Action}
 use Rattle.shard_plan.specs.declared.action.Load.{Load}
@@ -13,7 +13,7 @@ use Rattle.volap_cell.specs.declared.command.Balance.{Balance}
 use Rattle.volap_cell.specs.declared.command.Work.{Work}
 use Rattle.volap_cell.specs.declared.command.Work.TheVariants as work_is
 use Rattle.volap_cell.specs.declared.role.Role.{Role}
-use Rattle.volap_cell.specs.declared.role.Role.TheVariants.{Session, Hand, Puller, Admin}
+use Rattle.volap_cell.specs.declared.role.Role.TheVariants.{Session, Puller, Admin}
 
 -- a session pulls for its own server, a puller for each; the administrator makes all other calls
 abbrev pub MayCall : Role → Call → Type 0

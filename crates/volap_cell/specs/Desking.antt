@@ -1,5 +1,5 @@
 -- Desks: whose command stands on each, and who is at its parts.
-use Rattle.std.specs.Prelude.{ℕ, ◌≡◌, ◌<◌, ⊤, Bool, true, false, IsTrue, List, [], ◌∷◌, Option, Some, None, All, Any}
+use Rattle.std.specs.Prelude.{ℕ, ◌≡◌, ◌<◌, ⊤, Bool, true, false, List, [], ◌∷◌, Option, Some, None, All, Any}
 use Rattle.query_router.specs.Desk.{DeskValue, is_taken, is_with}
 use Rattle.query_router.specs.declared.part.Part.{Part}
 use Rattle.query_router.specs.declared.part.PartState.{PartState}

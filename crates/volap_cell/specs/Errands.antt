@@ -1,5 +1,5 @@
 -- What is seen of an actor's errand: whose part it is, how far its row has come, and what its query has read.
-use Rattle.std.specs.Prelude.{ℕ, ◌≡◌, Bool, true, false, Option, Some, None, option_map, option_and_then, List}
+use Rattle.std.specs.Prelude.{ℕ, ◌≡◌, Bool, true, false, Option, Some, None, option_map, option_and_then, List, if◌then◌else◌}
 use Rattle.dim_hierarchy.specs.declared.row.Row.{Row}
 use Rattle.query_router.specs.declared.part.Want.{Want}
 use Rattle.query_router.specs.declared.part.Want.TheVariants as want
@@ -48,13 +48,15 @@ abbrev pub is_filled : Way → Bool
 is_filled (way.Before height filled) = filled
 is_filled _ = false
 
+-- by which a purse is still to be filled
+
 abbrev pub height_in_task : TaskValue → Option ℕ
-height_in_task (OfRow r) = height_of r.way
+height_in_task (OfRow r) = if is_filled r.way then None else height_of r.way
 height_in_task (Unread f) = None
 height_in_task (Read r) = None
 
-abbrev pub height_noted : Option ErrandValue → Option ℕ
-height_noted errand = option_and_then (λ (e : ErrandValue). height_in_task e.task) errand
+abbrev pub height_to_fill : Option ErrandValue → Option ℕ
+height_to_fill errand = option_and_then (λ (e : ErrandValue). height_in_task e.task) errand
 
 -- a row on its way: the row, its part's shard, the shards by which it came, and its place
 pub record RowWay : Type 0 where

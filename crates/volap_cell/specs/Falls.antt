@@ -1,6 +1,6 @@
 -- What is left to do, as four numbers that are compared in their order. With each step the first of them that changes falls; but a
 -- command that begins brings its own work with it, and who is counted in at a desk is no work.
-use Rattle.std.specs.Prelude.{ℕ, zero, suc, ◌≡◌, ◌==◌, ◌+◌, ◌*◌, ◌-◌, ◌^◌, ◌<◌, ◌≤◌, ◌⊎◌, ◌&&◌, ◌||◌, not, nat_le, Bool, true, false, cond, IsTrue, List, [], ◌∷◌, map, length, sum_by, Option, Some, None, if◌then◌else◌}
+use Rattle.std.specs.Prelude.{ℕ, zero, suc, ◌≡◌, ◌==◌, ◌+◌, ◌*◌, ◌-◌, ◌^◌, ◌<◌, ◌≤◌, ◌⊎◌, nat_le, Bool, true, false, cond, List, [], ◌∷◌, map, length, sum_by, Option, Some, None, if◌then◌else◌}
 use Rattle.std.specs.Option.{option_map_or}
 use Rattle.dc_node.specs.declared.block.Block.{Block}
 use Rattle.dc_node.specs.declared.todo.Item.{Item}
@@ -20,7 +20,7 @@ use Rattle.tree_shape.specs.Walks.{Noted, pending}
 use Rattle.volap_cell.specs.Ghost.{Ghost}
 use Rattle.volap_cell.specs.Setting.{Setting, actor_count, cell_count}
 use Rattle.volap_cell.specs.Sums.{sum_below}
-use Rattle.volap_cell.specs.Values.{ActorValue, ErrandValue, ReadingValue, TaskValue, OfRow, Unread, Read, JobValue, StageValue, IsCalled, IsDeclined, IsFrozen, Collects, Builds, CollectingValue}
+use Rattle.volap_cell.specs.Values.{ErrandValue, TaskValue, OfRow, Unread, Read, JobValue, StageValue, IsCalled, IsDeclined, IsFrozen, Collects, Builds}
 use Rattle.volap_cell.specs.View.{View, view}
 use Rattle.volap_cell.specs.World.{World}
 use Rattle.volap_cell.specs.declared.command.Balance.{Balance}

@@ -1,10 +1,9 @@
 -- What the steps of commands at images, desks and the ledger do to the cells that they hold and to their actor.
-use Rattle.std.specs.Prelude.{ℕ, ◌≡◌, ◌==◌, ◌&&◌, ◌+◌, ◌*◌, ◌-◌, ◌<◌, ◌⊎◌, ⊤, Bool, true, false, not, nat_lt, List, [], ◌∷◌, ◌++◌, Option, Some, None, option_map, map, length, slice_get, if◌then◌else◌}
+use Rattle.std.specs.Prelude.{ℕ, ◌≡◌, ◌&&◌, ◌+◌, ◌⊎◌, Bool, true, false, nat_lt, List, [], ◌∷◌, Option, Some, None, option_map, map, length, slice_get, if◌then◌else◌}
 use Rattle.dim_hierarchy.specs.Dimension.{Dimension}
 use Rattle.dim_hierarchy.specs.Filter.{IsFilterOf}
 use Rattle.dim_hierarchy.specs.Row.{IsRowOf}
 use Rattle.dim_hierarchy.specs.declared.filter.Pick.{Pick}
-use Rattle.dim_hierarchy.specs.declared.row.Coord.{Coord}
 use Rattle.dim_hierarchy.specs.declared.row.Row.{Row}
 use Rattle.describing_set.specs.declared.listing.Spot.{Spot}
 use Rattle.measure_agg.specs.Aggregate.{Aggregate}
@@ -19,13 +18,12 @@ use Rattle.row_ledger.specs.declared.event.Event.TheVariants as event
 use Rattle.row_ledger.specs.declared.page.Page.{Page}
 use Rattle.row_ledger.specs.declared.settings.Call.{Call}
 use Rattle.row_ledger.specs.declared.settings.Call.TheVariants as call
-use Rattle.row_ledger.specs.declared.settings.Decline.TheVariants.{Unknown}
 use Rattle.row_ledger.specs.declared.settings.How.{How}
 use Rattle.row_ledger.specs.declared.settings.How.TheVariants as how
 use Rattle.server_image.specs.Image.{ImageValue, IsRoute, IsAcked, IsSynced, planned}
 use Rattle.server_image.specs.Registry.{RegistryValue, host_of, on_frontier}
 use Rattle.shard_plan.specs.declared.action.Load.{Load}
-use Rattle.volap_cell.specs.Cells.{LedgerCell, RegistryCell, ImageCell, DeskCell}
+use Rattle.volap_cell.specs.Cells.{LedgerCell, RegistryCell, ImageCell}
 use Rattle.volap_cell.specs.Commands.{MayCall, owes, due_pull, pulled_once, once_shown, after_action, MayNoteEnd}
 use Rattle.volap_cell.specs.Planning.{next_job}
 use Rattle.volap_cell.specs.ShardKinds.{TurnsDesk, waiting}
@@ -35,7 +33,6 @@ use Rattle.volap_cell.specs.declared.command.Balance.{Balance}
 use Rattle.volap_cell.specs.declared.command.Command.{Command}
 use Rattle.volap_cell.specs.declared.command.Work.{Work}
 use Rattle.volap_cell.specs.declared.command.Work.TheVariants as work_is
-use Rattle.volap_cell.specs.declared.role.Role.{Role}
 use Rattle.volap_cell.specs.declared.role.Role.TheVariants.{Session}
 
 -- The ledger gets an event. So many promises more or less are left: those before and what is newly promised are those afterwards

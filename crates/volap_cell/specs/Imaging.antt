@@ -1,5 +1,5 @@
 -- What servers know: their images list shards that lead to all that stand, and cover what each server must know.
-use Rattle.std.specs.Prelude.{ℕ, ◌≡◌, ◌≢◌, ◌<◌, ◌⊎◌, Bool, true, IsTrue, List, Option, Some, All, Any, Contains}
+use Rattle.std.specs.Prelude.{ℕ, ◌≡◌, ◌≢◌, ◌<◌, ◌⊎◌, Bool, true, IsTrue, List, Some, All, Any, Contains}
 use Rattle.std.specs.List.{AllZip}
 use Rattle.dim_hierarchy.specs.Dimension.{Dimension}
 use Rattle.dim_hierarchy.specs.Row.{IsCoordOf}

@@ -1,6 +1,5 @@
 -- What holds between steps. Its parts read fields of the view and of the ghost, and never the whole of either, so that a step keeps
 -- by its very statement each part whose fields it leaves as they are.
-use Rattle.std.specs.Prelude.{ℕ}
 use Rattle.volap_cell.specs.Desking.{Desking}
 use Rattle.volap_cell.specs.Ghost.{Ghost}
 use Rattle.volap_cell.specs.Growing.{Growing, Queueing, Resting}
@@ -21,7 +20,7 @@ pub record InvWith (s : Setting) (v : View) (g : Ghost) : Type 0 where
   pub numbering : Numbering s v.tags v.numbers v.roles v.settings v.counted_in v.purses v.commands v.taken v.jobs
   pub telling : Telling s v.history v.commands v.jobs v.roles v.seen g.placed
   pub owing : Owing s v.history v.promised v.images v.desks v.roles v.commands v.counted_in
-  pub turning : Turning s v.ways v.purses v.boxes v.jobs v.phases v.active g.gate g.shape g.home
+  pub turning : Turning s v.ways v.purses v.boxes v.phases v.active g.gate g.shape g.home
   pub stocking : Stocking s v.stock v.made v.gates v.phases v.pins v.gone v.purses v.jobs g.owner g.shape
   pub stamping : Stamping v.stock v.blocks v.trees v.gates v.phases v.pins v.purses v.reads v.jobs g.shape
   pub lineage : Lineage s v.history v.stock v.registry v.maps v.gates v.phases g.gate

@@ -30,3 +30,5 @@ pub mod Falls
 pub mod Opening
 pub mod Sights
 pub mod Steps
+pub mod Promises
+pub mod State

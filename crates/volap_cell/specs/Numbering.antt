@@ -1,10 +1,10 @@
 -- Who is who, and which cell is whose: what never changes.
-use Rattle.std.specs.Prelude.{ℕ, ◌≡◌, ◌==◌, ◌+◌, ◌-◌, ◌<◌, ◌≤◌, ⊤, Bool, false, nat_lt, List, [], Option, Some, None, All, slice_get, if◌then◌else◌}
+use Rattle.std.specs.Prelude.{ℕ, ◌≡◌, ◌≢◌, ◌==◌, ◌+◌, ◌-◌, ◌^◌, ◌<◌, ◌≤◌, ⊤, Bool, false, nat_lt, List, [], Option, Some, None, All, slice_get, if◌then◌else◌}
 use Rattle.dim_hierarchy.specs.Dimension.{IsHierarchy}
 use Rattle.cell_stock.specs.declared.purse.Spare.{Spare}
 use Rattle.volap_cell.specs.Cells.{Tag, OfStock, TheLedger, TheStock, TheRegistry, ImageOf, DeskOf, MapOf}
 use Rattle.volap_cell.specs.Errands.{Taken}
-use Rattle.volap_cell.specs.Setting.{Setting, actor_count, first_stock_cell, ledger_cell, stock_cell, registry_cell}
+use Rattle.volap_cell.specs.Setting.{Setting, actor_count, cell_count, first_stock_cell, ledger_cell, stock_cell, registry_cell}
 use Rattle.volap_cell.specs.Values.{JobValue}
 use Rattle.volap_cell.specs.declared.command.Command.{Command}
 use Rattle.volap_cell.specs.declared.role.Role.{Role}
@@ -17,11 +17,13 @@ IsRoleOf s (Hand worker) = worker < s.workers
 IsRoleOf s Puller = ⊤
 IsRoleOf s Admin = ⊤
 
--- there is a server and a worker, and one administrator at most
+-- There is a server and a worker, the stock has the cells of the first shards, and there is one administrator at most.
 pub record IsSetting (s : Setting) : Type 0 where
   pub hierarchy : IsHierarchy s.hierarchy
   pub servers : 0 < s.servers
   pub workers : 0 < s.workers
+  pub enough : s.workers + s.workers ≤ s.stock_cells
+  pub few : cell_count s < 2 ^ 32
   pub roles : All (IsRoleOf s) s.roles
   pub admin : (a b : ℕ) → slice_get s.roles a ≡ Some Admin → slice_get s.roles b ≡ Some Admin → a ≡ b
 
@@ -36,7 +38,7 @@ tag_at s y =
     else if nat_lt y (first_stock_cell s) then MapOf (y - (3 + s.servers + s.servers)) else OfStock
 
 -- Each cell holds what is its place's, each actor knows its number, its role and what it is about, and past the last one there
--- is nobody.
+-- is nobody. The administrator alone has jobs, and is at no part.
 pub record Numbering (s : Setting) (tags : ℕ → Tag) (numbers : ℕ → ℕ) (roles : ℕ → Role) (settings : ℕ → Setting) (counted_in : ℕ → Bool) (purses : ℕ → List Spare) (commands : ℕ → Option Command) (taken : ℕ → Option Taken) (jobs : ℕ → Option JobValue) : Type 0 where
   pub setting : IsSetting s
   pub tag : (y : ℕ) → tags y ≡ tag_at s y
@@ -45,3 +47,4 @@ pub record Numbering (s : Setting) (tags : ℕ → Tag) (numbers : ℕ → ℕ) 
   pub about : (a : ℕ) → settings a ≡ s
   pub nobody : (a : ℕ) → actor_count s ≤ a → (counted_in a ≡ false) × (purses a ≡ []) × (commands a ≡ None) × (taken a ≡ None) × (jobs a ≡ None)
   pub working : (a : ℕ) (j : JobValue) → jobs a ≡ Some j → roles a ≡ Admin
+  pub parts : (a : ℕ) (t : Taken) → taken a ≡ Some t → roles a ≢ Admin

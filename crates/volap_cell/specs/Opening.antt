@@ -1,8 +1,7 @@
 -- The state with which a core begins: one empty shard on each worker, which each server lists, and nobody at work.
-use Rattle.std.specs.Prelude.{ℕ, ◌≡◌, ◌≢◌, ◌==◌, ◌+◌, ◌<◌, ◌≤◌, false, List, [], length, Option, Some, None, slice_get, if◌then◌else◌}
+use Rattle.std.specs.Prelude.{ℕ, ◌≡◌, ◌≢◌, ◌==◌, ◌<◌, ◌≤◌, false, [], length, Some, None, slice_get, if◌then◌else◌}
 use Rattle.std.specs.FinMap as map
 use Rattle.std.specs.Ordering.{nat_cmp}
-use Rattle.describing_set.specs.declared.listing.Spot.{Spot}
 use Rattle.describing_set.specs.declared.set.DescSet.{DescSet}
 use Rattle.describing_set.specs.DescSet.{IsSetOf}
 use Rattle.measure_agg.specs.Aggregate.{agg}
@@ -12,7 +11,6 @@ use Rattle.mapping_table.specs.declared.place.Where.TheVariants as where_is
 use Rattle.row_ledger.specs.Bounds.{listing_of}
 use Rattle.row_ledger.specs.LedgerValue.{LedgerValue}
 use Rattle.row_ledger.specs.Right.{IsOpening as IsOpeningHistory}
-use Rattle.server_image.specs.Image.{ImageValue}
 use Rattle.server_image.specs.Registry.{RegistryValue, IsNewRegistry}
 use Rattle.shard_store.specs.Gate.{IsNewGate}
 use Rattle.shard_store.specs.declared.gate.Gate.{Gate}
@@ -68,7 +66,9 @@ pub record IsOpening (s : Setting) (w : World) : Type 0 where
   pub tables : (worker : ℕ) → worker < s.workers → (table : map.FinMap nat_cmp Where) × (w.cells (map_cell s worker) ≡ MapCell worker table)
       × ((x : ℕ) → map.get table x ≡ (if x == worker then Some (where_is.Gate (gate worker)) else None))
   pub shards : (worker : ℕ) → worker < s.workers → IsFirstShard s w stock worker (gate worker) (root worker)
+  pub apart : (a b : ℕ) → a < s.workers → b < s.workers → root a ≡ root b → a ≡ b
   pub free : (y : ℕ) → first_stock_cell s ≤ y → y < cell_count s
       → ((worker : ℕ) → worker < s.workers → (y ≢ gate worker) × (y ≢ root worker)) → (w.cells y ≡ FreeCell) × (times y stock.free ≡ 1)
+  pub filled : (y : ℕ) → w.cells y ≢ FreeCell → times y stock.free ≡ 0
   pub rest : (y : ℕ) → cell_count s ≤ y → w.cells y ≡ FreeCell
   pub actors : (a : ℕ) → IsFresh s a (w.actors a)

@@ -1,5 +1,5 @@
 -- Queries: what each part of an open query has counted, and what is still beneath what it has noted.
-use Rattle.std.specs.Prelude.{ℕ, ◌≡◌, ◌≢◌, ◌==◌, ◌<◌, ◌≤◌, ◌⊎◌, ⊤, Bool, true, false, List, [], ◌∷◌, Option, Some, None, map, All, Any, if◌then◌else◌}
+use Rattle.std.specs.Prelude.{ℕ, ◌≡◌, ◌≢◌, ◌==◌, ◌<◌, ◌≤◌, ◌⊎◌, ⊤, Bool, true, false, List, [], Option, Some, None, map, All, Any, if◌then◌else◌}
 use Rattle.std.specs.List.{list_any}
 use Rattle.dim_hierarchy.specs.Dimension.{Dimension}
 use Rattle.dim_hierarchy.specs.Compiled.{compiled}

@@ -1,5 +1,5 @@
 -- What the steps of parts between desks, tables and gates do to the cells that they hold and to their actor.
-use Rattle.std.specs.Prelude.{ℕ, ◌≡◌, ◌≢◌, ◌==◌, ◌+◌, ◌⊎◌, Bool, false, nat_eq, List, [], ◌∷◌, ◌++◌, Option, Some, None, position, slice_get, slice_set, length, if◌then◌else◌}
+use Rattle.std.specs.Prelude.{ℕ, ◌≡◌, ◌≢◌, ◌==◌, ◌+◌, ◌⊎◌, Bool, false, List, [], ◌∷◌, ◌++◌, Option, Some, None, position, slice_get, slice_set, length, if◌then◌else◌}
 use Rattle.dim_hierarchy.specs.Dimension.{Dimension}
 use Rattle.describing_set.specs.Plane.{goes_left}
 use Rattle.describing_set.specs.declared.plane.Plane.{Plane}
@@ -11,20 +11,19 @@ use Rattle.query_router.specs.declared.part.PartState.TheVariants as state
 use Rattle.query_router.specs.declared.part.Want.{Want}
 use Rattle.query_router.specs.declared.part.Want.TheVariants as want
 use Rattle.shard_plan.specs.Balancing.{plan}
-use Rattle.shard_plan.specs.declared.action.Action.{Action}
 use Rattle.shard_plan.specs.declared.action.Load.{Load}
 use Rattle.shard_store.specs.declared.gate.Gate.{Gate}
 use Rattle.volap_cell.specs.Cells.{DeskCell}
 use Rattle.volap_cell.specs.Errands.{place_of, Outside}
 use Rattle.volap_cell.specs.Planning.{next_job}
 use Rattle.volap_cell.specs.TreeKinds.{Leads, TurnsGate, HasRow, on_way}
-use Rattle.volap_cell.specs.Values.{ActorValue, ErrandValue, ReadingValue, TaskValue, OfRow, Unread, Read}
+use Rattle.volap_cell.specs.Values.{ActorValue, ErrandValue, TaskValue, OfRow, Unread, Read}
 use Rattle.volap_cell.specs.World.{Change}
 use Rattle.volap_cell.specs.declared.command.Balance.{Balance}
 use Rattle.volap_cell.specs.declared.command.Command.{Command}
 use Rattle.volap_cell.specs.declared.command.Work.TheVariants as work_is
 use Rattle.volap_cell.specs.declared.errand.RowErrand.{RowErrand}
-use Rattle.volap_cell.specs.declared.errand.Way.TheVariants.{Before, Placed, Carried, Put}
+use Rattle.volap_cell.specs.declared.errand.Way.TheVariants.{Before, Placed}
 use Rattle.volap_cell.specs.declared.role.Role.{Role}
 use Rattle.volap_cell.specs.declared.role.Role.TheVariants.{Session, Hand}
 

@@ -1,5 +1,5 @@
 -- What a page must show: it is read off the whole state, by an actor beside which nobody is at work.
-use Rattle.std.specs.Prelude.{ℕ, ◌≡◌, ◌≢◌, ⊤, cond, List, [], ◌∷◌, ◌++◌, length, flat_map, Option, Some, None, Contains}
+use Rattle.std.specs.Prelude.{ℕ, ◌≡◌, ◌≢◌, cond, List, [], ◌++◌, length, flat_map, Some, None}
 use Rattle.std.specs.List.{AllZip}
 use Rattle.dim_hierarchy.specs.declared.row.Row.{Row}
 use Rattle.dc_node.specs.Summary.{coords}

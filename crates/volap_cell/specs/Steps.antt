@@ -5,7 +5,7 @@ use Rattle.row_ledger.specs.declared.event.Event.{Event}
 use Rattle.volap_cell.specs.Cells.{ledger_in}
 use Rattle.volap_cell.specs.Falls.{GoesOn, left}
 use Rattle.volap_cell.specs.Ghost.{Ghost}
-use Rattle.volap_cell.specs.ImageKinds.{DoesNote, OfUnknown, OfRefused, OfCalled, OfLeft, OfShown, OfEnded, OfCount}
+use Rattle.volap_cell.specs.ImageKinds.{DoesNote, OfShown}
 use Rattle.volap_cell.specs.Invariant.{InvWith}
 use Rattle.volap_cell.specs.Kinds.{Does}
 use Rattle.volap_cell.specs.Opening.{IsOpening}

@@ -15,7 +15,7 @@ use Rattle.volap_cell.specs.AdminKinds.{spent_in}
 use Rattle.volap_cell.specs.Errands.{ReadPart}
 use Rattle.volap_cell.specs.Ghost.{Owner, NotOfStock, AGate, InTree, is_unused, is_in_purse, is_in_tree, is_in_job}
 use Rattle.volap_cell.specs.Setting.{Setting, first_stock_cell, cell_count}
-use Rattle.volap_cell.specs.Values.{JobValue, StageValue, IsCalled, IsDeclined, IsFrozen, Collects, Builds}
+use Rattle.volap_cell.specs.Values.{JobValue, StageValue, Collects}
 
 -- the cells of the tree of a gate
 abbrev pub cells_at : (ℕ → Block) → (ℕ → Gate) → ℕ → TreeCells

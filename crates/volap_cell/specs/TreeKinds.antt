@@ -1,6 +1,6 @@
 -- What the steps of rows and queries at gates and blocks do to the cells that they hold and to their actor. `a` is the actor
 -- before the step and `b` the actor after it.
-use Rattle.std.specs.Prelude.{ℕ, ◌≡◌, ◌≢◌, ◌+◌, ◌*◌, ◌<◌, ◌≤◌, ◌⊎◌, true, false, List, [], ◌∷◌, ◌++◌, Option, Some, None, slice_get, map as each, length, Bool, if◌then◌else◌}
+use Rattle.std.specs.Prelude.{ℕ, ◌≡◌, ◌≢◌, ◌+◌, ◌*◌, ◌<◌, ◌≤◌, ◌⊎◌, true, false, List, [], ◌∷◌, ◌++◌, Option, Some, None, slice_get, map as each, length, Bool}
 use Rattle.std.specs.FinMap as map
 use Rattle.std.specs.Ordering.{nat_cmp}
 use Rattle.dim_hierarchy.specs.Dimension.{Dimension}
@@ -25,10 +25,9 @@ use Rattle.link_descent.specs.declared.entered.Entered.{Entered}
 use Rattle.link_descent.specs.declared.entered.Fresh.{Fresh}
 use Rattle.mapping_table.specs.declared.place.Where.{Where}
 use Rattle.mapping_table.specs.declared.place.Where.TheVariants as where_is
-use Rattle.tree_shape.specs.Counts.{Each}
 use Rattle.volap_cell.specs.Cells.{MapCell, GateCell, BlockCell, StockCell, block_in}
-use Rattle.volap_cell.specs.Errands.{place_of, Outside, height_of, height_noted, is_filled}
-use Rattle.volap_cell.specs.Values.{ActorValue, ErrandValue, ReadingValue, TaskValue, OfRow, Unread, Read}
+use Rattle.volap_cell.specs.Errands.{place_of, Outside, height_of, height_to_fill, is_filled}
+use Rattle.volap_cell.specs.Values.{ActorValue, ErrandValue, ReadingValue, OfRow, Unread, Read}
 use Rattle.volap_cell.specs.World.{Change, MustKeep}
 use Rattle.volap_cell.specs.declared.errand.RowErrand.{RowErrand}
 use Rattle.volap_cell.specs.declared.errand.Way.{Way}
@@ -153,7 +152,7 @@ pub record DoesBlockVisit (h : List Dimension) (c : Change) (a b : ActorValue) :
 
 -- Rows.
 
--- The row comes in at the open gate, for which the purse has enough; the insert is counted there. It is carried at the root's
+-- The row comes in at the open gate, for which the purse has enough, with boxes for all of it; the insert is counted there. It is carried at the root's
 -- head, or at a new root.
 pub record DoesEnterTree (h : List Dimension) (m g root : Change) (others : List Change) (a b : ActorValue) : Type 0 where
   pub e : ErrandValue
@@ -164,6 +163,7 @@ pub record DoesEnterTree (h : List Dimension) (m g root : Change) (others : List
   pub gate : Gate
   pub is_open : gate.phase ≡ Open
   pub enough : gate.height + 2 ≤ length a.purse
+  pub boxed : 2 * length a.purse + 1 ≤ a.boxes
   pub root_is : root.number ≡ gate.root
   pub head : Block
   pub head_now : Block
@@ -183,9 +183,9 @@ pub record DoesEnterTree (h : List Dimension) (m g root : Change) (others : List
   pub boxes : a.boxes ≤ b.boxes + 2 * length fresh
   pub actor_is : b ≡ record a { purse = purse_now.spares; boxes = b.boxes; errand = on_way e r (Carried g.number entered.at) }
 
--- why a row goes to the queue: the gate isn't open, or a purse that was filled for this part hasn't enough
-abbrev pub MayQueue : Gate → List Spare → Way → Type 0
-MayQueue gate purse way = (gate.phase ≢ Open) ⊎ ((length purse < gate.height + 2) × (is_filled way ≡ true))
+-- why a row goes to the queue: the gate isn't open, or a purse that was filled for this part hasn't enough, or not the boxes
+abbrev pub MayQueue : Gate → ActorValue → Way → Type 0
+MayQueue gate a way = (gate.phase ≢ Open) ⊎ (((length a.purse < gate.height + 2) ⊎ (a.boxes < 2 * length a.purse + 1)) × (is_filled way ≡ true))
 
 -- the row is last in the queue of its shard's gate
 pub record DoesEnterQueue (h : List Dimension) (m g : Change) (a b : ActorValue) : Type 0 where
@@ -195,7 +195,7 @@ pub record DoesEnterQueue (h : List Dimension) (m g : Change) (a b : ActorValue)
   pub outside : place_of r.way ≡ Outside
   pub leads : Leads m e.worker e.shard (where_is.Gate g.number)
   pub gate : Gate
-  pub why : MayQueue gate a.purse r.way
+  pub why : MayQueue gate a r.way
   pub queue : Queue
   pub last : Enqueues h r.row gate.queue queue
   pub queued : TurnsGate gate (record gate { queue = queue }) g
@@ -276,11 +276,13 @@ pub record Fills (height : ℕ) (stock stock_now : StockValue) (a b : ActorValue
   pub r : RowErrand
   pub has : HasRow a e r
   pub noted : height_of r.way ≡ Some height
+  pub unfilled : is_filled r.way ≡ false
   pub actor_is : b ≡ record a { purse = b.purse; boxes = b.boxes; errand = on_way e r (Before (Some height) true) }
 
 -- the purse is emptied into the stock; no row is carried meanwhile, and none is to come in
 pub record Empties (stock stock_now : StockValue) (a b : ActorValue) : Type 0 where
-  pub none_to_fill : height_noted a.errand ≡ None
+  pub some : a.purse ≢ []
+  pub none_to_fill : height_to_fill a.errand ≡ None
   pub none_carried : (y : ℕ) → ¬ MustKeep a y
   pub purse : PurseValue
   pub purse_was : purse.spares ≡ a.purse

@@ -2,7 +2,6 @@
 use Rattle.std.specs.Prelude.{ℕ, Bool, Option, option_map, List, map}
 use Rattle.cell_stock.specs.declared.purse.Spare.{Spare}
 use Rattle.dc_node.specs.declared.todo.Item.{Item}
-use Rattle.describing_set.specs.declared.plane.Plane.{Plane}
 use Rattle.dim_hierarchy.specs.Compiled.{Compiled}
 use Rattle.dim_hierarchy.specs.declared.filter.Pick.{Pick}
 use Rattle.dim_hierarchy.specs.declared.row.Row.{Row}

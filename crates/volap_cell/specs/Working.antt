@@ -1,7 +1,6 @@
 -- Splits, moves and balances: what a job and a balance have found, collected and built.
-use Rattle.std.specs.Prelude.{ℕ, ◌≡◌, ◌≢◌, ◌==◌, ◌+◌, ◌<◌, ◌≤◌, ⊤, Bool, true, cond, IsTrue, List, [], ◌∷◌, ◌++◌, Option, Some, None, IsSome, is_some, map, take, drop, length, reverse, count_by, slice_get, All, Any, Contains}
-use Rattle.std.specs.List.{AllZip, AllPairs}
-use Rattle.dim_hierarchy.specs.Dimension.{Dimension}
+use Rattle.std.specs.Prelude.{ℕ, ◌≡◌, ◌+◌, ◌<◌, ◌≤◌, Bool, true, IsTrue, List, [], ◌++◌, Option, Some, None, IsSome, is_some, map, take, drop, length, reverse, count_by, All, Any, Contains}
+use Rattle.std.specs.List.{AllZip}
 use Rattle.dim_hierarchy.specs.declared.row.Row.{Row}
 use Rattle.dc_node.specs.declared.block.Block.{Block}
 use Rattle.describing_set.specs.Plane.{IsHierarchyPlane}
@@ -12,7 +11,7 @@ use Rattle.link_descent.specs.declared.entered.Fresh.{Fresh}
 use Rattle.row_ledger.specs.Past.{Ack, acked, before, work, Step}
 use Rattle.row_ledger.specs.Bounds.{may}
 use Rattle.row_ledger.specs.Shards.{Place, comes_from, frontier, is_live, is_on, place}
-use Rattle.row_ledger.specs.Work.{AreReadOf, IsCause, Reading, Settles, loads as loads_of, is_done, shard_of}
+use Rattle.row_ledger.specs.Work.{AreReadOf, IsCause, Reading, Settles, loads as loads_of, is_done}
 use Rattle.row_ledger.specs.declared.event.Event.{Event}
 use Rattle.row_ledger.specs.declared.settings.Decline.{Decline}
 use Rattle.shard_plan.specs.Balancing.{plan}

@@ -1,0 +1,65 @@
+-- What the invariant says of an actor that carries a row at a block.
+use Rattle.std.proofs.Common.{◌≡◌, ◌≢◌, ℕ, Bool, true, false, ◌&&◌, ◌||◌, ◌==◌, List, [], ◌∷◌, Option, Some, None, IsSome, refl, sym, ap, ◌∙◌, subst, inl}
+use Rattle.std.specs.List.{list_any}
+use Rattle.dim_hierarchy.specs.declared.row.Row.{Row}
+use Rattle.row_ledger.specs.Past.{Insert}
+use Rattle.row_ledger.specs.Shards.{is_of, Place, frontier}
+use Rattle.tree_shape.specs.Trees.{IsTree}
+use Rattle.tree_shape.proofs.Walks.{on_bool, eqb-self}
+use Rattle.volap_cell.specs.Errands.{RowWay, AtBlock, has_passed}
+use Rattle.volap_cell.specs.Ghost.{Ghost, InTree}
+use Rattle.volap_cell.specs.Growing.{table_of}
+use Rattle.volap_cell.specs.Invariant.{InvWith}
+use Rattle.volap_cell.specs.Setting.{Setting}
+use Rattle.volap_cell.specs.Stocking.{cells_at, IsWhole}
+use Rattle.volap_cell.specs.Turning.{IsIn}
+use Rattle.volap_cell.specs.View.{View, row_at, row_or}
+
+or-right : (a b : Bool) → b ≡ true → (a || b) ≡ true
+or-right true b e = refl
+or-right false b e = e
+
+-- a shard that stands is on some worker
+live-on : (x : ℕ) (ps : List Place) → list_any (is_of x) ps ≡ true → (worker : ℕ) × (list_any (λ (p : Place). is_of x p && (p.worker == worker)) ps ≡ true)
+live-on x [] e = cc
+live-on x (p ∷ ps) e = on_bool (is_of x p)
+    (λ q. (p.worker, rw (q, eqb-self p.worker) refl))
+    (λ q. let k = live-on x ps (ap (λ (b : Bool). b || list_any (is_of x) ps) (sym q) ∙ e) in (k.0, or-right (is_of x p && (p.worker == k.0)) (list_any (λ (p : Place). is_of x p && (p.worker == k.0)) ps) k.1))
+
+-- the row is in the tree of the gate, carried at the block
+pub record Carries (s : Setting) (v : View) (g : Ghost) (gate block : ℕ) (way : RowWay) : Type 0 where
+  pub whole : IsWhole v.gates v.phases v.pins gate
+  pub in_tree : IsIn v.phases g.gate g.shape g.home way gate
+  pub carried : (g.shape gate).carried way.row.no ≡ true
+  pub at : (g.shape gate).at way.row.no ≡ block
+  pub tree : IsTree (table_of s v.row) (cells_at v.blocks v.trees gate) (g.shape gate)
+  pub inside : (g.shape gate).inside block ≡ true
+  pub apart : block ≢ gate
+  pub owner : g.owner block ≡ InTree gate
+  pub made : v.made block ≡ true
+  pub known : v.row way.row.no ≡ way.row
+
+pub carries : (s : Setting) (v : View) (g : Ghost) → v.row ≡ row_at v.history → InvWith s v g → (n gate block : ℕ) (way : RowWay) → v.ways n ≡ Some way → way.place ≡ AtBlock gate block → Carries s v g gate block way
+carries s v g row i n gate block way was at_block =
+    let o = i.turning.carrying n gate block way was at_block in
+    let on_way = i.inserting.on_way n way was in
+    let placed : g.placed way.row.no ≡ true = on_way.passed ∙ ap has_passed at_block in
+    let on = live-on (g.home way.row.no) (frontier s.workers v.history) (i.placing.stands way.row.no placed) in
+    let gate_of = (i.lineage.gate_of (g.home way.row.no) on.0 on.1).1 in
+    let whole : IsWhole v.gates v.phases v.pins gate = (subst (λ (y : ℕ). IsSome (v.gates y)) o.0.gate_is (subst IsSome (sym gate_of) refl), inl o.0.stands) in
+    let tree = i.growing.tree gate whole in
+    let inside : (g.shape gate).inside block ≡ true = ap (g.shape gate).inside (sym o.2) ∙ tree.tree.shape.stands way.row.no o.0.placed in
+    let apart : block ≢ gate = (λ e. tree.entered way.row.no o.0.placed (o.2 ∙ e)) in
+    let cell = i.stocking.tree gate block whole inside apart in
+    record {
+      whole = whole;
+      in_tree = o.0;
+      carried = o.1;
+      at = o.2;
+      tree = tree;
+      inside = inside;
+      apart = apart;
+      owner = cell.0;
+      made = cell.1;
+      known = ap (λ (f : ℕ → Row). f way.row.no) row ∙ ap row_or on_way.known.1 ∙ on_way.known.2;
+    }

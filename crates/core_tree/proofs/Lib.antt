@@ -1,0 +1,7 @@
+pub mod Spares
+pub mod Carriers
+pub mod Moves
+pub mod MovesRest
+pub mod Less
+pub mod TreeSteps
+pub mod PutsInLeaf

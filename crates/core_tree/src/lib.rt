@@ -1,0 +1,2 @@
+//! The steps of rows and queries at gates and blocks.
+#![tactic(auto)]
