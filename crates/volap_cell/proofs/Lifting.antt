@@ -1,11 +1,11 @@
 -- Cells that are moved out one after the other, some of them at times only: those that are still to come can be moved out when the
 -- first ones are, and all of them stood at their places before.
-use Rattle.std.proofs.Common.{◌≡◌, ◌≢◌, ℕ, Bool, true, false, List, [], ◌∷◌, ◌++◌, Option, Some, None, is_some, length, ◌<◌, get_or, set, arith, refl, sym, ap, ◌∙◌, subst}
+use Rattle.std.proofs.Common.{◌≡◌, ◌≢◌, ℕ, Bool, true, List, [], ◌∷◌, ◌++◌, Option, Some, None, is_some, length, ◌<◌, get_or, set, arith, refl, sym, ap, ◌∙◌, subst}
 use Rattle.std.specs.Prelude.{⊤, option_map}
 use Rattle.std.proofs.lemmas.List.{get_or-set_other}
 use Rattle.dim_hierarchy.specs.Dimension.{Dimension}
 use Rattle.tree_shape.specs.Counts.{Each}
-use Rattle.volap_cell.specs.Cells.{CellValue, cell_of}
+use Rattle.volap_cell.specs.Cells.{cell_of}
 use Rattle.volap_cell.specs.Setting.{Setting}
 use Rattle.volap_cell.specs.State.{Has, IsWorldOf, AreDifferent, CanLift, Stand, taken, given, cell_if, number_if, Exchange, exchange_if, numbers_of, cells_before, cells_now, changes_of, still, MayHold, Stepped}
 use Rattle.volap_cell.specs.Steps.{HasSight, Inv, Makes}
