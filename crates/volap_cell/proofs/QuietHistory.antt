@@ -13,7 +13,9 @@ use Rattle.cell_stock.specs.declared.purse.Spare.{Spare}
 use Rattle.dc_node.specs.declared.block.Block.{Block}
 use Rattle.mapping_table.specs.declared.place.Where.{Where}
 use Rattle.query_router.specs.Desk.{DeskValue}
+use Rattle.std.proofs.lemmas.Bool.{false≢true}
 use Rattle.row_ledger.specs.declared.event.Event.{Event}
+use Rattle.row_ledger.specs.declared.event.Event.TheVariants.{Moved}
 use Rattle.row_ledger.specs.Past.{Query, insert_in, query_at, query_in, is_work_of}
 use Rattle.row_ledger.specs.Changes.{is_quiet, AllStays, ShardsStay}
 use Rattle.row_ledger.proofs.Changes.{quiet}
@@ -31,7 +33,7 @@ use Rattle.volap_cell.specs.Ghost.{Ghost}
 use Rattle.volap_cell.specs.Growing.{IsUnder, Growing, Queueing, Resting}
 use Rattle.volap_cell.specs.Imaging.{Covering, Imaging}
 use Rattle.volap_cell.specs.Invariant.{InvWith}
-use Rattle.volap_cell.specs.Lineage.{Lineage}
+use Rattle.volap_cell.specs.Lineage.{Lineage, went_to}
 use Rattle.volap_cell.specs.Placing.{NobodyAt, Placing, Inserting}
 use Rattle.volap_cell.specs.Querying.{IsInTreeOf, Querying}
 use Rattle.volap_cell.specs.Setting.{Setting}
@@ -90,6 +92,11 @@ nobody-at-new s h i a w is same =
     let below : w.row.no < length h = insert-within h w.row.no known.0 known.1 in
     absurd (omega arith)
 
+-- no move is noted
+went-quiet : (e : Event) (h : List Event) → is_quiet e ≡ true → (x w : ℕ) → went_to (e ∷ h) x w ≡ went_to h x w
+went-quiet (Moved of shard to) h q x w = absurd (false≢true q)
+went-quiet _ h q x w = refl
+
 module _ (s : Setting) (e : Event) (h : List Event) (q : is_quiet e ≡ true) where
   pub all-stays : AllStays s.hierarchy s.workers e h
   all-stays = quiet s.hierarchy s.workers e h q
@@ -108,7 +115,7 @@ module _ (s : Setting) (e : Event) (h : List Event) (q : is_quiet e ≡ true) wh
 
   pub lineage-quiet : (stock : StockValue) (registry : RegistryValue) (maps : ℕ → ℕ → Option Where) (gates : ℕ → Option ℕ) (phases : ℕ → Option Phase) (gate : ℕ → ℕ)
       → Lineage s h stock registry maps gates phases gate → Lineage s (e ∷ h) stock registry maps gates phases gate
-  lineage-quiet stock registry maps gates phases gate i = lineage-grown s e h shards stock registry maps gates phases gate i
+  lineage-quiet stock registry maps gates phases gate i = lineage-grown s e h shards stock registry maps gates phases gate (went-quiet e h q) i
 
   pub placing-quiet : (commands : ℕ → Option Command) (ways : ℕ → Option RowWay) (queues : ℕ → Queue) (gate : ℕ → ℕ) (shape : ℕ → Shape) (placed : ℕ → Bool) (home : ℕ → ℕ) (path : ℕ → List ℕ)
       → Placing s h commands ways queues gate shape placed home path → Placing s (e ∷ h) commands ways queues gate shape placed home path
