@@ -6,14 +6,21 @@ use Rattle.row_ledger.specs.Past.{Insert}
 use Rattle.row_ledger.specs.Shards.{is_of, Place, frontier}
 use Rattle.tree_shape.specs.Trees.{IsTree}
 use Rattle.tree_shape.proofs.Walks.{on_bool, eqb-self}
-use Rattle.volap_cell.specs.Errands.{RowWay, AtBlock, has_passed}
+use Rattle.volap_cell.specs.Errands.{RowWay, AtBlock, IsCarried, block_at, has_passed, place_of, way_in_task, way_of}
 use Rattle.volap_cell.specs.Ghost.{Ghost, InTree}
 use Rattle.volap_cell.specs.Growing.{table_of}
 use Rattle.volap_cell.specs.Invariant.{InvWith}
 use Rattle.volap_cell.specs.Setting.{Setting}
 use Rattle.volap_cell.specs.Stocking.{cells_at, IsWhole}
+use Rattle.volap_cell.specs.TreeKinds.{HasRow}
 use Rattle.volap_cell.specs.Turning.{IsIn}
+use Rattle.volap_cell.specs.Values.{ActorValue, ErrandValue, TaskValue, OfRow, Unread, Read}
 use Rattle.volap_cell.specs.View.{View, row_at, row_or}
+use Rattle.volap_cell.specs.World.{MustKeep}
+use Rattle.volap_cell.specs.declared.errand.RowErrand.{RowErrand}
+use Rattle.volap_cell.specs.declared.errand.Way.{Way}
+use Rattle.volap_cell.specs.declared.errand.Way.TheVariants.{Before, Carried, Put, Placed}
+use Rattle.volap_cell.proofs.Actors.{row-at}
 
 or-right : (a b : Bool) → b ≡ true → (a || b) ≡ true
 or-right true b e = refl
@@ -63,3 +70,29 @@ carries s v g row i n gate block way was at_block =
       made = cell.1;
       known = ap (λ (f : ℕ → Row). f way.row.no) row ∙ ap row_or on_way.known.1 ∙ on_way.known.2;
     }
+
+-- An actor must keep the block at which it carries a row.
+
+way-at : (w : Way) (y : ℕ) → block_at (place_of w) ≡ Some y → (gate : ℕ) × (w ≡ Carried gate y)
+way-at (Before height filled) y e = cc
+way-at (Carried gate block) y e = (gate, ap (Carried gate) (let k : block ≡ y = cc in k))
+way-at (Put gate) y e = cc
+way-at Placed y e = cc
+
+way-in : (a : ActorValue) (e : ErrandValue) (t : TaskValue) (y : ℕ) → a.errand ≡ Some e → e.task ≡ t → IsCarried (way_in_task e t) y → (r : RowErrand) × (gate : ℕ) × HasRow a e r × (r.way ≡ Carried gate y)
+way-in a e (OfRow r) y is task k = (let w = way-at r.way y k in (r, w.0, record { errand = is; row = task }, w.1))
+way-in a e (Unread f) y is task k = absurd k
+way-in a e (Read r) y is task k = absurd k
+
+way-of : (a : ActorValue) (o : Option ErrandValue) (y : ℕ) → a.errand ≡ o → IsCarried (way_of o) y → (e : ErrandValue) × (r : RowErrand) × (gate : ℕ) × HasRow a e r × (r.way ≡ Carried gate y)
+way-of a None y is k = absurd k
+way-of a (Some e) y is k = (let w = way-in a e e.task y is refl k in (e, w.0, w.1, w.2, w.3))
+
+pub carried-way : (a : ActorValue) (y : ℕ) → MustKeep a y → (e : ErrandValue) × (r : RowErrand) × (gate : ℕ) × HasRow a e r × (r.way ≡ Carried gate y)
+carried-way a y k = way-of a a.errand y refl k
+
+-- the row that it carries is at that block
+pub must-at : (a : ActorValue) (e : ErrandValue) (r : RowErrand) (gate block y : ℕ) → HasRow a e r → r.way ≡ Carried gate block → MustKeep a y → block ≡ y
+must-at a e r gate block y has carried k =
+    let there : block_at (place_of r.way) ≡ Some y = subst (λ (o : Option RowWay). IsCarried o y) (row-at has) k in
+    let same : Some block ≡ Some y = sym (ap (λ (w : Way). block_at (place_of w)) carried) ∙ there in cc
