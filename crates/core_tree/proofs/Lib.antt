@@ -4,4 +4,5 @@ pub mod Moves
 pub mod MovesRest
 pub mod Less
 pub mod TreeSteps
+pub mod NewBlocks
 pub mod PutsInLeaf

@@ -29,6 +29,7 @@ use Rattle.volap_cell.specs.Stocking.{cells_at, IsWhole, Stocking, Stamping, Non
 use Rattle.volap_cell.specs.Sums.{sum_below}
 use Rattle.volap_cell.specs.Turning.{Turning, IsIn, is_inside, inside_of}
 use Rattle.volap_cell.specs.View.{View}
+use Rattle.core_tree.proofs.Carriers.{purse-owned}
 use Rattle.core_tree.proofs.Spares.{spares-each, spares-distinct, spares-from, AreDistinct, each-drop, distinct-drop, used-apart, moved_owner, on_used, each-cell, each-times, times-off, times-cells, owner-purse, in-own, other-purse, other-tree}
 
 -- what a tree's law says: `used` are the spares that are blocks of the tree now
@@ -273,12 +274,7 @@ module _ (s : Setting) (v v2 : View) (g g2 : Ghost) (n c : ℕ) (other : OtherLa
   -- Stocking.
 
   from-purse : Each (λ (x : Spare). g.owner x.cell ≡ InPurse n) used
-  from-purse = each-right (λ (x : Spare). g.owner x.cell ≡ InPurse n) (v2.purses n) used
-      (subst (Each (λ (x : Spare). g.owner x.cell ≡ InPurse n)) m.purse
-      (each-cell (λ y. g.owner y ≡ InPurse n) (v.purses n) (λ y h. owner-purse n (g.owner y) (by-count y h))))
-    where
-      by-count : (y : ℕ) → 1 ≤ times y (cells_of (v.purses n)) → is_in_purse n (g.owner y) ≡ true
-      by-count y h = on_bool (is_in_purse n (g.owner y)) (λ q. q) (λ q. let k : times y (cells_of (v.purses n)) ≡ 0 = i.stocking.purse n y ∙ ap (λ (b : Bool). cond b 1 0) q in absurd (omega arith))
+  from-purse = each-right (λ (x : Spare). g.owner x.cell ≡ InPurse n) (v2.purses n) used (subst (Each (λ (x : Spare). g.owner x.cell ≡ InPurse n)) m.purse (purse-owned s v g i n))
 
   -- a cell is a used one, which was in the purse and is the tree's now, or its owner is as before
   on : {P : Type 0} (y : ℕ) → (g.owner y ≡ InPurse n → g2.owner y ≡ InTree c → ((Q : ℕ → Type 0) → Each (λ (x : Spare). Q x.cell) used → Q y) → P)
@@ -330,10 +326,13 @@ module _ (s : Setting) (v v2 : View) (g g2 : Ghost) (n c : ℕ) (other : OtherLa
             d w yi yd;
         tree_back = λ d y own. on y
             (λ p t u.
-            let e : c ≡ d = (let z : InTree c ≡ InTree d = sym t ∙ own in cc) in
-            (subst (λ (z : ℕ). IsSome (v.gates z)) e m.is_gate,
-            (λ w. (subst (λ (z : ℕ). (g2.shape z).inside y ≡ true) e (u (λ z. (g2.shape c).inside z ≡ true) m.moved.filled),
-            (λ z. let q : InPurse n ≡ AGate = sym p ∙ ap g.owner z ∙ k.gate d (subst (λ (z : ℕ). IsSome (v.gates z)) e m.is_gate) in cc)))))
+            let e : c ≡ d = (let z : InTree c ≡ InTree d = sym t ∙ own in cc) in (
+              subst (λ (z : ℕ). IsSome (v.gates z)) e m.is_gate,
+              (λ w. (
+                subst (λ (z : ℕ). (g2.shape z).inside y ≡ true) e (u (λ z. (g2.shape c).inside z ≡ true) m.moved.filled),
+                (λ z. let q : InPurse n ≡ AGate = sym p ∙ ap g.owner z ∙ k.gate d (subst (λ (z : ℕ). IsSome (v.gates z)) e m.is_gate) in cc),
+              )),
+            ))
             (λ o t.
             let e = k.tree_back d y (sym t ∙ own) in
             (e.0, (λ w. let f = e.1 w in (by_gate (λ d z. (g.shape d).inside y ≡ true → z.inside y ≡ true) (λ p. m.moved.inside y o ∙ p) (λ d nd p. p) d f.0, f.1))));

@@ -107,12 +107,15 @@ module _ (s : Setting) (v v2 : View) (g g2 : Ghost) (n c : ℕ) (other : OtherLa
       → ((g.shape c).placed r ≡ false → (times r counted ≡ 0) × (must_hold s.hierarchy v.history of q r ≡ false)) → (pin : Option ℕ) → p.reading.pin ≡ pin
       → IsWalk s v.history v.row v.blocks v.trees g.shape of q counted p.reading pin → IsWalk s v.history v.row v2.blocks v2.trees g2.shape of q counted p.reading pin
   walk-kept a p is few of q counted unasked None e w = w
-  walk-kept a p is few of q counted unasked (Some d) e w = (w.0, by_gate
-      (λ d z. p.reading.pin ≡ Some d → IsUnfinished (g.shape d) (nodes (cells_at v.blocks v.trees d)) (must_hold s.hierarchy v.history of q) (fits (table_of s v.row) q.filter) p.reading.items counted
-      → IsUnfinished z (nodes (cells_at v2.blocks v2.trees d)) (must_hold s.hierarchy v.history of q) (fits (table_of s v.row) q.filter) p.reading.items counted)
-      (λ e u. m.moved.queries (must_hold s.hierarchy v.history of q) (fits (table_of s v.row) q.filter) p.reading.items counted (waits a p is) unasked u)
-      (λ d nd e u. (others s v v2 g g2 n c other i m d nd (pinned-whole a d p few is e)).queries (must_hold s.hierarchy v.history of q) (fits (table_of s v.row) q.filter) p.reading.items counted u)
-      d e w.1)
+  walk-kept a p is few of q counted unasked (Some d) e w = (
+    w.0,
+    by_gate
+        (λ d z. p.reading.pin ≡ Some d → IsUnfinished (g.shape d) (nodes (cells_at v.blocks v.trees d)) (must_hold s.hierarchy v.history of q) (fits (table_of s v.row) q.filter) p.reading.items counted
+        → IsUnfinished z (nodes (cells_at v2.blocks v2.trees d)) (must_hold s.hierarchy v.history of q) (fits (table_of s v.row) q.filter) p.reading.items counted)
+        (λ e u. m.moved.queries (must_hold s.hierarchy v.history of q) (fits (table_of s v.row) q.filter) p.reading.items counted (waits a p is) unasked u)
+        (λ d nd e u. (others s v v2 g g2 n c other i m d nd (pinned-whole a d p few is e)).queries (must_hold s.hierarchy v.history of q) (fits (table_of s v.row) q.filter) p.reading.items counted u)
+        d e w.1,
+  )
     where
       waits : (a : ℕ) (p : ReadPart) → v.reads a ≡ Some p → Each (λ (x : Spare). NoneWaits x.stamp p.reading.items) m.used
       waits a p is = each-map (λ (x : Spare). NoneWaits x.stamp (all_items v.reads v.jobs a)) (λ (x : Spare). NoneWaits x.stamp p.reading.items) m.used

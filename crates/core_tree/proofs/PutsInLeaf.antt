@@ -11,18 +11,18 @@ use Rattle.tree_shape.specs.Shape.{Shape}
 use Rattle.tree_shape.specs.Steps.{AfterPut}
 use Rattle.tree_shape.specs.Trees.{IsTree}
 use Rattle.volap_cell.specs.Cells.{CellValue, BlockCell, block_in, has_block}
-use Rattle.volap_cell.specs.Errands.{RowWay, AtBlock, row_way, place_of}
+use Rattle.volap_cell.specs.Errands.{RowWay, AtBlock, row_way, way_of, place_of}
 use Rattle.volap_cell.specs.Ghost.{Ghost}
 use Rattle.volap_cell.specs.Growing.{table_of}
 use Rattle.volap_cell.specs.Invariant.{InvWith}
 use Rattle.volap_cell.specs.Setting.{Setting}
-use Rattle.volap_cell.specs.Steps.{Keeps, IsKept}
+use Rattle.volap_cell.specs.Steps.{IsHere, IsKept, Keeps, Makes}
 use Rattle.volap_cell.specs.Stocking.{cells_at}
-use Rattle.volap_cell.specs.TreeKinds.{DoesPutInLeaf, HasRow}
+use Rattle.volap_cell.specs.TreeKinds.{DoesPutInLeaf, HasRow, on_way}
 use Rattle.volap_cell.specs.Turning.{IsIn}
 use Rattle.volap_cell.specs.Values.{ActorValue, ErrandValue}
 use Rattle.volap_cell.specs.View.{View, view, row_at}
-use Rattle.volap_cell.specs.World.{World, Change, put, after, Agrees}
+use Rattle.volap_cell.specs.World.{World, Change, change, held, put, after, Agrees}
 use Rattle.volap_cell.specs.declared.errand.RowErrand.{RowErrand}
 use Rattle.volap_cell.specs.declared.errand.Way.TheVariants.{Carried, Put}
 use Rattle.volap_cell.specs.declared.kind.Kind.TheVariants.{PutInLeaf}
@@ -30,7 +30,8 @@ use Rattle.volap_cell.proofs.Actors.{row-at, row-taken, row-reads}
 use Rattle.volap_cell.proofs.Frames.{first, elsewhere}
 use Rattle.volap_cell.proofs.Seen.{beside, actor_beside}
 use Rattle.volap_cell.proofs.Touches.{turned-block}
-use Rattle.core_tree.proofs.Carriers.{Carries, carries}
+use Rattle.core_tree.specs.Due.{CanPutInLeaf}
+use Rattle.core_tree.proofs.Carriers.{Carries, carries, carried-way, must-at}
 use Rattle.core_tree.proofs.Moves.{Moved, Went}
 use Rattle.core_tree.proofs.TreeSteps.{TreeStep, tree-kept, with_shape, of_steps}
 
@@ -116,3 +117,46 @@ put-keeps-at other collects puts c b s w n g i ag d = tree-kept s w n (c ∷ [])
 pub put-keeps : OtherLaw → CollectOtherLaw → PutLaw → (h : List Dimension) (c : Change) (a b : ActorValue) (d : DoesPutInLeaf c a b) → Keeps h PutInLeaf (c ∷ []) a b d
 put-keeps other collects puts h c a b d s w n g same i ag sight =
     put-keeps-at other collects puts c b s w n g i (record { cells = ag.cells; actor_is = refl; free = λ x ne. ag.free x ne }) (subst (λ (z : ActorValue). DoesPutInLeaf c z b) (sym ag.actor_is) d)
+
+-- The call.
+
+-- what it did, where it was given a leaf of the row that its actor carries
+pub put-makes : OtherLaw → CollectOtherLaw → PutLaw → (h : List Dimension) (at : ℕ) (cell : CellValue) (block now : Block) (a b : ActorValue) (e : ErrandValue) (r : RowErrand) (gate y : ℕ)
+    → CanPutInLeaf at cell a → cell ≡ BlockCell block → HasRow a e r → r.way ≡ Carried gate y → now ≡ with_rows block (rows_in block.body ++ r.row ∷ []) → a.boxes ≤ b.boxes + 1
+    → b ≡ record a { boxes = b.boxes; errand = on_way e r (Put gate) } → Makes h PutInLeaf (change at cell (BlockCell now) ∷ []) a b
+put-makes other collects puts h at cell block now a b e r gate y due is has carried put boxes actor_is =
+    let does : DoesPutInLeaf (change at cell (BlockCell now)) a b = record {
+      e = e;
+      r = r;
+      has = has;
+      gate = gate;
+      carried = carried ∙ ap (Carried gate) (must-at a e r gate y at has carried due.carried);
+      block = block;
+      leaf = ap (λ (z : CellValue). is_leaf (block_in z).body) (sym is) ∙ due.leaf;
+      last = record { was = is; is = ap BlockCell put };
+      boxes = boxes;
+      actor_is = actor_is;
+    } in
+    record { does = does; keeps = put-keeps other collects puts h (change at cell (BlockCell now)) a b does }
+
+-- what its callee asks for
+pub record CanPut (cell : CellValue) (a : ActorValue) : Type 0 where
+  pub made : has_block cell ≡ true
+  pub room : is_full (block_in cell).body ≡ false
+  pub boxes : 0 < a.boxes
+
+pub can-put : (h : List Dimension) (at : ℕ) (cell : CellValue) (a : ActorValue) → IsHere h (held at cell ∷ []) a → CanPutInLeaf at cell a → CanPut cell a
+can-put h at cell a k due =
+    let i = k.inv.holds in
+    let w = k.world in
+    let (e, r, gate, has, carried) = carried-way a at due.carried in
+    let same = k.agrees.actor_is in
+    let was : way_of (w.actors k.number).errand ≡ Some (row_way e r) = ap (λ (z : ActorValue). way_of z.errand) same ∙ row-at has in
+    let here = carries a.setting (view a.setting w) k.inv.ghost_of refl i k.number gate at (row_way e r) was (ap place_of carried) in
+    let enough = (i.turning.enough k.number gate at (row_way e r) was (ap place_of carried)).1 in
+    let boxes : (w.actors k.number).boxes ≡ a.boxes = ap (λ (z : ActorValue). z.boxes) same in
+    record {
+      made = ap has_block (sym k.agrees.cells.0) ∙ here.made;
+      room = ap (λ (z : CellValue). is_full (block_in z).body) (sym k.agrees.cells.0) ∙ (here.tree.blocks at here.inside here.apart).room r.row.no here.in_tree.placed here.carried here.at;
+      boxes = omega arith;
+    }

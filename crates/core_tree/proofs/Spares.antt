@@ -30,9 +30,13 @@ pub spares-from : (g : Shape) (look : ℕ → Node) (ss : List Spare) → Each (
 spares-from g look [] e d = tt
 spares-from g look (s ∷ ss) e d = (e.0, d.0, spares-from g look ss e.1 d.1)
 
-distinct-right : (us ys : List Spare) → AreDistinct (us ++ ys) → AreDistinct ys
+pub distinct-right : (us ys : List Spare) → AreDistinct (us ++ ys) → AreDistinct ys
 distinct-right [] ys d = d
 distinct-right (u ∷ us) ys d = distinct-right us ys d.1
+
+pub spares-left : (g : Shape) (look : ℕ → Node) (xs ys : List Spare) → AreSpares g look (xs ++ ys) → AreSpares g look xs
+spares-left g look [] ys a = tt
+spares-left g look (x ∷ xs) ys a = (a.0, each-left (AreApart x) xs ys a.1, spares-left g look xs ys a.2)
 
 -- without the used ones, which stand between
 

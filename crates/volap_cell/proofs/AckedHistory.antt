@@ -78,7 +78,7 @@ module _ (s : Setting) (h : List Event) (of : ℕ) (way : List ℕ) (insert : In
 
   pub lineage-acked : (stock : StockValue) (registry : RegistryValue) (maps : ℕ → ℕ → Option Where) (gates : ℕ → Option ℕ) (phases : ℕ → Option Phase) (gate : ℕ → ℕ)
       → Lineage s h stock registry maps gates phases gate → Lineage s (Acked of way ∷ h) stock registry maps gates phases gate
-  lineage-acked stock registry maps gates phases gate i = lineage-grown s (Acked of way) h ack-stays stock registry maps gates phases gate i
+  lineage-acked stock registry maps gates phases gate i = lineage-grown s (Acked of way) h ack-stays stock registry maps gates phases gate (λ x w. refl) i
 
   -- The table of rows.
 

@@ -1,15 +1,13 @@
 -- Desks, images, ledger and registry after the steps that change them: which are new, and what the history has more.
-use Rattle.std.proofs.Common.{◌≡◌, ◌⊎◌, ℕ, ◌<◌, List, [], ◌∷◌, inl, inr, refl, sym, ap, ◌∙◌}
+use Rattle.std.proofs.Common.{◌≡◌, ℕ, ◌<◌, [], ◌∷◌, inl, inr, refl, sym, ap, ◌∙◌}
 use Rattle.query_router.specs.Desk.{DeskValue}
 use Rattle.row_ledger.specs.declared.event.Event.{Event}
 use Rattle.server_image.specs.Image.{ImageValue}
 use Rattle.server_image.specs.Registry.{RegistryValue}
-use Rattle.volap_cell.specs.AdminKinds.{PushesBoth}
 use Rattle.volap_cell.specs.Cells.{RegistryCell, MapOf, DeskOf, ImageOf, TheRegistry, TheLedger, tag_of, desk_in, image_in}
 use Rattle.volap_cell.specs.ImageKinds.{Pushes, TurnsImage}
 use Rattle.volap_cell.specs.Setting.{Setting}
 use Rattle.volap_cell.specs.ShardKinds.{TurnsDesk}
-use Rattle.volap_cell.specs.TreeKinds.{Leads}
 use Rattle.volap_cell.specs.Values.{ActorValue}
 use Rattle.volap_cell.specs.View.{View, view}
 use Rattle.volap_cell.specs.World.{World, Change, after}
@@ -58,10 +56,11 @@ pub image-event : (s : Setting) (w : World) (n : ℕ) (b : ActorValue) → AreTa
 image-event s w n b tagged i l at {server} {old} {new} turns p =
     let cs = i ∷ l ∷ [] in
     let apart = apart-tags (ImageOf server ∷ TheLedger ∷ []) w.cells cs at (ap tag_of turns.was, (ap tag_of p.was, tt)) (((λ e. cc), tt), (tt, tt)) in
-    let (lt, here) = held-image s w tagged i.number server old (at.0 ∙ turns.was) in
-    (lt,
+    let (lt, here) = held-image s w tagged i.number server old (at.0 ∙ turns.was) in (
+      lt,
       image-new s w.cells cs tagged at apart i (inl refl) server old new turns (inl refl, (inr (ap image_in p.is ∙ sym (ap image_in p.was)), tt)),
-      pushed-new p (ledger-new s w.cells cs tagged at apart l (inr (inl refl)) p.ledger p.ledger_now p.was p.is))
+      pushed-new p (ledger-new s w.cells cs tagged at apart l (inr (inl refl)) p.ledger p.ledger_now p.was p.is),
+    )
 
 -- a desk and the ledger
 pub desk-event : (s : Setting) (w : World) (n : ℕ) (b : ActorValue) → AreTagged s w.cells → (d l : Change) → AreAt w.cells (d ∷ l ∷ []) → {server : ℕ} {old new : DeskValue} → TurnsDesk server old new d → {e : Event} {more used seen : ℕ} → Pushes e more used l seen
@@ -69,10 +68,11 @@ pub desk-event : (s : Setting) (w : World) (n : ℕ) (b : ActorValue) → AreTag
 desk-event s w n b tagged d l at {server} {old} {new} turns p =
     let cs = d ∷ l ∷ [] in
     let apart = apart-tags (DeskOf server ∷ TheLedger ∷ []) w.cells cs at (ap tag_of turns.was, (ap tag_of p.was, tt)) (((λ e. cc), tt), (tt, tt)) in
-    let (lt, here) = held-desk s w tagged d.number server old (at.0 ∙ turns.was) in
-    (lt,
+    let (lt, here) = held-desk s w tagged d.number server old (at.0 ∙ turns.was) in (
+      lt,
       desk-new s w.cells cs tagged at apart d (inl refl) server old new turns (inl refl, (inr (ap desk_in p.is ∙ sym (ap desk_in p.was)), tt)),
-      pushed-new p (ledger-new s w.cells cs tagged at apart l (inr (inl refl)) p.ledger p.ledger_now p.was p.is))
+      pushed-new p (ledger-new s w.cells cs tagged at apart l (inr (inl refl)) p.ledger p.ledger_now p.was p.is),
+    )
 
 -- a desk and an image
 pub desk-image : (s : Setting) (w : World) (n : ℕ) (b : ActorValue) → AreTagged s w.cells → (d i : Change) → AreAt w.cells (d ∷ i ∷ []) → {server : ℕ} {old new : DeskValue} → TurnsDesk server old new d → {at_server : ℕ} {image image_now : ImageValue} → TurnsImage at_server image image_now i
@@ -80,10 +80,11 @@ pub desk-image : (s : Setting) (w : World) (n : ℕ) (b : ActorValue) → AreTag
 desk-image s w n b tagged d i at {server} {old} {new} turns {at_server} {image} {image_now} grows =
     let cs = d ∷ i ∷ [] in
     let apart = apart-tags (DeskOf server ∷ ImageOf at_server ∷ []) w.cells cs at (ap tag_of turns.was, (ap tag_of grows.was, tt)) (((λ e. cc), tt), (tt, tt)) in
-    let (lt, here) = held-desk s w tagged d.number server old (at.0 ∙ turns.was) in
-    (lt,
+    let (lt, here) = held-desk s w tagged d.number server old (at.0 ∙ turns.was) in (
+      lt,
       desk-new s w.cells cs tagged at apart d (inl refl) server old new turns (inl refl, (inr (ap desk_in grows.is ∙ sym (ap desk_in grows.was)), tt)),
-      image-new s w.cells cs tagged at apart i (inr (inl refl)) at_server image image_now grows (inr (ap image_in turns.is ∙ sym (ap image_in turns.was)), (inl refl, tt)))
+      image-new s w.cells cs tagged at apart i (inr (inl refl)) at_server image image_now grows (inr (ap image_in turns.is ∙ sym (ap image_in turns.was)), (inl refl, tt)),
+    )
 
 -- a desk, an image and the ledger
 pub desk-image-event : (s : Setting) (w : World) (n : ℕ) (b : ActorValue) → AreTagged s w.cells → (d i l : Change) → AreAt w.cells (d ∷ i ∷ l ∷ []) → {server : ℕ} {old new : DeskValue} → TurnsDesk server old new d
@@ -93,11 +94,12 @@ pub desk-image-event : (s : Setting) (w : World) (n : ℕ) (b : ActorValue) → 
 desk-image-event s w n b tagged d i l at {server} {old} {new} turns {at_server} {image} {image_now} grows p =
     let cs = d ∷ i ∷ l ∷ [] in
     let apart = apart-tags (DeskOf server ∷ ImageOf at_server ∷ TheLedger ∷ []) w.cells cs at (ap tag_of turns.was, (ap tag_of grows.was, (ap tag_of p.was, tt))) (((λ e. cc), ((λ e. cc), tt)), (((λ e. cc), tt), (tt, tt))) in
-    let (lt, here) = held-desk s w tagged d.number server old (at.0 ∙ turns.was) in
-    (lt,
+    let (lt, here) = held-desk s w tagged d.number server old (at.0 ∙ turns.was) in (
+      lt,
       desk-new s w.cells cs tagged at apart d (inl refl) server old new turns (inl refl, (inr (ap desk_in grows.is ∙ sym (ap desk_in grows.was)), (inr (ap desk_in p.is ∙ sym (ap desk_in p.was)), tt))),
       image-new s w.cells cs tagged at apart i (inr (inl refl)) at_server image image_now grows (inr (ap image_in turns.is ∙ sym (ap image_in turns.was)), (inl refl, (inr (ap image_in p.is ∙ sym (ap image_in p.was)), tt))),
-      pushed-new p (ledger-new s w.cells cs tagged at apart l (inr (inr (inl refl))) p.ledger p.ledger_now p.was p.is))
+      pushed-new p (ledger-new s w.cells cs tagged at apart l (inr (inr (inl refl))) p.ledger p.ledger_now p.was p.is),
+    )
 
 -- an image, the registry and the ledger
 pub image-registry-event : (s : Setting) (w : World) (n : ℕ) (b : ActorValue) → AreTagged s w.cells → (i r l : Change) → AreAt w.cells (i ∷ r ∷ l ∷ []) → {server : ℕ} {old new : ImageValue} → TurnsImage server old new i
@@ -107,8 +109,9 @@ pub image-registry-event : (s : Setting) (w : World) (n : ℕ) (b : ActorValue) 
 image-registry-event s w n b tagged i r l at {server} {old} {new} turns registry registry_now was is p =
     let cs = i ∷ r ∷ l ∷ [] in
     let apart = apart-tags (ImageOf server ∷ TheRegistry ∷ TheLedger ∷ []) w.cells cs at (ap tag_of turns.was, (ap tag_of was, (ap tag_of p.was, tt))) (((λ e. cc), ((λ e. cc), tt)), (((λ e. cc), tt), (tt, tt))) in
-    let (lt, here) = held-image s w tagged i.number server old (at.0 ∙ turns.was) in
-    (lt,
+    let (lt, here) = held-image s w tagged i.number server old (at.0 ∙ turns.was) in (
+      lt,
       image-new s w.cells cs tagged at apart i (inl refl) server old new turns (inl refl, (inr (ap image_in is ∙ sym (ap image_in was)), (inr (ap image_in p.is ∙ sym (ap image_in p.was)), tt))),
       registry-new s w.cells cs tagged at apart r (inr (inl refl)) registry registry_now was is,
-      pushed-new p (ledger-new s w.cells cs tagged at apart l (inr (inr (inl refl))) p.ledger p.ledger_now p.was p.is))
+      pushed-new p (ledger-new s w.cells cs tagged at apart l (inr (inr (inl refl))) p.ledger p.ledger_now p.was p.is),
+    )

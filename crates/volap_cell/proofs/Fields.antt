@@ -1,5 +1,5 @@
 -- Fields of the view of which a commit changes one place: what it was there, what it is, and that it is as before elsewhere.
-use Rattle.std.proofs.Common.{◌≡◌, ◌≢◌, ◌⊎◌, ℕ, ◌+◌, cond, eqb, List, [], ◌∷◌, length, refl, sym, ap, ◌∙◌, arith}
+use Rattle.std.proofs.Common.{◌≡◌, ◌≢◌, ◌⊎◌, ℕ, ◌+◌, cond, eqb, List, [], ◌∷◌, length, refl, sym, ap, ◌∙◌, arith, ◌<◌}
 use Rattle.std.specs.FinMap as map
 use Rattle.std.specs.Ordering.{nat_cmp}
 use Rattle.cell_stock.specs.Stock.{StockValue}
@@ -15,10 +15,12 @@ use Rattle.volap_cell.specs.ImageKinds.{Pushes, TurnsImage}
 use Rattle.volap_cell.specs.Numbering.{tag_at}
 use Rattle.volap_cell.specs.Setting.{Setting, ledger_cell, stock_cell, registry_cell, image_cell, desk_cell, map_cell}
 use Rattle.volap_cell.specs.ShardKinds.{TurnsDesk}
+use Rattle.volap_cell.specs.Sums.{sum_below}
 use Rattle.volap_cell.specs.Values.{ActorValue}
 use Rattle.volap_cell.specs.World.{Change, put}
 use Rattle.volap_cell.proofs.Frames.{AreAt, AreApartCells, kept-but, put-at, each-among, actor-at, actor-off}
 use Rattle.volap_cell.proofs.Numbers.{at-ledger, at-stock, at-registry, at-desk, at-image, at-map}
+use Rattle.volap_cell.proofs.Sums.{sum-changed}
 
 -- a field by number that one place changes
 pub record IsNewAt {A : Type 0} (now was : ℕ → A) (place : ℕ) (old new : A) : Type 0 where
@@ -166,3 +168,9 @@ actor-new f actors n now = record {
   is_there = ap f (actor-at actors n now);
   elsewhere = (λ a ne. ap f (actor-off actors n now a ne));
 }
+
+-- a sum over a field of which one place is new
+pub sum-new : {A : Type 0} {now was : ℕ → A} {n : ℕ} {old new : A} (f : ℕ → A → ℕ) (m : ℕ) → IsNewAt now was n old new → n < m → sum_below m (λ a. f a (now a)) + f n old ≡ sum_below m (λ a. f a (was a)) + f n new
+sum-new {now} {was} {n} {old} {new} f m at lt =
+    let changed = sum-changed m (λ a. f a (was a)) (λ a. f a (now a)) n (λ a ne. ap (f a) (at.elsewhere a ne)) lt in
+    let o = ap (f n) at.was_there in let i = ap (f n) at.is_there in omega arith

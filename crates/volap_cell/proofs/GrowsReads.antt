@@ -1,8 +1,9 @@
 -- The rows that a query's reading has counted, or finds in the tree that it reads, began before the next event.
-use Rattle.std.proofs.Common.{◌≡◌, ℕ, ◌<◌, ◌≤◌, ◌∙◌, List, Bool, true, false, length, refl, sym, ap, subst, ◌⊎◌, inl, inr, ◌==◌, ◌&&◌, eqb-true}
-use Rattle.std.specs.Prelude.{Option, Some, None}
-use Rattle.std.proofs.lemmas.Bool.{and_parts}
+use Rattle.std.proofs.Common.{◌≡◌, ℕ, ◌<◌, ◌≤◌, ◌∙◌, List, Bool, true, false, length, arith, refl, sym, ap, subst, ◌⊎◌, inl, inr, ◌==◌, ◌&&◌, eqb-true}
+use Rattle.std.specs.Prelude.{Option, Some, None, IsSome}
+use Rattle.std.proofs.lemmas.Bool.{and_parts, cases_lt}
 use Rattle.std.proofs.lemmas.List.Elements.{All-contains}
+use Rattle.cell_stock.specs.declared.purse.Spare.{Spare}
 use Rattle.dc_node.specs.declared.block.Block.{Block}
 use Rattle.query_router.specs.Desk.{DeskValue, is_refused, is_taken, state_is_refused, state_is_taken}
 use Rattle.query_router.specs.declared.part.Part.{Part}
@@ -14,16 +15,22 @@ use Rattle.shard_store.specs.declared.gate.Gate.{Gate}
 use Rattle.shard_store.specs.declared.gate.Phase.{Phase}
 use Rattle.tree_shape.specs.Counts.{times}
 use Rattle.tree_shape.specs.Shape.{Shape}
+use Rattle.tree_shape.proofs.Walks.{eqb-self}
+use Rattle.volap_cell.specs.Cells.{Tag}
 use Rattle.volap_cell.specs.Desking.{Desking}
 use Rattle.volap_cell.specs.Errands.{ReadPart, Taken, read_in_task, read_of, taken_by, taken_of}
 use Rattle.volap_cell.specs.Growing.{Growing}
-use Rattle.volap_cell.specs.Querying.{IsCounted, IsInTreeOf, Querying}
-use Rattle.volap_cell.specs.Setting.{Setting}
+use Rattle.volap_cell.specs.Numbering.{Numbering}
+use Rattle.volap_cell.specs.Querying.{IsCounted, IsInTreeOf, Pinning, Querying, one_pin, pins_of}
+use Rattle.volap_cell.specs.Setting.{Setting, actor_count}
 use Rattle.volap_cell.specs.Stocking.{IsWhole}
-use Rattle.volap_cell.specs.Values.{ErrandValue, TaskValue, OfRow, Unread, Read}
-use Rattle.volap_cell.specs.View.{row_at}
+use Rattle.volap_cell.specs.Sums.{sum_below}
+use Rattle.volap_cell.specs.Values.{JobValue, ErrandValue, TaskValue, OfRow, Unread, Read}
+use Rattle.volap_cell.specs.View.{row_at, view}
+use Rattle.volap_cell.specs.World.{World}
 use Rattle.volap_cell.specs.declared.command.Command.{Command}
 use Rattle.volap_cell.specs.declared.role.Role.{Role}
+use Rattle.volap_cell.proofs.Sums.{sum-some}
 use Rattle.volap_cell.proofs.GrowsKnown.{AreOlder}
 use Rattle.volap_cell.proofs.GrowsTrees.{tree-row-older}
 
@@ -39,6 +46,27 @@ read-taken (Some e) p is = in-task e.task refl is
     in-task (OfRow r) same is = (let never : ◌≡◌ {A = Option ReadPart} None (Some p) = is in cc)
     in-task (Unread f) same is = (let never : ◌≡◌ {A = Option ReadPart} None (Some p) = is in cc)
     in-task (Read r) same is = (let part : record { server = e.server; shard = e.shard; reading = r } ≡ p = cc in (taken_by e, refl, ap (λ (x : ReadPart). x.server) part, ap (λ (x : ReadPart). x.shard) part))
+
+-- who has read a gate in a state has taken a part there
+pub readers-take : (s : Setting) (w : World) → ReadersTake (view s w).taken (view s w).reads
+readers-take s w a p is = read-taken (w.actors a).errand p is
+
+-- the gate to which a reading is pinned has a whole tree
+pub pinned-whole : (s : Setting) (tags : ℕ → Tag) (numbers : ℕ → ℕ) (roles : ℕ → Role) (settings : ℕ → Setting) (counted_in : ℕ → Bool) (purses : ℕ → List Spare) (commands : ℕ → Option Command) (taken : ℕ → Option Taken) (jobs : ℕ → Option JobValue) (gates : ℕ → Option ℕ) (phases : ℕ → Option Phase) (pins : ℕ → ℕ) (reads : ℕ → Option ReadPart)
+    → Numbering s tags numbers roles settings counted_in purses commands taken jobs → ReadersTake taken reads → Pinning s gates pins reads
+    → (a c : ℕ) (p : ReadPart) → reads a ≡ Some p → p.reading.pin ≡ Some c → IsWhole gates phases pins c
+pinned-whole s tags numbers roles settings counted_in purses commands taken jobs gates phases pins reads numbering takes pinning a c p is pin =
+    let there : a < actor_count s = elim (cases_lt a (actor_count s)) [
+      | inl lt ↦ lt
+      | inr ge ↦
+          let nobody = numbering.nobody a ge in
+          let t = takes a p is in
+          let never : ◌≡◌ {A = Option Taken} None (Some t.0) = sym nobody.3 ∙ t.1 in cc
+    ] in
+    let one : pins_of c (reads a) ≡ 1 = ap (pins_of c) is ∙ ap (one_pin c) pin ∙ rw (eqb-self c) refl in
+    let some : pins_of c (reads a) ≤ sum_below (actor_count s) (λ b. pins_of c (reads b)) = sum-some (actor_count s) (λ b. pins_of c (reads b)) a there in
+    let count : pins c ≡ sum_below (actor_count s) (λ b. pins_of c (reads b)) = pinning.counts c in
+    (subst (λ (o : Option ℕ). IsSome o) (sym (pinning.shard a c p is pin)) refl, inr (omega arith))
 
 -- a part that is taken wasn't refused
 taken-kept : (st : PartState) → state_is_taken st ≡ true → state_is_refused st ≡ false

@@ -21,7 +21,7 @@ use Rattle.shard_store.specs.declared.queue.Queue.{Queue}
 use Rattle.tree_shape.specs.Shape.{Shape}
 use Rattle.volap_cell.specs.Errands.{RowWay}
 use Rattle.volap_cell.specs.Growing.{IsUnder, Resting}
-use Rattle.volap_cell.specs.Lineage.{Lineage}
+use Rattle.volap_cell.specs.Lineage.{Lineage, went_to}
 use Rattle.volap_cell.specs.Placing.{IsRouted, Placing, IsLead, IsRowPart, IsOnWay, Inserting}
 use Rattle.volap_cell.specs.Setting.{Setting}
 use Rattle.volap_cell.specs.declared.command.Command.{Command}
@@ -42,16 +42,17 @@ module _ (s : Setting) (e : Event) (h : List Event) (stay : ShardsStay s.workers
 
   -- Shards.
 
+  -- no move is noted
   pub lineage-grown : (stock : StockValue) (registry : RegistryValue) (maps : ℕ → ℕ → Option Where) (gates : ℕ → Option ℕ) (phases : ℕ → Option Phase) (gate : ℕ → ℕ)
-      → Lineage s h stock registry maps gates phases gate → Lineage s (e ∷ h) stock registry maps gates phases gate
-  lineage-grown stock registry maps gates phases gate i = record {
+      → ((x w : ℕ) → went_to (e ∷ h) x w ≡ went_to h x w) → Lineage s h stock registry maps gates phases gate → Lineage s (e ∷ h) stock registry maps gates phases gate
+  lineage-grown stock registry maps gates phases gate went i = record {
     ids = i.ids ∙ sym stay.ids;
     front = i.front ∙ sym stay.frontier;
     gate_of = λ x w on. i.gate_of x w (sym (on-stays s.workers e h stay x w) ∙ on);
     live = λ c x g p. let l = i.live c x g p in (live-stays s.workers e h stay x ∙ l.0, l.1);
     leads = λ w x c m. let l = i.leads w x c m in (on-stays s.workers e h stay x w ∙ l.0, l.1);
     split = λ w x l r plane m. let t = i.split w x l r plane m in (is_child-older e h x l t.0, is_child-older e h x r t.1, t.2, t.3, t.4);
-    moved = λ w x v m. let t = i.moved w x v m in (t.0, t.1, t.2, subst (λ (o : Option ℕ). IsSome o) (sym (stay.left_at x w)) t.3);
+    moved = λ w x v m. let t = i.moved w x v m in (t.0, t.1, t.2, subst (λ (o : Option ℕ). IsSome o) (sym (stay.left_at x w)) t.3, went x w ∙ t.4);
     later = λ w x v u p q m n lp lq. i.later w x v u p q m n (sym (stay.left_at x w) ∙ lp) (sym (stay.left_at x v) ∙ lq);
     made = λ c x g. subst (λ (n : ℕ). x < n) (sym stay.ids) (i.made c x g);
   }

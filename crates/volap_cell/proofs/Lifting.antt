@@ -1,11 +1,11 @@
 -- Cells that are moved out one after the other, some of them at times only: those that are still to come can be moved out when the
 -- first ones are, and all of them stood at their places before.
-use Rattle.std.proofs.Common.{◌≡◌, ◌≢◌, ℕ, Bool, true, false, List, [], ◌∷◌, ◌++◌, Option, Some, None, is_some, get_or, set, refl, sym, ap, ◌∙◌, subst}
+use Rattle.std.proofs.Common.{◌≡◌, ◌≢◌, ℕ, Bool, true, List, [], ◌∷◌, ◌++◌, Option, Some, None, is_some, length, ◌<◌, get_or, set, arith, refl, sym, ap, ◌∙◌, subst}
 use Rattle.std.specs.Prelude.{⊤, option_map}
 use Rattle.std.proofs.lemmas.List.{get_or-set_other}
 use Rattle.dim_hierarchy.specs.Dimension.{Dimension}
 use Rattle.tree_shape.specs.Counts.{Each}
-use Rattle.volap_cell.specs.Cells.{CellValue, cell_of}
+use Rattle.volap_cell.specs.Cells.{cell_of}
 use Rattle.volap_cell.specs.Setting.{Setting}
 use Rattle.volap_cell.specs.State.{Has, IsWorldOf, AreDifferent, CanLift, Stand, taken, given, cell_if, number_if, Exchange, exchange_if, numbers_of, cells_before, cells_now, changes_of, still, MayHold, Stepped}
 use Rattle.volap_cell.specs.Steps.{HasSight, Inv, Makes}
@@ -14,7 +14,7 @@ use Rattle.volap_cell.specs.World.{World, Change, change_if, held_if}
 use Rattle.volap_cell.specs.declared.actor.Actor.{Actor}
 use Rattle.volap_cell.specs.declared.cell.Cell.{Cell}
 use Rattle.volap_cell.specs.declared.kind.Kind.{Kind}
-use Rattle.volap_cell.proofs.States.{taken-off, drives}
+use Rattle.volap_cell.proofs.States.{within, length-given, length-taken, taken-off, drives}
 
 -- Some and then others.
 
@@ -59,10 +59,13 @@ stand-others {A} xs out ys (t ∷ things) e apart st = (
 
 -- A cell at times.
 
-pub if-numbers : (y : ℕ) (before now : Option Cell) → is_some now ≡ is_some before → numbers_of (exchange_if y before now) ≡ number_if y (is_some before)
-if-numbers y None now e = refl
-if-numbers y (Some c) None e = absurd (cc)
-if-numbers y (Some c) (Some d) e = refl
+pub if-numbers : (y : ℕ) (wanted : Bool) (before now : Option Cell) → is_some before ≡ wanted → is_some now ≡ is_some before → numbers_of (exchange_if y before now) ≡ number_if y wanted
+if-numbers y wanted before now is e = subst (λ (v : Bool). numbers_of (exchange_if y before now) ≡ number_if y v) is (of-it before now e)
+  where
+    of-it : (before now : Option Cell) → is_some now ≡ is_some before → numbers_of (exchange_if y before now) ≡ number_if y (is_some before)
+    of-it None now e = refl
+    of-it (Some c) None e = absurd (cc)
+    of-it (Some c) (Some d) e = refl
 
 pub if-before : (y : ℕ) (before now : Option Cell) → is_some now ≡ is_some before → cells_before (exchange_if y before now) ≡ cell_if y before
 if-before y None now e = refl
@@ -84,6 +87,40 @@ pub if-still : (y : ℕ) (cell : Option Cell) → still (cell_if y cell) ≡ hel
 if-still y None = refl
 if-still y (Some c) = refl
 
+-- what holds of its number holds where it was moved out
+pub if-each : (P : ℕ → Type 0) (y : ℕ) (wanted : Bool) (cell : Option Cell) → is_some cell ≡ wanted → Each P (number_if y wanted) → Each (λ t. P t.0) (cell_if y cell)
+if-each P y wanted None is e = tt
+if-each P y wanted (Some c) is e = (let all : Each P (number_if y true) = subst (λ (v : Bool). Each P (number_if y v)) (sym is) e in (all.0, tt))
+
+apart-of : (ys zs : List ℕ) → AreDifferent (ys ++ zs) → Each (λ z. Each (λ y. z ≢ y) ys) zs
+apart-of [] zs d = none zs
+  where
+    none : (zs : List ℕ) → Each (λ z. Each (λ y. z ≢ y) []) zs
+    none [] = tt
+    none (z ∷ zs) = (tt, none zs)
+apart-of (y ∷ ys) zs d = both zs (back (λ z. z ≢ y) ys zs d.0) (apart-of ys zs d.1)
+  where
+    both : (zs : List ℕ) → Each (λ z. z ≢ y) zs → Each (λ z. Each (λ y. z ≢ y) ys) zs → Each (λ z. Each (λ y. z ≢ y) (y ∷ ys)) zs
+    both [] p q = tt
+    both (z ∷ zs) p q = ((p.0, q.0), both zs p.1 q.1)
+
+-- it stood at its place before the others were out
+pub if-stand : (xs out : List (Option Cell)) (ys : List ℕ) (y : ℕ) (wanted : Bool) (cell : Option Cell) → out ≡ taken ys xs → AreDifferent (ys ++ number_if y wanted) → is_some cell ≡ wanted
+    → Stand out (cell_if y cell) → Stand xs (cell_if y cell)
+if-stand xs out ys y wanted cell e d is st = stand-others xs out ys (cell_if y cell) e (if-each (λ z. Each (λ y. z ≢ y) ys) y wanted cell is (apart-of ys (number_if y wanted) d)) st
+
+-- its place is there still
+pub if-within : (xs out : List (Option Cell)) (y : ℕ) (before now : Option Cell) → length out ≡ length xs → is_some now ≡ is_some before → Stand xs (cell_if y before) → Each (λ t. t.0 < length out) (cell_if y now)
+if-within xs out y before None long e st = tt
+if-within xs out y None (Some d) long e st = absurd (cc)
+if-within xs out y (Some c) (Some d) long e st = (let lt = within xs y c st.0 in (omega arith, tt))
+
+pub long-out : {A : Type 0} (xs out : List (Option A)) (ys : List ℕ) → out ≡ taken ys xs → length out ≡ length xs
+long-out {A} xs out ys e = ap (λ (vs : List (Option A)). length vs) e ∙ length-taken ys xs
+
+pub long-back : {A : Type 0} (out back : List (Option A)) (things : List (ℕ × A)) → back ≡ given things out → length back ≡ length out
+long-back {A} out back things e = ap (λ (vs : List (Option A)). length vs) e ∙ length-given things out
+
 -- A driver's step, of exchanges that are known by equations.
 pub drives-as : (h : List Dimension) (kind : Kind) (cells cells_out cells_back : List (Option Cell)) (actors actors_out actors_back : List (Option Actor)) (xs : List Exchange)
     (numbers : List ℕ) (befores nows : List (ℕ × Cell)) (changes : List Change) (n : ℕ) (a now : Actor)
@@ -94,8 +131,8 @@ pub drives-as : (h : List Dimension) (kind : Kind) (cells cells_out cells_back :
     → Stepped h kind n cells actors cells_back actors_back
 drives-as h kind cells cells_out cells_back actors actors_out actors_back xs numbers befores nows changes n a now is_numbers is_befores is_nows is_changes e f e2 f2 may =
     subst (λ (cs : List Change). (makes : Makes h kind cs (actor_of a) (actor_of now))
-      → ((s : Setting) (w : World) → s.hierarchy ≡ h → IsWorldOf cells actors w → Inv s w → HasSight s w n h kind cs (actor_of a) (actor_of now) makes.does)
-      → Stepped h kind n cells actors cells_back actors_back) is_changes
+    → ((s : Setting) (w : World) → s.hierarchy ≡ h → IsWorldOf cells actors w → Inv s w → HasSight s w n h kind cs (actor_of a) (actor_of now) makes.does)
+    → Stepped h kind n cells actors cells_back actors_back) is_changes
     (drives h kind cells cells_out cells_back actors actors_out actors_back xs n a now
     (e ∙ ap (λ (ys : List ℕ). taken ys cells) (sym is_numbers)) f
     (e2 ∙ ap (λ (ts : List (ℕ × Cell)). given ts cells_out) (sym is_nows)) f2

@@ -3,8 +3,9 @@
 -- Where shards are: `lineage-quiet`, `resting-quiet`, `under-quiet`. Trees and queues: `growing-grown`, `queueing-grown` in GrowsTrees. Where rows
 -- are: `placing-quiet`; how far inserts are: `inserting-quiet`; the row that begins: `new-row-out`, `nobody-at-new`. What is known:
 -- `imaging-quiet`, `covering-quiet`. Desks and queries: `desking-quiet`, `querying-quiet`. Jobs and balances: `working-quiet`, `balancing-quiet`.
--- Commands: `telling-grown` in GrowsTold. All parts but that one, and but what is owed, together: `told-quiet`.
-use Rattle.std.proofs.Common.{◌≡◌, ℕ, ◌<◌, ◌≤◌, ◌∙◌, List, ◌∷◌, Bool, true, false, length, subst, arith, ◌⊎◌, inl, inr, le_of_lt}
+-- Commands: `telling-grown` in GrowsTold. All parts but that one, and but what is owed, together: `told-quiet`,
+-- and of a state `told-here`.
+use Rattle.std.proofs.Common.{◌≡◌, ℕ, ◌<◌, ◌≤◌, ◌∙◌, List, ◌∷◌, Bool, true, false, length, refl, subst, arith, ◌⊎◌, inl, inr, le_of_lt}
 use Rattle.std.specs.Prelude.{Option, Some}
 use Rattle.dim_hierarchy.specs.declared.row.Row.{Row}
 use Rattle.cell_stock.specs.Stock.{StockValue}
@@ -12,7 +13,9 @@ use Rattle.cell_stock.specs.declared.purse.Spare.{Spare}
 use Rattle.dc_node.specs.declared.block.Block.{Block}
 use Rattle.mapping_table.specs.declared.place.Where.{Where}
 use Rattle.query_router.specs.Desk.{DeskValue}
+use Rattle.std.proofs.lemmas.Bool.{false≢true}
 use Rattle.row_ledger.specs.declared.event.Event.{Event}
+use Rattle.row_ledger.specs.declared.event.Event.TheVariants.{Moved}
 use Rattle.row_ledger.specs.Past.{Query, insert_in, query_at, query_in, is_work_of}
 use Rattle.row_ledger.specs.Changes.{is_quiet, AllStays, ShardsStay}
 use Rattle.row_ledger.proofs.Changes.{quiet}
@@ -30,15 +33,16 @@ use Rattle.volap_cell.specs.Ghost.{Ghost}
 use Rattle.volap_cell.specs.Growing.{IsUnder, Growing, Queueing, Resting}
 use Rattle.volap_cell.specs.Imaging.{Covering, Imaging}
 use Rattle.volap_cell.specs.Invariant.{InvWith}
-use Rattle.volap_cell.specs.Lineage.{Lineage}
+use Rattle.volap_cell.specs.Lineage.{Lineage, went_to}
 use Rattle.volap_cell.specs.Placing.{NobodyAt, Placing, Inserting}
 use Rattle.volap_cell.specs.Querying.{IsInTreeOf, Querying}
 use Rattle.volap_cell.specs.Setting.{Setting}
 use Rattle.volap_cell.specs.Stocking.{IsWhole}
 use Rattle.volap_cell.specs.Telling.{Telling}
 use Rattle.volap_cell.specs.Values.{JobValue}
-use Rattle.volap_cell.specs.View.{View, row_at}
+use Rattle.volap_cell.specs.View.{View, row_at, view}
 use Rattle.volap_cell.specs.Working.{Working, Balancing}
+use Rattle.volap_cell.specs.World.{World}
 use Rattle.volap_cell.specs.declared.command.Balance.{Balance}
 use Rattle.volap_cell.specs.declared.command.Command.{Command}
 use Rattle.volap_cell.specs.declared.command.Work.TheVariants as work_is
@@ -48,7 +52,7 @@ use Rattle.volap_cell.proofs.GrowsRows.{under-grown, resting-grown, lineage-grow
 use Rattle.volap_cell.proofs.GrowsTrees.{past-there, growing-grown, queueing-grown}
 use Rattle.volap_cell.proofs.GrowsKnown.{AreOlder, older-rows, imaging-grown, covering-grown}
 use Rattle.volap_cell.proofs.GrowsDesks.{IsReader, desking-grown, querying-grown}
-use Rattle.volap_cell.proofs.GrowsReads.{ReadersTake, reading-rows-older}
+use Rattle.volap_cell.proofs.GrowsReads.{ReadersTake, readers-take, pinned-whole, reading-rows-older}
 use Rattle.volap_cell.proofs.GrowsWork.{working-grown, balancing-grown}
 use Rattle.volap_cell.proofs.GrowsTold.{commands-older}
 
@@ -88,6 +92,11 @@ nobody-at-new s h i a w is same =
     let below : w.row.no < length h = insert-within h w.row.no known.0 known.1 in
     absurd (omega arith)
 
+-- no move is noted
+went-quiet : (e : Event) (h : List Event) → is_quiet e ≡ true → (x w : ℕ) → went_to (e ∷ h) x w ≡ went_to h x w
+went-quiet (Moved of shard to) h q x w = absurd (false≢true q)
+went-quiet _ h q x w = refl
+
 module _ (s : Setting) (e : Event) (h : List Event) (q : is_quiet e ≡ true) where
   pub all-stays : AllStays s.hierarchy s.workers e h
   all-stays = quiet s.hierarchy s.workers e h q
@@ -106,7 +115,7 @@ module _ (s : Setting) (e : Event) (h : List Event) (q : is_quiet e ≡ true) wh
 
   pub lineage-quiet : (stock : StockValue) (registry : RegistryValue) (maps : ℕ → ℕ → Option Where) (gates : ℕ → Option ℕ) (phases : ℕ → Option Phase) (gate : ℕ → ℕ)
       → Lineage s h stock registry maps gates phases gate → Lineage s (e ∷ h) stock registry maps gates phases gate
-  lineage-quiet stock registry maps gates phases gate i = lineage-grown s e h shards stock registry maps gates phases gate i
+  lineage-quiet stock registry maps gates phases gate i = lineage-grown s e h shards stock registry maps gates phases gate (went-quiet e h q) i
 
   pub placing-quiet : (commands : ℕ → Option Command) (ways : ℕ → Option RowWay) (queues : ℕ → Queue) (gate : ℕ → ℕ) (shape : ℕ → Shape) (placed : ℕ → Bool) (home : ℕ → ℕ) (path : ℕ → List ℕ)
       → Placing s h commands ways queues gate shape placed home path → Placing s (e ∷ h) commands ways queues gate shape placed home path
@@ -223,3 +232,14 @@ told-quiet s v g e q rows takes pinned none i =
       working = working-quiet s e h q v.blocks v.made v.trees v.phases v.active v.queues v.purses v.commands v.jobs g.gate g.shape g.placed began t.working;
       balancing = balancing-quiet s e h q v.commands v.jobs g.placed g.home began none t.balancing;
     }
+
+-- the same of a state
+pub told-here : (s : Setting) (w : World) (g : Ghost) (e : Event) → is_quiet e ≡ true
+    → ((a b : ℕ) (balance : Balance) → (view s w).commands a ≡ Some (record { of = b; work = work_is.Balance balance }) → is_work_of b e ≡ false)
+    → InvWith s (view s w) g → Told s (view s w) g (e ∷ (view s w).history)
+told-here s w g e q none i =
+    let v : View = view s w in
+    let takes : ReadersTake v.taken v.reads = readers-take s w in
+    told-quiet s v g e q refl takes
+    (pinned-whole s v.tags v.numbers v.roles v.settings v.counted_in v.purses v.commands v.taken v.jobs v.gates v.phases v.pins v.reads i.numbering takes i.pinning)
+    none i

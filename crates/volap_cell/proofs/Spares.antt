@@ -1,6 +1,6 @@
 -- The cells that the kinds fill are blank: new blocks take spares of the purse, and so do new gates; a built block has one that
 -- its job has spent.
-use Rattle.std.proofs.Common.{◌≡◌, ◌⊎◌, ℕ, List, [], ◌∷◌, ◌++◌, map, Option, Some, None, inl, inr, refl, sym, ap, ◌∙◌, subst}
+use Rattle.std.proofs.Common.{◌≡◌, ℕ, List, [], ◌∷◌, ◌++◌, Some, inl, inr, refl, sym, ap, ◌∙◌, subst}
 use Rattle.dim_hierarchy.specs.Dimension.{Dimension}
 use Rattle.dim_hierarchy.specs.declared.row.Row.{Row}
 use Rattle.dc_node.specs.declared.block.Block.{Block}
@@ -13,7 +13,6 @@ use Rattle.shard_store.specs.declared.gate.Gate.{Gate}
 use Rattle.tree_shape.specs.Counts.{Each, Among}
 use Rattle.tree_shape.proofs.Parts.{among-left, among-right, each-right}
 use Rattle.volap_cell.specs.AdminKinds.{DoesBuildBlock, DoesFinishSplit, DoesFinishMove, spent_by, spent_in}
-use Rattle.volap_cell.specs.Cells.{OfStock, tag_of}
 use Rattle.volap_cell.specs.Ghost.{Ghost}
 use Rattle.volap_cell.specs.Invariant.{InvWith}
 use Rattle.volap_cell.specs.Setting.{Setting}
@@ -60,7 +59,7 @@ enter-of h row gate gate_now root root_now purse purse_now entered d = elim d.st
   | inr more ↦ elim more [
     | inl halved ↦ (let (e, keeps, halves) = halved in subst (AreOf purse.spares) (sym halves.fresh) (taken-among purse purse_now halves.spare halves.purse_is, tt))
     | inr cut ↦ (let top : Among cut.top cut.between.spares = subst (Among cut.top) (sym cut.purse_is) (among-right purse_now.spares (cut.top ∷ []) cut.top (inl refl)) in
-    subst (AreOf purse.spares) (sym cut.fresh) (taken-among purse cut.between cut.spare cut.cuts.purse_is, (left-among purse cut.between cut.spare cut.top cut.cuts.purse_is top, tt)))
+        subst (AreOf purse.spares) (sym cut.fresh) (taken-among purse cut.between cut.spare cut.cuts.purse_is, (left-among purse cut.between cut.spare cut.top cut.cuts.purse_is top, tt)))
   ]
 ]
 

@@ -86,7 +86,7 @@ module _ (s : Setting) (h : List Event) (server : ℕ) (listing : List Spot) whe
 
   pub lineage-synced : (stock : StockValue) (registry : RegistryValue) (maps : ℕ → ℕ → Option Where) (gates : ℕ → Option ℕ) (phases : ℕ → Option Phase) (gate : ℕ → ℕ)
       → Lineage s h stock registry maps gates phases gate → Lineage s (Synced server listing ∷ h) stock registry maps gates phases gate
-  lineage-synced stock registry maps gates phases gate i = lineage-grown s (Synced server listing) h shards stock registry maps gates phases gate i
+  lineage-synced stock registry maps gates phases gate i = lineage-grown s (Synced server listing) h shards stock registry maps gates phases gate (λ x w. refl) i
 
   pub placing-synced : (commands : ℕ → Option Command) (ways : ℕ → Option RowWay) (queues : ℕ → Queue) (gate : ℕ → ℕ) (shape : ℕ → Shape) (placed : ℕ → Bool) (home : ℕ → ℕ) (path : ℕ → List ℕ)
       → Placing s h commands ways queues gate shape placed home path → Placing s (Synced server listing ∷ h) commands ways queues gate shape placed home path

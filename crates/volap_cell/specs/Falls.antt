@@ -18,6 +18,7 @@ use Rattle.shard_store.specs.declared.gate.Phase.TheVariants as phase
 use Rattle.tree_shape.specs.Shape.{Shape}
 use Rattle.tree_shape.specs.Walks.{Noted, pending}
 use Rattle.volap_cell.specs.Ghost.{Ghost}
+use Rattle.volap_cell.specs.Lineage.{went_to}
 use Rattle.volap_cell.specs.Setting.{Setting, actor_count, cell_count}
 use Rattle.volap_cell.specs.Sums.{sum_below}
 use Rattle.volap_cell.specs.Values.{ErrandValue, TaskValue, OfRow, Unread, Read, JobValue, StageValue, IsCalled, IsDeclined, IsFrozen, Collects, Builds}
@@ -66,11 +67,14 @@ abbrev pub count_events : (Event → ℕ → Bool) → List Event → ℕ
 count_events test [] = 0
 count_events test (e ∷ past) = (if test e (length past) then 1 else 0) + count_events test past
 
--- At most so many times a part of the shard at the worker goes on, itself and all parts that it becomes. From a worker that never
--- gave the shard away it doesn't go on to another one.
+-- from when on moves of the shard are ahead of a part that is at the worker: none where the shard was last brought there
+abbrev pub departure : ℕ → List Event → ℕ → ℕ → Option ℕ
+departure workers h x w = if went_to h x w then None else left_at workers h x w
+
+-- at most so many times a part of the shard at the worker goes on, itself and all parts that it becomes
 abbrev pub far : ℕ → List Event → ℕ → ℕ → ℕ
 far workers h x w =
-    1 + 2 * count_events (λ e p. splits_under h x e) h + count_events (moves_ahead h x (left_at workers h x w)) h
+    1 + 2 * count_events (λ e p. splits_under h x e) h + count_events (moves_ahead h x (departure workers h x w)) h
 
 abbrev pub is_split_or_move : Event → Bool
 is_split_or_move (event.Split of shard left right) = true
@@ -170,15 +174,19 @@ abbrev pub gates_of_errand : Setting → List Event → Option ErrandValue → �
 gates_of_errand s h None = 0
 gates_of_errand s h (Some e) = gates_of_task (far s.workers h e.shard e.worker) e.task
 
--- a part for a row on a desk; what is said of a refused part of a query doesn't matter, as it is never more
-abbrev pub gates_of_state : ℕ → PartState → ℕ
-gates_of_state ahead (state.Waiting (want.Row row)) = per_gate * ahead
-gates_of_state ahead (state.Waiting (want.Filter f)) = 0
-gates_of_state ahead state.NoMemory = 1
-gates_of_state ahead _ = 0
+abbrev pub one_if_any : {A : Type 0} → List A → ℕ
+one_if_any [] = 0
+one_if_any (x ∷ xs) = 1
+
+-- a part for a row on a desk; where no memory was found for it, it still has its path, which a query's part doesn't have
+abbrev pub gates_of_state : ℕ → List ℕ → PartState → ℕ
+gates_of_state ahead path (state.Waiting (want.Row row)) = per_gate * ahead
+gates_of_state ahead path (state.Waiting (want.Filter f)) = 0
+gates_of_state ahead path state.NoMemory = one_if_any path
+gates_of_state ahead path _ = 0
 
 abbrev pub gates_of_part : Setting → List Event → Part → ℕ
-gates_of_part s h p = gates_of_state (far s.workers h p.shard p.worker) p.state
+gates_of_part s h p = gates_of_state (far s.workers h p.shard p.worker) p.path p.state
 
 -- Inserts past their gates.
 
@@ -199,10 +207,6 @@ rows_of_errand shape errand = option_map_or (λ (e : ErrandValue). rows_of_task 
 abbrev pub rows_of_part : PartState → ℕ
 rows_of_part (state.Placed path) = 1
 rows_of_part _ = 0
-
-abbrev pub one_if_any : {A : Type 0} → List A → ℕ
-one_if_any [] = 0
-one_if_any (x ∷ xs) = 1
 
 -- Queries.
 

@@ -186,6 +186,12 @@ IsOutcome (OfRow r) s =
 IsOutcome (Unread f) s = s ≡ state.NoMemory
 IsOutcome (Read r) s = ((r.items ≡ []) × (s ≡ state.Done r.agg)) ⊎ ((r.items ≢ []) × (s ≡ state.NoMemory))
 
+-- the path of a row's part; a query's part has none
+abbrev pub path_in : TaskValue → List ℕ
+path_in (OfRow r) = r.path
+path_in (Unread f) = []
+path_in (Read r) = []
+
 -- the gate at which a part is pinned
 abbrev pub pin_of : TaskValue → Option ℕ
 pin_of (OfRow r) = None
@@ -205,5 +211,5 @@ pub record DoesFinishPart (pinned : List Change) (d : Change) (a b : ActorValue)
   pub outcome : PartState
   pub is_outcome : IsOutcome e.task outcome
   pub unpins : Unpins (pin_of e.task) pinned
-  pub puts : PutsOne e (record { shard = e.shard; worker = e.worker; path = []; state = outcome }) d
+  pub puts : PutsOne e (record { shard = e.shard; worker = e.worker; path = path_in e.task; state = outcome }) d
   pub actor_is : b ≡ record a { errand = None }

@@ -1,3 +1,8 @@
+ghost use Rattle.std.specs.Prelude.{◌≡◌, Some};
+ghost use Rattle.volap_cell.specs.declared.errand.Errand.{Errand};
+ghost use Rattle.volap_cell.specs.declared.errand.RowErrand.{RowErrand};
+ghost use Rattle.volap_cell.specs.declared.errand.Task.TheVariants.{Row as OfARow};
+
 use dc_node::Todo;
 use describing_set::Path;
 use dim_hierarchy::{CompiledFilter, Filter, Row};
@@ -53,4 +58,25 @@ pub struct Reading {
     pub todo: Todo,
     /// The gate at which it noted the root. It is counted there until the part ends.
     pub pin: Option<u32>,
+}
+
+impl Errand {
+    /// Its row, where it has one, has come so far.
+    fn bring(&mut self, way: Way)
+        ensures { (r : RowErrand) → self.old.task ≡ OfARow r → self.new ≡ record self.old { task = OfARow (record r { way = way }) } }
+    {
+        if let Task::Row(going) = &mut self.task {
+            going.way = way;
+        }
+    }
+}
+
+/// The row of an actor's errand, where it has one, has come so far.
+pub fn go_on(errand: &mut Option<Errand>, way: Way)
+    ensures { (e : Errand) → (r : RowErrand) → errand.old ≡ Some e → e.task ≡ OfARow r
+        → errand.new ≡ Some (record e { task = OfARow (record r { way = way }) }) }
+{
+    if let Some(going) = errand {
+        going.bring(way);
+    }
 }

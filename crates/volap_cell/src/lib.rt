@@ -18,7 +18,7 @@ pub use actor::{About, Actor};
 pub use boxes::Boxes;
 pub use cell::Cell;
 pub use command::{Balance, Command, Work};
-pub use errand::{Errand, Reading, RowErrand, Task, Way};
+pub use errand::{Errand, Reading, RowErrand, Task, Way, go_on};
 pub use job::{Building, BuiltTree, Collecting, Frozen, Job, Stage, Unbuilt};
 pub use kind::Kind;
 pub use laws::{
