@@ -6,3 +6,4 @@ pub mod Less
 pub mod TreeSteps
 pub mod NewBlocks
 pub mod PutsInLeaf
+pub mod Descents
