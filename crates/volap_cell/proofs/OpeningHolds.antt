@@ -44,6 +44,7 @@ module _ (s : Setting) (w : World) (set : IsSetting s) (o : IsOpening s w) where
     role = λ a low. (o.actors a).role low;
     about = λ a. (o.actors a).about;
     nobody = λ a high. ((o.actors a).counted, purse-none s w set o a, command-none s w set o a, taken-none s w set o a, job-none s w set o a);
+    beyond = λ a high. (o.actors a).beyond high;
     working = λ a j is. no-job s w set o a j is;
     parts = λ a t is. (let none = taken-none s w set o a in absurd (let never : ⊥ = cc in never));
   }

@@ -10,7 +10,7 @@ use Rattle.volap_cell.specs.Values.{ActorValue, ErrandValue, JobValue}
 use Rattle.volap_cell.specs.View.{View, view}
 use Rattle.volap_cell.specs.World.{World, Change, after}
 use Rattle.volap_cell.specs.declared.command.Command.{Command}
-use Rattle.volap_cell.specs.declared.role.Role.TheVariants.{Admin}
+use Rattle.volap_cell.specs.declared.role.Role.TheVariants.{Admin, Hand}
 use Rattle.volap_cell.proofs.Frames.{AreAt, Same, kept-one, unmoved-one, actor-off}
 
 -- who is who in a view
@@ -35,6 +35,9 @@ has-job s v numbered a j is = there-unless s a (λ le. let (counted, purse, comm
 pub is-counted : (s : Setting) (v : View) → IsNumbered s v → (a : ℕ) → v.counted_in a ≡ true → a < actor_count s
 is-counted s v numbered a is = there-unless s a (λ le. let (none, purse, command, taken, jobs) = numbered.nobody a le in let no : true ≡ false = sym is ∙ none in cc)
 
+pub has-role : (s : Setting) (v : View) → IsNumbered s v → (a : ℕ) → v.roles a ≢ Hand s.workers → a < actor_count s
+has-role s v numbered a other = there-unless s a (λ le. other (numbered.beyond a le))
+
 -- Its step.
 
 -- what never changes of an actor
@@ -57,6 +60,7 @@ still-numbered s w cs n now at tags there same numbered =
       about = (λ a. unmoved-one (λ (x : ActorValue). x.setting) w.actors n now same.setting a ∙ numbered.about a);
       nobody = (λ a le. let ne : a ≢ n = (λ e. absurd (omega arith)) in
         subst (λ (x : ActorValue). (x.counted ≡ false) × (x.purse ≡ []) × (x.command ≡ None) × (taken_of x.errand ≡ None) × (x.job ≡ None)) (sym (others a ne)) (numbered.nobody a le));
+      beyond = (λ a le. let ne : a ≢ n = (λ e. absurd (omega arith)) in ap (λ (x : ActorValue). x.role) (others a ne) ∙ numbered.beyond a le);
       working = (λ a j is. on_bool (eqb a n)
         (λ q. let it = ap (λ (b : Bool). cond b now (w.actors a)) q in ap (λ (x : ActorValue). x.role) it ∙ same.working j (sym (ap (λ (x : ActorValue). x.job) it) ∙ is))
         (λ q. let it = ap (λ (b : Bool). cond b now (w.actors a)) q in ap (λ (x : ActorValue). x.role) it ∙ numbered.working a j (sym (ap (λ (x : ActorValue). x.job) it) ∙ is)));

@@ -38,7 +38,8 @@ tag_at s y =
     else if nat_lt y (first_stock_cell s) then MapOf (y - (3 + s.servers + s.servers)) else OfStock
 
 -- Each cell holds what is its place's, each actor knows its number, its role and what it is about, and past the last one there
--- is nobody. The administrator alone has jobs, and is at no part.
+-- is nobody, which is seen of the role too: it is that of a worker that isn't there. The administrator alone has jobs, and is at no
+-- part.
 pub record Numbering (s : Setting) (tags : ℕ → Tag) (numbers : ℕ → ℕ) (roles : ℕ → Role) (settings : ℕ → Setting) (counted_in : ℕ → Bool) (purses : ℕ → List Spare) (commands : ℕ → Option Command) (taken : ℕ → Option Taken) (jobs : ℕ → Option JobValue) : Type 0 where
   pub setting : IsSetting s
   pub tag : (y : ℕ) → tags y ≡ tag_at s y
@@ -46,5 +47,6 @@ pub record Numbering (s : Setting) (tags : ℕ → Tag) (numbers : ℕ → ℕ) 
   pub role : (a : ℕ) → a < actor_count s → slice_get s.roles a ≡ Some (roles a)
   pub about : (a : ℕ) → settings a ≡ s
   pub nobody : (a : ℕ) → actor_count s ≤ a → (counted_in a ≡ false) × (purses a ≡ []) × (commands a ≡ None) × (taken a ≡ None) × (jobs a ≡ None)
+  pub beyond : (a : ℕ) → actor_count s ≤ a → roles a ≡ Hand s.workers
   pub working : (a : ℕ) (j : JobValue) → jobs a ≡ Some j → roles a ≡ Admin
   pub parts : (a : ℕ) (t : Taken) → taken a ≡ Some t → roles a ≢ Admin

@@ -20,6 +20,7 @@ use Rattle.volap_cell.specs.Cells.{FreeCell, LedgerCell, StockCell, RegistryCell
 use Rattle.volap_cell.specs.Setting.{Setting, site_in, actor_count, cell_count, first_stock_cell, ledger_cell, stock_cell, registry_cell, image_cell, desk_cell, map_cell}
 use Rattle.volap_cell.specs.Values.{ActorValue}
 use Rattle.volap_cell.specs.World.{World}
+use Rattle.volap_cell.specs.declared.role.Role.TheVariants.{Hand}
 
 -- the first shard of a worker: a gate over an empty leaf, in two cells of the stock
 pub record IsFirstShard (s : Setting) (w : World) (stock : StockValue) (worker gate_cell root_cell : ℕ) : Type 0 where
@@ -37,6 +38,7 @@ pub record IsFirstShard (s : Setting) (w : World) (stock : StockValue) (worker g
 pub record IsFresh (s : Setting) (a : ℕ) (x : ActorValue) : Type 0 where
   pub number : x.number ≡ a
   pub role : a < actor_count s → slice_get s.roles a ≡ Some x.role
+  pub beyond : actor_count s ≤ a → x.role ≡ Hand s.workers
   pub about : x.setting ≡ s
   pub seen : x.seen ≡ 0
   pub counted : x.counted ≡ false
