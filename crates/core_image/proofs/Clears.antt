@@ -54,6 +54,7 @@ module _ (n : ℕ) (its : Command) (commands commands_now : ℕ → Option Comma
     number = i.number;
     role = i.role;
     about = i.about;
+    beyond = i.beyond;
     nobody = λ a le. let (counted, purse, none, takes, job) = i.nobody a le in
         (counted, purse, on_bool (eqb a n) (λ q. ap commands_now (eqb-eq a n q) ∙ end.is_there) (λ q. end.elsewhere a (eqb-ne a n q) ∙ none), takes, job);
     working = i.working;
