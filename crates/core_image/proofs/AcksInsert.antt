@@ -306,7 +306,7 @@ module _ (d im l : Change) (b : ActorValue) (s : Setting) (w : World) (n : ℕ) 
       let is = eqb-eq x server q in
       let far_ = far s.workers h does.part.shard does.part.worker in
       ap (λ (y : DeskValue). sum_by (gates_of_part s (e ∷ h)) y.parts) (ap v2.desks is ∙ desk-turned.is_there)
-      ∙ sym (ap (λ (y : DeskValue). sum_by (gates_of_part s h) y.parts) (ap v.desks is ∙ desk-turned.was_there) ∙ ap (sum_by (gates_of_part s h)) does.parts ∙ ap (λ (st : PartState). 0 + gates_of_state far_ st) does.placed))
+      ∙ sym (ap (λ (y : DeskValue). sum_by (gates_of_part s h) y.parts) (ap v.desks is ∙ desk-turned.was_there) ∙ ap (sum_by (gates_of_part s h)) does.parts ∙ ap (λ (st : PartState). 0 + gates_of_state far_ does.part.path st) does.placed))
       (λ q. ap (λ (y : DeskValue). sum_by (gates_of_part s (e ∷ h)) y.parts) (desk-turned.elsewhere x (eqb-ne x server q)) ∙ parts-stay s e h stay refl (v.desks x).parts)
 
   gates-same : (left s w2 g).gates ≡ (left s w g).gates

@@ -4,11 +4,11 @@ use mathlib.Core.Path.{fun_ext}
 use Rattle.std.specs.Prelude.{if◌then◌else◌, sum_by}
 use Rattle.query_router.specs.declared.part.Part.{Part}
 use Rattle.row_ledger.specs.Changes.{ShardsStay}
-use Rattle.row_ledger.specs.Shards.{left_at}
 use Rattle.row_ledger.specs.declared.event.Event.{Event}
 use Rattle.row_ledger.specs.declared.event.Event.TheVariants.{Split, Moved}
-use Rattle.volap_cell.specs.Falls.{count_events, far, farthest, gates_of_errand, gates_of_part, gates_of_state, gates_of_task, gates_of_work, is_from, is_split_or_move, job_left, moves_ahead, of_work, per_gate, plenty, splits_under, stage_left, frozen_upto}
+use Rattle.volap_cell.specs.Falls.{count_events, departure, far, farthest, gates_of_errand, gates_of_part, gates_of_state, gates_of_task, gates_of_work, is_from, is_split_or_move, job_left, moves_ahead, of_work, per_gate, plenty, splits_under, stage_left, frozen_upto}
 use Rattle.shard_store.specs.declared.gate.Phase.{Phase}
+use Rattle.volap_cell.specs.Lineage.{went_to}
 use Rattle.volap_cell.specs.Setting.{Setting, cell_count}
 use Rattle.volap_cell.specs.Values.{ErrandValue, JobValue, StageValue, IsCalled, IsDeclined, IsFrozen, Collects, Builds}
 use Rattle.volap_cell.specs.View.{View}
@@ -36,6 +36,10 @@ no-move : (h : List Event) (x : ℕ) (at : Option ℕ) (e : Event) (p : ℕ) →
 no-move h x at (Moved of shard worker) p is = absurd (cc)
 no-move h x at _ p is = refl
 
+went-stays : (e : Event) (h : List Event) → is_split_or_move e ≡ false → (x w : ℕ) → went_to (e ∷ h) x w ≡ went_to h x w
+went-stays (Moved of shard worker) h is x w = absurd (cc)
+went-stays _ h is x w = refl
+
 module _ (workers : ℕ) (e : Event) (h : List Event) (stay : ShardsStay workers e h) (other : is_split_or_move e ≡ false) where
   splits-stay : (x : ℕ) (f : Event) → splits_under (e ∷ h) x f ≡ splits_under h x f
   splits-stay x (Split of shard left right) = comes-stays workers e h stay x shard
@@ -47,12 +51,13 @@ module _ (workers : ℕ) (e : Event) (h : List Event) (stay : ShardsStay workers
 
   pub far-stays : (x w : ℕ) → far workers (e ∷ h) x w ≡ far workers h x w
   far-stays x w =
-      let left : left_at workers (e ∷ h) x w ≡ left_at workers h x w = stay.left_at x w in
+      let went = went-stays e h other x w in
+      let left : departure workers (e ∷ h) x w ≡ departure workers h x w = (λ k. if went k then None else stay.left_at x w k) in
       let no_split : once (splits_under (e ∷ h) x e) ≡ 0 = ap once (no-split (e ∷ h) x e other) in
       let splits : count_events (λ f p. splits_under (e ∷ h) x f) h ≡ count_events (λ f p. splits_under h x f) h = count-same (λ f p. splits_under (e ∷ h) x f) (λ f p. splits_under h x f) (λ f p. splits-stay x f) h in
-      let at = left_at workers (e ∷ h) x w in
+      let at = departure workers (e ∷ h) x w in
       let no_move : once (moves_ahead (e ∷ h) x at e (length h)) ≡ 0 = ap once (no-move (e ∷ h) x at e (length h) other) in
-      let moves : count_events (moves_ahead (e ∷ h) x at) h ≡ count_events (moves_ahead h x (left_at workers h x w)) h =
+      let moves : count_events (moves_ahead (e ∷ h) x at) h ≡ count_events (moves_ahead h x (departure workers h x w)) h =
       count-same (moves_ahead (e ∷ h) x at) (moves_ahead h x at) (moves-stay x at) h ∙ ap (λ (o : Option ℕ). count_events (moves_ahead h x o) h) left in
       omega (arith, no_split, splits, no_move, moves)
 
@@ -75,7 +80,7 @@ module _ (s : Setting) (e : Event) (h : List Event) (stay : ShardsStay s.workers
   errand-stays (Some errand) = ap (λ (n : ℕ). gates_of_task n errand.task) (far-stays s.workers e h stay other errand.shard errand.worker)
 
   pub part-stays : (p : Part) → gates_of_part s (e ∷ h) p ≡ gates_of_part s h p
-  part-stays p = ap (λ (n : ℕ). gates_of_state n p.state) (far-stays s.workers e h stay other p.shard p.worker)
+  part-stays p = ap (λ (n : ℕ). gates_of_state n p.path p.state) (far-stays s.workers e h stay other p.shard p.worker)
 
   pub parts-stay : (ps : List Part) → sum_by (gates_of_part s (e ∷ h)) ps ≡ sum_by (gates_of_part s h) ps
   parts-stay ps = ap (λ (f : Part → ℕ). sum_by f ps) (fun_ext part-stays)

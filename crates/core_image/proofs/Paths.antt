@@ -63,16 +63,15 @@ child-comes site usable (Split of shard left right ∷ past) x y each is =
                 let q : right ≡ y = eqb-true right y is_right in
                 (or_right (y == x) (comes_from past x (parent_in (Split of shard left right) y)) (at q (y == left) (eqb-true shard x parts.0)), omega arith)
           ]
-      | inr old ↦ older-child (Split of shard left right) each.0 (child-comes site usable past x y each.1 old) (let lt = (child-comes site usable past x y each.1 old).1 in omega arith)
+      | inr old ↦
+          let below = child-comes site usable past x y each.1 old in
+          let lt = below.1 in
+          (comes_from-older site usable past (Split of shard left right) x y each.0 lt ∙ below.0, omega (arith, lt))
     ]
   where
     at : right ≡ y → (v : Bool) → shard ≡ x → comes_from past x (if v || (y == right) then shard else y) ≡ true
     at q true s = subst (λ t. comes_from past x t ≡ true) (sym s) (comes_from-self past x)
     at q false s = rw (eq-eqb y right (sym q), s) (comes_from-self past x)
-
-    older-child : (e : Event) → Stands site usable past e → (comes_from past x y ≡ true) × (y < ids_made site.workers past) → y < ids_made site.workers (e ∷ past)
-        → (comes_from (e ∷ past) x y ≡ true) × (y < ids_made site.workers (e ∷ past))
-    older-child e stands old lt = (comes_from-older site usable past e x y stands old.1 ∙ old.0, lt)
 child-comes site usable (e ∷ past) x y each is = (let old = child-comes site usable past x y each.1 is in (comes_from-older site usable past e x y each.0 old.1 ∙ old.0, old.1))
 
 -- from each shard of a path the last one comes
