@@ -9,6 +9,7 @@ mod errand;
 mod job;
 mod kind;
 mod laws;
+mod opening;
 mod role;
 mod state;
 #[cfg(test)]

@@ -1,0 +1,106 @@
+ghost use Rattle.std.specs.Prelude.{◌≡◌, ◌+◌, ◌<◌, ◌≤◌, ◌^◌, ◌∷◌, ◌++◌, [], Some, length, IfOk, OnOk};
+ghost use Rattle.server_image.specs.Registry.{IsNewRegistry};
+ghost use Rattle.volap_cell.specs.Filling.{Adds, HasPulled, IsActor, IsDesk, IsFreeCell, IsGate, IsImage, IsMap, IsOpened, IsRoot, setting_for};
+ghost use Rattle.volap_cell.specs.Numbering.{IsSetting};
+
+use crate::actor::{About, Actor};
+use crate::boxes::Boxes;
+use crate::cell::Cell;
+use crate::role::{Role, RoleList};
+use crate::state::State;
+use cell_stock::{Purse, Stock};
+use dc_node::Block;
+use describing_set::DescSet;
+use dim_hierarchy::Hierarchy;
+use mapping_table::{MapTable, Where};
+use measure_agg::Agg;
+use query_router::Desk;
+use row_ledger::{Event, Ledger, Use};
+use server_image::{Image, Registry};
+use shard_store::Gate;
+use std::alloc::{AllocError, Global};
+use std::snapshot::Snapshot;
+
+/// Adds a cell behind the others.
+fn add(cells: &mut Vec<Option<Cell>>, cell: Cell) -> Result<(), AllocError>
+    ensures ok { OnOk result (cells.new.items ≡ cells.old.items ++ Some cell ∷ []) }
+{
+    cells.push(Some(cell))?;
+    Ok(())
+}
+
+/// The history in which each server has pulled the first shards.
+fn first_pulls(alloc: Global, servers: u8, registry: &Registry) -> Result<Ledger, AllocError>
+    ensures { IfOk result (HasPulled registry.now.frontier servers) }
+{
+    let mut ledger = Ledger::new(alloc);
+    ledger.reserve(u64::from(servers))?;
+    for server in 0..servers {
+        let listing = registry.frontier(alloc)?;
+        ledger.push(Event::Synced { server, listing });
+    }
+    Ok(ledger)
+}
+
+/// The image of a server that has pulled the first shards.
+fn image(alloc: Global, server: u8, registry: &Registry) -> Result<Cell, AllocError>
+    ensures { IfOk result (IsImage registry.now.frontier server) }
+{
+    let listing = registry.frontier(alloc)?;
+    Ok(Cell::Image {
+        server,
+        image: Box::new(alloc, Image::new(alloc, listing))?,
+    })
+}
+
+/// The desk of a server.
+fn desk(alloc: Global, server: u8) -> Result<Cell, AllocError>
+    ensures { IfOk result (IsDesk server) }
+{
+    Ok(Cell::Desk {
+        server,
+        desk: Box::new(alloc, Desk::new(alloc))?,
+    })
+}
+
+/// The table of a worker, which leads to its gate.
+fn map(alloc: Global, worker: u8, first_gate: u32) -> Result<Cell, AllocError>
+    requires few { first_gate + worker < 2 ^ 32 }
+    ensures { IfOk result (IsMap first_gate worker) }
+{
+    let mut map = MapTable::new(alloc);
+    let worker_id = u32::from(worker);
+    map.set(worker_id, Where::Gate(first_gate + worker_id))?;
+    Ok(Cell::Map {
+        worker,
+        map: Box::new(alloc, map)?,
+    })
+}
+
+/// The gate of a worker's first shard.
+fn gate(alloc: Global, h: &Hierarchy, worker: u8, first_root: u32) -> Result<Cell, AllocError>
+    requires few { first_root + worker < 2 ^ 32 }
+    ensures { IfOk result (IsGate h.now first_root worker) }
+{
+    let worker_id = u32::from(worker);
+    let root = first_root + worker_id;
+    let empty = DescSet::empty(h);
+    let gate = Gate::new(
+        alloc,
+        h,
+        worker_id,
+        root,
+        u64::from(worker),
+        1,
+        Agg::EMPTY,
+        empty,
+    );
+    Ok(Cell::Gate(Box::new(alloc, gate)?))
+}
+
+/// The root of a worker's first shard.
+fn root(alloc: Global, worker: u8) -> Result<Cell, AllocError>
+    ensures { IfOk result (IsRoot worker) }
+{
+    Ok(Cell::Block(Box::new(alloc, Block::leaf(u64::from(worker)))?))
+}
