@@ -104,3 +104,132 @@ fn root(alloc: Global, worker: u8) -> Result<Cell, AllocError>
 {
     Ok(Cell::Block(Box::new(alloc, Block::leaf(u64::from(worker)))?))
 }
+
+/// Adds free cells.
+fn add_free(cells: &mut Vec<Option<Cell>>, count: u32) -> Result<(), AllocError>
+    ensures ok { OnOk result (Adds count IsFreeCell cells.old.items cells.new.items) }
+{
+    for _number in 0..count {
+        add(cells, Cell::Free)?;
+    }
+    Ok(())
+}
+
+/// Adds the images of all servers.
+fn add_images(
+    cells: &mut Vec<Option<Cell>>,
+    alloc: Global,
+    servers: u8,
+    registry: &Registry,
+) -> Result<(), AllocError>
+    ensures ok { OnOk result (Adds servers (IsImage registry.now.frontier) cells.old.items cells.new.items) }
+{
+    for server in 0..servers {
+        add(cells, image(alloc, server, registry)?)?;
+    }
+    Ok(())
+}
+
+/// Adds the desks of all servers.
+fn add_desks(
+    cells: &mut Vec<Option<Cell>>,
+    alloc: Global,
+    servers: u8,
+) -> Result<(), AllocError>
+    ensures ok { OnOk result (Adds servers IsDesk cells.old.items cells.new.items) }
+{
+    for server in 0..servers {
+        add(cells, desk(alloc, server)?)?;
+    }
+    Ok(())
+}
+
+/// Adds the tables of all workers.
+fn add_maps(
+    cells: &mut Vec<Option<Cell>>,
+    alloc: Global,
+    workers: u8,
+    first_gate: u32,
+) -> Result<(), AllocError>
+    requires few { first_gate + workers < 2 ^ 32 }
+    ensures ok { OnOk result (Adds workers (IsMap first_gate) cells.old.items cells.new.items) }
+{
+    for worker in 0..workers {
+        add(cells, map(alloc, worker, first_gate)?)?;
+    }
+    Ok(())
+}
+
+/// Adds the gates of all first shards.
+fn add_gates(
+    cells: &mut Vec<Option<Cell>>,
+    alloc: Global,
+    h: &Hierarchy,
+    workers: u8,
+    first_root: u32,
+) -> Result<(), AllocError>
+    requires few { first_root + workers < 2 ^ 32 }
+    ensures ok { OnOk result (Adds workers (IsGate h.now first_root) cells.old.items cells.new.items) }
+{
+    for worker in 0..workers {
+        add(cells, gate(alloc, h, worker, first_root)?)?;
+    }
+    Ok(())
+}
+
+/// Adds the roots of all first shards.
+fn add_roots(
+    cells: &mut Vec<Option<Cell>>,
+    alloc: Global,
+    workers: u8,
+) -> Result<(), AllocError>
+    ensures ok { OnOk result (Adds workers IsRoot cells.old.items cells.new.items) }
+{
+    for worker in 0..workers {
+        add(cells, root(alloc, worker)?)?;
+    }
+    Ok(())
+}
+
+/// An actor that has done nothing.
+fn actor(alloc: Global, h: &Hierarchy, with: &Use, roles: &RoleList, number: u16) -> Actor
+    requires within { number < length roles.now }
+    ensures { IsActor (setting_for h.now with.now roles.now) number result }
+{
+    Actor {
+        number,
+        role: roles.as_slice()[usize::from(number)],
+        about: About {
+            hierarchy: Snapshot::of(h),
+            with: Snapshot::of(with),
+            roles: Snapshot::of(roles),
+        },
+        seen: 0,
+        counted: false,
+        purse: Purse::new(alloc),
+        boxes: Boxes::new(alloc),
+        command: None,
+        errand: None,
+        job: None,
+    }
+}
+
+/// Adds an actor for each role, if they have numbers.
+fn add_actors(
+    actors: &mut Vec<Option<Actor>>,
+    alloc: Global,
+    h: &Hierarchy,
+    with: &Use,
+    roles: &RoleList,
+) -> Result<(), AllocError>
+    ensures ok { OnOk result (Adds (length roles.now) (IsActor (setting_for h.now with.now roles.now)) actors.old.items actors.new.items) }
+{
+    let count = roles.len();
+    if count > usize::from(u16::MAX) {
+        return Err(AllocError);
+    }
+    for number in 0..count as u16 {
+        actors.push(Some(actor(alloc, h, with, roles, number)))?;
+    }
+    Ok(())
+}
