@@ -1,7 +1,9 @@
 -- How the cells and actors of an opening are made, one behind another.
-use Rattle.std.specs.Prelude.{ℕ, zero, suc, ◌≡◌, ◌+◌, ◌<◌, List, [], ◌∷◌, length, get_or, Option, Some, None}
+use Rattle.std.specs.Prelude.{ℕ, zero, suc, ◌≡◌, ◌+◌, ◌-◌, ◌*◌, ◌<◌, false, List, [], ◌∷◌, length, get_or, Option, Some, None}
 use Rattle.std.specs.FinMap as map
+use Rattle.std.specs.List.{range_with_len}
 use Rattle.std.specs.Ordering.{nat_cmp}
+use Rattle.cell_stock.specs.Stock.{StockValue, IsStock}
 use Rattle.describing_set.specs.DescSet.{IsSetOf}
 use Rattle.describing_set.specs.declared.listing.Spot.{Spot}
 use Rattle.describing_set.specs.declared.set.DescSet.{DescSet}
@@ -26,6 +28,7 @@ use Rattle.volap_cell.specs.World.{World}
 use Rattle.volap_cell.specs.declared.actor.Actor.{Actor}
 use Rattle.volap_cell.specs.declared.cell.Cell.{Cell}
 use Rattle.volap_cell.specs.declared.role.Role.{Role}
+use Rattle.volap_cell.specs.declared.role.Role.TheVariants.{Puller}
 
 -- what a core with these dimensions, settings and roles is about
 abbrev pub setting_for : List Dimension → Use → List Role → Setting
@@ -72,9 +75,52 @@ pulls_of listing (suc n) = event.Synced n listing ∷ pulls_of listing n
 abbrev pub HasPulled : List Spot → ℕ → LedgerValue → Type 0
 HasPulled listing servers l = (l.history ≡ pulls_of listing servers) × (l.promised ≡ 0)
 
+-- The cells behind one another: three that are filled later, images, desks, tables, free ones, gates and roots.
+pub record Stands (h : List Dimension) (servers workers cells first_gate first_root : ℕ) (spots : List Spot) (now : List (Option Cell)) : Type 0 where
+  pub start : List (Option Cell)
+  pub fixed : List (Option Cell)
+  pub images : List (Option Cell)
+  pub desks : List (Option Cell)
+  pub maps : List (Option Cell)
+  pub free : List (Option Cell)
+  pub gates : List (Option Cell)
+  pub start_is : start ≡ []
+  pub fixed_are : Adds 3 IsFreeCell start fixed
+  pub images_are : Adds servers (IsImage spots) fixed images
+  pub desks_are : Adds servers IsDesk images desks
+  pub maps_are : Adds workers (IsMap first_gate) desks maps
+  pub free_are : Adds (cells - 2 * workers) IsFreeCell maps free
+  pub gates_are : Adds workers (IsGate h first_root) free gates
+  pub roots_are : Adds workers IsRoot gates now
+
+-- the stock once the cells of the first shards are taken, which are the last ones
+pub record IsFirstStock (first cells workers : ℕ) (stock : StockValue) : Type 0 where
+  pub count : stock.cells ≡ first + cells
+  pub free : stock.free ≡ range_with_len first (cells - 2 * workers)
+  pub stamps : stock.stamps ≡ 2 * workers
+  pub ids : stock.ids ≡ workers
+  pub valid : IsStock stock
+
 -- an actor as it is made
 abbrev pub IsActor : Setting → ℕ → Actor → Type 0
 IsActor s a x = IsFresh s a (actor_of x)
+
+-- The state that vectors are, where all places are filled.
+
+abbrev pub cell_or : Option Cell → CellValue
+cell_or None = FreeCell
+cell_or (Some c) = cell_of c
+
+-- an actor that isn't there
+abbrev pub fresh : Setting → ℕ → ActorValue
+fresh s a = record { number = a; role = Puller; setting = s; seen = 0; counted = false; purse = []; boxes = 0; command = None; errand = None; job = None }
+
+abbrev pub actor_or : Setting → ℕ → Option Actor → ActorValue
+actor_or s a None = fresh s a
+actor_or s a (Some x) = actor_of x
+
+abbrev pub world_of : Setting → List (Option Cell) → List (Option Actor) → World
+world_of s cells actors = record { cells = λ y. cell_or (get_or cells y None); actors = λ a. actor_or s a (get_or actors a None) }
 
 -- The vectors are an opening, which meets the invariant.
 pub record IsOpened (s : Setting) (cells : List (Option Cell)) (actors : List (Option Actor)) : Type 0 where

@@ -1,13 +1,13 @@
 ghost use Rattle.std.specs.Prelude.{◌≡◌, ◌+◌, ◌<◌, ◌≤◌, ◌^◌, ◌∷◌, ◌++◌, [], Some, length, IfOk, OnOk};
 ghost use Rattle.server_image.specs.Registry.{IsNewRegistry};
-ghost use Rattle.volap_cell.specs.Filling.{Adds, HasPulled, IsActor, IsDesk, IsFreeCell, IsGate, IsImage, IsMap, IsOpened, IsRoot, setting_for};
+ghost use Rattle.volap_cell.specs.Filling.{Adds, HasPulled, IsActor, IsDesk, IsFirstStock, IsFreeCell, IsGate, IsImage, IsMap, IsOpened, IsRoot, Stands, setting_for};
 ghost use Rattle.volap_cell.specs.Numbering.{IsSetting};
 
 use crate::actor::{About, Actor};
 use crate::boxes::Boxes;
 use crate::cell::Cell;
 use crate::role::{Role, RoleList};
-use crate::state::State;
+use crate::state::{State, put_three};
 use cell_stock::{Purse, Stock};
 use dc_node::Block;
 use describing_set::DescSet;
@@ -109,7 +109,7 @@ fn root(alloc: Global, worker: u8) -> Result<Cell, AllocError>
 fn add_free(cells: &mut Vec<Option<Cell>>, count: u32) -> Result<(), AllocError>
     ensures ok { OnOk result (Adds count IsFreeCell cells.old.items cells.new.items) }
 {
-    for _number in 0..count {
+    for _ in 0..count {
         add(cells, Cell::Free)?;
     }
     Ok(())
@@ -232,4 +232,80 @@ fn add_actors(
         actors.push(Some(actor(alloc, h, with, roles, number)))?;
     }
     Ok(())
+}
+
+/// The stock from which the cells and the ids of all first shards are taken.
+fn first_stock(alloc: Global, first: u32, cells: u32, workers: u8) -> Result<Stock, AllocError>
+    requires enough { workers + workers ≤ cells }
+    requires few { first + cells < 2 ^ 32 }
+    ensures { IfOk result (IsFirstStock first cells workers) }
+{
+    let count = 2 * u64::from(workers);
+    let mut stock = Stock::over(alloc, first, first + cells)?;
+    let mut purse = Purse::new(alloc);
+    purse.reserve(count)?;
+    stock.take(count, &mut purse);
+    stock.shard_ids(u32::from(workers));
+    stock.free();
+    Ok(stock)
+}
+
+/// The cells of an opening, where the ledger, the stock and the registry are still to come.
+fn bare_cells(
+    alloc: Global,
+    h: &Hierarchy,
+    with: &Use,
+    registry: &Registry,
+    first_gate: u32,
+    first_root: u32,
+) -> Result<Vec<Option<Cell>>, AllocError>
+    requires enough { with.now.workers + with.now.workers ≤ with.now.cells }
+    requires few { first_gate + with.now.workers < 2 ^ 32 }
+    requires few_roots { first_root + with.now.workers < 2 ^ 32 }
+    ensures { IfOk result (λ cells. Stands h.now with.now.servers with.now.workers with.now.cells first_gate first_root registry.now.frontier cells.items) }
+{
+    let mut cells = Vec::new(alloc);
+    add_free(&mut cells, 3)?;
+    add_images(&mut cells, alloc, with.servers, registry)?;
+    add_desks(&mut cells, alloc, with.servers)?;
+    add_maps(&mut cells, alloc, with.workers, first_gate)?;
+    let free = with.cells - 2 * u32::from(with.workers);
+    add_free(&mut cells, free)?;
+    add_gates(&mut cells, alloc, h, with.workers, first_root)?;
+    add_roots(&mut cells, alloc, with.workers)?;
+    Ok(cells)
+}
+
+/// The state with which a core begins: one empty shard on each worker, which each server lists, and
+/// nobody at work. Answers want of memory also where there are more roles than actors can have numbers.
+pub fn open(
+    alloc: Global,
+    h: &Hierarchy,
+    with: &Use,
+    roles: RoleList,
+) -> Result<State, AllocError>
+    requires setting { IsSetting (setting_for h.now with.now roles) }
+    ensures { IfOk result (λ state. IsOpened (setting_for h.now with.now roles) state.cells.items state.actors.items) }
+{
+    let workers = u32::from(with.workers);
+    let first = 3 + 2 * u32::from(with.servers) + workers;
+    let first_root = first + with.cells - workers;
+    let first_gate = first_root - workers;
+    let registry = Registry::new(alloc, with.workers, h)?;
+    let mut cells = bare_cells(alloc, h, with, &registry, first_gate, first_root)?;
+    let ledger = Box::new(alloc, first_pulls(alloc, with.servers, &registry)?)?;
+    let stock = Box::new(alloc, first_stock(alloc, first, with.cells, with.workers)?)?;
+    let registry = Box::new(alloc, registry)?;
+    let mut actors = Vec::new(alloc);
+    add_actors(&mut actors, alloc, h, with, &roles)?;
+    put_three(
+        &mut cells,
+        0,
+        Cell::Ledger(ledger),
+        1,
+        Cell::Stock(stock),
+        2,
+        Cell::Registry(registry),
+    );
+    Ok(State { cells, actors })
 }
