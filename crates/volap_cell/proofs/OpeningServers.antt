@@ -35,7 +35,7 @@ use Rattle.volap_cell.proofs.OpeningView.{v, gate-shard, growths-none, lists, no
 -- Spots.
 
 -- the first shards of a registry, as places
-first-spots : (h : List Dimension) (from n : ℕ) (spots : List Spot) → AllZip (IsFirstSpot h) (range_with_len from n) spots → places_of spots ≡ map (λ w. place w w) (range_with_len from n)
+pub first-spots : (h : List Dimension) (from n : ℕ) (spots : List Spot) → AllZip (IsFirstSpot h) (range_with_len from n) spots → places_of spots ≡ map (λ w. place w w) (range_with_len from n)
 first-spots h from zero [] all = refl
 first-spots h from zero (x ∷ spots) all = absurd all
 first-spots h from (suc n) [] all = absurd all
@@ -45,7 +45,7 @@ first-spots h from (suc n) (x ∷ spots) all =
     let shard = first.shard in let worker = first.worker in
     cc
 
-first-boxes : (h : List Dimension) (from n : ℕ) (spots : List Spot) → AllZip (IsFirstSpot h) (range_with_len from n) spots → All (λ (x : Spot). IsSetOf h [] x.set) spots
+pub first-boxes : (h : List Dimension) (from n : ℕ) (spots : List Spot) → AllZip (IsFirstSpot h) (range_with_len from n) spots → All (λ (x : Spot). IsSetOf h [] x.set) spots
 first-boxes h from zero [] all = All-nil (λ (x : Spot). IsSetOf h [] x.set)
 first-boxes h from zero (x ∷ spots) all = absurd all
 first-boxes h from (suc n) [] all = absurd all

@@ -32,3 +32,4 @@ pub mod Sights
 pub mod Steps
 pub mod Promises
 pub mod State
+pub mod Filling

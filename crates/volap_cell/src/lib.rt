@@ -9,6 +9,7 @@ mod errand;
 mod job;
 mod kind;
 mod laws;
+mod opening;
 mod role;
 mod state;
 #[cfg(test)]
@@ -24,6 +25,7 @@ pub use kind::Kind;
 pub use laws::{
     each_row_has_one_place, images_cover, opening_holds, queries_count_once, shards_have_the_rows,
 };
+pub use opening::open;
 pub use role::{Role, RoleList};
 pub use state::{
     State, lift, lift_five, lift_four, lift_if, lift_one, lift_seven, lift_six, lift_three,
