@@ -79,11 +79,11 @@ pub spares-down : (h : List Dimension) (row : Row) (place : ℕ) (parent parent_
     → StepsDown h row place parent parent_now head head_now purse purse_now entered → UsesSpares purse.spares purse_now.spares entered.fresh.items
 spares-down h row place parent parent_now head head_now purse purse_now entered step = elim step.step [
   | inl w ↦ record {
-      used = [];
-      few = omega arith;
-      purse_is = ap (λ (p : PurseValue). p.spares) (sym w.2.purse_is) ∙ sym (append-nil purse_now.spares);
-      are_in = subst (AreIn []) (sym w.2.fresh) tt;
-    }
+    used = [];
+    few = omega arith;
+    purse_is = ap (λ (p : PurseValue). p.spares) (sym w.2.purse_is) ∙ sym (append-nil purse_now.spares);
+    are_in = subst (AreIn []) (sym w.2.fresh) tt;
+  }
   | inr more ↦ elim more [
     | inl w ↦ record { used = w.2.spare ∷ []; few = omega arith; purse_is = w.2.purse_is; are_in = subst (AreIn (w.2.spare ∷ [])) (sym w.2.fresh) (refl, tt) }
     | inr w ↦ record { used = w.spare ∷ []; few = omega arith; purse_is = w.cuts.purse_is; are_in = subst (AreIn (w.spare ∷ [])) (sym w.fresh) (refl, tt) }
@@ -297,10 +297,16 @@ module _ (downs : DownLaw) (childs : ChildLaw) (behinds : BehindLaw) (p c : Chan
       subst (λ (x : Block). StepsDown s.hierarchy (v.row r) d.place (v.blocks p.number) ((view s w2).blocks p.number) (v.blocks d.entry.child) x d.purse d.purse_now d.entered) (sym (ap (view s w2).blocks d.child ∙ c-now)) k4
 
   others-off : (y : ℕ) → y ≢ p.number → y ≢ d.entry.child → Each (λ (x : Fresh). y ≢ x.cell) d.entered.fresh.items → (view s w2).blocks y ≡ v.blocks y
-  others-off y np nc nf = block-stays cs w.cells y ag.cells (inl np, (inl (λ e. nc (e ∙ sym d.child)), subst (Each (λ (x : Change). (y ≢ x.number) ⊎ (block_in x.now ≡ block_in x.before))) (sym d.others_are)
-      (each-append (λ (x : Change). (y ≢ x.number) ⊎ (block_in x.now ≡ block_in x.before)) d.tail d.fresh
-      (each-map (λ (x : Change). x.now ≡ x.before) (λ (x : Change). (y ≢ x.number) ⊎ (block_in x.now ≡ block_in x.before)) d.tail (λ x e. inr (ap block_in e)) (tail-read d.entry.stamp d.head d.tail d.behind))
-      (each-map (λ (x : Change). y ≢ x.number) (λ (x : Change). (y ≢ x.number) ⊎ (block_in x.now ≡ block_in x.before)) d.fresh (λ x e. inl e) (filled-off y d.entered.fresh.items d.fresh d.are_filled nf)))))
+  others-off y np nc nf = block-stays cs w.cells y ag.cells (
+    inl np,
+    (
+      inl (λ e. nc (e ∙ sym d.child)),
+      subst (Each (λ (x : Change). (y ≢ x.number) ⊎ (block_in x.now ≡ block_in x.before))) (sym d.others_are)
+          (each-append (λ (x : Change). (y ≢ x.number) ⊎ (block_in x.now ≡ block_in x.before)) d.tail d.fresh
+          (each-map (λ (x : Change). x.now ≡ x.before) (λ (x : Change). (y ≢ x.number) ⊎ (block_in x.now ≡ block_in x.before)) d.tail (λ x e. inr (ap block_in e)) (tail-read d.entry.stamp d.head d.tail d.behind))
+          (each-map (λ (x : Change). y ≢ x.number) (λ (x : Change). (y ≢ x.number) ⊎ (block_in x.now ≡ block_in x.before)) d.fresh (λ x e. inl e) (filled-off y d.entered.fresh.items d.fresh d.are_filled nf))),
+    ),
+  )
 
   law : AfterStep (table_of s v.row) shape r d.entered.at (shape.level (shape.at r)) (cells_at v.blocks v.trees gate) (cells_at (view s w2).blocks v.trees gate) d.purse.spares d.purse_now.spares
   law = downs (table_of s v.row) shape r (cells_at v.blocks v.trees gate) (cells_at (view s w2).blocks v.trees gate) d.purse d.purse_now d.entered here.tree (record {
@@ -345,13 +351,30 @@ module _ (downs : DownLaw) (childs : ChildLaw) (behinds : BehindLaw) (p c : Chan
         way = Carried gate d.entered.at;
         errand = ap (λ (a : ActorValue). a.errand) d.actor_is;
         rest = ap (actor_beside of_steps) d.actor_is ∙ (λ k. record (actor_beside of_steps (w.actors n)) { taken = row-taken (Carried gate d.entered.at) d.has k; reading = row-reads (Carried gate d.entered.at) d.has k });
-        cells = (turned-block of_steps refl d.turns_parent, (turned-block of_steps refl d.turns_head,
-            subst (Each (λ (x : Change). beside of_steps x.now ≡ beside of_steps x.before)) (sym d.others_are) (others-blocks of_steps refl d.entered.fresh.items d.tail d.fresh (tail-read d.entry.stamp d.head d.tail d.behind) d.are_filled blank)));
-        made = (ap has_block d.turns_parent.is, (ap has_block d.turns_head.is, subst (Each (λ (x : Change). has_block x.now ≡ true)) (sym d.others_are)
-            (each-append (λ (x : Change). has_block x.now ≡ true) d.tail d.fresh (tail-made (is_full d.head.body) d.entry.stamp d.head d.tail d.behind) (filled-made d.entered.fresh.items d.fresh d.are_filled))));
-        own = (inl here.owner, (inl child-owner, subst (Each (IsOwn g.owner gate n)) (sym d.others_are) (each-append (IsOwn g.owner gate n) d.tail d.fresh
-            (each-map (λ (x : Change). g.owner x.number ≡ InTree gate) (IsOwn g.owner gate n) d.tail (λ x e. inl e) tail-owner)
-            (each-map (λ (x : Change). g.owner x.number ≡ InPurse n) (IsOwn g.owner gate n) d.fresh (λ x e. inr (inl e)) fresh-owner))));
+        cells = (
+          turned-block of_steps refl d.turns_parent,
+          (
+            turned-block of_steps refl d.turns_head,
+            subst (Each (λ (x : Change). beside of_steps x.now ≡ beside of_steps x.before)) (sym d.others_are) (others-blocks of_steps refl d.entered.fresh.items d.tail d.fresh (tail-read d.entry.stamp d.head d.tail d.behind) d.are_filled blank),
+          ),
+        );
+        made = (
+          ap has_block d.turns_parent.is,
+          (
+            ap has_block d.turns_head.is,
+            subst (Each (λ (x : Change). has_block x.now ≡ true)) (sym d.others_are)
+                (each-append (λ (x : Change). has_block x.now ≡ true) d.tail d.fresh (tail-made (is_full d.head.body) d.entry.stamp d.head d.tail d.behind) (filled-made d.entered.fresh.items d.fresh d.are_filled)),
+          ),
+        );
+        own = (
+          inl here.owner,
+          (
+            inl child-owner,
+            subst (Each (IsOwn g.owner gate n)) (sym d.others_are) (each-append (IsOwn g.owner gate n) d.tail d.fresh
+                (each-map (λ (x : Change). g.owner x.number ≡ InTree gate) (IsOwn g.owner gate n) d.tail (λ x e. inl e) tail-owner)
+                (each-map (λ (x : Change). g.owner x.number ≡ InPurse n) (IsOwn g.owner gate n) d.fresh (λ x e. inr (inl e)) fresh-owner)),
+          ),
+        );
         shape = law.shape;
         used = law.used;
         purse = sym d.purse_was ∙ law.purse_is ∙ ap (λ (ss : List Spare). ss ++ law.used) (sym purse_now);

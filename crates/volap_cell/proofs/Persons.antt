@@ -59,14 +59,14 @@ still-numbered s w cs n now at tags there same numbered =
       role = (λ a lt. numbered.role a lt ∙ ap Some (sym (roles a)));
       about = (λ a. unmoved-one (λ (x : ActorValue). x.setting) w.actors n now same.setting a ∙ numbered.about a);
       nobody = (λ a le. let ne : a ≢ n = (λ e. absurd (omega arith)) in
-        subst (λ (x : ActorValue). (x.counted ≡ false) × (x.purse ≡ []) × (x.command ≡ None) × (taken_of x.errand ≡ None) × (x.job ≡ None)) (sym (others a ne)) (numbered.nobody a le));
+          subst (λ (x : ActorValue). (x.counted ≡ false) × (x.purse ≡ []) × (x.command ≡ None) × (taken_of x.errand ≡ None) × (x.job ≡ None)) (sym (others a ne)) (numbered.nobody a le));
       beyond = (λ a le. let ne : a ≢ n = (λ e. absurd (omega arith)) in ap (λ (x : ActorValue). x.role) (others a ne) ∙ numbered.beyond a le);
       working = (λ a j is. on_bool (eqb a n)
-        (λ q. let it = ap (λ (b : Bool). cond b now (w.actors a)) q in ap (λ (x : ActorValue). x.role) it ∙ same.working j (sym (ap (λ (x : ActorValue). x.job) it) ∙ is))
-        (λ q. let it = ap (λ (b : Bool). cond b now (w.actors a)) q in ap (λ (x : ActorValue). x.role) it ∙ numbered.working a j (sym (ap (λ (x : ActorValue). x.job) it) ∙ is)));
+          (λ q. let it = ap (λ (b : Bool). cond b now (w.actors a)) q in ap (λ (x : ActorValue). x.role) it ∙ same.working j (sym (ap (λ (x : ActorValue). x.job) it) ∙ is))
+          (λ q. let it = ap (λ (b : Bool). cond b now (w.actors a)) q in ap (λ (x : ActorValue). x.role) it ∙ numbered.working a j (sym (ap (λ (x : ActorValue). x.job) it) ∙ is)));
       parts = (λ a t is. on_bool (eqb a n)
-        (λ q. let it = ap (λ (b : Bool). cond b now (w.actors a)) q in
+          (λ q. let it = ap (λ (b : Bool). cond b now (w.actors a)) q in
           λ admin. same.parts t (sym (ap (λ (x : ActorValue). taken_of x.errand) it) ∙ is) (sym (ap (λ (x : ActorValue). x.role) it) ∙ admin))
-        (λ q. let it = ap (λ (b : Bool). cond b now (w.actors a)) q in
+          (λ q. let it = ap (λ (b : Bool). cond b now (w.actors a)) q in
           λ admin. numbered.parts a t (sym (ap (λ (x : ActorValue). taken_of x.errand) it) ∙ is) (sym (ap (λ (x : ActorValue). x.role) it) ∙ admin)));
     }

@@ -79,10 +79,12 @@ before-gate s v g inv r i begun kept out = elim (inv.telling.status r i begun) [
 
 pub place-law : PlaceLaw
 place-law s w inv =
-    let v = view s w in let g = inv.ghost_of in let i = inv.holds in
-    (standing s v g i, λ r ins begun kept. on_bool (g.placed r)
-    (λ placed. inl (g.home r, in-one s v g i r placed))
-    (λ out. inr (in-none s v g i r out, before-gate s v g i r ins begun kept out)))
+    let v = view s w in let g = inv.ghost_of in let i = inv.holds in (
+      standing s v g i,
+      λ r ins begun kept. on_bool (g.placed r)
+          (λ placed. inl (g.home r, in-one s v g i r placed))
+          (λ out. inr (in-none s v g i r out, before-gate s v g i r ins begun kept out)),
+    )
 
 -- The rows of the shards that stand.
 
@@ -106,10 +108,11 @@ same-shard s v g i x r live some =
 
 pub rows-law : RowsLaw
 rows-law s w inv =
-    let v = view s w in let g = inv.ghost_of in let i = inv.holds in
-    (standing s v g i,
-    λ x r live some. (i.placing.begun r (is-placed s v g i x r live some), i.telling.right.kept r (is-placed s v g i x r live some), same-shard s v g i x r live some),
-    λ k c. (g.home k.row.no, in-one s v g i k.row.no (i.placing.acked_rows k c).0))
+    let v = view s w in let g = inv.ghost_of in let i = inv.holds in (
+      standing s v g i,
+      λ x r live some. (i.placing.begun r (is-placed s v g i x r live some), i.telling.right.kept r (is-placed s v g i x r live some), same-shard s v g i x r live some),
+      λ k c. (g.home k.row.no, in-one s v g i k.row.no (i.placing.acked_rows k c).0),
+    )
 
 -- Images.
 
@@ -124,9 +127,11 @@ covered s w g i server within k c =
     let v = view s w in
     let acked-k = known-acked s.hierarchy v.history server k c in
     let at = row-at v k (acked-begun _ _ v.history k i.telling.right.right.each acked-k) in
-    let box = All-contains (λ (k : Ack). IsCovered s.hierarchy v.history v.row g.home (v.images server).spots k.row.no) (known s.hierarchy v.history server) k (i.covering.must server within) c in
-    (g.home k.row.no, in-one s v g i k.row.no (i.placing.acked_rows k acked-k).0,
-    subst (λ (r : Row). Any (λ (spot : Spot). IsTrue (comes_from v.history spot.shard (g.home k.row.no)) × (covers s.hierarchy spot.set r.at ≡ true)) (v.images server).spots) at box)
+    let box = All-contains (λ (k : Ack). IsCovered s.hierarchy v.history v.row g.home (v.images server).spots k.row.no) (known s.hierarchy v.history server) k (i.covering.must server within) c in (
+      g.home k.row.no,
+      in-one s v g i k.row.no (i.placing.acked_rows k acked-k).0,
+      subst (λ (r : Row). Any (λ (spot : Spot). IsTrue (comes_from v.history spot.shard (g.home k.row.no)) × (covers s.hierarchy spot.set r.at ≡ true)) (v.images server).spots) at box,
+    )
 
 pub image-law : ImageLaw
 image-law s w inv =
@@ -201,10 +206,18 @@ by-reading s w g i server shard of r q a p reads same_server same_shard under mu
           elim (cases_lt 0 (times r (g.counted server shard))) [
             | inl has ↦ inl has
             | inr none ↦ inr (record {
-              actor = a; part = p; reads = reads; server_is = same_server; shard_is = same_shard; gate = c; pinned = is;
+              actor = a;
+              part = p;
+              reads = reads;
+              server_is = same_server;
+              shard_is = same_shard;
+              gate = c;
+              pinned = is;
               shape = g.shape c;
               tree = i.growing.tree c (pinned-whole s w g i a c p reads is);
-              noted = u.noted; items = u.are; walks = u.ok.noted;
+              noted = u.noted;
+              items = u.are;
+              walks = u.ok.noted;
               placed = there;
               once = (let below : times r (g.counted server shard) ≡ 0 = omega arith in omega arith);
             })

@@ -28,7 +28,7 @@ use Rattle.volap_cell.specs.World.{World}
 use Rattle.volap_cell.specs.declared.actor.Actor.{Actor}
 use Rattle.volap_cell.specs.declared.cell.Cell.{Cell}
 use Rattle.volap_cell.specs.declared.role.Role.{Role}
-use Rattle.volap_cell.specs.declared.role.Role.TheVariants.{Puller}
+use Rattle.volap_cell.specs.declared.role.Role.TheVariants.{Hand}
 
 -- what a core with these dimensions, settings and roles is about
 abbrev pub setting_for : List Dimension → Use → List Role → Setting
@@ -111,9 +111,9 @@ abbrev pub cell_or : Option Cell → CellValue
 cell_or None = FreeCell
 cell_or (Some c) = cell_of c
 
--- an actor that isn't there
+-- an actor that isn't there; its role is that of a worker that isn't
 abbrev pub fresh : Setting → ℕ → ActorValue
-fresh s a = record { number = a; role = Puller; setting = s; seen = 0; counted = false; purse = []; boxes = 0; command = None; errand = None; job = None }
+fresh s a = record { number = a; role = Hand s.workers; setting = s; seen = 0; counted = false; purse = []; boxes = 0; command = None; errand = None; job = None }
 
 abbrev pub actor_or : Setting → ℕ → Option Actor → ActorValue
 actor_or s a None = fresh s a
