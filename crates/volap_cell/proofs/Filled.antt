@@ -8,7 +8,6 @@ use Rattle.std.proofs.lemmas.List.{length-append, length-map, length_push, get_o
 use Rattle.cell_stock.specs.Stock.{IsStock, PurseValue, StockValue, Takes, cells_of}
 use Rattle.cell_stock.specs.declared.purse.Spare.{Spare}
 use Rattle.describing_set.specs.declared.listing.Spot.{Spot}
-use Rattle.row_ledger.specs.declared.event.Event.{Event}
 use Rattle.row_ledger.specs.declared.event.Event.TheVariants.{Synced}
 use Rattle.volap_cell.specs.Filling.{Adds, IsFirstStock, pulls_of}
 use Rattle.volap_cell.specs.State.{Has}

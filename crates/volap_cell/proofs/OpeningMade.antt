@@ -1,14 +1,14 @@
 -- Vectors that are made as an opening's are one.
-use Rattle.std.proofs.Common.{◌≡◌, ◌≢◌, ◌∙◌, ℕ, zero, suc, ◌+◌, ◌-◌, ◌<◌, ◌≤◌, ◌⊎◌, inl, inr, Bool, true, false, cond, eqb, List, [], ◌∷◌, length, Option, Some, None, get_or, set, refl, sym, ap, subst, lit<, arith, add-one}
-use Rattle.std.specs.Prelude.{◌*◌, slice_get, ◌==◌, if◌then◌else◌}
+use Rattle.std.proofs.Common.{◌≡◌, ◌≢◌, ◌∙◌, ℕ, zero, suc, ◌+◌, ◌-◌, ◌<◌, ◌≤◌, inl, inr, Bool, cond, List, [], ◌∷◌, length, Option, Some, None, get_or, set, refl, sym, ap, subst, arith}
+use Rattle.std.specs.Prelude.{◌*◌, ◌==◌, if◌then◌else◌}
 use Rattle.std.specs.FinMap as map
 use Rattle.std.specs.List.{range_with_len}
 use Rattle.std.specs.Cmp.{unsigned_tied}
 use Rattle.std.specs.Ordering.{nat_cmp}
-use Rattle.std.proofs.lemmas.Bool.{cases_Bool, cases_lt, eq-eqb, eqb-false}
+use Rattle.std.proofs.lemmas.Bool.{cases_Bool, cases_lt, eqb-false}
 use Rattle.std.proofs.lemmas.Cmp.{nat_cmp_total}
 use Rattle.std.proofs.lemmas.List.{get_or-set_other, get_or-set_same, get_or_past, length-set}
-use Rattle.cell_stock.specs.Stock.{StockValue, IsStock}
+use Rattle.cell_stock.specs.Stock.{StockValue}
 use Rattle.describing_set.specs.declared.listing.Spot.{Spot}
 use Rattle.mapping_table.specs.declared.place.Where.{Where}
 use Rattle.mapping_table.specs.declared.place.Where.TheVariants as where_is
@@ -20,16 +20,16 @@ use Rattle.row_ledger.specs.declared.event.Event.{Event}
 use Rattle.row_ledger.specs.declared.event.Event.TheVariants.{Synced}
 use Rattle.row_ledger.proofs.Growth.{IsOpening-nil, IsOpening-pull}
 use Rattle.server_image.specs.Registry.{RegistryValue, IsNewRegistry}
-use Rattle.tree_shape.specs.Counts.{same, times}
+use Rattle.tree_shape.specs.Counts.{times}
 use Rattle.tree_shape.specs.Trees.{leaf_without_rows}
 use Rattle.tree_shape.proofs.Walks.{same_is, same_not}
-use Rattle.volap_cell.specs.Cells.{CellValue, FreeCell, LedgerCell, StockCell, RegistryCell, ImageCell, DeskCell, MapCell, GateCell, BlockCell, cell_of}
-use Rattle.volap_cell.specs.Filling.{Adds, HasPulled, IsActor, IsDesk, IsFirstStock, IsFreeCell, IsGate, IsImage, IsMap, IsOpened, IsRoot, Stands, cell_or, actor_or, fresh, world_of, pulls_of}
+use Rattle.volap_cell.specs.Cells.{CellValue, FreeCell, LedgerCell, StockCell, RegistryCell, ImageCell, DeskCell, MapCell, BlockCell, cell_of}
+use Rattle.volap_cell.specs.Filling.{Adds, HasPulled, IsActor, IsDesk, IsFirstStock, IsFreeCell, IsGate, IsImage, IsMap, IsOpened, IsRoot, Stands, cell_or, actor_or, world_of, pulls_of}
 use Rattle.volap_cell.specs.Numbering.{IsSetting}
 use Rattle.volap_cell.specs.Opening.{IsOpening, IsFirstShard, IsFresh}
 use Rattle.volap_cell.specs.Setting.{Setting, actor_count, cell_count, first_stock_cell, map_cell, site_in}
 use Rattle.volap_cell.specs.State.{Has, IsWorldOf}
-use Rattle.volap_cell.specs.Values.{ActorValue, actor_of}
+use Rattle.volap_cell.specs.Values.{actor_of}
 use Rattle.volap_cell.specs.World.{World}
 use Rattle.volap_cell.specs.declared.actor.Actor.{Actor}
 use Rattle.volap_cell.specs.declared.cell.Cell.{Cell}

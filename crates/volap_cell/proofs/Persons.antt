@@ -1,12 +1,11 @@
 -- Who is who stays: a step of an actor that is there leaves its number, its role and what it is about.
-use Rattle.std.proofs.Common.{◌≡◌, ◌≢◌, ℕ, ◌<◌, ◌≤◌, Bool, true, false, cond, eqb, List, [], ◌∷◌, Option, Some, None, refl, sym, ap, ◌∙◌, subst, arith}
-use Rattle.cell_stock.specs.declared.purse.Spare.{Spare}
-use Rattle.tree_shape.proofs.Walks.{on_bool, eqb-eq, eqb-ne}
+use Rattle.std.proofs.Common.{◌≡◌, ◌≢◌, ℕ, ◌<◌, ◌≤◌, Bool, true, false, cond, eqb, List, [], Some, None, sym, ap, ◌∙◌, subst, arith}
+use Rattle.tree_shape.proofs.Walks.{on_bool}
 use Rattle.volap_cell.specs.Cells.{tag_of}
-use Rattle.volap_cell.specs.Errands.{Taken, taken_of, taken_by}
+use Rattle.volap_cell.specs.Errands.{Taken, taken_of}
 use Rattle.volap_cell.specs.Numbering.{Numbering}
 use Rattle.volap_cell.specs.Setting.{Setting, actor_count}
-use Rattle.volap_cell.specs.Values.{ActorValue, ErrandValue, JobValue}
+use Rattle.volap_cell.specs.Values.{ActorValue, JobValue}
 use Rattle.volap_cell.specs.View.{View, view}
 use Rattle.volap_cell.specs.World.{World, Change, after}
 use Rattle.volap_cell.specs.declared.command.Command.{Command}

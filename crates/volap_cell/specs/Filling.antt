@@ -2,14 +2,12 @@
 use Rattle.std.specs.Prelude.{ℕ, zero, suc, ◌≡◌, ◌+◌, ◌-◌, ◌*◌, ◌<◌, false, List, [], ◌∷◌, length, get_or, Option, Some, None}
 use Rattle.std.specs.FinMap as map
 use Rattle.std.specs.List.{range_with_len}
-use Rattle.std.specs.Ordering.{nat_cmp}
 use Rattle.cell_stock.specs.Stock.{StockValue, IsStock}
 use Rattle.describing_set.specs.DescSet.{IsSetOf}
 use Rattle.describing_set.specs.declared.listing.Spot.{Spot}
 use Rattle.describing_set.specs.declared.set.DescSet.{DescSet}
 use Rattle.dim_hierarchy.specs.Dimension.{Dimension}
 use Rattle.measure_agg.specs.Aggregate.{agg}
-use Rattle.mapping_table.specs.declared.place.Where.{Where}
 use Rattle.mapping_table.specs.declared.place.Where.TheVariants as where_is
 use Rattle.row_ledger.specs.LedgerValue.{LedgerValue}
 use Rattle.row_ledger.specs.declared.event.Event.{Event}

@@ -12,7 +12,6 @@ use Rattle.dc_node.specs.declared.block.Block.{Block}
 use Rattle.dc_node.specs.declared.entry.Entry.{Entry}
 use Rattle.dc_node.specs.declared.todo.Item.{Item}
 use Rattle.cell_stock.specs.Stock.{PurseValue, StockValue, Takes, Gives}
-use Rattle.cell_stock.specs.declared.purse.Spare.{Spare}
 use Rattle.shard_store.specs.Gate.{Enqueues}
 use Rattle.shard_store.specs.declared.gate.Gate.{Gate}
 use Rattle.shard_store.specs.declared.gate.Phase.TheVariants.{Open}

@@ -1,5 +1,4 @@
 use Rattle.std.proofs.Common.{ℕ, ◌≡◌, ◌+◌, ◌*◌, ap, subst}
-use Rattle.cell_stock.specs.Stock.{Takes}
 use Rattle.volap_cell.proofs.Filled.{first-stock, was-taken}
 use Rattle.volap_cell.proofs.opening.first_stock.Goals as goal
 
