@@ -4,7 +4,6 @@ use Rattle.std.specs.List.{list_any}
 use Rattle.cell_stock.specs.Stock.{cells_of}
 use Rattle.cell_stock.specs.declared.purse.Spare.{Spare}
 use Rattle.dim_hierarchy.specs.declared.row.Row.{Row}
-use Rattle.row_ledger.specs.Past.{Insert}
 use Rattle.row_ledger.specs.Shards.{is_of, Place, frontier}
 use Rattle.tree_shape.specs.Counts.{Each, times}
 use Rattle.tree_shape.specs.Trees.{IsTree}

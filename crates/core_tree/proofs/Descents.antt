@@ -1,5 +1,5 @@
 -- A row that goes down.
-use Rattle.std.proofs.Common.{◌≡◌, ◌≢◌, ℕ, zero, suc, ◌+◌, ◌*◌, ◌<◌, ◌≤◌, Bool, true, false, cond, eqb, List, [], ◌∷◌, ◌++◌, length, map, take, drop, Option, Some, None, IsSome, slice_get, refl, sym, ap, ◌∙◌, subst, ◌⊎◌, inl, inr, arith, append-nil}
+use Rattle.std.proofs.Common.{◌≡◌, ◌≢◌, ℕ, zero, suc, ◌+◌, ◌*◌, ◌≤◌, Bool, true, false, cond, eqb, List, [], ◌∷◌, ◌++◌, length, map, take, drop, Option, Some, None, IsSome, slice_get, refl, sym, ap, ◌∙◌, subst, ◌⊎◌, inl, inr, arith, append-nil}
 use Rattle.std.specs.Option.{option_map_or}
 use Rattle.std.proofs.lemmas.List.{length-append}
 use Rattle.dim_hierarchy.specs.Dimension.{Dimension}
@@ -12,7 +12,6 @@ use Rattle.cell_stock.specs.declared.purse.Spare.{Spare}
 use Rattle.link_descent.specs.Descend.{StepsDown}
 use Rattle.link_descent.specs.declared.entered.Entered.{Entered}
 use Rattle.link_descent.specs.declared.entered.Fresh.{Fresh}
-use Rattle.shard_store.specs.declared.gate.Phase.{Phase}
 use Rattle.tree_shape.specs.Counts.{Each}
 use Rattle.tree_shape.specs.Laws.{OtherLaw, CollectOtherLaw, DownLaw, ChildLaw}
 use Rattle.tree_shape.specs.Shape.{Table, TreeCells, Shape, nodes}
@@ -22,26 +21,25 @@ use Rattle.tree_shape.proofs.Divisions.{each-map, each-both}
 use Rattle.tree_shape.proofs.Parts.{each-append, each-left, each-right}
 use Rattle.tree_shape.proofs.Walks.{on_bool, eqb-eq, eqb-ne, eqb-self, eqb-no}
 use Rattle.volap_cell.specs.Cells.{CellValue, FreeCell, LedgerCell, StockCell, RegistryCell, ImageCell, DeskCell, MapCell, GateCell, BlockCell, block_in, has_block, gate_shard, phase_of, tag_of}
-use Rattle.volap_cell.specs.Errands.{RowWay, AtBlock, row_way, way_of, place_of, block_at, IsCarried}
+use Rattle.volap_cell.specs.Errands.{RowWay, AtBlock, row_way, place_of, block_at, IsCarried}
 use Rattle.volap_cell.specs.Ghost.{Ghost, NotOfStock, AGate, InTree, InPurse}
 use Rattle.volap_cell.specs.Growing.{table_of}
 use Rattle.volap_cell.specs.Invariant.{InvWith}
 use Rattle.volap_cell.specs.Setting.{Setting}
 use Rattle.volap_cell.specs.Steps.{IsKept, Keeps}
 use Rattle.volap_cell.specs.Stocking.{cells_at, spent_of}
-use Rattle.volap_cell.specs.TreeKinds.{DoesDown, HasRow, AreFilled, AreBehind, IsTailIf, IsTailOf, blocks_of, most_behind}
+use Rattle.volap_cell.specs.TreeKinds.{DoesDown, AreBehind, IsTailIf, blocks_of, most_behind}
 use Rattle.volap_cell.specs.Values.{ActorValue}
 use Rattle.volap_cell.specs.View.{View, view}
-use Rattle.volap_cell.specs.World.{World, Change, put, after, Agrees, MustKeep}
+use Rattle.volap_cell.specs.World.{World, Change, put, after, Agrees}
 use Rattle.volap_cell.specs.declared.errand.Way.TheVariants.{Carried}
 use Rattle.volap_cell.specs.declared.kind.Kind.TheVariants.{Down}
 use Rattle.volap_cell.proofs.Actors.{row-at, row-taken, row-reads}
 use Rattle.volap_cell.proofs.Frames.{AreAt, first, second}
 use Rattle.volap_cell.proofs.Numbers.{tag-rest}
 use Rattle.volap_cell.proofs.Seen.{beside, actor_beside}
-use Rattle.volap_cell.proofs.Touches.{IsBlank, AreRead, tail-read, turned-block, others-blocks}
+use Rattle.volap_cell.proofs.Touches.{IsBlank, tail-read, turned-block, others-blocks}
 use Rattle.core_tree.proofs.Carriers.{Carries, carries, purse-owned}
-use Rattle.core_tree.proofs.Moves.{Moved, Went}
 use Rattle.core_tree.proofs.NewBlocks.{AreIn, count-filled, filled-each, filled-made, filled-off, filled-at, in-fresh, in-spares, put-skip, put-behind, block-stays}
 use Rattle.core_tree.proofs.Spares.{AreDistinct, spares-distinct, spares-left, distinct-right}
 use Rattle.core_tree.proofs.TreeSteps.{TreeStep, IsOwn, tree-kept, with_shape, of_steps}

@@ -1,6 +1,6 @@
 -- A row goes on in the tree of one gate: what the tree's law says of that tree, and that all else stays, gives the parts of the
 -- invariant that speak of trees. One proof for every kind by which a row comes in, goes down or is put in its leaf.
-use Rattle.std.proofs.Common.{◌≡◌, ◌≢◌, ℕ, ◌+◌, ◌*◌, ◌<◌, ◌≤◌, Bool, true, false, cond, eqb, List, [], ◌∷◌, ◌++◌, length, map, Option, Some, None, IsSome, refl, sym, ap, ◌∙◌, subst, ◌⊎◌, inl, inr, arith, append_assoc}
+use Rattle.std.proofs.Common.{◌≡◌, ◌≢◌, ℕ, ◌+◌, ◌*◌, ◌<◌, ◌≤◌, Bool, true, false, cond, eqb, List, [], ◌∷◌, ◌++◌, length, Some, None, IsSome, refl, sym, ap, ◌∙◌, subst, inl, arith}
 use mathlib.Core.Path.{fun_ext}
 use Rattle.cell_stock.specs.Stock.{cells_of}
 use Rattle.cell_stock.specs.declared.purse.Spare.{Spare}
@@ -17,20 +17,19 @@ use Rattle.tree_shape.specs.Steps.{IsSpare, AreSpares, AreApart, LeavesTree, Aft
 use Rattle.tree_shape.specs.Trees.{IsTree}
 use Rattle.tree_shape.proofs.Divisions.{each-map, each-both}
 use Rattle.tree_shape.proofs.Parts.{each-left, each-right}
-use Rattle.tree_shape.proofs.Visits.{times-append}
-use Rattle.tree_shape.proofs.Walks.{on_bool, eqb-eq, eqb-ne, eqb-self, eqb-no, same_is, same_not}
+use Rattle.tree_shape.proofs.Walks.{on_bool, eqb-eq, eqb-ne}
 use Rattle.volap_cell.specs.Errands.{RowWay, RowPlace, Outside, AtBlock, InLeaf, AtRest}
 use Rattle.volap_cell.specs.Ghost.{Ghost, Owner, InPurse, InTree, NotOfStock, AGate, is_unused, is_in_purse, is_in_tree, is_in_job}
 use Rattle.volap_cell.specs.Growing.{table_of, Growing}
 use Rattle.volap_cell.specs.Invariant.{InvWith}
 use Rattle.volap_cell.specs.Numbering.{Numbering}
-use Rattle.volap_cell.specs.Setting.{Setting, actor_count, first_stock_cell}
-use Rattle.volap_cell.specs.Stocking.{cells_at, IsWhole, Stocking, Stamping, NoneExpects, all_spares, spent_of, all_items, items_of_read, items_of_job}
+use Rattle.volap_cell.specs.Setting.{Setting, actor_count}
+use Rattle.volap_cell.specs.Stocking.{cells_at, IsWhole, Stocking, Stamping, NoneExpects, all_spares, spent_of, all_items}
 use Rattle.volap_cell.specs.Sums.{sum_below}
 use Rattle.volap_cell.specs.Turning.{Turning, IsIn, is_inside, inside_of}
 use Rattle.volap_cell.specs.View.{View}
 use Rattle.core_tree.proofs.Carriers.{purse-owned}
-use Rattle.core_tree.proofs.Spares.{spares-each, spares-distinct, spares-from, AreDistinct, each-drop, distinct-drop, used-apart, moved_owner, on_used, each-cell, each-times, times-off, times-cells, owner-purse, in-own, other-purse, other-tree}
+use Rattle.core_tree.proofs.Spares.{spares-each, spares-distinct, spares-from, AreDistinct, each-drop, distinct-drop, used-apart, moved_owner, on_used, each-times, times-off, times-cells, in-own, other-purse, other-tree}
 
 -- what a tree's law says: `used` are the spares that are blocks of the tree now
 pub record Moved (table : Table) (before now : TreeCells) (g g2 : Shape) (r : ℕ) (used : List Spare) : Type 0 where

@@ -1,6 +1,5 @@
 -- The same of rows, of queries, and of what an administrator has collected and built.
-use Rattle.std.proofs.Common.{◌≡◌, ◌≢◌, ℕ, zero, suc, ◌+◌, ◌<◌, ◌≤◌, Bool, true, false, cond, eqb, List, [], ◌∷◌, ◌++◌, length, map, get_or, Option, Some, None, IsSome, refl, sym, ap, ◌∙◌, subst, ◌⊎◌, inl, inr, arith}
-use Rattle.std.specs.Prelude.{All}
+use Rattle.std.proofs.Common.{◌≡◌, ◌≢◌, ℕ, ◌+◌, ◌<◌, ◌≤◌, Bool, true, false, cond, eqb, List, [], ◌∷◌, ◌++◌, length, get_or, Option, Some, None, IsSome, refl, sym, ap, ◌∙◌, subst, inl, inr, arith}
 use Rattle.cell_stock.specs.Stock.{cells_of}
 use Rattle.cell_stock.specs.declared.purse.Spare.{Spare}
 use Rattle.dim_hierarchy.specs.declared.row.Row.{Row}
@@ -13,23 +12,22 @@ use Rattle.row_ledger.specs.Past.{Query, query_at}
 use Rattle.shard_store.specs.declared.gate.Gate.{Gate}
 use Rattle.shard_store.specs.declared.gate.Phase.TheVariants.{Frozen, Gone}
 use Rattle.tree_shape.specs.Collecting.{IsCollecting}
-use Rattle.tree_shape.specs.Counts.{Each, same, times}
+use Rattle.tree_shape.specs.Counts.{Each, times}
 use Rattle.tree_shape.specs.Laws.{OtherLaw, CollectOtherLaw}
 use Rattle.tree_shape.specs.Queries.{IsUnfinished, NoneWaits, fits}
 use Rattle.tree_shape.specs.Shape.{nodes, Shape, numbers}
 use Rattle.tree_shape.proofs.Divisions.{each-map, each-both}
 use Rattle.tree_shape.proofs.Parts.{each-left}
-use Rattle.tree_shape.proofs.Walks.{on_bool, eqb-eq, eqb-ne, eqb-self, same_is}
+use Rattle.tree_shape.proofs.Walks.{on_bool, eqb-eq, eqb-ne, eqb-self}
 use Rattle.volap_cell.specs.AdminKinds.{spent_in, spent_by}
-use Rattle.volap_cell.specs.Errands.{RowWay, RowPlace, ReadPart, has_passed}
+use Rattle.volap_cell.specs.Errands.{RowWay, ReadPart, has_passed}
 use Rattle.volap_cell.specs.Ghost.{Ghost, Owner, NotOfStock, Unused, InPurse, AGate, InTree, InJob, is_in_job}
 use Rattle.volap_cell.specs.Growing.{table_of, IsUnder, Resting}
 use Rattle.volap_cell.specs.Invariant.{InvWith}
 use Rattle.volap_cell.specs.Placing.{Placing, Inserting, NobodyAt, IsRowPart, IsOnWay}
-use Rattle.volap_cell.specs.Querying.{Querying, IsReading, IsWalk, IsInTreeOf, must_hold, one_pin, pins_of}
+use Rattle.volap_cell.specs.Querying.{Querying, IsWalk, IsInTreeOf, must_hold, one_pin, pins_of}
 use Rattle.volap_cell.specs.Setting.{Setting, actor_count}
-use Rattle.volap_cell.specs.Stocking.{cells_at, IsWhole, all_spares, spent_of, all_items, items_of_read, items_of_job}
-use Rattle.volap_cell.specs.Sums.{sum_below}
+use Rattle.volap_cell.specs.Stocking.{cells_at, IsWhole, spent_of, all_items, items_of_read, items_of_job}
 use Rattle.volap_cell.specs.Values.{JobValue, CollectingValue, BuildingValue, Collects, Builds}
 use Rattle.volap_cell.specs.View.{View}
 use Rattle.volap_cell.specs.Working.{Working, IsFrozenFor, IsCollected, IsBuilding, frozen_in}

@@ -1,17 +1,15 @@
 -- A row that is put in its leaf.
-use Rattle.std.proofs.Common.{◌≡◌, ◌≢◌, ℕ, ◌+◌, ◌*◌, ◌<◌, ◌≤◌, Bool, true, false, cond, List, [], ◌∷◌, ◌++◌, length, Option, Some, None, refl, sym, ap, ◌∙◌, subst, inl, inr, arith, append-nil}
+use Rattle.std.proofs.Common.{◌≡◌, ℕ, ◌+◌, ◌<◌, ◌≤◌, true, false, List, [], ◌∷◌, ◌++◌, Some, refl, sym, ap, ◌∙◌, subst, inl, arith, append-nil}
 use Rattle.dim_hierarchy.specs.Dimension.{Dimension}
 use Rattle.dim_hierarchy.specs.declared.row.Row.{Row}
 use Rattle.dc_node.specs.Block.{is_leaf, is_full, rows_in, with_rows}
 use Rattle.dc_node.specs.declared.block.Block.{Block}
 use Rattle.dc_node.specs.declared.block.Body.TheVariants.{Rows}
-use Rattle.row_ledger.specs.Past.{insert_at}
 use Rattle.tree_shape.specs.Laws.{OtherLaw, PutLaw, CollectOtherLaw}
 use Rattle.tree_shape.specs.Shape.{Shape}
 use Rattle.tree_shape.specs.Steps.{AfterPut}
-use Rattle.tree_shape.specs.Trees.{IsTree}
 use Rattle.volap_cell.specs.Cells.{CellValue, BlockCell, block_in, has_block}
-use Rattle.volap_cell.specs.Errands.{RowWay, AtBlock, row_way, way_of, place_of}
+use Rattle.volap_cell.specs.Errands.{AtBlock, row_way, way_of, place_of}
 use Rattle.volap_cell.specs.Ghost.{Ghost}
 use Rattle.volap_cell.specs.Growing.{table_of}
 use Rattle.volap_cell.specs.Invariant.{InvWith}
@@ -19,21 +17,19 @@ use Rattle.volap_cell.specs.Setting.{Setting}
 use Rattle.volap_cell.specs.Steps.{IsHere, IsKept, Keeps, Makes}
 use Rattle.volap_cell.specs.Stocking.{cells_at}
 use Rattle.volap_cell.specs.TreeKinds.{DoesPutInLeaf, HasRow, on_way}
-use Rattle.volap_cell.specs.Turning.{IsIn}
 use Rattle.volap_cell.specs.Values.{ActorValue, ErrandValue}
-use Rattle.volap_cell.specs.View.{View, view, row_at}
+use Rattle.volap_cell.specs.View.{View, view}
 use Rattle.volap_cell.specs.World.{World, Change, change, held, put, after, Agrees}
 use Rattle.volap_cell.specs.declared.errand.RowErrand.{RowErrand}
 use Rattle.volap_cell.specs.declared.errand.Way.TheVariants.{Carried, Put}
 use Rattle.volap_cell.specs.declared.kind.Kind.TheVariants.{PutInLeaf}
 use Rattle.volap_cell.proofs.Actors.{row-at, row-taken, row-reads}
 use Rattle.volap_cell.proofs.Frames.{first, elsewhere}
-use Rattle.volap_cell.proofs.Seen.{beside, actor_beside}
+use Rattle.volap_cell.proofs.Seen.{actor_beside}
 use Rattle.volap_cell.proofs.Touches.{turned-block}
 use Rattle.core_tree.specs.Due.{CanPutInLeaf}
 use Rattle.core_tree.proofs.Carriers.{Carries, carries, carried-way, must-at}
-use Rattle.core_tree.proofs.Moves.{Moved, Went}
-use Rattle.core_tree.proofs.TreeSteps.{TreeStep, tree-kept, with_shape, of_steps}
+use Rattle.core_tree.proofs.TreeSteps.{TreeStep, tree-kept, of_steps}
 
 module _ (puts : PutLaw) (c : Change) (b : ActorValue) (s : Setting) (w : World) (n : ℕ) (g : Ghost) (i : InvWith s (view s w) g) (ag : Agrees w (c ∷ []) n (w.actors n)) (d : DoesPutInLeaf c (w.actors n) b) where
   abbrev v : View

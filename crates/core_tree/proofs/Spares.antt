@@ -1,8 +1,8 @@
 -- Spares in a purse of which the end is used, and the owners of their cells.
-use Rattle.std.proofs.Common.{◌≡◌, ◌≢◌, ℕ, ◌+◌, ◌≤◌, map, arith, inl, inr, Bool, true, false, cond, eqb, List, [], ◌∷◌, ◌++◌, refl, sym, ap, subst, ◌∙◌}
+use Rattle.std.proofs.Common.{◌≡◌, ◌≢◌, ℕ, ◌+◌, ◌≤◌, arith, inl, inr, Bool, true, false, cond, eqb, List, [], ◌∷◌, ◌++◌, refl, sym, ap, subst, ◌∙◌}
 use Rattle.cell_stock.specs.Stock.{cells_of}
 use Rattle.cell_stock.specs.declared.purse.Spare.{Spare}
-use Rattle.tree_shape.specs.Counts.{Each, Among, same, times}
+use Rattle.tree_shape.specs.Counts.{Each, Among, times}
 use Rattle.tree_shape.specs.Shape.{Shape, Node}
 use Rattle.tree_shape.specs.Steps.{IsSpare, AreSpares, AreApart}
 use Rattle.tree_shape.proofs.Divisions.{each-both}

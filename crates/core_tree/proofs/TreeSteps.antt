@@ -1,22 +1,16 @@
 -- A commit of blocks by which a row goes on in its tree, down or into its leaf, keeps the whole invariant, and less is left.
-use Rattle.std.proofs.Common.{◌≡◌, ◌≢◌, ℕ, ◌+◌, ◌*◌, ◌<◌, ◌≤◌, Bool, true, false, cond, eqb, leb, ◌&&◌, ◌||◌, ◌==◌, List, [], ◌∷◌, ◌++◌, length, Option, Some, None, IsSome, refl, sym, ap, ◌∙◌, subst, ◌⊎◌, inl, inr, arith}
-use Rattle.dim_hierarchy.specs.declared.row.Row.{Row}
-use Rattle.dc_node.specs.declared.block.Block.{Block}
+use Rattle.std.proofs.Common.{◌≡◌, ◌≢◌, ℕ, ◌+◌, ◌<◌, ◌≤◌, Bool, true, false, cond, eqb, leb, List, [], ◌∷◌, ◌++◌, Option, Some, None, refl, sym, ap, ◌∙◌, subst, ◌⊎◌, inl, inr, arith}
 use Rattle.cell_stock.specs.declared.purse.Spare.{Spare}
 use Rattle.query_router.specs.declared.part.Part.{Part}
-use Rattle.row_ledger.specs.Shards.{is_live, is_on, is_of, Place, frontier}
-use Rattle.row_ledger.specs.declared.event.Event.{Event}
-use Rattle.shard_store.specs.declared.gate.Phase.TheVariants.{Frozen, Gone}
 use Rattle.std.specs.Prelude.{sum_by}
-use Rattle.std.specs.List.{list_any}
 use Rattle.tree_shape.specs.Counts.{Each}
 use Rattle.tree_shape.specs.Laws.{OtherLaw, CollectOtherLaw}
 use Rattle.tree_shape.specs.Shape.{Shape}
 use Rattle.tree_shape.proofs.Queries.{leb-le, leb-gt}
-use Rattle.tree_shape.proofs.Walks.{on_bool, eqb-eq, eqb-ne, eqb-self, eqb-no}
+use Rattle.tree_shape.proofs.Walks.{on_bool, eqb-eq, eqb-self, eqb-no}
 use Rattle.volap_cell.specs.Cells.{CellValue, block_in, has_block}
-use Rattle.volap_cell.specs.Errands.{RowWay, RowPlace, AtBlock, InLeaf, Taken, ReadPart, way_of, taken_of, read_of, read_in_task, place_of, row_way, has_passed}
-use Rattle.volap_cell.specs.Falls.{Left, Falls, GoesOn, left, far, rows_of_way, rows_of_task, rows_of_errand, gates_of_way, gates_of_task, gates_of_errand, gates_of_work, gates_of_part, control_of, of_work, job_left, gone_left, one_if_any, rows_of_part}
+use Rattle.volap_cell.specs.Errands.{RowWay, AtBlock, ReadPart, way_of, taken_of, read_of, place_of, row_way, has_passed}
+use Rattle.volap_cell.specs.Falls.{left, far, rows_of_way, rows_of_task, rows_of_errand, gates_of_way, gates_of_task, gates_of_errand, gates_of_work, gates_of_part, control_of, of_work, job_left, gone_left, one_if_any, rows_of_part}
 use Rattle.volap_cell.specs.Ghost.{Ghost, Owner, InTree, InPurse}
 use Rattle.volap_cell.specs.Growing.{table_of}
 use Rattle.volap_cell.specs.Invariant.{InvWith}
@@ -27,7 +21,7 @@ use Rattle.volap_cell.specs.Stocking.{cells_at}
 use Rattle.volap_cell.specs.Sums.{sum_below}
 use Rattle.volap_cell.specs.TreeKinds.{HasRow, on_way}
 use Rattle.volap_cell.specs.Turning.{is_inside, inside_of}
-use Rattle.volap_cell.specs.Values.{ActorValue, ErrandValue, TaskValue, OfRow, Unread, Read}
+use Rattle.volap_cell.specs.Values.{ActorValue, ErrandValue}
 use Rattle.volap_cell.specs.View.{View, view}
 use Rattle.volap_cell.specs.World.{World, Change, put, after, Agrees}
 use Rattle.volap_cell.specs.declared.errand.RowErrand.{RowErrand}
