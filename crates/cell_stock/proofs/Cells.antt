@@ -1,5 +1,5 @@
 -- Numbers of cells that differ.
-use Rattle.std.proofs.Common.{ℕ, ◌≡◌, ◌+◌, ◌<◌, ◌≤◌, eqb, List, [], ◌∷◌, ◌++◌, length, get_or, refl, sym, ap, ◌∙◌, subst, arith, lit<, take, drop, ◌^◌, All, Contains, IsPermutation}
+use Rattle.std.proofs.Common.{ℕ, ◌≡◌, ◌+◌, ◌-◌, ◌<◌, ◌≤◌, eqb, List, [], ◌∷◌, ◌++◌, length, get_or, refl, sym, ap, ◌∙◌, subst, arith, lit<, take, drop, ◌^◌, All, Contains, IsPermutation}
 use Rattle.std.proofs.lemmas.List.{length-append, get_or_append_left, get_or-append-add, get_or_default, take-append-drop, length_push, map-id, map_push, map-append, append_assoc, append-nil, length-map}
 use Rattle.std.proofs.lemmas.List.Sorted.{All-permutation, IsPermutation-append_comm, IsPermutation-append_left, IsPermutation-append_right}
 use Rattle.std.specs.List.{IsDistinct, range_with_len}
@@ -13,17 +13,17 @@ use Rattle.std.proofs.lemmas.List.Folds.{Any-from_list_any}
 use Rattle.std.proofs.lemmas.Map.Keys.{IsDistinct-from_apart, apart_from_distinct, IsDistinct-IsPermutation}
 use Rattle.std.proofs.lemmas.Map.Steps.{length-le_from_distinct_below}
 
-pub IsDistinct-range : (n : ℕ) → IsDistinct eqb (range_with_len 0 n)
-IsDistinct-range n = IsDistinct-from_apart eqb (range_with_len 0 n)
+pub IsDistinct-range : (first n : ℕ) → IsDistinct eqb (range_with_len first n)
+IsDistinct-range first n = IsDistinct-from_apart eqb (range_with_len first n)
     (λ i j d less within.
-    let m = length-range_with_len 0 n in
-    let a = get_or-range_with_len 0 n i d (omega arith) in
-    let b = get_or-range_with_len 0 n j d (omega arith) in
-    ne_eqb (get_or (range_with_len 0 n) i d) (get_or (range_with_len 0 n) j d) (λ e. omega (arith, a, b, e)))
+    let m = length-range_with_len first n in
+    let a = get_or-range_with_len first n i d (omega arith) in
+    let b = get_or-range_with_len first n j d (omega arith) in
+    ne_eqb (get_or (range_with_len first n) i d) (get_or (range_with_len first n) j d) (λ e. omega (arith, a, b, e)))
 
-pub range_below : (n : ℕ) → All (λ cell. cell < n) (range_with_len 0 n)
-range_below n = All-from_get_or (λ cell. cell < n) (range_with_len 0 n) 0
-    (λ i within. let m = length-range_with_len 0 n in let e = get_or-range_with_len 0 n i 0 (omega arith) in omega (arith, e))
+pub range_below : (first n : ℕ) → All (λ cell. cell < n) (range_with_len first (n - first))
+range_below first n = All-from_get_or (λ cell. cell < n) (range_with_len first (n - first)) 0
+    (λ i within. let m = length-range_with_len first (n - first) in let e = get_or-range_with_len first (n - first) i 0 (omega arith) in omega (arith, e))
 
 -- numbers below n that differ are at most n
 pub length-le_from_distinct : (xs : List ℕ) (n : ℕ) → IsDistinct eqb xs → All (λ cell. cell < n) xs → length xs ≤ n
@@ -57,10 +57,10 @@ IsDistinct-apart xs ys distinct = λ j d within in_xs.
     let same = get_or_default xs in_xs.0 d (get_or ys j d) in_xs.1 in
     eqb-false (get_or xs in_xs.0 d) (get_or ys j d) f (same ∙ in_xs.2)
 
-pub IsStock-new : (n : ℕ) → IsStock (record { cells = n; free = range_with_len 0 n; stamps = 0; ids = 0 })
-IsStock-new n = record {
-  known = range_below n;
-  once = IsDistinct-range n;
+pub IsStock-over : (first n : ℕ) → IsStock (record { cells = n; free = range_with_len first (n - first); stamps = 0; ids = 0 })
+IsStock-over first n = record {
+  known = range_below first n;
+  once = IsDistinct-range first (n - first);
   stamps = lit< tt;
   ids = lit< tt;
 }

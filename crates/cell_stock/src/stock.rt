@@ -1,4 +1,4 @@
-ghost use Rattle.std.specs.Prelude.{ℕ, ◌≡◌, ◌+◌, ◌<◌, ◌≤◌, ◌^◌, ◌↔◌, List, [], ◌++◌, length, vec_len, vec_capacity, IfOk, IfSome, IfNone, IsNone};
+ghost use Rattle.std.specs.Prelude.{ℕ, ◌≡◌, ◌+◌, ◌-◌, ◌<◌, ◌≤◌, ◌^◌, ◌↔◌, List, [], ◌++◌, length, vec_len, vec_capacity, IfOk, IfSome, IfNone, IsNone};
 ghost use Rattle.std.specs.List.{range_with_len};
 ghost use Rattle.cell_stock.specs.Stock.{StockValue, PurseValue, cells_of, IsStock, Takes, AreOut, Gives, AreFresh};
 ghost use Rattle.cell_stock.specs.declared.purse.Spare.{Spare};
@@ -32,9 +32,18 @@ impl Stock {
     pub fn new(alloc: Global, cells: u32) -> Result<Stock, AllocError>
         ensures { IfOk result (λ s. s ≡ record { cells = cells; free = range_with_len 0 cells; stamps = 0; ids = 0 }) }
     {
+        Stock::over(alloc, 0, cells)
+    }
+
+    /// The cells from `first` on are free, and nothing was given out. Those before it never are.
+    pub fn over(alloc: Global, first: u32, cells: u32) -> Result<Stock, AllocError>
+        ensures { IfOk result (λ s. s ≡ record { cells = cells; free = range_with_len first (cells - first); stamps = 0; ids = 0 }) }
+    {
+        let mut free: Vec<u32> = (first..cells).collect(alloc)?;
+        free.reserve(first as usize)?;
         Ok(Stock {
             cells,
-            free: (0..cells).collect(alloc)?,
+            free,
             stamps: 0,
             ids: 0,
         })

@@ -44,7 +44,7 @@ IsDistinct-filter test (r ∷ rows) once =
     (λ _. rest)
 
 -- what holds of all that was acknowledged holds of what was before a position
-All-acked_before : (P : Ack → Type 0) (past : List Event) (of : ℕ) → All P (acked past) → All P (acked (before past of))
+pub All-acked_before : (P : Ack → Type 0) (past : List Event) (of : ℕ) → All P (acked past) → All P (acked (before past of))
 All-acked_before P [] of all = all
 All-acked_before P (e ∷ past) of all =
     cond_both (nat_lt (length past) of) (e ∷ past) (before past of) (λ earlier. All P (acked earlier))
@@ -56,7 +56,7 @@ All-acked_before P (e ∷ past) of all =
 All-own : (P : Ack → Type 0) (past : List Event) (server : ℕ) → All P (acked past) → All P (own past server)
 All-own P past server all = All-filter (λ (a : Ack). a.server == server) P (acked past) all
 
-All-published : (P : Ack → Type 0) (past : List Event) → All P (acked past) → All P (published past)
+pub All-published : (P : Ack → Type 0) (past : List Event) → All P (acked past) → All P (published past)
 All-published P [] all = All-nil P
 All-published P (e ∷ past) all =
     let older : All P (acked past) = All-cons_option P (ack_in past e) (acked past) all in
@@ -82,7 +82,7 @@ All-passed P (e ∷ past) server all =
     here None older = All-nil P
     here (Some p) older = cond_both (p.server == server) (published past) [] (All P) (λ _. All-published P past older) (λ _. All-nil P)
 
-All-known : (P : Ack → Type 0) (h : List Dimension) (past : List Event) (server : ℕ) → All P (acked past) → All P (known h past server)
+pub All-known : (P : Ack → Type 0) (h : List Dimension) (past : List Event) (server : ℕ) → All P (acked past) → All P (known h past server)
 All-known P h past server all =
     All-append P (own past server ++ passed past server) (listed h past server)
     (All-append P (own past server) (passed past server) (All-own P past server all) (All-passed P past server all))

@@ -161,6 +161,30 @@ comes_from-unmade : (site : Site) (usable : ℕ → Bool) (past : List Event) (x
 comes_from-unmade site usable past x y each made unmade is =
     let below : x < ids_made site.workers past = comes_from-made site usable past x y each made is in omega arith
 
+-- of two shards from which a third one comes, one comes from the other
+pub comes_from-comparable : (site : Site) (usable : ℕ → Bool) (past : List Event) (x y z : ℕ)
+    → EachEvent (Stands site usable) past → z < ids_made site.workers past → comes_from past x z ≡ true → comes_from past y z ≡ true
+    → (comes_from past x y ≡ true) ⊎ (comes_from past y x ≡ true)
+comes_from-comparable site usable [] x y z each made from_x from_y =
+    let same_x : z ≡ x = eqb-true z x from_x in
+    let same_y : z ≡ y = eqb-true z y from_y in
+    inl (eq-eqb y x (sym same_y ∙ same_x))
+comes_from-comparable site usable (e ∷ past) x y z each made from_x from_y =
+    elim (or_cases (z == x) (comes_from past x (parent_in e z)) from_x) [
+      | inl same ↦ inr (subst (λ t. comes_from (e ∷ past) y t ≡ true) (eqb-true z x same) from_y)
+      | inr older_x ↦ elim (or_cases (z == y) (comes_from past y (parent_in e z)) from_y) [
+        | inl same ↦ inl (subst (λ t. comes_from (e ∷ past) x t ≡ true) (eqb-true z y same) from_x)
+        | inr older_y ↦
+            let parent : parent_in e z < ids_made site.workers past = parent_in-made site usable past e z each.1 each.0 made in
+            let made_x = comes_from-made site usable past x (parent_in e z) each.1 parent older_x in
+            let made_y = comes_from-made site usable past y (parent_in e z) each.1 parent older_y in
+            elim (comes_from-comparable site usable past x y (parent_in e z) each.1 parent older_x older_y) [
+              | inl below ↦ inl (comes_from-older site usable past e x y each.0 made_y ∙ below)
+              | inr below ↦ inr (comes_from-older site usable past e y x each.0 made_x ∙ below)
+            ]
+      ]
+    ]
+
 -- of the shards that stand none comes from another
 pub live-apart : (site : Site) (usable : ℕ → Bool) (past : List Event) (x y : ℕ)
     → EachEvent (Stands site usable) past → is_live site.workers past x ≡ true → is_live site.workers past y ≡ true → comes_from past x y ≡ true → y ≡ x

@@ -30,6 +30,7 @@ pub record IsNewGate (h : List Dimension) (shard root stamp height : ℕ) (total
   pub pins : g.pins ≡ 0
   pub empty : g.queue.rows ≡ []
   pub queue : IsQueueOf h g.queue
+  pub gone : g.gone ≡ []
 
 -- inserts go to the queue, and the shard has no successors
 abbrev pub IsFrozen : Phase → Type 0

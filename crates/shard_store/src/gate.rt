@@ -1,7 +1,7 @@
 ghost use Rattle.std.specs.Prelude.{◌≡◌, ◌≢◌, ◌↔◌, ◌+◌, ◌<◌, ◌^◌, [], length, IsOk, IfErr, OnOk, OnErr};
 ghost use Rattle.dim_hierarchy.specs.Row.{IsRowOf};
 
-use crate::queue::Queue;
+use crate::queue::{CellList, Queue};
 use describing_set::DescSet;
 use dim_hierarchy::{Hierarchy, Row};
 use measure_agg::Agg;
@@ -40,6 +40,8 @@ pub struct Gate {
     pub active: u64,
     pub pins: u64,
     pub queue: Queue,
+    /// Of a shard that is gone, the cells of its tree that aren't free again.
+    pub gone: CellList,
 }
 
 impl Gate {
@@ -70,6 +72,7 @@ impl Gate {
             active: 0,
             pins: 0,
             queue: Queue::new(alloc, h),
+            gone: CellList::new(alloc),
         }
     }
 

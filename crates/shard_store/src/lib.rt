@@ -5,4 +5,4 @@ mod gate;
 mod queue;
 
 pub use gate::{Gate, NotYet, Phase};
-pub use queue::{Queue, RowList};
+pub use queue::{CellList, Queue, RowList};

@@ -10,6 +10,9 @@ use std::alloc::{AllocError, Global};
 /// Rows in the order in which they came.
 pub type RowList = Items<Row>;
 
+/// Numbers of cells.
+pub type CellList = Items<u32>;
+
 /// Rows that are in no tree yet, with their aggregate and their describing set.
 #[derive(Drop)]
 pub struct Queue {

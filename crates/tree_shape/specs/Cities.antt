@@ -63,6 +63,7 @@ sample turn = record {
     active = 0;
     pins = 0;
     queue = record { rows = []; agg = agg []; set = set_of [] };
+    gone = [];
   };
   gate_cell = 0;
   root = 1;

@@ -43,3 +43,16 @@ fn numbers_shards(rt: HostRuntime) -> Result<(), Fail> {
     assert_eq!(rt; stock.shard_ids(0), 3);
     Ok(())
 }
+
+#[test]
+fn cells_before_the_first_one_are_never_free(rt: HostRuntime) -> Result<(), Fail> {
+    let mut stock = Stock::over(rt.alloc(), 5, 8)?;
+    let mut purse = Purse::new(rt.alloc());
+    purse.reserve(4)?;
+    assert!(rt; stock.take(4, &mut purse).is_none());
+    assert!(rt; stock.take(3, &mut purse).is_some());
+    assert_eq!(rt; purse.next(), Spare { cell: 7, stamp: 2 });
+    assert_eq!(rt; purse.next(), Spare { cell: 6, stamp: 1 });
+    assert_eq!(rt; purse.next(), Spare { cell: 5, stamp: 0 });
+    Ok(())
+}

@@ -1,0 +1,8 @@
+pub mod Paths
+pub mod Boxes
+pub mod Clears
+pub mod Ahead
+pub mod Widens
+pub mod Rows
+pub mod AcksInsert
+pub mod Ready

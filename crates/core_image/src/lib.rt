@@ -1,0 +1,6 @@
+//! The steps of commands at images, desks and the ledger.
+#![tactic(auto)]
+
+mod acks;
+
+pub use acks::ack;

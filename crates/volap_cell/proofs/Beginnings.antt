@@ -1,0 +1,64 @@
+-- What began at a position of a history is of one kind, and an insert that ended there was acknowledged or has failed.
+use Rattle.std.proofs.Common.{◌≡◌, ℕ, zero, suc, List, [], ◌∷◌, Bool, true, not, refl, sym, ap, arith, ◌==◌, ◌∙◌, inl, inr, map}
+use Rattle.std.specs.Prelude.{Option, Some, None, Contains, IsTrue, option_and_then}
+use Rattle.std.specs.List.{list_any}
+use Rattle.std.proofs.lemmas.Bool.{eq-eqb, false≢true, or_right}
+use Rattle.std.proofs.lemmas.List.Elements.{Contains-append_right}
+use Rattle.row_ledger.specs.Past.{Ack, Insert, Query, acked, call_at, call_in, event_at, failed, has_ended, insert_at, insert_in, is_kept, query_at, query_in}
+use Rattle.row_ledger.specs.Right.{Site, EachEvent, Stands}
+use Rattle.row_ledger.specs.declared.event.Event.{Event}
+use Rattle.row_ledger.specs.declared.event.Event.TheVariants.{Begun}
+use Rattle.row_ledger.specs.declared.settings.Call.{Call}
+use Rattle.row_ledger.proofs.Elements.{Contains-nil}
+use Rattle.row_ledger.proofs.Ended.{ended-cases, number_at}
+use Rattle.dim_hierarchy.specs.declared.row.Row.{Row}
+
+-- an insert is no query and no call
+
+insert-query : (e : Option Event) (i : Insert) (q : Query) → option_and_then insert_in e ≡ Some i → option_and_then query_in e ≡ Some q → ⊥
+insert-query None i q a b = cc
+insert-query (Some (Begun n s r)) i q a b = cc
+insert-query (Some _) i q a b = cc
+
+insert-call : (e : Option Event) (i : Insert) (c : Call) → option_and_then insert_in e ≡ Some i → option_and_then call_in e ≡ Some c → ⊥
+insert-call None i c a b = cc
+insert-call (Some (Begun n s r)) i c a b = cc
+insert-call (Some _) i c a b = cc
+
+pub no-query : (h : List Event) (p : ℕ) (i : Insert) (q : Query) → insert_at h p ≡ Some i → query_at h p ≡ Some q → ⊥
+no-query h p i q a b = insert-query (event_at h p) i q a b
+
+pub no-call : (h : List Event) (p : ℕ) (i : Insert) (c : Call) → insert_at h p ≡ Some i → call_at h p ≡ Some c → ⊥
+no-call h p i c a b = insert-call (event_at h p) i c a b
+
+-- the event that began an insert
+
+begun-event : (e : Option Event) (i : Insert) → option_and_then insert_in e ≡ Some i → (n : ℕ) × (e ≡ Some (Begun n i.server i.row))
+begun-event None i q = cc
+begun-event (Some (Begun n s r)) i q = let j : record { server = s; row = r } ≡ i = cc in (n, ap (λ (i : Insert). Some (Begun n i.server i.row)) j)
+begun-event (Some _) i q = cc
+
+-- a row's number is the position of its beginning
+pub row-number : (site : Site) (usable : ℕ → Bool) (h : List Event) (p : ℕ) (i : Insert) → EachEvent (Stands site usable) h → insert_at h p ≡ Some i → i.row.no ≡ p
+row-number site usable h p i each begun = let e = begun-event (event_at h p) i begun in number_at site usable h p e.0 i.server i.row each e.1
+
+among : (xs : List ℕ) (n : ℕ) → Contains xs n → list_any (λ x. x == n) xs ≡ true
+among [] n c = absurd (Contains-nil n c)
+among (x ∷ xs) n (zero, k, is) = rw (eq-eqb x n is) refl
+among (x ∷ xs) n (suc j, k, is) = or_right (x == n) (list_any (λ x. x == n) xs) (among xs n (j, omega arith, is))
+
+-- the acknowledgement of a row
+ack-of : (ks : List Ack) (r : Row) → Contains (map (λ (k : Ack). k.row) ks) r → (k : Ack) × Contains ks k × (k.row ≡ r)
+ack-of [] r c = absurd (Contains-nil r c)
+ack-of (k ∷ ks) r (zero, l, is) = (k, (0, omega arith, refl), is)
+ack-of (k ∷ ks) r (suc j, l, is) = let more = ack-of ks r (j, omega arith, is) in (more.0, Contains-append_right (k ∷ []) ks more.0 more.1, more.2)
+
+-- an insert that ended and didn't fail was acknowledged
+pub acked-of : (site : Site) (usable : ℕ → Bool) (h : List Event) (p : ℕ) (i : Insert) → EachEvent (Stands site usable) h → insert_at h p ≡ Some i → has_ended h p ≡ true → IsTrue (is_kept h p)
+    → (k : Ack) × Contains (acked h) k × (k.row.no ≡ p)
+acked-of site usable h p i each begun ended kept =
+    let e = begun-event (event_at h p) i begun in
+    elim (ended-cases site usable h p e.0 i.server i.row each e.1 ended) [
+      | inl c ↦ let k = ack-of (acked h) i.row c in (k.0, k.1, ap (λ (r : Row). r.no) k.2 ∙ row-number site usable h p i each begun)
+      | inr f ↦ absurd (false≢true (sym (ap not (among (failed h) p f)) ∙ kept))
+    ]

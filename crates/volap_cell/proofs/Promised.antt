@@ -1,0 +1,304 @@
+-- The promises of the invariant: the one place of each row, and what images and queries have.
+use Rattle.std.proofs.Common.{◌≡◌, ◌≢◌, ℕ, zero, suc, ◌<◌, ◌≤◌, List, [], ◌∷◌, true, false, eqb, get_or, refl, sym, ap, subst, arith, ◌∙◌, ◌⊎◌, inl, inr}
+use Rattle.std.specs.Prelude.{Option, Some, None, Contains, IsTrue, Any}
+use Rattle.std.proofs.lemmas.Bool.{cases_lt, eq-eqb, false≢true}
+use Rattle.std.proofs.lemmas.List.Elements.{All-contains, All-contains_itself, Contains-append_cases}
+use Rattle.row_ledger.proofs.Descent.{comes_from-comparable, live-made}
+use Rattle.tree_shape.specs.Counts.{times}
+use Rattle.tree_shape.specs.Queries.{fits}
+use Rattle.row_ledger.proofs.Elements.{Contains-nil}
+use Rattle.describing_set.specs.DescSet.{covers}
+use Rattle.describing_set.specs.declared.listing.Spot.{Spot}
+use Rattle.row_ledger.specs.Bounds.{known}
+use Rattle.dim_hierarchy.specs.declared.row.Row.{Row}
+use Rattle.query_router.specs.Desk.{is_refused, is_taken}
+use Rattle.query_router.specs.declared.part.Part.{Part}
+use Rattle.query_router.specs.declared.part.PartState.{PartState}
+use Rattle.query_router.specs.declared.part.PartState.TheVariants as state_is
+use Rattle.row_ledger.specs.Past.{Ack, Insert, Query, insert_at, is_kept, query_at}
+use Rattle.row_ledger.specs.Shards.{comes_from, is_live}
+use Rattle.row_ledger.specs.declared.event.Event.{Event}
+use Rattle.volap_cell.specs.Desking.{AreLinesApart, AreUnrelated, IsQueryState, IsTaken}
+use Rattle.volap_cell.specs.Errands.{ReadPart, Taken, read_in_task, read_of, taken_by, taken_of}
+use Rattle.volap_cell.specs.Ghost.{Ghost}
+use Rattle.volap_cell.specs.Growing.{IsUnder, table_of}
+use Rattle.volap_cell.specs.ImageKinds.{doing}
+use Rattle.volap_cell.specs.Imaging.{IsCovered}
+use Rattle.volap_cell.specs.Invariant.{InvWith}
+use Rattle.volap_cell.specs.Promises.{HasNotRead, IsAheadOf, IsBeneath, IsCoveredBy, IsOnDesk, IsUnrouted, IsInOne, times_in, HasCounted, PlaceLaw, RowsLaw, ImageLaw, QueryLaw}
+use Rattle.volap_cell.specs.Querying.{IsCounted, IsEndOfPart, IsInTreeOf, IsReading, IsWalk, must_hold, pins_of}
+use Rattle.volap_cell.specs.Setting.{Setting, actor_count, site_in}
+use Rattle.volap_cell.specs.Stocking.{IsWhole}
+use Rattle.volap_cell.specs.Sums.{sum_below}
+use Rattle.volap_cell.specs.Telling.{IsProgress}
+use Rattle.volap_cell.specs.Values.{ErrandValue, JobValue, TaskValue, OfRow, Unread, Read}
+use Rattle.volap_cell.specs.View.{View, row_at, view}
+use Rattle.volap_cell.specs.World.{World}
+use Rattle.volap_cell.specs.declared.command.Work.{Work}
+use Rattle.volap_cell.specs.declared.command.Work.TheVariants as work_is
+use Rattle.volap_cell.specs.declared.role.Role.TheVariants.{Session}
+use Rattle.tree_shape.proofs.Walks.{on_bool, eqb-eq, eqb-ne}
+use Rattle.volap_cell.proofs.Beginnings.{acked-of, no-query, no-call}
+use Rattle.volap_cell.proofs.Knowing.{acked-begun, known-acked}
+use Rattle.volap_cell.proofs.Standings.{standing, in-one, in-none}
+
+-- An insert that hasn't passed a gate stands on its server's desk, or isn't routed.
+
+-- what the actor of an open insert does
+at-work : (s : Setting) (v : View) (g : Ghost) → InvWith s v g → (a r : ℕ) (i : Insert) (job : Option JobValue) (work : Work) → v.commands a ≡ doing r work → insert_at v.history r ≡ Some i
+    → IsProgress s v.history r work job (v.roles a) → IsOnDesk s v i r ⊎ IsUnrouted v r
+at-work s v g inv a r i job (work_is.Insert row false) command begun progress = inr (a, row, command)
+at-work s v g inv a r i job (work_is.Insert row true) command begun progress =
+    let server : progress.0 ≡ i.server = (let both : Some (record { server = progress.0; row = row }) ≡ Some i = sym progress.2 ∙ begun in cc) in
+    let role : v.roles a ≡ Session i.server = subst (λ n. v.roles a ≡ Session n) server progress.1 in
+    let within = (inv.telling.rows r i begun).1 in
+    let op = inv.desking.on_desk a i.server (record { of = r; work = work_is.Insert row true }) command role refl in
+    let one = inv.desking.insert i.server r i within op begun in
+    inl (op, (one.0, one.1))
+at-work s v g inv a r i job work_is.Query command begun progress = absurd (no-query v.history r i progress.0 begun progress.2)
+at-work s v g inv a r i job (work_is.Sync server pulled) command begun progress = absurd (no-call v.history r i _ begun progress.0)
+at-work s v g inv a r i job work_is.Barrier command begun progress = absurd (no-call v.history r i _ begun progress)
+at-work s v g inv a r i job (work_is.Settle pulls) command begun progress = absurd (no-call v.history r i _ begun progress.0)
+at-work s v g inv a r i job (work_is.Split shard) command begun progress = absurd (no-call v.history r i _ begun progress.0)
+at-work s v g inv a r i job (work_is.Move shard worker) command begun progress = absurd (no-call v.history r i _ begun progress.0)
+at-work s v g inv a r i job (work_is.Balance b) command begun progress = absurd (no-call v.history r i _ begun progress)
+at-work s v g inv a r i job (work_is.Shards shown) command begun progress = absurd (no-call v.history r i _ begun progress.0)
+at-work s v g inv a r i job (work_is.Tree shard stands shown) command begun progress = absurd (no-call v.history r i _ begun progress.0)
+at-work s v g inv a r i job (work_is.Audit shown) command begun progress = absurd (no-call v.history r i _ begun progress.0)
+
+before-gate : (s : Setting) (v : View) (g : Ghost) → InvWith s v g → (r : ℕ) (i : Insert) → insert_at v.history r ≡ Some i → IsTrue (is_kept v.history r) → g.placed r ≡ false → IsOnDesk s v i r ⊎ IsUnrouted v r
+before-gate s v g inv r i begun kept out = elim (inv.telling.status r i begun) [
+  | inl ended ↦
+      let k = acked-of _ _ v.history r i inv.telling.right.right.each begun ended kept in
+      let placed : g.placed r ≡ true = subst (λ n. g.placed n ≡ true) k.2 (inv.placing.acked_rows k.0 k.1).0 in
+      absurd (false≢true (sym out ∙ placed))
+  | inr x ↦
+      let command : v.commands x.0 ≡ doing r x.1.work = x.2 ∙ ap (λ n. Some (record { of = n; work = x.1.work })) x.3 in
+      at-work s v g inv x.0 r i (v.jobs x.0) x.1.work command begun (subst (λ n. IsProgress s v.history n x.1.work (v.jobs x.0) (v.roles x.0)) x.3 (inv.telling.progress x.0 x.1 x.2))
+]
+
+pub place-law : PlaceLaw
+place-law s w inv =
+    let v = view s w in let g = inv.ghost_of in let i = inv.holds in (
+      standing s v g i,
+      λ r ins begun kept. on_bool (g.placed r)
+          (λ placed. inl (g.home r, in-one s v g i r placed))
+          (λ out. inr (in-none s v g i r out, before-gate s v g i r ins begun kept out)),
+    )
+
+-- The rows of the shards that stand.
+
+eqb-cases : (x y : ℕ) → (x ≡ y) ⊎ (x ≢ y)
+eqb-cases x y = on_bool (eqb x y) (λ q. inl (eqb-eq x y q)) (λ q. inr (eqb-ne x y q))
+
+-- a row that a shard has has passed a gate
+is-placed : (s : Setting) (v : View) (g : Ghost) (i : InvWith s v g) (x r : ℕ) → is_live s.workers v.history x ≡ true → 1 ≤ times_in v (standing s v g i).gate (standing s v g i).shape x r → g.placed r ≡ true
+is-placed s v g i x r live some = on_bool (g.placed r) (λ placed. placed)
+    (λ out. let none : times_in v (standing s v g i).gate (standing s v g i).shape x r ≡ 0 = in-none s v g i r out x live in absurd (omega arith))
+
+-- and in that one shard
+same-shard : (s : Setting) (v : View) (g : Ghost) (i : InvWith s v g) (x r : ℕ) → is_live s.workers v.history x ≡ true → 1 ≤ times_in v (standing s v g i).gate (standing s v g i).shape x r
+    → IsInOne s v (standing s v g i) r x
+same-shard s v g i x r live some =
+    let one = in-one s v g i r (is-placed s v g i x r live some) in
+    elim (eqb-cases x (g.home r)) [
+      | inl same ↦ subst (λ y. IsInOne s v (standing s v g i) r y) (sym same) one
+      | inr other ↦ let none = one.others x live other in absurd (omega arith)
+    ]
+
+pub rows-law : RowsLaw
+rows-law s w inv =
+    let v = view s w in let g = inv.ghost_of in let i = inv.holds in (
+      standing s v g i,
+      λ x r live some. (i.placing.begun r (is-placed s v g i x r live some), i.telling.right.kept r (is-placed s v g i x r live some), same-shard s v g i x r live some),
+      λ k c. (g.home k.row.no, in-one s v g i k.row.no (i.placing.acked_rows k c).0),
+    )
+
+-- Images.
+
+-- a row's coordinate is that of its acknowledgement
+row-at : (v : View) (k : Ack) → insert_at v.history k.row.no ≡ Some (record { server = k.server; row = k.row }) → row_at v.history k.row.no ≡ k.row
+row-at v k begun = rw begun refl
+
+-- a row that a server must know is covered
+covered : (s : Setting) (w : World) (g : Ghost) (i : InvWith s (view s w) g) (server : ℕ) → server < s.servers → (k : Ack) → Contains (known s.hierarchy (view s w).history server) k
+    → IsCoveredBy s (view s w) (standing s (view s w) g i) server k
+covered s w g i server within k c =
+    let v = view s w in
+    let acked-k = known-acked s.hierarchy v.history server k c in
+    let at = row-at v k (acked-begun _ _ v.history k i.telling.right.right.each acked-k) in
+    let box = All-contains (λ (k : Ack). IsCovered s.hierarchy v.history v.row g.home (v.images server).spots k.row.no) (known s.hierarchy v.history server) k (i.covering.must server within) c in (
+      g.home k.row.no,
+      in-one s v g i k.row.no (i.placing.acked_rows k acked-k).0,
+      subst (λ (r : Row). Any (λ (spot : Spot). IsTrue (comes_from v.history spot.shard (g.home k.row.no)) × (covers s.hierarchy spot.set r.at ≡ true)) (v.images server).spots) at box,
+    )
+
+pub image-law : ImageLaw
+image-law s w inv =
+    let v = view s w in let g = inv.ghost_of in let i = inv.holds in
+    (standing s v g i, λ server within n d lt. covered s w g i server within (get_or (known s.hierarchy v.history server) n d) (All-contains_itself (known s.hierarchy v.history server) n d lt))
+
+-- Queries.
+
+-- the parts of a query with one shard are one, as a shard comes from itself
+apart-at : (h : List Event) (parts : List Part) (p other : Part) → AreLinesApart h parts → Contains parts p → Contains parts other → (p.shard ≡ other.shard) ⊎ AreUnrelated h p other
+apart-at h [] p other apart c d = absurd (Contains-nil p c)
+apart-at h (x ∷ parts) p other apart c d = elim (Contains-append_cases (x ∷ []) parts p c) [
+  | inl first ↦ elim (Contains-append_cases (x ∷ []) parts other d) [
+    | inl also ↦ inl (ap (λ (q : Part). q.shard) (sym (only-one x p first) ∙ only-one x other also))
+    | inr later ↦ inr (subst (λ (q : Part). AreUnrelated h q other) (only-one x p first) (All-contains (AreUnrelated h x) parts other apart.0 later))
+  ]
+  | inr later ↦ elim (Contains-append_cases (x ∷ []) parts other d) [
+    | inl first ↦ (let u = All-contains (AreUnrelated h x) parts p apart.0 later in inr (subst (λ (q : Part). AreUnrelated h p q) (only-one x other first) (u.1, u.0)))
+    | inr also ↦ apart-at h parts p other apart.1 later also
+  ]
+]
+  where
+    only-one : (x p : Part) → Contains (x ∷ []) p → x ≡ p
+    only-one x p (zero, lt, is) = is
+    only-one x p (suc n, lt, is) = absurd (omega arith)
+
+-- one summand is no more than the sum
+one-of : (n a : ℕ) (f : ℕ → ℕ) → a < n → f a ≤ sum_below n f
+one-of zero a f lt = absurd (omega arith)
+one-of (suc n) a f lt = elim (eqb-cases a n) [
+  | inl same ↦ (let e : f a ≡ f n = ap f same in omega arith)
+  | inr other ↦ (let lower : a < n = omega arith in let ih = one-of n a f lower in omega arith)
+]
+
+-- who has read something has taken a part
+reads-taken : (errand : Option ErrandValue) (p : ReadPart) → read_of errand ≡ Some p → taken_of errand ≡ None → ⊥
+reads-taken None p is none = cc
+reads-taken (Some e) p is none = cc
+
+-- a gate to which an actor's part is pinned has a whole tree
+pinned-whole : (s : Setting) (w : World) (g : Ghost) → InvWith s (view s w) g → (a c : ℕ) (p : ReadPart) → (view s w).reads a ≡ Some p → p.reading.pin ≡ Some c
+    → IsWhole (view s w).gates (view s w).phases (view s w).pins c
+pinned-whole s w g i a c p reads pin =
+    let v = view s w in
+    let gate = i.pinning.shard a c p reads pin in
+    let within : a < actor_count s = elim (cases_lt a (actor_count s)) [
+      | inl lt ↦ lt
+      | inr beyond ↦ absurd (reads-taken (w.actors a).errand p reads (i.numbering.nobody a beyond).3)
+    ] in
+    let one : pins_of c (v.reads a) ≡ 1 = rw reads (rw pin (rw (eq-eqb c c refl) refl)) in
+    let sum = one-of (actor_count s) a (λ a. pins_of c (v.reads a)) within in
+    let all = i.pinning.counts c in
+    (rw gate refl, inr (omega arith))
+
+-- a row that a part which has read its gate must hold is counted, or beneath what is noted
+by-reading : (s : Setting) (w : World) (g : Ghost) (i : InvWith s (view s w) g) (server shard of r : ℕ) (q : Query) (a : ℕ) (p : ReadPart) → (view s w).reads a ≡ Some p → p.server ≡ server → p.shard ≡ shard
+    → IsUnder (view s w).history g.placed g.home shard r → must_hold s.hierarchy (view s w).history of q r ≡ true → fits (table_of s (view s w).row) q.filter r ≡ true
+    → IsReading s (view s w).history (view s w).row (view s w).blocks (view s w).trees g.shape g.placed g.home of q shard (g.counted server shard) p.reading
+    → (1 ≤ times r (g.counted server shard)) ⊎ IsBeneath s (view s w) server shard r
+by-reading s w g i server shard of r q a p reads same_server same_shard under must fit reading =
+    at p.reading.pin refl reading.walk (reading.holds r must fit under)
+  where
+    at : (pin : Option ℕ) → p.reading.pin ≡ pin → IsWalk s (view s w).history (view s w).row (view s w).blocks (view s w).trees g.shape of q (g.counted server shard) p.reading pin
+        → (1 ≤ times r (g.counted server shard)) ⊎ IsInTreeOf g.shape pin r → (1 ≤ times r (g.counted server shard)) ⊎ IsBeneath s (view s w) server shard r
+    at None is walk holds = elim holds [ inl has ↦ inl has | inr never ↦ absurd never ]
+    at (Some c) is walk holds = elim holds [
+      | inl has ↦ inl has
+      | inr there ↦
+          let u = walk.1 in
+          let some = u.ok.whole r there must fit in
+          let most = u.ok.once r there in
+          elim (cases_lt 0 (times r (g.counted server shard))) [
+            | inl has ↦ inl has
+            | inr none ↦ inr (record {
+              actor = a;
+              part = p;
+              reads = reads;
+              server_is = same_server;
+              shard_is = same_shard;
+              gate = c;
+              pinned = is;
+              shape = g.shape c;
+              tree = i.growing.tree c (pinned-whole s w g i a c p reads is);
+              noted = u.noted;
+              items = u.are;
+              walks = u.ok.noted;
+              placed = there;
+              once = (let below : times r (g.counted server shard) ≡ 0 = omega arith in omega arith);
+            })
+          ]
+    ]
+
+-- what an actor reads is of the part that it took
+
+by-task : (e : ErrandValue) (task : TaskValue) → e.task ≡ task → (part : ReadPart) (t : Taken) → read_in_task e e.task ≡ Some part → Some (taken_by e) ≡ Some t → (part.server ≡ t.server) × (part.shard ≡ t.shard)
+by-task e (OfRow x) is part t a b = (let none : read_in_task e e.task ≡ None = rw is refl in cc)
+by-task e (Unread f) is part t a b = (let none : read_in_task e e.task ≡ None = rw is refl in cc)
+by-task e (Read x) is part t a b =
+    (let some : read_in_task e e.task ≡ Some (record { server = e.server; shard = e.shard; reading = x }) = rw is refl in
+    let one : part ≡ record { server = e.server; shard = e.shard; reading = x } = cc in
+    let two : taken_by e ≡ t = cc in
+    (ap (λ (p : ReadPart). p.server) one ∙ ap (λ (u : Taken). u.server) two, ap (λ (p : ReadPart). p.shard) one ∙ ap (λ (u : Taken). u.shard) two))
+
+reads-same : (errand : Option ErrandValue) (part : ReadPart) (t : Taken) → read_of errand ≡ Some part → taken_of errand ≡ Some t → (part.server ≡ t.server) × (part.shard ≡ t.shard)
+reads-same None part t a b = cc
+reads-same (Some e) part t a b = by-task e e.task refl part t a b
+
+-- what a part, by its state, gives of a row that is under its shard and that the query must hold
+by-state : (s : Setting) (w : World) (g : Ghost) (i : InvWith s (view s w) g) (server of r : ℕ) (q : Query) (p : Part) → IsUnder (view s w).history g.placed g.home p.shard r
+    → must_hold s.hierarchy (view s w).history of q r ≡ true → fits (table_of s (view s w).row) q.filter r ≡ true → ((view s w).desks server).op ≡ Some of → query_at (view s w).history of ≡ Some q
+    → (is_taken p ≡ true → IsTaken (view s w).taken server p)
+    → (state : PartState) → p.state ≡ state → IsQueryState q state → IsEndOfPart s (view s w).history (view s w).row g.placed g.home of q p.shard (g.counted server p.shard) state
+    → (1 ≤ times r (g.counted server p.shard)) ⊎ IsBeneath s (view s w) server p.shard r ⊎ (HasNotRead (view s w) server p × IsAheadOf s (view s w) (standing s (view s w) g i) p r)
+by-state s w g i server of r q p under must fit op asked taker (state_is.Waiting wanted) is valid end = inr (inr (inl (rw is refl), (g.home r, in-one s (view s w) g i r under.is_placed, under.comes)))
+by-state s w g i server of r q p under must fit op asked taker state_is.Taken is valid end =
+    let t = taker (rw is refl) in
+    at t ((view s w).reads t.0) refl
+  where
+    at : (t : IsTaken (view s w).taken server p) → (o : Option ReadPart) → (view s w).reads t.0 ≡ o
+        → (1 ≤ times r (g.counted server p.shard)) ⊎ IsBeneath s (view s w) server p.shard r ⊎ (HasNotRead (view s w) server p × IsAheadOf s (view s w) (standing s (view s w) g i) p r)
+    at t None none = inr (inr (inr (inr (t.0, t.1, t.2, t.3, t.4, none)), (g.home r, in-one s (view s w) g i r under.is_placed, under.comes)))
+    at t (Some part) reads =
+        let same = reads-same (w.actors t.0).errand part t.1 reads t.2 in
+        let server_is : part.server ≡ server = same.0 ∙ t.3 in
+        let shard_is : part.shard ≡ p.shard = same.1 ∙ t.4 in
+        let reading = i.querying.reading t.0 of q part reads (ap (λ n. ((view s w).desks n).op) server_is ∙ op) asked in
+        elim (by-reading s w g i server p.shard of r q t.0 part reads server_is shard_is under must fit
+        (subst (λ n. IsReading s (view s w).history (view s w).row (view s w).blocks (view s w).trees g.shape g.placed g.home of q p.shard (g.counted n p.shard) part.reading) server_is
+        (subst (λ n. IsReading s (view s w).history (view s w).row (view s w).blocks (view s w).trees g.shape g.placed g.home of q n (g.counted part.server n) part.reading) shard_is reading))) [
+          | inl has ↦ inl has
+          | inr beneath ↦ inr (inl beneath)
+        ]
+by-state s w g i server of r q p under must fit op asked taker (state_is.Done total) is valid end = elim (end.1 r must fit under) [ inl has ↦ inl has | inr never ↦ absurd never ]
+by-state s w g i server of r q p under must fit op asked taker (state_is.Placed path) is valid end = absurd valid
+by-state s w g i server of r q p under must fit op asked taker state_is.NoMemory is valid end = inr (inr (inr (inl (rw is refl)), (g.home r, in-one s (view s w) g i r under.is_placed, under.comes)))
+
+has-counted : (s : Setting) (w : World) (g : Ghost) (i : InvWith s (view s w) g) (server of : ℕ) (q : Query) → server < s.servers → ((view s w).desks server).op ≡ Some of
+    → query_at (view s w).history of ≡ Some q → HasCounted s (view s w) (standing s (view s w) g i) of server q
+has-counted s w g i server of q within op asked =
+    let v = view s w in
+    let parts = (v.desks server).parts in
+    let counts = i.querying.counts server of q within op asked in
+    let ends = i.querying.ends server of q within op asked in
+    let desk = i.desking.query server of q within op asked in
+    let one-part = All-contains (λ (p : Part). is_refused p ≡ false → IsCounted s v.history v.row g.placed g.home q p.shard (g.counted server p.shard)) parts in
+    record {
+      counted = g.counted server;
+      once = λ r n d lt well. (counts n d lt well).once r;
+      apart = λ r p other c d well well-other some some-other.
+          (let under = (one-part p counts c well).under r some in
+          let under-other = (one-part other counts d well-other).under r some-other in
+          let made = live-made (site_in s) _ v.history (g.home r) i.telling.right.right.each (i.placing.stands r under.is_placed) in
+          elim (apart-at v.history parts p other desk.1 c d) [
+            | inl same ↦ same
+            | inr u ↦ elim (comes_from-comparable (site_in s) _ v.history p.shard other.shard (g.home r) i.telling.right.right.each made under.comes under-other.comes) [
+              | inl below ↦ absurd (false≢true (sym u.0 ∙ below))
+              | inr below ↦ absurd (false≢true (sym u.1 ∙ below))
+            ]
+          ]);
+      usable = λ r p c well some. (let a = one-part p counts c well in
+          (i.telling.right.kept r (a.under r some).is_placed, a.fitting r some, (g.home r, in-one s v g i r (a.under r some).is_placed)));
+      whole = λ r must fit. (let found = i.querying.whole server of q within op asked r must fit in
+          let p = found.1 in
+          let end = All-contains (λ (p : Part). IsEndOfPart s v.history v.row g.placed g.home of q p.shard (g.counted server p.shard) p.state) parts p ends (found.0, found.2, found.3) in
+          let valid = All-contains (λ (p : Part). IsQueryState q p.state) parts p desk.0 (found.0, found.2, found.3) in
+          (found.0, p, found.2, found.3, by-state s w g i server of r q p found.4 must fit op asked (All-contains (λ (p : Part). is_taken p ≡ true → IsTaken v.taken server p) parts p (i.desking.takers server within) (found.0, found.2, found.3)) p.state refl valid end));
+    }
+
+pub query-law : QueryLaw
+query-law s w inv = (standing s (view s w) inv.ghost_of inv.holds, λ server of q within op asked. has-counted s w inv.ghost_of inv.holds server of q within op asked)

@@ -1,0 +1,118 @@
+-- The cells that the kinds fill are blank: new blocks take spares of the purse, and so do new gates; a built block has one that
+-- its job has spent.
+use Rattle.std.proofs.Common.{◌≡◌, ℕ, List, [], ◌∷◌, ◌++◌, Some, inl, inr, refl, sym, ap, ◌∙◌, subst}
+use Rattle.dim_hierarchy.specs.Dimension.{Dimension}
+use Rattle.dim_hierarchy.specs.declared.row.Row.{Row}
+use Rattle.dc_node.specs.declared.block.Block.{Block}
+use Rattle.cell_stock.specs.Stock.{PurseValue, cells_of}
+use Rattle.cell_stock.specs.declared.purse.Spare.{Spare}
+use Rattle.link_descent.specs.Descend.{Enters, StepsDown, IsTakenFrom}
+use Rattle.link_descent.specs.declared.entered.Entered.{Entered}
+use Rattle.link_descent.specs.declared.entered.Fresh.{Fresh}
+use Rattle.shard_store.specs.declared.gate.Gate.{Gate}
+use Rattle.tree_shape.specs.Counts.{Each, Among}
+use Rattle.tree_shape.proofs.Parts.{among-left, among-right, each-right}
+use Rattle.volap_cell.specs.AdminKinds.{DoesBuildBlock, DoesFinishSplit, DoesFinishMove, spent_by, spent_in}
+use Rattle.volap_cell.specs.Ghost.{Ghost}
+use Rattle.volap_cell.specs.Invariant.{InvWith}
+use Rattle.volap_cell.specs.Setting.{Setting}
+use Rattle.volap_cell.specs.Stocking.{spent_of}
+use Rattle.volap_cell.specs.TreeKinds.{DoesEnterTree, DoesDown}
+use Rattle.volap_cell.specs.Values.{ActorValue}
+use Rattle.volap_cell.specs.View.{view}
+use Rattle.volap_cell.specs.World.{World, Change, Agrees}
+use Rattle.volap_cell.proofs.Blanks.{filled-blank, spare-blank, spent-blank}
+use Rattle.volap_cell.proofs.Frames.{AreAt}
+use Rattle.volap_cell.proofs.Touches.{IsBlank}
+
+-- a spare that stands in a purse has its cell among the purse's cells
+pub among-cells : (x : Spare) (xs : List Spare) → Among x xs → Among x.cell (cells_of xs)
+among-cells x [] m = absurd m
+among-cells x (y ∷ xs) m = elim m [ inl is ↦ inl (ap (λ (z : Spare). z.cell) is) | inr more ↦ inr (among-cells x xs more) ]
+
+-- the spare that was taken was in the purse, and so was what is left
+taken-among : (before now : PurseValue) (spare : Spare) → IsTakenFrom before spare now → Among spare.cell (cells_of before.spares)
+taken-among before now spare t = among-cells spare before.spares (subst (Among spare) (sym t) (among-right now.spares (spare ∷ []) spare (inl refl)))
+
+left-among : (before now : PurseValue) (spare : Spare) (x : Spare) → IsTakenFrom before spare now → Among x now.spares → Among x.cell (cells_of before.spares)
+left-among before now spare x t m = among-cells x before.spares (subst (Among x) (sym t) (among-left now.spares (spare ∷ []) x m))
+
+-- New blocks' cells are of the purse.
+
+abbrev AreOf : List Spare → List Fresh → Type 0
+AreOf purse fresh = Each (λ f. Among f.cell (cells_of purse)) fresh
+
+pub down-of : (h : List Dimension) (row : Row) (place : ℕ) (parent parent_now head head_now : Block) (purse purse_now : PurseValue) (entered : Entered) → StepsDown h row place parent parent_now head head_now purse purse_now entered
+    → Each (λ f. Among f.cell (cells_of purse.spares)) entered.fresh.items
+down-of h row place parent parent_now head head_now purse purse_now entered d = elim d.step [
+  | inl passed ↦ (let (e, keeps, passes) = passed in subst (AreOf purse.spares) (sym passes.fresh) tt)
+  | inr more ↦ elim more [
+    | inl halved ↦ (let (e, keeps, halves) = halved in subst (AreOf purse.spares) (sym halves.fresh) (taken-among purse purse_now halves.spare halves.purse_is, tt))
+    | inr cut ↦ subst (AreOf purse.spares) (sym cut.fresh) (taken-among purse purse_now cut.spare cut.cuts.purse_is, tt)
+  ]
+]
+
+pub enter-of : (h : List Dimension) (row : Row) (gate gate_now : Gate) (root root_now : Block) (purse purse_now : PurseValue) (entered : Entered) → Enters h row gate gate_now root root_now purse purse_now entered
+    → Each (λ f. Among f.cell (cells_of purse.spares)) entered.fresh.items
+enter-of h row gate gate_now root root_now purse purse_now entered d = elim d.step [
+  | inl passed ↦ (let (e, keeps, passes) = passed in subst (AreOf purse.spares) (sym passes.fresh) tt)
+  | inr more ↦ elim more [
+    | inl halved ↦ (let (e, keeps, halves) = halved in subst (AreOf purse.spares) (sym halves.fresh) (taken-among purse purse_now halves.spare halves.purse_is, tt))
+    | inr cut ↦ (let top : Among cut.top cut.between.spares = subst (Among cut.top) (sym cut.purse_is) (among-right purse_now.spares (cut.top ∷ []) cut.top (inl refl)) in
+        subst (AreOf purse.spares) (sym cut.fresh) (taken-among purse cut.between cut.spare cut.cuts.purse_is, (left-among purse cut.between cut.spare cut.top cut.cuts.purse_is top, tt)))
+  ]
+]
+
+-- The cells before.
+
+pub down-blank : (s : Setting) (w : World) (g : Ghost) → InvWith s (view s w) g → (n : ℕ) (h : List Dimension) (p c : Change) (others : List Change) (a b : ActorValue) → Agrees w (p ∷ c ∷ others) n a → (d : DoesDown h p c others a b)
+    → Each (λ x. IsBlank x.before) d.fresh
+down-blank s w g inv n h p c others a b agrees d =
+    let at : AreAt w.cells d.fresh = each-right (λ (x : Change). w.cells x.number ≡ x.before) d.tail d.fresh (subst (AreAt w.cells) d.others_are agrees.cells.1.1) in
+    let purse : d.purse.spares ≡ (w.actors n).purse = d.purse_was ∙ ap (λ (x : ActorValue). x.purse) (sym agrees.actor_is) in
+    let of = down-of h d.r.row d.place d.parent d.parent_now d.head d.head_now d.purse d.purse_now d.entered d.step in
+    filled-blank s w g inv n d.entered.fresh.items d.fresh at d.are_filled (subst (λ (xs : List Spare). AreOf xs d.entered.fresh.items) purse of)
+
+pub enter-blank : (s : Setting) (w : World) (k : Ghost) → InvWith s (view s w) k → (n : ℕ) (h : List Dimension) (m g root : Change) (others : List Change) (a b : ActorValue) → Agrees w (m ∷ g ∷ root ∷ others) n a → (d : DoesEnterTree h m g root others a b)
+    → Each (λ x. IsBlank x.before) d.fresh
+enter-blank s w k inv n h m g root others a b agrees d =
+    let at : AreAt w.cells d.fresh = each-right (λ (x : Change). w.cells x.number ≡ x.before) d.tail d.fresh (subst (AreAt w.cells) d.others_are agrees.cells.1.1.1) in
+    let purse : d.purse.spares ≡ (w.actors n).purse = d.purse_was ∙ ap (λ (x : ActorValue). x.purse) (sym agrees.actor_is) in
+    let of = enter-of h d.r.row d.gate d.entered_gate d.head d.head_now d.purse d.purse_now d.entered d.enters in
+    filled-blank s w k inv n d.entered.fresh.items d.fresh at d.are_filled (subst (λ (xs : List Spare). AreOf xs d.entered.fresh.items) purse of)
+
+-- a cell of a spare of the actor's
+spare-at : (s : Setting) (w : World) (g : Ghost) → InvWith s (view s w) g → (n : ℕ) (a : ActorValue) (c : Change) (x : Spare) → w.cells c.number ≡ c.before → w.actors n ≡ a → c.number ≡ x.cell → Among x a.purse → IsBlank c.before
+spare-at s w g inv n a c x at is number among =
+    let mine : Among x (w.actors n).purse = subst (λ (z : ActorValue). Among x z.purse) (sym is) among in
+    subst IsBlank (ap w.cells (sym number) ∙ at) (spare-blank s w g inv n x.cell (among-cells x (w.actors n).purse mine))
+
+pub split-blank : (s : Setting) (w : World) (g : Ghost) → InvWith s (view s w) g → (n : ℕ) (h : List Dimension) (m x l r reg c led : Change) (a b : ActorValue) → Agrees w (m ∷ x ∷ l ∷ r ∷ reg ∷ c ∷ led ∷ []) n a → DoesFinishSplit h m x l r reg c led a b
+    → IsBlank l.before × IsBlank r.before
+split-blank s w g inv n h m x l r reg c led a b agrees d =
+    let right = subst (Among d.right_spare) (sym d.spares) (among-right d.rest (d.right_spare ∷ d.left_spare ∷ []) d.right_spare (inl refl)) in
+    let left = subst (Among d.left_spare) (sym d.spares) (among-right d.rest (d.right_spare ∷ d.left_spare ∷ []) d.left_spare (inr (inl refl))) in
+    (spare-at s w g inv n a l d.left_spare agrees.cells.1.1.0 agrees.actor_is d.left_cell left, spare-at s w g inv n a r d.right_spare agrees.cells.1.1.1.0 agrees.actor_is d.right_cell right)
+
+pub move-blank : (s : Setting) (w : World) (k : Ghost) → InvWith s (view s w) k → (n : ℕ) (h : List Dimension) (maps : List Change) (x g reg c led : Change) (a b : ActorValue) → Agrees w (maps ++ x ∷ g ∷ reg ∷ c ∷ led ∷ []) n a → DoesFinishMove h maps x g reg c led a b
+    → IsBlank g.before
+move-blank s w k inv n h maps x g reg c led a b agrees d =
+    let at = each-right (λ (z : Change). w.cells z.number ≡ z.before) maps (x ∷ g ∷ reg ∷ c ∷ led ∷ []) agrees.cells in
+    let mine = subst (Among d.spare) (sym d.spares) (among-right d.rest (d.spare ∷ []) d.spare (inl refl)) in
+    spare-at s w k inv n a g d.spare at.1.0 agrees.actor_is d.cell mine
+
+-- a block that isn't in its cell yet has a spare that its job has spent
+among-spent : (f : Fresh) (fs : List Fresh) → Among f fs → Among (record { cell = f.cell; stamp = f.block.stamp }) (spent_by fs)
+among-spent f [] m = absurd m
+among-spent f (x ∷ fs) m = elim m [ inl is ↦ inl (ap (λ (z : Fresh). record { cell = z.cell; stamp = z.block.stamp }) is) | inr more ↦ inr (among-spent f fs more) ]
+
+pub build-blank : (s : Setting) (w : World) (g : Ghost) → InvWith s (view s w) g → (n : ℕ) (c : Change) (a b : ActorValue) → Agrees w (c ∷ []) n a → DoesBuildBlock c a b → IsBlank c.before
+build-blank s w g inv n c a b agrees d =
+    let job : (w.actors n).job ≡ Some d.job = ap (λ (x : ActorValue). x.job) agrees.actor_is ∙ d.has.is_job in
+    let building = inv.working.building n d.job d.building job d.has.stage_is in
+    let next : Among d.next d.building.unbuilt = subst (Among d.next) (sym d.unbuilt) (among-right d.others (d.next ∷ []) d.next (inl refl)) in
+    let all = among-spent d.next (d.building.unbuilt ++ building.built) (among-left d.building.unbuilt building.built d.next next) in
+    let spare : Spare = record { cell = d.next.cell; stamp = d.next.block.stamp } in
+    let spent : spent_of (w.actors n).job ≡ d.building.spent = ap spent_of job ∙ ap spent_in d.has.stage_is in
+    let mine : Among spare (spent_of (w.actors n).job) = subst (Among spare) (sym (spent ∙ building.trees_are.spent)) all in
+    subst IsBlank (ap w.cells d.here ∙ agrees.cells.0) (spent-blank s w g inv n d.next.cell (among-cells spare (spent_of (w.actors n).job) mine))

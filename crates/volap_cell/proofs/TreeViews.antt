@@ -1,0 +1,144 @@
+-- The view after the steps of rows and queries at gates and blocks: the fields that each touches, and no other.
+use Rattle.std.proofs.Common.{◌≡◌, ℕ, ◌+◌, true, List, [], ◌∷◌, Some, inl, inr, refl, sym, ap, subst}
+use Rattle.dim_hierarchy.specs.Dimension.{Dimension}
+use Rattle.dim_hierarchy.specs.declared.row.Row.{Row}
+use Rattle.dc_node.specs.declared.block.Block.{Block}
+use Rattle.cell_stock.specs.Stock.{PurseValue}
+use Rattle.link_descent.specs.Descend.{Enters}
+use Rattle.link_descent.specs.declared.entered.Entered.{Entered}
+use Rattle.shard_store.specs.declared.gate.Gate.{Gate}
+use Rattle.tree_shape.specs.Counts.{Each}
+use Rattle.volap_cell.specs.Cells.{GateCell, StockCell}
+use Rattle.volap_cell.specs.Errands.{place_of, height_of, Outside}
+use Rattle.volap_cell.specs.Setting.{Setting}
+use Rattle.volap_cell.specs.TreeKinds.{DoesGateRead, DoesBlockVisit, DoesEnterTree, DoesEnterQueue, DoesDown, DoesPutInLeaf, DoesLeaveTree, DoesRefill}
+use Rattle.volap_cell.specs.Values.{ActorValue}
+use Rattle.volap_cell.specs.View.{view}
+use Rattle.volap_cell.specs.World.{World, Change, Agrees, after}
+use Rattle.volap_cell.specs.declared.errand.Way.{Way}
+use Rattle.volap_cell.specs.declared.errand.Way.TheVariants as way
+use Rattle.volap_cell.proofs.Frames.{Same}
+use Rattle.volap_cell.proofs.Seen.{Touched, nothing, beside, actor_beside, renewed}
+use Rattle.volap_cell.proofs.Touches.{IsBlank, turned, turned-block, tail-read, others-blocks}
+use Rattle.volap_cell.proofs.Actors.{row-moved, row-stays, query-read}
+use Rattle.volap_cell.proofs.Views.{view-step}
+
+-- Queries.
+
+abbrev pub by_gate_read : Touched
+by_gate_read = record nothing { pins = true; reads = true }
+
+pub view-gate_read : (s : Setting) (w : World) (n : ℕ) (h : List Dimension) (m g : Change) (a b : ActorValue) → Agrees w (m ∷ g ∷ []) n a → DoesGateRead h m g a b
+    → view s (after w (m ∷ g ∷ []) n b) ≡ renewed by_gate_read (view s (after w (m ∷ g ∷ []) n b)) (view s w)
+view-gate_read s w n h m g a b agrees d =
+    view-step by_gate_read s w (m ∷ g ∷ []) n a b agrees
+    (ap (beside by_gate_read) d.leads.same, (turned (beside by_gate_read) g _ _ d.pinned.was d.pinned.is refl, tt))
+    (query-read by_gate_read d.actor_is d.errand d.unread refl refl refl)
+
+abbrev pub by_block_visit : Touched
+by_block_visit = record nothing { reads = true }
+
+pub view-block_visit : (s : Setting) (w : World) (n : ℕ) (h : List Dimension) (c : Change) (a b : ActorValue) → Agrees w (c ∷ []) n a → DoesBlockVisit h c a b
+    → view s (after w (c ∷ []) n b) ≡ renewed by_block_visit (view s (after w (c ∷ []) n b)) (view s w)
+view-block_visit s w n h c a b agrees d =
+    view-step by_block_visit s w (c ∷ []) n a b agrees
+    (ap (beside by_block_visit) d.read.same, tt)
+    (query-read by_block_visit d.actor_is d.errand d.reading refl refl refl)
+
+-- Rows.
+
+abbrev pub by_enter_tree : Touched
+by_enter_tree = record nothing { trees = true; active = true; blocks = true; purses = true; boxes = true; ways = true }
+
+-- a gate at which a row comes in changes in its way to the tree, and in how many are in it
+entered-gate : (h : List Dimension) (row : Row) (gate gate_now : Gate) (root root_now : Block) (purse purse_now : PurseValue) (entered : Entered) (active : ℕ) → Enters h row gate gate_now root root_now purse purse_now entered
+    → beside by_enter_tree (GateCell (record gate_now { active = active })) ≡ beside by_enter_tree (GateCell gate)
+entered-gate h row gate gate_now root root_now purse purse_now entered active enters =
+    let seen = λ (g : Gate). beside by_enter_tree (GateCell (record g { active = active })) in
+    elim enters.step [
+      | inl kept ↦ (let (entry_now, keeps, passes) = kept in ap seen keeps.gate_is)
+      | inr more ↦ elim more [
+        | inl halved ↦ (let (entry_now, keeps, halves) = halved in ap seen keeps.gate_is)
+        | inr cut ↦ ap seen cut.gate_is
+      ]
+    ]
+
+-- the cells that are filled are blank before
+pub view-enter_tree : (s : Setting) (w : World) (n : ℕ) (h : List Dimension) (m g root : Change) (others : List Change) (a b : ActorValue) → Agrees w (m ∷ g ∷ root ∷ others) n a
+    → (d : DoesEnterTree h m g root others a b) → Each (λ c. IsBlank c.before) d.fresh
+    → view s (after w (m ∷ g ∷ root ∷ others) n b) ≡ renewed by_enter_tree (view s (after w (m ∷ g ∷ root ∷ others) n b)) (view s w)
+view-enter_tree s w n h m g root others a b agrees d blank =
+    let t = by_enter_tree in
+    let gate = turned (beside t) g (GateCell d.gate) (GateCell (record d.entered_gate { active = d.gate.active + 1 })) d.counted.was d.counted.is (entered-gate h d.r.row d.gate d.entered_gate d.head d.head_now d.purse d.purse_now d.entered (d.gate.active + 1) d.enters) in
+    let rest = subst (Same (beside t)) (sym d.others_are) (others-blocks t refl d.entered.fresh.items d.tail d.fresh (tail-read d.gate.stamp d.head d.tail d.behind) d.are_filled blank) in
+    view-step t s w (m ∷ g ∷ root ∷ others) n a b agrees
+    (ap (beside t) d.leads.same, (gate, (turned-block t refl d.turns, rest)))
+    (row-moved t d.actor_is d.has refl refl refl)
+
+abbrev pub by_enter_queue : Touched
+by_enter_queue = record nothing { queues = true; ways = true }
+
+pub view-enter_queue : (s : Setting) (w : World) (n : ℕ) (h : List Dimension) (m g : Change) (a b : ActorValue) → Agrees w (m ∷ g ∷ []) n a → DoesEnterQueue h m g a b
+    → view s (after w (m ∷ g ∷ []) n b) ≡ renewed by_enter_queue (view s (after w (m ∷ g ∷ []) n b)) (view s w)
+view-enter_queue s w n h m g a b agrees d =
+    view-step by_enter_queue s w (m ∷ g ∷ []) n a b agrees
+    (ap (beside by_enter_queue) d.leads.same, (turned (beside by_enter_queue) g _ _ d.queued.was d.queued.is refl, tt))
+    (row-moved by_enter_queue d.actor_is d.has refl refl refl)
+
+abbrev pub by_down : Touched
+by_down = record nothing { blocks = true; purses = true; boxes = true; ways = true }
+
+-- the cells that are filled are blank before
+pub view-down : (s : Setting) (w : World) (n : ℕ) (h : List Dimension) (p c : Change) (others : List Change) (a b : ActorValue) → Agrees w (p ∷ c ∷ others) n a
+    → (d : DoesDown h p c others a b) → Each (λ x. IsBlank x.before) d.fresh
+    → view s (after w (p ∷ c ∷ others) n b) ≡ renewed by_down (view s (after w (p ∷ c ∷ others) n b)) (view s w)
+view-down s w n h p c others a b agrees d blank =
+    let t = by_down in
+    let rest = subst (Same (beside t)) (sym d.others_are) (others-blocks t refl d.entered.fresh.items d.tail d.fresh (tail-read d.entry.stamp d.head d.tail d.behind) d.are_filled blank) in
+    view-step t s w (p ∷ c ∷ others) n a b agrees
+    (turned-block t refl d.turns_parent, (turned-block t refl d.turns_head, rest))
+    (row-moved t d.actor_is d.has refl refl refl)
+
+abbrev pub by_put_in_leaf : Touched
+by_put_in_leaf = record nothing { blocks = true; boxes = true; ways = true }
+
+pub view-put_in_leaf : (s : Setting) (w : World) (n : ℕ) (c : Change) (a b : ActorValue) → Agrees w (c ∷ []) n a → DoesPutInLeaf c a b
+    → view s (after w (c ∷ []) n b) ≡ renewed by_put_in_leaf (view s (after w (c ∷ []) n b)) (view s w)
+view-put_in_leaf s w n c a b agrees d =
+    view-step by_put_in_leaf s w (c ∷ []) n a b agrees
+    (turned-block by_put_in_leaf refl d.last, tt)
+    (row-moved by_put_in_leaf d.actor_is d.has refl refl refl)
+
+abbrev pub by_leave_tree : Touched
+by_leave_tree = record nothing { active = true; ways = true }
+
+pub view-leave_tree : (s : Setting) (w : World) (n : ℕ) (g : Change) (a b : ActorValue) → Agrees w (g ∷ []) n a → DoesLeaveTree g a b
+    → view s (after w (g ∷ []) n b) ≡ renewed by_leave_tree (view s (after w (g ∷ []) n b)) (view s w)
+view-leave_tree s w n g a b agrees d =
+    view-step by_leave_tree s w (g ∷ []) n a b agrees
+    (turned (beside by_leave_tree) g _ _ d.turns.was d.turns.is (sym (ap (λ (x : Gate). beside by_leave_tree (GateCell x)) d.left)), tt)
+    (row-moved by_leave_tree d.actor_is d.has refl refl refl)
+
+-- Purses.
+
+abbrev pub by_refill : Touched
+by_refill = record nothing { stock = true; purses = true; boxes = true }
+
+-- a row of which the height was looked up is outside
+pub noted-outside : (w : Way) (height : ℕ) → height_of w ≡ Some height → place_of w ≡ Outside
+noted-outside (way.Before known filled) height e = refl
+noted-outside (way.Carried gate block) height e = cc
+noted-outside (way.Put gate) height e = cc
+noted-outside way.Placed height e = cc
+
+pub view-refill : (s : Setting) (w : World) (n : ℕ) (c : Change) (a b : ActorValue) → Agrees w (c ∷ []) n a → DoesRefill c a b
+    → view s (after w (c ∷ []) n b) ≡ renewed by_refill (view s (after w (c ∷ []) n b)) (view s w)
+view-refill s w n c a b agrees d =
+    let t = by_refill in
+    view-step t s w (c ∷ []) n a b agrees
+    (turned (beside t) c (StockCell d.stock) (StockCell d.stock_now) d.was d.is refl, tt)
+    (elim d.does [
+      | inl filled ↦ (let (height, f) = filled in
+          row-moved t f.actor_is f.has (row-stays (way.Before (Some height) true) f.has (sym (noted-outside f.r.way height f.noted))) refl refl)
+      | inr emptied ↦ ap (actor_beside t) emptied.actor_is
+    ])

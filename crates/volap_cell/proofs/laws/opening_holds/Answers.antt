@@ -1,0 +1,5 @@
+use Rattle.volap_cell.proofs.OpeningHolds.{opening-holds, opening-inv}
+use Rattle.volap_cell.proofs.laws.opening_holds.Goals as goal
+
+pub returns : goal.returns
+returns c = λ s w set o. (opening-holds s w set o, opening-inv s w set o)

@@ -1,0 +1,121 @@
+-- Commands: who may make which, what each still owes the history, which pull is next, and how each may end.
+use Rattle.std.specs.Prelude.{ℕ, ◌≡◌, ◌+◌, ◌-◌, ⊤, Bool, true, false, nat_lt, List, Option, Some, None, length, if◌then◌else◌}
+use Rattle.shard_plan.specs.Balancing.{after_move}
+use Rattle.shard_plan.specs.declared.action.Action.{Action}
+use Rattle.shard_plan.specs.declared.action.Load.{Load}
+use Rattle.row_ledger.specs.declared.settings.Call.{Call}
+use Rattle.row_ledger.specs.declared.settings.Call.TheVariants as call
+use Rattle.row_ledger.specs.declared.settings.Decline.TheVariants.{Unknown}
+use Rattle.row_ledger.specs.declared.settings.How.{How}
+use Rattle.row_ledger.specs.declared.settings.How.TheVariants as how
+use Rattle.volap_cell.specs.Values.{JobValue, StageValue, IsCalled, IsDeclined}
+use Rattle.volap_cell.specs.declared.command.Balance.{Balance}
+use Rattle.volap_cell.specs.declared.command.Work.{Work}
+use Rattle.volap_cell.specs.declared.command.Work.TheVariants as work_is
+use Rattle.volap_cell.specs.declared.role.Role.{Role}
+use Rattle.volap_cell.specs.declared.role.Role.TheVariants.{Session, Puller, Admin}
+
+-- a session pulls for its own server, a puller for each; the administrator makes all other calls
+abbrev pub MayCall : Role → Call → Type 0
+MayCall (Session s) (call.Sync server) = server ≡ s
+MayCall Puller (call.Sync server) = ⊤
+MayCall Admin (call.Split shard) = ⊤
+MayCall Admin (call.Move shard worker) = ⊤
+MayCall Admin (call.Balance most) = ⊤
+MayCall Admin call.Barrier = ⊤
+MayCall Admin call.Settle = ⊤
+MayCall Admin call.Shards = ⊤
+MayCall Admin (call.Tree shard) = ⊤
+MayCall Admin call.Audit = ⊤
+MayCall role c = ⊥
+
+-- How many pushes a command may still need: its end, and before it the one event of a split or a move, that of each action which
+-- a balance may still make, or a page. A pull promises its own push when it is made.
+abbrev pub owes : Work → ℕ
+owes (work_is.Insert row routed) = 1
+owes work_is.Query = 1
+owes (work_is.Sync server pulled) = 1
+owes work_is.Barrier = 1
+owes (work_is.Settle pulls) = 1
+owes (work_is.Split shard) = 2
+owes (work_is.Move shard worker) = 2
+owes (work_is.Balance b) = b.most + 1 - b.over
+owes (work_is.Shards shown) = if shown then 1 else 2
+owes (work_is.Tree shard stands shown) = if shown then 1 else 2
+owes (work_is.Audit shown) = if shown then 1 else 2
+
+-- Pulls.
+
+-- the server for which a settle pulls next: each in the order of their numbers, and then each once more
+abbrev pub settles_next : ℕ → ℕ → Option ℕ
+settles_next servers pulls =
+    if nat_lt pulls servers then Some pulls
+    else if nat_lt pulls (servers + servers) then Some (pulls - servers) else None
+
+abbrev pub due_pull : ℕ → Work → Option ℕ
+due_pull servers (work_is.Sync server false) = Some server
+due_pull servers (work_is.Settle pulls) = settles_next servers pulls
+due_pull servers _ = None
+
+abbrev pub pulled_once : Work → Work
+pulled_once (work_is.Sync server pulled) = work_is.Sync server true
+pulled_once (work_is.Settle pulls) = work_is.Settle (pulls + 1)
+pulled_once work = work
+
+-- Pages.
+
+-- the command once its page is shown
+abbrev pub once_shown : Work → Option Work
+once_shown (work_is.Shards false) = Some (work_is.Shards true)
+once_shown (work_is.Tree shard true false) = Some (work_is.Tree shard true true)
+once_shown (work_is.Audit false) = Some (work_is.Audit true)
+once_shown _ = None
+
+-- Actions of a balance.
+
+-- the loads as they stand after the action, where it was done
+abbrev pub stands_after : Bool → ℕ → Option ℕ → List Load → List Load
+stands_after true shard (Some to) loads = after_move loads shard to
+stands_after done shard to loads = loads
+
+-- one action more is over
+abbrev pub after_action : Bool → JobValue → Balance → Balance
+after_action done job b = record b { standing = stands_after done job.shard job.to b.standing; over = b.over + 1; done = if done then b.done + 1 else b.done }
+
+-- Ends.
+
+-- a split or a move ends by itself where it was unknown, is declined, or found no memory before it froze the shard
+abbrev pub EndsStage : StageValue → How → Type 0
+EndsStage (IsDeclined decline) (how.Declined why) = why ≡ decline
+EndsStage IsCalled how.NoMemory = ⊤
+EndsStage stage h = ⊥
+
+abbrev pub EndsJob : Option JobValue → How → Type 0
+EndsJob None (how.Declined why) = why ≡ Unknown
+EndsJob None h = ⊥
+EndsJob (Some job) h = EndsStage job.stage h
+
+-- a balance is at its end when all that it planned is over
+abbrev pub EndsBalance : Balance → How → Type 0
+EndsBalance b (how.Balanced done planned) = (done ≡ b.done) × (b.over ≡ planned) × ((actions : List Action) × (b.plan ≡ Some actions) × (planned ≡ length actions))
+EndsBalance b how.NoMemory = b.plan ≡ None
+EndsBalance b h = ⊥
+
+-- how a command's own note may end it; what it did is behind it, or it found no memory
+abbrev pub MayNoteEnd : ℕ → Work → Option JobValue → How → Type 0
+MayNoteEnd servers work_is.Barrier job how.Fine = ⊤
+MayNoteEnd servers (work_is.Sync server pulled) job how.Fine = pulled ≡ true
+MayNoteEnd servers (work_is.Sync server pulled) job how.NoMemory = ⊤
+MayNoteEnd servers (work_is.Settle pulls) job how.Fine = pulls ≡ servers + servers
+MayNoteEnd servers (work_is.Settle pulls) job how.NoMemory = ⊤
+MayNoteEnd servers (work_is.Split shard) job h = EndsJob job h
+MayNoteEnd servers (work_is.Move shard worker) job h = EndsJob job h
+MayNoteEnd servers (work_is.Balance b) job h = EndsBalance b h
+MayNoteEnd servers (work_is.Shards shown) job how.Fine = shown ≡ true
+MayNoteEnd servers (work_is.Shards shown) job how.NoMemory = shown ≡ false
+MayNoteEnd servers (work_is.Tree shard stands shown) job how.Fine = shown ≡ true
+MayNoteEnd servers (work_is.Tree shard stands shown) job how.NoMemory = shown ≡ false
+MayNoteEnd servers (work_is.Tree shard stands shown) job (how.Declined why) = (stands ≡ false) × (why ≡ Unknown)
+MayNoteEnd servers (work_is.Audit shown) job how.Fine = shown ≡ true
+MayNoteEnd servers (work_is.Audit shown) job how.NoMemory = shown ≡ false
+MayNoteEnd servers work job h = ⊥

@@ -1,0 +1,42 @@
+-- Where shards are: the registry has those that stand, and the workers' tables lead from each id that a server or a part may
+-- still have to a gate, or on to children or another worker.
+use Rattle.std.specs.Prelude.{ℕ, ◌≡◌, ◌≢◌, ◌==◌, ◌<◌, Bool, true, false, IsTrue, IsSome, List, [], ◌∷◌, Option, Some, All, if◌then◌else◌}
+use Rattle.describing_set.specs.declared.listing.Spot.{Spot}
+use Rattle.cell_stock.specs.Stock.{StockValue}
+use Rattle.mapping_table.specs.declared.place.Where.{Where}
+use Rattle.mapping_table.specs.declared.place.Where.TheVariants as where_is
+use Rattle.query_router.specs.Desk.{DeskValue, is_open}
+use Rattle.query_router.specs.declared.part.Part.{Part}
+use Rattle.row_ledger.specs.Listings.{places_of}
+use Rattle.row_ledger.specs.Shards.{frontier, ids_made, is_child, is_live, is_on, left_at}
+use Rattle.row_ledger.specs.declared.event.Event.{Event}
+use Rattle.row_ledger.specs.declared.event.Event.TheVariants.{Moved}
+use Rattle.server_image.specs.Image.{ImageValue}
+use Rattle.server_image.specs.Registry.{RegistryValue}
+use Rattle.shard_store.specs.declared.gate.Phase.{Phase}
+use Rattle.shard_store.specs.declared.gate.Phase.TheVariants.{Gone}
+use Rattle.describing_set.specs.declared.plane.Plane.{Plane}
+use Rattle.volap_cell.specs.Setting.{Setting}
+
+-- the last move of a shard brought it to the worker
+abbrev pub went_to : List Event → ℕ → ℕ → Bool
+went_to [] x w = false
+went_to (Moved of shard to ∷ past) x w = if shard == x then to == w else went_to past x w
+went_to (e ∷ past) x w = went_to past x w
+
+pub record Lineage (s : Setting) (history : List Event) (stock : StockValue) (registry : RegistryValue) (maps : ℕ → ℕ → Option Where) (gates : ℕ → Option ℕ) (phases : ℕ → Option Phase) (gate : ℕ → ℕ) : Type 0 where
+  pub ids : stock.ids ≡ ids_made s.workers history
+  pub front : places_of registry.frontier ≡ frontier s.workers history
+  pub gate_of : (x w : ℕ) → is_on s.workers history x w ≡ true → (maps w x ≡ Some (where_is.Gate (gate x))) × (gates (gate x) ≡ Some x) × (phases (gate x) ≢ Some Gone)
+  pub live : (c x : ℕ) → gates c ≡ Some x → phases c ≢ Some Gone → (is_live s.workers history x ≡ true) × (gate x ≡ c)
+  pub leads : (w x c : ℕ) → maps w x ≡ Some (where_is.Gate c) → (is_on s.workers history x w ≡ true) × (gate x ≡ c)
+  pub split : (w x l r : ℕ) (plane : Plane) → maps w x ≡ Some (where_is.Split plane l r)
+      → IsTrue (is_child history x l) × IsTrue (is_child history x r) × (l ≢ r) × IsSome (maps w l) × IsSome (maps w r)
+  pub moved : (w x v : ℕ) → maps w x ≡ Some (where_is.Moved v) → (v < s.workers) × (v ≢ w) × IsSome (maps v x) × IsSome (left_at s.workers history x w) × (went_to history x w ≡ false)
+  pub later : (w x v u p q : ℕ) → maps w x ≡ Some (where_is.Moved v) → maps v x ≡ Some (where_is.Moved u) → left_at s.workers history x w ≡ Some p → left_at s.workers history x v ≡ Some q → p < q
+  pub made : (c x : ℕ) → gates c ≡ Some x → x < ids_made s.workers history
+
+-- each shard that a server lists, and that of each open part, is in its worker's table
+pub record Leading (s : Setting) (maps : ℕ → ℕ → Option Where) (images : ℕ → ImageValue) (desks : ℕ → DeskValue) : Type 0 where
+  pub spots : (server : ℕ) → server < s.servers → All (λ (x : Spot). (x.worker < s.workers) × IsSome (maps x.worker x.shard)) (images server).spots
+  pub parts : (server : ℕ) → server < s.servers → All (λ (p : Part). is_open p ≡ true → (p.worker < s.workers) × IsSome (maps p.worker p.shard)) (desks server).parts

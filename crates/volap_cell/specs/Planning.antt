@@ -1,0 +1,20 @@
+-- What a balance does next.
+use Rattle.std.specs.Prelude.{ℕ, ◌==◌, List, Option, Some, None, option_map, option_and_then, slice_get, find, unwrap_or}
+use Rattle.shard_plan.specs.declared.action.Action.{Action}
+use Rattle.shard_plan.specs.declared.action.Action.TheVariants as action
+use Rattle.shard_plan.specs.declared.action.Load.{Load}
+use Rattle.volap_cell.specs.Values.{JobValue, IsCalled}
+use Rattle.volap_cell.specs.declared.command.Balance.{Balance}
+
+-- the worker that has the shard
+abbrev pub worker_in : List Load → ℕ → ℕ
+worker_in loads shard = unwrap_or (option_map (λ (l : Load). l.worker) (find (λ (l : Load). l.shard == shard) loads)) 0
+
+-- the job of an action, at its beginning
+abbrev pub job_for : List Load → Action → JobValue
+job_for standing (action.Split shard) = record { shard = shard; worker = worker_in standing shard; to = None; stage = IsCalled }
+job_for standing (action.Move shard worker) = record { shard = shard; worker = worker_in standing shard; to = Some worker; stage = IsCalled }
+
+-- the job of the action that is next; none before the plan is made, and none after the last action
+abbrev pub next_job : Balance → Option JobValue
+next_job b = option_map (job_for b.standing) (option_and_then (λ (actions : List Action). slice_get actions b.over) b.plan)

@@ -1,0 +1,77 @@
+-- What a page must show: it is read off the whole state, by an actor beside which nobody is at work.
+use Rattle.std.specs.Prelude.{ℕ, ◌≡◌, ◌≢◌, cond, List, [], ◌++◌, length, flat_map, Some, None}
+use Rattle.std.specs.List.{AllZip}
+use Rattle.dim_hierarchy.specs.declared.row.Row.{Row}
+use Rattle.dc_node.specs.Summary.{coords}
+use Rattle.describing_set.specs.DescSet.{IsSetOf}
+use Rattle.describing_set.specs.declared.listing.Spot.{Spot}
+use Rattle.measure_agg.specs.Aggregate.{agg}
+use Rattle.row_ledger.specs.Pages.{IsPageOf}
+use Rattle.row_ledger.specs.declared.page.AuditLine.{AuditLine}
+use Rattle.row_ledger.specs.declared.page.Page.{Page}
+use Rattle.row_ledger.specs.declared.page.Page.TheVariants as page
+use Rattle.row_ledger.specs.declared.page.ShardLine.{ShardLine}
+use Rattle.row_ledger.specs.declared.page.TreePage.{TreePage}
+use Rattle.shard_store.specs.declared.gate.Phase.TheVariants.{Gone}
+use Rattle.tree_shape.specs.Counts.{Each, times}
+use Rattle.tree_shape.specs.Shape.{Shape, numbers}
+use Rattle.tree_shape.specs.Trees.{IsTree}
+use Rattle.volap_cell.specs.Growing.{table_of}
+use Rattle.volap_cell.specs.Setting.{Setting}
+use Rattle.volap_cell.specs.Stocking.{cells_at}
+use Rattle.volap_cell.specs.Values.{ActorValue}
+use Rattle.volap_cell.specs.View.{View, view}
+use Rattle.volap_cell.specs.World.{World}
+
+-- an actor with nothing to do
+pub record IsIdle (a : ActorValue) : Type 0 where
+  pub command : a.command ≡ None
+  pub errand : a.errand ≡ None
+  pub job : a.job ≡ None
+  pub purse : a.purse ≡ []
+
+-- the rows that a shard has: those in the tree of its gate, whatever shape fits it, and those in its queue
+pub record HasRows (s : Setting) (v : View) (x : ℕ) (tree queue : List Row) : Type 0 where
+  pub gate : ℕ
+  pub is_gate : v.gates gate ≡ Some x
+  pub stands : v.phases gate ≢ Some Gone
+  pub queue_is : (v.queues gate).rows ≡ queue
+  pub named : Each (λ r. v.row r.no ≡ r) tree
+  pub tree_is : (g : Shape) → IsTree (table_of s v.row) (cells_at v.blocks v.trees gate) g → (r : ℕ) → times r (numbers tree) ≡ cond (g.placed r) 1 0
+
+pub record SeesTree (s : Setting) (v : View) (shown : TreePage) : Type 0 where
+  pub tree : List Row
+  pub queue : List Row
+  pub has : HasRows s v shown.shard tree queue
+  pub is_page : IsPageOf s.hierarchy tree queue shown
+
+-- a line of the shards' page is that of a spot of the registry
+pub record SeesLine (s : Setting) (v : View) (spot : Spot) (line : ShardLine) : Type 0 where
+  pub shard : line.shard ≡ spot.shard
+  pub worker : line.worker ≡ spot.worker
+  pub tree : List Row
+  pub queue : List Row
+  pub has : HasRows s v spot.shard tree queue
+  pub rows : line.rows ≡ length tree
+  pub queued : line.queued ≡ length queue
+  pub set : IsSetOf s.hierarchy (coords (tree ++ queue)) line.set
+
+-- the rows of a spot of the registry
+abbrev pub HasAll : Setting → View → Spot → List Row → Type 0
+HasAll s v spot rows = (tree : List Row) × (queue : List Row) × HasRows s v spot.shard tree queue × (rows ≡ tree ++ queue)
+
+pub record SeesAudit (s : Setting) (v : View) (audit : AuditLine) : Type 0 where
+  pub parts : List (List Row)
+  pub each : AllZip (HasAll s v) v.registry.frontier parts
+  pub total : audit.agg ≡ agg (flat_map (λ rows. rows) parts)
+  pub shards : audit.shards ≡ length v.registry.frontier
+
+abbrev pub SeesPage : Setting → View → Page → Type 0
+SeesPage s v (page.Shards lines) = AllZip (SeesLine s v) v.registry.frontier lines
+SeesPage s v (page.Tree tree) = SeesTree s v tree
+SeesPage s v (page.Audit audit) = SeesAudit s v audit
+
+-- everyone else is idle, and the page is what the state has
+pub record Sees (s : Setting) (w : World) (n : ℕ) (shown : Page) : Type 0 where
+  pub alone : (a : ℕ) → a ≢ n → IsIdle (w.actors a)
+  pub page : SeesPage s (view s w) shown

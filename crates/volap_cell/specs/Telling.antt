@@ -1,0 +1,55 @@
+-- The history: it is kept right, and each actor's command is in it, open, and as far as the actor says.
+use Rattle.std.specs.Prelude.{ℕ, ◌≡◌, ◌+◌, ◌<◌, ◌≤◌, ◌⊎◌, Bool, true, false, IsTrue, List, [], length, Option, Some, is_some, option_and_then}
+use Rattle.dim_hierarchy.specs.Filter.{IsFilterOf}
+use Rattle.dim_hierarchy.specs.Row.{IsRowOf}
+use Rattle.shard_plan.specs.declared.action.Action.TheVariants as action
+use Rattle.row_ledger.specs.Past.{Insert, Query, before, event_at, insert_at, query_at, call_at, has_ended, has_page, session_in, work}
+use Rattle.row_ledger.specs.Right.{KeepsRight, has_pulled}
+use Rattle.row_ledger.specs.Shards.{is_live}
+use Rattle.row_ledger.specs.Work.{is_known}
+use Rattle.row_ledger.specs.declared.event.Event.{Event}
+use Rattle.row_ledger.specs.declared.settings.Call.TheVariants as call
+use Rattle.volap_cell.specs.Setting.{Setting, site_in}
+use Rattle.volap_cell.specs.Values.{JobValue}
+use Rattle.volap_cell.specs.declared.command.Command.{Command}
+use Rattle.volap_cell.specs.declared.command.Work.{Work}
+use Rattle.volap_cell.specs.declared.command.Work.TheVariants as work_is
+use Rattle.volap_cell.specs.declared.role.Role.{Role}
+use Rattle.volap_cell.specs.declared.role.Role.TheVariants.{Session}
+
+-- a role is that of a session of this server
+abbrev pub IsSessionOf : ℕ → Role → Type 0
+IsSessionOf server role = role ≡ Session server
+
+-- What began a command, and how far it has come. A job is there exactly for a split or a move whose shard, and worker, stood
+-- when it began; what is said of a balance stands with the jobs.
+abbrev pub IsProgress : Setting → List Event → ℕ → Work → Option JobValue → Role → Type 0
+IsProgress s h of (work_is.Insert row routed) job role = (server : ℕ) × IsSessionOf server role × (insert_at h of ≡ Some (record { server = server; row = row })) × (row.no ≡ of)
+IsProgress s h of work_is.Query job role = (q : Query) × IsSessionOf q.server role × (query_at h of ≡ Some q)
+IsProgress s h of (work_is.Sync server pulled) job role = (call_at h of ≡ Some (call.Sync server)) × (server < s.servers) × (pulled ≡ true → IsTrue (has_pulled h of server))
+IsProgress s h of work_is.Barrier job role = call_at h of ≡ Some call.Barrier
+IsProgress s h of (work_is.Settle pulls) job role = (call_at h of ≡ Some call.Settle) × (pulls ≤ s.servers + s.servers)
+IsProgress s h of (work_is.Split shard) job role =
+    (call_at h of ≡ Some (call.Split shard)) × (work h of ≡ []) × (is_some job ≡ is_known (site_in s) (before h of) (action.Split shard))
+IsProgress s h of (work_is.Move shard worker) job role =
+    (call_at h of ≡ Some (call.Move shard worker)) × (work h of ≡ []) × (is_some job ≡ is_known (site_in s) (before h of) (action.Move shard worker))
+IsProgress s h of (work_is.Balance b) job role = call_at h of ≡ Some (call.Balance b.most)
+IsProgress s h of (work_is.Shards shown) job role = (call_at h of ≡ Some call.Shards) × (has_page h of ≡ shown)
+IsProgress s h of (work_is.Tree shard stands shown) job role =
+    (call_at h of ≡ Some (call.Tree shard)) × (has_page h of ≡ shown) × (is_live s.workers (before h of) shard ≡ stands) × (shown ≡ true → stands ≡ true)
+IsProgress s h of (work_is.Audit shown) job role = (call_at h of ≡ Some call.Audit) × (has_page h of ≡ shown)
+
+-- an insert has ended, or an actor is still at it
+abbrev pub IsEndedOrOpen : List Event → (ℕ → Option Command) → ℕ → Type 0
+IsEndedOrOpen h commands r = (has_ended h r ≡ true) ⊎ ((a : ℕ) × (c : Command) × (commands a ≡ Some c) × (c.of ≡ r))
+
+pub record Telling (s : Setting) (history : List Event) (commands : ℕ → Option Command) (jobs : ℕ → Option JobValue) (roles : ℕ → Role) (seen : ℕ → ℕ) (placed : ℕ → Bool) : Type 0 where
+  pub right : KeepsRight (site_in s) placed history
+  pub own : (a : ℕ) (c : Command) → commands a ≡ Some c → option_and_then session_in (event_at history c.of) ≡ Some a
+  pub is_open : (a : ℕ) (c : Command) → commands a ≡ Some c → has_ended history c.of ≡ false
+  pub progress : (a : ℕ) (c : Command) → commands a ≡ Some c → IsProgress s history c.of c.work (jobs a) (roles a)
+  pub last : (a p : ℕ) → option_and_then session_in (event_at history p) ≡ Some a → p < seen a
+  pub within : (a : ℕ) → seen a ≤ length history
+  pub rows : (r : ℕ) (i : Insert) → insert_at history r ≡ Some i → IsRowOf s.hierarchy i.row × (i.server < s.servers)
+  pub filters : (b : ℕ) (q : Query) → query_at history b ≡ Some q → IsFilterOf s.hierarchy q.filter × (q.server < s.servers)
+  pub status : (r : ℕ) (i : Insert) → insert_at history r ≡ Some i → IsEndedOrOpen history commands r

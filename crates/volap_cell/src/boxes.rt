@@ -1,0 +1,50 @@
+ghost use Rattle.std.specs.Prelude.{◌≡◌, ◌+◌, ◌<◌, ◌≤◌, true, false, length, OnOk, [], ◌∷◌, ◌++◌};
+ghost use Rattle.dc_node.specs.Block.{is_leaf, is_full, rows_in, with_rows};
+
+use dc_node::{Blanks, Block};
+use dim_hierarchy::Row;
+use link_descent::put_leaf;
+use std::alloc::{AllocError, Global};
+use std::marker::Model;
+
+/// Boxes for new blocks, for the steps that may take no memory: what stands in a cell, and what a block
+/// keeps its items in. Contracts see how many blocks they are enough for at least.
+#[derive(Drop)]
+pub struct Boxes {
+    alloc: Global,
+    blocks: Vec<Box<Block>>,
+    blanks: Blanks,
+}
+
+impl Model for Boxes {
+    ghost use Rattle.std.specs.Prelude.{ℕ, min, length};
+
+    ghost Value = { ℕ };
+
+    ghost view = { λ b. min (length b.blocks.items) b.blanks };
+}
+
+impl Boxes {
+    /// No box. Takes no memory.
+    pub fn new(alloc: Global) -> Boxes
+        ensures { result ≡ 0 }
+    {
+        Boxes {
+            alloc,
+            blocks: Vec::new(alloc),
+            blanks: Blanks::new(alloc),
+        }
+    }
+
+    /// Puts a row into a leaf with room, behind its rows. The first one's box comes from here. Takes no
+    /// memory.
+    pub fn put_leaf(&mut self, leaf: &mut Block, row: &Row)
+        requires leaf { is_leaf leaf.old.body ≡ true }
+        requires room { is_full leaf.old.body ≡ false }
+        requires some { 0 < self.old }
+        ensures left { self.old ≤ self.new + 1 }
+        ensures row { leaf.new ≡ with_rows leaf.old (rows_in leaf.old.body ++ row.now ∷ []) }
+    {
+        put_leaf(leaf, row, &mut self.blanks);
+    }
+}

@@ -1,0 +1,72 @@
+use dim_hierarchy::{Items, Row};
+use shard_plan::{Action, Load};
+
+/// A command that an actor has begun and not ended.
+#[derive(Drop)]
+pub struct Command {
+    /// The position of the event that began it.
+    pub of: u64,
+    pub work: Work,
+}
+
+/// What a command is and how far it has come.
+#[derive(Drop)]
+pub enum Work {
+    /// Its row, and whether a part for it was put on the desk.
+    Insert {
+        row: Row,
+        routed: bool,
+    },
+    Query,
+    /// Whether the server has pulled.
+    Sync {
+        server: u8,
+        pulled: bool,
+    },
+    Barrier,
+    /// How many pulls were made, of two for each server.
+    Settle {
+        pulls: u16,
+    },
+    /// A split or a move is at work as long as its actor has a job; without one its shard, or the worker
+    /// that it was to go to, didn't stand when it began.
+    Split {
+        shard: u32,
+    },
+    Move {
+        shard: u32,
+        worker: u8,
+    },
+    Balance(Balance),
+    /// Whether the page was shown.
+    Shards {
+        shown: bool,
+    },
+    /// Whether the shard stood when the command began, and whether the page was shown.
+    Tree {
+        shard: u32,
+        stands: bool,
+        shown: bool,
+    },
+    Audit {
+        shown: bool,
+    },
+}
+
+/// How far a balance has come.
+#[derive(Drop)]
+pub struct Balance {
+    /// How many actions it may plan.
+    pub most: u8,
+    /// The shards that stood when it began, with their workers; of the first ones the rows were read.
+    pub loads: Items<Load>,
+    /// Of how many of them.
+    pub read: u32,
+    /// The same shards with the workers to which this balance has moved them.
+    pub standing: Items<Load>,
+    /// What is planned, once all rows were read.
+    pub plan: Option<Items<Action>>,
+    /// How many actions are over, and how many of these were done.
+    pub over: u8,
+    pub done: u8,
+}

@@ -1,0 +1,83 @@
+use cell_stock::Purse;
+use dc_node::{Block, Todo};
+use describing_set::{DescSet, Plane};
+use dim_hierarchy::Items;
+use measure_agg::Agg;
+use row_ledger::Decline;
+use shard_store::{CellList, RowList};
+
+/// The split of a shard, or its move to a worker, by the one administrator.
+#[derive(Drop)]
+pub struct Job {
+    pub shard: u32,
+    /// The worker that has the shard.
+    pub worker: u8,
+    /// The worker to which it moves; a split has none.
+    pub to: Option<u8>,
+    pub stage: Stage,
+}
+
+/// How far a job has come.
+#[derive(Drop)]
+pub enum Stage {
+    Called,
+    Declined(Decline),
+    /// The shard is frozen, and inserts may still be in its tree.
+    Frozen(Frozen),
+    Collecting(Collecting),
+    Building(Building),
+}
+
+/// What was found when the shard was frozen: its gate, the plane of a split, and how many rows its tree and
+/// its queue have.
+#[derive(Drop)]
+pub struct Frozen {
+    pub gate: u32,
+    pub plane: Option<Plane>,
+    pub rows: u64,
+}
+
+/// The rows of the shard's tree are collected block by block, and then those of its queue.
+#[derive(Drop)]
+pub struct Collecting {
+    pub frozen: Frozen,
+    /// The blocks that are noted.
+    pub todo: Todo,
+    /// The blocks that were read.
+    pub read: CellList,
+    /// How many rows of the queue were read.
+    pub queued: u64,
+    pub rows: RowList,
+}
+
+/// The new trees are made, one for each side of the plane or the one of a move, and their blocks go to
+/// their cells.
+#[derive(Drop)]
+pub struct Building {
+    pub frozen: Frozen,
+    /// The blocks of the old tree.
+    pub read: CellList,
+    pub left: BuiltTree,
+    pub right: Option<BuiltTree>,
+    /// The blocks that aren't in their cells yet.
+    pub unbuilt: Items<Unbuilt>,
+    /// The spares that all new blocks took.
+    pub spent: Purse,
+}
+
+/// How a gate leads to a new tree.
+#[derive(Drop)]
+pub struct BuiltTree {
+    pub root: u32,
+    pub stamp: u64,
+    pub height: u32,
+    pub agg: Agg,
+    pub set: DescSet,
+}
+
+/// A block of a new tree that isn't in its cell yet.
+#[derive(Drop)]
+pub struct Unbuilt {
+    pub cell: u32,
+    pub block: Box<Block>,
+}

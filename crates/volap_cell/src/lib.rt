@@ -1,0 +1,34 @@
+//! The cells and actors of the core, what each kind of step does to them, and what holds between steps.
+#![tactic(auto)]
+
+mod actor;
+mod boxes;
+mod cell;
+mod command;
+mod errand;
+mod job;
+mod kind;
+mod laws;
+mod opening;
+mod role;
+mod state;
+#[cfg(test)]
+mod tests;
+
+pub use actor::{About, Actor};
+pub use boxes::Boxes;
+pub use cell::Cell;
+pub use command::{Balance, Command, Work};
+pub use errand::{Errand, Reading, RowErrand, Task, Way, go_on};
+pub use job::{Building, BuiltTree, Collecting, Frozen, Job, Stage, Unbuilt};
+pub use kind::Kind;
+pub use laws::{
+    each_row_has_one_place, images_cover, opening_holds, queries_count_once, shards_have_the_rows,
+};
+pub use opening::open;
+pub use role::{Role, RoleList};
+pub use state::{
+    State, lift, lift_five, lift_four, lift_if, lift_one, lift_seven, lift_six, lift_three,
+    lift_two, put_actor, put_five, put_four, put_if, put_one, put_seven, put_six, put_three,
+    put_two,
+};
