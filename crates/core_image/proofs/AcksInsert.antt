@@ -42,13 +42,13 @@ use Rattle.volap_cell.specs.declared.role.Role.TheVariants.{Admin, Session}
 use Rattle.volap_cell.proofs.AckedHistory.{ack-changes, placing-acked, inserting-acked, imaging-acked, covering-acked, desking-acked, querying-acked, working-acked, balancing-acked, telling-acked, few-acked, lineage-acked, growing-acked, queueing-acked, resting-acked, Contains-first}
 use Rattle.volap_cell.proofs.BookViews.{by_ack, view-ack}
 use Rattle.volap_cell.proofs.Books.{desk-image-event}
+use Rattle.volap_cell.proofs.Ahead.{command-stays, errand-stays, job-stays, parts-stay}
 use Rattle.volap_cell.proofs.Fields.{IsNewAt, IsPushed}
 use Rattle.volap_cell.proofs.Frames.{actor-at, actor-off, unmoved-one}
 use Rattle.volap_cell.proofs.GrowsKnown.{AreOlder, older-rows}
 use Rattle.volap_cell.proofs.Persons.{has-command}
 use Rattle.volap_cell.proofs.Seen.{renewed}
 use Rattle.volap_cell.proofs.Sums.{sum-changed, sum-kept, sum-same}
-use Rattle.core_image.proofs.Ahead.{command-stays, errand-stays, job-stays, parts-stay}
 use Rattle.core_image.proofs.Clears.{cleared-desking, cleared-inserting, cleared-leading, cleared-querying, ended-balancing, ended-inserting, ended-numbering, ended-working, still-has}
 use Rattle.core_image.proofs.Rows.{row-coords, may-coords, begun-of}
 use Rattle.core_image.proofs.Widens.{IsPlacedRow, covering-now, imaging-now, inserting-now, leading-now, noted-now, row-covered}

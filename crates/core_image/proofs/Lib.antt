@@ -1,7 +1,6 @@
 pub mod Paths
 pub mod Boxes
 pub mod Clears
-pub mod Ahead
 pub mod Widens
 pub mod Rows
 pub mod AcksInsert

@@ -29,12 +29,13 @@ use Rattle.volap_cell.specs.declared.errand.Way.{Way}
 use Rattle.volap_cell.specs.declared.errand.Way.TheVariants.{Carried}
 use Rattle.volap_cell.specs.declared.kind.Kind.{Kind}
 use Rattle.volap_cell.proofs.Actors.{row-at, taken-is}
+use Rattle.volap_cell.proofs.Ahead.{job-stays}
 use Rattle.volap_cell.proofs.Frames.{Same, AreAt, holds-still, actor-at, actor-off, unmoved-one}
 use Rattle.volap_cell.proofs.Seen.{Touched, ActorSeen, nothing, beside, actor_beside, renewed}
-use Rattle.volap_cell.proofs.Sums.{sum-same, sum-some}
+use Rattle.volap_cell.proofs.Sums.{sum-same, sum-some, sum-less}
 use Rattle.volap_cell.proofs.Views.{view-after}
 use Rattle.core_tree.proofs.Carriers.{Carries, carries}
-use Rattle.core_tree.proofs.Less.{sum-less, job-as-before, rows-as-before, any-front}
+use Rattle.core_tree.proofs.Less.{rows-as-before, any-front}
 use Rattle.core_tree.proofs.Moves.{Moved, Went, TreeMoves, moved-growing, moved-numbering, moved-turning, counts-same, level-kept, moved-stocking, moved-stamping}
 use Rattle.core_tree.proofs.MovesRest.{moved-resting, moved-placing, moved-inserting, moved-querying, moved-working}
 use Rattle.core_tree.proofs.Spares.{moved_owner}
@@ -233,7 +234,7 @@ module _ (s : Setting) (w : World) (n : ℕ) (cs : List Change) (b : ActorValue)
       (λ a lt.
       let one = actor-same (λ z. of_work (control_of s) z.command) (ap (of_work (control_of s)) command) a in
       let two = actor-same (λ z. job_left s v2 z.job) (ap (job_left s v2) job) a in
-      let three = job-as-before s v v2 refl (w.actors a).job in omega arith))
+      let three = job-stays s v v2 refl (w.actors a).job in omega arith))
 
   gates-errand : gates_of_errand s v.history b.errand ≡ gates_of_errand s v.history (w.actors n).errand
   gates-errand =

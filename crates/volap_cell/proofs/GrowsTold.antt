@@ -73,7 +73,7 @@ progress-grown s e h of (work_is.Move shard worker) job role began other i = (
   work-same e h of (no-work e of other) ∙ i.1,
   i.2 ∙ ap (λ (past : List Event). is_known (site_in s) past (action.Move shard worker)) (sym (before-older e h of (le_of_lt began))),
 )
-progress-grown s e h of (work_is.Balance b) job role began other i = call-kept e h of _ i
+progress-grown s e h of (work_is.Balance b) job role began other i = (call-kept e h of _ i.0, i.1)
 progress-grown s e h of (work_is.Shards shown) job role began other i = (call-kept e h of _ i.0, page-same e h of other ∙ i.1)
 progress-grown s e h of (work_is.Tree shard stands shown) job role began other i = (
   call-kept e h of _ i.0,

@@ -70,3 +70,18 @@ sum-where (suc m) f le = on_bool (eqb (f m) 0)
 pub sum-add : (m : ℕ) (f g : ℕ → ℕ) → sum_below m (λ a. f a + g a) ≡ sum_below m f + sum_below m g
 sum-add zero f g = refl
 sum-add (suc m) f g = let ih = sum-add m f g in omega arith
+
+-- numbers that are no more have no greater sum
+pub sum-no-more : (m : ℕ) (f g : ℕ → ℕ) → ((a : ℕ) → a < m → g a ≤ f a) → sum_below m g ≤ sum_below m f
+sum-no-more zero f g le = omega arith
+sum-no-more (suc m) f g le = (let k = le m (omega arith) in let ih = sum-no-more m f g (λ a lt. le a (omega arith)) in omega arith)
+
+-- one number less, and no other one more: a lesser sum
+pub sum-less : (m : ℕ) (f g : ℕ → ℕ) (n : ℕ) → n < m → g n < f n → ((a : ℕ) → a ≢ n → g a ≤ f a) → sum_below m g < sum_below m f
+sum-less zero f g n lt less le = absurd (omega arith)
+sum-less (suc m) f g n lt less le = on_bool (eqb m n)
+    (λ q. let e = eqb-eq _ _ q in
+    let a : g m ≡ g n = ap g e in let b : f m ≡ f n = ap f e in
+    let others = sum-no-more m f g (λ a lt. le a (λ z. absurd (omega arith))) in omega arith)
+    (λ q. let ne = eqb-ne _ _ q in
+    let k = le m ne in let ih = sum-less m f g n (omega arith) less le in omega arith)

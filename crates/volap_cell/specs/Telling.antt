@@ -15,7 +15,7 @@ use Rattle.volap_cell.specs.declared.command.Command.{Command}
 use Rattle.volap_cell.specs.declared.command.Work.{Work}
 use Rattle.volap_cell.specs.declared.command.Work.TheVariants as work_is
 use Rattle.volap_cell.specs.declared.role.Role.{Role}
-use Rattle.volap_cell.specs.declared.role.Role.TheVariants.{Session}
+use Rattle.volap_cell.specs.declared.role.Role.TheVariants.{Session, Admin}
 
 -- a role is that of a session of this server
 abbrev pub IsSessionOf : ℕ → Role → Type 0
@@ -33,7 +33,7 @@ IsProgress s h of (work_is.Split shard) job role =
     (call_at h of ≡ Some (call.Split shard)) × (work h of ≡ []) × (is_some job ≡ is_known (site_in s) (before h of) (action.Split shard))
 IsProgress s h of (work_is.Move shard worker) job role =
     (call_at h of ≡ Some (call.Move shard worker)) × (work h of ≡ []) × (is_some job ≡ is_known (site_in s) (before h of) (action.Move shard worker))
-IsProgress s h of (work_is.Balance b) job role = call_at h of ≡ Some (call.Balance b.most)
+IsProgress s h of (work_is.Balance b) job role = (call_at h of ≡ Some (call.Balance b.most)) × (role ≡ Admin)
 IsProgress s h of (work_is.Shards shown) job role = (call_at h of ≡ Some call.Shards) × (has_page h of ≡ shown)
 IsProgress s h of (work_is.Tree shard stands shown) job role =
     (call_at h of ≡ Some (call.Tree shard)) × (has_page h of ≡ shown) × (is_live s.workers (before h of) shard ≡ stands) × (shown ≡ true → stands ≡ true)

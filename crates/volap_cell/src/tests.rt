@@ -1,8 +1,11 @@
 ghost use Rattle.std.specs.Prelude.{◌≡◌, ◌<◌, [], ◌∷◌, length, IfOk};
 ghost use Rattle.volap_cell.specs.State.{CanLift};
+ghost use Rattle.volap_cell.specs.declared.role.Role.TheVariants.{Session, Admin};
 
-use crate::{Cell, lift_two, put_two};
+use crate::{Cell, Role, RoleList, State, lift_two, open, put_two};
+use dim_hierarchy::Hierarchy;
 use query_router::Desk;
+use row_ledger::Use;
 use std::alloc::{AllocError, Global};
 use std::test::Fail;
 
@@ -61,4 +64,48 @@ fn two_cells_are_moved_out_and_put_back(rt: HostRuntime) -> Result<(), Fail> {
 fn a_place_takes_few_bytes(rt: HostRuntime) {
     assert!(rt; size_of::<Cell>() <= 16);
     assert!(rt; size_of::<Option<Cell>>() <= 24);
+}
+
+/// A session of server 0, and the administrator.
+fn two_roles(alloc: Global) -> Result<RoleList, AllocError>
+    ensures { IfOk result (λ roles. roles ≡ Session 0 ∷ Admin ∷ []) }
+{
+    let mut roles = RoleList::new(alloc);
+    roles.push(Role::Session { server: 0 })?;
+    roles.push(Role::Admin)?;
+    Ok(roles)
+}
+
+/// A core of two servers and two workers, with 16384 cells in the stock.
+fn opened(alloc: Global, h: &Hierarchy) -> Result<State, AllocError>
+    requires { h.now ≡ [] }
+{
+    let with = Use {
+        servers: 2,
+        workers: 2,
+        threads: 1,
+        cells: 16384,
+    };
+    open(alloc, h, &with, two_roles(alloc)?)
+}
+
+/// How many cells are there, and not free.
+fn filled(cells: &[Option<Cell>]) -> usize {
+    cells
+        .iter()
+        .filter(|cell| match cell {
+            Some(Cell::Free) => false,
+            Some(_) => true,
+            None => false,
+        })
+        .count()
+}
+
+#[test]
+fn a_core_is_opened(rt: HostRuntime) -> Result<(), Fail> {
+    let h = Hierarchy::new(rt.alloc());
+    let state = opened(rt.alloc(), &h)?;
+    assert_eq!(rt; (state.cells.len(), state.actors.len()), (16393, 2));
+    assert_eq!(rt; filled(&state.cells), 13);
+    Ok(())
 }

@@ -1,4 +1,4 @@
--- What is left of parts and inserts stays with an event that splits and moves no shard; and what is left of a job goes by phases alone.
+-- What is left of parts and inserts stays with an event that splits and moves no shard, and what is left of a job goes by the phases of gates alone.
 use Rattle.std.proofs.Common.{◌≡◌, ℕ, ◌+◌, ◌*◌, ◌-◌, List, [], ◌∷◌, Bool, true, false, length, refl, ap, ◌∙◌, arith, ◌==◌, Option, Some, None}
 use mathlib.Core.Path.{fun_ext}
 use Rattle.std.specs.Prelude.{if◌then◌else◌, sum_by}
