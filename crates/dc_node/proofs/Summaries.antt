@@ -89,14 +89,12 @@ joined_lists laws (rows ∷ lists) (e ∷ entries) z =
 
 -- sets of several lists
 
-AllZip-last : {A B : Type 0} (R : A → B → Type 0) (xs : List A) (ys : List B) (y : B) → AllZip R xs (ys ++ y ∷ [])
-    → (front : List A) × (last : A) × (xs ≡ front ++ last ∷ []) × AllZip R front ys × R last y
-AllZip-last R [] [] y z = absurd z
-AllZip-last R [] (b ∷ ys) y z = absurd z
-AllZip-last R (x ∷ []) [] y z = ([], x, refl, tt, z.0)
-AllZip-last R (x ∷ w ∷ xs) [] y z = absurd z.1
-AllZip-last R (x ∷ xs) (b ∷ ys) y z =
-    let r = AllZip-last R xs ys y z.1 in
+AllZip-split : {A B : Type 0} (R : A → B → Type 0) (xs : List A) (ys zs : List B) → AllZip R xs (ys ++ zs)
+    → (front : List A) × (back : List A) × (xs ≡ front ++ back) × AllZip R front ys × AllZip R back zs
+AllZip-split R xs [] zs z = ([], xs, refl, tt, z)
+AllZip-split R [] (y ∷ ys) zs z = absurd z
+AllZip-split R (x ∷ xs) (y ∷ ys) zs z =
+    let r = AllZip-split R xs ys zs z.1 in
     (x ∷ r.0, r.1, ap (λ l. x ∷ l) r.2, (z.0, r.3), r.4)
 
 abbrev pub AreOf : List Dimension → List Coord → DescSet → Type 0
@@ -108,9 +106,6 @@ All-flat_map h [] (s ∷ sets) z = absurd z
 All-flat_map h (rows ∷ lists) [] z = absurd z
 All-flat_map h (rows ∷ lists) (s ∷ sets) z = All-append (IsCoordOf h) rows (flat_map (λ r. r) lists) z.0.0 (All-flat_map h lists sets z.1)
 
-flat_map-last : {A : Type 0} (front : List (List A)) (last : List A) → flat_map (λ x. x) (front ++ last ∷ []) ≡ flat_map (λ x. x) front ++ last
-flat_map-last front last = flat_map-append (λ x. x) front (last ∷ []) ∙ ap (λ l. flat_map (λ x. x) front ++ l) (append-nil last)
-
 pub IsUnionOf-none : (h : List Dimension) (set : DescSet) → IsSetOf h [] set → IsUnionOf h [] set
 IsUnionOf-none h set s = record { union = union_none }
   where
@@ -118,20 +113,29 @@ IsUnionOf-none h set s = record { union = union_none }
     union_none [] z = s
     union_none (rows ∷ lists) z = absurd z
 
--- one set more
-pub IsUnionOf-push : (h : List Dimension) (sets : List DescSet) (other set both : DescSet) → JoinsTo h set other both → IsUnionOf h sets set → IsUnionOf h (sets ++ other ∷ []) both
-IsUnionOf-push h sets other set both joins u = record {
+IsUnionOf-one : (h : List Dimension) (set : DescSet) → IsUnionOf h (set ∷ []) set
+IsUnionOf-one h set = record { union = union_one }
+  where
+    union_one : (lists : List (List Coord)) → AllZip (AreOf h) lists (set ∷ []) → IsSetOf h (flat_map (λ rows. rows) lists) set
+    union_one [] z = absurd z
+    union_one (rows ∷ []) z = subst (λ l. IsSetOf h l set) (sym (append-nil rows)) z.0.1
+    union_one (rows ∷ more ∷ lists) z = absurd z.1
+
+-- the sets of two lists together
+pub IsUnionOf-append : (h : List Dimension) (xs ys : List DescSet) (left right both : DescSet) → JoinsTo h left right both → IsUnionOf h xs left → IsUnionOf h ys right → IsUnionOf h (xs ++ ys) both
+IsUnionOf-append h xs ys left right both joins u v = record {
   union = λ lists z.
-      let r = AllZip-last (AreOf h) lists sets other z in
-      let here : IsSetOf h (flat_map (λ rows. rows) r.0 ++ r.1) both = joins.joined (flat_map (λ rows. rows) r.0) r.1 (All-flat_map h r.0 sets r.3) r.4.0 (u.union r.0 r.3) r.4.1 in
-      subst (λ l. IsSetOf h l both) (sym (ap (flat_map (λ rows. rows)) r.2 ∙ flat_map-last r.0 r.1)) here;
+      let r = AllZip-split (AreOf h) lists xs ys z in
+      let flat : List (List Coord) → List Coord = flat_map (λ rows. rows) in
+      let here : IsSetOf h (flat r.0 ++ flat r.1) both = joins.joined (flat r.0) (flat r.1) (All-flat_map h r.0 xs r.3) (All-flat_map h r.1 ys r.4) (u.union r.0 r.3) (v.union r.1 r.4) in
+      subst (λ l. IsSetOf h l both) (sym (ap flat r.2 ∙ flat_map-append (λ rows. rows) r.0 r.1)) here;
 }
 
 pub IsUnionOf-more : (h : List Dimension) (entries : List Entry) (i : ℕ) (e : Entry) (set both : DescSet)
     → i < length entries → e ≡ get_or entries i e → JoinsTo h set e.set both → IsUnionOf h (map (λ x. x.set) (take i entries)) set
     → IsUnionOf h (map (λ x. x.set) (take (i + 1) entries)) both
 IsUnionOf-more h entries i e set both within read joins u =
-    rw (take_more entries i e within, ← read, map_push) (IsUnionOf-push h (map (λ x. x.set) (take i entries)) e.set set both joins u)
+    rw (take_more entries i e within, ← read, map_push) (IsUnionOf-append h (map (λ x. x.set) (take i entries)) (e.set ∷ []) set e.set both joins u (IsUnionOf-one h e.set))
 
 -- what entries say of the rows beneath
 

@@ -5,3 +5,4 @@ pub mod Cuts
 pub mod Heads
 pub mod Crossings
 pub mod Groups
+pub mod Partings

@@ -1,6 +1,7 @@
 -- Head cuts: which items stay in the first block of a group that has more blocks, and the good one.
-use Rattle.std.specs.Prelude.{ℕ, ◌≡◌, ◌*◌, ◌<◌, ◌≤◌, ◌⊎◌, ◌==◌, List, [], ◌∷◌, ◌++◌, length, All, Contains, Bool, not}
-use Rattle.std.specs.List.{filter}
+use Rattle.std.specs.Prelude.{ℕ, ◌≡◌, ◌*◌, ◌<◌, ◌≤◌, ◌⊎◌, ◌==◌, List, [], ◌∷◌, ◌++◌, length, slice_get, All, Contains, Bool, false, not}
+use Rattle.std.specs.Option.{option_map_or}
+use Rattle.std.specs.List.{filter, range_with_len}
 use Rattle.dim_hierarchy.specs.Dimension.{Dimension}
 use Rattle.describing_set.specs.declared.set.DescSet.{DescSet}
 use Rattle.hierarchy_split.specs.Order.{least}
@@ -31,6 +32,17 @@ is_kept h cut set = least (lifted h cut.dim cut.level set) == cut.concept
 
 abbrev pub kept_items : List Dimension → List DescSet → HeadCut → List DescSet
 kept_items h head cut = filter (is_kept h cut) head
+
+-- the places of the head's items that are kept, and those of the others, each in their order
+
+abbrev pub is_kept_at : List Dimension → List DescSet → HeadCut → ℕ → Bool
+is_kept_at h head cut place = option_map_or (is_kept h cut) (slice_get head place) false
+
+abbrev pub kept_places : List Dimension → List DescSet → HeadCut → List ℕ
+kept_places h head cut = filter (is_kept_at h head cut) (range_with_len 0 (length head))
+
+abbrev pub parted_places : List Dimension → List DescSet → HeadCut → List ℕ
+parted_places h head cut = filter (λ place. not (is_kept_at h head cut place)) (range_with_len 0 (length head))
 
 -- the other items of the head, and those of the other blocks
 abbrev pub parted_items : List Dimension → GroupItems → HeadCut → List DescSet

@@ -1,10 +1,19 @@
 //! A head cut, and which of several comes first.
-ghost use Rattle.std.specs.Prelude.{◌≡◌, ◌==◌, ◌<◌, ◌≤◌, ◌↔◌, length, IsTrue, IfSome, IfNone};
+ghost use Rattle.std.specs.Prelude.{◌≡◌, ◌==◌, ◌<◌, ◌≤◌, ◌++◌, ◌↔◌, length, All, IsPermutation, IsTrue, IfSome, IfNone};
 ghost use Rattle.std.specs.Bool.{OnTrue, OnFalse};
-ghost use Rattle.std.specs.List.{count_by};
+ghost use Rattle.std.specs.List.{count_by, range_with_len};
+ghost use Rattle.describing_set.specs.DescSet.{part_at, IsDescSetOf};
+ghost use Rattle.hierarchy_split.specs.Cut.{IsAbove};
 ghost use Rattle.hierarchy_split.specs.Limits.{most_items};
 
+use crate::leasts::least;
+use crate::limits::MOST_ITEMS;
+use arrayvec::ArrayVec;
+use describing_set::DescSet;
 use dim_hierarchy::{ConceptId, Hierarchy};
+
+/// Places of items.
+pub type Places = ArrayVec<u8, MOST_ITEMS>;
 
 /// A cut of a head by a dimension: the level at which the concepts of its items are compared, the
 /// least concept of those that it keeps, and how many these are.
@@ -17,7 +26,7 @@ pub struct HeadCut {
 }
 
 ghost use Rattle.hierarchy_split.specs.declared.head_cut.HeadCut.{HeadCut};
-ghost use Rattle.hierarchy_split.specs.Head.{GroupItems, IsBetterHead, IsGoodHeadCut};
+ghost use Rattle.hierarchy_split.specs.Head.{GroupItems, is_kept, kept_places, parted_places, IsBetterHead, IsGoodHeadCut};
 ghost use Rattle.hierarchy_split.specs.Best.{IsBestWith, IsBetterOf, IsUncrossed, IsFlaggedAt};
 
 impl HeadCut {
@@ -26,6 +35,39 @@ impl HeadCut {
         ensures { (items : GroupItems) (cut other : HeadCut) → IsGoodHeadCut h.now items cut
             → IsGoodHeadCut h.now items other → cut ≡ other }
     {}
+
+    /// Whether it keeps an item of the head.
+    fn keeps(&self, h: &Hierarchy, set: &DescSet) -> bool
+        requires dim { self.now.dim < length h.now }
+        requires set { IsDescSetOf h.now set.now }
+        requires level { self.now.level ≤ (part_at set.now self.now.dim).level }
+        ensures { result ≡ is_kept h.now self.now set.now }
+    {
+        least(set, h, self.dim, self.level) == self.concept
+    }
+
+    /// The places of the items of a head that it keeps, and those of the others, each in their order.
+    /// Takes no memory.
+    pub fn parts(&self, head: &[DescSet], h: &Hierarchy) -> (Places, Places)
+        requires few { length head.now ≤ most_items }
+        requires head { All (IsDescSetOf h.now) head.now }
+        requires dim { self.now.dim < length h.now }
+        requires level { IsAbove head.now self.now.dim self.now.level }
+        ensures kept { result.0.items ≡ kept_places h.now head.now self.now }
+        ensures parted { result.1.items ≡ parted_places h.now head.now self.now }
+        ensures order { IsPermutation (range_with_len 0 (length head.now)) (result.0.items ++ result.1.items) }
+    {
+        let mut kept = ArrayVec::new();
+        let mut parted = ArrayVec::new();
+        for (place, set) in head.iter().enumerate() {
+            if self.keeps(h, set) {
+                kept.push(place as u8);
+            } else {
+                parted.push(place as u8);
+            }
+        }
+        (kept, parted)
+    }
 }
 
 /// Whether a cut comes before another one.

@@ -12,4 +12,4 @@ mod overlap;
 
 pub use cut::{Cut, choose};
 pub use head::HeadCuts;
-pub use head_cut::HeadCut;
+pub use head_cut::{HeadCut, Places};

@@ -1,8 +1,8 @@
 -- The items of a list at some places.
-use Rattle.std.proofs.Common.{ℕ, ◌≡◌, ◌+◌, ◌<◌, List, [], ◌∷◌, ◌++◌, length, map, take, drop, get_or, pos, Some, refl, sym, ap, subst, ◌∙◌, arith}
+use Rattle.std.proofs.Common.{ℕ, ◌≡◌, ◌+◌, ◌<◌, List, [], ◌∷◌, ◌++◌, length, map, take, get_or, pos, Some, refl, sym, ap, subst, ◌∙◌, arith}
 use Rattle.std.specs.Prelude.{slice_get, All, IfSome, IsPermutation}
 use Rattle.std.specs.List.{AllZip, cons_option, range_with_len}
-use Rattle.std.proofs.lemmas.List.{take_more, take-append-drop, length-map, nil_from_length, get_or_default}
+use Rattle.std.proofs.lemmas.List.{take_more, length-map, nil_from_length, get_or_default}
 use Rattle.std.proofs.lemmas.List.Elements.{filter_map-append, All-nil, All-tail, All-same, All-map}
 use Rattle.std.proofs.lemmas.List.FromFn.{fill_by_all}
 use Rattle.std.proofs.lemmas.List.Sorted.{IsPermutation-refl, IsPermutation-map}
@@ -60,10 +60,9 @@ items_at-all (x ∷ xs) order p =
     (subst (λ l. IsPermutation (map (λ place. get_or all place x) (range_with_len 0 n)) l) (sym read)
     (IsPermutation-map (λ place. get_or all place x) (range_with_len 0 n) order p))
 
--- those of the first places and those of the rest are all items
-pub items_at-parts : {A : Type 0} (xs : List A) (order : List ℕ) (k : ℕ) → IsPermutation (range_with_len 0 (length xs)) order → IsPermutation xs (items_at xs (take k order) ++ items_at xs (drop k order))
-items_at-parts xs order k p =
-    subst (IsPermutation xs) (ap (items_at xs) (sym (take-append-drop k order)) ∙ items_at-append xs (take k order) (drop k order)) (items_at-all xs order p)
+-- those at some places and those at the others are all items
+pub items_at-parts : {A : Type 0} (xs : List A) (some more : List ℕ) → IsPermutation (range_with_len 0 (length xs)) (some ++ more) → IsPermutation xs (items_at xs some ++ items_at xs more)
+items_at-parts xs some more p = subst (IsPermutation xs) (items_at-append xs some more) (items_at-all xs (some ++ more) p)
 
 -- a pair more at the ends of two lists
 pub AllZip-ends : {A B : Type 0} (R : A → B → Type 0) (xs : List A) (ys : List B) (x : A) (y : B) → AllZip R xs ys → R x y → AllZip R (xs ++ x ∷ []) (ys ++ y ∷ [])

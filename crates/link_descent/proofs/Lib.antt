@@ -2,8 +2,12 @@ pub mod VisitRows
 pub mod VisitEntries
 pub mod Picks
 pub mod Items
+pub mod Entries
+pub mod Strikes
+pub mod Behind
 pub mod Divisions
 pub mod Parts
+pub mod Rooms
 pub mod Steps
 pub mod Passes
 pub mod Ranks

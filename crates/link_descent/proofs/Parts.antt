@@ -5,7 +5,7 @@ use Rattle.std.specs.List.{range_with_len}
 use Rattle.std.proofs.lemmas.Bool.{eqb-true}
 use Rattle.std.proofs.lemmas.Slice.Zip.{AllZip-long}
 use Rattle.std.proofs.lemmas.Bool.Decides.{nat_tests}
-use Rattle.std.proofs.lemmas.List.{length-append, length-take, length-drop, length-map}
+use Rattle.std.proofs.lemmas.List.{length-append, length-take, length-drop, length-map, take-append-drop}
 use Rattle.std.proofs.lemmas.List.Elements.{All-take, All-drop}
 use Rattle.std.proofs.lemmas.List.Sums.{sum_by-append, sum_by-cons}
 use Rattle.std.proofs.lemmas.List.Sorted.{sum_by-IsPermutation, length_permutation}
@@ -16,14 +16,17 @@ use Rattle.measure_agg.specs.Aggregate.{Aggregate, agg}
 use Rattle.describing_set.specs.DescSet.{IsDescSetOf}
 use Rattle.describing_set.specs.declared.set.DescSet.{DescSet}
 use Rattle.hierarchy_split.proofs.Orders.{places_length, places_below}
+use Rattle.hierarchy_split.specs.Head.{kept_places, parted_places}
 use Rattle.hierarchy_split.proofs.Cuts.{cut_length}
+use Rattle.hierarchy_split.proofs.Crossings.{all_left, all_right}
+use Rattle.hierarchy_split.proofs.Partings.{kept_count, parts-order}
 use Rattle.dc_node.specs.Block.{rows_in, entries_in, size, is_full, IsBodyOf}
 use Rattle.dc_node.specs.Summary.{joined, aggs, row_count, IsSummary}
 use Rattle.dc_node.specs.declared.block.Body.{Body}
 use Rattle.dc_node.specs.declared.block.Body.TheVariants.{Rows, Entries}
 use Rattle.dc_node.specs.declared.block.Block.{Block}
 use Rattle.dc_node.specs.declared.entry.Entry.{Entry}
-use Rattle.link_descent.specs.Divide.{items_at, body_at, front, rest, half, AreItemSets, IsCutInTwo, IsHalved}
+use Rattle.link_descent.specs.Divide.{items_at, body_at, front, rest, half, together, AreItemSets, IsCutInTwo, IsCutByHead, IsHalved}
 use Rattle.link_descent.proofs.Items.{length-items_at, All-items_at, items_at-parts}
 
 -- Room.
@@ -50,7 +53,7 @@ fewer b (Entries entries) full same less = differ (length entries.items) 16 (let
 abbrev pub weigh : Entry → ℕ
 weigh e = e.agg.count
 
-joined-count : (entries : List Entry) → (joined (aggs entries)).count ≡ sum_by weigh entries
+pub joined-count : (entries : List Entry) → (joined (aggs entries)).count ≡ sum_by weigh entries
 joined-count [] = refl
 joined-count (e ∷ entries) = ap (λ n. e.agg.count + n) (joined-count entries) ∙ sym (sum_by-cons weigh e entries)
 
@@ -91,9 +94,9 @@ IsBodyOf-body_at : (h : List Dimension) (b : Body) (places : List ℕ) → All (
 IsBodyOf-body_at h (Rows rows) places within all = All-items_at (IsRowOf h) rows.items places within all
 IsBodyOf-body_at h (Entries entries) places within all = All-items_at (λ e. IsDescSetOf h e.set) entries.items places within all
 
-row_count-body_at : (b : Body) (order : List ℕ) (k : ℕ) → IsPermutation (range_with_len 0 (size b)) order → row_count (body_at b (take k order)) + row_count (body_at b (drop k order)) ≡ row_count b
-row_count-body_at (Rows rows) order k p = rows-parts rows.items (items_at rows.items (take k order)) (items_at rows.items (drop k order)) (items_at-parts rows.items order k p)
-row_count-body_at (Entries entries) order k p = joined-parts entries.items (items_at entries.items (take k order)) (items_at entries.items (drop k order)) (items_at-parts entries.items order k p)
+row_count-body_at : (b : Body) (some more : List ℕ) → IsPermutation (range_with_len 0 (size b)) (some ++ more) → row_count (body_at b some) + row_count (body_at b more) ≡ row_count b
+row_count-body_at (Rows rows) some more p = rows-parts rows.items (items_at rows.items some) (items_at rows.items more) (items_at-parts rows.items some more p)
+row_count-body_at (Entries entries) some more p = joined-parts entries.items (items_at entries.items some) (items_at entries.items more) (items_at-parts entries.items some more p)
 
 -- what is known of a part of a full body
 pub record IsPart (h : List Dimension) (part : Body) : Type 0 where
@@ -105,27 +108,26 @@ pub record ArePartsOf (h : List Dimension) (b left right : Body) : Type 0 where
   pub right_is : IsPart h right
   pub rows : row_count left + row_count right ≡ row_count b
 
-cut_parts : (h : List Dimension) (b : Body) (order : List ℕ) (k : ℕ) → is_full b ≡ true → IsBodyOf h b → IsPermutation (range_with_len 0 (size b)) order → 0 < k → k < size b → ArePartsOf h b (body_at b (take k order)) (body_at b (drop k order))
-cut_parts h b order k full valid p some less =
+cut_parts : (h : List Dimension) (b : Body) (some more : List ℕ) → is_full b ≡ true → IsBodyOf h b → IsPermutation (range_with_len 0 (size b)) (some ++ more) → 0 < length some → length some < size b → ArePartsOf h b (body_at b some) (body_at b more)
+cut_parts h b some more full valid p few less =
     let P : ℕ → Type 0 = λ place. place < size b in
-    let below = places_below (size b) order p in
-    let count = places_length (size b) order p in
-    let left = All-take P k order below in
-    let right = All-drop P k order below in
-    let left_size = size-body_at b (take k order) left in
-    let right_size = size-body_at b (drop k order) right in
-    let t = length-take k order in
-    let d = length-drop k order in
+    let below = places_below (size b) (some ++ more) p in
+    let count = places_length (size b) (some ++ more) p in
+    let long = length-append some more in
+    let left = all_left P some more below in
+    let right = all_right P some more below in
+    let left_size = size-body_at b some left in
+    let right_size = size-body_at b more right in
     record {
       left_is = record {
-        valid = IsBodyOf-body_at h b (take k order) left valid;
-        room = fewer b (body_at b (take k order)) full (capacity-body_at b (take k order)) (omega (arith, left_size, t, count));
+        valid = IsBodyOf-body_at h b some left valid;
+        room = fewer b (body_at b some) full (capacity-body_at b some) (omega (arith, left_size, less));
       };
       right_is = record {
-        valid = IsBodyOf-body_at h b (drop k order) right valid;
-        room = fewer b (body_at b (drop k order)) full (capacity-body_at b (drop k order)) (omega (arith, right_size, d, count));
+        valid = IsBodyOf-body_at h b more right valid;
+        room = fewer b (body_at b more) full (capacity-body_at b more) (omega (arith, right_size, long, count, few));
       };
-      rows = row_count-body_at b order k p;
+      rows = row_count-body_at b some more p;
     }
 
 AreItemSets-length : (h : List Dimension) (b : Body) (sets : List DescSet) → AreItemSets h b sets → length sets ≡ size b
@@ -139,9 +141,29 @@ IsCutInTwo-parts h old cell stamp head new full valid c =
     let between = c.good.dim_cut.place.between in
     let m = cut_length h c.sets c.cut c.good.dim_cut in
     let count = AreItemSets-length h old.body c.sets c.are_sets in
-    let parts = cut_parts h old.body order k full valid c.order between.above (let lt = between.below in omega (arith, lt, m, count)) in
+    let long = places_length (size old.body) order c.order in
+    let t = length-take k order in
+    let below = between.below in
+    let above = between.above in
+    let whole = subst (IsPermutation (range_with_len 0 (size old.body))) (sym (take-append-drop k order)) c.order in
+    let parts = cut_parts h old.body (take k order) (drop k order) full valid whole (omega (arith, t, long, above, below, m, count)) (omega (arith, t, long, below, m, count)) in
     subst (λ b. ArePartsOf h old.body b new.body) (ap (λ b. b.body) (sym c.head_is))
     (subst (λ b. ArePartsOf h old.body (body_at old.body (take k order)) b) (ap (λ b. b.body) (sym c.new_is)) parts)
+
+pub IsCutByHead-parts : (h : List Dimension) (old : Block) (tail : List Block) (cell stamp : ℕ) (head new : Block) → is_full old.body ≡ true → IsBodyOf h old.body → IsCutByHead h old tail cell stamp head new → ArePartsOf h old.body head.body new.body
+IsCutByHead-parts h old tail cell stamp head new full valid c =
+    let sets = c.items.head in
+    let stays = kept_places h sets c.cut in
+    let goes = parted_places h sets c.cut in
+    let count = AreItemSets-length h old.body sets c.are_sets.head in
+    let kept = c.good.head_cut.kept in
+    let same = kept_count h sets c.cut in
+    let third = c.good.good.third in
+    let part = c.good.good.part in
+    let order = subst (λ n. IsPermutation (range_with_len 0 n) (stays ++ goes)) count (parts-order h sets c.cut) in
+    let parts = cut_parts h old.body stays goes full valid order (omega (arith, kept, same, third, part)) (omega (arith, kept, same, part, count)) in
+    subst (λ b. ArePartsOf h old.body b new.body) (ap (λ b. b.body) (sym c.head_is))
+    (subst (λ b. ArePartsOf h old.body (body_at old.body stays) b) (ap (λ b. b.body) (sym c.new_is)) parts)
 
 -- The parts of a halving.
 

@@ -22,7 +22,7 @@ passes-down h row place n parent parent_now at within now more is =
     record {
       entry = more.entry;
       entry_at = here;
-      step = λ child purse room. record {
+      step = λ tail child purse room. record {
         entry = more.entry;
         entry_at = here;
         step = inl (
@@ -37,7 +37,7 @@ passes-down h row place n parent parent_now at within now more is =
 
 -- the gate counts the row
 pub passes-in : (h : List Dimension) (row : Row) (gate gate_now : Gate) (entry_now : Entry) → IsWithRow h row (root_entry gate) entry_now → gate_now ≡ record gate { agg = entry_now.agg; set = entry_now.set } → PassesIn h row gate gate_now
-passes-in h row gate gate_now entry_now counted is = λ root purse room. record {
+passes-in h row gate gate_now entry_now counted is = λ tail root purse room. record {
   step = inl (
     entry_now,
     record { gate_is = is },

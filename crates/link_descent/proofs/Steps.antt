@@ -18,23 +18,13 @@ use Rattle.cell_stock.specs.Stock.{PurseValue}
 use Rattle.shard_store.specs.Gate.{root_entry}
 use Rattle.shard_store.specs.declared.gate.Gate.{Gate}
 use Rattle.dc_node.specs.Entry.{IsWithRow}
-use Rattle.link_descent.specs.Descend.{IsShared, Cuts, StepsDown, Enters}
+use Rattle.link_descent.proofs.Entries.{HasSet, All-entries, All-rows}
+use Rattle.link_descent.specs.Descend.{IsShared, Halves, Cuts, StepsDown, Enters}
 use Rattle.link_descent.specs.Room.{HalvesHead, CutsHead, HasRoom, IsRaised}
 use Rattle.link_descent.specs.declared.entered.Entered.{Entered}
 use Rattle.link_descent.specs.declared.entered.Fresh.{Fresh}
 
 -- The parent's entries.
-
-abbrev HasSet : List Dimension → Entry → Type 0
-HasSet h e = IsDescSetOf h e.set
-
-pub All-entries : (h : List Dimension) (b : Body) → IsBodyOf h b → All (HasSet h) (entries_in b)
-All-entries h (Rows rows) all = All-nil (HasSet h)
-All-entries h (Entries entries) all = all
-
-All-rows : (h : List Dimension) (b : Body) → IsBodyOf h b → All (IsRowOf h) (rows_in b)
-All-rows h (Rows rows) all = all
-All-rows h (Entries entries) all = All-nil (IsRowOf h)
 
 All-replaced : (h : List Dimension) (b : Body) (place : ℕ) (others : List Entry) → IsBodyOf h b → All (HasSet h) others → All (HasSet h) (replaced (entries_in b) place others)
 All-replaced h b place others valid all =
@@ -79,13 +69,13 @@ entry_here xs entries n place e copy list same within read copied =
 
 -- The steps down.
 
-pub StepsDown-halves : (h : List Dimension) (row : Row) (place : ℕ) (parent parent_now head head_now : Block) (purse purse_now : PurseValue) (entered : Entered) (entry entry_now : Entry) (fresh : Fresh) (n : ℕ) → n ≡ place
+pub StepsDown-halves : (h : List Dimension) (row : Row) (place : ℕ) (tail : List Block) (parent parent_now head head_now : Block) (purse purse_now : PurseValue) (entered : Entered) (entry entry_now : Entry) (fresh : Fresh) (n : ℕ) → n ≡ place
     → slice_get (entries_in parent.body) place ≡ Some entry
     → parent_now ≡ with_entries parent (replaced (entries_in parent.body) n (entry_now ∷ []))
-    → HalvesHead h entry head head_now purse purse_now fresh → IsWithRow h row entry entry_now
+    → HalvesHead h tail entry head head_now purse purse_now fresh → IsWithRow h row entry entry_now
     → entered.fresh.items ≡ fresh ∷ [] → entered.at ≡ entry.child
-    → StepsDown h row place parent parent_now head head_now purse purse_now entered
-StepsDown-halves h row place parent parent_now head head_now purse purse_now entered entry entry_now fresh n same here is halves with_row one at = record {
+    → StepsDown h row place tail parent parent_now head head_now purse purse_now entered
+StepsDown-halves h row place tail parent parent_now head head_now purse purse_now entered entry entry_now fresh n same here is halves with_row one at = record {
   entry = entry;
   entry_at = here;
   step = inr (inl (
@@ -105,13 +95,13 @@ StepsDown-halves h row place parent parent_now head head_now purse purse_now ent
   ));
 }
 
-pub StepsDown-cuts : (h : List Dimension) (row : Row) (place : ℕ) (parent parent_now head head_now : Block) (purse purse_now : PurseValue) (entered : Entered) (entry left right left_now right_now chosen : Entry) (fresh : Fresh) (n : ℕ) → n ≡ place
+pub StepsDown-cuts : (h : List Dimension) (row : Row) (place : ℕ) (tail : List Block) (parent parent_now head head_now : Block) (purse purse_now : PurseValue) (entered : Entered) (entry left right left_now right_now chosen : Entry) (fresh : Fresh) (n : ℕ) → n ≡ place
     → slice_get (entries_in parent.body) place ≡ Some entry
     → parent_now ≡ with_entries parent (replaced (entries_in parent.body) n (left_now ∷ right_now ∷ []))
-    → CutsHead h entry left right head head_now purse purse_now fresh → IsShared h row left right left_now right_now chosen
+    → CutsHead h tail entry left right head head_now purse purse_now fresh → IsShared h row left right left_now right_now chosen
     → entered.fresh.items ≡ fresh ∷ [] → entered.at ≡ chosen.child
-    → StepsDown h row place parent parent_now head head_now purse purse_now entered
-StepsDown-cuts h row place parent parent_now head head_now purse purse_now entered entry left right left_now right_now chosen fresh n same here is cuts shared one at = record {
+    → StepsDown h row place tail parent parent_now head head_now purse purse_now entered
+StepsDown-cuts h row place tail parent parent_now head head_now purse purse_now entered entry left right left_now right_now chosen fresh n same here is cuts shared one at = record {
   entry = entry;
   entry_at = here;
   step = inr (inr (record {
@@ -132,19 +122,37 @@ StepsDown-cuts h row place parent parent_now head head_now purse purse_now enter
 
 -- The steps in at a gate.
 
-pub Enters-cuts : (h : List Dimension) (row : Row) (gate gate_now : Gate) (root root_now : Block) (purse between purse_now : PurseValue) (entered : Entered) (entry entry_now left right : Entry) (fresh : Fresh)
+pub Enters-halves : (h : List Dimension) (row : Row) (tail : List Block) (gate gate_now : Gate) (root root_now : Block) (purse purse_now : PurseValue) (entered : Entered) (entry entry_now : Entry) (fresh : Fresh)
+    → entry ≡ root_entry gate → IsWithRow h row entry entry_now → gate_now ≡ record gate { agg = entry_now.agg; set = entry_now.set }
+    → HalvesHead h tail entry root root_now purse purse_now fresh → entered.fresh.items ≡ fresh ∷ [] → entered.at ≡ entry.child
+    → Enters h row tail gate gate_now root root_now purse purse_now entered
+Enters-halves h row tail gate gate_now root root_now purse purse_now entered entry entry_now fresh is with_row gate_is halves one at =
+    let all : Halves h row tail entry entry_now root root_now purse purse_now entered = record {
+      full = halves.full;
+      why = halves.why;
+      spare = halves.spare;
+      purse_is = halves.purse_is;
+      new = halves.new;
+      halved = halves.halved;
+      entry_is = with_row;
+      fresh = one ∙ ap (λ f. f ∷ []) halves.fresh_is;
+      at = at;
+    } in
+    record { step = inr (inl (entry_now, record { gate_is = gate_is }, subst (λ e. Halves h row tail e entry_now root root_now purse purse_now entered) is all)) }
+
+pub Enters-cuts : (h : List Dimension) (row : Row) (tail : List Block) (gate gate_now : Gate) (root root_now : Block) (purse between purse_now : PurseValue) (entered : Entered) (entry entry_now left right : Entry) (fresh : Fresh)
     → entry ≡ root_entry gate → IsWithRow h row entry entry_now
-    → CutsHead h entry left right root root_now purse between fresh
+    → CutsHead h tail entry left right root root_now purse between fresh
     → IsRaised (record gate { agg = entry_now.agg; set = entry_now.set }) gate_now fresh left right between purse_now entered
-    → Enters h row gate gate_now root root_now purse purse_now entered
-Enters-cuts h row gate gate_now root root_now purse between purse_now entered entry entry_now left right fresh is with_row cuts raised = record {
+    → Enters h row tail gate gate_now root root_now purse purse_now entered
+Enters-cuts h row tail gate gate_now root root_now purse between purse_now entered entry entry_now left right fresh is with_row cuts raised = record {
   step = inr (inr (record {
     spare = cuts.spare;
     new = cuts.new;
     left = left;
     right = right;
     between = between;
-    cuts = subst (λ e. Cuts h e left right root root_now purse between cuts.spare cuts.new) is cuts.cuts;
+    cuts = subst (λ e. Cuts h tail e left right root root_now purse between cuts.spare cuts.new) is cuts.cuts;
     top = raised.top;
     purse_is = raised.purse_is;
     fresh = raised.fresh ∙ ap (λ f. f ∷ record { cell = raised.top.cell; block = record { stamp = raised.top.stamp; right = None; body = Entries (record { items = left ∷ right ∷ [] }) } } ∷ []) cuts.fresh_is;

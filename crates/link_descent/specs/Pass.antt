@@ -18,8 +18,8 @@ passed at = record { fresh = record { items = [] }; at = at }
 pub record PassesDown (h : List Dimension) (row : Row) (place : ℕ) (parent parent_now : Block) : Type 0 where
   pub entry : Entry
   pub entry_at : slice_get (entries_in parent.body) place ≡ Some entry
-  pub step : (child : Block) (purse : PurseValue) → is_full child.body ≡ false → StepsDown h row place parent parent_now child child purse purse (passed entry.child)
+  pub step : (tail : List Block) (child : Block) (purse : PurseValue) → is_full child.body ≡ false → StepsDown h row place tail parent parent_now child child purse purse (passed entry.child)
 
 -- a step in at the gate onto any root with room
 abbrev pub PassesIn : List Dimension → Row → Gate → Gate → Type 0
-PassesIn h row gate gate_now = (root : Block) (purse : PurseValue) → is_full root.body ≡ false → Enters h row gate gate_now root root purse purse (passed gate.root)
+PassesIn h row gate gate_now = (tail : List Block) (root : Block) (purse : PurseValue) → is_full root.body ≡ false → Enters h row tail gate gate_now root root purse purse (passed gate.root)

@@ -1,72 +1,109 @@
 -- How room is made at the head of an entry's group: the cases of a step, each beside what the code tells of it.
-use Rattle.std.specs.Prelude.{ℕ, ◌≡◌, ◌+◌, ◌≤◌, ◌⊎◌, true, false, None, List, [], ◌∷◌, take, drop, IsPermutation}
+use Rattle.std.specs.Prelude.{ℕ, ◌≡◌, ◌+◌, ◌≤◌, true, false, None, List, [], ◌∷◌, ◌++◌, IsPermutation}
 use Rattle.std.specs.List.{range_with_len}
 use Rattle.dim_hierarchy.specs.Dimension.{Dimension}
 use Rattle.describing_set.specs.DescSet.{IsDescSetOf}
 use Rattle.describing_set.specs.declared.set.DescSet.{DescSet}
 use Rattle.hierarchy_split.specs.Cut.{IsGoodCut}
+use Rattle.hierarchy_split.specs.Head.{GroupItems, kept_places, parted_places, IsGoodHeadCut}
+use Rattle.hierarchy_split.specs.Flags.{AreHeadCutsOf}
 use Rattle.hierarchy_split.specs.declared.cut.Cut.{Cut}
+use Rattle.hierarchy_split.specs.declared.head_cut.HeadCut.{HeadCut}
+use Rattle.hierarchy_split.specs.declared.head.HeadCuts.{HeadCuts}
 use Rattle.cell_stock.specs.declared.purse.Spare.{Spare}
 use Rattle.cell_stock.specs.Stock.{PurseValue}
 use Rattle.dc_node.specs.Block.{size, is_full, IsBodyOf}
+use Rattle.dc_node.specs.declared.block.Body.{Body}
 use Rattle.dc_node.specs.declared.block.Body.TheVariants.{Entries}
 use Rattle.dc_node.specs.declared.block.Block.{Block}
 use Rattle.dc_node.specs.declared.entry.Entry.{Entry}
-use Rattle.link_descent.specs.Divide.{body_at, AreItemSets, left_block, right_block, IsCutInTwo, HasNoCut, IsHalved}
-use Rattle.link_descent.specs.Descend.{IsAlone, IsTakenFrom, Cuts}
+use Rattle.link_descent.specs.Divide.{body_at, AreItemSets, left_block, right_block, ends_with, AreGroupSets, WhyHalved, IsCutInTwo, HasNoCut, IsCutByHead, HasNoHeadCut, IsHalved}
+use Rattle.link_descent.specs.Descend.{IsEntryOf, IsGroupEntry, IsTakenFrom, Cuts}
 use Rattle.link_descent.specs.declared.divide.Division.{Division}
-use Rattle.link_descent.specs.declared.divide.Division.TheVariants.{Halved, Cut as CutBy}
+use Rattle.link_descent.specs.declared.divide.Division.TheVariants.{Halved, Cut as CutBy, HeadCut as HeadCutBy}
 use Rattle.shard_store.specs.declared.gate.Gate.{Gate}
 use Rattle.link_descent.specs.declared.entered.Entered.{Entered}
 use Rattle.link_descent.specs.declared.entered.Fresh.{Fresh}
 use Rattle.link_descent.specs.declared.descend.Room.{Room}
 use Rattle.link_descent.specs.declared.descend.Room.TheVariants.{Had, Half, Two}
 
--- the good cut of a head that is its whole group
-pub record IsTheCut (h : List Dimension) (head : Block) (expected : ℕ) (cut : Cut) : Type 0 where
-  pub alone : head.stamp ≡ expected
+-- the good cut of a head
+pub record IsTheCut (h : List Dimension) (body : Body) (cut : Cut) : Type 0 where
   pub sets : List DescSet
-  pub are_sets : AreItemSets h head.body sets
+  pub are_sets : AreItemSets h body sets
   pub good : IsGoodCut h sets cut
-  pub order : IsPermutation (range_with_len 0 (size head.body)) cut.order.items
-  pub left : cut.left ≤ size head.body
+  pub order : IsPermutation (range_with_len 0 (size body)) cut.order.items
+  pub left : cut.left ≤ size body
 
--- the group has more blocks, or the head has no good cut
-abbrev pub WhyHalved : List Dimension → Block → ℕ → Type 0
-WhyHalved h head expected = (¬ (head.stamp ≡ expected)) ⊎ HasNoCut h head.body
+-- the places of the items that the good head cut of a group keeps, and those of the head's other items
+pub record AreTheParts (h : List Dimension) (body : Body) (tail : List Block) (stays goes : List ℕ) : Type 0 where
+  pub items : GroupItems
+  pub are_sets : AreGroupSets h body tail items
+  pub cut : HeadCut
+  pub good : IsGoodHeadCut h items cut
+  pub stays_is : stays ≡ kept_places h items.head cut
+  pub goes_is : goes ≡ parted_places h items.head cut
+  pub order : IsPermutation (range_with_len 0 (size body)) (stays ++ goes)
 
--- the left items of a cut stay, and the right ones go to the new block
-pub record IsCutBy (cut : Cut) (old : Block) (cell stamp : ℕ) (head new : Block) : Type 0 where
-  pub head_is : head ≡ left_block cell stamp (body_at old.body (take cut.left cut.order.items))
-  pub new_is : new ≡ right_block old (body_at old.body (drop cut.left cut.order.items))
+-- head cuts were told of the items of a body, beside those that they knew
+pub record Strikes (h : List Dimension) (body : Body) (before now : HeadCuts) : Type 0 where
+  pub sets : List DescSet
+  pub are_sets : AreItemSets h body sets
+  pub struck : (items : GroupItems) → AreHeadCutsOf h items before → AreHeadCutsOf h (record { head = items.head; others = items.others ++ sets }) now
 
--- how a full head was divided
-abbrev pub Divides : List Dimension → Block → ℕ → Spare → Block → Division → Type 0
-Divides h old expected spare head (Halved new) = WhyHalved h old expected × IsHalved old spare.cell spare.stamp head new
-Divides h old expected spare head (CutBy new) = (old.stamp ≡ expected) × IsCutInTwo h old spare.cell spare.stamp head new
+-- the items at some places stay, and those at the others go to the new block
+pub record IsCutBy (stays goes : List ℕ) (old : Block) (cell stamp : ℕ) (head new : Block) : Type 0 where
+  pub head_is : head ≡ left_block cell stamp (body_at old.body stays)
+  pub new_is : new ≡ right_block old (body_at old.body goes)
+
+-- how a full head was divided that is its whole group
+
+abbrev pub DividesAlone : List Dimension → Block → Spare → Block → Division → Type 0
+DividesAlone h old spare head (Halved new) = HasNoCut h old.body × IsHalved old spare.cell spare.stamp head new
+DividesAlone h old spare head (CutBy new) = IsCutInTwo h old spare.cell spare.stamp head new
+DividesAlone h old spare head (HeadCutBy new) = ⊥
+
+-- one whose tail is the rest of its group
+abbrev pub DividesGroup : List Dimension → List Block → Block → Spare → Block → Division → Type 0
+DividesGroup h tail old spare head (Halved new) = HasNoHeadCut h old.body tail × IsHalved old spare.cell spare.stamp head new
+DividesGroup h tail old spare head (CutBy new) = ⊥
+DividesGroup h tail old spare head (HeadCutBy new) = IsCutByHead h old tail spare.cell spare.stamp head new
+
+-- and any one
+abbrev pub Divides : List Dimension → List Block → ℕ → Block → Spare → Block → Division → Type 0
+Divides h tail expected old spare head (Halved new) = WhyHalved h expected old tail × IsHalved old spare.cell spare.stamp head new
+Divides h tail expected old spare head (CutBy new) = (old.stamp ≡ expected) × IsCutInTwo h old spare.cell spare.stamp head new
+Divides h tail expected old spare head (HeadCutBy new) =
+    (¬ (old.stamp ≡ expected)) × (ends_with expected tail ≡ true) × IsCutByHead h old tail spare.cell spare.stamp head new
 
 -- a full head was halved
-pub record HalvesHead (h : List Dimension) (entry : Entry) (head head_now : Block) (purse purse_now : PurseValue) (fresh : Fresh) : Type 0 where
+pub record HalvesHead (h : List Dimension) (tail : List Block) (entry : Entry) (head head_now : Block) (purse purse_now : PurseValue) (fresh : Fresh) : Type 0 where
   pub full : is_full head.body ≡ true
-  pub why : (¬ IsAlone entry head) ⊎ HasNoCut h head.body
+  pub why : WhyHalved h entry.stamp head tail
   pub spare : Spare
   pub purse_is : IsTakenFrom purse spare purse_now
   pub new : Block
   pub fresh_is : fresh ≡ record { cell = spare.cell; block = new }
   pub halved : IsHalved head spare.cell spare.stamp head_now new
 
--- a full head was cut in two, each with an entry of its own
-pub record CutsHead (h : List Dimension) (entry left right : Entry) (head head_now : Block) (purse purse_now : PurseValue) (fresh : Fresh) : Type 0 where
+-- a full head was cut, and the group has two entries
+pub record CutsHead (h : List Dimension) (tail : List Block) (entry left right : Entry) (head head_now : Block) (purse purse_now : PurseValue) (fresh : Fresh) : Type 0 where
   pub spare : Spare
   pub new : Block
   pub fresh_is : fresh ≡ record { cell = spare.cell; block = new }
-  pub cuts : Cuts h entry left right head head_now purse purse_now spare new
+  pub cuts : Cuts h tail entry left right head head_now purse purse_now spare new
+
+-- the new block is in its cell, and there is an entry of the head alone, and one of the new block with what is behind it
+abbrev pub AreTwoGroups : List Dimension → List Block → Entry → Block → Block → ℕ → Room → Type 0
+AreTwoGroups h behind entry head new cell (Two fresh left right) =
+    (fresh ≡ record { cell = cell; block = new }) × IsEntryOf h entry.child head left × IsGroupEntry h cell entry.stamp new behind right
+AreTwoGroups h behind entry head new cell _ = ⊥
 
 -- how room was made at a head
-abbrev pub MakesRoom : List Dimension → Entry → Block → Block → PurseValue → PurseValue → Room → Type 0
-MakesRoom h entry head head_now purse purse_now Had = (is_full head.body ≡ false) × (head_now ≡ head) × (purse_now ≡ purse)
-MakesRoom h entry head head_now purse purse_now (Half fresh) = HalvesHead h entry head head_now purse purse_now fresh
-MakesRoom h entry head head_now purse purse_now (Two fresh left right) = CutsHead h entry left right head head_now purse purse_now fresh
+abbrev pub MakesRoom : List Dimension → List Block → Entry → Block → Block → PurseValue → PurseValue → Room → Type 0
+MakesRoom h tail entry head head_now purse purse_now Had = (is_full head.body ≡ false) × (head_now ≡ head) × (purse_now ≡ purse)
+MakesRoom h tail entry head head_now purse purse_now (Half fresh) = HalvesHead h tail entry head head_now purse purse_now fresh
+MakesRoom h tail entry head head_now purse purse_now (Two fresh left right) = CutsHead h tail entry left right head head_now purse purse_now fresh
 
 -- a block of the hierarchy with room
 pub record HasRoom (h : List Dimension) (block : Block) : Type 0 where

@@ -11,12 +11,15 @@ ghost use Rattle.link_descent.specs.Pick.{IsPick};
 ghost use Rattle.dc_node.specs.Entry.{IsWithRow};
 ghost use Rattle.link_descent.specs.Descend.{IsEntryOf, IsShared, StepsDown, Enters};
 ghost use Rattle.link_descent.specs.Pass.{PassesDown, PassesIn};
-ghost use Rattle.link_descent.specs.Room.{MakesRoom, HasRoom, AreNew, IsRaised};
+ghost use Rattle.link_descent.specs.Divide.{together};
+ghost use Rattle.link_descent.specs.Room.{MakesRoom, AreTwoGroups, HasRoom, AreNew, IsRaised};
 ghost use Rattle.dc_node.specs.declared.entry.Entry.{Entry};
 
 use crate::choice::is_before;
 use crate::divide::{Division, divide};
 use crate::entered::{Entered, Fresh};
+use crate::groups::group_entry;
+use crate::tail::Tail;
 use cell_stock::Purse;
 use dc_node::{Blanks, Block, Body, Entry, EntryBox};
 use dim_hierarchy::{Hierarchy, Row};
@@ -84,51 +87,70 @@ fn share(left: &mut Entry, right: &mut Entry, h: &Hierarchy, row: &Row) -> u32
     }
 }
 
+/// The entries of the two groups into which a group was cut: of the head alone, and of the new block
+/// with the blocks behind it.
+fn two_groups(
+    head: &Block,
+    new: Block,
+    behind: &Tail,
+    entry: &Entry,
+    cell: u32,
+    h: &Hierarchy,
+) -> Room
+    requires head { IsBodyOf h.now head.now.body }
+    requires new { IsBodyOf h.now new.body }
+    requires behind { All (λ b. IsBodyOf h.now b.body) behind.now }
+    requires few { row_count head.now.body + row_count (together new.body behind.now) < 2 ^ 63 }
+    ensures { AreTwoGroups h.now behind.now entry.now head.now new cell result }
+{
+    let left = entry_of(head, entry.child, h);
+    let right = group_entry(&new, behind, cell, entry.stamp, h);
+    let fresh = Fresh { cell, block: new };
+    Room::Two(fresh, left, right)
+}
+
 /// Makes room at the head of an entry's group: where it is full, it is divided.
 fn make_room(
     head: &mut Block,
+    tail: &Tail,
     entry: &Entry,
     purse: &mut Purse,
     blanks: &mut Blanks,
     h: &Hierarchy,
 ) -> Room
     requires body { IsBodyOf h.now head.old.body }
-    requires few { row_count head.old.body < 2 ^ 63 }
+    requires tail { All (λ b. IsBodyOf h.now b.body) tail.now }
+    requires few { row_count (together head.old.body tail.now) < 2 ^ 63 }
     requires purse { 0 < length purse.old.spares }
     requires blanks { 2 ≤ blanks.old }
-    ensures step { MakesRoom h.now entry.now head.old head.new purse.old purse.new result }
+    ensures step { MakesRoom h.now tail.now entry.now head.old head.new purse.old purse.new result }
     ensures head { HasRoom h.now head.new }
-    ensures new { AreNew h.now (row_count head.old.body) result }
+    ensures new { AreNew h.now (row_count (together head.old.body tail.now)) result }
     ensures blanks { blanks.old ≤ blanks.new + 2 }
 {
     if !head.is_full() {
         return Room::Had;
     }
     let spare = purse.next();
-    match divide(head, entry.stamp, spare, blanks, h) {
+    match divide(head, tail, entry.stamp, spare, blanks, h) {
         Division::Halved(block) => Room::Half(Fresh {
             cell: spare.cell,
             block,
         }),
-        Division::Cut(block) => {
-            let left = entry_of(head, entry.child, h);
-            let right = entry_of(&block, spare.cell, h);
-            let fresh = Fresh {
-                cell: spare.cell,
-                block,
-            };
-            Room::Two(fresh, left, right)
-        }
+        Division::Cut(block) => two_groups(head, block, &Tail::none(), entry, spare.cell, h),
+        Division::HeadCut(block) => two_groups(head, block, tail, entry, spare.cell, h),
     }
 }
 
 /// Takes a row from a directory down to a child, the one at the place that `pick` tells. Where the
-/// child is full it is divided first, into blank boxes. Tells the new blocks, and where the row is
-/// carried then. Takes no memory.
+/// child is full it is divided first, into blank boxes; the tail is what stands behind it then, and is
+/// looked at in no other case. Tells the new blocks, and where the row is carried then. Takes no
+/// memory.
 pub fn step_down(
     parent: &mut Block,
     place: u8,
     child: &mut Block,
+    tail: &Tail,
     purse: &mut Purse,
     blanks: &mut Blanks,
     h: &Hierarchy,
@@ -141,9 +163,10 @@ pub fn step_down(
     requires place { IsPick h.now row.now.at (map (λ e. e.set) (entries_in parent.old.body)) place }
     requires purse { 0 < length purse.old.spares }
     requires few { IfSome (slice_get (entries_in parent.old.body) place) (λ e. e.agg.count + 1 < 2 ^ 63) }
-    requires few_beneath { row_count child.old.body + 1 < 2 ^ 63 }
+    requires tail { All (λ b. IsBodyOf h.now b.body) tail.now }
+    requires few_beneath { row_count (together child.old.body tail.now) + 1 < 2 ^ 63 }
     requires blanks { 2 ≤ blanks.old }
-    ensures step { StepsDown h.now row.now place parent.old parent.new child.old child.new purse.old purse.new result }
+    ensures step { StepsDown h.now row.now place tail.now parent.old parent.new child.old child.new purse.old purse.new result }
     ensures parent { IsBodyOf h.now parent.new.body }
     ensures child { HasRoom h.now child.new }
     ensures fresh { All (λ f. HasRoom h.now f.block) result.fresh.items }
@@ -152,7 +175,7 @@ pub fn step_down(
 {
     let place = usize::from(place);
     let mut entry = parent.entries()[place].copy();
-    match make_room(child, &entry, purse, blanks, h) {
+    match make_room(child, tail, &entry, purse, blanks, h) {
         Room::Had => {
             let at = entry.child;
             entry.add_row(h, row);
@@ -213,11 +236,12 @@ fn raise(
 }
 
 /// Takes a row in at an open gate, to the root of its tree. Where the root is full it is divided
-/// first; where it is cut in two, a new root stands above both, at which the row is carried. Takes no
-/// memory: there are blank boxes for what is new.
+/// first, by what stands behind it, the tail; where it is cut in two, a new root stands above both, at
+/// which the row is carried. Takes no memory: there are blank boxes for what is new.
 pub fn enter_root(
     gate: &mut Gate,
     root: &mut Block,
+    tail: &Tail,
     purse: &mut Purse,
     blanks: &mut Blanks,
     h: &Hierarchy,
@@ -229,10 +253,11 @@ pub fn enter_root(
     requires row { IsRowOf h.now row.now }
     requires set { IsDescSetOf h.now gate.old.set }
     requires few { gate.old.agg.count + 1 < 2 ^ 63 }
-    requires few_beneath { row_count root.old.body + 1 < 2 ^ 63 }
+    requires tail { All (λ b. IsBodyOf h.now b.body) tail.now }
+    requires few_beneath { row_count (together root.old.body tail.now) + 1 < 2 ^ 63 }
     requires low { gate.old.height + 1 < 2 ^ 32 }
     requires blanks { 3 ≤ blanks.old }
-    ensures step { Enters h.now row.now gate.old gate.new root.old root.new purse.old purse.new result }
+    ensures step { Enters h.now row.now tail.now gate.old gate.new root.old root.new purse.old purse.new result }
     ensures set { IsDescSetOf h.now gate.new.set }
     ensures root { HasRoom h.now root.new }
     ensures height { gate.new.height ≤ gate.old.height + 1 }
@@ -240,7 +265,7 @@ pub fn enter_root(
     ensures fresh { All (λ f. HasRoom h.now f.block) result.fresh.items }
 {
     let mut entry = root_entry(gate);
-    let room = make_room(root, &entry, purse, blanks, h);
+    let room = make_room(root, tail, &entry, purse, blanks, h);
     entry.add_row(h, row);
     gate.agg = entry.agg;
     gate.set = entry.set;

@@ -1,17 +1,14 @@
-ghost use Rattle.std.specs.Prelude.{◌≡◌, ◌+◌, ◌<◌, ◌≤◌, ◌⊎◌, ◌-◌, true, [], ◌∷◌, length, map, take, drop, All, IfSome, IfNone, IsPermutation};
-ghost use Rattle.std.specs.List.{AllZip, range_with_len};
-ghost use Rattle.dim_hierarchy.specs.Row.{IsRowOf};
-ghost use Rattle.describing_set.specs.DescSet.{IsSetOf, IsDescSetOf};
+ghost use Rattle.std.specs.Prelude.{◌≡◌, ◌+◌, ◌<◌, ◌≤◌, ◌++◌, true, length, take, drop, All, IsPermutation};
+ghost use Rattle.std.specs.List.{range_with_len};
 ghost use Rattle.dc_node.specs.Block.{size, is_full, IsBodyOf};
-ghost use Rattle.link_descent.specs.Divide.{items_at, body_at, front, rest, half, AreItemSets, left_block, right_block, IsHalved};
-ghost use Rattle.link_descent.specs.Room.{IsCutBy, IsTheCut, WhyHalved, Divides};
+ghost use Rattle.link_descent.specs.Divide.{items_at, body_at, front, rest, half, left_block, right_block, IsHalved};
+ghost use Rattle.link_descent.specs.Room.{IsCutBy, DividesAlone, DividesGroup, Divides};
 
-use arrayvec::ArrayVec;
+use crate::cuts::{good_cut, good_head_cut};
+use crate::tail::Tail;
 use cell_stock::Spare;
 use dc_node::{Blanks, Block, Body, Entry, EntryBox, LeafRows, RowBox};
-use describing_set::DescSet;
 use dim_hierarchy::Hierarchy;
-use hierarchy_split::{Cut, choose};
 use std::mem;
 
 /// How a full head was divided, with the new block.
@@ -21,59 +18,8 @@ pub enum Division {
     Halved(Block),
     /// The new block has the items on the right of the good cut.
     Cut(Block),
-}
-
-/// The describing sets of rows.
-fn row_sets(rows: &LeafRows, h: &Hierarchy) -> ArrayVec<DescSet, 32>
-    requires { All (IsRowOf h.now) rows.now.items }
-    ensures sets { AllZip (λ r s. IsSetOf h.now (r.at ∷ []) s) rows.now.items result.items }
-    ensures valid { All (IsDescSetOf h.now) result.items }
-    ensures count { length result.items ≡ length rows.now.items }
-{
-    let mut sets = ArrayVec::new();
-    for place in 0..rows.len() {
-        sets.push(rows.set_at(place, h));
-    }
-    sets
-}
-
-/// The describing sets of entries.
-fn entry_sets(entries: &[Entry]) -> ArrayVec<DescSet, 32>
-    requires { length entries.now ≤ 32 }
-    ensures { result.items ≡ map (λ e. e.set) entries.now }
-{
-    let mut sets = ArrayVec::new();
-    for entry in entries {
-        sets.push(entry.set.copy());
-    }
-    sets
-}
-
-/// The describing sets of a body's items.
-fn item_sets(body: &Body, h: &Hierarchy) -> ArrayVec<DescSet, 32>
-    requires { IsBodyOf h.now body.now }
-    ensures sets { AreItemSets h.now body.now result.items }
-    ensures valid { All (IsDescSetOf h.now) result.items }
-    ensures count { length result.items ≡ size body.now }
-{
-    match body {
-        Body::Rows(rows) => row_sets(rows, h),
-        Body::Entries(entries) => entry_sets(entries.as_slice()),
-    }
-}
-
-/// The good cut of a full head that is its whole group, as it has the stamp that is expected of the
-/// group's last block.
-fn head_cut(head: &Block, expected: u64, h: &Hierarchy) -> Option<Cut>
-    requires full { is_full head.now.body ≡ true }
-    requires body { IsBodyOf h.now head.now.body }
-    ensures cut { IfSome result (IsTheCut h.now head.now expected) }
-    ensures none { IfNone result (WhyHalved h.now head.now expected) }
-{
-    if head.stamp != expected {
-        return None;
-    }
-    choose(item_sets(&head.body, h).as_slice(), h)
+    /// The new block has the items that the good head cut doesn't keep.
+    HeadCut(Block),
 }
 
 /// Copies of the rows at some places, in a blank box.
@@ -206,24 +152,66 @@ fn halve(head: &mut Block, spare: Spare, blanks: &mut Blanks) -> Block
     part(head, stays, goes, spare, blanks)
 }
 
-/// Divides a full head by a cut.
-fn cut_in_two(head: &mut Block, cut: &Cut, spare: Spare, blanks: &mut Blanks) -> Block
-    requires order { IsPermutation (range_with_len 0 (size head.old.body)) cut.now.order.items }
-    requires left { cut.now.left ≤ size head.old.body }
+/// Divides a full head into the items at some places, which stay, and those at the others.
+fn cut_in_two(
+    head: &mut Block,
+    stays: &[u8],
+    goes: &[u8],
+    spare: Spare,
+    blanks: &mut Blanks,
+) -> Block
+    requires places { IsPermutation (range_with_len 0 (size head.old.body)) (stays.now ++ goes.now) }
     requires blanks { 2 ≤ blanks.old }
-    ensures cut { IsCutBy cut.now head.old spare.cell spare.stamp head.new result }
+    ensures cut { IsCutBy stays.now goes.now head.old spare.cell spare.stamp head.new result }
     ensures blanks { blanks.old ≤ blanks.new + 2 }
 {
-    let (left, right) = cut.order.as_slice().split_at(usize::from(cut.left));
-    let stays = body_at(&head.body, left, blanks);
-    let goes = body_at(&head.body, right, blanks);
+    let stays = body_at(&head.body, stays, blanks);
+    let goes = body_at(&head.body, goes, blanks);
     part(head, stays, goes, spare, blanks)
 }
 
+/// Divides a full head that is its whole group: by its good cut, else by halves.
+fn divide_alone(head: &mut Block, spare: Spare, blanks: &mut Blanks, h: &Hierarchy) -> Division
+    requires full { is_full head.old.body ≡ true }
+    requires body { IsBodyOf h.now head.old.body }
+    requires blanks { 2 ≤ blanks.old }
+    ensures divided { DividesAlone h.now head.old spare head.new result }
+    ensures blanks { blanks.old ≤ blanks.new + 2 }
+{
+    let Some(cut) = good_cut(&head.body, h) else {
+        return Division::Halved(halve(head, spare, blanks));
+    };
+    let (left, right) = cut.order.as_slice().split_at(usize::from(cut.left));
+    Division::Cut(cut_in_two(head, left, right, spare, blanks))
+}
+
+/// Divides a full head whose group goes on with its tail alone: by the good head cut, else by halves.
+fn divide_group(
+    head: &mut Block,
+    tail: &Tail,
+    spare: Spare,
+    blanks: &mut Blanks,
+    h: &Hierarchy,
+) -> Division
+    requires full { is_full head.old.body ≡ true }
+    requires body { IsBodyOf h.now head.old.body }
+    requires tail { All (λ b. IsBodyOf h.now b.body) tail.now }
+    requires blanks { 2 ≤ blanks.old }
+    ensures divided { DividesGroup h.now tail.now head.old spare head.new result }
+    ensures blanks { blanks.old ≤ blanks.new + 2 }
+{
+    let Some((stays, goes)) = good_head_cut(&head.body, tail, h) else {
+        return Division::Halved(halve(head, spare, blanks));
+    };
+    Division::HeadCut(cut_in_two(head, stays.as_slice(), goes.as_slice(), spare, blanks))
+}
+
 /// Divides a full head whose group's last block is expected to have a stamp: by the good cut where
-/// the head is the whole group and has one, else by halves.
+/// the head is the whole group, by the good head cut where the tail is the rest of it, and by halves
+/// where there is no such cut, or there are more blocks.
 pub fn divide(
     head: &mut Block,
+    tail: &Tail,
     expected: u64,
     spare: Spare,
     blanks: &mut Blanks,
@@ -231,12 +219,16 @@ pub fn divide(
 ) -> Division
     requires full { is_full head.old.body ≡ true }
     requires body { IsBodyOf h.now head.old.body }
+    requires tail { All (λ b. IsBodyOf h.now b.body) tail.now }
     requires blanks { 2 ≤ blanks.old }
-    ensures divided { Divides h.now head.old expected spare head.new result }
+    ensures divided { Divides h.now tail.now expected head.old spare head.new result }
     ensures blanks { blanks.old ≤ blanks.new + 2 }
 {
-    match head_cut(head, expected, h) {
-        Some(cut) => Division::Cut(cut_in_two(head, &cut, spare, blanks)),
-        None => Division::Halved(halve(head, spare, blanks)),
+    if head.stamp == expected {
+        return divide_alone(head, spare, blanks, h);
     }
+    if tail.ends_with(expected) {
+        return divide_group(head, tail, spare, blanks, h);
+    }
+    Division::Halved(halve(head, spare, blanks))
 }

@@ -3,10 +3,13 @@
 #![tactic(auto)]
 
 mod choice;
+mod cuts;
 mod descend;
 mod divide;
 mod entered;
 mod gate_reads;
+mod groups;
+mod tail;
 #[cfg(test)]
 mod tests;
 #[cfg(test)]
@@ -17,4 +20,5 @@ pub use choice::pick;
 pub use descend::{enter_root, entry_of, pass_down, pass_root, put_leaf, step_down};
 pub use entered::{Entered, Fresh};
 pub use gate_reads::read_gate;
+pub use tail::Tail;
 pub use visits::visit;

@@ -5,7 +5,7 @@ ghost use Rattle.dc_node.specs.Block.{IsBodyOf};
 ghost use Rattle.dc_node.specs.Summary.{row_count};
 ghost use Rattle.link_descent.specs.Room.{HasRoom};
 
-use crate::{Fresh, enter_root, pick, put_leaf, step_down};
+use crate::{Fresh, Tail, enter_root, pick, put_leaf, step_down};
 use arrayvec::ArrayVec;
 use cell_stock::{Purse, Stock};
 use dc_node::{Blanks, Block, Body, Entry};
@@ -188,7 +188,7 @@ fn enter(
     let mut root = lift(blocks, h, cell)?;
     count_beneath(&root)?;
     blanks.refill(3)?;
-    let entered = enter_root(gate, &mut root, purse, blanks, h, row);
+    let entered = enter_root(gate, &mut root, &Tail::none(), purse, blanks, h, row);
     put(blocks, h, cell, root)?;
     put_fresh(blocks, h, entered.fresh)?;
     Ok(entered.at)
@@ -217,7 +217,8 @@ fn down(
     let mut child = lift(blocks, h, cell)?;
     count_beneath(&child)?;
     blanks.refill(2)?;
-    let entered = step_down(&mut parent, place, &mut child, purse, blanks, h, row);
+    let tail = Tail::none();
+    let entered = step_down(&mut parent, place, &mut child, &tail, purse, blanks, h, row);
     put(blocks, h, at, parent)?;
     put(blocks, h, cell, child)?;
     put_fresh(blocks, h, entered.fresh)?;

@@ -100,7 +100,7 @@ assemble table now gate_cell top_level g g3 fresh j k r x n tree w lower_j low g
           (λ z. let ne = eqb-ne _ _ z in
           let p1 = sym (w.placed q) ∙ p in
           let c1 = sym (w.carried q) ∙ c in
-          rw (w.at q ne p1 c1) (w.head (g.at q) (old (g.at q) (n.stands q p1)) ∙ n.heads q ne p1 c1));
+          rw (w.at q ne p1 c1) (w.head (g.at q) (old (g.at q) (n.stands q p1)) (n.heads q ne p1 c1)));
       alone = λ q s p c p2 c2 e.
           let p1 = sym (w.placed q) ∙ p in
           let c1 = sym (w.carried q) ∙ c in

@@ -1,5 +1,5 @@
 -- A leaf of two cities is cut in two under a new root, row by row through the laws
-use Rattle.std.proofs.Common.{◌≡◌, ◌≢◌, ℕ, ◌<◌, ◌≤◌, inl, inr, true, false, eqb, leb, [], ◌∷◌, ◌++◌, refl, sym, ap, ◌∙◌, subst, arith, lit<}
+use Rattle.std.proofs.Common.{◌≡◌, ◌≢◌, ℕ, ◌<◌, ◌≤◌, inl, inr, true, false, eqb, leb, List, [], ◌∷◌, ◌++◌, map, take, drop, refl, sym, ap, ◌∙◌, subst, arith, lit<}
 use Rattle.std.specs.Prelude.{ℤ, pos}
 use Rattle.std.specs.List.{range_with_len}
 use Rattle.std.proofs.lemmas.List.Elements.{All-nil, All-cons}
@@ -8,6 +8,7 @@ use Rattle.dim_hierarchy.specs.Tree.{IsConcept, is_under, way_up}
 use Rattle.dim_hierarchy.specs.Dimension.{tree}
 use Rattle.dim_hierarchy.specs.Filter.{IsPickOf, pick_at}
 use Rattle.describing_set.specs.DescSet.{GrowsBy}
+use Rattle.dc_node.specs.declared.block.Block.{Block}
 use Rattle.dc_node.specs.declared.todo.Item.{Item}
 use Rattle.cell_stock.specs.Stock.{PurseValue}
 use Rattle.cell_stock.specs.declared.purse.Spare.{Spare}
@@ -36,7 +37,7 @@ use Rattle.tree_shape.proofs.Rows.{after-all}
 use Rattle.tree_shape.proofs.Tables.{query-alike, tree-alike}
 use Rattle.tree_shape.proofs.Collects.{after-read, collect-begins, collect-ends}
 use Rattle.tree_shape.proofs.Worked.{Filled, fill, spare-ok}
-use Rattle.tree_shape.proofs.CityFacts.{are-row_sets, berlin-valid, cut_sets, empty-set, few16, few31, first-city, good_cut, grown-set, hierarchy-valid, is-good, is-sample, munich-valid, one-valid, place-valid, rows-set, second-city, some16, some31, uncut, valid-set}
+use Rattle.tree_shape.proofs.CityFacts.{are-row_sets, berlin-valid, cut_sets, each-numbered, empty-set, few16, few31, first-city, good_cut, grown-set, hierarchy-valid, is-good, is-sample, munich-valid, one-valid, place-valid, rows-set, second-city, some16, some31, uncut, valid-set}
 
 pub real_sample : IsSample earlier (sample 16)
 real_sample = is-sample 16 some16 few16 (pos 0)
@@ -58,7 +59,7 @@ asked turn measure = record {
   dims = lit< tt;
 }
 
-no-queue : IsQueueOf cities (sample 16).gate.queue
+pub no-queue : IsQueueOf cities (sample 16).gate.queue
 no-queue = record {
   summary = record { valid = All-nil _; agg = refl; set_of = empty-set };
   valid = valid-set 16 some16 few16 0;
@@ -104,35 +105,40 @@ cut_root = cut_cells (rows_from 0 16) left_entry
 abbrev cut_left : TreeCells
 cut_left = cut_cells (rows_from 0 16) left_with
 
-cuts : Cuts cities (root_entry (gate_after earlier (sample 16) 32)) left_entry right_entry (full.block 1) (cut_root.block 1) spares one_spare (sample 16).spare (cut_root.block 2)
-cuts = record {
+-- the root is its whole group, whatever is looked at behind it
+cuts : (tail : List Block) → Cuts cities tail (root_entry (gate_after earlier (sample 16) 32)) left_entry right_entry (full.block 1) (cut_root.block 1) spares one_spare (sample 16).spare (cut_root.block 2)
+cuts tail = record {
   full = refl;
-  alone = refl;
   purse_is = refl;
-  cut = record {
-    sets = cut_sets 16;
-    are_sets = are-row_sets 16 some16 few16 (pos 0) (range_with_len 0 32);
-    cut = good_cut;
-    good = is-good;
-    order = IsPermutation-refl (range_with_len 0 32);
-    head_is = refl;
-    new_is = refl;
-  };
-  left_is = record { child = refl; stamp = refl; summary = (refl, rows-set berlin 0 15 refl berlin-valid refl refl (λ r le lt. first-city 16 some16 few16 r (omega arith))); valid = one-valid 16 some16 few16 0 };
-  right_is = record { child = refl; stamp = refl; summary = (refl, rows-set munich 16 15 refl munich-valid refl refl (λ r le lt. second-city 16 some16 few16 r le (omega arith))); valid = one-valid 16 some16 few16 16 };
+  behind = [];
+  cut = inl (
+    refl,
+    record {
+      sets = cut_sets 16;
+      are_sets = are-row_sets 16 some16 few16 (pos 0) (range_with_len 0 32);
+      cut = good_cut;
+      good = is-good;
+      order = IsPermutation-refl (range_with_len 0 32);
+      head_is = refl;
+      new_is = refl;
+    },
+    refl,
+  );
+  left_is = record { child = refl; stamp = refl; summary = (refl, rows-set berlin refl berlin-valid refl refl (earlier.row 0) (rows_from 1 15) (each-numbered (λ r. r.at ≡ coord_of berlin) earlier.row 0 16 (λ r le lt. ap coord_of (first-city 16 some16 few16 r (omega arith))))); valid = one-valid 16 some16 few16 0 };
+  right_is = record { child = refl; stamp = refl; summary = (refl, rows-set munich refl munich-valid refl refl (earlier.row 16) (rows_from 17 15) (each-numbered (λ r. r.at ≡ coord_of munich) earlier.row 16 16 (λ r le lt. ap coord_of (second-city 16 some16 few16 r le (omega arith))))); valid = one-valid 16 some16 few16 16 };
 }
 
 root-with : IsWithRow cities (later.row 32) (root_entry (gate_after earlier (sample 16) 32)) (record { child = 1; stamp = 0; agg = gate_now.agg; set = gate_now.set })
 root-with = record { child = refl; stamp = refl; agg = refl; grown = grown-set 16 some16 few16 32; valid = valid-set 16 some16 few16 33 }
 
-cuts-root : CutsRoot cities (later.row 32) (gate_after earlier (sample 16) 32) gate_now (full.block 1) (cut_root.block 1) spares no_spare entered_cut
-cuts-root = record {
+cuts-root : (tail : List Block) → CutsRoot cities (later.row 32) tail (gate_after earlier (sample 16) 32) gate_now (full.block 1) (cut_root.block 1) spares no_spare entered_cut
+cuts-root tail = record {
   spare = (sample 16).spare;
   new = cut_root.block 2;
   left = left_entry;
   right = right_entry;
   between = one_spare;
-  cuts = cuts;
+  cuts = cuts tail;
   top = top;
   purse_is = refl;
   fresh = refl;
@@ -162,10 +168,12 @@ module _ (f : Filled earlier (sample 16) real_sample 32) where
   came : AfterStep later g 32 3 2 full cut_root (top ∷ (sample 16).spare ∷ []) []
   came = goes-in later g 32 full cut_root spares no_spare entered_cut begun (record {
     gate_now = gate_now;
+    tail = take 2 (drop 1 (g.group 1));
     new = on_bool (g.placed 32) (λ p. let z = f.holds.known 32 p in absurd (omega arith)) (λ p. p);
     numbered = refl;
     valid = place-valid 16 some16 few16 32;
-    step = record { step = inr (inr cuts-root) };
+    behind = λ full. refl;
+    step = record { step = inr (inr (cuts-root (map full.block (take 2 (drop 1 (g.group 1)))))) };
     idle = idle-before 1;
     spares = (
       spare-ok earlier (sample 16) real_sample 32 f top (eqb-ne 3 0 refl) (eqb-ne 3 1 refl) (eqb-ne 0 2 refl),
@@ -187,10 +195,12 @@ module _ (f : Filled earlier (sample 16) real_sample 32) where
     parent = 3;
     place = 0;
     entry = left_entry;
+    tail = [];
     placed = came.row.placed;
     carried = came.row.carried;
     at = came.row.at;
     entry_at = refl;
+    behind = λ full. cc;
     step = record {
       entry = left_entry;
       entry_at = refl;

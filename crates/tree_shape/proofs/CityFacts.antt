@@ -15,6 +15,7 @@ use Rattle.dim_hierarchy.specs.Tree.{IsLeaf, climb, up, leaf_level}
 use Rattle.dim_hierarchy.specs.Dimension.{Dimension, IsDimension, IsHierarchy, new_dimension, tree, with_concept}
 use Rattle.dim_hierarchy.specs.Row.{IsCoordOf, concept_at}
 use Rattle.dim_hierarchy.specs.declared.row.Coord.{Coord}
+use Rattle.dim_hierarchy.specs.declared.row.Row.{Row}
 use Rattle.dim_hierarchy.proofs.Ancestors.{up-self}
 use Rattle.dim_hierarchy.proofs.Growth.{IsDimension-new_dimension, IsDimension-with_concept, IsHierarchy-push}
 use Rattle.dim_hierarchy.proofs.Names.{get-insert_other}
@@ -32,7 +33,7 @@ use Rattle.hierarchy_split.proofs.Lifts.{leasts_at_top}
 use Rattle.hierarchy_split.proofs.Orders.{IsOrder-unique}
 use Rattle.dc_node.specs.Summary.{coords}
 use Rattle.tree_shape.specs.Counts.{Each}
-use Rattle.tree_shape.specs.Cities.{berlin, cities, cities_of, city, coord_of, munich, rows_from, sample, set_of, table_with}
+use Rattle.tree_shape.specs.Cities.{berlin, cities, cities_of, city, coord_of, munich, sample, set_of, table_with}
 use Rattle.tree_shape.specs.Example.{IsSample, IsUncut}
 use Rattle.tree_shape.proofs.Parts.{all-each}
 use Rattle.tree_shape.proofs.Queries.{leb-false, leb-gt, leb-le, leb-true}
@@ -41,7 +42,7 @@ use Rattle.tree_shape.proofs.Walks.{eqb-eq, eqb-ne, eqb-no, on_bool}
 at-range : (i : ℕ) → i < 32 → get_or (range_with_len 0 32) i 0 ≡ i
 at-range i lt = let z : 0 + i ≡ i = omega arith in get_or-range_with_len 0 32 i 0 lt ∙ z
 
-one-dim : (dim : ℕ) → dim < 1 → dim ≡ 0
+pub one-dim : (dim : ℕ) → dim < 1 → dim ≡ 0
 one-dim dim lt = omega arith
 
 -- The hierarchy.
@@ -111,7 +112,7 @@ munich-valid = coord-valid munich (record { concept = record { level = lit< tt; 
 pub empty-set : IsSetOf cities [] (set_of [])
 empty-set = IsSetOf-empty cities (set_of []) refl (λ dim lt. (let z : dim ≡ 0 = omega arith in subst (λ d. part_at (set_of []) d ≡ part (leaf_level (tree cities d)) []) (sym z) refl))
 
-grow-set : (id : ℕ) (xs ys : List ℕ) → level_of id ≡ 1 → with_id id xs ≡ ys → length ys ≤ 6 → GrowsBy cities (coord_of id) (set_of xs) (set_of ys)
+pub grow-set : (id : ℕ) (xs ys : List ℕ) → level_of id ≡ 1 → with_id id xs ≡ ys → length ys ≤ 6 → GrowsBy cities (coord_of id) (set_of xs) (set_of ys)
 grow-set id xs ys lv is few = record {
   grown = λ rows all s. record {
     count = refl;
@@ -261,21 +262,22 @@ some16 = omega arith
 pub few16 : 16 < 32
 few16 = omega arith
 
--- rows of one city have its set
-pub rows-set : (id first n : ℕ) → level_of id ≡ 1 → IsCoordOf cities (coord_of id) → with_id id [] ≡ id ∷ [] → with_id id (id ∷ []) ≡ id ∷ []
-    → ((r : ℕ) → first ≤ r → r < first + suc n → city 16 r ≡ id) → IsSetOf cities (coords (rows_from first (suc n))) (set_of (id ∷ []))
-rows-set id first n lv ok a b all = go n first all
-  where
-    valid : (m at : ℕ) → ((r : ℕ) → at ≤ r → r < at + m → city 16 r ≡ id) → All (IsCoordOf cities) (coords (rows_from at m))
-    valid zero at h = All-nil (IsCoordOf cities)
-    valid (suc m) at h = All-cons (IsCoordOf cities) (coord_of (city 16 at)) (coords (rows_from (at + 1) m)) (place-valid 16 some16 few16 at) (valid m (at + 1) (λ r le lt. h r (omega arith) (omega arith)))
+-- some rows of one city have its set
+module _ (id : ℕ) (lv : level_of id ≡ 1) (ok : IsCoordOf cities (coord_of id)) (first : with_id id [] ≡ id ∷ []) (again : with_id id (id ∷ []) ≡ id ∷ []) where
+  rows-valid : (rows : List Row) → Each (λ r. r.at ≡ coord_of id) rows → All (IsCoordOf cities) (coords rows)
+  rows-valid [] h = All-nil (IsCoordOf cities)
+  rows-valid (r ∷ rows) h = All-cons (IsCoordOf cities) r.at (coords rows) (subst (IsCoordOf cities) (sym h.0) ok) (rows-valid rows h.1)
 
-    go : (m at : ℕ) → ((r : ℕ) → at ≤ r → r < at + suc m → city 16 r ≡ id) → IsSetOf cities (coords (rows_from at (suc m))) (set_of (id ∷ []))
-    go zero at h = let e = h at (omega arith) (omega arith) in rw e ((grow-set id [] (id ∷ []) lv a (omega arith)).grown [] (All-nil (IsCoordOf cities)) empty-set)
-    go (suc m) at h =
-        let e = h at (omega arith) (omega arith) in
-        let rest = λ (r : ℕ) (le : at + 1 ≤ r) (lt : r < (at + 1) + suc m). h r (omega arith) (omega arith) in
-        rw e ((grow-set id (id ∷ []) (id ∷ []) lv b (omega arith)).grown (coords (rows_from (at + 1) (suc m))) (valid (suc m) (at + 1) rest) (go m (at + 1) rest))
+  pub rows-set : (r : Row) (rows : List Row) → Each (λ r. r.at ≡ coord_of id) (r ∷ rows) → IsSetOf cities (coords (r ∷ rows)) (set_of (id ∷ []))
+  rows-set r [] h = subst (λ at. IsSetOf cities (at ∷ []) (set_of (id ∷ []))) (sym h.0) ((grow-set id [] (id ∷ []) lv first (omega arith)).grown [] (All-nil (IsCoordOf cities)) empty-set)
+  rows-set r (q ∷ rows) h =
+      subst (λ at. IsSetOf cities (at ∷ coords (q ∷ rows)) (set_of (id ∷ []))) (sym h.0)
+      ((grow-set id (id ∷ []) (id ∷ []) lv again (omega arith)).grown (coords (q ∷ rows)) (rows-valid (q ∷ rows) h.1) (rows-set q rows h.1))
+
+-- rows of a table with numbers side by side
+pub each-numbered : (P : Row → Type 0) (row : ℕ → Row) (first n : ℕ) → ((r : ℕ) → first ≤ r → r < first + n → P (row r)) → Each P (map row (range_with_len first n))
+each-numbered P row first zero h = tt
+each-numbered P row first (suc n) h = (h first (omega arith) (omega arith), each-numbered P row (first + 1) n (λ r le lt. h r (omega arith) (omega arith)))
 
 -- 16 rows of each city have a good cut in the middle.
 

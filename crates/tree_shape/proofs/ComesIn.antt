@@ -1,5 +1,5 @@
 -- The step in at the gate, from what the call's contract says
-use Rattle.std.proofs.Common.{◌≡◌, ℕ, ◌+◌, ◌-◌, arith, inl, inr, eqb, sym, ap, ◌∙◌, subst}
+use Rattle.std.proofs.Common.{◌≡◌, ℕ, ◌+◌, ◌-◌, arith, inl, inr, eqb, map, sym, ap, ◌∙◌, subst}
 use Rattle.cell_stock.specs.Stock.{PurseValue}
 use Rattle.shard_store.specs.Gate.{root_entry}
 use Rattle.shard_store.specs.declared.gate.Gate.{Gate}
@@ -35,7 +35,7 @@ module _ (table : Table) (g : Shape) (r : ℕ) (before now : TreeCells) (purse p
       (λ q. let e = eqb-eq _ _ q in rw e s.head_is)
       (λ q. d.other y (eqb-ne _ _ q) (rw s.fresh tt)))))
 
-  halved : (e2 : Entry) → KeepsRoot e2 before.gate d.gate_now → Halves table.hierarchy (table.row r) (root_entry before.gate) e2 (before.block root) (now.block root) purse purse_now entered
+  halved : (e2 : Entry) → KeepsRoot e2 before.gate d.gate_now → Halves table.hierarchy (table.row r) (map before.block d.tail) (root_entry before.gate) e2 (before.block root) (now.block root) purse purse_now entered
       → AfterStep table g r entered.at now.gate.height before now purse.spares purse_now.spares
   halved e2 k s =
       let fill : now.block s.spare.cell ≡ s.new = (subst (λ xs. Each (λ f. now.block f.cell ≡ f.block) xs) s.fresh d.filled).0 in

@@ -1,42 +1,41 @@
--- A head of one block is cut in two: some shape fits the cells after it
-use Rattle.std.proofs.Common.{◌≡◌, ◌≢◌, ℕ, ◌+◌, Bool, true, false, cond, eqb, List, [], ◌∷◌, refl, sym, ap, ◌∙◌, subst, arith}
+-- A head is cut: some shape fits the cells after it
+use Rattle.std.proofs.Common.{◌≡◌, ◌≢◌, ℕ, ◌+◌, ◌≤◌, inl, inr, Bool, true, false, cond, eqb, leb, List, [], ◌∷◌, refl, sym, ap, ◌∙◌, subst, arith}
 use Rattle.dc_node.specs.declared.entry.Entry.{Entry}
-use Rattle.tree_shape.specs.Counts.{Each, same, times, total}
+use Rattle.tree_shape.specs.Counts.{Each, times}
 use Rattle.tree_shape.specs.Queries.{QueryOk, fits}
 use Rattle.tree_shape.specs.Shape.{Node, Shape, Table}
 use Rattle.tree_shape.specs.Trees.{TreeOk}
-use Rattle.tree_shape.specs.Walks.{IsTail, IsWalk, Noted}
-use Rattle.tree_shape.proofs.Relations.{CutUnder, Divided, DividedItems, Grew, IsSumOf, NoneExpects, NoneHas, Parted, all_below, all_grown, made, part_rows, parted, rows_of, settles}
+use Rattle.tree_shape.specs.Walks.{Noted}
+use Rattle.tree_shape.proofs.Relations.{CutUnder, Divided, DividedItems, Grew, IsSumOf, NoneExpects, NoneHas, Parted, all_grown, group_rows, heads_parted, made, parted, rows_of, settles}
 use Rattle.tree_shape.proofs.Walks.{on_bool, eqb-eq, eqb-ne, eqb-no, eqb-self}
-use Rattle.tree_shape.proofs.Queries.{apart, query-divided}
-use Rattle.tree_shape.proofs.Visits.{times-append}
+use Rattle.tree_shape.proofs.Queries.{apart, leb-le, leb-gt, leb-true, leb-false, query-divided}
+use Rattle.tree_shape.proofs.Tails.{IsInTail, behind-head}
+use Rattle.tree_shape.proofs.Groups.{rows_of-times, group_rows-times}
 use Rattle.tree_shape.proofs.Divisions.{tree-parted, each-of, parted-at, parted-past}
 use Rattle.tree_shape.proofs.Made.{divided-made, at_right-made, above_right-made}
 
-pub times-all_below : (g : Shape) (r : ℕ) (es : List Entry) → times r (all_below g es) ≡ total (λ e. times r (g.below e.child)) es
-times-all_below g r [] = refl
-times-all_below g r (e ∷ es) = omega (arith, times-append r (g.below e.child) (all_below g es), times-all_below g r es)
-
-rows_of-times : (g : Shape) (b : Node) (k r : ℕ) → times r (rows_of g b k) ≡ part_rows g b k r
-rows_of-times g b k r = on_bool (eqb k 0) (λ q. rw q refl) (λ q. rw q (times-all_below g r b.entries))
-
--- a walk to the first block's own stamp is that block
-alone-walk : (look : ℕ → Node) (c s : ℕ) (ws : List ℕ) → (look c).stamp ≡ s → IsWalk look c s ws → ws ≡ c ∷ []
-alone-walk look c s ws e (zs, is, h) = go zs is h
-  where
-    go : (zs : List ℕ) → ws ≡ c ∷ zs → IsTail look s c zs → ws ≡ c ∷ []
-    go [] is h = is
-    go (z ∷ zs) is h = absurd (h.0 e)
+-- two entries that stand in place of one, of which the right one has its stamp
+pub stamps-parted : (c t u : ℕ) (a b old : Entry) (es : List Entry) → a.stamp ≡ t → b.stamp ≡ old.stamp → u ≢ t → u ≢ old.stamp → Each (λ e. e.stamp ≢ u) es → Each (λ e. e.stamp ≢ u) (parted c a b es)
+stamps-parted c t u a b old [] sa sb ut uo h = tt
+stamps-parted c t u a b old (e ∷ es) sa sb ut uo h =
+    let ih = stamps-parted c t u a b old es sa sb ut uo h.1 in
+    on_bool (eqb e.child c)
+    (λ q. rw (parted-at c a b e es q) ((λ z. ut (sym z ∙ sa)), ((λ z. uo (sym z ∙ sb)), ih)))
+    (λ q. rw (parted-past c a b e es q) (h.0, ih))
 
 module _ (g : Shape) (look look2 : ℕ → Node) (table : Table) (k c n t p : ℕ) (a b old : Entry) (tree : TreeOk g look table) (d : CutUnder g look look2 table k c n t p a b old) where
+  -- the blocks behind the head
+  abbrev tail : List ℕ
+  tail = d.tail
+
   abbrev groups : ℕ → List ℕ
-  groups h = cond (eqb h c) (c ∷ []) (cond (eqb h n) (n ∷ []) (g.group h))
+  groups h = cond (eqb h c) (c ∷ []) (cond (eqb h n) (n ∷ tail) (g.group h))
 
   abbrev belows : ℕ → List ℕ
-  belows h = cond (eqb h c) (rows_of g (look2 c) k) (cond (eqb h n) (rows_of g (look2 n) k) (g.below h))
+  belows h = cond (eqb h c) (rows_of g (look2 c) k) (cond (eqb h n) (group_rows g look2 k (n ∷ tail)) (g.below h))
 
   abbrev pub cut-shape : Shape
-  cut-shape = made g k c n (look2 n) n groups belows
+  cut-shape = made g k c n (look2 n) (heads_parted g n tail) groups belows
 
   c_n : c ≢ n
   c_n = apart g c n d.c_inside d.fresh
@@ -45,7 +44,25 @@ module _ (g : Shape) (look look2 : ℕ → Node) (table : Table) (k c n t p : �
   n_c e = c_n (sym e)
 
   pub divided : Divided g cut-shape k c n
-  divided = divided-made g look look2 table k c n n groups belows tree d.c_inside d.c_level d.fresh d.rows d.entries
+  divided = divided-made g look look2 table k c n (heads_parted g n tail) groups belows tree d.c_inside d.c_level d.fresh d.rows d.entries
+
+  on-tail : (y : ℕ) → 1 ≤ times y tail → IsInTail g k c tail y
+  on-tail = behind-head g look table k c tail old d.old_ok d.old_child d.group
+
+  tail-off : (y : ℕ) → leb 1 (times y tail) ≡ false → times y tail ≡ 0
+  tail-off y q = let gt = leb-gt _ _ q in omega arith
+
+  head-tail : (y : ℕ) → y ≢ n → leb 1 (times y tail) ≡ true → cut-shape.head y ≡ n
+  head-tail y h q = rw (eqb-no y n h, q) refl
+
+  head-other : (y : ℕ) → y ≢ n → leb 1 (times y tail) ≡ false → cut-shape.head y ≡ g.head y
+  head-other y h q = rw (eqb-no y n h, q) refl
+
+  -- a head stays one
+  pub head-kept : (y : ℕ) → y ≢ n → g.head y ≡ y → cut-shape.head y ≡ y
+  head-kept y h e = on_bool (leb 1 (times y tail))
+      (λ q. let o = on-tail y (leb-le _ _ q) in absurd (o.apart (sym e ∙ o.head)))
+      (λ q. head-other y h q ∙ e)
 
   items : DividedItems g cut-shape look look2 k c n t
   items = record {
@@ -54,50 +71,47 @@ module _ (g : Shape) (look look2 : ℕ → Node) (table : Table) (k c n t p : �
     waits = d.waits;
     free = d.free;
     c_head = d.c_head;
-    head = λ y h. rw (eqb-no y n h) refl;
+    head = λ y h. on_bool (leb 1 (times y tail))
+        (λ q. let o = on-tail y (leb-le _ _ q) in inr (o.level, o.head, head-tail y h q))
+        (λ q. inl (head-other y h q));
     rows = d.rows;
     entries = d.entries;
     left = d.left;
     right = d.right;
     other_rows = d.other_rows;
-    at_right = at_right-made g look look2 table k c n n groups belows tree d.c_inside d.c_level d.fresh d.rows d.entries;
-    above_right = above_right-made g look look2 table k c n n groups belows tree d.c_inside d.c_level d.fresh d.rows d.entries;
+    at_right = at_right-made g look look2 table k c n (heads_parted g n tail) groups belows tree d.c_inside d.c_level d.fresh d.rows d.entries;
+    above_right = above_right-made g look look2 table k c n (heads_parted g n tail) groups belows tree d.c_inside d.c_level d.fresh d.rows d.entries;
   }
-
-  group_c_was : g.group c ≡ c ∷ []
-  group_c_was =
-      let w = d.old_ok.group.walks in
-      let w2 : IsWalk look c old.stamp (g.group c) = rw d.old_child at w in
-      alone-walk look c old.stamp (g.group c) (sym d.one_block) w2
 
   g2_group_c : cut-shape.group c ≡ c ∷ []
   g2_group_c = rw (eqb-self c) refl
 
-  g2_group_n : cut-shape.group n ≡ n ∷ []
+  g2_group_n : cut-shape.group n ≡ n ∷ tail
   g2_group_n = rw (eqb-no n c n_c, eqb-self n) refl
 
   g2_below_c : cut-shape.below c ≡ rows_of g (look2 c) k
   g2_below_c = rw (eqb-self c) refl
 
-  g2_below_n : cut-shape.below n ≡ rows_of g (look2 n) k
+  g2_below_n : cut-shape.below n ≡ group_rows g look2 k (n ∷ tail)
   g2_below_n = rw (eqb-no n c n_c, eqb-self n) refl
 
-  parts : Parted g cut-shape look look2 table k c n t p a b
+  parts : Parted g cut-shape look look2 table k c n t p tail a b old
   parts = record {
     items = items;
     new_head = rw (eqb-self n) refl;
-    alone = λ y i lv.
-        let m = d.old_ok.members y i lv in
-        let m2 : times y (g.group c) ≡ same (g.head y) c = rw d.old_child at m in
-        let m3 : times y (c ∷ []) ≡ same (g.head y) c = rw group_c_was at m2 in
-        omega arith;
-    group_was = group_c_was;
+    old_ok = d.old_ok;
+    old_child = d.old_child;
+    old_stamp = d.old_stamp;
+    tail_head = λ y h. let o = on-tail y h in head-tail y (apart g y n o.inside d.fresh) (leb-true _ _ h);
+    other_head = λ y h z. head-other y h (leb-false _ _ (omega (arith, z)));
+    free_tail = d.free_tail;
+    group_was = d.group;
     group_c = g2_group_c;
     group_n = g2_group_n;
     group = λ h hc hn. rw (eqb-no h c hc, eqb-no h n hn) refl;
     below = λ h hc hn. rw (eqb-no h c hc, eqb-no h n hn) refl;
     below_c = λ q. ap (times q) g2_below_c ∙ rows_of-times g (look2 c) k q;
-    below_n = λ q. ap (times q) g2_below_n ∙ rows_of-times g (look2 n) k q;
+    below_n = λ q. ap (times q) g2_below_n ∙ group_rows-times g look2 k q (n ∷ tail);
     a_child = d.a_child;
     a_stamp = d.a_stamp;
     a_sum = subst (λ (ns : List ℕ). IsSumOf table ns a) (sym g2_below_c) d.a_sum;
@@ -112,7 +126,7 @@ module _ (g : Shape) (look look2 : ℕ → Node) (table : Table) (k c n t p : �
   }
 
   pub tree-cut : TreeOk cut-shape look2 table
-  tree-cut = tree-parted g cut-shape look look2 table k c n t p a b tree.shape tree parts
+  tree-cut = tree-parted g cut-shape look look2 table k c n t p tail a b old tree.shape tree parts
 
   pub query-cut : (must fits : ℕ → Bool) (ps : List Noted) (counted : List ℕ) → NoneExpects t ps → QueryOk g look must fits ps counted → QueryOk cut-shape look2 must fits (all_grown c n ps) counted
   query-cut must fits ps counted fresh q = query-divided g cut-shape look k c n tree.shape divided look2 t must fits ps counted d.relinked fresh q
@@ -126,7 +140,7 @@ module _ (g : Shape) (look look2 : ℕ → Node) (table : Table) (k c n t p : �
         height = refl;
         inside = λ y f. divided.inside y (off y f);
         level = λ y f. divided.level y (off y f);
-        head = λ y f. rw f refl;
+        head = λ y f e. head-kept y (off y f) e;
         new = λ y f. let e = eqb-eq _ _ f in rw e (d.fresh, divided.new_inside, divided.new_level);
         placed = λ q. refl;
         carried = λ q. refl;
@@ -134,20 +148,11 @@ module _ (g : Shape) (look look2 : ℕ → Node) (table : Table) (k c n t p : �
         at = λ q ne pq cq. stays q pq cq;
         x_in = divided.inside p np ∙ d.p_inside;
         x_level = divided.level p np ∙ d.p_level ∙ kh;
-        x_head = rw (eqb-no p n np) hp;
+        x_head = head-kept p np hp;
       }
 
-  -- the two entries that stand in place of one
-  stamps-two : (u : ℕ) (es : List Entry) → u ≢ t → u ≢ (look c).stamp → Each (λ e. e.stamp ≢ u) es → Each (λ e. e.stamp ≢ u) (parted c a b es)
-  stamps-two u [] ut uc h = tt
-  stamps-two u (e ∷ es) ut uc h =
-      let ih = stamps-two u es ut uc h.1 in
-      on_bool (eqb e.child c)
-      (λ q. rw (parted-at c a b e es q) ((λ z. ut (sym z ∙ d.a_stamp)), ((λ z. uc (sym z ∙ d.b_stamp)), ih)))
-      (λ q. rw (parted-past c a b e es q) (h.0, ih))
-
-  pub stamps-cut : (u : ℕ) → u ≢ t → u ≢ (look c).stamp → NoneHas g look u → NoneHas cut-shape look2 u
-  stamps-cut u ut uc h y l i e = on_bool (eqb y n)
+  pub stamps-cut : (u : ℕ) → u ≢ t → u ≢ old.stamp → NoneHas g look u → NoneHas cut-shape look2 u
+  stamps-cut u ut uo h y l i e = on_bool (eqb y n)
       (λ q. let yn = eqb-eq _ _ q in
       let kl : k ≡ l + 1 = sym divided.new_level ∙ ap cut-shape.level (sym yn) ∙ e in
       rw yn (each-of (λ (v : Entry). v.stamp ≢ u) (look c).entries (look2 n).entries (h c l d.c_inside (d.c_level ∙ kl)) d.right))
@@ -162,5 +167,5 @@ module _ (g : Shape) (look look2 : ℕ → Node) (table : Table) (k c n t p : �
       (λ q2. let yc = eqb-ne _ _ q2 in on_bool (eqb y p)
       (λ q3. let yt = eqb-eq _ _ q3 in
       let o2 = rw yt at o in
-      rw (yt, d.top) (stamps-two u (look p).entries ut uc o2))
+      rw (yt, d.top) (stamps-parted c t u a b old (look p).entries d.a_stamp d.b_stamp ut uo o2))
       (λ q3. rw (d.other y yc yn (eqb-ne _ _ q3)) o)))

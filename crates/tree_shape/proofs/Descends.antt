@@ -1,26 +1,28 @@
 -- The step down by an entry of a directory, from what the call's contract says
-use Rattle.std.proofs.Common.{◌≡◌, ◌≢◌, ℕ, ◌+◌, ◌-◌, ◌<◌, ◌≤◌, ◌⊎◌, inl, inr, true, false, eqb, List, [], ◌∷◌, ◌++◌, length, refl, sym, ap, ◌∙◌, subst, arith}
+use Rattle.std.proofs.Common.{◌≡◌, ◌≢◌, ℕ, ◌+◌, ◌-◌, ◌<◌, ◌≤◌, ◌⊎◌, inl, inr, true, false, eqb, List, [], ◌∷◌, ◌++◌, length, map, take, drop, refl, sym, ap, ◌∙◌, subst, arith}
 use Rattle.std.specs.Prelude.{Some, None}
 use Rattle.dim_hierarchy.specs.Row.{IsRowOf}
 use Rattle.dc_node.specs.Block.{entries_in, is_leaf, is_full, size, with_entries, replaced}
 use Rattle.dc_node.specs.declared.block.Body.{Body}
 use Rattle.dc_node.specs.declared.block.Body.TheVariants.{Rows, Entries}
 use Rattle.cell_stock.specs.Stock.{PurseValue}
-use Rattle.link_descent.specs.Descend.{KeepsEntry, Passes, Halves, CutsDown}
-use Rattle.link_descent.specs.Divide.{IsHalved, IsCutInTwo}
+use Rattle.link_descent.specs.Descend.{IsGroupEntry, KeepsEntry, Passes, Halves, CutsDown}
+use Rattle.link_descent.specs.Divide.{IsHalved}
 use Rattle.link_descent.specs.declared.entered.Entered.{Entered}
 use Rattle.dc_node.specs.declared.block.Block.{Block}
 use Rattle.dc_node.specs.declared.entry.Entry.{Entry}
-use Rattle.tree_shape.specs.Counts.{Each}
+use Rattle.tree_shape.specs.Counts.{Each, times}
 use Rattle.tree_shape.specs.Shape.{Node, Shape, Table, TreeCells, gate_node, node_of, nodes, numbers}
 use Rattle.tree_shape.specs.Steps.{AfterStep, AreSpares, GoesDown}
-use Rattle.tree_shape.specs.Trees.{BlockOk, IsTree, limit}
+use Rattle.tree_shape.specs.Trees.{BlockOk, EntryOk, IsTree, limit}
+use Rattle.tree_shape.specs.Walks.{IsTail}
 use Rattle.tree_shape.proofs.Relations.{Touch}
 use Rattle.tree_shape.proofs.Walks.{on_bool, eqb-eq, eqb-ne}
 use Rattle.tree_shape.proofs.Queries.{apart}
 use Rattle.tree_shape.proofs.Parts.{IsAround, around, total-append, total-one}
-use Rattle.tree_shape.proofs.Contents.{ArePartsOf, halves, cut-parts}
-use Rattle.tree_shape.proofs.Onto.{touch-row, touch-same, child_in}
+use Rattle.tree_shape.proofs.Contents.{ArePartsOf, halves, cut-parts, head-parts}
+use Rattle.tree_shape.proofs.Tails.{IsCutOf, behind-head, behind-cut}
+use Rattle.tree_shape.proofs.Onto.{touch-row, touch-same, child_in, entry_ok}
 use Rattle.tree_shape.proofs.Assembled.{node-block, no-rows, has-entries, near-tree, block-entries, used-spares}
 use Rattle.tree_shape.proofs.Settles.{after-pass, after-half, after-cut}
 
@@ -34,9 +36,32 @@ length-plus xs ys = omega (arith, total-append (λ _. 1) xs ys, total-one (xs ++
 pub half-parts : (old head new : Block) (n t : ℕ) → is_full old.body ≡ true → IsHalved old n t head new → ArePartsOf old.body head.body new.body
 half-parts old head new n t full h = rw (h.head_is, h.new_is) (halves old.body full)
 
--- and of one that was cut in two
-pub cut-in_two : (table : Table) (old head new : Block) (n t : ℕ) → is_full old.body ≡ true → IsCutInTwo table.hierarchy old n t head new → ArePartsOf old.body head.body new.body
-cut-in_two table old head new n t full h = rw (h.head_is, h.new_is) (cut-parts table.hierarchy old.body h.sets h.cut full h.are_sets h.good h.order)
+-- what is known of a cut block and of the new one
+pub record AreCut (old head new : Block) (n t : ℕ) : Type 0 where
+  pub parts : ArePartsOf old.body head.body new.body
+  pub head_stamp : head.stamp ≡ t
+  pub head_right : head.right ≡ Some n
+  pub new_stamp : new.stamp ≡ old.stamp
+  pub new_right : new.right ≡ old.right
+
+pub are-cut : (table : Table) (expected : ℕ) (tail : List Block) (old head new : Block) (n t : ℕ) (behind : List Block) → is_full old.body ≡ true
+    → IsCutOf table.hierarchy expected tail old n t head new behind → AreCut old head new n t
+are-cut table expected tail old head new n t behind full h = elim h [
+  | inl u ↦ (let w = u.1 in rw (w.head_is, w.new_is) (record {
+    parts = cut-parts table.hierarchy old.body w.sets w.cut full w.are_sets w.good w.order;
+    head_stamp = refl;
+    head_right = refl;
+    new_stamp = refl;
+    new_right = refl;
+  }))
+  | inr u ↦ (let w = u.2 in rw (w.head_is, w.new_is) (record {
+    parts = head-parts table.hierarchy old.body w.items w.cut full w.are_sets.head w.good;
+    head_stamp = refl;
+    head_right = refl;
+    new_stamp = refl;
+    new_right = refl;
+  }))
+]
 
 directory-size : (body : Body) → is_leaf body ≡ false → size body ≡ length (entries_in body)
 directory-size (Rows rows) h = cc
@@ -91,6 +116,29 @@ module _ (table : Table) (g : Shape) (r : ℕ) (before now : TreeCells) (purse p
 
   is : (nodes before p).entries ≡ w.front ++ d.entry ∷ w.back
   is = ap (λ (x : Node). x.entries) look_p ∙ w.is
+
+  -- the entry's group: its head, and the blocks behind it
+
+  abbrev e_ok : EntryOk g (nodes before) table (g.level p - 1) d.entry
+  e_ok = entry_ok g (nodes before) table tree.tree p (g.level p - 1) p_in p_up d.entry w.front w.back is
+
+  abbrev tail : List ℕ
+  tail = e_ok.group.walks.0
+
+  group_is : g.group c ≡ c ∷ tail
+  group_is = e_ok.group.walks.1
+
+  tail_walk : IsTail (nodes before) d.entry.stamp c tail
+  tail_walk = e_ok.group.walks.2
+
+  low_gate : (y : ℕ) → g.level y ≡ g.level p - 1 → y ≢ before.gate_cell
+  low_gate y e q = let a : g.level y ≡ g.level before.gate_cell = ap g.level q in let b = tree.level in let l = p_below in let u = p_up in absurd (omega arith)
+
+  tail_look : (y : ℕ) → 1 ≤ times y tail → nodes before y ≡ node_of (before.block y)
+  tail_look y h = node-block before y (low_gate y (behind-head g (nodes before) table (g.level p - 1) c tail d.entry e_ok refl group_is y h).level)
+
+  look_c : nodes before c ≡ node_of (before.block c)
+  look_c = node-block before c (low_gate c (child_in g (nodes before) table tree.tree p (g.level p - 1) p_in p_up d.entry w.front w.back is).1)
 
   numbered : IsRowOf table.hierarchy (table.row r)
   numbered = (tree.numbered r d.placed).1
@@ -153,7 +201,7 @@ module _ (table : Table) (g : Shape) (r : ℕ) (before now : TreeCells) (purse p
       d.gate_cell gate_height gate_same tree.blocks (parent_ok (e2 ∷ []) some few k.parent_is) alone_p d.idle d.spares
       purse_now.spares e2 (ap (λ (x : PurseValue). x.spares) s.purse_is) s.entry_is (entries3 (e2 ∷ []) some few k.parent_is) s.room other)
 
-  halved : (e2 : Entry) → KeepsEntry d.place e2 (before.block p) (now.block p) → Halves table.hierarchy (table.row r) d.entry e2 (before.block c) (now.block c) purse purse_now entered
+  halved : (e2 : Entry) → KeepsEntry d.place e2 (before.block p) (now.block p) → Halves table.hierarchy (table.row r) (map before.block d.tail) d.entry e2 (before.block c) (now.block c) purse purse_now entered
       → AfterStep table g r entered.at ((g.level p - 1) + 1) before now purse.spares purse_now.spares
   halved e2 k s =
       let some : 1 ≤ 1 = omega arith in
@@ -168,7 +216,7 @@ module _ (table : Table) (g : Shape) (r : ℕ) (before now : TreeCells) (purse p
       (ap (λ (x : Block). x.stamp) s.halved.head_is) (ap (λ (x : Block). x.right) s.halved.head_is) (ap (λ (x : Block). x.stamp) s.halved.new_is) (ap (λ (x : Block). x.right) s.halved.new_is)
       e2 s.entry_is (entries3 (e2 ∷ []) some few k.parent_is))
 
-  cut : CutsDown table.hierarchy (table.row r) d.place d.entry (before.block p) (now.block p) (before.block c) (now.block c) purse purse_now entered
+  cut : CutsDown table.hierarchy (table.row r) d.place (map before.block d.tail) d.entry (before.block p) (now.block p) (before.block c) (now.block c) purse purse_now entered
       → AfterStep table g r entered.at ((g.level p - 1) + 1) before now purse.spares purse_now.spares
   cut s =
       let u = s.cuts in
@@ -176,16 +224,18 @@ module _ (table : Table) (g : Shape) (r : ℕ) (before now : TreeCells) (purse p
       let some : 1 ≤ 2 = omega arith in
       let few : 2 ≤ 2 = omega arith in
       let fill : now.block s.spare.cell ≡ s.new = (subst (λ xs. Each (λ f. now.block f.cell ≡ f.block) xs) s.fresh d.filled).0 in
-      let parts = cut-in_two table (before.block c) (now.block c) s.new s.spare.cell s.spare.stamp u.full u.cut in
+      let w2 = are-cut table d.entry.stamp (map before.block d.tail) (before.block c) (now.block c) s.new s.spare.cell s.spare.stamp u.behind u.full u.cut in
+      let behind_is : u.behind ≡ map before.block tail = behind-cut table.hierarchy (nodes before) before.block d.entry.stamp c d.tail tail (before.block c) (now.block c) s.new s.spare.cell s.spare.stamp u.behind
+      (ap (λ (x : Node). x.stamp) look_c) (λ y h. ap (λ (x : Node). x.stamp) (tail_look y h)) tail_walk (d.behind u.full ∙ ap (λ (ws : List ℕ). take 2 (drop 1 ws)) group_is) u.cut in
+      let right_is = subst (λ (bs : List Block). IsGroupEntry table.hierarchy s.spare.cell d.entry.stamp s.new bs s.right) behind_is u.right_is in
       let go : (x : ℕ) → entered.at ≡ x → Touch table r x s.left s.left_now → Touch table r x s.right s.right_now → (x ≡ c) ⊎ (x ≡ s.spare.cell) → AfterStep table g r entered.at ((g.level p - 1) + 1) before now purse.spares purse_now.spares =
       λ x at ta tb which.
       subst (λ x. AfterStep table g r x ((g.level p - 1) + 1) before now purse.spares purse_now.spares) (sym at)
       (after-cut table before now g r p (g.level p - 1) before.gate.height purse.spares (near-tree table before g r tree) tree.tree d.placed d.carried d.at numbered p_up (let b = p_below in omega arith) d.entry w.front w.back is
       (top_rows others some few s.parent_is) (top_stamp others some few s.parent_is) (top_right others some few s.parent_is)
       d.gate_cell gate_height gate_same tree.blocks (parent_ok others some few s.parent_is) alone_p d.idle d.spares
-      purse_now.spares s.spare s.new u.purse_is fill (λ y yp yc yn. d.other y yp yc (rw s.fresh (yn, tt))) parts
-      (ap (λ (x : Block). x.stamp) u.cut.head_is) (ap (λ (x : Block). x.right) u.cut.head_is) (ap (λ (x : Block). x.stamp) u.cut.new_is) (ap (λ (x : Block). x.right) u.cut.new_is)
-      x s.left s.right s.left_now s.right_now (sym u.alone) u.left_is u.right_is ta tb which (entries3 others some few s.parent_is)) in
+      purse_now.spares s.spare s.new u.purse_is fill (λ y yp yc yn. d.other y yp yc (rw s.fresh (yn, tt))) w2.parts w2.head_stamp w2.head_right w2.new_stamp w2.new_right
+      x tail s.left s.right s.left_now s.right_now group_is u.left_is right_is ta tb which (entries3 others some few s.parent_is)) in
       let lc : s.left.child ≡ c = u.left_is.child in
       let rc : s.right.child ≡ s.spare.cell = u.right_is.child in
       let mine = (used-spares g (nodes before) purse_now.spares (s.spare ∷ []) (subst (AreSpares g (nodes before)) u.purse_is d.spares)).0 in
@@ -204,8 +254,8 @@ module _ (table : Table) (g : Shape) (r : ℕ) (before now : TreeCells) (purse p
       elim d.step.step [
         | inl s ↦ passes s.0 s.1 (subst (λ (x : Entry). Passes table.hierarchy (table.row r) x s.0 (before.block c) (now.block c) purse purse_now entered) entry_is s.2)
         | inr t ↦ elim t [
-          | inl s ↦ halved s.0 s.1 (subst (λ (x : Entry). Halves table.hierarchy (table.row r) x s.0 (before.block c) (now.block c) purse purse_now entered) entry_is s.2)
-          | inr s ↦ cut (subst (λ (x : Entry). CutsDown table.hierarchy (table.row r) d.place x (before.block p) (now.block p) (before.block c) (now.block c) purse purse_now entered) entry_is s)
+          | inl s ↦ halved s.0 s.1 (subst (λ (x : Entry). Halves table.hierarchy (table.row r) (map before.block d.tail) x s.0 (before.block c) (now.block c) purse purse_now entered) entry_is s.2)
+          | inr s ↦ cut (subst (λ (x : Entry). CutsDown table.hierarchy (table.row r) d.place (map before.block d.tail) x (before.block p) (now.block p) (before.block c) (now.block c) purse purse_now entered) entry_is s)
         ]
       ]
 

@@ -1,13 +1,15 @@
 -- The tree stays one where a head is divided
-use Rattle.std.proofs.Common.{◌≡◌, ◌≢◌, ℕ, ◌+◌, ◌-◌, ◌<◌, ◌≤◌, ◌⊎◌, inl, inr, true, false, eqb, leb, List, [], ◌∷◌, refl, sym, ap, ◌∙◌, subst, arith}
+use Rattle.std.proofs.Common.{◌≡◌, ◌≢◌, ℕ, ◌+◌, ◌-◌, ◌<◌, ◌≤◌, ◌⊎◌, inl, inr, Bool, true, false, cond, eqb, leb, List, [], ◌∷◌, refl, sym, ap, ◌∙◌, subst, arith}
 use Rattle.dc_node.specs.declared.entry.Entry.{Entry}
 use Rattle.tree_shape.specs.Counts.{Among, Each, same, times, total}
 use Rattle.tree_shape.specs.Shape.{Node, Shape, ShapeOk, Table}
 use Rattle.tree_shape.specs.Trees.{DirOk, EntryOk, TreeOk, lies}
-use Rattle.tree_shape.specs.Walks.{IsNoted, Noted, beneath, noted_of, reach}
+use Rattle.tree_shape.specs.Walks.{IsNoted, IsWalk, Noted, beneath, noted_of, reach}
 use Rattle.tree_shape.proofs.Relations.{Divided, DividedItems, IsSumOf, Joined, Parted, grown, part_rows, parted, put_behind}
-use Rattle.tree_shape.proofs.Walks.{on_bool, eqb-eq, eqb-ne, same_is, same_not, times-put_behind_other, times-put_behind_new}
+use Rattle.tree_shape.proofs.Walks.{on_bool, eqb-eq, eqb-ne, eqb-self, same_is, same_not, put_behind-at, times-put_behind_other, times-put_behind_new}
 use Rattle.tree_shape.proofs.Queries.{leb-le, leb-gt, reach-low, reach-high, not_on, apart, noted-divided, reach-at}
+use Rattle.tree_shape.proofs.Parts.{total-same}
+use Rattle.tree_shape.proofs.Tails.{IsInTail, group-noted, group-members, head-off, behind-head, each-cell, walk-behind}
 use Rattle.tree_shape.proofs.Visits.{spans}
 
 module _ (g g2 : Shape) (k c n : ℕ) (ok : ShapeOk g) (d : Divided g g2 k c n) where
@@ -131,8 +133,10 @@ each-both P Q R (x ∷ xs) f h k = (f x h.0 k.0, each-both P Q R xs f h.1 k.1)
 
 module _ (g g2 : Shape) (look look2 : ℕ → Node) (table : Table) (k c n t : ℕ) (ok : ShapeOk g) (tree : TreeOk g look table) (d : DividedItems g g2 look look2 k c n t) where
   -- an entry elsewhere: its group has n behind c
-  entry-grown : (b b2 l : ℕ) (e : Entry) → e.stamp ≢ t → g2.group e.child ≡ put_behind c n (g.group e.child) → g2.below e.child ≡ g.below e.child → (l ≡ k → same (g2.head n) e.child ≡ same c e.child) → EntryOk g look table l e → EntryOk g2 look2 table l e
-  entry-grown b b2 l e st gr be hd w =
+  entry-grown : (b b2 l : ℕ) (e : Entry) → e.stamp ≢ t → g2.group e.child ≡ put_behind c n (g.group e.child) → g2.below e.child ≡ g.below e.child
+      → (l ≡ k → same (g2.head n) e.child ≡ same c e.child) → (l ≡ k → (y : ℕ) → y ≢ n → same (g2.head y) e.child ≡ same (g.head y) e.child)
+      → EntryOk g look table l e → EntryOk g2 look2 table l e
+  entry-grown b b2 l e st gr be hd hs w =
       let v = d.div in
       let p = noted_of g l e in
       let th : IsNoted g2 look2 (grown c n p) = noted-divided g g2 look k c n ok v look2 t p d.relinked st w.group in
@@ -148,7 +152,11 @@ module _ (g g2 : Shape) (look look2 : ℕ → Node) (table : Table) (k c n t : �
             let h = hd lk in
             rw yn (omega arith))
             (λ q. let yn = eqb-ne _ _ q in
-            times-put_behind_other c n y (g.group e.child) yn ∙ w.members y (before g g2 k c n ok v y yn i) (sym (v.level y yn) ∙ lv) ∙ ap (λ (x : ℕ). same x e.child) (sym (d.head y yn))));
+            let yl : g.level y ≡ l = sym (v.level y yn) ∙ lv in
+            let heads : same (g2.head y) e.child ≡ same (g.head y) e.child = on_bool (eqb l k)
+            (λ z. hs (eqb-eq _ _ z) y yn)
+            (λ z. elim (d.head y yn) [ inl u ↦ ap (λ (x : ℕ). same x e.child) u | inr u ↦ absurd (eqb-ne _ _ z (sym yl ∙ u.0)) ]) in
+            times-put_behind_other c n y (g.group e.child) yn ∙ w.members y (before g g2 k c n ok v y yn i) yl ∙ sym heads));
         rows = λ r. rw (be, gr) (w.rows r ∙ on_bool (g.placed r)
             (λ pr. rw (v.placed r, pr) (sym (reach-at g g2 look k c n ok v p r w.group pr)))
             (λ pr. rw (v.placed r, pr) refl));
@@ -182,7 +190,7 @@ module _ (g g2 : Shape) (look look2 : ℕ → Node) (table : Table) (k c n t : �
       let a = each-both (EntryOk g look table l) (λ (e : Entry). e.stamp ≢ t) (λ (e : Entry). (EntryOk g look table l e × (e.stamp ≢ t))) part (λ e x y. (x, y)) w s in
       let x = each-both (λ (e : Entry). g2.group e.child ≡ put_behind c n (g.group e.child)) (λ (e : Entry). g2.below e.child ≡ g.below e.child) (λ (e : Entry). (g2.group e.child ≡ put_behind c n (g.group e.child)) × (g2.below e.child ≡ g.below e.child)) part (λ e x y. (x, y)) gr be in
       each-both (λ (e : Entry). (EntryOk g look table l e × (e.stamp ≢ t))) (λ (e : Entry). (g2.group e.child ≡ put_behind c n (g.group e.child)) × (g2.below e.child ≡ g.below e.child)) (EntryOk g2 look2 table l) part
-      (λ e y z. entry-grown c b2 l e y.1 z.0 z.1 (λ q. absurd (omega arith)) y.0) a x
+      (λ e y z. entry-grown c b2 l e y.1 z.0 z.1 (λ q. absurd (omega arith)) (λ q. absurd (omega arith)) y.0) a x
 
   -- of the blocks on the level below, n has those of the right part and c those of the left
   sides : (y l : ℕ) → k ≡ l + 1 → g.inside y ≡ true → g.level y ≡ l
@@ -313,7 +321,10 @@ module _ (g g2 : Shape) (look look2 : ℕ → Node) (table : Table) (k c n t : �
       (λ q. let e = eqb-eq _ _ q in rw e nh)
       (λ q. let yn = eqb-ne _ _ q in
       let h = tree.heads y (before g g2 k c n ok v y yn i) in
-      rw (d.head y yn) (v.inside _ (old-apart g g2 k c n ok v _ h) ∙ h))
+      elim (d.head y yn) [
+        | inl e ↦ rw e (v.inside _ (old-apart g g2 k c n ok v _ h) ∙ h)
+        | inr w ↦ rw w.2 v.new_inside
+      ])
 
 -- how often a row is beneath the entries of a directory on the level above l
 
@@ -367,7 +378,7 @@ module _ (g g2 : Shape) (look look2 : ℕ → Node) (table : Table) (k c n t : �
       let v = j.items.div in
       let dir = tree.dirs b l bi bl in
       let w = each-both (EntryOk g look table l) (λ (e : Entry). e.stamp ≢ t) (EntryOk g2 look2 table l) (look b).entries
-      (λ e x st. entry-grown g g2 look look2 table k c n t ok tree j.items b b l e st (j.group e.child) (j.below e.child) (λ q. ap (λ (x : ℕ). same x e.child) j.new_head) x) dir.entries (j.items.waits b l bi bl) in
+      (λ e x st. entry-grown g g2 look look2 table k c n t ok tree j.items b b l e st (j.group e.child) (j.below e.child) (λ q. ap (λ (x : ℕ). same x e.child) j.new_head) (λ q y yn. ap (λ (x : ℕ). same x e.child) (j.head y yn)) x) dir.entries (j.items.waits b l bi bl) in
       let is = j.other b bc bn in
       record {
         entries = rw is w;
@@ -425,13 +436,43 @@ parted-at c a b e es h = rw h refl
 pub parted-past : (c : ℕ) (a b e : Entry) (es : List Entry) → eqb e.child c ≡ false → parted c a b (e ∷ es) ≡ e ∷ parted c a b es
 parted-past c a b e es h = rw h refl
 
--- The two blocks are two groups, and the parent has an entry for each.
+-- what is beneath each block of a walk is what is beneath the walk
+beneath-each : (p q : Bool) (z : ℕ) (ws : List ℕ) → total (λ y. cond p (cond q (times z (y ∷ [])) 0) 0) ws ≡ cond p (cond q (times z ws) 0) 0
+beneath-each true true z [] = refl
+beneath-each true true z (y ∷ ys) = omega (arith, beneath-each true true z ys)
+beneath-each true false z [] = refl
+beneath-each true false z (y ∷ ys) = omega (arith, beneath-each true false z ys)
+beneath-each false q z [] = refl
+beneath-each false q z (y ∷ ys) = omega (arith, beneath-each false q z ys)
 
-module _ (g g2 : Shape) (look look2 : ℕ → Node) (table : Table) (k c n t top : ℕ) (a b : Entry) (ok : ShapeOk g) (tree : TreeOk g look table) (j : Parted g g2 look look2 table k c n t top a b) where
+-- c is a group, and n is the head of another one; and the parent has an entry for each.
+
+module _ (g g2 : Shape) (look look2 : ℕ → Node) (table : Table) (k c n t top : ℕ) (tail : List ℕ) (a b old : Entry) (ok : ShapeOk g) (tree : TreeOk g look table) (j : Parted g g2 look look2 table k c n t top tail a b old) where
   child-in : (x l : ℕ) (e : Entry) → EntryOk g look table l e → (g.inside e.child ≡ true) × (g.level e.child ≡ l)
   child-in x l e w =
       let u = w.group.walks.1 in
       w.group.cells e.child (rw u (omega (arith, same_is e.child e.child refl)))
+
+  c-not-n : c ≢ n
+  c-not-n = old-apart g g2 k c n ok j.items.div c j.items.div.c_inside
+
+  abbrev was : Noted
+  was = record { cell = c; stamp = old.stamp; level = k; walk = c ∷ tail }
+
+  was-noted : IsNoted g look was
+  was-noted = group-noted g look table k c tail old j.old_ok j.old_child j.group_was
+
+  members-was : (y : ℕ) → g.inside y ≡ true → g.level y ≡ k → times y (c ∷ tail) ≡ same (g.head y) c
+  members-was = group-members g look table k c tail old j.old_ok j.old_child j.group_was
+
+  c-off : times c tail ≡ 0
+  c-off = head-off g look table k c tail old j.old_ok j.old_child j.group_was
+
+  n-off : times n tail ≡ 0
+  n-off = let z = not_on g look was n was-noted j.items.div.fresh in omega arith
+
+  on-tail : (y : ℕ) → 1 ≤ times y tail → IsInTail g k c tail y
+  on-tail = behind-head g look table k c tail old j.old_ok j.old_child j.group_was
 
   -- the group of another child is as it was
   grows-other : (x l : ℕ) (e : Entry) → EntryOk g look table l e → e.child ≢ c → g2.group e.child ≡ put_behind c n (g.group e.child)
@@ -449,8 +490,15 @@ module _ (g g2 : Shape) (look look2 : ℕ → Node) (table : Table) (k c n t top
   entry-other x l e w st ne =
       let v = j.items.div in
       let en = old-apart g g2 k c n ok v e.child (child-in x l e w).0 in
+      let cz = same_not c e.child (λ h. ne (sym h)) in
+      let nz = same_not n e.child (λ h. en (sym h)) in
       entry-grown g g2 look look2 table k c n t ok tree j.items x x l e st (grows-other x l e w ne) (j.below e.child ne en)
-      (λ q. ap (λ (y : ℕ). same y e.child) j.new_head ∙ same_not n e.child (λ h. en (sym h)) ∙ sym (same_not c e.child (λ h. ne (sym h)))) w
+      (λ q. ap (λ (y : ℕ). same y e.child) j.new_head ∙ nz ∙ sym cz)
+      (λ q y yn. elim (j.items.head y yn) [
+        | inl u ↦ ap (λ (z : ℕ). same z e.child) u
+        | inr u ↦ ap (λ (z : ℕ). same z e.child) u.2 ∙ nz ∙ sym (ap (λ (z : ℕ). same z e.child) u.1 ∙ cz)
+      ])
+      w
 
   -- no entry of another block leads to c
   not-c : (x l : ℕ) (es : List Entry) → (g.level c ≡ l → spans g c es ≡ 0) → Each (EntryOk g look table l) es → Each (λ e. e.child ≢ c) es
@@ -501,12 +549,10 @@ module _ (g g2 : Shape) (look look2 : ℕ → Node) (table : Table) (k c n t top
   rows-up : (x r l : ℕ) → k ≡ l + 1 → g2.inside x ≡ true → g2.level x ≡ k
       → ((y : ℕ) → g.inside y ≡ true → g.level y ≡ l → spans g y (look2 x).entries ≡ same (g2.above y k) x)
       → ((s : ℕ) → g2.placed s ≡ true → g2.carried s ≡ true → g2.at s ≢ x)
-      → Each (λ e. Among e (look c).entries) (look2 x).entries
+      → Each (EntryOk g look table l) (look2 x).entries
       → total (λ e. times r (g.below e.child)) (look2 x).entries ≡ beneath g2 (one x) r
-  rows-up x r l kl xi xl side free of =
+  rows-up x r l kl xi xl side free w =
       let v = j.items.div in
-      let dir = tree.dirs c l v.c_inside (v.c_level ∙ kl) in
-      let w = each-of (EntryOk g look table l) (look c).entries (look2 x).entries dir.entries of in
       let bk = below_k g g2 k c n ok v in
       on_bool (g.placed r)
       (λ p.
@@ -534,19 +580,20 @@ module _ (g g2 : Shape) (look look2 : ℕ → Node) (table : Table) (k c n t top
       sums-high g look table l r (look2 x).entries w p gt ∙ sym zero ∙ sym start))
       (λ p. sums-out g look table l r (look2 x).entries w p ∙ sym (beneath-out x r (v.placed r ∙ p)))
 
-  -- the rows beneath a new group of one block x
-  one-rows : (x r : ℕ) → g2.inside x ≡ true → g2.level x ≡ k → times r (g2.below x) ≡ part_rows g (look2 x) k r
+  -- the rows of a block x that is in one of the two groups
+  one-rows : (x r : ℕ) → g2.inside x ≡ true → g2.level x ≡ k
       → ((y l : ℕ) → k ≡ l + 1 → g.inside y ≡ true → g.level y ≡ l → spans g y (look2 x).entries ≡ same (g2.above y k) x)
       → ((s : ℕ) → g2.placed s ≡ true → g2.carried s ≡ true → g2.at s ≢ x)
-      → Each (λ e. Among e (look c).entries) (look2 x).entries
-      → times r (g2.below x) ≡ beneath g2 (one x) r
-  one-rows x r xi xl be side free of =
-      be ∙ on_bool (eqb k 0)
+      → ((l : ℕ) → k ≡ l + 1 → Each (EntryOk g look table l) (look2 x).entries)
+      → part_rows g (look2 x) k r ≡ beneath g2 (one x) r
+  one-rows x r xi xl side free all =
+      on_bool (eqb k 0)
       (λ q. let kz = eqb-eq _ _ q in rw q (rows-zero x r kz xi xl free))
-      (λ q. let kn = eqb-ne _ _ q in rw q (rows-up x r (k - 1) (omega arith) xi xl (λ y i lv. side y (k - 1) (omega arith) i lv) free of))
+      (λ q. let kn = eqb-ne _ _ q in rw q (rows-up x r (k - 1) (omega arith) xi xl (λ y i lv. side y (k - 1) (omega arith) i lv) free (all (k - 1) (omega arith))))
 
-  c-not-n : c ≢ n
-  c-not-n = old-apart g g2 k c n ok j.items.div c j.items.div.c_inside
+  -- the entries of c or n, which c had
+  part-entries : (x l : ℕ) → k ≡ l + 1 → Each (λ e. Among e (look c).entries) (look2 x).entries → Each (EntryOk g look table l) (look2 x).entries
+  part-entries x l kl of = let v = j.items.div in each-of (EntryOk g look table l) (look c).entries (look2 x).entries (tree.dirs c l v.c_inside (v.c_level ∙ kl)).entries of
 
   -- nobody carries a row at c or n
   free-two : (x : ℕ) → (x ≡ c) ⊎ (x ≡ n) → (s : ℕ) → g2.placed s ≡ true → g2.carried s ≡ true → g2.at s ≢ x
@@ -560,52 +607,115 @@ module _ (g g2 : Shape) (look look2 : ℕ → Node) (table : Table) (k c n t top
         | inr q ↦ old-apart g g2 k c n ok v (g.at s) (ok.stands s p1) (sym at2 ∙ e ∙ q)
       ]
 
-  one-noted : (x st : ℕ) → g2.inside x ≡ true → g2.level x ≡ k → (look2 x).stamp ≡ st → IsNoted g2 look2 (record { cell = x; stamp = st; level = k; walk = x ∷ [] })
-  one-noted x st xi xl h =
+  -- where a block hangs, seen from a block other than c and n
+  hangs : (x y l : ℕ) → x ≢ c → x ≢ n → g.inside y ≡ true → g.level y ≡ l → same (g.above y (l + 1)) x ≡ same (g2.above y (l + 1)) x
+  hangs x y l xc xn yi yl =
+      let v = j.items.div in
+      elim (v.above y (l + 1) yi (omega arith)) [
+        | inl e ↦ ap (λ (w : ℕ). same w x) (sym e)
+        | inr w ↦ (let u : same (g.above y (l + 1)) x ≡ 0 = same_not _ x (λ h. xc (sym h ∙ w.1)) in
+            let z : same (g2.above y (l + 1)) x ≡ 0 = same_not _ x (λ h. xn (sym h ∙ w.2)) in
+            u ∙ sym z)
+      ]
+
+  c-rows : (r : ℕ) → part_rows g (look2 c) k r ≡ beneath g2 (one c) r
+  c-rows r =
+      let v = j.items.div in
+      let cn = c-not-n in
+      one-rows c r (v.inside c cn ∙ v.c_inside) (v.level c cn ∙ v.c_level) (λ y l kl i lv. (sides g g2 look look2 table k c n t ok tree j.items y l kl i lv).0) (free-two c (inl refl)) (λ l kl. part-entries c l kl j.items.left)
+
+  n-rows : (r : ℕ) → part_rows g (look2 n) k r ≡ beneath g2 (one n) r
+  n-rows r =
+      let v = j.items.div in
+      one-rows n r v.new_inside v.new_level (λ y l kl i lv. (sides g g2 look look2 table k c n t ok tree j.items y l kl i lv).1) (free-two n (inr refl)) (λ l kl. part-entries n l kl j.items.right)
+
+  -- a block of the tail, which hasn't changed
+  tail-rows : (x r : ℕ) → 1 ≤ times x tail → part_rows g (look2 x) k r ≡ beneath g2 (one x) r
+  tail-rows x r h =
+      let v = j.items.div in
+      let o = on-tail x h in
+      let xn = old-apart g g2 k c n ok v x o.inside in
+      let xt : x ≢ top = (λ e. let u : g.level x ≡ g.level top = ap g.level e in let lx = o.level in let lt = j.top_level in absurd (omega arith)) in
+      let is = j.other x o.apart xn xt in
+      one-rows x r (v.inside x xn ∙ o.inside) (v.level x xn ∙ o.level)
+      (λ y l kl yi yl. ap (spans g y) is ∙ (tree.dirs x l o.inside (o.level ∙ kl)).each y yi yl ∙ hangs x y l o.apart xn yi yl ∙ ap (λ (w : ℕ). same (g2.above y w) x) (sym kl))
+      (λ s p f e.
+      let p1 = sym (v.placed s) ∙ p in
+      let f1 = sym (v.carried s) ∙ f in
+      let at2 : g2.at s ≡ g.at s = elim (v.at s p1) [ inl q ↦ q | inr y ↦ (let bad : true ≡ false = sym f1 ∙ y.2 in cc) ] in
+      let z : times x tail ≡ 0 = ap (λ (w : ℕ). times w tail) (sym e ∙ at2) ∙ j.free_tail s p1 f1 in
+      absurd (omega arith))
+      (λ l kl. subst (Each (EntryOk g look table l)) (sym is) (tree.dirs x l o.inside (o.level ∙ kl)).entries)
+
+  -- the walks of the two groups
+
+  walk-c : IsNoted g2 look2 (record { cell = c; stamp = t; level = k; walk = c ∷ [] })
+  walk-c =
       let v = j.items.div in
       let bk = below_k g g2 k c n ok v in
       let hh = v.height in
+      let cn = c-not-n in
       record {
-        walks = ([], refl, h);
+        walks = ([], refl, j.items.relinked.head_stamp);
         low = omega arith;
-        cells = λ y on. on_bool (eqb y x)
-            (λ q. let e = eqb-eq _ _ q in rw e (xi, xl))
-            (λ q. let z = same_not y x (eqb-ne _ _ q) in absurd (omega arith));
+        cells = λ y on. on_bool (eqb y c)
+            (λ q. let e = eqb-eq _ _ q in rw e (v.inside c cn ∙ v.c_inside, v.level c cn ∙ v.c_level))
+            (λ q. let z = same_not y c (eqb-ne _ _ q) in absurd (omega arith));
+      }
+
+  walk-n : IsNoted g2 look2 (record { cell = n; stamp = old.stamp; level = k; walk = n ∷ tail })
+  walk-n =
+      let w : IsNoted g2 look2 (grown c n was) = noted-divided g g2 look k c n ok j.items.div look2 t was j.items.relinked j.old_stamp was-noted in
+      let is : put_behind c n (c ∷ tail) ≡ c ∷ n ∷ tail = put_behind-at c n c tail (eqb-self c) ∙ ap (λ (ws : List ℕ). c ∷ n ∷ ws) (put_behind-none c n tail c-off) in
+      record {
+        walks = (tail, refl, walk-behind look2 c n old.stamp tail (subst (IsWalk look2 c old.stamp) is w.walks));
+        low = w.low;
+        cells = λ y on. w.cells y (let u = ap (times y) is in omega arith);
       }
 
   entry-a : EntryOk g2 look2 table k a
   entry-a =
       let v = j.items.div in
       let cn = c-not-n in
-      let ci : g2.inside c ≡ true = v.inside c cn ∙ v.c_inside in
-      let cl : g2.level c ≡ k = v.level c cn ∙ v.c_level in
       record {
-        group = rw (j.a_child, j.a_stamp, j.group_c) (one-noted c t ci cl j.items.relinked.head_stamp);
+        group = rw (j.a_child, j.a_stamp, j.group_c) walk-c;
         members = λ y i lv. rw (j.a_child, j.group_c) (on_bool (eqb y n)
             (λ q. let e = eqb-eq _ _ q in rw (e, j.new_head) (omega arith))
-            (λ q. let yn = eqb-ne _ _ q in
-            let m = j.alone y (before g g2 k c n ok v y yn i) (sym (v.level y yn) ∙ lv) in
-            rw (j.items.head y yn) (omega arith)));
-        rows = λ r. rw (j.a_child, j.group_c) (one-rows c r ci cl (j.below_c r) (λ y l kl i lv. (sides g g2 look look2 table k c n t ok tree j.items y l kl i lv).0) (free-two c (inl refl)) j.items.left);
+            (λ q. let yn = eqb-ne _ _ q in on_bool (leb 1 (times y tail))
+            (λ z. let h = leb-le _ _ z in
+            let s1 = same_not y c (on-tail y h).apart in
+            let s2 : same (g2.head y) c ≡ 0 = ap (λ (w : ℕ). same w c) (j.tail_head y h) ∙ same_not n c (λ e. cn (sym e)) in
+            omega arith)
+            (λ z. let gt = leb-gt _ _ z in
+            let zero : times y tail ≡ 0 = omega arith in
+            let m = members-was y (before g g2 k c n ok v y yn i) (sym (v.level y yn) ∙ lv) in
+            rw (j.other_head y yn zero) (omega arith))));
+        rows = λ r. rw (j.a_child, j.group_c) (j.below_c r ∙ c-rows r);
         summary = subst (λ (y : ℕ). IsSumOf table (g2.below y) a) (sym j.a_child) j.a_sum;
       }
 
   entry-b : EntryOk g2 look2 table k b
   entry-b =
       let v = j.items.div in
-      let cn = c-not-n in
       record {
-        group = rw (j.b_child, j.b_stamp, j.group_n) (one-noted n (look c).stamp v.new_inside v.new_level j.items.relinked.new_stamp);
+        group = rw (j.b_child, j.b_stamp, j.group_n) walk-n;
         members = λ y i lv. rw (j.b_child, j.group_n) (on_bool (eqb y n)
-            (λ q. let e = eqb-eq _ _ q in rw (e, j.new_head) (omega arith))
+            (λ q. let e = eqb-eq _ _ q in let z : times y tail ≡ 0 = ap (λ (w : ℕ). times w tail) e ∙ n-off in rw (e, j.new_head) (omega arith))
             (λ q. let yn = eqb-ne _ _ q in
-            let yi = before g g2 k c n ok v y yn i in
-            let yl : g.level y ≡ k = sym (v.level y yn) ∙ lv in
-            let hn : g.head y ≢ n = old-apart g g2 k c n ok v _ (tree.heads y yi) in
             let z1 = same_not y n yn in
+            on_bool (leb 1 (times y tail))
+            (λ z. let h = leb-le _ _ z in
+            let once = (on-tail y h).once in
+            let s : same (g2.head y) n ≡ 1 = same_is _ _ (j.tail_head y h) in
+            omega arith)
+            (λ z. let gt = leb-gt _ _ z in
+            let zero : times y tail ≡ 0 = omega arith in
+            let hn : g.head y ≢ n = old-apart g g2 k c n ok v _ (tree.heads y (before g g2 k c n ok v y yn i)) in
             let z2 = same_not (g.head y) n hn in
-            rw (j.items.head y yn) (omega arith)));
-        rows = λ r. rw (j.b_child, j.group_n) (one-rows n r v.new_inside v.new_level (j.below_n r) (λ y l kl i lv. (sides g g2 look look2 table k c n t ok tree j.items y l kl i lv).1) (free-two n (inr refl)) j.items.right);
+            rw (j.other_head y yn zero) (omega arith))));
+        rows = λ r. rw (j.b_child, j.group_n) (j.below_n r
+            ∙ total-same (λ y. part_rows g (look2 y) k r) (λ y. beneath g2 (one y) r) (n ∷ tail) (n-rows r, each-cell (λ y. part_rows g (look2 y) k r ≡ beneath g2 (one y) r) tail (λ y h. tail-rows y r h))
+            ∙ beneath-each (g2.placed r) (leb (g2.level (g2.at r)) k) (g2.above (g2.at r) k) (n ∷ tail));
         summary = subst (λ (y : ℕ). IsSumOf table (g2.below y) b) (sym j.b_child) j.b_sum;
       }
 
@@ -626,8 +736,8 @@ module _ (g g2 : Shape) (look look2 : ℕ → Node) (table : Table) (k c n t top
       (λ q. let e1 = eqb-eq _ _ q in
       let z = same_not y n yn in
       let ga : times y (g2.group a.child) ≡ same y c + 0 = rw (j.a_child, j.group_c) refl in
-      let gb : times y (g2.group b.child) ≡ same y n + 0 = rw (j.b_child, j.group_n) refl in
-      let ge : times y (g.group e.child) ≡ same y c + 0 = rw (e1, j.group_was) refl in
+      let gb : times y (g2.group b.child) ≡ same y n + times y tail = rw (j.b_child, j.group_n) refl in
+      let ge : times y (g.group e.child) ≡ same y c + times y tail = rw (e1, j.group_was) refl in
       rw (parted-at c a b e es q) (omega arith))
       (λ q. let gr = grows-other top l e w.0 (eqb-ne _ _ q) in
       let s : times y (g2.group e.child) ≡ times y (g.group e.child) = ap (times y) gr ∙ times-put_behind_other c n y (g.group e.child) yn in
@@ -645,24 +755,15 @@ module _ (g g2 : Shape) (look look2 : ℕ → Node) (table : Table) (k c n t top
       let o = same_is n n refl in
       let o2 = same_is c c refl in
       let ga : times n (g2.group a.child) ≡ same n c + 0 = rw (j.a_child, j.group_c) refl in
-      let gb : times n (g2.group b.child) ≡ same n n + 0 = rw (j.b_child, j.group_n) refl in
-      let ge : times c (g.group e.child) ≡ same c c + 0 = rw (e1, j.group_was) refl in
+      let gb : times n (g2.group b.child) ≡ same n n + times n tail = rw (j.b_child, j.group_n) refl in
+      let ge : times c (g.group e.child) ≡ same c c + times c tail = rw (e1, j.group_was) refl in
+      let zc = c-off in
+      let zn = n-off in
       rw (parted-at c a b e es q) (omega arith))
       (λ q. let gr = grows-other top l e w.0 (eqb-ne _ _ q) in
       let none = not_on g look (noted_of g l e) n w.0.group v.fresh in
       let s : times n (g2.group e.child) ≡ times c (g.group e.child) + times n (g.group e.child) = ap (times n) gr ∙ times-put_behind_new c n (g.group e.child) cn in
       rw (parted-past c a b e es q) (omega arith))
-
-  -- where a block hangs, seen from a block other than c and n
-  hangs : (x y l : ℕ) → x ≢ c → x ≢ n → g.inside y ≡ true → g.level y ≡ l → same (g.above y (l + 1)) x ≡ same (g2.above y (l + 1)) x
-  hangs x y l xc xn yi yl =
-      let v = j.items.div in
-      elim (v.above y (l + 1) yi (omega arith)) [
-        | inl e ↦ ap (λ (w : ℕ). same w x) (sym e)
-        | inr w ↦ (let u : same (g.above y (l + 1)) x ≡ 0 = same_not _ x (λ h. xc (sym h ∙ w.1)) in
-            let z : same (g2.above y (l + 1)) x ≡ 0 = same_not _ x (λ h. xn (sym h ∙ w.2)) in
-            u ∙ sym z)
-      ]
 
   top-dir : (l : ℕ) → l ≡ k → top ≢ c → top ≢ n → DirOk g2 look2 table top l
   top-dir l lk tc tn =

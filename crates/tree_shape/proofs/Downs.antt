@@ -6,7 +6,7 @@ use Rattle.tree_shape.specs.Queries.{QueryOk, fits}
 use Rattle.tree_shape.specs.Shape.{Node, Shape, Table}
 use Rattle.tree_shape.specs.Trees.{TreeOk}
 use Rattle.tree_shape.specs.Walks.{Noted}
-use Rattle.tree_shape.proofs.Relations.{Divided, DividedItems, DownJoined, Grew, Joined, Lowered, LoweredTree, NoneExpects, NoneHas, Relinked, SameLinks, all_grown, lower, made, put_behind, settles}
+use Rattle.tree_shape.proofs.Relations.{Divided, DividedItems, DownJoined, Grew, Joined, Lowered, LoweredTree, NoneExpects, NoneHas, Relinked, SameLinks, all_grown, heads_with, lower, made, put_behind, settles}
 use Rattle.tree_shape.proofs.Walks.{on_bool, eqb-eq, eqb-ne, eqb-no, eqb-self}
 use Rattle.tree_shape.proofs.Queries.{apart, query-divided, query-lowered}
 use Rattle.tree_shape.proofs.Divisions.{tree-joined, each-of}
@@ -20,7 +20,7 @@ module _ (g : Shape) (look look3 : ℕ → Node) (table : Table) (k c n t r : �
   look2 y = cond (eqb y (g.at r)) (look (g.at r)) (look3 y)
 
   abbrev g2 : Shape
-  g2 = made g k c n (look2 n) c (λ h. put_behind c n (g.group h)) g.below
+  g2 = made g k c n (look2 n) (heads_with g n c) (λ h. put_behind c n (g.group h)) g.below
 
   abbrev pub g3 : Shape
   g3 = lower g2 r c
@@ -66,7 +66,7 @@ module _ (g : Shape) (look look3 : ℕ → Node) (table : Table) (k c n t r : �
   entries2 f = rw (off c c_top, off n n_top) (d.entries f)
 
   divided : Divided g g2 k c n
-  divided = divided-made g look look2 table k c n c (λ h. put_behind c n (g.group h)) g.below tree d.c_inside d.c_level d.fresh rows2 entries2
+  divided = divided-made g look look2 table k c n (heads_with g n c) (λ h. put_behind c n (g.group h)) g.below tree d.c_inside d.c_level d.fresh rows2 entries2
 
   items : DividedItems g g2 look look2 k c n t
   items = record {
@@ -75,20 +75,21 @@ module _ (g : Shape) (look look3 : ℕ → Node) (table : Table) (k c n t r : �
     waits = d.waits;
     free = d.free;
     c_head = d.c_head;
-    head = λ y h. rw (eqb-no y n h) refl;
+    head = λ y h. inl (rw (eqb-no y n h) refl);
     rows = rows2;
     entries = entries2;
     left = rw (off c c_top) d.left;
     right = rw (off n n_top) d.right;
     other_rows = λ y yc yn. ap (λ (b : Node). b.rows) (kept y yc yn);
-    at_right = at_right-made g look look2 table k c n c (λ h. put_behind c n (g.group h)) g.below tree d.c_inside d.c_level d.fresh rows2 entries2;
-    above_right = above_right-made g look look2 table k c n c (λ h. put_behind c n (g.group h)) g.below tree d.c_inside d.c_level d.fresh rows2 entries2;
+    at_right = at_right-made g look look2 table k c n (heads_with g n c) (λ h. put_behind c n (g.group h)) g.below tree d.c_inside d.c_level d.fresh rows2 entries2;
+    above_right = above_right-made g look look2 table k c n (heads_with g n c) (λ h. put_behind c n (g.group h)) g.below tree d.c_inside d.c_level d.fresh rows2 entries2;
   }
 
   joined : Joined g g2 look look2 k c n t
   joined = record {
     items = items;
     new_head = rw (eqb-self n) refl;
+    head = λ y h. rw (eqb-no y n h) refl;
     group = λ h. refl;
     below = λ h. refl;
     other = λ y yc yn. ap (λ (b : Node). b.entries) (kept y yc yn);
@@ -166,7 +167,7 @@ module _ (g : Shape) (look look3 : ℕ → Node) (table : Table) (k c n t r : �
     height = refl;
     inside = λ y f. divided.inside y (grew-n y f);
     level = λ y f. divided.level y (grew-n y f);
-    head = λ y f. items.head y (grew-n y f);
+    head = λ y f e. joined.head y (grew-n y f) ∙ e;
     new = λ y f. let e = eqb-eq _ _ f in rw e (d.fresh, divided.new_inside, divided.new_level);
     placed = λ q. refl;
     carried = λ q. refl;
@@ -174,7 +175,7 @@ module _ (g : Shape) (look look3 : ℕ → Node) (table : Table) (k c n t r : �
     at = λ q ne p f. let no : settles g c (look2 n).rows q ≡ false = rw (p, f) refl in rw (eqb-no q r ne, no) refl;
     x_in = divided.inside c c_n ∙ d.c_inside;
     x_level = divided.level c c_n ∙ d.c_level;
-    x_head = items.head c c_n ∙ d.c_head;
+    x_head = joined.head c c_n ∙ d.c_head;
   }
 
   pub stamps-down : (u : ℕ) → u ≢ t → NoneHas g look u → NoneHas g3 look3 u

@@ -1,6 +1,6 @@
 -- A row comes down from a directory onto the head of an entry's group: the words of the calls' contracts, put as relations
 -- of nodes
-use Rattle.std.proofs.Common.{◌≡◌, ◌≢◌, ℕ, ◌+◌, ◌-◌, ◌≤◌, ◌⊎◌, true, false, eqb, List, [], ◌∷◌, ◌++◌, refl, sym, ap, ◌∙◌, subst, arith}
+use Rattle.std.proofs.Common.{◌≡◌, ◌≢◌, ℕ, ◌+◌, ◌-◌, ◌≤◌, ◌⊎◌, true, false, eqb, leb, List, [], ◌∷◌, ◌++◌, map, refl, sym, ap, ◌∙◌, subst, arith}
 use Rattle.std.specs.Prelude.{Some}
 use Rattle.dim_hierarchy.specs.Row.{IsRowOf}
 use Rattle.dc_node.specs.Block.{rows_in, entries_in, is_leaf}
@@ -8,16 +8,21 @@ use Rattle.dc_node.specs.declared.block.Body.{Body}
 use Rattle.dc_node.specs.declared.block.Body.TheVariants.{Rows, Entries}
 use Rattle.dc_node.specs.Summary.{IsSummary}
 use Rattle.dc_node.specs.Entry.{IsWithRow}
-use Rattle.link_descent.specs.Descend.{IsEntryOf}
+use Rattle.link_descent.specs.Divide.{together}
+use Rattle.link_descent.specs.Descend.{IsEntryOf, IsGroupEntry}
 use Rattle.dc_node.specs.declared.block.Block.{Block}
 use Rattle.dc_node.specs.declared.entry.Entry.{Entry}
 use Rattle.dim_hierarchy.specs.declared.row.Row.{Row}
 use Rattle.tree_shape.specs.Counts.{Among, Each, times, total}
 use Rattle.tree_shape.specs.Shape.{Node, Shape, Table, node_of, numbers}
-use Rattle.tree_shape.specs.Trees.{EntryOk, TreeOk, lies}
-use Rattle.tree_shape.proofs.Relations.{CutUnder, DownJoined, DownParted, DownPassed, IsSumOf, NoneHas, Relinked, Touch, Touched, parted, rows_of}
+use Rattle.tree_shape.specs.Trees.{BlockOk, EntryOk, TreeOk, lies}
+use Rattle.tree_shape.proofs.Relations.{CutUnder, DownJoined, DownParted, DownPassed, IsSumOf, NoneHas, Relinked, Touch, Touched, group_rows, parted, rows_of}
 use Rattle.tree_shape.proofs.Walks.{on_bool, eqb-eq, eqb-ne, same_is}
+use Rattle.tree_shape.proofs.Queries.{apart, leb-le, leb-gt}
+use Rattle.tree_shape.proofs.Parts.{each-right}
 use Rattle.tree_shape.proofs.Sums.{sum-block}
+use Rattle.tree_shape.proofs.Tails.{IsInTail, behind-head, each-cell}
+use Rattle.tree_shape.proofs.Groups.{sum-group}
 use Rattle.tree_shape.proofs.Contents.{ArePartsOf}
 use Rattle.tree_shape.proofs.Divisions.{each-of, each-map}
 use Rattle.tree_shape.proofs.Onto.{child_in, child_head, child_above, entry_ok, touched-one, touched-two}
@@ -38,6 +43,20 @@ leaf-valid g look table c block tree ci cl is named valid = go (rows_in block.bo
 
     go : (rows : List Row) → Each (λ r. table.row r.no ≡ r) rows → ((q : ℕ) → times q (numbers rows) ≡ lies g c q) → Each (IsRowOf table.hierarchy) rows
     go rows n h = all rows n (λ q k. let e = h q in there q (omega arith))
+
+-- what the entries of a block of the tree say is beneath them
+pub entry-sums : (g : Shape) (look : ℕ → Node) (table : Table) (y k : ℕ) (block : Block) → TreeOk g look table → g.inside y ≡ true → g.level y ≡ k → look y ≡ node_of block → is_leaf block.body ≡ eqb k 0
+    → Each (λ x. IsSumOf table (g.below x.child) x) (entries_in block.body)
+entry-sums g look table y k block tree yi yl is kind = on_bool (eqb k 0)
+    (λ q. none block.body (kind ∙ q))
+    (λ q. let z = eqb-ne _ _ q in
+    let lv : g.level y ≡ (k - 1) + 1 = omega arith in
+    subst (λ (x : Node). Each (λ x. IsSumOf table (g.below x.child) x) x.entries) is
+    (each-map (EntryOk g look table (k - 1)) (λ x. IsSumOf table (g.below x.child) x) (look y).entries (λ x w. w.summary) (tree.dirs y (k - 1) yi lv).entries))
+  where
+    none : (body : Body) → is_leaf body ≡ true → Each (λ x. IsSumOf table (g.below x.child) x) (entries_in body)
+    none (Rows rows) h = tt
+    none (Entries entries) h = cc
 
 module _ (g : Shape) (look look3 : ℕ → Node) (table : Table) (tree : TreeOk g look table) (r p k : ℕ)
     (placed : g.placed r ≡ true) (carried : g.carried r ≡ true) (at : g.at r ≡ p) (numbered : IsRowOf table.hierarchy (table.row r)) (pl : g.level p ≡ k + 1)
@@ -138,32 +157,72 @@ module _ (g : Shape) (look look3 : ℕ → Node) (table : Table) (tree : TreeOk 
       other = λ y yc yn yt. other y yc yn (λ q. yt (q ∙ sym at));
     }
 
-    module _ (kind : is_leaf old.body ≡ eqb k 0) (named : Each (λ r. table.row r.no ≡ r) (rows_in old.body)) (valid : (q : ℕ) → g.placed q ≡ true → IsRowOf table.hierarchy (table.row q)) where
+    module _ (kind : is_leaf old.body ≡ eqb k 0) (named : Each (λ r. table.row r.no ≡ r) (rows_in old.body)) (valid : (q : ℕ) → g.placed q ≡ true → IsRowOf table.hierarchy (table.row q))
+        (tail : List ℕ) (group : g.group c ≡ c ∷ tail) (block : ℕ → Block) (tail_is : (y : ℕ) → 1 ≤ times y tail → look y ≡ node_of (block y)) (tail_ok : (y : ℕ) → 1 ≤ times y tail → BlockOk table g y (block y))
+        (heads : (q : ℕ) → q ≢ r → g.placed q ≡ true → g.carried q ≡ true → g.head (g.at q) ≡ g.at q) where
+      -- the head and the new block
+
       old-valid : k ≡ 0 → Each (IsRowOf table.hierarchy) (rows_in old.body)
       old-valid z = leaf-valid g look table c old tree c_in.0 (c_in.1 ∙ z) old_is named valid
 
       old-sums : Each (λ x. IsSumOf table (g.below x.child) x) (look c).entries
-      old-sums = on_bool (eqb k 0)
-          (λ q. rw old_is (no-entries old.body (kind ∙ q)))
-          (λ q. let z = eqb-ne _ _ q in
-          let lv : g.level c ≡ (k - 1) + 1 = (let w = c_in.1 in omega arith) in
-          each-map (EntryOk g look table (k - 1)) (λ x. IsSumOf table (g.below x.child) x) (look c).entries (λ x w. w.summary) (tree.dirs c (k - 1) c_in.0 lv).entries)
-        where
-          no-entries : (body : Body) → is_leaf body ≡ true → Each (λ x. IsSumOf table (g.below x.child) x) (entries_in body)
-          no-entries (Rows rows) h = tt
-          no-entries (Entries entries) h = cc
+      old-sums = rw old_is (entry-sums g look table c k old tree c_in.0 c_in.1 old_is kind)
 
-      part-sum : (block : Block) (y : ℕ) (a : Entry) → look3 y ≡ node_of block → is_leaf block.body ≡ is_leaf old.body → Each (λ x. Among x (rows_in old.body)) (rows_in block.body)
-          → Each (λ x. Among x (look c).entries) (look3 y).entries → IsSummary table.hierarchy block.body a.agg a.set → IsSumOf table (rows_of g (look3 y) k) a
-      part-sum block y a bi same_kind rows entries s =
-          rw bi (sum-block g table k block a (same_kind ∙ kind)
-          (each-of (λ r. table.row r.no ≡ r) (rows_in old.body) (rows_in block.body) named rows)
-          (λ z. each-of (IsRowOf table.hierarchy) (rows_in old.body) (rows_in block.body) (old-valid z) rows)
-          (subst (λ (x : Node). Each (λ x. IsSumOf table (g.below x.child) x) x.entries) bi (each-of (λ x. IsSumOf table (g.below x.child) x) (look c).entries (look3 y).entries old-sums entries)) s)
+      part-named : (rows : List Row) → Each (λ x. Among x (rows_in old.body)) rows → Each (λ r. table.row r.no ≡ r) rows
+      part-named rows h = each-of (λ r. table.row r.no ≡ r) (rows_in old.body) rows named h
 
-      pub splits : (x : ℕ) (a b a2 b2 : Entry) → e.stamp ≡ old.stamp → IsEntryOf table.hierarchy c head a → IsEntryOf table.hierarchy n new b
+      part-valid : (rows : List Row) → Each (λ x. Among x (rows_in old.body)) rows → k ≡ 0 → Each (IsRowOf table.hierarchy) rows
+      part-valid rows h z = each-of (IsRowOf table.hierarchy) (rows_in old.body) rows (old-valid z) h
+
+      part-sums : (body : Body) (y : ℕ) → (look3 y).entries ≡ entries_in body → Each (λ x. Among x (look c).entries) (look3 y).entries → Each (λ x. IsSumOf table (g.below x.child) x) (entries_in body)
+      part-sums body y bi h = subst (Each (λ (x : Entry). IsSumOf table (g.below x.child) x)) bi (each-of (λ x. IsSumOf table (g.below x.child) x) (look c).entries (look3 y).entries old-sums h)
+
+      head-sum : (a : Entry) → IsSummary table.hierarchy head.body a.agg a.set → IsSumOf table (rows_of g (look3 c) k) a
+      head-sum a s = rw head_is
+          (sum-block g table k head a (parts.left_kind ∙ kind) (part-named (rows_in head.body) parts.left_rows) (part-valid (rows_in head.body) parts.left_rows)
+          (part-sums head.body c (ap (λ (x : Node). x.entries) head_is) part-left) s)
+
+      -- the blocks behind the head, which stay as they are
+
+      on-tail : (y : ℕ) → 1 ≤ times y tail → IsInTail g k c tail y
+      on-tail = behind-head g look table k c tail e (entry_ok g look table tree p k p_in pl e before behind is) refl group
+
+      tail_look : (y : ℕ) → 1 ≤ times y tail → look3 y ≡ node_of (block y)
+      tail_look y h =
+          let o = on-tail y h in
+          let yn : y ≢ n = apart g y n o.inside fresh in
+          let yp : y ≢ p = (λ q. let u : g.level y ≡ g.level p = ap g.level q in let v = o.level in absurd (omega arith)) in
+          other y o.apart yn yp ∙ tail_is y h
+
+      tail_kind : (y : ℕ) → 1 ≤ times y tail → is_leaf (block y).body ≡ eqb k 0
+      tail_kind y h = (tail_ok y h).kind ∙ ap (λ l. eqb l 0) (on-tail y h).level
+
+      tail_valid : (y : ℕ) → 1 ≤ times y tail → k ≡ 0 → Each (IsRowOf table.hierarchy) (rows_in (block y).body)
+      tail_valid y h z = let o = on-tail y h in leaf-valid g look table y (block y) tree o.inside (o.level ∙ z) (tail_is y h) (tail_ok y h).rows valid
+
+      tail_sums : (y : ℕ) → 1 ≤ times y tail → Each (λ x. IsSumOf table (g.below x.child) x) (entries_in (block y).body)
+      tail_sums y h = let o = on-tail y h in entry-sums g look table y k (block y) tree o.inside o.level (tail_is y h) (tail_kind y h)
+
+      new-sum : (b : Entry) → IsSummary table.hierarchy (together new.body (map block tail)) b.agg b.set → IsSumOf table (group_rows g look3 k (n ∷ tail)) b
+      new-sum b s = sum-group g look3 table k n new block tail b new_is (parts.right_kind ∙ kind)
+          (each-cell (λ y. look3 y ≡ node_of (block y)) tail tail_look)
+          (part-named (rows_in new.body) parts.right_rows) (each-cell (λ y. Each (λ r. table.row r.no ≡ r) (rows_in (block y).body)) tail (λ y h. (tail_ok y h).rows))
+          (part-valid (rows_in new.body) parts.right_rows) (λ z. each-cell (λ y. Each (IsRowOf table.hierarchy) (rows_in (block y).body)) tail (λ y h. tail_valid y h z))
+          (part-sums new.body n (ap (λ (x : Node). x.entries) new_is) part-right) (each-cell (λ y. Each (λ x. IsSumOf table (g.below x.child) x) (entries_in (block y).body)) tail tail_sums) s
+
+      tail_free : (q : ℕ) → g.placed q ≡ true → g.carried q ≡ true → times (g.at q) tail ≡ 0
+      tail_free q pq cq = on_bool (leb 1 (times (g.at q) tail))
+          (λ z. let o = on-tail (g.at q) (leb-le _ _ z) in on_bool (eqb q r)
+          (λ u. let l : g.level (g.at q) ≡ g.level p = ap g.level (ap g.at (eqb-eq _ _ u) ∙ at) in let v = o.level in absurd (omega arith))
+          (λ u. absurd (o.apart (sym (heads q (eqb-ne _ _ u) pq cq) ∙ o.head))))
+          (λ z. let gt = leb-gt _ _ z in omega arith)
+
+      unexpected : e.stamp ≢ t
+      unexpected = (each-right (λ (x : Entry). x.stamp ≢ t) before (e ∷ behind) (subst (Each (λ (x : Entry). x.stamp ≢ t)) is (unused p k p_in pl))).0
+
+      pub splits : (x : ℕ) (a b a2 b2 : Entry) → IsEntryOf table.hierarchy c head a → IsGroupEntry table.hierarchy n e.stamp new (map block tail) b
           → Touch table r x a a2 → Touch table r x b b2 → (x ≡ c) ⊎ (x ≡ n) → (look3 p).entries ≡ (before ++ a2 ∷ b2 ∷ []) ++ behind → DownParted g look look3 table k c n t r x a b e
-      splits x a b a2 b2 one ea eb ta tb which i = record {
+      splits x a b a2 b2 ea eb ta tb which i = record {
         r_placed = placed;
         r_carried = carried;
         c_inside = c_in.0;
@@ -181,13 +240,16 @@ module _ (g : Shape) (look look3 : ℕ → Node) (table : Table) (tree : TreeOk 
         right = part-right;
         old_ok = entry_ok g look table tree p k p_in pl e before behind is;
         old_child = refl;
-        one_block = one ∙ sym (ap (λ (x : Node). x.stamp) old_is);
+        old_stamp = unexpected;
+        tail = tail;
+        group = group;
+        free_tail = tail_free;
         a_child = ea.child;
         a_stamp = ea.stamp ∙ head_stamp;
-        a_sum = part-sum head c a head_is parts.left_kind parts.left_rows part-left ea.summary;
+        a_sum = head-sum a ea.summary;
         b_child = eb.child;
-        b_stamp = eb.stamp ∙ new_stamp ∙ sym (ap (λ (x : Node). x.stamp) old_is);
-        b_sum = part-sum new n b new_is parts.right_kind parts.right_rows part-right eb.summary;
+        b_stamp = eb.stamp;
+        b_sum = new-sum b eb.summary;
         chosen = which;
         top = subst (λ y. Touched table r x (parted c a b (look y).entries) (look3 y).entries) (sym at) (rw i (touched-two g look table tree p k p_in pl e before behind is r n x a b a2 b2 fresh ta tb which));
         numbered = numbered;
@@ -196,8 +258,8 @@ module _ (g : Shape) (look look3 : ℕ → Node) (table : Table) (tree : TreeOk 
       }
 
       -- the same, where no row moves
-      pub cuts-under : (a b : Entry) → e.stamp ≡ old.stamp → IsEntryOf table.hierarchy c head a → IsEntryOf table.hierarchy n new b → (look3 p).entries ≡ parted c a b (look p).entries → CutUnder g look look3 table k c n t p a b e
-      cuts-under a b one ea eb i = record {
+      pub cuts-under : (a b : Entry) → IsEntryOf table.hierarchy c head a → IsGroupEntry table.hierarchy n e.stamp new (map block tail) b → (look3 p).entries ≡ parted c a b (look p).entries → CutUnder g look look3 table k c n t p a b e
+      cuts-under a b ea eb i = record {
         p_inside = p_in;
         p_level = pl;
         c_inside = c_in.0;
@@ -214,13 +276,16 @@ module _ (g : Shape) (look look3 : ℕ → Node) (table : Table) (tree : TreeOk 
         right = part-right;
         old_ok = entry_ok g look table tree p k p_in pl e before behind is;
         old_child = refl;
-        one_block = one ∙ sym (ap (λ (x : Node). x.stamp) old_is);
+        old_stamp = unexpected;
+        tail = tail;
+        group = group;
+        free_tail = tail_free;
         a_child = ea.child;
         a_stamp = ea.stamp ∙ head_stamp;
-        a_sum = part-sum head c a head_is parts.left_kind parts.left_rows part-left ea.summary;
+        a_sum = head-sum a ea.summary;
         b_child = eb.child;
-        b_stamp = eb.stamp ∙ new_stamp ∙ sym (ap (λ (x : Node). x.stamp) old_is);
-        b_sum = part-sum new n b new_is parts.right_kind parts.right_rows part-right eb.summary;
+        b_stamp = eb.stamp;
+        b_sum = new-sum b eb.summary;
         top = i;
         other_rows = λ y yc yn. on_bool (eqb y p)
             (λ q. let z = eqb-eq _ _ q in rw z top_rows)

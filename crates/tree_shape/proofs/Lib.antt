@@ -4,6 +4,8 @@ pub mod Walks
 pub mod Sums
 pub mod Queries
 pub mod Visits
+pub mod Tails
+pub mod Groups
 pub mod Contents
 pub mod Rows
 pub mod Trees
@@ -34,6 +36,8 @@ pub mod Collects
 pub mod Worked
 pub mod CityFacts
 pub mod Cities
+pub mod HeadFacts
+pub mod HeadCuts
 pub mod Comes
 pub mod Storeys
 pub mod Forests

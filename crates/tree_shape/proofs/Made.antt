@@ -17,12 +17,12 @@ unless_then : (a b : Bool) → cond a false b ≡ true → (a ≡ false) × (b �
 unless_then true b h = cc
 unless_then false b h = (refl, h)
 
-module _ (g : Shape) (look look2 : ℕ → Node) (table : Table) (k c n : ℕ) (nh : ℕ) (groups belows : ℕ → List ℕ) (tree : TreeOk g look table)
+module _ (g : Shape) (look look2 : ℕ → Node) (table : Table) (k c n : ℕ) (heads : ℕ → ℕ) (groups belows : ℕ → List ℕ) (tree : TreeOk g look table)
     (ci : g.inside c ≡ true) (cl : g.level c ≡ k) (fresh : g.inside n ≡ false)
     (rows : (r : ℕ) → times r (look c).rows ≡ times r (look2 c).rows + times r (look2 n).rows)
     (entries : (f : Entry → ℕ) → total f (look c).entries ≡ total f (look2 c).entries + total f (look2 n).entries) where
   abbrev g2 : Shape
-  g2 = made g k c n (look2 n) nh groups belows
+  g2 = made g k c n (look2 n) heads groups belows
 
   not-n : (y : ℕ) → g.inside y ≡ true → y ≢ n
   not-n y i = apart g y n i fresh

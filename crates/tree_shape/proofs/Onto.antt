@@ -6,7 +6,7 @@ use Rattle.tree_shape.specs.Counts.{Each, same, times}
 use Rattle.tree_shape.specs.Shape.{Node, Shape, Table}
 use Rattle.tree_shape.specs.Trees.{DirOk, EntryOk, TreeOk}
 use Rattle.tree_shape.proofs.Relations.{Touch, Touched, parted}
-use Rattle.tree_shape.proofs.Walks.{on_bool, eqb-eq, eqb-ne, same_is, same_not, eqb-no, eqb-yes}
+use Rattle.tree_shape.proofs.Walks.{on_bool, eqb-eq, eqb-ne, same_is, same_not, same-le, eqb-no, eqb-yes}
 use Rattle.tree_shape.proofs.Visits.{spans}
 use Rattle.tree_shape.proofs.Parts.{total-append, each-left, each-right}
 
@@ -65,9 +65,6 @@ module _ (g : Shape) (look : ℕ → Node) (table : Table) (tree : TreeOk g look
 
   spread : spans g e.child before + (times e.child (g.group e.child) + spans g e.child behind) ≡ same (g.above e.child (k + 1)) p
   spread = sym (total-append (λ x. times e.child (g.group x.child)) before (e ∷ behind)) ∙ ap (spans g e.child) (sym is) ∙ dir.each e.child child_in.0 child_in.1
-
-  same-le : (a b : ℕ) → same a b ≤ 1
-  same-le a b = on_bool (eqb a b) (λ q. rw q (omega arith)) (λ q. rw q (omega arith))
 
   pub child_above : g.above e.child (k + 1) ≡ p
   child_above =

@@ -21,6 +21,10 @@ pub total-map : {A B : Type 0} (f : B → ℕ) (g : A → B) (xs : List A) → t
 total-map f g [] = refl
 total-map f g (x ∷ xs) = ap (λ n. f (g x) + n) (total-map f g xs)
 
+pub total-same : {A : Type 0} (f h : A → ℕ) (xs : List A) → Each (λ x. f x ≡ h x) xs → total f xs ≡ total h xs
+total-same f h [] e = refl
+total-same f h (x ∷ xs) e = omega (arith, e.0, total-same f h xs e.1)
+
 pub among-left : {A : Type 0} (xs ys : List A) (x : A) → Among x xs → Among x (xs ++ ys)
 among-left [] ys x h = absurd h
 among-left (z ∷ xs) ys x h = elim h [ inl e ↦ inl e | inr w ↦ inr (among-left xs ys x w) ]
@@ -70,7 +74,7 @@ on-option : {A : Type 0} {P : Type 0} → (o : Option A) → (o ≡ None → P) 
 on-option None a b = a refl
 on-option (Some x) a b = b x refl
 
-total-items : {A : Type 0} (f : A → ℕ) (xs : List A) (ps : List ℕ) → total f (items_at xs ps) ≡ total (λ p. or_zero f (slice_get xs p)) ps
+pub total-items : {A : Type 0} (f : A → ℕ) (xs : List A) (ps : List ℕ) → total f (items_at xs ps) ≡ total (λ p. or_zero f (slice_get xs p)) ps
 total-items f xs [] = refl
 total-items f xs (p ∷ ps) =
     let ih = total-items f xs ps in
@@ -82,7 +86,7 @@ total-next : (h : ℕ → ℕ) (a n : ℕ) → total h (range_with_len (a + 1) n
 total-next h a zero = refl
 total-next h a (suc n) = let e = ap h (add-one a) in omega (arith, total-next h (a + 1) n)
 
-total-range : {A : Type 0} (f : A → ℕ) (xs : List A) → total (λ p. or_zero f (slice_get xs p)) (range_with_len 0 (length xs)) ≡ total f xs
+pub total-range : {A : Type 0} (f : A → ℕ) (xs : List A) → total (λ p. or_zero f (slice_get xs p)) (range_with_len 0 (length xs)) ≡ total f xs
 total-range f [] = refl
 total-range f (x ∷ xs) =
     let e = total-next (λ p. or_zero f (slice_get (x ∷ xs) p)) 0 (length xs) in

@@ -69,7 +69,7 @@ module _ (g : Shape) (look look3 : ℕ → Node) (table : Table) (k c r : ℕ) (
     height = refl;
     inside = λ y f. refl;
     level = λ y f. refl;
-    head = λ y f. refl;
+    head = λ y f e. e;
     new = λ y f. cc;
     placed = λ q. refl;
     carried = λ q. refl;

@@ -169,14 +169,14 @@ pub record LoweredTree (g g2 : Shape) (look look2 : ℕ → Node) (table : Table
   pub numbered : IsRowOf table.hierarchy (table.row r)
   pub other : (y : ℕ) → y ≢ g.at r → (look2 y).entries ≡ (look y).entries
 
--- what a division leaves of the items, in both cases
+-- What a division leaves of the items, in all cases. The head of a block is as before, or the new block in the place of c.
 pub record DividedItems (g g2 : Shape) (look look2 : ℕ → Node) (k c n t : ℕ) : Type 0 where
   pub div : Divided g g2 k c n
   pub relinked : Relinked look look2 c n t
   pub waits : (b l : ℕ) → g.inside b ≡ true → g.level b ≡ l + 1 → Each (λ e. e.stamp ≢ t) (look b).entries
   pub free : (r : ℕ) → g.placed r ≡ true → g.carried r ≡ true → g.at r ≢ c
   pub c_head : g.head c ≡ c
-  pub head : (y : ℕ) → y ≢ n → g2.head y ≡ g.head y
+  pub head : (y : ℕ) → y ≢ n → (g2.head y ≡ g.head y) ⊎ ((g.level y ≡ k) × (g.head y ≡ c) × (g2.head y ≡ n))
   pub rows : (r : ℕ) → times r (look c).rows ≡ times r (look2 c).rows + times r (look2 n).rows
   pub entries : (f : Entry → ℕ) → total f (look c).entries ≡ total f (look2 c).entries + total f (look2 n).entries
   pub left : Each (λ e. Among e (look c).entries) (look2 c).entries
@@ -189,6 +189,7 @@ pub record DividedItems (g g2 : Shape) (look look2 : ℕ → Node) (k c n t : �
 pub record Joined (g g2 : Shape) (look look2 : ℕ → Node) (k c n t : ℕ) : Type 0 where
   pub items : DividedItems g g2 look look2 k c n t
   pub new_head : g2.head n ≡ c
+  pub head : (y : ℕ) → y ≢ n → g2.head y ≡ g.head y
   pub group : (h : ℕ) → g2.group h ≡ put_behind c n (g.group h)
   pub below : (h : ℕ) → g2.below h ≡ g.below h
   pub other : (y : ℕ) → y ≢ c → y ≢ n → (look2 y).entries ≡ (look y).entries
@@ -202,23 +203,29 @@ parted c a b (e ∷ es) = cond (eqb e.child c) (a ∷ b ∷ parted c a b es) (e 
 abbrev pub part_rows : Shape → Node → ℕ → ℕ → ℕ
 part_rows g b k r = cond (eqb k 0) (times r b.rows) (total (λ e. times r (g.below e.child)) b.entries)
 
--- the two blocks are two groups, and the parent has two entries
-pub record Parted (g g2 : Shape) (look look2 : ℕ → Node) (table : Table) (k c n t top : ℕ) (a b : Entry) : Type 0 where
+-- The group that an entry leads to is c and the blocks behind it, its tail. Now c is a group, and n is the head of another
+-- one, which has the tail behind it; and the parent has an entry for each.
+pub record Parted (g g2 : Shape) (look look2 : ℕ → Node) (table : Table) (k c n t top : ℕ) (tail : List ℕ) (a b old : Entry) : Type 0 where
   pub items : DividedItems g g2 look look2 k c n t
+  pub old_ok : EntryOk g look table k old
+  pub old_child : old.child ≡ c
+  pub old_stamp : old.stamp ≢ t
   pub new_head : g2.head n ≡ n
-  pub alone : (y : ℕ) → g.inside y ≡ true → g.level y ≡ k → same y c ≡ same (g.head y) c
-  pub group_was : g.group c ≡ c ∷ []
+  pub tail_head : (y : ℕ) → 1 ≤ times y tail → g2.head y ≡ n
+  pub other_head : (y : ℕ) → y ≢ n → times y tail ≡ 0 → g2.head y ≡ g.head y
+  pub free_tail : (r : ℕ) → g.placed r ≡ true → g.carried r ≡ true → times (g.at r) tail ≡ 0
+  pub group_was : g.group c ≡ c ∷ tail
   pub group_c : g2.group c ≡ c ∷ []
-  pub group_n : g2.group n ≡ n ∷ []
+  pub group_n : g2.group n ≡ n ∷ tail
   pub group : (h : ℕ) → h ≢ c → h ≢ n → g2.group h ≡ g.group h
   pub below : (h : ℕ) → h ≢ c → h ≢ n → g2.below h ≡ g.below h
   pub below_c : (r : ℕ) → times r (g2.below c) ≡ part_rows g (look2 c) k r
-  pub below_n : (r : ℕ) → times r (g2.below n) ≡ part_rows g (look2 n) k r
+  pub below_n : (r : ℕ) → times r (g2.below n) ≡ total (λ y. part_rows g (look2 y) k r) (n ∷ tail)
   pub a_child : a.child ≡ c
   pub a_stamp : a.stamp ≡ t
   pub a_sum : IsSumOf table (g2.below c) a
   pub b_child : b.child ≡ n
-  pub b_stamp : b.stamp ≡ (look c).stamp
+  pub b_stamp : b.stamp ≡ old.stamp
   pub b_sum : IsSumOf table (g2.below n) b
   pub top_is : g.above c (k + 1) ≡ top
   pub top_in : g.inside top ≡ true
@@ -234,8 +241,8 @@ abbrev pub settles : Shape → ℕ → List ℕ → ℕ → Bool
 settles g c right r = cond (g.placed r) (cond (g.carried r) false (cond (eqb (g.at r) c) (leb 1 (times r right)) false)) false
 
 -- the shape after a division, but for groups
-abbrev pub made : Shape → ℕ → ℕ → ℕ → Node → ℕ → (ℕ → List ℕ) → (ℕ → List ℕ) → Shape
-made g k c n right new_head groups belows = record {
+abbrev pub made : Shape → ℕ → ℕ → ℕ → Node → (ℕ → ℕ) → (ℕ → List ℕ) → (ℕ → List ℕ) → Shape
+made g k c n right heads groups belows = record {
   height = g.height;
   inside = λ y. cond (eqb y n) true (g.inside y);
   level = λ y. cond (eqb y n) k (g.level y);
@@ -245,8 +252,16 @@ made g k c n right new_head groups belows = record {
   carried = g.carried;
   at = λ r. cond (settles g c right.rows r) n (g.at r);
   below = belows;
-  head = λ y. cond (eqb y n) new_head (g.head y);
+  head = heads;
 }
+
+-- the new block has this head, and each other block the one that it had
+abbrev pub heads_with : Shape → ℕ → ℕ → ℕ → ℕ
+heads_with g n new_head y = cond (eqb y n) new_head (g.head y)
+
+-- and where the new block is a head, that of the tail too
+abbrev pub heads_parted : Shape → ℕ → List ℕ → ℕ → ℕ
+heads_parted g n tail y = cond (eqb y n) n (cond (leb 1 (times y tail)) n (g.head y))
 
 -- a row is put in its leaf
 pub record SettledTree (g g2 : Shape) (look look2 : ℕ → Node) (r : ℕ) : Type 0 where
@@ -352,7 +367,12 @@ all_below g (e ∷ es) = g.below e.child ++ all_below g es
 abbrev pub rows_of : Shape → Node → ℕ → List ℕ
 rows_of g b k = cond (eqb k 0) b.rows (all_below g b.entries)
 
--- down onto a head c that was cut in two: r is carried at x, which is c or n
+-- and those of several blocks
+abbrev pub group_rows : Shape → (ℕ → Node) → ℕ → List ℕ → List ℕ
+group_rows g look k [] = []
+group_rows g look k (y ∷ ys) = rows_of g (look y) k ++ group_rows g look k ys
+
+-- down onto a head c that was cut: r is carried at x, which is c or n
 pub record DownParted (g : Shape) (look look3 : ℕ → Node) (table : Table) (k c n t r x : ℕ) (a b old : Entry) : Type 0 where
   pub r_placed : g.placed r ≡ true
   pub r_carried : g.carried r ≡ true
@@ -371,21 +391,23 @@ pub record DownParted (g : Shape) (look look3 : ℕ → Node) (table : Table) (k
   pub right : Each (λ e. Among e (look c).entries) (look3 n).entries
   pub old_ok : EntryOk g look table k old
   pub old_child : old.child ≡ c
-  pub one_block : old.stamp ≡ (look c).stamp
+  pub old_stamp : old.stamp ≢ t
+  pub tail : List ℕ
+  pub group : g.group c ≡ c ∷ tail
+  pub free_tail : (q : ℕ) → g.placed q ≡ true → g.carried q ≡ true → times (g.at q) tail ≡ 0
   pub a_child : a.child ≡ c
   pub a_stamp : a.stamp ≡ t
   pub a_sum : IsSumOf table (rows_of g (look3 c) k) a
   pub b_child : b.child ≡ n
-  pub b_stamp : b.stamp ≡ (look c).stamp
-  pub b_sum : IsSumOf table (rows_of g (look3 n) k) b
+  pub b_stamp : b.stamp ≡ old.stamp
+  pub b_sum : IsSumOf table (group_rows g look3 k (n ∷ tail)) b
   pub chosen : (x ≡ c) ⊎ (x ≡ n)
   pub top : Touched table r x (parted c a b (look (g.at r)).entries) (look3 (g.at r)).entries
   pub numbered : IsRowOf table.hierarchy (table.row r)
   pub top_rows : (look3 (g.at r)).rows ≡ (look (g.at r)).rows
   pub other : (y : ℕ) → y ≢ c → y ≢ n → y ≢ g.at r → look3 y ≡ look y
 
--- a head c of one block, under the block p, was cut in two, and p has two entries in place of one; no row moved but
--- with its leaf
+-- a head c under the block p was cut, and p has two entries in place of one; no row moved but with its leaf
 pub record CutUnder (g : Shape) (look look2 : ℕ → Node) (table : Table) (k c n t p : ℕ) (a b old : Entry) : Type 0 where
   pub p_inside : g.inside p ≡ true
   pub p_level : g.level p ≡ k + 1
@@ -403,13 +425,16 @@ pub record CutUnder (g : Shape) (look look2 : ℕ → Node) (table : Table) (k c
   pub right : Each (λ e. Among e (look c).entries) (look2 n).entries
   pub old_ok : EntryOk g look table k old
   pub old_child : old.child ≡ c
-  pub one_block : old.stamp ≡ (look c).stamp
+  pub old_stamp : old.stamp ≢ t
+  pub tail : List ℕ
+  pub group : g.group c ≡ c ∷ tail
+  pub free_tail : (q : ℕ) → g.placed q ≡ true → g.carried q ≡ true → times (g.at q) tail ≡ 0
   pub a_child : a.child ≡ c
   pub a_stamp : a.stamp ≡ t
   pub a_sum : IsSumOf table (rows_of g (look2 c) k) a
   pub b_child : b.child ≡ n
-  pub b_stamp : b.stamp ≡ (look c).stamp
-  pub b_sum : IsSumOf table (rows_of g (look2 n) k) b
+  pub b_stamp : b.stamp ≡ old.stamp
+  pub b_sum : IsSumOf table (group_rows g look2 k (n ∷ tail)) b
   pub top : (look2 p).entries ≡ parted c a b (look p).entries
   pub other_rows : (y : ℕ) → y ≢ c → y ≢ n → (look2 y).rows ≡ (look y).rows
   pub other : (y : ℕ) → y ≢ c → y ≢ n → y ≢ p → (look2 y).entries ≡ (look y).entries
@@ -431,12 +456,12 @@ pub record DownPassed (g : Shape) (look look3 : ℕ → Node) (table : Table) (k
   pub other : (y : ℕ) → y ≢ g.at r → look3 y ≡ look y
 
 -- How a shape grows by a step after which the row r is at the block x on level k: some fresh cells came to level j,
--- and of the other rows those that are carried stayed.
+-- heads stayed heads, and of the other rows those that are carried stayed.
 pub record Grew (g g3 : Shape) (fresh : ℕ → Bool) (j k r x : ℕ) : Type 0 where
   pub height : g3.height ≡ g.height
   pub inside : (y : ℕ) → fresh y ≡ false → g3.inside y ≡ g.inside y
   pub level : (y : ℕ) → fresh y ≡ false → g3.level y ≡ g.level y
-  pub head : (y : ℕ) → fresh y ≡ false → g3.head y ≡ g.head y
+  pub head : (y : ℕ) → fresh y ≡ false → g.head y ≡ y → g3.head y ≡ y
   pub new : (y : ℕ) → fresh y ≡ true → (g.inside y ≡ false) × (g3.inside y ≡ true) × (g3.level y ≡ j)
   pub placed : (q : ℕ) → g3.placed q ≡ g.placed q
   pub carried : (q : ℕ) → g3.carried q ≡ g.carried q

@@ -1,5 +1,5 @@
--- The root's head is cut in two under a new root, at which the row that comes in is carried
-use Rattle.std.proofs.Common.{◌≡◌, ◌≢◌, ℕ, ◌+◌, ◌-◌, true, false, eqb, List, [], ◌∷◌, ◌++◌, refl, sym, ap, ◌∙◌, subst, arith, append_assoc}
+-- The root's head is cut under a new root, at which the row that comes in is carried
+use Rattle.std.proofs.Common.{◌≡◌, ◌≢◌, ℕ, ◌+◌, ◌-◌, ◌≤◌, true, false, eqb, List, [], ◌∷◌, ◌++◌, map, take, drop, refl, sym, ap, ◌∙◌, subst, arith, append_assoc}
 use Rattle.std.specs.Prelude.{None}
 use Rattle.dc_node.specs.Block.{is_full}
 use Rattle.dc_node.specs.declared.block.Body.TheVariants.{Entries}
@@ -8,30 +8,32 @@ use Rattle.cell_stock.specs.declared.purse.Spare.{Spare}
 use Rattle.shard_store.specs.Gate.{root_entry}
 use Rattle.shard_store.specs.declared.gate.Gate.{Gate}
 use Rattle.dc_node.specs.Entry.{IsWithRow}
-use Rattle.link_descent.specs.Descend.{CutsRoot}
+use Rattle.link_descent.specs.Descend.{CutsRoot, IsGroupEntry}
 use Rattle.link_descent.specs.declared.entered.Entered.{Entered}
 use Rattle.link_descent.specs.declared.entered.Fresh.{Fresh}
 use Rattle.dc_node.specs.declared.block.Block.{Block}
 use Rattle.dc_node.specs.declared.entry.Entry.{Entry}
-use Rattle.tree_shape.specs.Counts.{Each}
+use Rattle.tree_shape.specs.Counts.{Each, times}
 use Rattle.tree_shape.specs.Queries.{NoneWaits}
 use Rattle.tree_shape.specs.Shape.{Node, Shape, Table, TreeCells, gate_node, node_of, nodes}
 use Rattle.tree_shape.specs.Steps.{AfterStep, AreApart, AreSpares, GoesIn, IsIdle, IsSpare}
-use Rattle.tree_shape.specs.Trees.{BlockOk, IsTree}
+use Rattle.tree_shape.specs.Trees.{BlockOk, EntryOk, IsTree}
 use Rattle.tree_shape.proofs.Relations.{CutUnder, Grew, all_grown, parted}
-use Rattle.tree_shape.proofs.Walks.{on_bool, eqb-eq, eqb-ne, eqb-no, eqb-yes}
+use Rattle.tree_shape.proofs.Walks.{on_bool, eqb-eq, eqb-ne, eqb-no, eqb-yes, same_is}
 use Rattle.tree_shape.proofs.Queries.{apart}
 use Rattle.tree_shape.proofs.Contents.{ArePartsOf}
 use Rattle.tree_shape.proofs.Cuts.{cut-shape, tree-cut, query-cut, grew-cut, stamps-cut}
+use Rattle.tree_shape.proofs.Tails.{IsInTail, behind-head, behind-cut, tail-one}
+use Rattle.tree_shape.proofs.Onto.{entry_ok}
 use Rattle.tree_shape.proofs.Lands.{c_in, cuts-under}
 use Rattle.tree_shape.proofs.Assembled.{node-block, node-gate, near-tree, assemble, items-grown, none-expects, own-spares, used-spares, block-kept, block-part, root-at}
-use Rattle.tree_shape.proofs.Descends.{cut-in_two}
+use Rattle.tree_shape.proofs.Descends.{AreCut, are-cut}
 use Rattle.tree_shape.proofs.Enters.{enters-pass}
 use Rattle.tree_shape.proofs.NewRoots.{raised_cells, raised_shape, raised_tree, raised_query, raised_spare}
 
 module _ (table : Table) (g : Shape) (r : ℕ) (before now : TreeCells) (purse purse_now : PurseValue) (entered : Entered)
     (tree : IsTree table before g) (d : GoesIn table g r before now purse purse_now entered)
-    (s : CutsRoot table.hierarchy (table.row r) before.gate d.gate_now (before.block before.gate.root) (now.block before.gate.root) purse purse_now entered) where
+    (s : CutsRoot table.hierarchy (table.row r) (map before.block d.tail) before.gate d.gate_now (before.block before.gate.root) (now.block before.gate.root) purse purse_now entered) where
   abbrev gate : ℕ
   gate = before.gate_cell
 
@@ -189,8 +191,11 @@ module _ (table : Table) (g : Shape) (r : ℕ) (before now : TreeCells) (purse p
       let ca1 = sym (came_in.row.others_carried q ne) ∙ ca in
       d.idle q p1 ca1 (sym (came_in.row.others_at q ne p1 ca1) ∙ at_c))
 
+  divided : AreCut (before.block c) (now.block c) s.new n t
+  divided = are-cut table before.gate.stamp (map before.block d.tail) (before.block c) (now.block c) s.new n t s.cuts.behind s.cuts.full s.cuts.cut
+
   parts : ArePartsOf (before.block c).body (now.block c).body s.new.body
-  parts = cut-in_two table (before.block c) (now.block c) s.new n t s.cuts.full s.cuts.cut
+  parts = divided.parts
 
   c_ok : BlockOk table g2 c (before.block c)
   c_ok = subst (BlockOk table g2 c) (block-off c c_m) (tree2.blocks c c_at.0 c_gate)
@@ -198,12 +203,59 @@ module _ (table : Table) (g : Shape) (r : ℕ) (before now : TreeCells) (purse p
   entries3 : (nodes now m).entries ≡ parted c s.left s.right (nodes cells2 m).entries
   entries3 = ap (λ (x : Node). x.entries) look3_m ∙ sym (ap (parted c s.left s.right) is ∙ (rw (eqb-yes c c refl) refl))
 
+  -- The blocks behind the root's head are the same in the tree before the step and in the one with the new root.
+
+  gate_up : g.level gate ≡ (h - 1) + 1
+  gate_up = let a = tree.level in let b = tree.some in omega arith
+
+  abbrev was : EntryOk g (nodes before) table (h - 1) (root_entry before.gate)
+  was = (subst (Each (EntryOk g (nodes before) table (h - 1))) (ap (λ (x : Node). x.entries) (node-gate before)) (tree.tree.dirs gate (h - 1) tree.top gate_up).entries).0
+
+  abbrev old_tail : List ℕ
+  old_tail = was.group.walks.0
+
+  old-behind : (y : ℕ) → 1 ≤ times y old_tail → IsInTail g (h - 1) c old_tail y
+  old-behind = behind-head g (nodes before) table (h - 1) c old_tail (root_entry before.gate) was refl was.group.walks.1
+
+  -- a block of the tree is the same in both
+  same-look : (y : ℕ) → g.inside y ≡ true → g.level y ≡ h - 1 → (nodes before y ≡ node_of (before.block y)) × (nodes cells2 y ≡ node_of (before.block y))
+  same-look y i lv =
+      let yg : y ≢ gate = (λ e. let a = ap g.level e in let b = tree.level in let u = tree.some in absurd (omega arith)) in
+      (node-block before y yg, node-block cells2 y yg ∙ ap node_of (block-off y (apart g y m i m_fresh)))
+
+  group2 : g2.group c ≡ c ∷ old_tail
+  group2 =
+      let w = (entry_ok g2 (nodes cells2) table tree2.tree m (h - 1) m_at.0 m_level (root_entry before.gate) [] [] is).group.walks in
+      let at_c = was.group.cells c (rw was.group.walks.1 (let o = same_is c c refl in omega arith)) in
+      let a = same-look c at_c.0 at_c.1 in
+      let e = a.1 ∙ sym a.0 in
+      let same_tail : w.0 ≡ old_tail = tail-one (nodes before) (nodes cells2) before.gate.stamp c old_tail w.0 (ap (λ (x : Node). x.stamp) e) (ap (λ (x : Node). x.right) e)
+      (λ z k. let o = old-behind z k in let b = same-look z o.inside o.level in let f = b.1 ∙ sym b.0 in (ap (λ (x : Node). x.stamp) f, ap (λ (x : Node). x.right) f))
+      was.group.walks.2 w.2 in
+      w.1 ∙ ap (λ (ws : List ℕ). c ∷ ws) same_tail
+
+  tail_ok : (y : ℕ) → 1 ≤ times y old_tail → BlockOk table g2 y (before.block y)
+  tail_ok y k =
+      let o = old-behind y k in
+      let ym = apart g y m o.inside m_fresh in
+      let yg : y ≢ gate = (λ e. let a = ap g.level e in let b = tree.level in let u = tree.some in let v = o.level in absurd (omega arith)) in
+      subst (BlockOk table g2 y) (block-off y ym) (tree2.blocks y (inside2 y ∙ (rw (eqb-no y m ym) o.inside)) yg)
+
+  behind_is : s.cuts.behind ≡ map before.block old_tail
+  behind_is =
+      let at_c = was.group.cells c (rw was.group.walks.1 (let o = same_is c c refl in omega arith)) in
+      behind-cut table.hierarchy (nodes before) before.block before.gate.stamp c d.tail old_tail (before.block c) (now.block c) s.new n t s.cuts.behind
+      (ap (λ (x : Node). x.stamp) (same-look c at_c.0 at_c.1).0) (λ z k. let o = old-behind z k in ap (λ (x : Node). x.stamp) (same-look z o.inside o.level).0) was.group.walks.2
+      (d.behind s.cuts.full ∙ ap (λ (ws : List ℕ). take 2 (drop 1 ws)) was.group.walks.1) s.cuts.cut
+
   cut : CutUnder g2 (nodes cells2) (nodes now) table (h - 1) c n t m s.left s.right (root_entry before.gate)
   cut = cuts-under g2 (nodes cells2) (nodes now) table tree2.tree r m (h - 1) came_in.row.placed came_in.row.carried came_in.row.at d.valid m_level (root_entry before.gate) [] [] is top_rows top_stamp top_right
       (before.block c) (now.block c) s.new n t (node-block cells2 c c_gate ∙ ap node_of (block-off c c_m)) (now-block c c_gate) (now-block n n_gate ∙ ap node_of fills.0)
       mine.cell mine.unexpected idle2 other parts
-      (ap (λ (x : Block). x.stamp) s.cuts.cut.head_is) (ap (λ (x : Block). x.right) s.cuts.cut.head_is) (ap (λ (x : Block). x.stamp) s.cuts.cut.new_is) (ap (λ (x : Block). x.right) s.cuts.cut.new_is)
-      (c_ok.kind ∙ ap (λ l. eqb l 0) c_at.1) c_ok.rows (λ q p. (tree2.numbered q p).1) s.left s.right (sym s.cuts.alone) s.cuts.left_is s.cuts.right_is entries3
+      divided.head_stamp divided.head_right divided.new_stamp divided.new_right
+      (c_ok.kind ∙ ap (λ l. eqb l 0) c_at.1) c_ok.rows (λ q p. (tree2.numbered q p).1)
+      old_tail group2 before.block (λ y k. let o = old-behind y k in (same-look y o.inside o.level).1) tail_ok (λ q ne p ca. tree2.heads q p ca)
+      s.left s.right s.cuts.left_is (subst (λ (bs : List Block). IsGroupEntry table.hierarchy n before.gate.stamp s.new bs s.right) behind_is s.cuts.right_is) entries3
 
   abbrev g3 : Shape
   g3 = cut-shape g2 (nodes cells2) (nodes now) table (h - 1) c n t m s.left s.right (root_entry before.gate) tree2.tree cut
@@ -251,12 +303,10 @@ module _ (table : Table) (g : Shape) (r : ℕ) (before now : TreeCells) (purse p
   keep : (x : Spare) → Each (AreApart x) (s.top ∷ s.spare ∷ []) → IsSpare g (nodes before) x → IsSpare g3 (nodes now) x
   keep x apart_x u =
       let v = spare2 x apart_x.0.0 apart_x.0.1 u in
-      let gu : g.level gate ≡ (h - 1) + 1 = (let a = tree.level in let b = tree.some in omega arith) in
-      let roots : Each (λ (e : Entry). e.stamp ≢ x.stamp) (root_entry before.gate ∷ []) = subst (Each (λ (e : Entry). e.stamp ≢ x.stamp)) (ap (λ (y : Node). y.entries) (node-gate before)) (u.unexpected gate (h - 1) tree.top gu) in
-      let old : (nodes cells2 c).stamp ≡ before.gate.stamp = ap (λ (y : Node). y.stamp) (node-block cells2 c c_gate ∙ ap node_of (block-off c c_m)) ∙ s.cuts.alone in
+      let roots : Each (λ (e : Entry). e.stamp ≢ x.stamp) (root_entry before.gate ∷ []) = subst (Each (λ (e : Entry). e.stamp ≢ x.stamp)) (ap (λ (y : Node). y.entries) (node-gate before)) (u.unexpected gate (h - 1) tree.top gate_up) in
       record {
         cell = grew.inside x.cell (eqb-no x.cell n apart_x.1.0.0) ∙ v.cell;
-        unexpected = stamps-cut g2 (nodes cells2) (nodes now) table (h - 1) c n t m s.left s.right (root_entry before.gate) tree2.tree cut x.stamp apart_x.1.0.1 (λ e. roots.0 (sym (e ∙ old))) v.unexpected;
+        unexpected = stamps-cut g2 (nodes cells2) (nodes now) table (h - 1) c n t m s.left s.right (root_entry before.gate) tree2.tree cut x.stamp apart_x.1.0.1 (λ e. roots.0 (sym e)) v.unexpected;
       }
 
   pub after-root : AfterStep table g r entered.at now.gate.height before now purse.spares purse_now.spares

@@ -1,13 +1,13 @@
 -- A row comes down from a directory or from the gate onto the head of a group: what holds after it, in each of the three cases
-use Rattle.std.proofs.Common.{◌≡◌, ◌≢◌, ℕ, ◌+◌, ◌<◌, ◌⊎◌, inl, inr, Bool, true, false, eqb, List, [], ◌∷◌, ◌++◌, refl, sym, ap, ◌∙◌, subst, arith}
+use Rattle.std.proofs.Common.{◌≡◌, ◌≢◌, ℕ, ◌+◌, ◌<◌, ◌≤◌, ◌⊎◌, inl, inr, Bool, true, false, eqb, List, [], ◌∷◌, ◌++◌, map, refl, sym, ap, ◌∙◌, subst, arith}
 use Rattle.dim_hierarchy.specs.Row.{IsRowOf}
 use Rattle.dc_node.specs.Block.{is_leaf, is_full}
 use Rattle.cell_stock.specs.declared.purse.Spare.{Spare}
 use Rattle.dc_node.specs.Entry.{IsWithRow}
-use Rattle.link_descent.specs.Descend.{IsEntryOf}
+use Rattle.link_descent.specs.Descend.{IsEntryOf, IsGroupEntry}
 use Rattle.dc_node.specs.declared.block.Block.{Block}
 use Rattle.dc_node.specs.declared.entry.Entry.{Entry}
-use Rattle.tree_shape.specs.Counts.{Each}
+use Rattle.tree_shape.specs.Counts.{Each, times}
 use Rattle.tree_shape.specs.Shape.{Node, Shape, Table, TreeCells, gate_node, node_of, nodes}
 use Rattle.tree_shape.specs.Steps.{AfterStep, AreApart, AreSpares, IsCarriedAt, IsIdle, IsSpare}
 use Rattle.tree_shape.specs.Trees.{BlockOk, TreeOk}
@@ -21,6 +21,8 @@ use Rattle.tree_shape.proofs.Contents.{ArePartsOf}
 use Rattle.tree_shape.proofs.Passes.{tree-passed, query-passed, grew-passed, stamps-passed, pass-shape}
 use Rattle.tree_shape.proofs.Downs as J
 use Rattle.tree_shape.proofs.Splits as S
+use Rattle.tree_shape.proofs.Onto.{entry_ok}
+use Rattle.tree_shape.proofs.Tails.{IsInTail, behind-head}
 use Rattle.tree_shape.proofs.Lands.{c_in, c_top, passed, joins, splits}
 use Rattle.tree_shape.proofs.Assembled.{node-block, node-gate, NearTree, assemble, items-grown, none-expects, own-spares, used-spares, block-kept, block-part}
 
@@ -73,6 +75,23 @@ module _ (table : Table) (before now : TreeCells) (g : Shape) (r p k top_level :
       a ∙ gate_same (λ w. yp (z ∙ sym w)) ∙ sym b)
       (λ q. let ne = eqb-ne _ _ q in
       node-block now y (λ w. ne (w ∙ gate_cell)) ∙ ap node_of (h ne) ∙ sym (node-block before y ne))
+
+  p_in : g.inside p ≡ true
+  p_in = subst (λ y. g.inside y ≡ true) at (near.stands r placed)
+
+  -- the blocks behind the head
+
+  on-tail : (tail : List ℕ) → g.group c ≡ c ∷ tail → (y : ℕ) → 1 ≤ times y tail → IsInTail g k c tail y
+  on-tail tail group = behind-head g look table k c tail e (entry_ok g look table tree p k p_in pl e ahead behind is) refl group
+
+  tail-gate : (tail : List ℕ) → g.group c ≡ c ∷ tail → (y : ℕ) → 1 ≤ times y tail → y ≢ before.gate_cell
+  tail-gate tail group y h q = let a : g.level y ≡ g.level before.gate_cell = ap g.level q in let b = (on-tail tail group y h).level in let l = near.level in absurd (omega arith)
+
+  tail-look : (tail : List ℕ) → g.group c ≡ c ∷ tail → (y : ℕ) → 1 ≤ times y tail → look y ≡ node_of (before.block y)
+  tail-look tail group y h = node-block before y (tail-gate tail group y h)
+
+  tail-ok : (tail : List ℕ) → g.group c ≡ c ∷ tail → (y : ℕ) → 1 ≤ times y tail → BlockOk table g y (before.block y)
+  tail-ok tail group y h = old_blocks y (on-tail tail group y h).inside (tail-gate tail group y h)
 
   look_c : look c ≡ node_of (before.block c)
   look_c = node-block before c c_gate
@@ -217,18 +236,17 @@ module _ (table : Table) (before now : TreeCells) (g : Shape) (r p k top_level :
           };
         }
 
-    -- it was cut in two
-    pub after-cut : (x : ℕ) (a b a2 b2 : Entry) → e.stamp ≡ (before.block c).stamp → IsEntryOf table.hierarchy c (now.block c) a → IsEntryOf table.hierarchy n new b
+    -- it was cut
+    pub after-cut : (x : ℕ) (tail : List ℕ) (a b a2 b2 : Entry) → g.group c ≡ c ∷ tail → IsEntryOf table.hierarchy c (now.block c) a → IsGroupEntry table.hierarchy n e.stamp new (map before.block tail) b
         → Touch table r x a a2 → Touch table r x b b2 → (x ≡ c) ⊎ (x ≡ n) → (look3 p).entries ≡ (ahead ++ a2 ∷ b2 ∷ []) ++ behind → AfterStep table g r x (k + 1) before now purse purse_now
-    after-cut x a b a2 b2 one ea eb ta tb which i =
+    after-cut x tail a b a2 b2 group ea eb ta tb which i =
         let kind : is_leaf (before.block c).body ≡ eqb k 0 = c_ok.kind ∙ ap (λ l. eqb l 0) c_at.1 in
-        let d = splits g look look3 table tree r p k placed carried at numbered pl e ahead behind is top_rows top_stamp top_right (before.block c) (now.block c) new n t look_c look3_c look3_n mine.cell mine.unexpected idle other_look parts head_stamp head_right new_stamp new_right kind c_ok.rows valid x a b a2 b2 one ea eb ta tb which i in
+        let d = splits g look look3 table tree r p k placed carried at numbered pl e ahead behind is top_rows top_stamp top_right (before.block c) (now.block c) new n t look_c look3_c look3_n mine.cell mine.unexpected idle other_look parts head_stamp head_right new_stamp new_right kind c_ok.rows valid tail group before.block (tail-look tail group) (tail-ok tail group) near.heads x a b a2 b2 ea eb ta tb which i in
         let g3 : Shape = S.g3 g look look3 table k c n t r x a b e tree d in
         let grew = S.grew-split g look look3 table k c n t r x a b e tree d in
-        let pi : g.inside p ≡ true = subst (λ y. g.inside y ≡ true) at (near.stands r placed) in
-        let of_e : (u : ℕ) → NoneHas g look u → u ≢ (look c).stamp = λ u h z.
-        let es : Each (λ v. v.stamp ≢ u) (ahead ++ e ∷ behind) = subst (Each (λ (v : Entry). v.stamp ≢ u)) is (h p k pi pl) in
-        (each-right (λ (v : Entry). v.stamp ≢ u) ahead (e ∷ behind) es).0 (one ∙ sym (ap (λ (v : Node). v.stamp) look_c) ∙ sym z) in
+        let of_e : (u : ℕ) → NoneHas g look u → u ≢ e.stamp = λ u h z.
+        let es : Each (λ v. v.stamp ≢ u) (ahead ++ e ∷ behind) = subst (Each (λ (v : Entry). v.stamp ≢ u)) is (h p k p_in pl) in
+        (each-right (λ (v : Entry). v.stamp ≢ u) ahead (e ∷ behind) es).0 (sym z) in
         let keep = keeps g3 x grew (λ u ut h. S.stamps-split g look look3 table k c n t r x a b e tree d u ut (of_e u h) h) in
         record {
           shape = g3;

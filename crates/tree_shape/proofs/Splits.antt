@@ -1,18 +1,20 @@
--- The whole step down onto a head that is cut in two, from what it does in the cells
-use Rattle.std.proofs.Common.{◌≡◌, ◌≢◌, ℕ, ◌+◌, inl, inr, Bool, true, false, cond, eqb, List, [], ◌∷◌, refl, sym, ap, ◌∙◌, subst, arith}
+-- The whole step down onto a head that is cut, from what it does in the cells
+use Rattle.std.proofs.Common.{◌≡◌, ◌≢◌, ℕ, ◌+◌, ◌≤◌, inl, inr, Bool, true, false, cond, eqb, List, ◌∷◌, refl, sym, ap, ◌∙◌, subst, arith}
 use Rattle.dc_node.specs.declared.entry.Entry.{Entry}
-use Rattle.tree_shape.specs.Counts.{Each, times, total}
+use Rattle.tree_shape.specs.Counts.{times, total}
 use Rattle.tree_shape.specs.Queries.{QueryOk, fits}
 use Rattle.tree_shape.specs.Shape.{Node, Shape, Table}
 use Rattle.tree_shape.specs.Trees.{TreeOk}
 use Rattle.tree_shape.specs.Walks.{Noted}
-use Rattle.tree_shape.proofs.Relations.{CutUnder, Divided, DownParted, Grew, Lowered, LoweredTree, NoneExpects, NoneHas, Relinked, SameLinks, all_grown, lower, parted, settles}
+use Rattle.tree_shape.proofs.Relations.{CutUnder, Divided, DownParted, Grew, IsSumOf, Lowered, LoweredTree, NoneExpects, NoneHas, Relinked, SameLinks, all_grown, lower, parted, settles}
 use Rattle.tree_shape.proofs.Walks.{on_bool, eqb-eq, eqb-ne, eqb-no, eqb-self}
 use Rattle.tree_shape.proofs.Queries.{apart, query-lowered}
 use Rattle.tree_shape.proofs.Trees.{tree-lowered}
-use Rattle.tree_shape.proofs.Divisions.{each-of, parted-at, parted-past}
+use Rattle.tree_shape.proofs.Divisions.{each-of}
+use Rattle.tree_shape.proofs.Tails.{behind-head, each-cell}
+use Rattle.tree_shape.proofs.Groups.{group_rows-same}
 use Rattle.tree_shape.proofs.Passes.{stamps-touched}
-use Rattle.tree_shape.proofs.Cuts.{cut-shape, divided, tree-cut, query-cut}
+use Rattle.tree_shape.proofs.Cuts.{cut-shape, divided, head-kept, stamps-parted, tree-cut, query-cut}
 
 module _ (g : Shape) (look look3 : ℕ → Node) (table : Table) (k c n t r x : ℕ) (a b old : Entry) (tree : TreeOk g look table) (d : DownParted g look look3 table k c n t r x a b old) where
   abbrev top_block : Node
@@ -65,6 +67,15 @@ module _ (g : Shape) (look look3 : ℕ → Node) (table : Table) (k c n t r x : 
   entries2 : (f : Entry → ℕ) → total f (look c).entries ≡ total f (look2 c).entries + total f (look2 n).entries
   entries2 f = rw (off c c_top, off n n_top) (d.entries f)
 
+  -- the blocks behind the head
+  abbrev tail : List ℕ
+  tail = d.tail
+
+  tail-same : (y : ℕ) → 1 ≤ times y tail → look2 y ≡ look3 y
+  tail-same y h =
+      let o = behind-head g look table k c tail old d.old_ok d.old_child d.group y h in
+      off y (λ e. let u : g.level y ≡ g.level (g.at r) = ap g.level e in let v = o.level in let w = d.next in absurd (omega arith))
+
   pub cut : CutUnder g look look2 table k c n t (g.at r) a b old
   cut = record {
     p_inside = top_in;
@@ -83,13 +94,16 @@ module _ (g : Shape) (look look3 : ℕ → Node) (table : Table) (k c n t r x : 
     right = rw (off n n_top) d.right;
     old_ok = d.old_ok;
     old_child = d.old_child;
-    one_block = d.one_block;
+    old_stamp = d.old_stamp;
+    tail = d.tail;
+    group = d.group;
+    free_tail = d.free_tail;
     a_child = d.a_child;
     a_stamp = d.a_stamp;
     a_sum = rw (off c c_top) d.a_sum;
     b_child = d.b_child;
     b_stamp = d.b_stamp;
-    b_sum = rw (off n n_top) d.b_sum;
+    b_sum = subst (λ (ns : List ℕ). IsSumOf table ns b) (sym (group_rows-same g look3 look2 k (n ∷ tail) (off n n_top, each-cell (λ y. look2 y ≡ look3 y) tail tail-same))) d.b_sum;
     top = ap (λ (w : Node). w.entries) on;
     other_rows = kept (λ (w : Node). w.rows) refl;
     other = λ y yc yn yt. ap (λ (w : Node). w.entries) (off y yt ∙ d.other y yc yn yt);
@@ -103,6 +117,9 @@ module _ (g : Shape) (look look3 : ℕ → Node) (table : Table) (k c n t r x : 
 
   div : Divided g g2 k c n
   div = divided g look look2 table k c n t (g.at r) a b old tree cut
+
+  kept-head : (y : ℕ) → y ≢ n → g.head y ≡ y → g2.head y ≡ y
+  kept-head = head-kept g look look2 table k c n t (g.at r) a b old tree cut
 
   tree2 : TreeOk g2 look2 table
   tree2 = tree-cut g look look2 table k c n t (g.at r) a b old tree cut
@@ -152,7 +169,7 @@ module _ (g : Shape) (look look3 : ℕ → Node) (table : Table) (k c n t r x : 
     low = low;
     next = (let xl : g2.level x ≡ k = either (λ y. g2.level y ≡ k) (div.level c c_n ∙ d.c_level) div.new_level in
         let tl : g2.level (g2.at r) ≡ k + 1 = ap g2.level at_r ∙ div.level (g.at r) top_n ∙ d.next in omega arith);
-    c_head = either (λ y. g2.head y ≡ y) (rw (eqb-no c n c_n) d.c_head) (rw (eqb-self n) refl);
+    c_head = either (λ y. g2.head y ≡ y) (kept-head c c_n d.c_head) (rw (eqb-self n) refl);
     group = λ h. refl;
     head = λ y. refl;
     below_c = rw (eqb-self x) refl;
@@ -182,7 +199,7 @@ module _ (g : Shape) (look look3 : ℕ → Node) (table : Table) (k c n t r x : 
     height = refl;
     inside = λ y f. div.inside y (grew-n y f);
     level = λ y f. div.level y (grew-n y f);
-    head = λ y f. rw f refl;
+    head = λ y f e. kept-head y (grew-n y f) e;
     new = λ y f. let e = eqb-eq _ _ f in rw e (d.fresh, div.new_inside, div.new_level);
     placed = λ q. refl;
     carried = λ q. refl;
@@ -190,20 +207,11 @@ module _ (g : Shape) (look look3 : ℕ → Node) (table : Table) (k c n t r x : 
     at = λ q ne p f. let no : settles g c (look2 n).rows q ≡ false = rw (p, f) refl in rw (eqb-no q r ne, no) refl;
     x_in = low.c_inside;
     x_level = either (λ y. g2.level y ≡ k) (div.level c c_n ∙ d.c_level) div.new_level;
-    x_head = either (λ y. g2.head y ≡ y) (rw (eqb-no c n c_n) d.c_head) (rw (eqb-self n) refl);
+    x_head = either (λ y. g2.head y ≡ y) (kept-head c c_n d.c_head) (rw (eqb-self n) refl);
   }
 
-  -- the two entries that stand in place of one
-  stamps-parted : (u : ℕ) (es : List Entry) → u ≢ t → u ≢ (look c).stamp → Each (λ e. e.stamp ≢ u) es → Each (λ e. e.stamp ≢ u) (parted c a b es)
-  stamps-parted u [] ut uc h = tt
-  stamps-parted u (e ∷ es) ut uc h =
-      let ih = stamps-parted u es ut uc h.1 in
-      on_bool (eqb e.child c)
-      (λ q. rw (parted-at c a b e es q) ((λ z. ut (sym z ∙ d.a_stamp)), ((λ z. uc (sym z ∙ d.b_stamp)), ih)))
-      (λ q. rw (parted-past c a b e es q) (h.0, ih))
-
-  pub stamps-split : (u : ℕ) → u ≢ t → u ≢ (look c).stamp → NoneHas g look u → NoneHas g3 look3 u
-  stamps-split u ut uc h y l i e = on_bool (eqb y n)
+  pub stamps-split : (u : ℕ) → u ≢ t → u ≢ old.stamp → NoneHas g look u → NoneHas g3 look3 u
+  stamps-split u ut uo h y l i e = on_bool (eqb y n)
       (λ q. let yn = eqb-eq _ _ q in
       let kl : k ≡ l + 1 = sym div.new_level ∙ ap g3.level (sym yn) ∙ e in
       rw yn (each-of (λ (v : Entry). v.stamp ≢ u) (look c).entries (look3 n).entries (h c l d.c_inside (d.c_level ∙ kl)) d.right))
@@ -218,5 +226,5 @@ module _ (g : Shape) (look look3 : ℕ → Node) (table : Table) (k c n t r x : 
       (λ q2. let yc = eqb-ne _ _ q2 in on_bool (eqb y (g.at r))
       (λ q3. let yt = eqb-eq _ _ q3 in
       let o2 = rw yt at o in
-      rw yt (stamps-touched table r x u (parted c a b (look (g.at r)).entries) (look3 (g.at r)).entries d.top (stamps-parted u (look (g.at r)).entries ut uc o2)))
+      rw yt (stamps-touched table r x u (parted c a b (look (g.at r)).entries) (look3 (g.at r)).entries d.top (stamps-parted c t u a b old (look (g.at r)).entries d.a_stamp d.b_stamp ut uo o2)))
       (λ q3. rw (d.other y yc yn (eqb-ne _ _ q3)) o)))

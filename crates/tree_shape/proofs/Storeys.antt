@@ -9,7 +9,7 @@ use Rattle.tree_shape.proofs.Relations.{all_below}
 use Rattle.tree_shape.proofs.Walks.{on_bool, eqb-eq, eqb-ne, eqb-no, eqb-self, same_is, same_not}
 use Rattle.tree_shape.proofs.Queries.{leb-le, leb-gt, leb-true, reach-low}
 use Rattle.tree_shape.proofs.Divisions.{each-map, sums-low, sums-out}
-use Rattle.tree_shape.proofs.Cuts.{times-all_below}
+use Rattle.tree_shape.proofs.Groups.{times-all_below}
 use Rattle.tree_shape.proofs.Trees.{spans-same}
 
 -- the first of the list at which k is not 0

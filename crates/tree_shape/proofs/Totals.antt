@@ -1,9 +1,9 @@
 -- Aggregates and sets go by which rows there are, each once; and what a gate tells of its tree
-use Rattle.std.proofs.Common.{◌≡◌, ◌≢◌, ℕ, zero, suc, ◌+◌, ◌-◌, ◌≤◌, Bool, true, false, cond, eqb, leb, List, [], ◌∷◌, ◌++◌, length, map, refl, sym, ap, ◌∙◌, subst, arith}
+use Rattle.std.proofs.Common.{◌≡◌, ◌≢◌, ℕ, zero, suc, ◌+◌, ◌-◌, ◌<◌, ◌≤◌, Bool, true, false, cond, eqb, leb, List, [], ◌∷◌, ◌++◌, length, map, take, drop, refl, sym, ap, ◌∙◌, subst, arith}
 use Rattle.std.specs.Prelude.{All, Contains, IsSome, Some, slice_get}
 use Rattle.std.proofs.lemmas.List.Elements.{All-nil, All-cons}
 use Rattle.std.proofs.lemmas.List.Sorted.{IsPermutation-middle}
-use Rattle.std.proofs.lemmas.List.{map-append, length-map}
+use Rattle.std.proofs.lemmas.List.{map-append, length-map, take-append-drop}
 use Rattle.dim_hierarchy.specs.Dimension.{IsHierarchy}
 use Rattle.dim_hierarchy.specs.Row.{IsRowOf}
 use Rattle.dim_hierarchy.specs.declared.row.Coord.{Coord}
@@ -22,19 +22,20 @@ use Rattle.dc_node.specs.declared.todo.Item.{Item}
 use Rattle.tree_shape.specs.Counts.{Each, same, times, total}
 use Rattle.tree_shape.specs.Queries.{IsUnfinished}
 use Rattle.tree_shape.specs.Shape.{Node, Shape, Table, TreeCells, node_of, nodes, numbers}
-use Rattle.tree_shape.specs.Trees.{BlockFits, BlockOk, DirOk, EntryOk, IsBelow, IsTree, lies}
+use Rattle.tree_shape.specs.Trees.{BlockFits, BlockOk, DirOk, EntryOk, HasBehind, IsBehind, IsBelow, IsTree, cells_behind, lies}
 use Rattle.tree_shape.specs.Walks.{AreNoted, IsNoted, IsTail, noted_of, reach}
 use Rattle.tree_shape.proofs.Relations.{all_below}
-use Rattle.tree_shape.proofs.Walks.{on_bool, eqb-eq, eqb-ne, same_is, same_not}
+use Rattle.tree_shape.proofs.Walks.{on_bool, eqb-eq, eqb-ne, same_is, same_not, same-le}
 use Rattle.tree_shape.proofs.Sums.{coords-valid}
 use Rattle.tree_shape.proofs.Queries.{reach-low, leb-le, leb-gt}
 use Rattle.tree_shape.proofs.Visits.{times-append, spans}
 use Rattle.tree_shape.proofs.Lands.{leaf-valid}
-use Rattle.tree_shape.proofs.Onto.{child_in, child_head}
+use Rattle.tree_shape.proofs.Onto.{child_in, child_head, entry_ok}
+use Rattle.tree_shape.proofs.Tails.{IsInTail, behind-head, each-cell, tail-found}
 use Rattle.tree_shape.proofs.Readings.{contains-row, last-noted, noted-right}
 use Rattle.tree_shape.proofs.Divisions.{sums-low, sums-high, sums-out}
-use Rattle.tree_shape.proofs.Cuts.{times-all_below}
-use Rattle.tree_shape.proofs.Parts.{all-each, around}
+use Rattle.tree_shape.proofs.Groups.{times-all_below}
+use Rattle.tree_shape.proofs.Parts.{all-each, around, each-left}
 use Rattle.tree_shape.proofs.Descends.{length-plus}
 use Rattle.tree_shape.proofs.Assembled.{node-block, node-gate, has-entries, root-at}
 
@@ -242,9 +243,6 @@ module _ (table : Table) (cells : TreeCells) (g : Shape) (tree : IsTree table ce
         omega arith)
         (λ q. let a = sums-high g (nodes cells) table k r (nodes cells b).entries dr.entries p (leb-gt _ _ q) in omega arith)))
         (λ p. rw p (let a = sums-out g (nodes cells) table k r (nodes cells b).entries dr.entries p in omega arith))
-      where
-        same-le : (x y : ℕ) → same x y ≤ 1
-        same-le x y = on_bool (eqb x y) (λ q. rw q (omega arith)) (λ q. rw q (omega arith))
 
     dir-fits : (k : ℕ) → g.level b ≡ k + 1 → (body : Body) → (cells.block b).body ≡ body → is_leaf body ≡ false → IsBodyOf table.hierarchy body × (row_count body ≤ cells.gate.agg.count) × All (λ e. e.agg.count ≤ cells.gate.agg.count) (entries_in body)
     dir-fits k bl (Rows rows) e f = cc
@@ -317,3 +315,47 @@ leads-root table cells g t =
       below = omega arith;
       head = child_head g (nodes cells) table t.tree cells.gate_cell (cells.gate.height - 1) t.top (omega arith) (root_entry cells.gate) [] [] (ap (λ (x : Node). x.entries) (node-gate cells));
     }
+
+-- The blocks behind a head.
+module _ (table : Table) (cells : TreeCells) (g : Shape) (t : IsTree table cells g) (k : ℕ) (e : Entry) (low : k < cells.gate.height) (ok : EntryOk g (nodes cells) table k e) where
+  abbrev tail : List ℕ
+  tail = ok.group.walks.0
+
+  in-tail : (y : ℕ) → 1 ≤ times y tail → IsInTail g k e.child tail y
+  in-tail = behind-head g (nodes cells) table k e.child tail e ok refl ok.group.walks.1
+
+  at-head : (g.inside e.child ≡ true) × (g.level e.child ≡ k)
+  at-head = ok.group.cells e.child (rw ok.group.walks.1 (let o = same_is e.child e.child refl in omega arith))
+
+  off-gate : (y : ℕ) → g.level y ≡ k → y ≢ cells.gate_cell
+  off-gate y lv q = let a = ap g.level q in let b = t.level in absurd (omega arith)
+
+  pub has-behind : (n : ℕ) → HasBehind cells g e n
+  has-behind n =
+      let is : take n tail ≡ cells_behind cells.block e.stamp n e.child = tail-found (nodes cells) cells.block e.stamp n e.child tail
+      (node-block cells e.child (off-gate e.child at-head.1)) (λ y h. node-block cells y (off-gate y (in-tail y h).level)) ok.group.walks.2 in
+      record {
+        found = ap (λ (ws : List ℕ). take n (drop 1 ws)) ok.group.walks.1 ∙ is;
+        behind = subst (Each (IsBehind cells g e.child)) is (each-left (IsBehind cells g e.child) (take n tail) (drop n tail)
+            (subst (Each (IsBehind cells g e.child)) (sym (take-append-drop n tail)) (each-cell (IsBehind cells g e.child) tail (λ y h.
+            let o = in-tail y h in
+            record { inside = o.inside; block = off-gate y o.level; apart = o.apart; level = o.level ∙ sym at-head.1; head = o.head }))));
+      }
+
+pub entry-behind : (table : Table) (cells : TreeCells) (g : Shape) (b place n : ℕ) (e : Entry) → IsTree table cells g → g.inside b ≡ true → b ≢ cells.gate_cell
+    → slice_get (entries_in (cells.block b).body) place ≡ Some e → HasBehind cells g e n
+entry-behind table cells g b place n e t bi bg at =
+    let w = around (entries_in (cells.block b).body) place e at in
+    let ne = eqb-ne (g.level b) 0 (sym (t.blocks b bi bg).kind ∙ has-entries (cells.block b).body place e at) in
+    let up : g.level b ≡ (g.level b - 1) + 1 = omega arith in
+    let is : (nodes cells b).entries ≡ w.front ++ e ∷ w.back = ap (λ (x : Node). x.entries) (node-block cells b bg) ∙ w.is in
+    let bb = t.tree.shape.below b bi in
+    let hh = t.height in
+    has-behind table cells g t (g.level b - 1) e (omega arith) (entry_ok g (nodes cells) table t.tree b (g.level b - 1) bi up e w.front w.back is) n
+
+pub root-behind : (table : Table) (cells : TreeCells) (g : Shape) (n : ℕ) → IsTree table cells g → HasBehind cells g (root_entry cells.gate) n
+root-behind table cells g n t =
+    let gl = t.level in
+    let s = t.some in
+    has-behind table cells g t (cells.gate.height - 1) (root_entry cells.gate) (omega arith)
+    (entry_ok g (nodes cells) table t.tree cells.gate_cell (cells.gate.height - 1) t.top (omega arith) (root_entry cells.gate) [] [] (ap (λ (x : Node). x.entries) (node-gate cells))) n

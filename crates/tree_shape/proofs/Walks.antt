@@ -1,5 +1,5 @@
 -- A division in the middle of a walk
-use Rattle.std.proofs.Common.{◌≡◌, ◌≢◌, ℕ, ◌+◌, Bool, true, false, cond, eqb, List, [], ◌∷◌, refl, sym, ◌∙◌, arith}
+use Rattle.std.proofs.Common.{◌≡◌, ◌≢◌, ℕ, ◌+◌, ◌≤◌, Bool, true, false, cond, eqb, List, [], ◌∷◌, refl, sym, ◌∙◌, arith}
 use Rattle.tree_shape.specs.Counts.{same, times}
 use Rattle.tree_shape.specs.Shape.{Node}
 use Rattle.tree_shape.specs.Walks.{IsTail, IsWalk}
@@ -29,6 +29,9 @@ same_is a b e = grind arith
 
 pub same_not : (a b : ℕ) → a ≢ b → same a b ≡ 0
 same_not a b e = grind arith
+
+pub same-le : (a b : ℕ) → same a b ≤ 1
+same-le a b = on_bool (eqb a b) (λ q. rw q (omega arith)) (λ q. rw q (omega arith))
 
 -- the step where the head is c, and where it is not
 pub put_behind-at : (c n y : ℕ) (ys : List ℕ) → eqb y c ≡ true → put_behind c n (y ∷ ys) ≡ y ∷ n ∷ put_behind c n ys

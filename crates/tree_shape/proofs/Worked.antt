@@ -26,7 +26,7 @@ use Rattle.tree_shape.specs.Counts.{Each, times}
 use Rattle.tree_shape.specs.Example.{AsksFor, HoldsFirst, IsAnswered, IsSample, IsUncut, Sample, Works, cells_at, first_rows, gate_after, halved_cells, leaf_of}
 use Rattle.tree_shape.specs.Queries.{IsUnfinished, NoneWaits, fits}
 use Rattle.tree_shape.specs.Shape.{Node, Shape, Table, TreeCells, nodes, numbers}
-use Rattle.tree_shape.specs.Steps.{AfterBegin, AfterPut, AfterStep, AfterVisit, IsIdle, IsSpare}
+use Rattle.tree_shape.specs.Steps.{AfterBegin, AfterPut, AfterStep, AfterVisit, AreApart, IsIdle, IsSpare}
 use Rattle.link_descent.specs.GateRead.{root_items}
 use Rattle.tree_shape.proofs.Walks.{on_bool, eqb-eq, eqb-ne, eqb-no, eqb-yes}
 use Rattle.tree_shape.proofs.Descends.{length-plus}
@@ -104,58 +104,89 @@ module _ (table : Table) (x : Sample) (d : IsSample table x) where
         only = o.others;
       }
 
+  -- blocks under the gate of the first n rows
+  abbrev pub under_gate : ℕ → (ℕ → Block) → TreeCells
+  under_gate n block = record { gate_cell = x.gate_cell; gate = gate_after table x n; block = block }
+
+  -- a tree with a row more
+  pub record HasNext (n : ℕ) (before after : TreeCells) (b : HoldsFirst table before n) : Type 0 where
+    pub holds : HoldsFirst table after (suc n)
+    pub inside : (y : ℕ) → holds.shape.inside y ≡ b.shape.inside y
+    pub spares : (s : Spare) → IsSpare b.shape (nodes before) s → IsSpare holds.shape (nodes after) s
+
+  -- the row comes in and is put in the root, a leaf with room
+  module _ (n : ℕ) (block now : ℕ → Block) (b : HoldsFirst table (under_gate n block) n) (leaf : is_leaf (block x.root).body ≡ true) (room : is_full (block x.root).body ≡ false)
+      (stamp : (now x.root).stamp ≡ (block x.root).stamp) (right : (now x.root).right ≡ (block x.root).right)
+      (body : (now x.root).body ≡ Rows (record { items = rows_in (block x.root).body ++ table.row n ∷ [] })) (other : (y : ℕ) → y ≢ x.root → now y ≡ block y) where
+    row-in : AfterStep table b.shape n x.root 1 (under_gate n block) (under_gate (suc n) block) [] []
+    row-in = goes-in table b.shape n (under_gate n block) (under_gate (suc n) block) empty_purse empty_purse plain b.tree (record {
+      gate_now = gate_after table x (suc n);
+      tail = [];
+      new = on_bool (b.shape.placed n) (λ p. let z = b.known n p in absurd (omega arith)) (λ p. p);
+      numbered = (d.numbered n).0;
+      valid = (d.numbered n).2;
+      behind = λ full. (let z : true ≡ false = sym full ∙ room in cc);
+      step = record {
+        step = inl (
+          root_entry (gate_after table x (suc n)),
+          record { gate_is = refl },
+          record { room = room; entry_is = with-row n; head_is = refl; purse_is = refl; fresh = refl; at = refl },
+        );
+      };
+      idle = λ q p c e. (let z : true ≡ false = sym c ∙ b.settled q p in cc);
+      spares = tt;
+      filled = tt;
+      other = λ y yc fr. refl;
+      gate_cell = refl;
+      gate = record { root = refl; height = refl };
+    })
+
+    row-put : AfterPut table row-in.shape n (under_gate (suc n) block) (under_gate (suc n) now)
+    row-put = after-put table row-in.shape n (under_gate (suc n) block) (under_gate (suc n) now) row-in.tree (record {
+      leaf = x.root;
+      placed = row-in.row.placed;
+      carried = row-in.row.carried;
+      at = row-in.row.at;
+      kind = leaf;
+      stamp = stamp;
+      right = right;
+      body = body;
+      other = other;
+      gate_cell = refl;
+      gate = record { root = refl; height = refl };
+    })
+
+    unused : row-in.used ≡ []
+    unused = sym row-in.purse_is
+
+    pub next-row : HasNext n (under_gate n block) (under_gate (suc n) now) b
+    next-row = record {
+      holds = record {
+        shape = row-put.shape;
+        tree = row-put.tree;
+        known = λ r pr. on_bool (eqb r n)
+            (λ z. let e = eqb-eq _ _ z in omega arith)
+            (λ z. let k = b.known r (sym (row-in.row.others_placed r (eqb-ne _ _ z)) ∙ sym (row-put.placed r) ∙ pr) in omega arith);
+        there = λ r lr. on_bool (eqb r n)
+            (λ z. row-put.placed r ∙ ap row-in.shape.placed (eqb-eq _ _ z) ∙ row-in.row.placed)
+            (λ z. let ne = eqb-ne _ _ z in row-put.placed r ∙ row-in.row.others_placed r ne ∙ b.there r (omega arith));
+        settled = λ r pr. on_bool (eqb r n)
+            (λ z. ap row-put.shape.carried (eqb-eq _ _ z) ∙ row-put.settled)
+            (λ z. let ne = eqb-ne _ _ z in row-put.carried r ne ∙ row-in.row.others_carried r ne ∙ b.settled r (sym (row-in.row.others_placed r ne) ∙ sym (row-put.placed r) ∙ pr));
+      };
+      inside = λ y. row-put.inside y ∙ row-in.inside y (subst (Each (λ (s : Spare). y ≢ s.cell)) (sym unused) tt);
+      spares = λ s u. row-put.spares s (row-in.spares s (subst (Each (AreApart s)) (sym unused) tt) u);
+    }
+
   next : (n : ℕ) → n < 32 → Filled n → Filled (suc n)
   next n lt f =
-      let b = f.holds in
-      let g = b.shape in
-      let row_new : g.placed n ≡ false = on_bool (g.placed n) (λ p. let z = b.known n p in absurd (omega arith)) (λ p. p) in
-      let room : is_full ((cells_at table x n n).block x.root).body ≡ false = rw (root-block n n) (let z = length-first table n in eqb-no _ _ (omega arith)) in
-      let idle : IsIdle g x.root = λ q p c e. (let z : true ≡ false = sym c ∙ b.settled q p in cc) in
-      let step : Enters table.hierarchy (table.row n) (gate_after table x n) (gate_after table x (suc n)) ((cells_at table x n n).block x.root) ((cells_at table x (suc n) n).block x.root) empty_purse empty_purse plain =
-      record { step = inl (root_entry (gate_after table x (suc n)), record { gate_is = refl }, record { room = room; entry_is = with-row n; head_is = refl; purse_is = refl; fresh = refl; at = refl }) } in
-      let a = goes-in table g n (cells_at table x n n) (cells_at table x (suc n) n) empty_purse empty_purse plain b.tree (record {
-        gate_now = gate_after table x (suc n);
-        new = row_new;
-        numbered = (d.numbered n).0;
-        valid = (d.numbered n).2;
-        step = step;
-        idle = idle;
-        spares = tt;
-        filled = tt;
-        other = λ y yc fr. refl;
-        gate_cell = refl;
-        gate = record { root = refl; height = refl };
-      }) in
-      let p = after-put table a.shape n (cells_at table x (suc n) n) (cells_at table x (suc n) (suc n)) a.tree (record {
-        leaf = x.root;
-        placed = a.row.placed;
-        carried = a.row.carried;
-        at = a.row.at;
-        kind = ap (λ (z : Block). is_leaf z.body) (root-block (suc n) n);
-        stamp = ap (λ (z : Block). z.stamp) (root-block (suc n) (suc n)) ∙ sym (ap (λ (z : Block). z.stamp) (root-block (suc n) n));
-        right = ap (λ (z : Block). z.right) (root-block (suc n) (suc n)) ∙ sym (ap (λ (z : Block). z.right) (root-block (suc n) n));
-        body = ap (λ (z : Block). z.body) (root-block (suc n) (suc n)) ∙ ap (λ (z : Block). let rows : List Row = rows_in z.body ++ table.row n ∷ [] in Rows (record { items = rows })) (sym (root-block (suc n) n));
-        other = λ y q. other-block (suc n) (suc n) y q ∙ sym (other-block (suc n) n y q);
-        gate_cell = refl;
-        gate = record { root = refl; height = refl };
-      }) in
-      let none : a.used ≡ [] = sym a.purse_is in
-      record {
-        holds = record {
-          shape = p.shape;
-          tree = p.tree;
-          known = λ r pr. on_bool (eqb r n)
-              (λ z. let e = eqb-eq _ _ z in omega arith)
-              (λ z. let k = b.known r (sym (a.row.others_placed r (eqb-ne _ _ z)) ∙ sym (p.placed r) ∙ pr) in omega arith);
-          there = λ r lr. on_bool (eqb r n)
-              (λ z. p.placed r ∙ ap a.shape.placed (eqb-eq _ _ z) ∙ a.row.placed)
-              (λ z. let ne = eqb-ne _ _ z in p.placed r ∙ a.row.others_placed r ne ∙ b.there r (omega arith));
-          settled = λ r pr. on_bool (eqb r n)
-              (λ z. ap p.shape.carried (eqb-eq _ _ z) ∙ p.settled)
-              (λ z. let ne = eqb-ne _ _ z in p.carried r ne ∙ a.row.others_carried r ne ∙ b.settled r (sym (a.row.others_placed r ne) ∙ sym (p.placed r) ∙ pr));
-        };
-        only = λ y yg yr. p.inside y ∙ a.inside y (subst (Each (λ (s : Spare). y ≢ s.cell)) (sym none) tt) ∙ f.only y yg yr;
-      }
+      let w = next-row n (cells_at table x n n).block (cells_at table x (suc n) (suc n)).block f.holds
+      (ap (λ (z : Block). is_leaf z.body) (root-block n n)) (rw (root-block n n) (let z = length-first table n in eqb-no _ _ (omega arith)))
+      (ap (λ (z : Block). z.stamp) (root-block (suc n) (suc n)) ∙ sym (ap (λ (z : Block). z.stamp) (root-block n n)))
+      (ap (λ (z : Block). z.right) (root-block (suc n) (suc n)) ∙ sym (ap (λ (z : Block). z.right) (root-block n n)))
+      (ap (λ (z : Block). z.body) (root-block (suc n) (suc n)) ∙ ap (λ (z : Block). let rows : List Row = rows_in z.body ++ table.row n ∷ [] in Rows (record { items = rows })) (sym (root-block n n)))
+      (λ y q. other-block (suc n) (suc n) y q ∙ sym (other-block n n y q)) in
+      record { holds = w.holds; only = λ y yg yr. w.inside y ∙ f.only y yg yr }
 
   pub fill : (n : ℕ) → n ≤ 32 → Filled n
   fill zero le = start
@@ -167,14 +198,14 @@ module _ (table : Table) (x : Sample) (d : IsSample table x) where
   item-sets [] h = tt
   item-sets (r ∷ rows) h = (subst (λ (at : Coord). IsSetOf table.hierarchy (at ∷ []) (x.set 1)) (sym h.0) ((d.grown 0).grown [] (All-nil _) d.empty), item-sets rows h.1)
 
-  places-first : ((r : ℕ) → x.place r ≡ x.place 0) → (n : ℕ) → Each (λ r. r.at ≡ x.place 0) (first_rows table n)
-  places-first one zero = tt
-  places-first one (suc n) = each-append (λ r. r.at ≡ x.place 0) (first_rows table n) (table.row n ∷ []) (places-first one n) ((d.numbered n).1 ∙ one n, tt)
+  places-first : (n : ℕ) → ((r : ℕ) → r < n → x.place r ≡ x.place 0) → Each (λ r. r.at ≡ x.place 0) (first_rows table n)
+  places-first zero one = tt
+  places-first (suc n) one = each-append (λ r. r.at ≡ x.place 0) (first_rows table n) (table.row n ∷ []) (places-first n (λ r lt. one r (omega arith))) ((d.numbered n).1 ∙ one n (omega arith), tt)
 
-  no-cut : ((r : ℕ) → x.place r ≡ x.place 0) → (m : ℕ) → IsUncut table m
-  no-cut one m = record {
+  pub no-cut : (m : ℕ) → ((r : ℕ) → r < m → x.place r ≡ x.place 0) → IsUncut table m
+  no-cut m one = record {
     sets = map (λ r. x.set 1) (first_rows table m);
-    are_sets = item-sets (first_rows table m) (places-first one m);
+    are_sets = item-sets (first_rows table m) (places-first m one);
     none = λ cut c good. c.level.differ (const-equal table.hierarchy (x.set 1) cut.dim cut.level (first_rows table m));
   }
 
@@ -239,10 +270,14 @@ module _ (table : Table) (x : Sample) (d : IsSample table x) where
     abbrev g : Shape
     g = b.shape
 
-    halves : Halves table.hierarchy (table.row m) (root_entry (gate_after table x m)) (root_entry (gate_after table x (suc m))) old (head_of (drop 16 (first_rows table m))) one_spare empty_purse divided
+    -- the root is its whole group, so nothing is behind it
+    abbrev tail : List ℕ
+    tail = take 2 (drop 1 (g.group x.root))
+
+    halves : Halves table.hierarchy (table.row m) (map before.block tail) (root_entry (gate_after table x m)) (root_entry (gate_after table x (suc m))) old (head_of (drop 16 (first_rows table m))) one_spare empty_purse divided
     halves = record {
       full = (let z = length-first table m in eqb-yes _ _ (omega arith));
-      why = inr uncut;
+      why = inl (refl, uncut);
       spare = x.spare;
       purse_is = refl;
       new = new;
@@ -252,17 +287,19 @@ module _ (table : Table) (x : Sample) (d : IsSample table x) where
       at = refl;
     }
 
-    step : Enters table.hierarchy (table.row m) (gate_after table x m) (gate_after table x (suc m)) (before.block x.root) (middle.block x.root) one_spare empty_purse divided
-    step = subst (λ (u : Block). Enters table.hierarchy (table.row m) (gate_after table x m) (gate_after table x (suc m)) u (middle.block x.root) one_spare empty_purse divided) (sym (root-block m m))
-        (subst (λ (u : Block). Enters table.hierarchy (table.row m) (gate_after table x m) (gate_after table x (suc m)) old u one_spare empty_purse divided) (sym (head-block (drop 16 (first_rows table m))))
+    step : Enters table.hierarchy (table.row m) (map before.block tail) (gate_after table x m) (gate_after table x (suc m)) (before.block x.root) (middle.block x.root) one_spare empty_purse divided
+    step = subst (λ (u : Block). Enters table.hierarchy (table.row m) (map before.block tail) (gate_after table x m) (gate_after table x (suc m)) u (middle.block x.root) one_spare empty_purse divided) (sym (root-block m m))
+        (subst (λ (u : Block). Enters table.hierarchy (table.row m) (map before.block tail) (gate_after table x m) (gate_after table x (suc m)) old u one_spare empty_purse divided) (sym (head-block (drop 16 (first_rows table m))))
         (record { step = inr (inl (root_entry (gate_after table x (suc m)), record { gate_is = refl }, halves)) }))
 
     came : AfterStep table g m x.root 1 before middle (x.spare ∷ []) []
     came = goes-in table g m before middle one_spare empty_purse divided b.tree (record {
       gate_now = gate_after table x (suc m);
+      tail = tail;
       new = on_bool (g.placed m) (λ p. let z = b.known m p in absurd (omega arith)) (λ p. p);
       numbered = (d.numbered m).0;
       valid = (d.numbered m).2;
+      behind = λ full. refl;
       step = step;
       idle = λ q p c e. (let z : true ≡ false = sym c ∙ b.settled q p in cc);
       spares = (spare-ok m f x.spare d.spare_gate d.spare_root d.spare_stamp, tt, tt);
@@ -309,6 +346,11 @@ module _ (table : Table) (x : Sample) (d : IsSample table x) where
       there = all-there;
       settled = all-settled;
     }
+
+    -- a spare that isn't used stays one
+    pub halved-spares : (s : Spare) → s.cell ≢ x.gate_cell → s.cell ≢ x.root → s.cell ≢ x.spare.cell → x.stamp ≢ s.stamp → s.stamp ≢ x.spare.stamp → IsSpare halved.shape (nodes after) s
+    unfolding halved
+    halved-spares s sg sr sc st ss = put-in.spares s (came.spares s (subst (Each (AreApart s)) came.purse_is ((sc, ss), tt)) (spare-ok m f s sg sr st))
 
     -- a query that noted the root before
 
@@ -392,4 +434,4 @@ module _ (table : Table) (x : Sample) (d : IsSample table x) where
           }
 
   pub works : Works table x
-  works = record { filled = λ n le. (fill n le).holds; one_place = no-cut; halved = halved; answered = answered }
+  works = record { filled = λ n le. (fill n le).holds; one_place = λ one m. no-cut m (λ r lt. one r); halved = halved; answered = answered }

@@ -1,6 +1,6 @@
 -- A worked example: a tree that begins as an empty leaf and takes 33 rows. The 33rd finds the root's head full; where it
 -- has no good cut, as where all rows are of one place, the root's group has two blocks from then on, and a query that
--- noted the root before is answered after it. Where it has a good cut, Cities goes on.
+-- noted the root before is answered after it; HeadCuts goes on from there. Where it has a good cut, Cities goes on.
 use Rattle.std.specs.Prelude.{ℕ, zero, suc, ◌≡◌, ◌≢◌, ◌+◌, ◌<◌, ◌≤◌, Bool, true, false, cond, eqb, Some, None, List, [], ◌∷◌, ◌++◌, take, drop}
 use Rattle.dim_hierarchy.specs.declared.row.Row.{Row}
 use Rattle.dim_hierarchy.specs.declared.row.Coord.{Coord}

@@ -12,9 +12,10 @@ use Rattle.dim_hierarchy.specs.declared.filter.Pick.{Pick}
 use Rattle.dc_node.specs.declared.block.Block.{Block}
 use Rattle.dc_node.specs.declared.todo.Item.{Item}
 use Rattle.cell_stock.specs.Stock.{PurseValue}
+use Rattle.shard_store.specs.Gate.{root_entry}
 use Rattle.link_descent.specs.declared.entered.Entered.{Entered}
 use Rattle.tree_shape.specs.Shape.{Table, Node, TreeCells, nodes, Shape}
-use Rattle.tree_shape.specs.Trees.{IsTree, BlockFits, IsBelow}
+use Rattle.tree_shape.specs.Trees.{IsTree, BlockFits, IsBelow, HasBehind}
 use Rattle.tree_shape.specs.Queries.{IsUnfinished, fits}
 use Rattle.tree_shape.specs.Tables.{AreAlike, IsThere, IsThereOrCounted, AfterTable}
 use Rattle.tree_shape.specs.Collecting.{IsCollecting, IsReadable, Reads, AfterRead, AfterCollecting, root_item}
@@ -49,6 +50,15 @@ ChildLaw = (table : Table) (cells : TreeCells) (g : Shape) (b place : ℕ) (e : 
 
 abbrev pub RootLaw : Type 0
 RootLaw = (table : Table) (cells : TreeCells) (g : Shape) → IsTree table cells g → IsBelow cells g cells.gate.root cells.gate.height
+
+-- the blocks behind the head that an entry or the gate leads to are found along right links
+
+abbrev pub BehindLaw : Type 0
+BehindLaw = (table : Table) (cells : TreeCells) (g : Shape) (b place n : ℕ) (e : Entry) → IsTree table cells g → g.inside b ≡ true → b ≢ cells.gate_cell
+    → slice_get (entries_in (cells.block b).body) place ≡ Some e → HasBehind cells g e n
+
+abbrev pub RootBehindLaw : Type 0
+RootBehindLaw = (table : Table) (cells : TreeCells) (g : Shape) (n : ℕ) → IsTree table cells g → HasBehind cells g (root_entry cells.gate) n
 
 abbrev pub LinkLaw : Type 0
 LinkLaw = (cells : TreeCells) (g : Shape) (must fits : ℕ → Bool) (items : List Item) (item : Item) (counted : List ℕ) → item.cell ≢ cells.gate_cell

@@ -10,3 +10,4 @@ pub mod Laws
 pub mod Forest
 pub mod Example
 pub mod Cities
+pub mod HeadCuts

@@ -1,11 +1,11 @@
 -- What the steps of inserts and queries find in the cells and leave there, in the words of the calls' contracts.
-use Rattle.std.specs.Prelude.{ℕ, ◌≡◌, ◌≢◌, ◌+◌, ◌<◌, ◌≤◌, ◌⊎◌, Bool, true, false, Some, List, [], ◌∷◌, ◌++◌, map, length, slice_get}
+use Rattle.std.specs.Prelude.{ℕ, ◌≡◌, ◌≢◌, ◌+◌, ◌<◌, ◌≤◌, ◌⊎◌, Bool, true, false, Some, List, [], ◌∷◌, ◌++◌, map, take, drop, length, slice_get}
 use Rattle.dim_hierarchy.specs.declared.filter.Pick.{Pick}
 use Rattle.dim_hierarchy.specs.Row.{IsRowOf}
 use Rattle.dim_hierarchy.specs.Filter.{IsFilterOf}
 use Rattle.describing_set.specs.DescSet.{IsSetOf}
 use Rattle.measure_agg.specs.Aggregate.{agg, join}
-use Rattle.dc_node.specs.Block.{rows_in, entries_in, is_leaf}
+use Rattle.dc_node.specs.Block.{rows_in, entries_in, is_leaf, is_full}
 use Rattle.dc_node.specs.declared.block.Body.TheVariants.{Rows}
 use Rattle.dc_node.specs.declared.block.Block.{Block}
 use Rattle.dc_node.specs.declared.entry.Entry.{Entry}
@@ -47,17 +47,19 @@ pub record LeadsAs (gate now : Gate) : Type 0 where
   pub root : root_entry now ≡ root_entry gate
   pub height : now.height ≡ gate.height
 
--- The row r, which is carried at a block, goes down by the entry at a place of it. Only that block, the head of the
--- entry's group and the cells of new blocks change.
+-- The row r, which is carried at a block, goes down by the entry at a place of it. Where the head of the entry's group is
+-- full, the step looks at the first two blocks behind it. Only the block, the head and the cells of new blocks change.
 pub record GoesDown (table : Table) (g : Shape) (r : ℕ) (before now : TreeCells) (purse purse_now : PurseValue) (entered : Entered) : Type 0 where
   pub parent : ℕ
   pub place : ℕ
   pub entry : Entry
+  pub tail : List ℕ
   pub placed : g.placed r ≡ true
   pub carried : g.carried r ≡ true
   pub at : g.at r ≡ parent
   pub entry_at : slice_get (entries_in (before.block parent).body) place ≡ Some entry
-  pub step : StepsDown table.hierarchy (table.row r) place (before.block parent) (now.block parent) (before.block entry.child) (now.block entry.child) purse purse_now entered
+  pub behind : is_full (before.block entry.child).body ≡ true → tail ≡ take 2 (drop 1 (g.group entry.child))
+  pub step : StepsDown table.hierarchy (table.row r) place (map before.block tail) (before.block parent) (now.block parent) (before.block entry.child) (now.block entry.child) purse purse_now entered
   pub idle : IsIdle g entry.child
   pub spares : AreSpares g (nodes before) purse.spares
   pub filled : Each (λ f. now.block f.cell ≡ f.block) entered.fresh.items
@@ -65,13 +67,16 @@ pub record GoesDown (table : Table) (g : Shape) (r : ℕ) (before now : TreeCell
   pub gate_cell : now.gate_cell ≡ before.gate_cell
   pub gate : LeadsAs before.gate now.gate
 
--- The row r, which is in no tree, comes in at the gate. Only the gate, the root's head and the cells of new blocks change.
+-- The row r, which is in no tree, comes in at the gate. Where the root is full, the step looks at the first two blocks
+-- behind it. Only the gate, the root and the cells of new blocks change.
 pub record GoesIn (table : Table) (g : Shape) (r : ℕ) (before now : TreeCells) (purse purse_now : PurseValue) (entered : Entered) : Type 0 where
   pub gate_now : Gate
+  pub tail : List ℕ
   pub new : g.placed r ≡ false
   pub numbered : (table.row r).no ≡ r
   pub valid : IsRowOf table.hierarchy (table.row r)
-  pub step : Enters table.hierarchy (table.row r) before.gate gate_now (before.block before.gate.root) (now.block before.gate.root) purse purse_now entered
+  pub behind : is_full (before.block before.gate.root).body ≡ true → tail ≡ take 2 (drop 1 (g.group before.gate.root))
+  pub step : Enters table.hierarchy (table.row r) (map before.block tail) before.gate gate_now (before.block before.gate.root) (now.block before.gate.root) purse purse_now entered
   pub idle : IsIdle g before.gate.root
   pub spares : AreSpares g (nodes before) purse.spares
   pub filled : Each (λ f. now.block f.cell ≡ f.block) entered.fresh.items

@@ -1,5 +1,6 @@
 -- What it means that cells hold a tree of blocks.
-use Rattle.std.specs.Prelude.{ℕ, ◌≡◌, ◌≢◌, ◌+◌, ◌≤◌, true, false, cond, eqb, None, [], map, All}
+use Rattle.std.specs.Prelude.{ℕ, zero, suc, ◌≡◌, ◌≢◌, ◌+◌, ◌≤◌, true, false, cond, eqb, None, List, [], ◌∷◌, map, take, drop, All}
+use Rattle.std.specs.Option.{option_map_or}
 use Rattle.dim_hierarchy.specs.Row.{IsRowOf}
 use Rattle.dc_node.specs.Block.{rows_in, entries_in, is_leaf, size, is_full, IsBodyOf}
 use Rattle.dc_node.specs.Summary.{IsSummaryOf, row_count}
@@ -80,3 +81,21 @@ pub record IsBelow (cells : TreeCells) (g : Shape) (c level : ℕ) : Type 0 wher
   pub block : c ≢ cells.gate_cell
   pub below : g.level c + 1 ≡ level
   pub head : g.head c ≡ c
+
+-- the cells behind a block along right links, so many at most, up to the first block with the stamp
+abbrev pub cells_behind : (ℕ → Block) → ℕ → ℕ → ℕ → List ℕ
+cells_behind block stamp zero y = []
+cells_behind block stamp (suc n) y = cond (eqb (block y).stamp stamp) [] (option_map_or (λ z. z ∷ cells_behind block stamp n z) (block y).right [])
+
+-- The cell is a block of the tree, not the gate, and another one than the head of its group.
+pub record IsBehind (cells : TreeCells) (g : Shape) (c y : ℕ) : Type 0 where
+  pub inside : g.inside y ≡ true
+  pub block : y ≢ cells.gate_cell
+  pub apart : y ≢ c
+  pub level : g.level y ≡ g.level c
+  pub head : g.head y ≡ c
+
+-- the first blocks of an entry's group behind its head are those that right links lead to
+pub record HasBehind (cells : TreeCells) (g : Shape) (e : Entry) (n : ℕ) : Type 0 where
+  pub found : take n (drop 1 (g.group e.child)) ≡ cells_behind cells.block e.stamp n e.child
+  pub behind : Each (IsBehind cells g e.child) (cells_behind cells.block e.stamp n e.child)

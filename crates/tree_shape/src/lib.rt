@@ -6,9 +6,10 @@ ghost use Rattle.std.specs.Prelude.{ℕ};
 ghost use Rattle.tree_shape.specs.Trees.{leaf_without_rows};
 ghost use Rattle.tree_shape.specs.Example.{ExampleLaw};
 ghost use Rattle.tree_shape.specs.Forest.{LeavesLaw, DirectoriesLaw, TreeLaw};
-ghost use Rattle.tree_shape.specs.Laws.{OpeningLaw, OrderLaw, GateLaw, BlockLaw, ChildLaw, RootLaw, LinkLaw, OtherLaw, InLaw, DownLaw, PutLaw, BeginLaw, VisitLaw, ElsewhereLaw, EndLaw};
+ghost use Rattle.tree_shape.specs.Laws.{OpeningLaw, OrderLaw, GateLaw, BlockLaw, ChildLaw, RootLaw, BehindLaw, RootBehindLaw, LinkLaw, OtherLaw, InLaw, DownLaw, PutLaw, BeginLaw, VisitLaw, ElsewhereLaw, EndLaw};
 ghost use Rattle.tree_shape.specs.Laws.{TreeTableLaw, QueryTableLaw, CollectBeginLaw, ReadableLaw, ReadLaw, CollectOtherLaw, CollectEndLaw};
 ghost use Rattle.tree_shape.specs.Cities.{CitiesLaw};
+ghost use Rattle.tree_shape.specs.HeadCuts.{HeadCutWork};
 
 /// A leaf without rows, which is its own group, is the root of a new tree.
 pub fn opening_law()
@@ -24,14 +25,16 @@ pub fn build_laws()
     ensures tree { TreeLaw }
 {}
 
-/// Aggregates and sets go by which rows there are, so a gate tells of its tree's rows; and each block
-/// of a tree is such as the steps ask for.
+/// Aggregates and sets go by which rows there are, so a gate tells of its tree's rows; each block of a
+/// tree is such as the steps ask for; and right links lead to the other blocks of a group.
 pub fn tree_laws()
     ensures order { OrderLaw }
     ensures gate { GateLaw }
     ensures block { BlockLaw }
     ensures child { ChildLaw }
     ensures root { RootLaw }
+    ensures behind { BehindLaw }
+    ensures root_behind { RootBehindLaw }
     ensures link { LinkLaw }
 {}
 
@@ -60,6 +63,12 @@ pub fn worked_example()
 /// and the blocks are collected.
 pub fn worked_cities()
     ensures { CitiesLaw }
+{}
+
+/// The worked example goes on: the halved root's head is full again, and what it has of one city is cut
+/// off the group. A query that noted the root before reads all three blocks.
+pub fn worked_head_cut()
+    ensures { HeadCutWork }
 {}
 
 /// The steps of a query leave it right, and with nothing noted any more it has counted what it had to,

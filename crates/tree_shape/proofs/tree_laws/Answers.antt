@@ -1,4 +1,4 @@
-use Rattle.tree_shape.proofs.Totals.{agg-times, set-times, gate-sum, block-fits, links-on, leads-down, leads-root}
+use Rattle.tree_shape.proofs.Totals.{agg-times, set-times, gate-sum, block-fits, links-on, leads-down, leads-root, entry-behind, root-behind}
 use Rattle.tree_shape.proofs.tree_laws.Goals as goal
 
 pub returns : goal.returns
@@ -8,5 +8,7 @@ returns _ = record {
   block = λ table cells g b tree w bi bg. block-fits table cells g tree b bi bg w;
   child = leads-down;
   root = leads-root;
+  behind = entry-behind;
+  root_behind = root-behind;
   link = links-on;
 }

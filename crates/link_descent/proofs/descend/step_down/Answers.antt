@@ -31,7 +31,7 @@ returns-in-Half-clause-step c =
     let w = c.requires.place.within in
     let m = length-map entries (λ e. e.set) in
     let here = entry_here c.entries.result.now entries c.from-place.result c.args.place c.index-entries-place.result c.copy-entry.result c.entries.ensures.value c.from-place.ensures (omega (arith, w, m, c.from-place.ensures)) c.index-entries-place.is c.copy-entry.ensures in
-    StepsDown-halves c.args.h.now c.args.row.now c.args.place c.args.parent.now c.set_entry-in-Half.new.self c.args.child.now c.make_room.new.head c.args.purse.now c.make_room.new.purse c.one.result
+    StepsDown-halves c.args.h.now c.args.row.now c.args.place c.args.tail.now c.args.parent.now c.set_entry-in-Half.new.self c.args.child.now c.make_room.new.head c.args.purse.now c.make_room.new.purse c.one.result
     c.copy-entry.result c.add_row-in-Half.new.self c.in-Half.fresh c.from-place.result c.from-place.ensures here c.set_entry-in-Half.ensures c.in-Half.ensures.step c.add_row-in-Half.ensures c.one.ensures.fresh c.one.ensures.at
 
 pub returns-in-Two-clause-step : goal.returns-in-Two-clause-step
@@ -41,5 +41,5 @@ returns-in-Two-clause-step c =
     let m = length-map entries (λ e. e.set) in
     let here = entry_here c.entries.result.now entries c.from-place.result c.args.place c.index-entries-place.result c.copy-entry.result c.entries.ensures.value c.from-place.ensures (omega (arith, w, m, c.from-place.ensures)) c.index-entries-place.is c.copy-entry.ensures in
     let shared = c.share-at.ensures.shared in
-    StepsDown-cuts c.args.h.now c.args.row.now c.args.place c.args.parent.now c.split_entry.new.self c.args.child.now c.make_room.new.head c.args.purse.now c.make_room.new.purse c.one-in-Two.result
+    StepsDown-cuts c.args.h.now c.args.row.now c.args.place c.args.tail.now c.args.parent.now c.split_entry.new.self c.args.child.now c.make_room.new.head c.args.purse.now c.make_room.new.purse c.one-in-Two.result
     c.copy-entry.result c.in-Two.left c.in-Two.right c.share-at.new.left c.share-at.new.right shared.0 c.in-Two.fresh c.from-place.result c.from-place.ensures here c.split_entry.ensures c.in-Two.ensures.step shared.1 c.one-in-Two.ensures.fresh (c.one-in-Two.ensures.at ∙ shared.2)

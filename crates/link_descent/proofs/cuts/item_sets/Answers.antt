@@ -2,11 +2,11 @@ use Rattle.std.proofs.Common.{subst, sym, ap, map, ◌∙◌}
 use Rattle.std.proofs.lemmas.List.Elements.{All-map, All-same}
 use Rattle.describing_set.specs.DescSet.{IsDescSetOf}
 use Rattle.dc_node.specs.Block.{IsBodyOf}
-use Rattle.link_descent.proofs.divide.item_sets.Goals as goal
+use Rattle.link_descent.proofs.cuts.item_sets.Goals as goal
 
 pub returns-in-Entries-clause-valid : goal.returns-in-Entries-clause-valid
 returns-in-Entries-clause-valid c =
     let h = c.args.h.now in
     let entries = c.in-Entries.entries.items in
-    All-same (IsDescSetOf h) c.entry_sets.result.items (map (λ e. e.set) entries) (c.entry_sets.ensures ∙ ap (map (λ e. e.set)) c.as_slice.ensures.value)
-    (All-map (IsDescSetOf h) (λ e. e.set) entries (subst (IsBodyOf h) c.in-Entries.is c.requires))
+    All-same (IsDescSetOf h) c.entry_sets.new.sets.items (map (λ e. e.set) entries) (c.entry_sets.ensures ∙ ap (map (λ e. e.set)) c.as_slice.ensures.value)
+    (All-map (IsDescSetOf h) (λ e. e.set) entries (subst (IsBodyOf h) c.in-Entries.is c.requires.body))

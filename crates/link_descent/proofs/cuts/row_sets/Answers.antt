@@ -6,7 +6,7 @@ use Rattle.dim_hierarchy.specs.declared.row.Row.{Row}
 use Rattle.describing_set.specs.DescSet.{IsSetOf, IsDescSetOf}
 use Rattle.describing_set.specs.declared.set.DescSet.{DescSet}
 use Rattle.link_descent.proofs.Items.{AllZip-more, no_row, row_there, row_read}
-use Rattle.link_descent.proofs.divide.row_sets.Goals as goal
+use Rattle.link_descent.proofs.cuts.row_sets.Goals as goal
 
 pub loop-place-preserved : goal.loop-place-preserved
 loop-place-preserved c =
