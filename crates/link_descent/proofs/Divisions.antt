@@ -1,5 +1,5 @@
 -- What the code knows of the good cut of a head, and of the good head cut of a group.
-use Rattle.std.proofs.Common.{ℕ, ◌≡◌, Option, Some, None, List, [], ◌++◌, length, subst, arith}
+use Rattle.std.proofs.Common.{ℕ, ◌≡◌, Option, Some, None, List, ◌++◌, length, subst, arith}
 use Rattle.std.specs.Prelude.{IfSome, IfNone, IsPermutation}
 use Rattle.std.specs.List.{range_with_len}
 use Rattle.dim_hierarchy.specs.Dimension.{Dimension}

@@ -26,7 +26,7 @@ use Rattle.dc_node.specs.declared.block.Body.{Body}
 use Rattle.dc_node.specs.declared.block.Body.TheVariants.{Rows, Entries}
 use Rattle.dc_node.specs.declared.block.Block.{Block}
 use Rattle.dc_node.specs.declared.entry.Entry.{Entry}
-use Rattle.link_descent.specs.Divide.{items_at, body_at, front, rest, half, together, AreItemSets, IsCutInTwo, IsCutByHead, IsHalved}
+use Rattle.link_descent.specs.Divide.{items_at, body_at, front, rest, half, AreItemSets, IsCutInTwo, IsCutByHead, IsHalved}
 use Rattle.link_descent.proofs.Items.{length-items_at, All-items_at, items_at-parts}
 
 -- Room.

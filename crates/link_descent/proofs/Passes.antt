@@ -1,5 +1,5 @@
 -- Steps at which nothing is divided.
-use Rattle.std.proofs.Common.{ℕ, ◌≡◌, ◌<◌, inl, List, length, get_or, refl, sym, ap, ◌∙◌, subst}
+use Rattle.std.proofs.Common.{ℕ, ◌≡◌, ◌<◌, inl, List, length, refl, sym, ap, ◌∙◌}
 use Rattle.std.specs.Prelude.{slice_get, slice_set, Some}
 use Rattle.dim_hierarchy.specs.declared.row.Row.{Row}
 use Rattle.dim_hierarchy.specs.Dimension.{Dimension}

@@ -1,5 +1,5 @@
 -- Room at a head that is cut, and what is new then.
-use Rattle.std.proofs.Common.{ℕ, ◌≡◌, ◌+◌, ◌≤◌, true, List, [], refl, sym, ap, ◌∙◌, arith, inl, inr}
+use Rattle.std.proofs.Common.{ℕ, ◌≡◌, ◌+◌, ◌≤◌, true, List, [], refl, ap, ◌∙◌, arith, inl, inr}
 use Rattle.dim_hierarchy.specs.Dimension.{Dimension}
 use Rattle.dc_node.specs.Block.{is_full, IsBodyOf}
 use Rattle.dc_node.specs.Summary.{row_count}
@@ -11,7 +11,7 @@ use Rattle.cell_stock.specs.Stock.{PurseValue}
 use Rattle.cell_stock.specs.declared.purse.Spare.{Spare}
 use Rattle.link_descent.specs.Divide.{body_at, front, together, ends_with, IsCutInTwo, IsCutByHead}
 use Rattle.link_descent.specs.Descend.{IsAlone, IsTakenFrom}
-use Rattle.link_descent.specs.Room.{AreTwoGroups, MakesRoom, HasRoom, AreNew}
+use Rattle.link_descent.specs.Room.{AreTwoGroups, MakesRoom, AreNew}
 use Rattle.link_descent.specs.declared.descend.Room.{Room}
 use Rattle.link_descent.specs.declared.descend.Room.TheVariants.{Had, Half, Two}
 use Rattle.link_descent.proofs.Parts.{ArePartsOf, IsCutInTwo-parts, IsCutByHead-parts, IsSummary-count}

@@ -105,6 +105,12 @@ MakesRoom h tail entry head head_now purse purse_now Had = (is_full head.body �
 MakesRoom h tail entry head head_now purse purse_now (Half fresh) = HalvesHead h tail entry head head_now purse purse_now fresh
 MakesRoom h tail entry head head_now purse purse_now (Two fresh left right) = CutsHead h tail entry left right head head_now purse purse_now fresh
 
+-- how many blocks are new then
+abbrev pub new_blocks : Room → ℕ
+new_blocks Had = 0
+new_blocks (Half fresh) = 1
+new_blocks (Two fresh left right) = 1
+
 -- a block of the hierarchy with room
 pub record HasRoom (h : List Dimension) (block : Block) : Type 0 where
   pub valid : IsBodyOf h block.body

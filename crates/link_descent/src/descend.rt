@@ -1,4 +1,4 @@
-ghost use Rattle.std.specs.Prelude.{◌≡◌, ◌+◌, ◌^◌, ◌<◌, ◌≤◌, true, false, List, [], ◌∷◌, ◌++◌, length, map, slice_get, All, IfSome};
+ghost use Rattle.std.specs.Prelude.{◌≡◌, ◌+◌, ◌*◌, ◌^◌, ◌<◌, ◌≤◌, true, false, List, [], ◌∷◌, ◌++◌, length, map, slice_get, All, IfSome};
 ghost use Rattle.dim_hierarchy.specs.Dimension.{Dimension};
 ghost use Rattle.dim_hierarchy.specs.Row.{IsRowOf};
 ghost use Rattle.describing_set.specs.DescSet.{IsDescSetOf};
@@ -12,7 +12,7 @@ ghost use Rattle.dc_node.specs.Entry.{IsWithRow};
 ghost use Rattle.link_descent.specs.Descend.{IsEntryOf, IsShared, StepsDown, Enters};
 ghost use Rattle.link_descent.specs.Pass.{PassesDown, PassesIn};
 ghost use Rattle.link_descent.specs.Divide.{together};
-ghost use Rattle.link_descent.specs.Room.{MakesRoom, AreTwoGroups, HasRoom, AreNew, IsRaised};
+ghost use Rattle.link_descent.specs.Room.{MakesRoom, AreTwoGroups, new_blocks, HasRoom, AreNew, IsRaised};
 ghost use Rattle.dc_node.specs.declared.entry.Entry.{Entry};
 
 use crate::choice::is_before;
@@ -126,7 +126,7 @@ fn make_room(
     ensures step { MakesRoom h.now tail.now entry.now head.old head.new purse.old purse.new result }
     ensures head { HasRoom h.now head.new }
     ensures new { AreNew h.now (row_count (together head.old.body tail.now)) result }
-    ensures blanks { blanks.old ≤ blanks.new + 2 }
+    ensures blanks { blanks.old ≤ blanks.new + 2 * new_blocks result }
 {
     if !head.is_full() {
         return Room::Had;
@@ -171,7 +171,7 @@ pub fn step_down(
     ensures child { HasRoom h.now child.new }
     ensures fresh { All (λ f. HasRoom h.now f.block) result.fresh.items }
     ensures entries { length (entries_in parent.new.body) ≤ 16 }
-    ensures blanks { blanks.old ≤ blanks.new + 2 }
+    ensures blanks { blanks.old ≤ blanks.new + 2 * length result.fresh.items }
 {
     let place = usize::from(place);
     let mut entry = parent.entries()[place].copy();
@@ -261,7 +261,7 @@ pub fn enter_root(
     ensures set { IsDescSetOf h.now gate.new.set }
     ensures root { HasRoom h.now root.new }
     ensures height { gate.new.height ≤ gate.old.height + 1 }
-    ensures blanks { blanks.old ≤ blanks.new + 3 }
+    ensures blanks { blanks.old ≤ blanks.new + 2 * length result.fresh.items }
     ensures fresh { All (λ f. HasRoom h.now f.block) result.fresh.items }
 {
     let mut entry = root_entry(gate);

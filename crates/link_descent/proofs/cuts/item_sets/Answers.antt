@@ -1,4 +1,4 @@
-use Rattle.std.proofs.Common.{subst, sym, ap, map, ◌∙◌}
+use Rattle.std.proofs.Common.{subst, ap, map, ◌∙◌}
 use Rattle.std.proofs.lemmas.List.Elements.{All-map, All-same}
 use Rattle.describing_set.specs.DescSet.{IsDescSetOf}
 use Rattle.dc_node.specs.Block.{IsBodyOf}

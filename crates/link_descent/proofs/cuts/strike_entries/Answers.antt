@@ -1,4 +1,4 @@
-use Rattle.std.proofs.Common.{[], refl, subst, arith}
+use Rattle.std.proofs.Common.{[], refl, subst}
 use Rattle.std.proofs.lemmas.List.{take_all}
 use Rattle.dc_node.specs.declared.block.Body.TheVariants.{Entries}
 use Rattle.link_descent.specs.Room.{Strikes}

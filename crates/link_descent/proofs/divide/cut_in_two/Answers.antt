@@ -1,4 +1,4 @@
-use Rattle.std.proofs.Common.{ℕ, ◌<◌, length, arith}
+use Rattle.std.proofs.Common.{◌<◌, arith}
 use Rattle.std.proofs.lemmas.List.{length-append}
 use Rattle.dc_node.specs.Block.{size}
 use Rattle.hierarchy_split.proofs.Crossings.{all_left, all_right}

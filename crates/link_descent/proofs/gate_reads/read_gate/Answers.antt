@@ -7,7 +7,7 @@ use Rattle.describing_set.specs.Filter.{is_inside}
 use Rattle.dc_node.specs.Summary.{joined, aggs}
 use Rattle.dc_node.specs.declared.entry.Entry.{Entry}
 use Rattle.link_descent.specs.Visit.{taken}
-use Rattle.link_descent.specs.GateRead.{queue_part, tree_part}
+use Rattle.link_descent.specs.GateRead.{tree_part}
 use Rattle.shard_store.specs.Gate.{root_entry}
 use Rattle.link_descent.proofs.gate_reads.read_gate.Goals as goal
 

@@ -1,4 +1,4 @@
-use Rattle.std.proofs.Common.{subst, sym, [], ◌∷◌, ◌++◌, List}
+use Rattle.std.proofs.Common.{subst, sym, [], ◌∷◌, ◌++◌}
 use Rattle.std.specs.Prelude.{IfSome}
 use Rattle.std.specs.Option.{option_copied, option_to_list}
 use Rattle.std.proofs.lemmas.List.Elements.{All-nil, All-cons}

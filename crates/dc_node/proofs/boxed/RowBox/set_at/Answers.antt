@@ -5,7 +5,7 @@ use Rattle.arrayvec.specs.ArrayVec.{ArrayVec as Items}
 use Rattle.dim_hierarchy.specs.declared.row.Row.{Row}
 use Rattle.dim_hierarchy.specs.Row.{IsRowOf}
 use Rattle.dc_node.specs.declared.columns.Columns.{Columns}
-use Rattle.dc_node.specs.Columns.{row_at, rows_of}
+use Rattle.dc_node.specs.Columns.{rows_of}
 use Rattle.describing_set.specs.DescSet.{IsSetOf}
 use Rattle.dc_node.proofs.Rows.{length_rows, row_fact, row_of_rows}
 use Rattle.dc_node.proofs.boxed.RowBox.set_at.Goals as goal

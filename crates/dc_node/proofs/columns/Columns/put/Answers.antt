@@ -1,4 +1,4 @@
-use Rattle.std.proofs.Common.{rules, arith, ◌≡◌, ◌<◌, length}
+use Rattle.std.proofs.Common.{rules}
 use Rattle.dc_node.proofs.Rows.{push_rows}
 use Rattle.dc_node.proofs.columns.Columns.put.Goals as goal
 
