@@ -5,3 +5,8 @@ pub mod Widens
 pub mod Rows
 pub mod AcksInsert
 pub mod Ready
+pub mod Going
+pub mod Laid
+pub mod Fars
+pub mod Frontiers
+pub mod RoutesInsert
