@@ -5,3 +5,7 @@ pub mod Widens
 pub mod Rows
 pub mod AcksInsert
 pub mod Ready
+pub mod Begun
+pub mod Owed
+pub mod Remains
+pub mod BeginsInsert
