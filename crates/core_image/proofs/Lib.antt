@@ -10,3 +10,7 @@ pub mod Laid
 pub mod Fars
 pub mod Frontiers
 pub mod RoutesInsert
+pub mod Begun
+pub mod Owed
+pub mod Remains
+pub mod BeginsInsert

@@ -2,5 +2,7 @@
 #![tactic(auto)]
 
 mod acks;
+mod begins;
 
 pub use acks::ack;
+pub use begins::begin_insert;
