@@ -2,6 +2,8 @@
 //! still before it; and that the steps of inserts and queries keep it.
 #![tactic(auto)]
 
+mod going_on;
+
 ghost use Rattle.std.specs.Prelude.{ℕ};
 ghost use Rattle.tree_shape.specs.Trees.{leaf_without_rows};
 ghost use Rattle.tree_shape.specs.Example.{ExampleLaw};
@@ -9,6 +11,8 @@ ghost use Rattle.tree_shape.specs.Forest.{LeavesLaw, DirectoriesLaw, TreeLaw};
 ghost use Rattle.tree_shape.specs.Laws.{OpeningLaw, OrderLaw, GateLaw, BlockLaw, ChildLaw, RootLaw, LinkLaw, OtherLaw, InLaw, DownLaw, PutLaw, BeginLaw, VisitLaw, ElsewhereLaw, EndLaw};
 ghost use Rattle.tree_shape.specs.Laws.{TreeTableLaw, QueryTableLaw, CollectBeginLaw, ReadableLaw, ReadLaw, CollectOtherLaw, CollectEndLaw};
 ghost use Rattle.tree_shape.specs.Cities.{CitiesLaw};
+
+pub use going_on::{carrying_laws, visiting_laws};
 
 /// A leaf without rows, which is its own group, is the root of a new tree.
 pub fn opening_law()
