@@ -31,6 +31,8 @@ pub mod Beginnings
 pub mod Others
 pub mod Openings
 pub mod Totals
+pub mod Deepest
+pub mod VisitsLeft
 pub mod Tables
 pub mod Collects
 pub mod Worked

@@ -6,6 +6,8 @@ pub mod Queries
 pub mod Steps
 pub mod Tables
 pub mod Collecting
+pub mod Carrying
+pub mod Visiting
 pub mod Laws
 pub mod Forest
 pub mod Example

@@ -2,6 +2,8 @@
 //! still before it; and that the steps of inserts and queries keep it.
 #![tactic(auto)]
 
+mod going_on;
+
 ghost use Rattle.std.specs.Prelude.{ℕ};
 ghost use Rattle.tree_shape.specs.Trees.{leaf_without_rows};
 ghost use Rattle.tree_shape.specs.Example.{ExampleLaw};
@@ -10,6 +12,8 @@ ghost use Rattle.tree_shape.specs.Laws.{OpeningLaw, OrderLaw, GateLaw, BlockLaw,
 ghost use Rattle.tree_shape.specs.Laws.{TreeTableLaw, QueryTableLaw, CollectBeginLaw, ReadableLaw, ReadLaw, CollectOtherLaw, CollectEndLaw};
 ghost use Rattle.tree_shape.specs.Cities.{CitiesLaw};
 ghost use Rattle.tree_shape.specs.HeadCuts.{HeadCutWork};
+
+pub use going_on::{carrying_laws, visiting_laws};
 
 /// A leaf without rows, which is its own group, is the root of a new tree.
 pub fn opening_law()

@@ -1,0 +1,72 @@
+-- Facts on the actors that can step.
+use Rattle.std.proofs.Common.{◌≡◌, ℕ, zero, suc, ◌+◌, ◌<◌, ◌≤◌, ◌⊎◌, inl, inr, Bool, true, false, cond, List, [], ◌∷◌, ◌++◌, length, Some, refl, ap, ◌∙◌, subst, arith, length-append, add-one}
+use Rattle.std.specs.List.{slice_get}
+use Rattle.seeded_turns.specs.Drawn.{able}
+
+skipped : (b : Bool) (xs ys : List ℕ) → b ≡ false → cond b xs ys ≡ ys
+skipped b xs ys e = rw e
+
+taken : (b : Bool) (xs ys : List ℕ) → b ≡ true → cond b xs ys ≡ xs
+taken b xs ys e = rw e
+
+-- one more actor that can't step, or can
+pub able_skip : (can : ℕ → Bool) (n : ℕ) → can n ≡ false → able can (n + 1) ≡ able can n
+able_skip can n e = rw add-one (skipped (can n) (able can n ++ n ∷ []) (able can n) e)
+
+pub able_take : (can : ℕ → Bool) (n : ℕ) → can n ≡ true → able can (n + 1) ≡ able can n ++ n ∷ []
+able_take can n e = rw add-one (taken (can n) (able can n ++ n ∷ []) (able can n) e)
+
+few_step : (b : Bool) (xs : List ℕ) (n : ℕ) → length xs ≤ n → length (cond b (xs ++ n ∷ []) xs) ≤ suc n
+few_step true xs n h = simp length-append (omega arith)
+few_step false xs n h = omega arith
+
+pub able_few : (can : ℕ → Bool) (n : ℕ) → length (able can n) ≤ n
+able_few can zero = omega arith
+able_few can (suc n) = few_step (can n) (able can n) n (able_few can n)
+
+-- an item of a list is one of a longer one; the item behind a list stands at its length
+get_front : (xs ys : List ℕ) (k i : ℕ) → slice_get xs k ≡ Some i → slice_get (xs ++ ys) k ≡ Some i
+get_front [] ys k i e = cc
+get_front (x ∷ xs) ys zero i e = e
+get_front (x ∷ xs) ys (suc k) i e = get_front xs ys k i e
+
+get_behind : (xs : List ℕ) (i : ℕ) → slice_get (xs ++ i ∷ []) (length xs) ≡ Some i
+get_behind [] i = refl
+get_behind (x ∷ xs) i = get_behind xs i
+
+place_kept : (b : Bool) (xs : List ℕ) (n k i : ℕ) → slice_get xs k ≡ Some i → slice_get (cond b (xs ++ n ∷ []) xs) k ≡ Some i
+place_kept true xs n k i e = get_front xs (n ∷ []) k i e
+place_kept false xs n k i e = e
+
+below_or_at : (i n : ℕ) → i < suc n → (i < n) ⊎ (i ≡ n)
+below_or_at i n h = grind arith
+
+-- an actor that can step stands behind the lower ones
+pub able_place : (can : ℕ → Bool) (n i : ℕ) → i < n → can i ≡ true → slice_get (able can n) (length (able can i)) ≡ Some i
+able_place can zero i h e = absurd (omega arith)
+able_place can (suc n) i h e =
+    elim (below_or_at i n h) [
+      | inl below ↦ place_kept (can n) (able can n) n (length (able can i)) i (able_place can n i below e)
+      | inr at ↦ subst (λ m. slice_get (able can (suc m)) (length (able can i)) ≡ Some i) at
+          (rw (taken (can i) (able can i ++ i ∷ []) (able can i) e) (get_behind (able can i) i))
+    ]
+
+last_of : (xs : List ℕ) (n k i : ℕ) → slice_get (xs ++ n ∷ []) k ≡ Some i → (slice_get xs k ≡ Some i) ⊎ (i ≡ n)
+last_of [] n zero i e = inr (cc)
+last_of [] n (suc k) i e = cc
+last_of (x ∷ xs) n zero i e = inl e
+last_of (x ∷ xs) n (suc k) i e = last_of xs n k i e
+
+is_step : (b : Bool) (can : ℕ → Bool) (n k i : ℕ) → can n ≡ b → (slice_get (able can n) k ≡ Some i → (i < n) × (can i ≡ true))
+    → slice_get (cond b (able can n ++ n ∷ []) (able can n)) k ≡ Some i → (i < suc n) × (can i ≡ true)
+is_step false can n k i is more e = let m = more e in (omega (arith, m.0), m.1)
+is_step true can n k i is more e =
+    elim (last_of (able can n) n k i e) [
+      | inl before ↦ let m = more before in (omega (arith, m.0), m.1)
+      | inr at ↦ (omega arith, ap can at ∙ is)
+    ]
+
+-- each of the actors is below the number, and can step
+pub able_is : (can : ℕ → Bool) (n k i : ℕ) → slice_get (able can n) k ≡ Some i → (i < n) × (can i ≡ true)
+able_is can zero k i e = cc
+able_is can (suc n) k i e = is_step (can n) can n k i refl (able_is can n k i) e

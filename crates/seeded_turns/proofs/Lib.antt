@@ -1,0 +1,3 @@
+pub mod Able
+pub mod Reaching
+pub mod Keeping
