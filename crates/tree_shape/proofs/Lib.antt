@@ -33,6 +33,7 @@ pub mod Openings
 pub mod Totals
 pub mod Deepest
 pub mod VisitsLeft
+pub mod Beneath
 pub mod Tables
 pub mod Collects
 pub mod Worked
