@@ -1,5 +1,6 @@
 pub mod Lists
 pub mod Asking
+pub mod Behind
 pub mod Ways
 pub mod Puts
 pub mod Inserts

@@ -1,10 +1,17 @@
 -- Numbers in lists, and rows by their numbers.
-use Rattle.std.proofs.Common.{ℕ, ◌≡◌, ◌≢◌, ◌≤◌, Bool, true, false, cond, eqb, List, [], ◌∷◌, length, map, refl, sym, ap, ◌∙◌, arith}
+use Rattle.std.proofs.Common.{ℕ, ◌≡◌, ◌≢◌, ◌<◌, ◌≤◌, Bool, true, false, cond, eqb, List, [], ◌∷◌, length, map, Some, get_or, slice_get, refl, sym, ap, ◌∙◌, subst, arith}
+use Rattle.std.proofs.lemmas.Option.{slice_get-get_or}
 use Rattle.std.specs.List.{filter}
 use Rattle.dim_hierarchy.specs.declared.row.Row.{Row}
 use Rattle.tree_shape.specs.Counts.{Each, times}
 use Rattle.tree_shape.specs.Shape.{Table, numbers}
 use Rattle.tree_shape.proofs.Walks.{on_bool, eqb-eq, same_is, same_not}
+
+-- what is read at a place of a list, which is known by another name
+pub read-at : {A : Type 0} (xs ys : List A) (i place : ℕ) (d : A) → place < length ys → xs ≡ ys → i ≡ place → slice_get ys place ≡ Some (get_or xs i d)
+read-at {A} xs ys i place d within same at =
+    let few : i < length xs = (let n = ap length same in omega arith) in
+    subst (λ (zs : List A). slice_get zs place ≡ Some (get_or xs i d)) same (subst (λ (j : ℕ). slice_get xs j ≡ Some (get_or xs i d)) at (slice_get-get_or xs i d few))
 
 -- the row of a number in a list
 abbrev pub lookup : Row → ℕ → List Row → Row

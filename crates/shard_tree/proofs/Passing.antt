@@ -10,7 +10,7 @@ use Rattle.shard_store.specs.declared.gate.Gate.{Gate}
 use Rattle.link_descent.specs.Pass.{passed, PassesDown, PassesIn}
 use Rattle.tree_shape.specs.Trees.{leaf_without_rows}
 use Rattle.block_cells.specs.Blocks.{block_at}
-use Rattle.shard_tree.specs.Ways.{lent, WentDown, WentIn}
+use Rattle.shard_tree.specs.Ways.{lent, tail_of, WentDown, WentIn}
 
 abbrev none : Block
 none = leaf_without_rows 0
@@ -42,7 +42,7 @@ passed-down h row at place cell blocks now purse parent p is leads apart room =
       parent_now = parent;
       child_now = child;
       entered = passed p.entry.child;
-      step = p.step child purse (ap (λ (b : Block). is_full b.body) same ∙ room);
+      step = p.step (tail_of (block_at (set (set blocks at none) p.entry.child none)) p.entry.stamp child) child purse (ap (λ (b : Block). is_full b.body) same ∙ room);
       blocks_are = is ∙ one-changed blocks at p.entry.child parent apart;
       at_is = leads;
     }
@@ -52,7 +52,7 @@ pub passed-in : (h : List Dimension) (row : Row) (gate gate_now : Gate) (blocks 
 passed-in h row gate gate_now blocks purse p room = record {
   root_now = block_at blocks gate.root;
   entered = passed gate.root;
-  step = p (block_at blocks gate.root) purse room;
+  step = p (tail_of (block_at (set blocks gate.root none)) gate.stamp (block_at blocks gate.root)) (block_at blocks gate.root) purse room;
   blocks_are = lent-back blocks gate.root;
   at_is = refl;
 }

@@ -17,22 +17,25 @@ use Rattle.dc_node.specs.declared.entry.Entry.{Entry}
 use Rattle.cell_stock.specs.Stock.{PurseValue, cells_of as stock_cells}
 use Rattle.cell_stock.specs.declared.purse.Spare.{Spare}
 use Rattle.cell_stock.proofs.Cells.{IsDistinct-left, IsDistinct-apart}
+use Rattle.shard_store.specs.Gate.{root_entry}
 use Rattle.shard_store.specs.declared.gate.Gate.{Gate}
 use Rattle.link_descent.specs.Descend.{StepsDown, Enters}
+use Rattle.link_descent.specs.Divide.{together}
 use Rattle.link_descent.specs.declared.entered.Entered.{Entered}
 use Rattle.link_descent.specs.declared.entered.Fresh.{Fresh}
 use Rattle.tree_shape.specs.Counts.{Each, same, times}
 use Rattle.tree_shape.specs.Shape.{Table, Node, nodes, Shape, numbers}
-use Rattle.tree_shape.specs.Trees.{BlockFits, BlockOk, IsBelow, leaf_without_rows}
+use Rattle.tree_shape.specs.Trees.{BehindFits, BlockFits, BlockOk, HasBehind, IsBehind, IsBelow, cells_behind, leaf_without_rows}
 use Rattle.tree_shape.specs.Steps.{IsSpare, AreSpares, AreApart, IsIdle, AfterStep}
-use Rattle.tree_shape.specs.Laws.{GateLaw, BlockLaw, ChildLaw, RootLaw, DownLaw, InLaw}
+use Rattle.tree_shape.specs.Laws.{GateLaw, BlockLaw, ChildLaw, RootLaw, BehindLaw, RootBehindLaw, BehindFitsLaw, RootBehindFitsLaw, DownLaw, InLaw}
 use Rattle.shard_tree.specs.Shard.{ShardValue, table_of, cells_of, rows_of, Holds, IsBlankOutside}
-use Rattle.shard_tree.specs.Ways.{with_parts, IsOut, Carries, WentDown, WentIn, CanGoDown}
+use Rattle.shard_tree.specs.Ways.{with_parts, tail_of, IsOut, Carries, WentDown, WentIn, CanGoDown}
 use Rattle.tree_shape.proofs.Queries.{leb-le, leb-gt}
 use Rattle.tree_shape.proofs.Walks.{on_bool, eqb-eq, eqb-ne, same_is, same_not}
 use Rattle.block_cells.proofs.Fresh.{AreNewCells, length-with_fresh, fresh-other, fresh-filled, set-here, set-there}
 use Rattle.block_cells.proofs.Lists.{each-append_left, each-append_right}
 use Rattle.block_cells.specs.Blocks.{block_at}
+use Rattle.shard_tree.proofs.Behind.{AreSeen, tail-cells}
 
 -- spares at the front of a purse stay out and spare
 
@@ -116,9 +119,9 @@ no-fresh n purse purse_now fs e f = subst (AreFresh n purse purse_now) (sym f) (
   apart = tt;
 })
 
-pub fresh-down : (n : ℕ) (h : List Dimension) (row : Row) (place : ℕ) (parent parent_now head head_now : Block) (purse purse_now : PurseValue) (entered : Entered)
-    → StepsDown h row place parent parent_now head head_now purse purse_now entered → AreFresh n purse.spares purse_now.spares entered.fresh.items × (length purse.spares ≤ length purse_now.spares + 1)
-fresh-down n h row place parent parent_now head head_now purse purse_now entered step = elim step.step [
+pub fresh-down : (n : ℕ) (h : List Dimension) (row : Row) (place : ℕ) (tail : List Block) (parent parent_now head head_now : Block) (purse purse_now : PurseValue) (entered : Entered)
+    → StepsDown h row place tail parent parent_now head head_now purse purse_now entered → AreFresh n purse.spares purse_now.spares entered.fresh.items × (length purse.spares ≤ length purse_now.spares + 1)
+fresh-down n h row place tail parent parent_now head head_now purse purse_now entered step = elim step.step [
   | inl w ↦ (let e : purse.spares ≡ purse_now.spares = ap (λ (p : PurseValue). p.spares) (sym w.2.purse_is) in let l = ap length e in (no-fresh n purse.spares purse_now.spares entered.fresh.items e w.2.fresh, omega arith))
   | inr more ↦ elim more [
     | inl w ↦ (let l = ap length w.2.purse_is ∙ length-append purse_now.spares (w.2.spare ∷ []) in (one-fresh n purse.spares purse_now.spares w.2.spare w.2.new entered.fresh.items w.2.purse_is w.2.fresh, omega arith))
@@ -126,10 +129,10 @@ fresh-down n h row place parent parent_now head head_now purse purse_now entered
   ]
 ]
 
-pub fresh-in : (n : ℕ) (h : List Dimension) (row : Row) (gate gate_now : Gate) (root root_now : Block) (purse purse_now : PurseValue) (entered : Entered)
-    → Enters h row gate gate_now root root_now purse purse_now entered → gate.height + 2 ≤ length purse.spares → (look : ℕ → Node) (g : Shape) → AreSpares g look purse.spares
+pub fresh-in : (n : ℕ) (h : List Dimension) (row : Row) (tail : List Block) (gate gate_now : Gate) (root root_now : Block) (purse purse_now : PurseValue) (entered : Entered)
+    → Enters h row tail gate gate_now root root_now purse purse_now entered → gate.height + 2 ≤ length purse.spares → (look : ℕ → Node) (g : Shape) → AreSpares g look purse.spares
     → AreFresh n purse.spares purse_now.spares entered.fresh.items × (gate_now.height ≤ length purse_now.spares + 1)
-fresh-in n h row gate gate_now root root_now purse purse_now entered step enough look g own = elim step.step [
+fresh-in n h row tail gate gate_now root root_now purse purse_now entered step enough look g own = elim step.step [
   | inl w ↦ (let e : purse.spares ≡ purse_now.spares = ap (λ (p : PurseValue). p.spares) (sym w.2.purse_is) in let l = ap length e in let k : gate_now.height ≡ gate.height = ap (λ (x : Gate). x.height) w.1.gate_is in
       (no-fresh n purse.spares purse_now.spares entered.fresh.items e w.2.fresh, omega arith))
   | inr more ↦ elim more [
@@ -155,9 +158,9 @@ fresh-in n h row gate gate_now root root_now purse purse_now entered step enough
 ]
 
 -- the rest of a gate is as it was
-pub enters-keeps : (h : List Dimension) (row : Row) (gate gate_now : Gate) (root root_now : Block) (purse purse_now : PurseValue) (entered : Entered)
-    → Enters h row gate gate_now root root_now purse purse_now entered → (gate_now.queue ≡ gate.queue) × (gate_now.phase ≡ gate.phase) × (gate.height ≤ gate_now.height)
-enters-keeps h row gate gate_now root root_now purse purse_now entered step = elim step.step [
+pub enters-keeps : (h : List Dimension) (row : Row) (tail : List Block) (gate gate_now : Gate) (root root_now : Block) (purse purse_now : PurseValue) (entered : Entered)
+    → Enters h row tail gate gate_now root root_now purse purse_now entered → (gate_now.queue ≡ gate.queue) × (gate_now.phase ≡ gate.phase) × (gate.height ≤ gate_now.height)
+enters-keeps h row tail gate gate_now root root_now purse purse_now entered step = elim step.step [
   | inl w ↦ (ap (λ (x : Gate). x.queue) w.1.gate_is, ap (λ (x : Gate). x.phase) w.1.gate_is, (let k = ap (λ (x : Gate). x.height) w.1.gate_is in omega arith))
   | inr more ↦ elim more [
     | inl w ↦ (ap (λ (x : Gate). x.queue) w.1.gate_is, ap (λ (x : Gate). x.phase) w.1.gate_is, (let k = ap (λ (x : Gate). x.height) w.1.gate_is in omega arith))
@@ -367,6 +370,39 @@ module _ (h : List Dimension) (row : Row) (find : ℕ → Row) (found : find row
       pub entry-few : e.agg.count + 1 < 2 ^ 63
       entry-few = let a = entry-of (λ (x : Entry). x.agg.count ≤ s.gate.agg.count) (entries_in (block_at s.blocks at).body) place e entry_at fit-at.entries in let n = gate-count gates in omega arith
 
+      -- the blocks behind the child, seen while parent and child are lent
+      abbrev beneath : List ℕ
+      beneath = cells_behind (block_at s.blocks) e.stamp 2 e.child
+
+      abbrev lent-out : List Block
+      lent-out = set (set s.blocks at (leaf_without_rows 0)) e.child (leaf_without_rows 0)
+
+      still-there : (z : ℕ) → IsBehind (cells_of s) g e.child z → block_at lent-out z ≡ block_at s.blocks z
+      still-there z k =
+          set-there (set s.blocks at (leaf_without_rows 0)) e.child z (leaf_without_rows 0) k.apart
+          ∙ set-there s.blocks at z (leaf_without_rows 0) (λ q. let l = below.below in let m = k.level in let n = ap g.level q in absurd (omega arith))
+
+      seen-behind : (zs : List ℕ) → Each (IsBehind (cells_of s) g e.child) zs → AreSeen (block_at s.blocks) (block_at lent-out) zs
+      seen-behind [] k = tt
+      seen-behind (z ∷ zs) k = (still-there z k.0, seen-behind zs k.1)
+
+      pub tail-is : BehindLaw → tail_of (block_at lent-out) e.stamp (block_at (set s.blocks at (leaf_without_rows 0)) e.child) ≡ map (block_at s.blocks) beneath
+      tail-is behinds =
+          let k : HasBehind (cells_of s) g e 2 = behinds (table_of h find) (cells_of s) g at place 2 e ca.tree at-inside at-home entry_at in
+          ap (tail_of (block_at lent-out) e.stamp) child-same ∙ tail-cells (block_at s.blocks) (block_at lent-out) e.stamp e.child (seen-behind beneath k.behind)
+
+      pub tail-valid : BehindLaw → BehindFitsLaw → All (λ (b : Block). IsBodyOf h b.body) (tail_of (block_at lent-out) e.stamp (block_at (set s.blocks at (leaf_without_rows 0)) e.child))
+      tail-valid behinds fit =
+          let k : BehindFits (table_of h find) (cells_of s) e 2 = fit (table_of h find) (cells_of s) g at place 2 e ca.tree valid.hierarchy at-inside at-home entry_at in
+          subst (All (λ (b : Block). IsBodyOf h b.body)) (sym (tail-is behinds)) k.bodies
+
+      pub tail-few : BehindLaw → BehindFitsLaw
+          → row_count (together (block_at (set s.blocks at (leaf_without_rows 0)) e.child).body (tail_of (block_at lent-out) e.stamp (block_at (set s.blocks at (leaf_without_rows 0)) e.child))) + 1 < 2 ^ 63
+      tail-few behinds fit =
+          let k : BehindFits (table_of h find) (cells_of s) e 2 = fit (table_of h find) (cells_of s) g at place 2 e ca.tree valid.hierarchy at-inside at-home entry_at in
+          let same = ap (λ (b : Block). together b.body (tail_of (block_at lent-out) e.stamp (block_at (set s.blocks at (leaf_without_rows 0)) e.child))) child-same ∙ ap (together (block_at s.blocks e.child).body) (tail-is behinds) in
+          subst (λ (b : Body). row_count b + 1 < 2 ^ 63) (sym same) (let c = k.count in let f = entry-few in omega arith)
+
     module _ (result : ℕ) (blocks : List Block) (purse : PurseValue) (w : WentDown h row at result s.blocks blocks s.purse purse) where
       bel : IsBelow (cells_of s) g w.entry.child (g.level at)
       bel = below w.place w.entry w.entry_at
@@ -375,7 +411,7 @@ module _ (h : List Dimension) (row : Row) (find : ℕ → Row) (found : find row
       apart = child-apart w.place w.entry w.entry_at
 
       fr : AreFresh (length s.blocks) s.purse.spares purse.spares w.entered.fresh.items × (length s.purse.spares ≤ length purse.spares + 1)
-      fr = fresh-down (length s.blocks) h row w.place (block_at s.blocks at) w.parent_now (block_at (set s.blocks at (leaf_without_rows 0)) w.entry.child) w.child_now s.purse purse w.entered w.step
+      fr = fresh-down (length s.blocks) h row w.place (tail_of (block_at (set (set s.blocks at (leaf_without_rows 0)) w.entry.child (leaf_without_rows 0))) w.entry.stamp (block_at (set s.blocks at (leaf_without_rows 0)) w.entry.child)) (block_at s.blocks at) w.parent_now (block_at (set s.blocks at (leaf_without_rows 0)) w.entry.child) w.child_now s.purse purse w.entered w.step
 
       not-fresh : (y : ℕ) → Each (λ (u : Spare). y ≢ u.cell) fr.0.used → Each (λ f. y ≢ f.cell) w.entered.fresh.items
       not-fresh y h2 = fresh-each (λ c. y ≢ c) fr.0.used w.entered.fresh.items h2 fr.0.cells
@@ -433,23 +469,30 @@ module _ (h : List Dimension) (row : Row) (find : ℕ → Row) (found : find row
       filled-is : Each (λ f. block_at blocks f.cell ≡ f.block) w.entered.fresh.items
       filled-is = subst (λ bs. Each (λ f. block_at bs f.cell ≡ f.block) w.entered.fresh.items) (sym w.blocks_are) (fresh-filled b4 w.entered.fresh.items fresh-within fr.0.apart)
 
-      pub gone-down : DownLaw → Carries (table_of h find) row.no rows (with_parts s s.gate blocks purse) result level
-      gone-down downs =
+      pub gone-down : DownLaw → BehindLaw → Carries (table_of h find) row.no rows (with_parts s s.gate blocks purse) result level
+      gone-down downs behinds =
           let t = table_of h find in
           let now = with_parts s s.gate blocks purse in
-          let step1 : StepsDown h (find r) w.place (block_at s.blocks at) w.parent_now (block_at (set s.blocks at x) w.entry.child) w.child_now s.purse purse w.entered
-          = subst (λ (q : Row). StepsDown h q w.place (block_at s.blocks at) w.parent_now (block_at (set s.blocks at x) w.entry.child) w.child_now s.purse purse w.entered) (sym found) w.step in
-          let step2 = subst (λ (b : Block). StepsDown h (find r) w.place (block_at s.blocks at) w.parent_now b w.child_now s.purse purse w.entered) (child-same w.place w.entry w.entry_at) step1 in
-          let step3 = subst (λ (b : Block). StepsDown h (find r) w.place (block_at s.blocks at) b (block_at s.blocks w.entry.child) w.child_now s.purse purse w.entered) (sym parent-is) step2 in
-          let step4 = subst (λ (b : Block). StepsDown h (find r) w.place (block_at s.blocks at) (block_at blocks at) (block_at s.blocks w.entry.child) b s.purse purse w.entered) (sym child-is) step3 in
+          let tail = cells_behind (block_at s.blocks) w.entry.stamp 2 w.entry.child in
+          let bs = map (block_at s.blocks) (cells_behind (block_at s.blocks) w.entry.stamp 2 w.entry.child) in
+          let step0 : StepsDown h row w.place bs (block_at s.blocks at) w.parent_now (block_at (set s.blocks at x) w.entry.child) w.child_now s.purse purse w.entered
+          = subst (λ (q : List Block). StepsDown h row w.place q (block_at s.blocks at) w.parent_now (block_at (set s.blocks at x) w.entry.child) w.child_now s.purse purse w.entered) (tail-is w.place w.entry w.entry_at behinds) w.step in
+          let step1 : StepsDown h (find r) w.place bs (block_at s.blocks at) w.parent_now (block_at (set s.blocks at x) w.entry.child) w.child_now s.purse purse w.entered
+          = subst (λ (q : Row). StepsDown h q w.place bs (block_at s.blocks at) w.parent_now (block_at (set s.blocks at x) w.entry.child) w.child_now s.purse purse w.entered) (sym found) step0 in
+          let step2 = subst (λ (b : Block). StepsDown h (find r) w.place bs (block_at s.blocks at) w.parent_now b w.child_now s.purse purse w.entered) (child-same w.place w.entry w.entry_at) step1 in
+          let step3 = subst (λ (b : Block). StepsDown h (find r) w.place bs (block_at s.blocks at) b (block_at s.blocks w.entry.child) w.child_now s.purse purse w.entered) (sym parent-is) step2 in
+          let step4 = subst (λ (b : Block). StepsDown h (find r) w.place bs (block_at s.blocks at) (block_at blocks at) (block_at s.blocks w.entry.child) b s.purse purse w.entered) (sym child-is) step3 in
+          let behind : HasBehind (cells_of s) g w.entry 2 = behinds (table_of h find) (cells_of s) g at w.place 2 w.entry ca.tree at-inside at-home w.entry_at in
           let a : AfterStep t g r w.entered.at (g.level (g.at r)) (cells_of s) (cells_of now) s.purse.spares purse.spares = downs t g r (cells_of s) (cells_of now) s.purse purse w.entered ca.tree (record {
             parent = at;
             place = w.place;
             entry = w.entry;
+            tail = tail;
             placed = ca.row_placed;
             carried = ca.row_carried;
             at = ca.row_at;
             entry_at = w.entry_at;
+            behind = λ full. sym behind.found;
             step = step4;
             idle = others-idle w.entry.child apart;
             spares = ca.own;
@@ -513,22 +556,33 @@ module _ (h : List Dimension) (row : Row) (gate : Gate) (blocks : List Block) (m
       asks-child-few = subst (λ (c : ℕ). row_count (block_at (set blocks at (leaf_without_rows 0)) c).body + 1 < 2 ^ 63) (sym is)
           (child-few h row k.find k.found k.before none-before was at level k.carries valid fits kids gates k.few place e entry_at)
 
+      module _ (behinds : BehindLaw) (fit : BehindFitsLaw) where
+        abbrev asked-tail : List Block
+        asked-tail = tail_of (block_at (set (set blocks at (leaf_without_rows 0)) e.child (leaf_without_rows 0))) e.stamp (block_at (set blocks at (leaf_without_rows 0)) e.child)
+
+        pub asks-tail : All (λ (b : Block). IsBodyOf h b.body) (tail_of (block_at (set (set blocks at (leaf_without_rows 0)) e.child (leaf_without_rows 0))) e.stamp (block_at (set blocks at (leaf_without_rows 0)) e.child))
+        asks-tail = tail-valid h row k.find k.found k.before none-before was at level k.carries valid fits kids gates k.few place e entry_at behinds fit
+
+        pub asks-tail-few : row_count (together (block_at (set blocks at (leaf_without_rows 0)) e.child).body
+            (tail_of (block_at (set (set blocks at (leaf_without_rows 0)) e.child (leaf_without_rows 0))) e.stamp (block_at (set blocks at (leaf_without_rows 0)) e.child))) + 1 < 2 ^ 63
+        asks-tail-few = tail-few h row k.find k.found k.before none-before was at level k.carries valid fits kids gates k.few place e entry_at behinds fit
+
       pub asks-entry-few : e.agg.count + 1 < 2 ^ 63
       asks-entry-few = entry-few h row k.find k.found k.before none-before was at level k.carries valid fits kids gates k.few place e entry_at
 
-  pub asks-fresh : (place : ℕ) (parent parent_now head head_now : Block) (purse_now : PurseValue) (entered : Entered) → StepsDown h row place parent parent_now head head_now purse purse_now entered
+  pub asks-fresh : (place : ℕ) (tail : List Block) (parent parent_now head head_now : Block) (purse_now : PurseValue) (entered : Entered) → StepsDown h row place tail parent parent_now head head_now purse purse_now entered
       → (n : ℕ) → n ≡ length blocks → Each (λ f. f.cell < n) entered.fresh.items
-  asks-fresh place parent parent_now head head_now purse_now entered step n e =
-      let fr = fresh-down (length blocks) h row place parent parent_now head head_now purse purse_now entered step in
+  asks-fresh place tail parent parent_now head head_now purse_now entered step n e =
+      let fr = fresh-down (length blocks) h row place tail parent parent_now head head_now purse purse_now entered step in
       let within = all-within (length blocks) purse.spares (subst (λ (m : ℕ). All (λ c. c < m) (stock_cells purse.spares)) k.carries.out.cells k.carries.out.out.known) in
       subst (λ (m : ℕ). Each (λ f. f.cell < m) entered.fresh.items) (sym e)
       (fresh-each (λ c. c < length blocks) fr.0.used entered.fresh.items (each-append_right (λ (u : Spare). u.cell < length blocks) purse_now.spares fr.0.used (subst (AreWithin (length blocks)) fr.0.purse_is within)) fr.0.cells)
 
   -- the new blocks stand where blocks are made
-  pub asks-fresh-made : (place : ℕ) (parent parent_now head head_now : Block) (purse_now : PurseValue) (entered : Entered) → StepsDown h row place parent parent_now head head_now purse purse_now entered
+  pub asks-fresh-made : (place : ℕ) (tail : List Block) (parent parent_now head head_now : Block) (purse_now : PurseValue) (entered : Entered) → StepsDown h row place tail parent parent_now head head_now purse purse_now entered
       → (n : ℕ) → n ≡ missing → Each (λ f. n ≤ f.cell) entered.fresh.items
-  asks-fresh-made place parent parent_now head head_now purse_now entered step n e =
-      let fr = fresh-down (length blocks) h row place parent parent_now head head_now purse purse_now entered step in
+  asks-fresh-made place tail parent parent_now head head_now purse_now entered step n e =
+      let fr = fresh-down (length blocks) h row place tail parent parent_now head head_now purse purse_now entered step in
       let made : Each (λ (x : Spare). n ≤ x.cell) purse.spares = subst (λ (m : ℕ). Each (λ (x : Spare). m ≤ x.cell) purse.spares) (k.made ∙ sym e) k.carries.out.made in
       fresh-each (λ c. n ≤ c) fr.0.used entered.fresh.items (each-append_right (λ (u : Spare). n ≤ u.cell) purse_now.spares fr.0.used (subst (Each (λ (u : Spare). n ≤ u.cell)) fr.0.purse_is made)) fr.0.cells
 
@@ -553,18 +607,18 @@ module _ (h : List Dimension) (row : Row) (find : ℕ → Row) (found : find row
       (λ q. let p : times row.no (numbers (rows_of s.blocks)) ≡ 1 = holds.placed row.no ∙ (rw q refl) in absurd (omega arith))
       (λ q. q)
 
-  pub in-fresh : (gate_now : Gate) (root root_now : Block) (purse_now : PurseValue) (entered : Entered) → Enters h row s.gate gate_now root root_now s.purse purse_now entered → s.gate.height + 2 ≤ length s.purse.spares
+  pub in-fresh : (tail : List Block) (gate_now : Gate) (root root_now : Block) (purse_now : PurseValue) (entered : Entered) → Enters h row tail s.gate gate_now root root_now s.purse purse_now entered → s.gate.height + 2 ≤ length s.purse.spares
       → (n : ℕ) → n ≡ length s.blocks → Each (λ f. f.cell < n) entered.fresh.items
-  in-fresh gate_now root root_now purse_now entered step enough n e =
-      let fr = fresh-in (length s.blocks) h row s.gate gate_now root root_now s.purse purse_now entered step enough (nodes (cells_of s)) g0 holds.own in
+  in-fresh tail gate_now root root_now purse_now entered step enough n e =
+      let fr = fresh-in (length s.blocks) h row tail s.gate gate_now root root_now s.purse purse_now entered step enough (nodes (cells_of s)) g0 holds.own in
       let within = all-within (length s.blocks) s.purse.spares (subst (λ (m : ℕ). All (λ c. c < m) (stock_cells s.purse.spares)) out.cells out.out.known) in
       subst (λ (m : ℕ). Each (λ f. f.cell < m) entered.fresh.items) (sym e)
       (fresh-each (λ c. c < length s.blocks) fr.0.used entered.fresh.items (each-append_right (λ (u : Spare). u.cell < length s.blocks) purse_now.spares fr.0.used (subst (AreWithin (length s.blocks)) fr.0.purse_is within)) fr.0.cells)
 
-  pub in-fresh-made : (gate_now : Gate) (root root_now : Block) (purse_now : PurseValue) (entered : Entered) → Enters h row s.gate gate_now root root_now s.purse purse_now entered → s.gate.height + 2 ≤ length s.purse.spares
+  pub in-fresh-made : (tail : List Block) (gate_now : Gate) (root root_now : Block) (purse_now : PurseValue) (entered : Entered) → Enters h row tail s.gate gate_now root root_now s.purse purse_now entered → s.gate.height + 2 ≤ length s.purse.spares
       → (n : ℕ) → n ≡ s.missing → Each (λ f. n ≤ f.cell) entered.fresh.items
-  in-fresh-made gate_now root root_now purse_now entered step enough n e =
-      let fr = fresh-in (length s.blocks) h row s.gate gate_now root root_now s.purse purse_now entered step enough (nodes (cells_of s)) g0 holds.own in
+  in-fresh-made tail gate_now root root_now purse_now entered step enough n e =
+      let fr = fresh-in (length s.blocks) h row tail s.gate gate_now root root_now s.purse purse_now entered step enough (nodes (cells_of s)) g0 holds.own in
       let made : Each (λ (x : Spare). n ≤ x.cell) s.purse.spares = subst (λ (m : ℕ). Each (λ (x : Spare). m ≤ x.cell) s.purse.spares) (sym e) out.made in
       fresh-each (λ c. n ≤ c) fr.0.used entered.fresh.items (each-append_right (λ (u : Spare). n ≤ u.cell) purse_now.spares fr.0.used (subst (Each (λ (u : Spare). n ≤ u.cell)) fr.0.purse_is made)) fr.0.cells
 
@@ -583,12 +637,33 @@ module _ (h : List Dimension) (row : Row) (find : ℕ → Row) (found : find row
         let k = length-map (rows_of s.blocks) (λ (x : Row). x.no) in
         omega arith
 
-    pub root-few : row_count (block_at s.blocks s.gate.root).body + 1 < 2 ^ 63
-    root-few = let a = fit-root.count in let n = gate-few-in in omega arith
+    -- the blocks behind the root, seen while it is lent
+    abbrev behind-root : List ℕ
+    behind-root = cells_behind (block_at s.blocks) s.gate.stamp 2 s.gate.root
+
+    seen-root : (zs : List ℕ) → Each (IsBehind (cells_of s) g0 s.gate.root) zs → AreSeen (block_at s.blocks) (block_at (set s.blocks s.gate.root (leaf_without_rows 0))) zs
+    seen-root [] k = tt
+    seen-root (z ∷ zs) k = (set-there s.blocks s.gate.root z (leaf_without_rows 0) k.0.apart, seen-root zs k.1)
+
+    pub root-tail-is : RootBehindLaw → tail_of (block_at (set s.blocks s.gate.root (leaf_without_rows 0))) s.gate.stamp (block_at s.blocks s.gate.root) ≡ map (block_at s.blocks) behind-root
+    root-tail-is behinds =
+        let k : HasBehind (cells_of s) g0 (root_entry s.gate) 2 = behinds (table_of h find) (cells_of s) g0 2 holds.tree in
+        tail-cells (block_at s.blocks) (block_at (set s.blocks s.gate.root (leaf_without_rows 0))) s.gate.stamp s.gate.root (seen-root behind-root k.behind)
+
+    pub root-tail-valid : RootBehindLaw → RootBehindFitsLaw → All (λ (b : Block). IsBodyOf h b.body) (tail_of (block_at (set s.blocks s.gate.root (leaf_without_rows 0))) s.gate.stamp (block_at s.blocks s.gate.root))
+    root-tail-valid behinds fit =
+        let k : BehindFits (table_of h find) (cells_of s) (root_entry s.gate) 2 = fit (table_of h find) (cells_of s) g0 2 holds.tree valid.hierarchy in
+        subst (All (λ (b : Block). IsBodyOf h b.body)) (sym (root-tail-is behinds)) k.bodies
+
+    pub root-few : RootBehindLaw → RootBehindFitsLaw
+        → row_count (together (block_at s.blocks s.gate.root).body (tail_of (block_at (set s.blocks s.gate.root (leaf_without_rows 0))) s.gate.stamp (block_at s.blocks s.gate.root))) + 1 < 2 ^ 63
+    root-few behinds fit =
+        let k : BehindFits (table_of h find) (cells_of s) (root_entry s.gate) 2 = fit (table_of h find) (cells_of s) g0 2 holds.tree valid.hierarchy in
+        subst (λ (bs : List Block). row_count (together (block_at s.blocks s.gate.root).body bs) + 1 < 2 ^ 63) (sym (root-tail-is behinds)) (let c = k.count in let f = gate-few-in in omega arith)
 
     module _ (gate_now : Gate) (result : ℕ) (blocks : List Block) (purse : PurseValue) (w : WentIn h row result s.gate gate_now s.blocks blocks s.purse purse) (enough : s.gate.height + 2 ≤ length s.purse.spares) where
       fr0 : AreFresh (length s.blocks) s.purse.spares purse.spares w.entered.fresh.items × (gate_now.height ≤ length purse.spares + 1)
-      fr0 = fresh-in (length s.blocks) h row s.gate gate_now (block_at s.blocks s.gate.root) w.root_now s.purse purse w.entered w.step enough (nodes (cells_of s)) g0 holds.own
+      fr0 = fresh-in (length s.blocks) h row (tail_of (block_at (set s.blocks s.gate.root (leaf_without_rows 0))) s.gate.stamp (block_at s.blocks s.gate.root)) s.gate gate_now (block_at s.blocks s.gate.root) w.root_now s.purse purse w.entered w.step enough (nodes (cells_of s)) g0 holds.own
 
       not-fresh0 : (y : ℕ) → Each (λ (u : Spare). y ≢ u.cell) fr0.0.used → Each (λ f. y ≢ f.cell) w.entered.fresh.items
       not-fresh0 y h2 = fresh-each (λ c. y ≢ c) fr0.0.used w.entered.fresh.items h2 fr0.0.cells
@@ -638,18 +713,24 @@ module _ (h : List Dimension) (row : Row) (find : ℕ → Row) (found : find row
       filled-is0 : Each (λ f. block_at blocks f.cell ≡ f.block) w.entered.fresh.items
       filled-is0 = subst (λ bs. Each (λ f. block_at bs f.cell ≡ f.block) w.entered.fresh.items) (sym w.blocks_are) (fresh-filled c2 w.entered.fresh.items fresh-within0 fr0.0.apart)
 
-      pub gone-in : InLaw → (level : ℕ) → gate_now.height ≡ level + 1 → Carries (table_of h find) row.no (rows_of s.blocks) (with_parts s gate_now blocks purse) result level
-      gone-in ins level height =
+      pub gone-in : InLaw → RootBehindLaw → (level : ℕ) → gate_now.height ≡ level + 1 → Carries (table_of h find) row.no (rows_of s.blocks) (with_parts s gate_now blocks purse) result level
+      gone-in ins behinds level height =
           let t = table_of h find in
           let now = with_parts s gate_now blocks purse in
-          let step1 : Enters h (find row.no) s.gate gate_now (block_at s.blocks s.gate.root) w.root_now s.purse purse w.entered
-          = subst (λ (q : Row). Enters h q s.gate gate_now (block_at s.blocks s.gate.root) w.root_now s.purse purse w.entered) (sym found) w.step in
-          let step2 = subst (λ (b : Block). Enters h (find row.no) s.gate gate_now (block_at s.blocks s.gate.root) b s.purse purse w.entered) (sym root-is) step1 in
+          let bs = map (block_at s.blocks) (cells_behind (block_at s.blocks) s.gate.stamp 2 s.gate.root) in
+          let step0 : Enters h row bs s.gate gate_now (block_at s.blocks s.gate.root) w.root_now s.purse purse w.entered
+          = subst (λ (q : List Block). Enters h row q s.gate gate_now (block_at s.blocks s.gate.root) w.root_now s.purse purse w.entered) (root-tail-is behinds) w.step in
+          let step1 : Enters h (find row.no) bs s.gate gate_now (block_at s.blocks s.gate.root) w.root_now s.purse purse w.entered
+          = subst (λ (q : Row). Enters h q bs s.gate gate_now (block_at s.blocks s.gate.root) w.root_now s.purse purse w.entered) (sym found) step0 in
+          let step2 = subst (λ (b : Block). Enters h (find row.no) bs s.gate gate_now (block_at s.blocks s.gate.root) b s.purse purse w.entered) (sym root-is) step1 in
+          let behind : HasBehind (cells_of s) g0 (root_entry s.gate) 2 = behinds (table_of h find) (cells_of s) g0 2 holds.tree in
           let a : AfterStep t g0 row.no w.entered.at gate_now.height (cells_of s) (cells_of now) s.purse.spares purse.spares = ins t g0 row.no (cells_of s) (cells_of now) s.purse purse w.entered holds.tree (record {
             gate_now = gate_now;
+            tail = cells_behind (block_at s.blocks) s.gate.stamp 2 s.gate.root;
             new = not-placed;
             numbered = ap (λ (x : Row). x.no) found;
             valid = subst (IsRowOf h) (sym found) valid;
+            behind = λ full. sym behind.found;
             step = step2;
             idle = λ q p ca e. let z : true ≡ false = sym ca ∙ holds.settled q p in cc;
             spares = holds.own;

@@ -1,5 +1,6 @@
 -- The way of a row down the tree: what the steps find in the cells and leave there.
-use Rattle.std.specs.Prelude.{ℕ, ◌≡◌, ◌≢◌, ◌+◌, ◌<◌, ◌≤◌, ◌^◌, true, false, cond, Some, slice_get, List, ◌++◌, length, Contains, set}
+use Rattle.std.specs.Prelude.{ℕ, ◌≡◌, ◌≢◌, ◌+◌, ◌<◌, ◌≤◌, ◌^◌, true, false, cond, if◌then◌else◌, ◌==◌, Option, Some, None, option_map, slice_get, List, [], ◌∷◌, ◌++◌, length, Contains, set}
+use Rattle.std.specs.Option.{option_map_or, option_to_list}
 use Rattle.dim_hierarchy.specs.declared.row.Row.{Row}
 use Rattle.dim_hierarchy.specs.Dimension.{Dimension}
 use Rattle.cell_stock.specs.Stock.{PurseValue, AreOut, cells_of as stock_cells}
@@ -20,6 +21,14 @@ use Rattle.block_cells.specs.Blocks.{block_at, with_fresh}
 -- a block that was lent from its cell is back in it, changed
 abbrev pub lent : List Block → ℕ → Block → List Block
 lent blocks cell block = set (set blocks cell (leaf_without_rows 0)) cell block
+
+-- the block to the right, unless this one has the stamp that is expected of the last one
+abbrev pub next_behind : (ℕ → Block) → ℕ → Block → Option Block
+next_behind look expected block = if block.stamp == expected then None else option_map look block.right
+
+-- the blocks behind a head up to the expected stamp, two at most
+abbrev pub tail_of : (ℕ → Block) → ℕ → Block → List Block
+tail_of look expected head = option_map_or (λ first. first ∷ option_to_list (next_behind look expected first)) (next_behind look expected head) []
 
 -- the shard with other parts
 abbrev pub with_parts : ShardValue → Gate → List Block → PurseValue → ShardValue
@@ -57,7 +66,7 @@ pub record WentDown (h : List Dimension) (row : Row) (at result : ℕ) (blocks b
   pub parent_now : Block
   pub child_now : Block
   pub entered : Entered
-  pub step : StepsDown h row place (block_at blocks at) parent_now (block_at (set blocks at (leaf_without_rows 0)) entry.child) child_now purse purse_now entered
+  pub step : StepsDown h row place (tail_of (block_at (set (set blocks at (leaf_without_rows 0)) entry.child (leaf_without_rows 0))) entry.stamp (block_at (set blocks at (leaf_without_rows 0)) entry.child)) (block_at blocks at) parent_now (block_at (set blocks at (leaf_without_rows 0)) entry.child) child_now purse purse_now entered
   pub blocks_are : blocks_now ≡ with_fresh (set (set (set (set blocks at (leaf_without_rows 0)) entry.child (leaf_without_rows 0)) at parent_now) entry.child child_now) entered.fresh.items
   pub at_is : result ≡ entered.at
 
@@ -65,7 +74,7 @@ pub record WentDown (h : List Dimension) (row : Row) (at result : ℕ) (blocks b
 pub record WentIn (h : List Dimension) (row : Row) (result : ℕ) (gate gate_now : Gate) (blocks blocks_now : List Block) (purse purse_now : PurseValue) : Type 0 where
   pub root_now : Block
   pub entered : Entered
-  pub step : Enters h row gate gate_now (block_at blocks gate.root) root_now purse purse_now entered
+  pub step : Enters h row (tail_of (block_at (set blocks gate.root (leaf_without_rows 0))) gate.stamp (block_at blocks gate.root)) gate gate_now (block_at blocks gate.root) root_now purse purse_now entered
   pub blocks_are : blocks_now ≡ with_fresh (lent blocks gate.root root_now) entered.fresh.items
   pub at_is : result ≡ entered.at
 

@@ -1,4 +1,5 @@
 ghost use Rattle.std.specs.Prelude.{ℕ, Some, slice_get, ◌≡◌, ◌+◌, ◌*◌, ◌<◌, ◌≤◌, ◌^◌, [], ◌∷◌, ◌++◌, length, map, OnOk, OnErr, IsPermutation};
+ghost use Rattle.std.specs.Option.{option_copied};
 ghost use Rattle.dim_hierarchy.specs.declared.row.Row.{Row};
 ghost use Rattle.dim_hierarchy.specs.Row.{IsRowOf};
 ghost use Rattle.dim_hierarchy.specs.CoordLineages.{coord_of};
@@ -11,14 +12,14 @@ ghost use Rattle.tree_shape.specs.Counts.{times};
 ghost use Rattle.tree_shape.specs.Shape.{numbers};
 ghost use Rattle.shard_tree.specs.Shard.{ShardValue, table_of, Holds, IsShardOf};
 ghost use Rattle.block_cells.specs.Blocks.{block_at};
-ghost use Rattle.shard_tree.specs.Ways.{with_parts, IsOut, WentDown, WentIn, CanGoDown, CanEnter, Added};
+ghost use Rattle.shard_tree.specs.Ways.{next_behind, tail_of, with_parts, IsOut, WentDown, WentIn, CanGoDown, CanEnter, Added};
 
 use crate::tree::ShardTree;
-use block_cells::Blocks;
+use block_cells::{BlockCells, Blocks};
 use cell_stock::Purse;
 use dc_node::{Blanks, Block};
 use dim_hierarchy::{CoordLineages, Hierarchy, Row};
-use link_descent::{enter_root, pass_root, pick, step_down};
+use link_descent::{Tail, enter_root, pass_root, pick, step_down};
 use shard_store::Gate;
 use std::alloc::AllocError;
 use tree_shape::{frame_law, insert_laws, tree_laws};
@@ -53,7 +54,7 @@ impl ShardTree {
         if self.stock.stamps() >= MANY_STAMPS {
             return Err(AllocError);
         }
-        self.blanks.refill(2 * need)?;
+        self.blanks.refill(2 * need + 1)?;
         self.blocks.make(self.stock.free() - need)?;
         self.purse.reserve(need)?;
         let taken = self.stock.take(need, &mut self.purse);
@@ -66,7 +67,7 @@ impl ShardTree {
 }
 
 /// Adds a row to the tree, for which the purse has the cells and the blanks the boxes: two for each
-/// block that may be divided, of which one is given back.
+/// new block, and one for the leaf.
 fn add(
     gate: &mut Gate,
     blocks: &mut Blocks,
@@ -80,7 +81,7 @@ fn add(
     requires low { gate.old.height + 1 < 2 ^ 32 }
     requires row { IsRowOf h.now row.now }
     requires enters { CanEnter h.now row.now gate.old blocks.old.items blocks.old.missing purse.old }
-    requires blanks { gate.old.height * 2 + 4 ≤ blanks.old }
+    requires blanks { gate.old.height * 2 + 5 ≤ blanks.old }
     ensures queue { gate.new.queue ≡ gate.old.queue }
     ensures id { gate.new.shard ≡ gate.old.shard }
     ensures open { gate.new.phase ≡ Open }
@@ -104,6 +105,31 @@ fn add(
     blocks.settle(at, row, blanks);
 }
 
+/// The block to the right of a block, unless that one has the stamp that is expected of the last one.
+fn next_behind<'a>(blocks: &'a Blocks, block: &Block, expected: u64) -> Option<&'a Block>
+    ensures { option_copied result ≡ next_behind (block_at blocks.now.items) expected block.now }
+{
+    if block.stamp == expected {
+        return None;
+    }
+    Some(blocks.block(block.right?))
+}
+
+/// The blocks behind a head, up to the one with the expected stamp, and two at most. They stay in
+/// their cells.
+fn tail_of<'a>(blocks: &'a Blocks, head: &Block, expected: u64) -> Tail<'a>
+    ensures { result ≡ tail_of (block_at blocks.now.items) expected head.now }
+{
+    let Some(first) = next_behind(blocks, head, expected) else {
+        return Tail::none();
+    };
+    let mut tail = Tail::of(first);
+    if let Some(second) = next_behind(blocks, first, expected) {
+        tail.add(second);
+    }
+    tail
+}
+
 /// Takes a row in at the gate, and tells at which cell it is carried.
 fn enter(
     gate: &mut Gate,
@@ -118,13 +144,13 @@ fn enter(
     requires low { gate.old.height + 1 < 2 ^ 32 }
     requires row { IsRowOf h.now row.now }
     requires enters { CanEnter h.now row.now gate.old blocks.old.items blocks.old.missing purse.old }
-    requires blanks { 3 ≤ blanks.old }
+    requires blanks { 4 ≤ blanks.old }
     ensures step { WentIn h.now row.now result gate.old gate.new blocks.old.items blocks.new.items purse.old purse.new }
     ensures id { gate.new.shard ≡ gate.old.shard }
     ensures missing { blocks.new.missing ≡ blocks.old.missing }
     ensures set { IsDescSetOf h.now gate.new.set }
     ensures height { gate.new.height ≤ gate.old.height + 1 }
-    ensures blanks { blanks.old ≤ blanks.new + 3 }
+    ensures blanks { blanks.old ≤ blanks.new + 4 }
 {
     tree_laws();
     let cell = gate.root;
@@ -150,18 +176,19 @@ fn divide_root(
     requires low { gate.old.height + 1 < 2 ^ 32 }
     requires row { IsRowOf h.now row.now }
     requires enters { CanEnter h.now row.now gate.old blocks.old.items blocks.old.missing purse.old }
-    requires blanks { 3 ≤ blanks.old }
+    requires blanks { 4 ≤ blanks.old }
     ensures step { WentIn h.now row.now result gate.old gate.new blocks.old.items blocks.new.items purse.old purse.new }
     ensures id { gate.new.shard ≡ gate.old.shard }
     ensures missing { blocks.new.missing ≡ blocks.old.missing }
     ensures set { IsDescSetOf h.now gate.new.set }
     ensures height { gate.new.height ≤ gate.old.height + 1 }
-    ensures blanks { blanks.old ≤ blanks.new + 3 }
+    ensures blanks { blanks.old ≤ blanks.new + 4 }
 {
     tree_laws();
     let cell = gate.root;
     let mut root = blocks.lift(cell);
-    let entered = enter_root(gate, &mut root, purse, blanks, h, row);
+    let tail = tail_of(blocks, &root, gate.stamp);
+    let entered = enter_root(gate, &mut root, &tail, purse, blanks, h, row);
     blocks.put(cell, root);
     let at = entered.at;
     blocks.put_fresh(entered.fresh);
@@ -176,6 +203,16 @@ fn child_at(parent: &Block, place: u8) -> u32
         × (result ≡ entry.child) }
 {
     parent.entries()[usize::from(place)].child
+}
+
+/// The stamp that this entry expects of the last block of its group.
+fn stamp_at(parent: &Block, place: u8) -> u64
+    requires { place < length (entries_in parent.now.body) }
+    ensures { (entry : Entry)
+        × (slice_get (entries_in parent.now.body) place ≡ Some entry)
+        × (result ≡ entry.stamp) }
+{
+    parent.entries()[usize::from(place)].stamp
 }
 
 /// Takes a row one level down, and tells at which cell it is carried then. The gate only tells of
@@ -236,7 +273,8 @@ fn divide_child(
     tree_laws();
     let mut parent = blocks.lift(at);
     let mut child = blocks.lift(cell);
-    let entered = step_down(&mut parent, place, &mut child, purse, blanks, h, row);
+    let tail = tail_of(blocks, &child, stamp_at(&parent, place));
+    let entered = step_down(&mut parent, place, &mut child, &tail, purse, blanks, h, row);
     blocks.put(at, parent);
     blocks.put(cell, child);
     let at = entered.at;

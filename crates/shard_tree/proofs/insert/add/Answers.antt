@@ -12,7 +12,7 @@ loop-init c =
     let row = c.args.row.now in
     let k = c.requires.enters in
     let w = c.enter-at.ensures.step in
-    let keeps = enters-keeps h row c.args.gate.now c.enter-at.new.gate (block_at c.args.blocks.now.items c.args.gate.now.root) w.root_now c.args.purse.now c.enter-at.new.purse w.entered w.step in
+    let keeps = enters-keeps h row _ c.args.gate.now c.enter-at.new.gate (block_at c.args.blocks.now.items c.args.gate.now.root) w.root_now c.args.purse.now c.enter-at.new.purse w.entered w.step in
     record {
       count = count-in h row k.find k.found (with_parts k.shard c.args.gate.now c.args.blocks.now.items c.args.purse.now) k.holds k.new k.out c.tree_laws.ensures.root c.requires.row c.tree_laws.ensures.block c.tree_laws.ensures.gate k.few
           c.enter-at.new.gate c.enter-at.result c.enter-at.new.blocks.items c.enter-at.new.purse w k.enough;
@@ -21,7 +21,7 @@ loop-init c =
       blanks = (let a = c.enter-at.ensures.blanks in let b = c.enter-at.ensures.height in let r = c.requires.blanks in omega arith);
       carries = λ find s level e found holds out.
           gone-in h row find found (with_parts s c.args.gate.now c.args.blocks.now.items c.args.purse.now) holds k.new out c.tree_laws.ensures.root c.requires.row c.tree_laws.ensures.block c.tree_laws.ensures.gate k.few
-          c.enter-at.new.gate c.enter-at.result c.enter-at.new.blocks.items c.enter-at.new.purse w k.enough c.insert_laws.ensures.comes_in level (sym e);
+          c.enter-at.new.gate c.enter-at.result c.enter-at.new.blocks.items c.enter-at.new.purse w k.enough c.insert_laws.ensures.comes_in c.tree_laws.ensures.root_behind level (sym e);
     }
 
 pub loop-preserved : goal.loop-preserved
@@ -42,7 +42,7 @@ loop-preserved c =
       blanks = (let a = c.down-at.ensures.blanks in let i = c.loop.invariant.blanks in omega arith);
       carries = λ find s level e found holds out.
           gone-down h row find found before k.new (with_parts s c.enter-at.new.gate c.loop.blocks.items c.loop.purse) c.loop.at level (c.loop.invariant.carries find s (level + 1) (omega arith) found holds out)
-          c.requires.row c.tree_laws.ensures.block c.tree_laws.ensures.child c.tree_laws.ensures.gate k.few c.down-at.result c.down-at.new.blocks.items c.down-at.new.purse w c.insert_laws.ensures.goes_down;
+          c.requires.row c.tree_laws.ensures.block c.tree_laws.ensures.child c.tree_laws.ensures.gate k.few c.down-at.result c.down-at.new.blocks.items c.down-at.new.purse w c.insert_laws.ensures.goes_down c.tree_laws.ensures.behind;
     }
 
 pub down-at-requires-clause-goes : goal.down-at-requires-clause-goes
@@ -92,12 +92,12 @@ settle-requires-clause-room c =
 pub returns-clause-queue : goal.returns-clause-queue
 returns-clause-queue c =
     let w = c.enter-at.ensures.step in
-    (enters-keeps c.args.h.now c.args.row.now c.args.gate.now c.enter-at.new.gate (block_at c.args.blocks.now.items c.args.gate.now.root) w.root_now c.args.purse.now c.enter-at.new.purse w.entered w.step).0
+    (enters-keeps c.args.h.now c.args.row.now _ c.args.gate.now c.enter-at.new.gate (block_at c.args.blocks.now.items c.args.gate.now.root) w.root_now c.args.purse.now c.enter-at.new.purse w.entered w.step).0
 
 pub returns-clause-open : goal.returns-clause-open
 returns-clause-open c =
     let w = c.enter-at.ensures.step in
-    (enters-keeps c.args.h.now c.args.row.now c.args.gate.now c.enter-at.new.gate (block_at c.args.blocks.now.items c.args.gate.now.root) w.root_now c.args.purse.now c.enter-at.new.purse w.entered w.step).1 ∙ c.requires.open
+    (enters-keeps c.args.h.now c.args.row.now _ c.args.gate.now c.enter-at.new.gate (block_at c.args.blocks.now.items c.args.gate.now.root) w.root_now c.args.purse.now c.enter-at.new.purse w.entered w.step).1 ∙ c.requires.open
 
 pub returns-clause-count : goal.returns-clause-count
 returns-clause-count c =

@@ -1,4 +1,4 @@
-use Rattle.std.proofs.Common.{◌∙◌, sym, ap}
+use Rattle.std.proofs.Common.{◌∙◌, [], sym, ap}
 use Rattle.dc_node.specs.Block.{is_full}
 use Rattle.dc_node.specs.declared.block.Block.{Block}
 use Rattle.shard_tree.specs.Ways.{with_parts}
@@ -26,4 +26,4 @@ returns-then-not-is_full-clause-step c =
 pub returns-then-not-is_full-clause-id : goal.returns-then-not-is_full-clause-id
 returns-then-not-is_full-clause-id c =
     let room = ap (λ (b : Block). is_full b.body) (sym c.at.ensures) ∙ sym c.is_full.ensures ∙ c.if-not-is_full.true in
-    entered-id c.args.h.now c.args.row.now c.args.gate.now c.pass_root.new.gate _ _ _ _ _ (c.pass_root.ensures.step (block_at c.args.blocks.now.items c.args.gate.now.root) c.args.purse.now room)
+    entered-id c.args.h.now c.args.row.now _ c.args.gate.now c.pass_root.new.gate _ _ _ _ _ (c.pass_root.ensures.step [] (block_at c.args.blocks.now.items c.args.gate.now.root) c.args.purse.now room)
