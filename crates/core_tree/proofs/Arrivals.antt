@@ -1,6 +1,6 @@
 -- What the invariant says of an actor's row before its gate, where the table of its part's worker leads to a gate: all that the row's coming
 -- to that gate's shard rests on.
-use Rattle.std.proofs.Common.{◌≡◌, ◌≢◌, ℕ, ◌<◌, ◌&&◌, ◌||◌, ◌==◌, Bool, true, false, List, [], ◌∷◌, Option, Some, None, refl, sym, ap, ◌∙◌, subst}
+use Rattle.std.proofs.Common.{◌≡◌, ◌≢◌, ℕ, ◌<◌, ◌&&◌, ◌||◌, ◌==◌, Bool, true, false, List, [], ◌∷◌, Option, Some, None, is_some, refl, sym, ap, ◌∙◌, subst}
 use Rattle.std.specs.List.{list_any}
 use Rattle.dim_hierarchy.specs.declared.row.Row.{Row}
 use Rattle.mapping_table.specs.declared.place.Where.TheVariants as where_is
@@ -21,6 +21,7 @@ use Rattle.volap_cell.specs.TreeKinds.{HasRow}
 use Rattle.volap_cell.specs.Values.{ErrandValue, JobValue}
 use Rattle.volap_cell.specs.View.{View, row_or, view}
 use Rattle.volap_cell.specs.World.{World}
+use Rattle.volap_cell.specs.declared.command.Command.{Command}
 use Rattle.volap_cell.specs.declared.command.Work.{Work}
 use Rattle.volap_cell.specs.declared.command.Work.TheVariants as work_is
 use Rattle.volap_cell.specs.declared.errand.RowErrand.{RowErrand}
@@ -85,6 +86,9 @@ arrives s w g i n gate e r has outside leads =
     let (a, c, its, its_of, role, on) = i.desking.whose e.server at.of at.within at.op in
     let begun_there : insert_at v.history c.of ≡ Some insert = ap (insert_at v.history) its_of ∙ began in
     let work = routed-work s v.history c.of insert c.work (v.jobs a) (v.roles a) begun_there on (i.telling.progress a c its) in
+    let at_row : c.of ≡ r.row.no = its_of ∙ sym number in
+    let its_command : (view s w).commands a ≡ Some c = its in
+    let is_routed : ◌≡◌ {A = Option Command} (Some c) (doing r.row.no (work_is.Insert work.0 true)) = (λ k. doing (at_row k) (work.1 k)) in
     let led = i.lineage.leads e.worker e.shard gate leads in
     let there = i.lineage.gate_of e.shard e.worker led.0 in
     record {
@@ -95,7 +99,7 @@ arrives s w g i n gate e r has outside leads =
       row_is = on_way.known.2;
       server = on_way.known.3;
       within = at.within;
-      routed = (a, work.0, its ∙ (λ k. doing ((its_of ∙ sym number) k) (work.1 k)));
+      routed = (a, work.0, ◌∙◌ {c = doing r.row.no (work_is.Insert work.0 true)} its_command is_routed);
       lead = on_way.lead;
       live = on-live e.shard e.worker (frontier s.workers v.history) led.0;
       gate_is = led.1;
@@ -103,5 +107,5 @@ arrives s w g i n gate e r has outside leads =
       stands = subst (λ (y : ℕ). v.phases y ≢ Some Gone) led.1 there.2;
       known = ap row_or on_way.known.1 ∙ on_way.known.2;
       few = has-taken s v i.numbering n _ taken;
-      jobless = jobless-of s v g i n (v.jobs n) refl (λ none. let no : ◌≡◌ {A = Option _} (Some _) None = sym taken ∙ none in cc);
+      jobless = jobless-of s v g i n (v.jobs n) refl (λ none. let no : is_some (v.taken n) ≡ false = ap is_some none in let yes : is_some (v.taken n) ≡ true = ap is_some taken in cc);
     }

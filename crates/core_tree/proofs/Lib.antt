@@ -10,3 +10,6 @@ pub mod Descents
 pub mod Places
 pub mod PlacesRead
 pub mod Arrivals
+pub mod Rests
+pub mod Remains
+pub mod LeavesTree
