@@ -1,5 +1,7 @@
 -- An insert that has put its row leaves the tree.
-use Rattle.std.proofs.Common.{◌≡◌, ℕ, ◌+◌, ◌<◌, ◌≤◌, ◌==◌, eqb, if◌then◌else◌, List, [], ◌∷◌, Option, Some, refl, sym, ap, ◌∙◌, subst, inl, inr, arith}
+use Rattle.query_router.specs.declared.part.PartState.TheVariants.{Placed}
+use Rattle.volap_cell.specs.declared.errand.RowErrand.{RowErrand}
+use Rattle.std.proofs.Common.{◌≡◌, ℕ, ◌+◌, ◌<◌, ◌≤◌, ◌==◌, eqb, if◌then◌else◌, List, [], ◌∷◌, Option, Some, refl, sym, ap, ◌∙◌, subst, inl, inr, arith, IsSome, true}
 use Rattle.std.proofs.lemmas.List.Elements.{All-weaker}
 use Rattle.dim_hierarchy.specs.Dimension.{Dimension}
 use Rattle.dim_hierarchy.specs.declared.row.Row.{Row}
@@ -8,30 +10,33 @@ use Rattle.query_router.specs.declared.part.PartState.{PartState}
 use Rattle.query_router.specs.declared.part.PartState.TheVariants as state
 use Rattle.shard_store.specs.declared.gate.Gate.{Gate}
 use Rattle.tree_shape.proofs.Walks.{on_bool, eqb-eq, eqb-ne, eqb-no, eqb-self}
-use Rattle.volap_cell.specs.Cells.{active_in}
-use Rattle.volap_cell.specs.Errands.{AtBlock, AtRest, InLeaf, RowWay, has_passed, place_of, row_way, way_of}
+use Rattle.volap_cell.specs.Cells.{active_in, CellValue, gate_shard, GateCell}
+use Rattle.volap_cell.specs.Errands.{AtBlock, AtRest, InLeaf, RowWay, has_passed, place_of, row_way, way_of, taken_of}
 use Rattle.volap_cell.specs.Falls.{far, gates_of_errand, gates_of_task, gates_of_way, left, rows_of_errand, rows_of_task, rows_of_way, one_if_any}
 use Rattle.volap_cell.specs.Ghost.{Ghost}
 use Rattle.volap_cell.specs.Invariant.{InvWith}
 use Rattle.volap_cell.specs.Placing.{Inserting, IsOnWay, IsRowPart, NobodyAt, Placing}
 use Rattle.volap_cell.specs.Setting.{Setting, actor_count}
-use Rattle.volap_cell.specs.Steps.{IsKept, Keeps}
+use Rattle.volap_cell.specs.Steps.{IsKept, Keeps, IsHere, Makes}
 use Rattle.volap_cell.specs.Sums.{sum_below}
-use Rattle.volap_cell.specs.TreeKinds.{DoesLeaveTree}
+use Rattle.volap_cell.specs.TreeKinds.{DoesLeaveTree, HasRow, on_way}
 use Rattle.volap_cell.specs.Turning.{inside_of, is_inside}
-use Rattle.volap_cell.specs.Values.{ActorValue}
+use Rattle.volap_cell.specs.Values.{ActorValue, ErrandValue, OfRow}
 use Rattle.volap_cell.specs.View.{View, view}
 use Rattle.volap_cell.specs.Working.{Working}
-use Rattle.volap_cell.specs.World.{Agrees, Change, World, after}
+use Rattle.volap_cell.specs.World.{Agrees, Change, World, after, held, change}
 use Rattle.volap_cell.specs.declared.kind.Kind.TheVariants.{LeaveTree}
+use Rattle.volap_cell.specs.declared.errand.Way.TheVariants.{Placed}
 use Rattle.volap_cell.proofs.Actors.{row-at, taken-is}
 use Rattle.volap_cell.proofs.Fields.{IsNewAt}
 use Rattle.volap_cell.proofs.Frames.{actor-at, actor-off}
 use Rattle.volap_cell.proofs.Gates.{gate-first}
 use Rattle.volap_cell.proofs.Persons.{has-taken}
 use Rattle.volap_cell.proofs.Seen.{renewed}
-use Rattle.volap_cell.proofs.Sums.{sum-changed}
+use Rattle.volap_cell.proofs.Sums.{sum-changed, sum-some}
 use Rattle.volap_cell.proofs.TreeViews.{by_leave_tree, view-leave_tree}
+use Rattle.volap_cell.proofs.Standings.{live-on}
+use Rattle.core_tree.specs.DueAtGates.{CanLeaveTree}
 use Rattle.core_tree.proofs.Places.{Passes}
 use Rattle.core_tree.proofs.Remains.{IsStepOf, control-same, gates-changed, rows-changed}
 use Rattle.core_tree.proofs.Rests.{row-was, turning-rested}
@@ -237,3 +242,58 @@ module _ (c : Change) (b : ActorValue) (s : Setting) (w : World) (n : ℕ) (g : 
 pub leave-keeps : (h : List Dimension) (c : Change) (a b : ActorValue) (d : DoesLeaveTree c a b) → Keeps h LeaveTree (c ∷ []) a b d
 leave-keeps h c a b d s w n g about i ag sight =
     leave-kept c b s w n g i (record { cells = ag.cells; actor_is = refl; free = λ x ne. ag.free x ne }) (subst (λ (z : ActorValue). DoesLeaveTree c z b) (sym ag.actor_is) d)
+
+-- The call.
+
+-- an actor has one errand and one row
+pub same-row : {a : ActorValue} {e f : ErrandValue} {r q : RowErrand} → HasRow a e r → HasRow a f q → (e ≡ f) × (r ≡ q)
+same-row {a} {e} {f} {r} {q} has also =
+    let errands : ◌≡◌ {A = Option ErrandValue} (Some e) (Some f) = sym has.errand ∙ also.errand in
+    let errand : e ≡ f = cc in
+    let tasks : OfRow r ≡ OfRow q = sym has.row ∙ ap (λ (x : ErrandValue). x.task) errand ∙ also.row in
+    (errand, cc)
+
+-- what it did, where it was given the gate at which its actor's insert is counted
+pub leave-makes : (h : List Dimension) (at : ℕ) (cell : CellValue) (gate now : Gate) (a b : ActorValue) (e : ErrandValue) (r : RowErrand) → CanLeaveTree at a → cell ≡ GateCell gate → HasRow a e r
+    → gate ≡ record now { active = now.active + 1 } → b ≡ record a { errand = on_way e r Placed } → Makes h LeaveTree (change at cell (GateCell now) ∷ []) a b
+leave-makes h at cell gate now a b e r due is has left actor_is =
+    let does : DoesLeaveTree (change at cell (GateCell now)) a b = record {
+      e = e;
+      r = r;
+      has = has;
+      put = ap (λ (x : RowErrand). x.way) (same-row has due.has).1 ∙ due.put;
+      gate = gate;
+      gate_now = now;
+      turns = record { was = is; is = refl };
+      left = left;
+      actor_is = actor_is;
+    } in
+    record { does = does; keeps = leave-keeps h (change at cell (GateCell now)) a b does }
+
+-- what it asks of the cell: there is a gate, which counts an insert
+pub record CanLeave (cell : CellValue) : Type 0 where
+  pub is_gate : IsSome (gate_shard cell)
+  pub some : 0 < active_in cell
+
+pub can-leave : (h : List Dimension) (at : ℕ) (cell : CellValue) (a : ActorValue) → IsHere h (held at cell ∷ []) a → CanLeaveTree at a → CanLeave cell
+can-leave h at cell a k due =
+    let i = k.inv.holds in
+    let g = k.inv.ghost_of in
+    let v = view a.setting k.world in
+    let way = row_way due.e due.r in
+    let same = k.agrees.actor_is in
+    let was : v.ways k.number ≡ Some way = ap (λ (z : ActorValue). way_of z.errand) same ∙ row-at due.has in
+    let in_leaf : way.place ≡ InLeaf at = ap place_of due.put in
+    let in_tree = (i.turning.in_leaf k.number at way was in_leaf).0 in
+    let placed : g.placed way.row.no ≡ true = (i.inserting.on_way k.number way was).passed ∙ ap has_passed in_leaf in
+    let (worker, on) = live-on a.setting v (g.home way.row.no) (i.placing.stands way.row.no placed) in
+    let there = (i.lineage.gate_of (g.home way.row.no) worker on).1 in
+    let few = has-taken a.setting v i.numbering k.number _ (ap (λ (z : ActorValue). taken_of z.errand) same ∙ taken-is due.has.errand due.has.row) in
+    let one : ◌≡◌ {A = ℕ} (inside_of at (v.ways k.number)) 1 = ap (inside_of at) was ∙ ap (is_inside at) in_leaf ∙ (rw (eqb-self at) refl) in
+    let some = sum-some (actor_count a.setting) (λ z. inside_of at (v.ways z)) k.number few in
+    let counts = i.turning.counts at in
+    let here = k.agrees.cells.0 in
+    record {
+      is_gate = subst (λ (z : CellValue). IsSome (gate_shard z)) here (subst (λ (y : ℕ). IsSome (v.gates y)) in_tree.gate_is (subst IsSome (sym there) refl));
+      some = (let active = ap active_in here in omega arith);
+    }
