@@ -9,3 +9,7 @@ pub mod PutsInLeaf
 pub mod Descents
 pub mod Places
 pub mod PlacesRead
+pub mod Arrivals
+pub mod Rests
+pub mod Remains
+pub mod LeavesTree

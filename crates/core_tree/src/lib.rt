@@ -1,6 +1,8 @@
 //! The steps of rows and queries at gates and blocks.
 #![tactic(auto)]
 
+mod leaves;
 mod puts;
 
+pub use leaves::leave_tree;
 pub use puts::put_in_leaf;
