@@ -3,6 +3,7 @@ pub mod Boxes
 pub mod Clears
 pub mod Widens
 pub mod Rows
+pub mod Valid
 pub mod AcksInsert
 pub mod Ready
 pub mod Going
@@ -10,3 +11,4 @@ pub mod Laid
 pub mod Fars
 pub mod Frontiers
 pub mod RoutesInsert
+pub mod Routed

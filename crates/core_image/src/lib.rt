@@ -2,5 +2,7 @@
 #![tactic(auto)]
 
 mod acks;
+mod routes;
 
 pub use acks::ack;
+pub use routes::route;
