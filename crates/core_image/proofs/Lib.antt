@@ -12,3 +12,9 @@ pub mod Fars
 pub mod Frontiers
 pub mod RoutesInsert
 pub mod Routed
+pub mod Lefts
+pub mod Listings
+pub mod Planned
+pub mod AsksQuery
+pub mod AskedHere
+pub mod Tagged

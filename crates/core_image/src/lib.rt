@@ -2,7 +2,10 @@
 #![tactic(auto)]
 
 mod acks;
+mod filters;
+mod queries;
 mod routes;
 
 pub use acks::ack;
+pub use queries::begin_query;
 pub use routes::route;
