@@ -3,6 +3,7 @@ pub mod Boxes
 pub mod Clears
 pub mod Widens
 pub mod Rows
+pub mod Valid
 pub mod AcksInsert
 pub mod Ready
 pub mod Going
@@ -14,3 +15,10 @@ pub mod Begun
 pub mod Owed
 pub mod Remains
 pub mod BeginsInsert
+pub mod Routed
+pub mod Lefts
+pub mod Listings
+pub mod Planned
+pub mod AsksQuery
+pub mod AskedHere
+pub mod Tagged

@@ -1,33 +1,26 @@
 -- What the booking of an acknowledgement asks of the cells is so in each state, and what is booked is what the kind does.
-use Rattle.std.proofs.Common.{◌≡◌, ℕ, ◌+◌, ◌<◌, List, [], ◌∷◌, Bool, true, length, map, Option, Some, None, refl, sym, ap, ◌∙◌, subst, arith, ◌==◌, ◌&&◌, All}
+use Rattle.std.proofs.Common.{◌≡◌, ℕ, ◌+◌, ◌<◌, List, [], ◌∷◌, Bool, true, length, Option, Some, None, refl, sym, ap, ◌∙◌, subst, arith, ◌==◌, ◌&&◌, All}
 use Rattle.std.specs.Option.{option_map_or}
 use Rattle.std.specs.Prelude.{IsTrue}
 use Rattle.std.proofs.lemmas.Bool.{false≢true}
-use Rattle.std.proofs.lemmas.List.Elements.{All-head, All-map, All-weaker}
+use Rattle.std.proofs.lemmas.List.Elements.{All-head}
 use Rattle.dim_hierarchy.specs.Dimension.{Dimension}
-use Rattle.dim_hierarchy.specs.Row.{IsCoordOf}
 use Rattle.dim_hierarchy.specs.declared.row.Row.{Row}
-use Rattle.describing_set.specs.DescSet.{IsDescSetOf}
-use Rattle.describing_set.specs.declared.listing.Spot.{Spot}
 use Rattle.query_router.specs.Desk.{DeskValue, verdict_of}
 use Rattle.query_router.specs.declared.part.Part.{Part}
 use Rattle.query_router.specs.declared.part.PartState.{PartState}
 use Rattle.query_router.specs.declared.part.PartState.TheVariants as state
 use Rattle.query_router.specs.declared.part.Verdict.TheVariants as verdict
-use Rattle.row_ledger.specs.Bounds.{may}
 use Rattle.row_ledger.specs.LedgerValue.{LedgerValue}
-use Rattle.row_ledger.specs.Listings.{IsBox}
 use Rattle.row_ledger.specs.Past.{Insert, insert_at}
 use Rattle.row_ledger.specs.Shards.{is_path}
 use Rattle.row_ledger.specs.declared.event.Event.{Event}
 use Rattle.server_image.specs.Image.{ImageValue, AreGrowths}
 use Rattle.server_image.specs.Spots.{AreBoxes}
-use Rattle.server_image.specs.declared.image.Growth.{Growth}
 use Rattle.tree_shape.proofs.Walks.{eqb-self}
 use Rattle.volap_cell.specs.Cells.{CellValue, DeskCell, ImageCell, LedgerCell, DeskOf, ImageOf, tag_of, desk_in}
 use Rattle.volap_cell.specs.Ghost.{Ghost}
 use Rattle.volap_cell.specs.ImageKinds.{DoesAck, doing}
-use Rattle.volap_cell.specs.Imaging.{IsGrowth}
 use Rattle.volap_cell.specs.Invariant.{InvWith}
 use Rattle.volap_cell.specs.Owing.{is_insert, one_if, owed_by, serves}
 use Rattle.volap_cell.specs.Placing.{IsRowPart}
@@ -47,7 +40,8 @@ use Rattle.volap_cell.proofs.Persons.{has-command}
 use Rattle.volap_cell.proofs.Sums.{sum-some}
 use Rattle.core_image.specs.Due.{CanAck, CanBook, Books}
 use Rattle.core_image.proofs.AcksInsert.{ack-keeps}
-use Rattle.core_image.proofs.Rows.{row-coords, may-coords, begun-of}
+use Rattle.core_image.proofs.Rows.{begun-of}
+use Rattle.core_image.proofs.Valid.{image-boxes, image-growths}
 
 -- one part that comes to a place is placed
 one-placed : (p : Part) → verdict_of (p ∷ []) ≡ Some verdict.Placed → (path : List ℕ) × (p.state ≡ state.Placed path)
@@ -67,10 +61,10 @@ row_in (work_is.Insert row routed) = row
 row_in _ = no_row
 
 -- an actor's command is read as it is said of it
-pub at-command : (command : Command) (row : Row) (routed : Bool) (has : Option Command) → has ≡ Some command → command.work ≡ work_is.Insert row routed → (of : ℕ) (said : Row) → has ≡ doing of (work_is.Insert said true) → (command.of ≡ of) × (row ≡ said)
+pub at-command : (command : Command) (row : Row) (routed : Bool) (has : Option Command) → has ≡ Some command → command.work ≡ work_is.Insert row routed → (of : ℕ) (said : Row) (whether : Bool) → has ≡ doing of (work_is.Insert said whether) → (command.of ≡ of) × (row ≡ said)
 unfolding row_in
-at-command command row routed has is work of said due =
-    let both : ◌≡◌ {A = Option Command} (Some command) (doing of (work_is.Insert said true)) = sym is ∙ due in
+at-command command row routed has is work of said whether due =
+    let both : ◌≡◌ {A = Option Command} (Some command) (doing of (work_is.Insert said whether)) = sym is ∙ due in
     (ap (λ (o : Option Command). option_map_or (λ (c : Command). c.of) o 0) both, ap row_in (sym work) ∙ ap (λ (o : Option Command). option_map_or (λ (c : Command). row_in c.work) o no_row) both)
 
 -- a path has a shard
@@ -159,21 +153,12 @@ module _ (hs : List Dimension) (desk_at image_at ledger_at : ℕ) (desk image le
 
   can-book-here : CanBook s.hierarchy due.row.at dv iv lv
   can-book-here =
-      let known = i.imaging.image due.server image-held.0 in
       record {
         path = placed-part.0;
         has = record { part = one-part.0; parts_are = one-part.1; placed = placed-part.1 };
         some = some-path v.history due.server placed-part.0 lead;
-        boxes = subst (λ (x : ImageValue). AreBoxes s.hierarchy x.spots) image-held.1
-            (All-weaker (λ (spot : Spot). IsBox s.hierarchy (may g.placed v.history) spot.set) (λ (spot : Spot). IsDescSetOf s.hierarchy spot.set)
-            (λ spot box. record {
-              hierarchy = i.numbering.setting.hierarchy;
-              rows = map (λ (r : Row). r.at) box.rows;
-              valid = All-map (IsCoordOf s.hierarchy) (λ (r : Row). r.at) box.rows (All-weaker _ (λ (r : Row). IsCoordOf s.hierarchy r.at) (may-coords s w g i) box.rows box.usable);
-              set_of = box.set_of;
-            }) (v.images due.server).spots known.boxes);
-        growths = subst (λ (x : ImageValue). AreGrowths s.hierarchy x.growths) image-held.1
-            (All-weaker (IsGrowth s v.history v.row g.placed) (λ (x : Growth). IsCoordOf s.hierarchy x.at) (λ x is. subst (IsCoordOf s.hierarchy) is.at (row-coords s w g i is.number is.is_placed)) (v.images due.server).growths known.growths);
+        boxes = subst (λ (x : ImageValue). AreBoxes s.hierarchy x.spots) image-held.1 (image-boxes s w g i due.server image-held.0);
+        growths = subst (λ (x : ImageValue). AreGrowths s.hierarchy x.growths) image-held.1 (image-growths s w g i due.server image-held.0);
         coord = (i.telling.rows due.of insert begun-here).0;
         owed =
             let f : ℕ → ℕ = λ b. one_if (serves due.server (v.roles b) && is_insert (v.commands b)) in

@@ -6,3 +6,10 @@ mod begins;
 
 pub use acks::ack;
 pub use begins::begin_insert;
+mod filters;
+mod queries;
+mod routes;
+
+pub use acks::ack;
+pub use queries::begin_query;
+pub use routes::route;

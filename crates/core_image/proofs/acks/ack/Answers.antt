@@ -1,4 +1,4 @@
-use Rattle.std.proofs.Common.{ℕ, length, None, ◌∙◌, refl, ap, sym, subst}
+use Rattle.std.proofs.Common.{ℕ, length, None, true, ◌∙◌, refl, ap, sym, subst}
 use Rattle.dim_hierarchy.specs.declared.row.Row.{Row}
 use Rattle.row_ledger.specs.LedgerValue.{LedgerValue}
 use Rattle.core_image.specs.Due.{CanBook, Books}
@@ -10,7 +10,7 @@ use Rattle.core_image.proofs.acks.ack.Goals as goal
 -- src/acks.rt:52:5
 pub book-requires : goal.book-requires
 book-requires c =
-    let same = at-command c.in-Some.command c.in-Insert.row c.in-Insert.routed c.args.actor.now.command c.in-Some.is c.in-Insert.is c.requires.due.of c.requires.due.row c.requires.due.command in
+    let same = at-command c.in-Some.command c.in-Insert.row c.in-Insert.routed c.args.actor.now.command c.in-Some.is c.in-Insert.is c.requires.due.of c.requires.due.row true c.requires.due.command in
     record {
       due = subst (λ (r : Row). CanBook c.args.h.now r.at c.deref_mut.result.now c.deref_mut-2.result.now c.deref_mut-3.result.now) (sym same.1)
           (can-book c.args.h.now c.args.desk_at c.args.image_at c.args.ledger_at (cell_of c.args.desk.now) (cell_of c.args.image.now) (cell_of c.args.ledger.now) (actor_of c.args.actor.now) c.requires.here c.requires.due
@@ -22,7 +22,7 @@ book-requires c =
 -- src/acks.rt:18:1
 pub returns : goal.returns
 returns c =
-    let same = at-command c.in-Some.command c.in-Insert.row c.in-Insert.routed c.args.actor.now.command c.in-Some.is c.in-Insert.is c.requires.due.of c.requires.due.row c.requires.due.command in
+    let same = at-command c.in-Some.command c.in-Insert.row c.in-Insert.routed c.args.actor.now.command c.in-Some.is c.in-Insert.is c.requires.due.of c.requires.due.row true c.requires.due.command in
     let hs = c.args.h.now in
     let seen = c.len-actor.ensures.value ∙ ap (λ (l : LedgerValue). length l.history) c.deref.ensures in
     record {

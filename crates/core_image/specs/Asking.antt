@@ -1,0 +1,39 @@
+-- What a query that begins and one that is answered ask of the cells that they are given and of their actor; and what their inner
+-- functions ask and do.
+use Rattle.std.specs.Prelude.{ℕ, ◌≡◌, ◌+◌, ◌^◌, ◌<◌, List, ◌∷◌, length, map, Some, None}
+use Rattle.dim_hierarchy.specs.Dimension.{Dimension}
+use Rattle.dim_hierarchy.specs.Filter.{IsFilterOf}
+use Rattle.dim_hierarchy.specs.declared.filter.Pick.{Pick}
+use Rattle.query_router.specs.Desk.{DeskValue}
+use Rattle.row_ledger.specs.LedgerValue.{LedgerValue}
+use Rattle.row_ledger.specs.declared.event.Event.TheVariants as event
+use Rattle.server_image.specs.Image.{ImageValue, planned}
+use Rattle.server_image.specs.Spots.{AreBoxes}
+use Rattle.volap_cell.specs.Cells.{CellValue, DeskOf, ImageOf, TheLedger, tag_of, desk_in}
+use Rattle.volap_cell.specs.ImageKinds.{IsFree, query_part}
+use Rattle.volap_cell.specs.Values.{ActorValue}
+use Rattle.volap_cell.specs.declared.role.Role.TheVariants.{Session}
+
+-- the actor has nothing to do, its server's desk is empty, and the filter is one of the hierarchy; the image is the server's
+pub record CanBeginQuery (h : List Dimension) (desk image ledger : CellValue) (a : ActorValue) (filter : List Pick) : Type 0 where
+  pub free : IsFree a
+  pub server : ℕ
+  pub role : a.role ≡ Session server
+  pub valid : IsFilterOf h filter
+  pub desk_is : tag_of desk ≡ DeskOf server
+  pub empty : (desk_in desk).op ≡ None
+  pub image_is : tag_of image ≡ ImageOf server
+  pub ledger_is : tag_of ledger ≡ TheLedger
+
+-- the desk is empty, and the image can tell which shards the filter asks
+pub record CanAsk (h : List Dimension) (filter : List Pick) (desk : DeskValue) (image : ImageValue) : Type 0 where
+  pub empty : desk.op ≡ None
+  pub boxes : AreBoxes h image.spots
+  pub valid : IsFilterOf h filter
+
+-- the query is in the ledger, which has room for its end, and its parts lie on the desk
+pub record Asks (h : List Dimension) (session server : ℕ) (filter : List Pick) (image : ImageValue) (desk desk_now : DeskValue) (ledger ledger_now : LedgerValue) : Type 0 where
+  pub history : ledger_now.history ≡ event.Asked session server filter ∷ ledger.history
+  pub promised : ledger_now.promised ≡ ledger.promised + 1
+  pub few : length ledger_now.history + ledger_now.promised < 2 ^ 31
+  pub put : desk_now ≡ record desk { op = Some (length ledger.history); parts = map (query_part filter) (planned h filter image.spots) }
