@@ -9,3 +9,4 @@ pub mod Begun
 pub mod Owed
 pub mod Remains
 pub mod BeginsInsert
+pub mod NotesRefusal

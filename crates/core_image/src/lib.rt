@@ -3,6 +3,8 @@
 
 mod acks;
 mod begins;
+mod notes;
 
 pub use acks::ack;
 pub use begins::begin_insert;
+pub use notes::{note_refused, note_unknown};
