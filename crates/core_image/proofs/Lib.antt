@@ -10,3 +10,7 @@ pub mod Owed
 pub mod Remains
 pub mod BeginsInsert
 pub mod NotesRefusal
+pub mod Ends
+pub mod FailsUnrouted
+pub mod FailsRouted
+pub mod FailsQuery
