@@ -1,5 +1,5 @@
 -- The beginning of an insert keeps the invariant, and brings no more with it than a command may.
-use Rattle.std.proofs.Common.{◌≡◌, ◌≢◌, ℕ, ◌+◌, ◌<◌, ◌≤◌, ◌*◌, List, [], ◌∷◌, false, length, Option, Some, None, refl, sym, ap, ◌∙◌, subst, arith, inl, inr}
+use Rattle.std.proofs.Common.{◌≡◌, ◌≢◌, ℕ, ◌+◌, ◌<◌, ◌*◌, List, [], ◌∷◌, false, length, Option, Some, None, refl, sym, ap, ◌∙◌, subst, arith, inl, inr}
 use mathlib.Core.Path.{fun_ext}
 use Rattle.std.specs.Option.{option_map_or}
 use Rattle.dim_hierarchy.specs.Dimension.{Dimension}
@@ -44,10 +44,7 @@ use Rattle.volap_cell.proofs.Seen.{renewed}
 use Rattle.core_image.specs.NotesDue.{CanBeginInsert, Opens}
 use Rattle.core_image.proofs.Begun.{begun-balancing, begun-desking, begun-inserting, begun-numbering, begun-placing, begun-working}
 use Rattle.core_image.proofs.Owed.{IsFew, few-pushed, owed-covering, owed-imaging, owed-insert, owed-inserting, owed-leading, owed-only, promises-now, with_owed}
-use Rattle.core_image.proofs.Remains.{control-changed, gates-changed, rows-changed, rows_at}
-
-no-more : (a b c : ℕ) → a ≡ b → a ≤ b + c
-no-more a b c same = omega (arith, same)
+use Rattle.core_image.proofs.Remains.{control-changed, gates-changed, no-more, rows-changed, rows_at}
 
 module _ (im l : Change) (b : ActorValue) (s : Setting) (w : World) (n : ℕ) (g : Ghost) (i : InvWith s (view s w) g) (ag : Agrees w (im ∷ l ∷ []) n (w.actors n)) (does : DoesBeginInsert s.hierarchy im l (w.actors n) b) (few : IsFew does.begun) where
   abbrev cs : List Change
@@ -185,9 +182,9 @@ module _ (im l : Change) (b : ActorValue) (s : Setting) (w : World) (n : ℕ) (g
 
   begins : Begins s (left s w g) (left s w2 g) h u.history
   begins =
-      let control = control-changed s w w2 g n v2 same others there refl refl in
-      let gates = gates-changed s w w2 g n v2 same others there e h refl refl stay refl in
-      let rows = rows-changed s w w2 g n v2 same others there in
+      let control = control-changed s w w2 g n v2 same others (inl there) refl refl in
+      let gates = gates-changed s w w2 g n v2 same others (inl there) e h refl refl stay refl in
+      let rows = rows-changed s w w2 g n v2 same others (inl there) in
       let no_control : of_work (control_of s) (w.actors n).command ≡ 0 = ap (of_work (control_of s)) does.free.command in
       let control_now : of_work (control_of s) (w2.actors n).command ≡ 0 = ap (of_work (control_of s)) begin.is_there in
       let no_gates : of_work (gates_of_work h) (w.actors n).command ≡ 0 = ap (of_work (gates_of_work h)) does.free.command in

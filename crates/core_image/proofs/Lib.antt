@@ -22,3 +22,8 @@ pub mod Planned
 pub mod AsksQuery
 pub mod AskedHere
 pub mod Tagged
+pub mod NotesRefusal
+pub mod Ends
+pub mod FailsUnrouted
+pub mod FailsRouted
+pub mod FailsQuery

@@ -1,19 +1,23 @@
 -- What is left where one actor's step notes an event that splits and moves no shard: its parts, and what the step changes of each.
-use Rattle.std.proofs.Common.{◌≡◌, ◌≢◌, ℕ, ◌+◌, ◌<◌, List, ◌∷◌, false, ap, arith}
+use Rattle.std.proofs.Common.{◌≡◌, ◌≢◌, ℕ, ◌+◌, ◌<◌, ◌≤◌, List, ◌∷◌, false, ap, arith, ◌*◌, ◌-◌, ◌∙◌, ◌⊎◌, inl, inr, Option, Some, None, refl, sym}
+use mathlib.Core.Path.{fun_ext}
+use Rattle.std.specs.Option.{option_map_or}
 use Rattle.std.specs.Prelude.{sum_by}
+use Rattle.std.proofs.lemmas.Bool.{cases_lt}
+use Rattle.dc_node.specs.declared.block.Block.{Block}
 use Rattle.query_router.specs.Desk.{DeskValue}
 use Rattle.query_router.specs.declared.part.Part.{Part}
 use Rattle.row_ledger.specs.Changes.{ShardsStay}
 use Rattle.row_ledger.specs.declared.event.Event.{Event}
-use Rattle.volap_cell.specs.Falls.{control_of, gates_of_errand, gates_of_part, gates_of_work, gone_left, is_split_or_move, job_left, left, of_work, one_if_any, rows_of_errand, rows_of_part}
+use Rattle.volap_cell.specs.Falls.{Falls, Left, blocks_left, control_of, far, per_query, queries_of_errand, queries_of_state, queries_of_task, queries_of_work, gates_of_errand, gates_of_part, gates_of_work, gone_left, is_split_or_move, job_left, left, of_work, one_if_any, rows_of_errand, rows_of_part}
 use Rattle.volap_cell.specs.Ghost.{Ghost}
 use Rattle.volap_cell.specs.Setting.{Setting, actor_count, cell_count}
 use Rattle.volap_cell.specs.Sums.{sum_below}
-use Rattle.volap_cell.specs.Values.{ActorValue}
+use Rattle.volap_cell.specs.Values.{ActorValue, ErrandValue, TaskValue, OfRow, Unread, Read}
 use Rattle.volap_cell.specs.View.{View, view}
 use Rattle.volap_cell.specs.World.{World}
-use Rattle.volap_cell.proofs.Ahead.{command-stays, errand-stays, job-stays, parts-stay}
-use Rattle.volap_cell.proofs.Sums.{sum-changed, sum-same}
+use Rattle.volap_cell.proofs.Ahead.{command-stays, errand-stays, far-stays, job-stays, parts-stay}
+use Rattle.volap_cell.proofs.Sums.{sum-changed, sum-kept, sum-same}
 
 -- what one actor has of each number, and one desk
 
@@ -26,19 +30,43 @@ gates_at s h a = of_work (gates_of_work h) a.command + gates_of_errand s h a.err
 abbrev pub rows_at : Ghost → ActorValue → ℕ
 rows_at g a = rows_of_errand g.shape a.errand + one_if_any a.purse
 
+abbrev pub queries_at : Setting → View → Ghost → ActorValue → ℕ
+queries_at s v g a = of_work queries_of_work a.command + queries_of_errand s v g a.errand
+
 abbrev pub gates_on : Setting → List Event → DeskValue → ℕ
 gates_on s h d = sum_by (gates_of_part s h) d.parts
 
 abbrev pub rows_on : DeskValue → ℕ
 rows_on d = sum_by (λ (p : Part). rows_of_part p.state) d.parts
 
-module _ (s : Setting) (w w2 : World) (g : Ghost) (n : ℕ) (v2 : View) (same : view s w2 ≡ v2) (others : (a : ℕ) → a ≢ n → w2.actors a ≡ w.actors a) (there : n < actor_count s) where
+abbrev pub queries_on : Setting → List Event → DeskValue → ℕ
+queries_on s h d = sum_by (λ (p : Part). queries_of_state s (far s.workers h p.shard p.worker) p.state) d.parts
+
+-- what stays is no more than with anything added
+pub no-more : (a b c : ℕ) → a ≡ b → a ≤ b + c
+no-more a b c same = omega (arith, same)
+
+-- what is left goes by these alone
+pub record Stays (was now : ActorValue) : Type 0 where
+  pub command : now.command ≡ was.command
+  pub errand : now.errand ≡ was.errand
+  pub purse : now.purse ≡ was.purse
+  pub job : now.job ≡ was.job
+
+-- an actor that is there, or one that stays as it was
+module _ (s : Setting) (w w2 : World) (g : Ghost) (n : ℕ) (v2 : View) (same : view s w2 ≡ v2) (others : (a : ℕ) → a ≢ n → w2.actors a ≡ w.actors a) (there : (n < actor_count s) ⊎ Stays (w.actors n) (w2.actors n)) where
   abbrev v : View
   v = view s w
 
   -- a sum over the actors
-  one-actor : (f : ActorValue → ℕ) → sum_below (actor_count s) (λ a. f (w2.actors a)) + f (w.actors n) ≡ sum_below (actor_count s) (λ a. f (w.actors a)) + f (w2.actors n)
-  one-actor f = sum-changed (actor_count s) (λ a. f (w.actors a)) (λ a. f (w2.actors a)) n (λ a ne. ap f (others a ne)) there
+  one-actor : (f : ActorValue → ℕ) → (Stays (w.actors n) (w2.actors n) → f (w2.actors n) ≡ f (w.actors n)) → sum_below (actor_count s) (λ a. f (w2.actors a)) + f (w.actors n) ≡ sum_below (actor_count s) (λ a. f (w.actors a)) + f (w2.actors n)
+  one-actor f stays = elim there [
+    | inl lt ↦ sum-changed (actor_count s) (λ a. f (w.actors a)) (λ a. f (w2.actors a)) n (λ a ne. ap f (others a ne)) lt
+    | inr still ↦
+        let kept = stays still in
+        let sums = sum-kept (actor_count s) (λ a. f (w.actors a)) (λ a. f (w2.actors a)) n (λ a ne. ap f (others a ne)) kept in
+        omega (arith, kept, sums)
+  ]
 
   pub control-changed : v2.phases ≡ v.phases → v2.gone ≡ v.gone → (left s w2 g).control + control_at s v (w.actors n) ≡ (left s w g).control + control_at s v (w2.actors n)
   control-changed phases gone =
@@ -49,7 +77,7 @@ module _ (s : Setting) (w w2 : World) (g : Ghost) (n : ℕ) (v2 : View) (same : 
       (λ a lt. ap (λ (x : ℕ). of_work (control_of s) (w2.actors a).command + x) (job-stays s v v2 phases (w2.actors a).job)) in
       let cells : sum_below (cell_count s) (λ y. gone_left (v2.phases y) (v2.gone y)) ≡ sum_below (cell_count s) (λ y. gone_left (v.phases y) (v.gone y)) =
       (λ k. sum_below (cell_count s) (λ y. gone_left (phases k y) (gone k y))) in
-      let one = one-actor (control_at s v) in
+      let one = one-actor (control_at s v) (λ still. λ k. of_work (control_of s) (still.command k) + job_left s v (still.job k)) in
       omega (arith, is, jobs, cells, one)
 
   pub gates-changed : (e : Event) (h : List Event) → v.history ≡ h → v2.history ≡ e ∷ h → ShardsStay s.workers e h → is_split_or_move e ≡ false
@@ -69,12 +97,57 @@ module _ (s : Setting) (w w2 : World) (g : Ghost) (n : ℕ) (v2 : View) (same : 
       let two = errand-stays s e h stay other (w2.actors a).errand in omega (arith, one, two)) in
       let desks : sum_below s.servers (λ x. gates_on s (e ∷ h) (v2.desks x)) ≡ sum_below s.servers (λ x. gates_on s h (v2.desks x)) =
       sum-same s.servers (λ x. gates_on s h (v2.desks x)) (λ x. gates_on s (e ∷ h) (v2.desks x)) (λ x lt. parts-stay s e h stay other (v2.desks x).parts) in
-      let one = one-actor (gates_at s h) in
+      let one = one-actor (gates_at s h) (λ still. λ k. of_work (gates_of_work h) (still.command k) + gates_of_errand s h (still.errand k)) in
       omega (arith, is, grown, old, actors, desks, one)
 
   pub rows-changed : (left s w2 g).rows + rows_at g (w.actors n) + sum_below s.servers (λ x. rows_on (v.desks x)) ≡ (left s w g).rows + rows_at g (w2.actors n) + sum_below s.servers (λ x. rows_on (v2.desks x))
   rows-changed =
       let is : (left s w2 g).rows ≡ sum_below (actor_count s) (λ a. rows_at g (w2.actors a)) + sum_below s.servers (λ x. rows_on (v2.desks x)) =
       ap (λ (z : View). sum_below (actor_count s) (λ a. rows_at g (w2.actors a)) + sum_below s.servers (λ x. rows_on (z.desks x))) same in
-      let one = one-actor (rows_at g) in
+      let one = one-actor (rows_at g) (λ still. λ k. rows_of_errand g.shape (still.errand k) + one_if_any (still.purse k)) in
       omega (arith, is, one)
+
+  -- an errand's part of a query
+  errand-queries : v2.blocks ≡ v.blocks → (e : Event) (h : List Event) → v.history ≡ h → v2.history ≡ e ∷ h → ShardsStay s.workers e h → is_split_or_move e ≡ false
+      → (errand : Option ErrandValue) → queries_of_errand s v2 g errand ≡ queries_of_errand s v g errand
+  errand-queries blocks e h was now stay other None = refl
+  errand-queries blocks e h was now stay other (Some x) =
+      let reach : far s.workers v2.history x.shard x.worker ≡ far s.workers v.history x.shard x.worker =
+      ap (λ (past : List Event). far s.workers past x.shard x.worker) now ∙ far-stays s.workers e h stay other x.shard x.worker ∙ ap (λ (past : List Event). far s.workers past x.shard x.worker) (sym was) in
+      by-task x.task (far s.workers v2.history x.shard x.worker) (far s.workers v.history x.shard x.worker) reach
+    where
+      by-task : (task : TaskValue) (ahead_now ahead : ℕ) → ahead_now ≡ ahead → queries_of_task s v2 g ahead_now task ≡ queries_of_task s v g ahead task
+      by-task (OfRow r) ahead_now ahead same = refl
+      by-task (Unread f) ahead_now ahead same = ap (λ (x : ℕ). per_query s * x - 1) same
+      by-task (Read r) ahead_now ahead same = ap (λ (b : ℕ → Block). 2 + option_map_or (λ c. blocks_left b (cell_count s) (g.shape c) r.items) r.pin 0) blocks
+
+  pub queries-changed : v2.blocks ≡ v.blocks → (e : Event) (h : List Event) → v.history ≡ h → v2.history ≡ e ∷ h → ShardsStay s.workers e h → is_split_or_move e ≡ false
+      → (left s w2 g).queries + queries_at s v g (w.actors n) + sum_below s.servers (λ x. queries_on s h (v.desks x)) ≡ (left s w g).queries + queries_at s v g (w2.actors n) + sum_below s.servers (λ x. queries_on s h (v2.desks x))
+  queries-changed blocks e h was now stay other =
+      let is : (left s w2 g).queries ≡ sum_below (actor_count s) (λ a. queries_at s v2 g (w2.actors a)) + sum_below s.servers (λ x. queries_on s v2.history (v2.desks x)) =
+      ap (λ (z : View). sum_below (actor_count s) (λ a. queries_at s z g (w2.actors a)) + sum_below s.servers (λ x. queries_on s z.history (z.desks x))) same in
+      let grown : sum_below s.servers (λ x. queries_on s v2.history (v2.desks x)) ≡ sum_below s.servers (λ x. queries_on s (e ∷ h) (v2.desks x)) = ap (λ (past : List Event). sum_below s.servers (λ x. queries_on s past (v2.desks x))) now in
+      let old : sum_below s.servers (λ x. queries_on s v.history (v.desks x)) ≡ sum_below s.servers (λ x. queries_on s h (v.desks x)) = ap (λ (past : List Event). sum_below s.servers (λ x. queries_on s past (v.desks x))) was in
+      let actors : sum_below (actor_count s) (λ a. queries_at s v2 g (w2.actors a)) ≡ sum_below (actor_count s) (λ a. queries_at s v g (w2.actors a)) =
+      sum-same (actor_count s) (λ a. queries_at s v g (w2.actors a)) (λ a. queries_at s v2 g (w2.actors a))
+      (λ a lt. ap (λ (x : ℕ). of_work queries_of_work (w2.actors a).command + x) (errand-queries blocks e h was now stay other (w2.actors a).errand)) in
+      let desks : sum_below s.servers (λ x. queries_on s (e ∷ h) (v2.desks x)) ≡ sum_below s.servers (λ x. queries_on s h (v2.desks x)) =
+      sum-same s.servers (λ x. queries_on s h (v2.desks x)) (λ x. queries_on s (e ∷ h) (v2.desks x)) (λ x lt. part-queries e h stay other (v2.desks x).parts) in
+      let one = one-actor (queries_at s v g) (λ still. λ k. of_work queries_of_work (still.command k) + queries_of_errand s v g (still.errand k)) in
+      omega (arith, is, grown, old, actors, desks, one)
+    where
+      part-queries : (e : Event) (h : List Event) → ShardsStay s.workers e h → is_split_or_move e ≡ false → (ps : List Part)
+          → sum_by (λ (p : Part). queries_of_state s (far s.workers (e ∷ h) p.shard p.worker) p.state) ps ≡ sum_by (λ (p : Part). queries_of_state s (far s.workers h p.shard p.worker) p.state) ps
+      part-queries e h stay other ps = ap (λ (f : Part → ℕ). sum_by f ps) (fun_ext (λ p. ap (λ (n : ℕ). queries_of_state s n p.state) (far-stays s.workers e h stay other p.shard p.worker)))
+
+-- where one number falls and those before it don't rise, less is left
+pub queries-fall : (before now : Left) → now.control ≡ before.control → now.gates ≤ before.gates → now.rows ≤ before.rows → now.queries < before.queries → Falls before now
+queries-fall before now control gates rows queries = elim (cases_lt now.gates before.gates) [
+  | inl less ↦ inr (inl (control, less))
+  | inr ge ↦
+      let same : now.gates ≡ before.gates = omega (arith, gates, ge) in
+      elim (cases_lt now.rows before.rows) [
+        | inl less ↦ inr (inr (inl (control, same, less)))
+        | inr no_less ↦ inr (inr (inr (control, same, omega (arith, rows, no_less), queries)))
+      ]
+]

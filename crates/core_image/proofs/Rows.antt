@@ -1,5 +1,5 @@
 -- Rows of a state: those that have passed a gate have coordinates of the hierarchy, and an insert's row began with it.
-use Rattle.std.proofs.Common.{◌≡◌, ℕ, true, Option, Some, option_and_then, sym, ap, ◌∙◌, subst, Contains}
+use Rattle.std.proofs.Common.{◌≡◌, ℕ, Bool, true, Option, Some, option_and_then, sym, ap, ◌∙◌, subst, Contains}
 use Rattle.dim_hierarchy.specs.Row.{IsCoordOf}
 use Rattle.dim_hierarchy.specs.declared.row.Row.{Row}
 use Rattle.row_ledger.specs.Bounds.{may}
@@ -29,9 +29,9 @@ module _ (s : Setting) (w : World) (g : Ghost) (i : InvWith s (view s w) g) wher
       let ins : insert_at v.history r.no ≡ Some (record { server = f.1; row = r }) = ap (λ (o : Option Event). option_and_then insert_in o) f.2 in
       (i.telling.rows r.no _ ins).0
 
-  pub begun-of : (n of server : ℕ) (row : Row) → v.commands n ≡ doing of (Insert row true) → v.roles n ≡ Session server → (insert_at v.history of ≡ Some (record { server = server; row = row })) × (row.no ≡ of)
-  begun-of n of server row has role =
-      let progress = i.telling.progress n (record { of = of; work = Insert row true }) has in
+  pub begun-of : (n of server : ℕ) (row : Row) {routed : Bool} → v.commands n ≡ doing of (Insert row routed) → v.roles n ≡ Session server → (insert_at v.history of ≡ Some (record { server = server; row = row })) × (row.no ≡ of)
+  begun-of n of server row {routed} has role =
+      let progress = i.telling.progress n (record { of = of; work = Insert row routed }) has in
       let sessions : Session progress.0 ≡ Session server = sym progress.1 ∙ role in
       let servers : progress.0 ≡ server = cc in
       (progress.2 ∙ ap (λ (x : ℕ). Some (record { server = x; row = row })) servers, progress.3)

@@ -3,6 +3,7 @@
 
 mod acks;
 mod begins;
+mod notes;
 
 pub use acks::ack;
 pub use begins::begin_insert;
@@ -13,3 +14,4 @@ mod routes;
 pub use acks::ack;
 pub use queries::begin_query;
 pub use routes::route;
+pub use notes::{note_refused, note_unknown};

@@ -76,7 +76,7 @@ module _ (s : Setting) (v v2 : View) (g g2 : Ghost) (n c : ℕ) (other : OtherLa
   part-kept : (server q : ℕ) (p : Part) (st : PartState) → IsRowPart v.history v.images v.ways g.placed g.path server q p st → IsRowPart v.history v.images v2.ways g.placed g.path server q p st
   part-kept server q p (state.Waiting wanted) o = (o.0, nobody q o.1, o.2)
   part-kept server q p (state.Placed way) o = (o.0, o.1, nobody q o.2, o.3)
-  part-kept server q p state.NoMemory o = (o.0, nobody q o.1)
+  part-kept server q p state.NoMemory o = (o.0, nobody q o.1, o.2)
   part-kept server q p state.Taken o = o
   part-kept server q p (state.Done total) o = o
 

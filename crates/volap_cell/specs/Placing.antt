@@ -49,7 +49,7 @@ pub record IsLead (history : List Event) (images : ℕ → ImageValue) (server :
 abbrev pub IsRowPart : List Event → (ℕ → ImageValue) → (ℕ → Option RowWay) → (ℕ → Bool) → (ℕ → List ℕ) → ℕ → ℕ → Part → PartState → Type 0
 IsRowPart h images ways placed path server r p (state.Waiting wanted) = (placed r ≡ false) × NobodyAt ways r × IsLead h images server p.path p.shard
 IsRowPart h images ways placed path server r p (state.Placed way) = (placed r ≡ true) × (path r ≡ way) × NobodyAt ways r × IsLead h images server way (last_of way)
-IsRowPart h images ways placed path server r p state.NoMemory = (placed r ≡ false) × NobodyAt ways r
+IsRowPart h images ways placed path server r p state.NoMemory = (placed r ≡ false) × NobodyAt ways r × (p.path ≢ [])
 IsRowPart h images ways placed path server r p _ = ⊤
 
 -- a row that an actor is at
