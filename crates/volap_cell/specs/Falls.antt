@@ -1,6 +1,6 @@
 -- What is left to do, as four numbers that are compared in their order. With each step the first of them that changes falls; but a
 -- command that begins brings its own work with it, and who is counted in at a desk is no work.
-use Rattle.std.specs.Prelude.{ℕ, zero, suc, ◌≡◌, ◌==◌, ◌+◌, ◌*◌, ◌-◌, ◌^◌, ◌<◌, ◌≤◌, ◌⊎◌, nat_le, Bool, true, false, cond, List, [], ◌∷◌, map, length, sum_by, Option, Some, None, if◌then◌else◌}
+use Rattle.std.specs.Prelude.{ℕ, zero, suc, ◌≡◌, ◌≢◌, ◌==◌, ◌+◌, ◌*◌, ◌-◌, ◌^◌, ◌<◌, ◌≤◌, ◌⊎◌, nat_le, Bool, true, false, cond, List, [], ◌∷◌, map, length, sum_by, Option, Some, None, if◌then◌else◌}
 use Rattle.std.specs.Option.{option_map_or}
 use Rattle.dc_node.specs.declared.block.Block.{Block}
 use Rattle.dc_node.specs.declared.todo.Item.{Item}
@@ -251,18 +251,25 @@ left s w g = left_in s w (view s w) g
           + sum_below s.servers (λ server. sum_by (λ p. queries_of_state s (far s.workers v.history p.shard p.worker) p.state) (v.desks server).parts);
     }
 
+-- so much control a command brings with it at most: a balance of 2^8 actions, or a job
+abbrev pub control_brought : Setting → ℕ
+control_brought s = 2 ^ 8 * (8 * plenty s) + cell_count s + 2 ^ 32
+
 -- A command begins: it brings so much with it at most. What a query brings is of the last number, and of no matter to the others.
 pub record Begins (s : Setting) (before now : Left) (history history_now : List Event) : Type 0 where
   pub e : Event
   pub begun : is_beginning e ≡ true
   pub grown : history_now ≡ e ∷ history
-  pub control : now.control ≤ before.control + (2 ^ 8 * (8 * plenty s) + cell_count s + 2 ^ 32)
+  pub control : now.control ≤ before.control + control_brought s
   pub gates : now.gates ≤ before.gates + (per_gate * farthest history + 2)
   pub rows : now.rows ≡ before.rows
 
--- nobody's work changes
-abbrev pub IsStill : Left → Left → List Event → List Event → Type 0
-IsStill before now history history_now = (now ≡ before) × (history_now ≡ history)
+-- nobody's work changes where an actor is counted in at its desk, or out
+pub record IsStill (before now : Left) (history history_now : List Event) (counted counted_now : Bool) : Type 0 where
+  pub same : now ≡ before
+  pub quiet : history_now ≡ history
+  pub counts : counted ≢ counted_now
 
-abbrev pub GoesOn : Setting → Left → Left → List Event → List Event → Type 0
-GoesOn s before now history history_now = Falls before now ⊎ Begins s before now history history_now ⊎ IsStill before now history history_now
+abbrev pub GoesOn : Setting → Left → Left → List Event → List Event → Bool → Bool → Type 0
+GoesOn s before now history history_now counted counted_now =
+    Falls before now ⊎ Begins s before now history history_now ⊎ IsStill before now history history_now counted counted_now

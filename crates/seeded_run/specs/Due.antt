@@ -1,0 +1,247 @@
+-- Which kind of step is due for an actor: a function of its fields, of what the streams of the phase still have, and of the cells.
+-- An actor first goes on with the part that it is at, then empties its purse, then goes on with its command, and at last begins the
+-- next one. Where it waits for others none is due, but where it waits for a block, or for a gate's inserts: of that see `can`.
+use Rattle.std.specs.Prelude.{ℕ, zero, suc, ◌+◌, ◌*◌, ◌==◌, ◌&&◌, ◌||◌, Bool, true, false, not, nat_le, Option, Some, None, is_some, is_none, if◌then◌else◌, List, [], ◌∷◌, length, position}
+use Rattle.std.specs.List.{list_any}
+use Rattle.dim_hierarchy.specs.Dimension.{Dimension}
+use Rattle.dim_hierarchy.specs.Filter.{picks}
+use Rattle.dim_hierarchy.specs.Row.{leaves}
+use Rattle.dc_node.specs.Block.{is_leaf}
+use Rattle.dc_node.specs.declared.block.Block.{Block}
+use Rattle.dc_node.specs.declared.todo.Item.{Item}
+use Rattle.mapping_table.specs.declared.place.Where.{Where}
+use Rattle.mapping_table.specs.declared.place.Where.TheVariants as where_is
+use Rattle.query_router.specs.Desk.{DeskValue, is_waiting, waits_for, verdict_of}
+use Rattle.query_router.specs.declared.part.Part.{Part}
+use Rattle.query_router.specs.declared.part.Verdict.{Verdict}
+use Rattle.query_router.specs.declared.part.Verdict.TheVariants as verdict
+use Rattle.row_ledger.specs.declared.event.Event.{Event}
+use Rattle.script_form.specs.declared.script.Command.{Command}
+use Rattle.script_form.specs.declared.script.Command.TheVariants as script
+use Rattle.script_run.specs.Phases.{closes}
+use Rattle.shard_store.specs.declared.gate.Phase.{Phase}
+use Rattle.shard_store.specs.declared.gate.Phase.TheVariants.{Open}
+use Rattle.volap_cell.specs.Cells.{CellValue, block_in, desk_in, ledger_in, phase_of, way_in, where_in}
+use Rattle.volap_cell.specs.Commands.{settles_next}
+use Rattle.volap_cell.specs.Setting.{Setting, actor_count, desk_cell, ledger_cell, map_cell}
+use Rattle.volap_cell.specs.Values.{ActorValue, ErrandValue, TaskValue, OfRow, Unread, Read, JobValue, StageValue, IsCalled, IsDeclined, IsFrozen, Collects, Builds}
+use Rattle.volap_cell.specs.World.{World}
+use Rattle.volap_cell.specs.declared.command.Balance.{Balance}
+use Rattle.volap_cell.specs.declared.command.Command.{Command as OpenCommand}
+use Rattle.volap_cell.specs.declared.command.Work.{Work}
+use Rattle.volap_cell.specs.declared.command.Work.TheVariants as work_is
+use Rattle.volap_cell.specs.declared.errand.Way.{Way}
+use Rattle.volap_cell.specs.declared.errand.Way.TheVariants as way
+use Rattle.volap_cell.specs.declared.kind.Kind.{Kind}
+use Rattle.volap_cell.specs.declared.kind.Kind.TheVariants as kind
+use Rattle.volap_cell.specs.declared.role.Role.{Role}
+use Rattle.volap_cell.specs.declared.role.Role.TheVariants as role
+use Rattle.seeded_run.specs.Rests.{PhaseRun, rest_of}
+
+-- Tests of each number below one.
+
+abbrev pub all_below : ℕ → (ℕ → Bool) → Bool
+all_below zero test = true
+all_below (suc n) test = test n && all_below n test
+
+abbrev pub any_below : ℕ → (ℕ → Bool) → Bool
+any_below zero test = false
+any_below (suc n) test = test n || any_below n test
+
+-- no item is in a list
+abbrev pub is_empty : {A : Type 0} → List A → Bool
+is_empty [] = true
+is_empty (x ∷ xs) = false
+
+-- Parts that an actor is at.
+
+-- where the part's worker has its shard
+abbrev pub led_to : Setting → World → ErrandValue → Option Where
+led_to s w e = where_in (w.cells (map_cell s e.worker)) e.shard
+
+-- a part that hasn't passed its gate goes to where its shard is; there this is due
+abbrev pub kind_by : Option Where → (ℕ → Kind) → Option Kind
+kind_by None at_gate = None
+kind_by (Some (where_is.Gate gate)) at_gate = Some (at_gate gate)
+kind_by (Some (where_is.Split plane left right)) at_gate = Some kind.Expand
+kind_by (Some (where_is.Moved to)) at_gate = Some kind.Forward
+
+-- rows come in at the gate's tree
+abbrev pub is_gate_open : Option Phase → Bool
+is_gate_open (Some Open) = true
+is_gate_open _ = false
+
+-- the gate is open, and the actor has spares and boxes for every level of its tree
+abbrev pub may_enter : CellValue → ActorValue → Bool
+may_enter gate a = is_gate_open (phase_of gate) && nat_le ((way_in gate).height + 2) (length a.purse) && nat_le (2 * length a.purse + 1) a.boxes
+
+-- at its gate a row's height is looked up, its purse is filled by that, and it comes in
+abbrev pub gate_kind : CellValue → ActorValue → Option ℕ → Bool → Kind
+gate_kind gate a None filled = kind.LookUp
+gate_kind gate a (Some height) false = kind.Refill
+gate_kind gate a (Some height) true = if may_enter gate a then kind.EnterTree else kind.EnterQueue
+
+-- a row that is carried is put in a leaf, or goes further down
+abbrev pub carry_kind : Block → Kind
+carry_kind block = if is_leaf block.body then kind.PutInLeaf else kind.Down
+
+-- what is left of the purse is given back before the part ends
+abbrev pub placed_kind : ActorValue → Kind
+placed_kind a = if is_empty a.purse then kind.FinishPart else kind.Refill
+
+-- by how far its row has come
+abbrev pub row_kind : World → Option Where → ActorValue → Way → Option Kind
+row_kind w led a (way.Before height filled) = kind_by led (λ gate. gate_kind (w.cells gate) a height filled)
+row_kind w led a (way.Carried gate block) = Some (carry_kind (block_in (w.cells block)))
+row_kind w led a (way.Put gate) = Some kind.LeaveTree
+row_kind w led a way.Placed = Some (placed_kind a)
+
+-- a query visits the blocks that it has noted, and then ends
+abbrev pub read_kind : List Item → Kind
+read_kind items = if is_empty items then kind.FinishPart else kind.BlockVisit
+
+-- by what its part asks for
+abbrev pub task_kind : World → Option Where → ActorValue → TaskValue → Option Kind
+task_kind w led a (OfRow r) = row_kind w led a r.way
+task_kind w led a (Unread f) = kind_by led (λ gate. kind.GateRead)
+task_kind w led a (Read r) = Some (read_kind r.items)
+
+-- whose shard is there
+abbrev pub errand_kind : Setting → World → ActorValue → ErrandValue → Option Kind
+errand_kind s w a e = task_kind w (led_to s w e) a e.task
+
+-- Commands that are open.
+
+-- the desk of a session is its server's; no other actor has one
+abbrev pub desk_of : Setting → World → Role → Option DeskValue
+desk_of s w (role.Session server) = Some (desk_in (w.cells (desk_cell s server)))
+desk_of s w _ = None
+
+-- there is a desk, and it has no command
+abbrev pub is_empty_desk : Option DeskValue → Bool
+is_empty_desk None = false
+is_empty_desk (Some desk) = is_none desk.op
+
+-- a step that needs an empty desk
+abbrev pub kind_at_empty : Option DeskValue → Kind → Option Kind
+kind_at_empty desk k = if is_empty_desk desk then Some k else None
+
+-- A command whose parts are at their end is ended by what these come to. Else its actor takes a part that waits; where all are
+-- with others, none is due.
+abbrev pub kind_by_verdict : List Part → Option Verdict → Option Kind
+kind_by_verdict parts None = if list_any is_waiting parts then Some kind.TakePart else None
+kind_by_verdict parts (Some verdict.NoMemory) = Some kind.Note
+kind_by_verdict parts (Some verdict.Placed) = Some kind.Ack
+kind_by_verdict parts (Some (verdict.Sum answer)) = Some kind.Answer
+
+-- by the parts on the actor's desk
+abbrev pub parts_kind : Option DeskValue → Option Kind
+parts_kind None = None
+parts_kind (Some desk) = kind_by_verdict desk.parts (verdict_of desk.parts)
+
+-- a page is shown right behind its command's beginning, when everyone else is idle
+abbrev pub page_kind : List Event → Bool → ℕ → Bool → Option Kind
+page_kind history alone of true = Some kind.Note
+page_kind history alone of false = if alone && (length history == of + 1) then Some kind.Note else None
+
+-- of a shard that doesn't stand there is no page
+abbrev pub tree_kind : List Event → Bool → ℕ → Bool → Bool → Option Kind
+tree_kind history alone of stands shown = if stands then page_kind history alone of shown else Some kind.Note
+
+-- a split or a move ends with its new gates
+abbrev pub finish_kind : Option ℕ → Kind
+finish_kind None = kind.FinishSplit
+finish_kind (Some worker) = kind.FinishMove
+
+-- by how far it has come, and whether it has a worker to go to
+abbrev pub stage_kind : Option ℕ → StageValue → Kind
+stage_kind to IsCalled = kind.Freeze
+stage_kind to (IsDeclined why) = kind.Note
+stage_kind to (IsFrozen f) = kind.Drained
+stage_kind to (Collects c) = kind.Collect
+stage_kind to (Builds b) = if is_empty b.unbuilt then finish_kind to else kind.BuildBlock
+
+-- of a job, or what is due without one
+abbrev pub job_kind : Option JobValue → Kind → Kind
+job_kind None without = without
+job_kind (Some job) without = stage_kind job.to job.stage
+
+-- with no action before it, a balance still reads loads, or is at its end
+abbrev pub balance_kind : Balance → Kind
+balance_kind b = if is_none b.plan then kind.LookUp else kind.Note
+
+-- by what the open command is and how far it has come; `alone` tells whether everyone else is idle
+abbrev pub work_kind : Setting → List Event → Bool → Option DeskValue → ActorValue → ℕ → Work → Option Kind
+work_kind s history alone desk a of (work_is.Insert row false) = kind_at_empty desk kind.Route
+work_kind s history alone desk a of (work_is.Insert row true) = parts_kind desk
+work_kind s history alone desk a of work_is.Query = parts_kind desk
+work_kind s history alone desk a of (work_is.Sync server pulled) = Some (if pulled then kind.Note else kind.Sync)
+work_kind s history alone desk a of work_is.Barrier = Some kind.Note
+work_kind s history alone desk a of (work_is.Settle pulls) = Some (if is_some (settles_next s.servers pulls) then kind.Sync else kind.Note)
+work_kind s history alone desk a of (work_is.Split shard) = Some (job_kind a.job kind.Note)
+work_kind s history alone desk a of (work_is.Move shard worker) = Some (job_kind a.job kind.Note)
+work_kind s history alone desk a of (work_is.Balance b) = Some (job_kind a.job (balance_kind b))
+work_kind s history alone desk a of (work_is.Shards shown) = page_kind history alone of shown
+work_kind s history alone desk a of (work_is.Tree shard stands shown) = tree_kind history alone of stands shown
+work_kind s history alone desk a of (work_is.Audit shown) = page_kind history alone of shown
+
+-- Commands that begin.
+
+-- no name is unknown
+abbrev pub are_known : List Dimension → Command → Bool
+are_known h (script.Insert new) = is_none (position is_none (leaves h new.names))
+are_known h (script.Query question) = is_none (position is_none (picks h question.filter))
+are_known h (script.Control call) = true
+
+-- what begins a command, of whose names all are known or one isn't
+abbrev pub first_kind : Option DeskValue → Command → Bool → Option Kind
+first_kind desk (script.Insert new) true = Some kind.BeginInsert
+first_kind desk (script.Query question) true = kind_at_empty desk kind.BeginQuery
+first_kind desk c known = Some kind.Note
+
+-- a command that closes its phase begins when all others are over and everyone else is idle
+abbrev pub next_kind : List Dimension → Bool → Option DeskValue → List Command → Option Kind
+next_kind h alone desk [] = None
+next_kind h alone desk (c ∷ more) = if closes c && not alone then None else first_kind desk c (are_known h c)
+
+-- a hand takes a part that waits for its worker on any desk
+abbrev pub hand_kind : Setting → World → ℕ → Option Kind
+hand_kind s w worker =
+    if any_below s.servers (λ server. list_any (waits_for worker) (desk_in (w.cells (desk_cell s server))).parts) then Some kind.TakePart else None
+
+-- by the role of an actor without a command
+abbrev pub free_kind : Setting → World → Bool → List Command → Role → Option Kind
+free_kind s w alone rest (role.Hand worker) = hand_kind s w worker
+free_kind s w alone rest r = next_kind s.hierarchy alone (desk_of s w r) rest
+
+-- All of it.
+
+-- an actor with nothing to do
+abbrev pub does_nothing : ActorValue → Bool
+does_nothing a = is_none a.command && is_none a.errand && is_none a.job && is_empty a.purse
+
+-- all other actors are idle, with nothing left in their streams
+abbrev pub is_alone : Setting → World → (ℕ → List Command) → ℕ → Bool
+is_alone s w rest n = all_below (actor_count s) (λ a. a == n || (does_nothing (w.actors a) && is_empty (rest a)))
+
+-- by the command that the actor has open, if it has one
+abbrev pub command_kind : Setting → World → Bool → List Command → ActorValue → Option OpenCommand → Option Kind
+command_kind s w alone rest a None = free_kind s w alone rest a.role
+command_kind s w alone rest a (Some c) = work_kind s (ledger_in (w.cells ledger_cell)).history alone (desk_of s w a.role) a c.of c.work
+
+-- the cells of a job stay in the purse; all others that are left in it go back
+abbrev pub purse_kind : Setting → World → Bool → List Command → ActorValue → Option Kind
+purse_kind s w alone rest a = if is_none a.job && not (is_empty a.purse) then Some kind.Refill else command_kind s w alone rest a a.command
+
+-- by the part that the actor is at, if it is at one
+abbrev pub actor_kind : Setting → World → Bool → List Command → ActorValue → Option ErrandValue → Option Kind
+actor_kind s w alone rest a None = purse_kind s w alone rest a
+actor_kind s w alone rest a (Some e) = errand_kind s w a e
+
+-- where these are the rests of the streams, by session
+abbrev pub due_by : Setting → World → (ℕ → List Command) → ℕ → Option Kind
+due_by s w rest n = actor_kind s w (is_alone s w rest n) (rest n) (w.actors n) (w.actors n).errand
+
+-- the kind that is due for an actor while a phase runs
+abbrev pub due : Setting → PhaseRun → World → ℕ → Option Kind
+due s p w n = due_by s w (rest_of p (ledger_in (w.cells ledger_cell)).history) n

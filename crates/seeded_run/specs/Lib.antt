@@ -1,0 +1,4 @@
+pub mod Rests
+pub mod Due
+pub mod Can
+pub mod Laws

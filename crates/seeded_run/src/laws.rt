@@ -1,0 +1,26 @@
+//! Laws of what is due, and of what the streams of a phase still have. There is nothing to do at run time.
+ghost use Rattle.seeded_run.specs.Laws.{WholeLaw, RestLaw, IdleLaw, PartLaw, CarrierLaw, WantedLaw, FreeLaw, OrderLaw};
+
+/// A stream has all its commands as the phase begins, and one less whenever one begins.
+pub fn streams_run_out()
+    ensures whole { WholeLaw }
+    ensures rest { RestLaw }
+{}
+
+/// Who is idle and has nothing to begin makes no step.
+pub fn idle_actors_wait()
+    ensures { IdleLaw }
+{}
+
+/// Who is at a part can go on with it, and who carries a row wants no block but a child of its own.
+pub fn parts_go_on()
+    ensures part { PartLaw }
+    ensures carrier { CarrierLaw }
+    ensures wanted { WantedLaw }
+    ensures free { FreeLaw }
+{}
+
+/// Where the commands go one after the other, one actor at most can make a step.
+pub fn one_steps_in_order()
+    ensures { OrderLaw }
+{}

@@ -1,0 +1,6 @@
+//! A script's phases over the core, all actors on one thread: so far, which step is due for each actor.
+#![tactic(auto)]
+
+mod laws;
+
+pub use laws::{idle_actors_wait, one_steps_in_order, parts_go_on, streams_run_out};
