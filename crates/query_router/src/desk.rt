@@ -56,6 +56,13 @@ impl Desk {
         self.parts.as_slice()
     }
 
+    /// A path of no shards, for a part of a query. Takes no memory.
+    pub fn no_path(&self) -> Path
+        ensures { result ≡ [] }
+    {
+        Path::new(self.alloc)
+    }
+
     /// How many sessions are counted in.
     pub fn sessions(&self) -> u16
         ensures { result ≡ self.now.sessions }

@@ -23,6 +23,7 @@ use Rattle.volap_cell.specs.declared.command.Balance.{Balance}
 use Rattle.volap_cell.specs.declared.command.Command.{Command}
 use Rattle.volap_cell.specs.declared.command.Work.TheVariants as work_is
 use Rattle.volap_cell.specs.declared.errand.RowErrand.{RowErrand}
+use Rattle.volap_cell.specs.declared.errand.Way.{Way}
 use Rattle.volap_cell.specs.declared.errand.Way.TheVariants.{Before, Placed}
 use Rattle.volap_cell.specs.declared.role.Role.{Role}
 use Rattle.volap_cell.specs.declared.role.Role.TheVariants.{Session, Hand}
@@ -186,9 +187,13 @@ IsOutcome (OfRow r) s =
 IsOutcome (Unread f) s = s ≡ state.NoMemory
 IsOutcome (Read r) s = ((r.items ≡ []) × (s ≡ state.Done r.agg)) ⊎ ((r.items ≢ []) × (s ≡ state.NoMemory))
 
--- the path of a row's part; a query's part has none
+-- the path of a row's part, where what becomes of the part doesn't have it; a query's part has none
+abbrev pub path_left : Way → List ℕ → List ℕ
+path_left Placed path = []
+path_left _ path = path
+
 abbrev pub path_in : TaskValue → List ℕ
-path_in (OfRow r) = r.path
+path_in (OfRow r) = path_left r.way r.path
 path_in (Unread f) = []
 path_in (Read r) = []
 

@@ -1,0 +1,5 @@
+pub mod GoesOut
+pub mod GoesBack
+pub mod LeftOver
+pub mod TakesPart
+pub mod TakenReady
