@@ -82,6 +82,7 @@ module _ (hs : List Dimension) (desk_at image_at ledger_at : ℕ) (desk image le
         role = due.role;
         filter = filter;
         valid = due.valid;
+        dims = due.dims;
         image = iv;
         same = record { was = image-cell; is = image2_is ∙ ap (λ (x : ℕ). ImageCell x iv) image-server };
         desk = dv;

@@ -166,7 +166,7 @@ module _ (d im l : Change) (b : ActorValue) (s : Setting) (w : World) (n : ℕ) 
       let it : its ≡ c = its-own n None its v.commands v2.commands begins c is in
       subst (λ (x : Command). (x.of ≡ length h) × IsProgress s (e ∷ h) x.of x.work (v.jobs n) (v.roles n)) it (refl, (q, does.role, new-told query_in e h)))
       (λ insert is. let never : ◌≡◌ {A = Option Insert} None (Some insert) = is in absurd (cc))
-      (λ other is. let both : ◌≡◌ {A = Option Query} (Some q) (Some other) = is in let it : q ≡ other = cc in subst (λ (x : Query). IsFilterOf s.hierarchy x.filter × (x.server < s.servers)) it (does.valid, within))
+      (λ other is. let both : ◌≡◌ {A = Option Query} (Some q) (Some other) = is in let it : q ≡ other = cc in subst (λ (x : Query). IsFilterOf s.hierarchy x.filter × (x.server < s.servers) × (0 < length s.hierarchy)) it (does.valid, within, does.dims))
 
   -- What is owed.
 
@@ -243,7 +243,7 @@ module _ (d im l : Change) (b : ActorValue) (s : Setting) (w : World) (n : ℕ) 
       let boxes = subst (λ (y : ImageValue). AreBoxes s.hierarchy y.spots) image-there (image-boxes s w g i server within) in
       let there : Contains does.image.spots spot = (covered.0, covered.2, covered.3) in
       let met : overlaps s.hierarchy spot.set does.filter ≡ true = box-overlaps s.hierarchy spot.set does.filter (row_at h r).at (All-contains (λ (y : Spot). IsDescSetOf s.hierarchy y.set) does.image.spots spot boxes there) does.valid (row-coords s w g i r placed)
-      i.numbering.setting.dims covered.4.1 fitting in
+      does.dims covered.4.1 fitting in
       let part = Contains-map (query_part does.filter) (planned s.hierarchy does.filter does.image.spots) spot (Contains-filter (λ (y : Spot). overlaps s.hierarchy y.set does.filter) does.image.spots spot there met) in
       (part.0, query_part does.filter spot, part.1, part.2, under-quiet s e h refl g.placed g.home spot.shard r (record { is_placed = placed; comes = covered.4.0 }))
 

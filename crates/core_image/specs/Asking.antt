@@ -20,6 +20,7 @@ pub record CanBeginQuery (h : List Dimension) (desk image ledger : CellValue) (a
   pub server : ℕ
   pub role : a.role ≡ Session server
   pub valid : IsFilterOf h filter
+  pub dims : 0 < length h
   pub desk_is : tag_of desk ≡ DeskOf server
   pub empty : (desk_in desk).op ≡ None
   pub image_is : tag_of image ≡ ImageOf server

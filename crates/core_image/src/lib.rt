@@ -3,15 +3,13 @@
 
 mod acks;
 mod begins;
-mod notes;
-
-pub use acks::ack;
-pub use begins::begin_insert;
 mod filters;
+mod notes;
 mod queries;
 mod routes;
 
 pub use acks::ack;
+pub use begins::begin_insert;
+pub use notes::{note_refused, note_unknown};
 pub use queries::begin_query;
 pub use routes::route;
-pub use notes::{note_refused, note_unknown};

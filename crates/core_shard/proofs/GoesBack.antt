@@ -127,7 +127,7 @@ module _ (s : Setting) (v : View) (g : Ghost) (i : InvWith s v g) (readers : Rea
   part-still : (server r : ℕ) (p : Part) (st : PartState) → IsRowPart v.history v.images v.ways g.placed g.path server r p st → IsRowPart v.history v.images ways_now g.placed g.path server r p st
   part-still server r p (state.Waiting wanted) o = (o.0, nobody-still r o.1, o.2)
   part-still server r p (state.Placed way) o = (o.0, o.1, nobody-still r o.2, o.3)
-  part-still server r p state.NoMemory o = (o.0, nobody-still r o.1)
+  part-still server r p state.NoMemory o = (o.0, nobody-still r o.1, o.2)
   part-still server r p _ o = tt
 
   pub back-placing : Placing s v.history v.commands ways_now v.queues g.gate g.shape g.placed g.home g.path

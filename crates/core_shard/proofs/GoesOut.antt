@@ -271,7 +271,7 @@ module _ (s : Setting) (v : View) (g : Ghost) (i : InvWith s v g) (n server : �
   part-still : (x r : ℕ) (p : Part) (st : PartState) → r ≢ of → IsRowPart v.history v.images v.ways g.placed g.path x r p st → IsRowPart v.history v.images ways_now g.placed g.path x r p st
   part-still x r p (state.Waiting wanted) ne o = (o.0, nobody-still r ne o.1, o.2)
   part-still x r p (state.Placed way) ne o = (o.0, o.1, nobody-still r ne o.2, o.3)
-  part-still x r p state.NoMemory ne o = (o.0, nobody-still r ne o.1)
+  part-still x r p state.NoMemory ne o = (o.0, nobody-still r ne o.1, o.2)
   part-still x r p _ ne o = tt
 
   -- the command of an insert whose part was not routed is another one

@@ -159,7 +159,7 @@ module _ (d : Change) (b : ActorValue) (s : Setting) (w : World) (n : ℕ) (g : 
   control : (left s w2 g).control ≡ (left s w g).control
   control = control-same s w g cs n b u.desks u.taken u.ways v.reads v.pins g.counted same few command job purse server within front part (taken_from part ∷ []) behind turn
 
-  goes : (wanted : Want) → does.wanted ≡ wanted → GoesOn s (left s w g) (left s w2 g) h h
+  goes : (wanted : Want) → does.wanted ≡ wanted → GoesOn s (left s w g) (left s w2 g) h h (w.actors n).counted (w2.actors n).counted
   goes (want.Row row) is =
       let turned = gates-turn s w g cs n b u.desks u.taken u.ways v.reads v.pins g.counted same few command job purse server within front part (taken_from part ∷ []) behind turn in
       let was : gates_of_errand s h (w.actors n).errand ≡ 0 = ap (gates_of_errand s h) does.free in

@@ -124,7 +124,7 @@ module _ (c : Change) (b : ActorValue) (s : Setting) (w : World) (n : ℕ) (g : 
   part-now : (server q : ℕ) (p : Part) (st : PartState) → IsRowPart v.history v.images v.ways g.placed g.path server q p st → IsRowPart v.history v.images v2.ways g.placed g.path server q p st
   part-now server q p (state.Waiting wanted) o = (o.0, nobody q o.1, o.2)
   part-now server q p (state.Placed x) o = (o.0, o.1, nobody q o.2, o.3)
-  part-now server q p state.NoMemory o = (o.0, nobody q o.1)
+  part-now server q p state.NoMemory o = (o.0, nobody q o.1, o.2)
   part-now server q p state.Taken o = o
   part-now server q p (state.Done total) o = o
 

@@ -186,7 +186,7 @@ module _ (h : List Event) (placed : ℕ → Bool) (home : ℕ → ℕ) (path : �
     part-placed : (images : ℕ → ImageValue) (server q : ℕ) (p : Part) (st : PartState) → IsRowPart h images ways placed path server q p st → IsRowPart h images ways_now placed_now path_now server q p st
     part-placed images server q p (state.Waiting wanted) o = (off-one placed r true q (nobody-off q o.1) ∙ o.0, nobody-placed q o.1, o.2)
     part-placed images server q p (state.Placed w) o = (still-placed q o.0, same-path q o.0 ∙ o.1, nobody-placed q o.2, o.3)
-    part-placed images server q p state.NoMemory o = (off-one placed r true q (nobody-off q o.1) ∙ o.0, nobody-placed q o.1)
+    part-placed images server q p state.NoMemory o = (off-one placed r true q (nobody-off q o.1) ∙ o.0, nobody-placed q o.1, o.2)
     part-placed images server q p state.Taken o = o
     part-placed images server q p (state.Done total) o = o
 

@@ -105,7 +105,7 @@ pub record IsNoted (s : Setting) (e : Event) (h : List Event) (n : ℕ) (command
   pub mine : (c : Command) → commands_now n ≡ Some c → IsOwn (e ∷ h) c.of n × (has_ended (e ∷ h) c.of ≡ false) × IsProgress s (e ∷ h) c.of c.work (jobs_now n) (roles n)
   pub all_seen : seen_now n ≡ length (e ∷ h)
   pub row : (i : Insert) → insert_in e ≡ Some i → IsRowOf s.hierarchy i.row × (i.server < s.servers) × ((c : Command) × (commands_now n ≡ Some c) × (c.of ≡ length h))
-  pub filter : (q : Query) → query_in e ≡ Some q → IsFilterOf s.hierarchy q.filter × (q.server < s.servers)
+  pub filter : (q : Query) → query_in e ≡ Some q → IsFilterOf s.hierarchy q.filter × (q.server < s.servers) × (0 < length s.hierarchy)
   pub goes_on : (c : Command) → commands n ≡ Some c → is_some (insert_at h c.of) ≡ true
       → (has_ended (e ∷ h) c.of ≡ true) ⊎ ((d : Command) × (commands_now n ≡ Some d) × (d.of ≡ c.of))
 

@@ -86,7 +86,7 @@ module _ (s : Setting) (e : Event) (h : List Event) (n : ℕ) (commands commands
   pub telling-begins : session_in e ≡ Some n → commands n ≡ None
       → ((c : Command) → commands_now n ≡ Some c → (c.of ≡ length h) × IsProgress s (e ∷ h) c.of c.work (jobs_now n) (roles n))
       → ((insert : Insert) → insert_in e ≡ Some insert → IsRowOf s.hierarchy insert.row × (insert.server < s.servers) × ((c : Command) × (commands_now n ≡ Some c)))
-      → ((q : Query) → query_in e ≡ Some q → IsFilterOf s.hierarchy q.filter × (q.server < s.servers))
+      → ((q : Query) → query_in e ≡ Some q → IsFilterOf s.hierarchy q.filter × (q.server < s.servers) × (0 < length s.hierarchy))
       → Telling s (e ∷ h) commands_now jobs_now roles seen_now placed
   telling-begins session free now row filter = telling-grown s e h n commands commands_now jobs jobs_now roles seen seen_now placed
       (record {

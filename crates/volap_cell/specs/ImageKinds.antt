@@ -1,5 +1,5 @@
 -- What the steps of commands at images, desks and the ledger do to the cells that they hold and to their actor.
-use Rattle.std.specs.Prelude.{ℕ, ◌≡◌, ◌&&◌, ◌+◌, ◌⊎◌, Bool, true, false, nat_lt, List, [], ◌∷◌, Option, Some, None, option_map, map, length, slice_get, if◌then◌else◌}
+use Rattle.std.specs.Prelude.{ℕ, ◌≡◌, ◌&&◌, ◌+◌, ◌<◌, ◌⊎◌, Bool, true, false, nat_lt, List, [], ◌∷◌, Option, Some, None, option_map, map, length, slice_get, if◌then◌else◌}
 use Rattle.dim_hierarchy.specs.Dimension.{Dimension}
 use Rattle.dim_hierarchy.specs.Filter.{IsFilterOf}
 use Rattle.dim_hierarchy.specs.Row.{IsRowOf}
@@ -140,6 +140,7 @@ pub record DoesBeginQuery (h : List Dimension) (d i l : Change) (a b : ActorValu
   pub role : a.role ≡ Session server
   pub filter : List Pick
   pub valid : IsFilterOf h filter
+  pub dims : 0 < length h
   pub image : ImageValue
   pub same : TurnsImage server image image i
   pub desk : DeskValue

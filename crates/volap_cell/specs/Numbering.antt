@@ -1,5 +1,5 @@
 -- Who is who, and which cell is whose: what never changes.
-use Rattle.std.specs.Prelude.{ℕ, ◌≡◌, ◌≢◌, ◌==◌, ◌+◌, ◌-◌, ◌^◌, ◌<◌, ◌≤◌, ⊤, Bool, false, nat_lt, List, [], Option, Some, None, All, slice_get, length, if◌then◌else◌}
+use Rattle.std.specs.Prelude.{ℕ, ◌≡◌, ◌≢◌, ◌==◌, ◌+◌, ◌-◌, ◌^◌, ◌<◌, ◌≤◌, ⊤, Bool, false, nat_lt, List, [], Option, Some, None, All, slice_get, if◌then◌else◌}
 use Rattle.dim_hierarchy.specs.Dimension.{IsHierarchy}
 use Rattle.cell_stock.specs.declared.purse.Spare.{Spare}
 use Rattle.volap_cell.specs.Cells.{Tag, OfStock, TheLedger, TheStock, TheRegistry, ImageOf, DeskOf, MapOf}
@@ -17,10 +17,9 @@ IsRoleOf s (Hand worker) = worker < s.workers
 IsRoleOf s Puller = ⊤
 IsRoleOf s Admin = ⊤
 
--- There is a dimension, a server and a worker, the stock has the cells of the first shards, and there is one administrator at most.
+-- There is a server and a worker, the stock has the cells of the first shards, and there is one administrator at most.
 pub record IsSetting (s : Setting) : Type 0 where
   pub hierarchy : IsHierarchy s.hierarchy
-  pub dims : 0 < length s.hierarchy
   pub servers : 0 < s.servers
   pub workers : 0 < s.workers
   pub enough : s.workers + s.workers ≤ s.stock_cells

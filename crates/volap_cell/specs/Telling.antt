@@ -51,5 +51,5 @@ pub record Telling (s : Setting) (history : List Event) (commands : ℕ → Opti
   pub last : (a p : ℕ) → option_and_then session_in (event_at history p) ≡ Some a → p < seen a
   pub within : (a : ℕ) → seen a ≤ length history
   pub rows : (r : ℕ) (i : Insert) → insert_at history r ≡ Some i → IsRowOf s.hierarchy i.row × (i.server < s.servers)
-  pub filters : (b : ℕ) (q : Query) → query_at history b ≡ Some q → IsFilterOf s.hierarchy q.filter × (q.server < s.servers)
+  pub filters : (b : ℕ) (q : Query) → query_at history b ≡ Some q → IsFilterOf s.hierarchy q.filter × (q.server < s.servers) × (0 < length s.hierarchy)
   pub status : (r : ℕ) (i : Insert) → insert_at history r ≡ Some i → IsEndedOrOpen history commands r

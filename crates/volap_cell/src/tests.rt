@@ -1,10 +1,9 @@
 ghost use Rattle.std.specs.Prelude.{◌≡◌, ◌<◌, [], ◌∷◌, length, IfOk};
-ghost use Rattle.dim_hierarchy.specs.Dimension.{IsHierarchy};
 ghost use Rattle.volap_cell.specs.State.{CanLift};
 ghost use Rattle.volap_cell.specs.declared.role.Role.TheVariants.{Session, Admin};
 
 use crate::{Cell, Role, RoleList, State, lift_two, open, put_two};
-use dim_hierarchy::{Hierarchy, Name};
+use dim_hierarchy::Hierarchy;
 use query_router::Desk;
 use row_ledger::Use;
 use std::alloc::{AllocError, Global};
@@ -77,21 +76,9 @@ fn two_roles(alloc: Global) -> Result<RoleList, AllocError>
     Ok(roles)
 }
 
-/// One dimension of one level.
-fn one_dimension(alloc: Global) -> Result<Hierarchy, Fail>
-    ensures valid { IfOk result IsHierarchy }
-    ensures dims { IfOk result (λ h. length h ≡ 1) }
-{
-    let mut h = Hierarchy::new(alloc);
-    h.add_dim(&Name::from_bytes(alloc, b"place")?, 1)?;
-    let _one = h.dims();
-    Ok(h)
-}
-
 /// A core of two servers and two workers, with 16384 cells in the stock.
 fn opened(alloc: Global, h: &Hierarchy) -> Result<State, AllocError>
-    requires valid { IsHierarchy h.now }
-    requires dims { length h.now ≡ 1 }
+    requires { h.now ≡ [] }
 {
     let with = Use {
         servers: 2,
@@ -116,7 +103,7 @@ fn filled(cells: &[Option<Cell>]) -> usize {
 
 #[test]
 fn a_core_is_opened(rt: HostRuntime) -> Result<(), Fail> {
-    let h = one_dimension(rt.alloc())?;
+    let h = Hierarchy::new(rt.alloc());
     let state = opened(rt.alloc(), &h)?;
     assert_eq!(rt; (state.cells.len(), state.actors.len()), (16393, 2));
     assert_eq!(rt; filled(&state.cells), 13);
