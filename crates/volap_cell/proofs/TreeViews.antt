@@ -11,7 +11,7 @@ use Rattle.tree_shape.specs.Counts.{Each}
 use Rattle.volap_cell.specs.Cells.{GateCell, StockCell}
 use Rattle.volap_cell.specs.Errands.{place_of, height_of, Outside}
 use Rattle.volap_cell.specs.Setting.{Setting}
-use Rattle.volap_cell.specs.TreeKinds.{DoesGateRead, DoesBlockVisit, DoesEnterTree, DoesEnterQueue, DoesDown, DoesPutInLeaf, DoesLeaveTree, DoesRefill}
+use Rattle.volap_cell.specs.TreeKinds.{DoesGateRead, DoesBlockVisit, DoesEnterTree, DoesEnterQueue, DoesDown, DoesPutInLeaf, DoesLeaveTree, DoesRefill, blocks_of}
 use Rattle.volap_cell.specs.Values.{ActorValue}
 use Rattle.volap_cell.specs.View.{view}
 use Rattle.volap_cell.specs.World.{World, Change, Agrees, after}
@@ -51,9 +51,9 @@ abbrev pub by_enter_tree : Touched
 by_enter_tree = record nothing { trees = true; active = true; blocks = true; purses = true; boxes = true; ways = true }
 
 -- a gate at which a row comes in changes in its way to the tree, and in how many are in it
-entered-gate : (h : List Dimension) (row : Row) (gate gate_now : Gate) (root root_now : Block) (purse purse_now : PurseValue) (entered : Entered) (active : ℕ) → Enters h row gate gate_now root root_now purse purse_now entered
+entered-gate : (h : List Dimension) (row : Row) (tail : List Block) (gate gate_now : Gate) (root root_now : Block) (purse purse_now : PurseValue) (entered : Entered) (active : ℕ) → Enters h row tail gate gate_now root root_now purse purse_now entered
     → beside by_enter_tree (GateCell (record gate_now { active = active })) ≡ beside by_enter_tree (GateCell gate)
-entered-gate h row gate gate_now root root_now purse purse_now entered active enters =
+entered-gate h row tail gate gate_now root root_now purse purse_now entered active enters =
     let seen = λ (g : Gate). beside by_enter_tree (GateCell (record g { active = active })) in
     elim enters.step [
       | inl kept ↦ (let (entry_now, keeps, passes) = kept in ap seen keeps.gate_is)
@@ -69,7 +69,7 @@ pub view-enter_tree : (s : Setting) (w : World) (n : ℕ) (h : List Dimension) (
     → view s (after w (m ∷ g ∷ root ∷ others) n b) ≡ renewed by_enter_tree (view s (after w (m ∷ g ∷ root ∷ others) n b)) (view s w)
 view-enter_tree s w n h m g root others a b agrees d blank =
     let t = by_enter_tree in
-    let gate = turned (beside t) g (GateCell d.gate) (GateCell (record d.entered_gate { active = d.gate.active + 1 })) d.counted.was d.counted.is (entered-gate h d.r.row d.gate d.entered_gate d.head d.head_now d.purse d.purse_now d.entered (d.gate.active + 1) d.enters) in
+    let gate = turned (beside t) g (GateCell d.gate) (GateCell (record d.entered_gate { active = d.gate.active + 1 })) d.counted.was d.counted.is (entered-gate h d.r.row (blocks_of d.tail) d.gate d.entered_gate d.head d.head_now d.purse d.purse_now d.entered (d.gate.active + 1) d.enters) in
     let rest = subst (Same (beside t)) (sym d.others_are) (others-blocks t refl d.entered.fresh.items d.tail d.fresh (tail-read d.gate.stamp d.head d.tail d.behind) d.are_filled blank) in
     view-step t s w (m ∷ g ∷ root ∷ others) n a b agrees
     (ap (beside t) d.leads.same, (gate, (turned-block t refl d.turns, rest)))

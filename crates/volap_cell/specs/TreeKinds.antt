@@ -175,7 +175,7 @@ pub record DoesEnterTree (h : List Dimension) (m g root : Change) (others : List
   pub purse_was : purse.spares ≡ a.purse
   pub purse_now : PurseValue
   pub entered : Entered
-  pub enters : Enters h r.row gate entered_gate head head_now purse purse_now entered
+  pub enters : Enters h r.row (blocks_of tail) gate entered_gate head head_now purse purse_now entered
   pub counted : TurnsGate gate (record entered_gate { active = gate.active + 1 }) g
   pub turns : TurnsBlock head head_now root
   pub are_filled : AreFilled entered.fresh.items fresh
@@ -224,7 +224,7 @@ pub record DoesDown (h : List Dimension) (p c : Change) (others : List Change) (
   pub purse_was : purse.spares ≡ a.purse
   pub purse_now : PurseValue
   pub entered : Entered
-  pub step : StepsDown h r.row place parent parent_now head head_now purse purse_now entered
+  pub step : StepsDown h r.row place (blocks_of tail) parent parent_now head head_now purse purse_now entered
   pub turns_parent : TurnsBlock parent parent_now p
   pub turns_head : TurnsBlock head head_now c
   pub are_filled : AreFilled entered.fresh.items fresh
