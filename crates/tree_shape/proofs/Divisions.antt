@@ -437,7 +437,7 @@ pub parted-past : (c : ℕ) (a b e : Entry) (es : List Entry) → eqb e.child c 
 parted-past c a b e es h = rw h refl
 
 -- what is beneath each block of a walk is what is beneath the walk
-beneath-each : (p q : Bool) (z : ℕ) (ws : List ℕ) → total (λ y. cond p (cond q (times z (y ∷ [])) 0) 0) ws ≡ cond p (cond q (times z ws) 0) 0
+pub beneath-each : (p q : Bool) (z : ℕ) (ws : List ℕ) → total (λ y. cond p (cond q (times z (y ∷ [])) 0) 0) ws ≡ cond p (cond q (times z ws) 0) 0
 beneath-each true true z [] = refl
 beneath-each true true z (y ∷ ys) = omega (arith, beneath-each true true z ys)
 beneath-each true false z [] = refl

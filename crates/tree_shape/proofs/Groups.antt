@@ -44,13 +44,13 @@ each-flat : {A B : Type 0} (P : B → Type 0) (f : A → List B) (xs : List A) �
 each-flat P f [] h = tt
 each-flat P f (x ∷ xs) h = each-append P (f x) (flat_map f xs) h.0 (each-flat P f xs h.1)
 
-each-mapped : {A B : Type 0} (P : B → Type 0) (f : A → B) (xs : List A) → Each (λ x. P (f x)) xs → Each P (map f xs)
+pub each-mapped : {A B : Type 0} (P : B → Type 0) (f : A → B) (xs : List A) → Each (λ x. P (f x)) xs → Each P (map f xs)
 each-mapped P f [] h = tt
 each-mapped P f (x ∷ xs) h = (h.0, each-mapped P f xs h.1)
 
 -- The items of a head and of the blocks behind it.
 
-leaf-together : (body : Body) (bs : List Block) → is_leaf (together body bs) ≡ is_leaf body
+pub leaf-together : (body : Body) (bs : List Block) → is_leaf (together body bs) ≡ is_leaf body
 leaf-together (Rows rows) bs = refl
 leaf-together (Entries entries) bs = refl
 
@@ -58,7 +58,7 @@ each-row : (P : Row → Type 0) (body : Body) (bs : List Block) → Each P (rows
 each-row P (Rows rows) bs h t = each-append P rows.items (flat_map (λ b. rows_in b.body) bs) h (each-flat P (λ (b : Block). rows_in b.body) bs t)
 each-row P (Entries entries) bs h t = tt
 
-each-entry : (P : Entry → Type 0) (body : Body) (bs : List Block) → Each P (entries_in body) → Each (λ b. Each P (entries_in b.body)) bs → Each P (entries_in (together body bs))
+pub each-entry : (P : Entry → Type 0) (body : Body) (bs : List Block) → Each P (entries_in body) → Each (λ b. Each P (entries_in b.body)) bs → Each P (entries_in (together body bs))
 each-entry P (Rows rows) bs h t = tt
 each-entry P (Entries entries) bs h t = each-append P entries.items (flat_map (λ b. entries_in b.body) bs) h (each-flat P (λ (b : Block). entries_in b.body) bs t)
 
@@ -79,7 +79,7 @@ module _ (g : Shape) (look : ℕ → Node) (k : ℕ) (block : ℕ → Block) whe
       ∙ ap (λ (ns : List ℕ). all_below g (entries_in (block y).body) ++ ns) (dir-rows ys q h.1)
       ∙ ap (λ (ns : List ℕ). ns ++ group_rows g look k ys) (sym e)
 
-  rows-together : (body : Body) (ws : List ℕ) → is_leaf body ≡ eqb k 0 → Each (λ y. look y ≡ node_of (block y)) ws
+  pub rows-together : (body : Body) (ws : List ℕ) → is_leaf body ≡ eqb k 0 → Each (λ y. look y ≡ node_of (block y)) ws
       → cond (eqb k 0) (numbers (rows_in (together body (map block ws)))) (all_below g (entries_in (together body (map block ws))))
       ≡ cond (eqb k 0) (numbers (rows_in body)) (all_below g (entries_in body)) ++ group_rows g look k ws
   rows-together (Rows rows) ws kind h =

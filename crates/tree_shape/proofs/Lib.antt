@@ -31,6 +31,7 @@ pub mod Beginnings
 pub mod Others
 pub mod Openings
 pub mod Totals
+pub mod Beneath
 pub mod Tables
 pub mod Collects
 pub mod Worked

@@ -33,7 +33,7 @@ use Rattle.tree_shape.proofs.Lands.{leaf-valid}
 use Rattle.tree_shape.proofs.Onto.{child_in, child_head, entry_ok}
 use Rattle.tree_shape.proofs.Tails.{IsInTail, behind-head, each-cell, tail-found}
 use Rattle.tree_shape.proofs.Readings.{contains-row, last-noted, noted-right}
-use Rattle.tree_shape.proofs.Divisions.{sums-low, sums-high, sums-out}
+use Rattle.tree_shape.proofs.Divisions.{each-map, sums-low, sums-high, sums-out}
 use Rattle.tree_shape.proofs.Groups.{times-all_below}
 use Rattle.tree_shape.proofs.Parts.{all-each, around, each-left}
 use Rattle.tree_shape.proofs.Descends.{length-plus}
@@ -57,7 +57,7 @@ times-split : (n r : ℕ) (front back : List ℕ) → times r (front ++ n ∷ ba
 times-split n r front back = omega (arith, times-append r front (n ∷ back), times-append r front back)
 
 -- a list that has no number oftener than another one isn't longer
-length-le : (xs ys : List ℕ) → ((r : ℕ) → times r xs ≤ times r ys) → length xs ≤ length ys
+pub length-le : (xs ys : List ℕ) → ((r : ℕ) → times r xs ≤ times r ys) → length xs ≤ length ys
 length-le [] ys h = omega arith
 length-le (x ∷ xs) ys h =
     let a = h x in
@@ -112,6 +112,22 @@ all-valid table [] h = All-nil (IsRowOf table.hierarchy)
 all-valid table (n ∷ ns) h =
     let o = same_is n n refl in
     All-cons (IsRowOf table.hierarchy) (table.row n) (map table.row ns) (h n (omega arith)) (all-valid table ns (λ r k. h r (omega arith)))
+
+-- an entry counts the rows beneath it
+abbrev pub IsCounted : Shape → Entry → Type 0
+IsCounted g e = e.agg.count ≡ length (g.below e.child)
+
+pub entry-counted : (g : Shape) (look : ℕ → Node) (table : Table) (k : ℕ) (e : Entry) → EntryOk g look table k e → IsCounted g e
+entry-counted g look table k e ok = ap (λ (x : Aggregate). x.count) ok.summary.agg ∙ length-map (g.below e.child) table.row
+
+-- and so do all together
+pub joined-below : (g : Shape) (es : List Entry) → Each (IsCounted g) es → (joined (aggs es)).count ≡ length (all_below g es)
+joined-below g [] h = refl
+joined-below g (e ∷ es) h =
+    let one = h.0 in
+    let rest = joined-below g es h.1 in
+    let both = length-plus (g.below e.child) (all_below g es) in
+    omega arith
 
 module _ (table : Table) (cells : TreeCells) (g : Shape) (tree : IsTree table cells g) where
   abbrev gate : ℕ
@@ -203,23 +219,10 @@ module _ (table : Table) (cells : TreeCells) (g : Shape) (tree : IsTree table ce
 
     -- a directory
 
-    joined-count : (xs : List Entry) → (joined (aggs xs)).count ≡ total (λ e. e.agg.count) xs
-    joined-count [] = refl
-    joined-count (x ∷ xs) = ap (λ n. x.agg.count + n) (joined-count xs)
-
-    below-count : (k : ℕ) (xs : List Entry) → Each (EntryOk g (nodes cells) table k) xs → total (λ e. e.agg.count) xs ≡ length (all_below g xs)
-    below-count k [] u = refl
-    below-count k (x ∷ xs) u =
-        let a = ap (λ (y : Aggregate). y.count) u.0.summary.agg in
-        let m = length-map (g.below x.child) table.row in
-        let p = length-plus (g.below x.child) (all_below g xs) in
-        omega (arith, below-count k xs u.1)
-
     each-few : (k : ℕ) (xs : List Entry) → Each (EntryOk g (nodes cells) table k) xs → ((r : ℕ) → total (λ e. times r (g.below e.child)) xs ≤ cond (g.placed r) 1 0) → All (λ e. e.agg.count ≤ cells.gate.agg.count) xs
     each-few k [] u h = All-nil _
     each-few k (x ∷ xs) u h =
-        let a = ap (λ (y : Aggregate). y.count) u.0.summary.agg in
-        let m = length-map (g.below x.child) table.row in
+        let a = entry-counted g (nodes cells) table k x u.0 in
         let f = few (g.below x.child) (λ r. let z = h r in omega arith) in
         All-cons (λ e. e.agg.count ≤ cells.gate.agg.count) x xs (omega arith) (each-few k xs u.1 (λ r. let z = h r in omega arith))
 
@@ -250,8 +253,7 @@ module _ (table : Table) (cells : TreeCells) (g : Shape) (tree : IsTree table ce
         let en : (nodes cells b).entries ≡ entries.items = ap (λ (x : Node). x.entries) is ∙ ap entries_in e in
         let u : Each (EntryOk g (nodes cells) table k) entries.items = subst (Each (EntryOk g (nodes cells) table k)) en (tree.tree.dirs b k bi bl).entries in
         let h : (r : ℕ) → total (λ e. times r (g.below e.child)) entries.items ≤ cond (g.placed r) 1 0 = λ r. subst (λ (xs : List Entry). total (λ e. times r (g.below e.child)) xs ≤ cond (g.placed r) 1 0) en (beneath-few k bl r) in
-        let j = joined-count entries.items in
-        let c = below-count k entries.items u in
+        let j = joined-below g entries.items (each-map (EntryOk g (nodes cells) table k) (IsCounted g) entries.items (entry-counted g (nodes cells) table k) u) in
         let fw = few (all_below g entries.items) (λ r. let z = h r in let t = times-all_below g r entries.items in omega arith) in
         (sets-valid k entries.items u, omega arith, each-few k entries.items u h)
 
@@ -342,20 +344,36 @@ module _ (table : Table) (cells : TreeCells) (g : Shape) (t : IsTree table cells
             record { inside = o.inside; block = off-gate y o.level; apart = o.apart; level = o.level ∙ sym at-head.1; head = o.head }))));
       }
 
-pub entry-behind : (table : Table) (cells : TreeCells) (g : Shape) (b place n : ℕ) (e : Entry) → IsTree table cells g → g.inside b ≡ true → b ≢ cells.gate_cell
-    → slice_get (entries_in (cells.block b).body) place ≡ Some e → HasBehind cells g e n
-entry-behind table cells g b place n e t bi bg at =
+-- an entry leads to a group of the tree, on a level below the gate's
+pub record LeadsTo (table : Table) (cells : TreeCells) (g : Shape) (e : Entry) : Type 0 where
+  pub level : ℕ
+  pub low : level < cells.gate.height
+  pub ok : EntryOk g (nodes cells) table level e
+
+pub entry-leads : (table : Table) (cells : TreeCells) (g : Shape) (b place : ℕ) (e : Entry) → IsTree table cells g → g.inside b ≡ true → b ≢ cells.gate_cell
+    → slice_get (entries_in (cells.block b).body) place ≡ Some e → LeadsTo table cells g e
+entry-leads table cells g b place e t bi bg at =
     let w = around (entries_in (cells.block b).body) place e at in
     let ne = eqb-ne (g.level b) 0 (sym (t.blocks b bi bg).kind ∙ has-entries (cells.block b).body place e at) in
     let up : g.level b ≡ (g.level b - 1) + 1 = omega arith in
     let is : (nodes cells b).entries ≡ w.front ++ e ∷ w.back = ap (λ (x : Node). x.entries) (node-block cells b bg) ∙ w.is in
     let bb = t.tree.shape.below b bi in
     let hh = t.height in
-    has-behind table cells g t (g.level b - 1) e (omega arith) (entry_ok g (nodes cells) table t.tree b (g.level b - 1) bi up e w.front w.back is) n
+    record { level = g.level b - 1; low = omega arith; ok = entry_ok g (nodes cells) table t.tree b (g.level b - 1) bi up e w.front w.back is }
 
-pub root-behind : (table : Table) (cells : TreeCells) (g : Shape) (n : ℕ) → IsTree table cells g → HasBehind cells g (root_entry cells.gate) n
-root-behind table cells g n t =
+pub root-leads : (table : Table) (cells : TreeCells) (g : Shape) → IsTree table cells g → LeadsTo table cells g (root_entry cells.gate)
+root-leads table cells g t =
     let gl = t.level in
     let s = t.some in
-    has-behind table cells g t (cells.gate.height - 1) (root_entry cells.gate) (omega arith)
-    (entry_ok g (nodes cells) table t.tree cells.gate_cell (cells.gate.height - 1) t.top (omega arith) (root_entry cells.gate) [] [] (ap (λ (x : Node). x.entries) (node-gate cells))) n
+    record {
+      level = cells.gate.height - 1;
+      low = omega arith;
+      ok = entry_ok g (nodes cells) table t.tree cells.gate_cell (cells.gate.height - 1) t.top (omega arith) (root_entry cells.gate) [] [] (ap (λ (x : Node). x.entries) (node-gate cells));
+    }
+
+pub entry-behind : (table : Table) (cells : TreeCells) (g : Shape) (b place n : ℕ) (e : Entry) → IsTree table cells g → g.inside b ≡ true → b ≢ cells.gate_cell
+    → slice_get (entries_in (cells.block b).body) place ≡ Some e → HasBehind cells g e n
+entry-behind table cells g b place n e t bi bg at = let w = entry-leads table cells g b place e t bi bg at in has-behind table cells g t w.level e w.low w.ok n
+
+pub root-behind : (table : Table) (cells : TreeCells) (g : Shape) (n : ℕ) → IsTree table cells g → HasBehind cells g (root_entry cells.gate) n
+root-behind table cells g n t = let w = root-leads table cells g t in has-behind table cells g t w.level (root_entry cells.gate) w.low w.ok n

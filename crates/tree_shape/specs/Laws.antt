@@ -15,7 +15,7 @@ use Rattle.cell_stock.specs.Stock.{PurseValue}
 use Rattle.shard_store.specs.Gate.{root_entry}
 use Rattle.link_descent.specs.declared.entered.Entered.{Entered}
 use Rattle.tree_shape.specs.Shape.{Table, Node, TreeCells, nodes, Shape}
-use Rattle.tree_shape.specs.Trees.{IsTree, BlockFits, IsBelow, HasBehind}
+use Rattle.tree_shape.specs.Trees.{IsTree, BlockFits, IsBelow, HasBehind, BehindFits}
 use Rattle.tree_shape.specs.Queries.{IsUnfinished, fits}
 use Rattle.tree_shape.specs.Tables.{AreAlike, IsThere, IsThereOrCounted, AfterTable}
 use Rattle.tree_shape.specs.Collecting.{IsCollecting, IsReadable, Reads, AfterRead, AfterCollecting, root_item}
@@ -59,6 +59,15 @@ BehindLaw = (table : Table) (cells : TreeCells) (g : Shape) (b place n : ℕ) (e
 
 abbrev pub RootBehindLaw : Type 0
 RootBehindLaw = (table : Table) (cells : TreeCells) (g : Shape) (n : ℕ) → IsTree table cells g → HasBehind cells g (root_entry cells.gate) n
+
+-- and are such as the calls ask for
+
+abbrev pub BehindFitsLaw : Type 0
+BehindFitsLaw = (table : Table) (cells : TreeCells) (g : Shape) (b place n : ℕ) (e : Entry) → IsTree table cells g → IsHierarchy table.hierarchy → g.inside b ≡ true → b ≢ cells.gate_cell
+    → slice_get (entries_in (cells.block b).body) place ≡ Some e → BehindFits table cells e n
+
+abbrev pub RootBehindFitsLaw : Type 0
+RootBehindFitsLaw = (table : Table) (cells : TreeCells) (g : Shape) (n : ℕ) → IsTree table cells g → IsHierarchy table.hierarchy → BehindFits table cells (root_entry cells.gate) n
 
 abbrev pub LinkLaw : Type 0
 LinkLaw = (cells : TreeCells) (g : Shape) (must fits : ℕ → Bool) (items : List Item) (item : Item) (counted : List ℕ) → item.cell ≢ cells.gate_cell

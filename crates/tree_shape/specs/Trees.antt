@@ -8,6 +8,7 @@ use Rattle.dc_node.specs.declared.block.Body.{Body}
 use Rattle.dc_node.specs.declared.block.Body.TheVariants.{Rows, Entries}
 use Rattle.dc_node.specs.declared.block.Block.{Block}
 use Rattle.dc_node.specs.declared.entry.Entry.{Entry}
+use Rattle.link_descent.specs.Divide.{together}
 use Rattle.tree_shape.specs.Counts.{total, Each, same, times}
 use Rattle.tree_shape.specs.Shape.{Table, Node, TreeCells, nodes, Shape, ShapeOk}
 use Rattle.tree_shape.specs.Walks.{IsNoted, noted_of, beneath}
@@ -99,3 +100,9 @@ pub record IsBehind (cells : TreeCells) (g : Shape) (c y : ℕ) : Type 0 where
 pub record HasBehind (cells : TreeCells) (g : Shape) (e : Entry) (n : ℕ) : Type 0 where
   pub found : take n (drop 1 (g.group e.child)) ≡ cells_behind cells.block e.stamp n e.child
   pub behind : Each (IsBehind cells g e.child) (cells_behind cells.block e.stamp n e.child)
+
+-- What a tree gives of these blocks for the calls that ask for it: the items are of the hierarchy, and with those of the
+-- head they have no more rows beneath than the entry counts.
+pub record BehindFits (table : Table) (cells : TreeCells) (e : Entry) (n : ℕ) : Type 0 where
+  pub bodies : All (λ b. IsBodyOf table.hierarchy b.body) (map cells.block (cells_behind cells.block e.stamp n e.child))
+  pub count : row_count (together (cells.block e.child).body (map cells.block (cells_behind cells.block e.stamp n e.child))) ≤ e.agg.count

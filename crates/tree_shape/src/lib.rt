@@ -6,7 +6,7 @@ ghost use Rattle.std.specs.Prelude.{ℕ};
 ghost use Rattle.tree_shape.specs.Trees.{leaf_without_rows};
 ghost use Rattle.tree_shape.specs.Example.{ExampleLaw};
 ghost use Rattle.tree_shape.specs.Forest.{LeavesLaw, DirectoriesLaw, TreeLaw};
-ghost use Rattle.tree_shape.specs.Laws.{OpeningLaw, OrderLaw, GateLaw, BlockLaw, ChildLaw, RootLaw, BehindLaw, RootBehindLaw, LinkLaw, OtherLaw, InLaw, DownLaw, PutLaw, BeginLaw, VisitLaw, ElsewhereLaw, EndLaw};
+ghost use Rattle.tree_shape.specs.Laws.{OpeningLaw, OrderLaw, GateLaw, BlockLaw, ChildLaw, RootLaw, BehindLaw, RootBehindLaw, BehindFitsLaw, RootBehindFitsLaw, LinkLaw, OtherLaw, InLaw, DownLaw, PutLaw, BeginLaw, VisitLaw, ElsewhereLaw, EndLaw};
 ghost use Rattle.tree_shape.specs.Laws.{TreeTableLaw, QueryTableLaw, CollectBeginLaw, ReadableLaw, ReadLaw, CollectOtherLaw, CollectEndLaw};
 ghost use Rattle.tree_shape.specs.Cities.{CitiesLaw};
 ghost use Rattle.tree_shape.specs.HeadCuts.{HeadCutWork};
@@ -26,7 +26,8 @@ pub fn build_laws()
 {}
 
 /// Aggregates and sets go by which rows there are, so a gate tells of its tree's rows; each block of a
-/// tree is such as the steps ask for; and right links lead to the other blocks of a group.
+/// tree is such as the steps ask for; and right links lead to the other blocks of a group, which have
+/// with the head no more rows than the group's entry counts.
 pub fn tree_laws()
     ensures order { OrderLaw }
     ensures gate { GateLaw }
@@ -35,6 +36,8 @@ pub fn tree_laws()
     ensures root { RootLaw }
     ensures behind { BehindLaw }
     ensures root_behind { RootBehindLaw }
+    ensures behind_fits { BehindFitsLaw }
+    ensures root_behind_fits { RootBehindFitsLaw }
     ensures link { LinkLaw }
 {}
 

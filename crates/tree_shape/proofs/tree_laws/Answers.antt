@@ -1,4 +1,5 @@
 use Rattle.tree_shape.proofs.Totals.{agg-times, set-times, gate-sum, block-fits, links-on, leads-down, leads-root, entry-behind, root-behind}
+use Rattle.tree_shape.proofs.Beneath.{entry-behind-fits, root-behind-fits}
 use Rattle.tree_shape.proofs.tree_laws.Goals as goal
 
 pub returns : goal.returns
@@ -10,5 +11,7 @@ returns _ = record {
   root = leads-root;
   behind = entry-behind;
   root_behind = root-behind;
+  behind_fits = entry-behind-fits;
+  root_behind_fits = root-behind-fits;
   link = links-on;
 }
