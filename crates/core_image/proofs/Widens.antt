@@ -175,8 +175,8 @@ module _ (s : Setting) (h : List Event) (placed : ℕ → Bool) (home : ℕ → 
     lead-now x p shard i = record {
       is_path = i.is_path;
       last = i.last;
-      listed = All-zip IsAsBefore (λ (spot : Spot). IsTrue (comes_from h shard spot.shard) → Contains p spot.shard) (λ (spot : Spot). IsTrue (comes_from h shard spot.shard) → Contains p spot.shard)
-          (λ old now same on. subst (λ (z : ℕ). IsTrue (comes_from h shard z) → Contains p z) (sym same.0) on) (images x).spots (images_now x).spots (spots-now x) i.listed;
+      listed = All-zip IsAsBefore (λ (spot : Spot). IsTrue (comes_from h spot.shard shard) → Contains p spot.shard) (λ (spot : Spot). IsTrue (comes_from h spot.shard shard) → Contains p spot.shard)
+          (λ old now same on. subst (λ (z : ℕ). IsTrue (comes_from h z shard) → Contains p z) (sym same.0) on) (images x).spots (images_now x).spots (spots-now x) i.listed;
     }
 
     part-now : (ways : ℕ → Option RowWay) (x r : ℕ) (p : Part) (st : PartState) → IsRowPart h images ways placed path x r p st → IsRowPart h images_now ways placed path x r p st

@@ -35,7 +35,7 @@ may-within fewer more within past r has =
     (Contains-filtered (λ r. fewer r.no) (begun past) r has)
     (within r.no (IsTrue-filtered (λ r. fewer r.no) (begun past) r has))
 
-All-may-within : (fewer more : ℕ → Bool) → Within fewer more → (past : List Event) (rows : List Row)
+pub All-may-within : (fewer more : ℕ → Bool) → Within fewer more → (past : List Event) (rows : List Row)
     → All (Contains (may fewer past)) rows → All (Contains (may more past)) rows
 All-may-within fewer more within past rows all = All-weaker (Contains (may fewer past)) (Contains (may more past)) (may-within fewer more within past) rows all
 
@@ -59,7 +59,7 @@ IsRightAnswer-within site fewer more within past of answer right = record {
 
 -- Pulls.
 
-IsBox-within : (h : List Dimension) (fewer more : ℕ → Bool) → Within fewer more → (past : List Event) (set : DescSet)
+pub IsBox-within : (h : List Dimension) (fewer more : ℕ → Bool) → Within fewer more → (past : List Event) (set : DescSet)
     → IsBox h (may fewer past) set → IsBox h (may more past) set
 IsBox-within h fewer more within past set box = record { rows = box.rows; usable = All-may-within fewer more within past box.rows box.usable; set_of = box.set_of }
 
@@ -105,13 +105,13 @@ MayEndAction-within site fewer more within past of a (Declined (decline.NoCell n
     (may.0, may.1, IsRightDecline-within site fewer more within past of a (decline.NoCell need free) may.2)
 MayEndAction-within site fewer more within past of a _ may = may
 
-Settles-within : (site : Site) (fewer more : ℕ → Bool) → Within fewer more → (of : ℕ) (a : Action) (past : List Event) (e : Event)
+pub Settles-within : (site : Site) (fewer more : ℕ → Bool) → Within fewer more → (of : ℕ) (a : Action) (past : List Event) (e : Event)
     → Settles site fewer of a past e → Settles site more of a past e
 Settles-within site fewer more within of a past (event.Left x shard (Declined why)) settles =
     (settles.0, IsRightDecline-within site fewer more within past of a why settles.1)
 Settles-within site fewer more within of a past _ settles = settles
 
-AllZip-weaker : {A B : Type 0} (P Q : A → B → Type 0) → ((a : A) (b : B) → P a b → Q a b) → (xs : List A) (ys : List B) → AllZip P xs ys → AllZip Q xs ys
+pub AllZip-weaker : {A B : Type 0} (P Q : A → B → Type 0) → ((a : A) (b : B) → P a b → Q a b) → (xs : List A) (ys : List B) → AllZip P xs ys → AllZip Q xs ys
 AllZip-weaker P Q weaker [] [] all = tt
 AllZip-weaker P Q weaker [] (y ∷ ys) all = absurd all
 AllZip-weaker P Q weaker (x ∷ xs) [] all = absurd all

@@ -75,8 +75,8 @@ module _ (s : Setting) (e : Event) (h : List Event) (stay : ShardsStay s.workers
   lead-grown images server path shard i = record {
     is_path = is_path-older e h server path i.is_path;
     last = i.last;
-    listed = All-weaker (λ (x : Spot). IsTrue (comes_from h shard x.shard) → Contains path x.shard) (λ (x : Spot). IsTrue (comes_from (e ∷ h) shard x.shard) → Contains path x.shard)
-        (λ x f comes. f (sym (comes-stays s.workers e h stay shard x.shard) ∙ comes)) (images server).spots i.listed;
+    listed = All-weaker (λ (x : Spot). IsTrue (comes_from h x.shard shard) → Contains path x.shard) (λ (x : Spot). IsTrue (comes_from (e ∷ h) x.shard shard) → Contains path x.shard)
+        (λ x f comes. f (sym (comes-stays s.workers e h stay x.shard shard) ∙ comes)) (images server).spots i.listed;
   }
 
   pub row-part-grown : (images : ℕ → ImageValue) (ways : ℕ → Option RowWay) (placed : ℕ → Bool) (path : ℕ → List ℕ) (server r : ℕ) (p : Part) (st : PartState)

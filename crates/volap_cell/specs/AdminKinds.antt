@@ -1,5 +1,5 @@
 -- What the steps of splits and moves do to the cells that they hold and to their actor, the one administrator.
-use Rattle.std.specs.Prelude.{ℕ, ◌≡◌, ◌≢◌, ◌+◌, ◌<◌, ◌≤◌, ◌⊎◌, ⊤, true, false, not, List, [], ◌∷◌, ◌++◌, Option, Some, None, map as each, drop, filter, length, slice_get}
+use Rattle.std.specs.Prelude.{ℕ, ◌≡◌, ◌≢◌, ◌+◌, ◌^◌, ◌<◌, ◌≤◌, ◌⊎◌, ⊤, true, false, not, List, [], ◌∷◌, ◌++◌, Option, Some, None, map as each, drop, filter, length, slice_get}
 use Rattle.std.specs.FinMap as map
 use Rattle.std.specs.Ordering.{nat_cmp}
 use Rattle.dim_hierarchy.specs.Dimension.{Dimension}
@@ -92,6 +92,7 @@ pub record Freezes (job : JobValue) (plane : Option Plane) (gate : Gate) (stock 
   pub purse_was : purse.spares ≡ a.purse
   pub purse_is : purse_now.spares ≡ b.purse
   pub takes : Takes (cells_needed job.to (rows_at gate)) stock stock_now purse purse_now
+  pub stamps : stock_now.stamps < 2 ^ 63
   pub turns : TurnsStock stock stock_now c
   pub frozen : TurnsGate gate (record gate { phase = phase.Frozen (length gate.queue.rows) }) g
   pub actor_is : b ≡ record a { purse = b.purse; job = at_stage job (IsFrozen (record { gate = g.number; plane = plane; rows = rows_at gate })) }

@@ -38,12 +38,12 @@ pub record Placing (s : Setting) (history : List Event) (commands : ℕ → Opti
   pub acked_rows : (k : Ack) → Contains (acked history) k → (placed k.row.no ≡ true) × (path k.row.no ≡ k.path) × NobodyAt ways k.row.no
   pub others : (r : ℕ) → placed r ≡ true → ((k : Ack) × Contains (acked history) k × (k.row.no ≡ r)) ⊎ IsRouted commands r
 
--- The path of an insert's part: from a shard that the server has pulled down splits to the part's shard; and of the shards that
--- come from that one, the server lists at most such as are on the path.
+-- The path of an insert's part: from a shard that the server has pulled down splits to the part's shard; and of the shards from
+-- which that one comes, the server lists only such as are on the path.
 pub record IsLead (history : List Event) (images : ℕ → ImageValue) (server : ℕ) (path : List ℕ) (shard : ℕ) : Type 0 where
   pub is_path : IsTrue (is_path history server path)
   pub last : last_of path ≡ shard
-  pub listed : All (λ (x : Spot). IsTrue (comes_from history shard x.shard) → Contains path x.shard) (images server).spots
+  pub listed : All (λ (x : Spot). IsTrue (comes_from history x.shard shard) → Contains path x.shard) (images server).spots
 
 -- how far the row r has come that a part on the desk of a server is for
 abbrev pub IsRowPart : List Event → (ℕ → ImageValue) → (ℕ → Option RowWay) → (ℕ → Bool) → (ℕ → List ℕ) → ℕ → ℕ → Part → PartState → Type 0

@@ -1,6 +1,6 @@
 -- What the steps of rows and queries at gates and blocks do to the cells that they hold and to their actor. `a` is the actor
 -- before the step and `b` the actor after it.
-use Rattle.std.specs.Prelude.{ℕ, ◌≡◌, ◌≢◌, ◌+◌, ◌*◌, ◌<◌, ◌≤◌, ◌⊎◌, true, false, List, [], ◌∷◌, ◌++◌, Option, Some, None, slice_get, map as each, length, Bool}
+use Rattle.std.specs.Prelude.{ℕ, ◌≡◌, ◌≢◌, ◌+◌, ◌*◌, ◌^◌, ◌<◌, ◌≤◌, ◌⊎◌, true, false, List, [], ◌∷◌, ◌++◌, Option, Some, None, slice_get, map as each, length, Bool}
 use Rattle.std.specs.FinMap as map
 use Rattle.std.specs.Ordering.{nat_cmp}
 use Rattle.dim_hierarchy.specs.Dimension.{Dimension}
@@ -270,6 +270,7 @@ pub record Fills (height : ℕ) (stock stock_now : StockValue) (a b : ActorValue
   pub takes :
       ((height + 2 ≤ length between.free) × Takes (height + 2) between stock_now emptied purse_now)
       ⊎ ((length between.free < height + 2) × (stock_now ≡ between) × (b.purse ≡ []))
+  pub stamps : stock_now.stamps < 2 ^ 63
   pub boxes : 2 * length b.purse + 1 ≤ b.boxes
   pub e : ErrandValue
   pub r : RowErrand
