@@ -7,3 +7,5 @@ pub mod TreeSteps
 pub mod NewBlocks
 pub mod PutsInLeaf
 pub mod Descents
+pub mod Places
+pub mod PlacesRead
