@@ -9,3 +9,4 @@ pub mod PutsInLeaf
 pub mod Descents
 pub mod Places
 pub mod PlacesRead
+pub mod Arrivals
