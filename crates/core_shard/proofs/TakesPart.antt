@@ -191,7 +191,7 @@ module _ (d : Change) (b : ActorValue) (s : Setting) (w : World) (n : ℕ) (g : 
     holds = subst (λ (z : View). InvWith s z g) (sym same) holds;
     newer = [];
     grows = ap (λ (z : View). z.history) same;
-    goes_on = subst (λ (l : List Event). GoesOn s (left s w g) (left s w2 g) h l) (sym (ap (λ (z : View). z.history) same)) (goes does.wanted refl);
+    goes_on = subst (λ (l : List Event). GoesOn s (left s w g) (left s w2 g) h l (w.actors n).counted (w2.actors n).counted) (sym (ap (λ (z : View). z.history) same)) (goes does.wanted refl);
   }
 
 pub take-keeps : (h : List Dimension) (d : Change) (a b : ActorValue) (does : DoesTakePart d a b) → Keeps h TakePart (d ∷ []) a b does

@@ -11,7 +11,7 @@ use Rattle.link_descent.specs.declared.entered.Entered.{Entered}
 use Rattle.link_descent.specs.declared.entered.Fresh.{Fresh}
 use Rattle.shard_store.specs.declared.gate.Gate.{Gate}
 use Rattle.tree_shape.specs.Counts.{Each, Among}
-use Rattle.tree_shape.proofs.Parts.{among-left, among-right, each-right}
+use Rattle.tree_shape.proofs.Parts.{among-left, among-right, each-left, each-right}
 use Rattle.volap_cell.specs.AdminKinds.{DoesBuildBlock, DoesFinishSplit, DoesFinishMove, spent_by, spent_in}
 use Rattle.volap_cell.specs.Ghost.{Ghost}
 use Rattle.volap_cell.specs.Invariant.{InvWith}
@@ -76,7 +76,8 @@ down-blank s w g inv n h p c others a b agrees d =
 pub enter-blank : (s : Setting) (w : World) (k : Ghost) → InvWith s (view s w) k → (n : ℕ) (h : List Dimension) (m g root : Change) (others : List Change) (a b : ActorValue) → Agrees w (m ∷ g ∷ root ∷ others) n a → (d : DoesEnterTree h m g root others a b)
     → Each (λ x. IsBlank x.before) d.fresh
 enter-blank s w k inv n h m g root others a b agrees d =
-    let at : AreAt w.cells d.fresh = each-right (λ (x : Change). w.cells x.number ≡ x.before) d.tail d.fresh (subst (AreAt w.cells) d.others_are agrees.cells.1.1.1) in
+    let at : AreAt w.cells d.fresh = each-right (λ (x : Change). w.cells x.number ≡ x.before) d.tail d.fresh
+    (each-left (λ (x : Change). w.cells x.number ≡ x.before) (d.tail ++ d.fresh) d.unfilled (subst (AreAt w.cells) d.others_are agrees.cells.1.1.1)) in
     let purse : d.purse.spares ≡ (w.actors n).purse = d.purse_was ∙ ap (λ (x : ActorValue). x.purse) (sym agrees.actor_is) in
     let of = enter-of h d.r.row (blocks_of d.tail) d.gate d.entered_gate d.head d.head_now d.purse d.purse_now d.entered d.enters in
     filled-blank s w k inv n d.entered.fresh.items d.fresh at d.are_filled (subst (λ (xs : List Spare). AreOf xs d.entered.fresh.items) purse of)

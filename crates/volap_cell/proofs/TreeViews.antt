@@ -1,5 +1,5 @@
 -- The view after the steps of rows and queries at gates and blocks: the fields that each touches, and no other.
-use Rattle.std.proofs.Common.{◌≡◌, ℕ, ◌+◌, true, List, [], ◌∷◌, Some, inl, inr, refl, sym, ap, subst}
+use Rattle.std.proofs.Common.{◌≡◌, ℕ, ◌+◌, true, List, [], ◌∷◌, ◌++◌, Some, inl, inr, refl, sym, ap, subst}
 use Rattle.dim_hierarchy.specs.Dimension.{Dimension}
 use Rattle.dim_hierarchy.specs.declared.row.Row.{Row}
 use Rattle.dc_node.specs.declared.block.Block.{Block}
@@ -19,7 +19,8 @@ use Rattle.volap_cell.specs.declared.errand.Way.{Way}
 use Rattle.volap_cell.specs.declared.errand.Way.TheVariants as way
 use Rattle.volap_cell.proofs.Frames.{Same}
 use Rattle.volap_cell.proofs.Seen.{Touched, nothing, beside, actor_beside, renewed}
-use Rattle.volap_cell.proofs.Touches.{IsBlank, turned, turned-block, tail-read, others-blocks}
+use Rattle.tree_shape.proofs.Parts.{each-append}
+use Rattle.volap_cell.proofs.Touches.{IsBlank, turned, turned-block, tail-read, all-read, others-blocks}
 use Rattle.volap_cell.proofs.Actors.{row-moved, row-stays, query-read}
 use Rattle.volap_cell.proofs.Views.{view-step}
 
@@ -70,7 +71,8 @@ pub view-enter_tree : (s : Setting) (w : World) (n : ℕ) (h : List Dimension) (
 view-enter_tree s w n h m g root others a b agrees d blank =
     let t = by_enter_tree in
     let gate = turned (beside t) g (GateCell d.gate) (GateCell (record d.entered_gate { active = d.gate.active + 1 })) d.counted.was d.counted.is (entered-gate h d.r.row (blocks_of d.tail) d.gate d.entered_gate d.head d.head_now d.purse d.purse_now d.entered (d.gate.active + 1) d.enters) in
-    let rest = subst (Same (beside t)) (sym d.others_are) (others-blocks t refl d.entered.fresh.items d.tail d.fresh (tail-read d.gate.stamp d.head d.tail d.behind) d.are_filled blank) in
+    let filled = others-blocks t refl d.entered.fresh.items d.tail d.fresh (tail-read d.gate.stamp d.head d.tail d.behind) d.are_filled blank in
+    let rest = subst (Same (beside t)) (sym d.others_are) (each-append (λ (c : Change). beside t c.now ≡ beside t c.before) (d.tail ++ d.fresh) d.unfilled filled (all-read (beside t) d.unfilled d.stay)) in
     view-step t s w (m ∷ g ∷ root ∷ others) n a b agrees
     (ap (beside t) d.leads.same, (gate, (turned-block t refl d.turns, rest)))
     (row-moved t d.actor_is d.has refl refl refl)

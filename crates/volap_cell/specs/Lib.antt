@@ -6,6 +6,7 @@ pub mod World
 pub mod View
 pub mod Planning
 pub mod Commands
+pub mod NewBlocks
 pub mod TreeKinds
 pub mod ShardKinds
 pub mod ImageKinds

@@ -24,6 +24,7 @@ use Rattle.link_descent.specs.declared.entered.Entered.{Entered}
 use Rattle.link_descent.specs.declared.entered.Fresh.{Fresh}
 use Rattle.mapping_table.specs.declared.place.Where.{Where}
 use Rattle.mapping_table.specs.declared.place.Where.TheVariants as where_is
+use Rattle.tree_shape.specs.Counts.{Each}
 use Rattle.volap_cell.specs.Cells.{MapCell, GateCell, BlockCell, StockCell, block_in}
 use Rattle.volap_cell.specs.Errands.{place_of, Outside, height_of, height_to_fill, is_filled}
 use Rattle.volap_cell.specs.Values.{ActorValue, ErrandValue, ReadingValue, OfRow, Unread, Read}
@@ -152,7 +153,7 @@ pub record DoesBlockVisit (h : List Dimension) (c : Change) (a b : ActorValue) :
 -- Rows.
 
 -- The row comes in at the open gate, for which the purse has enough, with boxes for all of it; the insert is counted there. It is carried at the root's
--- head, or at a new root.
+-- head, or at a new root. A cell that is held for a new root stays as it is where the root is only halved.
 pub record DoesEnterTree (h : List Dimension) (m g root : Change) (others : List Change) (a b : ActorValue) : Type 0 where
   pub e : ErrandValue
   pub r : RowErrand
@@ -168,7 +169,9 @@ pub record DoesEnterTree (h : List Dimension) (m g root : Change) (others : List
   pub head_now : Block
   pub tail : List Change
   pub fresh : List Change
-  pub others_are : others ≡ tail ++ fresh
+  pub unfilled : List Change
+  pub others_are : others ≡ tail ++ fresh ++ unfilled
+  pub stay : Each (λ c. c.now ≡ c.before) unfilled
   pub behind : IsTailOf gate.stamp head tail
   pub entered_gate : Gate
   pub purse : PurseValue

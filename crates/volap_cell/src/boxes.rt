@@ -1,9 +1,15 @@
-ghost use Rattle.std.specs.Prelude.{◌≡◌, ◌+◌, ◌<◌, ◌≤◌, true, false, length, OnErr, OnOk, [], ◌∷◌, ◌++◌};
+ghost use Rattle.std.specs.Prelude.{◌≡◌, ◌+◌, ◌<◌, ◌≤◌, true, false, length, option_map, OnErr, OnOk, [], ◌∷◌, ◌++◌};
 ghost use Rattle.dc_node.specs.Block.{is_leaf, is_full, rows_in, with_rows};
+ghost use Rattle.volap_cell.specs.Cells.{cell_of};
+ghost use Rattle.volap_cell.specs.NewBlocks.{FitsDown, FitsIn, WentDown, WentIn};
 
+use crate::cell::Cell;
+use crate::fills::{fill_one, fill_two};
+use cell_stock::Purse;
 use dc_node::{Blanks, Block};
-use dim_hierarchy::Row;
-use link_descent::put_leaf;
+use dim_hierarchy::{Hierarchy, Row};
+use link_descent::{Tail, enter_root, put_leaf, step_down};
+use shard_store::Gate;
 use std::alloc::{AllocError, Global};
 use std::marker::Model;
 
@@ -65,6 +71,59 @@ impl Boxes {
     {
         put_leaf(leaf, row, &mut self.blanks);
         self.ready -= 1;
+    }
+
+    /// Takes a row from a directory down to a child, the one at the place that `pick` tells. Where the
+    /// child is full it is divided, and the new block comes into the cell that is held for it. Tells where
+    /// the row is carried then. Takes no memory.
+    pub fn step_down(
+        &mut self,
+        parent: &mut Block,
+        place: u8,
+        child: &mut Block,
+        tail: &Tail,
+        fresh: &mut Option<Cell>,
+        purse: &mut Purse,
+        h: &Hierarchy,
+        row: &Row,
+    ) -> u32
+        requires fits { FitsDown h.now row.now place parent.old child.old tail.now purse.old.spares }
+        requires some { 2 ≤ self.old }
+        ensures { WentDown h.now row.now place tail.now parent.old parent.new child.old child.new purse.old purse.new
+            (option_map cell_of fresh.old) (option_map cell_of fresh.new) self.old self.new result }
+    {
+        let entered = step_down(parent, place, child, tail, purse, &mut self.blanks, h, row);
+        let at = entered.at;
+        self.ready -= 2 * entered.fresh.len() as u64;
+        fill_one(fresh, &mut self.blocks, entered.fresh);
+        at
+    }
+
+    /// Takes a row in at an open gate, to the root of its tree. Where the root is full it is divided, and
+    /// the new blocks come into the cells that are held for them: the second one is the new root, where
+    /// there is one. Tells where the row is carried then. Takes no memory.
+    pub fn enter_root(
+        &mut self,
+        gate: &mut Gate,
+        root: &mut Block,
+        tail: &Tail,
+        first: &mut Option<Cell>,
+        second: &mut Option<Cell>,
+        purse: &mut Purse,
+        h: &Hierarchy,
+        row: &Row,
+    ) -> u32
+        requires fits { FitsIn h.now row.now gate.old root.old tail.now purse.old.spares }
+        requires some { 4 ≤ self.old }
+        ensures { WentIn h.now row.now tail.now gate.old gate.new root.old root.new purse.old purse.new
+            (option_map cell_of first.old) (option_map cell_of second.old) (option_map cell_of first.new) (option_map cell_of second.new)
+            self.old self.new result }
+    {
+        let entered = enter_root(gate, root, tail, purse, &mut self.blanks, h, row);
+        let at = entered.at;
+        self.ready -= 2 * entered.fresh.len() as u64;
+        fill_two(first, second, &mut self.blocks, entered.fresh);
+        at
     }
 }
 

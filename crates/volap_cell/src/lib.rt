@@ -6,6 +6,7 @@ mod boxes;
 mod cell;
 mod command;
 mod errand;
+mod fills;
 mod job;
 mod kind;
 mod laws;
