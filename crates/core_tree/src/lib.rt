@@ -2,5 +2,7 @@
 #![tactic(auto)]
 
 mod puts;
+mod visits;
 
 pub use puts::put_in_leaf;
+pub use visits::block_visit;
