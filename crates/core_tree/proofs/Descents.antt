@@ -95,7 +95,7 @@ append-cancel [] ys zs e = e
 append-cancel (x ∷ xs) ys zs e = append-cancel xs ys zs (let k : xs ++ ys ≡ xs ++ zs = cc in k)
 
 -- a gate has a phase
-gate-phase : (c : CellValue) → IsSome (gate_shard c) → phase_of c ≢ None
+pub gate-phase : (c : CellValue) → IsSome (gate_shard c) → phase_of c ≢ None
 gate-phase (GateCell g) e n = cc
 gate-phase FreeCell e n = cc
 gate-phase (LedgerCell l) e n = cc

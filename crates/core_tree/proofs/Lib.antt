@@ -13,3 +13,8 @@ pub mod Arrivals
 pub mod Rests
 pub mod Remains
 pub mod LeavesTree
+pub mod BlocksLeft
+pub mod Outcomes
+pub mod QuerySteps
+pub mod Walkers
+pub mod VisitsBlock

@@ -3,6 +3,8 @@
 
 mod leaves;
 mod puts;
+mod visits;
 
 pub use leaves::leave_tree;
 pub use puts::put_in_leaf;
+pub use visits::block_visit;
