@@ -13,3 +13,5 @@ pub mod Arrivals
 pub mod Rests
 pub mod Remains
 pub mod LeavesTree
+pub mod Tallies
+pub mod Exchanges
