@@ -18,3 +18,5 @@ pub mod Outcomes
 pub mod QuerySteps
 pub mod Walkers
 pub mod VisitsBlock
+pub mod Tallies
+pub mod Exchanges
