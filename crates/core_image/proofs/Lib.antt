@@ -14,3 +14,5 @@ pub mod Ends
 pub mod FailsUnrouted
 pub mod FailsRouted
 pub mod FailsQuery
+pub mod Backed
+pub mod Failing

@@ -3,8 +3,10 @@
 
 mod acks;
 mod begins;
+mod fails;
 mod notes;
 
 pub use acks::ack;
 pub use begins::begin_insert;
+pub use fails::{fail_query, fail_routed, fail_unrouted};
 pub use notes::{note_refused, note_unknown};
