@@ -16,3 +16,4 @@ pub mod FailsRouted
 pub mod FailsQuery
 pub mod Backed
 pub mod Failing
+pub mod CountsSession

@@ -5,7 +5,7 @@ use Rattle.dim_hierarchy.specs.Dimension.{Dimension}
 use Rattle.dim_hierarchy.specs.Row.{IsCoordOf}
 use Rattle.dim_hierarchy.specs.declared.row.Coord.{Coord}
 use Rattle.dim_hierarchy.specs.declared.row.Row.{Row}
-use Rattle.query_router.specs.Desk.{verdict_of}
+use Rattle.query_router.specs.Desk.{DeskValue, verdict_of}
 use Rattle.query_router.specs.declared.part.Verdict.TheVariants as verdict
 use Rattle.row_ledger.specs.LedgerValue.{LedgerValue}
 use Rattle.row_ledger.specs.declared.event.Event.{Event}
@@ -89,3 +89,13 @@ pub record CanCount (desk : CellValue) (a : ActorValue) (come : Bool) : Type 0 w
   pub desk_is : tag_of desk ≡ DeskOf server
   pub other : a.counted ≡ not come
   pub fits : come ≡ true → (desk_in desk).sessions + 1 < 2 ^ 16
+
+-- one more fits into the count of a desk, or there is one to go
+abbrev pub MayCount : DeskValue → Bool → Type 0
+MayCount desk true = desk.sessions + 1 < 2 ^ 16
+MayCount desk false = 0 < desk.sessions
+
+-- one more is counted in, or one less
+abbrev pub Counts : DeskValue → DeskValue → Bool → Type 0
+Counts desk desk_now true = desk_now ≡ record desk { sessions = desk.sessions + 1 }
+Counts desk desk_now false = desk ≡ record desk_now { sessions = desk_now.sessions + 1 }

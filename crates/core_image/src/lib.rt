@@ -3,10 +3,12 @@
 
 mod acks;
 mod begins;
+mod counts;
 mod fails;
 mod notes;
 
 pub use acks::ack;
 pub use begins::begin_insert;
+pub use counts::count_session;
 pub use fails::{fail_query, fail_routed, fail_unrouted};
 pub use notes::{note_refused, note_unknown};
