@@ -27,3 +27,6 @@ pub mod Ends
 pub mod FailsUnrouted
 pub mod FailsRouted
 pub mod FailsQuery
+pub mod Backed
+pub mod Failing
+pub mod CountsSession

@@ -107,14 +107,10 @@ module _ (s : Setting) (w w2 : World) (g : Ghost) (n : ℕ) (v2 : View) (same : 
       let one = one-actor (rows_at g) (λ still. λ k. rows_of_errand g.shape (still.errand k) + one_if_any (still.purse k)) in
       omega (arith, is, one)
 
-  -- an errand's part of a query
-  errand-queries : v2.blocks ≡ v.blocks → (e : Event) (h : List Event) → v.history ≡ h → v2.history ≡ e ∷ h → ShardsStay s.workers e h → is_split_or_move e ≡ false
-      → (errand : Option ErrandValue) → queries_of_errand s v2 g errand ≡ queries_of_errand s v g errand
-  errand-queries blocks e h was now stay other None = refl
-  errand-queries blocks e h was now stay other (Some x) =
-      let reach : far s.workers v2.history x.shard x.worker ≡ far s.workers v.history x.shard x.worker =
-      ap (λ (past : List Event). far s.workers past x.shard x.worker) now ∙ far-stays s.workers e h stay other x.shard x.worker ∙ ap (λ (past : List Event). far s.workers past x.shard x.worker) (sym was) in
-      by-task x.task (far s.workers v2.history x.shard x.worker) (far s.workers v.history x.shard x.worker) reach
+  -- an errand's part of a query, where no part is farther or nearer
+  pub errand-queries : v2.blocks ≡ v.blocks → ((x y : ℕ) → far s.workers v2.history x y ≡ far s.workers v.history x y) → (errand : Option ErrandValue) → queries_of_errand s v2 g errand ≡ queries_of_errand s v g errand
+  errand-queries blocks reach None = refl
+  errand-queries blocks reach (Some x) = by-task x.task (far s.workers v2.history x.shard x.worker) (far s.workers v.history x.shard x.worker) (reach x.shard x.worker)
     where
       by-task : (task : TaskValue) (ahead_now ahead : ℕ) → ahead_now ≡ ahead → queries_of_task s v2 g ahead_now task ≡ queries_of_task s v g ahead task
       by-task (OfRow r) ahead_now ahead same = refl
@@ -130,7 +126,8 @@ module _ (s : Setting) (w w2 : World) (g : Ghost) (n : ℕ) (v2 : View) (same : 
       let old : sum_below s.servers (λ x. queries_on s v.history (v.desks x)) ≡ sum_below s.servers (λ x. queries_on s h (v.desks x)) = ap (λ (past : List Event). sum_below s.servers (λ x. queries_on s past (v.desks x))) was in
       let actors : sum_below (actor_count s) (λ a. queries_at s v2 g (w2.actors a)) ≡ sum_below (actor_count s) (λ a. queries_at s v g (w2.actors a)) =
       sum-same (actor_count s) (λ a. queries_at s v g (w2.actors a)) (λ a. queries_at s v2 g (w2.actors a))
-      (λ a lt. ap (λ (x : ℕ). of_work queries_of_work (w2.actors a).command + x) (errand-queries blocks e h was now stay other (w2.actors a).errand)) in
+      (λ a lt. ap (λ (x : ℕ). of_work queries_of_work (w2.actors a).command + x) (errand-queries blocks
+      (λ x y. ap (λ (past : List Event). far s.workers past x y) now ∙ far-stays s.workers e h stay other x y ∙ ap (λ (past : List Event). far s.workers past x y) (sym was)) (w2.actors a).errand)) in
       let desks : sum_below s.servers (λ x. queries_on s (e ∷ h) (v2.desks x)) ≡ sum_below s.servers (λ x. queries_on s h (v2.desks x)) =
       sum-same s.servers (λ x. queries_on s h (v2.desks x)) (λ x. queries_on s (e ∷ h) (v2.desks x)) (λ x lt. part-queries e h stay other (v2.desks x).parts) in
       let one = one-actor (queries_at s v g) (λ still. λ k. of_work queries_of_work (still.command k) + queries_of_errand s v g (still.errand k)) in
@@ -139,6 +136,57 @@ module _ (s : Setting) (w w2 : World) (g : Ghost) (n : ℕ) (v2 : View) (same : 
       part-queries : (e : Event) (h : List Event) → ShardsStay s.workers e h → is_split_or_move e ≡ false → (ps : List Part)
           → sum_by (λ (p : Part). queries_of_state s (far s.workers (e ∷ h) p.shard p.worker) p.state) ps ≡ sum_by (λ (p : Part). queries_of_state s (far s.workers h p.shard p.worker) p.state) ps
       part-queries e h stay other ps = ap (λ (f : Part → ℕ). sum_by f ps) (fun_ext (λ p. ap (λ (n : ℕ). queries_of_state s n p.state) (far-stays s.workers e h stay other p.shard p.worker)))
+
+-- where nothing changes that it goes by, just as much is left
+module _ (s : Setting) (w w2 : World) (g : Ghost) (n : ℕ) (v2 : View) (same : view s w2 ≡ v2) (others : (a : ℕ) → a ≢ n → w2.actors a ≡ w.actors a) (still : Stays (w.actors n) (w2.actors n))
+    (phases : v2.phases ≡ (view s w).phases) (gone : v2.gone ≡ (view s w).gone) (blocks : v2.blocks ≡ (view s w).blocks) (history : v2.history ≡ (view s w).history) (parts : (x : ℕ) → (v2.desks x).parts ≡ ((view s w).desks x).parts) where
+  abbrev was : View
+  was = view s w
+
+  kept : (f : ActorValue → ℕ) → f (w2.actors n) ≡ f (w.actors n) → sum_below (actor_count s) (λ a. f (w2.actors a)) ≡ sum_below (actor_count s) (λ a. f (w.actors a))
+  kept f is = sum-kept (actor_count s) (λ a. f (w.actors a)) (λ a. f (w2.actors a)) n (λ a ne. ap f (others a ne)) is
+
+  on-desks : (f : List Part → ℕ) → sum_below s.servers (λ x. f (v2.desks x).parts) ≡ sum_below s.servers (λ x. f (was.desks x).parts)
+  on-desks f = sum-same s.servers (λ x. f (was.desks x).parts) (λ x. f (v2.desks x).parts) (λ x lt. ap f (parts x))
+
+  control-still : (left s w2 g).control ≡ (left s w g).control
+  control-still =
+      let changed = control-changed s w w2 g n v2 same others (inr still) phases gone in
+      let at : control_at s was (w2.actors n) ≡ control_at s was (w.actors n) = (λ k. of_work (control_of s) (still.command k) + job_left s was (still.job k)) in
+      omega (arith, changed, at)
+
+  gates-still : (left s w2 g).gates ≡ (left s w g).gates
+  gates-still =
+      let is : (left s w2 g).gates ≡ sum_below (actor_count s) (λ a. gates_at s was.history (w2.actors a)) + sum_below s.servers (λ x. gates_on s was.history (v2.desks x)) =
+      ap (λ (z : View). sum_below (actor_count s) (λ a. gates_at s z.history (w2.actors a)) + sum_below s.servers (λ x. gates_on s z.history (z.desks x))) same
+      ∙ ap (λ (past : List Event). sum_below (actor_count s) (λ a. gates_at s past (w2.actors a)) + sum_below s.servers (λ x. gates_on s past (v2.desks x))) history in
+      let actors = kept (gates_at s was.history) (λ k. of_work (gates_of_work was.history) (still.command k) + gates_of_errand s was.history (still.errand k)) in
+      let desks = on-desks (sum_by (gates_of_part s was.history)) in
+      omega (arith, is, actors, desks)
+
+  rows-still : (left s w2 g).rows ≡ (left s w g).rows
+  rows-still =
+      let is : (left s w2 g).rows ≡ sum_below (actor_count s) (λ a. rows_at g (w2.actors a)) + sum_below s.servers (λ x. rows_on (v2.desks x)) =
+      ap (λ (z : View). sum_below (actor_count s) (λ a. rows_at g (w2.actors a)) + sum_below s.servers (λ x. rows_on (z.desks x))) same in
+      let actors = kept (rows_at g) (λ k. rows_of_errand g.shape (still.errand k) + one_if_any (still.purse k)) in
+      let desks = on-desks (sum_by (λ (p : Part). rows_of_part p.state)) in
+      omega (arith, is, actors, desks)
+
+  queries-still : (left s w2 g).queries ≡ (left s w g).queries
+  queries-still =
+      let is : (left s w2 g).queries ≡ sum_below (actor_count s) (λ a. queries_at s v2 g (w2.actors a)) + sum_below s.servers (λ x. queries_on s was.history (v2.desks x)) =
+      ap (λ (z : View). sum_below (actor_count s) (λ a. queries_at s z g (w2.actors a)) + sum_below s.servers (λ x. queries_on s z.history (z.desks x))) same
+      ∙ ap (λ (past : List Event). sum_below (actor_count s) (λ a. queries_at s v2 g (w2.actors a)) + sum_below s.servers (λ x. queries_on s past (v2.desks x))) history in
+      let read : sum_below (actor_count s) (λ a. queries_at s v2 g (w2.actors a)) ≡ sum_below (actor_count s) (λ a. queries_at s was g (w2.actors a)) =
+      sum-same (actor_count s) (λ a. queries_at s was g (w2.actors a)) (λ a. queries_at s v2 g (w2.actors a))
+      (λ a lt. ap (λ (x : ℕ). of_work queries_of_work (w2.actors a).command + x)
+      (errand-queries s w w2 g n v2 same others (inr still) blocks (λ x y. ap (λ (past : List Event). far s.workers past x y) history) (w2.actors a).errand)) in
+      let actors = kept (queries_at s was g) (λ k. of_work queries_of_work (still.command k) + queries_of_errand s was g (still.errand k)) in
+      let desks = on-desks (sum_by (λ (p : Part). queries_of_state s (far s.workers was.history p.shard p.worker) p.state)) in
+      omega (arith, is, read, actors, desks)
+
+  pub all-still : left s w2 g ≡ left s w g
+  all-still = (let a = control-still in let b = gates-still in let c = rows-still in let d = queries-still in λ k. record { control = a k; gates = b k; rows = c k; queries = d k })
 
 -- where one number falls and those before it don't rise, less is left
 pub queries-fall : (before now : Left) → now.control ≡ before.control → now.gates ≤ before.gates → now.rows ≤ before.rows → now.queries < before.queries → Falls before now

@@ -1,15 +1,19 @@
 -- What the kinds ask that note an event which acknowledges and pulls nothing, beyond that their cells and their actor are those of a
 -- state; and what their inner functions do.
-use Rattle.std.specs.Prelude.{ℕ, ◌≡◌, ◌+◌, ◌<◌, ◌^◌, List, ◌∷◌, length}
+use Rattle.std.specs.Prelude.{ℕ, ◌≡◌, ◌+◌, ◌<◌, ◌^◌, Bool, true, false, not, List, ◌∷◌, length, Some, None}
 use Rattle.dim_hierarchy.specs.Dimension.{Dimension}
 use Rattle.dim_hierarchy.specs.Row.{IsCoordOf}
 use Rattle.dim_hierarchy.specs.declared.row.Coord.{Coord}
+use Rattle.dim_hierarchy.specs.declared.row.Row.{Row}
+use Rattle.query_router.specs.Desk.{DeskValue, verdict_of}
+use Rattle.query_router.specs.declared.part.Verdict.TheVariants as verdict
 use Rattle.row_ledger.specs.LedgerValue.{LedgerValue}
 use Rattle.row_ledger.specs.declared.event.Event.{Event}
 use Rattle.server_image.specs.Image.{ImageValue}
-use Rattle.volap_cell.specs.Cells.{CellValue, ImageOf, TheLedger, tag_of}
-use Rattle.volap_cell.specs.ImageKinds.{IsFree}
+use Rattle.volap_cell.specs.Cells.{CellValue, DeskOf, ImageOf, TheLedger, desk_in, tag_of}
+use Rattle.volap_cell.specs.ImageKinds.{IsFree, doing}
 use Rattle.volap_cell.specs.Values.{ActorValue}
+use Rattle.volap_cell.specs.declared.command.Work.TheVariants.{Insert, Query}
 use Rattle.volap_cell.specs.declared.role.Role.TheVariants.{Session}
 
 -- a ledger gets an event, with so many promises more or less, and holds no more than it may
@@ -43,3 +47,55 @@ pub record CanNoteUnknown (ledger : CellValue) (a : ActorValue) : Type 0 where
 pub record CanNoteRefused (ledger : CellValue) (a : ActorValue) : Type 0 where
   pub free : IsFree a
   pub ledger_is : tag_of ledger ≡ TheLedger
+
+-- the actor's insert has no part yet
+pub record CanFailUnrouted (image ledger : CellValue) (a : ActorValue) : Type 0 where
+  pub of : ℕ
+  pub row : Row
+  pub command : a.command ≡ doing of (Insert row false)
+  pub server : ℕ
+  pub role : a.role ≡ Session server
+  pub image_is : tag_of image ≡ ImageOf server
+  pub ledger_is : tag_of ledger ≡ TheLedger
+
+-- for the part of the actor's insert, on its server's desk, there was no memory
+pub record CanFailRouted (desk image ledger : CellValue) (a : ActorValue) : Type 0 where
+  pub of : ℕ
+  pub row : Row
+  pub command : a.command ≡ doing of (Insert row true)
+  pub idle : a.errand ≡ None
+  pub server : ℕ
+  pub role : a.role ≡ Session server
+  pub desk_is : tag_of desk ≡ DeskOf server
+  pub refused : verdict_of (desk_in desk).parts ≡ Some verdict.NoMemory
+  pub image_is : tag_of image ≡ ImageOf server
+  pub ledger_is : tag_of ledger ≡ TheLedger
+
+-- for a part of the actor's query, on its server's desk, there was no memory, and none is open
+pub record CanFailQuery (desk ledger : CellValue) (a : ActorValue) : Type 0 where
+  pub of : ℕ
+  pub command : a.command ≡ doing of Query
+  pub idle : a.errand ≡ None
+  pub server : ℕ
+  pub role : a.role ≡ Session server
+  pub desk_is : tag_of desk ≡ DeskOf server
+  pub refused : verdict_of (desk_in desk).parts ≡ Some verdict.NoMemory
+  pub ledger_is : tag_of ledger ≡ TheLedger
+
+-- a desk is counted by one session more or less; more fit into the count
+pub record CanCount (desk : CellValue) (a : ActorValue) (come : Bool) : Type 0 where
+  pub server : ℕ
+  pub role : a.role ≡ Session server
+  pub desk_is : tag_of desk ≡ DeskOf server
+  pub other : a.counted ≡ not come
+  pub fits : come ≡ true → (desk_in desk).sessions + 1 < 2 ^ 16
+
+-- one more fits into the count of a desk, or there is one to go
+abbrev pub MayCount : DeskValue → Bool → Type 0
+MayCount desk true = desk.sessions + 1 < 2 ^ 16
+MayCount desk false = 0 < desk.sessions
+
+-- one more is counted in, or one less
+abbrev pub Counts : DeskValue → DeskValue → Bool → Type 0
+Counts desk desk_now true = desk_now ≡ record desk { sessions = desk.sessions + 1 }
+Counts desk desk_now false = desk ≡ record desk_now { sessions = desk_now.sessions + 1 }

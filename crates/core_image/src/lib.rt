@@ -4,12 +4,16 @@
 mod acks;
 mod begins;
 mod filters;
+mod counts;
+mod fails;
 mod notes;
 mod queries;
 mod routes;
 
 pub use acks::ack;
 pub use begins::begin_insert;
+pub use counts::count_session;
+pub use fails::{fail_query, fail_routed, fail_unrouted};
 pub use notes::{note_refused, note_unknown};
 pub use queries::begin_query;
 pub use routes::route;

@@ -1,0 +1,20 @@
+use Rattle.std.proofs.Common.{ap, sym, ◌∙◌}
+use Rattle.volap_cell.specs.Cells.{DeskCell, cell_of}
+use Rattle.volap_cell.specs.Values.{actor_of}
+use Rattle.core_image.proofs.CountsSession.{count-makes, may-count}
+use Rattle.core_image.proofs.counts.count_session.Goals as goal
+
+pub count-requires : goal.count-requires
+count-requires c =
+    record {
+      can = may-count c.args.h.now c.args.desk_at (cell_of c.args.desk.now) (actor_of c.args.actor.now) c.args.come c.requires.here c.requires.due
+          c.in-Desk.server c.deref_mut.result.now (ap cell_of c.in-Desk.is ∙ ap (DeskCell c.in-Desk.server) (sym c.deref_mut.ensures.value));
+    }
+
+pub returns : goal.returns
+returns c =
+    record {
+      made = count-makes c.args.h.now c.args.desk_at (cell_of c.args.desk.now) (actor_of c.args.actor.now) c.args.come c.requires.here c.requires.due
+          c.in-Desk.server c.deref_mut.result.now (ap cell_of c.in-Desk.is ∙ ap (DeskCell c.in-Desk.server) (sym c.deref_mut.ensures.value))
+          c.count.new.desk c.count.ensures.counts;
+    }

@@ -1,0 +1,116 @@
+ghost use Rattle.std.specs.Prelude.{[], ◌∷◌};
+ghost use Rattle.core_image.specs.NotesDue.{CanFailQuery, CanFailRouted, CanFailUnrouted};
+ghost use Rattle.volap_cell.specs.Cells.{cell_of};
+ghost use Rattle.volap_cell.specs.Steps.{IsHere, Makes};
+ghost use Rattle.volap_cell.specs.Values.{actor_of};
+ghost use Rattle.volap_cell.specs.World.{change, held};
+ghost use Rattle.volap_cell.specs.declared.kind.Kind.TheVariants.{Note};
+
+use dim_hierarchy::Hierarchy;
+use row_ledger::Event;
+use volap_cell::{Actor, Cell};
+
+/// Ends the actor's insert for want of memory, before a part for it was routed. The desk isn't
+/// asked: another session's command may stand there. Takes no memory.
+pub fn fail_unrouted(
+    h: &Hierarchy,
+    image_at: u32,
+    image: &mut Cell,
+    ledger_at: u32,
+    ledger: &mut Cell,
+    actor: &mut Actor,
+)
+    requires here { IsHere h.now (held image_at (cell_of image.old) ∷ held ledger_at (cell_of ledger.old) ∷ []) (actor_of actor.old) }
+    requires due { CanFailUnrouted (cell_of image.old) (cell_of ledger.old) (actor_of actor.old) }
+    ensures made { Makes h.now Note
+        (change image_at (cell_of image.old) (cell_of image.new) ∷ change ledger_at (cell_of ledger.old) (cell_of ledger.new) ∷ [])
+        (actor_of actor.old) (actor_of actor.new) }
+{
+    let _ = h;
+    let Cell::Image { image, .. } = image else {
+        unreachable!()
+    };
+    let Cell::Ledger(ledger) = ledger else {
+        unreachable!()
+    };
+    let Some(command) = &actor.command else {
+        unreachable!()
+    };
+    image.forgo();
+    ledger.push(Event::Failed { of: command.of });
+    actor.command = None;
+    actor.seen = ledger.len();
+}
+
+/// Ends the actor's insert for want of memory, whose part found none before its gate. The desk is
+/// cleared. Takes no memory.
+pub fn fail_routed(
+    h: &Hierarchy,
+    desk_at: u32,
+    desk: &mut Cell,
+    image_at: u32,
+    image: &mut Cell,
+    ledger_at: u32,
+    ledger: &mut Cell,
+    actor: &mut Actor,
+)
+    requires here { IsHere h.now
+        (held desk_at (cell_of desk.old) ∷ held image_at (cell_of image.old) ∷ held ledger_at (cell_of ledger.old) ∷ [])
+        (actor_of actor.old) }
+    requires due { CanFailRouted (cell_of desk.old) (cell_of image.old) (cell_of ledger.old) (actor_of actor.old) }
+    ensures made { Makes h.now Note
+        (change desk_at (cell_of desk.old) (cell_of desk.new) ∷ change image_at (cell_of image.old) (cell_of image.new)
+        ∷ change ledger_at (cell_of ledger.old) (cell_of ledger.new) ∷ [])
+        (actor_of actor.old) (actor_of actor.new) }
+{
+    let _ = h;
+    let Cell::Desk { desk, .. } = desk else {
+        unreachable!()
+    };
+    let Cell::Image { image, .. } = image else {
+        unreachable!()
+    };
+    let Cell::Ledger(ledger) = ledger else {
+        unreachable!()
+    };
+    let Some(command) = &actor.command else {
+        unreachable!()
+    };
+    desk.clear();
+    image.forgo();
+    ledger.push(Event::Failed { of: command.of });
+    actor.command = None;
+    actor.seen = ledger.len();
+}
+
+/// Ends the actor's query for want of memory, of which a part found none. The desk is cleared.
+/// Takes no memory.
+pub fn fail_query(
+    h: &Hierarchy,
+    desk_at: u32,
+    desk: &mut Cell,
+    ledger_at: u32,
+    ledger: &mut Cell,
+    actor: &mut Actor,
+)
+    requires here { IsHere h.now (held desk_at (cell_of desk.old) ∷ held ledger_at (cell_of ledger.old) ∷ []) (actor_of actor.old) }
+    requires due { CanFailQuery (cell_of desk.old) (cell_of ledger.old) (actor_of actor.old) }
+    ensures made { Makes h.now Note
+        (change desk_at (cell_of desk.old) (cell_of desk.new) ∷ change ledger_at (cell_of ledger.old) (cell_of ledger.new) ∷ [])
+        (actor_of actor.old) (actor_of actor.new) }
+{
+    let _ = h;
+    let Cell::Desk { desk, .. } = desk else {
+        unreachable!()
+    };
+    let Cell::Ledger(ledger) = ledger else {
+        unreachable!()
+    };
+    let Some(command) = &actor.command else {
+        unreachable!()
+    };
+    desk.clear();
+    ledger.push(Event::Failed { of: command.of });
+    actor.command = None;
+    actor.seen = ledger.len();
+}
