@@ -8,4 +8,5 @@ pub mod StreamSteps
 pub mod PhaseEnds
 pub mod Ranks
 pub mod InPhase
+pub mod Between
 pub mod WorkedRuns

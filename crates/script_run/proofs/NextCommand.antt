@@ -53,19 +53,24 @@ has-place with front c back e history session count =
           ∙ sym (ap (λ ps. get_or ps i None) both.before);
     }
 
+-- the next command of a session has no place yet
+pub next-none : (with : Use) (front : List Command) (c : Command) (back : List Command) (e : Event) (history : List Event) → session_in e ≡ Some (session_of with c)
+    → count_of with (session_of with c) front ≡ length (begins_of history (session_of with c)) → place_in with (front ++ c ∷ back) history (length front) ≡ None
+next-none with front c back e history session count =
+    let len : length (places with front history) ≡ length front = places_behind-length with [] front history in
+    ap (λ ps. get_or ps (length front) None) (places-begin with front c back e history session count).before
+    ∙ or-middle (places with front history) (places_behind with (front ++ c ∷ []) back history) None None (length front) (sym len)
+
 pub next_law : NextLaw
 next_law with h front c back e history next opened streams is none behind session begins =
     let commands = front ++ c ∷ back in
     let s = session_of with c in
     let front-is : take (next s) commands ≡ front = ap (λ n. take n commands) is ∙ take-front front (c ∷ back) in
-    let count : count_of with s front ≡ length (begins_of history s) = ap (count_of with s) (sym front-is) ∙ streams.counts s in
-    let both = places-begin with front c back e history session count in
-    let len : length (places with front history) ≡ length front = places_behind-length with [] front history in
-    let k : length front ≡ length (places with front history) = sym len in (
+    let count : count_of with s front ≡ length (begins_of history s) = ap (count_of with s) (sym front-is) ∙ streams.counts s in (
       record {
         command = c;
         at = get-middle front back c;
-        none = ap (λ ps. get_or ps (length front) None) both.before ∙ or-middle (places with front history) (places_behind with (front ++ c ∷ []) back history) None None (length front) k;
+        none = next-none with front c back e history session count;
         begins = begins;
         waited = λ i b at_b w.
             elim w.1 [

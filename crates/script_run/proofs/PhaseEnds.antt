@@ -4,6 +4,7 @@ use Rattle.std.specs.Prelude.{Option, Some, None, slice_get, IsTrue, ◌&&◌, i
 use Rattle.std.specs.List.{list_all}
 use Rattle.std.proofs.lemmas.Option.{slice_get_within}
 use Rattle.std.proofs.Math.ListN.{get_or-append}
+use Rattle.dim_hierarchy.specs.Dimension.{Dimension}
 use Rattle.row_ledger.specs.declared.event.Event.{Event}
 use Rattle.row_ledger.specs.declared.settings.Use.{Use}
 use Rattle.row_ledger.specs.Past.{is_over}
@@ -12,7 +13,7 @@ use Rattle.script_run.specs.Phases.{ranks_from, closes}
 use Rattle.script_run.specs.Places.{session_of, count_of, begins_of, places, places_behind, is_over_at, are_over}
 use Rattle.script_run.proofs.PlaceFacts.{places_behind-append, places_behind-none}
 use Rattle.script_run.specs.Runs.{BeginsAt, EndsBefore}
-use Rattle.script_run.specs.Parts.{Waits, place_in}
+use Rattle.script_run.specs.Parts.{IsPartAt, Waits, place_in}
 use Rattle.script_run.specs.Streams.{FinishLaw, StartLaw}
 use Rattle.script_run.proofs.Grow.{below-or, ends-none}
 use Rattle.script_run.proofs.NextCommand.{over-now}
@@ -41,7 +42,7 @@ finish_law with h commands history next opened part streams finished = record {
 }
 
 -- The first commands keep their places, and none of the others has one.
-first-place : (with : Use) (done phase : List Command) (history : List Event) (i : ℕ) → i < length done
+pub first-place : (with : Use) (done phase : List Command) (history : List Event) (i : ℕ) → i < length done
     → place_in with (done ++ phase) history i ≡ place_in with done history i
 first-place with done phase history i low =
     ap (λ ps. get_or ps i None) (places_behind-append with [] done phase history)
@@ -57,13 +58,13 @@ behind-at [] ys i h n = n i
 behind-at (x ∷ xs) ys zero h n = absurd (omega arith)
 behind-at (x ∷ xs) ys (suc i) h n = behind-at xs ys i (omega arith) n
 
-no-place : (with : Use) (done phase : List Command) (history : List Event) → ((s : ℕ) → length (begins_of history s) ≤ count_of with s done)
+pub no-place : (with : Use) (done phase : List Command) (history : List Event) → ((s : ℕ) → length (begins_of history s) ≤ count_of with s done)
     → (i : ℕ) → length done ≤ i → place_in with (done ++ phase) history i ≡ None
 no-place with done phase history few i high =
     ap (λ ps. get_or ps i None) (places_behind-append with [] done phase history ∙ ap (λ qs. places with done history ++ qs) (places_behind-none with done phase history (record { counts = few })))
     ∙ behind-at (places with done history) (map (λ c. None) phase) i (omega (arith, high, places-length with done history)) (nones-at phase)
 
-get-first : (xs ys : List Command) (i : ℕ) → i < length xs → slice_get (xs ++ ys) i ≡ slice_get xs i
+pub get-first : (xs ys : List Command) (i : ℕ) → i < length xs → slice_get (xs ++ ys) i ≡ slice_get xs i
 get-first [] ys i h = absurd (omega arith)
 get-first (x ∷ xs) ys zero h = refl
 get-first (x ∷ xs) ys (suc i) h = get-first xs ys i (omega arith)
@@ -82,8 +83,13 @@ rank-first k (x ∷ xs) ys (suc i) h =
       | false ↦ rank-first k xs ys i (omega arith)
     ]
 
-pub start_law : StartLaw
-start_law with h done phase history few part = record {
+-- Whatever has to wait for what among the first commands, and does so among all of them too.
+pub start-any : (with : Use) (h : List Dimension) (done phase : List Command) (history : List Event) (waits waits_now : ℕ → ℕ → Type 0)
+    → ((s : ℕ) → length (begins_of history s) ≤ count_of with s done)
+    → ((i j : ℕ) → j < length done → waits_now i j → (i < j) × waits i j)
+    → IsPartAt with h done waits history (place_in with done history)
+    → IsPartAt with h (done ++ phase) waits_now history (place_in with (done ++ phase) history)
+start-any with h done phase history waits waits_now few same part = record {
   begun = λ i c at. elim (below-or i (length done)) [
     | inl low ↦ subst (λ o. BeginsAt with h history c o) (sym (first-place with done phase history i low)) (part.begun i c (sym (get-first done phase i low) ∙ at))
     | inr high ↦ subst (λ o. BeginsAt with h history c o) (sym (no-place with done phase history few i high)) tt
@@ -95,18 +101,30 @@ start_law with h done phase history few part = record {
   in_turn = λ i j c d ci dj w. elim (below-or j (length done)) [
     | inr high ↦ ends-none history (place_in with (done ++ phase) history i) (place_in with (done ++ phase) history j) (no-place with done phase history few j high)
     | inl low ↦
-        let lower : i < length done = omega (arith, w.0, low) in
+        let old = same i j low w in
+        let lower : i < length done = omega (arith, old.0, low) in
         let cd = sym (get-first done phase i lower) ∙ ci in
         let dd = sym (get-first done phase j low) ∙ dj in
-        let old : Waits with done i j = (
-          w.0,
-          elim w.1 [
-            | inl same ↦ inl (λ a b at_a at_b. same a b (get-first done phase i lower ∙ at_a) (get-first done phase j low ∙ at_b))
-            | inr less ↦ inr (omega (arith, less, rank-first 0 done phase i lower, rank-first 0 done phase j low))
-          ],
-        ) in
         subst (λ o. EndsBefore history o (place_in with (done ++ phase) history j)) (sym (first-place with done phase history i lower))
-        (subst (λ o. EndsBefore history (place_in with done history i) o) (sym (first-place with done phase history j low)) (part.in_turn i j c d cd dd old))
+        (subst (λ o. EndsBefore history (place_in with done history i) o) (sym (first-place with done phase history j low)) (part.in_turn i j c d cd dd old.1))
   ];
   pulls = part.pulls;
 }
+
+-- the first commands wait for one another as they do among all
+waits-first : (with : Use) (done phase : List Command) (i j : ℕ) → j < length done → Waits with (done ++ phase) i j → (i < j) × Waits with done i j
+waits-first with done phase i j low w =
+    let lower : i < length done = omega (arith, w.0, low) in (
+      w.0,
+      (
+        w.0,
+        elim w.1 [
+          | inl same ↦ inl (λ a b at_a at_b. same a b (get-first done phase i lower ∙ at_a) (get-first done phase j low ∙ at_b))
+          | inr less ↦ inr (omega (arith, less, rank-first 0 done phase i lower, rank-first 0 done phase j low))
+        ],
+      ),
+    )
+
+pub start_law : StartLaw
+start_law with h done phase history few part =
+    start-any with h done phase history (Waits with done) (Waits with (done ++ phase)) few (waits-first with done phase) part

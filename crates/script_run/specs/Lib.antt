@@ -4,4 +4,5 @@ pub mod Pulls
 pub mod Runs
 pub mod Parts
 pub mod Streams
+pub mod Between
 pub mod Worked

@@ -1,4 +1,5 @@
 //! Laws of runs, as histories grow.
+ghost use Rattle.script_run.specs.Between.{NoneBegunLaw, OrderBeginLaw, OrderOtherLaw, OrderStartLaw, PhaseEndLaw, PhaseStartLaw, ThroughLaw};
 ghost use Rattle.script_run.specs.Parts.{PartLaw, SerialLaw};
 ghost use Rattle.script_run.specs.Streams.{StreamBeginLaw, FinishLaw, NextLaw, StreamOtherLaw, PhaseBeginLaw, PhaseOtherLaw, RankLaw, StartLaw};
 
@@ -23,4 +24,20 @@ pub fn phases_go_on()
     ensures begin { PhaseBeginLaw }
     ensures other { PhaseOtherLaw }
     ensures rank { RankLaw }
+{}
+
+/// Between phases a run is through with the commands so far. A phase begins there, and where all of it is
+/// over the run is through with it too.
+pub fn phases_begin_and_end()
+    ensures through { ThroughLaw }
+    ensures none { NoneBegunLaw }
+    ensures start { PhaseStartLaw }
+    ensures end { PhaseEndLaw }
+{}
+
+/// Commands that begin one after the other, each when all before it are over, stay in that order.
+pub fn commands_stay_in_order()
+    ensures start { OrderStartLaw }
+    ensures other { OrderOtherLaw }
+    ensures begin { OrderBeginLaw }
 {}

@@ -2,3 +2,4 @@ pub mod Rests
 pub mod Due
 pub mod Can
 pub mod Laws
+pub mod Ranks

@@ -1,5 +1,6 @@
 //! Laws of what is due, and of what the streams of a phase still have. There is nothing to do at run time.
 ghost use Rattle.seeded_run.specs.Laws.{WholeLaw, RestLaw, IdleLaw, PartLaw, CarrierLaw, WantedLaw, FreeLaw, OrderLaw};
+ghost use Rattle.seeded_run.specs.Ranks.{RankFallsLaw, StepFallsLaw};
 
 /// A stream has all its commands as the phase begins, and one less whenever one begins.
 pub fn streams_run_out()
@@ -23,4 +24,10 @@ pub fn parts_go_on()
 /// Where the commands go one after the other, one actor at most can make a step.
 pub fn one_steps_in_order()
     ensures { OrderLaw }
+{}
+
+/// What is left to do in a phase is one number, where limits hold, and each step leaves less.
+pub fn less_is_left()
+    ensures rank { RankFallsLaw }
+    ensures step { StepFallsLaw }
 {}

@@ -1,0 +1,14 @@
+use Rattle.script_run.proofs.Between.{none-begun-law, phase-end-law, phase-start-law, through-law}
+use Rattle.script_run.proofs.laws.phases_begin_and_end.Goals as goal
+
+pub returns-clause-through : goal.returns-clause-through
+returns-clause-through c = through-law
+
+pub returns-clause-none : goal.returns-clause-none
+returns-clause-none c = none-begun-law
+
+pub returns-clause-start : goal.returns-clause-start
+returns-clause-start c = phase-start-law
+
+pub returns-clause-end : goal.returns-clause-end
+returns-clause-end c = phase-end-law

@@ -1,0 +1,8 @@
+use Rattle.seeded_run.proofs.Ranks.{rank-falls, step-falls}
+use Rattle.seeded_run.proofs.laws.less_is_left.Goals as goal
+
+pub returns-clause-rank : goal.returns-clause-rank
+returns-clause-rank c = rank-falls
+
+pub returns-clause-step : goal.returns-clause-step
+returns-clause-step c = step-falls

@@ -1,0 +1,42 @@
+-- What is left to do in a phase, as one number that falls with each step: so the phase ends.
+use Rattle.std.specs.Prelude.{ℕ, ◌≡◌, ◌+◌, ◌*◌, ◌<◌, ◌≤◌, Bool, true, List, ◌∷◌, length}
+use Rattle.row_ledger.specs.Past.{is_beginning}
+use Rattle.row_ledger.specs.declared.event.Event.{Event}
+use Rattle.volap_cell.specs.Falls.{Left, Falls, GoesOn, control_brought}
+use Rattle.volap_cell.specs.Setting.{Setting, actor_count}
+use Rattle.volap_cell.specs.Sums.{sum_below}
+use Rattle.seeded_run.specs.Rests.{PhaseRun, rest_of}
+
+-- the lower three of the four numbers are below these
+pub record Limits : Type 0 where
+  pub gates : ℕ
+  pub rows : ℕ
+  pub queries : ℕ
+
+pub record IsWithin (limits : Limits) (left : Left) : Type 0 where
+  pub gates : left.gates < limits.gates
+  pub rows : left.rows < limits.rows
+  pub queries : left.queries < limits.queries
+
+-- the four as the digits of one number
+abbrev pub rank : Limits → Left → ℕ
+rank limits left = ((left.control * limits.gates + left.gates) * limits.rows + left.rows) * limits.queries + left.queries
+
+-- Where the first of them that changes falls, so does that number.
+abbrev pub RankFallsLaw : Type 0
+RankFallsLaw = (limits : Limits) (before now : Left) → Falls before now → IsWithin limits now → rank limits now < rank limits before
+
+-- how many commands the streams still have
+abbrev pub waiting : Setting → PhaseRun → List Event → ℕ
+waiting s p history = sum_below (actor_count s) (λ session. length (rest_of p history session))
+
+-- for each of them the first number has more than its beginning can add
+abbrev pub with_waiting : Setting → ℕ → Left → Left
+with_waiting s count left = record left { control = left.control + count * (control_brought s + 1) }
+
+-- So a step that begins a command falls too; and each step does by which no session is counted at its desk.
+abbrev pub StepFallsLaw : Type 0
+StepFallsLaw = (s : Setting) (before now : Left) (history history_now : List Event) (counted counted_now : Bool) (count count_now : ℕ)
+    → GoesOn s before now history history_now counted counted_now → counted ≡ counted_now → count_now ≤ count
+    → ((e : Event) → is_beginning e ≡ true → history_now ≡ e ∷ history → count_now < count)
+    → Falls (with_waiting s count before) (with_waiting s count_now now)
