@@ -62,6 +62,10 @@ same-op was now desk desk_now counts = elim counts [ inl c ↦ ap (λ (y : DeskV
 same-parts : (was now : Bool) (desk desk_now : DeskValue) → IsCounted was now desk desk_now → desk_now.parts ≡ desk.parts
 same-parts was now desk desk_now counts = elim counts [ inl c ↦ ap (λ (y : DeskValue). y.parts) c.2 | inr c ↦ sym (ap (λ (y : DeskValue). y.parts) c.2) ]
 
+-- who is counted in wasn't, or the other way round
+counts-differ : (was now : Bool) (desk desk_now : DeskValue) → IsCounted was now desk desk_now → was ≢ now
+counts-differ was now desk desk_now counts e = elim counts [ inl c ↦ (let bad : false ≡ true = sym c.0 ∙ e ∙ c.1 in cc) | inr c ↦ (let bad : true ≡ false = sym c.0 ∙ e ∙ c.1 in cc) ]
+
 counted-by : (was now : Bool) (desk desk_now : DeskValue) → IsCounted was now desk desk_now → desk_now.sessions + one_if was ≡ desk.sessions + one_if now
 counted-by was now desk desk_now counts = elim counts [
   | inl c ↦ (let a = ap one_if c.0 in let b = ap one_if c.1 in let more = ap (λ (y : DeskValue). y.sessions) c.2 in omega (arith, a, b, more))
@@ -202,7 +206,11 @@ module _ (d : Change) (b : ActorValue) (s : Setting) (w : World) (n : ℕ) (g : 
     holds = subst (λ (z : View). InvWith s z g) (sym same) holds;
     newer = [];
     grows = history-same;
-    goes_on = inr (inr (all-still s w w2 g n v2 same (λ a ne. actor-off w.actors n b a ne) still refl refl refl refl (λ x. refl), history-same));
+    goes_on = inr (inr (record {
+      same = all-still s w w2 g n v2 same (λ a ne. actor-off w.actors n b a ne) still refl refl refl refl (λ x. refl);
+      quiet = history-same;
+      counts = λ e. counts-differ _ _ _ _ does.counts (e ∙ ap (λ (x : ActorValue). x.counted) actor-now);
+    }));
   }
 
 pub count-keeps : (hierarchy : List Dimension) (d : Change) (a b : ActorValue) (does : CountsSession d a b) → Keeps hierarchy kind.Note (d ∷ []) a b (OfCount does)

@@ -105,7 +105,7 @@ module _ (s : Setting) (w : World) (g : Ghost) (i : InvWith s (view s w) g) wher
 
   -- of this hierarchy, which has a dimension, is the filter of each query
   pub asked-of : (of : ℕ) (q : Query) → query_at v.history of ≡ Some q → IsAsked (table_of s v.row) q.filter
-  asked-of of q asked = record { filter = (i.telling.filters of q asked).0; dims = i.numbering.setting.dims }
+  asked-of of q asked = record { filter = (i.telling.filters of q asked).0; dims = (i.telling.filters of q asked).2 }
 
   -- what a part has counted
   pub part-counts : (e : ErrandValue) (f : List Pick) (k : IsQueryPart s v.history v.desks (taken_by e) f) → IsCounted s v.history v.row g.placed g.home k.q e.shard (g.counted e.server e.shard)
