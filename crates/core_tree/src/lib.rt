@@ -1,6 +1,8 @@
 //! The steps of rows and queries at gates and blocks.
 #![tactic(auto)]
 
+mod downs;
 mod puts;
 
+pub use downs::down;
 pub use puts::put_in_leaf;
