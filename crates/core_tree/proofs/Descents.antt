@@ -1,22 +1,21 @@
 -- A row that goes down.
-use Rattle.std.proofs.Common.{◌≡◌, ◌≢◌, ℕ, zero, suc, ◌+◌, ◌*◌, ◌≤◌, Bool, true, false, cond, eqb, List, [], ◌∷◌, ◌++◌, length, map, take, drop, Option, Some, None, IsSome, slice_get, refl, sym, ap, ◌∙◌, subst, ◌⊎◌, inl, inr, arith, append-nil}
+use Rattle.std.proofs.Common.{◌≡◌, ◌≢◌, ℕ, zero, suc, ◌+◌, ◌*◌, ◌≤◌, Bool, true, false, cond, eqb, List, [], ◌∷◌, ◌++◌, length, map, Option, Some, None, IsSome, slice_get, refl, sym, ap, ◌∙◌, subst, ◌⊎◌, inl, inr, arith, append-nil}
 use Rattle.std.specs.Option.{option_map_or}
 use Rattle.std.proofs.lemmas.List.{length-append}
 use Rattle.dim_hierarchy.specs.Dimension.{Dimension}
 use Rattle.dim_hierarchy.specs.declared.row.Row.{Row}
 use Rattle.dc_node.specs.Block.{is_full, entries_in}
 use Rattle.dc_node.specs.declared.block.Block.{Block}
-use Rattle.dc_node.specs.declared.entry.Entry.{Entry}
 use Rattle.cell_stock.specs.Stock.{PurseValue}
 use Rattle.cell_stock.specs.declared.purse.Spare.{Spare}
 use Rattle.link_descent.specs.Descend.{StepsDown}
 use Rattle.link_descent.specs.declared.entered.Entered.{Entered}
 use Rattle.link_descent.specs.declared.entered.Fresh.{Fresh}
 use Rattle.tree_shape.specs.Counts.{Each}
-use Rattle.tree_shape.specs.Laws.{OtherLaw, CollectOtherLaw, DownLaw, ChildLaw}
-use Rattle.tree_shape.specs.Shape.{Table, TreeCells, Shape, nodes}
+use Rattle.tree_shape.specs.Laws.{OtherLaw, CollectOtherLaw, DownLaw, ChildLaw, BehindLaw}
+use Rattle.tree_shape.specs.Shape.{Shape, nodes}
 use Rattle.tree_shape.specs.Steps.{AreSpares, IsIdle, AfterStep}
-use Rattle.tree_shape.specs.Trees.{IsTree, IsBelow}
+use Rattle.tree_shape.specs.Trees.{IsBelow, HasBehind, IsBehind, cells_behind}
 use Rattle.tree_shape.proofs.Divisions.{each-map, each-both}
 use Rattle.tree_shape.proofs.Parts.{each-append, each-left, each-right}
 use Rattle.tree_shape.proofs.Walks.{on_bool, eqb-eq, eqb-ne, eqb-self, eqb-no}
@@ -44,28 +43,6 @@ use Rattle.core_tree.proofs.NewBlocks.{AreIn, count-filled, filled-each, filled-
 use Rattle.core_tree.proofs.Spares.{AreDistinct, spares-distinct, spares-left, distinct-right}
 use Rattle.core_tree.proofs.TreeSteps.{TreeStep, IsOwn, tree-kept, with_shape, of_steps}
 
--- What stands behind the head that an entry leads to. (tree_shape has these definitions and this law where a head is cut by the
--- blocks behind it; they are taken from there with it.)
-
-abbrev pub cells_behind : (ℕ → Block) → ℕ → ℕ → ℕ → List ℕ
-cells_behind block stamp zero y = []
-cells_behind block stamp (suc n) y = cond (eqb (block y).stamp stamp) [] (option_map_or (λ z. z ∷ cells_behind block stamp n z) (block y).right [])
-
-pub record IsBehind (cells : TreeCells) (g : Shape) (c y : ℕ) : Type 0 where
-  pub inside : g.inside y ≡ true
-  pub block : y ≢ cells.gate_cell
-  pub apart : y ≢ c
-  pub level : g.level y ≡ g.level c
-  pub head : g.head y ≡ c
-
-pub record HasBehind (cells : TreeCells) (g : Shape) (e : Entry) (n : ℕ) : Type 0 where
-  pub found : take n (drop 1 (g.group e.child)) ≡ cells_behind cells.block e.stamp n e.child
-  pub behind : Each (IsBehind cells g e.child) (cells_behind cells.block e.stamp n e.child)
-
-abbrev pub BehindLaw : Type 0
-BehindLaw = (table : Table) (cells : TreeCells) (g : Shape) (b place n : ℕ) (e : Entry) → IsTree table cells g → g.inside b ≡ true → b ≢ cells.gate_cell
-    → slice_get (entries_in (cells.block b).body) place ≡ Some e → HasBehind cells g e n
-
 -- a step down uses one spare for one new block, or none
 pub record UsesSpares (purse purse2 : List Spare) (items : List Fresh) : Type 0 where
   pub used : List Spare
@@ -73,9 +50,9 @@ pub record UsesSpares (purse purse2 : List Spare) (items : List Fresh) : Type 0 
   pub purse_is : purse ≡ purse2 ++ used
   pub are_in : AreIn used items
 
-pub spares-down : (h : List Dimension) (row : Row) (place : ℕ) (parent parent_now head head_now : Block) (purse purse_now : PurseValue) (entered : Entered)
-    → StepsDown h row place parent parent_now head head_now purse purse_now entered → UsesSpares purse.spares purse_now.spares entered.fresh.items
-spares-down h row place parent parent_now head head_now purse purse_now entered step = elim step.step [
+pub spares-down : (h : List Dimension) (row : Row) (place : ℕ) (tail : List Block) (parent parent_now head head_now : Block) (purse purse_now : PurseValue) (entered : Entered)
+    → StepsDown h row place tail parent parent_now head head_now purse purse_now entered → UsesSpares purse.spares purse_now.spares entered.fresh.items
+spares-down h row place tail parent parent_now head head_now purse purse_now entered step = elim step.step [
   | inl w ↦ record {
     used = [];
     few = omega arith;
@@ -112,12 +89,12 @@ no-gate (Some x) f = absurd (f refl)
 
 -- The blocks behind a head.
 
-tail-blocks : (blocks : ℕ → Block) (cs : List Change) → Each (λ c. blocks c.number ≡ block_in c.before) cs → map blocks (map (λ (c : Change). c.number) cs) ≡ blocks_of cs
+pub tail-blocks : (blocks : ℕ → Block) (cs : List Change) → Each (λ c. blocks c.number ≡ block_in c.before) cs → map blocks (map (λ (c : Change). c.number) cs) ≡ blocks_of cs
 tail-blocks blocks [] e = refl
 tail-blocks blocks (c ∷ cs) e = ap (λ (b : Block). b ∷ map blocks (map (λ (c : Change). c.number) cs)) e.0 ∙ ap (λ (bs : List Block). block_in c.before ∷ bs) (tail-blocks blocks cs e.1)
 
 -- they are those that right links lead to
-tail-numbers : (blocks : ℕ → Block) (expected most y : ℕ) (block : Block) (cs : List Change) → blocks y ≡ block → Each (λ c. blocks c.number ≡ block_in c.before) cs → AreBehind expected most block cs
+pub tail-numbers : (blocks : ℕ → Block) (expected most y : ℕ) (block : Block) (cs : List Change) → blocks y ≡ block → Each (λ c. blocks c.number ≡ block_in c.before) cs → AreBehind expected most block cs
     → map (λ (c : Change). c.number) cs ≡ cells_behind blocks expected most y
 tail-numbers blocks expected zero y block [] is at b = refl
 tail-numbers blocks expected (suc n) y block [] is at b = elim b [
@@ -238,7 +215,7 @@ module _ (downs : DownLaw) (childs : ChildLaw) (behinds : BehindLaw) (p c : Chan
   -- the new blocks
 
   uses : UsesSpares d.purse.spares d.purse_now.spares d.entered.fresh.items
-  uses = spares-down s.hierarchy d.r.row d.place d.parent d.parent_now d.head d.head_now d.purse d.purse_now d.entered d.step
+  uses = spares-down s.hierarchy d.r.row d.place (blocks_of d.tail) d.parent d.parent_now d.head d.head_now d.purse d.purse_now d.entered d.step
 
   spares : AreSpares shape (nodes (cells_at v.blocks v.trees gate)) d.purse.spares
   spares = subst (AreSpares shape (nodes (cells_at v.blocks v.trees gate))) (sym d.purse_was)
@@ -285,14 +262,14 @@ module _ (downs : DownLaw) (childs : ChildLaw) (behinds : BehindLaw) (p c : Chan
   c-now : (view s w2).blocks c.number ≡ d.head_now
   c-now = ap block_in (second p c others w.cells two ∙ d.turns_head.is)
 
-  step : StepsDown s.hierarchy (v.row r) d.place (v.blocks p.number) ((view s w2).blocks p.number) (v.blocks d.entry.child) ((view s w2).blocks d.entry.child) d.purse d.purse_now d.entered
+  step : StepsDown s.hierarchy (v.row r) d.place (map v.blocks (map (λ (x : Change). x.number) d.tail)) (v.blocks p.number) ((view s w2).blocks p.number) (v.blocks d.entry.child) ((view s w2).blocks d.entry.child) d.purse d.purse_now d.entered
   step =
-      let k0 = subst (λ (x : Row). StepsDown s.hierarchy x d.place d.parent d.parent_now d.head d.head_now d.purse d.purse_now d.entered) (sym here.known) d.step in
-      let k1 = k0 in
-      let k2 = subst (λ (x : Block). StepsDown s.hierarchy (v.row r) d.place x d.parent_now d.head d.head_now d.purse d.purse_now d.entered) (sym p-was) k1 in
-      let k3 = subst (λ (x : Block). StepsDown s.hierarchy (v.row r) d.place (v.blocks p.number) x d.head d.head_now d.purse d.purse_now d.entered) (sym p-now) k2 in
-      let k4 = subst (λ (x : Block). StepsDown s.hierarchy (v.row r) d.place (v.blocks p.number) ((view s w2).blocks p.number) x d.head_now d.purse d.purse_now d.entered) (sym (ap v.blocks d.child ∙ c-was)) k3 in
-      subst (λ (x : Block). StepsDown s.hierarchy (v.row r) d.place (v.blocks p.number) ((view s w2).blocks p.number) (v.blocks d.entry.child) x d.purse d.purse_now d.entered) (sym (ap (view s w2).blocks d.child ∙ c-now)) k4
+      let k0 = subst (λ (x : Row). StepsDown s.hierarchy x d.place (blocks_of d.tail) d.parent d.parent_now d.head d.head_now d.purse d.purse_now d.entered) (sym here.known) d.step in
+      let k1 = subst (λ (x : List Block). StepsDown s.hierarchy (v.row r) d.place x d.parent d.parent_now d.head d.head_now d.purse d.purse_now d.entered) (sym (tail-blocks v.blocks d.tail tail-at)) k0 in
+      let k2 = subst (λ (x : Block). StepsDown s.hierarchy (v.row r) d.place (map v.blocks (map (λ (x : Change). x.number) d.tail)) x d.parent_now d.head d.head_now d.purse d.purse_now d.entered) (sym p-was) k1 in
+      let k3 = subst (λ (x : Block). StepsDown s.hierarchy (v.row r) d.place (map v.blocks (map (λ (x : Change). x.number) d.tail)) (v.blocks p.number) x d.head d.head_now d.purse d.purse_now d.entered) (sym p-now) k2 in
+      let k4 = subst (λ (x : Block). StepsDown s.hierarchy (v.row r) d.place (map v.blocks (map (λ (x : Change). x.number) d.tail)) (v.blocks p.number) ((view s w2).blocks p.number) x d.head_now d.purse d.purse_now d.entered) (sym (ap v.blocks d.child ∙ c-was)) k3 in
+      subst (λ (x : Block). StepsDown s.hierarchy (v.row r) d.place (map v.blocks (map (λ (x : Change). x.number) d.tail)) (v.blocks p.number) ((view s w2).blocks p.number) (v.blocks d.entry.child) x d.purse d.purse_now d.entered) (sym (ap (view s w2).blocks d.child ∙ c-now)) k4
 
   others-off : (y : ℕ) → y ≢ p.number → y ≢ d.entry.child → Each (λ (x : Fresh). y ≢ x.cell) d.entered.fresh.items → (view s w2).blocks y ≡ v.blocks y
   others-off y np nc nf = block-stays cs w.cells y ag.cells (
@@ -311,10 +288,12 @@ module _ (downs : DownLaw) (childs : ChildLaw) (behinds : BehindLaw) (p c : Chan
     parent = p.number;
     place = d.place;
     entry = d.entry;
+    tail = map (λ (x : Change). x.number) d.tail;
     placed = here.in_tree.placed;
     carried = here.carried;
     at = here.at;
     entry_at = entry-at;
+    behind = λ full. found (ap (λ (x : Block). is_full x.body) (sym (ap v.blocks d.child ∙ c-was)) ∙ full) ∙ sym has-behind.found;
     step = step;
     idle = subst (IsIdle shape) (sym d.child) idle;
     spares = spares;

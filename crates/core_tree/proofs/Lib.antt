@@ -1,4 +1,5 @@
 pub mod Spares
+pub mod Counts
 pub mod Carriers
 pub mod Moves
 pub mod MovesRest
@@ -7,6 +8,8 @@ pub mod TreeSteps
 pub mod NewBlocks
 pub mod PutsInLeaf
 pub mod Descents
+pub mod Behind
+pub mod GoesDown
 pub mod Places
 pub mod PlacesRead
 pub mod Arrivals

@@ -2,9 +2,11 @@
 #![tactic(auto)]
 
 mod leaves;
+mod downs;
 mod puts;
 mod visits;
 
 pub use leaves::leave_tree;
+pub use downs::down;
 pub use puts::put_in_leaf;
 pub use visits::block_visit;

@@ -1,0 +1,70 @@
+-- What the steps of a row onto a head ask for of the cells that they are given and of their actor, beyond that they are those of a state.
+use Rattle.std.specs.Prelude.{ℕ, ◌≡◌, ◌+◌, ◌^◌, ◌<◌, ◌≤◌, Bool, true, false, List, [], ◌∷◌, ◌++◌, Option, Some, slice_get, length, map as each, All}
+use Rattle.dim_hierarchy.specs.Dimension.{Dimension}
+use Rattle.dim_hierarchy.specs.Row.{IsRowOf}
+use Rattle.dim_hierarchy.specs.declared.row.Row.{Row}
+use Rattle.cell_stock.specs.declared.purse.Spare.{Spare}
+use Rattle.dc_node.specs.Block.{is_full, entries_in, IsBodyOf}
+use Rattle.dc_node.specs.Summary.{row_count}
+use Rattle.dc_node.specs.declared.block.Block.{Block}
+use Rattle.dc_node.specs.declared.entry.Entry.{Entry}
+use Rattle.link_descent.specs.Divide.{together}
+use Rattle.link_descent.specs.Pick.{IsPick}
+use Rattle.volap_cell.specs.Cells.{CellValue, BlockCell, block_in}
+use Rattle.volap_cell.specs.TreeKinds.{HasRow, IsTailOf}
+use Rattle.volap_cell.specs.Values.{ActorValue, ErrandValue}
+use Rattle.volap_cell.specs.World.{Change, MustKeep, held_if}
+use Rattle.volap_cell.specs.declared.errand.RowErrand.{RowErrand}
+
+-- The blocks behind a head, which are held at times and stay as they are.
+
+abbrev pub two_if : ℕ → Option CellValue → ℕ → Option CellValue → List Change
+two_if first_at first second_at second = held_if first_at first ++ held_if second_at second
+
+abbrev pub block_if : Option CellValue → List Block
+block_if (Some (BlockCell b)) = b ∷ []
+block_if _ = []
+
+abbrev pub blocks_if : Option CellValue → Option CellValue → List Block
+blocks_if first second = block_if first ++ block_if second
+
+-- The cells for new blocks.
+
+-- they are those of the last spares of a purse, the last one first
+abbrev pub AreLast : List Spare → List Change → Type 0
+AreLast purse [] = Unit {0}
+AreLast purse (c ∷ changes) = (front : List Spare) × (spare : Spare) × (purse ≡ front ++ spare ∷ []) × (c.number ≡ spare.cell) × AreLast front changes
+
+-- so many are held where the head is full, and else none
+abbrev pub AreForNew : Bool → ℕ → List Spare → List Change → Type 0
+AreForNew true most purse changes = (length changes ≡ most) × AreLast purse changes
+AreForNew false most purse changes = changes ≡ []
+
+-- The actor carries its row at a directory. The child is the one that comes first for the row; where it is full the next two blocks
+-- of its group are held, or as many as there are, and the cell of the last spare.
+pub record CanDown (h : List Dimension) (at : ℕ) (parent : CellValue) (child_at : ℕ) (child : CellValue) (tail fresh : List Change) (a : ActorValue) : Type 0 where
+  pub carried : MustKeep a at
+  pub e : ErrandValue
+  pub r : RowErrand
+  pub has : HasRow a e r
+  pub place : ℕ
+  pub picked : IsPick h r.row.at (each (λ e. e.set) (entries_in (block_in parent).body)) place
+  pub entry : Entry
+  pub entry_at : slice_get (entries_in (block_in parent).body) place ≡ Some entry
+  pub child_is : entry.child ≡ child_at
+  pub behind : IsTailOf entry.stamp (block_in child) tail
+  pub for_new : AreForNew (is_full (block_in child).body) 1 a.purse fresh
+
+-- what the step down asks of the blocks, the purse and the boxes
+pub record CanStep (h : List Dimension) (row : Row) (parent child : Block) (tail : List Block) (purse : List Spare) (boxes : ℕ) : Type 0 where
+  pub room : is_full parent.body ≡ false
+  pub entries : 0 < length (entries_in parent.body)
+  pub parent_valid : IsBodyOf h parent.body
+  pub child_valid : IsBodyOf h child.body
+  pub row_valid : IsRowOf h row
+  pub some : 0 < length purse
+  pub few : All (λ e. e.agg.count + 1 < 2 ^ 63) (entries_in parent.body)
+  pub tail_valid : All (λ b. IsBodyOf h b.body) tail
+  pub few_behind : length tail ≤ 2
+  pub few_beneath : row_count (together child.body tail) + 1 < 2 ^ 63
+  pub boxed : 2 ≤ boxes

@@ -1,0 +1,115 @@
+ghost use Rattle.std.specs.Prelude.{ℕ, ◌≡◌, ◌+◌, ◌<◌, [], ◌∷◌, ◌++◌, length, map, option_map, is_some};
+ghost use Rattle.dc_node.specs.Block.{entries_in};
+ghost use Rattle.core_tree.specs.Descent.{CanDown, CanStep, block_if, blocks_if, two_if};
+ghost use Rattle.link_descent.specs.Pick.{IsPick};
+ghost use Rattle.volap_cell.specs.Cells.{cell_of};
+ghost use Rattle.volap_cell.specs.NewBlocks.{WentDown};
+ghost use Rattle.volap_cell.specs.Steps.{IsHere, Makes};
+ghost use Rattle.volap_cell.specs.Values.{actor_of};
+ghost use Rattle.volap_cell.specs.World.{change, change_if, held, held_if};
+ghost use Rattle.volap_cell.specs.declared.kind.Kind.TheVariants.{Down};
+
+use cell_stock::Purse;
+use dc_node::Block;
+use dim_hierarchy::{Hierarchy, Row};
+use link_descent::{Tail, pick};
+use tree_shape::{collect_laws, frame_law, insert_laws, tree_laws};
+use volap_cell::{Actor, Boxes, Cell, Task, Way, go_on};
+
+/// The block of a cell that is held behind a head stands behind those of the tail.
+pub(crate) fn add_behind<'a>(tail: &mut Tail<'a>, cell: &'a Option<Cell>)
+    requires room { length tail.old + length (block_if (option_map cell_of cell.now)) < 3 }
+    ensures { tail.new ≡ tail.old ++ block_if (option_map cell_of cell.now) }
+{
+    if let Some(Cell::Block(block)) = cell {
+        tail.add(block);
+    }
+}
+
+/// Takes a row from a directory down to the child that comes first for it, with the blocks behind the
+/// child that are held. Tells where the row is carried then.
+fn step(
+    parent: &mut Block,
+    child: &mut Block,
+    first: &Option<Cell>,
+    second: &Option<Cell>,
+    fresh: &mut Option<Cell>,
+    purse: &mut Purse,
+    boxes: &mut Boxes,
+    h: &Hierarchy,
+    row: &Row,
+) -> u32
+    requires { CanStep h.now row.now parent.old child.old (blocks_if (option_map cell_of first.now) (option_map cell_of second.now)) purse.old.spares boxes.old }
+    ensures { (place : ℕ)
+        × IsPick h.now row.now.at (map (λ e. e.set) (entries_in parent.old.body)) place
+        × ((other : ℕ) → IsPick h.now row.now.at (map (λ e. e.set) (entries_in parent.old.body)) other → other ≡ place)
+        × WentDown h.now row.now place (blocks_if (option_map cell_of first.now) (option_map cell_of second.now))
+        parent.old parent.new child.old child.new purse.old purse.new
+        (option_map cell_of fresh.old) (option_map cell_of fresh.new) boxes.old boxes.new result }
+{
+    let lineages = h.lineages(&row.at);
+    let place = pick(parent, h, &lineages);
+    let mut tail = Tail::none();
+    add_behind(&mut tail, first);
+    add_behind(&mut tail, second);
+    boxes.step_down(parent, place, child, &tail, fresh, purse, h, row)
+}
+
+/// Takes the row that the actor carries down to the child that comes first for it, of which the head is
+/// divided where it is full. Then the next two blocks of its group are lent too, as many as there are,
+/// and the cell of the last spare is held for the new block. Takes no memory.
+pub fn down(
+    h: &Hierarchy,
+    parent_at: u32,
+    parent: &mut Cell,
+    child_at: u32,
+    child: &mut Cell,
+    first_at: u32,
+    first: &Option<Cell>,
+    second_at: u32,
+    second: &Option<Cell>,
+    fresh_at: u32,
+    fresh: &mut Option<Cell>,
+    actor: &mut Actor,
+)
+    requires here { IsHere h.now (held parent_at (cell_of parent.old) ∷ held child_at (cell_of child.old)
+        ∷ two_if first_at (option_map cell_of first.now) second_at (option_map cell_of second.now) ++ held_if fresh_at (option_map cell_of fresh.old)) (actor_of actor.old) }
+    requires due { CanDown h.now parent_at (cell_of parent.old) child_at (cell_of child.old)
+        (two_if first_at (option_map cell_of first.now) second_at (option_map cell_of second.now)) (held_if fresh_at (option_map cell_of fresh.old)) (actor_of actor.old) }
+    ensures made { Makes h.now Down (change parent_at (cell_of parent.old) (cell_of parent.new) ∷ change child_at (cell_of child.old) (cell_of child.new)
+        ∷ two_if first_at (option_map cell_of first.now) second_at (option_map cell_of second.now)
+        ++ change_if fresh_at (option_map cell_of fresh.old) (option_map cell_of fresh.new)) (actor_of actor.old) (actor_of actor.new) }
+    ensures held { is_some fresh.new ≡ is_some fresh.old }
+{
+    frame_law();
+    collect_laws();
+    insert_laws();
+    tree_laws();
+    let Some(errand) = &actor.errand else {
+        unreachable!()
+    };
+    let Task::Row(going) = &errand.task else {
+        unreachable!()
+    };
+    let Way::Carried { gate, .. } = going.way else {
+        unreachable!()
+    };
+    let Cell::Block(parent) = parent else {
+        unreachable!()
+    };
+    let Cell::Block(child) = child else {
+        unreachable!()
+    };
+    let block = step(
+        parent,
+        child,
+        first,
+        second,
+        fresh,
+        &mut actor.purse,
+        &mut actor.boxes,
+        h,
+        &going.row,
+    );
+    go_on(&mut actor.errand, Way::Carried { gate, block });
+}
