@@ -1,8 +1,10 @@
-ghost use Rattle.std.specs.Prelude.{◌≡◌, ◌+◌, ◌≤◌, length, All, IfOk, OnOk};
+ghost use Rattle.std.specs.Prelude.{◌≡◌, ◌+◌, ◌^◌, ◌<◌, ◌≤◌, length, All, IfOk, IfSome, OnOk};
+ghost use Rattle.std.specs.Option.{option_copied};
 ghost use Rattle.dim_hierarchy.specs.Row.{IsRowOf};
 ghost use Rattle.describing_set.specs.DescSet.{IsDescSetOf};
 ghost use Rattle.dc_node.specs.Block.{IsBodyOf};
 ghost use Rattle.dc_node.specs.Summary.{row_count};
+ghost use Rattle.link_descent.specs.Divide.{together};
 ghost use Rattle.link_descent.specs.Room.{HasRoom};
 
 use crate::{Fresh, Tail, enter_root, pick, put_leaf, step_down};
@@ -68,13 +70,14 @@ fn hierarchy(alloc: Global) -> Result<Hierarchy, Fail>
     Ok(h)
 }
 
-/// For each dimension how many of its leaf concepts the rows have, and a step from row to row.
-type Shape = [(u8, u64); 3];
+/// For each dimension how many of its leaf concepts the rows have, how many rows in turn have the
+/// same one, and a step from one concept to the next.
+type Shape = [(u8, u64, u64); 3];
 
 /// The name of a row's concept in a dimension.
-fn name(alloc: Global, places: (u8, u64), no: u64) -> Result<Name, AllocError> {
-    let (count, step) = places;
-    let place = (no.wrapping_mul(step) % u64::from(count.clamp(1, 48))) as u8;
+fn name(alloc: Global, places: (u8, u64, u64), no: u64) -> Result<Name, AllocError> {
+    let (count, turn, step) = places;
+    let place = ((no / turn.max(1)).wrapping_mul(step) % u64::from(count.clamp(1, 48))) as u8;
     Name::from_bytes(alloc, &[b'A' + place / 8, b'a' + place % 8])
 }
 
@@ -163,6 +166,53 @@ fn put_fresh(blocks: &mut Vec<Block>, h: &Hierarchy, fresh: ArrayVec<Fresh, 2>) 
     Ok(())
 }
 
+/// The block that stands behind a block, if the group goes on behind it.
+fn behind<'a>(
+    blocks: &'a [Block],
+    h: &Hierarchy,
+    block: &Block,
+    stamp: u64,
+) -> Result<Option<&'a Block>, Fail>
+    requires { All (λ b. IsBodyOf h.now b.body) blocks.now }
+    ensures valid { IfOk result (λ found. IfSome (option_copied found) (λ b. IsBodyOf h.now b.body)) }
+    ensures few { IfOk result (λ found. IfSome (option_copied found) (λ b. row_count b.body ≤ 16_000_032)) }
+{
+    if block.stamp == stamp {
+        return Ok(None);
+    }
+    let cell = block.right.ok_or("a link to the right")? as usize;
+    if cell >= blocks.len() {
+        return Err("no such cell".into());
+    }
+    count_beneath(&blocks[cell])?;
+    Ok(Some(&blocks[cell]))
+}
+
+/// What stands behind a head, where it is full. Refused where a block's entry has above a million.
+fn tail_of<'a>(
+    blocks: &'a [Block],
+    h: &Hierarchy,
+    head: &Block,
+    stamp: u64,
+) -> Result<Tail<'a>, Fail>
+    requires { All (λ b. IsBodyOf h.now b.body) blocks.now }
+    ensures valid { IfOk result (All (λ b. IsBodyOf h.now b.body)) }
+    ensures few { IfOk result (λ tail. row_count (together head.now.body tail) + 1 < 2 ^ 63) }
+{
+    count_beneath(head)?;
+    let mut tail = Tail::none();
+    if !head.is_full() {
+        return Ok(tail);
+    }
+    if let Some(first) = behind(blocks, h, head, stamp)? {
+        tail.add(first);
+        if let Some(second) = behind(blocks, h, first, stamp)? {
+            tail.add(second);
+        }
+    }
+    Ok(tail)
+}
+
 /// Takes a row in at the gate, and tells where it is carried.
 fn enter(
     gate: &mut Gate,
@@ -186,9 +236,9 @@ fn enter(
     }
     let cell = gate.root;
     let mut root = lift(blocks, h, cell)?;
-    count_beneath(&root)?;
+    let tail = tail_of(blocks.as_slice(), h, &root, gate.stamp)?;
     blanks.refill(3)?;
-    let entered = enter_root(gate, &mut root, &Tail::none(), purse, blanks, h, row);
+    let entered = enter_root(gate, &mut root, &tail, purse, blanks, h, row);
     put(blocks, h, cell, root)?;
     put_fresh(blocks, h, entered.fresh)?;
     Ok(entered.at)
@@ -214,10 +264,10 @@ fn down(
     let place = pick(&parent, h, &h.lineages(&row.at));
     count_beneath(&parent)?;
     let cell = parent.entries()[usize::from(place)].child;
+    let stamp = parent.entries()[usize::from(place)].stamp;
     let mut child = lift(blocks, h, cell)?;
-    count_beneath(&child)?;
+    let tail = tail_of(blocks.as_slice(), h, &child, stamp)?;
     blanks.refill(2)?;
-    let tail = Tail::none();
     let entered = step_down(&mut parent, place, &mut child, &tail, purse, blanks, h, row);
     put(blocks, h, at, parent)?;
     put(blocks, h, cell, child)?;
@@ -375,15 +425,18 @@ fn grown(alloc: Global, shape: &Shape, count: u64) -> Result<(u32, usize), Fail>
 
 #[test]
 fn few_rows(rt: HostRuntime) -> Result<(), Fail> {
-    let one: Shape = [(1, 1); 3];
-    let two: Shape = [(2, 1), (1, 1), (1, 1)];
-    let cases: [(Shape, u64, (u32, usize)); 6] = [
+    let one: Shape = [(1, 1, 1); 3];
+    let two: Shape = [(2, 1, 1), (1, 1, 1), (1, 1, 1)];
+    let turns: Shape = [(2, 33, 1), (1, 1, 1), (1, 1, 1)];
+    let cases: [(Shape, u64, (u32, usize)); 8] = [
         (one, 0, (1, 1023)),
         (one, 32, (1, 1023)),
         (one, 33, (1, 1022)),
         (two, 32, (1, 1023)),
         (two, 33, (2, 1021)),
         (two, 66, (2, 1019)),
+        (turns, 48, (1, 1022)),
+        (turns, 49, (2, 1020)),
     ];
     for (shape, count, found) in cases {
         assert_eq!(rt; grown(rt.alloc(), &shape, count)?, found);
@@ -393,10 +446,10 @@ fn few_rows(rt: HostRuntime) -> Result<(), Fail> {
 
 #[test]
 fn many_rows(rt: HostRuntime) -> Result<(), Fail> {
-    let one: Shape = [(1, 1); 3];
-    let two: Shape = [(2, 1), (1, 1), (1, 1)];
-    let many: Shape = [(48, 7), (1, 1), (1, 1)];
-    let three: Shape = [(48, 7), (48, 11), (48, 17)];
+    let one: Shape = [(1, 1, 1); 3];
+    let two: Shape = [(2, 1, 1), (1, 1, 1), (1, 1, 1)];
+    let many: Shape = [(48, 1, 7), (1, 1, 1), (1, 1, 1)];
+    let three: Shape = [(48, 1, 7), (48, 1, 11), (48, 1, 17)];
     let found = [
         grown(rt.alloc(), &one, 5000)?,
         grown(rt.alloc(), &two, 5000)?,
@@ -404,5 +457,19 @@ fn many_rows(rt: HostRuntime) -> Result<(), Fail> {
         grown(rt.alloc(), &three, 5000)?,
     ];
     assert_eq!(rt; found, [(1, 712), (2, 711), (3, 729), (3, 729)]);
+    Ok(())
+}
+
+#[test]
+fn many_rows_in_turns(rt: HostRuntime) -> Result<(), Fail> {
+    let two: Shape = [(2, 33, 1), (1, 1, 1), (1, 1, 1)];
+    let many: Shape = [(48, 33, 7), (1, 1, 1), (1, 1, 1)];
+    let three: Shape = [(48, 33, 7), (48, 20, 11), (48, 50, 17)];
+    let found = [
+        grown(rt.alloc(), &two, 5000)?,
+        grown(rt.alloc(), &many, 5000)?,
+        grown(rt.alloc(), &three, 5000)?,
+    ];
+    assert_eq!(rt; found, [(2, 712), (3, 714), (3, 752)]);
     Ok(())
 }
