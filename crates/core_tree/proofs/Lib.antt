@@ -12,3 +12,5 @@ pub mod Outcomes
 pub mod QuerySteps
 pub mod Walkers
 pub mod VisitsBlock
+pub mod ReadsGate
+pub mod GateDue

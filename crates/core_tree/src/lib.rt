@@ -2,7 +2,9 @@
 #![tactic(auto)]
 
 mod puts;
+mod reads;
 mod visits;
 
 pub use puts::put_in_leaf;
+pub use reads::gate_read;
 pub use visits::block_visit;
