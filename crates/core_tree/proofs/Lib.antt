@@ -23,3 +23,5 @@ pub mod Walkers
 pub mod VisitsBlock
 pub mod Tallies
 pub mod Exchanges
+pub mod ReadsGate
+pub mod GateDue

@@ -1,13 +1,27 @@
 -- What the steps of a query's part ask of the cells that they are given and of their actor, beyond that they are those of a
 -- state; and what their inner functions ask and do.
 use Rattle.std.specs.Prelude.{ℕ, ◌≡◌, ◌≢◌, ◌+◌, ◌<◌, ◌^◌, List, [], ◌∷◌, ◌++◌, Option, Some, None, IsSome}
+use Rattle.std.specs.FinMap as map
+use Rattle.std.specs.Ordering.{nat_cmp}
+use Rattle.dim_hierarchy.specs.Compiled.{compiled}
+use Rattle.dim_hierarchy.specs.Dimension.{Dimension}
+use Rattle.dim_hierarchy.specs.Filter.{IsFilterOf}
+use Rattle.dim_hierarchy.specs.declared.filter.Pick.{Pick}
+use Rattle.describing_set.specs.DescSet.{IsDescSetOf}
 use Rattle.dc_node.specs.Block.{IsBodyOf}
 use Rattle.dc_node.specs.Summary.{row_count}
 use Rattle.dc_node.specs.declared.block.Block.{Block}
 use Rattle.dc_node.specs.declared.todo.Item.{Item}
+use Rattle.link_descent.specs.GateRead.{queue_part, tree_part, root_items}
 use Rattle.link_descent.specs.Visit.{noted_in, noted_right, counted}
+use Rattle.mapping_table.specs.declared.place.Where.{Where}
+use Rattle.mapping_table.specs.declared.place.Where.TheVariants as where_is
 use Rattle.measure_agg.specs.Aggregate.{join}
-use Rattle.volap_cell.specs.Values.{ActorValue, ErrandValue, ReadingValue, Read}
+use Rattle.shard_store.specs.Gate.{IsQueueOf}
+use Rattle.shard_store.specs.declared.gate.Gate.{Gate}
+use Rattle.volap_cell.specs.Cells.{CellValue, MapCell}
+use Rattle.volap_cell.specs.TreeKinds.{one_if_some, pin_if}
+use Rattle.volap_cell.specs.Values.{ActorValue, ErrandValue, ReadingValue, Unread, Read}
 use Rattle.volap_cell.specs.declared.actor.Actor.{Actor}
 use Rattle.volap_cell.specs.declared.errand.Errand.{Errand}
 use Rattle.volap_cell.specs.declared.errand.Task.{Task}
@@ -78,3 +92,45 @@ pub record VisitsFor (block : Block) (before now : ErrandValue) : Type 0 where
   pub reading : before.task ≡ Read r
   pub visits : Visits block r r_now
   pub now_is : now ≡ record before { task = Read r_now }
+
+-- Gates.
+
+-- the actor's query has read no gate, and its shard's worker has the shard at the cell
+pub record CanGateRead (table : CellValue) (gate_at : ℕ) (a : ActorValue) : Type 0 where
+  pub e : ErrandValue
+  pub errand : a.errand ≡ Some e
+  pub filter : List Pick
+  pub unread : e.task ≡ Unread filter
+  pub places : map.FinMap nat_cmp Where
+  pub table_is : table ≡ MapCell e.worker places
+  pub leads : map.get places e.shard ≡ Some (where_is.Gate gate_at)
+
+-- a query with this filter can read the gate, and be pinned there
+pub record CanBegin (h : List Dimension) (gate : Gate) (f : List Pick) : Type 0 where
+  pub filter : IsFilterOf h f
+  pub queue : IsQueueOf h gate.queue
+  pub set : IsDescSetOf h gate.set
+  pub few : gate.queue.agg.count + gate.agg.count < 2 ^ 63
+  pub pins : gate.pins + 1 < 2 ^ 64
+
+-- what it has then
+abbrev pub begun : List Dimension → ℕ → List Pick → Gate → ReadingValue
+begun h gate_at f gate = record {
+  wanted = compiled h f;
+  agg = join (queue_part h f gate.queue) (tree_part h f gate);
+  items = root_items h f gate;
+  pin = pin_if gate_at (root_items h f gate);
+}
+
+-- the same of a part that has read nothing
+
+pub record IsAtGate (h : List Dimension) (gate : Gate) (e : ErrandValue) : Type 0 where
+  pub filter : List Pick
+  pub unread : e.task ≡ Unread filter
+  pub can : CanBegin h gate filter
+
+pub record BeginsFor (h : List Dimension) (gate_at : ℕ) (gate gate_now : Gate) (before now : ErrandValue) : Type 0 where
+  pub filter : List Pick
+  pub unread : before.task ≡ Unread filter
+  pub pinned : gate_now ≡ record gate { pins = gate.pins + one_if_some (root_items h filter gate) }
+  pub now_is : now ≡ record before { task = Read (begun h gate_at filter gate) }

@@ -4,9 +4,11 @@
 mod leaves;
 mod downs;
 mod puts;
+mod reads;
 mod visits;
 
 pub use leaves::leave_tree;
 pub use downs::down;
 pub use puts::put_in_leaf;
+pub use reads::gate_read;
 pub use visits::block_visit;
