@@ -15,3 +15,4 @@ pub mod Remains
 pub mod LeavesTree
 pub mod Tallies
 pub mod Exchanges
+pub mod FillsPurse

@@ -3,6 +3,8 @@
 
 mod leaves;
 mod puts;
+mod refills;
 
 pub use leaves::leave_tree;
 pub use puts::put_in_leaf;
+pub use refills::{give_back, refill};
