@@ -16,3 +16,4 @@ pub mod LeavesTree
 pub mod Tallies
 pub mod Exchanges
 pub mod FillsPurse
+pub mod EntersQueue
