@@ -18,7 +18,7 @@ use Rattle.volap_cell.specs.Placing.{IsLead, IsRouted}
 use Rattle.volap_cell.specs.Setting.{Setting, actor_count, site_in}
 use Rattle.volap_cell.specs.Telling.{IsProgress}
 use Rattle.volap_cell.specs.TreeKinds.{HasRow}
-use Rattle.volap_cell.specs.Values.{ErrandValue, JobValue}
+use Rattle.volap_cell.specs.Values.{ErrandValue, JobValue, ActorValue, OfRow}
 use Rattle.volap_cell.specs.View.{View, row_or, view}
 use Rattle.volap_cell.specs.World.{World}
 use Rattle.volap_cell.specs.declared.command.Command.{Command}
@@ -29,6 +29,14 @@ use Rattle.volap_cell.specs.declared.role.Role.{Role}
 use Rattle.volap_cell.proofs.Actors.{row-at, taken-is}
 use Rattle.volap_cell.proofs.Beginnings.{no-query, row-number}
 use Rattle.volap_cell.proofs.Persons.{has-taken}
+
+-- an actor has one errand and one row
+pub same-row : {a : ActorValue} {e f : ErrandValue} {r q : RowErrand} → HasRow a e r → HasRow a f q → (e ≡ f) × (r ≡ q)
+same-row {a} {e} {f} {r} {q} has also =
+    let errands : ◌≡◌ {A = Option ErrandValue} (Some e) (Some f) = sym has.errand ∙ also.errand in
+    let errand : e ≡ f = cc in
+    let tasks : OfRow r ≡ OfRow q = sym has.row ∙ ap (λ (x : ErrandValue). x.task) errand ∙ also.row in
+    (errand, cc)
 
 -- a shard that stands on a worker stands
 pub on-live : (x w : ℕ) (places : List Place) → list_any (λ (p : Place). is_of x p && (p.worker == w)) places ≡ true → list_any (is_of x) places ≡ true

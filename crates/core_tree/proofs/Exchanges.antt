@@ -1,18 +1,16 @@
 -- An actor without a job gives its spares back, and takes others for them: each cell is free, or is in its purse, as often as before, and
 -- what it takes has stamps that weren't given out. That keeps what the invariant says of cells and stamps.
-use Rattle.std.proofs.Common.{◌≡◌, ◌≢◌, ℕ, ◌+◌, ◌*◌, ◌^◌, ◌<◌, ◌≤◌, Bool, true, false, cond, eqb, leb, List, [], ◌∷◌, ◌++◌, length, Option, Some, None, IsSome, refl, sym, ap, ◌∙◌, subst, ◌⊎◌, inl, inr, arith, append-nil}
+use Rattle.std.proofs.Common.{◌≡◌, ◌≢◌, ℕ, ◌+◌, ◌^◌, ◌<◌, ◌≤◌, Bool, false, cond, eqb, leb, List, [], ◌∷◌, ◌++◌, Option, Some, None, refl, sym, ap, ◌∙◌, subst, ◌⊎◌, inl, inr, arith, append-nil}
 use Rattle.cell_stock.specs.Stock.{AreOut, IsStock, StockValue, cells_of, stamps_of}
 use Rattle.cell_stock.specs.declared.purse.Spare.{Spare}
-use Rattle.dc_node.specs.declared.todo.Item.{Item}
-use Rattle.shard_store.specs.declared.gate.Phase.TheVariants.{Gone}
 use Rattle.tree_shape.specs.Counts.{Each, times}
 use Rattle.tree_shape.specs.Queries.{NoneWaits}
-use Rattle.tree_shape.specs.Shape.{Shape, nodes}
+use Rattle.tree_shape.specs.Shape.{nodes}
 use Rattle.tree_shape.specs.Steps.{AreApart, AreSpares, IsSpare}
 use Rattle.tree_shape.proofs.Divisions.{each-both, each-map}
 use Rattle.tree_shape.proofs.Parts.{each-append, each-here}
 use Rattle.tree_shape.proofs.Visits.{times-append}
-use Rattle.tree_shape.proofs.Walks.{eqb-eq, eqb-ne, eqb-self, on_bool, same_is}
+use Rattle.tree_shape.proofs.Walks.{eqb-eq, eqb-ne, on_bool, same_is}
 use Rattle.tree_shape.proofs.Queries.{leb-gt, leb-le}
 use Rattle.volap_cell.specs.Errands.{AtBlock, RowWay}
 use Rattle.volap_cell.specs.Ghost.{AGate, Ghost, InJob, InPurse, InTree, NotOfStock, Owner, Unused, is_in_job, is_in_purse, is_in_tree, is_unused}
@@ -20,7 +18,7 @@ use Rattle.volap_cell.specs.Invariant.{InvWith}
 use Rattle.volap_cell.specs.Lineage.{Lineage}
 use Rattle.volap_cell.specs.Numbering.{Numbering}
 use Rattle.volap_cell.specs.Setting.{Setting, actor_count, cell_count, first_stock_cell}
-use Rattle.volap_cell.specs.Stocking.{IsWhole, NoneExpects, Stamping, Stocking, all_items, all_spares, cells_at, spent_of}
+use Rattle.volap_cell.specs.Stocking.{IsWhole, Stamping, Stocking, all_items, all_spares, cells_at, spent_of}
 use Rattle.volap_cell.specs.Turning.{Turning}
 use Rattle.volap_cell.specs.Values.{JobValue}
 use Rattle.volap_cell.specs.View.{View, view}
@@ -29,7 +27,7 @@ use Rattle.volap_cell.specs.Working.{IsFrozenFor, Working, IsBuilding}
 use Rattle.volap_cell.proofs.Blanks.{spent-owner}
 use Rattle.volap_cell.proofs.Spares.{among-cells}
 use Rattle.core_tree.proofs.Carriers.{purse-owned}
-use Rattle.core_tree.proofs.Spares.{AreDistinct, apart-sym, each-cell, in-own, other-purse, owner-purse, spares-from}
+use Rattle.core_tree.proofs.Spares.{AreDistinct, each-cell, in-own, other-purse, owner-purse, spares-from}
 use Rattle.core_tree.proofs.Tallies.{all-times, distinct-times, each-differs}
 
 -- between a stock and a purse

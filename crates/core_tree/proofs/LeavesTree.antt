@@ -21,7 +21,7 @@ use Rattle.volap_cell.specs.Steps.{IsKept, Keeps, IsHere, Makes}
 use Rattle.volap_cell.specs.Sums.{sum_below}
 use Rattle.volap_cell.specs.TreeKinds.{DoesLeaveTree, HasRow, on_way}
 use Rattle.volap_cell.specs.Turning.{inside_of, is_inside}
-use Rattle.volap_cell.specs.Values.{ActorValue, ErrandValue, OfRow}
+use Rattle.volap_cell.specs.Values.{ActorValue, ErrandValue}
 use Rattle.volap_cell.specs.View.{View, view}
 use Rattle.volap_cell.specs.Working.{Working}
 use Rattle.volap_cell.specs.World.{Agrees, Change, World, after, held, change}
@@ -37,6 +37,7 @@ use Rattle.volap_cell.proofs.Sums.{sum-changed, sum-some}
 use Rattle.volap_cell.proofs.TreeViews.{by_leave_tree, view-leave_tree}
 use Rattle.volap_cell.proofs.Standings.{live-on}
 use Rattle.core_tree.specs.DueAtGates.{CanLeaveTree}
+use Rattle.core_tree.proofs.Arrivals.{same-row}
 use Rattle.core_tree.proofs.Places.{Passes}
 use Rattle.core_tree.proofs.Remains.{IsStepOf, control-same, gates-changed, rows-changed}
 use Rattle.core_tree.proofs.Rests.{row-was, turning-rested}
@@ -244,14 +245,6 @@ leave-keeps h c a b d s w n g about i ag sight =
     leave-kept c b s w n g i (record { cells = ag.cells; actor_is = refl; free = λ x ne. ag.free x ne }) (subst (λ (z : ActorValue). DoesLeaveTree c z b) (sym ag.actor_is) d)
 
 -- The call.
-
--- an actor has one errand and one row
-pub same-row : {a : ActorValue} {e f : ErrandValue} {r q : RowErrand} → HasRow a e r → HasRow a f q → (e ≡ f) × (r ≡ q)
-same-row {a} {e} {f} {r} {q} has also =
-    let errands : ◌≡◌ {A = Option ErrandValue} (Some e) (Some f) = sym has.errand ∙ also.errand in
-    let errand : e ≡ f = cc in
-    let tasks : OfRow r ≡ OfRow q = sym has.row ∙ ap (λ (x : ErrandValue). x.task) errand ∙ also.row in
-    (errand, cc)
 
 -- what it did, where it was given the gate at which its actor's insert is counted
 pub leave-makes : (h : List Dimension) (at : ℕ) (cell : CellValue) (gate now : Gate) (a b : ActorValue) (e : ErrandValue) (r : RowErrand) → CanLeaveTree at a → cell ≡ GateCell gate → HasRow a e r

@@ -25,3 +25,5 @@ pub mod Tallies
 pub mod Exchanges
 pub mod ReadsGate
 pub mod GateDue
+pub mod FillsPurse
+pub mod EntersQueue

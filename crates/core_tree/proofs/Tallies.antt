@@ -1,5 +1,5 @@
 -- Numbers that are counted in a list.
-use Rattle.std.proofs.Common.{◌≡◌, ℕ, ◌+◌, ◌≤◌, ◌<◌, Bool, true, false, eqb, List, [], ◌∷◌, map, refl, sym, All, Contains, arith, inl, inr, ap, ◌≢◌, ◌∙◌}
+use Rattle.std.proofs.Common.{◌≡◌, ℕ, ◌≤◌, false, eqb, List, [], ◌∷◌, map, refl, sym, All, Contains, arith, inl, inr, ap, ◌≢◌, ◌∙◌}
 use Rattle.std.specs.List.{AllByRecursion, IsDistinct}
 use Rattle.std.proofs.lemmas.List.Elements.{All-cons, All-nil}
 use Rattle.row_ledger.proofs.Elements.{Contains-nil}

@@ -1,7 +1,11 @@
 -- What the steps of rows at gates and of purses ask of the cells that they are given and of their actor, beyond that they are those of a state.
-use Rattle.std.specs.Prelude.{ℕ, ◌≡◌}
+use Rattle.std.specs.Prelude.{ℕ, ◌≡◌, ◌≢◌, ◌+◌, ◌*◌, ◌^◌, ◌<◌, ◌≤◌, ◌⊎◌, false, [], Some, None, length}
+use Rattle.cell_stock.specs.Stock.{Gives, PurseValue, StockValue, Takes}
+use Rattle.volap_cell.specs.Cells.{CellValue, TheStock, tag_of}
+use Rattle.volap_cell.specs.Errands.{height_of, height_to_fill, is_filled}
 use Rattle.volap_cell.specs.TreeKinds.{HasRow}
 use Rattle.volap_cell.specs.Values.{ActorValue, ErrandValue}
+use Rattle.volap_cell.specs.World.{MustKeep}
 use Rattle.volap_cell.specs.declared.errand.RowErrand.{RowErrand}
 use Rattle.volap_cell.specs.declared.errand.Way.TheVariants.{Put}
 
@@ -11,3 +15,33 @@ pub record CanLeaveTree (at : ℕ) (a : ActorValue) : Type 0 where
   pub r : RowErrand
   pub has : HasRow a e r
   pub put : r.way ≡ Put at
+
+-- Purses.
+
+-- for the actor's row a height was looked up by which its purse isn't filled yet; the cell is the stock's
+pub record CanRefill (stock : CellValue) (a : ActorValue) : Type 0 where
+  pub stock_is : tag_of stock ≡ TheStock
+  pub no_job : a.job ≡ None
+  pub e : ErrandValue
+  pub r : RowErrand
+  pub has : HasRow a e r
+  pub height : ℕ
+  pub noted : height_of r.way ≡ Some height
+  pub unfilled : is_filled r.way ≡ false
+
+-- there is something in the actor's purse, it carries no row, and no row of its is to come in
+pub record CanGiveBack (stock : CellValue) (a : ActorValue) : Type 0 where
+  pub stock_is : tag_of stock ≡ TheStock
+  pub no_job : a.job ≡ None
+  pub some : a.purse ≢ []
+  pub none_to_fill : height_to_fill a.errand ≡ None
+  pub none_carried : (y : ℕ) → ¬ MustKeep a y
+
+-- the purse was emptied into the stock, and n spares were taken where so many cells were free then; there are boxes for their blocks
+pub record IsRefilled (n : ℕ) (stock stock_now : StockValue) (purse purse_now : PurseValue) (boxes : ℕ) : Type 0 where
+  pub emptied : PurseValue
+  pub between : StockValue
+  pub gives : Gives stock between purse emptied
+  pub takes : ((n ≤ length between.free) × Takes n between stock_now emptied purse_now) ⊎ ((length between.free < n) × (stock_now ≡ between) × (purse_now.spares ≡ []))
+  pub stamps : stock_now.stamps < 2 ^ 63
+  pub enough : 2 * length purse_now.spares + 1 ≤ boxes
