@@ -1,14 +1,13 @@
 -- A part that an actor took goes back to its desk, as it is then, or as others in its place: what the invariant keeps.
-use Rattle.std.proofs.Common.{◌≡◌, ◌≢◌, ℕ, ◌+◌, ◌<◌, ◌≤◌, List, [], ◌∷◌, ◌++◌, Bool, true, false, length, eqb, Option, Some, None, refl, sym, ap, subst, ◌∙◌, ◌⊎◌, inl, inr, arith, All, Any, Contains}
+use Rattle.std.proofs.Common.{◌≡◌, ◌≢◌, ℕ, ◌+◌, ◌<◌, List, [], ◌∷◌, ◌++◌, true, false, eqb, Option, Some, None, refl, sym, ap, subst, ◌∙◌, ◌⊎◌, inl, inr, arith, All, Any, Contains}
 use Rattle.std.specs.Prelude.{IsSome}
 use Rattle.std.proofs.lemmas.Bool.{false≢true}
-use Rattle.std.proofs.lemmas.List.Elements.{All-contains, All-weaker, All-cons, All-nil}
+use Rattle.std.proofs.lemmas.List.Elements.{All-weaker, All-cons, All-nil}
 use Rattle.query_router.specs.Desk.{DeskValue, is_open, is_refused, is_taken, is_with}
 use Rattle.query_router.specs.declared.part.Part.{Part}
 use Rattle.query_router.specs.declared.part.PartState.{PartState}
 use Rattle.query_router.specs.declared.part.PartState.TheVariants as state
 use Rattle.row_ledger.specs.Past.{Insert, Query, insert_at, query_at}
-use Rattle.tree_shape.specs.Counts.{Each}
 use Rattle.tree_shape.proofs.Divisions.{each-map}
 use Rattle.tree_shape.proofs.Parts.{each-right}
 use Rattle.tree_shape.proofs.Walks.{on_bool, eqb-eq, eqb-ne}
@@ -25,7 +24,6 @@ use Rattle.volap_cell.specs.Placing.{Inserting, IsRowPart, NobodyAt, Placing}
 use Rattle.volap_cell.specs.Querying.{IsCounted, IsEndOfPart, IsReading, Pinning, Querying, must_hold, pins_of}
 use Rattle.volap_cell.specs.Setting.{Setting, actor_count}
 use Rattle.volap_cell.specs.Stocking.{IsWhole, Stamping, Stocking, all_items, all_spares, items_of_job, items_of_read}
-use Rattle.volap_cell.specs.Sums.{sum_below}
 use Rattle.volap_cell.specs.Turning.{Turning, inside_of, is_inside}
 use Rattle.volap_cell.specs.Values.{ErrandValue}
 use Rattle.volap_cell.specs.View.{View}
@@ -33,7 +31,7 @@ use Rattle.volap_cell.proofs.DeskParts.{TurnsParts, by-desk, leading-turned, op-
 use Rattle.volap_cell.proofs.Fields.{IsNewAt}
 use Rattle.volap_cell.proofs.GrowsReads.{ReadersTake}
 use Rattle.volap_cell.proofs.PartFacts.{others-apart, others-part, with-parts}
-use Rattle.volap_cell.proofs.PartLists.{all-exchanged, alone, any-of, apart-exchanged, new-now, old-was, others-now, others-was, some-of, was-cases}
+use Rattle.volap_cell.proofs.PartLists.{alone, any-of, apart-exchanged, new-now, others-now, some-of, was-cases}
 use Rattle.volap_cell.proofs.Persons.{has-taken}
 use Rattle.volap_cell.proofs.Sums.{sum-changed, sum-kept}
 
@@ -76,7 +74,7 @@ module _ (s : Setting) (v : View) (g : Ghost) (i : InvWith s v g) (readers : Rea
   few : n < actor_count s
   few = has-taken s v i.numbering n (taken_by e) k.taken.was_there
 
-  pub its-place : IsAtPart s v.history v.desks (taken_by e)
+  abbrev pub its-place : IsAtPart s v.history v.desks (taken_by e)
   its-place = i.desking.at_parts n (taken_by e) k.taken.was_there
 
   within : e.server < s.servers

@@ -1,7 +1,6 @@
 -- A part that waited is taken from its desk by an actor that has none: what the invariant keeps.
-use Rattle.std.proofs.Common.{◌≡◌, ◌≢◌, ℕ, ◌<◌, List, [], ◌∷◌, ◌++◌, Bool, true, false, eqb, Option, Some, None, refl, sym, ap, subst, ◌∙◌, ◌⊎◌, inl, inr, arith, All, Any, Contains, option_and_then, ◌==◌, ◌&&◌, ◌||◌}
+use Rattle.std.proofs.Common.{◌≡◌, ◌≢◌, ℕ, ◌<◌, List, [], ◌∷◌, ◌++◌, true, false, eqb, Option, Some, None, refl, sym, ap, subst, ◌∙◌, ◌⊎◌, inl, inr, arith, All, Any, Contains, option_and_then, ◌||◌}
 use Rattle.std.specs.Prelude.{IsSome}
-use Rattle.std.specs.Option.{option_map_or}
 use Rattle.std.proofs.lemmas.Bool.{eq-eqb, false≢true}
 use Rattle.std.proofs.lemmas.List.Elements.{All-contains, All-weaker, All-cons, All-nil}
 use Rattle.dim_hierarchy.specs.declared.row.Row.{Row}
@@ -12,26 +11,24 @@ use Rattle.query_router.specs.declared.part.PartState.{PartState}
 use Rattle.query_router.specs.declared.part.PartState.TheVariants as state
 use Rattle.query_router.specs.declared.part.Want.{Want}
 use Rattle.query_router.specs.declared.part.Want.TheVariants as want
-use Rattle.row_ledger.specs.Past.{Ack, Insert, Query, acked, event_at, insert_at, query_at, session_in}
+use Rattle.row_ledger.specs.Past.{event_at, insert_at, query_at, session_in}
 use Rattle.row_ledger.proofs.Elements.{Contains-nil}
-use Rattle.tree_shape.specs.Queries.{fits}
 use Rattle.tree_shape.proofs.Walks.{on_bool, eqb-eq, eqb-ne}
 use Rattle.volap_cell.specs.Desking.{AreLinesApart, Desking, IsAtPart, IsInsertState, IsQueryState, IsTaken, IsWantOf, AreUnrelated, is_on_desk}
-use Rattle.volap_cell.specs.Errands.{Outside, ReadPart, RowPlace, RowWay, Taken, gate_entered, taken_by, way_in_task}
+use Rattle.volap_cell.specs.Errands.{Outside, RowPlace, RowWay, Taken, gate_entered, taken_by, way_in_task}
 use Rattle.volap_cell.specs.Ghost.{Ghost}
-use Rattle.volap_cell.specs.Growing.{IsUnder, table_of}
+use Rattle.volap_cell.specs.Growing.{IsUnder}
 use Rattle.volap_cell.specs.ImageKinds.{doing}
 use Rattle.volap_cell.specs.Invariant.{InvWith}
 use Rattle.volap_cell.specs.Lineage.{Leading}
 use Rattle.volap_cell.specs.Numbering.{Numbering}
 use Rattle.volap_cell.specs.Owing.{Owing}
 use Rattle.volap_cell.specs.Placing.{Inserting, IsOnWay, IsRowPart, NobodyAt, Placing}
-use Rattle.volap_cell.specs.Querying.{IsCounted, IsEndOfPart, IsReading, Querying, must_hold}
+use Rattle.volap_cell.specs.Querying.{IsCounted, IsEndOfPart, Querying}
 use Rattle.volap_cell.specs.Setting.{Setting, actor_count}
 use Rattle.volap_cell.specs.ShardKinds.{errand_for, task_for}
-use Rattle.volap_cell.specs.Sums.{sum_below}
 use Rattle.volap_cell.specs.Turning.{Turning, inside_of}
-use Rattle.volap_cell.specs.Values.{ErrandValue, OfRow, Unread}
+use Rattle.volap_cell.specs.Values.{ErrandValue}
 use Rattle.volap_cell.specs.View.{View}
 use Rattle.volap_cell.specs.declared.command.Command.{Command}
 use Rattle.volap_cell.specs.declared.command.Work.TheVariants as work_is
@@ -39,8 +36,8 @@ use Rattle.volap_cell.specs.declared.role.Role.TheVariants.{Admin}
 use Rattle.volap_cell.proofs.Beginnings.{no-query}
 use Rattle.volap_cell.proofs.DeskParts.{TurnsParts, by-desk, leading-turned, op-same, owing-turned, parts-turned}
 use Rattle.volap_cell.proofs.Fields.{IsNewAt}
-use Rattle.volap_cell.proofs.PartFacts.{IsInsertHere, IsQueryHere, insert-server, on-desk, others-apart, others-part, with-parts}
-use Rattle.volap_cell.proofs.PartLists.{Contains-one, apart-others, all-of, alone, any-of, apart-exchanged, new-now, old-was, others-now, others-was, some-of, was-cases}
+use Rattle.volap_cell.proofs.PartFacts.{insert-server, on-desk, others-apart, others-part, with-parts}
+use Rattle.volap_cell.proofs.PartLists.{Contains-one, apart-others, alone, any-of, apart-exchanged, old-was, others-now, some-of, was-cases}
 use Rattle.volap_cell.proofs.Sums.{sum-kept}
 
 -- The step, without the cells: of an actor that is there, and isn't the administrator.

@@ -1,5 +1,5 @@
 -- What is left after a step by which an actor's errand changes, and a part of a desk gives way to others: each of the four numbers.
-use Rattle.std.proofs.Common.{◌≡◌, ℕ, ◌+◌, ◌<◌, List, ◌∷◌, ◌++◌, Option, Some, None, refl, sym, ap, ◌∙◌, arith}
+use Rattle.std.proofs.Common.{◌≡◌, ℕ, ◌+◌, ◌<◌, List, ◌∷◌, ◌++◌, Option, Some, None, refl, ap, arith}
 use Rattle.std.specs.Prelude.{sum_by}
 use Rattle.query_router.specs.Desk.{DeskValue}
 use Rattle.query_router.specs.declared.part.Part.{Part}

@@ -3,3 +3,7 @@ pub mod GoesBack
 pub mod LeftOver
 pub mod TakesPart
 pub mod TakenReady
+pub mod BackFacts
+pub mod EndsPart
+pub mod FinishesPart
+pub mod FinishReady

@@ -1,5 +1,5 @@
 -- The call that takes a part: what its inner functions ask, and what it did.
-use Rattle.std.proofs.Common.{◌≡◌, ℕ, List, [], ◌∷◌, true, Option, Some, None, refl, sym, ap, subst, ◌∙◌}
+use Rattle.std.proofs.Common.{◌≡◌, ℕ, List, [], ◌∷◌, true, Option, Some, refl, sym, ap, subst, ◌∙◌}
 use Rattle.std.specs.Prelude.{IfSome, IsTrue, position, slice_get, slice_set}
 use Rattle.dim_hierarchy.specs.Dimension.{Dimension}
 use Rattle.query_router.specs.Desk.{DeskValue, IsAt, is_waiting, state_waits, taken_from}

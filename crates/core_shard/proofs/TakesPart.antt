@@ -1,6 +1,6 @@
 -- A part is taken: the invariant holds still, and less is left.
-use Rattle.std.proofs.Common.{◌≡◌, ◌≢◌, ℕ, ◌+◌, ◌*◌, ◌-◌, ◌<◌, ◌≤◌, List, [], ◌∷◌, ◌++◌, Bool, true, false, take, drop, Option, Some, None, refl, sym, ap, subst, ◌∙◌, inl, inr, arith, ◌==◌, ◌&&◌, ◌||◌, All, Contains, eqb-true}
-use Rattle.std.specs.Prelude.{IsSome, slice_get, slice_set, sum_by}
+use Rattle.std.proofs.Common.{◌≡◌, ◌≢◌, ℕ, ◌+◌, ◌*◌, ◌-◌, ◌<◌, ◌≤◌, List, [], ◌∷◌, true, take, drop, Option, Some, None, refl, sym, ap, subst, ◌∙◌, inl, inr, arith, ◌==◌, ◌||◌, Contains, eqb-true}
+use Rattle.std.specs.Prelude.{IsSome, slice_set}
 use Rattle.std.proofs.lemmas.Bool.{and_parts}
 use Rattle.std.proofs.lemmas.List.Elements.{All-contains}
 use Rattle.std.proofs.lemmas.Nat.{mul-le}
@@ -12,7 +12,7 @@ use Rattle.query_router.specs.declared.part.PartState.TheVariants as state
 use Rattle.query_router.specs.declared.part.Want.{Want}
 use Rattle.query_router.specs.declared.part.Want.TheVariants as want
 use Rattle.row_ledger.specs.declared.event.Event.{Event}
-use Rattle.volap_cell.specs.Errands.{ReadPart, read_in_task, read_of, taken_of, way_of, taken_by, way_in_task}
+use Rattle.volap_cell.specs.Errands.{read_in_task, read_of, taken_of, way_of}
 use Rattle.volap_cell.specs.Falls.{GoesOn, far, gates_of_errand, gates_of_part, gates_of_state, left, per_query, queries_of_errand, queries_of_state, rows_of_errand, rows_of_part}
 use Rattle.volap_cell.specs.Ghost.{Ghost}
 use Rattle.volap_cell.specs.Invariant.{InvWith}
@@ -25,10 +25,9 @@ use Rattle.volap_cell.specs.World.{World, Change, Agrees, after}
 use Rattle.volap_cell.specs.declared.command.Command.{Command}
 use Rattle.volap_cell.specs.declared.kind.Kind.TheVariants.{TakePart}
 use Rattle.volap_cell.specs.declared.role.Role.{Role}
-use Rattle.volap_cell.specs.declared.role.Role.TheVariants.{Admin, Hand, Puller, Session}
+use Rattle.volap_cell.specs.declared.role.Role.TheVariants.{Admin, Hand, Session}
 use Rattle.volap_cell.proofs.Books.{DeskNew, one-desk}
 use Rattle.volap_cell.proofs.DeskParts.{TurnsParts, turned-parts}
-use Rattle.volap_cell.proofs.Fields.{IsNewAt}
 use Rattle.volap_cell.proofs.Frames.{actor-at, actor-off, unmoved}
 use Rattle.volap_cell.proofs.PartLists.{found-at, old-was, place-set, place-splits}
 use Rattle.volap_cell.proofs.PartViews.{view-take_part}
@@ -195,5 +194,5 @@ module _ (d : Change) (b : ActorValue) (s : Setting) (w : World) (n : ℕ) (g : 
   }
 
 pub take-keeps : (h : List Dimension) (d : Change) (a b : ActorValue) (does : DoesTakePart d a b) → Keeps h TakePart (d ∷ []) a b does
-take-keeps h d a b does s w n g same i ag sight =
+take-keeps h d a b does s w n g _ i ag sight =
     take-kept d b s w n g i (record { cells = ag.cells; actor_is = refl; free = λ x ne. ag.free x ne }) (subst (λ (z : ActorValue). DoesTakePart d z b) (sym ag.actor_is) does)

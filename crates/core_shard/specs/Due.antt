@@ -1,13 +1,18 @@
 -- What a kind asks of the cells that it is given and of its actor, beyond that they are those of a state; and what its inner
 -- functions ask.
-use Rattle.std.specs.Prelude.{ℕ, ◌≡◌, None, IsSome, position}
-use Rattle.query_router.specs.Desk.{is_waiting}
+use Rattle.std.specs.Prelude.{ℕ, ◌≡◌, ◌+◌, ◌<◌, ◌⊎◌, Option, Some, None, IsSome, position, slice_set}
+use Rattle.query_router.specs.Desk.{DeskValue, is_with}
 use Rattle.query_router.specs.declared.part.Part.{Part}
 use Rattle.query_router.specs.declared.part.PartState.TheVariants as state
 use Rattle.query_router.specs.declared.part.Want.{Want}
-use Rattle.volap_cell.specs.Cells.{CellValue, DeskOf, desk_in, tag_of}
-use Rattle.volap_cell.specs.ShardKinds.{IsDeskFor, may_take}
-use Rattle.volap_cell.specs.Values.{ActorValue}
+use Rattle.query_router.specs.declared.part.PartState.{PartState}
+use Rattle.shard_store.specs.declared.gate.Gate.{Gate}
+use Rattle.volap_cell.specs.Cells.{CellValue, DeskOf, GateCell, desk_in, tag_of}
+use Rattle.volap_cell.specs.Errands.{Outside, place_of}
+use Rattle.volap_cell.specs.ShardKinds.{IsDeskFor, IsOutcome, may_take, path_in, pin_of}
+use Rattle.volap_cell.specs.Values.{ActorValue, ErrandValue, OfRow, TaskValue}
+use Rattle.volap_cell.specs.declared.errand.Way.{Way}
+use Rattle.volap_cell.specs.declared.errand.Way.TheVariants.{Placed}
 use Rattle.volap_cell.specs.declared.role.Role.{Role}
 use Rattle.volap_cell.specs.declared.role.Role.TheVariants.{Session, Hand}
 
@@ -32,3 +37,70 @@ IsTaker _ = ⊥
 pub record IsWaiting (p : Part) : Type 0 where
   pub wanted : Want
   pub waits : p.state ≡ state.Waiting wanted
+
+-- Ending.
+
+-- a row's part ends where the row is at rest, or before its gate; a query's at any time
+abbrev pub IsEndOfWay : Way → Type 0
+IsEndOfWay w = (w ≡ Placed) ⊎ (place_of w ≡ Outside)
+
+abbrev pub HasEnd : TaskValue → Type 0
+HasEnd (OfRow r) = IsEndOfWay r.way
+HasEnd _ = Unit {0}
+
+-- the gate that is held is the one at which the part is pinned, and none is where it isn't pinned
+abbrev pub IsGateOf : Option ℕ → ℕ → Option CellValue → Type 0
+IsGateOf None gate_at None = Unit {0}
+IsGateOf (Some pinned) gate_at (Some gate) = gate_at ≡ pinned
+IsGateOf _ gate_at _ = ⊥
+
+-- the actor's part can end, and stands on the desk
+pub record CanFinishPart (gate_at : ℕ) (gate : Option CellValue) (desk : CellValue) (a : ActorValue) : Type 0 where
+  pub e : ErrandValue
+  pub errand : a.errand ≡ Some e
+  pub ends : HasEnd e.task
+  pub desk_is : tag_of desk ≡ DeskOf e.server
+  pub gate_of : IsGateOf (pin_of e.task) gate_at gate
+
+-- a gate with a pin
+pub record IsPinnedGate (cell : CellValue) : Type 0 where
+  pub gate : Gate
+  pub is : cell ≡ GateCell gate
+  pub some : 0 < gate.pins
+
+-- it has one less
+pub record LosesPin (cell cell_now : CellValue) : Type 0 where
+  pub gate : Gate
+  pub gate_now : Gate
+  pub was : cell ≡ GateCell gate
+  pub is : cell_now ≡ GateCell gate_now
+  pub less : gate ≡ record gate_now { pins = gate_now.pins + 1 }
+
+-- where a gate is held
+
+abbrev pub IsPinned : Option CellValue → Type 0
+IsPinned None = Unit {0}
+IsPinned (Some cell) = IsPinnedGate cell
+
+abbrev pub LosesPinIf : Option CellValue → Option CellValue → Type 0
+LosesPinIf None None = Unit {0}
+LosesPinIf (Some cell) (Some cell_now) = LosesPin cell cell_now
+LosesPinIf _ _ = ⊥
+
+-- the errand's part stands on the desk, and can end
+pub record CanEnd (desk : DeskValue) (e : ErrandValue) : Type 0 where
+  pub ends : HasEnd e.task
+  pub found : IsSome (position (is_with e.shard e.worker) desk.parts)
+
+-- a part that has ended, as what became of its errand
+pub record IsEnded (e : ErrandValue) (p : Part) : Type 0 where
+  pub outcome : PartState
+  pub is_outcome : IsOutcome e.task outcome
+  pub part : p ≡ record { shard = e.shard; worker = e.worker; path = path_in e.task; state = outcome }
+
+pub record Ends (e : ErrandValue) (desk desk_now : DeskValue) : Type 0 where
+  pub part : Part
+  pub is_ended : IsEnded e part
+  pub place : ℕ
+  pub found : position (is_with e.shard e.worker) desk.parts ≡ Some place
+  pub puts : desk_now ≡ record desk { parts = slice_set desk.parts place part }

@@ -1,6 +1,9 @@
 //! The steps of parts between desks, tables of shards and gates.
 #![tactic(auto)]
 
+mod errands;
+mod finishes;
 mod takes;
 
+pub use finishes::finish_part;
 pub use takes::take_part;

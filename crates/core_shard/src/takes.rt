@@ -11,6 +11,7 @@ ghost use Rattle.volap_cell.specs.Values.{actor_of, errand_of};
 ghost use Rattle.volap_cell.specs.World.{change, held};
 ghost use Rattle.volap_cell.specs.declared.kind.Kind.TheVariants.{TakePart};
 
+use crate::errands::give;
 use dim_hierarchy::Hierarchy;
 use query_router::{Desk, Part, PartState, Want};
 use volap_cell::{Actor, Cell, Errand, Role, RowErrand, Task, Way};
@@ -78,12 +79,4 @@ fn errand_for(server: u8, part: Part) -> Errand
         worker,
         task,
     }
-}
-
-/// An actor without a part gets one.
-fn give(errand: &mut Option<Errand>, to: Errand)
-    requires none { errand.old ≡ None }
-    ensures given { errand.new ≡ Some to }
-{
-    *errand = Some(to);
 }

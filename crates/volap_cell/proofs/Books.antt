@@ -4,14 +4,16 @@ use Rattle.query_router.specs.Desk.{DeskValue}
 use Rattle.row_ledger.specs.declared.event.Event.{Event}
 use Rattle.server_image.specs.Image.{ImageValue}
 use Rattle.server_image.specs.Registry.{RegistryValue}
-use Rattle.volap_cell.specs.Cells.{RegistryCell, MapOf, DeskOf, ImageOf, TheRegistry, TheLedger, tag_of, desk_in, image_in}
+use Rattle.shard_store.specs.declared.gate.Gate.{Gate}
+use Rattle.volap_cell.specs.Cells.{RegistryCell, OfStock, MapOf, DeskOf, ImageOf, TheRegistry, TheLedger, tag_of, desk_in, image_in, pins_in}
 use Rattle.volap_cell.specs.ImageKinds.{Pushes, TurnsImage}
 use Rattle.volap_cell.specs.Setting.{Setting}
 use Rattle.volap_cell.specs.ShardKinds.{TurnsDesk}
+use Rattle.volap_cell.specs.TreeKinds.{TurnsGate}
 use Rattle.volap_cell.specs.Values.{ActorValue}
 use Rattle.volap_cell.specs.View.{View, view}
 use Rattle.volap_cell.specs.World.{World, Change, after}
-use Rattle.volap_cell.proofs.Fields.{IsNewAt, IsNew, IsPushed, apart-tags, desk-new, image-new, ledger-new, registry-new, pushed-new}
+use Rattle.volap_cell.proofs.Fields.{IsNewAt, IsNew, IsPushed, apart-tags, cell-new, desk-new, image-new, ledger-new, registry-new, pushed-new}
 use Rattle.volap_cell.proofs.Frames.{AreAt}
 use Rattle.volap_cell.proofs.Helds.{AreTagged, held-desk, held-image}
 
@@ -49,6 +51,19 @@ table-desk s w n b tagged m d at worker tag read {server} {old} {new} turns =
     let apart = apart-tags (MapOf worker ∷ DeskOf server ∷ []) w.cells (m ∷ d ∷ []) at (tag, (ap tag_of turns.was, tt)) (((λ e. cc), tt), (tt, tt)) in
     let (lt, here) = held-desk s w tagged d.number server old (at.1.0 ∙ turns.was) in
     (lt, desk-new s w.cells (m ∷ d ∷ []) tagged at apart d (inr (inl refl)) server old new turns (inr (ap desk_in read), (inl refl, tt)))
+
+-- a gate whose pins change, and a desk
+pub gate-desk : (s : Setting) (w : World) (n : ℕ) (b : ActorValue) → AreTagged s w.cells → (g d : Change) → AreAt w.cells (g ∷ d ∷ []) → {gate gate_now : Gate} → TurnsGate gate gate_now g → {server : ℕ} {old new : DeskValue} → TurnsDesk server old new d
+    → (server < s.servers) × DeskNew (view s (after w (g ∷ d ∷ []) n b)) (view s w) server old new × IsNewAt (view s (after w (g ∷ d ∷ []) n b)).pins (view s w).pins g.number gate.pins gate_now.pins
+gate-desk s w n b tagged g d at {gate} {gate_now} gates {server} {old} {new} turns =
+    let cs = g ∷ d ∷ [] in
+    let apart = apart-tags (OfStock ∷ DeskOf server ∷ []) w.cells cs at (ap tag_of gates.was, (ap tag_of turns.was, tt)) (((λ e. cc), tt), (tt, tt)) in
+    let (lt, here) = held-desk s w tagged d.number server old (at.1.0 ∙ turns.was) in
+    let pins = cell-new pins_in w.cells cs at apart g (inl refl) (inl refl, (inr (ap pins_in turns.is ∙ sym (ap pins_in turns.was)), tt)) in (
+      lt,
+      desk-new s w.cells cs tagged at apart d (inr (inl refl)) server old new turns (inr (ap desk_in gates.is ∙ sym (ap desk_in gates.was)), (inl refl, tt)),
+      record { was_there = pins.was_there ∙ ap pins_in gates.was; is_there = pins.is_there ∙ ap pins_in gates.is; elsewhere = pins.elsewhere },
+    )
 
 -- an image and the ledger
 pub image-event : (s : Setting) (w : World) (n : ℕ) (b : ActorValue) → AreTagged s w.cells → (i l : Change) → AreAt w.cells (i ∷ l ∷ []) → {server : ℕ} {old new : ImageValue} → TurnsImage server old new i → {e : Event} {more used seen : ℕ} → Pushes e more used l seen

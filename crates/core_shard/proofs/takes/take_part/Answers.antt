@@ -1,4 +1,4 @@
-use Rattle.std.proofs.Common.{Option, Some, option_map, sym, ap, ◌∙◌, subst, ◌≡◌}
+use Rattle.std.proofs.Common.{Some, option_map, sym, ap, ◌∙◌, subst, ◌≡◌}
 use Rattle.std.specs.Prelude.{position}
 use Rattle.query_router.specs.Desk.{DeskValue, IsAt, is_waiting}
 use Rattle.volap_cell.specs.Cells.{DeskCell, cell_of}
