@@ -17,3 +17,5 @@ pub mod FailsQuery
 pub mod Backed
 pub mod Failing
 pub mod CountsSession
+pub mod Jobs
+pub mod CallsBegin
