@@ -19,3 +19,5 @@ pub mod Failing
 pub mod CountsSession
 pub mod Jobs
 pub mod CallsBegin
+pub mod Hosts
+pub mod NewCommands
