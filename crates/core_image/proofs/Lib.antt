@@ -30,3 +30,7 @@ pub mod FailsQuery
 pub mod Backed
 pub mod Failing
 pub mod CountsSession
+pub mod Jobs
+pub mod CallsBegin
+pub mod Hosts
+pub mod NewCommands
