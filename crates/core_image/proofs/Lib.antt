@@ -18,3 +18,6 @@ pub mod Planned
 pub mod AsksQuery
 pub mod AskedHere
 pub mod Tagged
+pub mod Answered
+pub mod AnswersQuery
+pub mod AnsweredHere

@@ -2,10 +2,12 @@
 #![tactic(auto)]
 
 mod acks;
+mod answers;
 mod filters;
 mod queries;
 mod routes;
 
 pub use acks::ack;
+pub use answers::answer;
 pub use queries::begin_query;
 pub use routes::route;
