@@ -34,3 +34,6 @@ pub mod Jobs
 pub mod CallsBegin
 pub mod Hosts
 pub mod NewCommands
+pub mod Answered
+pub mod AnswersQuery
+pub mod AnsweredHere

@@ -1,5 +1,6 @@
--- What servers know is of the core's hierarchy: boxes are describing sets, and growths have coordinates.
-use Rattle.std.proofs.Common.{ℕ, ◌<◌, List, map, subst, All}
+-- What servers know is of the core's hierarchy: boxes are describing sets, and growths have coordinates. A row that has passed a gate
+-- is the one of its number, and may be counted.
+use Rattle.std.proofs.Common.{◌≡◌, ℕ, ◌<◌, List, true, map, sym, ap, ◌∙◌, subst, All, Contains}
 use Rattle.std.proofs.lemmas.List.Elements.{All-map, All-weaker}
 use Rattle.dim_hierarchy.specs.Row.{IsCoordOf}
 use Rattle.dim_hierarchy.specs.declared.row.Row.{Row}
@@ -7,16 +8,21 @@ use Rattle.describing_set.specs.DescSet.{IsDescSetOf}
 use Rattle.describing_set.specs.declared.listing.Spot.{Spot}
 use Rattle.row_ledger.specs.Bounds.{may}
 use Rattle.row_ledger.specs.Listings.{IsBox}
+use Rattle.row_ledger.specs.Past.{Ack, acked, begun}
+use Rattle.row_ledger.proofs.Elements.{Contains-filter}
+use Rattle.volap_cell.proofs.Beginnings.{row-number}
+use Rattle.volap_cell.proofs.Knowing.{acked-begun}
 use Rattle.server_image.specs.Image.{AreGrowths}
 use Rattle.server_image.specs.Spots.{AreBoxes}
 use Rattle.server_image.specs.declared.image.Growth.{Growth}
 use Rattle.volap_cell.specs.Ghost.{Ghost}
 use Rattle.volap_cell.specs.Imaging.{IsGrowth}
 use Rattle.volap_cell.specs.Invariant.{InvWith}
-use Rattle.volap_cell.specs.Setting.{Setting}
-use Rattle.volap_cell.specs.View.{View, view}
+use Rattle.volap_cell.specs.Setting.{Setting, site_in}
+use Rattle.volap_cell.specs.View.{View, view, row_at, row_or}
 use Rattle.volap_cell.specs.World.{World}
 use Rattle.core_image.proofs.Rows.{row-coords, may-coords}
+use Rattle.core_image.proofs.Widens.{begun-there}
 
 module _ (s : Setting) (w : World) (g : Ghost) (i : InvWith s (view s w) g) where
   abbrev v : View
@@ -42,3 +48,21 @@ module _ (s : Setting) (w : World) (g : Ghost) (i : InvWith s (view s w) g) wher
   image-growths server within =
       let known = i.imaging.image server within in
       All-weaker (IsGrowth s v.history v.row g.placed) (λ (x : Growth). IsCoordOf s.hierarchy x.at) (λ x is. subst (IsCoordOf s.hierarchy) is.at (row-coords s w g i is.number is.is_placed)) (v.images server).growths known.growths
+
+  -- Rows that have passed a gate.
+
+  pub placed-number : (r : ℕ) → g.placed r ≡ true → (row_at v.history r).no ≡ r
+  placed-number r p =
+      let b = i.placing.begun r p in
+      subst (λ (x : Row). x.no ≡ r) (sym (ap row_or b.1)) (row-number (site_in s) g.placed v.history r b.0 i.telling.right.right.each b.1)
+
+  pub placed-usable : (r : ℕ) → g.placed r ≡ true → Contains (may g.placed v.history) (row_at v.history r)
+  placed-usable r p =
+      let b = i.placing.begun r p in
+      let number = placed-number r p in
+      Contains-filter (λ (x : Row). g.placed x.no) (begun v.history) (row_at v.history r)
+      (subst (Contains (begun v.history)) (sym (ap row_or b.1)) (begun-there v.history r b.0 b.1)) (ap g.placed number ∙ p)
+
+  -- an acknowledged row is the one of its number, and has passed a gate
+  pub acked-placed : (k : Ack) → Contains (acked v.history) k → (g.placed k.row.no ≡ true) × (row_at v.history k.row.no ≡ k.row)
+  acked-placed k has = (let there = i.placing.acked_rows k has in (there.0, ap row_or (acked-begun (site_in s) g.placed v.history k i.telling.right.right.each has)))

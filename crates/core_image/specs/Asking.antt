@@ -1,17 +1,21 @@
 -- What a query that begins and one that is answered ask of the cells that they are given and of their actor; and what their inner
 -- functions ask and do.
-use Rattle.std.specs.Prelude.{ℕ, ◌≡◌, ◌+◌, ◌^◌, ◌<◌, List, ◌∷◌, length, map, Some, None}
+use Rattle.std.specs.Prelude.{ℕ, ◌≡◌, ◌+◌, ◌^◌, ◌<◌, List, ◌∷◌, length, map, IsSome, Option, Some, None}
 use Rattle.dim_hierarchy.specs.Dimension.{Dimension}
 use Rattle.dim_hierarchy.specs.Filter.{IsFilterOf}
 use Rattle.dim_hierarchy.specs.declared.filter.Pick.{Pick}
-use Rattle.query_router.specs.Desk.{DeskValue}
+use Rattle.measure_agg.specs.Aggregate.{Aggregate}
+use Rattle.query_router.specs.Desk.{DeskValue, sum_of, verdict_of}
+use Rattle.query_router.specs.declared.part.Verdict.{Verdict}
+use Rattle.query_router.specs.declared.part.Verdict.TheVariants.{Sum}
 use Rattle.row_ledger.specs.LedgerValue.{LedgerValue}
 use Rattle.row_ledger.specs.declared.event.Event.TheVariants as event
 use Rattle.server_image.specs.Image.{ImageValue, planned}
 use Rattle.server_image.specs.Spots.{AreBoxes}
 use Rattle.volap_cell.specs.Cells.{CellValue, DeskOf, ImageOf, TheLedger, tag_of, desk_in}
-use Rattle.volap_cell.specs.ImageKinds.{IsFree, query_part}
+use Rattle.volap_cell.specs.ImageKinds.{IsFree, cleared, doing, query_part}
 use Rattle.volap_cell.specs.Values.{ActorValue}
+use Rattle.volap_cell.specs.declared.command.Work.TheVariants.{Query}
 use Rattle.volap_cell.specs.declared.role.Role.TheVariants.{Session}
 
 -- the actor has nothing to do, its server's desk is empty, and the filter is one of the hierarchy; the image is the server's
@@ -38,3 +42,36 @@ pub record Asks (h : List Dimension) (session server : ℕ) (filter : List Pick)
   pub promised : ledger_now.promised ≡ ledger.promised + 1
   pub few : length ledger_now.history + ledger_now.promised < 2 ^ 31
   pub put : desk_now ≡ record desk { op = Some (length ledger.history); parts = map (query_part filter) (planned h filter image.spots) }
+
+-- Answers.
+
+-- the actor's query stands on its server's desk, and its parts come to a sum
+pub record CanAnswer (desk ledger : CellValue) (a : ActorValue) : Type 0 where
+  pub of : ℕ
+  pub command : a.command ≡ doing of Query
+  pub idle : a.errand ≡ None
+  pub server : ℕ
+  pub role : a.role ≡ Session server
+  pub desk_is : tag_of desk ≡ DeskOf server
+  pub answer : Aggregate
+  pub sum : verdict_of (desk_in desk).parts ≡ Some (Sum answer)
+  pub ledger_is : tag_of ledger ≡ TheLedger
+
+-- a command comes to a sum
+abbrev pub IsSum : Option Verdict → Type 0
+IsSum come = (answer : Aggregate) × (come ≡ Some (Sum answer))
+
+-- the parts on the desk are of a command, and come to a sum that can be counted; and its end is promised
+pub record CanGive (desk : DeskValue) (ledger : LedgerValue) : Type 0 where
+  pub op : IsSome desk.op
+  pub few : (sum_of desk.parts).count < 2 ^ 63
+  pub sum : IsSum (verdict_of desk.parts)
+  pub promised : 0 < ledger.promised
+
+-- the desk is cleared, and the answer is in the ledger
+pub record Gives (of : ℕ) (desk desk_now : DeskValue) (ledger ledger_now : LedgerValue) : Type 0 where
+  pub answer : Aggregate
+  pub sum : verdict_of desk.parts ≡ Some (Sum answer)
+  pub clear : desk_now ≡ cleared desk
+  pub history : ledger_now.history ≡ event.Answered of answer ∷ ledger.history
+  pub promised : ledger_now.promised + 1 ≡ ledger.promised

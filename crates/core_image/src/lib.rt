@@ -3,6 +3,7 @@
 
 mod acks;
 mod begins;
+mod answers;
 mod filters;
 mod counts;
 mod fails;
@@ -15,5 +16,6 @@ pub use begins::begin_insert;
 pub use counts::count_session;
 pub use fails::{fail_query, fail_routed, fail_unrouted};
 pub use notes::{note_refused, note_unknown};
+pub use answers::answer;
 pub use queries::begin_query;
 pub use routes::route;
