@@ -1,3 +1,4 @@
 pub mod Dues
 pub mod Shrinks
 pub mod Ranks
+pub mod Progress

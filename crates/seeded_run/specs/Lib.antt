@@ -3,3 +3,4 @@ pub mod Due
 pub mod Can
 pub mod Laws
 pub mod Ranks
+pub mod Progress

@@ -1,5 +1,6 @@
 //! Laws of what is due, and of what the streams of a phase still have. There is nothing to do at run time.
 ghost use Rattle.seeded_run.specs.Laws.{WholeLaw, RestLaw, IdleLaw, PartLaw, CarrierLaw, WantedLaw, FreeLaw, OrderLaw};
+ghost use Rattle.seeded_run.specs.Progress.{DueLaw};
 ghost use Rattle.seeded_run.specs.Ranks.{RankFallsLaw, StepFallsLaw};
 
 /// A stream has all its commands as the phase begins, and one less whenever one begins.
@@ -30,4 +31,9 @@ pub fn one_steps_in_order()
 pub fn less_is_left()
     ensures rank { RankFallsLaw }
     ensures step { StepFallsLaw }
+{}
+
+/// While an actor isn't idle, or a stream isn't at its end, something is due for somebody.
+pub fn something_is_due()
+    ensures due { DueLaw }
 {}

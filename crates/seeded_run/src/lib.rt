@@ -3,4 +3,7 @@
 
 mod laws;
 
-pub use laws::{idle_actors_wait, less_is_left, one_steps_in_order, parts_go_on, streams_run_out};
+pub use laws::{
+    idle_actors_wait, less_is_left, one_steps_in_order, parts_go_on, something_is_due,
+    streams_run_out,
+};

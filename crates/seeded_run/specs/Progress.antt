@@ -1,0 +1,43 @@
+-- While an actor isn't idle, or a stream isn't at its end, somebody can make a step.
+use Rattle.std.specs.Prelude.{ℕ, ◌≡◌, ◌+◌, ◌<◌, ◌&&◌, Bool, true, false, List, [], ◌∷◌, Some, is_some, length}
+use Rattle.script_form.specs.declared.script.Command.{Command}
+use Rattle.script_form.specs.declared.script.Command.TheVariants.{Query}
+use Rattle.script_form.specs.declared.script.Question.{Question}
+use Rattle.script_run.specs.Phases.{closes}
+use Rattle.volap_cell.specs.Commands.{once_shown}
+use Rattle.volap_cell.specs.Ghost.{Ghost}
+use Rattle.volap_cell.specs.Invariant.{InvWith}
+use Rattle.volap_cell.specs.Setting.{Setting, actor_count}
+use Rattle.volap_cell.specs.Steps.{history_in}
+use Rattle.volap_cell.specs.View.{view}
+use Rattle.volap_cell.specs.World.{World}
+use Rattle.volap_cell.specs.declared.command.Command.{Command as OpenCommand}
+use Rattle.volap_cell.specs.declared.kind.Kind.{Kind}
+use Rattle.volap_cell.specs.declared.role.Role.TheVariants.{Hand, Session}
+use Rattle.seeded_run.specs.Due.{does_nothing, due_by, is_alone, is_empty}
+
+-- What a run of a script keeps: a server has one session; queries are of sessions, hands begin nothing, and one stream at most has a
+-- command next that closes the phase; and a page that isn't shown is next in the history, with everyone else idle.
+pub record IsScriptRun (s : Setting) (w : World) (rest : ℕ → List Command) : Type 0 where
+  pub one : (a b server : ℕ) → (w.actors a).role ≡ Session server → (w.actors b).role ≡ Session server → a ≡ b
+  pub asks : (a : ℕ) (q : Question) (more : List Command) → rest a ≡ Query q ∷ more → (server : ℕ) × ((w.actors a).role ≡ Session server)
+  pub hands : (a worker : ℕ) → (w.actors a).role ≡ Hand worker → rest a ≡ []
+  pub closing : (a b : ℕ) (c d : Command) (cs ds : List Command) → rest a ≡ c ∷ cs → rest b ≡ d ∷ ds → closes c ≡ true → closes d ≡ true → a ≡ b
+  pub pages : (a : ℕ) (c : OpenCommand) → (w.actors a).command ≡ Some c → is_some (once_shown c.work) ≡ true
+      → (is_alone s w rest a ≡ true) × (length (history_in w) ≡ c.of + 1)
+
+-- the actor is idle, and its stream at its end
+abbrev pub is_done : World → (ℕ → List Command) → ℕ → Bool
+is_done w rest a = does_nothing (w.actors a) && is_empty (rest a)
+
+-- something is due for an actor
+pub record SomeDue (s : Setting) (w : World) (rest : ℕ → List Command) : Type 0 where
+  pub actor : ℕ
+  pub within : actor < actor_count s
+  pub kind_is : Kind
+  pub is_due : due_by s w rest actor ≡ Some kind_is
+
+-- While not all are done, something is due for somebody.
+abbrev pub DueLaw : Type 0
+DueLaw = (s : Setting) (w : World) (g : Ghost) (rest : ℕ → List Command) → InvWith s (view s w) g → IsScriptRun s w rest
+    → (a : ℕ) → a < actor_count s → is_done w rest a ≡ false → SomeDue s w rest
