@@ -2,20 +2,20 @@
 #![tactic(auto)]
 
 mod acks;
-mod begins;
 mod answers;
-mod filters;
+mod begins;
 mod counts;
 mod fails;
+mod filters;
 mod notes;
 mod queries;
 mod routes;
 
 pub use acks::ack;
+pub use answers::answer;
 pub use begins::begin_insert;
 pub use counts::count_session;
 pub use fails::{fail_query, fail_routed, fail_unrouted};
 pub use notes::{note_refused, note_unknown};
-pub use answers::answer;
 pub use queries::begin_query;
 pub use routes::route;

@@ -1,16 +1,16 @@
 //! The steps of rows and queries at gates and blocks.
 #![tactic(auto)]
 
-mod leaves;
 mod downs;
+mod leaves;
 mod puts;
 mod reads;
-mod visits;
 mod refills;
+mod visits;
 
-pub use leaves::leave_tree;
 pub use downs::down;
+pub use leaves::leave_tree;
 pub use puts::put_in_leaf;
 pub use reads::gate_read;
-pub use visits::block_visit;
 pub use refills::{give_back, refill};
+pub use visits::block_visit;
