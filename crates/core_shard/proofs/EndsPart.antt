@@ -1,6 +1,6 @@
 -- What an actor's part is at its end: an insert's is placed, with its path, or its row has passed no gate; a query's has counted all that it must.
-use Rattle.std.proofs.Common.{◌≡◌, ℕ, ◌<◌, ◌≤◌, List, [], ◌∷◌, ◌++◌, true, false, Option, Some, None, refl, sym, ap, subst, ◌∙◌, inl, inr, arith, All, Contains, ◌||◌}
-use Rattle.std.specs.Prelude.{IsSome}
+use Rattle.std.proofs.Common.{◌≡◌, ◌≢◌, ℕ, ◌<◌, ◌≤◌, List, [], ◌∷◌, ◌++◌, true, false, Option, Some, None, refl, sym, ap, subst, ◌∙◌, inl, inr, arith, All, Contains, ◌||◌}
+use Rattle.std.specs.Prelude.{IsSome, IsTrue}
 use Rattle.std.proofs.lemmas.Bool.{false≢true}
 use Rattle.std.proofs.lemmas.List.Elements.{All-contains, All-cons, All-nil}
 use Rattle.dc_node.specs.declared.todo.Item.{Item}
@@ -9,7 +9,8 @@ use Rattle.query_router.specs.declared.part.Part.{Part}
 use Rattle.query_router.specs.declared.part.PartState.{PartState}
 use Rattle.query_router.specs.declared.part.PartState.TheVariants as state
 use Rattle.row_ledger.specs.Past.{Insert, Query, insert_at, last_of, query_at}
-use Rattle.row_ledger.specs.Shards.{comes_from}
+use Rattle.row_ledger.specs.Shards.{comes_from, is_path}
+use Rattle.row_ledger.specs.declared.event.Event.{Event}
 use Rattle.tree_shape.specs.Counts.{times}
 use Rattle.tree_shape.specs.Queries.{IsUnfinished, fits}
 use Rattle.tree_shape.specs.Shape.{nodes}
@@ -22,10 +23,12 @@ use Rattle.volap_cell.specs.Invariant.{InvWith}
 use Rattle.volap_cell.specs.Placing.{IsLead, IsRowPart, NobodyAt}
 use Rattle.volap_cell.specs.Querying.{IsCounted, IsEndOfPart, IsInTreeOf, IsReading, IsWalk, must_hold}
 use Rattle.volap_cell.specs.Setting.{Setting}
-use Rattle.volap_cell.specs.ShardKinds.{IsOutcome, path_in}
+use Rattle.volap_cell.specs.ShardKinds.{IsOutcome, path_in, path_left}
 use Rattle.volap_cell.specs.Stocking.{cells_at}
 use Rattle.volap_cell.specs.Values.{ErrandValue, OfRow, Read, ReadingValue, TaskValue, Unread}
 use Rattle.volap_cell.specs.View.{View}
+use Rattle.volap_cell.specs.declared.errand.Way.{Way}
+use Rattle.volap_cell.specs.declared.errand.Way.TheVariants as way
 use Rattle.volap_cell.proofs.Fields.{IsNewAt}
 use Rattle.volap_cell.proofs.PartFacts.{with-parts}
 use Rattle.volap_cell.proofs.PartLists.{Contains-head, Contains-one, any-of, apart-others, old-was}
@@ -39,6 +42,17 @@ closed (OfRow r) outcome (inr refused) = (ap state_waits refused.1, ap state_is_
 closed (Unread f) outcome is = (ap state_waits is, ap state_is_taken is)
 closed (Read r) outcome (inl done) = (ap state_waits done.1, ap state_is_taken done.1)
 closed (Read r) outcome (inr refused) = (ap state_waits refused.1, ap state_is_taken refused.1)
+
+-- a path has a shard
+some-path : (h : List Event) (server : ℕ) (path : List ℕ) → IsTrue (is_path h server path) → path ≢ []
+some-path h server path is none = false≢true (subst (λ (p : List ℕ). IsTrue (is_path h server p)) none is)
+
+-- a row's part that has not passed its gate has its path
+path-outside : (w : Way) (path : List ℕ) → place_of w ≡ Outside → path_left w path ≡ path
+path-outside (way.Before height filled) path is = refl
+path-outside (way.Carried gate block) path is = refl
+path-outside (way.Put gate) path is = refl
+path-outside way.Placed path is = absurd (cc)
 
 -- one that is taken wasn't refused
 not-refused : (st : PartState) → state_is_taken st ≡ true → state_is_refused st ≡ false
@@ -89,7 +103,7 @@ module _ (s : Setting) (v : View) (g : Ghost) (i : InvWith s v g) (n : ℕ) (e :
               subst (IsRowPart v.history v.images ways_now g.placed g.path e.server of ended) (sym rests.1)
                   (placed AtRest passed, ap g.path (sym no) ∙ on.came (ap has_passed passed), nobody, lead),
             )
-        | inr refused ↦ (subst (IsInsertState x) (sym refused.1) tt, subst (IsRowPart v.history v.images ways_now g.placed g.path e.server of ended) (sym refused.1) (placed Outside refused.0, nobody))
+        | inr refused ↦ (subst (IsInsertState x) (sym refused.1) tt, subst (IsRowPart v.history v.images ways_now g.placed g.path e.server of ended) (sym refused.1) (placed Outside refused.0, nobody, (λ z. some-path v.history e.server r.path on.lead.is_path (sym (path-outside r.way r.path refused.0) ∙ sym (ap path_in same) ∙ z))))
       ]
   row-part x begun (Unread f) same done = absurd (unread-no-insert s v g i n e takes f same x begun)
   row-part x begun (Read r) same done = absurd (read-no-insert s v g i n e takes r same x begun)
