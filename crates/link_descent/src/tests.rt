@@ -1,3 +1,5 @@
+//! Trees that grow row by row, beside a flat list. How high they are and how many cells are left is what
+//! another program finds, which was written apart from the same rules.
 ghost use Rattle.std.specs.Prelude.{◌≡◌, ◌+◌, ◌^◌, ◌<◌, ◌≤◌, length, All, IfOk, IfSome, OnOk};
 ghost use Rattle.std.specs.Option.{option_copied};
 ghost use Rattle.dim_hierarchy.specs.Row.{IsRowOf};
