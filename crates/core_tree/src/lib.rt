@@ -3,8 +3,10 @@
 
 mod leaves;
 mod puts;
+mod queues;
 mod refills;
 
 pub use leaves::leave_tree;
 pub use puts::put_in_leaf;
+pub use queues::enter_queue;
 pub use refills::{give_back, refill};
