@@ -1,37 +1,38 @@
 -- A row comes to the queue of its part's shard, where it is last.
-use Rattle.std.proofs.Common.{◌≡◌, ◌≢◌, ℕ, ◌+◌, ◌*◌, ◌-◌, ◌^◌, ◌<◌, ◌≤◌, Bool, true, false, cond, eqb, List, [], ◌∷◌, ◌++◌, length, take, map, Option, Some, None, IsSome, refl, sym, ap, ◌∙◌, subst, inl, inr, arith}
-use Rattle.std.proofs.lemmas.List.{length-append, map-append, take-append-le}
+use Rattle.std.proofs.Common.{◌≡◌, ◌≢◌, ℕ, ◌+◌, ◌^◌, ◌<◌, ◌≤◌, Bool, true, false, cond, eqb, List, [], ◌∷◌, ◌++◌, length, take, Option, Some, None, IsSome, refl, sym, ap, ◌∙◌, subst, inl, inr, arith}
+use Rattle.std.proofs.lemmas.List.{length-append, length-map, map-append, take-append-le}
+use Rattle.cell_stock.proofs.Cells.{length-le_from_distinct}
 use Rattle.dim_hierarchy.specs.Dimension.{Dimension}
+use Rattle.dim_hierarchy.specs.Row.{IsRowOf}
 use Rattle.dim_hierarchy.specs.declared.row.Row.{Row}
+use Rattle.measure_agg.specs.Aggregate.{Aggregate}
 use Rattle.mapping_table.specs.declared.place.Where.TheVariants as where_is
-use Rattle.row_ledger.specs.Shards.{is_live}
 use Rattle.row_ledger.specs.declared.event.Event.{Event}
 use Rattle.shard_store.specs.Gate.{Enqueues, IsQueueOf}
 use Rattle.shard_store.specs.declared.gate.Gate.{Gate}
-use Rattle.shard_store.specs.declared.gate.Phase.{Phase}
-use Rattle.shard_store.specs.declared.gate.Phase.TheVariants.{Frozen, Gone}
+use Rattle.shard_store.specs.declared.gate.Phase.TheVariants.{Frozen}
 use Rattle.shard_store.specs.declared.queue.Queue.{Queue}
 use Rattle.tree_shape.specs.Counts.{Each, times}
 use Rattle.tree_shape.specs.Counts.{same as same_number}
 use Rattle.tree_shape.specs.Shape.{numbers}
 use Rattle.tree_shape.proofs.Parts.{each-append}
 use Rattle.tree_shape.proofs.Visits.{times-append}
-use Rattle.tree_shape.proofs.Walks.{eqb-eq, eqb-ne, eqb-no, eqb-self, on_bool, same_is, same_not}
+use Rattle.tree_shape.proofs.Walks.{eqb-eq, eqb-ne, on_bool, same_is, same_not}
 use Rattle.volap_cell.specs.AdminKinds.{IsBuiltOf}
 use Rattle.volap_cell.specs.Cells.{CellValue, GateCell, MapCell, queue_in, tag_of}
 use Rattle.volap_cell.specs.Errands.{AtBlock, AtRest, Outside, RowWay, place_of, row_way, way_of}
-use Rattle.volap_cell.specs.Falls.{far, gates_of_errand, gates_of_task, gates_of_way, left, per_gate}
+use Rattle.volap_cell.specs.Falls.{far, gates_of_errand, gates_of_task, gates_of_way, left}
 use Rattle.volap_cell.specs.Ghost.{Ghost}
 use Rattle.volap_cell.specs.Growing.{Queueing}
 use Rattle.volap_cell.specs.Invariant.{InvWith}
 use Rattle.volap_cell.specs.Setting.{Setting, actor_count}
 use Rattle.volap_cell.specs.Steps.{IsHere, IsKept, Keeps, Makes}
 use Rattle.volap_cell.specs.Sums.{sum_below}
-use Rattle.volap_cell.specs.TreeKinds.{DoesEnterQueue, HasRow, on_way}
+use Rattle.volap_cell.specs.TreeKinds.{DoesEnterQueue, HasRow, on_way, MayQueue}
 use Rattle.volap_cell.specs.Turning.{inside_of, is_inside}
-use Rattle.volap_cell.specs.Values.{ActorValue, ErrandValue, JobValue}
+use Rattle.volap_cell.specs.Values.{ActorValue, ErrandValue}
 use Rattle.volap_cell.specs.View.{View, view}
-use Rattle.volap_cell.specs.Working.{IsBuilding, IsCollected, Working, frozen_in}
+use Rattle.volap_cell.specs.Working.{Working, frozen_in}
 use Rattle.volap_cell.specs.World.{Agrees, Change, World, after, change, held}
 use Rattle.volap_cell.specs.declared.errand.RowErrand.{RowErrand}
 use Rattle.volap_cell.specs.declared.errand.Way.{Way}
@@ -40,15 +41,19 @@ use Rattle.volap_cell.specs.declared.kind.Kind.TheVariants.{EnterQueue}
 use Rattle.volap_cell.proofs.Fields.{IsNewAt}
 use Rattle.volap_cell.proofs.Frames.{actor-at, actor-off}
 use Rattle.volap_cell.proofs.Gates.{gate-behind}
+use Rattle.volap_cell.proofs.Grows.{insert-within}
 use Rattle.volap_cell.proofs.GrowsKnown.{AreOlder, older-rows}
 use Rattle.volap_cell.proofs.Helds.{held-leads}
 use Rattle.volap_cell.proofs.Seen.{renewed}
 use Rattle.volap_cell.proofs.Standings.{live-on}
 use Rattle.volap_cell.proofs.Sums.{sum-kept}
 use Rattle.volap_cell.proofs.TreeViews.{by_enter_queue, view-enter_queue}
-use Rattle.core_tree.proofs.Arrivals.{Arrives, arrives}
+use Rattle.core_tree.specs.DueAtGates.{CanEnterQueue}
+use Rattle.core_tree.proofs.Arrivals.{Arrives, arrives, same-row}
+use Rattle.core_tree.proofs.Tallies.{all-times, distinct-times}
+use Rattle.std.specs.FinMap as map
 use Rattle.core_tree.proofs.FillsPurse.{far-some}
-use Rattle.core_tree.proofs.Places.{HaveOneMore, Passes, covering-placed, imaging-placed, inserting-placed, nobody-placed, placing-placed, resting-placed, telling-placed, times_at, with_one, off-one}
+use Rattle.core_tree.proofs.Places.{HaveOneMore, Passes, covering-placed, imaging-placed, inserting-placed, nobody-placed, placing-placed, resting-placed, telling-placed, with_one, off-one}
 use Rattle.core_tree.proofs.PlacesRead.{balancing-placed, querying-placed, working-placed}
 use Rattle.core_tree.proofs.Remains.{IsStepOf, control-same, gates-changed}
 use Rattle.core_tree.proofs.Rests.{turning-rested}
@@ -284,3 +289,96 @@ pub queue-keeps : (h : List Dimension) (m c : Change) (a b : ActorValue) (d : Do
 queue-keeps h m c a b d s w n g about i ag sight =
     queue-kept m c b s w n g i (record { cells = ag.cells; actor_is = refl; free = λ x ne. ag.free x ne })
     (subst (λ (hs : List Dimension). DoesEnterQueue hs m c (w.actors n) b) (sym about) (subst (λ (z : ActorValue). DoesEnterQueue h m c z b) (sym ag.actor_is) d))
+
+-- The call.
+
+-- what it did, where the table led the row to the gate
+pub queue-makes : (h : List Dimension) (map_at : ℕ) (map_cell : CellValue) (gate_at : ℕ) (cell : CellValue) (gate now : Gate) (a b : ActorValue) (e : ErrandValue) (r : RowErrand) → CanEnterQueue map_at map_cell gate_at cell a
+    → cell ≡ GateCell gate → HasRow a e r → Enqueues h r.row gate.queue now.queue → now ≡ record gate { queue = now.queue } → b ≡ record a { errand = on_way e r Placed }
+    → Makes h EnterQueue (change map_at map_cell map_cell ∷ change gate_at cell (GateCell now) ∷ []) a b
+queue-makes h map_at map_cell gate_at cell gate now a b e r due is has last queued actor_is =
+    let (errand, row) = same-row has due.has in
+    let gates : GateCell due.gate ≡ GateCell gate = sym due.gate_is ∙ is in
+    let its_gate : due.gate ≡ gate = cc in
+    let does : DoesEnterQueue h (change map_at map_cell map_cell) (change gate_at cell (GateCell now)) a b = record {
+      e = e;
+      r = r;
+      has = has;
+      outside = ap (λ (x : RowErrand). place_of x.way) row ∙ due.outside;
+      leads = (let led = due.leads in record { table = led.table; was = led.was ∙ ap (λ (x : ErrandValue). MapCell x.worker led.table) (sym errand); leads = ap (λ (x : ErrandValue). map.get led.table x.shard) errand ∙ led.leads; same = refl });
+      gate = gate;
+      why = subst (λ (x : Gate). MayQueue x a r.way) its_gate (subst (λ (x : RowErrand). MayQueue due.gate a x.way) (sym row) due.why);
+      queue = now.queue;
+      last = last;
+      queued = record { was = is; is = ap GateCell queued };
+      actor_is = actor_is;
+    } in
+    record { does = does; keeps = queue-keeps h (change map_at map_cell map_cell) (change gate_at cell (GateCell now)) a b does }
+
+-- what it asks of the gate: its queue is one, the row is of the hierarchy, and there are few rows
+pub record CanQueue (h : List Dimension) (row : Row) (queue : Queue) : Type 0 where
+  pub row_of : IsRowOf h row
+  pub queue_of : IsQueueOf h queue
+  pub few : queue.agg.count + 1 < 2 ^ 63
+
+module _ (h : List Dimension) (map_at : ℕ) (map_cell : CellValue) (gate_at : ℕ) (cell : CellValue) (a : ActorValue) (k : IsHere h (held map_at map_cell ∷ held gate_at cell ∷ []) a) (due : CanEnterQueue map_at map_cell gate_at cell a) where
+  abbrev setting : Setting
+  setting = a.setting
+
+  abbrev state : View
+  state = view setting k.world
+
+  its : InvWith setting state k.inv.ghost_of
+  its = k.inv.holds
+
+  has-row : HasRow (k.world.actors k.number) due.e due.r
+  has-row = subst (λ (z : ActorValue). HasRow z due.e due.r) (sym k.agrees.actor_is) due.has
+
+  comes : Arrives setting state k.inv.ghost_of k.number gate_at (row_way due.e due.r)
+  comes = arrives setting k.world k.inv.ghost_of its k.number gate_at due.e due.r has-row due.outside
+      (held-leads setting k.world its.numbering.tag (held map_at map_cell) k.agrees.cells.0 due.e.worker due.e.shard (where_is.Gate gate_at) due.leads).1
+
+  queue-there : state.queues gate_at ≡ due.gate.queue
+  queue-there = ap queue_in (k.agrees.cells.1.0 ∙ due.gate_is)
+
+  -- the numbers of its rows are below the history's length, and no two are the same
+
+  times-in : (q : ℕ) → cond ((k.inv.ghost_of.shape gate_at).placed q) 1 0 + times q (numbers (state.queues gate_at).rows) ≡ cond (k.inv.ghost_of.placed q) (same_number (k.inv.ghost_of.home q) due.e.shard) 0
+  times-in q = subst (λ (y : ℕ). cond ((k.inv.ghost_of.shape y).placed q) 1 0 + times q (numbers (state.queues y).rows) ≡ cond (k.inv.ghost_of.placed q) (same_number (k.inv.ghost_of.home q) due.e.shard) 0) comes.gate_is
+      (its.placing.one due.e.shard q comes.live)
+
+  same-most : (x y : ℕ) → same_number x y ≤ 1
+  same-most x y = on_bool (eqb x y) (λ e. let z = same_is x y (eqb-eq _ _ e) in omega arith) (λ e. let z = same_not x y (eqb-ne _ _ e) in omega arith)
+
+  once : (q : ℕ) → times q (numbers (state.queues gate_at).rows) ≤ 1
+  once q = on_bool (k.inv.ghost_of.placed q)
+      (λ e. let all = times-in q in
+      let is : cond (k.inv.ghost_of.placed q) (same_number (k.inv.ghost_of.home q) due.e.shard) 0 ≡ same_number (k.inv.ghost_of.home q) due.e.shard = ap (λ (x : Bool). cond x (same_number (k.inv.ghost_of.home q) due.e.shard) 0) e in
+      let most = same-most (k.inv.ghost_of.home q) due.e.shard in omega arith)
+      (λ e. let all = times-in q in
+      let is : cond (k.inv.ghost_of.placed q) (same_number (k.inv.ghost_of.home q) due.e.shard) 0 ≡ 0 = ap (λ (x : Bool). cond x (same_number (k.inv.ghost_of.home q) due.e.shard) 0) e in omega arith)
+
+  below : (q : ℕ) → 1 ≤ times q (numbers (state.queues gate_at).rows) → q < length state.history
+  below q some = on_bool (k.inv.ghost_of.placed q)
+      (λ e. let (insert, began) = its.placing.begun q e in insert-within state.history q insert began)
+      (λ e. let all = times-in q in
+      let is : cond (k.inv.ghost_of.placed q) (same_number (k.inv.ghost_of.home q) due.e.shard) 0 ≡ 0 = ap (λ (x : Bool). cond x (same_number (k.inv.ghost_of.home q) due.e.shard) 0) e in absurd (omega arith))
+
+  few-rows : length (state.queues gate_at).rows ≤ length state.history
+  few-rows =
+      let ns = numbers (state.queues gate_at).rows in
+      let le = length-le_from_distinct ns (length state.history) (distinct-times ns once) (all-times (λ q. q < length state.history) ns below) in
+      let is : length ns ≡ length (state.queues gate_at).rows = length-map (state.queues gate_at).rows (λ (x : Row). x.no) in omega arith
+
+  pub can-queue : CanQueue h due.r.row due.gate.queue
+  can-queue =
+      let queue = its.queueing.queue gate_at (subst IsSome (sym comes.is_gate) refl) in
+      let began = its.telling.rows due.r.row.no comes.insert comes.began in
+      record {
+        row_of = subst (λ (hs : List Dimension). IsRowOf hs due.r.row) k.about (subst (IsRowOf setting.hierarchy) comes.row_is began.0);
+        queue_of = subst (λ (hs : List Dimension). IsQueueOf hs due.gate.queue) k.about (subst (IsQueueOf setting.hierarchy) queue-there queue);
+        few = (let le = few-rows in
+            let lt = its.owing.few in
+            let count : (state.queues gate_at).agg.count ≡ length (state.queues gate_at).rows = ap (λ (x : Aggregate). x.count) queue.summary.agg in
+            let there = ap (λ (x : Queue). x.agg.count) queue-there in omega arith);
+      }

@@ -1,11 +1,13 @@
 -- What the steps of rows at gates and of purses ask of the cells that they are given and of their actor, beyond that they are those of a state.
 use Rattle.std.specs.Prelude.{ℕ, ◌≡◌, ◌≢◌, ◌+◌, ◌*◌, ◌^◌, ◌<◌, ◌≤◌, ◌⊎◌, false, [], Some, None, length}
 use Rattle.cell_stock.specs.Stock.{Gives, PurseValue, StockValue, Takes}
-use Rattle.volap_cell.specs.Cells.{CellValue, TheStock, tag_of}
-use Rattle.volap_cell.specs.Errands.{height_of, height_to_fill, is_filled}
-use Rattle.volap_cell.specs.TreeKinds.{HasRow}
+use Rattle.mapping_table.specs.declared.place.Where.TheVariants as where_is
+use Rattle.shard_store.specs.declared.gate.Gate.{Gate}
+use Rattle.volap_cell.specs.Cells.{CellValue, GateCell, TheStock, tag_of}
+use Rattle.volap_cell.specs.Errands.{Outside, height_of, height_to_fill, is_filled, place_of}
+use Rattle.volap_cell.specs.TreeKinds.{HasRow, Leads, MayQueue}
 use Rattle.volap_cell.specs.Values.{ActorValue, ErrandValue}
-use Rattle.volap_cell.specs.World.{MustKeep}
+use Rattle.volap_cell.specs.World.{MustKeep, held}
 use Rattle.volap_cell.specs.declared.errand.RowErrand.{RowErrand}
 use Rattle.volap_cell.specs.declared.errand.Way.TheVariants.{Put}
 
@@ -45,3 +47,16 @@ pub record IsRefilled (n : ℕ) (stock stock_now : StockValue) (purse purse_now 
   pub takes : ((n ≤ length between.free) × Takes n between stock_now emptied purse_now) ⊎ ((length between.free < n) × (stock_now ≡ between) × (purse_now.spares ≡ []))
   pub stamps : stock_now.stamps < 2 ^ 63
   pub enough : 2 * length purse_now.spares + 1 ≤ boxes
+
+-- Queues.
+
+-- the worker's table leads the actor's row to the gate in the cell, and the row has to go to its queue
+pub record CanEnterQueue (map_at : ℕ) (map : CellValue) (gate_at : ℕ) (cell : CellValue) (a : ActorValue) : Type 0 where
+  pub e : ErrandValue
+  pub r : RowErrand
+  pub has : HasRow a e r
+  pub outside : place_of r.way ≡ Outside
+  pub leads : Leads (held map_at map) e.worker e.shard (where_is.Gate gate_at)
+  pub gate : Gate
+  pub gate_is : cell ≡ GateCell gate
+  pub why : MayQueue gate a r.way

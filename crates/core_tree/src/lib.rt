@@ -5,6 +5,7 @@ mod downs;
 mod leaves;
 mod puts;
 mod reads;
+mod queues;
 mod refills;
 mod visits;
 
@@ -12,5 +13,6 @@ pub use downs::down;
 pub use leaves::leave_tree;
 pub use puts::put_in_leaf;
 pub use reads::gate_read;
+pub use queues::enter_queue;
 pub use refills::{give_back, refill};
 pub use visits::block_visit;

@@ -1,0 +1,33 @@
+use Rattle.std.proofs.Common.{◌≡◌, ◌+◌, ◌<◌, ◌^◌, ◌∙◌, ap, option_map, subst, sym}
+use Rattle.dim_hierarchy.specs.Row.{IsRowOf}
+use Rattle.volap_cell.specs.Cells.{CellValue, GateCell, cell_of, queue_in}
+use Rattle.volap_cell.specs.Values.{actor_of, errand_of, task_of}
+use Rattle.volap_cell.specs.TreeKinds.{HasRow}
+use Rattle.volap_cell.specs.declared.errand.RowErrand.{RowErrand}
+use Rattle.core_tree.proofs.Arrivals.{same-row}
+use Rattle.core_tree.proofs.EntersQueue.{can-queue, queue-makes}
+use Rattle.core_tree.proofs.queues.enter_queue.Goals as goal
+
+pub enqueue-requires-clause-row : goal.enqueue-requires-clause-row
+enqueue-requires-clause-row c =
+    let k = can-queue c.args.h.now c.args.map_at (cell_of c.args.map.now) c.args.gate_at (cell_of c.args.gate.now) (actor_of c.args.actor.now) c.requires.here c.requires.due in
+    let has : HasRow (actor_of c.args.actor.now) (errand_of c.in-Some.errand) c.in-Row.going = record { errand = ap (option_map errand_of) c.in-Some.is; row = ap task_of c.in-Row.is } in
+    subst (λ (r : RowErrand). IsRowOf c.args.h.now r.row) (same-row c.requires.due.has has).1 k.row_of
+
+pub enqueue-requires-clause-few : goal.enqueue-requires-clause-few
+enqueue-requires-clause-few c =
+    let k = can-queue c.args.h.now c.args.map_at (cell_of c.args.map.now) c.args.gate_at (cell_of c.args.gate.now) (actor_of c.args.actor.now) c.requires.here c.requires.due in
+    let same : GateCell c.requires.due.gate ≡ GateCell c.deref_mut.result.now = sym c.requires.due.gate_is ∙ ap cell_of c.in-Gate.is ∙ ap GateCell (sym c.deref_mut.ensures.value) in
+    subst (λ (x : CellValue). (queue_in x).agg.count + 1 < 2 ^ 63) same k.few
+
+pub returns-clause-made : goal.returns-clause-made
+returns-clause-made c =
+    let e = c.in-Some.errand in
+    let r = c.in-Row.going in
+    let go = c.go_on.ensures e r c.in-Some.is c.in-Row.is in
+    queue-makes c.args.h.now c.args.map_at (cell_of c.args.map.now) c.args.gate_at (cell_of c.args.gate.now) c.deref_mut.result.now c.enqueue.new.self (actor_of c.args.actor.now) _ (errand_of e) r c.requires.due
+    (ap cell_of c.in-Gate.is ∙ ap GateCell (sym c.deref_mut.ensures.value))
+    (record { errand = ap (option_map errand_of) c.in-Some.is; row = ap task_of c.in-Row.is })
+    c.in_ok-enqueue.ensures.ok
+    c.enqueue.ensures.same
+    (λ k. record (actor_of c.args.actor.now) { errand = option_map errand_of (go k) })
