@@ -158,6 +158,7 @@ module _ (s : Setting) (w : World) (set : IsSetting s) (o : IsOpening s w) where
     live = λ c x is not_gone. (live x (shard-is c x is).0, (shard-is c x is).1);
     leads = leads;
     split = λ worker x l r plane is. no-split worker x l r plane is;
+    divided = λ worker x l r plane is. no-split worker x l r plane is;
     moved = λ worker x to is. no-moved worker x to is;
     later = λ worker x to u p q is then left_one left_two. no-moved worker x to is;
     made = λ c x is. subst (λ (k : ℕ). x < k) (sym ids) (shard-is c x is).0;

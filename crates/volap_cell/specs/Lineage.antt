@@ -1,6 +1,7 @@
 -- Where shards are: the registry has those that stand, and the workers' tables lead from each id that a server or a part may
 -- still have to a gate, or on to children or another worker.
-use Rattle.std.specs.Prelude.{ℕ, ◌≡◌, ◌≢◌, ◌==◌, ◌<◌, Bool, true, false, IsTrue, IsSome, List, [], ◌∷◌, Option, Some, All, if◌then◌else◌}
+use Rattle.std.specs.Prelude.{ℕ, ◌≡◌, ◌≢◌, ◌==◌, ◌<◌, ◌⊎◌, Bool, true, false, IsTrue, IsSome, List, [], ◌∷◌, Option, Some, None, All, if◌then◌else◌}
+use Rattle.describing_set.specs.Plane.{IsHierarchyPlane}
 use Rattle.describing_set.specs.declared.listing.Spot.{Spot}
 use Rattle.cell_stock.specs.Stock.{StockValue}
 use Rattle.mapping_table.specs.declared.place.Where.{Where}
@@ -24,6 +25,9 @@ went_to [] x w = false
 went_to (Moved of shard to ∷ past) x w = if shard == x then to == w else went_to past x w
 went_to (e ∷ past) x w = went_to past x w
 
+-- The registry has the shards that stand, and a table leads to the gate of each, from the worker that has it, and from no other. A
+-- shard that was split leads to its children, by a plane of the hierarchy, where its last move had brought it. A shard that has
+-- moved leads on, and the farther the later it moved.
 pub record Lineage (s : Setting) (history : List Event) (stock : StockValue) (registry : RegistryValue) (maps : ℕ → ℕ → Option Where) (gates : ℕ → Option ℕ) (phases : ℕ → Option Phase) (gate : ℕ → ℕ) : Type 0 where
   pub ids : stock.ids ≡ ids_made s.workers history
   pub front : places_of registry.frontier ≡ frontier s.workers history
@@ -32,6 +36,8 @@ pub record Lineage (s : Setting) (history : List Event) (stock : StockValue) (re
   pub leads : (w x c : ℕ) → maps w x ≡ Some (where_is.Gate c) → (is_on s.workers history x w ≡ true) × (gate x ≡ c)
   pub split : (w x l r : ℕ) (plane : Plane) → maps w x ≡ Some (where_is.Split plane l r)
       → IsTrue (is_child history x l) × IsTrue (is_child history x r) × (l ≢ r) × IsSome (maps w l) × IsSome (maps w r)
+  pub divided : (w x l r : ℕ) (plane : Plane) → maps w x ≡ Some (where_is.Split plane l r)
+      → IsHierarchyPlane s.hierarchy plane × ((went_to history x w ≡ true) ⊎ (left_at s.workers history x w ≡ None))
   pub moved : (w x v : ℕ) → maps w x ≡ Some (where_is.Moved v) → (v < s.workers) × (v ≢ w) × IsSome (maps v x) × IsSome (left_at s.workers history x w) × (went_to history x w ≡ false)
   pub later : (w x v u p q : ℕ) → maps w x ≡ Some (where_is.Moved v) → maps v x ≡ Some (where_is.Moved u) → left_at s.workers history x w ≡ Some p → left_at s.workers history x v ≡ Some q → p < q
   pub made : (c x : ℕ) → gates c ≡ Some x → x < ids_made s.workers history
