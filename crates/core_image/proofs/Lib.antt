@@ -21,3 +21,4 @@ pub mod Jobs
 pub mod CallsBegin
 pub mod Hosts
 pub mod NewCommands
+pub mod NotesCall

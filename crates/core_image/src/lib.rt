@@ -3,12 +3,15 @@
 
 mod acks;
 mod begins;
+mod calls;
 mod counts;
 mod fails;
 mod notes;
+mod owing;
 
 pub use acks::ack;
 pub use begins::begin_insert;
+pub use calls::note_called;
 pub use counts::count_session;
 pub use fails::{fail_query, fail_routed, fail_unrouted};
 pub use notes::{note_refused, note_unknown};
