@@ -37,3 +37,4 @@ pub mod NewCommands
 pub mod Answered
 pub mod AnswersQuery
 pub mod AnsweredHere
+pub mod NotesCall

@@ -19,7 +19,7 @@ use Rattle.shard_plan.specs.declared.action.Action.TheVariants as action
 use Rattle.volap_cell.specs.Commands.{MayCall}
 use Rattle.volap_cell.specs.Falls.{job_left, plenty}
 use Rattle.volap_cell.specs.Ghost.{Ghost}
-use Rattle.volap_cell.specs.ImageKinds.{job_called}
+use Rattle.volap_cell.specs.ImageKinds.{IsBegun, asks_registry, job_called}
 use Rattle.volap_cell.specs.Invariant.{InvWith}
 use Rattle.volap_cell.specs.Setting.{Setting, site_in}
 use Rattle.volap_cell.specs.Values.{JobValue, StageValue, IsCalled}
@@ -214,7 +214,7 @@ module _ (s : Setting) (v : View) (g : Ghost) (i : InvWith s v g) (number : ℕ)
             told (call_is.Move x to),
             workless (call_is.Move x to),
             job-known r x (Some to) known (λ k. let (w, has, on) = host x (stands k) in (w, has)) ∙ ap (λ (b : Bool). b && nat_lt to s.workers) (live x)
-            ∙ ap (λ (p : List Event). is_known (site_in s) p (action.Move x to)) (sym (past (call_is.Move x to))),
+                ∙ ap (λ (p : List Event). is_known (site_in s) p (action.Move x to)) (sym (past (call_is.Move x to))),
           );
           new_job = λ j is.
               let (k, (w, same, on)) = new j is in
@@ -233,3 +233,13 @@ module _ (s : Setting) (v : View) (g : Ghost) (i : InvWith s v g) (number : ℕ)
           control = omega (arith, few);
           gates = omega arith;
         }
+
+  -- a call that asks nothing of the registry
+  pub alone-begins : (call : Call) → asks_registry call ≡ false → ((x : ℕ) → call ≡ call_is.Sync x → x < s.servers) → (workers : ℕ) (r : RegistryValue) (work : Work) (job : Option JobValue) → IsBegun workers r call work job
+      → IsBeginning s v g (Called number call ∷ h) of role purse work job
+  alone-begins (call_is.Sync server) alone within workers r work job is = as-said (Called number (call_is.Sync server)) _ _ is.0 is.1 (sync-begins server (within server refl))
+  alone-begins call_is.Barrier alone within workers r work job is = as-said (Called number call_is.Barrier) _ _ is.0 is.1 barrier-begins
+  alone-begins call_is.Settle alone within workers r work job is = as-said (Called number call_is.Settle) _ _ is.0 is.1 settle-begins
+  alone-begins call_is.Shards alone within workers r work job is = as-said (Called number call_is.Shards) _ _ is.0 is.1 shards-begins
+  alone-begins call_is.Audit alone within workers r work job is = as-said (Called number call_is.Audit) _ _ is.0 is.1 audit-begins
+  alone-begins _ alone within workers r work job is = absurd (false≢true (sym alone))

@@ -1,6 +1,6 @@
 -- What the kinds ask that note an event which acknowledges and pulls nothing, beyond that their cells and their actor are those of a
 -- state; and what their inner functions do.
-use Rattle.std.specs.Prelude.{ℕ, ◌≡◌, ◌+◌, ◌<◌, ◌^◌, Bool, true, false, not, List, ◌∷◌, length, Some, None}
+use Rattle.std.specs.Prelude.{ℕ, ◌≡◌, ◌+◌, ◌<◌, ◌^◌, Bool, true, false, not, List, [], ◌∷◌, length, Some, None}
 use Rattle.dim_hierarchy.specs.Dimension.{Dimension}
 use Rattle.dim_hierarchy.specs.Row.{IsCoordOf}
 use Rattle.dim_hierarchy.specs.declared.row.Coord.{Coord}
@@ -9,10 +9,15 @@ use Rattle.query_router.specs.Desk.{DeskValue, verdict_of}
 use Rattle.query_router.specs.declared.part.Verdict.TheVariants as verdict
 use Rattle.row_ledger.specs.LedgerValue.{LedgerValue}
 use Rattle.row_ledger.specs.declared.event.Event.{Event}
+use Rattle.row_ledger.specs.declared.settings.Call.{Call}
+use Rattle.row_ledger.specs.declared.settings.Call.TheVariants as call
 use Rattle.server_image.specs.Image.{ImageValue}
-use Rattle.volap_cell.specs.Cells.{CellValue, DeskOf, ImageOf, TheLedger, desk_in, tag_of}
-use Rattle.volap_cell.specs.ImageKinds.{IsFree, doing}
+use Rattle.volap_cell.specs.Cells.{CellValue, DeskOf, ImageOf, TheLedger, TheRegistry, desk_in, tag_of}
+use Rattle.volap_cell.specs.Commands.{MayCall}
+use Rattle.volap_cell.specs.ImageKinds.{IsFree, asks_registry, doing}
 use Rattle.volap_cell.specs.Values.{ActorValue}
+use Rattle.volap_cell.specs.declared.command.Work.{Work}
+use Rattle.volap_cell.specs.declared.command.Work.TheVariants as work_is
 use Rattle.volap_cell.specs.declared.command.Work.TheVariants.{Insert, Query}
 use Rattle.volap_cell.specs.declared.role.Role.TheVariants.{Session}
 
@@ -99,3 +104,31 @@ MayCount desk false = 0 < desk.sessions
 abbrev pub Counts : DeskValue → DeskValue → Bool → Type 0
 Counts desk desk_now true = desk_now ≡ record desk { sessions = desk.sessions + 1 }
 Counts desk desk_now false = desk ≡ record desk_now { sessions = desk_now.sessions + 1 }
+
+-- Commands.
+
+-- the work of a call that asks nothing of the registry, as it begins
+abbrev pub work_alone : Call → Work
+work_alone (call.Sync server) = work_is.Sync server false
+work_alone call.Settle = work_is.Settle 0
+work_alone call.Shards = work_is.Shards false
+work_alone call.Audit = work_is.Audit false
+work_alone _ = work_is.Barrier
+
+-- an actor that does nothing makes a call that asks nothing of the registry; a pull is for a server that is there
+pub record CanNoteCalled (called : Call) (ledger : CellValue) (a : ActorValue) : Type 0 where
+  pub free : IsFree a
+  pub allowed : MayCall a.role called
+  pub alone : asks_registry called ≡ false
+  pub server : (x : ℕ) → called ≡ call.Sync x → x < a.setting.servers
+  pub ledger_is : tag_of ledger ≡ TheLedger
+
+-- an administrator that does nothing, and has no spares, makes a call that asks the registry; it is told how many workers there are
+pub record CanNoteAsking (called : Call) (workers : ℕ) (registry ledger : CellValue) (a : ActorValue) : Type 0 where
+  pub free : IsFree a
+  pub spares : a.purse ≡ []
+  pub allowed : MayCall a.role called
+  pub asks : asks_registry called ≡ true
+  pub workers_are : workers ≡ a.setting.workers
+  pub registry_is : tag_of registry ≡ TheRegistry
+  pub ledger_is : tag_of ledger ≡ TheLedger

@@ -4,16 +4,19 @@
 mod acks;
 mod answers;
 mod begins;
+mod calls;
 mod counts;
 mod fails;
 mod filters;
 mod notes;
 mod queries;
 mod routes;
+mod owing;
 
 pub use acks::ack;
 pub use answers::answer;
 pub use begins::begin_insert;
+pub use calls::note_called;
 pub use counts::count_session;
 pub use fails::{fail_query, fail_routed, fail_unrouted};
 pub use notes::{note_refused, note_unknown};

@@ -1,0 +1,13 @@
+use Rattle.std.proofs.Common.{length, ap, sym, ◌∙◌}
+use Rattle.row_ledger.specs.LedgerValue.{LedgerValue}
+use Rattle.volap_cell.specs.Cells.{LedgerCell, cell_of}
+use Rattle.volap_cell.specs.Values.{actor_of}
+use Rattle.core_image.proofs.NotesCall.{called-makes}
+use Rattle.core_image.proofs.calls.note_called.Goals as goal
+
+pub returns-clause-made : goal.returns-clause-made
+returns-clause-made c =
+    called-makes c.args.h.now c.args.ledger_at c.args.call (cell_of c.args.ledger.now) (actor_of c.args.actor.now) c.requires.due
+    c.deref_mut.result.now (ap cell_of c.in-Ledger.is ∙ ap LedgerCell (sym c.deref_mut.ensures.value)) c.push_called.new.ledger
+    _ (c.len-of.ensures.value ∙ ap (λ (l : LedgerValue). length l.history) (c.deref.ensures ∙ sym c.deref_mut.ensures.value))
+    _ c.begun-work.ensures c.in_ok-push_called.ensures.ok _ (c.len-actor.ensures.value ∙ ap (λ (l : LedgerValue). length l.history) c.deref-2.ensures)
