@@ -13,3 +13,6 @@ pub mod GoesDown
 pub mod Places
 pub mod PlacesRead
 pub mod Arrivals
+pub mod Remains
+pub mod ComesIn
+pub mod Enters
