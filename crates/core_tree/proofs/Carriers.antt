@@ -30,7 +30,7 @@ or-right true b e = refl
 or-right false b e = e
 
 -- a shard that stands is on some worker
-live-on : (x : ℕ) (ps : List Place) → list_any (is_of x) ps ≡ true → (worker : ℕ) × (list_any (λ (p : Place). is_of x p && (p.worker == worker)) ps ≡ true)
+pub live-on : (x : ℕ) (ps : List Place) → list_any (is_of x) ps ≡ true → (worker : ℕ) × (list_any (λ (p : Place). is_of x p && (p.worker == worker)) ps ≡ true)
 live-on x [] e = cc
 live-on x (p ∷ ps) e = on_bool (is_of x p)
     (λ q. (p.worker, rw (q, eqb-self p.worker) refl))

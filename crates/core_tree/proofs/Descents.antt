@@ -67,7 +67,7 @@ spares-down h row place tail parent parent_now head head_now purse purse_now ent
 
 -- Small facts.
 
-append-cancel : {A : Type 0} (xs ys zs : List A) → xs ++ ys ≡ xs ++ zs → ys ≡ zs
+pub append-cancel : {A : Type 0} (xs ys zs : List A) → xs ++ ys ≡ xs ++ zs → ys ≡ zs
 append-cancel [] ys zs e = e
 append-cancel (x ∷ xs) ys zs e = append-cancel xs ys zs (let k : xs ++ ys ≡ xs ++ zs = cc in k)
 
@@ -113,7 +113,7 @@ tail-numbers blocks expected (suc n) y block (c ∷ cs) is at b =
     ∙ sym (ap (λ (k : Bool). cond k [] (option_map_or (λ z. z ∷ cells_behind blocks expected n z) (blocks y).right [])) q
     ∙ ap (λ (o : Option ℕ). option_map_or (λ z. z ∷ cells_behind blocks expected n z) o []) next)
 
-each-numbers : (P : ℕ → Type 0) (cs : List Change) → Each P (map (λ (c : Change). c.number) cs) → Each (λ c. P c.number) cs
+pub each-numbers : (P : ℕ → Type 0) (cs : List Change) → Each P (map (λ (c : Change). c.number) cs) → Each (λ c. P c.number) cs
 each-numbers P [] e = tt
 each-numbers P (c ∷ cs) e = (e.0, each-numbers P cs e.1)
 
@@ -121,7 +121,7 @@ behind-made : (expected most : ℕ) (block : Block) (cs : List Change) → AreBe
 behind-made expected most block [] b = tt
 behind-made expected most block (c ∷ cs) b = let (left, more, off, right, read, behind) = b in (ap has_block (read.same ∙ read.was), behind-made expected left (block_in c.before) cs behind)
 
-tail-made : (full : Bool) (expected : ℕ) (head : Block) (cs : List Change) → IsTailIf full expected head cs → Each (λ c. has_block c.now ≡ true) cs
+pub tail-made : (full : Bool) (expected : ℕ) (head : Block) (cs : List Change) → IsTailIf full expected head cs → Each (λ c. has_block c.now ≡ true) cs
 tail-made true expected head cs t = behind-made expected most_behind head cs t
 tail-made false expected head cs t = subst (Each (λ (c : Change). has_block c.now ≡ true)) (sym t) tt
 

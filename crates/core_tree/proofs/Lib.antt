@@ -27,3 +27,6 @@ pub mod ReadsGate
 pub mod GateDue
 pub mod FillsPurse
 pub mod EntersQueue
+pub mod Remains
+pub mod ComesIn
+pub mod Enters
