@@ -14,3 +14,4 @@ pub mod Walkers
 pub mod VisitsBlock
 pub mod ReadsGate
 pub mod GateDue
+pub mod OfAll

@@ -6,5 +6,5 @@ mod reads;
 mod visits;
 
 pub use puts::put_in_leaf;
-pub use reads::gate_read;
+pub use reads::{all_is_read_at_the_gate, gate_read};
 pub use visits::block_visit;
