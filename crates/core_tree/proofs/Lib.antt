@@ -8,7 +8,6 @@ pub mod NewBlocks
 pub mod PutsInLeaf
 pub mod Descents
 pub mod BlocksLeft
-pub mod Outcomes
 pub mod QuerySteps
 pub mod Walkers
 pub mod VisitsBlock
