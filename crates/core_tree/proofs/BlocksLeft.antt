@@ -4,39 +4,16 @@ use Rattle.dc_node.specs.declared.block.Block.{Block}
 use Rattle.dc_node.specs.declared.todo.Item.{Item}
 use Rattle.tree_shape.specs.Counts.{Each, same, times}
 use Rattle.tree_shape.specs.Queries.{items_of}
-use Rattle.tree_shape.specs.Shape.{Table, TreeCells, Node, node_of, nodes, Shape, ShapeOk}
+use Rattle.tree_shape.specs.Shape.{Table, TreeCells, Node, node_of, nodes, Shape}
 use Rattle.tree_shape.specs.Trees.{IsTree}
 use Rattle.tree_shape.specs.Walks.{Noted, IsNoted, AreNoted, IsTail, reach, pending}
 use Rattle.tree_shape.proofs.Assembled.{node-block}
-use Rattle.tree_shape.proofs.Queries.{reach-low}
+use Rattle.tree_shape.proofs.Noted.{noted-cell, reach-walk}
 use Rattle.tree_shape.proofs.Walks.{on_bool, eqb-yes, eqb-no, same_is}
 use Rattle.volap_cell.specs.Falls.{chain, noted_at, blocks_left}
 use Rattle.volap_cell.specs.Sums.{sum_below}
 use Rattle.volap_cell.proofs.Counting.{length-few, sum-ones}
 use Rattle.volap_cell.proofs.Sums.{sum-no-more, sum-less}
-
--- a noted block is in the tree, on its level
-pub noted-cell : (g : Shape) (look : ℕ → Node) (p : Noted) → IsNoted g look p → (g.inside p.cell ≡ true) × (g.level p.cell ≡ p.level)
-noted-cell g look p d =
-    let e : times p.cell p.walk ≡ times p.cell (p.cell ∷ d.walks.0) = ap (times p.cell) d.walks.1 in
-    let o = same_is p.cell p.cell refl in
-    d.cells p.cell (omega arith)
-
--- a block of the walk is reached as often as it is on it
-reach-walk : (g : Shape) (look : ℕ → Node) (p : Noted) (y : ℕ) → ShapeOk g → IsNoted g look p → 1 ≤ times y p.walk → reach g p y ≡ times y p.walk
-reach-walk g look p y ok d on =
-    let (inside, level) = d.cells y on in
-    let up : g.above y p.level ≡ y = ap (g.above y) (sym level) ∙ ok.itself y inside in
-    let low : g.level y ≤ p.level = omega (arith, level) in
-    reach-low g p y low ∙ ap (λ (x : ℕ). times x p.walk) up
-
--- and reached from itself
-pub reach-itself : (g : Shape) (look : ℕ → Node) (p : Noted) → ShapeOk g → IsNoted g look p → 1 ≤ reach g p p.cell
-reach-itself g look p ok d =
-    let e : times p.cell p.walk ≡ times p.cell (p.cell ∷ d.walks.0) = ap (times p.cell) d.walks.1 in
-    let o = same_is p.cell p.cell refl in
-    let on : 1 ≤ times p.cell p.walk = omega arith in
-    let r = reach-walk g look p p.cell ok d on in omega arith
 
 -- the cells along right links up to a stamp are those of the walk, where there are no more than are looked at
 chain-walk : (blocks : ℕ → Block) (look : ℕ → Node) (n y stamp : ℕ) (zs : List ℕ) → ((x : ℕ) → 1 ≤ times x (y ∷ zs) → look x ≡ node_of (blocks x)) → length zs ≤ n → IsTail look stamp y zs → chain blocks n y stamp ≡ y ∷ zs

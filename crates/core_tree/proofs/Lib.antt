@@ -17,7 +17,6 @@ pub mod Rests
 pub mod Remains
 pub mod LeavesTree
 pub mod BlocksLeft
-pub mod Outcomes
 pub mod QuerySteps
 pub mod Walkers
 pub mod VisitsBlock
@@ -29,3 +28,4 @@ pub mod FillsPurse
 pub mod EntersQueue
 pub mod ComesIn
 pub mod Enters
+pub mod OfAll

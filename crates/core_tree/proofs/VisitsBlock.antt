@@ -1,5 +1,5 @@
 -- A visit of the block that a query's part noted last.
-use Rattle.std.proofs.Common.{◌≡◌, ◌≢◌, ℕ, zero, suc, ◌+◌, ◌<◌, ◌≤◌, Bool, true, cond, eqb, leb, List, [], ◌∷◌, ◌++◌, map, Option, Some, None, IsSome, refl, sym, ap, ◌∙◌, subst, inl, inr, ◌⊎◌, arith}
+use Rattle.std.proofs.Common.{◌≡◌, ◌≢◌, ℕ, zero, suc, ◌+◌, ◌<◌, ◌≤◌, Bool, true, cond, eqb, List, [], ◌∷◌, ◌++◌, map, Option, Some, None, IsSome, refl, sym, ap, ◌∙◌, subst, inl, inr, ◌⊎◌, arith}
 use Rattle.std.specs.Option.{option_map_or}
 use Rattle.dim_hierarchy.specs.Compiled.{Compiled}
 use Rattle.dim_hierarchy.specs.Dimension.{Dimension}
@@ -16,12 +16,13 @@ use Rattle.link_descent.specs.Visit.{is_noted, noted, noted_in, noted_right, cou
 use Rattle.shard_store.specs.declared.gate.Phase.TheVariants.{Gone}
 use Rattle.tree_shape.specs.Counts.{Each, same}
 use Rattle.tree_shape.specs.Laws.{VisitLaw, GateLaw, BlockLaw}
-use Rattle.tree_shape.specs.Queries.{IsUnfinished, NoneWaits, fits, items_of}
-use Rattle.tree_shape.specs.Shape.{Table, Node, TreeCells, nodes, Shape, ShapeOk}
+use Rattle.tree_shape.specs.Queries.{IsUnfinished, NoneWaits, fits}
+use Rattle.tree_shape.specs.Shape.{Table, Node, TreeCells, nodes, Shape}
 use Rattle.tree_shape.specs.Steps.{IsIdle, AfterVisit}
 use Rattle.tree_shape.specs.Trees.{IsTree}
-use Rattle.tree_shape.specs.Walks.{Noted, AreNoted, pending, reach}
+use Rattle.tree_shape.specs.Walks.{pending}
 use Rattle.tree_shape.proofs.Assembled.{node-block}
+use Rattle.tree_shape.proofs.Noted.{none-above, none-noted}
 use Rattle.tree_shape.proofs.Parts.{each-append, each-left, each-right}
 use Rattle.tree_shape.proofs.Totals.{links-on}
 use Rattle.tree_shape.proofs.Walks.{on_bool, eqb-eq, eqb-ne}
@@ -46,33 +47,11 @@ use Rattle.volap_cell.proofs.Frames.{actor-at, actor-off, kept-one}
 use Rattle.volap_cell.proofs.Seen.{beside}
 use Rattle.volap_cell.proofs.Sums.{sum-same}
 use Rattle.volap_cell.proofs.TreeViews.{by_gate_read}
-use Rattle.core_tree.proofs.BlocksLeft.{noted-cell, reach-itself, left-is, left-falls}
+use Rattle.core_tree.proofs.BlocksLeft.{left-is, left-falls}
 use Rattle.core_tree.proofs.Descents.{gate-phase}
 use Rattle.core_tree.proofs.QuerySteps.{ReadsStep, query-kept}
 use Rattle.core_tree.proofs.Walkers.{IsWalker, walker, rows-under, tree-few, counted-few}
 use Rattle.core_tree.specs.ReadDue.{CanBlockVisit, CanVisit, HasNoted, IsAtBlock, VisitsFor}
-
--- No gate is noted where none is reached.
-
-pub none-above : (table : Table) (cells : TreeCells) (g : Shape) (ps : List Noted) → IsTree table cells g → AreNoted g (nodes cells) ps → Each (λ i. i.cell ≢ cells.gate_cell) (items_of ps) → pending g ps cells.gate_cell ≡ 0
-none-above table cells g [] t d e = refl
-none-above table cells g (p ∷ ps) t d e =
-    let ih = none-above table cells g ps t d.1 e.1 in
-    let (inside, level) = noted-cell g (nodes cells) p d.0 in
-    let low = d.0.low in
-    let h = t.height in
-    let lv = t.level in
-    on_bool (leb (g.level cells.gate_cell) p.level)
-    (λ q. let le : g.level cells.gate_cell ≤ p.level = grind arith in
-    let top : g.level p.cell ≡ cells.gate.height = omega arith in absurd (e.0 (t.only p.cell inside top)))
-    (λ q. let r : reach g p cells.gate_cell ≡ 0 = rw q refl in omega arith)
-
-pub none-noted : (g : Shape) (look : ℕ → Node) (gate : ℕ) (ps : List Noted) → ShapeOk g → AreNoted g look ps → pending g ps gate ≡ 0 → Each (λ i. i.cell ≢ gate) (items_of ps)
-none-noted g look gate [] ok d e = tt
-none-noted g look gate (p ∷ ps) ok d e = (
-  (λ is. let r = reach-itself g look p ok d.0 in let s : reach g p p.cell ≡ reach g p gate = ap (reach g p) is in absurd (omega arith)),
-  none-noted g look gate ps ok d.1 (omega arith),
-)
 
 -- What is noted of a block waits for no stamp that nothing expects.
 

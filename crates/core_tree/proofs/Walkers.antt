@@ -5,14 +5,11 @@ use Rattle.std.proofs.lemmas.List.Elements.{All-contains}
 use Rattle.dim_hierarchy.specs.declared.filter.Pick.{Pick}
 use Rattle.dc_node.specs.declared.todo.Item.{Item}
 use Rattle.measure_agg.specs.Aggregate.{Aggregate, agg}
-use Rattle.query_router.specs.Desk.{is_refused, state_is_taken, state_is_refused}
+use Rattle.query_router.specs.Desk.{is_refused}
 use Rattle.query_router.specs.declared.part.Part.{Part}
-use Rattle.query_router.specs.declared.part.PartState.{PartState}
-use Rattle.query_router.specs.declared.part.PartState.TheVariants as state
-use Rattle.row_ledger.specs.Past.{Query, insert_in, query_at}
+use Rattle.row_ledger.specs.Past.{Query, query_at}
 use Rattle.row_ledger.specs.Shards.{comes_from, is_live}
 use Rattle.row_ledger.proofs.Descent.{comes_from-self}
-use Rattle.row_ledger.proofs.Fresh.{kind-within}
 use Rattle.shard_store.specs.declared.gate.Phase.{Phase}
 use Rattle.shard_store.specs.declared.gate.Phase.TheVariants.{Open, Frozen, Gone}
 use Rattle.tree_shape.specs.Counts.{Each, same, times}
@@ -35,7 +32,8 @@ use Rattle.volap_cell.specs.World.{World}
 use Rattle.volap_cell.proofs.Actors.{read-is}
 use Rattle.volap_cell.proofs.Counting.{length-few, passing, passing-once}
 use Rattle.volap_cell.proofs.QueryParts.{IsQueryPart, query-part}
-use Rattle.volap_cell.proofs.GrowsReads.{readers-take, pinned-whole}
+use Rattle.volap_cell.proofs.GrowsKnown.{older-rows}
+use Rattle.volap_cell.proofs.GrowsReads.{readers-take, pinned-whole, taken-kept}
 
 -- a gate's shard is gone, or stands
 gone-or : (o : Option Phase) → (o ≡ Some Gone) ⊎ (o ≢ Some Gone)
@@ -43,11 +41,6 @@ gone-or None = inr (λ e. cc)
 gone-or (Some Open) = inr (λ e. let z : Open ≡ Gone = cc in cc)
 gone-or (Some (Frozen upto)) = inr (λ e. let z : Frozen upto ≡ Gone = cc in cc)
 gone-or (Some Gone) = inl refl
-
--- a part that is taken wasn't refused
-not-refused : (st : PartState) → state_is_taken st ≡ true → state_is_refused st ≡ false
-not-refused state.NoMemory is = (let never : false ≡ true = is in cc)
-not-refused _ is = refl
 
 module _ (s : Setting) (w : World) (g : Ghost) (i : InvWith s (view s w) g) where
   abbrev v : View
@@ -79,7 +72,7 @@ module _ (s : Setting) (w : World) (g : Ghost) (i : InvWith s (view s w) g) wher
 
   -- a placed row began before
   pub placed-older : (r : ℕ) → g.placed r ≡ true → r < length v.history
-  placed-older r placed = (let (insert, begun) = i.placing.begun r placed in kind-within insert_in v.history r insert begun)
+  placed-older r placed = (older-rows s v.history i.placing).placed_rows r placed
 
   -- there are no more rows in a whole tree than events
   pub tree-few : GateLaw → (c x : ℕ) → v.gates c ≡ Some x → IsTree (table_of s v.row) (cells_at v.blocks v.trees c) (g.shape c) → (v.trees c).agg.count ≤ length v.history
@@ -112,7 +105,7 @@ module _ (s : Setting) (w : World) (g : Ghost) (i : InvWith s (view s w) g) wher
   part-counts e f k =
       subst (λ (x : ℕ). IsCounted s v.history v.row g.placed g.home k.q x (g.counted e.server x)) k.shard
       (All-contains (λ (p : Part). is_refused p ≡ false → IsCounted s v.history v.row g.placed g.home k.q p.shard (g.counted e.server p.shard)) (v.desks e.server).parts k.part
-      (i.querying.counts e.server k.of k.q k.within k.op k.asked) k.there (not-refused k.part.state k.is_at))
+      (i.querying.counts e.server k.of k.q k.within k.op k.asked) k.there (taken-kept k.part.state k.is_at))
 
 -- A part that has noted a block is pinned to a gate, whose tree it walks.
 pub record IsWalker (s : Setting) (w : World) (g : Ghost) (e : ErrandValue) (r : ReadingValue) (items : List Item) (item : Item) : Type 0 where

@@ -1,12 +1,13 @@
 -- What the steps of a query's part ask of the cells that they are given and of their actor, beyond that they are those of a
 -- state; and what their inner functions ask and do.
-use Rattle.std.specs.Prelude.{ℕ, ◌≡◌, ◌≢◌, ◌+◌, ◌<◌, ◌^◌, List, [], ◌∷◌, ◌++◌, Option, Some, None, IsSome}
+use Rattle.std.specs.Prelude.{ℕ, ◌≡◌, ◌≢◌, ◌+◌, ◌<◌, ◌^◌, List, [], ◌∷◌, ◌++◌, Option, Some, None, IsSome, length}
 use Rattle.std.specs.FinMap as map
 use Rattle.std.specs.Ordering.{nat_cmp}
 use Rattle.dim_hierarchy.specs.Compiled.{compiled}
 use Rattle.dim_hierarchy.specs.Dimension.{Dimension}
-use Rattle.dim_hierarchy.specs.Filter.{IsFilterOf}
+use Rattle.dim_hierarchy.specs.Filter.{IsFilterOf, pick_at}
 use Rattle.dim_hierarchy.specs.declared.filter.Pick.{Pick}
+use Rattle.dim_hierarchy.specs.declared.filter.Pick.TheVariants.{All}
 use Rattle.describing_set.specs.DescSet.{IsDescSetOf}
 use Rattle.dc_node.specs.Block.{IsBodyOf}
 use Rattle.dc_node.specs.Summary.{row_count}
@@ -134,3 +135,12 @@ pub record BeginsFor (h : List Dimension) (gate_at : ℕ) (gate gate_now : Gate)
   pub unread : before.task ≡ Unread filter
   pub pinned : gate_now ≡ record gate { pins = gate.pins + one_if_some (root_items h filter gate) }
   pub now_is : now ≡ record before { task = Read (begun h gate_at filter gate) }
+
+-- a filter that is All in each dimension
+abbrev pub IsOfAll : List Dimension → List Pick → Type 0
+IsOfAll h f = (dim : ℕ) → dim < length h → pick_at f dim ≡ All
+
+-- with it both aggregates of a gate are taken whole, no row of the queue is tested, and nothing is noted
+abbrev pub OfAllLaw : Type 0
+OfAllLaw = (h : List Dimension) (f : List Pick) (gate : Gate) → IsFilterOf h f → IsQueueOf h gate.queue → IsDescSetOf h gate.set → IsOfAll h f
+    → (queue_part h f gate.queue ≡ gate.queue.agg) × (tree_part h f gate ≡ gate.agg) × (root_items h f gate ≡ [])

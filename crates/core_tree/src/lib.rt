@@ -15,4 +15,5 @@ pub use puts::put_in_leaf;
 pub use reads::gate_read;
 pub use queues::enter_queue;
 pub use refills::{give_back, refill};
+pub use reads::{all_is_read_at_the_gate, gate_read};
 pub use visits::block_visit;

@@ -1,5 +1,5 @@
 ghost use Rattle.std.specs.Prelude.{◌≡◌, [], ◌∷◌, IfOk, OnOk, OnErr};
-ghost use Rattle.core_tree.specs.ReadDue.{CanGateRead, CanBegin, IsAtGate, BeginsFor, begun};
+ghost use Rattle.core_tree.specs.ReadDue.{CanGateRead, CanBegin, IsAtGate, BeginsFor, OfAllLaw, begun};
 ghost use Rattle.volap_cell.specs.Cells.{cell_of};
 ghost use Rattle.volap_cell.specs.Steps.{IsHere, Makes};
 ghost use Rattle.volap_cell.specs.Values.{actor_of, errand_of, reading_of};
@@ -94,3 +94,9 @@ fn begin(
         pin,
     })
 }
+
+/// A query whose filter is All in each dimension takes the aggregates of queue and tree whole: it tests no row, and
+/// notes no block.
+pub fn all_is_read_at_the_gate()
+    ensures { OfAllLaw }
+{}

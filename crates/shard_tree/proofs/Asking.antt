@@ -16,12 +16,13 @@ use Rattle.shard_store.specs.declared.gate.Gate.{Gate}
 use Rattle.link_descent.specs.Visit.{is_noted, noted_in, noted_right, counted as block_part}
 use Rattle.tree_shape.specs.Counts.{Each, same, times}
 use Rattle.tree_shape.specs.Shape.{Node, nodes, Shape, ShapeOk, numbers}
-use Rattle.tree_shape.specs.Walks.{Noted, AreNoted, IsNoted, pending, reach}
+use Rattle.tree_shape.specs.Walks.{Noted, AreNoted, pending, reach}
 use Rattle.tree_shape.specs.Queries.{IsUnfinished, items_of, fits}
 use Rattle.link_descent.specs.GateRead.{queue_part, tree_part, root_items}
 use Rattle.tree_shape.specs.Laws.{OrderLaw, GateLaw, BlockLaw, RootLaw, LinkLaw, BeginLaw, VisitLaw, EndLaw}
 use Rattle.shard_tree.specs.Shard.{ShardValue, table_of, cells_of, rows_of, Holds, IsShardOf}
 use Rattle.shard_tree.proofs.Lists.{lookup, found, rows-back, found-filter, times-passing, times-failing}
+use Rattle.tree_shape.proofs.Noted.{noted-cell, reach-itself}
 use Rattle.tree_shape.proofs.Queries.{leb-le, leb-gt}
 use Rattle.tree_shape.proofs.Walks.{on_bool, eqb-eq, eqb-ne, same_is}
 use Rattle.block_cells.proofs.Lists.{each-append_right}
@@ -74,24 +75,6 @@ weight-some g ps y (suc n) i lt = on_bool (eqb y n)
     let p : pending g ps y ≡ pending g ps n = ap (pending g ps) q in
     rw ni (omega arith))
     (λ e. let ne = eqb-ne _ _ e in let ih = weight-some g ps y n i (omega arith) in omega arith)
-
--- a noted block is in the tree, on its level
-noted-cell : (g : Shape) (look : ℕ → Node) (p : Noted) → IsNoted g look p → (g.inside p.cell ≡ true) × (g.level p.cell ≡ p.level)
-noted-cell g look p d =
-    let e : times p.cell p.walk ≡ times p.cell (p.cell ∷ d.walks.0) = ap (times p.cell) d.walks.1 in
-    let o = same_is p.cell p.cell refl in
-    d.cells p.cell (omega arith)
-
-reach-itself : (g : Shape) (look : ℕ → Node) (p : Noted) → ShapeOk g → IsNoted g look p → 1 ≤ reach g p p.cell
-reach-itself g look p ok d =
-    let c = noted-cell g look p d in
-    let up : g.above p.cell p.level ≡ p.cell = ap (g.above p.cell) (sym c.1) ∙ ok.itself p.cell c.0 in
-    let e : times p.cell p.walk ≡ times p.cell (p.cell ∷ d.walks.0) = ap (times p.cell) d.walks.1 in
-    let o = same_is p.cell p.cell refl in
-    let low : leb (g.level p.cell) p.level ≡ true = (let l = c.1 in grind arith) in
-    let r : reach g p p.cell ≡ times (g.above p.cell p.level) p.walk = rw low refl in
-    let t : times (g.above p.cell p.level) p.walk ≡ times p.cell p.walk = ap (λ (y : ℕ). times y p.walk) up in
-    omega arith
 
 -- the block that was noted last is in the tree and is reached
 reached : (g : Shape) (look : ℕ → Node) (ps : List Noted) (items : List Item) (item : Item) → ShapeOk g → AreNoted g look ps → items_of ps ≡ items ++ item ∷ [] → (g.inside item.cell ≡ true) × (1 ≤ pending g ps item.cell)

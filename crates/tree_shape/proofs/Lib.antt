@@ -3,6 +3,7 @@ pub mod Relations
 pub mod Walks
 pub mod Sums
 pub mod Queries
+pub mod Noted
 pub mod Visits
 pub mod Tails
 pub mod Groups

@@ -69,7 +69,7 @@ pinned-whole s tags numbers roles settings counted_in purses commands taken jobs
     (subst (λ (o : Option ℕ). IsSome o) (sym (pinning.shard a c p is pin)) refl, inr (omega arith))
 
 -- a part that is taken wasn't refused
-taken-kept : (st : PartState) → state_is_taken st ≡ true → state_is_refused st ≡ false
+pub taken-kept : (st : PartState) → state_is_taken st ≡ true → state_is_refused st ≡ false
 taken-kept state.NoMemory is = (let never : false ≡ true = is in cc)
 taken-kept _ is = refl
 

@@ -4,7 +4,7 @@ use Rattle.volap_cell.specs.Cells.{GateCell, cell_of}
 use Rattle.volap_cell.specs.Values.{actor_of, errand_of}
 use Rattle.core_tree.specs.ReadDue.{IsAtGate, BeginsFor}
 use Rattle.core_tree.proofs.GateDue.{boxed-gate, is-at-gate, read-makes}
-use Rattle.core_tree.proofs.Outcomes.{on-ok}
+use Rattle.volap_cell.proofs.Outcomes.{on-ok}
 use Rattle.core_tree.proofs.reads.gate_read.Goals as goal
 
 pub unreachable-requires-in_default-gate : goal.unreachable-requires-in_default-gate

@@ -5,7 +5,7 @@ use Rattle.volap_cell.specs.Values.{actor_of, errand_of}
 use Rattle.volap_cell.specs.declared.cell.Cell.{Cell}
 use Rattle.volap_cell.proofs.Boxed.{boxed}
 use Rattle.core_tree.specs.ReadDue.{IsAtBlock, VisitsFor}
-use Rattle.core_tree.proofs.Outcomes.{on-ok}
+use Rattle.volap_cell.proofs.Outcomes.{on-ok}
 use Rattle.core_tree.proofs.VisitsBlock.{is-at-block, visit-makes}
 use Rattle.core_tree.proofs.visits.block_visit.Goals as goal
 
