@@ -111,10 +111,13 @@ fn a_core_is_opened(rt: HostRuntime) -> Result<(), Fail> {
 }
 
 #[test]
-fn boxes_are_made_for_as_many_blocks_as_are_asked_for(rt: HostRuntime) -> Result<(), Fail> {
+fn boxes_are_made_until_there_are_as_many_as_asked_for(rt: HostRuntime) -> Result<(), Fail> {
     let mut boxes = Boxes::new(rt.alloc());
-    assert!(rt; boxes.refill(3).is_ok());
-    assert!(rt; boxes.refill(2).is_ok());
-    assert!(rt; boxes.refill(5).is_ok());
+    boxes.refill(3)?;
+    assert_eq!(rt; boxes.count(), 3);
+    boxes.refill(2)?;
+    assert_eq!(rt; boxes.count(), 3);
+    boxes.refill(5)?;
+    assert_eq!(rt; boxes.count(), 5);
     Ok(())
 }
