@@ -17,6 +17,7 @@ use Rattle.volap_cell.specs.Ghost.{AGate, Ghost, InJob, InPurse, InTree, NotOfSt
 use Rattle.volap_cell.specs.Invariant.{InvWith}
 use Rattle.volap_cell.specs.Lineage.{Lineage}
 use Rattle.volap_cell.specs.Numbering.{Numbering}
+use Rattle.volap_cell.specs.Owing.{one_if}
 use Rattle.volap_cell.specs.Setting.{Setting, actor_count, cell_count, first_stock_cell}
 use Rattle.volap_cell.specs.Stocking.{IsWhole, Stamping, Stocking, all_items, all_spares, cells_at, spent_of}
 use Rattle.volap_cell.specs.Turning.{Turning}
@@ -51,9 +52,6 @@ distinct-spares (x ∷ xs) cells stamps = (
 )
 
 -- Owners.
-
-abbrev one_if : Bool → ℕ
-one_if b = cond b 1 0
 
 -- a cell that isn't free and isn't in this purse is neither afterwards
 abbrev pub exchanged_owner : List Spare → ℕ → (ℕ → Owner) → ℕ → Owner

@@ -1,4 +1,4 @@
-ghost use Rattle.std.specs.Prelude.{◌≡◌, ◌^◌, ◌<◌, [], ◌∷◌, OnErr, OnOk};
+ghost use Rattle.std.specs.Prelude.{◌≡◌, ◌+◌, ◌*◌, ◌^◌, ◌<◌, [], ◌∷◌, OnErr, OnOk};
 ghost use Rattle.cell_stock.specs.Stock.{AreOut};
 ghost use Rattle.core_tree.specs.DueAtGates.{CanGiveBack, CanRefill, IsRefilled};
 ghost use Rattle.volap_cell.specs.Cells.{cell_of};
@@ -14,6 +14,10 @@ use volap_cell::{Actor, Boxes, Cell, Task, Way, go_on};
 
 /// So many stamps there are.
 const STAMPS: u64 = 1 << 63;
+
+/// Beside a spare for each level a row may need one for a new root, and one for the block beside the
+/// old root.
+const BESIDE_LEVELS: u64 = 2;
 
 /// Gives the actor's spares back to the stock, and takes as many as a row may need in a tree of the
 /// height that was looked up; where fewer cells are free, none. The boxes for their blocks are made
@@ -45,7 +49,7 @@ pub fn refill(
     let Cell::Stock(stock) = stock else {
         unreachable!()
     };
-    let spares = u64::from(height) + 2;
+    let spares = u64::from(height) + BESIDE_LEVELS;
     exchange(stock, spares, &mut actor.purse, &mut actor.boxes)?;
     go_on(
         &mut actor.errand,
@@ -87,8 +91,17 @@ fn exchange(
         return Err(AllocError);
     }
     purse.reserve(n)?;
-    boxes.refill(2 * n + 1)?;
+    boxes.refill(boxes_for(n))?;
     stock.give(purse);
     let _taken = stock.take(n, purse);
     Ok(())
+}
+
+/// For how many blocks there have to be boxes where there are `n` spares: a division takes one spare and at
+/// most the boxes of two blocks, and the row's leaf may take one.
+fn boxes_for(n: u64) -> u64
+    requires few { n < 2 ^ 33 }
+    ensures { result ≡ 2 * n + 1 }
+{
+    2 * n + 1
 }

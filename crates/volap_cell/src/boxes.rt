@@ -47,6 +47,13 @@ impl Boxes {
         }
     }
 
+    /// For how many blocks there are enough.
+    pub fn count(&self) -> u64
+        ensures { result ≡ self.now }
+    {
+        self.ready
+    }
+
     /// Makes boxes until there are enough for `n` blocks. Where memory is wanting, as many count as before.
     pub fn refill(&mut self, n: u64) -> Result<(), AllocError>
         ensures ok { OnOk result (n ≤ self.new) }

@@ -2,7 +2,7 @@ ghost use Rattle.std.specs.Prelude.{◌≡◌, ◌<◌, [], ◌∷◌, length, I
 ghost use Rattle.volap_cell.specs.State.{CanLift};
 ghost use Rattle.volap_cell.specs.declared.role.Role.TheVariants.{Session, Admin};
 
-use crate::{Cell, Role, RoleList, State, lift_two, open, put_two};
+use crate::{Boxes, Cell, Role, RoleList, State, lift_two, open, put_two};
 use dim_hierarchy::Hierarchy;
 use query_router::Desk;
 use row_ledger::Use;
@@ -107,5 +107,17 @@ fn a_core_is_opened(rt: HostRuntime) -> Result<(), Fail> {
     let state = opened(rt.alloc(), &h)?;
     assert_eq!(rt; (state.cells.len(), state.actors.len()), (16393, 2));
     assert_eq!(rt; filled(&state.cells), 13);
+    Ok(())
+}
+
+#[test]
+fn boxes_are_made_until_there_are_as_many_as_asked_for(rt: HostRuntime) -> Result<(), Fail> {
+    let mut boxes = Boxes::new(rt.alloc());
+    boxes.refill(3)?;
+    assert_eq!(rt; boxes.count(), 3);
+    boxes.refill(2)?;
+    assert_eq!(rt; boxes.count(), 3);
+    boxes.refill(5)?;
+    assert_eq!(rt; boxes.count(), 5);
     Ok(())
 }
