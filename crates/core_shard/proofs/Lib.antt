@@ -7,3 +7,9 @@ pub mod BackFacts
 pub mod EndsPart
 pub mod FinishesPart
 pub mod FinishReady
+pub mod FarLess
+pub mod OnePart
+pub mod RowBack
+pub mod WaitsAgain
+pub mod ForwardsPart
+pub mod ForwardReady

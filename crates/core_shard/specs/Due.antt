@@ -1,16 +1,20 @@
 -- What a kind asks of the cells that it is given and of its actor, beyond that they are those of a state; and what its inner
 -- functions ask.
-use Rattle.std.specs.Prelude.{ℕ, ◌≡◌, ◌+◌, ◌<◌, ◌⊎◌, Option, Some, None, IsSome, position, slice_set}
+use Rattle.std.specs.Prelude.{ℕ, ◌≡◌, ◌+◌, ◌<◌, ◌⊎◌, List, Option, Some, None, IsSome, position, slice_set}
+use Rattle.std.specs.FinMap as map
+use Rattle.std.specs.Ordering.{nat_cmp}
+use Rattle.mapping_table.specs.declared.place.Where.{Where}
+use Rattle.mapping_table.specs.declared.place.Where.TheVariants as where_is
 use Rattle.query_router.specs.Desk.{DeskValue, is_with}
 use Rattle.query_router.specs.declared.part.Part.{Part}
 use Rattle.query_router.specs.declared.part.PartState.TheVariants as state
 use Rattle.query_router.specs.declared.part.Want.{Want}
 use Rattle.query_router.specs.declared.part.PartState.{PartState}
 use Rattle.shard_store.specs.declared.gate.Gate.{Gate}
-use Rattle.volap_cell.specs.Cells.{CellValue, DeskOf, GateCell, desk_in, tag_of}
+use Rattle.volap_cell.specs.Cells.{CellValue, DeskOf, GateCell, MapOf, desk_in, tag_of, where_in}
 use Rattle.volap_cell.specs.Errands.{Outside, place_of}
-use Rattle.volap_cell.specs.ShardKinds.{IsDeskFor, IsOutcome, may_take, path_in, pin_of}
-use Rattle.volap_cell.specs.Values.{ActorValue, ErrandValue, OfRow, TaskValue}
+use Rattle.volap_cell.specs.ShardKinds.{IsDeskFor, IsOutcome, IsOutside, may_take, path_in, pin_of, waiting}
+use Rattle.volap_cell.specs.Values.{ActorValue, ErrandValue, OfRow, Read, TaskValue, Unread}
 use Rattle.volap_cell.specs.declared.errand.Way.{Way}
 use Rattle.volap_cell.specs.declared.errand.Way.TheVariants.{Placed}
 use Rattle.volap_cell.specs.declared.role.Role.{Role}
@@ -101,6 +105,47 @@ pub record IsEnded (e : ErrandValue) (p : Part) : Type 0 where
 pub record Ends (e : ErrandValue) (desk desk_now : DeskValue) : Type 0 where
   pub part : Part
   pub is_ended : IsEnded e part
+  pub place : ℕ
+  pub found : position (is_with e.shard e.worker) desk.parts ≡ Some place
+  pub puts : desk_now ≡ record desk { parts = slice_set desk.parts place part }
+
+-- Going on.
+
+-- the part hasn't passed a gate, and has read none
+abbrev pub IsOut : TaskValue → Type 0
+IsOut (OfRow r) = place_of r.way ≡ Outside
+IsOut (Unread f) = Unit {0}
+IsOut (Read r) = ⊥
+
+-- the actor's part is one of a shard that has moved
+pub record CanForward (map desk : CellValue) (a : ActorValue) : Type 0 where
+  pub e : ErrandValue
+  pub errand : a.errand ≡ Some e
+  pub out : IsOut e.task
+  pub map_is : tag_of map ≡ MapOf e.worker
+  pub to : ℕ
+  pub moved : where_in map e.shard ≡ Some (where_is.Moved to)
+  pub desk_is : tag_of desk ≡ DeskOf e.server
+
+-- the errand's part stands on the desk, and its shard has moved
+pub record CanSend (table : map.FinMap nat_cmp Where) (desk : DeskValue) (e : ErrandValue) : Type 0 where
+  pub out : IsOut e.task
+  pub found : IsSome (position (is_with e.shard e.worker) desk.parts)
+  pub to : ℕ
+  pub moved : map.get table e.shard ≡ Some (where_is.Moved to)
+
+-- a part that waits for a worker, as its errand was before
+pub record WaitsFor (e : ErrandValue) (worker : ℕ) (p : Part) : Type 0 where
+  pub wanted : Want
+  pub path : List ℕ
+  pub outside : IsOutside e.task wanted path
+  pub part : p ≡ waiting e.shard worker path wanted
+
+pub record Sends (table : map.FinMap nat_cmp Where) (desk desk_now : DeskValue) (e : ErrandValue) : Type 0 where
+  pub to : ℕ
+  pub moved : map.get table e.shard ≡ Some (where_is.Moved to)
+  pub part : Part
+  pub waits : WaitsFor e to part
   pub place : ℕ
   pub found : position (is_with e.shard e.worker) desk.parts ≡ Some place
   pub puts : desk_now ≡ record desk { parts = slice_set desk.parts place part }

@@ -3,7 +3,9 @@
 
 mod errands;
 mod finishes;
+mod forwards;
 mod takes;
 
 pub use finishes::finish_part;
+pub use forwards::forward;
 pub use takes::take_part;
