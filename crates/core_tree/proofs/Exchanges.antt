@@ -289,6 +289,7 @@ module _ (s : Setting) (w : World) (g : Ghost) (i : InvWith s (view s w) g) (n :
           live = k.live;
           leads = k.leads;
           split = k.split;
+          divided = k.divided;
           moved = k.moved;
           later = k.later;
           made = k.made;

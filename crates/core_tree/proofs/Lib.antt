@@ -27,6 +27,5 @@ pub mod ReadsGate
 pub mod GateDue
 pub mod FillsPurse
 pub mod EntersQueue
-pub mod Remains
 pub mod ComesIn
 pub mod Enters
