@@ -120,7 +120,7 @@ world-after cells actors w xs n now is lt ln =
 -- What a kind asks.
 
 -- each of some cells that stand at their places is that of the state
-stand-world : (cells : List (Option Cell)) (actors : List (Option Actor)) (w : World) (things : List (ℕ × Cell)) → IsWorldOf cells actors w → Stand cells things → Each (λ t. w.cells t.0 ≡ cell_of t.1) things
+pub stand-world : (cells : List (Option Cell)) (actors : List (Option Actor)) (w : World) (things : List (ℕ × Cell)) → IsWorldOf cells actors w → Stand cells things → Each (λ t. w.cells t.0 ≡ cell_of t.1) things
 stand-world cells actors w [] is st = tt
 stand-world cells actors w (t ∷ things) is st = (
   sym (of-it (get_or cells t.0 None) (λ c. cell_of c ≡ w.cells t.0) t.1 (is.cell t.0 (within cells t.0 t.1 st.0)) st.0),

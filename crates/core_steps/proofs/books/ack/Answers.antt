@@ -1,0 +1,31 @@
+use Rattle.std.proofs.Common.{[], ◌∷◌}
+use Rattle.core_steps.specs.Asked.{Acks}
+use Rattle.volap_cell.specs.State.{exchange}
+use Rattle.volap_cell.specs.declared.kind.Kind.TheVariants.{Ack}
+use Rattle.volap_cell.proofs.States.{drives}
+use Rattle.core_steps.proofs.Ready.{can-lift, can-step, may-hold, step-here}
+use Rattle.core_steps.proofs.books.ack.Goals as goal
+
+pub lift_three-desk-requires : goal.lift_three-desk-requires
+lift_three-desk-requires c = record { there = can-lift c.args.h.now c.args.state.now.cells.items c.args.state.now.actors.items c.requires.state c.args.number Acks (c.args.desk_at ∷ c.args.image_at ∷ c.args.ledger_at ∷ []) c.requires.ready }
+
+pub ack-requires-clause-here : goal.ack-requires-clause-here
+ack-requires-clause-here c =
+    let r = c.lift_three-desk.result in
+    step-here c.args.h.now c.args.state.now.cells.items c.args.state.now.actors.items c.requires.state c.args.number Acks ((c.args.desk_at, r.0) ∷ (c.args.image_at, r.1) ∷ (c.args.ledger_at, r.2) ∷ []) c.requires.ready c.lift_three-desk.ensures.value c.lift-actor.result c.lift-actor.ensures.value
+
+pub ack-requires-clause-due : goal.ack-requires-clause-due
+ack-requires-clause-due c =
+    let r = c.lift_three-desk.result in
+    can-step c.args.h.now c.args.state.now.cells.items c.args.state.now.actors.items c.requires.state c.args.number Acks ((c.args.desk_at, r.0) ∷ (c.args.image_at, r.1) ∷ (c.args.ledger_at, r.2) ∷ []) c.requires.ready c.lift_three-desk.ensures.value c.lift-actor.result c.lift-actor.ensures.value
+
+pub returns : goal.returns
+returns c =
+    let r = c.lift_three-desk.result in
+    record {
+      stepped = drives c.args.h.now Ack c.args.state.now.cells.items _ _ c.args.state.now.actors.items _ _
+          (exchange c.args.desk_at r.0 c.ack.new.desk ∷ exchange c.args.image_at r.1 c.ack.new.image ∷ exchange c.args.ledger_at r.2 c.ack.new.ledger ∷ []) c.args.number c.lift-actor.result c.ack.new.actor
+          c.lift_three-desk.ensures.rest c.lift-actor.ensures.rest c.put_three.ensures.value c.put_actor.ensures.value
+          (may-hold c.args.h.now c.args.state.now.cells.items c.args.state.now.actors.items c.requires.state c.args.number Acks ((c.args.desk_at, r.0) ∷ (c.args.image_at, r.1) ∷ (c.args.ledger_at, r.2) ∷ []) c.requires.ready c.lift_three-desk.ensures.value c.lift-actor.result c.lift-actor.ensures.value)
+          c.ack.ensures.made (λ s w same is inv. tt);
+    }
