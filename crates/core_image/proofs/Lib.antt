@@ -21,3 +21,6 @@ pub mod Tagged
 pub mod Answered
 pub mod AnswersQuery
 pub mod AnsweredHere
+pub mod Heirs
+pub mod Pushed
+pub mod Pulled
