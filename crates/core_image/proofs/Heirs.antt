@@ -1,7 +1,6 @@
 -- No shard comes from one that stands, but that one itself.
 use Rattle.std.proofs.Common.{◌≡◌, ◌≢◌, ℕ, ◌+◌, ◌≤◌, ◌<◌, List, [], ◌∷◌, ◌++◌, map, Bool, true, false, refl, sym, ap, subst, arith, ◌==◌, ◌∙◌, ◌||◌, ◌⊎◌, inl, inr, Contains, eq-eqb, eqb-true}
 use Rattle.std.specs.Prelude.{Option, Some, None, if◌then◌else◌, filter, not}
-use Rattle.std.specs.List.{list_any}
 use Rattle.std.proofs.lemmas.Bool.{cases_lt, cond_both, false≢true, or_cases}
 use Rattle.std.proofs.lemmas.Bool.Decides.{nat_tests}
 use Rattle.std.proofs.lemmas.List.Elements.{Contains-append_cases}

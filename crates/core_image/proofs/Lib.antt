@@ -24,3 +24,4 @@ pub mod AnsweredHere
 pub mod Heirs
 pub mod Pushed
 pub mod Pulled
+pub mod SyncsImage

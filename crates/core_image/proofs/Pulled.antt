@@ -1,25 +1,25 @@
 -- A server pulls: what it and the others know then, and where its inserts lead.
-use Rattle.std.proofs.Common.{◌≡◌, ◌≢◌, ℕ, zero, suc, ◌<◌, List, [], ◌∷◌, length, map, Bool, true, eqb, IsTrue, Option, Some, None, refl, sym, ap, subst, ◌∙◌, arith, ◌⊎◌, inl, inr, ◌==◌, ◌&&◌, All, Any, Contains, eq-eqb, eqb-true}
+use Rattle.std.proofs.Common.{◌≡◌, ◌≢◌, ℕ, ◌<◌, List, [], ◌∷◌, Bool, true, eqb, IsTrue, Option, Some, None, refl, sym, ap, subst, ◌∙◌, arith, ◌⊎◌, inl, inr, ◌==◌, ◌&&◌, All, Any, Contains, eq-eqb, eqb-true}
 use Rattle.std.specs.Prelude.{IsSome, option_map}
 use Rattle.std.specs.List.{AllZip, cons_option, list_any}
 use Rattle.std.proofs.lemmas.Bool.{and_from, and_parts, false≢true}
-use Rattle.std.proofs.lemmas.List.Elements.{All-contains, All-contains_itself, All-nil, All-weaker, Contains-append_right}
+use Rattle.std.proofs.lemmas.List.Elements.{All-contains_itself, All-nil, All-weaker, Contains-append_right}
 use Rattle.std.proofs.lemmas.List.Folds.{Any-from_list_any, list_any-from_Any}
 use Rattle.dim_hierarchy.specs.Dimension.{Dimension}
 use Rattle.dim_hierarchy.specs.declared.row.Row.{Row}
 use Rattle.describing_set.specs.DescSet.{covers}
 use Rattle.describing_set.specs.declared.listing.Spot.{Spot}
 use Rattle.mapping_table.specs.declared.place.Where.{Where}
-use Rattle.query_router.specs.Desk.{DeskValue, is_open}
+use Rattle.query_router.specs.Desk.{DeskValue}
 use Rattle.query_router.specs.declared.part.Part.{Part}
 use Rattle.query_router.specs.declared.part.PartState.{PartState}
 use Rattle.query_router.specs.declared.part.PartState.TheVariants as state
-use Rattle.row_ledger.specs.Bounds.{is_listed, known, listing_of, may, own, published}
+use Rattle.row_ledger.specs.Bounds.{is_listed, known, may, own, published}
 use Rattle.row_ledger.specs.Changes.{ShardsStay}
 use Rattle.row_ledger.specs.Listings.{IsBox, places_of}
-use Rattle.row_ledger.specs.Past.{Ack, Insert, ack_of, acked, insert_at, last_of}
+use Rattle.row_ledger.specs.Past.{Ack, ack_of, acked, insert_at, last_of}
 use Rattle.row_ledger.specs.Right.{EachEvent, Site, Stands}
-use Rattle.row_ledger.specs.Shards.{Place, comes_from, frontier, ids_made, is_live, is_of, is_on, is_path, place}
+use Rattle.row_ledger.specs.Shards.{Place, comes_from, frontier, is_of, is_on, is_path, place}
 use Rattle.row_ledger.specs.declared.event.Event.{Event}
 use Rattle.row_ledger.specs.declared.event.Event.TheVariants.{Acked, Synced}
 use Rattle.row_ledger.proofs.Descent.{comes_from-made, comes_from-self, live-apart, live-made}
@@ -27,7 +27,6 @@ use Rattle.row_ledger.proofs.Elements.{Contains-filtered, Contains-map, Contains
 use Rattle.row_ledger.proofs.Older.{is_path-older}
 use Rattle.server_image.specs.Image.{ImageValue, IsSynced}
 use Rattle.server_image.specs.Registry.{RegistryValue}
-use Rattle.server_image.specs.declared.image.Growth.{Growth}
 use Rattle.tree_shape.proofs.Walks.{on_bool, eqb-eq, eqb-ne}
 use Rattle.volap_cell.specs.Cells.{CellValue, MapCell, where_in}
 use Rattle.volap_cell.specs.Errands.{RowWay}

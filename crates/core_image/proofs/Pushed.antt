@@ -1,11 +1,11 @@
 -- A server's growths go to the registry: what the boxes there become, and what they cover then.
-use Rattle.std.proofs.Common.{◌≡◌, ◌≢◌, ℕ, ◌<◌, List, [], ◌∷◌, map, Bool, true, eqb, IsTrue, refl, sym, ap, subst, ◌∙◌, ◌⊎◌, inl, inr, ◌==◌, ◌&&◌, All, Any, Contains, eq-eqb, eqb-true}
+use Rattle.std.proofs.Common.{◌≡◌, ℕ, ◌<◌, List, [], ◌∷◌, map, true, eqb, IsTrue, refl, sym, ap, subst, ◌∙◌, ◌⊎◌, inl, inr, ◌==◌, ◌&&◌, All, Any, Contains, eq-eqb, eqb-true}
 use Rattle.std.specs.Prelude.{filter}
-use Rattle.std.specs.List.{AllZip, list_any}
+use Rattle.std.specs.List.{AllZip}
 use Rattle.std.proofs.lemmas.Bool.{and_from, cond_both}
 use Rattle.std.proofs.lemmas.List.Elements.{All-cons, All-contains, All-contains_itself, All-head, All-map, All-nil, All-tail, All-weaker}
 use Rattle.std.proofs.lemmas.List.Folds.{list_any-from_Any}
-use Rattle.dim_hierarchy.specs.Dimension.{Dimension, IsHierarchy}
+use Rattle.dim_hierarchy.specs.Dimension.{Dimension}
 use Rattle.dim_hierarchy.specs.Row.{IsCoordOf}
 use Rattle.dim_hierarchy.specs.declared.row.Coord.{Coord}
 use Rattle.dim_hierarchy.specs.declared.row.Row.{Row}
@@ -14,19 +14,19 @@ use Rattle.describing_set.specs.declared.listing.Spot.{Spot}
 use Rattle.row_ledger.specs.Bounds.{may, own, published}
 use Rattle.row_ledger.specs.Listings.{IsBox, IsListing, is_covered, places_of}
 use Rattle.row_ledger.specs.Past.{Ack, acked, last_of}
-use Rattle.row_ledger.specs.Shards.{comes_from, frontier, is_live}
+use Rattle.row_ledger.specs.Shards.{comes_from, frontier}
 use Rattle.row_ledger.specs.declared.event.Event.{Event}
 use Rattle.row_ledger.proofs.Elements.{Contains-filter, Contains-filtered, Contains-map, IsTrue-filtered}
 use Rattle.server_image.specs.Image.{ImageValue, IsSynced, noted}
 use Rattle.server_image.specs.Registry.{RegistryValue}
-use Rattle.server_image.specs.Spots.{Grows, IsGrown}
+use Rattle.server_image.specs.Spots.{IsGrown}
 use Rattle.server_image.specs.declared.image.Growth.{Growth}
 use Rattle.tree_shape.proofs.Walks.{on_bool, eqb-eq, eqb-ne}
 use Rattle.volap_cell.specs.Ghost.{Ghost}
 use Rattle.volap_cell.specs.Imaging.{Fits, HasGrown, IsGrowth, IsImageOf}
 use Rattle.volap_cell.specs.Invariant.{InvWith}
 use Rattle.volap_cell.specs.Setting.{Setting, site_in}
-use Rattle.volap_cell.specs.View.{View, view, row_at}
+use Rattle.volap_cell.specs.View.{View, view}
 use Rattle.volap_cell.specs.World.{World}
 use Rattle.volap_cell.proofs.GrowsKnown.{published-acked}
 use Rattle.core_image.proofs.Boxes.{Any-zip, AllZip-with, All-zip, box-grown, grown-covers, same-places}
@@ -129,8 +129,11 @@ module _ (s : Setting) (w : World) (g : Ghost) (i : InvWith s (view s w) g) (ser
         | inr growth ↦
             let growths : Contains image.growths (record { shard = last_of k.path; at = k.row.at }) = subst (λ (x : ImageValue). Contains x.growths (record { shard = last_of k.path; at = k.row.at })) (ap v.images is ∙ image_there) growth in
             Any-zip Push (λ (spot : Spot). spot.shard ≡ g.home r) (λ (spot : Spot). (spot.shard ≡ g.home r) × (covers s.hierarchy spot.set (v.row r).at ≡ true))
-            (λ old new push at. (push.shard ∙ at, ap (λ (x : Row). covers s.hierarchy new.set x.at) placed.1
-            ∙ push.noted_too (record { shard = last_of k.path; at = k.row.at }) growths (sym home ∙ sym at) (subst (λ (x : Row). IsCoordOf s.hierarchy x.at) placed.1 (row-coords s w g i r placed.0))))
+            (λ old new push at. (
+              push.shard ∙ at,
+              ap (λ (x : Row). covers s.hierarchy new.set x.at) placed.1
+                  ∙ push.noted_too (record { shard = last_of k.path; at = k.row.at }) growths (sym home ∙ sym at) (subst (λ (x : Row). IsCoordOf s.hierarchy x.at) placed.1 (row-coords s w g i r placed.0)),
+            ))
             registry.frontier registry_now.frontier all-pushed
             (subst (λ (x : RegistryValue). Any (λ (spot : Spot). spot.shard ≡ g.home r) x.frontier) registry_there (live-spot s.workers h v.registry.frontier i.lineage.front (g.home r) (i.placing.stands r placed.0)))
       ])
