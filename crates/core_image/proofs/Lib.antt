@@ -25,3 +25,4 @@ pub mod Heirs
 pub mod Pushed
 pub mod Pulled
 pub mod SyncsImage
+pub mod SyncedHere

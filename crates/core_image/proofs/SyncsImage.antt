@@ -72,7 +72,7 @@ pub record IsPull (s : Setting) (h : List Event) (of server : ℕ) (work : Work)
   pub falls : (control_of s (pulled_once work) < control_of s work) ⊎ ((control_of s (pulled_once work) ≡ control_of s work) × (gates_of_work h (pulled_once work) < gates_of_work h work))
 
 -- a settle with a pull to come isn't at its end
-settle-goes : (servers pulls server : ℕ) → settles_next servers pulls ≡ Some server → pulls < servers + servers
+pub settle-goes : (servers pulls server : ℕ) → settles_next servers pulls ≡ Some server → pulls < servers + servers
 settle-goes servers pulls server next = elim (cases_lt pulls (servers + servers)) [
   | inl less ↦ less
   | inr all ↦
