@@ -1,5 +1,5 @@
 -- An actor's command begins or goes on: what the parts keep that read commands and no event.
-use Rattle.std.proofs.Common.{◌≡◌, ◌≢◌, ℕ, ◌<◌, List, Bool, true, Option, Some, sym, ap, ◌∙◌, arith, inl, inr}
+use Rattle.std.proofs.Common.{◌≡◌, ◌≢◌, ℕ, ◌<◌, List, Bool, true, false, Option, Some, sym, ap, ◌∙◌, arith, inl, inr}
 use Rattle.dim_hierarchy.specs.declared.row.Row.{Row}
 use Rattle.dc_node.specs.declared.block.Block.{Block}
 use Rattle.cell_stock.specs.declared.purse.Spare.{Spare}
@@ -12,7 +12,11 @@ use Rattle.volap_cell.specs.Cells.{Tag}
 use Rattle.volap_cell.specs.Errands.{RowWay, Taken}
 use Rattle.volap_cell.specs.ImageKinds.{doing}
 use Rattle.volap_cell.specs.Numbering.{Numbering}
-use Rattle.volap_cell.specs.Placing.{IsRouted, Placing}
+use Rattle.volap_cell.specs.Desking.{Desking, is_on_desk}
+use Rattle.volap_cell.specs.Placing.{Inserting, IsRouted, Placing}
+use Rattle.query_router.specs.Desk.{DeskValue}
+use Rattle.server_image.specs.Image.{ImageValue}
+use Rattle.std.proofs.lemmas.Bool.{false≢true}
 use Rattle.volap_cell.specs.Setting.{Setting, actor_count}
 use Rattle.volap_cell.specs.Values.{JobValue}
 use Rattle.volap_cell.specs.Working.{Balancing, Working}
@@ -88,4 +92,32 @@ module _ (n : ℕ) (old : Option Command) (its : Command) (commands commands_now
       → Balancing s h commands jobs placed home → Balancing s h commands_now jobs placed home
   going-balancing s h jobs placed home none i = record {
     balance = λ a of b is. i.balance a of b (other-had a _ (λ e. none b (ap (λ (c : Command). c.work) (its-own (record { of = of; work = work_is.Balance b }) (ap commands_now (sym e) ∙ is)))) is);
+  }
+
+  -- neither command stands on a desk
+
+  pub going-desking : (s : Setting) (h : List Event) (desks : ℕ → DeskValue) (roles : ℕ → Role) (taken : ℕ → Option Taken) → ((c : Command) → old ≡ Some c → is_on_desk c.work ≡ false) → is_on_desk its.work ≡ false
+      → Desking s h desks roles commands taken → Desking s h desks roles commands_now taken
+  going-desking s h desks roles taken off off_now i = record {
+    empty = i.empty;
+    whose = λ x of within op.
+        let (a, c, has, is, serves, stood) = i.whose x of within op in
+        let other : a ≢ n = (λ e. false≢true (sym (off c (sym new.was_there ∙ ap commands (sym e) ∙ has)) ∙ stood)) in
+        (a, c, other-keeps a c other has, is, serves, stood);
+    on_desk = λ a x c has serves stood.
+        let other : a ≢ n = (λ e. false≢true (sym off_now ∙ ap (λ (d : Command). is_on_desk d.work) (its-own c (ap commands_now (sym e) ∙ has)) ∙ stood)) in
+        i.on_desk a x c (other-had a c other has) serves stood;
+    insert = i.insert;
+    query = i.query;
+    takers = i.takers;
+    at_parts = i.at_parts;
+    one = i.one;
+  }
+
+  pub going-inserting : (s : Setting) (h : List Event) (images : ℕ → ImageValue) (desks : ℕ → DeskValue) (ways : ℕ → Option RowWay) (placed : ℕ → Bool) (path : ℕ → List ℕ) → ((r : ℕ) (row : Row) → its.work ≡ work_is.Insert row false → ⊥)
+      → Inserting s h images desks commands ways placed path → Inserting s h images desks commands_now ways placed path
+  going-inserting s h images desks ways placed path none i = record {
+    unrouted = λ a r row is. i.unrouted a r row (other-had a _ (λ e. none r row (ap (λ (c : Command). c.work) (its-own (record { of = r; work = work_is.Insert row false }) (ap commands_now (sym e) ∙ is)))) is);
+    parts = i.parts;
+    on_way = i.on_way;
   }

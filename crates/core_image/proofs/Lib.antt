@@ -38,3 +38,8 @@ pub mod Answered
 pub mod AnswersQuery
 pub mod AnsweredHere
 pub mod NotesCall
+pub mod Heirs
+pub mod Pushed
+pub mod Pulled
+pub mod SyncsImage
+pub mod SyncedHere

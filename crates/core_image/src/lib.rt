@@ -12,6 +12,7 @@ mod notes;
 mod queries;
 mod routes;
 mod owing;
+mod syncs;
 
 pub use acks::ack;
 pub use answers::answer;
@@ -22,3 +23,4 @@ pub use fails::{fail_query, fail_routed, fail_unrouted};
 pub use notes::{note_refused, note_unknown};
 pub use queries::begin_query;
 pub use routes::route;
+pub use syncs::sync;
