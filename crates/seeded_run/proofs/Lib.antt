@@ -2,3 +2,5 @@ pub mod Dues
 pub mod Shrinks
 pub mod Ranks
 pub mod Progress
+pub mod Movers
+pub mod Ends
