@@ -1,5 +1,6 @@
 pub mod Dues
 pub mod Shrinks
+pub mod Cursors
 pub mod Ranks
 pub mod Progress
 pub mod Movers

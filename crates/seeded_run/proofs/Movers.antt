@@ -331,28 +331,35 @@ module _ (s : Setting) (w : World) (g : Ghost) (rest : ℕ → List Command) (i 
       (subst (λ n. (g.shape n).carried k.way.row.no ≡ true) (sym same) k.carried)
       (subst (λ n. (g.shape n).at k.way.row.no ≡ z) (sym same) k.at)))
 
-  carrier-can : (a y : ℕ) → IsCarried (way_of (w.actors a).errand) y → SomeCan s w rest
+  -- a carrier whose wanted child is idle in the tree can step
+  mover-can : (c : ℕ) → IsWhole (view s w).gates (view s w).phases (view s w).pins c → IsTree (table_of s (view s w).row) (cells_at (view s w).blocks (view s w).trees c) (g.shape c)
+      → (a r : ℕ) → a < actor_count s → (f : Fact a c r) → IsIdleIf (g.shape c) (wanted s w (w.actors a) (carry_kind (block_in (w.cells f.y)))) → SomeCan s w rest
+  mover-can c whole tree a r low f idle = record {
+    due = record { actor = a; within = low; kind_is = carry_kind (block_in (w.cells f.y)); is_due = due-carry a c r f };
+    meets_it = meets-both s w a (carry_kind (block_in (w.cells f.y))) (by (wanted s w (w.actors a) (carry_kind (block_in (w.cells f.y)))) refl idle) (no-job a f.e f.errand);
+  }
+    where
+      by : (o : Option ℕ) → wanted s w (w.actors a) (carry_kind (block_in (w.cells f.y))) ≡ o → IsIdleIf (g.shape c) o → option_map_or (is_block_free s w a) o true ≡ true
+      by None is idle = refl
+      by (Some z) is idle = child-free c whole tree a r z f is idle
+
+  -- of the carriers in a tree one can
+  tree-can : (c : ℕ) → IsWhole (view s w).gates (view s w).phases (view s w).pins c → IsTree (table_of s (view s w).row) (cells_at (view s w).blocks (view s w).trees c) (g.shape c)
+      → (a : ℕ) → a < actor_count s → is_some (carried_in c (way_of (w.actors a).errand)) ≡ true → SomeCan s w rest
   unfolding ways all
-  carrier-can a y keeps =
-      let k = carries s (view s w) g i a y keeps in
-      let c = k.gate in
-      let h = has-way (w.actors a) (w.actors a).errand k.way refl k.is_way in
-      let here : is_some (carried_in c (way_of (w.actors a).errand)) ≡ true = ap is_some (carried-is c y k.way (way_of (w.actors a).errand) k.is_way k.place) in
-      let among = among-from ways c (actor_count s) a (low-at a h.e h.errand) here in
-      let some = some-law (table_of s (view s w).row) (cells_at (view s w).blocks (view s w).trees c) (g.shape c) (all c) (carriers_of ways c (actor_count s)) a
-      k.tree (carriers-are c (gate-phase (w.cells c) k.whole.0)) among in
-      let j = some.0 in
-      let found = among-is ways c (actor_count s) j some.1 in
+  tree-can c whole tree a low here =
+      let (j, among, idle) = some-law (table_of s (view s w).row) (cells_at (view s w).blocks (view s w).trees c) (g.shape c) (all c) (carriers_of ways c (actor_count s)) a
+      tree (carriers-are c (gate-phase (w.cells c) whole.0)) (among-from ways c (actor_count s) a low here) in
+      let found = among-is ways c (actor_count s) j among in
       let r = some-of (carried_in c (way_of (w.actors j).errand)) found.1 in
       let f = fact j c r.0 r.1 in
-      let kind_is = carry_kind (block_in (w.cells f.y)) in
-      let idle : IsIdleIf (g.shape c) (wanted s w (w.actors j) kind_is) = subst (IsIdleIf (g.shape c)) (wants-is j c r.0 f) some.2 in
-      record {
-        due = record { actor = j; within = found.0; kind_is = kind_is; is_due = due-carry j c r.0 f };
-        meets_it = meets-both s w j kind_is
-            (free-or-none s w j (wanted s w (w.actors j) kind_is) (λ z is. child-free c k.whole k.tree j r.0 z f is (subst (IsIdleIf (g.shape c)) is idle)))
-            (no-job j f.e f.errand);
-      }
+      mover-can c whole tree j r.0 found.0 f (subst (IsIdleIf (g.shape c)) (wants-is j c r.0 f) idle)
+
+  carrier-can : (a y : ℕ) → IsCarried (way_of (w.actors a).errand) y → SomeCan s w rest
+  carrier-can a y keeps =
+      let k = carries s (view s w) g i a y keeps in
+      let h = has-way (w.actors a) (w.actors a).errand k.way refl k.is_way in
+      tree-can k.gate k.whole k.tree a (low-at a h.e h.errand) (ap is_some (carried-is k.gate y k.way (way_of (w.actors a).errand) k.is_way k.place))
 
   -- Where nobody does, each block is free.
 

@@ -35,7 +35,7 @@ use Rattle.volap_cell.specs.declared.role.Role.TheVariants as role
 use Rattle.volap_cell.specs.declared.role.Role.TheVariants.{Session}
 use Rattle.seeded_run.specs.Due.{actor_kind, all_below, are_known, command_kind, desk_of, due_by, first_kind, free_kind, is_alone, is_empty, kind_at_empty, kind_by_verdict, led_to, next_kind, page_kind, parts_kind, work_kind}
 use Rattle.seeded_run.specs.Progress.{DueLaw, IsScriptRun, SomeDue, is_done}
-use Rattle.seeded_run.proofs.Dues.{part-law}
+use Rattle.seeded_run.proofs.Dues.{at-part-law}
 
 and-three : (a b c : Bool) → (a && b && c) ≡ true → (a ≡ true) × (b ≡ true) × (c ≡ true)
 and-three true true c e = (refl, refl, e)
@@ -106,7 +106,7 @@ module _ (s : Setting) (w : World) (g : Ghost) (rest : ℕ → List Command) (i 
   -- something is due for an actor that is at a part
   errand-due : (a : ℕ) (e : ErrandValue) → (w.actors a).errand ≡ Some e → SomeDue s w rest
   errand-due a e at =
-      let k = part-law s w rest a e at (led-known a e at) in
+      let k = at-part-law s w rest a e at (led-known a e at) in
       record { actor = a; within = has-taken s (view s w) i.numbering a (taken_by e) (ap taken_of at); kind_is = k.0; is_due = k.1 }
 
   -- and for one that is at a part of a desk

@@ -1,5 +1,6 @@
 //! Laws of what is due, and of what the streams of a phase still have. There is nothing to do at run time.
-ghost use Rattle.seeded_run.specs.Laws.{WholeLaw, RestLaw, IdleLaw, PartLaw, CarrierLaw, WantedLaw, FreeLaw, OrderLaw};
+ghost use Rattle.seeded_run.specs.Cursors.{CursorLaw, FirstLaw, LastLaw};
+ghost use Rattle.seeded_run.specs.Laws.{WholeLaw, RestLaw, IdleLaw, AtPartLaw, CarrierLaw, WantedLaw, FreeLaw, OrderLaw};
 ghost use Rattle.seeded_run.specs.Progress.{CanLaw, DueLaw, EndLaw};
 ghost use Rattle.seeded_run.specs.Ranks.{RankFallsLaw, StepFallsLaw};
 
@@ -9,6 +10,13 @@ pub fn streams_run_out()
     ensures rest { RestLaw }
 {}
 
+/// What a session still has are its commands from its cursor on.
+pub fn cursors_tell_rests()
+    ensures cursor { CursorLaw }
+    ensures first { FirstLaw }
+    ensures last { LastLaw }
+{}
+
 /// Who is idle and has nothing to begin makes no step.
 pub fn idle_actors_wait()
     ensures { IdleLaw }
@@ -16,7 +24,7 @@ pub fn idle_actors_wait()
 
 /// Who is at a part can go on with it, and who carries a row wants no block but a child of its own.
 pub fn parts_go_on()
-    ensures part { PartLaw }
+    ensures part { AtPartLaw }
     ensures carrier { CarrierLaw }
     ensures wanted { WantedLaw }
     ensures free { FreeLaw }
