@@ -17,7 +17,7 @@ use Rattle.seeded_run.specs.Rests.{PhaseRun, rest_of}
 can-step : (s : Setting) (p : PhaseRun) (w : World) (c : SomeCan s w (rest_of p (history_in w))) → can s p w c.due.actor ≡ true
 can-step s p w c = ap (λ o. option_map_or (meets s w c.due.actor) o false) c.due.is_due ∙ c.meets_it
 
-nobody : {X : Type 0} → (actors : List ℕ) (k a : ℕ) → actors ≡ [] → slice_get actors k ≡ Some a → X
+pub nobody : {X : Type 0} → (actors : List ℕ) (k a : ℕ) → actors ≡ [] → slice_get actors k ≡ Some a → X
 nobody actors k a none is = let at : slice_get [] k ≡ Some a = ap (λ l. slice_get l k) (sym none) ∙ is in cc
 
 pub end-law : EndLaw

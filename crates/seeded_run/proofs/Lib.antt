@@ -5,3 +5,4 @@ pub mod Ranks
 pub mod Progress
 pub mod Movers
 pub mod Ends
+pub mod Orders

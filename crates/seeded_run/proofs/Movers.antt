@@ -143,7 +143,7 @@ gate-phase (BlockCell b) is none = cc
 
 -- Tests.
 
-all-from : (n : ℕ) (test : ℕ → Bool) → ((a : ℕ) → a < n → test a ≡ true) → all_below n test ≡ true
+pub all-from : (n : ℕ) (test : ℕ → Bool) → ((a : ℕ) → a < n → test a ≡ true) → all_below n test ≡ true
 all-from zero test each = refl
 all-from (suc n) test each = both (test n) (all_below n test) (each n (omega arith)) (all-from n test (λ a low. each a (omega arith)))
   where
@@ -151,7 +151,7 @@ all-from (suc n) test each = both (test n) (all_below n test) (each n (omega ari
     both true b x y = y
     both false b x y = cc
 
-clash : {X : Type 0} → (b : Bool) → b ≡ true → b ≡ false → X
+pub clash : {X : Type 0} → (b : Bool) → b ≡ true → b ≡ false → X
 clash b x y = cc
 
 -- a block is free where nobody is seen at it
@@ -172,7 +172,7 @@ seen-at y (Some x) is = at-block (block_at x.place) is
     at-block None e = cc
     at-block (Some block) e = ap Some (eqb-true block y e)
 
-meets-both : (s : Setting) (w : World) (a : ℕ) (k : Kind) → option_map_or (is_block_free s w a) (wanted s w (w.actors a) k) true ≡ true → is_drained w (w.actors a).job ≡ true → meets s w a k ≡ true
+pub meets-both : (s : Setting) (w : World) (a : ℕ) (k : Kind) → option_map_or (is_block_free s w a) (wanted s w (w.actors a) k) true ≡ true → is_drained w (w.actors a).job ≡ true → meets s w a k ≡ true
 meets-both s w a k free drained = both (option_map_or (is_block_free s w a) (wanted s w (w.actors a) k) true) (is_drained w (w.actors a).job) free drained
   where
     both : (a b : Bool) → a ≡ true → b ≡ true → (a && b) ≡ true
@@ -180,7 +180,7 @@ meets-both s w a k free drained = both (option_map_or (is_block_free s w a) (wan
     both false b x y = cc
 
 -- what is wanted, if anything, is free
-free-or-none : (s : Setting) (w : World) (a : ℕ) (o : Option ℕ) → ((y : ℕ) → o ≡ Some y → is_block_free s w a y ≡ true) → option_map_or (is_block_free s w a) o true ≡ true
+pub free-or-none : (s : Setting) (w : World) (a : ℕ) (o : Option ℕ) → ((y : ℕ) → o ≡ Some y → is_block_free s w a y ≡ true) → option_map_or (is_block_free s w a) o true ≡ true
 free-or-none s w a None free = refl
 free-or-none s w a (Some y) free = free y refl
 
@@ -232,7 +232,7 @@ never-true false no_way = refl
 
 module _ (s : Setting) (w : World) (g : Ghost) (rest : ℕ → List Command) (i : InvWith s (view s w) g) where
   -- who is at a part has no job
-  no-job : (a : ℕ) (e : ErrandValue) → (w.actors a).errand ≡ Some e → is_drained w (w.actors a).job ≡ true
+  pub no-job : (a : ℕ) (e : ErrandValue) → (w.actors a).errand ≡ Some e → is_drained w (w.actors a).job ≡ true
   no-job a e errand = by (w.actors a).job refl
     where
       by : (j : Option JobValue) → (w.actors a).job ≡ j → is_drained w (w.actors a).job ≡ true
@@ -436,7 +436,7 @@ module _ (s : Setting) (w : World) (g : Ghost) (rest : ℕ → List Command) (i 
       ])
 
   -- a gate that a job waits for still has inserts
-  undrained : (job : Option JobValue) → is_drained w job ≡ false → (c : ℕ) × ((active_in (w.cells c) == 0) ≡ false)
+  pub undrained : (job : Option JobValue) → is_drained w job ≡ false → (c : ℕ) × ((active_in (w.cells c) == 0) ≡ false)
   undrained None is = clash true refl is
   undrained (Some job) is = by (gate_awaited job.stage) is
     where

@@ -1,7 +1,7 @@
 //! Laws of what is due, and of what the streams of a phase still have. There is nothing to do at run time.
 ghost use Rattle.seeded_run.specs.Cursors.{CursorLaw, FirstLaw, LastLaw};
 ghost use Rattle.seeded_run.specs.Laws.{WholeLaw, RestLaw, IdleLaw, AtPartLaw, CarrierLaw, WantedLaw, FreeLaw, OrderLaw};
-ghost use Rattle.seeded_run.specs.Progress.{CanLaw, DueLaw, EndLaw};
+ghost use Rattle.seeded_run.specs.Progress.{CanLaw, DueLaw, EndLaw, OrderEndLaw};
 ghost use Rattle.seeded_run.specs.Ranks.{RankFallsLaw, StepFallsLaw};
 
 /// A stream has all its commands as the phase begins, and one less whenever one begins.
@@ -42,9 +42,11 @@ pub fn less_is_left()
 {}
 
 /// While an actor isn't idle, or a stream isn't at its end, something is due for somebody, and somebody
-/// can do what is due for it. So where nobody can step, the phase is over.
+/// can do what is due for it. So where nobody can step, the phase is over; where the commands go one after
+/// the other too.
 pub fn somebody_goes_on()
     ensures due { DueLaw }
     ensures can { CanLaw }
     ensures over { EndLaw }
+    ensures order { OrderEndLaw }
 {}

@@ -1,5 +1,6 @@
 use Rattle.seeded_run.proofs.Ends.{end-law}
 use Rattle.seeded_run.proofs.Movers.{can-law}
+use Rattle.seeded_run.proofs.Orders.{order-end-law}
 use Rattle.seeded_run.proofs.Progress.{due-law}
 use Rattle.seeded_run.proofs.laws.somebody_goes_on.Goals as goal
 
@@ -11,3 +12,6 @@ returns-clause-can c = can-law
 
 pub returns-clause-over : goal.returns-clause-over
 returns-clause-over c = end-law
+
+pub returns-clause-order : goal.returns-clause-order
+returns-clause-order c = order-end-law
