@@ -47,7 +47,7 @@ all-count with s (c ∷ cs) (suc m) all =
     omega (arith, more, count_of-append with s (c ∷ []) (take m cs), count_of-append with s (c ∷ []) cs)
 
 -- the first ones of two lists behind one another
-take-behind : (xs ys : List Command) (n : ℕ) → length xs ≤ n → (m : ℕ) × (n ≡ length xs + m) × (take n (xs ++ ys) ≡ xs ++ take m ys)
+pub take-behind : (xs ys : List Command) (n : ℕ) → length xs ≤ n → (m : ℕ) × (n ≡ length xs + m) × (take n (xs ++ ys) ≡ xs ++ take m ys)
 take-behind [] ys n low = (n, omega arith, refl)
 take-behind (x ∷ xs) ys zero low = absurd (omega arith)
 take-behind (x ∷ xs) ys (suc n) low =

@@ -15,7 +15,7 @@ use Rattle.volap_cell.specs.declared.errand.Way.TheVariants as way
 use Rattle.volap_cell.specs.declared.kind.Kind.{Kind}
 use Rattle.seeded_run.specs.Can.{is_carried_at}
 use Rattle.seeded_run.specs.Due.{actor_kind, all_below, is_alone, kind_by, led_to, row_kind, task_kind}
-use Rattle.seeded_run.specs.Laws.{FreeLaw, PartLaw}
+use Rattle.seeded_run.specs.Laws.{FreeLaw, AtPartLaw}
 
 -- Parts.
 
@@ -36,8 +36,8 @@ task-some w led a (OfRow r) e = row-some w led a r.way e
 task-some w led a (Unread f) e = by-some led _ e
 task-some w led a (Read r) e = (_, refl)
 
-pub part-law : PartLaw
-part-law s w rest n e at known =
+pub at-part-law : AtPartLaw
+at-part-law s w rest n e at known =
     let k = task-some w (led_to s w e) (w.actors n) e.task known in
     (k.0, ap (actor_kind s w (is_alone s w rest n) (rest n) (w.actors n)) at ∙ k.1)
 

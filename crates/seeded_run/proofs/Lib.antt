@@ -1,4 +1,8 @@
 pub mod Dues
 pub mod Shrinks
+pub mod Cursors
 pub mod Ranks
 pub mod Progress
+pub mod Movers
+pub mod Ends
+pub mod Orders

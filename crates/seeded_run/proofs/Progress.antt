@@ -35,7 +35,7 @@ use Rattle.volap_cell.specs.declared.role.Role.TheVariants as role
 use Rattle.volap_cell.specs.declared.role.Role.TheVariants.{Session}
 use Rattle.seeded_run.specs.Due.{actor_kind, all_below, are_known, command_kind, desk_of, due_by, first_kind, free_kind, is_alone, is_empty, kind_at_empty, kind_by_verdict, led_to, next_kind, page_kind, parts_kind, work_kind}
 use Rattle.seeded_run.specs.Progress.{DueLaw, IsScriptRun, SomeDue, is_done}
-use Rattle.seeded_run.proofs.Dues.{part-law}
+use Rattle.seeded_run.proofs.Dues.{at-part-law}
 
 and-three : (a b c : Bool) → (a && b && c) ≡ true → (a ≡ true) × (b ≡ true) × (c ≡ true)
 and-three true true c e = (refl, refl, e)
@@ -94,7 +94,7 @@ not-all (suc n) test e = by (λ all. not-all n test all) (test n) refl e
 
 module _ (s : Setting) (w : World) (g : Ghost) (rest : ℕ → List Command) (i : InvWith s (view s w) g) where
   -- a worker knows the shard of a part that an actor is at
-  led-known : (a : ℕ) (e : ErrandValue) → (w.actors a).errand ≡ Some e → is_some (led_to s w e) ≡ true
+  pub led-known : (a : ℕ) (e : ErrandValue) → (w.actors a).errand ≡ Some e → is_some (led_to s w e) ≡ true
   led-known a e at =
       let here = i.desking.at_parts a (taken_by e) (ap taken_of at) in
       let p = here.part.1 in
@@ -106,30 +106,42 @@ module _ (s : Setting) (w : World) (g : Ghost) (rest : ℕ → List Command) (i 
   -- something is due for an actor that is at a part
   errand-due : (a : ℕ) (e : ErrandValue) → (w.actors a).errand ≡ Some e → SomeDue s w rest
   errand-due a e at =
-      let k = part-law s w rest a e at (led-known a e at) in
+      let k = at-part-law s w rest a e at (led-known a e at) in
       record { actor = a; within = has-taken s (view s w) i.numbering a (taken_by e) (ap taken_of at); kind_is = k.0; is_due = k.1 }
 
-  -- and for one that is at a part of a desk
-  taken-due : (server : ℕ) → server < s.servers → list_any is_taken ((view s w).desks server).parts ≡ true → SomeDue s w rest
-  taken-due server low any =
+  -- somebody is at a part
+  abbrev pub AtPart : Type 0
+  AtPart = (b : ℕ) × (e : ErrandValue) × ((w.actors b).errand ≡ Some e)
+
+  -- something is due for an actor, or somebody is at a part
+  abbrev pub Goes : ℕ → Type 0
+  Goes a = ((k : Kind) × (due_by s w rest a ≡ Some k)) ⊎ AtPart
+
+  goes-due : (a : ℕ) → a < actor_count s → Goes a → SomeDue s w rest
+  goes-due a low (inl (k, is)) = record { actor = a; within = low; kind_is = k; is_due = is }
+  goes-due a low (inr (b, e, at)) = errand-due b e at
+
+  -- somebody is at a taken part of a desk
+  taken-at : (server : ℕ) → server < s.servers → list_any is_taken ((view s w).desks server).parts ≡ true → AtPart
+  taken-at server low any =
       let found = Any-from_list_any is_taken ((view s w).desks server).parts any in
       let taker = subst (λ (q : Part). is_taken q ≡ true → IsTaken (view s w).taken server q) found.3 (i.desking.takers server low found.0 found.1 found.2) found.4 in
       let e = some-errand (w.actors taker.0).errand taker.1 taker.2 in
-      errand-due taker.0 e.0 e.1
+      (taker.0, e.0, e.1)
 
   -- the kinds that the parts of a desk make due, or somebody is at one of them
-  by-parts : (server : ℕ) → server < s.servers → ((k : Kind) × (parts_kind (Some ((view s w).desks server)) ≡ Some k)) ⊎ SomeDue s w rest
+  by-parts : (server : ℕ) → server < s.servers → ((k : Kind) × (parts_kind (Some ((view s w).desks server)) ≡ Some k)) ⊎ AtPart
   by-parts server low = by (verdict_of ps) refl
     where
       ps : List Part
       ps = ((view s w).desks server).parts
 
-      waiting : (b : Bool) → list_any is_waiting ps ≡ b → verdict_of ps ≡ None → ((k : Kind) × (kind_by_verdict ps None ≡ Some k)) ⊎ SomeDue s w rest
+      waiting : (b : Bool) → list_any is_waiting ps ≡ b → verdict_of ps ≡ None → ((k : Kind) × (kind_by_verdict ps None ≡ Some k)) ⊎ AtPart
       waiting true is none = inl (kind.TakePart, ap (λ b. if b then Some kind.TakePart else None) is)
-      waiting false is none = inr (taken-due server low (open-taken ps (none-open ps none) is))
+      waiting false is none = inr (taken-at server low (open-taken ps (none-open ps none) is))
 
-      by : (v : Option Verdict) → verdict_of ps ≡ v → ((k : Kind) × (kind_by_verdict ps (verdict_of ps) ≡ Some k)) ⊎ SomeDue s w rest
-      by None is = subst (λ v. ((k : Kind) × (kind_by_verdict ps v ≡ Some k)) ⊎ SomeDue s w rest) (sym is) (waiting (list_any is_waiting ps) refl is)
+      by : (v : Option Verdict) → verdict_of ps ≡ v → ((k : Kind) × (kind_by_verdict ps (verdict_of ps) ≡ Some k)) ⊎ AtPart
+      by None is = subst (λ v. ((k : Kind) × (kind_by_verdict ps v ≡ Some k)) ⊎ AtPart) (sym is) (waiting (list_any is_waiting ps) refl is)
       by (Some verdict.NoMemory) is = inl (kind.Note, ap (kind_by_verdict ps) is)
       by (Some verdict.Placed) is = inl (kind.Ack, ap (kind_by_verdict ps) is)
       by (Some (verdict.Sum x)) is = inl (kind.Answer, ap (kind_by_verdict ps) is)
@@ -172,8 +184,8 @@ module _ (s : Setting) (w : World) (g : Ghost) (rest : ℕ → List Command) (i 
     -- something is due for an actor with a command
     module _ (a : ℕ) (low : a < actor_count s) (c : OpenCommand) (at : (w.actors a).command ≡ Some c)
         (is_due : due_by s w rest a ≡ work_kind s (history_in w) (is_alone s w rest a) (desk_of s w (w.actors a).role) (w.actors a) c.of c.work) where
-      found : (k : Kind) → due_by s w rest a ≡ Some k → SomeDue s w rest
-      found k is = record { actor = a; within = low; kind_is = k; is_due = is }
+      found : (k : Kind) → due_by s w rest a ≡ Some k → Goes a
+      found k is = inl (k, is)
 
       of-work : (work : Work) → c.work ≡ work → due_by s w rest a ≡ work_kind s (history_in w) (is_alone s w rest a) (desk_of s w (w.actors a).role) (w.actors a) c.of work
       of-work work is = is_due ∙ ap (work_kind s (history_in w) (is_alone s w rest a) (desk_of s w (w.actors a).role) (w.actors a) c.of) is
@@ -182,19 +194,19 @@ module _ (s : Setting) (w : World) (g : Ghost) (rest : ℕ → List Command) (i 
       progress work is = subst (λ x. IsProgress s (history_in w) c.of x (w.actors a).job (w.actors a).role) is (i.telling.progress a c at)
 
       page-due : (work : Work) → c.work ≡ work → (shown : Bool) → (shown ≡ false → is_some (once_shown work) ≡ true)
-          → due_by s w rest a ≡ page_kind (history_in w) (is_alone s w rest a) c.of shown → SomeDue s w rest
+          → due_by s w rest a ≡ page_kind (history_in w) (is_alone s w rest a) c.of shown → Goes a
       page-due work is true once due = found kind.Note due
       page-due work is false once due =
           let page = run.pages a c at (ap (λ x. is_some (once_shown x)) is ∙ once refl) in
           found kind.Note (due ∙ rw page.0 (rw (eq-eqb (length (history_in w)) (c.of + 1) page.1) refl))
 
-      parts-here : (server : ℕ) → (w.actors a).role ≡ Session server → due_by s w rest a ≡ parts_kind (desk_of s w (w.actors a).role) → SomeDue s w rest
+      parts-here : (server : ℕ) → (w.actors a).role ≡ Session server → due_by s w rest a ≡ parts_kind (desk_of s w (w.actors a).role) → Goes a
       parts-here server role due = elim (by-parts server (session-within a server low role)) [
         | inl k ↦ found k.0 (due ∙ ap (λ r. parts_kind (desk_of s w r)) role ∙ k.1)
-        | inr some ↦ some
+        | inr at ↦ inr at
       ]
 
-      by-work : (work : Work) → c.work ≡ work → SomeDue s w rest
+      by-work : (work : Work) → c.work ≡ work → Goes a
       by-work (work_is.Insert row false) is =
           let p = progress (work_is.Insert row false) is in
           let empty = empty-desk a p.0 (session-within a p.0 low p.1) p.1 (λ d at_d. let same : d ≡ c = cc in ap (λ (x : OpenCommand). is_on_desk x.work) same ∙ ap is_on_desk is) in
@@ -213,19 +225,20 @@ module _ (s : Setting) (w : World) (g : Ghost) (rest : ℕ → List Command) (i 
       by-work (work_is.Audit shown) is = page-due _ is shown (λ e. ap (λ b. is_some (once_shown (work_is.Audit b))) e) (of-work _ is)
 
     -- Of an actor without a command: the one that it has next closes the phase, and someone else isn't done.
-    record Blocked (a : ℕ) : Type 0 where
-      c : Command
-      more : List Command
-      next : rest a ≡ c ∷ more
-      closing : closes c ≡ true
-      others : is_alone s w rest a ≡ false
+    pub record Blocked (a : ℕ) : Type 0 where
+      pub c : Command
+      pub more : List Command
+      pub next : rest a ≡ c ∷ more
+      pub closing : closes c ≡ true
+      pub free : (w.actors a).command ≡ None
+      pub others : is_alone s w rest a ≡ false
 
     module _ (a : ℕ) (low : a < actor_count s) (none : (w.actors a).command ≡ None)
         (is_due : due_by s w rest a ≡ free_kind s w (is_alone s w rest a) (rest a) (w.actors a).role) (left : is_empty (rest a) ≡ false) where
-      here : (k : Kind) → due_by s w rest a ≡ Some k → SomeDue s w rest ⊎ Blocked a
-      here k is = inl (record { actor = a; within = low; kind_is = k; is_due = is })
+      here : (k : Kind) → due_by s w rest a ≡ Some k → Goes a ⊎ Blocked a
+      here k is = inl (inl (k, is))
 
-      by-known : (c : Command) (more : List Command) → rest a ≡ c ∷ more → (known : Bool) → due_by s w rest a ≡ first_kind (desk_of s w (w.actors a).role) c known → SomeDue s w rest ⊎ Blocked a
+      by-known : (c : Command) (more : List Command) → rest a ≡ c ∷ more → (known : Bool) → due_by s w rest a ≡ first_kind (desk_of s w (w.actors a).role) c known → Goes a ⊎ Blocked a
       by-known (script.Insert new) more at true due = here kind.BeginInsert due
       by-known (script.Insert new) more at false due = here kind.Note due
       by-known (script.Query question) more at true due =
@@ -237,16 +250,16 @@ module _ (s : Setting) (w : World) (g : Ghost) (rest : ℕ → List Command) (i 
       by-known (script.Control call) more at false due = here kind.Note due
 
       by-closing : (c : Command) (more : List Command) → rest a ≡ c ∷ more → (closed alone : Bool) → closes c ≡ closed → is_alone s w rest a ≡ alone
-          → due_by s w rest a ≡ (if closed && not alone then None else first_kind (desk_of s w (w.actors a).role) c (are_known s.hierarchy c)) → SomeDue s w rest ⊎ Blocked a
-      by-closing c more at true false is others due = inr (record { c = c; more = more; next = at; closing = is; others = others })
+          → due_by s w rest a ≡ (if closed && not alone then None else first_kind (desk_of s w (w.actors a).role) c (are_known s.hierarchy c)) → Goes a ⊎ Blocked a
+      by-closing c more at true false is others due = inr (record { c = c; more = more; next = at; closing = is; free = none; others = others })
       by-closing c more at true true is others due = by-known c more at (are_known s.hierarchy c) due
       by-closing c more at false alone is others due = by-known c more at (are_known s.hierarchy c) due
 
-      by-next : (cs : List Command) → rest a ≡ cs → due_by s w rest a ≡ next_kind s.hierarchy (is_alone s w rest a) (desk_of s w (w.actors a).role) cs → SomeDue s w rest ⊎ Blocked a
+      by-next : (cs : List Command) → rest a ≡ cs → due_by s w rest a ≡ next_kind s.hierarchy (is_alone s w rest a) (desk_of s w (w.actors a).role) cs → Goes a ⊎ Blocked a
       by-next [] at due = clash true refl (ap is_empty (sym at) ∙ left)
       by-next (c ∷ more) at due = by-closing c more at (closes c) (is_alone s w rest a) refl refl due
 
-      by-role : (r : Role) → (w.actors a).role ≡ r → SomeDue s w rest ⊎ Blocked a
+      by-role : (r : Role) → (w.actors a).role ≡ r → Goes a ⊎ Blocked a
       by-role (role.Hand worker) is = clash true refl (ap is_empty (sym (run.hands a worker is)) ∙ left)
       by-role (role.Session server) is =
           by-next (rest a) refl (is_due ∙ ap (free_kind s w (is_alone s w rest a) (rest a)) is ∙ ap (λ r. next_kind s.hierarchy (is_alone s w rest a) (desk_of s w r) (rest a)) (sym is))
@@ -273,28 +286,28 @@ module _ (s : Setting) (w : World) (g : Ghost) (rest : ℕ → List Command) (i 
           by true true false e f x y z v is = cc
           by true true true false f x y z v is = cc
 
-      without-command : (w.actors a).errand ≡ None → (w.actors a).command ≡ None → (b : Bool) → is_empty (w.actors a).purse ≡ b → SomeDue s w rest ⊎ Blocked a
+      without-command : (w.actors a).errand ≡ None → (w.actors a).command ≡ None → (b : Bool) → is_empty (w.actors a).purse ≡ b → Goes a ⊎ Blocked a
       without-command errand command false purse =
           let job = no-job (w.actors a).job refl command in
-          inl (record { actor = a; within = low; kind_is = kind.Refill; is_due = by-purse a errand (rw job (rw purse refl)) })
+          inl (inl (kind.Refill, by-purse a errand (rw job (rw purse refl))))
       without-command errand command true purse =
           let job = no-job (w.actors a).job refl command in
           by-role a low command
           (by-command a errand (rw job (rw purse refl)) ∙ ap (command_kind s w (is_alone s w rest a) (rest a) (w.actors a)) command)
           (idle-left command errand job purse) (w.actors a).role refl
 
-      with-command : (w.actors a).errand ≡ None → (c : OpenCommand) → (w.actors a).command ≡ Some c → (b : Bool) → (is_none (w.actors a).job && not (is_empty (w.actors a).purse)) ≡ b → SomeDue s w rest
-      with-command errand c command true purse = record { actor = a; within = low; kind_is = kind.Refill; is_due = by-purse a errand purse }
+      with-command : (w.actors a).errand ≡ None → (c : OpenCommand) → (w.actors a).command ≡ Some c → (b : Bool) → (is_none (w.actors a).job && not (is_empty (w.actors a).purse)) ≡ b → Goes a
+      with-command errand c command true purse = inl (kind.Refill, by-purse a errand purse)
       with-command errand c command false purse =
           by-work a low c command (by-command a errand purse ∙ ap (command_kind s w (is_alone s w rest a) (rest a) (w.actors a)) command) c.work refl
 
-      at-no-part : (o : Option OpenCommand) → (w.actors a).command ≡ o → (w.actors a).errand ≡ None → SomeDue s w rest ⊎ Blocked a
+      at-no-part : (o : Option OpenCommand) → (w.actors a).command ≡ o → (w.actors a).errand ≡ None → Goes a ⊎ Blocked a
       at-no-part None command errand = without-command errand command (is_empty (w.actors a).purse) refl
       at-no-part (Some c) command errand = inl (with-command errand c command (is_none (w.actors a).job && not (is_empty (w.actors a).purse)) refl)
 
-      due-or-blocked : (o : Option ErrandValue) → (w.actors a).errand ≡ o → SomeDue s w rest ⊎ Blocked a
+      pub due-or-blocked : (o : Option ErrandValue) → (w.actors a).errand ≡ o → Goes a ⊎ Blocked a
       due-or-blocked None errand = at-no-part (w.actors a).command refl errand
-      due-or-blocked (Some e) errand = inl (errand-due a e errand)
+      due-or-blocked (Some e) errand = inl (inr (a, e, errand))
 
     -- someone else isn't done
     other-busy : (a : ℕ) → is_alone s w rest a ≡ false → (b : ℕ) × (b < actor_count s) × (b ≢ a) × (is_done w rest b ≡ false)
@@ -305,11 +318,11 @@ module _ (s : Setting) (w : World) (g : Ghost) (rest : ℕ → List Command) (i 
 
     someone : (a : ℕ) → a < actor_count s → is_done w rest a ≡ false → SomeDue s w rest
     someone a low busy = elim (due-or-blocked a low busy (w.actors a).errand refl) [
-      | inl some ↦ some
+      | inl goes ↦ goes-due a low goes
       | inr blocked ↦
           let b = other-busy a blocked.others in
           elim (due-or-blocked b.0 b.1 b.3 (w.actors b.0).errand refl) [
-            | inl some ↦ some
+            | inl goes ↦ goes-due b.0 b.1 goes
             | inr too ↦ absurd (b.2 (run.closing b.0 a too.c blocked.c too.more blocked.more too.next blocked.next too.closing blocked.closing))
           ]
     ]

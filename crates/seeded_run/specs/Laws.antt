@@ -41,8 +41,8 @@ pub record CarriesAt (a : ActorValue) (e : ErrandValue) (r : RowErrand) (gate bl
 
 -- Something is due for an actor that is at a part, where the part's worker knows its shard; of one that carries a row, that it goes
 -- down or is put in a leaf.
-abbrev pub PartLaw : Type 0
-PartLaw = (s : Setting) (w : World) (rest : ℕ → List Command) (n : ℕ) (e : ErrandValue) → (w.actors n).errand ≡ Some e → is_some (led_to s w e) ≡ true
+abbrev pub AtPartLaw : Type 0
+AtPartLaw = (s : Setting) (w : World) (rest : ℕ → List Command) (n : ℕ) (e : ErrandValue) → (w.actors n).errand ≡ Some e → is_some (led_to s w e) ≡ true
     → (k : Kind) × (due_by s w rest n ≡ Some k)
 
 abbrev pub CarrierLaw : Type 0

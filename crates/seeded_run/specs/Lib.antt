@@ -1,4 +1,5 @@
 pub mod Rests
+pub mod Cursors
 pub mod Due
 pub mod Can
 pub mod Laws

@@ -1,5 +1,5 @@
 -- While an actor isn't idle, or a stream isn't at its end, somebody can make a step.
-use Rattle.std.specs.Prelude.{ℕ, ◌≡◌, ◌+◌, ◌<◌, ◌&&◌, Bool, true, false, List, [], ◌∷◌, Some, is_some, length}
+use Rattle.std.specs.Prelude.{ℕ, ◌≡◌, ◌≢◌, ◌+◌, ◌<◌, ◌&&◌, Bool, true, false, List, [], ◌∷◌, Some, None, is_some, length}
 use Rattle.script_form.specs.declared.script.Command.{Command}
 use Rattle.script_form.specs.declared.script.Command.TheVariants.{Query}
 use Rattle.script_form.specs.declared.script.Question.{Question}
@@ -14,7 +14,9 @@ use Rattle.volap_cell.specs.World.{World}
 use Rattle.volap_cell.specs.declared.command.Command.{Command as OpenCommand}
 use Rattle.volap_cell.specs.declared.kind.Kind.{Kind}
 use Rattle.volap_cell.specs.declared.role.Role.TheVariants.{Hand, Session}
+use Rattle.seeded_run.specs.Can.{able_in, meets}
 use Rattle.seeded_run.specs.Due.{does_nothing, due_by, is_alone, is_empty}
+use Rattle.seeded_run.specs.Rests.{PhaseRun, first_open, rest_of}
 
 -- What a run of a script keeps: a server has one session; queries are of sessions, hands begin nothing, and one stream at most has a
 -- command next that closes the phase; and a page that isn't shown is next in the history, with everyone else idle.
@@ -41,3 +43,30 @@ pub record SomeDue (s : Setting) (w : World) (rest : ℕ → List Command) : Typ
 abbrev pub DueLaw : Type 0
 DueLaw = (s : Setting) (w : World) (g : Ghost) (rest : ℕ → List Command) → InvWith s (view s w) g → IsScriptRun s w rest
     → (a : ℕ) → a < actor_count s → is_done w rest a ≡ false → SomeDue s w rest
+
+-- an actor can make the step that is due
+pub record SomeCan (s : Setting) (w : World) (rest : ℕ → List Command) : Type 0 where
+  pub due : SomeDue s w rest
+  pub meets_it : meets s w due.actor due.kind_is ≡ true
+
+-- And where something is due, somebody can do what is due for it.
+abbrev pub CanLaw : Type 0
+CanLaw = (s : Setting) (w : World) (g : Ghost) (rest : ℕ → List Command) → InvWith s (view s w) g → SomeDue s w rest → SomeCan s w rest
+
+-- So where nobody can step, all are done: each actor is idle, and each stream at its end.
+abbrev pub EndLaw : Type 0
+EndLaw = (s : Setting) (p : PhaseRun) (w : World) (g : Ghost) → InvWith s (view s w) g → IsScriptRun s w (rest_of p (history_in w)) → able_in false s p w ≡ []
+    → (a : ℕ) → a < actor_count s → is_done w (rest_of p (history_in w)) a ≡ true
+
+-- Where the commands go one after the other: the first one that isn't over is an actor's, who isn't done, and everyone else is idle;
+-- and when it closes the phase, all other streams are at their ends.
+pub record IsOrderedRun (s : Setting) (p : PhaseRun) (w : World) : Type 0 where
+  pub here : (a : ℕ) → first_open p (history_in w) ≡ Some a → (a < actor_count s) × (is_done w (rest_of p (history_in w)) a ≡ false)
+  pub others : (a b : ℕ) → first_open p (history_in w) ≡ Some a → b ≢ a → does_nothing (w.actors b) ≡ true
+  pub last : (a : ℕ) (c : Command) (more : List Command) → first_open p (history_in w) ≡ Some a → (w.actors a).command ≡ None → rest_of p (history_in w) a ≡ c ∷ more
+      → closes c ≡ true → is_alone s w (rest_of p (history_in w)) a ≡ true
+
+-- There too nobody can step when all commands are over, and not before.
+abbrev pub OrderEndLaw : Type 0
+OrderEndLaw = (s : Setting) (p : PhaseRun) (w : World) (g : Ghost) → InvWith s (view s w) g → IsScriptRun s w (rest_of p (history_in w)) → IsOrderedRun s p w
+    → able_in true s p w ≡ [] → first_open p (history_in w) ≡ None

@@ -1,12 +1,20 @@
 //! Laws of what is due, and of what the streams of a phase still have. There is nothing to do at run time.
-ghost use Rattle.seeded_run.specs.Laws.{WholeLaw, RestLaw, IdleLaw, PartLaw, CarrierLaw, WantedLaw, FreeLaw, OrderLaw};
-ghost use Rattle.seeded_run.specs.Progress.{DueLaw};
+ghost use Rattle.seeded_run.specs.Cursors.{CursorLaw, FirstLaw, LastLaw};
+ghost use Rattle.seeded_run.specs.Laws.{WholeLaw, RestLaw, IdleLaw, AtPartLaw, CarrierLaw, WantedLaw, FreeLaw, OrderLaw};
+ghost use Rattle.seeded_run.specs.Progress.{CanLaw, DueLaw, EndLaw, OrderEndLaw};
 ghost use Rattle.seeded_run.specs.Ranks.{RankFallsLaw, StepFallsLaw};
 
 /// A stream has all its commands as the phase begins, and one less whenever one begins.
 pub fn streams_run_out()
     ensures whole { WholeLaw }
     ensures rest { RestLaw }
+{}
+
+/// What a session still has are its commands from its cursor on.
+pub fn cursors_tell_rests()
+    ensures cursor { CursorLaw }
+    ensures first { FirstLaw }
+    ensures last { LastLaw }
 {}
 
 /// Who is idle and has nothing to begin makes no step.
@@ -16,7 +24,7 @@ pub fn idle_actors_wait()
 
 /// Who is at a part can go on with it, and who carries a row wants no block but a child of its own.
 pub fn parts_go_on()
-    ensures part { PartLaw }
+    ensures part { AtPartLaw }
     ensures carrier { CarrierLaw }
     ensures wanted { WantedLaw }
     ensures free { FreeLaw }
@@ -33,7 +41,12 @@ pub fn less_is_left()
     ensures step { StepFallsLaw }
 {}
 
-/// While an actor isn't idle, or a stream isn't at its end, something is due for somebody.
-pub fn something_is_due()
+/// While an actor isn't idle, or a stream isn't at its end, something is due for somebody, and somebody
+/// can do what is due for it. So where nobody can step, the phase is over; where the commands go one after
+/// the other too.
+pub fn somebody_goes_on()
     ensures due { DueLaw }
+    ensures can { CanLaw }
+    ensures over { EndLaw }
+    ensures order { OrderEndLaw }
 {}

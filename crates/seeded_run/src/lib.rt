@@ -4,6 +4,6 @@
 mod laws;
 
 pub use laws::{
-    idle_actors_wait, less_is_left, one_steps_in_order, parts_go_on, something_is_due,
-    streams_run_out,
+    cursors_tell_rests, idle_actors_wait, less_is_left, one_steps_in_order, parts_go_on,
+    somebody_goes_on, streams_run_out,
 };

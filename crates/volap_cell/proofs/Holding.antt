@@ -34,19 +34,20 @@ on-way None y k = absurd k
 on-way (Some x) y k = (let at = at-block x.place y k in (x, at.0, refl, at.1))
 
 -- a row that an actor carries at a block of a tree
-record Carries (s : Setting) (v : View) (g : Ghost) (a y : ℕ) : Type 0 where
-  way : RowWay
-  gate : ℕ
-  is_way : v.ways a ≡ Some way
-  whole : IsWhole v.gates v.phases v.pins gate
-  placed : (g.shape gate).placed way.row.no ≡ true
-  carried : (g.shape gate).carried way.row.no ≡ true
-  at : (g.shape gate).at way.row.no ≡ y
-  tree : IsTree (table_of s v.row) (cells_at v.blocks v.trees gate) (g.shape gate)
-  owner : g.owner y ≡ InTree gate
-  block : v.made y ≡ true
+pub record Carries (s : Setting) (v : View) (g : Ghost) (a y : ℕ) : Type 0 where
+  pub way : RowWay
+  pub gate : ℕ
+  pub is_way : v.ways a ≡ Some way
+  pub place : way.place ≡ AtBlock gate y
+  pub whole : IsWhole v.gates v.phases v.pins gate
+  pub placed : (g.shape gate).placed way.row.no ≡ true
+  pub carried : (g.shape gate).carried way.row.no ≡ true
+  pub at : (g.shape gate).at way.row.no ≡ y
+  pub tree : IsTree (table_of s v.row) (cells_at v.blocks v.trees gate) (g.shape gate)
+  pub owner : g.owner y ≡ InTree gate
+  pub block : v.made y ≡ true
 
-carries : (s : Setting) (v : View) (g : Ghost) → InvWith s v g → (a y : ℕ) → IsCarried (v.ways a) y → Carries s v g a y
+pub carries : (s : Setting) (v : View) (g : Ghost) → InvWith s v g → (a y : ℕ) → IsCarried (v.ways a) y → Carries s v g a y
 carries s v g inv a y keeps =
     let way = on-way (v.ways a) y keeps in
     let turn = inv.turning.carrying a way.1 y way.0 way.2 way.3 in
@@ -62,6 +63,7 @@ carries s v g inv a y keeps =
       way = way.0;
       gate = way.1;
       is_way = way.2;
+      place = way.3;
       whole = whole;
       placed = turn.0.placed;
       carried = turn.1;
