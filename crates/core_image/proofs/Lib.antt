@@ -22,3 +22,4 @@ pub mod CallsBegin
 pub mod Hosts
 pub mod NewCommands
 pub mod NotesCall
+pub mod Pageless
