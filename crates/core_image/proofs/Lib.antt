@@ -23,3 +23,6 @@ pub mod Hosts
 pub mod NewCommands
 pub mod NotesCall
 pub mod Pageless
+pub mod JobsEnd
+pub mod CallsEnd
+pub mod Endings
