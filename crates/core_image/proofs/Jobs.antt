@@ -33,6 +33,43 @@ use Rattle.volap_cell.specs.declared.role.Role.TheVariants.{Admin}
 use Rattle.volap_cell.proofs.Fields.{IsNewAt}
 use Rattle.core_image.proofs.Begun.{had-or-its, has-still}
 
+-- Jobs for which the same is spent, and the same noted.
+
+module _ (s : Setting) (jobs jobs_now : ℕ → Option JobValue) (purses : ℕ → List Spare) (spent-same : (a : ℕ) → spent_of (jobs_now a) ≡ spent_of (jobs a)) where
+  pub stocking-alike : (stock : StockValue) (made : ℕ → Bool) (gates : ℕ → Option ℕ) (phases : ℕ → Option Phase) (pins : ℕ → ℕ) (gone : ℕ → List ℕ) (owner : ℕ → Owner) (shape : ℕ → Shape)
+      → Stocking s stock made gates phases pins gone purses jobs owner shape → Stocking s stock made gates phases pins gone purses jobs_now owner shape
+  stocking-alike stock made gates phases pins gone owner shape i = record {
+    valid = i.valid;
+    count = i.count;
+    within = i.within;
+    unused = i.unused;
+    purse = i.purse;
+    job = λ a y. ap (λ (xs : List Spare). times y (cells_of xs)) (spent-same a) ∙ i.job a y;
+    gate = i.gate;
+    gate_back = i.gate_back;
+    tree = i.tree;
+    tree_back = i.tree_back;
+    gone_cells = i.gone_cells;
+    none_gone = i.none_gone;
+  }
+
+module _ (jobs jobs_now : ℕ → Option JobValue) (purses : ℕ → List Spare) (spent-same : (a : ℕ) → spent_of (jobs_now a) ≡ spent_of (jobs a)) (items-same : (a : ℕ) → items_of_job (jobs_now a) ≡ items_of_job (jobs a)) where
+  pub stamping-alike : (stock : StockValue) (blocks : ℕ → Block) (trees : ℕ → Gate) (gates : ℕ → Option ℕ) (phases : ℕ → Option Phase) (pins : ℕ → ℕ) (reads : ℕ → Option ReadPart) (shape : ℕ → Shape)
+      → Stamping stock blocks trees gates phases pins purses reads jobs shape → Stamping stock blocks trees gates phases pins purses reads jobs_now shape
+  stamping-alike stock blocks trees gates phases pins reads shape i =
+      let spares : (a : ℕ) → all_spares purses jobs a ≡ all_spares purses jobs_now a = λ a. ap (λ (xs : List Spare). purses a ++ xs) (sym (spent-same a)) in
+      let items : (a : ℕ) → all_items reads jobs a ≡ all_items reads jobs_now a = λ a. ap (λ (xs : List Item). items_of_read (reads a) ++ xs) (sym (items-same a)) in
+      record {
+        given = λ a. subst (λ (xs : List Spare). Each (λ x. x.stamp < stock.stamps) xs) (spares a) (i.given a);
+        apart = λ a b ne. subst (λ (xs : List Spare). Each (λ x. Each (AreApart x) (all_spares purses jobs_now b)) xs) (spares a)
+            (subst (λ (ys : List Spare). Each (λ x. Each (AreApart x) ys) (all_spares purses jobs a)) (spares b) (i.apart a b ne));
+        spare = λ a c whole. subst (λ (xs : List Spare). AreSpares (shape c) (nodes (cells_at blocks trees c)) xs) (spares a) (i.spare a c whole);
+        waits = λ a b. subst (λ (xs : List Spare). Each (λ x. NoneWaits x.stamp (all_items reads jobs_now b)) xs) (spares a)
+            (subst (λ (ys : List Item). Each (λ x. NoneWaits x.stamp ys) (all_spares purses jobs a)) (items b) (i.waits a b));
+        fresh = i.fresh;
+        fresh_waits = λ b stamp le. subst (λ (ys : List Item). NoneWaits stamp ys) (items b) (i.fresh_waits b stamp le);
+      }
+
 -- a job at its beginning, for the command that asks for it, of an administrator without spares
 pub record IsNewJob (s : Setting) (h : List Event) (role : Role) (purse : List Spare) (work : Work) (j : JobValue) : Type 0 where
   pub called : j.stage ≡ IsCalled
@@ -101,36 +138,11 @@ module _ (n : ℕ) (its : Command) (commands commands_now : ℕ → Option Comma
 
   pub begun-stocking : (stock : StockValue) (made : ℕ → Bool) (gates : ℕ → Option ℕ) (phases : ℕ → Option Phase) (pins : ℕ → ℕ) (gone : ℕ → List ℕ) (owner : ℕ → Owner) (shape : ℕ → Shape)
       → Stocking s stock made gates phases pins gone purses jobs owner shape → Stocking s stock made gates phases pins gone purses jobs_now owner shape
-  begun-stocking stock made gates phases pins gone owner shape i = record {
-    valid = i.valid;
-    count = i.count;
-    within = i.within;
-    unused = i.unused;
-    purse = i.purse;
-    job = λ a y. ap (λ (xs : List Spare). times y (cells_of xs)) (spent-same a) ∙ i.job a y;
-    gate = i.gate;
-    gate_back = i.gate_back;
-    tree = i.tree;
-    tree_back = i.tree_back;
-    gone_cells = i.gone_cells;
-    none_gone = i.none_gone;
-  }
+  begun-stocking = stocking-alike s jobs jobs_now purses spent-same
 
   pub begun-stamping : (stock : StockValue) (blocks : ℕ → Block) (trees : ℕ → Gate) (gates : ℕ → Option ℕ) (phases : ℕ → Option Phase) (pins : ℕ → ℕ) (reads : ℕ → Option ReadPart) (shape : ℕ → Shape)
       → Stamping stock blocks trees gates phases pins purses reads jobs shape → Stamping stock blocks trees gates phases pins purses reads jobs_now shape
-  begun-stamping stock blocks trees gates phases pins reads shape i =
-      let spares : (a : ℕ) → all_spares purses jobs a ≡ all_spares purses jobs_now a = λ a. ap (λ (xs : List Spare). purses a ++ xs) (sym (spent-same a)) in
-      let items : (a : ℕ) → all_items reads jobs a ≡ all_items reads jobs_now a = λ a. ap (λ (xs : List Item). items_of_read (reads a) ++ xs) (sym (items-same a)) in
-      record {
-        given = λ a. subst (λ (xs : List Spare). Each (λ x. x.stamp < stock.stamps) xs) (spares a) (i.given a);
-        apart = λ a b ne. subst (λ (xs : List Spare). Each (λ x. Each (AreApart x) (all_spares purses jobs_now b)) xs) (spares a)
-            (subst (λ (ys : List Spare). Each (λ x. Each (AreApart x) ys) (all_spares purses jobs a)) (spares b) (i.apart a b ne));
-        spare = λ a c whole. subst (λ (xs : List Spare). AreSpares (shape c) (nodes (cells_at blocks trees c)) xs) (spares a) (i.spare a c whole);
-        waits = λ a b. subst (λ (xs : List Spare). Each (λ x. NoneWaits x.stamp (all_items reads jobs_now b)) xs) (spares a)
-            (subst (λ (ys : List Item). Each (λ x. NoneWaits x.stamp ys) (all_spares purses jobs a)) (items b) (i.waits a b));
-        fresh = i.fresh;
-        fresh_waits = λ b stamp le. subst (λ (ys : List Item). NoneWaits stamp ys) (items b) (i.fresh_waits b stamp le);
-      }
+  begun-stamping = stamping-alike jobs jobs_now purses spent-same items-same
 
   -- Jobs.
 

@@ -43,3 +43,7 @@ pub mod Pushed
 pub mod Pulled
 pub mod SyncsImage
 pub mod SyncedHere
+pub mod Pageless
+pub mod JobsEnd
+pub mod CallsEnd
+pub mod Endings

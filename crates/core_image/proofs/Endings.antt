@@ -1,0 +1,259 @@
+-- How each command that is no insert and no query is as it ends.
+use Rattle.std.proofs.Common.{◌≡◌, ℕ, ◌≤◌, List, [], Bool, true, false, Option, Some, None, is_some, refl, sym, ap, ◌∙◌, subst, arith, inl, inr}
+use Rattle.std.specs.Option.{option_map_or}
+use Rattle.dim_hierarchy.specs.Dimension.{Dimension}
+use Rattle.dim_hierarchy.specs.declared.row.Row.{Row}
+use Rattle.row_ledger.specs.Past.{before, call_at, has_ended, has_page, work}
+use Rattle.row_ledger.specs.Work.{AreReadOf, IsCause, IsRightDecline, MayEndAction, is_known, shard_of}
+use Rattle.row_ledger.specs.declared.event.Event.{Event}
+use Rattle.row_ledger.specs.declared.settings.Call.{Call}
+use Rattle.row_ledger.specs.declared.settings.Decline.{Decline}
+use Rattle.row_ledger.specs.declared.settings.Decline.TheVariants as decline
+use Rattle.row_ledger.specs.declared.settings.How.{How}
+use Rattle.row_ledger.specs.declared.settings.How.TheVariants as how_is
+use Rattle.shard_plan.specs.declared.action.Action.{Action}
+use Rattle.shard_plan.specs.declared.action.Action.TheVariants as action
+use Rattle.std.specs.Prelude.{if◌then◌else◌}
+use Rattle.std.proofs.lemmas.Bool.{false≢true}
+use Rattle.row_ledger.specs.Right.{MayEnd, shows}
+use Rattle.tree_shape.proofs.Walks.{on_bool}
+use Rattle.volap_cell.specs.declared.command.Work.TheVariants as work_is
+use Rattle.core_image.proofs.CallsEnd.{IsEnding}
+use Rattle.row_ledger.specs.declared.settings.Call.TheVariants as call_is
+use Rattle.volap_cell.specs.declared.command.Balance.{Balance}
+use Rattle.volap_cell.specs.AdminKinds.{spent_in}
+use Rattle.volap_cell.specs.Commands.{EndsJob, EndsStage, MayNoteEnd}
+use Rattle.volap_cell.specs.Falls.{shown_left}
+use Rattle.volap_cell.specs.Ghost.{Ghost}
+use Rattle.volap_cell.specs.ImageKinds.{doing}
+use Rattle.volap_cell.specs.Invariant.{InvWith}
+use Rattle.volap_cell.specs.Setting.{Setting, site_in}
+use Rattle.volap_cell.specs.Stocking.{items_in, items_of_job, spent_of}
+use Rattle.volap_cell.specs.Telling.{IsProgress}
+use Rattle.volap_cell.specs.Values.{JobValue, StageValue, IsCalled, IsDeclined, IsFrozen, Collects, Builds}
+use Rattle.volap_cell.specs.View.{View}
+use Rattle.volap_cell.specs.Working.{IsDeclinedFor, IsJobOf, action_of, action_to}
+use Rattle.volap_cell.specs.declared.command.Command.{Command}
+use Rattle.volap_cell.specs.declared.command.Work.{Work}
+use Rattle.core_image.proofs.Pageless.{asks_page, no-page}
+
+-- a decline has a cause, and that isn't that a shard is unknown
+never-unknown : (hs : List Dimension) (a : Action) (rows : List Row) → IsCause hs a rows decline.Unknown → ⊥
+never-unknown hs (action.Split x) rows cause = cause
+never-unknown hs (action.Move x to) rows cause = cause
+
+shard-of : (shard : ℕ) (to : Option ℕ) → shard_of (action_to shard to) ≡ shard
+shard-of shard None = refl
+shard-of shard (Some worker) = refl
+
+-- a stage at which a job ends by itself has spent nothing and noted nothing
+
+stage-spent : (stage : StageValue) (how : How) → EndsStage stage how → (spent_in stage ≡ []) × (items_in stage ≡ [])
+stage-spent IsCalled how ends = (refl, refl)
+stage-spent (IsDeclined why) how ends = (refl, refl)
+stage-spent (IsFrozen f) how ends = absurd ends
+stage-spent (Collects c) how ends = absurd ends
+stage-spent (Builds b) how ends = absurd ends
+
+job-spent : (job : Option JobValue) (how : How) → EndsJob job how → (spent_of job ≡ []) × (items_of_job job ≡ [])
+job-spent None how ends = (refl, refl)
+job-spent (Some j) how ends = stage-spent j.stage how ends
+
+none-spent : (job : Option JobValue) → ((j : JobValue) → job ≡ Some j → ⊥) → (spent_of job ≡ []) × (items_of_job job ≡ [])
+none-spent None none = (refl, refl)
+none-spent (Some j) none = absurd (none j refl)
+
+one-shown : (shown : Bool) → 1 ≤ shown_left shown
+one-shown true = omega arith
+one-shown false = omega arith
+
+module _ (s : Setting) (v : View) (g : Ghost) (i : InvWith s v g) (n of : ℕ) where
+  abbrev h : List Event
+  h = v.history
+
+  -- no page was asked for
+  unasked : (call : Call) → call_at h of ≡ Some call → asks_page call ≡ false → has_page h of ≡ false
+  unasked call called none = no-page (site_in s) g.placed h i.telling.right.right.each of call called none
+
+  module _ (its_work : Work) (has : v.commands n ≡ doing of its_work) (open_ : has_ended h of ≡ false) (progress : IsProgress s h of its_work (v.jobs n) (v.roles n)) where
+    -- what the command's job is of
+    job-of : (j : JobValue) → v.jobs n ≡ Some j → IsJobOf its_work j
+    job-of j is =
+        let c = i.working.command n j is in
+        let same : c.0.work ≡ its_work = ap (λ (o : Option Command). option_map_or (λ (k : Command). k.work) o its_work) (sym c.1 ∙ has) in
+        subst (λ (x : Work). IsJobOf x j) same c.2
+
+    -- the end of a split or a move
+    action-ends : (a : Action) → ((j : JobValue) → v.jobs n ≡ Some j → action_of j ≡ a) → (job : Option JobValue) → v.jobs n ≡ job → (how : How) → EndsJob job how → work h of ≡ [] → is_some job ≡ is_known (site_in s) (before h of) a
+        → MayEndAction (site_in s) g.placed h of a how
+    action-ends a same None is (how_is.Declined why) ends none known = subst (λ (d : Decline). MayEndAction (site_in s) g.placed h of a (how_is.Declined d)) (sym ends) (sym known, none)
+    action-ends a same None is how_is.Fine ends none known = absurd ends
+    action-ends a same None is (how_is.Balanced done planned) ends none known = absurd ends
+    action-ends a same None is how_is.Postponed ends none known = absurd ends
+    action-ends a same None is how_is.NoMemory ends none known = absurd ends
+    action-ends a same (Some j) is how ends none known = by-stage j.stage refl how ends
+      where
+        of-action : (why : Decline) → IsDeclinedFor s h g.placed of j why → IsRightDecline (site_in s) g.placed h of a why
+        of-action why d =
+            let its : action_of j ≡ a = same j is in
+            subst (λ (x : Action). IsRightDecline (site_in s) g.placed h of x why) its
+            (record { rows = d.rows; read = subst (λ (x : ℕ). AreReadOf g.placed (before h of) h x d.rows) (sym (shard-of j.shard j.to)) d.read; cause = d.cause })
+
+        declined : (why : Decline) → IsDeclinedFor s h g.placed of j why → MayEndAction (site_in s) g.placed h of a (how_is.Declined why)
+        declined decline.Unknown d = absurd (never-unknown s.hierarchy (action_of j) d.rows d.cause)
+        declined decline.OnePlace d = (sym known, none, of-action decline.OnePlace d)
+        declined (decline.NoCell need free) d = (sym known, none, of-action (decline.NoCell need free) d)
+
+        by-stage : (stage : StageValue) → j.stage ≡ stage → (how : How) → EndsStage stage how → MayEndAction (site_in s) g.placed h of a how
+        by-stage (IsDeclined d) st (how_is.Declined why) ends = subst (λ (x : Decline). MayEndAction (site_in s) g.placed h of a (how_is.Declined x)) (sym ends) (declined d (i.working.declined n j _ d is has st))
+        by-stage (IsDeclined d) st how_is.Fine ends = absurd ends
+        by-stage (IsDeclined d) st (how_is.Balanced done planned) ends = absurd ends
+        by-stage (IsDeclined d) st how_is.Postponed ends = absurd ends
+        by-stage (IsDeclined d) st how_is.NoMemory ends = absurd ends
+        by-stage IsCalled st how_is.NoMemory ends = none
+        by-stage IsCalled st (how_is.Declined why) ends = absurd ends
+        by-stage IsCalled st how_is.Fine ends = absurd ends
+        by-stage IsCalled st (how_is.Balanced done planned) ends = absurd ends
+        by-stage IsCalled st how_is.Postponed ends = absurd ends
+        by-stage (IsFrozen f) st how ends = absurd ends
+        by-stage (Collects c) st how ends = absurd ends
+        by-stage (Builds b) st how ends = absurd ends
+
+  one-owed : (shown : Bool) → 1 ≤ (if shown then 1 else 2)
+  one-owed true = omega arith
+  one-owed false = omega arith
+
+  sync-ends : (server : ℕ) (pulled : Bool) → v.commands n ≡ doing of (work_is.Sync server pulled) → has_ended h of ≡ false → IsProgress s h of (work_is.Sync server pulled) (v.jobs n) (v.roles n) → (how : How)
+      → MayEnd (site_in s) g.placed h of (call_is.Sync server) how → shows (call_is.Sync server) how ≡ false → IsEnding s h g.placed of (work_is.Sync server pulled) (v.jobs n) how
+  sync-ends server pulled has open_ progress how may none =
+      let nothing = none-spent (v.jobs n) (λ j is. job-of (work_is.Sync server pulled) has open_ progress j is) in
+      record {
+        right = record { call = call_is.Sync server; called = progress.0; is_open = open_; may_end = may; page = unasked (call_is.Sync server) progress.0 refl ∙ sym none };
+        off_desk = refl;
+        no_insert = refl;
+        some = omega arith;
+        unspent = nothing.0;
+        unnoted = nothing.1;
+        less = inr (one-owed pulled);
+      }
+
+  settle-ends : (pulls : ℕ) → v.commands n ≡ doing of (work_is.Settle pulls) → has_ended h of ≡ false → IsProgress s h of (work_is.Settle pulls) (v.jobs n) (v.roles n) → (how : How)
+      → MayEnd (site_in s) g.placed h of call_is.Settle how → shows call_is.Settle how ≡ false → IsEnding s h g.placed of (work_is.Settle pulls) (v.jobs n) how
+  settle-ends pulls has open_ progress how may none =
+      let nothing = none-spent (v.jobs n) (λ j is. job-of (work_is.Settle pulls) has open_ progress j is) in
+      record {
+        right = record { call = call_is.Settle; called = progress.0; is_open = open_; may_end = may; page = unasked call_is.Settle progress.0 refl ∙ sym none };
+        off_desk = refl;
+        no_insert = refl;
+        some = omega arith;
+        unspent = nothing.0;
+        unnoted = nothing.1;
+        less = inl (omega arith);
+      }
+
+  shards-end : (shown : Bool) → v.commands n ≡ doing of (work_is.Shards shown) → has_ended h of ≡ false → IsProgress s h of (work_is.Shards shown) (v.jobs n) (v.roles n) → (how : How)
+      → MayEnd (site_in s) g.placed h of call_is.Shards how → has_page h of ≡ shows call_is.Shards how → IsEnding s h g.placed of (work_is.Shards shown) (v.jobs n) how
+  shards-end shown has open_ progress how may page =
+      let nothing = none-spent (v.jobs n) (λ j is. job-of (work_is.Shards shown) has open_ progress j is) in
+      record {
+        right = record { call = call_is.Shards; called = progress.0; is_open = open_; may_end = may; page = page };
+        off_desk = refl;
+        no_insert = refl;
+        some = one-owed shown;
+        unspent = nothing.0;
+        unnoted = nothing.1;
+        less = inl (one-shown shown);
+      }
+
+  tree-ends : (x : ℕ) (stands shown : Bool) → v.commands n ≡ doing of (work_is.Tree x stands shown) → has_ended h of ≡ false → IsProgress s h of (work_is.Tree x stands shown) (v.jobs n) (v.roles n) → (how : How)
+      → MayEnd (site_in s) g.placed h of (call_is.Tree x) how → has_page h of ≡ shows (call_is.Tree x) how → IsEnding s h g.placed of (work_is.Tree x stands shown) (v.jobs n) how
+  tree-ends x stands shown has open_ progress how may page =
+      let nothing = none-spent (v.jobs n) (λ j is. job-of (work_is.Tree x stands shown) has open_ progress j is) in
+      record {
+        right = record { call = call_is.Tree x; called = progress.0; is_open = open_; may_end = may; page = page };
+        off_desk = refl;
+        no_insert = refl;
+        some = one-owed shown;
+        unspent = nothing.0;
+        unnoted = nothing.1;
+        less = inl (one-shown shown);
+      }
+
+  audit-ends : (shown : Bool) → v.commands n ≡ doing of (work_is.Audit shown) → has_ended h of ≡ false → IsProgress s h of (work_is.Audit shown) (v.jobs n) (v.roles n) → (how : How)
+      → MayEnd (site_in s) g.placed h of call_is.Audit how → has_page h of ≡ shows call_is.Audit how → IsEnding s h g.placed of (work_is.Audit shown) (v.jobs n) how
+  audit-ends shown has open_ progress how may page =
+      let nothing = none-spent (v.jobs n) (λ j is. job-of (work_is.Audit shown) has open_ progress j is) in
+      record {
+        right = record { call = call_is.Audit; called = progress.0; is_open = open_; may_end = may; page = page };
+        off_desk = refl;
+        no_insert = refl;
+        some = one-owed shown;
+        unspent = nothing.0;
+        unnoted = nothing.1;
+        less = inl (one-shown shown);
+      }
+
+  -- Each command. That of a balance stands by itself.
+  pub ends-as : (its_work : Work) → v.commands n ≡ doing of its_work → has_ended h of ≡ false → IsProgress s h of its_work (v.jobs n) (v.roles n) → (how : How) → MayNoteEnd s.servers its_work (v.jobs n) how
+      → ((b : Balance) → its_work ≡ work_is.Balance b → IsEnding s h g.placed of its_work (v.jobs n) how) → IsEnding s h g.placed of its_work (v.jobs n) how
+  ends-as work_is.Barrier has open_ progress how_is.Fine ends balance =
+      let nothing = none-spent (v.jobs n) (λ j is. job-of work_is.Barrier has open_ progress j is) in
+      record {
+        right = record { call = call_is.Barrier; called = progress; is_open = open_; may_end = tt; page = unasked call_is.Barrier progress refl };
+        off_desk = refl;
+        no_insert = refl;
+        some = omega arith;
+        unspent = nothing.0;
+        unnoted = nothing.1;
+        less = inl (omega arith);
+      }
+  ends-as (work_is.Sync server pulled) has open_ progress how_is.Fine ends balance = sync-ends server pulled has open_ progress how_is.Fine (progress.2 ends) refl
+  ends-as (work_is.Sync server pulled) has open_ progress how_is.NoMemory ends balance = sync-ends server pulled has open_ progress how_is.NoMemory tt refl
+  ends-as (work_is.Settle pulls) has open_ progress how_is.Fine ends balance = settle-ends pulls has open_ progress how_is.Fine tt refl
+  ends-as (work_is.Settle pulls) has open_ progress how_is.NoMemory ends balance = settle-ends pulls has open_ progress how_is.NoMemory tt refl
+  ends-as (work_is.Split x) has open_ progress how ends balance =
+      let nothing = job-spent (v.jobs n) how ends in
+      record {
+        right = record {
+          call = call_is.Split x;
+          called = progress.0;
+          is_open = open_;
+          may_end = action-ends (work_is.Split x) has open_ progress (action.Split x) (λ j is. job-of (work_is.Split x) has open_ progress j is) (v.jobs n) refl how ends progress.1 progress.2;
+          page = unasked (call_is.Split x) progress.0 refl;
+        };
+        off_desk = refl;
+        no_insert = refl;
+        some = omega arith;
+        unspent = nothing.0;
+        unnoted = nothing.1;
+        less = inl (omega arith);
+      }
+  ends-as (work_is.Move x to) has open_ progress how ends balance =
+      let nothing = job-spent (v.jobs n) how ends in
+      record {
+        right = record {
+          call = call_is.Move x to;
+          called = progress.0;
+          is_open = open_;
+          may_end = action-ends (work_is.Move x to) has open_ progress (action.Move x to) (λ j is. job-of (work_is.Move x to) has open_ progress j is) (v.jobs n) refl how ends progress.1 progress.2;
+          page = unasked (call_is.Move x to) progress.0 refl;
+        };
+        off_desk = refl;
+        no_insert = refl;
+        some = omega arith;
+        unspent = nothing.0;
+        unnoted = nothing.1;
+        less = inl (omega arith);
+      }
+  ends-as (work_is.Balance b) has open_ progress how ends balance = balance b refl
+  ends-as (work_is.Shards shown) has open_ progress how_is.Fine ends balance = shards-end shown has open_ progress how_is.Fine tt (progress.1 ∙ ends)
+  ends-as (work_is.Shards shown) has open_ progress how_is.NoMemory ends balance = shards-end shown has open_ progress how_is.NoMemory tt (progress.1 ∙ ends)
+  ends-as (work_is.Tree x stands shown) has open_ progress how_is.Fine ends balance = tree-ends x stands shown has open_ progress how_is.Fine (progress.2 ∙ progress.3 ends) (progress.1 ∙ ends)
+  ends-as (work_is.Tree x stands shown) has open_ progress how_is.NoMemory ends balance = tree-ends x stands shown has open_ progress how_is.NoMemory tt (progress.1 ∙ ends)
+  ends-as (work_is.Tree x stands shown) has open_ progress (how_is.Declined why) ends balance =
+      let unshown : shown ≡ false = on_bool shown (λ q. absurd (false≢true (sym ends.0 ∙ progress.3 q))) (λ q. q) in
+      subst (λ (d : Decline). IsEnding s h g.placed of (work_is.Tree x stands shown) (v.jobs n) (how_is.Declined d)) (sym ends.1)
+      (tree-ends x stands shown has open_ progress (how_is.Declined decline.Unknown) (progress.2 ∙ ends.0) (progress.1 ∙ unshown))
+  ends-as (work_is.Audit shown) has open_ progress how_is.Fine ends balance = audit-ends shown has open_ progress how_is.Fine tt (progress.1 ∙ ends)
+  ends-as (work_is.Audit shown) has open_ progress how_is.NoMemory ends balance = audit-ends shown has open_ progress how_is.NoMemory tt (progress.1 ∙ ends)
+  ends-as _ has open_ progress how ends balance = absurd ends
