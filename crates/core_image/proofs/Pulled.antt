@@ -114,6 +114,7 @@ module _ (s : Setting) (w : World) (g : Ghost) (i : InvWith s (view s w) g) (ser
         live = l.live;
         leads = l.leads;
         split = l.split;
+        divided = l.divided;
         moved = l.moved;
         later = l.later;
         made = l.made;

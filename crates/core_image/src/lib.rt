@@ -9,9 +9,9 @@ mod counts;
 mod fails;
 mod filters;
 mod notes;
+mod owing;
 mod queries;
 mod routes;
-mod owing;
 mod syncs;
 
 pub use acks::ack;

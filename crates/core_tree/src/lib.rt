@@ -4,16 +4,15 @@
 mod downs;
 mod leaves;
 mod puts;
-mod reads;
 mod queues;
+mod reads;
 mod refills;
 mod visits;
 
 pub use downs::down;
 pub use leaves::leave_tree;
 pub use puts::put_in_leaf;
-pub use reads::gate_read;
 pub use queues::enter_queue;
-pub use refills::{give_back, refill};
 pub use reads::{all_is_read_at_the_gate, gate_read};
+pub use refills::{give_back, refill};
 pub use visits::block_visit;
