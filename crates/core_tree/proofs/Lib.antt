@@ -15,4 +15,5 @@ pub mod PlacesRead
 pub mod Arrivals
 pub mod Remains
 pub mod ComesIn
-pub mod Enters
+pub mod EntersTree
+pub mod GoesIn
