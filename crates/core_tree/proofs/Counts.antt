@@ -1,64 +1,28 @@
--- How many rows a tree has: no more than there are events.
-use Rattle.std.proofs.Common.{◌≡◌, ◌≢◌, ℕ, zero, suc, ◌<◌, ◌≤◌, Bool, true, false, cond, eqb, leb, List, [], ◌∷◌, length, map, Option, Some, None, IsSome, refl, ap, ◌∙◌, ◌⊎◌, inl, inr, arith}
+-- How many there can be: rows in a tree and inserts on their way there, no more than there are events; and spares in a purse.
+use Rattle.std.proofs.Common.{◌≡◌, ◌≢◌, ℕ, ◌<◌, ◌≤◌, Bool, true, cond, eqb, length, map, Option, Some, None, IsSome, refl, sym, ap, ◌∙◌, subst, ◌⊎◌, inl, inr, arith}
 use Rattle.std.proofs.lemmas.List.{length-map}
+use Rattle.cell_stock.specs.Stock.{cells_of}
+use Rattle.cell_stock.specs.declared.purse.Spare.{Spare}
+use Rattle.dc_node.specs.Summary.{IsSummaryOf, coords}
+use Rattle.describing_set.specs.DescSet.{IsDescSetOf}
 use Rattle.measure_agg.specs.Aggregate.{Aggregate}
 use Rattle.shard_store.specs.declared.gate.Phase.{Phase}
 use Rattle.shard_store.specs.declared.gate.Phase.TheVariants as phase
-use Rattle.tree_shape.specs.Counts.{same, times}
+use Rattle.tree_shape.specs.Counts.{same}
 use Rattle.tree_shape.specs.Laws.{GateLaw}
-use Rattle.tree_shape.proofs.Queries.{leb-le, leb-gt}
-use Rattle.tree_shape.proofs.Walks.{on_bool, eqb-eq, eqb-ne, same_is, same_not}
-use Rattle.volap_cell.specs.Ghost.{Ghost}
+use Rattle.tree_shape.proofs.Sums.{coords-valid}
+use Rattle.tree_shape.proofs.Walks.{on_bool}
+use Rattle.volap_cell.specs.Errands.{RowPlace, RowWay, Outside, AtBlock, InLeaf, AtRest}
+use Rattle.volap_cell.specs.Ghost.{Ghost, InPurse, NotOfStock, is_in_purse}
 use Rattle.volap_cell.specs.Growing.{table_of}
 use Rattle.volap_cell.specs.Invariant.{InvWith}
-use Rattle.volap_cell.specs.Setting.{Setting}
+use Rattle.volap_cell.specs.Setting.{Setting, actor_count, cell_count}
 use Rattle.volap_cell.specs.Stocking.{cells_at, IsWhole}
+use Rattle.volap_cell.specs.Turning.{is_inside, inside_of}
 use Rattle.volap_cell.specs.View.{View}
+use Rattle.volap_cell.proofs.Counting.{length-few, passing, passing-once, sum-keyed}
 use Rattle.volap_cell.proofs.Grows.{insert-within}
-
--- The numbers below another one of which something is true.
-
-abbrev pub those_below : (ℕ → Bool) → ℕ → List ℕ
-those_below there zero = []
-those_below there (suc n) = cond (there n) (n ∷ those_below there n) (those_below there n)
-
-pub length-below : (there : ℕ → Bool) (n : ℕ) → length (those_below there n) ≤ n
-length-below there zero = omega arith
-length-below there (suc n) =
-    let ih = length-below there n in
-    on_bool (there n)
-    (λ q. rw q (omega arith))
-    (λ q. rw q (omega arith))
-
-times-over : (there : ℕ → Bool) (n r : ℕ) → n ≤ r → times r (those_below there n) ≡ 0
-times-over there zero r le = refl
-times-over there (suc n) r le =
-    let ih = times-over there n r (omega arith) in
-    let off = same_not r n (λ e. absurd (omega arith)) in
-    on_bool (there n)
-    (λ q. rw q (omega arith))
-    (λ q. rw q ih)
-
-times-under : (there : ℕ → Bool) (n r : ℕ) → r < n → times r (those_below there n) ≡ cond (there r) 1 0
-times-under there zero r lt = absurd (omega arith)
-times-under there (suc n) r lt = on_bool (eqb r n)
-    (λ q. let e = eqb-eq r n q in let one = same_is r n e in let none = times-over there n r (omega arith) in
-    on_bool (there n)
-    (λ k. let here : there r ≡ true = ap there e ∙ k in rw (k, here) (omega arith))
-    (λ k. let here : there r ≡ false = ap there e ∙ k in rw (k, here) none))
-    (λ q. let ne = eqb-ne r n q in let off = same_not r n ne in let ih = times-under there n r (omega arith) in
-    on_bool (there n)
-    (λ k. rw k (omega arith))
-    (λ k. rw k ih))
-
--- where it is true of none beyond
-pub times-below : (there : ℕ → Bool) (n : ℕ) → ((r : ℕ) → there r ≡ true → r < n) → (r : ℕ) → times r (those_below there n) ≡ cond (there r) 1 0
-times-below there n within r = on_bool (there r)
-    (λ q. times-under there n r (within r q))
-    (λ q. elim (below-or r n) [ inl lt ↦ times-under there n r lt | inr le ↦ times-over there n r le ∙ rw q refl ])
-  where
-    below-or : (r n : ℕ) → (r < n) ⊎ (n ≤ r)
-    below-or r n = on_bool (leb n r) (λ q. inr (leb-le n r q)) (λ q. inl (leb-gt n r q))
+use Rattle.core_tree.proofs.Spares.{owner-purse}
 
 -- Trees.
 
@@ -90,14 +54,75 @@ module _ (s : Setting) (v : View) (g : Ghost) (i : InvWith s v g) where
   pub placed-within : (r : ℕ) → g.placed r ≡ true → r < length v.history
   placed-within r pl = (let (ins, is) = i.placing.begun r pl in insert-within v.history r ins is)
 
-  -- a gate tells of no more rows than there are events
+  -- a gate tells of the rows of its tree, of which there are no more than events
+  tree-told : GateLaw → (c : ℕ) → IsWhole v.gates v.phases v.pins c → IsSummaryOf s.hierarchy (map v.row (passing (g.shape c).placed (length v.history))) (v.trees c).agg (v.trees c).set
+  tree-told gates c whole = gates (table_of s v.row) (cells_at v.blocks v.trees c) (g.shape c) (i.growing.tree c whole) (passing (g.shape c).placed (length v.history))
+      (passing-once (g.shape c).placed (length v.history) (λ r pl. placed-within r (tree-placed c r whole pl)))
+
   pub tree-few : GateLaw → (c : ℕ) → IsWhole v.gates v.phases v.pins c → (v.trees c).agg.count ≤ length v.history
   tree-few gates c whole =
       let there = (g.shape c).placed in
-      let ns = those_below there (length v.history) in
-      let told = gates (table_of s v.row) (cells_at v.blocks v.trees c) (g.shape c) (i.growing.tree c whole) ns
-      (times-below there (length v.history) (λ r pl. placed-within r (tree-placed c r whole pl))) in
-      let count : (v.trees c).agg.count ≡ length (map v.row ns) = ap (λ (a : Aggregate). a.count) told.agg in
+      let ns = passing there (length v.history) in
+      let count : (v.trees c).agg.count ≡ length (map v.row ns) = ap (λ (a : Aggregate). a.count) (tree-told gates c whole).agg in
       let long = length-map ns v.row in
-      let few = length-below there (length v.history) in
+      let each = passing-once there (length v.history) (λ r pl. placed-within r (tree-placed c r whole pl)) in
+      let few = length-few ns (length v.history)
+      (λ r. let k = each r in on_bool (there r) (λ q. let z : ◌≡◌ {A = ℕ} (cond (there r) 1 0) 1 = ap (λ (b : Bool). cond b 1 0) q in omega arith) (λ q. let z : ◌≡◌ {A = ℕ} (cond (there r) 1 0) 0 = ap (λ (b : Bool). cond b 1 0) q in omega arith))
+      (λ r some. let k = each r in on_bool (there r) (λ q. placed-within r (tree-placed c r whole q)) (λ q. let z : ◌≡◌ {A = ℕ} (cond (there r) 1 0) 0 = ap (λ (b : Bool). cond b 1 0) q in absurd (omega arith))) in
+      omega arith
+
+  pub tree-set : GateLaw → (c : ℕ) → IsWhole v.gates v.phases v.pins c → IsDescSetOf s.hierarchy (v.trees c).set
+  tree-set gates c whole =
+      let told = tree-told gates c whole in
+      record {
+        hierarchy = i.numbering.setting.hierarchy;
+        rows = coords (map v.row (passing (g.shape c).placed (length v.history)));
+        valid = coords-valid (table_of s v.row) (passing (g.shape c).placed (length v.history)) told.valid;
+        set_of = told.set_of;
+      }
+
+  -- Inserts in a tree, each with a row of its own.
+
+  inside-most : (c : ℕ) (p : RowPlace) → is_inside c p ≤ 1
+  inside-most c Outside = omega arith
+  inside-most c (AtBlock d y) = on_bool (eqb d c) (λ q. rw q (omega arith)) (λ q. rw q (omega arith))
+  inside-most c (InLeaf d) = on_bool (eqb d c) (λ q. rw q (omega arith)) (λ q. rw q (omega arith))
+  inside-most c AtRest = omega arith
+
+  most-inside : (c : ℕ) (o : Option RowWay) → inside_of c o ≤ 1
+  most-inside c None = omega arith
+  most-inside c (Some x) = inside-most c x.place
+
+  abbrev row-of : Option RowWay → ℕ
+  row-of None = 0
+  row-of (Some x) = x.row.no
+
+  has-way : (c : ℕ) (o : Option RowWay) → 1 ≤ inside_of c o → (x : RowWay) × (o ≡ Some x)
+  has-way c None some = absurd (omega arith)
+  has-way c (Some x) some = (x, refl)
+
+  pub active-few : (c : ℕ) → v.active c ≤ length v.history
+  active-few c =
+      let all = i.turning.counts c in
+      let few = sum-keyed (λ a. inside_of c (v.ways a)) (λ a. row-of (v.ways a)) (λ a. most-inside c (v.ways a)) (actor_count s) (length v.history)
+      (λ a lt some.
+      let (x, is) = has-way c (v.ways a) some in
+      let known = (i.inserting.on_way a x is).known in
+      subst (λ (o : Option RowWay). row-of o < length v.history) (sym is) (insert-within v.history x.row.no known.0 known.1))
+      (λ a b la lb sa sb e.
+      let (x, isx) = has-way c (v.ways a) sa in
+      let (y, isy) = has-way c (v.ways b) sb in
+      i.turning.one a b x y isx isy (ap row-of (sym isx) ∙ e ∙ ap row-of isy)) in
+      omega arith
+
+  -- a purse has no more spares than there are cells
+  pub purse-few : (a : ℕ) → length (v.purses a) ≤ cell_count s
+  purse-few a =
+      let own = i.stocking.purse a in
+      let most = length-few (cells_of (v.purses a)) (cell_count s)
+      (λ y. let k = own y in on_bool (is_in_purse a (g.owner y)) (λ q. let z : ◌≡◌ {A = ℕ} (cond (is_in_purse a (g.owner y)) 1 0) 1 = ap (λ (b : Bool). cond b 1 0) q in omega arith) (λ q. let z : ◌≡◌ {A = ℕ} (cond (is_in_purse a (g.owner y)) 1 0) 0 = ap (λ (b : Bool). cond b 1 0) q in omega arith))
+      (λ y some. let k = own y in on_bool (is_in_purse a (g.owner y))
+      (λ q. let is = owner-purse a (g.owner y) q in (i.stocking.within y (λ z. let no : InPurse a ≡ NotOfStock = sym is ∙ z in cc)).1)
+      (λ q. let z : ◌≡◌ {A = ℕ} (cond (is_in_purse a (g.owner y)) 1 0) 0 = ap (λ (b : Bool). cond b 1 0) q in absurd (omega arith))) in
+      let long = length-map (v.purses a) (λ (x : Spare). x.cell) in
       omega arith

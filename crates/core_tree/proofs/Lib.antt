@@ -29,3 +29,5 @@ pub mod EntersQueue
 pub mod ComesIn
 pub mod Enters
 pub mod OfAll
+pub mod EntersTree
+pub mod GoesIn

@@ -1,8 +1,9 @@
 -- What the steps of a row onto a head ask for of the cells that they are given and of their actor, beyond that they are those of a state.
-use Rattle.std.specs.Prelude.{ℕ, ◌≡◌, ◌+◌, ◌^◌, ◌<◌, ◌≤◌, Bool, true, false, List, [], ◌∷◌, ◌++◌, Option, Some, slice_get, length, map as each, All}
+use Rattle.std.specs.Prelude.{ℕ, ◌≡◌, ◌+◌, ◌*◌, ◌^◌, ◌<◌, ◌≤◌, Bool, true, false, List, [], ◌∷◌, ◌++◌, Option, Some, slice_get, length, map as each, All}
 use Rattle.dim_hierarchy.specs.Dimension.{Dimension}
 use Rattle.dim_hierarchy.specs.Row.{IsRowOf}
 use Rattle.dim_hierarchy.specs.declared.row.Row.{Row}
+use Rattle.cell_stock.specs.Stock.{PurseValue}
 use Rattle.cell_stock.specs.declared.purse.Spare.{Spare}
 use Rattle.dc_node.specs.Block.{is_full, entries_in, IsBodyOf}
 use Rattle.dc_node.specs.Summary.{row_count}
@@ -10,10 +11,15 @@ use Rattle.dc_node.specs.declared.block.Block.{Block}
 use Rattle.dc_node.specs.declared.entry.Entry.{Entry}
 use Rattle.link_descent.specs.Divide.{together}
 use Rattle.link_descent.specs.Pick.{IsPick}
-use Rattle.volap_cell.specs.Cells.{CellValue, BlockCell, block_in}
-use Rattle.volap_cell.specs.TreeKinds.{HasRow, IsTailOf}
+use Rattle.mapping_table.specs.declared.place.Where.TheVariants as where_is
+use Rattle.shard_store.specs.declared.gate.Gate.{Gate}
+use Rattle.shard_store.specs.declared.gate.Phase.TheVariants.{Open}
+use Rattle.volap_cell.specs.Cells.{CellValue, BlockCell, GateCell, block_in}
+use Rattle.volap_cell.specs.Errands.{Outside, place_of}
+use Rattle.volap_cell.specs.NewBlocks.{FitsIn, WentIn}
+use Rattle.volap_cell.specs.TreeKinds.{HasRow, IsTailOf, Leads}
 use Rattle.volap_cell.specs.Values.{ActorValue, ErrandValue}
-use Rattle.volap_cell.specs.World.{Change, MustKeep, held_if}
+use Rattle.volap_cell.specs.World.{Change, MustKeep, held, held_if}
 use Rattle.volap_cell.specs.declared.errand.RowErrand.{RowErrand}
 
 -- The blocks behind a head, which are held at times and stay as they are.
@@ -68,3 +74,34 @@ pub record CanStep (h : List Dimension) (row : Row) (parent child : Block) (tail
   pub few_behind : length tail ≤ 2
   pub few_beneath : row_count (together child.body tail) + 1 < 2 ^ 63
   pub boxed : 2 ≤ boxes
+
+-- The actor's row is outside, and the worker's table leads it to the gate in the cell, which is open and for which purse and boxes are
+-- enough. The root is held; where it is full the next two blocks of its group are held too, or as many as there are, and the cells of
+-- the last two spares.
+pub record CanEnterTree (h : List Dimension) (map_at : ℕ) (map : CellValue) (gate_at : ℕ) (cell : CellValue) (root_at : ℕ) (root : CellValue) (tail fresh : List Change) (a : ActorValue) : Type 0 where
+  pub e : ErrandValue
+  pub r : RowErrand
+  pub has : HasRow a e r
+  pub outside : place_of r.way ≡ Outside
+  pub leads : Leads (held map_at map) e.worker e.shard (where_is.Gate gate_at)
+  pub gate : Gate
+  pub gate_is : cell ≡ GateCell gate
+  pub is_open : gate.phase ≡ Open
+  pub enough : gate.height + 2 ≤ length a.purse
+  pub boxed : 2 * length a.purse + 1 ≤ a.boxes
+  pub root_is : root_at ≡ gate.root
+  pub behind : IsTailOf gate.stamp (block_in root) tail
+  pub for_new : AreForNew (is_full (block_in root).body) 2 a.purse fresh
+
+-- what the step in asks of the gate, the blocks, the purse and the boxes
+pub record CanComeIn (h : List Dimension) (row : Row) (gate : Gate) (root : Block) (tail : List Block) (purse : List Spare) (boxes : ℕ) : Type 0 where
+  pub fits : FitsIn h row gate root tail purse
+  pub few_behind : length tail ≤ 2
+  pub boxed : 4 ≤ boxes
+  pub active : gate.active + 1 < 2 ^ 64
+
+-- what it did, with the insert counted at the gate
+pub record CameIn (h : List Dimension) (row : Row) (tail : List Block) (gate gate_now : Gate) (root root_now : Block) (purse purse_now : PurseValue) (first second first_now second_now : Option CellValue) (boxes boxes_now at : ℕ) : Type 0 where
+  pub entered : Gate
+  pub went : WentIn h row tail gate entered root root_now purse purse_now first second first_now second_now boxes boxes_now at
+  pub counted : gate_now ≡ record entered { active = gate.active + 1 }

@@ -65,20 +65,21 @@ pub fn down(
     child_at: u32,
     child: &mut Cell,
     first_at: u32,
-    first: &Option<Cell>,
+    first: &mut Option<Cell>,
     second_at: u32,
-    second: &Option<Cell>,
+    second: &mut Option<Cell>,
     fresh_at: u32,
     fresh: &mut Option<Cell>,
     actor: &mut Actor,
 )
     requires here { IsHere h.now (held parent_at (cell_of parent.old) ∷ held child_at (cell_of child.old)
-        ∷ two_if first_at (option_map cell_of first.now) second_at (option_map cell_of second.now) ++ held_if fresh_at (option_map cell_of fresh.old)) (actor_of actor.old) }
+        ∷ two_if first_at (option_map cell_of first.old) second_at (option_map cell_of second.old) ++ held_if fresh_at (option_map cell_of fresh.old)) (actor_of actor.old) }
     requires due { CanDown h.now parent_at (cell_of parent.old) child_at (cell_of child.old)
-        (two_if first_at (option_map cell_of first.now) second_at (option_map cell_of second.now)) (held_if fresh_at (option_map cell_of fresh.old)) (actor_of actor.old) }
+        (two_if first_at (option_map cell_of first.old) second_at (option_map cell_of second.old)) (held_if fresh_at (option_map cell_of fresh.old)) (actor_of actor.old) }
     ensures made { Makes h.now Down (change parent_at (cell_of parent.old) (cell_of parent.new) ∷ change child_at (cell_of child.old) (cell_of child.new)
-        ∷ two_if first_at (option_map cell_of first.now) second_at (option_map cell_of second.now)
+        ∷ (change_if first_at (option_map cell_of first.old) (option_map cell_of first.new) ++ change_if second_at (option_map cell_of second.old) (option_map cell_of second.new))
         ++ change_if fresh_at (option_map cell_of fresh.old) (option_map cell_of fresh.new)) (actor_of actor.old) (actor_of actor.new) }
+    ensures behind { (is_some first.new ≡ is_some first.old) × (is_some second.new ≡ is_some second.old) }
     ensures held { is_some fresh.new ≡ is_some fresh.old }
 {
     frame_law();
@@ -100,16 +101,9 @@ pub fn down(
     let Cell::Block(child) = child else {
         unreachable!()
     };
+    let (purse, boxes) = (&mut actor.purse, &mut actor.boxes);
     let block = step(
-        parent,
-        child,
-        first,
-        second,
-        fresh,
-        &mut actor.purse,
-        &mut actor.boxes,
-        h,
-        &going.row,
+        parent, child, first, second, fresh, purse, boxes, h, &going.row,
     );
     go_on(&mut actor.errand, Way::Carried { gate, block });
 }

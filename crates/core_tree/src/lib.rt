@@ -3,6 +3,7 @@
 
 mod downs;
 mod leaves;
+mod enters;
 mod puts;
 mod queues;
 mod reads;
@@ -11,6 +12,7 @@ mod visits;
 
 pub use downs::down;
 pub use leaves::leave_tree;
+pub use enters::enter_tree;
 pub use puts::put_in_leaf;
 pub use queues::enter_queue;
 pub use reads::{all_is_read_at_the_gate, gate_read};
