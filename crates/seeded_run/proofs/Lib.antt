@@ -6,3 +6,4 @@ pub mod Progress
 pub mod Movers
 pub mod Ends
 pub mod Orders
+pub mod Scripts

@@ -1,9 +1,10 @@
 -- While an actor isn't idle, or a stream isn't at its end, somebody can make a step.
-use Rattle.std.specs.Prelude.{ℕ, ◌≡◌, ◌≢◌, ◌+◌, ◌<◌, ◌&&◌, Bool, true, false, List, [], ◌∷◌, Some, None, is_some, length}
+use Rattle.std.specs.Prelude.{ℕ, ◌≡◌, ◌≢◌, ◌+◌, ◌<◌, ◌&&◌, Bool, true, false, List, [], ◌∷◌, Some, None, is_some, length, slice_get, ◌≤◌}
 use Rattle.script_form.specs.declared.script.Command.{Command}
 use Rattle.script_form.specs.declared.script.Command.TheVariants.{Query}
 use Rattle.script_form.specs.declared.script.Question.{Question}
 use Rattle.script_run.specs.Phases.{closes}
+use Rattle.script_run.specs.Places.{session_of}
 use Rattle.volap_cell.specs.Commands.{once_shown}
 use Rattle.volap_cell.specs.Ghost.{Ghost}
 use Rattle.volap_cell.specs.Invariant.{InvWith}
@@ -13,20 +14,44 @@ use Rattle.volap_cell.specs.View.{view}
 use Rattle.volap_cell.specs.World.{World}
 use Rattle.volap_cell.specs.declared.command.Command.{Command as OpenCommand}
 use Rattle.volap_cell.specs.declared.kind.Kind.{Kind}
-use Rattle.volap_cell.specs.declared.role.Role.TheVariants.{Hand, Session}
+use Rattle.volap_cell.specs.declared.role.Role.{Role}
+use Rattle.volap_cell.specs.declared.role.Role.TheVariants.{Admin, Hand, Puller, Session}
 use Rattle.seeded_run.specs.Can.{able_in, meets}
 use Rattle.seeded_run.specs.Due.{does_nothing, due_by, is_alone, is_empty}
 use Rattle.seeded_run.specs.Rests.{PhaseRun, first_open, rest_of}
 
+-- a page that isn't shown is next in the history, with everyone else idle
+abbrev pub ArePagesNext : Setting → World → (ℕ → List Command) → Type 0
+ArePagesNext s w rest = (a : ℕ) (c : OpenCommand) → (w.actors a).command ≡ Some c → is_some (once_shown c.work) ≡ true
+    → (is_alone s w rest a ≡ true) × (length (history_in w) ≡ c.of + 1)
+
 -- What a run of a script keeps: a server has one session; queries are of sessions, hands begin nothing, and one stream at most has a
--- command next that closes the phase; and a page that isn't shown is next in the history, with everyone else idle.
+-- command next that closes the phase; and so it is with pages.
 pub record IsScriptRun (s : Setting) (w : World) (rest : ℕ → List Command) : Type 0 where
   pub one : (a b server : ℕ) → (w.actors a).role ≡ Session server → (w.actors b).role ≡ Session server → a ≡ b
   pub asks : (a : ℕ) (q : Question) (more : List Command) → rest a ≡ Query q ∷ more → (server : ℕ) × ((w.actors a).role ≡ Session server)
   pub hands : (a worker : ℕ) → (w.actors a).role ≡ Hand worker → rest a ≡ []
   pub closing : (a b : ℕ) (c d : Command) (cs ds : List Command) → rest a ≡ c ∷ cs → rest b ≡ d ∷ ds → closes c ≡ true → closes d ≡ true → a ≡ b
-  pub pages : (a : ℕ) (c : OpenCommand) → (w.actors a).command ≡ Some c → is_some (once_shown c.work) ≡ true
-      → (is_alone s w rest a ≡ true) × (length (history_in w) ≡ c.of + 1)
+  pub pages : ArePagesNext s w rest
+
+-- the actors of a script's run: the sessions by server, then the puller, the administrator, and the hands
+pub record AreScriptRoles (s : Setting) : Type 0 where
+  pub session : (server : ℕ) → server < s.servers → slice_get s.roles server ≡ Some (Session server)
+  pub puller : slice_get s.roles s.servers ≡ Some Puller
+  pub admin : slice_get s.roles (s.servers + 1) ≡ Some Admin
+  pub hand : (a : ℕ) (role : Role) → s.servers + 2 ≤ a → slice_get s.roles a ≡ Some role → (worker : ℕ) × (role ≡ Hand worker)
+
+-- a phase whose queries and inserts are to servers that are there, and of which the last command alone may close it
+pub record IsPhaseOf (s : Setting) (p : PhaseRun) : Type 0 where
+  pub servers : p.with.servers ≡ s.servers
+  pub sessions : (i : ℕ) (c : Command) → slice_get p.commands i ≡ Some c → session_of p.with c < s.servers + 2
+  pub asked : (i : ℕ) (q : Question) → slice_get p.commands i ≡ Some (Query q) → q.server < s.servers
+  pub last : (i : ℕ) (c : Command) → slice_get p.commands i ≡ Some c → closes c ≡ true → i + 1 ≡ length p.commands
+
+-- Of such actors and such a phase only the pages have still to be said.
+abbrev pub ScriptLaw : Type 0
+ScriptLaw = (s : Setting) (p : PhaseRun) (w : World) (g : Ghost) → InvWith s (view s w) g → AreScriptRoles s → IsPhaseOf s p
+    → ArePagesNext s w (rest_of p (history_in w)) → IsScriptRun s w (rest_of p (history_in w))
 
 -- the actor is idle, and its stream at its end
 abbrev pub is_done : World → (ℕ → List Command) → ℕ → Bool

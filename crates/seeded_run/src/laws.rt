@@ -1,7 +1,7 @@
 //! Laws of what is due, and of what the streams of a phase still have. There is nothing to do at run time.
 ghost use Rattle.seeded_run.specs.Cursors.{CursorLaw, FirstLaw, LastLaw};
 ghost use Rattle.seeded_run.specs.Laws.{WholeLaw, RestLaw, IdleLaw, AtPartLaw, CarrierLaw, WantedLaw, FreeLaw, OrderLaw};
-ghost use Rattle.seeded_run.specs.Progress.{CanLaw, DueLaw, EndLaw, OrderEndLaw};
+ghost use Rattle.seeded_run.specs.Progress.{CanLaw, DueLaw, EndLaw, OrderEndLaw, ScriptLaw};
 ghost use Rattle.seeded_run.specs.Ranks.{RankFallsLaw, StepFallsLaw};
 
 /// A stream has all its commands as the phase begins, and one less whenever one begins.
@@ -49,4 +49,9 @@ pub fn somebody_goes_on()
     ensures can { CanLaw }
     ensures over { EndLaw }
     ensures order { OrderEndLaw }
+{}
+
+/// The actors of a script's run and a phase of it are such as the laws above ask for.
+pub fn scripts_run_so()
+    ensures { ScriptLaw }
 {}
