@@ -27,7 +27,6 @@ pub mod GateDue
 pub mod FillsPurse
 pub mod EntersQueue
 pub mod ComesIn
-pub mod Enters
 pub mod OfAll
 pub mod EntersTree
 pub mod GoesIn
