@@ -63,7 +63,7 @@ still-falls s before now m n e falls =
     ]
 
 pub step-falls : StepFallsLaw
-step-falls s before now history history_now counted counted_now count count_now goes same few begins =
+step-falls s before now history history_now count count_now goes same few begins =
     elim goes [
       | inl falls ↦ elim (less-or-same count_now count few) [
         | inl less ↦ inl (fewer (control_brought s) before.control now.control count count_now (let c = no-more before now falls in omega arith) less)

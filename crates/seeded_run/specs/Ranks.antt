@@ -1,5 +1,5 @@
 -- What is left to do in a phase, as one number that falls with each step: so the phase ends.
-use Rattle.std.specs.Prelude.{ℕ, ◌≡◌, ◌+◌, ◌*◌, ◌<◌, ◌≤◌, Bool, true, List, ◌∷◌, length}
+use Rattle.std.specs.Prelude.{ℕ, ◌≡◌, ◌+◌, ◌*◌, ◌<◌, ◌≤◌, true, List, ◌∷◌, length}
 use Rattle.row_ledger.specs.Past.{is_beginning}
 use Rattle.row_ledger.specs.declared.event.Event.{Event}
 use Rattle.volap_cell.specs.Falls.{Left, Falls, GoesOn, control_brought}
@@ -36,7 +36,7 @@ with_waiting s count left = record left { control = left.control + count * (cont
 
 -- So a step that begins a command falls too; and each step does by which no session is counted at its desk.
 abbrev pub StepFallsLaw : Type 0
-StepFallsLaw = (s : Setting) (before now : Left) (history history_now : List Event) (counted counted_now : Bool) (count count_now : ℕ)
-    → GoesOn s before now history history_now counted counted_now → counted ≡ counted_now → count_now ≤ count
+StepFallsLaw = (s : Setting) (before now : Left) (history history_now : List Event) (count count_now : ℕ)
+    → GoesOn s before now history history_now → now.counted ≡ before.counted → count_now ≤ count
     → ((e : Event) → is_beginning e ≡ true → history_now ≡ e ∷ history → count_now < count)
     → Falls (with_waiting s count before) (with_waiting s count_now now)

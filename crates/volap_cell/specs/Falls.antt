@@ -31,12 +31,14 @@ use Rattle.volap_cell.specs.declared.command.Work.TheVariants as work_is
 use Rattle.volap_cell.specs.declared.errand.Way.{Way}
 use Rattle.volap_cell.specs.declared.errand.Way.TheVariants as way
 
--- what the controlling stream still has; pulls, and inserts up to their gates; inserts past their gates; and queries
+-- What the controlling stream still has; pulls, and inserts up to their gates; inserts past their gates; and queries. Beside them
+-- stands how many actors are counted in at desks.
 pub record Left : Type 0 where
   pub control : ℕ
   pub gates : ℕ
   pub rows : ℕ
   pub queries : ℕ
+  pub counted : ℕ
 
 -- the first that changes falls
 abbrev pub Falls : Left → Left → Type 0
@@ -249,6 +251,7 @@ left s w g = left_in s w (view s w) g
           + sum_below s.servers (λ server. sum_by (λ p. rows_of_part p.state) (v.desks server).parts);
       queries = sum_below (actor_count s) (λ a. of_work queries_of_work (w.actors a).command + queries_of_errand s v g (w.actors a).errand)
           + sum_below s.servers (λ server. sum_by (λ p. queries_of_state s (far s.workers v.history p.shard p.worker) p.state) (v.desks server).parts);
+      counted = sum_below (actor_count s) (λ a. if (w.actors a).counted then 1 else 0);
     }
 
 -- so much control a command brings with it at most: a balance of 2^8 actions, or a job
@@ -264,12 +267,14 @@ pub record Begins (s : Setting) (before now : Left) (history history_now : List 
   pub gates : now.gates ≤ before.gates + (per_gate * farthest history + 2)
   pub rows : now.rows ≡ before.rows
 
--- nobody's work changes where an actor is counted in at its desk, or out
-pub record IsStill (before now : Left) (history history_now : List Event) (counted counted_now : Bool) : Type 0 where
-  pub same : now ≡ before
+-- nobody's work changes, but one actor more or less is counted in at a desk
+pub record IsStill (before now : Left) (history history_now : List Event) : Type 0 where
+  pub control : now.control ≡ before.control
+  pub gates : now.gates ≡ before.gates
+  pub rows : now.rows ≡ before.rows
+  pub queries : now.queries ≡ before.queries
+  pub counts : now.counted ≢ before.counted
   pub quiet : history_now ≡ history
-  pub counts : counted ≢ counted_now
 
-abbrev pub GoesOn : Setting → Left → Left → List Event → List Event → Bool → Bool → Type 0
-GoesOn s before now history history_now counted counted_now =
-    Falls before now ⊎ Begins s before now history history_now ⊎ IsStill before now history history_now counted counted_now
+abbrev pub GoesOn : Setting → Left → Left → List Event → List Event → Type 0
+GoesOn s before now history history_now = Falls before now ⊎ Begins s before now history history_now ⊎ IsStill before now history history_now

@@ -82,7 +82,7 @@ pub record IsKept (s : Setting) (k : Kind) (n : ℕ) (w now : World) (ghost : Gh
   pub holds : InvWith s (view s now) ghost_now
   pub newer : List Event
   pub grows : history_in now ≡ newer ++ history_in w
-  pub goes_on : GoesOn s (left s w ghost) (left s now ghost_now) (history_in w) (history_in now) (w.actors n).counted (now.actors n).counted
+  pub goes_on : GoesOn s (left s w ghost) (left s now ghost_now) (history_in w) (history_in now)
 
 -- It promises that of every state that meets the invariant and has these cells and this actor, where nobody else must keep one of
 -- the cells, and where the state has what a page shows.
