@@ -17,3 +17,4 @@ pub mod Remains
 pub mod ComesIn
 pub mod EntersTree
 pub mod GoesIn
+pub mod Lends
