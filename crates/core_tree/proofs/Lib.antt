@@ -30,3 +30,4 @@ pub mod ComesIn
 pub mod OfAll
 pub mod EntersTree
 pub mod GoesIn
+pub mod Lends
