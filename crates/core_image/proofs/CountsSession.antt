@@ -7,6 +7,7 @@ use Rattle.tree_shape.proofs.Walks.{on_bool, eqb-eq, eqb-ne, eqb-self, eqb-no}
 use Rattle.core_image.specs.NotesDue.{CanCount, Counts, MayCount}
 use Rattle.volap_cell.proofs.Helds.{held-desk}
 use Rattle.volap_cell.specs.Cells.{CellValue, DeskCell, DeskOf, desk_in, tag_of}
+use Rattle.volap_cell.specs.Falls.{left}
 use Rattle.volap_cell.specs.Ghost.{Ghost}
 use Rattle.volap_cell.specs.ImageKinds.{CountsSession, OfCount}
 use Rattle.volap_cell.specs.Invariant.{InvWith}
@@ -61,10 +62,6 @@ same-op was now desk desk_now counts = elim counts [ inl c ↦ ap (λ (y : DeskV
 
 same-parts : (was now : Bool) (desk desk_now : DeskValue) → IsCounted was now desk desk_now → desk_now.parts ≡ desk.parts
 same-parts was now desk desk_now counts = elim counts [ inl c ↦ ap (λ (y : DeskValue). y.parts) c.2 | inr c ↦ sym (ap (λ (y : DeskValue). y.parts) c.2) ]
-
--- who is counted in wasn't, or the other way round
-counts-differ : (was now : Bool) (desk desk_now : DeskValue) → IsCounted was now desk desk_now → was ≢ now
-counts-differ was now desk desk_now counts e = elim counts [ inl c ↦ (let bad : false ≡ true = sym c.0 ∙ e ∙ c.1 in cc) | inr c ↦ (let bad : true ≡ false = sym c.0 ∙ e ∙ c.1 in cc) ]
 
 counted-by : (was now : Bool) (desk desk_now : DeskValue) → IsCounted was now desk desk_now → desk_now.sessions + one_if was ≡ desk.sessions + one_if now
 counted-by was now desk desk_now counts = elim counts [
@@ -199,6 +196,21 @@ module _ (d : Change) (b : ActorValue) (s : Setting) (w : World) (n : ℕ) (g : 
   history-same : u.history ≡ v.history
   history-same = ap (λ (z : View). z.history) seen
 
+  nothing-else : ((left s w2 g).control ≡ (left s w g).control) × ((left s w2 g).gates ≡ (left s w g).gates) × ((left s w2 g).rows ≡ (left s w g).rows) × ((left s w2 g).queries ≡ (left s w g).queries)
+  nothing-else = all-still s w w2 g n v2 same (λ a ne. actor-off w.actors n b a ne) still refl refl refl refl (λ x. refl)
+
+  -- one more or less is counted in
+  one-differs : (left s w2 g).counted ≢ (left s w g).counted
+  one-differs e =
+      let f : ℕ → ℕ = λ a. one_if (w.actors a).counted in
+      let k : ℕ → ℕ = λ a. one_if (w2.actors a).counted in
+      let sums = sum-changed (actor_count s) f k n (λ a ne. ap one_if (counted.elsewhere a ne)) there in
+      let now : k n ≡ one_if b.counted = ap one_if counted.is_there in
+      elim does.counts [
+        | inl c ↦ (let was : f n ≡ 0 = ap one_if c.0 in let is : one_if b.counted ≡ 1 = ap one_if c.1 in absurd (omega (arith, sums, now, was, is, e)))
+        | inr c ↦ (let was : f n ≡ 1 = ap one_if c.0 in let is : one_if b.counted ≡ 0 = ap one_if c.1 in absurd (omega (arith, sums, now, was, is, e)))
+      ]
+
   pub counted-kept : IsKept s kind.Note n w w2 g
   counted-kept = record {
     step = record { changes = d ∷ []; actor = b; agrees = ag; does = OfCount does; sight = tt; now_is = refl };
@@ -207,9 +219,12 @@ module _ (d : Change) (b : ActorValue) (s : Setting) (w : World) (n : ℕ) (g : 
     newer = [];
     grows = history-same;
     goes_on = inr (inr (record {
-      same = all-still s w w2 g n v2 same (λ a ne. actor-off w.actors n b a ne) still refl refl refl refl (λ x. refl);
+      control = nothing-else.0;
+      gates = nothing-else.1;
+      rows = nothing-else.2;
+      queries = nothing-else.3;
       quiet = history-same;
-      counts = λ e. counts-differ _ _ _ _ does.counts (e ∙ ap (λ (x : ActorValue). x.counted) actor-now);
+      counts = one-differs;
     }));
   }
 

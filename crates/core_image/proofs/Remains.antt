@@ -185,8 +185,8 @@ module _ (s : Setting) (w w2 : World) (g : Ghost) (n : ℕ) (v2 : View) (same : 
       let desks = on-desks (sum_by (λ (p : Part). queries_of_state s (far s.workers was.history p.shard p.worker) p.state)) in
       omega (arith, is, read, actors, desks)
 
-  pub all-still : left s w2 g ≡ left s w g
-  all-still = (let a = control-still in let b = gates-still in let c = rows-still in let d = queries-still in λ k. record { control = a k; gates = b k; rows = c k; queries = d k })
+  pub all-still : ((left s w2 g).control ≡ (left s w g).control) × ((left s w2 g).gates ≡ (left s w g).gates) × ((left s w2 g).rows ≡ (left s w g).rows) × ((left s w2 g).queries ≡ (left s w g).queries)
+  all-still = (control-still, gates-still, rows-still, queries-still)
 
 -- where one number falls and those before it don't rise, less is left
 pub queries-fall : (before now : Left) → now.control ≡ before.control → now.gates ≤ before.gates → now.rows ≤ before.rows → now.queries < before.queries → Falls before now

@@ -178,7 +178,7 @@ module _ (pinned : List Change) (d : Change) (b : ActorValue) (s : Setting) (w :
 
     -- a query's part that ends leaves gates and rows as they are
     query-goes : (task : TaskValue) → e.task ≡ task → gates_of_task ahead task ≡ 0 → gates_of_state ahead (path_in task) does.outcome ≡ 0 → rows_of_task g.shape task ≡ 0 → rows_of_part does.outcome ≡ 0
-        → 1 ≤ queries_of_task s v g ahead task → queries_of_state s ahead does.outcome ≡ 0 → GoesOn s (left s w g) (left s w2 g) h h (w.actors n).counted (w2.actors n).counted
+        → 1 ≤ queries_of_task s v g ahead task → queries_of_state s ahead does.outcome ≡ 0 → GoesOn s (left s w g) (left s w2 g) h h
     query-goes task is a a2 c c2 f f2 =
         let no_gates : gates_of_task ahead e.task ≡ 0 = ap (gates_of_task ahead) is ∙ a in
         let no_path : gates_of_state ahead (path_in e.task) does.outcome ≡ 0 = ap (λ (t : TaskValue). gates_of_state ahead (path_in t) does.outcome) is ∙ a2 in
@@ -186,7 +186,7 @@ module _ (pinned : List Change) (d : Change) (b : ActorValue) (s : Setting) (w :
         let some : queries_of_task s v g ahead e.task ≡ queries_of_task s v g ahead task = ap (queries_of_task s v g ahead) is in
         inl (inr (inr (inr (control, omega (arith, gates, no_gates, no_path), omega (arith, rows, no_rows, c2), omega (arith, queries, some, f, f2)))))
 
-    goes : (task : TaskValue) → e.task ≡ task → IsOutcome task does.outcome → GoesOn s (left s w g) (left s w2 g) h h (w.actors n).counted (w2.actors n).counted
+    goes : (task : TaskValue) → e.task ≡ task → IsOutcome task does.outcome → GoesOn s (left s w g) (left s w2 g) h h
     goes (OfRow r) is (inl rests) =
         let none : gates_of_task ahead e.task ≡ 0 = ap (gates_of_task ahead) is ∙ ap (gates_of_way ahead) rests.0 in
         let no_path : gates_of_state ahead (path_in e.task) does.outcome ≡ 0 = ap (gates_of_state ahead (path_in e.task)) rests.1 in
@@ -205,7 +205,7 @@ module _ (pinned : List Change) (d : Change) (b : ActorValue) (s : Setting) (w :
     goes (Read r) is (inl done) = query-goes (Read r) is refl (ap (gates_of_state ahead []) done.1) refl (ap rows_of_part done.1) (omega arith) (ap (queries_of_state s ahead) done.1)
     goes (Read r) is (inr refused) = query-goes (Read r) is refl (ap (gates_of_state ahead []) refused.1) refl (ap rows_of_part refused.1) (omega arith) (ap (queries_of_state s ahead) refused.1)
 
-    pub finish-goes : GoesOn s (left s w g) (left s w2 g) h h (w.actors n).counted (w2.actors n).counted
+    pub finish-goes : GoesOn s (left s w g) (left s w2 g) h h
     finish-goes = goes e.task refl does.is_outcome
 
 -- Without a gate, and with one.
@@ -227,7 +227,7 @@ module _ (d : Change) (b : ActorValue) (s : Setting) (w : World) (n : ℕ) (g : 
         holds = subst (λ (z : View). InvWith s z g) (sym same) (finish-holds [] d b s w n g i ag does new pins);
         newer = [];
         grows = history;
-        goes_on = subst (λ (l : List Event). GoesOn s (left s w g) (left s (after w (d ∷ []) n b) g) (view s w).history l (w.actors n).counted ((after w (d ∷ []) n b).actors n).counted) (sym history) (finish-goes [] d b s w n g i ag does new pins);
+        goes_on = subst (λ (l : List Event). GoesOn s (left s w g) (left s (after w (d ∷ []) n b) g) (view s w).history l) (sym history) (finish-goes [] d b s w n g i ag does new pins);
       }
     where
       no-pin : (pin : Option ℕ) → Unpins pin [] → pin ≡ None
@@ -267,7 +267,7 @@ module _ (d : Change) (b : ActorValue) (s : Setting) (w : World) (n : ℕ) (g : 
             holds = subst (λ (z : View). InvWith s z g) (sym same) (finish-holds (p ∷ []) d b s w n g i ag does new pins);
             newer = [];
             grows = history;
-            goes_on = subst (λ (l : List Event). GoesOn s (left s w g) (left s (after w (p ∷ d ∷ []) n b) g) (view s w).history l (w.actors n).counted ((after w (p ∷ d ∷ []) n b).actors n).counted) (sym history) (finish-goes (p ∷ []) d b s w n g i ag does new pins);
+            goes_on = subst (λ (l : List Event). GoesOn s (left s w g) (left s (after w (p ∷ d ∷ []) n b) g) (view s w).history l) (sym history) (finish-goes (p ∷ []) d b s w n g i ag does new pins);
           }
 
 pub finish-keeps : (h : List Dimension) (d : Change) (a b : ActorValue) (does : DoesFinishPart [] d a b) → Keeps h FinishPart (d ∷ []) a b does

@@ -201,7 +201,7 @@ module _ (m d : Change) (b : ActorValue) (s : Setting) (w : World) (n : ℕ) (g 
       let now : queries_of_errand s v g b.errand ≡ 0 = ap (queries_of_errand s v g) errand-none in
       omega (arith, turned, was, none, now)
 
-  goes : (task : TaskValue) → e.task ≡ task → IsOutside task does.wanted does.path → GoesOn s (left s w g) (left s w2 g) h h (w.actors n).counted (w2.actors n).counted
+  goes : (task : TaskValue) → e.task ≡ task → IsOutside task does.wanted does.path → GoesOn s (left s w g) (left s w2 g) h h
   goes (OfRow r) is (outside, want_is, path_is) =
       let some = gates-outside ahead r.way outside in
       let was : gates_of_task ahead e.task ≡ gates_of_way ahead r.way = ap (gates_of_task ahead) is in
@@ -225,7 +225,7 @@ module _ (m d : Change) (b : ActorValue) (s : Setting) (w : World) (n : ℕ) (g 
     holds = subst (λ (z : View). InvWith s z g) (sym same) holds;
     newer = [];
     grows = history;
-    goes_on = subst (λ (l : List Event). GoesOn s (left s w g) (left s w2 g) h l (w.actors n).counted (w2.actors n).counted) (sym history) (goes e.task refl does.outside);
+    goes_on = subst (λ (l : List Event). GoesOn s (left s w g) (left s w2 g) h l) (sym history) (goes e.task refl does.outside);
   })
 
 pub forward-keeps : (h : List Dimension) (m d : Change) (a b : ActorValue) (does : DoesForward m d a b) → Keeps h Forward (m ∷ d ∷ []) a b does

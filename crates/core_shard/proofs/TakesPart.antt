@@ -158,7 +158,7 @@ module _ (d : Change) (b : ActorValue) (s : Setting) (w : World) (n : ℕ) (g : 
   control : (left s w2 g).control ≡ (left s w g).control
   control = control-same s w g cs n b u.desks u.taken u.ways v.reads v.pins g.counted same few command job purse server within front part (taken_from part ∷ []) behind turn
 
-  goes : (wanted : Want) → does.wanted ≡ wanted → GoesOn s (left s w g) (left s w2 g) h h (w.actors n).counted (w2.actors n).counted
+  goes : (wanted : Want) → does.wanted ≡ wanted → GoesOn s (left s w g) (left s w2 g) h h
   goes (want.Row row) is =
       let turned = gates-turn s w g cs n b u.desks u.taken u.ways v.reads v.pins g.counted same few command job purse server within front part (taken_from part ∷ []) behind turn in
       let was : gates_of_errand s h (w.actors n).errand ≡ 0 = ap (gates_of_errand s h) does.free in
@@ -190,7 +190,7 @@ module _ (d : Change) (b : ActorValue) (s : Setting) (w : World) (n : ℕ) (g : 
     holds = subst (λ (z : View). InvWith s z g) (sym same) holds;
     newer = [];
     grows = ap (λ (z : View). z.history) same;
-    goes_on = subst (λ (l : List Event). GoesOn s (left s w g) (left s w2 g) h l (w.actors n).counted (w2.actors n).counted) (sym (ap (λ (z : View). z.history) same)) (goes does.wanted refl);
+    goes_on = subst (λ (l : List Event). GoesOn s (left s w g) (left s w2 g) h l) (sym (ap (λ (z : View). z.history) same)) (goes does.wanted refl);
   }
 
 pub take-keeps : (h : List Dimension) (d : Change) (a b : ActorValue) (does : DoesTakePart d a b) → Keeps h TakePart (d ∷ []) a b does
