@@ -1,3 +1,4 @@
+pub mod Core
 pub mod Rests
 pub mod Cursors
 pub mod Due
