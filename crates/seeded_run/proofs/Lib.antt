@@ -1,6 +1,7 @@
 pub mod Dues
 pub mod Shrinks
 pub mod Cursors
+pub mod Waiting
 pub mod Ranks
 pub mod Progress
 pub mod Movers

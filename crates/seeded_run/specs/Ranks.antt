@@ -1,7 +1,8 @@
 -- What is left to do in a phase, as one number that falls with each step: so the phase ends.
-use Rattle.std.specs.Prelude.{ℕ, ◌≡◌, ◌+◌, ◌*◌, ◌<◌, ◌≤◌, true, List, ◌∷◌, length}
-use Rattle.row_ledger.specs.Past.{is_beginning}
+use Rattle.std.specs.Prelude.{ℕ, ◌≡◌, ◌≢◌, ◌+◌, ◌*◌, ◌<◌, ◌≤◌, true, List, [], ◌∷◌, Some, length}
+use Rattle.row_ledger.specs.Past.{is_beginning, session_in}
 use Rattle.row_ledger.specs.declared.event.Event.{Event}
+use Rattle.script_run.specs.Places.{begins_of}
 use Rattle.volap_cell.specs.Falls.{Left, Falls, GoesOn, control_brought}
 use Rattle.volap_cell.specs.Setting.{Setting, actor_count}
 use Rattle.volap_cell.specs.Sums.{sum_below}
@@ -29,6 +30,12 @@ RankFallsLaw = (limits : Limits) (before now : Left) → Falls before now → Is
 -- how many commands the streams still have
 abbrev pub waiting : Setting → PhaseRun → List Event → ℕ
 waiting s p history = sum_below (actor_count s) (λ session. length (rest_of p history session))
+
+-- With no event they get more. With one that begins a command of a stream that isn't at its end there is one fewer.
+abbrev pub WaitingLaw : Type 0
+WaitingLaw = (s : Setting) (p : PhaseRun) (e : Event) (history : List Event) → ((session : ℕ) → length (begins_of p.before session) ≤ length (begins_of history session))
+    → (waiting s p (e ∷ history) ≤ waiting s p history)
+    × ((a : ℕ) → session_in e ≡ Some a → a < actor_count s → rest_of p history a ≢ [] → waiting s p (e ∷ history) < waiting s p history)
 
 -- for each of them the first number has more than its beginning can add
 abbrev pub with_waiting : Setting → ℕ → Left → Left

@@ -2,7 +2,7 @@
 ghost use Rattle.seeded_run.specs.Cursors.{CursorLaw, FirstLaw, LastLaw};
 ghost use Rattle.seeded_run.specs.Laws.{WholeLaw, RestLaw, IdleLaw, AtPartLaw, CarrierLaw, WantedLaw, FreeLaw, OrderLaw};
 ghost use Rattle.seeded_run.specs.Progress.{CanLaw, DueLaw, EndLaw, OrderEndLaw, ScriptLaw};
-ghost use Rattle.seeded_run.specs.Ranks.{RankFallsLaw, StepFallsLaw};
+ghost use Rattle.seeded_run.specs.Ranks.{RankFallsLaw, StepFallsLaw, WaitingLaw};
 
 /// A stream has all its commands as the phase begins, and one less whenever one begins.
 pub fn streams_run_out()
@@ -39,6 +39,7 @@ pub fn one_steps_in_order()
 pub fn less_is_left()
     ensures rank { RankFallsLaw }
     ensures step { StepFallsLaw }
+    ensures waiting { WaitingLaw }
 {}
 
 /// While an actor isn't idle, or a stream isn't at its end, something is due for somebody, and somebody

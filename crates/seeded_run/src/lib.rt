@@ -5,5 +5,6 @@ mod laws;
 
 pub use laws::{
     cursors_tell_rests, idle_actors_wait, less_is_left, one_steps_in_order, parts_go_on,
-    somebody_goes_on, streams_run_out,
+    scripts_run_so, somebody_goes_on, streams_run_out,
 };
+pub use seeded_turns::Schedule;

@@ -1,4 +1,5 @@
 use Rattle.seeded_run.proofs.Ranks.{rank-falls, step-falls}
+use Rattle.seeded_run.proofs.Waiting.{waiting-law}
 use Rattle.seeded_run.proofs.laws.less_is_left.Goals as goal
 
 pub returns-clause-rank : goal.returns-clause-rank
@@ -6,3 +7,6 @@ returns-clause-rank c = rank-falls
 
 pub returns-clause-step : goal.returns-clause-step
 returns-clause-step c = step-falls
+
+pub returns-clause-waiting : goal.returns-clause-waiting
+returns-clause-waiting c = waiting-law
