@@ -80,7 +80,7 @@ module _ (s : Setting) (v : View) (g : Ghost) (i : InvWith s v g) (n : ℕ) (e :
   abbrev pub at : IsAtPart s v.history v.desks (taken_by e)
   at = i.desking.at_parts n (taken_by e) takes
 
-  wants : (task : TaskValue) → e.task ≡ task → IsWantOf v.history at.of (want_of task)
+  pub wants : (task : TaskValue) → e.task ≡ task → IsWantOf v.history at.of (want_of task)
   wants task is = subst (λ (t : TaskValue). IsWantOf v.history at.of (want_of t)) is at.wants
 
   -- a row's is the insert of the row

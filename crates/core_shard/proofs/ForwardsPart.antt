@@ -70,7 +70,7 @@ module _ (s : Setting) (v : View) (g : Ghost) (i : InvWith s v g) (x w to : ℕ)
       there : (o : Option Where) → v.maps to x ≡ o → IsSome (v.maps to x) → (p : ℕ) → left_at s.workers v.history x w ≡ Some p → StaysAt s.workers v.history x to ⊎ ((q : ℕ) × (left_at s.workers v.history x to ≡ Some q) × (p < q))
       there None is some p left = (let never : IsSome {T = Where} None = subst (λ (z : Option Where). IsSome z) is some in absurd (cc))
       there (Some (where_is.Gate c)) is some p left = inl (on-stays-at (site_in s) g.placed v.history x to i.telling.right.right.each (i.lineage.leads to x c is).0)
-      there (Some (where_is.Split plane l r)) is some p left = inl (i.lineage.divided to x l r plane is).1
+      there (Some (where_is.Split plane l r)) is some p left = inl (i.lineage.divided to x l r plane is).2
       there (Some (where_is.Moved u)) is some p left =
           let q = position-of (left_at s.workers v.history x to) (i.lineage.moved to x u is).3 in
           inr (q.0, q.1, i.lineage.later w x to u p q.0 leads is left q.1)

@@ -13,3 +13,5 @@ pub mod RowBack
 pub mod WaitsAgain
 pub mod ForwardsPart
 pub mod ForwardReady
+pub mod ChildrenWait
+pub mod ExpandsPart

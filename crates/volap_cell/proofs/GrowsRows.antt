@@ -1,7 +1,7 @@
 -- One event more, that splits and moves no shard: where shards are, and where rows are.
-use Rattle.std.proofs.Common.{◌≡◌, ℕ, ◌<◌, ◌∙◌, List, ◌∷◌, Bool, IsTrue, sym, subst, ◌⊎◌, Contains, inl, inr}
+use Rattle.std.proofs.Common.{◌≡◌, ℕ, ◌<◌, ◌∙◌, List, [], ◌∷◌, Bool, IsTrue, sym, subst, ◌⊎◌, Contains, inl, inr}
 use Rattle.std.specs.Prelude.{Option, Some, IsSome}
-use Rattle.std.proofs.lemmas.List.Elements.{All-weaker}
+use Rattle.std.proofs.lemmas.List.Elements.{All-weaker, Contains-append_right}
 use Rattle.describing_set.specs.declared.listing.Spot.{Spot}
 use Rattle.cell_stock.specs.Stock.{StockValue}
 use Rattle.mapping_table.specs.declared.place.Where.{Where}
@@ -52,7 +52,8 @@ module _ (s : Setting) (e : Event) (h : List Event) (stay : ShardsStay s.workers
     live = λ c x g p. let l = i.live c x g p in (live-stays s.workers e h stay x ∙ l.0, l.1);
     leads = λ w x c m. let l = i.leads w x c m in (on-stays s.workers e h stay x w ∙ l.0, l.1);
     split = λ w x l r plane m. let t = i.split w x l r plane m in (is_child-older e h x l t.0, is_child-older e h x r t.1, t.2, t.3, t.4);
-    divided = λ w x l r plane m. let t = i.divided w x l r plane m in (t.0, elim t.1 [ | inl there ↦ inl (went x w ∙ there) | inr never ↦ inr (stay.left_at x w ∙ never) ]);
+    divided = λ w x l r plane m. let t = i.divided w x l r plane m in
+        (t.0, (t.1.0, Contains-append_right (e ∷ []) h _ t.1.1), elim t.2 [ inl there ↦ inl (went x w ∙ there) | inr never ↦ inr (stay.left_at x w ∙ never) ]);
     moved = λ w x v m. let t = i.moved w x v m in (t.0, t.1, t.2, subst (λ (o : Option ℕ). IsSome o) (sym (stay.left_at x w)) t.3, went x w ∙ t.4);
     later = λ w x v u p q m n lp lq. i.later w x v u p q m n (sym (stay.left_at x w) ∙ lp) (sym (stay.left_at x v) ∙ lq);
     made = λ c x g. subst (λ (n : ℕ). x < n) (sym stay.ids) (i.made c x g);

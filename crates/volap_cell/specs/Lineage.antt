@@ -1,6 +1,6 @@
 -- Where shards are: the registry has those that stand, and the workers' tables lead from each id that a server or a part may
 -- still have to a gate, or on to children or another worker.
-use Rattle.std.specs.Prelude.{ℕ, ◌≡◌, ◌≢◌, ◌==◌, ◌<◌, ◌⊎◌, Bool, true, false, IsTrue, IsSome, List, [], ◌∷◌, Option, Some, None, All, if◌then◌else◌}
+use Rattle.std.specs.Prelude.{ℕ, ◌≡◌, ◌≢◌, ◌==◌, ◌<◌, ◌⊎◌, Bool, true, false, IsTrue, IsSome, List, [], ◌∷◌, Option, Some, None, All, Contains, if◌then◌else◌}
 use Rattle.describing_set.specs.Plane.{IsHierarchyPlane}
 use Rattle.describing_set.specs.declared.listing.Spot.{Spot}
 use Rattle.cell_stock.specs.Stock.{StockValue}
@@ -11,7 +11,7 @@ use Rattle.query_router.specs.declared.part.Part.{Part}
 use Rattle.row_ledger.specs.Listings.{places_of}
 use Rattle.row_ledger.specs.Shards.{frontier, ids_made, is_child, is_live, is_on, left_at}
 use Rattle.row_ledger.specs.declared.event.Event.{Event}
-use Rattle.row_ledger.specs.declared.event.Event.TheVariants.{Moved}
+use Rattle.row_ledger.specs.declared.event.Event.TheVariants.{Moved, Split}
 use Rattle.server_image.specs.Image.{ImageValue}
 use Rattle.server_image.specs.Registry.{RegistryValue}
 use Rattle.shard_store.specs.declared.gate.Phase.{Phase}
@@ -37,7 +37,7 @@ pub record Lineage (s : Setting) (history : List Event) (stock : StockValue) (re
   pub split : (w x l r : ℕ) (plane : Plane) → maps w x ≡ Some (where_is.Split plane l r)
       → IsTrue (is_child history x l) × IsTrue (is_child history x r) × (l ≢ r) × IsSome (maps w l) × IsSome (maps w r)
   pub divided : (w x l r : ℕ) (plane : Plane) → maps w x ≡ Some (where_is.Split plane l r)
-      → IsHierarchyPlane s.hierarchy plane × ((went_to history x w ≡ true) ⊎ (left_at s.workers history x w ≡ None))
+      → IsHierarchyPlane s.hierarchy plane × ((of : ℕ) × Contains history (Split of x l r)) × ((went_to history x w ≡ true) ⊎ (left_at s.workers history x w ≡ None))
   pub moved : (w x v : ℕ) → maps w x ≡ Some (where_is.Moved v) → (v < s.workers) × (v ≢ w) × IsSome (maps v x) × IsSome (left_at s.workers history x w) × (went_to history x w ≡ false)
   pub later : (w x v u p q : ℕ) → maps w x ≡ Some (where_is.Moved v) → maps v x ≡ Some (where_is.Moved u) → left_at s.workers history x w ≡ Some p → left_at s.workers history x v ≡ Some q → p < q
   pub made : (c x : ℕ) → gates c ≡ Some x → x < ids_made s.workers history
