@@ -26,3 +26,4 @@ pub mod Pageless
 pub mod JobsEnd
 pub mod CallsEnd
 pub mod Endings
+pub mod NotesAsk

@@ -2,6 +2,7 @@
 #![tactic(auto)]
 
 mod acks;
+mod asks;
 mod begins;
 mod calls;
 mod counts;
@@ -10,6 +11,7 @@ mod notes;
 mod owing;
 
 pub use acks::ack;
+pub use asks::note_asking;
 pub use begins::begin_insert;
 pub use calls::note_called;
 pub use counts::count_session;
