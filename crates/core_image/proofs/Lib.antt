@@ -27,3 +27,4 @@ pub mod JobsEnd
 pub mod CallsEnd
 pub mod Endings
 pub mod NotesAsk
+pub mod NotesEnd
