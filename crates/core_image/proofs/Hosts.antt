@@ -1,16 +1,22 @@
 -- What the registry tells of the shards that stand is what the history tells of them.
-use Rattle.std.proofs.Common.{◌≡◌, ℕ, List, [], ◌∷◌, Bool, true, false, Option, Some, None, is_some, refl, sym, ap, ◌∙◌, ◌==◌, ◌&&◌, ◌||◌}
+use Rattle.std.proofs.Common.{◌≡◌, ℕ, List, [], ◌∷◌, Bool, true, false, Option, Some, None, is_some, refl, sym, ap, ◌∙◌, ◌==◌, ◌&&◌, ◌||◌, Any, length-append, ◌≤◌, ◌*◌, ◌+◌, length, filter, not, map, arith, suc}
 use Rattle.std.specs.List.{list_any}
 use Rattle.std.specs.Prelude.{if◌then◌else◌}
 use Rattle.std.proofs.lemmas.Bool.{eq-eqb, false≢true, or_right}
 use Rattle.describing_set.specs.declared.listing.Spot.{Spot}
 use Rattle.row_ledger.specs.Listings.{places_of}
-use Rattle.row_ledger.specs.Shards.{Place, frontier, is_live, is_of, is_on}
+use Rattle.row_ledger.specs.Shards.{Place, frontier, is_live, is_of, is_on, place, children, places_after, worker_of}
 use Rattle.row_ledger.specs.declared.event.Event.{Event}
 use Rattle.server_image.specs.Registry.{RegistryValue, host_of, on_frontier}
 use Rattle.server_image.specs.Spots.{has_spot, worker_in}
 use Rattle.tree_shape.proofs.Walks.{on_bool}
-use Rattle.volap_cell.specs.ImageKinds.{job_called}
+use Rattle.std.proofs.lemmas.List.{length-map}
+use Rattle.std.proofs.lemmas.List.FromFn.{length-map-range_with_len}
+use Rattle.std.proofs.lemmas.List.Folds.{Any-from_list_any}
+use Rattle.row_ledger.specs.declared.event.Event.TheVariants.{Split, Moved}
+use Rattle.shard_plan.specs.declared.action.Load.{Load}
+use Rattle.volap_cell.specs.Working.{places_in}
+use Rattle.volap_cell.specs.ImageKinds.{job_called, unread_load}
 use Rattle.volap_cell.specs.Values.{JobValue, IsCalled}
 
 has-place : (x : ℕ) (spots : List Spot) → has_spot x spots ≡ list_any (is_of x) (places_of spots)
@@ -49,3 +55,42 @@ job-new r x to true w host j is =
     let same : ◌≡◌ {A = Option JobValue} (Some (record { shard = x; worker = w; to = to; stage = IsCalled })) (Some j) = sym here ∙ is in
     (refl, cc)
 job-new r x to false w host j is = (let never : ◌≡◌ {A = Option JobValue} None (Some j) = is in absurd (cc))
+
+-- The loads of a balance as it begins.
+
+pub places-unread : (spots : List Spot) → places_in (map unread_load spots) ≡ places_of spots
+places-unread [] = refl
+places-unread (spot ∷ spots) = ap (λ (places : List Place). place spot.shard spot.worker ∷ places) (places-unread spots)
+
+any-unread : (x : ℕ) (spots : List Spot) → list_any (λ (l : Load). l.shard == x) (map unread_load spots) ≡ has_spot x spots
+any-unread x [] = refl
+any-unread x (spot ∷ spots) = ap (λ (b : Bool). (spot.shard == x) || b) (any-unread x spots)
+
+-- a shard that stands has a load
+pub has-load : (x : ℕ) (r : RegistryValue) → on_frontier x r ≡ true → Any (λ (l : Load). (l.shard == x) ≡ true) (map unread_load r.frontier)
+has-load x r has = Any-from_list_any (λ (l : Load). l.shard == x) (map unread_load r.frontier) (any-unread x r.frontier ∙ has)
+
+-- How many shards stand: no more than twice as many as there are events, and those of the opening.
+
+filter-few : (test : Place → Bool) (places : List Place) → length (filter test places) ≤ length places
+filter-few test [] = omega arith
+filter-few test (p ∷ places) = on_bool (test p)
+    (λ q. let more = filter-few test places in let at : length (filter test (p ∷ places)) ≡ suc (length (filter test places)) = rw q refl in omega (arith, more, at))
+    (λ q. let more = filter-few test places in let at : length (filter test (p ∷ places)) ≡ length (filter test places) = rw q refl in omega (arith, more, at))
+
+children-two : (left right : ℕ) (worker : Option ℕ) → length (children left right worker) ≤ 2
+children-two left right None = omega arith
+children-two left right (Some worker) = omega arith
+
+after-few : (places : List Place) (e : Event) → length (places_after places e) ≤ length places + 2
+after-few places (Split of shard left right) =
+    let kept = filter-few (λ (p : Place). not (is_of shard p)) places in
+    let new = children-two left right (worker_of places shard) in
+    let both = length-append (filter (λ (p : Place). not (is_of shard p)) places) (children left right (worker_of places shard)) in
+    omega (arith, kept, new, both)
+after-few places (Moved of shard worker) = (let same = length-map places (λ (p : Place). if is_of shard p then place shard worker else p) in omega (arith, same))
+after-few places _ = omega arith
+
+pub few-stand : (workers : ℕ) (h : List Event) → length (frontier workers h) ≤ workers + 2 * length h
+few-stand workers [] = (let all = length-map-range_with_len (λ w. place w w) 0 workers in omega (arith, all))
+few-stand workers (e ∷ past) = (let before = few-stand workers past in let now = after-few (frontier workers past) e in omega (arith, before, now))

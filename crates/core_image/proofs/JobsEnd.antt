@@ -40,12 +40,12 @@ module _ (n : ℕ) (its : Command) (commands commands_now : ℕ → Option Comma
     about = i.about;
     beyond = i.beyond;
     nobody = λ a le. let (counted, purse, none, takes, jobless) = i.nobody a le in (
-          counted,
-          purse,
-          on_bool (eqb a n) (λ q. ap commands_now (eqb-eq a n q) ∙ end.is_there) (λ q. end.elsewhere a (eqb-ne a n q) ∙ none),
-          takes,
-          on_bool (eqb a n) (λ q. ap jobs_now (eqb-eq a n q) ∙ gone.is_there) (λ q. gone.elsewhere a (eqb-ne a n q) ∙ jobless),
-        );
+      counted,
+      purse,
+      on_bool (eqb a n) (λ q. ap commands_now (eqb-eq a n q) ∙ end.is_there) (λ q. end.elsewhere a (eqb-ne a n q) ∙ none),
+      takes,
+      on_bool (eqb a n) (λ q. ap jobs_now (eqb-eq a n q) ∙ gone.is_there) (λ q. gone.elsewhere a (eqb-ne a n q) ∙ jobless),
+    );
     working = λ a j is. i.working a j (had-it a j is).1;
     parts = i.parts;
   }

@@ -47,3 +47,5 @@ pub mod Pageless
 pub mod JobsEnd
 pub mod CallsEnd
 pub mod Endings
+pub mod NotesAsk
+pub mod NotesEnd

@@ -1,11 +1,11 @@
 -- What each command that is no insert and no query is as it begins.
-use Rattle.std.proofs.Common.{◌≡◌, ◌≢◌, ℕ, ◌*◌, ◌<◌, ◌≤◌, List, [], ◌∷◌, Bool, true, false, length, Option, Some, None, refl, sym, ap, ◌∙◌, subst, arith, ◌&&◌, nat_lt}
+use Rattle.std.proofs.Common.{◌≡◌, ◌≢◌, ℕ, ◌*◌, ◌<◌, ◌≤◌, List, [], ◌∷◌, Bool, true, false, length, Option, Some, None, refl, sym, ap, ◌∙◌, subst, arith, ◌&&◌, nat_lt, take, map, Any, option_map, option_and_then, is_some, ◌==◌, eqb-true, slice_get, ◌^◌, ◌-◌, ◌+◌}
 use Rattle.std.proofs.lemmas.Bool.{and_parts, false≢true, ltb-true}
 use Rattle.cell_stock.specs.declared.purse.Spare.{Spare}
 use Rattle.row_ledger.specs.Listings.{places_of}
 use Rattle.row_ledger.specs.Past.{before, call_at, call_in, has_page, work}
 use Rattle.row_ledger.specs.Right.{KeepsRight}
-use Rattle.row_ledger.specs.Shards.{frontier, is_live, is_on}
+use Rattle.row_ledger.specs.Shards.{frontier, is_live, is_on, comes_from, place}
 use Rattle.row_ledger.specs.Work.{is_known}
 use Rattle.row_ledger.specs.declared.event.Event.{Event}
 use Rattle.row_ledger.specs.declared.event.Event.TheVariants.{Called}
@@ -16,23 +16,35 @@ use Rattle.row_ledger.proofs.Growth.{KeepsRight-called}
 use Rattle.row_ledger.proofs.Positions.{before-here}
 use Rattle.server_image.specs.Registry.{RegistryValue, host_of, on_frontier}
 use Rattle.shard_plan.specs.declared.action.Action.TheVariants as action
+use Rattle.std.specs.Prelude.{IsTrue}
+use Rattle.std.proofs.lemmas.List.Elements.{All-nil}
+use Rattle.row_ledger.specs.Changes.{ShardsStay}
+use Rattle.row_ledger.proofs.Descent.{comes_from-self}
+use Rattle.shard_plan.specs.declared.action.Action.{Action}
+use Rattle.shard_plan.specs.declared.action.Load.{Load}
+use Rattle.std.proofs.lemmas.Nat.{mul-le}
+use Rattle.std.proofs.lemmas.List.{length-map}
+use Rattle.describing_set.specs.declared.listing.Spot.{Spot}
+use Rattle.volap_cell.specs.declared.command.Balance.{Balance}
+use Rattle.volap_cell.specs.Planning.{job_for}
 use Rattle.volap_cell.specs.Commands.{MayCall}
-use Rattle.volap_cell.specs.Falls.{job_left, plenty}
+use Rattle.volap_cell.specs.Falls.{job_left, plenty, actions_left, control_of}
 use Rattle.volap_cell.specs.Ghost.{Ghost}
-use Rattle.volap_cell.specs.ImageKinds.{IsBegun, asks_registry, job_called}
+use Rattle.volap_cell.specs.ImageKinds.{IsBegun, asks_registry, job_called, IsNewBalance, unread_load}
 use Rattle.volap_cell.specs.Invariant.{InvWith}
 use Rattle.volap_cell.specs.Setting.{Setting, site_in}
 use Rattle.volap_cell.specs.Values.{JobValue, StageValue, IsCalled}
 use Rattle.volap_cell.specs.View.{View}
-use Rattle.volap_cell.specs.Working.{action_of}
+use Rattle.volap_cell.specs.Working.{action_of, IsBalancing, IsReadLoad, places_in}
 use Rattle.volap_cell.specs.declared.command.Work.{Work}
 use Rattle.volap_cell.specs.declared.command.Work.TheVariants as work_is
 use Rattle.volap_cell.specs.declared.role.Role.{Role}
-use Rattle.volap_cell.specs.declared.role.Role.TheVariants.{Admin, Hand}
-use Rattle.volap_cell.proofs.Grows.{on-stays}
+use Rattle.volap_cell.specs.declared.role.Role.TheVariants.{Admin, Hand, Puller, Session}
+use Rattle.volap_cell.proofs.Grows.{on-stays, Any-weaker, live-stays}
 use Rattle.volap_cell.proofs.NotedCommands.{new-pageless, new-told, new-workless}
-use Rattle.core_image.proofs.CallsBegin.{IsBeginning}
-use Rattle.core_image.proofs.Hosts.{host-on, job-known, job-new, stands-live}
+use Rattle.core_image.specs.NotesDue.{Begins}
+use Rattle.core_image.proofs.CallsBegin.{IsBeginning, most_control}
+use Rattle.core_image.proofs.Hosts.{host-on, job-known, job-new, stands-live, has-load, few-stand, places-unread}
 use Rattle.core_image.proofs.Jobs.{IsNewJob}
 
 -- whoever may call is there
@@ -243,3 +255,76 @@ module _ (s : Setting) (v : View) (g : Ghost) (i : InvWith s v g) (number : ℕ)
   alone-begins call_is.Shards alone within workers r work job is = as-said (Called number call_is.Shards) _ _ is.0 is.1 shards-begins
   alone-begins call_is.Audit alone within workers r work job is = as-said (Called number call_is.Audit) _ _ is.0 is.1 audit-begins
   alone-begins _ alone within workers r work job is = absurd (false≢true (sym alone))
+
+  -- A balance.
+
+  module _ (r : RegistryValue) (is_registry : v.registry ≡ r) (most : ℕ) (b : Balance) (new : IsNewBalance r most b) (admin : role ≡ Admin) where
+    abbrev calls : Event
+    calls = Called number (call_is.Balance most)
+
+    stays : ShardsStay s.workers calls h
+    stays = (quiet s.hierarchy s.workers calls h refl).shards
+
+    its-front : places_of r.frontier ≡ frontier s.workers h
+    its-front = subst (λ (x : RegistryValue). places_of x.frontier ≡ frontier s.workers h) is_registry i.lineage.front
+
+    balancing : IsBalancing s (calls ∷ h) g.placed g.home None of b
+    balancing = record {
+      places = ap places_in new.loads ∙ places-unread r.frontier ∙ its-front ∙ ap (frontier s.workers) (sym (past (call_is.Balance most)));
+      readings = [];
+      loads = ap (λ (n : ℕ). take n b.loads) (sym new.read);
+      each = All-nil (IsReadLoad s (calls ∷ h) g.placed g.home of);
+      read = (let none = new.read in omega (arith, none));
+      still = λ unplanned. (stays.frontier ∙ ap (frontier s.workers) (sym (past (call_is.Balance most))), workless (call_is.Balance most), new.over, new.done, new.standing);
+      planned = λ actions is. let never : ◌≡◌ {A = Option (List Action)} None (Some actions) = sym new.plan ∙ is in absurd (cc);
+      from = λ x live.
+          let has : on_frontier x r ≡ true = stands-live s.workers h r its-front x ∙ sym (live-stays s.workers calls h stays x) ∙ live in
+          subst (λ (loads : List Load). Any (λ (l : Load). IsTrue (comes_from (calls ∷ h) l.shard x)) loads) (sym new.loads)
+          (Any-weaker (λ (l : Load). (l.shard == x) ≡ true) (λ (l : Load). IsTrue (comes_from (calls ∷ h) l.shard x))
+          (λ l same. subst (λ (y : ℕ). IsTrue (comes_from (calls ∷ h) y x)) (sym (eqb-true l.shard x same)) (comes_from-self (calls ∷ h) x)) (map unread_load r.frontier) (has-load x r has));
+      at_work = sym (ap (λ (plan : Option (List Action)). is_some (option_map (job_for b.standing) (option_and_then (λ (actions : List Action). slice_get actions b.over) plan))) new.plan);
+    }
+
+    -- no more actions than a byte can tell, and no more loads than shards stand
+    control-few : most < 2 ^ 8 → control_of s (work_is.Balance b) + job_left s v None ≤ most_control s
+    control-few few =
+        let at : control_of s (work_is.Balance b) ≡ 1 + (b.most * (8 * plenty s) + 1 + (length b.loads - b.read)) = ap (λ (plan : Option (List Action)). 1 + actions_left s b plan) new.plan in
+        let most_is = new.most_is in
+        let actions : b.most * (8 * plenty s) ≤ 255 * (8 * plenty s) = mul-le b.most (8 * plenty s) 255 (8 * plenty s) (omega (arith, few, most_is)) (omega arith) in
+        let loads : length b.loads ≡ length r.frontier = ap length new.loads ∙ length-map r.frontier unread_load in
+        let shards : length r.frontier ≡ length (frontier s.workers h) = sym (length-map r.frontier (λ (spot : Spot). place spot.shard spot.worker)) ∙ ap length its-front in
+        let stand = few-stand s.workers h in
+        let events = i.owing.few in
+        omega (arith, at, actions, loads, shards, stand, events)
+
+    pub balance-begins : most < 2 ^ 8 → IsBeginning s v g (calls ∷ h) of role purse (work_is.Balance b) None
+    balance-begins few = record {
+      progress = (told (call_is.Balance most) ∙ ap (λ (m : ℕ). Some (call_is.Balance m)) (sym new.most_is), admin);
+      new_job = λ j is. none-new j _ _ is;
+      off_desk = refl;
+      no_insert = refl;
+      balance = λ other is. let same : b ≡ other = cc in subst (λ (x : Balance). IsBalancing s (calls ∷ h) g.placed g.home None of x) same balancing;
+      control = control-few few;
+      gates = omega arith;
+    }
+
+  -- a call that asks the registry
+  pub asking-begins : (call : Call) → asks_registry call ≡ true → (r : RegistryValue) → v.registry ≡ r → role ≡ Admin → purse ≡ [] → (work : Work) (job : Option JobValue) → Begins s.workers r call work job
+      → IsBeginning s v g (Called number call ∷ h) of role purse work job
+  asking-begins (call_is.Tree x) asks r is_registry admin spares work job is = as-said (Called number (call_is.Tree x)) _ _ is.0 is.1 (tree-begins r is_registry x)
+  asking-begins (call_is.Split x) asks r is_registry admin spares work job is = as-said (Called number (call_is.Split x)) _ _ is.0 is.1 (split-begins r is_registry x admin spares)
+  asking-begins (call_is.Move x to) asks r is_registry admin spares work job is = as-said (Called number (call_is.Move x to)) _ _ is.0 is.1 (move-begins r is_registry x to admin spares)
+  asking-begins (call_is.Balance most) asks r is_registry admin spares work job is =
+      let none = is.0.0 in
+      let (b, works, new) = is.0.1 in
+      as-said (Called number (call_is.Balance most)) _ _ works none (balance-begins r is_registry most b new admin is.1)
+  asking-begins _ asks r is_registry admin spares work job is = absurd (false≢true asks)
+
+-- the administrator alone asks the registry
+pub asker-admin : (role : Role) (call : Call) → MayCall role call → asks_registry call ≡ true → role ≡ Admin
+asker-admin Admin call may asks = refl
+asker-admin (Session x) (call_is.Sync server) may asks = absurd (false≢true asks)
+asker-admin (Session x) _ may asks = absurd may
+asker-admin Puller (call_is.Sync server) may asks = absurd (false≢true asks)
+asker-admin Puller _ may asks = absurd may
+asker-admin (Hand w) call may asks = absurd may

@@ -1,6 +1,6 @@
 -- What the kinds ask that note an event which acknowledges and pulls nothing, beyond that their cells and their actor are those of a
 -- state; and what their inner functions do.
-use Rattle.std.specs.Prelude.{ℕ, ◌≡◌, ◌+◌, ◌<◌, ◌^◌, Bool, true, false, not, List, [], ◌∷◌, length, Some, None}
+use Rattle.std.specs.Prelude.{ℕ, ◌≡◌, ◌≢◌, ◌+◌, ◌<◌, ◌^◌, Bool, true, false, not, List, [], ◌∷◌, length, Option, Some, None}
 use Rattle.dim_hierarchy.specs.Dimension.{Dimension}
 use Rattle.dim_hierarchy.specs.Row.{IsCoordOf}
 use Rattle.dim_hierarchy.specs.declared.row.Coord.{Coord}
@@ -9,13 +9,17 @@ use Rattle.query_router.specs.Desk.{DeskValue, verdict_of}
 use Rattle.query_router.specs.declared.part.Verdict.TheVariants as verdict
 use Rattle.row_ledger.specs.LedgerValue.{LedgerValue}
 use Rattle.row_ledger.specs.declared.event.Event.{Event}
+use Rattle.row_ledger.specs.declared.event.Event.TheVariants.{Ended}
 use Rattle.row_ledger.specs.declared.settings.Call.{Call}
 use Rattle.row_ledger.specs.declared.settings.Call.TheVariants as call
+use Rattle.row_ledger.specs.declared.settings.How.{How}
 use Rattle.server_image.specs.Image.{ImageValue}
+use Rattle.server_image.specs.Registry.{RegistryValue}
 use Rattle.volap_cell.specs.Cells.{CellValue, DeskOf, ImageOf, TheLedger, TheRegistry, desk_in, tag_of}
-use Rattle.volap_cell.specs.Commands.{MayCall}
-use Rattle.volap_cell.specs.ImageKinds.{IsFree, asks_registry, doing}
-use Rattle.volap_cell.specs.Values.{ActorValue}
+use Rattle.volap_cell.specs.Commands.{MayCall, MayNoteEnd}
+use Rattle.volap_cell.specs.ImageKinds.{IsBegun, IsFree, asks_registry, doing}
+use Rattle.volap_cell.specs.Values.{ActorValue, JobValue}
+use Rattle.volap_cell.specs.declared.command.Balance.{Balance}
 use Rattle.volap_cell.specs.declared.command.Work.{Work}
 use Rattle.volap_cell.specs.declared.command.Work.TheVariants as work_is
 use Rattle.volap_cell.specs.declared.command.Work.TheVariants.{Insert, Query}
@@ -132,3 +136,22 @@ pub record CanNoteAsking (called : Call) (workers : ℕ) (registry ledger : Cell
   pub workers_are : workers ≡ a.setting.workers
   pub registry_is : tag_of registry ≡ TheRegistry
   pub ledger_is : tag_of ledger ≡ TheLedger
+
+-- the work of a call that asks the registry, and its job, as they begin; a balance makes no more actions than a byte can tell
+abbrev pub Begins : ℕ → RegistryValue → Call → Work → Option JobValue → Type 0
+Begins workers r (call.Balance most) work job = IsBegun workers r (call.Balance most) work job × (most < 2 ^ 8)
+Begins workers r called work job = IsBegun workers r called work job
+
+-- the actor's command, which is no balance, may end so by its own note
+pub record CanNoteEnded (how : How) (ledger : CellValue) (a : ActorValue) : Type 0 where
+  pub of : ℕ
+  pub work : Work
+  pub command : a.command ≡ doing of work
+  pub no_balance : (b : Balance) → work ≢ work_is.Balance b
+  pub ends : MayNoteEnd a.setting.servers work a.job how
+  pub ledger_is : tag_of ledger ≡ TheLedger
+
+-- an end is noted, and so many promises are used up or given back
+pub record NotesEnd (of : ℕ) (how : How) (left : ℕ) (ledger ledger_now : LedgerValue) : Type 0 where
+  pub history : ledger_now.history ≡ Ended of how ∷ ledger.history
+  pub promised : ledger_now.promised + left ≡ ledger.promised

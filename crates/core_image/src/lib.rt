@@ -3,9 +3,11 @@
 
 mod acks;
 mod answers;
+mod asks;
 mod begins;
 mod calls;
 mod counts;
+mod ended;
 mod fails;
 mod filters;
 mod notes;
@@ -16,9 +18,11 @@ mod syncs;
 
 pub use acks::ack;
 pub use answers::answer;
+pub use asks::note_asking;
 pub use begins::begin_insert;
 pub use calls::note_called;
 pub use counts::count_session;
+pub use ended::note_ended;
 pub use fails::{fail_query, fail_routed, fail_unrouted};
 pub use notes::{note_refused, note_unknown};
 pub use queries::begin_query;

@@ -59,6 +59,13 @@ impl Registry {
         self.frontier.len()
     }
 
+    /// The shards without successors, by ascending id, lent.
+    pub fn spots(&self) -> &[Spot]
+        ensures { result.now ≡ self.now.frontier }
+    {
+        self.frontier.as_slice()
+    }
+
     /// The shards without successors, by ascending id.
     pub fn frontier(&self, alloc: Global) -> Result<Listing, AllocError>
         ensures value { IfOk result (λ listing. listing ≡ self.now.frontier) }

@@ -1,0 +1,14 @@
+use Rattle.std.proofs.Common.{length, ap, sym, ◌∙◌}
+use Rattle.row_ledger.specs.LedgerValue.{LedgerValue}
+use Rattle.volap_cell.specs.Cells.{LedgerCell, RegistryCell, cell_of}
+use Rattle.volap_cell.specs.Values.{actor_of}
+use Rattle.core_image.proofs.NotesAsk.{asking-makes}
+use Rattle.core_image.proofs.asks.note_asking.Goals as goal
+
+pub returns-clause-made : goal.returns-clause-made
+returns-clause-made c =
+    asking-makes c.args.h.now c.args.registry_at c.args.ledger_at c.args.call c.args.workers (cell_of c.args.registry.now) (cell_of c.args.ledger.now) (actor_of c.args.actor.now) c.requires.due
+    c.deref.result.now (ap cell_of c.in-Registry.is ∙ ap RegistryCell (sym c.deref.ensures)) c.in-Registry.registry.value (sym c.deref.ensures)
+    c.deref_mut.result.now (ap cell_of c.in-Ledger.is ∙ ap LedgerCell (sym c.deref_mut.ensures.value)) c.push_called.new.ledger
+    _ (c.len-of.ensures.value ∙ ap (λ (l : LedgerValue). length l.history) (c.deref-2.ensures ∙ sym c.deref_mut.ensures.value))
+    _ _ c.in_ok-work.ensures c.in_ok-push_called.ensures.ok _ (c.len-actor.ensures.value ∙ ap (λ (l : LedgerValue). length l.history) c.deref-3.ensures)

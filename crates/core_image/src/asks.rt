@@ -1,0 +1,154 @@
+ghost use Rattle.std.specs.Prelude.{◌≡◌, [], ◌∷◌, OnOk, OnErr, IfOk, true, map, option_map};
+ghost use Rattle.core_image.specs.NotesDue.{CanNoteAsking, Begins};
+ghost use Rattle.volap_cell.specs.Cells.{cell_of};
+ghost use Rattle.volap_cell.specs.ImageKinds.{IsNewBalance, asks_registry, job_called, unread_load};
+ghost use Rattle.volap_cell.specs.Steps.{IsHere, Makes};
+ghost use Rattle.volap_cell.specs.Values.{actor_of, job_of};
+ghost use Rattle.volap_cell.specs.World.{change, held};
+ghost use Rattle.volap_cell.specs.declared.kind.Kind.TheVariants.{Note};
+
+use crate::calls::push_called;
+use describing_set::Spot;
+use dim_hierarchy::{Hierarchy, Items};
+use row_ledger::Call;
+use server_image::Registry;
+use shard_plan::Load;
+use std::alloc::{AllocError, Global};
+use volap_cell::{Actor, Balance, Cell, Command, Job, Stage, Work};
+
+/// Begins a command that asks the registry what stands: a split, a move, a balance, or the page of
+/// a tree. A split or a move has its job with it where its shard stands, and the worker to which it
+/// moves is one of so many. Takes memory for the job and a balance's loads, and then the ledger's
+/// room for all that the command may still push.
+pub fn note_asking(
+    alloc: Global,
+    h: &Hierarchy,
+    registry_at: u32,
+    registry: &mut Cell,
+    ledger_at: u32,
+    ledger: &mut Cell,
+    actor: &mut Actor,
+    call: Call,
+    workers: u8,
+) -> Result<(), AllocError>
+    requires here { IsHere h.now (held registry_at (cell_of registry.old) ∷ held ledger_at (cell_of ledger.old) ∷ []) (actor_of actor.old) }
+    requires due { CanNoteAsking call workers (cell_of registry.old) (cell_of ledger.old) (actor_of actor.old) }
+    ensures made { OnOk result (Makes h.now Note
+        (change registry_at (cell_of registry.old) (cell_of registry.new) ∷ change ledger_at (cell_of ledger.old) (cell_of ledger.new) ∷ [])
+        (actor_of actor.old) (actor_of actor.new)) }
+    ensures refused { OnErr result ((cell_of registry.new ≡ cell_of registry.old) × (cell_of ledger.new ≡ cell_of ledger.old) × (actor_of actor.new ≡ actor_of actor.old)) }
+{
+    let _ = h;
+    let Cell::Registry(registry) = registry else {
+        unreachable!()
+    };
+    let Cell::Ledger(ledger) = ledger else {
+        unreachable!()
+    };
+    let Begun { work, job } = begin(alloc, registry, call, workers)?;
+    let of = ledger.len();
+    push_called(ledger, actor.number, call, &work)?;
+    actor.command = Some(Command { of, work });
+    actor.job = job;
+    actor.seen = ledger.len();
+    Ok(())
+}
+
+/// A command at its beginning, with its job where it has one.
+struct Begun {
+    work: Work,
+    job: Option<Box<Job>>,
+}
+
+/// The command of a call that asks the registry, at its beginning.
+fn begin(alloc: Global, registry: &Registry, call: Call, workers: u8) -> Result<Begun, AllocError>
+    requires { asks_registry call ≡ true }
+    ensures { IfOk result (λ begun. Begins workers registry.now call begun.work (option_map (λ j. job_of j.value) begun.job)) }
+{
+    match call {
+        Call::Tree(shard) => Ok(Begun {
+            work: Work::Tree {
+                shard,
+                stands: registry.on_frontier(shard),
+                shown: false,
+            },
+            job: None,
+        }),
+        Call::Split(shard) => {
+            let known = registry.on_frontier(shard);
+            Ok(Begun {
+                work: Work::Split { shard },
+                job: first_job(alloc, registry, shard, None, known)?,
+            })
+        }
+        Call::Move(shard, worker) => {
+            let known = registry.on_frontier(shard) && worker < workers;
+            Ok(Begun {
+                work: Work::Move { shard, worker },
+                job: first_job(alloc, registry, shard, Some(worker), known)?,
+            })
+        }
+        Call::Balance(most) => Ok(Begun {
+            work: Work::Balance(first_balance(alloc, registry, most)?),
+            job: None,
+        }),
+        _ => unreachable!(),
+    }
+}
+
+/// The job of a split, or of a move to this worker, at its beginning; none where it is unknown.
+fn first_job(
+    alloc: Global,
+    registry: &Registry,
+    shard: u32,
+    to: Option<u8>,
+    known: bool,
+) -> Result<Option<Box<Job>>, AllocError>
+    ensures { IfOk result (λ job. option_map (λ j. job_of j.value) job ≡ job_called registry.now shard to known) }
+{
+    if !known {
+        return Ok(None);
+    }
+    match registry.host(shard) {
+        None => Ok(None),
+        Some(worker) => Ok(Some(Box::new(
+            alloc,
+            Job {
+                shard,
+                worker,
+                to,
+                stage: Stage::Called,
+            },
+        )?)),
+    }
+}
+
+/// A balance that has read nothing of the shards that stand.
+fn first_balance(alloc: Global, registry: &Registry, most: u8) -> Result<Balance, AllocError>
+    ensures { IfOk result (IsNewBalance registry.now most) }
+{
+    Ok(Balance {
+        most,
+        loads: unread(alloc, registry.spots())?,
+        read: 0,
+        standing: unread(alloc, registry.spots())?,
+        plan: None,
+        over: 0,
+        done: 0,
+    })
+}
+
+/// The loads of these shards, none of which has been read.
+fn unread(alloc: Global, spots: &[Spot]) -> Result<Items<Load>, AllocError>
+    ensures { IfOk result (λ loads. loads ≡ map unread_load spots.now) }
+{
+    let mut loads = Items::new(alloc);
+    for spot in spots {
+        loads.push(Load {
+            shard: spot.shard,
+            worker: spot.worker,
+            rows: 0,
+        })?;
+    }
+    Ok(loads)
+}
