@@ -1,3 +1,4 @@
+pub mod Worlds
 pub mod Core
 pub mod Rests
 pub mod Cursors
