@@ -1,4 +1,5 @@
 -- The call that takes a row down: what its callee asks for, and what it did.
+use Rattle.std.specs.Prelude.{IfSome}
 use Rattle.std.proofs.Common.{◌≡◌, ℕ, ◌+◌, ◌*◌, ◌^◌, ◌<◌, ◌≤◌, Bool, true, List, [], ◌∷◌, ◌++◌, length, map, Option, Some, None, slice_get, get_or, All, refl, sym, ap, ◌∙◌, subst, inl, inr, arith}
 use Rattle.std.proofs.lemmas.Option.{slice_get_cases}
 use Rattle.std.proofs.lemmas.List.{length-map}
@@ -48,6 +49,12 @@ pub all-at : {A : Type 0} (P : A → Type 0) (xs : List A) (i : ℕ) (x : A) →
 all-at P xs i x read all = elim (slice_get_cases xs i).1 [
   | inl k ↦ (let named : k.0 ≡ x = (let both : Some k.0 ≡ Some x = sym k.2 ∙ read in cc) in subst P (k.3 ∙ named) (all i k.0 k.1))
   | inr k ↦ (let bad : Some x ≡ None = sym read ∙ k.1 in cc)
+]
+
+pub if-at : {A : Type 0} (P : A → Type 0) (xs : List A) (i : ℕ) → All P xs → IfSome (slice_get xs i) P
+if-at {A = A} P xs i all = elim (slice_get_cases xs i).1 [
+  | inl k ↦ subst (λ (o : Option A). IfSome o P) (sym k.2) (subst P k.3 (all i k.0 k.1))
+  | inr k ↦ subst (λ (o : Option A). IfSome o P) (sym k.1) tt
 ]
 
 pub some-at : {A : Type 0} (xs : List A) (i : ℕ) (x : A) → slice_get xs i ≡ Some x → 0 < length xs
