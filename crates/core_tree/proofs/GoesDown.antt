@@ -64,7 +64,7 @@ some-at xs i x read = elim (slice_get_cases xs i).1 [
 ]
 
 -- what is known of the cells that were given
-pub record Given (parent child : CellValue) (tail : List Change) (h : List Dimension) (row : Row) (purse : List Spare) (boxes : ℕ) : Type 0 where
+pub record GivenDown (parent child : CellValue) (tail : List Change) (h : List Dimension) (row : Row) (purse : List Spare) (boxes : ℕ) : Type 0 where
   pub made : has_block child ≡ true
   pub can : CanStep h row (block_in parent) (block_in child) (blocks_of tail) purse boxes
 
@@ -172,7 +172,7 @@ module _ (gates : GateLaw) (blocks : BlockLaw) (childs : ChildLaw) (behinds : Be
         boxed = omega arith;
       }
 
-  pub given-down : Given parent child tail h r.row a.purse a.boxes
+  pub given-down : GivenDown parent child tail h r.row a.purse a.boxes
   given-down = record {
     made = ap has_block (sym k.agrees.cells.1.0) ∙ (i.stocking.tree gate child_at here.whole (ap shape.inside (sym due.child_is) ∙ below.inside) (λ e. below.block (due.child_is ∙ e))).1;
     can = subst (λ (x : List Dimension). CanStep x r.row (block_in parent) (block_in child) (blocks_of tail) a.purse a.boxes) k.about

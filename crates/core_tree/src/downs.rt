@@ -17,7 +17,7 @@ use link_descent::{Tail, pass_down, pick};
 use tree_shape::{collect_laws, frame_law, insert_laws, tree_laws};
 use volap_cell::{Actor, Boxes, Cell, Task, Way, go_on};
 
-/// The block of a cell that is held behind a head stands behind those of the tail.
+/// Lends the block of a cell that is held behind a head, where there is one, behind those of the tail.
 pub(crate) fn add_behind<'a>(tail: &mut Tail<'a>, cell: &'a Option<Cell>)
     requires room { length tail.old + length (block_if (option_map cell_of cell.now)) < 3 }
     ensures { tail.new ≡ tail.old ++ block_if (option_map cell_of cell.now) }
