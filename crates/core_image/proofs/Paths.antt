@@ -44,7 +44,7 @@ comes_from-through site usable (e ∷ past) x y z each made upper lower = elim (
 ]
 
 -- a child comes from its shard, and has its id
-child-comes : (site : Site) (usable : ℕ → Bool) (past : List Event) (x y : ℕ) → EachEvent (Stands site usable) past → is_child past x y ≡ true → (comes_from past x y ≡ true) × (y < ids_made site.workers past)
+pub child-comes : (site : Site) (usable : ℕ → Bool) (past : List Event) (x y : ℕ) → EachEvent (Stands site usable) past → is_child past x y ≡ true → (comes_from past x y ≡ true) × (y < ids_made site.workers past)
 child-comes site usable [] x y each is = absurd (false≢true is)
 child-comes site usable (Split of shard left right ∷ past) x y each is =
     elim (or_cases ((shard == x) && ((left == y) || (right == y))) (list_any (λ (c : Children). (c.shard == x) && ((c.left == y) || (c.right == y))) (filter_map split_in past)) is) [
