@@ -28,3 +28,4 @@ pub mod CallsEnd
 pub mod Endings
 pub mod NotesAsk
 pub mod NotesEnd
+pub mod MadePaths
