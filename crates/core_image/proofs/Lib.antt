@@ -29,3 +29,4 @@ pub mod Endings
 pub mod NotesAsk
 pub mod NotesEnd
 pub mod MadePaths
+pub mod ReadOnce
