@@ -30,3 +30,4 @@ pub mod NotesAsk
 pub mod NotesEnd
 pub mod MadePaths
 pub mod ReadOnce
+pub mod BalanceEnds
