@@ -49,3 +49,6 @@ pub mod CallsEnd
 pub mod Endings
 pub mod NotesAsk
 pub mod NotesEnd
+pub mod MadePaths
+pub mod ReadOnce
+pub mod BalanceEnds
