@@ -8,7 +8,14 @@ use dim_hierarchy::Hierarchy;
 use volap_cell::{State, lift, lift_three, put_actor, put_three};
 
 /// An actor's insert, whose part is placed, is acknowledged: with the desk and the image of its server, and the ledger.
-pub fn ack(h: &Hierarchy, state: &mut State, number: usize, desk_at: u32, image_at: u32, ledger_at: u32)
+pub fn ack(
+    h: &Hierarchy,
+    state: &mut State,
+    number: usize,
+    desk_at: u32,
+    image_at: u32,
+    ledger_at: u32,
+)
     requires state { HasInv h.now state.old.cells.items state.old.actors.items }
     requires ready { MayStep state.old.cells.items state.old.actors.items (desk_at ∷ image_at ∷ ledger_at ∷ []) number Acks }
     ensures stepped { Stepped h.now Ack number state.old.cells.items state.old.actors.items state.new.cells.items state.new.actors.items }

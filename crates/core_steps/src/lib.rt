@@ -2,8 +2,8 @@
 //! them are put back.
 #![tactic(auto)]
 
-mod trees;
 mod books;
+mod trees;
 
 pub use books::ack;
 pub use trees::put_in_leaf;
