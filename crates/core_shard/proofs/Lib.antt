@@ -16,3 +16,4 @@ pub mod ForwardReady
 pub mod ChildrenWait
 pub mod ExpandsPart
 pub mod ExpandReady
+pub mod NotesHeights
