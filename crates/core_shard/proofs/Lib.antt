@@ -17,3 +17,4 @@ pub mod ChildrenWait
 pub mod ExpandsPart
 pub mod ExpandReady
 pub mod NotesHeights
+pub mod Plans
