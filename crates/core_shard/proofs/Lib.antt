@@ -16,3 +16,5 @@ pub mod ForwardReady
 pub mod ChildrenWait
 pub mod ExpandsPart
 pub mod ExpandReady
+pub mod NotesHeights
+pub mod Plans

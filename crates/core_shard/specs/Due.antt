@@ -1,6 +1,6 @@
 -- What a kind asks of the cells that it is given and of its actor, beyond that they are those of a state; and what its inner
 -- functions ask.
-use Rattle.std.specs.Prelude.{ℕ, ◌≡◌, ◌+◌, ◌<◌, ◌⊎◌, List, Option, Some, None, IsSome, position, slice_set, [], ◌∷◌, ◌++◌}
+use Rattle.std.specs.Prelude.{ℕ, ◌≡◌, ◌+◌, ◌<◌, ◌⊎◌, List, Option, Some, None, IsSome, position, slice_set, [], ◌∷◌, ◌++◌, Bool}
 use Rattle.std.specs.FinMap as map
 use Rattle.std.specs.Ordering.{nat_cmp}
 use Rattle.mapping_table.specs.declared.place.Where.{Where}
@@ -16,6 +16,7 @@ use Rattle.dim_hierarchy.specs.Row.{IsCoordOf}
 use Rattle.dim_hierarchy.specs.declared.filter.Pick.{Pick}
 use Rattle.describing_set.specs.Plane.{IsHierarchyPlane}
 use Rattle.describing_set.specs.declared.plane.Plane.{Plane}
+use Rattle.volap_cell.specs.TreeKinds.{HasRow}
 use Rattle.volap_cell.specs.declared.errand.RowErrand.{RowErrand}
 use Rattle.volap_cell.specs.declared.errand.Errand.{Errand}
 use Rattle.volap_cell.specs.declared.errand.Task.TheVariants as task_is
@@ -25,7 +26,7 @@ use Rattle.volap_cell.specs.Errands.{Outside, place_of}
 use Rattle.volap_cell.specs.ShardKinds.{IsDeskFor, IsOutcome, IsOutside, may_take, path_in, pin_of, waiting, child_for}
 use Rattle.volap_cell.specs.Values.{ActorValue, ErrandValue, OfRow, Read, TaskValue, Unread, task_of}
 use Rattle.volap_cell.specs.declared.errand.Way.{Way}
-use Rattle.volap_cell.specs.declared.errand.Way.TheVariants.{Placed}
+use Rattle.volap_cell.specs.declared.errand.Way.TheVariants.{Placed, Before}
 use Rattle.volap_cell.specs.declared.role.Role.{Role}
 use Rattle.volap_cell.specs.declared.role.Role.TheVariants.{Session, Hand}
 
@@ -235,3 +236,20 @@ pub record Divides (h : List Dimension) (table : map.FinMap nat_cmp Where) (desk
   pub place : ℕ
   pub found : position (is_with e.shard e.worker) desk.parts ≡ Some place
   pub puts : PutsOn h e e.task plane left right place desk desk_now
+
+-- Looking up.
+
+-- the actor has a row before its gate, whose height isn't known, and the table leads to the gate that is held
+pub record CanLookUp (map : CellValue) (gate_at : ℕ) (gate : CellValue) (a : ActorValue) : Type 0 where
+  pub e : ErrandValue
+  pub r : RowErrand
+  pub has : HasRow a e r
+  pub filled : Bool
+  pub unknown : r.way ≡ Before None filled
+  pub map_is : tag_of map ≡ MapOf e.worker
+  pub leads : where_in map e.shard ≡ Some (where_is.Gate gate_at)
+
+-- the cell has a gate
+pub record HasGate (cell : CellValue) : Type 0 where
+  pub gate : Gate
+  pub is : cell ≡ GateCell gate
