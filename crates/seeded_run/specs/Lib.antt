@@ -5,4 +5,5 @@ pub mod Due
 pub mod Can
 pub mod Laws
 pub mod Ranks
+pub mod Measure
 pub mod Progress

@@ -1,0 +1,63 @@
+-- At most so many steps are left of a phase: the limits that the size of a core gives, and the number that they make of what is left.
+use Rattle.std.specs.Prelude.{ℕ, ◌≡◌, ◌≢◌, ◌+◌, ◌*◌, ◌^◌, ◌<◌, ◌≤◌, ◌⊎◌, List, [], ◌∷◌, Some, length}
+use Rattle.row_ledger.specs.Past.{session_in}
+use Rattle.row_ledger.specs.declared.event.Event.{Event}
+use Rattle.script_run.specs.Places.{begins_of}
+use Rattle.volap_cell.specs.Falls.{left, per_gate, per_query}
+use Rattle.volap_cell.specs.Ghost.{Ghost}
+use Rattle.volap_cell.specs.Invariant.{InvWith}
+use Rattle.volap_cell.specs.Setting.{Setting, actor_count, cell_count}
+use Rattle.volap_cell.specs.Steps.{IsKept, Step, history_in}
+use Rattle.volap_cell.specs.View.{view}
+use Rattle.volap_cell.specs.World.{World}
+use Rattle.volap_cell.specs.declared.kind.Kind.{Kind}
+use Rattle.volap_cell.specs.declared.kind.Kind.TheVariants.{Note}
+use Rattle.seeded_run.specs.Ranks.{Limits, IsWithin, rank, waiting, with_waiting}
+use Rattle.seeded_run.specs.Rests.{PhaseRun, rest_of}
+
+-- Limits.
+
+-- a history has fewer events than this
+abbrev pub most_events : ℕ
+most_events = 2 ^ 31
+
+-- a part goes on at most so often, wherever it starts
+abbrev pub most_far : ℕ
+most_far = 1 + 2 * most_events
+
+-- at most so many parts wait on a desk, each for a shard of its own
+abbrev pub most_waiting : Setting → ℕ
+most_waiting s = s.workers + 2 * most_events
+
+-- An actor has a command and a part at most, and a desk one part of an insert, or such parts of a query. A row has no more levels
+-- to go down than there are cells, and a query's part no more blocks to visit.
+abbrev pub limits_of : Setting → Limits
+limits_of s = record {
+  gates = actor_count s * (2 * (per_gate * most_far) + 1) + s.servers * (per_gate * most_far) + 1;
+  rows = actor_count s * (cell_count s + 5) + s.servers + 1;
+  queries = actor_count s * (per_query s * most_far + 1) + s.servers * (most_waiting s * (per_query s * most_far)) + 1;
+}
+
+-- In each state that meets the invariant the limits hold.
+abbrev pub LimitsLaw : Type 0
+LimitsLaw = (s : Setting) (w : World) (g : Ghost) → InvWith s (view s w) g → IsWithin (limits_of s) (left s w g)
+
+-- Steps.
+
+-- What is left as one number, where each command that hasn't begun counts more than it can bring.
+abbrev pub steps_left : Setting → PhaseRun → World → Ghost → ℕ
+steps_left s p w g = rank (limits_of s) (with_waiting s (waiting s p (history_in w)) (left s w g))
+
+-- Commands begin in turn: the phase had begun before, and who begins a command has it from its stream.
+pub record BeginInTurn (s : Setting) (p : PhaseRun) (history history_now : List Event) : Type 0 where
+  pub before : (session : ℕ) → length (begins_of p.before session) ≤ length (begins_of history session)
+  pub next : (e : Event) (session : ℕ) → session_in e ≡ Some session → history_now ≡ e ∷ history → (session < actor_count s) × (rest_of p history session ≢ [])
+
+-- With each step fewer are left, where its actor is counted at its desk as before.
+abbrev pub StepLaw : Type 0
+StepLaw = (s : Setting) (p : PhaseRun) (k : Kind) (n : ℕ) (w now : World) (g : Ghost) (kept : IsKept s k n w now g) → (now.actors n).counted ≡ (w.actors n).counted
+    → BeginInTurn s p (history_in w) (history_in now) → steps_left s p now kept.ghost_now < steps_left s p w g
+
+-- It is so with each step that notes nothing, and with each one that grows the history.
+abbrev pub CountedLaw : Type 0
+CountedLaw = (s : Setting) (k : Kind) (n : ℕ) (w now : World) → Step s k n w now → (k ≢ Note) ⊎ (history_in now ≢ history_in w) → (now.actors n).counted ≡ (w.actors n).counted
