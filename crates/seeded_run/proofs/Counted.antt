@@ -1,4 +1,5 @@
--- A step that is no note leaves its actor counted at its desk as it was, and so does a note that grows the history.
+-- A step that is no note leaves its actor counted at its desk as it was, and so does one that changes the history or its actor's
+-- command.
 use Rattle.std.proofs.Common.{◌≡◌, ◌≢◌, ◌∙◌, ◌⊎◌, inl, inr, ℕ, Bool, cond, eqb, List, [], ◌∷◌, refl, sym, ap, subst}
 use Rattle.dim_hierarchy.specs.Dimension.{Dimension}
 use Rattle.row_ledger.specs.declared.event.Event.{Event}
@@ -116,10 +117,14 @@ pub counted-law : CountedLaw
 counted-law s k n w now step kept = elim (by-kind s.hierarchy k step.changes (w.actors n) step.actor step.does) [
   | inl count ↦ elim kept [
     | inl other ↦ absurd (other count.note)
-    | inr grows ↦
+    | inr (inl changed) ↦
         let agrees : Agrees w (count.cell ∷ []) n (w.actors n) = subst (λ (cs : List Change). Agrees w cs n (w.actors n)) count.alone step.agrees in
         let now_is : now ≡ after w (count.cell ∷ []) n step.actor = step.now_is ∙ ap (λ (cs : List Change). after w cs n step.actor) count.alone in
-        absurd (grows (ap history_in now_is ∙ still w n count.cell (w.actors n) step.actor agrees count.counts))
+        absurd (changed (ap history_in now_is ∙ still w n count.cell (w.actors n) step.actor agrees count.counts))
+    | inr (inr changed) ↦ absurd (changed (here (λ (z : ActorValue). z.command) ∙ ap (λ (z : ActorValue). z.command) count.counts.actor_is))
   ]
-  | inr same ↦ ap (λ (z : World). (z.actors n).counted) step.now_is ∙ rw (eqb-self n) same
+  | inr same ↦ here (λ (z : ActorValue). z.counted) ∙ same
 ]
+  where
+    here : {X : Type 0} (f : ActorValue → X) → f (now.actors n) ≡ f step.actor
+    here f = ap (λ (z : World). f (z.actors n)) step.now_is ∙ ap (λ (v : Bool). f (cond v step.actor (w.actors n))) (eqb-self n)

@@ -17,7 +17,8 @@ use Rattle.volap_cell.proofs.Sums.{sum-kept}
 use Rattle.seeded_run.proofs.Limits.{limits-law}
 use Rattle.seeded_run.proofs.Ranks.{rank-falls, step-falls}
 use Rattle.seeded_run.proofs.Waiting.{waiting-law}
-use Rattle.seeded_run.specs.Measure.{BeginInTurn, StepLaw, limits_of}
+use Rattle.seeded_run.specs.Core.{IsCore}
+use Rattle.seeded_run.specs.Measure.{BeginInTurn, CoreHasLeft, MostLaw, HasLeft, FewerLaw, StepsLeftLaw, limits_of, steps_left}
 use Rattle.seeded_run.specs.Ranks.{IsWithin, waiting, with_waiting}
 use Rattle.seeded_run.specs.Rests.{PhaseRun, rest_of}
 
@@ -58,8 +59,8 @@ counted-same s k n w now g g2 step same = sum-kept (actor_count s) (λ a. if (w.
     (λ a ne. ap (λ (b : Bool). if b then 1 else 0) (ap (λ (z : World). (z.actors a).counted) step.now_is ∙ rw (eqb-no a n ne) refl))
     (ap (λ (b : Bool). if b then 1 else 0) same)
 
-pub step-law : StepLaw
-step-law s p k n w now g kept same turn =
+pub steps-left-law : StepsLeftLaw
+steps-left-law s p k n w now g kept same turn =
     let limits = limits-law s now kept.ghost_now kept.holds in
     let within : IsWithin (limits_of s) (with_waiting s (waiting s p (history_in now)) (left s now kept.ghost_now)) =
     record { gates = limits.gates; rows = limits.rows; queries = limits.queries } in
@@ -68,3 +69,39 @@ step-law s p k n w now g kept same turn =
     let falls = step-falls s (left s w g) (left s now kept.ghost_now) (history_in w) (history_in now) (waiting s p (history_in w)) (waiting s p (history_in now)) kept.goes_on
     (counted-same s k n w now g kept.ghost_now kept.step same) few (λ e is grown. waits-less s p e (history_in w) (history_in now) turn is grown) in
     rank-falls (limits_of s) (with_waiting s (waiting s p (history_in w)) (left s w g)) (with_waiting s (waiting s p (history_in now)) (left s now kept.ghost_now)) falls within
+
+-- Runs.
+
+pub most-law : MostLaw
+most-law h p cells actors core = (
+  steps_left core.setting p core.world core.is_core.inv.ghost_of,
+  record {
+    setting = core.setting;
+    world = core.world;
+    is_core = core.is_core;
+    left = record { ghost = core.is_core.inv.ghost_of; holds = core.is_core.inv.holds; few = omega arith };
+  },
+)
+
+pub fewer-law : FewerLaw
+fewer-law h p k n cells actors cells_now actors_now most has stepped turn =
+    let s = has.setting in
+    let w = has.world in
+    let core = has.is_core in
+    let after = stepped.step s w has.left.ghost core.hierarchy core.is has.left.holds core.inv.reached in
+    let core_now : IsCore h p.with cells_now actors_now s after.now = record {
+      hierarchy = core.hierarchy;
+      servers = core.servers;
+      workers = core.workers;
+      roles = core.roles;
+      count = stepped.actors_kept ∙ core.count;
+      is = after.is;
+      inv = record { ghost_of = after.kept.ghost_now; holds = after.kept.holds; reached = after.reached };
+    } in
+    let goes = turn s w after.now core core_now after.kept.step in
+    let less = steps-left-law s p k n w after.now has.left.ghost after.kept goes.0 goes.1 in
+    let few = has.left.few in (
+      steps_left s p after.now after.kept.ghost_now,
+      record { setting = s; world = after.now; is_core = core_now; left = record { ghost = after.kept.ghost_now; holds = after.kept.holds; few = omega arith } },
+      omega (arith, less, few),
+    )
