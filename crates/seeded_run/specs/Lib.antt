@@ -6,5 +6,6 @@ pub mod Due
 pub mod Can
 pub mod Laws
 pub mod Ranks
+pub mod Measure
 pub mod Progress
 pub mod Running
