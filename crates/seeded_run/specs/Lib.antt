@@ -9,3 +9,4 @@ pub mod Ranks
 pub mod Measure
 pub mod Progress
 pub mod Running
+pub mod Told
