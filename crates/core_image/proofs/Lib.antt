@@ -31,3 +31,4 @@ pub mod NotesEnd
 pub mod MadePaths
 pub mod ReadOnce
 pub mod BalanceEnds
+pub mod NextAction
