@@ -32,3 +32,4 @@ pub mod MadePaths
 pub mod ReadOnce
 pub mod BalanceEnds
 pub mod NextAction
+pub mod NotesLeft

@@ -1,12 +1,12 @@
 -- A balance leaves the action that it is at, and the next one is due: its plan goes on, and its next job begins.
-use Rattle.std.proofs.Common.{◌≡◌, ℕ, zero, suc, ◌+◌, ◌<◌, ◌≤◌, List, [], ◌∷◌, ◌++◌, Bool, true, false, length, take, drop, reverse, Option, Some, None, refl, sym, ap, ◌∙◌, subst, arith, All, option_map, option_and_then, slice_get, eq-eqb}
+use Rattle.std.proofs.Common.{◌≡◌, ℕ, zero, suc, ◌+◌, ◌<◌, ◌≤◌, List, [], ◌∷◌, ◌++◌, Bool, true, false, length, take, drop, reverse, Option, Some, None, refl, sym, ap, ◌∙◌, subst, arith, All, option_map, option_and_then, slice_get, eq-eqb, le_of_lt}
 use Rattle.std.specs.List.{AllZip}
-use Rattle.std.specs.Prelude.{count_by}
+use Rattle.std.specs.Prelude.{count_by, IsTrue}
 use Rattle.std.proofs.lemmas.List.{reverse-append}
 use Rattle.std.proofs.lemmas.List.Elements.{All-head, All-tail, All-weaker}
 use Rattle.row_ledger.specs.Changes.{ShardsStay}
 use Rattle.row_ledger.specs.Past.{Step, before, work}
-use Rattle.row_ledger.specs.Shards.{is_on}
+use Rattle.row_ledger.specs.Shards.{is_on, comes_from, frontier, is_live}
 use Rattle.row_ledger.specs.Work.{AreReadOf, IsCause, IsRightDecline, Settles, is_done, shard_of}
 use Rattle.row_ledger.specs.declared.event.Event.{Event}
 use Rattle.row_ledger.specs.declared.event.Event.TheVariants.{Left}
@@ -17,14 +17,16 @@ use Rattle.shard_build.proofs.Lists.{zip-append}
 use Rattle.shard_plan.specs.declared.action.Action.{Action}
 use Rattle.shard_plan.specs.declared.action.Action.TheVariants as action
 use Rattle.shard_plan.specs.declared.action.Load.{Load}
+use Rattle.row_ledger.proofs.Positions.{before-older}
+use Rattle.volap_cell.proofs.Grows.{Any-weaker, comes-stays, live-stays}
 use Rattle.volap_cell.specs.Commands.{after_action}
 use Rattle.volap_cell.specs.ImageKinds.{LeavesAs}
 use Rattle.volap_cell.specs.Planning.{job_for, next_job}
 use Rattle.volap_cell.specs.Setting.{Setting, site_in}
 use Rattle.volap_cell.specs.Values.{JobValue, StageValue, IsCalled, IsDeclined, IsFrozen, Collects, Builds}
-use Rattle.volap_cell.specs.Working.{IsAhead, IsBalancing, IsDeclinedFor, IsPlanned, action_of, begun}
+use Rattle.volap_cell.specs.Working.{IsAhead, IsBalancing, IsDeclinedFor, IsPlanned, action_of, begun, IsReadLoad}
 use Rattle.volap_cell.specs.declared.command.Balance.{Balance}
-use Rattle.volap_cell.proofs.GrowsWork.{ahead-grown}
+use Rattle.volap_cell.proofs.GrowsWork.{ahead-grown, read-load-grown}
 
 -- Lists, one place on.
 
@@ -166,3 +168,21 @@ module _ (s : Setting) (h : List Event) (placed : ℕ → Bool) (home : ℕ → 
   -- a job is left only where an action is
   pub within : (actions : List Action) × (b.plan ≡ Some actions) × (b.over < length actions) × (length actions ≤ b.most)
   within = (actions, at.2, inside b.over actions its at.3, planned.few)
+
+  -- the balance as it goes on
+  pub balancing-next : IsBalancing s (e ∷ h) placed home (next_job next) of next
+  balancing-next =
+      let le = le_of_lt began in
+      let same : before (e ∷ h) of ≡ before h of = before-older e h of le in
+      record {
+        places = bal.places ∙ ap (frontier s.workers) (sym same);
+        readings = bal.readings;
+        loads = bal.loads;
+        each = All-weaker (IsReadLoad s h placed home of) (IsReadLoad s (e ∷ h) placed home of) (λ r. read-load-grown s e h stay placed home of r le) bal.readings bal.each;
+        read = bal.read;
+        still = λ unplanned. let never : ◌≡◌ {A = Option (List Action)} None (Some actions) = sym unplanned ∙ at.2 in absurd (cc);
+        planned = λ xs is. let both : ◌≡◌ {A = Option (List Action)} (Some actions) (Some xs) = sym at.2 ∙ is in let it : actions ≡ xs = cc in subst (IsPlanned s (e ∷ h) placed of next) it planned-next;
+        from = λ x live. Any-weaker (λ (l : Load). IsTrue (comes_from h l.shard x)) (λ (l : Load). IsTrue (comes_from (e ∷ h) l.shard x))
+            (λ l comes. comes-stays s.workers e h stay l.shard x ∙ comes) b.loads (bal.from x (sym (live-stays s.workers e h stay x) ∙ live));
+        at_work = refl;
+      }
