@@ -38,7 +38,7 @@ use Rattle.volap_cell.specs.declared.command.Work.{Work}
 use Rattle.core_image.proofs.Pageless.{asks_page, no-page}
 
 -- a decline has a cause, and that isn't that a shard is unknown
-never-unknown : (hs : List Dimension) (a : Action) (rows : List Row) → IsCause hs a rows decline.Unknown → ⊥
+pub never-unknown : (hs : List Dimension) (a : Action) (rows : List Row) → IsCause hs a rows decline.Unknown → ⊥
 never-unknown hs (action.Split x) rows cause = cause
 never-unknown hs (action.Move x to) rows cause = cause
 

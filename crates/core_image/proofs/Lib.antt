@@ -52,3 +52,5 @@ pub mod NotesEnd
 pub mod MadePaths
 pub mod ReadOnce
 pub mod BalanceEnds
+pub mod NextAction
+pub mod NotesLeft
