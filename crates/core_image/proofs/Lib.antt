@@ -49,3 +49,4 @@ pub mod CallsEnd
 pub mod Endings
 pub mod NotesAsk
 pub mod NotesEnd
+pub mod Telling
