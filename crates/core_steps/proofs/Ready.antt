@@ -7,7 +7,6 @@ use Rattle.volap_cell.specs.Cells.{CellValue, cell_of}
 use Rattle.std.specs.Prelude.{⊤}
 use Rattle.volap_cell.specs.State.{CanLift, Has, HasInv, IsUnkept, MayHold, Stand, still}
 use Rattle.volap_cell.specs.Steps.{IsHere}
-
 use Rattle.volap_cell.specs.Values.{ActorValue, actor_of}
 use Rattle.volap_cell.specs.World.{MustKeep, World}
 use Rattle.volap_cell.specs.declared.actor.Actor.{Actor}
