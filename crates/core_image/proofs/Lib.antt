@@ -50,3 +50,6 @@ pub mod Endings
 pub mod NotesAsk
 pub mod NotesEnd
 pub mod Telling
+pub mod MadePaths
+pub mod ReadOnce
+pub mod BalanceEnds

@@ -15,3 +15,4 @@ pub mod ForwardsPart
 pub mod ForwardReady
 pub mod ChildrenWait
 pub mod ExpandsPart
+pub mod ExpandReady

@@ -2,10 +2,12 @@
 #![tactic(auto)]
 
 mod errands;
+mod expands;
 mod finishes;
 mod forwards;
 mod takes;
 
+pub use expands::expand;
 pub use finishes::finish_part;
 pub use forwards::forward;
 pub use takes::take_part;

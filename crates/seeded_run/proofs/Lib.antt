@@ -8,3 +8,4 @@ pub mod Movers
 pub mod Ends
 pub mod Orders
 pub mod Scripts
+pub mod Worlds

@@ -1,3 +1,4 @@
+pub mod Worlds
 pub mod Core
 pub mod Rests
 pub mod Cursors
@@ -6,3 +7,4 @@ pub mod Can
 pub mod Laws
 pub mod Ranks
 pub mod Progress
+pub mod Running

@@ -2,6 +2,7 @@
 #![tactic(auto)]
 
 mod laws;
+mod places;
 
 pub use laws::{
     cursors_tell_rests, idle_actors_wait, less_is_left, one_steps_in_order, parts_go_on,
