@@ -49,6 +49,7 @@ pub mod CallsEnd
 pub mod Endings
 pub mod NotesAsk
 pub mod NotesEnd
+pub mod Telling
 pub mod MadePaths
 pub mod ReadOnce
 pub mod BalanceEnds

@@ -1,4 +1,4 @@
-ghost use Rattle.std.specs.Prelude.{◌<◌, ◌≤◌, [], ◌∷◌};
+ghost use Rattle.std.specs.Prelude.{◌≡◌, ◌<◌, ◌≤◌, [], ◌∷◌, None};
 ghost use Rattle.core_image.specs.NotesDue.{CanNoteEnded, NotesEnd};
 ghost use Rattle.volap_cell.specs.Cells.{cell_of};
 ghost use Rattle.volap_cell.specs.Steps.{IsHere, Makes};
@@ -17,6 +17,7 @@ pub fn note_ended(h: &Hierarchy, ledger_at: u32, ledger: &mut Cell, actor: &mut 
     requires here { IsHere h.now (held ledger_at (cell_of ledger.old) ∷ []) (actor_of actor.old) }
     requires due { CanNoteEnded how (cell_of ledger.old) (actor_of actor.old) }
     ensures made { Makes h.now Note (change ledger_at (cell_of ledger.old) (cell_of ledger.new) ∷ []) (actor_of actor.old) (actor_of actor.new) }
+    ensures over { (actor_of actor.new).command ≡ None }
 {
     let _ = h;
     let Cell::Ledger(ledger) = ledger else {

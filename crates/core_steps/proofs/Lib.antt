@@ -1,1 +1,4 @@
 pub mod Ready
+pub mod Staying
+pub mod Adding
+pub mod Sights

@@ -1,2 +1,5 @@
 pub mod Ready
 pub mod Asked
+pub mod AskedBooks
+pub mod AskedNotes
+pub mod Added
