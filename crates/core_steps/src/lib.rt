@@ -2,8 +2,10 @@
 //! them are put back.
 #![tactic(auto)]
 
-mod trees;
 mod books;
+mod parts;
+mod trees;
 
 pub use books::ack;
-pub use trees::put_in_leaf;
+pub use parts::{forward, take_part};
+pub use trees::{block_visit, enter_queue, gate_read, give_back, leave_tree, put_in_leaf, refill};
