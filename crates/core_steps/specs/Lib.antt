@@ -3,3 +3,4 @@ pub mod Asked
 pub mod AskedBooks
 pub mod AskedNotes
 pub mod Added
+pub mod AskedParts

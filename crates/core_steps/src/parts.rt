@@ -1,0 +1,38 @@
+//! The steps of parts between desks, tables of shards and gates.
+ghost use Rattle.std.specs.Prelude.{[], ◌∷◌};
+ghost use Rattle.core_steps.specs.AskedParts.{Forwards, TakesPart};
+ghost use Rattle.core_steps.specs.Ready.{MayStep};
+ghost use Rattle.volap_cell.specs.State.{HasInv, Stepped};
+ghost use Rattle.volap_cell.specs.declared.kind.Kind.TheVariants.{Forward, TakePart};
+
+use dim_hierarchy::Hierarchy;
+use volap_cell::{State, lift, lift_one, lift_two, put_actor, put_one, put_two};
+
+/// An actor takes the first part on this desk that it may take. Takes no memory.
+pub fn take_part(h: &Hierarchy, state: &mut State, number: usize, desk_at: u32)
+    requires state { HasInv h.now state.old.cells.items state.old.actors.items }
+    requires ready { MayStep state.old.cells.items state.old.actors.items (desk_at ∷ []) number TakesPart }
+    ensures stepped { Stepped h.now TakePart number state.old.cells.items state.old.actors.items state.new.cells.items state.new.actors.items }
+{
+    let (cells, actors) = (&mut state.cells, &mut state.actors);
+    let mut desk = lift_one(cells, desk_at);
+    let mut actor = lift(actors, number);
+    core_shard::take_part(h, desk_at, &mut desk, &mut actor);
+    put_actor(actors, number, actor);
+    put_one(cells, desk_at, desk);
+}
+
+/// An actor puts its part back on its desk, where it waits for the worker to which its shard has moved.
+/// Takes no memory.
+pub fn forward(h: &Hierarchy, state: &mut State, number: usize, map_at: u32, desk_at: u32)
+    requires state { HasInv h.now state.old.cells.items state.old.actors.items }
+    requires ready { MayStep state.old.cells.items state.old.actors.items (map_at ∷ desk_at ∷ []) number Forwards }
+    ensures stepped { Stepped h.now Forward number state.old.cells.items state.old.actors.items state.new.cells.items state.new.actors.items }
+{
+    let (cells, actors) = (&mut state.cells, &mut state.actors);
+    let (mut map, mut desk) = lift_two(cells, map_at, desk_at);
+    let mut actor = lift(actors, number);
+    core_shard::forward(h, map_at, &mut map, desk_at, &mut desk, &mut actor);
+    put_actor(actors, number, actor);
+    put_two(cells, map_at, map, desk_at, desk);
+}
