@@ -5,15 +5,11 @@
 mod books;
 mod fails;
 mod notes;
+mod parts;
 mod trees;
 
 pub use books::{ack, answer, begin_insert, begin_query, route, sync};
 pub use fails::{fail_query, fail_routed, fail_unrouted};
 pub use notes::{note_asking, note_called, note_ended, note_refused, note_unknown};
-pub use trees::put_in_leaf;
-mod parts;
-mod trees;
-
-pub use books::ack;
 pub use parts::{forward, take_part};
 pub use trees::{block_visit, enter_queue, gate_read, give_back, leave_tree, put_in_leaf, refill};
