@@ -8,6 +8,7 @@ mod calls;
 mod counts;
 mod ended;
 mod fails;
+mod left;
 mod notes;
 mod owing;
 
@@ -18,4 +19,5 @@ pub use calls::note_called;
 pub use counts::count_session;
 pub use ended::note_ended;
 pub use fails::{fail_query, fail_routed, fail_unrouted};
+pub use left::note_left;
 pub use notes::{note_refused, note_unknown};
