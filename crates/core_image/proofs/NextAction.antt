@@ -6,7 +6,7 @@ use Rattle.std.proofs.lemmas.List.{reverse-append}
 use Rattle.std.proofs.lemmas.List.Elements.{All-head, All-tail, All-weaker}
 use Rattle.row_ledger.specs.Changes.{ShardsStay}
 use Rattle.row_ledger.specs.Past.{Step, before, work}
-use Rattle.row_ledger.specs.Shards.{is_on, comes_from, frontier, is_live}
+use Rattle.row_ledger.specs.Shards.{is_on, comes_from, frontier}
 use Rattle.row_ledger.specs.Work.{AreReadOf, IsCause, IsRightDecline, Settles, is_done, shard_of}
 use Rattle.row_ledger.specs.declared.event.Event.{Event}
 use Rattle.row_ledger.specs.declared.event.Event.TheVariants.{Left}
@@ -40,7 +40,7 @@ drop-at {X} i [] x is = (let never : ◌≡◌ {A = Option X} None (Some x) = is
 drop-at {X} zero (y ∷ xs) x is = (let both : ◌≡◌ {A = Option X} (Some y) (Some x) = is in let same : y ≡ x = cc in ap (λ (z : X). z ∷ xs) same)
 drop-at {X} (suc i) (y ∷ xs) x is = drop-at i xs x is
 
-inside : {X : Type 0} (i : ℕ) (xs : List X) (x : X) → slice_get xs i ≡ Some x → i < length xs
+pub inside : {X : Type 0} (i : ℕ) (xs : List X) (x : X) → slice_get xs i ≡ Some x → i < length xs
 inside {X} i [] x is = (let never : ◌≡◌ {A = Option X} None (Some x) = is in absurd (cc))
 inside zero (y ∷ xs) x is = omega arith
 inside (suc i) (y ∷ xs) x is = (let more = inside i xs x is in omega (arith, more))
@@ -48,7 +48,7 @@ inside (suc i) (y ∷ xs) x is = (let more = inside i xs x is in omega (arith, m
 -- Jobs.
 
 -- the action that is next, where a job is
-next-action : (b : Balance) (j : JobValue) → next_job b ≡ Some j → (actions : List Action) × (a : Action) × (b.plan ≡ Some actions) × (slice_get actions b.over ≡ Some a) × (j ≡ job_for b.standing a)
+pub next-action : (b : Balance) (j : JobValue) → next_job b ≡ Some j → (actions : List Action) × (a : Action) × (b.plan ≡ Some actions) × (slice_get actions b.over ≡ Some a) × (j ≡ job_for b.standing a)
 next-action b j is = by-plan b.plan refl is
   where
     of-action : (actions : List Action) → b.plan ≡ Some actions → (o : Option Action) → slice_get actions b.over ≡ o → option_map (job_for b.standing) o ≡ Some j

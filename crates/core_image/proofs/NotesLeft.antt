@@ -1,13 +1,13 @@
 -- A balance leaves the action that it is at: that keeps the invariant, and less is left.
-use Rattle.std.proofs.Common.{◌≡◌, ◌≢◌, ℕ, zero, suc, ◌+◌, ◌-◌, ◌*◌, ◌<◌, ◌≤◌, List, [], ◌∷◌, Bool, true, false, eqb, length, Option, Some, None, is_some, refl, sym, ap, ◌∙◌, subst, arith, ◌⊎◌, inl, inr, le_of_lt, option_map, option_and_then, slice_get, suc-mul}
+use Rattle.std.proofs.Common.{◌≡◌, ◌≢◌, ℕ, suc, ◌+◌, ◌-◌, ◌*◌, ◌<◌, ◌≤◌, List, [], ◌∷◌, Bool, true, false, eqb, length, Option, Some, None, refl, sym, ap, ◌∙◌, subst, arith, ◌⊎◌, inl, inr, le_of_lt, option_map, option_and_then, slice_get, suc-mul}
 use Rattle.std.specs.Option.{option_map_or}
 use Rattle.std.proofs.lemmas.Bool.{cases_lt, false≢true}
 use Rattle.dim_hierarchy.specs.Dimension.{Dimension}
 use Rattle.dim_hierarchy.specs.declared.row.Row.{Row}
 use Rattle.query_router.specs.Desk.{DeskValue}
 use Rattle.row_ledger.specs.Changes.{ShardsStay}
-use Rattle.row_ledger.specs.Past.{call_at, has_ended, number_in}
-use Rattle.row_ledger.specs.Right.{IsRightLeft, KeepsRight, MayLeave}
+use Rattle.row_ledger.specs.Past.{call_at, number_in}
+use Rattle.row_ledger.specs.Right.{KeepsRight, MayLeave}
 use Rattle.row_ledger.specs.Work.{IsCause}
 use Rattle.row_ledger.specs.declared.event.Event.{Event}
 use Rattle.row_ledger.specs.declared.event.Event.TheVariants.{Left}
@@ -25,11 +25,15 @@ use Rattle.tree_shape.specs.Shape.{Shape}
 use Rattle.tree_shape.proofs.Walks.{on_bool, eqb-eq, eqb-ne}
 use Rattle.std.proofs.lemmas.Option.{slice_get_past}
 use Rattle.row_ledger.specs.Shards.{is_on}
+use Rattle.row_ledger.specs.LedgerValue.{LedgerValue}
+use Rattle.core_image.specs.NotesDue.{CanNoteLeft, GoesOn}
+use Rattle.core_image.proofs.Backed.{all-promised}
+use Rattle.volap_cell.specs.Cells.{CellValue, LedgerCell}
 use Rattle.volap_cell.specs.AdminKinds.{spent_in}
-use Rattle.volap_cell.specs.Commands.{after_action, owes}
+use Rattle.volap_cell.specs.Commands.{after_action}
 use Rattle.volap_cell.specs.Desking.{Desking, is_on_desk}
 use Rattle.volap_cell.specs.Errands.{RowWay, Taken}
-use Rattle.volap_cell.specs.Falls.{actions_left, control_of, gates_of_work, gates_of_errand, job_left, left, of_work, plenty, stage_left}
+use Rattle.volap_cell.specs.Falls.{actions_left, control_of, job_left, left, of_work, plenty, stage_left}
 use Rattle.volap_cell.specs.Ghost.{Ghost}
 use Rattle.volap_cell.specs.ImageKinds.{LeavesAs, NotesLeft, OfLeft, doing}
 use Rattle.volap_cell.specs.Invariant.{InvWith}
@@ -37,12 +41,12 @@ use Rattle.volap_cell.specs.Owing.{Owing, is_insert_work}
 use Rattle.volap_cell.specs.Placing.{Inserting, Placing}
 use Rattle.volap_cell.specs.Planning.{next_job, job_for}
 use Rattle.volap_cell.specs.Setting.{Setting, actor_count, site_in}
-use Rattle.volap_cell.specs.Steps.{IsKept, Keeps}
+use Rattle.volap_cell.specs.Steps.{IsKept, Keeps, IsHere, Makes}
 use Rattle.volap_cell.specs.Stocking.{items_in, items_of_job, spent_of}
 use Rattle.volap_cell.specs.Values.{ActorValue, JobValue, StageValue, IsCalled, IsDeclined, IsFrozen, Collects, Builds}
 use Rattle.volap_cell.specs.View.{View, view, row_at}
 use Rattle.volap_cell.specs.Working.{Balancing, IsBalancing, IsDeclinedFor, IsJobOf, Working, begun, frozen_in, action_of}
-use Rattle.volap_cell.specs.World.{World, Change, Agrees, after}
+use Rattle.volap_cell.specs.World.{World, Change, Agrees, after, change, held}
 use Rattle.volap_cell.specs.declared.command.Balance.{Balance}
 use Rattle.volap_cell.specs.declared.command.Command.{Command}
 use Rattle.volap_cell.specs.declared.command.Work.{Work}
@@ -67,7 +71,7 @@ use Rattle.volap_cell.proofs.Seen.{renewed}
 use Rattle.core_image.proofs.Endings.{never-unknown}
 use Rattle.core_image.proofs.Ends.{only-its}
 use Rattle.core_image.proofs.Jobs.{items-new, spent-new, stamping-alike, stocking-alike, not-declined}
-use Rattle.core_image.proofs.NextAction.{balancing-next, next-is, within}
+use Rattle.core_image.proofs.NextAction.{balancing-next, next-is, within, inside, next-action}
 use Rattle.core_image.proofs.Owed.{owed-others, promises-now}
 use Rattle.core_image.proofs.Remains.{control_at, control-changed}
 
@@ -437,3 +441,58 @@ module _ (l : Change) (b : ActorValue) (s : Setting) (w : World) (n : ℕ) (g : 
 pub left-keeps : (hierarchy : List Dimension) (l : Change) (a b : ActorValue) (d : NotesLeft l a b) → Keeps hierarchy kind.Note (l ∷ []) a b (OfLeft d)
 left-keeps hierarchy l a b d s w n g i_same i ag sight =
     left-kept l b s w n g i (record { cells = ag.cells; actor_is = refl; free = λ x ne. ag.free x ne }) (subst (λ (z : ActorValue). NotesLeft l z b) (sym ag.actor_is) d)
+
+-- What the note asks of the ledger is so in each state, and what it did is what the kind does.
+
+module _ (hs : List Dimension) (ledger_at : ℕ) (ledger : CellValue) (a : ActorValue) (here : IsHere hs (held ledger_at ledger ∷ []) a) (due : CanNoteLeft ledger a) (lv : LedgerValue) (ledger_is : ledger ≡ LedgerCell lv) where
+  command-here : (here.world.actors here.number).command ≡ doing due.of (work_is.Balance due.balance)
+  command-here = ap (λ (x : ActorValue). x.command) here.agrees.actor_is ∙ due.command
+
+  job-here : (here.world.actors here.number).job ≡ Some due.job
+  job-here = ap (λ (x : ActorValue). x.job) here.agrees.actor_is ∙ due.job_is
+
+  pub left-promised : 0 < lv.promised
+  left-promised =
+      let i = here.inv.holds in
+      let s = a.setting in
+      let v = view s here.world in
+      let g = here.inv.ghost_of in
+      let n = here.number in
+      let its : Command = record { of = due.of; work = work_is.Balance due.balance } in
+      let all = all-promised s here.world g i n its command-here ledger_at lv (here.agrees.cells.0 ∙ ledger_is) in
+      let bal : IsBalancing s v.history g.placed g.home (Some due.job) due.of due.balance = subst (λ (j : Option JobValue). IsBalancing s v.history g.placed g.home j due.of due.balance) job-here (i.balancing.balance n due.of due.balance command-here) in
+      let c = i.working.command n due.job job-here in
+      let works : c.0.work ≡ work_is.Balance due.balance = ap (λ (o : Option Command). option_map_or (λ (k : Command). k.work) o work_is.Query) (sym c.1 ∙ command-here) in
+      let next : next_job due.balance ≡ Some (begun due.job) = subst (λ (x : Work). IsJobOf x due.job) works c.2 in
+      let at = next-action due.balance (begun due.job) next in
+      let planned = bal.planned at.0 at.2 in
+      let few = planned.few in
+      let more = inside due.balance.over at.0 at.1 at.3 in
+      omega (arith, all, few, more)
+
+  pub left-makes : (command : Command) → a.command ≡ Some command → (job : JobValue) → a.job ≡ Some job → (how : How) → LeavesAs job.stage how → (lv2 : LedgerValue) → lv2.history ≡ Left command.of job.shard how ∷ lv.history → lv2.promised + 1 ≡ lv.promised
+      → (command2 : Option Command) (job2 : Option JobValue) → GoesOn a.command command2 job2 → (seen : ℕ) → seen ≡ length lv2.history
+      → Makes hs kind.Note (change ledger_at ledger (LedgerCell lv2) ∷ []) a (record a { command = command2; job = job2; seen = seen })
+  left-makes command has job has_job how leaves lv2 history promised command2 job2 goes seen all_seen =
+      let of_is : command.of ≡ due.of = ap (λ (o : Option Command). option_map_or (λ (c : Command). c.of) o 0) (sym has ∙ due.command) in
+      let on = goes due.of due.balance due.command in
+      let d : NotesLeft (change ledger_at ledger (LedgerCell lv2)) a (record a { command = command2; job = job2; seen = seen }) = record {
+        of = due.of;
+        balance = due.balance;
+        command = due.command;
+        job = job;
+        job_is = has_job;
+        left_as = how;
+        leaves = leaves;
+        left = record {
+          ledger = lv;
+          ledger_now = lv2;
+          was = ledger_is;
+          is = refl;
+          history = history ∙ ap (λ (x : ℕ). Left x job.shard how ∷ lv.history) of_is;
+          promised = omega (arith, promised);
+          all_seen = all_seen;
+        };
+        actor_is = λ k. record a { command = on.0 k; job = on.1 k; seen = seen };
+      } in
+      record { does = OfLeft d; keeps = left-keeps hs _ a _ d }

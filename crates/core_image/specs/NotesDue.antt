@@ -18,7 +18,10 @@ use Rattle.server_image.specs.Registry.{RegistryValue}
 use Rattle.volap_cell.specs.Cells.{CellValue, DeskOf, ImageOf, TheLedger, TheRegistry, desk_in, tag_of}
 use Rattle.volap_cell.specs.Commands.{MayCall, MayNoteEnd}
 use Rattle.volap_cell.specs.ImageKinds.{IsBegun, IsFree, asks_registry, doing}
-use Rattle.volap_cell.specs.Values.{ActorValue, JobValue}
+use Rattle.volap_cell.specs.Planning.{next_job}
+use Rattle.volap_cell.specs.Values.{ActorValue, JobValue, StageValue, IsCalled, IsDeclined}
+use Rattle.volap_cell.specs.declared.command.Balance.{Balance}
+use Rattle.volap_cell.specs.declared.command.Command.{Command}
 use Rattle.volap_cell.specs.declared.command.Work.{Work}
 use Rattle.volap_cell.specs.declared.command.Work.TheVariants as work_is
 use Rattle.volap_cell.specs.declared.command.Work.TheVariants.{Insert, Query}
@@ -153,3 +156,34 @@ pub record CanNoteEnded (how : How) (ledger : CellValue) (a : ActorValue) : Type
 pub record NotesEnd (of : ℕ) (how : How) (left : ℕ) (ledger ledger_now : LedgerValue) : Type 0 where
   pub history : ledger_now.history ≡ Ended of how ∷ ledger.history
   pub promised : ledger_now.promised + left ≡ ledger.promised
+
+-- a job that was declined, or that hasn't frozen its shard yet
+abbrev pub MayBeLeft : StageValue → Type 0
+MayBeLeft (IsDeclined why) = Unit {0}
+MayBeLeft IsCalled = Unit {0}
+MayBeLeft stage = ⊥
+
+-- the actor's balance leaves the action that it is at; a byte still counts those that are over
+pub record CanNoteLeft (ledger : CellValue) (a : ActorValue) : Type 0 where
+  pub of : ℕ
+  pub balance : Balance
+  pub command : a.command ≡ doing of (work_is.Balance balance)
+  pub job : JobValue
+  pub job_is : a.job ≡ Some job
+  pub left : MayBeLeft job.stage
+  pub few : balance.over + 1 < 2 ^ 8
+  pub ledger_is : tag_of ledger ≡ TheLedger
+
+-- the command is a balance with an action that it is at, and there is a job
+pub record MayGoOn (command : Option Command) (has_job : Bool) : Type 0 where
+  pub of : ℕ
+  pub balance : Balance
+  pub command_is : command ≡ doing of (work_is.Balance balance)
+  pub few : balance.over + 1 < 2 ^ 8
+  pub some : has_job ≡ true
+
+-- a balance is one action on, and this is its job
+abbrev pub GoesOn : Option Command → Option Command → Option JobValue → Type 0
+GoesOn command command_now job =
+    (of : ℕ) (balance : Balance) → command ≡ doing of (work_is.Balance balance)
+    → (command_now ≡ doing of (work_is.Balance (record balance { over = balance.over + 1 }))) × (job ≡ next_job (record balance { over = balance.over + 1 }))
