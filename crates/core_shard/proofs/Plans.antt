@@ -31,7 +31,7 @@ first-of {X = X} before (y ∷ xs) (Some z) x is = at (before y z) (λ k. first-
     ]
 
 first-in : {X : Type 0} (before : X → X → Bool) (xs : List X) (x : X) → first_by before xs ≡ Some x → Contains xs x
-first-in {X} before xs x is = elim (first-of before xs None x is) [ | inl never ↦ (let no_one : ◌≡◌ {A = Option X} None (Some x) = never in absurd (cc)) | inr has ↦ has ]
+first-in {X} before xs x is = elim (first-of before xs None x is) [ inl never ↦ (let no_one : ◌≡◌ {A = Option X} None (Some x) = never in absurd (cc)) | inr has ↦ has ]
 
 -- Workers.
 
@@ -102,9 +102,12 @@ plan-fine loads workers (suc n) some =
     of None has rest split fine = (fine.0, (let few = fine.1 in omega (arith, few)))
     of (Some l) has rest split fine =
         let after = rest l in
-        let few = after.1 in
-        (All-cons (IsPossible loads workers) (Move l.shard (emptiest loads workers)) (plan (after_move loads l.shard (emptiest loads workers)) workers n) (loaded loads l (has l refl), emptiest-there loads workers some)
-        (All-weaker (IsPossible (after_move loads l.shard (emptiest loads workers)) workers) (IsPossible loads workers) (λ a is. still-possible loads l.shard (emptiest loads workers) workers a is) (plan (after_move loads l.shard (emptiest loads workers)) workers n) after.0), omega (arith, few))
+        let few = after.1 in (
+          All-cons (IsPossible loads workers) (Move l.shard (emptiest loads workers)) (plan (after_move loads l.shard (emptiest loads workers)) workers n) (loaded loads l (has l refl), emptiest-there loads workers some)
+              (All-weaker (IsPossible (after_move loads l.shard (emptiest loads workers)) workers) (IsPossible loads workers) (λ a is. still-possible loads l.shard (emptiest loads workers) workers a is) (plan (after_move loads l.shard (emptiest loads workers)) workers n) after.0),
+          omega (arith, few),
+        )
+
     at : (b : Bool) (o : Option Load) → ((l : Load) → o ≡ Some l → Contains loads l)
         → ((l : Load) → All (IsPossible (after_move loads l.shard (emptiest loads workers)) workers) (plan (after_move loads l.shard (emptiest loads workers)) workers n) × (length (plan (after_move loads l.shard (emptiest loads workers)) workers n) ≤ n))
         → All (IsPossible loads workers) (plan_of_split (to_look_at loads workers)) × (length (plan_of_split (to_look_at loads workers)) ≤ 1)
