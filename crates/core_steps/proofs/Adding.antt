@@ -1,10 +1,10 @@
 -- What a step has put in the ledger's cell is there when the cells are back at their places.
-use Rattle.std.proofs.Common.{◌≡◌, ◌≢◌, ℕ, zero, suc, ◌<◌, true, cond, eqb, List, [], ◌∷◌, Option, Some, None, get_or, set, length, slice_get, refl, sym, ap, ◌∙◌, subst, arith}
-use Rattle.std.proofs.lemmas.List.{length-set}
+use Rattle.std.proofs.Common.{◌≡◌, ◌≢◌, ℕ, zero, suc, ◌<◌, true, cond, eqb, List, [], ◌∷◌, Option, Some, None, get_or, set, length, slice_get, inl, inr, refl, sym, ap, ◌∙◌, subst}
+use Rattle.std.proofs.lemmas.Bool.{cases_lt}
 use Rattle.core_image.specs.Told.{Tells}
-use Rattle.core_steps.specs.Added.{Adds}
+use Rattle.core_steps.specs.Added.{Adds, AddsQuiet, EndsIn, Spares}
 use Rattle.row_ledger.specs.declared.event.Event.{Event}
-use Rattle.tree_shape.proofs.Walks.{eqb-no, on_bool, eqb-eq, eqb-ne}
+use Rattle.tree_shape.proofs.Walks.{eqb-no, on_bool, eqb-ne}
 use Rattle.tree_shape.specs.Counts.{Each}
 use Rattle.volap_cell.specs.Cells.{CellValue, cell_of}
 use Rattle.volap_cell.specs.State.{AreDifferent, Exchange, IsWorldOf, MayHold, Stand, cells_before, cells_now, changes_of, given, numbers_of, taken}
@@ -48,31 +48,58 @@ places-within : (cells : List (Option Cell)) (xs : List Exchange) → Stand cell
 places-within cells [] st = tt
 places-within cells (x ∷ xs) st = (within cells x.number x.before st.0, places-within cells xs st.1)
 
--- one of the places of exchanged cells
-one-within : (many : ℕ) (xs : List Exchange) (k : ℕ) (x : Exchange) → slice_get xs k ≡ Some x → Each (λ x. x.number < many) xs → x.number < many
-one-within many [] k x e each = (let e2 : None ≡ Some x = e in absurd (cc))
-one-within many (y ∷ ys) zero x e each = (let s : y ≡ x = cc in subst (λ (z : Exchange). z.number < many) s each.0)
-one-within many (y ∷ ys) (suc k) x e each = one-within many ys k x e each.1
+-- any other place stays
+put-off : (cells : ℕ → CellValue) (xs : List Exchange) (y : ℕ) → Each (λ z. y ≢ z) (numbers_of xs) → put (changes_of xs) cells y ≡ cells y
+put-off cells [] y off = refl
+put-off cells (x ∷ xs) y off = rw (eqb-no y x.number off.0) (put-off cells xs y off.1)
 
--- A driver's step has told its event in the state, where the kind did so of the cell in which the ledger is.
-pub adds : (event_of : ActorValue → ℕ → Event) (cells cells_out cells_back : List (Option Cell)) (actors actors_out actors_back : List (Option Actor)) (xs : List Exchange) (n : ℕ) (a now : Actor)
-    → cells_out ≡ taken (numbers_of xs) cells → actors_out ≡ set actors n None → cells_back ≡ given (cells_now xs) cells_out → actors_back ≡ set actors_out n (Some now)
-    → MayHold cells actors (cells_before xs) n a → (k : ℕ) (x : Exchange) → slice_get xs k ≡ Some x → AreDifferent (numbers_of xs)
-    → Tells event_of (actor_of a) (cell_of x.before) (cell_of x.now)
-    → Adds event_of n x.number cells actors cells_back actors_back
-adds event_of cells cells_out cells_back actors actors_out actors_back xs n a now e f e2 f2 may k x here apart told w v is_w is_v =
-    let to : cells_back ≡ given (cells_now xs) (taken (numbers_of xs) cells) = e2 ∙ ap (λ (zs : List (Option Cell)). given (cells_now xs) zs) e in
-    let to2 : actors_back ≡ set (set actors n None) n (Some now) = f2 ∙ ap (λ (zs : List (Option Actor)). set zs n (Some now)) f in
-    let lts = places-within cells xs may.stand in
-    let is_v2 : IsWorldOf (given (cells_now xs) (taken (numbers_of xs) cells)) (set (set actors n None) n (Some now)) v =
-    subst (λ (vs : List (Option Cell)). IsWorldOf vs (set (set actors n None) n (Some now)) v) to (subst (λ (vs : List (Option Actor)). IsWorldOf cells_back vs v) to2 is_v) in
-    let many : length (given (cells_now xs) (taken (numbers_of xs) cells)) ≡ length cells = length-given (cells_now xs) (taken (numbers_of xs) cells) ∙ length-taken (numbers_of xs) cells in
-    let lt : x.number < length (given (cells_now xs) (taken (numbers_of xs) cells)) = (let l = one-within (length cells) xs k x here lts in omega arith) in
-    let now_is : v.cells x.number ≡ cell_of x.now =
-    same-cell (given (cells_now xs) (taken (numbers_of xs) cells)) (set (set actors n None) n (Some now)) (after w (changes_of xs) n (actor_of now)) v x.number
-    (world-after cells actors w xs n now is_w lts (within actors n a may.actor_is)) is_v2 lt
-    ∙ put-at w.cells xs k x here apart in
-    let was_is : w.cells x.number ≡ cell_of x.before = was-at w.cells xs k x here (stand-world cells actors w (cells_before xs) is_w may.stand) in
-    subst (λ (c : CellValue). Tells event_of (w.actors n) c (v.cells x.number)) (sym was_is)
-    (subst (λ (c : CellValue). Tells event_of (w.actors n) (cell_of x.before) c) (sym now_is)
-    (subst (λ (b : ActorValue). Tells event_of b (cell_of x.before) (cell_of x.now)) (sym (same-actor cells actors w n a is_w may.actor_is)) told))
+-- The state that vectors are after a driver's step, at the places of cells.
+module _ (cells cells_out cells_back : List (Option Cell)) (actors actors_out actors_back : List (Option Actor)) (xs : List Exchange) (n : ℕ) (a now : Actor)
+      (e : cells_out ≡ taken (numbers_of xs) cells) (f : actors_out ≡ set actors n None) (e2 : cells_back ≡ given (cells_now xs) cells_out) (f2 : actors_back ≡ set actors_out n (Some now))
+      (may : MayHold cells actors (cells_before xs) n a) where
+  to : cells_back ≡ given (cells_now xs) (taken (numbers_of xs) cells)
+  to = e2 ∙ ap (λ (zs : List (Option Cell)). given (cells_now xs) zs) e
+
+  to2 : actors_back ≡ set (set actors n None) n (Some now)
+  to2 = f2 ∙ ap (λ (zs : List (Option Actor)). set zs n (Some now)) f
+
+  lts : Each (λ x. x.number < length cells) xs
+  lts = places-within cells xs may.stand
+
+  many : length cells_back ≡ length cells
+  many = ap (λ (zs : List (Option Cell)). length zs) to ∙ length-given (cells_now xs) (taken (numbers_of xs) cells) ∙ length-taken (numbers_of xs) cells
+
+  is-after : (w : World) → IsWorldOf cells actors w → IsWorldOf cells_back actors_back (after w (changes_of xs) n (actor_of now))
+  is-after w is =
+      subst (λ (vs : List (Option Cell)). IsWorldOf vs actors_back (after w (changes_of xs) n (actor_of now))) (sym to)
+      (subst (λ (vs : List (Option Actor)). IsWorldOf (given (cells_now xs) (taken (numbers_of xs) cells)) vs (after w (changes_of xs) n (actor_of now))) (sym to2)
+      (world-after cells actors w xs n now is lts (within actors n a may.actor_is)))
+
+  is-put : (w v : World) → IsWorldOf cells actors w → IsWorldOf cells_back actors_back v → (y : ℕ) → v.cells y ≡ put (changes_of xs) w.cells y
+  is-put w v is_w is_v y = elim (cases_lt y (length cells_back)) [
+    | inl lt ↦ same-cell cells_back actors_back (after w (changes_of xs) n (actor_of now)) v y (is-after w is_w) is_v lt
+    | inr ge ↦ is_v.no_cell y ge ∙ sym ((is-after w is_w).no_cell y ge)
+  ]
+
+  -- what a kind did to one of its cells has become of the state's
+  at-one : (P : CellValue → CellValue → Type 0) (k : ℕ) (x : Exchange) → slice_get xs k ≡ Some x → AreDifferent (numbers_of xs) → P (cell_of x.before) (cell_of x.now)
+      → (w v : World) → IsWorldOf cells actors w → IsWorldOf cells_back actors_back v → P (w.cells x.number) (v.cells x.number)
+  at-one P k x here apart told w v is_w is_v =
+      let now_is : v.cells x.number ≡ cell_of x.now = is-put w v is_w is_v x.number ∙ put-at w.cells xs k x here apart in
+      let was_is : w.cells x.number ≡ cell_of x.before = was-at w.cells xs k x here (stand-world cells actors w (cells_before xs) is_w may.stand) in
+      subst (λ (c : CellValue). P c (v.cells x.number)) (sym was_is) (subst (λ (c : CellValue). P (cell_of x.before) c) (sym now_is) told)
+
+  -- A driver's step has told its event in the state, where the kind did so of the cell in which the ledger is.
+  pub adds : (event_of : ActorValue → ℕ → Event) (k : ℕ) (x : Exchange) → slice_get xs k ≡ Some x → AreDifferent (numbers_of xs)
+      → Tells event_of (actor_of a) (cell_of x.before) (cell_of x.now) → Adds event_of n x.number cells actors cells_back actors_back
+  adds event_of k x here apart told w v is_w is_v =
+      subst (λ (b : ActorValue). Tells event_of b (w.cells x.number) (v.cells x.number)) (sym (same-actor cells actors w n a is_w may.actor_is))
+      (at-one (Tells event_of (actor_of a)) k x here apart told w v is_w is_v)
+
+  pub adds-quiet : (k : ℕ) (x : Exchange) → slice_get xs k ≡ Some x → AreDifferent (numbers_of xs)
+      → EndsIn (cell_of x.before) (cell_of x.now) → AddsQuiet x.number cells actors cells_back actors_back
+  adds-quiet k x here apart told = at-one EndsIn k x here apart told
+
+  -- and it has spared what it didn't hold
+  pub spares : Spares (numbers_of xs) cells actors cells_back actors_back
+  spares w v is_w is_v y off = is-put w v is_w is_v y ∙ put-off w.cells xs y off

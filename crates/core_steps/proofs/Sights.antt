@@ -7,7 +7,7 @@ use Rattle.volap_cell.specs.Values.{ActorValue}
 use Rattle.volap_cell.specs.World.{Change, World}
 use Rattle.volap_cell.specs.declared.command.Command.{Command}
 
-one-or-none : {P : Type 0} {o : Option Command} {c : Command} → o ≡ None → o ≡ Some c → P
+pub one-or-none : {P : Type 0} {o : Option Command} {c : Command} → o ≡ None → o ≡ Some c → P
 one-or-none {P} {o} {c} e f = (let k : None ≡ Some c = sym e ∙ f in absurd (cc))
 
 -- that of an actor without a command

@@ -1,7 +1,10 @@
 -- Which event a step has put in the history.
-use Rattle.std.specs.Prelude.{ℕ, ◌≡◌, List, Option}
+use Rattle.std.specs.Prelude.{ℕ, ◌≡◌, ◌≢◌, false, List, ◌∷◌, Option}
 use Rattle.core_image.specs.Told.{Tells}
+use Rattle.row_ledger.specs.Past.{is_beginning}
 use Rattle.row_ledger.specs.declared.event.Event.{Event}
+use Rattle.tree_shape.specs.Counts.{Each}
+use Rattle.volap_cell.specs.Cells.{CellValue, ledger_in}
 use Rattle.volap_cell.specs.State.{IsWorldOf}
 use Rattle.volap_cell.specs.Values.{ActorValue}
 use Rattle.volap_cell.specs.World.{World}
@@ -12,3 +15,16 @@ use Rattle.volap_cell.specs.declared.cell.Cell.{Cell}
 abbrev pub Adds : (event_of : ActorValue → ℕ → Event) (n ledger_at : ℕ) (cells : List (Option Cell)) (actors : List (Option Actor)) (cells_now : List (Option Cell)) (actors_now : List (Option Actor)) → Type 0
 Adds event_of n ledger_at cells actors cells_now actors_now =
     (w now : World) → IsWorldOf cells actors w → IsWorldOf cells_now actors_now now → Tells event_of (w.actors n) (w.cells ledger_at) (now.cells ledger_at)
+
+-- it has one more, which begins nothing
+abbrev pub EndsIn : CellValue → CellValue → Type 0
+EndsIn ledger ledger_now = (e : Event) × (is_beginning e ≡ false) × ((ledger_in ledger_now).history ≡ e ∷ (ledger_in ledger).history)
+
+abbrev pub AddsQuiet : (ledger_at : ℕ) (cells : List (Option Cell)) (actors : List (Option Actor)) (cells_now : List (Option Cell)) (actors_now : List (Option Actor)) → Type 0
+AddsQuiet ledger_at cells actors cells_now actors_now =
+    (w now : World) → IsWorldOf cells actors w → IsWorldOf cells_now actors_now now → EndsIn (w.cells ledger_at) (now.cells ledger_at)
+
+-- Every cell but these is as it was.
+abbrev pub Spares : (numbers : List ℕ) (cells : List (Option Cell)) (actors : List (Option Actor)) (cells_now : List (Option Cell)) (actors_now : List (Option Actor)) → Type 0
+Spares numbers cells actors cells_now actors_now =
+    (w now : World) → IsWorldOf cells actors w → IsWorldOf cells_now actors_now now → (y : ℕ) → Each (λ z. y ≢ z) numbers → now.cells y ≡ w.cells y

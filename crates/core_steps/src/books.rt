@@ -1,7 +1,7 @@
 //! The steps of inserts, queries and pulls at desks and images.
 ghost use Rattle.std.specs.Prelude.{[], ◌∷◌, OnErr, OnOk};
 ghost use Rattle.core_image.specs.Told.{asked_by, begun_by};
-ghost use Rattle.core_steps.specs.Added.{Adds};
+ghost use Rattle.core_steps.specs.Added.{Adds, AddsQuiet, Spares};
 ghost use Rattle.core_steps.specs.Asked.{Acks};
 ghost use Rattle.core_steps.specs.AskedBooks.{Answers, BeginsInsert, BeginsQuery, Routes, Syncs};
 ghost use Rattle.core_steps.specs.Ready.{MayStep, Stays};
@@ -24,20 +24,12 @@ pub fn ack(
     requires state { HasInv h.now state.old.cells.items state.old.actors.items }
     requires ready { MayStep state.old.cells.items state.old.actors.items (desk_at ∷ image_at ∷ ledger_at ∷ []) number Acks }
     ensures stepped { Stepped h.now Ack number state.old.cells.items state.old.actors.items state.new.cells.items state.new.actors.items }
+    ensures quiet { AddsQuiet ledger_at state.old.cells.items state.old.actors.items state.new.cells.items state.new.actors.items }
 {
     let (cells, actors) = (&mut state.cells, &mut state.actors);
     let (mut desk, mut image, mut ledger) = lift_three(cells, desk_at, image_at, ledger_at);
     let mut actor = lift(actors, number);
-    core_image::ack(
-        h,
-        desk_at,
-        &mut desk,
-        image_at,
-        &mut image,
-        ledger_at,
-        &mut ledger,
-        &mut actor,
-    );
+    core_image::ack(h, desk_at, &mut desk, image_at, &mut image, ledger_at, &mut ledger, &mut actor);
     put_actor(actors, number, actor);
     put_three(cells, desk_at, desk, image_at, image, ledger_at, ledger);
 }
@@ -63,17 +55,7 @@ pub fn begin_insert(
     let (cells, actors) = (&mut state.cells, &mut state.actors);
     let (mut image, mut ledger) = lift_two(cells, image_at, ledger_at);
     let mut actor = lift(actors, number);
-    let made = core_image::begin_insert(
-        alloc,
-        h,
-        image_at,
-        &mut image,
-        ledger_at,
-        &mut ledger,
-        &mut actor,
-        at,
-        measure,
-    );
+    let made = core_image::begin_insert(alloc, h, image_at, &mut image, ledger_at, &mut ledger, &mut actor, at, measure);
     put_actor(actors, number, actor);
     put_two(cells, image_at, image, ledger_at, ledger);
     made
@@ -100,18 +82,7 @@ pub fn begin_query(
     let (cells, actors) = (&mut state.cells, &mut state.actors);
     let (mut desk, mut image, mut ledger) = lift_three(cells, desk_at, image_at, ledger_at);
     let mut actor = lift(actors, number);
-    let made = core_image::begin_query(
-        alloc,
-        h,
-        desk_at,
-        &mut desk,
-        image_at,
-        &mut image,
-        ledger_at,
-        &mut ledger,
-        &mut actor,
-        filter,
-    );
+    let made = core_image::begin_query(alloc, h, desk_at, &mut desk, image_at, &mut image, ledger_at, &mut ledger, &mut actor, filter);
     put_actor(actors, number, actor);
     put_three(cells, desk_at, desk, image_at, image, ledger_at, ledger);
     made
@@ -131,13 +102,12 @@ pub fn route(
     requires ready { MayStep state.old.cells.items state.old.actors.items (desk_at ∷ image_at ∷ []) number Routes }
     ensures stepped { OnOk result (Stepped h.now Route number state.old.cells.items state.old.actors.items state.new.cells.items state.new.actors.items) }
     ensures stays { OnErr result (Stays state.old.cells.items state.old.actors.items state.new.cells.items state.new.actors.items) }
+    ensures spares { OnOk result (Spares (desk_at ∷ image_at ∷ []) state.old.cells.items state.old.actors.items state.new.cells.items state.new.actors.items) }
 {
     let (cells, actors) = (&mut state.cells, &mut state.actors);
     let (mut desk, mut image) = lift_two(cells, desk_at, image_at);
     let mut actor = lift(actors, number);
-    let made = core_image::route(
-        alloc, h, desk_at, &mut desk, image_at, &mut image, &mut actor,
-    );
+    let made = core_image::route(alloc, h, desk_at, &mut desk, image_at, &mut image, &mut actor);
     put_actor(actors, number, actor);
     put_two(cells, desk_at, desk, image_at, image);
     made
@@ -145,10 +115,17 @@ pub fn route(
 
 /// An actor's query, whose parts come to a sum, is answered: with the desk of its server, and the ledger. Takes
 /// no memory.
-pub fn answer(h: &Hierarchy, state: &mut State, number: usize, desk_at: u32, ledger_at: u32)
+pub fn answer(
+    h: &Hierarchy,
+    state: &mut State,
+    number: usize,
+    desk_at: u32,
+    ledger_at: u32,
+)
     requires state { HasInv h.now state.old.cells.items state.old.actors.items }
     requires ready { MayStep state.old.cells.items state.old.actors.items (desk_at ∷ ledger_at ∷ []) number Answers }
     ensures stepped { Stepped h.now Answer number state.old.cells.items state.old.actors.items state.new.cells.items state.new.actors.items }
+    ensures quiet { AddsQuiet ledger_at state.old.cells.items state.old.actors.items state.new.cells.items state.new.actors.items }
 {
     let (cells, actors) = (&mut state.cells, &mut state.actors);
     let (mut desk, mut ledger) = lift_two(cells, desk_at, ledger_at);
@@ -173,30 +150,13 @@ pub fn sync(
     requires ready { MayStep state.old.cells.items state.old.actors.items (image_at ∷ registry_at ∷ ledger_at ∷ []) number Syncs }
     ensures stepped { OnOk result (Stepped h.now Sync number state.old.cells.items state.old.actors.items state.new.cells.items state.new.actors.items) }
     ensures stays { OnErr result (Stays state.old.cells.items state.old.actors.items state.new.cells.items state.new.actors.items) }
+    ensures quiet { OnOk result (AddsQuiet ledger_at state.old.cells.items state.old.actors.items state.new.cells.items state.new.actors.items) }
 {
     let (cells, actors) = (&mut state.cells, &mut state.actors);
     let (mut image, mut registry, mut ledger) = lift_three(cells, image_at, registry_at, ledger_at);
     let mut actor = lift(actors, number);
-    let made = core_image::sync(
-        alloc,
-        h,
-        image_at,
-        &mut image,
-        registry_at,
-        &mut registry,
-        ledger_at,
-        &mut ledger,
-        &mut actor,
-    );
+    let made = core_image::sync(alloc, h, image_at, &mut image, registry_at, &mut registry, ledger_at, &mut ledger, &mut actor);
     put_actor(actors, number, actor);
-    put_three(
-        cells,
-        image_at,
-        image,
-        registry_at,
-        registry,
-        ledger_at,
-        ledger,
-    );
+    put_three(cells, image_at, image, registry_at, registry, ledger_at, ledger);
     made
 }

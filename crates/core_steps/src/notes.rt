@@ -1,7 +1,7 @@
 //! The notes by which a command begins, or ends that is no insert and no query.
 ghost use Rattle.std.specs.Prelude.{[], ◌∷◌, OnErr, OnOk};
 ghost use Rattle.core_image.specs.Told.{called_by, refused_by, unknown_by};
-ghost use Rattle.core_steps.specs.Added.{Adds};
+ghost use Rattle.core_steps.specs.Added.{Adds, AddsQuiet};
 ghost use Rattle.core_steps.specs.AskedNotes.{NotesAsking, NotesCalled, NotesEnded, NotesRefused, NotesUnknown};
 ghost use Rattle.core_steps.specs.Ready.{MayStep, Stays};
 ghost use Rattle.volap_cell.specs.State.{HasInv, Stepped};
@@ -104,27 +104,24 @@ pub fn note_asking(
     let (cells, actors) = (&mut state.cells, &mut state.actors);
     let (mut registry, mut ledger) = lift_two(cells, registry_at, ledger_at);
     let mut actor = lift(actors, number);
-    let made = core_image::note_asking(
-        alloc,
-        h,
-        registry_at,
-        &mut registry,
-        ledger_at,
-        &mut ledger,
-        &mut actor,
-        call,
-        workers,
-    );
+    let made = core_image::note_asking(alloc, h, registry_at, &mut registry, ledger_at, &mut ledger, &mut actor, call, workers);
     put_actor(actors, number, actor);
     put_two(cells, registry_at, registry, ledger_at, ledger);
     made
 }
 
 /// An actor's command that is no insert, no query and no balance ends, in this way. Takes no memory.
-pub fn note_ended(h: &Hierarchy, state: &mut State, number: usize, ledger_at: u32, how: How)
+pub fn note_ended(
+    h: &Hierarchy,
+    state: &mut State,
+    number: usize,
+    ledger_at: u32,
+    how: How,
+)
     requires state { HasInv h.now state.old.cells.items state.old.actors.items }
     requires ready { MayStep state.old.cells.items state.old.actors.items (ledger_at ∷ []) number (NotesEnded how) }
     ensures stepped { Stepped h.now Note number state.old.cells.items state.old.actors.items state.new.cells.items state.new.actors.items }
+    ensures quiet { AddsQuiet ledger_at state.old.cells.items state.old.actors.items state.new.cells.items state.new.actors.items }
 {
     let (cells, actors) = (&mut state.cells, &mut state.actors);
     let mut ledger = lift_one(cells, ledger_at);

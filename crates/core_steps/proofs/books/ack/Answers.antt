@@ -1,9 +1,11 @@
-use Rattle.std.proofs.Common.{[], ◌∷◌}
+use Rattle.std.proofs.Common.{List, [], ◌∷◌, refl}
 use Rattle.core_steps.specs.Asked.{Acks}
-use Rattle.volap_cell.specs.State.{exchange}
+use Rattle.volap_cell.specs.State.{Exchange, exchange}
 use Rattle.volap_cell.specs.declared.kind.Kind.TheVariants.{Ack}
 use Rattle.volap_cell.proofs.States.{drives}
 use Rattle.core_steps.proofs.Ready.{can-lift, can-step, may-hold, step-here}
+use Rattle.core_steps.proofs.Adding.{adds-quiet}
+use Rattle.core_steps.proofs.Quiet.{ack-ends}
 use Rattle.core_steps.proofs.books.ack.Goals as goal
 
 pub lift_three-desk-requires : goal.lift_three-desk-requires
@@ -22,10 +24,9 @@ ack-requires-clause-due c =
 pub returns : goal.returns
 returns c =
     let r = c.lift_three-desk.result in
+    let xs : List Exchange = exchange c.args.desk_at r.0 c.ack.new.desk ∷ exchange c.args.image_at r.1 c.ack.new.image ∷ exchange c.args.ledger_at r.2 c.ack.new.ledger ∷ [] in
+    let may = may-hold c.args.h.now c.args.state.now.cells.items c.args.state.now.actors.items c.requires.state c.args.number Acks ((c.args.desk_at, r.0) ∷ (c.args.image_at, r.1) ∷ (c.args.ledger_at, r.2) ∷ []) c.requires.ready c.lift_three-desk.ensures.value c.lift-actor.result c.lift-actor.ensures.value in
     record {
-      stepped = drives c.args.h.now Ack c.args.state.now.cells.items _ _ c.args.state.now.actors.items _ _
-          (exchange c.args.desk_at r.0 c.ack.new.desk ∷ exchange c.args.image_at r.1 c.ack.new.image ∷ exchange c.args.ledger_at r.2 c.ack.new.ledger ∷ []) c.args.number c.lift-actor.result c.ack.new.actor
-          c.lift_three-desk.ensures.rest c.lift-actor.ensures.rest c.put_three.ensures.value c.put_actor.ensures.value
-          (may-hold c.args.h.now c.args.state.now.cells.items c.args.state.now.actors.items c.requires.state c.args.number Acks ((c.args.desk_at, r.0) ∷ (c.args.image_at, r.1) ∷ (c.args.ledger_at, r.2) ∷ []) c.requires.ready c.lift_three-desk.ensures.value c.lift-actor.result c.lift-actor.ensures.value)
-          c.ack.ensures.made (λ s w same is inv. tt);
+      stepped = drives c.args.h.now Ack c.args.state.now.cells.items _ _ c.args.state.now.actors.items _ _ xs c.args.number c.lift-actor.result c.ack.new.actor c.lift_three-desk.ensures.rest c.lift-actor.ensures.rest c.put_three.ensures.value c.put_actor.ensures.value may c.ack.ensures.made (λ s w same is inv. tt);
+      quiet = adds-quiet c.args.state.now.cells.items _ _ c.args.state.now.actors.items _ _ xs c.args.number c.lift-actor.result c.ack.new.actor c.lift_three-desk.ensures.rest c.lift-actor.ensures.rest c.put_three.ensures.value c.put_actor.ensures.value may 2 (exchange c.args.ledger_at r.2 c.ack.new.ledger) refl c.requires.ready.apart (ack-ends c.ack.ensures.made.does);
     }

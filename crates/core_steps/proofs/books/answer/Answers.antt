@@ -1,9 +1,11 @@
-use Rattle.std.proofs.Common.{List, [], ◌∷◌}
+use Rattle.std.proofs.Common.{List, [], ◌∷◌, refl}
 use Rattle.core_steps.specs.AskedBooks.{Answers}
 use Rattle.volap_cell.specs.State.{Exchange, exchange}
 use Rattle.volap_cell.specs.declared.kind.Kind.TheVariants.{Answer}
 use Rattle.volap_cell.proofs.States.{drives}
 use Rattle.core_steps.proofs.Ready.{can-lift, can-step, may-hold, step-here}
+use Rattle.core_steps.proofs.Adding.{adds-quiet}
+use Rattle.core_steps.proofs.Quiet.{answer-ends}
 use Rattle.core_steps.proofs.books.answer.Goals as goal
 
 pub lift_two-desk-requires : goal.lift_two-desk-requires
@@ -26,4 +28,5 @@ returns c =
     let may = may-hold c.args.h.now c.args.state.now.cells.items c.args.state.now.actors.items c.requires.state c.args.number Answers ((c.args.desk_at, r.0) ∷ (c.args.ledger_at, r.1) ∷ []) c.requires.ready c.lift_two-desk.ensures.value c.lift-actor.result c.lift-actor.ensures.value in
     record {
       stepped = drives c.args.h.now Answer c.args.state.now.cells.items _ _ c.args.state.now.actors.items _ _ xs c.args.number c.lift-actor.result c.answer.new.actor c.lift_two-desk.ensures.rest c.lift-actor.ensures.rest c.put_two.ensures.value c.put_actor.ensures.value may c.answer.ensures.made (λ s w same is inv. tt);
+      quiet = adds-quiet c.args.state.now.cells.items _ _ c.args.state.now.actors.items _ _ xs c.args.number c.lift-actor.result c.answer.new.actor c.lift_two-desk.ensures.rest c.lift-actor.ensures.rest c.put_two.ensures.value c.put_actor.ensures.value may 1 (exchange c.args.ledger_at r.1 c.answer.new.ledger) refl c.requires.ready.apart (answer-ends c.answer.ensures.made.does);
     }

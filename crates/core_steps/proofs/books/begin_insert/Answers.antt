@@ -34,6 +34,6 @@ returns c =
     let measured : to_z w64 (of_z w64 c.args.measure) ≡ c.args.measure = to_z-of_z w64 c.args.measure (search rules) in
     record {
       stepped = on-ok c.begin_insert-made.result c.begin_insert-made.ensures.made (λ m. drives c.args.h.now BeginInsert c.args.state.now.cells.items _ _ c.args.state.now.actors.items _ _ xs c.args.number c.lift-actor.result c.begin_insert-made.new.actor c.lift_two-image.ensures.rest c.lift-actor.ensures.rest c.put_two.ensures.value c.put_actor.ensures.value may m (λ s w same is inv. tt));
-      told = on-ok c.begin_insert-made.result c.begin_insert-made.ensures.told (λ t. adds (begun_by c.args.at c.args.measure) c.args.state.now.cells.items _ _ c.args.state.now.actors.items _ _ xs c.args.number c.lift-actor.result c.begin_insert-made.new.actor c.lift_two-image.ensures.rest c.lift-actor.ensures.rest c.put_two.ensures.value c.put_actor.ensures.value may 1 (exchange c.args.ledger_at r.1 c.begin_insert-made.new.ledger) refl c.requires.ready.apart (subst (λ (m : ℤ). Tells (begun_by c.args.at m) (actor_of c.lift-actor.result) (cell_of r.1) (cell_of c.begin_insert-made.new.ledger)) measured t));
+      told = on-ok c.begin_insert-made.result c.begin_insert-made.ensures.told (λ t. adds c.args.state.now.cells.items _ _ c.args.state.now.actors.items _ _ xs c.args.number c.lift-actor.result c.begin_insert-made.new.actor c.lift_two-image.ensures.rest c.lift-actor.ensures.rest c.put_two.ensures.value c.put_actor.ensures.value may (begun_by c.args.at c.args.measure) 1 (exchange c.args.ledger_at r.1 c.begin_insert-made.new.ledger) refl c.requires.ready.apart (subst (λ (m : ℤ). Tells (begun_by c.args.at m) (actor_of c.lift-actor.result) (cell_of r.1) (cell_of c.begin_insert-made.new.ledger)) measured t));
       stays = on-err c.begin_insert-made.result c.begin_insert-made.ensures.refused (λ k. stays-so c.args.state.now.cells.items _ _ c.args.state.now.actors.items _ _ xs c.args.number c.lift-actor.result c.begin_insert-made.new.actor c.lift_two-image.ensures.rest c.lift-actor.ensures.rest c.put_two.ensures.value c.put_actor.ensures.value may (k.0, (k.1, tt)) k.2);
     }

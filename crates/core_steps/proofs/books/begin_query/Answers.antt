@@ -30,6 +30,6 @@ returns c =
     let may = may-hold c.args.h.now c.args.state.now.cells.items c.args.state.now.actors.items c.requires.state c.args.number (BeginsQuery c.args.h.now c.args.filter) ((c.args.desk_at, r.0) ∷ (c.args.image_at, r.1) ∷ (c.args.ledger_at, r.2) ∷ []) c.requires.ready c.lift_three-desk.ensures.value c.lift-actor.result c.lift-actor.ensures.value in
     record {
       stepped = on-ok c.begin_query-made.result c.begin_query-made.ensures.made (λ m. drives c.args.h.now BeginQuery c.args.state.now.cells.items _ _ c.args.state.now.actors.items _ _ xs c.args.number c.lift-actor.result c.begin_query-made.new.actor c.lift_three-desk.ensures.rest c.lift-actor.ensures.rest c.put_three.ensures.value c.put_actor.ensures.value may m (λ s w same is inv. tt));
-      told = on-ok c.begin_query-made.result c.begin_query-made.ensures.told (λ t. adds (asked_by c.args.filter) c.args.state.now.cells.items _ _ c.args.state.now.actors.items _ _ xs c.args.number c.lift-actor.result c.begin_query-made.new.actor c.lift_three-desk.ensures.rest c.lift-actor.ensures.rest c.put_three.ensures.value c.put_actor.ensures.value may 2 (exchange c.args.ledger_at r.2 c.begin_query-made.new.ledger) refl c.requires.ready.apart t);
+      told = on-ok c.begin_query-made.result c.begin_query-made.ensures.told (λ t. adds c.args.state.now.cells.items _ _ c.args.state.now.actors.items _ _ xs c.args.number c.lift-actor.result c.begin_query-made.new.actor c.lift_three-desk.ensures.rest c.lift-actor.ensures.rest c.put_three.ensures.value c.put_actor.ensures.value may (asked_by c.args.filter) 2 (exchange c.args.ledger_at r.2 c.begin_query-made.new.ledger) refl c.requires.ready.apart t);
       stays = on-err c.begin_query-made.result c.begin_query-made.ensures.refused (λ k. stays-so c.args.state.now.cells.items _ _ c.args.state.now.actors.items _ _ xs c.args.number c.lift-actor.result c.begin_query-made.new.actor c.lift_three-desk.ensures.rest c.lift-actor.ensures.rest c.put_three.ensures.value c.put_actor.ensures.value may (k.0, (k.1, (k.2, tt))) k.3);
     }

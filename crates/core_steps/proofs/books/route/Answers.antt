@@ -6,6 +6,7 @@ use Rattle.volap_cell.proofs.States.{drives}
 use Rattle.volap_cell.proofs.Outcomes.{on-ok, on-err}
 use Rattle.core_steps.proofs.Ready.{can-lift, can-step, may-hold, step-here}
 use Rattle.core_steps.proofs.Staying.{stays-so}
+use Rattle.core_steps.proofs.Adding.{spares}
 use Rattle.core_steps.proofs.books.route.Goals as goal
 
 pub lift_two-desk-requires : goal.lift_two-desk-requires
@@ -28,5 +29,6 @@ returns c =
     let may = may-hold c.args.h.now c.args.state.now.cells.items c.args.state.now.actors.items c.requires.state c.args.number Routes ((c.args.desk_at, r.0) ∷ (c.args.image_at, r.1) ∷ []) c.requires.ready c.lift_two-desk.ensures.value c.lift-actor.result c.lift-actor.ensures.value in
     record {
       stepped = on-ok c.route-made.result c.route-made.ensures.made (λ m. drives c.args.h.now Route c.args.state.now.cells.items _ _ c.args.state.now.actors.items _ _ xs c.args.number c.lift-actor.result c.route-made.new.actor c.lift_two-desk.ensures.rest c.lift-actor.ensures.rest c.put_two.ensures.value c.put_actor.ensures.value may m (λ s w same is inv. tt));
+      spares = on-ok c.route-made.result c.route-made.ensures.made (λ m. spares c.args.state.now.cells.items _ _ c.args.state.now.actors.items _ _ xs c.args.number c.lift-actor.result c.route-made.new.actor c.lift_two-desk.ensures.rest c.lift-actor.ensures.rest c.put_two.ensures.value c.put_actor.ensures.value may);
       stays = on-err c.route-made.result c.route-made.ensures.refused (λ k. stays-so c.args.state.now.cells.items _ _ c.args.state.now.actors.items _ _ xs c.args.number c.lift-actor.result c.route-made.new.actor c.lift_two-desk.ensures.rest c.lift-actor.ensures.rest c.put_two.ensures.value c.put_actor.ensures.value may (k.0, (k.1, tt)) k.2);
     }

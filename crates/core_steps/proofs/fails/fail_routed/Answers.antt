@@ -1,9 +1,11 @@
-use Rattle.std.proofs.Common.{List, [], ◌∷◌}
+use Rattle.std.proofs.Common.{List, [], ◌∷◌, refl}
 use Rattle.core_steps.specs.AskedNotes.{FailsRouted}
 use Rattle.volap_cell.specs.State.{Exchange, exchange}
 use Rattle.volap_cell.specs.declared.kind.Kind.TheVariants.{Note}
 use Rattle.volap_cell.proofs.States.{drives}
 use Rattle.core_steps.proofs.Ready.{can-lift, can-step, may-hold, step-here}
+use Rattle.core_steps.proofs.Adding.{adds-quiet}
+use Rattle.core_steps.proofs.Quiet.{routed-ends}
 use Rattle.core_steps.proofs.fails.fail_routed.Goals as goal
 
 pub lift_three-desk-requires : goal.lift_three-desk-requires
@@ -26,4 +28,5 @@ returns c =
     let may = may-hold c.args.h.now c.args.state.now.cells.items c.args.state.now.actors.items c.requires.state c.args.number FailsRouted ((c.args.desk_at, r.0) ∷ (c.args.image_at, r.1) ∷ (c.args.ledger_at, r.2) ∷ []) c.requires.ready c.lift_three-desk.ensures.value c.lift-actor.result c.lift-actor.ensures.value in
     record {
       stepped = drives c.args.h.now Note c.args.state.now.cells.items _ _ c.args.state.now.actors.items _ _ xs c.args.number c.lift-actor.result c.fail_routed.new.actor c.lift_three-desk.ensures.rest c.lift-actor.ensures.rest c.put_three.ensures.value c.put_actor.ensures.value may c.fail_routed.ensures.made (λ s w same is inv. tt);
+      quiet = adds-quiet c.args.state.now.cells.items _ _ c.args.state.now.actors.items _ _ xs c.args.number c.lift-actor.result c.fail_routed.new.actor c.lift_three-desk.ensures.rest c.lift-actor.ensures.rest c.put_three.ensures.value c.put_actor.ensures.value may 2 (exchange c.args.ledger_at r.2 c.fail_routed.new.ledger) refl c.requires.ready.apart (routed-ends c.fail_routed.ensures.made.does);
     }

@@ -30,6 +30,6 @@ returns c =
     let may = may-hold c.args.h.now c.args.state.now.cells.items c.args.state.now.actors.items c.requires.state c.args.number (NotesAsking c.args.call c.args.workers) ((c.args.registry_at, r.0) ∷ (c.args.ledger_at, r.1) ∷ []) c.requires.ready c.lift_two-registry.ensures.value c.lift-actor.result c.lift-actor.ensures.value in
     record {
       stepped = on-ok c.note_asking-made.result c.note_asking-made.ensures.made (λ m. drives c.args.h.now Note c.args.state.now.cells.items _ _ c.args.state.now.actors.items _ _ xs c.args.number c.lift-actor.result c.note_asking-made.new.actor c.lift_two-registry.ensures.rest c.lift-actor.ensures.rest c.put_two.ensures.value c.put_actor.ensures.value may m (λ s w same is inv. tt));
-      told = on-ok c.note_asking-made.result c.note_asking-made.ensures.told (λ t. adds (called_by c.args.call) c.args.state.now.cells.items _ _ c.args.state.now.actors.items _ _ xs c.args.number c.lift-actor.result c.note_asking-made.new.actor c.lift_two-registry.ensures.rest c.lift-actor.ensures.rest c.put_two.ensures.value c.put_actor.ensures.value may 1 (exchange c.args.ledger_at r.1 c.note_asking-made.new.ledger) refl c.requires.ready.apart t);
+      told = on-ok c.note_asking-made.result c.note_asking-made.ensures.told (λ t. adds c.args.state.now.cells.items _ _ c.args.state.now.actors.items _ _ xs c.args.number c.lift-actor.result c.note_asking-made.new.actor c.lift_two-registry.ensures.rest c.lift-actor.ensures.rest c.put_two.ensures.value c.put_actor.ensures.value may (called_by c.args.call) 1 (exchange c.args.ledger_at r.1 c.note_asking-made.new.ledger) refl c.requires.ready.apart t);
       stays = on-err c.note_asking-made.result c.note_asking-made.ensures.refused (λ k. stays-so c.args.state.now.cells.items _ _ c.args.state.now.actors.items _ _ xs c.args.number c.lift-actor.result c.note_asking-made.new.actor c.lift_two-registry.ensures.rest c.lift-actor.ensures.rest c.put_two.ensures.value c.put_actor.ensures.value may (k.0, (k.1, tt)) k.2);
     }

@@ -1,0 +1,47 @@
+-- The events of steps by which a command goes on or ends begin nothing.
+use Rattle.std.proofs.Common.{ℕ, ◌≡◌, List, ◌∷◌, false, Some, None, refl, sym, ap, ◌∙◌, subst}
+use Rattle.core_image.specs.NotesDue.{CanNoteEnded}
+use Rattle.core_steps.specs.Added.{EndsIn}
+use Rattle.core_steps.proofs.Sights.{one-or-none}
+use Rattle.dim_hierarchy.specs.Dimension.{Dimension}
+use Rattle.row_ledger.specs.Past.{is_beginning}
+use Rattle.row_ledger.specs.declared.event.Event.{Event}
+use Rattle.row_ledger.specs.declared.event.Event.TheVariants as event
+use Rattle.row_ledger.specs.declared.settings.How.{How}
+use Rattle.volap_cell.specs.Cells.{CellValue, Tag, DeskOf, TheLedger, ledger_in, tag_of}
+use Rattle.volap_cell.specs.ImageKinds.{DoesAck, DoesAnswer, DoesNote, DoesNoteWith, DoesSync, FailsRouted, OfCalled, OfCalledAsking, OfCount, OfEnded, OfLeft, OfQuery, OfRefused, OfShown, OfUnknown, OfUnrouted, Pushes}
+use Rattle.volap_cell.specs.Values.{ActorValue}
+use Rattle.volap_cell.specs.World.{Change}
+use Rattle.volap_cell.specs.declared.command.Command.{Command}
+
+pushed : (e : Event) (more used : ℕ) (l : Change) (seen : ℕ) → is_beginning e ≡ false → Pushes e more used l seen → EndsIn l.before l.now
+pushed e more used l seen quiet p =
+    (e, quiet, subst (λ (c : CellValue). (ledger_in l.now).history ≡ e ∷ (ledger_in c).history) (sym p.was)
+    (subst (λ (c : CellValue). (ledger_in c).history ≡ e ∷ p.ledger.history) (sym p.is) p.history))
+
+pub ack-ends : {h : List Dimension} {d i l : Change} {a b : ActorValue} → DoesAck h d i l a b → EndsIn l.before l.now
+ack-ends {h} {d} {i} {l} {a} {b} does = pushed (event.Acked does.of does.path) 0 1 l b.seen refl does.acked
+
+pub answer-ends : {d l : Change} {a b : ActorValue} → DoesAnswer d l a b → EndsIn l.before l.now
+answer-ends {d} {l} {a} {b} does = pushed (event.Answered does.of does.answer) 0 1 l b.seen refl does.answered
+
+pub sync-ends : {h : List Dimension} {i r l : Change} {a b : ActorValue} → DoesSync h i r l a b → EndsIn l.before l.now
+sync-ends {h} {i} {r} {l} {a} {b} does = pushed (event.Synced does.server does.listing) 1 1 l b.seen refl does.pulled
+
+pub routed-ends : {d i l : Change} {a b : ActorValue} → FailsRouted d i l a b → EndsIn l.before l.now
+routed-ends {d} {i} {l} {a} {b} does = pushed (event.Failed does.of) 0 1 l b.seen refl does.failed
+
+-- of an actor with a command
+pub unrouted-ends : {k l : Change} {a b : ActorValue} {c : Command} → a.command ≡ Some c → DoesNoteWith k l a b → EndsIn l.before l.now
+unrouted-ends has (OfCalledAsking registry asked does) = one-or-none does.free.command has
+unrouted-ends {k} {l} {a} {b} has (OfUnrouted does) = pushed (event.Failed does.of) 0 1 l b.seen refl does.failed
+unrouted-ends {k} {l} {a} {b} has (OfQuery does) = pushed (event.Failed does.of) 0 1 l b.seen refl does.failed
+
+pub ended-ends : {how : How} {l : Change} {a b : ActorValue} → CanNoteEnded how l.before a → DoesNote l a b → EndsIn l.before l.now
+ended-ends can (OfUnknown does) = one-or-none does.free.command can.command
+ended-ends can (OfRefused does) = one-or-none does.free.command can.command
+ended-ends can (OfCalled registry does) = one-or-none does.free.command can.command
+ended-ends {how} {l} {a} {b} can (OfLeft does) = pushed (event.Left does.of does.job.shard does.left_as) 0 1 l b.seen refl does.left
+ended-ends {how} {l} {a} {b} can (OfShown page does) = pushed (event.Shown does.of page) 0 1 l b.seen refl does.shown
+ended-ends {how} {l} {a} {b} can (OfEnded does) = pushed (event.Ended does.of does.how_it_ends) 0 _ l b.seen refl does.ended
+ended-ends {how} {l} {a} {b} can (OfCount does) = (let tags : TheLedger ≡ DeskOf does.server = sym can.ledger_is ∙ ap tag_of does.turns.was in absurd (cc))
