@@ -1,3 +1,4 @@
 pub mod Ready
+pub mod HeldIf
 pub mod Asked
 pub mod AskedParts

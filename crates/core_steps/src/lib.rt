@@ -3,9 +3,14 @@
 #![tactic(auto)]
 
 mod books;
+mod held;
 mod parts;
 mod trees;
 
 pub use books::ack;
-pub use parts::{forward, take_part};
-pub use trees::{block_visit, enter_queue, gate_read, give_back, leave_tree, put_in_leaf, refill};
+pub use held::HeldIf;
+pub use parts::{finish_part, forward, take_part};
+pub use trees::{
+    block_visit, down, enter_queue, enter_tree, gate_read, give_back, leave_tree, put_in_leaf,
+    refill,
+};
