@@ -23,7 +23,7 @@ use Rattle.row_ledger.proofs.Growth.{KeepsRight-asked}
 use Rattle.server_image.specs.Image.{ImageValue, planned}
 use Rattle.tree_shape.specs.Queries.{fits}
 use Rattle.tree_shape.proofs.Walks.{on_bool, eqb-eq, eqb-ne, eqb-no, eqb-self}
-use Rattle.volap_cell.specs.Desking.{IsQueryState, IsTaken, AreLinesApart, is_on_desk}
+use Rattle.volap_cell.specs.Desking.{HasNoPath, IsQueryState, IsTaken, AreLinesApart, is_on_desk}
 use Rattle.volap_cell.specs.Errands.{ReadPart, Taken}
 use Rattle.volap_cell.specs.Falls.{control_of, gates_of_part, gates_of_work, left, of_work, rows_of_part}
 use Rattle.volap_cell.specs.Ghost.{Ghost}
@@ -269,7 +269,7 @@ module _ (d im l : Change) (b : ActorValue) (s : Setting) (w : World) (n : ℕ) 
     covering = told.covering;
     desking = laid-desking s server does.desk (length h) parts v.desks v2.desks laid-there does.empty n None its v.roles v.commands v2.commands begins refl does.role refl off-desk (e ∷ h) v.taken
         (λ insert is. absurd (no-row insert is))
-        (λ other is. (of-parts (λ (p : Part). IsQueryState other p.state) (λ x has. ap (λ (y : Query). want.Filter y.filter) (asked-is other is)), lines-grown s e h (all-stays s e h refl).shards parts lines))
+        (λ other is. (of-parts (λ (p : Part). IsQueryState other p.state) (λ x has. ap (λ (y : Query). want.Filter y.filter) (asked-is other is)), lines-grown s e h (all-stays s e h refl).shards parts lines, of-parts HasNoPath (λ x has. refl)))
         (of-parts (λ (p : Part). is_taken p ≡ true → IsTaken v.taken server p) (λ x has on. absurd (false≢true on))) told.desking;
     pinning = i.pinning;
     querying = laid-querying s server does.desk (length h) parts v.desks v2.desks laid-there does.empty (e ∷ h) (row_at (e ∷ h)) v.blocks v.trees v.taken v.reads g.shape g.placed g.home g.counted counted

@@ -38,7 +38,7 @@ use Rattle.volap_cell.specs.declared.command.Work.{Work}
 use Rattle.core_image.proofs.Pageless.{asks_page, no-page}
 
 -- a decline has a cause, and that isn't that a shard is unknown
-never-unknown : (hs : List Dimension) (a : Action) (rows : List Row) → IsCause hs a rows decline.Unknown → ⊥
+pub never-unknown : (hs : List Dimension) (a : Action) (rows : List Row) → IsCause hs a rows decline.Unknown → ⊥
 never-unknown hs (action.Split x) rows cause = cause
 never-unknown hs (action.Move x to) rows cause = cause
 
@@ -59,7 +59,7 @@ job-spent : (job : Option JobValue) (how : How) → EndsJob job how → (spent_o
 job-spent None how ends = (refl, refl)
 job-spent (Some j) how ends = stage-spent j.stage how ends
 
-none-spent : (job : Option JobValue) → ((j : JobValue) → job ≡ Some j → ⊥) → (spent_of job ≡ []) × (items_of_job job ≡ [])
+pub none-spent : (job : Option JobValue) → ((j : JobValue) → job ≡ Some j → ⊥) → (spent_of job ≡ []) × (items_of_job job ≡ [])
 none-spent None none = (refl, refl)
 none-spent (Some j) none = absurd (none j refl)
 
@@ -72,7 +72,7 @@ module _ (s : Setting) (v : View) (g : Ghost) (i : InvWith s v g) (n of : ℕ) w
   h = v.history
 
   -- no page was asked for
-  unasked : (call : Call) → call_at h of ≡ Some call → asks_page call ≡ false → has_page h of ≡ false
+  pub unasked : (call : Call) → call_at h of ≡ Some call → asks_page call ≡ false → has_page h of ≡ false
   unasked call called none = no-page (site_in s) g.placed h i.telling.right.right.each of call called none
 
   module _ (its_work : Work) (has : v.commands n ≡ doing of its_work) (open_ : has_ended h of ≡ false) (progress : IsProgress s h of its_work (v.jobs n) (v.roles n)) where

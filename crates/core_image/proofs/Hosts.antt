@@ -19,7 +19,7 @@ use Rattle.volap_cell.specs.Working.{places_in}
 use Rattle.volap_cell.specs.ImageKinds.{job_called, unread_load}
 use Rattle.volap_cell.specs.Values.{JobValue, IsCalled}
 
-has-place : (x : ℕ) (spots : List Spot) → has_spot x spots ≡ list_any (is_of x) (places_of spots)
+pub has-place : (x : ℕ) (spots : List Spot) → has_spot x spots ≡ list_any (is_of x) (places_of spots)
 has-place x [] = refl
 has-place x (spot ∷ spots) = ap (λ (b : Bool). (spot.shard == x) || b) (has-place x spots)
 

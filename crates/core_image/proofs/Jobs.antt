@@ -81,11 +81,11 @@ pub record IsNewJob (s : Setting) (h : List Event) (role : Role) (purse : List S
 
 -- nothing is spent and nothing noted for it
 
-spent-new : (job : Option JobValue) → ((j : JobValue) → job ≡ Some j → j.stage ≡ IsCalled) → spent_of job ≡ []
+pub spent-new : (job : Option JobValue) → ((j : JobValue) → job ≡ Some j → j.stage ≡ IsCalled) → spent_of job ≡ []
 spent-new None called = refl
 spent-new (Some j) called = ap (λ (st : StageValue). spent_of (Some (record j { stage = st }))) (called j refl)
 
-items-new : (job : Option JobValue) → ((j : JobValue) → job ≡ Some j → j.stage ≡ IsCalled) → items_of_job job ≡ []
+pub items-new : (job : Option JobValue) → ((j : JobValue) → job ≡ Some j → j.stage ≡ IsCalled) → items_of_job job ≡ []
 items-new None called = refl
 items-new (Some j) called = ap (λ (st : StageValue). items_of_job (Some (record j { stage = st }))) (called j refl)
 
@@ -94,7 +94,7 @@ is_called IsCalled = true
 is_called _ = false
 
 -- a stage at its beginning is no decline
-not-declined : (why : Decline) → IsCalled ≡ IsDeclined why → ⊥
+pub not-declined : (why : Decline) → IsCalled ≡ IsDeclined why → ⊥
 not-declined why e = false≢true (sym (ap is_called e))
 
 module _ (n : ℕ) (its : Command) (commands commands_now : ℕ → Option Command) (begin : IsNewAt commands_now commands n None (Some its)) (job : Option JobValue) (jobs jobs_now : ℕ → Option JobValue) (new : IsNewAt jobs_now jobs n None job)

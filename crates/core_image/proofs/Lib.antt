@@ -49,3 +49,9 @@ pub mod CallsEnd
 pub mod Endings
 pub mod NotesAsk
 pub mod NotesEnd
+pub mod Telling
+pub mod MadePaths
+pub mod ReadOnce
+pub mod BalanceEnds
+pub mod NextAction
+pub mod NotesLeft

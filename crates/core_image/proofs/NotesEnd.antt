@@ -1,5 +1,5 @@
 -- The end of a command is noted: what that asks of the ledger is so in each state, and it keeps the invariant.
-use Rattle.std.proofs.Common.{◌≡◌, ◌≢◌, ℕ, ◌<◌, ◌≤◌, List, [], ◌∷◌, length, Option, Some, None, refl, sym, ap, ◌∙◌, subst, arith}
+use Rattle.std.proofs.Common.{◌≡◌, ℕ, ◌<◌, ◌≤◌, List, [], ◌∷◌, length, Option, Some, None, refl, sym, ap, ◌∙◌, subst, arith}
 use Rattle.std.specs.Option.{option_map_or}
 use Rattle.dim_hierarchy.specs.Dimension.{Dimension}
 use Rattle.row_ledger.specs.LedgerValue.{LedgerValue}
@@ -14,30 +14,29 @@ use Rattle.volap_cell.specs.Steps.{IsHere, Keeps, Makes}
 use Rattle.volap_cell.specs.Values.{ActorValue}
 use Rattle.volap_cell.specs.View.{view}
 use Rattle.volap_cell.specs.World.{World, Change, change, held}
-use Rattle.volap_cell.specs.declared.command.Balance.{Balance}
-use Rattle.volap_cell.specs.declared.command.Work.TheVariants as work_is
 use Rattle.volap_cell.specs.declared.command.Command.{Command}
 use Rattle.volap_cell.specs.declared.command.Work.{Work}
 use Rattle.volap_cell.specs.declared.kind.Kind.TheVariants as kind
 use Rattle.core_image.specs.NotesDue.{CanNoteEnded, NotesEnd}
 use Rattle.core_image.proofs.Backed.{all-promised}
+use Rattle.core_image.proofs.BalanceEnds.{balance-ends}
 use Rattle.core_image.proofs.CallsEnd.{IsEnding, ended-kept}
 use Rattle.core_image.proofs.Endings.{ends-as}
 
 -- what a command is that may end so
-ending : (s : Setting) (w : World) (g : Ghost) (i : InvWith s (view s w) g) (n of : ℕ) (work : Work) (how : How) → ((b : Balance) → work ≢ work_is.Balance b) → (view s w).commands n ≡ doing of work → MayNoteEnd s.servers work ((view s w).jobs n) how
+ending : (s : Setting) (w : World) (g : Ghost) (i : InvWith s (view s w) g) (n of : ℕ) (work : Work) (how : How) → (view s w).commands n ≡ doing of work → MayNoteEnd s.servers work ((view s w).jobs n) how
     → IsEnding s (view s w).history g.placed of work ((view s w).jobs n) how
-ending s w g i n of work how no_balance has ends =
+ending s w g i n of work how has ends =
     let its : Command = record { of = of; work = work } in
     ends-as s (view s w) g i n of work has (i.telling.is_open n its has) (i.telling.progress n its has) how ends
-    (λ b is. absurd (no_balance b is))
+    (λ b is. subst (λ (x : Work). IsEnding s (view s w).history g.placed of x ((view s w).jobs n) how) (sym is)
+    (balance-ends s (view s w) g i n of b (has ∙ ap (doing of) is) how (subst (λ (x : Work). MayNoteEnd s.servers x ((view s w).jobs n) how) is ends)))
 
-ended-keeps : (hierarchy : List Dimension) (l : Change) (a b : ActorValue) (d : NotesEnded l a b) → ((k : Balance) → d.work ≢ work_is.Balance k) → Keeps hierarchy kind.Note (l ∷ []) a b (OfEnded d)
-ended-keeps hierarchy l a b d no_balance s w n g i_same i ag sight =
-    let here : (y : NotesEnded l (w.actors n) b) × ((k : Balance) → y.work ≢ work_is.Balance k) = subst (λ (z : ActorValue). (y : NotesEnded l z b) × ((k : Balance) → y.work ≢ work_is.Balance k)) (sym ag.actor_is) (d, no_balance) in
-    let x = here.0 in
+ended-keeps : (hierarchy : List Dimension) (l : Change) (a b : ActorValue) (d : NotesEnded l a b) → Keeps hierarchy kind.Note (l ∷ []) a b (OfEnded d)
+ended-keeps hierarchy l a b d s w n g i_same i ag sight =
+    let x : NotesEnded l (w.actors n) b = subst (λ (z : ActorValue). NotesEnded l z b) (sym ag.actor_is) d in
     let ends : MayNoteEnd s.servers x.work (w.actors n).job x.how_it_ends = subst (λ (z : Setting). MayNoteEnd z.servers x.work (w.actors n).job x.how_it_ends) (i.numbering.about n) x.ends in
-    ended-kept l b s w n g i (record { cells = ag.cells; actor_is = refl; free = λ y ne. ag.free y ne }) x (ending s w g i n x.of x.work x.how_it_ends here.1 x.command ends)
+    ended-kept l b s w n g i (record { cells = ag.cells; actor_is = refl; free = λ y ne. ag.free y ne }) x (ending s w g i n x.of x.work x.how_it_ends x.command ends)
 
 module _ (hs : List Dimension) (ledger_at : ℕ) (how : How) (ledger : CellValue) (a : ActorValue) (here : IsHere hs (held ledger_at ledger ∷ []) a) (due : CanNoteEnded how ledger a) (command : Command) (has : a.command ≡ Some command) (lv : LedgerValue) (ledger_is : ledger ≡ LedgerCell lv) where
   its-work : command.work ≡ due.work
@@ -54,7 +53,7 @@ module _ (hs : List Dimension) (ledger_at : ℕ) (how : How) (ledger : CellValue
 
   pub some-left : (left : ℕ) → left ≡ owes command.work → 0 < left
   some-left left is =
-      let some = (ending a.setting here.world here.inv.ghost_of here.inv.holds here.number due.of due.work how due.no_balance command-here ends-here).some in
+      let some = (ending a.setting here.world here.inv.ghost_of here.inv.holds here.number due.of due.work how command-here ends-here).some in
       let same = ap owes its-work in
       omega (arith, some, same, is)
 
@@ -77,4 +76,4 @@ module _ (hs : List Dimension) (ledger_at : ℕ) (how : How) (ledger : CellValue
         ended = record { ledger = lv; ledger_now = lv2; was = ledger_is; is = refl; history = notes.history; promised = omega (arith, promised, is); all_seen = all_seen };
         actor_is = refl;
       } in
-      record { does = OfEnded d; keeps = ended-keeps hs _ a _ d (λ k is. due.no_balance k (sym its-work ∙ is)) }
+      record { does = OfEnded d; keeps = ended-keeps hs _ a _ d }

@@ -1,6 +1,6 @@
 -- What the kinds ask that note an event which acknowledges and pulls nothing, beyond that their cells and their actor are those of a
 -- state; and what their inner functions do.
-use Rattle.std.specs.Prelude.{ℕ, ◌≡◌, ◌≢◌, ◌+◌, ◌<◌, ◌^◌, Bool, true, false, not, List, [], ◌∷◌, length, Option, Some, None}
+use Rattle.std.specs.Prelude.{ℕ, ◌≡◌, ◌+◌, ◌<◌, ◌^◌, Bool, true, false, not, List, [], ◌∷◌, length, Option, Some, None}
 use Rattle.dim_hierarchy.specs.Dimension.{Dimension}
 use Rattle.dim_hierarchy.specs.Row.{IsCoordOf}
 use Rattle.dim_hierarchy.specs.declared.row.Coord.{Coord}
@@ -19,7 +19,6 @@ use Rattle.volap_cell.specs.Cells.{CellValue, DeskOf, ImageOf, TheLedger, TheReg
 use Rattle.volap_cell.specs.Commands.{MayCall, MayNoteEnd}
 use Rattle.volap_cell.specs.ImageKinds.{IsBegun, IsFree, asks_registry, doing}
 use Rattle.volap_cell.specs.Values.{ActorValue, JobValue}
-use Rattle.volap_cell.specs.declared.command.Balance.{Balance}
 use Rattle.volap_cell.specs.declared.command.Work.{Work}
 use Rattle.volap_cell.specs.declared.command.Work.TheVariants as work_is
 use Rattle.volap_cell.specs.declared.command.Work.TheVariants.{Insert, Query}
@@ -142,12 +141,11 @@ abbrev pub Begins : ℕ → RegistryValue → Call → Work → Option JobValue 
 Begins workers r (call.Balance most) work job = IsBegun workers r (call.Balance most) work job × (most < 2 ^ 8)
 Begins workers r called work job = IsBegun workers r called work job
 
--- the actor's command, which is no balance, may end so by its own note
+-- the actor's command may end so by its own note
 pub record CanNoteEnded (how : How) (ledger : CellValue) (a : ActorValue) : Type 0 where
   pub of : ℕ
   pub work : Work
   pub command : a.command ≡ doing of work
-  pub no_balance : (b : Balance) → work ≢ work_is.Balance b
   pub ends : MayNoteEnd a.setting.servers work a.job how
   pub ledger_is : tag_of ledger ≡ TheLedger
 

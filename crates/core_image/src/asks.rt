@@ -1,5 +1,6 @@
 ghost use Rattle.std.specs.Prelude.{◌≡◌, [], ◌∷◌, OnOk, OnErr, IfOk, true, map, option_map};
 ghost use Rattle.core_image.specs.NotesDue.{CanNoteAsking, Begins};
+ghost use Rattle.core_image.specs.Told.{Tells, called_by};
 ghost use Rattle.volap_cell.specs.Cells.{cell_of};
 ghost use Rattle.volap_cell.specs.ImageKinds.{IsNewBalance, asks_registry, job_called, unread_load};
 ghost use Rattle.volap_cell.specs.Steps.{IsHere, Makes};
@@ -36,6 +37,7 @@ pub fn note_asking(
     ensures made { OnOk result (Makes h.now Note
         (change registry_at (cell_of registry.old) (cell_of registry.new) ∷ change ledger_at (cell_of ledger.old) (cell_of ledger.new) ∷ [])
         (actor_of actor.old) (actor_of actor.new)) }
+    ensures told { OnOk result (Tells (called_by call) (actor_of actor.old) (cell_of ledger.old) (cell_of ledger.new)) }
     ensures refused { OnErr result ((cell_of registry.new ≡ cell_of registry.old) × (cell_of ledger.new ≡ cell_of ledger.old) × (actor_of actor.new ≡ actor_of actor.old)) }
 {
     let _ = h;

@@ -1,6 +1,7 @@
 ghost use Rattle.std.specs.Prelude.{◌≡◌, [], ◌∷◌, OnOk, OnErr};
 ghost use Rattle.core_image.specs.NotesDue.{CanBeginInsert, Opens};
 ghost use Rattle.row_ledger.specs.declared.event.Event.TheVariants.{Begun};
+ghost use Rattle.core_image.specs.Told.{Tells, begun_by};
 ghost use Rattle.volap_cell.specs.Cells.{cell_of};
 ghost use Rattle.volap_cell.specs.Steps.{IsHere, Makes};
 ghost use Rattle.volap_cell.specs.Values.{actor_of};
@@ -32,6 +33,7 @@ pub fn begin_insert(
     ensures made { OnOk result (Makes h.now BeginInsert
         (change image_at (cell_of image.old) (cell_of image.new) ∷ change ledger_at (cell_of ledger.old) (cell_of ledger.new) ∷ [])
         (actor_of actor.old) (actor_of actor.new)) }
+    ensures told { OnOk result (Tells (begun_by at measure) (actor_of actor.old) (cell_of ledger.old) (cell_of ledger.new)) }
     ensures refused { OnErr result ((cell_of image.new ≡ cell_of image.old) × (cell_of ledger.new ≡ cell_of ledger.old) × (actor_of actor.new ≡ actor_of actor.old)) }
 {
     let _ = alloc;

@@ -1,6 +1,7 @@
 ghost use Rattle.std.specs.Prelude.{◌≡◌, ◌+◌, [], ◌∷◌, OnOk, OnErr, false};
 ghost use Rattle.core_image.specs.NotesDue.{CanNoteCalled, Notes, work_alone};
 ghost use Rattle.row_ledger.specs.declared.event.Event.TheVariants.{Called};
+ghost use Rattle.core_image.specs.Told.{Tells, called_by};
 ghost use Rattle.volap_cell.specs.Cells.{cell_of};
 ghost use Rattle.volap_cell.specs.Commands.{owes};
 ghost use Rattle.volap_cell.specs.ImageKinds.{asks_registry};
@@ -28,6 +29,7 @@ pub fn note_called(
     requires here { IsHere h.now (held ledger_at (cell_of ledger.old) ∷ []) (actor_of actor.old) }
     requires due { CanNoteCalled call (cell_of ledger.old) (actor_of actor.old) }
     ensures made { OnOk result (Makes h.now Note (change ledger_at (cell_of ledger.old) (cell_of ledger.new) ∷ []) (actor_of actor.old) (actor_of actor.new)) }
+    ensures told { OnOk result (Tells (called_by call) (actor_of actor.old) (cell_of ledger.old) (cell_of ledger.new)) }
     ensures refused { OnErr result ((cell_of ledger.new ≡ cell_of ledger.old) × (actor_of actor.new ≡ actor_of actor.old)) }
 {
     let _ = h;

@@ -1,4 +1,4 @@
-ghost use Rattle.std.specs.Prelude.{◌<◌, ◌≤◌, [], ◌∷◌};
+ghost use Rattle.std.specs.Prelude.{◌≡◌, ◌<◌, ◌≤◌, [], ◌∷◌, None};
 ghost use Rattle.core_image.specs.NotesDue.{CanNoteEnded, NotesEnd};
 ghost use Rattle.volap_cell.specs.Cells.{cell_of};
 ghost use Rattle.volap_cell.specs.Steps.{IsHere, Makes};
@@ -11,12 +11,13 @@ use dim_hierarchy::Hierarchy;
 use row_ledger::{Event, How, Ledger};
 use volap_cell::{Actor, Cell};
 
-/// Ends the actor's command that is no insert, no query and no balance, and its job where it has
-/// one. The promises that it didn't need are given back. Takes no memory.
+/// Ends the actor's command that is no insert and no query, and its job where it has one. The
+/// promises that it didn't need are given back. Takes no memory.
 pub fn note_ended(h: &Hierarchy, ledger_at: u32, ledger: &mut Cell, actor: &mut Actor, how: How)
     requires here { IsHere h.now (held ledger_at (cell_of ledger.old) ∷ []) (actor_of actor.old) }
     requires due { CanNoteEnded how (cell_of ledger.old) (actor_of actor.old) }
     ensures made { Makes h.now Note (change ledger_at (cell_of ledger.old) (cell_of ledger.new) ∷ []) (actor_of actor.old) (actor_of actor.new) }
+    ensures over { (actor_of actor.new).command ≡ None }
 {
     let _ = h;
     let Cell::Ledger(ledger) = ledger else {

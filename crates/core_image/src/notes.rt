@@ -1,6 +1,7 @@
 ghost use Rattle.std.specs.Prelude.{◌≡◌, [], ◌∷◌, OnOk, OnErr};
 ghost use Rattle.core_image.specs.NotesDue.{CanNoteRefused, CanNoteUnknown, Notes};
 ghost use Rattle.row_ledger.specs.declared.event.Event.TheVariants.{Refused, Unknown};
+ghost use Rattle.core_image.specs.Told.{Tells, refused_by, unknown_by};
 ghost use Rattle.volap_cell.specs.Cells.{cell_of};
 ghost use Rattle.volap_cell.specs.Steps.{IsHere, Makes};
 ghost use Rattle.volap_cell.specs.Values.{actor_of};
@@ -24,6 +25,7 @@ pub fn note_unknown(
     requires here { IsHere h.now (held ledger_at (cell_of ledger.old) ∷ []) (actor_of actor.old) }
     requires due { CanNoteUnknown (cell_of ledger.old) (actor_of actor.old) }
     ensures made { OnOk result (Makes h.now Note (change ledger_at (cell_of ledger.old) (cell_of ledger.new) ∷ []) (actor_of actor.old) (actor_of actor.new)) }
+    ensures told { OnOk result (Tells (unknown_by dim) (actor_of actor.old) (cell_of ledger.old) (cell_of ledger.new)) }
     ensures refused { OnErr result ((cell_of ledger.new ≡ cell_of ledger.old) × (actor_of actor.new ≡ actor_of actor.old)) }
 {
     let _ = h;
@@ -49,6 +51,7 @@ pub fn note_refused(
     requires here { IsHere h.now (held ledger_at (cell_of ledger.old) ∷ []) (actor_of actor.old) }
     requires due { CanNoteRefused (cell_of ledger.old) (actor_of actor.old) }
     ensures made { OnOk result (Makes h.now Note (change ledger_at (cell_of ledger.old) (cell_of ledger.new) ∷ []) (actor_of actor.old) (actor_of actor.new)) }
+    ensures told { OnOk result (Tells refused_by (actor_of actor.old) (cell_of ledger.old) (cell_of ledger.new)) }
     ensures refused { OnErr result ((cell_of ledger.new ≡ cell_of ledger.old) × (actor_of actor.new ≡ actor_of actor.old)) }
 {
     let _ = h;

@@ -1,5 +1,6 @@
 ghost use Rattle.std.specs.Prelude.{◌≡◌, ◌+◌, ◌<◌, ◌≤◌, [], ◌∷◌, ◌++◌, length, map, vec_len, vec_capacity, IfOk, OnOk, OnErr};
 ghost use Rattle.core_image.specs.Asking.{CanBeginQuery, CanAsk, Asks};
+ghost use Rattle.core_image.specs.Told.{Tells, asked_by};
 ghost use Rattle.volap_cell.specs.Cells.{cell_of};
 ghost use Rattle.volap_cell.specs.ImageKinds.{query_part};
 ghost use Rattle.volap_cell.specs.Steps.{IsHere, Makes};
@@ -39,6 +40,7 @@ pub fn begin_query(
         (change desk_at (cell_of desk.old) (cell_of desk.new) ∷ change image_at (cell_of image.old) (cell_of image.new)
         ∷ change ledger_at (cell_of ledger.old) (cell_of ledger.new) ∷ [])
         (actor_of actor.old) (actor_of actor.new)) }
+    ensures told { OnOk result (Tells (asked_by filter) (actor_of actor.old) (cell_of ledger.old) (cell_of ledger.new)) }
     ensures refused { OnErr result ((cell_of desk.new ≡ cell_of desk.old) × (cell_of image.new ≡ cell_of image.old)
         × (cell_of ledger.new ≡ cell_of ledger.old) × (actor_of actor.new ≡ actor_of actor.old)) }
 {

@@ -1,7 +1,7 @@
 -- What an actor's part becomes where its shard was split: a row's waits for the child on its side, and a query's for both.
-use Rattle.std.proofs.Common.{◌≡◌, ◌≢◌, ℕ, ◌<◌, ◌≤◌, List, [], ◌∷◌, ◌++◌, Bool, true, false, not, eqb, Option, Some, None, refl, sym, ap, subst, ◌∙◌, ◌⊎◌, inl, inr, arith, All, Any, Contains, ◌==◌, ◌&&◌, ◌||◌}
+use Rattle.std.proofs.Common.{◌≡◌, ◌≢◌, ℕ, ◌<◌, List, [], ◌∷◌, ◌++◌, Bool, true, false, not, Option, Some, None, refl, sym, ap, subst, ◌∙◌, ◌⊎◌, inl, inr, arith, All, Any, Contains, ◌==◌, ◌&&◌, ◌||◌}
 use Rattle.std.specs.Prelude.{IsSome, IsTrue, if◌then◌else◌}
-use Rattle.std.proofs.lemmas.Bool.{and_parts, eq-eqb, eqb-true, false≢true, or_cases}
+use Rattle.std.proofs.lemmas.Bool.{false≢true}
 use Rattle.std.proofs.lemmas.List.Elements.{All-cons, All-contains, All-nil, All-weaker, Contains-append_left, Contains-append_right}
 use Rattle.describing_set.specs.declared.listing.Spot.{Spot}
 use Rattle.describing_set.specs.declared.plane.Plane.{Plane}
@@ -10,28 +10,26 @@ use Rattle.mapping_table.specs.declared.place.Where.TheVariants as where_is
 use Rattle.query_router.specs.Desk.{is_open, is_refused, is_taken, is_with}
 use Rattle.query_router.specs.declared.part.Part.{Part}
 use Rattle.query_router.specs.declared.part.Want.TheVariants as want
-use Rattle.row_ledger.specs.Past.{Insert, Query, insert_at, last_of, query_at}
+use Rattle.row_ledger.specs.Past.{Query, query_at}
 use Rattle.row_ledger.specs.Shards.{comes_from, ids_made, is_child}
 use Rattle.row_ledger.proofs.Descent.{WasSplit, comes_from-child, split-made}
-use Rattle.tree_shape.specs.Counts.{times}
-use Rattle.tree_shape.specs.Queries.{fits}
-use Rattle.tree_shape.proofs.Walks.{on_bool, eqb-eq, eqb-ne, eqb-no, eqb-self}
-use Rattle.volap_cell.specs.Desking.{AreLinesApart, AreUnrelated, IsInsertState, IsQueryState}
-use Rattle.volap_cell.specs.Errands.{Outside, RowWay, has_passed, place_of, read_in_task, taken_by, want_of, way_in_task}
+use Rattle.tree_shape.proofs.Walks.{eqb-no, eqb-self}
+use Rattle.volap_cell.specs.Desking.{AreUnrelated, HasNoPath, IsQueryState}
+use Rattle.volap_cell.specs.Errands.{Outside, RowWay, has_passed, place_of, read_in_task, taken_by, way_in_task}
 use Rattle.volap_cell.specs.Ghost.{Ghost}
-use Rattle.volap_cell.specs.Growing.{IsUnder, table_of}
+use Rattle.volap_cell.specs.Growing.{IsUnder}
 use Rattle.volap_cell.specs.Invariant.{InvWith}
-use Rattle.volap_cell.specs.Placing.{IsLead, IsRowPart}
-use Rattle.volap_cell.specs.Querying.{IsCounted, IsEndOfPart, must_hold}
+use Rattle.volap_cell.specs.Placing.{IsLead}
+use Rattle.volap_cell.specs.Querying.{IsCounted, IsEndOfPart}
 use Rattle.volap_cell.specs.Setting.{Setting, site_in}
 use Rattle.volap_cell.specs.ShardKinds.{waiting}
-use Rattle.volap_cell.specs.Values.{ErrandValue, OfRow, TaskValue, Unread}
+use Rattle.volap_cell.specs.Values.{ErrandValue, OfRow, Unread}
 use Rattle.volap_cell.specs.View.{View}
 use Rattle.volap_cell.specs.declared.errand.RowErrand.{RowErrand}
 use Rattle.volap_cell.proofs.Fields.{IsNewAt}
 use Rattle.volap_cell.proofs.Lines.{AreChildren, are-children, comes-made, comes_from-through, last-on, path-on}
 use Rattle.volap_cell.proofs.PartLists.{Contains-head, any-of}
-use Rattle.core_shard.proofs.BackFacts.{at, row-no-query, unread-filter, unread-no-insert, wants}
+use Rattle.core_shard.proofs.BackFacts.{row-no-query, unread-filter, unread-no-insert, wants}
 use Rattle.core_shard.proofs.GoesBack.{AreParts}
 use Rattle.core_shard.proofs.OnePart.{all-one, its-shard, unrelated}
 use Rattle.core_shard.proofs.RowBack.{row-nobody, row-on, row-passed, row-want}
@@ -95,9 +93,14 @@ module _ (s : Setting) (v : View) (g : Ghost) (i : InvWith s v g) (n : ℕ) (e :
     row-child = record {
       none_taken = all-one (λ (p : Part). is_taken p ≡ false) child-part refl;
       leads = all-one (λ (p : Part). is_open p ≡ true → (p.worker < s.workers) × IsSome (v.maps p.worker p.shard)) child-part (λ opened. (worker_is, its-table));
-      insert = λ x begun. (child-part, refl, row-want s v g i n e takes goes r is x begun,
-          (row-passed s v g i n e takes goes r is ∙ ap has_passed outside, row-nobody s v g i n e takes goes r is ways_now ways, lead));
+      insert = λ x begun. (
+        child-part,
+        refl,
+        row-want s v g i n e takes goes r is x begun,
+        (row-passed s v g i n e takes goes r is ∙ ap has_passed outside, row-nobody s v g i n e takes goes r is ways_now ways, lead),
+      );
       query = λ q asked. absurd (row-no-query s v g i n e takes r is q asked);
+      pathless = λ q asked. absurd (row-no-query s v g i n e takes r is q asked);
       counts = λ q asked. absurd (row-no-query s v g i n e takes r is q asked);
       ends = λ q asked. absurd (row-no-query s v g i n e takes r is q asked);
       apart = λ q asked. absurd (row-no-query s v g i n e takes r is q asked);
@@ -145,9 +148,9 @@ module _ (s : Setting) (v : View) (g : Ghost) (i : InvWith s v g) (n : ℕ) (e :
             | inr more ↦ false≢true (sym lines.1 ∙ more)
           ]),
           is-no (comes_from v.history child p.shard) (λ comes.
-          let each = i.telling.right.right.each in
-          let below : p.shard < ids_made s.workers v.history = elim (comes-made (site_in s) g.placed v.history child p.shard each comes) [ | inl same ↦ omega (arith, same, made) | inr lt ↦ lt ] in
-          false≢true (sym lines.0 ∙ comes_from-through (site_in s) g.placed v.history e.shard child p.shard each below from comes)),
+              let each = i.telling.right.right.each in
+              let below : p.shard < ids_made s.workers v.history = elim (comes-made (site_in s) g.placed v.history child p.shard each comes) [ inl same ↦ omega (arith, same, made) | inr lt ↦ lt ] in
+              false≢true (sym lines.0 ∙ comes_from-through (site_in s) g.placed v.history e.shard child p.shard each below from comes)),
         )
       where
         is-no : (b : Bool) → (b ≡ true → ⊥) → b ≡ false
@@ -178,14 +181,15 @@ module _ (s : Setting) (v : View) (g : Ghost) (i : InvWith s v g) (n : ℕ) (e :
       leads = all-two (λ (p : Part). is_open p ≡ true → (p.worker < s.workers) × IsSome (v.maps p.worker p.shard)) (λ opened. (worker_is, tables.3)) (λ opened. (worker_is, tables.4));
       insert = λ x begun. absurd (unread-no-insert s v g i n e takes f is x begun);
       query = λ q asked. let w = ap want.Filter (sym (unread-filter s v g i n e takes f is q asked)) in all-two (λ (p : Part). IsQueryState q p.state) w w;
+      pathless = λ q asked. all-two HasNoPath refl refl;
       counts = λ q asked. all-two (λ (p : Part). is_refused p ≡ false → IsCounted s v.history v.row g.placed g.home q p.shard (now e.server p.shard)) (λ kept. none-counted q left (now e.server left) none-left) (λ kept. none-counted q right (now e.server right) none-right);
       ends = λ q asked. all-two (λ (p : Part). IsEndOfPart s v.history v.row g.placed g.home of q p.shard (now e.server p.shard) p.state) none-left none-right;
       apart = λ q asked. (
         (all-one (AreUnrelated v.history left-part) right-part (children.left_right, children.right_left), (All-nil (AreUnrelated v.history right-part), tt)),
         λ p other has new.
-        let l = child-apart q asked left children.from_left children.above_left made.1 p has in
-        let r = child-apart q asked right children.from_right children.above_right made.2 p has in
-        All-contains (AreUnrelated v.history p) (left-part ∷ right-part ∷ []) other (all-two (AreUnrelated v.history p) l r) new,
+            let l = child-apart q asked left children.from_left children.above_left made.1 p has in
+            let r = child-apart q asked right children.from_right children.above_right made.2 p has in
+            All-contains (AreUnrelated v.history p) (left-part ∷ right-part ∷ []) other (all-two (AreUnrelated v.history p) l r) new,
       );
       whole = λ q asked r must fit under.
           let u : IsUnder v.history g.placed g.home e.shard r = subst (λ (x : ℕ). IsUnder v.history g.placed g.home x r) (its-shard s v g i n e takes before behind old was with) under in

@@ -1,25 +1,24 @@
 -- A part goes on to the children of its shard: the invariant holds still, and less is left.
-use Rattle.std.proofs.Common.{◌≡◌, ◌≢◌, ℕ, ◌+◌, ◌*◌, ◌-◌, ◌<◌, ◌≤◌, List, [], ◌∷◌, ◌++◌, Bool, true, false, take, drop, Option, Some, None, refl, sym, ap, subst, ◌∙◌, ◌⊎◌, inl, inr, arith, All}
-use Rattle.std.specs.Prelude.{IsSome, if◌then◌else◌, slice_set, sum_by}
+use Rattle.std.proofs.Common.{◌≡◌, ℕ, ◌+◌, ◌*◌, ◌-◌, ◌<◌, ◌≤◌, List, [], ◌∷◌, ◌++◌, Bool, true, false, take, drop, Some, None, refl, sym, ap, subst, ◌⊎◌, inl, inr, arith}
+use Rattle.std.specs.Prelude.{if◌then◌else◌, slice_set, sum_by}
 use Rattle.std.proofs.Math.Nat.{mul-add}
 use Rattle.std.proofs.lemmas.Nat.{mul-le}
 use Rattle.describing_set.specs.Plane.{goes_left}
 use Rattle.dim_hierarchy.specs.Dimension.{Dimension}
 use Rattle.dim_hierarchy.specs.declared.filter.Pick.{Pick}
 use Rattle.mapping_table.specs.declared.place.Where.TheVariants as where_is
-use Rattle.query_router.specs.Desk.{DeskValue, expanded, is_with}
+use Rattle.query_router.specs.Desk.{DeskValue, expanded}
 use Rattle.query_router.specs.declared.part.Part.{Part}
 use Rattle.query_router.specs.declared.part.PartState.TheVariants as state
 use Rattle.query_router.specs.declared.part.Want.TheVariants as want
 use Rattle.row_ledger.specs.declared.event.Event.{Event}
 use Rattle.volap_cell.specs.Cells.{tag_of}
-use Rattle.volap_cell.specs.Desking.{IsAtPart}
 use Rattle.volap_cell.specs.Errands.{Outside, place_of, taken_by}
-use Rattle.volap_cell.specs.Falls.{GoesOn, far, gates_of_errand, gates_of_part, gates_of_state, gates_of_task, gates_of_way, left, per_query, queries_of_errand, queries_of_state, queries_of_task, rows_of_errand, rows_of_part, rows_of_task, rows_of_way}
+use Rattle.volap_cell.specs.Falls.{GoesOn, far, gates_of_errand, gates_of_part, gates_of_state, gates_of_task, gates_of_way, left, per_query, queries_of_errand, queries_of_state, queries_of_task, rows_of_errand, rows_of_part, rows_of_task}
 use Rattle.volap_cell.specs.Ghost.{Ghost}
 use Rattle.volap_cell.specs.Invariant.{InvWith}
 use Rattle.volap_cell.specs.Setting.{Setting, actor_count, site_in}
-use Rattle.volap_cell.specs.ShardKinds.{DoesExpand, IsOutside, PutsBack, PutsChildren, PutsOne, PutsTwo, TurnsDesk, child_for, waiting}
+use Rattle.volap_cell.specs.ShardKinds.{DoesExpand, IsOutside, PutsChildren, child_for, waiting}
 use Rattle.volap_cell.specs.Steps.{IsKept, Keeps}
 use Rattle.volap_cell.specs.Values.{ActorValue, ErrandValue, OfRow, Read, TaskValue, Unread}
 use Rattle.volap_cell.specs.View.{View, view}
@@ -35,7 +34,7 @@ use Rattle.volap_cell.proofs.PartLists.{place-splits}
 use Rattle.volap_cell.proofs.PartViews.{view-expand}
 use Rattle.volap_cell.proofs.Persons.{has-taken}
 use Rattle.core_shard.proofs.BackFacts.{IsInPlace, back-reads, back-taken, back-ways, in-place, one-turned}
-use Rattle.core_shard.proofs.ChildrenWait.{child-part, left-part, nothing_yet, right-part, row-child, two-children}
+use Rattle.core_shard.proofs.ChildrenWait.{nothing_yet, row-child, two-children}
 use Rattle.core_shard.proofs.FarLess.{far-split}
 use Rattle.core_shard.proofs.FinishesPart.{gates-outside, taken-state}
 use Rattle.core_shard.proofs.ForwardsPart.{outside-pins, outside-tree}

@@ -1,5 +1,5 @@
 -- How far a part may still go falls where it goes on: to the worker of a move, or to the children of a split.
-use Rattle.std.proofs.Common.{◌≡◌, ℕ, ◌<◌, ◌≤◌, List, [], ◌∷◌, length, Bool, true, false, Option, Some, None, refl, sym, ap, subst, ◌∙◌, ◌⊎◌, inl, inr, arith, ◌==◌, zero, suc, Contains, ◌+◌, ◌*◌}
+use Rattle.std.proofs.Common.{◌≡◌, ℕ, ◌<◌, ◌≤◌, List, [], ◌∷◌, length, Bool, true, false, Option, Some, None, refl, sym, ap, subst, ◌∙◌, ◌⊎◌, inl, inr, arith, ◌==◌, zero, suc, Contains, ◌+◌}
 use Rattle.std.specs.Prelude.{if◌then◌else◌, nat_le}
 use Rattle.std.proofs.lemmas.Bool.{eq-eqb, eqb-true, false≢true, le-leb, leb-true, lt-leb}
 use Rattle.row_ledger.specs.Shards.{comes_from, ids_made, left_at}
@@ -121,7 +121,7 @@ module _ (site : Site) (usable : ℕ → Bool) (h : List Event) (each : EachEven
   made = split-made site usable h x l r each was
 
   made-below : (y z : ℕ) → y < ids_made site.workers h → comes_from h y z ≡ true → z < ids_made site.workers h
-  made-below y z below comes = elim (comes-made site usable h y z each comes) [ | inl same ↦ omega (arith, same, below) | inr is ↦ is ]
+  made-below y z below comes = elim (comes-made site usable h y z each comes) [ inl same ↦ omega (arith, same, below) | inr is ↦ is ]
 
   -- what comes from a child comes from the shard, and not from the other child
   one-child : (z : ℕ) → once (comes_from h l z) + once (comes_from h r z) ≤ once (comes_from h x z)
@@ -129,6 +129,7 @@ module _ (site : Site) (usable : ℕ → Bool) (h : List Event) (each : EachEven
     where
       through : (y : ℕ) → y < ids_made site.workers h → comes_from h x y ≡ true → comes_from h y z ≡ true → once (comes_from h x z) ≡ 1
       through y below upper lower = ap once (comes_from-through site usable h x y z each (made-below y z below lower) upper lower)
+
       at : (a : Bool) → comes_from h l z ≡ a → (b : Bool) → comes_from h r z ≡ b → once a + once b ≤ once (comes_from h x z)
       at true left true right = elim (comes_from-comparable site usable h l r z each (made-below l z made.1 left) left right) [
         | inl comes ↦ absurd (false≢true (sym its.left_right ∙ comes))

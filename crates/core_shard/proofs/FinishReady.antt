@@ -61,7 +61,7 @@ gate-at : (w : World) (gate_at : ℕ) (gate : CellValue) (desk_at : ℕ) (desk :
 gate-at w gate_at gate desk_at desk n a ag = ag.cells.0
 
 -- a cell in which a gate is seen
-is-gate : (c : CellValue) (x : ℕ) → gate_shard c ≡ Some x → (gate : Gate) × (c ≡ GateCell gate)
+pub is-gate : (c : CellValue) (x : ℕ) → gate_shard c ≡ Some x → (gate : Gate) × (c ≡ GateCell gate)
 is-gate (GateCell gate) x is = (gate, refl)
 is-gate _ x is = absurd (cc)
 

@@ -15,3 +15,6 @@ pub mod ForwardsPart
 pub mod ForwardReady
 pub mod ChildrenWait
 pub mod ExpandsPart
+pub mod ExpandReady
+pub mod NotesHeights
+pub mod Plans

@@ -1,22 +1,32 @@
 -- What a kind asks of the cells that it is given and of its actor, beyond that they are those of a state; and what its inner
 -- functions ask.
-use Rattle.std.specs.Prelude.{ℕ, ◌≡◌, ◌+◌, ◌<◌, ◌⊎◌, List, Option, Some, None, IsSome, position, slice_set}
+use Rattle.std.specs.Prelude.{ℕ, ◌≡◌, ◌+◌, ◌<◌, ◌⊎◌, List, Option, Some, None, IsSome, position, slice_set, [], ◌∷◌, ◌++◌, Bool}
 use Rattle.std.specs.FinMap as map
 use Rattle.std.specs.Ordering.{nat_cmp}
 use Rattle.mapping_table.specs.declared.place.Where.{Where}
 use Rattle.mapping_table.specs.declared.place.Where.TheVariants as where_is
-use Rattle.query_router.specs.Desk.{DeskValue, is_with}
+use Rattle.query_router.specs.Desk.{DeskValue, is_with, expanded}
 use Rattle.query_router.specs.declared.part.Part.{Part}
 use Rattle.query_router.specs.declared.part.PartState.TheVariants as state
 use Rattle.query_router.specs.declared.part.Want.{Want}
 use Rattle.query_router.specs.declared.part.PartState.{PartState}
 use Rattle.shard_store.specs.declared.gate.Gate.{Gate}
+use Rattle.dim_hierarchy.specs.Dimension.{Dimension}
+use Rattle.dim_hierarchy.specs.Row.{IsCoordOf}
+use Rattle.dim_hierarchy.specs.declared.filter.Pick.{Pick}
+use Rattle.describing_set.specs.Plane.{IsHierarchyPlane}
+use Rattle.describing_set.specs.declared.plane.Plane.{Plane}
+use Rattle.volap_cell.specs.TreeKinds.{HasRow}
+use Rattle.volap_cell.specs.declared.errand.RowErrand.{RowErrand}
+use Rattle.volap_cell.specs.declared.errand.Errand.{Errand}
+use Rattle.volap_cell.specs.declared.errand.Task.TheVariants as task_is
+use Rattle.query_router.specs.declared.part.Want.TheVariants as want
 use Rattle.volap_cell.specs.Cells.{CellValue, DeskOf, GateCell, MapOf, desk_in, tag_of, where_in}
 use Rattle.volap_cell.specs.Errands.{Outside, place_of}
-use Rattle.volap_cell.specs.ShardKinds.{IsDeskFor, IsOutcome, IsOutside, may_take, path_in, pin_of, waiting}
-use Rattle.volap_cell.specs.Values.{ActorValue, ErrandValue, OfRow, Read, TaskValue, Unread}
+use Rattle.volap_cell.specs.ShardKinds.{IsDeskFor, IsOutcome, IsOutside, may_take, path_in, pin_of, waiting, child_for}
+use Rattle.volap_cell.specs.Values.{ActorValue, ErrandValue, OfRow, Read, TaskValue, Unread, task_of}
 use Rattle.volap_cell.specs.declared.errand.Way.{Way}
-use Rattle.volap_cell.specs.declared.errand.Way.TheVariants.{Placed}
+use Rattle.volap_cell.specs.declared.errand.Way.TheVariants.{Placed, Before}
 use Rattle.volap_cell.specs.declared.role.Role.{Role}
 use Rattle.volap_cell.specs.declared.role.Role.TheVariants.{Session, Hand}
 
@@ -149,3 +159,97 @@ pub record Sends (table : map.FinMap nat_cmp Where) (desk desk_now : DeskValue) 
   pub place : ℕ
   pub found : position (is_with e.shard e.worker) desk.parts ≡ Some place
   pub puts : desk_now ≡ record desk { parts = slice_set desk.parts place part }
+
+-- Expanding.
+
+-- the actor's part is one of a shard that was split
+pub record CanExpand (map desk : CellValue) (a : ActorValue) : Type 0 where
+  pub e : ErrandValue
+  pub errand : a.errand ≡ Some e
+  pub out : IsOut e.task
+  pub map_is : tag_of map ≡ MapOf e.worker
+  pub plane : Plane
+  pub left : ℕ
+  pub right : ℕ
+  pub split : where_in map e.shard ≡ Some (where_is.Split plane left right)
+  pub desk_is : tag_of desk ≡ DeskOf e.server
+
+-- a row's coordinate is one of the hierarchy
+abbrev pub HasCoord : List Dimension → TaskValue → Type 0
+HasCoord h (OfRow r) = IsCoordOf h r.row.at
+HasCoord h _ = Unit {0}
+
+-- the errand's part stands on the desk, and its shard was split by a plane of the hierarchy
+pub record CanDivide (h : List Dimension) (table : map.FinMap nat_cmp Where) (desk : DeskValue) (errand : Option Errand) : Type 0 where
+  pub e : Errand
+  pub had : errand ≡ Some e
+  pub out : IsOut (task_of e.task)
+  pub coord : HasCoord h (task_of e.task)
+  pub found : IsSome (position (is_with e.shard e.worker) desk.parts)
+  pub plane : Plane
+  pub left : ℕ
+  pub right : ℕ
+  pub split : map.get table e.shard ≡ Some (where_is.Split plane left right)
+  pub valid : IsHierarchyPlane h plane
+
+-- the errand is one of a row before its gate, which has a side of the plane
+pub record CanGoDown (h : List Dimension) (plane : Plane) (errand : Option Errand) : Type 0 where
+  pub e : Errand
+  pub had : errand ≡ Some e
+  pub r : RowErrand
+  pub row : e.task ≡ task_is.Row r
+  pub outside : place_of r.way ≡ Outside
+  pub coord : IsCoordOf h r.row.at
+  pub valid : IsHierarchyPlane h plane
+
+-- the errand is one of a query's part that has read no gate
+pub record HasFilter (errand : Option Errand) : Type 0 where
+  pub e : Errand
+  pub had : errand ≡ Some e
+  pub filter : List Pick
+  pub unread : e.task ≡ task_is.Unread filter
+
+-- a row's part waits for the child on its side
+abbrev pub IsRowOn : List Dimension → Plane → (left right place : ℕ) → (desk desk_now : DeskValue) → Errand → RowErrand → Type 0
+IsRowOn h plane left right place desk desk_now e r =
+    desk_now ≡ record desk { parts = slice_set desk.parts place (waiting (child_for h plane left right r) e.worker (r.path ++ child_for h plane left right r ∷ []) (want.Row r.row)) }
+
+-- a query's part waits for both
+abbrev pub AreBothOn : (left right place : ℕ) → (desk desk_now : DeskValue) → Errand → Type 0
+AreBothOn left right place desk desk_now e =
+    (f : List Pick) → e.task ≡ task_is.Unread f
+    → desk_now ≡ record desk { parts = expanded desk.parts place (waiting left e.worker [] (want.Filter f)) (waiting right e.worker [] (want.Filter f)) }
+
+-- the one or the other
+abbrev pub PutsOn : List Dimension → ErrandValue → TaskValue → Plane → (left right place : ℕ) → (desk desk_now : DeskValue) → Type 0
+PutsOn h e (OfRow r) plane left right place desk desk_now =
+    desk_now ≡ record desk { parts = slice_set desk.parts place (waiting (child_for h plane left right r) e.worker (r.path ++ child_for h plane left right r ∷ []) (want.Row r.row)) }
+PutsOn h e (Unread f) plane left right place desk desk_now =
+    desk_now ≡ record desk { parts = expanded desk.parts place (waiting left e.worker [] (want.Filter f)) (waiting right e.worker [] (want.Filter f)) }
+PutsOn h e (Read r) plane left right place desk desk_now = ⊥
+
+pub record Divides (h : List Dimension) (table : map.FinMap nat_cmp Where) (desk desk_now : DeskValue) (e : ErrandValue) : Type 0 where
+  pub plane : Plane
+  pub left : ℕ
+  pub right : ℕ
+  pub split : map.get table e.shard ≡ Some (where_is.Split plane left right)
+  pub place : ℕ
+  pub found : position (is_with e.shard e.worker) desk.parts ≡ Some place
+  pub puts : PutsOn h e e.task plane left right place desk desk_now
+
+-- Looking up.
+
+-- the actor has a row before its gate, whose height isn't known, and the table leads to the gate that is held
+pub record CanLookUp (map : CellValue) (gate_at : ℕ) (gate : CellValue) (a : ActorValue) : Type 0 where
+  pub e : ErrandValue
+  pub r : RowErrand
+  pub has : HasRow a e r
+  pub filled : Bool
+  pub unknown : r.way ≡ Before None filled
+  pub map_is : tag_of map ≡ MapOf e.worker
+  pub leads : where_in map e.shard ≡ Some (where_is.Gate gate_at)
+
+-- the cell has a gate
+pub record HasGate (cell : CellValue) : Type 0 where
+  pub gate : Gate
+  pub is : cell ≡ GateCell gate

@@ -1,18 +1,17 @@
 //! A part whose shard has moved goes on to the worker that has it.
 ghost use Rattle.std.specs.Prelude.{◌≡◌, [], ◌∷◌};
-ghost use Rattle.core_shard.specs.Due.{CanForward, CanSend, IsOut, Sends, WaitsFor};
+ghost use Rattle.core_shard.specs.Due.{CanForward, CanSend, Sends};
 ghost use Rattle.volap_cell.specs.Cells.{cell_of};
 ghost use Rattle.volap_cell.specs.Steps.{IsHere, Makes};
 ghost use Rattle.volap_cell.specs.Values.{actor_of, errand_of};
 ghost use Rattle.volap_cell.specs.World.{change, held};
 ghost use Rattle.volap_cell.specs.declared.kind.Kind.TheVariants.{Forward};
 
-use crate::errands::leave;
-use describing_set::Path;
+use crate::errands::{leave, waiting};
 use dim_hierarchy::Hierarchy;
 use mapping_table::{MapTable, Where};
-use query_router::{Desk, Part, PartState, Want};
-use volap_cell::{Actor, Cell, Errand, Task};
+use query_router::Desk;
+use volap_cell::{Actor, Cell, Errand};
 
 /// Puts the actor's part back on its desk, where it waits for the worker to which the table says that
 /// its shard has moved. Takes no memory.
@@ -54,29 +53,4 @@ fn send(map: &MapTable, desk: &mut Desk, errand: Errand)
     };
     let part = waiting(errand, to, desk.no_path());
     desk.set(place, part);
-}
-
-/// The part that an errand has been, where it waits for a worker. The empty path is for a part that has
-/// none.
-fn waiting(errand: Errand, worker: u8, no_path: Path) -> Part
-    requires out { IsOut (errand_of errand).task }
-    requires empty { no_path ≡ [] }
-    ensures value { WaitsFor (errand_of errand) worker result }
-{
-    let Errand { shard, task, .. } = errand;
-    match task {
-        Task::Row(going) => Part {
-            shard,
-            worker,
-            path: going.path,
-            state: PartState::Waiting(Want::Row(going.row)),
-        },
-        Task::Unread(filter) => Part {
-            shard,
-            worker,
-            path: no_path,
-            state: PartState::Waiting(Want::Filter(filter)),
-        },
-        Task::Read(_) => unreachable!(),
-    }
 }

@@ -1,3 +1,5 @@
 pub mod Ready
 pub mod Staying
 pub mod AtTimes
+pub mod Adding
+pub mod Sights

@@ -4,6 +4,14 @@
 
 mod books;
 mod held;
+mod fails;
+mod notes;
+mod trees;
+
+pub use books::{ack, answer, begin_insert, begin_query, route, sync};
+pub use fails::{fail_query, fail_routed, fail_unrouted};
+pub use notes::{note_asking, note_called, note_ended, note_refused, note_unknown};
+pub use trees::put_in_leaf;
 mod parts;
 mod trees;
 

@@ -1,4 +1,5 @@
 -- The blocks behind a head that are held, and the cells for new blocks.
+use Rattle.std.specs.Option.{option_map, is_some}
 use Rattle.std.proofs.Common.{◌≡◌, ℕ, ◌≤◌, Bool, true, false, List, [], ◌∷◌, ◌++◌, length, Option, Some, None, refl, sym, ap, ◌∙◌, subst, ◌⊎◌, inl, inr, arith}
 use Rattle.dim_hierarchy.specs.Dimension.{Dimension}
 use Rattle.dim_hierarchy.specs.declared.row.Row.{Row}
@@ -104,6 +105,26 @@ filled-down full at x y purse purse2 items made for_new have = elim made [
       let m = one.1 in
       let asked = subst (λ (b : Bool). AreForNew b 1 purse (held_if at x)) one.0 for_new in
       subst (λ (fs : List Fresh). AreFilled fs (change_if at x y)) (sym m.items_are) (filled-one at x y purse purse2 items m asked.0 asked.1 (subst (λ (fs : List Fresh). HaveNew fs (x ∷ []) (y ∷ [])) m.items_are have).0)
+]
+
+-- which cells are there stays
+
+pub some-mapped : {A B : Type 0} (f : A → B) (o : Option A) → is_some (option_map f o) ≡ is_some o
+some-mapped f None = refl
+some-mapped f (Some x) = refl
+
+one-there : (items : List Fresh) (x : CellValue) (y : Option CellValue) → HaveNew items (Some x ∷ []) (y ∷ []) → is_some y ≡ true
+one-there [] x y have = (let same : y ≡ Some x = cc in ap is_some same)
+one-there (f ∷ []) x y have = ap is_some have.0
+one-there (f ∷ f2 ∷ items) x y have = absurd have.1
+
+pub held-down : (at : ℕ) (purse purse2 : List Spare) (items : List Fresh) (full : Bool) (x y : Option CellValue) → ((full ≡ false) × (items ≡ [])) ⊎ ((full ≡ true) × MakesOne purse purse2 items) → AreForNew full 1 purse (held_if at x)
+    → HaveNew items (x ∷ []) (y ∷ []) → is_some y ≡ is_some x
+held-down at purse purse2 items full (Some x) y made asked have = one-there items x y have
+held-down at purse purse2 items true None y made asked have = absurd (let one = asked.0 in omega arith)
+held-down at purse purse2 items false None y made asked have = elim made [
+  | inl none ↦ (let same : y ∷ [] ≡ None ∷ [] = subst (λ (fs : List Fresh). HaveNew fs (None ∷ []) (y ∷ [])) none.1 have in let is : y ≡ None = cc in ap is_some is)
+  | inr one ↦ (let no : false ≡ true = one.0 in cc)
 ]
 
 pub filled-length : (items : List Fresh) (cs : List Change) → AreFilled items cs → length cs ≡ length items

@@ -1,4 +1,5 @@
 -- The call that takes a row down: what its callee asks for, and what it did.
+use Rattle.std.specs.Prelude.{IfSome}
 use Rattle.std.proofs.Common.{◌≡◌, ℕ, ◌+◌, ◌*◌, ◌^◌, ◌<◌, ◌≤◌, Bool, true, List, [], ◌∷◌, ◌++◌, length, map, Option, Some, None, slice_get, get_or, All, refl, sym, ap, ◌∙◌, subst, inl, inr, arith}
 use Rattle.std.proofs.lemmas.Option.{slice_get_cases}
 use Rattle.std.proofs.lemmas.List.{length-map}
@@ -50,6 +51,12 @@ all-at P xs i x read all = elim (slice_get_cases xs i).1 [
   | inr k ↦ (let bad : Some x ≡ None = sym read ∙ k.1 in cc)
 ]
 
+pub if-at : {A : Type 0} (P : A → Type 0) (xs : List A) (i : ℕ) → All P xs → IfSome (slice_get xs i) P
+if-at {A = A} P xs i all = elim (slice_get_cases xs i).1 [
+  | inl k ↦ subst (λ (o : Option A). IfSome o P) (sym k.2) (subst P k.3 (all i k.0 k.1))
+  | inr k ↦ subst (λ (o : Option A). IfSome o P) (sym k.1) tt
+]
+
 pub some-at : {A : Type 0} (xs : List A) (i : ℕ) (x : A) → slice_get xs i ≡ Some x → 0 < length xs
 some-at xs i x read = elim (slice_get_cases xs i).1 [
   | inl k ↦ (let within = k.1 in omega arith)
@@ -57,7 +64,7 @@ some-at xs i x read = elim (slice_get_cases xs i).1 [
 ]
 
 -- what is known of the cells that were given
-pub record Given (parent child : CellValue) (tail : List Change) (h : List Dimension) (row : Row) (purse : List Spare) (boxes : ℕ) : Type 0 where
+pub record GivenDown (parent child : CellValue) (tail : List Change) (h : List Dimension) (row : Row) (purse : List Spare) (boxes : ℕ) : Type 0 where
   pub made : has_block child ≡ true
   pub can : CanStep h row (block_in parent) (block_in child) (blocks_of tail) purse boxes
 
@@ -165,7 +172,7 @@ module _ (gates : GateLaw) (blocks : BlockLaw) (childs : ChildLaw) (behinds : Be
         boxed = omega arith;
       }
 
-  pub given-down : Given parent child tail h r.row a.purse a.boxes
+  pub given-down : GivenDown parent child tail h r.row a.purse a.boxes
   given-down = record {
     made = ap has_block (sym k.agrees.cells.1.0) ∙ (i.stocking.tree gate child_at here.whole (ap shape.inside (sym due.child_is) ∙ below.inside) (λ e. below.block (due.child_is ∙ e))).1;
     can = subst (λ (x : List Dimension). CanStep x r.row (block_in parent) (block_in child) (blocks_of tail) a.purse a.boxes) k.about

@@ -1,6 +1,6 @@
 -- The call that takes a row in: what its callee asks for, and what it did.
 use Rattle.std.proofs.Common.{◌≡◌, ℕ, ◌+◌, ◌^◌, ◌<◌, ◌≤◌, Bool, true, false, List, [], ◌∷◌, ◌++◌, length, map, Option, Some, None, IsSome, All, refl, sym, ap, ◌∙◌, subst, ◌⊎◌, inl, inr, arith, append_assoc}
-use Rattle.std.specs.Option.{option_map, is_some}
+use Rattle.std.specs.Option.{is_some}
 use Rattle.std.proofs.lemmas.List.{length-map}
 use Rattle.dim_hierarchy.specs.Dimension.{Dimension, IsHierarchy}
 use Rattle.dim_hierarchy.specs.Row.{IsRowOf}
@@ -50,7 +50,7 @@ use Rattle.core_tree.proofs.Descents.{tail-blocks, tail-numbers}
 use Rattle.core_tree.proofs.EntersTree.{enter-keeps}
 
 -- what is known of the cells that were given
-pub record Given (root : CellValue) (gate : Gate) (tail : List Change) (h : List Dimension) (row : Row) (purse : List Spare) (boxes : ℕ) : Type 0 where
+pub record GivenIn (root : CellValue) (gate : Gate) (tail : List Change) (h : List Dimension) (row : Row) (purse : List Spare) (boxes : ℕ) : Type 0 where
   pub made : has_block root ≡ true
   pub can : CanComeIn h row gate (block_in root) (blocks_of tail) purse boxes
 
@@ -171,7 +171,7 @@ module _ (gates : GateLaw) (blocks : BlockLaw) (roots : RootLaw) (fits : RootBeh
         active = omega arith;
       }
 
-  pub given-in : Given root due.gate tail h due.r.row a.purse a.boxes
+  pub given-in : GivenIn root due.gate tail h due.r.row a.purse a.boxes
   given-in = record {
     made = ap has_block (sym k.agrees.cells.1.1.0) ∙ (i.stocking.tree gate_at root_at whole (ap shape.inside (sym root-at) ∙ below.inside) (λ e. below.block (root-at ∙ e))).1;
     can = subst (λ (x : List Dimension). CanComeIn x due.r.row due.gate (block_in root) (blocks_of tail) a.purse a.boxes) k.about
@@ -348,11 +348,7 @@ enter-makes other collects ins roots behinds h map_at map_ gate_at cell root_at 
     } in
     record { does = does; keeps = enter-keeps other collects ins roots behinds h _ _ _ _ a b does }
 
--- Which cells are there stays.
-
-pub some-mapped : {A B : Type 0} (f : A → B) (o : Option A) → is_some (option_map f o) ≡ is_some o
-some-mapped f None = refl
-some-mapped f (Some x) = refl
+-- Which of the two cells are there stays.
 
 both-there : (items : List Fresh) (x y : CellValue) (x2 y2 : Option CellValue) → HaveNew items (Some x ∷ Some y ∷ []) (x2 ∷ y2 ∷ []) → (is_some x2 ≡ true) × (is_some y2 ≡ true)
 both-there [] x y x2 y2 have = (let one : x2 ≡ Some x = cc in let two : y2 ≡ Some y = cc in (ap is_some one, ap is_some two))

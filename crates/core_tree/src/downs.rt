@@ -1,5 +1,6 @@
-ghost use Rattle.std.specs.Prelude.{ℕ, ◌≡◌, ◌+◌, ◌<◌, [], ◌∷◌, ◌++◌, length, map, option_map, is_some};
+ghost use Rattle.std.specs.Prelude.{ℕ, ◌≡◌, ◌+◌, ◌<◌, [], ◌∷◌, ◌++◌, Some, length, map, option_map, is_some, slice_get};
 ghost use Rattle.dc_node.specs.Block.{entries_in};
+ghost use Rattle.dc_node.specs.declared.entry.Entry.{Entry};
 ghost use Rattle.core_tree.specs.Descent.{CanDown, CanStep, block_if, blocks_if, two_if};
 ghost use Rattle.link_descent.specs.Pick.{IsPick};
 ghost use Rattle.volap_cell.specs.Cells.{cell_of};
@@ -12,11 +13,11 @@ ghost use Rattle.volap_cell.specs.declared.kind.Kind.TheVariants.{Down};
 use cell_stock::Purse;
 use dc_node::Block;
 use dim_hierarchy::{Hierarchy, Row};
-use link_descent::{Tail, pick};
+use link_descent::{Tail, pass_down, pick};
 use tree_shape::{collect_laws, frame_law, insert_laws, tree_laws};
 use volap_cell::{Actor, Boxes, Cell, Task, Way, go_on};
 
-/// The block of a cell that is held behind a head stands behind those of the tail.
+/// Lends the block of a cell that is held behind a head, where there is one, behind those of the tail.
 pub(crate) fn add_behind<'a>(tail: &mut Tail<'a>, cell: &'a Option<Cell>)
     requires room { length tail.old + length (block_if (option_map cell_of cell.now)) < 3 }
     ensures { tail.new ≡ tail.old ++ block_if (option_map cell_of cell.now) }
@@ -26,8 +27,17 @@ pub(crate) fn add_behind<'a>(tail: &mut Tail<'a>, cell: &'a Option<Cell>)
     }
 }
 
+/// The child to which the entry at a place of a directory leads.
+fn child_at(parent: &Block, place: u8) -> u32
+    requires { place < length (entries_in parent.now.body) }
+    ensures { (entry : Entry) × (slice_get (entries_in parent.now.body) place ≡ Some entry) × (result ≡ entry.child) }
+{
+    parent.entries()[usize::from(place)].child
+}
+
 /// Takes a row from a directory down to the child that comes first for it, with the blocks behind the
-/// child that are held. Tells where the row is carried then.
+/// child that are held. Where the child has room the row is counted beneath its entry, and that is all.
+/// Tells where the row is carried then.
 fn step(
     parent: &mut Block,
     child: &mut Block,
@@ -49,6 +59,11 @@ fn step(
 {
     let lineages = h.lineages(&row.at);
     let place = pick(parent, h, &lineages);
+    if !child.is_full() {
+        let at = child_at(parent, place);
+        pass_down(parent, place, h, row);
+        return at;
+    }
     let mut tail = Tail::none();
     add_behind(&mut tail, first);
     add_behind(&mut tail, second);

@@ -10,13 +10,14 @@ use crate::downs::add_behind;
 use cell_stock::Purse;
 use dc_node::Block;
 use dim_hierarchy::{Hierarchy, Row};
-use link_descent::Tail;
+use link_descent::{Tail, pass_root};
 use shard_store::Gate;
 use tree_shape::{collect_laws, frame_law, insert_laws, tree_laws};
 use volap_cell::{Actor, Boxes, Cell, Task, Way, go_on};
 
 /// Takes a row in at an open gate, with the blocks behind the root that are held, and counts the insert
-/// there. Tells where the row is carried then.
+/// there. Where the root has room the row is counted at the gate, and that is all. Tells where the row is
+/// carried then.
 fn come_in(
     gate: &mut Gate,
     root: &mut Block,
@@ -34,10 +35,16 @@ fn come_in(
         purse.old purse.new (option_map cell_of fresh.old) (option_map cell_of top.old) (option_map cell_of fresh.new) (option_map cell_of top.new)
         boxes.old boxes.new result }
 {
+    let active = gate.active + 1;
+    if !root.is_full() {
+        let at = gate.root;
+        pass_root(gate, h, row);
+        gate.active = active;
+        return at;
+    }
     let mut tail = Tail::none();
     add_behind(&mut tail, first);
     add_behind(&mut tail, second);
-    let active = gate.active + 1;
     let at = boxes.enter_root(gate, root, &tail, fresh, top, purse, h, row);
     gate.active = active;
     at

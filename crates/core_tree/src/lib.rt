@@ -2,8 +2,8 @@
 #![tactic(auto)]
 
 mod downs;
-mod leaves;
 mod enters;
+mod leaves;
 mod puts;
 mod queues;
 mod reads;
@@ -11,8 +11,8 @@ mod refills;
 mod visits;
 
 pub use downs::down;
-pub use leaves::leave_tree;
 pub use enters::enter_tree;
+pub use leaves::leave_tree;
 pub use puts::put_in_leaf;
 pub use queues::enter_queue;
 pub use reads::{all_is_read_at_the_gate, gate_read};

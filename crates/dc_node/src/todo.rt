@@ -1,4 +1,5 @@
-ghost use Rattle.std.specs.Prelude.{◌≡◌, ◌==◌, ◌+◌, ◌<◌, ◌≤◌, ◌∷◌, ◌++◌, [], length, MatchOption, IsOk, OnOk};
+ghost use Rattle.std.specs.Prelude.{◌≡◌, ◌==◌, ◌+◌, ◌<◌, ◌≤◌, ◌∷◌, ◌++◌, [], List, length, MatchOption, IsOk, OnOk};
+ghost use Rattle.dc_node.specs.declared.todo.Item as noted;
 
 use std::alloc::{AllocError, Global};
 use std::marker::Model;
@@ -64,6 +65,16 @@ impl Todo {
         ensures room { self.old.room ≤ self.new.room }
     {
         self.items.pop()
+    }
+
+    /// The block that `pop` would take out: the one that was noted last.
+    pub fn last(&self) -> Option<Item>
+        ensures { MatchOption result
+            (self.now.items ≡ [])
+            (λ item. (front : List noted.Item) × (self.now.items ≡ front ++ item ∷ [])) }
+    {
+        let at = self.items.len().checked_sub(1)?;
+        Some(self.items[at])
     }
 
     /// How many blocks are noted.

@@ -328,8 +328,8 @@ impl Hierarchy {
         }
     }
 
-    /// The first dimension with a name that is not that of a concept.
-    fn first_unknown(&self, names: &NameFilter) -> Option<u8>
+    /// The first dimension with a name that is not that of a concept. Takes no memory.
+    pub fn first_unknown(&self, names: &NameFilter) -> Option<u8>
         requires { length names.now ≡ length self.now }
         ensures { result ≡ position is_none (picks self.now names.now) }
     {

@@ -72,7 +72,7 @@ fn expect<R: Abort + Threads + Wait + Sync>(
 fn trees_and_their_pages(rt: HostRuntime) -> Result<(), Fail> {
     let alloc = rt.alloc();
     // Cells, base, places in turn, inserts, further records, and the lines of these.
-    let rows: [(u64, &str, &[&str], usize, &str, &str); 7] = [
+    let rows: [(u64, &str, &[&str], usize, &str, &str); 8] = [
         (
             64,
             CITIES,
@@ -128,6 +128,14 @@ fn trees_and_their_pages(rt: HostRuntime) -> Result<(), Fail> {
             49,
             "tree,0\n",
             "50 tree 0 height 1 rows 49 queued 0\n50 node 0 leaf 3 49 49 49 1 1 2:0/1:0\n",
+        ),
+        (
+            256,
+            CITIES,
+            &["berlin"],
+            33,
+            "insert,0,1,munich\ninsert,0,1,munich\ninsert,0,1,munich\ninsert,0,1,munich\ninsert,0,1,munich\ninsert,0,1,munich\ninsert,0,1,munich\ninsert,0,1,munich\ninsert,0,1,munich\ninsert,0,1,munich\ninsert,0,1,munich\ninsert,0,1,munich\ninsert,0,1,munich\ninsert,0,1,munich\ninsert,0,1,munich\ninsert,0,1,munich\ntree,0\n",
+            "34 insert ok\n35 insert ok\n36 insert ok\n37 insert ok\n38 insert ok\n39 insert ok\n40 insert ok\n41 insert ok\n42 insert ok\n43 insert ok\n44 insert ok\n45 insert ok\n46 insert ok\n47 insert ok\n48 insert ok\n49 insert ok\n50 tree 0 height 2 rows 49 queued 0\n50 node 0 dir 1 2 49 49 1 1 2:0+1\n50 node 1 leaf 1 16 16 16 1 1 2:1\n50 node 1 leaf 2 33 33 33 1 1 2:0\n",
         ),
     ];
     for (cells, base, places, count, then, lines) in rows {

@@ -2,8 +2,10 @@
 //! to worker.
 #![tactic(auto)]
 
+mod copy;
 mod desk;
 mod part;
 
+pub use copy::copy_filter;
 pub use desk::Desk;
 pub use part::{Part, PartState, Verdict, Want};

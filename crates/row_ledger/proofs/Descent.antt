@@ -139,7 +139,7 @@ comes_from-older site usable past e x y stands made =
     at true same = rw (eqb-true y x same) (sym (comes_from-self past x))
     at false other = refl
 
-ids_made-older : (site : Site) (e : Event) (past : List Event) (x : ℕ) → x < ids_made site.workers past → x < ids_made site.workers (e ∷ past)
+pub ids_made-older : (site : Site) (e : Event) (past : List Event) (x : ℕ) → x < ids_made site.workers past → x < ids_made site.workers (e ∷ past)
 ids_made-older site (Split of shard left right) past x below = omega arith
 ids_made-older site _ past x below = below
 
@@ -227,6 +227,34 @@ live-apart site usable (Moved of shard worker ∷ past) x y each live_x live_y i
 live-apart site usable (e ∷ past) x y each live_x live_y is =
     live-apart site usable past x y each.1 live_x live_y
     (sym (comes_from-older site usable past e x y each.0 (live-made site usable past y each.1 live_y)) ∙ is)
+
+-- of the shards that have an id none comes from one that stands, but for that one itself
+pub live-last : (site : Site) (usable : ℕ → Bool) (past : List Event) (x y : ℕ)
+    → EachEvent (Stands site usable) past → is_live site.workers past x ≡ true → y < ids_made site.workers past → comes_from past x y ≡ true → y ≡ x
+live-last site usable [] x y each live made is = eqb-true y x is
+live-last site usable (Split of shard left right ∷ past) x y each live made is =
+    elim (or_cases (y == x) _ is) [
+      | inl same ↦ eqb-true y x same
+      | inr from ↦
+          let next : left ≡ ids_made site.workers past = each.0.next in
+          let after : right ≡ ids_made site.workers past + 1 = each.0.after in
+          let parent = parent_in-made site usable past (Split of shard left right) y each.1 each.0 made in
+          elim (live-split site.workers past of shard left right x live) [
+            | inl old ↦ at ((y == left) || (y == right)) old.1 (live-last site usable past x (parent_in (Split of shard left right) y) each.1 old.0 parent from)
+            | inr new ↦
+                let unmade : ids_made site.workers past ≤ x = elim new [ inl is_left ↦ omega arith | inr is_right ↦ omega arith ] in
+                absurd (comes_from-unmade site usable past x (parent_in (Split of shard left right) y) each.1 parent unmade from)
+          ]
+    ]
+  where
+    at : (v : Bool) → x ≢ shard → (if v then shard else y) ≡ x → y ≡ x
+    at true other same = absurd (other (sym same))
+    at false other same = same
+live-last site usable (Moved of shard worker ∷ past) x y each live made is =
+    let was : is_live site.workers past x ≡ true = sym (has-moved (frontier site.workers past) shard worker x) ∙ live in
+    live-last site usable past x y each.1 was made (sym (comes_from-older site usable past (Moved of shard worker) x y each.0 made) ∙ is)
+live-last site usable (e ∷ past) x y each live made is =
+    live-last site usable past x y each.1 live made (sym (comes_from-older site usable past e x y each.0 made) ∙ is)
 
 -- Split shards.
 

@@ -37,13 +37,16 @@ begun-at site usable (Begun m s r' ∷ past) r w (suc k, b, e) =
 begun-at site usable (e ∷ past) r w c = let f = begun-at site usable past r w.1 c in (f.0, f.1, begun_at-older past f.0 f.1 e r f.2)
 
 -- what events owe they owe before a position
-pub EachEvent-before : (site : Site) (usable : ℕ → Bool) (past : List Event) (o : ℕ) → EachEvent (Stands site usable) past → EachEvent (Stands site usable) (before past o)
-EachEvent-before site usable [] o w = tt
-EachEvent-before site usable (e ∷ past) o w = go (EachEvent-before site usable past o w.1) (nat_lt (length past) o)
+pub EachEvent-past : (P : List Event → Event → Type 0) (past : List Event) (o : ℕ) → EachEvent P past → EachEvent P (before past o)
+EachEvent-past P [] o w = tt
+EachEvent-past P (e ∷ past) o w = go (EachEvent-past P past o w.1) (nat_lt (length past) o)
   where
-    go : EachEvent (Stands site usable) (before past o) → (v : Bool) → EachEvent (Stands site usable) (if v then e ∷ past else before past o)
+    go : EachEvent P (before past o) → (v : Bool) → EachEvent P (if v then e ∷ past else before past o)
     go rest true = w
     go rest false = rest
+
+pub EachEvent-before : (site : Site) (usable : ℕ → Bool) (past : List Event) (o : ℕ) → EachEvent (Stands site usable) past → EachEvent (Stands site usable) (before past o)
+EachEvent-before site usable past o each = EachEvent-past (Stands site usable) past o each
 
 -- where none began since, what is begun was so before
 begun-before : (past : List Event) (o : ℕ) (r : Row) → o < length past → insert_at past o ≡ None → filter_map insert_in (since past o) ≡ [] → Contains (begun past) r → Contains (begun (before past o)) r

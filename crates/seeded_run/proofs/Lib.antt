@@ -3,8 +3,12 @@ pub mod Shrinks
 pub mod Cursors
 pub mod Waiting
 pub mod Ranks
+pub mod Limits
+pub mod Measure
+pub mod Counted
 pub mod Progress
 pub mod Movers
 pub mod Ends
 pub mod Orders
 pub mod Scripts
+pub mod Worlds

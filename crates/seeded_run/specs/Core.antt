@@ -19,6 +19,7 @@ pub record IsCore (h : List Dimension) (with : Use) (cells : List (Option Cell))
   pub hierarchy : s.hierarchy ≡ h
   pub servers : s.servers ≡ with.servers
   pub workers : s.workers ≡ with.workers
+  pub stock : s.stock_cells ≡ with.cells
   pub roles : AreScriptRoles s
   pub count : length actors ≡ actor_count s
   pub is : IsWorldOf cells actors w

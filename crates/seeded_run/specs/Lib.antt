@@ -1,3 +1,4 @@
+pub mod Worlds
 pub mod Core
 pub mod Rests
 pub mod Cursors
@@ -5,4 +6,7 @@ pub mod Due
 pub mod Can
 pub mod Laws
 pub mod Ranks
+pub mod Measure
 pub mod Progress
+pub mod Running
+pub mod Told

@@ -2,6 +2,7 @@
 ghost use Rattle.seeded_run.specs.Cursors.{CursorLaw, FirstLaw, LastLaw};
 ghost use Rattle.seeded_run.specs.Laws.{WholeLaw, RestLaw, IdleLaw, AtPartLaw, CarrierLaw, WantedLaw, FreeLaw, OrderLaw};
 ghost use Rattle.seeded_run.specs.Progress.{CanLaw, DueLaw, EndLaw, OrderEndLaw, ScriptLaw};
+ghost use Rattle.seeded_run.specs.Measure.{CountedLaw, FewerLaw, LimitsLaw, MostLaw, StepsLeftLaw};
 ghost use Rattle.seeded_run.specs.Ranks.{RankFallsLaw, StepFallsLaw, WaitingLaw};
 
 /// A stream has all its commands as the phase begins, and one less whenever one begins.
@@ -40,6 +41,23 @@ pub fn less_is_left()
     ensures rank { RankFallsLaw }
     ensures step { StepFallsLaw }
     ensures waiting { WaitingLaw }
+{}
+
+/// In each state that meets the invariant the lower three of the numbers of what is left are below limits
+/// that the size of the core gives.
+pub fn limits_hold()
+    ensures { LimitsLaw }
+{}
+
+/// So the steps of a phase can be counted: with each one fewer are left, if it doesn't count a session at its
+/// desk, and if the commands begin in turn. A step counts nobody that is no note, or that changes the history
+/// or its actor's command. For a core that one thread holds there is such a number as a phase begins, and a
+/// smaller one after each step.
+pub fn steps_run_out()
+    ensures step { StepsLeftLaw }
+    ensures counted { CountedLaw }
+    ensures most { MostLaw }
+    ensures fewer { FewerLaw }
 {}
 
 /// While an actor isn't idle, or a stream isn't at its end, something is due for somebody, and somebody

@@ -2,9 +2,10 @@
 #![tactic(auto)]
 
 mod laws;
+mod places;
 
 pub use laws::{
-    cursors_tell_rests, idle_actors_wait, less_is_left, one_steps_in_order, parts_go_on,
-    scripts_run_so, somebody_goes_on, streams_run_out,
+    cursors_tell_rests, idle_actors_wait, less_is_left, limits_hold, one_steps_in_order,
+    parts_go_on, scripts_run_so, somebody_goes_on, steps_run_out, streams_run_out,
 };
 pub use seeded_turns::Schedule;

@@ -88,7 +88,7 @@ module _ (s : Setting) (e : Event) (h : List Event) (stay : ShardsStay s.workers
     whose = i.whose;
     on_desk = i.on_desk;
     insert = λ server of insert within op is. let b = same server of within op in i.insert server of insert within op (sym b.0 ∙ is);
-    query = λ server of q within op is. let b = same server of within op in let t = i.query server of q within op (sym b.1 ∙ is) in (t.0, lines-grown (desks server).parts t.1);
+    query = λ server of q within op is. let b = same server of within op in let t = i.query server of q within op (sym b.1 ∙ is) in (t.0, lines-grown (desks server).parts t.1, t.2);
     takers = i.takers;
     at_parts = λ a t is. let p = i.at_parts a t is in record { within = p.within; of = p.of; op = p.op; wants = want-grown e h p.of t.want p.wants; part = p.part };
     one = i.one;

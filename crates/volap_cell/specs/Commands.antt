@@ -1,5 +1,5 @@
 -- Commands: who may make which, what each still owes the history, which pull is next, and how each may end.
-use Rattle.std.specs.Prelude.{ℕ, ◌≡◌, ◌+◌, ◌-◌, ⊤, Bool, true, false, nat_lt, List, Option, Some, None, length, if◌then◌else◌}
+use Rattle.std.specs.Prelude.{ℕ, ◌≡◌, ◌+◌, ◌-◌, ◌<◌, ⊤, Bool, true, false, nat_lt, List, Option, Some, None, length, if◌then◌else◌}
 use Rattle.shard_plan.specs.Balancing.{after_move}
 use Rattle.shard_plan.specs.declared.action.Action.{Action}
 use Rattle.shard_plan.specs.declared.action.Load.{Load}
@@ -101,13 +101,13 @@ EndsBalance b (how.Balanced done planned) = (done ≡ b.done) × (b.over ≡ pla
 EndsBalance b how.NoMemory = b.plan ≡ None
 EndsBalance b h = ⊥
 
--- how a command's own note may end it; what it did is behind it, or it found no memory
+-- how a command's own note may end it; what it did is behind it, or it found no memory for what is still to do
 abbrev pub MayNoteEnd : ℕ → Work → Option JobValue → How → Type 0
 MayNoteEnd servers work_is.Barrier job how.Fine = ⊤
 MayNoteEnd servers (work_is.Sync server pulled) job how.Fine = pulled ≡ true
-MayNoteEnd servers (work_is.Sync server pulled) job how.NoMemory = ⊤
+MayNoteEnd servers (work_is.Sync server pulled) job how.NoMemory = pulled ≡ false
 MayNoteEnd servers (work_is.Settle pulls) job how.Fine = pulls ≡ servers + servers
-MayNoteEnd servers (work_is.Settle pulls) job how.NoMemory = ⊤
+MayNoteEnd servers (work_is.Settle pulls) job how.NoMemory = pulls < servers + servers
 MayNoteEnd servers (work_is.Split shard) job h = EndsJob job h
 MayNoteEnd servers (work_is.Move shard worker) job h = EndsJob job h
 MayNoteEnd servers (work_is.Balance b) job h = EndsBalance b h

@@ -43,6 +43,7 @@ pub record IsFresh (s : Setting) (a : ℕ) (x : ActorValue) : Type 0 where
   pub seen : x.seen ≡ 0
   pub counted : x.counted ≡ false
   pub purse : x.purse ≡ []
+  pub boxes : x.boxes ≡ 0
   pub command : x.command ≡ None
   pub errand : x.errand ≡ None
   pub job : x.job ≡ None

@@ -4,6 +4,8 @@ use Rattle.volap_cell.specs.Cells.{LedgerCell, cell_of}
 use Rattle.volap_cell.specs.Values.{actor_of}
 use Rattle.core_image.proofs.NotesCall.{called-makes}
 use Rattle.core_image.proofs.calls.note_called.Goals as goal
+use Rattle.core_image.specs.Told.{called_by}
+use Rattle.core_image.proofs.Telling.{tells}
 
 pub returns-clause-made : goal.returns-clause-made
 returns-clause-made c =
@@ -11,3 +13,8 @@ returns-clause-made c =
     c.deref_mut.result.now (ap cell_of c.in-Ledger.is ∙ ap LedgerCell (sym c.deref_mut.ensures.value)) c.push_called.new.ledger
     _ (c.len-of.ensures.value ∙ ap (λ (l : LedgerValue). length l.history) (c.deref.ensures ∙ sym c.deref_mut.ensures.value))
     _ c.begun-work.ensures c.in_ok-push_called.ensures.ok _ (c.len-actor.ensures.value ∙ ap (λ (l : LedgerValue). length l.history) c.deref-2.ensures)
+
+pub returns-clause-told : goal.returns-clause-told
+returns-clause-told c =
+    tells (called_by c.args.call) (actor_of c.args.actor.now) (cell_of c.args.ledger.now) c.deref_mut.result.now c.push_called.new.ledger
+    (ap cell_of c.in-Ledger.is ∙ ap LedgerCell (sym c.deref_mut.ensures.value)) c.in_ok-push_called.ensures.ok.history

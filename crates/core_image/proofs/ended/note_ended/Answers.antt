@@ -1,4 +1,4 @@
-use Rattle.std.proofs.Common.{length, ap, sym, ◌∙◌}
+use Rattle.std.proofs.Common.{length, refl, ap, sym, ◌∙◌}
 use Rattle.row_ledger.specs.LedgerValue.{LedgerValue}
 use Rattle.volap_cell.specs.Cells.{LedgerCell, cell_of}
 use Rattle.volap_cell.specs.Values.{actor_of}
@@ -21,4 +21,5 @@ returns c =
       made = ended-makes c.args.h.now c.args.ledger_at c.args.how (cell_of c.args.ledger.now) (actor_of c.args.actor.now) c.requires.here c.requires.due c.in-Some.command c.in-Some.is
           c.deref_mut.result.now (ap cell_of c.in-Ledger.is ∙ ap LedgerCell (sym c.deref_mut.ensures.value)) _ c.owed.ensures.value
           c.push_ended.new.ledger c.push_ended.ensures.ended _ (c.len-actor.ensures.value ∙ ap (λ (l : LedgerValue). length l.history) c.deref.ensures);
+      over = refl;
     }

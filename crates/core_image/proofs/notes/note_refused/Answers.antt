@@ -4,9 +4,16 @@ use Rattle.volap_cell.specs.Cells.{LedgerCell, cell_of}
 use Rattle.volap_cell.specs.Values.{actor_of}
 use Rattle.core_image.proofs.NotesRefusal.{refused-makes}
 use Rattle.core_image.proofs.notes.note_refused.Goals as goal
+use Rattle.core_image.specs.Told.{refused_by}
+use Rattle.core_image.proofs.Telling.{tells}
 
 pub returns-clause-made : goal.returns-clause-made
 returns-clause-made c =
     refused-makes c.args.h.now c.args.ledger_at (cell_of c.args.ledger.now) (actor_of c.args.actor.now) c.requires.due
     c.deref_mut.result.now (ap cell_of c.in-Ledger.is ∙ ap LedgerCell (sym c.deref_mut.ensures.value)) c.push_refused.new.ledger
     c.in_ok-push_refused.ensures.ok _ (c.len-actor.ensures.value ∙ ap (λ (l : LedgerValue). length l.history) c.deref.ensures)
+
+pub returns-clause-told : goal.returns-clause-told
+returns-clause-told c =
+    tells refused_by (actor_of c.args.actor.now) (cell_of c.args.ledger.now) c.deref_mut.result.now c.push_refused.new.ledger
+    (ap cell_of c.in-Ledger.is ∙ ap LedgerCell (sym c.deref_mut.ensures.value)) c.in_ok-push_refused.ensures.ok.history

@@ -7,6 +7,7 @@ use Rattle.volap_cell.specs.declared.command.Work.TheVariants.{Query}
 use Rattle.core_image.proofs.AskedHere.{can-ask, has-asked}
 use Rattle.core_image.proofs.Tagged.{desk-boxed, image-boxed, ledger-boxed}
 use Rattle.core_image.proofs.queries.begin_query.Goals as goal
+use Rattle.core_image.proofs.Telling.{tells-asked}
 
 -- src/queries.rt:46:9
 pub unreachable-requires : goal.unreachable-requires
@@ -41,3 +42,10 @@ returns-clause-made c =
     c.ask.new.desk c.ask.new.ledger (DeskCell c.in-Desk.server c.ask.new.desk) (ImageCell c.in-Image.server c.in-Image.image.value) (LedgerCell c.ask.new.ledger) _
     c.in_ok-ask.ensures.ok refl (ap (ImageCell c.in-Image.server) (sym c.deref-2.ensures)) refl
     (λ k. record (actor_of c.args.actor.now) { command = doing (of k) Query; seen = seen k })
+
+pub returns-clause-told : goal.returns-clause-told
+returns-clause-told c =
+    tells-asked c.args.h.now c.args.filter (actor_of c.args.actor.now) (cell_of c.args.desk.now) (cell_of c.args.ledger.now) c.requires.due.server c.requires.due.role c.requires.due.desk_is
+    c.in-Desk.server c.deref_mut.result.now (ap cell_of c.in-Desk.is ∙ ap (DeskCell c.in-Desk.server) (sym c.deref_mut.ensures.value))
+    _ c.deref_mut-2.result.now (ap cell_of c.in-Ledger.is ∙ ap LedgerCell (sym c.deref_mut-2.ensures.value))
+    c.ask.new.desk c.ask.new.ledger c.in_ok-ask.ensures.ok

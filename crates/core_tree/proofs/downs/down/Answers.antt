@@ -1,5 +1,5 @@
 use Rattle.std.proofs.Common.{ℕ, ◌∙◌, ◌≡◌, List, map, option_map, refl, ap, sym, subst}
-use Rattle.dc_node.specs.Block.{entries_in}
+use Rattle.dc_node.specs.Block.{entries_in, is_full}
 use Rattle.dc_node.specs.declared.block.Block.{Block}
 use Rattle.dc_node.specs.declared.entry.Entry.{Entry}
 use Rattle.link_descent.specs.Pick.{IsPick}
@@ -11,8 +11,8 @@ use Rattle.volap_cell.specs.World.{held_if}
 use Rattle.volap_cell.specs.declared.cell.Cell.{Cell}
 use Rattle.volap_cell.specs.declared.errand.Way.TheVariants.{Carried}
 use Rattle.volap_cell.proofs.Boxed.{boxed}
-use Rattle.core_tree.specs.Descent.{CanStep, blocks_if, two_if}
-use Rattle.core_tree.proofs.Behind.{tail-are, held-blocks}
+use Rattle.core_tree.specs.Descent.{AreForNew, CanStep, blocks_if, two_if}
+use Rattle.core_tree.proofs.Behind.{tail-are, held-blocks, held-down, new-down, some-mapped}
 use Rattle.core_tree.proofs.Carriers.{carried-way, must-at}
 use Rattle.core_tree.proofs.GoesDown.{given-down, down-makes}
 use Rattle.core_tree.proofs.downs.down.Goals as goal
@@ -70,3 +70,15 @@ returns-clause-made c =
     (subst (λ (z : Block). WentDown c.args.h.now r.row place (blocks_if first second) z c.step-block.new.parent c.in-Block-child.child.value c.step-block.new.child c.args.actor.now.purse c.step-block.new.purse (option_map cell_of c.args.fresh.now) (option_map cell_of c.step-block.new.fresh) a.boxes c.step-block.new.boxes to) parent
     (subst (λ (z : Block). WentDown c.args.h.now r.row place (blocks_if first second) c.deref_mut.result.now c.step-block.new.parent z c.step-block.new.child c.args.actor.now.purse c.step-block.new.purse (option_map cell_of c.args.fresh.now) (option_map cell_of c.step-block.new.fresh) a.boxes c.step-block.new.boxes to) child went))
     (λ k. record a { purse = c.step-block.new.purse.spares; boxes = c.step-block.new.boxes; errand = option_map errand_of (go k) })
+
+pub returns-clause-held : goal.returns-clause-held
+returns-clause-held c =
+    let tail = blocks_if (option_map cell_of c.args.first.now) (option_map cell_of c.args.second.now) in
+    let fresh = option_map cell_of c.args.fresh.now in
+    let (place, picked, only, went) = c.step-block.ensures in
+    let child : c.deref_mut-2.result.now ≡ block_in (cell_of c.args.child.now) = c.deref_mut-2.ensures.value ∙ ap (λ (z : Cell). block_in (cell_of z)) (sym c.in-Block-child.is) in
+    let purse = c.args.actor.now.purse in
+    let there = held-down c.args.fresh_at purse.spares c.step-block.new.purse.spares went.entered.fresh.items (is_full c.deref_mut-2.result.now.body) fresh (option_map cell_of c.step-block.new.fresh)
+    (new-down c.args.h.now c.in-Row.going.row place tail c.deref_mut.result.now c.step-block.new.parent c.deref_mut-2.result.now c.step-block.new.child purse c.step-block.new.purse went.entered went.step)
+    (subst (λ (z : Block). AreForNew (is_full z.body) 1 purse.spares (held_if c.args.fresh_at fresh)) (sym child) c.requires.due.for_new) went.filled in
+    sym (some-mapped cell_of c.step-block.new.fresh) ∙ there ∙ some-mapped cell_of c.args.fresh.now

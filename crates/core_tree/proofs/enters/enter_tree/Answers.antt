@@ -9,8 +9,8 @@ use Rattle.volap_cell.specs.declared.cell.Cell.{Cell}
 use Rattle.volap_cell.specs.declared.errand.RowErrand.{RowErrand}
 use Rattle.volap_cell.proofs.Boxed.{boxed}
 use Rattle.core_tree.specs.Descent.{AreForNew, CanComeIn, CameIn, blocks_if, two_if}
-use Rattle.core_tree.proofs.Behind.{tail-are, held-blocks}
-use Rattle.core_tree.proofs.GoesIn.{given-in, enter-makes, new-in, held-in, some-mapped}
+use Rattle.core_tree.proofs.Behind.{tail-are, held-blocks, some-mapped}
+use Rattle.core_tree.proofs.GoesIn.{given-in, enter-makes, new-in, held-in}
 use Rattle.core_tree.proofs.enters.enter_tree.Goals as goal
 
 pub unreachable-requires-in_default-root : goal.unreachable-requires-in_default-root

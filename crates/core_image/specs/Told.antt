@@ -1,0 +1,37 @@
+-- Which event a step puts in the history by which a command begins.
+use Rattle.std.specs.Prelude.{ℕ, ℤ, ◌≡◌, List, ◌∷◌, length}
+use Rattle.dim_hierarchy.specs.declared.filter.Pick.{Pick}
+use Rattle.dim_hierarchy.specs.declared.row.Coord.{Coord}
+use Rattle.row_ledger.specs.declared.event.Event.{Event}
+use Rattle.row_ledger.specs.declared.event.Event.TheVariants as event
+use Rattle.row_ledger.specs.declared.settings.Call.{Call}
+use Rattle.volap_cell.specs.Cells.{CellValue, ledger_in}
+use Rattle.volap_cell.specs.Values.{ActorValue}
+use Rattle.volap_cell.specs.declared.role.Role.{Role}
+use Rattle.volap_cell.specs.declared.role.Role.TheVariants.{Session}
+
+-- the server of a session
+abbrev pub server_of : Role → ℕ
+server_of (Session server) = server
+server_of role = 0
+
+-- What an actor's event is, at its place in the history.
+
+abbrev pub begun_by : Coord → ℤ → ActorValue → ℕ → Event
+begun_by at measure a place = event.Begun a.number (server_of a.role) (record { no = place; at = at; measure = measure })
+
+abbrev pub asked_by : List Pick → ActorValue → ℕ → Event
+asked_by filter a place = event.Asked a.number (server_of a.role) filter
+
+abbrev pub unknown_by : ℕ → ActorValue → ℕ → Event
+unknown_by dim a place = event.Unknown a.number (server_of a.role) dim
+
+abbrev pub refused_by : ActorValue → ℕ → Event
+refused_by a place = event.Refused a.number
+
+abbrev pub called_by : Call → ActorValue → ℕ → Event
+called_by call a place = event.Called a.number call
+
+-- the ledger has this event of the actor more
+abbrev pub Tells : (ActorValue → ℕ → Event) → ActorValue → CellValue → CellValue → Type 0
+Tells event_of a ledger ledger_now = (ledger_in ledger_now).history ≡ event_of a (length (ledger_in ledger).history) ∷ (ledger_in ledger).history

@@ -1,0 +1,78 @@
+-- What a step has put in the ledger's cell is there when the cells are back at their places.
+use Rattle.std.proofs.Common.{◌≡◌, ◌≢◌, ℕ, zero, suc, ◌<◌, true, cond, eqb, List, [], ◌∷◌, Option, Some, None, get_or, set, length, slice_get, refl, sym, ap, ◌∙◌, subst, arith}
+use Rattle.std.proofs.lemmas.List.{length-set}
+use Rattle.core_image.specs.Told.{Tells}
+use Rattle.core_steps.specs.Added.{Adds}
+use Rattle.row_ledger.specs.declared.event.Event.{Event}
+use Rattle.tree_shape.proofs.Walks.{eqb-no, on_bool, eqb-eq, eqb-ne}
+use Rattle.tree_shape.specs.Counts.{Each}
+use Rattle.volap_cell.specs.Cells.{CellValue, cell_of}
+use Rattle.volap_cell.specs.State.{AreDifferent, Exchange, IsWorldOf, MayHold, Stand, cells_before, cells_now, changes_of, given, numbers_of, taken}
+use Rattle.volap_cell.specs.Values.{ActorValue, actor_of}
+use Rattle.volap_cell.specs.World.{World, after, put}
+use Rattle.volap_cell.specs.declared.actor.Actor.{Actor}
+use Rattle.volap_cell.specs.declared.cell.Cell.{Cell}
+use Rattle.volap_cell.proofs.States.{length-given, length-taken, of-it, same-actor, stand-world, stands, within, world-after}
+
+-- what holds of the numbers of all holds of that of one
+number-of : (P : ℕ → Type 0) (xs : List Exchange) (k : ℕ) (x : Exchange) → slice_get xs k ≡ Some x → Each P (numbers_of xs) → P x.number
+number-of P [] k x e each = (let e2 : None ≡ Some x = e in absurd (cc))
+number-of P (y ∷ ys) zero x e each = (let s : y ≡ x = cc in subst (λ (z : Exchange). P z.number) s each.0)
+number-of P (y ∷ ys) (suc k) x e each = number-of P ys k x e each.1
+
+-- what was in the place of one of them, and what is put there
+was-at : (cells : ℕ → CellValue) (xs : List Exchange) (k : ℕ) (x : Exchange) → slice_get xs k ≡ Some x → Each (λ (t : ℕ × Cell). cells t.0 ≡ cell_of t.1) (cells_before xs) → cells x.number ≡ cell_of x.before
+was-at cells [] k x e each = (let e2 : None ≡ Some x = e in absurd (cc))
+was-at cells (y ∷ ys) zero x e each = (let s : y ≡ x = cc in subst (λ (z : Exchange). cells z.number ≡ cell_of z.before) s each.0)
+was-at cells (y ∷ ys) (suc k) x e each = was-at cells ys k x e each.1
+
+same-number : (n : ℕ) → eqb n n ≡ true
+same-number n = on_bool (eqb n n) (λ q. q) (λ q. absurd (eqb-ne _ _ q refl))
+
+put-at : (cells : ℕ → CellValue) (xs : List Exchange) (k : ℕ) (x : Exchange) → slice_get xs k ≡ Some x → AreDifferent (numbers_of xs) → put (changes_of xs) cells x.number ≡ cell_of x.now
+put-at cells [] k x e apart = (let e2 : None ≡ Some x = e in absurd (cc))
+put-at cells (y ∷ ys) zero x e apart =
+    let s : y ≡ x = cc in
+    subst (λ (z : Exchange). cond (eqb z.number y.number) (cell_of y.now) (put (changes_of ys) cells z.number) ≡ cell_of z.now) s (rw (same-number y.number) refl)
+put-at cells (y ∷ ys) (suc k) x e apart =
+    let ne : x.number ≢ y.number = number-of (λ (z : ℕ). z ≢ y.number) ys k x e apart.0 in
+    rw (eqb-no x.number y.number ne) (put-at cells ys k x e apart.1)
+
+-- a cell that the vectors have is the same in whatever state they are
+same-cell : (cells : List (Option Cell)) (actors : List (Option Actor)) (w v : World) (y : ℕ) → IsWorldOf cells actors w → IsWorldOf cells actors v → y < length cells → v.cells y ≡ w.cells y
+same-cell cells actors w v y is_w is_v lt =
+    let k = stands (get_or cells y None) (λ c. cell_of c ≡ w.cells y) (is_w.cell y lt) in
+    sym (of-it (get_or cells y None) (λ c. cell_of c ≡ v.cells y) k.0 (is_v.cell y lt) k.1) ∙ k.2
+
+places-within : (cells : List (Option Cell)) (xs : List Exchange) → Stand cells (cells_before xs) → Each (λ x. x.number < length cells) xs
+places-within cells [] st = tt
+places-within cells (x ∷ xs) st = (within cells x.number x.before st.0, places-within cells xs st.1)
+
+-- one of the places of exchanged cells
+one-within : (many : ℕ) (xs : List Exchange) (k : ℕ) (x : Exchange) → slice_get xs k ≡ Some x → Each (λ x. x.number < many) xs → x.number < many
+one-within many [] k x e each = (let e2 : None ≡ Some x = e in absurd (cc))
+one-within many (y ∷ ys) zero x e each = (let s : y ≡ x = cc in subst (λ (z : Exchange). z.number < many) s each.0)
+one-within many (y ∷ ys) (suc k) x e each = one-within many ys k x e each.1
+
+-- A driver's step has told its event in the state, where the kind did so of the cell in which the ledger is.
+pub adds : (event_of : ActorValue → ℕ → Event) (cells cells_out cells_back : List (Option Cell)) (actors actors_out actors_back : List (Option Actor)) (xs : List Exchange) (n : ℕ) (a now : Actor)
+    → cells_out ≡ taken (numbers_of xs) cells → actors_out ≡ set actors n None → cells_back ≡ given (cells_now xs) cells_out → actors_back ≡ set actors_out n (Some now)
+    → MayHold cells actors (cells_before xs) n a → (k : ℕ) (x : Exchange) → slice_get xs k ≡ Some x → AreDifferent (numbers_of xs)
+    → Tells event_of (actor_of a) (cell_of x.before) (cell_of x.now)
+    → Adds event_of n x.number cells actors cells_back actors_back
+adds event_of cells cells_out cells_back actors actors_out actors_back xs n a now e f e2 f2 may k x here apart told w v is_w is_v =
+    let to : cells_back ≡ given (cells_now xs) (taken (numbers_of xs) cells) = e2 ∙ ap (λ (zs : List (Option Cell)). given (cells_now xs) zs) e in
+    let to2 : actors_back ≡ set (set actors n None) n (Some now) = f2 ∙ ap (λ (zs : List (Option Actor)). set zs n (Some now)) f in
+    let lts = places-within cells xs may.stand in
+    let is_v2 : IsWorldOf (given (cells_now xs) (taken (numbers_of xs) cells)) (set (set actors n None) n (Some now)) v =
+    subst (λ (vs : List (Option Cell)). IsWorldOf vs (set (set actors n None) n (Some now)) v) to (subst (λ (vs : List (Option Actor)). IsWorldOf cells_back vs v) to2 is_v) in
+    let many : length (given (cells_now xs) (taken (numbers_of xs) cells)) ≡ length cells = length-given (cells_now xs) (taken (numbers_of xs) cells) ∙ length-taken (numbers_of xs) cells in
+    let lt : x.number < length (given (cells_now xs) (taken (numbers_of xs) cells)) = (let l = one-within (length cells) xs k x here lts in omega arith) in
+    let now_is : v.cells x.number ≡ cell_of x.now =
+    same-cell (given (cells_now xs) (taken (numbers_of xs) cells)) (set (set actors n None) n (Some now)) (after w (changes_of xs) n (actor_of now)) v x.number
+    (world-after cells actors w xs n now is_w lts (within actors n a may.actor_is)) is_v2 lt
+    ∙ put-at w.cells xs k x here apart in
+    let was_is : w.cells x.number ≡ cell_of x.before = was-at w.cells xs k x here (stand-world cells actors w (cells_before xs) is_w may.stand) in
+    subst (λ (c : CellValue). Tells event_of (w.actors n) c (v.cells x.number)) (sym was_is)
+    (subst (λ (c : CellValue). Tells event_of (w.actors n) (cell_of x.before) c) (sym now_is)
+    (subst (λ (b : ActorValue). Tells event_of b (cell_of x.before) (cell_of x.now)) (sym (same-actor cells actors w n a is_w may.actor_is)) told))

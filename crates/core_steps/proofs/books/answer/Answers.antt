@@ -1,0 +1,29 @@
+use Rattle.std.proofs.Common.{List, [], ◌∷◌}
+use Rattle.core_steps.specs.AskedBooks.{Answers}
+use Rattle.volap_cell.specs.State.{Exchange, exchange}
+use Rattle.volap_cell.specs.declared.kind.Kind.TheVariants.{Answer}
+use Rattle.volap_cell.proofs.States.{drives}
+use Rattle.core_steps.proofs.Ready.{can-lift, can-step, may-hold, step-here}
+use Rattle.core_steps.proofs.books.answer.Goals as goal
+
+pub lift_two-desk-requires : goal.lift_two-desk-requires
+lift_two-desk-requires c = record { there = can-lift c.args.h.now c.args.state.now.cells.items c.args.state.now.actors.items c.requires.state c.args.number Answers (c.args.desk_at ∷ c.args.ledger_at ∷ []) c.requires.ready }
+
+pub answer-requires-clause-here : goal.answer-requires-clause-here
+answer-requires-clause-here c =
+    let r = c.lift_two-desk.result in
+    step-here c.args.h.now c.args.state.now.cells.items c.args.state.now.actors.items c.requires.state c.args.number Answers ((c.args.desk_at, r.0) ∷ (c.args.ledger_at, r.1) ∷ []) c.requires.ready c.lift_two-desk.ensures.value c.lift-actor.result c.lift-actor.ensures.value
+
+pub answer-requires-clause-due : goal.answer-requires-clause-due
+answer-requires-clause-due c =
+    let r = c.lift_two-desk.result in
+    can-step c.args.h.now c.args.state.now.cells.items c.args.state.now.actors.items c.requires.state c.args.number Answers ((c.args.desk_at, r.0) ∷ (c.args.ledger_at, r.1) ∷ []) c.requires.ready c.lift_two-desk.ensures.value c.lift-actor.result c.lift-actor.ensures.value
+
+pub returns : goal.returns
+returns c =
+    let r = c.lift_two-desk.result in
+    let xs : List Exchange = exchange c.args.desk_at r.0 c.answer.new.desk ∷ exchange c.args.ledger_at r.1 c.answer.new.ledger ∷ [] in
+    let may = may-hold c.args.h.now c.args.state.now.cells.items c.args.state.now.actors.items c.requires.state c.args.number Answers ((c.args.desk_at, r.0) ∷ (c.args.ledger_at, r.1) ∷ []) c.requires.ready c.lift_two-desk.ensures.value c.lift-actor.result c.lift-actor.ensures.value in
+    record {
+      stepped = drives c.args.h.now Answer c.args.state.now.cells.items _ _ c.args.state.now.actors.items _ _ xs c.args.number c.lift-actor.result c.answer.new.actor c.lift_two-desk.ensures.rest c.lift-actor.ensures.rest c.put_two.ensures.value c.put_actor.ensures.value may c.answer.ensures.made (λ s w same is inv. tt);
+    }

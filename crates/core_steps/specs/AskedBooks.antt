@@ -1,0 +1,31 @@
+-- What the steps of inserts, queries and pulls ask at desks and images, of their cells as a list.
+use Rattle.std.specs.Prelude.{ℕ, List, [], ◌∷◌}
+use Rattle.core_image.specs.Asking.{CanAnswer, CanBeginQuery}
+use Rattle.core_image.specs.NotesDue.{CanBeginInsert}
+use Rattle.core_image.specs.Pulling.{CanSync}
+use Rattle.core_image.specs.Routing.{CanRoute}
+use Rattle.dim_hierarchy.specs.Dimension.{Dimension}
+use Rattle.dim_hierarchy.specs.declared.filter.Pick.{Pick}
+use Rattle.dim_hierarchy.specs.declared.row.Coord.{Coord}
+use Rattle.volap_cell.specs.Cells.{CellValue}
+use Rattle.volap_cell.specs.Values.{ActorValue}
+
+abbrev pub BeginsInsert : List Dimension → Coord → List CellValue → ActorValue → Type 0
+BeginsInsert h at (image ∷ ledger ∷ []) a = CanBeginInsert h at image ledger a
+BeginsInsert h at cells a = ⊥
+
+abbrev pub BeginsQuery : List Dimension → List Pick → List CellValue → ActorValue → Type 0
+BeginsQuery h filter (desk ∷ image ∷ ledger ∷ []) a = CanBeginQuery h desk image ledger a filter
+BeginsQuery h filter cells a = ⊥
+
+abbrev pub Routes : List CellValue → ActorValue → Type 0
+Routes (desk ∷ image ∷ []) a = CanRoute desk image a
+Routes cells a = ⊥
+
+abbrev pub Answers : List CellValue → ActorValue → Type 0
+Answers (desk ∷ ledger ∷ []) a = CanAnswer desk ledger a
+Answers cells a = ⊥
+
+abbrev pub Syncs : List CellValue → ActorValue → Type 0
+Syncs (image ∷ registry ∷ ledger ∷ []) a = CanSync image registry ledger a
+Syncs cells a = ⊥

@@ -1,0 +1,71 @@
+-- What holds between the steps of a phase.
+use Rattle.std.specs.Prelude.{ℕ, ◌≡◌, ◌≢◌, ◌-◌, ⊤, Bool, true, false, List, [], ◌∷◌, ◌++◌, Option, Some, option_map, length, take, slice_get}
+use Rattle.script_form.specs.declared.script.Command.{Command}
+use Rattle.script_run.specs.Between.{IsInOrder}
+use Rattle.script_run.specs.Places.{session_of}
+use Rattle.script_run.specs.Pulls.{each_twice, pulled_since}
+use Rattle.script_run.specs.Streams.{IsInPhase}
+use Rattle.volap_cell.specs.Setting.{Setting}
+use Rattle.volap_cell.specs.Steps.{history_in}
+use Rattle.volap_cell.specs.World.{World}
+use Rattle.volap_cell.specs.declared.command.Command.{Command as OpenCommand}
+use Rattle.volap_cell.specs.declared.command.Work.{Work}
+use Rattle.volap_cell.specs.declared.command.Work.TheVariants as work_is
+use Rattle.seeded_run.specs.Cursors.{HasCursors}
+use Rattle.seeded_run.specs.Due.{does_nothing, is_alone}
+use Rattle.seeded_run.specs.Progress.{ArePagesNext, AreScriptRoles, IsPhaseOf}
+use Rattle.seeded_run.specs.Rests.{PhaseRun, first_open, rest_of}
+
+-- by session: where the command began that its actor has open
+abbrev pub opened_in : World → ℕ → Option ℕ
+opened_in w a = option_map (λ (c : OpenCommand). c.of) (w.actors a).command
+
+-- a session's next command, where it has one, is its own
+abbrev pub AreAtOwn : PhaseRun → List Command → (ℕ → ℕ) → Type 0
+AreAtOwn p done next = (session : ℕ) (c : Command) → slice_get p.commands (next session - length done) ≡ Some c → session_of p.with c ≡ session
+
+-- Closing commands.
+
+-- whether an open command closes its phase
+abbrev pub is_closing_work : Work → Bool
+is_closing_work work_is.Barrier = true
+is_closing_work (work_is.Settle pulls) = true
+is_closing_work (work_is.Shards shown) = true
+is_closing_work (work_is.Tree shard stands shown) = true
+is_closing_work (work_is.Audit shown) = true
+is_closing_work _ = false
+
+-- while it is open everyone else is idle, with nothing left
+abbrev pub AreClosingAlone : Setting → World → (ℕ → List Command) → Type 0
+AreClosingAlone s w rest = (a : ℕ) (c : OpenCommand) → (w.actors a).command ≡ Some c → is_closing_work c.work ≡ true → is_alone s w rest a ≡ true
+
+-- Pulls.
+
+-- the servers of the pulls since a sync or a settle began
+abbrev pub HasPulled : ℕ → Work → List ℕ → Type 0
+HasPulled servers (work_is.Sync server false) pulled = pulled ≡ []
+HasPulled servers (work_is.Sync server true) pulled = pulled ≡ server ∷ []
+HasPulled servers (work_is.Settle pulls) pulled = pulled ≡ take pulls (each_twice servers)
+HasPulled servers work pulled = ⊤
+
+-- each open command has pulled as far as its actor says, and nobody else pulled meanwhile
+abbrev pub ArePulling : Setting → World → Type 0
+ArePulling s w = (a : ℕ) (c : OpenCommand) → (w.actors a).command ≡ Some c → HasPulled s.servers c.work (pulled_since (history_in w) c.of)
+
+-- Where the commands go one after the other they stay in order, and but for the actor of the first one that isn't over all are idle.
+pub record IsOrderKept (s : Setting) (p : PhaseRun) (done : List Command) (w : World) : Type 0 where
+  pub order : IsInOrder p.with s.hierarchy (done ++ p.commands) (history_in w)
+  pub idle : (a : ℕ) → first_open p (history_in w) ≢ Some a → does_nothing (w.actors a) ≡ true
+
+-- A phase runs behind the commands that are done: its commands have begun up to their sessions' next ones, and are over but for
+-- those that are open.
+pub record IsRunning (in_order : Bool) (s : Setting) (p : PhaseRun) (done : List Command) (w : World) (next : ℕ → ℕ) : Type 0 where
+  pub roles : AreScriptRoles s
+  pub phase : IsPhaseOf s p
+  pub in_phase : IsInPhase p.with s.hierarchy (done ++ p.commands) (length done) (history_in w) next (opened_in w)
+  pub cursors : HasCursors p done (history_in w) next (opened_in w)
+  pub own : AreAtOwn p done next
+  pub closing : AreClosingAlone s w (rest_of p (history_in w))
+  pub pages : ArePagesNext s w (rest_of p (history_in w))
+  pub pulled : ArePulling s w
+  pub ordered : in_order ≡ true → IsOrderKept s p done w
