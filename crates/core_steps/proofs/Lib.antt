@@ -1,5 +1,6 @@
 pub mod Ready
 pub mod Staying
+pub mod AtTimes
 pub mod Adding
 pub mod Sights
 pub mod Quiet

@@ -1,9 +1,11 @@
 -- What each kind of step of rows, queries and their parts asks, of its cells as a list.
-use Rattle.std.specs.Prelude.{ℕ, Bool, true, false, List, [], ◌∷◌, ◌++◌, Option, Some, None}
+use Rattle.std.specs.Prelude.{ℕ, List, [], ◌∷◌, Option}
 use Rattle.core_shard.specs.Due.{CanFinishPart, CanForward, CanTakePart}
 use Rattle.core_tree.specs.Descent.{CanDown, CanEnterTree, two_if}
 use Rattle.core_tree.specs.DueAtGates.{CanEnterQueue, CanGiveBack, CanLeaveTree, CanRefill}
 use Rattle.core_tree.specs.ReadDue.{CanBlockVisit, CanGateRead}
+use Rattle.core_steps.specs.HeldIf.{first_if, rest_if}
+use Rattle.core_steps.specs.declared.held.HeldIf.{HeldIf}
 use Rattle.dim_hierarchy.specs.Dimension.{Dimension}
 use Rattle.volap_cell.specs.Cells.{CellValue}
 use Rattle.volap_cell.specs.Values.{ActorValue}
@@ -45,8 +47,30 @@ abbrev pub Forwards : List CellValue → ActorValue → Type 0
 Forwards (map ∷ desk ∷ []) a = CanForward map desk a
 Forwards cells a = ⊥
 
--- The gate at which a part is pinned, if it is, and its desk.
-abbrev pub FinishesPart : ℕ → List CellValue → ActorValue → Type 0
-FinishesPart gate_at (gate ∷ desk ∷ []) a = CanFinishPart gate_at (Some gate) desk a
-FinishesPart gate_at (desk ∷ []) a = CanFinishPart gate_at None desk a
-FinishesPart gate_at cells a = ⊥
+-- Cells that are held at times.
+
+-- a part's desk, and the gate at which the part is pinned, if it is
+
+abbrev pub EndsAt : ℕ → Option CellValue → List CellValue → ActorValue → Type 0
+EndsAt gate_at gate (desk ∷ []) a = CanFinishPart gate_at gate desk a
+EndsAt gate_at gate cells a = ⊥
+
+abbrev pub FinishesPart : HeldIf → List CellValue → ActorValue → Type 0
+FinishesPart gate cells a = EndsAt gate.at (first_if gate.wanted cells) (rest_if gate.wanted cells) a
+
+-- a directory and the child; the next two of its group, and the cell of the last spare
+abbrev pub GoesDown : List Dimension → ℕ → ℕ → HeldIf → HeldIf → HeldIf → List CellValue → ActorValue → Type 0
+GoesDown h parent_at child_at first second fresh (parent ∷ child ∷ cells) a =
+    CanDown h parent_at parent child_at child
+    (two_if first.at (first_if first.wanted cells) second.at (first_if second.wanted (rest_if first.wanted cells)))
+    (held_if fresh.at (first_if fresh.wanted (rest_if second.wanted (rest_if first.wanted cells)))) a
+GoesDown h parent_at child_at first second fresh cells a = ⊥
+
+-- a table, a gate and the root; the next two of the root's group, and the cells of the last two spares
+abbrev pub EntersTree : List Dimension → ℕ → ℕ → ℕ → HeldIf → HeldIf → HeldIf → HeldIf → List CellValue → ActorValue → Type 0
+EntersTree h map_at gate_at root_at first second fresh top (map ∷ gate ∷ root ∷ cells) a =
+    CanEnterTree h map_at map gate_at gate root_at root
+    (two_if first.at (first_if first.wanted cells) second.at (first_if second.wanted (rest_if first.wanted cells)))
+    (two_if fresh.at (first_if fresh.wanted (rest_if second.wanted (rest_if first.wanted cells)))
+    top.at (first_if top.wanted (rest_if fresh.wanted (rest_if second.wanted (rest_if first.wanted cells))))) a
+EntersTree h map_at gate_at root_at first second fresh top cells a = ⊥

@@ -1,4 +1,5 @@
 pub mod Ready
+pub mod HeldIf
 pub mod Asked
 pub mod AskedBooks
 pub mod AskedNotes

@@ -1,12 +1,14 @@
 //! The steps of parts between desks, tables of shards and gates.
-ghost use Rattle.std.specs.Prelude.{[], ◌∷◌};
-ghost use Rattle.core_steps.specs.AskedParts.{Forwards, TakesPart};
+ghost use Rattle.std.specs.Prelude.{[], ◌∷◌, ◌++◌};
+ghost use Rattle.core_steps.specs.AskedParts.{FinishesPart, Forwards, TakesPart};
+ghost use Rattle.core_steps.specs.HeldIf.{number_of};
 ghost use Rattle.core_steps.specs.Ready.{MayStep};
 ghost use Rattle.volap_cell.specs.State.{HasInv, Stepped};
-ghost use Rattle.volap_cell.specs.declared.kind.Kind.TheVariants.{Forward, TakePart};
+ghost use Rattle.volap_cell.specs.declared.kind.Kind.TheVariants.{FinishPart, Forward, TakePart};
 
+use crate::held::HeldIf;
 use dim_hierarchy::Hierarchy;
-use volap_cell::{State, lift, lift_one, lift_two, put_actor, put_one, put_two};
+use volap_cell::{State, lift, lift_if, lift_one, lift_two, put_actor, put_if, put_one, put_two};
 
 /// An actor takes the first part on this desk that it may take. Takes no memory.
 pub fn take_part(h: &Hierarchy, state: &mut State, number: usize, desk_at: u32)
@@ -35,4 +37,21 @@ pub fn forward(h: &Hierarchy, state: &mut State, number: usize, map_at: u32, des
     core_shard::forward(h, map_at, &mut map, desk_at, &mut desk, &mut actor);
     put_actor(actors, number, actor);
     put_two(cells, map_at, map, desk_at, desk);
+}
+
+/// An actor puts its part back on its desk, at its end. The gate at which the part is pinned is held then
+/// too, and loses the pin. Takes no memory.
+pub fn finish_part(h: &Hierarchy, state: &mut State, number: usize, gate: HeldIf, desk_at: u32)
+    requires state { HasInv h.now state.old.cells.items state.old.actors.items }
+    requires ready { MayStep state.old.cells.items state.old.actors.items (number_of gate ++ desk_at ∷ []) number (FinishesPart gate) }
+    ensures stepped { Stepped h.now FinishPart number state.old.cells.items state.old.actors.items state.new.cells.items state.new.actors.items }
+{
+    let (cells, actors) = (&mut state.cells, &mut state.actors);
+    let mut pinned = lift_if(cells, gate.at, gate.wanted);
+    let mut desk = lift_one(cells, desk_at);
+    let mut actor = lift(actors, number);
+    core_shard::finish_part(h, gate.at, &mut pinned, desk_at, &mut desk, &mut actor);
+    put_actor(actors, number, actor);
+    put_one(cells, desk_at, desk);
+    put_if(cells, gate.at, pinned);
 }

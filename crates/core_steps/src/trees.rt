@@ -1,14 +1,19 @@
 //! The steps of rows and queries at gates and blocks, and of purses.
-ghost use Rattle.std.specs.Prelude.{[], ◌∷◌, OnErr, OnOk};
+ghost use Rattle.std.specs.Prelude.{[], ◌∷◌, ◌++◌, OnErr, OnOk};
 ghost use Rattle.core_steps.specs.Asked.{PutsInLeaf};
-ghost use Rattle.core_steps.specs.AskedParts.{EntersQueue, GivesBack, LeavesTree, ReadsGate, Refills, VisitsBlock};
+ghost use Rattle.core_steps.specs.AskedParts.{EntersQueue, EntersTree, GivesBack, GoesDown, LeavesTree, ReadsGate, Refills, VisitsBlock};
+ghost use Rattle.core_steps.specs.HeldIf.{number_of};
 ghost use Rattle.core_steps.specs.Ready.{MayStep, Stays};
 ghost use Rattle.volap_cell.specs.State.{HasInv, Stepped};
-ghost use Rattle.volap_cell.specs.declared.kind.Kind.TheVariants.{BlockVisit, EnterQueue, GateRead, LeaveTree, PutInLeaf, Refill};
+ghost use Rattle.volap_cell.specs.declared.kind.Kind.TheVariants.{BlockVisit, Down, EnterQueue, EnterTree, GateRead, LeaveTree, PutInLeaf, Refill};
 
+use crate::held::{HeldIf, lift_both, put_both};
 use dim_hierarchy::Hierarchy;
 use std::alloc::{AllocError, Global};
-use volap_cell::{State, lift, lift_one, lift_two, put_actor, put_one, put_two};
+use volap_cell::{
+    State, lift, lift_if, lift_one, lift_three, lift_two, put_actor, put_if, put_one, put_three,
+    put_two,
+};
 
 /// An actor puts its row in the leaf in this cell.
 pub fn put_in_leaf(h: &Hierarchy, state: &mut State, number: usize, at: u32)
@@ -146,4 +151,83 @@ pub fn give_back(h: &Hierarchy, state: &mut State, number: usize, stock_at: u32)
     core_tree::give_back(h, stock_at, &mut stock, &mut actor);
     put_actor(actors, number, actor);
     put_one(cells, stock_at, stock);
+}
+
+/// An actor's row goes from a directory down to the child that comes first for it. Where that is full, the
+/// next two blocks of its group are held, as many as there are, and the cell of the last spare. Takes no
+/// memory.
+pub fn down(
+    h: &Hierarchy,
+    state: &mut State,
+    number: usize,
+    parent_at: u32,
+    child_at: u32,
+    first: HeldIf,
+    second: HeldIf,
+    fresh: HeldIf,
+)
+    requires state { HasInv h.now state.old.cells.items state.old.actors.items }
+    requires ready { MayStep state.old.cells.items state.old.actors.items (parent_at ∷ child_at ∷ (number_of first ++ number_of second) ++ number_of fresh) number
+        (GoesDown h.now parent_at child_at first second fresh) }
+    ensures stepped { Stepped h.now Down number state.old.cells.items state.old.actors.items state.new.cells.items state.new.actors.items }
+{
+    let (cells, actors) = (&mut state.cells, &mut state.actors);
+    let (mut parent, mut child) = lift_two(cells, parent_at, child_at);
+    let (mut next, mut last) = lift_both(cells, first, second);
+    let mut new = lift_if(cells, fresh.at, fresh.wanted);
+    let mut actor = lift(actors, number);
+    core_tree::down(
+        h,
+        parent_at,
+        &mut parent,
+        child_at,
+        &mut child,
+        first.at,
+        &mut next,
+        second.at,
+        &mut last,
+        fresh.at,
+        &mut new,
+        &mut actor,
+    );
+    put_actor(actors, number, actor);
+    put_if(cells, fresh.at, new);
+    put_both(cells, first, next, second, last);
+    put_two(cells, parent_at, parent, child_at, child);
+}
+
+/// An actor's row comes in at an open gate, to which the worker's table leads. Where the root is full, the
+/// next two blocks of its group are held, as many as there are, and the cells of the last two spares. Takes
+/// no memory.
+pub fn enter_tree(
+    h: &Hierarchy,
+    state: &mut State,
+    number: usize,
+    map_at: u32,
+    gate_at: u32,
+    root_at: u32,
+    first: HeldIf,
+    second: HeldIf,
+    fresh: HeldIf,
+    top: HeldIf,
+)
+    requires state { HasInv h.now state.old.cells.items state.old.actors.items }
+    requires ready { MayStep state.old.cells.items state.old.actors.items
+        (map_at ∷ gate_at ∷ root_at ∷ (number_of first ++ number_of second) ++ (number_of fresh ++ number_of top)) number
+        (EntersTree h.now map_at gate_at root_at first second fresh top) }
+    ensures stepped { Stepped h.now EnterTree number state.old.cells.items state.old.actors.items state.new.cells.items state.new.actors.items }
+{
+    let (cells, actors) = (&mut state.cells, &mut state.actors);
+    let (mut map, mut gate, mut root) = lift_three(cells, map_at, gate_at, root_at);
+    let (mut next, mut last) = lift_both(cells, first, second);
+    let (mut new, mut above) = lift_both(cells, fresh, top);
+    let mut actor = lift(actors, number);
+    core_tree::enter_tree(
+        h, map_at, &mut map, gate_at, &mut gate, root_at, &mut root, first.at, &mut next,
+        second.at, &mut last, fresh.at, &mut new, top.at, &mut above, &mut actor,
+    );
+    put_actor(actors, number, actor);
+    put_both(cells, fresh, new, top, above);
+    put_both(cells, first, next, second, last);
+    put_three(cells, map_at, map, gate_at, gate, root_at, root);
 }
