@@ -3,23 +3,16 @@
 #![tactic(auto)]
 
 mod books;
-mod held;
 mod fails;
+mod held;
 mod notes;
 mod parts;
 mod trees;
 
 pub use books::{ack, answer, begin_insert, begin_query, route, sync};
 pub use fails::{fail_query, fail_routed, fail_unrouted};
-pub use notes::{note_asking, note_called, note_ended, note_refused, note_unknown};
-pub use parts::{forward, take_part};
-pub use trees::{block_visit, enter_queue, gate_read, give_back, leave_tree, put_in_leaf, refill};
-pub use trees::put_in_leaf;
-mod parts;
-mod trees;
-
-pub use books::ack;
 pub use held::HeldIf;
+pub use notes::{note_asking, note_called, note_ended, note_refused, note_unknown};
 pub use parts::{finish_part, forward, take_part};
 pub use trees::{
     block_visit, down, enter_queue, enter_tree, gate_read, give_back, leave_tree, put_in_leaf,
