@@ -8,3 +8,4 @@ pub mod Laws
 pub mod Ranks
 pub mod Progress
 pub mod Running
+pub mod Commands
