@@ -55,8 +55,8 @@ put-off cells (x ∷ xs) y off = rw (eqb-no y x.number off.0) (put-off cells xs 
 
 -- The state that vectors are after a driver's step, at the places of cells.
 module _ (cells cells_out cells_back : List (Option Cell)) (actors actors_out actors_back : List (Option Actor)) (xs : List Exchange) (n : ℕ) (a now : Actor)
-      (e : cells_out ≡ taken (numbers_of xs) cells) (f : actors_out ≡ set actors n None) (e2 : cells_back ≡ given (cells_now xs) cells_out) (f2 : actors_back ≡ set actors_out n (Some now))
-      (may : MayHold cells actors (cells_before xs) n a) where
+    (e : cells_out ≡ taken (numbers_of xs) cells) (f : actors_out ≡ set actors n None) (e2 : cells_back ≡ given (cells_now xs) cells_out) (f2 : actors_back ≡ set actors_out n (Some now))
+    (may : MayHold cells actors (cells_before xs) n a) where
   to : cells_back ≡ given (cells_now xs) (taken (numbers_of xs) cells)
   to = e2 ∙ ap (λ (zs : List (Option Cell)). given (cells_now xs) zs) e
 

@@ -15,9 +15,12 @@ use Rattle.volap_cell.specs.World.{Change}
 use Rattle.volap_cell.specs.declared.command.Command.{Command}
 
 pushed : (e : Event) (more used : ℕ) (l : Change) (seen : ℕ) → is_beginning e ≡ false → Pushes e more used l seen → EndsIn l.before l.now
-pushed e more used l seen quiet p =
-    (e, quiet, subst (λ (c : CellValue). (ledger_in l.now).history ≡ e ∷ (ledger_in c).history) (sym p.was)
-    (subst (λ (c : CellValue). (ledger_in c).history ≡ e ∷ p.ledger.history) (sym p.is) p.history))
+pushed e more used l seen quiet p = (
+  e,
+  quiet,
+  subst (λ (c : CellValue). (ledger_in l.now).history ≡ e ∷ (ledger_in c).history) (sym p.was)
+      (subst (λ (c : CellValue). (ledger_in c).history ≡ e ∷ p.ledger.history) (sym p.is) p.history),
+)
 
 pub ack-ends : {h : List Dimension} {d i l : Change} {a b : ActorValue} → DoesAck h d i l a b → EndsIn l.before l.now
 ack-ends {h} {d} {i} {l} {a} {b} does = pushed (event.Acked does.of does.path) 0 1 l b.seen refl does.acked

@@ -29,7 +29,16 @@ pub fn ack(
     let (cells, actors) = (&mut state.cells, &mut state.actors);
     let (mut desk, mut image, mut ledger) = lift_three(cells, desk_at, image_at, ledger_at);
     let mut actor = lift(actors, number);
-    core_image::ack(h, desk_at, &mut desk, image_at, &mut image, ledger_at, &mut ledger, &mut actor);
+    core_image::ack(
+        h,
+        desk_at,
+        &mut desk,
+        image_at,
+        &mut image,
+        ledger_at,
+        &mut ledger,
+        &mut actor,
+    );
     put_actor(actors, number, actor);
     put_three(cells, desk_at, desk, image_at, image, ledger_at, ledger);
 }
@@ -55,7 +64,17 @@ pub fn begin_insert(
     let (cells, actors) = (&mut state.cells, &mut state.actors);
     let (mut image, mut ledger) = lift_two(cells, image_at, ledger_at);
     let mut actor = lift(actors, number);
-    let made = core_image::begin_insert(alloc, h, image_at, &mut image, ledger_at, &mut ledger, &mut actor, at, measure);
+    let made = core_image::begin_insert(
+        alloc,
+        h,
+        image_at,
+        &mut image,
+        ledger_at,
+        &mut ledger,
+        &mut actor,
+        at,
+        measure,
+    );
     put_actor(actors, number, actor);
     put_two(cells, image_at, image, ledger_at, ledger);
     made
@@ -82,7 +101,18 @@ pub fn begin_query(
     let (cells, actors) = (&mut state.cells, &mut state.actors);
     let (mut desk, mut image, mut ledger) = lift_three(cells, desk_at, image_at, ledger_at);
     let mut actor = lift(actors, number);
-    let made = core_image::begin_query(alloc, h, desk_at, &mut desk, image_at, &mut image, ledger_at, &mut ledger, &mut actor, filter);
+    let made = core_image::begin_query(
+        alloc,
+        h,
+        desk_at,
+        &mut desk,
+        image_at,
+        &mut image,
+        ledger_at,
+        &mut ledger,
+        &mut actor,
+        filter,
+    );
     put_actor(actors, number, actor);
     put_three(cells, desk_at, desk, image_at, image, ledger_at, ledger);
     made
@@ -107,7 +137,9 @@ pub fn route(
     let (cells, actors) = (&mut state.cells, &mut state.actors);
     let (mut desk, mut image) = lift_two(cells, desk_at, image_at);
     let mut actor = lift(actors, number);
-    let made = core_image::route(alloc, h, desk_at, &mut desk, image_at, &mut image, &mut actor);
+    let made = core_image::route(
+        alloc, h, desk_at, &mut desk, image_at, &mut image, &mut actor,
+    );
     put_actor(actors, number, actor);
     put_two(cells, desk_at, desk, image_at, image);
     made
@@ -115,13 +147,7 @@ pub fn route(
 
 /// An actor's query, whose parts come to a sum, is answered: with the desk of its server, and the ledger. Takes
 /// no memory.
-pub fn answer(
-    h: &Hierarchy,
-    state: &mut State,
-    number: usize,
-    desk_at: u32,
-    ledger_at: u32,
-)
+pub fn answer(h: &Hierarchy, state: &mut State, number: usize, desk_at: u32, ledger_at: u32)
     requires state { HasInv h.now state.old.cells.items state.old.actors.items }
     requires ready { MayStep state.old.cells.items state.old.actors.items (desk_at ∷ ledger_at ∷ []) number Answers }
     ensures stepped { Stepped h.now Answer number state.old.cells.items state.old.actors.items state.new.cells.items state.new.actors.items }
@@ -155,8 +181,26 @@ pub fn sync(
     let (cells, actors) = (&mut state.cells, &mut state.actors);
     let (mut image, mut registry, mut ledger) = lift_three(cells, image_at, registry_at, ledger_at);
     let mut actor = lift(actors, number);
-    let made = core_image::sync(alloc, h, image_at, &mut image, registry_at, &mut registry, ledger_at, &mut ledger, &mut actor);
+    let made = core_image::sync(
+        alloc,
+        h,
+        image_at,
+        &mut image,
+        registry_at,
+        &mut registry,
+        ledger_at,
+        &mut ledger,
+        &mut actor,
+    );
     put_actor(actors, number, actor);
-    put_three(cells, image_at, image, registry_at, registry, ledger_at, ledger);
+    put_three(
+        cells,
+        image_at,
+        image,
+        registry_at,
+        registry,
+        ledger_at,
+        ledger,
+    );
     made
 }

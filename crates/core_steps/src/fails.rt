@@ -11,13 +11,7 @@ use volap_cell::{State, lift, lift_three, lift_two, put_actor, put_three, put_tw
 
 /// An actor's insert, for which no part was laid, ends for want of memory: with the image of its server, and
 /// the ledger. Takes no memory.
-pub fn fail_unrouted(
-    h: &Hierarchy,
-    state: &mut State,
-    number: usize,
-    image_at: u32,
-    ledger_at: u32,
-)
+pub fn fail_unrouted(h: &Hierarchy, state: &mut State, number: usize, image_at: u32, ledger_at: u32)
     requires state { HasInv h.now state.old.cells.items state.old.actors.items }
     requires ready { MayStep state.old.cells.items state.old.actors.items (image_at ∷ ledger_at ∷ []) number FailsUnrouted }
     ensures stepped { Stepped h.now Note number state.old.cells.items state.old.actors.items state.new.cells.items state.new.actors.items }
@@ -49,20 +43,23 @@ pub fn fail_routed(
     let (cells, actors) = (&mut state.cells, &mut state.actors);
     let (mut desk, mut image, mut ledger) = lift_three(cells, desk_at, image_at, ledger_at);
     let mut actor = lift(actors, number);
-    core_image::fail_routed(h, desk_at, &mut desk, image_at, &mut image, ledger_at, &mut ledger, &mut actor);
+    core_image::fail_routed(
+        h,
+        desk_at,
+        &mut desk,
+        image_at,
+        &mut image,
+        ledger_at,
+        &mut ledger,
+        &mut actor,
+    );
     put_actor(actors, number, actor);
     put_three(cells, desk_at, desk, image_at, image, ledger_at, ledger);
 }
 
 /// An actor's query, of which a part found no memory, ends with that: with the desk of its server, and the
 /// ledger. Takes no memory.
-pub fn fail_query(
-    h: &Hierarchy,
-    state: &mut State,
-    number: usize,
-    desk_at: u32,
-    ledger_at: u32,
-)
+pub fn fail_query(h: &Hierarchy, state: &mut State, number: usize, desk_at: u32, ledger_at: u32)
     requires state { HasInv h.now state.old.cells.items state.old.actors.items }
     requires ready { MayStep state.old.cells.items state.old.actors.items (desk_at ∷ ledger_at ∷ []) number FailsQuery }
     ensures stepped { Stepped h.now Note number state.old.cells.items state.old.actors.items state.new.cells.items state.new.actors.items }

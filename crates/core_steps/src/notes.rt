@@ -104,20 +104,24 @@ pub fn note_asking(
     let (cells, actors) = (&mut state.cells, &mut state.actors);
     let (mut registry, mut ledger) = lift_two(cells, registry_at, ledger_at);
     let mut actor = lift(actors, number);
-    let made = core_image::note_asking(alloc, h, registry_at, &mut registry, ledger_at, &mut ledger, &mut actor, call, workers);
+    let made = core_image::note_asking(
+        alloc,
+        h,
+        registry_at,
+        &mut registry,
+        ledger_at,
+        &mut ledger,
+        &mut actor,
+        call,
+        workers,
+    );
     put_actor(actors, number, actor);
     put_two(cells, registry_at, registry, ledger_at, ledger);
     made
 }
 
 /// An actor's command that is no insert, no query and no balance ends, in this way. Takes no memory.
-pub fn note_ended(
-    h: &Hierarchy,
-    state: &mut State,
-    number: usize,
-    ledger_at: u32,
-    how: How,
-)
+pub fn note_ended(h: &Hierarchy, state: &mut State, number: usize, ledger_at: u32, how: How)
     requires state { HasInv h.now state.old.cells.items state.old.actors.items }
     requires ready { MayStep state.old.cells.items state.old.actors.items (ledger_at ∷ []) number (NotesEnded how) }
     ensures stepped { Stepped h.now Note number state.old.cells.items state.old.actors.items state.new.cells.items state.new.actors.items }

@@ -193,7 +193,7 @@ same-server : {r : Role} (x y : ℕ) → r ≡ Session x → r ≡ Session y →
 same-server x y e f = (let same : Session x ≡ Session y = sym e ∙ f in cc)
 
 module _ (h : List Dimension) (with : Use) (cells : List (Option Cell)) (actors : List (Option Actor)) (s : Setting) (w : World) (core : IsCore h with cells actors s w) (n x : ℕ) (lt : n < length actors)
-      (role : (w.actors n).role ≡ Session x) where
+    (role : (w.actors n).role ≡ Session x) where
   ltx : x < s.servers
   ltx = server-within h with cells actors s w core n x lt role
 
@@ -232,7 +232,7 @@ module _ (h : List Dimension) (with : Use) (cells : List (Option Cell)) (actors 
       → MayStep cells actors (desk ∷ image ∷ ledger ∷ []) n Acks
   ack-may errand v desk image ledger desk_is image_is ledger_is =
       let come : verdict_of (desk_in (w.cells (desk_cell s x))).parts ≡ Some verdict.Placed =
-        subst (λ (y : ℕ). verdict_of (desk_in (w.cells (desk_cell s y))).parts ≡ Some verdict.Placed) (same-server v.at.server x v.at.role role) v.at.comes in
+      subst (λ (y : ℕ). verdict_of (desk_in (w.cells (desk_cell s y))).parts ≡ Some verdict.Placed) (same-server v.at.server x v.at.role role) v.at.comes in
       let work : IsRoutedWork v.work = elim v.work_is [
         | inl routed ↦ routed
         | inr query ↦ absurd (query-unplaced s w core.inv.ghost_of core.inv.holds n v.of x ltx (v.command ∙ ap (doing v.of) query) role come)
@@ -259,7 +259,7 @@ module _ (h : List Dimension) (with : Use) (cells : List (Option Cell)) (actors 
       → MayStep cells actors (desk ∷ ledger ∷ []) n Answers
   answer-may errand v desk ledger desk_is ledger_is =
       let come : verdict_of (desk_in (w.cells (desk_cell s x))).parts ≡ Some (verdict.Sum v.at.comes.0) =
-        subst (λ (y : ℕ). verdict_of (desk_in (w.cells (desk_cell s y))).parts ≡ Some (verdict.Sum v.at.comes.0)) (same-server v.at.server x v.at.role role) v.at.comes.1 in
+      subst (λ (y : ℕ). verdict_of (desk_in (w.cells (desk_cell s y))).parts ≡ Some (verdict.Sum v.at.comes.0)) (same-server v.at.server x v.at.role role) v.at.comes.1 in
       let work : IsQueryWork v.work = elim v.work_is [
         | inl routed ↦ absurd (insert-unsummed s w core.inv.ghost_of core.inv.holds n v.of x routed.0 v.at.comes.0 ltx (v.command ∙ ap (doing v.of) routed.1) role come)
         | inr query ↦ query
