@@ -39,7 +39,7 @@ put-at cells (y ∷ ys) (suc k) x e apart =
     rw (eqb-no x.number y.number ne) (put-at cells ys k x e apart.1)
 
 -- a cell that the vectors have is the same in whatever state they are
-same-cell : (cells : List (Option Cell)) (actors : List (Option Actor)) (w v : World) (y : ℕ) → IsWorldOf cells actors w → IsWorldOf cells actors v → y < length cells → v.cells y ≡ w.cells y
+pub same-cell : (cells : List (Option Cell)) (actors : List (Option Actor)) (w v : World) (y : ℕ) → IsWorldOf cells actors w → IsWorldOf cells actors v → y < length cells → v.cells y ≡ w.cells y
 same-cell cells actors w v y is_w is_v lt =
     let k = stands (get_or cells y None) (λ c. cell_of c ≡ w.cells y) (is_w.cell y lt) in
     sym (of-it (get_or cells y None) (λ c. cell_of c ≡ v.cells y) k.0 (is_v.cell y lt) k.1) ∙ k.2

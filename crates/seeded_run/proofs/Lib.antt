@@ -12,3 +12,8 @@ pub mod Ends
 pub mod Orders
 pub mod Scripts
 pub mod Worlds
+pub mod DueCommands
+pub mod FixedCells
+pub mod CommandsReady
+pub mod Afterwards
+pub mod CommandsHeld

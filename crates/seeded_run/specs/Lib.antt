@@ -10,3 +10,4 @@ pub mod Measure
 pub mod Progress
 pub mod Running
 pub mod Told
+pub mod Commands

@@ -1,6 +1,7 @@
 //! A script's phases over the core, all actors on one thread: so far, which step is due for each actor.
 #![tactic(auto)]
 
+mod commands;
 mod laws;
 mod places;
 

@@ -1,0 +1,13 @@
+use Rattle.seeded_run.proofs.Afterwards.{quietly}
+use Rattle.seeded_run.proofs.CommandsHeld.{answer-ready, answer-session}
+use Rattle.seeded_run.proofs.commands.answer.Goals as goal
+
+pub session_server-server-requires-clause-session : goal.session_server-server-requires-clause-session
+session_server-server-requires-clause-session c = answer-session c.args.h.now c.args.with.now c.args.state.now.cells.items c.args.state.now.actors.items c.requires.core c.args.number c.requires.within c.requires.due
+
+pub answer-requires-clause-ready : goal.answer-requires-clause-ready
+answer-requires-clause-ready c =
+    answer-ready c.args.h.now c.args.with.now c.args.state.now.cells.items c.args.state.now.actors.items c.requires.core c.args.number c.requires.within c.requires.due c.session_server-server.result c.desk_place-desk.result c.ledger_place-ledger.result c.session_server-server.ensures c.desk_place-desk.ensures c.ledger_place-ledger.ensures
+
+pub returns-clause-quiet : goal.returns-clause-quiet
+returns-clause-quiet c = quietly c.ledger_place-ledger.result c.args.state.now.cells.items c.answer.new.state.cells.items c.args.state.now.actors.items c.answer.new.state.actors.items c.ledger_place-ledger.ensures c.answer.ensures.quiet
