@@ -8,3 +8,6 @@ pub mod Movers
 pub mod Ends
 pub mod Orders
 pub mod Scripts
+pub mod Seen
+pub mod Others
+pub mod Looks

@@ -4,5 +4,7 @@ pub mod Cursors
 pub mod Due
 pub mod Can
 pub mod Laws
+pub mod Look
+pub mod Takes
 pub mod Ranks
 pub mod Progress

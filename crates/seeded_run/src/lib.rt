@@ -1,8 +1,16 @@
 //! A script's phases over the core, all actors on one thread: so far, which step is due for each actor.
 #![tactic(auto)]
 
+mod alone;
+mod begins_due;
+mod commands_due;
+mod errands_due;
 mod laws;
+mod look;
+mod names_due;
 mod places;
+mod sights;
+mod wanted;
 
 pub use laws::{
     cursors_tell_rests, idle_actors_wait, less_is_left, one_steps_in_order, parts_go_on,
