@@ -17,3 +17,6 @@ pub mod FixedCells
 pub mod CommandsReady
 pub mod Afterwards
 pub mod CommandsHeld
+pub mod Seen
+pub mod Others
+pub mod Looks

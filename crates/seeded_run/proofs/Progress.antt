@@ -147,7 +147,7 @@ module _ (s : Setting) (w : World) (g : Ghost) (rest : ℕ → List Command) (i 
       by (Some (verdict.Sum x)) is = inl (kind.Answer, ap (kind_by_verdict ps) is)
 
   -- the server of a session is there
-  session-within : (a server : ℕ) → a < actor_count s → (w.actors a).role ≡ Session server → server < s.servers
+  pub session-within : (a server : ℕ) → a < actor_count s → (w.actors a).role ≡ Session server → server < s.servers
   session-within a server low role =
       let at : slice_index_or s.roles a (Session server) ≡ Session server = get_or_from_slice_get s.roles a (w.actors a).role (Session server) (i.numbering.role a low) ∙ role in
       subst (IsRoleOf s) at (i.numbering.setting.roles a (Session server) low)

@@ -58,7 +58,7 @@ module _ (s : Setting) (w : World) (g : Ghost) (i : InvWith s (view s w) g) (rol
   role-is : (a : ℕ) (r : Role) → slice_get s.roles a ≡ Some r → (w.actors a).role ≡ r
   role-is a r at = same-role (slice_get s.roles a) (w.actors a).role r (i.numbering.role a (slice_get_within s.roles a r at)) at
 
-  session-is : (a server : ℕ) → (w.actors a).role ≡ Session server → a ≡ server
+  pub session-is : (a server : ℕ) → (w.actors a).role ≡ Session server → a ≡ server
   session-is a server is = elim (which a s.servers) [
     | inl low ↦ let here = role-is a (Session a) (roles.session a low) in cc
     | inr (inl at) ↦ let here = role-is a Puller (ap (slice_get s.roles) at ∙ roles.puller) in cc

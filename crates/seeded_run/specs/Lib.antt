@@ -5,6 +5,8 @@ pub mod Cursors
 pub mod Due
 pub mod Can
 pub mod Laws
+pub mod Look
+pub mod Takes
 pub mod Ranks
 pub mod Measure
 pub mod Progress

@@ -2,8 +2,16 @@
 #![tactic(auto)]
 
 mod commands;
+mod alone;
+mod begins_due;
+mod commands_due;
+mod errands_due;
 mod laws;
+mod look;
+mod names_due;
 mod places;
+mod sights;
+mod wanted;
 
 pub use laws::{
     cursors_tell_rests, idle_actors_wait, less_is_left, limits_hold, one_steps_in_order,

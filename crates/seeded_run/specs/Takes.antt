@@ -1,0 +1,49 @@
+-- Whether a step can be made, as one thread sees it that holds a core's cells and actors.
+use Rattle.std.specs.Prelude.{ℕ, ⊤, ◌≡◌, ◌==◌, ◌||◌, Bool, true, false, not, Option, Some, None, List, length, get_or}
+use Rattle.dc_node.specs.Block.{IsBodyOf}
+use Rattle.dim_hierarchy.specs.Dimension.{Dimension}
+use Rattle.dim_hierarchy.specs.Row.{IsRowOf}
+use Rattle.query_router.specs.Desk.{DeskValue}
+use Rattle.script_form.specs.declared.script.Command.{Command}
+use Rattle.script_form.specs.declared.script.Command.TheVariants as script
+use Rattle.script_run.specs.Phases.{closes}
+use Rattle.volap_cell.specs.Cells.{block_in}
+use Rattle.volap_cell.specs.Errands.{way_of}
+use Rattle.volap_cell.specs.Values.{ErrandValue, OfRow, actor_of}
+use Rattle.volap_cell.specs.declared.actor.Actor.{Actor}
+use Rattle.volap_cell.specs.declared.cell.Cell.{Cell}
+use Rattle.volap_cell.specs.declared.errand.RowErrand.{RowErrand}
+use Rattle.volap_cell.specs.declared.errand.Way.TheVariants.{Carried}
+use Rattle.volap_cell.specs.declared.role.Role.TheVariants.{Session}
+use Rattle.seeded_run.specs.Can.{is_carried_at}
+use Rattle.seeded_run.specs.Due.{all_below, is_empty_desk}
+use Rattle.seeded_run.specs.Look.{cell_at}
+
+-- a row and the block at which it is carried are of the dimensions
+pub record CanPick (h : List Dimension) (cells : List (Option Cell)) (e : ErrandValue) : Type 0 where
+  pub body : (r : RowErrand) (gate block : ℕ) → e.task ≡ OfRow r → r.way ≡ Carried gate block → IsBodyOf h (block_in (cell_at cells block)).body
+  pub row : (r : RowErrand) (gate block : ℕ) → e.task ≡ OfRow r → r.way ≡ Carried gate block → IsRowOf h r.row
+
+-- who isn't there carries no row
+abbrev pub carries_at : Option Actor → ℕ → Bool
+carries_at None y = false
+carries_at (Some a) y = is_carried_at y (way_of (actor_of a).errand)
+
+-- nobody but this actor carries a row at the block
+abbrev pub free_by : List (Option Actor) → ℕ → ℕ → Bool
+free_by actors n y = all_below (length actors) (λ a. a == n || not (carries_at (get_or actors a None) y))
+
+-- a query begins at an empty desk
+abbrev pub HasDeskFor : Option DeskValue → Option Command → Type 0
+HasDeskFor desk (Some (script.Query question)) = is_empty_desk desk ≡ true
+HasDeskFor desk _ = ⊤
+
+-- a query is next for a session alone
+abbrev pub AsksHere : Option Actor → Option Command → Type 0
+AsksHere (Some a) (Some (script.Query question)) = (server : ℕ) × (a.role ≡ Session server)
+AsksHere o next = ⊤
+
+-- there is a next command, which closes nothing or finds everyone else idle
+abbrev pub may_next : Option Command → Bool → Bool
+may_next None alone = false
+may_next (Some c) alone = not (closes c) || alone
