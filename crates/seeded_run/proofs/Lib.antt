@@ -8,3 +8,10 @@ pub mod Movers
 pub mod Ends
 pub mod Orders
 pub mod Scripts
+pub mod Told
+pub mod Firsts
+pub mod Alone
+pub mod PhaseRuns
+pub mod Pulled
+pub mod Keeps
+pub mod Begins

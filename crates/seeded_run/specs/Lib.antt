@@ -8,3 +8,4 @@ pub mod Ranks
 pub mod Progress
 pub mod Running
 pub mod Told
+pub mod Kept
