@@ -23,7 +23,7 @@ other-one : (with : Use) (s : ℕ) (c : Command) → session_of with c ≢ s →
 other-one with s c differs = rw (ne_eqb (session_of with c) s differs) refl
 
 -- none, where none of them is
-none-count : (with : Use) (s : ℕ) (cs : List Command) (m : ℕ) → ((i : ℕ) (c : Command) → slice_get cs i ≡ Some c → i < m → session_of with c ≢ s) → count_of with s (take m cs) ≡ 0
+pub none-count : (with : Use) (s : ℕ) (cs : List Command) (m : ℕ) → ((i : ℕ) (c : Command) → slice_get cs i ≡ Some c → i < m → session_of with c ≢ s) → count_of with s (take m cs) ≡ 0
 none-count with s [] zero none = refl
 none-count with s [] (suc m) none = refl
 none-count with s (c ∷ cs) zero none = refl
@@ -54,7 +54,7 @@ take-behind (x ∷ xs) ys (suc n) low =
     let more = take-behind xs ys n (omega arith) in
     (more.0, omega (arith, more.1), ap (λ l. x ∷ l) more.2)
 
-get-behind : (xs ys : List Command) (i : ℕ) → slice_get (xs ++ ys) (length xs + i) ≡ slice_get ys i
+pub get-behind : (xs ys : List Command) (i : ℕ) → slice_get (xs ++ ys) (length xs + i) ≡ slice_get ys i
 get-behind [] ys i = let e : 0 + i ≡ i = omega arith in ap (slice_get ys) e
 get-behind (x ∷ xs) ys i = let e : suc (length xs) + i ≡ suc (length xs + i) = omega arith in ap (slice_get (x ∷ (xs ++ ys))) e ∙ get-behind xs ys i
 

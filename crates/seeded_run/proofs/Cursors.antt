@@ -12,16 +12,16 @@ use Rattle.seeded_run.specs.Rests.{begun_in, stream_of}
 
 -- one command is of the session or not
 
-is-one : (with : Use) (s : ℕ) (c : Command) → (session_of with c == s) ≡ true → count_of with s (c ∷ []) ≡ 1
+pub is-one : (with : Use) (s : ℕ) (c : Command) → (session_of with c == s) ≡ true → count_of with s (c ∷ []) ≡ 1
 is-one with s c own = rw own refl
 
 is-none : (with : Use) (s : ℕ) (c : Command) → (session_of with c == s) ≡ false → count_of with s (c ∷ []) ≡ 0
 is-none with s c other = rw other refl
 
-own-first : (with : Use) (s : ℕ) (c : Command) (cs : List Command) → (session_of with c == s) ≡ true → stream_of with (c ∷ cs) s ≡ c ∷ stream_of with cs s
+pub own-first : (with : Use) (s : ℕ) (c : Command) (cs : List Command) → (session_of with c == s) ≡ true → stream_of with (c ∷ cs) s ≡ c ∷ stream_of with cs s
 own-first with s c cs own = rw own refl
 
-other-first : (with : Use) (s : ℕ) (c : Command) (cs : List Command) → (session_of with c == s) ≡ false → stream_of with (c ∷ cs) s ≡ stream_of with cs s
+pub other-first : (with : Use) (s : ℕ) (c : Command) (cs : List Command) → (session_of with c == s) ≡ false → stream_of with (c ∷ cs) s ≡ stream_of with cs s
 other-first with s c cs other = rw other refl
 
 -- without as many commands of the session as the first ones have, a stream is that of the others

@@ -20,3 +20,10 @@ pub mod CommandsHeld
 pub mod Seen
 pub mod Others
 pub mod Looks
+pub mod Told
+pub mod Firsts
+pub mod Alone
+pub mod PhaseRuns
+pub mod Pulled
+pub mod Keeps
+pub mod Begins

@@ -35,7 +35,7 @@ in-filter test (x ∷ xs) i c at = by (λ k. in-filter test xs k c) (test x) ref
     by more false is k at = let found = more k at in (suc found.0, found.1, found.2)
 
 -- the next command of a session is one of the phase, and the session's
-next-of : (p : PhaseRun) (w : World) (a : ℕ) (c : Command) (more : List Command) → rest_of p (history_in w) a ≡ c ∷ more → (i : ℕ) × (slice_get p.commands i ≡ Some c) × (session_of p.with c ≡ a)
+pub next-of : (p : PhaseRun) (w : World) (a : ℕ) (c : Command) (more : List Command) → rest_of p (history_in w) a ≡ c ∷ more → (i : ℕ) × (slice_get p.commands i ≡ Some c) × (session_of p.with c ≡ a)
 next-of p w a c more is =
     let first : slice_get (rest_of p (history_in w) a) 0 ≡ Some c = ap (λ cs. slice_get cs 0) is in
     let dropped = in-drop (begun_in p (history_in w) a) (stream_of p.with p.commands a) 0 c first in
@@ -45,7 +45,7 @@ next-of p w a c more is =
 same-role : (o : Option Role) (a b : Role) → o ≡ Some a → o ≡ Some b → a ≡ b
 same-role o a b x y = cc
 
-same-command : (xs : List Command) (i j : ℕ) (c d : Command) → i ≡ j → slice_get xs i ≡ Some c → slice_get xs j ≡ Some d → c ≡ d
+pub same-command : (xs : List Command) (i j : ℕ) (c d : Command) → i ≡ j → slice_get xs i ≡ Some c → slice_get xs j ≡ Some d → c ≡ d
 same-command xs i j c d is at_c at_d = let at : slice_get xs i ≡ Some d = ap (slice_get xs) is ∙ at_d in cc
 
 which : (a n : ℕ) → (a < n) ⊎ (a ≡ n) ⊎ (a ≡ n + 1) ⊎ (n + 2 ≤ a)
@@ -73,7 +73,7 @@ module _ (s : Setting) (w : World) (g : Ghost) (i : InvWith s (view s w) g) (rol
       not-hand r server worker x y = cc
 
   -- a hand stands behind the sessions, the puller and the administrator
-  hand-behind : (a worker : ℕ) → (w.actors a).role ≡ Hand worker → a < s.servers + 2 → ⊥
+  pub hand-behind : (a worker : ℕ) → (w.actors a).role ≡ Hand worker → a < s.servers + 2 → ⊥
   hand-behind a worker is low = elim (which a s.servers) [
     | inl below ↦ let here = role-is a (Session a) (roles.session a below) in cc
     | inr (inl at) ↦ let here = role-is a Puller (ap (slice_get s.roles) at ∙ roles.puller) in cc

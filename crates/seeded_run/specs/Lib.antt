@@ -13,3 +13,4 @@ pub mod Progress
 pub mod Running
 pub mod Told
 pub mod Commands
+pub mod Kept

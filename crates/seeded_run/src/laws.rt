@@ -1,9 +1,11 @@
 //! Laws of what is due, and of what the streams of a phase still have. There is nothing to do at run time.
 ghost use Rattle.seeded_run.specs.Cursors.{CursorLaw, FirstLaw, LastLaw};
+ghost use Rattle.seeded_run.specs.Kept.{KeepsBeginningLaw, KeepsOtherLaw, PhaseBeginsLaw, PhaseEndsLaw, QuietLaw, RunsLaw};
 ghost use Rattle.seeded_run.specs.Laws.{WholeLaw, RestLaw, IdleLaw, AtPartLaw, CarrierLaw, WantedLaw, FreeLaw, OrderLaw};
 ghost use Rattle.seeded_run.specs.Progress.{CanLaw, DueLaw, EndLaw, OrderEndLaw, ScriptLaw};
 ghost use Rattle.seeded_run.specs.Measure.{CountedLaw, FewerLaw, LimitsLaw, MostLaw, StepsLeftLaw};
 ghost use Rattle.seeded_run.specs.Ranks.{RankFallsLaw, StepFallsLaw, WaitingLaw};
+ghost use Rattle.seeded_run.specs.Told.{OthersLaw, ToldLaw};
 
 /// A stream has all its commands as the phase begins, and one less whenever one begins.
 pub fn streams_run_out()
@@ -73,4 +75,27 @@ pub fn somebody_goes_on()
 /// The actors of a script's run and a phase of it are such as the laws above ask for.
 pub fn scripts_run_so()
     ensures { ScriptLaw }
+{}
+
+/// A step tells the history nothing, or one of the things that its actor's command comes to next; and
+/// all other actors stay as they are.
+pub fn steps_tell_so()
+    ensures told { ToldLaw }
+    ensures others { OthersLaw }
+{}
+
+/// A phase begins between phases, and where nobody can make a step any more it is between phases again,
+/// with the commands of the phase done. Between its steps it runs as the laws of progress ask.
+pub fn phases_begin_and_end()
+    ensures begins { PhaseBeginsLaw }
+    ensures ends { PhaseEndsLaw }
+    ensures runs { RunsLaw }
+{}
+
+/// What holds between the steps of a phase holds after a step that begins nothing, and after one that
+/// begins the next command of its session. Which steps begin nothing.
+pub fn steps_keep_a_phase()
+    ensures other { KeepsOtherLaw }
+    ensures beginning { KeepsBeginningLaw }
+    ensures quiet { QuietLaw }
 {}

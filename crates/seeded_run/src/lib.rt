@@ -16,5 +16,8 @@ mod wanted;
 pub use laws::{
     cursors_tell_rests, idle_actors_wait, less_is_left, limits_hold, one_steps_in_order,
     parts_go_on, scripts_run_so, somebody_goes_on, steps_run_out, streams_run_out,
+    cursors_tell_rests, idle_actors_wait, less_is_left, one_steps_in_order, parts_go_on,
+    phases_begin_and_end, scripts_run_so, somebody_goes_on, steps_keep_a_phase, steps_tell_so,
+    streams_run_out,
 };
 pub use seeded_turns::Schedule;

@@ -1,0 +1,90 @@
+-- How a phase begins, goes on with each step, and ends.
+use Rattle.std.specs.Prelude.{ℕ, ◌≡◌, ◌≢◌, ◌+◌, ◌<◌, Bool, true, List, [], ◌∷◌, ◌++◌, Some, None, length, slice_get}
+use Rattle.row_ledger.specs.Past.{session_in}
+use Rattle.row_ledger.specs.declared.event.Event.{Event}
+use Rattle.row_ledger.specs.declared.settings.Use.{Use}
+use Rattle.script_form.specs.declared.script.Command.{Command}
+use Rattle.script_run.specs.Between.{AreFirst, IsInOrder, IsThrough}
+use Rattle.script_run.specs.Parts.{IsPartAt, Waits, place_in}
+use Rattle.script_run.specs.Places.{session_of}
+use Rattle.script_run.specs.Runs.{Begins}
+use Rattle.volap_cell.specs.Ghost.{Ghost}
+use Rattle.volap_cell.specs.Invariant.{InvWith}
+use Rattle.volap_cell.specs.Setting.{Setting, actor_count}
+use Rattle.volap_cell.specs.Sights.{IsIdle}
+use Rattle.volap_cell.specs.Steps.{Step, history_in}
+use Rattle.volap_cell.specs.View.{view}
+use Rattle.volap_cell.specs.World.{World}
+use Rattle.volap_cell.specs.declared.kind.Kind.{Kind}
+use Rattle.seeded_run.specs.Can.{able_in, can_step}
+use Rattle.seeded_run.specs.Due.{due}
+use Rattle.seeded_run.specs.Progress.{AreScriptRoles, IsOrderedRun, IsPhaseOf, IsScriptRun}
+use Rattle.seeded_run.specs.Rests.{PhaseRun, rest_of}
+use Rattle.seeded_run.specs.Running.{AreAtOwn, IsRunning}
+use Rattle.seeded_run.specs.Told.{is_of_part}
+
+-- Between phases.
+
+-- nobody has anything to do, and the commands so far are through, in order where that is asked for
+pub record IsBetween (in_order : Bool) (s : Setting) (with : Use) (done : List Command) (w : World) : Type 0 where
+  pub through : IsThrough with s.hierarchy done (history_in w)
+  pub idle : (a : ℕ) → IsIdle (w.actors a)
+  pub ordered : in_order ≡ true → IsInOrder with s.hierarchy done (history_in w)
+
+-- each session's next command is its first one in the phase
+pub record AreAtFirst (p : PhaseRun) (done : List Command) (next : ℕ → ℕ) : Type 0 where
+  pub first : AreFirst p.with (done ++ p.commands) (length done) next
+  pub own : AreAtOwn p done next
+
+-- There a phase begins;
+abbrev pub PhaseBeginsLaw : Type 0
+PhaseBeginsLaw = (in_order : Bool) (s : Setting) (p : PhaseRun) (done : List Command) (w : World) (next : ℕ → ℕ) → AreScriptRoles s → IsPhaseOf s p → IsBetween in_order s p.with done w
+    → p.before ≡ history_in w → AreAtFirst p done next → IsRunning in_order s p done w next
+
+-- and where nobody can make a step any more, it is through too.
+abbrev pub PhaseEndsLaw : Type 0
+PhaseEndsLaw = (in_order : Bool) (s : Setting) (p : PhaseRun) (done : List Command) (w : World) (g : Ghost) (next : ℕ → ℕ) → InvWith s (view s w) g → IsRunning in_order s p done w next
+    → able_in in_order s p w ≡ [] → IsBetween in_order s p.with (done ++ p.commands) w
+
+-- While it runs somebody can step, as it is a script's run, and where that is asked for an ordered one.
+abbrev pub RunsLaw : Type 0
+RunsLaw = (in_order : Bool) (s : Setting) (p : PhaseRun) (done : List Command) (w : World) (g : Ghost) (next : ℕ → ℕ) → InvWith s (view s w) g → IsRunning in_order s p done w next
+    → IsScriptRun s w (rest_of p (history_in w)) × (in_order ≡ true → IsOrderedRun s p w)
+
+-- Steps.
+
+-- An actor that can step makes a step. Where it is due that it goes on with a part or a purse, it does so.
+pub record IsTurn (in_order : Bool) (s : Setting) (p : PhaseRun) (w : World) (n : ℕ) (now : World) : Type 0 where
+  pub within : n < actor_count s
+  pub can : can_step in_order s p w n ≡ true
+  pub due_kind : Kind
+  pub is_due : due s p w n ≡ Some due_kind
+  pub made : Kind
+  pub of_part : is_of_part due_kind ≡ true → is_of_part made ≡ true
+  pub step : Step s made n w now
+
+-- A step that begins nothing keeps all of it;
+abbrev pub KeepsOtherLaw : Type 0
+KeepsOtherLaw = (in_order : Bool) (s : Setting) (p : PhaseRun) (done : List Command) (w now : World) (g g_now : Ghost) (next : ℕ → ℕ) (n : ℕ)
+    → InvWith s (view s w) g → InvWith s (view s now) g_now → IsTurn in_order s p w n now
+    → ((e : Event) → history_in now ≡ e ∷ history_in w → session_in e ≡ None) → IsRunning in_order s p done w next → IsRunning in_order s p done now next
+
+-- the session's next command stands behind this one of the phase, and none of it between
+pub record MovesOn (p : PhaseRun) (done : List Command) (session k : ℕ) (next now : ℕ → ℕ) : Type 0 where
+  pub further : length done + k < now session
+  pub none : (i : ℕ) (c : Command) → slice_get p.commands i ≡ Some c → k < i → length done + i < now session → session_of p.with c ≢ session
+  pub others : (t : ℕ) → t ≢ session → now t ≡ next t
+  pub own : AreAtOwn p done now
+
+-- and so does one that begins the next command of its session, which has a next one then.
+abbrev pub KeepsBeginningLaw : Type 0
+KeepsBeginningLaw = (in_order : Bool) (s : Setting) (p : PhaseRun) (done : List Command) (w now : World) (g g_now : Ghost) (next next_now : ℕ → ℕ) (n k : ℕ) (c : Command) (e : Event)
+    → InvWith s (view s w) g → InvWith s (view s now) g_now → IsTurn in_order s p w n now
+    → slice_get p.commands k ≡ Some c → next n ≡ length done + k → history_in now ≡ e ∷ history_in w → session_in e ≡ Some n → Begins p.with s.hierarchy c e
+    → MovesOn p done n k next next_now → IsRunning in_order s p done w next → IsRunning in_order s p done now next_now
+
+-- Of a step by an actor that has a command, a part or a job, or of a kind that begins nothing, no event begins a command.
+abbrev pub QuietLaw : Type 0
+QuietLaw = (s : Setting) (k : Kind) (n : ℕ) (w now : World) (g g_now : Ghost) → InvWith s (view s w) g → InvWith s (view s now) g_now → Step s k n w now
+    → ((w.actors n).command ≡ None → is_of_part k ≡ true)
+    → (e : Event) → history_in now ≡ e ∷ history_in w → session_in e ≡ None
