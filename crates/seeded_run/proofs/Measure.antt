@@ -93,6 +93,7 @@ fewer-law h p k n cells actors cells_now actors_now most has stepped turn =
       hierarchy = core.hierarchy;
       servers = core.servers;
       workers = core.workers;
+      stock = core.stock;
       roles = core.roles;
       count = stepped.actors_kept ∙ core.count;
       is = after.is;

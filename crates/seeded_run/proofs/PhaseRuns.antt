@@ -130,7 +130,7 @@ module _ (in_order : Bool) (s : Setting) (p : PhaseRun) (done : List Command) (w
       record { command = nobody.2; errand = no-part (w.actors a).errand nobody.3; job = nobody.4; purse = nobody.1 }
 
   pub all-idle : ((a : ℕ) → a < actor_count s → IsIdle (w.actors a)) → (a : ℕ) → IsIdle (w.actors a)
-  all-idle within a = elim (low-or-high a (actor_count s)) [ | inl low ↦ within a low | inr high ↦ beyond-idle a high ]
+  all-idle within a = elim (low-or-high a (actor_count s)) [ inl low ↦ within a low | inr high ↦ beyond-idle a high ]
 
   pub script : IsScriptRun s w (rest_of p (history_in w))
   script = script-law s p w g i r.roles r.phase r.pages

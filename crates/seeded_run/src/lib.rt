@@ -1,9 +1,9 @@
 //! A script's phases over the core, all actors on one thread: so far, which step is due for each actor.
 #![tactic(auto)]
 
-mod commands;
 mod alone;
 mod begins_due;
+mod commands;
 mod commands_due;
 mod errands_due;
 mod laws;
@@ -15,9 +15,7 @@ mod wanted;
 
 pub use laws::{
     cursors_tell_rests, idle_actors_wait, less_is_left, limits_hold, one_steps_in_order,
-    parts_go_on, scripts_run_so, somebody_goes_on, steps_run_out, streams_run_out,
-    cursors_tell_rests, idle_actors_wait, less_is_left, one_steps_in_order, parts_go_on,
-    phases_begin_and_end, scripts_run_so, somebody_goes_on, steps_keep_a_phase, steps_tell_so,
-    streams_run_out,
+    parts_go_on, phases_begin_and_end, scripts_run_so, somebody_goes_on, steps_keep_a_phase,
+    steps_run_out, steps_tell_so, streams_run_out,
 };
 pub use seeded_turns::Schedule;
