@@ -37,7 +37,7 @@ use Rattle.volap_cell.specs.World.{World}
 use Rattle.volap_cell.specs.declared.command.Command.{Command as OpenCommand}
 use Rattle.volap_cell.specs.declared.command.Work.{Work}
 use Rattle.volap_cell.specs.declared.role.Role.TheVariants.{Hand}
-use Rattle.seeded_run.proofs.Alone.{IsAtCommand, alone-parts, apart, closing-alone, does-nothing, next-due, same-or-not}
+use Rattle.seeded_run.proofs.LeftAlone.{IsAtCommand, alone-parts, apart, closing-alone, does-nothing, next-due, same-or-not}
 use Rattle.seeded_run.proofs.Cursors.{first-law, is-one}
 use Rattle.seeded_run.proofs.Firsts.{IsFirst, first-at, first-fails, first-pass, first-some, over_in}
 use Rattle.seeded_run.proofs.Keeps.{Own, can-first, doing-is, idle-from, is-at-command, kept-by, none-some, one-more, opened-other, others}

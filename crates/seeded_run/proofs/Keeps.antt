@@ -38,7 +38,7 @@ use Rattle.volap_cell.specs.World.{World}
 use Rattle.volap_cell.specs.declared.command.Command.{Command as OpenCommand}
 use Rattle.volap_cell.specs.declared.command.Work.{Work}
 use Rattle.volap_cell.specs.declared.command.Work.TheVariants as work_is
-use Rattle.seeded_run.proofs.Alone.{IsAtCommand, alone-from, alone-parts, apart, at-command, both-parts, closing-off, does-nothing, page-closing, plain-open, same-or-not, stuck, true-or, within-of}
+use Rattle.seeded_run.proofs.LeftAlone.{IsAtCommand, alone-from, alone-parts, apart, at-command, both-parts, closing-off, does-nothing, page-closing, plain-open, same-or-not, stuck, true-or, within-of}
 use Rattle.seeded_run.proofs.Pulled.{deed-ends, deed-pulls, deed-right, deed-session, end-pulls-none, end-right, end-session, plain-pulled, pull-next, pulled-more, pulled-same, right-if}
 use Rattle.seeded_run.proofs.Told.{others-law, told-law}
 use Rattle.seeded_run.specs.Can.{can, can_step}

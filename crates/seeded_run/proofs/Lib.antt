@@ -22,7 +22,7 @@ pub mod Others
 pub mod Looks
 pub mod Told
 pub mod Firsts
-pub mod Alone
+pub mod LeftAlone
 pub mod PhaseRuns
 pub mod Pulled
 pub mod Keeps

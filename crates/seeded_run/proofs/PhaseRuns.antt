@@ -22,7 +22,7 @@ use Rattle.volap_cell.specs.Values.{ErrandValue}
 use Rattle.volap_cell.specs.View.{view}
 use Rattle.volap_cell.specs.World.{World}
 use Rattle.volap_cell.specs.declared.command.Command.{Command as OpenCommand}
-use Rattle.seeded_run.proofs.Alone.{alone-from, apart, both-parts, does-nothing, empty-of, is-idle, same-or-not}
+use Rattle.seeded_run.proofs.LeftAlone.{alone-from, apart, both-parts, does-nothing, empty-of, is-idle, same-or-not}
 use Rattle.seeded_run.proofs.Cursors.{cursor-law, other-first, own-first}
 use Rattle.seeded_run.proofs.Ends.{end-law}
 use Rattle.seeded_run.proofs.Firsts.{IsFirst, first-fails, first-none, first-pass, first-some, late-none, over_in}
