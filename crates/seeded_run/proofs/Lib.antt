@@ -11,3 +11,4 @@ pub mod Scripts
 pub mod Seen
 pub mod Others
 pub mod Looks
+pub mod Takings

@@ -3,6 +3,7 @@
 
 mod alone;
 mod begins_due;
+mod can;
 mod commands_due;
 mod errands_due;
 mod laws;
