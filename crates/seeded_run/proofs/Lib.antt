@@ -27,3 +27,4 @@ pub mod PhaseRuns
 pub mod Pulled
 pub mod Keeps
 pub mod Begins
+pub mod Takings

@@ -1,9 +1,11 @@
 -- Whether a step can be made, as one thread sees it that holds a core's cells and actors.
-use Rattle.std.specs.Prelude.{ℕ, ⊤, ◌≡◌, ◌==◌, ◌||◌, Bool, true, false, not, Option, Some, None, List, length, get_or}
+use Rattle.std.specs.Prelude.{ℕ, ⊤, ◌≡◌, ◌==◌, ◌||◌, Bool, true, false, not, Option, Some, None, List, length, get_or, option_and_then}
 use Rattle.dc_node.specs.Block.{IsBodyOf}
 use Rattle.dim_hierarchy.specs.Dimension.{Dimension}
 use Rattle.dim_hierarchy.specs.Row.{IsRowOf}
 use Rattle.query_router.specs.Desk.{DeskValue}
+use Rattle.std.specs.Option.{option_map_or}
+use Rattle.row_ledger.specs.declared.settings.Use.{Use}
 use Rattle.script_form.specs.declared.script.Command.{Command}
 use Rattle.script_form.specs.declared.script.Command.TheVariants as script
 use Rattle.script_run.specs.Phases.{closes}
@@ -14,10 +16,11 @@ use Rattle.volap_cell.specs.declared.actor.Actor.{Actor}
 use Rattle.volap_cell.specs.declared.cell.Cell.{Cell}
 use Rattle.volap_cell.specs.declared.errand.RowErrand.{RowErrand}
 use Rattle.volap_cell.specs.declared.errand.Way.TheVariants.{Carried}
+use Rattle.volap_cell.specs.declared.kind.Kind.{Kind}
 use Rattle.volap_cell.specs.declared.role.Role.TheVariants.{Session}
-use Rattle.seeded_run.specs.Can.{is_carried_at}
+use Rattle.seeded_run.specs.Can.{is_carried_at, wanted_of}
 use Rattle.seeded_run.specs.Due.{all_below, is_empty_desk}
-use Rattle.seeded_run.specs.Look.{cell_at}
+use Rattle.seeded_run.specs.Look.{cell_at, setting_by, world_by}
 
 -- a row and the block at which it is carried are of the dimensions
 pub record CanPick (h : List Dimension) (cells : List (Option Cell)) (e : ErrandValue) : Type 0 where
@@ -47,3 +50,8 @@ AsksHere o next = ⊤
 abbrev pub may_next : Option Command → Bool → Bool
 may_next None alone = false
 may_next (Some c) alone = not (closes c) || alone
+
+-- what a step of this kind wants at a part, if it is one at a part, is free
+abbrev pub is_free_by : List Dimension → Use → List (Option Cell) → List (Option Actor) → ℕ → Option ErrandValue → Kind → Bool
+is_free_by h with cells actors n errand k =
+    option_map_or (free_by actors n) (option_and_then (λ (e : ErrandValue). wanted_of (setting_by h with) (world_by cells) e k) errand) true

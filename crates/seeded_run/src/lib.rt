@@ -4,6 +4,7 @@
 mod alone;
 mod begins_due;
 mod commands;
+mod can;
 mod commands_due;
 mod errands_due;
 mod laws;

@@ -1,0 +1,247 @@
+-- A step that is due, and can be made, is told by what one thread sees that holds all cells and actors.
+use Rattle.std.proofs.Common.{◌≡◌, ◌≢◌, ◌∙◌, ℕ, ◌<◌, inl, inr, Bool, true, false, List, [], ◌∷◌, length, get_or, Option, Some, None, refl, sym, ap, subst, not, arith, ◌+◌}
+use Rattle.std.specs.Prelude.{◌==◌, ◌&&◌, ◌||◌, if◌then◌else◌, is_some, is_none, option_and_then}
+use Rattle.std.specs.Option.{option_map_or}
+use mathlib.Core.Path.{fun_ext}
+use Rattle.core_tree.proofs.Carriers.{Carries, carries}
+use Rattle.dc_node.specs.Block.{IsBodyOf}
+use Rattle.dim_hierarchy.specs.Dimension.{Dimension}
+use Rattle.dim_hierarchy.specs.Row.{IsRowOf}
+use Rattle.dim_hierarchy.specs.declared.row.Row.{Row}
+use Rattle.mapping_table.specs.declared.place.Where.{Where}
+use Rattle.mapping_table.specs.declared.place.Where.TheVariants as where_is
+use Rattle.query_router.specs.Desk.{DeskValue}
+use Rattle.row_ledger.specs.declared.settings.Use.{Use}
+use Rattle.script_form.specs.declared.script.Command.{Command}
+use Rattle.script_form.specs.declared.script.Command.TheVariants as script
+use Rattle.script_run.specs.Phases.{closes}
+use Rattle.tree_shape.specs.Laws.{BlockLaw}
+use Rattle.volap_cell.proofs.Actors.{row-at}
+use Rattle.volap_cell.proofs.States.{same-actor}
+use Rattle.volap_cell.specs.Cells.{CellValue, block_in, desk_in}
+use Rattle.volap_cell.specs.Errands.{place_of, row_way, way_of}
+use Rattle.volap_cell.specs.Growing.{table_of}
+use Rattle.volap_cell.specs.Setting.{Setting, actor_count, desk_cell}
+use Rattle.volap_cell.specs.State.{Has}
+use Rattle.volap_cell.specs.Stocking.{cells_at}
+use Rattle.volap_cell.specs.TreeKinds.{HasRow}
+use Rattle.volap_cell.specs.Values.{ActorValue, ErrandValue, JobValue, TaskValue, OfRow, Unread, Read, actor_of}
+use Rattle.volap_cell.specs.View.{view}
+use Rattle.volap_cell.specs.World.{World}
+use Rattle.volap_cell.specs.declared.actor.Actor.{Actor}
+use Rattle.volap_cell.specs.declared.cell.Cell.{Cell}
+use Rattle.volap_cell.specs.declared.errand.RowErrand.{RowErrand}
+use Rattle.volap_cell.specs.declared.errand.Way.{Way}
+use Rattle.volap_cell.specs.declared.errand.Way.TheVariants as way
+use Rattle.volap_cell.specs.declared.kind.Kind.{Kind}
+use Rattle.volap_cell.specs.declared.kind.Kind.TheVariants as kind
+use Rattle.volap_cell.specs.declared.role.Role.{Role}
+use Rattle.volap_cell.specs.declared.role.Role.TheVariants as role
+use Rattle.seeded_run.proofs.Looks.{due-seen}
+use Rattle.seeded_run.proofs.Others.{all-same}
+use Rattle.seeded_run.proofs.Progress.{session-within}
+use Rattle.seeded_run.proofs.Scripts.{session-is}
+use Rattle.seeded_run.proofs.Seen.{cell-seen}
+use Rattle.seeded_run.specs.Can.{child_wanted, is_block_free, is_carried_at, is_drained, meets, root_at, wanted_down, wanted_of}
+use Rattle.seeded_run.specs.Core.{IsCore}
+use Rattle.seeded_run.specs.Due.{actor_kind, all_below, are_known, desk_of, due_by, first_kind, free_kind, is_empty_desk, led_to, next_kind}
+use Rattle.seeded_run.specs.Look.{IsTold, ahead, alone_by, cell_at, cells_only, setting_by, setting_for, world_by}
+use Rattle.seeded_run.specs.Takes.{AsksHere, CanPick, HasDeskFor, carries_at, free_by, is_free_by, may_next}
+
+-- Beginning a command.
+
+first-some : (desk : Option DeskValue) (c : Command) (known : Bool) → HasDeskFor desk (Some c) → is_some (first_kind desk c known) ≡ true
+first-some desk (script.Insert new) true e = refl
+first-some desk (script.Insert new) false e = refl
+first-some desk (script.Query q) true e = ap (λ b. is_some (if b then Some kind.BeginQuery else None)) e
+first-some desk (script.Query q) false e = refl
+first-some desk (script.Control call) true e = refl
+first-some desk (script.Control call) false e = refl
+
+late : (closed alone : Bool) (k : Option Kind) → is_some k ≡ true → is_some (if closed && not alone then None else k) ≡ (not closed || alone)
+late true true k e = e
+late true false k e = refl
+late false alone k e = e
+
+-- whatever its names are, a command that may begin makes something due
+next-some : (h : List Dimension) (alone : Bool) (desk : Option DeskValue) (next : Option Command) → HasDeskFor desk next → is_some (next_kind h alone desk (ahead next)) ≡ may_next next alone
+next-some h alone desk None e = refl
+next-some h alone desk (Some c) e = late (closes c) alone (first_kind desk c (are_known h c)) (first-some desk c (are_known h c) e)
+
+pub free-some : (h : List Dimension) (servers : ℕ) (w : World) (alone : Bool) (next : Option Command) (r : Role) → ((worker : ℕ) → r ≢ role.Hand worker)
+    → HasDeskFor (desk_of (setting_for [] servers) w r) next → is_some (free_kind (setting_for h servers) w alone (ahead next) r) ≡ may_next next alone
+free-some h servers w alone next (role.Hand worker) other e = absurd (other worker refl)
+free-some h servers w alone next (role.Session server) other e = next-some h alone (desk_of (setting_for h servers) w (role.Session server)) next e
+free-some h servers w alone next role.Puller other e = next-some h alone None next e
+free-some h servers w alone next role.Admin other e = next-some h alone None next e
+
+-- The block that is wanted.
+
+module _ (s : Setting) (w : World) where
+  root-seen : (led : Option Where) → root_at w led ≡ root_at (cells_only w.cells) led
+  root-seen None = refl
+  root-seen (Some (where_is.Gate gate)) = refl
+  root-seen (Some (where_is.Split plane left right)) = refl
+  root-seen (Some (where_is.Moved to)) = refl
+
+  child-seen : (h : List Dimension) (row : Row) (on : Way) → child_wanted h w row on ≡ child_wanted h (cells_only w.cells) row on
+  child-seen h row (way.Before height filled) = refl
+  child-seen h row (way.Carried gate block) = refl
+  child-seen h row (way.Put gate) = refl
+  child-seen h row way.Placed = refl
+
+  down-seen : (h : List Dimension) (task : TaskValue) → wanted_down h w task ≡ wanted_down h (cells_only w.cells) task
+  down-seen h (OfRow r) = child-seen h r.row r.way
+  down-seen h (Unread f) = refl
+  down-seen h (Read r) = refl
+
+  wanted-at : (e : ErrandValue) (k : Kind) → wanted_of s w e k ≡ wanted_of (setting_for s.hierarchy s.servers) (cells_only w.cells) e k
+  wanted-at e kind.GateRead = refl
+  wanted-at e kind.BlockVisit = refl
+  wanted-at e kind.EnterTree = root-seen (led_to s w e)
+  wanted-at e kind.EnterQueue = refl
+  wanted-at e kind.Down = down-seen s.hierarchy e.task
+  wanted-at e kind.PutInLeaf = refl
+  wanted-at e kind.LeaveTree = refl
+  wanted-at e kind.Refill = refl
+  wanted-at e kind.TakePart = refl
+  wanted-at e kind.LookUp = refl
+  wanted-at e kind.Forward = refl
+  wanted-at e kind.Expand = refl
+  wanted-at e kind.FinishPart = refl
+  wanted-at e kind.BeginInsert = refl
+  wanted-at e kind.Note = refl
+  wanted-at e kind.Route = refl
+  wanted-at e kind.Ack = refl
+  wanted-at e kind.BeginQuery = refl
+  wanted-at e kind.Answer = refl
+  wanted-at e kind.Sync = refl
+  wanted-at e kind.Freeze = refl
+  wanted-at e kind.Drained = refl
+  wanted-at e kind.Collect = refl
+  wanted-at e kind.BuildBlock = refl
+  wanted-at e kind.FinishSplit = refl
+  wanted-at e kind.FinishMove = refl
+  wanted-at e kind.Postpone = refl
+  wanted-at e kind.Reuse = refl
+
+wanted-seen : (h : List Dimension) (servers : ℕ) (s : Setting) (w : World) (cells : ℕ → CellValue) (e : ErrandValue) (k : Kind) → s.hierarchy ≡ h → s.servers ≡ servers → ((y : ℕ) → w.cells y ≡ cells y)
+    → wanted_of s w e k ≡ wanted_of (setting_for h servers) (cells_only cells) e k
+wanted-seen h servers s w cells e k same_h same_servers same =
+    wanted-at s w e k
+    ∙ ap (λ (g : List Dimension). wanted_of (setting_for g s.servers) (cells_only w.cells) e k) same_h
+    ∙ ap (λ n. wanted_of (setting_for h n) (cells_only w.cells) e k) same_servers
+    ∙ ap (λ (f : ℕ → CellValue). wanted_of (setting_for h servers) (cells_only f) e k) (fun_ext same)
+
+-- Who carries a row there.
+
+carries-seen : (o : Option Actor) (v : ActorValue) (y : ℕ) → Has o (λ x. actor_of x ≡ v) → is_carried_at y (way_of v.errand) ≡ carries_at o y
+carries-seen None v y has = absurd has
+carries-seen (Some a) v y has = ap (λ (x : ActorValue). is_carried_at y (way_of x.errand)) (sym has)
+
+free-seen : (s : Setting) (w : World) (actors : List (Option Actor)) (n y : ℕ) → length actors ≡ actor_count s → ((a : ℕ) → a < length actors → Has (get_or actors a None) (λ x. actor_of x ≡ w.actors a))
+    → is_block_free s w n y ≡ free_by actors n y
+free-seen s w actors n y count is =
+    ap (λ m. all_below m (λ a. a == n || not (is_carried_at y (way_of (w.actors a).errand)))) (sym count)
+    ∙ all-same (length actors) (λ a. a == n || not (is_carried_at y (way_of (w.actors a).errand))) (λ a. a == n || not (carries_at (get_or actors a None) y)) (λ a below. ap (λ b. a == n || not b) (carries-seen (get_or actors a None) (w.actors a) y (is a below)))
+
+-- All of it.
+
+and-out : (o : Option Kind) (f : Kind → Bool) (d : Bool) → option_map_or (λ k. f k && d) o false ≡ (option_map_or f o false && d)
+and-out None f d = refl
+and-out (Some k) f d = refl
+
+-- with no part no block is wanted
+pub no-part : (o : Option Kind) → is_some o ≡ option_map_or (λ (k : Kind). true) o false
+no-part None = refl
+no-part (Some k) = refl
+
+same-or : (o : Option ℕ) (f g : ℕ → Bool) → ((y : ℕ) → f y ≡ g y) → option_map_or f o true ≡ option_map_or g o true
+same-or None f g same = refl
+same-or (Some y) f g same = same y
+
+module _ (h : List Dimension) (with : Use) (cells : List (Option Cell)) (actors : List (Option Actor)) (s : Setting) (w : World) (n : ℕ) (core : IsCore h with cells actors s w) (low : n < length actors) (a : Actor) (at : get_or actors n None ≡ Some a) where
+  -- what the actor's step wants is free
+  abbrev is_free_for : Kind → Bool
+  is_free_for k = is_free_by h with cells actors n (actor_of a).errand k
+
+  is-actor : w.actors n ≡ actor_of a
+  is-actor = same-actor cells actors w n a core.is at
+
+  wanted-by : (o : Option ErrandValue) (k : Kind) → option_and_then (λ e. wanted_of s w e k) o ≡ option_and_then (λ (e : ErrandValue). wanted_of (setting_by h with) (world_by cells) e k) o
+  wanted-by None k = refl
+  wanted-by (Some e) k = wanted-seen h with.servers s w (cell_at cells) e k core.hierarchy core.servers (cell-seen cells actors w core.is)
+
+  meets-seen : (k : Kind) → meets s w n k ≡ (is_free_for k && is_drained (world_by cells) (actor_of a).job)
+  meets-seen k =
+      ap (λ (x : ActorValue). option_map_or (is_block_free s w n) (option_and_then (λ e. wanted_of s w e k) x.errand) true && is_drained w x.job) is-actor
+      ∙ ap (λ o. option_map_or (is_block_free s w n) o true && is_drained w (actor_of a).job) (wanted-by (actor_of a).errand k)
+      ∙ ap (λ b. b && is_drained w (actor_of a).job)
+      (same-or (option_and_then (λ (e : ErrandValue). wanted_of (setting_by h with) (world_by cells) e k) (actor_of a).errand) (is_block_free s w n) (free_by actors n)
+      (λ y. free-seen s w actors n y core.count core.is.actor))
+      ∙ ap (λ (f : ℕ → CellValue). is_free_for k && is_drained (cells_only f) (actor_of a).job) (fun_ext (cell-seen cells actors w core.is))
+
+  -- the actor can make its step
+  pub can-seen : (rest : ℕ → List Command) (next : Option Command) (left : ℕ) → IsTold s rest n next left
+      → option_map_or (meets s w n) (due_by s w rest n) false
+      ≡ (option_map_or (is_free_by h with cells actors n (actor_of a).errand) (actor_kind (setting_by h with) (world_by cells) (alone_by actors n next left) (ahead next) (actor_of a) (actor_of a).errand) false
+      && is_drained (world_by cells) (actor_of a).job)
+  can-seen rest next left told =
+      ap (λ (f : Kind → Bool). option_map_or f (due_by s w rest n) false) (fun_ext meets-seen)
+      ∙ ap (λ o. option_map_or (λ k. is_free_for k && is_drained (world_by cells) (actor_of a).job) o false) (due-seen h with cells actors s w n core low rest next left a told at)
+      ∙ and-out (actor_kind (setting_by h with) (world_by cells) (alone_by actors n next left) (ahead next) (actor_of a) (actor_of a).errand) is_free_for (is_drained (world_by cells) (actor_of a).job)
+
+  -- Its row, and the block at which it is carried, are of the dimensions.
+  module _ (blocks : BlockLaw) (e : ErrandValue) (has_errand : (actor_of a).errand ≡ Some e) where
+    module _ (r : RowErrand) (gate block : ℕ) (row : e.task ≡ OfRow r) (carried : r.way ≡ way.Carried gate block) where
+      has : HasRow (actor_of a) e r
+      has = record { errand = has_errand; row = row }
+
+      here : Carries s (view s w) core.inv.ghost_of gate block (row_way e r)
+      here = carries s (view s w) core.inv.ghost_of refl core.inv.holds n gate block (row_way e r)
+          (ap (λ (x : ActorValue). way_of x.errand) is-actor ∙ row-at has)
+          (ap place_of carried)
+
+      body-is : IsBodyOf h (block_in (cell_at cells block)).body
+      body-is = subst (λ (x : CellValue). IsBodyOf h (block_in x).body) (cell-seen cells actors w core.is block)
+          (subst (λ (g : List Dimension). IsBodyOf g (block_in (w.cells block)).body) core.hierarchy
+          (blocks (table_of s (view s w).row) (cells_at (view s w).blocks (view s w).trees gate) (core.inv.ghost_of.shape gate) block here.tree core.inv.holds.numbering.setting.hierarchy here.inside here.apart).body)
+
+      row-is : IsRowOf h r.row
+      row-is = subst (λ (g : List Dimension). IsRowOf g r.row) core.hierarchy (subst (IsRowOf s.hierarchy) here.known (here.tree.numbered r.row.no here.in_tree.placed).1)
+
+    pub can-pick : CanPick h cells e
+    can-pick = record { body = body-is; row = row-is }
+
+  -- The desk of its server is empty while it has no command.
+  module _ (server : ℕ) (session : a.role ≡ role.Session server) (none : a.command ≡ None) where
+    session-here : (w.actors n).role ≡ role.Session server
+    session-here = ap (λ (x : ActorValue). x.role) is-actor ∙ session
+
+    by-op : (o : Option ℕ) → ((view s w).desks server).op ≡ o → is_none ((view s w).desks server).op ≡ true
+    by-op None is = ap is_none is
+    by-op (Some of) is =
+        let low_server = session-within s w core.inv.ghost_of (λ m. []) core.inv.holds n server (omega (arith, core.count)) session-here in
+        let who = core.inv.holds.desking.whose server of low_server is in
+        let same : who.0 ≡ n = session-is s w core.inv.ghost_of core.inv.holds core.roles who.0 server who.4 ∙ sym (session-is s w core.inv.ghost_of core.inv.holds core.roles n server session-here) in
+        let its : (w.actors n).command ≡ Some who.1 = ap (λ m. (w.actors m).command) (sym same) ∙ who.2 in
+        let free : (w.actors n).command ≡ None = ap (λ (x : ActorValue). x.command) is-actor ∙ none in
+        absurd (cc)
+
+    empty-here : is_empty_desk (desk_of (setting_by [] with) (world_by cells) (role.Session server)) ≡ true
+    empty-here =
+        subst (λ m. is_none (desk_in (cell_at cells (3 + m + server))).op ≡ true) core.servers
+        (subst (λ (c : CellValue). is_none (desk_in c).op ≡ true) (cell-seen cells actors w core.is (desk_cell s server)) (by-op ((view s w).desks server).op refl))
+
+  pub desk-empty : (next : Option Command) → AsksHere (Some a) next → a.command ≡ None → HasDeskFor (desk_of (setting_by [] with) (world_by cells) a.role) next
+  desk-empty None asks none = tt
+  desk-empty (Some (script.Insert new)) asks none = tt
+  desk-empty (Some (script.Control call)) asks none = tt
+  desk-empty (Some (script.Query q)) asks none = ap (λ r. is_empty_desk (desk_of (setting_by [] with) (world_by cells) r)) asks.1 ∙ empty-here asks.0 asks.1 none
+
+-- In order.
+
+pub in-turn : (in_order : Bool) (first opened : Option ℕ) (n : ℕ) (x : Bool) → (in_order ≡ true → opened ≡ first)
+    → (if in_order then option_map_or (λ m. m == n) opened false && x else x) ≡ ((not in_order || option_map_or (λ m. m == n) first false) && x)
+in-turn true first opened n x same = ap (λ o. option_map_or (λ m. m == n) o false && x) (same refl)
+in-turn false first opened n x same = refl
