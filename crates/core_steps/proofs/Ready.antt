@@ -1,6 +1,5 @@
 -- What a driver takes out of the vectors is what its kind of step asks for; and the vectors are the same state where the step changed nothing.
-use Rattle.std.proofs.Common.{◌≡◌, ◌≢◌, ℕ, ◌<◌, ◌≤◌, List, [], ◌∷◌, map, length, Option, Some, None, get_or, set, refl, sym, ap, ◌∙◌, subst, arith}
-use Rattle.std.proofs.lemmas.List.{length-set}
+use Rattle.std.proofs.Common.{◌≡◌, ◌≢◌, ℕ, ◌<◌, List, [], ◌∷◌, map, length, Option, Some, None, get_or, refl, subst}
 use Rattle.dim_hierarchy.specs.Dimension.{Dimension}
 use Rattle.tree_shape.specs.Counts.{Each}
 use Rattle.volap_cell.specs.Cells.{CellValue, cell_of}
@@ -11,8 +10,8 @@ use Rattle.volap_cell.specs.Values.{ActorValue, actor_of}
 use Rattle.volap_cell.specs.World.{MustKeep, World}
 use Rattle.volap_cell.specs.declared.actor.Actor.{Actor}
 use Rattle.volap_cell.specs.declared.cell.Cell.{Cell}
-use Rattle.volap_cell.proofs.States.{is-here, is-some, of-it, same-actor, stand-world, stands, there, within}
-use Rattle.core_steps.specs.Ready.{IsReady, MayStep, Stays}
+use Rattle.volap_cell.proofs.States.{is-here, is-some, same-actor, stand-world, stands}
+use Rattle.core_steps.specs.Ready.{MayStep}
 
 -- the numbers of things that stand at their places
 abbrev pub numbers_in : List (ℕ × Cell) → List ℕ
