@@ -1,5 +1,5 @@
 -- The events of steps by which a command goes on or ends begin nothing.
-use Rattle.std.proofs.Common.{ℕ, ◌≡◌, List, ◌∷◌, false, Some, None, refl, sym, ap, ◌∙◌, subst}
+use Rattle.std.proofs.Common.{ℕ, ◌≡◌, List, ◌∷◌, false, Some, refl, sym, ap, ◌∙◌, subst}
 use Rattle.core_image.specs.NotesDue.{CanNoteEnded}
 use Rattle.core_steps.specs.Added.{EndsIn}
 use Rattle.core_steps.proofs.Sights.{one-or-none}
@@ -8,7 +8,7 @@ use Rattle.row_ledger.specs.Past.{is_beginning}
 use Rattle.row_ledger.specs.declared.event.Event.{Event}
 use Rattle.row_ledger.specs.declared.event.Event.TheVariants as event
 use Rattle.row_ledger.specs.declared.settings.How.{How}
-use Rattle.volap_cell.specs.Cells.{CellValue, Tag, DeskOf, TheLedger, ledger_in, tag_of}
+use Rattle.volap_cell.specs.Cells.{CellValue, DeskOf, TheLedger, ledger_in, tag_of}
 use Rattle.volap_cell.specs.ImageKinds.{DoesAck, DoesAnswer, DoesNote, DoesNoteWith, DoesSync, FailsRouted, OfCalled, OfCalledAsking, OfCount, OfEnded, OfLeft, OfQuery, OfRefused, OfShown, OfUnknown, OfUnrouted, Pushes}
 use Rattle.volap_cell.specs.Values.{ActorValue}
 use Rattle.volap_cell.specs.World.{Change}

@@ -1,6 +1,6 @@
 -- A note of the ledger alone that is no page asks for nothing more of the state.
 use Rattle.std.proofs.Common.{ℕ, ◌≡◌, Option, Some, None, sym, ap, ◌∙◌}
-use Rattle.volap_cell.specs.ImageKinds.{DoesNote, IsFree, OfCalled, OfCount, OfEnded, OfLeft, OfRefused, OfShown, OfUnknown, doing}
+use Rattle.volap_cell.specs.ImageKinds.{DoesNote, IsFree, OfCalled, OfCount, OfEnded, OfLeft, OfRefused, OfShown, OfUnknown}
 use Rattle.volap_cell.specs.Setting.{Setting}
 use Rattle.volap_cell.specs.Steps.{SeesNote}
 use Rattle.volap_cell.specs.Values.{ActorValue}

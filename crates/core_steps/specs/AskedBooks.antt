@@ -1,5 +1,5 @@
 -- What the steps of inserts, queries and pulls ask at desks and images, of their cells as a list.
-use Rattle.std.specs.Prelude.{ℕ, List, [], ◌∷◌}
+use Rattle.std.specs.Prelude.{List, [], ◌∷◌}
 use Rattle.core_image.specs.Asking.{CanAnswer, CanBeginQuery}
 use Rattle.core_image.specs.NotesDue.{CanBeginInsert}
 use Rattle.core_image.specs.Pulling.{CanSync}

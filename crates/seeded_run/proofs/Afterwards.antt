@@ -1,5 +1,5 @@
 -- What becomes of a core by a step: what was due in it, where the state stayed as it was, and its history.
-use Rattle.std.proofs.Common.{ℕ, ◌≡◌, ◌≢◌, List, [], ◌∷◌, Option, refl, sym, ap, ◌∙◌, subst, arith}
+use Rattle.std.proofs.Common.{ℕ, ◌≡◌, ◌≢◌, List, [], ◌∷◌, Option, ap, ◌∙◌, subst, arith}
 use Rattle.core_steps.specs.Added.{AddsQuiet, Spares}
 use Rattle.core_steps.specs.Ready.{Stays}
 use Rattle.dim_hierarchy.specs.Dimension.{Dimension}
@@ -7,7 +7,7 @@ use Rattle.row_ledger.specs.declared.settings.Use.{Use}
 use Rattle.tree_shape.specs.Counts.{Each}
 use Rattle.volap_cell.specs.Cells.{CellValue, ledger_in}
 use Rattle.volap_cell.specs.Setting.{Setting, desk_cell, image_cell, ledger_cell}
-use Rattle.volap_cell.specs.State.{IsWorldOf, Stepped}
+use Rattle.volap_cell.specs.State.{Stepped}
 use Rattle.volap_cell.specs.World.{World}
 use Rattle.volap_cell.specs.declared.actor.Actor.{Actor}
 use Rattle.volap_cell.specs.declared.cell.Cell.{Cell}

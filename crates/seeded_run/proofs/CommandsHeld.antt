@@ -10,11 +10,10 @@ use Rattle.volap_cell.specs.Setting.{Setting, desk_cell, image_cell, ledger_cell
 use Rattle.volap_cell.specs.World.{World}
 use Rattle.volap_cell.specs.declared.actor.Actor.{Actor}
 use Rattle.volap_cell.specs.declared.cell.Cell.{Cell}
-use Rattle.volap_cell.specs.declared.kind.Kind.{Kind}
 use Rattle.volap_cell.specs.declared.kind.Kind.TheVariants as kind
 use Rattle.volap_cell.specs.declared.role.Role.TheVariants.{Session}
 use Rattle.seeded_run.specs.Commands.{IsSessionAt}
-use Rattle.seeded_run.specs.Core.{HasCore, IsCore, IsDue, IsDueAt}
+use Rattle.seeded_run.specs.Core.{HasCore, IsDue}
 use Rattle.seeded_run.proofs.Afterwards.{core-stays}
 use Rattle.seeded_run.proofs.CommandsReady.{ack-is, ack-may, answer-is, answer-may, route-is, route-may, unrouted-may}
 use Rattle.seeded_run.proofs.DueCommands.{by-command}

@@ -42,7 +42,7 @@ use Rattle.volap_cell.proofs.Numbers.{tag-desk, tag-image}
 use Rattle.script_form.specs.declared.script.Command.{Command}
 use Rattle.seeded_run.specs.Core.{IsCore}
 use Rattle.seeded_run.specs.Due.{due_by, is_alone}
-use Rattle.seeded_run.proofs.DueCommands.{ComesTo, IsAtEmpty, IsAtParts, WorkCase, by-command, by-work, is_aside, is_first, is_of_job, work-case}
+use Rattle.seeded_run.proofs.DueCommands.{IsAtEmpty, IsAtParts, WorkCase, by-command, by-work, is_aside, is_first, is_of_job, work-case}
 use Rattle.seeded_run.proofs.FixedCells.{desk-fixed, image-fixed, ledger-fixed, may-step, server-within, tag-is}
 
 -- an insert that has no part, of a session whose server's desk is empty

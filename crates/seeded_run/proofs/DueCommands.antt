@@ -1,11 +1,8 @@
 -- What is known of an actor for which a step of its command is due, or of one by which a command begins.
-use Rattle.std.proofs.Common.{ℕ, ◌≡◌, Bool, true, false, not, Option, Some, None, List, [], ◌∷◌, length, refl, sym, ap, ◌∙◌, subst}
+use Rattle.std.proofs.Common.{ℕ, ◌≡◌, Bool, true, false, not, Option, Some, None, List, [], ◌∷◌, refl, sym, ap, ◌∙◌, subst}
 use Rattle.std.specs.Prelude.{◌&&◌, if◌then◌else◌, is_none, is_some}
 use Rattle.std.specs.List.{list_any}
 use Rattle.dc_node.specs.Block.{is_leaf}
-use Rattle.dc_node.specs.declared.block.Block.{Block}
-use Rattle.dc_node.specs.declared.todo.Item.{Item}
-use Rattle.dim_hierarchy.specs.declared.row.Row.{Row}
 use Rattle.mapping_table.specs.declared.place.Where.{Where}
 use Rattle.mapping_table.specs.declared.place.Where.TheVariants as where_is
 use Rattle.measure_agg.specs.Aggregate.{Aggregate}
@@ -18,12 +15,11 @@ use Rattle.script_form.specs.declared.script.Command.{Command}
 use Rattle.script_form.specs.declared.script.Command.TheVariants as script
 use Rattle.script_run.specs.Phases.{closes}
 use Rattle.volap_cell.specs.Cells.{CellValue, block_in, desk_in}
-use Rattle.volap_cell.specs.Commands.{due_pull, settles_next}
+use Rattle.volap_cell.specs.Commands.{settles_next}
 use Rattle.volap_cell.specs.Setting.{Setting, desk_cell}
 use Rattle.volap_cell.specs.Steps.{history_in}
 use Rattle.volap_cell.specs.Values.{ActorValue, ErrandValue, TaskValue, OfRow, Unread, Read, JobValue, StageValue, IsCalled, IsDeclined, IsFrozen, Collects, Builds}
 use Rattle.volap_cell.specs.World.{World}
-use Rattle.volap_cell.specs.declared.command.Balance.{Balance}
 use Rattle.volap_cell.specs.declared.command.Command.{Command as OpenCommand}
 use Rattle.volap_cell.specs.declared.command.Work.{Work}
 use Rattle.volap_cell.specs.declared.command.Work.TheVariants as work_is
@@ -33,7 +29,7 @@ use Rattle.volap_cell.specs.declared.kind.Kind.{Kind}
 use Rattle.volap_cell.specs.declared.kind.Kind.TheVariants as kind
 use Rattle.volap_cell.specs.declared.role.Role.{Role}
 use Rattle.volap_cell.specs.declared.role.Role.TheVariants.{Admin, Hand, Puller, Session}
-use Rattle.seeded_run.specs.Due.{actor_kind, any_below, are_known, balance_kind, carry_kind, command_kind, desk_of, due_by, errand_kind, finish_kind, first_kind, free_kind, gate_kind, hand_kind, is_alone, is_empty, is_empty_desk, job_kind, kind_at_empty, kind_by, kind_by_verdict, led_to, may_enter, next_kind, page_kind, parts_kind, placed_kind, purse_kind, read_kind, row_kind, stage_kind, task_kind, tree_kind, work_kind}
+use Rattle.seeded_run.specs.Due.{actor_kind, any_below, are_known, balance_kind, carry_kind, command_kind, desk_of, due_by, finish_kind, first_kind, free_kind, gate_kind, is_alone, is_empty, is_empty_desk, job_kind, kind_at_empty, kind_by, kind_by_verdict, led_to, may_enter, next_kind, page_kind, parts_kind, placed_kind, read_kind, row_kind, stage_kind, task_kind, tree_kind, work_kind}
 
 -- Kinds of steps that no command makes due.
 

@@ -1,14 +1,14 @@
 -- What a step may hold of a script's core: cells that are a server's or a worker's, at which nobody carries a row.
-use Rattle.std.proofs.Common.{ℕ, ◌≡◌, ◌≢◌, ◌<◌, ◌≤◌, true, List, [], ◌∷◌, length, map, Option, Some, None, get_or, inl, inr, refl, sym, ap, ◌∙◌, subst, arith}
+use Rattle.std.proofs.Common.{ℕ, ◌≡◌, ◌≢◌, ◌<◌, true, List, [], ◌∷◌, length, map, Option, None, get_or, inl, inr, refl, sym, ap, ◌∙◌, subst}
 use Rattle.std.proofs.lemmas.Bool.{cases_lt}
 use Rattle.std.proofs.lemmas.Option.{get_or_from_slice_get}
 use Rattle.std.specs.List.{slice_index_or}
 use Rattle.core_steps.proofs.Adding.{same-cell}
-use Rattle.core_steps.specs.Ready.{IsReady, MayStep}
+use Rattle.core_steps.specs.Ready.{MayStep}
 use Rattle.dim_hierarchy.specs.Dimension.{Dimension}
 use Rattle.row_ledger.specs.declared.settings.Use.{Use}
 use Rattle.tree_shape.specs.Counts.{Each}
-use Rattle.volap_cell.specs.Cells.{BlockCell, CellValue, DeskCell, DeskOf, FreeCell, GateCell, ImageCell, ImageOf, LedgerCell, MapCell, MapOf, OfStock, RegistryCell, StockCell, Tag, TheLedger, TheRegistry, TheStock, has_block, tag_of}
+use Rattle.volap_cell.specs.Cells.{BlockCell, CellValue, DeskCell, DeskOf, FreeCell, GateCell, ImageCell, ImageOf, LedgerCell, MapCell, OfStock, RegistryCell, StockCell, TheLedger, TheRegistry, has_block, tag_of}
 use Rattle.volap_cell.specs.Numbering.{IsRoleOf, tag_at}
 use Rattle.volap_cell.specs.Setting.{Setting, desk_cell, image_cell, ledger_cell, registry_cell}
 use Rattle.volap_cell.specs.State.{AreDifferent, Has, HasInv, IsUnkept, IsWorldOf}
