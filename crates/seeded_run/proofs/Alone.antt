@@ -148,7 +148,7 @@ at-command s w rest n k due other = by-errand (w.actors n).errand refl
     by-purse : (w.actors n).errand ≡ None → (b : Bool) → (is_none (w.actors n).job && not (is_empty (w.actors n).purse)) ≡ b → IsAtCommand s w rest n k
     by-purse none true is =
         let refill : Some kind.Refill ≡ Some k = sym (ap (actor_kind s w (is_alone s w rest n) (rest n) (w.actors n)) none
-            ∙ ap (λ b. if b then Some kind.Refill else command_kind s w (is_alone s w rest n) (rest n) (w.actors n) (w.actors n).command) is) ∙ due in
+        ∙ ap (λ b. if b then Some kind.Refill else command_kind s w (is_alone s w rest n) (rest n) (w.actors n) (w.actors n).command) is) ∙ due in
         let same : kind.Refill ≡ k = cc in
         apart (is_of_part k) (ap is_of_part (sym same)) other
     by-purse none false is = record {
@@ -216,7 +216,7 @@ module _ (s : Setting) (w : World) (g : Ghost) (i : InvWith s (view s w) g) wher
 
   -- beyond the last actor nobody has a command
   pub within-of : (a : ℕ) (c : OpenCommand) → (w.actors a).command ≡ Some c → a < actor_count s
-  within-of a c at = elim (low-or-high a (actor_count s)) [ | inl low ↦ low | inr high ↦ some-none (w.actors a).command c at (i.numbering.nobody a high).2 ]
+  within-of a c at = elim (low-or-high a (actor_count s)) [ inl low ↦ low | inr high ↦ some-none (w.actors a).command c at (i.numbering.nobody a high).2 ]
     where
       low-or-high : (a n : ℕ) → (a < n) ⊎ (n ≤ a)
       low-or-high a n = grind arith

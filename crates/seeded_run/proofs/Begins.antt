@@ -119,11 +119,11 @@ begin-order with h done cs k c e history at before count session begins order =
     let first : take (length done + k) (done ++ cs) ≡ front = ap (take (length done + k)) all ∙ ap (λ m. take m (front ++ c ∷ back)) far ∙ take-front front (c ∷ back) in
     let count_front : count_of with (session_of with c) front ≡ length (begins_of history (session_of with c)) = ap (count_of with (session_of with c)) (sym first) ∙ count in (
       subst (λ l. IsInOrder with h l (e ∷ history)) (sym all)
-      (order-begin-law with h front c back e history
-      (λ j low. let found = before j (omega (arith, low, far)) in (found.0, ap (λ l. place_in with l history j) (sym all) ∙ found.1, found.2))
-      count_front session begins (subst (λ l. IsInOrder with h l history) all order)),
+          (order-begin-law with h front c back e history
+          (λ j low. let found = before j (omega (arith, low, far)) in (found.0, ap (λ l. place_in with l history j) (sym all) ∙ found.1, found.2))
+          count_front session begins (subst (λ l. IsInOrder with h l history) all order)),
       subst (λ m. HasPlace m (length history) (place_in with (done ++ cs) history) (place_in with (done ++ cs) (e ∷ history))) (sym far)
-      (subst (λ l. HasPlace (length front) (length history) (place_in with l history) (place_in with l (e ∷ history))) (sym all) (has-place with front c back e history session count_front)),
+          (subst (λ l. HasPlace (length front) (length history) (place_in with l history) (place_in with l (e ∷ history))) (sym all) (has-place with front c back e history session count_front)),
     )
 
 -- Events that begin commands.
@@ -238,7 +238,7 @@ module _ (in_order : Bool) (s : Setting) (p : PhaseRun) (done : List Command) (w
         (subst (λ x. length done + k < next_now x) (sym own-session) moves.further) none-between;
     no_other = none-between;
     others = λ x differs. let apart_n : x ≢ n = λ e. differs (e ∙ sym own-session) in (moves.others x apart_n, opened-other in_order s p done w now g g_now next n i i_now turn r x apart_n);
-    opens = elim opens-now [ | inl over ↦ inl over | inr opened ↦ inr (ap (opened_in now) own-session ∙ opened) ];
+    opens = elim opens-now [ inl over ↦ inl over | inr opened ↦ inr (ap (opened_in now) own-session ∙ opened) ];
   }
     where
       none-between : (j : ℕ) (d : Command) → slice_get (done ++ p.commands) j ≡ Some d → length done + k < j → j < next_now (session_of p.with c) → session_of p.with d ≢ session_of p.with c
@@ -348,8 +348,8 @@ module _ (in_order : Bool) (s : Setting) (p : PhaseRun) (done : List Command) (w
         ∙ ap (λ o. option_map_or ends_itself o false) (event_at-here t.begins (history_in w)) ∙ itself in
         ap (first_open p) t.history
         ∙ first-at p done (t.begins ∷ history_in w) r.cursors.through k c at here (λ j low.
-            let old = over-place (history_in w) (place_in p.with (done ++ p.commands) (history_in w) (length done + j)) (over-before j low) in
-            ap (is_over_at (t.begins ∷ history_in w)) (places.others (length done + j) (λ e. omega (arith, e, low)) ∙ old.1) ∙ over-older t.begins (history_in w) old.0 old.2)
+        let old = over-place (history_in w) (place_in p.with (done ++ p.commands) (history_in w) (length done + j)) (over-before j low) in
+        ap (is_over_at (t.begins ∷ history_in w)) (places.others (length done + j) (λ e. omega (arith, e, low)) ∙ old.1) ∙ over-older t.begins (history_in w) old.0 old.2)
         ∙ ap Some own-session
 
     own-idle : first_open p (history_in now) ≢ Some n → does_nothing (now.actors n) ≡ true

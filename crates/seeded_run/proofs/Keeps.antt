@@ -316,11 +316,14 @@ module _ (in_order : Bool) (s : Setting) (p : PhaseRun) (done : List Command) (w
 
   -- while the actor pulls nobody else is at a sync or a settle
   pull-alone : TellsPull s n w now → (a : ℕ) (c : OpenCommand) → a ≢ n → (w.actors a).command ≡ Some c → ((server : ℕ) (did : Bool) → c.work ≡ work_is.Sync server did → ⊥) × (is_closing_work c.work ≡ true → ⊥)
-  pull-alone t a c differs at = ((λ server did work. elim (pull-kinds s.servers t.server t.work t.due) [
-    | inl (x, own_did, own) ↦ differs (sync-owner a c server did at work ∙ sym (sync-owner n (record { of = t.of; work = t.work }) x own_did t.was own))
-    | inr closing ↦ none-some (w.actors a).command c (alone-parts s w (rest_of p (history_in w)) n a (r.closing n (record { of = t.of; work = t.work }) t.was closing) (within-of s w g i a c at) differs).0.command at
-  ]), (λ closing. none-some (w.actors n).command (record { of = t.of; work = t.work })
-      (alone-parts s w (rest_of p (history_in w)) a n (r.closing a c at closing) turn.within (λ e. differs (sym e))).0.command t.was))
+  pull-alone t a c differs at = (
+    (λ server did work. elim (pull-kinds s.servers t.server t.work t.due) [
+      | inl (x, own_did, own) ↦ differs (sync-owner a c server did at work ∙ sym (sync-owner n (record { of = t.of; work = t.work }) x own_did t.was own))
+      | inr closing ↦ none-some (w.actors a).command c (alone-parts s w (rest_of p (history_in w)) n a (r.closing n (record { of = t.of; work = t.work }) t.was closing) (within-of s w g i a c at) differs).0.command at
+    ]),
+    (λ closing. none-some (w.actors n).command (record { of = t.of; work = t.work })
+        (alone-parts s w (rest_of p (history_in w)) a n (r.closing a c at closing) turn.within (λ e. differs (sym e))).0.command t.was),
+  )
 
   pulled-if : (servers : ℕ) (work : Work) (pulled : List ℕ) → ((server : ℕ) (did : Bool) → work ≡ work_is.Sync server did → ⊥) → (is_closing_work work ≡ true → ⊥) → HasPulled servers work pulled
   pulled-if servers (work_is.Sync server did) pulled sync closing = absurd (sync server did refl)
@@ -420,7 +423,7 @@ module _ (in_order : Bool) (s : Setting) (p : PhaseRun) (done : List Command) (w
         counts = r.in_phase.streams.counts;
         begun = λ k c at low.
             let found = r.in_phase.streams.begun k c at low in
-            (found.0, found.1, elim found.2 [ | inl over ↦ inl over | inr opened ↦ inr (opened-all own (session_of p.with c) ∙ opened) ]);
+            (found.0, found.1, elim found.2 [ inl over ↦ inl over | inr opened ↦ inr (opened-all own (session_of p.with c) ∙ opened) ]);
       };
       past = r.in_phase.past;
     });
@@ -532,7 +535,7 @@ module _ (in_order : Bool) (s : Setting) (p : PhaseRun) (done : List Command) (w
         command = t.command;
         errand = t.errand ∙ at.errand;
         job = t.job;
-        purse = elim t.purse [ | inl none ↦ none | inr (same, job) ↦ same ∙ at.purse job ];
+        purse = elim t.purse [ inl none ↦ none | inr (same, job) ↦ same ∙ at.purse job ];
       })
 
   kept-quietly : Own → GoesQuietly → (in_order ≡ true → first_open p (history_in now) ≢ Some n → does_nothing (now.actors n) ≡ true) → IsRunning in_order s p done now next
