@@ -20,7 +20,7 @@ use Rattle.script_run.proofs.NextCommand.{over-now}
 use Rattle.script_run.proofs.Whole.{part_law, get-some, places-length}
 
 -- what holds of each place of a list holds of all
-all-over : (history : List Event) (ps : List (Option ℕ)) → ((i : ℕ) → i < length ps → (p : ℕ) × (get_or ps i None ≡ Some p) × IsTrue (is_over history p)) → IsTrue (are_over history ps)
+pub all-over : (history : List Event) (ps : List (Option ℕ)) → ((i : ℕ) → i < length ps → (p : ℕ) × (get_or ps i None ≡ Some p) × IsTrue (is_over history p)) → IsTrue (are_over history ps)
 all-over history [] h = refl
 all-over history (o ∷ ps) h =
     let first = h 0 (omega arith) in

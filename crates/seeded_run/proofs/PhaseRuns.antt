@@ -8,9 +8,11 @@ use Rattle.row_ledger.specs.declared.settings.Use.{Use}
 use Rattle.script_form.specs.declared.script.Command.{Command}
 use Rattle.script_run.proofs.Between.{get-behind, order-start-law, phase-end-law, phase-start-law}
 use Rattle.script_run.proofs.NextCommand.{over-now}
+use Rattle.script_run.proofs.PhaseEnds.{all-over, first-place, get-first}
+use Rattle.script_run.proofs.Whole.{get-some, part_law, places-length, serial_law}
 use Rattle.script_run.specs.Parts.{place_in}
 use Rattle.script_run.specs.Phases.{closes}
-use Rattle.script_run.specs.Places.{begins_of, count_of, is_over_at, session_of}
+use Rattle.script_run.specs.Places.{begins_of, count_of, is_over_at, places, session_of}
 use Rattle.script_run.specs.Streams.{AreFinished, AreStreams}
 use Rattle.volap_cell.specs.Errands.{taken_of}
 use Rattle.volap_cell.specs.Ghost.{Ghost}
@@ -30,7 +32,7 @@ use Rattle.seeded_run.proofs.Orders.{order-end-law}
 use Rattle.seeded_run.proofs.Scripts.{same-command, script-law}
 use Rattle.seeded_run.specs.Can.{able_in}
 use Rattle.seeded_run.specs.Due.{does_nothing, is_alone, is_empty}
-use Rattle.seeded_run.specs.Kept.{PhaseBeginsLaw, PhaseEndsLaw, RunsLaw}
+use Rattle.seeded_run.specs.Kept.{PhaseBeginsLaw, PhaseEndsLaw, RunsLaw, StopsLaw}
 use Rattle.seeded_run.specs.Progress.{IsOrderedRun, IsScriptRun, is_done}
 use Rattle.seeded_run.specs.Rests.{PhaseRun, first_open, rest_of, stream_of}
 use Rattle.seeded_run.specs.Running.{IsRunning, opened_in}
@@ -285,3 +287,16 @@ phase-ends-law true s p done w g next i r none =
   where
     some-none : (o : Option ℕ) (a : ℕ) → o ≡ None → o ≡ Some a → ⊥
     some-none o a x y = cc
+
+-- Stopping.
+
+pub stops-law : StopsLaw
+stops-law in_order s p done w next r = record {
+  part = part_law p.with s.hierarchy (done ++ p.commands) (history_in w) r.in_phase.part;
+  over = all-over (history_in w) (places p.with done (history_in w)) (λ j low.
+      let within : j < length done = omega (arith, low, places-length p.with done (history_in w)) in
+      let c = get-some done j within in
+      let found = r.in_phase.past j c.0 (get-first done p.commands j within ∙ c.1) within in
+      (found.0, sym (first-place p.with done p.commands (history_in w) j within) ∙ found.1, found.2));
+  serial = λ order. serial_law p.with s.hierarchy (done ++ p.commands) (history_in w) (r.ordered order).order;
+}

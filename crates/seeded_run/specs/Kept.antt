@@ -1,13 +1,12 @@
 -- How a phase begins, goes on with each step, and ends.
-use Rattle.std.specs.Prelude.{ℕ, ◌≡◌, ◌≢◌, ◌+◌, ◌<◌, Bool, true, List, [], ◌∷◌, ◌++◌, Some, None, length, slice_get}
+use Rattle.std.specs.Prelude.{ℕ, ◌≡◌, ◌≢◌, ◌+◌, ◌<◌, Bool, true, IsTrue, List, [], ◌∷◌, ◌++◌, Some, None, length, slice_get}
 use Rattle.row_ledger.specs.Past.{session_in}
 use Rattle.row_ledger.specs.declared.event.Event.{Event}
 use Rattle.row_ledger.specs.declared.settings.Use.{Use}
 use Rattle.script_form.specs.declared.script.Command.{Command}
 use Rattle.script_run.specs.Between.{AreFirst, IsInOrder, IsThrough}
-use Rattle.script_run.specs.Parts.{IsPartAt, Waits, place_in}
-use Rattle.script_run.specs.Places.{session_of}
-use Rattle.script_run.specs.Runs.{Begins}
+use Rattle.script_run.specs.Places.{are_over, places, session_of}
+use Rattle.script_run.specs.Runs.{Begins, IsRunSoFar, IsSerial}
 use Rattle.volap_cell.specs.Ghost.{Ghost}
 use Rattle.volap_cell.specs.Invariant.{InvWith}
 use Rattle.volap_cell.specs.Setting.{Setting, actor_count}
@@ -50,6 +49,17 @@ PhaseEndsLaw = (in_order : Bool) (s : Setting) (p : PhaseRun) (done : List Comma
 abbrev pub RunsLaw : Type 0
 RunsLaw = (in_order : Bool) (s : Setting) (p : PhaseRun) (done : List Command) (w : World) (g : Ghost) (next : ℕ → ℕ) → InvWith s (view s w) g → IsRunning in_order s p done w next
     → IsScriptRun s w (rest_of p (history_in w)) × (in_order ≡ true → IsOrderedRun s p w)
+
+-- What is said of a run that stops in the midst of a phase: it is a part of a run of the commands so far, of which those before the
+-- phase are over; in their order where that is asked for.
+pub record IsStopped (in_order : Bool) (s : Setting) (p : PhaseRun) (done : List Command) (w : World) : Type 0 where
+  pub part : IsRunSoFar p.with s.hierarchy (done ++ p.commands) (history_in w)
+  pub over : IsTrue (are_over (history_in w) (places p.with done (history_in w)))
+  pub serial : in_order ≡ true → IsSerial p.with (done ++ p.commands) (history_in w)
+
+-- So it is wherever a phase runs.
+abbrev pub StopsLaw : Type 0
+StopsLaw = (in_order : Bool) (s : Setting) (p : PhaseRun) (done : List Command) (w : World) (next : ℕ → ℕ) → IsRunning in_order s p done w next → IsStopped in_order s p done w
 
 -- Steps.
 

@@ -1,6 +1,6 @@
 //! Laws of what is due, and of what the streams of a phase still have. There is nothing to do at run time.
 ghost use Rattle.seeded_run.specs.Cursors.{CursorLaw, FirstLaw, LastLaw};
-ghost use Rattle.seeded_run.specs.Kept.{KeepsBeginningLaw, KeepsOtherLaw, PhaseBeginsLaw, PhaseEndsLaw, QuietLaw, RunsLaw};
+ghost use Rattle.seeded_run.specs.Kept.{KeepsBeginningLaw, KeepsOtherLaw, PhaseBeginsLaw, PhaseEndsLaw, QuietLaw, RunsLaw, StopsLaw};
 ghost use Rattle.seeded_run.specs.Laws.{WholeLaw, RestLaw, IdleLaw, AtPartLaw, CarrierLaw, WantedLaw, FreeLaw, OrderLaw};
 ghost use Rattle.seeded_run.specs.Progress.{CanLaw, DueLaw, EndLaw, OrderEndLaw, ScriptLaw};
 ghost use Rattle.seeded_run.specs.Measure.{CountedLaw, FewerLaw, LimitsLaw, MostLaw, StepsLeftLaw};
@@ -85,11 +85,13 @@ pub fn steps_tell_so()
 {}
 
 /// A phase begins between phases, and where nobody can make a step any more it is between phases again,
-/// with the commands of the phase done. Between its steps it runs as the laws of progress ask.
+/// with the commands of the phase done. Between its steps it runs as the laws of progress ask, and where it
+/// stops there it is a part of a run.
 pub fn phases_begin_and_end()
     ensures begins { PhaseBeginsLaw }
     ensures ends { PhaseEndsLaw }
     ensures runs { RunsLaw }
+    ensures stops { StopsLaw }
 {}
 
 /// What holds between the steps of a phase holds after a step that begins nothing, and after one that

@@ -3,8 +3,8 @@
 
 mod alone;
 mod begins_due;
-mod commands;
 mod can;
+mod commands;
 mod commands_due;
 mod errands_due;
 mod laws;
