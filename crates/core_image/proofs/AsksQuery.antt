@@ -165,6 +165,7 @@ module _ (d im l : Change) (b : ActorValue) (s : Setting) (w : World) (n : ℕ) 
       (λ c is.
       let it : its ≡ c = its-own n None its v.commands v2.commands begins c is in
       subst (λ (x : Command). (x.of ≡ length h) × IsProgress s (e ∷ h) x.of x.work (v.jobs n) (v.roles n)) it (refl, (q, does.role, new-told query_in e h)))
+      (inr (its, begins.is_there))
       (λ insert is. let never : ◌≡◌ {A = Option Insert} None (Some insert) = is in absurd (cc))
       (λ other is. let both : ◌≡◌ {A = Option Query} (Some q) (Some other) = is in let it : q ≡ other = cc in subst (λ (x : Query). IsFilterOf s.hierarchy x.filter × (x.server < s.servers) × (0 < length s.hierarchy)) it (does.valid, within, does.dims))
 

@@ -132,8 +132,9 @@ module _ (im l : Change) (b : ActorValue) (s : Setting) (w : World) (n : ℕ) (g
       (λ c has. let it : its ≡ c = (let both : ◌≡◌ {A = Option Command} (Some its) (Some c) = sym begin.is_there ∙ has in cc) in
       subst (λ (x : Command). (x.of ≡ length h) × IsProgress s (e ∷ h) x.of x.work (v.jobs n) (v.roles n)) it
       (number, (does.server, does.role, ap (insert_at (e ∷ h)) number ∙ new-told insert_in e h, refl)))
+      (inr (its, begin.is_there))
       (λ insert is. let it : record { server = does.server; row = row } ≡ insert = cc in
-      subst (λ (x : Insert). IsRowOf s.hierarchy x.row × (x.server < s.servers) × ((c : Command) × (v2.commands n ≡ Some c))) it (does.valid, books.0, (its, begin.is_there)))
+      subst (λ (x : Insert). IsRowOf s.hierarchy x.row × (x.server < s.servers)) it (does.valid, books.0))
       (λ q is. let never : ◌≡◌ {A = Option Query} None (Some q) = is in cc)
 
   owing-now : Owing s (e ∷ h) v2.promised v2.images v.desks v.roles v2.commands v.counted_in

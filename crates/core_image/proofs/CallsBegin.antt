@@ -123,6 +123,7 @@ module _ (cs : List Change) (b : ActorValue) (s : Setting) (w : World) (n : ℕ)
       (λ c has. let it : its ≡ c = (let both : ◌≡◌ {A = Option Command} (Some its) (Some c) = sym begin.is_there ∙ has in cc) in
       subst (λ (x : Command). (x.of ≡ length h) × IsProgress s (e ∷ h) x.of x.work (v2.jobs n) (v.roles n)) it
       (refl, subst (λ (j : Option JobValue). IsProgress s (e ∷ h) (length h) work j (v.roles n)) (sym new.is_there) is.progress))
+      (inr (its, begin.is_there))
       (λ insert none. let never : ◌≡◌ {A = Option Insert} None (Some insert) = none in absurd (cc))
       (λ q none. let never : ◌≡◌ {A = Option Query} None (Some q) = none in absurd (cc))
 

@@ -55,3 +55,5 @@ pub mod ReadOnce
 pub mod BalanceEnds
 pub mod NextAction
 pub mod NotesLeft
+pub mod PagesShown
+pub mod NotesShown

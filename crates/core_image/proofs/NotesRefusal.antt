@@ -4,7 +4,7 @@ use Rattle.std.proofs.Common.{◌≡◌, ◌≢◌, ℕ, List, [], ◌∷◌, tr
 use Rattle.dim_hierarchy.specs.Dimension.{Dimension}
 use Rattle.row_ledger.specs.Changes.{ShardsStay, is_quiet}
 use Rattle.row_ledger.specs.LedgerValue.{LedgerValue}
-use Rattle.row_ledger.specs.Past.{Insert, Query, insert_in, is_beginning, is_work_of, query_in, session_in}
+use Rattle.row_ledger.specs.Past.{Insert, Query, ends_itself, insert_in, is_beginning, is_work_of, query_in, session_in}
 use Rattle.row_ledger.specs.Right.{KeepsRight}
 use Rattle.row_ledger.specs.declared.event.Event.{Event}
 use Rattle.row_ledger.specs.declared.event.Event.TheVariants.{Refused, Unknown}
@@ -40,6 +40,7 @@ use Rattle.core_image.proofs.Remains.{Stays, control_at, control-changed, gates_
 pub record EndsItself (e : Event) (session : ℕ) : Type 0 where
   pub is_quiet_one : is_quiet e ≡ true
   pub begins : is_beginning e ≡ true
+  pub over : ends_itself e ≡ true
   pub by : session_in e ≡ Some session
   pub no_insert : insert_in e ≡ None
   pub no_query : query_in e ≡ None
@@ -88,6 +89,7 @@ module _ (e : Event) (l : Change) (b : ActorValue) (s : Setting) (w : World) (n 
       })
       right i.telling (itself.by ∙ ap Some (i.numbering.number n)) free
       (λ c has. let never : ◌≡◌ {A = Option Command} None (Some c) = sym free ∙ has in absurd (cc))
+      (inl itself.over)
       (λ insert is. let never : ◌≡◌ {A = Option Insert} None (Some insert) = sym itself.no_insert ∙ is in absurd (cc))
       (λ q is. let never : ◌≡◌ {A = Option Query} None (Some q) = sym itself.no_query ∙ is in absurd (cc))
 
@@ -172,7 +174,7 @@ unknown-keeps hierarchy l a b d few s w n g i_same i ag sight =
     let agrees : Agrees w (l ∷ []) n (w.actors n) = record { cells = ag.cells; actor_is = refl; free = λ x ne. ag.free x ne } in
     let x = here.0 in
     refusal-kept (Unknown (w.actors n).number x.server x.dim) l b s w n g i agrees
-    (record { is_quiet_one = refl; begins = refl; by = refl; no_insert = refl; no_query = refl; no_work = λ of. refl; no_shard = refl })
+    (record { is_quiet_one = refl; begins = refl; over = refl; by = refl; no_insert = refl; no_query = refl; no_work = λ of. refl; no_shard = refl })
     x.free.command x.pushed here.1 x.actor_is (view-note_unknown s w n l (w.actors n) b agrees x)
     (KeepsRight-unknown (site_in s) g.placed (view s w).history (w.actors n).number x.server x.dim i.telling.right) (OfUnknown x) tt
 
@@ -182,7 +184,7 @@ refused-keeps hierarchy l a b d few s w n g i_same i ag sight =
     let agrees : Agrees w (l ∷ []) n (w.actors n) = record { cells = ag.cells; actor_is = refl; free = λ x ne. ag.free x ne } in
     let x = here.0 in
     refusal-kept (Refused (w.actors n).number) l b s w n g i agrees
-    (record { is_quiet_one = refl; begins = refl; by = refl; no_insert = refl; no_query = refl; no_work = λ of. refl; no_shard = refl })
+    (record { is_quiet_one = refl; begins = refl; over = refl; by = refl; no_insert = refl; no_query = refl; no_work = λ of. refl; no_shard = refl })
     x.free.command x.pushed here.1 x.actor_is (view-note_refused s w n l (w.actors n) b agrees x)
     (KeepsRight-refused (site_in s) g.placed (view s w).history (w.actors n).number i.telling.right) (OfRefused x) tt
 

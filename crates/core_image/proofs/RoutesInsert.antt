@@ -195,7 +195,7 @@ module _ (d im : Change) (b : ActorValue) (s : Setting) (w : World) (n : ℕ) (g
         within = i.telling.within;
         rows = i.telling.rows;
         filters = i.telling.filters;
-        status = λ r other is. elim (i.telling.status r other is) [
+        status = λ a p is. elim (i.telling.status a p is) [
           | inl ended ↦ inl ended
           | inr at ↦ on_bool (eqb at.0 n)
               (λ q. let same : was ≡ at.1 = (let both : ◌≡◌ {A = Option Command} (Some was) (Some at.1) = sym does.command ∙ ap v.commands (sym (eqb-eq at.0 n q)) ∙ at.2 in cc) in

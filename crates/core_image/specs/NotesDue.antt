@@ -1,6 +1,6 @@
 -- What the kinds ask that note an event which acknowledges and pulls nothing, beyond that their cells and their actor are those of a
 -- state; and what their inner functions do.
-use Rattle.std.specs.Prelude.{ℕ, ◌≡◌, ◌+◌, ◌<◌, ◌^◌, Bool, true, false, not, List, [], ◌∷◌, length, Option, Some, None}
+use Rattle.std.specs.Prelude.{ℕ, ◌≡◌, ◌+◌, ◌<◌, ◌^◌, Bool, true, false, not, List, [], ◌∷◌, length, Option, Some, None, is_some}
 use Rattle.dim_hierarchy.specs.Dimension.{Dimension}
 use Rattle.dim_hierarchy.specs.Row.{IsCoordOf}
 use Rattle.dim_hierarchy.specs.declared.row.Coord.{Coord}
@@ -10,13 +10,15 @@ use Rattle.query_router.specs.declared.part.Verdict.TheVariants as verdict
 use Rattle.row_ledger.specs.LedgerValue.{LedgerValue}
 use Rattle.row_ledger.specs.declared.event.Event.{Event}
 use Rattle.row_ledger.specs.declared.event.Event.TheVariants.{Ended}
+use Rattle.row_ledger.specs.declared.page.Page.{Page}
+use Rattle.row_ledger.specs.declared.page.Page.TheVariants as page
 use Rattle.row_ledger.specs.declared.settings.Call.{Call}
 use Rattle.row_ledger.specs.declared.settings.Call.TheVariants as call
 use Rattle.row_ledger.specs.declared.settings.How.{How}
 use Rattle.server_image.specs.Image.{ImageValue}
 use Rattle.server_image.specs.Registry.{RegistryValue}
-use Rattle.volap_cell.specs.Cells.{CellValue, DeskOf, ImageOf, TheLedger, TheRegistry, desk_in, tag_of}
-use Rattle.volap_cell.specs.Commands.{MayCall, MayNoteEnd}
+use Rattle.volap_cell.specs.Cells.{CellValue, DeskOf, ImageOf, TheLedger, TheRegistry, desk_in, ledger_in, tag_of}
+use Rattle.volap_cell.specs.Commands.{MayCall, MayNoteEnd, once_shown}
 use Rattle.volap_cell.specs.ImageKinds.{IsBegun, IsFree, asks_registry, doing}
 use Rattle.volap_cell.specs.Planning.{next_job}
 use Rattle.volap_cell.specs.Values.{ActorValue, JobValue, StageValue, IsCalled, IsDeclined}
@@ -187,3 +189,29 @@ abbrev pub GoesOn : Option Command → Option Command → Option JobValue → Ty
 GoesOn command command_now job =
     (of : ℕ) (balance : Balance) → command ≡ doing of (work_is.Balance balance)
     → (command_now ≡ doing of (work_is.Balance (record balance { over = balance.over + 1 }))) × (job ≡ next_job (record balance { over = balance.over + 1 }))
+
+-- Pages.
+
+-- a command of which the page is due, and such a page
+abbrev pub Shows : Work → Page → Type 0
+Shows (work_is.Shards false) (page.Shards lines) = Unit {0}
+Shows (work_is.Tree shard true false) (page.Tree tree) = tree.shard ≡ shard
+Shows (work_is.Audit false) (page.Audit audit) = Unit {0}
+Shows work shown = ⊥
+
+-- the actor's command has begun with the newest event, and such a page is due of it
+pub record CanNoteShown (shown : Page) (ledger : CellValue) (a : ActorValue) : Type 0 where
+  pub of : ℕ
+  pub work : Work
+  pub command : a.command ≡ doing of work
+  pub shows : Shows work shown
+  pub next : length (ledger_in ledger).history ≡ of + 1
+  pub ledger_is : tag_of ledger ≡ TheLedger
+
+-- a page is due of a command, if there is one
+abbrev pub MayShow : Option Command → Type 0
+MayShow command = (of : ℕ) (work : Work) → command ≡ doing of work → is_some (once_shown work) ≡ true
+
+-- and was shown
+abbrev pub HasShown : Option Command → Option Command → Type 0
+HasShown command command_now = (of : ℕ) (work : Work) → command ≡ doing of work → (work_now : Work) × (once_shown work ≡ Some work_now) × (command_now ≡ doing of work_now)

@@ -15,6 +15,7 @@ mod notes;
 mod owing;
 mod queries;
 mod routes;
+mod shown;
 mod syncs;
 
 pub use acks::ack;
@@ -29,4 +30,5 @@ pub use left::note_left;
 pub use notes::{note_refused, note_unknown};
 pub use queries::begin_query;
 pub use routes::route;
+pub use shown::note_shown;
 pub use syncs::sync;

@@ -1,6 +1,6 @@
 -- What each kind of step of rows, queries and their parts asks, of its cells as a list.
 use Rattle.std.specs.Prelude.{ℕ, List, [], ◌∷◌, Option}
-use Rattle.core_shard.specs.Due.{CanFinishPart, CanForward, CanTakePart}
+use Rattle.core_shard.specs.Due.{CanExpand, CanFinishPart, CanForward, CanLookUp, CanTakePart}
 use Rattle.core_tree.specs.Descent.{CanDown, CanEnterTree, two_if}
 use Rattle.core_tree.specs.DueAtGates.{CanEnterQueue, CanGiveBack, CanLeaveTree, CanRefill}
 use Rattle.core_tree.specs.ReadDue.{CanBlockVisit, CanGateRead}
@@ -46,6 +46,14 @@ ReadsGate gate_at cells a = ⊥
 abbrev pub Forwards : List CellValue → ActorValue → Type 0
 Forwards (map ∷ desk ∷ []) a = CanForward map desk a
 Forwards cells a = ⊥
+
+abbrev pub Expands : List CellValue → ActorValue → Type 0
+Expands (map ∷ desk ∷ []) a = CanExpand map desk a
+Expands cells a = ⊥
+
+abbrev pub LooksUp : ℕ → List CellValue → ActorValue → Type 0
+LooksUp gate_at (map ∷ gate ∷ []) a = CanLookUp map gate_at gate a
+LooksUp gate_at cells a = ⊥
 
 -- Cells that are held at times.
 

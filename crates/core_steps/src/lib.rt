@@ -13,7 +13,7 @@ pub use books::{ack, answer, begin_insert, begin_query, route, sync};
 pub use fails::{fail_query, fail_routed, fail_unrouted};
 pub use held::HeldIf;
 pub use notes::{note_asking, note_called, note_ended, note_refused, note_unknown};
-pub use parts::{finish_part, forward, take_part};
+pub use parts::{expand, finish_part, forward, look_up, take_part};
 pub use trees::{
     block_visit, down, enter_queue, enter_tree, gate_read, give_back, leave_tree, put_in_leaf,
     refill,

@@ -1,6 +1,6 @@
 -- A step that begins the next command of its session keeps what holds between the steps of a phase.
 use Rattle.std.proofs.Common.{◌≡◌, ◌≢◌, ◌∙◌, ℕ, zero, suc, ◌+◌, ◌-◌, ◌<◌, ◌≤◌, ◌⊎◌, inl, inr, Bool, true, false, List, [], ◌∷◌, ◌++◌, length, take, drop, Option, Some, None, refl, sym, ap, subst, arith, append_assoc, length-append}
-use Rattle.std.specs.Prelude.{◌==◌, ◌||◌, IsTrue, is_some, slice_get}
+use Rattle.std.specs.Prelude.{◌==◌, ◌||◌, IsTrue, slice_get}
 use Rattle.std.specs.List.{slice_index_or}
 use Rattle.std.specs.Option.{option_map_or}
 use Rattle.std.proofs.lemmas.Bool.{eq-eqb, ne_eqb}
@@ -25,13 +25,11 @@ use Rattle.script_run.specs.Places.{begins_of, count_of, is_over_at, session_of}
 use Rattle.script_run.specs.Pulls.{pulled_since}
 use Rattle.script_run.specs.Runs.{Begins}
 use Rattle.script_run.specs.Streams.{IsInPhase, IsReady, StepsOn}
-use Rattle.volap_cell.specs.Commands.{once_shown}
 use Rattle.volap_cell.specs.Ghost.{Ghost}
 use Rattle.volap_cell.specs.ImageKinds.{doing}
 use Rattle.volap_cell.specs.Invariant.{InvWith}
-use Rattle.volap_cell.specs.Setting.{Setting, actor_count}
-use Rattle.volap_cell.specs.Sights.{IsIdle}
-use Rattle.volap_cell.specs.Steps.{Step, history_in}
+use Rattle.volap_cell.specs.Setting.{Setting}
+use Rattle.volap_cell.specs.Steps.{history_in}
 use Rattle.volap_cell.specs.View.{view}
 use Rattle.volap_cell.specs.World.{World}
 use Rattle.volap_cell.specs.declared.command.Command.{Command as OpenCommand}
@@ -40,7 +38,7 @@ use Rattle.volap_cell.specs.declared.role.Role.TheVariants.{Hand}
 use Rattle.seeded_run.proofs.LeftAlone.{IsAtCommand, alone-parts, apart, closing-alone, does-nothing, next-due, same-or-not}
 use Rattle.seeded_run.proofs.Cursors.{first-law, is-one}
 use Rattle.seeded_run.proofs.Firsts.{IsFirst, first-at, first-fails, first-pass, first-some, over_in}
-use Rattle.seeded_run.proofs.Keeps.{Own, can-first, doing-is, idle-from, is-at-command, kept-by, none-some, one-more, opened-other, others}
+use Rattle.seeded_run.proofs.Keeps.{Own, can-first, doing-is, idle-from, is-at-command, kept-by, none-some, one-more, opened-other}
 use Rattle.seeded_run.proofs.PhaseRuns.{at-all, is-actor, low-or-high, opened-none, past-over, rest-past}
 use Rattle.seeded_run.proofs.Pulled.{begin-pulls-none, deed-session, end-session, pulled-none}
 use Rattle.seeded_run.proofs.Scripts.{hand-behind}
@@ -145,9 +143,6 @@ begins-closes with h c (event.Moved of shard worker) b closing = cc
 begins-closes with h c (event.Left of shard how) b closing = cc
 begins-closes with h c (event.Synced server listing) b closing = cc
 begins-closes with h c (event.Shown of page) b closing = cc
-
-begins-ends : (e : Event) (n : ℕ) → session_in e ≡ Some n → ends_itself e ≡ false → option_map_or ends_itself (Some e) false ≡ false
-begins-ends e n session itself = itself
 
 over-place : (history : List Event) (o : Option ℕ) → is_over_at history o ≡ true → (q : ℕ) × (o ≡ Some q) × IsTrue (is_over history q)
 over-place history None over = cc

@@ -1,14 +1,13 @@
 -- What a step keeps of what holds between the steps of a phase.
-use Rattle.std.proofs.Common.{◌≡◌, ◌≢◌, ◌∙◌, ℕ, zero, suc, ◌+◌, ◌-◌, ◌<◌, ◌≤◌, ◌⊎◌, inl, inr, Bool, true, false, List, [], ◌∷◌, ◌++◌, length, drop, Option, Some, None, refl, sym, ap, subst, arith, not}
-use Rattle.std.specs.Prelude.{◌==◌, ◌&&◌, ◌||◌, IfSome, IsTrue, is_some, is_none, option_map, option_and_then, slice_get, if◌then◌else◌}
+use Rattle.std.proofs.Common.{◌≡◌, ◌≢◌, ◌∙◌, ℕ, ◌+◌, ◌-◌, ◌<◌, ◌≤◌, ◌⊎◌, inl, inr, Bool, true, false, List, [], ◌∷◌, ◌++◌, length, drop, Option, Some, None, refl, sym, ap, subst, arith}
+use Rattle.std.specs.Prelude.{◌==◌, ◌||◌, IfSome, IsTrue, is_some, option_map, option_and_then, slice_get, if◌then◌else◌}
 use Rattle.std.specs.Option.{option_map_or}
 use Rattle.std.proofs.lemmas.Bool.{eq-eqb, eqb-true}
 use Rattle.dim_hierarchy.specs.Dimension.{Dimension}
-use Rattle.row_ledger.proofs.Positions.{event_at-here, event_at-older, event_at-past}
-use Rattle.row_ledger.specs.Past.{call_at, call_in, end_in, ends_itself, event_at, has_ended, is_beginning, is_end_of, is_over, pull_in, session_in}
+use Rattle.row_ledger.proofs.Positions.{event_at-older, event_at-past}
+use Rattle.row_ledger.specs.Past.{call_at, call_in, end_in, ends_itself, event_at, has_ended, is_end_of, is_over, pull_in, session_in}
 use Rattle.row_ledger.specs.declared.event.Event.{Event}
 use Rattle.row_ledger.specs.declared.event.Event.TheVariants as event
-use Rattle.row_ledger.specs.declared.settings.Call.{Call}
 use Rattle.row_ledger.specs.declared.settings.Call.TheVariants as call
 use Rattle.row_ledger.specs.declared.settings.How.{How}
 use Rattle.row_ledger.specs.declared.settings.Use.{Use}
@@ -19,7 +18,6 @@ use Rattle.script_run.proofs.Between.{order-other-law}
 use Rattle.script_run.proofs.InPhase.{phase_other_law}
 use Rattle.script_run.proofs.PlaceFacts.{begins_of-other}
 use Rattle.script_run.specs.Between.{IsInOrder}
-use Rattle.script_run.specs.Parts.{place_in}
 use Rattle.script_run.specs.Places.{begins_of, count_of, session_of, session_of_call}
 use Rattle.script_run.specs.Pulls.{ArePulls, HasPulls, pulled_since}
 use Rattle.script_run.specs.Runs.{Begins, BeginsAt}
@@ -28,9 +26,9 @@ use Rattle.volap_cell.specs.Commands.{MayNoteEnd, due_pull, once_shown, pulled_o
 use Rattle.volap_cell.specs.Ghost.{Ghost}
 use Rattle.volap_cell.specs.ImageKinds.{doing}
 use Rattle.volap_cell.specs.Invariant.{InvWith}
-use Rattle.volap_cell.specs.Setting.{Setting, actor_count}
+use Rattle.volap_cell.specs.Setting.{Setting}
 use Rattle.volap_cell.specs.Sights.{IsIdle}
-use Rattle.volap_cell.specs.Steps.{Step, history_in}
+use Rattle.volap_cell.specs.Steps.{history_in}
 use Rattle.volap_cell.specs.Telling.{IsProgress}
 use Rattle.volap_cell.specs.Values.{ActorValue}
 use Rattle.volap_cell.specs.View.{view}
@@ -42,12 +40,11 @@ use Rattle.seeded_run.proofs.LeftAlone.{IsAtCommand, alone-from, alone-parts, ap
 use Rattle.seeded_run.proofs.Pulled.{deed-ends, deed-pulls, deed-right, deed-session, end-pulls-none, end-right, end-session, plain-pulled, pull-next, pulled-more, pulled-same, right-if}
 use Rattle.seeded_run.proofs.Told.{others-law, told-law}
 use Rattle.seeded_run.specs.Can.{can, can_step}
-use Rattle.seeded_run.specs.Cursors.{HasCursors}
 use Rattle.seeded_run.specs.Due.{does_nothing, is_alone}
-use Rattle.seeded_run.specs.Kept.{IsTurn, KeepsOtherLaw, QuietLaw}
+use Rattle.seeded_run.specs.Kept.{IsTurn, KeepsOtherLaw}
 use Rattle.seeded_run.specs.Rests.{PhaseRun, first_behind, first_open, is_over_behind, rest_of, stream_of}
 use Rattle.seeded_run.specs.Running.{AreAtOwn, HasPulled, IsOrderKept, IsRunning, is_closing_work, opened_in}
-use Rattle.seeded_run.specs.Told.{GoesFurther, IsEnd, OfBeginning, OfDeed, OfEnd, OfNothing, OfPage, OfPull, TellsBeginning, TellsDeed, TellsEnd, TellsNothing, TellsPage, TellsPull, Told, is_deed, is_of_part, is_plain}
+use Rattle.seeded_run.specs.Told.{GoesFurther, OfBeginning, OfDeed, OfEnd, OfNothing, OfPage, OfPull, TellsDeed, TellsEnd, TellsNothing, TellsPage, TellsPull, Told, is_of_part, is_plain}
 
 -- Events that neither begin nor end a command.
 

@@ -1,17 +1,14 @@
 -- Who is alone, and for whom something is due then.
-use Rattle.std.proofs.Common.{◌≡◌, ◌≢◌, ◌∙◌, ℕ, zero, suc, ◌+◌, ◌<◌, ◌≤◌, ◌⊎◌, inl, inr, Bool, true, false, List, [], ◌∷◌, Option, Some, None, refl, sym, ap, subst, arith, not}
+use Rattle.std.proofs.Common.{◌≡◌, ◌≢◌, ◌∙◌, ℕ, zero, suc, ◌<◌, ◌≤◌, ◌⊎◌, inl, inr, Bool, true, false, List, [], ◌∷◌, Option, Some, None, refl, sym, ap, arith, not}
 use Rattle.std.specs.Prelude.{◌==◌, ◌&&◌, ◌||◌, is_none, is_some, if◌then◌else◌}
 use Rattle.std.specs.List.{list_any}
-use Rattle.std.proofs.lemmas.Bool.{eq-eqb, eqb-true, ne_eqb}
-use Rattle.cell_stock.specs.declared.purse.Spare.{Spare}
+use Rattle.std.proofs.lemmas.Bool.{eq-eqb, ne_eqb}
 use Rattle.dc_node.specs.Block.{is_leaf}
-use Rattle.dc_node.specs.declared.todo.Item.{Item}
 use Rattle.mapping_table.specs.declared.place.Where.{Where}
 use Rattle.mapping_table.specs.declared.place.Where.TheVariants as where_is
 use Rattle.query_router.specs.Desk.{waits_for}
 use Rattle.query_router.specs.declared.part.Part.{Part}
 use Rattle.script_form.specs.declared.script.Command.{Command}
-use Rattle.script_form.specs.declared.script.Command.TheVariants as script
 use Rattle.script_run.specs.Phases.{closes}
 use Rattle.volap_cell.specs.Cells.{block_in, desk_in}
 use Rattle.volap_cell.specs.Commands.{once_shown}
@@ -20,7 +17,7 @@ use Rattle.volap_cell.specs.Ghost.{Ghost}
 use Rattle.volap_cell.specs.Invariant.{InvWith}
 use Rattle.volap_cell.specs.Setting.{Setting, actor_count, desk_cell}
 use Rattle.volap_cell.specs.Sights.{IsIdle}
-use Rattle.volap_cell.specs.Values.{ActorValue, ErrandValue, TaskValue, OfRow, Unread, Read, JobValue}
+use Rattle.volap_cell.specs.Values.{ActorValue, ErrandValue, TaskValue, OfRow, Unread, Read}
 use Rattle.volap_cell.specs.View.{view}
 use Rattle.volap_cell.specs.World.{World}
 use Rattle.volap_cell.specs.declared.command.Command.{Command as OpenCommand}
@@ -34,7 +31,7 @@ use Rattle.volap_cell.specs.declared.role.Role.{Role}
 use Rattle.volap_cell.specs.declared.role.Role.TheVariants as role
 use Rattle.seeded_run.proofs.Dues.{all_below-at}
 use Rattle.seeded_run.proofs.Movers.{all-from}
-use Rattle.seeded_run.specs.Due.{actor_kind, all_below, any_below, are_known, carry_kind, command_kind, desk_of, does_nothing, due_by, errand_kind, first_kind, free_kind, gate_kind, hand_kind, is_alone, is_empty, kind_by, led_to, may_enter, next_kind, placed_kind, purse_kind, read_kind, row_kind, task_kind}
+use Rattle.seeded_run.specs.Due.{actor_kind, any_below, are_known, carry_kind, command_kind, desk_of, does_nothing, due_by, first_kind, free_kind, hand_kind, is_alone, is_empty, kind_by, led_to, may_enter, next_kind, placed_kind, read_kind, row_kind, task_kind}
 use Rattle.seeded_run.specs.Running.{is_closing_work}
 use Rattle.seeded_run.specs.Told.{is_of_part, is_plain}
 
@@ -139,12 +136,6 @@ pub record IsAtCommand (s : Setting) (w : World) (rest : ℕ → List Command) (
 pub at-command : (s : Setting) (w : World) (rest : ℕ → List Command) (n : ℕ) (k : Kind) → due_by s w rest n ≡ Some k → is_of_part k ≡ false → IsAtCommand s w rest n k
 at-command s w rest n k due other = by-errand (w.actors n).errand refl
   where
-    a : ActorValue
-    a = w.actors n
-
-    alone : Bool
-    alone = is_alone s w rest n
-
     by-purse : (w.actors n).errand ≡ None → (b : Bool) → (is_none (w.actors n).job && not (is_empty (w.actors n).purse)) ≡ b → IsAtCommand s w rest n k
     by-purse none true is =
         let refill : Some kind.Refill ≡ Some k = sym (ap (actor_kind s w (is_alone s w rest n) (rest n) (w.actors n)) none

@@ -28,3 +28,7 @@ pub mod Pulled
 pub mod Keeps
 pub mod Begins
 pub mod Takings
+pub mod DueParts
+pub mod Holds
+pub mod Fallbacks
+pub mod PartsReady

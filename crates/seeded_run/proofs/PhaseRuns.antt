@@ -1,18 +1,16 @@
 -- How a phase begins and ends.
 use Rattle.std.proofs.Common.{◌≡◌, ◌≢◌, ◌∙◌, ℕ, zero, suc, ◌+◌, ◌-◌, ◌<◌, ◌≤◌, ◌⊎◌, inl, inr, Bool, true, false, List, [], ◌∷◌, ◌++◌, length, drop, Option, Some, None, refl, sym, ap, subst, arith}
-use Rattle.std.specs.Prelude.{◌==◌, ◌&&◌, slice_get, IsTrue}
+use Rattle.std.specs.Prelude.{◌==◌, slice_get}
 use Rattle.std.proofs.lemmas.Bool.{eq-eqb, eqb-true}
 use Rattle.std.proofs.lemmas.Option.{slice_get_within}
-use Rattle.row_ledger.specs.Past.{is_over}
 use Rattle.row_ledger.specs.declared.settings.Use.{Use}
 use Rattle.script_form.specs.declared.script.Command.{Command}
 use Rattle.script_run.proofs.Between.{get-behind, order-start-law, phase-end-law, phase-start-law}
 use Rattle.script_run.proofs.NextCommand.{over-now}
 use Rattle.script_run.proofs.PhaseEnds.{all-over, first-place, get-first}
 use Rattle.script_run.proofs.Whole.{get-some, part_law, places-length, serial_law}
-use Rattle.script_run.specs.Parts.{place_in}
 use Rattle.script_run.specs.Phases.{closes}
-use Rattle.script_run.specs.Places.{begins_of, count_of, is_over_at, places, session_of}
+use Rattle.script_run.specs.Places.{begins_of, is_over_at, places, session_of}
 use Rattle.script_run.specs.Streams.{AreFinished, AreStreams}
 use Rattle.volap_cell.specs.Errands.{taken_of}
 use Rattle.volap_cell.specs.Ghost.{Ghost}
@@ -30,7 +28,6 @@ use Rattle.seeded_run.proofs.Ends.{end-law}
 use Rattle.seeded_run.proofs.Firsts.{IsFirst, first-fails, first-none, first-pass, first-some, late-none, over_in}
 use Rattle.seeded_run.proofs.Orders.{order-end-law}
 use Rattle.seeded_run.proofs.Scripts.{same-command, script-law}
-use Rattle.seeded_run.specs.Can.{able_in}
 use Rattle.seeded_run.specs.Due.{does_nothing, is_alone, is_empty}
 use Rattle.seeded_run.specs.Kept.{PhaseBeginsLaw, PhaseEndsLaw, RunsLaw, StopsLaw}
 use Rattle.seeded_run.specs.Progress.{IsOrderedRun, IsScriptRun, is_done}

@@ -42,12 +42,12 @@ and-three true true c e = (refl, refl, e)
 and-three true false c e = cc
 and-three false b c e = cc
 
-or-second : (a b : Bool) → b ≡ true → (a || b) ≡ true
+pub or-second : (a b : Bool) → b ≡ true → (a || b) ≡ true
 or-second true b e = refl
 or-second false b e = e
 
 -- a part that an actor is at is of its shard and worker, and open
-with-is : (shard worker : ℕ) (p : Part) → is_with shard worker p ≡ true → (p.shard ≡ shard) × (p.worker ≡ worker) × (is_taken p ≡ true)
+pub with-is : (shard worker : ℕ) (p : Part) → is_with shard worker p ≡ true → (p.shard ≡ shard) × (p.worker ≡ worker) × (is_taken p ≡ true)
 with-is shard worker p e =
     let all = and-three (p.shard == shard) (p.worker == worker) (is_taken p) e in
     (eqb-true p.shard shard all.0, eqb-true p.worker worker all.1, all.2)

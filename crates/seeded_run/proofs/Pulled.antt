@@ -1,10 +1,10 @@
 -- Pulls of syncs and settles: what an event adds to them, and that a command ends with those that it was to make.
 use Rattle.std.proofs.Common.{◌≡◌, ◌∙◌, ℕ, zero, suc, ◌+◌, ◌-◌, ◌<◌, ◌≤◌, ◌⊎◌, inl, inr, Bool, true, false, List, [], ◌∷◌, ◌++◌, length, map, reverse, take, Option, Some, None, refl, sym, ap, subst, arith, append_assoc, length-append}
 use mathlib.Core.List.{reverse-cons}
-use Rattle.std.specs.Prelude.{IfSome, is_some, filter_map, nat_lt, option_and_then, if◌then◌else◌}
+use Rattle.std.specs.Prelude.{IfSome, filter_map, nat_lt, option_and_then, if◌then◌else◌}
 use Rattle.std.proofs.Math.Seq.{take-length}
-use Rattle.row_ledger.proofs.Positions.{event_at-older, since-inside, since-outside}
-use Rattle.row_ledger.specs.Past.{Pull, call_at, call_in, end_in, event_at, insert_at, insert_in, pull_in, query_at, query_in, session_in, since}
+use Rattle.row_ledger.proofs.Positions.{since-inside, since-outside}
+use Rattle.row_ledger.specs.Past.{Pull, call_at, call_in, end_in, event_at, insert_in, pull_in, query_in, session_in, since}
 use Rattle.row_ledger.specs.declared.event.Event.{Event}
 use Rattle.row_ledger.specs.declared.event.Event.TheVariants as event
 use Rattle.row_ledger.specs.declared.settings.Call.{Call}

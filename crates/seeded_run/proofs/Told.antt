@@ -1,10 +1,9 @@
 -- What each kind of step tells the history.
-use Rattle.std.proofs.Common.{◌≡◌, ◌≢◌, ◌∙◌, ℕ, ◌+◌, ◌⊎◌, inl, inr, Bool, true, false, cond, eqb, List, [], ◌∷◌, ◌++◌, Option, Some, None, length, refl, sym, ap, subst, arith, ◌<◌}
-use Rattle.std.specs.Prelude.{slice_get, option_map, option_and_then, is_some}
+use Rattle.std.proofs.Common.{◌≡◌, ◌≢◌, ◌∙◌, ℕ, ◌⊎◌, inl, inr, Bool, true, false, cond, eqb, List, [], ◌∷◌, ◌++◌, Option, Some, None, length, refl, sym, ap, subst, arith, ◌<◌}
+use Rattle.std.specs.Prelude.{slice_get, option_map, option_and_then}
 use Rattle.std.proofs.lemmas.Bool.{eq-eqb}
 use Rattle.std.proofs.lemmas.Option.{slice_get_within}
 use Rattle.dim_hierarchy.specs.Dimension.{Dimension}
-use Rattle.dc_node.specs.Block.{is_full}
 use Rattle.dc_node.specs.declared.block.Block.{Block}
 use Rattle.link_descent.specs.declared.entered.Fresh.{Fresh}
 use Rattle.cell_stock.specs.declared.purse.Spare.{Spare}
@@ -24,18 +23,18 @@ use Rattle.tree_shape.specs.Counts.{Each}
 use Rattle.tree_shape.proofs.Walks.{on_bool, eqb-eq}
 use Rattle.volap_cell.proofs.Frames.{AreAt, actor-at, actor-off}
 use Rattle.volap_cell.proofs.Numbers.{at-ledger}
-use Rattle.volap_cell.specs.AdminKinds.{DoesCollect, DoesFinishMove, DoesFinishSplit, DoesFreeze, DoesPostpone, Finishes, GivesUp, IsDivided, CollectsBlock, CollectsQueued, CollectsAll, MovesIn, PushesBoth}
+use Rattle.volap_cell.specs.AdminKinds.{DoesFreeze, Finishes, GivesUp, MovesIn, PushesBoth}
 use Rattle.volap_cell.specs.Cells.{CellValue, Tag, TheLedger, FreeCell, LedgerCell, StockCell, RegistryCell, ImageCell, DeskCell, MapCell, GateCell, BlockCell, tag_of, ledger_in}
 use Rattle.volap_cell.specs.Commands.{EndsBalance, EndsStage, MayNoteEnd, due_pull}
 use Rattle.volap_cell.specs.Ghost.{Ghost}
-use Rattle.volap_cell.specs.ImageKinds.{DoesNote, DoesNoteWith, FailsQuery, FailsRouted, FailsUnrouted, IsAsked, IsBegun, IsFree, IsNewBalance, NotesCalled, NotesEnded, NotesLeft, NotesRefused, NotesShown, NotesUnknown, OfCalled, OfCalledAsking, OfCount, OfEnded, OfLeft, OfQuery, OfRefused, OfShown, OfUnknown, OfUnrouted, Pushes, doing}
+use Rattle.volap_cell.specs.ImageKinds.{DoesNote, DoesNoteWith, IsBegun, IsFree, NotesCalled, NotesEnded, OfCalled, OfCalledAsking, OfCount, OfEnded, OfLeft, OfQuery, OfRefused, OfShown, OfUnknown, OfUnrouted, Pushes, doing}
 use Rattle.volap_cell.specs.Invariant.{InvWith}
 use Rattle.volap_cell.specs.Kinds.{Does}
 use Rattle.volap_cell.specs.Planning.{job_for, next_job}
 use Rattle.volap_cell.specs.Setting.{Setting, ledger_cell}
 use Rattle.volap_cell.specs.ShardKinds.{PutsChildren, Unpins}
-use Rattle.volap_cell.specs.Steps.{Step, history_in}
-use Rattle.volap_cell.specs.TreeKinds.{AreBehind, AreFilled, DoesDown, DoesEnterTree, DoesRefill, IsTailIf, most_behind}
+use Rattle.volap_cell.specs.Steps.{history_in}
+use Rattle.volap_cell.specs.TreeKinds.{AreBehind, AreFilled, IsTailIf, most_behind}
 use Rattle.volap_cell.specs.Values.{ActorValue, ErrandValue, TaskValue, OfRow, Unread, Read, JobValue, StageValue, IsCalled, IsDeclined, IsFrozen, Collects, Builds}
 use Rattle.volap_cell.specs.View.{view}
 use Rattle.volap_cell.specs.Working.{IsJobOf, begun, frozen_in}
@@ -49,7 +48,7 @@ use Rattle.volap_cell.specs.declared.kind.Kind.TheVariants as kind
 use Rattle.volap_cell.specs.declared.role.Role.{Role}
 use Rattle.volap_cell.specs.declared.role.Role.TheVariants.{Admin, Session}
 use Rattle.seeded_run.specs.Running.{HasPulled, is_closing_work}
-use Rattle.seeded_run.specs.Told.{GoesFurther, IsEnd, OfBeginning, OfDeed, OfEnd, OfNothing, OfPage, OfPull, Opens, OpensNone, OpensOne, OthersLaw, Told, ToldLaw, begins_closing, is_deed, is_of_part, is_plain}
+use Rattle.seeded_run.specs.Told.{GoesFurther, IsEnd, OfBeginning, OfDeed, OfEnd, OfNothing, OfPage, OfPull, Opens, OpensNone, OpensOne, OthersLaw, Told, ToldLaw, is_deed, is_of_part, is_plain}
 
 -- The ledger's cell.
 

@@ -20,7 +20,7 @@ use Rattle.seeded_run.specs.Core.{IsCore}
 use Rattle.seeded_run.specs.Worlds.{nobody, roles_in, setting_in, world_in, world_of}
 
 -- nothing stands past the end of a vector
-past-end : {A : Type 0} (xs : List (Option A)) (y : ℕ) → length xs ≤ y → get_or xs y None ≡ None
+pub past-end : {A : Type 0} (xs : List (Option A)) (y : ℕ) → length xs ≤ y → get_or xs y None ≡ None
 past-end [] y le = refl
 past-end (x ∷ xs) zero le = absurd (omega arith)
 past-end (x ∷ xs) (suc y) le = past-end xs y (omega arith)

@@ -14,3 +14,4 @@ pub mod Running
 pub mod Told
 pub mod Commands
 pub mod Kept
+pub mod AtWork

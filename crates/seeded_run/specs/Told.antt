@@ -6,7 +6,6 @@ use Rattle.row_ledger.specs.declared.event.Event.{Event}
 use Rattle.row_ledger.specs.declared.event.Event.TheVariants as event
 use Rattle.row_ledger.specs.declared.page.Page.{Page}
 use Rattle.row_ledger.specs.declared.settings.How.{How}
-use Rattle.row_ledger.specs.declared.settings.How.TheVariants.{Fine}
 use Rattle.script_run.specs.Phases.{is_closing}
 use Rattle.volap_cell.specs.Commands.{MayNoteEnd, due_pull, once_shown, pulled_once}
 use Rattle.volap_cell.specs.Ghost.{Ghost}

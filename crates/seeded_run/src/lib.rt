@@ -6,6 +6,7 @@ mod begins_due;
 mod can;
 mod commands;
 mod commands_due;
+mod errands;
 mod errands_due;
 mod laws;
 mod look;

@@ -1,10 +1,11 @@
 -- What began at a position of a history is of one kind, and an insert that ended there was acknowledged or has failed.
-use Rattle.std.proofs.Common.{◌≡◌, ℕ, zero, suc, List, [], ◌∷◌, Bool, true, not, refl, sym, ap, arith, ◌==◌, ◌∙◌, inl, inr, map}
+use Rattle.std.proofs.Common.{◌≡◌, ℕ, zero, suc, List, [], ◌∷◌, Bool, true, false, not, refl, sym, ap, arith, ◌==◌, ◌∙◌, inl, inr, map}
 use Rattle.std.specs.Prelude.{Option, Some, None, Contains, IsTrue, option_and_then}
 use Rattle.std.specs.List.{list_any}
-use Rattle.std.proofs.lemmas.Bool.{eq-eqb, false≢true, or_right}
+use Rattle.std.specs.Option.{option_map_or}
+use Rattle.std.proofs.lemmas.Bool.{eq-eqb, false≢true, or_cases, or_right}
 use Rattle.std.proofs.lemmas.List.Elements.{Contains-append_right}
-use Rattle.row_ledger.specs.Past.{Ack, Insert, Query, acked, call_at, call_in, event_at, failed, has_ended, insert_at, insert_in, is_kept, query_at, query_in}
+use Rattle.row_ledger.specs.Past.{Ack, Insert, Query, acked, call_at, call_in, ends_itself, event_at, failed, has_ended, insert_at, insert_in, is_kept, is_over, query_at, query_in, session_in}
 use Rattle.row_ledger.specs.Right.{Site, EachEvent, Stands}
 use Rattle.row_ledger.specs.declared.event.Event.{Event}
 use Rattle.row_ledger.specs.declared.event.Event.TheVariants.{Begun}
@@ -37,6 +38,22 @@ begun-event : (e : Option Event) (i : Insert) → option_and_then insert_in e �
 begun-event None i q = cc
 begun-event (Some (Begun n s r)) i q = let j : record { server = s; row = r } ≡ i = cc in (n, ap (λ (i : Insert). Some (Begun n i.server i.row)) j)
 begun-event (Some _) i q = cc
+
+-- an insert is somebody's, and has its end only where it has ended
+
+insert-begins : (e : Option Event) (i : Insert) → option_and_then insert_in e ≡ Some i → ((n : ℕ) × (option_and_then session_in e ≡ Some n)) × (option_map_or ends_itself e false ≡ false)
+insert-begins None i q = cc
+insert-begins (Some (Begun n s r)) i q = ((n, refl), refl)
+insert-begins (Some _) i q = cc
+
+pub insert-session : (h : List Event) (p : ℕ) (i : Insert) → insert_at h p ≡ Some i → (n : ℕ) × (option_and_then session_in (event_at h p) ≡ Some n)
+insert-session h p i begun = (insert-begins (event_at h p) i begun).0
+
+pub insert-ended : (h : List Event) (p : ℕ) (i : Insert) → insert_at h p ≡ Some i → is_over h p ≡ true → has_ended h p ≡ true
+insert-ended h p i begun over = elim (or_cases (has_ended h p) (option_map_or ends_itself (event_at h p) false) over) [
+  | inl ended ↦ ended
+  | inr itself ↦ absurd (false≢true (sym (insert-begins (event_at h p) i begun).1 ∙ itself))
+]
 
 -- a row's number is the position of its beginning
 pub row-number : (site : Site) (usable : ℕ → Bool) (h : List Event) (p : ℕ) (i : Insert) → EachEvent (Stands site usable) h → insert_at h p ≡ Some i → i.row.no ≡ p

@@ -1,23 +1,24 @@
 -- One event more, that an actor notes: what the history tells of each command, and what is owed to it.
-use Rattle.std.proofs.Common.{◌≡◌, ◌≢◌, ℕ, ◌+◌, ◌<◌, ◌≤◌, ◌∙◌, List, ◌∷◌, Bool, true, false, IsTrue, length, refl, sym, ap, subst, arith, ◌⊎◌, inl, inr, ◌==◌, is_some, eqb-true, le_of_lt, le_of_eq}
+use Rattle.std.proofs.Common.{◌≡◌, ◌≢◌, ℕ, ◌+◌, ◌<◌, ◌≤◌, ◌∙◌, List, ◌∷◌, Bool, true, false, IsTrue, length, refl, sym, ap, subst, arith, ◌⊎◌, inl, inr, ◌==◌, eqb-true, le_of_lt, le_of_eq}
 use Rattle.std.specs.Prelude.{Option, Some, None, option_and_then}
 use Rattle.std.specs.List.{list_any}
-use Rattle.std.proofs.lemmas.Bool.{or_right}
+use Rattle.std.specs.Option.{option_map_or}
+use Rattle.std.proofs.lemmas.Bool.{or_left, or_right}
 use Rattle.dim_hierarchy.specs.Filter.{IsFilterOf}
 use Rattle.dim_hierarchy.specs.Row.{IsRowOf}
 use Rattle.row_ledger.specs.declared.event.Event.{Event}
 use Rattle.row_ledger.specs.declared.event.Event.TheVariants.{Acked, Answered, Failed, Split, Moved, Left, Shown, Ended}
-use Rattle.row_ledger.specs.Past.{Insert, Query, event_at, insert_at, insert_in, query_in, session_in, number_in, is_end_of, has_ended, is_work_of, page_in, has_page, since, is_pull_of}
+use Rattle.row_ledger.specs.Past.{Insert, Query, event_at, insert_in, query_in, session_in, number_in, ends_itself, is_end_of, has_ended, is_work_of, page_in, has_page, since, is_pull_of}
 use Rattle.row_ledger.specs.Right.{KeepsRight, has_pulled}
 use Rattle.row_ledger.specs.Shards.{is_live}
 use Rattle.row_ledger.specs.Work.{is_known}
 use Rattle.row_ledger.proofs.Fresh.{kind-within}
-use Rattle.row_ledger.proofs.Older.{has_ended-older}
-use Rattle.row_ledger.proofs.Positions.{before-older, since-inside}
+use Rattle.row_ledger.proofs.Older.{is_over-older}
+use Rattle.row_ledger.proofs.Positions.{before-older, event_at-here, since-inside}
 use Rattle.shard_plan.specs.declared.action.Action.TheVariants as action
 use Rattle.tree_shape.proofs.Walks.{on_bool, eqb-eq, eqb-ne, eqb-no}
 use Rattle.volap_cell.specs.Setting.{Setting, site_in}
-use Rattle.volap_cell.specs.Telling.{IsProgress, IsEndedOrOpen, Telling}
+use Rattle.volap_cell.specs.Telling.{IsProgress, IsOverOrOpen, Telling}
 use Rattle.volap_cell.specs.Values.{JobValue}
 use Rattle.volap_cell.specs.declared.command.Command.{Command}
 use Rattle.volap_cell.specs.declared.command.Work.{Work}
@@ -97,17 +98,17 @@ abbrev pub IsOwn : List Event → ℕ → ℕ → Type 0
 IsOwn h of a = option_and_then session_in (event_at h of) ≡ Some a
 
 -- One actor notes the event. The event is of its command, or begins one. Other actors' commands stay. Its own afterwards, if it has
--- one, began, is open and is as far as it says; and an insert that it had has ended, or is still its command.
+-- one, began, is open and is as far as it says; and one that it had, or begins, has its end, or is its command.
 pub record IsNoted (s : Setting) (e : Event) (h : List Event) (n : ℕ) (commands commands_now : ℕ → Option Command) (jobs jobs_now : ℕ → Option JobValue) (roles : ℕ → Role) (seen seen_now : ℕ → ℕ) : Type 0 where
   pub others : (a : ℕ) → a ≢ n → (commands_now a ≡ commands a) × (jobs_now a ≡ jobs a) × (seen_now a ≡ seen a)
   pub whose : (of : ℕ) → number_in e ≡ Some of → IsOwn h of n
   pub by : (a : ℕ) → session_in e ≡ Some a → a ≡ n
   pub mine : (c : Command) → commands_now n ≡ Some c → IsOwn (e ∷ h) c.of n × (has_ended (e ∷ h) c.of ≡ false) × IsProgress s (e ∷ h) c.of c.work (jobs_now n) (roles n)
   pub all_seen : seen_now n ≡ length (e ∷ h)
-  pub row : (i : Insert) → insert_in e ≡ Some i → IsRowOf s.hierarchy i.row × (i.server < s.servers) × ((c : Command) × (commands_now n ≡ Some c) × (c.of ≡ length h))
+  pub row : (i : Insert) → insert_in e ≡ Some i → IsRowOf s.hierarchy i.row × (i.server < s.servers)
   pub filter : (q : Query) → query_in e ≡ Some q → IsFilterOf s.hierarchy q.filter × (q.server < s.servers) × (0 < length s.hierarchy)
-  pub goes_on : (c : Command) → commands n ≡ Some c → is_some (insert_at h c.of) ≡ true
-      → (has_ended (e ∷ h) c.of ≡ true) ⊎ ((d : Command) × (commands_now n ≡ Some d) × (d.of ≡ c.of))
+  pub begins : (a : ℕ) → session_in e ≡ Some a → (ends_itself e ≡ true) ⊎ ((c : Command) × (commands_now n ≡ Some c) × (c.of ≡ length h))
+  pub goes_on : (c : Command) → commands n ≡ Some c → (has_ended (e ∷ h) c.of ≡ true) ⊎ ((d : Command) × (commands_now n ≡ Some d) × (d.of ≡ c.of))
 
 module _ (s : Setting) (e : Event) (h : List Event) (n : ℕ) (commands commands_now : ℕ → Option Command) (jobs jobs_now : ℕ → Option JobValue) (roles : ℕ → Role) (seen seen_now : ℕ → ℕ) (placed : ℕ → Bool)
     (noted : IsNoted s e h n commands commands_now jobs jobs_now roles seen seen_now) (i : Telling s h commands jobs roles seen placed) where
@@ -149,19 +150,22 @@ module _ (s : Setting) (e : Event) (h : List Event) (n : ℕ) (commands commands
       (λ q. le_of_eq (ap seen_now (eqb-eq a n q) ∙ noted.all_seen))
       (λ q. let o = noted.others a (eqb-ne a n q) in let same : seen_now a ≡ seen a = o.2 in let below : seen a ≤ length h = i.within a in omega arith)
 
-  status-now : (r : ℕ) (insert : Insert) → insert_at (e ∷ h) r ≡ Some insert → IsEndedOrOpen (e ∷ h) commands_now r
-  status-now r insert is = elim (kind-cases insert_in e h r insert is) [
-    | inl old ↦ elim (i.status r insert old) [
-      | inl ended ↦ inl (has_ended-older e h r ended)
+  status-now : (a p : ℕ) → IsOwn (e ∷ h) p a → IsOverOrOpen (e ∷ h) commands_now p
+  status-now a p own = elim (kind-cases session_in e h p a own) [
+    | inl old ↦ elim (i.status a p old) [
+      | inl over ↦ inl (is_over-older e h p over)
       | inr at ↦ on_bool (at.0 == n)
           (λ q. let mine : commands n ≡ Some at.1 = sym (ap commands (eqb-eq at.0 n q)) ∙ at.2 in
-          elim (noted.goes_on at.1 mine (ap (λ (p : ℕ). is_some (insert_at h p)) at.3 ∙ ap is_some old)) [
-            | inl ended ↦ inl (ap (has_ended (e ∷ h)) (sym at.3) ∙ ended)
+          elim (noted.goes_on at.1 mine) [
+            | inl ended ↦ inl (or_left (has_ended (e ∷ h) p) _ (ap (has_ended (e ∷ h)) (sym at.3) ∙ ended))
             | inr goes ↦ inr (n, goes.0, goes.1, goes.2 ∙ at.3)
           ])
           (λ q. let o = noted.others at.0 (eqb-ne at.0 n q) in inr (at.0, at.1, o.0 ∙ at.2, at.3))
     ]
-    | inr new ↦ let t = noted.row insert new.1 in let c = t.2 in inr (n, c.0, c.1, c.2 ∙ sym new.0)
+    | inr new ↦ elim (noted.begins a new.1) [
+      | inl itself ↦ inl (or_right (has_ended (e ∷ h) p) _ (ap (λ (o : Option Event). option_map_or ends_itself o false) (ap (event_at (e ∷ h)) new.0 ∙ event_at-here e h) ∙ itself))
+      | inr c ↦ inr (n, c.0, c.1, c.2 ∙ sym new.0)
+    ]
   ]
 
   pub telling-grown : KeepsRight (site_in s) placed (e ∷ h) → Telling s (e ∷ h) commands_now jobs_now roles seen_now placed
@@ -174,7 +178,7 @@ module _ (s : Setting) (e : Event) (h : List Event) (n : ℕ) (commands commands
     within = within-now;
     rows = λ r insert is. elim (kind-cases insert_in e h r insert is) [
       | inl old ↦ i.rows r insert old
-      | inr new ↦ let t = noted.row insert new.1 in (t.0, t.1)
+      | inr new ↦ noted.row insert new.1
     ];
     filters = λ b q is. elim (kind-cases query_in e h b q is) [
       | inl old ↦ i.filters b q old

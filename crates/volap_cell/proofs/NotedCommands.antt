@@ -1,14 +1,14 @@
 -- What the history tells of commands when an actor notes an event: it begins a command, goes on with its own, or ends it.
 -- `telling-begins`, `telling-goes-on`, `telling-ends`, each over a history that is right with the event; what is told of a command that
 -- begins: `new-own`, `new-open`, `new-workless`, `new-pageless`, `new-told`.
-use Rattle.std.proofs.Common.{◌≡◌, ◌≢◌, ℕ, ◌<◌, ◌∙◌, List, [], ◌∷◌, Bool, false, length, refl, sym, ap, subst, inl, inr, is_some, eq-eqb, le_refl}
+use Rattle.std.proofs.Common.{◌≡◌, ◌≢◌, ℕ, ◌<◌, ◌∙◌, List, [], ◌∷◌, Bool, true, false, length, refl, sym, ap, subst, ◌⊎◌, inl, inr, is_some, eq-eqb, le_refl}
 use Rattle.std.specs.Prelude.{Option, Some, None, option_and_then}
 use Rattle.std.proofs.lemmas.Bool.{or_left}
 use Rattle.dim_hierarchy.specs.Filter.{IsFilterOf}
 use Rattle.dim_hierarchy.specs.Row.{IsRowOf}
 use Rattle.row_ledger.specs.declared.event.Event.{Event}
 use Rattle.row_ledger.specs.declared.event.Event.TheVariants.{Begun, Acked, Asked, Answered, Unknown, Failed, Refused, Called, Ended}
-use Rattle.row_ledger.specs.Past.{Insert, Query, event_at, insert_in, query_in, session_in, number_in, end_in, is_end_of, has_ended, has_page, work}
+use Rattle.row_ledger.specs.Past.{Insert, Query, event_at, insert_in, query_in, session_in, number_in, end_in, ends_itself, is_end_of, has_ended, has_page, work}
 use Rattle.row_ledger.specs.Right.{KeepsRight}
 use Rattle.row_ledger.proofs.Fresh.{fresh-newest, pageless, workless}
 use Rattle.row_ledger.proofs.Positions.{event_at-here}
@@ -85,10 +85,11 @@ module _ (s : Setting) (e : Event) (h : List Event) (n : ℕ) (commands commands
   -- an actor without a command begins one, or notes one that ends with its beginning
   pub telling-begins : session_in e ≡ Some n → commands n ≡ None
       → ((c : Command) → commands_now n ≡ Some c → (c.of ≡ length h) × IsProgress s (e ∷ h) c.of c.work (jobs_now n) (roles n))
-      → ((insert : Insert) → insert_in e ≡ Some insert → IsRowOf s.hierarchy insert.row × (insert.server < s.servers) × ((c : Command) × (commands_now n ≡ Some c)))
+      → (ends_itself e ≡ true) ⊎ ((c : Command) × (commands_now n ≡ Some c))
+      → ((insert : Insert) → insert_in e ≡ Some insert → IsRowOf s.hierarchy insert.row × (insert.server < s.servers))
       → ((q : Query) → query_in e ≡ Some q → IsFilterOf s.hierarchy q.filter × (q.server < s.servers) × (0 < length s.hierarchy))
       → Telling s (e ∷ h) commands_now jobs_now roles seen_now placed
-  telling-begins session free now row filter = telling-grown s e h n commands commands_now jobs jobs_now roles seen seen_now placed
+  telling-begins session free now over row filter = telling-grown s e h n commands commands_now jobs jobs_now roles seen seen_now placed
       (record {
         others = by.others;
         whose = λ b is. absurd (begins-alone e n b session is);
@@ -99,9 +100,10 @@ module _ (s : Setting) (e : Event) (h : List Event) (n : ℕ) (commands commands
           t.1,
         );
         all_seen = by.all_seen;
-        row = λ insert is. let t = row insert is in let c = t.2 in let u = now c.0 c.1 in (t.0, t.1, (c.0, c.1, u.0));
+        row = row;
         filter = filter;
-        goes_on = λ c is there. let never : ◌≡◌ {A = Option Command} None (Some c) = sym free ∙ is in cc;
+        begins = λ a is. elim over [ inl itself ↦ inl itself | inr c ↦ (let u = now c.0 c.1 in inr (c.0, c.1, u.0)) ];
+        goes_on = λ c is. let never : ◌≡◌ {A = Option Command} None (Some c) = sym free ∙ is in cc;
       })
       i right
 
@@ -125,7 +127,8 @@ module _ (s : Setting) (e : Event) (h : List Event) (n : ℕ) (commands commands
         all_seen = by.all_seen;
         row = λ insert is. let never : ◌≡◌ {A = Option Insert} None (Some insert) = sym (no-insert e none) ∙ is in cc;
         filter = λ q is. let never : ◌≡◌ {A = Option Query} None (Some q) = sym (no-query e none) ∙ is in cc;
-        goes_on = λ x is there. let it : c ≡ x = cc in inr (d, now, same ∙ ap (λ (y : Command). y.of) it);
+        begins = λ a is. let never : ◌≡◌ {A = Option ℕ} None (Some a) = sym none ∙ is in cc;
+        goes_on = λ x is. let it : c ≡ x = cc in inr (d, now, same ∙ ap (λ (y : Command). y.of) it);
       })
       i right
 
@@ -142,7 +145,8 @@ module _ (s : Setting) (e : Event) (h : List Event) (n : ℕ) (commands commands
         all_seen = by.all_seen;
         row = λ insert is. let never : ◌≡◌ {A = Option Insert} None (Some insert) = sym (no-insert e none) ∙ is in cc;
         filter = λ q is. let never : ◌≡◌ {A = Option Query} None (Some q) = sym (no-query e none) ∙ is in cc;
-        goes_on = λ x is there. let it : c ≡ x = cc in
+        begins = λ a is. let never : ◌≡◌ {A = Option ℕ} None (Some a) = sym none ∙ is in cc;
+        goes_on = λ x is. let it : c ≡ x = cc in
             inl (or_left (is_end_of x.of e) (has_ended h x.of) (rw ends (eq-eqb c.of x.of (ap (λ (y : Command). y.of) it))));
       })
       i right

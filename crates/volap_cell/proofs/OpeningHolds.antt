@@ -74,7 +74,7 @@ module _ (s : Setting) (w : World) (set : IsSetting s) (o : IsOpening s w) where
     within = λ a. (let none = (o.actors a).seen in omega arith);
     rows = λ r i is. no-insert r i is;
     filters = λ b q is. no-query b q is;
-    status = λ r i is. no-insert r i is;
+    status = λ a p is. no-session a p is;
   }
 
   owing : Owing s vs.history vs.promised vs.images vs.desks vs.roles vs.commands vs.counted_in

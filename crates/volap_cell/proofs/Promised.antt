@@ -38,7 +38,7 @@ use Rattle.volap_cell.specs.declared.command.Work.{Work}
 use Rattle.volap_cell.specs.declared.command.Work.TheVariants as work_is
 use Rattle.volap_cell.specs.declared.role.Role.TheVariants.{Session}
 use Rattle.tree_shape.proofs.Walks.{on_bool, eqb-eq, eqb-ne}
-use Rattle.volap_cell.proofs.Beginnings.{acked-of, no-query, no-call}
+use Rattle.volap_cell.proofs.Beginnings.{acked-of, insert-ended, insert-session, no-query, no-call}
 use Rattle.volap_cell.proofs.Knowing.{acked-begun, known-acked}
 use Rattle.volap_cell.proofs.Standings.{standing, in-one, in-none}
 
@@ -67,15 +67,15 @@ at-work s v g inv a r i job (work_is.Tree shard stands shown) command begun prog
 at-work s v g inv a r i job (work_is.Audit shown) command begun progress = absurd (no-call v.history r i _ begun progress.0)
 
 before-gate : (s : Setting) (v : View) (g : Ghost) → InvWith s v g → (r : ℕ) (i : Insert) → insert_at v.history r ≡ Some i → IsTrue (is_kept v.history r) → g.placed r ≡ false → IsOnDesk s v i r ⊎ IsUnrouted v r
-before-gate s v g inv r i begun kept out = elim (inv.telling.status r i begun) [
-  | inl ended ↦
-      let k = acked-of _ _ v.history r i inv.telling.right.right.each begun ended kept in
+before-gate s v g inv r i begun kept out = (let its = insert-session v.history r i begun in elim (inv.telling.status its.0 r its.1) [
+  | inl over ↦
+      let k = acked-of _ _ v.history r i inv.telling.right.right.each begun (insert-ended v.history r i begun over) kept in
       let placed : g.placed r ≡ true = subst (λ n. g.placed n ≡ true) k.2 (inv.placing.acked_rows k.0 k.1).0 in
       absurd (false≢true (sym out ∙ placed))
   | inr x ↦
       let command : v.commands x.0 ≡ doing r x.1.work = x.2 ∙ ap (λ n. Some (record { of = n; work = x.1.work })) x.3 in
       at-work s v g inv x.0 r i (v.jobs x.0) x.1.work command begun (subst (λ n. IsProgress s v.history n x.1.work (v.jobs x.0) (v.roles x.0)) x.3 (inv.telling.progress x.0 x.1 x.2))
-]
+])
 
 pub place-law : PlaceLaw
 place-law s w inv =

@@ -3,7 +3,7 @@ use Rattle.std.specs.Prelude.{ℕ, ◌≡◌, ◌+◌, ◌<◌, ◌≤◌, ◌�
 use Rattle.dim_hierarchy.specs.Filter.{IsFilterOf}
 use Rattle.dim_hierarchy.specs.Row.{IsRowOf}
 use Rattle.shard_plan.specs.declared.action.Action.TheVariants as action
-use Rattle.row_ledger.specs.Past.{Insert, Query, before, event_at, insert_at, query_at, call_at, has_ended, has_page, session_in, work}
+use Rattle.row_ledger.specs.Past.{Insert, Query, before, event_at, insert_at, query_at, call_at, has_ended, has_page, is_over, session_in, work}
 use Rattle.row_ledger.specs.Right.{KeepsRight, has_pulled}
 use Rattle.row_ledger.specs.Shards.{is_live}
 use Rattle.row_ledger.specs.Work.{is_known}
@@ -39,9 +39,9 @@ IsProgress s h of (work_is.Tree shard stands shown) job role =
     (call_at h of ≡ Some (call.Tree shard)) × (has_page h of ≡ shown) × (is_live s.workers (before h of) shard ≡ stands) × (shown ≡ true → stands ≡ true)
 IsProgress s h of (work_is.Audit shown) job role = (call_at h of ≡ Some call.Audit) × (has_page h of ≡ shown)
 
--- an insert has ended, or an actor is still at it
-abbrev pub IsEndedOrOpen : List Event → (ℕ → Option Command) → ℕ → Type 0
-IsEndedOrOpen h commands r = (has_ended h r ≡ true) ⊎ ((a : ℕ) × (c : Command) × (commands a ≡ Some c) × (c.of ≡ r))
+-- a command has its end, or an actor is still at it
+abbrev pub IsOverOrOpen : List Event → (ℕ → Option Command) → ℕ → Type 0
+IsOverOrOpen h commands p = (is_over h p ≡ true) ⊎ ((a : ℕ) × (c : Command) × (commands a ≡ Some c) × (c.of ≡ p))
 
 pub record Telling (s : Setting) (history : List Event) (commands : ℕ → Option Command) (jobs : ℕ → Option JobValue) (roles : ℕ → Role) (seen : ℕ → ℕ) (placed : ℕ → Bool) : Type 0 where
   pub right : KeepsRight (site_in s) placed history
@@ -52,4 +52,4 @@ pub record Telling (s : Setting) (history : List Event) (commands : ℕ → Opti
   pub within : (a : ℕ) → seen a ≤ length history
   pub rows : (r : ℕ) (i : Insert) → insert_at history r ≡ Some i → IsRowOf s.hierarchy i.row × (i.server < s.servers)
   pub filters : (b : ℕ) (q : Query) → query_at history b ≡ Some q → IsFilterOf s.hierarchy q.filter × (q.server < s.servers) × (0 < length s.hierarchy)
-  pub status : (r : ℕ) (i : Insert) → insert_at history r ≡ Some i → IsEndedOrOpen history commands r
+  pub status : (a p : ℕ) → option_and_then session_in (event_at history p) ≡ Some a → IsOverOrOpen history commands p

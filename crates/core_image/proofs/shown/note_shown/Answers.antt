@@ -1,0 +1,25 @@
+use Rattle.std.proofs.Common.{length, ap, sym, ◌∙◌}
+use Rattle.row_ledger.specs.LedgerValue.{LedgerValue}
+use Rattle.volap_cell.specs.Cells.{LedgerCell, cell_of}
+use Rattle.volap_cell.specs.Values.{actor_of}
+use Rattle.core_image.proofs.NotesShown.{shown-due, shown-makes, shown-promised}
+use Rattle.core_image.proofs.shown.note_shown.Goals as goal
+
+pub push-requires : goal.push-requires
+push-requires c =
+    shown-promised c.args.h.now c.args.ledger_at c.args.page (cell_of c.args.ledger.now) (actor_of c.args.actor.now) c.requires.here c.requires.due
+    c.deref_mut.result.now (ap cell_of c.in-Ledger.is ∙ ap LedgerCell (sym c.deref_mut.ensures.value))
+
+pub show-requires : goal.show-requires
+show-requires c =
+    shown-due c.args.h.now c.args.ledger_at c.args.page (cell_of c.args.ledger.now) (actor_of c.args.actor.now) c.requires.here c.requires.due
+    c.deref_mut.result.now (ap cell_of c.in-Ledger.is ∙ ap LedgerCell (sym c.deref_mut.ensures.value))
+
+pub returns : goal.returns
+returns c =
+    record {
+      made = shown-makes c.args.h.now c.args.ledger_at c.args.page (cell_of c.args.ledger.now) (actor_of c.args.actor.now) c.requires.here c.requires.due
+          c.deref_mut.result.now (ap cell_of c.in-Ledger.is ∙ ap LedgerCell (sym c.deref_mut.ensures.value))
+          c.in-Some.command c.in-Some.is c.push.new.self c.push.ensures.history c.push.ensures.promised
+          _ c.show.ensures _ (c.len-actor.ensures.value ∙ ap (λ (l : LedgerValue). length l.history) c.deref.ensures);
+    }
