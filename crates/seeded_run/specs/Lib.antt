@@ -14,4 +14,5 @@ pub mod Running
 pub mod Told
 pub mod Commands
 pub mod Kept
+pub mod Arms
 pub mod AtWork
