@@ -1,0 +1,1 @@
+//! A job ends with new gates.

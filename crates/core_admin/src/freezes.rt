@@ -1,0 +1,1 @@
+//! A shard is frozen for a job, and its tree runs empty of inserts.
