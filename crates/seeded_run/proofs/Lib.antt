@@ -32,3 +32,7 @@ pub mod DueParts
 pub mod Holds
 pub mod Fallbacks
 pub mod PartsReady
+pub mod DueReads
+pub mod ReadsReady
+pub mod DueTakes
+pub mod TakesReady

@@ -16,3 +16,5 @@ pub mod Commands
 pub mod Kept
 pub mod Arms
 pub mod AtWork
+pub mod Led
+pub mod Awaited

@@ -76,7 +76,7 @@ fn worker_of(actor: &Actor) -> u8
 }
 
 /// The worker of the part of the actor with this number.
-fn worker_by(state: &State, number: usize) -> u8
+pub(crate) fn worker_by(state: &State, number: usize) -> u8
     ensures { result ≡ worker_at (errand_by state.now.actors.items number) }
 {
     match state.actors.get(number) {
@@ -188,7 +188,7 @@ pub(crate) fn forward(h: &Hierarchy, with: &Use, state: &mut State, number: usiz
 }
 
 /// An actor's part ends, where it can. Takes no memory.
-fn end_part(h: &Hierarchy, with: &Use, state: &mut State, number: usize)
+pub(crate) fn end_part(h: &Hierarchy, with: &Use, state: &mut State, number: usize)
     requires core { HasCore h.now with.now state.old.cells.items state.old.actors.items }
     requires ends { CanEndBy state.old.actors.items number }
     ensures made { Stepped h.now FinishPart number state.old.cells.items state.old.actors.items state.new.cells.items state.new.actors.items }

@@ -12,7 +12,9 @@ mod laws;
 mod look;
 mod names_due;
 mod places;
+mod reads;
 mod sights;
+mod takes;
 mod wanted;
 
 pub use laws::{
