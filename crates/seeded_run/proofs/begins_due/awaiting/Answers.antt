@@ -11,7 +11,7 @@ pub returns-then-is_awaited_at-clause-some : goal.returns-then-is_awaited_at-cla
 returns-then-is_awaited_at-clause-some c =
     let s = setting_by [] c.args.with.now in
     let at : ℕ → Bool = λ (y : ℕ). list_any (waits_for c.args.worker) (desk_in (cell_at c.args.cells.now y)).parts in
-    record { within = omega arith; waits = sym (c.if-is_awaited_at.ensures ∙ ap at (c.desk_place.ensures s refl)) }
+    record { within = omega arith; waits = sym (c.if-is_awaited_at.ensures ∙ ap at (c.desk_place.ensures s refl)); first = c.loop-server.invariant }
 
 pub loop-server-preserved : goal.loop-server-preserved
 loop-server-preserved c =
