@@ -32,3 +32,5 @@ pub mod DueParts
 pub mod Holds
 pub mod Fallbacks
 pub mod PartsReady
+pub mod DueBegins
+pub mod BeginsReady
