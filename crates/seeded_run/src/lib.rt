@@ -2,6 +2,7 @@
 #![tactic(auto)]
 
 mod alone;
+mod beginnings;
 mod begins_due;
 mod can;
 mod commands;
