@@ -41,6 +41,7 @@ module _ (cells cells_now : List (Option Cell)) (actors actors_now : List (Optio
     stock = core.stock;
     roles = core.roles;
     count = stays.actors_kept ∙ core.count;
+    places = stays.cells_kept ∙ core.places;
     is = stays.same w core.is;
     inv = core.inv;
   }
