@@ -38,3 +38,5 @@ pub mod DueTakes
 pub mod TakesReady
 pub mod DueBegins
 pub mod BeginsReady
+pub mod DueNotes
+pub mod WorksReady

@@ -1,9 +1,8 @@
 -- What the steps of commands ask and tell in a script's core: which command is the next one and may begin, and what became of the
 -- history.
-use Rattle.std.specs.Prelude.{ℕ, ◌≡◌, ◌<◌, ◌++◌, ⊤, Bool, true, false, All, List, ◌∷◌, get_or, length, Option, Some, None}
+use Rattle.std.specs.Prelude.{ℕ, ◌≡◌, ◌<◌, ⊤, Bool, true, false, All, List, ◌∷◌, get_or, length, Option, Some, None}
 use Rattle.dim_hierarchy.specs.Dimension.{Dimension}
 use Rattle.dim_hierarchy.specs.Filter.{IsNamePick}
-use Rattle.row_ledger.specs.Past.{is_beginning}
 use Rattle.row_ledger.specs.declared.event.Event.{Event}
 use Rattle.row_ledger.specs.declared.settings.Call.{Call}
 use Rattle.row_ledger.specs.declared.settings.Call.TheVariants.{Sync}
@@ -12,7 +11,6 @@ use Rattle.script_form.specs.declared.script.Command.{Command}
 use Rattle.script_form.specs.declared.script.Command.TheVariants as script
 use Rattle.script_run.specs.Places.{session_of}
 use Rattle.script_run.specs.Runs.{Begins, can_be_refused}
-use Rattle.tree_shape.specs.Counts.{Each}
 use Rattle.volap_cell.specs.Setting.{Setting}
 use Rattle.volap_cell.specs.State.{Has, IsWorldOf}
 use Rattle.volap_cell.specs.Steps.{history_in}
@@ -38,16 +36,6 @@ pub record IsNextAt (s : Setting) (w : World) (n : ℕ) (c : Command) (k : Kind)
 
 abbrev pub IsNext : (h : List Dimension) (with : Use) (cells : List (Option Cell)) (actors : List (Option Actor)) (n : ℕ) (c : Command) (k : Kind) → Type 0
 IsNext h with cells actors n c k = (s : Setting) (w : World) → IsCore h with cells actors s w → IsNextAt s w n c k
-
--- the history of one state is that of another one behind some events, none of which begins a command
-pub record IsQuiet (before now : List Event) : Type 0 where
-  pub newer : List Event
-  pub grows : now ≡ newer ++ before
-  pub quiet : Each (λ e. is_beginning e ≡ false) newer
-
--- whatever states the vectors were and are
-abbrev pub GoesQuietly : (cells : List (Option Cell)) (actors : List (Option Actor)) (cells_now : List (Option Cell)) (actors_now : List (Option Actor)) → Type 0
-GoesQuietly cells actors cells_now actors_now = (w now : World) → IsWorldOf cells actors w → IsWorldOf cells_now actors_now now → IsQuiet (history_in w) (history_in now)
 
 -- the history has one event more, by which this command begins
 pub record IsBegunBy (with : Use) (h : List Dimension) (c : Command) (before now : List Event) : Type 0 where

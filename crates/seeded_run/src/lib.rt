@@ -17,6 +17,7 @@ mod reads;
 mod sights;
 mod takes;
 mod wanted;
+mod works;
 
 pub use laws::{
     cursors_tell_rests, idle_actors_wait, less_is_left, limits_hold, one_steps_in_order,
