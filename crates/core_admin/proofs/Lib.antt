@@ -1,0 +1,5 @@
+pub mod Staging
+pub mod Controls
+pub mod Stages
+pub mod FrozenGates
+pub mod Drains
