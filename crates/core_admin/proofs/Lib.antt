@@ -3,3 +3,8 @@ pub mod Controls
 pub mod Stages
 pub mod FrozenGates
 pub mod Drains
+pub mod ShardRows
+pub mod Planes
+pub mod Purses
+pub mod Freezings
+pub mod FreezesShard
