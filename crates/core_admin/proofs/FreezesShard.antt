@@ -1,34 +1,30 @@
 -- A shard is frozen for a job, or the job is declined.
-use Rattle.std.proofs.Common.{◌≡◌, ◌≢◌, ℕ, ◌+◌, ◌*◌, ◌<◌, ◌≤◌, List, [], ◌∷◌, length, Option, Some, None, refl, sym, ap, ◌∙◌, subst, inl, inr, arith}
+use Rattle.std.proofs.Common.{◌≡◌, ℕ, ◌+◌, ◌*◌, ◌<◌, List, [], ◌∷◌, length, Option, Some, None, refl, sym, ap, ◌∙◌, subst, inl, inr, arith}
 use Rattle.cell_stock.specs.declared.purse.Spare.{Spare}
-use Rattle.cell_stock.specs.Stock.{StockValue}
 use Rattle.dim_hierarchy.specs.Dimension.{Dimension}
 use Rattle.dim_hierarchy.specs.declared.row.Row.{Row}
-use Rattle.describing_set.specs.DescSet.{IsDescSetOf, JoinsTo}
+use Rattle.describing_set.specs.DescSet.{JoinsTo}
 use Rattle.describing_set.specs.declared.plane.Plane.{Plane}
-use Rattle.describing_set.specs.declared.set.DescSet.{DescSet}
-use Rattle.row_ledger.specs.Work.{AreReadOf, IsCause}
+use Rattle.row_ledger.specs.Work.{IsCause}
 use Rattle.row_ledger.specs.declared.settings.Decline.{Decline}
 use Rattle.row_ledger.specs.declared.settings.Decline.TheVariants.{OnePlace, NoCell}
 use Rattle.shard_store.specs.declared.gate.Gate.{Gate}
-use Rattle.shard_store.specs.declared.gate.Phase.TheVariants as phase
 use Rattle.shard_store.specs.declared.queue.Queue.{Queue}
 use Rattle.tree_shape.specs.Laws.{GateLaw}
 use Rattle.tree_shape.specs.Queries.{NoneWaits}
 use Rattle.tree_shape.proofs.Parts.{each-here}
-use Rattle.volap_cell.specs.AdminKinds.{spent_in, Declines, DoesFreeze, Freezes, HasOnePlace, IsDivided, at_stage, cells_needed, rows_at}
+use Rattle.volap_cell.specs.AdminKinds.{spent_in, Declines, DoesFreeze, Freezes, HasOnePlace, IsDivided, cells_needed, rows_at}
 use Rattle.volap_cell.specs.Cells.{GateCell, MapOf, tag_of, queue_in, way_in, way_to_tree}
 use Rattle.volap_cell.specs.Falls.{plenty, stage_left}
 use Rattle.volap_cell.specs.Ghost.{Ghost}
 use Rattle.volap_cell.specs.Invariant.{InvWith}
 use Rattle.volap_cell.specs.Setting.{Setting}
 use Rattle.volap_cell.specs.Steps.{IsKept, Keeps}
-use Rattle.volap_cell.specs.Stocking.{all_spares, spent_of}
-use Rattle.volap_cell.specs.Values.{ActorValue, BuildingValue, CollectingValue, JobValue, StageValue, IsCalled, IsDeclined, IsFrozen, Collects, Builds}
+use Rattle.volap_cell.specs.Stocking.{all_spares}
+use Rattle.volap_cell.specs.Values.{ActorValue, StageValue, IsDeclined, Collects, Builds}
 use Rattle.volap_cell.specs.View.{View, view}
-use Rattle.volap_cell.specs.Working.{IsDeclinedFor, action_of, action_to, frozen_in}
+use Rattle.volap_cell.specs.Working.{IsDeclinedFor, action_of, action_to}
 use Rattle.volap_cell.specs.World.{Agrees, Change, World, after}
-use Rattle.volap_cell.specs.declared.job.Frozen.{Frozen}
 use Rattle.volap_cell.specs.declared.kind.Kind.TheVariants.{Freeze}
 use Rattle.volap_cell.proofs.AdminViews.{view-decline}
 use Rattle.volap_cell.proofs.Helds.{held-leads}
@@ -37,7 +33,6 @@ use Rattle.core_admin.proofs.Purses.{reshared}
 use Rattle.core_admin.proofs.Planes.{few-everywhere}
 use Rattle.core_admin.proofs.ShardRows.{rows as rows-of, rows-count, rows-read, rows-set, set-valid}
 use Rattle.core_admin.proofs.Stages.{IsNewStage, Stages, stage-goes_on, stage-history, stage-holds}
-use Rattle.core_admin.proofs.Staging.{IsAtWork}
 
 -- fewer cells are free than the action needs for so many rows
 few-cells : (h : List Dimension) (shard : ℕ) (to : Option ℕ) (rows : List Row) (need free : ℕ) → free < need → need ≡ cells_needed to (length rows) → IsCause h (action_to shard to) rows (NoCell need free)

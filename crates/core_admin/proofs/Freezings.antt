@@ -1,12 +1,12 @@
 -- A shard is frozen: its gate's phase is new, and the cells that the job needs go from the stock to the purse.
-use Rattle.std.proofs.Common.{◌≡◌, ◌≢◌, ℕ, ◌+◌, ◌*◌, ◌^◌, ◌<◌, ◌≤◌, Bool, true, false, cond, eqb, List, [], ◌∷◌, ◌++◌, length, Option, Some, None, IsSome, All, refl, sym, ap, ◌∙◌, subst, ◌⊎◌, inl, inr, arith, append-nil}
+use Rattle.std.proofs.Common.{◌≡◌, ◌≢◌, ℕ, ◌+◌, ◌*◌, ◌^◌, ◌<◌, ◌≤◌, false, eqb, List, [], ◌∷◌, ◌++◌, length, Option, Some, None, IsSome, All, refl, sym, ap, ◌∙◌, subst, ◌⊎◌, inl, inr, arith, append-nil}
 use Rattle.std.specs.List.{AllByRecursion, IsDistinct, range_with_len}
 use Rattle.std.proofs.lemmas.List.Elements.{All-head, All-tail}
-use Rattle.cell_stock.specs.Stock.{IsStock, PurseValue, StockValue, Takes, cells_of, stamps_of}
+use Rattle.cell_stock.specs.Stock.{IsStock, StockValue, cells_of, stamps_of}
 use Rattle.cell_stock.specs.declared.purse.Spare.{Spare}
 use Rattle.cell_stock.proofs.Cells.{IsDistinct-range, Takes-AreFresh}
-use Rattle.describing_set.specs.DescSet.{IsDescSetOf, JoinsTo}
-use Rattle.describing_set.specs.Plane.{IsHierarchyPlane, IsPlaneOf}
+use Rattle.describing_set.specs.DescSet.{IsDescSetOf}
+use Rattle.describing_set.specs.Plane.{IsPlaneOf}
 use Rattle.describing_set.specs.declared.plane.Plane.{Plane}
 use Rattle.describing_set.specs.declared.set.DescSet.{DescSet}
 use Rattle.shard_store.specs.declared.gate.Gate.{Gate}
@@ -17,28 +17,26 @@ use Rattle.tree_shape.specs.Counts.{Among, Each, times}
 use Rattle.tree_shape.proofs.Divisions.{each-map}
 use Rattle.tree_shape.proofs.Visits.{times-append}
 use Rattle.tree_shape.proofs.Walks.{on_bool, eqb-eq, eqb-ne, same_is, same_not}
-use Rattle.volap_cell.specs.AdminKinds.{DoesFreeze, Freezes, IsDivided, at_stage, cells_needed, rows_at}
-use Rattle.volap_cell.specs.Cells.{CellValue, GateCell, MapOf, OfStock, StockCell, TheStock, phase_of, queue_in, tag_of, way_in, way_to_tree}
-use Rattle.volap_cell.specs.Errands.{RowWay, AtBlock, Taken, taken_of, way_of}
+use Rattle.volap_cell.specs.AdminKinds.{Freezes, IsDivided, cells_needed, rows_at}
+use Rattle.volap_cell.specs.Cells.{GateCell, MapOf, OfStock, TheStock, phase_of, queue_in, tag_of, way_in, way_to_tree}
+use Rattle.volap_cell.specs.Errands.{RowWay, Taken, taken_of, way_of}
 use Rattle.volap_cell.specs.Falls.{Falls, gone_left, job_left, left, plenty, stage_left}
 use Rattle.volap_cell.specs.Ghost.{Ghost}
-use Rattle.volap_cell.specs.Growing.{Growing, Queueing, Resting}
+use Rattle.volap_cell.specs.Growing.{Queueing}
 use Rattle.volap_cell.specs.Invariant.{InvWith}
 use Rattle.volap_cell.specs.Lineage.{Lineage}
-use Rattle.volap_cell.specs.Setting.{Setting, cell_count}
+use Rattle.volap_cell.specs.Setting.{Setting}
 use Rattle.volap_cell.specs.Stocking.{IsWhole, items_in, spent_of}
 use Rattle.volap_cell.specs.Turning.{IsIn, Turning}
-use Rattle.volap_cell.specs.Values.{ActorValue, BuildingValue, CollectingValue, ErrandValue, JobValue, StageValue, IsCalled, IsDeclined, IsFrozen, Collects, Builds}
+use Rattle.volap_cell.specs.Values.{ActorValue, ErrandValue, JobValue, StageValue, IsCalled, IsDeclined, IsFrozen, Collects, Builds}
 use Rattle.volap_cell.specs.View.{View, view}
 use Rattle.volap_cell.specs.Working.{IsFrozenFor, frozen_in}
 use Rattle.volap_cell.specs.World.{Agrees, Change, World, after}
 use Rattle.volap_cell.specs.declared.job.Frozen.{Frozen}
-use Rattle.volap_cell.specs.declared.role.Role.TheVariants.{Admin}
 use Rattle.volap_cell.proofs.AdminViews.{by_freeze, view-freeze}
 use Rattle.volap_cell.proofs.Fields.{IsNew, IsNewAt, actor-new}
 use Rattle.volap_cell.proofs.Frames.{actor-at, actor-off}
 use Rattle.volap_cell.proofs.Gates.{gate-behind}
-use Rattle.volap_cell.proofs.Helds.{held-leads}
 use Rattle.volap_cell.proofs.Past.{stock-past}
 use Rattle.volap_cell.proofs.Persons.{has-job}
 use Rattle.volap_cell.proofs.Seen.{renewed}
@@ -162,9 +160,9 @@ module _ (s : Setting) (w : World) (n : ℕ) (g : Ghost) (i : InvWith s (view s 
 
   stocks : IsNew u.stock v.stock stock d.stock_now
   stocks = stock-past s w.cells i.numbering.tag (m ∷ gt ∷ []) c [] ag.cells (
-      (λ e. let never : MapOf worker ≡ TheStock = sym table ∙ e ∙ ap tag_of d.turns.was in cc),
-      ((λ e. let never : OfStock ≡ TheStock = ap tag_of (sym d.frozen.was) ∙ e ∙ ap tag_of d.turns.was in cc), tt),
-    ) stock d.stock_now d.turns.was d.turns.is
+    (λ e. let never : MapOf worker ≡ TheStock = sym table ∙ e ∙ ap tag_of d.turns.was in cc),
+    ((λ e. let never : OfStock ≡ TheStock = ap tag_of (sym d.frozen.was) ∙ e ∙ ap tag_of d.turns.was in cc), tt),
+  ) stock d.stock_now d.turns.was d.turns.is
 
   abbrev taken : List Spare
   taken = d.takes.spares
@@ -315,7 +313,7 @@ module _ (s : Setting) (w : World) (n : ℕ) (g : Ghost) (i : InvWith s (view s 
         jobless = others-jobless s v i.numbering n job at.is_job;
         command = ap (λ (a : ActorValue). a.command) d.actor_is;
         less = omega (arith, was, now);
-        cells = λ y. on-phase (λ y was now. gone_left now (u.gone y) ≡ gone_left was (v.gone y)) (sym (not-gone gate.phase at.standing (v.gone gt.number)) ) (λ y. ap (λ (f : ℕ → List ℕ). gone_left (v.phases y) (f y)) gone) y;
+        cells = λ y. on-phase (λ y was now. gone_left now (u.gone y) ≡ gone_left was (v.gone y)) (sym (not-gone gate.phase at.standing (v.gone gt.number))) (λ y. ap (λ (f : ℕ → List ℕ). gone_left (v.phases y) (f y)) gone) y;
       })
     where
       not-gone : (p : Phase) → p ≢ phase.Gone → (cells : List ℕ) → gone_left (Some p) cells ≡ 0

@@ -13,7 +13,7 @@ use Rattle.tree_shape.specs.Shape.{Shape, TreeCells, Node, Table, nodes, gate_no
 use Rattle.tree_shape.specs.Steps.{AreSpares, IsSpare}
 use Rattle.tree_shape.specs.Trees.{IsTree}
 use Rattle.tree_shape.proofs.Walks.{on_bool, eqb-self, same-le}
-use Rattle.volap_cell.specs.Cells.{CellValue, FreeCell, LedgerCell, StockCell, RegistryCell, ImageCell, DeskCell, MapCell, GateCell, BlockCell, phase_of}
+use Rattle.volap_cell.specs.Cells.{CellValue, FreeCell, LedgerCell, StockCell, RegistryCell, ImageCell, DeskCell, MapCell, GateCell, BlockCell, gate_shard, phase_of}
 use Rattle.volap_cell.specs.Ghost.{Ghost}
 use Rattle.volap_cell.specs.Growing.{table_of}
 use Rattle.volap_cell.specs.Invariant.{InvWith}
@@ -37,6 +37,18 @@ phase-gate (ImageCell s i) p is = absurd (cc)
 phase-gate (DeskCell s d) p is = absurd (cc)
 phase-gate (MapCell w m) p is = absurd (cc)
 phase-gate (BlockCell b) p is = absurd (cc)
+
+-- and so is one of a shard
+pub shard-gate : (c : CellValue) (x : ℕ) → gate_shard c ≡ Some x → (y : Gate) × (c ≡ GateCell y)
+shard-gate (GateCell y) x is = (y, refl)
+shard-gate FreeCell x is = absurd (cc)
+shard-gate (LedgerCell l) x is = absurd (cc)
+shard-gate (StockCell s) x is = absurd (cc)
+shard-gate (RegistryCell r) x is = absurd (cc)
+shard-gate (ImageCell s i) x is = absurd (cc)
+shard-gate (DeskCell s d) x is = absurd (cc)
+shard-gate (MapCell w m) x is = absurd (cc)
+shard-gate (BlockCell b) x is = absurd (cc)
 
 -- the shard of a job stands, where its map leads
 pub record IsGateOf (s : Setting) (v : View) (g : Ghost) (x worker c : ℕ) : Type 0 where

@@ -8,3 +8,4 @@ pub mod Planes
 pub mod Purses
 pub mod Freezings
 pub mod FreezesShard
+pub mod FreezesHere

@@ -34,10 +34,13 @@ either c l a d m b = elim (cases_lt d c) [
 -- what leads one that leads a third leads the third
 
 behind-level : (c l a d m b e n k : ℕ) → c ≡ d → d ≡ e → (l < m) ⊎ ((l ≡ m) × (a ≤ b)) → (m < n) ⊎ ((m ≡ n) × (b ≤ k)) → Leads c l a e n k
-behind-level c l a d m b e n k cd de x y = inr (omega arith, elim x [
-  | inl lt ↦ elim y [ inl lt2 ↦ inl (omega arith) | inr eq ↦ (let q = eq.0 in inl (omega arith)) ]
-  | inr eq ↦ (let q = eq.0 in let r = eq.1 in elim y [ inl lt2 ↦ inl (omega arith) | inr eq2 ↦ (let t = eq2.0 in let u = eq2.1 in inr (omega arith, omega arith)) ])
-])
+behind-level c l a d m b e n k cd de x y = inr (
+  omega arith,
+  elim x [
+    | inl lt ↦ elim y [ inl lt2 ↦ inl (omega arith) | inr eq ↦ (let q = eq.0 in inl (omega arith)) ]
+    | inr eq ↦ (let q = eq.0 in let r = eq.1 in elim y [ inl lt2 ↦ inl (omega arith) | inr eq2 ↦ (let t = eq2.0 in let u = eq2.1 in inr (omega arith, omega arith)) ])
+  ],
+)
 
 through : (c l a d m b e n k : ℕ) → Leads c l a d m b → Leads d m b e n k → Leads c l a e n k
 through c l a d m b e n k x y = elim x [
@@ -56,10 +59,14 @@ module _ (set : DescSet) where
       let (k, within, first) = first-of m in
       elim (either (count_at set k) (level k) k (count_at set (suc m)) (level (suc m)) (suc m)) [
         | inl leads ↦ (k, omega arith, λ j lt. elim (cases_lt j (m + 1)) [ inl old ↦ first j old | inr new ↦ (let z : j ≡ suc m = omega arith in subst (ComesFirst set k) (sym z) leads) ])
-        | inr leads ↦ (suc m, omega arith, λ j lt. elim (cases_lt j (m + 1)) [
-          | inl old ↦ through (count_at set (suc m)) (level (suc m)) (suc m) (count_at set k) (level k) k (count_at set j) (level j) j leads (first j old)
-          | inr new ↦ (let z : j ≡ suc m = omega arith in subst (ComesFirst set (suc m)) (sym z) (inr (refl, inr (refl, omega arith))))
-        ])
+        | inr leads ↦ (
+          suc m,
+          omega arith,
+          λ j lt. elim (cases_lt j (m + 1)) [
+            | inl old ↦ through (count_at set (suc m)) (level (suc m)) (suc m) (count_at set k) (level k) k (count_at set j) (level j) j leads (first j old)
+            | inr new ↦ (let z : j ≡ suc m = omega arith in subst (ComesFirst set (suc m)) (sym z) (inr (refl, inr (refl, omega arith))))
+          ],
+        )
       ]
 
   leads-count : (a b : ℕ) → ComesFirst set a b → count_at set b ≤ count_at set a

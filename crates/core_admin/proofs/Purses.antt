@@ -1,6 +1,6 @@
 -- An administrator's cells: some go between the stock, its purse and what its job has spent, each cell being in one of these as often as
 -- before; a spare has a stamp that it had, or one that wasn't given out. That keeps what the invariant says of cells and stamps.
-use Rattle.std.proofs.Common.{◌≡◌, ◌≢◌, ℕ, ◌+◌, ◌^◌, ◌<◌, ◌≤◌, Bool, true, false, cond, eqb, leb, List, [], ◌∷◌, ◌++◌, Option, Some, None, IsSome, refl, sym, ap, ◌∙◌, subst, ◌⊎◌, inl, inr, arith, map, All, ◌||◌}
+use Rattle.std.proofs.Common.{◌≡◌, ◌≢◌, ℕ, ◌+◌, ◌^◌, ◌<◌, ◌≤◌, Bool, true, false, cond, eqb, leb, List, [], ◌∷◌, ◌++◌, Option, Some, refl, sym, ap, ◌∙◌, subst, ◌⊎◌, inl, inr, arith, map, All, ◌||◌}
 use Rattle.std.specs.List.{AllByRecursion, IsDistinct}
 use Rattle.std.proofs.lemmas.List.Elements.{All-cons, All-nil}
 use Rattle.std.proofs.lemmas.List.{map-append}
@@ -10,7 +10,7 @@ use Rattle.dc_node.specs.declared.entry.Entry.{Entry}
 use Rattle.dc_node.specs.declared.todo.Item.{Item}
 use Rattle.shard_store.specs.declared.gate.Phase.{Phase}
 use Rattle.shard_store.specs.declared.gate.Phase.TheVariants.{Gone}
-use Rattle.tree_shape.specs.Counts.{Among, Each, same, times}
+use Rattle.tree_shape.specs.Counts.{Among, Each, times}
 use Rattle.tree_shape.specs.Queries.{NoneWaits}
 use Rattle.tree_shape.specs.Shape.{Node, Shape, nodes}
 use Rattle.tree_shape.specs.Steps.{AreApart, AreSpares, IsSpare}
@@ -18,7 +18,7 @@ use Rattle.tree_shape.proofs.Divisions.{each-among, each-both, each-map}
 use Rattle.tree_shape.proofs.Parts.{each-append, each-here}
 use Rattle.tree_shape.proofs.Queries.{leb-gt, leb-le}
 use Rattle.tree_shape.proofs.Visits.{times-append}
-use Rattle.tree_shape.proofs.Walks.{eqb-eq, eqb-ne, eqb-self, eqb-no, on_bool, same_is, same_not}
+use Rattle.tree_shape.proofs.Walks.{eqb-eq, eqb-ne, eqb-self, eqb-no, on_bool, same_is}
 use Rattle.volap_cell.specs.Ghost.{AGate, Ghost, InJob, InPurse, InTree, NotOfStock, Owner, Unused, is_in_job, is_in_purse, is_in_tree, is_unused}
 use Rattle.volap_cell.specs.Invariant.{InvWith}
 use Rattle.volap_cell.specs.Owing.{one_if}
@@ -178,6 +178,7 @@ module _ (s : Setting) (w : World) (g : Ghost) (i : InvWith s (view s w) g) (n :
     where
       last : Owner
       last = cond (is_own n (g.owner y)) Unused (g.owner y)
+
       rest : Owner
       rest = cond (leb 1 (times y (cells_of spent))) (InJob n) last
 

@@ -1,8 +1,7 @@
 -- The rows of the shard of a job, those of its tree and those of its queue: each is there once, may be counted, and is one of as many as
 -- the gate tells; and all that were acknowledged into the shard are among them.
-use Rattle.std.proofs.Common.{◌≡◌, ℕ, zero, suc, ◌+◌, ◌<◌, ◌≤◌, List, [], ◌∷◌, ◌++◌, Bool, true, false, cond, eqb, map, length, refl, sym, ap, ◌∙◌, subst, arith, inl, inr, ◌==◌, All, Contains, nat_eq, Option, Some, None, option_and_then, IsTrue, if◌then◌else◌}
+use Rattle.std.proofs.Common.{◌≡◌, ℕ, zero, suc, ◌+◌, ◌≤◌, List, [], ◌∷◌, ◌++◌, Bool, true, false, cond, eqb, map, length, refl, sym, ap, ◌∙◌, subst, arith, ◌==◌, All, Contains, nat_eq, Option, Some, IsTrue}
 use Rattle.std.specs.List.{AllByRecursion, IsDistinct}
-use Rattle.std.proofs.lemmas.Bool.{cases_lt}
 use Rattle.std.proofs.lemmas.List.{length-append, length-map, map-append}
 use Rattle.std.proofs.lemmas.List.Elements.{All-append, All-contains, All-contains_itself, All-cons, All-head, All-nil, All-tail, All-weaker, Contains-append_right}
 use Rattle.dim_hierarchy.specs.declared.row.Row.{Row}
@@ -21,25 +20,24 @@ use Rattle.row_ledger.specs.declared.event.Event.{Event}
 use Rattle.row_ledger.specs.declared.event.Event.TheVariants.{Begun}
 use Rattle.row_ledger.proofs.Answering.{All-acked_before}
 use Rattle.row_ledger.proofs.Descent.{live-last, live-made}
-use Rattle.row_ledger.proofs.Elements.{Contains-filter, Contains-filtered, IsTrue-filtered, Contains-map, Contains-nil}
+use Rattle.row_ledger.proofs.Elements.{Contains-filter, Contains-filtered, IsTrue-filtered, Contains-nil}
 use Rattle.row_ledger.proofs.Older.{begun-older}
-use Rattle.tree_shape.specs.Counts.{Among, Each, same, times}
+use Rattle.tree_shape.specs.Counts.{Each, same, times}
 use Rattle.tree_shape.specs.Laws.{GateLaw}
-use Rattle.tree_shape.specs.Shape.{Shape, numbers}
-use Rattle.tree_shape.proofs.Parts.{each-here}
+use Rattle.tree_shape.specs.Shape.{numbers}
 use Rattle.tree_shape.proofs.Visits.{times-append}
-use Rattle.tree_shape.proofs.Walks.{on_bool, eqb-eq, eqb-ne, eqb-self, same_is, same_not}
+use Rattle.tree_shape.proofs.Walks.{on_bool, eqb-eq, eqb-ne, same_is, same_not}
 use Rattle.volap_cell.specs.Ghost.{Ghost}
 use Rattle.volap_cell.specs.Growing.{table_of}
 use Rattle.volap_cell.specs.Invariant.{InvWith}
 use Rattle.volap_cell.specs.Setting.{Setting, site_in}
 use Rattle.volap_cell.specs.Stocking.{cells_at}
 use Rattle.volap_cell.specs.Values.{JobValue}
-use Rattle.volap_cell.specs.View.{View, view, row_at, row_or}
+use Rattle.volap_cell.specs.View.{View, view, row_or}
 use Rattle.volap_cell.specs.World.{World}
 use Rattle.volap_cell.proofs.Counting.{length-few, passing, passing-once}
 use Rattle.volap_cell.proofs.Knowing.{acked-begun}
-use Rattle.core_admin.proofs.FrozenGates.{IsGateOf, gate-of, placed-within, queued-placed}
+use Rattle.core_admin.proofs.FrozenGates.{IsGateOf, gate-of, placed-within}
 
 -- Lists of rows.
 
@@ -254,3 +252,6 @@ module _ (gates : GateLaw) (s : Setting) (w : World) (g : Ghost) (i : InvWith s 
 
   pub set-valid : (set : DescSet) → JoinsTo s.hierarchy (v.trees c).set (v.queues c).set set → IsDescSetOf s.hierarchy set
   set-valid set joins = record { hierarchy = i.numbering.setting.hierarchy; rows = coords rows; valid = valid-coords rows all-rows; set_of = rows-set set joins }
+
+  pub tree-set : IsDescSetOf s.hierarchy (v.trees c).set
+  tree-set = record { hierarchy = i.numbering.setting.hierarchy; rows = coords (map v.row in_tree); valid = valid-coords (map v.row in_tree) told.valid; set_of = told.set_of }

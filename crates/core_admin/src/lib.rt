@@ -7,4 +7,4 @@ mod collects;
 mod finishes;
 mod freezes;
 
-pub use freezes::drained;
+pub use freezes::{drained, freeze};
