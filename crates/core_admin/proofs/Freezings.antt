@@ -63,7 +63,7 @@ times-distinct (x ∷ xs) d y = on_bool (eqb y x)
     (λ q. let s = same_not y x (eqb-ne _ _ q) in let k = times-distinct xs d.1 y in omega (arith, s, k))
 
 -- an actor at no part carries no row
-wayless : (errand : Option ErrandValue) → ((t : Taken) → taken_of errand ≡ Some t → ⊥) → (x : RowWay) → way_of errand ≡ Some x → ⊥
+pub wayless : (errand : Option ErrandValue) → ((t : Taken) → taken_of errand ≡ Some t → ⊥) → (x : RowWay) → way_of errand ≡ Some x → ⊥
 wayless None none x is = cc
 wayless (Some e) none x is = none _ refl
 

@@ -9,3 +9,7 @@ pub mod Purses
 pub mod Freezings
 pub mod FreezesShard
 pub mod FreezesHere
+pub mod Collecting
+pub mod SoFar
+pub mod CollectsBlocks
+pub mod CollectsRows
