@@ -1,0 +1,3 @@
+mod JobsGoOn
+mod Untouched
+mod BuildsBlock

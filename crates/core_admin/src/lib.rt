@@ -6,3 +6,5 @@ mod builds;
 mod collects;
 mod finishes;
 mod freezes;
+
+pub use builds::build_block;
