@@ -1,3 +1,4 @@
 mod JobsGoOn
 mod Untouched
 mod BuildsBlock
+mod Returned
