@@ -2,3 +2,5 @@ mod JobsGoOn
 mod Untouched
 mod BuildsBlock
 mod Returned
+mod TurnedCommands
+mod PostponesJob
