@@ -13,3 +13,9 @@ pub mod Collecting
 pub mod SoFar
 pub mod CollectsBlocks
 pub mod CollectsRows
+mod JobsGoOn
+mod Untouched
+mod BuildsBlock
+mod Returned
+mod TurnedCommands
+mod PostponesJob

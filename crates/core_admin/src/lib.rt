@@ -8,3 +8,4 @@ mod finishes;
 mod freezes;
 
 pub use freezes::{drained, freeze};
+pub use builds::build_block;
