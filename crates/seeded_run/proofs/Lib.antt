@@ -36,3 +36,4 @@ pub mod DueReads
 pub mod ReadsReady
 pub mod DueTakes
 pub mod TakesReady
+pub mod ShowsReady

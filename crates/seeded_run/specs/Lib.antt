@@ -19,3 +19,4 @@ pub mod AtWork
 pub mod Led
 pub mod Awaited
 pub mod Phase
+pub mod Shown
