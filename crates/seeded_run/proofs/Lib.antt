@@ -40,3 +40,4 @@ pub mod DueBegins
 pub mod BeginsReady
 pub mod DueNotes
 pub mod WorksReady
+pub mod ShowsReady

@@ -20,3 +20,4 @@ pub mod Led
 pub mod Awaited
 pub mod Phase
 pub mod Works
+pub mod Shown

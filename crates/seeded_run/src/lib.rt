@@ -14,6 +14,7 @@ mod look;
 mod names_due;
 mod places;
 mod reads;
+mod shows;
 mod sights;
 mod takes;
 mod wanted;
