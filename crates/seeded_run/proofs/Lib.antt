@@ -36,3 +36,5 @@ pub mod DueReads
 pub mod ReadsReady
 pub mod DueTakes
 pub mod TakesReady
+pub mod DueRows
+pub mod RowsReady

@@ -18,3 +18,4 @@ pub mod Arms
 pub mod AtWork
 pub mod Led
 pub mod Awaited
+pub mod Rows

@@ -13,6 +13,7 @@ mod look;
 mod names_due;
 mod places;
 mod reads;
+mod rows;
 mod sights;
 mod takes;
 mod wanted;
