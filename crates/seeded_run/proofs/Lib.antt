@@ -41,3 +41,5 @@ pub mod BeginsReady
 pub mod DueNotes
 pub mod WorksReady
 pub mod ShowsReady
+pub mod DueRows
+pub mod RowsReady

@@ -21,3 +21,4 @@ pub mod Awaited
 pub mod Phase
 pub mod Works
 pub mod Shown
+pub mod Rows

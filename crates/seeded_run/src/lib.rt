@@ -15,6 +15,7 @@ mod names_due;
 mod places;
 mod reads;
 mod shows;
+mod rows;
 mod sights;
 mod takes;
 mod wanted;
