@@ -12,6 +12,7 @@ pub mod Ends
 pub mod Orders
 pub mod Scripts
 pub mod Worlds
+pub mod Openings
 pub mod DueCommands
 pub mod FixedCells
 pub mod CommandsReady

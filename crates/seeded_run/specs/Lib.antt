@@ -19,6 +19,7 @@ pub mod AtWork
 pub mod Led
 pub mod Awaited
 pub mod Phase
+pub mod Roles
 pub mod Works
 pub mod Shown
 pub mod Rows
