@@ -15,7 +15,7 @@ use Rattle.volap_cell.specs.Invariant.{InvWith}
 use Rattle.volap_cell.specs.Setting.{Setting, ledger_cell}
 use Rattle.volap_cell.specs.Sights.{Sees, SeesPage}
 use Rattle.volap_cell.specs.Values.{ActorValue, actor_of}
-use Rattle.volap_cell.specs.View.{View, view}
+use Rattle.volap_cell.specs.View.{view}
 use Rattle.volap_cell.specs.World.{World}
 use Rattle.volap_cell.specs.declared.actor.Actor.{Actor}
 use Rattle.volap_cell.specs.declared.cell.Cell.{Cell}

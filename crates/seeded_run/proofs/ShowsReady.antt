@@ -1,9 +1,8 @@
 -- Where the page of a tree is due for a command, everyone else is idle, and the shard stands, with its gate where the table of its worker
 -- leads. So the page can be made and shown, and where it can't be made the command can end.
-use Rattle.std.proofs.Common.{ℕ, suc, ◌≡◌, ◌≢◌, ◌+◌, ◌<◌, ◌==◌, ◌&&◌, ◌||◌, Bool, true, false, eqb, List, [], ◌∷◌, length, map, Option, Some, None, get_or, inl, inr, refl, sym, ap, ◌∙◌, subst, arith, if◌then◌else◌}
-use Rattle.std.specs.Prelude.{IsSome, is_none}
+use Rattle.std.proofs.Common.{ℕ, ◌≡◌, ◌≢◌, ◌+◌, ◌<◌, true, false, List, [], ◌∷◌, length, map, Option, Some, None, get_or, refl, sym, ap, ◌∙◌, subst, arith}
+use Rattle.std.specs.Prelude.{IsSome}
 use Rattle.std.specs.List.{list_any}
-use Rattle.std.proofs.lemmas.Bool.{and_parts, cases_lt, ne_eqb}
 use Rattle.core_image.specs.ToldPages.{shown_by}
 use Rattle.core_image.proofs.Hosts.{host-on, stands-live}
 use Rattle.core_pages.specs.Seen.{CanSee, CanSeeIn, IsOfGate, IsSeenIn}
@@ -26,32 +25,26 @@ use Rattle.row_ledger.specs.declared.settings.How.TheVariants as how
 use Rattle.row_ledger.specs.declared.settings.Use.{Use}
 use Rattle.row_ledger.proofs.Positions.{before-here}
 use Rattle.server_image.specs.Registry.{host_of}
-use Rattle.tree_shape.proofs.Walks.{on_bool, eqb-eq, eqb-ne}
 use Rattle.volap_cell.specs.Cells.{CellValue, gate_shard, registry_in, where_in}
-use Rattle.volap_cell.specs.Errands.{taken_of}
 use Rattle.volap_cell.specs.Ghost.{Ghost}
 use Rattle.volap_cell.specs.Invariant.{InvWith}
 use Rattle.volap_cell.specs.Setting.{Setting, actor_count, cell_count, ledger_cell, map_cell, registry_cell}
 use Rattle.volap_cell.specs.Sights.{IsIdle, Sees, SeesTree}
 use Rattle.volap_cell.specs.State.{IsWorldOf}
-use Rattle.volap_cell.specs.Steps.{Inv, history_in}
-use Rattle.volap_cell.specs.Values.{ActorValue, ErrandValue, actor_of}
+use Rattle.volap_cell.specs.Steps.{Inv}
+use Rattle.volap_cell.specs.Values.{ActorValue, actor_of}
 use Rattle.volap_cell.specs.View.{View, view}
 use Rattle.volap_cell.specs.World.{World}
 use Rattle.volap_cell.specs.declared.actor.Actor.{Actor}
 use Rattle.volap_cell.specs.declared.cell.Cell.{Cell}
 use Rattle.volap_cell.specs.declared.command.Work.TheVariants as work_is
-use Rattle.volap_cell.specs.declared.kind.Kind.{Kind}
 use Rattle.volap_cell.specs.declared.kind.Kind.TheVariants as kind
 use Rattle.volap_cell.proofs.NotedCommands.{new-told}
 use Rattle.volap_cell.proofs.States.{of-it, same-setting, stands}
 use Rattle.seeded_run.specs.Core.{HasCore, IsCore, IsDue, IsDueAt}
-use Rattle.seeded_run.specs.Due.{command_kind, does_nothing, is_alone, is_empty, page_kind}
 use Rattle.seeded_run.specs.Progress.{AreScriptRoles}
 use Rattle.seeded_run.specs.Led.{gate_there}
 use Rattle.seeded_run.specs.Shown.{HasTreeToShow, IsTreeToShow, gate_of_host, standing_gate}
-use Rattle.seeded_run.proofs.DueCommands.{IsByCommand, by-command}
-use Rattle.seeded_run.proofs.Dues.{all_below-at}
 use Rattle.seeded_run.proofs.FixedCells.{ledger-fixed, may-step}
 use Rattle.seeded_run.proofs.PagesDue.{IsPageWork, idle as page-idle, next as page-next, quiet as page-quiet}
 use Rattle.seeded_run.proofs.Seen.{cell-seen}
