@@ -41,6 +41,8 @@ pub mod DueBegins
 pub mod BeginsReady
 pub mod DueNotes
 pub mod WorksReady
+pub mod PagesDue
 pub mod ShowsReady
+pub mod ShardsReady
 pub mod DueRows
 pub mod RowsReady

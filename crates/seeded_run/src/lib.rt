@@ -16,6 +16,7 @@ mod opening;
 mod places;
 mod reads;
 mod rows;
+mod shown_shards;
 mod shows;
 mod sights;
 mod takes;
