@@ -1,0 +1,21 @@
+pub mod Staging
+pub mod Controls
+pub mod Stages
+pub mod FrozenGates
+pub mod Drains
+pub mod ShardRows
+pub mod Planes
+pub mod Purses
+pub mod Freezings
+pub mod FreezesShard
+pub mod FreezesHere
+pub mod Collecting
+pub mod SoFar
+pub mod CollectsBlocks
+pub mod CollectsRows
+mod JobsGoOn
+mod Untouched
+mod BuildsBlock
+mod Returned
+mod TurnedCommands
+mod PostponesJob

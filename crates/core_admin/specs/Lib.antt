@@ -1,0 +1,2 @@
+pub mod FreezeDue
+pub mod FinishDue

@@ -6,3 +6,6 @@ mod builds;
 mod collects;
 mod finishes;
 mod freezes;
+
+pub use freezes::{drained, freeze};
+pub use builds::build_block;

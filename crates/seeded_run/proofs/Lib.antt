@@ -36,3 +36,8 @@ pub mod DueReads
 pub mod ReadsReady
 pub mod DueTakes
 pub mod TakesReady
+pub mod DueBegins
+pub mod BeginsReady
+pub mod DueNotes
+pub mod WorksReady
+pub mod ShowsReady

@@ -19,3 +19,5 @@ pub mod AtWork
 pub mod Led
 pub mod Awaited
 pub mod Phase
+pub mod Works
+pub mod Shown

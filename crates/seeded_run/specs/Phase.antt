@@ -17,25 +17,30 @@ use Rattle.volap_cell.specs.declared.state.State.{State}
 use Rattle.seeded_run.specs.Can.{able_in}
 use Rattle.seeded_run.specs.Core.{HasCore}
 use Rattle.seeded_run.specs.Kept.{IsTurn}
+use Rattle.seeded_run.specs.Commands.{IsAllowed}
 use Rattle.seeded_run.specs.Look.{HasNames}
 use Rattle.seeded_run.specs.Rests.{PhaseRun}
 use Rattle.seeded_run.specs.Worlds.{setting_in, world_in}
 
 -- What may run.
 
--- A called command that may run: a pull is of a server that is there. Splits, moves, balances, and pages of the whole don't run yet.
-abbrev pub IsRunCall : Use → Call → Type 0
-IsRunCall with call.Barrier = ⊤
-IsRunCall with (call.Tree shard) = ⊤
-IsRunCall with call.Settle = ⊤
-IsRunCall with (call.Sync server) = server < with.servers
-IsRunCall with called = ⊥
+-- A called command that runs. Splits, moves, balances, and pages of the whole don't run yet.
+abbrev pub IsRunCall : Call → Type 0
+IsRunCall call.Barrier = ⊤
+IsRunCall (call.Tree shard) = ⊤
+IsRunCall (call.Sync server) = ⊤
+IsRunCall call.Settle = ⊤
+IsRunCall called = ⊥
 
--- A command that may run: its server is there, and it has a name or a pick for each dimension.
-abbrev pub MayRun : List Dimension → Use → Command → Type 0
-MayRun h with (script.Insert new) = (new.server < with.servers) × HasNames h (script.Insert new)
-MayRun h with (script.Query question) = (question.server < with.servers) × HasNames h (script.Query question)
-MayRun h with (script.Control called) = IsRunCall with called
+abbrev pub IsRunCommand : Command → Type 0
+IsRunCommand (script.Control called) = IsRunCall called
+IsRunCommand c = ⊤
+
+-- a command that runs, is allowed, and has a name or a pick for each dimension
+pub record MayRun (h : List Dimension) (with : Use) (c : Command) : Type 0 where
+  pub names : HasNames h c
+  pub allowed : IsAllowed with h c
+  pub is_run : IsRunCommand c
 
 -- all of these may run
 abbrev pub MayAllRun : List Dimension → Use → List Command → Type 0

@@ -19,7 +19,7 @@ use std::alloc::Global;
 use volap_cell::{Actor, Cell, State};
 
 /// The gate to which a table leads, 0 where it leads elsewhere.
-fn gate_there(led: &Option<Where>) -> u32
+pub(crate) fn gate_there(led: &Option<Where>) -> u32
     ensures { result ≡ gate_there led.now }
 {
     match led {
