@@ -19,5 +19,6 @@ pub mod AtWork
 pub mod Led
 pub mod Awaited
 pub mod Phase
+pub mod Roles
 pub mod Works
 pub mod Shown
