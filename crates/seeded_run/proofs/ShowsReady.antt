@@ -31,7 +31,7 @@ use Rattle.volap_cell.specs.Cells.{CellValue, gate_shard, registry_in, where_in}
 use Rattle.volap_cell.specs.Errands.{taken_of}
 use Rattle.volap_cell.specs.Ghost.{Ghost}
 use Rattle.volap_cell.specs.Invariant.{InvWith}
-use Rattle.volap_cell.specs.Setting.{Setting, actor_count, ledger_cell, map_cell, registry_cell}
+use Rattle.volap_cell.specs.Setting.{Setting, actor_count, cell_count, ledger_cell, map_cell, registry_cell}
 use Rattle.volap_cell.specs.Sights.{IsIdle, Sees, SeesTree}
 use Rattle.volap_cell.specs.State.{IsWorldOf}
 use Rattle.volap_cell.specs.Steps.{Inv, history_in}
@@ -202,6 +202,7 @@ module _ (h : List Dimension) (with : Use) (cells : List (Option Cell)) (actors 
         stock = ap (λ (t : Setting). t.stock_cells) (sym about) ∙ c.stock;
         roles = subst AreScriptRoles about c.roles;
         count = c.count ∙ ap actor_count about;
+        places = c.places ∙ ap cell_count about;
         is = is;
         inv = inv;
       }
