@@ -1,16 +1,18 @@
 -- How a phase begins and ends.
-use Rattle.std.proofs.Common.{◌≡◌, ◌≢◌, ◌∙◌, ℕ, zero, suc, ◌+◌, ◌-◌, ◌<◌, ◌≤◌, ◌⊎◌, inl, inr, Bool, true, false, List, [], ◌∷◌, ◌++◌, length, drop, Option, Some, None, refl, sym, ap, subst, arith}
+use Rattle.std.proofs.Common.{◌≡◌, ◌≢◌, ◌∙◌, ℕ, zero, suc, ◌+◌, ◌-◌, ◌<◌, ◌≤◌, ◌⊎◌, inl, inr, Bool, true, false, List, [], ◌∷◌, ◌++◌, length, take, drop, Option, Some, None, refl, sym, ap, subst, arith}
 use Rattle.std.specs.Prelude.{◌==◌, slice_get}
 use Rattle.std.proofs.lemmas.Bool.{eq-eqb, eqb-true}
+use Rattle.std.proofs.lemmas.List.{take-append-drop}
 use Rattle.std.proofs.lemmas.Option.{slice_get_within}
 use Rattle.row_ledger.specs.declared.settings.Use.{Use}
 use Rattle.script_form.specs.declared.script.Command.{Command}
 use Rattle.script_run.proofs.Between.{get-behind, order-start-law, phase-end-law, phase-start-law}
 use Rattle.script_run.proofs.NextCommand.{over-now}
+use Rattle.script_run.proofs.PlaceFacts.{count_of-append}
 use Rattle.script_run.proofs.PhaseEnds.{all-over, first-place, get-first}
 use Rattle.script_run.proofs.Whole.{get-some, part_law, places-length, serial_law}
 use Rattle.script_run.specs.Phases.{closes}
-use Rattle.script_run.specs.Places.{begins_of, is_over_at, places, session_of}
+use Rattle.script_run.specs.Places.{begins_of, count_of, is_over_at, places, session_of}
 use Rattle.script_run.specs.Streams.{AreFinished, AreStreams}
 use Rattle.volap_cell.specs.Errands.{taken_of}
 use Rattle.volap_cell.specs.Ghost.{Ghost}
@@ -290,6 +292,7 @@ phase-ends-law true s p done w g next i r none =
 pub stops-law : StopsLaw
 stops-law in_order s p done w next r = record {
   part = part_law p.with s.hierarchy (done ++ p.commands) (history_in w) r.in_phase.part;
+  few = λ session. few session;
   over = all-over (history_in w) (places p.with done (history_in w)) (λ j low.
       let within : j < length done = omega (arith, low, places-length p.with done (history_in w)) in
       let c = get-some done j within in
@@ -297,3 +300,8 @@ stops-law in_order s p done w next r = record {
       (found.0, sym (first-place p.with done p.commands (history_in w) j within) ∙ found.1, found.2));
   serial = λ order. serial_law p.with s.hierarchy (done ++ p.commands) (history_in w) (r.ordered order).order;
 }
+  where
+    few : (session : ℕ) → length (begins_of (history_in w) session) ≤ count_of p.with session (done ++ p.commands)
+    few session =
+        let all = done ++ p.commands in
+        omega (arith, r.in_phase.streams.counts session, ap (count_of p.with session) (take-append-drop (next session) all), count_of-append p.with session (take (next session) all) (drop (next session) all))

@@ -1,11 +1,11 @@
 -- How a phase begins, goes on with each step, and ends.
-use Rattle.std.specs.Prelude.{ℕ, ◌≡◌, ◌≢◌, ◌+◌, ◌<◌, Bool, true, IsTrue, List, [], ◌∷◌, ◌++◌, Some, None, length, slice_get}
+use Rattle.std.specs.Prelude.{ℕ, ◌≡◌, ◌≢◌, ◌+◌, ◌<◌, ◌≤◌, Bool, true, IsTrue, List, [], ◌∷◌, ◌++◌, Some, None, length, slice_get}
 use Rattle.row_ledger.specs.Past.{session_in}
 use Rattle.row_ledger.specs.declared.event.Event.{Event}
 use Rattle.row_ledger.specs.declared.settings.Use.{Use}
 use Rattle.script_form.specs.declared.script.Command.{Command}
 use Rattle.script_run.specs.Between.{AreFirst, IsInOrder, IsThrough}
-use Rattle.script_run.specs.Places.{are_over, places, session_of}
+use Rattle.script_run.specs.Places.{are_over, begins_of, count_of, places, session_of}
 use Rattle.script_run.specs.Runs.{Begins, IsRunSoFar, IsSerial}
 use Rattle.volap_cell.specs.Ghost.{Ghost}
 use Rattle.volap_cell.specs.Invariant.{InvWith}
@@ -51,9 +51,10 @@ RunsLaw = (in_order : Bool) (s : Setting) (p : PhaseRun) (done : List Command) (
     → IsScriptRun s w (rest_of p (history_in w)) × (in_order ≡ true → IsOrderedRun s p w)
 
 -- What is said of a run that stops in the midst of a phase: it is a part of a run of the commands so far, of which those before the
--- phase are over; in their order where that is asked for.
+-- phase are over; in their order where that is asked for. No session has begun more than these have.
 pub record IsStopped (in_order : Bool) (s : Setting) (p : PhaseRun) (done : List Command) (w : World) : Type 0 where
   pub part : IsRunSoFar p.with s.hierarchy (done ++ p.commands) (history_in w)
+  pub few : (session : ℕ) → length (begins_of (history_in w) session) ≤ count_of p.with session (done ++ p.commands)
   pub over : IsTrue (are_over (history_in w) (places p.with done (history_in w)))
   pub serial : in_order ≡ true → IsSerial p.with (done ++ p.commands) (history_in w)
 

@@ -11,7 +11,7 @@ use Rattle.seeded_turns.specs.Drawn.{Reaches}
 use Rattle.seeded_turns.specs.declared.schedule.Schedule.{Schedule}
 use Rattle.seeded_turns.specs.declared.schedule.Schedule.TheVariants as schedule_is
 use Rattle.volap_cell.specs.Setting.{Setting}
-use Rattle.volap_cell.specs.Steps.{history_in}
+use Rattle.volap_cell.specs.Steps.{Inv, history_in}
 use Rattle.volap_cell.specs.World.{World}
 use Rattle.volap_cell.specs.declared.state.State.{State}
 use Rattle.seeded_run.specs.Can.{able_in}
@@ -76,10 +76,15 @@ held h with x = world_in h with x.cells.items x.actors.items
 abbrev pub phase_from : List Dimension → Use → List Command → State → PhaseRun
 phase_from h with phase x = record { with = with; commands = phase; before = history_in (held h with x) }
 
+-- a turn that leads to a state that meets the invariant
+pub record IsKeptTurn (in_order : Bool) (s : Setting) (p : PhaseRun) (w : World) (n : ℕ) (now : World) : Type 0 where
+  pub turn : IsTurn in_order s p w n now
+  pub inv : Inv s now
+
 -- Some turns of the phase that began in a state lead from that to another one: each step is due, and made by the actor whose turn it
--- is of those that can step.
+-- is of those that can step; and each leads to a state that meets the invariant.
 abbrev pub RunsTo : List Dimension → Use → List Command → State → Schedule → State → Schedule → Type 0
 RunsTo h with phase from schedule to schedule_now =
     Reaches World (able_in (is_order schedule) (about h with from) (phase_from h with phase from))
-    (IsTurn (is_order schedule) (about h with from) (phase_from h with phase from))
+    (IsKeptTurn (is_order schedule) (about h with from) (phase_from h with phase from))
     record { state = held h with from; schedule = schedule } (held h with to) schedule_now
