@@ -13,3 +13,5 @@ pub mod Collecting
 pub mod SoFar
 pub mod CollectsBlocks
 pub mod CollectsRows
+pub mod Spends
+pub mod CollectsTrees
