@@ -1,53 +1,44 @@
 -- The block that was noted last is read.
-use Rattle.std.proofs.Common.{◌≡◌, ◌≢◌, ℕ, ◌+◌, ◌-◌, ◌*◌, ◌<◌, ◌≤◌, Bool, true, false, eqb, List, [], ◌∷◌, ◌++◌, length, map, take, get_or, Option, Some, None, refl, sym, ap, ◌∙◌, subst, inl, inr, arith, append-nil, append_assoc, slice_get}
-use Rattle.std.proofs.lemmas.List.{length-append, map-append, take_more}
-use Rattle.std.proofs.lemmas.Option.{get_or_from_slice_get, slice_get_within}
+use Rattle.std.proofs.Common.{◌≡◌, ◌≢◌, ℕ, eqb, List, [], ◌∷◌, ◌++◌, take, Option, Some, None, refl, sym, ap, ◌∙◌, subst, arith, append-nil}
+use Rattle.std.proofs.lemmas.List.{length-append, map-append}
 use Rattle.cell_stock.specs.declared.purse.Spare.{Spare}
-use Rattle.dim_hierarchy.specs.Dimension.{Dimension}
 use Rattle.dim_hierarchy.specs.declared.row.Row.{Row}
 use Rattle.dc_node.specs.Block.{rows_in}
 use Rattle.dc_node.specs.declared.block.Block.{Block}
 use Rattle.dc_node.specs.declared.todo.Item.{Item}
 use Rattle.link_descent.specs.Visit.{noted_right}
-use Rattle.shard_store.specs.declared.gate.Gate.{Gate}
 use Rattle.shard_store.specs.declared.gate.Phase.{Phase}
-use Rattle.shard_store.specs.declared.gate.Phase.TheVariants as phase
-use Rattle.shard_store.specs.declared.queue.Queue.{Queue}
 use Rattle.tree_shape.specs.Collecting.{AfterRead, IsCollecting, IsReadable, entry_items}
-use Rattle.tree_shape.specs.Counts.{Each}
 use Rattle.tree_shape.specs.Laws.{ReadLaw, ReadableLaw}
 use Rattle.tree_shape.specs.Queries.{NoneWaits}
 use Rattle.tree_shape.specs.Shape.{Shape, Table, TreeCells, nodes, numbers}
 use Rattle.tree_shape.specs.Steps.{IsIdle, IsSpare}
 use Rattle.tree_shape.proofs.Divisions.{each-both}
 use Rattle.tree_shape.proofs.Walks.{eqb-eq, eqb-ne, on_bool}
-use Rattle.volap_cell.specs.AdminKinds.{CollectsBlock, CollectsQueued, HasJob, cells_needed, spent_in}
-use Rattle.volap_cell.specs.Cells.{BlockCell, GateCell, block_in, phase_of, queue_in}
-use Rattle.volap_cell.specs.Errands.{AtBlock, IsCarried, RowWay, block_at, way_of}
-use Rattle.volap_cell.specs.Falls.{frozen_upto, plenty, stage_left}
+use Rattle.volap_cell.specs.AdminKinds.{CollectsBlock}
+use Rattle.volap_cell.specs.Cells.{block_in}
+use Rattle.volap_cell.specs.Errands.{AtBlock, IsCarried, RowWay, block_at}
+use Rattle.volap_cell.specs.Falls.{stage_left}
 use Rattle.volap_cell.specs.Ghost.{Ghost}
 use Rattle.volap_cell.specs.Growing.{table_of}
 use Rattle.volap_cell.specs.Invariant.{InvWith}
 use Rattle.volap_cell.specs.Kinds.{Does}
-use Rattle.volap_cell.specs.Setting.{Setting, cell_count}
+use Rattle.volap_cell.specs.Setting.{Setting}
 use Rattle.volap_cell.specs.Steps.{IsKept}
 use Rattle.volap_cell.specs.Stocking.{NoneExpects, all_spares, cells_at, items_in}
-use Rattle.volap_cell.specs.Values.{ActorValue, BuildingValue, CollectingValue, JobValue, StageValue, Builds, Collects, IsDeclined, IsFrozen}
+use Rattle.volap_cell.specs.Values.{ActorValue, CollectingValue, Collects}
 use Rattle.volap_cell.specs.View.{View, view}
-use Rattle.volap_cell.specs.Working.{IsCollected, IsFrozenFor, frozen_in}
+use Rattle.volap_cell.specs.Working.{IsCollected}
 use Rattle.volap_cell.specs.World.{Agrees, Change, World, after}
-use Rattle.volap_cell.specs.declared.job.Frozen.{Frozen}
 use Rattle.volap_cell.specs.declared.kind.Kind.TheVariants.{Collect}
-use Rattle.volap_cell.proofs.AdminViews.{view-collect_block, view-collect_queued}
+use Rattle.volap_cell.proofs.AdminViews.{view-collect_block}
 use Rattle.core_admin.proofs.Collecting.{job-fresh, job-waits, read-few, waits-read}
-use Rattle.core_admin.proofs.Drains.{same-collecting, still-frozen}
 use Rattle.core_admin.proofs.Freezings.{wayless}
-use Rattle.core_admin.proofs.FrozenGates.{IsGateOf, frozen-gate, spares-each}
+use Rattle.core_admin.proofs.FrozenGates.{IsGateOf, spares-each}
 use Rattle.core_admin.proofs.Stages.{IsNewStage, Stages, stage-goes_on, stage-history, stage-holds}
-use Rattle.core_admin.proofs.Staging.{IsAtWork}
 use Rattle.core_admin.proofs.SoFar.{gate-of, goes-on, its, none-spent, so-far}
 
-none-left : (items : List Item) (item : Item) → items ++ item ∷ [] ≡ [] → ⊥
+pub none-left : (items : List Item) (item : Item) → items ++ item ∷ [] ≡ [] → ⊥
 none-left [] item e = cc
 none-left (x ∷ items) item e = cc
 
@@ -161,4 +152,3 @@ module _ (readable-law : ReadableLaw) (reads : ReadLaw) (s : Setting) (w : World
         grows = stage-history s w n g i (c ∷ []) d.job (Collects now) b stages to;
         goes_on = stage-goes_on s w n g i (c ∷ []) d.job (Collects now) b stages to;
       }
-

@@ -1,24 +1,22 @@
 -- With all rows collected the new trees are made of them, with cells of the purse.
-use Rattle.std.proofs.Common.{◌≡◌, ◌≢◌, ℕ, ◌+◌, ◌-◌, ◌*◌, ◌^◌, ◌<◌, ◌≤◌, Bool, true, false, cond, List, [], ◌∷◌, ◌++◌, length, map, take, Option, Some, None, refl, sym, ap, ◌∙◌, subst, ◌⊎◌, inl, inr, arith, append-nil}
+use Rattle.std.proofs.Common.{◌≡◌, ◌≢◌, ℕ, ◌+◌, ◌*◌, ◌<◌, ◌≤◌, Bool, true, cond, List, [], ◌∷◌, ◌++◌, length, take, Some, None, refl, sym, ap, ◌∙◌, subst, ◌⊎◌, inl, inr, arith, append-nil}
 use Rattle.std.proofs.lemmas.List.{length-map}
-use Rattle.cell_stock.specs.Stock.{PurseValue, StockValue, cells_of, stamps_of}
+use Rattle.cell_stock.specs.Stock.{cells_of, stamps_of}
 use Rattle.cell_stock.specs.declared.purse.Spare.{Spare}
-use Rattle.dim_hierarchy.specs.Dimension.{Dimension}
 use Rattle.dim_hierarchy.specs.declared.row.Row.{Row}
 use Rattle.dc_node.specs.declared.todo.Item.{Item}
 use Rattle.link_descent.specs.declared.entered.Fresh.{Fresh}
 use Rattle.shard_build.specs.Building.{spare_of}
-use Rattle.shard_store.specs.declared.gate.Phase.{Phase}
 use Rattle.shard_store.specs.declared.gate.Phase.TheVariants as phase
 use Rattle.tree_shape.specs.Collecting.{IsCollecting}
-use Rattle.tree_shape.specs.Counts.{Among, Each, times}
+use Rattle.tree_shape.specs.Counts.{Among, times}
 use Rattle.tree_shape.specs.Shape.{nodes, numbers}
 use Rattle.tree_shape.proofs.Divisions.{each-map}
 use Rattle.tree_shape.proofs.Parts.{among-left, each-append}
 use Rattle.tree_shape.proofs.Walks.{on_bool}
-use Rattle.volap_cell.specs.AdminKinds.{CollectsAll, IsBuiltOf, IsUpTo, cells_needed, spent_by, spent_in}
-use Rattle.volap_cell.specs.Cells.{GateCell, phase_of}
-use Rattle.volap_cell.specs.Errands.{AtBlock, RowWay}
+use Rattle.volap_cell.specs.AdminKinds.{CollectsAll, IsBuiltOf, spent_in}
+use Rattle.volap_cell.specs.Cells.{phase_of}
+use Rattle.volap_cell.specs.Errands.{RowWay}
 use Rattle.volap_cell.specs.Falls.{Falls, gone_left, job_left, left, plenty, stage_left}
 use Rattle.volap_cell.specs.Ghost.{AGate, Ghost, InJob, InPurse, InTree, NotOfStock, Owner, Unused, is_in_purse}
 use Rattle.volap_cell.specs.Invariant.{InvWith}
@@ -27,14 +25,13 @@ use Rattle.volap_cell.specs.Setting.{Setting, cell_count}
 use Rattle.volap_cell.specs.Steps.{IsKept}
 use Rattle.volap_cell.specs.Stocking.{all_spares, cells_at, items_in, spent_of}
 use Rattle.volap_cell.specs.Turning.{Turning}
-use Rattle.volap_cell.specs.Values.{ActorValue, BuildingValue, CollectingValue, JobValue, StageValue, Builds, Collects, IsDeclined}
+use Rattle.volap_cell.specs.Values.{ActorValue, BuildingValue, StageValue, Builds, Collects, IsDeclined}
 use Rattle.volap_cell.specs.View.{View, view}
 use Rattle.volap_cell.specs.Working.{IsBuilding, IsCollected, IsFrozenFor, frozen_in}
 use Rattle.volap_cell.specs.World.{Agrees, Change, World, after}
 use Rattle.volap_cell.specs.declared.job.Frozen.{Frozen}
 use Rattle.volap_cell.specs.declared.kind.Kind.TheVariants.{Collect}
 use Rattle.volap_cell.proofs.AdminViews.{by_job_purse, view-collect_all}
-use Rattle.volap_cell.proofs.Blanks.{spare-owner}
 use Rattle.volap_cell.proofs.Counting.{length-few}
 use Rattle.volap_cell.proofs.Fields.{IsNewAt, actor-new}
 use Rattle.volap_cell.proofs.Frames.{actor-at, actor-off}

@@ -15,3 +15,4 @@ pub mod CollectsBlocks
 pub mod CollectsRows
 pub mod Spends
 pub mod CollectsTrees
+pub mod CollectsHere

@@ -1,6 +1,6 @@
 -- Spares of a purse that new blocks take.
 use Rattle.std.specs.Prelude.{Option, reverse}
-use Rattle.std.proofs.Common.{◌≡◌, ◌≢◌, ℕ, ◌+◌, ◌<◌, ◌≤◌, eqb, List, [], ◌∷◌, ◌++◌, length, map, refl, sym, ap, ◌∙◌, subst, inl, inr, arith}
+use Rattle.std.proofs.Common.{◌≡◌, ℕ, ◌+◌, ◌≤◌, eqb, List, [], ◌∷◌, ◌++◌, length, map, refl, sym, ap, ◌∙◌, subst, inl, inr, arith}
 use Rattle.std.proofs.lemmas.List.{map-append, reverse-append}
 use Rattle.cell_stock.specs.Stock.{PurseValue, cells_of, stamps_of}
 use Rattle.cell_stock.specs.declared.purse.Spare.{Spare}

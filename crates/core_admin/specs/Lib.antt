@@ -1,1 +1,2 @@
 pub mod FreezeDue
+pub mod CollectDue

@@ -7,4 +7,5 @@ mod collects;
 mod finishes;
 mod freezes;
 
+pub use collects::{collect_block, collect_row};
 pub use freezes::{drained, freeze};
