@@ -31,7 +31,7 @@ module _ (s : Setting) (w : World) (n : ℕ) (g : Ghost) (i : InvWith s (view s 
   abbrev v : View
   v = view s w
 
-  abbrev k : IsCollected v.blocks v.trees v.queues v.phases v.active g.shape d.collecting
+  abbrev k : IsCollected v.history v.blocks v.trees v.queues v.phases v.active g.shape d.collecting
   k = so-far s w n g i d.job d.collecting d.has
 
   abbrev now : CollectingValue
@@ -46,10 +46,11 @@ module _ (s : Setting) (w : World) (n : ℕ) (g : Ghost) (i : InvWith s (view s 
   phase-is : v.phases d.collecting.frozen.gate ≡ Some (phase.Frozen d.upto)
   phase-is = ap phase_of cell ∙ ap Some d.frozen
 
-  collected : IsCollected v.blocks v.trees v.queues v.phases v.active g.shape now
+  collected : IsCollected v.history v.blocks v.trees v.queues v.phases v.active g.shape now
   collected = record {
     drained = k.drained;
     at_blocks = k.at_blocks;
+    named = k.named;
     rows =
         let queue = (v.queues d.collecting.frozen.gate).rows in
         let more : take (d.collecting.queued + 1) queue ≡ take d.collecting.queued queue ++ d.row ∷ [] = row-there queue d.collecting.queued d.row (ap (λ (q : Queue). slice_get q.rows d.collecting.queued) queue-is ∙ d.row_at) in

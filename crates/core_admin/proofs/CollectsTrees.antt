@@ -64,7 +64,7 @@ module _ (s : Setting) (w : World) (n : ℕ) (g : Ghost) (i : InvWith s (view s 
   same : u ≡ renewed by_job_purse u v
   same = view-collect_all s w n s.hierarchy c (w.actors n) b ag d
 
-  abbrev was : IsCollected v.blocks v.trees v.queues v.phases v.active g.shape d.collecting
+  abbrev was : IsCollected v.history v.blocks v.trees v.queues v.phases v.active g.shape d.collecting
   was = so-far s w n g i d.job d.collecting d.has
 
   abbrev frozen-was : IsFrozenFor s v.trees v.phases g.gate (v.purses n) d.job d.collecting.frozen
@@ -147,12 +147,13 @@ module _ (s : Setting) (w : World) (n : ℕ) (g : Ghost) (i : InvWith s (view s 
   trees-are = subst (λ (xs : List Fresh). IsBuiltOf s.hierarchy d.collecting.frozen.plane (was.at_blocks ++ take d.collecting.queued (v.queues d.collecting.frozen.gate).rows) d.purse d.purse_now (record d.building { unbuilt = xs }))
       (sym (append-nil d.building.unbuilt)) (subst (λ (rows : List Row). IsBuiltOf s.hierarchy d.collecting.frozen.plane rows d.purse d.purse_now d.building) was.rows d.built)
 
-  building-now : IsBuilding s v.blocks v.made v.trees v.queues v.phases v.active g.shape b.purse d.building
+  building-now : IsBuilding s v.history v.blocks v.made v.trees v.queues v.phases v.active g.shape b.purse d.building
   building-now = record {
     drained = subst (λ (f : Frozen). v.active f.gate ≡ 0) (sym building-gate) was.drained;
     upto = d.collecting.queued;
     phase_is = subst (λ (f : Frozen). v.phases f.gate ≡ Some (phase.Frozen d.collecting.queued)) (sym building-gate) phase-is;
     at_blocks = was.at_blocks;
+    named = was.named;
     read = subst (λ (f : Frozen). IsCollecting (cells_at v.blocks v.trees f.gate) (g.shape f.gate) [] d.building.read (numbers was.at_blocks)) (sym building-gate)
         (subst (λ (xs : List ℕ). IsCollecting (cells_at v.blocks v.trees d.collecting.frozen.gate) (g.shape d.collecting.frozen.gate) [] xs (numbers was.at_blocks)) (sym d.read_is)
         (subst (λ (xs : List Item). IsCollecting (cells_at v.blocks v.trees d.collecting.frozen.gate) (g.shape d.collecting.frozen.gate) xs d.collecting.read (numbers was.at_blocks)) d.all_read was.collecting));
@@ -186,8 +187,8 @@ module _ (s : Setting) (w : World) (n : ℕ) (g : Ghost) (i : InvWith s (view s 
     frozen = λ f is. subst (IsFrozenFor s v.trees v.phases g.gate (u.purses n) (record d.job { stage = Builds d.building })) (sym building-gate ∙ its-frozen d.building f is)
         (subst (λ (xs : List Spare). IsFrozenFor s v.trees v.phases g.gate xs (record d.job { stage = Builds d.building }) d.collecting.frozen) (sym mine) frozen-now);
     collected = λ k is. let never : Builds d.building ≡ Collects k = is in absurd (cc);
-    building = λ x is. subst (IsBuilding s v.blocks v.made v.trees v.queues v.phases v.active g.shape (u.purses n)) (same-building d.building x is)
-        (subst (λ (xs : List Spare). IsBuilding s v.blocks v.made v.trees v.queues v.phases v.active g.shape xs d.building) (sym mine) building-now);
+    building = λ x is. subst (IsBuilding s v.history v.blocks v.made v.trees v.queues v.phases v.active g.shape (u.purses n)) (same-building d.building x is)
+        (subst (λ (xs : List Spare). IsBuilding s v.history v.blocks v.made v.trees v.queues v.phases v.active g.shape xs d.building) (sym mine) building-now);
   }
 
   holds-renewed : InvWith s (renewed by_job_purse u v) g2

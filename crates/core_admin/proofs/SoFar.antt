@@ -26,11 +26,11 @@ module _ (s : Setting) (w : World) (n : ℕ) (g : Ghost) (i : InvWith s (view s 
   pub gate-of : IsGateOf s v g job.shard job.worker was.frozen.gate
   gate-of = frozen-gate s v g i n job has.is_job was.frozen on
 
-  pub so-far : IsCollected v.blocks v.trees v.queues v.phases v.active g.shape was
+  pub so-far : IsCollected v.history v.blocks v.trees v.queues v.phases v.active g.shape was
   so-far = i.working.collected n job was has.is_job has.stage_is
 
   -- what is to be shown of what is collected now
-  pub goes-on : (now : CollectingValue) → now.frozen ≡ was.frozen → IsCollected v.blocks v.trees v.queues v.phases v.active g.shape now
+  pub goes-on : (now : CollectingValue) → now.frozen ≡ was.frozen → IsCollected v.history v.blocks v.trees v.queues v.phases v.active g.shape now
       → IsAtWork s v.history v.blocks v.made v.trees v.phases v.active v.queues (v.purses n) (v.commands n) g.gate g.shape g.placed (record job { stage = Collects now })
   goes-on now same collected = record {
     unspent = λ none. let never : Some now.frozen ≡ None = none in absurd (cc);
@@ -45,7 +45,7 @@ module _ (s : Setting) (w : World) (n : ℕ) (g : Ghost) (i : InvWith s (view s 
       move = its.move;
       plane = its.plane;
     });
-    collected = λ k is. subst (IsCollected v.blocks v.trees v.queues v.phases v.active g.shape) (same-collecting now k is) collected;
+    collected = λ k is. subst (IsCollected v.history v.blocks v.trees v.queues v.phases v.active g.shape) (same-collecting now k is) collected;
     building = λ x is. let never : Collects now ≡ Builds x = is in absurd (cc);
   }
 
