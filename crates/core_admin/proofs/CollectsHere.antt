@@ -56,7 +56,7 @@ same-last [] (z ∷ ys) x y e = (let rest : [] ≡ ys ++ y ∷ [] = cc in absurd
 same-last (z ∷ xs) [] x y e = (let rest : xs ++ x ∷ [] ≡ [] = cc in absurd (none-left xs x rest))
 same-last (z ∷ xs) (w ∷ ys) x y e = same-last xs ys x y (cc)
 
-one-job : (o : Option JobValue) {job other : JobValue} → o ≡ Some job → o ≡ Some other → job ≡ other
+pub one-job : (o : Option JobValue) {job other : JobValue} → o ≡ Some job → o ≡ Some other → job ≡ other
 one-job o {job} {other} e f = (let both : Some job ≡ Some other = sym e ∙ f in cc)
 
 -- Blocks.

@@ -16,3 +16,6 @@ pub mod CollectsRows
 pub mod Spends
 pub mod CollectsTrees
 pub mod CollectsHere
+pub mod RowLists
+pub mod BuildsHere
+pub mod MadeTrees

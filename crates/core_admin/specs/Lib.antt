@@ -1,2 +1,3 @@
 pub mod FreezeDue
 pub mod CollectDue
+pub mod BuildDue
