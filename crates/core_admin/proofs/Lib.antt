@@ -19,3 +19,9 @@ pub mod CollectsHere
 pub mod RowLists
 pub mod BuildsHere
 pub mod MadeTrees
+mod JobsGoOn
+mod Untouched
+mod BuildsBlock
+mod Returned
+mod TurnedCommands
+mod PostponesJob

@@ -1,0 +1,523 @@
+-- A job is given up: that keeps the invariant, and less is left.
+use Rattle.std.proofs.Common.{◌≡◌, ◌≢◌, ℕ, suc, ◌+◌, ◌-◌, ◌*◌, ◌<◌, ◌≤◌, List, [], ◌∷◌, ◌++◌, true, false, eqb, length, Option, Some, None, is_some, refl, sym, ap, ◌∙◌, subst, arith, inl, inr, le_of_lt, option_map, option_and_then, slice_get, suc-mul}
+use Rattle.std.specs.Option.{option_map_or}
+use Rattle.std.proofs.lemmas.Bool.{cases_lt}
+use Rattle.std.proofs.lemmas.Option.{slice_get_past}
+use Rattle.cell_stock.specs.Stock.{StockValue}
+use Rattle.cell_stock.specs.declared.purse.Spare.{Spare}
+use Rattle.dim_hierarchy.specs.Dimension.{Dimension}
+use Rattle.row_ledger.specs.Changes.{ShardsStay, is_quiet}
+use Rattle.row_ledger.specs.Past.{call_at, number_in}
+use Rattle.row_ledger.specs.Right.{MayEnd, shows}
+use Rattle.row_ledger.specs.Shards.{is_on}
+use Rattle.row_ledger.specs.declared.event.Event.{Event}
+use Rattle.row_ledger.specs.declared.event.Event.TheVariants.{Ended, Left}
+use Rattle.row_ledger.specs.declared.settings.Call.{Call}
+use Rattle.row_ledger.specs.declared.settings.Call.TheVariants as call_is
+use Rattle.row_ledger.specs.declared.settings.Decline.{Decline}
+use Rattle.row_ledger.specs.declared.settings.How.TheVariants as how_is
+use Rattle.row_ledger.proofs.Changes.{quiet}
+use Rattle.row_ledger.proofs.Growth.{KeepsRight-ended, KeepsRight-left}
+use Rattle.shard_plan.specs.declared.action.Action.{Action}
+use Rattle.tree_shape.proofs.Walks.{on_bool, eqb-eq, eqb-ne}
+use Rattle.volap_cell.specs.AdminKinds.{DoesPostpone, GivesUp, HasFrozen}
+use Rattle.volap_cell.specs.Cells.{TheLedger, TheStock, tag_of}
+use Rattle.volap_cell.specs.Commands.{after_action, owes}
+use Rattle.volap_cell.specs.Errands.{RowWay, Taken, taken_by, taken_of, way_of}
+use Rattle.volap_cell.specs.Falls.{actions_left, control_of, job_left, left, of_work, plenty, stage_left}
+use Rattle.volap_cell.specs.Ghost.{Ghost}
+use Rattle.volap_cell.specs.ImageKinds.{Pushes, doing}
+use Rattle.volap_cell.specs.Invariant.{InvWith}
+use Rattle.volap_cell.specs.Lineage.{Lineage}
+use Rattle.volap_cell.specs.Numbering.{Numbering}
+use Rattle.volap_cell.specs.Owing.{Owing, is_insert, is_insert_work, owed_by}
+use Rattle.volap_cell.specs.Planning.{job_for, next_job}
+use Rattle.volap_cell.specs.Setting.{Setting, actor_count, site_in}
+use Rattle.volap_cell.specs.Steps.{IsKept, Keeps}
+use Rattle.volap_cell.specs.Stocking.{items_of_job, spent_of}
+use Rattle.volap_cell.specs.Telling.{IsProgress, Telling}
+use Rattle.volap_cell.specs.Turning.{Turning}
+use Rattle.volap_cell.specs.Values.{ActorValue, ErrandValue, JobValue, StageValue, IsCalled, IsDeclined, IsFrozen, Collects, Builds}
+use Rattle.volap_cell.specs.View.{View, view, row_at}
+use Rattle.volap_cell.specs.Working.{Balancing, IsBalancing, IsBuilding, IsCollected, IsDeclinedFor, IsFrozenFor, IsJobOf, Working, begun, frozen_in}
+use Rattle.volap_cell.specs.World.{World, Change, Agrees, after}
+use Rattle.volap_cell.specs.declared.command.Balance.{Balance}
+use Rattle.volap_cell.specs.declared.command.Command.{Command}
+use Rattle.volap_cell.specs.declared.command.Work.{Work}
+use Rattle.volap_cell.specs.declared.command.Work.TheVariants as work_is
+use Rattle.volap_cell.specs.declared.kind.Kind.TheVariants as kind
+use Rattle.volap_cell.specs.declared.role.Role.TheVariants.{Admin}
+use Rattle.volap_cell.proofs.AdminViews.{by_postpone, view-postpone}
+use Rattle.volap_cell.proofs.Fields.{IsNew, IsNewAt, IsPushed, pushed-new}
+use Rattle.volap_cell.proofs.Frames.{actor-at, actor-off}
+use Rattle.volap_cell.proofs.Grows.{call-kept, on-stays}
+use Rattle.volap_cell.proofs.GrowsKnown.{AreOlder, older-rows}
+use Rattle.volap_cell.proofs.GrowsReads.{ReadersTake, pinned-whole, readers-take, reading-rows-older}
+use Rattle.volap_cell.proofs.GrowsTold.{commands-older, no-work}
+use Rattle.volap_cell.proofs.GrowsTrees.{growing-grown, past-there, queueing-grown}
+use Rattle.volap_cell.proofs.GrowsWork.{one-balance-grown}
+use Rattle.volap_cell.proofs.NotedCommands.{IsNotedBy, telling-ends, telling-goes-on}
+use Rattle.volap_cell.proofs.Past.{ledger-past, stock-past}
+use Rattle.volap_cell.proofs.Persons.{has-command}
+use Rattle.volap_cell.proofs.QuietHistory.{balancing-quiet, covering-quiet, desking-quiet, desks-older, imaging-quiet, inserting-quiet, lineage-quiet, placing-quiet, querying-quiet, readers-older, resting-quiet}
+use Rattle.volap_cell.proofs.Seen.{renewed}
+use Rattle.core_image.proofs.Endings.{unasked}
+use Rattle.core_image.proofs.Ends.{only-its}
+use Rattle.core_image.proofs.Jobs.{items-new, spent-new}
+use Rattle.core_image.proofs.JobsEnd.{jobless-balancing}
+use Rattle.core_image.proofs.NextAction.{balancing-next, next-is, within}
+use Rattle.core_image.proofs.Owed.{owed-others, promises-now}
+use Rattle.core_image.proofs.Pageless.{asks_page}
+use Rattle.core_image.proofs.Remains.{control_at, control-changed}
+use Rattle.core_admin.proofs.JobsGoOn.{only-one}
+use Rattle.core_admin.proofs.Returned.{Returns, gives-returns, returned, returned-stamping, returned-stocking}
+use Rattle.core_admin.proofs.TurnedCommands.{IsOffDesk, turned-desking, turned-inserting, turned-placing}
+
+-- the command asks for a job: it is a split, a move or a balance
+off-desk : (work : Work) (job : JobValue) → IsJobOf work job → IsOffDesk work
+off-desk (work_is.Split x) job is = record { no_insert = refl; off = refl }
+off-desk (work_is.Move x to) job is = record { no_insert = refl; off = refl }
+off-desk (work_is.Balance b) job is = record { no_insert = refl; off = refl }
+off-desk (work_is.Insert row routed) job is = absurd is
+off-desk work_is.Query job is = absurd is
+off-desk (work_is.Sync server pulled) job is = absurd is
+off-desk work_is.Barrier job is = absurd is
+off-desk (work_is.Settle pulls) job is = absurd is
+off-desk (work_is.Shards shown) job is = absurd is
+off-desk (work_is.Tree x stands shown) job is = absurd is
+off-desk (work_is.Audit shown) job is = absurd is
+
+none-insert : (command : Option Command) → ((k : Command) → command ≡ Some k → is_insert_work k.work ≡ false) → is_insert command ≡ false
+none-insert None none = refl
+none-insert (Some k) none = none k refl
+
+-- a frozen job leaves more than one at its beginning does not
+frozen-some : (s : Setting) (v : View) (stage : StageValue) → HasFrozen stage → 1 ≤ stage_left s v stage
+frozen-some s v IsCalled frozen = absurd frozen
+frozen-some s v (IsDeclined why) frozen = absurd frozen
+frozen-some s v (IsFrozen f) frozen = omega arith
+frozen-some s v (Collects c) frozen = omega arith
+frozen-some s v (Builds b) frozen = omega arith
+
+-- a job at its beginning leaves so much
+job-few : (s : Setting) (v : View) (job : Option JobValue) → ((j : JobValue) → job ≡ Some j → j.stage ≡ IsCalled) → job_left s v job ≤ 6 * plenty s
+job-few s v None called = omega arith
+job-few s v (Some j) called = (let at : job_left s v (Some j) ≡ 6 * plenty s = ap (stage_left s v) (called j refl) in omega (arith, at))
+
+-- The job that is there afterwards, if there is one, is at its beginning.
+pub record IsNextOf (s : Setting) (h : List Event) (command : Option Command) (j : JobValue) : Type 0 where
+  pub called : j.stage ≡ IsCalled
+  pub whose : (c : Command) × (command ≡ Some c) × IsJobOf c.work j
+  pub front : is_on s.workers h j.shard j.worker ≡ true
+  pub to : (worker : ℕ) → j.to ≡ Some worker → worker < s.workers
+
+module _ (c led : Change) (b : ActorValue) (s : Setting) (w : World) (n : ℕ) (g : Ghost) (i : InvWith s (view s w) g) (ag : Agrees w (c ∷ led ∷ []) n (w.actors n)) (d : DoesPostpone c led (w.actors n) b) where
+  abbrev v : View
+  v = view s w
+
+  abbrev h : List Event
+  h = v.history
+
+  abbrev w2 : World
+  w2 = after w (c ∷ led ∷ []) n b
+
+  abbrev u : View
+  u = view s w2
+
+  abbrev job : JobValue
+  job = d.job
+
+  abbrev its : Command
+  its = record { of = d.of; work = d.work }
+
+  there : n < actor_count s
+  there = has-command s v i.numbering n its d.command
+
+  its-job : IsJobOf d.work job
+  its-job =
+      let k = i.working.command n job d.is_job in
+      let works : k.0.work ≡ d.work = ap (λ (o : Option Command). option_map_or (λ (x : Command). x.work) o work_is.Query) (sym k.1 ∙ d.command) in
+      subst (λ (x : Work). IsJobOf x job) works k.2
+
+  began : (a : ℕ) (k : Command) → v.commands a ≡ Some k → k.of < length h
+  began = commands-older s h i.telling
+
+  progress : IsProgress s h d.of d.work (Some job) (v.roles n)
+  progress = subst (λ (j : Option JobValue). IsProgress s h d.of d.work j (v.roles n)) d.is_job (i.telling.progress n its d.command)
+
+  stocks : IsNew u.stock v.stock d.stock d.stock_now
+  stocks = stock-past s w.cells i.numbering.tag [] c (led ∷ []) ag.cells tt d.stock d.stock_now d.turns.was d.turns.is
+
+  returns : Returns v.stock u.stock (v.purses n ++ spent_of (v.jobs n))
+  returns =
+      let gave = gives-returns d.stock d.between d.stock_now d.purse d.purse_now d.spent d.spent_now d.gives d.gives_spent in
+      let spares : d.purse.spares ++ d.spent.spares ≡ v.purses n ++ spent_of (v.jobs n) = (λ k. d.purse_was k ++ (d.spent_was ∙ sym (ap spent_of d.is_job)) k) in
+      subst (λ (x : StockValue). Returns x u.stock (v.purses n ++ spent_of (v.jobs n))) (sym stocks.was_that)
+      (subst (λ (x : StockValue). Returns d.stock x (v.purses n ++ spent_of (v.jobs n))) (sym stocks.is_that) (subst (Returns d.stock d.stock_now) spares gave))
+
+  -- what becomes of the command, and of the history
+
+  module _ (e : Event) (used : ℕ) (command2 : Option Command) (job2 : Option JobValue) (q : is_quiet e ≡ true) (p : Pushes e 0 used led b.seen) (is : b ≡ record (w.actors n) { purse = []; seen = b.seen; command = command2; job = job2 }) where
+    pushed : IsPushed e 0 used b.seen u.history h u.promised v.promised
+    pushed = pushed-new p (ledger-past s w.cells i.numbering.tag (c ∷ []) led [] ag.cells ((λ t. let no : TheStock ≡ TheLedger = sym (ap tag_of d.turns.was) ∙ t ∙ ap tag_of p.was in cc), tt) p.ledger p.ledger_now p.was p.is)
+
+    -- the view afterwards, with its history written out
+    abbrev v2 : View
+    v2 = record (renewed by_postpone u v) { history = e ∷ h; row = row_at (e ∷ h) }
+
+    same : u ≡ v2
+    same = view-postpone s w n c led (w.actors n) b ag d ∙ (λ k. record (renewed by_postpone u v) { history = pushed.history_is k; row = row_at (pushed.history_is k) })
+
+    actor-now : w2.actors n ≡ record (w.actors n) { purse = []; seen = b.seen; command = command2; job = job2 }
+    actor-now = actor-at w.actors n b ∙ is
+
+    turn : IsNewAt v2.commands v.commands n (Some its) command2
+    turn = record {
+      was_there = d.command;
+      is_there = ap (λ (a : ActorValue). a.command) actor-now;
+      elsewhere = λ a ne. ap (λ (x : ActorValue). x.command) (actor-off w.actors n b a ne);
+    }
+
+    new : IsNewAt v2.jobs v.jobs n (Some job) job2
+    new = record {
+      was_there = d.is_job;
+      is_there = ap (λ (a : ActorValue). a.job) actor-now;
+      elsewhere = λ a ne. ap (λ (x : ActorValue). x.job) (actor-off w.actors n b a ne);
+    }
+
+    mine : v2.purses n ≡ []
+    mine = ap (λ (a : ActorValue). a.purse) actor-now
+
+    off : (a : ℕ) → a ≢ n → v2.purses a ≡ v.purses a
+    off a ne = ap (λ (x : ActorValue). x.purse) (actor-off w.actors n b a ne)
+
+    stay : ShardsStay s.workers e h
+    stay = (quiet s.hierarchy s.workers e h q).shards
+
+    abbrev g2 : Ghost
+    g2 = record g { owner = λ y. returned n (g.owner y) }
+
+    -- What each case shows.
+
+    module _ (telling : Telling s (e ∷ h) v2.commands v2.jobs v.roles v2.seen g.placed) (owes_so : owed_by (Some its) + 0 ≡ owed_by command2 + used) (used_some : 1 ≤ used)
+        (next : (j : JobValue) → job2 ≡ Some j → IsNextOf s h command2 j) (plain_now : (k : Command) → command2 ≡ Some k → IsOffDesk k.work) (balancing : Balancing s (e ∷ h) v2.commands v2.jobs g.placed g.home)
+        (less : of_work (control_of s) command2 + job_left s v job2 < of_work (control_of s) (Some its) + job_left s v (Some job)) where
+      spent-now : spent_of (v2.jobs n) ≡ []
+      spent-now = ap spent_of new.is_there ∙ spent-new job2 (λ j has. (next j has).called)
+
+      items-now : items_of_job (v2.jobs n) ≡ []
+      items-now = ap items_of_job new.is_there ∙ items-new job2 (λ j has. (next j has).called)
+
+      some : 0 < length h
+      some = past-there s g.placed h i.numbering.setting i.telling.right
+
+      older : AreOlder h g.placed
+      older = older-rows s h i.placing
+
+      on-desks : (server r : ℕ) → server < s.servers → (v.desks server).op ≡ Some r → r < length h
+      on-desks = desks-older s h i.telling i.desking
+
+      takes : ReadersTake v.taken v.reads
+      takes = readers-take s w
+
+      plain : IsOffDesk its.work
+      plain = off-desk d.work job its-job
+
+      -- whoever has a job then is the actor
+      its-next : (P : ℕ → JobValue → Type 0) → ((j : JobValue) → job2 ≡ Some j → P n j) → (a : ℕ) (j : JobValue) → v2.jobs a ≡ Some j → P a j
+      its-next P f a j has = on_bool (eqb a n)
+          (λ z. let x = eqb-eq a n z in subst (λ (y : ℕ). P y j) (sym x) (f j (sym new.is_there ∙ ap v2.jobs (sym x) ∙ has)))
+          (λ z. let ne = eqb-ne a n z in absurd (ne (only-one s v g i a n j job (sym (new.elsewhere a ne) ∙ has) d.is_job)))
+
+      not-called : {A : Type 0} (f : StageValue → Option A) (j : JobValue) (x : A) → f IsCalled ≡ None → job2 ≡ Some j → f j.stage ≡ Some x → ⊥
+      not-called {A} f j x none has at = (let never : ◌≡◌ {A = Option A} None (Some x) = sym none ∙ ap f (sym (next j has).called) ∙ at in cc)
+
+      numbering-now : Numbering s v.tags v.numbers v.roles v.settings v.counted_in v2.purses v2.commands v.taken v2.jobs
+      numbering-now =
+          let k = i.numbering in record {
+            setting = k.setting;
+            tag = k.tag;
+            number = k.number;
+            role = k.role;
+            about = k.about;
+            beyond = k.beyond;
+            nobody = λ a le. let no = k.nobody a le in
+                let ne : a ≢ n = (λ x. let lt = there in absurd (omega (arith, lt, le, x))) in
+                (no.0, off a ne ∙ no.1, turn.elsewhere a ne ∙ no.2, no.3, new.elsewhere a ne ∙ no.4);
+            working = its-next (λ a j. v.roles a ≡ Admin) (λ j has. k.working n job d.is_job);
+            parts = k.parts;
+          }
+
+      owing-now : Owing s (e ∷ h) v2.promised v.images v.desks v.roles v2.commands v.counted_in
+      owing-now = record {
+        promises = promises-now (actor_count s) n there v.commands v2.commands (Some its) command2 turn v.promised v2.promised 0 used pushed.promised_is owes_so i.owing.promises;
+        few = (let moved = pushed.promised_is in let few = i.owing.few in omega (arith, moved, few, used_some));
+        image = λ x lt. i.owing.image x lt ∙ sym (owed-others (actor_count s) n there v.commands v2.commands (Some its) command2 turn v.roles plain.no_insert (none-insert command2 (λ k has. (plain_now k has).no_insert)) x);
+        sessions = i.owing.sessions;
+      }
+
+      turning-now : Turning s v.ways v2.purses v.boxes v.phases v.active g.gate g.shape g.home
+      turning-now =
+          let k = i.turning in record {
+            one = k.one;
+            carrying = k.carrying;
+            in_leaf = k.in_leaf;
+            carried = k.carried;
+            enough = λ a x y way has at. subst (λ (ss : List Spare). ((g.shape x).level y ≤ length ss) × (2 * length ss + 1 ≤ v.boxes a)) (sym (off a (λ e. on-way a way has e))) (k.enough a x y way has at);
+            counts = k.counts;
+          }
+        where
+          on-way : (a : ℕ) (way : RowWay) → v.ways a ≡ Some way → a ≡ n → ⊥
+          on-way a way has e = not-taken (w.actors n).errand (i.numbering.parts n) way (ap v.ways (sym e) ∙ has)
+            where
+              not-taken : (errand : Option ErrandValue) → ((t : Taken) → taken_of errand ≡ Some t → v.roles n ≢ Admin) → (way : RowWay) → way_of errand ≡ Some way → ⊥
+              not-taken None parts way has = cc
+              not-taken (Some x) parts way has = parts (taken_by x) refl (i.numbering.working n job d.is_job)
+
+      working-now : Working s (e ∷ h) v.blocks v.made v.trees v.phases v.active v.queues v2.purses v2.commands v2.jobs g.gate g.shape g.placed
+      working-now = record {
+        command = its-next (λ a j. (k : Command) × (v2.commands a ≡ Some k) × IsJobOf k.work j) (λ j has. let o = (next j has).whose in (o.0, turn.is_there ∙ o.1, o.2));
+        front = its-next (λ a j. is_on s.workers (e ∷ h) j.shard j.worker ≡ true) (λ j has. on-stays s.workers e h stay j.shard j.worker ∙ (next j has).front);
+        to = λ a worker j. its-next (λ a j. j.to ≡ Some worker → worker < s.workers) (λ j has. (next j has).to worker) a j;
+        unspent = λ a j. its-next (λ a j. frozen_in j.stage ≡ None → v2.purses a ≡ []) (λ j has none. mine) a j;
+        declined = λ a j k why has _ stage. its-next (λ a j. j.stage ≡ IsDeclined why → IsDeclinedFor s (e ∷ h) g.placed k.of j why) (λ j has st. let no : IsCalled ≡ IsDeclined why = sym (next j has).called ∙ st in cc) a j has stage;
+        frozen = λ a j f. its-next (λ a j. frozen_in j.stage ≡ Some f → IsFrozenFor s v.trees v.phases g.gate (v2.purses a) j f) (λ j has at. absurd (not-called frozen_in j f refl has at)) a j;
+        collected = λ a j k. its-next (λ a j. j.stage ≡ Collects k → IsCollected (e ∷ h) v.blocks v.trees v.queues v.phases v.active g.shape k) (λ j has at. let no : IsCalled ≡ Collects k = sym (next j has).called ∙ at in cc) a j;
+        building = λ a j k. its-next (λ a j. j.stage ≡ Builds k → IsBuilding s (e ∷ h) v.blocks v.made v.trees v.queues v.phases v.active g.shape (v2.purses a) k) (λ j has at. let no : IsCalled ≡ Builds k = sym (next j has).called ∙ at in cc) a j;
+      }
+
+      lineage-now : Lineage s (e ∷ h) u.stock v.registry v.maps v.gates v.phases g.gate
+      lineage-now =
+          let k = lineage-quiet s e h q v.stock v.registry v.maps v.gates v.phases g.gate i.lineage in record {
+            ids = returns.ids ∙ k.ids;
+            front = k.front;
+            gate_of = k.gate_of;
+            live = k.live;
+            leads = k.leads;
+            split = k.split;
+            divided = k.divided;
+            moved = k.moved;
+            later = k.later;
+            made = k.made;
+          }
+
+      holds : InvWith s v2 g2
+      holds = record {
+        numbering = numbering-now;
+        telling = telling;
+        owing = owing-now;
+        turning = turning-now;
+        stocking = returned-stocking s v g i n u.stock returns v2.purses v2.jobs mine off spent-now items-now new.elsewhere;
+        stamping = returned-stamping s v g i n u.stock returns v2.purses v2.jobs mine off spent-now items-now new.elsewhere;
+        lineage = lineage-now;
+        leading = i.leading;
+        growing = growing-grown s e h some v.blocks v.trees v.gates v.phases v.pins g.shape i.growing;
+        queueing = queueing-grown s e h some v.gates v.phases v.queues i.queueing;
+        resting = resting-quiet s e h q v.gates v.phases g.shape g.placed g.home i.resting;
+        placing = turned-placing n its command2 v.commands v2.commands turn plain plain_now s (e ∷ h) v.ways v.queues g.gate g.shape g.placed g.home g.path
+            (placing-quiet s e h q v.commands v.ways v.queues g.gate g.shape g.placed g.home g.path i.placing);
+        inserting = turned-inserting n its command2 v.commands v2.commands turn plain plain_now s (e ∷ h) v.images v.desks v.ways g.placed g.path
+            (inserting-quiet s e h q v.images v.desks v.commands v.ways g.placed g.path on-desks i.inserting);
+        imaging = imaging-quiet s e h q v.images g.placed older i.imaging;
+        covering = covering-quiet s e h q v.registry v.images g.placed g.home g.path older i.covering;
+        desking = turned-desking n its command2 v.commands v2.commands turn plain plain_now s (e ∷ h) v.desks v.roles v.taken (desking-quiet s e h q v.desks v.roles v.commands v.taken on-desks i.desking);
+        pinning = i.pinning;
+        querying = querying-quiet s e h q v.blocks v.trees v.desks v.taken v.reads g.shape g.placed g.home g.counted older (readers-older s h i.telling i.desking takes)
+            (reading-rows-older s h some g.placed g.home older v.blocks v.trees v.gates v.phases v.pins v.desks v.roles v.commands v.taken v.reads g.shape g.counted takes
+            (pinned-whole s v.tags v.numbers v.roles v.settings v.counted_in v.purses v.commands v.taken v.jobs v.gates v.phases v.pins v.reads i.numbering takes i.pinning) i.growing i.desking i.querying)
+            i.querying;
+        working = working-now;
+        balancing = balancing;
+      }
+
+      control-less : (left s w2 g2).control < (left s w g).control
+      control-less =
+          let control = control-changed s w w2 g n v2 same (λ a ne. actor-off w.actors n b a ne) (inl there) refl refl in
+          let was : control_at s v (w.actors n) ≡ of_work (control_of s) (Some its) + job_left s v (Some job) = (λ k. of_work (control_of s) (d.command k) + job_left s v (d.is_job k)) in
+          let now : control_at s v (w2.actors n) ≡ of_work (control_of s) command2 + job_left s v job2 = ap (control_at s v) actor-now in
+          omega (arith, control, was, now, less)
+
+      kept : IsKept s kind.Postpone n w w2 g
+      kept = record {
+        step = record { changes = c ∷ led ∷ []; actor = b; agrees = ag; does = d; sight = tt; now_is = refl };
+        ghost_now = g2;
+        holds = subst (λ (z : View). InvWith s z g2) (sym same) holds;
+        newer = e ∷ [];
+        grows = pushed.history_is;
+        goes_on = inl (inl control-less);
+      }
+
+    -- what every event of the actor's is noted by
+    noted : IsNotedBy e h n v.commands v2.commands v.jobs v2.jobs v.seen v2.seen
+    noted = record {
+      others = λ a ne. (turn.elsewhere a ne, new.elsewhere a ne, ap (λ (x : ActorValue). x.seen) (actor-off w.actors n b a ne));
+      all_seen = ap (λ (x : ActorValue). x.seen) actor-now ∙ pushed.all_seen ∙ ap length pushed.history_is;
+    }
+
+  -- A split or a move ends.
+
+  frozen-left : 1 ≤ stage_left s v job.stage
+  frozen-left = frozen-some s v job.stage d.frozen
+
+  ends : (call : Call) → call_at h d.of ≡ Some call → asks_page call ≡ false → MayEnd (site_in s) g.placed h d.of call how_is.Postponed → shows call how_is.Postponed ≡ false → owes d.work ≡ 2 → control_of s d.work ≡ 1
+      → Pushes (Ended d.of how_is.Postponed) 0 2 led b.seen → b ≡ record (w.actors n) { purse = []; seen = b.seen; command = None; job = None } → IsKept s kind.Postpone n w w2 g
+  ends call called pageless may unshown two one_left p is =
+      let e : Event = Ended d.of how_is.Postponed in
+      let right = KeepsRight-ended (site_in s) g.placed h d.of how_is.Postponed i.telling.right (record {
+        call = call;
+        called = called;
+        is_open = i.telling.is_open n its d.command;
+        may_end = may;
+        page = unasked s v g i n d.of call called pageless ∙ sym unshown;
+      }) in
+      let turned = turn e 2 None None refl p is in
+      let gone = new e 2 None None refl p is in
+      kept e 2 None None refl p is
+      (telling-ends s e h n v.commands u.commands v.jobs u.jobs v.roles v.seen u.seen g.placed (noted e 2 None None refl p is) right i.telling its refl d.command turned.is_there)
+      (omega (arith, two)) (omega arith) (λ j has. cc) (λ k has. cc)
+      (jobless-balancing n its v.commands u.commands turned (Some job) v.jobs u.jobs gone s (e ∷ h) g.placed g.home (balancing-quiet s e h refl v.commands v.jobs g.placed g.home began (λ a p k has. refl) i.balancing))
+      (let some = frozen-left in omega (arith, some, one_left))
+
+  -- A balance goes on.
+
+  module _ (balance : Balance) (works : d.work ≡ work_is.Balance balance) where
+    abbrev next : Balance
+    next = after_action false job balance
+
+    abbrev its_now : Command
+    its_now = record { of = d.of; work = work_is.Balance next }
+
+    abbrev left_as : Event
+    left_as = Left d.of job.shard how_is.Postponed
+
+    command-is : v.commands n ≡ Some (record { of = d.of; work = work_is.Balance balance })
+    command-is = d.command ∙ ap (doing d.of) works
+
+    bal : IsBalancing s h g.placed g.home (Some (begun job)) d.of balance
+    bal =
+        let k = i.balancing.balance n d.of balance command-is in record {
+          places = k.places;
+          readings = k.readings;
+          loads = k.loads;
+          each = k.each;
+          read = k.read;
+          still = k.still;
+          planned = k.planned;
+          from = k.from;
+          at_work = ap is_some (sym d.is_job) ∙ k.at_work;
+        }
+
+    is-next : next_job balance ≡ Some (begun job)
+    is-next = subst (λ (x : Work). IsJobOf x job) works its-job
+
+    calls : (call_at h d.of ≡ Some (call_is.Balance balance.most)) × (v.roles n ≡ Admin)
+    calls = subst (λ (x : Work). IsProgress s h d.of x (Some job) (v.roles n)) works progress
+
+    began-here : d.of < length h
+    began-here = began n its d.command
+
+    undeclined : (why : Decline) → IsCalled ≡ IsDeclined why → IsDeclinedFor s h g.placed d.of (begun job) why
+    undeclined why e = cc
+
+    balancing-on : (p : Pushes left_as 0 1 led b.seen) → b ≡ record (w.actors n) { purse = []; seen = b.seen; command = Some its_now; job = next_job next } → Balancing s (left_as ∷ h) u.commands u.jobs g.placed g.home
+    balancing-on p is =
+        let e = left_as in
+        let turned = turn e 1 (Some its_now) (next_job next) refl p is in
+        let news = new e 1 (Some its_now) (next_job next) refl p is in
+        let stays = stay e 1 (Some its_now) (next_job next) refl p is in
+        record {
+          balance = λ a r k has. on_bool (eqb a n)
+              (λ q.
+              let x = eqb-eq a n q in
+              let both : ◌≡◌ {A = Option Command} (Some its_now) (Some (record { of = r; work = work_is.Balance k })) = sym turned.is_there ∙ ap u.commands (sym x) ∙ has in
+              let same_of : d.of ≡ r = ap (λ (o : Option Command). option_map_or (λ (c : Command). c.of) o 0) both in
+              let same_work : work_is.Balance next ≡ work_is.Balance k = ap (λ (o : Option Command). option_map_or (λ (c : Command). c.work) o work_is.Query) both in
+              let same_balance : next ≡ k = cc in
+              subst (λ (j : Option JobValue). IsBalancing s (e ∷ h) g.placed g.home j r k) (sym (ap u.jobs x ∙ news.is_there))
+              (subst (λ (y : ℕ). IsBalancing s (e ∷ h) g.placed g.home (next_job next) y k) same_of
+              (subst (λ (y : Balance). IsBalancing s (e ∷ h) g.placed g.home (next_job next) d.of y) same_balance
+              (balancing-next s h g.placed g.home d.of balance (begun job) how_is.Postponed bal is-next refl undeclined began-here))))
+              (λ q.
+              let ne = eqb-ne a n q in
+              let was : v.commands a ≡ Some (record { of = r; work = work_is.Balance k }) = sym (turned.elsewhere a ne) ∙ has in
+              let other : number_in e ≢ Some r = (λ z. let mine : d.of ≡ r = cc in ne (only-its s h v.commands v.jobs v.roles v.seen g.placed i.telling n its d.command a _ was (sym mine))) in
+              subst (λ (j : Option JobValue). IsBalancing s (e ∷ h) g.placed g.home j r k) (sym (news.elsewhere a ne))
+              (one-balance-grown s e h stays g.placed g.home (v.jobs a) r k (le_of_lt (began a _ was)) (no-work e r other) (i.balancing.balance a r k was)));
+        }
+
+    control-falls : of_work (control_of s) (Some its_now) + job_left s v (next_job next) < of_work (control_of s) (Some its) + job_left s v (Some job)
+    control-falls =
+        let over = within s h g.placed g.home d.of balance (begun job) how_is.Postponed bal is-next refl undeclined began-here in
+        let nexts = next-is s h g.placed g.home d.of balance (begun job) how_is.Postponed bal is-next refl undeclined began-here in
+        let unit = 8 * plenty s in
+        let len = length over.0 in
+        let at = balance.over in
+        let was : control_of s d.work ≡ 1 + (len - (at + 1)) * unit = ap (control_of s) works ∙ ap (λ (p : Option (List Action)). 1 + actions_left s balance p) over.1 in
+        let now : control_of s (work_is.Balance next) ≡ 1 + (len - (at + 1 + 1)) * unit = ap (λ (p : Option (List Action)). 1 + actions_left s next p) over.1 in
+        let some_left = frozen-left in
+        let few = job-few s v (next_job next) (λ j is. (nexts j is).0) in
+        elim (cases_lt (at + 1) len) [
+          | inl more ↦
+              let one : len - (at + 1) ≡ suc (len - (at + 1 + 1)) = omega (arith, more) in
+              let sum : (len - (at + 1)) * unit ≡ (len - (at + 1 + 1)) * unit + unit = ap (λ (x : ℕ). x * unit) one ∙ suc-mul (len - (at + 1 + 1)) unit in
+              omega (arith, was, now, sum, few)
+          | inr last ↦
+              let one : len - (at + 1) ≡ len - (at + 1 + 1) = omega (arith, last) in
+              let same_left : (len - (at + 1)) * unit ≡ (len - (at + 1 + 1)) * unit = ap (λ (x : ℕ). x * unit) one in
+              let nothing : next_job next ≡ None =
+              ap (λ (p : Option (List Action)). option_map (job_for next.standing) (option_and_then (λ (xs : List Action). slice_get xs next.over) p)) over.1
+              ∙ ap (option_map (job_for next.standing)) (slice_get_past over.0 (at + 1) last) in
+              let none : job_left s v (next_job next) ≡ 0 = ap (job_left s v) nothing in
+              omega (arith, was, now, same_left, none, some_left)
+        ]
+
+    goes-on : Pushes left_as 0 1 led b.seen → b ≡ record (w.actors n) { purse = []; seen = b.seen; command = Some its_now; job = next_job next } → IsKept s kind.Postpone n w w2 g
+    goes-on p is =
+        let e = left_as in
+        let turned = turn e 1 (Some its_now) (next_job next) refl p is in
+        let news = new e 1 (Some its_now) (next_job next) refl p is in
+        let right = KeepsRight-left (site_in s) g.placed h d.of job.shard how_is.Postponed i.telling.right (record {
+          call = call_is.Balance balance.most;
+          called = calls.0;
+          is_open = i.telling.is_open n its d.command;
+          plans = tt;
+          may_leave = tt;
+        }) in
+        let stays = stay e 1 (Some its_now) (next_job next) refl p is in
+        let nexts = next-is s h g.placed g.home d.of balance (begun job) how_is.Postponed bal is-next refl undeclined began-here in
+        let over = within s h g.placed g.home d.of balance (begun job) how_is.Postponed bal is-next refl undeclined began-here in
+        let at = balance.over in
+        let len = length over.0 in
+        let owed : owed_by (Some its) ≡ balance.most + 1 - at = ap owes works in
+        let inside = over.2 in
+        let few = over.3 in
+        kept e 1 (Some its_now) (next_job next) refl p is
+        (telling-goes-on s e h n v.commands u.commands v.jobs u.jobs v.roles v.seen u.seen g.placed (noted e 1 (Some its_now) (next_job next) refl p is) right i.telling its its_now refl refl
+        (λ r has. let both : ◌≡◌ {A = Option ℕ} (Some d.of) (Some r) = has in let it : d.of ≡ r = cc in sym it) d.command turned.is_there refl
+        (call-kept e h d.of _ calls.0, calls.1))
+        (omega (arith, owed, inside, few)) (omega arith)
+        (λ j has. record { called = (nexts j has).0; whose = (its_now, refl, has ∙ (λ z. Some (record j { stage = (nexts j has).0 z }))); front = (nexts j has).1; to = (nexts j has).2 })
+        (λ k has. let it : its_now ≡ k = cc in subst (λ (x : Command). IsOffDesk x.work) it (record { no_insert = refl; off = refl }))
+        (balancing-on p is) control-falls
+
+  -- Each command that may have a job.
+
+  by-work : (work : Work) → d.work ≡ work → IsJobOf work job → IsProgress s h d.of work (Some job) (v.roles n) → GivesUp d.of work job led (w.actors n) b → IsKept s kind.Postpone n w w2 g
+  by-work (work_is.Split x) is of told f = ends (call_is.Split x) told.0 refl (sym told.2, told.1) refl (ap owes is) (ap (control_of s) is) f.0 f.1
+  by-work (work_is.Move x to) is of told f = ends (call_is.Move x to) told.0 refl (sym told.2, told.1) refl (ap owes is) (ap (control_of s) is) f.0 f.1
+  by-work (work_is.Balance balance) is of told f = goes-on balance is f.0 f.1
+  by-work (work_is.Insert row routed) is of told f = absurd of
+  by-work work_is.Query is of told f = absurd of
+  by-work (work_is.Sync server pulled) is of told f = absurd of
+  by-work work_is.Barrier is of told f = absurd of
+  by-work (work_is.Settle pulls) is of told f = absurd of
+  by-work (work_is.Shards shown) is of told f = absurd of
+  by-work (work_is.Tree x stands shown) is of told f = absurd of
+  by-work (work_is.Audit shown) is of told f = absurd of
+
+  pub postpone-kept : IsKept s kind.Postpone n w w2 g
+  postpone-kept = by-work d.work refl its-job progress d.gives_up
+
+pub postpone-keeps : (h : List Dimension) (c led : Change) (a b : ActorValue) (d : DoesPostpone c led a b) → Keeps h kind.Postpone (c ∷ led ∷ []) a b d
+postpone-keeps h c led a b d s w n g about i ag sight =
+    postpone-kept c led b s w n g i (record { cells = ag.cells; actor_is = refl; free = λ x ne. ag.free x ne }) (subst (λ (z : ActorValue). DoesPostpone c led z b) (sym ag.actor_is) d)
