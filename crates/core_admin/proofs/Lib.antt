@@ -13,6 +13,12 @@ pub mod Collecting
 pub mod SoFar
 pub mod CollectsBlocks
 pub mod CollectsRows
+pub mod Spends
+pub mod CollectsTrees
+pub mod CollectsHere
+pub mod RowLists
+pub mod BuildsHere
+pub mod MadeTrees
 mod JobsGoOn
 mod Untouched
 mod BuildsBlock
