@@ -4,3 +4,4 @@ mod BuildsBlock
 mod Returned
 mod TurnedCommands
 mod PostponesJob
+mod PostponeReady

@@ -7,4 +7,4 @@ mod collects;
 mod finishes;
 mod freezes;
 
-pub use builds::build_block;
+pub use builds::{build_block, postpone};
