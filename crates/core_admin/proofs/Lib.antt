@@ -5,3 +5,4 @@ mod Returned
 mod TurnedCommands
 mod PostponesJob
 mod PostponeReady
+mod Retiring
