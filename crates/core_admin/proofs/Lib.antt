@@ -6,3 +6,4 @@ mod TurnedCommands
 mod PostponesJob
 mod PostponeReady
 mod Retiring
+mod RetiringTrees

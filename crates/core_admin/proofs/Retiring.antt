@@ -3,11 +3,11 @@
 use Rattle.std.proofs.Common.{◌≡◌, ◌≢◌, ℕ, ◌+◌, ◌^◌, ◌<◌, ◌≤◌, Bool, true, false, cond, eqb, List, [], ◌∷◌, Option, Some, None, IsSome, refl, sym, ap, ◌∙◌, subst, ◌⊎◌, inl, inr, arith}
 use Rattle.std.proofs.lemmas.Bool.{false≢true}
 use Rattle.cell_stock.specs.Stock.{IsStock, cells_of}
-use Rattle.dim_hierarchy.specs.declared.row.Row.{Row}
+use Rattle.cell_stock.specs.declared.purse.Spare.{Spare}
 use Rattle.shard_store.specs.Gate.{IsQueueOf}
 use Rattle.shard_store.specs.declared.gate.Phase.TheVariants.{Frozen, Gone, Open}
-use Rattle.tree_shape.specs.Counts.{Each, times}
-use Rattle.tree_shape.specs.Shape.{Shape}
+use Rattle.tree_shape.specs.Counts.{Among, Each, times}
+use Rattle.tree_shape.specs.Shape.{Shape, nodes}
 use Rattle.tree_shape.specs.Trees.{IsTree}
 use Rattle.tree_shape.proofs.Walks.{on_bool, eqb-eq, eqb-ne, eqb-no, eqb-self}
 use Rattle.volap_cell.specs.Ghost.{AGate, Ghost, InJob, InPurse, InTree, NotOfStock, Owner, Unused, is_in_job, is_in_purse, is_in_tree, is_unused}
@@ -54,10 +54,13 @@ pub record Retiring (s : Setting) (v v2 : View) (g g2 : Ghost) (n : ℕ) : Type 
   pub gone_new : (c : ℕ) → new c ≡ true → v2.gone c ≡ []
   pub valid_new : (c : ℕ) → new c ≡ true → IsQueueOf s.hierarchy (v2.queues c)
   pub named_new : (c : ℕ) → new c ≡ true → Each (λ r. v.row r.no ≡ r) (v2.queues c).rows
+  -- there was no gate before
+  pub blank : (c : ℕ) → new c ≡ true → (v.active c ≡ 0) × (v.pins c ≡ 0)
   -- their trees
   pub tree_new : (c : ℕ) → new c ≡ true → IsTree (table_of s v.row) (cells_at v2.blocks v2.trees c) (g2.shape c)
   pub settled : (c r : ℕ) → new c ≡ true → (g2.shape c).carried r ≡ false
   pub inside_new : (c y : ℕ) → new c ≡ true → (g2.shape c).inside y ≡ true → y ≢ c → (g.owner y ≡ InJob n) × (built y ≡ c) × (v2.made y ≡ true)
+  pub leads : (c b l : ℕ) → new c ≡ true → (g2.shape c).inside b ≡ true → (g2.shape c).level b ≡ l + 1 → Each (λ e. (z : Spare) × Among z (spent_of (v.jobs n)) × (e.stamp ≡ z.stamp)) (nodes (cells_at v2.blocks v2.trees c) b).entries
   pub built_new : (y : ℕ) → g.owner y ≡ InJob n → (new (built y) ≡ true) × ((g2.shape (built y)).inside y ≡ true)
   -- all others
   pub gates_off : (c : ℕ) → new c ≡ false → v2.gates c ≡ v.gates c
