@@ -7,3 +7,5 @@ mod PostponesJob
 mod PostponeReady
 mod Retiring
 mod RetiringTrees
+mod MovedShards
+mod MovesLineage
