@@ -9,3 +9,4 @@ mod Retiring
 mod RetiringTrees
 mod MovedShards
 mod MovesLineage
+mod MovedKnown
