@@ -10,3 +10,5 @@ mod RetiringTrees
 mod MovedShards
 mod MovesLineage
 mod MovedKnown
+mod MovesRows
+mod FinishedCommands
