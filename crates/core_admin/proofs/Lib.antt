@@ -12,3 +12,6 @@ mod MovesLineage
 mod MovedKnown
 mod MovesRows
 mod FinishedCommands
+mod BalanceDone
+mod RetiringLeft
+mod MoveCells
