@@ -15,3 +15,4 @@ mod FinishedCommands
 mod BalanceDone
 mod RetiringLeft
 mod MoveCells
+mod MovesShard
