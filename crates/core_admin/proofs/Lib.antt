@@ -16,3 +16,4 @@ mod BalanceDone
 mod RetiringLeft
 mod MoveCells
 mod MovesShard
+mod MoveTree
