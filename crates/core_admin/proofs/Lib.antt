@@ -17,3 +17,4 @@ mod RetiringLeft
 mod MoveCells
 mod MovesShard
 mod MoveTree
+mod FinishesMove

@@ -66,7 +66,7 @@ among-numbers x (y ∷ rows) m = elim m [
 ]
 
 -- a cell among those of blocks has one of them
-fresh-at : (y : ℕ) (fs : List Fresh) → 1 ≤ times y (filled_cells fs) → (f : Fresh) × Among f fs × (f.cell ≡ y)
+pub fresh-at : (y : ℕ) (fs : List Fresh) → 1 ≤ times y (filled_cells fs) → (f : Fresh) × Among f fs × (f.cell ≡ y)
 fresh-at y [] some = absurd (omega (arith, some))
 fresh-at y (f ∷ fs) some = (let later = fresh-at y fs in on_bool (eqb y f.cell)
     (λ q. (f, inl refl, sym (eqb-eq y f.cell q)))

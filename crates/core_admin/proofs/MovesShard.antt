@@ -34,7 +34,7 @@ use Rattle.tree_shape.proofs.Parts.{among-right, each-append, each-here, each-le
 use Rattle.tree_shape.proofs.Visits.{times-append}
 use Rattle.tree_shape.proofs.Walks.{on_bool, eqb-eq, eqb-ne, eqb-no, eqb-self, same_is}
 use Rattle.volap_cell.specs.AdminKinds.{DoesFinishMove, Finishes, IsBuiltOf, PushesBoth, spent_by, spent_in, tree_of}
-use Rattle.volap_cell.specs.Cells.{BlockCell, CellValue, DeskCell, FreeCell, GateCell, ImageCell, LedgerCell, MapCell, MapOf, OfStock, RegistryCell, StockCell, Tag, TheLedger, TheRegistry, TheStock, active_in, block_in, gate_shard, gone_in, has_block, phase_of, pins_in, queue_in, registry_in, stock_in, tag_of, way_in, way_to_tree, where_in}
+use Rattle.volap_cell.specs.Cells.{BlockCell, CellValue, DeskCell, FreeCell, GateCell, ImageCell, LedgerCell, MapCell, MapOf, OfStock, RegistryCell, StockCell, Tag, TheLedger, TheRegistry, TheStock, active_in, block_in, gate_shard, gone_in, has_block, ledger_in, phase_of, pins_in, queue_in, registry_in, stock_in, tag_of, way_in, way_to_tree, where_in}
 use Rattle.volap_cell.specs.Ghost.{AGate, Ghost, InJob, InPurse, InTree}
 use Rattle.volap_cell.specs.Growing.{table_of}
 use Rattle.volap_cell.specs.ImageKinds.{Pushes}
@@ -48,8 +48,9 @@ use Rattle.volap_cell.specs.World.{Agrees, Change, World, after}
 use Rattle.volap_cell.specs.declared.command.Work.{Work}
 use Rattle.volap_cell.specs.declared.command.Work.TheVariants as work_is
 use Rattle.volap_cell.proofs.Blanks.{spare-owner, spent-owner}
+use Rattle.volap_cell.proofs.Fields.{IsNew}
 use Rattle.volap_cell.proofs.Frames.{AreAt}
-use Rattle.volap_cell.proofs.Numbers.{at-registry, at-stock, tag-registry, tag-stock}
+use Rattle.volap_cell.proofs.Numbers.{at-ledger, tag-ledger, at-registry, at-stock, tag-registry, tag-stock}
 use Rattle.volap_cell.proofs.Spares.{among-cells, move-blank}
 use Rattle.volap_cell.proofs.Touches.{IsBlank, turned}
 use Rattle.core_admin.proofs.BuildsBlock.{among-spent}
@@ -222,6 +223,24 @@ module _ (maps : List Change) (x gc reg c led : Change) (b : ActorValue) (s : Se
       ))
       (one-right stock_cell maps rest (inr (inr (inr (inl number))))) in
       (ap (λ (y : ℕ). stock_in (w.cells y)) (sym number) ∙ ap stock_in (right.1.1.1.0 ∙ d.turns_stock.was), ap stock_in now)
+
+  pub ledger-now : (lv lv2 : LedgerValue) → led.before ≡ LedgerCell lv → led.now ≡ LedgerCell lv2 → IsNew (ledger_in (w2.cells ledger_cell)) (ledger_in (w.cells ledger_cell)) lv lv2
+  ledger-now lv lv2 was is =
+      let number = at-ledger s w.cells i.numbering.tag led.number lv (right.1.1.1.1.0 ∙ was) in
+      let tag : tag_of (w.cells ledger_cell) ≡ TheLedger = i.numbering.tag ledger_cell ∙ tag-ledger s in
+      let now = put-is cs w.cells ledger_cell (LedgerCell lv2)
+      (each-append (λ (e : Change). e.number ≡ ledger_cell → e.now ≡ LedgerCell lv2) maps rest (maps-off ledger_cell TheLedger (LedgerCell lv2) tag (λ k e. cc)) (
+        (λ e. absurd (clash x ledger_cell OfStock TheLedger right.0 (ap tag_of d.turns.was) tag (λ k. cc) e)),
+        (
+          (λ e. absurd (clash gc ledger_cell OfStock TheLedger right.1.0 blank.tag tag (λ k. cc) e)),
+          (
+            (λ e. absurd (clash reg ledger_cell TheRegistry TheLedger right.1.1.0 (ap tag_of d.registry_was) tag (λ k. cc) e)),
+            ((λ e. absurd (clash c ledger_cell TheStock TheLedger right.1.1.1.0 (ap tag_of d.turns_stock.was) tag (λ k. cc) e)), ((λ e. is), tt)),
+          ),
+        ),
+      ))
+      (one-right ledger_cell maps rest (inr (inr (inr (inr (inl number)))))) in
+      record { was_that = ap (λ (y : ℕ). ledger_in (w.cells y)) (sym number) ∙ ap ledger_in (right.1.1.1.1.0 ∙ was); is_that = ap ledger_in now }
 
   -- everywhere but at the new gate, what a table, the registry, the stock and the ledger don't tell is as before
   pub kept : {A : Type 0} (f : CellValue → A) → ((worker : ℕ) (t t2 : FinMap nat_cmp Where) → f (MapCell worker t) ≡ f (MapCell worker t2)) → ((r r2 : RegistryValue) → f (RegistryCell r) ≡ f (RegistryCell r2)) → ((k k2 : StockValue) → f (StockCell k) ≡ f (StockCell k2))
