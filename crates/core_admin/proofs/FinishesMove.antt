@@ -1,5 +1,5 @@
 -- A move comes to its end: that keeps the invariant, and less is left.
-use Rattle.std.proofs.Common.{◌≡◌, ◌≢◌, ℕ, zero, suc, ◌+◌, ◌-◌, ◌*◌, ◌<◌, ◌≤◌, ◌^◌, Bool, true, false, cond, eqb, List, [], ◌∷◌, ◌++◌, length, map, take, drop, Option, Some, None, IsSome, is_some, slice_get, slice_set, refl, sym, ap, ◌∙◌, subst, ◌⊎◌, inl, inr, arith, le_of_lt, option_map, option_and_then, suc-mul}
+use Rattle.std.proofs.Common.{◌≡◌, ◌≢◌, ℕ, zero, suc, ◌+◌, ◌-◌, ◌*◌, ◌<◌, ◌≤◌, ◌^◌, Bool, true, false, cond, eqb, List, [], ◌∷◌, ◌++◌, length, map, take, drop, Option, Some, None, IsSome, is_some, slice_get, slice_set, refl, sym, ap, ◌∙◌, subst, ◌⊎◌, inl, inr, arith, le_of_lt, option_map, option_and_then, suc-mul, eq-eqb}
 use Rattle.std.specs.List.{AllZip, list_any}
 use Rattle.std.specs.Option.{option_map_or}
 use Rattle.std.specs.Prelude.{◌==◌, IsTrue}
@@ -22,7 +22,7 @@ use Rattle.row_ledger.specs.Laws.{AscendFrom}
 use Rattle.row_ledger.specs.Listings.{places_of}
 use Rattle.row_ledger.specs.Past.{Step, before, call_at, work}
 use Rattle.row_ledger.specs.Right.{EachEvent, KeepsRight, MayEnd, Stands}
-use Rattle.row_ledger.specs.Shards.{frontier, is_on}
+use Rattle.row_ledger.specs.Shards.{frontier, is_live, is_on}
 use Rattle.row_ledger.specs.Work.{DidOnly, is_known}
 use Rattle.row_ledger.specs.declared.event.Event.{Event}
 use Rattle.row_ledger.specs.declared.event.Event.TheVariants.{Ended, Moved}
@@ -38,16 +38,18 @@ use Rattle.shard_plan.specs.declared.action.Action.TheVariants as action
 use Rattle.shard_plan.specs.declared.action.Load.{Load}
 use Rattle.shard_store.specs.Gate.{IsQueueOf}
 use Rattle.shard_store.specs.declared.gate.Gate.{Gate}
+use Rattle.shard_store.specs.declared.gate.Phase.TheVariants.{Frozen, Gone}
 use Rattle.tree_shape.specs.Counts.{Among, Each, same, times}
 use Rattle.tree_shape.specs.Laws.{CollectEndLaw, OtherLaw}
 use Rattle.tree_shape.specs.Shape.{Shape, nodes, numbers}
 use Rattle.tree_shape.specs.Trees.{IsTree}
 use Rattle.tree_shape.proofs.Visits.{times-append}
 use Rattle.tree_shape.proofs.Walks.{on_bool, eqb-eq, eqb-ne, eqb-no, eqb-self, same_is, same_not}
-use Rattle.volap_cell.specs.AdminKinds.{DoesFinishMove, Finishes}
-use Rattle.volap_cell.specs.Cells.{BlockCell, CellValue, DeskCell, FreeCell, GateCell, ImageCell, LedgerCell, MapCell, OfStock, RegistryCell, StockCell, active_in, block_in, gate_shard, gone_in, has_block, phase_of, pins_in, queue_in, tag_of, way_in, way_to_tree}
+use Rattle.volap_cell.specs.AdminKinds.{DoesFinishMove, Finishes, PushesBoth}
+use Rattle.volap_cell.specs.Cells.{BlockCell, CellValue, DeskCell, FreeCell, GateCell, ImageCell, LedgerCell, MapCell, OfStock, RegistryCell, StockCell, active_in, block_in, gate_shard, gone_in, has_block, ledger_in, phase_of, pins_in, queue_in, tag_of, way_in, way_to_tree}
 use Rattle.volap_cell.specs.Commands.{after_action, owes}
 use Rattle.volap_cell.specs.Falls.{actions_left, control_of, job_left, left, of_work, plenty, stage_left}
+use Rattle.volap_cell.specs.Errands.{ReadPart}
 use Rattle.volap_cell.specs.Ghost.{AGate, Ghost, InJob, InPurse, InTree, Owner, is_in_job}
 use Rattle.volap_cell.specs.Growing.{Growing, Queueing, table_of}
 use Rattle.volap_cell.specs.ImageKinds.{doing}
@@ -60,13 +62,13 @@ use Rattle.volap_cell.specs.Desking.{Desking}
 use Rattle.volap_cell.specs.Owing.{Owing, owed_by}
 use Rattle.volap_cell.specs.Telling.{IsProgress, Telling}
 use Rattle.volap_cell.specs.Planning.{job_for, next_job}
-use Rattle.volap_cell.specs.Querying.{Querying}
-use Rattle.volap_cell.specs.Setting.{Setting, actor_count, cell_count, site_in}
+use Rattle.volap_cell.specs.Querying.{IsInTreeOf, Querying}
+use Rattle.volap_cell.specs.Setting.{Setting, actor_count, cell_count, ledger_cell, site_in}
 use Rattle.volap_cell.specs.Steps.{IsKept, history_in}
 use Rattle.volap_cell.specs.Stocking.{IsWhole, cells_at, items_of_job, spent_of}
 use Rattle.volap_cell.specs.Values.{ActorValue, JobValue, IsCalled}
 use Rattle.volap_cell.specs.View.{View, row_at, view}
-use Rattle.volap_cell.specs.Working.{Balancing, IsBalancing, IsJobOf, begun}
+use Rattle.volap_cell.specs.Working.{Balancing, IsBalancing, IsJobOf, action_of, action_to, begun}
 use Rattle.volap_cell.specs.World.{Agrees, Change, World, after}
 use Rattle.volap_cell.specs.declared.command.Balance.{Balance}
 use Rattle.volap_cell.specs.declared.command.Command.{Command}
@@ -75,9 +77,17 @@ use Rattle.volap_cell.specs.declared.command.Work.TheVariants as work_is
 use Rattle.volap_cell.specs.declared.role.Role.TheVariants.{Admin}
 use Rattle.volap_cell.proofs.AdminViews.{by_finish, view-finish_move}
 use Rattle.volap_cell.proofs.Frames.{actor-at, actor-off, each-among}
-use Rattle.volap_cell.proofs.Fields.{IsNewAt}
-use Rattle.volap_cell.proofs.GrowsReads.{pinned-whole, readers-take}
+use Rattle.volap_cell.proofs.Fields.{IsNew, IsNewAt, IsPushed, pushed-new}
+use Rattle.volap_cell.proofs.GrowsReads.{ReadersTake, pinned-whole, readers-take, reading-rows-older}
 use Rattle.volap_cell.proofs.Persons.{has-command}
+use Rattle.volap_cell.proofs.Grows.{call-kept, query-same}
+use Rattle.volap_cell.proofs.GrowsKnown.{AreOlder, older-rows}
+use Rattle.volap_cell.proofs.GrowsTold.{commands-older, no-work}
+use Rattle.volap_cell.proofs.GrowsTrees.{growing-grown, past-there, queueing-grown}
+use Rattle.volap_cell.proofs.NotedCommands.{telling-goes-on}
+use Rattle.volap_cell.proofs.QuietHistory.{covering-quiet, desking-quiet, desks-older, imaging-quiet, inserting-quiet, lineage-quiet, placing-quiet, querying-quiet, readers-older, resting-quiet}
+use Rattle.core_image.proofs.Endings.{unasked}
+use Rattle.core_image.proofs.Owed.{owed-others, promises-now}
 use Rattle.volap_cell.proofs.Seen.{renewed}
 use Rattle.volap_cell.proofs.Spares.{move-blank}
 use Rattle.core_image.proofs.Jobs.{items-new, spent-new}
@@ -86,7 +96,7 @@ use Rattle.core_admin.proofs.MovedKnown.{IsSameBox, rows, moved-covering, moved-
 use Rattle.core_admin.proofs.MovedShards.{moved_place, rehosted}
 use Rattle.core_admin.proofs.MovesLineage.{Moving, live-same, moved-leading, moved-lineage, on-now, on-same}
 use Rattle.core_admin.proofs.MovesRows.{moved-placing, moved-resting, moved-turning, moved_ghost}
-use Rattle.core_admin.proofs.MovesShard.{gc-now, kept, moved-tables, registry-now, stock-now, x-now}
+use Rattle.core_admin.proofs.MovesShard.{gc-now, ledger-now, kept, moved-tables, registry-now, stock-now, x-now}
 use Rattle.core_admin.proofs.FinishedCommands.{numbering-next, telling-finished, working-next}
 use Rattle.core_admin.proofs.PostponesJob.{IsNextOf, job-few, off-desk}
 use Rattle.core_admin.proofs.TurnedCommands.{IsOffDesk, turned-desking, turned-inserting, turned-placing}
@@ -445,3 +455,132 @@ module _ (maps : List Change) (x gc reg c led : Change) (b : ActorValue) (s : Se
           falls = control-retired s w w2 v2 g g2 n i retiring same (λ a ne. actor-off w.actors n b a ne) (Some its) command2 d.job job2 d.building d.command (ap (λ (a : ActorValue). a.command) actor-now) d.has.is_job
               (ap (λ (a : ActorValue). a.job) actor-now) d.has.stage_is d.in_cells less;
         }
+
+  -- A command of one action ends with the move.
+
+  live : is_live s.workers h shard ≡ true
+  live = (i.lineage.live o shard (is-gate maps x gc reg c led b s w n g i ag d) (λ gone. let no : Some (Frozen (was maps x gc reg c led b s w n g i ag d).upto) ≡ Some Gone = sym (phase-here maps x gc reg c led b s w n g i ag d) ∙ gone in cc)).0
+
+  progress : IsProgress s h d.of d.work (Some d.job) (v.roles n)
+  progress = subst (λ (j : Option JobValue). IsProgress s h d.of d.work j (v.roles n)) d.has.is_job (i.telling.progress n its-command d.command)
+
+  there : n < actor_count s
+  there = has-command s v i.numbering n its-command d.command
+
+  began : (a : ℕ) (k : Command) → v.commands a ≡ Some k → k.of < length h
+  began = commands-older s h i.telling
+
+  its-action : action_of d.job ≡ action.Move shard d.to
+  its-action = ap (action_to shard) d.to_is
+
+  module _ (is : b ≡ record (w.actors n) { purse = []; seen = b.seen; command = None; job = None }) (p : PushesBoth e (Ended d.of how_is.Fine) led b.seen) (is_move : d.work ≡ work_is.Move shard d.to) where
+    abbrev f : Event
+    f = Ended d.of how_is.Fine
+
+    abbrev history : List Event
+    history = f ∷ e ∷ h
+
+    news : IsNew (ledger_in (w2.cells ledger_cell)) (ledger_in (w.cells ledger_cell)) p.ledger p.ledger_now
+    news = ledger-now maps x gc reg c led b s w n g i ag d p.ledger p.ledger_now p.was p.is
+
+    hist : u.history ≡ history
+    hist = ap (λ (l : LedgerValue). l.history) news.is_that ∙ p.history ∙ sym (ap (λ (l : LedgerValue). f ∷ e ∷ l.history) news.was_that)
+
+    promised : v.promised ≡ u.promised + 2
+    promised = ap (λ (l : LedgerValue). l.promised) news.was_that ∙ p.promised ∙ sym (ap (λ (l : LedgerValue). l.promised + 2) news.is_that)
+
+    told : (call_at h d.of ≡ Some (call_is.Move shard d.to)) × (work h d.of ≡ []) × (true ≡ is_known (site_in s) (before h d.of) (action.Move shard d.to))
+    told = subst (λ (k : Work). IsProgress s h d.of k (Some d.job) (v.roles n)) is_move progress
+
+    right-moved : KeepsRight (site_in s) g.placed (e ∷ h)
+    right-moved = KeepsRight-moved (site_in s) g.placed h d.of shard d.to i.telling.right (record {
+      call = call_is.Move shard d.to;
+      called = told.0;
+      is_open = i.telling.is_open n its-command d.command;
+      asked = (refl, refl, told.1);
+      live = live;
+    })
+
+    worked : work (e ∷ h) d.of ≡ record { event = e; past = h } ∷ []
+    worked = rw (eq-eqb d.of d.of refl) (ap (λ (k : List Step). record { event = e; past = h } ∷ k) told.1)
+
+    right : KeepsRight (site_in s) g.placed history
+    right = KeepsRight-ended (site_in s) g.placed (e ∷ h) d.of how_is.Fine right-moved (record {
+      call = call_is.Move shard d.to;
+      called = call-kept e h d.of _ told.0;
+      is_open = i.telling.is_open n its-command d.command;
+      may_end = (
+        ap (λ (past : List Event). is_known (site_in s) past (action.Move shard d.to)) (before-older e h d.of (le_of_lt (began n its-command d.command))) ∙ sym told.2,
+        subst (DidOnly (action.Move shard d.to)) (sym worked) (refl, refl),
+      );
+      page = unasked s v g i n d.of (call_is.Move shard d.to) told.0 refl;
+    })
+
+    no-job : (j : JobValue) → ◌≡◌ {A = Option JobValue} None (Some j) → j.stage ≡ IsCalled
+    no-job j k = cc
+
+    turned : IsNewAt u.commands v.commands n (Some its-command) None
+    turned = turn history None None is no-job
+
+    gone : IsNewAt u.jobs v.jobs n (Some d.job) None
+    gone = new history None None is no-job
+
+    some : 0 < length (e ∷ h)
+    some = omega arith
+
+    placing : Placing s (e ∷ h) v.commands v.ways u.queues gate2 shape2 g.placed g.home g.path
+    placing = placing-1 history None None is no-job
+
+    older : AreOlder (e ∷ h) g.placed
+    older = older-rows s (e ∷ h) placing
+
+    on-desks : (server k : ℕ) → server < s.servers → (v.desks server).op ≡ Some k → k < length (e ∷ h)
+    on-desks server k within op = (let lt = desks-older s h i.telling i.desking server k within op in omega (arith, lt))
+
+    takes : ReadersTake v.taken v.reads
+    takes = readers-take s w
+
+    owing : Owing s history u.promised v.images v.desks v.roles u.commands v.counted_in
+    owing =
+        let two : owes d.work ≡ 2 = ap owes is_move in record {
+          promises = promises-now (actor_count s) n there v.commands u.commands (Some its-command) None turned v.promised u.promised 0 2 (omega (arith, promised)) (omega (arith, two)) i.owing.promises;
+          few = (let few = i.owing.few in omega (arith, promised, few));
+          image = λ k lt. i.owing.image k lt ∙ sym (owed-others (actor_count s) n there v.commands u.commands (Some its-command) None turned v.roles (off-desk d.work d.job its-work).no_insert refl k);
+          sessions = i.owing.sessions;
+        }
+
+    pub ends-with : IsFinished s w w2 g
+    ends-with =
+        let shapes : (a k : ℕ) (q : ReadPart) → v.reads a ≡ Some q → q.reading.pin ≡ Some k → shape2 k ≡ g.shape k = λ a k q has pin.
+        (retiring history None None is no-job).shape_off k (gate-is-old history None None is no-job k (subst IsSome (sym (i.pinning.shard a k q has pin)) refl)) in
+        together history None None is no-job (f ∷ e ∷ []) refl hist
+        (telling-finished s h v.commands u.commands v.jobs u.jobs v.roles v.seen u.seen g.placed i.telling n its-command e how_is.Fine turned gone.elsewhere (seen-off history None None is no-job) refl refl refl refl refl right
+        (ap (λ (a : ActorValue). a.seen) (actor-now history None None is no-job) ∙ p.all_seen ∙ ap length p.history ∙ sym (ap length (ap (λ (l : LedgerValue). f ∷ e ∷ l.history) news.was_that))))
+        owing
+        (lineage-quiet s f (e ∷ h) refl u.stock u.registry u.maps u.gates u.phases gate2 (lineage-1 history None None is no-job))
+        (growing-grown s f (e ∷ h) some u.blocks u.trees u.gates u.phases u.pins shape2 (growing-1 history None None is no-job))
+        (queueing-grown s f (e ∷ h) some u.gates u.phases u.queues (queueing-1 history None None is no-job))
+        (resting-quiet s f (e ∷ h) refl u.gates u.phases shape2 g.placed g.home (resting-1 history None None is no-job))
+        (placing-quiet s f (e ∷ h) refl v.commands v.ways u.queues gate2 shape2 g.placed g.home g.path placing)
+        (inserting-quiet s f (e ∷ h) refl v.images v.desks v.commands v.ways g.placed g.path on-desks (moved-inserting s w g i d.of shard d.to))
+        (imaging-quiet s f (e ∷ h) refl v.images g.placed older (imaging-1 history None None is no-job))
+        (covering-quiet s f (e ∷ h) refl u.registry v.images g.placed g.home g.path older (covering-1 history None None is no-job))
+        (desking-quiet s f (e ∷ h) refl v.desks v.roles v.commands v.taken on-desks (moved-desking s w g i d.of shard d.to))
+        (querying-quiet s f (e ∷ h) refl u.blocks u.trees v.desks v.taken v.reads shape2 g.placed g.home g.counted older
+        (λ server k known op. let lt = readers-older s h i.telling i.desking takes server k known op in omega (arith, lt))
+        (λ a k q r has op asked m known. let lt = reading-rows-older s h (past-there s g.placed h i.numbering.setting i.telling.right) g.placed g.home (older-rows s h i.placing) v.blocks v.trees v.gates v.phases v.pins v.desks v.roles v.commands v.taken v.reads g.shape g.counted takes
+        (pinned-whole s v.tags v.numbers v.roles v.settings v.counted_in v.purses v.commands v.taken v.jobs v.gates v.phases v.pins v.reads i.numbering takes i.pinning) i.growing i.desking i.querying
+        a k q r has op (sym (query-same e h refl k) ∙ asked) m (elim known [ inl one ↦ inl one | inr in_tree ↦ inr (in-old r.reading.pin (λ z pin. shapes a z r has pin) m in_tree) ]) in omega (arith, lt))
+        (querying-1 history None None is no-job))
+        (record { balance = λ a k q has. absurd (none-now a k q has) })
+        (λ j k. cc) (λ j k. cc)
+        (let one : control_of s d.work ≡ 1 = ap (control_of s) is_move in omega (arith, one))
+      where
+        none-now : (a k : ℕ) (q : Balance) → u.commands a ≡ Some (record { of = k; work = work_is.Balance q }) → ⊥
+        none-now a k q has = on_bool (eqb a n)
+            (λ z. let no : ◌≡◌ {A = Option Command} None (Some (record { of = k; work = work_is.Balance q })) = sym turned.is_there ∙ ap u.commands (sym (eqb-eq a n z)) ∙ has in cc)
+            (λ z. let ne = eqb-ne a n z in ne (only-balance history None None is no-job a k q (sym (turned.elsewhere a ne) ∙ has)))
+
+        in-old : (pin : Option ℕ) → ((z : ℕ) → pin ≡ Some z → shape2 z ≡ g.shape z) → (m : ℕ) → IsInTreeOf shape2 pin m → IsInTreeOf g.shape pin m
+        in-old None same m k = k
+        in-old (Some z) same m k = subst (λ (t : Shape). t.placed m ≡ true) (same z refl) k
