@@ -25,3 +25,17 @@ mod BuildsBlock
 mod Returned
 mod TurnedCommands
 mod PostponesJob
+mod PostponeReady
+mod Retiring
+mod RetiringTrees
+mod MovedShards
+mod MovesLineage
+mod MovedKnown
+mod MovesRows
+mod FinishedCommands
+mod BalanceDone
+mod RetiringLeft
+mod MoveCells
+mod MovesShard
+mod MoveTree
+mod FinishesMove

@@ -74,7 +74,7 @@ use Rattle.core_admin.proofs.Returned.{Returns, gives-returns, returned, returne
 use Rattle.core_admin.proofs.TurnedCommands.{IsOffDesk, turned-desking, turned-inserting, turned-placing}
 
 -- the command asks for a job: it is a split, a move or a balance
-off-desk : (work : Work) (job : JobValue) → IsJobOf work job → IsOffDesk work
+pub off-desk : (work : Work) (job : JobValue) → IsJobOf work job → IsOffDesk work
 off-desk (work_is.Split x) job is = record { no_insert = refl; off = refl }
 off-desk (work_is.Move x to) job is = record { no_insert = refl; off = refl }
 off-desk (work_is.Balance b) job is = record { no_insert = refl; off = refl }
@@ -87,7 +87,7 @@ off-desk (work_is.Shards shown) job is = absurd is
 off-desk (work_is.Tree x stands shown) job is = absurd is
 off-desk (work_is.Audit shown) job is = absurd is
 
-none-insert : (command : Option Command) → ((k : Command) → command ≡ Some k → is_insert_work k.work ≡ false) → is_insert command ≡ false
+pub none-insert : (command : Option Command) → ((k : Command) → command ≡ Some k → is_insert_work k.work ≡ false) → is_insert command ≡ false
 none-insert None none = refl
 none-insert (Some k) none = none k refl
 
@@ -100,7 +100,7 @@ frozen-some s v (Collects c) frozen = omega arith
 frozen-some s v (Builds b) frozen = omega arith
 
 -- a job at its beginning leaves so much
-job-few : (s : Setting) (v : View) (job : Option JobValue) → ((j : JobValue) → job ≡ Some j → j.stage ≡ IsCalled) → job_left s v job ≤ 6 * plenty s
+pub job-few : (s : Setting) (v : View) (job : Option JobValue) → ((j : JobValue) → job ≡ Some j → j.stage ≡ IsCalled) → job_left s v job ≤ 6 * plenty s
 job-few s v None called = omega arith
 job-few s v (Some j) called = (let at : job_left s v (Some j) ≡ 6 * plenty s = ap (stage_left s v) (called j refl) in omega (arith, at))
 

@@ -12,3 +12,4 @@ pub use builds::build_block;
 pub use collects::{collect_block, collect_row};
 pub use freezes::{drained, freeze};
 pub use trees::build_trees;
+pub use builds::{build_block, postpone};
