@@ -18,3 +18,4 @@ mod MoveCells
 mod MovesShard
 mod MoveTree
 mod FinishesMove
+mod NextJobs
