@@ -19,3 +19,4 @@ mod MovesShard
 mod MoveTree
 mod FinishesMove
 mod NextJobs
+mod SplitKnown
