@@ -163,7 +163,7 @@ same-boxes to zero (z ∷ zs) spot is = (let both : ◌≡◌ {A = Option Spot} 
 same-boxes to (suc k) (z ∷ zs) spot is = ((refl, refl), same-boxes to k zs spot is)
 
 module _ (maps : List Change) (x gc reg c led : Change) (b : ActorValue) (s : Setting) (w : World) (n : ℕ) (g : Ghost) (i : InvWith s (view s w) g) (ag : Agrees w (maps ++ x ∷ gc ∷ reg ∷ c ∷ led ∷ []) n (w.actors n)) (d : DoesFinishMove s.hierarchy maps x gc reg c led (w.actors n) b)
-    (other : OtherLaw) (ends : CollectEndLaw) (valid : IsQueueOf s.hierarchy d.gate_now.queue) (named : Each (λ (r : Row). (view s w).row r.no ≡ r) (was maps x gc reg c led b s w n g i ag d).at_blocks) where
+    (other : OtherLaw) (ends : CollectEndLaw) (named : Each (λ (r : Row). (view s w).row r.no ≡ r) (was maps x gc reg c led b s w n g i ag d).at_blocks) where
   abbrev v : View
   v = view s w
 
@@ -278,7 +278,7 @@ module _ (maps : List Change) (x gc reg c led : Change) (b : ActorValue) (s : Se
       drained = (was maps x gc reg c led b s w n g i ag d).drained;
       phase_x = ap phase_of old-now ∙ ap (λ (k : Gate). Some k.phase) d.retires.now;
       queue_x = ap (λ (k : CellValue). (queue_in k).rows) old-now ∙ d.retires.empty;
-      valid_x = subst (IsQueueOf s.hierarchy) (sym (ap queue_in old-now)) valid;
+      valid_x = subst (IsQueueOf s.hierarchy) (sym (ap queue_in old-now)) d.retires.valid;
       read_x = λ z. ap (times z) (ap gone_in old-now ∙ ap (λ (k : Gate). k.gone) d.retires.now) ∙ (read maps x gc reg c led b s w n g i ag d ends named).blocks z;
       purse_cell = λ z q. ap g.owner (eqb-eq z y q) ∙ owner-gc maps x gc reg c led b s w n g i ag d;
       gate_new = λ z q. ap u.gates (eqb-eq z y q) ∙ ap gate_shard gate-now ∙ ap Some d.new_is.shard_is;
