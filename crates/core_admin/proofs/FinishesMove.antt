@@ -163,7 +163,7 @@ same-boxes to zero (z ∷ zs) spot is = (let both : ◌≡◌ {A = Option Spot} 
 same-boxes to (suc k) (z ∷ zs) spot is = ((refl, refl), same-boxes to k zs spot is)
 
 module _ (maps : List Change) (x gc reg c led : Change) (b : ActorValue) (s : Setting) (w : World) (n : ℕ) (g : Ghost) (i : InvWith s (view s w) g) (ag : Agrees w (maps ++ x ∷ gc ∷ reg ∷ c ∷ led ∷ []) n (w.actors n)) (d : DoesFinishMove s.hierarchy maps x gc reg c led (w.actors n) b)
-    (other : OtherLaw) (ends : CollectEndLaw) (named : Each (λ (r : Row). (view s w).row r.no ≡ r) (was maps x gc reg c led b s w n g i ag d).at_blocks) where
+    (other : OtherLaw) (ends : CollectEndLaw) where
   abbrev v : View
   v = view s w
 
@@ -189,7 +189,7 @@ module _ (maps : List Change) (x gc reg c led : Change) (b : ActorValue) (s : Se
   e = Moved d.of shard d.to
 
   abbrev its-shape : Shape
-  its-shape = (law maps x gc reg c led b s w n g i ag d ends named).shape
+  its-shape = (law maps x gc reg c led b s w n g i ag d ends).shape
 
   abbrev its-command : Command
   its-command = record { of = d.of; work = d.work }
@@ -279,7 +279,7 @@ module _ (maps : List Change) (x gc reg c led : Change) (b : ActorValue) (s : Se
       phase_x = ap phase_of old-now ∙ ap (λ (k : Gate). Some k.phase) d.retires.now;
       queue_x = ap (λ (k : CellValue). (queue_in k).rows) old-now ∙ d.retires.empty;
       valid_x = subst (IsQueueOf s.hierarchy) (sym (ap queue_in old-now)) d.retires.valid;
-      read_x = λ z. ap (times z) (ap gone_in old-now ∙ ap (λ (k : Gate). k.gone) d.retires.now) ∙ (read maps x gc reg c led b s w n g i ag d ends named).blocks z;
+      read_x = λ z. ap (times z) (ap gone_in old-now ∙ ap (λ (k : Gate). k.gone) d.retires.now) ∙ (read maps x gc reg c led b s w n g i ag d ends).blocks z;
       purse_cell = λ z q. ap g.owner (eqb-eq z y q) ∙ owner-gc maps x gc reg c led b s w n g i ag d;
       gate_new = λ z q. ap u.gates (eqb-eq z y q) ∙ ap gate_shard gate-now ∙ ap Some d.new_is.shard_is;
       phase_new = λ z q. ap u.phases (eqb-eq z y q) ∙ ap phase_of gate-now ∙ ap Some d.new_is.phase_is;
@@ -288,21 +288,21 @@ module _ (maps : List Change) (x gc reg c led : Change) (b : ActorValue) (s : Se
       gone_new = λ z q. ap u.gone (eqb-eq z y q) ∙ ap gone_in gate-now ∙ d.new_is.gone;
       valid_new = λ z q. subst (IsQueueOf s.hierarchy) (sym (ap u.queues (eqb-eq z y q) ∙ ap queue_in gate-now)) d.new_is.valid;
       named_new = λ z q. subst (λ (rows : List Row). Each (λ (r : Row). v.row r.no ≡ r) rows)
-          (sym (ap (λ (k : ℕ). (u.queues k).rows) (eqb-eq z y q) ∙ ap (λ (k : CellValue). (queue_in k).rows) gate-now ∙ d.new_is.queue ∙ late-is maps x gc reg c led b s w n g i ag d)) (late-named maps x gc reg c led b s w n g i ag d ends named);
+          (sym (ap (λ (k : ℕ). (u.queues k).rows) (eqb-eq z y q) ∙ ap (λ (k : CellValue). (queue_in k).rows) gate-now ∙ d.new_is.queue ∙ late-is maps x gc reg c led b s w n g i ag d)) (late-named maps x gc reg c led b s w n g i ag d ends);
       blank = λ z q.
           let k = blank-counts gc.before blank.tag blank.no_gate in
           (ap v.active (eqb-eq z y q) ∙ ap active_in at-gc ∙ k.0, ap v.pins (eqb-eq z y q) ∙ ap pins_in at-gc ∙ k.1);
-      tree_new = λ z q. subst (λ (k : ℕ). IsTree (table_of s v.row) (cells_at v2.blocks v2.trees k) (shape2 k)) (sym (eqb-eq z y q)) (rw (eqb-self y) (law maps x gc reg c led b s w n g i ag d ends named).tree);
-      settled = λ z r q. rw q ((law maps x gc reg c led b s w n g i ag d ends named).settled r);
+      tree_new = λ z q. subst (λ (k : ℕ). IsTree (table_of s v.row) (cells_at v2.blocks v2.trees k) (shape2 k)) (sym (eqb-eq z y q)) (rw (eqb-self y) (law maps x gc reg c led b s w n g i ag d ends).tree);
+      settled = λ z r q. rw q ((law maps x gc reg c led b s w n g i ag d ends).settled r);
       inside_new = λ z r q inside ne.
           let there : its-shape.inside r ≡ true = subst (λ (k : Bool). (cond k its-shape (g.shape z)).inside r ≡ true) q inside in
           let off : r ≢ y = (λ k. ne (k ∙ sym (eqb-eq z y q))) in
-          let own = owner-filled maps x gc reg c led b s w n g i ag d r (filled-inside maps x gc reg c led b s w n g i ag d ends named r there off) in
+          let own = owner-filled maps x gc reg c led b s w n g i ag d r (filled-inside maps x gc reg c led b s w n g i ag d ends r there off) in
           (own, sym (eqb-eq z y q), stays has_block (λ k t t2. refl) (λ r r2. refl) (λ k k2. refl) (λ l l2. refl) r (λ k. refl) off ∙ made-filled r own);
       leads = λ z r l q inside level.
           subst (λ (k : ℕ). Each (λ (f : Entry). (p : Spare) × Among p (spent_of (v.jobs n)) × (f.stamp ≡ p.stamp)) (nodes (cells_at v2.blocks v2.trees k) r).entries) (sym (eqb-eq z y q))
-          (leads maps x gc reg c led b s w n g i ag d ends named r (subst (λ (k : Bool). (cond k its-shape (g.shape z)).inside r ≡ true) q inside));
-      built_new = λ z own. (eqb-self y, rw (eqb-self y) (inside-filled maps x gc reg c led b s w n g i ag d ends named z own));
+          (leads maps x gc reg c led b s w n g i ag d ends r (subst (λ (k : Bool). (cond k its-shape (g.shape z)).inside r ≡ true) q inside));
+      built_new = λ z own. (eqb-self y, rw (eqb-self y) (inside-filled maps x gc reg c led b s w n g i ag d ends z own));
       gates_off = λ z q. stays gate_shard (λ k t t2. refl) (λ r r2. refl) (λ k k2. refl) (λ l l2. refl) z (λ k. ap (λ (p : Gate). Some p.shard) d.retires.now) (eqb-ne z y q);
       phases_off = λ z q ne. stays phase_of (λ k t t2. refl) (λ r r2. refl) (λ k k2. refl) (λ l l2. refl) z (λ k. absurd (ne (k ∙ sym d.here))) (eqb-ne z y q);
       queues_off = λ z q ne. stays queue_in (λ k t t2. refl) (λ r r2. refl) (λ k k2. refl) (λ l l2. refl) z (λ k. absurd (ne (k ∙ sym d.here))) (eqb-ne z y q);
@@ -369,8 +369,8 @@ module _ (maps : List Change) (x gc reg c led : Change) (b : ActorValue) (s : Se
 
     rows-now : (r : ℕ) → cond ((shape2 y).placed r) 1 0 + times r (numbers (v2.queues y).rows) ≡ cond ((g.shape o).placed r) 1 0 + times r (numbers (v.queues o).rows)
     rows-now r =
-        let all = all-rows maps x gc reg c led b s w n g i ag d ends named r in
-        let tree = (law maps x gc reg c led b s w n g i ag d ends named).placed r in
+        let all = all-rows maps x gc reg c led b s w n g i ag d ends r in
+        let tree = (law maps x gc reg c led b s w n g i ag d ends).placed r in
         let queue : times r (numbers (u.queues y).rows) ≡ times r (numbers (late maps x gc reg c led b s w n g i ag d)) = ap (λ (k : List Row). times r (numbers k)) queue-now in
         let there : ◌≡◌ {A = ℕ} (cond ((shape2 y).placed r) 1 0) (cond (its-shape.placed r) 1 0) = rw (eqb-self y) refl in
         omega (arith, all, tree, queue, there)

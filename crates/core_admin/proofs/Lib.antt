@@ -1,3 +1,24 @@
+pub mod Staging
+pub mod Controls
+pub mod Stages
+pub mod FrozenGates
+pub mod Drains
+pub mod ShardRows
+pub mod Planes
+pub mod Purses
+pub mod Freezings
+pub mod FreezesShard
+pub mod FreezesHere
+pub mod Collecting
+pub mod SoFar
+pub mod CollectsBlocks
+pub mod CollectsRows
+pub mod Spends
+pub mod CollectsTrees
+pub mod CollectsHere
+pub mod RowLists
+pub mod BuildsHere
+pub mod MadeTrees
 mod JobsGoOn
 mod Untouched
 mod BuildsBlock

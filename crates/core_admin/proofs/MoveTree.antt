@@ -42,6 +42,7 @@ use Rattle.volap_cell.proofs.Frames.{each-among}
 use Rattle.volap_cell.proofs.Spares.{among-cells}
 use Rattle.core_admin.proofs.BuildsBlock.{among-spent}
 use Rattle.core_admin.proofs.MovesShard.{at-x, cells-spent, contains-among, gc-now, kept}
+use Rattle.core_admin.proofs.SoFar.{begun-named}
 
 -- Lists.
 
@@ -97,7 +98,7 @@ module _ (maps : List Change) (x gc reg c led : Change) (b : ActorValue) (s : Se
   abbrev pub old : ℕ
   old = d.building.frozen.gate
 
-  pub was : IsBuilding s v.blocks v.made v.trees v.queues v.phases v.active g.shape (v.purses n) d.building
+  pub was : IsBuilding s v.history v.blocks v.made v.trees v.queues v.phases v.active g.shape (v.purses n) d.building
   was = i.working.building n d.job d.building d.has.is_job d.has.stage_is
 
   frozen : IsFrozenFor s v.trees v.phases g.gate (v.purses n) d.job d.building.frozen
@@ -177,7 +178,10 @@ module _ (maps : List Change) (x gc reg c led : Change) (b : ActorValue) (s : Se
 
   -- Rows.
 
-  module _ (ends : CollectEndLaw) (named : Each (λ (r : Row). v.row r.no ≡ r) was.at_blocks) where
+  module _ (ends : CollectEndLaw) where
+    named : Each (λ (r : Row). v.row r.no ≡ r) was.at_blocks
+    named = begun-named v.history was.at_blocks was.named
+
     pub read : AfterCollecting (table_of s v.row) (cells_at v.blocks v.trees old) (g.shape old) d.building.read (numbers was.at_blocks)
     read = ends (table_of s v.row) (cells_at v.blocks v.trees old) (g.shape old) d.building.read (numbers was.at_blocks) (i.growing.tree old whole) was.read
 

@@ -90,6 +90,6 @@ module _ (s : Setting) (v : View) (g : Ghost) (i : InvWith s v g) (n : ℕ) (job
     unspent = λ a j. its-next (λ a j. frozen_in j.stage ≡ None → purses_now a ≡ []) (λ j has none. mine) a j;
     declined = λ a j k why has _ stage. its-next (λ a j. j.stage ≡ IsDeclined why → IsDeclinedFor s h2 placed k.of j why) (λ j has st. let no : IsCalled ≡ IsDeclined why = sym (next j has).called ∙ st in cc) a j has stage;
     frozen = λ a j f. its-next (λ a j. frozen_in j.stage ≡ Some f → IsFrozenFor s trees phases gate (purses_now a) j f) (λ j has at. let no : None ≡ Some f = ap frozen_in (sym (next j has).called) ∙ at in cc) a j;
-    collected = λ a j k. its-next (λ a j. j.stage ≡ Collects k → IsCollected blocks trees queues phases active shape k) (λ j has at. let no : IsCalled ≡ Collects k = sym (next j has).called ∙ at in cc) a j;
-    building = λ a j k. its-next (λ a j. j.stage ≡ Builds k → IsBuilding s blocks made trees queues phases active shape (purses_now a) k) (λ j has at. let no : IsCalled ≡ Builds k = sym (next j has).called ∙ at in cc) a j;
+    collected = λ a j k. its-next (λ a j. j.stage ≡ Collects k → IsCollected h2 blocks trees queues phases active shape k) (λ j has at. let no : IsCalled ≡ Collects k = sym (next j has).called ∙ at in cc) a j;
+    building = λ a j k. its-next (λ a j. j.stage ≡ Builds k → IsBuilding s h2 blocks made trees queues phases active shape (purses_now a) k) (λ j has at. let no : IsCalled ≡ Builds k = sym (next j has).called ∙ at in cc) a j;
   }

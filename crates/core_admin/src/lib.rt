@@ -6,5 +6,9 @@ mod builds;
 mod collects;
 mod finishes;
 mod freezes;
+mod trees;
 
 pub use builds::{build_block, postpone};
+pub use collects::{collect_block, collect_row};
+pub use freezes::{drained, freeze};
+pub use trees::build_trees;

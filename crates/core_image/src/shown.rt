@@ -1,5 +1,7 @@
 ghost use Rattle.std.specs.Prelude.{◌≡◌, [], ◌∷◌, true, is_some, Some};
 ghost use Rattle.core_image.specs.NotesDue.{CanNoteShown, HasShown, MayShow};
+ghost use Rattle.core_image.specs.Told.{Tells};
+ghost use Rattle.core_image.specs.ToldPages.{shown_by};
 ghost use Rattle.volap_cell.specs.Cells.{cell_of};
 ghost use Rattle.volap_cell.specs.Commands.{once_shown};
 ghost use Rattle.volap_cell.specs.Steps.{IsHere, Makes};
@@ -18,6 +20,7 @@ pub fn note_shown(h: &Hierarchy, ledger_at: u32, ledger: &mut Cell, actor: &mut 
     requires here { IsHere h.now (held ledger_at (cell_of ledger.old) ∷ []) (actor_of actor.old) }
     requires due { CanNoteShown page (cell_of ledger.old) (actor_of actor.old) }
     ensures made { Makes h.now Note (change ledger_at (cell_of ledger.old) (cell_of ledger.new) ∷ []) (actor_of actor.old) (actor_of actor.new) }
+    ensures told { Tells (shown_by page) (actor_of actor.old) (cell_of ledger.old) (cell_of ledger.new) }
 {
     let _ = h;
     let Cell::Ledger(ledger) = ledger else {

@@ -4,3 +4,4 @@ pub mod AtTimes
 pub mod Adding
 pub mod Sights
 pub mod Quiet
+pub mod PageSights

@@ -3,5 +3,7 @@ pub mod HeldIf
 pub mod Asked
 pub mod AskedBooks
 pub mod AskedNotes
+pub mod AskedPages
 pub mod Added
 pub mod AskedParts
+pub mod Seen

@@ -7,6 +7,7 @@ mod fails;
 mod held;
 mod notes;
 mod parts;
+mod shown;
 mod trees;
 
 pub use books::{ack, answer, begin_insert, begin_query, route, sync};
@@ -14,6 +15,7 @@ pub use fails::{fail_query, fail_routed, fail_unrouted};
 pub use held::HeldIf;
 pub use notes::{note_asking, note_called, note_ended, note_refused, note_unknown};
 pub use parts::{expand, finish_part, forward, look_up, take_part};
+pub use shown::note_shown;
 pub use trees::{
     block_visit, down, enter_queue, enter_tree, gate_read, give_back, leave_tree, put_in_leaf,
     refill,

@@ -1,5 +1,6 @@
 pub mod Zips
 pub mod OneWord
+pub mod WantedFacts
 pub mod CommandSteps
 pub mod Openings
 pub mod KeepsSteps

@@ -7,10 +7,12 @@ mod run;
 mod store;
 mod told;
 mod top;
+mod wanted;
 mod words;
 
 pub use outcome::{Outcome, Status};
 pub use top::{olap, step};
+pub use wanted::Wanted;
 pub use words::Request;
 
 #[cfg(test)]

@@ -1,6 +1,6 @@
 ghost use Rattle.std.specs.Prelude.{◌<◌};
 
-use crate::{Outcome, Status, olap};
+use crate::{Outcome, Status, Wanted, olap};
 use answer_text::{phase, told};
 use script_form::read_script;
 use std::alloc::{AllocError, Global};
@@ -346,5 +346,47 @@ fn a_history_tells_what_was_printed(rt: HostRuntime) -> Result<(), Fail> {
         middle.as_slice(),
         "4 query 1 5 5 5\n5 query unknown 0\n6 tree 0 height 1 rows 1 queued 0\n6 node 0 leaf 1 1 1 5 5 5 2:0\n".as_bytes()
     );
+    Ok(())
+}
+
+/// Words, and what they want to run.
+type WordsCase = (&'static [&'static str], Option<Wanted>);
+
+#[test]
+fn words_and_what_they_want(rt: HostRuntime) -> Result<(), Fail> {
+    const CASES: [WordsCase; 22] = [
+        (&["step"], Some(Wanted::Step)),
+        (&["step", "--seed", "7"], Some(Wanted::Seeded(7))),
+        (&["step", "--seed=7"], Some(Wanted::Seeded(7))),
+        (&["step", "--seed", "0"], Some(Wanted::Seeded(0))),
+        (
+            &["step", "--seed=00000000000000000012"],
+            Some(Wanted::Seeded(12)),
+        ),
+        (
+            &["step", "--seed=18446744073709551615"],
+            Some(Wanted::Seeded(u64::MAX)),
+        ),
+        (&["step", "--seed", "18446744073709551616"], None),
+        (&["step", "--seed", "000000000000000000001"], None),
+        (&["step", "--seed", "x"], None),
+        (&["step", "--seed", "-1"], None),
+        (&["step", "--seed", "+1"], None),
+        (&["step", "--seed", ""], None),
+        (&["step", "--seed="], None),
+        (&["step", "--seed"], None),
+        (&["step", "--seed", "=7"], None),
+        (&["step", "--seed=", "7"], None),
+        (&["step", "--Seed", "7"], None),
+        (&["step", "--seed", "1", "--seed", "1"], None),
+        (&["step", "--"], None),
+        (&["--seed", "7"], None),
+        (&["Step", "--seed=7"], None),
+        (&[], None),
+    ];
+    for (list, wanted) in &CASES {
+        let words = words(rt.alloc(), list)?;
+        assert_eq!(rt; Wanted::of_words(words.as_slice()), *wanted);
+    }
     Ok(())
 }

@@ -1,6 +1,6 @@
 -- The values of numbers in a range.
 use Rattle.std.proofs.Common.{◌≡◌, ◌≤◌, ◌<◌, ℕ, List, Bool, true, false, ◌&&◌, Option, Some, None, arith, refl}
-use Rattle.script_form.specs.Limits.{most_servers, most_workers, most_threads, fewest_cells, most_cells}
+use Rattle.script_form.specs.Limits.{most_servers, most_workers, most_threads, fewest_cells, most_cells, shard_ids, worker_ids, most_actions}
 use Rattle.std.specs.Prelude.{nat_le, nat_lt, not, is_some, unwrap_or}
 use Rattle.std.specs.Option.{option_map_or}
 use Rattle.std.proofs.lemmas.Bool.{and_parts}
@@ -37,6 +37,23 @@ insert_server servers r fine = (and_parts (is_below (field r 1) servers) (is_som
 
 pub query_server : (servers : ℕ) (r : Record) → wrong_number servers kind.Query r ≡ false → is_below (field r 1) servers ≡ true
 query_server servers r fine = not_wrong _ fine
+
+pub sync_server : (servers : ℕ) (r : Record) → wrong_number servers kind.Sync r ≡ false → is_below (field r 1) servers ≡ true
+sync_server servers r fine = not_wrong _ fine
+
+-- and so are its other numbers
+
+pub split_shard : (servers : ℕ) (r : Record) → wrong_number servers kind.Split r ≡ false → is_below (field r 1) shard_ids ≡ true
+split_shard servers r fine = not_wrong _ fine
+
+pub tree_shard : (servers : ℕ) (r : Record) → wrong_number servers kind.Tree r ≡ false → is_below (field r 1) shard_ids ≡ true
+tree_shard servers r fine = not_wrong _ fine
+
+pub move_numbers : (servers : ℕ) (r : Record) → wrong_number servers kind.Move r ≡ false → (is_below (field r 1) shard_ids ≡ true) × (is_below (field r 2) worker_ids ≡ true)
+move_numbers servers r fine = and_parts (is_below (field r 1) shard_ids) (is_below (field r 2) worker_ids) (not_wrong _ fine)
+
+pub balance_most : (servers : ℕ) (r : Record) → wrong_number servers kind.Balance r ≡ false → (1 ≤ value_of (field r 1)) × (value_of (field r 1) ≤ most_actions)
+balance_most servers r fine = value_within (field r 1) 1 most_actions (not_wrong _ fine)
 
 -- settings stay in their ranges
 pub settings_more : (servers : ℕ) (with : Use) (k : Kind) (r : Record) → wrong_number servers k r ≡ false → AreSettings with → AreSettings (settings_with (Some k) with r)

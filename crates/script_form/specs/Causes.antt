@@ -1,5 +1,5 @@
 -- The causes for which a record is bad, given the script of the records before it.
-use Rattle.script_form.specs.Limits.{most_servers, most_workers, most_threads, fewest_cells, most_cells, most_levels, shard_ids}
+use Rattle.script_form.specs.Limits.{most_servers, most_workers, most_threads, fewest_cells, most_cells, most_levels, shard_ids, worker_ids, most_actions}
 use Rattle.std.specs.Prelude.{ℕ, ◌≡◌, ◌<◌, ◌==◌, ◌&&◌, ◌||◌, not, Bool, true, false, ⊤, Option, Some, None, is_some, option_and_then, if◌then◌else◌, List, length, drop, codes}
 use Rattle.std.specs.List.{list_all}
 use Rattle.std.specs.Str.{bytes_eq}
@@ -38,19 +38,23 @@ wrong_number servers kind.Dim r = not (in_range (field r 2) 1 most_levels)
 wrong_number servers kind.Concept r = false
 wrong_number servers kind.Insert r = not (is_below (field r 1) servers && is_some (measure_of (field r 2)))
 wrong_number servers kind.Query r = not (is_below (field r 1) servers)
+wrong_number servers kind.Sync r = not (is_below (field r 1) servers)
+wrong_number servers kind.Split r = not (is_below (field r 1) shard_ids)
+wrong_number servers kind.Move r = not (is_below (field r 1) shard_ids && is_below (field r 2) worker_ids)
+wrong_number servers kind.Balance r = not (in_range (field r 1) 1 most_actions)
 wrong_number servers kind.Barrier r = false
+wrong_number servers kind.Settle r = false
+wrong_number servers kind.Shards r = false
 wrong_number servers kind.Tree r = not (is_below (field r 1) shard_ids)
+wrong_number servers kind.Audit r = false
 
 -- a name field, or a piece of a filter, is no name
 abbrev pub wrong_name : Kind → Record → Bool
-wrong_name kind.Volap r = false
-wrong_name kind.Use r = false
 wrong_name kind.Dim r = not (is_name (field r 1))
 wrong_name kind.Concept r = not (is_name (field r 1) && is_name (field r 2) && (is_star (field r 3) || is_name (field r 3)))
 wrong_name kind.Insert r = not (list_all is_name (drop 3 r))
 wrong_name kind.Query r = not (list_all is_pick (drop 2 r))
-wrong_name kind.Barrier r = false
-wrong_name kind.Tree r = false
+wrong_name _ r = false
 
 -- What the hierarchy says against a dimension or a concept.
 

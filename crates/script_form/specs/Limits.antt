@@ -23,9 +23,17 @@ most_cells = 65536
 abbrev pub most_levels : ℕ
 most_levels = 8
 
--- each id of a shard is below
+-- each id of a shard, and of a worker in a command, is below
+
 abbrev pub shard_ids : ℕ
 shard_ids = 4294967296
+
+abbrev pub worker_ids : ℕ
+worker_ids = 256
+
+-- a balance makes at least one
+abbrev pub most_actions : ℕ
+most_actions = 16
 
 -- a name has at least one byte
 abbrev pub most_bytes : ℕ

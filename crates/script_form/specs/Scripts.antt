@@ -1,6 +1,6 @@
 -- The script that a list of records is, or where and why it is bad.
-use Rattle.script_form.specs.Limits.{most_servers, most_workers, most_threads, fewest_cells, most_cells}
-use Rattle.std.specs.Prelude.{ℕ, pos, ◌≡◌, ◌+◌, ◌<◌, ◌≤◌, Option, Some, None, option_map, unwrap_or, Result, Ok, Err, if◌then◌else◌, ⊤, List, [], ◌∷◌, ◌++◌, length, drop, map, fold, slice_set, All}
+use Rattle.script_form.specs.Limits.{most_servers, most_workers, most_threads, fewest_cells, most_cells, shard_ids, worker_ids, most_actions}
+use Rattle.std.specs.Prelude.{ℕ, IsTrue, pos, ◌≡◌, ◌+◌, ◌<◌, ◌≤◌, Option, Some, None, option_map, unwrap_or, Result, Ok, Err, if◌then◌else◌, ⊤, List, [], ◌∷◌, ◌++◌, length, drop, map, fold, slice_set, All}
 use Rattle.std.specs.List.{filter_map}
 use Rattle.std.specs.Option.{option_or, option_to_list}
 use Rattle.csv.specs.Reading.{default_config, records, strip_bom}
@@ -12,7 +12,7 @@ use Rattle.row_ledger.specs.declared.settings.Use.{Use}
 use Rattle.row_ledger.specs.declared.settings.Call.{Call}
 use Rattle.row_ledger.specs.declared.settings.Call.TheVariants as call
 use Rattle.script_form.specs.Fields.{Record, field, is_star, measure_of, pieces, value_of}
-use Rattle.script_form.specs.Kinds.{kind_of}
+use Rattle.script_form.specs.Kinds.{is_read, kind_of}
 use Rattle.script_form.specs.Causes.{MayStand, cause_at, hierarchy_cause, parent_of}
 use Rattle.script_form.specs.declared.kind.Kind.{Kind}
 use Rattle.script_form.specs.declared.kind.Kind.TheVariants as kind
@@ -65,14 +65,26 @@ hierarchy_of rs = fold (λ h r. hierarchy_with (kind_of (field r 0)) h r) [] rs
 abbrev pub pick_of : List ℕ → NamePick
 pick_of text = if is_star text then pick.All else pick.Any (pieces text)
 
+-- the call that a record of a kind makes, if it makes one
+abbrev pub call_by : Kind → Record → Option Call
+call_by kind.Sync r = Some (call.Sync (value_of (field r 1)))
+call_by kind.Split r = Some (call.Split (value_of (field r 1)))
+call_by kind.Move r = Some (call.Move (value_of (field r 1)) (value_of (field r 2)))
+call_by kind.Balance r = Some (call.Balance (value_of (field r 1)))
+call_by kind.Barrier r = Some call.Barrier
+call_by kind.Settle r = Some call.Settle
+call_by kind.Shards r = Some call.Shards
+call_by kind.Tree r = Some (call.Tree (value_of (field r 1)))
+call_by kind.Audit r = Some call.Audit
+call_by _ r = None
+
 -- the command that a record of a kind is, if it is one
 abbrev pub command_by : Option Kind → Record → Option Command
 command_by (Some kind.Insert) r =
     Some (command.Insert (record { server = value_of (field r 1); measure = unwrap_or (measure_of (field r 2)) (pos 0); names = drop 3 r }))
 command_by (Some kind.Query) r = Some (command.Query (record { server = value_of (field r 1); filter = map pick_of (drop 2 r) }))
-command_by (Some kind.Barrier) r = Some (command.Control call.Barrier)
-command_by (Some kind.Tree) r = Some (command.Control (call.Tree (value_of (field r 1))))
-command_by _ r = None
+command_by (Some k) r = option_map (λ c. command.Control c) (call_by k r)
+command_by None r = None
 
 abbrev pub command_of : Record → Option Command
 command_of r = command_by (kind_of (field r 0)) r
@@ -124,17 +136,36 @@ pub record AreSettings (with : Use) : Type 0 where
   pub threads : (1 ≤ with.threads) × (with.threads ≤ most_threads)
   pub cells : (fewest_cells ≤ with.cells) × (with.cells ≤ most_cells)
 
--- a call that scripts can ask for so far
-abbrev pub IsScriptCall : Call → Type 0
-IsScriptCall call.Barrier = ⊤
-IsScriptCall (call.Tree shard) = ⊤
-IsScriptCall other = ⊥
+-- the kind of the records that make a call
+abbrev pub kind_of_call : Call → Kind
+kind_of_call (call.Sync server) = kind.Sync
+kind_of_call (call.Split shard) = kind.Split
+kind_of_call (call.Move shard worker) = kind.Move
+kind_of_call (call.Balance most) = kind.Balance
+kind_of_call call.Barrier = kind.Barrier
+kind_of_call call.Settle = kind.Settle
+kind_of_call call.Shards = kind.Shards
+kind_of_call (call.Tree shard) = kind.Tree
+kind_of_call call.Audit = kind.Audit
+
+-- the numbers of a call are in their ranges, where there are so many servers
+abbrev pub IsInRange : ℕ → Call → Type 0
+IsInRange servers (call.Sync server) = server < servers
+IsInRange servers (call.Split shard) = shard < shard_ids
+IsInRange servers (call.Move shard worker) = (shard < shard_ids) × (worker < worker_ids)
+IsInRange servers (call.Balance most) = (1 ≤ most) × (most ≤ most_actions)
+IsInRange servers (call.Tree shard) = shard < shard_ids
+IsInRange servers other = ⊤
+
+-- a call that a script of so many servers may ask for
+abbrev pub IsScriptCall : ℕ → Call → Type 0
+IsScriptCall servers c = IsTrue (is_read (kind_of_call c)) × IsInRange servers c
 
 -- a command of a server of the script, with a name or a pick for each dimension
 abbrev pub Fits : Script → Command → Type 0
 Fits s (command.Insert row) = (row.server < s.with.servers) × (length row.names ≡ length s.hierarchy)
 Fits s (command.Query question) = (question.server < s.with.servers) × (length question.filter ≡ length s.hierarchy) × All IsNamePick question.filter
-Fits s (command.Control call) = IsScriptCall call
+Fits s (command.Control call) = IsScriptCall s.with.servers call
 
 -- none of the records has a cause, each behind those before it
 abbrev pub AreFine : List Record → Type 0

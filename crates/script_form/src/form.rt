@@ -6,7 +6,8 @@ ghost use Rattle.script_form.specs.Causes.{MayStand, cause_at, is_version, wrong
 use crate::field::{field, in_range, is_below, is_name, is_star, measure};
 use crate::kind::{Kind, kind_of, width};
 use crate::limits::{
-    FEWEST_CELLS, MOST_CELLS, MOST_LEVELS, MOST_SERVERS, MOST_THREADS, MOST_WORKERS, SHARD_IDS,
+    FEWEST_CELLS, MOST_ACTIONS, MOST_CELLS, MOST_LEVELS, MOST_SERVERS, MOST_THREADS, MOST_WORKERS,
+    SHARD_IDS, WORKER_IDS,
 };
 use crate::names::{are_names, are_picks};
 use crate::script::{Cause, Script};
@@ -53,7 +54,7 @@ fn is_wrong_order(at: u64, script: &Script, kind: Kind) -> bool
         Kind::Volap => at != 0,
         Kind::Use => at != 1,
         Kind::Dim | Kind::Concept => !script.commands.is_empty(),
-        Kind::Insert | Kind::Query | Kind::Barrier | Kind::Tree => script.hierarchy.dims() == 0,
+        _ => script.hierarchy.dims() == 0,
     }
 }
 
@@ -62,7 +63,8 @@ fn is_wrong_number(servers: u8, kind: Kind, row: &ByteRecord) -> bool
     ensures { result ≡ wrong_number servers kind (fields_of row.now) }
 {
     match kind {
-        Kind::Volap | Kind::Concept | Kind::Barrier => false,
+        Kind::Volap | Kind::Concept | Kind::Barrier | Kind::Settle | Kind::Shards | Kind::Audit =>
+            false,
         Kind::Use => {
             !(in_range(field(row, 1), 1, MOST_SERVERS)
                 && in_range(field(row, 2), 1, MOST_WORKERS)
@@ -73,8 +75,12 @@ fn is_wrong_number(servers: u8, kind: Kind, row: &ByteRecord) -> bool
         Kind::Insert => {
             !(is_below(field(row, 1), u128::from(servers)) && measure(field(row, 2)).is_some())
         }
-        Kind::Query => !is_below(field(row, 1), u128::from(servers)),
-        Kind::Tree => !is_below(field(row, 1), SHARD_IDS),
+        Kind::Query | Kind::Sync => !is_below(field(row, 1), u128::from(servers)),
+        Kind::Split | Kind::Tree => !is_below(field(row, 1), SHARD_IDS),
+        Kind::Move => {
+            !(is_below(field(row, 1), SHARD_IDS) && is_below(field(row, 2), WORKER_IDS))
+        }
+        Kind::Balance => !in_range(field(row, 1), 1, MOST_ACTIONS),
     }
 }
 
@@ -83,7 +89,6 @@ fn is_wrong_name(kind: Kind, row: &ByteRecord) -> bool
     ensures { result ≡ wrong_name kind (fields_of row.now) }
 {
     match kind {
-        Kind::Volap | Kind::Use | Kind::Barrier | Kind::Tree => false,
         Kind::Dim => !is_name(field(row, 1)),
         Kind::Concept => {
             !(is_name(field(row, 1))
@@ -92,5 +97,6 @@ fn is_wrong_name(kind: Kind, row: &ByteRecord) -> bool
         }
         Kind::Insert => !are_names(row, 3),
         Kind::Query => !are_picks(row, 2),
+        _ => false,
     }
 }

@@ -1,6 +1,6 @@
 //! The kinds of record.
 ghost use Rattle.std.specs.Prelude.{◌≡◌, ◌≤◌};
-ghost use Rattle.script_form.specs.Kinds.{kind_of, width};
+ghost use Rattle.script_form.specs.Kinds.{is_read, kind_named, kind_of, width};
 
 /// What the first field of a record says that it is.
 #[derive(Clone, Copy, Debug, PartialEq, Eq)]
@@ -11,13 +11,20 @@ pub(crate) enum Kind {
     Concept,
     Insert,
     Query,
+    Sync,
+    Split,
+    Move,
+    Balance,
     Barrier,
+    Settle,
+    Shards,
     Tree,
+    Audit,
 }
 
-/// The kind that a first field names.
-pub(crate) fn kind_of(word: &[u8]) -> Option<Kind>
-    ensures { result ≡ kind_of word.now }
+/// The kind that a word names.
+fn kind_named(word: &[u8]) -> Option<Kind>
+    ensures { result ≡ kind_named word.now }
 {
     if word == b"volap".as_slice() {
         Some(Kind::Volap)
@@ -31,12 +38,52 @@ pub(crate) fn kind_of(word: &[u8]) -> Option<Kind>
         Some(Kind::Insert)
     } else if word == b"query".as_slice() {
         Some(Kind::Query)
+    } else if word == b"sync".as_slice() {
+        Some(Kind::Sync)
+    } else if word == b"split".as_slice() {
+        Some(Kind::Split)
+    } else if word == b"move".as_slice() {
+        Some(Kind::Move)
+    } else if word == b"balance".as_slice() {
+        Some(Kind::Balance)
     } else if word == b"barrier".as_slice() {
         Some(Kind::Barrier)
+    } else if word == b"settle".as_slice() {
+        Some(Kind::Settle)
+    } else if word == b"shards".as_slice() {
+        Some(Kind::Shards)
     } else if word == b"tree".as_slice() {
         Some(Kind::Tree)
+    } else if word == b"audit".as_slice() {
+        Some(Kind::Audit)
     } else {
         None
+    }
+}
+
+/// Whether a script may have records of this kind so far: those that the program runs.
+fn is_read(kind: Kind) -> bool
+    ensures { result ≡ is_read kind }
+{
+    match kind {
+        Kind::Sync
+        | Kind::Split
+        | Kind::Move
+        | Kind::Balance
+        | Kind::Settle
+        | Kind::Shards
+        | Kind::Audit => false,
+        _ => true,
+    }
+}
+
+/// The kind that a first field names, of those that a script may have.
+pub(crate) fn kind_of(word: &[u8]) -> Option<Kind>
+    ensures { result ≡ kind_of word.now }
+{
+    match kind_named(word) {
+        Some(kind) if is_read(kind) => Some(kind),
+        _ => None,
     }
 }
 
@@ -46,13 +93,12 @@ pub(crate) fn width(kind: Kind, dims: u8) -> usize
     ensures { result ≡ width kind dims }
 {
     match kind {
-        Kind::Volap => 2,
-        Kind::Use => 5,
-        Kind::Dim => 3,
+        Kind::Barrier | Kind::Settle | Kind::Shards | Kind::Audit => 1,
+        Kind::Volap | Kind::Sync | Kind::Split | Kind::Balance | Kind::Tree => 2,
+        Kind::Dim | Kind::Move => 3,
         Kind::Concept => 4,
+        Kind::Use => 5,
         Kind::Insert => 3 + usize::from(dims),
         Kind::Query => 2 + usize::from(dims),
-        Kind::Barrier => 1,
-        Kind::Tree => 2,
     }
 }

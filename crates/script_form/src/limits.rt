@@ -14,4 +14,8 @@ pub(crate) const MOST_LEVELS: u128 = 8;
 
 pub(crate) const SHARD_IDS: u128 = 1 << 32;
 
+pub(crate) const WORKER_IDS: u128 = 256;
+
+pub(crate) const MOST_ACTIONS: u128 = 16;
+
 pub(crate) const MOST_BYTES: usize = 64;

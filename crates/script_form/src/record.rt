@@ -1,10 +1,10 @@
 //! What a record adds to the script of those before it.
-ghost use Rattle.std.specs.Prelude.{◌≡◌, ◌≤◌, true, false, length, IfOk, IfErr, OnErr, OnOk};
+ghost use Rattle.std.specs.Prelude.{◌≡◌, ◌≤◌, true, false, is_some, IsTrue, Some, length, IfOk, IfErr, OnErr, OnOk};
 ghost use Rattle.csv.specs.Records.{fields_of};
 ghost use Rattle.script_form.specs.Limits.{most_levels};
 ghost use Rattle.script_form.specs.Fields.{field, in_range, is_below};
 ghost use Rattle.script_form.specs.Causes.{HasForm, TellsCause, cause_at, hierarchy_cause, parent_of, wrong_number};
-ghost use Rattle.script_form.specs.Scripts.{IsTaken, after, command_by, hierarchy_with, settings_in};
+ghost use Rattle.script_form.specs.Scripts.{IsTaken, after, call_by, command_by, hierarchy_with, settings_in};
 ghost use Rattle.script_form.specs.declared.kind.Kind.TheVariants as kind;
 
 use crate::field::{field, is_star, measure, value_u8, value_u32};
@@ -80,15 +80,30 @@ fn add_record(
             script.commands.push(Command::Query(question(alloc, row)?))?;
             Ok(())
         }
-        Kind::Barrier => {
-            script.commands.push(Command::Control(Call::Barrier))?;
+        _ => {
+            script.commands.push(Command::Control(call(kind, row)))?;
             Ok(())
         }
-        Kind::Tree => {
-            let shard = value_u32(field(row, 1));
-            script.commands.push(Command::Control(Call::Tree(shard)))?;
-            Ok(())
-        }
+    }
+}
+
+/// The call of a record of a kind that makes one.
+fn call(kind: Kind, row: &ByteRecord) -> Call
+    requires makes { IsTrue (is_some (call_by kind (fields_of row.now))) }
+    requires number { wrong_number 256 kind (fields_of row.now) ≡ false }
+    ensures { call_by kind (fields_of row.now) ≡ Some result }
+{
+    match kind {
+        Kind::Sync => Call::Sync(value_u8(field(row, 1))),
+        Kind::Split => Call::Split(value_u32(field(row, 1))),
+        Kind::Move => Call::Move(value_u32(field(row, 1)), value_u8(field(row, 2))),
+        Kind::Balance => Call::Balance(value_u8(field(row, 1))),
+        Kind::Barrier => Call::Barrier,
+        Kind::Settle => Call::Settle,
+        Kind::Shards => Call::Shards,
+        Kind::Tree => Call::Tree(value_u32(field(row, 1))),
+        Kind::Audit => Call::Audit,
+        _ => unreachable!(),
     }
 }
 

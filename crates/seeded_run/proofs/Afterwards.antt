@@ -1,35 +1,39 @@
 -- What becomes of a core by a step: what was due in it, where the state stayed as it was, and its history.
-use Rattle.std.proofs.Common.{ℕ, ◌≡◌, ◌≢◌, List, [], ◌∷◌, Option, ap, ◌∙◌, subst, arith}
-use Rattle.core_steps.specs.Added.{AddsQuiet, Spares}
+use Rattle.std.proofs.Common.{ℕ, suc, ◌≡◌, ◌≢◌, Bool, true, false, List, ◌∷◌, length, Option, inl, inr, sym, ap, ◌∙◌, subst, arith}
+use Rattle.core_steps.specs.Added.{AddsQuiet}
 use Rattle.core_steps.specs.Ready.{Stays}
 use Rattle.dim_hierarchy.specs.Dimension.{Dimension}
+use Rattle.row_ledger.specs.declared.event.Event.{Event}
 use Rattle.row_ledger.specs.declared.settings.Use.{Use}
-use Rattle.tree_shape.specs.Counts.{Each}
-use Rattle.volap_cell.specs.Cells.{CellValue, ledger_in}
-use Rattle.volap_cell.specs.Setting.{Setting, desk_cell, image_cell, ledger_cell}
+use Rattle.volap_cell.specs.Setting.{Setting, ledger_cell}
 use Rattle.volap_cell.specs.State.{Stepped}
+use Rattle.volap_cell.specs.Steps.{history_in}
 use Rattle.volap_cell.specs.World.{World}
 use Rattle.volap_cell.specs.declared.actor.Actor.{Actor}
 use Rattle.volap_cell.specs.declared.cell.Cell.{Cell}
 use Rattle.volap_cell.specs.declared.kind.Kind.{Kind}
-use Rattle.seeded_run.specs.Commands.{GoesQuietly}
+use Rattle.volap_cell.specs.declared.kind.Kind.TheVariants.{Note}
+use Rattle.seeded_run.specs.Arms.{GoesOnWithCommand, TellsIfNote}
 use Rattle.seeded_run.specs.Core.{IsCore}
 
--- an event that begins nothing
-pub quietly : (at : ℕ) (cells cells_now : List (Option Cell)) (actors actors_now : List (Option Actor)) → at ≡ ledger_cell → AddsQuiet at cells actors cells_now actors_now → GoesQuietly cells actors cells_now actors_now
-quietly at cells cells_now actors actors_now is adds =
+-- a history isn't one that has an event more
+longer-is-other : (e : Event) (before now : List Event) → now ≡ e ∷ before → now ≢ before
+longer-is-other e before now grows same = (let long : length before ≡ suc (length before) = ap length (sym same ∙ grows) in omega arith)
+
+abbrev is_note : Kind → Bool
+is_note Note = true
+is_note _ = false
+
+-- a step of another kind than a note
+pub other-step : (k : Kind) → is_note k ≡ false → (h : List Dimension) (n : ℕ) (cells cells_now : List (Option Cell)) (actors actors_now : List (Option Actor)) → Stepped h k n cells actors cells_now actors_now → GoesOnWithCommand h n cells actors cells_now actors_now
+other-step k other h n cells cells_now actors actors_now stepped = (k, stepped, inl (λ e. (let never : true ≡ false = sym (ap is_note e) ∙ other in absurd (cc))))
+
+-- a note
+pub noted-step : (h : List Dimension) (n at : ℕ) (cells cells_now : List (Option Cell)) (actors actors_now : List (Option Actor)) → at ≡ ledger_cell → Stepped h Note n cells actors cells_now actors_now → AddsQuiet at cells actors cells_now actors_now
+    → GoesOnWithCommand h n cells actors cells_now actors_now
+noted-step h n at cells cells_now actors actors_now is stepped adds =
     let here : AddsQuiet ledger_cell cells actors cells_now actors_now = subst (λ (y : ℕ). AddsQuiet y cells actors cells_now actors_now) is adds in
-    λ w now i j. (let q = here w now i j in record { newer = q.0 ∷ []; grows = q.2; quiet = (q.1, tt) })
-
--- no event at all
-pub silently : (numbers : List ℕ) (cells cells_now : List (Option Cell)) (actors actors_now : List (Option Actor)) → Each (λ z. ledger_cell ≢ z) numbers → Spares numbers cells actors cells_now actors_now
-    → GoesQuietly cells actors cells_now actors_now
-silently numbers cells cells_now actors actors_now off spares =
-    λ w now i j. record { newer = []; grows = ap (λ (c : CellValue). (ledger_in c).history) (spares w now i j ledger_cell off); quiet = tt }
-
--- the ledger isn't one of a server's cells
-pub away-from-two : (s : Setting) (x desk image : ℕ) → desk ≡ desk_cell s x → image ≡ image_cell x → Each (λ z. ledger_cell ≢ z) (desk ∷ image ∷ [])
-away-from-two s x desk image desk_is image_is = ((λ e. absurd (omega arith)), ((λ e. absurd (omega arith)), tt))
+    (Note, stepped, inr (λ w now i j. (let q = here w now i j in longer-is-other q.0 (history_in w) (history_in now) q.2)))
 
 -- where the state stayed as it was
 module _ (cells cells_now : List (Option Cell)) (actors actors_now : List (Option Actor)) (stays : Stays cells actors cells_now actors_now) where
@@ -41,6 +45,7 @@ module _ (cells cells_now : List (Option Cell)) (actors actors_now : List (Optio
     stock = core.stock;
     roles = core.roles;
     count = stays.actors_kept ∙ core.count;
+    places = stays.cells_kept ∙ core.places;
     is = stays.same w core.is;
     inv = core.inv;
   }
@@ -52,5 +57,10 @@ module _ (cells cells_now : List (Option Cell)) (actors actors_now : List (Optio
     step = λ s w ghost same is inv reached. stepped.step s w ghost same (stays.same w is) inv reached;
   }
 
-  pub quiet-then : (cells_then : List (Option Cell)) (actors_then : List (Option Actor)) → GoesQuietly cells_now actors_now cells_then actors_then → GoesQuietly cells actors cells_then actors_then
-  quiet-then cells_then actors_then goes = λ w now i j. goes w now (stays.same w i) j
+  -- the actor has gone on with its command from there
+  pub goes-on-then : (h : List Dimension) (n : ℕ) (cells_then : List (Option Cell)) (actors_then : List (Option Actor)) → GoesOnWithCommand h n cells_now actors_now cells_then actors_then → GoesOnWithCommand h n cells actors cells_then actors_then
+  goes-on-then h n cells_then actors_then goes = (goes.0, step-then h goes.0 n cells_then actors_then goes.1, told goes.2)
+    where
+      told : TellsIfNote goes.0 cells_now actors_now cells_then actors_then → TellsIfNote goes.0 cells actors cells_then actors_then
+      told (inl other) = inl other
+      told (inr tells) = inr (λ w now i j. tells w now (stays.same w i) j)

@@ -189,7 +189,7 @@ sync-is s w rest n due =
 
 -- What the kinds ask.
 
-same-server : {r : Role} (x y : ℕ) → r ≡ Session x → r ≡ Session y → x ≡ y
+pub same-server : {r : Role} (x y : ℕ) → r ≡ Session x → r ≡ Session y → x ≡ y
 same-server x y e f = (let same : Session x ≡ Session y = sym e ∙ f in cc)
 
 module _ (h : List Dimension) (with : Use) (cells : List (Option Cell)) (actors : List (Option Actor)) (s : Setting) (w : World) (core : IsCore h with cells actors s w) (n x : ℕ) (lt : n < length actors)

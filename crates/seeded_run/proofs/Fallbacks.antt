@@ -25,6 +25,7 @@ still-is h with cells cells_now actors actors_now s w core stays = record {
   stock = core.stock;
   roles = core.roles;
   count = stays.actors_kept ∙ core.count;
+  places = stays.cells_kept ∙ core.places;
   is = stays.same w core.is;
   inv = core.inv;
 }

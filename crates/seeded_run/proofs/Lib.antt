@@ -32,3 +32,14 @@ pub mod DueParts
 pub mod Holds
 pub mod Fallbacks
 pub mod PartsReady
+pub mod DueReads
+pub mod ReadsReady
+pub mod DueTakes
+pub mod TakesReady
+pub mod DueBegins
+pub mod BeginsReady
+pub mod DueNotes
+pub mod WorksReady
+pub mod ShowsReady
+pub mod DueRows
+pub mod RowsReady

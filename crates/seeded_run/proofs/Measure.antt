@@ -96,6 +96,7 @@ fewer-law h p k n cells actors cells_now actors_now most has stepped turn =
       stock = core.stock;
       roles = core.roles;
       count = stepped.actors_kept ∙ core.count;
+      places = stepped.cells_kept ∙ core.places;
       is = after.is;
       inv = record { ghost_of = after.kept.ghost_now; holds = after.kept.holds; reached = after.reached };
     } in

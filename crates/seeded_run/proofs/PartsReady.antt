@@ -33,7 +33,7 @@ use Rattle.seeded_run.proofs.Fallbacks.{ends-by}
 use Rattle.seeded_run.proofs.Worlds.{past-end}
 use Rattle.seeded_run.proofs.Holds.{CanHold, at-part-there, gate-tag, hold-fixed, hold-gate, hold-own, left-gate, part-places, pinned-gate, steps-with}
 
-map-fixed : (c : CellValue) (worker : ℕ) → tag_of c ≡ MapOf worker → tag_of c ≢ OfStock
+pub map-fixed : (c : CellValue) (worker : ℕ) → tag_of c ≡ MapOf worker → tag_of c ≢ OfStock
 map-fixed c worker is e = (let never : MapOf worker ≡ OfStock = sym is ∙ e in cc)
 
 desk-fixed : (c : CellValue) (server : ℕ) → tag_of c ≡ DeskOf server → tag_of c ≢ OfStock
@@ -74,7 +74,7 @@ rest-not-carried : (e : ErrandValue) (r : RowErrand) (y : ℕ) → r.way ≡ way
 rest-not-carried e r y is at = (let never : ◌≡◌ {A = Option ℕ} None (Some y) = sym (ap (λ (x : Way). block_at (place_of x)) is) ∙ at in absurd (cc))
 
 -- an actor that carries its row at a block
-carried-own : (a : ActorValue) (e : ErrandValue) (r : RowErrand) (gate block : ℕ) → a.errand ≡ Some e → e.task ≡ OfRow r → r.way ≡ way.Carried gate block → MustKeep a block
+pub carried-own : (a : ActorValue) (e : ErrandValue) (r : RowErrand) (gate block : ℕ) → a.errand ≡ Some e → e.task ≡ OfRow r → r.way ≡ way.Carried gate block → MustKeep a block
 carried-own a e r gate block errand row is =
     let place : block_at (place_of r.way) ≡ Some block = ap (λ (x : Way). block_at (place_of x)) is in
     let task : IsCarried (way_in_task e e.task) block = subst (λ (t : TaskValue). IsCarried (way_in_task e t) block) (sym row) place in
@@ -91,7 +91,7 @@ module _ (h : List Dimension) (with : Use) (cells : List (Option Cell)) (actors 
   is = core.is_core
 
   -- what one sees of an actor's part, and of the way of its row
-  errand-same : errand_by actors n ≡ (w.actors n).errand
+  pub errand-same : errand_by actors n ≡ (w.actors n).errand
   errand-same = elim (cases_lt n (length actors)) [
     | inl lt ↦
         let k = stands (get_or actors n None) (λ x. actor_of x ≡ w.actors n) (is.is.actor n lt) in
@@ -99,10 +99,10 @@ module _ (h : List Dimension) (with : Use) (cells : List (Option Cell)) (actors 
     | inr ge ↦ ap errand_of_one (past-end actors n ge) ∙ sym (is.is.no_actor n ge).errand
   ]
 
-  errand-seen : (e : ErrandValue) → (w.actors n).errand ≡ Some e → errand_by actors n ≡ Some e
+  pub errand-seen : (e : ErrandValue) → (w.actors n).errand ≡ Some e → errand_by actors n ≡ Some e
   errand-seen e errand = errand-same ∙ errand
 
-  way-seen : (e : ErrandValue) (r : RowErrand) → (w.actors n).errand ≡ Some e → e.task ≡ OfRow r → way_at (errand_by actors n) ≡ r.way
+  pub way-seen : (e : ErrandValue) (r : RowErrand) → (w.actors n).errand ≡ Some e → e.task ≡ OfRow r → way_at (errand_by actors n) ≡ r.way
   way-seen e r errand row = ap way_at (errand-seen e errand) ∙ ap way_in row
 
   pub put_in_leaf-ready : (at : ℕ) → at ≡ block_on (way_at (errand_by actors n)) → IsDue h with cells actors n PutInLeaf → MayStep cells actors (at ∷ []) n (PutsInLeaf at)

@@ -55,7 +55,7 @@ low-or-past : (a n : ℕ) → (a < n) ⊎ (n ≤ a)
 low-or-past a n = grind arith
 
 module _ (s : Setting) (w : World) (g : Ghost) (i : InvWith s (view s w) g) (roles : AreScriptRoles s) where
-  role-is : (a : ℕ) (r : Role) → slice_get s.roles a ≡ Some r → (w.actors a).role ≡ r
+  pub role-is : (a : ℕ) (r : Role) → slice_get s.roles a ≡ Some r → (w.actors a).role ≡ r
   role-is a r at = same-role (slice_get s.roles a) (w.actors a).role r (i.numbering.role a (slice_get_within s.roles a r at)) at
 
   pub session-is : (a server : ℕ) → (w.actors a).role ≡ Session server → a ≡ server

@@ -1,23 +1,30 @@
--- What the steps of commands ask and tell in a script's core: which command is the next one, and what became of the history.
-use Rattle.std.specs.Prelude.{ℕ, ◌≡◌, ◌++◌, true, false, List, ◌∷◌, get_or, Option, Some, None}
+-- What the steps of commands ask and tell in a script's core: which command is the next one and may begin, and what became of the
+-- history.
+use Rattle.std.specs.Prelude.{ℕ, ◌≡◌, ◌<◌, ⊤, Bool, true, false, All, List, ◌∷◌, get_or, length, Option, Some, None}
 use Rattle.dim_hierarchy.specs.Dimension.{Dimension}
-use Rattle.row_ledger.specs.Past.{is_beginning}
+use Rattle.dim_hierarchy.specs.Filter.{IsNamePick}
 use Rattle.row_ledger.specs.declared.event.Event.{Event}
+use Rattle.row_ledger.specs.declared.settings.Call.{Call}
+use Rattle.row_ledger.specs.declared.settings.Call.TheVariants.{Sync}
 use Rattle.row_ledger.specs.declared.settings.Use.{Use}
 use Rattle.script_form.specs.declared.script.Command.{Command}
-use Rattle.script_run.specs.Runs.{Begins}
-use Rattle.tree_shape.specs.Counts.{Each}
+use Rattle.script_form.specs.declared.script.Command.TheVariants as script
+use Rattle.script_run.specs.Places.{session_of}
+use Rattle.script_run.specs.Runs.{Begins, can_be_refused}
 use Rattle.volap_cell.specs.Setting.{Setting}
 use Rattle.volap_cell.specs.State.{Has, IsWorldOf}
 use Rattle.volap_cell.specs.Steps.{history_in}
+use Rattle.volap_cell.specs.Values.{actor_of}
 use Rattle.volap_cell.specs.World.{World}
 use Rattle.volap_cell.specs.declared.actor.Actor.{Actor}
 use Rattle.volap_cell.specs.declared.cell.Cell.{Cell}
 use Rattle.volap_cell.specs.declared.kind.Kind.{Kind}
+use Rattle.volap_cell.specs.declared.kind.Kind.TheVariants as kind
 use Rattle.volap_cell.specs.declared.role.Role.TheVariants.{Session}
 use Rattle.seeded_run.specs.Can.{meets}
 use Rattle.seeded_run.specs.Core.{IsCore}
 use Rattle.seeded_run.specs.Due.{due_by}
+use Rattle.seeded_run.specs.Look.{HasNames}
 
 -- a step of this kind is due for the actor, and it can be made, where this command is the next one of its stream
 pub record IsNextAt (s : Setting) (w : World) (n : ℕ) (c : Command) (k : Kind) : Type 0 where
@@ -29,16 +36,6 @@ pub record IsNextAt (s : Setting) (w : World) (n : ℕ) (c : Command) (k : Kind)
 
 abbrev pub IsNext : (h : List Dimension) (with : Use) (cells : List (Option Cell)) (actors : List (Option Actor)) (n : ℕ) (c : Command) (k : Kind) → Type 0
 IsNext h with cells actors n c k = (s : Setting) (w : World) → IsCore h with cells actors s w → IsNextAt s w n c k
-
--- the history of one state is that of another one behind some events, none of which begins a command
-pub record IsQuiet (before now : List Event) : Type 0 where
-  pub newer : List Event
-  pub grows : now ≡ newer ++ before
-  pub quiet : Each (λ e. is_beginning e ≡ false) newer
-
--- whatever states the vectors were and are
-abbrev pub GoesQuietly : (cells : List (Option Cell)) (actors : List (Option Actor)) (cells_now : List (Option Cell)) (actors_now : List (Option Actor)) → Type 0
-GoesQuietly cells actors cells_now actors_now = (w now : World) → IsWorldOf cells actors w → IsWorldOf cells_now actors_now now → IsQuiet (history_in w) (history_in now)
 
 -- the history has one event more, by which this command begins
 pub record IsBegunBy (with : Use) (h : List Dimension) (c : Command) (before now : List Event) : Type 0 where
@@ -52,3 +49,40 @@ GoesBy with h c cells actors cells_now actors_now = (w now : World) → IsWorldO
 -- the actor is there, and its server is this one
 abbrev pub IsSessionAt : List (Option Actor) → ℕ → ℕ → Type 0
 IsSessionAt actors n server = Has (get_or actors n None) (λ a. a.role ≡ Session server)
+
+-- Beginnings.
+
+-- kinds of steps by which a command begins
+abbrev pub may_begin : Kind → Bool
+may_begin kind.BeginInsert = true
+may_begin kind.BeginQuery = true
+may_begin kind.Note = true
+may_begin _ = false
+
+-- a pull is for a server that is there
+abbrev pub IsAllowedCall : Use → Call → Type 0
+IsAllowedCall with (Sync server) = server < with.servers
+IsAllowedCall with called = ⊤
+
+-- a command is for a server that is there; a query is asked where there is a dimension, and picks by one name at least
+abbrev pub IsAllowed : Use → List Dimension → Command → Type 0
+IsAllowed with h (script.Insert new) = new.server < with.servers
+IsAllowed with h (script.Query question) = (question.server < with.servers) × (0 < length h) × All IsNamePick question.filter
+IsAllowed with h (script.Control called) = IsAllowedCall with called
+
+-- the command may find no memory before it begins, and end with that
+abbrev pub may_be_refused : Command → Bool
+may_be_refused (script.Control called) = can_be_refused called
+may_be_refused c = true
+
+-- This command is the next one of the actor's stream, and its beginning is due for the actor, which is its session and has no command
+-- open.
+pub record IsToBegin (h : List Dimension) (with : Use) (cells : List (Option Cell)) (actors : List (Option Actor)) (n : ℕ) (c : Command) : Type 0 where
+  pub within : n < length actors
+  pub kind_is : Kind
+  pub begins : may_begin kind_is ≡ true
+  pub next : IsNext h with cells actors n c kind_is
+  pub own : session_of with c ≡ n
+  pub free : Has (get_or actors n None) (λ a. (actor_of a).command ≡ None)
+  pub names : HasNames h c
+  pub allowed : IsAllowed with h c

@@ -3,7 +3,7 @@ use Rattle.std.specs.Prelude.{ℕ, ◌≡◌, true, List, length, Option, Some}
 use Rattle.dim_hierarchy.specs.Dimension.{Dimension}
 use Rattle.row_ledger.specs.declared.settings.Use.{Use}
 use Rattle.script_form.specs.declared.script.Command.{Command}
-use Rattle.volap_cell.specs.Setting.{Setting, actor_count}
+use Rattle.volap_cell.specs.Setting.{Setting, actor_count, cell_count}
 use Rattle.volap_cell.specs.State.{IsWorldOf, Stepped}
 use Rattle.volap_cell.specs.Steps.{Inv}
 use Rattle.volap_cell.specs.World.{World}
@@ -22,6 +22,7 @@ pub record IsCore (h : List Dimension) (with : Use) (cells : List (Option Cell))
   pub stock : s.stock_cells ≡ with.cells
   pub roles : AreScriptRoles s
   pub count : length actors ≡ actor_count s
+  pub places : length cells ≡ cell_count s
   pub is : IsWorldOf cells actors w
   pub inv : Inv s w
 

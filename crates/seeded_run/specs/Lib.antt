@@ -16,3 +16,9 @@ pub mod Commands
 pub mod Kept
 pub mod Arms
 pub mod AtWork
+pub mod Led
+pub mod Awaited
+pub mod Phase
+pub mod Works
+pub mod Shown
+pub mod Rows

@@ -1,10 +1,12 @@
 //! What is due for an actor without a command.
-ghost use Rattle.std.specs.Prelude.{◌≡◌, [], option_copied};
+ghost use Rattle.std.specs.Prelude.{◌≡◌, false, None, IfSome, [], option_copied};
 ghost use Rattle.std.specs.List.{list_any};
 ghost use Rattle.query_router.specs.Desk.{waits_for};
-ghost use Rattle.seeded_run.specs.Due.{desk_of, first_kind, free_kind, hand_kind, next_kind};
+ghost use Rattle.seeded_run.specs.Awaited.{IsAwaited};
+ghost use Rattle.seeded_run.specs.Due.{any_below, desk_of, first_kind, free_kind, hand_kind, next_kind};
 ghost use Rattle.seeded_run.specs.Look.{HasNextNames, ahead, cell_at, setting_by, world_by};
 ghost use Rattle.volap_cell.specs.Cells.{desk_in};
+ghost use Rattle.volap_cell.specs.Setting.{desk_cell};
 
 use crate::commands_due::kind_at_empty;
 use crate::names_due::are_known;
@@ -36,16 +38,27 @@ fn is_awaited_at(cells: &[Option<Cell>], at: u32, worker: u8) -> bool
     }
 }
 
+/// The first server on whose desk a part waits for the worker, if there is one.
+pub(crate) fn awaiting(with: &Use, cells: &[Option<Cell>], worker: u8) -> Option<u8>
+    ensures some { IfSome result (IsAwaited with.now cells.now worker) }
+    ensures none { result ≡ None → any_below with.now.servers (λ server. list_any (waits_for worker) (desk_in (cell_at cells.now (desk_cell (setting_by [] with.now) server))).parts) ≡ false }
+{
+    for server in 0..with.servers {
+        if is_awaited_at(cells, desk_place(with, server), worker) {
+            return Some(server);
+        }
+    }
+    None
+}
+
 /// What is due for a hand: it looks at the desk of each server.
 pub(crate) fn hand_kind(with: &Use, cells: &[Option<Cell>], worker: u8) -> Option<Kind>
     ensures { result ≡ hand_kind (setting_by [] with.now) (world_by cells.now) worker }
 {
-    for server in 0..with.servers {
-        if is_awaited_at(cells, desk_place(with, server), worker) {
-            return Some(Kind::TakePart);
-        }
+    match awaiting(with, cells, worker) {
+        Some(_) => Some(Kind::TakePart),
+        None => None,
     }
-    None
 }
 
 /// What begins a command, of whose names all are known or one isn't.

@@ -1,17 +1,19 @@
 //! The steps of commands, made for an actor for which they are due.
 ghost use Rattle.std.specs.Prelude.{ℕ, ◌<◌, length};
-ghost use Rattle.seeded_run.specs.Commands.{GoesQuietly, IsSessionAt};
-ghost use Rattle.seeded_run.specs.Core.{HasCore, IsDue, StepsOn};
-ghost use Rattle.volap_cell.specs.declared.kind.Kind.TheVariants.{Ack, Answer, Route};
+ghost use Rattle.seeded_run.specs.Arms.{GoesOnWithCommand};
+ghost use Rattle.seeded_run.specs.Commands.{IsSessionAt};
+ghost use Rattle.seeded_run.specs.Core.{HasCore, IsDue};
+ghost use Rattle.volap_cell.specs.declared.kind.Kind.TheVariants.{Ack, Answer, Route, Sync};
 
-use crate::places::{desk_place, image_place, ledger_place};
+use crate::places::{desk_place, image_place, ledger_place, registry_place};
+use crate::works::pull_by;
 use dim_hierarchy::Hierarchy;
-use row_ledger::Use;
+use row_ledger::{How, Use};
 use std::alloc::Global;
 use volap_cell::{Role, State};
 
 /// The server of an actor that is a session.
-fn session_server(state: &State, number: usize) -> u8
+pub(crate) fn session_server(state: &State, number: usize) -> u8
     requires within { number < length state.now.actors.items }
     requires session { (server : ℕ) × IsSessionAt state.now.actors.items number server }
     ensures { IsSessionAt state.now.actors.items number result }
@@ -30,8 +32,7 @@ pub(crate) fn ack(h: &Hierarchy, with: &Use, state: &mut State, number: usize)
     requires core { HasCore h.now with.now state.old.cells.items state.old.actors.items }
     requires within { number < length state.old.actors.items }
     requires due { IsDue h.now with.now state.old.cells.items state.old.actors.items number Ack }
-    ensures made { StepsOn h.now number state.old.cells.items state.old.actors.items state.new.cells.items state.new.actors.items }
-    ensures quiet { GoesQuietly state.old.cells.items state.old.actors.items state.new.cells.items state.new.actors.items }
+    ensures made { GoesOnWithCommand h.now number state.old.cells.items state.old.actors.items state.new.cells.items state.new.actors.items }
 {
     let server = session_server(state, number);
     let desk = desk_place(with, server);
@@ -45,8 +46,7 @@ pub(crate) fn answer(h: &Hierarchy, with: &Use, state: &mut State, number: usize
     requires core { HasCore h.now with.now state.old.cells.items state.old.actors.items }
     requires within { number < length state.old.actors.items }
     requires due { IsDue h.now with.now state.old.cells.items state.old.actors.items number Answer }
-    ensures made { StepsOn h.now number state.old.cells.items state.old.actors.items state.new.cells.items state.new.actors.items }
-    ensures quiet { GoesQuietly state.old.cells.items state.old.actors.items state.new.cells.items state.new.actors.items }
+    ensures made { GoesOnWithCommand h.now number state.old.cells.items state.old.actors.items state.new.cells.items state.new.actors.items }
 {
     let server = session_server(state, number);
     let desk = desk_place(with, server);
@@ -60,8 +60,7 @@ pub(crate) fn route(alloc: Global, h: &Hierarchy, with: &Use, state: &mut State,
     requires core { HasCore h.now with.now state.old.cells.items state.old.actors.items }
     requires within { number < length state.old.actors.items }
     requires due { IsDue h.now with.now state.old.cells.items state.old.actors.items number Route }
-    ensures made { StepsOn h.now number state.old.cells.items state.old.actors.items state.new.cells.items state.new.actors.items }
-    ensures quiet { GoesQuietly state.old.cells.items state.old.actors.items state.new.cells.items state.new.actors.items }
+    ensures made { GoesOnWithCommand h.now number state.old.cells.items state.old.actors.items state.new.cells.items state.new.actors.items }
 {
     let server = session_server(state, number);
     let desk = desk_place(with, server);
@@ -70,5 +69,23 @@ pub(crate) fn route(alloc: Global, h: &Hierarchy, with: &Use, state: &mut State,
     match core_steps::route(alloc, h, state, number, desk, image) {
         Ok(()) => {}
         Err(_) => core_steps::fail_unrouted(h, state, number, image, ledger),
+    }
+}
+
+/// The server of which a pull is due for the actor's command pulls. Where memory is wanting for it, the
+/// command ends so.
+pub(crate) fn sync(alloc: Global, h: &Hierarchy, with: &Use, state: &mut State, number: usize)
+    requires core { HasCore h.now with.now state.old.cells.items state.old.actors.items }
+    requires within { number < length state.old.actors.items }
+    requires due { IsDue h.now with.now state.old.cells.items state.old.actors.items number Sync }
+    ensures made { GoesOnWithCommand h.now number state.old.cells.items state.old.actors.items state.new.cells.items state.new.actors.items }
+{
+    let server = pull_by(with, state, number);
+    let image = image_place(server);
+    let registry = registry_place();
+    let ledger = ledger_place();
+    match core_steps::sync(alloc, h, state, number, image, registry, ledger) {
+        Ok(()) => {}
+        Err(_) => core_steps::note_ended(h, state, number, ledger, How::NoMemory),
     }
 }

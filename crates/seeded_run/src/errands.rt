@@ -36,7 +36,7 @@ fn way_of(actor: &Actor) -> Way
 }
 
 /// How far the row has come that the actor with this number has.
-fn way_by(state: &State, number: usize) -> Way
+pub(crate) fn way_by(state: &State, number: usize) -> Way
     ensures { result ≡ way_at (errand_by state.now.actors.items number) }
 {
     match state.actors.get(number) {
@@ -76,7 +76,7 @@ fn worker_of(actor: &Actor) -> u8
 }
 
 /// The worker of the part of the actor with this number.
-fn worker_by(state: &State, number: usize) -> u8
+pub(crate) fn worker_by(state: &State, number: usize) -> u8
     ensures { result ≡ worker_at (errand_by state.now.actors.items number) }
 {
     match state.actors.get(number) {
@@ -96,7 +96,7 @@ fn gate_on(way: Way) -> u32
 }
 
 /// The block at which a row is carried, 0 where it is at none.
-fn block_on(way: Way) -> u32
+pub(crate) fn block_on(way: Way) -> u32
     ensures { result ≡ block_on way }
 {
     match way {
@@ -188,7 +188,7 @@ pub(crate) fn forward(h: &Hierarchy, with: &Use, state: &mut State, number: usiz
 }
 
 /// An actor's part ends, where it can. Takes no memory.
-fn end_part(h: &Hierarchy, with: &Use, state: &mut State, number: usize)
+pub(crate) fn end_part(h: &Hierarchy, with: &Use, state: &mut State, number: usize)
     requires core { HasCore h.now with.now state.old.cells.items state.old.actors.items }
     requires ends { CanEndBy state.old.actors.items number }
     ensures made { Stepped h.now FinishPart number state.old.cells.items state.old.actors.items state.new.cells.items state.new.actors.items }

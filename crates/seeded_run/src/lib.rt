@@ -2,6 +2,7 @@
 #![tactic(auto)]
 
 mod alone;
+mod beginnings;
 mod begins_due;
 mod can;
 mod commands;
@@ -12,8 +13,13 @@ mod laws;
 mod look;
 mod names_due;
 mod places;
+mod reads;
+mod shows;
+mod rows;
 mod sights;
+mod takes;
 mod wanted;
+mod works;
 
 pub use laws::{
     cursors_tell_rests, idle_actors_wait, less_is_left, limits_hold, one_steps_in_order,

@@ -92,7 +92,7 @@ fn last_noted(todo: &Todo) -> Option<u32>
 }
 
 /// The block that a query visits next.
-fn visit_wanted(task: &Task) -> Option<u32>
+pub(crate) fn visit_wanted(task: &Task) -> Option<u32>
     ensures { result ≡ wanted_visit (task_of task.now) }
 {
     match task {

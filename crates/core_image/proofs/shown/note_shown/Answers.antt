@@ -1,8 +1,12 @@
-use Rattle.std.proofs.Common.{length, ap, sym, ◌∙◌}
+use Rattle.std.proofs.Common.{◌∷◌, length, Option, ap, sym, ◌∙◌}
 use Rattle.row_ledger.specs.LedgerValue.{LedgerValue}
+use Rattle.row_ledger.specs.declared.event.Event.TheVariants.{Shown}
 use Rattle.volap_cell.specs.Cells.{LedgerCell, cell_of}
 use Rattle.volap_cell.specs.Values.{actor_of}
+use Rattle.volap_cell.specs.declared.command.Command.{Command}
+use Rattle.core_image.specs.ToldPages.{began_at, shown_by}
 use Rattle.core_image.proofs.NotesShown.{shown-due, shown-makes, shown-promised}
+use Rattle.core_image.proofs.Telling.{tells}
 use Rattle.core_image.proofs.shown.note_shown.Goals as goal
 
 pub push-requires : goal.push-requires
@@ -22,4 +26,7 @@ returns c =
           c.deref_mut.result.now (ap cell_of c.in-Ledger.is ∙ ap LedgerCell (sym c.deref_mut.ensures.value))
           c.in-Some.command c.in-Some.is c.push.new.self c.push.ensures.history c.push.ensures.promised
           _ c.show.ensures _ (c.len-actor.ensures.value ∙ ap (λ (l : LedgerValue). length l.history) c.deref.ensures);
+      told = tells (shown_by c.args.page) (actor_of c.args.actor.now) (cell_of c.args.ledger.now) c.deref_mut.result.now c.push.new.self
+          (ap cell_of c.in-Ledger.is ∙ ap LedgerCell (sym c.deref_mut.ensures.value))
+          (c.push.ensures.history ∙ ap (λ (o : Option Command). Shown (began_at o) c.args.page ∷ c.deref_mut.result.now.history) (sym c.in-Some.is));
     }

@@ -1,4 +1,6 @@
-use Rattle.seeded_run.proofs.Afterwards.{quietly}
+use Rattle.std.proofs.Common.{refl}
+use Rattle.volap_cell.specs.declared.kind.Kind.TheVariants.{Ack}
+use Rattle.seeded_run.proofs.Afterwards.{other-step}
 use Rattle.seeded_run.proofs.CommandsHeld.{ack-ready, ack-session}
 use Rattle.seeded_run.proofs.commands.ack.Goals as goal
 
@@ -9,5 +11,7 @@ pub ack-requires-clause-ready : goal.ack-requires-clause-ready
 ack-requires-clause-ready c =
     ack-ready c.args.h.now c.args.with.now c.args.state.now.cells.items c.args.state.now.actors.items c.requires.core c.args.number c.requires.within c.requires.due c.session_server-server.result c.desk_place-desk.result c.image_place-image.result c.ledger_place-ledger.result c.session_server-server.ensures c.desk_place-desk.ensures c.image_place-image.ensures c.ledger_place-ledger.ensures
 
-pub returns-clause-quiet : goal.returns-clause-quiet
-returns-clause-quiet c = quietly c.ledger_place-ledger.result c.args.state.now.cells.items c.ack.new.state.cells.items c.args.state.now.actors.items c.ack.new.state.actors.items c.ledger_place-ledger.ensures c.ack.ensures.quiet
+pub returns : goal.returns
+returns c = record {
+  made = other-step Ack refl c.args.h.now c.args.number c.args.state.now.cells.items c.ack.new.state.cells.items c.args.state.now.actors.items c.ack.new.state.actors.items c.ack.ensures.stepped;
+}

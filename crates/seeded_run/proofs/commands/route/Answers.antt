@@ -1,6 +1,6 @@
-use Rattle.std.proofs.Common.{[], ◌∷◌}
-use Rattle.volap_cell.specs.declared.kind.Kind.TheVariants.{Note}
-use Rattle.seeded_run.proofs.Afterwards.{away-from-two, quiet-then, quietly, silently, step-then}
+use Rattle.std.proofs.Common.{refl}
+use Rattle.volap_cell.specs.declared.kind.Kind.TheVariants.{Route}
+use Rattle.seeded_run.proofs.Afterwards.{goes-on-then, noted-step, other-step}
 use Rattle.seeded_run.proofs.CommandsHeld.{route-ready, route-session, unrouted-ready}
 use Rattle.seeded_run.proofs.commands.route.Goals as goal
 
@@ -15,17 +15,14 @@ pub fail_unrouted-requires-clause-ready : goal.fail_unrouted-requires-clause-rea
 fail_unrouted-requires-clause-ready c =
     unrouted-ready c.args.h.now c.args.with.now c.args.state.now.cells.items c.args.state.now.actors.items c.requires.core c.args.number c.requires.within c.route.new.state.cells.items c.route.new.state.actors.items c.in-Err.ensures.stays c.requires.due c.session_server-server.result c.image_place-image.result c.ledger_place-ledger.result c.session_server-server.ensures c.image_place-image.ensures c.ledger_place-ledger.ensures
 
-pub returns-in-Ok-clause-quiet : goal.returns-in-Ok-clause-quiet
-returns-in-Ok-clause-quiet c =
-    silently (c.desk_place-desk.result ∷ c.image_place-image.result ∷ []) c.args.state.now.cells.items c.route.new.state.cells.items c.args.state.now.actors.items c.route.new.state.actors.items
-    (away-from-two c.requires.core.setting c.session_server-server.result c.desk_place-desk.result c.image_place-image.result (c.desk_place-desk.ensures c.requires.core.setting c.requires.core.is_core.servers) c.image_place-image.ensures)
-    c.in-Ok.ensures.spares
+pub returns-in-Ok : goal.returns-in-Ok
+returns-in-Ok c = record {
+  made = other-step Route refl c.args.h.now c.args.number c.args.state.now.cells.items c.route.new.state.cells.items c.args.state.now.actors.items c.route.new.state.actors.items c.in-Ok.ensures.stepped;
+}
 
-pub returns-in-Err-clause-made : goal.returns-in-Err-clause-made
-returns-in-Err-clause-made c =
-    (Note, step-then c.args.state.now.cells.items c.route.new.state.cells.items c.args.state.now.actors.items c.route.new.state.actors.items c.in-Err.ensures.stays c.args.h.now Note c.args.number c.fail_unrouted.new.state.cells.items c.fail_unrouted.new.state.actors.items c.fail_unrouted.ensures.stepped)
-
-pub returns-in-Err-clause-quiet : goal.returns-in-Err-clause-quiet
-returns-in-Err-clause-quiet c =
-    quiet-then c.args.state.now.cells.items c.route.new.state.cells.items c.args.state.now.actors.items c.route.new.state.actors.items c.in-Err.ensures.stays c.fail_unrouted.new.state.cells.items c.fail_unrouted.new.state.actors.items
-    (quietly c.ledger_place-ledger.result c.route.new.state.cells.items c.fail_unrouted.new.state.cells.items c.route.new.state.actors.items c.fail_unrouted.new.state.actors.items c.ledger_place-ledger.ensures c.fail_unrouted.ensures.quiet)
+pub returns-in-Err : goal.returns-in-Err
+returns-in-Err c = record {
+  made =
+      goes-on-then c.args.state.now.cells.items c.route.new.state.cells.items c.args.state.now.actors.items c.route.new.state.actors.items c.in-Err.ensures.stays c.args.h.now c.args.number c.fail_unrouted.new.state.cells.items c.fail_unrouted.new.state.actors.items
+      (noted-step c.args.h.now c.args.number c.ledger_place-ledger.result c.route.new.state.cells.items c.fail_unrouted.new.state.cells.items c.route.new.state.actors.items c.fail_unrouted.new.state.actors.items c.ledger_place-ledger.ensures c.fail_unrouted.ensures.stepped c.fail_unrouted.ensures.quiet);
+}

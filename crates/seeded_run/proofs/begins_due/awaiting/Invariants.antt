@@ -5,7 +5,7 @@ use Rattle.seeded_run.specs.Due.{any_below}
 use Rattle.seeded_run.specs.Look.{cell_at, setting_by}
 use Rattle.volap_cell.specs.Cells.{desk_in}
 use Rattle.volap_cell.specs.Setting.{desk_cell}
-use Rattle.seeded_run.proofs.begins_due.hand_kind.Given as goal
+use Rattle.seeded_run.proofs.begins_due.awaiting.Given as goal
 
 abbrev pub invariant-loop-server : goal.invariant-loop-server
 invariant-loop-server l = any_below l.server (λ server. list_any (waits_for l.worker) (desk_in (cell_at l.cells (desk_cell (setting_by [] l.with) server))).parts) ≡ false

@@ -1,0 +1,16 @@
+-- Which event a step puts in the history by which a page is shown.
+use Rattle.std.specs.Prelude.{ℕ, Option, Some, None}
+use Rattle.row_ledger.specs.declared.event.Event.{Event}
+use Rattle.row_ledger.specs.declared.event.Event.TheVariants.{Shown}
+use Rattle.row_ledger.specs.declared.page.Page.{Page}
+use Rattle.volap_cell.specs.Values.{ActorValue}
+use Rattle.volap_cell.specs.declared.command.Command.{Command}
+
+-- where the actor's command began
+abbrev pub began_at : Option Command → ℕ
+began_at None = 0
+began_at (Some c) = c.of
+
+-- what an actor's event is, at its place in the history
+abbrev pub shown_by : Page → ActorValue → ℕ → Event
+shown_by page a place = Shown (began_at a.command) page

@@ -1,0 +1,217 @@
+-- What the cells of a state have that one thread holds: the blocks and the gate are those of the state, and where nobody is at a part the
+-- gate's tree is at rest, so that a page made of it is what the state has.
+use Rattle.std.proofs.Common.{Result, Ok, Err, ℕ, ◌≡◌, ◌≢◌, ◌<◌, true, false, cond, eqb, List, [], ◌∷◌, length, map, Option, Some, None, get_or, inl, inr, refl, sym, ap, ◌∙◌, subst, arith}
+use Rattle.std.specs.Prelude.{IfOk, IsSome}
+use Rattle.std.proofs.lemmas.Bool.{cases_lt}
+use Rattle.std.proofs.lemmas.List.{get_or_past}
+use Rattle.dim_hierarchy.specs.declared.row.Row.{Row}
+use Rattle.block_cells.specs.Cells.{CellBlocks}
+use Rattle.row_ledger.specs.Pages.{IsPageOf}
+use Rattle.row_ledger.specs.declared.page.TreePage.{TreePage}
+use Rattle.shard_store.specs.declared.gate.Gate.{Gate}
+use Rattle.shard_store.specs.declared.gate.Phase.{Phase}
+use Rattle.tree_page.specs.Still.{cells_with, IsStill, CanShow}
+use Rattle.tree_page.proofs.Bodies.{each-mapped}
+use Rattle.tree_page.proofs.Counts.{root-times}
+use Rattle.tree_page.proofs.Numbers.{each-times}
+use Rattle.tree_shape.specs.Counts.{Each, times}
+use Rattle.tree_shape.specs.Shape.{Shape, Table, TreeCells, numbers}
+use Rattle.tree_shape.specs.Trees.{IsTree}
+use Rattle.tree_shape.proofs.Walks.{on_bool, eqb-eq, eqb-ne}
+use Rattle.volap_cell.specs.Cells.{CellValue, FreeCell, LedgerCell, StockCell, RegistryCell, ImageCell, DeskCell, MapCell, GateCell, BlockCell, block_in, cell_of, gate_shard, has_block, phase_of, queue_in, way_in, way_to_tree}
+use Rattle.volap_cell.specs.Errands.{RowWay, way_of}
+use Rattle.volap_cell.specs.Ghost.{Ghost, NotOfStock, AGate, InTree}
+use Rattle.volap_cell.specs.Growing.{table_of}
+use Rattle.volap_cell.specs.Invariant.{InvWith}
+use Rattle.volap_cell.specs.Setting.{Setting}
+use Rattle.volap_cell.specs.Sights.{SeesTree}
+use Rattle.volap_cell.specs.State.{IsWorldOf}
+use Rattle.volap_cell.specs.Stocking.{IsWhole, cells_at}
+use Rattle.volap_cell.specs.View.{View, view}
+use Rattle.volap_cell.specs.World.{World}
+use Rattle.volap_cell.specs.declared.actor.Actor.{Actor}
+use Rattle.volap_cell.specs.declared.cell.Cell.{Cell}
+use Rattle.volap_cell.specs.declared.cell.Cell.TheVariants as cell
+use Rattle.volap_cell.proofs.Holding.{has-place}
+use Rattle.volap_cell.proofs.States.{of-it, stands, within}
+use Rattle.core_pages.specs.Held.{block_held, blocks_of, gate_held}
+use Rattle.core_pages.specs.Seen.{CanSee, CanSeeIn, IsOfGate, IsSeenIn}
+use Rattle.core_pages.proofs.AnyShape.{same-placed}
+
+-- what the page's maker says of a page, over a gate and blocks
+abbrev pub IsMade : Gate → CellBlocks → TreePage → Type 0
+IsMade gate blocks page = (table : Table) (home : ℕ) (g : Shape) → IsStill table home gate blocks g
+    → (ns : List ℕ) → ((r : ℕ) → times r ns ≡ cond (g.placed r) 1 0) → IsPageOf table.hierarchy (map table.row ns) gate.queue.rows page
+
+-- what is so of a result, and what else
+pub ok-both : {T E : Type 0} (r : Result T E) (P Q R : T → Type 0) → ((x : T) → P x → Q x → R x) → IfOk r P → IfOk r Q → IfOk r R
+ok-both (Ok x) P Q R f p q = f x p q
+ok-both (Err e) P Q R f p q = tt
+
+-- a place with a gate
+is-gate : (o : Option Cell) (gate : Gate) → gate_held o ≡ Some gate → (c : Cell) × (o ≡ Some c) × (cell_of c ≡ GateCell gate)
+is-gate None gate e = (let never : ◌≡◌ {A = Option Gate} None (Some gate) = e in absurd (cc))
+is-gate (Some cell.Free) gate e = (let never : ◌≡◌ {A = Option Gate} None (Some gate) = e in absurd (cc))
+is-gate (Some (cell.Ledger l)) gate e = (let never : ◌≡◌ {A = Option Gate} None (Some gate) = e in absurd (cc))
+is-gate (Some (cell.Stock k)) gate e = (let never : ◌≡◌ {A = Option Gate} None (Some gate) = e in absurd (cc))
+is-gate (Some (cell.Registry r)) gate e = (let never : ◌≡◌ {A = Option Gate} None (Some gate) = e in absurd (cc))
+is-gate (Some (cell.Image n i)) gate e = (let never : ◌≡◌ {A = Option Gate} None (Some gate) = e in absurd (cc))
+is-gate (Some (cell.Desk n d)) gate e = (let never : ◌≡◌ {A = Option Gate} None (Some gate) = e in absurd (cc))
+is-gate (Some (cell.Map n m)) gate e = (let never : ◌≡◌ {A = Option Gate} None (Some gate) = e in absurd (cc))
+is-gate (Some (cell.Gate g)) gate e = (let same : g.value ≡ gate = cc in (cell.Gate g, refl, ap GateCell same))
+is-gate (Some (cell.Block b)) gate e = (let never : ◌≡◌ {A = Option Gate} None (Some gate) = e in absurd (cc))
+
+-- a cell of which the state has a gate
+pub has-gate : (c : Cell) → IsSome (gate_shard (cell_of c)) → IsSome (gate_held (Some c))
+has-gate cell.Free e = e
+has-gate (cell.Ledger l) e = e
+has-gate (cell.Stock k) e = e
+has-gate (cell.Registry r) e = e
+has-gate (cell.Image n i) e = e
+has-gate (cell.Desk n d) e = e
+has-gate (cell.Map n m) e = e
+has-gate (cell.Gate g) e = refl
+has-gate (cell.Block b) e = e
+
+-- a gate has a phase
+has-phase : (c : CellValue) → IsSome (gate_shard c) → phase_of c ≢ None
+has-phase FreeCell e = (let never : false ≡ true = e in cc)
+has-phase (LedgerCell l) e = (let never : false ≡ true = e in cc)
+has-phase (StockCell k) e = (let never : false ≡ true = e in cc)
+has-phase (RegistryCell r) e = (let never : false ≡ true = e in cc)
+has-phase (ImageCell n i) e = (let never : false ≡ true = e in cc)
+has-phase (DeskCell n d) e = (let never : false ≡ true = e in cc)
+has-phase (MapCell n m) e = (let never : false ≡ true = e in cc)
+has-phase (GateCell g) e = λ none. (let never : ◌≡◌ {A = Option Phase} (Some g.phase) None = none in absurd (cc))
+has-phase (BlockCell b) e = (let never : false ≡ true = e in cc)
+
+-- the gate that the thread has is the state's
+gate-cell : (cells : List (Option Cell)) (actors : List (Option Actor)) (w : World) → IsWorldOf cells actors w → (at : ℕ) (gate : Gate) → gate_held (get_or cells at None) ≡ Some gate → w.cells at ≡ GateCell gate
+gate-cell cells actors w is at gate gate_is =
+    let k = is-gate (get_or cells at None) gate gate_is in
+    sym (of-it (get_or cells at None) (λ c. cell_of c ≡ w.cells at) k.0 (is.cell at (within cells at k.0 k.1)) k.1) ∙ k.2
+
+-- rows by their numbers, each the one of its number
+numbers-back : (row : ℕ → Row) (ns : List ℕ) → Each (λ n. (row n).no ≡ n) ns → numbers (map row ns) ≡ ns
+numbers-back row [] each = refl
+numbers-back row (n ∷ ns) each = (λ k. each.0 k ∷ numbers-back row ns each.1 k)
+
+module _ (cells : List (Option Cell)) (actors : List (Option Actor)) (s : Setting) (w : World) (ghost : Ghost) (is : IsWorldOf cells actors w) (inv : InvWith s (view s w) ghost) (at : ℕ) (can : CanSee w at) where
+  abbrev v : View
+  v = view s w
+
+  abbrev blocks : CellBlocks
+  blocks = blocks_of cells
+
+  abbrev table : Table
+  table = table_of s v.row
+
+  abbrev g0 : Shape
+  g0 = ghost.shape at
+
+  taken : w.cells at ≢ FreeCell
+  taken e = (let never : false ≡ true = subst (λ (c : CellValue). IsSome (gate_shard c)) e can.gate in cc)
+
+  -- the thread has the gate
+  pub gate-there : IsSome (gate_held (get_or cells at None))
+  gate-there =
+      let k = stands (get_or cells at None) (λ c. cell_of c ≡ w.cells at) (is.cell at (has-place cells actors w at is taken)) in
+      subst (λ (o : Option Cell). IsSome (gate_held o)) (sym k.1) (has-gate k.0 (subst (λ (c : CellValue). IsSome (gate_shard c)) (sym k.2) can.gate))
+
+  block-is : (y : ℕ) → block_in (w.cells y) ≡ block_held (get_or cells y None)
+  block-is y = elim (cases_lt y (length cells)) [
+    | inl lt ↦ let k = stands (get_or cells y None) (λ c. cell_of c ≡ w.cells y) (is.cell y lt) in ap block_in (sym k.2) ∙ ap block_held (sym k.1)
+    | inr ge ↦ ap block_in (is.no_cell y ge) ∙ ap block_held (sym (get_or_past cells y None ge))
+  ]
+
+  -- Who is at no part carries no row.
+  settled : (r : ℕ) → g0.placed r ≡ true → g0.carried r ≡ false
+  settled r p = on_bool (g0.carried r)
+      (λ q. let k = inv.turning.carried at r (has-phase (w.cells at) can.gate) p q in
+      let never : ◌≡◌ {A = Option RowWay} None (Some k.2) = ap way_of (sym (can.quiet k.0)) ∙ k.3 in absurd (cc))
+      (λ q. q)
+
+  whole : IsWhole v.gates v.phases v.pins at
+  whole = (can.gate, inl can.stands)
+
+  few-cells : (y : ℕ) → ghost.owner y ≢ NotOfStock → w.cells y ≢ FreeCell → y < blocks.count
+  few-cells y own there =
+      let a = (inv.stocking.within y own).1 in
+      let b = inv.numbering.setting.few in
+      let c = has-place cells actors w y is there in
+      omega arith
+
+  known : (y : ℕ) → g0.inside y ≡ true → y < blocks.count
+  known y inside = on_bool (eqb y at)
+      (λ q. let e = eqb-eq _ _ q in subst (λ (z : ℕ). z < blocks.count) (sym e)
+      (few-cells at (λ o. let never : AGate ≡ NotOfStock = sym (inv.stocking.gate at can.gate) ∙ o in cc) taken))
+      (λ q. let ne = eqb-ne _ _ q in
+      let in_tree = inv.stocking.tree at y whole inside ne in
+      few-cells y (λ o. let never : InTree at ≡ NotOfStock = sym in_tree.0 ∙ o in cc)
+      (λ free. let never : false ≡ true = sym (ap has_block free) ∙ in_tree.1 in cc))
+
+  module _ (gate : Gate) (gate_is : gate_held (get_or cells at None) ≡ Some gate) where
+    abbrev gate_cell : w.cells at ≡ GateCell gate
+    gate_cell = gate-cell cells actors w is at gate gate_is
+
+    -- a tree of the state, as a page reads it
+    as-read : (g : Shape) → IsTree table (cells_at v.blocks v.trees at) g → IsTree table (cells_with at gate blocks) g
+    as-read g tree =
+        let same : cells_at v.blocks v.trees at ≡ record { gate_cell = at; gate = way_to_tree gate; block = blocks.block } =
+        λ k. record { gate_cell = at; gate = way_in (gate_cell k); block = λ y. block-is y k } in
+        let t : IsTree table (record { gate_cell = at; gate = way_to_tree gate; block = blocks.block }) g = subst (λ (c : TreeCells). IsTree table c g) same tree in
+        record {
+          tree = t.tree;
+          top = t.top;
+          some = t.some;
+          height = t.height;
+          level = t.level;
+          only = t.only;
+          entered = t.entered;
+          heads = t.heads;
+          alone = t.alone;
+          numbered = t.numbered;
+          blocks = t.blocks;
+        }
+
+    still : IsStill table at gate blocks g0
+    still = record { tree = as-read g0 (inv.growing.tree at whole); settled = settled; known = known }
+
+    pub can-show : CanShow gate blocks
+    can-show = record { table = table; home = at; shape = g0; still = still }
+
+    -- the numbers of the tree's rows, and the rows
+
+    abbrev ns : List ℕ
+    ns = g0.below gate.root
+
+    all-placed : (r : ℕ) → times r ns ≡ cond (g0.placed r) 1 0
+    all-placed r = root-times table at gate blocks g0 still r
+
+    all-numbered : Each (λ n. (v.row n).no ≡ n) ns
+    all-numbered = each-times (λ n. (v.row n).no ≡ n) ns (λ n k. on_bool (g0.placed n)
+        (λ p. (still.tree.numbered n p).0)
+        (λ p. let none : times n ns ≡ 0 = all-placed n ∙ (rw p refl) in absurd (omega arith)))
+
+    pub shown-seen : (shown : TreePage) → shown.shard ≡ gate.shard → IsMade gate blocks shown → SeesTree s v shown
+    shown-seen shown shard made = record {
+      tree = map v.row ns;
+      queue = gate.queue.rows;
+      has = record {
+        gate = at;
+        is_gate = ap gate_shard gate_cell ∙ ap Some (sym shard);
+        stands = can.stands;
+        queue_is = ap (λ (c : CellValue). (queue_in c).rows) gate_cell;
+        named = each-mapped (λ n. (v.row n).no ≡ n) (λ (r : Row). v.row r.no ≡ r) v.row ns (λ n e. ap v.row e) all-numbered;
+        tree_is = λ g tree r. ap (times r) (numbers-back v.row ns all-numbered) ∙ same-placed table at gate blocks g0 g still (as-read g tree) r;
+      };
+      is_page = made table at g0 still ns all-placed;
+    }
+
+-- The same of whatever state the vectors are.
+module _ (cells : List (Option Cell)) (actors : List (Option Actor)) (at : ℕ) where
+  pub seen-in : CanSeeIn cells actors at → (gate : Gate) → gate_held (get_or cells at None) ≡ Some gate → (shown : TreePage) → shown.shard ≡ gate.shard → IsMade gate (blocks_of cells) shown → IsSeenIn cells actors shown
+  seen-in can gate gate_is shown shard made = λ s w is inv. shown-seen cells actors s w inv.ghost_of is inv.holds at (can s w is inv) gate gate_is shown shard made
+
+  pub of-gate : (gate : Gate) → gate_held (get_or cells at None) ≡ Some gate → (shown : TreePage) → shown.shard ≡ gate.shard → IsOfGate cells actors at shown
+  of-gate gate gate_is shown shard = λ w is. ap gate_shard (gate-cell cells actors w is at gate gate_is) ∙ ap Some (sym shard)

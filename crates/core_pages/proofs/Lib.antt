@@ -1,0 +1,2 @@
+pub mod AnyShape
+pub mod HeldTrees

@@ -1,0 +1,31 @@
+-- When the tree of a gate can be read off the cells that one thread holds, and that a page is what the state has of it.
+use Rattle.std.specs.Prelude.{ℕ, ◌≡◌, ◌≢◌, List, Option, Some, None, IsSome}
+use Rattle.row_ledger.specs.declared.page.TreePage.{TreePage}
+use Rattle.shard_store.specs.declared.gate.Phase.TheVariants.{Gone}
+use Rattle.volap_cell.specs.Cells.{gate_shard, phase_of}
+use Rattle.volap_cell.specs.Setting.{Setting}
+use Rattle.volap_cell.specs.Sights.{SeesTree}
+use Rattle.volap_cell.specs.State.{IsWorldOf}
+use Rattle.volap_cell.specs.Steps.{Inv}
+use Rattle.volap_cell.specs.View.{view}
+use Rattle.volap_cell.specs.World.{World}
+use Rattle.volap_cell.specs.declared.actor.Actor.{Actor}
+use Rattle.volap_cell.specs.declared.cell.Cell.{Cell}
+
+-- the cell has the gate of a shard that stands, and nobody is at a part
+pub record CanSee (w : World) (gate_at : ℕ) : Type 0 where
+  pub gate : IsSome (gate_shard (w.cells gate_at))
+  pub stands : phase_of (w.cells gate_at) ≢ Some Gone
+  pub quiet : (a : ℕ) → (w.actors a).errand ≡ None
+
+-- it is so of whatever state the vectors are, if it meets the invariant
+abbrev pub CanSeeIn : (cells : List (Option Cell)) (actors : List (Option Actor)) (gate_at : ℕ) → Type 0
+CanSeeIn cells actors gate_at = (s : Setting) (w : World) → IsWorldOf cells actors w → Inv s w → CanSee w gate_at
+
+-- and of each such state the page is what it has of its shard
+abbrev pub IsSeenIn : (cells : List (Option Cell)) (actors : List (Option Actor)) (shown : TreePage) → Type 0
+IsSeenIn cells actors shown = (s : Setting) (w : World) → IsWorldOf cells actors w → Inv s w → SeesTree s (view s w) shown
+
+-- the page is of the shard whose gate is in the cell
+abbrev pub IsOfGate : (cells : List (Option Cell)) (actors : List (Option Actor)) (gate_at : ℕ) (shown : TreePage) → Type 0
+IsOfGate cells actors gate_at shown = (w : World) → IsWorldOf cells actors w → gate_shard (w.cells gate_at) ≡ Some shown.shard

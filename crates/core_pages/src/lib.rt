@@ -1,0 +1,7 @@
+//! Pages of the core's shards, read off the cells that one thread holds.
+#![tactic(auto)]
+
+mod held;
+mod trees;
+
+pub use trees::tree_page_at;

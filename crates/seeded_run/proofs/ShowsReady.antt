@@ -1,0 +1,245 @@
+-- Where the page of a tree is due for a command, everyone else is idle, and the shard stands, with its gate where the table of its worker
+-- leads. So the page can be made and shown, and where it can't be made the command can end.
+use Rattle.std.proofs.Common.{ℕ, suc, ◌≡◌, ◌≢◌, ◌+◌, ◌<◌, ◌==◌, ◌&&◌, ◌||◌, Bool, true, false, eqb, List, [], ◌∷◌, length, map, Option, Some, None, get_or, inl, inr, refl, sym, ap, ◌∙◌, subst, arith, if◌then◌else◌}
+use Rattle.std.specs.Prelude.{IsSome, is_none}
+use Rattle.std.specs.List.{list_any}
+use Rattle.std.proofs.lemmas.Bool.{and_parts, cases_lt, ne_eqb}
+use Rattle.core_image.specs.ToldPages.{shown_by}
+use Rattle.core_image.proofs.Hosts.{host-on, stands-live}
+use Rattle.core_pages.specs.Seen.{CanSee, CanSeeIn, IsOfGate, IsSeenIn}
+use Rattle.core_steps.specs.Added.{Adds, AddsQuiet}
+use Rattle.core_steps.specs.AskedNotes.{NotesEnded}
+use Rattle.core_steps.specs.AskedPages.{NotesShown}
+use Rattle.core_steps.specs.Ready.{MayStep}
+use Rattle.core_steps.specs.Seen.{IsSeen}
+use Rattle.dim_hierarchy.specs.Dimension.{Dimension}
+use Rattle.row_ledger.specs.Past.{before, call_at, call_in}
+use Rattle.row_ledger.specs.Shards.{Place, frontier, is_live, is_of, is_on, places_after}
+use Rattle.row_ledger.specs.declared.event.Event.{Event}
+use Rattle.row_ledger.specs.declared.event.Event.TheVariants.{Called}
+use Rattle.row_ledger.specs.declared.page.Page.{Page}
+use Rattle.row_ledger.specs.declared.page.Page.TheVariants as page
+use Rattle.row_ledger.specs.declared.page.TreePage.{TreePage}
+use Rattle.row_ledger.specs.declared.settings.Call.{Call}
+use Rattle.row_ledger.specs.declared.settings.Call.TheVariants as call
+use Rattle.row_ledger.specs.declared.settings.How.TheVariants as how
+use Rattle.row_ledger.specs.declared.settings.Use.{Use}
+use Rattle.row_ledger.proofs.Positions.{before-here}
+use Rattle.server_image.specs.Registry.{host_of}
+use Rattle.tree_shape.proofs.Walks.{on_bool, eqb-eq, eqb-ne}
+use Rattle.volap_cell.specs.Cells.{CellValue, gate_shard, registry_in, where_in}
+use Rattle.volap_cell.specs.Errands.{taken_of}
+use Rattle.volap_cell.specs.Ghost.{Ghost}
+use Rattle.volap_cell.specs.Invariant.{InvWith}
+use Rattle.volap_cell.specs.Setting.{Setting, actor_count, ledger_cell, map_cell, registry_cell}
+use Rattle.volap_cell.specs.Sights.{IsIdle, Sees, SeesTree}
+use Rattle.volap_cell.specs.State.{IsWorldOf}
+use Rattle.volap_cell.specs.Steps.{Inv, history_in}
+use Rattle.volap_cell.specs.Values.{ActorValue, ErrandValue, actor_of}
+use Rattle.volap_cell.specs.View.{View, view}
+use Rattle.volap_cell.specs.World.{World}
+use Rattle.volap_cell.specs.declared.actor.Actor.{Actor}
+use Rattle.volap_cell.specs.declared.cell.Cell.{Cell}
+use Rattle.volap_cell.specs.declared.command.Work.TheVariants as work_is
+use Rattle.volap_cell.specs.declared.kind.Kind.{Kind}
+use Rattle.volap_cell.specs.declared.kind.Kind.TheVariants as kind
+use Rattle.volap_cell.proofs.NotedCommands.{new-told}
+use Rattle.volap_cell.proofs.States.{of-it, same-setting, stands}
+use Rattle.seeded_run.specs.Arms.{TellsIfNote}
+use Rattle.seeded_run.specs.Core.{HasCore, IsCore, IsDue, IsDueAt}
+use Rattle.seeded_run.specs.Due.{command_kind, does_nothing, is_alone, is_empty, page_kind}
+use Rattle.seeded_run.specs.Progress.{AreScriptRoles}
+use Rattle.seeded_run.specs.Led.{gate_there}
+use Rattle.seeded_run.specs.Shown.{HasTreeToShow, IsTreeToShow, gate_of_host, standing_gate}
+use Rattle.seeded_run.proofs.DueCommands.{IsByCommand, by-command}
+use Rattle.seeded_run.proofs.Dues.{all_below-at}
+use Rattle.seeded_run.proofs.FixedCells.{ledger-fixed, may-step}
+use Rattle.seeded_run.proofs.Seen.{cell-seen}
+
+-- What is due.
+
+both-so : (a b : Bool) → (if a && b then Some kind.Note else None) ≡ Some kind.Note → (a ≡ true) × (b ≡ true)
+both-so true true e = (refl, refl)
+both-so true false e = (let never : ◌≡◌ {A = Option Kind} None (Some kind.Note) = e in absurd (cc))
+both-so false b e = (let never : ◌≡◌ {A = Option Kind} None (Some kind.Note) = e in absurd (cc))
+
+second-so : (a b : Bool) → (a || b) ≡ true → a ≡ false → b ≡ true
+second-so true b e f = cc
+second-so false b e f = e
+
+none-so : {A : Type 0} (o : Option A) → is_none o ≡ true → o ≡ None
+none-so None e = refl
+none-so (Some x) e = cc
+
+empty-so : {A : Type 0} (xs : List A) → is_empty xs ≡ true → xs ≡ []
+empty-so [] e = refl
+empty-so (x ∷ xs) e = cc
+
+-- an actor with nothing to do
+idle-so : (a : ActorValue) → does_nothing a ≡ true → IsIdle a
+idle-so a e =
+    let first = and_parts (is_none a.command && is_none a.errand && is_none a.job) (is_empty a.purse) e in
+    let second = and_parts (is_none a.command && is_none a.errand) (is_none a.job) first.0 in
+    let third = and_parts (is_none a.command) (is_none a.errand) second.0 in
+    record { command = none-so a.command third.0; errand = none-so a.errand third.1; job = none-so a.job second.1; purse = empty-so a.purse first.1 }
+
+untaken : (o : Option ErrandValue) → taken_of o ≡ None → o ≡ None
+untaken None e = refl
+untaken (Some x) e = cc
+
+-- Right behind a call that begins, the shards stand that stood before it.
+
+called-keeps : (e : Event) (c : Call) (places : List Place) → call_in e ≡ Some c → places_after places e ≡ places
+called-keeps (Called session d) c places is = refl
+called-keeps _ c places is = absurd (let never : ◌≡◌ {A = Option Call} None (Some c) = is in cc)
+
+live-now : (workers : ℕ) (h : List Event) (of shard : ℕ) (c : Call) → length h ≡ of + 1 → call_at h of ≡ Some c → is_live workers h shard ≡ is_live workers (before h of) shard
+live-now workers [] of shard c long is = absurd (omega (arith, long))
+live-now workers (e ∷ past) of shard c long is =
+    let at : length past ≡ of = omega (arith, long) in
+    let told : call_in e ≡ Some c = sym (new-told call_in e past) ∙ ap (call_at (e ∷ past)) at ∙ is in
+    ap (list_any (is_of shard)) (called-keeps e c (frontier workers past) told) ∙ ap (λ (xs : List Event). is_live workers xs shard) (sym (before-here e past) ∙ ap (before (e ∷ past)) at)
+
+module _ (h : List Dimension) (with : Use) (cells : List (Option Cell)) (actors : List (Option Actor)) (s : Setting) (w : World) (core : IsCore h with cells actors s w) (n : ℕ) (lt : n < length actors) (at : IsDueAt s w n kind.Note)
+    (shard : ℕ) (has : HasTreeToShow actors n shard) where
+  abbrev v : View
+  v = view s w
+
+  abbrev g : Ghost
+  g = core.inv.ghost_of
+
+  abbrev i : InvWith s v g
+  i = core.inv.holds
+
+  its : IsTreeToShow shard (w.actors n).command
+  its =
+      let k = stands (get_or actors n None) (λ x. actor_of x ≡ w.actors n) (core.is.actor n lt) in
+      subst (λ (a : ActorValue). IsTreeToShow shard a.command) k.2 (of-it (get_or actors n None) (λ a. IsTreeToShow shard a.command) k.0 has k.1)
+
+  abbrev alone : Bool
+  alone = is_alone s w at.rest n
+
+  by-its : IsByCommand s w at.rest n kind.Note
+  by-its = by-command s w at.rest n kind.Note at.due_is refl
+
+  two : (alone ≡ true) × ((length v.history == its.0 + 1) ≡ true)
+  two =
+      let due : page_kind v.history alone its.0 false ≡ Some kind.Note = ap (command_kind s w alone (at.rest n) (w.actors n)) (sym its.1) ∙ by-its.by in
+      both-so alone (length v.history == its.0 + 1) due
+
+  next : length v.history ≡ its.0 + 1
+  next = eqb-eq _ _ two.1
+
+  idle : (a : ℕ) → a ≢ n → IsIdle (w.actors a)
+  idle a ne = elim (cases_lt a (actor_count s)) [
+    | inl low ↦
+        let t = all_below-at (actor_count s) (λ b. b == n || (does_nothing (w.actors b) && is_empty (at.rest b))) a two.0 low in
+        idle-so (w.actors a) (and_parts _ _ (second-so (a == n) (does_nothing (w.actors a) && is_empty (at.rest a)) t (ne_eqb a n ne))).0
+    | inr past ↦
+        let k = i.numbering.nobody a past in
+        record { command = k.2; errand = untaken (w.actors a).errand k.3; job = k.4; purse = k.1 }
+  ]
+
+  quiet : (a : ℕ) → (w.actors a).errand ≡ None
+  quiet a = on_bool (eqb a n)
+      (λ q. ap (λ (b : ℕ). (w.actors b).errand) (eqb-eq _ _ q) ∙ by-its.errand)
+      (λ q. (idle a (eqb-ne _ _ q)).errand)
+
+  -- its gate
+
+  live : is_live s.workers v.history shard ≡ true
+  live =
+      let told = i.telling.progress n (record { of = its.0; work = work_is.Tree shard true false }) its.1 in
+      live-now s.workers v.history its.0 shard (call.Tree shard) next told.0 ∙ told.2
+
+  host : (x : ℕ) × (host_of shard v.registry ≡ Some x) × (is_on s.workers v.history shard x ≡ true)
+  host = host-on s.workers v.history v.registry i.lineage.front shard (stands-live s.workers v.history v.registry i.lineage.front shard ∙ live)
+
+  gate-is : standing_gate s cells shard ≡ g.gate shard
+  gate-is =
+      let seen = cell-seen cells actors w core.is in
+      ap (λ (c : CellValue). gate_of_host s cells shard (host_of shard (registry_in c))) (sym (seen registry_cell))
+      ∙ ap (gate_of_host s cells shard) host.1
+      ∙ ap (λ (c : CellValue). gate_there (where_in c shard)) (sym (seen (map_cell s host.0)))
+      ∙ ap gate_there (i.lineage.gate_of shard host.0 host.2).0
+
+  can-see : CanSee w (standing_gate s cells shard)
+  can-see =
+      let there = i.lineage.gate_of shard host.0 host.2 in
+      subst (CanSee w) (sym gate-is) (record { gate = subst IsSome (sym there.1) refl; stands = there.2; quiet = quiet })
+
+  sees : (shown : TreePage) → SeesTree s v shown → Sees s w n (page.Tree shown)
+  sees shown seen = record { alone = idle; page = seen }
+
+  -- what the notes ask
+
+  can-note : (shown : TreePage) → gate_shard (w.cells (standing_gate s cells shard)) ≡ Some shown.shard → NotesShown (page.Tree shown) (map w.cells (ledger_cell ∷ [])) (w.actors n)
+  can-note shown given =
+      let both : Some shown.shard ≡ Some shard = sym given ∙ ap (λ (y : ℕ). gate_shard (w.cells y)) gate-is ∙ (i.lineage.gate_of shard host.0 host.2).1 in
+      let same : shown.shard ≡ shard = cc in
+      record { of = its.0; work = work_is.Tree shard true false; command = its.1; shows = same; next = next; ledger_is = i.numbering.tag ledger_cell }
+
+  can-end : NotesEnded how.NoMemory (map w.cells (ledger_cell ∷ [])) (w.actors n)
+  can-end = record { of = its.0; work = work_is.Tree shard true false; command = its.1; ends = refl; ledger_is = i.numbering.tag ledger_cell }
+
+-- the gate that was found in the cells that were lent
+pub gate-so : (with : Use) (lent cells : List (Option Cell)) (shard gate : ℕ) → lent ≡ cells → ((s : Setting) → s.servers ≡ with.servers → gate ≡ standing_gate s lent shard) → (s : Setting) → s.servers ≡ with.servers → gate ≡ standing_gate s cells shard
+gate-so with lent cells shard gate e is s same = is s same ∙ ap (λ (xs : List (Option Cell)). standing_gate s xs shard) e
+
+-- The same of the vectors.
+module _ (h : List Dimension) (with : Use) (cells : List (Option Cell)) (actors : List (Option Actor)) (core : HasCore h with cells actors) (n : ℕ) (lt : n < length actors) (due : IsDue h with cells actors n kind.Note)
+    (shard : ℕ) (has : HasTreeToShow actors n shard) (gate ledger : ℕ) (gate_is : (s : Setting) → s.servers ≡ with.servers → gate ≡ standing_gate s cells shard) (ledger_is : ledger ≡ ledger_cell) where
+  -- whatever state they are, it is a core
+  core-in : (s : Setting) (w : World) → IsWorldOf cells actors w → Inv s w → IsCore h with cells actors s w
+  core-in s w is inv =
+      let c = core.is_core in
+      let k = stands (get_or actors n None) (λ x. actor_of x ≡ core.world.actors n) (c.is.actor n lt) in
+      let about : core.setting ≡ s = sym (same-setting core.setting cells actors core.world c.inv.ghost_of n k.0 c.is c.inv.holds k.1) ∙ same-setting s cells actors w inv.ghost_of n k.0 is inv.holds k.1 in
+      record {
+        hierarchy = ap (λ (t : Setting). t.hierarchy) (sym about) ∙ c.hierarchy;
+        servers = ap (λ (t : Setting). t.servers) (sym about) ∙ c.servers;
+        workers = ap (λ (t : Setting). t.workers) (sym about) ∙ c.workers;
+        stock = ap (λ (t : Setting). t.stock_cells) (sym about) ∙ c.stock;
+        roles = subst AreScriptRoles about c.roles;
+        count = c.count ∙ ap actor_count about;
+        is = is;
+        inv = inv;
+      }
+
+  pub can-see-in : CanSeeIn cells actors gate
+  can-see-in s w is inv = (let c = core-in s w is inv in subst (CanSee w) (sym (gate_is s c.servers)) (can-see h with cells actors s w c n lt (due s w c) shard has))
+
+  pub seen-so : (shown : TreePage) → IsSeenIn cells actors shown → IsSeen h cells actors n (page.Tree shown)
+  seen-so shown seen s w same is inv = (let c = core-in s w is inv in sees h with cells actors s w c n lt (due s w c) shard has shown (seen s w is inv))
+
+  pub shown-ready : (shown : TreePage) → IsOfGate cells actors gate shown → MayStep cells actors (ledger ∷ []) n (NotesShown (page.Tree shown))
+  shown-ready shown of_gate =
+      let c = core.is_core in
+      let s = core.setting in
+      let w = core.world in
+      let given : gate_shard (w.cells (standing_gate s cells shard)) ≡ Some shown.shard = subst (λ (y : ℕ). gate_shard (w.cells y) ≡ Some shown.shard) (gate_is s c.servers) (of_gate w c.is) in
+      subst (λ (y : ℕ). MayStep cells actors (y ∷ []) n (NotesShown (page.Tree shown))) (sym ledger_is)
+      (may-step h with cells actors s w c (ledger_cell ∷ []) n (NotesShown (page.Tree shown)) (ledger-fixed s, tt) (tt, tt) lt (can-note h with cells actors s w c n lt (due s w c) shard has shown given))
+
+  pub ended-ready : MayStep cells actors (ledger ∷ []) n (NotesEnded how.NoMemory)
+  ended-ready =
+      let c = core.is_core in
+      let s = core.setting in
+      let w = core.world in
+      subst (λ (y : ℕ). MayStep cells actors (y ∷ []) n (NotesEnded how.NoMemory)) (sym ledger_is)
+      (may-step h with cells actors s w c (ledger_cell ∷ []) n (NotesEnded how.NoMemory) (ledger-fixed s, tt) (tt, tt) lt (can-end h with cells actors s w c n lt (due s w c) shard has))
+
+-- What is told.
+
+-- a history isn't one that has an event more
+longer-is-other : (e : Event) (before now : List Event) → now ≡ e ∷ before → now ≢ before
+longer-is-other e before now grows same = (let long : length before ≡ suc (length before) = ap length (sym same ∙ grows) in omega arith)
+
+module _ (ledger : ℕ) (cells cells_now : List (Option Cell)) (actors actors_now : List (Option Actor)) (ledger_is : ledger ≡ ledger_cell) where
+  pub tells-end : AddsQuiet ledger cells actors cells_now actors_now → TellsIfNote kind.Note cells actors cells_now actors_now
+  tells-end adds =
+      let here : AddsQuiet ledger_cell cells actors cells_now actors_now = subst (λ (y : ℕ). AddsQuiet y cells actors cells_now actors_now) ledger_is adds in
+      inr (λ w now is is_now. (let q = here w now is is_now in longer-is-other q.0 (history_in w) (history_in now) q.2))
+
+  pub tells-page : (n : ℕ) (shown : Page) → Adds (shown_by shown) n ledger cells actors cells_now actors_now → TellsIfNote kind.Note cells actors cells_now actors_now
+  tells-page n shown adds = tells-end (λ w now is is_now. (shown_by shown (w.actors n) 0, refl, adds w now is is_now))

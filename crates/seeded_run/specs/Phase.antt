@@ -1,0 +1,85 @@
+-- A phase of a script, as it runs over a core that one thread holds.
+use Rattle.std.specs.Prelude.{ℕ, ◌≡◌, ◌+◌, ◌^◌, ◌<◌, ⊤, Bool, true, false, List, Option, Some, length, get_or, slice_get}
+use Rattle.dim_hierarchy.specs.Dimension.{Dimension}
+use Rattle.row_ledger.specs.declared.settings.Call.{Call}
+use Rattle.row_ledger.specs.declared.settings.Call.TheVariants as call
+use Rattle.row_ledger.specs.declared.settings.Use.{Use}
+use Rattle.script_form.specs.declared.script.Command.{Command}
+use Rattle.script_form.specs.declared.script.Command.TheVariants as script
+use Rattle.script_run.specs.Phases.{closes}
+use Rattle.seeded_turns.specs.Drawn.{Reaches}
+use Rattle.seeded_turns.specs.declared.schedule.Schedule.{Schedule}
+use Rattle.seeded_turns.specs.declared.schedule.Schedule.TheVariants as schedule_is
+use Rattle.volap_cell.specs.Setting.{Setting}
+use Rattle.volap_cell.specs.Steps.{history_in}
+use Rattle.volap_cell.specs.World.{World}
+use Rattle.volap_cell.specs.declared.state.State.{State}
+use Rattle.seeded_run.specs.Can.{able_in}
+use Rattle.seeded_run.specs.Core.{HasCore}
+use Rattle.seeded_run.specs.Kept.{IsTurn}
+use Rattle.seeded_run.specs.Commands.{IsAllowed}
+use Rattle.seeded_run.specs.Look.{HasNames}
+use Rattle.seeded_run.specs.Rests.{PhaseRun}
+use Rattle.seeded_run.specs.Worlds.{setting_in, world_in}
+
+-- What may run.
+
+-- A called command that runs. Splits, moves, balances, and pages of the whole don't run yet.
+abbrev pub IsRunCall : Call → Type 0
+IsRunCall call.Barrier = ⊤
+IsRunCall (call.Tree shard) = ⊤
+IsRunCall (call.Sync server) = ⊤
+IsRunCall call.Settle = ⊤
+IsRunCall called = ⊥
+
+abbrev pub IsRunCommand : Command → Type 0
+IsRunCommand (script.Control called) = IsRunCall called
+IsRunCommand c = ⊤
+
+-- a command that runs, is allowed, and has a name or a pick for each dimension
+pub record MayRun (h : List Dimension) (with : Use) (c : Command) : Type 0 where
+  pub names : HasNames h c
+  pub allowed : IsAllowed with h c
+  pub is_run : IsRunCommand c
+
+-- all of these may run
+abbrev pub MayAllRun : List Dimension → Use → List Command → Type 0
+MayAllRun h with commands = (i : ℕ) (c : Command) → slice_get commands i ≡ Some c → MayRun h with c
+
+-- the last command alone may close the phase
+abbrev pub ClosesLast : List Command → Type 0
+ClosesLast phase = (i : ℕ) (c : Command) → slice_get phase i ≡ Some c → closes c ≡ true → i + 1 ≡ length phase
+
+-- The state.
+
+-- whether the commands go one after the other
+abbrev pub is_order : Schedule → Bool
+is_order schedule_is.Order = true
+is_order (schedule_is.Seed g) = false
+
+-- so many actors a number has room for
+abbrev pub most_actors : ℕ
+most_actors = 2 ^ 16
+
+-- the core that a thread holds meets the invariant
+abbrev pub IsCoreHeld : List Dimension → Use → State → Type 0
+IsCoreHeld h with x = HasCore h with x.cells.items x.actors.items × (length x.actors.items < most_actors)
+
+-- what it is about, and the state that it is
+abbrev pub about : List Dimension → Use → State → Setting
+about h with x = setting_in h with x.actors.items
+
+abbrev pub held : List Dimension → Use → State → World
+held h with x = world_in h with x.cells.items x.actors.items
+
+-- the phase of these commands that begins in a state
+abbrev pub phase_from : List Dimension → Use → List Command → State → PhaseRun
+phase_from h with phase x = record { with = with; commands = phase; before = history_in (held h with x) }
+
+-- Some turns of the phase that began in a state lead from that to another one: each step is due, and made by the actor whose turn it
+-- is of those that can step.
+abbrev pub RunsTo : List Dimension → Use → List Command → State → Schedule → State → Schedule → Type 0
+RunsTo h with phase from schedule to schedule_now =
+    Reaches World (able_in (is_order schedule) (about h with from) (phase_from h with phase from))
+    (IsTurn (is_order schedule) (about h with from) (phase_from h with phase from))
+    record { state = held h with from; schedule = schedule } (held h with to) schedule_now

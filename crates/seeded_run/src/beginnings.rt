@@ -1,0 +1,189 @@
+//! The steps by which an actor begins its next command.
+ghost use Rattle.std.specs.Prelude.{◌≡◌, true, OnErr, OnOk};
+ghost use Rattle.core_steps.specs.Ready.{Stays};
+ghost use Rattle.script_form.specs.declared.script.Command.TheVariants.{Control, Insert, Query};
+ghost use Rattle.seeded_run.specs.Commands.{GoesBy, IsToBegin, may_be_refused};
+ghost use Rattle.seeded_run.specs.Core.{HasCore, StepsOn};
+ghost use Rattle.volap_cell.specs.ImageKinds.{asks_registry};
+
+use crate::places::{desk_place, image_place, ledger_place, registry_place};
+use dim_hierarchy::{FilterFault, Hierarchy};
+use row_ledger::{Call, Use};
+use script_form::{Command, NewRow, Question};
+use std::alloc::{AllocError, Global};
+use volap_cell::State;
+
+/// The actor begins its insert at the image of its server, or notes the first dimension in which a name is
+/// not that of a leaf concept. Where memory is wanting for that, the state stays as it was.
+fn begin_insert(
+    alloc: Global,
+    h: &Hierarchy,
+    with: &Use,
+    state: &mut State,
+    number: usize,
+    new: &NewRow,
+) -> Result<(), AllocError>
+    requires core { HasCore h.now with.now state.old.cells.items state.old.actors.items }
+    requires begins { IsToBegin h.now with.now state.old.cells.items state.old.actors.items number (Insert new.now) }
+    ensures made { OnOk result (StepsOn h.now number state.old.cells.items state.old.actors.items state.new.cells.items state.new.actors.items) }
+    ensures begun { OnOk result (GoesBy with.now h.now (Insert new.now) state.old.cells.items state.old.actors.items state.new.cells.items state.new.actors.items) }
+    ensures stays { OnErr result (Stays state.old.cells.items state.old.actors.items state.new.cells.items state.new.actors.items) }
+{
+    let _ = with;
+    let image = image_place(new.server);
+    let ledger = ledger_place();
+    match h.coord(&new.names) {
+        Ok(at) => core_steps::begin_insert(alloc, h, state, number, image, ledger, at, new.measure),
+        Err(dim) => core_steps::note_unknown(h, state, number, ledger, dim),
+    }
+}
+
+/// The actor begins its query at the empty desk of its server, or notes the first dimension in which a name
+/// is not that of a concept. Where memory is wanting for that, the state stays as it was.
+fn begin_query(
+    alloc: Global,
+    h: &Hierarchy,
+    with: &Use,
+    state: &mut State,
+    number: usize,
+    question: &Question,
+) -> Result<(), AllocError>
+    requires core { HasCore h.now with.now state.old.cells.items state.old.actors.items }
+    requires begins { IsToBegin h.now with.now state.old.cells.items state.old.actors.items number (Query question.now) }
+    ensures made { OnOk result (StepsOn h.now number state.old.cells.items state.old.actors.items state.new.cells.items state.new.actors.items) }
+    ensures begun { OnOk result (GoesBy with.now h.now (Query question.now) state.old.cells.items state.old.actors.items state.new.cells.items state.new.actors.items) }
+    ensures stays { OnErr result (Stays state.old.cells.items state.old.actors.items state.new.cells.items state.new.actors.items) }
+{
+    let desk = desk_place(with, question.server);
+    let image = image_place(question.server);
+    let ledger = ledger_place();
+    match h.filter(alloc, &question.filter) {
+        Ok(filter) => core_steps::begin_query(alloc, h, state, number, desk, image, ledger, filter),
+        Err(FilterFault::Unknown { dim }) => {
+            core_steps::note_unknown(h, state, number, ledger, dim)
+        }
+        Err(FilterFault::NoMemory) => Err(AllocError),
+    }
+}
+
+/// Whether the call asks the registry what stands.
+fn asks_registry(call: Call) -> bool
+    ensures { result ≡ asks_registry call }
+{
+    match call {
+        Call::Split(_) | Call::Move(_, _) | Call::Balance(_) | Call::Tree(_) => true,
+        Call::Sync(_) | Call::Barrier | Call::Settle | Call::Shards | Call::Audit => false,
+    }
+}
+
+/// The actor begins its command that is no insert and no query. Where memory is wanting for that, the state
+/// stays as it was.
+fn begin_call(
+    alloc: Global,
+    h: &Hierarchy,
+    with: &Use,
+    state: &mut State,
+    number: usize,
+    called: Call,
+) -> Result<(), AllocError>
+    requires core { HasCore h.now with.now state.old.cells.items state.old.actors.items }
+    requires begins { IsToBegin h.now with.now state.old.cells.items state.old.actors.items number (Control called) }
+    ensures made { OnOk result (StepsOn h.now number state.old.cells.items state.old.actors.items state.new.cells.items state.new.actors.items) }
+    ensures begun { OnOk result (GoesBy with.now h.now (Control called) state.old.cells.items state.old.actors.items state.new.cells.items state.new.actors.items) }
+    ensures stays { OnErr result (Stays state.old.cells.items state.old.actors.items state.new.cells.items state.new.actors.items) }
+{
+    let ledger = ledger_place();
+    if asks_registry(called) {
+        let registry = registry_place();
+        core_steps::note_asking(
+            alloc,
+            h,
+            state,
+            number,
+            registry,
+            ledger,
+            called,
+            with.workers,
+        )
+    } else {
+        core_steps::note_called(h, state, number, ledger, called)
+    }
+}
+
+/// The actor begins its next command, or ends it where it names what is not known. Where memory is wanting
+/// for that, the state stays as it was.
+fn try_to_begin(
+    alloc: Global,
+    h: &Hierarchy,
+    with: &Use,
+    state: &mut State,
+    number: usize,
+    command: &Command,
+) -> Result<(), AllocError>
+    requires core { HasCore h.now with.now state.old.cells.items state.old.actors.items }
+    requires begins { IsToBegin h.now with.now state.old.cells.items state.old.actors.items number command.now }
+    ensures made { OnOk result (StepsOn h.now number state.old.cells.items state.old.actors.items state.new.cells.items state.new.actors.items) }
+    ensures begun { OnOk result (GoesBy with.now h.now command.now state.old.cells.items state.old.actors.items state.new.cells.items state.new.actors.items) }
+    ensures stays { OnErr result (Stays state.old.cells.items state.old.actors.items state.new.cells.items state.new.actors.items) }
+{
+    match command {
+        Command::Insert(new) => begin_insert(alloc, h, with, state, number, new),
+        Command::Query(question) => begin_query(alloc, h, with, state, number, question),
+        Command::Control(called) => begin_call(alloc, h, with, state, number, *called),
+    }
+}
+
+/// Whether the command may find no memory before it begins, and end with that.
+fn may_be_refused(command: &Command) -> bool
+    ensures { result ≡ may_be_refused command.now }
+{
+    match command {
+        Command::Control(Call::Barrier) => false,
+        _ => true,
+    }
+}
+
+/// For the actor's next command there was no memory before it began, and it ends with that. Where memory is
+/// wanting for that too, the state stays as it was.
+fn refuse(
+    h: &Hierarchy,
+    with: &Use,
+    state: &mut State,
+    number: usize,
+    command: &Command,
+) -> Result<(), AllocError>
+    requires core { HasCore h.now with.now state.old.cells.items state.old.actors.items }
+    requires begins { IsToBegin h.now with.now state.old.cells.items state.old.actors.items number command.now }
+    requires refused { may_be_refused command.now ≡ true }
+    ensures made { OnOk result (StepsOn h.now number state.old.cells.items state.old.actors.items state.new.cells.items state.new.actors.items) }
+    ensures begun { OnOk result (GoesBy with.now h.now command.now state.old.cells.items state.old.actors.items state.new.cells.items state.new.actors.items) }
+    ensures stays { OnErr result (Stays state.old.cells.items state.old.actors.items state.new.cells.items state.new.actors.items) }
+{
+    let _ = with;
+    let _ = command;
+    core_steps::note_refused(h, state, number, ledger_place())
+}
+
+/// The actor begins its next command, or ends it where it names what is not known. Where no memory is found
+/// for that, it is refused, but for a barrier, which never is. Where none is found for that either, the
+/// state stays as it was.
+pub(crate) fn begin(
+    alloc: Global,
+    h: &Hierarchy,
+    with: &Use,
+    state: &mut State,
+    number: usize,
+    command: &Command,
+) -> Result<(), AllocError>
+    requires core { HasCore h.now with.now state.old.cells.items state.old.actors.items }
+    requires begins { IsToBegin h.now with.now state.old.cells.items state.old.actors.items number command.now }
+    ensures made { OnOk result (StepsOn h.now number state.old.cells.items state.old.actors.items state.new.cells.items state.new.actors.items) }
+    ensures begun { OnOk result (GoesBy with.now h.now command.now state.old.cells.items state.old.actors.items state.new.cells.items state.new.actors.items) }
+    ensures stays { OnErr result (Stays state.old.cells.items state.old.actors.items state.new.cells.items state.new.actors.items) }
+{
+    match try_to_begin(alloc, h, with, state, number, command) {
+        Ok(()) => Ok(()),
+        Err(error) if !may_be_refused(command) => Err(error),
+        Err(_) => refuse(h, with, state, number, command),
+    }
+}
