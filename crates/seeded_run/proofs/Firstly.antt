@@ -53,18 +53,18 @@ module _ (m : Running) (kept : IsPhaseKept m) (order : m.in_order ≡ true) wher
 
   -- where everyone does nothing, a command is over that has begun, and no other one
   module _ (idle : (a : ℕ) → does_nothing (w.actors a) ≡ true) where
-    over-begun : (k : ℕ) (c : Command) → slice_get m.phase.now k ≡ Some c → k < next_at m (session_of m.with.now c) → over_in p m.done.now (history_in w) k ≡ true
+    over-begun : (k : ℕ) (c : Command) → slice_get m.phase.now k ≡ Some c → k < next_at m (session_of m.with c) → over_in p m.done.now (history_in w) k ≡ true
     over-begun k c at low =
         past-over m.in_order (about_in m) p m.done.now w kept.core.inv.ghost_of (cursor m) kept.core.inv.holds kept.is_running k c at (omega (arith, low))
-        (opened-none m.in_order (about_in m) p m.done.now w kept.core.inv.ghost_of (cursor m) kept.core.inv.holds kept.is_running (session_of m.with.now c) (is-idle (w.actors (session_of m.with.now c)) (idle (session_of m.with.now c))).command)
+        (opened-none m.in_order (about_in m) p m.done.now w kept.core.inv.ghost_of (cursor m) kept.core.inv.holds kept.is_running (session_of m.with c) (is-idle (w.actors (session_of m.with c)) (idle (session_of m.with c))).command)
 
-    not-over : (k : ℕ) (c : Command) → slice_get m.phase.now k ≡ Some c → next_at m (session_of m.with.now c) ≤ k → over_in p m.done.now (history_in w) k ≡ false
+    not-over : (k : ℕ) (c : Command) → slice_get m.phase.now k ≡ Some c → next_at m (session_of m.with c) ≤ k → over_in p m.done.now (history_in w) k ≡ false
     not-over k c at late =
-        ap (is_over_at (history_in w)) (late-none m.with.now (m.done.now ++ m.phase.now) (history_in w) (cursor m) _ kept.is_running.in_phase.streams (length m.done.now + k) c
+        ap (is_over_at (history_in w)) (late-none m.with (m.done.now ++ m.phase.now) (history_in w) (cursor m) _ kept.is_running.in_phase.streams (length m.done.now + k) c
         (at-all m.in_order (about_in m) p m.done.now w kept.core.inv.ghost_of (cursor m) kept.core.inv.holds kept.is_running k c at) (omega (arith, late)))
 
     -- the first one that hasn't begun is the first that isn't over
-    pub first-idle : (place : ℕ) → HasBegunTo m place → WaitsAt m place → first_open p (history_in w) ≡ option_map (session_of m.with.now) (slice_get m.phase.now place)
+    pub first-idle : (place : ℕ) → HasBegunTo m place → WaitsAt m place → first_open p (history_in w) ≡ option_map (session_of m.with) (slice_get m.phase.now place)
     first-idle place begun waits = by (slice_get m.phase.now place) refl
       where
         none : (o : Option ℕ) → first_open p (history_in w) ≡ o → slice_get m.phase.now place ≡ None → first_open p (history_in w) ≡ None
@@ -75,15 +75,15 @@ module _ (m : Running) (kept : IsPhaseKept m) (order : m.in_order ≡ true) wher
             let high = none-past m.phase.now place past in
             apart (over_in p m.done.now (history_in w) f.at) (over-begun f.at f.command f.here (begun f.at f.command f.here (omega (arith, within, high)))) (first-fails p m.done.now (history_in w) a f)
 
-        by : (o : Option Command) → slice_get m.phase.now place ≡ o → first_open p (history_in w) ≡ option_map (session_of m.with.now) (slice_get m.phase.now place)
+        by : (o : Option Command) → slice_get m.phase.now place ≡ o → first_open p (history_in w) ≡ option_map (session_of m.with) (slice_get m.phase.now place)
         by (Some c) at =
             first-at p m.done.now (history_in w) kept.is_running.cursors.through place c at (not-over place c at (waits c at))
             (λ i low.
             let within = some-within m.phase.now place c at in
             let d = some-at m.phase.now i (omega (arith, within, low)) in
             over-begun i d.0 d.1 (begun i d.0 d.1 low))
-            ∙ sym (ap (option_map (session_of m.with.now)) at)
-        by None past = none (first_open p (history_in w)) refl past ∙ sym (ap (option_map (session_of m.with.now)) past)
+            ∙ sym (ap (option_map (session_of m.with)) at)
+        by None past = none (first_open p (history_in w)) refl past ∙ sym (ap (option_map (session_of m.with)) past)
 
 -- who rests in the vector does nothing
 pub rests-so : (m : Running) → IsPhaseKept m → (n : ℕ) → n < length m.state.actors.items → rests (get_or m.state.actors.items n None) ≡ does_nothing ((world_of m).actors n)
@@ -157,15 +157,15 @@ get-any [] i d e low = absurd (omega arith)
 get-any (x ∷ xs) zero d e low = refl
 get-any (x ∷ xs) (suc i) d e low = get-any xs i d e (omega arith)
 
-pub session-within : (m : Running) → IsPhaseKept m → (place : ℕ) (c : Command) → slice_get m.phase.now place ≡ Some c → session_of m.with.now c < length m.next.items
+pub session-within : (m : Running) → IsPhaseKept m → (place : ℕ) (c : Command) → slice_get m.phase.now place ≡ Some c → session_of m.with c < length m.next.items
 session-within m kept place c at =
     omega (arith, is-actor m.in_order (about_in m) (phase_of m) m.done.now (world_of m) kept.core.inv.ghost_of (cursor m) kept.core.inv.holds kept.is_running place c at, kept.count, kept.core.count)
 
-pub next-read : (m : Running) → IsPhaseKept m → (place : ℕ) (c d : Command) (session from next : ℕ) → slice_get m.phase.now place ≡ Some c → session ≡ session_of m.with.now (get_or m.phase.now place d) → from ≡ session
-    → next ≡ get_or m.next.items from next → next ≡ next_at m (session_of m.with.now c)
+pub next-read : (m : Running) → IsPhaseKept m → (place : ℕ) (c d : Command) (session from next : ℕ) → slice_get m.phase.now place ≡ Some c → session ≡ session_of m.with (get_or m.phase.now place d) → from ≡ session
+    → next ≡ get_or m.next.items from next → next ≡ next_at m (session_of m.with c)
 next-read m kept place c d session from next at session_is from_is next_is =
-    let who : from ≡ session_of m.with.now c = from_is ∙ session_is ∙ ap (session_of m.with.now) (get-of m.phase.now place c d at) in
-    next_is ∙ ap (λ k. get_or m.next.items k next) who ∙ get-any m.next.items (session_of m.with.now c) next (length m.phase.now) (session-within m kept place c at)
+    let who : from ≡ session_of m.with c = from_is ∙ session_is ∙ ap (session_of m.with) (get-of m.phase.now place c d at) in
+    next_is ∙ ap (λ k. get_or m.next.items k next) who ∙ get-any m.next.items (session_of m.with c) next (length m.phase.now) (session-within m kept place c at)
 
 -- What is kept whatever is known of the first command.
 pub kept-look : (m : Running) → IsPhaseKept m → (begun : ℕ) (first : Option ℕ) → HasBegunTo m begun → IsPhaseKept (record m { begun = begun; first = first })

@@ -35,6 +35,7 @@ pub mod Held
 pub mod Turns
 pub mod RunsOnly
 pub mod WholePhases
+pub mod FirstCursors
 pub mod Begun
 pub mod Goings
 pub mod Firstly

@@ -62,7 +62,7 @@ module _ (m : Running) (kept : IsPhaseKept m) where
       let e = call-event (event_at (history_in (world_of m)) of) c at in
       let part = kept.is_running.in_phase.part in
       let b = part.only of (event.Called e.0 c) e.1 refl in
-      begins-control m.with.now m.h.now b.1 e.0 c (begun-at m.with.now m.h.now (history_in (world_of m)) b.1 _ of e.0 c (part.begun b.0 b.1 b.2) b.3 e.1) (kept.may_run b.0 b.1 b.2)
+      begins-control m.with m.h.now b.1 e.0 c (begun-at m.with m.h.now (history_in (world_of m)) b.1 _ of e.0 c (part.begun b.0 b.1 b.2) b.3 e.1) (kept.may_run b.0 b.1 b.2)
 
   work-runs : (of : ℕ) (work : Work) (job : Option JobValue) (r : Role) → IsProgress (about_in m) (history_in (world_of m)) of work job r → IsRunWork work
   work-runs of (work_is.Insert row routed) job r is = tt

@@ -153,22 +153,22 @@ module _ (m : Running) (kept : IsPhaseKept m) (n : ℕ) (due_kind : Kind) (now_d
   meets-it : meets s w n due_kind ≡ true
   meets-it = some-is (due s p w n) due_kind (meets s w n) now_due.due_is (can-now m.in_order now_due.can)
 
-  pub is-due : IsDue m.h.now m.with.now m.state.cells.items m.state.actors.items n due_kind
+  pub is-due : IsDue m.h.now m.with m.state.cells.items m.state.actors.items n due_kind
   is-due = λ t x core.
       let here : IsDueAt s w n due_kind = record { rest = rest_of p (history_in w); due_is = now_due.due_is; meets_it = meets-it } in
-      subst (λ (y : World). IsDueAt t y n due_kind) (sym (only-world m.h.now m.with.now m.state.cells.items m.state.actors.items t x core))
-      (subst (λ (z : Setting). IsDueAt z w n due_kind) (sym (one-setting m.h.now m.with.now m.state.cells.items m.state.actors.items t x core)) here)
+      subst (λ (y : World). IsDueAt t y n due_kind) (sym (only-world m.h.now m.with m.state.cells.items m.state.actors.items t x core))
+      (subst (λ (z : Setting). IsDueAt z w n due_kind) (sym (one-setting m.h.now m.with m.state.cells.items m.state.actors.items t x core)) here)
 
-  pub is-next : (c : Command) → slice_get m.phase.now (next_at m n) ≡ Some c → (t : Setting) (x : World) → IsCore m.h.now m.with.now m.state.cells.items m.state.actors.items t x → IsNextAt t x n c due_kind
+  pub is-next : (c : Command) → slice_get m.phase.now (next_at m n) ≡ Some c → (t : Setting) (x : World) → IsCore m.h.now m.with m.state.cells.items m.state.actors.items t x → IsNextAt t x n c due_kind
   is-next c at = λ t x core.
       let rest = rest-some m kept n c at in
       let here : IsNextAt s w n c due_kind = record { rest = rest_of p (history_in w); more = rest.0; next = rest.1; due_is = now_due.due_is; meets_it = meets-it } in
-      subst (λ (y : World). IsNextAt t y n c due_kind) (sym (only-world m.h.now m.with.now m.state.cells.items m.state.actors.items t x core))
-      (subst (λ (z : Setting). IsNextAt z w n c due_kind) (sym (one-setting m.h.now m.with.now m.state.cells.items m.state.actors.items t x core)) here)
+      subst (λ (y : World). IsNextAt t y n c due_kind) (sym (only-world m.h.now m.with m.state.cells.items m.state.actors.items t x core))
+      (subst (λ (z : Setting). IsNextAt z w n c due_kind) (sym (one-setting m.h.now m.with m.state.cells.items m.state.actors.items t x core)) here)
 
   -- where a command may begin, the next one of the actor's stream does
   pub to-begin : (c : Command) → slice_get m.phase.now (next_at m n) ≡ Some c → n < length m.state.actors.items → begins_by m.state.actors.items n due_kind ≡ true
-      → IsToBegin m.h.now m.with.now m.state.cells.items m.state.actors.items n c
+      → IsToBegin m.h.now m.with m.state.cells.items m.state.actors.items n c
   to-begin c at within begins =
       let a = stands (get_or m.state.actors.items n None) (λ x. actor_of x ≡ w.actors n) (kept.core.is.actor n within) in
       let both = both-parts (is_none (actor_of a.0).command) (may_begin due_kind) (sym (ap (λ o. begins_of_one o due_kind) a.1) ∙ begins) in
@@ -194,8 +194,8 @@ module _ (m : Running) (kept : IsPhaseKept m) (n : ℕ) (due_kind : Kind) (now_d
       let r = kept.is_running in
       let taken = take-behind m.done.now m.phase.now (cursor m session) (r.cursors.past session) in
       let counts = r.cursors.streams.counts session in
-      let all : count_of m.with.now session (m.done.now ++ take taken.0 m.phase.now) ≡ length (begins_of (history_in w) session) = ap (count_of m.with.now session) (sym taken.2) ∙ counts in
-      omega (arith, r.cursors.through session, all, count_of-append m.with.now session m.done.now (take taken.0 m.phase.now))
+      let all : count_of m.with session (m.done.now ++ take taken.0 m.phase.now) ≡ length (begins_of (history_in w) session) = ap (count_of m.with session) (sym taken.2) ∙ counts in
+      omega (arith, r.cursors.through session, all, count_of-append m.with session m.done.now (take taken.0 m.phase.now))
 
   -- Where the commands go in order it is the actor's turn, and everyone else does nothing.
   alone-before : AloneInOrder m n
@@ -207,23 +207,23 @@ module _ (m : Running) (kept : IsPhaseKept m) (n : ℕ) (due_kind : Kind) (now_d
   -- A step that begins nothing.
   module _ (state_now : State) (k : Kind) (stepped : Stepped m.h.now k n m.state.cells.items m.state.actors.items state_now.cells.items state_now.actors.items)
       (within : n < length m.state.actors.items) (of_part : is_of_part due_kind ≡ true → is_of_part k ≡ true) where
-    after : (x : World) × IsCore m.h.now m.with.now state_now.cells.items state_now.actors.items s x × Step s k n w x
-    after = core-then m.h.now m.with.now m.state.cells.items state_now.cells.items m.state.actors.items state_now.actors.items s w k n kept.core stepped
+    after : (x : World) × IsCore m.h.now m.with state_now.cells.items state_now.actors.items s x × Step s k n w x
+    after = core-then m.h.now m.with m.state.cells.items state_now.cells.items m.state.actors.items state_now.actors.items s w k n kept.core stepped
 
     abbrev world_now : World
-    world_now = world_in m.h.now m.with.now state_now.cells.items state_now.actors.items
+    world_now = world_in m.h.now m.with state_now.cells.items state_now.actors.items
 
-    same-about : setting_in m.h.now m.with.now state_now.actors.items ≡ s
-    same-about = sym (one-setting m.h.now m.with.now state_now.cells.items state_now.actors.items s after.0 after.1)
+    same-about : setting_in m.h.now m.with state_now.actors.items ≡ s
+    same-about = sym (one-setting m.h.now m.with state_now.cells.items state_now.actors.items s after.0 after.1)
 
     same-world : after.0 ≡ world_now
-    same-world = only-world m.h.now m.with.now state_now.cells.items state_now.actors.items s after.0 after.1
+    same-world = only-world m.h.now m.with state_now.cells.items state_now.actors.items s after.0 after.1
 
     step : Step s k n w world_now
     step = subst (λ (x : World). Step s k n w x) same-world after.2
 
-    core-now : IsCore m.h.now m.with.now state_now.cells.items state_now.actors.items s world_now
-    core-now = subst (λ (x : World). IsCore m.h.now m.with.now state_now.cells.items state_now.actors.items s x) same-world after.1
+    core-now : IsCore m.h.now m.with state_now.cells.items state_now.actors.items s world_now
+    core-now = subst (λ (x : World). IsCore m.h.now m.with state_now.cells.items state_now.actors.items s x) same-world after.1
 
     turn : IsTurn m.in_order s p w n world_now
     turn = record { within = subst (λ c. n < c) kept.core.count within; can = now_due.can; due_kind = due_kind; is_due = now_due.due_is; made = k; of_part = of_part; step = step }
@@ -237,9 +237,9 @@ module _ (m : Running) (kept : IsPhaseKept m) (n : ℕ) (due_kind : Kind) (now_d
     fewer counted turns most has =
         let less = fewer-law m.h.now p k n m.state.cells.items m.state.actors.items state_now.cells.items state_now.actors.items most has.core stepped
         (λ t x y core core_y made.
-        subst (λ (z : Setting). ((y.actors n).counted ≡ (x.actors n).counted) × BeginInTurn z p (history_in x) (history_in y)) (sym (one-setting m.h.now m.with.now m.state.cells.items m.state.actors.items t x core))
-        (subst (λ (v : World). ((y.actors n).counted ≡ (v.actors n).counted) × BeginInTurn s p (history_in v) (history_in y)) (sym (only-world m.h.now m.with.now m.state.cells.items m.state.actors.items t x core))
-        (subst (λ (v : World). ((v.actors n).counted ≡ (w.actors n).counted) × BeginInTurn s p (history_in w) (history_in v)) (sym (only-world m.h.now m.with.now state_now.cells.items state_now.actors.items t y core_y))
+        subst (λ (z : Setting). ((y.actors n).counted ≡ (x.actors n).counted) × BeginInTurn z p (history_in x) (history_in y)) (sym (one-setting m.h.now m.with m.state.cells.items m.state.actors.items t x core))
+        (subst (λ (v : World). ((y.actors n).counted ≡ (v.actors n).counted) × BeginInTurn s p (history_in v) (history_in y)) (sym (only-world m.h.now m.with m.state.cells.items m.state.actors.items t x core))
+        (subst (λ (v : World). ((v.actors n).counted ≡ (w.actors n).counted) × BeginInTurn s p (history_in w) (history_in v)) (sym (only-world m.h.now m.with state_now.cells.items state_now.actors.items t y core_y))
         (counted, turns)))) in
         (less.0, record { core = less.1 }, less.2)
 
@@ -260,7 +260,7 @@ module _ (m : Running) (kept : IsPhaseKept m) (n : ℕ) (due_kind : Kind) (now_d
           turn = record { turn = turn; inv = core-now.inv };
         };
         kept = record {
-          core = subst (λ (z : Setting). IsCore m.h.now m.with.now state_now.cells.items state_now.actors.items z world_now) (sym same-about) core-now;
+          core = subst (λ (z : Setting). IsCore m.h.now m.with state_now.cells.items state_now.actors.items z world_now) (sym same-about) core-now;
           may_run = kept.may_run;
           is_running = subst (λ (z : Setting). IsRunning m.in_order z p m.done.now world_now (cursor m)) (sym same-about) running-now;
           count = kept.count ∙ sym stepped.actors_kept;
@@ -292,7 +292,7 @@ module _ (m : Running) (kept : IsPhaseKept m) (n : ℕ) (due_kind : Kind) (now_d
         told (inr longer) = inr (inl (longer w world_now kept.core.is core-now.is))
 
     -- where it begins the session's next command
-    module _ (c : Command) (at : slice_get m.phase.now (next_at m n) ≡ Some c) (begun : GoesBy m.with.now m.h.now c m.state.cells.items m.state.actors.items state_now.cells.items state_now.actors.items)
+    module _ (c : Command) (at : slice_get m.phase.now (next_at m n) ≡ Some c) (begun : GoesBy m.with m.h.now c m.state.cells.items m.state.actors.items state_now.cells.items state_now.actors.items)
         (now : Running) (has_moved : HasMovedOn (record m { state = state_now }) n now) where
       abbrev mid : Running
       mid = record m { state = state_now; next = now.next; left = now.left }
@@ -300,14 +300,14 @@ module _ (m : Running) (kept : IsPhaseKept m) (n : ℕ) (due_kind : Kind) (now_d
       moved : HasMovedOn (record m { state = state_now }) n mid
       moved = subst (λ (x : Running). HasMovedOn (record m { state = state_now }) n x) has_moved.only has_moved
 
-      grown : IsBegunBy m.with.now m.h.now c (history_in w) (history_in world_now)
+      grown : IsBegunBy m.with m.h.now c (history_in w) (history_in world_now)
       grown = begun w world_now kept.core.is core-now.is
 
-      own : session_of m.with.now c ≡ n
+      own : session_of m.with c ≡ n
       own = kept.is_running.own n c (ap (slice_get m.phase.now) (at-next m kept n) ∙ at)
 
       session : session_in grown.event ≡ Some n
-      session = begins-session m.with.now m.h.now c grown.event grown.begins ∙ ap Some own
+      session = begins-session m.with m.h.now c grown.event grown.begins ∙ ap Some own
 
       longer : (e : Event) (past : List Event) → e ∷ past ≡ past → ⊥
       longer e past is = let len : suc (length past) ≡ length past = ap length is in omega arith
@@ -347,7 +347,7 @@ module _ (m : Running) (kept : IsPhaseKept m) (n : ℕ) (due_kind : Kind) (now_d
         own = own-now;
       }
         where
-          own-now : (t : ℕ) (d : Command) → slice_get m.phase.now (next_now t - length m.done.now) ≡ Some d → session_of m.with.now d ≡ t
+          own-now : (t : ℕ) (d : Command) → slice_get m.phase.now (next_now t - length m.done.now) ≡ Some d → session_of m.with d ≡ t
           own-now t d here =
               let far : next_now t - length m.done.now ≡ next_at mid t = omega arith in
               elim (same-or-not t n) [
@@ -365,12 +365,12 @@ module _ (m : Running) (kept : IsPhaseKept m) (n : ℕ) (due_kind : Kind) (now_d
         | inr differs ↦ subst (λ k. k ≤ length m.phase.now) (sym (moved.others t differs)) (kept.within t)
       ]
 
-      begun-now : (i : ℕ) (d : Command) → slice_get m.phase.now i ≡ Some d → i < m.begun → i < next_at mid (session_of m.with.now d)
+      begun-now : (i : ℕ) (d : Command) → slice_get m.phase.now i ≡ Some d → i < m.begun → i < next_at mid (session_of m.with d)
       begun-now i d here low =
           let before = kept.begun i d here low in
-          elim (same-or-not (session_of m.with.now d) n) [
+          elim (same-or-not (session_of m.with d) n) [
             | inl is ↦ subst (λ a. i < next_at mid a) (sym is) (omega (arith, subst (λ a. i < next_at m a) is before, moved.further))
-            | inr differs ↦ subst (λ k. i < k) (sym (moved.others (session_of m.with.now d) differs)) before
+            | inr differs ↦ subst (λ k. i < k) (sym (moved.others (session_of m.with d) differs)) before
           ]
 
       turned-mid : HasTurned m n mid
@@ -382,7 +382,7 @@ module _ (m : Running) (kept : IsPhaseKept m) (n : ℕ) (due_kind : Kind) (now_d
           turn = record { turn = turn; inv = core-now.inv };
         };
         kept = record {
-          core = subst (λ (z : Setting). IsCore m.h.now m.with.now state_now.cells.items state_now.actors.items z world_now) (sym same-about) core-now;
+          core = subst (λ (z : Setting). IsCore m.h.now m.with state_now.cells.items state_now.actors.items z world_now) (sym same-about) core-now;
           may_run = kept.may_run;
           is_running = subst (λ (z : Setting). IsRunning m.in_order z p m.done.now world_now next_now) (sym same-about) running-begun;
           count = moved.count ∙ kept.count ∙ sym stepped.actors_kept;
@@ -406,15 +406,15 @@ rests-held m held state_now stays =
     let first = held.first in
     let s = about_in m in
     let w = world_of m in
-    let core = still-is m.h.now m.with.now m.state.cells.items state_now.cells.items m.state.actors.items state_now.actors.items s w kept.core stays in
-    let about = one-setting m.h.now m.with.now state_now.cells.items state_now.actors.items s w core in
-    let world = only-world m.h.now m.with.now state_now.cells.items state_now.actors.items s w core in (
+    let core = still-is m.h.now m.with m.state.cells.items state_now.cells.items m.state.actors.items state_now.actors.items s w kept.core stays in
+    let about = one-setting m.h.now m.with state_now.cells.items state_now.actors.items s w core in
+    let world = only-world m.h.now m.with state_now.cells.items state_now.actors.items s w core in (
       record {
         kept = record {
-          core = subst (λ (x : World). IsCore m.h.now m.with.now state_now.cells.items state_now.actors.items (setting_in m.h.now m.with.now state_now.actors.items) x) world
-              (subst (λ (z : Setting). IsCore m.h.now m.with.now state_now.cells.items state_now.actors.items z w) about core);
+          core = subst (λ (x : World). IsCore m.h.now m.with state_now.cells.items state_now.actors.items (setting_in m.h.now m.with state_now.actors.items) x) world
+              (subst (λ (z : Setting). IsCore m.h.now m.with state_now.cells.items state_now.actors.items z w) about core);
           may_run = kept.may_run;
-          is_running = subst (λ (x : World). IsRunning m.in_order (setting_in m.h.now m.with.now state_now.actors.items) (phase_of m) m.done.now x (cursor m)) world
+          is_running = subst (λ (x : World). IsRunning m.in_order (setting_in m.h.now m.with state_now.actors.items) (phase_of m) m.done.now x (cursor m)) world
               (subst (λ (z : Setting). IsRunning m.in_order z (phase_of m) m.done.now w (cursor m)) about kept.is_running);
           count = kept.count ∙ sym stays.actors_kept;
           few = kept.few;

@@ -59,7 +59,7 @@ low-or-high : (a n : ℕ) → (a < n) ⊎ (n ≤ a)
 low-or-high a n = grind arith
 
 -- the session of a command that may run is an actor
-session-low : (h : List Dimension) (with : Use) (c : Command) → MayRun h with c → session_of with c < with.servers + 2
+pub session-low : (h : List Dimension) (with : Use) (c : Command) → MayRun h with c → session_of with c < with.servers + 2
 session-low h with (script.Insert new) may = (let low = may.allowed in omega (arith, low))
 session-low h with (script.Query question) may = (let low = may.allowed.0 in omega (arith, low))
 session-low h with (script.Control (call.Sync server)) may = omega arith
@@ -73,14 +73,14 @@ session-low h with (script.Control (call.Tree shard)) may = omega arith
 session-low h with (script.Control call.Audit) may = omega arith
 
 module _ (m : Running) (first : IsFirstMoment m) where
-  core : IsCore m.h.now m.with.now m.state.cells.items m.state.actors.items (about_in m) (world_of m)
-  core = here-core m.h.now m.with.now m.state.cells.items m.state.actors.items first.core
+  core : IsCore m.h.now m.with m.state.cells.items m.state.actors.items (about_in m) (world_of m)
+  core = here-core m.h.now m.with m.state.cells.items m.state.actors.items first.core
 
-  may : (k : ℕ) (c : Command) → slice_get m.phase.now k ≡ Some c → MayRun m.h.now m.with.now c
+  may : (k : ℕ) (c : Command) → slice_get m.phase.now k ≡ Some c → MayRun m.h.now m.with c
   may k c at = first.may_run (length m.done.now + k) c (get-behind m.done.now m.phase.now k ∙ at)
 
-  enough : m.with.now.servers + 2 ≤ length m.state.actors.items
-  enough = omega (arith, core.count, slice_get_within (about_in m).roles (m.with.now.servers + 1) _ core.roles.admin)
+  enough : m.with.servers + 2 ≤ length m.state.actors.items
+  enough = omega (arith, core.count, slice_get_within (about_in m).roles (m.with.servers + 1) _ core.roles.admin)
 
   pub some-actor : 0 < length m.state.actors.items
   some-actor = omega (arith, enough)
@@ -88,7 +88,7 @@ module _ (m : Running) (first : IsFirstMoment m) where
   phase-is : IsPhaseOf (about_in m) (phase_of m)
   phase-is = record {
     servers = refl;
-    sessions = λ i c at. session-low m.h.now m.with.now c (may i c at);
+    sessions = λ i c at. session-low m.h.now m.with c (may i c at);
     asked = λ i q at. (may i (script.Query q) at).allowed.0;
     last = first.closes;
   }
@@ -97,13 +97,13 @@ module _ (m : Running) (first : IsFirstMoment m) where
   no-stream : (s : ℕ) → length m.state.actors.items ≤ s → next_at m s ≡ length m.phase.now
   no-stream s high = beyond m.next.items s (length m.phase.now) (omega (arith, high, first.next.0))
 
-  none-before : (s k : ℕ) (c : Command) → slice_get m.phase.now k ≡ Some c → k < next_at m s → session_of m.with.now c ≢ s
+  none-before : (s k : ℕ) (c : Command) → slice_get m.phase.now k ≡ Some c → k < next_at m s → session_of m.with c ≢ s
   none-before s k c at low = elim (low-or-high s (length m.state.actors.items)) [
     | inl is ↦ (first.next.1 s is).none k c at low
-    | inr high ↦ λ e. absurd (omega (arith, e, high, enough, session-low m.h.now m.with.now c (may k c at)))
+    | inr high ↦ λ e. absurd (omega (arith, e, high, enough, session-low m.h.now m.with c (may k c at)))
   ]
 
-  own : (s : ℕ) (c : Command) → slice_get m.phase.now (cursor m s - length m.done.now) ≡ Some c → session_of m.with.now c ≡ s
+  own : (s : ℕ) (c : Command) → slice_get m.phase.now (cursor m s - length m.done.now) ≡ Some c → session_of m.with c ≡ s
   own s c at =
       let here : slice_get m.phase.now (next_at m s) ≡ Some c = (let e : cursor m s - length m.done.now ≡ next_at m s = omega arith in ap (slice_get m.phase.now) (sym e) ∙ at) in
       elim (low-or-high s (length m.state.actors.items)) [
@@ -111,7 +111,7 @@ module _ (m : Running) (first : IsFirstMoment m) where
         | inr high ↦ absurd (omega (arith, some-within m.phase.now (next_at m s) c here, no-stream s high))
       ]
 
-  are-first : AreFirst m.with.now (m.done.now ++ m.phase.now) (length m.done.now) (cursor m)
+  are-first : AreFirst m.with (m.done.now ++ m.phase.now) (length m.done.now) (cursor m)
   are-first s = (
     omega arith,
     λ i c at high low.
@@ -121,7 +121,7 @@ module _ (m : Running) (first : IsFirstMoment m) where
 
   pub begins-running : IsRunning m.in_order (about_in m) (phase_of m) m.done.now (world_of m) (cursor m)
   begins-running = phase-begins-law m.in_order (about_in m) (phase_of m) m.done.now (world_of m) (cursor m) core.roles phase-is first.between
-      (ap (λ (x : State). history_in (held m.h.now m.with.now x)) first.before) (record { first = are-first; own = own })
+      (ap (λ (x : State). history_in (held m.h.now m.with x)) first.before) (record { first = are-first; own = own })
 
   pub begins-kept : IsPhaseKept m
   begins-kept = record {
@@ -178,7 +178,7 @@ from-then m x y n turn from = record {
 }
 
 same-phase : (m x : Running) → IsSamePhase m x → phase_of x ≡ phase_of m
-same-phase m x same = (λ i. phase_from (same.h i).now (same.with i).now (same.phase i).now (same.before i).value)
+same-phase m x same = (λ i. phase_from (same.h i).now (same.with i) (same.phase i).now (same.before i).value)
 
 module _ (m : Running) (kept : IsPhaseKept m) where
   abbrev able_of : World → List ℕ
@@ -220,7 +220,7 @@ pub record WholeRun (m : Running) (schedule : Schedule) (now : Running) (schedul
   pub about : about_in now ≡ about_in m
   pub order : is_order schedule_now ≡ is_order schedule
   pub turns : HasRunTo m schedule now schedule_now
-  pub between : IsBetween m.in_order (about_in m) m.with.now (m.done.now ++ m.phase.now) (world_of now)
+  pub between : IsBetween m.in_order (about_in m) m.with (m.done.now ++ m.phase.now) (world_of now)
 
 -- and one that stopped
 pub record PartRun (m : Running) (schedule : Schedule) (now : Running) (schedule_now : Schedule) : Type 0 where
@@ -314,9 +314,9 @@ module _ (m : Running) (first : IsFirstMoment m) (schedule : Schedule) (order : 
       let same = (same-from from).0 in
       let at_first : Reaches World (able_in m.in_order (about_in m) (phase_of m)) (IsKeptTurn m.in_order (about_in m) (phase_of m)) (record { state = world_of m; schedule = schedule }) (world_of now) to =
       subst (λ (x : Running). Reaches World (able_in x.in_order (about_in x) (phase_of x)) (IsKeptTurn x.in_order (about_in x) (phase_of x)) (record { state = world_of x; schedule = schedule }) (world_of now) to) start_is r in
-      let there : world_of now ≡ held m.h.now m.with.now now.state = (λ i. held (same.h i).now (same.with i).now now.state) in
-      subst (λ (b : Bool). Reaches World (able_in b (about m.h.now m.with.now m.before.value) (phase_of m)) (IsKeptTurn b (about m.h.now m.with.now m.before.value) (phase_of m)) (record { state = held m.h.now m.with.now m.before.value; schedule = schedule }) (held m.h.now m.with.now now.state) to) order
-      (subst (λ (x : State). Reaches World (able_in m.in_order (about m.h.now m.with.now x) (phase_of m)) (IsKeptTurn m.in_order (about m.h.now m.with.now x) (phase_of m)) (record { state = held m.h.now m.with.now x; schedule = schedule }) (held m.h.now m.with.now now.state) to) (sym first.before)
+      let there : world_of now ≡ held m.h.now m.with now.state = (λ i. held (same.h i).now (same.with i) now.state) in
+      subst (λ (b : Bool). Reaches World (able_in b (about m.h.now m.with m.before.value) (phase_of m)) (IsKeptTurn b (about m.h.now m.with m.before.value) (phase_of m)) (record { state = held m.h.now m.with m.before.value; schedule = schedule }) (held m.h.now m.with now.state) to) order
+      (subst (λ (x : State). Reaches World (able_in m.in_order (about m.h.now m.with x) (phase_of m)) (IsKeptTurn m.in_order (about m.h.now m.with x) (phase_of m)) (record { state = held m.h.now m.with x; schedule = schedule }) (held m.h.now m.with now.state) to) (sym first.before)
       (subst (λ (v : World). Reaches World (able_in m.in_order (about_in m) (phase_of m)) (IsKeptTurn m.in_order (about_in m) (phase_of m)) (record { state = world_of m; schedule = schedule }) v to) there at_first))
 
   -- where nobody can step any more
@@ -353,3 +353,7 @@ module _ (m : Running) (first : IsFirstMoment m) (schedule : Schedule) (order : 
         into = as-before (λ b s p d. IsStopped b s p d (world_of now)) m now same.0 same.1
             (stops-law now.in_order (about_in now) (phase_of now) now.done.now (world_of now) (cursor now) held_now.kept.is_running);
       }
+
+  pub ends-so : {A E : Type 0} (r : Result A E) → OnOk r (Reached start held_start.kept schedule now schedule_now held_now) → OnOk r (able_here start held_start.kept now ≡ [])
+      → OnErr r (Stopped start held_start.kept schedule now schedule_now held_now) → OnOk r (WholeRun m schedule now schedule_now) × OnErr r (PartRun m schedule now schedule_now)
+  ends-so r reached ended stopped = (on-both r _ _ _ has-run reached ended, on-fault r _ _ has-stopped stopped)

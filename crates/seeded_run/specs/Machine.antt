@@ -26,13 +26,13 @@ use Rattle.seeded_run.specs.declared.machine.Running.{Running}
 
 -- what the core is about, the state that it is, and the phase
 abbrev pub about_in : Running → Setting
-about_in m = about m.h.now m.with.now m.state
+about_in m = about m.h.now m.with m.state
 
 abbrev pub world_of : Running → World
-world_of m = held m.h.now m.with.now m.state
+world_of m = held m.h.now m.with m.state
 
 abbrev pub phase_of : Running → PhaseRun
-phase_of m = phase_from m.h.now m.with.now m.phase.now m.before.value
+phase_of m = phase_from m.h.now m.with m.phase.now m.before.value
 
 -- by session: where its next command stands in the phase, and among all commands
 
@@ -52,16 +52,16 @@ streams_open many next = count_by (λ k. nat_lt k many) next
 
 -- each command before a place has begun
 abbrev pub HasBegunTo : Running → ℕ → Type 0
-HasBegunTo m place = (i : ℕ) (c : Command) → slice_get m.phase.now i ≡ Some c → i < place → i < next_at m (session_of m.with.now c)
+HasBegunTo m place = (i : ℕ) (c : Command) → slice_get m.phase.now i ≡ Some c → i < place → i < next_at m (session_of m.with c)
 
 -- the command at a place hasn't begun
 abbrev pub WaitsAt : Running → ℕ → Type 0
-WaitsAt m place = (c : Command) → slice_get m.phase.now place ≡ Some c → next_at m (session_of m.with.now c) ≤ place
+WaitsAt m place = (c : Command) → slice_get m.phase.now place ≡ Some c → next_at m (session_of m.with c) ≤ place
 
 -- The phase runs, and the cursors tell how far.
 pub record IsPhaseKept (m : Running) : Type 0 where
-  pub core : IsCore m.h.now m.with.now m.state.cells.items m.state.actors.items (about_in m) (world_of m)
-  pub may_run : MayAllRun m.h.now m.with.now (m.done.now ++ m.phase.now)
+  pub core : IsCore m.h.now m.with m.state.cells.items m.state.actors.items (about_in m) (world_of m)
+  pub may_run : MayAllRun m.h.now m.with (m.done.now ++ m.phase.now)
   pub is_running : IsRunning m.in_order (about_in m) (phase_of m) m.done.now (world_of m) (cursor m)
   pub count : length m.next.items ≡ length m.state.actors.items
   pub few : length m.next.items < most_actors
@@ -127,8 +127,8 @@ pub record HasMovedOn (m : Running) (n : ℕ) (now : Running) : Type 0 where
   pub only : now ≡ record m { next = now.next; left = now.left }
   pub further : next_at m n < next_at now n
   pub within : next_at now n ≤ length m.phase.now
-  pub none : (i : ℕ) (c : Command) → slice_get m.phase.now i ≡ Some c → next_at m n < i → i < next_at now n → session_of m.with.now c ≢ n
-  pub own : (c : Command) → slice_get m.phase.now (next_at now n) ≡ Some c → session_of m.with.now c ≡ n
+  pub none : (i : ℕ) (c : Command) → slice_get m.phase.now i ≡ Some c → next_at m n < i → i < next_at now n → session_of m.with c ≢ n
+  pub own : (c : Command) → slice_get m.phase.now (next_at now n) ≡ Some c → session_of m.with c ≡ n
   pub others : (t : ℕ) → t ≢ n → next_at now t ≡ next_at m t
   pub count : length now.next.items ≡ length m.next.items
   pub left : now.left ≡ streams_open (length m.phase.now) now.next.items
@@ -145,22 +145,22 @@ AreFirstCursors with phase actors next = (length next ≡ actors) × ((session :
 
 -- a phase that begins
 pub record IsFirstMoment (m : Running) : Type 0 where
-  pub core : HasCore m.h.now m.with.now m.state.cells.items m.state.actors.items
+  pub core : HasCore m.h.now m.with m.state.cells.items m.state.actors.items
   pub few : length m.state.actors.items < most_actors
-  pub may_run : MayAllRun m.h.now m.with.now (m.done.now ++ m.phase.now)
+  pub may_run : MayAllRun m.h.now m.with (m.done.now ++ m.phase.now)
   pub closes : ClosesLast m.phase.now
-  pub between : IsBetween m.in_order (about_in m) m.with.now m.done.now (world_of m)
+  pub between : IsBetween m.in_order (about_in m) m.with m.done.now (world_of m)
   pub before : m.before.value ≡ m.state
-  pub next : AreFirstCursors m.with.now m.phase.now (length m.state.actors.items) m.next.items
+  pub next : AreFirstCursors m.with m.phase.now (length m.state.actors.items) m.next.items
   pub left : m.left ≡ streams_open (length m.phase.now) m.next.items
   pub begun : m.begun ≡ 0
 
 -- some turns lead from one moment of a phase to another
 abbrev pub HasRunTo : Running → Schedule → Running → Schedule → Type 0
-HasRunTo m schedule now schedule_now = RunsTo m.h.now m.with.now m.phase.now m.before.value schedule now.state schedule_now
+HasRunTo m schedule now schedule_now = RunsTo m.h.now m.with m.phase.now m.before.value schedule now.state schedule_now
 
 abbrev pub HasStoppedAt : Running → Schedule → Running → Type 0
-HasStoppedAt m schedule now = StopsAt m.h.now m.with.now m.phase.now m.before.value schedule now.state
+HasStoppedAt m schedule now = StopsAt m.h.now m.with m.phase.now m.before.value schedule now.state
 
 -- At most so many steps are left: what control is left doesn't rest on what stands beside a state, and below it are the limits. So
 -- many are fewer than if control were one more, and nothing else left.
@@ -176,3 +176,11 @@ control_left s p w = (with_waiting s (waiting s p (history_in w)) (left s w noth
 
 unfoldable pub most_steps : Running → ℕ
 most_steps m = rank (limits_of (about_in m)) (record { control = control_left (about_in m) (phase_of m) (world_of m) + 1; gates = 0; rows = 0; queries = 0; counted = 0 })
+
+-- What holds between turns, and how many steps are left, as the run of turns takes them: it doesn't look into either.
+
+unfoldable pub HoldsNow : Running → Type 0
+HoldsNow m = IsPhaseHeld m
+
+unfoldable pub LeavesAtMost : Running → ℕ → Type 0
+LeavesAtMost m most = HasLeftOver m most

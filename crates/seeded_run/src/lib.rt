@@ -1,4 +1,4 @@
-//! A script's phases over the core, all actors on one thread: so far, which step is due for each actor.
+//! A script's phases over the core, all actors on one thread: a core opens, and each phase runs to its end.
 #![tactic(auto)]
 
 mod alone;
@@ -14,6 +14,7 @@ mod look;
 mod machine;
 mod names_due;
 mod opening;
+mod phase;
 mod places;
 mod reads;
 mod rows;
@@ -31,4 +32,5 @@ pub use laws::{
     steps_run_out, steps_tell_so, streams_run_out,
 };
 pub use opening::open_core;
+pub use phase::run_phase;
 pub use seeded_turns::Schedule;

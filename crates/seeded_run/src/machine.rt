@@ -2,7 +2,7 @@
 ghost use Rattle.std.specs.Prelude.{◌≡◌, ◌<◌, ◌+◌, ℕ, length, get_or, slice_get, option_copied, OnOk, OnErr, Some, None, true};
 ghost use Rattle.std.specs.Prelude.{false, option_map};
 ghost use Rattle.script_run.specs.Places.{session_of};
-ghost use Rattle.seeded_run.specs.Machine.{AloneInOrder, HasBegunTo, HasLeftOver, HasMovedOn, HasTurned, IsDueNow, IsPhaseHeld, IsPhaseKept, RestsAsIs, TakesTurn, WaitsAt, can_in, next_at, streams_open};
+ghost use Rattle.seeded_run.specs.Machine.{AloneInOrder, HasBegunTo, HasLeftOver, HasMovedOn, HasTurned, HoldsNow, IsDueNow, IsPhaseHeld, IsPhaseKept, LeavesAtMost, RestsAsIs, TakesTurn, WaitsAt, can_in, next_at, streams_open};
 ghost use Rattle.seeded_run.specs.Steps.{begins_by};
 
 use crate::alone::rests;
@@ -23,7 +23,7 @@ use volap_cell::{Kind, State};
 #[derive(Drop)]
 pub struct Running<'a> {
     pub h: &'a Hierarchy,
-    pub with: &'a Use,
+    pub with: Use,
     /// The commands before the phase, which are over.
     pub done: &'a [Command],
     pub phase: &'a [Command],
@@ -71,9 +71,9 @@ impl<'a> Running<'a> {
         ensures turned { HasTurned self.old number self.new }
     {
         if is_of_part(kind) {
-            go_on_at_part(alloc, self.h, self.with, &mut self.state, number, kind);
+            go_on_at_part(alloc, self.h, &self.with, &mut self.state, number, kind);
         } else {
-            go_on_with_command(alloc, self.h, self.with, &mut self.state, number, kind);
+            go_on_with_command(alloc, self.h, &self.with, &mut self.state, number, kind);
         }
     }
 
@@ -93,10 +93,10 @@ impl<'a> Running<'a> {
         ensures turned { OnOk result (HasTurned self.old number self.new) }
         ensures rests { OnErr result (IsPhaseHeld self.new × RestsAsIs self.old self.new) }
     {
-        if let Err(refused) = begin(alloc, self.h, self.with, &mut self.state, number, command) {
+        if let Err(refused) = begin(alloc, self.h, &self.with, &mut self.state, number, command) {
             return Err(refused);
         }
-        let session = session_of(self.with, command);
+        let session = session_of(&self.with, command);
         self.move_on(number, session);
         Ok(())
     }
@@ -127,7 +127,7 @@ impl<'a> Running<'a> {
         requires left { self.old.left ≡ streams_open (length self.old.phase.now) self.old.next.items }
         ensures moved { HasMovedOn self.old number self.new }
     {
-        let next = next_of(self.with, self.phase, session, self.next[number] + 1);
+        let next = next_of(&self.with, self.phase, session, self.next[number] + 1);
         self.next[number] = next;
         if next == self.phase.len() {
             self.left -= 1;
@@ -141,7 +141,7 @@ impl<'a> Running<'a> {
         ensures waits { WaitsAt self.now result }
     {
         for place in self.begun..self.phase.len() {
-            let session = session_of(self.with, &self.phase[place]);
+            let session = session_of(&self.with, &self.phase[place]);
             if self.next[usize::from(session)] <= place {
                 return place;
             }
@@ -172,10 +172,10 @@ impl<'a> Running<'a> {
 
     /// The session of the command at a place of the phase, if one stands there.
     fn session_at(&self, place: usize) -> Option<usize>
-        ensures { result ≡ option_map (session_of self.now.with.now) (slice_get self.now.phase.now place) }
+        ensures { result ≡ option_map (session_of self.now.with) (slice_get self.now.phase.now place) }
     {
         match self.phase.get(place) {
-            Some(command) => Some(usize::from(session_of(self.with, command))),
+            Some(command) => Some(usize::from(session_of(&self.with, command))),
             None => None,
         }
     }
@@ -186,24 +186,26 @@ impl<'a> Machine for Running<'a> {
 
     ghost can = { can_in };
 
-    ghost Holds = { IsPhaseHeld };
+    ghost Holds = { HoldsNow };
 
     ghost makes = { TakesTurn };
 
     ghost stays = { RestsAsIs };
 
-    ghost Left = { HasLeftOver };
+    ghost Left = { LeavesAtMost };
 
+    #[tactic(auto, unfolding(crate::specs::Machine::HoldsNow))]
     fn actors(&self) -> u32 {
         self.next.len() as u32
     }
 
+    #[tactic(auto, unfolding(crate::specs::Machine::HoldsNow))]
     fn can_step(&self, actor: u32) -> bool {
         let number = actor as usize;
         let next = self.next_command(number);
         can_step(
             self.h,
-            self.with,
+            &self.with,
             &self.state,
             self.in_order,
             self.first,
@@ -213,10 +215,11 @@ impl<'a> Machine for Running<'a> {
         )
     }
 
+    #[tactic(auto, unfolding(crate::specs::Machine::HoldsNow, crate::specs::Machine::LeavesAtMost))]
     fn step(&mut self, alloc: Global, actor: u32) -> Result<(), AllocError> {
         let number = actor as usize;
         let next = self.next_command(number);
-        let Some(kind) = due(self.h, self.with, &self.state, number, next, self.left) else {
+        let Some(kind) = due(self.h, &self.with, &self.state, number, next, self.left) else {
             unreachable!()
         };
         if let Err(refused) = self.take_turn(alloc, number, kind) {

@@ -1,0 +1,128 @@
+-- The first commands of sessions in a phase, and a phase that found no memory before its first turn.
+use Rattle.std.proofs.Common.{◌≡◌, ◌≢◌, ◌∙◌, ◌+◌, ◌-◌, ◌<◌, ◌≤◌, ◌⊎◌, inl, inr, ℕ, zero, suc, Bool, true, false, ◌==◌, List, [], ◌∷◌, ◌++◌, length, get_or, Option, Some, None, refl, sym, ap, subst, arith}
+use Rattle.std.specs.Prelude.{if◌then◌else◌, slice_get}
+use Rattle.std.proofs.lemmas.Bool.{eq-eqb, eqb-true}
+use Rattle.dim_hierarchy.specs.Dimension.{Dimension}
+use Rattle.row_ledger.specs.declared.settings.Use.{Use}
+use Rattle.script_form.specs.declared.script.Command.{Command}
+use Rattle.script_form.specs.declared.script.Command.TheVariants as script
+use Rattle.script_run.specs.Places.{session_of}
+use Rattle.script_run.proofs.Between.{get-behind}
+use Rattle.volap_cell.specs.Steps.{history_in}
+use Rattle.volap_cell.specs.declared.state.State.{State}
+use Rattle.seeded_run.specs.Kept.{IsBetween, IsStopped}
+use Rattle.seeded_run.specs.Core.{HasCore}
+use Rattle.seeded_run.specs.Machine.{AreFirstCursors, IsFirstAt, IsFirstMoment, streams_open}
+use Rattle.seeded_run.specs.Phase.{ClosesLast, IsCoreHeld, MayAllRun, MayRun, about, held, most_actors, phase_from}
+use Rattle.seeded_run.specs.Progress.{IsPhaseOf}
+use Rattle.seeded_run.specs.declared.machine.Running.{Running}
+use Rattle.seeded_run.proofs.LeftAlone.{apart}
+use Rattle.seeded_run.proofs.PhaseRuns.{phase-begins-law, stops-law}
+use Rattle.seeded_run.proofs.WholePhases.{here-core, session-low}
+
+-- where a session's first command stands, or how many there are
+first_in : Use → ℕ → List Command → ℕ
+first_in with s [] = 0
+first_in with s (c ∷ cs) = if session_of with c == s then 0 else suc (first_in with s cs)
+
+first-at : (with : Use) (s : ℕ) (cs : List Command) → IsFirstAt with cs s (first_in with s cs)
+unfolding first_in
+first-at with s [] = record { within = omega arith; none = λ i c at low. cc; own = λ c at. cc }
+first-at with s (c ∷ cs) = by (first-at with s cs) (session_of with c == s) refl
+  where
+    by : IsFirstAt with cs s (first_in with s cs) → (b : Bool) → (session_of with c == s) ≡ b → IsFirstAt with (c ∷ cs) s (if session_of with c == s then 0 else suc (first_in with s cs))
+    by f true is = subst (λ b. IsFirstAt with (c ∷ cs) s (if b then 0 else suc (first_in with s cs))) (sym is) (record {
+      within = omega arith;
+      none = λ i d at low. absurd (omega (arith, low));
+      own = λ d at. (let same : c ≡ d = cc in ap (session_of with) (sym same) ∙ eqb-true (session_of with c) s is);
+    })
+    by f false is = subst (λ b. IsFirstAt with (c ∷ cs) s (if b then 0 else suc (first_in with s cs))) (sym is) (record {
+      within = (let low = f.within in omega arith);
+      none = none;
+      own = λ d at. f.own d at;
+    })
+      where
+        none : (i : ℕ) (d : Command) → slice_get (c ∷ cs) i ≡ Some d → i < suc (first_in with s cs) → session_of with d ≢ s
+        none zero d at low = λ e. (let same : c ≡ d = cc in apart (session_of with c == s) (eq-eqb (session_of with c) s (ap (session_of with) same ∙ e)) is)
+        none (suc i) d at low = f.none i d at (omega (arith, low))
+
+module _ (h : List Dimension) (with : Use) (done phase : List Command) (x : State) (core : IsCoreHeld h with x) (all : MayAllRun h with (done ++ phase)) (closes : ClosesLast phase)
+    (in_order : Bool) (between : IsBetween in_order (about h with x) with done (held h with x)) where
+  may : (k : ℕ) (c : Command) → slice_get phase k ≡ Some c → MayRun h with c
+  may k c at = all (length done + k) c (get-behind done phase k ∙ at)
+
+  phase-is : IsPhaseOf (about h with x) (phase_from h with phase x)
+  phase-is = record {
+    servers = refl;
+    sessions = λ i c at. session-low h with c (may i c at);
+    asked = λ i q at. (may i (script.Query q) at).allowed.0;
+    last = closes;
+  }
+
+  next : ℕ → ℕ
+  next s = length done + first_in with s phase
+
+  -- it is a part of a run as it was before
+  pub stopped-first : IsStopped in_order (about h with x) (phase_from h with phase x) done (held h with x)
+  unfolding next
+  stopped-first =
+      stops-law in_order (about h with x) (phase_from h with phase x) done (held h with x) next
+      (phase-begins-law in_order (about h with x) (phase_from h with phase x) done (held h with x) next (here-core h with x.cells.items x.actors.items core.0).roles phase-is between refl
+      (record {
+        first = λ s. (
+          omega arith,
+          λ i c at high low.
+              (let k : i ≡ length done + (i - length done) = omega arith in
+              (first-at with s phase).none (i - length done) c (sym (get-behind done phase (i - length done)) ∙ ap (slice_get (done ++ phase)) (sym k) ∙ at) (omega (arith, low, high))),
+        );
+        own = λ s c at. (let k : length done + first_in with s phase - length done ≡ first_in with s phase = omega arith in (first-at with s phase).own c (ap (slice_get phase) (sym k) ∙ at));
+      }))
+
+-- Cursors, one after the other.
+
+get-more : (xs : List ℕ) (v d i : ℕ) → i < length xs → get_or (xs ++ v ∷ []) i d ≡ get_or xs i d
+get-more [] v d i low = absurd (omega arith)
+get-more (x ∷ xs) v d zero low = refl
+get-more (x ∷ xs) v d (suc i) low = get-more xs v d i (omega arith)
+
+get-last : (xs : List ℕ) (v d : ℕ) → get_or (xs ++ v ∷ []) (length xs) d ≡ v
+get-last [] v d = refl
+get-last (x ∷ xs) v d = get-last xs v d
+
+below-or-at : (i n : ℕ) → i < n + 1 → (i < n) ⊎ (i ≡ n)
+below-or-at i n h = grind arith
+
+length-more : (xs : List ℕ) (v : ℕ) → length (xs ++ v ∷ []) ≡ length xs + 1
+length-more [] v = refl
+length-more (x ∷ xs) v = let more = length-more xs v in omega (arith, more)
+
+pub one-more : (with : Use) (phase : List Command) (session : ℕ) (next : List ℕ) (v : ℕ) → AreFirstCursors with phase session next → IsFirstAt with phase session v
+    → AreFirstCursors with phase (session + 1) (next ++ v ∷ [])
+one-more with phase session next v (count, each) here = (
+  omega (arith, count, length-more next v),
+  λ s low. elim (below-or-at s session low) [
+    | inl before ↦ subst (IsFirstAt with phase s) (sym (get-more next v (length phase) s (omega (arith, before, count)))) (each s before)
+    | inr at ↦
+        let last : get_or (next ++ v ∷ []) s (length phase) ≡ v = ap (λ k. get_or (next ++ v ∷ []) k (length phase)) (at ∙ sym count) ∙ get-last next v (length phase) in
+        subst (IsFirstAt with phase s) (sym last) (subst (λ k. IsFirstAt with phase k v) (sym at) here)
+  ],
+)
+
+pub none-yet : (with : Use) (phase : List Command) → AreFirstCursors with phase 0 []
+none-yet with phase = (refl, λ s low. absurd (omega arith))
+
+-- Where a phase begins so.
+pub first-moment : (m : Running) (x : State) → m.state ≡ x → IsCoreHeld m.h.now m.with x → MayAllRun m.h.now m.with (m.done.now ++ m.phase.now) → ClosesLast m.phase.now
+    → IsBetween m.in_order (about m.h.now m.with x) m.with m.done.now (held m.h.now m.with x) → m.before.value ≡ x → AreFirstCursors m.with m.phase.now (length x.actors.items) m.next.items
+    → m.left ≡ streams_open (length m.phase.now) m.next.items → m.begun ≡ 0 → IsFirstMoment m
+first-moment m x is core may closes between before next left begun = record {
+  core = subst (λ (y : State). HasCore m.h.now m.with y.cells.items y.actors.items) (sym is) core.0;
+  few = subst (λ (y : State). length y.actors.items < most_actors) (sym is) core.1;
+  may_run = may;
+  closes = closes;
+  between = subst (λ (y : State). IsBetween m.in_order (about m.h.now m.with y) m.with m.done.now (held m.h.now m.with y)) (sym is) between;
+  before = before ∙ sym is;
+  next = subst (λ (y : State). AreFirstCursors m.with m.phase.now (length y.actors.items) m.next.items) (sym is) next;
+  left = left;
+  begun = begun;
+}

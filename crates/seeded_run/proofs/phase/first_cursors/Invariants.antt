@@ -1,0 +1,6 @@
+use Rattle.std.proofs.Common.{◌≡◌, ◌<◌, ℕ, length, get_or}
+use Rattle.seeded_run.specs.Machine.{AreFirstCursors}
+use Rattle.seeded_run.proofs.phase.first_cursors.Given as goal
+
+abbrev pub invariant-loop-session : goal.invariant-loop-session
+invariant-loop-session l = AreFirstCursors l.with l.phase l.session l.next.items
