@@ -1,14 +1,3 @@
 pub mod Zips
-pub mod OneWord
 pub mod WantedFacts
-pub mod CommandSteps
-pub mod Openings
-pub mod KeepsSteps
-pub mod Orders
-pub mod ShardSteps
-pub mod ShownSteps
-pub mod Known
-pub mod RunSteps
 pub mod Ends
-pub mod RunFacts
-pub mod PhaseSteps
