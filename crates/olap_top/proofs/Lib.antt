@@ -1,3 +1,9 @@
 pub mod Zips
 pub mod WantedFacts
 pub mod Ends
+pub mod Grown
+pub mod Handing
+pub mod PhaseTurns
+pub mod Kept
+pub mod InsertsEnd
+pub mod PhaseSteps

@@ -1,6 +1,5 @@
 -- What a run has made so far, and what a phase of it makes.
 use Rattle.std.specs.Prelude.{ℕ, ◌≡◌, ◌++◌, Bool, true, List, []}
-use Rattle.answer_text.specs.Marks.{RefersBack}
 use Rattle.answer_text.specs.Printed.{phase_behind}
 use Rattle.answer_text.specs.Told.{HasTold}
 use Rattle.answer_text.specs.declared.text.Teller.{Teller}
@@ -37,7 +36,6 @@ pub record HasToldSo (s : Script) (done : List Command) (history : List Event) (
   pub more : List Event
   pub told : HasTold s.with done past teller
   pub grown : history ≡ more ++ past
-  pub refers : RefersBack past
 
 -- A run between two phases: these commands are over and told, in order where the schedule says so.
 pub record IsBehind (s : Script) (done : List Command) (run : Run) : Type 0 where

@@ -77,17 +77,16 @@ fn schedule_of(wanted: Wanted) -> Schedule
 
 /// Runs a script phase by phase, and writes the text of each as one piece when it has ended.
 fn run_phases<K: Sink>(run: &mut Run, alloc: Global, script: &Script, sink: &mut K) -> Status
-    ghost wanted: { words_ask.Wanted }
     requires settings { AreSettings script.now.with }
     requires fits { All (Fits script.now) script.now.commands }
     requires dims { 0 < length script.now.commands → 0 < length script.now.hierarchy }
     requires start { IsBehind script.now [] run.old }
     ensures kinds { (result ≡ Status.Done) ⊎ (result ≡ Status.WriteFault) ⊎ (result ≡ Status.NoMemory) }
     ensures no_memory { result ≡ Status.NoMemory
-        → RanInto wanted script.now (K.taken sink.old) (K.taken sink.new) (history_of script.now run.new) }
+        → (wanted : words_ask.Wanted) → RanInto wanted script.now (K.taken sink.old) (K.taken sink.new) (history_of script.now run.new) }
     ensures write_fault { result ≡ Status.WriteFault
         → Rose (K.faults sink.old) (K.faults sink.new)
-        × RanTo wanted script.now (K.taken sink.old) (K.taken sink.new) (history_of script.now run.new) }
+        × ((wanted : words_ask.Wanted) → RanTo wanted script.now (K.taken sink.old) (K.taken sink.new) (history_of script.now run.new)) }
     ensures done { result ≡ Status.Done
         → HasRun script.now.with script.now.hierarchy script.now.commands (history_of script.now run.new)
         × Appends (K.taken sink.old) (K.taken sink.new)
@@ -97,7 +96,8 @@ fn run_phases<K: Sink>(run: &mut Run, alloc: Global, script: &Script, sink: &mut
     let all = script.commands.as_slice();
     let mut done = 0;
     while done < all.len() {
-        let end = done + phase_len(&all[done..]);
+        let (_, rest) = all.split_at(done);
+        let end = done + phase_len(rest);
         let Ok(text) = run.phase(alloc, script, &all[..end], done) else {
             return Status::NoMemory;
         };
