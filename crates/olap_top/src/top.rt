@@ -129,6 +129,8 @@ fn run_script<K: Sink>(alloc: Global, script: &Script, wanted: Wanted, sink: &mu
         (told script.now.with script.now.commands result.ledger.history) }
     ensures run { ((result.status ≡ Status.NoMemory) × LeavesNothing result) ⊎ LeavesRun wanted script.now result }
 {
+    // What `open_core` asks of the dimensions is known of each hierarchy that is asked how many it has.
+    let _dims = script.hierarchy.dims();
     let Ok(mut run) = Run::new(alloc, script, schedule_of(wanted)) else {
         return without_run(alloc, Status::NoMemory);
     };
