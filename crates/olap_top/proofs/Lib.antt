@@ -7,3 +7,5 @@ pub mod PhaseTurns
 pub mod Kept
 pub mod InsertsEnd
 pub mod PhaseSteps
+pub mod Settled
+pub mod Leaving

@@ -39,7 +39,7 @@ use Rattle.seeded_turns.specs.declared.schedule.Schedule.{Schedule}
 use Rattle.volap_cell.specs.Steps.{Inv, history_in}
 use Rattle.volap_cell.specs.World.{World}
 use Rattle.olap_top.specs.OneRun.{GoesTo, RunPhases, RunsPhase, phase_of, setting_of}
-use Rattle.olap_top.specs.Outcomes.{HasRun, RanInto, RanTo, RunsInOrder, TookPart}
+use Rattle.olap_top.specs.Outcomes.{HasRun, RanInto, RanTo, TookPart}
 use Rattle.olap_top.specs.RunSoFar.{HasGone, HasGrown, HasLeft, HasStopped, IsBehind, IsHeld, history_of, moment_of, world_of}
 use Rattle.olap_top.specs.declared.run.Run.{Run}
 use Rattle.olap_top.specs.declared.wanted.Wanted.{Wanted}
@@ -62,7 +62,7 @@ Appends-more (Some bs) (Some ms) (Some ns) xs ys a b = b ∙ ap (λ l. l ++ ys) 
 
 -- What a run holds.
 
-held-right : (s : Script) (run : Run) → IsHeld s run → (placed : ℕ → Bool) × EachEvent (Stands (site_of s.with s.hierarchy) placed) (history_of s run) × IsRight (site_of s.with s.hierarchy) (history_of s run)
+pub held-right : (s : Script) (run : Run) → IsHeld s run → (placed : ℕ → Bool) × EachEvent (Stands (site_of s.with s.hierarchy) placed) (history_of s run) × IsRight (site_of s.with s.hierarchy) (history_of s run)
 held-right s run is =
     let inv = subst (λ t. Inv t (world_of s run)) is.about_is (held-inv s.hierarchy s.with run.state is.core) in
     let placed = inv.ghost_of.placed in
@@ -328,22 +328,25 @@ goes-to s n taken_before taken_now start run at to schedule part = record {
   part = part;
 }
 
-serial-behind : (s : Script) (done more : List Command) (run : Run) → IsBehind s done run → done ++ more ≡ s.commands → is_order run.schedule ≡ true → RunsInOrder s (history_of s run)
+few-begun : (s : Script) (done : List Command) (run : Run) → IsBehind s done run → (session : ℕ) → length (begins_of (history_of s run) session) ≤ count_of s.with session done
+few-begun s done run behind session = omega (arith, behind.between.through.counts session)
+
+part-behind : (s : Script) (done more : List Command) (run : Run) → IsBehind s done run → done ++ more ≡ s.commands → IsRunSoFar s.with s.hierarchy s.commands (history_of s run)
+part-behind s done more run behind whole =
+    subst (λ l. IsRunSoFar s.with s.hierarchy l (history_of s run)) whole
+    (part_law s.with s.hierarchy (done ++ more) (history_of s run) (start_law s.with s.hierarchy done more (history_of s run) (few-begun s done run behind) behind.between.through.part))
+
+serial-behind : (s : Script) (done more : List Command) (run : Run) → IsBehind s done run → done ++ more ≡ s.commands → is_order run.schedule ≡ true → IsSerial s.with s.commands (history_of s run)
 serial-behind s done more run behind whole order =
-    let through = behind.between.through in
-    let few : (session : ℕ) → length (begins_of (history_of s run) session) ≤ count_of s.with session done = λ session. omega (arith, through.counts session) in
-    record {
-      part = subst (λ l. IsRunSoFar s.with s.hierarchy l (history_of s run)) whole
-          (part_law s.with s.hierarchy (done ++ more) (history_of s run) (start_law s.with s.hierarchy done more (history_of s run) few through.part));
-      serial = subst (λ l. IsSerial s.with l (history_of s run)) whole
-          (serial_law s.with s.hierarchy (done ++ more) (history_of s run) (order-start-law s.with s.hierarchy done more (history_of s run) few (behind.between.ordered order)));
-    }
+    subst (λ l. IsSerial s.with l (history_of s run)) whole
+    (serial_law s.with s.hierarchy (done ++ more) (history_of s run) (order-start-law s.with s.hierarchy done more (history_of s run) (few-begun s done run behind) (behind.between.ordered order)))
 
 -- between phases
 pub left-at : (s : Script) (n : ℕ) (taken_before taken_now : Option (List ℕ)) (start run : Run) → IsAtPhase s n taken_before taken_now start run → HasLeft s start run
 left-at s n taken_before taken_now start run at = record {
   is_held = at.behind.is_held;
   goes = goes-to s n taken_before taken_now start run at (world_of s run) run.schedule (record { turns = []; are = refl });
+  part = part-behind s (take n s.commands) (drop n s.commands) run at.behind (take-append-drop n s.commands);
   serial = λ order. serial-behind s (take n s.commands) (drop n s.commands) run at.behind (take-append-drop n s.commands) (at.order ∙ order);
 }
 
@@ -360,11 +363,9 @@ left-halt s n m taken_before taken_now start run now next at stopped =
       goes = goes-to s n taken_before taken_now start run at (world_of s now) stopped.schedule
           (subst (λ l. RunsPhase (is_order start.schedule) s l (moment_of s run) (record { state = world_of s now; schedule = stopped.schedule })) (sym here)
           (subst (λ b. RunsPhase b s (next_phase s n m) (moment_of s run) (record { state = world_of s now; schedule = stopped.schedule })) at.order stopped.turns));
-      serial = λ order. record {
-        part = stopped-all s (take n s.commands) (next_phase s n m) (drop m s.commands) run now stopped whole;
-        serial = subst (λ l. IsSerial s.with l (history_of s now)) whole
-            (serial_law s.with s.hierarchy (cs ++ drop m s.commands) (history_of s now) (order-start-law s.with s.hierarchy cs (drop m s.commands) (history_of s now) stopped.stopped.few (stopped.stopped.ordered (at.order ∙ order))));
-      };
+      part = stopped-all s (take n s.commands) (next_phase s n m) (drop m s.commands) run now stopped whole;
+      serial = λ order. subst (λ l. IsSerial s.with l (history_of s now)) whole
+          (serial_law s.with s.hierarchy (cs ++ drop m s.commands) (history_of s now) (order-start-law s.with s.hierarchy cs (drop m s.commands) (history_of s now) stopped.stopped.few (stopped.stopped.ordered (at.order ∙ order))));
     }
   where
     get-seam : (ps : List (List Command)) (p : List Command) (rest : List (List Command)) → get_or (ps ++ p ∷ rest) (length ps) [] ≡ p

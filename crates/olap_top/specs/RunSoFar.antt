@@ -6,6 +6,7 @@ use Rattle.answer_text.specs.declared.text.Teller.{Teller}
 use Rattle.row_ledger.specs.declared.event.Event.{Event}
 use Rattle.script_form.specs.declared.script.Command.{Command}
 use Rattle.script_form.specs.declared.script.Script.{Script}
+use Rattle.script_run.specs.Runs.{IsRunSoFar, IsSerial}
 use Rattle.seeded_run.specs.Kept.{IsBetween, IsStopped}
 use Rattle.seeded_run.specs.Phase.{IsCoreHeld, about, held, is_order}
 use Rattle.seeded_turns.specs.Drawn.{Moment}
@@ -13,7 +14,6 @@ use Rattle.seeded_turns.specs.declared.schedule.Schedule.{Schedule}
 use Rattle.volap_cell.specs.Steps.{history_in}
 use Rattle.volap_cell.specs.World.{World}
 use Rattle.olap_top.specs.OneRun.{GoesTo, RunsPhase, phase_at, setting_of}
-use Rattle.olap_top.specs.Outcomes.{RunsInOrder}
 use Rattle.olap_top.specs.declared.run.Run.{Run}
 
 abbrev pub world_of : Script → Run → World
@@ -68,4 +68,5 @@ pub record HasStopped (s : Script) (done phase : List Command) (run now : Run) :
 pub record HasLeft (s : Script) (run now : Run) : Type 0 where
   pub is_held : IsHeld s now
   pub goes : GoesTo (is_order run.schedule) s (moment_of s run) (world_of s now)
-  pub serial : is_order run.schedule ≡ true → RunsInOrder s (history_of s now)
+  pub part : IsRunSoFar s.with s.hierarchy s.commands (history_of s now)
+  pub serial : is_order run.schedule ≡ true → IsSerial s.with s.commands (history_of s now)

@@ -22,9 +22,9 @@ SettledAreAll site history =
 -- From the end of a settle that was fine on, each server must know each row that was acknowledged before the settle began.
 abbrev pub SettlesTell : Site → List Event → Type 0
 SettlesTell site history =
-    (later then past : List Event) (of server : ℕ) (a : Ack) → history ≡ later ++ (then ++ Ended of Fine ∷ past)
+    (later between past : List Event) (of server : ℕ) (a : Ack) → history ≡ later ++ (between ++ Ended of Fine ∷ past)
     → call_at past of ≡ Some Settle → server < site.servers → Contains (acked (before past of)) a
-    → Contains (must site.hierarchy (then ++ Ended of Fine ∷ past) server) a.row
+    → Contains (must site.hierarchy (between ++ Ended of Fine ∷ past) server) a.row
 
 pub record IsSettling (site : Site) (history : List Event) : Type 0 where
   pub answers : SettledAreAll site history
