@@ -89,7 +89,7 @@ module _ (c : Change) (b : ActorValue) (s : Setting) (w : World) (n : ℕ) (g : 
 
   -- What was built.
 
-  was : IsBuilding s v.blocks v.made v.trees v.queues v.phases v.active g.shape (v.purses n) d.building
+  was : IsBuilding s v.history v.blocks v.made v.trees v.queues v.phases v.active g.shape (v.purses n) d.building
   was = i.working.building n d.job d.building d.has.is_job d.has.stage_is
 
   spent-is : spent_of (v.jobs n) ≡ spent_by (d.others ++ d.next ∷ was.built)
@@ -197,12 +197,13 @@ module _ (c : Change) (b : ActorValue) (s : Setting) (w : World) (n : ℕ) (g : 
     plane = frozen-was.plane;
   })
 
-  building-now : IsBuilding s v2.blocks v2.made v.trees v.queues v.phases v.active g.shape (v.purses n) now
+  building-now : IsBuilding s v.history v2.blocks v2.made v.trees v.queues v.phases v.active g.shape (v.purses n) now
   building-now = record {
     drained = was.drained;
     upto = was.upto;
     phase_is = was.phase_is;
     at_blocks = was.at_blocks;
+    named = was.named;
     read = collects (table_of s v.row) (g.shape d.building.frozen.gate) (cells_at v.blocks v.trees d.building.frozen.gate) (cells_at v2.blocks v.trees d.building.frozen.gate) [] d.building.read (numbers was.at_blocks)
         (i.growing.tree d.building.frozen.gate whole) (leaves-off s v g other i v2.blocks v2.trees off trees-off d.building.frozen.gate whole) was.read;
     built = d.next ∷ was.built;
@@ -230,9 +231,9 @@ module _ (c : Change) (b : ActorValue) (s : Setting) (w : World) (n : ℕ) (g : 
         unspent = λ a j is. on (λ a j. frozen_in j.stage ≡ None → v.purses a ≡ []) (λ e. cc) a j is;
         declined = λ a j c why is has st. on (λ a j. j.stage ≡ IsDeclined why → IsDeclinedFor s v.history g.placed c.of j why) (λ e. cc) a j is st;
         frozen = λ a j f is st. on (λ a j. frozen_in j.stage ≡ Some f → IsFrozenFor s v.trees v.phases g.gate (v.purses a) j f) (λ e. frozen-now f (let both : ◌≡◌ {A = Option Frozen} (Some d.building.frozen) (Some f) = e in cc)) a j is st;
-        collected = λ a j x is st. on (λ a j. j.stage ≡ Collects x → IsCollected v2.blocks v.trees v.queues v.phases v.active g.shape x) (λ e. cc) a j is st;
-        building = λ a j x is st. on (λ a j. j.stage ≡ Builds x → IsBuilding s v2.blocks v2.made v.trees v.queues v.phases v.active g.shape (v.purses a) x)
-            (λ e. let both : ◌≡◌ {A = StageValue} (Builds now) (Builds x) = e in let it : now ≡ x = cc in subst (IsBuilding s v2.blocks v2.made v.trees v.queues v.phases v.active g.shape (v.purses n)) it building-now) a j is st;
+        collected = λ a j x is st. on (λ a j. j.stage ≡ Collects x → IsCollected v.history v2.blocks v.trees v.queues v.phases v.active g.shape x) (λ e. cc) a j is st;
+        building = λ a j x is st. on (λ a j. j.stage ≡ Builds x → IsBuilding s v.history v2.blocks v2.made v.trees v.queues v.phases v.active g.shape (v.purses a) x)
+            (λ e. let both : ◌≡◌ {A = StageValue} (Builds now) (Builds x) = e in let it : now ≡ x = cc in subst (IsBuilding s v.history v2.blocks v2.made v.trees v.queues v.phases v.active g.shape (v.purses n)) it building-now) a j is st;
       }
 
   holds : InvWith s v2 g

@@ -1,37 +1,28 @@
 -- A block of a frozen shard is read, or a row of its queue: what the parts say of what is collected then.
-use Rattle.std.proofs.Common.{◌≡◌, ◌≢◌, ℕ, zero, suc, ◌+◌, ◌-◌, ◌*◌, ◌<◌, ◌≤◌, Bool, true, false, cond, eqb, List, [], ◌∷◌, ◌++◌, length, map, take, Option, Some, None, IsSome, refl, sym, ap, ◌∙◌, subst, inl, inr, arith, append-nil, ◌==◌, if◌then◌else◌}
+use Rattle.std.proofs.Common.{◌≡◌, ◌≢◌, ℕ, zero, suc, ◌<◌, ◌≤◌, Bool, true, false, cond, eqb, List, [], ◌∷◌, ◌++◌, length, map, Option, Some, None, refl, sym, ap, ◌∙◌, subst, arith, ◌==◌}
 use Rattle.std.specs.Option.{option_map_or}
-use Rattle.std.proofs.lemmas.List.{length-append, map-append}
 use Rattle.cell_stock.specs.declared.purse.Spare.{Spare}
-use Rattle.dc_node.specs.Block.{entries_in, is_leaf, rows_in}
+use Rattle.dc_node.specs.Block.{entries_in, is_leaf}
 use Rattle.dc_node.specs.declared.block.Block.{Block}
 use Rattle.dc_node.specs.declared.block.Body.{Body}
 use Rattle.dc_node.specs.declared.block.Body.TheVariants.{Rows, Entries}
 use Rattle.dc_node.specs.declared.entry.Entry.{Entry}
 use Rattle.dc_node.specs.declared.todo.Item.{Item}
-use Rattle.dim_hierarchy.specs.declared.row.Row.{Row}
 use Rattle.link_descent.specs.Visit.{noted_right}
-use Rattle.shard_store.specs.declared.gate.Gate.{Gate}
-use Rattle.shard_store.specs.declared.gate.Phase.{Phase}
-use Rattle.shard_store.specs.declared.gate.Phase.TheVariants as phase
-use Rattle.shard_store.specs.declared.queue.Queue.{Queue}
-use Rattle.tree_shape.specs.Collecting.{AfterRead, IsCollecting, IsReadable, Reads, entry_items}
+use Rattle.tree_shape.specs.Collecting.{IsCollecting, IsReadable, entry_items}
 use Rattle.tree_shape.specs.Counts.{Each, times}
-use Rattle.tree_shape.specs.Laws.{ReadLaw, ReadableLaw}
 use Rattle.tree_shape.specs.Queries.{NoneWaits}
-use Rattle.tree_shape.specs.Shape.{Node, Shape, Table, TreeCells, gate_node, node_of, nodes, numbers}
-use Rattle.tree_shape.specs.Steps.{IsIdle}
+use Rattle.tree_shape.specs.Shape.{Node, Shape, Table, TreeCells, gate_node, node_of, nodes}
 use Rattle.tree_shape.specs.Trees.{IsTree}
-use Rattle.tree_shape.proofs.Divisions.{each-both, each-map}
+use Rattle.tree_shape.proofs.Divisions.{each-map}
 use Rattle.tree_shape.proofs.Parts.{each-append, each-left, each-right}
 use Rattle.tree_shape.proofs.Walks.{eqb-eq, eqb-ne, eqb-no, on_bool}
 use Rattle.volap_cell.specs.Ghost.{AGate, Ghost, InTree, NotOfStock}
 use Rattle.volap_cell.specs.Invariant.{InvWith}
 use Rattle.volap_cell.specs.Setting.{Setting, cell_count}
-use Rattle.volap_cell.specs.Stocking.{IsWhole, NoneExpects, all_items, all_spares, cells_at, items_in, items_of_job, items_of_read}
-use Rattle.volap_cell.specs.Values.{CollectingValue, JobValue, Collects}
-use Rattle.volap_cell.specs.View.{View, view}
-use Rattle.volap_cell.specs.World.{World}
+use Rattle.volap_cell.specs.Stocking.{IsWhole, NoneExpects, all_items, all_spares, items_in, items_of_job, items_of_read}
+use Rattle.volap_cell.specs.Values.{JobValue}
+use Rattle.volap_cell.specs.View.{View}
 use Rattle.volap_cell.proofs.Counting.{length-few}
 
 -- What is noted of a block waits for no stamp that nothing expects.

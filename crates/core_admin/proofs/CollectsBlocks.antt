@@ -1,53 +1,47 @@
 -- The block that was noted last is read.
-use Rattle.std.proofs.Common.{◌≡◌, ◌≢◌, ℕ, ◌+◌, ◌-◌, ◌*◌, ◌<◌, ◌≤◌, Bool, true, false, eqb, List, [], ◌∷◌, ◌++◌, length, map, take, get_or, Option, Some, None, refl, sym, ap, ◌∙◌, subst, inl, inr, arith, append-nil, append_assoc, slice_get}
-use Rattle.std.proofs.lemmas.List.{length-append, map-append, take_more}
-use Rattle.std.proofs.lemmas.Option.{get_or_from_slice_get, slice_get_within}
+use Rattle.std.proofs.Common.{◌≡◌, ◌≢◌, ℕ, eqb, List, [], ◌∷◌, ◌++◌, take, Option, Some, None, refl, sym, ap, ◌∙◌, subst, arith, append-nil, cond, ◌≤◌, ◌+◌, true, inl, inr, Bool}
+use Rattle.std.proofs.lemmas.List.{length-append, map-append}
 use Rattle.cell_stock.specs.declared.purse.Spare.{Spare}
-use Rattle.dim_hierarchy.specs.Dimension.{Dimension}
 use Rattle.dim_hierarchy.specs.declared.row.Row.{Row}
 use Rattle.dc_node.specs.Block.{rows_in}
 use Rattle.dc_node.specs.declared.block.Block.{Block}
 use Rattle.dc_node.specs.declared.todo.Item.{Item}
 use Rattle.link_descent.specs.Visit.{noted_right}
-use Rattle.shard_store.specs.declared.gate.Gate.{Gate}
 use Rattle.shard_store.specs.declared.gate.Phase.{Phase}
-use Rattle.shard_store.specs.declared.gate.Phase.TheVariants as phase
-use Rattle.shard_store.specs.declared.queue.Queue.{Queue}
 use Rattle.tree_shape.specs.Collecting.{AfterRead, IsCollecting, IsReadable, entry_items}
-use Rattle.tree_shape.specs.Counts.{Each}
+use Rattle.tree_shape.specs.Counts.{Among, Each, times}
 use Rattle.tree_shape.specs.Laws.{ReadLaw, ReadableLaw}
 use Rattle.tree_shape.specs.Queries.{NoneWaits}
 use Rattle.tree_shape.specs.Shape.{Shape, Table, TreeCells, nodes, numbers}
 use Rattle.tree_shape.specs.Steps.{IsIdle, IsSpare}
 use Rattle.tree_shape.proofs.Divisions.{each-both}
-use Rattle.tree_shape.proofs.Walks.{eqb-eq, eqb-ne, on_bool}
-use Rattle.volap_cell.specs.AdminKinds.{CollectsBlock, CollectsQueued, HasJob, cells_needed, spent_in}
-use Rattle.volap_cell.specs.Cells.{BlockCell, GateCell, block_in, phase_of, queue_in}
-use Rattle.volap_cell.specs.Errands.{AtBlock, IsCarried, RowWay, block_at, way_of}
-use Rattle.volap_cell.specs.Falls.{frozen_upto, plenty, stage_left}
+use Rattle.tree_shape.proofs.Parts.{each-append, each-here}
+use Rattle.tree_shape.proofs.Visits.{times-append}
+use Rattle.tree_shape.proofs.Walks.{eqb-eq, eqb-ne, on_bool, same_is}
+use Rattle.volap_cell.specs.AdminKinds.{CollectsBlock}
+use Rattle.volap_cell.specs.Cells.{block_in}
+use Rattle.volap_cell.specs.Errands.{AtBlock, IsCarried, RowWay, block_at}
+use Rattle.volap_cell.specs.Falls.{stage_left}
 use Rattle.volap_cell.specs.Ghost.{Ghost}
 use Rattle.volap_cell.specs.Growing.{table_of}
 use Rattle.volap_cell.specs.Invariant.{InvWith}
 use Rattle.volap_cell.specs.Kinds.{Does}
-use Rattle.volap_cell.specs.Setting.{Setting, cell_count}
+use Rattle.volap_cell.specs.Setting.{Setting}
 use Rattle.volap_cell.specs.Steps.{IsKept}
 use Rattle.volap_cell.specs.Stocking.{NoneExpects, all_spares, cells_at, items_in}
-use Rattle.volap_cell.specs.Values.{ActorValue, BuildingValue, CollectingValue, JobValue, StageValue, Builds, Collects, IsDeclined, IsFrozen}
-use Rattle.volap_cell.specs.View.{View, view}
-use Rattle.volap_cell.specs.Working.{IsCollected, IsFrozenFor, frozen_in}
+use Rattle.volap_cell.specs.Values.{ActorValue, CollectingValue, Collects}
+use Rattle.volap_cell.specs.View.{View, view, row_or}
+use Rattle.volap_cell.specs.Working.{HasBegun, IsCollected}
 use Rattle.volap_cell.specs.World.{Agrees, Change, World, after}
-use Rattle.volap_cell.specs.declared.job.Frozen.{Frozen}
 use Rattle.volap_cell.specs.declared.kind.Kind.TheVariants.{Collect}
-use Rattle.volap_cell.proofs.AdminViews.{view-collect_block, view-collect_queued}
+use Rattle.volap_cell.proofs.AdminViews.{view-collect_block}
 use Rattle.core_admin.proofs.Collecting.{job-fresh, job-waits, read-few, waits-read}
-use Rattle.core_admin.proofs.Drains.{same-collecting, still-frozen}
 use Rattle.core_admin.proofs.Freezings.{wayless}
-use Rattle.core_admin.proofs.FrozenGates.{IsGateOf, frozen-gate, spares-each}
+use Rattle.core_admin.proofs.FrozenGates.{IsGateOf, spares-each, stands-placed}
 use Rattle.core_admin.proofs.Stages.{IsNewStage, Stages, stage-goes_on, stage-history, stage-holds}
-use Rattle.core_admin.proofs.Staging.{IsAtWork}
 use Rattle.core_admin.proofs.SoFar.{gate-of, goes-on, its, none-spent, so-far}
 
-none-left : (items : List Item) (item : Item) → items ++ item ∷ [] ≡ [] → ⊥
+pub none-left : (items : List Item) (item : Item) → items ++ item ∷ [] ≡ [] → ⊥
 none-left [] item e = cc
 none-left (x ∷ items) item e = cc
 
@@ -58,7 +52,7 @@ module _ (readable-law : ReadableLaw) (reads : ReadLaw) (s : Setting) (w : World
   abbrev v : View
   v = view s w
 
-  abbrev k : IsCollected v.blocks v.trees v.queues v.phases v.active g.shape d.collecting
+  abbrev k : IsCollected v.history v.blocks v.trees v.queues v.phases v.active g.shape d.collecting
   k = so-far s w n g i d.job d.collecting d.has
 
   at : IsGateOf s v g d.job.shard d.job.worker d.collecting.frozen.gate
@@ -118,10 +112,36 @@ module _ (readable-law : ReadableLaw) (reads : ReadLaw) (s : Setting) (w : World
   now-is = subst (IsCollecting cells shape now.items now.read) (sym (map-append (λ (r : Row). r.no) k.at_blocks (rows_in d.block.body)))
       (subst (λ (x : Block). IsCollecting cells shape (d.items ++ entry_items x.body ++ noted_right x d.item.stamp) now.read (numbers k.at_blocks ++ numbers (rows_in x.body))) block-is law.collecting)
 
-  collected : IsCollected v.blocks v.trees v.queues v.phases v.active g.shape now
+  -- the rows of the block began
+
+  row-begun : (r : Row) → v.row r.no ≡ r → 1 ≤ times r.no (numbers all_at) → HasBegun v.history r
+  row-begun r named some =
+      let count = now-is.rows r.no in
+      let there : shape.placed r.no ≡ true = on_bool (shape.placed r.no) (λ q. q)
+      (λ q. let none : cond (shape.placed r.no) (times (shape.at r.no) now.read) 0 ≡ 0 = ap (λ (x : Bool). cond x (times (shape.at r.no) now.read) 0) q in absurd (omega (arith, count, some, none))) in
+      let (ins, is) = i.placing.begun r.no (stands-placed s v g i d.job.shard d.job.worker d.collecting.frozen.gate at r.no there) in
+      (ins, is, sym (ap row_or is) ∙ named)
+
+  rows-begun : Each (HasBegun v.history) (rows_in d.block.body)
+  rows-begun = each-both (λ (r : Row). v.row r.no ≡ r) (λ (r : Row). 1 ≤ times r.no (numbers all_at)) (HasBegun v.history) (rows_in d.block.body) row-begun
+      (subst (λ (x : Block). Each (λ (r : Row). v.row r.no ≡ r) (rows_in x.body)) block-is (at.tree.blocks d.item.cell readable.inside readable.block).rows)
+      (each-here (λ (r : Row). 1 ≤ times r.no (numbers all_at)) (rows_in d.block.body) (λ r m.
+      let some = row-among (rows_in d.block.body) r m in
+      let all : times r.no (numbers all_at) ≡ times r.no (numbers k.at_blocks) + times r.no (numbers (rows_in d.block.body)) = ap (times r.no) (map-append (λ (x : Row). x.no) k.at_blocks (rows_in d.block.body)) ∙ times-append r.no (numbers k.at_blocks) (numbers (rows_in d.block.body)) in
+      omega (arith, some, all)))
+    where
+      row-among : (rows : List Row) (r : Row) → Among r rows → 1 ≤ times r.no (numbers rows)
+      row-among [] r m = absurd m
+      row-among (x ∷ rows) r m = elim m [
+        | inl is ↦ (let one = same_is r.no x.no (ap (λ (y : Row). y.no) is) in omega (arith, one))
+        | inr more ↦ (let some = row-among rows r more in omega (arith, some))
+      ]
+
+  collected : IsCollected v.history v.blocks v.trees v.queues v.phases v.active g.shape now
   collected = record {
     drained = k.drained;
     at_blocks = all_at;
+    named = each-append (HasBegun v.history) k.at_blocks (rows_in d.block.body) k.named rows-begun;
     rows =
         let queue = (v.queues d.collecting.frozen.gate).rows in
         let rows : d.collecting.rows ≡ k.at_blocks = k.rows ∙ ap (λ (xs : List Row). k.at_blocks ++ xs) (first-none queue) ∙ append-nil k.at_blocks in
@@ -161,4 +181,3 @@ module _ (readable-law : ReadableLaw) (reads : ReadLaw) (s : Setting) (w : World
         grows = stage-history s w n g i (c ∷ []) d.job (Collects now) b stages to;
         goes_on = stage-goes_on s w n g i (c ∷ []) d.job (Collects now) b stages to;
       }
-

@@ -1,51 +1,28 @@
 -- With nothing noted any more, the next row of the queue is collected.
-use Rattle.std.proofs.Common.{◌≡◌, ◌≢◌, ℕ, ◌+◌, ◌-◌, ◌*◌, ◌<◌, ◌≤◌, Bool, true, false, eqb, List, [], ◌∷◌, ◌++◌, length, map, take, get_or, Option, Some, None, refl, sym, ap, ◌∙◌, subst, inl, inr, arith, append-nil, append_assoc, slice_get}
-use Rattle.std.proofs.lemmas.List.{length-append, map-append, take_more}
+use Rattle.std.proofs.Common.{◌≡◌, ℕ, ◌+◌, List, [], ◌∷◌, ◌++◌, take, Some, refl, sym, ap, ◌∙◌, arith, append_assoc, slice_get}
+use Rattle.std.proofs.lemmas.List.{take_more}
 use Rattle.std.proofs.lemmas.Option.{get_or_from_slice_get, slice_get_within}
-use Rattle.cell_stock.specs.declared.purse.Spare.{Spare}
-use Rattle.dim_hierarchy.specs.Dimension.{Dimension}
 use Rattle.dim_hierarchy.specs.declared.row.Row.{Row}
-use Rattle.dc_node.specs.Block.{rows_in}
-use Rattle.dc_node.specs.declared.block.Block.{Block}
-use Rattle.dc_node.specs.declared.todo.Item.{Item}
-use Rattle.link_descent.specs.Visit.{noted_right}
-use Rattle.shard_store.specs.declared.gate.Gate.{Gate}
-use Rattle.shard_store.specs.declared.gate.Phase.{Phase}
 use Rattle.shard_store.specs.declared.gate.Phase.TheVariants as phase
 use Rattle.shard_store.specs.declared.queue.Queue.{Queue}
-use Rattle.tree_shape.specs.Collecting.{AfterRead, IsCollecting, IsReadable, entry_items}
-use Rattle.tree_shape.specs.Counts.{Each}
-use Rattle.tree_shape.specs.Laws.{ReadLaw, ReadableLaw}
-use Rattle.tree_shape.specs.Queries.{NoneWaits}
-use Rattle.tree_shape.specs.Shape.{Shape, Table, TreeCells, nodes, numbers}
-use Rattle.tree_shape.specs.Steps.{IsIdle, IsSpare}
-use Rattle.tree_shape.proofs.Divisions.{each-both}
-use Rattle.tree_shape.proofs.Walks.{eqb-eq, eqb-ne, on_bool}
-use Rattle.volap_cell.specs.AdminKinds.{CollectsBlock, CollectsQueued, HasJob, cells_needed, spent_in}
-use Rattle.volap_cell.specs.Cells.{BlockCell, GateCell, block_in, phase_of, queue_in}
-use Rattle.volap_cell.specs.Errands.{AtBlock, IsCarried, RowWay, block_at, way_of}
-use Rattle.volap_cell.specs.Falls.{frozen_upto, plenty, stage_left}
+use Rattle.volap_cell.specs.AdminKinds.{CollectsQueued}
+use Rattle.volap_cell.specs.Cells.{GateCell, phase_of, queue_in}
+use Rattle.volap_cell.specs.Falls.{frozen_upto, stage_left}
 use Rattle.volap_cell.specs.Ghost.{Ghost}
-use Rattle.volap_cell.specs.Growing.{table_of}
 use Rattle.volap_cell.specs.Invariant.{InvWith}
 use Rattle.volap_cell.specs.Kinds.{Does}
-use Rattle.volap_cell.specs.Setting.{Setting, cell_count}
+use Rattle.volap_cell.specs.Setting.{Setting}
 use Rattle.volap_cell.specs.Steps.{IsKept}
-use Rattle.volap_cell.specs.Stocking.{NoneExpects, all_spares, cells_at, items_in}
-use Rattle.volap_cell.specs.Values.{ActorValue, BuildingValue, CollectingValue, JobValue, StageValue, Builds, Collects, IsDeclined, IsFrozen}
+use Rattle.volap_cell.specs.Stocking.{items_in}
+use Rattle.volap_cell.specs.Values.{ActorValue, CollectingValue, Collects}
 use Rattle.volap_cell.specs.View.{View, view}
-use Rattle.volap_cell.specs.Working.{IsCollected, IsFrozenFor, frozen_in}
+use Rattle.volap_cell.specs.Working.{IsCollected}
 use Rattle.volap_cell.specs.World.{Agrees, Change, World, after}
-use Rattle.volap_cell.specs.declared.job.Frozen.{Frozen}
 use Rattle.volap_cell.specs.declared.kind.Kind.TheVariants.{Collect}
-use Rattle.volap_cell.proofs.AdminViews.{view-collect_block, view-collect_queued}
-use Rattle.core_admin.proofs.Collecting.{job-fresh, job-waits, read-few, waits-read}
-use Rattle.core_admin.proofs.Drains.{same-collecting, still-frozen}
-use Rattle.core_admin.proofs.Freezings.{wayless}
-use Rattle.core_admin.proofs.FrozenGates.{IsGateOf, frozen-gate, spares-each}
+use Rattle.volap_cell.proofs.AdminViews.{view-collect_queued}
+use Rattle.core_admin.proofs.Collecting.{job-fresh, job-waits}
 use Rattle.core_admin.proofs.Stages.{IsNewStage, Stages, stage-goes_on, stage-history, stage-holds}
-use Rattle.core_admin.proofs.Staging.{IsAtWork}
-use Rattle.core_admin.proofs.SoFar.{gate-of, goes-on, its, none-spent, so-far}
+use Rattle.core_admin.proofs.SoFar.{goes-on, none-spent, so-far}
 
 row-there : (rows : List Row) (k : ℕ) (r : Row) → slice_get rows k ≡ Some r → take (k + 1) rows ≡ take k rows ++ r ∷ []
 row-there rows k r is = take_more rows k r (slice_get_within rows k r is) ∙ ap (λ (x : Row). take k rows ++ x ∷ []) (get_or_from_slice_get rows k r r is)
@@ -54,7 +31,7 @@ module _ (s : Setting) (w : World) (n : ℕ) (g : Ghost) (i : InvWith s (view s 
   abbrev v : View
   v = view s w
 
-  abbrev k : IsCollected v.blocks v.trees v.queues v.phases v.active g.shape d.collecting
+  abbrev k : IsCollected v.history v.blocks v.trees v.queues v.phases v.active g.shape d.collecting
   k = so-far s w n g i d.job d.collecting d.has
 
   abbrev now : CollectingValue
@@ -69,10 +46,11 @@ module _ (s : Setting) (w : World) (n : ℕ) (g : Ghost) (i : InvWith s (view s 
   phase-is : v.phases d.collecting.frozen.gate ≡ Some (phase.Frozen d.upto)
   phase-is = ap phase_of cell ∙ ap Some d.frozen
 
-  collected : IsCollected v.blocks v.trees v.queues v.phases v.active g.shape now
+  collected : IsCollected v.history v.blocks v.trees v.queues v.phases v.active g.shape now
   collected = record {
     drained = k.drained;
     at_blocks = k.at_blocks;
+    named = k.named;
     rows =
         let queue = (v.queues d.collecting.frozen.gate).rows in
         let more : take (d.collecting.queued + 1) queue ≡ take d.collecting.queued queue ++ d.row ∷ [] = row-there queue d.collecting.queued d.row (ap (λ (q : Queue). slice_get q.rows d.collecting.queued) queue-is ∙ d.row_at) in

@@ -63,10 +63,11 @@ module _ (begins : CollectBeginLaw) (s : Setting) (w : World) (n : ℕ) (g : Gho
   tree-is : v.trees d.frozen.gate ≡ way_to_tree d.gate
   tree-is = ap way_in cell
 
-  collected : IsCollected v.blocks v.trees v.queues v.phases v.active g.shape collecting
+  collected : IsCollected v.history v.blocks v.trees v.queues v.phases v.active g.shape collecting
   collected = record {
     drained = ap active_in cell ∙ d.drained;
     at_blocks = [];
+    named = tt;
     rows = refl;
     collecting = subst (λ (x : Gate). IsCollecting (cells_at v.blocks v.trees d.frozen.gate) (g.shape d.frozen.gate) (root_item x ∷ []) [] []) tree-is
         (begins (table_of s v.row) (cells_at v.blocks v.trees d.frozen.gate) (g.shape d.frozen.gate) gate-of.tree);
@@ -88,7 +89,7 @@ module _ (begins : CollectBeginLaw) (s : Setting) (w : World) (n : ℕ) (g : Gho
       move = its.move;
       plane = its.plane;
     });
-    collected = λ k is. subst (IsCollected v.blocks v.trees v.queues v.phases v.active g.shape) (same-collecting collecting k is) collected;
+    collected = λ k is. subst (IsCollected v.history v.blocks v.trees v.queues v.phases v.active g.shape) (same-collecting collecting k is) collected;
     building = λ x is. let no : Collects collecting ≡ Builds x = is in absurd (cc);
   }
 

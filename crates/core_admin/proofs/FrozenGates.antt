@@ -1,5 +1,5 @@
 -- The gate of the shard of a job: it stands, its tree is whole, and its queue has no more rows than there are events.
-use Rattle.std.proofs.Common.{◌≡◌, ◌≢◌, ℕ, ◌+◌, ◌-◌, ◌^◌, ◌<◌, ◌≤◌, Bool, true, cond, List, [], ◌∷◌, length, Some, IsSome, refl, sym, ap, subst, inl, arith}
+use Rattle.std.proofs.Common.{◌≡◌, ◌≢◌, ℕ, ◌+◌, ◌-◌, ◌^◌, ◌<◌, ◌≤◌, Bool, true, cond, List, [], ◌∷◌, length, Some, IsSome, refl, sym, ap, subst, inl, arith, ◌∙◌}
 use Rattle.std.proofs.lemmas.List.{length-map}
 use Rattle.cell_stock.specs.declared.purse.Spare.{Spare}
 use Rattle.dc_node.specs.declared.entry.Entry.{Entry}
@@ -58,6 +58,15 @@ pub record IsGateOf (s : Setting) (v : View) (g : Ghost) (x worker c : ℕ) : Ty
   pub live : is_live s.workers v.history x ≡ true
   pub whole : IsWhole v.gates v.phases v.pins c
   pub tree : IsTree (table_of s v.row) (cells_at v.blocks v.trees c) (g.shape c)
+
+-- a row in its tree has passed a gate
+pub stands-placed : (s : Setting) (v : View) (g : Ghost) → InvWith s v g → (x worker c : ℕ) → IsGateOf s v g x worker c → (r : ℕ) → (g.shape c).placed r ≡ true → g.placed r ≡ true
+stands-placed s v g i x worker c its r pl =
+    let one = i.placing.one x r its.live in
+    let here : (g.shape (g.gate x)).placed r ≡ true = ap (λ (y : ℕ). (g.shape y).placed r) its.leads ∙ pl in
+    let count : ◌≡◌ {A = ℕ} (cond ((g.shape (g.gate x)).placed r) 1 0) 1 = ap (λ (b : Bool). cond b 1 0) here in
+    on_bool (g.placed r) (λ q. q)
+    (λ q. let z : ◌≡◌ {A = ℕ} (cond (g.placed r) (same (g.home r) x) 0) 0 = ap (λ (b : Bool). cond b (same (g.home r) x) 0) q in absurd (omega (arith, one, z, count)))
 
 module _ (s : Setting) (v : View) (g : Ghost) (i : InvWith s v g) (n : ℕ) (job : JobValue) (is_job : v.jobs n ≡ Some job) where
   abbrev at : ℕ

@@ -13,9 +13,29 @@ pub mod Collecting
 pub mod SoFar
 pub mod CollectsBlocks
 pub mod CollectsRows
+pub mod Spends
+pub mod CollectsTrees
+pub mod CollectsHere
+pub mod RowLists
+pub mod BuildsHere
+pub mod MadeTrees
 mod JobsGoOn
 mod Untouched
 mod BuildsBlock
 mod Returned
 mod TurnedCommands
 mod PostponesJob
+mod PostponeReady
+mod Retiring
+mod RetiringTrees
+mod MovedShards
+mod MovesLineage
+mod MovedKnown
+mod MovesRows
+mod FinishedCommands
+mod BalanceDone
+mod RetiringLeft
+mod MoveCells
+mod MovesShard
+mod MoveTree
+mod FinishesMove

@@ -1,17 +1,15 @@
 -- A job is given up: that keeps the invariant, and less is left.
-use Rattle.std.proofs.Common.{◌≡◌, ◌≢◌, ℕ, suc, ◌+◌, ◌-◌, ◌*◌, ◌^◌, ◌<◌, ◌≤◌, List, [], ◌∷◌, ◌++◌, Bool, true, false, eqb, length, Option, Some, None, is_some, refl, sym, ap, ◌∙◌, subst, arith, ◌⊎◌, inl, inr, le_of_lt, option_map, option_and_then, slice_get, suc-mul}
+use Rattle.std.proofs.Common.{◌≡◌, ◌≢◌, ℕ, suc, ◌+◌, ◌-◌, ◌*◌, ◌<◌, ◌≤◌, List, [], ◌∷◌, ◌++◌, true, false, eqb, length, Option, Some, None, is_some, refl, sym, ap, ◌∙◌, subst, arith, inl, inr, le_of_lt, option_map, option_and_then, slice_get, suc-mul}
 use Rattle.std.specs.Option.{option_map_or}
-use Rattle.std.specs.Prelude.{IsTrue}
 use Rattle.std.proofs.lemmas.Bool.{cases_lt}
 use Rattle.std.proofs.lemmas.Option.{slice_get_past}
-use Rattle.cell_stock.specs.Stock.{Gives, StockValue}
+use Rattle.cell_stock.specs.Stock.{StockValue}
 use Rattle.cell_stock.specs.declared.purse.Spare.{Spare}
 use Rattle.dim_hierarchy.specs.Dimension.{Dimension}
 use Rattle.row_ledger.specs.Changes.{ShardsStay, is_quiet}
-use Rattle.row_ledger.specs.Past.{before, call_at, number_in, work}
-use Rattle.row_ledger.specs.Right.{KeepsRight, MayEnd, shows}
+use Rattle.row_ledger.specs.Past.{call_at, number_in}
+use Rattle.row_ledger.specs.Right.{MayEnd, shows}
 use Rattle.row_ledger.specs.Shards.{is_on}
-use Rattle.row_ledger.specs.Work.{is_known}
 use Rattle.row_ledger.specs.declared.event.Event.{Event}
 use Rattle.row_ledger.specs.declared.event.Event.TheVariants.{Ended, Left}
 use Rattle.row_ledger.specs.declared.settings.Call.{Call}
@@ -21,10 +19,9 @@ use Rattle.row_ledger.specs.declared.settings.How.TheVariants as how_is
 use Rattle.row_ledger.proofs.Changes.{quiet}
 use Rattle.row_ledger.proofs.Growth.{KeepsRight-ended, KeepsRight-left}
 use Rattle.shard_plan.specs.declared.action.Action.{Action}
-use Rattle.shard_plan.specs.declared.action.Action.TheVariants as action
 use Rattle.tree_shape.proofs.Walks.{on_bool, eqb-eq, eqb-ne}
-use Rattle.volap_cell.specs.AdminKinds.{DoesPostpone, GivesUp, HasFrozen, spent_in}
-use Rattle.volap_cell.specs.Cells.{LedgerCell, StockCell, TheLedger, TheStock, tag_of}
+use Rattle.volap_cell.specs.AdminKinds.{DoesPostpone, GivesUp, HasFrozen}
+use Rattle.volap_cell.specs.Cells.{TheLedger, TheStock, tag_of}
 use Rattle.volap_cell.specs.Commands.{after_action, owes}
 use Rattle.volap_cell.specs.Errands.{RowWay, Taken, taken_by, taken_of, way_of}
 use Rattle.volap_cell.specs.Falls.{actions_left, control_of, job_left, left, of_work, plenty, stage_left}
@@ -77,7 +74,7 @@ use Rattle.core_admin.proofs.Returned.{Returns, gives-returns, returned, returne
 use Rattle.core_admin.proofs.TurnedCommands.{IsOffDesk, turned-desking, turned-inserting, turned-placing}
 
 -- the command asks for a job: it is a split, a move or a balance
-off-desk : (work : Work) (job : JobValue) → IsJobOf work job → IsOffDesk work
+pub off-desk : (work : Work) (job : JobValue) → IsJobOf work job → IsOffDesk work
 off-desk (work_is.Split x) job is = record { no_insert = refl; off = refl }
 off-desk (work_is.Move x to) job is = record { no_insert = refl; off = refl }
 off-desk (work_is.Balance b) job is = record { no_insert = refl; off = refl }
@@ -90,7 +87,7 @@ off-desk (work_is.Shards shown) job is = absurd is
 off-desk (work_is.Tree x stands shown) job is = absurd is
 off-desk (work_is.Audit shown) job is = absurd is
 
-none-insert : (command : Option Command) → ((k : Command) → command ≡ Some k → is_insert_work k.work ≡ false) → is_insert command ≡ false
+pub none-insert : (command : Option Command) → ((k : Command) → command ≡ Some k → is_insert_work k.work ≡ false) → is_insert command ≡ false
 none-insert None none = refl
 none-insert (Some k) none = none k refl
 
@@ -103,7 +100,7 @@ frozen-some s v (Collects c) frozen = omega arith
 frozen-some s v (Builds b) frozen = omega arith
 
 -- a job at its beginning leaves so much
-job-few : (s : Setting) (v : View) (job : Option JobValue) → ((j : JobValue) → job ≡ Some j → j.stage ≡ IsCalled) → job_left s v job ≤ 6 * plenty s
+pub job-few : (s : Setting) (v : View) (job : Option JobValue) → ((j : JobValue) → job ≡ Some j → j.stage ≡ IsCalled) → job_left s v job ≤ 6 * plenty s
 job-few s v None called = omega arith
 job-few s v (Some j) called = (let at : job_left s v (Some j) ≡ 6 * plenty s = ap (stage_left s v) (called j refl) in omega (arith, at))
 
@@ -269,13 +266,13 @@ module _ (c led : Change) (b : ActorValue) (s : Setting) (w : World) (n : ℕ) (
             enough = λ a x y way has at. subst (λ (ss : List Spare). ((g.shape x).level y ≤ length ss) × (2 * length ss + 1 ≤ v.boxes a)) (sym (off a (λ e. on-way a way has e))) (k.enough a x y way has at);
             counts = k.counts;
           }
-          where
-            on-way : (a : ℕ) (way : RowWay) → v.ways a ≡ Some way → a ≡ n → ⊥
-            on-way a way has e = not-taken (w.actors n).errand (i.numbering.parts n) way (ap v.ways (sym e) ∙ has)
-              where
-                not-taken : (errand : Option ErrandValue) → ((t : Taken) → taken_of errand ≡ Some t → v.roles n ≢ Admin) → (way : RowWay) → way_of errand ≡ Some way → ⊥
-                not-taken None parts way has = cc
-                not-taken (Some x) parts way has = parts (taken_by x) refl (i.numbering.working n job d.is_job)
+        where
+          on-way : (a : ℕ) (way : RowWay) → v.ways a ≡ Some way → a ≡ n → ⊥
+          on-way a way has e = not-taken (w.actors n).errand (i.numbering.parts n) way (ap v.ways (sym e) ∙ has)
+            where
+              not-taken : (errand : Option ErrandValue) → ((t : Taken) → taken_of errand ≡ Some t → v.roles n ≢ Admin) → (way : RowWay) → way_of errand ≡ Some way → ⊥
+              not-taken None parts way has = cc
+              not-taken (Some x) parts way has = parts (taken_by x) refl (i.numbering.working n job d.is_job)
 
       working-now : Working s (e ∷ h) v.blocks v.made v.trees v.phases v.active v.queues v2.purses v2.commands v2.jobs g.gate g.shape g.placed
       working-now = record {
@@ -285,8 +282,8 @@ module _ (c led : Change) (b : ActorValue) (s : Setting) (w : World) (n : ℕ) (
         unspent = λ a j. its-next (λ a j. frozen_in j.stage ≡ None → v2.purses a ≡ []) (λ j has none. mine) a j;
         declined = λ a j k why has _ stage. its-next (λ a j. j.stage ≡ IsDeclined why → IsDeclinedFor s (e ∷ h) g.placed k.of j why) (λ j has st. let no : IsCalled ≡ IsDeclined why = sym (next j has).called ∙ st in cc) a j has stage;
         frozen = λ a j f. its-next (λ a j. frozen_in j.stage ≡ Some f → IsFrozenFor s v.trees v.phases g.gate (v2.purses a) j f) (λ j has at. absurd (not-called frozen_in j f refl has at)) a j;
-        collected = λ a j k. its-next (λ a j. j.stage ≡ Collects k → IsCollected v.blocks v.trees v.queues v.phases v.active g.shape k) (λ j has at. let no : IsCalled ≡ Collects k = sym (next j has).called ∙ at in cc) a j;
-        building = λ a j k. its-next (λ a j. j.stage ≡ Builds k → IsBuilding s v.blocks v.made v.trees v.queues v.phases v.active g.shape (v2.purses a) k) (λ j has at. let no : IsCalled ≡ Builds k = sym (next j has).called ∙ at in cc) a j;
+        collected = λ a j k. its-next (λ a j. j.stage ≡ Collects k → IsCollected (e ∷ h) v.blocks v.trees v.queues v.phases v.active g.shape k) (λ j has at. let no : IsCalled ≡ Collects k = sym (next j has).called ∙ at in cc) a j;
+        building = λ a j k. its-next (λ a j. j.stage ≡ Builds k → IsBuilding s (e ∷ h) v.blocks v.made v.trees v.queues v.phases v.active g.shape (v2.purses a) k) (λ j has at. let no : IsCalled ≡ Builds k = sym (next j has).called ∙ at in cc) a j;
       }
 
       lineage-now : Lineage s (e ∷ h) u.stock v.registry v.maps v.gates v.phases g.gate

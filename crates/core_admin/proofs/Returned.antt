@@ -27,7 +27,7 @@ pub record Returns (before now : StockValue) (spares : List Spare) : Type 0 wher
   pub ids : now.ids ≡ before.ids
   pub all : now.cells ≡ before.cells
 
-cells-append : (y : ℕ) (xs ys : List Spare) → times y (cells_of (xs ++ ys)) ≡ times y (cells_of xs) + times y (cells_of ys)
+pub cells-append : (y : ℕ) (xs ys : List Spare) → times y (cells_of (xs ++ ys)) ≡ times y (cells_of xs) + times y (cells_of ys)
 cells-append y [] ys = omega arith
 cells-append y (x ∷ xs) ys = (let k = cells-append y xs ys in omega (arith, k))
 
@@ -54,8 +54,17 @@ returned n Unused = Unused
 returned n AGate = AGate
 returned n (InTree c) = InTree c
 
-abbrev one : Bool → ℕ
+abbrev pub one : Bool → ℕ
 one b = cond b 1 0
+
+-- a cell has one use
+pub one-use : (n : ℕ) (o : Owner) → one (is_unused o) + one (is_in_purse n o) + one (is_in_job n o) ≤ 1
+one-use n NotOfStock = omega arith
+one-use n Unused = omega arith
+one-use n AGate = omega arith
+one-use n (InTree c) = omega arith
+one-use n (InPurse a) = on_bool (eqb a n) (λ q. rw q (omega arith)) (λ q. rw q (omega arith))
+one-use n (InJob a) = on_bool (eqb a n) (λ q. rw q (omega arith)) (λ q. rw q (omega arith))
 
 unused-now : (n : ℕ) (o : Owner) → one (is_unused (returned n o)) ≡ one (is_unused o) + one (is_in_purse n o) + one (is_in_job n o)
 unused-now n NotOfStock = refl

@@ -1,49 +1,16 @@
 -- What is known of a job that collects, and what is to be shown once it has collected more.
-use Rattle.std.proofs.Common.{◌≡◌, ◌≢◌, ℕ, ◌+◌, ◌-◌, ◌*◌, ◌<◌, ◌≤◌, Bool, true, false, eqb, List, [], ◌∷◌, ◌++◌, length, map, take, get_or, Option, Some, None, refl, sym, ap, ◌∙◌, subst, inl, inr, arith, append-nil, append_assoc, slice_get}
-use Rattle.std.proofs.lemmas.List.{length-append, map-append, take_more}
-use Rattle.std.proofs.lemmas.Option.{get_or_from_slice_get, slice_get_within}
+use Rattle.std.proofs.Common.{◌≡◌, ℕ, ◌+◌, List, [], length, Some, None, sym, ap, ◌∙◌, subst}
 use Rattle.cell_stock.specs.declared.purse.Spare.{Spare}
-use Rattle.dim_hierarchy.specs.Dimension.{Dimension}
-use Rattle.dim_hierarchy.specs.declared.row.Row.{Row}
-use Rattle.dc_node.specs.Block.{rows_in}
-use Rattle.dc_node.specs.declared.block.Block.{Block}
-use Rattle.dc_node.specs.declared.todo.Item.{Item}
-use Rattle.link_descent.specs.Visit.{noted_right}
-use Rattle.shard_store.specs.declared.gate.Gate.{Gate}
-use Rattle.shard_store.specs.declared.gate.Phase.{Phase}
-use Rattle.shard_store.specs.declared.gate.Phase.TheVariants as phase
-use Rattle.shard_store.specs.declared.queue.Queue.{Queue}
-use Rattle.tree_shape.specs.Collecting.{AfterRead, IsCollecting, IsReadable, entry_items}
-use Rattle.tree_shape.specs.Counts.{Each}
-use Rattle.tree_shape.specs.Laws.{ReadLaw, ReadableLaw}
-use Rattle.tree_shape.specs.Queries.{NoneWaits}
-use Rattle.tree_shape.specs.Shape.{Shape, Table, TreeCells, nodes, numbers}
-use Rattle.tree_shape.specs.Steps.{IsIdle, IsSpare}
-use Rattle.tree_shape.proofs.Divisions.{each-both}
-use Rattle.tree_shape.proofs.Walks.{eqb-eq, eqb-ne, on_bool}
-use Rattle.volap_cell.specs.AdminKinds.{CollectsBlock, CollectsQueued, HasJob, cells_needed, spent_in}
-use Rattle.volap_cell.specs.Cells.{BlockCell, GateCell, block_in, phase_of, queue_in}
-use Rattle.volap_cell.specs.Errands.{AtBlock, IsCarried, RowWay, block_at, way_of}
-use Rattle.volap_cell.specs.Falls.{frozen_upto, plenty, stage_left}
+use Rattle.volap_cell.specs.AdminKinds.{HasJob, cells_needed, spent_in}
 use Rattle.volap_cell.specs.Ghost.{Ghost}
-use Rattle.volap_cell.specs.Growing.{table_of}
 use Rattle.volap_cell.specs.Invariant.{InvWith}
-use Rattle.volap_cell.specs.Kinds.{Does}
-use Rattle.volap_cell.specs.Setting.{Setting, cell_count}
-use Rattle.volap_cell.specs.Steps.{IsKept}
-use Rattle.volap_cell.specs.Stocking.{NoneExpects, all_spares, cells_at, items_in}
-use Rattle.volap_cell.specs.Values.{ActorValue, BuildingValue, CollectingValue, JobValue, StageValue, Builds, Collects, IsDeclined, IsFrozen}
+use Rattle.volap_cell.specs.Setting.{Setting}
+use Rattle.volap_cell.specs.Values.{CollectingValue, JobValue, StageValue, Builds, Collects, IsDeclined}
 use Rattle.volap_cell.specs.View.{View, view}
 use Rattle.volap_cell.specs.Working.{IsCollected, IsFrozenFor, frozen_in}
-use Rattle.volap_cell.specs.World.{Agrees, Change, World, after}
-use Rattle.volap_cell.specs.declared.job.Frozen.{Frozen}
-use Rattle.volap_cell.specs.declared.kind.Kind.TheVariants.{Collect}
-use Rattle.volap_cell.proofs.AdminViews.{view-collect_block, view-collect_queued}
-use Rattle.core_admin.proofs.Collecting.{job-fresh, job-waits, read-few, waits-read}
+use Rattle.volap_cell.specs.World.{World}
 use Rattle.core_admin.proofs.Drains.{same-collecting, still-frozen}
-use Rattle.core_admin.proofs.Freezings.{wayless}
-use Rattle.core_admin.proofs.FrozenGates.{IsGateOf, frozen-gate, spares-each}
-use Rattle.core_admin.proofs.Stages.{IsNewStage, Stages, stage-goes_on, stage-history, stage-holds}
+use Rattle.core_admin.proofs.FrozenGates.{IsGateOf, frozen-gate}
 use Rattle.core_admin.proofs.Staging.{IsAtWork}
 
 module _ (s : Setting) (w : World) (n : ℕ) (g : Ghost) (i : InvWith s (view s w) g) (job : JobValue) (was : CollectingValue) (has : HasJob (w.actors n) job (Collects was)) where
@@ -59,11 +26,11 @@ module _ (s : Setting) (w : World) (n : ℕ) (g : Ghost) (i : InvWith s (view s 
   pub gate-of : IsGateOf s v g job.shard job.worker was.frozen.gate
   gate-of = frozen-gate s v g i n job has.is_job was.frozen on
 
-  pub so-far : IsCollected v.blocks v.trees v.queues v.phases v.active g.shape was
+  pub so-far : IsCollected v.history v.blocks v.trees v.queues v.phases v.active g.shape was
   so-far = i.working.collected n job was has.is_job has.stage_is
 
   -- what is to be shown of what is collected now
-  pub goes-on : (now : CollectingValue) → now.frozen ≡ was.frozen → IsCollected v.blocks v.trees v.queues v.phases v.active g.shape now
+  pub goes-on : (now : CollectingValue) → now.frozen ≡ was.frozen → IsCollected v.history v.blocks v.trees v.queues v.phases v.active g.shape now
       → IsAtWork s v.history v.blocks v.made v.trees v.phases v.active v.queues (v.purses n) (v.commands n) g.gate g.shape g.placed (record job { stage = Collects now })
   goes-on now same collected = record {
     unspent = λ none. let never : Some now.frozen ≡ None = none in absurd (cc);
@@ -78,10 +45,9 @@ module _ (s : Setting) (w : World) (n : ℕ) (g : Ghost) (i : InvWith s (view s 
       move = its.move;
       plane = its.plane;
     });
-    collected = λ k is. subst (IsCollected v.blocks v.trees v.queues v.phases v.active g.shape) (same-collecting now k is) collected;
+    collected = λ k is. subst (IsCollected v.history v.blocks v.trees v.queues v.phases v.active g.shape) (same-collecting now k is) collected;
     building = λ x is. let never : Collects now ≡ Builds x = is in absurd (cc);
   }
 
   pub none-spent : (now : CollectingValue) → ◌≡◌ {A = List Spare} [] (spent_in job.stage)
   none-spent now = sym (ap (λ (st : StageValue). spent_in st) has.stage_is)
-

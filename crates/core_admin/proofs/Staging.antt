@@ -70,8 +70,8 @@ pub record IsAtWork (s : Setting) (history : List Event) (blocks : ℕ → Block
   pub unspent : frozen_in j.stage ≡ None → purse ≡ []
   pub declined : (c : Command) (why : Decline) → command ≡ Some c → j.stage ≡ IsDeclined why → IsDeclinedFor s history placed c.of j why
   pub frozen : (f : Frozen) → frozen_in j.stage ≡ Some f → IsFrozenFor s trees phases gate purse j f
-  pub collected : (k : CollectingValue) → j.stage ≡ Collects k → IsCollected blocks trees queues phases active shape k
-  pub building : (b : BuildingValue) → j.stage ≡ Builds b → IsBuilding s blocks made trees queues phases active shape purse b
+  pub collected : (k : CollectingValue) → j.stage ≡ Collects k → IsCollected history blocks trees queues phases active shape k
+  pub building : (b : BuildingValue) → j.stage ≡ Builds b → IsBuilding s history blocks made trees queues phases active shape purse b
 
 module _ (s : Setting) (v : View) (numbered : IsNumbered s v) (n : ℕ) (job : JobValue) (stage : StageValue) (jobs : ℕ → Option JobValue) (new : IsNewAt jobs v.jobs n (Some job) (Some (record job { stage = stage }))) where
   abbrev now : JobValue
@@ -151,8 +151,8 @@ module _ (s : Setting) (v : View) (numbered : IsNumbered s v) (n : ℕ) (job : J
     unspent = its (λ a j. frozen_in j.stage ≡ None → purses_now a ≡ []) at.unspent;
     declined = λ a j c why is. its (λ a j. v.commands a ≡ Some c → j.stage ≡ IsDeclined why → IsDeclinedFor s h placed c.of j why) (at.declined c why) a j is;
     frozen = λ a j f is. its (λ a j. frozen_in j.stage ≡ Some f → IsFrozenFor s trees phases_now gate (purses_now a) j f) (at.frozen f) a j is;
-    collected = λ a j k is. its (λ a j. j.stage ≡ Collects k → IsCollected blocks trees queues phases_now active shape k) (at.collected k) a j is;
-    building = λ a j b is. its (λ a j. j.stage ≡ Builds b → IsBuilding s blocks made trees queues phases_now active shape (purses_now a) b) (at.building b) a j is;
+    collected = λ a j k is. its (λ a j. j.stage ≡ Collects k → IsCollected h blocks trees queues phases_now active shape k) (at.collected k) a j is;
+    building = λ a j b is. its (λ a j. j.stage ≡ Builds b → IsBuilding s h blocks made trees queues phases_now active shape (purses_now a) b) (at.building b) a j is;
   }
     where
       as-job : (w : Work) → IsJobOf w job → IsJobOf w now

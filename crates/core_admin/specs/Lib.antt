@@ -1,2 +1,4 @@
 pub mod FreezeDue
+pub mod CollectDue
+pub mod BuildDue
 pub mod FinishDue

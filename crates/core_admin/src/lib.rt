@@ -6,6 +6,10 @@ mod builds;
 mod collects;
 mod finishes;
 mod freezes;
+mod trees;
 
-pub use freezes::{drained, freeze};
 pub use builds::build_block;
+pub use collects::{collect_block, collect_row};
+pub use freezes::{drained, freeze};
+pub use trees::build_trees;
+pub use builds::{build_block, postpone};

@@ -30,12 +30,12 @@ use Rattle.volap_cell.proofs.GrowsWork.{ahead-grown, read-load-grown}
 
 -- Lists, one place on.
 
-take-more : {X : Type 0} (i : ℕ) (xs : List X) (x : X) → slice_get xs i ≡ Some x → take (suc i) xs ≡ take i xs ++ x ∷ []
+pub take-more : {X : Type 0} (i : ℕ) (xs : List X) (x : X) → slice_get xs i ≡ Some x → take (suc i) xs ≡ take i xs ++ x ∷ []
 take-more {X} i [] x is = (let never : ◌≡◌ {A = Option X} None (Some x) = is in absurd (cc))
 take-more {X} zero (y ∷ xs) x is = (let both : ◌≡◌ {A = Option X} (Some y) (Some x) = is in let same : y ≡ x = cc in ap (λ (z : X). z ∷ []) same)
 take-more {X} (suc i) (y ∷ xs) x is = ap (λ (ys : List X). y ∷ ys) (take-more i xs x is)
 
-drop-at : {X : Type 0} (i : ℕ) (xs : List X) (x : X) → slice_get xs i ≡ Some x → drop i xs ≡ x ∷ drop (suc i) xs
+pub drop-at : {X : Type 0} (i : ℕ) (xs : List X) (x : X) → slice_get xs i ≡ Some x → drop i xs ≡ x ∷ drop (suc i) xs
 drop-at {X} i [] x is = (let never : ◌≡◌ {A = Option X} None (Some x) = is in absurd (cc))
 drop-at {X} zero (y ∷ xs) x is = (let both : ◌≡◌ {A = Option X} (Some y) (Some x) = is in let same : y ≡ x = cc in ap (λ (z : X). z ∷ xs) same)
 drop-at {X} (suc i) (y ∷ xs) x is = drop-at i xs x is

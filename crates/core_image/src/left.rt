@@ -51,8 +51,8 @@ fn how_left(stage: &Stage) -> How
     }
 }
 
-/// The actor's balance goes on to its next action.
-fn advance(command: &mut Option<Command>, job: &mut Option<Box<Job>>)
+/// The actor's balance goes on to its next action, whose job is begun in the same box. Takes no memory.
+pub fn advance(command: &mut Option<Command>, job: &mut Option<Box<Job>>)
     requires { MayGoOn command.old (is_some job.old) }
     ensures { GoesOn command.old command.new (option_map (λ j. job_of j.value) job.new) }
 {

@@ -26,7 +26,7 @@ pub use calls::note_called;
 pub use counts::count_session;
 pub use ended::note_ended;
 pub use fails::{fail_query, fail_routed, fail_unrouted};
-pub use left::note_left;
+pub use left::{advance, note_left};
 pub use notes::{note_refused, note_unknown};
 pub use queries::begin_query;
 pub use routes::route;

@@ -6,8 +6,10 @@ use Rattle.std.proofs.lemmas.Bool.{cases_lt}
 use Rattle.std.proofs.lemmas.List.{get_or_past}
 use Rattle.dim_hierarchy.specs.declared.row.Row.{Row}
 use Rattle.block_cells.specs.Cells.{CellBlocks}
+use Rattle.dc_node.specs.Summary.{IsSummaryOf}
 use Rattle.row_ledger.specs.Pages.{IsPageOf}
 use Rattle.row_ledger.specs.declared.page.TreePage.{TreePage}
+use Rattle.shard_store.specs.Gate.{IsQueueOf}
 use Rattle.shard_store.specs.declared.gate.Gate.{Gate}
 use Rattle.shard_store.specs.declared.gate.Phase.{Phase}
 use Rattle.tree_page.specs.Still.{cells_with, IsStill, CanShow}
@@ -17,6 +19,7 @@ use Rattle.tree_page.proofs.Numbers.{each-times}
 use Rattle.tree_shape.specs.Counts.{Each, times}
 use Rattle.tree_shape.specs.Shape.{Shape, Table, TreeCells, numbers}
 use Rattle.tree_shape.specs.Trees.{IsTree}
+use Rattle.tree_shape.proofs.Totals.{gate-sum}
 use Rattle.tree_shape.proofs.Walks.{on_bool, eqb-eq, eqb-ne}
 use Rattle.volap_cell.specs.Cells.{CellValue, FreeCell, LedgerCell, StockCell, RegistryCell, ImageCell, DeskCell, MapCell, GateCell, BlockCell, block_in, cell_of, gate_shard, has_block, phase_of, queue_in, way_in, way_to_tree}
 use Rattle.volap_cell.specs.Errands.{RowWay, way_of}
@@ -24,7 +27,7 @@ use Rattle.volap_cell.specs.Ghost.{Ghost, NotOfStock, AGate, InTree}
 use Rattle.volap_cell.specs.Growing.{table_of}
 use Rattle.volap_cell.specs.Invariant.{InvWith}
 use Rattle.volap_cell.specs.Setting.{Setting}
-use Rattle.volap_cell.specs.Sights.{SeesTree}
+use Rattle.volap_cell.specs.Sights.{HasRows, SeesTree}
 use Rattle.volap_cell.specs.State.{IsWorldOf}
 use Rattle.volap_cell.specs.Stocking.{IsWhole, cells_at}
 use Rattle.volap_cell.specs.View.{View, view}
@@ -86,7 +89,7 @@ has-phase (GateCell g) e = λ none. (let never : ◌≡◌ {A = Option Phase} (S
 has-phase (BlockCell b) e = (let never : false ≡ true = e in cc)
 
 -- the gate that the thread has is the state's
-gate-cell : (cells : List (Option Cell)) (actors : List (Option Actor)) (w : World) → IsWorldOf cells actors w → (at : ℕ) (gate : Gate) → gate_held (get_or cells at None) ≡ Some gate → w.cells at ≡ GateCell gate
+pub gate-cell : (cells : List (Option Cell)) (actors : List (Option Actor)) (w : World) → IsWorldOf cells actors w → (at : ℕ) (gate : Gate) → gate_held (get_or cells at None) ≡ Some gate → w.cells at ≡ GateCell gate
 gate-cell cells actors w is at gate gate_is =
     let k = is-gate (get_or cells at None) gate gate_is in
     sym (of-it (get_or cells at None) (λ c. cell_of c ≡ w.cells at) k.0 (is.cell at (within cells at k.0 k.1)) k.1) ∙ k.2
@@ -193,18 +196,30 @@ module _ (cells : List (Option Cell)) (actors : List (Option Actor)) (s : Settin
         (λ p. (still.tree.numbered n p).0)
         (λ p. let none : times n ns ≡ 0 = all-placed n ∙ (rw p refl) in absurd (omega arith)))
 
+    abbrev pub tree_rows : List Row
+    tree_rows = map v.row ns
+
+    pub has-rows : HasRows s v gate.shard tree_rows gate.queue.rows
+    has-rows = record {
+      gate = at;
+      is_gate = ap gate_shard gate_cell;
+      stands = can.stands;
+      queue_is = ap (λ (c : CellValue). (queue_in c).rows) gate_cell;
+      named = each-mapped (λ n. (v.row n).no ≡ n) (λ (r : Row). v.row r.no ≡ r) v.row ns (λ n e. ap v.row e) all-numbered;
+      tree_is = λ g tree r. ap (times r) (numbers-back v.row ns all-numbered) ∙ same-placed table at gate blocks g0 g still (as-read g tree) r;
+    }
+
+    pub tree-sums : IsSummaryOf s.hierarchy tree_rows gate.agg gate.set
+    tree-sums = gate-sum table (cells_with at gate blocks) g0 still.tree ns all-placed
+
+    pub queue-is : IsQueueOf s.hierarchy gate.queue
+    queue-is = subst (IsQueueOf s.hierarchy) (ap queue_in gate_cell) (inv.queueing.queue at can.gate)
+
     pub shown-seen : (shown : TreePage) → shown.shard ≡ gate.shard → IsMade gate blocks shown → SeesTree s v shown
     shown-seen shown shard made = record {
-      tree = map v.row ns;
+      tree = tree_rows;
       queue = gate.queue.rows;
-      has = record {
-        gate = at;
-        is_gate = ap gate_shard gate_cell ∙ ap Some (sym shard);
-        stands = can.stands;
-        queue_is = ap (λ (c : CellValue). (queue_in c).rows) gate_cell;
-        named = each-mapped (λ n. (v.row n).no ≡ n) (λ (r : Row). v.row r.no ≡ r) v.row ns (λ n e. ap v.row e) all-numbered;
-        tree_is = λ g tree r. ap (times r) (numbers-back v.row ns all-numbered) ∙ same-placed table at gate blocks g0 g still (as-read g tree) r;
-      };
+      has = subst (λ (x : ℕ). HasRows s v x tree_rows gate.queue.rows) (sym shard) has-rows;
       is_page = made table at g0 still ns all-placed;
     }
 

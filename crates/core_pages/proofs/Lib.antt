@@ -1,2 +1,3 @@
 pub mod AnyShape
 pub mod HeldTrees
+pub mod HeldLines

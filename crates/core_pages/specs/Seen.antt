@@ -1,10 +1,13 @@
--- When the tree of a gate can be read off the cells that one thread holds, and that a page is what the state has of it.
+-- When a page can be read off the cells that one thread holds, and that it is what the state has.
 use Rattle.std.specs.Prelude.{ℕ, ◌≡◌, ◌≢◌, List, Option, Some, None, IsSome}
+use Rattle.dim_hierarchy.specs.Dimension.{Dimension}
+use Rattle.row_ledger.specs.declared.page.Page.TheVariants as page
+use Rattle.row_ledger.specs.declared.page.ShardLine.{ShardLine}
 use Rattle.row_ledger.specs.declared.page.TreePage.{TreePage}
 use Rattle.shard_store.specs.declared.gate.Phase.TheVariants.{Gone}
 use Rattle.volap_cell.specs.Cells.{gate_shard, phase_of}
 use Rattle.volap_cell.specs.Setting.{Setting}
-use Rattle.volap_cell.specs.Sights.{SeesTree}
+use Rattle.volap_cell.specs.Sights.{SeesPage, SeesTree}
 use Rattle.volap_cell.specs.State.{IsWorldOf}
 use Rattle.volap_cell.specs.Steps.{Inv}
 use Rattle.volap_cell.specs.View.{view}
@@ -29,3 +32,15 @@ IsSeenIn cells actors shown = (s : Setting) (w : World) → IsWorldOf cells acto
 -- the page is of the shard whose gate is in the cell
 abbrev pub IsOfGate : (cells : List (Option Cell)) (actors : List (Option Actor)) (gate_at : ℕ) (shown : TreePage) → Type 0
 IsOfGate cells actors gate_at shown = (w : World) → IsWorldOf cells actors w → gate_shard (w.cells gate_at) ≡ Some shown.shard
+
+-- there are so many servers, and nobody is at a part
+pub record IsQuiet (servers : ℕ) (s : Setting) (w : World) : Type 0 where
+  pub servers_are : s.servers ≡ servers
+  pub quiet : (a : ℕ) → (w.actors a).errand ≡ None
+
+abbrev pub IsQuietIn : (servers : ℕ) (cells : List (Option Cell)) (actors : List (Option Actor)) → Type 0
+IsQuietIn servers cells actors = (s : Setting) (w : World) → IsWorldOf cells actors w → Inv s w → IsQuiet servers s w
+
+-- whatever state the vectors are, if it meets the invariant over these dimensions, these are the lines of its shards
+abbrev pub AreSeenIn : (h : List Dimension) (cells : List (Option Cell)) (actors : List (Option Actor)) (lines : List ShardLine) → Type 0
+AreSeenIn h cells actors lines = (s : Setting) (w : World) → s.hierarchy ≡ h → IsWorldOf cells actors w → Inv s w → SeesPage s (view s w) (page.Shards lines)

@@ -2,6 +2,8 @@
 #![tactic(auto)]
 
 mod held;
+mod shards;
 mod trees;
 
+pub use shards::shards_page;
 pub use trees::tree_page_at;

@@ -194,6 +194,7 @@ module _ (m c : Change) (b : ActorValue) (s : Setting) (w : World) (n : ℕ) (g 
             record {
               drained = o.drained;
               at_blocks = o.at_blocks;
+              named = o.named;
               rows = o.rows ∙ ap (λ (rs : List Row). o.at_blocks ++ rs) (sym (front-same x.frozen.gate x.queued (omega arith)));
               collecting = o.collecting;
               upto = o.upto;
@@ -207,6 +208,7 @@ module _ (m c : Change) (b : ActorValue) (s : Setting) (w : World) (n : ℕ) (g 
               upto = o.upto;
               phase_is = o.phase_is;
               at_blocks = o.at_blocks;
+              named = o.named;
               read = o.read;
               built = o.built;
               purse_was = o.purse_was;

@@ -321,7 +321,7 @@ module _ (s : Setting) (w : World) (g : Ghost) (i : InvWith s (view s w) g) (n :
           declined = k.declined;
           frozen = λ a j f is st. subst (λ (ss : List Spare). IsFrozenFor s v.trees v.phases g.gate ss j f) (sym (off a (other a j is))) (k.frozen a j f is st);
           collected = k.collected;
-          building = λ a j b is st. subst (λ (ss : List Spare). IsBuilding s v.blocks v.made v.trees v.queues v.phases v.active g.shape ss b) (sym (off a (other a j is))) (k.building a j b is st);
+          building = λ a j b is st. subst (λ (ss : List Spare). IsBuilding s v.history v.blocks v.made v.trees v.queues v.phases v.active g.shape ss b) (sym (off a (other a j is))) (k.building a j b is st);
         }
 
 -- what is in a purse may go back

@@ -155,6 +155,7 @@ module _ (c : Change) (b : ActorValue) (s : Setting) (w : World) (n : ℕ) (g : 
         collected = λ a j x isj st. let o = k.collected a j x isj st in record {
           drained = (let le = fewer x.frozen.gate in let none = o.drained in omega arith);
           at_blocks = o.at_blocks;
+          named = o.named;
           rows = o.rows;
           collecting = o.collecting;
           upto = o.upto;
@@ -165,6 +166,7 @@ module _ (c : Change) (b : ActorValue) (s : Setting) (w : World) (n : ℕ) (g : 
           upto = o.upto;
           phase_is = o.phase_is;
           at_blocks = o.at_blocks;
+          named = o.named;
           read = o.read;
           built = o.built;
           purse_was = o.purse_was;

@@ -207,7 +207,7 @@ module _ (s : Setting) (v v2 : View) (g g2 : Ghost) (n c : ℕ) (other : OtherLa
           plane = k.plane;
         }
 
-    collected-kept : (a : ℕ) (j : JobValue) (k : CollectingValue) → v.jobs a ≡ Some j → j.stage ≡ Collects k → IsCollected v2.blocks v2.trees v.queues v.phases v2.active g2.shape k
+    collected-kept : (a : ℕ) (j : JobValue) (k : CollectingValue) → v.jobs a ≡ Some j → j.stage ≡ Collects k → IsCollected v.history v2.blocks v2.trees v.queues v.phases v2.active g2.shape k
     collected-kept a j k isj iss =
         let o = i.working.collected a j k isj iss in
         let isf : frozen_in j.stage ≡ Some k.frozen = ap frozen_in iss in
@@ -215,13 +215,14 @@ module _ (s : Setting) (v v2 : View) (g g2 : Ghost) (n c : ℕ) (other : OtherLa
         record {
           drained = frozen_active k.frozen.gate f.upto f.phase_is ∙ o.drained;
           at_blocks = o.at_blocks;
+          named = o.named;
           rows = o.rows;
           collecting = collecting-kept k.frozen.gate k.items k.read (numbers o.at_blocks) (busy k.frozen.gate f.upto f.phase_is o.drained) (job-whole a j k.frozen isj isf) o.collecting;
           upto = o.upto;
           blocks_first = o.blocks_first;
         }
 
-    building-kept : (a : ℕ) (j : JobValue) (b : BuildingValue) → v.jobs a ≡ Some j → j.stage ≡ Builds b → IsBuilding s v2.blocks v2.made v2.trees v.queues v.phases v2.active g2.shape (v2.purses a) b
+    building-kept : (a : ℕ) (j : JobValue) (b : BuildingValue) → v.jobs a ≡ Some j → j.stage ≡ Builds b → IsBuilding s v.history v2.blocks v2.made v2.trees v.queues v.phases v2.active g2.shape (v2.purses a) b
     building-kept a j b isj iss =
         let o = i.working.building a j b isj iss in
         let isf : frozen_in j.stage ≡ Some b.frozen = ap frozen_in iss in
@@ -232,6 +233,7 @@ module _ (s : Setting) (v v2 : View) (g g2 : Ghost) (n c : ℕ) (other : OtherLa
           upto = o.upto;
           phase_is = o.phase_is;
           at_blocks = o.at_blocks;
+          named = o.named;
           read = collecting-kept b.frozen.gate [] b.read (numbers o.at_blocks) (busy b.frozen.gate o.upto o.phase_is o.drained) (job-whole a j b.frozen isj isf) o.read;
           built = o.built;
           purse_was = o.purse_was;

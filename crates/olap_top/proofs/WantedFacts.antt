@@ -25,12 +25,6 @@ many_want (a ∷ b ∷ c ∷ d ∷ ds) many = refl
 
 -- What is computed is what is meant.
 
-same_bytes : (xs ys : List ℕ) → bytes_eq xs ys ≡ true → xs ≡ ys
-same_bytes xs ys is = (bytes_eq-Decides xs ys).0 is
-
-bytes_same : (xs ys : List ℕ) → xs ≡ ys → bytes_eq xs ys ≡ true
-bytes_same xs ys is = (bytes_eq-Decides xs ys).1 is
-
 if_some : {X : Type 0} (b : Bool) (o : Option X) (x : X) → (if b then o else None) ≡ Some x → (b ≡ true) × (o ≡ Some x)
 if_some true o x is = (refl, is)
 if_some false o x is = cc
@@ -56,19 +50,19 @@ seeded_some (Some n) w is = (n, refl, cc)
 behind_is : (word : List ℕ) (seed : ℕ) → seed_behind word ≡ Some seed → (text : List ℕ) × (word ≡ codes "--seed=" ++ text) × SpellsSeed text seed
 behind_is word seed is =
     let kept = if_some (bytes_eq (take 7 word) (codes "--seed=")) (seed_of (drop 7 word)) seed is in
-    (drop 7 word, sym (take-append-drop 7 word) ∙ ap (λ front. front ++ drop 7 word) (same_bytes (take 7 word) (codes "--seed=") kept.0), spells (drop 7 word) seed kept.1)
+    (drop 7 word, sym (take-append-drop 7 word) ∙ ap (λ front. front ++ drop 7 word) ((bytes_eq-Decides (take 7 word) (codes "--seed=")).0 kept.0), spells (drop 7 word) seed kept.1)
 
 pub wanted_is : (words : List (List ℕ)) (w : Wanted) → wanted words ≡ Some w → Want words w
 wanted_is [] w is = cc
 wanted_is (first ∷ []) w is =
     let kept = if_some (bytes_eq first (codes "step")) (Some Step) w is in
     let same : Step ≡ w = let e = kept.1 in cc in
-    rw (← same) (ap (λ f. f ∷ []) (same_bytes first (codes "step") kept.0))
+    rw (← same) (ap (λ f. f ∷ []) ((bytes_eq-Decides first (codes "step")).0 kept.0))
 wanted_is (first ∷ option ∷ []) w is =
     let kept = if_some (bytes_eq first (codes "step")) (seeded (seed_behind option)) w is in
     let seed = seeded_some (seed_behind option) w kept.1 in
     let behind = behind_is option seed.0 seed.1 in
-    rw seed.2 (option ∷ [], behind.0, ap (λ f. f ∷ option ∷ []) (same_bytes first (codes "step") kept.0), inr (ap (λ o. o ∷ []) behind.1), behind.2)
+    rw seed.2 (option ∷ [], behind.0, ap (λ f. f ∷ option ∷ []) ((bytes_eq-Decides first (codes "step")).0 kept.0), inr (ap (λ o. o ∷ []) behind.1), behind.2)
 wanted_is (first ∷ option ∷ value ∷ []) w is =
     let kept = if_some (bytes_eq first (codes "step") && bytes_eq option (codes "--seed")) (seeded (seed_of value)) w is in
     let both = and_parts (bytes_eq first (codes "step")) (bytes_eq option (codes "--seed")) kept.0 in
@@ -76,8 +70,8 @@ wanted_is (first ∷ option ∷ value ∷ []) w is =
     rw seed.2 (
       option ∷ value ∷ [],
       value,
-      ap (λ f. f ∷ option ∷ value ∷ []) (same_bytes first (codes "step") both.0),
-      inl (ap (λ o. o ∷ value ∷ []) (same_bytes option (codes "--seed") both.1)),
+      ap (λ f. f ∷ option ∷ value ∷ []) ((bytes_eq-Decides first (codes "step")).0 both.0),
+      inl (ap (λ o. o ∷ value ∷ []) ((bytes_eq-Decides option (codes "--seed")).0 both.1)),
       spells value seed.0 seed.1,
     )
 wanted_is (a ∷ b ∷ c ∷ d ∷ ds) w is = cc

@@ -12,6 +12,7 @@ pub mod Ends
 pub mod Orders
 pub mod Scripts
 pub mod Worlds
+pub mod Openings
 pub mod DueCommands
 pub mod FixedCells
 pub mod CommandsReady
@@ -40,4 +41,8 @@ pub mod DueBegins
 pub mod BeginsReady
 pub mod DueNotes
 pub mod WorksReady
+pub mod PagesDue
 pub mod ShowsReady
+pub mod ShardsReady
+pub mod DueRows
+pub mod RowsReady

@@ -74,7 +74,7 @@ rest-not-carried : (e : ErrandValue) (r : RowErrand) (y : ℕ) → r.way ≡ way
 rest-not-carried e r y is at = (let never : ◌≡◌ {A = Option ℕ} None (Some y) = sym (ap (λ (x : Way). block_at (place_of x)) is) ∙ at in absurd (cc))
 
 -- an actor that carries its row at a block
-carried-own : (a : ActorValue) (e : ErrandValue) (r : RowErrand) (gate block : ℕ) → a.errand ≡ Some e → e.task ≡ OfRow r → r.way ≡ way.Carried gate block → MustKeep a block
+pub carried-own : (a : ActorValue) (e : ErrandValue) (r : RowErrand) (gate block : ℕ) → a.errand ≡ Some e → e.task ≡ OfRow r → r.way ≡ way.Carried gate block → MustKeep a block
 carried-own a e r gate block errand row is =
     let place : block_at (place_of r.way) ≡ Some block = ap (λ (x : Way). block_at (place_of x)) is in
     let task : IsCarried (way_in_task e e.task) block = subst (λ (t : TaskValue). IsCarried (way_in_task e t) block) (sym row) place in
@@ -102,7 +102,7 @@ module _ (h : List Dimension) (with : Use) (cells : List (Option Cell)) (actors 
   pub errand-seen : (e : ErrandValue) → (w.actors n).errand ≡ Some e → errand_by actors n ≡ Some e
   errand-seen e errand = errand-same ∙ errand
 
-  way-seen : (e : ErrandValue) (r : RowErrand) → (w.actors n).errand ≡ Some e → e.task ≡ OfRow r → way_at (errand_by actors n) ≡ r.way
+  pub way-seen : (e : ErrandValue) (r : RowErrand) → (w.actors n).errand ≡ Some e → e.task ≡ OfRow r → way_at (errand_by actors n) ≡ r.way
   way-seen e r errand row = ap way_at (errand-seen e errand) ∙ ap way_in row
 
   pub put_in_leaf-ready : (at : ℕ) → at ≡ block_on (way_at (errand_by actors n)) → IsDue h with cells actors n PutInLeaf → MayStep cells actors (at ∷ []) n (PutsInLeaf at)

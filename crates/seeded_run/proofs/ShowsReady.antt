@@ -1,9 +1,8 @@
 -- Where the page of a tree is due for a command, everyone else is idle, and the shard stands, with its gate where the table of its worker
 -- leads. So the page can be made and shown, and where it can't be made the command can end.
-use Rattle.std.proofs.Common.{ℕ, suc, ◌≡◌, ◌≢◌, ◌+◌, ◌<◌, ◌==◌, ◌&&◌, ◌||◌, Bool, true, false, eqb, List, [], ◌∷◌, length, map, Option, Some, None, get_or, inl, inr, refl, sym, ap, ◌∙◌, subst, arith, if◌then◌else◌}
-use Rattle.std.specs.Prelude.{IsSome, is_none}
+use Rattle.std.proofs.Common.{ℕ, ◌≡◌, ◌≢◌, ◌+◌, ◌<◌, true, false, List, [], ◌∷◌, length, map, Option, Some, None, get_or, refl, sym, ap, ◌∙◌, subst, arith}
+use Rattle.std.specs.Prelude.{IsSome}
 use Rattle.std.specs.List.{list_any}
-use Rattle.std.proofs.lemmas.Bool.{and_parts, cases_lt, ne_eqb}
 use Rattle.core_image.specs.ToldPages.{shown_by}
 use Rattle.core_image.proofs.Hosts.{host-on, stands-live}
 use Rattle.core_pages.specs.Seen.{CanSee, CanSeeIn, IsOfGate, IsSeenIn}
@@ -26,66 +25,29 @@ use Rattle.row_ledger.specs.declared.settings.How.TheVariants as how
 use Rattle.row_ledger.specs.declared.settings.Use.{Use}
 use Rattle.row_ledger.proofs.Positions.{before-here}
 use Rattle.server_image.specs.Registry.{host_of}
-use Rattle.tree_shape.proofs.Walks.{on_bool, eqb-eq, eqb-ne}
 use Rattle.volap_cell.specs.Cells.{CellValue, gate_shard, registry_in, where_in}
-use Rattle.volap_cell.specs.Errands.{taken_of}
 use Rattle.volap_cell.specs.Ghost.{Ghost}
 use Rattle.volap_cell.specs.Invariant.{InvWith}
 use Rattle.volap_cell.specs.Setting.{Setting, actor_count, cell_count, ledger_cell, map_cell, registry_cell}
 use Rattle.volap_cell.specs.Sights.{IsIdle, Sees, SeesTree}
 use Rattle.volap_cell.specs.State.{IsWorldOf}
-use Rattle.volap_cell.specs.Steps.{Inv, history_in}
-use Rattle.volap_cell.specs.Values.{ActorValue, ErrandValue, actor_of}
+use Rattle.volap_cell.specs.Steps.{Inv}
+use Rattle.volap_cell.specs.Values.{ActorValue, actor_of}
 use Rattle.volap_cell.specs.View.{View, view}
 use Rattle.volap_cell.specs.World.{World}
 use Rattle.volap_cell.specs.declared.actor.Actor.{Actor}
 use Rattle.volap_cell.specs.declared.cell.Cell.{Cell}
 use Rattle.volap_cell.specs.declared.command.Work.TheVariants as work_is
-use Rattle.volap_cell.specs.declared.kind.Kind.{Kind}
 use Rattle.volap_cell.specs.declared.kind.Kind.TheVariants as kind
 use Rattle.volap_cell.proofs.NotedCommands.{new-told}
 use Rattle.volap_cell.proofs.States.{of-it, same-setting, stands}
-use Rattle.seeded_run.specs.Arms.{TellsIfNote}
 use Rattle.seeded_run.specs.Core.{HasCore, IsCore, IsDue, IsDueAt}
-use Rattle.seeded_run.specs.Due.{command_kind, does_nothing, is_alone, is_empty, page_kind}
 use Rattle.seeded_run.specs.Progress.{AreScriptRoles}
 use Rattle.seeded_run.specs.Led.{gate_there}
 use Rattle.seeded_run.specs.Shown.{HasTreeToShow, IsTreeToShow, gate_of_host, standing_gate}
-use Rattle.seeded_run.proofs.DueCommands.{IsByCommand, by-command}
-use Rattle.seeded_run.proofs.Dues.{all_below-at}
 use Rattle.seeded_run.proofs.FixedCells.{ledger-fixed, may-step}
+use Rattle.seeded_run.proofs.PagesDue.{IsPageWork, idle as page-idle, next as page-next, quiet as page-quiet}
 use Rattle.seeded_run.proofs.Seen.{cell-seen}
-
--- What is due.
-
-both-so : (a b : Bool) → (if a && b then Some kind.Note else None) ≡ Some kind.Note → (a ≡ true) × (b ≡ true)
-both-so true true e = (refl, refl)
-both-so true false e = (let never : ◌≡◌ {A = Option Kind} None (Some kind.Note) = e in absurd (cc))
-both-so false b e = (let never : ◌≡◌ {A = Option Kind} None (Some kind.Note) = e in absurd (cc))
-
-second-so : (a b : Bool) → (a || b) ≡ true → a ≡ false → b ≡ true
-second-so true b e f = cc
-second-so false b e f = e
-
-none-so : {A : Type 0} (o : Option A) → is_none o ≡ true → o ≡ None
-none-so None e = refl
-none-so (Some x) e = cc
-
-empty-so : {A : Type 0} (xs : List A) → is_empty xs ≡ true → xs ≡ []
-empty-so [] e = refl
-empty-so (x ∷ xs) e = cc
-
--- an actor with nothing to do
-idle-so : (a : ActorValue) → does_nothing a ≡ true → IsIdle a
-idle-so a e =
-    let first = and_parts (is_none a.command && is_none a.errand && is_none a.job) (is_empty a.purse) e in
-    let second = and_parts (is_none a.command && is_none a.errand) (is_none a.job) first.0 in
-    let third = and_parts (is_none a.command) (is_none a.errand) second.0 in
-    record { command = none-so a.command third.0; errand = none-so a.errand third.1; job = none-so a.job second.1; purse = empty-so a.purse first.1 }
-
-untaken : (o : Option ErrandValue) → taken_of o ≡ None → o ≡ None
-untaken None e = refl
-untaken (Some x) e = cc
 
 -- Right behind a call that begins, the shards stand that stood before it.
 
@@ -116,34 +78,17 @@ module _ (h : List Dimension) (with : Use) (cells : List (Option Cell)) (actors 
       let k = stands (get_or actors n None) (λ x. actor_of x ≡ w.actors n) (core.is.actor n lt) in
       subst (λ (a : ActorValue). IsTreeToShow shard a.command) k.2 (of-it (get_or actors n None) (λ a. IsTreeToShow shard a.command) k.0 has k.1)
 
-  abbrev alone : Bool
-  alone = is_alone s w at.rest n
-
-  by-its : IsByCommand s w at.rest n kind.Note
-  by-its = by-command s w at.rest n kind.Note at.due_is refl
-
-  two : (alone ≡ true) × ((length v.history == its.0 + 1) ≡ true)
-  two =
-      let due : page_kind v.history alone its.0 false ≡ Some kind.Note = ap (command_kind s w alone (at.rest n) (w.actors n)) (sym its.1) ∙ by-its.by in
-      both-so alone (length v.history == its.0 + 1) due
+  shows : IsPageWork (work_is.Tree shard true false)
+  shows s w alone a of = refl
 
   next : length v.history ≡ its.0 + 1
-  next = eqb-eq _ _ two.1
+  next = page-next s w g i n at its.0 (work_is.Tree shard true false) its.1 shows
 
   idle : (a : ℕ) → a ≢ n → IsIdle (w.actors a)
-  idle a ne = elim (cases_lt a (actor_count s)) [
-    | inl low ↦
-        let t = all_below-at (actor_count s) (λ b. b == n || (does_nothing (w.actors b) && is_empty (at.rest b))) a two.0 low in
-        idle-so (w.actors a) (and_parts _ _ (second-so (a == n) (does_nothing (w.actors a) && is_empty (at.rest a)) t (ne_eqb a n ne))).0
-    | inr past ↦
-        let k = i.numbering.nobody a past in
-        record { command = k.2; errand = untaken (w.actors a).errand k.3; job = k.4; purse = k.1 }
-  ]
+  idle = page-idle s w g i n at its.0 (work_is.Tree shard true false) its.1 shows
 
   quiet : (a : ℕ) → (w.actors a).errand ≡ None
-  quiet a = on_bool (eqb a n)
-      (λ q. ap (λ (b : ℕ). (w.actors b).errand) (eqb-eq _ _ q) ∙ by-its.errand)
-      (λ q. (idle a (eqb-ne _ _ q)).errand)
+  quiet = page-quiet s w g i n at its.0 (work_is.Tree shard true false) its.1 shows
 
   -- its gate
 
@@ -186,11 +131,9 @@ module _ (h : List Dimension) (with : Use) (cells : List (Option Cell)) (actors 
 pub gate-so : (with : Use) (lent cells : List (Option Cell)) (shard gate : ℕ) → lent ≡ cells → ((s : Setting) → s.servers ≡ with.servers → gate ≡ standing_gate s lent shard) → (s : Setting) → s.servers ≡ with.servers → gate ≡ standing_gate s cells shard
 gate-so with lent cells shard gate e is s same = is s same ∙ ap (λ (xs : List (Option Cell)). standing_gate s xs shard) e
 
--- The same of the vectors.
-module _ (h : List Dimension) (with : Use) (cells : List (Option Cell)) (actors : List (Option Actor)) (core : HasCore h with cells actors) (n : ℕ) (lt : n < length actors) (due : IsDue h with cells actors n kind.Note)
-    (shard : ℕ) (has : HasTreeToShow actors n shard) (gate ledger : ℕ) (gate_is : (s : Setting) → s.servers ≡ with.servers → gate ≡ standing_gate s cells shard) (ledger_is : ledger ≡ ledger_cell) where
-  -- whatever state they are, it is a core
-  core-in : (s : Setting) (w : World) → IsWorldOf cells actors w → Inv s w → IsCore h with cells actors s w
+-- whatever state a core's vectors are, it is a core
+module _ (h : List Dimension) (with : Use) (cells : List (Option Cell)) (actors : List (Option Actor)) (core : HasCore h with cells actors) (n : ℕ) (lt : n < length actors) where
+  pub core-in : (s : Setting) (w : World) → IsWorldOf cells actors w → Inv s w → IsCore h with cells actors s w
   core-in s w is inv =
       let c = core.is_core in
       let k = stands (get_or actors n None) (λ x. actor_of x ≡ core.world.actors n) (c.is.actor n lt) in
@@ -207,11 +150,14 @@ module _ (h : List Dimension) (with : Use) (cells : List (Option Cell)) (actors 
         inv = inv;
       }
 
+-- The same of the vectors.
+module _ (h : List Dimension) (with : Use) (cells : List (Option Cell)) (actors : List (Option Actor)) (core : HasCore h with cells actors) (n : ℕ) (lt : n < length actors) (due : IsDue h with cells actors n kind.Note)
+    (shard : ℕ) (has : HasTreeToShow actors n shard) (gate ledger : ℕ) (gate_is : (s : Setting) → s.servers ≡ with.servers → gate ≡ standing_gate s cells shard) (ledger_is : ledger ≡ ledger_cell) where
   pub can-see-in : CanSeeIn cells actors gate
-  can-see-in s w is inv = (let c = core-in s w is inv in subst (CanSee w) (sym (gate_is s c.servers)) (can-see h with cells actors s w c n lt (due s w c) shard has))
+  can-see-in s w is inv = (let c = core-in h with cells actors core n lt s w is inv in subst (CanSee w) (sym (gate_is s c.servers)) (can-see h with cells actors s w c n lt (due s w c) shard has))
 
   pub seen-so : (shown : TreePage) → IsSeenIn cells actors shown → IsSeen h cells actors n (page.Tree shown)
-  seen-so shown seen s w same is inv = (let c = core-in s w is inv in sees h with cells actors s w c n lt (due s w c) shard has shown (seen s w is inv))
+  seen-so shown seen s w same is inv = (let c = core-in h with cells actors core n lt s w is inv in sees h with cells actors s w c n lt (due s w c) shard has shown (seen s w is inv))
 
   pub shown-ready : (shown : TreePage) → IsOfGate cells actors gate shown → MayStep cells actors (ledger ∷ []) n (NotesShown (page.Tree shown))
   shown-ready shown of_gate =
@@ -230,17 +176,6 @@ module _ (h : List Dimension) (with : Use) (cells : List (Option Cell)) (actors 
       subst (λ (y : ℕ). MayStep cells actors (y ∷ []) n (NotesEnded how.NoMemory)) (sym ledger_is)
       (may-step h with cells actors s w c (ledger_cell ∷ []) n (NotesEnded how.NoMemory) (ledger-fixed s, tt) (tt, tt) lt (can-end h with cells actors s w c n lt (due s w c) shard has))
 
--- What is told.
-
--- a history isn't one that has an event more
-longer-is-other : (e : Event) (before now : List Event) → now ≡ e ∷ before → now ≢ before
-longer-is-other e before now grows same = (let long : length before ≡ suc (length before) = ap length (sym same ∙ grows) in omega arith)
-
-module _ (ledger : ℕ) (cells cells_now : List (Option Cell)) (actors actors_now : List (Option Actor)) (ledger_is : ledger ≡ ledger_cell) where
-  pub tells-end : AddsQuiet ledger cells actors cells_now actors_now → TellsIfNote kind.Note cells actors cells_now actors_now
-  tells-end adds =
-      let here : AddsQuiet ledger_cell cells actors cells_now actors_now = subst (λ (y : ℕ). AddsQuiet y cells actors cells_now actors_now) ledger_is adds in
-      inr (λ w now is is_now. (let q = here w now is is_now in longer-is-other q.0 (history_in w) (history_in now) q.2))
-
-  pub tells-page : (n : ℕ) (shown : Page) → Adds (shown_by shown) n ledger cells actors cells_now actors_now → TellsIfNote kind.Note cells actors cells_now actors_now
-  tells-page n shown adds = tells-end (λ w now is is_now. (shown_by shown (w.actors n) 0, refl, adds w now is is_now))
+-- what tells a page begins nothing
+pub tells-page : (n ledger : ℕ) (cells cells_now : List (Option Cell)) (actors actors_now : List (Option Actor)) (shown : Page) → Adds (shown_by shown) n ledger cells actors cells_now actors_now → AddsQuiet ledger cells actors cells_now actors_now
+tells-page n ledger cells cells_now actors actors_now shown adds = λ w now is is_now. (shown_by shown (w.actors n) 0, refl, adds w now is is_now)

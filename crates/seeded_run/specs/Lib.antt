@@ -22,3 +22,4 @@ pub mod Phase
 pub mod Roles
 pub mod Works
 pub mod Shown
+pub mod Rows

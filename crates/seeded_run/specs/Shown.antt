@@ -1,4 +1,4 @@
--- The page of a tree that an actor's command is to show, and where the gate of its shard is.
+-- The page that an actor's command is to show, of a tree or of all shards; and where the gate of a shard is.
 use Rattle.std.specs.Prelude.{ℕ, ◌≡◌, true, false, List, get_or, Option, Some, None}
 use Rattle.server_image.specs.Registry.{host_of}
 use Rattle.volap_cell.specs.Cells.{registry_in, where_in}
@@ -19,6 +19,13 @@ IsTreeToShow shard command = (of : ℕ) × (command ≡ doing of (work_is.Tree s
 -- the actor has such a command
 abbrev pub HasTreeToShow : List (Option Actor) → ℕ → ℕ → Type 0
 HasTreeToShow actors n shard = Has (get_or actors n None) (λ a. IsTreeToShow shard a.command)
+
+-- a command that is to show all shards
+abbrev pub AreToShow : Option Command → Type 0
+AreToShow command = (of : ℕ) × (command ≡ doing of (work_is.Shards false))
+
+abbrev pub HasShardsToShow : List (Option Actor) → ℕ → Type 0
+HasShardsToShow actors n = Has (get_or actors n None) (λ a. AreToShow a.command)
 
 -- the gate to which the table of a shard's worker leads
 abbrev pub gate_of_host : Setting → List (Option Cell) → ℕ → Option ℕ → ℕ

@@ -36,7 +36,7 @@ fn way_of(actor: &Actor) -> Way
 }
 
 /// How far the row has come that the actor with this number has.
-fn way_by(state: &State, number: usize) -> Way
+pub(crate) fn way_by(state: &State, number: usize) -> Way
     ensures { result ≡ way_at (errand_by state.now.actors.items number) }
 {
     match state.actors.get(number) {
@@ -96,7 +96,7 @@ fn gate_on(way: Way) -> u32
 }
 
 /// The block at which a row is carried, 0 where it is at none.
-fn block_on(way: Way) -> u32
+pub(crate) fn block_on(way: Way) -> u32
     ensures { result ≡ block_on way }
 {
     match way {

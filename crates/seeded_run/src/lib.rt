@@ -12,8 +12,11 @@ mod errands_due;
 mod laws;
 mod look;
 mod names_due;
+mod opening;
 mod places;
 mod reads;
+mod rows;
+mod shown_shards;
 mod shows;
 mod sights;
 mod takes;
@@ -25,4 +28,5 @@ pub use laws::{
     parts_go_on, phases_begin_and_end, scripts_run_so, somebody_goes_on, steps_keep_a_phase,
     steps_run_out, steps_tell_so, streams_run_out,
 };
+pub use opening::open_core;
 pub use seeded_turns::Schedule;

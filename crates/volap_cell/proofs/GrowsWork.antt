@@ -21,16 +21,19 @@ use Rattle.shard_plan.specs.declared.action.Load.{Load}
 use Rattle.shard_store.specs.declared.gate.Gate.{Gate}
 use Rattle.shard_store.specs.declared.gate.Phase.{Phase}
 use Rattle.shard_store.specs.declared.queue.Queue.{Queue}
+use Rattle.tree_shape.specs.Counts.{Each}
 use Rattle.tree_shape.specs.Shape.{Shape}
+use Rattle.tree_shape.proofs.Divisions.{each-map}
 use Rattle.volap_cell.specs.Growing.{IsUnder}
 use Rattle.volap_cell.specs.Setting.{Setting, site_in}
-use Rattle.volap_cell.specs.Values.{JobValue}
-use Rattle.volap_cell.specs.Working.{IsDeclinedFor, Working, IsReadLoad, IsAhead, IsPlanned, IsBalancing, Balancing}
+use Rattle.volap_cell.specs.Values.{BuildingValue, CollectingValue, JobValue}
+use Rattle.volap_cell.specs.Working.{HasBegun, IsBuilding, IsCollected, IsDeclinedFor, Working, IsReadLoad, IsAhead, IsPlanned, IsBalancing, Balancing}
 use Rattle.volap_cell.specs.declared.command.Balance.{Balance}
 use Rattle.volap_cell.specs.declared.command.Command.{Command}
 use Rattle.volap_cell.specs.declared.command.Work.TheVariants as work_is
 use Rattle.volap_cell.proofs.Grows.{comes-stays, live-stays, on-stays, Any-weaker}
 use Rattle.volap_cell.proofs.GrowsRows.{under-grown, under-was}
+use Rattle.volap_cell.proofs.Knowing.{insert-older}
 
 -- an event that isn't work of a command
 pub work-same : (e : Event) (h : List Event) (p : ℕ) → is_work_of p e ≡ false → work (e ∷ h) p ≡ work h p
@@ -53,6 +56,40 @@ declined-grown s e h placed of job why began i = record {
   cause = i.cause;
 }
 
+-- rows that began stay begun
+pub begun-grown : (e : Event) (h : List Event) (rows : List Row) → Each (HasBegun h) rows → Each (HasBegun (e ∷ h)) rows
+begun-grown e h rows all = each-map (HasBegun h) (HasBegun (e ∷ h)) rows (λ r o. (o.0, insert-older e h r.no o.0 o.1, o.2)) all
+
+-- what a job has collected, and what it has built of that
+pub collected-grown : (e : Event) (h : List Event) (blocks : ℕ → Block) (trees : ℕ → Gate) (queues : ℕ → Queue) (phases : ℕ → Option Phase) (active : ℕ → ℕ) (shape : ℕ → Shape) (k : CollectingValue)
+    → IsCollected h blocks trees queues phases active shape k → IsCollected (e ∷ h) blocks trees queues phases active shape k
+collected-grown e h blocks trees queues phases active shape k o = record {
+  drained = o.drained;
+  at_blocks = o.at_blocks;
+  named = begun-grown e h o.at_blocks o.named;
+  rows = o.rows;
+  collecting = o.collecting;
+  upto = o.upto;
+  blocks_first = o.blocks_first;
+}
+
+pub building-grown : (s : Setting) (e : Event) (h : List Event) (blocks : ℕ → Block) (made : ℕ → Bool) (trees : ℕ → Gate) (queues : ℕ → Queue) (phases : ℕ → Option Phase) (active : ℕ → ℕ) (shape : ℕ → Shape) (purse : List Spare) (b : BuildingValue)
+    → IsBuilding s h blocks made trees queues phases active shape purse b → IsBuilding s (e ∷ h) blocks made trees queues phases active shape purse b
+building-grown s e h blocks made trees queues phases active shape purse b o = record {
+  drained = o.drained;
+  upto = o.upto;
+  phase_is = o.phase_is;
+  at_blocks = o.at_blocks;
+  named = begun-grown e h o.at_blocks o.named;
+  read = o.read;
+  built = o.built;
+  purse_was = o.purse_was;
+  purse_now = o.purse_now;
+  purse_is = o.purse_is;
+  trees_are = o.trees_are;
+  in_cells = o.in_cells;
+}
+
 module _ (s : Setting) (e : Event) (h : List Event) (stay : ShardsStay s.workers e h) where
   -- each command began before
   pub working-grown : (blocks : ℕ → Block) (made : ℕ → Bool) (trees : ℕ → Gate) (phases : ℕ → Option Phase) (active : ℕ → ℕ) (queues : ℕ → Queue) (purses : ℕ → List Spare) (commands : ℕ → Option Command) (jobs : ℕ → Option JobValue) (gate : ℕ → ℕ) (shape : ℕ → Shape) (placed : ℕ → Bool)
@@ -65,8 +102,8 @@ module _ (s : Setting) (e : Event) (h : List Event) (stay : ShardsStay s.workers
     unspent = i.unspent;
     declined = λ a j c why is by st. declined-grown s e h placed c.of j why (began a c by) (i.declined a j c why is by st);
     frozen = i.frozen;
-    collected = i.collected;
-    building = i.building;
+    collected = λ a j k is st. collected-grown e h blocks trees queues phases active shape k (i.collected a j k is st);
+    building = λ a j b is st. building-grown s e h blocks made trees queues phases active shape (purses a) b (i.building a j b is st);
   }
 
   -- Balances.

@@ -359,4 +359,4 @@ module _ (s : Setting) (set_ok : IsSetting s) (spots : List Spot) (first first_g
   }
 
   pub is-opened : IsOpened s cells actors
-  is-opened = record { world = w; is = is-world; opening = opening; inv = opening-inv s w set_ok opening }
+  is-opened = record { places = long; count = long-actors; world = w; is = is-world; opening = opening; inv = opening-inv s w set_ok opening }

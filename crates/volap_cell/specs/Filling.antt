@@ -18,7 +18,7 @@ use Rattle.shard_store.specs.declared.gate.Gate.{Gate}
 use Rattle.tree_shape.specs.Trees.{leaf_without_rows}
 use Rattle.volap_cell.specs.Cells.{CellValue, FreeCell, ImageCell, DeskCell, MapCell, GateCell, BlockCell, cell_of}
 use Rattle.volap_cell.specs.Opening.{IsOpening, IsFresh}
-use Rattle.volap_cell.specs.Setting.{Setting}
+use Rattle.volap_cell.specs.Setting.{Setting, actor_count, cell_count}
 use Rattle.volap_cell.specs.State.{Has, IsWorldOf}
 use Rattle.volap_cell.specs.Steps.{Inv}
 use Rattle.volap_cell.specs.Values.{ActorValue, actor_of}
@@ -120,8 +120,10 @@ actor_or s a (Some x) = actor_of x
 abbrev pub world_of : Setting → List (Option Cell) → List (Option Actor) → World
 world_of s cells actors = record { cells = λ y. cell_or (get_or cells y None); actors = λ a. actor_or s a (get_or actors a None) }
 
--- The vectors are an opening, which meets the invariant.
+-- The vectors are an opening, which meets the invariant; each cell and each actor has its place in them.
 pub record IsOpened (s : Setting) (cells : List (Option Cell)) (actors : List (Option Actor)) : Type 0 where
+  pub places : length cells ≡ cell_count s
+  pub count : length actors ≡ actor_count s
   pub world : World
   pub is : IsWorldOf cells actors world
   pub opening : IsOpening s world

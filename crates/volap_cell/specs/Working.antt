@@ -8,7 +8,7 @@ use Rattle.describing_set.specs.declared.plane.Plane.{Plane}
 use Rattle.cell_stock.specs.Stock.{PurseValue}
 use Rattle.cell_stock.specs.declared.purse.Spare.{Spare}
 use Rattle.link_descent.specs.declared.entered.Fresh.{Fresh}
-use Rattle.row_ledger.specs.Past.{Ack, acked, before, work, Step}
+use Rattle.row_ledger.specs.Past.{Ack, Insert, acked, before, insert_at, work, Step}
 use Rattle.row_ledger.specs.Bounds.{may}
 use Rattle.row_ledger.specs.Shards.{Place, comes_from, frontier, is_live, is_on, place}
 use Rattle.row_ledger.specs.Work.{AreReadOf, IsCause, Reading, Settles, loads as loads_of, is_done}
@@ -72,10 +72,15 @@ pub record IsFrozenFor (s : Setting) (trees : ℕ → Gate) (phases : ℕ → Op
   pub move : (worker : ℕ) → job.to ≡ Some worker → f.plane ≡ None
   pub plane : (p : Plane) → f.plane ≡ Some p → IsHierarchyPlane s.hierarchy p
 
+-- the row of an insert that began
+abbrev pub HasBegun : List Event → Row → Type 0
+HasBegun history r = (i : Insert) × (insert_at history r.no ≡ Some i) × (i.row ≡ r)
+
 -- The rows collected are those at the blocks read and then the first ones of the queue.
-pub record IsCollected (blocks : ℕ → Block) (trees : ℕ → Gate) (queues : ℕ → Queue) (phases : ℕ → Option Phase) (active : ℕ → ℕ) (shape : ℕ → Shape) (c : CollectingValue) : Type 0 where
+pub record IsCollected (history : List Event) (blocks : ℕ → Block) (trees : ℕ → Gate) (queues : ℕ → Queue) (phases : ℕ → Option Phase) (active : ℕ → ℕ) (shape : ℕ → Shape) (c : CollectingValue) : Type 0 where
   pub drained : active c.frozen.gate ≡ 0
   pub at_blocks : List Row
+  pub named : Each (HasBegun history) at_blocks
   pub rows : c.rows ≡ at_blocks ++ take c.queued (queues c.frozen.gate).rows
   pub collecting : IsCollecting (cells_at blocks trees c.frozen.gate) (shape c.frozen.gate) c.items c.read (numbers at_blocks)
   pub upto : (n : ℕ) → phases c.frozen.gate ≡ Some (phase.Frozen n) → c.queued ≤ n
@@ -83,11 +88,12 @@ pub record IsCollected (blocks : ℕ → Block) (trees : ℕ → Gate) (queues :
 
 -- The trees are built of all rows of the old tree and of the queue as it was when the shard was frozen; the blocks from the end of
 -- the list on are in their cells.
-pub record IsBuilding (s : Setting) (blocks : ℕ → Block) (made : ℕ → Bool) (trees : ℕ → Gate) (queues : ℕ → Queue) (phases : ℕ → Option Phase) (active : ℕ → ℕ) (shape : ℕ → Shape) (purse : List Spare) (b : BuildingValue) : Type 0 where
+pub record IsBuilding (s : Setting) (history : List Event) (blocks : ℕ → Block) (made : ℕ → Bool) (trees : ℕ → Gate) (queues : ℕ → Queue) (phases : ℕ → Option Phase) (active : ℕ → ℕ) (shape : ℕ → Shape) (purse : List Spare) (b : BuildingValue) : Type 0 where
   pub drained : active b.frozen.gate ≡ 0
   pub upto : ℕ
   pub phase_is : phases b.frozen.gate ≡ Some (phase.Frozen upto)
   pub at_blocks : List Row
+  pub named : Each (HasBegun history) at_blocks
   pub read : IsCollecting (cells_at blocks trees b.frozen.gate) (shape b.frozen.gate) [] b.read (numbers at_blocks)
   pub built : List Fresh
   pub purse_was : PurseValue
@@ -117,8 +123,8 @@ pub record Working (s : Setting) (history : List Event) (blocks : ℕ → Block)
   pub unspent : (a : ℕ) (j : JobValue) → jobs a ≡ Some j → frozen_in j.stage ≡ None → purses a ≡ []
   pub declined : (a : ℕ) (j : JobValue) (c : Command) (why : Decline) → jobs a ≡ Some j → commands a ≡ Some c → j.stage ≡ IsDeclined why → IsDeclinedFor s history placed c.of j why
   pub frozen : (a : ℕ) (j : JobValue) (f : Frozen) → jobs a ≡ Some j → frozen_in j.stage ≡ Some f → IsFrozenFor s trees phases gate (purses a) j f
-  pub collected : (a : ℕ) (j : JobValue) (k : CollectingValue) → jobs a ≡ Some j → j.stage ≡ Collects k → IsCollected blocks trees queues phases active shape k
-  pub building : (a : ℕ) (j : JobValue) (b : BuildingValue) → jobs a ≡ Some j → j.stage ≡ Builds b → IsBuilding s blocks made trees queues phases active shape (purses a) b
+  pub collected : (a : ℕ) (j : JobValue) (k : CollectingValue) → jobs a ≡ Some j → j.stage ≡ Collects k → IsCollected history blocks trees queues phases active shape k
+  pub building : (a : ℕ) (j : JobValue) (b : BuildingValue) → jobs a ≡ Some j → j.stage ≡ Builds b → IsBuilding s history blocks made trees queues phases active shape (purses a) b
 
 -- Balances.
 

@@ -1,6 +1,6 @@
 use Rattle.row_ledger.specs.declared.page.Page.TheVariants.{Tree}
-use Rattle.volap_cell.specs.declared.kind.Kind.TheVariants.{Note}
-use Rattle.seeded_run.proofs.ShowsReady.{can-see-in, ended-ready, gate-so, seen-so, shown-ready, tells-end, tells-page}
+use Rattle.seeded_run.proofs.Afterwards.{noted-step}
+use Rattle.seeded_run.proofs.ShowsReady.{can-see-in, ended-ready, gate-so, seen-so, shown-ready, tells-page}
 use Rattle.seeded_run.proofs.shows.show.Goals as goal
 
 pub tree_page_at-requires-clause-can : goal.tree_page_at-requires-clause-can
@@ -21,8 +21,13 @@ note_ended-requires-clause-ready c =
 
 pub returns-in-Ok : goal.returns-in-Ok
 returns-in-Ok c =
-    record { made = (Note, c.note_shown.ensures.stepped, tells-page c.ledger_place-ledger.result c.args.state.now.cells.items c.note_shown.new.state.cells.items c.args.state.now.actors.items c.note_shown.new.state.actors.items c.ledger_place-ledger.ensures c.args.number (Tree c.in-Ok.page) c.note_shown.ensures.told) }
+    record {
+      made = noted-step c.args.h.now c.args.number c.ledger_place-ledger.result c.args.state.now.cells.items c.note_shown.new.state.cells.items c.args.state.now.actors.items c.note_shown.new.state.actors.items c.ledger_place-ledger.ensures c.note_shown.ensures.stepped
+          (tells-page c.args.number c.ledger_place-ledger.result c.args.state.now.cells.items c.note_shown.new.state.cells.items c.args.state.now.actors.items c.note_shown.new.state.actors.items (Tree c.in-Ok.page) c.note_shown.ensures.told);
+    }
 
 pub returns-in-Err : goal.returns-in-Err
 returns-in-Err c =
-    record { made = (Note, c.note_ended.ensures.stepped, tells-end c.ledger_place-ledger.result c.args.state.now.cells.items c.note_ended.new.state.cells.items c.args.state.now.actors.items c.note_ended.new.state.actors.items c.ledger_place-ledger.ensures c.note_ended.ensures.quiet) }
+    record {
+      made = noted-step c.args.h.now c.args.number c.ledger_place-ledger.result c.args.state.now.cells.items c.note_ended.new.state.cells.items c.args.state.now.actors.items c.note_ended.new.state.actors.items c.ledger_place-ledger.ensures c.note_ended.ensures.stepped c.note_ended.ensures.quiet;
+    }

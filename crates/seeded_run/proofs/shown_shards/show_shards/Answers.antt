@@ -1,0 +1,34 @@
+use Rattle.row_ledger.specs.declared.page.Page.TheVariants.{Shards}
+use Rattle.seeded_run.proofs.Afterwards.{noted-step}
+use Rattle.seeded_run.proofs.ShardsReady.{lines-ready, lines-so, no-lines-ready, quiet-in}
+use Rattle.seeded_run.proofs.ShowsReady.{tells-page}
+use Rattle.seeded_run.proofs.shown_shards.show_shards.Goals as goal
+
+pub shards_page-requires-clause-quiet : goal.shards_page-requires-clause-quiet
+shards_page-requires-clause-quiet c =
+    quiet-in c.args.h.now c.args.with.now c.args.state.now.cells.items c.args.state.now.actors.items c.requires.core c.args.number c.requires.within c.requires.due c.requires.shows c.ledger_place-ledger.result c.ledger_place-ledger.ensures
+
+pub note_shown-requires-clause-ready : goal.note_shown-requires-clause-ready
+note_shown-requires-clause-ready c =
+    lines-ready c.args.h.now c.args.with.now c.args.state.now.cells.items c.args.state.now.actors.items c.requires.core c.args.number c.requires.within c.requires.due c.requires.shows c.ledger_place-ledger.result c.ledger_place-ledger.ensures c.in-Ok.lines
+
+pub note_shown-requires-clause-seen : goal.note_shown-requires-clause-seen
+note_shown-requires-clause-seen c =
+    lines-so c.args.h.now c.args.with.now c.args.state.now.cells.items c.args.state.now.actors.items c.requires.core c.args.number c.requires.within c.requires.due c.requires.shows c.ledger_place-ledger.result c.ledger_place-ledger.ensures c.in-Ok.lines c.in-Ok.ensures.page
+
+pub note_ended-requires-clause-ready : goal.note_ended-requires-clause-ready
+note_ended-requires-clause-ready c =
+    no-lines-ready c.args.h.now c.args.with.now c.args.state.now.cells.items c.args.state.now.actors.items c.requires.core c.args.number c.requires.within c.requires.due c.requires.shows c.ledger_place-ledger.result c.ledger_place-ledger.ensures
+
+pub returns-in-Ok : goal.returns-in-Ok
+returns-in-Ok c =
+    record {
+      made = noted-step c.args.h.now c.args.number c.ledger_place-ledger.result c.args.state.now.cells.items c.note_shown.new.state.cells.items c.args.state.now.actors.items c.note_shown.new.state.actors.items c.ledger_place-ledger.ensures c.note_shown.ensures.stepped
+          (tells-page c.args.number c.ledger_place-ledger.result c.args.state.now.cells.items c.note_shown.new.state.cells.items c.args.state.now.actors.items c.note_shown.new.state.actors.items (Shards c.in-Ok.lines) c.note_shown.ensures.told);
+    }
+
+pub returns-in-Err : goal.returns-in-Err
+returns-in-Err c =
+    record {
+      made = noted-step c.args.h.now c.args.number c.ledger_place-ledger.result c.args.state.now.cells.items c.note_ended.new.state.cells.items c.args.state.now.actors.items c.note_ended.new.state.actors.items c.ledger_place-ledger.ensures c.note_ended.ensures.stepped c.note_ended.ensures.quiet;
+    }
