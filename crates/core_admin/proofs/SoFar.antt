@@ -1,17 +1,25 @@
 -- What is known of a job that collects, and what is to be shown once it has collected more.
 use Rattle.std.proofs.Common.{◌≡◌, ℕ, ◌+◌, List, [], length, Some, None, sym, ap, ◌∙◌, subst}
 use Rattle.cell_stock.specs.declared.purse.Spare.{Spare}
+use Rattle.dim_hierarchy.specs.declared.row.Row.{Row}
+use Rattle.row_ledger.specs.declared.event.Event.{Event}
+use Rattle.tree_shape.specs.Counts.{Each}
+use Rattle.tree_shape.proofs.Divisions.{each-map}
 use Rattle.volap_cell.specs.AdminKinds.{HasJob, cells_needed, spent_in}
 use Rattle.volap_cell.specs.Ghost.{Ghost}
 use Rattle.volap_cell.specs.Invariant.{InvWith}
 use Rattle.volap_cell.specs.Setting.{Setting}
 use Rattle.volap_cell.specs.Values.{CollectingValue, JobValue, StageValue, Builds, Collects, IsDeclined}
-use Rattle.volap_cell.specs.View.{View, view}
-use Rattle.volap_cell.specs.Working.{IsCollected, IsFrozenFor, frozen_in}
+use Rattle.volap_cell.specs.View.{View, view, row_at, row_or}
+use Rattle.volap_cell.specs.Working.{IsCollected, IsFrozenFor, frozen_in, HasBegun}
 use Rattle.volap_cell.specs.World.{World}
 use Rattle.core_admin.proofs.Drains.{same-collecting, still-frozen}
 use Rattle.core_admin.proofs.FrozenGates.{IsGateOf, frozen-gate}
 use Rattle.core_admin.proofs.Staging.{IsAtWork}
+
+-- rows of inserts that began are those of their numbers
+pub begun-named : (h : List Event) (rows : List Row) → Each (HasBegun h) rows → Each (λ (r : Row). row_at h r.no ≡ r) rows
+begun-named h rows all = each-map (HasBegun h) (λ (r : Row). row_at h r.no ≡ r) rows (λ r o. ap row_or o.1 ∙ o.2) all
 
 module _ (s : Setting) (w : World) (n : ℕ) (g : Ghost) (i : InvWith s (view s w) g) (job : JobValue) (was : CollectingValue) (has : HasJob (w.actors n) job (Collects was)) where
   abbrev v : View
