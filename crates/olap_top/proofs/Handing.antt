@@ -45,6 +45,6 @@ cells-back [] b l at is y = cc
 cells-back (x ∷ xs) b l at is zero = sym is ∙ ap (λ (o : Option Cell). option_map_or cell_of o FreeCell) (sym at)
 cells-back (x ∷ xs) b l at is (suc y) = let other : eqb (suc y) 0 ≡ false = ne_eqb (suc y) 0 (λ e. absurd (omega (arith, e))) in rw other refl
 
-pub cell-freed : (xs : List (Option Cell)) (b : Cell) → get_or xs 0 None ≡ Some b → option_map_or cell_of (get_or (set (set xs 0 None) 0 (Some cell.Free)) 0 None) FreeCell ≡ FreeCell
+pub cell-freed : (xs : List (Option Cell)) (b : Cell) → get_or xs 0 None ≡ Some b → get_or (set (set xs 0 None) 0 (Some cell.Free)) 0 None ≡ Some cell.Free
 cell-freed [] b at = cc
 cell-freed (x ∷ xs) b at = refl

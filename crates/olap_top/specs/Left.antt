@@ -1,12 +1,12 @@
 -- What the top call leaves besides the bytes: the history, and the state of the core.
-use Rattle.std.specs.Prelude.{ℕ, ◌≡◌, ◌<◌, true, Option, Some, None, List, [], length}
+use Rattle.std.specs.Prelude.{ℕ, ◌≡◌, ◌<◌, true, Option, Some, None, List, [], get_or, length}
 use Rattle.dim_hierarchy.specs.Dimension.{Dimension}
 use Rattle.row_ledger.specs.Site.{site_of}
 use Rattle.row_ledger.specs.declared.settings.Use.{Use}
 use Rattle.script_form.specs.declared.script.Script.{Script}
 use Rattle.seeded_run.specs.Phase.{about, held}
-use Rattle.volap_cell.specs.Cells.{FreeCell}
 use Rattle.volap_cell.specs.Setting.{ledger_cell}
+use Rattle.volap_cell.specs.declared.cell.Cell.TheVariants as cell
 use Rattle.volap_cell.specs.declared.state.State.{State}
 use Rattle.olap_top.specs.OneRun.{IsRestOf, goes_in_order, setting_of, with_ledger}
 use Rattle.olap_top.specs.Outcomes.{IsAskedScript, RunsInOrder}
@@ -24,7 +24,7 @@ pub record IsHandedOut (h : List Dimension) (with : Use) (state : State) (o : Ou
   pub rest : State
   pub left : o.rest ≡ Some rest
   pub about_is : about h with rest ≡ about h with state
-  pub freed : (held h with rest).cells ledger_cell ≡ FreeCell
+  pub freed : get_or rest.cells.items ledger_cell None ≡ Some cell.Free
   pub same : with_ledger o.ledger (held h with rest) ≡ held h with state
 
 -- What a run of this script leaves, whatever its answer: the state to which its one run led from the opening, in which each row has its

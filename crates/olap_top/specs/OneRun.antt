@@ -1,5 +1,5 @@
 -- The one run of the core by which a script's history came about, and the state that is left of it.
-use Rattle.std.specs.Prelude.{ℕ, ◌≡◌, Bool, Option, Some, None, List, [], ◌∷◌, take}
+use Rattle.std.specs.Prelude.{ℕ, ◌≡◌, Bool, Option, Some, None, List, [], ◌∷◌, get_or, take}
 use Rattle.std.specs.List.{slice_index_or}
 use Rattle.rand_core.specs.Pcg32Seed.{pcg32_seed}
 use Rattle.rand_pcg.specs.Pcg.{pcg32_of_seed}
@@ -20,6 +20,7 @@ use Rattle.volap_cell.specs.Opening.{IsOpening}
 use Rattle.volap_cell.specs.Setting.{Setting, ledger_cell}
 use Rattle.volap_cell.specs.Steps.{history_in}
 use Rattle.volap_cell.specs.World.{World, change, put}
+use Rattle.volap_cell.specs.declared.cell.Cell.TheVariants as cell
 use Rattle.volap_cell.specs.declared.state.State.{State}
 use Rattle.olap_top.specs.declared.wanted.Wanted.{Wanted}
 use Rattle.olap_top.specs.declared.wanted.Wanted.TheVariants.{Step, Seeded}
@@ -79,5 +80,5 @@ with_ledger ledger w = record { cells = put (change ledger_cell FreeCell (Ledger
 -- What is left of a run: the state that it led to, but that the ledger was moved out of its cell, which is free.
 pub record IsRestOf (wanted : Wanted) (s : Script) (ledger : LedgerValue) (rest : State) : Type 0 where
   pub about_is : about s.hierarchy s.with rest ≡ setting_of s
-  pub freed : (held s.hierarchy s.with rest).cells ledger_cell ≡ FreeCell
+  pub freed : get_or rest.cells.items ledger_cell None ≡ Some cell.Free
   pub run : IsRunUpTo wanted s (with_ledger ledger (held s.hierarchy s.with rest))

@@ -10,3 +10,14 @@ mod wanted;
 pub use outcome::{Outcome, Status};
 pub use top::olap;
 pub use wanted::Wanted;
+
+#[cfg(test)]
+mod against_flat;
+#[cfg(test)]
+mod by_seed;
+#[cfg(test)]
+mod flat;
+#[cfg(test)]
+mod tests;
+#[cfg(test)]
+mod tree_tests;

@@ -1,10 +1,8 @@
-// Stands in for `seeded_run::{open_core, run_phase}` until they land.
-ghost use Rattle.std.specs.Prelude.{◌≡◌, ◌++◌, [], Bool, IfOk, OnOk, OnErr};
+// Stands in for `seeded_run::run_phase` until it lands.
+ghost use Rattle.std.specs.Prelude.{◌≡◌, ◌++◌, OnOk, OnErr};
 ghost use Rattle.seeded_run.specs.Kept.{IsBetween, IsStopped};
 ghost use Rattle.seeded_run.specs.Phase.{ClosesLast, IsCoreHeld, MayAllRun, RunsTo, about, held, is_order, phase_from};
-ghost use Rattle.seeded_run.specs.Roles.{CanOpen, roles_of};
 ghost use Rattle.seeded_turns.specs.declared.schedule.Schedule as turns;
-ghost use Rattle.volap_cell.specs.Opening.{IsOpening};
 
 use dim_hierarchy::Hierarchy;
 use row_ledger::Use;
@@ -12,17 +10,6 @@ use script_form::Command;
 use seeded_turns::Schedule;
 use std::alloc::{AllocError, Global};
 use volap_cell::State;
-
-/// The core of a script as it opens.
-pub fn open_core(_alloc: Global, h: &Hierarchy, with: &Use) -> Result<State, AllocError>
-    requires { CanOpen h.now with.now }
-    ensures core { IfOk result (IsCoreHeld h.now with.now) }
-    ensures between { IfOk result (λ x. (b : Bool) → IsBetween b (about h.now with.now x) with.now [] (held h.now with.now x)) }
-    ensures opening { IfOk result (λ x. IsOpening (about h.now with.now x) (held h.now with.now x)) }
-    ensures roles { IfOk result (λ x. (about h.now with.now x).roles ≡ roles_of with.now) }
-{
-    Err(AllocError)
-}
 
 /// Runs a phase, behind the commands that are done.
 pub fn run_phase(

@@ -20,7 +20,7 @@ returns-clause-rest c = λ h with core.
       rest = record { cells = c.put_one.new.cells; actors = c.args.state.actors };
       left = refl;
       about_is = refl;
-      freed = subst (λ (l : List (Option Cell)). option_map_or cell_of (get_or l 0 None) FreeCell ≡ FreeCell) (sym emptied) (cell-freed xs c.lift_one-cell.result at);
+      freed = subst (λ (l : List (Option Cell)). get_or l 0 None ≡ Some cell.Free) (sym emptied) (cell-freed xs c.lift_one-cell.result at);
       same = (λ k. record {
         cells = λ y. subst (λ (l : List (Option Cell)). put (change ledger_cell FreeCell (LedgerCell c.into_inner.result) ∷ []) (λ z. option_map_or cell_of (get_or l z None) FreeCell) y ≡ option_map_or cell_of (get_or xs y None) FreeCell) (sym emptied) (cells-back xs c.lift_one-cell.result c.into_inner.result at ledger y) k;
         actors = (held h with c.args.state).actors;
