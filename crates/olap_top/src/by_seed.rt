@@ -67,7 +67,9 @@ impl Known {
 fn lies_between(must: u64, answer: &Agg, may: u64) -> bool {
     let sum = answer.sum().unsigned_abs();
     let count = u64::from(sum.count_ones());
-    must & sum == must && sum & may == sum && answer.count() == count
+    let least = u128::from(must);
+    let most = u128::from(may);
+    least & sum == least && sum & most == sum && answer.count() == count
 }
 
 /// How many answers stand in a history, if each lies between its bounds.
