@@ -48,4 +48,3 @@ turns-come in_order s p from (mid ∷ more) to inv are =
       inv = turn.inv;
       grows = grown-on (history_in from.state) (history_in mid.state) (history_in to.state) before.grows (step-grows s turn.turn.made are.0.actor mid.state to.state before.inv turn.inv turn.turn.step);
     }
-

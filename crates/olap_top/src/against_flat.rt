@@ -64,7 +64,10 @@ fn push_level(text: &mut String, level: u64, count: u64, above: u64) -> Result<(
 /// The records before the first command, of two servers and so many workers and cells.
 pub(crate) fn head(alloc: Global, workers: u64, cells: u64) -> Result<String, AllocError> {
     let mut text = String::new(alloc);
-    write!(text, "volap,1\nuse,2,{workers},1,{cells}\ndim,place,3\ndim,day,1\n")?;
+    write!(
+        text,
+        "volap,1\nuse,2,{workers},1,{cells}\ndim,place,3\ndim,day,1\n"
+    )?;
     push_level(&mut text, 0, PLACES[0], 1)?;
     push_level(&mut text, 1, PLACES[1], PLACES[0])?;
     push_level(&mut text, 2, PLACES[2], PLACES[1])?;
@@ -76,7 +79,11 @@ pub(crate) fn head(alloc: Global, workers: u64, cells: u64) -> Result<String, Al
 
 /// Adds the insert with a number, whose measure is a power of two: of up to 62 inserts each has its own,
 /// so that a sum tells which rows were counted. Now and then its place isn't known.
-pub(crate) fn push_insert(text: &mut String, dice: &mut Dice, number: u64) -> Result<(), AllocError> {
+pub(crate) fn push_insert(
+    text: &mut String,
+    dice: &mut Dice,
+    number: u64,
+) -> Result<(), AllocError> {
     let server = dice.roll(2);
     let measure = 1u64 << (number % 62);
     let place = dice.roll(PLACES[2] + 1);

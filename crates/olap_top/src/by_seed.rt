@@ -145,7 +145,7 @@ fn answers_by_seeds_lie_between_their_bounds(rt: HostRuntime) -> Result<(), Fail
         words: Pcg32::new(2, 2),
     };
     for _ in 0..2000 {
-        let count = 10 + dice.roll(50);
+        let count = 6 + dice.roll(26);
         let text = script(alloc, dice, count)?;
         let seed = dice.roll(1 << 32);
         run(&rt, alloc, text.as_str().as_bytes(), seed)?;

@@ -1,6 +1,5 @@
 use Rattle.std.proofs.Common.{◌≡◌, ◌∙◌, List, [], ◌∷◌, Option, Some, None, get_or, set, refl, ap, sym, subst}
 use Rattle.std.specs.Option.{option_map_or}
-use Rattle.row_ledger.specs.LedgerValue.{LedgerValue}
 use Rattle.volap_cell.specs.Cells.{FreeCell, LedgerCell, cell_of}
 use Rattle.volap_cell.specs.Setting.{ledger_cell}
 use Rattle.volap_cell.specs.World.{change, put}

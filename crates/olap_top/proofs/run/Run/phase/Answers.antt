@@ -49,17 +49,17 @@ phase-requires-clause-told c =
     let behind = subst (λ (l : List Command). IsBehind s l run) (sym c.split_at.ensures.front) c.requires.behind in
     let grows = grows-by s c.split_at.result.0.now c.split_at.result.1.now run now behind now.schedule (turns-of s c.split_at.result.0.now c.split_at.result.1.now run now behind now.schedule ran.turns) in
     let told = c.requires.behind.told in
-    let grown : reverse c.events.result.now ≡ (grows.newer ++ told.more) ++ told.past =
-    c.events.ensures s.hierarchy s.with ∙ grows.grown ∙ ap (λ l. grows.newer ++ l) told.grown ∙ sym (append_assoc grows.newer told.more told.past) in
-    subst (λ (l : List Command). IsToldOf s.with l c.events.result.now run.teller) (take-append-drop n all)
-    (teller_law s.with (take n all) (drop n all) told.past (grows.newer ++ told.more) c.events.result.now run.teller told.told grown)
+    let grown : reverse c.events-events.result.now ≡ (grows.newer ++ told.more) ++ told.past =
+    c.events-events.ensures s.hierarchy s.with ∙ grows.grown ∙ ap (λ l. grows.newer ++ l) told.grown ∙ sym (append_assoc grows.newer told.more told.past) in
+    subst (λ (l : List Command). IsToldOf s.with l c.events-events.result.now run.teller) (take-append-drop n all)
+    (teller_law s.with (take n all) (drop n all) told.past (grows.newer ++ told.more) c.events-events.result.now run.teller told.told grown)
 
 pub phase-requires-clause-refers : goal.phase-requires-clause-refers
 phase-requires-clause-refers c =
     let s = c.args.script.now in
     let x = c.run_phase.new.state in
-    refers-part (seen_of c.args.self.now.teller) c.events.result.now
-    (subst RefersBack (sym (c.events.ensures s.hierarchy s.with)) (refers-held s.hierarchy s.with x c.in_ok-run_phase.ensures.core))
+    refers-part (seen_of c.args.self.now.teller) c.events-events.result.now
+    (subst RefersBack (sym (c.events-events.ensures s.hierarchy s.with)) (refers-held s.hierarchy s.with x c.in_ok-run_phase.ensures.core))
 
 pub returns-clause-gone : goal.returns-clause-gone
 returns-clause-gone c =
@@ -72,7 +72,7 @@ returns-clause-gone c =
     let front = c.split_at.ensures.front in
     let back = c.split_at.ensures.back in
     let behind = subst (λ (l : List Command). IsBehind s l run) (sym front) c.requires.behind in
-    let events = c.events.ensures s.hierarchy s.with in
+    let events = c.events-events.ensures s.hierarchy s.with in
     let count : run.teller.told ≡ n = c.requires.behind.told.told.told ∙ length-take-le n all c.requires.within in
     let whole : all ≡ c.split_at.result.0.now ++ c.split_at.result.1.now =
     sym (ap (λ l. l ++ c.split_at.result.1.now) front ∙ ap (λ l. take n all ++ l) back ∙ take-append-drop n all) in
@@ -81,10 +81,10 @@ returns-clause-gone c =
     subst (λ (l : List Command). HasGone s l (drop n all) run now text.items) front
     (subst (λ (l : List Command). HasGone s c.split_at.result.0.now l run now text.items) back
     (gone-run s c.split_at.result.0.now c.split_at.result.1.now run now behind ran.core ran.about ran.order ran.turns ran.between
-    (subst (λ h. HasTold s.with (c.split_at.result.0.now ++ c.split_at.result.1.now) h now.teller) events (subst (λ (l : List Command). HasTold s.with l (reverse c.events.result.now) now.teller) whole told))
+    (subst (λ h. HasTold s.with (c.split_at.result.0.now ++ c.split_at.result.1.now) h now.teller) events (subst (λ (l : List Command). HasTold s.with l (reverse c.events-events.result.now) now.teller) whole told))
     text.items
     (is
-    ∙ ap (λ k. phase_behind s.with (take k all) (drop k all) (reverse c.events.result.now)) count
+    ∙ ap (λ k. phase_behind s.with (take k all) (drop k all) (reverse c.events-events.result.now)) count
     ∙ ap (λ h. phase_behind s.with (take n all) (drop n all) h) events
     ∙ ap (λ (l : List Command). phase_behind s.with l (drop n all) (history_of s now)) (sym front)
     ∙ ap (λ (l : List Command). phase_behind s.with c.split_at.result.0.now l (history_of s now)) (sym back)))))
