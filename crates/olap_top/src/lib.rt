@@ -3,7 +3,6 @@
 
 mod outcome;
 mod run;
-mod stubs;
 mod top;
 mod wanted;
 

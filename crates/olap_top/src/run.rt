@@ -6,11 +6,10 @@ ghost use Rattle.seeded_run.specs.Phase.{ClosesLast, IsCoreHeld, MayAllRun, held
 ghost use Rattle.seeded_run.specs.Roles.{CanOpen};
 ghost use Rattle.volap_cell.specs.Steps.{history_in};
 
-use crate::stubs::run_phase;
 use answer_text::Teller;
 use row_ledger::Event;
 use script_form::{Command, Script};
-use seeded_run::open_core;
+use seeded_run::{open_core, run_phase};
 use seeded_turns::Schedule;
 use std::alloc::{AllocError, Global};
 use volap_cell::{Cell, State};
