@@ -1,7 +1,7 @@
 -- A balance's move is done, and the next action is due: its plan goes on, its loads stand as they do now, and its next job begins.
 use Rattle.std.proofs.Common.{◌≡◌, ◌≢◌, ℕ, suc, ◌+◌, ◌<◌, ◌≤◌, List, [], ◌∷◌, ◌++◌, Bool, true, false, cond, length, take, drop, reverse, slice_get, eqb, Contains, Option, Some, None, refl, sym, ap, ◌∙◌, subst, arith, All, ◌==◌, ◌||◌, eqb-true, eq-eqb, le_of_lt}
 use Rattle.std.specs.List.{AllZip, list_any}
-use Rattle.std.specs.Prelude.{count_by, IsTrue, if◌then◌else◌}
+use Rattle.std.specs.Prelude.{count_by, IsTrue}
 use Rattle.std.proofs.lemmas.Bool.{false≢true}
 use Rattle.std.proofs.lemmas.List.{reverse-append}
 use Rattle.std.proofs.lemmas.List.Sums.{sum_by-cons}
@@ -9,7 +9,7 @@ use Rattle.std.proofs.lemmas.List.Elements.{All-head, All-tail, All-weaker}
 use Rattle.dim_hierarchy.specs.declared.row.Row.{Row}
 use Rattle.row_ledger.specs.Past.{Ack, Step, acked, before, work}
 use Rattle.row_ledger.specs.Shards.{is_live, is_on, comes_from, frontier}
-use Rattle.row_ledger.specs.Work.{Reading, Settles, is_done, shard_of}
+use Rattle.row_ledger.specs.Work.{Reading, Settles, is_done}
 use Rattle.row_ledger.specs.declared.event.Event.{Event}
 use Rattle.row_ledger.specs.declared.event.Event.TheVariants.{Moved}
 use Rattle.row_ledger.proofs.Positions.{before-older}

@@ -1,38 +1,22 @@
 -- A job comes to its end: its command of one action ends in the same commit, and a balance goes on to its next action.
-use Rattle.std.proofs.Common.{◌≡◌, ◌≢◌, ℕ, ◌+◌, ◌^◌, ◌<◌, ◌≤◌, List, [], ◌∷◌, Bool, true, false, eqb, length, Option, Some, None, is_some, option_and_then, refl, sym, ap, ◌∙◌, subst, ◌⊎◌, inl, inr, arith, le_of_eq, eq-eqb, ◌==◌}
-use Rattle.std.proofs.lemmas.Bool.{false≢true, or_left, or_right}
-use Rattle.cell_stock.specs.declared.purse.Spare.{Spare}
-use Rattle.dc_node.specs.declared.block.Block.{Block}
-use Rattle.row_ledger.specs.Past.{Insert, Query, end_in, event_at, has_ended, insert_at, insert_in, is_end_of, is_over, number_in, query_at, query_in, session_in}
+use Rattle.std.proofs.Common.{◌≡◌, ◌≢◌, ℕ, ◌<◌, List, ◌∷◌, Bool, eqb, length, Option, Some, None, option_and_then, refl, sym, ap, ◌∙◌, subst, inl, inr, arith, le_of_eq, eq-eqb}
+use Rattle.std.proofs.lemmas.Bool.{or_left}
+use Rattle.row_ledger.specs.Past.{end_in, event_at, has_ended, insert_at, insert_in, is_end_of, number_in, query_at, query_in, session_in}
 use Rattle.row_ledger.specs.Right.{KeepsRight}
-use Rattle.row_ledger.specs.Shards.{is_on}
 use Rattle.row_ledger.specs.declared.event.Event.{Event}
 use Rattle.row_ledger.specs.declared.event.Event.TheVariants.{Ended}
 use Rattle.row_ledger.specs.declared.settings.How.{How}
 use Rattle.row_ledger.proofs.Older.{is_over-older}
-use Rattle.shard_store.specs.declared.gate.Gate.{Gate}
-use Rattle.shard_store.specs.declared.gate.Phase.{Phase}
-use Rattle.shard_store.specs.declared.queue.Queue.{Queue}
-use Rattle.tree_shape.specs.Shape.{Shape}
 use Rattle.tree_shape.proofs.Walks.{on_bool, eqb-eq, eqb-ne}
-use Rattle.volap_cell.specs.Ghost.{Ghost}
-use Rattle.volap_cell.specs.Invariant.{InvWith}
-use Rattle.volap_cell.specs.Numbering.{Numbering}
-use Rattle.volap_cell.specs.Setting.{Setting, actor_count, site_in}
+use Rattle.volap_cell.specs.Setting.{Setting, site_in}
 use Rattle.volap_cell.specs.Telling.{IsProgress, Telling}
-use Rattle.volap_cell.specs.Values.{JobValue, StageValue, IsCalled, IsDeclined, Collects, Builds}
-use Rattle.volap_cell.specs.View.{View}
-use Rattle.volap_cell.specs.Working.{IsBuilding, IsCollected, IsDeclinedFor, IsFrozenFor, IsJobOf, Working, frozen_in}
+use Rattle.volap_cell.specs.Values.{JobValue}
 use Rattle.volap_cell.specs.declared.command.Command.{Command}
 use Rattle.volap_cell.specs.declared.role.Role.{Role}
-use Rattle.volap_cell.specs.declared.role.Role.TheVariants.{Admin}
 use Rattle.volap_cell.proofs.Fields.{IsNewAt}
-use Rattle.volap_cell.proofs.Grows.{kind-older, kind-same}
+use Rattle.volap_cell.proofs.Grows.{kind-same}
 use Rattle.volap_cell.proofs.GrowsTold.{commands-older, ended-same, progress-grown}
-use Rattle.volap_cell.proofs.Persons.{has-job}
 use Rattle.core_image.proofs.Ends.{only-its}
-use Rattle.core_admin.proofs.JobsGoOn.{only-one}
-use Rattle.core_admin.proofs.PostponesJob.{IsNextOf}
 
 -- A command notes an event that is no beginning and no end, and ends with the next one.
 module _ (s : Setting) (h : List Event) (commands commands_now : ℕ → Option Command) (jobs jobs_now : ℕ → Option JobValue) (roles : ℕ → Role) (seen seen_now : ℕ → ℕ) (placed : ℕ → Bool) (i : Telling s h commands jobs roles seen placed)
@@ -95,43 +79,4 @@ module _ (s : Setting) (h : List Event) (commands commands_now : ℕ → Option 
           inl (or_left (has_ended h2 p) _ (or_left (is_end_of p f) (has_ended (e ∷ h) p) (eq-eqb its.of p (same ∙ at.3)))))
           (λ q. inr (at.0, at.1, turn.elsewhere at.0 (eqb-ne at.0 n q) ∙ at.2, at.3))
     ];
-  }
-
--- The job that comes next, if one does.
-
-module _ (s : Setting) (v : View) (g : Ghost) (i : InvWith s v g) (n : ℕ) (job : JobValue) (job2 : Option JobValue) (jobs_now : ℕ → Option JobValue) (new : IsNewAt jobs_now v.jobs n (Some job) job2) (h2 : List Event) (command2 : Option Command)
-    (next : (j : JobValue) → job2 ≡ Some j → IsNextOf s h2 command2 j) (commands_now : ℕ → Option Command) (its : Option Command) (turn : IsNewAt commands_now v.commands n its command2) (purses_now : ℕ → List Spare) (mine : purses_now n ≡ []) where
-  its-next : (P : ℕ → JobValue → Type 0) → ((j : JobValue) → job2 ≡ Some j → P n j) → (a : ℕ) (j : JobValue) → jobs_now a ≡ Some j → P a j
-  its-next P f a j has = on_bool (eqb a n)
-      (λ z. let x = eqb-eq a n z in subst (λ (y : ℕ). P y j) (sym x) (f j (sym new.is_there ∙ ap jobs_now (sym x) ∙ has)))
-      (λ z. let ne = eqb-ne a n z in absurd (ne (only-one s v g i a n j job (sym (new.elsewhere a ne) ∙ has) new.was_there)))
-
-  pub numbering-next : ((a : ℕ) → a ≢ n → purses_now a ≡ v.purses a) → Numbering s v.tags v.numbers v.roles v.settings v.counted_in purses_now commands_now v.taken jobs_now
-  numbering-next off =
-      let k = i.numbering in record {
-        setting = k.setting;
-        tag = k.tag;
-        number = k.number;
-        role = k.role;
-        about = k.about;
-        beyond = k.beyond;
-        nobody = λ a le. let no = k.nobody a le in
-            let lt = has-job s v i.numbering n job new.was_there in
-            let ne : a ≢ n = (λ x. absurd (omega (arith, lt, le, x))) in
-            (no.0, off a ne ∙ no.1, turn.elsewhere a ne ∙ no.2, no.3, new.elsewhere a ne ∙ no.4);
-        working = its-next (λ a j. v.roles a ≡ Admin) (λ j has. k.working n job new.was_there);
-        parts = k.parts;
-      }
-
-  pub working-next : (blocks : ℕ → Block) (made : ℕ → Bool) (trees : ℕ → Gate) (phases : ℕ → Option Phase) (active : ℕ → ℕ) (queues : ℕ → Queue) (gate : ℕ → ℕ) (shape : ℕ → Shape) (placed : ℕ → Bool)
-      → Working s h2 blocks made trees phases active queues purses_now commands_now jobs_now gate shape placed
-  working-next blocks made trees phases active queues gate shape placed = record {
-    command = its-next (λ a j. (k : Command) × (commands_now a ≡ Some k) × IsJobOf k.work j) (λ j has. let o = (next j has).whose in (o.0, turn.is_there ∙ o.1, o.2));
-    front = its-next (λ a j. is_on s.workers h2 j.shard j.worker ≡ true) (λ j has. (next j has).front);
-    to = λ a worker j. its-next (λ a j. j.to ≡ Some worker → worker < s.workers) (λ j has. (next j has).to worker) a j;
-    unspent = λ a j. its-next (λ a j. frozen_in j.stage ≡ None → purses_now a ≡ []) (λ j has none. mine) a j;
-    declined = λ a j k why has _ stage. its-next (λ a j. j.stage ≡ IsDeclined why → IsDeclinedFor s h2 placed k.of j why) (λ j has st. let no : IsCalled ≡ IsDeclined why = sym (next j has).called ∙ st in cc) a j has stage;
-    frozen = λ a j f. its-next (λ a j. frozen_in j.stage ≡ Some f → IsFrozenFor s trees phases gate (purses_now a) j f) (λ j has at. let no : None ≡ Some f = ap frozen_in (sym (next j has).called) ∙ at in cc) a j;
-    collected = λ a j k. its-next (λ a j. j.stage ≡ Collects k → IsCollected blocks trees queues phases active shape k) (λ j has at. let no : IsCalled ≡ Collects k = sym (next j has).called ∙ at in cc) a j;
-    building = λ a j k. its-next (λ a j. j.stage ≡ Builds k → IsBuilding s blocks made trees queues phases active shape (purses_now a) k) (λ j has at. let no : IsCalled ≡ Builds k = sym (next j has).called ∙ at in cc) a j;
   }

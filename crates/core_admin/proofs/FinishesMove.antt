@@ -1,8 +1,8 @@
 -- A move comes to its end: that keeps the invariant, and less is left.
-use Rattle.std.proofs.Common.{◌≡◌, ◌≢◌, ℕ, zero, suc, ◌+◌, ◌-◌, ◌*◌, ◌<◌, ◌≤◌, ◌^◌, Bool, true, false, cond, eqb, List, [], ◌∷◌, ◌++◌, length, map, take, drop, Option, Some, None, IsSome, is_some, slice_get, slice_set, refl, sym, ap, ◌∙◌, subst, ◌⊎◌, inl, inr, arith, le_of_lt, option_map, option_and_then, suc-mul, eq-eqb}
+use Rattle.std.proofs.Common.{◌≡◌, ◌≢◌, ℕ, zero, suc, ◌+◌, ◌-◌, ◌*◌, ◌<◌, ◌≤◌, ◌^◌, Bool, true, false, cond, eqb, List, [], ◌∷◌, ◌++◌, length, map, Option, Some, None, IsSome, slice_get, slice_set, refl, sym, ap, ◌∙◌, subst, ◌⊎◌, inl, inr, arith, le_of_lt, option_map, option_and_then, suc-mul, eq-eqb}
 use Rattle.std.specs.List.{AllZip, list_any}
 use Rattle.std.specs.Option.{option_map_or}
-use Rattle.std.specs.Prelude.{◌==◌, IsTrue}
+use Rattle.std.specs.Prelude.{◌==◌}
 use Rattle.std.proofs.lemmas.Bool.{cases_lt}
 use Rattle.std.proofs.lemmas.Option.{slice_get_past}
 use Rattle.cell_stock.specs.Stock.{StockValue, cells_of}
@@ -21,8 +21,8 @@ use Rattle.describing_set.specs.declared.listing.Spot.{Spot}
 use Rattle.row_ledger.specs.Laws.{AscendFrom}
 use Rattle.row_ledger.specs.Listings.{places_of}
 use Rattle.row_ledger.specs.Past.{Step, before, call_at, work}
-use Rattle.row_ledger.specs.Right.{EachEvent, KeepsRight, MayEnd, Stands}
-use Rattle.row_ledger.specs.Shards.{frontier, is_live, is_on}
+use Rattle.row_ledger.specs.Right.{KeepsRight}
+use Rattle.row_ledger.specs.Shards.{is_live, is_on}
 use Rattle.row_ledger.specs.Work.{DidOnly, is_known}
 use Rattle.row_ledger.specs.declared.event.Event.{Event}
 use Rattle.row_ledger.specs.declared.event.Event.TheVariants.{Ended, Moved}
@@ -44,15 +44,15 @@ use Rattle.tree_shape.specs.Laws.{CollectEndLaw, OtherLaw}
 use Rattle.tree_shape.specs.Shape.{Shape, nodes, numbers}
 use Rattle.tree_shape.specs.Trees.{IsTree}
 use Rattle.tree_shape.proofs.Visits.{times-append}
-use Rattle.tree_shape.proofs.Walks.{on_bool, eqb-eq, eqb-ne, eqb-no, eqb-self, same_is, same_not}
+use Rattle.tree_shape.proofs.Walks.{on_bool, eqb-eq, eqb-ne, eqb-no, eqb-self}
 use Rattle.volap_cell.specs.AdminKinds.{DoesFinishMove, Finishes, PushesBoth}
 use Rattle.volap_cell.specs.Cells.{BlockCell, CellValue, DeskCell, FreeCell, GateCell, ImageCell, LedgerCell, MapCell, OfStock, RegistryCell, StockCell, active_in, block_in, gate_shard, gone_in, has_block, ledger_in, phase_of, pins_in, queue_in, tag_of, way_in, way_to_tree}
 use Rattle.volap_cell.specs.Commands.{after_action, owes}
-use Rattle.volap_cell.specs.Falls.{actions_left, control_of, job_left, left, of_work, plenty, stage_left}
+use Rattle.volap_cell.specs.Falls.{actions_left, control_of, job_left, left, of_work, plenty}
 use Rattle.volap_cell.specs.Errands.{ReadPart}
 use Rattle.volap_cell.specs.Ghost.{AGate, Ghost, InJob, InPurse, InTree, Owner, is_in_job}
 use Rattle.volap_cell.specs.Growing.{Growing, Queueing, table_of}
-use Rattle.volap_cell.specs.ImageKinds.{doing}
+use Rattle.volap_cell.specs.ImageKinds.{Pushes, doing}
 use Rattle.volap_cell.specs.Invariant.{InvWith}
 use Rattle.volap_cell.specs.Growing.{Resting}
 use Rattle.volap_cell.specs.Imaging.{Covering, Imaging}
@@ -65,7 +65,7 @@ use Rattle.volap_cell.specs.Planning.{job_for, next_job}
 use Rattle.volap_cell.specs.Querying.{IsInTreeOf, Querying}
 use Rattle.volap_cell.specs.Setting.{Setting, actor_count, cell_count, ledger_cell, site_in}
 use Rattle.volap_cell.specs.Steps.{IsKept, history_in}
-use Rattle.volap_cell.specs.Stocking.{IsWhole, cells_at, items_of_job, spent_of}
+use Rattle.volap_cell.specs.Stocking.{cells_at, items_of_job, spent_of}
 use Rattle.volap_cell.specs.Values.{ActorValue, JobValue, IsCalled}
 use Rattle.volap_cell.specs.View.{View, row_at, view}
 use Rattle.volap_cell.specs.Working.{Balancing, IsBalancing, IsJobOf, action_of, action_to, begun}
@@ -74,6 +74,7 @@ use Rattle.volap_cell.specs.declared.command.Balance.{Balance}
 use Rattle.volap_cell.specs.declared.command.Command.{Command}
 use Rattle.volap_cell.specs.declared.command.Work.{Work}
 use Rattle.volap_cell.specs.declared.command.Work.TheVariants as work_is
+use Rattle.volap_cell.specs.declared.kind.Kind.TheVariants as kind
 use Rattle.volap_cell.specs.declared.role.Role.TheVariants.{Admin}
 use Rattle.volap_cell.proofs.AdminViews.{by_finish, view-finish_move}
 use Rattle.volap_cell.proofs.Frames.{actor-at, actor-off, each-among}
@@ -82,7 +83,7 @@ use Rattle.volap_cell.proofs.GrowsReads.{ReadersTake, pinned-whole, readers-take
 use Rattle.volap_cell.proofs.Persons.{has-command}
 use Rattle.volap_cell.proofs.Grows.{call-kept, query-same}
 use Rattle.volap_cell.proofs.GrowsKnown.{AreOlder, older-rows}
-use Rattle.volap_cell.proofs.GrowsTold.{commands-older, no-work}
+use Rattle.volap_cell.proofs.GrowsTold.{commands-older}
 use Rattle.volap_cell.proofs.GrowsTrees.{growing-grown, past-there, queueing-grown}
 use Rattle.volap_cell.proofs.NotedCommands.{telling-goes-on}
 use Rattle.volap_cell.proofs.QuietHistory.{covering-quiet, desking-quiet, desks-older, imaging-quiet, inserting-quiet, lineage-quiet, placing-quiet, querying-quiet, readers-older, resting-quiet}
@@ -91,14 +92,16 @@ use Rattle.core_image.proofs.Owed.{owed-others, promises-now}
 use Rattle.volap_cell.proofs.Seen.{renewed}
 use Rattle.volap_cell.proofs.Spares.{move-blank}
 use Rattle.core_image.proofs.Jobs.{items-new, spent-new}
-use Rattle.core_admin.proofs.MoveTree.{all-rows, built, fresh-at, job-cell, filled-inside, front, inside-filled, is-gate, late, late-is, late-named, law, leads, old, owner-filled, owner-gc, phase-here, read, stand, was}
-use Rattle.core_admin.proofs.MovedKnown.{IsSameBox, rows, moved-covering, moved-desking, moved-imaging, moved-inserting, moved-querying}
+use Rattle.core_admin.proofs.MoveTree.{all-rows, built, fresh-at, job-cell, filled-inside, front, inside-filled, is-gate, late, late-is, late-named, law, leads, old, owner-filled, owner-gc, phase-here, read, was}
+use Rattle.core_admin.proofs.BalanceDone.{balancing-done, next-is, within}
+use Rattle.core_image.proofs.NextAction.{next-action}
+use Rattle.core_admin.proofs.MovedKnown.{IsSameBox, comes, rows, moved-covering, moved-desking, moved-imaging, moved-inserting, moved-querying}
 use Rattle.core_admin.proofs.MovedShards.{moved_place, rehosted}
 use Rattle.core_admin.proofs.MovesLineage.{Moving, live-same, moved-leading, moved-lineage, on-now, on-same}
 use Rattle.core_admin.proofs.MovesRows.{moved-placing, moved-resting, moved-turning, moved_ghost}
 use Rattle.core_admin.proofs.MovesShard.{gc-now, ledger-now, kept, moved-tables, registry-now, stock-now, x-now}
-use Rattle.core_admin.proofs.FinishedCommands.{numbering-next, telling-finished, working-next}
-use Rattle.core_admin.proofs.PostponesJob.{IsNextOf, job-few, off-desk}
+use Rattle.core_admin.proofs.FinishedCommands.{telling-finished}
+use Rattle.core_admin.proofs.NextJobs.{IsNextOf, job-few, numbering-next, off-desk, working-next}
 use Rattle.core_admin.proofs.TurnedCommands.{IsOffDesk, turned-desking, turned-inserting, turned-placing}
 use Rattle.core_admin.proofs.Returned.{cells-append, one}
 use Rattle.core_admin.proofs.Retiring.{Retiring, gate-old, given_to, not-new, retired-stocking}
@@ -113,6 +116,29 @@ pub record IsFinished (s : Setting) (w w2 : World) (g : Ghost) : Type 0 where
   pub newer : List Event
   pub grows : history_in w2 ≡ newer ++ history_in w
   pub falls : (left s w2 ghost_now).control < (left s w g).control
+
+-- The command of a job that moves a shard is a move, or a balance.
+finish-cases : (of : ℕ) (work k : Work) (job : JobValue) (to : ℕ) (e : Event) (led : Change) (a b : ActorValue) → work ≡ k → IsJobOf k job → job.to ≡ Some to → Finishes of k job e led a b
+    → ((b ≡ record a { purse = []; seen = b.seen; command = None; job = None }) × PushesBoth e (Ended of how_is.Fine) led b.seen × (work ≡ work_is.Move job.shard to))
+    ⊎ ((balance : Balance) × (work ≡ work_is.Balance balance)
+    × (b ≡ record a { purse = []; seen = b.seen; command = doing of (work_is.Balance (after_action true job balance)); job = next_job (after_action true job balance) }) × Pushes e 0 1 led b.seen)
+finish-cases of work (work_is.Move z there) job to e led a b is its to_is f =
+    let both : action.Move job.shard to ≡ action.Move z there = sym (ap (action_to job.shard) to_is) ∙ its in
+    let same_shard : job.shard ≡ z = cc in
+    let same_to : to ≡ there = cc in
+    let one = sym same_shard in
+    let two = sym same_to in
+    inl (f.1, f.0, is ∙ (λ k. work_is.Move (one k) (two k)))
+finish-cases of work (work_is.Split z) job to e led a b is its to_is f = (let no : action.Move job.shard to ≡ action.Split z = sym (ap (action_to job.shard) to_is) ∙ its in cc)
+finish-cases of work (work_is.Balance k) job to e led a b is its to_is f = inr (k, is, f.1, f.0)
+finish-cases of work (work_is.Insert row routed) job to e led a b is its to_is f = absurd its
+finish-cases of work work_is.Query job to e led a b is its to_is f = absurd its
+finish-cases of work (work_is.Sync server pulled) job to e led a b is its to_is f = absurd its
+finish-cases of work work_is.Barrier job to e led a b is its to_is f = absurd its
+finish-cases of work (work_is.Settle pulls) job to e led a b is its to_is f = absurd its
+finish-cases of work (work_is.Shards shown) job to e led a b is its to_is f = absurd its
+finish-cases of work (work_is.Tree z stands shown) job to e led a b is its to_is f = absurd its
+finish-cases of work (work_is.Audit shown) job to e led a b is its to_is f = absurd its
 
 -- a blank cell has no gate that counts
 blank-counts : (c : CellValue) → tag_of c ≡ OfStock → gate_shard c ≡ None → (active_in c ≡ 0) × (pins_in c ≡ 0)
@@ -137,7 +163,7 @@ same-boxes to zero (z ∷ zs) spot is = (let both : ◌≡◌ {A = Option Spot} 
 same-boxes to (suc k) (z ∷ zs) spot is = ((refl, refl), same-boxes to k zs spot is)
 
 module _ (maps : List Change) (x gc reg c led : Change) (b : ActorValue) (s : Setting) (w : World) (n : ℕ) (g : Ghost) (i : InvWith s (view s w) g) (ag : Agrees w (maps ++ x ∷ gc ∷ reg ∷ c ∷ led ∷ []) n (w.actors n)) (d : DoesFinishMove s.hierarchy maps x gc reg c led (w.actors n) b)
-    (other : OtherLaw) (ends : CollectEndLaw) (valid : IsQueueOf s.hierarchy d.gate_now.queue) (named : Each (λ (r : Row). (view s w).row r.no ≡ r) (was maps x gc reg c led b s w n g i ag d).at_blocks) where
+    (other : OtherLaw) (ends : CollectEndLaw) where
   abbrev v : View
   v = view s w
 
@@ -163,7 +189,7 @@ module _ (maps : List Change) (x gc reg c led : Change) (b : ActorValue) (s : Se
   e = Moved d.of shard d.to
 
   abbrev its-shape : Shape
-  its-shape = (law maps x gc reg c led b s w n g i ag d ends named).shape
+  its-shape = (law maps x gc reg c led b s w n g i ag d ends).shape
 
   abbrev its-command : Command
   its-command = record { of = d.of; work = d.work }
@@ -252,8 +278,8 @@ module _ (maps : List Change) (x gc reg c led : Change) (b : ActorValue) (s : Se
       drained = (was maps x gc reg c led b s w n g i ag d).drained;
       phase_x = ap phase_of old-now ∙ ap (λ (k : Gate). Some k.phase) d.retires.now;
       queue_x = ap (λ (k : CellValue). (queue_in k).rows) old-now ∙ d.retires.empty;
-      valid_x = subst (IsQueueOf s.hierarchy) (sym (ap queue_in old-now)) valid;
-      read_x = λ z. ap (times z) (ap gone_in old-now ∙ ap (λ (k : Gate). k.gone) d.retires.now) ∙ (read maps x gc reg c led b s w n g i ag d ends named).blocks z;
+      valid_x = subst (IsQueueOf s.hierarchy) (sym (ap queue_in old-now)) d.retires.valid;
+      read_x = λ z. ap (times z) (ap gone_in old-now ∙ ap (λ (k : Gate). k.gone) d.retires.now) ∙ (read maps x gc reg c led b s w n g i ag d ends).blocks z;
       purse_cell = λ z q. ap g.owner (eqb-eq z y q) ∙ owner-gc maps x gc reg c led b s w n g i ag d;
       gate_new = λ z q. ap u.gates (eqb-eq z y q) ∙ ap gate_shard gate-now ∙ ap Some d.new_is.shard_is;
       phase_new = λ z q. ap u.phases (eqb-eq z y q) ∙ ap phase_of gate-now ∙ ap Some d.new_is.phase_is;
@@ -262,21 +288,21 @@ module _ (maps : List Change) (x gc reg c led : Change) (b : ActorValue) (s : Se
       gone_new = λ z q. ap u.gone (eqb-eq z y q) ∙ ap gone_in gate-now ∙ d.new_is.gone;
       valid_new = λ z q. subst (IsQueueOf s.hierarchy) (sym (ap u.queues (eqb-eq z y q) ∙ ap queue_in gate-now)) d.new_is.valid;
       named_new = λ z q. subst (λ (rows : List Row). Each (λ (r : Row). v.row r.no ≡ r) rows)
-          (sym (ap (λ (k : ℕ). (u.queues k).rows) (eqb-eq z y q) ∙ ap (λ (k : CellValue). (queue_in k).rows) gate-now ∙ d.new_is.queue ∙ late-is maps x gc reg c led b s w n g i ag d)) (late-named maps x gc reg c led b s w n g i ag d ends named);
+          (sym (ap (λ (k : ℕ). (u.queues k).rows) (eqb-eq z y q) ∙ ap (λ (k : CellValue). (queue_in k).rows) gate-now ∙ d.new_is.queue ∙ late-is maps x gc reg c led b s w n g i ag d)) (late-named maps x gc reg c led b s w n g i ag d ends);
       blank = λ z q.
           let k = blank-counts gc.before blank.tag blank.no_gate in
           (ap v.active (eqb-eq z y q) ∙ ap active_in at-gc ∙ k.0, ap v.pins (eqb-eq z y q) ∙ ap pins_in at-gc ∙ k.1);
-      tree_new = λ z q. subst (λ (k : ℕ). IsTree (table_of s v.row) (cells_at v2.blocks v2.trees k) (shape2 k)) (sym (eqb-eq z y q)) (rw (eqb-self y) (law maps x gc reg c led b s w n g i ag d ends named).tree);
-      settled = λ z r q. rw q ((law maps x gc reg c led b s w n g i ag d ends named).settled r);
+      tree_new = λ z q. subst (λ (k : ℕ). IsTree (table_of s v.row) (cells_at v2.blocks v2.trees k) (shape2 k)) (sym (eqb-eq z y q)) (rw (eqb-self y) (law maps x gc reg c led b s w n g i ag d ends).tree);
+      settled = λ z r q. rw q ((law maps x gc reg c led b s w n g i ag d ends).settled r);
       inside_new = λ z r q inside ne.
           let there : its-shape.inside r ≡ true = subst (λ (k : Bool). (cond k its-shape (g.shape z)).inside r ≡ true) q inside in
           let off : r ≢ y = (λ k. ne (k ∙ sym (eqb-eq z y q))) in
-          let own = owner-filled maps x gc reg c led b s w n g i ag d r (filled-inside maps x gc reg c led b s w n g i ag d ends named r there off) in
+          let own = owner-filled maps x gc reg c led b s w n g i ag d r (filled-inside maps x gc reg c led b s w n g i ag d ends r there off) in
           (own, sym (eqb-eq z y q), stays has_block (λ k t t2. refl) (λ r r2. refl) (λ k k2. refl) (λ l l2. refl) r (λ k. refl) off ∙ made-filled r own);
       leads = λ z r l q inside level.
           subst (λ (k : ℕ). Each (λ (f : Entry). (p : Spare) × Among p (spent_of (v.jobs n)) × (f.stamp ≡ p.stamp)) (nodes (cells_at v2.blocks v2.trees k) r).entries) (sym (eqb-eq z y q))
-          (leads maps x gc reg c led b s w n g i ag d ends named r (subst (λ (k : Bool). (cond k its-shape (g.shape z)).inside r ≡ true) q inside));
-      built_new = λ z own. (eqb-self y, rw (eqb-self y) (inside-filled maps x gc reg c led b s w n g i ag d ends named z own));
+          (leads maps x gc reg c led b s w n g i ag d ends r (subst (λ (k : Bool). (cond k its-shape (g.shape z)).inside r ≡ true) q inside));
+      built_new = λ z own. (eqb-self y, rw (eqb-self y) (inside-filled maps x gc reg c led b s w n g i ag d ends z own));
       gates_off = λ z q. stays gate_shard (λ k t t2. refl) (λ r r2. refl) (λ k k2. refl) (λ l l2. refl) z (λ k. ap (λ (p : Gate). Some p.shard) d.retires.now) (eqb-ne z y q);
       phases_off = λ z q ne. stays phase_of (λ k t t2. refl) (λ r r2. refl) (λ k k2. refl) (λ l l2. refl) z (λ k. absurd (ne (k ∙ sym d.here))) (eqb-ne z y q);
       queues_off = λ z q ne. stays queue_in (λ k t t2. refl) (λ r r2. refl) (λ k k2. refl) (λ l l2. refl) z (λ k. absurd (ne (k ∙ sym d.here))) (eqb-ne z y q);
@@ -343,8 +369,8 @@ module _ (maps : List Change) (x gc reg c led : Change) (b : ActorValue) (s : Se
 
     rows-now : (r : ℕ) → cond ((shape2 y).placed r) 1 0 + times r (numbers (v2.queues y).rows) ≡ cond ((g.shape o).placed r) 1 0 + times r (numbers (v.queues o).rows)
     rows-now r =
-        let all = all-rows maps x gc reg c led b s w n g i ag d ends named r in
-        let tree = (law maps x gc reg c led b s w n g i ag d ends named).placed r in
+        let all = all-rows maps x gc reg c led b s w n g i ag d ends r in
+        let tree = (law maps x gc reg c led b s w n g i ag d ends).placed r in
         let queue : times r (numbers (u.queues y).rows) ≡ times r (numbers (late maps x gc reg c led b s w n g i ag d)) = ap (λ (k : List Row). times r (numbers k)) queue-now in
         let there : ◌≡◌ {A = ℕ} (cond ((shape2 y).placed r) 1 0) (cond (its-shape.placed r) 1 0) = rw (eqb-self y) refl in
         omega (arith, all, tree, queue, there)
@@ -584,3 +610,177 @@ module _ (maps : List Change) (x gc reg c led : Change) (b : ActorValue) (s : Se
         in-old : (pin : Option ℕ) → ((z : ℕ) → pin ≡ Some z → shape2 z ≡ g.shape z) → (m : ℕ) → IsInTreeOf shape2 pin m → IsInTreeOf g.shape pin m
         in-old None same m k = k
         in-old (Some z) same m k = subst (λ (t : Shape). t.placed m ≡ true) (same z refl) k
+
+  -- A balance goes on. Its loads have the shard.
+
+  module _ (balance : Balance) (works : d.work ≡ work_is.Balance balance) (stands : list_any (λ (l : Load). l.shard == shard) balance.standing ≡ true) where
+    abbrev next : Balance
+    next = after_action true d.job balance
+
+    abbrev its_now : Command
+    its_now = record { of = d.of; work = work_is.Balance next }
+
+    command-is : v.commands n ≡ Some (record { of = d.of; work = work_is.Balance balance })
+    command-is = d.command ∙ ap (doing d.of) works
+
+    bal : IsBalancing s h g.placed g.home (Some d.job) d.of balance
+    bal = subst (λ (j : Option JobValue). IsBalancing s h g.placed g.home j d.of balance) d.has.is_job (i.balancing.balance n d.of balance command-is)
+
+    is-next : next_job balance ≡ Some (begun d.job)
+    is-next = subst (λ (k : Work). IsJobOf k d.job) works its-work
+
+    calls : (call_at h d.of ≡ Some (call_is.Balance balance.most)) × (v.roles n ≡ Admin)
+    calls = subst (λ (k : Work). IsProgress s h d.of k (Some d.job) (v.roles n)) works progress
+
+    began-here : d.of < length h
+    began-here = began n its-command d.command
+
+    module _ (is : b ≡ record (w.actors n) { purse = []; seen = b.seen; command = Some its_now; job = next_job next }) (p : Pushes e 0 1 led b.seen) where
+      pushed : IsPushed e 0 1 b.seen u.history h u.promised v.promised
+      pushed = pushed-new p (ledger-now maps x gc reg c led b s w n g i ag d p.ledger p.ledger_now p.was p.is)
+
+      -- the next job is at its beginning, wherever it is
+      called : (j : JobValue) → next_job next ≡ Some j → j.stage ≡ IsCalled
+      called j has = (let k = next-action next j has in ap (λ (z : JobValue). z.stage) k.4 ∙ by next.standing k.1)
+        where
+          by : (loads : List Load) (a : Action) → (job_for loads a).stage ≡ IsCalled
+          by loads (action.Split z) = refl
+          by loads (action.Move z to) = refl
+
+      abbrev grown : List Event
+      grown = e ∷ h
+
+      m : Retiring s v (v2 grown (Some its_now) (next_job next) is called) g g2 n
+      m = retiring grown (Some its_now) (next_job next) is called
+
+      on-same-now : (z k : ℕ) → z ≢ shard → is_on s.workers (e ∷ h) z k ≡ is_on s.workers h z k
+      on-same-now = on-same s v (v2 grown (Some its_now) (next_job next) is called) g g2 n i (retiring grown (Some its_now) (next_job next) is called) (moving grown (Some its_now) (next_job next) is called)
+
+      on-here-now : is_on s.workers (e ∷ h) shard d.to ≡ true
+      on-here-now = on-now s v (v2 grown (Some its_now) (next_job next) is called) g g2 n i (retiring grown (Some its_now) (next_job next) is called) (moving grown (Some its_now) (next_job next) is called)
+
+      live-now : (z : ℕ) → is_live s.workers (e ∷ h) z ≡ is_live s.workers h z
+      live-now = live-same s v (v2 grown (Some its_now) (next_job next) is called) g g2 n i (retiring grown (Some its_now) (next_job next) is called) (moving grown (Some its_now) (next_job next) is called)
+
+      done : IsBalancing s (e ∷ h) g.placed g.home (next_job next) d.of next
+      done = balancing-done s h g.placed g.home d.of d.to balance d.job bal is-next d.to_is began-here stands on-same-now on-here-now live-now (comes s w g i d.of shard d.to)
+
+      nexts : (j : JobValue) → next_job next ≡ Some j → (j.stage ≡ IsCalled) × (is_on s.workers (e ∷ h) j.shard j.worker ≡ true) × ((worker : ℕ) → j.to ≡ Some worker → worker < s.workers)
+      nexts = next-is s h g.placed g.home d.of d.to balance d.job bal is-next d.to_is began-here stands on-same-now on-here-now live-now (comes s w g i d.of shard d.to)
+
+      over : (actions : List Action) × (balance.plan ≡ Some actions) × (balance.over < length actions) × (length actions ≤ balance.most)
+      over = within s h g.placed g.home d.of d.to balance d.job bal is-next d.to_is began-here stands
+
+      command-on : IsNewAt u.commands v.commands n (Some its-command) (Some its_now)
+      command-on = turn grown (Some its_now) (next_job next) is called
+
+      job-on : IsNewAt u.jobs v.jobs n (Some d.job) (next_job next)
+      job-on = new grown (Some its_now) (next_job next) is called
+
+      right-on : KeepsRight (site_in s) g.placed (e ∷ h)
+      right-on = KeepsRight-moved (site_in s) g.placed h d.of shard d.to i.telling.right (record {
+        call = call_is.Balance balance.most;
+        called = calls.0;
+        is_open = i.telling.is_open n its-command d.command;
+        asked = tt;
+        live = live;
+      })
+
+      owing-on : Owing s (e ∷ h) u.promised v.images v.desks v.roles u.commands v.counted_in
+      owing-on =
+          let owed : owed_by (Some its-command) ≡ balance.most + 1 - balance.over = ap owes works in
+          let more = over.2 in
+          let few = over.3 in
+          let moved = pushed.promised_is in
+          record {
+            promises = promises-now (actor_count s) n there v.commands u.commands (Some its-command) (Some its_now) command-on v.promised u.promised 0 1 moved (omega (arith, owed, more, few)) i.owing.promises;
+            few = (let bound = i.owing.few in omega (arith, moved, bound));
+            image = λ k lt. i.owing.image k lt ∙ sym (owed-others (actor_count s) n there v.commands u.commands (Some its-command) (Some its_now) command-on v.roles (off-desk d.work d.job its-work).no_insert refl k);
+            sessions = i.owing.sessions;
+          }
+
+      balancing : Balancing s (e ∷ h) u.commands u.jobs g.placed g.home
+      balancing = record {
+        balance = λ a r k has. on_bool (eqb a n)
+            (λ q.
+            let here = eqb-eq a n q in
+            let both : ◌≡◌ {A = Option Command} (Some its_now) (Some (record { of = r; work = work_is.Balance k })) = sym command-on.is_there ∙ ap u.commands (sym here) ∙ has in
+            let same_of : d.of ≡ r = ap (λ (z : Option Command). option_map_or (λ (t : Command). t.of) z 0) both in
+            let same_work : work_is.Balance next ≡ work_is.Balance k = ap (λ (z : Option Command). option_map_or (λ (t : Command). t.work) z work_is.Query) both in
+            let same_balance : next ≡ k = cc in
+            subst (λ (j : Option JobValue). IsBalancing s (e ∷ h) g.placed g.home j r k) (sym (ap u.jobs here ∙ job-on.is_there))
+            (subst (λ (z : ℕ). IsBalancing s (e ∷ h) g.placed g.home (next_job next) z k) same_of
+            (subst (λ (z : Balance). IsBalancing s (e ∷ h) g.placed g.home (next_job next) d.of z) same_balance done)))
+            (λ q. let ne = eqb-ne a n q in absurd (ne (only-balance grown (Some its_now) (next_job next) is called a r k (sym (command-on.elsewhere a ne) ∙ has))));
+      }
+
+      falls : control_of s (work_is.Balance next) + job_left s (v2 grown (Some its_now) (next_job next) is called) (next_job next) + (1 + cell_count s) < control_of s d.work + (2 * plenty s + 1)
+      falls =
+          let unit = 8 * plenty s in
+          let len = length over.0 in
+          let at = balance.over in
+          let was : control_of s d.work ≡ 1 + (len - (at + 1)) * unit = ap (control_of s) works ∙ ap (λ (z : Option (List Action)). 1 + actions_left s balance z) over.1 in
+          let now : control_of s (work_is.Balance next) ≡ 1 + (len - (at + 1 + 1)) * unit = ap (λ (z : Option (List Action)). 1 + actions_left s next z) over.1 in
+          let few = job-few s (v2 grown (Some its_now) (next_job next) is called) (next_job next) called in
+          elim (cases_lt (at + 1) len) [
+            | inl more ↦
+                let step : len - (at + 1) ≡ suc (len - (at + 1 + 1)) = omega (arith, more) in
+                let sum : (len - (at + 1)) * unit ≡ (len - (at + 1 + 1)) * unit + unit = ap (λ (z : ℕ). z * unit) step ∙ suc-mul (len - (at + 1 + 1)) unit in
+                omega (arith, was, now, sum, few)
+            | inr last ↦
+                let step : len - (at + 1) ≡ len - (at + 1 + 1) = omega (arith, last) in
+                let same_left : (len - (at + 1)) * unit ≡ (len - (at + 1 + 1)) * unit = ap (λ (z : ℕ). z * unit) step in
+                let nothing : next_job next ≡ None =
+                ap (λ (z : Option (List Action)). option_map (job_for next.standing) (option_and_then (λ (xs : List Action). slice_get xs next.over) z)) over.1
+                ∙ ap (option_map (job_for next.standing)) (slice_get_past over.0 (at + 1) last) in
+                let none : job_left s (v2 grown (Some its_now) (next_job next) is called) (next_job next) ≡ 0 = ap (job_left s (v2 grown (Some its_now) (next_job next) is called)) nothing in
+                omega (arith, was, now, same_left, none)
+          ]
+
+      pub goes-on : IsFinished s w w2 g
+      goes-on = together grown (Some its_now) (next_job next) is called (e ∷ []) refl pushed.history_is
+          (telling-goes-on s e h n v.commands u.commands v.jobs u.jobs v.roles v.seen u.seen g.placed
+          (record {
+            others = λ a ne. (command-on.elsewhere a ne, job-on.elsewhere a ne, seen-off grown (Some its_now) (next_job next) is called a ne);
+            all_seen = ap (λ (a : ActorValue). a.seen) (actor-now grown (Some its_now) (next_job next) is called) ∙ pushed.all_seen ∙ ap length pushed.history_is;
+          })
+          right-on i.telling its-command its_now refl refl (λ r has. let both : ◌≡◌ {A = Option ℕ} (Some d.of) (Some r) = has in let it : d.of ≡ r = cc in sym it) d.command command-on.is_there refl (call-kept e h d.of _ calls.0, calls.1))
+          owing-on
+          (lineage-1 grown (Some its_now) (next_job next) is called) (growing-1 grown (Some its_now) (next_job next) is called) (queueing-1 grown (Some its_now) (next_job next) is called) (resting-1 grown (Some its_now) (next_job next) is called)
+          (placing-1 grown (Some its_now) (next_job next) is called) (moved-inserting s w g i d.of shard d.to) (imaging-1 grown (Some its_now) (next_job next) is called) (covering-1 grown (Some its_now) (next_job next) is called)
+          (moved-desking s w g i d.of shard d.to) (querying-1 grown (Some its_now) (next_job next) is called) balancing
+          (λ j has. let k = nexts j has in record { called = k.0; whose = (its_now, refl, has ∙ (λ z. Some (record j { stage = k.0 z }))); front = k.1; to = k.2 })
+          (λ k has. let it : its_now ≡ k = cc in subst (λ (z : Command). IsOffDesk z.work) it (record { no_insert = refl; off = refl }))
+          falls
+
+  -- Either is so.
+  pub finish-move : ((k : Balance) → d.work ≡ work_is.Balance k → list_any (λ (l : Load). l.shard == shard) k.standing ≡ true) → IsFinished s w w2 g
+  finish-move stands = elim (finish-cases d.of d.work d.work d.job d.to e led (w.actors n) b refl its-work d.to_is d.finishes) [
+    | inl t ↦ ends-with t.0 t.1 t.2
+    | inr t ↦ goes-on t.0 t.1 (stands t.0 t.1) t.2 t.3
+  ]
+
+-- The step, with one table where both workers are the same, and with two else.
+
+module _ (x gc reg c led : Change) (b : ActorValue) (s : Setting) (w : World) (n : ℕ) (g : Ghost) (i : InvWith s (view s w) g) where
+  pub one-table-kept : (m : Change) (ag : Agrees w (m ∷ x ∷ gc ∷ reg ∷ c ∷ led ∷ []) n (w.actors n)) (d : DoesFinishMove s.hierarchy (m ∷ []) x gc reg c led (w.actors n) b) → IsFinished s w (after w (m ∷ x ∷ gc ∷ reg ∷ c ∷ led ∷ []) n b) g
+      → IsKept s kind.FinishMove n w (after w (m ∷ x ∷ gc ∷ reg ∷ c ∷ led ∷ []) n b) g
+  one-table-kept m ag d f = record {
+    step = record { changes = m ∷ x ∷ gc ∷ reg ∷ c ∷ led ∷ []; actor = b; agrees = ag; does = d; sight = tt; now_is = refl };
+    ghost_now = f.ghost_now;
+    holds = f.holds;
+    newer = f.newer;
+    grows = f.grows;
+    goes_on = inl (inl f.falls);
+  }
+
+  pub two-tables-kept : (m k : Change) (ag : Agrees w (m ∷ k ∷ x ∷ gc ∷ reg ∷ c ∷ led ∷ []) n (w.actors n)) (d : DoesFinishMove s.hierarchy (m ∷ k ∷ []) x gc reg c led (w.actors n) b) → IsFinished s w (after w (m ∷ k ∷ x ∷ gc ∷ reg ∷ c ∷ led ∷ []) n b) g
+      → IsKept s kind.FinishMove n w (after w (m ∷ k ∷ x ∷ gc ∷ reg ∷ c ∷ led ∷ []) n b) g
+  two-tables-kept m k ag d f = record {
+    step = record { changes = m ∷ k ∷ x ∷ gc ∷ reg ∷ c ∷ led ∷ []; actor = b; agrees = ag; does = d; sight = tt; now_is = refl };
+    ghost_now = f.ghost_now;
+    holds = f.holds;
+    newer = f.newer;
+    grows = f.grows;
+    goes_on = inl (inl f.falls);
+  }

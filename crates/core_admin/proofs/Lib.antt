@@ -39,3 +39,5 @@ mod MoveCells
 mod MovesShard
 mod MoveTree
 mod FinishesMove
+mod NextJobs
+mod SplitKnown

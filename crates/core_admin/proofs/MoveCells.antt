@@ -1,27 +1,22 @@
 -- The cells that a move changes, as the view sees them: the tables of workers, the old gate and the new one, the registry, the stock and the ledger.
-use Rattle.std.proofs.Common.{◌≡◌, ◌≢◌, ℕ, Bool, true, false, cond, eqb, List, [], ◌∷◌, ◌++◌, Option, Some, None, refl, sym, ap, ◌∙◌, subst, ◌⊎◌, inl, inr, ◌+◌, ◌<◌, arith}
+use Rattle.std.proofs.Common.{◌≡◌, ◌≢◌, ℕ, Bool, true, false, cond, eqb, List, [], ◌∷◌, ◌++◌, Option, Some, refl, sym, ap, ◌∙◌, subst, ◌⊎◌, inl, inr, arith}
 use Rattle.std.specs.FinMap as map
 use Rattle.std.specs.Ordering.{nat_cmp, is_eq}
-use Rattle.std.specs.FinMap.{nat_cmp-IsAntisymmetric}
 use Rattle.std.proofs.lemmas.Cmp.{nat_cmp_total}
-use Rattle.cell_stock.specs.Stock.{StockValue}
 use Rattle.mapping_table.specs.declared.place.Where.{Where}
 use Rattle.mapping_table.specs.declared.place.Where.TheVariants as where_is
-use Rattle.row_ledger.specs.LedgerValue.{LedgerValue}
-use Rattle.server_image.specs.Registry.{RegistryValue}
-use Rattle.shard_store.specs.declared.gate.Gate.{Gate}
 use Rattle.tree_shape.specs.Counts.{Each}
 use Rattle.tree_shape.proofs.Divisions.{each-map}
 use Rattle.tree_shape.proofs.Parts.{each-append}
-use Rattle.tree_shape.proofs.Walks.{on_bool, eqb-eq, eqb-ne, eqb-self, eqb-no}
+use Rattle.tree_shape.proofs.Walks.{on_bool, eqb-eq, eqb-ne, eqb-no}
 use Rattle.volap_cell.specs.AdminKinds.{MovesIn}
-use Rattle.volap_cell.specs.Cells.{CellValue, GateCell, LedgerCell, MapCell, MapOf, OfStock, RegistryCell, StockCell, Tag, TheLedger, TheRegistry, TheStock, gate_shard, ledger_in, registry_in, stock_in, tag_of, where_in}
+use Rattle.volap_cell.specs.Cells.{CellValue, MapCell, tag_of, where_in}
 use Rattle.volap_cell.specs.Numbering.{tag_at}
-use Rattle.volap_cell.specs.Setting.{Setting, ledger_cell, map_cell, registry_cell, stock_cell}
+use Rattle.volap_cell.specs.Setting.{Setting, map_cell}
 use Rattle.volap_cell.specs.Values.{JobValue}
 use Rattle.volap_cell.specs.World.{Change, put}
 use Rattle.volap_cell.proofs.Frames.{AreAt, first}
-use Rattle.volap_cell.proofs.Numbers.{at-ledger, at-map, at-registry, at-stock, is-map, tag-ledger, tag-map, tag-registry, tag-stock}
+use Rattle.volap_cell.proofs.Numbers.{at-map}
 
 -- One cell after any commit.
 

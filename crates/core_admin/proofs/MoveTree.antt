@@ -1,8 +1,6 @@
 -- The new tree of a shard that moves: it has the rows of the old tree and those that stood in the queue when the shard was frozen.
-use Rattle.std.proofs.Common.{◌≡◌, ◌≢◌, ℕ, zero, suc, ◌+◌, ◌<◌, ◌≤◌, Bool, true, false, cond, eqb, List, [], ◌∷◌, ◌++◌, length, map, take, drop, Option, Some, None, IsSome, All, Contains, refl, sym, ap, ◌∙◌, subst, ◌⊎◌, inl, inr, arith}
-use Rattle.std.specs.FinMap.{FinMap}
+use Rattle.std.proofs.Common.{◌≡◌, ◌≢◌, ℕ, zero, suc, ◌+◌, ◌≤◌, Bool, true, false, cond, eqb, List, [], ◌∷◌, ◌++◌, map, take, drop, Some, None, IsSome, Contains, refl, sym, ap, ◌∙◌, subst, inl, inr, arith}
 use Rattle.std.proofs.lemmas.List.{map-append}
-use Rattle.std.proofs.lemmas.List.Elements.{All-head, All-tail}
 use Rattle.cell_stock.specs.Stock.{cells_of}
 use Rattle.cell_stock.specs.declared.purse.Spare.{Spare}
 use Rattle.dim_hierarchy.specs.Row.{IsRowOf}
@@ -11,7 +9,6 @@ use Rattle.dc_node.specs.Block.{entries_in}
 use Rattle.dc_node.specs.declared.block.Block.{Block}
 use Rattle.dc_node.specs.declared.entry.Entry.{Entry}
 use Rattle.link_descent.specs.declared.entered.Fresh.{Fresh}
-use Rattle.row_ledger.specs.Past.{Insert, insert_at}
 use Rattle.row_ledger.specs.Shards.{is_live, is_on}
 use Rattle.shard_build.specs.Built.{IsBuilt, IsInCells, root_of}
 use Rattle.shard_build.specs.Building.{spare_of, spare_to}
@@ -23,12 +20,12 @@ use Rattle.tree_shape.specs.Counts.{Among, Each, same, times}
 use Rattle.tree_shape.specs.Collecting.{AfterCollecting}
 use Rattle.tree_shape.specs.Forest.{AfterBuilding, AreInCells, AreRowsOf, all_entries, filled_cells}
 use Rattle.tree_shape.specs.Laws.{CollectEndLaw}
-use Rattle.tree_shape.specs.Shape.{Shape, gate_node, node_of, nodes, numbers}
+use Rattle.tree_shape.specs.Shape.{nodes, numbers}
 use Rattle.tree_shape.proofs.Divisions.{each-both, each-map}
 use Rattle.tree_shape.proofs.Forests.{each-all}
 use Rattle.tree_shape.proofs.Parts.{all-each, among-right, each-append, each-here, each-left, each-right}
 use Rattle.tree_shape.proofs.Visits.{times-append}
-use Rattle.tree_shape.proofs.Walks.{on_bool, eqb-eq, eqb-ne, eqb-no, eqb-self, same_is, same_not}
+use Rattle.tree_shape.proofs.Walks.{on_bool, eqb-eq, eqb-ne, eqb-self, same_is, same_not}
 use Rattle.volap_cell.specs.AdminKinds.{DoesFinishMove, spent_by, spent_in, tree_of}
 use Rattle.volap_cell.specs.Cells.{GateCell, block_in, phase_of, queue_in, way_in, way_to_tree}
 use Rattle.volap_cell.specs.Ghost.{AGate, Ghost, InJob, InPurse, InTree, NotOfStock, Owner, Unused, is_in_job}
@@ -36,15 +33,16 @@ use Rattle.volap_cell.specs.Growing.{table_of}
 use Rattle.volap_cell.specs.Invariant.{InvWith}
 use Rattle.volap_cell.specs.Setting.{Setting}
 use Rattle.volap_cell.specs.Stocking.{IsWhole, cells_at, spent_of}
-use Rattle.volap_cell.specs.Values.{ActorValue, BuildingValue, JobValue, StageValue}
+use Rattle.volap_cell.specs.Values.{ActorValue}
 use Rattle.volap_cell.specs.View.{View, row_or, view}
 use Rattle.volap_cell.specs.Working.{IsBuilding, IsFrozenFor, frozen_in}
 use Rattle.volap_cell.specs.World.{Agrees, Change, World, after}
-use Rattle.volap_cell.proofs.Blanks.{among-times, spare-owner, spent-owner}
+use Rattle.volap_cell.proofs.Blanks.{spare-owner, spent-owner}
 use Rattle.volap_cell.proofs.Frames.{each-among}
 use Rattle.volap_cell.proofs.Spares.{among-cells}
 use Rattle.core_admin.proofs.BuildsBlock.{among-spent}
 use Rattle.core_admin.proofs.MovesShard.{at-x, cells-spent, contains-among, gc-now, kept}
+use Rattle.core_admin.proofs.SoFar.{begun-named}
 
 -- Lists.
 
@@ -100,7 +98,7 @@ module _ (maps : List Change) (x gc reg c led : Change) (b : ActorValue) (s : Se
   abbrev pub old : ℕ
   old = d.building.frozen.gate
 
-  pub was : IsBuilding s v.blocks v.made v.trees v.queues v.phases v.active g.shape (v.purses n) d.building
+  pub was : IsBuilding s v.history v.blocks v.made v.trees v.queues v.phases v.active g.shape (v.purses n) d.building
   was = i.working.building n d.job d.building d.has.is_job d.has.stage_is
 
   frozen : IsFrozenFor s v.trees v.phases g.gate (v.purses n) d.job d.building.frozen
@@ -180,7 +178,10 @@ module _ (maps : List Change) (x gc reg c led : Change) (b : ActorValue) (s : Se
 
   -- Rows.
 
-  module _ (ends : CollectEndLaw) (named : Each (λ (r : Row). v.row r.no ≡ r) was.at_blocks) where
+  module _ (ends : CollectEndLaw) where
+    named : Each (λ (r : Row). v.row r.no ≡ r) was.at_blocks
+    named = begun-named v.history was.at_blocks was.named
+
     pub read : AfterCollecting (table_of s v.row) (cells_at v.blocks v.trees old) (g.shape old) d.building.read (numbers was.at_blocks)
     read = ends (table_of s v.row) (cells_at v.blocks v.trees old) (g.shape old) d.building.read (numbers was.at_blocks) (i.growing.tree old whole) was.read
 

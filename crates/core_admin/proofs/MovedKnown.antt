@@ -1,6 +1,6 @@
 -- A shard moves: no shard comes from others than before, so what is said of lines of shards stays: of desks, of inserts, of what
 -- servers know, and of queries.
-use Rattle.std.proofs.Common.{◌≡◌, ◌≢◌, ℕ, ◌<◌, ◌≤◌, List, [], ◌∷◌, ◌++◌, map, length, Bool, true, false, Option, Some, None, IsSome, refl, sym, ap, ◌∙◌, subst, ◌⊎◌, inl, inr, All, Any, Contains, arith, ◌==◌, eqb-true, le_of_lt}
+use Rattle.std.proofs.Common.{◌≡◌, ℕ, List, [], ◌∷◌, Bool, true, false, Option, Some, None, refl, sym, ap, ◌∙◌, subst, ◌⊎◌, inl, inr, Contains, ◌==◌, eqb-true, le_of_lt}
 use Rattle.std.specs.Prelude.{IsTrue}
 use Rattle.std.specs.List.{AllZip, list_any}
 use Rattle.std.proofs.lemmas.List.Elements.{All-weaker}
@@ -8,44 +8,41 @@ use Rattle.dim_hierarchy.specs.declared.row.Row.{Row}
 use Rattle.describing_set.specs.DescSet.{covers}
 use Rattle.describing_set.specs.declared.listing.Spot.{Spot}
 use Rattle.dc_node.specs.declared.block.Block.{Block}
-use Rattle.query_router.specs.Desk.{DeskValue, is_refused}
+use Rattle.query_router.specs.Desk.{is_refused}
 use Rattle.query_router.specs.declared.part.Part.{Part}
 use Rattle.query_router.specs.declared.part.PartState.{PartState}
 use Rattle.query_router.specs.declared.part.PartState.TheVariants as state
 use Rattle.query_router.specs.declared.part.Want.{Want}
 use Rattle.query_router.specs.declared.part.Want.TheVariants as want_is
-use Rattle.row_ledger.specs.Bounds.{known, listing_of, may, must, published}
+use Rattle.row_ledger.specs.Bounds.{known, may, must, published}
 use Rattle.row_ledger.specs.Listings.{IsBox}
-use Rattle.row_ledger.specs.Past.{Ack, Insert, Query, acked, before, insert_at, last_of, query_at}
-use Rattle.row_ledger.specs.Shards.{comes_from, ids_made, is_live}
+use Rattle.row_ledger.specs.Past.{Ack, Query, acked, last_of, query_at}
+use Rattle.row_ledger.specs.Shards.{comes_from, is_live}
 use Rattle.row_ledger.specs.declared.event.Event.{Event}
 use Rattle.row_ledger.specs.declared.event.Event.TheVariants.{Moved}
 use Rattle.row_ledger.proofs.Descent.{comes_from-self}
 use Rattle.row_ledger.proofs.Older.{is_path-older}
 use Rattle.row_ledger.proofs.Positions.{before-older}
-use Rattle.server_image.specs.Image.{ImageValue}
 use Rattle.server_image.specs.Registry.{RegistryValue}
 use Rattle.shard_store.specs.declared.gate.Gate.{Gate}
-use Rattle.tree_shape.specs.Laws.{OtherLaw}
 use Rattle.tree_shape.specs.Queries.{IsUnfinished, fits}
 use Rattle.tree_shape.specs.Shape.{Shape, nodes}
 use Rattle.tree_shape.proofs.Walks.{on_bool}
 use Rattle.volap_cell.specs.Desking.{AreLinesApart, AreUnrelated, Desking, IsWantOf}
-use Rattle.volap_cell.specs.Errands.{ReadPart, RowWay}
+use Rattle.volap_cell.specs.Errands.{ReadPart}
 use Rattle.volap_cell.specs.Ghost.{Ghost}
 use Rattle.volap_cell.specs.Growing.{IsUnder, table_of}
-use Rattle.volap_cell.specs.Imaging.{Covering, Fits, Imaging, IsCovered, IsGrowth, IsImageOf, IsSpotOf}
+use Rattle.volap_cell.specs.Imaging.{Covering, Fits, Imaging, IsCovered, IsGrowth}
 use Rattle.volap_cell.specs.Invariant.{InvWith}
-use Rattle.volap_cell.specs.Placing.{Inserting, IsLead, IsOnWay, IsRowPart}
-use Rattle.volap_cell.specs.Querying.{HoldsOr, IsCounted, IsEndOfPart, IsInTreeOf, IsReading, IsWalk, Querying, must_hold}
+use Rattle.volap_cell.specs.Placing.{Inserting, IsLead, IsRowPart}
+use Rattle.volap_cell.specs.Querying.{HoldsOr, IsCounted, IsEndOfPart, IsInTreeOf, IsWalk, Querying, must_hold}
 use Rattle.volap_cell.specs.Setting.{Setting}
-use Rattle.volap_cell.specs.Stocking.{IsWhole, cells_at}
+use Rattle.volap_cell.specs.Stocking.{cells_at}
 use Rattle.volap_cell.specs.Values.{ReadingValue}
 use Rattle.volap_cell.specs.View.{View, row_at, view}
 use Rattle.volap_cell.specs.World.{World}
 use Rattle.volap_cell.proofs.Grows.{Any-weaker, box-older, insert-kept, insert-same, query-same, query-within, rows-same}
 use Rattle.core_image.proofs.Boxes.{All-zip, Any-zip}
-use Rattle.core_admin.proofs.Untouched.{querying-off}
 
 -- the same box of the same shard
 abbrev pub IsSameBox : Spot → Spot → Type 0

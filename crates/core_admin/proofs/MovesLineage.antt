@@ -1,12 +1,9 @@
 -- A shard moves: the worker that had it leads on to the other one, which leads to its new gate; all else leads where it did.
-use Rattle.std.proofs.Common.{◌≡◌, ◌≢◌, ℕ, ◌<◌, ◌≤◌, List, [], ◌∷◌, length, map, Bool, true, false, not, eqb, Option, Some, None, IsSome, refl, sym, ap, ◌∙◌, subst, ◌⊎◌, inl, inr, arith, ◌==◌, ◌&&◌, eqb-true, eq-eqb}
-use Rattle.std.specs.Prelude.{if◌then◌else◌, IsTrue, Contains}
-use Rattle.std.proofs.lemmas.Bool.{false≢true}
+use Rattle.std.proofs.Common.{◌≡◌, ◌≢◌, ℕ, ◌<◌, List, [], ◌∷◌, length, map, true, false, eqb, Option, Some, None, IsSome, refl, sym, ap, ◌∙◌, subst, ◌⊎◌, inl, inr, arith, ◌==◌}
+use Rattle.std.specs.Prelude.{IsTrue, Contains}
 use Rattle.std.proofs.lemmas.List.Elements.{All-weaker, Contains-append_right}
 use Rattle.describing_set.specs.Plane.{IsHierarchyPlane}
 use Rattle.describing_set.specs.declared.listing.Spot.{Spot}
-use Rattle.describing_set.specs.declared.plane.Plane.{Plane}
-use Rattle.mapping_table.specs.declared.place.Where.{Where}
 use Rattle.mapping_table.specs.declared.place.Where.TheVariants as where_is
 use Rattle.query_router.specs.Desk.{is_open}
 use Rattle.query_router.specs.declared.part.Part.{Part}
@@ -17,7 +14,6 @@ use Rattle.row_ledger.specs.declared.event.Event.{Event}
 use Rattle.row_ledger.specs.declared.event.Event.TheVariants.{Moved, Split}
 use Rattle.row_ledger.proofs.Descent.{live-last}
 use Rattle.row_ledger.proofs.Ascent.{frontier-ascends}
-use Rattle.shard_store.specs.declared.gate.Phase.{Phase}
 use Rattle.shard_store.specs.declared.gate.Phase.TheVariants.{Frozen, Gone, Open}
 use Rattle.tree_shape.proofs.Walks.{on_bool, eqb-eq, eqb-ne, eqb-no, eqb-self}
 use Rattle.volap_cell.specs.Ghost.{Ghost}
@@ -27,7 +23,7 @@ use Rattle.volap_cell.specs.Setting.{Setting, site_in}
 use Rattle.volap_cell.specs.View.{View}
 use Rattle.volap_cell.proofs.Lines.{child-comes}
 use Rattle.core_admin.proofs.MovedShards.{left-within, live-moved, moved_place, on-here, on-other, on-there, one-host}
-use Rattle.core_admin.proofs.Retiring.{Retiring, gate-old, x-old}
+use Rattle.core_admin.proofs.Retiring.{Retiring, gate-old}
 
 -- The tables and the registry. The shard goes from one worker to another one, or to the same, to the gate y.
 pub record Moving (s : Setting) (v v2 : View) (g g2 : Ghost) (n : ℕ) (m : Retiring s v v2 g g2 n) : Type 0 where

@@ -1,5 +1,5 @@
 -- A shard moves: its rows are in its new tree and its new queue, each once, and it is the shard that has them as before.
-use Rattle.std.proofs.Common.{◌≡◌, ◌≢◌, ℕ, ◌+◌, ◌≤◌, List, ◌∷◌, Bool, true, false, cond, eqb, Option, Some, None, IsSome, refl, sym, ap, ◌∙◌, subst, inl, inr, arith}
+use Rattle.std.proofs.Common.{◌≡◌, ◌≢◌, ℕ, ◌+◌, ◌≤◌, List, ◌∷◌, Bool, true, false, cond, eqb, Some, IsSome, refl, sym, ap, ◌∙◌, subst, arith}
 use Rattle.row_ledger.specs.Past.{last_of}
 use Rattle.row_ledger.specs.Shards.{comes_from, is_live}
 use Rattle.row_ledger.specs.declared.event.Event.{Event}

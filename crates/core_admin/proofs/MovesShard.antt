@@ -1,60 +1,38 @@
 -- A job that moves a shard comes to its end: what that leaves in the cells, and the new tree there.
-use Rattle.std.proofs.Common.{◌≡◌, ◌≢◌, ℕ, zero, suc, ◌+◌, ◌<◌, ◌≤◌, ◌^◌, Bool, true, false, cond, eqb, List, [], ◌∷◌, ◌++◌, length, map, take, drop, Option, Some, None, IsSome, All, Contains, refl, sym, ap, ◌∙◌, subst, ◌⊎◌, inl, inr, arith}
+use Rattle.std.proofs.Common.{◌≡◌, ◌≢◌, ℕ, zero, suc, List, [], ◌∷◌, ◌++◌, map, Some, None, Contains, refl, sym, ap, ◌∙◌, inl, inr, arith}
 use Rattle.std.specs.FinMap.{FinMap}
 use Rattle.std.specs.Ordering.{nat_cmp}
-use Rattle.std.proofs.lemmas.Bool.{false≢true}
 use Rattle.mapping_table.specs.declared.place.Where.{Where}
 use Rattle.row_ledger.proofs.Elements.{Contains-nil}
 use Rattle.cell_stock.specs.Stock.{StockValue, cells_of}
 use Rattle.cell_stock.specs.declared.purse.Spare.{Spare}
-use Rattle.dim_hierarchy.specs.Dimension.{Dimension}
-use Rattle.dim_hierarchy.specs.Row.{IsRowOf}
-use Rattle.dim_hierarchy.specs.declared.row.Row.{Row}
-use Rattle.dc_node.specs.Block.{entries_in}
-use Rattle.dc_node.specs.declared.block.Block.{Block}
-use Rattle.dc_node.specs.declared.entry.Entry.{Entry}
 use Rattle.link_descent.specs.declared.entered.Fresh.{Fresh}
 use Rattle.row_ledger.specs.LedgerValue.{LedgerValue}
 use Rattle.row_ledger.specs.declared.event.Event.{Event}
 use Rattle.row_ledger.specs.declared.event.Event.TheVariants.{Moved}
 use Rattle.server_image.specs.Registry.{RegistryValue}
-use Rattle.shard_build.specs.Built.{IsBuilt, IsInCells, root_of}
-use Rattle.shard_build.specs.Building.{spare_of, spare_to}
-use Rattle.shard_build.specs.declared.builder.Built.{Built}
-use Rattle.shard_store.specs.Gate.{IsQueueOf, root_entry}
+use Rattle.shard_build.specs.Building.{spare_of}
 use Rattle.shard_store.specs.declared.gate.Gate.{Gate}
-use Rattle.shard_store.specs.declared.gate.Phase.TheVariants.{Frozen, Gone, Open}
-use Rattle.tree_shape.specs.Counts.{Among, Each, times}
-use Rattle.tree_shape.specs.Collecting.{AfterCollecting}
-use Rattle.tree_shape.specs.Forest.{AfterBuilding, AreInCells, AreRowsOf, all_entries, filled_cells}
-use Rattle.tree_shape.specs.Laws.{CollectEndLaw, OtherLaw}
-use Rattle.tree_shape.specs.Shape.{Shape, nodes, numbers}
+use Rattle.tree_shape.specs.Counts.{Among, Each}
+use Rattle.tree_shape.specs.Forest.{filled_cells}
 use Rattle.tree_shape.proofs.Divisions.{each-both, each-map}
-use Rattle.tree_shape.proofs.Parts.{among-right, each-append, each-here, each-left, each-right}
-use Rattle.tree_shape.proofs.Visits.{times-append}
-use Rattle.tree_shape.proofs.Walks.{on_bool, eqb-eq, eqb-ne, eqb-no, eqb-self, same_is}
-use Rattle.volap_cell.specs.AdminKinds.{DoesFinishMove, Finishes, IsBuiltOf, PushesBoth, spent_by, spent_in, tree_of}
-use Rattle.volap_cell.specs.Cells.{BlockCell, CellValue, DeskCell, FreeCell, GateCell, ImageCell, LedgerCell, MapCell, MapOf, OfStock, RegistryCell, StockCell, Tag, TheLedger, TheRegistry, TheStock, active_in, block_in, gate_shard, gone_in, has_block, ledger_in, phase_of, pins_in, queue_in, registry_in, stock_in, tag_of, way_in, way_to_tree, where_in}
-use Rattle.volap_cell.specs.Ghost.{AGate, Ghost, InJob, InPurse, InTree}
-use Rattle.volap_cell.specs.Growing.{table_of}
-use Rattle.volap_cell.specs.ImageKinds.{Pushes}
+use Rattle.tree_shape.proofs.Parts.{each-append, each-left, each-right}
+use Rattle.volap_cell.specs.AdminKinds.{DoesFinishMove, Finishes, spent_by}
+use Rattle.volap_cell.specs.Cells.{BlockCell, CellValue, DeskCell, FreeCell, GateCell, ImageCell, LedgerCell, MapCell, MapOf, OfStock, RegistryCell, StockCell, Tag, TheLedger, TheRegistry, TheStock, gate_shard, ledger_in, registry_in, stock_in, tag_of, where_in}
+use Rattle.volap_cell.specs.Ghost.{Ghost}
 use Rattle.volap_cell.specs.Invariant.{InvWith}
-use Rattle.volap_cell.specs.Setting.{Setting, ledger_cell, registry_cell, site_in, stock_cell}
-use Rattle.volap_cell.specs.Stocking.{IsWhole, cells_at, spent_of}
-use Rattle.volap_cell.specs.Values.{ActorValue, BuildingValue, JobValue, StageValue}
+use Rattle.volap_cell.specs.Setting.{Setting, ledger_cell, registry_cell, stock_cell}
+use Rattle.volap_cell.specs.Values.{ActorValue, JobValue}
 use Rattle.volap_cell.specs.View.{View, view}
-use Rattle.volap_cell.specs.Working.{IsBuilding, IsFrozenFor, frozen_in}
 use Rattle.volap_cell.specs.World.{Agrees, Change, World, after}
 use Rattle.volap_cell.specs.declared.command.Work.{Work}
 use Rattle.volap_cell.specs.declared.command.Work.TheVariants as work_is
-use Rattle.volap_cell.proofs.Blanks.{spare-owner, spent-owner}
 use Rattle.volap_cell.proofs.Fields.{IsNew}
 use Rattle.volap_cell.proofs.Frames.{AreAt}
 use Rattle.volap_cell.proofs.Numbers.{at-ledger, tag-ledger, at-registry, at-stock, tag-registry, tag-stock}
-use Rattle.volap_cell.proofs.Spares.{among-cells, move-blank}
+use Rattle.volap_cell.proofs.Spares.{move-blank}
 use Rattle.volap_cell.proofs.Touches.{IsBlank, turned}
-use Rattle.core_admin.proofs.BuildsBlock.{among-spent}
-use Rattle.core_admin.proofs.MoveCells.{AreMoved, IsAnyTable, IsOneOf, any-tables, are-moved, one-right, put-is, put-keeps}
+use Rattle.core_admin.proofs.MoveCells.{AreMoved, IsAnyTable, any-tables, are-moved, one-right, put-is, put-keeps}
 
 -- a job's end leaves a ledger
 ledger-of : (of : ℕ) (work : Work) (job : JobValue) (e : Event) (l : Change) (a b : ActorValue) → Finishes of work job e l a b → (lv : LedgerValue) × (lv2 : LedgerValue) × (l.before ≡ LedgerCell lv) × (l.now ≡ LedgerCell lv2)

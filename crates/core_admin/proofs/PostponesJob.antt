@@ -9,7 +9,6 @@ use Rattle.dim_hierarchy.specs.Dimension.{Dimension}
 use Rattle.row_ledger.specs.Changes.{ShardsStay, is_quiet}
 use Rattle.row_ledger.specs.Past.{call_at, number_in}
 use Rattle.row_ledger.specs.Right.{MayEnd, shows}
-use Rattle.row_ledger.specs.Shards.{is_on}
 use Rattle.row_ledger.specs.declared.event.Event.{Event}
 use Rattle.row_ledger.specs.declared.event.Event.TheVariants.{Ended, Left}
 use Rattle.row_ledger.specs.declared.settings.Call.{Call}
@@ -29,8 +28,7 @@ use Rattle.volap_cell.specs.Ghost.{Ghost}
 use Rattle.volap_cell.specs.ImageKinds.{Pushes, doing}
 use Rattle.volap_cell.specs.Invariant.{InvWith}
 use Rattle.volap_cell.specs.Lineage.{Lineage}
-use Rattle.volap_cell.specs.Numbering.{Numbering}
-use Rattle.volap_cell.specs.Owing.{Owing, is_insert, is_insert_work, owed_by}
+use Rattle.volap_cell.specs.Owing.{Owing, owed_by}
 use Rattle.volap_cell.specs.Planning.{job_for, next_job}
 use Rattle.volap_cell.specs.Setting.{Setting, actor_count, site_in}
 use Rattle.volap_cell.specs.Steps.{IsKept, Keeps}
@@ -39,7 +37,7 @@ use Rattle.volap_cell.specs.Telling.{IsProgress, Telling}
 use Rattle.volap_cell.specs.Turning.{Turning}
 use Rattle.volap_cell.specs.Values.{ActorValue, ErrandValue, JobValue, StageValue, IsCalled, IsDeclined, IsFrozen, Collects, Builds}
 use Rattle.volap_cell.specs.View.{View, view, row_at}
-use Rattle.volap_cell.specs.Working.{Balancing, IsBalancing, IsBuilding, IsCollected, IsDeclinedFor, IsFrozenFor, IsJobOf, Working, begun, frozen_in}
+use Rattle.volap_cell.specs.Working.{Balancing, IsBalancing, IsDeclinedFor, IsJobOf, begun}
 use Rattle.volap_cell.specs.World.{World, Change, Agrees, after}
 use Rattle.volap_cell.specs.declared.command.Balance.{Balance}
 use Rattle.volap_cell.specs.declared.command.Command.{Command}
@@ -69,27 +67,9 @@ use Rattle.core_image.proofs.NextAction.{balancing-next, next-is, within}
 use Rattle.core_image.proofs.Owed.{owed-others, promises-now}
 use Rattle.core_image.proofs.Pageless.{asks_page}
 use Rattle.core_image.proofs.Remains.{control_at, control-changed}
-use Rattle.core_admin.proofs.JobsGoOn.{only-one}
+use Rattle.core_admin.proofs.NextJobs.{IsNextOf, job-few, none-insert, numbering-next, off-desk, working-next}
 use Rattle.core_admin.proofs.Returned.{Returns, gives-returns, returned, returned-stamping, returned-stocking}
 use Rattle.core_admin.proofs.TurnedCommands.{IsOffDesk, turned-desking, turned-inserting, turned-placing}
-
--- the command asks for a job: it is a split, a move or a balance
-pub off-desk : (work : Work) (job : JobValue) → IsJobOf work job → IsOffDesk work
-off-desk (work_is.Split x) job is = record { no_insert = refl; off = refl }
-off-desk (work_is.Move x to) job is = record { no_insert = refl; off = refl }
-off-desk (work_is.Balance b) job is = record { no_insert = refl; off = refl }
-off-desk (work_is.Insert row routed) job is = absurd is
-off-desk work_is.Query job is = absurd is
-off-desk (work_is.Sync server pulled) job is = absurd is
-off-desk work_is.Barrier job is = absurd is
-off-desk (work_is.Settle pulls) job is = absurd is
-off-desk (work_is.Shards shown) job is = absurd is
-off-desk (work_is.Tree x stands shown) job is = absurd is
-off-desk (work_is.Audit shown) job is = absurd is
-
-pub none-insert : (command : Option Command) → ((k : Command) → command ≡ Some k → is_insert_work k.work ≡ false) → is_insert command ≡ false
-none-insert None none = refl
-none-insert (Some k) none = none k refl
 
 -- a frozen job leaves more than one at its beginning does not
 frozen-some : (s : Setting) (v : View) (stage : StageValue) → HasFrozen stage → 1 ≤ stage_left s v stage
@@ -98,18 +78,6 @@ frozen-some s v (IsDeclined why) frozen = absurd frozen
 frozen-some s v (IsFrozen f) frozen = omega arith
 frozen-some s v (Collects c) frozen = omega arith
 frozen-some s v (Builds b) frozen = omega arith
-
--- a job at its beginning leaves so much
-pub job-few : (s : Setting) (v : View) (job : Option JobValue) → ((j : JobValue) → job ≡ Some j → j.stage ≡ IsCalled) → job_left s v job ≤ 6 * plenty s
-job-few s v None called = omega arith
-job-few s v (Some j) called = (let at : job_left s v (Some j) ≡ 6 * plenty s = ap (stage_left s v) (called j refl) in omega (arith, at))
-
--- The job that is there afterwards, if there is one, is at its beginning.
-pub record IsNextOf (s : Setting) (h : List Event) (command : Option Command) (j : JobValue) : Type 0 where
-  pub called : j.stage ≡ IsCalled
-  pub whose : (c : Command) × (command ≡ Some c) × IsJobOf c.work j
-  pub front : is_on s.workers h j.shard j.worker ≡ true
-  pub to : (worker : ℕ) → j.to ≡ Some worker → worker < s.workers
 
 module _ (c led : Change) (b : ActorValue) (s : Setting) (w : World) (n : ℕ) (g : Ghost) (i : InvWith s (view s w) g) (ag : Agrees w (c ∷ led ∷ []) n (w.actors n)) (d : DoesPostpone c led (w.actors n) b) where
   abbrev v : View
@@ -223,30 +191,9 @@ module _ (c led : Change) (b : ActorValue) (s : Setting) (w : World) (n : ℕ) (
       plain : IsOffDesk its.work
       plain = off-desk d.work job its-job
 
-      -- whoever has a job then is the actor
-      its-next : (P : ℕ → JobValue → Type 0) → ((j : JobValue) → job2 ≡ Some j → P n j) → (a : ℕ) (j : JobValue) → v2.jobs a ≡ Some j → P a j
-      its-next P f a j has = on_bool (eqb a n)
-          (λ z. let x = eqb-eq a n z in subst (λ (y : ℕ). P y j) (sym x) (f j (sym new.is_there ∙ ap v2.jobs (sym x) ∙ has)))
-          (λ z. let ne = eqb-ne a n z in absurd (ne (only-one s v g i a n j job (sym (new.elsewhere a ne) ∙ has) d.is_job)))
-
-      not-called : {A : Type 0} (f : StageValue → Option A) (j : JobValue) (x : A) → f IsCalled ≡ None → job2 ≡ Some j → f j.stage ≡ Some x → ⊥
-      not-called {A} f j x none has at = (let never : ◌≡◌ {A = Option A} None (Some x) = sym none ∙ ap f (sym (next j has).called) ∙ at in cc)
-
-      numbering-now : Numbering s v.tags v.numbers v.roles v.settings v.counted_in v2.purses v2.commands v.taken v2.jobs
-      numbering-now =
-          let k = i.numbering in record {
-            setting = k.setting;
-            tag = k.tag;
-            number = k.number;
-            role = k.role;
-            about = k.about;
-            beyond = k.beyond;
-            nobody = λ a le. let no = k.nobody a le in
-                let ne : a ≢ n = (λ x. let lt = there in absurd (omega (arith, lt, le, x))) in
-                (no.0, off a ne ∙ no.1, turn.elsewhere a ne ∙ no.2, no.3, new.elsewhere a ne ∙ no.4);
-            working = its-next (λ a j. v.roles a ≡ Admin) (λ j has. k.working n job d.is_job);
-            parts = k.parts;
-          }
+      -- the next job, over the history as it is then
+      later : (j : JobValue) → job2 ≡ Some j → IsNextOf s (e ∷ h) command2 j
+      later j has = (let k = next j has in record { called = k.called; whose = k.whose; front = on-stays s.workers e h stay j.shard j.worker ∙ k.front; to = k.to })
 
       owing-now : Owing s (e ∷ h) v2.promised v.images v.desks v.roles v2.commands v.counted_in
       owing-now = record {
@@ -274,18 +221,6 @@ module _ (c led : Change) (b : ActorValue) (s : Setting) (w : World) (n : ℕ) (
               not-taken None parts way has = cc
               not-taken (Some x) parts way has = parts (taken_by x) refl (i.numbering.working n job d.is_job)
 
-      working-now : Working s (e ∷ h) v.blocks v.made v.trees v.phases v.active v.queues v2.purses v2.commands v2.jobs g.gate g.shape g.placed
-      working-now = record {
-        command = its-next (λ a j. (k : Command) × (v2.commands a ≡ Some k) × IsJobOf k.work j) (λ j has. let o = (next j has).whose in (o.0, turn.is_there ∙ o.1, o.2));
-        front = its-next (λ a j. is_on s.workers (e ∷ h) j.shard j.worker ≡ true) (λ j has. on-stays s.workers e h stay j.shard j.worker ∙ (next j has).front);
-        to = λ a worker j. its-next (λ a j. j.to ≡ Some worker → worker < s.workers) (λ j has. (next j has).to worker) a j;
-        unspent = λ a j. its-next (λ a j. frozen_in j.stage ≡ None → v2.purses a ≡ []) (λ j has none. mine) a j;
-        declined = λ a j k why has _ stage. its-next (λ a j. j.stage ≡ IsDeclined why → IsDeclinedFor s (e ∷ h) g.placed k.of j why) (λ j has st. let no : IsCalled ≡ IsDeclined why = sym (next j has).called ∙ st in cc) a j has stage;
-        frozen = λ a j f. its-next (λ a j. frozen_in j.stage ≡ Some f → IsFrozenFor s v.trees v.phases g.gate (v2.purses a) j f) (λ j has at. absurd (not-called frozen_in j f refl has at)) a j;
-        collected = λ a j k. its-next (λ a j. j.stage ≡ Collects k → IsCollected (e ∷ h) v.blocks v.trees v.queues v.phases v.active g.shape k) (λ j has at. let no : IsCalled ≡ Collects k = sym (next j has).called ∙ at in cc) a j;
-        building = λ a j k. its-next (λ a j. j.stage ≡ Builds k → IsBuilding s (e ∷ h) v.blocks v.made v.trees v.queues v.phases v.active g.shape (v2.purses a) k) (λ j has at. let no : IsCalled ≡ Builds k = sym (next j has).called ∙ at in cc) a j;
-      }
-
       lineage-now : Lineage s (e ∷ h) u.stock v.registry v.maps v.gates v.phases g.gate
       lineage-now =
           let k = lineage-quiet s e h q v.stock v.registry v.maps v.gates v.phases g.gate i.lineage in record {
@@ -303,7 +238,7 @@ module _ (c led : Change) (b : ActorValue) (s : Setting) (w : World) (n : ℕ) (
 
       holds : InvWith s v2 g2
       holds = record {
-        numbering = numbering-now;
+        numbering = numbering-next s v g i n job job2 v2.jobs new (e ∷ h) command2 later v2.commands (Some its) turn v2.purses mine off;
         telling = telling;
         owing = owing-now;
         turning = turning-now;
@@ -326,7 +261,7 @@ module _ (c led : Change) (b : ActorValue) (s : Setting) (w : World) (n : ℕ) (
             (reading-rows-older s h some g.placed g.home older v.blocks v.trees v.gates v.phases v.pins v.desks v.roles v.commands v.taken v.reads g.shape g.counted takes
             (pinned-whole s v.tags v.numbers v.roles v.settings v.counted_in v.purses v.commands v.taken v.jobs v.gates v.phases v.pins v.reads i.numbering takes i.pinning) i.growing i.desking i.querying)
             i.querying;
-        working = working-now;
+        working = working-next s v g i n job job2 v2.jobs new (e ∷ h) command2 later v2.commands (Some its) turn v2.purses mine v.blocks v.made v.trees v.phases v.active v.queues g.gate g.shape g.placed;
         balancing = balancing;
       }
 

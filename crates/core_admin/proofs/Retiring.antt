@@ -1,6 +1,6 @@
 -- A shard's gate is retired, and open gates with trees that a job has built take its place: one after a move, and two after a split.
 -- What becomes of cells: their uses, the trees, the queues, and the inserts that are in trees.
-use Rattle.std.proofs.Common.{◌≡◌, ◌≢◌, ℕ, ◌+◌, ◌^◌, ◌<◌, ◌≤◌, Bool, true, false, cond, eqb, List, [], ◌∷◌, Option, Some, None, IsSome, refl, sym, ap, ◌∙◌, subst, ◌⊎◌, inl, inr, arith}
+use Rattle.std.proofs.Common.{◌≡◌, ◌≢◌, ℕ, ◌+◌, ◌^◌, ◌<◌, ◌≤◌, Bool, true, false, cond, eqb, [], Some, IsSome, refl, sym, ap, ◌∙◌, subst, ◌⊎◌, inl, inr, arith}
 use Rattle.std.proofs.lemmas.Bool.{false≢true}
 use Rattle.cell_stock.specs.Stock.{IsStock, cells_of}
 use Rattle.cell_stock.specs.declared.purse.Spare.{Spare}
@@ -13,7 +13,7 @@ use Rattle.tree_shape.proofs.Walks.{on_bool, eqb-eq, eqb-ne, eqb-no, eqb-self}
 use Rattle.volap_cell.specs.Ghost.{AGate, Ghost, InJob, InPurse, InTree, NotOfStock, Owner, Unused, is_in_job, is_in_purse, is_in_tree, is_unused}
 use Rattle.volap_cell.specs.Growing.{table_of}
 use Rattle.volap_cell.specs.Invariant.{InvWith}
-use Rattle.volap_cell.specs.Setting.{Setting, cell_count, first_stock_cell}
+use Rattle.volap_cell.specs.Setting.{Setting}
 use Rattle.volap_cell.specs.Stocking.{IsWhole, Stocking, cells_at, items_of_job, spent_of}
 use Rattle.volap_cell.specs.View.{View}
 use Rattle.core_tree.proofs.Spares.{in-own, other-purse}

@@ -1,8 +1,7 @@
 -- What is left of control where a gate is retired: its cells are to be given back, which is less than was left of its job.
-use Rattle.std.proofs.Common.{◌≡◌, ◌≢◌, ℕ, ◌+◌, ◌*◌, ◌<◌, ◌≤◌, Bool, true, false, cond, eqb, List, [], length, Option, Some, None, refl, sym, ap, ◌∙◌, subst, ◌⊎◌, inl, inr, arith}
+use Rattle.std.proofs.Common.{◌≡◌, ◌≢◌, ℕ, ◌+◌, ◌*◌, ◌<◌, ◌≤◌, Bool, true, false, cond, eqb, [], length, Option, Some, None, refl, sym, ap, ◌∙◌, inl, inr, arith}
 use Rattle.std.proofs.lemmas.Bool.{cases_lt}
 use Rattle.shard_store.specs.declared.gate.Phase.{Phase}
-use Rattle.shard_store.specs.declared.gate.Phase.TheVariants.{Frozen, Gone, Open}
 use Rattle.tree_shape.specs.Counts.{times}
 use Rattle.tree_shape.proofs.Walks.{on_bool, eqb-eq, eqb-ne, eqb-self, eqb-no}
 use Rattle.volap_cell.specs.Falls.{control_of, gone_left, job_left, left, of_work, plenty, stage_left}
@@ -18,7 +17,7 @@ use Rattle.volap_cell.proofs.Counting.{length-few}
 use Rattle.volap_cell.proofs.Persons.{has-job}
 use Rattle.volap_cell.proofs.Sums.{sum-beyond, sum-changed, sum-no-more}
 use Rattle.core_admin.proofs.JobsGoOn.{only-one}
-use Rattle.core_admin.proofs.Retiring.{Retiring, old-whole, x-old}
+use Rattle.core_admin.proofs.Retiring.{Retiring, old-whole}
 
 -- one summand is more by so much at most, and the others are no more
 sum-one-more : (m : ℕ) (f f2 : ℕ → ℕ) (x k : ℕ) → ((z : ℕ) → z ≢ x → f2 z ≤ f z) → f2 x ≤ f x + k → sum_below m f2 ≤ sum_below m f + k

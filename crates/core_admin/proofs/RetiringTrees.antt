@@ -1,5 +1,5 @@
 -- The same of trees, of their queues, of who is in them, and of stamps.
-use Rattle.std.proofs.Common.{◌≡◌, ◌≢◌, ℕ, ◌+◌, ◌*◌, ◌<◌, ◌≤◌, Bool, true, false, cond, eqb, List, [], ◌∷◌, ◌++◌, length, Option, Some, None, IsSome, refl, sym, ap, ◌∙◌, subst, ◌⊎◌, inl, inr, arith, append-nil}
+use Rattle.std.proofs.Common.{◌≡◌, ◌≢◌, ℕ, ◌+◌, ◌*◌, ◌<◌, ◌≤◌, true, false, eqb, List, [], ◌++◌, length, Option, Some, None, IsSome, refl, sym, ap, ◌∙◌, subst, ◌⊎◌, inl, inr, arith, append-nil}
 use Rattle.std.proofs.lemmas.Bool.{false≢true}
 use Rattle.cell_stock.specs.declared.purse.Spare.{Spare}
 use Rattle.dim_hierarchy.specs.declared.row.Row.{Row}
@@ -7,10 +7,9 @@ use Rattle.dc_node.specs.declared.entry.Entry.{Entry}
 use Rattle.dc_node.specs.declared.todo.Item.{Item}
 use Rattle.row_ledger.specs.declared.event.Event.{Event}
 use Rattle.shard_store.specs.Gate.{IsQueueOf}
-use Rattle.shard_store.specs.declared.gate.Phase.{Phase}
 use Rattle.shard_store.specs.declared.gate.Phase.TheVariants.{Frozen, Gone, Open}
 use Rattle.shard_store.specs.declared.queue.Queue.{Queue}
-use Rattle.tree_shape.specs.Counts.{Among, Each, times}
+use Rattle.tree_shape.specs.Counts.{Among, Each}
 use Rattle.tree_shape.specs.Laws.{OtherLaw}
 use Rattle.tree_shape.specs.Queries.{NoneWaits}
 use Rattle.tree_shape.specs.Shape.{Shape, nodes}
@@ -20,7 +19,7 @@ use Rattle.tree_shape.proofs.Divisions.{each-both, each-map}
 use Rattle.tree_shape.proofs.Parts.{each-append, each-here, each-left, each-right}
 use Rattle.tree_shape.proofs.Walks.{on_bool, eqb-eq, eqb-ne, eqb-self}
 use Rattle.volap_cell.specs.Errands.{AtBlock, InLeaf, RowWay, Taken, taken_by, taken_of, way_of}
-use Rattle.volap_cell.specs.Ghost.{AGate, Ghost, InJob, InPurse, InTree, Owner}
+use Rattle.volap_cell.specs.Ghost.{Ghost, InJob, InPurse, InTree, Owner}
 use Rattle.volap_cell.specs.Growing.{Growing, IsUnder, Queueing, Resting, table_of}
 use Rattle.volap_cell.specs.Invariant.{InvWith}
 use Rattle.volap_cell.specs.Querying.{Pinning}
@@ -38,8 +37,8 @@ use Rattle.volap_cell.proofs.Spares.{among-cells}
 use Rattle.volap_cell.proofs.Sums.{sum-some}
 use Rattle.core_tree.proofs.Carriers.{purse-owned}
 use Rattle.core_tree.proofs.Spares.{spares-distinct, spares-from}
-use Rattle.core_admin.proofs.Retiring.{Retiring, gate-old, not-new, old-whole, whole-back, x-old}
-use Rattle.core_admin.proofs.Untouched.{expects-off, growing-off, apart as apart-off, spares-off}
+use Rattle.core_admin.proofs.Retiring.{Retiring, gate-old, not-new, old-whole, whole-back}
+use Rattle.core_admin.proofs.Untouched.{expects-off, apart as apart-off, spares-off}
 
 -- an actor that has a row has a part
 way-taken : (s : Setting) (w : World) (a : ℕ) (way : RowWay) → (view s w).ways a ≡ Some way → (t : Taken) × ((view s w).taken a ≡ Some t)

@@ -8,8 +8,7 @@ mod finishes;
 mod freezes;
 mod trees;
 
-pub use builds::build_block;
+pub use builds::{build_block, postpone};
 pub use collects::{collect_block, collect_row};
 pub use freezes::{drained, freeze};
 pub use trees::build_trees;
-pub use builds::{build_block, postpone};

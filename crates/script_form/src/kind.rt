@@ -66,7 +66,13 @@ fn is_read(kind: Kind) -> bool
     ensures { result ≡ is_read kind }
 {
     match kind {
-        Kind::Split | Kind::Move | Kind::Balance | Kind::Shards | Kind::Audit => false,
+        Kind::Sync
+        | Kind::Split
+        | Kind::Move
+        | Kind::Balance
+        | Kind::Settle
+        | Kind::Shards
+        | Kind::Audit => false,
         _ => true,
     }
 }

@@ -31,6 +31,14 @@ pub mod Begins
 pub mod Takings
 pub mod DueParts
 pub mod Holds
+pub mod Held
+pub mod Turns
+pub mod RunsOnly
+pub mod WholePhases
+pub mod Begun
+pub mod Goings
+pub mod Firstly
+pub mod StepsReady
 pub mod Fallbacks
 pub mod PartsReady
 pub mod DueReads

@@ -15,10 +15,12 @@ pub mod Told
 pub mod Commands
 pub mod Kept
 pub mod Arms
+pub mod Phase
+pub mod Steps
+pub mod Machine
 pub mod AtWork
 pub mod Led
 pub mod Awaited
-pub mod Phase
 pub mod Roles
 pub mod Works
 pub mod Shown

@@ -88,3 +88,7 @@ RunsTo h with phase from schedule to schedule_now =
     Reaches World (able_in (is_order schedule) (about h with from) (phase_from h with phase from))
     (IsKeptTurn (is_order schedule) (about h with from) (phase_from h with phase from))
     record { state = held h with from; schedule = schedule } (held h with to) schedule_now
+
+-- and where a step found no memory, to the state that was reached, with some schedule
+abbrev pub StopsAt : List Dimension → Use → List Command → State → Schedule → State → Type 0
+StopsAt h with phase from schedule to = (s : Schedule) × RunsTo h with phase from schedule to s

@@ -16,7 +16,7 @@ fn does_nothing(actor: &Actor) -> bool
 }
 
 /// Whether the actor at a place has nothing to do, or none is there.
-fn rests(place: &Option<Actor>) -> bool
+pub(crate) fn rests(place: &Option<Actor>) -> bool
     ensures { result ≡ rests place.now }
 {
     match place {

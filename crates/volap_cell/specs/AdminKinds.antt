@@ -246,9 +246,10 @@ pub record IsGateFor (h : List Dimension) (shard : ℕ) (tree : BuiltTree) (queu
   pub gone : g.gone ≡ []
 
 -- the gate is gone: its queue is empty and it has the list of its tree's blocks; all else stays as it was
-pub record Retires (read : List ℕ) (gate gate_now : Gate) : Type 0 where
+pub record Retires (h : List Dimension) (read : List ℕ) (gate gate_now : Gate) : Type 0 where
   pub now : gate_now ≡ record gate { phase = phase.Gone; queue = gate_now.queue; gone = read }
   pub empty : gate_now.queue.rows ≡ []
+  pub valid : IsQueueOf h gate_now.queue
 
 -- a box that is true: the set of a tree's rows and of those in the queue beside it
 abbrev pub IsTrueBox : List Dimension → DescSet → List Row → DescSet → Type 0
@@ -294,7 +295,7 @@ pub record DoesFinishSplit (h : List Dimension) (m x l r reg c led : Change) (a 
   pub gate_now : Gate
   pub upto : ℕ
   pub frozen : IsUpTo gate upto
-  pub retires : Retires building.read gate gate_now
+  pub retires : Retires h building.read gate gate_now
   pub turns : TurnsGate gate gate_now x
   pub rest : List Spare
   pub left_spare : Spare
@@ -358,7 +359,7 @@ pub record DoesFinishMove (h : List Dimension) (maps : List Change) (x g reg c l
   pub gate_now : Gate
   pub upto : ℕ
   pub frozen : IsUpTo gate upto
-  pub retires : Retires building.read gate gate_now
+  pub retires : Retires h building.read gate gate_now
   pub turns : TurnsGate gate gate_now x
   pub rest : List Spare
   pub spare : Spare

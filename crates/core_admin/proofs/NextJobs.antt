@@ -1,0 +1,95 @@
+-- The command of a job, and the job that comes next, if one does: at its beginning, for the command as it is then.
+use Rattle.std.proofs.Common.{◌≡◌, ◌≢◌, ℕ, ◌*◌, ◌<◌, ◌≤◌, List, [], Bool, true, false, eqb, Option, Some, None, refl, sym, ap, ◌∙◌, subst, arith}
+use Rattle.cell_stock.specs.declared.purse.Spare.{Spare}
+use Rattle.dc_node.specs.declared.block.Block.{Block}
+use Rattle.row_ledger.specs.Shards.{is_on}
+use Rattle.row_ledger.specs.declared.event.Event.{Event}
+use Rattle.shard_store.specs.declared.gate.Gate.{Gate}
+use Rattle.shard_store.specs.declared.gate.Phase.{Phase}
+use Rattle.shard_store.specs.declared.queue.Queue.{Queue}
+use Rattle.tree_shape.specs.Shape.{Shape}
+use Rattle.tree_shape.proofs.Walks.{on_bool, eqb-eq, eqb-ne}
+use Rattle.volap_cell.specs.Falls.{job_left, plenty, stage_left}
+use Rattle.volap_cell.specs.Ghost.{Ghost}
+use Rattle.volap_cell.specs.Invariant.{InvWith}
+use Rattle.volap_cell.specs.Numbering.{Numbering}
+use Rattle.volap_cell.specs.Owing.{is_insert, is_insert_work}
+use Rattle.volap_cell.specs.Setting.{Setting}
+use Rattle.volap_cell.specs.Values.{JobValue, IsCalled, IsDeclined, Collects, Builds}
+use Rattle.volap_cell.specs.View.{View}
+use Rattle.volap_cell.specs.Working.{IsBuilding, IsCollected, IsDeclinedFor, IsFrozenFor, IsJobOf, Working, frozen_in}
+use Rattle.volap_cell.specs.declared.command.Command.{Command}
+use Rattle.volap_cell.specs.declared.command.Work.{Work}
+use Rattle.volap_cell.specs.declared.command.Work.TheVariants as work_is
+use Rattle.volap_cell.specs.declared.role.Role.TheVariants.{Admin}
+use Rattle.volap_cell.proofs.Fields.{IsNewAt}
+use Rattle.volap_cell.proofs.Persons.{has-job}
+use Rattle.core_admin.proofs.JobsGoOn.{only-one}
+use Rattle.core_admin.proofs.TurnedCommands.{IsOffDesk}
+
+-- the command asks for a job: it is a split, a move or a balance
+pub off-desk : (work : Work) (job : JobValue) → IsJobOf work job → IsOffDesk work
+off-desk (work_is.Split x) job is = record { no_insert = refl; off = refl }
+off-desk (work_is.Move x to) job is = record { no_insert = refl; off = refl }
+off-desk (work_is.Balance b) job is = record { no_insert = refl; off = refl }
+off-desk (work_is.Insert row routed) job is = absurd is
+off-desk work_is.Query job is = absurd is
+off-desk (work_is.Sync server pulled) job is = absurd is
+off-desk work_is.Barrier job is = absurd is
+off-desk (work_is.Settle pulls) job is = absurd is
+off-desk (work_is.Shards shown) job is = absurd is
+off-desk (work_is.Tree x stands shown) job is = absurd is
+off-desk (work_is.Audit shown) job is = absurd is
+
+pub none-insert : (command : Option Command) → ((k : Command) → command ≡ Some k → is_insert_work k.work ≡ false) → is_insert command ≡ false
+none-insert None none = refl
+none-insert (Some k) none = none k refl
+
+-- a job at its beginning leaves so much
+pub job-few : (s : Setting) (v : View) (job : Option JobValue) → ((j : JobValue) → job ≡ Some j → j.stage ≡ IsCalled) → job_left s v job ≤ 6 * plenty s
+job-few s v None called = omega arith
+job-few s v (Some j) called = (let at : job_left s v (Some j) ≡ 6 * plenty s = ap (stage_left s v) (called j refl) in omega (arith, at))
+
+-- The job that is there afterwards, if there is one, is at its beginning.
+pub record IsNextOf (s : Setting) (h : List Event) (command : Option Command) (j : JobValue) : Type 0 where
+  pub called : j.stage ≡ IsCalled
+  pub whose : (c : Command) × (command ≡ Some c) × IsJobOf c.work j
+  pub front : is_on s.workers h j.shard j.worker ≡ true
+  pub to : (worker : ℕ) → j.to ≡ Some worker → worker < s.workers
+
+module _ (s : Setting) (v : View) (g : Ghost) (i : InvWith s v g) (n : ℕ) (job : JobValue) (job2 : Option JobValue) (jobs_now : ℕ → Option JobValue) (new : IsNewAt jobs_now v.jobs n (Some job) job2) (h2 : List Event) (command2 : Option Command)
+    (next : (j : JobValue) → job2 ≡ Some j → IsNextOf s h2 command2 j) (commands_now : ℕ → Option Command) (its : Option Command) (turn : IsNewAt commands_now v.commands n its command2) (purses_now : ℕ → List Spare) (mine : purses_now n ≡ []) where
+  its-next : (P : ℕ → JobValue → Type 0) → ((j : JobValue) → job2 ≡ Some j → P n j) → (a : ℕ) (j : JobValue) → jobs_now a ≡ Some j → P a j
+  its-next P f a j has = on_bool (eqb a n)
+      (λ z. let x = eqb-eq a n z in subst (λ (y : ℕ). P y j) (sym x) (f j (sym new.is_there ∙ ap jobs_now (sym x) ∙ has)))
+      (λ z. let ne = eqb-ne a n z in absurd (ne (only-one s v g i a n j job (sym (new.elsewhere a ne) ∙ has) new.was_there)))
+
+  pub numbering-next : ((a : ℕ) → a ≢ n → purses_now a ≡ v.purses a) → Numbering s v.tags v.numbers v.roles v.settings v.counted_in purses_now commands_now v.taken jobs_now
+  numbering-next off =
+      let k = i.numbering in record {
+        setting = k.setting;
+        tag = k.tag;
+        number = k.number;
+        role = k.role;
+        about = k.about;
+        beyond = k.beyond;
+        nobody = λ a le. let no = k.nobody a le in
+            let lt = has-job s v i.numbering n job new.was_there in
+            let ne : a ≢ n = (λ x. absurd (omega (arith, lt, le, x))) in
+            (no.0, off a ne ∙ no.1, turn.elsewhere a ne ∙ no.2, no.3, new.elsewhere a ne ∙ no.4);
+        working = its-next (λ a j. v.roles a ≡ Admin) (λ j has. k.working n job new.was_there);
+        parts = k.parts;
+      }
+
+  pub working-next : (blocks : ℕ → Block) (made : ℕ → Bool) (trees : ℕ → Gate) (phases : ℕ → Option Phase) (active : ℕ → ℕ) (queues : ℕ → Queue) (gate : ℕ → ℕ) (shape : ℕ → Shape) (placed : ℕ → Bool)
+      → Working s h2 blocks made trees phases active queues purses_now commands_now jobs_now gate shape placed
+  working-next blocks made trees phases active queues gate shape placed = record {
+    command = its-next (λ a j. (k : Command) × (commands_now a ≡ Some k) × IsJobOf k.work j) (λ j has. let o = (next j has).whose in (o.0, turn.is_there ∙ o.1, o.2));
+    front = its-next (λ a j. is_on s.workers h2 j.shard j.worker ≡ true) (λ j has. (next j has).front);
+    to = λ a worker j. its-next (λ a j. j.to ≡ Some worker → worker < s.workers) (λ j has. (next j has).to worker) a j;
+    unspent = λ a j. its-next (λ a j. frozen_in j.stage ≡ None → purses_now a ≡ []) (λ j has none. mine) a j;
+    declined = λ a j k why has _ stage. its-next (λ a j. j.stage ≡ IsDeclined why → IsDeclinedFor s h2 placed k.of j why) (λ j has st. let no : IsCalled ≡ IsDeclined why = sym (next j has).called ∙ st in cc) a j has stage;
+    frozen = λ a j f. its-next (λ a j. frozen_in j.stage ≡ Some f → IsFrozenFor s trees phases gate (purses_now a) j f) (λ j has at. let no : None ≡ Some f = ap frozen_in (sym (next j has).called) ∙ at in cc) a j;
+    collected = λ a j k. its-next (λ a j. j.stage ≡ Collects k → IsCollected h2 blocks trees queues phases active shape k) (λ j has at. let no : IsCalled ≡ Collects k = sym (next j has).called ∙ at in cc) a j;
+    building = λ a j k. its-next (λ a j. j.stage ≡ Builds k → IsBuilding s h2 blocks made trees queues phases active shape (purses_now a) k) (λ j has at. let no : IsCalled ≡ Builds k = sym (next j has).called ∙ at in cc) a j;
+  }

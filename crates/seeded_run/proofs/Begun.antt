@@ -1,0 +1,149 @@
+-- What is due for an actor whose command may begin, or that can step at all.
+use Rattle.std.proofs.Common.{◌≡◌, ◌∙◌, ◌<◌, ℕ, Bool, true, false, ◌&&◌, ◌+◌, ◌==◌, List, [], ◌∷◌, Option, Some, None, is_none, length, get_or, refl, sym, ap, subst}
+use Rattle.std.specs.Prelude.{if◌then◌else◌, slice_get}
+use Rattle.std.specs.Option.{option_map_or}
+use Rattle.dim_hierarchy.specs.Dimension.{Dimension}
+use Rattle.query_router.specs.Desk.{DeskValue}
+use Rattle.script_form.specs.declared.script.Command.{Command}
+use Rattle.script_form.specs.declared.script.Command.TheVariants as script
+use Rattle.volap_cell.specs.Setting.{Setting}
+use Rattle.volap_cell.specs.Steps.{history_in}
+use Rattle.volap_cell.specs.Values.{ActorValue, actor_of}
+use Rattle.volap_cell.specs.World.{World}
+use Rattle.volap_cell.specs.declared.actor.Actor.{Actor}
+use Rattle.volap_cell.specs.declared.command.Command.{Command as OpenCommand}
+use Rattle.volap_cell.specs.declared.kind.Kind.{Kind}
+use Rattle.volap_cell.specs.declared.kind.Kind.TheVariants as kind
+use Rattle.volap_cell.specs.declared.role.Role.{Role}
+use Rattle.volap_cell.specs.declared.role.Role.TheVariants as role
+use Rattle.volap_cell.proofs.States.{is-some, stands}
+use Rattle.script_run.proofs.Between.{get-behind}
+use Rattle.seeded_run.specs.Can.{can, can_step, meets}
+use Rattle.seeded_run.specs.Commands.{may_begin}
+use Rattle.seeded_run.specs.Due.{command_kind, due, desk_of, free_kind, is_alone, next_kind}
+use Rattle.seeded_run.specs.Look.{HasNames, HasNextNames}
+use Rattle.seeded_run.specs.Machine.{HasLeftOver, HasTurned, IsDueNow, IsPhaseHeld, IsPhaseKept, TakesTurn, about_in, can_in, next_at, phase_of, world_of}
+use Rattle.seeded_run.specs.Rests.{first_open, rest_of}
+use Rattle.seeded_run.specs.Steps.{begins_by, begins_of_one}
+use Rattle.seeded_run.specs.Takes.{AsksHere}
+use Rattle.seeded_run.specs.Told.{is_of_part}
+use Rattle.seeded_run.specs.declared.machine.Running.{Running}
+use Rattle.seeded_run.proofs.Held.{none-past, rest-none, rest-some}
+use Rattle.seeded_run.proofs.LeftAlone.{apart, at-command, both-parts}
+use Rattle.seeded_run.proofs.PhaseRuns.{script}
+use Rattle.seeded_run.proofs.StepsReady.{some-if}
+
+begins-apart : (k : Kind) → may_begin k ≡ true → is_of_part k ≡ false
+begins-apart kind.BeginInsert e = refl
+begins-apart kind.BeginQuery e = refl
+begins-apart kind.Note e = refl
+begins-apart k e = cc
+
+may-of : (actors : List (Option Actor)) (n : ℕ) (k : Kind) → begins_by actors n k ≡ true → may_begin k ≡ true
+may-of actors n k = by (get_or actors n None)
+  where
+    by : (o : Option Actor) → begins_of_one o k ≡ true → may_begin k ≡ true
+    by None e = cc
+    by (Some a) e = (both-parts (is_none (actor_of a).command) (may_begin k) e).1
+
+-- a kind by which a command may begin is of no part
+pub no-part : (actors : List (Option Actor)) (n : ℕ) (due_kind k : Kind) → begins_by actors n due_kind ≡ true → is_of_part due_kind ≡ true → is_of_part k ≡ true
+no-part actors n due_kind k begins part = apart (is_of_part due_kind) part (begins-apart due_kind (may-of actors n due_kind begins))
+
+some-due : (o : Option Kind) (test : Kind → Bool) → option_map_or test o false ≡ true → (k : Kind) × (o ≡ Some k)
+some-due None test e = cc
+some-due (Some k) test e = (k, refl)
+
+can-any : (b : Bool) (m : Running) (n : ℕ) → can_step b (about_in m) (phase_of m) (world_of m) n ≡ true → can (about_in m) (phase_of m) (world_of m) n ≡ true
+can-any false m n e = e
+can-any true m n e = (both-parts (option_map_or (λ first. first == n) (first_open (phase_of m) (history_in (world_of m))) false) (can (about_in m) (phase_of m) (world_of m) n) e).1
+
+-- for who can step something is due
+pub due-some : (m : Running) (n : ℕ) → can_in m n ≡ true → (k : Kind) × (due (about_in m) (phase_of m) (world_of m) n ≡ Some k)
+due-some m n e = some-due (due (about_in m) (phase_of m) (world_of m) n) (meets (about_in m) (world_of m) n) (can-any m.in_order m n e)
+
+pub none-some : {X : Type 0} (k : Kind) → ◌≡◌ {A = Option Kind} None (Some k) → X
+none-some k e = cc
+
+none-next : (h : List Dimension) (alone : Bool) (desk : Option DeskValue) (rest : List Command) (k : Kind) {X : Type 0} → rest ≡ [] → next_kind h alone desk rest ≡ Some k → X
+none-next h alone desk [] k none e = cc
+none-next h alone desk (c ∷ more) k none e = cc
+
+free-none : (s : Setting) (w : World) (alone : Bool) (rest : List Command) (r : Role) (k : Kind) → rest ≡ [] → free_kind s w alone rest r ≡ Some k → may_begin k ≡ false
+free-none s w alone rest (role.Hand worker) k none e = by _ e
+  where
+    by : (b : Bool) → (if b then Some kind.TakePart else None) ≡ Some k → may_begin k ≡ false
+    by b e = ap may_begin (sym (some-if b kind.TakePart k e))
+free-none s w alone rest (role.Session server) k none e = none-next s.hierarchy alone (desk_of s w (role.Session server)) rest k none e
+free-none s w alone rest role.Puller k none e = none-next s.hierarchy alone (desk_of s w role.Puller) rest k none e
+free-none s w alone rest role.Admin k none e = none-next s.hierarchy alone (desk_of s w role.Admin) rest k none e
+
+module _ (m : Running) (kept : IsPhaseKept m) (n : ℕ) where
+  -- where a command may begin, there is a next one
+  pub begins-next : (k : Kind) → IsDueNow m n k → n < length m.state.actors.items → begins_by m.state.actors.items n k ≡ true → slice_get m.phase.now (next_at m n) ≡ None → ⊥
+  begins-next k now_due within begins none =
+      let s = about_in m in
+      let w = world_of m in
+      let rest = rest_of (phase_of m) (history_in w) in
+      let a = stands (get_or m.state.actors.items n None) (λ x. actor_of x ≡ w.actors n) (kept.core.is.actor n within) in
+      let both = both-parts (is_none (actor_of a.0).command) (may_begin k) (sym (ap (λ o. begins_of_one o k) a.1) ∙ begins) in
+      let free : (w.actors n).command ≡ None = sym (ap (λ (x : ActorValue). x.command) a.2) ∙ none-is (actor_of a.0).command both.0 in
+      let at = at-command s w rest n k now_due.due_is (begins-apart k both.1) in
+      let kind_is : free_kind s w (is_alone s w rest n) (rest n) (w.actors n).role ≡ Some k = sym (ap (command_kind s w (is_alone s w rest n) (rest n) (w.actors n)) free) ∙ at.due in
+      apart (may_begin k) both.1 (free-none s w (is_alone s w rest n) (rest n) (w.actors n).role k (rest-none m kept n (none-past m.phase.now (next_at m n) none)) kind_is)
+    where
+      none-is : (o : Option OpenCommand) → is_none o ≡ true → o ≡ None
+      none-is None is = refl
+      none-is (Some c) is = cc
+
+  -- the next command has its names
+  pub names-ahead : HasNextNames m.h.now (slice_get m.phase.now (next_at m n))
+  names-ahead = by (slice_get m.phase.now (next_at m n)) refl
+    where
+      by : (o : Option Command) → slice_get m.phase.now (next_at m n) ≡ o → HasNextNames m.h.now o
+      by None at = tt
+      by (Some c) at = (kept.may_run (length m.done.now + next_at m n) c (get-behind m.done.now m.phase.now (next_at m n) ∙ at)).names
+
+  -- and a query is next for a session
+  pub asks-ahead : n < length m.state.actors.items → AsksHere (get_or m.state.actors.items n None) (slice_get m.phase.now (next_at m n))
+  asks-ahead within = by (slice_get m.phase.now (next_at m n)) refl
+    where
+      by : (o : Option Command) → slice_get m.phase.now (next_at m n) ≡ o → AsksHere (get_or m.state.actors.items n None) o
+      by (Some (script.Query question)) at =
+          let run = script m.in_order (about_in m) (phase_of m) m.done.now (world_of m) kept.core.inv.ghost_of _ kept.core.inv.holds kept.is_running in
+          let rest = rest-some m kept n (script.Query question) at in
+          let who = run.asks n question rest.0 rest.1 in
+          let a = stands (get_or m.state.actors.items n None) (λ x. actor_of x ≡ (world_of m).actors n) (kept.core.is.actor n within) in
+          subst (λ o. AsksHere o (Some (script.Query question))) (sym a.1) (who.0, ap (λ (x : ActorValue). x.role) a.2 ∙ who.1)
+      by None at = none (get_or m.state.actors.items n None)
+        where
+          none : (o : Option Actor) → AsksHere o None
+          none None = tt
+          none (Some a) = tt
+      by (Some (script.Insert new)) at = none (get_or m.state.actors.items n None)
+        where
+          none : (o : Option Actor) → AsksHere o (Some (script.Insert new))
+          none None = tt
+          none (Some a) = tt
+      by (Some (script.Control called)) at = none (get_or m.state.actors.items n None)
+        where
+          none : (o : Option Actor) → AsksHere o (Some (script.Control called))
+          none None = tt
+          none (Some a) = tt
+
+-- What a turn was it is still when it is known whose the first command is.
+pub turned-then : (m mid now : Running) (n : ℕ) → HasTurned m n mid → now ≡ record mid { begun = now.begun; first = now.first } → TakesTurn m n now
+turned-then m mid now n turned same =
+    let t = turned.turn in
+    subst (λ (x : Running). TakesTurn m n x) (sym same)
+    (record {
+      same = record { h = t.same.h; with = t.same.with; done = t.same.done; phase = t.same.phase; in_order = t.same.in_order; before = t.same.before; count = t.same.count };
+      about = t.about;
+      is = t.is;
+      turn = t.turn;
+    })
+
+pub less-then : (m mid now : Running) (n : ℕ) → HasTurned m n mid → now ≡ record mid { begun = now.begun; first = now.first } → (most : ℕ) → HasLeftOver m most → (most_now : ℕ) × HasLeftOver now most_now × (most_now < most)
+less-then m mid now n turned same most has =
+    let less = turned.left most has in
+    (less.0, subst (λ (x : Running). HasLeftOver x less.0) (sym same) (record { core = less.1.core }), less.2)

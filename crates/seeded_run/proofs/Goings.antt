@@ -1,0 +1,34 @@
+-- A step that is of no part, and by which no command begins, goes on with an open command.
+use Rattle.std.proofs.Common.{◌≡◌, ◌∙◌, ◌<◌, ℕ, Bool, true, false, ◌&&◌, Option, Some, None, is_none, is_some, length, get_or, refl, sym, ap}
+use Rattle.volap_cell.specs.Values.{ActorValue, actor_of}
+use Rattle.volap_cell.specs.declared.command.Command.{Command as OpenCommand}
+use Rattle.volap_cell.specs.declared.kind.Kind.{Kind}
+use Rattle.volap_cell.proofs.States.{stands}
+use Rattle.volap_cell.specs.Steps.{history_in}
+use Rattle.seeded_run.specs.Commands.{may_begin}
+use Rattle.seeded_run.specs.Machine.{IsDueNow, IsPhaseKept, about_in, phase_of, world_of}
+use Rattle.seeded_run.specs.Rests.{rest_of}
+use Rattle.seeded_run.specs.Steps.{HasCommand, begins_by, begins_of_one}
+use Rattle.seeded_run.specs.Told.{is_of_part}
+use Rattle.seeded_run.specs.Works.{command_by, command_of_one}
+use Rattle.seeded_run.specs.declared.machine.Running.{Running}
+use Rattle.seeded_run.proofs.LeftAlone.{apart}
+use Rattle.seeded_run.proofs.StepsReady.{first-due}
+use Rattle.seeded_run.proofs.Turns.{command-seen}
+
+pub going-command : (m : Running) → IsPhaseKept m → (n : ℕ) (k : Kind) → IsDueNow m n k → n < length m.state.actors.items → begins_by m.state.actors.items n k ≡ false → is_of_part k ≡ false
+    → HasCommand m.state.actors.items n
+going-command m kept n k due within goes other = by (command_by m.state.actors.items n) refl
+  where
+    no-begin : (b : Bool) → (b && may_begin k) ≡ false → b ≡ true → may_begin k ≡ false
+    no-begin true e is = e
+    no-begin false e is = cc
+
+    by : (o : Option OpenCommand) → command_by m.state.actors.items n ≡ o → HasCommand m.state.actors.items n
+    by (Some c) is = ap is_some is
+    by None is =
+        let a = stands (get_or m.state.actors.items n None) (λ x. actor_of x ≡ (world_of m).actors n) (kept.core.is.actor n within) in
+        let none : is_none (actor_of a.0).command ≡ true = ap is_none (sym (ap command_of_one a.1) ∙ is) in
+        let never : may_begin k ≡ false = no-begin (is_none (actor_of a.0).command) (sym (ap (λ o. begins_of_one o k) a.1) ∙ goes) none in
+        let of_none = sym (command-seen m.state.cells.items m.state.actors.items (world_of m) n kept.core.is within) ∙ is in
+        apart (is_of_part k) (first-due (about_in m) (world_of m) (rest_of (phase_of m) (history_in (world_of m))) n k due.due_is of_none never) other

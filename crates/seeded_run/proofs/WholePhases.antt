@@ -1,0 +1,355 @@
+-- How a phase begins, runs and ends, as its turns are.
+use Rattle.std.proofs.Common.{◌≡◌, ◌≢◌, ◌∙◌, ◌+◌, ◌-◌, ◌<◌, ◌≤◌, ◌⊎◌, inl, inr, ℕ, zero, suc, Bool, true, false, List, [], ◌∷◌, ◌++◌, length, get_or, Option, Some, None, refl, sym, ap, subst, arith}
+use Rattle.std.specs.Prelude.{OnOk, OnErr, Ok, Err, Result, slice_get}
+use Rattle.row_ledger.specs.declared.settings.Use.{Use}
+use Rattle.script_form.specs.declared.script.Command.{Command}
+use Rattle.script_run.specs.Places.{session_of}
+use Rattle.script_run.proofs.Between.{get-behind}
+use Rattle.seeded_turns.specs.Drawn.{AreTurns, Moment, Reaches, Stops, able, next_schedule}
+use Rattle.seeded_turns.specs.declared.schedule.Schedule.{Schedule}
+use Rattle.seeded_turns.specs.declared.schedule.Schedule.TheVariants.{Order, Seed}
+use Rattle.seeded_turns.proofs.Keeping.{run_keeps, run_map}
+use Rattle.core_steps.specs.Ready.{Stays}
+use Rattle.dim_hierarchy.specs.Dimension.{Dimension}
+use Rattle.row_ledger.specs.declared.settings.Call.TheVariants as call
+use Rattle.script_form.specs.declared.script.Command.TheVariants as script
+use Rattle.script_run.specs.Between.{AreFirst}
+use Rattle.volap_cell.specs.Falls.{left}
+use Rattle.volap_cell.specs.declared.actor.Actor.{Actor}
+use Rattle.volap_cell.specs.declared.cell.Cell.{Cell}
+use Rattle.volap_cell.specs.declared.state.State.{State}
+use Rattle.std.proofs.lemmas.Option.{slice_get_within}
+use Rattle.volap_cell.specs.Setting.{Setting, actor_count}
+use Rattle.volap_cell.specs.State.{IsWorldOf}
+use Rattle.volap_cell.specs.Steps.{history_in}
+use Rattle.volap_cell.specs.World.{World}
+use Rattle.seeded_run.specs.Can.{able_in, can_step}
+use Rattle.seeded_run.specs.Core.{HasCore, IsCore}
+use Rattle.seeded_run.specs.Kept.{IsBetween, IsStopped}
+use Rattle.seeded_run.specs.Machine.{AloneInOrder, AreFirstCursors, HasLeftOver, HasRunTo, HasStoppedAt, IsFirstAt, IsFirstMoment, IsPhaseHeld, IsPhaseKept, IsSamePhase, RestsAsIs, TakesTurn, about_in, can_in, cursor, most_steps, next_at, nothing, phase_of, world_of}
+use Rattle.seeded_run.specs.Measure.{limits_of}
+use Rattle.seeded_run.specs.Phase.{IsKeptTurn, MayRun, about, held, is_order, most_actors, phase_from}
+use Rattle.seeded_run.specs.Progress.{IsPhaseOf}
+use Rattle.seeded_run.specs.Ranks.{IsWithin, rank, waiting, with_waiting}
+use Rattle.seeded_run.specs.Rests.{PhaseRun}
+use Rattle.seeded_run.specs.Worlds.{setting_in, world_in}
+use Rattle.seeded_run.specs.Running.{IsRunning}
+use Rattle.seeded_run.specs.declared.machine.Running.{Running}
+use Rattle.seeded_run.proofs.Held.{some-within}
+use Rattle.seeded_run.proofs.LeftAlone.{does-nothing}
+use Rattle.seeded_run.proofs.Limits.{limits-law}
+use Rattle.seeded_run.proofs.PhaseRuns.{phase-begins-law, phase-ends-law, stops-law}
+use Rattle.seeded_run.proofs.Ranks.{rank-falls}
+use Rattle.seeded_run.proofs.Worlds.{one-setting, only-world}
+
+-- Beginning.
+
+-- the core that vectors are, as they tell it themselves
+pub here-core : (h : List Dimension) (with : Use) (cells : List (Option Cell)) (actors : List (Option Actor)) → HasCore h with cells actors → IsCore h with cells actors (setting_in h with actors) (world_in h with cells actors)
+here-core h with cells actors core =
+    subst (λ (x : World). IsCore h with cells actors (setting_in h with actors) x) (only-world h with cells actors core.setting core.world core.is_core)
+    (subst (λ (z : Setting). IsCore h with cells actors z core.world) (one-setting h with cells actors core.setting core.world core.is_core) core.is_core)
+
+beyond : (xs : List ℕ) (i d : ℕ) → length xs ≤ i → get_or xs i d ≡ d
+beyond [] i d high = refl
+beyond (x ∷ xs) zero d high = absurd (omega arith)
+beyond (x ∷ xs) (suc i) d high = beyond xs i d (omega arith)
+
+low-or-high : (a n : ℕ) → (a < n) ⊎ (n ≤ a)
+low-or-high a n = grind arith
+
+-- the session of a command that may run is an actor
+session-low : (h : List Dimension) (with : Use) (c : Command) → MayRun h with c → session_of with c < with.servers + 2
+session-low h with (script.Insert new) may = (let low = may.allowed in omega (arith, low))
+session-low h with (script.Query question) may = (let low = may.allowed.0 in omega (arith, low))
+session-low h with (script.Control (call.Sync server)) may = omega arith
+session-low h with (script.Control (call.Split shard)) may = omega arith
+session-low h with (script.Control (call.Move shard worker)) may = omega arith
+session-low h with (script.Control (call.Balance most)) may = omega arith
+session-low h with (script.Control call.Barrier) may = omega arith
+session-low h with (script.Control call.Settle) may = omega arith
+session-low h with (script.Control call.Shards) may = omega arith
+session-low h with (script.Control (call.Tree shard)) may = omega arith
+session-low h with (script.Control call.Audit) may = omega arith
+
+module _ (m : Running) (first : IsFirstMoment m) where
+  core : IsCore m.h.now m.with.now m.state.cells.items m.state.actors.items (about_in m) (world_of m)
+  core = here-core m.h.now m.with.now m.state.cells.items m.state.actors.items first.core
+
+  may : (k : ℕ) (c : Command) → slice_get m.phase.now k ≡ Some c → MayRun m.h.now m.with.now c
+  may k c at = first.may_run (length m.done.now + k) c (get-behind m.done.now m.phase.now k ∙ at)
+
+  enough : m.with.now.servers + 2 ≤ length m.state.actors.items
+  enough = omega (arith, core.count, slice_get_within (about_in m).roles (m.with.now.servers + 1) _ core.roles.admin)
+
+  pub some-actor : 0 < length m.state.actors.items
+  some-actor = omega (arith, enough)
+
+  phase-is : IsPhaseOf (about_in m) (phase_of m)
+  phase-is = record {
+    servers = refl;
+    sessions = λ i c at. session-low m.h.now m.with.now c (may i c at);
+    asked = λ i q at. (may i (script.Query q) at).allowed.0;
+    last = first.closes;
+  }
+
+  -- who is no session has no command in the phase
+  no-stream : (s : ℕ) → length m.state.actors.items ≤ s → next_at m s ≡ length m.phase.now
+  no-stream s high = beyond m.next.items s (length m.phase.now) (omega (arith, high, first.next.0))
+
+  none-before : (s k : ℕ) (c : Command) → slice_get m.phase.now k ≡ Some c → k < next_at m s → session_of m.with.now c ≢ s
+  none-before s k c at low = elim (low-or-high s (length m.state.actors.items)) [
+    | inl is ↦ (first.next.1 s is).none k c at low
+    | inr high ↦ λ e. absurd (omega (arith, e, high, enough, session-low m.h.now m.with.now c (may k c at)))
+  ]
+
+  own : (s : ℕ) (c : Command) → slice_get m.phase.now (cursor m s - length m.done.now) ≡ Some c → session_of m.with.now c ≡ s
+  own s c at =
+      let here : slice_get m.phase.now (next_at m s) ≡ Some c = (let e : cursor m s - length m.done.now ≡ next_at m s = omega arith in ap (slice_get m.phase.now) (sym e) ∙ at) in
+      elim (low-or-high s (length m.state.actors.items)) [
+        | inl is ↦ (first.next.1 s is).own c here
+        | inr high ↦ absurd (omega (arith, some-within m.phase.now (next_at m s) c here, no-stream s high))
+      ]
+
+  are-first : AreFirst m.with.now (m.done.now ++ m.phase.now) (length m.done.now) (cursor m)
+  are-first s = (
+    omega arith,
+    λ i c at high low.
+        (let k : i ≡ length m.done.now + (i - length m.done.now) = omega arith in
+        none-before s (i - length m.done.now) c (sym (get-behind m.done.now m.phase.now (i - length m.done.now)) ∙ ap (slice_get (m.done.now ++ m.phase.now)) (sym k) ∙ at) (omega (arith, low, high))),
+  )
+
+  pub begins-running : IsRunning m.in_order (about_in m) (phase_of m) m.done.now (world_of m) (cursor m)
+  begins-running = phase-begins-law m.in_order (about_in m) (phase_of m) m.done.now (world_of m) (cursor m) core.roles phase-is first.between
+      (ap (λ (x : State). history_in (held m.h.now m.with.now x)) first.before) (record { first = are-first; own = own })
+
+  pub begins-kept : IsPhaseKept m
+  begins-kept = record {
+    core = core;
+    may_run = first.may_run;
+    is_running = begins-running;
+    count = first.next.0;
+    few = subst (λ k. k < most_actors) (sym first.next.0) first.few;
+    within = λ s. elim (low-or-high s (length m.state.actors.items)) [ inl is ↦ (first.next.1 s is).within | inr high ↦ omega (arith, no-stream s high) ];
+    left = first.left;
+    begun = λ i c at low. absurd (omega (arith, low, first.begun));
+  }
+
+  pub begins-alone : AloneInOrder m 0
+  begins-alone order a differs = does-nothing ((world_of m).actors a) (first.between.idle a)
+
+-- At most so many steps are left.
+
+pub has-left : (m : Running) → IsPhaseKept m → HasLeftOver m (most_steps m)
+unfolding most_steps
+has-left m kept =
+    let s = about_in m in
+    let w = world_of m in
+    let g = kept.core.inv.ghost_of in
+    let count = waiting s (phase_of m) (history_in w) in
+    let limits = limits-law s w g kept.core.inv.holds in
+    let now = with_waiting s count (left s w g) in
+    let within : IsWithin (limits_of s) now = record { gates = limits.gates; rows = limits.rows; queries = limits.queries } in
+    let same : now.control ≡ (with_waiting s count (left s w nothing)).control = refl in
+    let falls = rank-falls (limits_of s) (record { control = (with_waiting s count (left s w nothing)).control + 1; gates = 0; rows = 0; queries = 0; counted = 0 }) now (inl (omega (arith, same))) within in
+    record { core = record { setting = s; world = w; is_core = kept.core; left = record { ghost = g; holds = kept.core.inv.holds; few = omega (arith, falls) } } }
+
+-- Turns.
+
+-- a moment of the phase that began so
+pub record IsFrom (m now : Running) : Type 0 where
+  pub same : IsSamePhase m now
+  pub about : about_in now ≡ about_in m
+  pub is : IsWorldOf now.state.cells.items now.state.actors.items (world_of now)
+
+from-then : (m x y : Running) (n : ℕ) → TakesTurn x n y → IsFrom m x → IsFrom m y
+from-then m x y n turn from = record {
+  same = record {
+    h = turn.same.h ∙ from.same.h;
+    with = turn.same.with ∙ from.same.with;
+    done = turn.same.done ∙ from.same.done;
+    phase = turn.same.phase ∙ from.same.phase;
+    in_order = turn.same.in_order ∙ from.same.in_order;
+    before = turn.same.before ∙ from.same.before;
+    count = turn.same.count ∙ from.same.count;
+  };
+  about = turn.about ∙ from.about;
+  is = turn.is;
+}
+
+same-phase : (m x : Running) → IsSamePhase m x → phase_of x ≡ phase_of m
+same-phase m x same = (λ i. phase_from (same.h i).now (same.with i).now (same.phase i).now (same.before i).value)
+
+module _ (m : Running) (kept : IsPhaseKept m) where
+  abbrev able_of : World → List ℕ
+  able_of = able_in m.in_order (about_in m) (phase_of m)
+
+  abbrev makes_of : World → ℕ → World → Type 0
+  makes_of = IsKeptTurn m.in_order (about_in m) (phase_of m)
+
+  same-able : (x : Running) → IsFrom m x → able (can_in x) (length x.next.items) ≡ able_of (world_of x)
+  same-able x from =
+      let count : length x.next.items ≡ actor_count (about_in m) = from.same.count ∙ kept.count ∙ kept.core.count in
+      ap (able (can_in x)) count
+      ∙ (λ i. able (can_step (from.same.in_order i) (from.about i) (same-phase m x from.same i) (world_of x)) (actor_count (about_in m)))
+
+  same-turn : (x y : Running) (n : ℕ) → TakesTurn x n y → IsFrom m x → makes_of (world_of x) n (world_of y)
+  same-turn x y n turn from =
+      subst (λ b. IsKeptTurn b (about_in m) (phase_of m) (world_of x) n (world_of y)) from.same.in_order
+      (subst (λ z. IsKeptTurn x.in_order z (phase_of m) (world_of x) n (world_of y)) from.about
+      (subst (λ q. IsKeptTurn x.in_order (about_in x) q (world_of x) n (world_of y)) (same-phase m x from.same) turn.turn))
+
+  from-start : IsFrom m m
+  from-start = record { same = record { h = refl; with = refl; done = refl; phase = refl; in_order = refl; before = refl; count = refl }; about = refl; is = kept.core.is }
+
+  abbrev able_here : Running → List ℕ
+  able_here x = able (can_in x) (length x.next.items)
+
+  pub from-turns : (schedule : Schedule) (now : Running) (schedule_now : Schedule) → Reaches Running able_here TakesTurn (record { state = m; schedule = schedule }) now schedule_now → IsFrom m now
+  from-turns schedule now schedule_now r = run_keeps Running able_here TakesTurn (IsFrom m) (λ x y n turn from. from-then m x y n turn from) (record { state = m; schedule = schedule }) now schedule_now r from-start
+
+  pub ran : (schedule : Schedule) (now : Running) (schedule_now : Schedule) → Reaches Running able_here TakesTurn (record { state = m; schedule = schedule }) now schedule_now
+      → Reaches World able_of makes_of (record { state = world_of m; schedule = schedule }) (world_of now) schedule_now
+  ran schedule now schedule_now r = run_map Running World world_of able_here TakesTurn able_of makes_of (IsFrom m) (λ x y n turn from. from-then m x y n turn from) same-able same-turn (record { state = m; schedule = schedule }) now schedule_now r from-start
+
+-- Ending.
+
+-- a phase that ran to its end
+pub record WholeRun (m : Running) (schedule : Schedule) (now : Running) (schedule_now : Schedule) : Type 0 where
+  pub same : IsSamePhase m now
+  pub about : about_in now ≡ about_in m
+  pub order : is_order schedule_now ≡ is_order schedule
+  pub turns : HasRunTo m schedule now schedule_now
+  pub between : IsBetween m.in_order (about_in m) m.with.now (m.done.now ++ m.phase.now) (world_of now)
+
+-- and one that stopped
+pub record PartRun (m : Running) (schedule : Schedule) (now : Running) (schedule_now : Schedule) : Type 0 where
+  pub same : IsSamePhase m now
+  pub about : about_in now ≡ about_in m
+  pub order : is_order schedule_now ≡ is_order schedule
+  pub stopped : HasStoppedAt m schedule now
+  pub into : IsStopped m.in_order (about_in m) (phase_of m) m.done.now (world_of now)
+
+pub on-both : {A E : Type 0} (r : Result A E) (P Q R : Type 0) → (P → Q → R) → OnOk r P → OnOk r Q → OnOk r R
+on-both (Ok x) P Q R f p q = f p q
+on-both (Err e) P Q R f p q = tt
+
+pub on-one : {A E : Type 0} (r : Result A E) (P R : Type 0) → (P → R) → OnOk r P → OnOk r R
+on-one (Ok x) P R f p = f p
+on-one (Err e) P R f p = tt
+
+pub on-fault : {A E : Type 0} (r : Result A E) (P R : Type 0) → (P → R) → OnErr r P → OnErr r R
+on-fault (Ok x) P R f p = tt
+on-fault (Err e) P R f p = f p
+
+pub any-way : {A E : Type 0} (r : Result A E) (P Q R : Type 0) → (P → R) → (Q → R) → OnOk r P → OnErr r Q → R
+any-way (Ok x) P Q R f g p q = f p
+any-way (Err e) P Q R f g p q = g q
+
+order-next : (schedule : Schedule) → is_order (next_schedule schedule) ≡ is_order schedule
+order-next Order = refl
+order-next (Seed g) = refl
+
+-- a schedule stays what it is
+turns-order : (S : Type 0) (able_in : S → List ℕ) (makes : S → ℕ → S → Type 0) (from to : Moment S) (turns : List (Moment S)) → AreTurns S able_in makes from turns to → is_order to.schedule ≡ is_order from.schedule
+turns-order S able_in makes from to [] is = ap (λ (m : Moment S). is_order m.schedule) is
+turns-order S able_in makes from to (mid ∷ more) (turn, are) = ap is_order turn.schedule ∙ order-next mid.schedule ∙ turns-order S able_in makes from mid more are
+
+module _ (m : Running) (kept : IsPhaseKept m) (schedule : Schedule) (now : Running) (schedule_now : Schedule) (held_now : IsPhaseHeld now) where
+  abbrev Reached : Type 0
+  Reached = Reaches Running (able_here m kept) TakesTurn (record { state = m; schedule = schedule }) now schedule_now
+
+  abbrev Stopped : Type 0
+  Stopped = Stops Running (able_here m kept) TakesTurn RestsAsIs (record { state = m; schedule = schedule }) now schedule_now
+
+  from-stop : Stopped → IsFrom m now
+  from-stop stop =
+      let last = from-turns m kept schedule stop.last.state stop.last.schedule stop.reached in
+      let stayed = stop.stayed in
+      let rests = stayed.same in
+      let core = held_now.kept.core in
+      record {
+        same = record {
+          h = rests.h ∙ last.same.h;
+          with = rests.with ∙ last.same.with;
+          done = rests.done ∙ last.same.done;
+          phase = rests.phase ∙ last.same.phase;
+          in_order = rests.in_order ∙ last.same.in_order;
+          before = rests.before ∙ last.same.before;
+          count = rests.count ∙ last.same.count;
+        };
+        about = stayed.about ∙ last.about;
+        is = core.is;
+      }
+
+-- what is so of a phase is so of the one that began
+as-before : (F : Bool → Setting → PhaseRun → List Command → Type 0) (m now : Running) → IsSamePhase m now → about_in now ≡ about_in m
+    → F now.in_order (about_in now) (phase_of now) now.done.now → F m.in_order (about_in m) (phase_of m) m.done.now
+as-before F m now same about f =
+    subst (λ b. F b (about_in m) (phase_of m) m.done.now) same.in_order
+    (subst (λ s. F now.in_order s (phase_of m) m.done.now) about
+    (subst (λ p. F now.in_order (about_in now) p m.done.now) (same-phase m now same)
+    (subst (λ d. F now.in_order (about_in now) (phase_of now) d.now) same.done f)))
+
+module _ (m : Running) (first : IsFirstMoment m) (schedule : Schedule) (order : m.in_order ≡ is_order schedule) (start now : Running) (start_is : start ≡ record m { begun = start.begun; first = start.first })
+    (held_start : IsPhaseHeld start) (held_now : IsPhaseHeld now) (schedule_now : Schedule) where
+  same-from : IsFrom start now → IsSamePhase m now × (about_in now ≡ about_in m)
+  same-from from = (
+    record {
+      h = from.same.h ∙ ap (λ (x : Running). x.h) start_is;
+      with = from.same.with ∙ ap (λ (x : Running). x.with) start_is;
+      done = from.same.done ∙ ap (λ (x : Running). x.done) start_is;
+      phase = from.same.phase ∙ ap (λ (x : Running). x.phase) start_is;
+      in_order = from.same.in_order ∙ ap (λ (x : Running). x.in_order) start_is;
+      before = from.same.before ∙ ap (λ (x : Running). x.before) start_is;
+      count = from.same.count ∙ ap (λ (x : Running). length x.next.items) start_is;
+    },
+    from.about ∙ ap about_in start_is,
+  )
+
+  -- the turns, as they are told of the state
+  runs : (to : Schedule) → IsFrom start now
+      → Reaches World (able_of start held_start.kept) (makes_of start held_start.kept) (record { state = world_of start; schedule = schedule }) (world_of now) to → HasRunTo m schedule now to
+  runs to from r =
+      let same = (same-from from).0 in
+      let at_first : Reaches World (able_in m.in_order (about_in m) (phase_of m)) (IsKeptTurn m.in_order (about_in m) (phase_of m)) (record { state = world_of m; schedule = schedule }) (world_of now) to =
+      subst (λ (x : Running). Reaches World (able_in x.in_order (about_in x) (phase_of x)) (IsKeptTurn x.in_order (about_in x) (phase_of x)) (record { state = world_of x; schedule = schedule }) (world_of now) to) start_is r in
+      let there : world_of now ≡ held m.h.now m.with.now now.state = (λ i. held (same.h i).now (same.with i).now now.state) in
+      subst (λ (b : Bool). Reaches World (able_in b (about m.h.now m.with.now m.before.value) (phase_of m)) (IsKeptTurn b (about m.h.now m.with.now m.before.value) (phase_of m)) (record { state = held m.h.now m.with.now m.before.value; schedule = schedule }) (held m.h.now m.with.now now.state) to) order
+      (subst (λ (x : State). Reaches World (able_in m.in_order (about m.h.now m.with.now x) (phase_of m)) (IsKeptTurn m.in_order (about m.h.now m.with.now x) (phase_of m)) (record { state = held m.h.now m.with.now x; schedule = schedule }) (held m.h.now m.with.now now.state) to) (sym first.before)
+      (subst (λ (v : World). Reaches World (able_in m.in_order (about_in m) (phase_of m)) (IsKeptTurn m.in_order (about_in m) (phase_of m)) (record { state = world_of m; schedule = schedule }) v to) there at_first))
+
+  -- where nobody can step any more
+  pub has-run : Reached start held_start.kept schedule now schedule_now held_now → able_here start held_start.kept now ≡ [] → WholeRun m schedule now schedule_now
+  has-run r ended =
+      let from = from-turns start held_start.kept schedule now schedule_now r in
+      let same = same-from from in
+      let count : length now.next.items ≡ actor_count (about_in now) = held_now.kept.count ∙ held_now.kept.core.count in
+      record {
+        same = same.0;
+        about = same.1;
+        order = turns-order Running (able_here start held_start.kept) TakesTurn (record { state = start; schedule = schedule }) (record { state = now; schedule = schedule_now }) r.turns r.are;
+        turns = runs schedule_now from (ran start held_start.kept schedule now schedule_now r);
+        between = as-before (λ b s p d. IsBetween b s p.with (d ++ p.commands) (world_of now)) m now same.0 same.1
+            (phase-ends-law now.in_order (about_in now) (phase_of now) now.done.now (world_of now) held_now.kept.core.inv.ghost_of (cursor now) held_now.kept.core.inv.holds held_now.kept.is_running
+            (ap (able (can_in now)) (sym count) ∙ ended));
+      }
+
+  pub has-stopped : Stopped start held_start.kept schedule now schedule_now held_now → PartRun m schedule now schedule_now
+  has-stopped stop =
+      let from = from-stop start held_start.kept schedule now schedule_now held_now stop in
+      let same = same-from from in
+      record {
+        same = same.0;
+        about = same.1;
+        order = ap is_order stop.word ∙ order-next stop.last.schedule
+            ∙ turns-order Running (able_here start held_start.kept) TakesTurn (record { state = start; schedule = schedule }) stop.last stop.reached.turns stop.reached.are;
+        stopped = (
+          stop.last.schedule,
+          runs stop.last.schedule from
+              (subst (λ (v : World). Reaches World (able_of start held_start.kept) (makes_of start held_start.kept) (record { state = world_of start; schedule = schedule }) v stop.last.schedule) (sym stop.stayed.world)
+              (ran start held_start.kept schedule stop.last.state stop.last.schedule stop.reached)),
+        );
+        into = as-before (λ b s p d. IsStopped b s p d (world_of now)) m now same.0 same.1
+            (stops-law now.in_order (about_in now) (phase_of now) now.done.now (world_of now) (cursor now) held_now.kept.is_running);
+      }

@@ -1,0 +1,27 @@
+use Rattle.std.proofs.Common.{◌∙◌, ap}
+use Rattle.std.specs.Prelude.{slice_get}
+use Rattle.seeded_run.proofs.Begun.{no-part}
+use Rattle.seeded_run.proofs.Held.{at-next, some-within}
+use Rattle.seeded_run.proofs.Turns.{has-begun, rests-held, to-begin}
+use Rattle.seeded_run.proofs.machine.Running.begin.Goals as goal
+
+pub begin-requires-clause-begins : goal.begin-requires-clause-begins
+begin-requires-clause-begins c = to-begin c.args.self.now c.requires.held.kept c.args.number c.args.kind c.requires.due c.args.command.now c.requires.next c.requires.within c.requires.begins
+
+pub returns-in-Err-clause-rests : goal.returns-in-Err-clause-rests
+returns-in-Err-clause-rests c = rests-held c.args.self.now c.requires.held c.begin.new.state c.in-Err.ensures.stays
+
+pub move_on-requires-clause-session : goal.move_on-requires-clause-session
+move_on-requires-clause-session c =
+    let m = c.args.self.now in
+    c.session_of-session.ensures.value ∙ c.requires.held.kept.is_running.own c.args.number c.args.command.now (ap (slice_get m.phase.now) (at-next m c.requires.held.kept c.args.number) ∙ c.requires.next)
+
+pub move_on-requires-clause-next : goal.move_on-requires-clause-next
+move_on-requires-clause-next c = some-within c.args.self.now.phase.now _ c.args.command.now c.requires.next
+
+pub returns-clause-turned : goal.returns-clause-turned
+returns-clause-turned c =
+    let m = c.args.self.now in
+    let made = c.in_default.ensures.made in
+    has-begun m c.requires.held.kept c.args.number c.args.kind c.requires.due c.begin.new.state made.0 made.1 c.requires.within
+    (no-part m.state.actors.items c.args.number c.args.kind made.0 c.requires.begins) c.args.command.now c.requires.next c.in_default.ensures.begun c.move_on.new.self c.move_on.ensures.moved

@@ -1,0 +1,178 @@
+-- What holds between the turns of a phase, and what a turn is.
+use Rattle.std.specs.Prelude.{ℕ, ◌≡◌, ◌≢◌, ◌+◌, ◌≤◌, ◌<◌, Bool, true, false, nat_lt, count_by, List, [], ◌++◌, Option, Some, None, length, get_or, slice_get}
+use Rattle.core_steps.specs.Ready.{Stays}
+use Rattle.script_form.specs.declared.script.Command.{Command}
+use Rattle.script_run.specs.Places.{session_of}
+use Rattle.tree_shape.specs.Shape.{Shape}
+use Rattle.volap_cell.specs.Falls.{left}
+use Rattle.volap_cell.specs.Ghost.{Ghost, NotOfStock}
+use Rattle.volap_cell.specs.Setting.{Setting}
+use Rattle.volap_cell.specs.State.{IsWorldOf}
+use Rattle.volap_cell.specs.Steps.{history_in}
+use Rattle.volap_cell.specs.World.{World}
+use Rattle.volap_cell.specs.declared.kind.Kind.{Kind}
+use Rattle.seeded_run.specs.Can.{can_step}
+use Rattle.row_ledger.specs.declared.settings.Use.{Use}
+use Rattle.seeded_run.specs.Core.{HasCore, IsCore}
+use Rattle.seeded_run.specs.Due.{does_nothing, due}
+use Rattle.seeded_run.specs.Kept.{IsBetween}
+use Rattle.seeded_run.specs.Measure.{CoreHasLeft, limits_of}
+use Rattle.seeded_run.specs.Phase.{ClosesLast, IsKeptTurn, MayAllRun, about, held, most_actors, phase_from, RunsTo, StopsAt}
+use Rattle.seeded_turns.specs.declared.schedule.Schedule.{Schedule}
+use Rattle.seeded_run.specs.Ranks.{rank, waiting, with_waiting}
+use Rattle.seeded_run.specs.Rests.{PhaseRun, first_open}
+use Rattle.seeded_run.specs.Running.{IsRunning}
+use Rattle.seeded_run.specs.declared.machine.Running.{Running}
+
+-- what the core is about, the state that it is, and the phase
+abbrev pub about_in : Running → Setting
+about_in m = about m.h.now m.with.now m.state
+
+abbrev pub world_of : Running → World
+world_of m = held m.h.now m.with.now m.state
+
+abbrev pub phase_of : Running → PhaseRun
+phase_of m = phase_from m.h.now m.with.now m.phase.now m.before.value
+
+-- by session: where its next command stands in the phase, and among all commands
+
+abbrev pub next_at : Running → ℕ → ℕ
+next_at m session = get_or m.next.items session (length m.phase.now)
+
+abbrev pub cursor : Running → ℕ → ℕ
+cursor m session = length m.done.now + next_at m session
+
+-- the actors can do what can be done in the phase
+abbrev pub can_in : Running → ℕ → Bool
+can_in m n = can_step m.in_order (about_in m) (phase_of m) (world_of m) n
+
+-- So many streams aren't at their ends.
+abbrev pub streams_open : ℕ → List ℕ → ℕ
+streams_open many next = count_by (λ k. nat_lt k many) next
+
+-- each command before a place has begun
+abbrev pub HasBegunTo : Running → ℕ → Type 0
+HasBegunTo m place = (i : ℕ) (c : Command) → slice_get m.phase.now i ≡ Some c → i < place → i < next_at m (session_of m.with.now c)
+
+-- the command at a place hasn't begun
+abbrev pub WaitsAt : Running → ℕ → Type 0
+WaitsAt m place = (c : Command) → slice_get m.phase.now place ≡ Some c → next_at m (session_of m.with.now c) ≤ place
+
+-- The phase runs, and the cursors tell how far.
+pub record IsPhaseKept (m : Running) : Type 0 where
+  pub core : IsCore m.h.now m.with.now m.state.cells.items m.state.actors.items (about_in m) (world_of m)
+  pub may_run : MayAllRun m.h.now m.with.now (m.done.now ++ m.phase.now)
+  pub is_running : IsRunning m.in_order (about_in m) (phase_of m) m.done.now (world_of m) (cursor m)
+  pub count : length m.next.items ≡ length m.state.actors.items
+  pub few : length m.next.items < most_actors
+  pub within : (session : ℕ) → next_at m session ≤ length m.phase.now
+  pub left : m.left ≡ streams_open (length m.phase.now) m.next.items
+  pub begun : HasBegunTo m m.begun
+
+-- where the commands go in order, it is known whose the first one is that isn't over
+abbrev pub KnowsFirst : Running → Type 0
+KnowsFirst m = m.in_order ≡ true → first_open (phase_of m) (history_in (world_of m)) ≡ m.first
+
+-- this is what holds between turns
+pub record IsPhaseHeld (m : Running) : Type 0 where
+  pub kept : IsPhaseKept m
+  pub first : KnowsFirst m
+
+-- where the commands go in order, everyone but this actor does nothing
+abbrev pub AloneInOrder : Running → ℕ → Type 0
+AloneInOrder m n = m.in_order ≡ true → (a : ℕ) → a ≢ n → does_nothing ((world_of m).actors a) ≡ true
+
+-- this kind of step is due for the actor, and it can be made
+pub record IsDueNow (m : Running) (n : ℕ) (k : Kind) : Type 0 where
+  pub due_is : due (about_in m) (phase_of m) (world_of m) n ≡ Some k
+  pub can : can_in m n ≡ true
+
+-- all but the state and the cursors stays
+pub record IsSamePhase (m now : Running) : Type 0 where
+  pub h : now.h ≡ m.h
+  pub with : now.with ≡ m.with
+  pub done : now.done ≡ m.done
+  pub phase : now.phase ≡ m.phase
+  pub in_order : now.in_order ≡ m.in_order
+  pub before : now.before ≡ m.before
+  pub count : length now.next.items ≡ length m.next.items
+
+-- a turn of an actor
+pub record TakesTurn (m : Running) (n : ℕ) (now : Running) : Type 0 where
+  pub same : IsSamePhase m now
+  pub about : about_in now ≡ about_in m
+  pub is : IsWorldOf now.state.cells.items now.state.actors.items (world_of now)
+  pub turn : IsKeptTurn m.in_order (about_in m) (phase_of m) (world_of m) n (world_of now)
+
+-- where no memory was found: the same state, whatever rooms its vectors have
+pub record RestsAsIs (m now : Running) : Type 0 where
+  pub same : IsSamePhase m now
+  pub state : Stays m.state.cells.items m.state.actors.items now.state.cells.items now.state.actors.items
+  pub about : about_in now ≡ about_in m
+  pub world : world_of now ≡ world_of m
+
+-- at most so many steps are left
+pub record HasLeftOver (m : Running) (most : ℕ) : Type 0 where
+  pub core : CoreHasLeft m.h.now (phase_of m) m.state.cells.items m.state.actors.items most
+
+-- what a turn leaves, before it is known again whose the first command is that isn't over
+pub record HasTurned (m : Running) (n : ℕ) (now : Running) : Type 0 where
+  pub turn : TakesTurn m n now
+  pub kept : IsPhaseKept now
+  pub left : (most : ℕ) → HasLeftOver m most → (most_now : ℕ) × HasLeftOver now most_now × (most_now < most)
+  pub alone : AloneInOrder now n
+
+-- A session's next command is the one behind its next one.
+pub record HasMovedOn (m : Running) (n : ℕ) (now : Running) : Type 0 where
+  pub only : now ≡ record m { next = now.next; left = now.left }
+  pub further : next_at m n < next_at now n
+  pub within : next_at now n ≤ length m.phase.now
+  pub none : (i : ℕ) (c : Command) → slice_get m.phase.now i ≡ Some c → next_at m n < i → i < next_at now n → session_of m.with.now c ≢ n
+  pub own : (c : Command) → slice_get m.phase.now (next_at now n) ≡ Some c → session_of m.with.now c ≡ n
+  pub others : (t : ℕ) → t ≢ n → next_at now t ≡ next_at m t
+  pub count : length now.next.items ≡ length m.next.items
+  pub left : now.left ≡ streams_open (length m.phase.now) now.next.items
+
+-- The first command of a session in a phase stands here, or it has none there.
+pub record IsFirstAt (with : Use) (phase : List Command) (session place : ℕ) : Type 0 where
+  pub within : place ≤ length phase
+  pub none : (i : ℕ) (c : Command) → slice_get phase i ≡ Some c → i < place → session_of with c ≢ session
+  pub own : (c : Command) → slice_get phase place ≡ Some c → session_of with c ≡ session
+
+-- by actor
+abbrev pub AreFirstCursors : Use → List Command → ℕ → List ℕ → Type 0
+AreFirstCursors with phase actors next = (length next ≡ actors) × ((session : ℕ) → session < actors → IsFirstAt with phase session (get_or next session (length phase)))
+
+-- a phase that begins
+pub record IsFirstMoment (m : Running) : Type 0 where
+  pub core : HasCore m.h.now m.with.now m.state.cells.items m.state.actors.items
+  pub few : length m.state.actors.items < most_actors
+  pub may_run : MayAllRun m.h.now m.with.now (m.done.now ++ m.phase.now)
+  pub closes : ClosesLast m.phase.now
+  pub between : IsBetween m.in_order (about_in m) m.with.now m.done.now (world_of m)
+  pub before : m.before.value ≡ m.state
+  pub next : AreFirstCursors m.with.now m.phase.now (length m.state.actors.items) m.next.items
+  pub left : m.left ≡ streams_open (length m.phase.now) m.next.items
+  pub begun : m.begun ≡ 0
+
+-- some turns lead from one moment of a phase to another
+abbrev pub HasRunTo : Running → Schedule → Running → Schedule → Type 0
+HasRunTo m schedule now schedule_now = RunsTo m.h.now m.with.now m.phase.now m.before.value schedule now.state schedule_now
+
+abbrev pub HasStoppedAt : Running → Schedule → Running → Type 0
+HasStoppedAt m schedule now = StopsAt m.h.now m.with.now m.phase.now m.before.value schedule now.state
+
+-- At most so many steps are left: what control is left doesn't rest on what stands beside a state, and below it are the limits. So
+-- many are fewer than if control were one more, and nothing else left.
+
+abbrev pub bare : Shape
+bare = record { height = 0; inside = λ y. false; level = λ y. 0; above = λ y l. 0; head = λ y. 0; group = λ y. []; below = λ y. []; placed = λ r. false; carried = λ r. false; at = λ r. 0 }
+
+abbrev pub nothing : Ghost
+nothing = record { owner = λ y. NotOfStock; gate = λ x. 0; shape = λ c. bare; placed = λ r. false; home = λ r. 0; path = λ r. []; counted = λ a b. [] }
+
+abbrev pub control_left : Setting → PhaseRun → World → ℕ
+control_left s p w = (with_waiting s (waiting s p (history_in w)) (left s w nothing)).control
+
+unfoldable pub most_steps : Running → ℕ
+most_steps m = rank (limits_of (about_in m)) (record { control = control_left (about_in m) (phase_of m) (world_of m) + 1; gates = 0; rows = 0; queries = 0; counted = 0 })

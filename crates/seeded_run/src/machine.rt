@@ -1,0 +1,228 @@
+//! The turns of a phase: what an actor does whose turn it is.
+ghost use Rattle.std.specs.Prelude.{◌≡◌, ◌<◌, ◌+◌, ℕ, length, get_or, slice_get, option_copied, OnOk, OnErr, Some, None, true};
+ghost use Rattle.std.specs.Prelude.{false, option_map};
+ghost use Rattle.script_run.specs.Places.{session_of};
+ghost use Rattle.seeded_run.specs.Machine.{AloneInOrder, HasBegunTo, HasLeftOver, HasMovedOn, HasTurned, IsDueNow, IsPhaseHeld, IsPhaseKept, RestsAsIs, TakesTurn, WaitsAt, can_in, next_at, streams_open};
+ghost use Rattle.seeded_run.specs.Steps.{begins_by};
+
+use crate::alone::rests;
+use crate::beginnings::begin;
+use crate::can::can_step;
+use crate::look::due;
+use crate::steps::{go_on_at_part, go_on_with_command, is_of_part, may_begin};
+use dim_hierarchy::Hierarchy;
+use row_ledger::Use;
+use script_form::Command;
+use script_run::{next_of, session_of};
+use seeded_turns::Machine;
+use std::alloc::{AllocError, Global};
+use std::snapshot::Snapshot;
+use volap_cell::{Kind, State};
+
+/// A phase that runs.
+#[derive(Drop)]
+pub struct Running<'a> {
+    pub h: &'a Hierarchy,
+    pub with: &'a Use,
+    /// The commands before the phase, which are over.
+    pub done: &'a [Command],
+    pub phase: &'a [Command],
+    /// Whether the commands go one after the other.
+    pub in_order: bool,
+    /// The state as the phase began. It takes no bytes: only clauses read it.
+    pub before: Snapshot<State>,
+    pub state: State,
+    /// By actor: where its next command stands in the phase, or how many commands that has.
+    pub next: Vec<usize>,
+    /// How many streams aren't at their ends.
+    pub left: usize,
+    /// Each command before this place has begun.
+    pub begun: usize,
+    /// Where the commands go in order: whose command is the first that isn't over.
+    pub first: Option<usize>,
+}
+
+impl<'a> Running<'a> {
+    /// The next command of an actor's stream, if it has one.
+    fn next_command(&self, number: usize) -> Option<&'a Command>
+        requires within { number < length self.now.next.items }
+        ensures { option_copied result ≡ slice_get self.now.phase.now (next_at self.now number) }
+    {
+        self.phase.get(self.next[number])
+    }
+
+    /// Whether an actor's step of this kind begins its next command: no command is open, and one may begin so.
+    fn begins(&self, number: usize, kind: Kind) -> bool
+        requires within { number < length self.now.state.actors.items }
+        ensures { result ≡ begins_by self.now.state.actors.items number kind }
+    {
+        match &self.state.actors[number] {
+            Some(actor) => actor.command.is_none() && may_begin(kind),
+            None => false,
+        }
+    }
+
+    /// An actor goes on with its part, its purse or its command, where that is due.
+    fn go_on(&mut self, alloc: Global, number: usize, kind: Kind)
+        requires held { IsPhaseHeld self.old }
+        requires within { number < length self.old.state.actors.items }
+        requires due { IsDueNow self.old number kind }
+        requires goes_on { begins_by self.old.state.actors.items number kind ≡ false }
+        ensures turned { HasTurned self.old number self.new }
+    {
+        if is_of_part(kind) {
+            go_on_at_part(alloc, self.h, self.with, &mut self.state, number, kind);
+        } else {
+            go_on_with_command(alloc, self.h, self.with, &mut self.state, number, kind);
+        }
+    }
+
+    /// An actor's next command begins, where that is due: then its session's next one is the one behind it.
+    fn begin(
+        &mut self,
+        alloc: Global,
+        number: usize,
+        command: &Command,
+        kind: Kind,
+    ) -> Result<(), AllocError>
+        requires held { IsPhaseHeld self.old }
+        requires within { number < length self.old.state.actors.items }
+        requires due { IsDueNow self.old number kind }
+        requires begins { begins_by self.old.state.actors.items number kind ≡ true }
+        requires next { slice_get self.old.phase.now (next_at self.old number) ≡ Some command.now }
+        ensures turned { OnOk result (HasTurned self.old number self.new) }
+        ensures rests { OnErr result (IsPhaseHeld self.new × RestsAsIs self.old self.new) }
+    {
+        if let Err(refused) = begin(alloc, self.h, self.with, &mut self.state, number, command) {
+            return Err(refused);
+        }
+        let session = session_of(self.with, command);
+        self.move_on(number, session);
+        Ok(())
+    }
+
+    /// An actor makes the step that is due for it.
+    fn take_turn(&mut self, alloc: Global, number: usize, kind: Kind) -> Result<(), AllocError>
+        requires held { IsPhaseHeld self.old }
+        requires within { number < length self.old.state.actors.items }
+        requires due { IsDueNow self.old number kind }
+        ensures turned { OnOk result (HasTurned self.old number self.new) }
+        ensures rests { OnErr result (IsPhaseHeld self.new × RestsAsIs self.old self.new) }
+    {
+        if self.begins(number, kind) {
+            let Some(command) = self.next_command(number) else {
+                unreachable!()
+            };
+            return self.begin(alloc, number, command, kind);
+        }
+        self.go_on(alloc, number, kind);
+        Ok(())
+    }
+
+    /// The session's next command is the one behind its next one, which has begun.
+    fn move_on(&mut self, number: usize, session: u16)
+        requires within { number < length self.old.next.items }
+        requires session { session ≡ number }
+        requires next { next_at self.old number < length self.old.phase.now }
+        requires left { self.old.left ≡ streams_open (length self.old.phase.now) self.old.next.items }
+        ensures moved { HasMovedOn self.old number self.new }
+    {
+        let next = next_of(self.with, self.phase, session, self.next[number] + 1);
+        self.next[number] = next;
+        if next == self.phase.len() {
+            self.left -= 1;
+        }
+    }
+
+    /// The place of the first command that hasn't begun, or how many there are.
+    fn first_waiting(&self) -> usize
+        requires kept { IsPhaseKept self.now }
+        ensures begun { HasBegunTo self.now result }
+        ensures waits { WaitsAt self.now result }
+    {
+        for place in self.begun..self.phase.len() {
+            let session = session_of(self.with, &self.phase[place]);
+            if self.next[usize::from(session)] <= place {
+                return place;
+            }
+        }
+        self.phase.len()
+    }
+
+    /// Where the commands go in order, looks up whose the first one is that isn't over, behind a step of an
+    /// actor. While that actor has something to do it is its.
+    pub(crate) fn look_first(&mut self, number: usize)
+        requires kept { IsPhaseKept self.old }
+        requires within { number < length self.old.state.actors.items }
+        requires alone { AloneInOrder self.old number }
+        ensures held { IsPhaseHeld self.new }
+        ensures same { self.new ≡ record self.old { begun = self.new.begun; first = self.new.first } }
+    {
+        if !self.in_order {
+            return;
+        }
+        if rests(&self.state.actors[number]) {
+            let begun = self.first_waiting();
+            self.begun = begun;
+            self.first = self.session_at(begun);
+        } else {
+            self.first = Some(number);
+        }
+    }
+
+    /// The session of the command at a place of the phase, if one stands there.
+    fn session_at(&self, place: usize) -> Option<usize>
+        ensures { result ≡ option_map (session_of self.now.with.now) (slice_get self.now.phase.now place) }
+    {
+        match self.phase.get(place) {
+            Some(command) => Some(usize::from(session_of(self.with, command))),
+            None => None,
+        }
+    }
+}
+
+impl<'a> Machine for Running<'a> {
+    ghost actors = { λ m. length m.next.items };
+
+    ghost can = { can_in };
+
+    ghost Holds = { IsPhaseHeld };
+
+    ghost makes = { TakesTurn };
+
+    ghost stays = { RestsAsIs };
+
+    ghost Left = { HasLeftOver };
+
+    fn actors(&self) -> u32 {
+        self.next.len() as u32
+    }
+
+    fn can_step(&self, actor: u32) -> bool {
+        let number = actor as usize;
+        let next = self.next_command(number);
+        can_step(
+            self.h,
+            self.with,
+            &self.state,
+            self.in_order,
+            self.first,
+            number,
+            next,
+            self.left,
+        )
+    }
+
+    fn step(&mut self, alloc: Global, actor: u32) -> Result<(), AllocError> {
+        let number = actor as usize;
+        let next = self.next_command(number);
+        let Some(kind) = due(self.h, self.with, &self.state, number, next, self.left) else {
+            unreachable!()
+        };
+        if let Err(refused) = self.take_turn(alloc, number, kind) {
+            return Err(refused);
+        }
+        self.look_first(number);
+        Ok(())
+    }
+}
