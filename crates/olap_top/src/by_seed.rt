@@ -138,17 +138,30 @@ fn run<R: Abort + Threads + Wait + Sync>(
     Ok(())
 }
 
-#[test]
-fn answers_by_seeds_lie_between_their_bounds(rt: HostRuntime) -> Result<(), Fail> {
-    let alloc = rt.alloc();
+/// Runs a thousand scripts, each by a seed.
+fn run_many<R: Abort + Threads + Wait + Sync>(
+    rt: &R,
+    alloc: Global,
+    stream: u64,
+) -> Result<(), Fail> {
     let dice = &mut Dice {
-        words: Pcg32::new(2, 2),
+        words: Pcg32::new(2, stream),
     };
-    for _ in 0..2000 {
+    for _ in 0..1000 {
         let count = 6 + dice.roll(26);
         let text = script(alloc, dice, count)?;
         let seed = dice.roll(1 << 32);
-        run(&rt, alloc, text.as_str().as_bytes(), seed)?;
+        run(rt, alloc, text.as_str().as_bytes(), seed)?;
     }
     Ok(())
+}
+
+#[test]
+fn answers_by_seeds_lie_between_their_bounds(rt: HostRuntime) -> Result<(), Fail> {
+    run_many(&rt, rt.alloc(), 2)
+}
+
+#[test]
+fn answers_by_other_seeds_lie_between_their_bounds(rt: HostRuntime) -> Result<(), Fail> {
+    run_many(&rt, rt.alloc(), 3)
 }
