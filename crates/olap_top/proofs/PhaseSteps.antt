@@ -1,30 +1,52 @@
 -- A run between two phases, and how it goes on from there.
-use Rattle.std.proofs.Common.{◌≡◌, ◌∙◌, ℕ, ◌+◌, List, [], ◌∷◌, ◌++◌, length, take, drop, refl, sym, ap, subst, arith, string_bytes, append_assoc, append-nil, length-append}
-use Rattle.std.specs.Prelude.{Option, Some, None, IsTrue}
-use Rattle.std.specs.List.{AllZip}
+use Rattle.std.proofs.Common.{◌≡◌, ◌∙◌, ℕ, zero, suc, ◌+◌, ◌-◌, ◌≤◌, ◌<◌, inl, inr, Bool, true, false, IsTrue, List, [], ◌∷◌, ◌++◌, length, take, drop, refl, sym, ap, subst, arith, append_assoc, append-nil, length-append}
+use Rattle.std.specs.Prelude.{All, Option, Some, None, ◌&&◌, if◌then◌else◌, get_or, slice_get}
 use Rattle.std.specs.Io.KnownBytes.{Appends}
+use Rattle.std.specs.List.{AllZip}
 use Rattle.std.proofs.Math.Seq.{take-append_seam, take-append-add}
-use Rattle.std.proofs.lemmas.List.{take-append-drop}
-use Rattle.row_ledger.specs.declared.event.Event.{Event}
-use Rattle.row_ledger.specs.Past.{acked_rows}
+use Rattle.std.proofs.lemmas.Bool.{and_parts, cases_lt, false≢true}
+use Rattle.std.proofs.lemmas.List.{drop-drop, drop-take, length-take-le, take-append-drop, take-take, take_all}
+use Rattle.std.proofs.lemmas.List.Elements.{All-head, All-tail}
+use Rattle.std.proofs.lemmas.Option.{slice_get_within}
+use Rattle.std.proofs.lemmas.List.Folds.{list_all-append}
+use Rattle.dim_hierarchy.specs.Dimension.{Dimension}
+use Rattle.answer_text.proofs.TextFacts.{AreFirst, lines-append, told-first, told_to-first}
+use Rattle.answer_text.proofs.ToldLines.{phase_behind-is}
+use Rattle.answer_text.specs.Printed.{lines, phase_behind, told, told_to}
 use Rattle.row_ledger.proofs.Growth.{IsRight-kept}
+use Rattle.row_ledger.specs.Right.{EachEvent, IsRight, Stands}
+use Rattle.row_ledger.specs.Site.{site_of}
+use Rattle.row_ledger.specs.declared.event.Event.{Event}
+use Rattle.row_ledger.specs.declared.settings.Use.{Use}
+use Rattle.row_ledger.specs.declared.settings.Call.TheVariants as call
+use Rattle.script_form.specs.Scripts.{Fits}
 use Rattle.script_form.specs.declared.script.Command.{Command}
+use Rattle.script_form.specs.declared.script.Command.TheVariants as command
 use Rattle.script_form.specs.declared.script.Script.{Script}
-use Rattle.script_run.specs.Phases.{phases, all_of, phases_to}
-use Rattle.script_run.specs.Places.{places, is_over_at}
-use Rattle.answer_text.specs.Printed.{told, told_to}
+use Rattle.script_run.proofs.Between.{order-start-law, through-law}
+use Rattle.script_run.proofs.PhaseEnds.{start_law}
 use Rattle.script_run.proofs.PhaseFacts.{all_of-append, all_of-phases, phases-nil, phases-some}
-use Rattle.answer_text.proofs.TextFacts.{AreFirst, told_to-first, told-first}
-use Rattle.olap_top.specs.Keeps.{HasDone, IsOpened, is_placed}
-use Rattle.olap_top.specs.Site.{site}
-use Rattle.olap_top.specs.Outcomes.{HasRun, RunsInOrder, RanTo, RanInto, TookPart}
-use Rattle.olap_top.specs.declared.words.Request.TheVariants.{Step}
-use Rattle.script_run.specs.Runs.{IsRunSoFar, IsSerial, InsertEnds}
-use Rattle.olap_top.specs.RunSoFar.{IsRun, IsHalted, HasGone, lines_of}
+use Rattle.script_run.proofs.PlaceFacts.{NoneMore, places_behind-append, places_behind-length}
+use Rattle.script_run.proofs.Whole.{part_law, serial_law}
+use Rattle.script_run.specs.Between.{IsThrough}
+use Rattle.script_run.specs.Phases.{NoneCloses, all_of, closes, phases, phases_to}
+use Rattle.script_run.specs.Places.{are_over, begins_of, count_of, is_over_at, places, places_behind}
+use Rattle.script_run.specs.Runs.{IsRunOf, IsRunSoFar, IsSerial}
+use Rattle.seeded_run.specs.Kept.{IsBetween}
+use Rattle.seeded_run.specs.Phase.{ClosesLast, MayAllRun, MayRun, is_order}
+use Rattle.seeded_turns.specs.Drawn.{Moment}
+use Rattle.seeded_turns.specs.declared.schedule.Schedule.{Schedule}
+use Rattle.volap_cell.specs.Steps.{Inv, history_in}
+use Rattle.volap_cell.specs.World.{World}
+use Rattle.olap_top.specs.OneRun.{GoesTo, RunPhases, RunsPhase, phase_of, setting_of}
+use Rattle.olap_top.specs.Outcomes.{HasRun, RanInto, RanTo, TookPart}
+use Rattle.olap_top.specs.RunSoFar.{HasGone, HasGrown, HasLeft, HasStopped, IsBehind, IsHeld, history_of, moment_of, world_of}
 use Rattle.olap_top.specs.declared.run.Run.{Run}
-use Rattle.olap_top.proofs.KeepsSteps.{KeepsRun-opened}
-use Rattle.olap_top.proofs.RunSteps.{lines_of-nil}
-use Rattle.olap_top.proofs.RunFacts.{IsRunSoFar-done, IsRunOf-done, IsSerial-into, inserts-done, inserts-into, are_over-done, are_over-first, none_more}
+use Rattle.olap_top.specs.declared.wanted.Wanted.{Wanted}
+use Rattle.olap_top.proofs.Handing.{held-inv}
+use Rattle.olap_top.proofs.InsertsEnd.{inserts-end, inserts-over}
+use Rattle.olap_top.proofs.Kept.{lines-grown, lines_of}
+use Rattle.olap_top.proofs.PhaseTurns.{first-over}
 
 -- What a sink took.
 
@@ -38,228 +60,370 @@ Appends-more (Some bs) None now xs ys a b = absurd a
 Appends-more (Some bs) (Some ms) None xs ys a b = absurd b
 Appends-more (Some bs) (Some ms) (Some ns) xs ys a b = b ∙ ap (λ l. l ++ ys) a ∙ append_assoc bs xs ys
 
+-- What a run holds.
+
+pub held-right : (s : Script) (run : Run) → IsHeld s run → (placed : ℕ → Bool) × EachEvent (Stands (site_of s.with s.hierarchy) placed) (history_of s run) × IsRight (site_of s.with s.hierarchy) (history_of s run)
+held-right s run is =
+    let inv = subst (λ t. Inv t (world_of s run)) is.about_is (held-inv s.hierarchy s.with run.state is.core) in
+    let placed = inv.ghost_of.placed in
+    (placed, inv.holds.telling.right.right.each, IsRight-kept (site_of s.with s.hierarchy) placed (history_of s run) inv.holds.telling.right)
+
+pub right-held : (s : Script) (run : Run) → IsHeld s run → IsRight (site_of s.with s.hierarchy) (history_of s run)
+right-held s run is = (held-right s run is).2
+
+-- Runs of phases.
+
+pub phases-more : (in_order : Bool) (s : Script) (ps : List (List Command)) (phase : List Command) (from between to : Moment World) → RunPhases in_order s ps from between → RunsPhase in_order s phase between to
+    → RunPhases in_order s (ps ++ phase ∷ []) from to
+phases-more in_order s [] phase from between to first next = (to, subst (λ m. RunsPhase in_order s phase m to) first next, refl)
+phases-more in_order s (p ∷ ps) phase from between to first next = (first.0, first.1, phases-more in_order s ps phase first.0 between to first.2 next)
+
 -- Between two phases.
 
--- these phases are done and their text is written; the rest of the commands is to come
-pub record IsAtPhase (s : Script) (rest : List Command) (taken_before taken_now : Option (List ℕ)) (run : Run) : Type 0 where
+-- the first n commands are done, which are whole phases, and their text is written
+pub record IsAtPhase (s : Script) (n : ℕ) (taken_before taken_now : Option (List ℕ)) (start run : Run) : Type 0 where
   pub ps : List (List Command)
-  pub first : AreFirst s.commands ps (phases rest)
-  pub written : List ℕ
-  pub run_is : IsRun s.with s.hierarchy (all_of ps) written run
-  pub empty : string_bytes run.text ≡ []
-  pub took : Appends taken_before taken_now written
+  pub first : AreFirst s.commands ps (phases (drop n s.commands))
+  pub all : all_of ps ≡ take n s.commands
+  pub behind : IsBehind s (take n s.commands) run
+  pub order : is_order run.schedule ≡ is_order start.schedule
+  pub took : Appends taken_before taken_now (lines_of s.with (take n s.commands) (history_of s run))
+  pub turns : RunPhases (is_order start.schedule) s ps (moment_of s start) (moment_of s run)
 
--- what was written is the text of the phases that are done
-written-is : (s : Script) (rest : List Command) (taken_before taken_now : Option (List ℕ)) (run : Run) (at : IsAtPhase s rest taken_before taken_now run)
-    → at.written ≡ lines_of s.with (all_of at.ps) run.store.ledger.history
-written-is s rest taken_before taken_now run at = sym (append-nil at.written) ∙ ap (λ t. at.written ++ t) (sym at.empty) ∙ at.run_is.text
+-- whatever a sink took
+pub unread : (s : Script) (n : ℕ) (taken_before taken_now : Option (List ℕ)) (start run : Run) → IsAtPhase s n taken_before taken_now start run → IsAtPhase s n None None start run
+unread s n taken_before taken_now start run at = record { ps = at.ps; first = at.first; all = at.all; behind = at.behind; order = at.order; took = tt; turns = at.turns }
 
-pub at-start : (s : Script) (taken : Option (List ℕ)) (run : Run) → IsRun s.with s.hierarchy [] [] run → string_bytes run.text ≡ [] → IsAtPhase s s.commands taken taken run
-at-start s taken run is empty = record {
+lines_of-nil : (with : Use) (history : List Event) → lines_of with [] history ≡ []
+unfolding lines
+lines_of-nil with history = refl
+
+pub at-start : (s : Script) (taken : Option (List ℕ)) (run : Run) → IsBehind s [] run → IsAtPhase s 0 taken taken run run
+at-start s taken run behind = record {
   ps = [];
   first = record { split = refl };
-  written = [];
-  run_is = is;
-  empty = empty;
-  took = Appends-nil taken;
+  all = refl;
+  behind = behind;
+  order = refl;
+  took = subst (Appends taken taken) (sym (lines_of-nil s.with (history_of s run))) (Appends-nil taken);
+  turns = refl;
 }
 
--- the run of the commands that are done
-has_run : (s : Script) (done : List Command) (written : List ℕ) (run : Run) → IsRun s.with s.hierarchy done written run → HasRun s.with s.hierarchy done run.store.ledger.history
-has_run s done written run is = record {
-  right = IsRight-kept (site s.with s.hierarchy) (is_placed (acked_rows run.store.ledger.history)) run.store.ledger.history is.keeps.right;
-  run = IsRunOf-done s.with s.hierarchy done run.store.ledger.history is.keeps.has;
-  inserts = inserts-done s.with s.hierarchy done run.store.ledger.history is.keeps.has;
-}
+-- A run of commands that are through.
+
+has-run : (s : Script) (done : List Command) (run : Run) → IsBehind s done run → HasRun s.with s.hierarchy done (history_of s run)
+has-run s done run behind =
+    let is = through-law s.with s.hierarchy done (history_of s run) behind.between.through in
+    let right = held-right s run behind.is_held in
+    record {
+      right = right.2;
+      run = is;
+      inserts = inserts-over (site_of s.with s.hierarchy) right.0 s.with s.hierarchy (history_of s run) right.1 done (places s.with done (history_of s run)) is.part.begun is.over;
+    }
+
+none-more : (with : Use) (h : List Dimension) (done : List Command) (history : List Event) → IsThrough with h done history → NoneMore with done history
+none-more with h done history through = record { counts = λ session. omega (arith, through.counts session) }
+
+-- the text of the whole script is so far that of the phases that are done
+told-is : (s : Script) (n : ℕ) (taken_before taken_now : Option (List ℕ)) (start run : Run) → IsAtPhase s n taken_before taken_now start run
+    → told s.with s.commands (history_of s run) ≡ lines_of s.with (take n s.commands) (history_of s run)
+told-is s n taken_before taken_now start run at =
+    let history = history_of s run in
+    let through : IsThrough s.with s.hierarchy (all_of at.ps) history = subst (λ l. IsThrough s.with s.hierarchy l history) (sym at.all) at.behind.between.through in
+    told-first s.with s.commands at.ps (phases (drop n s.commands)) history at.first (phases-some (drop n s.commands))
+    (through-law s.with s.hierarchy (all_of at.ps) history through).over (none-more s.with s.hierarchy (all_of at.ps) history through)
+    ∙ ap (λ l. lines_of s.with l history) at.all
 
 -- Where nothing is left, all is done.
-pub at-done : (s : Script) (taken_before taken_now : Option (List ℕ)) (run : Run) → IsAtPhase s [] taken_before taken_now run
-    → HasRun s.with s.hierarchy s.commands run.store.ledger.history × Appends taken_before taken_now (told s.with s.commands run.store.ledger.history)
-at-done s taken_before taken_now run at =
-    let history = run.store.ledger.history in
-    let whole : phases s.commands ≡ at.ps = at.first.split ∙ ap (λ l. at.ps ++ l) phases-nil ∙ append-nil at.ps in
-    let all : all_of at.ps ≡ s.commands = ap all_of (sym whole) ∙ all_of-phases s.commands in
-    let text : told s.with s.commands history ≡ at.written =
-    told-first s.with s.commands at.ps (phases []) history at.first (phases-some []) (are_over-done s.with s.hierarchy (all_of at.ps) history at.run_is.keeps.has)
-    (none_more s.with s.hierarchy (all_of at.ps) history at.run_is.keeps.has)
-    ∙ sym (written-is s [] taken_before taken_now run at) in (
-      subst (λ l. HasRun s.with s.hierarchy l history) all (has_run s (all_of at.ps) at.written run at.run_is),
-      subst (Appends taken_before taken_now) (sym text) at.took,
-    )
+pub at-done : (s : Script) (n : ℕ) (taken_before taken_now : Option (List ℕ)) (start run : Run) → length s.commands ≤ n → IsAtPhase s n taken_before taken_now start run
+    → HasRun s.with s.hierarchy s.commands (history_of s run) × Appends taken_before taken_now (told s.with s.commands (history_of s run))
+at-done s n taken_before taken_now start run past at = (
+  subst (λ l. HasRun s.with s.hierarchy l (history_of s run)) (take_all n s.commands past) (has-run s (take n s.commands) run at.behind),
+  subst (Appends taken_before taken_now) (sym (told-is s n taken_before taken_now start run at)) at.took,
+)
 
--- Where a script has no commands, its opening is all that runs.
-pub at-none : (s : Script) (taken : Option (List ℕ)) (history : List Event) → s.commands ≡ [] → IsOpened s.with s.hierarchy history
-    → HasRun s.with s.hierarchy s.commands history × Appends taken taken (told s.with s.commands history)
-at-none s taken history empty opened =
-    let keeps = KeepsRun-opened s.with s.hierarchy history opened in
-    let over = are_over-done s.with s.hierarchy [] history keeps.has in
-    let text : told s.with [] history ≡ [] =
-    told-first s.with [] [] (phases []) history (record { split = refl }) (phases-some []) over (none_more s.with s.hierarchy [] history keeps.has)
-    ∙ lines_of-nil s.with history in
-    rw empty (
-      record {
-        right = IsRight-kept (site s.with s.hierarchy) (is_placed (acked_rows history)) history keeps.right;
-        run = IsRunOf-done s.with s.hierarchy [] history keeps.has;
-        inserts = inserts-done s.with s.hierarchy [] history keeps.has;
-      },
-      subst (Appends taken taken) (sym text) (Appends-nil taken),
-    )
+-- The next phase.
 
--- the next phase, and what is left behind it
-pub record IsNext (rest phase more : List Command) : Type 0 where
-  pub split : phases rest ≡ phase ∷ phases more
+-- the commands from the n-th to the m-th are the next phase
+pub record IsNext (s : Script) (n m : ℕ) : Type 0 where
+  pub low : n ≤ m
+  pub split : phases (drop n s.commands) ≡ drop n (take m s.commands) ∷ phases (drop m s.commands)
+  pub whole : take n s.commands ++ drop n (take m s.commands) ≡ take m s.commands
 
-pub next-is : (rest phase more : List Command) (n : ℕ) → phases rest ≡ take n rest ∷ phases (drop n rest) → phase ≡ take n rest → more ≡ drop n rest → IsNext rest phase more
-next-is rest phase more n split front back = record { split = rw (front, back) split }
+abbrev pub next_phase : Script → ℕ → ℕ → List Command
+next_phase s n m = drop n (take m s.commands)
 
--- the phases that are done, with the next one
-next-first : (s : Script) (rest phase more : List Command) (ps : List (List Command)) → AreFirst s.commands ps (phases rest) → IsNext rest phase more
-    → AreFirst s.commands (ps ++ phase ∷ []) (phases more)
-next-first s rest phase more ps first next = record { split = first.split ∙ ap (λ l. ps ++ l) next.split ∙ sym (append_assoc ps (phase ∷ []) (phases more)) }
+pub next-is : (s : Script) (n k : ℕ) → phases (drop n s.commands) ≡ take k (drop n s.commands) ∷ phases (drop k (drop n s.commands)) → IsNext s n (n + k)
+next-is s n k split =
+    let here : drop n (take (n + k) s.commands) ≡ take k (drop n s.commands) = drop-take n k s.commands in
+    record {
+      low = omega arith;
+      split = split ∙ ap (λ l. take k (drop n s.commands) ∷ phases l) (drop-drop k n s.commands) ∙ ap (λ l. l ∷ phases (drop (n + k) s.commands)) (sym here);
+      whole = ap (λ l. l ++ drop n (take (n + k) s.commands)) (sym (take-take n (n + k) s.commands (omega arith))) ∙ take-append-drop n (take (n + k) s.commands);
+    }
 
-with-next : (ps : List (List Command)) (phase : List Command) → all_of (ps ++ phase ∷ []) ≡ all_of ps ++ phase
-with-next ps phase = all_of-append ps (phase ∷ []) ∙ ap (λ l. all_of ps ++ l) (append-nil phase)
+-- it closes with its last command alone
+not-closing : (cs : List Command) (i : ℕ) (c : Command) → NoneCloses cs → slice_get cs i ≡ Some c → closes c ≡ true → ⊥
+not-closing [] i c none at closing = cc
+not-closing (d ∷ cs) zero c none at closing =
+    let same : d ≡ c = cc in
+    false≢true (sym none.0 ∙ ap closes same ∙ closing)
+not-closing (d ∷ cs) (suc i) c none at closing = not-closing cs i c none.1 at closing
+
+get-take : (cs : List Command) (k i : ℕ) → i < k → slice_get (take k cs) i ≡ slice_get cs i
+get-take [] k i low = ap (λ l. slice_get l i) (none k)
+  where
+    none : (k : ℕ) → ◌≡◌ {A = List Command} (take k []) []
+    none zero = refl
+    none (suc k) = refl
+get-take (c ∷ cs) zero i low = absurd (omega arith)
+get-take (c ∷ cs) (suc k) zero low = refl
+get-take (c ∷ cs) (suc k) (suc i) low = get-take cs k i (omega arith)
+
+pub closes-last : (cs : List Command) (k : ℕ) → 0 < k → k ≤ length cs → NoneCloses (take (k - 1) cs) → ClosesLast (take k cs)
+closes-last cs k some within none = λ i c at closing.
+    let low : i < length (take k cs) = slice_get_within (take k cs) i c at in
+    let count : length (take k cs) ≡ k = length-take-le k cs within in
+    elim (cases_lt i (k - 1)) [
+      | inl early ↦ absurd (not-closing (take (k - 1) cs) i c none (get-take cs (k - 1) i early ∙ sym (get-take cs k i (omega arith)) ∙ at) closing)
+      | inr late ↦ omega arith
+    ]
+
+-- Its text is behind that of the phases that are done.
+
+grown-text : (s : Script) (done phase : List Command) (run now : Run) (text : List ℕ) → IsBehind s done run → HasGone s done phase run now text
+    → lines_of s.with (done ++ phase) (history_of s now) ≡ lines_of s.with done (history_of s run) ++ text
+grown-text s done phase run now text behind gone =
+    let h = history_of s now in
+    let here = places s.with done h in
+    let there = places_behind s.with done phase h in
+    let places_are : places s.with (done ++ phase) h ≡ here ++ there = places_behind-append s.with [] done phase h in
+    let over = (through-law s.with s.hierarchy (done ++ phase) h gone.behind.between.through).over in
+    let split : (are_over h here && are_over h there) ≡ true = sym (list_all-append (is_over_at h) here there) ∙ ap (are_over h) (sym places_are) ∙ over in
+    let phase_over = (and_parts (are_over h here) (are_over h there) split).1 in
+    let right = held-right s now gone.behind.is_held in
+    let each : EachEvent (Stands (site_of s.with s.hierarchy) right.0) (gone.grows.newer ++ history_of s run) = subst (EachEvent (Stands (site_of s.with s.hierarchy) right.0)) gone.grows.grown right.1 in
+    let before : lines 1 done here h ≡ lines_of s.with done (history_of s run) =
+    ap (lines_of s.with done) gone.grows.grown ∙ lines-grown (site_of s.with s.hierarchy) right.0 s.with s.hierarchy done gone.grows.newer (history_of s run) each behind.between.through in
+    let new : lines (1 + length done) phase there h ≡ text =
+    ap (λ k. lines k phase there h) (let k : 1 + length done ≡ length done + 1 = omega arith in k)
+    ∙ ap (λ b. if b then lines (length done + 1) phase there h else []) (sym phase_over)
+    ∙ sym (phase_behind-is s.with done phase h)
+    ∙ sym gone.text_is in
+    ap (λ ps. lines 1 (done ++ phase) ps h) places_are
+    ∙ lines-append 1 done phase here there h (sym (places_behind-length s.with [] done h))
+    ∙ ap (λ l. l ++ lines (1 + length done) phase there h) before
+    ∙ ap (λ l. lines_of s.with done (history_of s run) ++ l) new
+
+-- The sink took it.
+pub at-next : (s : Script) (n m : ℕ) (taken_before taken_middle taken_now : Option (List ℕ)) (start run now : Run) (text : List ℕ) → IsNext s n m → IsAtPhase s n taken_before taken_middle start run
+    → HasGone s (take n s.commands) (next_phase s n m) run now text → Appends taken_middle taken_now text → IsAtPhase s m taken_before taken_now start now
+at-next s n m taken_before taken_middle taken_now start run now text next at gone took = record {
+  ps = at.ps ++ next_phase s n m ∷ [];
+  first = record { split = at.first.split ∙ ap (λ l. at.ps ++ l) next.split ∙ sym (append_assoc at.ps (next_phase s n m ∷ []) (phases (drop m s.commands))) };
+  all = all_of-append at.ps (next_phase s n m ∷ []) ∙ ap (λ l. all_of at.ps ++ l) (append-nil (next_phase s n m)) ∙ ap (λ l. l ++ next_phase s n m) at.all ∙ next.whole;
+  behind = subst (λ l. IsBehind s l now) next.whole gone.behind;
+  order = gone.order ∙ at.order;
+  took = subst (Appends taken_before taken_now)
+      (sym (grown-text s (take n s.commands) (next_phase s n m) run now text at.behind gone) ∙ ap (λ l. lines_of s.with l (history_of s now)) next.whole)
+      (Appends-more taken_before taken_middle taken_now (lines_of s.with (take n s.commands) (history_of s run)) text at.took took);
+  turns = phases-more (is_order start.schedule) s at.ps (next_phase s n m) (moment_of s start) (moment_of s run) (moment_of s now) at.turns
+      (subst (λ b. RunsPhase b s (next_phase s n m) (moment_of s run) (moment_of s now)) at.order gone.turns);
+}
 
 first-phases : (s : Script) (ps rest : List (List Command)) → AreFirst s.commands ps rest → phases_to (length ps) s.commands ≡ all_of ps
 first-phases s ps rest first = ap (λ l. all_of (take (length ps) l)) first.split ∙ ap all_of (take-append_seam ps rest)
 
-next-phases : (s : Script) (rest phase more : List Command) (ps : List (List Command)) → AreFirst s.commands ps (phases rest) → IsNext rest phase more
-    → phases_to (length ps + 1) s.commands ≡ all_of ps ++ phase
-next-phases s rest phase more ps first next =
-    ap (λ k. phases_to k s.commands) (let k : length ps + 1 ≡ length (ps ++ phase ∷ []) = omega (arith, length-append ps (phase ∷ [])) in k)
-    ∙ first-phases s (ps ++ phase ∷ []) (phases more) (next-first s rest phase more ps first next)
-    ∙ with-next ps phase
+-- the phases that are done, with the next one
+next-phases : (s : Script) (n m : ℕ) (ps : List (List Command)) → AreFirst s.commands ps (phases (drop n s.commands)) → all_of ps ≡ take n s.commands → IsNext s n m
+    → phases_to (length ps + 1) s.commands ≡ take m s.commands
+next-phases s n m ps first all next =
+    let both = ps ++ next_phase s n m ∷ [] in
+    let count : length ps + 1 ≡ length both = omega (arith, length-append ps (next_phase s n m ∷ [])) in
+    ap (λ k. phases_to k s.commands) count
+    ∙ first-phases s both (phases (drop m s.commands)) (record { split = first.split ∙ ap (λ l. ps ++ l) next.split ∙ sym (append_assoc ps (next_phase s n m ∷ []) (phases (drop m s.commands))) })
+    ∙ all_of-append ps (next_phase s n m ∷ []) ∙ ap (λ l. all_of ps ++ l) (append-nil (next_phase s n m)) ∙ ap (λ l. l ++ next_phase s n m) all ∙ next.whole
 
--- the phases that are done, and what is left
-first-all : (s : Script) (rest : List Command) (ps : List (List Command)) → AreFirst s.commands ps (phases rest) → all_of ps ++ rest ≡ s.commands
-first-all s rest ps first = sym (ap all_of first.split ∙ all_of-append ps (phases rest) ∙ ap (λ l. all_of ps ++ l) (all_of-phases rest)) ∙ all_of-phases s.commands
-
-next-all : (rest phase more : List Command) → IsNext rest phase more → rest ≡ phase ++ more
-next-all rest phase more next = sym (all_of-phases rest) ∙ ap all_of next.split ∙ ap (λ l. phase ++ l) (all_of-phases more)
-
--- What is done is a part of a run, in which each command ends before the next begins.
-pub in_order-done : (s : Script) (done rest : List Command) (history : List Event) → HasDone s.with s.hierarchy done history → done ++ rest ≡ s.commands → RunsInOrder s history
-in_order-done s done rest history has whole = record {
-  part = subst (λ l. IsRunSoFar s.with s.hierarchy l history) whole (IsRunSoFar-done s.with s.hierarchy done rest history has);
-  serial = subst (λ l. IsSerial s.with l history) whole (IsSerial-into s.with s.hierarchy done rest history has);
-}
-
-pub in_order-none : (s : Script) (history : List Event) → IsOpened s.with s.hierarchy history → RunsInOrder s history
-in_order-none s history opened = in_order-done s [] s.commands history (KeepsRun-opened s.with s.hierarchy history opened).has refl
-
--- between two phases
-pub in_order-at : (s : Script) (rest : List Command) (taken_before taken_now : Option (List ℕ)) (run : Run) → IsAtPhase s rest taken_before taken_now run
-    → RunsInOrder s run.store.ledger.history
-in_order-at s rest taken_before taken_now run at =
-    in_order-done s (all_of at.ps) rest run.store.ledger.history at.run_is.keeps.has (first-all s rest at.ps at.first)
-
--- where memory ran out in the next phase
-
-halt-all : (s : Script) (rest phase more : List Command) (taken_before taken_now : Option (List ℕ)) (run : Run) (now : List Event)
-    → IsNext rest phase more → (at : IsAtPhase s rest taken_before taken_now run)
-    → (halted : IsHalted s.with s.hierarchy (all_of at.ps) phase run.store.ledger.history now)
-    → (all_of at.ps ++ take halted.count phase) ++ (drop halted.count phase ++ more) ≡ s.commands
-halt-all s rest phase more taken_before taken_now run now next at halted =
-    append_assoc (all_of at.ps) (take halted.count phase) (drop halted.count phase ++ more)
-    ∙ ap (λ l. all_of at.ps ++ l) (sym (append_assoc (take halted.count phase) (drop halted.count phase) more) ∙ ap (λ l. l ++ more) (take-append-drop halted.count phase) ∙ sym (next-all rest phase more next))
-    ∙ first-all s rest at.ps at.first
-
-pub in_order-halt : (s : Script) (rest phase more : List Command) (taken_before taken_now : Option (List ℕ)) (run : Run) (now : List Event)
-    → IsNext rest phase more → (at : IsAtPhase s rest taken_before taken_now run)
-    → IsHalted s.with s.hierarchy (all_of at.ps) phase run.store.ledger.history now → RunsInOrder s now
-in_order-halt s rest phase more taken_before taken_now run now next at halted =
-    in_order-done s (all_of at.ps ++ take halted.count phase) (drop halted.count phase ++ more) now halted.has (halt-all s rest phase more taken_before taken_now run now next at halted)
-
--- where the sink failed behind it
-pub in_order-fault : (s : Script) (rest phase more : List Command) (taken_before taken_now : Option (List ℕ)) (run now : Run)
-    → IsNext rest phase more → (at : IsAtPhase s rest taken_before taken_now run)
-    → HasGone s.with s.hierarchy (all_of at.ps) phase at.written run.store.ledger.history now → RunsInOrder s now.store.ledger.history
-in_order-fault s rest phase more taken_before taken_now run now next at gone =
-    in_order-done s (all_of at.ps ++ phase) more now.store.ledger.history gone.run_is.keeps.has
-    (append_assoc (all_of at.ps) phase more ∙ ap (λ l. all_of at.ps ++ l) (sym (next-all rest phase more next)) ∙ first-all s rest at.ps at.first)
-
--- Memory ran out in the next phase.
-pub at-halt : (s : Script) (rest phase more : List Command) (taken_before taken_now : Option (List ℕ)) (run : Run) (now : List Event)
-    → IsNext rest phase more → (at : IsAtPhase s rest taken_before taken_now run)
-    → IsHalted s.with s.hierarchy (all_of at.ps) phase run.store.ledger.history now → RanInto Step s taken_before taken_now now
-at-halt s rest phase more taken_before taken_now run now next at halted =
-    let done = all_of at.ps in
-    let part = take halted.count phase in
-    let over = are_over-first s.with s.hierarchy done part now halted.has in
-    let whole : (done ++ part) ++ drop halted.count phase ≡ phases_to (length at.ps + 1) s.commands =
-    append_assoc done part (drop halted.count phase) ∙ ap (λ l. done ++ l) (take-append-drop halted.count phase) ∙ sym (next-phases s rest phase more at.ps at.first next) in
-    let text : at.written ≡ told_to (length at.ps) s.with s.commands now =
-    written-is s rest taken_before taken_now run at
-    ∙ sym (halted.kept.same done [] (append-nil done))
-    ∙ sym (told_to-first s.with s.commands at.ps (phases rest) now at.first over) in
-    record {
-      phase = length at.ps;
-      right = halted.right;
-      run = record {
-        part = subst (λ l. IsRunSoFar s.with s.hierarchy l now) whole (IsRunSoFar-done s.with s.hierarchy (done ++ part) (drop halted.count phase) now halted.has);
-        over = rw (first-phases s at.ps (phases rest) at.first) over;
-      };
-      inserts = subst (λ l. AllZip (λ c p. IsTrue (is_over_at now p) → InsertEnds s.hierarchy now c p) l (places s.with l now)) (halt-all s rest phase more taken_before taken_now run now next at halted)
-          (inserts-into s.with s.hierarchy (done ++ part) (drop halted.count phase ++ more) now halted.has);
-      took = subst (Appends taken_before taken_now) text at.took;
-    }
-
--- The next phase is done: its text is behind what was written.
-
-text-with-next : (s : Script) (rest phase more : List Command) (taken_before taken_now : Option (List ℕ)) (run now : Run)
-    → IsNext rest phase more → (at : IsAtPhase s rest taken_before taken_now run)
-    → HasGone s.with s.hierarchy (all_of at.ps) phase at.written run.store.ledger.history now
-    → told s.with s.commands now.store.ledger.history ≡ at.written ++ string_bytes now.text
-text-with-next s rest phase more taken_before taken_now run now next at gone =
-    let history = now.store.ledger.history in
-    let both = at.ps ++ phase ∷ [] in
-    let has : HasDone s.with s.hierarchy (all_of both) history = subst (λ l. HasDone s.with s.hierarchy l history) (sym (with-next at.ps phase)) gone.run_is.keeps.has in
-    told-first s.with s.commands both (phases more) history (next-first s rest phase more at.ps at.first next) (phases-some more)
-    (are_over-done s.with s.hierarchy (all_of both) history has) (none_more s.with s.hierarchy (all_of both) history has)
-    ∙ ap (λ l. lines_of s.with l history) (with-next at.ps phase)
-    ∙ sym gone.run_is.text
+-- the text of the phases that are done
+told-to-is : (s : Script) (n : ℕ) (taken_before taken_now : Option (List ℕ)) (start run : Run) (history : List Event) → IsAtPhase s n taken_before taken_now start run
+    → IsTrue (are_over history (places s.with (take n s.commands) history))
+    → (at : IsAtPhase s n taken_before taken_now start run) → told_to (length at.ps) s.with s.commands history ≡ lines_of s.with (take n s.commands) history
+told-to-is s n taken_before taken_now start run history is over at =
+    told_to-first s.with s.commands at.ps (phases (drop n s.commands)) history at.first (subst (λ l. IsTrue (are_over history (places s.with l history))) (sym at.all) over)
+    ∙ ap (λ l. lines_of s.with l history) at.all
 
 -- The sink failed in it.
-pub at-fault : (s : Script) (rest phase more : List Command) (taken_before taken_middle taken_now : Option (List ℕ)) (run now : Run)
-    → IsNext rest phase more → (at : IsAtPhase s rest taken_before taken_middle run)
-    → HasGone s.with s.hierarchy (all_of at.ps) phase at.written run.store.ledger.history now
-    → TookPart taken_middle taken_now (string_bytes now.text) → RanTo Step s taken_before taken_now now.store.ledger.history
-at-fault s rest phase more taken_before taken_middle taken_now run now next at gone part =
-    let history = now.store.ledger.history in
-    let text = text-with-next s rest phase more taken_before taken_middle run now next at gone in
-    let took : take (length at.written + part.count) (told s.with s.commands history) ≡ at.written ++ take part.count (string_bytes now.text) =
-    ap (take (length at.written + part.count)) text ∙ take-append-add at.written (string_bytes now.text) part.count in
-    let before : told_to (length at.ps) s.with s.commands history ≡ at.written =
-    told_to-first s.with s.commands at.ps (phases rest) history at.first (are_over-first s.with s.hierarchy (all_of at.ps) phase history gone.run_is.keeps.has)
-    ∙ gone.kept.same (all_of at.ps) [] (append-nil (all_of at.ps))
-    ∙ sym (written-is s rest taken_before taken_middle run at) in
+pub at-fault : (wanted : Wanted) (s : Script) (n m : ℕ) (taken_before taken_middle taken_now : Option (List ℕ)) (start run now : Run) (text : List ℕ) → IsNext s n m
+    → IsAtPhase s n taken_before taken_middle start run → HasGone s (take n s.commands) (next_phase s n m) run now text → TookPart taken_middle taken_now text
+    → RanTo wanted s taken_before taken_now (history_of s now)
+at-fault wanted s n m taken_before taken_middle taken_now start run now text next at gone part =
+    let history = history_of s now in
+    let behind : IsBehind s (take m s.commands) now = subst (λ l. IsBehind s l now) next.whole gone.behind in
+    let written = lines_of s.with (take n s.commands) (history_of s run) in
+    let grown : lines_of s.with (take m s.commands) history ≡ written ++ text =
+    ap (λ l. lines_of s.with l history) (sym next.whole) ∙ grown-text s (take n s.commands) (next_phase s n m) run now text at.behind gone in
+    let both = at-next s n m None None None start run now text next (unread s n taken_before taken_middle start run at) gone tt in
+    let whole : told s.with s.commands history ≡ written ++ text = told-is s m None None start now both ∙ grown in
+    let took : take (length written + part.count) (told s.with s.commands history) ≡ written ++ take part.count text =
+    ap (take (length written + part.count)) whole ∙ take-append-add written text part.count in
+    let over = first-over s.with (take n s.commands) (next_phase s n m) history (through-law s.with s.hierarchy (take n s.commands ++ next_phase s n m) history gone.behind.between.through).over in
+    let right = held-right s now gone.behind.is_held in
+    let each : EachEvent (Stands (site_of s.with s.hierarchy) right.0) (gone.grows.newer ++ history_of s run) = subst (EachEvent (Stands (site_of s.with s.hierarchy) right.0)) gone.grows.grown right.1 in
+    let before : told_to (length at.ps) s.with s.commands history ≡ written =
+    told-to-is s n taken_before taken_middle start run history at over at
+    ∙ ap (lines_of s.with (take n s.commands)) gone.grows.grown ∙ lines-grown (site_of s.with s.hierarchy) right.0 s.with s.hierarchy (take n s.commands) gone.grows.newer (history_of s run) each at.behind.between.through in
     record {
       phase = length at.ps;
-      ran = subst (λ l. HasRun s.with s.hierarchy l history) (sym (next-phases s rest phase more at.ps at.first next)) (has_run s (all_of at.ps ++ phase) at.written now gone.run_is);
+      ran = subst (λ l. HasRun s.with s.hierarchy l history) (sym (next-phases s n m at.ps at.first at.all next)) (has-run s (take m s.commands) now behind);
       took = record {
-        count = length at.written + part.count;
-        part = omega (arith, part.part, ap length text, length-append at.written (string_bytes now.text));
-        took = subst (Appends taken_before taken_now) (sym took) (Appends-more taken_before taken_middle taken_now at.written (take part.count (string_bytes now.text)) at.took part.took);
+        count = length written + part.count;
+        part = omega (arith, part.part, ap length whole, length-append written text);
+        took = subst (Appends taken_before taken_now) (sym took) (Appends-more taken_before taken_middle taken_now written (take part.count text) at.took part.took);
       };
       phases = omega (arith, ap length before);
     }
 
--- The sink took it.
-pub at-next : (s : Script) (rest phase more : List Command) (taken_before taken_middle taken_now : Option (List ℕ)) (run now cleared : Run)
-    → IsNext rest phase more → (at : IsAtPhase s rest taken_before taken_middle run)
-    → HasGone s.with s.hierarchy (all_of at.ps) phase at.written run.store.ledger.history now
-    → Appends taken_middle taken_now (string_bytes now.text)
-    → cleared.store ≡ now.store → cleared.done ≡ now.done → string_bytes cleared.text ≡ []
-    → IsAtPhase s more taken_before taken_now cleared
-at-next s rest phase more taken_before taken_middle taken_now run now cleared next at gone took store count empty = record {
-  ps = at.ps ++ phase ∷ [];
-  first = next-first s rest phase more at.ps at.first next;
-  written = at.written ++ string_bytes now.text;
-  run_is = subst (λ l. IsRun s.with s.hierarchy l (at.written ++ string_bytes now.text) cleared) (sym (with-next at.ps phase)) (record {
-    keeps = rw store gone.run_is.keeps;
-    count = count ∙ gone.run_is.count;
-    text = ap (λ t. (at.written ++ string_bytes now.text) ++ t) empty ∙ append-nil _ ∙ gone.run_is.text ∙ ap (λ f. lines_of s.with (all_of at.ps ++ phase) f.ledger.history) (sym store);
-  });
-  empty = empty;
-  took = Appends-more taken_before taken_middle taken_now at.written (string_bytes now.text) at.took took;
+-- Memory ran out in it.
+
+-- a part of a run is one of all commands
+stopped-all : (s : Script) (done phase more : List Command) (run now : Run) → HasStopped s done phase run now → (done ++ phase) ++ more ≡ s.commands → IsRunSoFar s.with s.hierarchy s.commands (history_of s now)
+stopped-all s done phase more run now stopped whole =
+    let cs = done ++ phase in
+    subst (λ l. IsRunSoFar s.with s.hierarchy l (history_of s now)) whole
+    (part_law s.with s.hierarchy (cs ++ more) (history_of s now) (start_law s.with s.hierarchy cs more (history_of s now) stopped.stopped.few stopped.stopped.part))
+
+pub at-halt : (wanted : Wanted) (s : Script) (n m : ℕ) (taken_before taken_now : Option (List ℕ)) (start run now : Run) → IsNext s n m
+    → IsAtPhase s n taken_before taken_now start run → HasStopped s (take n s.commands) (next_phase s n m) run now → RanInto wanted s taken_before taken_now (history_of s now)
+at-halt wanted s n m taken_before taken_now start run now next at stopped =
+    let history = history_of s now in
+    let done = take n s.commands in
+    let phase = next_phase s n m in
+    let right = held-right s now stopped.is_held in
+    let each : EachEvent (Stands (site_of s.with s.hierarchy) right.0) (stopped.grows.newer ++ history_of s run) = subst (EachEvent (Stands (site_of s.with s.hierarchy) right.0)) stopped.grows.grown right.1 in
+    let same : lines_of s.with done history ≡ lines_of s.with done (history_of s run) =
+    ap (lines_of s.with done) stopped.grows.grown ∙ lines-grown (site_of s.with s.hierarchy) right.0 s.with s.hierarchy done stopped.grows.newer (history_of s run) each at.behind.between.through in
+    let text : lines_of s.with done (history_of s run) ≡ told_to (length at.ps) s.with s.commands history =
+    sym same ∙ sym (told-to-is s n taken_before taken_now start run history at stopped.stopped.over at) in
+    let all = stopped-all s done phase (drop m s.commands) run now stopped (ap (λ l. l ++ drop m s.commands) next.whole ∙ take-append-drop m s.commands) in
+    record {
+      phase = length at.ps;
+      right = right.2;
+      run = record {
+        part = subst (λ l. IsRunSoFar s.with s.hierarchy l history) (next.whole ∙ sym (next-phases s n m at.ps at.first at.all next)) (part_law s.with s.hierarchy (done ++ phase) history stopped.stopped.part);
+        over = subst (λ l. IsTrue (are_over history (places s.with l history))) (sym (first-phases s at.ps (phases (drop n s.commands)) at.first ∙ at.all)) stopped.stopped.over;
+      };
+      inserts = inserts-end (site_of s.with s.hierarchy) right.0 s.with s.hierarchy history right.1 s.commands (places s.with s.commands history) all.begun;
+      took = subst (Appends taken_before taken_now) text at.took;
+    }
+
+-- What is left, however it ended.
+
+goes-to : (s : Script) (n : ℕ) (taken_before taken_now : Option (List ℕ)) (start run : Run) (at : IsAtPhase s n taken_before taken_now start run) (to : World) (schedule : Schedule)
+    → RunsPhase (is_order start.schedule) s (phase_of s (length at.ps)) (moment_of s run) (record { state = to; schedule = schedule }) → GoesTo (is_order start.schedule) s (moment_of s start) to
+goes-to s n taken_before taken_now start run at to schedule part = record {
+  phase = length at.ps;
+  between = moment_of s run;
+  whole = subst (λ l. RunPhases (is_order start.schedule) s l (moment_of s start) (moment_of s run)) (sym (ap (take (length at.ps)) at.first.split ∙ take-append_seam at.ps (phases (drop n s.commands)))) at.turns;
+  schedule = schedule;
+  part = part;
 }
+
+few-begun : (s : Script) (done : List Command) (run : Run) → IsBehind s done run → (session : ℕ) → length (begins_of (history_of s run) session) ≤ count_of s.with session done
+few-begun s done run behind session = omega (arith, behind.between.through.counts session)
+
+part-behind : (s : Script) (done more : List Command) (run : Run) → IsBehind s done run → done ++ more ≡ s.commands → IsRunSoFar s.with s.hierarchy s.commands (history_of s run)
+part-behind s done more run behind whole =
+    subst (λ l. IsRunSoFar s.with s.hierarchy l (history_of s run)) whole
+    (part_law s.with s.hierarchy (done ++ more) (history_of s run) (start_law s.with s.hierarchy done more (history_of s run) (few-begun s done run behind) behind.between.through.part))
+
+serial-behind : (s : Script) (done more : List Command) (run : Run) → IsBehind s done run → done ++ more ≡ s.commands → is_order run.schedule ≡ true → IsSerial s.with s.commands (history_of s run)
+serial-behind s done more run behind whole order =
+    subst (λ l. IsSerial s.with l (history_of s run)) whole
+    (serial_law s.with s.hierarchy (done ++ more) (history_of s run) (order-start-law s.with s.hierarchy done more (history_of s run) (few-begun s done run behind) (behind.between.ordered order)))
+
+-- between phases
+pub left-at : (s : Script) (n : ℕ) (taken_before taken_now : Option (List ℕ)) (start run : Run) → IsAtPhase s n taken_before taken_now start run → HasLeft s start run
+left-at s n taken_before taken_now start run at = record {
+  is_held = at.behind.is_held;
+  goes = goes-to s n taken_before taken_now start run at (world_of s run) run.schedule (record { turns = []; are = refl });
+  part = part-behind s (take n s.commands) (drop n s.commands) run at.behind (take-append-drop n s.commands);
+  serial = λ order. serial-behind s (take n s.commands) (drop n s.commands) run at.behind (take-append-drop n s.commands) (at.order ∙ order);
+}
+
+-- in a phase
+pub left-halt : (s : Script) (n m : ℕ) (taken_before taken_now : Option (List ℕ)) (start run now : Run) → IsNext s n m
+    → IsAtPhase s n taken_before taken_now start run → HasStopped s (take n s.commands) (next_phase s n m) run now → HasLeft s start now
+left-halt s n m taken_before taken_now start run now next at stopped =
+    let here : phase_of s (length at.ps) ≡ next_phase s n m =
+    ap (λ l. get_or l (length at.ps) []) (at.first.split ∙ ap (λ l. at.ps ++ l) next.split) ∙ get-seam at.ps (next_phase s n m) (phases (drop m s.commands)) in
+    let cs = take n s.commands ++ next_phase s n m in
+    let whole : cs ++ drop m s.commands ≡ s.commands = ap (λ l. l ++ drop m s.commands) next.whole ∙ take-append-drop m s.commands in
+    record {
+      is_held = stopped.is_held;
+      goes = goes-to s n taken_before taken_now start run at (world_of s now) stopped.schedule
+          (subst (λ l. RunsPhase (is_order start.schedule) s l (moment_of s run) (record { state = world_of s now; schedule = stopped.schedule })) (sym here)
+          (subst (λ b. RunsPhase b s (next_phase s n m) (moment_of s run) (record { state = world_of s now; schedule = stopped.schedule })) at.order stopped.turns));
+      part = stopped-all s (take n s.commands) (next_phase s n m) (drop m s.commands) run now stopped whole;
+      serial = λ order. subst (λ l. IsSerial s.with l (history_of s now)) whole
+          (serial_law s.with s.hierarchy (cs ++ drop m s.commands) (history_of s now) (order-start-law s.with s.hierarchy cs (drop m s.commands) (history_of s now) stopped.stopped.few (stopped.stopped.ordered (at.order ∙ order))));
+    }
+  where
+    get-seam : (ps : List (List Command)) (p : List Command) (rest : List (List Command)) → get_or (ps ++ p ∷ rest) (length ps) [] ≡ p
+    get-seam [] p rest = refl
+    get-seam (q ∷ ps) p rest = get-seam ps p rest
+
+-- The commands as a list that was lent.
+
+two-takes : (s : Script) (all : List Command) (n m : ℕ) → n ≤ m → all ≡ s.commands → take n (take m all) ≡ take n s.commands
+two-takes s all n m low is = take-take n m all low ∙ ap (take n) is
+
+pub stopped-of : (s : Script) (all : List Command) (n m : ℕ) (run now : Run) → n ≤ m → all ≡ s.commands → HasStopped s (take n (take m all)) (drop n (take m all)) run now
+    → HasStopped s (take n s.commands) (next_phase s n m) run now
+stopped-of s all n m run now low is stopped =
+    subst (λ (l : List Command). HasStopped s (take n s.commands) (drop n (take m l)) run now) is
+    (subst (λ l. HasStopped s l (drop n (take m all)) run now) (two-takes s all n m low is) stopped)
+
+pub gone-of : (s : Script) (all : List Command) (n m : ℕ) (run now : Run) (text : List ℕ) → n ≤ m → all ≡ s.commands → HasGone s (take n (take m all)) (drop n (take m all)) run now text
+    → HasGone s (take n s.commands) (next_phase s n m) run now text
+gone-of s all n m run now text low is gone =
+    subst (λ (l : List Command). HasGone s (take n s.commands) (drop n (take m l)) run now text) is
+    (subst (λ l. HasGone s l (drop n (take m all)) run now text) (two-takes s all n m low is) gone)
+
+pub next-of : (s : Script) (all : List Command) (n k : ℕ) → all ≡ s.commands → phases (drop n all) ≡ take k (drop n all) ∷ phases (drop k (drop n all)) → IsNext s n (n + k)
+next-of s all n k is split = next-is s n k (subst (λ (l : List Command). phases (drop n l) ≡ take k (drop n l) ∷ phases (drop k (drop n l))) is split)
+
+pub closes-of : (all : List Command) (n k : ℕ) → 0 < k → k ≤ length (drop n all) → NoneCloses (take (k - 1) (drop n all)) → ClosesLast (drop n (take (n + k) all))
+closes-of all n k some within none = subst ClosesLast (sym (drop-take n k all)) (closes-last (drop n all) k some within none)
+
+-- Commands of a script may run.
+
+may-one : (s : Script) (c : Command) → Fits s c → 0 < length s.hierarchy → MayRun s.hierarchy s.with c
+may-one s (command.Insert new) fits dims = record { names = fits.1; allowed = fits.0; is_run = tt }
+may-one s (command.Query question) fits dims = record { names = fits.1; allowed = (fits.0, dims, fits.2); is_run = tt }
+may-one s (command.Control call.Barrier) fits dims = record { names = tt; allowed = tt; is_run = tt }
+may-one s (command.Control call.Settle) fits dims = record { names = tt; allowed = tt; is_run = tt }
+may-one s (command.Control (call.Tree shard)) fits dims = record { names = tt; allowed = tt; is_run = tt }
+may-one s (command.Control (call.Sync server)) fits dims = record { names = tt; allowed = fits.1; is_run = tt }
+may-one s (command.Control (call.Split shard)) fits dims = absurd (false≢true fits.0)
+may-one s (command.Control (call.Move shard worker)) fits dims = absurd (false≢true fits.0)
+may-one s (command.Control (call.Balance most)) fits dims = absurd (false≢true fits.0)
+may-one s (command.Control call.Shards) fits dims = absurd (false≢true fits.0)
+may-one s (command.Control call.Audit) fits dims = absurd (false≢true fits.0)
+
+of-get : {A : Type 0} (P : A → Type 0) (xs : List A) (i : ℕ) (x : A) → All P xs → slice_get xs i ≡ Some x → P x
+of-get P [] i x all at = cc
+of-get P (y ∷ ys) zero x all at = let same : y ≡ x = cc in subst P same (All-head P y ys all)
+of-get P (y ∷ ys) (suc i) x all at = of-get P ys i x (All-tail P y ys all) at
+
+pub may-run : (s : Script) (all : List Command) (m : ℕ) → all ≡ s.commands → All (Fits s) s.commands → (0 < length s.commands → 0 < length s.hierarchy) → MayAllRun s.hierarchy s.with (take m all)
+may-run s all m is fits dims = λ i c at.
+    let low : i < length (take m all) = slice_get_within (take m all) i c at in
+    let few : length (take m all) ≤ m = length-take-most m all in
+    let here : slice_get s.commands i ≡ Some c = ap (λ l. slice_get l i) (sym is) ∙ sym (get-take all m i (omega arith)) ∙ at in
+    let within : i < length s.commands = slice_get_within s.commands i c here in
+    may-one s c (of-get (Fits s) s.commands i c fits here) (dims (omega arith))
+  where
+    length-take-most : (m : ℕ) (cs : List Command) → length (take m cs) ≤ m
+    length-take-most zero cs = omega arith
+    length-take-most (suc m) [] = omega arith
+    length-take-most (suc m) (c ∷ cs) = let more = length-take-most m cs in omega arith

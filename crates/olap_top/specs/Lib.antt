@@ -1,8 +1,9 @@
-pub mod Site
-pub mod Keeps
-pub mod Told
-pub mod RunSoFar
 pub mod Words
 pub mod Wanted
 pub mod Outcomes
 pub mod Statuses
+pub mod OneRun
+pub mod RowsKept
+pub mod Settles
+pub mod RunSoFar
+pub mod Left

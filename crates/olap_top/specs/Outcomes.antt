@@ -17,10 +17,9 @@ use Rattle.script_form.specs.Scripts.{records_of, script}
 use Rattle.script_run.specs.Phases.{phases_to}
 use Rattle.script_run.specs.Places.{places, is_over_at}
 use Rattle.answer_text.specs.Printed.{told, told_to, bad_line}
-use Rattle.olap_top.specs.Site.{site}
+use Rattle.row_ledger.specs.Site.{site_of}
 use Rattle.script_run.specs.Runs.{IsRunSoFar, IsRunOf, IsRunInto, IsSerial, InsertEnds}
-use Rattle.olap_top.specs.declared.words.Request.{Request}
-use Rattle.olap_top.specs.declared.words.Request.TheVariants.{Step}
+use Rattle.olap_top.specs.declared.wanted.Wanted.{Wanted}
 
 -- What was read.
 
@@ -36,18 +35,18 @@ pub record IsReadScript (before now : Option (List ℕ)) (s : Script) : Type 0 w
   pub read : IsReadWhole before now bytes
   pub is_script : script (records_of bytes) ≡ Ok s
 
--- this script is asked for: by the word `step` that of the bytes which the source gave
-abbrev pub IsAskedScript : Request → Option (List ℕ) → Option (List ℕ) → Script → Type 0
-IsAskedScript Step before now s = IsReadScript before now s
+-- this script is asked for: by the word `step`, with a seed or without, that of the bytes which the source gave
+abbrev pub IsAskedScript : Wanted → Option (List ℕ) → Option (List ℕ) → Script → Type 0
+IsAskedScript wanted before now s = IsReadScript before now s
 
 -- What is written.
 
 -- what is asked to be written of a script that ran with this history, whole and of the first k phases
-abbrev pub asked_text : Request → Script → List Event → List ℕ
-asked_text Step s history = told s.with s.commands history
+abbrev pub asked_text : Wanted → Script → List Event → List ℕ
+asked_text wanted s history = told s.with s.commands history
 
-abbrev pub asked_text_to : ℕ → Request → Script → List Event → List ℕ
-asked_text_to k Step s history = told_to k s.with s.commands history
+abbrev pub asked_text_to : ℕ → Wanted → Script → List Event → List ℕ
+asked_text_to k wanted s history = told_to k s.with s.commands history
 
 -- the sink took the first bytes of this text, and not all of it
 pub record TookPart (taken_before taken_now : Option (List ℕ)) (text : List ℕ) : Type 0 where
@@ -60,7 +59,7 @@ pub record TookPart (taken_before taken_now : Option (List ℕ)) (text : List �
 -- The history is right and a run of exactly these commands, and each insert of known leaf concepts is acknowledged or
 -- ended for want of memory.
 pub record HasRun (with : Use) (h : List Dimension) (commands : List Command) (history : List Event) : Type 0 where
-  pub right : IsRight (site with h) history
+  pub right : IsRight (site_of with h) history
   pub run : IsRunOf with h commands history
   pub inserts : AllZip (InsertEnds h history) commands (places with commands history)
 
@@ -69,46 +68,46 @@ pub record RunsInOrder (s : Script) (history : List Event) : Type 0 where
   pub part : IsRunSoFar s.with s.hierarchy s.commands history
   pub serial : IsSerial s.with s.commands history
 
-pub record IsSerialRun (request : Request) (left_before left_now : Option (List ℕ)) (history : List Event) : Type 0 where
+pub record IsSerialRun (wanted : Wanted) (left_before left_now : Option (List ℕ)) (history : List Event) : Type 0 where
   pub script : Script
-  pub read : IsAskedScript request left_before left_now script
+  pub read : IsAskedScript wanted left_before left_now script
   pub runs : RunsInOrder script history
 
 -- What each answer says.
 
 -- the script that was asked for ran, and the sink took its whole text
-pub record IsDone (request : Request) (left_before left_now taken_before taken_now : Option (List ℕ)) (history : List Event) : Type 0 where
+pub record IsDone (wanted : Wanted) (left_before left_now taken_before taken_now : Option (List ℕ)) (history : List Event) : Type 0 where
   pub script : Script
-  pub read : IsAskedScript request left_before left_now script
+  pub read : IsAskedScript wanted left_before left_now script
   pub ran : HasRun script.with script.hierarchy script.commands history
-  pub took : Appends taken_before taken_now (asked_text request script history)
+  pub took : Appends taken_before taken_now (asked_text wanted script history)
 
 -- The script ran up to the end of a phase, in whose text the sink failed: it took the first bytes of the text, and the
 -- whole text of the phases before.
-pub record RanTo (request : Request) (s : Script) (taken_before taken_now : Option (List ℕ)) (history : List Event) : Type 0 where
+pub record RanTo (wanted : Wanted) (s : Script) (taken_before taken_now : Option (List ℕ)) (history : List Event) : Type 0 where
   pub phase : ℕ
   pub ran : HasRun s.with s.hierarchy (phases_to (phase + 1) s.commands) history
-  pub took : TookPart taken_before taken_now (asked_text request s history)
-  pub phases : length (asked_text_to phase request s history) ≤ took.count
+  pub took : TookPart taken_before taken_now (asked_text wanted s history)
+  pub phases : length (asked_text_to phase wanted s history) ≤ took.count
 
-pub record IsCutOff (request : Request) (left_before left_now taken_before taken_now : Option (List ℕ)) (history : List Event) : Type 0 where
+pub record IsCutOff (wanted : Wanted) (left_before left_now taken_before taken_now : Option (List ℕ)) (history : List Event) : Type 0 where
   pub script : Script
-  pub read : IsAskedScript request left_before left_now script
-  pub ran : RanTo request script taken_before taken_now history
+  pub read : IsAskedScript wanted left_before left_now script
+  pub ran : RanTo wanted script taken_before taken_now history
 
 -- The script ran into a phase, in which memory ran out; the sink took the whole text of the phases before. An insert of
 -- known leaf concepts that is over was acknowledged or ended for want of memory.
-pub record RanInto (request : Request) (s : Script) (taken_before taken_now : Option (List ℕ)) (history : List Event) : Type 0 where
+pub record RanInto (wanted : Wanted) (s : Script) (taken_before taken_now : Option (List ℕ)) (history : List Event) : Type 0 where
   pub phase : ℕ
-  pub right : IsRight (site s.with s.hierarchy) history
+  pub right : IsRight (site_of s.with s.hierarchy) history
   pub run : IsRunInto phase s.with s.hierarchy s.commands history
   pub inserts : AllZip (λ c p. IsTrue (is_over_at history p) → InsertEnds s.hierarchy history c p) s.commands (places s.with s.commands history)
-  pub took : Appends taken_before taken_now (asked_text_to phase request s history)
+  pub took : Appends taken_before taken_now (asked_text_to phase wanted s history)
 
-pub record IsStarved (request : Request) (left_before left_now taken_before taken_now : Option (List ℕ)) (history : List Event) : Type 0 where
+pub record IsStarved (wanted : Wanted) (left_before left_now taken_before taken_now : Option (List ℕ)) (history : List Event) : Type 0 where
   pub script : Script
-  pub read : IsAskedScript request left_before left_now script
-  pub ran : RanInto request script taken_before taken_now history
+  pub read : IsAskedScript wanted left_before left_now script
+  pub ran : RanInto wanted script taken_before taken_now history
 
 -- what was read is no script: the sink took the line that tells the first bad record and its first cause, or failed at
 -- a part of it

@@ -1,47 +1,72 @@
--- What a run has made when these commands are done.
-use Rattle.std.specs.Prelude.{◌≡◌, ◌≤◌, ◌+◌, ℕ, List, [], ◌∷◌, ◌++◌, length, take, string_bytes}
-use Rattle.dim_hierarchy.specs.Dimension.{Dimension}
+-- What a run has made so far, and what a phase of it makes.
+use Rattle.std.specs.Prelude.{ℕ, ◌≡◌, ◌++◌, Bool, true, List, []}
+use Rattle.answer_text.specs.Printed.{phase_behind}
+use Rattle.answer_text.specs.Told.{HasTold}
+use Rattle.answer_text.specs.declared.text.Teller.{Teller}
 use Rattle.row_ledger.specs.declared.event.Event.{Event}
-use Rattle.row_ledger.specs.declared.settings.Use.{Use}
-use Rattle.row_ledger.specs.Right.{IsRight}
 use Rattle.script_form.specs.declared.script.Command.{Command}
-use Rattle.script_run.specs.Places.{places}
-use Rattle.answer_text.specs.Printed.{lines}
+use Rattle.script_form.specs.declared.script.Script.{Script}
+use Rattle.script_run.specs.Runs.{IsRunSoFar, IsSerial}
+use Rattle.seeded_run.specs.Kept.{IsBetween, IsStopped}
+use Rattle.seeded_run.specs.Phase.{IsCoreHeld, about, held, is_order}
+use Rattle.seeded_turns.specs.Drawn.{Moment}
+use Rattle.seeded_turns.specs.declared.schedule.Schedule.{Schedule}
+use Rattle.volap_cell.specs.Steps.{history_in}
+use Rattle.volap_cell.specs.World.{World}
+use Rattle.olap_top.specs.OneRun.{GoesTo, RunsPhase, phase_at, setting_of}
 use Rattle.olap_top.specs.declared.run.Run.{Run}
-use Rattle.olap_top.specs.Keeps.{KeepsRun, HasDone}
-use Rattle.olap_top.specs.Site.{site}
 
--- the lines of all commands that are done
-abbrev pub lines_of : Use → List Command → List Event → List ℕ
-lines_of with done history = lines 1 done (places with done history) history
+abbrev pub world_of : Script → Run → World
+world_of s run = held s.hierarchy s.with run.state
 
--- the lines of the first of these commands stay as they were
-pub record KeepsLines (with : Use) (done : List Command) (history now : List Event) : Type 0 where
-  pub same : (front back : List Command) → front ++ back ≡ done → lines_of with front now ≡ lines_of with front history
+abbrev pub history_of : Script → Run → List Event
+history_of s run = history_in (world_of s run)
 
--- A command with this number was done behind any others: what a run keeps it keeps still, and this text of the command is
--- behind theirs.
-pub record Does (with : Use) (h : List Dimension) (c : Command) (number : ℕ) (history now : List Event) (text : List ℕ) : Type 0 where
-  pub keeps : (done : List Command) → KeepsRun with h done history → KeepsRun with h (done ++ c ∷ []) now
-  pub told : (done : List Command) → KeepsRun with h done history → number ≡ 1 + length done
-      → lines_of with (done ++ c ∷ []) now ≡ lines_of with done history ++ text
-  pub kept : (done : List Command) → KeepsRun with h done history → KeepsLines with done history now
+abbrev pub moment_of : Script → Run → Moment World
+moment_of s run = record { state = world_of s run; schedule = run.schedule }
 
--- these bytes of the text were written, and the run holds the rest of it
-pub record IsRun (with : Use) (h : List Dimension) (done : List Command) (written : List ℕ) (run : Run) : Type 0 where
-  pub keeps : KeepsRun with h done run.store.ledger.history
-  pub count : run.done ≡ length done
-  pub text : written ++ string_bytes run.text ≡ lines_of with done run.store.ledger.history
+-- the run holds the core of the script's run
+pub record IsHeld (s : Script) (run : Run) : Type 0 where
+  pub core : IsCoreHeld s.hierarchy s.with run.state
+  pub about_is : about s.hierarchy s.with run.state ≡ setting_of s
 
--- A run was halted for want of memory when the first of some more commands were done.
-pub record IsHalted (with : Use) (h : List Dimension) (done more : List Command) (before history : List Event) : Type 0 where
-  pub count : ℕ
-  pub within : count ≤ length more
-  pub right : IsRight (site with h) history
-  pub has : HasDone with h (done ++ take count more) history
-  pub kept : KeepsLines with done before history
+-- these commands are told, by the history as it was when the last of them was over
+pub record HasToldSo (s : Script) (done : List Command) (history : List Event) (teller : Teller) : Type 0 where
+  pub past : List Event
+  pub more : List Event
+  pub told : HasTold s.with done past teller
+  pub grown : history ≡ more ++ past
 
--- more commands were done, one after the other
-pub record HasGone (with : Use) (h : List Dimension) (done more : List Command) (written : List ℕ) (before : List Event) (run : Run) : Type 0 where
-  pub run_is : IsRun with h (done ++ more) written run
-  pub kept : KeepsLines with done before run.store.ledger.history
+-- A run between two phases: these commands are over and told, in order where the schedule says so.
+pub record IsBehind (s : Script) (done : List Command) (run : Run) : Type 0 where
+  pub is_held : IsHeld s run
+  pub between : IsBetween (is_order run.schedule) (setting_of s) s.with done (world_of s run)
+  pub told : HasToldSo s done (history_of s run) run.teller
+
+-- the history has gone on
+pub record HasGrown (before now : List Event) : Type 0 where
+  pub newer : List Event
+  pub grown : now ≡ newer ++ before
+
+-- A phase ran to its end, and this is its text.
+pub record HasGone (s : Script) (done phase : List Command) (run now : Run) (text : List ℕ) : Type 0 where
+  pub behind : IsBehind s (done ++ phase) now
+  pub order : is_order now.schedule ≡ is_order run.schedule
+  pub turns : RunsPhase (is_order run.schedule) s phase (moment_of s run) (moment_of s now)
+  pub grows : HasGrown (history_of s run) (history_of s now)
+  pub text_is : text ≡ phase_behind s.with done phase (history_of s now)
+
+-- Memory ran out in a phase, or for its text.
+pub record HasStopped (s : Script) (done phase : List Command) (run now : Run) : Type 0 where
+  pub is_held : IsHeld s now
+  pub schedule : Schedule
+  pub turns : RunsPhase (is_order run.schedule) s phase (moment_of s run) (record { state = world_of s now; schedule = schedule })
+  pub grows : HasGrown (history_of s run) (history_of s now)
+  pub stopped : IsStopped (is_order run.schedule) (setting_of s) (phase_at s phase (moment_of s run)) done (world_of s now)
+
+-- what the phases of a script leave, however they ended
+pub record HasLeft (s : Script) (run now : Run) : Type 0 where
+  pub is_held : IsHeld s now
+  pub goes : GoesTo (is_order run.schedule) s (moment_of s run) (world_of s now)
+  pub part : IsRunSoFar s.with s.hierarchy s.commands (history_of s now)
+  pub serial : is_order run.schedule ≡ true → IsSerial s.with s.commands (history_of s now)

@@ -1,13 +1,13 @@
 -- What the words of a command line ask for.
-use Rattle.std.specs.Prelude.{◌≡◌, List, [], ◌∷◌, map, codes, string_bytes, String}
+use Rattle.std.specs.Prelude.{List, map, string_bytes, String}
 use Rattle.std.specs.declared.alloc.Global.{Global}
-use Rattle.olap_top.specs.declared.words.Request.{Request}
-use Rattle.olap_top.specs.declared.words.Request.TheVariants.{Step}
+use Rattle.olap_top.specs.Wanted.{Want}
+use Rattle.olap_top.specs.declared.wanted.Wanted.{Wanted}
 
 -- the words, without the program's name, ask for this
-abbrev pub AskFor : List (String Global) → Request → Type 0
-AskFor words Step = map string_bytes words ≡ codes "step" ∷ []
+abbrev pub AskFor : List (String Global) → Wanted → Type 0
+AskFor words wanted = Want (map string_bytes words) wanted
 
 -- the words ask for something of which this holds
-abbrev pub ForSomeRequest : List (String Global) → (Request → Type 0) → Type 0
-ForSomeRequest words P = (request : Request) × AskFor words request × P request
+abbrev pub ForSomeWanted : List (String Global) → (Wanted → Type 0) → Type 0
+ForSomeWanted words P = (wanted : Wanted) × AskFor words wanted × P wanted

@@ -1,20 +1,23 @@
-// Scripts made by chance: what the word `step` prints is what a plain list of rows answers.
+// Scripts made by chance: behind a settle the word `step` prints what a plain list of rows answers.
 ghost use Rattle.std.specs.Prelude.{◌<◌, ◌^◌, All};
 ghost use Rattle.dim_hierarchy.specs.Row.{IsRowOf};
 ghost use Rattle.script_form.specs.Scripts.{Fits};
 ghost use Rattle.script_form.specs.declared.script.Command.TheVariants as command;
 
-use crate::{Status, step};
+use crate::Status;
+use crate::flat::FlatRows;
+use crate::tests::step;
 use answer_text::{Answer, Line, Word, push_line};
 use dim_hierarchy::{FilterFault, Row};
 use rand_core::utils::NextWord;
 use rand_pcg::Pcg32;
 use script_form::{Command, NewRow, Question, Script, read_script};
-use shard_tree::FlatShard;
 use std::alloc::{AllocError, Global};
 use std::fmt::Write;
 use std::process::Abort;
+use std::sync::Wait;
 use std::test::Fail;
+use std::thread::Threads;
 use volap_io::{MemSink, MemSource};
 
 /// How many concepts the levels of the first dimension have, and the one level of the second.
@@ -24,13 +27,13 @@ const DAYS: u64 = 6;
 
 /// Numbers by chance, the same ones in each run.
 #[derive(Drop)]
-struct Dice {
-    words: Pcg32,
+pub(crate) struct Dice {
+    pub(crate) words: Pcg32,
 }
 
 impl Dice {
     /// A number below `sides`, which is 0 where that is 0.
-    fn roll(&mut self, sides: u64) -> u64
+    pub(crate) fn roll(&mut self, sides: u64) -> u64
         ensures below { 0 < sides → result < sides }
         ensures small { result < 2 ^ 32 }
     {
@@ -38,7 +41,7 @@ impl Dice {
     }
 
     /// Whether one of so many sides is up.
-    fn hits(&mut self, sides: u64) -> bool {
+    pub(crate) fn hits(&mut self, sides: u64) -> bool {
         self.roll(sides) == 0
     }
 }
@@ -58,10 +61,13 @@ fn push_level(text: &mut String, level: u64, count: u64, above: u64) -> Result<(
     Ok(())
 }
 
-/// The records before the first command.
-fn head(alloc: Global, cells: u64) -> Result<String, AllocError> {
+/// The records before the first command, of two servers and so many workers and cells.
+pub(crate) fn head(alloc: Global, workers: u64, cells: u64) -> Result<String, AllocError> {
     let mut text = String::new(alloc);
-    write!(text, "volap,1\nuse,2,1,1,{cells}\ndim,place,3\ndim,day,1\n")?;
+    write!(
+        text,
+        "volap,1\nuse,2,{workers},1,{cells}\ndim,place,3\ndim,day,1\n"
+    )?;
     push_level(&mut text, 0, PLACES[0], 1)?;
     push_level(&mut text, 1, PLACES[1], PLACES[0])?;
     push_level(&mut text, 2, PLACES[2], PLACES[1])?;
@@ -71,11 +77,15 @@ fn head(alloc: Global, cells: u64) -> Result<String, AllocError> {
     Ok(text)
 }
 
-/// Adds an insert; now and then its measure is as low as can be, or its place isn't known.
-fn push_insert(text: &mut String, dice: &mut Dice) -> Result<(), AllocError> {
+/// Adds the insert with a number, whose measure is a power of two: of up to 62 inserts each has its own,
+/// so that a sum tells which rows were counted. Now and then its place isn't known.
+pub(crate) fn push_insert(
+    text: &mut String,
+    dice: &mut Dice,
+    number: u64,
+) -> Result<(), AllocError> {
     let server = dice.roll(2);
-    let low = if dice.hits(30) { i64::MIN } else { -1000 };
-    let measure = low.saturating_add(dice.roll(2000) as i64);
+    let measure = 1u64 << (number % 62);
     let place = dice.roll(PLACES[2] + 1);
     let day = dice.roll(DAYS);
     writeln!(text, "insert,{server},{measure},2x{place},{day}")
@@ -95,36 +105,41 @@ fn push_places(text: &mut String, dice: &mut Dice) -> Result<(), AllocError> {
     Ok(())
 }
 
-/// Adds a command: of 16 about one is a query, and now and then there is a barrier.
-fn push_command(text: &mut String, dice: &mut Dice) -> Result<(), AllocError> {
+/// Adds a query behind a settle.
+fn push_query(text: &mut String, dice: &mut Dice) -> Result<(), AllocError> {
+    let server = dice.roll(2);
+    let day = dice.roll(DAYS + 1);
+    write!(text, "settle\nquery,{server},")?;
+    push_places(text, dice)?;
+    if day == DAYS {
+        writeln!(text, ",*")
+    } else {
+        writeln!(text, ",{day}")
+    }
+}
+
+/// Adds a command with a number: of 16 about one is a query, and now and then there is a barrier.
+fn push_command(text: &mut String, dice: &mut Dice, number: u64) -> Result<(), AllocError> {
     match dice.roll(32) {
-        0 | 1 => {
-            let server = dice.roll(2);
-            let day = dice.roll(DAYS + 1);
-            write!(text, "query,{server},")?;
-            push_places(text, dice)?;
-            if day == DAYS {
-                writeln!(text, ",*")
-            } else {
-                writeln!(text, ",{day}")
-            }
-        }
+        0 | 1 => push_query(text, dice),
         2 => writeln!(text, "barrier"),
-        _ => push_insert(text, dice),
+        _ => push_insert(text, dice, number),
     }
 }
 
 /// A script of so many commands.
 fn script(alloc: Global, dice: &mut Dice, cells: u64, count: u64) -> Result<String, AllocError> {
-    let mut text = head(alloc, cells)?;
-    for _ in 0..count {
-        push_command(&mut text, dice)?;
+    let workers = 1 + dice.roll(2);
+    let mut text = head(alloc, workers, cells)?;
+    for number in 0..count {
+        push_command(&mut text, dice, number)?;
     }
+    push_query(&mut text, dice)?;
     Ok(text)
 }
 
 /// Adds a row to the list.
-fn insert(flat: &mut FlatShard, script: &Script, no: u64, new: &NewRow) -> Result<Answer, Fail>
+fn insert(flat: &mut FlatRows, script: &Script, no: u64, new: &NewRow) -> Result<Answer, Fail>
     requires fits { Fits script.now (command.Insert new.now) }
     requires rows { All (IsRowOf script.now.hierarchy) flat.old.rows }
     ensures { All (IsRowOf script.now.hierarchy) flat.new.rows }
@@ -145,7 +160,7 @@ fn insert(flat: &mut FlatShard, script: &Script, no: u64, new: &NewRow) -> Resul
 /// Goes over the list.
 fn query(
     alloc: Global,
-    flat: &FlatShard,
+    flat: &FlatRows,
     script: &Script,
     question: &Question,
 ) -> Result<Answer, Fail>
@@ -162,7 +177,7 @@ fn query(
 /// What is answered to a command.
 fn answer(
     alloc: Global,
-    flat: &mut FlatShard,
+    flat: &mut FlatRows,
     script: &Script,
     no: u64,
     next: &Command,
@@ -182,7 +197,7 @@ fn answer(
 fn plain(alloc: Global, script: &Script) -> Result<String, Fail>
     requires { All (Fits script.now) script.now.commands }
 {
-    let mut flat = FlatShard::new(alloc);
+    let mut flat = FlatRows::new(alloc);
     let mut text = String::new(alloc);
     for (i, next) in script.commands.as_slice().iter().enumerate() {
         let number = i as u64 + 1;
@@ -197,7 +212,11 @@ fn plain(alloc: Global, script: &Script) -> Result<String, Fail>
 }
 
 /// Runs a script both ways.
-fn compare<R: Abort>(rt: &R, alloc: Global, text: &[u8]) -> Result<(), Fail> {
+fn compare<R: Abort + Threads + Wait + Sync>(
+    rt: &R,
+    alloc: Global,
+    text: &[u8],
+) -> Result<(), Fail> {
     assert!(rt; text.len() < 1_000_000);
     let Ok(script) = read_script(alloc, text) else {
         panic!(rt; "the script is good");
@@ -205,7 +224,7 @@ fn compare<R: Abort>(rt: &R, alloc: Global, text: &[u8]) -> Result<(), Fail> {
     let plain = plain(alloc, &script)?;
     let mut source = MemSource::new(text.to_vec(alloc)?, Vec::new(alloc), 4096);
     let mut sink = MemSink::new(alloc, 1_000_000, Vec::new(alloc), 4096)?;
-    let outcome = step(alloc, &mut source, &mut sink);
+    let outcome = step(rt, alloc, &mut source, &mut sink)?;
     assert_eq!(rt; outcome.status, Status::Done);
     assert_eq!(rt; sink.taken(), plain.as_str().as_bytes());
     Ok(())
@@ -217,13 +236,13 @@ fn scripts_by_chance(rt: HostRuntime) -> Result<(), Fail> {
     let dice = &mut Dice {
         words: Pcg32::new(1, 1),
     };
-    for round in 0..200 {
+    for round in 0..500 {
         // Few cells, which the longer ones of these scripts use up.
         let cells = 64 + 16 * dice.roll(3);
-        let count = if round % 20 == 0 {
+        let count = if round % 50 == 0 {
             2000
         } else {
-            30 + dice.roll(270)
+            20 + dice.roll(42)
         };
         let text = script(alloc, dice, cells, count)?;
         compare(&rt, alloc, text.as_str().as_bytes())?;

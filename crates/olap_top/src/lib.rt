@@ -1,22 +1,21 @@
 //! The top call: what the words of a command line ask, over a source and a sink.
 #![tactic(auto)]
 
-mod opening;
 mod outcome;
 mod run;
-mod store;
-mod told;
 mod top;
 mod wanted;
-mod words;
 
 pub use outcome::{Outcome, Status};
-pub use top::{olap, step};
+pub use top::olap;
 pub use wanted::Wanted;
-pub use words::Request;
 
 #[cfg(test)]
 mod against_flat;
+#[cfg(test)]
+mod by_seed;
+#[cfg(test)]
+mod flat;
 #[cfg(test)]
 mod tests;
 #[cfg(test)]

@@ -1,4 +1,5 @@
 use row_ledger::Ledger;
+use volap_cell::State;
 
 /// How a call of the top ended. The numbers, from 0 in this order, are the program's exit statuses.
 #[derive(Clone, Copy, Debug, PartialEq, Eq)]
@@ -31,9 +32,11 @@ impl Status {
     }
 }
 
-/// What a call of the top leaves: how it ended, and the history that it kept.
+/// What a call of the top leaves: how it ended, the history that it kept, and where something ran,
+/// the state of the core, in which the ledger's cell is free.
 #[derive(Drop)]
 pub struct Outcome {
     pub status: Status,
     pub ledger: Ledger,
+    pub rest: Option<State>,
 }

@@ -1,85 +1,87 @@
-// A script's run, command by command, and its text, phase by phase.
-ghost use Rattle.std.specs.Prelude.{◌≡◌, ◌<◌, ◌≤◌, List, ℕ, [], ◌∷◌, ◌++◌, length, string_bytes, All, IfOk, OnOk, OnErr};
-ghost use Rattle.script_form.specs.Scripts.{Fits};
-ghost use Rattle.script_form.specs.declared.script.Command.{Command};
-ghost use Rattle.olap_top.specs.Keeps.{IsOpened, KeepsShard};
+// A script's run over the core, and its text, phase by phase.
+ghost use Rattle.std.specs.Prelude.{◌≡◌, ◌≤◌, List, [], length, take, drop, reverse, IfOk, OnErr};
+ghost use Rattle.dim_hierarchy.specs.Dimension.{Dimension};
+ghost use Rattle.row_ledger.specs.declared.settings.Use as settings;
+ghost use Rattle.seeded_run.specs.Phase.{ClosesLast, IsCoreHeld, MayAllRun, held};
+ghost use Rattle.seeded_run.specs.Roles.{CanOpen};
+ghost use Rattle.volap_cell.specs.Steps.{history_in};
 
-use crate::store::Store;
-use crate::told::push_told;
-use row_ledger::Ledger;
+use answer_text::Teller;
+use row_ledger::Event;
 use script_form::{Command, Script};
+use seeded_run::{open_core, run_phase};
+use seeded_turns::Schedule;
 use std::alloc::{AllocError, Global};
+use volap_cell::{Cell, State};
 
-/// What a run has made so far: the shard and the history, and of the text what is not written yet.
+/// The events so far, the oldest first.
+fn events(state: &State) -> &[Event]
+    requires core { (h : List Dimension) × (with : settings.Use) × IsCoreHeld h with state.now }
+    ensures { (h : List Dimension) (with : settings.Use) → reverse result.now ≡ history_in (held h with state.now) }
+{
+    match state.cells.get(0) {
+        Some(Some(Cell::Ledger(ledger))) => ledger.events(),
+        _ => unreachable!(),
+    }
+}
+
+/// What a run has made so far: the core; whose turn is next in it; and what is told of it.
 #[derive(Drop)]
 pub struct Run {
-    pub store: Store,
-    pub text: String,
-    pub done: u64,
-    ghost counted: { done ≤ length store.ledger.history },
+    pub state: State,
+    pub schedule: Schedule,
+    pub teller: Teller,
 }
 
 impl Run {
-    ghost use Rattle.olap_top.specs.RunSoFar.{IsRun, IsHalted, HasGone};
+    ghost use Rattle.olap_top.specs.RunSoFar.{HasGone, HasStopped, IsBehind, history_of};
+    ghost use Rattle.volap_cell.specs.Opening.{IsOpening};
+    ghost use Rattle.olap_top.specs.OneRun.{setting_of};
+    ghost use Rattle.olap_top.specs.RunSoFar.{world_of};
 
-    /// No command done, behind this history of an opening.
-    pub fn new(alloc: Global, script: &Script, ledger: Ledger) -> Result<Run, AllocError>
-        requires dims { 0 < length script.now.hierarchy }
-        requires opened { IsOpened script.now.with script.now.hierarchy ledger.history }
-        ensures run { IfOk result (IsRun script.now.with script.now.hierarchy [] []) }
-        ensures shard { IfOk result (λ r. KeepsShard script.now.hierarchy r.store.shard r.store.ledger.history) }
-        ensures text { IfOk result (λ r. string_bytes r.text ≡ []) }
+    /// The core of a script as it opens, with nothing done.
+    pub fn new(alloc: Global, script: &Script, schedule: Schedule) -> Result<Run, AllocError>
+        requires { CanOpen script.now.hierarchy script.now.with }
+        ensures behind { IfOk result (IsBehind script.now []) }
+        ensures opening { IfOk result (λ run. IsOpening (setting_of script.now) (world_of script.now run)) }
+        ensures schedule { IfOk result (λ run. run.schedule ≡ schedule) }
     {
+        let state = open_core(alloc, &script.hierarchy, &script.with)?;
+        let teller = Teller::new(alloc)?;
         Ok(Run {
-            store: Store::new(alloc, script, ledger)?,
-            text: String::new(alloc),
-            done: 0,
+            state,
+            schedule,
+            teller,
         })
     }
 
-    /// Does one command to its end and adds what is told of it.
-    fn step(&mut self, alloc: Global, script: &Script, command: &Command) -> Result<(), AllocError>
-        requires fits { Fits script.now command.now }
-        requires shard { KeepsShard script.now.hierarchy self.old.store.shard self.old.store.ledger.history }
-        ensures shard { OnOk result (KeepsShard script.now.hierarchy self.new.store.shard self.new.store.ledger.history) }
-        ensures run { OnOk result ((done : List Command) (written : List ℕ)
-            → IsRun script.now.with script.now.hierarchy done written self.old
-            → HasGone script.now.with script.now.hierarchy done (command.now ∷ []) written
-            self.old.store.ledger.history self.new) }
-        ensures stopped { OnErr result ((done : List Command) (written : List ℕ)
-            → IsRun script.now.with script.now.hierarchy done written self.old
-            → IsHalted script.now.with script.now.hierarchy done (command.now ∷ [])
-            self.old.store.ledger.history self.new.store.ledger.history) }
-    {
-        self.store.ledger.reserve(2)?;
-        let number = self.done + 1;
-        let told = self.store.step(alloc, script, command, number);
-        self.done = number;
-        push_told(&mut self.text, number, command, &told)
-    }
-
-    /// Does the commands of a phase in their order, each to its end.
+    /// Runs the last of these commands as a phase, behind those in front of them, which are done, and
+    /// answers its text.
     pub fn phase(
         &mut self,
         alloc: Global,
         script: &Script,
         commands: &[Command],
-    ) -> Result<(), AllocError>
-        requires fits { All (Fits script.now) commands.now }
-        requires shard { KeepsShard script.now.hierarchy self.old.store.shard self.old.store.ledger.history }
-        ensures shard { OnOk result (KeepsShard script.now.hierarchy self.new.store.shard self.new.store.ledger.history) }
-        ensures run { OnOk result ((done : List Command) (written : List ℕ)
-            → IsRun script.now.with script.now.hierarchy done written self.old
-            → HasGone script.now.with script.now.hierarchy done commands.now written
-            self.old.store.ledger.history self.new) }
-        ensures stopped { OnErr result ((done : List Command) (written : List ℕ)
-            → IsRun script.now.with script.now.hierarchy done written self.old
-            → IsHalted script.now.with script.now.hierarchy done commands.now
-            self.old.store.ledger.history self.new.store.ledger.history) }
+        done: usize,
+    ) -> Result<Vec<u8>, AllocError>
+        requires within { done ≤ length commands.now }
+        requires may_run { MayAllRun script.now.hierarchy script.now.with commands.now }
+        requires closes { ClosesLast (drop done commands.now) }
+        requires behind { IsBehind script.now (take done commands.now) self.old }
+        ensures gone { IfOk result (λ text. HasGone script.now (take done commands.now) (drop done commands.now) self.old self.new text.items) }
+        ensures stopped { OnErr result (HasStopped script.now (take done commands.now) (drop done commands.now) self.old self.new) }
     {
-        for command in commands {
-            self.step(alloc, script, command)?;
-        }
-        Ok(())
+        let (before, phase) = commands.split_at(done);
+        run_phase(
+            alloc,
+            &script.hierarchy,
+            &script.with,
+            before,
+            phase,
+            &mut self.state,
+            &mut self.schedule,
+        )?;
+        let events = events(&self.state);
+        self.teller.phase(alloc, &script.with, commands, events)
     }
 }

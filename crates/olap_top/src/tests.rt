@@ -20,7 +20,7 @@ fn on_base(alloc: Global, lines: &str) -> Result<String, AllocError> {
     Ok(text)
 }
 
-fn words(alloc: Global, all: &[&str]) -> Result<Vec<String>, AllocError> {
+pub(crate) fn words(alloc: Global, all: &[&str]) -> Result<Vec<String>, AllocError> {
     let mut words = Vec::new(alloc);
     for word in all {
         words.push(String::from_str(alloc, word)?)?;
@@ -37,6 +37,24 @@ pub(crate) fn step<R: Threads + Wait + Sync>(
 ) -> Result<Outcome, AllocError> {
     let words = words(alloc, &["step"])?;
     Ok(olap(rt, alloc, words.as_slice(), source, sink, &Quiet))
+}
+
+/// Runs a text as these words ask, and compares.
+fn expect_words<R: Abort + Threads + Wait + Sync>(
+    rt: &R,
+    alloc: Global,
+    list: &[&str],
+    text: &str,
+    printed: &str,
+) -> Result<(), Fail> {
+    let words = words(alloc, list)?;
+    let mut source = MemSource::new(text.as_bytes().to_vec(alloc)?, Vec::new(alloc), 4096);
+    let mut sink = MemSink::new(alloc, 1000, Vec::new(alloc), 4096)?;
+    let outcome = olap(rt, alloc, words.as_slice(), &mut source, &mut sink, &Quiet);
+    assert_eq!(rt; outcome.status, Status::Done);
+    assert!(rt; outcome.rest.is_some());
+    assert_eq!(rt; sink.taken(), printed.as_bytes());
+    Ok(())
 }
 
 /// Runs a text from a source and into a sink of so many bytes a call, and compares.
@@ -84,7 +102,7 @@ fn expect_from<R: Abort + Threads + Wait + Sync>(
 #[test]
 fn scripts_and_their_answers(rt: HostRuntime) -> Result<(), Fail> {
     let alloc = rt.alloc();
-    let rows: [(&str, &str); 12] = [
+    let rows: [(&str, &str); 14] = [
         ("query,0,*\n", "1 query 0 0 - -\n"),
         (
             "insert,0,5,paris\ninsert,0,6,berlin\n",
@@ -127,6 +145,14 @@ fn scripts_and_their_answers(rt: HostRuntime) -> Result<(), Fail> {
             "1 insert ok\n2 insert ok\n3 barrier ok\n4 query 2 12 5 7\n5 query 2 12 5 7\n6 barrier ok\n7 barrier ok\n",
         ),
         (
+            "insert,0,5,berlin\nbarrier\nquery,1,*\nsettle\nquery,1,*\n",
+            "1 insert ok\n2 barrier ok\n3 query 0 0 - -\n4 settle ok\n5 query 1 5 5 5\n",
+        ),
+        (
+            "insert,0,5,berlin\nbarrier\nsync,0\nsync,1\nbarrier\ninsert,0,7,berlin\nbarrier\nquery,1,berlin\n",
+            "1 insert ok\n2 barrier ok\n3 sync ok\n4 sync ok\n5 barrier ok\n6 insert ok\n7 barrier ok\n8 query 2 12 5 7\n",
+        ),
+        (
             "barrier\nquery,1,rome\ninsert,1,3,berlin",
             "1 barrier ok\n2 query unknown 0\n3 insert ok\n",
         ),
@@ -164,6 +190,22 @@ fn whole_scripts_and_their_answers(rt: HostRuntime) -> Result<(), Fail> {
     Ok(())
 }
 
+#[test]
+fn a_script_by_seeds(rt: HostRuntime) -> Result<(), Fail> {
+    let alloc = rt.alloc();
+    let text = on_base(alloc, GOOD)?;
+    let lists: [&[&str]; 4] = [
+        &["step", "--seed", "7"],
+        &["step", "--seed=7"],
+        &["step", "--seed", "0"],
+        &["step", "--seed", "18446744073709551615"],
+    ];
+    for list in lists {
+        expect_words(&rt, alloc, list, text.as_str(), GOOD_LINES)?;
+    }
+    Ok(())
+}
+
 // What is a bad record and what is its first cause is tested where scripts are read; here stands what is printed of it.
 #[test]
 fn bad_scripts_and_their_causes(rt: HostRuntime) -> Result<(), Fail> {
@@ -180,7 +222,7 @@ fn bad_scripts_and_their_causes(rt: HostRuntime) -> Result<(), Fail> {
             "bad 6 name\n",
         ),
         ("insert,2,5,berlin\n", "bad 6 number\n"),
-        ("sync,0\n", "bad 6 kind\n"),
+        ("sync,9\n", "bad 6 number\n"),
         (
             "insert,0,5,berlin\nquery,0,de\nquery,9,de\n",
             "bad 8 number\n",
@@ -230,7 +272,7 @@ fn a_failing_source(rt: HostRuntime) -> Result<(), Fail> {
 #[test]
 fn a_failing_sink(rt: HostRuntime) -> Result<(), Fail> {
     let alloc = rt.alloc();
-    let rows: [(&str, u64, usize, Status, &str); 6] = [
+    let rows: [(&str, u64, usize, Status, &str); 7] = [
         (
             PHASES,
             1,
@@ -252,6 +294,13 @@ fn a_failing_sink(rt: HostRuntime) -> Result<(), Fail> {
             Status::Done,
             "1 insert ok\n2 barrier ok\n3 query 1 5 5 5\n4 barrier ok\n",
         ),
+        (
+            "insert,0,5,berlin\nbarrier\nquery,1,*\nsettle\nquery,1,*\n",
+            1,
+            100,
+            Status::WriteFault,
+            "1 insert ok\n2 barrier ok\n",
+        ),
         (GOOD, 0, 100, Status::WriteFault, ""),
         (
             GOOD,
@@ -260,7 +309,7 @@ fn a_failing_sink(rt: HostRuntime) -> Result<(), Fail> {
             Status::WriteFault,
             "1 insert ok\n2 query 1 5 5 5",
         ),
-        ("sync,0\n", 1, 3, Status::BadScript, "bad"),
+        ("sync,9\n", 1, 3, Status::BadScript, "bad"),
     ];
     for (lines, call, most, status, taken) in rows {
         let mut source = source_of(alloc, lines, Vec::new(alloc))?;
@@ -307,6 +356,7 @@ fn expect_bad_words<R: Abort + Threads + Wait + Sync>(
         let words = words(alloc, list)?;
         let outcome = olap(rt, alloc, words.as_slice(), source, sink, &Quiet);
         assert_eq!(rt; outcome.status, Status::BadWords);
+        assert!(rt; outcome.rest.is_none());
     }
     Ok(())
 }
@@ -344,7 +394,7 @@ fn a_history_tells_what_was_printed(rt: HostRuntime) -> Result<(), Fail> {
     let middle = phase(alloc, &script.with, &script.commands, &history, 1)?;
     assert_eq!(rt;
         middle.as_slice(),
-        "4 query 1 5 5 5\n5 query unknown 0\n6 tree 0 height 1 rows 1 queued 0\n6 node 0 leaf 1 1 1 5 5 5 2:0\n".as_bytes()
+        "4 query 0 0 - -\n5 query unknown 0\n6 tree 0 height 1 rows 1 queued 0\n6 node 0 leaf 1 1 1 5 5 5 2:0\n".as_bytes()
     );
     Ok(())
 }

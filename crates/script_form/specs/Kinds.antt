@@ -26,11 +26,9 @@ kind_named word =
 
 -- The kinds that a script may have so far: those that the program runs. A kind is let in by its line here.
 abbrev pub is_read : Kind → Bool
-is_read kind.Sync = false
 is_read kind.Split = false
 is_read kind.Move = false
 is_read kind.Balance = false
-is_read kind.Settle = false
 is_read kind.Shards = false
 is_read kind.Audit = false
 is_read _ = true

@@ -10,7 +10,7 @@ use Rattle.script_run.proofs.Between.{get-behind, order-start-law, phase-end-law
 use Rattle.script_run.proofs.NextCommand.{over-now}
 use Rattle.script_run.proofs.PlaceFacts.{count_of-append}
 use Rattle.script_run.proofs.PhaseEnds.{all-over, first-place, get-first}
-use Rattle.script_run.proofs.Whole.{get-some, part_law, places-length, serial_law}
+use Rattle.script_run.proofs.Whole.{get-some, places-length}
 use Rattle.script_run.specs.Phases.{closes}
 use Rattle.script_run.specs.Places.{begins_of, count_of, is_over_at, places, session_of}
 use Rattle.script_run.specs.Streams.{AreFinished, AreStreams}
@@ -291,14 +291,14 @@ phase-ends-law true s p done w g next i r none =
 
 pub stops-law : StopsLaw
 stops-law in_order s p done w next r = record {
-  part = part_law p.with s.hierarchy (done ++ p.commands) (history_in w) r.in_phase.part;
+  part = r.in_phase.part;
   few = λ session. few session;
   over = all-over (history_in w) (places p.with done (history_in w)) (λ j low.
       let within : j < length done = omega (arith, low, places-length p.with done (history_in w)) in
       let c = get-some done j within in
       let found = r.in_phase.past j c.0 (get-first done p.commands j within ∙ c.1) within in
       (found.0, sym (first-place p.with done p.commands (history_in w) j within) ∙ found.1, found.2));
-  serial = λ order. serial_law p.with s.hierarchy (done ++ p.commands) (history_in w) (r.ordered order).order;
+  ordered = λ order. (r.ordered order).order;
 }
   where
     few : (session : ℕ) → length (begins_of (history_in w) session) ≤ count_of p.with session (done ++ p.commands)

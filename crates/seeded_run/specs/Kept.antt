@@ -6,7 +6,8 @@ use Rattle.row_ledger.specs.declared.settings.Use.{Use}
 use Rattle.script_form.specs.declared.script.Command.{Command}
 use Rattle.script_run.specs.Between.{AreFirst, IsInOrder, IsThrough}
 use Rattle.script_run.specs.Places.{are_over, begins_of, count_of, places, session_of}
-use Rattle.script_run.specs.Runs.{Begins, IsRunSoFar, IsSerial}
+use Rattle.script_run.specs.Parts.{IsPartAt, Waits, place_in}
+use Rattle.script_run.specs.Runs.{Begins}
 use Rattle.volap_cell.specs.Ghost.{Ghost}
 use Rattle.volap_cell.specs.Invariant.{InvWith}
 use Rattle.volap_cell.specs.Setting.{Setting, actor_count}
@@ -53,10 +54,10 @@ RunsLaw = (in_order : Bool) (s : Setting) (p : PhaseRun) (done : List Command) (
 -- What is said of a run that stops in the midst of a phase: it is a part of a run of the commands so far, of which those before the
 -- phase are over; in their order where that is asked for. No session has begun more than these have.
 pub record IsStopped (in_order : Bool) (s : Setting) (p : PhaseRun) (done : List Command) (w : World) : Type 0 where
-  pub part : IsRunSoFar p.with s.hierarchy (done ++ p.commands) (history_in w)
+  pub part : IsPartAt p.with s.hierarchy (done ++ p.commands) (Waits p.with (done ++ p.commands)) (history_in w) (place_in p.with (done ++ p.commands) (history_in w))
   pub few : (session : ℕ) → length (begins_of (history_in w) session) ≤ count_of p.with session (done ++ p.commands)
   pub over : IsTrue (are_over (history_in w) (places p.with done (history_in w)))
-  pub serial : in_order ≡ true → IsSerial p.with (done ++ p.commands) (history_in w)
+  pub ordered : in_order ≡ true → IsInOrder p.with s.hierarchy (done ++ p.commands) (history_in w)
 
 -- So it is wherever a phase runs.
 abbrev pub StopsLaw : Type 0

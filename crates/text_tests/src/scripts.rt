@@ -32,7 +32,7 @@ type BadCase = (&'static [u8], u64, Cause);
 
 #[test]
 fn bad_texts(rt: HostRuntime) {
-    const CASES: [BadCase; 21] = [
+    const CASES: [BadCase; 23] = [
         (b"", 1, Cause::Version),
         (b"\n\r\n", 1, Cause::Version),
         (b"volap,2", 1, Cause::Version),
@@ -44,6 +44,8 @@ fn bad_texts(rt: HostRuntime) {
         (b"volap,1\nbarrier", 2, Cause::Order),
         (b"volap,1\ntree,0", 2, Cause::Order),
         (b"volap,1\ninsert,0", 2, Cause::Order),
+        (b"volap,1\nsync,9", 2, Cause::Order),
+        (b"volap,1\nsettle", 2, Cause::Order),
         (b"volap,1\nuse,2,2,2", 2, Cause::Fields),
         (b"volap,1\nuse,0,2,2,64", 2, Cause::Number),
         (b"volap,1\nuse,17,2,2,64", 2, Cause::Number),
@@ -70,7 +72,7 @@ fn bad_texts(rt: HostRuntime) {
 
 #[test]
 fn bad_records_behind_the_base(rt: HostRuntime) -> Result<(), Fail> {
-    const CASES: [BadCase; 62] = [
+    const CASES: [BadCase; 70] = [
         (b"insert,0,5", 6, Cause::Fields),
         (b"insert,0,5,berlin,berlin", 6, Cause::Fields),
         (b"insert,0,x", 6, Cause::Fields),
@@ -144,7 +146,15 @@ fn bad_records_behind_the_base(rt: HostRuntime) -> Result<(), Fail> {
             Cause::Order,
         ),
         (b"dim,x,1\ninsert,0,5,berlin", 7, Cause::Fields),
-        (b"settle", 6, Cause::Kind),
+        (b"sync", 6, Cause::Fields),
+        (b"sync,0,0", 6, Cause::Fields),
+        (b"settle,0", 6, Cause::Fields),
+        (b"sync,2", 6, Cause::Number),
+        (b"sync,", 6, Cause::Number),
+        (b"sync,-0", 6, Cause::Number),
+        (b"settle\ndim,x,1", 7, Cause::Order),
+        (b"sync,0\nconcept,geo,rome,de", 7, Cause::Order),
+        (b"audit", 6, Cause::Kind),
         (b"trees,0", 6, Cause::Kind),
         (b"Insert,0,5,berlin", 6, Cause::Kind),
         (b"\"\"", 6, Cause::Kind),
@@ -158,7 +168,7 @@ fn bad_records_behind_the_base(rt: HostRuntime) -> Result<(), Fail> {
 
 #[test]
 fn good_texts(rt: HostRuntime) -> Result<(), Fail> {
-    const CASES: [(&[u8], usize); 10] = [
+    const CASES: [(&[u8], usize); 11] = [
         (b"", 0),
         (b"insert,0,5,\"berlin\"\r\nquery,1,de|berlin\r\nbarrier", 3),
         (
@@ -180,6 +190,7 @@ fn good_texts(rt: HostRuntime) -> Result<(), Fail> {
             2,
         ),
         (b"tree,4294967295", 1),
+        (b"sync,00000000000000000001\nsettle\nsync,0\nsettle", 4),
         (
             b"tree,0\ninsert,0,5,berlin\ntree,00000000000000000001\nbarrier",
             4,
@@ -230,12 +241,15 @@ fn expect_commands<R: Abort>(rt: &R, commands: &[Command]) {
         Command::Insert(row),
         Command::Query(question),
         Command::Control(Call::Tree(shard)),
+        Command::Control(Call::Sync(server)),
         Command::Control(Call::Barrier),
+        Command::Control(Call::Settle),
     ] = commands
     else {
         panic!(rt; "other commands");
     };
     assert_eq!(rt; *shard, 4294967295);
+    assert_eq!(rt; *server, 1);
     expect_insert(rt, row);
     expect_query(rt, question);
 }
@@ -243,7 +257,7 @@ fn expect_commands<R: Abort>(rt: &R, commands: &[Command]) {
 #[test]
 fn what_a_script_holds(rt: HostRuntime) -> Result<(), Fail> {
     const TEXT: &[u8] =
-        b"volap,1\nuse,3,16,8,64\ndim,geo,2\nconcept,geo,de,*\ndim,day,1\nconcept,day,mon,*\ninsert,2,-5,berlin,mon\nquery,0,de|fr,*\ntree,4294967295\nbarrier\n";
+        b"volap,1\nuse,3,16,8,64\ndim,geo,2\nconcept,geo,de,*\ndim,day,1\nconcept,day,mon,*\ninsert,2,-5,berlin,mon\nquery,0,de|fr,*\ntree,4294967295\nsync,1\nbarrier\nsettle\n";
     let script = read_script(rt.alloc(), TEXT)?;
     script_laws();
     expect_head(&rt, &script);

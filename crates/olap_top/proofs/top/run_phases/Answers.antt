@@ -1,77 +1,112 @@
-use Rattle.std.proofs.Common.{◌≡◌, ◌∙◌, ◌≤◌, [], List, length, refl, sym, subst, arith}
-use Rattle.std.proofs.lemmas.Bool.{eqb-true}
-use Rattle.std.proofs.lemmas.List.{nil_from_length}
-use Rattle.std.proofs.lemmas.List.Elements.{All-take, All-drop}
+use Rattle.std.proofs.Common.{◌≡◌, ◌+◌, ◌-◌, ◌≤◌, List, ◌∷◌, None, length, take, drop, ap, subst, arith}
+use Rattle.std.proofs.lemmas.List.{length-drop}
 use Rattle.volap_io.specs.Causes.{Rose}
-use Rattle.script_run.specs.Phases.{all_of}
 use Rattle.script_form.specs.declared.script.Command.{Command}
-use Rattle.script_form.specs.Scripts.{Fits}
-use Rattle.olap_top.proofs.PhaseSteps.{IsAtPhase, IsNext, next-is, at-start, at-done, at-halt, at-fault, at-next, in_order-at, in_order-halt, in_order-fault}
+use Rattle.script_run.specs.Phases.{NoneCloses, phases}
+use Rattle.olap_top.proofs.PhaseSteps.{at-done, at-fault, at-halt, at-next, at-start, closes-of, gone-of, left-at, left-halt, may-run, next-of, stopped-of, unread}
 use Rattle.olap_top.proofs.top.run_phases.Goals as goal
 
-pub loop-rest-init : goal.loop-rest-init
-loop-rest-init g c = record {
-  at = rw c.as_slice-rest.ensures (at-start c.args.script.now (g.K.Sink.taken c.args.sink.now) c.args.run.now c.requires.start c.requires.text);
+pub loop-done-init : goal.loop-done-init
+loop-done-init g c = record {
+  all_is = c.as_slice-all.ensures;
+  within = omega arith;
+  at = at-start c.args.script.now (g.K.Sink.taken c.args.sink.now) c.args.run.now c.requires.start;
   later = omega arith;
-  shard = c.requires.shard;
-  fits = rw c.as_slice-rest.ensures c.requires.fits;
 }
 
-pub returns-clause-done : goal.returns-clause-done
-returns-clause-done g c = λ is.
-    let none : c.loop-rest.rest.now ≡ [] = nil_from_length c.loop-rest.rest.now (eqb-true (length c.loop-rest.rest.now) 0 (sym c.is_empty.ensures ∙ c.loop-rest-test.false)) in
-    at-done c.args.script.now (g.K.Sink.taken c.args.sink.now) (g.K.Sink.taken c.loop-rest.sink) c.loop-rest.run
-    (subst (λ (l : List Command). IsAtPhase c.args.script.now l (g.K.Sink.taken c.args.sink.now) (g.K.Sink.taken c.loop-rest.sink) c.loop-rest.run) none c.loop-rest.invariant.at)
+pub phase-requires-clause-may_run : goal.phase-requires-clause-may_run
+phase-requires-clause-may_run g c = may-run c.args.script.now c.as_slice-all.result.now (c.loop-done.done + c.phase_len.result) c.loop-done.invariant.all_is c.requires.fits c.requires.dims
+
+pub phase-requires-clause-closes : goal.phase-requires-clause-closes
+phase-requires-clause-closes g c =
+    let back = c.split_at.ensures.back in
+    closes-of c.as_slice-all.result.now c.loop-done.done c.phase_len.result c.phase_len.ensures.some
+    (subst (λ (l : List Command). c.phase_len.result ≤ length l) back c.phase_len.ensures.within)
+    (subst (λ (l : List Command). NoneCloses (take (c.phase_len.result - 1) l)) back c.phase_len.ensures.closing)
 
 pub returns-in_default-clause-no_memory : goal.returns-in_default-clause-no_memory
-returns-in_default-clause-no_memory g c = λ is.
-    let at = c.loop-rest.invariant.at in
-    let next : IsNext c.loop-rest.rest.now c.split_at.result.0.now c.split_at.result.1.now = next-is _ _ _ _ c.phase_len.ensures.phase c.split_at.ensures.front c.split_at.ensures.back in
-    at-halt c.args.script.now c.loop-rest.rest.now c.split_at.result.0.now c.split_at.result.1.now (g.K.Sink.taken c.args.sink.now) (g.K.Sink.taken c.loop-rest.sink) c.loop-rest.run _
-    next at (c.in_default.ensures.stopped (all_of at.ps) at.written at.run_is)
+returns-in_default-clause-no_memory g c = λ is wanted.
+    let s = c.args.script.now in
+    let all = c.as_slice-all.result.now in
+    let n = c.loop-done.done in
+    let m = n + c.phase_len.result in
+    let low : n ≤ m = omega arith in
+    let next = next-of s all n c.phase_len.result c.loop-done.invariant.all_is
+    (subst (λ (l : List Command). phases l ≡ take c.phase_len.result l ∷ phases (drop c.phase_len.result l)) c.split_at.ensures.back c.phase_len.ensures.phase) in
+    at-halt wanted s n m (g.K.Sink.taken c.args.sink.now) (g.K.Sink.taken c.loop-done.sink) c.args.run.now c.loop-done.run c.phase.new.self next c.loop-done.invariant.at
+    (stopped-of s all n m c.loop-done.run c.phase.new.self low c.loop-done.invariant.all_is c.in_default.ensures.stopped)
+
+pub returns-in_default-clause-left : goal.returns-in_default-clause-left
+returns-in_default-clause-left g c =
+    let s = c.args.script.now in
+    let all = c.as_slice-all.result.now in
+    let n = c.loop-done.done in
+    let m = n + c.phase_len.result in
+    let low : n ≤ m = omega arith in
+    let next = next-of s all n c.phase_len.result c.loop-done.invariant.all_is
+    (subst (λ (l : List Command). phases l ≡ take c.phase_len.result l ∷ phases (drop c.phase_len.result l)) c.split_at.ensures.back c.phase_len.ensures.phase) in
+    left-halt s n m (g.K.Sink.taken c.args.sink.now) (g.K.Sink.taken c.loop-done.sink) c.args.run.now c.loop-done.run c.phase.new.self next c.loop-done.invariant.at
+    (stopped-of s all n m c.loop-done.run c.phase.new.self low c.loop-done.invariant.all_is c.in_default.ensures.stopped)
 
 pub returns-in_default-write_all-clause-write_fault : goal.returns-in_default-write_all-clause-write_fault
 returns-in_default-write_all-clause-write_fault g c = λ is.
-    let at = c.loop-rest.invariant.at in
-    let later : g.K.Sink.faults c.args.sink.now ≤ g.K.Sink.faults c.loop-rest.sink = c.loop-rest.invariant.later in
-    let rose : Rose (g.K.Sink.faults c.loop-rest.sink) (g.K.Sink.faults c.write_all.new.sink) = c.in_default-write_all.ensures.cause.failed in
-    let next : IsNext c.loop-rest.rest.now c.split_at.result.0.now c.split_at.result.1.now = next-is _ _ _ _ c.phase_len.ensures.phase c.split_at.ensures.front c.split_at.ensures.back in
-    let text = c.as_bytes.ensures.value ∙ c.as_str.ensures.value in
-    let part = rw text at c.in_default-write_all.ensures.part in (
+    let s = c.args.script.now in
+    let all = c.as_slice-all.result.now in
+    let n = c.loop-done.done in
+    let m = n + c.phase_len.result in
+    let low : n ≤ m = omega arith in
+    let next = next-of s all n c.phase_len.result c.loop-done.invariant.all_is
+    (subst (λ (l : List Command). phases l ≡ take c.phase_len.result l ∷ phases (drop c.phase_len.result l)) c.split_at.ensures.back c.phase_len.ensures.phase) in
+    let later : g.K.Sink.faults c.args.sink.now ≤ g.K.Sink.faults c.loop-done.sink = c.loop-done.invariant.later in
+    let rose : Rose (g.K.Sink.faults c.loop-done.sink) (g.K.Sink.faults c.write_all.new.sink) = c.in_default-write_all.ensures.cause.failed in
+    let part = rw c.deref.ensures.value at c.in_default-write_all.ensures.part in (
       omega arith,
-      at-fault c.args.script.now c.loop-rest.rest.now c.split_at.result.0.now c.split_at.result.1.now (g.K.Sink.taken c.args.sink.now) (g.K.Sink.taken c.loop-rest.sink) (g.K.Sink.taken c.write_all.new.sink) c.loop-rest.run c.phase.new.self
-          next at (c.in-Ok.ensures.run (all_of at.ps) at.written at.run_is) (record { count = part.0; part = part.1; took = part.2 }),
+      (λ wanted. at-fault wanted s n m (g.K.Sink.taken c.args.sink.now) (g.K.Sink.taken c.loop-done.sink) (g.K.Sink.taken c.write_all.new.sink) c.args.run.now c.loop-done.run c.phase.new.self c.in-Ok.text.items next c.loop-done.invariant.at
+          (gone-of s all n m c.loop-done.run c.phase.new.self c.in-Ok.text.items low c.loop-done.invariant.all_is c.in-Ok.ensures.gone)
+          (record { count = part.0; part = part.1; took = part.2 })),
     )
 
-pub loop-rest-preserved : goal.loop-rest-preserved
-loop-rest-preserved g c =
-    let at = c.loop-rest.invariant.at in
-    let before : g.K.Sink.faults c.args.sink.now ≤ g.K.Sink.faults c.loop-rest.sink = c.loop-rest.invariant.later in
-    let behind : g.K.Sink.faults c.loop-rest.sink ≤ g.K.Sink.faults c.write_all.new.sink = c.write_all.ensures.cause.later in
-    let next : IsNext c.loop-rest.rest.now c.split_at.result.0.now c.split_at.result.1.now = next-is _ _ _ _ c.phase_len.ensures.phase c.split_at.ensures.front c.split_at.ensures.back in
-    let text = c.as_bytes.ensures.value ∙ c.as_str.ensures.value in
+pub returns-in_default-write_all-clause-left : goal.returns-in_default-write_all-clause-left
+returns-in_default-write_all-clause-left g c =
+    let s = c.args.script.now in
+    let all = c.as_slice-all.result.now in
+    let n = c.loop-done.done in
+    let m = n + c.phase_len.result in
+    let low : n ≤ m = omega arith in
+    let next = next-of s all n c.phase_len.result c.loop-done.invariant.all_is
+    (subst (λ (l : List Command). phases l ≡ take c.phase_len.result l ∷ phases (drop c.phase_len.result l)) c.split_at.ensures.back c.phase_len.ensures.phase) in
+    left-at s m None None c.args.run.now c.phase.new.self
+    (at-next s n m None None None c.args.run.now c.loop-done.run c.phase.new.self c.in-Ok.text.items next
+    (unread s n (g.K.Sink.taken c.args.sink.now) (g.K.Sink.taken c.loop-done.sink) c.args.run.now c.loop-done.run c.loop-done.invariant.at)
+    (gone-of s all n m c.loop-done.run c.phase.new.self c.in-Ok.text.items low c.loop-done.invariant.all_is c.in-Ok.ensures.gone) tt)
+
+pub loop-done-preserved : goal.loop-done-preserved
+loop-done-preserved g c =
+    let s = c.args.script.now in
+    let all = c.as_slice-all.result.now in
+    let n = c.loop-done.done in
+    let k = c.phase_len.result in
+    let m = n + k in
+    let low : n ≤ m = omega arith in
+    let next = next-of s all n k c.loop-done.invariant.all_is
+    (subst (λ (l : List Command). phases l ≡ take c.phase_len.result l ∷ phases (drop c.phase_len.result l)) c.split_at.ensures.back c.phase_len.ensures.phase) in
+    let before : g.K.Sink.faults c.args.sink.now ≤ g.K.Sink.faults c.loop-done.sink = c.loop-done.invariant.later in
+    let behind : g.K.Sink.faults c.loop-done.sink ≤ g.K.Sink.faults c.write_all.new.sink = c.write_all.ensures.cause.later in
     record {
-      at = at-next c.args.script.now c.loop-rest.rest.now c.split_at.result.0.now c.split_at.result.1.now (g.K.Sink.taken c.args.sink.now) (g.K.Sink.taken c.loop-rest.sink) (g.K.Sink.taken c.write_all.new.sink) c.loop-rest.run c.phase.new.self _
-          next at (c.in-Ok.ensures.run (all_of at.ps) at.written at.run_is) (rw text at c.in-Ok-write_all.ensures.all) refl refl c.clear.ensures.bytes;
+      all_is = c.loop-done.invariant.all_is;
+      within =
+          let rest : k ≤ length c.split_at.result.1.now = c.phase_len.ensures.within in
+          let back : length c.split_at.result.1.now ≡ length (drop n all) = ap length c.split_at.ensures.back in
+          let most : n ≤ length all = c.loop-done.invariant.within in
+          omega (arith, length-drop n all);
+      at = at-next s n m (g.K.Sink.taken c.args.sink.now) (g.K.Sink.taken c.loop-done.sink) (g.K.Sink.taken c.write_all.new.sink) c.args.run.now c.loop-done.run c.phase.new.self c.in-Ok.text.items next c.loop-done.invariant.at
+          (gone-of s all n m c.loop-done.run c.phase.new.self c.in-Ok.text.items low c.loop-done.invariant.all_is c.in-Ok.ensures.gone) (rw c.deref.ensures.value at c.in-Ok-write_all.ensures.all);
       later = omega arith;
-      shard = c.in-Ok.ensures.shard;
-      fits = rw c.split_at.ensures.back (All-drop (Fits c.args.script.now) c.phase_len.result c.loop-rest.rest.now c.loop-rest.invariant.fits);
     }
 
-pub phase-requires-clause-fits : goal.phase-requires-clause-fits
-phase-requires-clause-fits g c = rw c.split_at.ensures.front (All-take (Fits c.args.script.now) c.phase_len.result c.loop-rest.rest.now c.loop-rest.invariant.fits)
+pub returns-clause-done : goal.returns-clause-done
+returns-clause-done g c = λ is.
+    at-done c.args.script.now c.loop-done.done (g.K.Sink.taken c.args.sink.now) (g.K.Sink.taken c.loop-done.sink) c.args.run.now c.loop-done.run (subst (λ (l : List Command). length l ≤ c.loop-done.done) c.loop-done.invariant.all_is c.loop-done-test.false) c.loop-done.invariant.at
 
-pub returns-clause-serial : goal.returns-clause-serial
-returns-clause-serial g c = in_order-at c.args.script.now c.loop-rest.rest.now (g.K.Sink.taken c.args.sink.now) (g.K.Sink.taken c.loop-rest.sink) c.loop-rest.run c.loop-rest.invariant.at
-
-pub returns-in_default-clause-serial : goal.returns-in_default-clause-serial
-returns-in_default-clause-serial g c =
-    let at = c.loop-rest.invariant.at in
-    in_order-halt c.args.script.now c.loop-rest.rest.now c.split_at.result.0.now c.split_at.result.1.now (g.K.Sink.taken c.args.sink.now) (g.K.Sink.taken c.loop-rest.sink) c.loop-rest.run _
-    (next-is _ _ _ _ c.phase_len.ensures.phase c.split_at.ensures.front c.split_at.ensures.back) at (c.in_default.ensures.stopped (all_of at.ps) at.written at.run_is)
-
-pub returns-in_default-write_all-clause-serial : goal.returns-in_default-write_all-clause-serial
-returns-in_default-write_all-clause-serial g c =
-    let at = c.loop-rest.invariant.at in
-    in_order-fault c.args.script.now c.loop-rest.rest.now c.split_at.result.0.now c.split_at.result.1.now (g.K.Sink.taken c.args.sink.now) (g.K.Sink.taken c.loop-rest.sink) c.loop-rest.run c.phase.new.self
-    (next-is _ _ _ _ c.phase_len.ensures.phase c.split_at.ensures.front c.split_at.ensures.back) at (c.in-Ok.ensures.run (all_of at.ps) at.written at.run_is)
+pub returns-clause-left : goal.returns-clause-left
+returns-clause-left g c = left-at c.args.script.now c.loop-done.done (g.K.Sink.taken c.args.sink.now) (g.K.Sink.taken c.loop-done.sink) c.args.run.now c.loop-done.run c.loop-done.invariant.at

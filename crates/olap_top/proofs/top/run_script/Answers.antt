@@ -1,13 +1,34 @@
-use Rattle.std.proofs.Common.{◌≡◌, ◌∙◌, [], length, sym, inr}
-use Rattle.std.proofs.lemmas.Bool.{eqb-true}
-use Rattle.std.proofs.lemmas.List.{nil_from_length}
-use Rattle.olap_top.proofs.PhaseSteps.{at-none, in_order-none}
+use Rattle.std.proofs.Common.{◌≡◌, ◌∙◌, inl, inr, sym, subst}
+use Rattle.std.specs.Io.KnownBytes.{Appends}
+use Rattle.answer_text.specs.Printed.{told}
+use Rattle.olap_top.specs.Outcomes.{HasRun, RanInto, RanTo}
+use Rattle.olap_top.proofs.Leaving.{leaves-run, of-history}
 use Rattle.olap_top.proofs.top.run_script.Goals as goal
 
-pub returns-then-is_empty-clause-done : goal.returns-then-is_empty-clause-done
-returns-then-is_empty-clause-done g c = λ is.
-    let none : c.args.script.now.commands ≡ [] = nil_from_length c.args.script.now.commands (eqb-true (length c.args.script.now.commands) 0 (sym c.is_empty.ensures ∙ c.if-is_empty.true)) in
-    at-none c.args.script.now (g.K.Sink.taken c.args.sink.now) _ none c.in-Ok.ensures
+pub returns-clause-no_memory : goal.returns-clause-no_memory
+returns-clause-no_memory g c = λ is.
+    let s = c.args.script.now in
+    let out = c.with_rest.ensures.rest s.hierarchy s.with c.run_phases-status.ensures.left.is_held.core in
+    inr (of-history s c.run_phases-status.new.run c.with_rest.result (RanInto c.args.wanted s (g.K.Sink.taken c.args.sink.now) (g.K.Sink.taken c.run_phases-status.new.sink)) out
+    (c.run_phases-status.ensures.no_memory (sym c.with_rest.ensures.status ∙ is) c.args.wanted))
 
-pub returns-then-is_empty-clause-serial : goal.returns-then-is_empty-clause-serial
-returns-then-is_empty-clause-serial g c = inr (in_order-none c.args.script.now _ c.in-Ok.ensures)
+pub returns-clause-write_fault : goal.returns-clause-write_fault
+returns-clause-write_fault g c = λ is.
+    let s = c.args.script.now in
+    let out = c.with_rest.ensures.rest s.hierarchy s.with c.run_phases-status.ensures.left.is_held.core in
+    let fault = c.run_phases-status.ensures.write_fault (sym c.with_rest.ensures.status ∙ is) in
+    (fault.0, of-history s c.run_phases-status.new.run c.with_rest.result (RanTo c.args.wanted s (g.K.Sink.taken c.args.sink.now) (g.K.Sink.taken c.run_phases-status.new.sink)) out (fault.1 c.args.wanted))
+
+pub returns-clause-done : goal.returns-clause-done
+returns-clause-done g c = λ is.
+    let s = c.args.script.now in
+    let out = c.with_rest.ensures.rest s.hierarchy s.with c.run_phases-status.ensures.left.is_held.core in
+    of-history s c.run_phases-status.new.run c.with_rest.result
+    (λ h. HasRun s.with s.hierarchy s.commands h × Appends (g.K.Sink.taken c.args.sink.now) (g.K.Sink.taken c.run_phases-status.new.sink) (told s.with s.commands h)) out
+    (c.run_phases-status.ensures.done (sym c.with_rest.ensures.status ∙ is))
+
+pub returns-clause-run : goal.returns-clause-run
+returns-clause-run g c =
+    let s = c.args.script.now in
+    let out = c.with_rest.ensures.rest s.hierarchy s.with c.run_phases-status.ensures.left.is_held.core in
+    inr (leaves-run c.args.wanted s c.in-Ok.run' c.run_phases-status.new.run c.with_rest.result c.requires.settings c.in-Ok.ensures.opening (c.in-Ok.ensures.schedule ∙ c.schedule_of.ensures) c.run_phases-status.ensures.left out)

@@ -1,9 +1,22 @@
-use Rattle.std.proofs.Common.{refl, sym, subst}
-use Rattle.olap_top.specs.Keeps.{IsOpened}
-use Rattle.olap_top.proofs.RunSteps.{IsRun-opened}
+use Rattle.std.proofs.Common.{◌≡◌, [], append-nil, sym, subst}
+use Rattle.seeded_run.specs.Kept.{IsBetween}
+use Rattle.seeded_run.specs.Phase.{about, held, is_order}
+use Rattle.volap_cell.specs.Steps.{history_in}
+use Rattle.olap_top.specs.OneRun.{setting_of}
 use Rattle.olap_top.proofs.run.Run.new.Goals as goal
 
-pub returns-clause-run : goal.returns-clause-run
-returns-clause-run c =
-    IsRun-opened c.args.script.now.with c.args.script.now.hierarchy _
-    (subst (IsOpened c.args.script.now.with c.args.script.now.hierarchy) (sym c.in_ok-new.ensures.history) c.requires.opened) c.new-2.ensures.bytes refl
+pub returns-clause-behind : goal.returns-clause-behind
+returns-clause-behind c =
+    let s = c.args.script.now in
+    let opened = c.in_ok-state.ensures in
+    let about_is : about s.hierarchy s.with c.in_ok-state.state ≡ setting_of s = (λ k. record { hierarchy = s.hierarchy; servers = s.with.servers; workers = s.with.workers; stock_cells = s.with.cells; roles = opened.roles k }) in
+    record {
+      is_held = record { core = opened.core; about_is = about_is };
+      between = subst (λ t. IsBetween (is_order c.args.schedule) t s.with [] (held s.hierarchy s.with c.in_ok-state.state)) about_is (opened.between (is_order c.args.schedule));
+      told = record {
+        past = [];
+        more = history_in (held s.hierarchy s.with c.in_ok-state.state);
+        told = c.in_ok-teller.ensures.has s.with;
+        grown = sym (append-nil (history_in (held s.hierarchy s.with c.in_ok-state.state)));
+      };
+    }

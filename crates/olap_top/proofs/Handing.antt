@@ -1,0 +1,50 @@
+-- The ledger in its cell, of a core that one thread holds.
+use Rattle.std.proofs.Common.{◌≡◌, ◌∙◌, ℕ, zero, suc, ◌<◌, false, eqb, List, [], ◌∷◌, length, get_or, set, Option, Some, None, refl, sym, ap, subst, arith}
+use Rattle.std.specs.Option.{option_map_or}
+use Rattle.std.proofs.lemmas.Bool.{ne_eqb}
+use Rattle.dim_hierarchy.specs.Dimension.{Dimension}
+use Rattle.row_ledger.specs.LedgerValue.{LedgerValue}
+use Rattle.row_ledger.specs.declared.settings.Use.{Use}
+use Rattle.seeded_run.proofs.Worlds.{only-world, one-setting}
+use Rattle.seeded_run.specs.Phase.{IsCoreHeld, about, held}
+use Rattle.volap_cell.proofs.States.{stands}
+use Rattle.volap_cell.specs.Cells.{CellValue, FreeCell, LedgerCell, TheLedger, cell_of, ledger_in, tag_of}
+use Rattle.volap_cell.specs.Setting.{ledger_cell}
+use Rattle.volap_cell.specs.Steps.{Inv}
+use Rattle.volap_cell.specs.World.{change, put}
+use Rattle.volap_cell.specs.declared.cell.Cell.{Cell}
+use Rattle.volap_cell.specs.declared.cell.Cell.TheVariants as cell
+use Rattle.volap_cell.specs.declared.state.State.{State}
+
+-- the core that is held meets the invariant
+pub held-inv : (h : List Dimension) (with : Use) (x : State) → IsCoreHeld h with x → Inv (about h with x) (held h with x)
+held-inv h with x core =
+    let c = core.0.is_core in
+    let setting = one-setting h with x.cells.items x.actors.items core.0.setting core.0.world c in
+    let world = only-world h with x.cells.items x.actors.items core.0.setting core.0.world c in
+    subst (λ s. Inv s (held h with x)) setting (subst (Inv core.0.setting) world c.inv)
+
+-- its ledger's cell stands, with the ledger
+pub record HasLedger (x : State) : Type 0 where
+  pub cell_is : Cell
+  pub stands : get_or x.cells.items 0 None ≡ Some cell_is
+  pub tag : tag_of (cell_of cell_is) ≡ TheLedger
+
+pub has-ledger : (h : List Dimension) (with : Use) (x : State) → IsCoreHeld h with x → HasLedger x
+has-ledger h with x core =
+    let c = core.0.is_core in
+    let some : 0 < length x.cells.items = omega (arith, c.places) in
+    let at = stands (get_or x.cells.items 0 None) (λ b. cell_of b ≡ core.0.world.cells 0) (c.is.cell 0 some) in
+    record { cell_is = at.0; stands = at.1; tag = ap tag_of at.2 ∙ c.inv.holds.numbering.tag 0 }
+
+-- The cells once the ledger was moved out of its cell and back.
+pub cells-back : (xs : List (Option Cell)) (b : Cell) (l : LedgerValue) → get_or xs 0 None ≡ Some b → cell_of b ≡ LedgerCell l → (y : ℕ)
+    → put (change ledger_cell FreeCell (LedgerCell l) ∷ []) (λ z. option_map_or cell_of (get_or (set (set xs 0 None) 0 (Some cell.Free)) z None) FreeCell) y
+    ≡ option_map_or cell_of (get_or xs y None) FreeCell
+cells-back [] b l at is y = cc
+cells-back (x ∷ xs) b l at is zero = sym is ∙ ap (λ (o : Option Cell). option_map_or cell_of o FreeCell) (sym at)
+cells-back (x ∷ xs) b l at is (suc y) = let other : eqb (suc y) 0 ≡ false = ne_eqb (suc y) 0 (λ e. absurd (omega (arith, e))) in rw other refl
+
+pub cell-freed : (xs : List (Option Cell)) (b : Cell) → get_or xs 0 None ≡ Some b → get_or (set (set xs 0 None) 0 (Some cell.Free)) 0 None ≡ Some cell.Free
+cell-freed [] b at = cc
+cell-freed (x ∷ xs) b at = refl

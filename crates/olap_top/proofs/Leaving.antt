@@ -1,0 +1,81 @@
+-- What a run leaves.
+use Rattle.std.proofs.Common.{◌≡◌, ◌∙◌, ◌+◌, ◌<◌, ◌≤◌, ◌^◌, ℕ, List, length, refl, sym, ap, subst, arith}
+use Rattle.dim_hierarchy.specs.Dimension.{IsHierarchy}
+use Rattle.row_ledger.specs.Site.{site_of}
+use Rattle.row_ledger.specs.declared.event.Event.{Event}
+use Rattle.script_form.specs.Scripts.{AreSettings}
+use Rattle.script_form.specs.declared.script.Script.{Script}
+use Rattle.seeded_run.specs.Phase.{held, is_order}
+use Rattle.seeded_run.specs.Roles.{CanOpen}
+use Rattle.volap_cell.proofs.Promised.{place-law, rows-law}
+use Rattle.volap_cell.specs.Opening.{IsOpening}
+use Rattle.volap_cell.specs.Setting.{Setting}
+use Rattle.volap_cell.specs.Steps.{Inv, history_in}
+use Rattle.volap_cell.specs.World.{World}
+use Rattle.olap_top.specs.Left.{IsHandedOut, LeavesRun}
+use Rattle.olap_top.specs.Outcomes.{RunsInOrder}
+use Rattle.olap_top.specs.OneRun.{GoesTo, IsRunUpTo, schedule_of, setting_of, with_ledger}
+use Rattle.olap_top.specs.RowsKept.{AreRowsKept}
+use Rattle.olap_top.specs.RunSoFar.{HasLeft, history_of, moment_of, world_of}
+use Rattle.olap_top.specs.Settles.{IsSettling}
+use Rattle.olap_top.specs.declared.outcome.Outcome.{Outcome}
+use Rattle.olap_top.specs.declared.run.Run.{Run}
+use Rattle.olap_top.specs.declared.wanted.Wanted.{Wanted}
+use Rattle.olap_top.proofs.Handing.{held-inv}
+use Rattle.olap_top.proofs.PhaseSteps.{held-right}
+use Rattle.olap_top.proofs.Settled.{settled-all, settles-tell}
+
+-- With the settings of a script a core can open.
+pub can-open : (s : Script) → AreSettings s.with → IsHierarchy s.hierarchy → CanOpen s.hierarchy s.with
+can-open s settings hierarchy = record {
+  hierarchy = hierarchy;
+  servers = omega (arith, settings.servers.0);
+  workers = omega (arith, settings.workers.0);
+  enough = omega (arith, settings.workers.1, settings.cells.0);
+  few = omega (arith, settings.servers.1, settings.workers.1, settings.cells.1);
+}
+
+-- What is held keeps each row.
+rows-kept : (s : Setting) (w : World) → Inv s w → AreRowsKept s w
+rows-kept s w inv =
+    let places = place-law s w inv in
+    let rows = rows-law s w inv in
+    record {
+      places = record { standing = places.0; one = places.1 };
+      shards = record { standing = rows.0; began = rows.1; acknowledged = rows.2 };
+    }
+
+-- the history that was handed out
+pub history-left : (s : Script) (now : Run) (o : Outcome) → IsHandedOut s.hierarchy s.with now.state o → o.ledger.history ≡ history_of s now
+history-left s now o out = ap history_in out.same
+
+-- what is said of a history is said of that
+pub of-history : (s : Script) (now : Run) (o : Outcome) (P : List Event → Type 0) → IsHandedOut s.hierarchy s.with now.state o → P (history_of s now) → P o.ledger.history
+of-history s now o P out holds = subst P (sym (history-left s now o out)) holds
+
+pub leaves-run : (wanted : Wanted) (s : Script) (start now : Run) (o : Outcome) → AreSettings s.with → IsOpening (setting_of s) (world_of s start) → start.schedule ≡ schedule_of wanted
+    → HasLeft s start now → IsHandedOut s.hierarchy s.with now.state o → LeavesRun wanted s o
+leaves-run wanted s start now o settings opening schedule left out =
+    let site = site_of s.with s.hierarchy in
+    let inv : Inv (setting_of s) (world_of s now) = subst (λ t. Inv t (world_of s now)) left.is_held.about_is (held-inv s.hierarchy s.with now.state left.is_held.core) in
+    let right = held-right s now left.is_held in
+    let same = history-left s now o out in
+    let goes = subst (λ t. GoesTo (is_order t) s (record { state = world_of s start; schedule = t }) (world_of s now)) schedule left.goes in
+    let run : IsRunUpTo wanted s (world_of s now) = record { opening = world_of s start; is_opening = opening; goes = goes } in
+    let settling : IsSettling site (history_of s now) = record {
+      answers = settled-all site (history_of s now) right.2;
+      settles = settles-tell s.with s.hierarchy right.0 (history_of s now) right.1 left.part.pulls (record { each = λ r i is. (inv.holds.telling.rows r i is).1 });
+    } in
+    record {
+      some = omega (arith, right.2.opened, ap length same, settings.servers.0);
+      rest = out.rest;
+      left = out.left;
+      is_rest = record {
+        about_is = out.about_is ∙ left.is_held.about_is;
+        freed = out.freed;
+        run = subst (IsRunUpTo wanted s) (sym out.same) run;
+      };
+      rows = subst (AreRowsKept (setting_of s)) (sym out.same) (rows-kept (setting_of s) (world_of s now) inv);
+      settling = subst (IsSettling site) (sym same) settling;
+      serial = λ order. subst (RunsInOrder s) (sym same) (record { part = left.part; serial = left.serial (ap is_order schedule ∙ order) });
+    }

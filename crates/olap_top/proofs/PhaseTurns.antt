@@ -1,0 +1,124 @@
+-- A phase of a run, by what the core's run says of it.
+use Rattle.std.proofs.Common.{◌≡◌, ◌∙◌, ◌≤◌, ℕ, Bool, true, IsTrue, List, [], ◌∷◌, ◌++◌, refl, sym, ap, subst, arith, length, take, drop, reverse}
+use Rattle.std.specs.Prelude.{◌&&◌}
+use Rattle.std.proofs.lemmas.Bool.{and_parts}
+use Rattle.std.proofs.lemmas.List.{reverse-append, take-append-drop}
+use Rattle.std.proofs.lemmas.List.Folds.{list_all-append}
+use Rattle.dim_hierarchy.specs.Dimension.{Dimension}
+use Rattle.answer_text.proofs.Referring.{refers-back}
+use Rattle.answer_text.specs.Marks.{RefersBack}
+use Rattle.row_ledger.proofs.SettledAnswer.{EachEvent-later}
+use Rattle.answer_text.specs.Printed.{phase_behind}
+use Rattle.answer_text.specs.Told.{HasTold}
+use Rattle.row_ledger.specs.declared.event.Event.{Event}
+use Rattle.row_ledger.specs.declared.settings.Use.{Use}
+use Rattle.script_form.specs.declared.script.Command.{Command}
+use Rattle.script_form.specs.declared.script.Script.{Script}
+use Rattle.script_run.proofs.Between.{through-law}
+use Rattle.script_run.proofs.PlaceFacts.{places_behind-append}
+use Rattle.script_run.specs.Places.{are_over, is_over_at, places, places_behind}
+use Rattle.seeded_run.specs.Can.{able_in}
+use Rattle.seeded_run.specs.Kept.{IsBetween, IsStopped}
+use Rattle.seeded_run.specs.Phase.{IsCoreHeld, IsKeptTurn, RunsTo, about, held, is_order, phase_from}
+use Rattle.seeded_run.specs.Rests.{PhaseRun}
+use Rattle.seeded_turns.specs.Drawn.{Reaches}
+use Rattle.seeded_turns.specs.declared.schedule.Schedule.{Schedule}
+use Rattle.volap_cell.specs.Setting.{Setting, site_in}
+use Rattle.volap_cell.specs.Steps.{Inv, history_in}
+use Rattle.volap_cell.specs.World.{World}
+use Rattle.volap_cell.specs.declared.state.State.{State}
+use Rattle.olap_top.specs.OneRun.{RunsPhase, phase_at, setting_of}
+use Rattle.olap_top.specs.RunSoFar.{HasGone, HasGrown, HasStopped, IsBehind, IsHeld, history_of, moment_of, world_of}
+use Rattle.olap_top.specs.declared.run.Run.{Run}
+use Rattle.olap_top.proofs.Grown.{turns-come}
+use Rattle.olap_top.proofs.Handing.{held-inv}
+
+-- Stopping.
+
+-- the first of commands that are over are over
+pub first-over : (with : Use) (front back : List Command) (history : List Event) → IsTrue (are_over history (places with (front ++ back) history)) → IsTrue (are_over history (places with front history))
+first-over with front back history over =
+    let split = ap (are_over history) (sym (places_behind-append with [] front back history)) ∙ over in
+    (and_parts (are_over history (places with front history)) (are_over history (places_behind with front back history))
+    (sym (list_all-append (is_over_at history) (places with front history) (places_behind with front back history)) ∙ split)).0
+
+-- where a phase is through, its run may stop as well
+pub between-stopped : (in_order : Bool) (s : Setting) (p : PhaseRun) (done : List Command) (w : World) → IsBetween in_order s p.with (done ++ p.commands) w → IsStopped in_order s p done w
+between-stopped in_order s p done w is =
+    let run = through-law p.with s.hierarchy (done ++ p.commands) (history_in w) is.through in
+    record {
+      part = is.through.part;
+      few = λ session. omega (arith, is.through.counts session);
+      over = first-over p.with done p.commands (history_in w) run.over;
+      ordered = is.ordered;
+    }
+
+-- What a teller reads.
+
+-- each event of a core's history stands behind what it refers to
+pub refers-held : (h : List Dimension) (with : Use) (x : State) → IsCoreHeld h with x → RefersBack (history_in (held h with x))
+refers-held h with x core =
+    let inv = held-inv h with x core in
+    refers-back (site_in (about h with x)) inv.ghost_of.placed (history_in (held h with x)) inv.holds.telling.right.right
+
+-- and so it is of the first events
+pub refers-part : (seen : ℕ) (events : List Event) → RefersBack (reverse events) → RefersBack (reverse (take seen events))
+refers-part seen events refers =
+    EachEvent-later _ (reverse (drop seen events)) (reverse (take seen events))
+    (subst RefersBack (ap reverse (sym (take-append-drop seen events)) ∙ reverse-append (take seen events) (drop seen events)) refers)
+
+-- Turns.
+
+module _ (s : Script) (done phase : List Command) (run now : Run) (behind : IsBehind s done run) where
+  pub turns-of : (to : Schedule) → RunsTo s.hierarchy s.with phase run.state run.schedule now.state to
+      → RunsPhase (is_order run.schedule) s phase (moment_of s run) (record { state = world_of s now; schedule = to })
+  turns-of to turns =
+      subst (λ t. Reaches World (able_in (is_order run.schedule) t (phase_at s phase (moment_of s run))) (IsKeptTurn (is_order run.schedule) t (phase_at s phase (moment_of s run))) (moment_of s run) (world_of s now) to)
+      behind.is_held.about_is turns
+
+  pub grows-by : (to : Schedule) → RunsPhase (is_order run.schedule) s phase (moment_of s run) (record { state = world_of s now; schedule = to }) → HasGrown (history_of s run) (history_of s now)
+  grows-by to turns =
+      (turns-come (is_order run.schedule) (setting_of s) (phase_at s phase (moment_of s run)) (moment_of s run) turns.turns (record { state = world_of s now; schedule = to })
+      (subst (λ t. Inv t (world_of s run)) behind.is_held.about_is (held-inv s.hierarchy s.with run.state behind.is_held.core)) turns.are).grows
+
+  pub held-now : IsCoreHeld s.hierarchy s.with now.state → about s.hierarchy s.with now.state ≡ about s.hierarchy s.with run.state → IsHeld s now
+  held-now core same = record { core = core; about_is = same ∙ behind.is_held.about_is }
+
+  pub stopped-run : IsCoreHeld s.hierarchy s.with now.state → about s.hierarchy s.with now.state ≡ about s.hierarchy s.with run.state
+      → (to : Schedule) → RunsTo s.hierarchy s.with phase run.state run.schedule now.state to
+      → IsStopped (is_order run.schedule) (about s.hierarchy s.with run.state) (phase_from s.hierarchy s.with phase run.state) done (held s.hierarchy s.with now.state)
+      → HasStopped s done phase run now
+  stopped-run core same to turns into = record {
+    is_held = held-now core same;
+    schedule = to;
+    turns = turns-of to turns;
+    grows = grows-by to (turns-of to turns);
+    stopped = subst (λ t. IsStopped (is_order run.schedule) t (phase_at s phase (moment_of s run)) done (world_of s now)) behind.is_held.about_is into;
+  }
+
+  -- memory ran out for the text
+  pub stopped-behind : IsCoreHeld s.hierarchy s.with now.state → about s.hierarchy s.with now.state ≡ about s.hierarchy s.with run.state
+      → (to : Schedule) → RunsTo s.hierarchy s.with phase run.state run.schedule now.state to
+      → IsBetween (is_order run.schedule) (about s.hierarchy s.with run.state) s.with (done ++ phase) (held s.hierarchy s.with now.state)
+      → HasStopped s done phase run now
+  stopped-behind core same to turns between =
+      stopped-run core same to turns (between-stopped (is_order run.schedule) (about s.hierarchy s.with run.state) (phase_from s.hierarchy s.with phase run.state) done (held s.hierarchy s.with now.state) between)
+
+  pub gone-run : IsCoreHeld s.hierarchy s.with now.state → about s.hierarchy s.with now.state ≡ about s.hierarchy s.with run.state → is_order now.schedule ≡ is_order run.schedule
+      → RunsTo s.hierarchy s.with phase run.state run.schedule now.state now.schedule
+      → IsBetween (is_order run.schedule) (about s.hierarchy s.with run.state) s.with (done ++ phase) (held s.hierarchy s.with now.state)
+      → HasTold s.with (done ++ phase) (history_of s now) now.teller
+      → (text : List ℕ) → text ≡ phase_behind s.with done phase (history_of s now)
+      → HasGone s done phase run now text
+  gone-run core same order turns between told text text_is = record {
+    behind = record {
+      is_held = held-now core same;
+      between = subst (λ b. IsBetween b (setting_of s) s.with (done ++ phase) (world_of s now)) (sym order)
+          (subst (λ t. IsBetween (is_order run.schedule) t s.with (done ++ phase) (world_of s now)) behind.is_held.about_is between);
+      told = record { past = history_of s now; more = []; told = told; grown = refl };
+    };
+    order = order;
+    turns = turns-of now.schedule turns;
+    grows = grows-by now.schedule (turns-of now.schedule turns);
+    text_is = text_is;
+  }

@@ -1,0 +1,27 @@
+use Rattle.std.proofs.Common.{◌≡◌, ◌∙◌, List, [], ◌∷◌, Option, Some, None, get_or, set, refl, ap, sym, subst}
+use Rattle.std.specs.Option.{option_map_or}
+use Rattle.volap_cell.specs.Cells.{FreeCell, LedgerCell, cell_of}
+use Rattle.volap_cell.specs.Setting.{ledger_cell}
+use Rattle.volap_cell.specs.World.{change, put}
+use Rattle.volap_cell.specs.declared.cell.Cell.{Cell}
+use Rattle.volap_cell.specs.declared.cell.Cell.TheVariants as cell
+use Rattle.seeded_run.specs.Phase.{held}
+use Rattle.olap_top.proofs.Handing.{cell-freed, cells-back}
+use Rattle.olap_top.proofs.top.with_rest.Goals as goal
+
+pub returns-clause-rest : goal.returns-clause-rest
+returns-clause-rest c = λ h with core.
+    let xs = c.args.state.cells.items in
+    let at = c.lift_one-cell.ensures.value.0 in
+    let emptied : c.put_one.new.cells.items ≡ set (set xs 0 None) 0 (Some cell.Free) = c.put_one.ensures.value ∙ ap (λ l. set l 0 (Some cell.Free)) c.lift_one-cell.ensures.rest in
+    let ledger : cell_of c.lift_one-cell.result ≡ LedgerCell c.into_inner.result = ap cell_of c.in-Ledger.is ∙ ap LedgerCell (sym c.into_inner.ensures) in
+    record {
+      rest = record { cells = c.put_one.new.cells; actors = c.args.state.actors };
+      left = refl;
+      about_is = refl;
+      freed = subst (λ (l : List (Option Cell)). get_or l 0 None ≡ Some cell.Free) (sym emptied) (cell-freed xs c.lift_one-cell.result at);
+      same = (λ k. record {
+        cells = λ y. subst (λ (l : List (Option Cell)). put (change ledger_cell FreeCell (LedgerCell c.into_inner.result) ∷ []) (λ z. option_map_or cell_of (get_or l z None) FreeCell) y ≡ option_map_or cell_of (get_or xs y None) FreeCell) (sym emptied) (cells-back xs c.lift_one-cell.result c.into_inner.result at ledger y) k;
+        actors = (held h with c.args.state).actors;
+      });
+    }

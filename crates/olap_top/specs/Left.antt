@@ -1,0 +1,45 @@
+-- What the top call leaves besides the bytes: the history, and the state of the core.
+use Rattle.std.specs.Prelude.{ℕ, ◌≡◌, ◌<◌, true, Option, Some, None, List, [], get_or, length}
+use Rattle.dim_hierarchy.specs.Dimension.{Dimension}
+use Rattle.row_ledger.specs.Site.{site_of}
+use Rattle.row_ledger.specs.declared.settings.Use.{Use}
+use Rattle.script_form.specs.declared.script.Script.{Script}
+use Rattle.seeded_run.specs.Phase.{about, held}
+use Rattle.volap_cell.specs.Setting.{ledger_cell}
+use Rattle.volap_cell.specs.declared.cell.Cell.TheVariants as cell
+use Rattle.volap_cell.specs.declared.state.State.{State}
+use Rattle.olap_top.specs.OneRun.{IsRestOf, goes_in_order, setting_of, with_ledger}
+use Rattle.olap_top.specs.Outcomes.{IsAskedScript, RunsInOrder}
+use Rattle.olap_top.specs.RowsKept.{AreRowsKept}
+use Rattle.olap_top.specs.Settles.{IsSettling}
+use Rattle.olap_top.specs.declared.outcome.Outcome.{Outcome}
+use Rattle.olap_top.specs.declared.wanted.Wanted.{Wanted}
+
+-- nothing ran
+abbrev pub LeavesNothing : Outcome → Type 0
+LeavesNothing o = (o.ledger.history ≡ []) × (o.rest ≡ None)
+
+-- The state was handed out, with the ledger moved out of its cell.
+pub record IsHandedOut (h : List Dimension) (with : Use) (state : State) (o : Outcome) : Type 0 where
+  pub rest : State
+  pub left : o.rest ≡ Some rest
+  pub about_is : about h with rest ≡ about h with state
+  pub freed : get_or rest.cells.items ledger_cell None ≡ Some cell.Free
+  pub same : with_ledger o.ledger (held h with rest) ≡ held h with state
+
+-- What a run of this script leaves, whatever its answer: the state to which its one run led from the opening, in which each row has its
+-- place, and a history that tells of queries that are settled, and of settles, what it is to.
+pub record LeavesRun (wanted : Wanted) (s : Script) (o : Outcome) : Type 0 where
+  pub some : 0 < length o.ledger.history
+  pub rest : State
+  pub left : o.rest ≡ Some rest
+  pub is_rest : IsRestOf wanted s o.ledger rest
+  pub rows : AreRowsKept (setting_of s) (with_ledger o.ledger (held s.hierarchy s.with rest))
+  pub settling : IsSettling (site_of s.with s.hierarchy) o.ledger.history
+  pub serial : goes_in_order wanted ≡ true → RunsInOrder s o.ledger.history
+
+-- the script that was asked for ran so
+pub record LeavesAsked (wanted : Wanted) (left_before left_now : Option (List ℕ)) (o : Outcome) : Type 0 where
+  pub script : Script
+  pub read : IsAskedScript wanted left_before left_now script
+  pub leaves : LeavesRun wanted script o

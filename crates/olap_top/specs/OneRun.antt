@@ -1,0 +1,84 @@
+-- The one run of the core by which a script's history came about, and the state that is left of it.
+use Rattle.std.specs.Prelude.{ℕ, ◌≡◌, Bool, Option, Some, None, List, [], ◌∷◌, get_or, take}
+use Rattle.std.specs.List.{slice_index_or}
+use Rattle.rand_core.specs.Pcg32Seed.{pcg32_seed}
+use Rattle.rand_pcg.specs.Pcg.{pcg32_of_seed}
+use Rattle.row_ledger.specs.LedgerValue.{LedgerValue}
+use Rattle.script_form.specs.declared.script.Command.{Command}
+use Rattle.script_form.specs.declared.script.Script.{Script}
+use Rattle.script_run.specs.Phases.{phases}
+use Rattle.seeded_run.specs.Can.{able_in}
+use Rattle.seeded_run.specs.Phase.{IsKeptTurn, about, held, is_order}
+use Rattle.seeded_run.specs.Rests.{PhaseRun}
+use Rattle.seeded_run.specs.Roles.{roles_of}
+use Rattle.seeded_turns.specs.Drawn.{Moment, Reaches}
+use Rattle.seeded_turns.specs.declared.schedule.Schedule.{Schedule}
+use Rattle.seeded_turns.specs.declared.schedule.Schedule.TheVariants as schedule_is
+use Rattle.volap_cell.specs.Cells.{FreeCell, LedgerCell}
+use Rattle.volap_cell.specs.Filling.{setting_for}
+use Rattle.volap_cell.specs.Opening.{IsOpening}
+use Rattle.volap_cell.specs.Setting.{Setting, ledger_cell}
+use Rattle.volap_cell.specs.Steps.{history_in}
+use Rattle.volap_cell.specs.World.{World, change, put}
+use Rattle.volap_cell.specs.declared.cell.Cell.TheVariants as cell
+use Rattle.volap_cell.specs.declared.state.State.{State}
+use Rattle.olap_top.specs.declared.wanted.Wanted.{Wanted}
+use Rattle.olap_top.specs.declared.wanted.Wanted.TheVariants.{Step, Seeded}
+
+-- what the core of a script's run is about
+abbrev pub setting_of : Script → Setting
+setting_of s = setting_for s.hierarchy s.with (roles_of s.with)
+
+-- The commands go one after the other; or whose turn it is the seed's generator draws, from the first phase on.
+abbrev pub schedule_of : Wanted → Schedule
+schedule_of Step = schedule_is.Order
+schedule_of (Seeded seed) = schedule_is.Seed (pcg32_of_seed (pcg32_seed 16 seed))
+
+abbrev pub goes_in_order : Wanted → Bool
+goes_in_order wanted = is_order (schedule_of wanted)
+
+-- Runs.
+
+-- a phase that begins at a moment
+abbrev pub phase_at : Script → List Command → Moment World → PhaseRun
+phase_at s phase from = record { with = s.with; commands = phase; before = history_in from.state }
+
+-- Turns of a phase, from the moment at which it begins to another. Each is a step that is due, of the actor whose turn it is, and leads
+-- to a state that meets the invariant.
+abbrev pub RunsPhase : Bool → Script → List Command → Moment World → Moment World → Type 0
+RunsPhase in_order s phase from to = Reaches World (able_in in_order (setting_of s) (phase_at s phase from)) (IsKeptTurn in_order (setting_of s) (phase_at s phase from)) from to.state to.schedule
+
+-- phases, one after the other
+abbrev pub RunPhases : Bool → Script → List (List Command) → Moment World → Moment World → Type 0
+RunPhases in_order s [] from to = to ≡ from
+RunPhases in_order s (phase ∷ more) from to = (between : Moment World) × RunsPhase in_order s phase from between × RunPhases in_order s more between to
+
+-- the commands of the phase with a number from 0; none behind the last one
+abbrev pub phase_of : Script → ℕ → List Command
+phase_of s k = slice_index_or (phases s.commands) k []
+
+-- through the first phases, and then by some turns of the next one
+pub record GoesTo (in_order : Bool) (s : Script) (from : Moment World) (to : World) : Type 0 where
+  pub phase : ℕ
+  pub between : Moment World
+  pub whole : RunPhases in_order s (take phase (phases s.commands)) from between
+  pub schedule : Schedule
+  pub part : RunsPhase in_order s (phase_of s phase) between (record { state = to; schedule = schedule })
+
+-- A state to which the script's run leads from its opening.
+pub record IsRunUpTo (wanted : Wanted) (s : Script) (to : World) : Type 0 where
+  pub opening : World
+  pub is_opening : IsOpening (setting_of s) opening
+  pub goes : GoesTo (goes_in_order wanted) s (record { state = opening; schedule = schedule_of wanted }) to
+
+-- What is left.
+
+-- the state, with the ledger in its cell
+abbrev pub with_ledger : LedgerValue → World → World
+with_ledger ledger w = record { cells = put (change ledger_cell FreeCell (LedgerCell ledger) ∷ []) w.cells; actors = w.actors }
+
+-- What is left of a run: the state that it led to, but that the ledger was moved out of its cell, which is free.
+pub record IsRestOf (wanted : Wanted) (s : Script) (ledger : LedgerValue) (rest : State) : Type 0 where
+  pub about_is : about s.hierarchy s.with rest ≡ setting_of s
+  pub freed : get_or rest.cells.items ledger_cell None ≡ Some cell.Free
+  pub run : IsRunUpTo wanted s (with_ledger ledger (held s.hierarchy s.with rest))
