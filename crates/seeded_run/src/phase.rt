@@ -1,6 +1,5 @@
 //! A phase of a script, run to its end.
-ghost use Rattle.std.specs.Prelude.{◌≡◌, ◌++◌, ◌<◌, ◌≤◌, ℕ, length, OnOk, OnErr, IfOk};
-ghost use Rattle.std.specs.Prelude.{[]};
+ghost use Rattle.std.specs.Prelude.{◌≡◌, ◌++◌, ◌<◌, ◌≤◌, ℕ, [], length, OnOk, OnErr, IfOk};
 ghost use Rattle.seeded_turns.specs.Drawn.{Reaches, Stops, able};
 ghost use Rattle.seeded_run.specs.declared.machine.Running.{Running};
 ghost use Rattle.seeded_run.specs.Kept.{IsBetween, IsStopped};
@@ -149,7 +148,8 @@ fn run_from(
 /// Then every command of the phase has begun and ended, and all actors are idle.
 ///
 /// Where a command finds no memory it ends with that, and the phase goes on. Only where none is found for noting
-/// that either, or for the cursors of the phase, this answers `AllocError`, with the state that was reached.
+/// that either, for noting that a barrier begins, or for the cursors of the phase, this answers `AllocError`, with the
+/// state that was reached.
 pub fn run_phase(
     alloc: Global,
     h: &Hierarchy,
