@@ -1,10 +1,12 @@
 //! Whose turn it is.
 ghost use Rattle.std.specs.Prelude.{◌≡◌, ◌<◌, length, Some, None, true, slice_get, IfSome, List, ℕ, []};
-ghost use Rattle.seeded_turns.specs.Drawn.{able, chosen, next_schedule};
+ghost use Rattle.rand_pcg.specs.Pcg.{pcg32};
+ghost use Rattle.seeded_turns.specs.Drawn.{able, chosen, drawn, next_schedule};
 
 use crate::machine::Machine;
 use crate::schedule::Schedule;
 use rand_core::utils::NextWord;
+use rand_pcg::Lcg64Xsh32;
 
 /// How many actors can step. They are counted and not listed, so that a turn takes no memory.
 fn able_count<M: Machine>(machine: &M) -> u32
@@ -38,18 +40,35 @@ fn able_at<M: Machine>(machine: &M, place: u32) -> u32
     0
 }
 
-/// The place of the one whose turn it is among the number that can step. A generator goes on by one
-/// word.
-fn place(schedule: &mut Schedule, count: u32) -> u32
-    requires { 0 < count }
-    ensures within { result < count }
-    ensures place { (actors : List ℕ) → length actors ≡ count → slice_get actors result ≡ chosen schedule.old actors }
-    ensures schedule { schedule.new ≡ next_schedule schedule.old }
+/// The first of the actors that can step. Who comes behind it isn't asked.
+fn first_able<M: Machine>(machine: &M) -> Option<u32>
+    requires { M.Holds machine.now }
+    ensures none { result ≡ None → able (M.can machine.now) (M.actors machine.now) ≡ [] }
+    ensures some { IfSome result (λ i. (slice_get (able (M.can machine.now) (M.actors machine.now)) 0 ≡ Some i)
+        × (i < M.actors machine.now) × (M.can machine.now i ≡ true)) }
 {
-    match schedule {
-        Schedule::Order => 0,
-        Schedule::Seed(generator) => generator.next_word() % count,
+    for actor in 0..machine.actors() {
+        if machine.can_step(actor) {
+            return Some(actor);
+        }
     }
+    None
+}
+
+/// The actor that a generator draws of those that can step. Where nobody can, no word is drawn.
+fn draw_able<M: Machine>(machine: &M, generator: &mut Lcg64Xsh32) -> Option<u32>
+    requires { M.Holds machine.now }
+    ensures none { result ≡ None → (able (M.can machine.now) (M.actors machine.now) ≡ []) × (generator.new ≡ generator.old) }
+    ensures some { IfSome result (λ i. (generator.new ≡ (pcg32 generator.old).1)
+        × (drawn generator.old (able (M.can machine.now) (M.actors machine.now)) ≡ Some i)
+        × (i < M.actors machine.now) × (M.can machine.now i ≡ true)) }
+{
+    let count = able_count(machine);
+    if count == 0 {
+        return None;
+    }
+    let place = generator.next_word() % count;
+    Some(able_at(machine, place))
 }
 
 /// The actor whose turn it is, if anybody can step. Where nobody can, no word is drawn.
@@ -60,10 +79,8 @@ pub(crate) fn choose<M: Machine>(machine: &M, schedule: &mut Schedule) -> Option
         × (chosen schedule.old (able (M.can machine.now) (M.actors machine.now)) ≡ Some i)
         × (i < M.actors machine.now) × (M.can machine.now i ≡ true)) }
 {
-    let count = able_count(machine);
-    if count == 0 {
-        return None;
+    match schedule {
+        Schedule::Order => first_able(machine),
+        Schedule::Seed(generator) => draw_able(machine, generator),
     }
-    let place = place(schedule, count);
-    Some(able_at(machine, place))
 }

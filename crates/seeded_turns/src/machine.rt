@@ -28,7 +28,8 @@ pub trait Machine: Sized {
         requires { Holds self.now }
         ensures { result ≡ actors self.now };
 
-    /// Whether an actor can step. It is asked of each actor twice a turn.
+    /// Whether an actor can step. In order it is asked of each actor up to the first that can; where a generator
+    /// draws, of each twice a turn.
     fn can_step(&self, actor: u32) -> bool
         requires within { actor < actors self.now }
         requires holds { Holds self.now }
