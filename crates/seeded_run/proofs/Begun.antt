@@ -1,5 +1,5 @@
 -- What is due for an actor whose command may begin, or that can step at all.
-use Rattle.std.proofs.Common.{◌≡◌, ◌∙◌, ◌<◌, ℕ, Bool, true, false, ◌&&◌, ◌+◌, ◌==◌, List, [], ◌∷◌, Option, Some, None, is_none, length, get_or, refl, sym, ap, subst}
+use Rattle.std.proofs.Common.{◌≡◌, ◌∙◌, ◌<◌, ℕ, Bool, true, false, ◌+◌, ◌==◌, List, [], ◌∷◌, Option, Some, None, is_none, length, get_or, refl, sym, ap, subst}
 use Rattle.std.specs.Prelude.{if◌then◌else◌, slice_get}
 use Rattle.std.specs.Option.{option_map_or}
 use Rattle.dim_hierarchy.specs.Dimension.{Dimension}
@@ -16,13 +16,13 @@ use Rattle.volap_cell.specs.declared.kind.Kind.{Kind}
 use Rattle.volap_cell.specs.declared.kind.Kind.TheVariants as kind
 use Rattle.volap_cell.specs.declared.role.Role.{Role}
 use Rattle.volap_cell.specs.declared.role.Role.TheVariants as role
-use Rattle.volap_cell.proofs.States.{is-some, stands}
+use Rattle.volap_cell.proofs.States.{stands}
 use Rattle.script_run.proofs.Between.{get-behind}
 use Rattle.seeded_run.specs.Can.{can, can_step, meets}
 use Rattle.seeded_run.specs.Commands.{may_begin}
 use Rattle.seeded_run.specs.Due.{command_kind, due, desk_of, free_kind, is_alone, next_kind}
-use Rattle.seeded_run.specs.Look.{HasNames, HasNextNames}
-use Rattle.seeded_run.specs.Machine.{HasLeftOver, HasTurned, IsDueNow, IsPhaseHeld, IsPhaseKept, TakesTurn, about_in, can_in, next_at, phase_of, world_of}
+use Rattle.seeded_run.specs.Look.{HasNextNames}
+use Rattle.seeded_run.specs.Machine.{HasLeftOver, HasTurned, IsDueNow, IsPhaseKept, TakesTurn, about_in, can_in, next_at, phase_of, world_of}
 use Rattle.seeded_run.specs.Rests.{first_open, rest_of}
 use Rattle.seeded_run.specs.Steps.{begins_by, begins_of_one}
 use Rattle.seeded_run.specs.Takes.{AsksHere}

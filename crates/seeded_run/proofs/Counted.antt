@@ -1,6 +1,6 @@
 -- A step that is no note leaves its actor counted at its desk as it was, and so does one that changes the history or its actor's
 -- command.
-use Rattle.std.proofs.Common.{◌≡◌, ◌≢◌, ◌∙◌, ◌⊎◌, inl, inr, ℕ, Bool, cond, eqb, List, [], ◌∷◌, refl, sym, ap, subst}
+use Rattle.std.proofs.Common.{◌≡◌, ◌∙◌, ◌⊎◌, inl, inr, ℕ, Bool, cond, eqb, List, [], ◌∷◌, refl, sym, ap, subst}
 use Rattle.dim_hierarchy.specs.Dimension.{Dimension}
 use Rattle.row_ledger.specs.declared.event.Event.{Event}
 use Rattle.tree_shape.proofs.Walks.{on_bool, eqb-eq, eqb-self}
@@ -8,8 +8,8 @@ use Rattle.volap_cell.specs.AdminKinds.{Finishes, GivesUp}
 use Rattle.volap_cell.specs.Cells.{CellValue, ledger_in}
 use Rattle.volap_cell.specs.ImageKinds.{CountsSession, DoesNote, DoesNoteWith, OfUnknown, OfRefused, OfCalled, OfLeft, OfShown, OfEnded, OfCount, OfCalledAsking, OfUnrouted, OfQuery}
 use Rattle.volap_cell.specs.Kinds.{Does}
-use Rattle.volap_cell.specs.Setting.{Setting, ledger_cell}
-use Rattle.volap_cell.specs.Steps.{Step, history_in}
+use Rattle.volap_cell.specs.Setting.{ledger_cell}
+use Rattle.volap_cell.specs.Steps.{history_in}
 use Rattle.volap_cell.specs.Values.{ActorValue, JobValue}
 use Rattle.volap_cell.specs.World.{Agrees, Change, World, after}
 use Rattle.volap_cell.specs.declared.command.Work.{Work}

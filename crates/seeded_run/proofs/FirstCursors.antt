@@ -1,5 +1,5 @@
 -- The first commands of sessions in a phase, and a phase that found no memory before its first turn.
-use Rattle.std.proofs.Common.{◌≡◌, ◌≢◌, ◌∙◌, ◌+◌, ◌-◌, ◌<◌, ◌≤◌, ◌⊎◌, inl, inr, ℕ, zero, suc, Bool, true, false, ◌==◌, List, [], ◌∷◌, ◌++◌, length, get_or, Option, Some, None, refl, sym, ap, subst, arith}
+use Rattle.std.proofs.Common.{◌≡◌, ◌≢◌, ◌∙◌, ◌+◌, ◌-◌, ◌<◌, ◌⊎◌, inl, inr, ℕ, zero, suc, Bool, true, false, ◌==◌, List, [], ◌∷◌, ◌++◌, length, get_or, Some, refl, sym, ap, subst, arith}
 use Rattle.std.specs.Prelude.{if◌then◌else◌, slice_get}
 use Rattle.std.proofs.lemmas.Bool.{eq-eqb, eqb-true}
 use Rattle.dim_hierarchy.specs.Dimension.{Dimension}
@@ -8,7 +8,6 @@ use Rattle.script_form.specs.declared.script.Command.{Command}
 use Rattle.script_form.specs.declared.script.Command.TheVariants as script
 use Rattle.script_run.specs.Places.{session_of}
 use Rattle.script_run.proofs.Between.{get-behind}
-use Rattle.volap_cell.specs.Steps.{history_in}
 use Rattle.volap_cell.specs.declared.state.State.{State}
 use Rattle.seeded_run.specs.Kept.{IsBetween, IsStopped}
 use Rattle.seeded_run.specs.Core.{HasCore}

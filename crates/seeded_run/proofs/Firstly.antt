@@ -1,6 +1,6 @@
 -- Whose the first command is that isn't over, where the commands go in order; and what moving a cursor on does.
-use Rattle.std.proofs.Common.{◌≡◌, ◌≢◌, ◌∙◌, ◌+◌, ◌-◌, ◌<◌, ◌≤◌, ◌⊎◌, inl, inr, ℕ, zero, suc, Bool, true, false, cond, List, [], ◌∷◌, ◌++◌, length, get_or, set, Option, Some, None, refl, sym, ap, subst, arith, nat_lt}
-use Rattle.std.specs.Prelude.{count_by, option_map, slice_get, if◌then◌else◌}
+use Rattle.std.proofs.Common.{◌≡◌, ◌≢◌, ◌∙◌, ◌+◌, ◌<◌, ◌≤◌, ◌⊎◌, inl, inr, ℕ, zero, suc, Bool, true, false, cond, List, [], ◌∷◌, ◌++◌, length, get_or, set, Option, Some, None, refl, sym, ap, arith, nat_lt}
+use Rattle.std.specs.Prelude.{count_by, option_map, slice_get}
 use Rattle.std.proofs.lemmas.List.Recursion.{is_count_by}
 use Rattle.script_form.specs.declared.script.Command.{Command}
 use Rattle.script_run.specs.Places.{is_over_at, session_of}
@@ -13,7 +13,7 @@ use Rattle.seeded_run.specs.Look.{rests}
 use Rattle.seeded_run.specs.Machine.{AloneInOrder, HasBegunTo, IsPhaseKept, WaitsAt, about_in, cursor, next_at, phase_of, world_of}
 use Rattle.seeded_run.specs.Rests.{PhaseRun, first_open}
 use Rattle.seeded_run.specs.declared.machine.Running.{Running}
-use Rattle.seeded_run.proofs.Firsts.{IsFirst, first-at, first-fails, first-some, late-none, over_in}
+use Rattle.seeded_run.proofs.Firsts.{first-at, first-fails, first-some, late-none, over_in}
 use Rattle.seeded_run.proofs.Held.{none-past, some-within}
 use Rattle.seeded_run.proofs.LeftAlone.{apart, is-idle, same-or-not}
 use Rattle.seeded_run.proofs.PhaseRuns.{at-all, is-actor, opened-none, past-over}

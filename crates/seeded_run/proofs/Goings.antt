@@ -1,6 +1,6 @@
 -- A step that is of no part, and by which no command begins, goes on with an open command.
 use Rattle.std.proofs.Common.{◌≡◌, ◌∙◌, ◌<◌, ℕ, Bool, true, false, ◌&&◌, Option, Some, None, is_none, is_some, length, get_or, refl, sym, ap}
-use Rattle.volap_cell.specs.Values.{ActorValue, actor_of}
+use Rattle.volap_cell.specs.Values.{actor_of}
 use Rattle.volap_cell.specs.declared.command.Command.{Command as OpenCommand}
 use Rattle.volap_cell.specs.declared.kind.Kind.{Kind}
 use Rattle.volap_cell.proofs.States.{stands}

@@ -1,21 +1,15 @@
 -- What the cursors of a phase tell: the next command of each stream, and how many streams aren't at their ends.
-use Rattle.std.proofs.Common.{◌≡◌, ◌∙◌, ◌+◌, ◌-◌, ◌<◌, ◌≤◌, ◌⊎◌, inl, inr, ℕ, zero, suc, Bool, true, false, not, List, [], ◌∷◌, ◌++◌, length, take, get_or, Option, Some, None, refl, sym, ap, subst, arith, nat_lt, cond}
+use Rattle.std.proofs.Common.{◌≡◌, ◌∙◌, ◌+◌, ◌-◌, ◌<◌, ◌≤◌, ℕ, zero, suc, Bool, true, false, List, [], ◌∷◌, length, get_or, Option, Some, None, refl, sym, ap, subst, arith, nat_lt, cond}
 use Rattle.std.proofs.lemmas.List.Recursion.{is_count_by}
 use Rattle.std.specs.Prelude.{count_by, slice_get, if◌then◌else◌}
-use Rattle.std.proofs.lemmas.Option.{slice_get_past}
-use Rattle.row_ledger.specs.declared.event.Event.{Event}
 use Rattle.script_form.specs.declared.script.Command.{Command}
-use Rattle.script_form.specs.declared.script.Command.TheVariants as script
-use Rattle.script_run.specs.Places.{begins_of, count_of, session_of}
-use Rattle.script_run.proofs.PlaceFacts.{count_of-append}
-use Rattle.volap_cell.specs.Setting.{Setting, actor_count}
+use Rattle.volap_cell.specs.Setting.{actor_count}
 use Rattle.volap_cell.specs.Steps.{history_in}
 use Rattle.volap_cell.specs.Sums.{sum_below}
-use Rattle.volap_cell.specs.World.{World}
 use Rattle.volap_cell.proofs.Sums.{sum-same}
 use Rattle.seeded_run.specs.Due.{is_empty}
 use Rattle.seeded_run.specs.Look.{IsTold, streams_left}
-use Rattle.seeded_run.specs.Machine.{IsPhaseKept, about_in, cursor, next_at, phase_of, streams_open, world_of}
+use Rattle.seeded_run.specs.Machine.{IsPhaseKept, about_in, cursor, next_at, phase_of, world_of}
 use Rattle.seeded_run.specs.Rests.{PhaseRun, rest_of}
 use Rattle.seeded_run.specs.Running.{opened_in}
 use Rattle.seeded_run.specs.declared.machine.Running.{Running}

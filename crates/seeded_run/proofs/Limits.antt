@@ -1,15 +1,14 @@
 -- What is left is within limits that the size of a core gives.
-use Rattle.std.proofs.Common.{◌≡◌, ◌≢◌, ◌∙◌, ℕ, zero, suc, ◌+◌, ◌*◌, ◌<◌, ◌≤◌, ◌⊎◌, inl, inr, Bool, true, false, cond, leb, eqb, List, [], ◌∷◌, length, map, Option, Some, None, All, Contains, refl, sym, ap, subst, arith, ◌||◌}
-use Rattle.std.specs.Prelude.{sum_by, IsSome, is_some, if◌then◌else◌}
+use Rattle.std.proofs.Common.{◌≡◌, ◌≢◌, ◌∙◌, ℕ, zero, suc, ◌+◌, ◌*◌, ◌<◌, ◌≤◌, inl, inr, Bool, true, false, cond, leb, eqb, List, [], ◌∷◌, length, Option, Some, None, All, Contains, refl, sym, ap, subst, arith, ◌||◌}
+use Rattle.std.specs.Prelude.{sum_by, IsSome}
 use Rattle.std.specs.Option.{option_map_or}
 use Rattle.std.proofs.lemmas.Bool.{false≢true}
 use Rattle.std.proofs.lemmas.List.{length-map}
-use Rattle.std.proofs.lemmas.List.Elements.{All-contains, All-head, All-tail}
+use Rattle.std.proofs.lemmas.List.Elements.{All-contains}
 use Rattle.std.proofs.lemmas.List.Sums.{sum_by-cons}
 use Rattle.std.proofs.lemmas.Nat.{mul-le}
 use Rattle.cell_stock.specs.Stock.{cells_of}
 use Rattle.cell_stock.specs.declared.purse.Spare.{Spare}
-use Rattle.dim_hierarchy.specs.declared.filter.Pick.{Pick}
 use Rattle.query_router.specs.Desk.{is_open, is_taken, is_waiting, state_waits}
 use Rattle.query_router.specs.declared.part.Part.{Part}
 use Rattle.query_router.specs.declared.part.PartState.{PartState}
@@ -20,17 +19,16 @@ use Rattle.row_ledger.specs.Shards.{comes_from, ids_made}
 use Rattle.row_ledger.specs.declared.event.Event.{Event}
 use Rattle.row_ledger.specs.declared.event.Event.TheVariants.{Split}
 use Rattle.row_ledger.proofs.Descent.{comes_from-self}
-use Rattle.row_ledger.proofs.Elements.{Contains-nil}
-use Rattle.tree_shape.specs.Counts.{Each, same, times}
+use Rattle.tree_shape.specs.Counts.{same, times}
 use Rattle.tree_shape.proofs.Queries.{leb-le, leb-gt}
 use Rattle.tree_shape.proofs.Walks.{on_bool, eqb-eq, eqb-ne, same_is, same_not}
 use Rattle.volap_cell.specs.Desking.{AreLinesApart, AreUnrelated, IsQueryPart, IsQueryState}
-use Rattle.volap_cell.specs.Errands.{ReadPart, AtBlock, place_of, row_way, taken_by, taken_of, want_of}
-use Rattle.volap_cell.specs.Falls.{Left, left, far, farthest, count_events, is_split_or_move, of_work, gates_of_work, gates_of_way, gates_of_task, gates_of_errand, gates_of_state, gates_of_part, one_if_any, rows_of_way, rows_of_task, rows_of_errand, rows_of_part, per_gate, per_query, blocks_left, queries_of_work, queries_of_task, queries_of_errand, queries_of_state}
-use Rattle.volap_cell.specs.Ghost.{Ghost, InTree, NotOfStock, Owner, is_in_purse}
+use Rattle.volap_cell.specs.Errands.{ReadPart, place_of, row_way, taken_by, taken_of, want_of}
+use Rattle.volap_cell.specs.Falls.{left, far, farthest, count_events, is_split_or_move, of_work, gates_of_work, gates_of_way, gates_of_task, gates_of_errand, gates_of_state, gates_of_part, one_if_any, rows_of_way, rows_of_task, rows_of_errand, rows_of_part, per_gate, per_query, blocks_left, queries_of_work, queries_of_task, queries_of_errand, queries_of_state}
+use Rattle.volap_cell.specs.Ghost.{Ghost, InTree, NotOfStock, is_in_purse}
 use Rattle.volap_cell.specs.Growing.{table_of}
 use Rattle.volap_cell.specs.Invariant.{InvWith}
-use Rattle.volap_cell.specs.Querying.{IsReading, IsWalk}
+use Rattle.volap_cell.specs.Querying.{IsWalk}
 use Rattle.volap_cell.specs.Setting.{Setting, actor_count, cell_count}
 use Rattle.volap_cell.specs.Stocking.{cells_at}
 use Rattle.volap_cell.specs.Sums.{sum_below}

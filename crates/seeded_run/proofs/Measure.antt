@@ -1,5 +1,5 @@
 -- With each step of a phase fewer are left.
-use Rattle.std.proofs.Common.{◌≡◌, ◌≢◌, ◌∙◌, ℕ, zero, suc, ◌+◌, ◌<◌, ◌≤◌, Bool, true, false, List, [], ◌∷◌, ◌++◌, length, Option, Some, None, refl, sym, ap, subst, arith, length-append}
+use Rattle.std.proofs.Common.{◌≡◌, ◌∙◌, ℕ, ◌+◌, ◌<◌, ◌≤◌, Bool, true, List, [], ◌∷◌, ◌++◌, length, Option, Some, None, refl, sym, ap, subst, arith, length-append}
 use Rattle.std.specs.Prelude.{is_some, if◌then◌else◌}
 use Rattle.std.proofs.lemmas.Bool.{false≢true}
 use Rattle.row_ledger.specs.Past.{is_beginning, session_in}
@@ -7,10 +7,10 @@ use Rattle.row_ledger.specs.declared.event.Event.{Event}
 use Rattle.script_run.specs.Places.{begins_in, begins_of}
 use Rattle.script_run.proofs.PlaceFacts.{begins_of-here, begins_of-other}
 use Rattle.tree_shape.proofs.Walks.{on_bool, eqb-no}
-use Rattle.volap_cell.specs.Falls.{Left, left}
+use Rattle.volap_cell.specs.Falls.{left}
 use Rattle.volap_cell.specs.Ghost.{Ghost}
 use Rattle.volap_cell.specs.Setting.{Setting, actor_count}
-use Rattle.volap_cell.specs.Steps.{IsKept, Step, history_in}
+use Rattle.volap_cell.specs.Steps.{Step, history_in}
 use Rattle.volap_cell.specs.World.{World}
 use Rattle.volap_cell.specs.declared.kind.Kind.{Kind}
 use Rattle.volap_cell.proofs.Sums.{sum-kept}
@@ -18,9 +18,9 @@ use Rattle.seeded_run.proofs.Limits.{limits-law}
 use Rattle.seeded_run.proofs.Ranks.{rank-falls, step-falls}
 use Rattle.seeded_run.proofs.Waiting.{waiting-law}
 use Rattle.seeded_run.specs.Core.{IsCore}
-use Rattle.seeded_run.specs.Measure.{BeginInTurn, CoreHasLeft, MostLaw, HasLeft, FewerLaw, StepsLeftLaw, limits_of, steps_left}
+use Rattle.seeded_run.specs.Measure.{BeginInTurn, MostLaw, FewerLaw, StepsLeftLaw, limits_of, steps_left}
 use Rattle.seeded_run.specs.Ranks.{IsWithin, waiting, with_waiting}
-use Rattle.seeded_run.specs.Rests.{PhaseRun, rest_of}
+use Rattle.seeded_run.specs.Rests.{PhaseRun}
 
 -- a session has no fewer beginnings with an event
 begun-more : (e : Event) (history : List Event) (session : ℕ) → length (begins_of history session) ≤ length (begins_of (e ∷ history) session)

@@ -1,5 +1,5 @@
 -- Who is alone, told by how many streams aren't at their ends.
-use Rattle.std.proofs.Common.{◌≡◌, ◌≢◌, ◌∙◌, ℕ, zero, suc, ◌+◌, ◌<◌, ◌≤◌, ◌⊎◌, inl, inr, Bool, true, false, List, [], ◌∷◌, length, get_or, Option, Some, None, refl, sym, ap, subst, arith, not}
+use Rattle.std.proofs.Common.{◌≡◌, ◌∙◌, ℕ, zero, suc, ◌+◌, ◌<◌, ◌≤◌, ◌⊎◌, inl, inr, Bool, true, false, List, [], ◌∷◌, length, get_or, Option, Some, None, refl, sym, ap, subst, arith}
 use Rattle.std.specs.Prelude.{◌==◌, ◌&&◌, ◌||◌, if◌then◌else◌, slice_get}
 use Rattle.std.proofs.lemmas.Bool.{eq-eqb, ne_eqb}
 use Rattle.script_form.specs.declared.script.Command.{Command}
@@ -10,7 +10,7 @@ use Rattle.volap_cell.specs.Values.{ActorValue, actor_of}
 use Rattle.volap_cell.specs.World.{World}
 use Rattle.volap_cell.specs.declared.actor.Actor.{Actor}
 use Rattle.seeded_run.specs.Due.{all_below, any_below, does_nothing, is_alone, is_empty}
-use Rattle.seeded_run.specs.Look.{IsTold, alone_by, others_end, others_rest, rests, streams_left}
+use Rattle.seeded_run.specs.Look.{IsTold, alone_by, others_end, rests, streams_left}
 
 -- Tests below a number.
 
@@ -52,6 +52,12 @@ pub any-next : (n : ℕ) (test : ℕ → Bool) → any_below n test ≡ false �
 any-next n test none is =
     let next : n + 1 ≡ suc n = omega arith in
     subst (λ m. any_below m test ≡ false) (sym next) (ap (λ b. b || any_below n test) is ∙ none)
+
+-- one more that passes
+pub all-next : (n : ℕ) (test : ℕ → Bool) → all_below n test ≡ true → test n ≡ true → all_below (n + 1) test ≡ true
+all-next n test all is =
+    let next : n + 1 ≡ suc n = omega arith in
+    subst (λ m. all_below m test ≡ true) (sym next) (ap (λ b. b && all_below n test) is ∙ all)
 
 pub both-fail : (a b : Bool) → a ≡ false → b ≡ false → (a || b) ≡ false
 both-fail a b first second = ap (λ x. x || b) first ∙ second

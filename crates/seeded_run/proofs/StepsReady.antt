@@ -16,7 +16,7 @@ use Rattle.volap_cell.specs.Commands.{settles_next}
 use Rattle.volap_cell.specs.ImageKinds.{doing}
 use Rattle.volap_cell.specs.Cells.{desk_in}
 use Rattle.volap_cell.specs.Setting.{Setting, desk_cell}
-use Rattle.volap_cell.specs.State.{IsWorldOf, Stepped}
+use Rattle.volap_cell.specs.State.{Stepped}
 use Rattle.volap_cell.specs.Steps.{history_in}
 use Rattle.volap_cell.specs.Values.{ActorValue, ErrandValue, actor_of}
 use Rattle.volap_cell.specs.World.{World}
@@ -33,16 +33,15 @@ use Rattle.volap_cell.proofs.States.{is-some, stands}
 use Rattle.seeded_run.specs.Arms.{GoesOnAtPart}
 use Rattle.seeded_run.specs.AtWork.{errand_by, errand_of_one}
 use Rattle.seeded_run.specs.Commands.{may_begin}
-use Rattle.seeded_run.specs.Core.{HasCore, IsCore, IsDue}
-use Rattle.seeded_run.specs.Due.{any_below, are_known, command_kind, desk_of, due_by, first_kind, free_kind, hand_kind, is_alone, is_empty, is_empty_desk, kind_at_empty, kind_by_verdict, next_kind, page_kind, parts_kind, purse_kind, tree_kind, work_kind}
+use Rattle.seeded_run.specs.Core.{HasCore, IsDue}
+use Rattle.seeded_run.specs.Due.{any_below, are_known, command_kind, desk_of, due_by, first_kind, free_kind, is_alone, is_empty, is_empty_desk, kind_by_verdict, next_kind, page_kind, parts_kind, tree_kind, work_kind}
 use Rattle.seeded_run.specs.Steps.{HasCommand, IsRunWork, RunsCommand}
 use Rattle.seeded_run.specs.Look.{waits_for_others}
 use Rattle.seeded_run.specs.Shown.{HasTreeToShow, IsTreeToShow}
 use Rattle.seeded_run.specs.Told.{is_of_part}
-use Rattle.seeded_run.specs.Works.{command_by, command_of_one, has_own_note, is_at_work, is_balance, is_balance_work, is_page_due}
+use Rattle.seeded_run.specs.Works.{command_by, command_of_one, has_own_note, is_at_work, is_balance_work, is_page_due}
 use Rattle.seeded_run.proofs.DueParts.{at-part-or}
-use Rattle.seeded_run.proofs.LeftAlone.{IsAtCommand, apart, at-command}
-use Rattle.seeded_run.proofs.Looks.{someone}
+use Rattle.seeded_run.proofs.LeftAlone.{apart, at-command}
 
 -- a part that went on, or that ended for want of memory
 pub either-ends : (h : List Dimension) (k : Kind) (n : ℕ) (cells cells_now : List (Option Cell)) (actors actors_now : List (Option Actor)) → is_of_part k ≡ true

@@ -1,5 +1,5 @@
 -- A step that is due, and can be made, is told by what one thread sees that holds all cells and actors.
-use Rattle.std.proofs.Common.{◌≡◌, ◌≢◌, ◌∙◌, ℕ, ◌<◌, inl, inr, Bool, true, false, List, [], ◌∷◌, length, get_or, Option, Some, None, refl, sym, ap, subst, not, arith, ◌+◌}
+use Rattle.std.proofs.Common.{◌≡◌, ◌≢◌, ◌∙◌, ℕ, ◌<◌, Bool, true, false, List, [], length, get_or, Option, Some, None, refl, sym, ap, subst, not, arith, ◌+◌}
 use Rattle.std.specs.Prelude.{◌==◌, ◌&&◌, ◌||◌, if◌then◌else◌, is_some, is_none, option_and_then}
 use Rattle.std.specs.Option.{option_map_or}
 use mathlib.Core.Path.{fun_ext}
@@ -25,7 +25,7 @@ use Rattle.volap_cell.specs.Setting.{Setting, actor_count, desk_cell}
 use Rattle.volap_cell.specs.State.{Has}
 use Rattle.volap_cell.specs.Stocking.{cells_at}
 use Rattle.volap_cell.specs.TreeKinds.{HasRow}
-use Rattle.volap_cell.specs.Values.{ActorValue, ErrandValue, JobValue, TaskValue, OfRow, Unread, Read, actor_of}
+use Rattle.volap_cell.specs.Values.{ActorValue, ErrandValue, TaskValue, OfRow, Unread, Read, actor_of}
 use Rattle.volap_cell.specs.View.{view}
 use Rattle.volap_cell.specs.World.{World}
 use Rattle.volap_cell.specs.declared.actor.Actor.{Actor}

@@ -1,5 +1,5 @@
 -- What an actor's step is as a turn of a phase, and what holds behind it.
-use Rattle.std.proofs.Common.{◌≡◌, ◌≢◌, ◌∙◌, ◌+◌, ◌-◌, ◌<◌, ◌≤◌, ◌⊎◌, inl, inr, ℕ, suc, Bool, true, false, not, ◌&&◌, List, [], ◌∷◌, ◌++◌, length, take, get_or, Option, Some, None, is_some, is_none, refl, sym, ap, subst, arith, eqb-true, ◌==◌}
+use Rattle.std.proofs.Common.{◌≡◌, ◌≢◌, ◌∙◌, ◌+◌, ◌-◌, ◌<◌, ◌≤◌, ◌⊎◌, inl, inr, ℕ, suc, Bool, true, false, List, [], ◌∷◌, ◌++◌, length, take, get_or, Option, Some, None, is_some, is_none, refl, sym, ap, subst, arith, eqb-true, ◌==◌}
 use Rattle.std.specs.Prelude.{slice_get}
 use Rattle.std.specs.Option.{option_map_or}
 use Rattle.row_ledger.specs.Past.{session_in}
@@ -15,7 +15,7 @@ use Rattle.script_run.specs.Places.{begins_of, count_of, session_of}
 use Rattle.script_run.proofs.PlaceFacts.{count_of-append}
 use Rattle.script_run.proofs.Between.{get-behind, take-behind}
 use Rattle.volap_cell.specs.Setting.{Setting, actor_count}
-use Rattle.volap_cell.specs.State.{IsStepped, IsWorldOf, Stepped}
+use Rattle.volap_cell.specs.State.{IsWorldOf, Stepped}
 use Rattle.volap_cell.specs.Values.{ActorValue, actor_of}
 use Rattle.volap_cell.proofs.States.{is-some, stands}
 use Rattle.volap_cell.specs.Steps.{Step, history_in}
@@ -26,16 +26,16 @@ use Rattle.volap_cell.specs.declared.command.Command.{Command as OpenCommand}
 use Rattle.volap_cell.specs.declared.kind.Kind.{Kind}
 use Rattle.volap_cell.specs.declared.kind.Kind.TheVariants.{Note}
 use Rattle.volap_cell.specs.declared.state.State.{State}
-use Rattle.seeded_run.specs.Can.{can, can_in_order, can_step, meets}
+use Rattle.seeded_run.specs.Can.{can, can_step, meets}
 use Rattle.seeded_run.specs.Commands.{GoesBy, IsBegunBy, IsNextAt, IsToBegin, may_begin}
 use Rattle.seeded_run.specs.Core.{IsCore, IsDue, IsDueAt}
 use Rattle.seeded_run.specs.Due.{does_nothing, due}
 use Rattle.seeded_run.specs.Kept.{IsTurn, MovesOn}
-use Rattle.seeded_run.specs.Machine.{AloneInOrder, HasLeftOver, HasMovedOn, HasTurned, IsDueNow, IsPhaseHeld, IsPhaseKept, IsSamePhase, RestsAsIs, TakesTurn, about_in, can_in, cursor, next_at, phase_of, world_of}
+use Rattle.seeded_run.specs.Machine.{AloneInOrder, HasLeftOver, HasMovedOn, HasTurned, IsDueNow, IsPhaseHeld, IsPhaseKept, RestsAsIs, about_in, cursor, next_at, phase_of, world_of}
 use Rattle.seeded_run.specs.Measure.{BeginInTurn}
 use Rattle.seeded_run.specs.Phase.{most_actors}
 use Rattle.seeded_run.specs.Rests.{PhaseRun, first_open, rest_of}
-use Rattle.seeded_run.specs.Running.{IsRunning, opened_in}
+use Rattle.seeded_run.specs.Running.{IsRunning}
 use Rattle.seeded_run.specs.Arms.{TellsIfNote}
 use Rattle.seeded_run.specs.Steps.{HasCommand, begins_by, begins_of_one}
 use Rattle.seeded_run.specs.Works.{command_by, command_of_one}

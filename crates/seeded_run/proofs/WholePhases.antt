@@ -1,5 +1,5 @@
 -- How a phase begins, runs and ends, as its turns are.
-use Rattle.std.proofs.Common.{◌≡◌, ◌≢◌, ◌∙◌, ◌+◌, ◌-◌, ◌<◌, ◌≤◌, ◌⊎◌, inl, inr, ℕ, zero, suc, Bool, true, false, List, [], ◌∷◌, ◌++◌, length, get_or, Option, Some, None, refl, sym, ap, subst, arith}
+use Rattle.std.proofs.Common.{◌≡◌, ◌≢◌, ◌∙◌, ◌+◌, ◌-◌, ◌<◌, ◌≤◌, ◌⊎◌, inl, inr, ℕ, zero, suc, Bool, List, [], ◌∷◌, ◌++◌, length, get_or, Option, Some, refl, sym, ap, subst, arith}
 use Rattle.std.specs.Prelude.{OnOk, OnErr, Ok, Err, Result, slice_get}
 use Rattle.row_ledger.specs.declared.settings.Use.{Use}
 use Rattle.script_form.specs.declared.script.Command.{Command}
@@ -9,7 +9,6 @@ use Rattle.seeded_turns.specs.Drawn.{AreTurns, Moment, Reaches, Stops, able, nex
 use Rattle.seeded_turns.specs.declared.schedule.Schedule.{Schedule}
 use Rattle.seeded_turns.specs.declared.schedule.Schedule.TheVariants.{Order, Seed}
 use Rattle.seeded_turns.proofs.Keeping.{run_keeps, run_map}
-use Rattle.core_steps.specs.Ready.{Stays}
 use Rattle.dim_hierarchy.specs.Dimension.{Dimension}
 use Rattle.row_ledger.specs.declared.settings.Call.TheVariants as call
 use Rattle.script_form.specs.declared.script.Command.TheVariants as script
@@ -26,11 +25,11 @@ use Rattle.volap_cell.specs.World.{World}
 use Rattle.seeded_run.specs.Can.{able_in, can_step}
 use Rattle.seeded_run.specs.Core.{HasCore, IsCore}
 use Rattle.seeded_run.specs.Kept.{IsBetween, IsStopped}
-use Rattle.seeded_run.specs.Machine.{AloneInOrder, AreFirstCursors, HasLeftOver, HasRunTo, HasStoppedAt, IsFirstAt, IsFirstMoment, IsPhaseHeld, IsPhaseKept, IsSamePhase, RestsAsIs, TakesTurn, about_in, can_in, cursor, most_steps, next_at, nothing, phase_of, world_of}
+use Rattle.seeded_run.specs.Machine.{AloneInOrder, HasLeftOver, HasRunTo, HasStoppedAt, IsFirstMoment, IsPhaseHeld, IsPhaseKept, IsSamePhase, RestsAsIs, TakesTurn, about_in, can_in, cursor, most_steps, next_at, nothing, phase_of, world_of}
 use Rattle.seeded_run.specs.Measure.{limits_of}
 use Rattle.seeded_run.specs.Phase.{IsKeptTurn, MayRun, about, held, is_order, most_actors, phase_from}
 use Rattle.seeded_run.specs.Progress.{IsPhaseOf}
-use Rattle.seeded_run.specs.Ranks.{IsWithin, rank, waiting, with_waiting}
+use Rattle.seeded_run.specs.Ranks.{IsWithin, waiting, with_waiting}
 use Rattle.seeded_run.specs.Rests.{PhaseRun}
 use Rattle.seeded_run.specs.Worlds.{setting_in, world_in}
 use Rattle.seeded_run.specs.Running.{IsRunning}

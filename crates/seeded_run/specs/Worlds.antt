@@ -1,9 +1,9 @@
 -- The one state that vectors of cells and actors are, and what it is about.
-use Rattle.std.specs.Prelude.{ℕ, false, List, [], map, get_or, Option, Some, None}
+use Rattle.std.specs.Prelude.{ℕ, false, List, [], map, get_or, Option, None}
 use Rattle.std.specs.Option.{option_map_or}
 use Rattle.dim_hierarchy.specs.Dimension.{Dimension}
 use Rattle.row_ledger.specs.declared.settings.Use.{Use}
-use Rattle.volap_cell.specs.Cells.{CellValue, FreeCell, cell_of}
+use Rattle.volap_cell.specs.Cells.{FreeCell, cell_of}
 use Rattle.volap_cell.specs.Setting.{Setting}
 use Rattle.volap_cell.specs.Values.{ActorValue, actor_of}
 use Rattle.volap_cell.specs.World.{World}

@@ -1,6 +1,6 @@
 //! What is due for an actor that is at a part.
 ghost use Rattle.std.specs.Prelude.{◌≡◌, ◌+◌, ◌*◌, [], length, nat_le};
-ghost use Rattle.seeded_run.specs.Due.{carry_kind, errand_kind, gate_kind, is_empty, kind_by, led_to, may_enter, placed_kind, read_kind, row_kind, task_kind};
+ghost use Rattle.seeded_run.specs.Due.{carry_kind, errand_kind, gate_kind, is_empty, kind_by, led_to, may_enter, placed_kind, read_kind, row_kind};
 ghost use Rattle.seeded_run.specs.Look.{cell_at, setting_by, world_by};
 ghost use Rattle.volap_cell.specs.Cells.{GateCell, block_in};
 ghost use Rattle.volap_cell.specs.Values.{actor_of, errand_of, task_of};
@@ -132,12 +132,21 @@ fn placed_kind(actor: &Actor) -> Kind
     }
 }
 
-/// What is due for a row that has come so far.
-fn row_kind(cells: &[Option<Cell>], led: &Option<Where>, actor: &Actor, way: Way) -> Option<Kind>
-    ensures { result ≡ row_kind (world_by cells.now) led.now (actor_of actor.now) way }
+/// What is due for a row that has come so far. Where its shard is matters only before its gate.
+fn row_kind(
+    with: &Use,
+    cells: &[Option<Cell>],
+    actor: &Actor,
+    errand: &Errand,
+    way: Way,
+) -> Option<Kind>
+    ensures { result ≡ row_kind (world_by cells.now) (led_to (setting_by [] with.now) (world_by cells.now) (errand_of errand.now)) (actor_of actor.now) way }
 {
     match way {
-        Way::Before { height, filled } => before_kind(cells, led, actor, height, filled),
+        Way::Before { height, filled } => {
+            let led = led_to(with, cells, errand);
+            before_kind(cells, &led, actor, height, filled)
+        }
         Way::Carried { block, .. } => Some(carry_kind(cells, block)),
         Way::Put { .. } => Some(Kind::LeaveTree),
         Way::Placed => Some(placed_kind(actor)),
@@ -155,22 +164,6 @@ fn read_kind(todo: &Todo) -> Kind
     }
 }
 
-/// What is due for a part, by what it asks for and where its shard is.
-fn task_kind(
-    cells: &[Option<Cell>],
-    led: &Option<Where>,
-    actor: &Actor,
-    task: &Task,
-) -> Option<Kind>
-    ensures { result ≡ task_kind (world_by cells.now) led.now (actor_of actor.now) (task_of task.now) }
-{
-    match task {
-        Task::Row(going) => row_kind(cells, led, actor, going.way),
-        Task::Unread(_) => unread_kind(led),
-        Task::Read(reading) => Some(read_kind(&reading.todo)),
-    }
-}
-
 /// What is due for an actor that is at this part. Takes no memory.
 pub(crate) fn errand_kind(
     with: &Use,
@@ -180,6 +173,9 @@ pub(crate) fn errand_kind(
 ) -> Option<Kind>
     ensures { result ≡ errand_kind (setting_by [] with.now) (world_by cells.now) (actor_of actor.now) (errand_of errand.now) }
 {
-    let led = led_to(with, cells, errand);
-    task_kind(cells, &led, actor, &errand.task)
+    match &errand.task {
+        Task::Row(going) => row_kind(with, cells, actor, errand, going.way),
+        Task::Unread(_) => unread_kind(&led_to(with, cells, errand)),
+        Task::Read(reading) => Some(read_kind(&reading.todo)),
+    }
 }

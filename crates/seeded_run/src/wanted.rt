@@ -1,5 +1,5 @@
 //! The block that a step holds besides the one at which its actor carries a row, and whether anyone else carries one there.
-ghost use Rattle.std.specs.Prelude.{◌≡◌, ◌==◌, Some, true, []};
+ghost use Rattle.std.specs.Prelude.{◌≡◌, ◌==◌, ℕ, Some, true, false, []};
 ghost use Rattle.std.specs.Option.{option_map_or};
 ghost use Rattle.dc_node.specs.Block.{IsBodyOf};
 ghost use Rattle.dim_hierarchy.specs.Row.{IsRowOf};
@@ -158,7 +158,40 @@ fn is_free(actors: &[Option<Actor>], number: usize, block: u32) -> bool
     true
 }
 
-/// Whether nobody else carries a row at the block that a step of this kind would hold.
+/// Whether an actor at a place carries a row.
+fn carries(place: &Option<Actor>) -> bool
+    ensures { result ≡ false → (block : ℕ) → carries_at place.now block ≡ false }
+{
+    match place {
+        Some(
+            Actor {
+                errand: Some(
+                    Errand {
+                        task: Task::Row(going),
+                        ..
+                    },
+                ),
+                ..
+            },
+        ) => matches!(going.way, Way::Carried { .. }),
+        _ => false,
+    }
+}
+
+/// Whether nobody but this actor carries a row: then each block is free, whichever it wants. It looks at each.
+fn nobody_carries(actors: &[Option<Actor>], number: usize) -> bool
+    ensures { result ≡ true → (block : ℕ) → free_by actors.now number block ≡ true }
+{
+    for other in 0..actors.len() {
+        if other != number && carries(&actors[other]) {
+            return false;
+        }
+    }
+    true
+}
+
+/// Whether nobody else carries a row at the block that a step of this kind would hold. Which block that is
+/// is looked up only where somebody else carries one.
 pub(crate) fn is_wanted_free(
     h: &Hierarchy,
     with: &Use,
@@ -171,6 +204,9 @@ pub(crate) fn is_wanted_free(
     requires fits { CanPick h.now cells.now (errand_of errand.now) }
     ensures { result ≡ option_map_or (free_by actors.now number) (wanted_of (setting_by h.now with.now) (world_by cells.now) (errand_of errand.now) kind) true }
 {
+    if nobody_carries(actors, number) {
+        return true;
+    }
     match wanted(h, with, cells, errand, kind) {
         Some(block) => is_free(actors, number, block),
         None => true,

@@ -1,4 +1,3 @@
-use Rattle.std.proofs.Common.{◌≡◌, ◌<◌, ℕ, length, get_or}
 use Rattle.seeded_run.specs.Machine.{AreFirstCursors}
 use Rattle.seeded_run.proofs.phase.first_cursors.Given as goal
 

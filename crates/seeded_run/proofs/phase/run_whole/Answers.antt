@@ -1,4 +1,3 @@
-use Rattle.std.specs.Prelude.{Result}
 use Rattle.seeded_run.specs.Machine.{HoldsNow, LeavesAtMost}
 use Rattle.seeded_run.proofs.WholePhases.{PartRun, WholeRun, any-way, begins-alone, begins-kept, ends-so, has-left, on-fault, on-one, some-actor}
 use Rattle.seeded_run.proofs.phase.run_whole.Goals as goal

@@ -1,4 +1,4 @@
-use Rattle.std.proofs.Common.{◌≡◌, ◌<◌, ◌≤◌, ◌⊎◌, ℕ, arith, inl, inr, subst, sym}
+use Rattle.std.proofs.Common.{◌≡◌, ◌<◌, ◌≤◌, arith, inl, inr, subst, sym}
 use Rattle.std.specs.Prelude.{Some, slice_get}
 use Rattle.seeded_run.proofs.Firstly.{below-or-at, next-read}
 use Rattle.seeded_run.proofs.Held.{some-within}

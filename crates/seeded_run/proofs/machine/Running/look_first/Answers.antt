@@ -1,4 +1,4 @@
-use Rattle.std.proofs.Common.{◌∙◌, ◌≡◌, ap, false, get_or, length, None, Some, sym, true}
+use Rattle.std.proofs.Common.{◌∙◌, ◌≡◌, ap, false, get_or, None, Some, sym, true}
 use Rattle.std.proofs.lemmas.List.{get_or_read}
 use Rattle.seeded_run.specs.Look.{rests}
 use Rattle.seeded_run.proofs.Firstly.{all-rest, first-busy, first-idle, kept-look, rests-so}

@@ -1,4 +1,4 @@
-use Rattle.seeded_run.specs.Machine.{HoldsNow, LeavesAtMost}
+use Rattle.seeded_run.specs.Machine.{HoldsNow}
 use Rattle.std.proofs.Common.{arith}
 use Rattle.seeded_run.proofs.machine.RunningMachine.actors.Goals as goal
 

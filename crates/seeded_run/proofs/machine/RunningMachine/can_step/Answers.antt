@@ -1,7 +1,6 @@
-use Rattle.std.proofs.Common.{◌∙◌, ◌<◌, ℕ, get_or, None, arith, subst, sym}
-use Rattle.std.specs.Option.{option_copied}
+use Rattle.std.proofs.Common.{get_or, None, arith, subst, sym}
 use Rattle.seeded_run.specs.Look.{IsTold}
-use Rattle.seeded_run.specs.Machine.{HoldsNow, LeavesAtMost, about_in, phase_of, world_of}
+use Rattle.seeded_run.specs.Machine.{HoldsNow, about_in, phase_of, world_of}
 use Rattle.seeded_run.specs.Rests.{rest_of}
 use Rattle.seeded_run.specs.Takes.{AsksHere}
 use Rattle.volap_cell.specs.Steps.{history_in}
