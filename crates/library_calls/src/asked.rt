@@ -1,0 +1,33 @@
+//! A row and a question by names.
+ghost use Rattle.std.specs.Prelude.{◌≡◌, ◌↔◌, IsTrue, IfOk, All, List, length};
+ghost use Rattle.dim_hierarchy.specs.Filter.{IsFilterNamed, IsNamePick, Matches};
+ghost use Rattle.dim_hierarchy.specs.Row.{IsCoordNamed};
+ghost use Rattle.dim_hierarchy.specs.declared.filter.Pick.{Pick};
+ghost use Rattle.dim_hierarchy.specs.declared.row.Coord.{Coord};
+
+use dim_hierarchy::{FilterFault, Hierarchy, NameFilter, Names};
+use std::alloc::Global;
+
+/// Whether a row of these names is one that the question in names asks for. Else the first dimension
+/// in which a name is not known, of the row before the question, or want of memory.
+pub fn is_counted(
+    alloc: Global,
+    h: &Hierarchy,
+    row: &Names,
+    question: &NameFilter,
+) -> Result<bool, FilterFault>
+    requires row { length row.now ≡ length h.now }
+    requires question { length question.now ≡ length h.now }
+    requires some { All IsNamePick question.now }
+    ensures { IfOk result (λ test. (at : Coord) × (f : List Pick)
+        × IsCoordNamed h.now row.now at
+        × IsFilterNamed h.now question.now f
+        × (IsTrue test ↔ Matches h.now f at)) }
+{
+    let at = match h.coord(row) {
+        Ok(at) => at,
+        Err(dim) => return Err(FilterFault::Unknown { dim }),
+    };
+    let filter = h.filter(alloc, question)?;
+    Ok(h.matches(&filter, &at))
+}
