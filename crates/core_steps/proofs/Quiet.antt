@@ -1,13 +1,11 @@
 -- The events of steps by which a command goes on or ends begin nothing.
 use Rattle.std.proofs.Common.{ℕ, ◌≡◌, List, ◌∷◌, false, Some, refl, sym, ap, ◌∙◌, subst}
-use Rattle.core_image.specs.NotesDue.{CanNoteEnded}
 use Rattle.core_steps.specs.Added.{EndsIn}
 use Rattle.core_steps.proofs.Sights.{one-or-none}
 use Rattle.dim_hierarchy.specs.Dimension.{Dimension}
 use Rattle.row_ledger.specs.Past.{is_beginning}
 use Rattle.row_ledger.specs.declared.event.Event.{Event}
 use Rattle.row_ledger.specs.declared.event.Event.TheVariants as event
-use Rattle.row_ledger.specs.declared.settings.How.{How}
 use Rattle.volap_cell.specs.Cells.{CellValue, DeskOf, TheLedger, ledger_in, tag_of}
 use Rattle.volap_cell.specs.ImageKinds.{DoesAck, DoesAnswer, DoesNote, DoesNoteWith, DoesSync, FailsRouted, OfCalled, OfCalledAsking, OfCount, OfEnded, OfLeft, OfQuery, OfRefused, OfShown, OfUnknown, OfUnrouted, Pushes}
 use Rattle.volap_cell.specs.Values.{ActorValue}
@@ -40,11 +38,12 @@ unrouted-ends has (OfCalledAsking registry asked does) = one-or-none does.free.c
 unrouted-ends {k} {l} {a} {b} has (OfUnrouted does) = pushed (event.Failed does.of) 0 1 l b.seen refl does.failed
 unrouted-ends {k} {l} {a} {b} has (OfQuery does) = pushed (event.Failed does.of) 0 1 l b.seen refl does.failed
 
-pub ended-ends : {how : How} {l : Change} {a b : ActorValue} → CanNoteEnded how l.before a → DoesNote l a b → EndsIn l.before l.now
-ended-ends can (OfUnknown does) = one-or-none does.free.command can.command
-ended-ends can (OfRefused does) = one-or-none does.free.command can.command
-ended-ends can (OfCalled registry does) = one-or-none does.free.command can.command
-ended-ends {how} {l} {a} {b} can (OfLeft does) = pushed (event.Left does.of does.job.shard does.left_as) 0 1 l b.seen refl does.left
-ended-ends {how} {l} {a} {b} can (OfShown page does) = pushed (event.Shown does.of page) 0 1 l b.seen refl does.shown
-ended-ends {how} {l} {a} {b} can (OfEnded does) = pushed (event.Ended does.of does.how_it_ends) 0 _ l b.seen refl does.ended
-ended-ends {how} {l} {a} {b} can (OfCount does) = (let tags : TheLedger ≡ DeskOf does.server = sym can.ledger_is ∙ ap tag_of does.turns.was in absurd (cc))
+-- with the ledger alone, too
+pub noted-ends : {l : Change} {a b : ActorValue} {c : Command} → a.command ≡ Some c → tag_of l.before ≡ TheLedger → DoesNote l a b → EndsIn l.before l.now
+noted-ends has tags (OfUnknown does) = one-or-none does.free.command has
+noted-ends has tags (OfRefused does) = one-or-none does.free.command has
+noted-ends has tags (OfCalled registry does) = one-or-none does.free.command has
+noted-ends {l} {a} {b} has tags (OfLeft does) = pushed (event.Left does.of does.job.shard does.left_as) 0 1 l b.seen refl does.left
+noted-ends {l} {a} {b} has tags (OfShown page does) = pushed (event.Shown does.of page) 0 1 l b.seen refl does.shown
+noted-ends {l} {a} {b} has tags (OfEnded does) = pushed (event.Ended does.of does.how_it_ends) 0 _ l b.seen refl does.ended
+noted-ends {l} {a} {b} has tags (OfCount does) = (let never : TheLedger ≡ DeskOf does.server = sym tags ∙ ap tag_of does.turns.was in absurd (cc))

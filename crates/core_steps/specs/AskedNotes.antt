@@ -1,6 +1,6 @@
 -- What the steps ask that note a command's beginning or its end, of their cells as a list.
 use Rattle.std.specs.Prelude.{ℕ, List, [], ◌∷◌}
-use Rattle.core_image.specs.NotesDue.{CanFailQuery, CanFailRouted, CanFailUnrouted, CanNoteAsking, CanNoteCalled, CanNoteEnded, CanNoteRefused, CanNoteUnknown}
+use Rattle.core_image.specs.NotesDue.{CanFailQuery, CanFailRouted, CanFailUnrouted, CanNoteAsking, CanNoteCalled, CanNoteEnded, CanNoteLeft, CanNoteRefused, CanNoteUnknown}
 use Rattle.row_ledger.specs.declared.settings.Call.{Call}
 use Rattle.row_ledger.specs.declared.settings.How.{How}
 use Rattle.volap_cell.specs.Cells.{CellValue}
@@ -29,6 +29,10 @@ NotesAsking call workers cells a = ⊥
 abbrev pub NotesEnded : How → List CellValue → ActorValue → Type 0
 NotesEnded how (ledger ∷ []) a = CanNoteEnded how ledger a
 NotesEnded how cells a = ⊥
+
+abbrev pub NotesLeft : List CellValue → ActorValue → Type 0
+NotesLeft (ledger ∷ []) a = CanNoteLeft ledger a
+NotesLeft cells a = ⊥
 
 abbrev pub FailsUnrouted : List CellValue → ActorValue → Type 0
 FailsUnrouted (image ∷ ledger ∷ []) a = CanFailUnrouted image ledger a

@@ -7,3 +7,4 @@ pub mod AskedPages
 pub mod Added
 pub mod AskedParts
 pub mod Seen
+pub mod AskedJobs

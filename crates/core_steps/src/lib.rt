@@ -5,6 +5,7 @@
 mod books;
 mod fails;
 mod held;
+mod jobs;
 mod notes;
 mod parts;
 mod shown;
@@ -13,7 +14,8 @@ mod trees;
 pub use books::{ack, answer, begin_insert, begin_query, route, sync};
 pub use fails::{fail_query, fail_routed, fail_unrouted};
 pub use held::HeldIf;
-pub use notes::{note_asking, note_called, note_ended, note_refused, note_unknown};
+pub use jobs::{build_block, build_trees, collect_block, collect_row, drained, freeze, postpone};
+pub use notes::{note_asking, note_called, note_ended, note_left, note_refused, note_unknown};
 pub use parts::{expand, finish_part, forward, look_up, take_part};
 pub use shown::note_shown;
 pub use trees::{

@@ -2,7 +2,7 @@
 ghost use Rattle.std.specs.Prelude.{[], ◌∷◌, OnErr, OnOk};
 ghost use Rattle.core_image.specs.Told.{called_by, refused_by, unknown_by};
 ghost use Rattle.core_steps.specs.Added.{Adds, AddsQuiet};
-ghost use Rattle.core_steps.specs.AskedNotes.{NotesAsking, NotesCalled, NotesEnded, NotesRefused, NotesUnknown};
+ghost use Rattle.core_steps.specs.AskedNotes.{NotesAsking, NotesCalled, NotesEnded, NotesLeft, NotesRefused, NotesUnknown};
 ghost use Rattle.core_steps.specs.Ready.{MayStep, Stays};
 ghost use Rattle.volap_cell.specs.State.{HasInv, Stepped};
 ghost use Rattle.volap_cell.specs.declared.kind.Kind.TheVariants.{Note};
@@ -120,7 +120,7 @@ pub fn note_asking(
     made
 }
 
-/// An actor's command that is no insert, no query and no balance ends, in this way. Takes no memory.
+/// An actor's command that is no insert and no query ends, in this way. Takes no memory.
 pub fn note_ended(h: &Hierarchy, state: &mut State, number: usize, ledger_at: u32, how: How)
     requires state { HasInv h.now state.old.cells.items state.old.actors.items }
     requires ready { MayStep state.old.cells.items state.old.actors.items (ledger_at ∷ []) number (NotesEnded how) }
@@ -131,6 +131,21 @@ pub fn note_ended(h: &Hierarchy, state: &mut State, number: usize, ledger_at: u3
     let mut ledger = lift_one(cells, ledger_at);
     let mut actor = lift(actors, number);
     core_image::note_ended(h, ledger_at, &mut ledger, &mut actor, how);
+    put_actor(actors, number, actor);
+    put_one(cells, ledger_at, ledger);
+}
+
+/// An actor's balance leaves the action that it is at. Takes no memory.
+pub fn note_left(h: &Hierarchy, state: &mut State, number: usize, ledger_at: u32)
+    requires state { HasInv h.now state.old.cells.items state.old.actors.items }
+    requires ready { MayStep state.old.cells.items state.old.actors.items (ledger_at ∷ []) number NotesLeft }
+    ensures stepped { Stepped h.now Note number state.old.cells.items state.old.actors.items state.new.cells.items state.new.actors.items }
+    ensures quiet { AddsQuiet ledger_at state.old.cells.items state.old.actors.items state.new.cells.items state.new.actors.items }
+{
+    let (cells, actors) = (&mut state.cells, &mut state.actors);
+    let mut ledger = lift_one(cells, ledger_at);
+    let mut actor = lift(actors, number);
+    core_image::note_left(h, ledger_at, &mut ledger, &mut actor);
     put_actor(actors, number, actor);
     put_one(cells, ledger_at, ledger);
 }

@@ -1,0 +1,156 @@
+//! The steps of the administrator's splits and moves, as far as all new blocks are in their cells; and of those that are given up.
+ghost use Rattle.std.specs.Prelude.{[], ◌∷◌, OnErr, OnOk};
+ghost use Rattle.core_steps.specs.AskedJobs.{FillsNext, FreezesShard, GivesJobUp, MakesNewTrees, ReadsNoted, SeesDrained, TakesQueued};
+ghost use Rattle.core_steps.specs.Ready.{MayStep, Stays};
+ghost use Rattle.volap_cell.specs.State.{HasInv, Stepped};
+ghost use Rattle.volap_cell.specs.declared.kind.Kind.TheVariants.{BuildBlock, Collect, Drained, Freeze, Postpone};
+
+use dim_hierarchy::Hierarchy;
+use std::alloc::{AllocError, Global};
+use volap_cell::{
+    State, lift, lift_one, lift_three, lift_two, put_actor, put_one, put_three, put_two,
+};
+
+/// The shard of an actor's job is frozen, or the job is declined: with its worker's table, the gate to which that leads,
+/// and the stock. Where memory is wanting, the state stays as it was.
+pub fn freeze(
+    alloc: Global,
+    h: &Hierarchy,
+    state: &mut State,
+    number: usize,
+    map_at: u32,
+    gate_at: u32,
+    stock_at: u32,
+) -> Result<(), AllocError>
+    requires state { HasInv h.now state.old.cells.items state.old.actors.items }
+    requires ready { MayStep state.old.cells.items state.old.actors.items (map_at ∷ gate_at ∷ stock_at ∷ []) number (FreezesShard map_at gate_at) }
+    ensures stepped { OnOk result (Stepped h.now Freeze number state.old.cells.items state.old.actors.items state.new.cells.items state.new.actors.items) }
+    ensures stays { OnErr result (Stays state.old.cells.items state.old.actors.items state.new.cells.items state.new.actors.items) }
+{
+    let (cells, actors) = (&mut state.cells, &mut state.actors);
+    let (mut map, mut gate, mut stock) = lift_three(cells, map_at, gate_at, stock_at);
+    let mut actor = lift(actors, number);
+    let made = core_admin::freeze(
+        alloc, h, map_at, &mut map, gate_at, &mut gate, stock_at, &mut stock, &mut actor,
+    );
+    put_actor(actors, number, actor);
+    put_three(cells, map_at, map, gate_at, gate, stock_at, stock);
+    made
+}
+
+/// An actor's job goes on to collect its shard's rows, in whose tree no insert is any more. Where memory is wanting,
+/// the state stays as it was.
+pub fn drained(
+    alloc: Global,
+    h: &Hierarchy,
+    state: &mut State,
+    number: usize,
+    gate_at: u32,
+) -> Result<(), AllocError>
+    requires state { HasInv h.now state.old.cells.items state.old.actors.items }
+    requires ready { MayStep state.old.cells.items state.old.actors.items (gate_at ∷ []) number (SeesDrained gate_at) }
+    ensures stepped { OnOk result (Stepped h.now Drained number state.old.cells.items state.old.actors.items state.new.cells.items state.new.actors.items) }
+    ensures stays { OnErr result (Stays state.old.cells.items state.old.actors.items state.new.cells.items state.new.actors.items) }
+{
+    let (cells, actors) = (&mut state.cells, &mut state.actors);
+    let mut gate = lift_one(cells, gate_at);
+    let mut actor = lift(actors, number);
+    let made = core_admin::drained(alloc, h, gate_at, &mut gate, &mut actor);
+    put_actor(actors, number, actor);
+    put_one(cells, gate_at, gate);
+    made
+}
+
+/// An actor's job reads the block that it noted last. Where memory is wanting, the state stays as it was.
+pub fn collect_block(
+    h: &Hierarchy,
+    state: &mut State,
+    number: usize,
+    block_at: u32,
+) -> Result<(), AllocError>
+    requires state { HasInv h.now state.old.cells.items state.old.actors.items }
+    requires ready { MayStep state.old.cells.items state.old.actors.items (block_at ∷ []) number (ReadsNoted block_at) }
+    ensures stepped { OnOk result (Stepped h.now Collect number state.old.cells.items state.old.actors.items state.new.cells.items state.new.actors.items) }
+    ensures stays { OnErr result (Stays state.old.cells.items state.old.actors.items state.new.cells.items state.new.actors.items) }
+{
+    let (cells, actors) = (&mut state.cells, &mut state.actors);
+    let mut block = lift_one(cells, block_at);
+    let mut actor = lift(actors, number);
+    let made = core_admin::collect_block(h, block_at, &mut block, &mut actor);
+    put_actor(actors, number, actor);
+    put_one(cells, block_at, block);
+    made
+}
+
+/// An actor's job collects the next row of the gate's queue. Where memory is wanting, the state stays as it was.
+pub fn collect_row(
+    h: &Hierarchy,
+    state: &mut State,
+    number: usize,
+    gate_at: u32,
+) -> Result<(), AllocError>
+    requires state { HasInv h.now state.old.cells.items state.old.actors.items }
+    requires ready { MayStep state.old.cells.items state.old.actors.items (gate_at ∷ []) number (TakesQueued gate_at) }
+    ensures stepped { OnOk result (Stepped h.now Collect number state.old.cells.items state.old.actors.items state.new.cells.items state.new.actors.items) }
+    ensures stays { OnErr result (Stays state.old.cells.items state.old.actors.items state.new.cells.items state.new.actors.items) }
+{
+    let (cells, actors) = (&mut state.cells, &mut state.actors);
+    let mut gate = lift_one(cells, gate_at);
+    let mut actor = lift(actors, number);
+    let made = core_admin::collect_row(h, gate_at, &mut gate, &mut actor);
+    put_actor(actors, number, actor);
+    put_one(cells, gate_at, gate);
+    made
+}
+
+/// An actor's job makes the new trees of the rows that it has collected. Where memory is wanting, the state stays as
+/// it was.
+pub fn build_trees(
+    alloc: Global,
+    h: &Hierarchy,
+    state: &mut State,
+    number: usize,
+    gate_at: u32,
+) -> Result<(), AllocError>
+    requires state { HasInv h.now state.old.cells.items state.old.actors.items }
+    requires ready { MayStep state.old.cells.items state.old.actors.items (gate_at ∷ []) number (MakesNewTrees gate_at) }
+    ensures stepped { OnOk result (Stepped h.now Collect number state.old.cells.items state.old.actors.items state.new.cells.items state.new.actors.items) }
+    ensures stays { OnErr result (Stays state.old.cells.items state.old.actors.items state.new.cells.items state.new.actors.items) }
+{
+    let (cells, actors) = (&mut state.cells, &mut state.actors);
+    let mut gate = lift_one(cells, gate_at);
+    let mut actor = lift(actors, number);
+    let made = core_admin::build_trees(alloc, h, gate_at, &mut gate, &mut actor);
+    put_actor(actors, number, actor);
+    put_one(cells, gate_at, gate);
+    made
+}
+
+/// The last block of an actor's job that isn't in its cell yet is put there. Takes no memory; the allocator is that
+/// of the job's list of blocks.
+pub fn build_block(alloc: Global, h: &Hierarchy, state: &mut State, number: usize, at: u32)
+    requires state { HasInv h.now state.old.cells.items state.old.actors.items }
+    requires ready { MayStep state.old.cells.items state.old.actors.items (at ∷ []) number (FillsNext at) }
+    ensures stepped { Stepped h.now BuildBlock number state.old.cells.items state.old.actors.items state.new.cells.items state.new.actors.items }
+{
+    let (cells, actors) = (&mut state.cells, &mut state.actors);
+    let mut cell = lift_one(cells, at);
+    let mut actor = lift(actors, number);
+    core_admin::build_block(alloc, h, at, &mut cell, &mut actor);
+    put_actor(actors, number, actor);
+    put_one(cells, at, cell);
+}
+
+/// An actor's job is given up, whose shard stays frozen: with the stock and the ledger. Takes no memory.
+pub fn postpone(h: &Hierarchy, state: &mut State, number: usize, stock_at: u32, ledger_at: u32)
+    requires state { HasInv h.now state.old.cells.items state.old.actors.items }
+    requires ready { MayStep state.old.cells.items state.old.actors.items (stock_at ∷ ledger_at ∷ []) number GivesJobUp }
+    ensures stepped { Stepped h.now Postpone number state.old.cells.items state.old.actors.items state.new.cells.items state.new.actors.items }
+{
+    let (cells, actors) = (&mut state.cells, &mut state.actors);
+    let (mut stock, mut ledger) = lift_two(cells, stock_at, ledger_at);
+    let mut actor = lift(actors, number);
+    core_admin::postpone(h, stock_at, &mut stock, ledger_at, &mut ledger, &mut actor);
+    put_actor(actors, number, actor);
+    put_two(cells, stock_at, stock, ledger_at, ledger);
+}
