@@ -1,6 +1,6 @@
 -- While a phase runs of commands that may run, no other command is open.
-use Rattle.std.proofs.Common.{◌≡◌, ◌∙◌, ◌<◌, ℕ, true, List, Option, Some, None, length, refl, sym, ap, subst}
-use Rattle.std.specs.Prelude.{option_and_then, slice_get}
+use Rattle.std.proofs.Common.{◌≡◌, ◌∙◌, ◌<◌, ℕ, List, Option, Some, None, length, refl, sym, ap, subst}
+use Rattle.std.specs.Prelude.{option_and_then}
 use Rattle.dim_hierarchy.specs.Dimension.{Dimension}
 use Rattle.row_ledger.specs.Past.{call_at, call_in, event_at}
 use Rattle.row_ledger.specs.declared.event.Event.{Event}
@@ -11,11 +11,9 @@ use Rattle.row_ledger.specs.declared.settings.Use.{Use}
 use Rattle.script_form.specs.declared.script.Command.{Command}
 use Rattle.script_form.specs.declared.script.Command.TheVariants as script
 use Rattle.script_run.specs.Runs.{Begins, BeginsAt}
-use Rattle.volap_cell.specs.Setting.{Setting}
 use Rattle.volap_cell.specs.Steps.{history_in}
 use Rattle.volap_cell.specs.Telling.{IsProgress}
 use Rattle.volap_cell.specs.Values.{JobValue}
-use Rattle.volap_cell.specs.declared.command.Command.{Command as OpenCommand}
 use Rattle.volap_cell.specs.declared.command.Work.{Work}
 use Rattle.volap_cell.specs.declared.command.Work.TheVariants as work_is
 use Rattle.volap_cell.specs.declared.role.Role.{Role}
@@ -73,9 +71,9 @@ module _ (m : Running) (kept : IsPhaseKept m) where
   work-runs of (work_is.Split shard) job r is = may-call of (call.Split shard) is.0
   work-runs of (work_is.Move shard worker) job r is = may-call of (call.Move shard worker) is.0
   work-runs of (work_is.Balance b) job r is = may-call of (call.Balance b.most) is.0
-  work-runs of (work_is.Shards shown) job r is = may-call of call.Shards is.0
+  work-runs of (work_is.Shards shown) job r is = tt
   work-runs of (work_is.Tree shard stands shown) job r is = tt
-  work-runs of (work_is.Audit shown) job r is = may-call of call.Audit is.0
+  work-runs of (work_is.Audit shown) job r is = tt
 
   pub runs-command : (n : ℕ) → n < length m.state.actors.items → RunsCommand m.state.actors.items n
   runs-command n within c is =

@@ -1,5 +1,5 @@
 -- A phase of a script, as it runs over a core that one thread holds.
-use Rattle.std.specs.Prelude.{ℕ, ◌≡◌, ◌+◌, ◌^◌, ◌<◌, ⊤, Bool, true, false, List, Option, Some, length, get_or, slice_get}
+use Rattle.std.specs.Prelude.{ℕ, ◌≡◌, ◌+◌, ◌^◌, ◌<◌, ⊤, Bool, true, false, List, Some, length, slice_get}
 use Rattle.dim_hierarchy.specs.Dimension.{Dimension}
 use Rattle.row_ledger.specs.declared.settings.Call.{Call}
 use Rattle.row_ledger.specs.declared.settings.Call.TheVariants as call
@@ -24,12 +24,14 @@ use Rattle.seeded_run.specs.Worlds.{setting_in, world_in}
 
 -- What may run.
 
--- A called command that runs. Splits, moves, balances, and pages of the whole don't run yet.
+-- A called command that runs. Splits, moves and balances don't run yet.
 abbrev pub IsRunCall : Call → Type 0
 IsRunCall call.Barrier = ⊤
 IsRunCall (call.Tree shard) = ⊤
 IsRunCall (call.Sync server) = ⊤
 IsRunCall call.Settle = ⊤
+IsRunCall call.Shards = ⊤
+IsRunCall call.Audit = ⊤
 IsRunCall called = ⊥
 
 abbrev pub IsRunCommand : Command → Type 0
