@@ -41,3 +41,6 @@ mod MoveTree
 mod FinishesMove
 mod NextJobs
 mod SplitKnown
+pub mod Finishings
+pub mod FinishReady
+pub mod MoveMade
