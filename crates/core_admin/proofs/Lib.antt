@@ -46,3 +46,6 @@ mod SplitKnown
 mod LoadsRead
 mod ReadsLoads
 mod LoadsHere
+pub mod Finishings
+pub mod FinishReady
+pub mod MoveMade
