@@ -141,7 +141,7 @@ finish-cases of work (work_is.Tree z stands shown) job to e led a b is its to_is
 finish-cases of work (work_is.Audit shown) job to e led a b is its to_is f = absurd its
 
 -- a blank cell has no gate that counts
-blank-counts : (c : CellValue) → tag_of c ≡ OfStock → gate_shard c ≡ None → (active_in c ≡ 0) × (pins_in c ≡ 0)
+pub blank-counts : (c : CellValue) → tag_of c ≡ OfStock → gate_shard c ≡ None → (active_in c ≡ 0) × (pins_in c ≡ 0)
 blank-counts FreeCell tag none = (refl, refl)
 blank-counts (BlockCell k) tag none = (refl, refl)
 blank-counts (GateCell k) tag none = cc

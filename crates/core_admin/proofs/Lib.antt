@@ -41,3 +41,16 @@ mod MoveTree
 mod FinishesMove
 mod NextJobs
 mod SplitKnown
+mod SplitsShard
+mod NewTree
+mod FinishedJob
+mod SplitTrees
+mod SplitShards
+mod SplitsLineage
+mod SplitsRows
+mod SplitCovers
+mod BalanceSplit
+mod SplitBoxes
+mod SplitRetires
+mod SplitLeads
+mod FinishesSplit

@@ -46,7 +46,7 @@ use Rattle.core_admin.proofs.SoFar.{begun-named}
 
 -- Lists.
 
-both-parts : {A : Type 0} (k : ℕ) (xs : List A) → take k xs ++ drop k xs ≡ xs
+pub both-parts : {A : Type 0} (k : ℕ) (xs : List A) → take k xs ++ drop k xs ≡ xs
 both-parts zero [] = refl
 both-parts zero (x ∷ xs) = refl
 both-parts (suc k) [] = refl
@@ -56,7 +56,7 @@ both-parts (suc k) (x ∷ xs) = ap (λ (ys : List _). x ∷ ys) (both-parts k xs
 pub rows-parts : (r k : ℕ) (rows : List Row) → times r (numbers rows) ≡ times r (numbers (take k rows)) + times r (numbers (drop k rows))
 rows-parts r k rows = ap (λ (xs : List Row). times r (numbers xs)) (sym (both-parts k rows)) ∙ ap (times r) (map-append (λ (x : Row). x.no) (take k rows) (drop k rows)) ∙ times-append r (numbers (take k rows)) (numbers (drop k rows))
 
-among-numbers : (x : Row) (rows : List Row) → Among x rows → 1 ≤ times x.no (numbers rows)
+pub among-numbers : (x : Row) (rows : List Row) → Among x rows → 1 ≤ times x.no (numbers rows)
 among-numbers x [] m = absurd m
 among-numbers x (y ∷ rows) m = elim m [
   | inl is ↦ (let one = same_is x.no y.no (ap (λ (z : Row). z.no) is) in omega (arith, one))
@@ -71,19 +71,19 @@ fresh-at y (f ∷ fs) some = (let later = fresh-at y fs in on_bool (eqb y f.cell
     (λ q. let none = same_not y f.cell (eqb-ne y f.cell q) in let o = later (omega (arith, some, none)) in (o.0, inr o.1, o.2)))
 
 -- what holds of the entries of all blocks holds of those of one
-entries-of : (P : Entry → Type 0) (f : Fresh) (fs : List Fresh) → Each P (all_entries fs) → Among f fs → Each P (entries_in f.block.body)
+pub entries-of : (P : Entry → Type 0) (f : Fresh) (fs : List Fresh) → Each P (all_entries fs) → Among f fs → Each P (entries_in f.block.body)
 entries-of P f [] e m = absurd m
 entries-of P f (x ∷ fs) e m = elim m [
   | inl is ↦ subst (λ (z : Fresh). Each P (entries_in z.block.body)) (sym is) (each-left P (entries_in x.block.body) (all_entries fs) e)
   | inr more ↦ entries-of P f fs (each-right P (entries_in x.block.body) (all_entries fs) e) more
 ]
 
-at-most-one : (a b : Bool) → cond a (cond b 1 0) 0 ≤ 1
+pub at-most-one : (a b : Bool) → cond a (cond b 1 0) 0 ≤ 1
 at-most-one true true = omega arith
 at-most-one true false = omega arith
 at-most-one false b = omega arith
 
-is-true : (a : Bool) (k : ℕ) → 1 ≤ cond a k 0 → a ≡ true
+pub is-true : (a : Bool) (k : ℕ) → 1 ≤ cond a k 0 → a ≡ true
 is-true true k le = refl
 is-true false k le = absurd (omega (arith, le))
 
