@@ -21,10 +21,10 @@ use Rattle.shard_plan.specs.declared.action.Load.{Load}
 use Rattle.tree_shape.proofs.Walks.{on_bool, eqb-eq, eqb-ne, eqb-no}
 use Rattle.volap_cell.specs.Commands.{after_action, stands_after}
 use Rattle.volap_cell.specs.Growing.{IsUnder}
-use Rattle.volap_cell.specs.Planning.{job_for, next_job, worker_in}
+use Rattle.volap_cell.specs.Planning.{has_load, job_for, next_job, worker_in}
 use Rattle.volap_cell.specs.Setting.{Setting, site_in}
 use Rattle.volap_cell.specs.Values.{JobValue, IsCalled}
-use Rattle.volap_cell.specs.Working.{IsAhead, IsBalancing, IsPlanned, IsReadLoad, action_of, action_to, begun}
+use Rattle.volap_cell.specs.Working.{IsAhead, IsBalancing, IsPlanned, IsReadLoad, StandsBy, action_of, action_to, begun}
 use Rattle.volap_cell.specs.declared.command.Balance.{Balance}
 use Rattle.volap_cell.proofs.Grows.{Any-weaker}
 use Rattle.volap_cell.proofs.GrowsWork.{rows-may-grown}
@@ -49,6 +49,13 @@ at-other (l ∷ loads) shard to x ne = (let rest = at-other loads shard to x ne 
     (λ k. rw (q, k) refl)
     (λ k. rw (q, k) rest)))
 
+-- the same shards are among them
+has-moved : (loads : List Load) (shard to x : ℕ) → has_load (after_move loads shard to) x ≡ has_load loads x
+has-moved [] shard to x = refl
+has-moved (l ∷ loads) shard to x = (let rest = has-moved loads shard to x in on_bool (l.shard == shard)
+    (λ q. rw q (ap (λ (b : Bool). (l.shard == x) || b) rest))
+    (λ q. rw q (ap (λ (b : Bool). (l.shard == x) || b) rest)))
+
 pub count-one : {A : Type 0} (P : A → Bool) (x : A) (xs : List A) → P x ≡ true → count_by P (x ∷ xs) ≡ count_by P xs + 1
 count-one P x xs is = (let k = sum_by-cons (λ y. cond (P y) 1 0) x xs in let one : ◌≡◌ {A = ℕ} (cond (P x) 1 0) 1 = ap (λ (b : Bool). cond b 1 0) is in omega (arith, k, one))
 
@@ -56,8 +63,7 @@ pub job-action : (standing : List Load) (a : Action) → action_of (job_for stan
 job-action standing (action.Split x) = refl
 job-action standing (action.Move x to) = refl
 
-module _ (s : Setting) (h : List Event) (placed : ℕ → Bool) (home : ℕ → ℕ) (of to : ℕ) (b : Balance) (job : JobValue) (bal : IsBalancing s h placed home (Some job) of b) (is_next : next_job b ≡ Some (begun job)) (to_is : job.to ≡ Some to) (began : of < length h)
-    (stands : list_any (λ (l : Load). l.shard == job.shard) b.standing ≡ true) where
+module _ (s : Setting) (h : List Event) (placed : ℕ → Bool) (home : ℕ → ℕ) (of to : ℕ) (b : Balance) (job : JobValue) (bal : IsBalancing s h placed home (Some job) of b) (is_next : next_job b ≡ Some (begun job)) (to_is : job.to ≡ Some to) (began : of < length h) where
   abbrev e : Event
   e = Moved of job.shard to
 
@@ -78,6 +84,12 @@ module _ (s : Setting) (h : List Event) (placed : ℕ → Bool) (home : ℕ → 
 
   its-move : its ≡ action.Move job.shard to
   its-move = sym (job-action b.standing its) ∙ sym (ap action_of at.4) ∙ ap (action_to job.shard) to_is
+
+  -- its shard is among the loads
+  stands : has_load b.standing job.shard ≡ true
+  stands =
+      let ahead : IsAhead s h b.standing its = All-head (IsAhead s h b.standing) its (drop (suc b.over) actions) (subst (All (IsAhead s h b.standing)) (drop-at b.over actions its at.3) planned.ahead) in
+      (subst (IsAhead s h b.standing) its-move ahead).0.0
 
   -- the loads stand as they do now
   now-standing : next.standing ≡ after_move b.standing job.shard to
@@ -105,9 +117,12 @@ module _ (s : Setting) (h : List Event) (placed : ℕ → Bool) (home : ℕ → 
         let ne = eqb-ne x job.shard q in
         ap (is_on s.workers (e ∷ h) x) (at-other b.standing job.shard to x ne) ∙ on_same x (worker_in b.standing x) ne ∙ was))
 
+    stands-now : (x : ℕ) → StandsBy s h b.standing x → StandsBy s (e ∷ h) next.standing x
+    stands-now x i = (ap (λ (loads : List Load). has_load loads x) now-standing ∙ has-moved b.standing job.shard to x ∙ i.0, on-now x i.1)
+
     ahead-now : (a : Action) → IsAhead s h b.standing a → IsAhead s (e ∷ h) next.standing a
-    ahead-now (action.Split x) i = on-now x i
-    ahead-now (action.Move x worker) i = (on-now x i.0, i.1)
+    ahead-now (action.Split x) i = stands-now x i
+    ahead-now (action.Move x worker) i = (stands-now x i.0, i.1)
 
     ahead-next : All (IsAhead s (e ∷ h) next.standing) (drop (b.over + 1) actions)
     ahead-next = All-weaker (IsAhead s h b.standing) (IsAhead s (e ∷ h) next.standing) ahead-now (drop (b.over + 1) actions)
@@ -148,8 +163,8 @@ module _ (s : Setting) (h : List Event) (placed : ℕ → Bool) (home : ℕ → 
       where
         facts : (a : Action) → IsAhead s (e ∷ h) next.standing a
             → ((job_for next.standing a).stage ≡ IsCalled) × (is_on s.workers (e ∷ h) (job_for next.standing a).shard (job_for next.standing a).worker ≡ true) × ((worker : ℕ) → (job_for next.standing a).to ≡ Some worker → worker < s.workers)
-        facts (action.Split x) ahead = (refl, ahead, λ worker is. let never : ◌≡◌ {A = Option ℕ} None (Some worker) = is in cc)
-        facts (action.Move x w) ahead = (refl, ahead.0, λ worker is. let both : ◌≡◌ {A = Option ℕ} (Some w) (Some worker) = is in let same : w ≡ worker = cc in subst (λ (k : ℕ). k < s.workers) same ahead.1)
+        facts (action.Split x) ahead = (refl, ahead.1, λ worker is. let never : ◌≡◌ {A = Option ℕ} None (Some worker) = is in cc)
+        facts (action.Move x w) ahead = (refl, ahead.0.1, λ worker is. let both : ◌≡◌ {A = Option ℕ} (Some w) (Some worker) = is in let same : w ≡ worker = cc in subst (λ (k : ℕ). k < s.workers) same ahead.1)
 
     -- a load that was read
     read-on : (r : Reading) → IsReadLoad s h placed home of r → IsReadLoad s (e ∷ h) placed home of r

@@ -8,7 +8,6 @@ use Rattle.std.proofs.lemmas.Option.{slice_get_past}
 use Rattle.std.proofs.lemmas.List.{reverse-append}
 use Rattle.std.proofs.lemmas.List.Elements.{All-cons, All-head, All-nil, All-tail, All-take, All-weaker}
 use Rattle.dim_hierarchy.specs.declared.row.Row.{Row}
-use Rattle.query_router.specs.declared.part.Part.{Part}
 use Rattle.row_ledger.specs.Past.{Ack, Step, acked, before, work}
 use Rattle.row_ledger.specs.Right.{EachEvent, IsRightSplit, Stands}
 use Rattle.row_ledger.specs.Shards.{is_live, is_of, comes_from, frontier, ids_made}
@@ -86,7 +85,6 @@ all-two P Q R f [] p q = All-nil R
 all-two P Q R f (x ∷ xs) p q = All-cons R x xs (f x (All-head P x xs p) (All-head Q x xs q)) (all-two P Q R f xs (All-tail P x xs p) (All-tail Q x xs q))
 
 module _ (s : Setting) (w : World) (g : Ghost) (i : InvWith s (view s w) g) (of shard l r : ℕ) (side : ℕ → Bool) (right : IsRightSplit (site_in s) (view s w).history of shard l r)
-    (made : (server : ℕ) → server < s.servers → All (λ (p : Part). p.shard < ids_made s.workers (view s w).history) ((view s w).desks server).parts)
     (live_back : (x : ℕ) → is_live s.workers (Split of shard l r ∷ (view s w).history) x ≡ true → ((is_live s.workers (view s w).history x ≡ true) × (x ≢ shard)) ⊎ ((x ≡ l) ⊎ (x ≡ r)))
     (b : Balance) (job : JobValue) (bal : IsBalancing s (view s w).history g.placed g.home (Some job) of b) (is_next : next_job b ≡ Some (begun job)) (shard_is : job.shard ≡ shard) (to_is : job.to ≡ None) (began : of < length (view s w).history) where
   abbrev h : List Event
@@ -96,7 +94,7 @@ module _ (s : Setting) (w : World) (g : Ghost) (i : InvWith s (view s w) g) (of 
   e = Split of shard l r
 
   abbrev homes : ℕ → ℕ
-  homes = home2 s w g i of shard l r side right made
+  homes = home2 s w g i of shard l r side right
 
   abbrev next : Balance
   next = after_action true job b
@@ -185,11 +183,11 @@ module _ (s : Setting) (w : World) (g : Ghost) (i : InvWith s (view s w) g) (of 
     count = k.count;
     once = k.once;
     under = All-weaker (λ (x : Row). IsUnder h g.placed g.home z.load.shard x.no) (λ (x : Row). IsUnder (e ∷ h) g.placed homes z.load.shard x.no)
-        (λ x u. under-split s w g i of shard l r side right made z.load.shard x.no u) z.rows k.under;
+        (λ x u. under-split s w g i of shard l r side right z.load.shard x.no u) z.rows k.under;
     usable = rows-may-grown g.placed e h z.rows k.usable;
     own = subst (λ (past : List Event). All (λ (a : Ack). IsUnder (e ∷ h) g.placed homes z.load.shard a.row.no → Contains z.rows a.row) (acked past)) (sym (before-older e h of (le_of_lt began)))
         (All-weaker (λ (a : Ack). IsUnder h g.placed g.home z.load.shard a.row.no → Contains z.rows a.row) (λ (a : Ack). IsUnder (e ∷ h) g.placed homes z.load.shard a.row.no → Contains z.rows a.row)
-        (λ a f u. f (under-back s w g i of shard l r side right made z.load.shard a.row.no lt u)) (acked (before h of)) k.own);
+        (λ a f u. f (under-back s w g i of shard l r side right z.load.shard a.row.no lt u)) (acked (before h of)) k.own);
   }
 
   -- the balance as it goes on
@@ -206,14 +204,14 @@ module _ (s : Setting) (w : World) (g : Ghost) (i : InvWith s (view s w) g) (of 
         planned = λ xs is. let both : ◌≡◌ {A = Option (List Action)} (Some actions) (Some xs) = sym at.2 ∙ is in let it : actions ≡ xs = cc in subst (IsPlanned s (e ∷ h) g.placed of next) it planned-next;
         from = λ x live. elim (live_back x live) [
           | inl old ↦ Any-weaker (λ (z : Load). IsTrue (comes_from h z.shard x)) (λ (z : Load). IsTrue (comes_from (e ∷ h) z.shard x))
-              (λ z is. comes s w g i of shard l r side right made z.shard x (live-made (site_in s) g.placed h x each old.0) ∙ is) b.loads (bal.from x old.0)
+              (λ z is. comes s w g i of shard l r side right z.shard x (live-made (site_in s) g.placed h x each old.0) ∙ is) b.loads (bal.from x old.0)
           | inr new ↦
               let onto = bal.from shard right.live in
               elim new [
                 | inl is_left ↦ subst (λ (y : ℕ). Any (λ (z : Load). IsTrue (comes_from (e ∷ h) z.shard y)) b.loads) (sym is_left)
-                    (Any-weaker (λ (z : Load). IsTrue (comes_from h z.shard shard)) (λ (z : Load). IsTrue (comes_from (e ∷ h) z.shard l)) (λ z is. from-child s w g i of shard l r side right made z.shard true is) b.loads onto)
+                    (Any-weaker (λ (z : Load). IsTrue (comes_from h z.shard shard)) (λ (z : Load). IsTrue (comes_from (e ∷ h) z.shard l)) (λ z is. from-child s w g i of shard l r side right z.shard true is) b.loads onto)
                 | inr is_right ↦ subst (λ (y : ℕ). Any (λ (z : Load). IsTrue (comes_from (e ∷ h) z.shard y)) b.loads) (sym is_right)
-                    (Any-weaker (λ (z : Load). IsTrue (comes_from h z.shard shard)) (λ (z : Load). IsTrue (comes_from (e ∷ h) z.shard r)) (λ z is. from-child s w g i of shard l r side right made z.shard false is) b.loads onto)
+                    (Any-weaker (λ (z : Load). IsTrue (comes_from h z.shard shard)) (λ (z : Load). IsTrue (comes_from (e ∷ h) z.shard r)) (λ z is. from-child s w g i of shard l r side right z.shard false is) b.loads onto)
               ]
         ];
         at_work = refl;

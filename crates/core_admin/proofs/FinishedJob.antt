@@ -1,6 +1,6 @@
 -- A job that has built all blocks and is at its end: its frozen gate, and the rows from which it has built, beside those that came to
 -- the queue later.
-use Rattle.std.proofs.Common.{◌≡◌, ℕ, ◌+◌, ◌≤◌, true, cond, eqb, List, [], ◌++◌, take, drop, Some, IsSome, refl, sym, ap, ◌∙◌, subst, inl, arith}
+use Rattle.std.proofs.Common.{◌≡◌, ℕ, zero, suc, ◌+◌, ◌≤◌, Bool, true, false, cond, eqb, List, [], ◌∷◌, ◌++◌, take, drop, Some, IsSome, refl, sym, ap, ◌∙◌, subst, inl, inr, arith}
 use Rattle.std.proofs.lemmas.List.{map-append}
 use Rattle.dim_hierarchy.specs.Row.{IsRowOf}
 use Rattle.dim_hierarchy.specs.declared.row.Row.{Row}
@@ -8,14 +8,14 @@ use Rattle.link_descent.specs.declared.entered.Fresh.{Fresh}
 use Rattle.row_ledger.specs.Shards.{is_live, is_on}
 use Rattle.shard_store.specs.declared.gate.Gate.{Gate}
 use Rattle.shard_store.specs.declared.gate.Phase.TheVariants.{Frozen, Gone}
-use Rattle.tree_shape.specs.Counts.{Each, same, times}
+use Rattle.tree_shape.specs.Counts.{Among, Each, same, times}
 use Rattle.tree_shape.specs.Collecting.{AfterCollecting}
 use Rattle.tree_shape.specs.Laws.{CollectEndLaw}
 use Rattle.tree_shape.specs.Shape.{numbers}
 use Rattle.tree_shape.proofs.Divisions.{each-both}
 use Rattle.tree_shape.proofs.Parts.{each-append, each-here, each-left, each-right}
 use Rattle.tree_shape.proofs.Visits.{times-append}
-use Rattle.tree_shape.proofs.Walks.{eqb-eq}
+use Rattle.tree_shape.proofs.Walks.{eqb-eq, same_is}
 use Rattle.volap_cell.specs.AdminKinds.{spent_by, spent_in}
 use Rattle.volap_cell.specs.Cells.{GateCell, phase_of, queue_in}
 use Rattle.volap_cell.specs.Ghost.{AGate, Ghost, InJob, InPurse, InTree, NotOfStock, Owner, Unused, is_in_job}
@@ -27,8 +27,32 @@ use Rattle.volap_cell.specs.Values.{BuildingValue, Builds, JobValue}
 use Rattle.volap_cell.specs.View.{View, row_or, view}
 use Rattle.volap_cell.specs.Working.{IsBuilding, IsFrozenFor, frozen_in}
 use Rattle.volap_cell.specs.World.{World}
-use Rattle.core_admin.proofs.MoveTree.{among-numbers, at-most-one, both-parts, is-true, rows-parts}
+use Rattle.core_admin.proofs.NewTree.{is-true}
 use Rattle.core_admin.proofs.SoFar.{begun-named}
+
+-- Lists.
+
+both-parts : {A : Type 0} (k : ℕ) (xs : List A) → take k xs ++ drop k xs ≡ xs
+both-parts zero [] = refl
+both-parts zero (x ∷ xs) = refl
+both-parts (suc k) [] = refl
+both-parts (suc k) (x ∷ xs) = ap (λ (ys : List _). x ∷ ys) (both-parts k xs)
+
+-- rows in two parts of a list
+rows-parts : (r k : ℕ) (rows : List Row) → times r (numbers rows) ≡ times r (numbers (take k rows)) + times r (numbers (drop k rows))
+rows-parts r k rows = ap (λ (xs : List Row). times r (numbers xs)) (sym (both-parts k rows)) ∙ ap (times r) (map-append (λ (x : Row). x.no) (take k rows) (drop k rows)) ∙ times-append r (numbers (take k rows)) (numbers (drop k rows))
+
+among-numbers : (x : Row) (rows : List Row) → Among x rows → 1 ≤ times x.no (numbers rows)
+among-numbers x [] m = absurd m
+among-numbers x (y ∷ rows) m = elim m [
+  | inl is ↦ (let one = same_is x.no y.no (ap (λ (z : Row). z.no) is) in omega (arith, one))
+  | inr more ↦ (let some = among-numbers x rows more in omega (arith, some))
+]
+
+at-most-one : (a b : Bool) → cond a (cond b 1 0) 0 ≤ 1
+at-most-one true true = omega arith
+at-most-one true false = omega arith
+at-most-one false b = omega arith
 
 -- a cell that is meant for a block of the actor's job
 pub is-job-cell : (n : ℕ) (o : Owner) → 1 ≤ cond (is_in_job n o) 1 0 → o ≡ InJob n

@@ -1,8 +1,7 @@
 -- A move comes to its end: that keeps the invariant, and less is left.
 use Rattle.std.proofs.Common.{◌≡◌, ◌≢◌, ℕ, zero, suc, ◌+◌, ◌-◌, ◌*◌, ◌<◌, ◌≤◌, ◌^◌, Bool, true, false, cond, eqb, List, [], ◌∷◌, ◌++◌, length, map, Option, Some, None, IsSome, slice_get, slice_set, refl, sym, ap, ◌∙◌, subst, ◌⊎◌, inl, inr, arith, le_of_lt, option_map, option_and_then, suc-mul, eq-eqb}
-use Rattle.std.specs.List.{AllZip, list_any}
+use Rattle.std.specs.List.{AllZip}
 use Rattle.std.specs.Option.{option_map_or}
-use Rattle.std.specs.Prelude.{◌==◌}
 use Rattle.std.proofs.lemmas.Bool.{cases_lt}
 use Rattle.std.proofs.lemmas.Option.{slice_get_past}
 use Rattle.cell_stock.specs.Stock.{StockValue, cells_of}
@@ -92,7 +91,7 @@ use Rattle.core_image.proofs.Owed.{owed-others, promises-now}
 use Rattle.volap_cell.proofs.Seen.{renewed}
 use Rattle.volap_cell.proofs.Spares.{move-blank}
 use Rattle.core_image.proofs.Jobs.{items-new, spent-new}
-use Rattle.core_admin.proofs.MoveTree.{all-rows, built, fresh-at, job-cell, filled-inside, front, inside-filled, is-gate, late, late-is, late-named, law, leads, old, owner-filled, owner-gc, phase-here, read, was}
+use Rattle.core_admin.proofs.MoveTree.{all-rows, built, job-cell, filled-inside, front, inside-filled, is-gate, late, late-is, late-named, law, leads, old, owner-filled, owner-gc, phase-here, read, was}
 use Rattle.core_admin.proofs.BalanceDone.{balancing-done, next-is, within}
 use Rattle.core_image.proofs.NextAction.{next-action}
 use Rattle.core_admin.proofs.MovedKnown.{IsSameBox, comes, rows, moved-covering, moved-desking, moved-imaging, moved-inserting, moved-querying}
@@ -100,6 +99,7 @@ use Rattle.core_admin.proofs.MovedShards.{moved_place, rehosted}
 use Rattle.core_admin.proofs.MovesLineage.{Moving, live-same, moved-leading, moved-lineage, on-now, on-same}
 use Rattle.core_admin.proofs.MovesRows.{moved-placing, moved-resting, moved-turning, moved_ghost}
 use Rattle.core_admin.proofs.MovesShard.{gc-now, ledger-now, kept, moved-tables, registry-now, stock-now, x-now}
+use Rattle.core_admin.proofs.NewTree.{fresh-at}
 use Rattle.core_admin.proofs.FinishedCommands.{telling-finished}
 use Rattle.core_admin.proofs.NextJobs.{IsNextOf, job-few, numbering-next, off-desk, working-next}
 use Rattle.core_admin.proofs.TurnedCommands.{IsOffDesk, turned-desking, turned-inserting, turned-placing}
@@ -611,9 +611,9 @@ module _ (maps : List Change) (x gc reg c led : Change) (b : ActorValue) (s : Se
         in-old None same m k = k
         in-old (Some z) same m k = subst (λ (t : Shape). t.placed m ≡ true) (same z refl) k
 
-  -- A balance goes on. Its loads have the shard.
+  -- A balance goes on.
 
-  module _ (balance : Balance) (works : d.work ≡ work_is.Balance balance) (stands : list_any (λ (l : Load). l.shard == shard) balance.standing ≡ true) where
+  module _ (balance : Balance) (works : d.work ≡ work_is.Balance balance) where
     abbrev next : Balance
     next = after_action true d.job balance
 
@@ -663,13 +663,13 @@ module _ (maps : List Change) (x gc reg c led : Change) (b : ActorValue) (s : Se
       live-now = live-same s v (v2 grown (Some its_now) (next_job next) is called) g g2 n i (retiring grown (Some its_now) (next_job next) is called) (moving grown (Some its_now) (next_job next) is called)
 
       done : IsBalancing s (e ∷ h) g.placed g.home (next_job next) d.of next
-      done = balancing-done s h g.placed g.home d.of d.to balance d.job bal is-next d.to_is began-here stands on-same-now on-here-now live-now (comes s w g i d.of shard d.to)
+      done = balancing-done s h g.placed g.home d.of d.to balance d.job bal is-next d.to_is began-here on-same-now on-here-now live-now (comes s w g i d.of shard d.to)
 
       nexts : (j : JobValue) → next_job next ≡ Some j → (j.stage ≡ IsCalled) × (is_on s.workers (e ∷ h) j.shard j.worker ≡ true) × ((worker : ℕ) → j.to ≡ Some worker → worker < s.workers)
-      nexts = next-is s h g.placed g.home d.of d.to balance d.job bal is-next d.to_is began-here stands on-same-now on-here-now live-now (comes s w g i d.of shard d.to)
+      nexts = next-is s h g.placed g.home d.of d.to balance d.job bal is-next d.to_is began-here on-same-now on-here-now live-now (comes s w g i d.of shard d.to)
 
       over : (actions : List Action) × (balance.plan ≡ Some actions) × (balance.over < length actions) × (length actions ≤ balance.most)
-      over = within s h g.placed g.home d.of d.to balance d.job bal is-next d.to_is began-here stands
+      over = within s h g.placed g.home d.of d.to balance d.job bal is-next d.to_is began-here
 
       command-on : IsNewAt u.commands v.commands n (Some its-command) (Some its_now)
       command-on = turn grown (Some its_now) (next_job next) is called
@@ -754,10 +754,10 @@ module _ (maps : List Change) (x gc reg c led : Change) (b : ActorValue) (s : Se
           falls
 
   -- Either is so.
-  pub finish-move : ((k : Balance) → d.work ≡ work_is.Balance k → list_any (λ (l : Load). l.shard == shard) k.standing ≡ true) → IsFinished s w w2 g
-  finish-move stands = elim (finish-cases d.of d.work d.work d.job d.to e led (w.actors n) b refl its-work d.to_is d.finishes) [
+  pub finish-move : IsFinished s w w2 g
+  finish-move = elim (finish-cases d.of d.work d.work d.job d.to e led (w.actors n) b refl its-work d.to_is d.finishes) [
     | inl t ↦ ends-with t.0 t.1 t.2
-    | inr t ↦ goes-on t.0 t.1 (stands t.0 t.1) t.2 t.3
+    | inr t ↦ goes-on t.0 t.1 t.2 t.3
   ]
 
 -- The step, with one table where both workers are the same, and with two else.

@@ -1,7 +1,6 @@
 -- A split comes to its end: that keeps the invariant, and less is left.
 use Rattle.std.proofs.Common.{◌≡◌, ◌≢◌, ℕ, ◌+◌, ◌-◌, ◌*◌, ◌<◌, ◌≤◌, ◌^◌, Bool, true, false, cond, eqb, List, [], ◌∷◌, ◌++◌, length, Option, Some, None, IsSome, refl, sym, ap, ◌∙◌, subst, ◌⊎◌, inl, inr, arith, le_of_lt, eq-eqb}
 use Rattle.std.specs.Option.{option_map_or}
-use Rattle.std.specs.Prelude.{◌==◌}
 use Rattle.cell_stock.specs.Stock.{StockValue}
 use Rattle.row_ledger.specs.LedgerValue.{LedgerValue}
 use Rattle.volap_cell.proofs.Touches.{IsBlank}
@@ -77,11 +76,7 @@ use Rattle.row_ledger.specs.declared.settings.Call.{Call}
 use Rattle.row_ledger.specs.Right.{AsksSplit, IsRightSplit}
 use Rattle.row_ledger.specs.Shards.{ids_made}
 use Rattle.row_ledger.proofs.Growth.{KeepsRight-ended, KeepsRight-split}
-use Rattle.query_router.specs.Desk.{is_taken}
-use Rattle.query_router.specs.declared.part.Part.{Part}
-use Rattle.std.specs.Prelude.{◌&&◌, All, not}
-use Rattle.std.proofs.lemmas.Bool.{and_parts, eqb-true}
-use Rattle.std.proofs.lemmas.List.Elements.{All-contains}
+use Rattle.std.specs.Prelude.{not}
 use Rattle.tree_shape.specs.Laws.{GateLaw}
 use Rattle.dim_hierarchy.specs.Dimension.{Dimension}
 use Rattle.volap_cell.specs.AdminKinds.{DoesFinishSplit}
@@ -122,7 +117,7 @@ split-cases of work (work_is.Tree z stands shown) job e led a b is its to_is f =
 split-cases of work (work_is.Audit shown) job e led a b is its to_is f = absurd its
 
 module _ (m x l r reg c led : Change) (b : ActorValue) (s : Setting) (w : World) (n : ℕ) (g : Ghost) (i : InvWith s (view s w) g) (ag : Agrees w (m ∷ x ∷ l ∷ r ∷ reg ∷ c ∷ led ∷ []) n (w.actors n)) (d : DoesFinishSplit s.hierarchy m x l r reg c led (w.actors n) b)
-    (other : OtherLaw) (ends : CollectEndLaw) (gates : GateLaw) (few : d.stock.ids + 2 < 2 ^ 32) (made : (server : ℕ) → server < s.servers → All (λ (p : Part). p.shard < ids_made s.workers (view s w).history) ((view s w).desks server).parts) where
+    (other : OtherLaw) (ends : CollectEndLaw) (gates : GateLaw) (few : d.stock.ids + 2 < 2 ^ 32) where
   abbrev v : View
   v = view s w
 
@@ -189,16 +184,6 @@ module _ (m x l r reg c led : Change) (b : ActorValue) (s : Setting) (w : World)
   admin : v.roles n ≡ Admin
   admin = i.numbering.working n d.job d.has.is_job
 
-  -- a reading is of a part on a desk
-  read-made : (a : ℕ) (p : ReadPart) → v.reads a ≡ Some p → p.shard < ids_made s.workers h
-  read-made a p is =
-      let t = readers-take s w a p is in
-      let at = i.desking.at_parts a t.0 t.1 in
-      let part = at.part in
-      let its = eqb-true part.1.shard t.0.shard (and_parts (part.1.shard == t.0.shard) (part.1.worker == t.0.worker) (and_parts ((part.1.shard == t.0.shard) && (part.1.worker == t.0.worker)) (is_taken part.1) part.4).0).0 in
-      let lt = All-contains (λ (q : Part). q.shard < ids_made s.workers h) (v.desks t.0.server).parts part.1 (made t.0.server at.within) (part.0, part.2, part.3) in
-      subst (λ (z : ℕ). z < ids_made s.workers h) (its ∙ t.3) lt
-
   -- What becomes of the command and of the history, where the split is asked for.
 
   module _ (is_right : IsRightSplit (site_in s) (view s w).history d.of d.job.shard d.stock.ids (d.stock.ids + 1)) (history : List Event) (command2 : Option Command) (job2 : Option JobValue) (is : b ≡ record (w.actors n) { purse = []; seen = b.seen; command = command2; job = job2 })
@@ -222,7 +207,7 @@ module _ (m x l r reg c led : Change) (b : ActorValue) (s : Setting) (w : World)
     gate-is-old = gate-old s v v2 g g2 n i retiring
 
     rows-same-now : row_at (e ∷ h) ≡ v.row
-    rows-same-now = rows s w g i d.of shard left_id right_id its_side is_right made
+    rows-same-now = rows s w g i d.of shard left_id right_id its_side is_right
 
     live-now : (z : ℕ) → is_live s.workers (e ∷ h) z ≡ true → ((is_live s.workers h z ≡ true) × (z ≢ shard)) ⊎ ((z ≡ left_id) ⊎ (z ≡ right_id))
     live-now = live-before (site_in s) g.placed h i.telling.right.right.each d.of shard left_id right_id d.job.worker is_right (was-on m x l r reg c led b s w n g i ag d ends few is_right)
@@ -255,29 +240,29 @@ module _ (m x l r reg c led : Change) (b : ActorValue) (s : Setting) (w : World)
     lineage-1 = split-lineage s v v2 g g2 n i retiring leading
 
     resting-1 : Resting (e ∷ h) u.gates u.phases shape2 g.placed homes
-    resting-1 = split-resting s w v2 g owner2 gate2 shape2 homes its_side n i retiring leading refl made admin
+    resting-1 = split-resting s w v2 g owner2 gate2 shape2 homes its_side n i retiring leading refl admin
 
     placing-1 : Placing s (e ∷ h) v.commands v.ways u.queues gate2 shape2 g.placed homes g.path
-    placing-1 = split-placing s w v2 g owner2 gate2 shape2 homes its_side n i retiring leading refl made left-rows right-rows
+    placing-1 = split-placing s w v2 g owner2 gate2 shape2 homes its_side n i retiring leading refl left-rows right-rows
 
     inserting-1 : Inserting s (e ∷ h) v.images v.desks v.commands v.ways g.placed g.path
-    inserting-1 = split-inserting s w g i d.of shard left_id right_id its_side is_right made
+    inserting-1 = split-inserting s w g i d.of shard left_id right_id its_side is_right
 
     desking-1 : Desking s (e ∷ h) v.desks v.roles v.commands v.taken
-    desking-1 = split-desking s w g i d.of shard left_id right_id its_side is_right made
+    desking-1 = split-desking s w g i d.of shard left_id right_id its_side is_right
 
     querying-1 : Querying s (e ∷ h) (row_at (e ∷ h)) u.blocks u.trees v.desks v.taken v.reads shape2 g.placed homes g.counted
-    querying-1 = split-querying s w g i d.of shard left_id right_id its_side is_right made u.blocks u.trees shape2 (λ a z p has pin. retiring.shape_off z (gate-is-old z (subst IsSome (sym (i.pinning.shard a z p has pin)) refl))) read-made
+    querying-1 = split-querying s w g i d.of shard left_id right_id its_side is_right u.blocks u.trees shape2 (λ a z p has pin. retiring.shape_off z (gate-is-old z (subst IsSome (sym (i.pinning.shard a z p has pin)) refl)))
         (querying-off s v g other i u.blocks u.trees
         (λ z k own. retiring.blocks_off z (not-new s v v2 g g2 n i retiring z (λ p. let no : InPurse n ≡ InTree k = sym p ∙ own in cc)))
         (λ z there. retiring.trees_off z (gate-is-old z there))
         (λ a z p has pin. pinned-whole s v.tags v.numbers v.roles v.settings v.counted_in v.purses v.commands v.taken v.jobs v.gates v.phases v.pins v.reads i.numbering (readers-take s w) i.pinning a z p has pin))
 
     imaging-1 : Imaging s (e ∷ h) (row_at (e ∷ h)) v.images g.placed
-    imaging-1 = split-imaging s w g i d.of shard left_id right_id its_side is_right made live-now
+    imaging-1 = split-imaging s w g i d.of shard left_id right_id its_side is_right live-now
 
     covering-1 : Covering s (e ∷ h) (row_at (e ∷ h)) u.registry v.images g.placed homes g.path
-    covering-1 = split-covering s w g i d.of shard left_id right_id its_side is_right made d.split.spot.worker d.left_box d.right_box (left-box m x l r reg c led b s w n g i ag d ends few is_right gates) (right-box m x l r reg c led b s w n g i ag d ends few is_right gates) u.registry
+    covering-1 = split-covering s w g i d.of shard left_id right_id its_side is_right d.split.spot.worker d.left_box d.right_box (left-box m x l r reg c led b s w n g i ag d ends few is_right gates) (right-box m x l r reg c led b s w n g i ag d ends few is_right gates) u.registry
         (front-now m x l r reg c led b s w n g i ag d ends few is_right)
 
     -- The command.
@@ -327,7 +312,7 @@ module _ (m x l r reg c led : Change) (b : ActorValue) (s : Setting) (w : World)
             numbering = numbering-next s v g i n d.job job2 u.jobs new history command2 next u.commands (Some its) turn u.purses retiring.purse retiring.purses_off;
             telling = telling;
             owing = owing;
-            turning = split-turning s w v2 g owner2 gate2 shape2 homes its_side n i retiring leading refl made admin;
+            turning = split-turning s w v2 g owner2 gate2 shape2 homes its_side n i retiring leading refl admin;
             stocking = retired-stocking s v v2 g g2 n i retiring;
             stamping = retired-stamping s w v2 g g2 n i retiring admin other;
             lineage = lineage;
@@ -512,10 +497,10 @@ module _ (m x l r reg c led : Change) (b : ActorValue) (s : Setting) (w : World)
 
     -- no action is ahead
     nothing : next_job next ≡ None
-    nothing = none-next s w g i d.of shard left_id right_id its_side asked-right made live-then balance d.job bal is-next refl to-is began-here
+    nothing = none-next s w g i d.of shard left_id right_id its_side asked-right live-then balance d.job bal is-next refl to-is began-here
 
     over : (actions : List Action) × (balance.plan ≡ Some actions) × (length actions ≡ balance.over + 1) × (length actions ≤ balance.most)
-    over = within s w g i d.of shard left_id right_id its_side asked-right made live-then balance d.job bal is-next refl to-is began-here
+    over = within s w g i d.of shard left_id right_id its_side asked-right live-then balance d.job bal is-next refl to-is began-here
 
     module _ (is : b ≡ record (w.actors n) { purse = []; seen = b.seen; command = Some its_now; job = next_job next }) (p : Pushes e 0 1 led b.seen) where
       pushed : IsPushed e 0 1 b.seen u.history h u.promised v.promised
@@ -528,7 +513,7 @@ module _ (m x l r reg c led : Change) (b : ActorValue) (s : Setting) (w : World)
       grown = e ∷ h
 
       done : IsBalancing s (e ∷ h) g.placed homes (next_job next) d.of next
-      done = balancing-split s w g i d.of shard left_id right_id its_side asked-right made live-then balance d.job bal is-next refl to-is began-here
+      done = balancing-split s w g i d.of shard left_id right_id its_side asked-right live-then balance d.job bal is-next refl to-is began-here
 
       command-on : IsNewAt u.commands v.commands n (Some its-command) (Some its_now)
       command-on = turn asked-right grown (Some its_now) (next_job next) is called
@@ -617,11 +602,10 @@ split-kept m x l r reg c led b s w n g ag d f = record {
 
 -- So does the kind keep its promise, where two more ids can be given out.
 pub split-keeps : OtherLaw → CollectEndLaw → GateLaw → (h : List Dimension) (m x l r reg c led : Change) (a b : ActorValue) (d : DoesFinishSplit h m x l r reg c led a b) → (stock_in c.before).ids + 2 < 2 ^ 32
-    → ((s : Setting) (w : World) (g : Ghost) → InvWith s (view s w) g → (server : ℕ) → server < s.servers → All (λ (p : Part). p.shard < ids_made s.workers (view s w).history) ((view s w).desks server).parts)
     → Keeps h kind.FinishSplit (m ∷ x ∷ l ∷ r ∷ reg ∷ c ∷ led ∷ []) a b d
-split-keeps other ends gates h m x l r reg c led a b d few made s w n g about i ag sight =
+split-keeps other ends gates h m x l r reg c led a b d few s w n g about i ag sight =
     let there : Agrees w (m ∷ x ∷ l ∷ r ∷ reg ∷ c ∷ led ∷ []) n (w.actors n) = record { cells = ag.cells; actor_is = refl; free = λ y ne. ag.free y ne } in
     let does : DoesFinishSplit s.hierarchy m x l r reg c led (w.actors n) b =
     subst (λ (z : ActorValue). DoesFinishSplit s.hierarchy m x l r reg c led z b) (sym ag.actor_is) (subst (λ (z : List Dimension). DoesFinishSplit z m x l r reg c led a b) (sym about) d) in
     let room : does.stock.ids + 2 < 2 ^ 32 = subst (λ (k : StockValue). k.ids + 2 < 2 ^ 32) (ap stock_in does.turns_stock.was) few in
-    split-kept m x l r reg c led b s w n g there does (finish-split m x l r reg c led b s w n g i there does other ends gates room (made s w g i))
+    split-kept m x l r reg c led b s w n g there does (finish-split m x l r reg c led b s w n g i there does other ends gates room)

@@ -1,5 +1,5 @@
 -- The one administrator's job goes on to another stage: what the parts keep that see of a job only whose it is.
-use Rattle.std.proofs.Common.{◌≡◌, ◌≢◌, ℕ, ◌<◌, List, eqb, Option, Some, is_some, sym, ap, ◌∙◌, subst, arith}
+use Rattle.std.proofs.Common.{◌≡◌, ◌≢◌, ℕ, ◌<◌, List, eqb, Option, Some, None, is_some, sym, ap, ◌∙◌, subst, arith}
 use Rattle.row_ledger.specs.declared.event.Event.{Event}
 use Rattle.tree_shape.proofs.Walks.{on_bool, eqb-eq, eqb-ne}
 use Rattle.volap_cell.specs.Ghost.{Ghost}
@@ -86,6 +86,9 @@ module _ (s : Setting) (v : View) (g : Ghost) (i : InvWith s v g) (n : ℕ) (job
         beyond = k.beyond;
         working = its-job (λ a j. v.roles a ≡ Admin) (k.working n job new.was_there);
         parts = k.parts;
+        idle = λ a role none. k.idle a role (on_bool (eqb a n)
+            (λ q. let never : ◌≡◌ {A = Option JobValue} (Some job_now) None = sym new.is_there ∙ ap jobs_now (sym (eqb-eq a n q)) ∙ none in absurd (cc))
+            (λ q. sym (new.elsewhere a (eqb-ne a n q)) ∙ none));
       }
 
   pub telling-on : Telling s v.history v.commands jobs_now v.roles v.seen g.placed

@@ -1,5 +1,5 @@
 -- A tree that a job has built: its blocks are in their cells, and a new gate leads to it.
-use Rattle.std.proofs.Common.{◌≡◌, ◌≢◌, ℕ, ◌≤◌, Bool, true, false, cond, eqb, List, [], ◌∷◌, map, Contains, refl, sym, ap, ◌∙◌, subst, arith}
+use Rattle.std.proofs.Common.{◌≡◌, ◌≢◌, ℕ, ◌≤◌, Bool, true, false, cond, eqb, List, [], ◌∷◌, map, Contains, refl, sym, ap, ◌∙◌, subst, inl, inr, arith}
 use Rattle.cell_stock.specs.Stock.{PurseValue}
 use Rattle.cell_stock.specs.declared.purse.Spare.{Spare}
 use Rattle.dim_hierarchy.specs.declared.row.Row.{Row}
@@ -22,6 +22,7 @@ use Rattle.tree_shape.specs.Shape.{Shape, nodes, numbers}
 use Rattle.tree_shape.specs.Trees.{IsTree}
 use Rattle.tree_shape.proofs.Divisions.{each-map}
 use Rattle.tree_shape.proofs.Forests.{each-all}
+use Rattle.tree_shape.proofs.Parts.{each-left, each-right}
 use Rattle.tree_shape.proofs.Walks.{on_bool, eqb-eq, eqb-ne, same_is, same_not}
 use Rattle.volap_cell.specs.AdminKinds.{IsGateFor, tree_of}
 use Rattle.volap_cell.specs.Cells.{way_to_tree}
@@ -32,7 +33,25 @@ use Rattle.volap_cell.specs.Setting.{Setting}
 use Rattle.volap_cell.specs.Stocking.{cells_at, spent_of}
 use Rattle.volap_cell.specs.View.{View}
 use Rattle.volap_cell.proofs.Frames.{each-among}
-use Rattle.core_admin.proofs.MoveTree.{entries-of, fresh-at, is-true}
+
+-- a cell among those of blocks has one of them
+pub fresh-at : (y : ℕ) (fs : List Fresh) → 1 ≤ times y (filled_cells fs) → (f : Fresh) × Among f fs × (f.cell ≡ y)
+fresh-at y [] some = absurd (omega (arith, some))
+fresh-at y (f ∷ fs) some = (let later = fresh-at y fs in on_bool (eqb y f.cell)
+    (λ q. (f, inl refl, sym (eqb-eq y f.cell q)))
+    (λ q. let none = same_not y f.cell (eqb-ne y f.cell q) in let o = later (omega (arith, some, none)) in (o.0, inr o.1, o.2)))
+
+-- what holds of the entries of all blocks holds of those of one
+entries-of : (P : Entry → Type 0) (f : Fresh) (fs : List Fresh) → Each P (all_entries fs) → Among f fs → Each P (entries_in f.block.body)
+entries-of P f [] e m = absurd m
+entries-of P f (x ∷ fs) e m = elim m [
+  | inl is ↦ subst (λ (z : Fresh). Each P (entries_in z.block.body)) (sym is) (each-left P (entries_in x.block.body) (all_entries fs) e)
+  | inr more ↦ entries-of P f fs (each-right P (entries_in x.block.body) (all_entries fs) e) more
+]
+
+pub is-true : (a : Bool) (k : ℕ) → 1 ≤ cond a k 0 → a ≡ true
+is-true true k le = refl
+is-true false k le = absurd (omega (arith, le))
 
 -- What is known of it: it has these rows, none of them carried, and the gate's cell and the blocks' cells, no others; each entry has
 -- the stamp of a spare that the job has spent.

@@ -79,6 +79,9 @@ module _ (s : Setting) (v : View) (g : Ghost) (i : InvWith s v g) (n : ℕ) (job
             (no.0, off a ne ∙ no.1, turn.elsewhere a ne ∙ no.2, no.3, new.elsewhere a ne ∙ no.4);
         working = its-next (λ a j. v.roles a ≡ Admin) (λ j has. k.working n job new.was_there);
         parts = k.parts;
+        idle = λ a role none. on_bool (eqb a n)
+            (λ z. ap purses_now (eqb-eq a n z) ∙ mine)
+            (λ z. let ne = eqb-ne a n z in off a ne ∙ k.idle a role (sym (new.elsewhere a ne) ∙ none));
       }
 
   pub working-next : (blocks : ℕ → Block) (made : ℕ → Bool) (trees : ℕ → Gate) (phases : ℕ → Option Phase) (active : ℕ → ℕ) (queues : ℕ → Queue) (gate : ℕ → ℕ) (shape : ℕ → Shape) (placed : ℕ → Bool)

@@ -11,7 +11,6 @@ use Rattle.describing_set.specs.DescSet.{IsSetOf, covers}
 use Rattle.describing_set.specs.declared.listing.Spot.{Spot}
 use Rattle.describing_set.specs.declared.set.DescSet.{DescSet}
 use Rattle.describing_set.proofs.Covering.{covers-Covers, IsSetOf-Covers}
-use Rattle.query_router.specs.declared.part.Part.{Part}
 use Rattle.row_ledger.specs.Bounds.{known, listing_of, may, published}
 use Rattle.row_ledger.specs.Listings.{IsBox}
 use Rattle.row_ledger.specs.Past.{Ack, acked, last_of}
@@ -90,8 +89,7 @@ child-covers {s} {v} {g} {shard} {its} {box} k q placed home is =
     let there : Contains (coords k.rows) (v.row q).at = Contains-map (λ (x : Row). x.at) k.rows (v.row q) (k.has q placed home is) in
     (covers-Covers s.hierarchy box (v.row q).at k.set_of.count (All-contains (IsCoordOf s.hierarchy) (coords k.rows) (v.row q).at k.valid there)).1 (IsSetOf-Covers s.hierarchy (coords k.rows) box (v.row q).at k.set_of there)
 
-module _ (s : Setting) (w : World) (g : Ghost) (i : InvWith s (view s w) g) (of shard l r : ℕ) (side : ℕ → Bool) (right : IsRightSplit (site_in s) (view s w).history of shard l r)
-    (made : (server : ℕ) → server < s.servers → All (λ (p : Part). p.shard < ids_made s.workers (view s w).history) ((view s w).desks server).parts) where
+module _ (s : Setting) (w : World) (g : Ghost) (i : InvWith s (view s w) g) (of shard l r : ℕ) (side : ℕ → Bool) (right : IsRightSplit (site_in s) (view s w).history of shard l r) where
   abbrev v : View
   v = view s w
 
@@ -102,15 +100,15 @@ module _ (s : Setting) (w : World) (g : Ghost) (i : InvWith s (view s w) g) (of 
   e = Split of shard l r
 
   abbrev homes : ℕ → ℕ
-  homes = home2 s w g i of shard l r side right made
+  homes = home2 s w g i of shard l r side right
 
   comes-on : (x y : ℕ) → y < ids_made s.workers h → comes_from (e ∷ h) x y ≡ comes_from h x y
-  comes-on = comes s w g i of shard l r side right made
+  comes-on = comes s w g i of shard l r side right
 
   -- Images.
 
   pub split-imaging : ((x : ℕ) → is_live s.workers (e ∷ h) x ≡ true → ((is_live s.workers h x ≡ true) × (x ≢ shard)) ⊎ ((x ≡ l) ⊎ (x ≡ r))) → Imaging s (e ∷ h) (row_at (e ∷ h)) v.images g.placed
-  split-imaging live = subst (λ (row : ℕ → Row). Imaging s (e ∷ h) row v.images g.placed) (sym (rows s w g i of shard l r side right made)) (record {
+  split-imaging live = subst (λ (row : ℕ → Row). Imaging s (e ∷ h) row v.images g.placed) (sym (rows s w g i of shard l r side right)) (record {
     image = λ server lt. let k = i.imaging.image server lt in record {
       places = k.places;
       grown = k.grown;
@@ -122,9 +120,9 @@ module _ (s : Setting) (w : World) (g : Ghost) (i : InvWith s (view s w) g) (of 
             let to_shard = k.whole shard right.live in
             elim new [
               | inl is_left ↦ subst (λ (y : ℕ). Any (λ (z : Spot). IsTrue (comes_from (e ∷ h) z.shard y)) (v.images server).spots) (sym is_left)
-                  (Any-weaker (λ (z : Spot). IsTrue (comes_from h z.shard shard)) (λ (z : Spot). IsTrue (comes_from (e ∷ h) z.shard l)) (λ z c. from-child s w g i of shard l r side right made z.shard true c) (v.images server).spots to_shard)
+                  (Any-weaker (λ (z : Spot). IsTrue (comes_from h z.shard shard)) (λ (z : Spot). IsTrue (comes_from (e ∷ h) z.shard l)) (λ z c. from-child s w g i of shard l r side right z.shard true c) (v.images server).spots to_shard)
               | inr is_right ↦ subst (λ (y : ℕ). Any (λ (z : Spot). IsTrue (comes_from (e ∷ h) z.shard y)) (v.images server).spots) (sym is_right)
-                  (Any-weaker (λ (z : Spot). IsTrue (comes_from h z.shard shard)) (λ (z : Spot). IsTrue (comes_from (e ∷ h) z.shard r)) (λ z c. from-child s w g i of shard l r side right made z.shard false c) (v.images server).spots to_shard)
+                  (Any-weaker (λ (z : Spot). IsTrue (comes_from h z.shard shard)) (λ (z : Spot). IsTrue (comes_from (e ∷ h) z.shard r)) (λ z c. from-child s w g i of shard l r side right z.shard false c) (v.images server).spots to_shard)
             ]
       ];
       boxes = box-older s.hierarchy g.placed e h (v.images server).spots k.boxes;
@@ -136,7 +134,7 @@ module _ (s : Setting) (w : World) (g : Ghost) (i : InvWith s (view s w) g) (of 
 
   covered : (spots : List Spot) (q : ℕ) → g.placed q ≡ true → IsCovered s.hierarchy h v.row g.home spots q → IsCovered s.hierarchy (e ∷ h) v.row homes spots q
   covered spots q placed c = Any-weaker (λ (z : Spot). IsTrue (comes_from h z.shard (g.home q)) × (covers s.hierarchy z.set (v.row q).at ≡ true)) (λ (z : Spot). IsTrue (comes_from (e ∷ h) z.shard (homes q)) × (covers s.hierarchy z.set (v.row q).at ≡ true))
-      (λ z both. ((under-split s w g i of shard l r side right made z.shard q (record { is_placed = placed; comes = both.0 })).comes, both.1)) spots c
+      (λ z both. ((under-split s w g i of shard l r side right z.shard q (record { is_placed = placed; comes = both.0 })).comes, both.1)) spots c
 
   module _ (worker : ℕ) (left_box right_box : DescSet) (left : IsChildBox s v g shard side left_box) (right_child : IsChildBox s v g shard (λ q. not (side q)) right_box) (registry : RegistryValue)
       (front : registry.frontier ≡ without shard v.registry.frontier ++ record { shard = l; worker = worker; set = left_box } ∷ record { shard = r; worker = worker; set = right_box } ∷ []) where
@@ -181,7 +179,7 @@ module _ (s : Setting) (w : World) (g : Ghost) (i : InvWith s (view s w) g) (of 
     split-covering =
         let k = i.covering in
         let P : Spot → Type 0 = λ z. IsBox s.hierarchy (may g.placed h) z.set in
-        subst (λ (row : ℕ → Row). Covering s (e ∷ h) row registry v.images g.placed homes g.path) (sym (rows s w g i of shard l r side right made)) (record {
+        subst (λ (row : ℕ → Row). Covering s (e ∷ h) row registry v.images g.placed homes g.path) (sym (rows s w g i of shard l r side right)) (record {
           boxes = box-older s.hierarchy g.placed e h registry.frontier (subst (All P) (sym front) (All-append P (without shard v.registry.frontier) children (all-without P shard v.registry.frontier k.boxes)
               (All-cons P left_spot (right_spot ∷ []) (record { rows = left.rows; usable = left.usable; set_of = left.set_of }) (All-cons P right_spot [] (record { rows = right_child.rows; usable = right_child.usable; set_of = right_child.set_of }) (All-nil P)))));
           came = λ q p off. on_bool (eqb (g.home q) shard)

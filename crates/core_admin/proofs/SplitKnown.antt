@@ -1,9 +1,9 @@
 -- A shard is split: its rows go to its children, and among shards that were made before nothing comes from others than before. What
--- that leaves of desks, inserts and queries, where each part is of a shard that was made.
+-- that leaves of desks, inserts and queries, where each part of a query is of a shard that was made.
 use Rattle.std.proofs.Common.{◌≡◌, ℕ, List, [], ◌∷◌, Bool, true, false, Option, Some, None, refl, sym, ap, ◌∙◌, subst, inl, inr, Contains, ◌==◌, ◌||◌, cond, eqb, eqb-true, eq-eqb, get_or, le_of_lt, ◌<◌, All, arith}
 use Rattle.std.specs.Prelude.{IsTrue, if◌then◌else◌}
 use Rattle.std.specs.List.{list_any}
-use Rattle.std.proofs.lemmas.List.Elements.{All-head, All-tail, All-weaker}
+use Rattle.std.proofs.lemmas.List.Elements.{All-contains, All-head, All-tail, All-weaker}
 use Rattle.std.proofs.lemmas.Bool.{or_cases, or_right}
 use Rattle.dim_hierarchy.specs.declared.row.Row.{Row}
 use Rattle.describing_set.specs.declared.listing.Spot.{Spot}
@@ -27,7 +27,7 @@ use Rattle.shard_store.specs.declared.gate.Gate.{Gate}
 use Rattle.tree_shape.specs.Queries.{IsUnfinished, fits}
 use Rattle.tree_shape.specs.Shape.{Shape, nodes}
 use Rattle.tree_shape.proofs.Walks.{on_bool, eqb-eq}
-use Rattle.volap_cell.specs.Desking.{AreLinesApart, AreUnrelated, Desking, IsWantOf}
+use Rattle.volap_cell.specs.Desking.{AreLinesApart, AreUnrelated, Desking, IsQueryPart, IsWantOf}
 use Rattle.volap_cell.specs.Errands.{ReadPart}
 use Rattle.volap_cell.specs.Ghost.{Ghost}
 use Rattle.volap_cell.specs.Growing.{IsUnder, table_of}
@@ -39,15 +39,17 @@ use Rattle.volap_cell.specs.Stocking.{cells_at}
 use Rattle.volap_cell.specs.Values.{ReadingValue}
 use Rattle.volap_cell.specs.View.{View, row_at, view}
 use Rattle.volap_cell.specs.World.{World}
+use Rattle.volap_cell.proofs.Departures.{older-made}
 use Rattle.volap_cell.proofs.Grows.{Any-weaker, insert-kept, insert-same, query-same, query-within, rows-same}
+use Rattle.volap_cell.proofs.GrowsReads.{readers-take}
+use Rattle.volap_cell.proofs.PartFacts.{with-parts}
 use Rattle.core_image.proofs.MadePaths.{path-made}
 
 -- the shard of a row afterwards: one of the children, where it was in the shard that is split
 abbrev pub split_home : ℕ → ℕ → ℕ → (ℕ → Bool) → (ℕ → ℕ) → ℕ → ℕ
 split_home shard l r side home q = cond (eqb (home q) shard) (cond (side q) l r) (home q)
 
-module _ (s : Setting) (w : World) (g : Ghost) (i : InvWith s (view s w) g) (of shard l r : ℕ) (side : ℕ → Bool) (right : IsRightSplit (site_in s) (view s w).history of shard l r)
-    (made : (server : ℕ) → server < s.servers → All (λ (p : Part). p.shard < ids_made s.workers (view s w).history) ((view s w).desks server).parts) where
+module _ (s : Setting) (w : World) (g : Ghost) (i : InvWith s (view s w) g) (of shard l r : ℕ) (side : ℕ → Bool) (right : IsRightSplit (site_in s) (view s w).history of shard l r) where
   abbrev v : View
   v = view s w
 
@@ -122,6 +124,24 @@ module _ (s : Setting) (w : World) (g : Ghost) (i : InvWith s (view s w) g) (of 
 
   -- Desks.
 
+  parts-made : (server b : ℕ) (q : Query) → server < s.servers → (v.desks server).op ≡ Some b → query_at h b ≡ Some q → All (λ (p : Part). p.shard < ids_made s.workers h) (v.desks server).parts
+  parts-made server b q within op is = All-weaker (IsQueryPart s h) (λ (p : Part). p.shard < ids_made s.workers h) (λ p both. both.1) (v.desks server).parts (i.desking.query server b q within op is).2
+
+  -- and so was the shard that a reading is of
+  read-made : (a b : ℕ) (q : Query) (p : ReadPart) → v.reads a ≡ Some p → (v.desks p.server).op ≡ Some b → query_at h b ≡ Some q → (p.server < s.servers) × (p.shard < ids_made s.workers h)
+  read-made a b q p has op is =
+      let t = readers-take s w a p has in
+      let at = i.desking.at_parts a t.0 t.1 in
+      let within : p.server < s.servers = subst (λ (x : ℕ). x < s.servers) t.2 at.within in
+      let part : Part = at.part.1 in
+      let stands : Contains (v.desks t.0.server).parts part = (at.part.0, at.part.2, at.part.3) in
+      let stands_there : Contains (v.desks p.server).parts part = subst (λ (x : ℕ). Contains (v.desks x).parts part) t.2 stands in
+      let made = All-contains (λ (x : Part). x.shard < ids_made s.workers h) (v.desks p.server).parts part (parts-made p.server b q within op is) stands_there in
+      (within, subst (λ (x : ℕ). x < ids_made s.workers h) ((with-parts t.0.shard t.0.worker part at.part.4).0 ∙ t.3) made)
+
+  query-parts-on : (parts : List Part) → All (IsQueryPart s h) parts → All (IsQueryPart s (e ∷ h)) parts
+  query-parts-on parts all = All-weaker (IsQueryPart s h) (IsQueryPart s (e ∷ h)) (λ p both. (both.0, older-made s.workers e h p.shard both.1)) parts all
+
   lines : (parts : List Part) → All (λ (p : Part). p.shard < ids_made s.workers h) parts → AreLinesApart h parts → AreLinesApart (e ∷ h) parts
   lines [] all a = tt
   lines (p ∷ parts) all a =
@@ -139,7 +159,7 @@ module _ (s : Setting) (w : World) (g : Ghost) (i : InvWith s (view s w) g) (of 
         whose = k.whose;
         on_desk = k.on_desk;
         insert = λ server b insert within op is. k.insert server b insert within op (sym (insert-same e h refl b) ∙ is);
-        query = λ server b q within op is. let t = k.query server b q within op (sym (query-same e h refl b) ∙ is) in (t.0, lines (v.desks server).parts (made server within) t.1, t.2);
+        query = λ server b q within op is. let was = sym (query-same e h refl b) ∙ is in let t = k.query server b q within op was in (t.0, lines (v.desks server).parts (parts-made server b q within op was) t.1, query-parts-on (v.desks server).parts t.2);
         takers = k.takers;
         at_parts = λ a t is. let o = k.at_parts a t is in record { within = o.within; of = o.of; op = o.op; wants = wanted o.of t.want o.wants; part = o.part };
         one = k.one;
@@ -205,7 +225,7 @@ module _ (s : Setting) (w : World) (g : Ghost) (i : InvWith s (view s w) g) (of 
   end-on b q is x lt counted state.NoMemory o = o
   end-on b q is x lt counted state.Taken o = o
 
-  module _ (blocks : ℕ → Block) (trees : ℕ → Gate) (shape : ℕ → Shape) (pinned : (a c : ℕ) (p : ReadPart) → v.reads a ≡ Some p → p.reading.pin ≡ Some c → shape c ≡ g.shape c) (read_made : (a : ℕ) (p : ReadPart) → v.reads a ≡ Some p → p.shard < ids_made s.workers h)
+  module _ (blocks : ℕ → Block) (trees : ℕ → Gate) (shape : ℕ → Shape) (pinned : (a c : ℕ) (p : ReadPart) → v.reads a ≡ Some p → p.reading.pin ≡ Some c → shape c ≡ g.shape c)
       (k : Querying s h v.row blocks trees v.desks v.taken v.reads g.shape g.placed g.home g.counted) where
     walk-on : (b : ℕ) (q : Query) → query_at (e ∷ h) b ≡ Some q → (counted : List ℕ) (t : ReadingValue) (pin : Option ℕ) → ((c : ℕ) → pin ≡ Some c → shape c ≡ g.shape c)
         → IsWalk s h v.row blocks trees g.shape b q counted t pin → IsWalk s (e ∷ h) v.row blocks trees shape b q counted t pin
@@ -226,7 +246,7 @@ module _ (s : Setting) (w : World) (g : Ghost) (i : InvWith s (view s w) g) (of 
           All-weaker (λ (p : Part). is_refused p ≡ false → IsCounted s h v.row g.placed g.home q p.shard (g.counted server p.shard)) (λ (p : Part). is_refused p ≡ false → IsCounted s (e ∷ h) v.row g.placed home2 q p.shard (g.counted server p.shard))
           (λ p f kept. let o = f kept in record { once = o.once; fitting = o.fitting; under = λ m some. under-split p.shard m (o.under m some) }) (v.desks server).parts (k.counts server b q lt op (sym (query-same e h refl b) ∙ is));
       ends = λ server b q lt op is. λ j d within.
-          let p = get_or (v.desks server).parts j d in end-on b q is p.shard (made server lt j d within) (g.counted server p.shard) p.state (k.ends server b q lt op (sym (query-same e h refl b) ∙ is) j d within);
+          let p = get_or (v.desks server).parts j d in end-on b q is p.shard (parts-made server b q lt op (sym (query-same e h refl b) ∙ is) j d within) (g.counted server p.shard) p.state (k.ends server b q lt op (sym (query-same e h refl b) ∙ is) j d within);
       whole = λ server b q lt op is m must fit.
           Any-weaker (λ (p : Part). IsUnder h g.placed g.home p.shard m) (λ (p : Part). IsUnder (e ∷ h) g.placed home2 p.shard m) (λ p. under-split p.shard m) (v.desks server).parts
           (k.whole server b q lt op (sym (query-same e h refl b) ∙ is) m (sym (ap (λ (z : ℕ → Bool). z m) (must-same b q is)) ∙ must) fit);
@@ -234,7 +254,7 @@ module _ (s : Setting) (w : World) (g : Ghost) (i : InvWith s (view s w) g) (of 
         wanted = o.wanted;
         total = o.total;
         walk = walk-on b q is (g.counted p.server p.shard) p.reading p.reading.pin (λ c pin. pinned a c p has pin) o.walk;
-        holds = holds-on b q is p.shard (read_made a p has) (g.counted p.server p.shard) (IsInTreeOf g.shape p.reading.pin) (IsInTreeOf shape p.reading.pin) (in-tree p.reading.pin (λ c pin. pinned a c p has pin)) o.holds;
+        holds = holds-on b q is p.shard (read-made a b q p has op (sym (query-same e h refl b) ∙ is)).1 (g.counted p.server p.shard) (IsInTreeOf g.shape p.reading.pin) (IsInTreeOf shape p.reading.pin) (in-tree p.reading.pin (λ c pin. pinned a c p has pin)) o.holds;
       };
       unread = k.unread;
     })

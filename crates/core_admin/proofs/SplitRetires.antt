@@ -43,8 +43,7 @@ use Rattle.volap_cell.proofs.Touches.{IsBlank}
 use Rattle.core_image.proofs.Jobs.{items-new, spent-new}
 use Rattle.core_admin.proofs.FinishedJob.{is-gate, phase-here, read, was}
 use Rattle.core_admin.proofs.FinishesMove.{blank-counts}
-use Rattle.core_admin.proofs.MoveTree.{fresh-at}
-use Rattle.core_admin.proofs.NewTree.{IsNewTree}
+use Rattle.core_admin.proofs.NewTree.{IsNewTree, fresh-at}
 use Rattle.core_admin.proofs.Returned.{one}
 use Rattle.core_admin.proofs.Retiring.{Retiring, given_to}
 use Rattle.core_admin.proofs.SplitKnown.{split_home}

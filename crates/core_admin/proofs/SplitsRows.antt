@@ -1,6 +1,5 @@
 -- A shard is split: each row of it goes to the child of its side, and is once there, in its new tree or its new queue.
-use Rattle.std.proofs.Common.{◌≡◌, ◌≢◌, ℕ, ◌+◌, ◌<◌, ◌≤◌, List, ◌∷◌, Bool, true, false, not, cond, eqb, IsSome, refl, sym, ap, ◌∙◌, subst, inl, inr, arith, All}
-use Rattle.query_router.specs.declared.part.Part.{Part}
+use Rattle.std.proofs.Common.{◌≡◌, ◌≢◌, ℕ, ◌+◌, ◌<◌, ◌≤◌, List, ◌∷◌, Bool, true, false, not, cond, eqb, IsSome, refl, sym, ap, ◌∙◌, subst, inl, inr, arith}
 use Rattle.row_ledger.specs.Past.{last_of}
 use Rattle.row_ledger.specs.Shards.{comes_from, ids_made, is_live}
 use Rattle.row_ledger.specs.declared.event.Event.{Event}
@@ -32,7 +31,7 @@ abbrev pub split_ghost : Ghost → (ℕ → Owner) → (ℕ → ℕ) → (ℕ �
 split_ghost g owner gate shape home = record g { owner = owner; gate = gate; shape = shape; home = home }
 
 module _ (s : Setting) (w : World) (v2 : View) (g : Ghost) (owner : ℕ → Owner) (gate : ℕ → ℕ) (shape : ℕ → Shape) (home2 : ℕ → ℕ) (side : ℕ → Bool) (n : ℕ) (i : InvWith s (view s w) g) (m : Retiring s (view s w) v2 g (split_ghost g owner gate shape home2) n)
-    (t : Splitting s (view s w) v2 g (split_ghost g owner gate shape home2) n m) (homes : home2 ≡ split_home m.shard t.left t.right side g.home) (made : (server : ℕ) → server < s.servers → All (λ (p : Part). p.shard < ids_made s.workers (view s w).history) ((view s w).desks server).parts) where
+    (t : Splitting s (view s w) v2 g (split_ghost g owner gate shape home2) n m) (homes : home2 ≡ split_home m.shard t.left t.right side g.home) where
   abbrev v : View
   v = view s w
 
@@ -61,7 +60,7 @@ module _ (s : Setting) (w : World) (v2 : View) (g : Ghost) (owner : ℕ → Owne
   shard-live = t.is_right.live
 
   under : (z q : ℕ) → IsUnder h g.placed g.home z q → IsUnder (e ∷ h) g.placed home2 z q
-  under z q u = subst (λ (f : ℕ → ℕ). IsUnder (e ∷ h) g.placed f z q) (sym homes) (under-split s w g i t.of m.shard t.left t.right side t.is_right made z q u)
+  under z q u = subst (λ (f : ℕ → ℕ). IsUnder (e ∷ h) g.placed f z q) (sym homes) (under-split s w g i t.of m.shard t.left t.right side t.is_right z q u)
 
   -- a row of the old tree is the shard's
 

@@ -110,6 +110,9 @@ module _ (s : Setting) (v : View) (numbered : IsNumbered s v) (n : ℕ) (job : J
     beyond = numbered.beyond;
     working = its (λ a j. v.roles a ≡ Admin) (numbered.working n job new.was_there);
     parts = numbered.parts;
+    idle = λ a role none. on_bool (eqb a n)
+        (λ q. let never : ◌≡◌ {A = Option JobValue} (Some now) None = sym new.is_there ∙ ap jobs (sym (eqb-eq a n q)) ∙ none in absurd (cc))
+        (λ q. let ne = eqb-ne a n q in off a ne ∙ numbered.idle a role (sym (new.elsewhere a ne) ∙ none));
   }
 
   pub staged-telling : (h : List Event) (placed : ℕ → Bool) → Telling s h v.commands v.jobs v.roles v.seen placed → Telling s h v.commands jobs v.roles v.seen placed

@@ -23,7 +23,7 @@ use Rattle.row_ledger.proofs.Growth.{KeepsRight-asked}
 use Rattle.server_image.specs.Image.{ImageValue, planned}
 use Rattle.tree_shape.specs.Queries.{fits}
 use Rattle.tree_shape.proofs.Walks.{on_bool, eqb-eq, eqb-ne, eqb-no, eqb-self}
-use Rattle.volap_cell.specs.Desking.{HasNoPath, IsQueryState, IsTaken, AreLinesApart, is_on_desk}
+use Rattle.volap_cell.specs.Desking.{IsQueryPart, IsQueryState, IsTaken, AreLinesApart, is_on_desk}
 use Rattle.volap_cell.specs.Errands.{ReadPart, Taken}
 use Rattle.volap_cell.specs.Falls.{control_of, gates_of_part, gates_of_work, left, of_work, rows_of_part}
 use Rattle.volap_cell.specs.Ghost.{Ghost}
@@ -57,6 +57,7 @@ use Rattle.volap_cell.proofs.QuietHistory.{Told, all-stays, told-here, under-qui
 use Rattle.volap_cell.proofs.Seen.{renewed}
 use Rattle.volap_cell.proofs.Sums.{sum-changed, sum-kept}
 use Rattle.core_image.proofs.Going.{going-balancing, going-numbering, going-working, its-own, others-routed, placing-routed}
+use Rattle.core_image.proofs.KnownMade.{known-made}
 use Rattle.core_image.proofs.Laid.{laid, laid-desking, laid-inserting, laid-leading, laid-querying, taken-off}
 use Rattle.core_image.proofs.Lefts.{IsSteady, control-goes, gates-go, nothing-of, rows-go}
 use Rattle.core_image.proofs.Listings.{listing-ascends}
@@ -209,10 +210,12 @@ module _ (d im l : Change) (b : ActorValue) (s : Setting) (w : World) (n : ℕ) 
       (subst (AscendFrom 0) (sym image.places) (listing-ascends (site_in s) g.placed h server i.telling.right.right.opening i.telling.right.right.each))
       (λ x y a c comes. image.apart x.shard y.shard (a.0, x, a.1, a.2, refl) (c.0, y, c.1, c.2, refl) comes)
 
+  spot-leads : (x : Spot) → Contains does.image.spots x → (x.worker < s.workers) × IsSome (v.maps x.worker x.shard)
+  spot-leads x has = All-contains (λ (y : Spot). (y.worker < s.workers) × IsSome (v.maps y.worker y.shard)) does.image.spots x
+      (subst (λ (y : ImageValue). All (λ (z : Spot). (z.worker < s.workers) × IsSome (v.maps z.worker z.shard)) y.spots) image-there (i.leading.spots server within)) has
+
   leads : All (λ (p : Part). is_open p ≡ true → (p.worker < s.workers) × IsSome (v.maps p.worker p.shard)) parts
-  leads = of-parts (λ (p : Part). is_open p ≡ true → (p.worker < s.workers) × IsSome (v.maps p.worker p.shard))
-      (λ x has on. All-contains (λ (y : Spot). (y.worker < s.workers) × IsSome (v.maps y.worker y.shard)) does.image.spots x
-      (subst (λ (y : ImageValue). All (λ (z : Spot). (z.worker < s.workers) × IsSome (v.maps z.worker z.shard)) y.spots) image-there (i.leading.spots server within)) has)
+  leads = of-parts (λ (p : Part). is_open p ≡ true → (p.worker < s.workers) × IsSome (v.maps p.worker p.shard)) (λ x has on. spot-leads x has)
 
   untaken : (a : ℕ) (t : Taken) → v.taken a ≡ Some t → t.server ≢ server
   untaken = taken-off s server does.desk (length h) parts v.desks v2.desks laid-there does.empty h v.roles v.commands v.taken i.desking
@@ -270,7 +273,7 @@ module _ (d im l : Change) (b : ActorValue) (s : Setting) (w : World) (n : ℕ) 
     covering = told.covering;
     desking = laid-desking s server does.desk (length h) parts v.desks v2.desks laid-there does.empty n None its v.roles v.commands v2.commands begins refl does.role refl off-desk (e ∷ h) v.taken
         (λ insert is. absurd (no-row insert is))
-        (λ other is. (of-parts (λ (p : Part). IsQueryState other p.state) (λ x has. ap (λ (y : Query). want.Filter y.filter) (asked-is other is)), lines-grown s e h (all-stays s e h refl).shards parts lines, of-parts HasNoPath (λ x has. refl)))
+        (λ other is. (of-parts (λ (p : Part). IsQueryState other p.state) (λ x has. ap (λ (y : Query). want.Filter y.filter) (asked-is other is)), lines-grown s e h (all-stays s e h refl).shards parts lines, of-parts (IsQueryPart s (e ∷ h)) (λ x has. (refl, known-made s v g i x.shard x.worker (spot-leads x has).1))))
         (of-parts (λ (p : Part). is_taken p ≡ true → IsTaken v.taken server p) (λ x has on. absurd (false≢true on))) told.desking;
     pinning = i.pinning;
     querying = laid-querying s server does.desk (length h) parts v.desks v2.desks laid-there does.empty (e ∷ h) (row_at (e ∷ h)) v.blocks v.trees v.taken v.reads g.shape g.placed g.home g.counted counted

@@ -161,6 +161,7 @@ module _ (s : Setting) (v : View) (g : Ghost) (i : InvWith s v g) (n of : ℕ) (
         some = omega (arith, over);
         unspent = nothing.0;
         unnoted = nothing.1;
+        unfrozen = nothing.2;
         less = inl (omega arith);
       }
 

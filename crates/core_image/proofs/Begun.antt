@@ -54,6 +54,7 @@ module _ (n : ℕ) (its : Command) (commands commands_now : ℕ → Option Comma
         (counted, purse, begin.elsewhere a ne ∙ none, takes, job);
     working = i.working;
     parts = i.parts;
+    idle = i.idle;
   }
 
   pub begun-placing : (s : Setting) (h : List Event) (ways : ℕ → Option RowWay) (queues : ℕ → Queue) (gate : ℕ → ℕ) (shape : ℕ → Shape) (placed : ℕ → Bool) (home : ℕ → ℕ) (path : ℕ → List ℕ)

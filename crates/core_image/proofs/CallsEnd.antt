@@ -21,9 +21,11 @@ use Rattle.volap_cell.specs.Steps.{IsKept}
 use Rattle.volap_cell.specs.Stocking.{items_of_job, spent_of}
 use Rattle.volap_cell.specs.Values.{ActorValue, JobValue}
 use Rattle.volap_cell.specs.View.{View, view, row_at}
+use Rattle.volap_cell.specs.Working.{frozen_in}
 use Rattle.volap_cell.specs.World.{World, Change, Agrees, after}
 use Rattle.volap_cell.specs.declared.command.Command.{Command}
 use Rattle.volap_cell.specs.declared.command.Work.{Work}
+use Rattle.volap_cell.specs.declared.role.Role.TheVariants.{Admin}
 use Rattle.volap_cell.specs.declared.kind.Kind.TheVariants as kind
 use Rattle.volap_cell.proofs.BookViews.{by_call, view-note_ended}
 use Rattle.volap_cell.proofs.Books.{EventNew, one-event}
@@ -47,6 +49,7 @@ pub record IsEnding (s : Setting) (h : List Event) (placed : ℕ → Bool) (of :
   pub some : 1 ≤ owes work
   pub unspent : spent_of job ≡ []
   pub unnoted : items_of_job job ≡ []
+  pub unfrozen : (j : JobValue) → job ≡ Some j → frozen_in j.stage ≡ None
   pub less : (1 ≤ control_of s work) ⊎ (1 ≤ gates_of_work h work)
 
 module _ (l : Change) (b : ActorValue) (s : Setting) (w : World) (n : ℕ) (g : Ghost) (i : InvWith s (view s w) g) (ag : Agrees w (l ∷ []) n (w.actors n)) (does : NotesEnded l (w.actors n) b)
@@ -120,9 +123,17 @@ module _ (l : Change) (b : ActorValue) (s : Setting) (w : World) (n : ℕ) (g : 
     sessions = i.owing.sessions;
   }
 
+  -- an administrator's purse is empty: its job has frozen nothing, or it has none
+  empty : v.roles n ≡ Admin → v.purses n ≡ []
+  empty role = by_job (v.jobs n) refl
+    where
+      by_job : (job : Option JobValue) → v.jobs n ≡ job → v.purses n ≡ []
+      by_job None none = i.numbering.idle n role none
+      by_job (Some j) some = i.working.unspent n j some (is.unfrozen j some)
+
   holds : InvWith s v2 g
   holds = record {
-    numbering = jobless-numbering n its v.commands v2.commands end (w.actors n).job v.jobs v2.jobs gone s v.tags v.numbers v.roles v.settings v.counted_in v.purses v.taken i.numbering;
+    numbering = jobless-numbering n its v.commands v2.commands end (w.actors n).job v.jobs v2.jobs gone s v.tags v.numbers v.roles v.settings v.counted_in v.purses v.taken empty i.numbering;
     telling = telling-ends s e h n v.commands v2.commands v.jobs v2.jobs v.roles v.seen v2.seen g.placed
         (record {
           others = λ a ne. (end.elsewhere a ne, gone.elsewhere a ne, ap (λ (x : ActorValue). x.seen) (actor-off w.actors n b a ne));

@@ -17,7 +17,7 @@ use Rattle.shard_store.specs.declared.queue.Queue.{Queue}
 use Rattle.tree_shape.specs.Shape.{Shape}
 use Rattle.tree_shape.proofs.Walks.{on_bool, eqb-eq, eqb-ne}
 use Rattle.volap_cell.specs.Cells.{Tag}
-use Rattle.volap_cell.specs.Desking.{Desking, HasNoPath, IsInsertState, IsQueryState, IsTaken, AreLinesApart}
+use Rattle.volap_cell.specs.Desking.{Desking, IsInsertState, IsQueryPart, IsQueryState, IsTaken, AreLinesApart}
 use Rattle.volap_cell.specs.Errands.{ReadPart, RowWay, Taken}
 use Rattle.volap_cell.specs.Growing.{IsUnder}
 use Rattle.volap_cell.specs.ImageKinds.{cleared}
@@ -59,6 +59,7 @@ module _ (n : ℕ) (its : Command) (commands commands_now : ℕ → Option Comma
         (counted, purse, on_bool (eqb a n) (λ q. ap commands_now (eqb-eq a n q) ∙ end.is_there) (λ q. end.elsewhere a (eqb-ne a n q) ∙ none), takes, job);
     working = i.working;
     parts = i.parts;
+    idle = i.idle;
   }
 
   pub ended-working : (s : Setting) (h : List Event) (blocks : ℕ → Block) (made : ℕ → Bool) (trees : ℕ → Gate) (phases : ℕ → Option Phase) (active : ℕ → ℕ) (queues : ℕ → Queue) (purses : ℕ → List Spare) (jobs : ℕ → Option JobValue) (gate : ℕ → ℕ) (shape : ℕ → Shape) (placed : ℕ → Bool)
@@ -150,7 +151,7 @@ module _ (s : Setting) (server : ℕ) (desk : DeskValue) (desks desks_now : ℕ 
           was.0 (own a c was.1 (cc))) in
           ap (λ (d : DeskValue). d.op) (new.elsewhere x ne) ∙ old;
       insert = λ x of insert within op is. as-before (λ (d : DeskValue). (p : Part) × (d.parts ≡ p ∷ []) × IsInsertState insert p.state) x of op (λ was. i.insert x of insert within was is);
-      query = λ x of q within op is. as-before (λ (d : DeskValue). All (λ (p : Part). IsQueryState q p.state) d.parts × AreLinesApart h d.parts × All HasNoPath d.parts) x of op (λ was. i.query x of q within was is);
+      query = λ x of q within op is. as-before (λ (d : DeskValue). All (λ (p : Part). IsQueryState q p.state) d.parts × AreLinesApart h d.parts × All (IsQueryPart s h) d.parts) x of op (λ was. i.query x of q within was is);
       takers = all-parts (λ x p. is_taken p ≡ true → IsTaken taken x p) i.takers;
       at_parts = λ a t is.
           let at = i.at_parts a t is in

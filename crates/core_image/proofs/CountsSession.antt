@@ -124,6 +124,7 @@ module _ (d : Change) (b : ActorValue) (s : Setting) (w : World) (n : ℕ) (g : 
         (counted.elsewhere a ne ∙ none, purse, command, takes, job);
     working = i.numbering.working;
     parts = i.numbering.parts;
+    idle = i.numbering.idle;
   }
 
   sessions-now : (x : ℕ) → x < s.servers → (v2.desks x).sessions ≡ sum_below (actor_count s) (λ a. one_if (serves x (v.roles a) && v2.counted_in a))

@@ -32,7 +32,7 @@ use Rattle.volap_cell.specs.Stocking.{items_in, items_of_job, spent_of}
 use Rattle.volap_cell.specs.Telling.{IsProgress}
 use Rattle.volap_cell.specs.Values.{JobValue, StageValue, IsCalled, IsDeclined, IsFrozen, Collects, Builds}
 use Rattle.volap_cell.specs.View.{View}
-use Rattle.volap_cell.specs.Working.{IsDeclinedFor, IsJobOf, action_of, action_to}
+use Rattle.volap_cell.specs.Working.{IsDeclinedFor, IsJobOf, action_of, action_to, frozen_in}
 use Rattle.volap_cell.specs.declared.command.Command.{Command}
 use Rattle.volap_cell.specs.declared.command.Work.{Work}
 use Rattle.core_image.proofs.Pageless.{asks_page, no-page}
@@ -46,21 +46,23 @@ shard-of : (shard : ℕ) (to : Option ℕ) → shard_of (action_to shard to) ≡
 shard-of shard None = refl
 shard-of shard (Some worker) = refl
 
--- a stage at which a job ends by itself has spent nothing and noted nothing
+-- a stage at which a job ends by itself has spent nothing, noted nothing and frozen nothing
 
-stage-spent : (stage : StageValue) (how : How) → EndsStage stage how → (spent_in stage ≡ []) × (items_in stage ≡ [])
-stage-spent IsCalled how ends = (refl, refl)
-stage-spent (IsDeclined why) how ends = (refl, refl)
+stage-spent : (stage : StageValue) (how : How) → EndsStage stage how → (spent_in stage ≡ []) × (items_in stage ≡ []) × (frozen_in stage ≡ None)
+stage-spent IsCalled how ends = (refl, refl, refl)
+stage-spent (IsDeclined why) how ends = (refl, refl, refl)
 stage-spent (IsFrozen f) how ends = absurd ends
 stage-spent (Collects c) how ends = absurd ends
 stage-spent (Builds b) how ends = absurd ends
 
-job-spent : (job : Option JobValue) (how : How) → EndsJob job how → (spent_of job ≡ []) × (items_of_job job ≡ [])
-job-spent None how ends = (refl, refl)
-job-spent (Some j) how ends = stage-spent j.stage how ends
+job-spent : (job : Option JobValue) (how : How) → EndsJob job how → (spent_of job ≡ []) × (items_of_job job ≡ []) × ((j : JobValue) → job ≡ Some j → frozen_in j.stage ≡ None)
+job-spent None how ends = (refl, refl, λ j is. let never : ◌≡◌ {A = Option JobValue} None (Some j) = is in absurd (cc))
+job-spent (Some j) how ends =
+    let t = stage-spent j.stage how ends in
+    (t.0, t.1, λ other is. let both : ◌≡◌ {A = Option JobValue} (Some j) (Some other) = is in let same : j ≡ other = cc in subst (λ (x : JobValue). frozen_in x.stage ≡ None) same t.2)
 
-pub none-spent : (job : Option JobValue) → ((j : JobValue) → job ≡ Some j → ⊥) → (spent_of job ≡ []) × (items_of_job job ≡ [])
-none-spent None none = (refl, refl)
+pub none-spent : (job : Option JobValue) → ((j : JobValue) → job ≡ Some j → ⊥) → (spent_of job ≡ []) × (items_of_job job ≡ []) × ((j : JobValue) → job ≡ Some j → frozen_in j.stage ≡ None)
+none-spent None none = (refl, refl, λ j is. absurd (none j is))
 none-spent (Some j) none = absurd (none j refl)
 
 one-shown : (shown : Bool) → 1 ≤ shown_left shown
@@ -134,6 +136,7 @@ module _ (s : Setting) (v : View) (g : Ghost) (i : InvWith s v g) (n of : ℕ) w
         some = omega arith;
         unspent = nothing.0;
         unnoted = nothing.1;
+        unfrozen = nothing.2;
         less = inr (one-owed pulled);
       }
 
@@ -148,6 +151,7 @@ module _ (s : Setting) (v : View) (g : Ghost) (i : InvWith s v g) (n of : ℕ) w
         some = omega arith;
         unspent = nothing.0;
         unnoted = nothing.1;
+        unfrozen = nothing.2;
         less = inl (omega arith);
       }
 
@@ -162,6 +166,7 @@ module _ (s : Setting) (v : View) (g : Ghost) (i : InvWith s v g) (n of : ℕ) w
         some = one-owed shown;
         unspent = nothing.0;
         unnoted = nothing.1;
+        unfrozen = nothing.2;
         less = inl (one-shown shown);
       }
 
@@ -176,6 +181,7 @@ module _ (s : Setting) (v : View) (g : Ghost) (i : InvWith s v g) (n of : ℕ) w
         some = one-owed shown;
         unspent = nothing.0;
         unnoted = nothing.1;
+        unfrozen = nothing.2;
         less = inl (one-shown shown);
       }
 
@@ -190,6 +196,7 @@ module _ (s : Setting) (v : View) (g : Ghost) (i : InvWith s v g) (n of : ℕ) w
         some = one-owed shown;
         unspent = nothing.0;
         unnoted = nothing.1;
+        unfrozen = nothing.2;
         less = inl (one-shown shown);
       }
 
@@ -205,6 +212,7 @@ module _ (s : Setting) (v : View) (g : Ghost) (i : InvWith s v g) (n of : ℕ) w
         some = omega arith;
         unspent = nothing.0;
         unnoted = nothing.1;
+        unfrozen = nothing.2;
         less = inl (omega arith);
       }
   ends-as (work_is.Sync server pulled) has open_ progress how_is.Fine ends balance = sync-ends server pulled has open_ progress how_is.Fine (progress.2 ends) refl
@@ -226,6 +234,7 @@ module _ (s : Setting) (v : View) (g : Ghost) (i : InvWith s v g) (n of : ℕ) w
         some = omega arith;
         unspent = nothing.0;
         unnoted = nothing.1;
+        unfrozen = nothing.2;
         less = inl (omega arith);
       }
   ends-as (work_is.Move x to) has open_ progress how ends balance =
@@ -243,6 +252,7 @@ module _ (s : Setting) (v : View) (g : Ghost) (i : InvWith s v g) (n of : ℕ) w
         some = omega arith;
         unspent = nothing.0;
         unnoted = nothing.1;
+        unfrozen = nothing.2;
         less = inl (omega arith);
       }
   ends-as (work_is.Balance b) has open_ progress how ends balance = balance b refl

@@ -70,6 +70,7 @@ module _ (n : ℕ) (old : Option Command) (its : Command) (commands commands_now
         (counted, purse, new.elsewhere a (λ e. absurd (omega arith)) ∙ none, takes, job);
     working = i.working;
     parts = i.parts;
+    idle = i.idle;
   }
 
   pub going-working : (s : Setting) (h : List Event) (blocks : ℕ → Block) (made : ℕ → Bool) (trees : ℕ → Gate) (phases : ℕ → Option Phase) (active : ℕ → ℕ) (queues : ℕ → Queue) (purses : ℕ → List Spare) (jobs : ℕ → Option JobValue) (gate : ℕ → ℕ) (shape : ℕ → Shape) (placed : ℕ → Bool)

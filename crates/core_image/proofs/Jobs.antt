@@ -122,6 +122,9 @@ module _ (n : ℕ) (its : Command) (commands commands_now : ℕ → Option Comma
         (counted, purse, begin.elsewhere a ne ∙ none, takes, new.elsewhere a ne ∙ jobless);
     working = λ a j is. elim (had-job a j is) [ inl t ↦ i.working a j t.1 | inr t ↦ ap roles t.0 ∙ (fresh j t.1).admin ];
     parts = i.parts;
+    idle = λ a role jobless. i.idle a role (on_bool (eqb a n)
+        (λ q. ap jobs (eqb-eq a n q) ∙ new.was_there)
+        (λ q. sym (new.elsewhere a (eqb-ne a n q)) ∙ jobless));
   }
 
   -- Spares and notes.

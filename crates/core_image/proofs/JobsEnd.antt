@@ -19,6 +19,7 @@ use Rattle.volap_cell.specs.Values.{JobValue}
 use Rattle.volap_cell.specs.Working.{Balancing, IsBalancing, Working}
 use Rattle.volap_cell.specs.declared.command.Command.{Command}
 use Rattle.volap_cell.specs.declared.role.Role.{Role}
+use Rattle.volap_cell.specs.declared.role.Role.TheVariants.{Admin}
 use Rattle.volap_cell.proofs.Fields.{IsNewAt}
 use Rattle.core_image.proofs.Clears.{others-keep, still-has}
 use Rattle.core_image.proofs.Jobs.{stamping-alike, stocking-alike}
@@ -30,9 +31,9 @@ module _ (n : ℕ) (its : Command) (commands commands_now : ℕ → Option Comma
       let ne : a ≢ n = (λ e. let never : ◌≡◌ {A = Option JobValue} None (Some j) = sym gone.is_there ∙ ap jobs_now (sym e) ∙ is in absurd (cc)) in
       (ne, sym (gone.elsewhere a ne) ∙ is)
 
-  pub jobless-numbering : (s : Setting) (tags : ℕ → Tag) (numbers : ℕ → ℕ) (roles : ℕ → Role) (settings : ℕ → Setting) (counted_in : ℕ → Bool) (purses : ℕ → List Spare) (taken : ℕ → Option Taken)
+  pub jobless-numbering : (s : Setting) (tags : ℕ → Tag) (numbers : ℕ → ℕ) (roles : ℕ → Role) (settings : ℕ → Setting) (counted_in : ℕ → Bool) (purses : ℕ → List Spare) (taken : ℕ → Option Taken) → (roles n ≡ Admin → purses n ≡ [])
       → Numbering s tags numbers roles settings counted_in purses commands taken jobs → Numbering s tags numbers roles settings counted_in purses commands_now taken jobs_now
-  jobless-numbering s tags numbers roles settings counted_in purses taken i = record {
+  jobless-numbering s tags numbers roles settings counted_in purses taken empty i = record {
     setting = i.setting;
     tag = i.tag;
     number = i.number;
@@ -48,6 +49,9 @@ module _ (n : ℕ) (its : Command) (commands commands_now : ℕ → Option Comma
     );
     working = λ a j is. i.working a j (had-it a j is).1;
     parts = i.parts;
+    idle = λ a role none. on_bool (eqb a n)
+        (λ q. let e = eqb-eq a n q in ap purses e ∙ empty (ap roles (sym e) ∙ role))
+        (λ q. i.idle a role (sym (gone.elsewhere a (eqb-ne a n q)) ∙ none));
   }
 
   -- nothing was spent for the job, and nothing noted

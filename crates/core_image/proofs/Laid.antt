@@ -15,7 +15,7 @@ use Rattle.shard_store.specs.declared.gate.Gate.{Gate}
 use Rattle.tree_shape.specs.Queries.{fits}
 use Rattle.tree_shape.specs.Shape.{Shape}
 use Rattle.tree_shape.proofs.Walks.{on_bool, eqb-eq, eqb-ne}
-use Rattle.volap_cell.specs.Desking.{Desking, HasNoPath, IsInsertState, IsQueryState, IsTaken, AreLinesApart, is_on_desk}
+use Rattle.volap_cell.specs.Desking.{Desking, IsInsertState, IsQueryPart, IsQueryState, IsTaken, AreLinesApart, is_on_desk}
 use Rattle.volap_cell.specs.Errands.{ReadPart, RowWay, Taken}
 use Rattle.volap_cell.specs.Growing.{IsUnder, table_of}
 use Rattle.volap_cell.specs.Lineage.{Leading}
@@ -74,7 +74,7 @@ module _ (s : Setting) (server : ℕ) (desk : DeskValue) (of : ℕ) (parts : Lis
       (on : is_on_desk its.work ≡ true) (off : (c : Command) → old ≡ Some c → is_on_desk c.work ≡ false) where
     pub laid-desking : (h : List Event) (taken : ℕ → Option Taken)
         → ((insert : Insert) → insert_at h of ≡ Some insert → (p : Part) × (parts ≡ p ∷ []) × IsInsertState insert p.state)
-        → ((q : Query) → query_at h of ≡ Some q → All (λ (p : Part). IsQueryState q p.state) parts × AreLinesApart h parts × All HasNoPath parts)
+        → ((q : Query) → query_at h of ≡ Some q → All (λ (p : Part). IsQueryState q p.state) parts × AreLinesApart h parts × All (IsQueryPart s h) parts)
         → All (λ (p : Part). is_taken p ≡ true → IsTaken taken server p) parts
         → Desking s h desks roles commands taken → Desking s h desks_now roles commands_now taken
     laid-desking h taken insert query untaken i = record {
@@ -99,7 +99,7 @@ module _ (s : Setting) (server : ℕ) (desk : DeskValue) (of : ℕ) (parts : Lis
           ap (λ (d : DeskValue). d.op) (new.elsewhere x (was-off x c.of was)) ∙ was);
       insert = λ x b insert_ within op is. of-each (λ b x d. x < s.servers → insert_at h b ≡ Some insert_ → (p : Part) × (d.parts ≡ p ∷ []) × IsInsertState insert_ p.state)
           (λ lt begun. insert insert_ begun) (λ x b ne was lt begun. i.insert x b insert_ lt was begun) x b op within is;
-      query = λ x b q within op is. of-each (λ b x d. x < s.servers → query_at h b ≡ Some q → All (λ (p : Part). IsQueryState q p.state) d.parts × AreLinesApart h d.parts × All HasNoPath d.parts)
+      query = λ x b q within op is. of-each (λ b x d. x < s.servers → query_at h b ≡ Some q → All (λ (p : Part). IsQueryState q p.state) d.parts × AreLinesApart h d.parts × All (IsQueryPart s h) d.parts)
           (λ lt asked. query q asked) (λ x b ne was lt asked. i.query x b q lt was asked) x b op within is;
       takers = all-parts (λ x p. is_taken p ≡ true → IsTaken taken x p) untaken i.takers;
       at_parts = λ a t is.

@@ -57,3 +57,4 @@ pub mod NextAction
 pub mod NotesLeft
 pub mod PagesShown
 pub mod NotesShown
+pub mod KnownMade

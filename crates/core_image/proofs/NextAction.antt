@@ -74,8 +74,8 @@ job-shard standing (action.Split x) = refl
 job-shard standing (action.Move x to) = refl
 
 job-front : (s : Setting) (h : List Event) (standing : List Load) (a : Action) → IsAhead s h standing a → is_on s.workers h (job_for standing a).shard (job_for standing a).worker ≡ true
-job-front s h standing (action.Split x) ahead = ahead
-job-front s h standing (action.Move x to) ahead = ahead.0
+job-front s h standing (action.Split x) ahead = ahead.1
+job-front s h standing (action.Move x to) ahead = ahead.0.1
 
 job-to : (s : Setting) (h : List Event) (standing : List Load) (a : Action) → IsAhead s h standing a → (worker : ℕ) → (job_for standing a).to ≡ Some worker → worker < s.workers
 job-to s h standing (action.Split x) ahead worker is = (let never : ◌≡◌ {A = Option ℕ} None (Some worker) = is in absurd (cc))

@@ -363,6 +363,9 @@ module _ (l : Change) (b : ActorValue) (s : Setting) (w : World) (n : ℕ) (g : 
           (counted, purse, turn.elsewhere a ne ∙ none, takes_none, new.elsewhere a ne ∙ jobless);
       working = λ a j is. elim (had-job a j is) [ inl t ↦ i.numbering.working a j t.1 | inr t ↦ ap v.roles t.0 ∙ progress.1 ];
       parts = i.numbering.parts;
+      idle = λ a role none. on_bool (eqb a n)
+          (λ q. ap v.purses (eqb-eq a n q) ∙ i.working.unspent n job does.job_is bare.2)
+          (λ q. i.numbering.idle a role (sym (new.elsewhere a (eqb-ne a n q)) ∙ none));
     };
     telling = telling-goes-on s e h n v.commands v2.commands v.jobs v2.jobs v.roles v.seen v2.seen g.placed
         (record {

@@ -14,7 +14,7 @@ use Rattle.row_ledger.specs.Past.{Query, query_at}
 use Rattle.row_ledger.specs.Shards.{comes_from, ids_made, is_child}
 use Rattle.row_ledger.proofs.Descent.{WasSplit, comes_from-child, split-made}
 use Rattle.tree_shape.proofs.Walks.{eqb-no, eqb-self}
-use Rattle.volap_cell.specs.Desking.{AreUnrelated, HasNoPath, IsQueryState}
+use Rattle.volap_cell.specs.Desking.{AreUnrelated, IsQueryPart, IsQueryState}
 use Rattle.volap_cell.specs.Errands.{Outside, RowWay, has_passed, place_of, read_in_task, taken_by, way_in_task}
 use Rattle.volap_cell.specs.Ghost.{Ghost}
 use Rattle.volap_cell.specs.Growing.{IsUnder}
@@ -100,7 +100,7 @@ module _ (s : Setting) (v : View) (g : Ghost) (i : InvWith s v g) (n : ℕ) (e :
         (row-passed s v g i n e takes goes r is ∙ ap has_passed outside, row-nobody s v g i n e takes goes r is ways_now ways, lead),
       );
       query = λ q asked. absurd (row-no-query s v g i n e takes r is q asked);
-      pathless = λ q asked. absurd (row-no-query s v g i n e takes r is q asked);
+      made = λ q asked. absurd (row-no-query s v g i n e takes r is q asked);
       counts = λ q asked. absurd (row-no-query s v g i n e takes r is q asked);
       ends = λ q asked. absurd (row-no-query s v g i n e takes r is q asked);
       apart = λ q asked. absurd (row-no-query s v g i n e takes r is q asked);
@@ -181,7 +181,7 @@ module _ (s : Setting) (v : View) (g : Ghost) (i : InvWith s v g) (n : ℕ) (e :
       leads = all-two (λ (p : Part). is_open p ≡ true → (p.worker < s.workers) × IsSome (v.maps p.worker p.shard)) (λ opened. (worker_is, tables.3)) (λ opened. (worker_is, tables.4));
       insert = λ x begun. absurd (unread-no-insert s v g i n e takes f is x begun);
       query = λ q asked. let w = ap want.Filter (sym (unread-filter s v g i n e takes f is q asked)) in all-two (λ (p : Part). IsQueryState q p.state) w w;
-      pathless = λ q asked. all-two HasNoPath refl refl;
+      made = λ q asked. all-two (IsQueryPart s v.history) (refl, made.1) (refl, made.2);
       counts = λ q asked. all-two (λ (p : Part). is_refused p ≡ false → IsCounted s v.history v.row g.placed g.home q p.shard (now e.server p.shard)) (λ kept. none-counted q left (now e.server left) none-left) (λ kept. none-counted q right (now e.server right) none-right);
       ends = λ q asked. all-two (λ (p : Part). IsEndOfPart s v.history v.row g.placed g.home of q p.shard (now e.server p.shard) p.state) none-left none-right;
       apart = λ q asked. (

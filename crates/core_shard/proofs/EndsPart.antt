@@ -13,7 +13,7 @@ use Rattle.tree_shape.specs.Counts.{times}
 use Rattle.tree_shape.specs.Queries.{IsUnfinished, fits}
 use Rattle.tree_shape.specs.Shape.{nodes}
 use Rattle.tree_shape.proofs.Rows.{after-all}
-use Rattle.volap_cell.specs.Desking.{HasNoPath, IsInsertState, IsQueryState}
+use Rattle.volap_cell.specs.Desking.{IsInsertState, IsQueryPart, IsQueryState}
 use Rattle.volap_cell.specs.Errands.{Outside, ReadPart, RowWay, has_passed, place_of, read_in_task, taken_by, way_in_task}
 use Rattle.volap_cell.specs.Ghost.{Ghost}
 use Rattle.volap_cell.specs.Growing.{table_of}
@@ -31,7 +31,7 @@ use Rattle.volap_cell.proofs.Fields.{IsNewAt}
 use Rattle.core_shard.proofs.BackFacts.{read-no-insert, row-no-query, unread-no-insert}
 use Rattle.core_shard.proofs.GoesBack.{AreParts}
 use Rattle.core_shard.proofs.RowBack.{row-nobody, row-number, row-on, row-passed}
-use Rattle.core_shard.proofs.OnePart.{all-one, one-apart, one-counted, one-under, op}
+use Rattle.core_shard.proofs.OnePart.{all-one, its-made, one-apart, one-counted, one-under, op}
 
 -- at its end a part neither waits nor is taken
 closed : (task : TaskValue) (outcome : PartState) → IsOutcome task outcome → (state_waits outcome ≡ false) × (state_is_taken outcome ≡ false)
@@ -93,7 +93,7 @@ module _ (s : Setting) (v : View) (g : Ghost) (i : InvWith s v g) (n : ℕ) (e :
   query-state q asked (Read r) same (inl done) = subst (IsQueryState q) (sym done.1) tt
   query-state q asked (Read r) same (inr refused) = subst (IsQueryState q) (sym refused.1) tt
 
-  query-path : (q : Query) → query_at v.history of ≡ Some q → (task : TaskValue) → e.task ≡ task → HasNoPath ended
+  query-path : (q : Query) → query_at v.history of ≡ Some q → (task : TaskValue) → e.task ≡ task → ended.path ≡ []
   query-path q asked (OfRow r) same = absurd (row-no-query s v g i n e takes r same q asked)
   query-path q asked (Unread f) same = ap path_in same
   query-path q asked (Read r) same = ap path_in same
@@ -131,7 +131,7 @@ module _ (s : Setting) (v : View) (g : Ghost) (i : InvWith s v g) (n : ℕ) (e :
     leads = one (λ (p : Part). is_open p ≡ true → (p.worker < s.workers) × IsSome (v.maps p.worker p.shard)) (λ opened. absurd (false≢true (sym (λ j. shut.0 j || shut.1 j) ∙ opened)));
     insert = λ x begun. let part = row-part x begun e.task refl is in (ended, refl, part.0, part.1);
     query = λ q asked. one (λ (p : Part). IsQueryState q p.state) (query-state q asked e.task refl is);
-    pathless = λ q asked. one HasNoPath (query-path q asked e.task refl);
+    made = λ q asked. one (IsQueryPart s v.history) (query-path q asked e.task refl, its-made s v g i n e takes before behind old was with q asked);
     counts = one-counted s v g i n e takes before behind old was with ended refl;
     ends = λ q asked. one (λ (p : Part). IsEndOfPart s v.history v.row g.placed g.home of q p.shard (g.counted e.server p.shard) p.state) (end q asked e.task refl is);
     apart = one-apart s v g i n e takes before behind old was with ended refl;

@@ -12,7 +12,7 @@ use Rattle.tree_shape.proofs.Divisions.{each-map}
 use Rattle.tree_shape.proofs.Parts.{each-right}
 use Rattle.tree_shape.proofs.Walks.{on_bool, eqb-eq, eqb-ne}
 use Rattle.tree_shape.specs.Queries.{NoneWaits, fits}
-use Rattle.volap_cell.specs.Desking.{AreLinesApart, AreUnrelated, Desking, HasNoPath, IsAtPart, IsInsertState, IsQueryState, IsTaken}
+use Rattle.volap_cell.specs.Desking.{AreLinesApart, AreUnrelated, Desking, IsAtPart, IsInsertState, IsQueryPart, IsQueryState, IsTaken}
 use Rattle.volap_cell.specs.Errands.{AtBlock, InLeaf, ReadPart, RowPlace, RowWay, Taken, gate_entered, read_in_task, taken_by, way_in_task}
 use Rattle.volap_cell.specs.Ghost.{Ghost}
 use Rattle.volap_cell.specs.Growing.{Growing, IsUnder, table_of}
@@ -60,7 +60,7 @@ pub record AreParts (s : Setting) (v : View) (g : Ghost) (e : ErrandValue) (befo
   pub leads : All (λ (p : Part). is_open p ≡ true → (p.worker < s.workers) × IsSome (v.maps p.worker p.shard)) new
   pub insert : (x : Insert) → insert_at v.history of ≡ Some x → (p : Part) × (new ≡ p ∷ []) × IsInsertState x p.state × IsRowPart v.history v.images ways_now g.placed g.path e.server of p p.state
   pub query : (q : Query) → query_at v.history of ≡ Some q → All (λ (p : Part). IsQueryState q p.state) new
-  pub pathless : (q : Query) → query_at v.history of ≡ Some q → All HasNoPath new
+  pub made : (q : Query) → query_at v.history of ≡ Some q → All (IsQueryPart s v.history) new
   pub counts : (q : Query) → query_at v.history of ≡ Some q → All (λ (p : Part). is_refused p ≡ false → IsCounted s v.history v.row g.placed g.home q p.shard (counted_now e.server p.shard)) new
   pub ends : (q : Query) → query_at v.history of ≡ Some q → All (λ (p : Part). IsEndOfPart s v.history v.row g.placed g.home of q p.shard (counted_now e.server p.shard) p.state) new
   pub apart : (q : Query) → query_at v.history of ≡ Some q → AreLinesApart v.history new × ((p other : Part) → Contains (before ++ behind) p → Contains new other → AreUnrelated v.history p other)
@@ -121,6 +121,7 @@ module _ (s : Setting) (v : View) (g : Ghost) (i : InvWith s v g) (readers : Rea
     nobody = λ a le. let (counted, purse, none, takes, job) = m.nobody a le in (counted, purse, none, k.taken.elsewhere a (λ z. absurd (omega (arith, few, z, le))) ∙ takes, job);
     working = m.working;
     parts = λ a t is. m.parts a t (took a t is).1;
+    idle = m.idle;
   })
 
   part-still : (server r : ℕ) (p : Part) (st : PartState) → IsRowPart v.history v.images v.ways g.placed g.path server r p st → IsRowPart v.history v.images ways_now g.placed g.path server r p st
@@ -292,7 +293,7 @@ module _ (s : Setting) (v : View) (g : Ghost) (i : InvWith s v g) (readers : Rea
           (one.0, (λ j. none.0 j ++ (one.1 j ++ none.1 j)), one.2)) refl;
       query = λ x of q lt is asked.
           let was = desk_of x of is in
-          turned (λ y d. y ≡ x → All (λ (p : Part). IsQueryState q p.state) d.parts × AreLinesApart v.history d.parts × All HasNoPath d.parts) x (λ ne same. m.query x of q lt was asked)
+          turned (λ y d. y ≡ x → All (λ (p : Part). IsQueryState q p.state) d.parts × AreLinesApart v.history d.parts × All (IsQueryPart s v.history) d.parts) x (λ ne same. m.query x of q lt was asked)
           (λ same.
           let here = same-of of (ap (λ (y : ℕ). (v.desks y).op) same ∙ was) in
           let asks = ap (query_at v.history) here ∙ asked in
@@ -300,7 +301,7 @@ module _ (s : Setting) (v : View) (g : Ghost) (i : InvWith s v g) (readers : Rea
           let apart_now = parts.apart q asks in (
             all-turned (λ (p : Part). IsQueryState q p.state) (λ (p : Part). IsQueryState q p.state) old_parts.0 (λ p has o. o) (parts.query q asks),
             apart-exchanged v.history before new behind old (subst (AreLinesApart v.history) k.turn.was old_parts.1) apart_now.0 apart_now.1,
-            all-turned HasNoPath HasNoPath old_parts.2 (λ p has o. o) (parts.pathless q asks),
+            all-turned (IsQueryPart s v.history) (IsQueryPart s v.history) old_parts.2 (λ p has o. o) (parts.made q asks),
           )) refl;
       takers = λ x lt. turned (λ y d. y ≡ x → All (λ (p : Part). is_taken p ≡ true → IsTaken taken_now y p) d.parts) x
           (λ ne same. All-weaker (λ (p : Part). is_taken p ≡ true → IsTaken v.taken x p) (λ (p : Part). is_taken p ≡ true → IsTaken taken_now x p) (λ p f is. taken-still x p (inl ne) (f is)) (v.desks x).parts (m.takers x lt))

@@ -14,7 +14,7 @@ use Rattle.query_router.specs.declared.part.Want.TheVariants as want
 use Rattle.row_ledger.specs.Past.{event_at, insert_at, query_at, session_in}
 use Rattle.row_ledger.proofs.Elements.{Contains-nil}
 use Rattle.tree_shape.proofs.Walks.{on_bool, eqb-eq, eqb-ne}
-use Rattle.volap_cell.specs.Desking.{AreLinesApart, Desking, HasNoPath, IsAtPart, IsInsertState, IsQueryState, IsTaken, IsWantOf, AreUnrelated, is_on_desk}
+use Rattle.volap_cell.specs.Desking.{AreLinesApart, Desking, IsAtPart, IsInsertState, IsQueryPart, IsQueryState, IsTaken, IsWantOf, AreUnrelated, is_on_desk}
 use Rattle.volap_cell.specs.Errands.{Outside, RowPlace, RowWay, Taken, gate_entered, taken_by, way_in_task}
 use Rattle.volap_cell.specs.Ghost.{Ghost}
 use Rattle.volap_cell.specs.Growing.{IsUnder}
@@ -134,6 +134,7 @@ module _ (s : Setting) (v : View) (g : Ghost) (i : InvWith s v g) (n server : �
       | inl mine ↦ λ admin. k.role (ap v.roles (sym mine.0) ∙ admin)
       | inr other ↦ m.parts a t other.1
     ];
+    idle = m.idle;
   })
 
   -- Its row, if it is one: it has passed no gate, and nobody was at it.
@@ -348,7 +349,7 @@ module _ (s : Setting) (v : View) (g : Ghost) (i : InvWith s v g) (n server : �
         (now, (λ j. none.1 j ++ now ∷ none.2 j), tt)) refl;
     query = λ x p q lt is asked.
         let was = desk_of x p is in
-        turned (λ y d. y ≡ x → All (λ (c : Part). IsQueryState q c.state) d.parts × AreLinesApart v.history d.parts × All HasNoPath d.parts) x (λ ne same. m.query x p q lt was asked)
+        turned (λ y d. y ≡ x → All (λ (c : Part). IsQueryState q c.state) d.parts × AreLinesApart v.history d.parts × All (IsQueryPart s v.history) d.parts) x (λ ne same. m.query x p q lt was asked)
         (λ same.
         let here = same-of p (ap (λ (y : ℕ). (v.desks y).op) same ∙ was) in
         let old = m.query server of q within op (ap (query_at v.history) here ∙ asked) in
@@ -356,7 +357,7 @@ module _ (s : Setting) (v : View) (g : Ghost) (i : InvWith s v g) (n server : �
           all-turned (λ (c : Part). IsQueryState q c.state) (λ (c : Part). IsQueryState q c.state) old.0 (λ c has o. o) tt,
           apart-exchanged v.history before (now ∷ []) behind part lines (All-nil (AreUnrelated v.history now), tt)
               (λ c other has is. subst (AreUnrelated v.history c) (only-one other is) (unrelated-now c (apart-others v.history before behind part lines c has))),
-          all-turned HasNoPath HasNoPath old.2 (λ c has o. o) refl,
+          all-turned (IsQueryPart s v.history) (IsQueryPart s v.history) old.2 (λ c has o. o) (refl, (All-contains (IsQueryPart s v.history) (v.desks server).parts part old.2 in-parts).1),
         )) refl;
     takers = λ x lt. turned (λ y d. y ≡ x → All (λ (c : Part). is_taken c ≡ true → IsTaken taken_now y c) d.parts) x
         (λ ne same. All-weaker (λ (c : Part). is_taken c ≡ true → IsTaken v.taken x c) (λ (c : Part). is_taken c ≡ true → IsTaken taken_now x c) (λ c f is. taker-still x c (f is)) (v.desks x).parts (m.takers x lt))

@@ -6,8 +6,8 @@ use Rattle.query_router.specs.declared.part.Part.{Part}
 use Rattle.query_router.specs.declared.part.PartState.{PartState}
 use Rattle.query_router.specs.declared.part.PartState.TheVariants as state
 use Rattle.row_ledger.specs.Past.{Query, query_at}
-use Rattle.row_ledger.specs.Shards.{comes_from}
-use Rattle.volap_cell.specs.Desking.{AreLinesApart, AreUnrelated}
+use Rattle.row_ledger.specs.Shards.{comes_from, ids_made}
+use Rattle.volap_cell.specs.Desking.{AreLinesApart, AreUnrelated, IsQueryPart}
 use Rattle.volap_cell.specs.Errands.{taken_by}
 use Rattle.volap_cell.specs.Ghost.{Ghost}
 use Rattle.volap_cell.specs.Growing.{IsUnder}
@@ -43,6 +43,11 @@ module _ (s : Setting) (v : View) (g : Ghost) (i : InvWith s v g) (n : ℕ) (e :
 
   pub in-parts : Contains (v.desks e.server).parts old
   in-parts = subst (λ (xs : List Part). Contains xs old) (sym was) (old-was before behind old)
+
+  -- it was made, where the command is a query
+  pub its-made : (q : Query) → query_at v.history of ≡ Some q → e.shard < ids_made s.workers v.history
+  its-made q asked =
+      subst (λ (x : ℕ). x < ids_made s.workers v.history) its-shard (All-contains (IsQueryPart s v.history) (v.desks e.server).parts old (i.desking.query e.server of q within op asked).2 in-parts).1
 
   -- the lines of the others, where the command is a query
   pub unrelated : (q : Query) → query_at v.history of ≡ Some q → (p : Part) → Contains (before ++ behind) p → (comes_from v.history e.shard p.shard ≡ false) × (comes_from v.history p.shard e.shard ≡ false)

@@ -6,7 +6,7 @@ use Rattle.query_router.specs.declared.part.Part.{Part}
 use Rattle.query_router.specs.declared.part.Want.{Want}
 use Rattle.query_router.specs.declared.part.Want.TheVariants as want
 use Rattle.row_ledger.specs.Past.{Insert, Query, insert_at, query_at}
-use Rattle.volap_cell.specs.Desking.{HasNoPath, IsInsertState, IsQueryState}
+use Rattle.volap_cell.specs.Desking.{IsInsertState, IsQueryPart, IsQueryState}
 use Rattle.volap_cell.specs.Errands.{RowWay, has_passed, read_in_task, taken_by, want_of, way_in_task}
 use Rattle.volap_cell.specs.Ghost.{Ghost}
 use Rattle.volap_cell.specs.Invariant.{InvWith}
@@ -19,7 +19,7 @@ use Rattle.volap_cell.specs.View.{View}
 use Rattle.volap_cell.proofs.Fields.{IsNewAt}
 use Rattle.core_shard.proofs.BackFacts.{row-no-query, unread-filter, unread-no-insert}
 use Rattle.core_shard.proofs.GoesBack.{AreParts}
-use Rattle.core_shard.proofs.OnePart.{all-one, one-apart, one-counted, one-under}
+use Rattle.core_shard.proofs.OnePart.{all-one, its-made, one-apart, one-counted, one-under}
 use Rattle.core_shard.proofs.RowBack.{row-nobody, row-on, row-passed, row-want}
 
 module _ (s : Setting) (v : View) (g : Ghost) (i : InvWith s v g) (n : ℕ) (e : ErrandValue) (takes : v.taken n ≡ Some (taken_by e)) (goes : v.ways n ≡ way_in_task e e.task) (reads : v.reads n ≡ read_in_task e e.task)
@@ -40,10 +40,10 @@ module _ (s : Setting) (v : View) (g : Ghost) (i : InvWith s v g) (n : ℕ) (e :
   row-part x begun (Unread f) same outside = absurd (unread-no-insert s v g i n e takes f same x begun)
   row-part x begun (Read r) same outside = absurd outside
 
-  asks : (q : Query) → query_at v.history of ≡ Some q → (task : TaskValue) → e.task ≡ task → IsOutside task wanted path → IsQueryState q part.state × (g.counted e.server e.shard ≡ []) × HasNoPath part
+  asks : (q : Query) → query_at v.history of ≡ Some q → (task : TaskValue) → e.task ≡ task → IsOutside task wanted path → IsQueryState q part.state × (g.counted e.server e.shard ≡ []) × IsQueryPart s v.history part
   asks q asked (OfRow r) same outside = absurd (row-no-query s v g i n e takes r same q asked)
   asks q asked (Unread f) same (want_is, path_is) =
-      (want_is ∙ ap want.Filter (sym (unread-filter s v g i n e takes f same q asked)), i.querying.unread n (taken_by e) f takes (ap (λ (t : TaskValue). want_of t) same) (reads ∙ ap (read_in_task e) same), path_is)
+      (want_is ∙ ap want.Filter (sym (unread-filter s v g i n e takes f same q asked)), i.querying.unread n (taken_by e) f takes (ap (λ (t : TaskValue). want_of t) same) (reads ∙ ap (read_in_task e) same), (path_is, its-made s v g i n e takes before behind old was with q asked))
   asks q asked (Read r) same outside = absurd outside
 
   pub waiting-parts : AreParts s v g e before old (part ∷ []) behind ways_now g.counted of
@@ -52,7 +52,7 @@ module _ (s : Setting) (v : View) (g : Ghost) (i : InvWith s v g) (n : ℕ) (e :
     leads = all-one (λ (p : Part). is_open p ≡ true → (p.worker < s.workers) × IsSome (v.maps p.worker p.shard)) part (λ opened. leads);
     insert = λ x begun. let row = row-part x begun e.task refl is in (part, refl, row.0, row.1);
     query = λ q asked. all-one (λ (p : Part). IsQueryState q p.state) part (asks q asked e.task refl is).0;
-    pathless = λ q asked. all-one HasNoPath part (asks q asked e.task refl is).2;
+    made = λ q asked. all-one (IsQueryPart s v.history) part (asks q asked e.task refl is).2;
     counts = one-counted s v g i n e takes before behind old was with part refl;
     ends = λ q asked. all-one (λ (p : Part). IsEndOfPart s v.history v.row g.placed g.home of q p.shard (g.counted e.server p.shard) p.state) part (asks q asked e.task refl is).1;
     apart = one-apart s v g i n e takes before behind old was with part refl;

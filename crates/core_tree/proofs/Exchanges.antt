@@ -25,6 +25,7 @@ use Rattle.volap_cell.specs.Values.{JobValue}
 use Rattle.volap_cell.specs.View.{View, view}
 use Rattle.volap_cell.specs.World.{World}
 use Rattle.volap_cell.specs.Working.{IsFrozenFor, Working, IsBuilding}
+use Rattle.volap_cell.specs.declared.role.Role.TheVariants.{Admin}
 use Rattle.volap_cell.proofs.Blanks.{spent-owner}
 use Rattle.volap_cell.proofs.Spares.{among-cells}
 use Rattle.core_tree.proofs.Carriers.{purse-owned}
@@ -264,8 +265,9 @@ module _ (s : Setting) (w : World) (g : Ghost) (i : InvWith s (view s w) g) (n :
 
     -- The rest.
 
-    pub exchanged-numbering : n < actor_count s → Numbering s v.tags v.numbers v.roles v.settings v.counted_in purses_now v.commands v.taken v.jobs
-    exchanged-numbering few =
+    -- an administrator without a job gets no spares
+    pub exchanged-numbering : n < actor_count s → (v.roles n ≡ Admin → purse ≡ []) → Numbering s v.tags v.numbers v.roles v.settings v.counted_in purses_now v.commands v.taken v.jobs
+    exchanged-numbering few admin =
         let k = i.numbering in record {
           setting = k.setting;
           tag = k.tag;
@@ -276,6 +278,9 @@ module _ (s : Setting) (w : World) (g : Ghost) (i : InvWith s (view s w) g) (n :
           beyond = k.beyond;
           working = k.working;
           parts = k.parts;
+          idle = λ a role none. on_bool (eqb a n)
+              (λ q. let e = eqb-eq a n q in ap purses_now e ∙ mine ∙ admin (ap v.roles (sym e) ∙ role))
+              (λ q. off a (eqb-ne a n q) ∙ k.idle a role none);
         }
 
     pub exchanged-lineage : Lineage s v.history now v.registry v.maps v.gates v.phases g.gate

@@ -26,6 +26,7 @@ use Rattle.volap_cell.specs.declared.errand.RowErrand.{RowErrand}
 use Rattle.volap_cell.specs.declared.errand.Way.{Way}
 use Rattle.volap_cell.specs.declared.errand.Way.TheVariants.{Before, Carried, Placed, Put}
 use Rattle.volap_cell.specs.declared.kind.Kind.TheVariants.{Refill}
+use Rattle.volap_cell.specs.declared.role.Role.TheVariants.{Admin}
 use Rattle.volap_cell.proofs.Actors.{row-at, taken-is}
 use Rattle.volap_cell.proofs.Fields.{IsNew}
 use Rattle.volap_cell.proofs.Frames.{actor-at, actor-off}
@@ -157,12 +158,19 @@ module _ (c : Change) (b : ActorValue) (s : Setting) (w : World) (n : ℕ) (g : 
   off : (a : ℕ) → a ≢ n → u.purses a ≡ v.purses a
   off a ne = ap (λ (z : ActorValue). z.purse) (actor-off w.actors n b a ne)
 
+  -- an administrator is at no part, and so gives its spares back
+  admin : v.roles n ≡ Admin → b.purse ≡ []
+  admin role = elim d.does [
+    | inl filled ↦ absurd (i.numbering.parts n _ (taken-is filled.1.has.errand filled.1.has.row) role)
+    | inr e ↦ ap (λ (a : ActorValue). a.purse) e.actor_is
+  ]
+
   abbrev g2 : Ghost
   g2 = record g { owner = exchanged_owner b.purse n g.owner }
 
   pub holds : InvWith s v2 g2
   holds = record {
-    numbering = exchanged-numbering s w g i n u.stock b.purse jobless exchange u.purses mine off few;
+    numbering = exchanged-numbering s w g i n u.stock b.purse jobless exchange u.purses mine off few admin;
     telling = i.telling;
     owing = i.owing;
     turning = exchanged-turning s w g i n u.stock b.purse jobless exchange u.purses mine off u.boxes (λ a ne. ap (λ (z : ActorValue). z.boxes) (actor-off w.actors n b a ne)) free;

@@ -152,6 +152,7 @@ module _ (s : Setting) (v v2 : View) (g g2 : Ghost) (n c : ℕ) (other : OtherLa
             (no.0, by_actor v.purses v2.purses (λ a ss. v.purses a ≡ [] → ss ≡ []) m.purses_off (none-left _ _ _ m.purse) (λ a ne e. e) a no.1, no.2, no.3, no.4);
         working = k.working;
         parts = k.parts;
+        idle = λ a role none. by_actor v.purses v2.purses (λ a ss. v.purses a ≡ [] → ss ≡ []) m.purses_off (none-left _ _ _ m.purse) (λ a ne e. e) a (k.idle a role none);
       }
 
   -- Turning.

@@ -15,25 +15,23 @@ use Rattle.query_router.specs.declared.part.Part.{Part}
 use Rattle.query_router.specs.declared.part.PartState.{PartState}
 use Rattle.query_router.specs.declared.part.PartState.TheVariants as state
 use Rattle.query_router.specs.declared.part.Want.TheVariants as want
-use Rattle.mapping_table.specs.declared.place.Where.{Where}
-use Rattle.mapping_table.specs.declared.place.Where.TheVariants as where_is
 use Rattle.row_ledger.specs.Past.{Query}
-use Rattle.row_ledger.specs.Shards.{comes_from, ids_made, left_at}
+use Rattle.row_ledger.specs.Shards.{comes_from, ids_made}
 use Rattle.row_ledger.specs.declared.event.Event.{Event}
 use Rattle.row_ledger.specs.declared.event.Event.TheVariants.{Split}
-use Rattle.row_ledger.proofs.Descent.{comes_from-self, split-made}
+use Rattle.row_ledger.proofs.Descent.{comes_from-self}
 use Rattle.row_ledger.proofs.Elements.{Contains-nil}
 use Rattle.tree_shape.specs.Counts.{Each, same, times}
 use Rattle.tree_shape.proofs.Queries.{leb-le, leb-gt}
 use Rattle.tree_shape.proofs.Walks.{on_bool, eqb-eq, eqb-ne, same_is, same_not}
-use Rattle.volap_cell.specs.Desking.{AreLinesApart, AreUnrelated, HasNoPath, IsQueryState}
+use Rattle.volap_cell.specs.Desking.{AreLinesApart, AreUnrelated, IsQueryPart, IsQueryState}
 use Rattle.volap_cell.specs.Errands.{ReadPart, AtBlock, place_of, row_way, taken_by, taken_of, want_of}
 use Rattle.volap_cell.specs.Falls.{Left, left, far, farthest, count_events, is_split_or_move, of_work, gates_of_work, gates_of_way, gates_of_task, gates_of_errand, gates_of_state, gates_of_part, one_if_any, rows_of_way, rows_of_task, rows_of_errand, rows_of_part, per_gate, per_query, blocks_left, queries_of_work, queries_of_task, queries_of_errand, queries_of_state}
 use Rattle.volap_cell.specs.Ghost.{Ghost, InTree, NotOfStock, Owner, is_in_purse}
 use Rattle.volap_cell.specs.Growing.{table_of}
 use Rattle.volap_cell.specs.Invariant.{InvWith}
 use Rattle.volap_cell.specs.Querying.{IsReading, IsWalk}
-use Rattle.volap_cell.specs.Setting.{Setting, actor_count, cell_count, site_in}
+use Rattle.volap_cell.specs.Setting.{Setting, actor_count, cell_count}
 use Rattle.volap_cell.specs.Stocking.{cells_at}
 use Rattle.volap_cell.specs.Sums.{sum_below}
 use Rattle.volap_cell.specs.Values.{ErrandValue, TaskValue, OfRow, Unread, Read, ReadingValue}
@@ -47,11 +45,11 @@ use Rattle.volap_cell.specs.declared.errand.Way.{Way}
 use Rattle.volap_cell.specs.declared.errand.Way.TheVariants as way
 use Rattle.volap_cell.proofs.Actors.{read-is, way-is}
 use Rattle.volap_cell.proofs.Counting.{length-few}
-use Rattle.volap_cell.proofs.Departures.{left-moves, moves-made}
 use Rattle.volap_cell.proofs.GrowsReads.{pinned-whole, readers-take}
 use Rattle.volap_cell.proofs.PartFacts.{on-desk}
 use Rattle.volap_cell.proofs.QueryParts.{query-part}
 use Rattle.core_image.proofs.Fars.{far-most}
+use Rattle.core_image.proofs.KnownMade.{known-made}
 use Rattle.core_tree.proofs.BlocksLeft.{left-is, left-few}
 use Rattle.seeded_run.specs.Measure.{LimitsLaw, limits_of, most_events, most_far, most_waiting}
 use Rattle.seeded_run.specs.Ranks.{IsWithin}
@@ -238,7 +236,7 @@ module _ (s : Setting) (w : World) (g : Ghost) (i : InvWith s (view s w) g) wher
   data Stands (parts : List Part) : Type 0 where
     Nothing : parts ≡ [] → Stands parts
     OneRow : (p : Part) → parts ≡ p ∷ [] → Stands parts
-    Asked : (q : Query) → All (λ (p : Part). IsQueryState q p.state) parts → AreLinesApart v.history parts → All HasNoPath parts → Stands parts
+    Asked : (q : Query) → All (λ (p : Part). IsQueryState q p.state) parts → AreLinesApart v.history parts → All (IsQueryPart s v.history) parts → Stands parts
 
   stands : (server : ℕ) → server < s.servers → Stands (v.desks server).parts
   stands server lt = by (v.desks server).op refl
@@ -255,7 +253,7 @@ module _ (s : Setting) (w : World) (g : Ghost) (i : InvWith s (view s w) g) wher
   desk-gates parts (OneRow p one) = subst (λ (ps : List Part). sum_by (gates_of_part s v.history) ps ≤ per_gate * most_far) (sym one) (let k = part-gates p in let all = sum_by-cons (gates_of_part s v.history) p [] in omega arith)
   desk-gates parts (Asked q states apart paths) =
       let none = sum-none (gates_of_part s v.history) parts (λ p has. query-gates (far s.workers v.history p.shard p.worker) q p.path p.state
-      (All-contains (λ (x : Part). IsQueryState q x.state) parts p states has) (All-contains HasNoPath parts p paths has)) in omega arith
+      (All-contains (λ (x : Part). IsQueryState q x.state) parts p states has) (All-contains (IsQueryPart s v.history) parts p paths has).0) in omega arith
 
   desk-rows : (parts : List Part) → Stands parts → sum_by (λ (p : Part). rows_of_part p.state) parts ≤ 1
   desk-rows parts (Nothing none) = subst (λ (ps : List Part). sum_by (λ (p : Part). rows_of_part p.state) ps ≤ 1) (sym none) (omega arith)
@@ -301,20 +299,6 @@ module _ (s : Setting) (w : World) (g : Ghost) (i : InvWith s (view s w) g) wher
   ask-few : (x y : ℕ) → per_query s * far s.workers v.history x y ≤ asks
   ask-few x y = mul-le (per_query s) (far s.workers v.history x y) (per_query s) most_far (omega arith) (far-few x y)
 
-  -- a shard that a table knows was made
-  known-made : (x y : ℕ) → IsSome (v.maps y x) → x < ids_made s.workers v.history
-  known-made x y some = by (v.maps y x) refl some
-    where
-      moved : (o : Option ℕ) → left_at s.workers v.history x y ≡ o → IsSome o → x < ids_made s.workers v.history
-      moved None is some = absurd (false≢true some)
-      moved (Some p) is some = moves-made (site_in s) g.placed v.history x p i.telling.right.right.each (left-moves s.workers v.history x y p is)
-
-      by : (o : Option Where) → v.maps y x ≡ o → IsSome o → x < ids_made s.workers v.history
-      by None is some = absurd (false≢true some)
-      by (Some (where_is.Gate c)) is some = (let leads = i.lineage.leads y x c is in i.lineage.made (g.gate x) x (i.lineage.gate_of x y leads.0).1)
-      by (Some (where_is.Split plane l r)) is some = (split-made (site_in s) g.placed v.history x l r i.telling.right.right.each (i.lineage.divided y x l r plane is).1).0
-      by (Some (where_is.Moved to)) is some = moved (left_at s.workers v.history x y) refl (i.lineage.moved y x to is).3
-
   waiting-few : (server : ℕ) → server < s.servers → Stands (v.desks server).parts → length (waiting_shards (v.desks server).parts) ≤ most_waiting s
   waiting-few server lt (Nothing none) = subst (λ (ps : List Part). length (waiting_shards ps) ≤ most_waiting s) (sym none) (omega arith)
   waiting-few server lt (OneRow p one) =
@@ -324,7 +308,7 @@ module _ (s : Setting) (w : World) (g : Ghost) (i : InvWith s (view s w) g) wher
       let few = length-few (waiting_shards parts) (ids_made s.workers v.history) (once v.history parts apart)
       (λ x some. let (p, has, waits, is) = found parts x some in
       let knows = All-contains (λ (c : Part). is_open c ≡ true → (c.worker < s.workers) × IsSome (v.maps c.worker c.shard)) parts p (i.leading.parts server lt) has (ap (λ b. b || is_taken p) waits) in
-      subst (λ (y : ℕ). y < ids_made s.workers v.history) is (known-made p.shard p.worker knows.1)) in
+      subst (λ (y : ℕ). y < ids_made s.workers v.history) is (known-made s v g i p.shard p.worker knows.1)) in
       let made = ids-few s.workers v.history in
       let all = events in omega arith
 

@@ -30,7 +30,7 @@ use Rattle.tree_shape.specs.Shape.{Shape, nodes}
 use Rattle.tree_shape.specs.Tables.{AreAlike, IsThereOrCounted}
 use Rattle.tree_shape.proofs.Walks.{same_is}
 use Rattle.tree_shape.proofs.Tables.{query-alike}
-use Rattle.volap_cell.specs.Desking.{AreUnrelated, AreLinesApart, IsWantOf, Desking}
+use Rattle.volap_cell.specs.Desking.{AreUnrelated, AreLinesApart, IsQueryPart, IsWantOf, Desking}
 use Rattle.volap_cell.specs.Errands.{Taken, ReadPart}
 use Rattle.volap_cell.specs.Growing.{table_of, IsUnder}
 use Rattle.volap_cell.specs.Querying.{must_hold, IsCounted, HoldsOr, IsEndOfPart, IsWalk, IsInTreeOf, IsReading, Querying}
@@ -79,6 +79,10 @@ module _ (s : Setting) (e : Event) (h : List Event) (stay : ShardsStay s.workers
   lines-grown [] i = tt
   lines-grown (p ∷ parts) i = (All-weaker (AreUnrelated h p) (AreUnrelated (e ∷ h) p) (unrelated-grown p) parts i.0, lines-grown parts i.1)
 
+  -- shards that were made stay made
+  pub query-parts-grown : (parts : List Part) → All (IsQueryPart s h) parts → All (IsQueryPart s (e ∷ h)) parts
+  query-parts-grown parts all = All-weaker (IsQueryPart s h) (IsQueryPart s (e ∷ h)) (λ p i. (i.0, subst (λ (k : ℕ). p.shard < k) (sym stay.ids) i.1)) parts all
+
   -- what stands on desks began before
   pub desking-grown : (desks : ℕ → DeskValue) (roles : ℕ → Role) (commands : ℕ → Option Command) (taken : ℕ → Option Taken)
       → ((server of : ℕ) → server < s.servers → (desks server).op ≡ Some of → (insert_at (e ∷ h) of ≡ insert_at h of) × (query_at (e ∷ h) of ≡ query_at h of))
@@ -88,7 +92,7 @@ module _ (s : Setting) (e : Event) (h : List Event) (stay : ShardsStay s.workers
     whose = i.whose;
     on_desk = i.on_desk;
     insert = λ server of insert within op is. let b = same server of within op in i.insert server of insert within op (sym b.0 ∙ is);
-    query = λ server of q within op is. let b = same server of within op in let t = i.query server of q within op (sym b.1 ∙ is) in (t.0, lines-grown (desks server).parts t.1, t.2);
+    query = λ server of q within op is. let b = same server of within op in let t = i.query server of q within op (sym b.1 ∙ is) in (t.0, lines-grown (desks server).parts t.1, query-parts-grown (desks server).parts t.2);
     takers = i.takers;
     at_parts = λ a t is. let p = i.at_parts a t is in record { within = p.within; of = p.of; op = p.op; wants = want-grown e h p.of t.want p.wants; part = p.part };
     one = i.one;

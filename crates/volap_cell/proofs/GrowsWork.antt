@@ -121,8 +121,8 @@ module _ (s : Setting) (e : Event) (h : List Event) (stay : ShardsStay s.workers
   }
 
   pub ahead-grown : (standing : List Load) (a : Action) → IsAhead s h standing a → IsAhead s (e ∷ h) standing a
-  ahead-grown standing (action.Split x) i = on-stays s.workers e h stay x _ ∙ i
-  ahead-grown standing (action.Move x worker) i = (on-stays s.workers e h stay x _ ∙ i.0, i.1)
+  ahead-grown standing (action.Split x) i = (i.0, on-stays s.workers e h stay x _ ∙ i.1)
+  ahead-grown standing (action.Move x worker) i = ((i.0.0, on-stays s.workers e h stay x _ ∙ i.0.1), i.1)
 
   pub planned-grown : (placed : ℕ → Bool) (of : ℕ) (b : Balance) (actions : List Action) → is_work_of of e ≡ false → IsPlanned s h placed of b actions → IsPlanned s (e ∷ h) placed of b actions
   planned-grown placed of b actions none i =

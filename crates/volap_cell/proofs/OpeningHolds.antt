@@ -47,6 +47,7 @@ module _ (s : Setting) (w : World) (set : IsSetting s) (o : IsOpening s w) where
     beyond = λ a high. (o.actors a).beyond high;
     working = λ a j is. no-job s w set o a j is;
     parts = λ a t is. (let none = taken-none s w set o a in absurd (let never : ⊥ = cc in never));
+    idle = λ a role none. purse-none s w set o a;
   }
 
   -- The history.

@@ -46,6 +46,7 @@ pub record IsSamePerson (was now : ActorValue) : Type 0 where
   pub setting : now.setting ≡ was.setting
   pub working : (j : JobValue) → now.job ≡ Some j → now.role ≡ Admin
   pub parts : (t : Taken) → taken_of now.errand ≡ Some t → now.role ≢ Admin
+  pub idle : now.role ≡ Admin → now.job ≡ None → now.purse ≡ []
 
 pub still-numbered : (s : Setting) (w : World) (cs : List Change) (n : ℕ) (now : ActorValue) → AreAt w.cells cs → Same tag_of cs → n < actor_count s → IsSamePerson (w.actors n) now → IsNumbered s (view s w) → IsNumbered s (view s (after w cs n now))
 still-numbered s w cs n now at tags there same numbered =
@@ -68,4 +69,9 @@ still-numbered s w cs n now at tags there same numbered =
           λ admin. same.parts t (sym (ap (λ (x : ActorValue). taken_of x.errand) it) ∙ is) (sym (ap (λ (x : ActorValue). x.role) it) ∙ admin))
           (λ q. let it = ap (λ (b : Bool). cond b now (w.actors a)) q in
           λ admin. numbered.parts a t (sym (ap (λ (x : ActorValue). taken_of x.errand) it) ∙ is) (sym (ap (λ (x : ActorValue). x.role) it) ∙ admin)));
+      idle = (λ a admin none. on_bool (eqb a n)
+          (λ q. let it = ap (λ (b : Bool). cond b now (w.actors a)) q in
+          ap (λ (x : ActorValue). x.purse) it ∙ same.idle (sym (ap (λ (x : ActorValue). x.role) it) ∙ admin) (sym (ap (λ (x : ActorValue). x.job) it) ∙ none))
+          (λ q. let it = ap (λ (b : Bool). cond b now (w.actors a)) q in
+          ap (λ (x : ActorValue). x.purse) it ∙ numbered.idle a (sym (ap (λ (x : ActorValue). x.role) it) ∙ admin) (sym (ap (λ (x : ActorValue). x.job) it) ∙ none)));
     }

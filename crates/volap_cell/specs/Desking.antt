@@ -7,7 +7,7 @@ use Rattle.query_router.specs.declared.part.PartState.TheVariants as state
 use Rattle.query_router.specs.declared.part.Want.{Want}
 use Rattle.query_router.specs.declared.part.Want.TheVariants as want
 use Rattle.row_ledger.specs.Past.{Insert, Query, insert_at, query_at}
-use Rattle.row_ledger.specs.Shards.{comes_from}
+use Rattle.row_ledger.specs.Shards.{comes_from, ids_made}
 use Rattle.row_ledger.specs.declared.event.Event.{Event}
 use Rattle.volap_cell.specs.Errands.{Taken}
 use Rattle.volap_cell.specs.Setting.{Setting}
@@ -39,9 +39,9 @@ IsQueryState q (state.Done total) = ⊤
 IsQueryState q state.NoMemory = ⊤
 IsQueryState q (state.Placed path) = ⊥
 
--- a part that came by no path
-abbrev pub HasNoPath : Part → Type 0
-HasNoPath p = p.path ≡ []
+-- a part of a query came by no path, and its shard was made
+abbrev pub IsQueryPart : Setting → List Event → Part → Type 0
+IsQueryPart s h p = (p.path ≡ []) × (p.shard < ids_made s.workers h)
 
 -- neither shard comes from the other
 abbrev pub AreUnrelated : List Event → Part → Part → Type 0
@@ -76,7 +76,7 @@ pub record Desking (s : Setting) (history : List Event) (desks : ℕ → DeskVal
   pub insert : (server of : ℕ) (i : Insert) → server < s.servers → (desks server).op ≡ Some of → insert_at history of ≡ Some i
       → (p : Part) × ((desks server).parts ≡ p ∷ []) × IsInsertState i p.state
   pub query : (server of : ℕ) (q : Query) → server < s.servers → (desks server).op ≡ Some of → query_at history of ≡ Some q
-      → All (λ (p : Part). IsQueryState q p.state) (desks server).parts × AreLinesApart history (desks server).parts × All HasNoPath (desks server).parts
+      → All (λ (p : Part). IsQueryState q p.state) (desks server).parts × AreLinesApart history (desks server).parts × All (IsQueryPart s history) (desks server).parts
   pub takers : (server : ℕ) → server < s.servers → All (λ (p : Part). is_taken p ≡ true → IsTaken taken server p) (desks server).parts
   pub at_parts : (a : ℕ) (t : Taken) → taken a ≡ Some t → IsAtPart s history desks t
   pub one : (a b : ℕ) (t u : Taken) → taken a ≡ Some t → taken b ≡ Some u → t.server ≡ u.server → t.shard ≡ u.shard → t.worker ≡ u.worker → a ≡ b

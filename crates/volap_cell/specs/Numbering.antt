@@ -39,7 +39,7 @@ tag_at s y =
 
 -- Each cell holds what is its place's, each actor knows its number, its role and what it is about, and past the last one there
 -- is nobody, which is seen of the role too: it is that of a worker that isn't there. The administrator alone has jobs, and is at no
--- part.
+-- part; without a job it has an empty purse.
 pub record Numbering (s : Setting) (tags : ℕ → Tag) (numbers : ℕ → ℕ) (roles : ℕ → Role) (settings : ℕ → Setting) (counted_in : ℕ → Bool) (purses : ℕ → List Spare) (commands : ℕ → Option Command) (taken : ℕ → Option Taken) (jobs : ℕ → Option JobValue) : Type 0 where
   pub setting : IsSetting s
   pub tag : (y : ℕ) → tags y ≡ tag_at s y
@@ -50,3 +50,4 @@ pub record Numbering (s : Setting) (tags : ℕ → Tag) (numbers : ℕ → ℕ) 
   pub beyond : (a : ℕ) → actor_count s ≤ a → roles a ≡ Hand s.workers
   pub working : (a : ℕ) (j : JobValue) → jobs a ≡ Some j → roles a ≡ Admin
   pub parts : (a : ℕ) (t : Taken) → taken a ≡ Some t → roles a ≢ Admin
+  pub idle : (a : ℕ) → roles a ≡ Admin → jobs a ≡ None → purses a ≡ []

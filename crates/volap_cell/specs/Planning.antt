@@ -1,5 +1,6 @@
 -- What a balance does next.
-use Rattle.std.specs.Prelude.{ℕ, ◌==◌, List, Option, Some, None, option_map, option_and_then, slice_get, find, unwrap_or}
+use Rattle.std.specs.Prelude.{ℕ, ◌==◌, Bool, List, Option, Some, None, option_map, option_and_then, slice_get, find, unwrap_or}
+use Rattle.std.specs.List.{list_any}
 use Rattle.shard_plan.specs.declared.action.Action.{Action}
 use Rattle.shard_plan.specs.declared.action.Action.TheVariants as action
 use Rattle.shard_plan.specs.declared.action.Load.{Load}
@@ -9,6 +10,10 @@ use Rattle.volap_cell.specs.declared.command.Balance.{Balance}
 -- the worker that has the shard
 abbrev pub worker_in : List Load → ℕ → ℕ
 worker_in loads shard = unwrap_or (option_map (λ (l : Load). l.worker) (find (λ (l : Load). l.shard == shard) loads)) 0
+
+-- whether a shard is among the loads
+abbrev pub has_load : List Load → ℕ → Bool
+has_load loads shard = list_any (λ (l : Load). l.shard == shard) loads
 
 -- the job of an action, at its beginning
 abbrev pub job_for : List Load → Action → JobValue
