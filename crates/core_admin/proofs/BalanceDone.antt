@@ -56,10 +56,10 @@ has-moved (l ∷ loads) shard to x = (let rest = has-moved loads shard to x in o
     (λ q. rw q (ap (λ (b : Bool). (l.shard == x) || b) rest))
     (λ q. rw q (ap (λ (b : Bool). (l.shard == x) || b) rest)))
 
-count-one : {A : Type 0} (P : A → Bool) (x : A) (xs : List A) → P x ≡ true → count_by P (x ∷ xs) ≡ count_by P xs + 1
+pub count-one : {A : Type 0} (P : A → Bool) (x : A) (xs : List A) → P x ≡ true → count_by P (x ∷ xs) ≡ count_by P xs + 1
 count-one P x xs is = (let k = sum_by-cons (λ y. cond (P y) 1 0) x xs in let one : ◌≡◌ {A = ℕ} (cond (P x) 1 0) 1 = ap (λ (b : Bool). cond b 1 0) is in omega (arith, k, one))
 
-job-action : (standing : List Load) (a : Action) → action_of (job_for standing a) ≡ a
+pub job-action : (standing : List Load) (a : Action) → action_of (job_for standing a) ≡ a
 job-action standing (action.Split x) = refl
 job-action standing (action.Move x to) = refl
 

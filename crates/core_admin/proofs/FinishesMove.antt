@@ -91,7 +91,7 @@ use Rattle.core_image.proofs.Owed.{owed-others, promises-now}
 use Rattle.volap_cell.proofs.Seen.{renewed}
 use Rattle.volap_cell.proofs.Spares.{move-blank}
 use Rattle.core_image.proofs.Jobs.{items-new, spent-new}
-use Rattle.core_admin.proofs.MoveTree.{all-rows, built, fresh-at, job-cell, filled-inside, front, inside-filled, is-gate, late, late-is, late-named, law, leads, old, owner-filled, owner-gc, phase-here, read, was}
+use Rattle.core_admin.proofs.MoveTree.{all-rows, built, job-cell, filled-inside, front, inside-filled, is-gate, late, late-is, late-named, law, leads, old, owner-filled, owner-gc, phase-here, read, was}
 use Rattle.core_admin.proofs.BalanceDone.{balancing-done, next-is, within}
 use Rattle.core_image.proofs.NextAction.{next-action}
 use Rattle.core_admin.proofs.MovedKnown.{IsSameBox, comes, rows, moved-covering, moved-desking, moved-imaging, moved-inserting, moved-querying}
@@ -99,6 +99,7 @@ use Rattle.core_admin.proofs.MovedShards.{moved_place, rehosted}
 use Rattle.core_admin.proofs.MovesLineage.{Moving, live-same, moved-leading, moved-lineage, on-now, on-same}
 use Rattle.core_admin.proofs.MovesRows.{moved-placing, moved-resting, moved-turning, moved_ghost}
 use Rattle.core_admin.proofs.MovesShard.{gc-now, ledger-now, kept, moved-tables, registry-now, stock-now, x-now}
+use Rattle.core_admin.proofs.NewTree.{fresh-at}
 use Rattle.core_admin.proofs.FinishedCommands.{telling-finished}
 use Rattle.core_admin.proofs.NextJobs.{IsNextOf, job-few, numbering-next, off-desk, working-next}
 use Rattle.core_admin.proofs.TurnedCommands.{IsOffDesk, turned-desking, turned-inserting, turned-placing}
@@ -140,7 +141,7 @@ finish-cases of work (work_is.Tree z stands shown) job to e led a b is its to_is
 finish-cases of work (work_is.Audit shown) job to e led a b is its to_is f = absurd its
 
 -- a blank cell has no gate that counts
-blank-counts : (c : CellValue) → tag_of c ≡ OfStock → gate_shard c ≡ None → (active_in c ≡ 0) × (pins_in c ≡ 0)
+pub blank-counts : (c : CellValue) → tag_of c ≡ OfStock → gate_shard c ≡ None → (active_in c ≡ 0) × (pins_in c ≡ 0)
 blank-counts FreeCell tag none = (refl, refl)
 blank-counts (BlockCell k) tag none = (refl, refl)
 blank-counts (GateCell k) tag none = cc

@@ -49,3 +49,16 @@ mod LoadsHere
 pub mod Finishings
 pub mod FinishReady
 pub mod MoveMade
+mod SplitsShard
+mod NewTree
+mod FinishedJob
+mod SplitTrees
+mod SplitShards
+mod SplitsLineage
+mod SplitsRows
+mod SplitCovers
+mod BalanceSplit
+mod SplitBoxes
+mod SplitRetires
+mod SplitLeads
+mod FinishesSplit

@@ -46,13 +46,13 @@ one-right y (d ∷ cs) more one = inr (one-right y cs more one)
 
 -- Tables.
 
-get-same : (m : map.FinMap nat_cmp Where) (x : ℕ) (to : Where) → map.get (map.insert m x to) x ≡ Some to
+pub get-same : (m : map.FinMap nat_cmp Where) (x : ℕ) (to : Where) → map.get (map.insert m x to) x ≡ Some to
 get-same m x to = map.get-insert nat_cmp_total m x to x ∙ ap (λ (b : Bool). cond b (Some to) (map.get m x)) (nat-itself x)
   where
     nat-itself : (x : ℕ) → is_eq (nat_cmp x x) ≡ true
     nat-itself x = grind arith
 
-get-other : (m : map.FinMap nat_cmp Where) (x : ℕ) (to : Where) (z : ℕ) → z ≢ x → map.get (map.insert m x to) z ≡ map.get m z
+pub get-other : (m : map.FinMap nat_cmp Where) (x : ℕ) (to : Where) (z : ℕ) → z ≢ x → map.get (map.insert m x to) z ≡ map.get m z
 get-other m x to z ne = map.get-insert nat_cmp_total m x to z ∙ ap (λ (b : Bool). cond b (Some to) (map.get m z)) (nat-apart z x ne)
   where
     nat-apart : (z x : ℕ) → z ≢ x → is_eq (nat_cmp z x) ≡ false

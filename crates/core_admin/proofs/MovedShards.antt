@@ -16,7 +16,7 @@ use Rattle.volap_cell.proofs.Departures.{MovesAt, left-moves}
 abbrev pub moved_place : ℕ → ℕ → Place → Place
 moved_place shard to p = if is_of shard p then place shard to else p
 
-abbrev on : ℕ → ℕ → Place → Bool
+abbrev pub on : ℕ → ℕ → Place → Bool
 on x w p = is_of x p && (p.worker == w)
 
 module _ (shard to : ℕ) where

@@ -35,7 +35,7 @@ use Rattle.volap_cell.proofs.Touches.{IsBlank, turned}
 use Rattle.core_admin.proofs.MoveCells.{AreMoved, IsAnyTable, any-tables, are-moved, one-right, put-is, put-keeps}
 
 -- a job's end leaves a ledger
-ledger-of : (of : ℕ) (work : Work) (job : JobValue) (e : Event) (l : Change) (a b : ActorValue) → Finishes of work job e l a b → (lv : LedgerValue) × (lv2 : LedgerValue) × (l.before ≡ LedgerCell lv) × (l.now ≡ LedgerCell lv2)
+pub ledger-of : (of : ℕ) (work : Work) (job : JobValue) (e : Event) (l : Change) (a b : ActorValue) → Finishes of work job e l a b → (lv : LedgerValue) × (lv2 : LedgerValue) × (l.before ≡ LedgerCell lv) × (l.now ≡ LedgerCell lv2)
 ledger-of of (work_is.Balance balance) job e l a b f = (f.0.ledger, f.0.ledger_now, f.0.was, f.0.is)
 ledger-of of (work_is.Insert row routed) job e l a b f = (f.0.ledger, f.0.ledger_now, f.0.was, f.0.is)
 ledger-of of work_is.Query job e l a b f = (f.0.ledger, f.0.ledger_now, f.0.was, f.0.is)
@@ -59,7 +59,7 @@ contains-among z (f ∷ fs) (zero, k, is) = inl (sym is)
 contains-among z (f ∷ fs) (suc j, k, is) = inr (contains-among z fs (j, omega (arith, k), is))
 
 -- a gate has no table, and a blank cell has none
-blank-where : (gate : Gate) (c : CellValue) → tag_of c ≡ OfStock → where_in (GateCell gate) ≡ where_in c
+pub blank-where : (gate : Gate) (c : CellValue) → tag_of c ≡ OfStock → where_in (GateCell gate) ≡ where_in c
 blank-where gate FreeCell tag = refl
 blank-where gate (BlockCell k) tag = refl
 blank-where gate (GateCell k) tag = refl

@@ -18,7 +18,7 @@ use Rattle.tree_shape.specs.Trees.{IsTree}
 use Rattle.tree_shape.proofs.Divisions.{each-both, each-map}
 use Rattle.tree_shape.proofs.Parts.{each-append, each-here, each-left, each-right}
 use Rattle.tree_shape.proofs.Walks.{on_bool, eqb-eq, eqb-ne, eqb-self}
-use Rattle.volap_cell.specs.Errands.{AtBlock, InLeaf, RowWay, Taken, taken_by, taken_of, way_of}
+use Rattle.volap_cell.specs.Errands.{AtBlock, InLeaf, RowWay, Taken, has_passed, taken_by, taken_of, way_of}
 use Rattle.volap_cell.specs.Ghost.{Ghost, InJob, InPurse, InTree, Owner}
 use Rattle.volap_cell.specs.Growing.{Growing, IsUnder, Queueing, Resting, table_of}
 use Rattle.volap_cell.specs.Invariant.{InvWith}
@@ -129,13 +129,14 @@ module _ (s : Setting) (w : World) (v2 : View) (g g2 : Ghost) (n : ℕ) (i : Inv
   not-admin a way has e = (let t = way-taken s w a way has in i.numbering.parts a t.0 t.1 (ap v.roles e ∙ admin))
 
   -- a row that is in another tree is in a shard that has the gate as before
-  pub retired-turning : ((r c : ℕ) → m.new c ≡ false → c ≢ m.x → (g.shape c).placed r ≡ true → g.gate (g.home r) ≡ c → g2.gate (g2.home r) ≡ c)
+  pub retired-turning : ((r c : ℕ) → m.new c ≡ false → c ≢ m.x → g.placed r ≡ true → g.gate (g.home r) ≡ c → g2.gate (g2.home r) ≡ c)
       → Turning s v.ways v2.purses v.boxes v2.phases v2.active g2.gate g2.shape g2.home
   retired-turning kept =
       let k = i.turning in
-      let still : (r c : ℕ) (way : RowWay) → m.new c ≡ false → c ≢ m.x → IsIn v.phases g.gate g.shape g.home way c → IsIn v2.phases g2.gate g2.shape g2.home way c = λ r c way q ne o. record {
+      let passed : (a : ℕ) (way : RowWay) → v.ways a ≡ Some way → has_passed way.place ≡ true → g.placed way.row.no ≡ true = λ a way has far. (i.inserting.on_way a way has).passed ∙ far in
+      let still : (c : ℕ) (way : RowWay) → g.placed way.row.no ≡ true → m.new c ≡ false → c ≢ m.x → IsIn v.phases g.gate g.shape g.home way c → IsIn v2.phases g2.gate g2.shape g2.home way c = λ c way there q ne o. record {
         stands = λ gone. o.stands (sym (m.phases_off c q ne) ∙ gone);
-        gate_is = kept way.row.no c q ne o.placed o.gate_is;
+        gate_is = kept way.row.no c q ne there o.gate_is;
         placed = subst (λ (z : Shape). z.placed way.row.no ≡ true) (sym (m.shape_off c q)) o.placed;
       } in
       record {
@@ -143,11 +144,11 @@ module _ (s : Setting) (w : World) (v2 : View) (g g2 : Ghost) (n : ℕ) (i : Inv
         carrying = λ a c y way has at.
             let o = k.carrying a c y way has at in
             let q = at-block-old a c y way has at in
-            (still 0 c way q.0 q.1 o.0, subst (λ (z : Shape). z.carried way.row.no ≡ true) (sym (m.shape_off c q.0)) o.1, subst (λ (z : Shape). z.at way.row.no ≡ y) (sym (m.shape_off c q.0)) o.2);
+            (still c way (passed a way has (ap has_passed at)) q.0 q.1 o.0, subst (λ (z : Shape). z.carried way.row.no ≡ true) (sym (m.shape_off c q.0)) o.1, subst (λ (z : Shape). z.at way.row.no ≡ y) (sym (m.shape_off c q.0)) o.2);
         in_leaf = λ a c way has at.
             let o = k.in_leaf a c way has at in
             let q = in-leaf-old a c way has at in
-            (still 0 c way q.0 q.1 o.0, subst (λ (z : Shape). z.carried way.row.no ≡ false) (sym (m.shape_off c q.0)) o.1);
+            (still c way (passed a way has (ap has_passed at)) q.0 q.1 o.0, subst (λ (z : Shape). z.carried way.row.no ≡ false) (sym (m.shape_off c q.0)) o.1);
         carried = λ c r there placed carried. on_bool (m.new c)
             (λ q. absurd (false≢true (sym (m.settled c r q) ∙ carried)))
             (λ q. k.carried c r (was-there c q there) (subst (λ (z : Shape). z.placed r ≡ true) (m.shape_off c q) placed) (subst (λ (z : Shape). z.carried r ≡ true) (m.shape_off c q) carried));

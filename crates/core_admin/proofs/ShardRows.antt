@@ -64,7 +64,7 @@ numbers-of row (n ∷ ns) named =
     λ k. here k ∷ rest k
 
 -- a number that is counted is a row's
-row-of : (rows : List Row) (n : ℕ) → 1 ≤ times n (numbers rows) → (r : Row) × Contains rows r × (r.no ≡ n)
+pub row-of : (rows : List Row) (n : ℕ) → 1 ≤ times n (numbers rows) → (r : Row) × Contains rows r × (r.no ≡ n)
 row-of [] n some = absurd (omega (arith, some))
 row-of (x ∷ rows) n some = on_bool (eqb n x.no)
     (λ q. (x, (0, omega arith, refl), sym (eqb-eq n x.no q)))
@@ -73,7 +73,7 @@ row-of (x ∷ rows) n some = on_bool (eqb n x.no)
     (later.0, Contains-append_right (x ∷ []) rows later.0 later.1, later.2))
 
 -- and a row's number is counted
-row-counts : (rows : List Row) (r : Row) → Contains rows r → 1 ≤ times r.no (numbers rows)
+pub row-counts : (rows : List Row) (r : Row) → Contains rows r → 1 ≤ times r.no (numbers rows)
 row-counts [] r has = absurd (Contains-nil r has)
 row-counts (x ∷ rows) r (zero, within, is) = (let one = same_is r.no x.no (ap (λ (y : Row). y.no) (sym is)) in omega (arith, one))
 row-counts (x ∷ rows) r (suc k, within, is) = (let rest = row-counts rows r (k, omega arith, is) in omega (arith, rest))
@@ -200,7 +200,7 @@ module _ (gates : GateLaw) (s : Setting) (w : World) (g : Ghost) (i : InvWith s 
           All-cons (λ (r : Row). v.row r.no ≡ r) (v.row m) (map v.row ns) (ap v.row (named m (omega (arith, one)))) (of-numbers ns (λ r some. named r (omega (arith, some))))
 
   -- it may be counted
-  is-allowed : (r : Row) → v.row r.no ≡ r → g.placed r.no ≡ true → Contains (may g.placed h) r
+  pub is-allowed : (r : Row) → v.row r.no ≡ r → g.placed r.no ≡ true → Contains (may g.placed h) r
   is-allowed r named pl =
       let (ins, at) = i.placing.begun r.no pl in
       let is : ins.row ≡ r = sym (ap row_or at) ∙ named in
@@ -263,7 +263,7 @@ module _ (gates : GateLaw) (s : Setting) (w : World) (g : Ghost) (i : InvWith s 
   all-rows : All (IsRowOf s.hierarchy) rows
   all-rows = All-append (IsRowOf s.hierarchy) (map v.row in_tree) queued told.valid (i.queueing.queue c its.whole.0).summary.valid
 
-  valid-coords : (xs : List Row) → All (IsRowOf s.hierarchy) xs → All (IsCoordOf s.hierarchy) (coords xs)
+  pub valid-coords : (xs : List Row) → All (IsRowOf s.hierarchy) xs → All (IsCoordOf s.hierarchy) (coords xs)
   valid-coords [] all = All-nil (IsCoordOf s.hierarchy)
   valid-coords (x ∷ xs) all = All-cons (IsCoordOf s.hierarchy) x.at (coords xs) (All-head (IsRowOf s.hierarchy) x xs all) (valid-coords xs (All-tail (IsRowOf s.hierarchy) x xs all))
 

@@ -59,7 +59,7 @@ module _ (s : Setting) (w : World) (g : Ghost) (i : InvWith s (view s w) g) (of 
   abbrev e : Event
   e = Split of shard l r
 
-  abbrev home2 : ℕ → ℕ
+  abbrev pub home2 : ℕ → ℕ
   home2 = split_home shard l r side g.home
 
   each : EachEvent (Stands (site_in s) g.placed) h
