@@ -59,7 +59,7 @@ module _ (gates : GateLaw) (s : Setting) (w : World) (g : Ghost) (i : InvWith s 
   child-box = record {
     rows = a ++ b;
     valid = coords-valid s.hierarchy (a ++ b) (each-append (IsRowOf s.hierarchy) a b of_tree.valid of_queue.valid);
-    usable = all-each (Contains (may g.placed v.history)) (a ++ b) (each-both (λ (x : Row). v.row x.no ≡ x) (λ (x : Row). g.placed x.no ≡ true) (Contains (may g.placed v.history)) (a ++ b) (λ x named placed. is-allowed gates s w g i n job is_job x named placed) rows-named rows-placed);
+    usable = all-each (Contains (may g.placed v.history)) (a ++ b) (each-both (λ (x : Row). v.row x.no ≡ x) (λ (x : Row). g.placed x.no ≡ true) (Contains (may g.placed v.history)) (a ++ b) (λ x named placed. is-allowed gates s w g i job.shard job.worker (i.working.front n job is_job) x named placed) rows-named rows-placed);
     set_of = subst (λ (xs : List Coord). IsSetOf s.hierarchy xs box) (sym (map-append (λ (x : Row). x.at) a b))
         (true_box.2.joined (coords a) (coords b) (coords-valid s.hierarchy a of_tree.valid) (coords-valid s.hierarchy b of_queue.valid) set_of true_box.1);
     has = λ q placed home is.
