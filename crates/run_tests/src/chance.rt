@@ -1,0 +1,145 @@
+//! Lines made by chance.
+ghost use Rattle.std.specs.Prelude.{◌<◌, ◌^◌};
+
+use crate::scripts::Line;
+use rand_core::utils::NextWord;
+use rand_pcg::Pcg32;
+use row_ledger::Call;
+use std::alloc::{AllocError, Global};
+
+/// The names of rows. Most rows have one of the first three.
+const TOWNS: [&str; 10] = ["t0", "t1", "t2", "t3", "t4", "t5", "t6", "t7", "t8", "t9"];
+
+/// What queries pick: everything, a country, one or two towns, or a name that isn't known.
+const PICKS: [&[&str]; 24] = [
+    &[],
+    &[],
+    &[],
+    &[],
+    &["c0"],
+    &["c0"],
+    &["c1"],
+    &["c1"],
+    &["nowhere"],
+    &["t0"],
+    &["t1"],
+    &["t2"],
+    &["t3"],
+    &["t7"],
+    &["t0", "t1"],
+    &["t0", "t2"],
+    &["t1", "t2"],
+    &["t2", "t5"],
+    &["t1", "t8"],
+    &["t3", "t3"],
+    &["t4", "t0"],
+    &["t9", "t6"],
+    &["t6", "t1"],
+    &["t8", "c0"],
+];
+
+/// Numbers by chance, the same ones in each run.
+#[derive(Drop)]
+pub(crate) struct Dice {
+    words: Pcg32,
+}
+
+impl Dice {
+    /// By the generator of this number.
+    pub(crate) fn new(seed: u64) -> Dice {
+        Dice {
+            words: Pcg32::new(seed, 1),
+        }
+    }
+
+    /// A number below `sides`, which is 0 where that is 0.
+    pub(crate) fn roll(&mut self, sides: u32) -> u32
+        ensures below { 0 < sides → result < sides }
+    {
+        self.words.next_word() % sides.max(1)
+    }
+
+    /// The number of one of two servers.
+    fn server(&mut self) -> u8 {
+        if self.roll(2) == 0 { 0 } else { 1 }
+    }
+
+    /// The name of a row.
+    fn town(&mut self) -> &'static str {
+        let sides = if self.roll(3) == 0 { 10 } else { 3 };
+        TOWNS[self.roll(sides) as usize]
+    }
+
+    /// A query.
+    fn query(&mut self) -> Line {
+        let server = self.server();
+        Line::Query(server, PICKS[self.roll(24) as usize])
+    }
+
+    /// An insert of this measure.
+    fn insert(&mut self, measure: i64) -> Line {
+        let server = self.server();
+        Line::Insert(server, measure, self.town())
+    }
+
+    /// A command that closes no phase.
+    fn line(&mut self, measure: i64) -> Line {
+        match self.roll(16) {
+            0 => Line::Call(Call::Sync(self.server())),
+            1 => Line::Insert(0, 5, "nowhere"),
+            2 | 3 | 4 | 5 => self.query(),
+            _ => self.insert(measure),
+        }
+    }
+
+    /// The command that closes a phase.
+    fn end(&mut self) -> Line {
+        match self.roll(4) {
+            0 => Line::Call(Call::Settle),
+            1 => Line::Call(Call::Tree(self.roll(3))),
+            _ => Line::Call(Call::Barrier),
+        }
+    }
+}
+
+/// The measure of the next row behind a line that could take this one.
+fn next_measure(line: &Line, measure: i64) -> i64 {
+    match line {
+        Line::Insert(_, taken, _) if *taken == measure => measure.wrapping_mul(2),
+        _ => measure,
+    }
+}
+
+/// Adds the lines of a phase: so many commands, and the one that closes it. The first row has this measure, and each later one
+/// twice that of the row before. It tells the measure of the next one.
+fn push_phase(
+    lines: &mut Vec<Line>,
+    dice: &mut Dice,
+    commands: u32,
+    first: i64,
+) -> Result<i64, AllocError> {
+    let mut measure = first;
+    for _ in 0..commands {
+        let line = dice.line(measure);
+        measure = next_measure(&line, measure);
+        lines.push(line)?;
+    }
+    lines.push(dice.end())?;
+    Ok(measure)
+}
+
+/// The lines of so many phases, of so many commands each. Each row's measure is a power of two of its own; there may be
+/// 63 of them.
+pub(crate) fn lines(
+    alloc: Global,
+    dice: &mut Dice,
+    phases: u32,
+    commands: u32,
+) -> Result<Vec<Line>, AllocError> {
+    let mut lines = Vec::new(alloc);
+    let mut measure = 1;
+    for _ in 0..phases {
+        measure = push_phase(&mut lines, dice, commands, measure)?;
+    }
+    Ok(lines)
+}

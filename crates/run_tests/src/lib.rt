@@ -1,0 +1,13 @@
+//! Tests of phases that run over the core, by what the crates beneath them let out.
+#![tactic(auto)]
+
+#[cfg(test)]
+mod bounds;
+#[cfg(test)]
+mod chance;
+#[cfg(test)]
+mod phases;
+#[cfg(test)]
+mod runs;
+#[cfg(test)]
+mod scripts;

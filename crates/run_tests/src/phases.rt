@@ -1,0 +1,109 @@
+//! Phases in order and by seeds, beside a plain reading of what their answers must and may count.
+use crate::bounds::{Tally, judge_all};
+use crate::chance::{Dice, lines};
+use crate::runs::{answers, events, run_script};
+use crate::scripts::{Line, script};
+use row_ledger::Call;
+use seeded_run::Schedule;
+use std::alloc::{AllocError, Global};
+use std::test::Fail;
+
+/// Two servers, and two workers of two hands each. Of the second level's names each has the country beneath which it lies.
+const WORLD: &str =
+    "volap,1\nuse,2,2,2,64\ndim,place,2\nconcept,place,c0,*\nconcept,place,c1,*\nconcept,place,t0,c0\nconcept,place,t1,c1\nconcept,place,t2,c0\nconcept,place,t3,c1\nconcept,place,t4,c0\nconcept,place,t5,c1\nconcept,place,t6,c0\nconcept,place,t7,c1\nconcept,place,t8,c0\nconcept,place,t9,c1\n";
+
+/// Three phases and a page.
+const PHASES: [Line; 27] = [
+    Line::Insert(0, 1, "t0"),
+    Line::Query(1, &[]),
+    Line::Insert(1, 2, "t1"),
+    Line::Query(0, &[]),
+    Line::Query(1, &[]),
+    Line::Insert(0, 4, "t2"),
+    Line::Query(0, &["c0"]),
+    Line::Query(1, &["c1"]),
+    Line::Insert(1, 5, "nowhere"),
+    Line::Query(0, &["nowhere"]),
+    Line::Call(Call::Sync(0)),
+    Line::Insert(1, 8, "t3"),
+    Line::Query(1, &["t1", "t3"]),
+    Line::Call(Call::Settle),
+    Line::Query(0, &[]),
+    Line::Query(1, &[]),
+    Line::Insert(0, 16, "t0"),
+    Line::Insert(1, 32, "t1"),
+    Line::Call(Call::Sync(1)),
+    Line::Insert(1, 64, "t0"),
+    Line::Query(0, &["t0"]),
+    Line::Query(1, &["c1"]),
+    Line::Call(Call::Sync(0)),
+    Line::Call(Call::Barrier),
+    Line::Query(0, &[]),
+    Line::Query(1, &[]),
+    Line::Call(Call::Tree(0)),
+];
+
+/// What is answered where these go one after the other.
+const IN_ORDER: &str =
+    "0 0 - -; 2 3 1 2; 2 3 1 2; 2 5 1 4; 1 2 2 2; unknown 0; unknown 0; 2 10 2 8; 4 15 1 8; 4 15 1 8; 3 81 1 64; 3 42 2 32; 7 127 1 64; 7 127 1 64; ";
+
+/// What is answered to lines that go one after the other.
+fn told(alloc: Global, lines: &[Line]) -> Result<String, AllocError> {
+    let script = script(alloc, WORLD, lines)?;
+    let state = run_script(alloc, &script, &mut Schedule::Order)?;
+    answers(alloc, events(&state))
+}
+
+/// What is found of the answers to lines.
+fn tally(alloc: Global, lines: &[Line], schedule: &mut Schedule) -> Result<Tally, AllocError> {
+    let script = script(alloc, WORLD, lines)?;
+    let state = run_script(alloc, &script, schedule)?;
+    Ok(judge_all(events(&state)))
+}
+
+/// What is found of the answers to lines by each of these seeds.
+fn by_seeds(alloc: Global, lines: &[Line], seeds: u64) -> Result<Tally, AllocError> {
+    let mut found = Tally::NONE;
+    for seed in 0..seeds {
+        let one = tally(alloc, lines, &mut Schedule::seeded(seed))?;
+        found = found.join(&one);
+    }
+    Ok(found)
+}
+
+/// What is found of the answers to so many scripts by chance, of five phases each.
+fn by_chance(alloc: Global, scripts: u64) -> Result<Tally, AllocError> {
+    let dice = &mut Dice::new(1);
+    let mut found = Tally::NONE;
+    for seed in 0..scripts {
+        let lines = lines(alloc, dice, 5, 14)?;
+        let one = tally(alloc, &lines, &mut Schedule::seeded(seed))?;
+        found = found.join(&one);
+    }
+    Ok(found)
+}
+
+#[test]
+fn phases_in_order(rt: HostRuntime) -> Result<(), Fail> {
+    let alloc = rt.alloc();
+    assert_eq!(rt; told(alloc, &PHASES)?.as_str(), IN_ORDER);
+    Ok(())
+}
+
+#[test]
+fn phases_by_a_hundred_seeds(rt: HostRuntime) -> Result<(), Fail> {
+    let alloc = rt.alloc();
+    let found = by_seeds(alloc, &PHASES, 100)?;
+    assert_eq!(rt; (found.answers, found.wrong, found.starved), (1200, 0, 0));
+    assert!(rt; found.loose > 0);
+    Ok(())
+}
+
+#[test]
+fn a_thousand_phases_by_chance(rt: HostRuntime) -> Result<(), Fail> {
+    let alloc = rt.alloc();
+    let found = by_chance(alloc, 200)?;
+    assert_eq!(rt; (found.wrong, found.starved), (0, 0));
+    assert!(rt; found.loose > 1000);
+    Ok(())
+}

@@ -1,0 +1,164 @@
+//! Scripts made of tables of lines.
+ghost use Rattle.std.specs.Prelude.{◌≡◌, All, IfOk, OnOk, true};
+ghost use Rattle.dim_hierarchy.specs.Filter.{IsNamePick};
+ghost use Rattle.script_form.specs.Scripts.{AreSettings};
+ghost use Rattle.script_form.specs.declared.script.Command.TheVariants as script_is;
+ghost use Rattle.seeded_run.specs.Phase.{MayAllRun, MayRun};
+
+use dim_hierarchy::{Hierarchy, Name, NameFilter, NamePick, Names};
+use row_ledger::{Call, Use};
+use script_form::{Command, Commands, NewRow, Question, Script, read_script};
+use std::alloc::{AllocError, Global};
+
+/// A line of a script over one dimension.
+#[derive(Clone, Copy)]
+pub(crate) enum Line {
+    /// A row that comes through a server: its measure and its name.
+    Insert(u8, i64, &'static str),
+    /// What a server is asked for: rows under one of these names, or all where there are none.
+    Query(u8, &'static [&'static str]),
+    Call(Call),
+}
+
+/// The names that are picked, or all where there are none.
+fn pick(alloc: Global, picked: &[&str]) -> Result<NamePick, AllocError> {
+    if picked.is_empty() {
+        return Ok(NamePick::All);
+    }
+    let mut names = Names::new(alloc);
+    for name in picked {
+        names.push(Name::from_bytes(alloc, name.as_bytes())?)?;
+    }
+    Ok(NamePick::Any(names))
+}
+
+/// The insert of a row.
+fn insert(alloc: Global, server: u8, measure: i64, name: &str) -> Result<Command, AllocError> {
+    let mut names = Names::new(alloc);
+    names.push(Name::from_bytes(alloc, name.as_bytes())?)?;
+    Ok(Command::Insert(NewRow {
+        server,
+        measure,
+        names,
+    }))
+}
+
+/// A query for what is picked.
+fn query(alloc: Global, server: u8, picked: &[&str]) -> Result<Command, AllocError> {
+    let mut filter = NameFilter::new(alloc);
+    filter.push(pick(alloc, picked)?)?;
+    Ok(Command::Query(Question { server, filter }))
+}
+
+/// The command of a line.
+fn command(alloc: Global, line: Line) -> Result<Command, AllocError> {
+    match line {
+        Line::Insert(server, measure, name) => insert(alloc, server, measure, name),
+        Line::Query(server, picked) => query(alloc, server, picked),
+        Line::Call(call) => Ok(Command::Control(call)),
+    }
+}
+
+/// Whether a pick by names lists one.
+fn is_pick(pick: &NamePick) -> bool
+    ensures { result ≡ true → IsNamePick pick.now }
+{
+    match pick {
+        NamePick::All => true,
+        NamePick::Any(names) => !names.is_empty(),
+    }
+}
+
+/// Whether each pick by names lists one.
+fn are_picks(picks: &[NamePick]) -> bool
+    ensures { result ≡ true → All IsNamePick picks.now }
+{
+    for pick in picks {
+        if !is_pick(pick) {
+            return false;
+        }
+    }
+    true
+}
+
+/// Whether this call may run.
+fn may_call(h: &Hierarchy, with: &Use, call: &Call) -> bool
+    ensures { result ≡ true → MayRun h.now with.now (script_is.Control call.now) }
+{
+    match call {
+        Call::Barrier | Call::Settle | Call::Tree(_) => true,
+        Call::Sync(server) => *server < with.servers,
+        _ => false,
+    }
+}
+
+/// Whether this command may run.
+fn may_run(h: &Hierarchy, with: &Use, command: &Command) -> bool
+    ensures { result ≡ true → MayRun h.now with.now command.now }
+{
+    let dims = usize::from(h.dims());
+    match command {
+        Command::Insert(row) => row.server < with.servers && row.names.len() == dims,
+        Command::Query(question) => {
+            question.server < with.servers
+                && 0 < dims
+                && question.filter.len() == dims
+                && are_picks(question.filter.as_slice())
+        }
+        Command::Control(call) => may_call(h, with, call),
+    }
+}
+
+/// Adds the command of a line, which may run.
+fn add_line(
+    alloc: Global,
+    h: &Hierarchy,
+    with: &Use,
+    commands: &mut Commands,
+    line: Line,
+) -> Result<(), AllocError>
+    requires { All (MayRun h.now with.now) commands.old }
+    ensures { OnOk result (All (MayRun h.now with.now) commands.new) }
+{
+    let command = command(alloc, line)?;
+    if !may_run(h, with, &command) {
+        return Err(AllocError);
+    }
+    commands.push(command)
+}
+
+/// The commands of lines, all of which may run.
+fn commands(
+    alloc: Global,
+    h: &Hierarchy,
+    with: &Use,
+    lines: &[Line],
+) -> Result<Commands, AllocError>
+    ensures { IfOk result (λ commands. All (MayRun h.now with.now) commands) }
+{
+    let mut commands = Commands::new(alloc);
+    for line in lines {
+        add_line(alloc, h, with, &mut commands, *line)?;
+    }
+    Ok(commands)
+}
+
+/// The script of a text that has no command.
+fn opening(alloc: Global, head: &str) -> Result<Script, AllocError>
+    ensures { IfOk result (λ s. AreSettings s.with) }
+{
+    match read_script(alloc, head.as_bytes()) {
+        Ok(script) => Ok(script),
+        Err(_) => Err(AllocError),
+    }
+}
+
+/// The script of a text that has no command, and of lines behind it.
+pub(crate) fn script(alloc: Global, head: &str, lines: &[Line]) -> Result<Script, AllocError>
+    ensures settings { IfOk result (λ s. AreSettings s.with) }
+    ensures may_run { IfOk result (λ s. MayAllRun s.hierarchy s.with s.commands) }
+{
+    let mut script = opening(alloc, head)?;
+    script.commands = commands(alloc, &script.hierarchy, &script.with, lines)?;
+    Ok(script)
+}
