@@ -11,3 +11,5 @@ mod phases;
 mod runs;
 #[cfg(test)]
 mod scripts;
+#[cfg(test)]
+mod stories;

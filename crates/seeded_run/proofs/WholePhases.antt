@@ -282,7 +282,7 @@ module _ (m : Running) (kept : IsPhaseKept m) (schedule : Schedule) (now : Runni
       }
 
 -- what is so of a phase is so of the one that began
-as-before : (F : Bool → Setting → PhaseRun → List Command → Type 0) (m now : Running) → IsSamePhase m now → about_in now ≡ about_in m
+pub as-before : (F : Bool → Setting → PhaseRun → List Command → Type 0) (m now : Running) → IsSamePhase m now → about_in now ≡ about_in m
     → F now.in_order (about_in now) (phase_of now) now.done.now → F m.in_order (about_in m) (phase_of m) m.done.now
 as-before F m now same about f =
     subst (λ b. F b (about_in m) (phase_of m) m.done.now) same.in_order

@@ -4,6 +4,7 @@
 mod alone;
 mod beginnings;
 mod begins_due;
+mod by_hand;
 mod can;
 mod commands;
 mod commands_due;
@@ -27,6 +28,7 @@ mod wanted;
 mod wholes;
 mod works;
 
+pub use by_hand::{Move, run_by_hand};
 pub use laws::{
     cursors_tell_rests, idle_actors_wait, less_is_left, limits_hold, one_steps_in_order,
     parts_go_on, phases_begin_and_end, scripts_run_so, somebody_goes_on, steps_keep_a_phase,

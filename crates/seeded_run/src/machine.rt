@@ -44,7 +44,7 @@ pub struct Running<'a> {
 
 impl<'a> Running<'a> {
     /// The next command of an actor's stream, if it has one.
-    fn next_command(&self, number: usize) -> Option<&'a Command>
+    pub(crate) fn next_command(&self, number: usize) -> Option<&'a Command>
         requires within { number < length self.now.next.items }
         ensures { option_copied result ≡ slice_get self.now.phase.now (next_at self.now number) }
     {

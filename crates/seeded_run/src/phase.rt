@@ -31,7 +31,7 @@ fn is_order(schedule: &Schedule) -> bool
 
 /// By actor: where its first command stands in the phase, or how many commands that has. A session is an
 /// actor's number; who is none has no commands.
-fn first_cursors(
+pub(crate) fn first_cursors(
     alloc: Global,
     with: &Use,
     phase: &[Command],
@@ -48,7 +48,7 @@ fn first_cursors(
 }
 
 /// How many streams aren't at their ends.
-fn streams_open(next: &[usize], many: usize) -> usize
+pub(crate) fn streams_open(next: &[usize], many: usize) -> usize
     ensures { result ≡ streams_open many next.now }
 {
     next.iter().filter(|place| **place < many).count()

@@ -1,0 +1,10 @@
+use Rattle.std.proofs.Common.{◌∙◌, ap, length, refl}
+use Rattle.seeded_run.specs.Machine.{streams_open}
+use Rattle.seeded_run.proofs.FirstCursors.{first-moment}
+use Rattle.seeded_run.proofs.by_hand.make_from.Goals as goal
+
+pub make_whole-made-requires : goal.make_whole-made-requires
+make_whole-made-requires c = record {
+  first = first-moment _ c.args.state.now c.replace.ensures.value c.requires.core c.requires.may_run c.requires.closes c.requires.between
+      c.of-before.ensures c.requires.first (c.streams_open-left.ensures ∙ ap (streams_open (length c.args.phase.now)) c.deref.ensures.value) refl;
+}
