@@ -55,3 +55,5 @@ pub mod ShowsReady
 pub mod ShardsReady
 pub mod DueRows
 pub mod RowsReady
+pub mod DueJobs
+pub mod JobsReady
