@@ -1,10 +1,11 @@
 -- What the call that freezes a shard asks for, and what it did.
-use Rattle.std.proofs.Common.{◌≡◌, ℕ, ◌+◌, List, [], ◌∷◌, length, Option, Some, refl, sym, ap, ◌∙◌, subst, inl, inr, arith}
+use Rattle.std.proofs.Common.{◌≡◌, ℕ, ◌+◌, List, [], ◌∷◌, true, length, Option, Some, refl, sym, ap, ◌∙◌, subst, inl, inr, arith}
 use Rattle.cell_stock.specs.Stock.{PurseValue, StockValue}
 use Rattle.dim_hierarchy.specs.Dimension.{Dimension}
 use Rattle.describing_set.specs.DescSet.{IsDescSetOf}
 use Rattle.describing_set.specs.declared.plane.Plane.{Plane}
 use Rattle.mapping_table.specs.declared.place.Where.TheVariants as where_is
+use Rattle.row_ledger.specs.Shards.{is_on}
 use Rattle.row_ledger.specs.declared.settings.Decline.{Decline}
 use Rattle.row_ledger.specs.declared.settings.Decline.TheVariants.{NoCell, OnePlace}
 use Rattle.shard_store.specs.declared.gate.Gate.{Gate}
@@ -39,6 +40,9 @@ module _ (gates : GateLaw) (h : List Dimension) (map_at : ℕ) (table : CellValu
   is-job : (k.world.actors k.number).job ≡ Some due.job
   is-job = ap (λ (z : ActorValue). z.job) k.agrees.actor_is ∙ due.has.is_job
 
+  front : is_on s.workers v.history due.job.shard due.job.worker ≡ true
+  front = k.inv.holds.working.front k.number due.job is-job
+
   leads : k.inv.ghost_of.gate due.job.shard ≡ gate_at
   leads = (k.inv.holds.lineage.leads due.job.worker due.job.shard gate_at (held-leads s k.world k.inv.holds.numbering.tag (held map_at table) k.agrees.cells.0 due.job.worker due.job.shard _ due.leads).1).1
 
@@ -57,14 +61,14 @@ module _ (gates : GateLaw) (h : List Dimension) (map_at : ℕ) (table : CellValu
       let g = k.inv.ghost_of in
       let its = gate-of s v g k.inv.holds k.number due.job is-job in
       let there : k.world.cells (g.gate due.job.shard) ≡ GateCell x = ap k.world.cells leads ∙ k.agrees.cells.1.0 ∙ is in
-      let count = rows-count gates s k.world g k.inv.holds k.number due.job is-job in
-      let few = rows-few gates s k.world g k.inv.holds k.number due.job is-job in
+      let count = rows-count gates s k.world g k.inv.holds due.job.shard due.job.worker front in
+      let few = rows-few gates s k.world g k.inv.holds due.job.shard due.job.worker front in
       let all = k.inv.holds.owing.few in
       let queue : v.queues (g.gate due.job.shard) ≡ x.queue = ap queue_in there in
       let tree : v.trees (g.gate due.job.shard) ≡ way_to_tree x = ap way_in there in
       let here : (v.trees (g.gate due.job.shard)).agg.count + length (v.queues (g.gate due.job.shard)).rows ≡ rows_at x = (λ j. (tree j).agg.count + length (queue j).rows) in
       subst (λ (z : List Dimension). IsFreezable z x) k.about (record {
-        set = subst (λ (z : Gate). IsDescSetOf s.hierarchy z.set) tree (tree-set gates s k.world g k.inv.holds k.number due.job is-job);
+        set = subst (λ (z : Gate). IsDescSetOf s.hierarchy z.set) tree (tree-set gates s k.world g k.inv.holds due.job.shard due.job.worker front);
         queue = subst (λ (z : Queue). IsDescSetOf s.hierarchy z.set) queue (k.inv.holds.queueing.queue (g.gate due.job.shard) its.whole.0).valid;
         few = omega (arith, count, few, all, here);
         stands = λ e. its.stands (ap phase_of there ∙ ap (λ (p : Phase). Some p) e);

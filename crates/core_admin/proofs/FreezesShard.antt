@@ -1,10 +1,11 @@
 -- A shard is frozen for a job, or the job is declined.
-use Rattle.std.proofs.Common.{◌≡◌, ℕ, ◌+◌, ◌*◌, ◌<◌, List, [], ◌∷◌, length, Option, Some, None, refl, sym, ap, ◌∙◌, subst, inl, inr, arith}
+use Rattle.std.proofs.Common.{◌≡◌, ℕ, ◌+◌, ◌*◌, ◌<◌, List, [], ◌∷◌, true, length, Option, Some, None, refl, sym, ap, ◌∙◌, subst, inl, inr, arith}
 use Rattle.cell_stock.specs.declared.purse.Spare.{Spare}
 use Rattle.dim_hierarchy.specs.Dimension.{Dimension}
 use Rattle.dim_hierarchy.specs.declared.row.Row.{Row}
 use Rattle.describing_set.specs.DescSet.{JoinsTo}
 use Rattle.describing_set.specs.declared.plane.Plane.{Plane}
+use Rattle.row_ledger.specs.Shards.{is_on}
 use Rattle.row_ledger.specs.Work.{IsCause}
 use Rattle.row_ledger.specs.declared.settings.Decline.{Decline}
 use Rattle.row_ledger.specs.declared.settings.Decline.TheVariants.{OnePlace, NoCell}
@@ -49,8 +50,11 @@ module _ (gates : GateLaw) (s : Setting) (w : World) (n : ℕ) (g : Ghost) (i : 
   leads : g.gate d.job.shard ≡ gt.number
   leads = (i.lineage.leads d.job.worker d.job.shard gt.number (held-leads s w i.numbering.tag m ag.cells.0 d.job.worker d.job.shard _ d.leads).1).1
 
+  on : is_on s.workers v.history d.job.shard d.job.worker ≡ true
+  on = i.working.front n d.job d.has.is_job
+
   abbrev rows : List Row
-  rows = rows-of gates s w g i n d.job d.has.is_job
+  rows = rows-of gates s w g i d.job.shard d.job.worker on
 
   -- what the gate in its cell says of the rows
 
@@ -68,13 +72,13 @@ module _ (gates : GateLaw) (s : Setting) (w : World) (n : ℕ) (g : Ghost) (i : 
     queue-is = ap v.queues leads ∙ ap queue_in cell
 
     count : length rows ≡ rows_at d.gate
-    count = rows-count gates s w g i n d.job d.has.is_job ∙ (λ k. (tree-is k).agg.count + length (queue-is k).rows)
+    count = rows-count gates s w g i d.job.shard d.job.worker on ∙ (λ k. (tree-is k).agg.count + length (queue-is k).rows)
 
     joins : JoinsTo s.hierarchy (v.trees (g.gate d.job.shard)).set (v.queues (g.gate d.job.shard)).set d.set
     joins = subst (λ (x : Gate). JoinsTo s.hierarchy x.set (v.queues (g.gate d.job.shard)).set d.set) (sym tree-is) (subst (λ (x : Queue). JoinsTo s.hierarchy d.gate.set x.set d.set) (sym queue-is) d.set_of)
 
     one-place : (to : Option ℕ) → HasOnePlace to d.set → IsCause s.hierarchy (action_to d.job.shard to) rows OnePlace
-    one-place None none = record { set = d.set; set_of = rows-set gates s w g i n d.job d.has.is_job d.set joins; few = few-everywhere d.set none }
+    one-place None none = record { set = d.set; set_of = rows-set gates s w g i d.job.shard d.job.worker on d.set joins; few = few-everywhere d.set none }
     one-place (Some worker) none = absurd none
 
   -- It is declined.
@@ -87,7 +91,7 @@ module _ (gates : GateLaw) (s : Setting) (w : World) (n : ℕ) (g : Ghost) (i : 
     to = record {
       at = record {
         unspent = λ none. d.empty;
-        declined = λ x why has stage. subst (IsDeclinedFor s v.history g.placed x.of (record d.job { stage = IsDeclined decline })) (same-decline decline why stage) (record { rows = rows; read = rows-read gates s w g i n d.job d.has.is_job x.of; cause = cause });
+        declined = λ x why has stage. subst (IsDeclinedFor s v.history g.placed x.of (record d.job { stage = IsDeclined decline })) (same-decline decline why stage) (record { rows = rows; read = rows-read gates s w g i d.job.shard d.job.worker on x.of; cause = cause });
         frozen = λ f is. let never : None ≡ Some f = is in absurd (cc);
         collected = λ k is. let never : IsDeclined decline ≡ Collects k = is in absurd (cc);
         building = λ x is. let never : IsDeclined decline ≡ Builds x = is in absurd (cc);
@@ -115,7 +119,7 @@ module _ (gates : GateLaw) (s : Setting) (w : World) (n : ℕ) (g : Ghost) (i : 
 
   frozen-kept : (plane : Option Plane) → IsDivided d.job.to d.set plane → Freezes d.job plane d.gate d.stock gt c (w.actors n) b → IsKept s Freeze n w (after w (m ∷ gt ∷ c ∷ []) n b) g
   frozen-kept plane divided f =
-      let valid = set-valid gates s w g i n d.job d.has.is_job d.set (joins f.frozen.was) in
+      let valid = set-valid gates s w g i d.job.shard d.job.worker on d.set (joins f.frozen.was) in
       let at = at-gate f.frozen.was in
       record {
         step = record { changes = m ∷ gt ∷ c ∷ []; actor = b; agrees = ag; does = d; sight = tt; now_is = refl };

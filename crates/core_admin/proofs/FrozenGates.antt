@@ -4,7 +4,7 @@ use Rattle.std.proofs.lemmas.List.{length-map}
 use Rattle.cell_stock.specs.declared.purse.Spare.{Spare}
 use Rattle.dc_node.specs.declared.entry.Entry.{Entry}
 use Rattle.dim_hierarchy.specs.declared.row.Row.{Row}
-use Rattle.row_ledger.specs.Shards.{is_live}
+use Rattle.row_ledger.specs.Shards.{is_live, is_on}
 use Rattle.shard_store.specs.declared.gate.Gate.{Gate}
 use Rattle.shard_store.specs.declared.gate.Phase.{Phase}
 use Rattle.shard_store.specs.declared.gate.Phase.TheVariants as phase
@@ -68,15 +68,23 @@ stands-placed s v g i x worker c its r pl =
     on_bool (g.placed r) (λ q. q)
     (λ q. let z : ◌≡◌ {A = ℕ} (cond (g.placed r) (same (g.home r) x) 0) 0 = ap (λ (b : Bool). cond b (same (g.home r) x) 0) q in absurd (omega (arith, one, z, count)))
 
+-- the gate of a shard that stands
+pub gate-on : (s : Setting) (v : View) (g : Ghost) → InvWith s v g → (x worker : ℕ) → is_on s.workers v.history x worker ≡ true → IsGateOf s v g x worker (g.gate x)
+gate-on s v g i x worker on =
+    let (leads, is, stands) = i.lineage.gate_of x worker on in
+    let whole : IsWhole v.gates v.phases v.pins (g.gate x) = (subst IsSome (sym is) refl, inl stands) in
+    record { leads = refl; gate_is = is; stands = stands; live = (i.lineage.live (g.gate x) x is stands).0; whole = whole; tree = i.growing.tree (g.gate x) whole }
+
+-- a row that has passed a gate has a number below that of the events
+pub began-within : (s : Setting) (v : View) (g : Ghost) → InvWith s v g → (r : ℕ) → g.placed r ≡ true → r < length v.history
+began-within s v g i r pl = (let (ins, is) = i.placing.begun r pl in insert-within v.history r ins is)
+
 module _ (s : Setting) (v : View) (g : Ghost) (i : InvWith s v g) (n : ℕ) (job : JobValue) (is_job : v.jobs n ≡ Some job) where
   abbrev at : ℕ
   at = g.gate job.shard
 
   pub gate-of : IsGateOf s v g job.shard job.worker at
-  gate-of =
-      let (leads, is, stands) = i.lineage.gate_of job.shard job.worker (i.working.front n job is_job) in
-      let whole : IsWhole v.gates v.phases v.pins at = (subst IsSome (sym is) refl, inl stands) in
-      record { leads = refl; gate_is = is; stands = stands; live = (i.lineage.live at job.shard is stands).0; whole = whole; tree = i.growing.tree at whole }
+  gate-of = gate-on s v g i job.shard job.worker (i.working.front n job is_job)
 
   -- a row of its queue has passed a gate, and stands there once
 
@@ -95,7 +103,7 @@ module _ (s : Setting) (v : View) (g : Ghost) (i : InvWith s v g) (n : ℕ) (job
       (λ q. let z : ◌≡◌ {A = ℕ} (cond (g.placed r) (same (g.home r) job.shard) 0) 0 = ap (λ (b : Bool). cond b (same (g.home r) job.shard) 0) q in absurd (omega (arith, one, z, some)))
 
   pub placed-within : (r : ℕ) → g.placed r ≡ true → r < length v.history
-  placed-within r pl = (let (ins, is) = i.placing.begun r pl in insert-within v.history r ins is)
+  placed-within = began-within s v g i
 
   pub queue-few : length (v.queues at).rows ≤ length v.history
   queue-few =

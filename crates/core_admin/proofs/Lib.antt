@@ -2,6 +2,8 @@ pub mod Staging
 pub mod Controls
 pub mod Stages
 pub mod FrozenGates
+pub mod PlanShards
+pub mod LoadLists
 pub mod Drains
 pub mod ShardRows
 pub mod Planes
@@ -41,3 +43,6 @@ mod MoveTree
 mod FinishesMove
 mod NextJobs
 mod SplitKnown
+mod LoadsRead
+mod ReadsLoads
+mod LoadsHere

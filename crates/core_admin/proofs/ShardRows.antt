@@ -1,4 +1,4 @@
--- The rows of the shard of a job, those of its tree and those of its queue: each is there once, may be counted, and is one of as many as
+-- The rows of a shard that stands, those of its tree and those of its queue: each is there once, may be counted, and is one of as many as
 -- the gate tells; and all that were acknowledged into the shard are among them.
 use Rattle.std.proofs.Common.{◌≡◌, ℕ, zero, suc, ◌+◌, ◌≤◌, List, [], ◌∷◌, ◌++◌, Bool, true, false, cond, eqb, map, length, refl, sym, ap, ◌∙◌, subst, arith, ◌==◌, All, Contains, nat_eq, Option, Some, IsTrue}
 use Rattle.std.specs.List.{AllByRecursion, IsDistinct}
@@ -14,12 +14,12 @@ use Rattle.measure_agg.specs.Aggregate.{Aggregate}
 use Rattle.row_ledger.specs.Bounds.{may}
 use Rattle.row_ledger.specs.Past.{Ack, Insert, acked, acked_into, before, begun, ends_with, insert_at, insert_in, last_of}
 use Rattle.row_ledger.specs.Right.{EachEvent, Stands}
-use Rattle.row_ledger.specs.Shards.{comes_from}
+use Rattle.row_ledger.specs.Shards.{comes_from, is_on}
 use Rattle.row_ledger.specs.Work.{AreReadOf}
 use Rattle.row_ledger.specs.declared.event.Event.{Event}
 use Rattle.row_ledger.specs.declared.event.Event.TheVariants.{Begun}
 use Rattle.row_ledger.proofs.Answering.{All-acked_before}
-use Rattle.row_ledger.proofs.Descent.{live-last, live-made}
+use Rattle.row_ledger.proofs.Descent.{comes_from-self, live-last, live-made}
 use Rattle.row_ledger.proofs.Elements.{Contains-filter, Contains-filtered, IsTrue-filtered, Contains-nil}
 use Rattle.row_ledger.proofs.Older.{begun-older}
 use Rattle.tree_shape.specs.Counts.{Each, same, times}
@@ -28,16 +28,15 @@ use Rattle.tree_shape.specs.Shape.{numbers}
 use Rattle.tree_shape.proofs.Visits.{times-append}
 use Rattle.tree_shape.proofs.Walks.{on_bool, eqb-eq, eqb-ne, same_is, same_not}
 use Rattle.volap_cell.specs.Ghost.{Ghost}
-use Rattle.volap_cell.specs.Growing.{table_of}
+use Rattle.volap_cell.specs.Growing.{IsUnder, table_of}
 use Rattle.volap_cell.specs.Invariant.{InvWith}
 use Rattle.volap_cell.specs.Setting.{Setting, site_in}
 use Rattle.volap_cell.specs.Stocking.{cells_at}
-use Rattle.volap_cell.specs.Values.{JobValue}
 use Rattle.volap_cell.specs.View.{View, view, row_or}
 use Rattle.volap_cell.specs.World.{World}
 use Rattle.volap_cell.proofs.Counting.{length-few, passing, passing-once}
 use Rattle.volap_cell.proofs.Knowing.{acked-begun}
-use Rattle.core_admin.proofs.FrozenGates.{IsGateOf, gate-of, placed-within}
+use Rattle.core_admin.proofs.FrozenGates.{IsGateOf, began-within, gate-on}
 
 -- Lists of rows.
 
@@ -103,7 +102,7 @@ last-there x [] ends = absurd (let never : false ≡ true = ends in cc)
 last-there x (y ∷ []) ends = eqb-eq y x ends
 last-there x (y ∷ z ∷ path) ends = last-there x (z ∷ path) ends
 
-module _ (gates : GateLaw) (s : Setting) (w : World) (g : Ghost) (i : InvWith s (view s w) g) (n : ℕ) (job : JobValue) (is_job : (w.actors n).job ≡ Some job) where
+module _ (gates : GateLaw) (s : Setting) (w : World) (g : Ghost) (i : InvWith s (view s w) g) (shard worker : ℕ) (on : is_on s.workers (view s w).history shard worker ≡ true) where
   abbrev v : View
   v = view s w
 
@@ -111,27 +110,27 @@ module _ (gates : GateLaw) (s : Setting) (w : World) (g : Ghost) (i : InvWith s 
   h = v.history
 
   abbrev c : ℕ
-  c = g.gate job.shard
+  c = g.gate shard
 
   abbrev there : ℕ → Bool
   there = (g.shape c).placed
 
-  its : IsGateOf s v g job.shard job.worker c
-  its = gate-of s v g i n job is_job
+  its : IsGateOf s v g shard worker c
+  its = gate-on s v g i shard worker on
 
   tree-placed : (r : ℕ) → there r ≡ true → g.placed r ≡ true
   tree-placed r pl =
-      let one = i.placing.one job.shard r its.live in
+      let one = i.placing.one shard r its.live in
       let count : ◌≡◌ {A = ℕ} (cond (there r) 1 0) 1 = ap (λ (b : Bool). cond b 1 0) pl in
       on_bool (g.placed r) (λ q. q)
-      (λ q. let z : ◌≡◌ {A = ℕ} (cond (g.placed r) (same (g.home r) job.shard) 0) 0 = ap (λ (b : Bool). cond b (same (g.home r) job.shard) 0) q in absurd (omega (arith, one, z, count)))
+      (λ q. let z : ◌≡◌ {A = ℕ} (cond (g.placed r) (same (g.home r) shard) 0) 0 = ap (λ (b : Bool). cond b (same (g.home r) shard) 0) q in absurd (omega (arith, one, z, count)))
 
   -- the numbers of the rows in its tree
   abbrev pub in_tree : List ℕ
   in_tree = passing there (length h)
 
   pub in-tree-once : (r : ℕ) → times r in_tree ≡ cond (there r) 1 0
-  in-tree-once = passing-once there (length h) (λ r pl. placed-within s v g i n job is_job r (tree-placed r pl))
+  in-tree-once = passing-once there (length h) (λ r pl. began-within s v g i r (tree-placed r pl))
 
   in-tree-there : (r : ℕ) → 1 ≤ times r in_tree → there r ≡ true
   in-tree-there r some =
@@ -159,24 +158,24 @@ module _ (gates : GateLaw) (s : Setting) (w : World) (g : Ghost) (i : InvWith s 
       let tree : times r (numbers (map v.row in_tree)) ≡ cond (there r) 1 0 = ap (times r) row-numbers ∙ in-tree-once r in
       omega (arith, parts, tree)
 
-  pub one-place : (r : ℕ) → times r (numbers rows) ≡ cond (g.placed r) (same (g.home r) job.shard) 0
-  one-place r = count-rows r ∙ i.placing.one job.shard r its.live
+  pub one-place : (r : ℕ) → times r (numbers rows) ≡ cond (g.placed r) (same (g.home r) shard) 0
+  one-place r = count-rows r ∙ i.placing.one shard r its.live
 
-  rows-once : (r : ℕ) → times r (numbers rows) ≤ 1
+  pub rows-once : (r : ℕ) → times r (numbers rows) ≤ 1
   rows-once r =
       let one = one-place r in
       on_bool (g.placed r)
-      (λ q. let z : cond (g.placed r) (same (g.home r) job.shard) 0 ≡ same (g.home r) job.shard = ap (λ (b : Bool). cond b (same (g.home r) job.shard) 0) q in
-      on_bool (eqb (g.home r) job.shard)
-      (λ e. let k = same_is (g.home r) job.shard (eqb-eq _ _ e) in omega (arith, one, z, k))
-      (λ e. let k = same_not (g.home r) job.shard (eqb-ne _ _ e) in omega (arith, one, z, k)))
-      (λ q. let z : ◌≡◌ {A = ℕ} (cond (g.placed r) (same (g.home r) job.shard) 0) 0 = ap (λ (b : Bool). cond b (same (g.home r) job.shard) 0) q in omega (arith, one, z))
+      (λ q. let z : cond (g.placed r) (same (g.home r) shard) 0 ≡ same (g.home r) shard = ap (λ (b : Bool). cond b (same (g.home r) shard) 0) q in
+      on_bool (eqb (g.home r) shard)
+      (λ e. let k = same_is (g.home r) shard (eqb-eq _ _ e) in omega (arith, one, z, k))
+      (λ e. let k = same_not (g.home r) shard (eqb-ne _ _ e) in omega (arith, one, z, k)))
+      (λ q. let z : ◌≡◌ {A = ℕ} (cond (g.placed r) (same (g.home r) shard) 0) 0 = ap (λ (b : Bool). cond b (same (g.home r) shard) 0) q in omega (arith, one, z))
 
   rows-placed : (r : ℕ) → 1 ≤ times r (numbers rows) → g.placed r ≡ true
   rows-placed r some =
       let one = one-place r in
       on_bool (g.placed r) (λ q. q)
-      (λ q. let z : ◌≡◌ {A = ℕ} (cond (g.placed r) (same (g.home r) job.shard) 0) 0 = ap (λ (b : Bool). cond b (same (g.home r) job.shard) 0) q in absurd (omega (arith, one, z, some)))
+      (λ q. let z : ◌≡◌ {A = ℕ} (cond (g.placed r) (same (g.home r) shard) 0) 0 = ap (λ (b : Bool). cond b (same (g.home r) shard) 0) q in absurd (omega (arith, one, z, some)))
 
   -- how many there are
   pub rows-count : length rows ≡ (v.trees c).agg.count + length queued
@@ -184,7 +183,7 @@ module _ (gates : GateLaw) (s : Setting) (w : World) (g : Ghost) (i : InvWith s 
 
   pub rows-few : length rows ≤ length h
   rows-few =
-      let most = length-few (numbers rows) (length h) rows-once (λ r some. placed-within s v g i n job is_job r (rows-placed r some)) in
+      let most = length-few (numbers rows) (length h) rows-once (λ r some. began-within s v g i r (rows-placed r some)) in
       let long = length-map rows (λ (x : Row). x.no) in
       omega (arith, most, long)
 
@@ -207,32 +206,56 @@ module _ (gates : GateLaw) (s : Setting) (w : World) (g : Ghost) (i : InvWith s 
       let is : ins.row ≡ r = sym (ap row_or at) ∙ named in
       Contains-filter (λ (x : Row). g.placed x.no) (begun h) r (subst (Contains (begun h)) is (begun-there h r.no ins at)) pl
 
-  -- a row that was acknowledged into the shard is one of them
-  is-there : (k : Ack) → Contains (acked h) k → IsTrue (ends_with job.shard k.path) → Contains rows k.row
-  is-there k has ends =
-      let (placed, path, nobody) = i.placing.acked_rows k has in
-      let last : last_of (g.path k.row.no) ≡ job.shard = ap last_of path ∙ last-there job.shard k.path ends in
-      let comes = subst (λ (x : ℕ). IsTrue (comes_from h x (g.home k.row.no))) last (i.placing.line k.row.no placed).1 in
+  -- a row of the shard that was acknowledged is one of them; so is one that was acknowledged into it
+  own-there : (k : Ack) → Contains (acked h) k → IsUnder h g.placed g.home shard k.row.no → Contains rows k.row
+  own-there k has under =
+      let placed = under.is_placed in
       let each : EachEvent (Stands (site_in s) g.placed) h = i.telling.right.right.each in
-      let home : g.home k.row.no ≡ job.shard = live-last (site_in s) g.placed h job.shard (g.home k.row.no) each its.live (live-made (site_in s) g.placed h (g.home k.row.no) each (i.placing.stands k.row.no placed)) comes in
+      let home : g.home k.row.no ≡ shard = live-last (site_in s) g.placed h shard (g.home k.row.no) each its.live (live-made (site_in s) g.placed h (g.home k.row.no) each (i.placing.stands k.row.no placed)) under.comes in
       let one = one-place k.row.no in
-      let z : cond (g.placed k.row.no) (same (g.home k.row.no) job.shard) 0 ≡ same (g.home k.row.no) job.shard = ap (λ (b : Bool). cond b (same (g.home k.row.no) job.shard) 0) placed in
-      let k1 = same_is (g.home k.row.no) job.shard home in
+      let z : cond (g.placed k.row.no) (same (g.home k.row.no) shard) 0 ≡ same (g.home k.row.no) shard = ap (λ (b : Bool). cond b (same (g.home k.row.no) shard) 0) placed in
+      let k1 = same_is (g.home k.row.no) shard home in
       let (r, among, number) = row-of rows k.row.no (omega (arith, one, z, k1)) in
       let named = All-contains (λ (x : Row). v.row x.no ≡ x) rows r rows-named among in
       let begins = acked-begun (site_in s) g.placed h k each has in
       let is : r ≡ k.row = sym named ∙ ap v.row number ∙ ap row_or begins in
       subst (Contains rows) is among
 
-  pub rows-read : (of : ℕ) → AreReadOf g.placed (before h of) h job.shard rows
+  is-there : (k : Ack) → Contains (acked h) k → IsTrue (ends_with shard k.path) → Contains rows k.row
+  is-there k has ends =
+      let (placed, path, nobody) = i.placing.acked_rows k has in
+      let last : last_of (g.path k.row.no) ≡ shard = ap last_of path ∙ last-there shard k.path ends in
+      own-there k has (record { is_placed = placed; comes = subst (λ (x : ℕ). IsTrue (comes_from h x (g.home k.row.no))) last (i.placing.line k.row.no placed).1 })
+
+  pub rows-allowed : All (Contains (may g.placed h)) rows
+  rows-allowed = All-weaker (Contains rows) (Contains (may g.placed h))
+      (λ r has. is-allowed r (All-contains (λ (x : Row). v.row x.no ≡ x) rows r rows-named has) (rows-placed r.no (row-counts rows r has))) rows (All-contains_itself rows)
+
+  -- a row that is counted is of the shard
+  is-under : (r : ℕ) → 1 ≤ times r (numbers rows) → IsUnder h g.placed g.home shard r
+  is-under r some =
+      let one = one-place r in
+      let pl = rows-placed r some in
+      let z : cond (g.placed r) (same (g.home r) shard) 0 ≡ same (g.home r) shard = ap (λ (b : Bool). cond b (same (g.home r) shard) 0) pl in
+      let home : g.home r ≡ shard = on_bool (eqb (g.home r) shard) (λ q. eqb-eq _ _ q) (λ q. let none = same_not (g.home r) shard (eqb-ne _ _ q) in absurd (omega (arith, one, z, some, none))) in
+      record { is_placed = pl; comes = ap (comes_from h shard) home ∙ comes_from-self h shard }
+
+  pub rows-under : All (λ (r : Row). IsUnder h g.placed g.home shard r.no) rows
+  rows-under = All-weaker (Contains rows) (λ (r : Row). IsUnder h g.placed g.home shard r.no) (λ r has. is-under r.no (row-counts rows r has)) rows (All-contains_itself rows)
+
+  pub rows-own : (of : ℕ) → All (λ (k : Ack). IsUnder h g.placed g.home shard k.row.no → Contains rows k.row) (acked (before h of))
+  rows-own of = All-weaker (Contains (acked (before h of))) (λ (k : Ack). IsUnder h g.placed g.home shard k.row.no → Contains rows k.row)
+      (λ k has. own-there k (All-contains (Contains (acked h)) (acked (before h of)) k (All-acked_before (Contains (acked h)) h of (All-contains_itself (acked h))) has))
+      (acked (before h of)) (All-contains_itself (acked (before h of)))
+
+  pub rows-read : (of : ℕ) → AreReadOf g.placed (before h of) h shard rows
   rows-read of = record {
     once = distinct-of (numbers rows) rows-once;
-    allowed = All-weaker (Contains rows) (Contains (may g.placed h))
-        (λ r has. is-allowed r (All-contains (λ (x : Row). v.row x.no ≡ x) rows r rows-named has) (rows-placed r.no (row-counts rows r has))) rows (All-contains_itself rows);
-    came = All-weaker (Contains (acked_into job.shard (before h of))) (λ (k : Ack). Contains rows k.row)
-        (λ k has. is-there k (All-contains (Contains (acked h)) (acked (before h of)) k (All-acked_before (Contains (acked h)) h of (All-contains_itself (acked h))) (Contains-filtered (λ (a : Ack). ends_with job.shard a.path) (acked (before h of)) k has))
-        (IsTrue-filtered (λ (a : Ack). ends_with job.shard a.path) (acked (before h of)) k has))
-        (acked_into job.shard (before h of)) (All-contains_itself (acked_into job.shard (before h of)));
+    allowed = rows-allowed;
+    came = All-weaker (Contains (acked_into shard (before h of))) (λ (k : Ack). Contains rows k.row)
+        (λ k has. is-there k (All-contains (Contains (acked h)) (acked (before h of)) k (All-acked_before (Contains (acked h)) h of (All-contains_itself (acked h))) (Contains-filtered (λ (a : Ack). ends_with shard a.path) (acked (before h of)) k has))
+        (IsTrue-filtered (λ (a : Ack). ends_with shard a.path) (acked (before h of)) k has))
+        (acked_into shard (before h of)) (All-contains_itself (acked_into shard (before h of)));
   }
 
   -- The set of all of them.

@@ -2,3 +2,4 @@ pub mod FreezeDue
 pub mod CollectDue
 pub mod BuildDue
 pub mod FinishDue
+pub mod LoadDue

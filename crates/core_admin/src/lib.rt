@@ -1,14 +1,16 @@
-//! The steps of the administrator's splits and moves: a shard is frozen, its rows are collected, new trees are built, and new gates
-//! take its place.
+//! The steps of the administrator: a balance reads loads and plans; a shard is frozen, its rows are collected, new trees are
+//! built, and new gates take its place.
 #![tactic(auto)]
 
 mod builds;
 mod collects;
 mod finishes;
 mod freezes;
+mod loads;
 mod trees;
 
 pub use builds::{build_block, postpone};
 pub use collects::{collect_block, collect_row};
 pub use freezes::{drained, freeze};
+pub use loads::read_load;
 pub use trees::build_trees;

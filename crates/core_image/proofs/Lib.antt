@@ -55,6 +55,7 @@ pub mod ReadOnce
 pub mod BalanceEnds
 pub mod NextAction
 pub mod NotesLeft
+pub mod RowsDivided
 pub mod PagesShown
 pub mod NotesShown
 pub mod KnownMade

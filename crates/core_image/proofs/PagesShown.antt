@@ -1,21 +1,20 @@
 -- What a page tells that is read off a state in which all rows that have passed a gate are acknowledged: it may be shown.
-use Rattle.std.proofs.Common.{◌≡◌, ◌≢◌, ℕ, ◌+◌, ◌<◌, ◌≤◌, List, [], ◌∷◌, ◌++◌, Bool, true, false, cond, eqb, length, map, refl, sym, ap, ◌∙◌, subst, arith, inl, inr, ◌==◌, All, Contains, IsTrue, eqb-true}
+use Rattle.std.proofs.Common.{◌≡◌, ◌≢◌, ℕ, ◌≤◌, List, [], ◌∷◌, ◌++◌, Bool, true, false, cond, eqb, length, map, refl, sym, ap, ◌∙◌, subst, arith, inl, inr, All, Contains, IsTrue, eqb-true}
 use Rattle.std.specs.Prelude.{nat_eq, IsPermutation, flat_map}
-use Rattle.std.specs.List.{AllByRecursion, AllZip, IsDistinct, filter, list_any, remove}
-use Rattle.std.proofs.lemmas.Bool.{cases_lt, or_cases}
+use Rattle.std.specs.List.{AllByRecursion, AllZip, IsDistinct, filter, remove}
+use Rattle.std.proofs.lemmas.Bool.{cases_lt}
 use Rattle.std.proofs.lemmas.Bool.Decides.{nat_tests}
-use Rattle.std.proofs.lemmas.List.{length-map, length-append, map-append}
+use Rattle.std.proofs.lemmas.List.{length-map, length-append}
 use Rattle.std.proofs.lemmas.List.Elements.{All-contains, All-contains_itself, All-weaker, Contains-append_cases, Contains-append_right}
 use Rattle.std.proofs.lemmas.List.Sorted.{All-permutation, IsPermutation-cons, IsPermutation-map, IsPermutation-refl, IsPermutation-remove, IsPermutation-sym, IsPermutation-trans}
 use Rattle.dim_hierarchy.specs.declared.row.Row.{Row}
 use Rattle.describing_set.specs.declared.listing.Spot.{Spot}
 use Rattle.measure_agg.proofs.AggLaws.{agg-IsPermutation}
-use Rattle.row_ledger.specs.Laws.{AscendFrom}
 use Rattle.row_ledger.specs.Listings.{places_of}
 use Rattle.row_ledger.specs.Pages.{AreShownShards, IsPageOf, IsShardLine, IsShown, IsShownAudit, IsShownTree, places_shown}
 use Rattle.row_ledger.specs.Past.{Ack, acked, acked_into, acked_rows, ends_with, last_of}
 use Rattle.row_ledger.specs.Right.{EachEvent, Stands}
-use Rattle.row_ledger.specs.Shards.{Place, comes_from, frontier, is_live, is_of, place}
+use Rattle.row_ledger.specs.Shards.{comes_from, place}
 use Rattle.row_ledger.specs.declared.event.Event.{Event}
 use Rattle.row_ledger.specs.declared.event.Event.TheVariants.{Called}
 use Rattle.row_ledger.specs.declared.page.AuditLine.{AuditLine}
@@ -25,7 +24,6 @@ use Rattle.row_ledger.specs.declared.page.ShardLine.{ShardLine}
 use Rattle.row_ledger.specs.declared.page.TreePage.{TreePage}
 use Rattle.row_ledger.specs.declared.settings.Call.{Call}
 use Rattle.row_ledger.specs.Site.{Site}
-use Rattle.row_ledger.proofs.Ascent.{frontier-ascends}
 use Rattle.row_ledger.proofs.Descent.{live-last, live-made}
 use Rattle.row_ledger.proofs.Elements.{Contains-filtered, Contains-map, Contains-mapped, Contains-nil, IsTrue-filtered}
 use Rattle.row_ledger.proofs.Ended.{acked-distinct}
@@ -33,7 +31,6 @@ use Rattle.tree_shape.specs.Counts.{Each, same, times}
 use Rattle.tree_shape.specs.Shape.{numbers}
 use Rattle.tree_shape.proofs.Parts.{total-permuted}
 use Rattle.tree_shape.proofs.Totals.{length-le}
-use Rattle.tree_shape.proofs.Visits.{times-append}
 use Rattle.tree_shape.proofs.Walks.{on_bool, eqb-eq, eqb-ne, same_is, same_not}
 use Rattle.volap_cell.specs.Ghost.{Ghost}
 use Rattle.volap_cell.specs.Invariant.{InvWith}
@@ -43,6 +40,7 @@ use Rattle.volap_cell.specs.View.{View, view, row_at}
 use Rattle.volap_cell.specs.World.{World}
 use Rattle.volap_cell.proofs.AckedHistory.{Contains-first}
 use Rattle.core_image.proofs.Answered.{distinct-once}
+use Rattle.core_image.proofs.RowsDivided.{count-parts, count-rows, home-once, its-gate}
 use Rattle.core_image.proofs.Valid.{acked-placed}
 
 -- Rows and their numbers.
@@ -128,36 +126,6 @@ last-there x [] ends = absurd (let never : false ≡ true = ends in cc)
 last-there x (y ∷ []) ends = eqb-true y x ends
 last-there x (y ∷ z ∷ path) ends = last-there x (z ∷ path) ends
 
--- Places in the order of their ids.
-
-abbrev ids_of : List Place → List ℕ
-ids_of places = map (λ (p : Place). p.shard) places
-
-standing-some : (x : ℕ) (places : List Place) → list_any (is_of x) places ≡ true → 1 ≤ times x (ids_of places)
-standing-some x [] live = absurd (let never : false ≡ true = live in cc)
-standing-some x (p ∷ places) live = elim (or_cases (p.shard == x) (list_any (is_of x) places) live) [
-  | inl here ↦ let one = same_is x p.shard (sym (eqb-true p.shard x here)) in omega (arith, one)
-  | inr later ↦ let rest = standing-some x places later in omega (arith, rest)
-]
-
-above-none : (x from : ℕ) (places : List Place) → AscendFrom from places → x < from → times x (ids_of places) ≡ 0
-above-none x from [] ascend less = refl
-above-none x from (p ∷ places) ascend less =
-    let first : from ≤ p.shard = ascend.0 in
-    let none = same_not x p.shard (λ is. absurd (omega (arith, first, less, is))) in
-    let rest = above-none x (p.shard + 1) places ascend.1 (omega (arith, first, less)) in
-    omega (arith, none, rest)
-
-ascend-few : (x from : ℕ) (places : List Place) → AscendFrom from places → times x (ids_of places) ≤ 1
-ascend-few x from [] ascend = omega arith
-ascend-few x from (p ∷ places) ascend = on_bool (eqb x p.shard)
-    (λ q. let is = eqb-eq x p.shard q in let one = same_is x p.shard is in let none = above-none x (p.shard + 1) places ascend.1 (omega (arith, is)) in omega (arith, one, none))
-    (λ q. let none = same_not x p.shard (eqb-ne x p.shard q) in let rest = ascend-few x (p.shard + 1) places ascend.1 in omega (arith, none, rest))
-
-ids-same : (spots : List Spot) → ids_of (places_of spots) ≡ map (λ (spot : Spot). spot.shard) spots
-ids-same [] = refl
-ids-same (spot ∷ spots) = let rest = ids-same spots in λ k. spot.shard ∷ rest k
-
 -- what is so or not is at most one
 one-or-none : (b : Bool) (x y : ℕ) → cond b (same x y) 0 ≤ 1
 one-or-none false x y = omega arith
@@ -190,17 +158,6 @@ module _ (s : Setting) (w : World) (g : Ghost) (i : InvWith s (view s w) g) (set
     abbrev rows : List Row
     rows = tree ++ queue
 
-    its-gate : (is_live s.workers h x ≡ true) × (g.gate x ≡ has.gate)
-    its-gate = i.lineage.live has.gate x has.is_gate has.stands
-
-    count-rows : (n : ℕ) → times n (numbers rows) ≡ cond (g.placed n) (same (g.home n) x) 0
-    count-rows n =
-        let both : times n (numbers rows) ≡ times n (numbers tree) + times n (numbers queue) = ap (times n) (map-append (λ (y : Row). y.no) tree queue) ∙ times-append n (numbers tree) (numbers queue) in
-        let in_tree : times n (numbers tree) ≡ cond ((g.shape has.gate).placed n) 1 0 = has.tree_is (g.shape has.gate) (i.growing.tree has.gate (rw has.is_gate refl, inl has.stands)) n in
-        let in_queue : times n (numbers (v.queues has.gate).rows) ≡ times n (numbers queue) = ap (λ (ys : List Row). times n (numbers ys)) has.queue_is in
-        let one = subst (λ (c : ℕ). cond ((g.shape c).placed n) 1 0 + times n (numbers (v.queues c).rows) ≡ cond (g.placed n) (same (g.home n) x) 0) its-gate.1 (i.placing.one x n its-gate.0) in
-        omega (arith, both, in_tree, in_queue, one)
-
     named-rows : (r : Row) → Contains rows r → v.row r.no ≡ r
     named-rows r c = elim (Contains-append_cases tree queue r c) [
       | inl t ↦ each-has (λ (y : Row). v.row y.no ≡ y) tree r has.named t
@@ -210,10 +167,10 @@ module _ (s : Setting) (w : World) (g : Ghost) (i : InvWith s (view s w) g) (set
     placed-rows : (r : Row) → Contains rows r → g.placed r.no ≡ true
     placed-rows r c = on_bool (g.placed r.no)
         (λ q. q)
-        (λ q. let some = row-counts rows r c in let none : times r.no (numbers rows) ≡ 0 = count-rows r.no ∙ rw q refl in absurd (omega (arith, some, none)))
+        (λ q. let some = row-counts rows r c in let none : times r.no (numbers rows) ≡ 0 = count-rows s w g i x tree queue has r.no ∙ rw q refl in absurd (omega (arith, some, none)))
 
     once-rows : (n : ℕ) → times n (numbers rows) ≤ 1
-    once-rows n = (let counted = count-rows n in let few = one-or-none (g.placed n) (g.home n) x in omega (arith, counted, few))
+    once-rows n = (let counted = count-rows s w g i x tree queue has n in let few = one-or-none (g.placed n) (g.home n) x in omega (arith, counted, few))
 
     -- a row that came to the shard is in it
     came : (k : Ack) → Contains (acked h) k → IsTrue (ends_with x k.path) → Contains rows k.row
@@ -224,8 +181,8 @@ module _ (s : Setting) (w : World) (g : Ghost) (i : InvWith s (view s w) g) (set
         let last : last_of (g.path k.row.no) ≡ x = ap last_of there.1 ∙ last-there x k.path ends in
         let comes : comes_from h x (g.home k.row.no) ≡ true = subst (λ (y : ℕ). comes_from h y (g.home k.row.no) ≡ true) last line.1 in
         let made = live-made (site_in s) g.placed h (g.home k.row.no) each (i.placing.stands k.row.no p) in
-        let home : g.home k.row.no ≡ x = live-last (site_in s) g.placed h x (g.home k.row.no) each its-gate.0 made comes in
-        let one : times k.row.no (numbers rows) ≡ 1 = count-rows k.row.no ∙ (rw p (same_is (g.home k.row.no) x home)) in
+        let home : g.home k.row.no ≡ x = live-last (site_in s) g.placed h x (g.home k.row.no) each (its-gate s w g i x tree queue has).0 made comes in
+        let one : times k.row.no (numbers rows) ≡ 1 = count-rows s w g i x tree queue has k.row.no ∙ (rw p (same_is (g.home k.row.no) x home)) in
         let found = row-of rows k.row.no (omega (arith, one)) in
         let is : found.0 ≡ k.row = sym (named-rows found.0 found.1) ∙ ap (row_at h) found.2 ∙ (acked-placed s w g i k has_k).1 in
         subst (Contains rows) is found.1
@@ -287,22 +244,6 @@ module _ (s : Setting) (w : World) (g : Ghost) (i : InvWith s (view s w) g) (set
 
   -- Of all shards.
 
-  count-parts : (spots : List Spot) (parts : List (List Row)) → AllZip (HasAll s v) spots parts → (n : ℕ) → times n (numbers (flat_map (λ rows. rows) parts)) ≡ cond (g.placed n) (times (g.home n) (map (λ (spot : Spot). spot.shard) spots)) 0
-  count-parts [] [] all n = on_bool (g.placed n) (λ q. rw q refl) (λ q. rw q refl)
-  count-parts [] (part ∷ parts) all n = absurd all
-  count-parts (spot ∷ spots) [] all n = absurd all
-  count-parts (spot ∷ spots) (part ∷ parts) all n =
-      let (tree, queue, has, is) = all.0 in
-      let here : times n (numbers part) ≡ cond (g.placed n) (same (g.home n) spot.shard) 0 = ap (λ (ys : List Row). times n (numbers ys)) is ∙ count-rows spot.shard tree queue has n in
-      let rest = count-parts spots parts all.1 n in
-      let both : times n (numbers (part ++ flat_map (λ rows. rows) parts)) ≡ times n (numbers part) + times n (numbers (flat_map (λ rows. rows) parts)) =
-      ap (times n) (map-append (λ (y : Row). y.no) part (flat_map (λ rows. rows) parts)) ∙ times-append n (numbers part) (numbers (flat_map (λ rows. rows) parts)) in
-      added (g.placed n) (same (g.home n) spot.shard) (times (g.home n) (map (λ (y : Spot). y.shard) spots)) _ _ _ both here rest
-    where
-      added : (b : Bool) (x y sum one more : ℕ) → sum ≡ one + more → one ≡ cond b x 0 → more ≡ cond b y 0 → sum ≡ cond b (x + y) 0
-      added true x y sum one more a c d = omega (arith, a, c, d)
-      added false x y sum one more a c d = omega (arith, a, c, d)
-
   named-parts : (spots : List Spot) (parts : List (List Row)) → AllZip (HasAll s v) spots parts → (r : Row) → Contains (flat_map (λ rows. rows) parts) r → v.row r.no ≡ r
   named-parts [] [] all r c = absurd (Contains-nil r c)
   named-parts [] (part ∷ parts) all r c = absurd all
@@ -311,15 +252,6 @@ module _ (s : Setting) (w : World) (g : Ghost) (i : InvWith s (view s w) g) (set
     | inl here ↦ (let (tree, queue, has, is) = all.0 in named-rows spot.shard tree queue has r (subst (λ (ys : List Row). Contains ys r) is here))
     | inr later ↦ named-parts spots parts all.1 r later
   ]
-
-  -- the home of a row stands, once
-  home-once : (n : ℕ) → g.placed n ≡ true → times (g.home n) (map (λ (spot : Spot). spot.shard) v.registry.frontier) ≡ 1
-  home-once n p =
-      let ids : ids_of (frontier s.workers h) ≡ map (λ (spot : Spot). spot.shard) v.registry.frontier = ap ids_of (sym i.lineage.front) ∙ ids-same v.registry.frontier in
-      let counted : times (g.home n) (ids_of (frontier s.workers h)) ≡ times (g.home n) (map (λ (spot : Spot). spot.shard) v.registry.frontier) = ap (times (g.home n)) ids in
-      let some = standing-some (g.home n) (frontier s.workers h) (i.placing.stands n p) in
-      let few = ascend-few (g.home n) 0 (frontier s.workers h) (frontier-ascends (site_in s) g.placed h each) in
-      omega (arith, counted, some, few)
 
   count-acked : (n : ℕ) → times n (numbers (acked_rows h)) ≡ cond (g.placed n) 1 0
   count-acked n = on_bool (g.placed n)
@@ -343,7 +275,7 @@ module _ (s : Setting) (w : World) (g : Ghost) (i : InvWith s (view s w) g) (set
 
   divided : (parts : List (List Row)) → AllZip (HasAll s v) v.registry.frontier parts → IsPermutation (acked_rows h) (flat_map (λ rows. rows) parts)
   divided parts all = same-rows v.row (acked_rows h) (flat_map (λ rows. rows) parts) named-acked (named-parts v.registry.frontier parts all)
-      (λ n. count-acked n ∙ (on_bool (g.placed n) (λ q. (rw q (sym (home-once n q)))) (λ q. rw q refl)) ∙ sym (count-parts v.registry.frontier parts all n))
+      (λ n. count-acked n ∙ (on_bool (g.placed n) (λ q. (rw q (sym (home-once s w g i n q)))) (λ q. rw q refl)) ∙ sym (count-parts s w g i v.registry.frontier parts all n))
 
   audit-shown : (audit : AuditLine) → SeesAudit s v audit → IsShownAudit (site_in s) h audit
   audit-shown audit sees = record {

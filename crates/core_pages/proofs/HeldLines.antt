@@ -1,5 +1,5 @@
 -- The lines of the shards that stand: the registry and the tables are those of the state, and lead to the gates of these shards.
-use Rattle.std.proofs.Common.{ℕ, ◌≡◌, ◌==◌, ◌&&◌, ◌||◌, true, false, List, [], ◌∷◌, length, All, Option, Some, None, get_or, inl, inr, refl, sym, ap, ◌∙◌, subst}
+use Rattle.std.proofs.Common.{ℕ, ◌≡◌, ◌==◌, ◌&&◌, ◌||◌, true, false, List, [], ◌∷◌, ◌++◌, length, All, Option, Some, None, get_or, inl, inr, refl, sym, ap, ◌∙◌, subst}
 use Rattle.std.specs.Prelude.{IsSome, option_and_then}
 use Rattle.std.specs.List.{AllZip, list_any}
 use Rattle.std.proofs.lemmas.Bool.{cases_lt, eq-eqb, or_right}
@@ -10,7 +10,8 @@ use Rattle.describing_set.specs.declared.listing.Spot.{Spot}
 use Rattle.dim_hierarchy.specs.Dimension.{Dimension}
 use Rattle.dim_hierarchy.specs.declared.row.Row.{Row}
 use Rattle.mapping_table.specs.declared.place.Where.{Where}
-use Rattle.measure_agg.specs.Aggregate.{Aggregate}
+use Rattle.measure_agg.specs.Aggregate.{Aggregate, agg, join}
+use Rattle.measure_agg.proofs.AggLaws.{agg-append}
 use Rattle.row_ledger.specs.Listings.{places_of}
 use Rattle.row_ledger.specs.Shards.{Place, is_of, is_on}
 use Rattle.row_ledger.specs.declared.page.ShardLine.{ShardLine}
@@ -22,7 +23,7 @@ use Rattle.volap_cell.specs.Cells.{CellValue, OfStock, TheLedger, TheStock, TheR
 use Rattle.volap_cell.specs.Ghost.{Ghost}
 use Rattle.volap_cell.specs.Invariant.{InvWith}
 use Rattle.volap_cell.specs.Setting.{Setting, map_cell, registry_cell}
-use Rattle.volap_cell.specs.Sights.{HasRows, SeesLine}
+use Rattle.volap_cell.specs.Sights.{HasAll, HasRows, SeesLine}
 use Rattle.volap_cell.specs.State.{HasInv, IsWorldOf}
 use Rattle.volap_cell.specs.Steps.{Inv}
 use Rattle.volap_cell.specs.View.{View, view}
@@ -33,7 +34,8 @@ use Rattle.volap_cell.specs.declared.cell.Cell.TheVariants as cell
 use Rattle.volap_cell.proofs.Holding.{has-own-place}
 use Rattle.volap_cell.proofs.States.{stands}
 use Rattle.core_pages.specs.Held.{gate_held}
-use Rattle.core_pages.specs.HeldLines.{HasGate, HasLine, IsLineOf, gate_by_table, gate_cell_of, registry_held, where_held}
+use Rattle.core_pages.specs.HeldLines.{HasGate, HasLine, IsLineOf, LeadsToGate, gate_by_table, gate_cell_of, registry_held, where_held}
+use Rattle.core_pages.specs.HeldRows.{agg_at, agg_of_one}
 use Rattle.core_pages.specs.Seen.{AreSeenIn, CanSee, IsQuietIn}
 use Rattle.core_pages.proofs.HeldTrees.{gate-cell, gate-there, has-rows, queue-is, tree-sums, tree_rows}
 
@@ -79,10 +81,10 @@ module _ (cells : List (Option Cell)) (actors : List (Option Actor)) (s : Settin
       let k = stands (get_or cells registry_cell None) (λ c. cell_of c ≡ w.cells registry_cell) (is.cell registry_cell lt) in
       ap registry_held k.1 ∙ is-registry k.0 (ap tag_of k.2 ∙ tag) ∙ ap (λ (c : CellValue). Some (registry_in c)) k.2
 
-  abbrev IsThere : Spot → Type 0
+  abbrev pub IsThere : Spot → Type 0
   IsThere spot = is_on s.workers v.history spot.shard spot.worker ≡ true
 
-  all-there : Each IsThere v.registry.frontier
+  pub all-there : Each IsThere v.registry.frontier
   all-there = each-here IsThere v.registry.frontier (λ spot among.
       subst (λ (places : List Place). list_any (λ (p : Place). is_of spot.shard p && (p.worker == spot.worker)) places ≡ true) inv.lineage.front (any-place v.registry.frontier spot among))
 
@@ -108,6 +110,23 @@ module _ (cells : List (Option Cell)) (actors : List (Option Actor)) (s : Settin
     abbrev rows : List Row
     rows = tree_rows cells actors s w ghost is inv at can gate its.1
 
+    its-rows : HasRows s v spot.shard rows gate.queue.rows
+    its-rows =
+        let both : Some gate.shard ≡ Some spot.shard = sym (ap gate_shard (gate-cell cells actors w is at gate its.1)) ∙ (inv.lineage.gate_of spot.shard spot.worker there).1 in
+        let shard_is : gate.shard ≡ spot.shard = cc in
+        subst (λ (x : ℕ). HasRows s v x rows gate.queue.rows) shard_is (has-rows cells actors s w ghost is inv at can gate its.1)
+
+    -- what an audit reads of it
+    pub its-part : (part : List Row) × HasAll s v spot part × LeadsToGate s.servers cells spot × (agg_at s.servers cells spot ≡ agg part)
+    its-part =
+        let tree_agg : gate.agg ≡ agg rows = (tree-sums cells actors s w ghost is inv at can gate its.1).agg in
+        let queue_agg : gate.queue.agg ≡ agg gate.queue.rows = (queue-is cells actors s w ghost is inv at can gate its.1).summary.agg in (
+          rows ++ gate.queue.rows,
+          (rows, gate.queue.rows, its-rows, refl),
+          subst IsSome (sym by-table) refl,
+          ap agg_of_one by-table ∙ (λ k. join (tree_agg k) (queue_agg k)) ∙ sym (agg-append rows gate.queue.rows),
+        )
+
     its-gate : HasGate s.hierarchy s.servers cells spot
     its-gate =
         let sums = tree-sums cells actors s w ghost is inv at can gate its.1 in
@@ -119,28 +138,22 @@ module _ (cells : List (Option Cell)) (actors : List (Option Actor)) (s : Settin
         }
 
     its-line : (line : ShardLine) → HasLine s.hierarchy s.servers cells spot line → SeesLine s v spot line
-    its-line line has =
-        let found : Some has.gate ≡ Some gate = sym has.is_gate ∙ by-table in
-        let same : has.gate ≡ gate = cc in
-        let is_line : IsLineOf s.hierarchy spot gate line = subst (λ (g : Gate). IsLineOf s.hierarchy spot g line) same has.is_line in
+    its-line line with_gate =
+        let found : Some with_gate.gate ≡ Some gate = sym with_gate.is_gate ∙ by-table in
+        let same : with_gate.gate ≡ gate = cc in
+        let is_line : IsLineOf s.hierarchy spot gate line = subst (λ (g : Gate). IsLineOf s.hierarchy spot g line) same with_gate.is_line in
         let sums = tree-sums cells actors s w ghost is inv at can gate its.1 in
         let queued = (queue-is cells actors s w ghost is inv at can gate its.1).summary in
-        let of_spot : gate.shard ≡ spot.shard = shard-is in
         record {
           shard = is_line.shard;
           worker = is_line.worker;
           tree = rows;
           queue = gate.queue.rows;
-          has = subst (λ (x : ℕ). HasRows s v x rows gate.queue.rows) of_spot (has-rows cells actors s w ghost is inv at can gate its.1);
+          has = its-rows;
           rows = is_line.rows ∙ ap (λ (a : Aggregate). a.count) sums.agg;
           queued = is_line.queued;
           set = rw map-append (is_line.set.joined (coords rows) (coords gate.queue.rows) (valid_coords s.hierarchy rows sums.valid) (valid_coords s.hierarchy gate.queue.rows queued.valid) sums.set_of queued.set_of);
         }
-      where
-        shard-is : gate.shard ≡ spot.shard
-        shard-is =
-            let both : Some gate.shard ≡ Some spot.shard = sym (ap gate_shard (gate-cell cells actors w is at gate its.1)) ∙ (inv.lineage.gate_of spot.shard spot.worker there).1 in
-            cc
 
   each-gate : (spots : List Spot) → Each IsThere spots → Each (HasGate s.hierarchy s.servers cells) spots
   each-gate [] each = tt
@@ -161,7 +174,7 @@ module _ (cells : List (Option Cell)) (actors : List (Option Actor)) (s : Settin
 -- The same of whatever state the vectors are, with the cells as they were lent and the spots as they were found.
 module _ (h : List Dimension) (servers : ℕ) (cells : List (Option Cell)) (actors : List (Option Actor)) (quiet : IsQuietIn servers cells actors) (lent : List (Option Cell)) (lent_is : lent ≡ cells) (r : RegistryValue)
     (found : registry_held (get_or lent registry_cell None) ≡ Some r) (spots : List Spot) (spots_are : spots ≡ r.frontier) where
-  all-spots : (s : Setting) (w : World) → IsWorldOf cells actors w → Inv s w → spots ≡ (view s w).registry.frontier
+  pub all-spots : (s : Setting) (w : World) → IsWorldOf cells actors w → Inv s w → spots ≡ (view s w).registry.frontier
   all-spots s w is inv =
       let q = quiet s w is inv in
       let both : Some r ≡ Some (view s w).registry = sym found ∙ ap (λ (xs : List (Option Cell)). registry_held (get_or xs registry_cell None)) lent_is ∙ registry-is cells actors s w inv.ghost_of is inv.holds q.quiet in

@@ -1,3 +1,4 @@
 pub mod AnyShape
 pub mod HeldTrees
 pub mod HeldLines
+pub mod HeldRows

@@ -1,5 +1,5 @@
 -- What a page of all shards reads of the cells that one thread holds: for each spot the gate to which its worker's table leads.
-use Rattle.std.specs.Prelude.{ℕ, ◌≡◌, ◌+◌, List, length, get_or, Option, Some, None, option_and_then}
+use Rattle.std.specs.Prelude.{ℕ, ◌≡◌, ◌+◌, List, length, get_or, Option, Some, None, IsSome, option_and_then}
 use Rattle.describing_set.specs.DescSet.{IsDescSetOf, JoinsTo}
 use Rattle.describing_set.specs.declared.listing.Spot.{Spot}
 use Rattle.dim_hierarchy.specs.Dimension.{Dimension}
@@ -35,6 +35,10 @@ gate_by_table cells table_at x = option_and_then (λ at. gate_held (get_or cells
 -- the cell of a worker's table, where there are so many servers
 abbrev pub table_place : ℕ → ℕ → ℕ
 table_place servers worker = 3 + servers + servers + worker
+
+-- the table of a spot's worker leads to a gate
+abbrev pub LeadsToGate : ℕ → List (Option Cell) → Spot → Type 0
+LeadsToGate servers cells spot = IsSome (gate_by_table cells (table_place servers spot.worker) spot.shard)
 
 -- the line of a spot, by the gate of its shard
 pub record IsLineOf (h : List Dimension) (spot : Spot) (gate : Gate) (line : ShardLine) : Type 0 where

@@ -1,3 +1,4 @@
 pub mod Held
 pub mod HeldLines
+pub mod HeldRows
 pub mod Seen

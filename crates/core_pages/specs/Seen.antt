@@ -1,6 +1,7 @@
 -- When a page can be read off the cells that one thread holds, and that it is what the state has.
 use Rattle.std.specs.Prelude.{ℕ, ◌≡◌, ◌≢◌, List, Option, Some, None, IsSome}
 use Rattle.dim_hierarchy.specs.Dimension.{Dimension}
+use Rattle.row_ledger.specs.declared.page.AuditLine.{AuditLine}
 use Rattle.row_ledger.specs.declared.page.Page.TheVariants as page
 use Rattle.row_ledger.specs.declared.page.ShardLine.{ShardLine}
 use Rattle.row_ledger.specs.declared.page.TreePage.{TreePage}
@@ -44,3 +45,7 @@ IsQuietIn servers cells actors = (s : Setting) (w : World) → IsWorldOf cells a
 -- whatever state the vectors are, if it meets the invariant over these dimensions, these are the lines of its shards
 abbrev pub AreSeenIn : (h : List Dimension) (cells : List (Option Cell)) (actors : List (Option Actor)) (lines : List ShardLine) → Type 0
 AreSeenIn h cells actors lines = (s : Setting) (w : World) → s.hierarchy ≡ h → IsWorldOf cells actors w → Inv s w → SeesPage s (view s w) (page.Shards lines)
+
+-- of each such state the audit is what it has
+abbrev pub IsAuditedIn : (cells : List (Option Cell)) (actors : List (Option Actor)) (audit : AuditLine) → Type 0
+IsAuditedIn cells actors audit = (s : Setting) (w : World) → IsWorldOf cells actors w → Inv s w → SeesPage s (view s w) (page.Audit audit)

@@ -407,8 +407,8 @@ may-one s (command.Control (call.Sync server)) fits dims = record { names = tt; 
 may-one s (command.Control (call.Split shard)) fits dims = absurd (false≢true fits.0)
 may-one s (command.Control (call.Move shard worker)) fits dims = absurd (false≢true fits.0)
 may-one s (command.Control (call.Balance most)) fits dims = absurd (false≢true fits.0)
-may-one s (command.Control call.Shards) fits dims = absurd (false≢true fits.0)
-may-one s (command.Control call.Audit) fits dims = absurd (false≢true fits.0)
+may-one s (command.Control call.Shards) fits dims = record { names = tt; allowed = tt; is_run = tt }
+may-one s (command.Control call.Audit) fits dims = record { names = tt; allowed = tt; is_run = tt }
 
 of-get : {A : Type 0} (P : A → Type 0) (xs : List A) (i : ℕ) (x : A) → All P xs → slice_get xs i ≡ Some x → P x
 of-get P [] i x all at = cc

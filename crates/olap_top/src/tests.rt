@@ -102,7 +102,7 @@ fn expect_from<R: Abort + Threads + Wait + Sync>(
 #[test]
 fn scripts_and_their_answers(rt: HostRuntime) -> Result<(), Fail> {
     let alloc = rt.alloc();
-    let rows: [(&str, &str); 14] = [
+    let rows: [(&str, &str); 15] = [
         ("query,0,*\n", "1 query 0 0 - -\n"),
         (
             "insert,0,5,paris\ninsert,0,6,berlin\n",
@@ -151,6 +151,10 @@ fn scripts_and_their_answers(rt: HostRuntime) -> Result<(), Fail> {
         (
             "insert,0,5,berlin\nbarrier\nsync,0\nsync,1\nbarrier\ninsert,0,7,berlin\nbarrier\nquery,1,berlin\n",
             "1 insert ok\n2 barrier ok\n3 sync ok\n4 sync ok\n5 barrier ok\n6 insert ok\n7 barrier ok\n8 query 2 12 5 7\n",
+        ),
+        (
+            "shards\ninsert,0,5,berlin\ninsert,0,7,munich\nbarrier\nshards\naudit\n",
+            "1 shard 0 worker 0 rows 0 queued 0 box 2:\n1 shard 1 worker 1 rows 0 queued 0 box 2:\n2 insert ok\n3 insert ok\n4 barrier ok\n5 shard 0 worker 0 rows 1 queued 0 box 2:0\n5 shard 1 worker 1 rows 1 queued 0 box 2:1\n6 audit 2 12 5 7 shards 2\n",
         ),
         (
             "barrier\nquery,1,rome\ninsert,1,3,berlin",

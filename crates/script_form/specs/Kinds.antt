@@ -29,8 +29,6 @@ abbrev pub is_read : Kind → Bool
 is_read kind.Split = false
 is_read kind.Move = false
 is_read kind.Balance = false
-is_read kind.Shards = false
-is_read kind.Audit = false
 is_read _ = true
 
 abbrev pub if_read : Option Kind → Option Kind

@@ -66,7 +66,7 @@ fn is_read(kind: Kind) -> bool
     ensures { result ≡ is_read kind }
 {
     match kind {
-        Kind::Split | Kind::Move | Kind::Balance | Kind::Shards | Kind::Audit => false,
+        Kind::Split | Kind::Move | Kind::Balance => false,
         _ => true,
     }
 }

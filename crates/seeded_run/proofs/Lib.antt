@@ -52,7 +52,7 @@ pub mod DueNotes
 pub mod WorksReady
 pub mod PagesDue
 pub mod ShowsReady
-pub mod ShardsReady
+pub mod WholesReady
 pub mod DueRows
 pub mod RowsReady
 pub mod DueJobs

@@ -71,9 +71,9 @@ module _ (m : Running) (kept : IsPhaseKept m) where
   work-runs of (work_is.Split shard) job r is = may-call of (call.Split shard) is.0
   work-runs of (work_is.Move shard worker) job r is = may-call of (call.Move shard worker) is.0
   work-runs of (work_is.Balance b) job r is = may-call of (call.Balance b.most) is.0
-  work-runs of (work_is.Shards shown) job r is = may-call of call.Shards is.0
+  work-runs of (work_is.Shards shown) job r is = tt
   work-runs of (work_is.Tree shard stands shown) job r is = tt
-  work-runs of (work_is.Audit shown) job r is = may-call of call.Audit is.0
+  work-runs of (work_is.Audit shown) job r is = tt
 
   pub runs-command : (n : ℕ) → n < length m.state.actors.items → RunsCommand m.state.actors.items n
   runs-command n within c is =

@@ -37,7 +37,7 @@ use Rattle.seeded_run.specs.Core.{HasCore, IsDue}
 use Rattle.seeded_run.specs.Due.{any_below, are_known, command_kind, desk_of, due_by, first_kind, free_kind, is_alone, is_empty, is_empty_desk, kind_by_verdict, next_kind, page_kind, parts_kind, tree_kind, work_kind}
 use Rattle.seeded_run.specs.Steps.{HasCommand, IsRunWork, RunsCommand}
 use Rattle.seeded_run.specs.Look.{waits_for_others}
-use Rattle.seeded_run.specs.Shown.{HasTreeToShow, IsTreeToShow}
+use Rattle.seeded_run.specs.Shown.{HasPageOf, HasToShow, IsToShow, subject_by, subject_in, subject_of}
 use Rattle.seeded_run.specs.Told.{is_of_part}
 use Rattle.seeded_run.specs.Works.{command_by, command_of_one, has_own_note, is_at_work, is_balance_work, is_page_due}
 use Rattle.seeded_run.proofs.DueParts.{at-part-or}
@@ -143,9 +143,27 @@ open-work s history alone desk a of (work_is.Settle pulls) k run e = work-if (is
 open-work s history alone desk a of (work_is.Split shard) k run e = absurd run
 open-work s history alone desk a of (work_is.Move shard worker) k run e = absurd run
 open-work s history alone desk a of (work_is.Balance b) k run e = absurd run
-open-work s history alone desk a of (work_is.Shards shown) k run e = absurd run
+open-work s history alone desk a of (work_is.Shards shown) k run e = page-work history alone of shown k e
 open-work s history alone desk a of (work_is.Tree shard there shown) k run e = tree-work history alone of there shown k e
-open-work s history alone desk a of (work_is.Audit shown) k run e = absurd run
+open-work s history alone desk a of (work_is.Audit shown) k run e = page-work history alone of shown k e
+
+-- a page that is due is noted
+page-noted : (s : Setting) (history : List Event) (alone : Bool) (desk : Option DeskValue) (a : ActorValue) (of : ℕ) (work : Work) (k : Kind) → waits_for_others work ≡ true → work_kind s history alone desk a of work ≡ Some k → kind.Note ≡ k
+page-noted s history alone desk a of (work_is.Insert row routed) k waits e = cc
+page-noted s history alone desk a of work_is.Query k waits e = cc
+page-noted s history alone desk a of (work_is.Sync server pulled) k waits e = cc
+page-noted s history alone desk a of work_is.Barrier k waits e = cc
+page-noted s history alone desk a of (work_is.Settle pulls) k waits e = cc
+page-noted s history alone desk a of (work_is.Split shard) k waits e = cc
+page-noted s history alone desk a of (work_is.Move shard worker) k waits e = cc
+page-noted s history alone desk a of (work_is.Balance b) k waits e = cc
+page-noted s history alone desk a of (work_is.Shards false) k waits e = some-if (alone && (length history == of + 1)) kind.Note k e
+page-noted s history alone desk a of (work_is.Shards true) k waits e = cc
+page-noted s history alone desk a of (work_is.Tree shard true false) k waits e = some-if (alone && (length history == of + 1)) kind.Note k e
+page-noted s history alone desk a of (work_is.Tree shard true true) k waits e = cc
+page-noted s history alone desk a of (work_is.Tree shard false shown) k waits e = cc
+page-noted s history alone desk a of (work_is.Audit false) k waits e = some-if (alone && (length history == of + 1)) kind.Note k e
+page-noted s history alone desk a of (work_is.Audit true) k waits e = cc
 
 module _ (h : List Dimension) (with : Use) (cells : List (Option Cell)) (actors : List (Option Actor)) (core : HasCore h with cells actors) (n : ℕ) (within : n < length actors) (k : Kind)
     (due : IsDue h with cells actors n k) (runs : RunsCommand actors n) where
@@ -180,24 +198,29 @@ module _ (h : List Dimension) (with : Use) (cells : List (Option Cell)) (actors 
             | inr work ↦ work
           ]
 
-  -- where a page is due of the command, it is the tree of a shard that stands
-  page-case : (c : OpenCommand) → IsRunWork c.work → waits_for_others c.work ≡ true → (shard : ℕ) × (Some c ≡ doing c.of (work_is.Tree shard true false))
-  page-case c = by c.work refl
-    where
-      by : (work : Work) → c.work ≡ work → IsRunWork work → waits_for_others work ≡ true → (shard : ℕ) × (Some c ≡ doing c.of (work_is.Tree shard true false))
-      by (work_is.Insert row routed) is run e = cc
-      by work_is.Query is run e = cc
-      by (work_is.Sync server pulled) is run e = cc
-      by work_is.Barrier is run e = cc
-      by (work_is.Settle pulls) is run e = cc
-      by (work_is.Split shard) is run e = absurd run
-      by (work_is.Move shard worker) is run e = absurd run
-      by (work_is.Balance b) is run e = absurd run
-      by (work_is.Shards shown) is run e = absurd run
-      by (work_is.Tree shard true false) is run e = (shard, (λ i. Some (record { of = c.of; work = is i })))
-      by (work_is.Tree shard true true) is run e = cc
-      by (work_is.Tree shard false shown) is run e = cc
-      by (work_is.Audit shown) is run e = absurd run
+  -- where a page is due of the command, it is of what the command shows
+
+  to-show : (of : ℕ) (work : Work) → command_by actors n ≡ doing of work → HasToShow actors n work
+  to-show of work is =
+      let a = stands (get_or actors n None) (λ y. actor_of y ≡ w.actors n) (core.is_core.is.actor n within) in
+      is-some (get_or actors n None) (λ y. IsToShow work y.command) a.0 a.1 (of, sym (ap command_of_one a.1) ∙ is)
+
+  page-of : (of : ℕ) (work : Work) → command_by actors n ≡ doing of work → waits_for_others work ≡ true → HasPageOf (subject_of work) actors n
+  page-of of (work_is.Insert row routed) is e = absurd (let never : false ≡ true = e in cc)
+  page-of of work_is.Query is e = absurd (let never : false ≡ true = e in cc)
+  page-of of (work_is.Sync server pulled) is e = absurd (let never : false ≡ true = e in cc)
+  page-of of work_is.Barrier is e = absurd (let never : false ≡ true = e in cc)
+  page-of of (work_is.Settle pulls) is e = absurd (let never : false ≡ true = e in cc)
+  page-of of (work_is.Split shard) is e = absurd (let never : false ≡ true = e in cc)
+  page-of of (work_is.Move shard worker) is e = absurd (let never : false ≡ true = e in cc)
+  page-of of (work_is.Balance b) is e = absurd (let never : false ≡ true = e in cc)
+  page-of of (work_is.Shards false) is e = to-show of (work_is.Shards false) is
+  page-of of (work_is.Shards true) is e = absurd (let never : false ≡ true = e in cc)
+  page-of of (work_is.Tree shard true false) is e = (shard, to-show of (work_is.Tree shard true false) is)
+  page-of of (work_is.Tree shard true true) is e = absurd (let never : false ≡ true = e in cc)
+  page-of of (work_is.Tree shard false shown) is e = absurd (let never : false ≡ true = e in cc)
+  page-of of (work_is.Audit false) is e = to-show of (work_is.Audit false) is
+  page-of of (work_is.Audit true) is e = absurd (let never : false ≡ true = e in cc)
 
   page-open : is_page_due (command_by actors n) ≡ true → (c : OpenCommand) × (command_by actors n ≡ Some c) × (waits_for_others c.work ≡ true)
   page-open = by (command_by actors n) refl
@@ -206,25 +229,16 @@ module _ (h : List Dimension) (with : Use) (cells : List (Option Cell)) (actors 
       by None is e = cc
       by (Some c) is e = (c, is, e)
 
-  pub shows-tree : is_page_due (command_by actors n) ≡ true → (shard : ℕ) × HasTreeToShow actors n shard
-  shows-tree page =
+  pub shows-page : is_page_due (command_by actors n) ≡ true → HasPageOf (subject_by actors n) actors n
+  shows-page page =
       let c = page-open page in
-      let x = page-case c.0 (runs c.0 c.1) c.2 in
-      let a = stands (get_or actors n None) (λ y. actor_of y ≡ w.actors n) (core.is_core.is.actor n within) in
-      (x.0, is-some (get_or actors n None) (λ y. IsTreeToShow x.0 y.command) a.0 a.1 (c.0.of, sym (ap command_of_one a.1) ∙ c.1 ∙ x.1))
+      subst (λ (o : Option OpenCommand). HasPageOf (subject_in o) actors n) (sym c.1) (page-of c.0.of c.0.work c.1 c.2)
 
   pub note-due : is_page_due (command_by actors n) ≡ true → is_of_part k ≡ false → IsDue h with cells actors n kind.Note
   note-due page other =
       let c = page-open page in
-      let x = page-case c.0 (runs c.0 c.1) c.2 in
       let d = open-due c.0 (sym seen ∙ c.1) other in
-      let work : c.0.work ≡ work_is.Tree x.0 true false = doing-same c.0 c.0.of (work_is.Tree x.0 true false) x.1 in
-      let at : work_kind s (history_in w) (is_alone s w d.0 n) (desk_of s w (w.actors n).role) (w.actors n) c.0.of (work_is.Tree x.0 true false) ≡ Some k =
-      ap (work_kind s (history_in w) (is_alone s w d.0 n) (desk_of s w (w.actors n).role) (w.actors n) c.0.of) (sym work) ∙ d.1 in
-      subst (λ (j : Kind). IsDue h with cells actors n j) (sym (some-if (is_alone s w d.0 n && (length (history_in w) == c.0.of + 1)) kind.Note k at)) due
-    where
-      doing-same : (c : OpenCommand) (of : ℕ) (work : Work) → ◌≡◌ {A = Option OpenCommand} (Some c) (doing of work) → c.work ≡ work
-      doing-same c of work e = (let same : c ≡ record { of = of; work = work } = cc in ap (λ (x : OpenCommand). x.work) same)
+      subst (λ (j : Kind). IsDue h with cells actors n j) (sym (page-noted s (history_in w) (is_alone s w d.0 n) (desk_of s w (w.actors n).role) (w.actors n) c.0.of c.0.work k c.2 d.1)) due
 
   -- and otherwise its note is its own
   pub own-note : is_page_due (command_by actors n) ≡ false → HasCommand actors n → has_own_note (command_by actors n) ≡ true
@@ -239,9 +253,9 @@ module _ (h : List Dimension) (with : Use) (cells : List (Option Cell)) (actors 
       no-balance (work_is.Split shard) run = absurd run
       no-balance (work_is.Move shard worker) run = absurd run
       no-balance (work_is.Balance b) run = absurd run
-      no-balance (work_is.Shards shown) run = absurd run
+      no-balance (work_is.Shards shown) run = refl
       no-balance (work_is.Tree shard there shown) run = refl
-      no-balance (work_is.Audit shown) run = absurd run
+      no-balance (work_is.Audit shown) run = refl
 
       by : (o : Option OpenCommand) → command_by actors n ≡ o → is_page_due o ≡ false → is_some o ≡ true → has_own_note (command_by actors n) ≡ true
       by None is e f = cc

@@ -24,12 +24,14 @@ use Rattle.seeded_run.specs.Worlds.{setting_in, world_in}
 
 -- What may run.
 
--- A called command that runs. Splits, moves, balances, and pages of the whole don't run yet.
+-- A called command that runs. Splits, moves and balances don't run yet.
 abbrev pub IsRunCall : Call → Type 0
 IsRunCall call.Barrier = ⊤
 IsRunCall (call.Tree shard) = ⊤
 IsRunCall (call.Sync server) = ⊤
 IsRunCall call.Settle = ⊤
+IsRunCall call.Shards = ⊤
+IsRunCall call.Audit = ⊤
 IsRunCall called = ⊥
 
 abbrev pub IsRunCommand : Command → Type 0

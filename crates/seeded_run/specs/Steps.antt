@@ -12,13 +12,11 @@ use Rattle.seeded_run.specs.Works.{command_by}
 abbrev pub HasCommand : List (Option Actor) → ℕ → Type 0
 HasCommand actors n = is_some (command_by actors n) ≡ true
 
--- of what runs: no split, no move, no balance, and no page of the whole
+-- of what runs: no split, no move and no balance
 abbrev pub IsRunWork : Work → Type 0
 IsRunWork (work_is.Split shard) = ⊥
 IsRunWork (work_is.Move shard worker) = ⊥
 IsRunWork (work_is.Balance b) = ⊥
-IsRunWork (work_is.Shards shown) = ⊥
-IsRunWork (work_is.Audit shown) = ⊥
 IsRunWork work = ⊤
 
 abbrev pub RunsCommand : List (Option Actor) → ℕ → Type 0

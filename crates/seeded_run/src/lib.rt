@@ -19,12 +19,13 @@ mod phase;
 mod places;
 mod reads;
 mod rows;
-mod shown_shards;
+mod shown;
 mod shows;
 mod sights;
 mod steps;
 mod takes;
 mod wanted;
+mod wholes;
 mod works;
 
 pub use laws::{

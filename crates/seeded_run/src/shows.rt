@@ -60,7 +60,7 @@ fn standing_gate(with: &Use, cells: &[Option<Cell>], shard: u32) -> u32
 
 /// The tree of a shard that stands is shown, where that is due. Where memory is wanting for the page, the
 /// command ends so.
-pub(crate) fn show(alloc: Global, h: &Hierarchy, with: &Use, state: &mut State, number: usize)
+pub(crate) fn show_tree(alloc: Global, h: &Hierarchy, with: &Use, state: &mut State, number: usize)
     requires core { HasCore h.now with.now state.old.cells.items state.old.actors.items }
     requires within { number < length state.old.actors.items }
     requires due { IsDue h.now with.now state.old.cells.items state.old.actors.items number Note }

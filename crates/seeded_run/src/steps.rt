@@ -9,7 +9,7 @@ ghost use Rattle.seeded_run.specs.Told.{is_of_part};
 use crate::errands::{expand, finish_part, forward, leave_tree, put_in_leaf, refill};
 use crate::reads::{block_visit, gate_read, look_up};
 use crate::rows::{down, enter_queue, enter_tree};
-use crate::shows::show;
+use crate::shown::show_page;
 use crate::takes::take_part;
 use crate::works::{is_page_due, work_on};
 use dim_hierarchy::Hierarchy;
@@ -101,7 +101,7 @@ pub(crate) fn go_on_with_command(
     ensures made { GoesOnWithCommand h.now number state.old.cells.items state.old.actors.items state.new.cells.items state.new.actors.items }
 {
     if is_page_due(state, number) {
-        show(alloc, h, with, state, number);
+        show_page(alloc, h, with, state, number);
     } else {
         work_on(alloc, h, with, state, number, kind);
     }

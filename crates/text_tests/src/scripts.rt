@@ -72,7 +72,7 @@ fn bad_texts(rt: HostRuntime) {
 
 #[test]
 fn bad_records_behind_the_base(rt: HostRuntime) -> Result<(), Fail> {
-    const CASES: [BadCase; 70] = [
+    const CASES: [BadCase; 72] = [
         (b"insert,0,5", 6, Cause::Fields),
         (b"insert,0,5,berlin,berlin", 6, Cause::Fields),
         (b"insert,0,x", 6, Cause::Fields),
@@ -154,7 +154,9 @@ fn bad_records_behind_the_base(rt: HostRuntime) -> Result<(), Fail> {
         (b"sync,-0", 6, Cause::Number),
         (b"settle\ndim,x,1", 7, Cause::Order),
         (b"sync,0\nconcept,geo,rome,de", 7, Cause::Order),
-        (b"audit", 6, Cause::Kind),
+        (b"split,0", 6, Cause::Kind),
+        (b"audit,0", 6, Cause::Fields),
+        (b"shards\ndim,x,1", 7, Cause::Order),
         (b"trees,0", 6, Cause::Kind),
         (b"Insert,0,5,berlin", 6, Cause::Kind),
         (b"\"\"", 6, Cause::Kind),
@@ -168,7 +170,7 @@ fn bad_records_behind_the_base(rt: HostRuntime) -> Result<(), Fail> {
 
 #[test]
 fn good_texts(rt: HostRuntime) -> Result<(), Fail> {
-    const CASES: [(&[u8], usize); 11] = [
+    const CASES: [(&[u8], usize); 12] = [
         (b"", 0),
         (b"insert,0,5,\"berlin\"\r\nquery,1,de|berlin\r\nbarrier", 3),
         (
@@ -190,6 +192,7 @@ fn good_texts(rt: HostRuntime) -> Result<(), Fail> {
             2,
         ),
         (b"tree,4294967295", 1),
+        (b"shards\naudit\nshards", 3),
         (b"sync,00000000000000000001\nsettle\nsync,0\nsettle", 4),
         (
             b"tree,0\ninsert,0,5,berlin\ntree,00000000000000000001\nbarrier",

@@ -1,15 +1,15 @@
 use Rattle.std.proofs.Common.{◌∙◌, sym}
-use Rattle.seeded_run.proofs.StepsReady.{is-work, note-due, own-note, shows-tree}
+use Rattle.seeded_run.proofs.StepsReady.{is-work, note-due, own-note, shows-page}
 use Rattle.seeded_run.proofs.steps.go_on_with_command.Goals as goal
 
-pub show-requires-clause-due : goal.show-requires-clause-due
-show-requires-clause-due c =
+pub show_page-requires-clause-due : goal.show_page-requires-clause-due
+show_page-requires-clause-due c =
     note-due c.args.h.now c.args.with.now c.args.state.now.cells.items c.args.state.now.actors.items c.requires.core c.args.number c.requires.within c.args.kind c.requires.due c.requires.runs
     (sym c.is_page_due.ensures ∙ c.if-is_page_due.true) c.requires.of_command
 
-pub show-requires-clause-shows : goal.show-requires-clause-shows
-show-requires-clause-shows c =
-    shows-tree c.args.h.now c.args.with.now c.args.state.now.cells.items c.args.state.now.actors.items c.requires.core c.args.number c.requires.within c.args.kind c.requires.due c.requires.runs
+pub show_page-requires-clause-shows : goal.show_page-requires-clause-shows
+show_page-requires-clause-shows c =
+    shows-page c.args.h.now c.args.with.now c.args.state.now.cells.items c.args.state.now.actors.items c.requires.core c.args.number c.requires.within c.args.kind c.requires.due c.requires.runs
     (sym c.is_page_due.ensures ∙ c.if-is_page_due.true)
 
 pub work_on-requires-clause-one : goal.work_on-requires-clause-one

@@ -1,24 +1,25 @@
+use Rattle.std.proofs.Common.{false, refl}
 use Rattle.row_ledger.specs.declared.page.Page.TheVariants.{Shards}
+use Rattle.volap_cell.specs.declared.command.Work.TheVariants as work_is
 use Rattle.seeded_run.proofs.Afterwards.{noted-step}
-use Rattle.seeded_run.proofs.ShardsReady.{lines-ready, lines-so, no-lines-ready, quiet-in}
+use Rattle.seeded_run.proofs.WholesReady.{ended-ready, quiet-in, seen-so, shards-page, shown-ready}
 use Rattle.seeded_run.proofs.ShowsReady.{tells-page}
-use Rattle.seeded_run.proofs.shown_shards.show_shards.Goals as goal
+use Rattle.seeded_run.proofs.wholes.show_shards.Goals as goal
 
 pub shards_page-requires-clause-quiet : goal.shards_page-requires-clause-quiet
-shards_page-requires-clause-quiet c =
-    quiet-in c.args.h.now c.args.with.now c.args.state.now.cells.items c.args.state.now.actors.items c.requires.core c.args.number c.requires.within c.requires.due c.requires.shows c.ledger_place-ledger.result c.ledger_place-ledger.ensures
+shards_page-requires-clause-quiet c = quiet-in c.args.h.now c.args.with.now c.args.state.now.cells.items c.args.state.now.actors.items c.requires.core c.args.number c.requires.within c.requires.due (work_is.Shards false) shards-page c.requires.shows
 
 pub note_shown-requires-clause-ready : goal.note_shown-requires-clause-ready
 note_shown-requires-clause-ready c =
-    lines-ready c.args.h.now c.args.with.now c.args.state.now.cells.items c.args.state.now.actors.items c.requires.core c.args.number c.requires.within c.requires.due c.requires.shows c.ledger_place-ledger.result c.ledger_place-ledger.ensures c.in-Ok.lines
+    shown-ready c.args.h.now c.args.with.now c.args.state.now.cells.items c.args.state.now.actors.items c.requires.core c.args.number c.requires.within c.requires.due (work_is.Shards false) shards-page c.requires.shows c.ledger_place-ledger.result c.ledger_place-ledger.ensures (Shards c.in-Ok.lines) tt
 
 pub note_shown-requires-clause-seen : goal.note_shown-requires-clause-seen
 note_shown-requires-clause-seen c =
-    lines-so c.args.h.now c.args.with.now c.args.state.now.cells.items c.args.state.now.actors.items c.requires.core c.args.number c.requires.within c.requires.due c.requires.shows c.ledger_place-ledger.result c.ledger_place-ledger.ensures c.in-Ok.lines c.in-Ok.ensures.page
+    seen-so c.args.h.now c.args.with.now c.args.state.now.cells.items c.args.state.now.actors.items c.requires.core c.args.number c.requires.within c.requires.due (work_is.Shards false) shards-page c.requires.shows (Shards c.in-Ok.lines) c.in-Ok.ensures.page
 
 pub note_ended-requires-clause-ready : goal.note_ended-requires-clause-ready
 note_ended-requires-clause-ready c =
-    no-lines-ready c.args.h.now c.args.with.now c.args.state.now.cells.items c.args.state.now.actors.items c.requires.core c.args.number c.requires.within c.requires.due c.requires.shows c.ledger_place-ledger.result c.ledger_place-ledger.ensures
+    ended-ready c.args.h.now c.args.with.now c.args.state.now.cells.items c.args.state.now.actors.items c.requires.core c.args.number c.requires.within c.requires.due (work_is.Shards false) shards-page c.requires.shows c.ledger_place-ledger.result c.ledger_place-ledger.ensures (λ servers job. refl)
 
 pub returns-in-Ok : goal.returns-in-Ok
 returns-in-Ok c =

@@ -1,7 +1,7 @@
 use Rattle.row_ledger.specs.declared.page.Page.TheVariants.{Tree}
 use Rattle.seeded_run.proofs.Afterwards.{noted-step}
 use Rattle.seeded_run.proofs.ShowsReady.{can-see-in, ended-ready, gate-so, seen-so, shown-ready, tells-page}
-use Rattle.seeded_run.proofs.shows.show.Goals as goal
+use Rattle.seeded_run.proofs.shows.show_tree.Goals as goal
 
 pub tree_page_at-requires-clause-can : goal.tree_page_at-requires-clause-can
 tree_page_at-requires-clause-can c =

@@ -1,8 +1,9 @@
-//! The page of all shards, made and shown where it is due.
-ghost use Rattle.std.specs.Prelude.{◌<◌, length};
+//! The pages of the whole state, of all shards and of all rows, made and shown where they are due.
+ghost use Rattle.std.specs.Prelude.{◌<◌, false, length};
 ghost use Rattle.seeded_run.specs.Arms.{GoesOnWithCommand};
 ghost use Rattle.seeded_run.specs.Core.{HasCore, IsDue};
-ghost use Rattle.seeded_run.specs.Shown.{HasShardsToShow};
+ghost use Rattle.seeded_run.specs.Shown.{HasToShow};
+ghost use Rattle.volap_cell.specs.declared.command.Work.TheVariants as work;
 ghost use Rattle.volap_cell.specs.declared.kind.Kind.TheVariants.{Note};
 
 use crate::places::ledger_place;
@@ -22,7 +23,7 @@ pub(crate) fn show_shards(
     requires core { HasCore h.now with.now state.old.cells.items state.old.actors.items }
     requires within { number < length state.old.actors.items }
     requires due { IsDue h.now with.now state.old.cells.items state.old.actors.items number Note }
-    requires shows { HasShardsToShow state.old.actors.items number }
+    requires shows { HasToShow state.old.actors.items number (work.Shards false) }
     ensures made { GoesOnWithCommand h.now number state.old.cells.items state.old.actors.items state.new.cells.items state.new.actors.items }
 {
     let ledger = ledger_place();
@@ -30,4 +31,17 @@ pub(crate) fn show_shards(
         Ok(lines) => core_steps::note_shown(h, state, number, ledger, Page::Shards(lines)),
         Err(_) => core_steps::note_ended(h, state, number, ledger, How::NoMemory),
     }
+}
+
+/// All rows are shown together, where that is due. Takes no memory.
+pub(crate) fn show_audit(h: &Hierarchy, with: &Use, state: &mut State, number: usize)
+    requires core { HasCore h.now with.now state.old.cells.items state.old.actors.items }
+    requires within { number < length state.old.actors.items }
+    requires due { IsDue h.now with.now state.old.cells.items state.old.actors.items number Note }
+    requires shows { HasToShow state.old.actors.items number (work.Audit false) }
+    ensures made { GoesOnWithCommand h.now number state.old.cells.items state.old.actors.items state.new.cells.items state.new.actors.items }
+{
+    let ledger = ledger_place();
+    let audit = core_pages::audit_page(state, with.servers);
+    core_steps::note_shown(h, state, number, ledger, Page::Audit(audit));
 }
