@@ -476,6 +476,16 @@ pub(crate) fn note_balance(h: &Hierarchy, with: &Use, state: &mut State, number:
     }
 }
 
+/// Whether a step of this kind goes on with a job, and is made here.
+pub(crate) fn is_at_job(kind: Kind) -> bool
+    ensures { result ≡ is_at_job kind }
+{
+    match kind {
+        Kind::Freeze | Kind::Drained | Kind::Collect | Kind::BuildBlock => true,
+        _ => false,
+    }
+}
+
 /// An actor goes on with its job by the step that is due, where that is one of these kinds. What finds no
 /// memory gives the job up, or ends it where the shard is not frozen.
 pub(crate) fn work_at_job(
