@@ -11,10 +11,9 @@ use Rattle.shard_plan.specs.declared.action.Action.{Action}
 use Rattle.shard_store.specs.declared.gate.Phase.{Phase}
 use Rattle.shard_store.specs.declared.gate.Phase.TheVariants as phase
 use Rattle.volap_cell.specs.Commands.{settles_next}
-use Rattle.volap_cell.specs.ImageKinds.{doing}
 use Rattle.volap_cell.specs.Setting.{Setting}
 use Rattle.volap_cell.specs.Steps.{history_in}
-use Rattle.volap_cell.specs.Values.{ActorValue, BuildingValue, CollectingValue, JobValue, StageValue, IsCalled, IsDeclined, IsFrozen, Collects, Builds}
+use Rattle.volap_cell.specs.Values.{BuildingValue, CollectingValue, JobValue, StageValue, IsCalled, IsDeclined, IsFrozen, Collects, Builds}
 use Rattle.volap_cell.specs.World.{World}
 use Rattle.volap_cell.specs.declared.command.Balance.{Balance}
 use Rattle.volap_cell.specs.declared.command.Work.{Work}
@@ -25,7 +24,6 @@ use Rattle.volap_cell.specs.declared.kind.Kind.TheVariants as kind
 use Rattle.seeded_run.specs.Can.{last_noted}
 use Rattle.seeded_run.specs.Due.{balance_kind, desk_of, due_by, finish_kind, is_alone, is_empty, job_kind, stage_kind, work_kind}
 use Rattle.seeded_run.specs.Jobs.{has_more, next_by}
-use Rattle.seeded_run.specs.declared.jobs.Next.{Next}
 use Rattle.seeded_run.specs.declared.jobs.Next.TheVariants as next
 use Rattle.seeded_run.proofs.DueCommands.{ComesTo, at-empty, at-parts, by-command, by-work, is_aside, is_first}
 use Rattle.seeded_run.proofs.DueReads.{ends-in, last-of}

@@ -1,6 +1,6 @@
 -- Where a step of the administrator's job is due, the core has what its kind asks; and where it finds no memory, what its end asks.
-use Rattle.std.proofs.Common.{◌≡◌, ◌≢◌, ◌∙◌, ℕ, ◌+◌, ◌^◌, ◌-◌, ◌<◌, ◌≤◌, Bool, true, false, is_none, is_some, List, [], ◌∷◌, ◌++◌, length, Option, Some, None, get_or, slice_get, refl, sym, ap, subst, inl, inr, arith, eq-eqb, if◌then◌else◌, ◌⊎◌}
-use Rattle.std.specs.Prelude.{◌&&◌, ◌==◌, IsSome, option_map, option_and_then}
+use Rattle.std.proofs.Common.{◌≡◌, ◌≢◌, ◌∙◌, ℕ, ◌+◌, ◌^◌, ◌-◌, ◌<◌, ◌≤◌, Bool, true, false, is_some, List, [], ◌∷◌, ◌++◌, length, Option, Some, None, get_or, slice_get, refl, sym, ap, subst, inl, inr, arith, eq-eqb, if◌then◌else◌, ◌⊎◌}
+use Rattle.std.specs.Prelude.{◌==◌, IsSome, option_map, option_and_then}
 use Rattle.std.specs.Option.{option_map_or}
 use Rattle.std.proofs.lemmas.Bool.{and_parts, cases_lt}
 use Rattle.std.proofs.lemmas.Option.{slice_get_cases}
@@ -22,7 +22,6 @@ use Rattle.row_ledger.specs.declared.settings.How.TheVariants as how
 use Rattle.row_ledger.specs.declared.settings.How.TheVariants.{NoMemory}
 use Rattle.row_ledger.specs.declared.settings.Use.{Use}
 use Rattle.shard_plan.specs.declared.action.Action.{Action}
-use Rattle.shard_store.specs.declared.gate.Phase.{Phase}
 use Rattle.shard_store.specs.declared.gate.Phase.TheVariants as phase
 use Rattle.cell_stock.specs.declared.purse.Spare.{Spare}
 use Rattle.tree_shape.specs.Counts.{Among}
@@ -38,9 +37,9 @@ use Rattle.volap_cell.proofs.Spares.{among-cells}
 use Rattle.volap_cell.proofs.States.{is-some, same-actor, stands}
 use Rattle.volap_cell.proofs.Sums.{sum-some}
 use Rattle.volap_cell.specs.AdminKinds.{HasFrozen, spent_by, spent_in}
-use Rattle.volap_cell.specs.Cells.{BlockCell, CellValue, DeskCell, FreeCell, GateCell, ImageCell, LedgerCell, MapCell, MapOf, RegistryCell, StockCell, OfStock, TheLedger, TheStock, active_in, gate_shard, has_block, phase_of, tag_of, where_in}
+use Rattle.volap_cell.specs.Cells.{BlockCell, CellValue, DeskCell, FreeCell, GateCell, ImageCell, LedgerCell, MapCell, MapOf, RegistryCell, StockCell, OfStock, TheStock, active_in, gate_shard, has_block, phase_of, tag_of, where_in}
 use Rattle.volap_cell.specs.Commands.{EndsStage, MayNoteEnd}
-use Rattle.volap_cell.specs.Errands.{AtBlock, IsCarried, RowWay, taken_by, taken_of, way_of}
+use Rattle.volap_cell.specs.Errands.{RowWay, taken_by, taken_of, way_of}
 use Rattle.volap_cell.specs.Ghost.{Ghost, InJob, InTree, NotOfStock}
 use Rattle.volap_cell.specs.Growing.{table_of}
 use Rattle.volap_cell.specs.ImageKinds.{doing}
@@ -50,10 +49,10 @@ use Rattle.volap_cell.specs.Planning.{job_for, next_job}
 use Rattle.volap_cell.specs.State.{Has}
 use Rattle.volap_cell.specs.Stocking.{cells_at, spent_of}
 use Rattle.volap_cell.specs.Turning.{inside_of, is_inside}
-use Rattle.volap_cell.specs.Values.{ActorValue, BuildingValue, CollectingValue, ErrandValue, JobValue, StageValue, IsCalled, IsDeclined, IsFrozen, Collects, Builds, actor_of}
+use Rattle.volap_cell.specs.Values.{ActorValue, BuildingValue, CollectingValue, ErrandValue, JobValue, StageValue, IsCalled, Collects, Builds, actor_of}
 use Rattle.volap_cell.specs.View.{View, view}
 use Rattle.volap_cell.specs.Working.{IsCollected, IsJobOf, begun, frozen_in}
-use Rattle.volap_cell.specs.World.{MustKeep, World, held}
+use Rattle.volap_cell.specs.World.{MustKeep, World}
 use Rattle.volap_cell.specs.declared.actor.Actor.{Actor}
 use Rattle.volap_cell.specs.declared.cell.Cell.{Cell}
 use Rattle.volap_cell.specs.declared.command.Balance.{Balance}
@@ -66,10 +65,10 @@ use Rattle.volap_cell.specs.declared.kind.Kind.TheVariants as kind
 use Rattle.seeded_run.specs.Can.{gate_awaited, is_drained, last_noted}
 use Rattle.seeded_run.specs.Core.{HasCore, IsCore, IsDue}
 use Rattle.seeded_run.specs.Due.{command_kind, is_alone}
-use Rattle.seeded_run.specs.Jobs.{CanGiveUp, CanGiveUpBy, CanLeave, CanLeaveBy, IsAtFirst, IsAtFirstBy, cell_at_stage, cell_of_one, cell_unbuilt, end_in_balance, end_of_balance, frozen_gate, gate_found, gate_to_freeze, has_more, job_by, job_of_one, most_in, most_of, next_at, next_by, next_of, worker_of_job}
+use Rattle.seeded_run.specs.Jobs.{CanGiveUp, CanGiveUpBy, CanLeave, CanLeaveBy, IsAtFirst, IsAtFirstBy, cell_at_stage, cell_of_one, cell_unbuilt, end_of_balance, frozen_gate, gate_found, gate_to_freeze, has_more, job_by, job_of_one, most_of, next_at, next_by, next_of, worker_of_job}
 use Rattle.seeded_run.specs.Led.{gate_there}
 use Rattle.seeded_run.specs.Look.{cell_at, setting_by, setting_for, world_by}
-use Rattle.seeded_run.specs.Works.{command_by, command_of_one, is_balance, is_balance_work}
+use Rattle.seeded_run.specs.Works.{command_by, is_balance, is_balance_work}
 use Rattle.seeded_run.specs.declared.jobs.Next.{Next}
 use Rattle.seeded_run.specs.declared.jobs.Next.TheVariants as next
 use Rattle.seeded_run.proofs.DueCommands.{by-command, is_aside, is_first}

@@ -1,6 +1,6 @@
 -- What the administrator's job and its balance are at, as one thread sees it that holds a core's cells and actors; and when a job can be
 -- given up or left.
-use Rattle.std.specs.Prelude.{ℕ, ◌≡◌, ◌-◌, Bool, true, false, nat_lt, List, Option, Some, None, get_or, slice_get, length, is_some}
+use Rattle.std.specs.Prelude.{ℕ, ◌≡◌, ◌-◌, Bool, true, false, nat_lt, List, Option, Some, None, get_or, slice_get, length}
 use Rattle.core_image.specs.NotesDue.{MayBeLeft}
 use Rattle.link_descent.specs.declared.entered.Fresh.{Fresh}
 use Rattle.mapping_table.specs.declared.place.Where.{Where}

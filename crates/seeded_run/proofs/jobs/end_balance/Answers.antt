@@ -1,4 +1,4 @@
-use Rattle.std.proofs.Common.{ℕ, List, [], ◌∷◌, Option, subst, sym}
+use Rattle.std.proofs.Common.{[], ◌∷◌, subst, sym}
 use Rattle.core_steps.specs.AskedNotes.{NotesEnded}
 use Rattle.core_steps.specs.Ready.{MayStep}
 use Rattle.row_ledger.specs.declared.settings.How.{How}
