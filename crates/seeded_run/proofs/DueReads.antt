@@ -32,7 +32,7 @@ pub record IsTable (c : CellValue) (worker shard : ℕ) (to : Where) : Type 0 wh
   pub is : c ≡ MapCell worker places
   pub leads : map.get places shard ≡ Some to
 
-no-place : (to : Where) → ◌≡◌ {A = Option Where} None (Some to) → ⊥
+pub no-place : (to : Where) → ◌≡◌ {A = Option Where} None (Some to) → ⊥
 no-place to e = (let never : ◌≡◌ {A = Option Where} None (Some to) = e in cc)
 
 pub table-of : (c : CellValue) (worker shard : ℕ) (to : Where) → tag_of c ≡ MapOf worker → where_in c shard ≡ Some to → IsTable c worker shard to

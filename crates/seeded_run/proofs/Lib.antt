@@ -56,3 +56,5 @@ pub mod WholesReady
 pub mod DueRows
 pub mod RowsReady
 pub mod ByHand
+pub mod DueJobs
+pub mod JobsReady

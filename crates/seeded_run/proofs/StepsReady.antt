@@ -39,7 +39,7 @@ use Rattle.seeded_run.specs.Steps.{HasCommand, IsRunWork, RunsCommand}
 use Rattle.seeded_run.specs.Look.{waits_for_others}
 use Rattle.seeded_run.specs.Shown.{HasPageOf, HasToShow, IsToShow, subject_by, subject_in, subject_of}
 use Rattle.seeded_run.specs.Told.{is_of_part}
-use Rattle.seeded_run.specs.Works.{command_by, command_of_one, has_own_note, is_at_work, is_balance_work, is_page_due}
+use Rattle.seeded_run.specs.Works.{command_by, command_of_one, has_own_note, is_at_work, is_balance, is_balance_work, is_page_due}
 use Rattle.seeded_run.proofs.DueParts.{at-part-or}
 use Rattle.seeded_run.proofs.LeftAlone.{apart, at-command}
 
@@ -165,6 +165,20 @@ page-noted s history alone desk a of (work_is.Tree shard false shown) k waits e 
 page-noted s history alone desk a of (work_is.Audit false) k waits e = some-if (alone && (length history == of + 1)) kind.Note k e
 page-noted s history alone desk a of (work_is.Audit true) k waits e = cc
 
+-- a command that runs is no balance
+no-balance : (work : Work) → IsRunWork work → is_balance_work work ≡ false
+no-balance (work_is.Insert row routed) run = refl
+no-balance work_is.Query run = refl
+no-balance (work_is.Sync server pulled) run = refl
+no-balance work_is.Barrier run = refl
+no-balance (work_is.Settle pulls) run = refl
+no-balance (work_is.Split shard) run = absurd run
+no-balance (work_is.Move shard worker) run = absurd run
+no-balance (work_is.Balance b) run = absurd run
+no-balance (work_is.Shards shown) run = refl
+no-balance (work_is.Tree shard there shown) run = refl
+no-balance (work_is.Audit shown) run = refl
+
 module _ (h : List Dimension) (with : Use) (cells : List (Option Cell)) (actors : List (Option Actor)) (core : HasCore h with cells actors) (n : ℕ) (within : n < length actors) (k : Kind)
     (due : IsDue h with cells actors n k) (runs : RunsCommand actors n) where
   abbrev s : Setting
@@ -240,26 +254,21 @@ module _ (h : List Dimension) (with : Use) (cells : List (Option Cell)) (actors 
       let d = open-due c.0 (sym seen ∙ c.1) other in
       subst (λ (j : Kind). IsDue h with cells actors n j) (sym (page-noted s (history_in w) (is_alone s w d.0 n) (desk_of s w (w.actors n).role) (w.actors n) c.0.of c.0.work k c.2 d.1)) due
 
-  -- and otherwise its note is its own
-  pub own-note : is_page_due (command_by actors n) ≡ false → HasCommand actors n → has_own_note (command_by actors n) ≡ true
-  own-note none has = by (command_by actors n) refl none has
+  -- no balance runs, so a note would be due for one
+  pub balance-note : is_balance (command_by actors n) ≡ true → IsDue h with cells actors n kind.Note
+  balance-note balance = by (command_by actors n) refl balance
     where
-      no-balance : (work : Work) → IsRunWork work → is_balance_work work ≡ false
-      no-balance (work_is.Insert row routed) run = refl
-      no-balance work_is.Query run = refl
-      no-balance (work_is.Sync server pulled) run = refl
-      no-balance work_is.Barrier run = refl
-      no-balance (work_is.Settle pulls) run = refl
-      no-balance (work_is.Split shard) run = absurd run
-      no-balance (work_is.Move shard worker) run = absurd run
-      no-balance (work_is.Balance b) run = absurd run
-      no-balance (work_is.Shards shown) run = refl
-      no-balance (work_is.Tree shard there shown) run = refl
-      no-balance (work_is.Audit shown) run = refl
+      by : (o : Option OpenCommand) → command_by actors n ≡ o → is_balance o ≡ true → IsDue h with cells actors n kind.Note
+      by None is e = absurd (cc)
+      by (Some c) is e = apart (is_balance_work c.work) e (no-balance c.work (runs c is))
 
-      by : (o : Option OpenCommand) → command_by actors n ≡ o → is_page_due o ≡ false → is_some o ≡ true → has_own_note (command_by actors n) ≡ true
-      by None is e f = cc
-      by (Some c) is e f = ap has_own_note is ∙ rw e (rw (no-balance c.work (runs c is)) refl)
+  -- and otherwise its note is its own
+  pub own-note : is_page_due (command_by actors n) ≡ false → is_balance (command_by actors n) ≡ false → HasCommand actors n → has_own_note (command_by actors n) ≡ true
+  own-note none other has = by (command_by actors n) refl none other has
+    where
+      by : (o : Option OpenCommand) → command_by actors n ≡ o → is_page_due o ≡ false → is_balance o ≡ false → is_some o ≡ true → has_own_note (command_by actors n) ≡ true
+      by None is e f g = cc
+      by (Some c) is e f g = ap has_own_note is ∙ rw e (rw f refl)
 
   -- a look-up is due for who is at a part
   pub looks-for-part : k ≡ kind.LookUp → (e : ErrandValue) × (errand_by actors n ≡ Some e)

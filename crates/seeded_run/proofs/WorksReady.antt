@@ -96,7 +96,7 @@ called-case s w a work how e case = subst (λ (x : How). MayNoteEnd s.servers wo
 
 module _ (h : List Dimension) (with : Use) (cells : List (Option Cell)) (actors : List (Option Actor)) (s : Setting) (w : World) (core : IsCore h with cells actors s w) (n : ℕ) (lt : n < length actors) where
   -- what one reads of an actor that is there
-  read-of : {B : Type 0} (f : ActorValue → B) (g : Option Actor → B) → ((a : Actor) → g (Some a) ≡ f (actor_of a)) → g (get_or actors n None) ≡ f (w.actors n)
+  pub read-of : {B : Type 0} (f : ActorValue → B) (g : Option Actor → B) → ((a : Actor) → g (Some a) ≡ f (actor_of a)) → g (get_or actors n None) ≡ f (w.actors n)
   read-of f g same =
       let k = stands (get_or actors n None) (λ x. actor_of x ≡ w.actors n) (core.is.actor n lt) in
       ap g k.1 ∙ same k.0 ∙ ap f k.2

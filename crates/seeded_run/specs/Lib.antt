@@ -26,3 +26,4 @@ pub mod Works
 pub mod Shown
 pub mod Rows
 pub mod ByHand
+pub mod Jobs

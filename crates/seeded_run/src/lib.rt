@@ -10,6 +10,7 @@ mod commands;
 mod commands_due;
 mod errands;
 mod errands_due;
+mod jobs;
 mod laws;
 mod look;
 mod machine;

@@ -7,11 +7,12 @@ ghost use Rattle.seeded_run.specs.Steps.{HasCommand, RunsCommand};
 ghost use Rattle.seeded_run.specs.Told.{is_of_part};
 
 use crate::errands::{expand, finish_part, forward, leave_tree, put_in_leaf, refill};
+use crate::jobs::{is_at_job, note_balance, work_at_job};
 use crate::reads::{block_visit, gate_read, look_up};
 use crate::rows::{down, enter_queue, enter_tree};
 use crate::shown::show_page;
 use crate::takes::take_part;
-use crate::works::{is_page_due, work_on};
+use crate::works::{is_balance, is_page_due, work_on};
 use dim_hierarchy::Hierarchy;
 use row_ledger::Use;
 use std::alloc::Global;
@@ -83,7 +84,8 @@ pub(crate) fn go_on_at_part(
     }
 }
 
-/// An actor goes on with its command, where that is due. Where it finds no memory the command ends so.
+/// An actor goes on with its command, where that is due: with its page, its job, the note of its balance, or
+/// by itself. Where it finds no memory the command ends so, and a balance leaves its action.
 pub(crate) fn go_on_with_command(
     alloc: Global,
     h: &Hierarchy,
@@ -102,6 +104,10 @@ pub(crate) fn go_on_with_command(
 {
     if is_page_due(state, number) {
         show_page(alloc, h, with, state, number);
+    } else if is_at_job(kind) {
+        work_at_job(alloc, h, with, state, number, kind);
+    } else if is_balance(state, number) {
+        note_balance(h, with, state, number);
     } else {
         work_on(alloc, h, with, state, number, kind);
     }

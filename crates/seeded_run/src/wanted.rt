@@ -82,7 +82,7 @@ fn child_wanted(h: &Hierarchy, cells: &[Option<Cell>], errand: &Errand) -> Optio
 }
 
 /// The block that was noted last.
-fn last_noted(todo: &Todo) -> Option<u32>
+pub(crate) fn last_noted(todo: &Todo) -> Option<u32>
     ensures { result ≡ last_noted todo.now.items }
 {
     match todo.last() {

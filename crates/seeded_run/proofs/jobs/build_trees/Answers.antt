@@ -1,0 +1,29 @@
+use Rattle.std.proofs.Common.{refl}
+use Rattle.volap_cell.specs.declared.kind.Kind.TheVariants.{Collect}
+use Rattle.seeded_run.proofs.Afterwards.{goes-on-then, other-step}
+use Rattle.seeded_run.proofs.Fallbacks.{still-core}
+use Rattle.seeded_run.proofs.Holds.{inv-of}
+use Rattle.seeded_run.proofs.JobsReady.{build_trees-ready, collect-frozen, gives-up-then, still-there}
+use Rattle.seeded_run.proofs.jobs.build_trees.Goals as goal
+
+pub build_trees-requires-clause-state : goal.build_trees-requires-clause-state
+build_trees-requires-clause-state c = inv-of c.args.h.now c.args.with.now c.args.state.now.cells.items c.args.state.now.actors.items c.requires.core
+
+pub build_trees-requires-clause-ready : goal.build_trees-requires-clause-ready
+build_trees-requires-clause-ready c = build_trees-ready c.args.h.now c.args.with.now c.args.state.now.cells.items c.args.state.now.actors.items c.requires.core c.args.number c.requires.within c.frozen_by-gate.result c.frozen_by-gate.ensures c.requires.next c.requires.due
+
+pub give_up-requires-clause-core : goal.give_up-requires-clause-core
+give_up-requires-clause-core c = still-core c.args.h.now c.args.with.now c.args.state.now.cells.items c.build_trees.new.state.cells.items c.args.state.now.actors.items c.build_trees.new.state.actors.items c.requires.core c.in-Err.ensures.stays
+
+pub give_up-requires-clause-within : goal.give_up-requires-clause-within
+give_up-requires-clause-within c = still-there c.args.state.now.cells.items c.build_trees.new.state.cells.items c.args.state.now.actors.items c.build_trees.new.state.actors.items c.in-Err.ensures.stays c.args.number c.requires.within
+
+pub give_up-requires-clause-frozen : goal.give_up-requires-clause-frozen
+give_up-requires-clause-frozen c =
+    gives-up-then c.args.h.now c.args.with.now c.args.state.now.cells.items c.args.state.now.actors.items c.requires.core c.args.number c.requires.within c.build_trees.new.state.cells.items c.build_trees.new.state.actors.items c.in-Err.ensures.stays (collect-frozen c.args.h.now c.args.with.now c.args.state.now.cells.items c.args.state.now.actors.items c.requires.core c.args.number c.requires.within c.requires.due)
+
+pub returns-in-Ok : goal.returns-in-Ok
+returns-in-Ok c = record { made = other-step Collect refl c.args.h.now c.args.number c.args.state.now.cells.items c.build_trees.new.state.cells.items c.args.state.now.actors.items c.build_trees.new.state.actors.items c.in-Ok.ensures.stepped }
+
+pub returns-in-Err : goal.returns-in-Err
+returns-in-Err c = record { made = goes-on-then c.args.state.now.cells.items c.build_trees.new.state.cells.items c.args.state.now.actors.items c.build_trees.new.state.actors.items c.in-Err.ensures.stays c.args.h.now c.args.number c.give_up.new.state.cells.items c.give_up.new.state.actors.items c.give_up.ensures.made }
