@@ -55,3 +55,4 @@ pub mod ShowsReady
 pub mod WholesReady
 pub mod DueRows
 pub mod RowsReady
+pub mod LoadsReady

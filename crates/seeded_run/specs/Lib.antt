@@ -25,3 +25,4 @@ pub mod Roles
 pub mod Works
 pub mod Shown
 pub mod Rows
+pub mod Loads

@@ -10,6 +10,7 @@ mod commands_due;
 mod errands;
 mod errands_due;
 mod laws;
+mod loads;
 mod look;
 mod machine;
 mod names_due;
