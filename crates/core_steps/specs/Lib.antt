@@ -6,5 +6,7 @@ pub mod AskedNotes
 pub mod AskedPages
 pub mod Added
 pub mod AskedParts
+pub mod AskedLoads
 pub mod Seen
+pub mod AskedFinishes
 pub mod AskedJobs

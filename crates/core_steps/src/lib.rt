@@ -4,8 +4,10 @@
 
 mod books;
 mod fails;
+mod finishes;
 mod held;
 mod jobs;
+mod loads;
 mod notes;
 mod parts;
 mod shown;
@@ -13,8 +15,10 @@ mod trees;
 
 pub use books::{ack, answer, begin_insert, begin_query, route, sync};
 pub use fails::{fail_query, fail_routed, fail_unrouted};
+pub use finishes::{finish_here, finish_move};
 pub use held::HeldIf;
 pub use jobs::{build_block, build_trees, collect_block, collect_row, drained, freeze, postpone};
+pub use loads::read_load;
 pub use notes::{note_asking, note_called, note_ended, note_left, note_refused, note_unknown};
 pub use parts::{expand, finish_part, forward, look_up, take_part};
 pub use shown::note_shown;

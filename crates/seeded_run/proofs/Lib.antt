@@ -58,3 +58,4 @@ pub mod RowsReady
 pub mod ByHand
 pub mod DueJobs
 pub mod JobsReady
+pub mod LoadsReady

@@ -27,3 +27,4 @@ pub mod Shown
 pub mod Rows
 pub mod ByHand
 pub mod Jobs
+pub mod Loads

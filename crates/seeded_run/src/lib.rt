@@ -12,6 +12,7 @@ mod errands;
 mod errands_due;
 mod jobs;
 mod laws;
+mod loads;
 mod look;
 mod machine;
 mod names_due;

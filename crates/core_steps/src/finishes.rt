@@ -1,0 +1,149 @@
+//! The step that ends a move: with the two tables of the workers, or with one where the shard stays with its worker.
+ghost use Rattle.std.specs.Prelude.{[], ◌∷◌, OnErr, OnOk};
+ghost use Rattle.core_steps.specs.AskedFinishes.{EndsHere, EndsMove};
+ghost use Rattle.core_steps.specs.Ready.{MayStep, Stays};
+ghost use Rattle.volap_cell.specs.State.{HasInv, Stepped};
+ghost use Rattle.volap_cell.specs.declared.kind.Kind.TheVariants.{FinishMove};
+
+use dim_hierarchy::Hierarchy;
+use std::alloc::{AllocError, Global};
+use volap_cell::{State, lift, lift_seven, lift_six, put_actor, put_seven, put_six};
+
+/// The move of an actor's shard to another worker ends: with the tables of the worker that has it and of the other
+/// one, the gate that is frozen, the cell of the new gate, the registry, the stock and the ledger. Where memory is
+/// wanting, the state stays as it was.
+pub fn finish_move(
+    alloc: Global,
+    h: &Hierarchy,
+    state: &mut State,
+    number: usize,
+    from_at: u32,
+    to_at: u32,
+    gate_at: u32,
+    new_at: u32,
+    registry_at: u32,
+    stock_at: u32,
+    ledger_at: u32,
+) -> Result<(), AllocError>
+    requires state { HasInv h.now state.old.cells.items state.old.actors.items }
+    requires ready { MayStep state.old.cells.items state.old.actors.items (from_at ∷ to_at ∷ gate_at ∷ new_at ∷ registry_at ∷ stock_at ∷ ledger_at ∷ []) number (EndsMove gate_at new_at) }
+    ensures stepped { OnOk result (Stepped h.now FinishMove number state.old.cells.items state.old.actors.items state.new.cells.items state.new.actors.items) }
+    ensures stays { OnErr result (Stays state.old.cells.items state.old.actors.items state.new.cells.items state.new.actors.items) }
+{
+    let (cells, actors) = (&mut state.cells, &mut state.actors);
+    let (mut from, mut to, mut gate, mut new, mut registry, mut stock, mut ledger) = lift_seven(
+        cells,
+        from_at,
+        to_at,
+        gate_at,
+        new_at,
+        registry_at,
+        stock_at,
+        ledger_at,
+    );
+    let mut actor = lift(actors, number);
+    let made = core_admin::finish_move(
+        alloc,
+        h,
+        from_at,
+        &mut from,
+        to_at,
+        &mut to,
+        gate_at,
+        &mut gate,
+        new_at,
+        &mut new,
+        registry_at,
+        &mut registry,
+        stock_at,
+        &mut stock,
+        ledger_at,
+        &mut ledger,
+        &mut actor,
+    );
+    put_actor(actors, number, actor);
+    put_seven(
+        cells,
+        from_at,
+        from,
+        to_at,
+        to,
+        gate_at,
+        gate,
+        new_at,
+        new,
+        registry_at,
+        registry,
+        stock_at,
+        stock,
+        ledger_at,
+        ledger,
+    );
+    made
+}
+
+/// The move of an actor's shard to the worker that has it ends: as `finish_move` ends it, with the one table of that
+/// worker.
+pub fn finish_here(
+    alloc: Global,
+    h: &Hierarchy,
+    state: &mut State,
+    number: usize,
+    table_at: u32,
+    gate_at: u32,
+    new_at: u32,
+    registry_at: u32,
+    stock_at: u32,
+    ledger_at: u32,
+) -> Result<(), AllocError>
+    requires state { HasInv h.now state.old.cells.items state.old.actors.items }
+    requires ready { MayStep state.old.cells.items state.old.actors.items (table_at ∷ gate_at ∷ new_at ∷ registry_at ∷ stock_at ∷ ledger_at ∷ []) number (EndsHere gate_at new_at) }
+    ensures stepped { OnOk result (Stepped h.now FinishMove number state.old.cells.items state.old.actors.items state.new.cells.items state.new.actors.items) }
+    ensures stays { OnErr result (Stays state.old.cells.items state.old.actors.items state.new.cells.items state.new.actors.items) }
+{
+    let (cells, actors) = (&mut state.cells, &mut state.actors);
+    let (mut table, mut gate, mut new, mut registry, mut stock, mut ledger) = lift_six(
+        cells,
+        table_at,
+        gate_at,
+        new_at,
+        registry_at,
+        stock_at,
+        ledger_at,
+    );
+    let mut actor = lift(actors, number);
+    let made = core_admin::finish_here(
+        alloc,
+        h,
+        table_at,
+        &mut table,
+        gate_at,
+        &mut gate,
+        new_at,
+        &mut new,
+        registry_at,
+        &mut registry,
+        stock_at,
+        &mut stock,
+        ledger_at,
+        &mut ledger,
+        &mut actor,
+    );
+    put_actor(actors, number, actor);
+    put_six(
+        cells,
+        table_at,
+        table,
+        gate_at,
+        gate,
+        new_at,
+        new,
+        registry_at,
+        registry,
+        stock_at,
+        stock,
+        ledger_at,
+        ledger,
+    );
+    made
+}
