@@ -1,7 +1,7 @@
 //! A row and a question by names.
-ghost use Rattle.std.specs.Prelude.{◌≡◌, ◌↔◌, IsTrue, IfOk, All, List, length};
-ghost use Rattle.dim_hierarchy.specs.Filter.{IsFilterNamed, IsNamePick, Matches};
-ghost use Rattle.dim_hierarchy.specs.Row.{IsCoordNamed};
+ghost use Rattle.std.specs.Prelude.{◌≡◌, ◌↔◌, IsTrue, IsOkUnless, IfNone, IfOk, IfSome, All, Err, List, is_none, length, position};
+ghost use Rattle.dim_hierarchy.specs.Filter.{IsFilterNamed, IsNamePick, Matches, picks};
+ghost use Rattle.dim_hierarchy.specs.Row.{IsCoordNamed, leaves};
 ghost use Rattle.dim_hierarchy.specs.declared.filter.Pick.{Pick};
 ghost use Rattle.dim_hierarchy.specs.declared.row.Coord.{Coord};
 
@@ -19,7 +19,12 @@ pub fn is_counted(
     requires row { length row.now ≡ length h.now }
     requires question { length question.now ≡ length h.now }
     requires some { All IsNamePick question.now }
-    ensures { IfOk result (λ test. (at : Coord) × (f : List Pick)
+    ensures row { IfSome (position is_none (leaves h.now row.now)) (λ dim. result ≡ Err (FilterFault.Unknown dim)) }
+    ensures question { IfNone (position is_none (leaves h.now row.now))
+        (IfSome (position is_none (picks h.now question.now)) (λ dim. result ≡ Err (FilterFault.Unknown dim))) }
+    ensures known { IfNone (position is_none (leaves h.now row.now))
+        (IfNone (position is_none (picks h.now question.now)) (IsOkUnless result FilterFault.NoMemory)) }
+    ensures counted { IfOk result (λ test. (at : Coord) × (f : List Pick)
         × IsCoordNamed h.now row.now at
         × IsFilterNamed h.now question.now f
         × (IsTrue test ↔ Matches h.now f at)) }
