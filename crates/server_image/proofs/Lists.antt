@@ -1,12 +1,11 @@
 -- Lists of spots when one is found, taken out or put in.
-use Rattle.std.proofs.Common.{ℕ, suc, ◌≡◌, ◌+◌, ◌<◌, ◌≤◌, ◌⊎◌, inl, inr, Bool, true, false, Option, Some, None, List, [], ◌∷◌, length, refl, sym, ap, subst, arith}
-use Rattle.std.specs.Prelude.{◌==◌, nat_lt, position, unwrap_or, is_some}
+use Rattle.std.proofs.Common.{ℕ, suc, ◌≡◌, ◌+◌, ◌<◌, ◌≤◌, ◌⊎◌, inl, inr, Bool, true, false, List, [], ◌∷◌, length, refl, sym, ap, subst, arith}
+use Rattle.std.specs.Prelude.{◌==◌, nat_lt, position, unwrap_or}
 use Rattle.std.specs.List.{position_or_len, list_any, insert, remove}
-use Rattle.std.specs.Option.{option_or}
 use Rattle.std.proofs.lemmas.Bool.{false≢true, eqb-false, ltb-true, ltb-false}
 use Rattle.describing_set.specs.Ascending.{Below, Ascends, In}
 use Rattle.describing_set.specs.declared.listing.Spot.{Spot}
-use Rattle.server_image.specs.Spots.{spot_ids, place_of, worker_in, without, with_spot}
+use Rattle.server_image.specs.Spots.{has_spot, spot_ids, place_of, without, with_spot}
 use Rattle.server_image.specs.Registry.{IsRegistry}
 
 -- a test is true or false
@@ -112,29 +111,15 @@ In-with_spot z s (x ∷ xs) i = by_test (nat_lt s.shard x.shard)
       | inr later ↦ elim (In-with_spot z s xs later) [ inl same ↦ inl same | inr old ↦ inr (inr old) ]
     ])
 
-none≢some : (w : ℕ) → Some w ≡ None → ⊥
-none≢some w e = cc
-
-pub not_in : (id : ℕ) (xs : List Spot) → worker_in id xs ≡ None → ¬ In id (spot_ids xs)
+-- an id that no spot has
+pub not_in : (id : ℕ) (xs : List Spot) → has_spot id xs ≡ false → ¬ In id (spot_ids xs)
 not_in id [] none = λ i. i
 not_in id (x ∷ xs) none = by_test (x.shard == id)
-    (λ e. absurd (none≢some x.worker (rw e at none)))
+    (λ e. absurd (false≢true (sym (rw e at none))))
     (λ e. λ i. elim i [
       | inl here ↦ eqb-false x.shard id e (sym here)
       | inr later ↦ not_in id xs (rw e at none) later
     ])
-
-pub first_none : (a b : Option ℕ) → option_or a b ≡ None → a ≡ None
-first_none None b e = refl
-first_none (Some w) b e = absurd (none≢some w e)
-
-none_is : (o : Option ℕ) → is_some o ≡ false → o ≡ None
-none_is None e = refl
-none_is (Some w) e = absurd (false≢true (sym e))
-
--- what has no host is not on the frontier
-pub new_id : (id : ℕ) (xs old : List Spot) → is_some (option_or (worker_in id xs) (worker_in id old)) ≡ false → ¬ In id (spot_ids xs)
-new_id id xs old none = not_in id xs (first_none (worker_in id xs) (worker_in id old) (none_is (option_or (worker_in id xs) (worker_in id old)) none))
 
 -- a registry after a split
 pub IsRegistry-split : (id : ℕ) (left right : Spot) (xs old now : List Spot) → IsRegistry (record { frontier = xs; retired = old }) → ¬ In left.shard (spot_ids xs) → ¬ In right.shard (spot_ids xs) → (left.shard ≡ right.shard → ⊥)

@@ -1,4 +1,4 @@
-ghost use Rattle.std.specs.Prelude.{◌≡◌, ◌≢◌, ◌+◌, ◌<◌, ◌≤◌, ◌∷◌, ◌++◌, [], length, vec_len, vec_capacity, IsTrue, IsNone, IfOk, OnOk, OnErr};
+ghost use Rattle.std.specs.Prelude.{◌≡◌, ◌≢◌, ◌+◌, ◌<◌, ◌≤◌, ◌∷◌, ◌++◌, [], length, vec_len, vec_capacity, IsTrue, false, IfOk, OnOk, OnErr};
 ghost use Rattle.describing_set.specs.DescSet.{IsDescSetOf};
 ghost use Rattle.server_image.specs.Spots.{AreBoxes, Widens, Grows};
 ghost use Rattle.server_image.specs.Image.{noted, AreGrowths};
@@ -126,7 +126,7 @@ impl Registry {
     }
 
     /// Retires a shard of the frontier, in whose place stand two new ones of its worker, with these
-    /// boxes.
+    /// boxes. Neither of these stands already.
     pub fn split(
         &mut self,
         id: u32,
@@ -136,8 +136,8 @@ impl Registry {
         right_box: DescSet,
     ) -> Result<(), AllocError>
         requires frontier { IsTrue (on_frontier id self.old) }
-        requires left { IsNone (host_of left self.old) }
-        requires right { IsNone (host_of right self.old) }
+        requires left { on_frontier left self.old ≡ false }
+        requires right { on_frontier right self.old ≡ false }
         requires apart { left ≢ right }
         ensures ok { OnOk result (IsSplit id left left_box right right_box self.old self.new) }
         ensures err { OnErr result (self.new ≡ self.old) }

@@ -1,11 +1,11 @@
-use Rattle.std.proofs.Common.{List, ◌≡◌, ◌∙◌, ◌++◌, ◌∷◌, [], get_or, subst, sym, ap, arith, Some, true}
-use Rattle.std.specs.Prelude.{◌==◌, IsTrue, IsNone}
+use Rattle.std.proofs.Common.{List, ◌≡◌, ◌∙◌, ◌++◌, ◌∷◌, [], get_or, subst, sym, ap, arith, Some, true, false}
+use Rattle.std.specs.Prelude.{◌==◌, IsTrue}
 use Rattle.std.specs.List.{remove}
 use Rattle.std.proofs.lemmas.Option.{slice_get-get_or}
 use Rattle.describing_set.specs.declared.listing.Spot.{Spot}
 use Rattle.server_image.specs.Spots.{has_spot, place_of, without, with_spot}
-use Rattle.server_image.specs.Registry.{RegistryValue, IsRegistry, IsSplit, on_frontier, host_of}
-use Rattle.server_image.proofs.Lists.{place-within, new_id, IsRegistry-split}
+use Rattle.server_image.specs.Registry.{RegistryValue, IsRegistry, IsSplit, on_frontier}
+use Rattle.server_image.proofs.Lists.{place-within, not_in, IsRegistry-split}
 use Rattle.server_image.proofs.registry.Registry.split.Goals as goal
 
 pub remove-spot-requires : goal.remove-spot-requires
@@ -28,11 +28,11 @@ invariant_of-self-2 c =
     let out : c.remove-spot.new.self.items ≡ without id xs = c.remove-spot.ensures.items ∙ ap (λ (l : List Spot). remove l c.place_of.result) items ∙ ap (remove xs) place in
     let all : c.put_spot-2.new.spots.items ≡ with_spot right (with_spot left (without id xs)) =
     c.put_spot-2.ensures.spots ∙ ap (with_spot right) (c.put_spot.ensures.spots ∙ ap (with_spot left) out) in
-    let none_left = subst (λ (v : RegistryValue). IsNone (host_of c.args.left v)) (sym c.self.view_is) c.requires.left in
-    let none_right = subst (λ (v : RegistryValue). IsNone (host_of c.args.right v)) (sym c.self.view_is) c.requires.right in
+    let new_left = subst (λ (v : RegistryValue). on_frontier c.args.left v ≡ false) (sym c.self.view_is) c.requires.left in
+    let new_right = subst (λ (v : RegistryValue). on_frontier c.args.right v ≡ false) (sym c.self.view_is) c.requires.right in
     let old = c.self.inside.retired.items in
     subst (λ (l : List Spot). IsRegistry (record { frontier = l; retired = c.push_reserved.new.self.items })) (sym all)
-    (IsRegistry-split id left right xs old c.push_reserved.new.self.items c.self.invariant (new_id c.args.left xs old none_left) (new_id c.args.right xs old none_right) c.requires.apart)
+    (IsRegistry-split id left right xs old c.push_reserved.new.self.items c.self.invariant (not_in c.args.left xs new_left) (not_in c.args.right xs new_right) c.requires.apart)
 
 pub returns-clause-ok : goal.returns-clause-ok
 returns-clause-ok c =
