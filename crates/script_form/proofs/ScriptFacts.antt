@@ -1,7 +1,7 @@
 -- The script of the records read so far.
 use Rattle.std.proofs.Common.{◌≡◌, ◌≢◌, ◌≤◌, ◌<◌, ◌+◌, ◌++◌, ℕ, List, get_or, [], ◌∷◌, length, map, drop, Bool, true, false, Option, Some, None, Ok, Err, arith, refl, sym, ◌∙◌, ap, All, ◌&&◌, length-append, length-drop}
 use Rattle.script_form.specs.Limits.{shard_ids, worker_ids}
-use Rattle.std.specs.Prelude.{if◌then◌else◌, IsTrue, codes, not, unwrap_or, ◌==◌}
+use Rattle.std.specs.Prelude.{codes, not, ◌==◌}
 use Rattle.std.specs.List.{cons_option}
 use Rattle.std.specs.Option.{option_to_list}
 use Rattle.std.specs.Str.{bytes_eq}
@@ -11,11 +11,11 @@ use Rattle.std.proofs.lemmas.List.{append_assoc, append-nil, length-map, length-
 use Rattle.std.proofs.lemmas.List.Elements.{All-map, All-push, filter_map-append}
 use Rattle.std.proofs.lemmas.List.Splits.{length-slice_split}
 use Rattle.std.proofs.lemmas.List.Sums.{fold-append}
-use Rattle.dim_hierarchy.specs.Dimension.{Dimension, find_dim, new_dimension}
+use Rattle.dim_hierarchy.specs.Dimension.{Dimension, new_dimension}
 use Rattle.dim_hierarchy.specs.Filter.{IsNamePick}
-use Rattle.script_form.specs.Causes.{MayStand, cause_at, parent_of, is_version}
+use Rattle.script_form.specs.Causes.{MayStand, cause_at, is_version}
 use Rattle.script_form.specs.Fields.{Record, field, is_bar, is_star, value_of}
-use Rattle.script_form.specs.Kinds.{if_read, is_read, kind_named, kind_of}
+use Rattle.script_form.specs.Kinds.{kind_of}
 use Rattle.script_form.specs.Scripts.{AreSettings, Fits, IsTaken, after, command_by, command_of, default_settings, first_cause, first_fault, hierarchy_with, pick_of, script, script_of, settings_with}
 use Rattle.script_form.specs.declared.kind.Kind.{Kind}
 use Rattle.script_form.specs.declared.kind.Kind.TheVariants as kind
@@ -68,18 +68,6 @@ after_by_kind s r k is = rw is refl
 
 -- The first record has no command, and so a `use` record has none before it.
 
-kept_if : (b : Bool) (j k : Kind) → (if b then Some j else None) ≡ Some k → (b ≡ true) × (j ≡ k)
-kept_if true j k is = (refl, cc)
-kept_if false j k is = cc
-
-if_read_some : (o : Option Kind) (k : Kind) → if_read o ≡ Some k → IsTrue (is_read k)
-if_read_some None k is = cc
-if_read_some (Some j) k is = let kept = kept_if (is_read j) j k is in rw (← kept.1) kept.0
-
--- the kind of a record is one that a script may have
-is_read_kind : (word : List ℕ) (k : Kind) → kind_of word ≡ Some k → IsTrue (is_read k)
-is_read_kind word k is = if_read_some (kind_named word) k is
-
 version_kind : (r : Record) → is_version r ≡ true → kind_of (field r 0) ≡ Some kind.Volap
 version_kind r is =
     let both = and_parts ((length r == 2) && bytes_eq (field r 0) (codes "volap")) (bytes_eq (field r 1) (codes "1")) is in
@@ -129,20 +117,20 @@ fits_more place s kind.Query r stands begun fits =
       picks_list (drop 2 r),
     )
 fits_more place s kind.Sync r stands begun fits =
-    All-push (Fits s) s.commands _ fits (is_read_kind (field r 0) kind.Sync stands.form.kind, value_below (field r 1) s.with.servers (sync_server s.with.servers r stands.form.number))
+    All-push (Fits s) s.commands _ fits (value_below (field r 1) s.with.servers (sync_server s.with.servers r stands.form.number))
 fits_more place s kind.Split r stands begun fits =
-    All-push (Fits s) s.commands _ fits (is_read_kind (field r 0) kind.Split stands.form.kind, value_below (field r 1) shard_ids (split_shard s.with.servers r stands.form.number))
+    All-push (Fits s) s.commands _ fits (value_below (field r 1) shard_ids (split_shard s.with.servers r stands.form.number))
 fits_more place s kind.Move r stands begun fits =
     let both = move_numbers s.with.servers r stands.form.number in
-    All-push (Fits s) s.commands _ fits (is_read_kind (field r 0) kind.Move stands.form.kind, (value_below (field r 1) shard_ids both.0, value_below (field r 2) worker_ids both.1))
+    All-push (Fits s) s.commands _ fits (value_below (field r 1) shard_ids both.0, value_below (field r 2) worker_ids both.1)
 fits_more place s kind.Balance r stands begun fits =
-    All-push (Fits s) s.commands _ fits (is_read_kind (field r 0) kind.Balance stands.form.kind, balance_most s.with.servers r stands.form.number)
-fits_more place s kind.Barrier r stands begun fits = All-push (Fits s) s.commands _ fits (is_read_kind (field r 0) kind.Barrier stands.form.kind, tt)
-fits_more place s kind.Settle r stands begun fits = All-push (Fits s) s.commands _ fits (is_read_kind (field r 0) kind.Settle stands.form.kind, tt)
-fits_more place s kind.Shards r stands begun fits = All-push (Fits s) s.commands _ fits (is_read_kind (field r 0) kind.Shards stands.form.kind, tt)
+    All-push (Fits s) s.commands _ fits (balance_most s.with.servers r stands.form.number)
+fits_more place s kind.Barrier r stands begun fits = All-push (Fits s) s.commands _ fits tt
+fits_more place s kind.Settle r stands begun fits = All-push (Fits s) s.commands _ fits tt
+fits_more place s kind.Shards r stands begun fits = All-push (Fits s) s.commands _ fits tt
 fits_more place s kind.Tree r stands begun fits =
-    All-push (Fits s) s.commands _ fits (is_read_kind (field r 0) kind.Tree stands.form.kind, value_below (field r 1) shard_ids (tree_shard s.with.servers r stands.form.number))
-fits_more place s kind.Audit r stands begun fits = All-push (Fits s) s.commands _ fits (is_read_kind (field r 0) kind.Audit stands.form.kind, tt)
+    All-push (Fits s) s.commands _ fits (value_below (field r 1) shard_ids (tree_shard s.with.servers r stands.form.number))
+fits_more place s kind.Audit r stands begun fits = All-push (Fits s) s.commands _ fits tt
 
 -- A command stands behind a dimension, and no record takes a dimension away.
 

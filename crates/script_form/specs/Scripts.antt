@@ -1,6 +1,6 @@
 -- The script that a list of records is, or where and why it is bad.
 use Rattle.script_form.specs.Limits.{most_servers, most_workers, most_threads, fewest_cells, most_cells, shard_ids, worker_ids, most_actions}
-use Rattle.std.specs.Prelude.{ℕ, IsTrue, pos, ◌≡◌, ◌+◌, ◌<◌, ◌≤◌, Option, Some, None, option_map, unwrap_or, Result, Ok, Err, if◌then◌else◌, ⊤, List, [], ◌∷◌, ◌++◌, length, drop, map, fold, slice_set, All}
+use Rattle.std.specs.Prelude.{ℕ, pos, ◌≡◌, ◌+◌, ◌<◌, ◌≤◌, Option, Some, None, option_map, unwrap_or, Result, Ok, Err, if◌then◌else◌, ⊤, List, [], ◌∷◌, ◌++◌, length, drop, map, fold, slice_set, All}
 use Rattle.std.specs.List.{filter_map}
 use Rattle.std.specs.Option.{option_or, option_to_list}
 use Rattle.csv.specs.Reading.{default_config, records, strip_bom}
@@ -12,7 +12,7 @@ use Rattle.row_ledger.specs.declared.settings.Use.{Use}
 use Rattle.row_ledger.specs.declared.settings.Call.{Call}
 use Rattle.row_ledger.specs.declared.settings.Call.TheVariants as call
 use Rattle.script_form.specs.Fields.{Record, field, is_star, measure_of, pieces, value_of}
-use Rattle.script_form.specs.Kinds.{is_read, kind_of}
+use Rattle.script_form.specs.Kinds.{kind_of}
 use Rattle.script_form.specs.Causes.{MayStand, cause_at, hierarchy_cause, parent_of}
 use Rattle.script_form.specs.declared.kind.Kind.{Kind}
 use Rattle.script_form.specs.declared.kind.Kind.TheVariants as kind
@@ -136,18 +136,6 @@ pub record AreSettings (with : Use) : Type 0 where
   pub threads : (1 ≤ with.threads) × (with.threads ≤ most_threads)
   pub cells : (fewest_cells ≤ with.cells) × (with.cells ≤ most_cells)
 
--- the kind of the records that make a call
-abbrev pub kind_of_call : Call → Kind
-kind_of_call (call.Sync server) = kind.Sync
-kind_of_call (call.Split shard) = kind.Split
-kind_of_call (call.Move shard worker) = kind.Move
-kind_of_call (call.Balance most) = kind.Balance
-kind_of_call call.Barrier = kind.Barrier
-kind_of_call call.Settle = kind.Settle
-kind_of_call call.Shards = kind.Shards
-kind_of_call (call.Tree shard) = kind.Tree
-kind_of_call call.Audit = kind.Audit
-
 -- the numbers of a call are in their ranges, where there are so many servers
 abbrev pub IsInRange : ℕ → Call → Type 0
 IsInRange servers (call.Sync server) = server < servers
@@ -157,15 +145,11 @@ IsInRange servers (call.Balance most) = (1 ≤ most) × (most ≤ most_actions)
 IsInRange servers (call.Tree shard) = shard < shard_ids
 IsInRange servers other = ⊤
 
--- a call that a script of so many servers may ask for
-abbrev pub IsScriptCall : ℕ → Call → Type 0
-IsScriptCall servers c = IsTrue (is_read (kind_of_call c)) × IsInRange servers c
-
--- a command of a server of the script, with a name or a pick for each dimension
+-- a command of a server of the script, with a name or a pick for each dimension and its numbers in their ranges
 abbrev pub Fits : Script → Command → Type 0
 Fits s (command.Insert row) = (row.server < s.with.servers) × (length row.names ≡ length s.hierarchy)
 Fits s (command.Query question) = (question.server < s.with.servers) × (length question.filter ≡ length s.hierarchy) × All IsNamePick question.filter
-Fits s (command.Control call) = IsScriptCall s.with.servers call
+Fits s (command.Control call) = IsInRange s.with.servers call
 
 -- none of the records has a cause, each behind those before it
 abbrev pub AreFine : List Record → Type 0

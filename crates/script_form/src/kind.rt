@@ -1,6 +1,6 @@
 //! The kinds of record.
 ghost use Rattle.std.specs.Prelude.{◌≡◌, ◌≤◌};
-ghost use Rattle.script_form.specs.Kinds.{is_read, kind_named, kind_of, width};
+ghost use Rattle.script_form.specs.Kinds.{kind_of, width};
 
 /// What the first field of a record says that it is.
 #[derive(Clone, Copy, Debug, PartialEq, Eq)]
@@ -22,9 +22,9 @@ pub(crate) enum Kind {
     Audit,
 }
 
-/// The kind that a word names.
-fn kind_named(word: &[u8]) -> Option<Kind>
-    ensures { result ≡ kind_named word.now }
+/// The kind that a first field names.
+pub(crate) fn kind_of(word: &[u8]) -> Option<Kind>
+    ensures { result ≡ kind_of word.now }
 {
     if word == b"volap".as_slice() {
         Some(Kind::Volap)
@@ -58,26 +58,6 @@ fn kind_named(word: &[u8]) -> Option<Kind>
         Some(Kind::Audit)
     } else {
         None
-    }
-}
-
-/// Whether a script may have records of this kind so far: those that the program runs.
-fn is_read(kind: Kind) -> bool
-    ensures { result ≡ is_read kind }
-{
-    match kind {
-        Kind::Split | Kind::Move | Kind::Balance => false,
-        _ => true,
-    }
-}
-
-/// The kind that a first field names, of those that a script may have.
-pub(crate) fn kind_of(word: &[u8]) -> Option<Kind>
-    ensures { result ≡ kind_of word.now }
-{
-    match kind_named(word) {
-        Some(kind) if is_read(kind) => Some(kind),
-        _ => None,
     }
 }
 

@@ -32,7 +32,7 @@ type BadCase = (&'static [u8], u64, Cause);
 
 #[test]
 fn bad_texts(rt: HostRuntime) {
-    const CASES: [BadCase; 23] = [
+    const CASES: [BadCase; 25] = [
         (b"", 1, Cause::Version),
         (b"\n\r\n", 1, Cause::Version),
         (b"volap,2", 1, Cause::Version),
@@ -46,6 +46,8 @@ fn bad_texts(rt: HostRuntime) {
         (b"volap,1\ninsert,0", 2, Cause::Order),
         (b"volap,1\nsync,9", 2, Cause::Order),
         (b"volap,1\nsettle", 2, Cause::Order),
+        (b"volap,1\nbalance,99", 2, Cause::Order),
+        (b"volap,1\naudit,", 2, Cause::Order),
         (b"volap,1\nuse,2,2,2", 2, Cause::Fields),
         (b"volap,1\nuse,0,2,2,64", 2, Cause::Number),
         (b"volap,1\nuse,17,2,2,64", 2, Cause::Number),
@@ -72,7 +74,7 @@ fn bad_texts(rt: HostRuntime) {
 
 #[test]
 fn bad_records_behind_the_base(rt: HostRuntime) -> Result<(), Fail> {
-    const CASES: [BadCase; 72] = [
+    const CASES: [BadCase; 88] = [
         (b"insert,0,5", 6, Cause::Fields),
         (b"insert,0,5,berlin,berlin", 6, Cause::Fields),
         (b"insert,0,x", 6, Cause::Fields),
@@ -154,9 +156,25 @@ fn bad_records_behind_the_base(rt: HostRuntime) -> Result<(), Fail> {
         (b"sync,-0", 6, Cause::Number),
         (b"settle\ndim,x,1", 7, Cause::Order),
         (b"sync,0\nconcept,geo,rome,de", 7, Cause::Order),
-        (b"split,0", 6, Cause::Kind),
+        (b"split", 6, Cause::Fields),
+        (b"split,0,1", 6, Cause::Fields),
+        (b"move,0", 6, Cause::Fields),
+        (b"move,0,0,0", 6, Cause::Fields),
+        (b"balance", 6, Cause::Fields),
+        (b"shards,", 6, Cause::Fields),
         (b"audit,0", 6, Cause::Fields),
+        (b"split,4294967296", 6, Cause::Number),
+        (b"split,", 6, Cause::Number),
+        (b"move,4294967296,0", 6, Cause::Number),
+        (b"move,0,256", 6, Cause::Number),
+        (b"move,0,-1", 6, Cause::Number),
+        (b"balance,0", 6, Cause::Number),
+        (b"balance,17", 6, Cause::Number),
+        (b"balance,x", 6, Cause::Number),
+        (b"split,0\ndim,x,1", 7, Cause::Order),
         (b"shards\ndim,x,1", 7, Cause::Order),
+        (b"audits", 6, Cause::Kind),
+        (b"splits,0", 6, Cause::Kind),
         (b"trees,0", 6, Cause::Kind),
         (b"Insert,0,5,berlin", 6, Cause::Kind),
         (b"\"\"", 6, Cause::Kind),
@@ -194,6 +212,10 @@ fn good_texts(rt: HostRuntime) -> Result<(), Fail> {
         (b"tree,4294967295", 1),
         (b"shards\naudit\nshards", 3),
         (b"sync,00000000000000000001\nsettle\nsync,0\nsettle", 4),
+        (
+            b"split,4294967295\nmove,4294967295,255\nbalance,1\nbalance,016\nshards\naudit",
+            6,
+        ),
         (
             b"tree,0\ninsert,0,5,berlin\ntree,00000000000000000001\nbarrier",
             4,
@@ -247,12 +269,17 @@ fn expect_commands<R: Abort>(rt: &R, commands: &[Command]) {
         Command::Control(Call::Sync(server)),
         Command::Control(Call::Barrier),
         Command::Control(Call::Settle),
+        Command::Control(Call::Split(split)),
+        Command::Control(Call::Move(moved, worker)),
+        Command::Control(Call::Balance(most)),
+        Command::Control(Call::Shards),
+        Command::Control(Call::Audit),
     ] = commands
     else {
         panic!(rt; "other commands");
     };
     assert_eq!(rt; *shard, 4294967295);
-    assert_eq!(rt; *server, 1);
+    assert_eq!(rt; (*server, *split, *moved, *worker, *most), (1, 7, 8, 9, 16));
     expect_insert(rt, row);
     expect_query(rt, question);
 }
@@ -260,7 +287,7 @@ fn expect_commands<R: Abort>(rt: &R, commands: &[Command]) {
 #[test]
 fn what_a_script_holds(rt: HostRuntime) -> Result<(), Fail> {
     const TEXT: &[u8] =
-        b"volap,1\nuse,3,16,8,64\ndim,geo,2\nconcept,geo,de,*\ndim,day,1\nconcept,day,mon,*\ninsert,2,-5,berlin,mon\nquery,0,de|fr,*\ntree,4294967295\nsync,1\nbarrier\nsettle\n";
+        b"volap,1\nuse,3,16,8,64\ndim,geo,2\nconcept,geo,de,*\ndim,day,1\nconcept,day,mon,*\ninsert,2,-5,berlin,mon\nquery,0,de|fr,*\ntree,4294967295\nsync,1\nbarrier\nsettle\nsplit,7\nmove,8,9\nbalance,16\nshards\naudit\n";
     let script = read_script(rt.alloc(), TEXT)?;
     script_laws();
     expect_head(&rt, &script);
