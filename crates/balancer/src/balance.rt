@@ -65,8 +65,8 @@ fn split_of(found: Option<Load>) -> Option<Action>
     }
 }
 
-// Counts on with the shard on the worker.
-fn move_shard(loads: &mut [Load], shard: u32, worker: u8)
+/// Counts on with the shard on the worker. Takes no memory.
+pub fn move_shard(loads: &mut [Load], shard: u32, worker: u8)
     ensures { loads.new ≡ after_move loads.old shard worker }
 {
     for load in loads.iter_mut() {

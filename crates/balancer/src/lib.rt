@@ -5,4 +5,4 @@ mod balance;
 mod shards;
 mod workers;
 
-pub use balance::plan;
+pub use balance::{move_shard, plan};

@@ -54,3 +54,6 @@ mod SplitBoxes
 mod SplitRetires
 mod SplitLeads
 mod FinishesSplit
+pub mod Finishings
+pub mod FinishReady
+pub mod MoveMade

@@ -77,7 +77,25 @@ all-out s v g i n =
       };
     }
 
--- how many pushes a command has with a job
+-- a command with a job has as many pushes as go by its end or its next action
+pub owes-enough : (s : Setting) (v : View) (g : Ghost) → InvWith s v g → (n of : ℕ) (work : Work) (job : JobValue) → v.commands n ≡ doing of work → IsJobOf work job → gone_by (plans work) ≤ owes work
+owes-enough s v g i n of (work_is.Split x) job has is = omega arith
+owes-enough s v g i n of (work_is.Move x to) job has is = omega arith
+owes-enough s v g i n of (work_is.Balance b) job has is =
+    let bal = i.balancing.balance n of b has in
+    let at = next-action b (begun job) is in
+    let planned = bal.planned at.0 at.2 in
+    let few = planned.few in
+    let more = inside b.over at.0 at.1 at.3 in
+    omega (arith, few, more)
+owes-enough s v g i n of (work_is.Insert row routed) job has is = absurd is
+owes-enough s v g i n of work_is.Query job has is = absurd is
+owes-enough s v g i n of (work_is.Sync server pulled) job has is = absurd is
+owes-enough s v g i n of work_is.Barrier job has is = absurd is
+owes-enough s v g i n of (work_is.Settle pulls) job has is = absurd is
+owes-enough s v g i n of (work_is.Shards shown) job has is = absurd is
+owes-enough s v g i n of (work_is.Tree x stands shown) job has is = absurd is
+owes-enough s v g i n of (work_is.Audit shown) job has is = absurd is
 
 module _ (hs : List Dimension) (stock_at ledger_at : ℕ) (stock ledger : CellValue) (a : ActorValue) (here : IsHere hs (held stock_at stock ∷ held ledger_at ledger ∷ []) a) (due : CanPostpone stock ledger a) where
   abbrev s : Setting
@@ -104,25 +122,6 @@ module _ (hs : List Dimension) (stock_at ledger_at : ℕ) (stock ledger : CellVa
       let works : k.0.work ≡ due.work = ap (λ (o : Option Command). option_map_or (λ (x : Command). x.work) o work_is.Query) (sym k.1 ∙ command-here) in
       subst (λ (x : Work). IsJobOf x due.job) works k.2
 
-  owes-some : (work : Work) → v.commands n ≡ doing due.of work → IsJobOf work due.job → gone_by (plans work) ≤ owes work
-  owes-some (work_is.Split x) has of = omega arith
-  owes-some (work_is.Move x to) has of = omega arith
-  owes-some (work_is.Balance b) has of =
-      let bal = i.balancing.balance n due.of b has in
-      let at = next-action b (begun due.job) of in
-      let planned = bal.planned at.0 at.2 in
-      let few = planned.few in
-      let more = inside b.over at.0 at.1 at.3 in
-      omega (arith, few, more)
-  owes-some (work_is.Insert row routed) has of = absurd of
-  owes-some work_is.Query has of = absurd of
-  owes-some (work_is.Sync server pulled) has of = absurd of
-  owes-some work_is.Barrier has of = absurd of
-  owes-some (work_is.Settle pulls) has of = absurd of
-  owes-some (work_is.Shards shown) has of = absurd of
-  owes-some (work_is.Tree x stands shown) has of = absurd of
-  owes-some (work_is.Audit shown) has of = absurd of
-
   module _ (command : Command) (has : a.command ≡ Some command) where
     of-is : command.of ≡ due.of
     of-is = ap (λ (o : Option Command). option_map_or (λ (k : Command). k.of) o 0) (sym has ∙ due.command)
@@ -133,7 +132,7 @@ module _ (hs : List Dimension) (stock_at ledger_at : ℕ) (stock ledger : CellVa
     pub gone-promised : (lv : LedgerValue) → ledger ≡ LedgerCell lv → (planned : Bool) → planned ≡ plans command.work → gone_by planned ≤ lv.promised
     gone-promised lv is planned planned_is =
         let all = all-promised s here.world here.inv.ghost_of i n (record { of = due.of; work = due.work }) command-here ledger_at lv (here.agrees.cells.1.0 ∙ is) in
-        let some = owes-some due.work command-here its-job in
+        let some = owes-enough s v here.inv.ghost_of i n due.of due.work due.job command-here its-job in
         let same : gone_by planned ≡ gone_by (plans due.work) = ap gone_by (planned_is ∙ ap plans work-is) in
         omega (arith, all, some, same)
 

@@ -109,7 +109,7 @@ pub fn postpone(
 }
 
 /// Whether a command plans its actions, so that one which is given up is not its end.
-fn plans(work: &Work) -> bool
+pub(crate) fn plans(work: &Work) -> bool
     ensures { result ≡ is_planned work.now }
 {
     match work {

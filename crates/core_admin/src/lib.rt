@@ -10,5 +10,6 @@ mod trees;
 
 pub use builds::{build_block, postpone};
 pub use collects::{collect_block, collect_row};
+pub use finishes::{finish_here, finish_move};
 pub use freezes::{drained, freeze};
 pub use trees::build_trees;

@@ -1,5 +1,5 @@
 -- The map from ids that a `BTreeMap` with numbers as keys stands for.
-use Rattle.std.proofs.Common.{ℕ, ◌≡◌, List, [], ◌∷◌, Some, Bool, true, false, cond, subst, refl, sym, ap, ◌∙◌}
+use Rattle.std.proofs.Common.{ℕ, ◌≡◌, List, [], ◌∷◌, None, Some, Bool, true, false, cond, subst, refl, sym, ap, ◌∙◌}
 use Rattle.std.specs.Ordering.{nat_cmp, is_eq}
 use Rattle.std.specs.Map.{lookup}
 use Rattle.std.specs.BTreeMap.{BTreeMap, Updates, is_at}
@@ -44,3 +44,11 @@ from_entries-updated before now id to u = map.same_map nat_cmp_total nat_cmp-IsA
     ∙ ap (λ x. cond (is_eq (nat_cmp id q)) (Some to) x) (lookup-entries q before.entries)
     ∙ ap (λ b. cond b (Some to) (map.get (map.from_entries {R = nat_cmp} before.entries) q)) (is_eq-flips id q)
     ∙ sym (map.get-insert nat_cmp_total (map.from_entries {R = nat_cmp} before.entries) id to q))
+
+-- and a removal is one from the map
+pub from_entries-removed : {X : Type 0} (before now : BTreeMap ℕ X) (id : ℕ) → Updates nat_cmp before now id None → map.from_entries {R = nat_cmp} now.entries ≡ map.remove (map.from_entries {R = nat_cmp} before.entries) id
+from_entries-removed before now id u = map.same_map nat_cmp_total nat_cmp-IsAntisymmetric _ _ (λ q.
+    sym (lookup-entries q now.entries) ∙ u.0 q
+    ∙ ap (λ x. cond (is_eq (nat_cmp id q)) None x) (lookup-entries q before.entries)
+    ∙ ap (λ b. cond b None (map.get (map.from_entries {R = nat_cmp} before.entries) q)) (is_eq-flips id q)
+    ∙ sym (map.get-remove nat_cmp_total (map.from_entries {R = nat_cmp} before.entries) id q))

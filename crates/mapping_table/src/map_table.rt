@@ -1,4 +1,4 @@
-ghost use Rattle.std.specs.Prelude.{◌≡◌, OnOk, OnErr};
+ghost use Rattle.std.specs.Prelude.{◌≡◌, None, OnOk, OnErr};
 ghost use Rattle.std.specs.FinMap as map;
 
 use crate::place::Where;
@@ -46,12 +46,20 @@ impl MapTable {
         }
     }
 
-    /// Lets an id lead to this place, in place of the one before.
+    /// Lets an id lead to this place, in place of the one before. Only one that led nowhere takes memory.
     pub fn set(&mut self, id: u32, to: Where) -> Result<(), AllocError>
         ensures ok { OnOk result (self.new ≡ map.insert self.old id to) }
         ensures err { OnErr result (self.new ≡ self.old) }
+        ensures known { OnErr result (map.get self.old id ≡ None) }
     {
         self.places.insert(id, to)?;
         Ok(())
+    }
+
+    /// Lets an id lead nowhere. Takes no memory.
+    pub fn forget(&mut self, id: u32)
+        ensures { self.new ≡ map.remove self.old id }
+    {
+        let _ = self.places.remove(&id);
     }
 }

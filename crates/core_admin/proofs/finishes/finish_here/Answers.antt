@@ -1,0 +1,46 @@
+use Rattle.std.proofs.Common.{Box, Global, IsSome, Some, [], ap, option_map, refl, subst, sym, ◌∙◌, ◌∷◌}
+use Rattle.shard_store.specs.declared.gate.Gate.{Gate}
+use Rattle.volap_cell.specs.Cells.{GateCell, LedgerCell, MapCell, RegistryCell, StockCell, cell_of, gate_shard}
+use Rattle.volap_cell.specs.Values.{actor_of, job_of}
+use Rattle.volap_cell.specs.World.{held}
+use Rattle.volap_cell.specs.declared.job.Job.{Job}
+use Rattle.volap_cell.proofs.Boxed.{gated}
+use Rattle.core_admin.specs.FinishDue.{MakesWayHere}
+use Rattle.core_admin.proofs.FinishReady.{gate-there, is-late, may-finish, moves-of}
+use Rattle.core_admin.proofs.MoveMade.{here-makes}
+use Rattle.core_admin.proofs.finishes.finish_here.Goals as goal
+
+pub unreachable-requires-in_default-gate : goal.unreachable-requires-in_default-gate
+unreachable-requires-in_default-gate c =
+    let (x, is) = gate-there c.args.h.now (held c.args.table_at (cell_of c.args.table.now) ∷ []) c.args.gate_at c.args.new_at c.args.registry_at c.args.stock_at c.args.ledger_at (cell_of c.args.gate.now) (cell_of c.args.new.now) (cell_of c.args.registry.now) (cell_of c.args.stock.now) (cell_of c.args.ledger.now) (actor_of c.args.actor.now) c.requires.here c.requires.due.moved in
+    gated c.args.gate.now (subst IsSome (sym (ap gate_shard is)) refl) (λ x e. c.in_default-gate.not-Gate x e)
+
+pub make_way_here-requires : goal.make_way_here-requires
+make_way_here-requires c = record {
+  moves = moves-of c.args.h.now (held c.args.table_at (cell_of c.args.table.now) ∷ []) c.args.gate_at c.args.new_at c.args.registry_at c.args.stock_at c.args.ledger_at (cell_of c.args.gate.now) (cell_of c.args.new.now) (cell_of c.args.registry.now) (cell_of c.args.stock.now) (cell_of c.args.ledger.now) (actor_of c.args.actor.now) c.requires.here c.requires.due.moved
+      (job_of c.deref-2.result.now) (ap (option_map (λ (j : Box Job Global). job_of j.value)) c.in-Some.is ∙ ap (λ (j : Job). Some (job_of j)) (sym c.deref-2.ensures));
+  gate = is-late c.args.h.now (held c.args.table_at (cell_of c.args.table.now) ∷ []) c.args.gate_at c.args.new_at c.args.registry_at c.args.stock_at c.args.ledger_at (cell_of c.args.gate.now) (cell_of c.args.new.now) (cell_of c.args.registry.now) (cell_of c.args.stock.now) (cell_of c.args.ledger.now) (actor_of c.args.actor.now) c.requires.here c.requires.due.moved c.deref.result.now (ap cell_of c.in-Gate.is ∙ ap GateCell (sym c.deref.ensures));
+}
+
+pub finish_for-requires : goal.finish_for-requires
+finish_for-requires c = record {
+  due = may-finish c.args.h.now (held c.args.table_at (cell_of c.args.table.now) ∷ []) c.args.gate_at c.args.new_at c.args.registry_at c.args.stock_at c.args.ledger_at (cell_of c.args.gate.now) (cell_of c.args.new.now) (cell_of c.args.registry.now) (cell_of c.args.stock.now) (cell_of c.args.ledger.now) (actor_of c.args.actor.now) c.requires.here c.requires.due.moved
+      c.deref_mut-2.result.now (ap cell_of c.in-Gate.is ∙ ap GateCell (sym c.deref_mut-2.ensures.value))
+      c.deref_mut-3.result.now (ap cell_of c.in-Registry.is ∙ ap RegistryCell (sym c.deref_mut-3.ensures.value))
+      c.deref_mut-4.result.now (ap cell_of c.in-Stock.is ∙ ap StockCell (sym c.deref_mut-4.ensures.value))
+      c.deref_mut-5.result.now (ap cell_of c.in-Ledger.is ∙ ap LedgerCell (sym c.deref_mut-5.ensures.value));
+}
+
+pub returns-clause-made : goal.returns-clause-made
+returns-clause-made c =
+    let job = ap (option_map (λ (j : Box Job Global). job_of j.value)) c.in-Some.is ∙ ap (λ (j : Job). Some (job_of j)) (sym c.deref-2.ensures) in
+    here-makes c.frame_law.ensures c.collect_laws.ensures.ends c.args.h.now c.args.table_at (cell_of c.args.table.now) c.args.gate_at c.args.new_at c.args.registry_at c.args.stock_at c.args.ledger_at (cell_of c.args.gate.now) (cell_of c.args.new.now) (cell_of c.args.registry.now) (cell_of c.args.stock.now) (cell_of c.args.ledger.now) (actor_of c.args.actor.now) c.requires.here c.requires.due
+    c.in-Map.worker c.deref_mut.result.now c.make_way_here.new.table (ap cell_of c.in-Map.is ∙ ap (MapCell c.in-Map.worker) (sym c.deref_mut.ensures.value))
+    c.deref_mut-2.result.now c.finish_for.new.gate c.in_ok-made.made.value (ap cell_of c.in-Gate.is ∙ ap GateCell (sym c.deref_mut-2.ensures.value)) (cell_of c.put_gate.new.cell) c.put_gate.ensures
+    c.deref_mut-3.result.now c.finish_for.new.registry (ap cell_of c.in-Registry.is ∙ ap RegistryCell (sym c.deref_mut-3.ensures.value))
+    c.deref_mut-4.result.now c.finish_for.new.stock (ap cell_of c.in-Stock.is ∙ ap StockCell (sym c.deref_mut-4.ensures.value))
+    c.deref_mut-5.result.now c.finish_for.new.ledger (ap cell_of c.in-Ledger.is ∙ ap LedgerCell (sym c.deref_mut-5.ensures.value))
+    (job_of c.deref-2.result.now) job (actor_of c.finish_for.new.actor)
+    (subst (λ (x : Gate). MakesWayHere c.args.h.now c.args.new_at c.deref_mut.result.now c.make_way_here.new.table x (job_of c.deref-2.result.now) c.in_ok-made.made.value)
+    (c.deref.ensures ∙ sym c.deref_mut-2.ensures.value) c.in_ok-made.ensures.made)
+    c.finish_for.ensures
