@@ -65,3 +65,8 @@ mod SplitRetires
 mod SplitLeads
 mod FinishesSplit
 mod KnownIds
+pub mod TableSteps
+pub mod SideRows
+pub mod ChildGates
+pub mod SplitReady
+pub mod SplitMade
