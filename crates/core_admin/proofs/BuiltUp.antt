@@ -89,7 +89,7 @@ done-few s v g i n of b job has is =
     omega (arith, long, taken, back, most, done)
 
 module _ (hs : List Dimension) (maps others : List Change) (gate_at registry_at stock_at ledger_at : ℕ) (gate registry stock ledger : CellValue) (a : ActorValue)
-    (here : IsHere hs (maps ++ held gate_at gate ∷ others ++ held registry_at registry ∷ held stock_at stock ∷ held ledger_at ledger ∷ []) a) (up : IsBuiltUp gate_at registry stock ledger a) where
+    (here : IsHere hs (maps ++ (held gate_at gate ∷ (others ++ (held registry_at registry ∷ held stock_at stock ∷ held ledger_at ledger ∷ [])))) a) (up : IsBuiltUp gate_at registry stock ledger a) where
   abbrev pub s : Setting
   s = a.setting
 
@@ -115,8 +115,8 @@ module _ (hs : List Dimension) (maps others : List Change) (gate_at registry_at 
   behind = held registry_at registry ∷ held stock_at stock ∷ held ledger_at ledger ∷ []
 
   -- behind the tables
-  rest : Each (λ (k : Change). here.world.cells k.number ≡ k.before) (held gate_at gate ∷ others ++ behind)
-  rest = each-right (λ (k : Change). here.world.cells k.number ≡ k.before) maps (held gate_at gate ∷ others ++ behind) here.agrees.cells
+  rest : Each (λ (k : Change). here.world.cells k.number ≡ k.before) (held gate_at gate ∷ (others ++ behind))
+  rest = each-right (λ (k : Change). here.world.cells k.number ≡ k.before) maps (held gate_at gate ∷ (others ++ behind)) here.agrees.cells
 
   last : Each (λ (k : Change). here.world.cells k.number ≡ k.before) behind
   last = each-right (λ (k : Change). here.world.cells k.number ≡ k.before) others behind rest.1
@@ -192,8 +192,11 @@ module _ (hs : List Dimension) (maps others : List Change) (gate_at registry_at 
 
   -- The rest.
 
+  pub its-front : (r : RegistryValue) → registry ≡ RegistryCell r → places_of r.frontier ≡ frontier s.workers v.history
+  its-front r r_is = subst (λ (z : RegistryValue). places_of z.frontier ≡ frontier s.workers v.history) (held-registry s here.world i.numbering.tag registry_at r (last.0 ∙ r_is)) i.lineage.front
+
   pub is-listed : (r : RegistryValue) → registry ≡ RegistryCell r → IsTrue (on_frontier job.shard r)
-  is-listed r r_is = stands-live s.workers v.history r (subst (λ (z : RegistryValue). places_of z.frontier ≡ frontier s.workers v.history) (held-registry s here.world i.numbering.tag registry_at r (last.0 ∙ r_is)) i.lineage.front) job.shard ∙ its.live
+  is-listed r r_is = stands-live s.workers v.history r (its-front r r_is) job.shard ∙ its.live
 
   pub stock-here : (sv : StockValue) → stock ≡ StockCell sv → v.stock ≡ sv
   stock-here sv sv_is = held-stock s here.world i.numbering.tag stock_at sv (last.1.0 ∙ sv_is)

@@ -1,14 +1,18 @@
--- The tables lead from no id that is still to be given out.
-use Rattle.std.proofs.Common.{◌≡◌, ℕ, ◌<◌, ◌≤◌, Option, Some, None, IsSome, refl, arith}
+-- An id that is still to be given out is new: no table leads from it, and no shard of it stands.
+use Rattle.std.proofs.Common.{◌≡◌, ℕ, ◌<◌, ◌≤◌, false, Option, Some, None, IsSome, refl, sym, ◌∙◌, arith}
 use Rattle.mapping_table.specs.declared.place.Where.{Where}
 use Rattle.mapping_table.specs.declared.place.Where.TheVariants as where_is
+use Rattle.row_ledger.specs.Listings.{places_of}
 use Rattle.row_ledger.specs.Right.{EachEvent, Stands}
-use Rattle.row_ledger.specs.Shards.{ids_made, left_at}
-use Rattle.row_ledger.proofs.Descent.{split-made}
+use Rattle.row_ledger.specs.Shards.{frontier, ids_made, left_at}
+use Rattle.row_ledger.proofs.Descent.{live-made, split-made}
+use Rattle.server_image.specs.Registry.{RegistryValue, on_frontier}
+use Rattle.tree_shape.proofs.Walks.{on_bool}
 use Rattle.volap_cell.specs.Ghost.{Ghost}
 use Rattle.volap_cell.specs.Invariant.{InvWith}
 use Rattle.volap_cell.specs.Setting.{Setting, site_in}
 use Rattle.volap_cell.specs.View.{View}
+use Rattle.core_image.proofs.Hosts.{stands-live}
 use Rattle.volap_cell.proofs.Departures.{left-moves, moves-made}
 
 module _ (s : Setting) (v : View) (g : Ghost) (i : InvWith s v g) where
@@ -32,3 +36,12 @@ module _ (s : Setting) (v : View) (g : Ghost) (i : InvWith s v g) where
       by : (o : Option Where) → v.maps w x ≡ o → v.maps w x ≡ None
       by None is = is
       by (Some to) is = (let lt = entry-made w x to is in let ids = i.lineage.ids in absurd (omega (arith, lt, ids, le)))
+
+  -- and stand nowhere
+  pub next-off : (r : RegistryValue) → places_of r.frontier ≡ frontier s.workers v.history → (x : ℕ) → v.stock.ids ≤ x → on_frontier x r ≡ false
+  next-off r front x le = on_bool (on_frontier x r)
+      (λ has.
+      let made = live-made (site_in s) g.placed v.history x each (sym (stands-live s.workers v.history r front x) ∙ has) in
+      let ids = i.lineage.ids in
+      absurd (omega (arith, made, ids, le)))
+      (λ off. off)

@@ -1,5 +1,5 @@
 -- The rows of one side of a plane may stand in a queue where all of them may.
-use Rattle.std.proofs.Common.{◌≡◌, ◌<◌, ◌^◌, Bool, List, filter, length, arith}
+use Rattle.std.proofs.Common.{Bool, List, arith}
 use Rattle.std.proofs.lemmas.List.Elements.{All-filter}
 use Rattle.std.proofs.lemmas.List.Sums.{count_by-le-length, length-filter}
 use Rattle.describing_set.specs.Plane.{goes_left}

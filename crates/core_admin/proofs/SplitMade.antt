@@ -1,5 +1,5 @@
 -- What the calls did that end a split is what the kind does.
-use Rattle.std.proofs.Common.{◌≡◌, ℕ, ◌+◌, ◌^◌, ◌<◌, List, [], ◌∷◌, ◌++◌, Option, Some, None, refl, sym, ap, ◌∙◌, subst}
+use Rattle.std.proofs.Common.{◌≡◌, ℕ, ◌+◌, ◌^◌, ◌<◌, List, [], ◌∷◌, ◌++◌, Option, Some, drop, refl, sym, ap, ◌∙◌, subst}
 use Rattle.std.specs.FinMap as map
 use Rattle.std.specs.Ordering.{nat_cmp}
 use Rattle.std.specs.Option.{option_map_or}
@@ -15,11 +15,11 @@ use Rattle.server_image.specs.Registry.{RegistryValue, IsSplit}
 use Rattle.shard_store.specs.declared.gate.Gate.{Gate}
 use Rattle.tree_shape.specs.Laws.{CollectEndLaw, GateLaw, OtherLaw}
 use Rattle.volap_cell.specs.AdminKinds.{DoesFinishSplit, IsGateFor, IsTrueBox, left_of}
-use Rattle.volap_cell.specs.Cells.{CellValue, GateCell, LedgerCell, MapCell, MapOf, RegistryCell, StockCell, tag_of}
+use Rattle.volap_cell.specs.Cells.{CellValue, GateCell, LedgerCell, MapCell, MapOf, RegistryCell, StockCell, stock_in, tag_of}
 use Rattle.volap_cell.specs.Steps.{IsHere, Makes}
-use Rattle.volap_cell.specs.Values.{ActorValue, BuildingValue, Builds, JobValue}
+use Rattle.volap_cell.specs.Values.{ActorValue, BuildingValue, JobValue}
 use Rattle.volap_cell.specs.Working.{IsJobOf}
-use Rattle.volap_cell.specs.World.{Change, change, held}
+use Rattle.volap_cell.specs.World.{change, held}
 use Rattle.volap_cell.specs.declared.command.Command.{Command}
 use Rattle.volap_cell.specs.declared.command.Work.{Work}
 use Rattle.volap_cell.specs.declared.command.Work.TheVariants as work_is
@@ -42,7 +42,7 @@ module _ (other : OtherLaw) (ends : CollectEndLaw) (gates : GateLaw) (hs : List 
     (here : IsHere hs (held table_at table ∷ held gate_at gate ∷ held left_at left ∷ held right_at right ∷ held registry_at registry ∷ held stock_at stock ∷ held ledger_at ledger ∷ []) a) (due : CanFinishSplit table gate_at left_at right_at registry stock ledger a)
     (tw : ℕ) (ft ft2 : map.FinMap nat_cmp Where) (table_is : table ≡ MapCell tw ft) (x x2 left_made right_made : Gate) (x_is : gate ≡ GateCell x) (left2 : CellValue) (left_is : left2 ≡ GateCell left_made) (right2 : CellValue) (right_is : right2 ≡ GateCell right_made)
     (r r2 : RegistryValue) (r_is : registry ≡ RegistryCell r) (sv sv2 : StockValue) (sv_is : stock ≡ StockCell sv) (lv lv2 : LedgerValue) (lv_is : ledger ≡ LedgerCell lv)
-    (j : JobValue) (j_is : a.job ≡ Some j) (b : ActorValue) (way : DividesShard hs left_at right_at ft ft2 x r r2 sv.ids j left_made right_made) (did : FinishesDivided hs x x2 sv sv2 lv lv2 a b) where
+    (j : JobValue) (j_is : a.job ≡ Some j) (b : ActorValue) (way : DividesShard hs left_at right_at ft ft2 x r r2 sv.ids j left_made right_made) (did : FinishesDivided hs x x2 sv sv2 lv lv2 a b) (few : sv.ids + 2 < 2 ^ 32) where
   j-same : j ≡ did.job
   j-same = (let both : ◌≡◌ {A = Option JobValue} (Some j) (Some did.job) = sym j_is ∙ did.has.is_job in cc)
 
@@ -109,7 +109,7 @@ module _ (other : OtherLaw) (ends : CollectEndLaw) (gates : GateLaw) (hs : List 
     stock_now = sv2;
     left_gate = left_made;
     right_gate = right_made;
-    left_is = subst (λ (k : BuildingValue). IsGateFor hs sv.ids k.left (left_of hs way.plane _) left_made) way-building (way.left_gate late.upto late.frozen);
+    left_is = subst (λ (k : BuildingValue). IsGateFor hs sv.ids k.left (left_of hs way.plane (drop late.upto x.queue.rows)) left_made) way-building (way.left_gate late.upto late.frozen);
     left_now = left_is;
     right_gate_is = way.right_gate late.upto late.frozen;
     right_now = right_is;
@@ -138,4 +138,4 @@ module _ (other : OtherLaw) (ends : CollectEndLaw) (gates : GateLaw) (hs : List 
   pub split-makes : Makes hs kind.FinishSplit
       (change table_at table (MapCell tw ft2) ∷ change gate_at gate (GateCell x2) ∷ change left_at left left2 ∷ change right_at right right2 ∷ change registry_at registry (RegistryCell r2) ∷ change stock_at stock (StockCell sv2)
       ∷ change ledger_at ledger (LedgerCell lv2) ∷ []) a b
-  split-makes = record { does = does; keeps = split-keeps other ends gates hs _ _ _ _ _ _ _ a b does due.ids }
+  split-makes = record { does = does; keeps = split-keeps other ends gates hs _ _ _ _ _ _ _ a b does (subst (λ (c : CellValue). (stock_in c).ids + 2 < 2 ^ 32) (sym sv_is) few) }

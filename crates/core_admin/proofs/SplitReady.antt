@@ -1,6 +1,5 @@
 -- What the calls that end a split ask of the cells, the actor and its command is so in each state.
-use Rattle.std.proofs.Common.{◌≡◌, ℕ, ◌+◌, ◌<◌, ◌≤◌, ◌^◌, List, [], ◌∷◌, ◌++◌, length, Option, Some, None, refl, sym, ap, ◌∙◌, subst, inl, inr, arith}
-use Rattle.std.specs.Prelude.{IsNone}
+use Rattle.std.proofs.Common.{◌≡◌, ℕ, ◌+◌, ◌<◌, ◌≤◌, ◌^◌, List, [], ◌∷◌, ◌++◌, length, Option, Some, None, false, refl, sym, ap, ◌∙◌, subst, inl, inr, arith}
 use Rattle.std.specs.FinMap as map
 use Rattle.std.specs.Ordering.{nat_cmp}
 use Rattle.std.proofs.lemmas.List.{length-append}
@@ -9,12 +8,12 @@ use Rattle.cell_stock.specs.declared.purse.Spare.{Spare}
 use Rattle.dim_hierarchy.specs.Dimension.{Dimension}
 use Rattle.mapping_table.specs.declared.place.Where.{Where}
 use Rattle.row_ledger.specs.LedgerValue.{LedgerValue}
-use Rattle.server_image.specs.Registry.{RegistryValue, host_of}
+use Rattle.server_image.specs.Registry.{RegistryValue, on_frontier}
 use Rattle.shard_store.specs.declared.gate.Gate.{Gate}
 use Rattle.tree_shape.specs.Counts.{Among}
 use Rattle.tree_shape.specs.Laws.{CollectEndLaw, GateLaw}
 use Rattle.tree_shape.proofs.Parts.{among-right}
-use Rattle.volap_cell.specs.Cells.{CellValue, GateCell, LedgerCell, MapCell, RegistryCell, StockCell, registry_in, stock_in}
+use Rattle.volap_cell.specs.Cells.{CellValue, GateCell, LedgerCell, MapCell, RegistryCell, StockCell}
 use Rattle.volap_cell.specs.Ghost.{Ghost, InPurse}
 use Rattle.volap_cell.specs.Invariant.{InvWith}
 use Rattle.volap_cell.specs.Setting.{Setting}
@@ -27,8 +26,8 @@ use Rattle.volap_cell.proofs.Helds.{held-map}
 use Rattle.volap_cell.proofs.Spares.{among-cells}
 use Rattle.core_admin.specs.FinishDue.{IsLate}
 use Rattle.core_admin.specs.SplitDue.{CanFinishSplit, MayDivideShard, MayFinishSplit, SplitsInto}
-use Rattle.core_admin.proofs.BuiltUp.{enough-promised, frozen-here, is-drained, is-late, is-listed, job-here, job-same, known, may-close, purse-here, rest-out, stock-here, there}
-use Rattle.core_admin.proofs.KnownIds.{next-nowhere}
+use Rattle.core_admin.proofs.BuiltUp.{enough-promised, frozen-here, is-drained, is-late, is-listed, its-front, job-here, job-same, known, may-close, purse-here, rest-out, stock-here, there}
+use Rattle.core_admin.proofs.KnownIds.{next-nowhere, next-off}
 use Rattle.core_admin.proofs.SplitSides.{left-valid, right-valid}
 
 module _ (hs : List Dimension) (table_at : ℕ) (table : CellValue) (gate_at left_at right_at registry_at stock_at ledger_at : ℕ) (gate left right registry stock ledger : CellValue) (a : ActorValue)
@@ -96,8 +95,9 @@ module _ (hs : List Dimension) (table_at : ℕ) (table : CellValue) (gate_at lef
       stock-is : v.stock ≡ sv
       stock-is = stock-here hs maps spots gate_at registry_at stock_at ledger_at gate registry stock ledger a here due.up sv sv_is
 
-      ids : sv.ids + 2 < 2 ^ 32
-      ids = subst (λ (c : CellValue). (stock_in c).ids + 2 < 2 ^ 32) sv_is due.ids
+      -- the stock's next id is one
+      pub ids-few : sv.ids < 2 ^ 32
+      ids-few = subst (λ (k : StockValue). k.ids < 2 ^ 32) stock-is i.stocking.valid.ids
 
       nowhere : (tw : ℕ) (ft : map.FinMap nat_cmp Where) → table ≡ MapCell tw ft → (z : ℕ) → sv.ids ≤ z → map.get ft z ≡ None
       nowhere tw ft table_is z le =
@@ -105,25 +105,27 @@ module _ (hs : List Dimension) (table_at : ℕ) (table : CellValue) (gate_at lef
           let same = ap (λ (k : StockValue). k.ids) stock-is in
           ap (λ (f : ℕ → Option Where). f z) (sym held_table.1) ∙ next-nowhere s v g i tw z (omega (arith, same, le))
 
-      new-id : (z : ℕ) (r : RegistryValue) → registry ≡ RegistryCell r → IsNone (host_of z (registry_in registry)) → IsNone (host_of z r)
-      new-id z r r_is none = subst (λ (c : CellValue). IsNone (host_of z (registry_in c))) r_is none
+      off : (r : RegistryValue) → registry ≡ RegistryCell r → (z : ℕ) → sv.ids ≤ z → on_frontier z r ≡ false
+      off r r_is z le =
+          let same = ap (λ (k : StockValue). k.ids) stock-is in
+          next-off s v g i r (its-front hs maps spots gate_at registry_at stock_at ledger_at gate registry stock ledger a here due.up r r_is) z (omega (arith, same, le))
 
-      pub may-divide : CollectEndLaw → GateLaw → (tw : ℕ) (ft : map.FinMap nat_cmp Where) → table ≡ MapCell tw ft → (r : RegistryValue) → registry ≡ RegistryCell r → (j : JobValue) → a.job ≡ Some j → MayDivideShard hs ft x r sv.ids j
-      may-divide ends gates tw ft table_is r r_is j j_is =
+      pub may-divide : sv.ids + 2 < 2 ^ 32 → CollectEndLaw → GateLaw → (tw : ℕ) (ft : map.FinMap nat_cmp Where) → table ≡ MapCell tw ft → (r : RegistryValue) → registry ≡ RegistryCell r → (j : JobValue) → a.job ≡ Some j → MayDivideShard hs ft x r sv.ids j
+      may-divide ids ends gates tw ft table_is r r_is j j_is =
           subst (MayDivideShard hs ft x r sv.ids) (job-same hs maps spots gate_at registry_at stock_at ledger_at gate registry stock ledger a here due.up j j_is) (record {
             into = splits-into ends gates;
             gate_is = late-here;
             enter = record {
               known = known hs maps spots gate_at registry_at stock_at ledger_at gate registry stock ledger a here due.up table_at table here.agrees.cells.0 due.table_is tw ft table_is;
-              nowhere = record { few = (let most = ids in omega (arith, most)); left = nowhere tw ft table_is sv.ids (omega arith); right = nowhere tw ft table_is (sv.ids + 1) (omega arith) };
+              nowhere = record { few = omega arith; left = nowhere tw ft table_is sv.ids (omega arith); right = nowhere tw ft table_is (sv.ids + 1) (omega arith) };
               listed = is-listed hs maps spots gate_at registry_at stock_at ledger_at gate registry stock ledger a here due.up r r_is;
-              left_new = new-id sv.ids r r_is (subst (λ (c : CellValue). IsNone (host_of (stock_in c).ids (registry_in registry))) sv_is due.left_new);
-              right_new = new-id (sv.ids + 1) r r_is (subst (λ (c : CellValue). IsNone (host_of ((stock_in c).ids + 1) (registry_in registry))) sv_is due.right_new);
+              left_new = off r r_is sv.ids (omega arith);
+              right_new = off r r_is (sv.ids + 1) (omega arith);
             };
           })
 
-      pub may-finish-split : (lv : LedgerValue) → ledger ≡ LedgerCell lv → MayFinishSplit x sv lv a
-      may-finish-split lv lv_is = record {
+      pub may-finish-split : sv.ids + 2 < 2 ^ 32 → (lv : LedgerValue) → ledger ≡ LedgerCell lv → MayFinishSplit x sv lv a
+      may-finish-split ids lv lv_is = record {
         of = due.up.of;
         work = due.up.work;
         command = due.up.command;

@@ -1,6 +1,6 @@
 -- The two trees of a job that splits a shard, once all their blocks are in their cells: of the rows on either side of the plane, with
 -- cells of the job, and with valid sets.
-use Rattle.std.proofs.Common.{◌≡◌, ℕ, ◌+◌, ◌≤◌, Bool, true, false, not, cond, List, [], ◌∷◌, ◌++◌, map, filter, Option, Some, None, Contains, refl, sym, ap, ◌∙◌, subst, inl, inr, arith}
+use Rattle.std.proofs.Common.{◌≡◌, ℕ, ◌+◌, ◌≤◌, Bool, true, false, not, cond, List, [], ◌∷◌, ◌++◌, map, filter, Some, None, Contains, refl, sym, ap, ◌∙◌, subst, inl, inr, arith}
 use Rattle.std.proofs.lemmas.Bool.{false≢true}
 use Rattle.std.proofs.lemmas.List.{map-append}
 use Rattle.std.proofs.lemmas.List.Elements.{All-map}
@@ -82,7 +82,7 @@ picked-rows table p side rows sides named valid once = record {
 }
 
 module _ (s : Setting) (w : World) (g : Ghost) (i : InvWith s (view s w) g) (n : ℕ) (job : JobValue) (building : BuildingValue) (has : (w.actors n).job ≡ Some job) (stage : job.stage ≡ Builds building) (in_cells : building.unbuilt ≡ [])
-    (gate : Gate) (here : w.cells building.frozen.gate ≡ GateCell gate) (upto : ℕ) (frozen_at : gate.phase ≡ Frozen upto) (plane : Plane) (divided : building.frozen.plane ≡ Some plane) (right_tree : BuiltTree) (right_is : building.right ≡ Some right_tree) where
+    (gate : Gate) (here : w.cells building.frozen.gate ≡ GateCell gate) (upto : ℕ) (frozen_at : gate.phase ≡ Frozen upto) (plane : Plane) (divided : building.frozen.plane ≡ Some plane) (right_tree : BuiltTree) (right_there : building.right ≡ Some right_tree) where
   abbrev pub v : View
   v = view s w
 
@@ -117,7 +117,7 @@ module _ (s : Setting) (w : World) (g : Ghost) (i : InvWith s (view s w) g) (n :
             let both : Some t.0 ≡ Some plane = sym t.1 ∙ divided in
             let cut : t.0 ≡ plane = cc in
             let trees = t.2 in
-            let right_both : Some right_tree ≡ Some (tree_of trees.1) = sym right_is ∙ trees.6 in
+            let right_both : Some right_tree ≡ Some (tree_of trees.1) = sym right_there ∙ trees.6 in
             record {
               left = trees.0;
               right = trees.1;

@@ -14,7 +14,6 @@ use Rattle.tree_shape.proofs.Parts.{each-left, each-right}
 use Rattle.volap_cell.specs.AdminKinds.{DoesFinishSplit, left_of, right_of}
 use Rattle.volap_cell.specs.Cells.{GateCell, block_in, way_in}
 use Rattle.volap_cell.specs.Ghost.{Ghost, InJob, InPurse, is_in_job}
-use Rattle.volap_cell.specs.Growing.{table_of}
 use Rattle.volap_cell.specs.Invariant.{InvWith}
 use Rattle.volap_cell.specs.Setting.{Setting}
 use Rattle.volap_cell.specs.Values.{ActorValue}

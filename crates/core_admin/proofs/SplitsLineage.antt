@@ -143,8 +143,8 @@ module _ (s : Setting) (v v2 : View) (g g2 : Ghost) (n : ℕ) (i : InvWith s v g
         front = t.places;
         gate_of = λ z w is. elim (on-before (site_in s) g.placed h each t.of m.shard t.left t.right t.from t.is_right t.was_on z w is) [
           | inl old ↦
-              let lt = old-on z w old.0 in
               let o = k.gate_of z w old.0 in
+              let lt = k.made (g.gate z) z o.1 in
               let kept = gate-old s v v2 g g2 n i m (g.gate z) (subst IsSome (sym o.1) refl) in
               let off = others-gate (g.gate z) z o.1 old.1 in
               let entry : v2.maps w z ≡ v.maps w z = by-old w z old.1 lt in

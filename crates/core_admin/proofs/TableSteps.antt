@@ -1,5 +1,5 @@
 -- A table takes entries, and gives them up again.
-use Rattle.std.proofs.Common.{◌≡◌, ◌≢◌, ℕ, ◌+◌, Bool, true, false, cond, eqb, Option, Some, None, IsSome, refl, sym, ap, ◌∙◌, subst, arith}
+use Rattle.std.proofs.Common.{◌≡◌, ◌≢◌, ℕ, ◌+◌, Bool, true, false, cond, eqb, Option, Some, None, IsSome, sym, ap, ◌∙◌, subst, arith}
 use Rattle.std.specs.FinMap as map
 use Rattle.std.specs.FinMap.{nat_cmp-IsAntisymmetric}
 use Rattle.std.specs.Ordering.{nat_cmp, is_eq}
@@ -58,7 +58,11 @@ module _ (m : map.FinMap nat_cmp Where) (first left_at right_at : ℕ) (none : L
   -- a shard that is known is none of them
   module _ (shard : ℕ) (known : IsSome (map.get m shard)) where
     off-none : (x : ℕ) → map.get m x ≡ None → shard ≢ x
-    off-none x is same = (let no : IsSome {A = Where} None = subst IsSome (ap (map.get m) same ∙ is) known in cc)
+    off-none x is same = none-some (map.get m shard) (ap (map.get m) same ∙ is) known
+      where
+        none-some : (o : Option Where) → o ≡ None → IsSome o → ⊥
+        none-some None none some = cc
+        none-some (Some to) none some = cc
 
     pub still-known : IsSome (map.get (with_children m first left_at right_at) shard)
     still-known = subst IsSome

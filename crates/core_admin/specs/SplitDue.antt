@@ -1,5 +1,5 @@
 -- What the step asks that ends a split, beyond that its cells and its actor are those of a state; and what its inner functions ask and do.
-use Rattle.std.specs.Prelude.{ℕ, ◌≡◌, ◌+◌, ◌^◌, ◌<◌, ◌≤◌, Bool, true, false, IsTrue, IsSome, IsNone, List, [], ◌∷◌, ◌++◌, Option, Some, None, drop, length}
+use Rattle.std.specs.Prelude.{ℕ, ◌≡◌, ◌+◌, ◌^◌, ◌<◌, ◌≤◌, Bool, true, false, IsTrue, IsSome, List, [], ◌∷◌, ◌++◌, Some, None, drop, length}
 use Rattle.std.specs.FinMap as map
 use Rattle.std.specs.Ordering.{nat_cmp}
 use Rattle.cell_stock.specs.Stock.{AreOut, Gives, PurseValue, StockValue}
@@ -13,10 +13,10 @@ use Rattle.mapping_table.specs.declared.place.Where.{Where}
 use Rattle.mapping_table.specs.declared.place.Where.TheVariants as where_is
 use Rattle.row_ledger.specs.LedgerValue.{LedgerValue}
 use Rattle.row_ledger.specs.declared.event.Event.TheVariants as event
-use Rattle.server_image.specs.Registry.{RegistryValue, IsSplit, host_of, on_frontier}
+use Rattle.server_image.specs.Registry.{RegistryValue, IsSplit, on_frontier}
 use Rattle.shard_store.specs.declared.gate.Gate.{Gate}
 use Rattle.volap_cell.specs.AdminKinds.{HasJob, IsGateFor, IsTrueBox, IsUpTo, Retires}
-use Rattle.volap_cell.specs.Cells.{CellValue, MapOf, registry_in, stock_in, tag_of}
+use Rattle.volap_cell.specs.Cells.{CellValue, MapOf, tag_of}
 use Rattle.volap_cell.specs.ImageKinds.{doing}
 use Rattle.volap_cell.specs.Values.{ActorValue, JobValue, BuildingValue, Builds}
 use Rattle.volap_cell.specs.declared.command.Work.{Work}
@@ -24,8 +24,8 @@ use Rattle.volap_cell.specs.declared.job.BuiltTree.{BuiltTree}
 use Rattle.core_admin.specs.BuildDue.{side_of}
 use Rattle.core_admin.specs.FinishDue.{ClosesDone, IsBuiltUp, IsLate, MayCloseDone, NotesDone, gone_by, plans}
 
--- The job has built two trees. The last two spares are for the gates of the children, the left one's first; the table is that of the worker
--- that has the shard; and there are two ids more, with which the registry never had a shard.
+-- The job has built two trees. The last two spares are for the gates of the children, the left one's first; the table is that
+-- of the worker that has the shard.
 pub record CanFinishSplit (table : CellValue) (gate_at left_at right_at : ℕ) (registry stock ledger : CellValue) (a : ActorValue) : Type 0 where
   pub up : IsBuiltUp gate_at registry stock ledger a
   pub plane : Plane
@@ -39,9 +39,6 @@ pub record CanFinishSplit (table : CellValue) (gate_at left_at right_at : ℕ) (
   pub left_cell : left_at ≡ left_spare.cell
   pub right_cell : right_at ≡ right_spare.cell
   pub table_is : tag_of table ≡ MapOf up.job.worker
-  pub ids : (stock_in stock).ids + 2 < 2 ^ 32
-  pub left_new : IsNone (host_of (stock_in stock).ids (registry_in registry))
-  pub right_new : IsNone (host_of ((stock_in stock).ids + 1) (registry_in registry))
 
 -- The children.
 
@@ -83,8 +80,8 @@ pub record MayEnterBoth (table : map.FinMap nat_cmp Where) (registry : RegistryV
   pub known : IsSome (map.get table shard)
   pub nowhere : LeadNowhere table first
   pub listed : IsTrue (on_frontier shard registry)
-  pub left_new : IsNone (host_of first registry)
-  pub right_new : IsNone (host_of (first + 1) registry)
+  pub left_new : on_frontier first registry ≡ false
+  pub right_new : on_frontier (first + 1) registry ≡ false
 
 pub record EntersBoth (table table_now : map.FinMap nat_cmp Where) (registry registry_now : RegistryValue) (shard : ℕ) (plane : Plane) (first left_at right_at : ℕ) (left_box right_box : DescSet) : Type 0 where
   pub leads : table_now ≡ with_children (map.insert table shard (where_is.Split plane first (first + 1))) first left_at right_at

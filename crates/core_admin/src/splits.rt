@@ -26,10 +26,13 @@ use std::alloc::{AllocError, Global};
 use tree_shape::{collect_laws, frame_law, tree_laws};
 use volap_cell::{Actor, BuiltTree, Cell, Job, Stage};
 
+/// The highest id with which two ids may begin: the stock's next id behind them is a `u32` too.
+const LAST_PAIR: u32 = u32::MAX - 2;
+
 /// Ends the split of the actor's shard: either new tree has a gate of its own, with the rows of its side that came
 /// to the queue after the shard was frozen, the worker's table and the registry lead to both, and the old gate is
 /// gone. A balance goes on to its next action, and a split ends. The new gates are made first, and their places
-/// in the table and in the registry; where memory is wanting for these, nothing changes.
+/// in the table and in the registry; where memory or ids are wanting for these, nothing changes.
 pub fn finish_split(
     alloc: Global,
     h: &Hierarchy,
@@ -84,7 +87,7 @@ pub fn finish_split(
     let Some(job) = &actor.job else {
         unreachable!()
     };
-    let first = next_id(stock);
+    let first = next_ids(stock)?;
     let (one, two) = divide(
         alloc, h, left_at, right_at, table, gate, registry, first, job,
     )?;
@@ -282,11 +285,16 @@ fn give_most(stock: &mut Stock, purse: &mut Purse) -> u32
     stock.shard_ids(2)
 }
 
-/// The first id that no shard has. Takes no memory.
-fn next_id(stock: &mut Stock) -> u32
-    requires { stock.old.ids + 2 < 2 ^ 32 }
-    ensures first { result ≡ stock.old.ids }
+/// The first of the next two ids, which no shard has yet. Where there are not two more, it answers want of memory. The
+/// stock stays as it is. Takes no memory.
+fn next_ids(stock: &mut Stock) -> Result<u32, AllocError>
+    requires few { stock.old.ids < 2 ^ 32 }
+    ensures ok { IfOk result (λ first. (first ≡ stock.old.ids) × (first + 2 < 2 ^ 32)) }
     ensures same { stock.new ≡ stock.old }
 {
-    stock.shard_ids(0)
+    let first = stock.shard_ids(0);
+    if first > LAST_PAIR {
+        return Err(AllocError);
+    }
+    Ok(first)
 }

@@ -21,8 +21,8 @@ returns-in-Ok-clause-ok c =
 
 pub returns-in-Err-clause-err : goal.returns-in-Err-clause-err
 returns-in-Err-clause-err c = (
-  c.forget-2.ensures
-  ∙ ap (λ (z : map.FinMap nat_cmp Where). map.remove z c.args.first) (c.forget.ensures ∙ ap (λ (z : map.FinMap nat_cmp Where). map.remove z (c.args.first + 1)) c.in_ok-lead_to_children.ensures.ok)
-  ∙ both-forgotten c.args.table.now c.args.first c.args.left_at c.args.right_at c.requires.due.nowhere,
+  c.forget-in-Err.ensures
+      ∙ ap (λ (z : map.FinMap nat_cmp Where). map.remove z c.args.first) (c.forget.ensures ∙ ap (λ (z : map.FinMap nat_cmp Where). map.remove z (c.args.first + 1)) c.in_ok-lead_to_children.ensures.ok)
+      ∙ both-forgotten c.args.table.now c.args.first c.args.left_at c.args.right_at c.requires.due.nowhere,
   c.in-Err.ensures.err,
 )
