@@ -188,7 +188,7 @@ fn bad_records_behind_the_base(rt: HostRuntime) -> Result<(), Fail> {
 
 #[test]
 fn good_texts(rt: HostRuntime) -> Result<(), Fail> {
-    const CASES: [(&[u8], usize); 12] = [
+    const CASES: [(&[u8], usize); 13] = [
         (b"", 0),
         (b"insert,0,5,\"berlin\"\r\nquery,1,de|berlin\r\nbarrier", 3),
         (
