@@ -1,5 +1,6 @@
 // Scripts made by chance, run by chance: each answer holds the rows that its server must know, only rows
-// that had begun, and each once.
+// that had begun, and each once; and each page of all shards or of all rows tells of just the rows that
+// had begun, whatever was split and moved meanwhile.
 ghost use Rattle.std.specs.Prelude.{◌<◌};
 
 use crate::against_flat::{Dice, head, push_insert};
@@ -7,7 +8,7 @@ use crate::tests::words;
 use crate::{Status, olap};
 use measure_agg::Agg;
 use rand_pcg::Pcg32;
-use row_ledger::Event;
+use row_ledger::{AuditLine, Event, Page, ShardLine};
 use std::alloc::{AllocError, Global};
 use std::fmt::Write;
 use std::process::Abort;
@@ -72,8 +73,82 @@ fn lies_between(must: u64, answer: &Agg, may: u64) -> bool {
     least & sum == least && sum & most == sum && answer.count() == count
 }
 
-/// How many answers stand in a history, if each lies between its bounds.
-fn answers(alloc: Global, events: &[Event]) -> Result<u64, Fail> {
+/// How many of these stand in a history: answers, pages, and splits and moves of shards.
+#[derive(Clone, Copy)]
+struct Seen {
+    answers: u64,
+    pages: u64,
+    splits: u64,
+    moves: u64,
+}
+
+impl Seen {
+    /// None of any.
+    const NONE: Seen = Seen {
+        answers: 0,
+        pages: 0,
+        splits: 0,
+        moves: 0,
+    };
+
+    /// One more of what this event is.
+    fn see(&mut self, event: &Event) {
+        match event {
+            Event::Answered { .. } => self.answers = self.answers.saturating_add(1),
+            Event::Shown { .. } => self.pages = self.pages.saturating_add(1),
+            Event::Split { .. } => self.splits = self.splits.saturating_add(1),
+            Event::Moved { .. } => self.moves = self.moves.saturating_add(1),
+            _ => {}
+        }
+    }
+
+    /// Both together.
+    fn add(&mut self, more: &Seen) {
+        self.answers = self.answers.saturating_add(more.answers);
+        self.pages = self.pages.saturating_add(more.pages);
+        self.splits = self.splits.saturating_add(more.splits);
+        self.moves = self.moves.saturating_add(more.moves);
+    }
+}
+
+/// How many rows these shards have.
+fn rows_of(shards: &[ShardLine]) -> u64 {
+    let mut count = 0u64;
+    for shard in shards {
+        count = count.saturating_add(shard.rows).saturating_add(shard.queued);
+    }
+    count
+}
+
+/// Whether an audit tells of just these rows, each once.
+fn is_audit_of(audit: &AuditLine, rows: u64) -> bool {
+    lies_between(rows, &audit.agg, rows) && 0 < audit.shards
+}
+
+/// Whether a page tells of just these rows, each once.
+fn is_page_of(page: &Page, rows: u64) -> bool {
+    match page {
+        Page::Shards(shards) => rows_of(shards.as_slice()) == u64::from(rows.count_ones()),
+        Page::Audit(audit) => is_audit_of(audit, rows),
+        Page::Tree(_) => true,
+    }
+}
+
+/// Whether an event that answers or shows tells what it must and may, where the queries before it must
+/// hold these rows.
+fn is_in_bounds(known: &Known, must: &[u64], event: &Event) -> bool {
+    match event {
+        Event::Answered { of, agg } => {
+            let least = must.get(*of as usize).copied().unwrap_or(0);
+            lies_between(least, agg, known.begun)
+        }
+        Event::Shown { page, .. } => is_page_of(page, known.begun),
+        _ => true,
+    }
+}
+
+/// What stands in a history, if each answer and each page lies between its bounds.
+fn seen_in(alloc: Global, events: &[Event]) -> Result<Seen, Fail> {
     let mut known = Known {
         begun: 0,
         own: [0; 2],
@@ -81,34 +156,53 @@ fn answers(alloc: Global, events: &[Event]) -> Result<u64, Fail> {
         published: 0,
     };
     let mut must = Vec::new(alloc);
-    let mut count = 0u64;
+    let mut seen = Seen::NONE;
     for event in events {
         must.push(known.must(event))?;
         known.see(events, event);
-        if let Event::Answered { of, agg } = event {
-            let least = must.get(*of as usize).copied().unwrap_or(0);
-            if !lies_between(least, agg, known.begun) {
-                return Err("out of bounds".into());
-            }
-            count = count.saturating_add(1);
+        seen.see(event);
+        if !is_in_bounds(&known, must.as_slice(), event) {
+            return Err("out of bounds".into());
         }
     }
-    Ok(count)
+    Ok(seen)
+}
+
+/// Adds a split, a move or a balance. The shard may stand or not, and the worker too.
+fn push_work(text: &mut String, dice: &mut Dice) -> Result<(), AllocError> {
+    let shard = dice.roll(7);
+    let worker = dice.roll(3);
+    let most = 1 + dice.roll(4);
+    match dice.roll(4) {
+        0 => writeln!(text, "balance,{most}"),
+        1 => writeln!(text, "move,{shard},{worker}"),
+        _ => writeln!(text, "split,{shard}"),
+    }
+}
+
+/// Adds a command that closes its phase.
+fn push_closing(text: &mut String, dice: &mut Dice) -> Result<(), AllocError> {
+    match dice.roll(5) {
+        0 => writeln!(text, "shards"),
+        1 => writeln!(text, "audit"),
+        2 => writeln!(text, "settle"),
+        _ => writeln!(text, "barrier"),
+    }
 }
 
 /// Adds a command with a number: most are inserts.
 fn push_command(text: &mut String, dice: &mut Dice, number: u64) -> Result<(), AllocError> {
     let server = dice.roll(2);
-    match dice.roll(16) {
+    match dice.roll(18) {
         0 | 1 | 2 => writeln!(text, "query,{server},*,*"),
         3 | 4 => writeln!(text, "sync,{server}"),
-        5 => writeln!(text, "barrier"),
-        6 => writeln!(text, "settle"),
+        5 => push_closing(text, dice),
+        6 | 7 => push_work(text, dice),
         _ => push_insert(text, dice, number),
     }
 }
 
-/// A script of so many commands and a query behind a settle.
+/// A script of so many commands, with a query and pages behind a settle.
 fn script(alloc: Global, dice: &mut Dice, count: u64) -> Result<String, AllocError> {
     let workers = 1 + dice.roll(2);
     let cells = 64 + 64 * dice.roll(3);
@@ -116,7 +210,7 @@ fn script(alloc: Global, dice: &mut Dice, count: u64) -> Result<String, AllocErr
     for number in 0..count {
         push_command(&mut text, dice, number)?;
     }
-    write!(text, "settle\nquery,1,*,*\n")?;
+    write!(text, "settle\nquery,1,*,*\nshards\naudit\n")?;
     Ok(text)
 }
 
@@ -126,19 +220,20 @@ fn run<R: Abort + Threads + Wait + Sync>(
     alloc: Global,
     text: &[u8],
     seed: u64,
-) -> Result<(), Fail> {
+) -> Result<Seen, Fail> {
     let seed = format!(in alloc; "{seed}")?;
     let words = words(alloc, &["step", "--seed", seed.as_str()])?;
     let mut source = MemSource::new(text.to_vec(alloc)?, Vec::new(alloc), 4096);
     let mut sink = MemSink::new(alloc, 100_000, Vec::new(alloc), 4096)?;
     let outcome = olap(rt, alloc, words.as_slice(), &mut source, &mut sink, &Quiet);
     assert_eq!(rt; outcome.status, Status::Done);
-    let count = answers(alloc, outcome.ledger.events())?;
-    assert!(rt; count > 0);
-    Ok(())
+    let seen = seen_in(alloc, outcome.ledger.events())?;
+    assert!(rt; seen.answers > 0 && seen.pages > 1);
+    Ok(seen)
 }
 
-/// Runs a thousand scripts, each by a seed.
+/// Runs a thousand scripts, each by a seed. In all of them together shards are split and moved, some
+/// hundred times each.
 fn run_many<R: Abort + Threads + Wait + Sync>(
     rt: &R,
     alloc: Global,
@@ -147,12 +242,14 @@ fn run_many<R: Abort + Threads + Wait + Sync>(
     let dice = &mut Dice {
         words: Pcg32::new(2, stream),
     };
+    let mut all = Seen::NONE;
     for _ in 0..1000 {
-        let count = 6 + dice.roll(26);
+        let count = 6 + dice.roll(56);
         let text = script(alloc, dice, count)?;
         let seed = dice.roll(1 << 32);
-        run(rt, alloc, text.as_str().as_bytes(), seed)?;
+        all.add(&run(rt, alloc, text.as_str().as_bytes(), seed)?);
     }
+    assert!(rt; all.splits > 100 && all.moves > 100);
     Ok(())
 }
 
@@ -164,4 +261,9 @@ fn answers_by_seeds_lie_between_their_bounds(rt: HostRuntime) -> Result<(), Fail
 #[test]
 fn answers_by_other_seeds_lie_between_their_bounds(rt: HostRuntime) -> Result<(), Fail> {
     run_many(&rt, rt.alloc(), 3)
+}
+
+#[test]
+fn answers_by_seeds_of_a_third_kind_lie_between_their_bounds(rt: HostRuntime) -> Result<(), Fail> {
+    run_many(&rt, rt.alloc(), 4)
 }

@@ -17,6 +17,8 @@ mod by_seed;
 #[cfg(test)]
 mod flat;
 #[cfg(test)]
+mod shard_tests;
+#[cfg(test)]
 mod tests;
 #[cfg(test)]
 mod tree_tests;

@@ -11,15 +11,28 @@ use std::thread::Threads;
 use volap_io::{MemSink, MemSource};
 
 /// A country with two cities.
-const CITIES: &str = "dim,geo,2\nconcept,geo,de,*\nconcept,geo,berlin,de\nconcept,geo,munich,de\n";
+pub(crate) const CITIES: &str = "dim,geo,2\nconcept,geo,de,*\nconcept,geo,berlin,de\nconcept,geo,munich,de\n";
 
 /// A country with eight cities.
-const LETTERS: &str =
+pub(crate) const LETTERS: &str =
     "dim,geo,2\nconcept,geo,de,*\nconcept,geo,a,de\nconcept,geo,b,de\nconcept,geo,c,de\nconcept,geo,d,de\nconcept,geo,e,de\nconcept,geo,f,de\nconcept,geo,g,de\nconcept,geo,h,de\n";
 
 /// Two dimensions, one of them of one level.
 const TWO: &str =
     "dim,geo,2\nconcept,geo,de,*\nconcept,geo,berlin,de\nconcept,geo,munich,de\ndim,day,1\nconcept,day,mon,*\nconcept,day,tue,*\n";
+
+/// Adds so many inserts of measure 1, at the places in turn.
+pub(crate) fn push_inserts(
+    text: &mut String,
+    places: &[&str],
+    count: usize,
+) -> Result<(), AllocError> {
+    for i in 0..count {
+        let place = places.get(i % places.len().max(1)).copied().unwrap_or("");
+        writeln!(text, "insert,0,1,{place}")?;
+    }
+    Ok(())
+}
 
 /// A script of so many cells over a base: so many inserts of measure 1, at the places in turn, and
 /// then these records.
@@ -33,16 +46,13 @@ fn script(
 ) -> Result<String, AllocError> {
     let mut text = String::new(alloc);
     write!(text, "volap,1\nuse,1,1,1,{cells}\n{base}")?;
-    for i in 0..count {
-        let place = places.get(i % places.len().max(1)).copied().unwrap_or("");
-        writeln!(text, "insert,0,1,{place}")?;
-    }
+    push_inserts(&mut text, places, count)?;
     write!(text, "{then}")?;
     Ok(text)
 }
 
 /// What is printed: so many inserts that are fine, and then these lines.
-fn printed(alloc: Global, count: usize, then: &str) -> Result<String, AllocError> {
+pub(crate) fn printed(alloc: Global, count: usize, then: &str) -> Result<String, AllocError> {
     let mut text = String::new(alloc);
     for i in 0..count {
         let number = i as u64 + 1;
@@ -53,7 +63,7 @@ fn printed(alloc: Global, count: usize, then: &str) -> Result<String, AllocError
 }
 
 /// Runs a script, and compares what it prints.
-fn expect<R: Abort + Threads + Wait + Sync>(
+pub(crate) fn expect<R: Abort + Threads + Wait + Sync>(
     rt: &R,
     alloc: Global,
     script: &str,
