@@ -15,6 +15,7 @@ mod laws;
 mod loads;
 mod look;
 mod machine;
+mod moves;
 mod names_due;
 mod opening;
 mod phase;
