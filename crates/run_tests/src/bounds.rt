@@ -10,7 +10,7 @@ use row_ledger::Event;
 /// own number's remainder by this.
 pub(crate) const COUNTRIES: u32 = 2;
 
-/// What was found of a history's answers.
+/// What was found of a history's answers, and how much happened besides.
 #[derive(Clone, Copy, Debug, PartialEq, Eq)]
 pub(crate) struct Tally {
     pub answers: u64,
@@ -20,6 +20,8 @@ pub(crate) struct Tally {
     pub wrong: u64,
     /// How many commands found no memory.
     pub starved: u64,
+    pub splits: u64,
+    pub moves: u64,
 }
 
 impl Tally {
@@ -29,6 +31,8 @@ impl Tally {
         loose: 0,
         wrong: 0,
         starved: 0,
+        splits: 0,
+        moves: 0,
     };
 
     /// Of the answers of both.
@@ -38,6 +42,8 @@ impl Tally {
             loose: self.loose.wrapping_add(other.loose),
             wrong: self.wrong.wrapping_add(other.wrong),
             starved: self.starved.wrapping_add(other.starved),
+            splits: self.splits.wrapping_add(other.splits),
+            moves: self.moves.wrapping_add(other.moves),
         }
     }
 }
@@ -223,7 +229,7 @@ fn judge(all: &[Event], place: usize, of: usize, agg: &Agg) -> Tally {
         answers: 1,
         loose: u64::from(must != may),
         wrong: u64::from(!right),
-        starved: 0,
+        ..Tally::NONE
     }
 }
 
@@ -235,6 +241,14 @@ pub(crate) fn judge_all(all: &[Event]) -> Tally {
             Event::Answered { of, agg } => judge(all, place, *of as usize, agg),
             Event::Failed { .. } | Event::Refused { .. } => Tally {
                 starved: 1,
+                ..Tally::NONE
+            },
+            Event::Split { .. } => Tally {
+                splits: 1,
+                ..Tally::NONE
+            },
+            Event::Moved { .. } => Tally {
+                moves: 1,
                 ..Tally::NONE
             },
             _ => Tally::NONE,

@@ -59,7 +59,7 @@ impl Dice {
         self.words.next_word() % sides.max(1)
     }
 
-    /// The number of one of two servers.
+    /// The number of one of two servers, or of two workers.
     fn server(&mut self) -> u8 {
         if self.roll(2) == 0 { 0 } else { 1 }
     }
@@ -82,9 +82,19 @@ impl Dice {
         Line::Insert(server, measure, self.town())
     }
 
+    /// A split or a move of a shard, which may not stand, or some of both.
+    fn change(&mut self) -> Line {
+        match self.roll(3) {
+            0 => Line::Call(Call::Split(self.roll(8))),
+            1 => Line::Call(Call::Move(self.roll(8), self.server())),
+            _ => Line::Call(Call::Balance(3)),
+        }
+    }
+
     /// A command that closes no phase.
     fn line(&mut self, measure: i64) -> Line {
-        match self.roll(16) {
+        match self.roll(19) {
+            16 | 17 | 18 => self.change(),
             0 => Line::Call(Call::Sync(self.server())),
             1 => Line::Insert(0, 5, "nowhere"),
             2 | 3 | 4 | 5 => self.query(),

@@ -105,5 +105,7 @@ fn a_thousand_phases_by_chance(rt: HostRuntime) -> Result<(), Fail> {
     let found = by_chance(alloc, 200)?;
     assert_eq!(rt; (found.wrong, found.starved), (0, 0));
     assert!(rt; found.loose > 1000);
+    assert!(rt; found.splits > 100);
+    assert!(rt; found.moves > 100);
     Ok(())
 }

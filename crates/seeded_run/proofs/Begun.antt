@@ -8,7 +8,7 @@ use Rattle.script_form.specs.declared.script.Command.{Command}
 use Rattle.script_form.specs.declared.script.Command.TheVariants as script
 use Rattle.volap_cell.specs.Setting.{Setting}
 use Rattle.volap_cell.specs.Steps.{history_in}
-use Rattle.volap_cell.specs.Values.{ActorValue, actor_of}
+use Rattle.volap_cell.specs.Values.{ActorValue, ErrandValue, actor_of}
 use Rattle.volap_cell.specs.World.{World}
 use Rattle.volap_cell.specs.declared.actor.Actor.{Actor}
 use Rattle.volap_cell.specs.declared.command.Command.{Command as OpenCommand}
@@ -24,12 +24,12 @@ use Rattle.seeded_run.specs.Due.{command_kind, due, desk_of, free_kind, is_alone
 use Rattle.seeded_run.specs.Look.{HasNextNames}
 use Rattle.seeded_run.specs.Machine.{HasLeftOver, HasTurned, IsDueNow, IsPhaseKept, TakesTurn, about_in, can_in, next_at, phase_of, world_of}
 use Rattle.seeded_run.specs.Rests.{first_open, rest_of}
-use Rattle.seeded_run.specs.Steps.{begins_by, begins_of_one}
+use Rattle.seeded_run.specs.Steps.{begins_by, begins_of_one, is_for_part}
 use Rattle.seeded_run.specs.Takes.{AsksHere}
 use Rattle.seeded_run.specs.Told.{is_of_part}
 use Rattle.seeded_run.specs.declared.machine.Running.{Running}
 use Rattle.seeded_run.proofs.Held.{none-past, rest-none, rest-some}
-use Rattle.seeded_run.proofs.LeftAlone.{apart, at-command, both-parts}
+use Rattle.seeded_run.proofs.LeftAlone.{apart, at-command, both-parts, off-part}
 use Rattle.seeded_run.proofs.PhaseRuns.{script}
 use Rattle.seeded_run.proofs.StepsReady.{some-if}
 
@@ -47,8 +47,8 @@ may-of actors n k = by (get_or actors n None)
     by (Some a) e = (both-parts (is_none (actor_of a).command) (may_begin k) e).1
 
 -- a kind by which a command may begin is of no part
-pub no-part : (actors : List (Option Actor)) (n : ℕ) (due_kind k : Kind) → begins_by actors n due_kind ≡ true → is_of_part due_kind ≡ true → is_of_part k ≡ true
-no-part actors n due_kind k begins part = apart (is_of_part due_kind) part (begins-apart due_kind (may-of actors n due_kind begins))
+pub no-part : (actors : List (Option Actor)) (n : ℕ) (errand : Option ErrandValue) (due_kind k : Kind) → begins_by actors n due_kind ≡ true → is_for_part errand due_kind ≡ true → is_of_part k ≡ true
+no-part actors n errand due_kind k begins part = apart (is_for_part errand due_kind) part (off-part errand due_kind (begins-apart due_kind (may-of actors n due_kind begins)))
 
 some-due : (o : Option Kind) (test : Kind → Bool) → option_map_or test o false ≡ true → (k : Kind) × (o ≡ Some k)
 some-due None test e = cc
@@ -88,7 +88,7 @@ module _ (m : Running) (kept : IsPhaseKept m) (n : ℕ) where
       let a = stands (get_or m.state.actors.items n None) (λ x. actor_of x ≡ w.actors n) (kept.core.is.actor n within) in
       let both = both-parts (is_none (actor_of a.0).command) (may_begin k) (sym (ap (λ o. begins_of_one o k) a.1) ∙ begins) in
       let free : (w.actors n).command ≡ None = sym (ap (λ (x : ActorValue). x.command) a.2) ∙ none-is (actor_of a.0).command both.0 in
-      let at = at-command s w rest n k now_due.due_is (begins-apart k both.1) in
+      let at = at-command s w rest n k now_due.due_is (off-part (w.actors n).errand k (begins-apart k both.1)) in
       let kind_is : free_kind s w (is_alone s w rest n) (rest n) (w.actors n).role ≡ Some k = sym (ap (command_kind s w (is_alone s w rest n) (rest n) (w.actors n)) free) ∙ at.due in
       apart (may_begin k) both.1 (free-none s w (is_alone s w rest n) (rest n) (w.actors n).role k (rest-none m kept n (none-past m.phase.now (next_at m n) none)) kind_is)
     where

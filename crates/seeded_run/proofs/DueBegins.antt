@@ -37,7 +37,7 @@ use Rattle.seeded_run.specs.Due.{are_known, desk_of, first_kind, is_alone, next_
 use Rattle.seeded_run.specs.Progress.{AreScriptRoles}
 use Rattle.seeded_run.specs.Told.{is_of_part}
 use Rattle.seeded_run.proofs.DueCommands.{IsAtEmpty, at-empty}
-use Rattle.seeded_run.proofs.LeftAlone.{IsAtCommand, at-command, next-due}
+use Rattle.seeded_run.proofs.LeftAlone.{IsAtCommand, at-command, next-due, off-part}
 use Rattle.seeded_run.proofs.Scripts.{role-is}
 
 -- Whose a command is.
@@ -122,7 +122,7 @@ module _ (h : List Dimension) (with : Use) (cells : List (Option Cell)) (actors 
   rest = (b.next s w core).rest
 
   at : IsAtCommand s w (b.next s w core).rest n b.kind_is
-  at = at-command s w (b.next s w core).rest n b.kind_is (b.next s w core).due_is (begins-no-part b.kind_is b.begins)
+  at = at-command s w (b.next s w core).rest n b.kind_is (b.next s w core).due_is (off-part (w.actors n).errand b.kind_is (begins-no-part b.kind_is b.begins))
 
   none : (w.actors n).command ≡ None
   none =

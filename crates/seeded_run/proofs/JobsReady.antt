@@ -166,7 +166,7 @@ no-table (GateCell g) shard to tag leads = no-place to leads
 no-table (BlockCell b) shard to tag leads = no-place to leads
 
 -- so a worker whose table leads anywhere is there
-worker-there : (s : Setting) (w : World) (g : Ghost) → InvWith s (view s w) g → (worker shard : ℕ) (to : Where) → where_in (w.cells (map_cell s worker)) shard ≡ Some to → worker < s.workers
+pub worker-there : (s : Setting) (w : World) (g : Ghost) → InvWith s (view s w) g → (worker shard : ℕ) (to : Where) → where_in (w.cells (map_cell s worker)) shard ≡ Some to → worker < s.workers
 worker-there s w g i worker shard to leads = elim (cases_lt worker s.workers) [
   | inl lt ↦ lt
   | inr ge ↦ absurd (no-table (w.cells (map_cell s worker)) shard to (i.numbering.tag (map_cell s worker) ∙ tag-rest s (map_cell s worker) (omega (arith, ge))) leads)

@@ -44,6 +44,7 @@ use Rattle.seeded_run.specs.Due.{does_nothing, is_alone}
 use Rattle.seeded_run.specs.Kept.{IsTurn, KeepsOtherLaw}
 use Rattle.seeded_run.specs.Rests.{PhaseRun, first_behind, first_open, is_over_behind, rest_of, stream_of}
 use Rattle.seeded_run.specs.Running.{AreAtOwn, HasPulled, IsOrderKept, IsRunning, is_closing_work, opened_in}
+use Rattle.seeded_run.specs.Steps.{is_for_part}
 use Rattle.seeded_run.specs.Told.{GoesFurther, OfBeginning, OfDeed, OfEnd, OfNothing, OfPage, OfPull, TellsDeed, TellsEnd, TellsNothing, TellsPage, TellsPull, Told, is_of_part, is_plain}
 
 -- Events that neither begin nor end a command.
@@ -519,9 +520,9 @@ module _ (in_order : Bool) (s : Setting) (p : PhaseRun) (done : List Command) (w
 
   -- the actor is at its command
   pub is-at-command : is_of_part turn.made ≡ false → IsAtCommand s w (rest_of p (history_in w)) n turn.due_kind
-  is-at-command other = at-command s w (rest_of p (history_in w)) n turn.due_kind turn.is_due (by (is_of_part turn.due_kind) refl)
+  is-at-command other = at-command s w (rest_of p (history_in w)) n turn.due_kind turn.is_due (by (is_for_part (w.actors n).errand turn.due_kind) refl)
     where
-      by : (b : Bool) → is_of_part turn.due_kind ≡ b → is_of_part turn.due_kind ≡ false
+      by : (b : Bool) → is_for_part (w.actors n).errand turn.due_kind ≡ b → is_for_part (w.actors n).errand turn.due_kind ≡ false
       by false is = is
       by true is = apart (is_of_part turn.made) (turn.of_part is) other
 

@@ -33,6 +33,7 @@ use Rattle.seeded_run.proofs.Dues.{all_below-at}
 use Rattle.seeded_run.proofs.Movers.{all-from}
 use Rattle.seeded_run.specs.Due.{actor_kind, any_below, are_known, carry_kind, command_kind, desk_of, does_nothing, due_by, first_kind, free_kind, hand_kind, is_alone, is_empty, kind_by, led_to, may_enter, next_kind, placed_kind, read_kind, row_kind, task_kind}
 use Rattle.seeded_run.specs.Running.{is_closing_work}
+use Rattle.seeded_run.specs.Steps.{is_for_part}
 use Rattle.seeded_run.specs.Told.{is_of_part, is_plain}
 
 -- Booleans.
@@ -133,7 +134,17 @@ pub record IsAtCommand (s : Setting) (w : World) (rest : ℕ → List Command) (
   pub purse : (w.actors n).job ≡ None → (w.actors n).purse ≡ []
   pub due : command_kind s w (is_alone s w rest n) (rest n) (w.actors n) (w.actors n).command ≡ Some k
 
-pub at-command : (s : Setting) (w : World) (rest : ℕ → List Command) (n : ℕ) (k : Kind) → due_by s w rest n ≡ Some k → is_of_part k ≡ false → IsAtCommand s w rest n k
+-- whoever is at a part goes on with that by each kind of a part; and by all others nobody does
+
+at-part-for : (e : ErrandValue) (k : Kind) → is_of_part k ≡ true → is_for_part (Some e) k ≡ true
+at-part-for e kind.LookUp on = refl
+at-part-for e k on = on
+
+pub off-part : (errand : Option ErrandValue) (k : Kind) → is_of_part k ≡ false → is_for_part errand k ≡ false
+off-part errand kind.LookUp off = cc
+off-part errand k off = off
+
+pub at-command : (s : Setting) (w : World) (rest : ℕ → List Command) (n : ℕ) (k : Kind) → due_by s w rest n ≡ Some k → is_for_part (w.actors n).errand k ≡ false → IsAtCommand s w rest n k
 at-command s w rest n k due other = by-errand (w.actors n).errand refl
   where
     by-purse : (w.actors n).errand ≡ None → (b : Bool) → (is_none (w.actors n).job && not (is_empty (w.actors n).purse)) ≡ b → IsAtCommand s w rest n k
@@ -141,7 +152,7 @@ at-command s w rest n k due other = by-errand (w.actors n).errand refl
         let refill : Some kind.Refill ≡ Some k = sym (ap (actor_kind s w (is_alone s w rest n) (rest n) (w.actors n)) none
         ∙ ap (λ b. if b then Some kind.Refill else command_kind s w (is_alone s w rest n) (rest n) (w.actors n) (w.actors n).command) is) ∙ due in
         let same : kind.Refill ≡ k = cc in
-        apart (is_of_part k) (ap is_of_part (sym same)) other
+        apart (is_for_part (w.actors n).errand k) (ap (is_for_part (w.actors n).errand) (sym same)) other
     by-purse none false is = record {
       errand = none;
       purse = λ job. empty (is_empty (w.actors n).purse) refl job is;
@@ -155,7 +166,8 @@ at-command s w rest n k due other = by-errand (w.actors n).errand refl
 
     by-errand : (o : Option ErrandValue) → (w.actors n).errand ≡ o → IsAtCommand s w rest n k
     by-errand (Some e) is =
-        apart (is_of_part k) (task-part w (led_to s w e) (w.actors n) e.task k (sym (ap (actor_kind s w (is_alone s w rest n) (rest n) (w.actors n)) is) ∙ due)) other
+        let part = task-part w (led_to s w e) (w.actors n) e.task k (sym (ap (actor_kind s w (is_alone s w rest n) (rest n) (w.actors n)) is) ∙ due) in
+        apart (is_for_part (w.actors n).errand k) (ap (λ (o : Option ErrandValue). is_for_part o k) is ∙ at-part-for e k part) other
     by-errand None is = by-purse is (is_none (w.actors n).job && not (is_empty (w.actors n).purse)) refl
 
 -- Of an actor that is no hand and has no command, it is its next command; one that closes its phase is due where it is alone.

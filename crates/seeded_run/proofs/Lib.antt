@@ -33,7 +33,6 @@ pub mod DueParts
 pub mod Holds
 pub mod Held
 pub mod Turns
-pub mod RunsOnly
 pub mod WholePhases
 pub mod FirstCursors
 pub mod Begun

@@ -1,8 +1,8 @@
 -- Where a look-up is due for an actor at no part, it has a balance that isn't planned yet; and the core has what its next load asks.
-use Rattle.std.proofs.Common.{ℕ, zero, suc, ◌+◌, ◌≡◌, ◌≢◌, ◌<◌, ◌≤◌, inl, inr, Bool, true, false, not, is_none, List, [], ◌∷◌, length, Option, Some, None, slice_get, refl, sym, ap, ◌∙◌, subst, arith, eq-eqb}
+use Rattle.std.proofs.Common.{ℕ, zero, suc, ◌+◌, ◌≡◌, ◌≢◌, ◌<◌, inl, inr, Bool, true, false, not, is_none, List, [], ◌∷◌, length, Option, Some, None, slice_get, refl, sym, ap, ◌∙◌, subst, eq-eqb}
 use Rattle.std.specs.Prelude.{◌&&◌, ◌==◌, if◌then◌else◌, is_some}
 use Rattle.std.specs.List.{list_any}
-use Rattle.std.proofs.lemmas.Bool.{cases_lt, or_left, or_right}
+use Rattle.std.proofs.lemmas.Bool.{or_left, or_right}
 use Rattle.core_admin.specs.LoadDue.{CanReadLoad}
 use Rattle.core_steps.specs.AskedLoads.{ReadsNext}
 use Rattle.core_steps.specs.AskedNotes.{NotesEnded}
@@ -17,11 +17,11 @@ use Rattle.row_ledger.specs.declared.settings.Use.{Use}
 use Rattle.script_form.specs.declared.script.Command.{Command}
 use Rattle.shard_plan.specs.declared.action.Action.{Action}
 use Rattle.shard_plan.specs.declared.action.Load.{Load}
-use Rattle.volap_cell.proofs.Numbers.{tag-map, tag-rest}
-use Rattle.volap_cell.specs.Cells.{BlockCell, CellValue, DeskCell, FreeCell, GateCell, ImageCell, LedgerCell, MapCell, MapOf, OfStock, RegistryCell, StockCell, tag_of, where_in}
+use Rattle.volap_cell.proofs.Numbers.{tag-map}
+use Rattle.volap_cell.specs.Cells.{CellValue, MapOf, tag_of, where_in}
 use Rattle.volap_cell.specs.Commands.{settles_next}
 use Rattle.volap_cell.specs.ImageKinds.{doing}
-use Rattle.volap_cell.specs.Setting.{Setting, first_stock_cell, ledger_cell, map_cell}
+use Rattle.volap_cell.specs.Setting.{Setting, ledger_cell, map_cell}
 use Rattle.volap_cell.specs.Steps.{history_in}
 use Rattle.volap_cell.specs.Values.{ErrandValue, JobValue, StageValue, IsCalled, IsDeclined, IsFrozen, Collects, Builds}
 use Rattle.volap_cell.specs.Working.{places_in}
@@ -44,6 +44,7 @@ use Rattle.seeded_run.proofs.Afterwards.{core-stays}
 use Rattle.seeded_run.proofs.DueCommands.{at-empty, at-parts, by-work}
 use Rattle.seeded_run.proofs.DueParts.{at-part-or}
 use Rattle.seeded_run.proofs.Holds.{gate-tag, hold-fixed, hold-gate, steps-with}
+use Rattle.seeded_run.proofs.JobsReady.{worker-there}
 use Rattle.seeded_run.proofs.PartsReady.{errand-same, map-fixed}
 use Rattle.seeded_run.proofs.ReadsReady.{gate-stands}
 use Rattle.seeded_run.proofs.Seen.{cell-seen}
@@ -151,21 +152,6 @@ listed-on (l ∷ loads) zero load is =
     or_left ((l.shard == load.shard) && (l.worker == load.worker)) _ (λ k. first k && second k)
 listed-on (l ∷ loads) (suc i) load is = or_right ((l.shard == load.shard) && (l.worker == load.worker)) _ (listed-on loads i load is)
 
--- a table that leads somewhere is no cell of the stock
-leads-fixed : (c : CellValue) (shard : ℕ) (to : Where) → where_in c shard ≡ Some to → tag_of c ≢ OfStock
-leads-fixed (MapCell own places) shard to leads = λ e. (let never : MapOf own ≡ OfStock = e in absurd (cc))
-leads-fixed FreeCell shard to leads = (let never : ◌≡◌ {A = Option Where} None (Some to) = leads in absurd (cc))
-leads-fixed (LedgerCell l) shard to leads = (let never : ◌≡◌ {A = Option Where} None (Some to) = leads in absurd (cc))
-leads-fixed (StockCell k) shard to leads = (let never : ◌≡◌ {A = Option Where} None (Some to) = leads in absurd (cc))
-leads-fixed (RegistryCell r) shard to leads = (let never : ◌≡◌ {A = Option Where} None (Some to) = leads in absurd (cc))
-leads-fixed (ImageCell t i) shard to leads = (let never : ◌≡◌ {A = Option Where} None (Some to) = leads in absurd (cc))
-leads-fixed (DeskCell t d) shard to leads = (let never : ◌≡◌ {A = Option Where} None (Some to) = leads in absurd (cc))
-leads-fixed (GateCell g) shard to leads = (let never : ◌≡◌ {A = Option Where} None (Some to) = leads in absurd (cc))
-leads-fixed (BlockCell b) shard to leads = (let never : ◌≡◌ {A = Option Where} None (Some to) = leads in absurd (cc))
-
-map-behind : (s : Setting) (worker : ℕ) → s.workers ≤ worker → first_stock_cell s ≤ map_cell s worker
-map-behind s worker le = omega (arith, le)
-
 module _ (h : List Dimension) (with : Use) (cells : List (Option Cell)) (actors : List (Option Actor)) (core : HasCore h with cells actors) (n : ℕ) (lt : n < length actors)
     (due : IsDue h with cells actors n kind.LookUp) (idle : errand_by actors n ≡ None) where
   abbrev s : Setting
@@ -212,11 +198,7 @@ module _ (h : List Dimension) (with : Use) (cells : List (Option Cell)) (actors 
     leads-to = (is.inv.holds.lineage.gate_of load.shard load.worker stands-on).0
 
     map-tag : tag_of (w.cells (map_cell s load.worker)) ≡ MapOf load.worker
-    map-tag = elim (cases_lt load.worker s.workers) [
-      | inl low ↦ is.inv.holds.numbering.tag (map_cell s load.worker) ∙ tag-map s load.worker low
-      | inr past ↦ absurd (leads-fixed (w.cells (map_cell s load.worker)) load.shard (where_is.Gate gate) leads-to
-          (is.inv.holds.numbering.tag (map_cell s load.worker) ∙ tag-rest s (map_cell s load.worker) (map-behind s load.worker past)))
-    ]
+    map-tag = is.inv.holds.numbering.tag (map_cell s load.worker) ∙ tag-map s load.worker (worker-there s w is.inv.ghost_of is.inv.holds load.worker load.shard (where_is.Gate gate) leads-to)
 
     -- the gate is the one that is seen
     gate-is : (m y : ℕ) → m ≡ map_cell s load.worker → y ≡ gate_there (where_in (cell_at cells m) load.shard) → gate ≡ y

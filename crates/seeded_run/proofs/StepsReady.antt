@@ -1,4 +1,4 @@
--- Which kinds are due for whom: of a part, of a command that runs, and of a command that begins.
+-- Which kinds are due for whom: of a part, of an open command, and of a command that begins.
 use Rattle.std.proofs.Common.{◌≡◌, ◌∙◌, ◌<◌, ◌⊎◌, inl, inr, ℕ, Bool, true, false, not, ◌&&◌, List, Option, Some, None, is_none, is_some, get_or, length, ◌+◌, ◌==◌, [], ◌∷◌, refl, sym, ap, subst}
 use Rattle.std.specs.Prelude.{if◌then◌else◌}
 use Rattle.std.specs.List.{list_any}
@@ -18,7 +18,7 @@ use Rattle.volap_cell.specs.Cells.{desk_in}
 use Rattle.volap_cell.specs.Setting.{Setting, desk_cell}
 use Rattle.volap_cell.specs.State.{Stepped}
 use Rattle.volap_cell.specs.Steps.{history_in}
-use Rattle.volap_cell.specs.Values.{ActorValue, ErrandValue, actor_of}
+use Rattle.volap_cell.specs.Values.{ActorValue, ErrandValue, JobValue, StageValue, IsCalled, IsDeclined, IsFrozen, Collects, Builds, actor_of}
 use Rattle.volap_cell.specs.World.{World}
 use Rattle.volap_cell.specs.declared.actor.Actor.{Actor}
 use Rattle.volap_cell.specs.declared.cell.Cell.{Cell}
@@ -31,17 +31,17 @@ use Rattle.volap_cell.specs.declared.role.Role.{Role}
 use Rattle.volap_cell.specs.declared.role.Role.TheVariants as role
 use Rattle.volap_cell.proofs.States.{is-some, stands}
 use Rattle.seeded_run.specs.Arms.{GoesOnAtPart}
-use Rattle.seeded_run.specs.AtWork.{errand_by, errand_of_one}
+use Rattle.seeded_run.specs.AtWork.{errand_by}
 use Rattle.seeded_run.specs.Commands.{may_begin}
-use Rattle.seeded_run.specs.Core.{HasCore, IsDue}
-use Rattle.seeded_run.specs.Due.{any_below, are_known, command_kind, desk_of, due_by, first_kind, free_kind, is_alone, is_empty, is_empty_desk, kind_by_verdict, next_kind, page_kind, parts_kind, tree_kind, work_kind}
-use Rattle.seeded_run.specs.Steps.{HasCommand, IsRunWork, RunsCommand}
+use Rattle.seeded_run.specs.Core.{HasCore, IsDue, IsDueAt}
+use Rattle.seeded_run.specs.Due.{any_below, are_known, balance_kind, command_kind, desk_of, due_by, finish_kind, first_kind, free_kind, is_alone, is_empty, is_empty_desk, job_kind, kind_by_verdict, next_kind, page_kind, parts_kind, stage_kind, tree_kind, work_kind}
+use Rattle.seeded_run.specs.Steps.{HasCommand, is_at_command, is_for_part, is_for_part_by}
 use Rattle.seeded_run.specs.Look.{waits_for_others}
 use Rattle.seeded_run.specs.Shown.{HasPageOf, HasToShow, IsToShow, subject_by, subject_in, subject_of}
 use Rattle.seeded_run.specs.Told.{is_of_part}
-use Rattle.seeded_run.specs.Works.{command_by, command_of_one, has_own_note, is_at_work, is_balance, is_balance_work, is_page_due}
-use Rattle.seeded_run.proofs.DueParts.{at-part-or}
+use Rattle.seeded_run.specs.Works.{command_by, command_of_one, has_own_note, is_balance, is_page_due}
 use Rattle.seeded_run.proofs.LeftAlone.{apart, at-command}
+use Rattle.seeded_run.proofs.PartsReady.{errand-same}
 
 -- a part that went on, or that ended for want of memory
 pub either-ends : (h : List Dimension) (k : Kind) (n : ℕ) (cells cells_now : List (Option Cell)) (actors actors_now : List (Option Actor)) → is_of_part k ≡ true
@@ -85,32 +85,32 @@ free-first s w alone rest role.Puller k e = inr (next-may s.hierarchy alone (des
 free-first s w alone rest role.Admin k e = inr (next-may s.hierarchy alone (desk_of s w role.Admin) rest k e)
 
 -- what is due for an actor without a command is of a part, or begins one
-pub first-due : (s : Setting) (w : World) (rest : ℕ → List Command) (n : ℕ) (k : Kind) → due_by s w rest n ≡ Some k → (w.actors n).command ≡ None → may_begin k ≡ false → is_of_part k ≡ true
+pub first-due : (s : Setting) (w : World) (rest : ℕ → List Command) (n : ℕ) (k : Kind) → due_by s w rest n ≡ Some k → (w.actors n).command ≡ None → may_begin k ≡ false → is_for_part (w.actors n).errand k ≡ true
 unfolding IsFirst
-first-due s w rest n k due none never = by (is_of_part k) refl
+first-due s w rest n k due none never = by (is_for_part (w.actors n).errand k) refl
   where
-    by : (b : Bool) → is_of_part k ≡ b → is_of_part k ≡ true
+    by : (b : Bool) → is_for_part (w.actors n).errand k ≡ b → is_for_part (w.actors n).errand k ≡ true
     by true is = is
     by false is =
         let at = at-command s w rest n k due is in
         elim (free-first s w (is_alone s w rest n) (rest n) (w.actors n).role k (sym (ap (command_kind s w (is_alone s w rest n) (rest n) (w.actors n)) none) ∙ at.due)) [
-          | inl taken ↦ ap is_of_part taken
+          | inl taken ↦ ap (is_for_part (w.actors n).errand) taken
           | inr may ↦ apart (may_begin k) may never
         ]
 
--- Of a command that runs.
+-- Of an open command.
 
 -- a part is taken, or it goes on with the command
 IsWork : Kind → Type 0
-IsWork k = (k ≡ kind.TakePart) ⊎ (is_at_work k ≡ true)
+IsWork k = (k ≡ kind.TakePart) ⊎ (is_at_command k ≡ true)
 
-work-same : (k x : Kind) → is_at_work k ≡ true → ◌≡◌ {A = Option Kind} (Some k) (Some x) → IsWork x
+work-same : (k x : Kind) → is_at_command k ≡ true → ◌≡◌ {A = Option Kind} (Some k) (Some x) → IsWork x
 unfolding IsWork
-work-same k x at e = inr (ap is_at_work (sym (some-same k x e)) ∙ at)
+work-same k x at e = inr (ap is_at_command (sym (some-same k x e)) ∙ at)
 
-work-if : (b : Bool) (j k x : Kind) → is_at_work j ≡ true → is_at_work k ≡ true → ◌≡◌ {A = Option Kind} (Some (if b then j else k)) (Some x) → IsWork x
-work-if true j k x p q e = work-same j x p e
-work-if false j k x p q e = work-same k x q e
+if-command : (b : Bool) (j k : Kind) → is_at_command j ≡ true → is_at_command k ≡ true → is_at_command (if b then j else k) ≡ true
+if-command true j k p q = p
+if-command false j k p q = q
 
 verdict-work : (parts : List Part) (v : Option Verdict) (k : Kind) → kind_by_verdict parts v ≡ Some k → IsWork k
 unfolding IsWork
@@ -126,61 +126,66 @@ parts-work (Some desk) k e = verdict-work desk.parts (verdict_of desk.parts) k e
 page-work : (history : List Event) (alone : Bool) (of : ℕ) (shown : Bool) (k : Kind) → page_kind history alone of shown ≡ Some k → IsWork k
 unfolding IsWork
 page-work history alone of true k e = work-same kind.Note k refl e
-page-work history alone of false k e = inr (ap is_at_work (sym (some-if (alone && (length history == of + 1)) kind.Note k e)))
+page-work history alone of false k e = inr (ap is_at_command (sym (some-if (alone && (length history == of + 1)) kind.Note k e)))
 
 tree-work : (history : List Event) (alone : Bool) (of : ℕ) (there shown : Bool) (k : Kind) → tree_kind history alone of there shown ≡ Some k → IsWork k
 tree-work history alone of true shown k e = page-work history alone of shown k e
 tree-work history alone of false shown k e = work-same kind.Note k refl e
 
-open-work : (s : Setting) (history : List Event) (alone : Bool) (desk : Option DeskValue) (a : ActorValue) (of : ℕ) (work : Work) (k : Kind) → IsRunWork work → work_kind s history alone desk a of work ≡ Some k → IsWork k
+stage-command : (to : Option ℕ) (stage : StageValue) → is_at_command (stage_kind to stage) ≡ true
+stage-command to IsCalled = refl
+stage-command to (IsDeclined why) = refl
+stage-command to (IsFrozen f) = refl
+stage-command to (Collects c) = refl
+stage-command to (Builds b) = if-command (is_empty b.unbuilt) (finish_kind to) kind.BuildBlock (finish to) refl
+  where
+    finish : (to : Option ℕ) → is_at_command (finish_kind to) ≡ true
+    finish None = refl
+    finish (Some worker) = refl
+
+job-command : (job : Option JobValue) (without : Kind) → is_at_command without ≡ true → is_at_command (job_kind job without) ≡ true
+job-command None without is = is
+job-command (Some job) without is = stage-command job.to job.stage
+
+open-work : (s : Setting) (history : List Event) (alone : Bool) (desk : Option DeskValue) (a : ActorValue) (of : ℕ) (work : Work) (k : Kind) → work_kind s history alone desk a of work ≡ Some k → IsWork k
 unfolding IsWork
-open-work s history alone desk a of (work_is.Insert row false) k run e = inr (ap is_at_work (sym (some-if (is_empty_desk desk) kind.Route k e)))
-open-work s history alone desk a of (work_is.Insert row true) k run e = parts-work desk k e
-open-work s history alone desk a of work_is.Query k run e = parts-work desk k e
-open-work s history alone desk a of (work_is.Sync server pulled) k run e = work-if pulled kind.Note kind.Sync k refl refl e
-open-work s history alone desk a of work_is.Barrier k run e = work-same kind.Note k refl e
-open-work s history alone desk a of (work_is.Settle pulls) k run e = work-if (is_some (settles_next s.servers pulls)) kind.Sync kind.Note k refl refl e
-open-work s history alone desk a of (work_is.Split shard) k run e = absurd run
-open-work s history alone desk a of (work_is.Move shard worker) k run e = absurd run
-open-work s history alone desk a of (work_is.Balance b) k run e = absurd run
-open-work s history alone desk a of (work_is.Shards shown) k run e = page-work history alone of shown k e
-open-work s history alone desk a of (work_is.Tree shard there shown) k run e = tree-work history alone of there shown k e
-open-work s history alone desk a of (work_is.Audit shown) k run e = page-work history alone of shown k e
+open-work s history alone desk a of (work_is.Insert row false) k e = inr (ap is_at_command (sym (some-if (is_empty_desk desk) kind.Route k e)))
+open-work s history alone desk a of (work_is.Insert row true) k e = parts-work desk k e
+open-work s history alone desk a of work_is.Query k e = parts-work desk k e
+open-work s history alone desk a of (work_is.Sync server pulled) k e = work-same (if pulled then kind.Note else kind.Sync) k (if-command pulled kind.Note kind.Sync refl refl) e
+open-work s history alone desk a of work_is.Barrier k e = work-same kind.Note k refl e
+open-work s history alone desk a of (work_is.Settle pulls) k e =
+    work-same (if is_some (settles_next s.servers pulls) then kind.Sync else kind.Note) k (if-command (is_some (settles_next s.servers pulls)) kind.Sync kind.Note refl refl) e
+open-work s history alone desk a of (work_is.Split shard) k e = work-same (job_kind a.job kind.Note) k (job-command a.job kind.Note refl) e
+open-work s history alone desk a of (work_is.Move shard worker) k e = work-same (job_kind a.job kind.Note) k (job-command a.job kind.Note refl) e
+open-work s history alone desk a of (work_is.Balance b) k e =
+    work-same (job_kind a.job (balance_kind b)) k (job-command a.job (balance_kind b) (if-command (is_none b.plan) kind.LookUp kind.Note refl refl)) e
+open-work s history alone desk a of (work_is.Shards shown) k e = page-work history alone of shown k e
+open-work s history alone desk a of (work_is.Tree shard there shown) k e = tree-work history alone of there shown k e
+open-work s history alone desk a of (work_is.Audit shown) k e = page-work history alone of shown k e
 
--- a page that is due is noted
-page-noted : (s : Setting) (history : List Event) (alone : Bool) (desk : Option DeskValue) (a : ActorValue) (of : ℕ) (work : Work) (k : Kind) → waits_for_others work ≡ true → work_kind s history alone desk a of work ≡ Some k → kind.Note ≡ k
-page-noted s history alone desk a of (work_is.Insert row routed) k waits e = cc
-page-noted s history alone desk a of work_is.Query k waits e = cc
-page-noted s history alone desk a of (work_is.Sync server pulled) k waits e = cc
-page-noted s history alone desk a of work_is.Barrier k waits e = cc
-page-noted s history alone desk a of (work_is.Settle pulls) k waits e = cc
-page-noted s history alone desk a of (work_is.Split shard) k waits e = cc
-page-noted s history alone desk a of (work_is.Move shard worker) k waits e = cc
-page-noted s history alone desk a of (work_is.Balance b) k waits e = cc
-page-noted s history alone desk a of (work_is.Shards false) k waits e = some-if (alone && (length history == of + 1)) kind.Note k e
-page-noted s history alone desk a of (work_is.Shards true) k waits e = cc
-page-noted s history alone desk a of (work_is.Tree shard true false) k waits e = some-if (alone && (length history == of + 1)) kind.Note k e
-page-noted s history alone desk a of (work_is.Tree shard true true) k waits e = cc
-page-noted s history alone desk a of (work_is.Tree shard false shown) k waits e = cc
-page-noted s history alone desk a of (work_is.Audit false) k waits e = some-if (alone && (length history == of + 1)) kind.Note k e
-page-noted s history alone desk a of (work_is.Audit true) k waits e = cc
+-- At a look-up it is known whether its actor has a part.
 
--- a command that runs is no balance
-no-balance : (work : Work) → IsRunWork work → is_balance_work work ≡ false
-no-balance (work_is.Insert row routed) run = refl
-no-balance work_is.Query run = refl
-no-balance (work_is.Sync server pulled) run = refl
-no-balance work_is.Barrier run = refl
-no-balance (work_is.Settle pulls) run = refl
-no-balance (work_is.Split shard) run = absurd run
-no-balance (work_is.Move shard worker) run = absurd run
-no-balance (work_is.Balance b) run = absurd run
-no-balance (work_is.Shards shown) run = refl
-no-balance (work_is.Tree shard there shown) run = refl
-no-balance (work_is.Audit shown) run = refl
+pub part-there : (actors : List (Option Actor)) (n : ℕ) (k : Kind) → k ≡ kind.LookUp → is_for_part_by actors n k ≡ true → (e : ErrandValue) × (errand_by actors n ≡ Some e)
+part-there actors n k look is = by (errand_by actors n) (sym (ap (is_for_part_by actors n) look) ∙ is)
+  where
+    by : (o : Option ErrandValue) → is_some o ≡ true → (e : ErrandValue) × (o ≡ Some e)
+    by None is = cc
+    by (Some e) is = (e, refl)
 
-module _ (h : List Dimension) (with : Use) (cells : List (Option Cell)) (actors : List (Option Actor)) (core : HasCore h with cells actors) (n : ℕ) (within : n < length actors) (k : Kind)
-    (due : IsDue h with cells actors n k) (runs : RunsCommand actors n) where
+pub no-part-there : (actors : List (Option Actor)) (n : ℕ) (k : Kind) → k ≡ kind.LookUp → is_for_part_by actors n k ≡ false → errand_by actors n ≡ None
+no-part-there actors n k look is = by (errand_by actors n) (sym (ap (is_for_part_by actors n) look) ∙ is)
+  where
+    by : (o : Option ErrandValue) → is_some o ≡ false → o ≡ None
+    by None is = refl
+    by (Some e) is = cc
+
+-- a note that is no page's and no balance's is the command's own
+pub own-note : (o : Option OpenCommand) → is_page_due o ≡ false → is_balance o ≡ false → is_some o ≡ true → has_own_note o ≡ true
+own-note None page balance has = cc
+own-note (Some c) page balance has = rw page (rw balance refl)
+
+module _ (h : List Dimension) (with : Use) (cells : List (Option Cell)) (actors : List (Option Actor)) (core : HasCore h with cells actors) (n : ℕ) (within : n < length actors) where
   abbrev s : Setting
   s = core.setting
 
@@ -192,24 +197,25 @@ module _ (h : List Dimension) (with : Use) (cells : List (Option Cell)) (actors 
       let a = stands (get_or actors n None) (λ x. actor_of x ≡ w.actors n) (core.is_core.is.actor n within) in
       ap command_of_one a.1 ∙ ap (λ (a : ActorValue). a.command) a.2
 
-  open-due : (c : OpenCommand) → (w.actors n).command ≡ Some c → is_of_part k ≡ false → (rest : ℕ → List Command) × (work_kind s (history_in w) (is_alone s w rest n) (desk_of s w (w.actors n).role) (w.actors n) c.of c.work ≡ Some k)
-  open-due c is other =
-      let d = due s w core.is_core in
-      let at = at-command s w d.rest n k d.due_is other in
-      (d.rest, sym (ap (command_kind s w (is_alone s w d.rest n) (d.rest n) (w.actors n)) is) ∙ at.due)
-
-  -- with a command that runs its actor goes on as it is due, where that is of no part
-  pub is-work : is_of_part k ≡ false → HasCommand actors n → is_at_work k ≡ true
+  -- what is due for an actor with an open command, and of no part, goes on with that
+  pub goes-on-so : (k : Kind) → IsDue h with cells actors n k → is_for_part_by actors n k ≡ false → HasCommand actors n → is_at_command k ≡ true
   unfolding IsWork
-  is-work other has = by (w.actors n).command refl
+  goes-on-so k due other has = by (w.actors n).command refl
     where
-      by : (o : Option OpenCommand) → (w.actors n).command ≡ o → is_at_work k ≡ true
-      by None is = apart (is_some (command_by actors n)) has (ap is_some (seen ∙ is))
+      d : IsDueAt s w n k
+      d = due s w core.is_core
+
+      off : is_for_part (w.actors n).errand k ≡ false
+      off = sym (ap (λ (o : Option ErrandValue). is_for_part o k) (errand-same h with cells actors n core)) ∙ other
+
+      by : (o : Option OpenCommand) → (w.actors n).command ≡ o → is_at_command k ≡ true
+      by None is = (let never : true ≡ false = sym has ∙ ap is_some (seen ∙ is) in absurd (cc))
       by (Some c) is =
-          let d = open-due c is other in
-          elim (open-work s (history_in w) (is_alone s w d.0 n) (desk_of s w (w.actors n).role) (w.actors n) c.of c.work k (runs c (seen ∙ is)) d.1) [
-            | inl taken ↦ apart (is_of_part k) (ap is_of_part taken) other
-            | inr work ↦ work
+          let at = at-command s w d.rest n k d.due_is off in
+          let work : work_kind s (history_in w) (is_alone s w d.rest n) (desk_of s w (w.actors n).role) (w.actors n) c.of c.work ≡ Some k = sym (ap (command_kind s w (is_alone s w d.rest n) (d.rest n) (w.actors n)) is) ∙ at.due in
+          elim (open-work s (history_in w) (is_alone s w d.rest n) (desk_of s w (w.actors n).role) (w.actors n) c.of c.work k work) [
+            | inl taken ↦ apart (is_for_part (w.actors n).errand k) (ap (is_for_part (w.actors n).errand) taken) off
+            | inr at ↦ at
           ]
 
   -- where a page is due of the command, it is of what the command shows
@@ -247,51 +253,3 @@ module _ (h : List Dimension) (with : Use) (cells : List (Option Cell)) (actors 
   shows-page page =
       let c = page-open page in
       subst (λ (o : Option OpenCommand). HasPageOf (subject_in o) actors n) (sym c.1) (page-of c.0.of c.0.work c.1 c.2)
-
-  pub note-due : is_page_due (command_by actors n) ≡ true → is_of_part k ≡ false → IsDue h with cells actors n kind.Note
-  note-due page other =
-      let c = page-open page in
-      let d = open-due c.0 (sym seen ∙ c.1) other in
-      subst (λ (j : Kind). IsDue h with cells actors n j) (sym (page-noted s (history_in w) (is_alone s w d.0 n) (desk_of s w (w.actors n).role) (w.actors n) c.0.of c.0.work k c.2 d.1)) due
-
-  -- no balance runs, so a note would be due for one
-  pub balance-note : is_balance (command_by actors n) ≡ true → IsDue h with cells actors n kind.Note
-  balance-note balance = by (command_by actors n) refl balance
-    where
-      by : (o : Option OpenCommand) → command_by actors n ≡ o → is_balance o ≡ true → IsDue h with cells actors n kind.Note
-      by None is e = absurd (cc)
-      by (Some c) is e = apart (is_balance_work c.work) e (no-balance c.work (runs c is))
-
-  -- and otherwise its note is its own
-  pub own-note : is_page_due (command_by actors n) ≡ false → is_balance (command_by actors n) ≡ false → HasCommand actors n → has_own_note (command_by actors n) ≡ true
-  own-note none other has = by (command_by actors n) refl none other has
-    where
-      by : (o : Option OpenCommand) → command_by actors n ≡ o → is_page_due o ≡ false → is_balance o ≡ false → is_some o ≡ true → has_own_note (command_by actors n) ≡ true
-      by None is e f g = cc
-      by (Some c) is e f g = ap has_own_note is ∙ rw e (rw f refl)
-
-  -- a look-up is due for who is at a part
-  pub looks-for-part : k ≡ kind.LookUp → (e : ErrandValue) × (errand_by actors n ≡ Some e)
-  unfolding IsFirst IsWork
-  looks-for-part look =
-      let d = due s w core.is_core in
-      elim (at-part-or s w d.rest n k d.due_is) [
-        | inl at ↦
-            let a = stands (get_or actors n None) (λ y. actor_of y ≡ w.actors n) (core.is_core.is.actor n within) in
-            (at.e, ap errand_of_one a.1 ∙ ap (λ (y : ActorValue). y.errand) a.2 ∙ at.errand)
-        | inr (none, purse) ↦ absurd (by-purse d.rest (is_none (w.actors n).job && not (is_empty (w.actors n).purse)) (sym (ap (λ x. Some x) look) ∙ sym purse))
-      ]
-    where
-      by-command : (rest : ℕ → List Command) (o : Option OpenCommand) → (w.actors n).command ≡ o → Some kind.LookUp ≡ command_kind s w (is_alone s w rest n) (rest n) (w.actors n) o → ⊥
-      by-command rest None is e = elim (free-first s w (is_alone s w rest n) (rest n) (w.actors n).role kind.LookUp (sym e)) [
-        | inl taken ↦ (let never : kind.LookUp ≡ kind.TakePart = taken in cc)
-        | inr may ↦ (let never : false ≡ true = may in cc)
-      ]
-      by-command rest (Some c) is e = elim (open-work s (history_in w) (is_alone s w rest n) (desk_of s w (w.actors n).role) (w.actors n) c.of c.work kind.LookUp (runs c (seen ∙ is)) (sym e)) [
-        | inl taken ↦ (let never : kind.LookUp ≡ kind.TakePart = taken in cc)
-        | inr at ↦ (let never : false ≡ true = at in cc)
-      ]
-
-      by-purse : (rest : ℕ → List Command) (b : Bool) → Some kind.LookUp ≡ (if b then Some kind.Refill else command_kind s w (is_alone s w rest n) (rest n) (w.actors n) (w.actors n).command) → ⊥
-      by-purse rest true e = (let never : kind.LookUp ≡ kind.Refill = some-same kind.LookUp kind.Refill e in cc)
-      by-purse rest false e = by-command rest (w.actors n).command refl e

@@ -37,7 +37,7 @@ use Rattle.seeded_run.specs.Phase.{most_actors}
 use Rattle.seeded_run.specs.Rests.{PhaseRun, first_open, rest_of}
 use Rattle.seeded_run.specs.Running.{IsRunning}
 use Rattle.seeded_run.specs.Arms.{TellsIfNote}
-use Rattle.seeded_run.specs.Steps.{HasCommand, begins_by, begins_of_one}
+use Rattle.seeded_run.specs.Steps.{HasCommand, begins_by, begins_of_one, is_for_part}
 use Rattle.seeded_run.specs.Works.{command_by, command_of_one}
 use Rattle.seeded_run.specs.Told.{is_of_part}
 use Rattle.seeded_run.specs.declared.machine.Running.{Running}
@@ -206,7 +206,7 @@ module _ (m : Running) (kept : IsPhaseKept m) (n : ℕ) (due_kind : Kind) (now_d
 
   -- A step that begins nothing.
   module _ (state_now : State) (k : Kind) (stepped : Stepped m.h.now k n m.state.cells.items m.state.actors.items state_now.cells.items state_now.actors.items)
-      (within : n < length m.state.actors.items) (of_part : is_of_part due_kind ≡ true → is_of_part k ≡ true) where
+      (within : n < length m.state.actors.items) (of_part : is_for_part (w.actors n).errand due_kind ≡ true → is_of_part k ≡ true) where
     after : (x : World) × IsCore m.h.now m.with state_now.cells.items state_now.actors.items s x × Step s k n w x
     after = core-then m.h.now m.with m.state.cells.items state_now.cells.items m.state.actors.items state_now.actors.items s w k n kept.core stepped
 

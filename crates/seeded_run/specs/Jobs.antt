@@ -20,8 +20,6 @@ use Rattle.volap_cell.specs.declared.command.Command.{Command}
 use Rattle.volap_cell.specs.declared.command.Work.{Work}
 use Rattle.volap_cell.specs.declared.command.Work.TheVariants as work_is
 use Rattle.volap_cell.specs.declared.job.Frozen.{Frozen}
-use Rattle.volap_cell.specs.declared.kind.Kind.{Kind}
-use Rattle.volap_cell.specs.declared.kind.Kind.TheVariants as kind
 use Rattle.seeded_run.specs.Can.{last_noted}
 use Rattle.seeded_run.specs.Led.{gate_there}
 use Rattle.seeded_run.specs.declared.jobs.Next.{Next}
@@ -148,11 +146,3 @@ end_in_balance _ = how.Fine
 abbrev pub end_of_balance : Option Command → How
 end_of_balance None = how.Fine
 end_of_balance (Some c) = end_in_balance c.work
-
--- Kinds that go on with a job, and are made here.
-abbrev pub is_at_job : Kind → Bool
-is_at_job kind.Freeze = true
-is_at_job kind.Drained = true
-is_at_job kind.Collect = true
-is_at_job kind.BuildBlock = true
-is_at_job _ = false

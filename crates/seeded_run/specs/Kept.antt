@@ -21,6 +21,7 @@ use Rattle.seeded_run.specs.Due.{due}
 use Rattle.seeded_run.specs.Progress.{AreScriptRoles, IsOrderedRun, IsPhaseOf, IsScriptRun}
 use Rattle.seeded_run.specs.Rests.{PhaseRun, rest_of}
 use Rattle.seeded_run.specs.Running.{AreAtOwn, IsRunning}
+use Rattle.seeded_run.specs.Steps.{is_for_part}
 use Rattle.seeded_run.specs.Told.{is_of_part}
 
 -- Between phases.
@@ -65,14 +66,14 @@ StopsLaw = (in_order : Bool) (s : Setting) (p : PhaseRun) (done : List Command) 
 
 -- Steps.
 
--- An actor that can step makes a step. Where it is due that it goes on with a part or a purse, it does so.
+-- An actor that can step makes a step. Where it is due that it goes on with its part or its purse, it does so.
 pub record IsTurn (in_order : Bool) (s : Setting) (p : PhaseRun) (w : World) (n : ℕ) (now : World) : Type 0 where
   pub within : n < actor_count s
   pub can : can_step in_order s p w n ≡ true
   pub due_kind : Kind
   pub is_due : due s p w n ≡ Some due_kind
   pub made : Kind
-  pub of_part : is_of_part due_kind ≡ true → is_of_part made ≡ true
+  pub of_part : is_for_part (w.actors n).errand due_kind ≡ true → is_of_part made ≡ true
   pub step : Step s made n w now
 
 -- A step that begins nothing keeps all of it;

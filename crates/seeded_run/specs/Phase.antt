@@ -1,11 +1,8 @@
 -- A phase of a script, as it runs over a core that one thread holds.
-use Rattle.std.specs.Prelude.{ℕ, ◌≡◌, ◌+◌, ◌^◌, ◌<◌, ⊤, Bool, true, false, List, Some, length, slice_get}
+use Rattle.std.specs.Prelude.{ℕ, ◌≡◌, ◌+◌, ◌^◌, ◌<◌, Bool, true, false, List, Some, length, slice_get}
 use Rattle.dim_hierarchy.specs.Dimension.{Dimension}
-use Rattle.row_ledger.specs.declared.settings.Call.{Call}
-use Rattle.row_ledger.specs.declared.settings.Call.TheVariants as call
 use Rattle.row_ledger.specs.declared.settings.Use.{Use}
 use Rattle.script_form.specs.declared.script.Command.{Command}
-use Rattle.script_form.specs.declared.script.Command.TheVariants as script
 use Rattle.script_run.specs.Phases.{closes}
 use Rattle.seeded_turns.specs.Drawn.{Reaches}
 use Rattle.seeded_turns.specs.declared.schedule.Schedule.{Schedule}
@@ -24,25 +21,10 @@ use Rattle.seeded_run.specs.Worlds.{setting_in, world_in}
 
 -- What may run.
 
--- A called command that runs. Splits, moves and balances don't run yet.
-abbrev pub IsRunCall : Call → Type 0
-IsRunCall call.Barrier = ⊤
-IsRunCall (call.Tree shard) = ⊤
-IsRunCall (call.Sync server) = ⊤
-IsRunCall call.Settle = ⊤
-IsRunCall call.Shards = ⊤
-IsRunCall call.Audit = ⊤
-IsRunCall called = ⊥
-
-abbrev pub IsRunCommand : Command → Type 0
-IsRunCommand (script.Control called) = IsRunCall called
-IsRunCommand c = ⊤
-
--- a command that runs, is allowed, and has a name or a pick for each dimension
+-- a command that is allowed, and has a name or a pick for each dimension
 pub record MayRun (h : List Dimension) (with : Use) (c : Command) : Type 0 where
   pub names : HasNames h c
   pub allowed : IsAllowed with h c
-  pub is_run : IsRunCommand c
 
 -- all of these may run
 abbrev pub MayAllRun : List Dimension → Use → List Command → Type 0

@@ -11,8 +11,6 @@ use Rattle.volap_cell.specs.declared.actor.Actor.{Actor}
 use Rattle.volap_cell.specs.declared.command.Command.{Command}
 use Rattle.volap_cell.specs.declared.command.Work.{Work}
 use Rattle.volap_cell.specs.declared.command.Work.TheVariants as work_is
-use Rattle.volap_cell.specs.declared.kind.Kind.{Kind}
-use Rattle.volap_cell.specs.declared.kind.Kind.TheVariants as kind
 use Rattle.seeded_run.specs.Look.{waits_for_others}
 use Rattle.seeded_run.specs.declared.works.Ending.{Ending}
 use Rattle.seeded_run.specs.declared.works.Ending.TheVariants as ending
@@ -93,12 +91,3 @@ ending_of_one (Some a) = ending_for (actor_of a)
 
 abbrev pub ending_by : List (Option Actor) → ℕ → Ending
 ending_by actors n = ending_of_one (get_or actors n None)
-
--- Kinds that go on with an open command, and are made here.
-abbrev pub is_at_work : Kind → Bool
-is_at_work kind.Ack = true
-is_at_work kind.Answer = true
-is_at_work kind.Route = true
-is_at_work kind.Sync = true
-is_at_work kind.Note = true
-is_at_work _ = false

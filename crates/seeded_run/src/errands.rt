@@ -1,5 +1,5 @@
 //! The steps of actors at parts, where they are due.
-ghost use Rattle.std.specs.Prelude.{◌≡◌, ◌⊎◌};
+ghost use Rattle.std.specs.Prelude.{◌≡◌, ◌⊎◌, is_some};
 ghost use Rattle.seeded_run.specs.AtWork.{CanEndBy, block_on, errand_by, gate_on, held_pin, pin_at, server_at, way_at, way_in, worker_at};
 ghost use Rattle.seeded_run.specs.Core.{HasCore, IsDue};
 ghost use Rattle.volap_cell.specs.Errands.{Outside, place_of};
@@ -14,6 +14,23 @@ use dim_hierarchy::Hierarchy;
 use row_ledger::Use;
 use std::alloc::Global;
 use volap_cell::{Actor, State, Task, Way};
+
+/// Whether an actor is at a part.
+fn is_at_part(actor: &Actor) -> bool
+    ensures { result ≡ is_some (actor_of actor.now).errand }
+{
+    actor.errand.is_some()
+}
+
+/// Whether the actor with this number is at a part.
+pub(crate) fn has_part(state: &State, number: usize) -> bool
+    ensures { result ≡ is_some (errand_by state.now.actors.items number) }
+{
+    match state.actors.get(number) {
+        Some(Some(actor)) => is_at_part(actor),
+        _ => false,
+    }
+}
 
 /// How far a row has come; what is not a row is at its end.
 fn way_in(task: &Task) -> Way

@@ -3,7 +3,7 @@
 ghost use Rattle.std.specs.Prelude.{◌≡◌, ◌^◌, ◌<◌, [], length, true, false, is_some};
 ghost use Rattle.seeded_run.specs.Arms.{GoesOnWithCommand};
 ghost use Rattle.seeded_run.specs.Core.{HasCore, IsDue};
-ghost use Rattle.seeded_run.specs.Jobs.{CanGiveUpBy, CanLeaveBy, IsAtFirstBy, cell_at_stage, cell_unbuilt, end_in_balance, end_of_balance, frozen_gate, gate_found, gate_to_freeze, has_more, is_at_job, job_by, led_for, most_in, most_of, next_at, next_of, worker_of_job};
+ghost use Rattle.seeded_run.specs.Jobs.{CanGiveUpBy, CanLeaveBy, IsAtFirstBy, cell_at_stage, cell_unbuilt, end_in_balance, end_of_balance, frozen_gate, gate_found, gate_to_freeze, has_more, job_by, led_for, most_in, most_of, next_at, next_of, worker_of_job};
 ghost use Rattle.seeded_run.specs.Look.{cell_at, setting_by, world_by};
 ghost use Rattle.seeded_run.specs.Works.{command_by, is_balance};
 ghost use Rattle.seeded_run.specs.declared.jobs.Next.TheVariants.{Block, Row, Trees};
@@ -23,7 +23,7 @@ use row_ledger::{How, Use};
 use shard_store::Phase;
 use std::alloc::Global;
 use tree_shape::collect_laws;
-use volap_cell::{Actor, Building, Cell, Collecting, Job, Kind, Stage, State, Work};
+use volap_cell::{Actor, Building, Cell, Collecting, Job, Stage, State, Work};
 
 /// What a job collects next: the rows of the block that it noted last, or the next row of the queue, or
 /// nothing more, so that it makes the new trees.
@@ -473,40 +473,5 @@ pub(crate) fn note_balance(h: &Hierarchy, with: &Use, state: &mut State, number:
         leave(h, with, state, number);
     } else {
         end_balance(h, with, state, number);
-    }
-}
-
-/// Whether a step of this kind goes on with a job, and is made here.
-pub(crate) fn is_at_job(kind: Kind) -> bool
-    ensures { result ≡ is_at_job kind }
-{
-    match kind {
-        Kind::Freeze | Kind::Drained | Kind::Collect | Kind::BuildBlock => true,
-        _ => false,
-    }
-}
-
-/// An actor goes on with its job by the step that is due, where that is one of these kinds. What finds no
-/// memory gives the job up, or ends it where the shard is not frozen.
-pub(crate) fn work_at_job(
-    alloc: Global,
-    h: &Hierarchy,
-    with: &Use,
-    state: &mut State,
-    number: usize,
-    kind: Kind,
-)
-    requires core { HasCore h.now with.now state.old.cells.items state.old.actors.items }
-    requires within { number < length state.old.actors.items }
-    requires due { IsDue h.now with.now state.old.cells.items state.old.actors.items number kind }
-    requires one { is_at_job kind ≡ true }
-    ensures made { GoesOnWithCommand h.now number state.old.cells.items state.old.actors.items state.new.cells.items state.new.actors.items }
-{
-    match kind {
-        Kind::Freeze => freeze(alloc, h, with, state, number),
-        Kind::Drained => drained(alloc, h, with, state, number),
-        Kind::Collect => collect(alloc, h, with, state, number),
-        Kind::BuildBlock => build_block(alloc, h, with, state, number),
-        _ => unreachable!(),
     }
 }

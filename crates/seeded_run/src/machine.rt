@@ -9,7 +9,7 @@ use crate::alone::rests;
 use crate::beginnings::begin;
 use crate::can::can_step;
 use crate::look::due;
-use crate::steps::{go_on_at_part, go_on_with_command, is_of_part, may_begin};
+use crate::steps::{go_on_at_part, go_on_with_command, is_for_part, may_begin};
 use dim_hierarchy::Hierarchy;
 use row_ledger::Use;
 use script_form::Command;
@@ -70,7 +70,7 @@ impl<'a> Running<'a> {
         requires goes_on { begins_by self.old.state.actors.items number kind ≡ false }
         ensures turned { HasTurned self.old number self.new }
     {
-        if is_of_part(kind) {
+        if is_for_part(&self.state, number, kind) {
             go_on_at_part(alloc, self.h, &self.with, &mut self.state, number, kind);
         } else {
             go_on_with_command(alloc, self.h, &self.with, &mut self.state, number, kind);

@@ -3,23 +3,28 @@ ghost use Rattle.std.specs.Prelude.{◌≡◌, ◌<◌, length, true, false};
 ghost use Rattle.seeded_run.specs.Arms.{GoesOnAtPart, GoesOnWithCommand};
 ghost use Rattle.seeded_run.specs.Commands.{may_begin};
 ghost use Rattle.seeded_run.specs.Core.{HasCore, IsDue};
-ghost use Rattle.seeded_run.specs.Steps.{HasCommand, RunsCommand};
+ghost use Rattle.seeded_run.specs.Steps.{HasCommand, is_for_part_by};
 ghost use Rattle.seeded_run.specs.Told.{is_of_part};
+ghost use Rattle.volap_cell.specs.declared.kind.Kind.TheVariants.{Note};
 
-use crate::errands::{expand, finish_part, forward, leave_tree, put_in_leaf, refill};
-use crate::jobs::{is_at_job, note_balance, work_at_job};
+use crate::commands::{ack, answer, route, sync};
+use crate::errands::{expand, finish_part, forward, has_part, leave_tree, put_in_leaf, refill};
+use crate::jobs::{build_block, collect, drained, freeze, note_balance};
+use crate::loads::read_load;
+use crate::moves::finish_move;
 use crate::reads::{block_visit, gate_read, look_up};
 use crate::rows::{down, enter_queue, enter_tree};
 use crate::shown::show_page;
+use crate::splits::finish_split;
 use crate::takes::take_part;
-use crate::works::{is_balance, is_page_due, work_on};
+use crate::works::{is_balance, is_page_due, note};
 use dim_hierarchy::Hierarchy;
 use row_ledger::Use;
 use std::alloc::Global;
 use volap_cell::{Kind, State};
 
 /// Whether a step of this kind goes on with a part, or with a purse.
-pub(crate) fn is_of_part(kind: Kind) -> bool
+fn is_of_part(kind: Kind) -> bool
     ensures { result ≡ is_of_part kind }
 {
     match kind {
@@ -37,6 +42,18 @@ pub(crate) fn is_of_part(kind: Kind) -> bool
         | Kind::Expand
         | Kind::FinishPart => true,
         _ => false,
+    }
+}
+
+/// Whether a step of this kind goes on with the part that the actor has, or with its purse. Only for a
+/// look-up it matters whether it has one: without a part it is a balance that looks up how many rows a shard
+/// has.
+pub(crate) fn is_for_part(state: &State, number: usize, kind: Kind) -> bool
+    ensures { result ≡ is_for_part_by state.now.actors.items number kind }
+{
+    match kind {
+        Kind::LookUp => has_part(state, number),
+        _ => is_of_part(kind),
     }
 }
 
@@ -62,8 +79,7 @@ pub(crate) fn go_on_at_part(
     requires core { HasCore h.now with.now state.old.cells.items state.old.actors.items }
     requires within { number < length state.old.actors.items }
     requires due { IsDue h.now with.now state.old.cells.items state.old.actors.items number kind }
-    requires of_part { is_of_part kind ≡ true }
-    requires runs { RunsCommand state.old.actors.items number }
+    requires of_part { is_for_part_by state.old.actors.items number kind ≡ true }
     ensures made { GoesOnAtPart h.now number state.old.cells.items state.old.actors.items state.new.cells.items state.new.actors.items }
 {
     match kind {
@@ -84,8 +100,27 @@ pub(crate) fn go_on_at_part(
     }
 }
 
-/// An actor goes on with its command, where that is due: with its page, its job, the note of its balance, or
-/// by itself. Where it finds no memory the command ends so, and a balance leaves its action.
+/// The note is made that is due for the actor's open command: its page, where it has come to that, the note
+/// of a balance, or one that is the command's own. Only a page takes memory; where none is found, the command
+/// ends so.
+fn note_command(alloc: Global, h: &Hierarchy, with: &Use, state: &mut State, number: usize)
+    requires core { HasCore h.now with.now state.old.cells.items state.old.actors.items }
+    requires within { number < length state.old.actors.items }
+    requires due { IsDue h.now with.now state.old.cells.items state.old.actors.items number Note }
+    requires command { HasCommand state.old.actors.items number }
+    ensures made { GoesOnWithCommand h.now number state.old.cells.items state.old.actors.items state.new.cells.items state.new.actors.items }
+{
+    if is_page_due(state, number) {
+        show_page(alloc, h, with, state, number);
+    } else if is_balance(state, number) {
+        note_balance(h, with, state, number);
+    } else {
+        note(h, with, state, number);
+    }
+}
+
+/// An actor goes on with its command, where that is due: with its parts' end, a pull, a note, the next load
+/// of a balance, or its job. Where it finds no memory the command ends so, and a balance leaves its action.
 pub(crate) fn go_on_with_command(
     alloc: Global,
     h: &Hierarchy,
@@ -97,18 +132,23 @@ pub(crate) fn go_on_with_command(
     requires core { HasCore h.now with.now state.old.cells.items state.old.actors.items }
     requires within { number < length state.old.actors.items }
     requires due { IsDue h.now with.now state.old.cells.items state.old.actors.items number kind }
-    requires of_command { is_of_part kind ≡ false }
+    requires of_command { is_for_part_by state.old.actors.items number kind ≡ false }
     requires command { HasCommand state.old.actors.items number }
-    requires runs { RunsCommand state.old.actors.items number }
     ensures made { GoesOnWithCommand h.now number state.old.cells.items state.old.actors.items state.new.cells.items state.new.actors.items }
 {
-    if is_page_due(state, number) {
-        show_page(alloc, h, with, state, number);
-    } else if is_at_job(kind) {
-        work_at_job(alloc, h, with, state, number, kind);
-    } else if is_balance(state, number) {
-        note_balance(h, with, state, number);
-    } else {
-        work_on(alloc, h, with, state, number, kind);
+    match kind {
+        Kind::Ack => ack(h, with, state, number),
+        Kind::Answer => answer(h, with, state, number),
+        Kind::Route => route(alloc, h, with, state, number),
+        Kind::Sync => sync(alloc, h, with, state, number),
+        Kind::Note => note_command(alloc, h, with, state, number),
+        Kind::LookUp => read_load(alloc, h, with, state, number),
+        Kind::Freeze => freeze(alloc, h, with, state, number),
+        Kind::Drained => drained(alloc, h, with, state, number),
+        Kind::Collect => collect(alloc, h, with, state, number),
+        Kind::BuildBlock => build_block(alloc, h, with, state, number),
+        Kind::FinishSplit => finish_split(alloc, h, with, state, number),
+        Kind::FinishMove => finish_move(alloc, h, with, state, number),
+        _ => unreachable!(),
     }
 }

@@ -2,19 +2,18 @@
 ghost use Rattle.std.specs.Prelude.{◌≡◌, ◌<◌, ◌^◌, length, true};
 ghost use Rattle.seeded_run.specs.Arms.{GoesOnWithCommand};
 ghost use Rattle.seeded_run.specs.Core.{HasCore, IsDue};
-ghost use Rattle.seeded_run.specs.Works.{command_by, decline_at, decline_by, ending_by, ending_for, ending_of, has_own_note, is_at_work, is_balance, is_balance_work, is_page_due, own_end, pull_of, server_or_first};
+ghost use Rattle.seeded_run.specs.Works.{command_by, decline_at, decline_by, ending_by, ending_for, ending_of, has_own_note, is_balance, is_balance_work, is_page_due, own_end, pull_of, server_or_first};
 ghost use Rattle.seeded_run.specs.declared.works.Ending.TheVariants.{Called, Insert, Query};
 ghost use Rattle.volap_cell.specs.Commands.{due_pull, settles_next};
 ghost use Rattle.volap_cell.specs.Values.{actor_of, stage_of};
 ghost use Rattle.volap_cell.specs.declared.kind.Kind.TheVariants.{Note};
 
-use crate::commands::{ack, answer, route, session_server, sync};
+use crate::commands::session_server;
 use crate::commands_due::waits_for_others;
 use crate::places::{desk_place, image_place, ledger_place};
 use dim_hierarchy::Hierarchy;
 use row_ledger::{Decline, How, Use};
-use std::alloc::Global;
-use volap_cell::{Actor, Kind, Stage, State, Work};
+use volap_cell::{Actor, Stage, State, Work};
 
 /// By which note a command ends: an insert or a query for want of memory, or a called command in this way.
 #[derive(Clone, Copy, Debug, PartialEq, Eq)]
@@ -224,7 +223,7 @@ fn note_ended(h: &Hierarchy, with: &Use, state: &mut State, number: usize, how: 
 /// The note is made that is due for the actor's open command, by what that is: an insert or a query for
 /// which no memory was found fails; any other command, which shows no page now and is no balance, ends.
 /// Takes no memory.
-fn note(h: &Hierarchy, with: &Use, state: &mut State, number: usize)
+pub(crate) fn note(h: &Hierarchy, with: &Use, state: &mut State, number: usize)
     requires core { HasCore h.now with.now state.old.cells.items state.old.actors.items }
     requires within { number < length state.old.actors.items }
     requires due { IsDue h.now with.now state.old.cells.items state.old.actors.items number Note }
@@ -235,32 +234,5 @@ fn note(h: &Hierarchy, with: &Use, state: &mut State, number: usize)
         Ending::Insert => fail_routed(h, with, state, number),
         Ending::Query => fail_query(h, with, state, number),
         Ending::Called(how) => note_ended(h, with, state, number, how),
-    }
-}
-
-/// An actor goes on with its open command by the step that is due, where that is one of these kinds; a note
-/// is no page, and none of a balance. What finds no memory ends the command so.
-pub(crate) fn work_on(
-    alloc: Global,
-    h: &Hierarchy,
-    with: &Use,
-    state: &mut State,
-    number: usize,
-    kind: Kind,
-)
-    requires core { HasCore h.now with.now state.old.cells.items state.old.actors.items }
-    requires within { number < length state.old.actors.items }
-    requires due { IsDue h.now with.now state.old.cells.items state.old.actors.items number kind }
-    requires one { is_at_work kind ≡ true }
-    requires own { kind ≡ Note → has_own_note (command_by state.old.actors.items number) ≡ true }
-    ensures made { GoesOnWithCommand h.now number state.old.cells.items state.old.actors.items state.new.cells.items state.new.actors.items }
-{
-    match kind {
-        Kind::Ack => ack(h, with, state, number),
-        Kind::Answer => answer(h, with, state, number),
-        Kind::Route => route(alloc, h, with, state, number),
-        Kind::Sync => sync(alloc, h, with, state, number),
-        Kind::Note => note(h, with, state, number),
-        _ => unreachable!(),
     }
 }

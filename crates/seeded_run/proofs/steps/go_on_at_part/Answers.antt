@@ -1,11 +1,11 @@
 use Rattle.std.proofs.Common.{refl}
 use Rattle.volap_cell.specs.declared.kind.Kind.TheVariants.{BlockVisit, EnterQueue, Expand, GateRead, Refill}
-use Rattle.seeded_run.proofs.StepsReady.{either-ends, looks-for-part}
+use Rattle.seeded_run.proofs.StepsReady.{either-ends, part-there}
 use Rattle.seeded_run.proofs.steps.go_on_at_part.Goals as goal
 
 pub look_up-requires-clause-part : goal.look_up-requires-clause-part
 look_up-requires-clause-part c =
-    looks-for-part c.args.h.now c.args.with.now c.args.state.now.cells.items c.args.state.now.actors.items c.requires.core c.args.number c.requires.within c.args.kind c.requires.due c.requires.runs c.in-LookUp.is
+    part-there c.args.state.now.actors.items c.args.number c.args.kind c.in-LookUp.is c.requires.of_part
 
 pub returns-in-GateRead : goal.returns-in-GateRead
 returns-in-GateRead c = record { made = either-ends c.args.h.now GateRead c.args.number c.args.state.now.cells.items c.gate_read.new.state.cells.items c.args.state.now.actors.items c.gate_read.new.state.actors.items refl c.gate_read.ensures.made }

@@ -1,5 +1,6 @@
 use Rattle.std.proofs.Common.{◌∙◌, ap}
 use Rattle.std.specs.Prelude.{slice_get}
+use Rattle.seeded_run.specs.Machine.{world_of}
 use Rattle.seeded_run.proofs.Begun.{no-part}
 use Rattle.seeded_run.proofs.Held.{at-next, some-within}
 use Rattle.seeded_run.proofs.Turns.{has-begun, rests-held, to-begin}
@@ -24,4 +25,4 @@ returns-clause-turned c =
     let m = c.args.self.now in
     let made = c.in_default.ensures.made in
     has-begun m c.requires.held.kept c.args.number c.args.kind c.requires.due c.begin.new.state made.0 made.1 c.requires.within
-    (no-part m.state.actors.items c.args.number c.args.kind made.0 c.requires.begins) c.args.command.now c.requires.next c.in_default.ensures.begun c.move_on.new.self c.move_on.ensures.moved
+    (no-part m.state.actors.items c.args.number ((world_of m).actors c.args.number).errand c.args.kind made.0 c.requires.begins) c.args.command.now c.requires.next c.in_default.ensures.begun c.move_on.new.self c.move_on.ensures.moved
