@@ -47,11 +47,13 @@ mod LoadsRead
 mod ReadsLoads
 mod LoadsHere
 pub mod Finishings
+pub mod BuiltUp
 pub mod FinishReady
 pub mod MoveMade
 mod SplitsShard
 mod NewTree
 mod FinishedJob
+mod SplitSides
 mod SplitTrees
 mod SplitShards
 mod SplitsLineage
@@ -62,3 +64,9 @@ mod SplitBoxes
 mod SplitRetires
 mod SplitLeads
 mod FinishesSplit
+mod KnownIds
+pub mod TableSteps
+pub mod SideRows
+pub mod ChildGates
+pub mod SplitReady
+pub mod SplitMade

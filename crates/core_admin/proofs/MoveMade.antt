@@ -28,7 +28,8 @@ use Rattle.volap_cell.specs.declared.command.Work.TheVariants as work_is
 use Rattle.volap_cell.specs.declared.kind.Kind.TheVariants as kind
 use Rattle.core_tree.proofs.Behind.{last-same}
 use Rattle.core_admin.specs.FinishDue.{CanFinishHere, CanFinishMove, ClosesDone, FinishesFor, IsMovedUp, IsNextGate, MakesWay, MakesWayHere, MayMakeWay, NotesDone, plans}
-use Rattle.core_admin.proofs.FinishReady.{is-late, its-job, known, moves-of}
+use Rattle.core_admin.proofs.BuiltUp.{is-late, its-job, known}
+use Rattle.core_admin.proofs.FinishReady.{moves-of}
 use Rattle.core_admin.proofs.FinishesMove.{finish-move, one-table-kept, two-tables-kept}
 
 -- A command that is noted and closed has finished its job.
@@ -69,7 +70,7 @@ module _ (of : ℕ) (its_work : Work) (job : JobValue) (e : Event) (led : Change
   finishes-as (work_is.Tree x stands shown) same asks = absurd asks
   finishes-as (work_is.Audit shown) same asks = absurd asks
 
-same-building : (x y : BuildingValue) → Builds x ≡ Builds y → x ≡ y
+pub same-building : (x y : BuildingValue) → Builds x ≡ Builds y → x ≡ y
 same-building x y is = cc
 
 -- The tables that are held are known by what they lead to.
@@ -98,7 +99,7 @@ module _ (hs : List Dimension) (maps maps_now : List Change) (gate_at new_at reg
   pub does-move : ((j : JobValue) → j ≡ due.up.job → IsNextGate hs x j made) → MovesIn maps_now did.job did.worker new_at
       → DoesFinishMove hs maps_now (change gate_at gate (GateCell x2)) (change new_at new new2) (change registry_at registry (RegistryCell r2)) (change stock_at stock (StockCell sv2)) led a b
   does-move next moves =
-      let late = is-late hs maps gate_at new_at registry_at stock_at ledger_at gate new registry stock ledger a here due x x_is in record {
+      let late = is-late hs maps (held new_at new ∷ []) gate_at registry_at stock_at ledger_at gate registry stock ledger a here due.up x x_is in record {
         of = did.of;
         work = did.work;
         command = did.command;
@@ -136,7 +137,7 @@ module _ (hs : List Dimension) (maps maps_now : List Change) (gate_at new_at reg
         gives = did.gives.gives;
         turns_stock = record { was = sv_is; is = refl };
         finishes = finishes-as did.of did.work did.job (Moved did.of did.job.shard did.worker) led a b lv lv2 lv_is refl did.command did.noted did.closed did.seen did.actor_is did.work refl
-            (subst (λ (k : Work). IsJobOf k did.job) (sym work-same) (subst (IsJobOf due.up.work) (sym its) (its-job hs maps gate_at new_at registry_at stock_at ledger_at gate new registry stock ledger a here due)));
+            (subst (λ (k : Work). IsJobOf k did.job) (sym work-same) (subst (IsJobOf due.up.work) (sym its) (its-job hs maps (held new_at new ∷ []) gate_at registry_at stock_at ledger_at gate registry stock ledger a here due.up)));
       }
 
 -- What the tables are asked for.
@@ -148,8 +149,8 @@ module _ (hs : List Dimension) (from_at : ℕ) (from : CellValue) (to_at : ℕ) 
       let same : due.moved.up.job ≡ j = (let both : ◌≡◌ {A = Option JobValue} (Some due.moved.up.job) (Some j) = sym due.moved.up.has.is_job ∙ j_is in cc) in
       record {
         moves = moves-of hs before gate_at new_at registry_at stock_at ledger_at gate new registry stock ledger a here due.moved j j_is;
-        gate_is = is-late hs before gate_at new_at registry_at stock_at ledger_at gate new registry stock ledger a here due.moved x x_is;
-        known = subst (λ (k : JobValue). IsSome (map.get ft k.shard)) same (known hs before gate_at new_at registry_at stock_at ledger_at gate new registry stock ledger a here due.moved from_at from here.agrees.cells.0 due.from_is fw ft from_is);
+        gate_is = is-late hs before (held new_at new ∷ []) gate_at registry_at stock_at ledger_at gate registry stock ledger a here due.moved.up x x_is;
+        known = subst (λ (k : JobValue). IsSome (map.get ft k.shard)) same (known hs before (held new_at new ∷ []) gate_at registry_at stock_at ledger_at gate registry stock ledger a here due.moved.up from_at from here.agrees.cells.0 due.from_is fw ft from_is);
       }
 
 -- That keeps what a kind must keep.

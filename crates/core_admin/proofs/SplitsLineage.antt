@@ -19,7 +19,7 @@ use Rattle.row_ledger.specs.declared.event.Event.{Event}
 use Rattle.row_ledger.specs.declared.event.Event.TheVariants.{Split}
 use Rattle.row_ledger.proofs.Ascent.{frontier-ascends}
 use Rattle.row_ledger.proofs.Changes.{split-changes}
-use Rattle.row_ledger.proofs.Descent.{live-made, split-made}
+use Rattle.row_ledger.proofs.Descent.{live-made}
 use Rattle.shard_store.specs.declared.gate.Phase.TheVariants.{Frozen, Gone, Open}
 use Rattle.tree_shape.proofs.Walks.{on_bool, eqb-eq, eqb-ne}
 use Rattle.volap_cell.specs.Ghost.{Ghost}
@@ -27,10 +27,11 @@ use Rattle.volap_cell.specs.Invariant.{InvWith}
 use Rattle.volap_cell.specs.Lineage.{Leading, Lineage, went_to}
 use Rattle.volap_cell.specs.Setting.{Setting, site_in}
 use Rattle.volap_cell.specs.View.{View}
-use Rattle.volap_cell.proofs.Departures.{left-moves, moves-made, on-stays-at, older-made}
+use Rattle.volap_cell.proofs.Departures.{on-stays-at, older-made}
 use Rattle.core_admin.proofs.MovedShards.{one-host}
 use Rattle.core_admin.proofs.Retiring.{Retiring, gate-old}
-use Rattle.core_admin.proofs.SplitShards.{left-live, left-on, live-still, off-left, off-right, on-before, on-still, right-live, right-on, was-live}
+use Rattle.core_admin.proofs.SplitShards.{left-live, left-on, live-still, off-left, off-right, on-before, on-still, right-live, right-on}
+use Rattle.core_admin.proofs.KnownIds.{entry-made}
 
 -- The table and the registry. The shard's worker leads from it to its children, and from these to the gates yl and yr.
 pub record Splitting (s : Setting) (v v2 : View) (g g2 : Ghost) (n : ℕ) (m : Retiring s v v2 g g2 n) : Type 0 where
@@ -96,19 +97,6 @@ module _ (s : Setting) (v v2 : View) (g g2 : Ghost) (n : ℕ) (i : InvWith s v g
   pub gate-made : (x : ℕ) → x < ids_made s.workers h → g2.gate x ≡ g.gate x
   gate-made x lt = t.gate_other x (not-left x lt) (not-right x lt)
 
-  old-on : (x w : ℕ) → is_on s.workers h x w ≡ true → x < ids_made s.workers h
-  old-on x w is = made-live x (was-live (site_in s) g.placed h each t.of m.shard t.left t.right t.from t.is_right t.was_on x w is)
-
-  -- each shard that has an entry was made
-  entry-made : (w x : ℕ) (to : Where) → v.maps w x ≡ Some to → x < ids_made s.workers h
-  entry-made w x (where_is.Gate c) is = old-on x w (i.lineage.leads w x c is).0
-  entry-made w x (where_is.Split plane l r) is = (let o = i.lineage.divided w x l r plane is in (split-made (site_in s) g.placed h x l r each o.1).0)
-  entry-made w x (where_is.Moved to) is = at (left_at s.workers h x w) refl (i.lineage.moved w x to is).3
-    where
-      at : (o : Option ℕ) → left_at s.workers h x w ≡ o → IsSome o → x < ids_made s.workers h
-      at None is some = cc
-      at (Some p) is some = moves-made (site_in s) g.placed h x p each (left-moves s.workers h x w p is)
-
   -- where an entry leads: from the shard, from its children, or as before
   by-entry : (P : ℕ → ℕ → Type 0) (w z : ℕ) → P t.from m.shard → P t.from t.left → P t.from t.right → (v2.maps w z ≡ v.maps w z → ((w ≡ t.from) → z ≢ m.shard) → P w z) → P w z
   by-entry P w z here left right other = on_bool (eqb w t.from)
@@ -155,8 +143,8 @@ module _ (s : Setting) (v v2 : View) (g g2 : Ghost) (n : ℕ) (i : InvWith s v g
         front = t.places;
         gate_of = λ z w is. elim (on-before (site_in s) g.placed h each t.of m.shard t.left t.right t.from t.is_right t.was_on z w is) [
           | inl old ↦
-              let lt = old-on z w old.0 in
               let o = k.gate_of z w old.0 in
+              let lt = k.made (g.gate z) z o.1 in
               let kept = gate-old s v v2 g g2 n i m (g.gate z) (subst IsSome (sym o.1) refl) in
               let off = others-gate (g.gate z) z o.1 old.1 in
               let entry : v2.maps w z ≡ v.maps w z = by-old w z old.1 lt in
@@ -196,7 +184,7 @@ module _ (s : Setting) (v v2 : View) (g g2 : Ghost) (n : ℕ) (i : InvWith s v g
             let was : v.maps w z ≡ Some (where_is.Gate c) = sym same ∙ is in
             let o = k.leads w z c was in
             let ne : z ≢ m.shard = (λ at. off (alone w (subst (λ (x : ℕ). is_on s.workers h x w ≡ true) at o.0)) at) in
-            (on-still (site_in s) g.placed h each t.of m.shard t.left t.right t.from t.is_right t.was_on z w o.0 ne, gate-made z (entry-made w z (where_is.Gate c) was) ∙ o.1));
+            (on-still (site_in s) g.placed h each t.of m.shard t.left t.right t.from t.is_right t.was_on z w o.0 ne, gate-made z (entry-made s v g i w z (where_is.Gate c) was) ∙ o.1));
         split = λ w z l r plane. by-entry (λ w z. v2.maps w z ≡ Some (where_is.Split plane l r) → IsTrue (is_child (e ∷ h) z l) × IsTrue (is_child (e ∷ h) z r) × (l ≢ r) × IsSome (v2.maps w l) × IsSome (v2.maps w r)) w z
             (λ is.
             let both : Some (where_is.Split t.plane t.left t.right) ≡ Some (where_is.Split plane l r) = sym t.at_shard ∙ is in

@@ -3,3 +3,4 @@ pub mod CollectDue
 pub mod BuildDue
 pub mod FinishDue
 pub mod LoadDue
+pub mod SplitDue

@@ -218,7 +218,7 @@ fn next_gate(alloc: Global, h: &Hierarchy, gate: &Gate, job: &Job) -> Result<Box
 }
 
 /// The rows that came to a gate's queue after it was frozen.
-fn late_rows(gate: &Gate) -> &[Row]
+pub(crate) fn late_rows(gate: &Gate) -> &[Row]
     requires within { (upto : ℕ) → IsUpTo gate.now upto → upto ≤ length gate.now.queue.rows }
     ensures { (upto : ℕ) → IsUpTo gate.now upto → result.now ≡ drop upto gate.now.queue.rows }
 {

@@ -7,6 +7,7 @@ mod collects;
 mod finishes;
 mod freezes;
 mod loads;
+mod splits;
 mod trees;
 
 pub use builds::{build_block, postpone};
@@ -14,4 +15,5 @@ pub use collects::{collect_block, collect_row};
 pub use finishes::{finish_here, finish_move};
 pub use freezes::{drained, freeze};
 pub use loads::read_load;
+pub use splits::finish_split;
 pub use trees::build_trees;

@@ -376,7 +376,7 @@ fn is_on(h: &Hierarchy, plane: &Plane, left: bool, at: &Coord) -> bool
 }
 
 /// The rows on one side of a plane.
-fn rows_on(
+pub(crate) fn rows_on(
     alloc: Global,
     h: &Hierarchy,
     plane: &Plane,

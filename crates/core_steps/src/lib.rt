@@ -15,7 +15,7 @@ mod trees;
 
 pub use books::{ack, answer, begin_insert, begin_query, route, sync};
 pub use fails::{fail_query, fail_routed, fail_unrouted};
-pub use finishes::{finish_here, finish_move};
+pub use finishes::{finish_here, finish_move, finish_split};
 pub use held::HeldIf;
 pub use jobs::{build_block, build_trees, collect_block, collect_row, drained, freeze, postpone};
 pub use loads::read_load;

@@ -172,7 +172,7 @@ worker-there s w g i worker shard to leads = elim (cases_lt worker s.workers) [
   | inr ge ↦ absurd (no-table (w.cells (map_cell s worker)) shard to (i.numbering.tag (map_cell s worker) ∙ tag-rest s (map_cell s worker) (omega (arith, ge))) leads)
 ]
 
-stock-fixed : (s : Setting) → IsFixed s stock_cell
+pub stock-fixed : (s : Setting) → IsFixed s stock_cell
 stock-fixed s e = (let tags : TheStock ≡ OfStock = e in absurd (cc))
 
 -- Balances.
@@ -264,7 +264,7 @@ module _ (h : List Dimension) (with : Use) (cells : List (Option Cell)) (actors 
   -- Balances.
 
   -- a byte counts one action more
-  over-few : (of : ℕ) (b : Balance) (job : JobValue) → (w.actors n).command ≡ doing of (work_is.Balance b) → (w.actors n).job ≡ Some job → most_of (command_by actors n) < 2 ^ 8 → b.over + 1 < 2 ^ 8
+  pub over-few : (of : ℕ) (b : Balance) (job : JobValue) → (w.actors n).command ≡ doing of (work_is.Balance b) → (w.actors n).job ≡ Some job → most_of (command_by actors n) < 2 ^ 8 → b.over + 1 < 2 ^ 8
   over-few of b job command is_job few =
       let most : most_of (command_by actors n) ≡ b.most = ap most_of (command-is h with cells actors s w core n lt ∙ command) in
       let (c, is, asked) = i.working.command n job is_job in

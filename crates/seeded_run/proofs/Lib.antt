@@ -58,3 +58,4 @@ pub mod ByHand
 pub mod DueJobs
 pub mod JobsReady
 pub mod LoadsReady
+pub mod MovesReady

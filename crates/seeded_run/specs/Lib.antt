@@ -28,3 +28,4 @@ pub mod Rows
 pub mod ByHand
 pub mod Jobs
 pub mod Loads
+pub mod Moves

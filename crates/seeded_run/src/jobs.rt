@@ -45,7 +45,7 @@ fn worker_of(actor: &Actor) -> u8
 }
 
 /// The worker that has the shard of the job of the actor with this number.
-fn worker_by(state: &State, number: usize) -> u8
+pub(crate) fn worker_by(state: &State, number: usize) -> u8
     ensures { result ≡ worker_of_job (job_by state.now.actors.items number) }
 {
     match state.actors.get(number) {
@@ -106,7 +106,7 @@ fn frozen_of(actor: &Actor) -> u32
 }
 
 /// The gate of the shard that is frozen for the job of the actor with this number, 0 where none is.
-fn frozen_by(state: &State, number: usize) -> u32
+pub(crate) fn frozen_by(state: &State, number: usize) -> u32
     ensures { result ≡ frozen_gate (job_by state.now.actors.items number) }
 {
     match state.actors.get(number) {
@@ -253,7 +253,7 @@ fn most_of(actor: &Actor) -> u8
 
 /// How many actions the balance of the actor with this number may plan, 0 where it has none. A byte tells
 /// them.
-fn most_by(state: &State, number: usize) -> u8
+pub(crate) fn most_by(state: &State, number: usize) -> u8
     ensures value { result ≡ most_of (command_by state.now.actors.items number) }
     ensures few { most_of (command_by state.now.actors.items number) < 2 ^ 8 }
 {

@@ -6,20 +6,21 @@ use Rattle.volap_cell.specs.World.{held}
 use Rattle.volap_cell.specs.declared.job.Job.{Job}
 use Rattle.volap_cell.proofs.Boxed.{gated}
 use Rattle.core_admin.specs.FinishDue.{MakesWayHere}
-use Rattle.core_admin.proofs.FinishReady.{gate-there, is-late, may-finish, moves-of}
+use Rattle.core_admin.proofs.BuiltUp.{gate-there, is-late}
+use Rattle.core_admin.proofs.FinishReady.{may-finish, moves-of}
 use Rattle.core_admin.proofs.MoveMade.{here-makes}
 use Rattle.core_admin.proofs.finishes.finish_here.Goals as goal
 
 pub unreachable-requires-in_default-gate : goal.unreachable-requires-in_default-gate
 unreachable-requires-in_default-gate c =
-    let (x, is) = gate-there c.args.h.now (held c.args.table_at (cell_of c.args.table.now) ∷ []) c.args.gate_at c.args.new_at c.args.registry_at c.args.stock_at c.args.ledger_at (cell_of c.args.gate.now) (cell_of c.args.new.now) (cell_of c.args.registry.now) (cell_of c.args.stock.now) (cell_of c.args.ledger.now) (actor_of c.args.actor.now) c.requires.here c.requires.due.moved in
+    let (x, is) = gate-there c.args.h.now (held c.args.table_at (cell_of c.args.table.now) ∷ []) (held c.args.new_at (cell_of c.args.new.now) ∷ []) c.args.gate_at c.args.registry_at c.args.stock_at c.args.ledger_at (cell_of c.args.gate.now) (cell_of c.args.registry.now) (cell_of c.args.stock.now) (cell_of c.args.ledger.now) (actor_of c.args.actor.now) c.requires.here c.requires.due.moved.up in
     gated c.args.gate.now (subst IsSome (sym (ap gate_shard is)) refl) (λ x e. c.in_default-gate.not-Gate x e)
 
 pub make_way_here-requires : goal.make_way_here-requires
 make_way_here-requires c = record {
   moves = moves-of c.args.h.now (held c.args.table_at (cell_of c.args.table.now) ∷ []) c.args.gate_at c.args.new_at c.args.registry_at c.args.stock_at c.args.ledger_at (cell_of c.args.gate.now) (cell_of c.args.new.now) (cell_of c.args.registry.now) (cell_of c.args.stock.now) (cell_of c.args.ledger.now) (actor_of c.args.actor.now) c.requires.here c.requires.due.moved
       (job_of c.deref-2.result.now) (ap (option_map (λ (j : Box Job Global). job_of j.value)) c.in-Some.is ∙ ap (λ (j : Job). Some (job_of j)) (sym c.deref-2.ensures));
-  gate = is-late c.args.h.now (held c.args.table_at (cell_of c.args.table.now) ∷ []) c.args.gate_at c.args.new_at c.args.registry_at c.args.stock_at c.args.ledger_at (cell_of c.args.gate.now) (cell_of c.args.new.now) (cell_of c.args.registry.now) (cell_of c.args.stock.now) (cell_of c.args.ledger.now) (actor_of c.args.actor.now) c.requires.here c.requires.due.moved c.deref.result.now (ap cell_of c.in-Gate.is ∙ ap GateCell (sym c.deref.ensures));
+  gate = is-late c.args.h.now (held c.args.table_at (cell_of c.args.table.now) ∷ []) (held c.args.new_at (cell_of c.args.new.now) ∷ []) c.args.gate_at c.args.registry_at c.args.stock_at c.args.ledger_at (cell_of c.args.gate.now) (cell_of c.args.registry.now) (cell_of c.args.stock.now) (cell_of c.args.ledger.now) (actor_of c.args.actor.now) c.requires.here c.requires.due.moved.up c.deref.result.now (ap cell_of c.in-Gate.is ∙ ap GateCell (sym c.deref.ensures));
 }
 
 pub finish_for-requires : goal.finish_for-requires

@@ -6,13 +6,14 @@ use Rattle.volap_cell.specs.World.{held}
 use Rattle.volap_cell.specs.declared.job.Job.{Job}
 use Rattle.volap_cell.proofs.Boxed.{gated}
 use Rattle.core_admin.specs.FinishDue.{MakesWay}
-use Rattle.core_admin.proofs.FinishReady.{gate-there, may-finish}
+use Rattle.core_admin.proofs.BuiltUp.{gate-there}
+use Rattle.core_admin.proofs.FinishReady.{may-finish}
 use Rattle.core_admin.proofs.MoveMade.{may-make-way, move-makes}
 use Rattle.core_admin.proofs.finishes.finish_move.Goals as goal
 
 pub unreachable-requires-in_default-gate : goal.unreachable-requires-in_default-gate
 unreachable-requires-in_default-gate c =
-    let (x, is) = gate-there c.args.h.now (held c.args.from_at (cell_of c.args.from.now) ∷ held c.args.to_at (cell_of c.args.to.now) ∷ []) c.args.gate_at c.args.new_at c.args.registry_at c.args.stock_at c.args.ledger_at (cell_of c.args.gate.now) (cell_of c.args.new.now) (cell_of c.args.registry.now) (cell_of c.args.stock.now) (cell_of c.args.ledger.now) (actor_of c.args.actor.now) c.requires.here c.requires.due.moved in
+    let (x, is) = gate-there c.args.h.now (held c.args.from_at (cell_of c.args.from.now) ∷ held c.args.to_at (cell_of c.args.to.now) ∷ []) (held c.args.new_at (cell_of c.args.new.now) ∷ []) c.args.gate_at c.args.registry_at c.args.stock_at c.args.ledger_at (cell_of c.args.gate.now) (cell_of c.args.registry.now) (cell_of c.args.stock.now) (cell_of c.args.ledger.now) (actor_of c.args.actor.now) c.requires.here c.requires.due.moved.up in
     gated c.args.gate.now (subst IsSome (sym (ap gate_shard is)) refl) (λ x e. c.in_default-gate.not-Gate x e)
 
 pub make_way-requires : goal.make_way-requires

@@ -1,0 +1,19 @@
+-- The rows of one side of a plane may stand in a queue where all of them may.
+use Rattle.std.proofs.Common.{Bool, List, arith}
+use Rattle.std.proofs.lemmas.List.Elements.{All-filter}
+use Rattle.std.proofs.lemmas.List.Sums.{count_by-le-length, length-filter}
+use Rattle.describing_set.specs.Plane.{goes_left}
+use Rattle.describing_set.specs.declared.plane.Plane.{Plane}
+use Rattle.dim_hierarchy.specs.Dimension.{Dimension}
+use Rattle.dim_hierarchy.specs.Row.{IsRowOf}
+use Rattle.dim_hierarchy.specs.declared.row.Row.{Row}
+use Rattle.core_admin.specs.BuildDue.{is_side, side_of}
+use Rattle.core_admin.specs.FinishDue.{CanQueue}
+
+pub side-queue : (h : List Dimension) (plane : Plane) (left : Bool) (rows : List Row) → CanQueue h rows → CanQueue h (side_of h plane left rows)
+side-queue h plane left rows all =
+    let goes : Row → Bool = λ r. is_side left (goes_left h plane r.at) in
+    record {
+      valid = All-filter goes (IsRowOf h) rows all.valid;
+      few = (let some = length-filter goes rows in let most = count_by-le-length goes rows in let few = all.few in omega (arith, some, most, few));
+    }
