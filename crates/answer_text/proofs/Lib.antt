@@ -4,3 +4,4 @@ pub mod ToldPlaces
 pub mod ToldLines
 pub mod TellerFacts
 pub mod Referring
+pub mod SummaryFacts

@@ -3,3 +3,4 @@ pub mod Answer
 pub mod Marks
 pub mod Notes
 pub mod Told
+pub mod Summary

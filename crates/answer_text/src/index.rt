@@ -124,6 +124,28 @@ impl<'a> Index<'a> {
         }
     }
 
+    /// The event that begins the command of a place.
+    pub(crate) fn begin_at(&self, place: Option<usize>) -> Option<&Event>
+        requires { IsPosition (reverse self.now.events.now) place }
+        ensures { option_copied result ≡ option_and_then (event_at (reverse self.now.events.now)) place }
+    {
+        match place {
+            Some(position) => Some(self.get(position)),
+            None => None,
+        }
+    }
+
+    /// The event that ends the command of a place.
+    pub(crate) fn end_at(&self, place: Option<usize>) -> Option<&Event>
+        requires { IsPosition (reverse self.now.events.now) place }
+        ensures { option_copied result ≡ option_and_then (end_of (reverse self.now.events.now)) place }
+    {
+        match place {
+            Some(position) => self.end_of(position),
+            None => None,
+        }
+    }
+
     // The page that was shown for the command begun at a position.
     fn page_of(&self, position: usize) -> Option<&Page>
         requires { position < length self.now.events.now }

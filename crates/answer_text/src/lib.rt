@@ -9,10 +9,12 @@ pub mod laws;
 mod line;
 mod notes;
 mod pages;
+mod sums;
 mod text;
 
 pub use answer::Answer;
 pub use bad::BadLine;
 pub use line::{Line, Word, push_line};
 pub use pages::push_page;
+pub use sums::summary;
 pub use text::{Teller, phase, told};

@@ -15,8 +15,8 @@ use script_form::{Command, Commands};
 use script_run::{SESSIONS, phase_len, session_of};
 use std::alloc::{AllocError, Global};
 
-// Where the commands from a place on begin; they are counted by session with those before.
-fn places(
+/// Where the commands from a place on begin; they are counted by session with those before.
+pub(crate) fn places(
     alloc: Global,
     counts: &mut Vec<usize>,
     with: &Use,

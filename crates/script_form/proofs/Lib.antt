@@ -4,3 +4,4 @@ pub mod FieldFacts
 pub mod RecordFacts
 pub mod ScriptFacts
 pub mod ScriptLaws
+pub mod Standing

@@ -54,7 +54,7 @@ option_list : {X : Type 0} (o : Option X) → cons_option o [] ≡ option_to_lis
 option_list None = refl
 option_list (Some x) = refl
 
-script_of-push : (rows : List Record) (r : Record) → script_of (rows ++ r ∷ []) ≡ after (script_of rows) r
+pub script_of-push : (rows : List Record) (r : Record) → script_of (rows ++ r ∷ []) ≡ after (script_of rows) r
 script_of-push rows r =
     rw (fold-append (λ with x. settings_with (kind_of (field x 0)) with x) default_settings rows (r ∷ []), fold-append (λ h x. hierarchy_with (kind_of (field x 0)) h x) [] rows (r ∷ []), filter_map-append command_of rows (r ∷ []), option_list (command_of r)) refl
 
@@ -200,7 +200,7 @@ pub script_bad : (all rows rest : List Record) (at : ℕ) (s : Script) (r : Reco
 script_bad all rows rest at s r c is so_far bad =
     script_fault all (fault.Bad (at + 1) c) (rw (is, append_assoc, ← so_far.count) (so_far.sound (r ∷ rest) ∙ first_bad rows rest r c (cause_is rows at s r so_far ∙ bad)))
 
-script_fine : (all : List Record) → 0 < length all → first_fault [] all ≡ None → script all ≡ Ok (script_of all)
+pub script_fine : (all : List Record) → 0 < length all → first_fault [] all ≡ None → script all ≡ Ok (script_of all)
 script_fine [] some is = absurd (omega arith)
 script_fine (r ∷ rest) some is = rw is refl
 

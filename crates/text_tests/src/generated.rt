@@ -1,6 +1,7 @@
 //! What is tested of `volap_gen`.
+use script_form::read_script;
 use std::test::Fail;
-use volap_gen::generate;
+use volap_gen::{generate, generated_is_a_script};
 
 #[test]
 fn begins_and_ends_as_said(rt: HostRuntime) -> Result<(), Fail> {
@@ -44,6 +45,21 @@ fn pulls_come_after_each_thousand_rows(rt: HostRuntime) -> Result<(), Fail> {
         let concepts = 3 + 36 + 1008 + 4 + 20 + 100 + 5 + 20 + 200;
         let lines = 5 + concepts + rows as usize + 6 * pulls + 6;
         assert_eq!(rt; lines_of(text.as_slice()), lines);
+    }
+    Ok(())
+}
+
+#[test]
+fn is_read_as_a_script(rt: HostRuntime) -> Result<(), Fail> {
+    const CASES: [(u64, usize); 3] = [(1, 13), (102, 114), (1001, 1019)];
+    generated_is_a_script();
+    for (rows, commands) in &CASES {
+        let rows = *rows;
+        assert!(rt; rows <= 200_000);
+        let text = generate(rt.alloc(), rows, 7)?;
+        let script = read_script(rt.alloc(), text.as_slice())?;
+        assert_eq!(rt; script.hierarchy.concepts(), 1396);
+        assert_eq!(rt; script.commands.len(), *commands);
     }
     Ok(())
 }

@@ -188,7 +188,7 @@ fn bad_records_behind_the_base(rt: HostRuntime) -> Result<(), Fail> {
 
 #[test]
 fn good_texts(rt: HostRuntime) -> Result<(), Fail> {
-    const CASES: [(&[u8], usize); 12] = [
+    const CASES: [(&[u8], usize); 13] = [
         (b"", 0),
         (b"insert,0,5,\"berlin\"\r\nquery,1,de|berlin\r\nbarrier", 3),
         (
@@ -260,28 +260,43 @@ fn expect_query<R: Abort>(rt: &R, question: &Question) {
     assert_eq!(rt; names[1].as_slice(), b"fr".as_slice());
 }
 
+/// The calls of a script, behind its insert and its query.
+const CALLS: [Call; 9] = [
+    Call::Tree(4294967295),
+    Call::Sync(1),
+    Call::Barrier,
+    Call::Settle,
+    Call::Split(7),
+    Call::Move(8, 9),
+    Call::Balance(16),
+    Call::Shards,
+    Call::Audit,
+];
+
+/// The call of a command that makes one.
+fn call_of(command: &Command) -> Option<Call> {
+    match command {
+        Command::Control(call) => Some(*call),
+        _ => None,
+    }
+}
+
+/// Compares calls.
+fn expect_calls<R: Abort>(rt: &R, commands: &[Command]) {
+    assert_eq!(rt; commands.len(), CALLS.len());
+    for (i, command) in commands.iter().enumerate() {
+        assert_eq!(rt; call_of(command), CALLS.get(i).copied());
+    }
+}
+
 /// Compares the commands of a script.
 fn expect_commands<R: Abort>(rt: &R, commands: &[Command]) {
-    let [
-        Command::Insert(row),
-        Command::Query(question),
-        Command::Control(Call::Tree(shard)),
-        Command::Control(Call::Sync(server)),
-        Command::Control(Call::Barrier),
-        Command::Control(Call::Settle),
-        Command::Control(Call::Split(split)),
-        Command::Control(Call::Move(moved, worker)),
-        Command::Control(Call::Balance(most)),
-        Command::Control(Call::Shards),
-        Command::Control(Call::Audit),
-    ] = commands
-    else {
+    let [Command::Insert(row), Command::Query(question), calls @ ..] = commands else {
         panic!(rt; "other commands");
     };
-    assert_eq!(rt; *shard, 4294967295);
-    assert_eq!(rt; (*server, *split, *moved, *worker, *most), (1, 7, 8, 9, 16));
     expect_insert(rt, row);
     expect_query(rt, question);
+    expect_calls(rt, calls);
 }
 
 #[test]

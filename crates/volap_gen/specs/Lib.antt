@@ -1,3 +1,4 @@
 pub mod Generated
 pub mod Printed
 pub mod Names
+pub mod Law

@@ -3,8 +3,10 @@
 #![tactic(auto)]
 
 mod concepts;
+mod laws;
 mod names;
 mod rows;
 mod script;
 
+pub use laws::generated_is_a_script;
 pub use script::generate;
