@@ -25,6 +25,7 @@ mod rows;
 mod shown;
 mod shows;
 mod sights;
+mod splits;
 mod steps;
 mod takes;
 mod wanted;
