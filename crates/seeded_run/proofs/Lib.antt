@@ -59,3 +59,6 @@ pub mod DueJobs
 pub mod JobsReady
 pub mod LoadsReady
 pub mod MovesReady
+pub mod EndsReady
+pub mod LastTwo
+pub mod SplitsReady

@@ -29,3 +29,4 @@ pub mod ByHand
 pub mod Jobs
 pub mod Loads
 pub mod Moves
+pub mod Splits
