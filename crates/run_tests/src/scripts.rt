@@ -81,14 +81,14 @@ fn are_picks(picks: &[NamePick]) -> bool
     true
 }
 
-/// Whether this call may run.
+/// Whether this call may run: a pull is for a server that is there.
 fn may_call(h: &Hierarchy, with: &Use, call: &Call) -> bool
     ensures { result ≡ true → MayRun h.now with.now (script_is.Control call.now) }
 {
     match call {
-        Call::Barrier | Call::Settle | Call::Tree(_) => true,
         Call::Sync(server) => *server < with.servers,
-        _ => false,
+        Call::Split(_) | Call::Move(_, _) | Call::Balance(_) => true,
+        Call::Barrier | Call::Settle | Call::Shards | Call::Tree(_) | Call::Audit => true,
     }
 }
 
