@@ -12,4 +12,6 @@ mod runs;
 #[cfg(test)]
 mod scripts;
 #[cfg(test)]
+mod shard_stories;
+#[cfg(test)]
 mod stories;

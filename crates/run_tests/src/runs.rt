@@ -4,7 +4,7 @@ ghost use Rattle.script_form.specs.Scripts.{AreSettings};
 ghost use Rattle.seeded_run.specs.Kept.{IsBetween};
 ghost use Rattle.seeded_run.specs.Phase.{ClosesLast, IsCoreHeld, MayAllRun, about, held, is_order};
 
-use row_ledger::Event;
+use row_ledger::{Event, How, Page, ShardLine};
 use script_form::{Command, Script};
 use script_run::phase_len;
 use seeded_run::{Schedule, open_core, run_phase};
@@ -109,7 +109,56 @@ fn push_measure(text: &mut String, measure: Option<i64>) -> Result<(), AllocErro
     }
 }
 
-/// Adds what an event says of a query.
+/// Adds the path of a row that has gone by more than one shard.
+fn push_path(text: &mut String, path: &[u32]) -> Result<(), AllocError> {
+    if path.len() < 2 {
+        return Ok(());
+    }
+    write!(text, "by")?;
+    for shard in path {
+        write!(text, " {shard}")?;
+    }
+    write!(text, "; ")
+}
+
+/// Adds the shards of a page: where each is, and how many rows are in its tree and in its queue.
+fn push_shards(text: &mut String, lines: &[ShardLine]) -> Result<(), AllocError> {
+    for line in lines {
+        let ShardLine {
+            shard,
+            worker,
+            rows,
+            queued,
+            ..
+        } = line;
+        write!(text, "{shard} at {worker}: {rows} + {queued}; ")?;
+    }
+    Ok(())
+}
+
+/// Adds what an event says of a split, of a move, or of shards that are shown.
+fn push_change(text: &mut String, event: &Event) -> Result<(), AllocError> {
+    match event {
+        Event::Split {
+            shard,
+            left,
+            right,
+            ..
+        } => write!(text, "{shard} split: {left} and {right}; "),
+        Event::Moved { shard, worker, .. } => write!(text, "{shard} to {worker}; "),
+        Event::Ended {
+            how: How::Declined(_),
+            ..
+        } => write!(text, "declined; "),
+        Event::Shown {
+            page: Page::Shards(lines),
+            ..
+        } => push_shards(text, lines.as_slice()),
+        _ => Ok(()),
+    }
+}
+
+/// Adds what an event says of a query, of a row that has gone by more than one shard, or of shards.
 fn push_answer(text: &mut String, event: &Event) -> Result<(), AllocError> {
     match event {
         Event::Answered { agg, .. } => {
@@ -119,11 +168,12 @@ fn push_answer(text: &mut String, event: &Event) -> Result<(), AllocError> {
             write!(text, "; ")
         }
         Event::Unknown { dim, .. } => write!(text, "unknown {dim}; "),
-        _ => Ok(()),
+        Event::Acked { path, .. } => push_path(text, path.as_slice()),
+        _ => push_change(text, event),
     }
 }
 
-/// The answers of a history.
+/// What a history says of queries, of rows that have gone by more than one shard, and of shards that change or are shown.
 pub(crate) fn answers(alloc: Global, all: &[Event]) -> Result<String, AllocError> {
     let mut text = String::new(alloc);
     for event in all {

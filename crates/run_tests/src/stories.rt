@@ -15,7 +15,7 @@ use std::test::Fail;
 use volap_cell::{Kind, State};
 
 /// Who makes steps of which kinds, one after the other. Who makes none has to wait at that time.
-type Moves = &'static [(u32, &'static [Kind])];
+pub(crate) type Moves = &'static [(u32, &'static [Kind])];
 
 /// Adds the steps of these kinds, which an actor makes; or that it waits, where there is none.
 fn push_steps(steps: &mut Vec<Move>, actor: u32, kinds: &[Kind]) -> Result<(), AllocError> {
@@ -42,7 +42,7 @@ const BASE: &str =
     "volap,1\nuse,2,1,1,256\ndim,place,2\nconcept,place,de,*\nconcept,place,berlin,de\nconcept,place,munich,de\n";
 
 /// What an insert does until its row has come in at the root.
-const BEFORE: &[Kind] = &[
+pub(crate) const BEFORE: &[Kind] = &[
     Kind::BeginInsert,
     Kind::Route,
     Kind::TakePart,
@@ -52,7 +52,7 @@ const BEFORE: &[Kind] = &[
 ];
 
 /// What it does from then on in a tree that has no directory, until it is acknowledged.
-const BEHIND: &[Kind] = &[
+pub(crate) const BEHIND: &[Kind] = &[
     Kind::PutInLeaf,
     Kind::LeaveTree,
     Kind::Refill,
@@ -60,10 +60,10 @@ const BEHIND: &[Kind] = &[
 ];
 
 /// What a pull does.
-const PULL: &[Kind] = &[Kind::Note, Kind::Sync, Kind::Note];
+pub(crate) const PULL: &[Kind] = &[Kind::Note, Kind::Sync, Kind::Note];
 
 /// What a query does that need not look into a tree.
-const ASK: &[Kind] = &[
+pub(crate) const ASK: &[Kind] = &[
     Kind::BeginQuery,
     Kind::TakePart,
     Kind::GateRead,
@@ -72,22 +72,25 @@ const ASK: &[Kind] = &[
 ];
 
 /// What a query does until it has noted a root.
-const LOOK: &[Kind] = &[Kind::BeginQuery, Kind::TakePart, Kind::GateRead];
+pub(crate) const LOOK: &[Kind] = &[Kind::BeginQuery, Kind::TakePart, Kind::GateRead];
 
 /// A story.
-struct Story {
+pub(crate) struct Story {
+    /// What stands before the commands.
+    pub base: &'static str,
     /// Lines, and how many times they stand before the phase. Behind them there is a settle.
-    before: &'static [Line],
-    times: usize,
-    phase: &'static [Line],
-    moves: Moves,
-    /// What is answered in the phase.
-    told: &'static str,
+    pub before: &'static [Line],
+    pub times: usize,
+    pub phase: &'static [Line],
+    pub moves: Moves,
+    /// What is answered in the phase, and what is told of shards.
+    pub told: &'static str,
 }
 
 const STORIES: [Story; 6] = [
     // Pulls between a row's place and its acknowledgement; its box is pushed by a later one.
     Story {
+        base: BASE,
         before: &[],
         times: 0,
         phase: &[
@@ -116,6 +119,7 @@ const STORIES: [Story; 6] = [
     },
     // Pulls around a query's part at a hand.
     Story {
+        base: BASE,
         before: &[Line::Insert(0, 1, "berlin")],
         times: 1,
         phase: &[
@@ -136,6 +140,7 @@ const STORIES: [Story; 6] = [
     },
     // A row comes while a query has noted the root, and is carried there: the query waits, and counts it then.
     Story {
+        base: BASE,
         before: &[Line::Insert(0, 1, "berlin"), Line::Insert(0, 1, "munich")],
         times: 8,
         phase: &[Line::Insert(0, 2, "munich"), Line::Query(1, &["munich"])],
@@ -152,6 +157,7 @@ const STORIES: [Story; 6] = [
     // A row of Berlin cuts the root that a query for Munich has noted. The query visits the old root, where the stamp is
     // another one, and the block to its right. A later one finds an entry inside its filter in the new root.
     Story {
+        base: BASE,
         before: &[Line::Insert(0, 1, "berlin"), Line::Insert(0, 1, "munich")],
         times: 16,
         phase: &[
@@ -183,6 +189,7 @@ const STORIES: [Story; 6] = [
     },
     // A row of Munich does, and the query counts it. It waits while the row is carried at the block to the right.
     Story {
+        base: BASE,
         before: &[Line::Insert(0, 1, "berlin"), Line::Insert(0, 1, "munich")],
         times: 16,
         phase: &[Line::Insert(0, 2, "munich"), Line::Query(1, &["munich"])],
@@ -200,6 +207,7 @@ const STORIES: [Story; 6] = [
     },
     // The root that is noted is halved, and the query reads both halves.
     Story {
+        base: BASE,
         before: &[Line::Insert(0, 1, "berlin")],
         times: 32,
         phase: &[
@@ -313,11 +321,11 @@ fn script_of(alloc: Global, story: &Story) -> Result<(Script, usize), AllocError
     let mut lines = lines_before(alloc, story)?;
     let first = lines.len();
     lines.extend_from_slice(story.phase)?;
-    Ok((script(alloc, BASE, &lines)?, first))
+    Ok((script(alloc, story.base, &lines)?, first))
 }
 
 /// Tells a story.
-fn tell<R: Abort>(rt: &R, alloc: Global, story: &Story) -> Result<(), Fail> {
+pub(crate) fn tell<R: Abort>(rt: &R, alloc: Global, story: &Story) -> Result<(), Fail> {
     let steps = steps(alloc, story.moves)?;
     let (script, first) = script_of(alloc, story)?;
     let (told, made, over) = answered(alloc, &script, first, &steps)?;
