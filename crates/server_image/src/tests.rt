@@ -194,8 +194,8 @@ fn split_first<R: Abort>(
     right: DescSet,
 ) -> Result<(), Fail> {
     assert!(rt; registry.on_frontier(0));
-    assert!(rt; registry.host(2).is_none());
-    assert!(rt; registry.host(3).is_none());
+    assert!(rt; !registry.on_frontier(2));
+    assert!(rt; !registry.on_frontier(3));
     registry.split(0, 2, left, 3, right)?;
     assert!(rt; !registry.on_frontier(0));
     Ok(())
