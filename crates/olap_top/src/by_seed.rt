@@ -115,7 +115,9 @@ impl Seen {
 fn rows_of(shards: &[ShardLine]) -> u64 {
     let mut count = 0u64;
     for shard in shards {
-        count = count.saturating_add(shard.rows).saturating_add(shard.queued);
+        count = count
+            .saturating_add(shard.rows)
+            .saturating_add(shard.queued);
     }
     count
 }

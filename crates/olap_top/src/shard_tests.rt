@@ -168,7 +168,14 @@ fn moves_and_what_they_leave(rt: HostRuntime) -> Result<(), Fail> {
 #[test]
 fn balances_and_what_they_leave(rt: HostRuntime) -> Result<(), Fail> {
     const CASES: [Case; 2] = [
-        ("1,2,1,1024", CITIES, &["berlin"], 100, "balance,4\n", "101 balance 0 1\n"),
+        (
+            "1,2,1,1024",
+            CITIES,
+            &["berlin"],
+            100,
+            "balance,4\n",
+            "101 balance 0 1\n",
+        ),
         (
             "2,2,1,256",
             CITIES,

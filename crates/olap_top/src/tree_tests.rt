@@ -11,7 +11,8 @@ use std::thread::Threads;
 use volap_io::{MemSink, MemSource};
 
 /// A country with two cities.
-pub(crate) const CITIES: &str = "dim,geo,2\nconcept,geo,de,*\nconcept,geo,berlin,de\nconcept,geo,munich,de\n";
+pub(crate) const CITIES: &str =
+    "dim,geo,2\nconcept,geo,de,*\nconcept,geo,berlin,de\nconcept,geo,munich,de\n";
 
 /// A country with eight cities.
 pub(crate) const LETTERS: &str =
