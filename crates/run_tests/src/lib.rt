@@ -8,6 +8,8 @@ mod chance;
 #[cfg(test)]
 mod phases;
 #[cfg(test)]
+mod postponed;
+#[cfg(test)]
 mod runs;
 #[cfg(test)]
 mod scripts;

@@ -4,6 +4,7 @@ ghost use Rattle.script_form.specs.Scripts.{AreSettings};
 ghost use Rattle.seeded_run.specs.Kept.{IsBetween};
 ghost use Rattle.seeded_run.specs.Phase.{ClosesLast, IsCoreHeld, MayAllRun, about, held, is_order};
 
+use describing_set::{DescSet, Part};
 use row_ledger::{Event, How, Page, ShardLine};
 use script_form::{Command, Script};
 use script_run::phase_len;
@@ -121,7 +122,28 @@ fn push_path(text: &mut String, path: &[u32]) -> Result<(), AllocError> {
     write!(text, "; ")
 }
 
-/// Adds the shards of a page: where each is, and how many rows are in its tree and in its queue.
+/// Adds the level of a part, and the numbers of its concepts.
+fn push_part(text: &mut String, part: &Part) -> Result<(), AllocError> {
+    let level = part.level;
+    let mut before = ":";
+    write!(text, "{level}")?;
+    for id in part.ids.as_slice() {
+        let number = id.number();
+        write!(text, "{before}{number}")?;
+        before = "+";
+    }
+    Ok(())
+}
+
+/// Adds a box.
+fn push_box(text: &mut String, set: &DescSet) -> Result<(), AllocError> {
+    for part in set.parts.as_slice() {
+        push_part(text, part)?;
+    }
+    write!(text, "; ")
+}
+
+/// Adds the shards of a page: where each is, how many rows are in its tree and in its queue, and its box.
 fn push_shards(text: &mut String, lines: &[ShardLine]) -> Result<(), AllocError> {
     for line in lines {
         let ShardLine {
@@ -129,14 +151,25 @@ fn push_shards(text: &mut String, lines: &[ShardLine]) -> Result<(), AllocError>
             worker,
             rows,
             queued,
-            ..
+            set,
         } = line;
-        write!(text, "{shard} at {worker}: {rows} + {queued}; ")?;
+        write!(text, "{shard} at {worker}: {rows} + {queued} in ")?;
+        push_box(text, set)?;
     }
     Ok(())
 }
 
-/// Adds what an event says of a split, of a move, or of shards that are shown.
+/// Adds how a split, a move or a balance ended, where it isn't told by what it did.
+fn push_end(text: &mut String, how: &How) -> Result<(), AllocError> {
+    match how {
+        How::Declined(_) => write!(text, "declined; "),
+        How::Postponed => write!(text, "postponed; "),
+        How::Balanced { done, planned } => write!(text, "balanced {done} of {planned}; "),
+        How::Fine | How::NoMemory => Ok(()),
+    }
+}
+
+/// Adds what an event says of a split, of a move, of a balance, or of shards that are shown.
 fn push_change(text: &mut String, event: &Event) -> Result<(), AllocError> {
     match event {
         Event::Split {
@@ -146,10 +179,11 @@ fn push_change(text: &mut String, event: &Event) -> Result<(), AllocError> {
             ..
         } => write!(text, "{shard} split: {left} and {right}; "),
         Event::Moved { shard, worker, .. } => write!(text, "{shard} to {worker}; "),
-        Event::Ended {
-            how: How::Declined(_),
-            ..
-        } => write!(text, "declined; "),
+        Event::Left { shard, how, .. } => {
+            write!(text, "{shard} left: ")?;
+            push_end(text, how)
+        }
+        Event::Ended { how, .. } => push_end(text, how),
         Event::Shown {
             page: Page::Shards(lines),
             ..

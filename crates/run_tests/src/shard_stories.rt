@@ -1,28 +1,28 @@
 //! Phases in which shards split and move, step by step.
 use crate::scripts::Line;
-use crate::stories::{BEFORE, BEHIND, LOOK, PULL, Story, tell};
+use crate::stories::{ASK, BEFORE, BEHIND, LOOK, PULL, Story, tell};
 use row_ledger::Call;
 use std::test::Fail;
 use volap_cell::Kind;
 
 /// Two servers and one worker. The sessions are the actors 0 and 1, the administrator is 3, and the hand 4.
-const ONE_WORKER: &str =
+pub(crate) const ONE_WORKER: &str =
     "volap,1\nuse,2,1,1,256\ndim,place,2\nconcept,place,de,*\nconcept,place,berlin,de\nconcept,place,munich,de\nconcept,place,hamburg,de\n";
 
 /// Two servers and two workers. The puller is the actor 2, and the hands are 4 and 5. The first rows of Berlin, Paris and
 /// Munich, in this order, go to the shards 0, 1 and 0.
-const TWO_WORKERS: &str =
+pub(crate) const TWO_WORKERS: &str =
     "volap,1\nuse,2,2,1,256\ndim,place,2\nconcept,place,de,*\nconcept,place,berlin,de\nconcept,place,munich,de\nconcept,place,fr,*\nconcept,place,paris,fr\n";
 
 /// A row of each of these.
-const TOWNS: &[Line] = &[
+pub(crate) const TOWNS: &[Line] = &[
     Line::Insert(0, 1, "berlin"),
     Line::Insert(0, 1, "paris"),
     Line::Insert(0, 1, "munich"),
 ];
 
 /// What an insert does while its shard is frozen.
-const QUEUE: &[Kind] = &[
+pub(crate) const QUEUE: &[Kind] = &[
     Kind::BeginInsert,
     Kind::Route,
     Kind::TakePart,
@@ -48,7 +48,7 @@ const ENTER: &[Kind] = &[Kind::LookUp, Kind::Refill, Kind::EnterTree];
 
 /// What a query does, by a server that does not know yet of a split, until its second part is at the right child. It need
 /// not look into the tree of the left one.
-const BOTH: &[Kind] = &[
+pub(crate) const BOTH: &[Kind] = &[
     Kind::BeginQuery,
     Kind::TakePart,
     Kind::Expand,
@@ -59,7 +59,7 @@ const BOTH: &[Kind] = &[
 ];
 
 /// What a query does at a part where it need not look into the tree.
-const COUNT: &[Kind] = &[Kind::GateRead, Kind::FinishPart];
+pub(crate) const COUNT: &[Kind] = &[Kind::GateRead, Kind::FinishPart];
 
 /// What it does at a part where it reads two blocks.
 const READ: &[Kind] = &[
@@ -69,10 +69,22 @@ const READ: &[Kind] = &[
     Kind::FinishPart,
 ];
 
-/// What a page of all shards does.
-const SHOW: &[Kind] = &[Kind::Note, Kind::Note, Kind::Note];
+/// What a query for all does, by a server that knows of two shards.
+pub(crate) const ASK_BOTH: &[Kind] = &[
+    Kind::BeginQuery,
+    Kind::TakePart,
+    Kind::GateRead,
+    Kind::FinishPart,
+    Kind::TakePart,
+    Kind::GateRead,
+    Kind::FinishPart,
+    Kind::Answer,
+];
 
-const STORIES: [Story; 4] = [
+/// What a page of all shards does.
+pub(crate) const SHOW: &[Kind] = &[Kind::Note, Kind::Note, Kind::Note];
+
+const STORIES: [Story; 5] = [
     // A shard of 33 rows moves to the other worker. The move waits for the last insert in the tree; a later one comes to the
     // queue, and goes with it. A query that has noted the old root reads the old tree. One that begins behind the move is
     // handed on to the new worker.
@@ -109,7 +121,7 @@ const STORIES: [Story; 4] = [
             (1, &[Kind::Answer]),
             (3, SHOW),
         ],
-        told: "0 to 1; 16 16 1 1; 17 20 1 4; 0 at 1: 33 + 1; 1 at 1: 16 + 0; ",
+        told: "0 to 1; 16 16 1 1; 17 20 1 4; 0 at 1: 33 + 1 in 2:0+1; 1 at 1: 16 + 0 in 2:2; ",
     },
     // A shard of 64 rows splits while a query has read its root: it counts each row of the old tree once. A row of Hamburg
     // that comes to the queue meanwhile is in the queue of the child with that town, and the later queries, each with a part
@@ -150,7 +162,7 @@ const STORIES: [Story; 4] = [
             (1, &[Kind::Answer]),
             (3, SHOW),
         ],
-        told: "0 split: 1 and 2; 16 16 1 1; 17 20 1 4; 32 32 1 1; 1 at 0: 16 + 0; 2 at 0: 48 + 1; ",
+        told: "0 split: 1 and 2; 16 16 1 1; 17 20 1 4; 32 32 1 1; 1 at 0: 16 + 0 in 2:0; 2 at 0: 48 + 1 in 2:1+2; ",
     },
     // Servers that know nothing of it yet send to a shard that was split, whose right child has moved then. A row comes by
     // both, and one part of a query becomes two, of which one is handed on. Behind a pull it is one part from the beginning.
@@ -202,7 +214,48 @@ const STORIES: [Story; 4] = [
             (1, &[Kind::Answer]),
             (3, SHOW),
         ],
-        told: "0 split: 2 and 3; by 0 3; 17 18 1 2; 3 to 1; by 0 3; 18 22 1 4; 10 14 1 4; 1 at 1: 8 + 0; 2 at 0: 8 + 0; 3 at 1: 10 + 0; ",
+        told: "0 split: 2 and 3; by 0 3; 17 18 1 2; 3 to 1; by 0 3; 18 22 1 4; 10 14 1 4; 1 at 1: 8 + 0 in 2:2; 2 at 0: 8 + 0 in 2:0; 3 at 1: 10 + 0 in 2:1; ",
+    },
+    // The rows of Munich and of Hamburg come by a server that tells nobody of its shard's box before that is split. Then the
+    // shard that it tells of stands no more, and whoever pulls has the boxes of the children, with all their rows.
+    Story {
+        base: ONE_WORKER,
+        before: &[Line::Insert(0, 1, "berlin")],
+        times: 8,
+        phase: &[
+            Line::Insert(0, 2, "munich"),
+            Line::Call(Call::Split(0)),
+            Line::Insert(0, 4, "hamburg"),
+            Line::Query(0, &["munich"]),
+            Line::Call(Call::Sync(0)),
+            Line::Call(Call::Sync(1)),
+            Line::Query(1, &["munich", "hamburg"]),
+            Line::Query(0, &["munich", "hamburg"]),
+            Line::Query(1, &[]),
+            Line::Query(0, &[]),
+            Line::Call(Call::Shards),
+        ],
+        moves: &[
+            (0, BEFORE),
+            (0, BEHIND),
+            (0, &[Kind::Ack]),
+            (3, &[Kind::Note, Kind::Freeze, Kind::Drained]),
+            (0, QUEUE),
+            (3, &[Kind::Collect, Kind::Collect]),
+            (3, &[Kind::BuildBlock, Kind::BuildBlock]),
+            (3, &[Kind::FinishSplit]),
+            (0, BOTH),
+            (0, COUNT),
+            (0, &[Kind::Answer]),
+            (2, PULL),
+            (2, PULL),
+            (1, ASK),
+            (0, ASK),
+            (1, ASK_BOTH),
+            (0, ASK_BOTH),
+            (3, SHOW),
+        ],
+        told: "0 split: 1 and 2; 1 2 2 2; 2 6 2 4; 2 6 2 4; 10 14 1 4; 10 14 1 4; 1 at 0: 8 + 0 in 2:0; 2 at 0: 1 + 1 in 2:1+2; ",
     },
     // A shard moves to the worker that has it: a query whose part was taken before that reads the new gate. It has one town,
     // so it is not split.
@@ -234,7 +287,7 @@ const STORIES: [Story; 4] = [
             (1, &[Kind::Answer]),
             (3, SHOW),
         ],
-        told: "0 to 0; 8 8 1 1; declined; 9 10 1 2; 0 at 0: 9 + 0; ",
+        told: "0 to 0; 8 8 1 1; declined; 9 10 1 2; 0 at 0: 9 + 0 in 2:0; ",
     },
 ];
 

@@ -1,9 +1,15 @@
 -- Later moments of a phase.
-use Rattle.std.proofs.Common.{◌≡◌, ◌∙◌, length, ap}
+use Rattle.std.proofs.Common.{◌≡◌, ◌∙◌, ◌&&◌, ℕ, Bool, true, false, Option, Some, None, is_none, length, refl, ap}
+use Rattle.volap_cell.specs.Values.{actor_of}
+use Rattle.volap_cell.specs.declared.actor.Actor.{Actor}
+use Rattle.volap_cell.specs.declared.kind.Kind.{Kind}
 use Rattle.seeded_run.specs.ByHand.{IsLater}
+use Rattle.seeded_run.specs.Commands.{may_begin}
 use Rattle.seeded_run.specs.Kept.{IsStopped}
-use Rattle.seeded_run.specs.Machine.{IsPhaseHeld, about_in, cursor, phase_of, world_of}
+use Rattle.seeded_run.specs.Machine.{HasTurned, IsPhaseHeld, about_in, cursor, phase_of, world_of}
+use Rattle.seeded_run.specs.Steps.{begins_of_one}
 use Rattle.seeded_run.specs.declared.machine.Running.{Running}
+use Rattle.seeded_run.proofs.Begun.{turned-then}
 use Rattle.seeded_run.proofs.PhaseRuns.{stops-law}
 use Rattle.seeded_run.proofs.WholePhases.{as-before}
 
@@ -40,3 +46,17 @@ after-look m now is = record {
 pub stops-later : (m now : Running) → IsLater m now → IsPhaseHeld now → IsStopped m.in_order (about_in m) (phase_of m) m.done.now (world_of now)
 stops-later m now later held_now = as-before (λ b s p d. IsStopped b s p d (world_of now)) m now later.same later.about
     (stops-law now.in_order (about_in now) (phase_of now) now.done.now (world_of now) (cursor now) held_now.kept.is_running)
+
+-- behind a turn, whatever is known then of the commands in order
+pub later-turned : (m mid now : Running) (n : ℕ) → HasTurned m n mid → now ≡ record mid { begun = now.begun; first = now.first } → IsLater m now
+later-turned m mid now n turned is = (let t = turned-then m mid now n turned is in record { same = t.same; about = t.about })
+
+-- A step of a kind by which no command begins begins none.
+
+no-both : (a b : Bool) → b ≡ false → (a && b) ≡ false
+no-both true b e = e
+no-both false b e = refl
+
+pub never-begins : (k : Kind) → may_begin k ≡ false → (o : Option Actor) → begins_of_one o k ≡ false
+never-begins k never None = refl
+never-begins k never (Some a) = no-both (is_none (actor_of a).command) (may_begin k) never

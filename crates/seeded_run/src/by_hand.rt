@@ -1,11 +1,13 @@
 //! A phase of which the steps are made by hand: who makes the next one is up to the caller.
-ghost use Rattle.std.specs.Prelude.{◌≡◌, ◌++◌, ◌<◌, false, length};
-ghost use Rattle.seeded_run.specs.ByHand.{IsLater};
+ghost use Rattle.std.specs.Prelude.{◌≡◌, ◌++◌, ◌<◌, true, false, length};
+ghost use Rattle.seeded_run.specs.ByHand.{IsLater, IsOfJob, may_find_none};
 ghost use Rattle.seeded_run.specs.Due.{due};
+ghost use Rattle.seeded_run.specs.Jobs.{CanGiveUpBy};
 ghost use Rattle.seeded_run.specs.Kept.{IsBetween, IsStopped};
-ghost use Rattle.seeded_run.specs.Machine.{AreFirstCursors, HoldsNow, IsFirstMoment, IsPhaseHeld, IsSamePhase, about_in, phase_of, world_of};
+ghost use Rattle.seeded_run.specs.Machine.{AreFirstCursors, HasTurned, HoldsNow, IsDueNow, IsFirstMoment, IsPhaseHeld, IsSamePhase, about_in, can_in, phase_of, world_of};
 ghost use Rattle.seeded_run.specs.Phase.{ClosesLast, IsCoreHeld, MayAllRun, about, held, phase_from};
 
+use crate::jobs::{give_up, has_frozen_by};
 use crate::look;
 use crate::machine::Running;
 use crate::phase::{first_cursors, streams_open};
@@ -18,8 +20,20 @@ use std::mem::replace;
 use std::snapshot::Snapshot;
 use volap_cell::{Kind, State};
 
-/// An actor's number, and the kind of step that it makes; or none, where it can make no step at that time.
+/// An actor's number, and the kind of step that it makes; or none, where it can make no step at that time. `Postpone` is
+/// made in place of the step of a job that is due, as where that finds no memory.
 pub type Move = (u32, Option<Kind>);
+
+/// Whether a step of this kind may find no memory for a job that has frozen its shard.
+fn may_find_none(kind: Kind) -> bool
+    ensures test { result ≡ may_find_none kind }
+    ensures meaning { result ≡ true → IsOfJob kind }
+{
+    match kind {
+        Kind::Drained | Kind::Collect | Kind::FinishSplit | Kind::FinishMove => true,
+        _ => false,
+    }
+}
 
 impl<'a> Running<'a> {
     /// The kind of step that is due for an actor, if one is. It may have to wait.
@@ -32,6 +46,41 @@ impl<'a> Running<'a> {
         let number = actor as usize;
         let next = self.next_command(number);
         look::due(self.h, &self.with, &self.state, number, next, self.left)
+    }
+
+    /// An actor's job is given up, in place of the step that is due for it, as where that finds no memory.
+    fn postpone(&mut self, number: usize, kind: Kind)
+        requires held { IsPhaseHeld self.old }
+        requires within { number < length self.old.state.actors.items }
+        requires due { IsDueNow self.old number kind }
+        requires of_job { IsOfJob kind }
+        requires frozen { CanGiveUpBy self.old.state.actors.items number }
+        ensures turned { HasTurned self.old number self.new }
+    {
+        let _ = kind;
+        give_up(self.h, &self.with, &mut self.state, number);
+    }
+
+    /// An actor that can make a step gives its job up, where it has one whose step is due and might find no memory. Tells
+    /// whether it has.
+    #[tactic(auto, unfolding(crate::specs::Machine::HoldsNow))]
+    fn make_postpone(&mut self, actor: u32) -> bool
+        requires holds { HoldsNow self.old }
+        requires within { actor < length self.old.next.items }
+        requires can { can_in self.old actor ≡ true }
+        ensures holds { HoldsNow self.new }
+        ensures later { IsLater self.old self.new }
+    {
+        let number = actor as usize;
+        let Some(kind) = self.due(actor) else {
+            return false;
+        };
+        if !may_find_none(kind) || !has_frozen_by(&self.state, number) {
+            return false;
+        }
+        self.postpone(number, kind);
+        self.look_first(number);
+        true
     }
 
     /// An actor makes this move. Tells whether it could: whether that kind of step was due for it and it could make it,
@@ -48,6 +97,9 @@ impl<'a> Running<'a> {
     {
         if actor >= self.actors() || !self.can_step(actor) {
             return Ok(kind.is_none());
+        }
+        if kind == Some(Kind::Postpone) {
+            return Ok(self.make_postpone(actor));
         }
         if self.due(actor) != kind {
             return Ok(false);
@@ -129,8 +181,9 @@ fn make_from(
 }
 
 /// Makes these moves, one after the other, in a phase of a script's commands that begins, behind those that are done.
-/// Each is a step that the phase could make too where its turns are drawn by a seed. Tells how many were made: it
-/// stops before the first that could not be. That may be in the midst of the phase.
+/// Each is a step that the phase could make too where its turns are drawn by a seed, and no memory is found for a step
+/// in whose place a job is given up. Tells how many were made: it stops before the first that could not be. That may be
+/// in the midst of the phase.
 ///
 /// Where no memory is found for the cursors of the phase, or for noting that a command finds none, this answers
 /// `AllocError`, with the state that was reached.

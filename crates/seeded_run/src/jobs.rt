@@ -3,10 +3,11 @@
 ghost use Rattle.std.specs.Prelude.{◌≡◌, ◌^◌, ◌<◌, [], length, true, false, is_some};
 ghost use Rattle.seeded_run.specs.Arms.{GoesOnWithCommand};
 ghost use Rattle.seeded_run.specs.Core.{HasCore, IsDue};
-ghost use Rattle.seeded_run.specs.Jobs.{CanGiveUpBy, CanLeaveBy, IsAtFirstBy, cell_at_stage, cell_unbuilt, end_in_balance, end_of_balance, frozen_gate, gate_found, gate_to_freeze, has_more, job_by, led_for, most_in, most_of, next_at, next_of, worker_of_job};
+ghost use Rattle.seeded_run.specs.Jobs.{CanGiveUp, CanGiveUpBy, CanLeaveBy, IsAtFirstBy, cell_at_stage, cell_unbuilt, end_in_balance, end_of_balance, frozen_gate, gate_found, gate_to_freeze, has_more, job_by, led_for, most_in, most_of, next_at, next_of, worker_of_job};
 ghost use Rattle.seeded_run.specs.Look.{cell_at, setting_by, world_by};
 ghost use Rattle.seeded_run.specs.Works.{command_by, is_balance};
 ghost use Rattle.seeded_run.specs.declared.jobs.Next.TheVariants.{Block, Row, Trees};
+ghost use Rattle.volap_cell.specs.AdminKinds.{HasFrozen};
 ghost use Rattle.volap_cell.specs.Cells.{phase_of};
 ghost use Rattle.volap_cell.specs.Values.{actor_of, building_of, collecting_of, job_of, stage_of, Builds, Collects};
 ghost use Rattle.volap_cell.specs.Working.{frozen_in};
@@ -112,6 +113,36 @@ pub(crate) fn frozen_by(state: &State, number: usize) -> u32
     match state.actors.get(number) {
         Some(Some(actor)) => frozen_of(actor),
         _ => 0,
+    }
+}
+
+/// Whether a job at this stage has frozen its shard.
+fn is_frozen(stage: &Stage) -> bool
+    ensures { result ≡ true → HasFrozen (stage_of stage.now) }
+{
+    match stage {
+        Stage::Frozen(_) | Stage::Collecting(_) | Stage::Building(_) => true,
+        Stage::Called | Stage::Declined(_) => false,
+    }
+}
+
+/// Whether an actor has a job that has frozen its shard.
+fn has_frozen(actor: &Actor) -> bool
+    ensures { result ≡ true → CanGiveUp (actor_of actor.now) }
+{
+    match &actor.job {
+        Some(job) => is_frozen(&job.stage),
+        None => false,
+    }
+}
+
+/// Whether the actor with this number has a job that has frozen its shard.
+pub(crate) fn has_frozen_by(state: &State, number: usize) -> bool
+    ensures { result ≡ true → CanGiveUpBy state.now.actors.items number }
+{
+    match state.actors.get(number) {
+        Some(Some(actor)) => has_frozen(actor),
+        _ => false,
     }
 }
 

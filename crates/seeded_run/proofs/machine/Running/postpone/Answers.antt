@@ -1,0 +1,18 @@
+use Rattle.seeded_run.specs.Machine.{world_of}
+use Rattle.seeded_run.specs.Steps.{is_for_part}
+use Rattle.seeded_run.proofs.ByHand.{never-begins}
+use Rattle.seeded_run.proofs.Goings.{going-command}
+use Rattle.seeded_run.proofs.LeftAlone.{apart}
+use Rattle.seeded_run.proofs.Turns.{has-gone-on-with-command}
+use Rattle.seeded_run.proofs.machine.Running.postpone.Goals as goal
+
+pub returns : goal.returns
+returns c =
+    let m = c.args.self.now in
+    let made = c.give_up.ensures.made in
+    let of_job = c.requires.of_job in
+    record {
+      turned = has-gone-on-with-command m c.requires.held.kept c.args.number c.args.kind c.requires.due c.give_up.new.state made.0 made.1 c.requires.within
+          (λ part. apart (is_for_part ((world_of m).actors c.args.number).errand c.args.kind) part (of_job.1 _))
+          (going-command m c.requires.held.kept c.args.number c.args.kind c.requires.due c.requires.within (never-begins c.args.kind of_job.0 _) (of_job.1 _)) made.2;
+    }
