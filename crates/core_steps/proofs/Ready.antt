@@ -1,5 +1,6 @@
 -- What a driver takes out of the vectors is what its kind of step asks for; and the vectors are the same state where the step changed nothing.
-use Rattle.std.proofs.Common.{◌≡◌, ◌≢◌, ℕ, ◌<◌, List, [], ◌∷◌, map, length, Option, Some, None, get_or, refl, subst}
+use Rattle.std.proofs.Common.{◌≡◌, ◌≢◌, ◌∙◌, ℕ, ◌<◌, List, [], ◌∷◌, map, length, Option, Some, None, get_or, set, refl, subst, sym}
+use Rattle.std.proofs.lemmas.List.{get_or_default, set-set}
 use Rattle.dim_hierarchy.specs.Dimension.{Dimension}
 use Rattle.tree_shape.specs.Counts.{Each}
 use Rattle.volap_cell.specs.Cells.{CellValue, cell_of}
@@ -31,6 +32,16 @@ has-not : (o : Option Actor) (v : ActorValue) (y : ℕ) → Has o (λ x. actor_o
 has-not None v y has not = absurd has
 has-not (Some x) v y has not = λ k. not (subst (λ (z : ActorValue). MustKeep z y) has k)
 
+-- An actor that is lent where it stands.
+
+-- it is the one that stands there
+pub lent-is : (actors : List (Option Actor)) (n : ℕ) (o : Option Actor) (a : Actor) → n < length actors → o ≡ get_or actors n o → o ≡ Some a → get_or actors n None ≡ Some a
+lent-is actors n o a lt is some = get_or_default actors n None o lt ∙ sym is ∙ some
+
+-- and then the vector is as if it had been moved out and put back
+pub put-over : (actors : List (Option Actor)) (n : ℕ) (a : Actor) → set actors n (Some a) ≡ set (set actors n None) n (Some a)
+put-over actors n a = sym (set-set actors n None (Some a))
+
 module _ (h : List Dimension) (cells : List (Option Cell)) (actors : List (Option Actor)) (has : HasInv h cells actors) (n : ℕ) (Can : List CellValue → ActorValue → Type 0) where
   abbrev w : World
   w = has.world
@@ -48,6 +59,10 @@ module _ (h : List Dimension) (cells : List (Option Cell)) (actors : List (Optio
 
   pub can-lift-actor : (numbers : List ℕ) → MayStep cells actors numbers n Can → Has (get_or actors n None) (λ (x : Actor). ⊤)
   can-lift-actor numbers may = (let k = stands (get_or actors n None) (λ x. actor_of x ≡ w.actors n) (has.is.actor n may.actor) in is-some (get_or actors n None) (λ (x : Actor). ⊤) k.0 k.1 tt)
+
+  -- an actor stands there
+  pub never-out : (numbers : List ℕ) → MayStep cells actors numbers n Can → (o : Option Actor) → o ≡ get_or actors n o → ((x : Actor) → o ≡ Some x → ⊥) → ⊥
+  never-out numbers may o is not = (let k = stands (get_or actors n None) (λ x. actor_of x ≡ w.actors n) (has.is.actor n may.actor) in not k.0 (is ∙ get_or_default actors n o None may.actor ∙ k.1))
 
   unkept-by : (y : ℕ) → ((a : ℕ) → a ≢ n → MustKeep (w.actors a) y → ⊥) → IsUnkept actors n y
   unkept-by y not a ne lt = has-not (get_or actors a None) (w.actors a) y (has.is.actor a lt) (not a ne)

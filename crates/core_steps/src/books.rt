@@ -10,7 +10,7 @@ ghost use Rattle.volap_cell.specs.declared.kind.Kind.TheVariants.{Ack, Answer, B
 
 use dim_hierarchy::{Coord, Filter, Hierarchy};
 use std::alloc::{AllocError, Global};
-use volap_cell::{State, lift, lift_three, lift_two, put_actor, put_three, put_two};
+use volap_cell::{State, lift_three, lift_two, put_three, put_two};
 
 /// An actor's insert, whose part is placed, is acknowledged: with the desk and the image of its server, and the ledger.
 pub fn ack(
@@ -28,7 +28,9 @@ pub fn ack(
 {
     let (cells, actors) = (&mut state.cells, &mut state.actors);
     let (mut desk, mut image, mut ledger) = lift_three(cells, desk_at, image_at, ledger_at);
-    let mut actor = lift(actors, number);
+    let Some(actor) = &mut actors[number] else {
+        unreachable!()
+    };
     core_image::ack(
         h,
         desk_at,
@@ -37,9 +39,8 @@ pub fn ack(
         &mut image,
         ledger_at,
         &mut ledger,
-        &mut actor,
+        actor,
     );
-    put_actor(actors, number, actor);
     put_three(cells, desk_at, desk, image_at, image, ledger_at, ledger);
 }
 
@@ -63,7 +64,9 @@ pub fn begin_insert(
 {
     let (cells, actors) = (&mut state.cells, &mut state.actors);
     let (mut image, mut ledger) = lift_two(cells, image_at, ledger_at);
-    let mut actor = lift(actors, number);
+    let Some(actor) = &mut actors[number] else {
+        unreachable!()
+    };
     let made = core_image::begin_insert(
         alloc,
         h,
@@ -71,11 +74,10 @@ pub fn begin_insert(
         &mut image,
         ledger_at,
         &mut ledger,
-        &mut actor,
+        actor,
         at,
         measure,
     );
-    put_actor(actors, number, actor);
     put_two(cells, image_at, image, ledger_at, ledger);
     made
 }
@@ -100,7 +102,9 @@ pub fn begin_query(
 {
     let (cells, actors) = (&mut state.cells, &mut state.actors);
     let (mut desk, mut image, mut ledger) = lift_three(cells, desk_at, image_at, ledger_at);
-    let mut actor = lift(actors, number);
+    let Some(actor) = &mut actors[number] else {
+        unreachable!()
+    };
     let made = core_image::begin_query(
         alloc,
         h,
@@ -110,10 +114,9 @@ pub fn begin_query(
         &mut image,
         ledger_at,
         &mut ledger,
-        &mut actor,
+        actor,
         filter,
     );
-    put_actor(actors, number, actor);
     put_three(cells, desk_at, desk, image_at, image, ledger_at, ledger);
     made
 }
@@ -136,11 +139,10 @@ pub fn route(
 {
     let (cells, actors) = (&mut state.cells, &mut state.actors);
     let (mut desk, mut image) = lift_two(cells, desk_at, image_at);
-    let mut actor = lift(actors, number);
-    let made = core_image::route(
-        alloc, h, desk_at, &mut desk, image_at, &mut image, &mut actor,
-    );
-    put_actor(actors, number, actor);
+    let Some(actor) = &mut actors[number] else {
+        unreachable!()
+    };
+    let made = core_image::route(alloc, h, desk_at, &mut desk, image_at, &mut image, actor);
     put_two(cells, desk_at, desk, image_at, image);
     made
 }
@@ -155,9 +157,10 @@ pub fn answer(h: &Hierarchy, state: &mut State, number: usize, desk_at: u32, led
 {
     let (cells, actors) = (&mut state.cells, &mut state.actors);
     let (mut desk, mut ledger) = lift_two(cells, desk_at, ledger_at);
-    let mut actor = lift(actors, number);
-    core_image::answer(h, desk_at, &mut desk, ledger_at, &mut ledger, &mut actor);
-    put_actor(actors, number, actor);
+    let Some(actor) = &mut actors[number] else {
+        unreachable!()
+    };
+    core_image::answer(h, desk_at, &mut desk, ledger_at, &mut ledger, actor);
     put_two(cells, desk_at, desk, ledger_at, ledger);
 }
 
@@ -180,7 +183,9 @@ pub fn sync(
 {
     let (cells, actors) = (&mut state.cells, &mut state.actors);
     let (mut image, mut registry, mut ledger) = lift_three(cells, image_at, registry_at, ledger_at);
-    let mut actor = lift(actors, number);
+    let Some(actor) = &mut actors[number] else {
+        unreachable!()
+    };
     let made = core_image::sync(
         alloc,
         h,
@@ -190,9 +195,8 @@ pub fn sync(
         &mut registry,
         ledger_at,
         &mut ledger,
-        &mut actor,
+        actor,
     );
-    put_actor(actors, number, actor);
     put_three(
         cells,
         image_at,

@@ -7,7 +7,7 @@ ghost use Rattle.volap_cell.specs.State.{HasInv, Stepped};
 ghost use Rattle.volap_cell.specs.declared.kind.Kind.TheVariants.{Note};
 
 use dim_hierarchy::Hierarchy;
-use volap_cell::{State, lift, lift_three, lift_two, put_actor, put_three, put_two};
+use volap_cell::{State, lift_three, lift_two, put_three, put_two};
 
 /// An actor's insert, for which no part was laid, ends for want of memory: with the image of its server, and
 /// the ledger. Takes no memory.
@@ -19,9 +19,10 @@ pub fn fail_unrouted(h: &Hierarchy, state: &mut State, number: usize, image_at: 
 {
     let (cells, actors) = (&mut state.cells, &mut state.actors);
     let (mut image, mut ledger) = lift_two(cells, image_at, ledger_at);
-    let mut actor = lift(actors, number);
-    core_image::fail_unrouted(h, image_at, &mut image, ledger_at, &mut ledger, &mut actor);
-    put_actor(actors, number, actor);
+    let Some(actor) = &mut actors[number] else {
+        unreachable!()
+    };
+    core_image::fail_unrouted(h, image_at, &mut image, ledger_at, &mut ledger, actor);
     put_two(cells, image_at, image, ledger_at, ledger);
 }
 
@@ -42,7 +43,9 @@ pub fn fail_routed(
 {
     let (cells, actors) = (&mut state.cells, &mut state.actors);
     let (mut desk, mut image, mut ledger) = lift_three(cells, desk_at, image_at, ledger_at);
-    let mut actor = lift(actors, number);
+    let Some(actor) = &mut actors[number] else {
+        unreachable!()
+    };
     core_image::fail_routed(
         h,
         desk_at,
@@ -51,9 +54,8 @@ pub fn fail_routed(
         &mut image,
         ledger_at,
         &mut ledger,
-        &mut actor,
+        actor,
     );
-    put_actor(actors, number, actor);
     put_three(cells, desk_at, desk, image_at, image, ledger_at, ledger);
 }
 
@@ -67,8 +69,9 @@ pub fn fail_query(h: &Hierarchy, state: &mut State, number: usize, desk_at: u32,
 {
     let (cells, actors) = (&mut state.cells, &mut state.actors);
     let (mut desk, mut ledger) = lift_two(cells, desk_at, ledger_at);
-    let mut actor = lift(actors, number);
-    core_image::fail_query(h, desk_at, &mut desk, ledger_at, &mut ledger, &mut actor);
-    put_actor(actors, number, actor);
+    let Some(actor) = &mut actors[number] else {
+        unreachable!()
+    };
+    core_image::fail_query(h, desk_at, &mut desk, ledger_at, &mut ledger, actor);
     put_two(cells, desk_at, desk, ledger_at, ledger);
 }

@@ -7,7 +7,7 @@ ghost use Rattle.volap_cell.specs.declared.kind.Kind.TheVariants.{FinishMove, Fi
 
 use dim_hierarchy::Hierarchy;
 use std::alloc::{AllocError, Global};
-use volap_cell::{State, lift, lift_seven, lift_six, put_actor, put_seven, put_six};
+use volap_cell::{State, lift_seven, lift_six, put_seven, put_six};
 
 /// The move of an actor's shard to another worker ends: with the tables of the worker that has it and of the other
 /// one, the gate that is frozen, the cell of the new gate, the registry, the stock and the ledger. Where memory is
@@ -41,7 +41,9 @@ pub fn finish_move(
         stock_at,
         ledger_at,
     );
-    let mut actor = lift(actors, number);
+    let Some(actor) = &mut actors[number] else {
+        unreachable!()
+    };
     let made = core_admin::finish_move(
         alloc,
         h,
@@ -59,9 +61,8 @@ pub fn finish_move(
         &mut stock,
         ledger_at,
         &mut ledger,
-        &mut actor,
+        actor,
     );
-    put_actor(actors, number, actor);
     put_seven(
         cells,
         from_at,
@@ -111,7 +112,9 @@ pub fn finish_here(
         stock_at,
         ledger_at,
     );
-    let mut actor = lift(actors, number);
+    let Some(actor) = &mut actors[number] else {
+        unreachable!()
+    };
     let made = core_admin::finish_here(
         alloc,
         h,
@@ -127,9 +130,8 @@ pub fn finish_here(
         &mut stock,
         ledger_at,
         &mut ledger,
-        &mut actor,
+        actor,
     );
-    put_actor(actors, number, actor);
     put_six(
         cells,
         table_at,
@@ -181,7 +183,9 @@ pub fn finish_split(
             stock_at,
             ledger_at,
         );
-    let mut actor = lift(actors, number);
+    let Some(actor) = &mut actors[number] else {
+        unreachable!()
+    };
     let made = core_admin::finish_split(
         alloc,
         h,
@@ -199,9 +203,8 @@ pub fn finish_split(
         &mut stock,
         ledger_at,
         &mut ledger,
-        &mut actor,
+        actor,
     );
-    put_actor(actors, number, actor);
     put_seven(
         cells,
         table_at,

@@ -7,9 +7,7 @@ ghost use Rattle.volap_cell.specs.declared.kind.Kind.TheVariants.{BuildBlock, Co
 
 use dim_hierarchy::Hierarchy;
 use std::alloc::{AllocError, Global};
-use volap_cell::{
-    State, lift, lift_one, lift_three, lift_two, put_actor, put_one, put_three, put_two,
-};
+use volap_cell::{State, lift_one, lift_three, lift_two, put_one, put_three, put_two};
 
 /// The shard of an actor's job is frozen, or the job is declined: with its worker's table, the gate to which that leads,
 /// and the stock. Where memory is wanting, the state stays as it was.
@@ -29,11 +27,12 @@ pub fn freeze(
 {
     let (cells, actors) = (&mut state.cells, &mut state.actors);
     let (mut map, mut gate, mut stock) = lift_three(cells, map_at, gate_at, stock_at);
-    let mut actor = lift(actors, number);
+    let Some(actor) = &mut actors[number] else {
+        unreachable!()
+    };
     let made = core_admin::freeze(
-        alloc, h, map_at, &mut map, gate_at, &mut gate, stock_at, &mut stock, &mut actor,
+        alloc, h, map_at, &mut map, gate_at, &mut gate, stock_at, &mut stock, actor,
     );
-    put_actor(actors, number, actor);
     put_three(cells, map_at, map, gate_at, gate, stock_at, stock);
     made
 }
@@ -54,9 +53,10 @@ pub fn drained(
 {
     let (cells, actors) = (&mut state.cells, &mut state.actors);
     let mut gate = lift_one(cells, gate_at);
-    let mut actor = lift(actors, number);
-    let made = core_admin::drained(alloc, h, gate_at, &mut gate, &mut actor);
-    put_actor(actors, number, actor);
+    let Some(actor) = &mut actors[number] else {
+        unreachable!()
+    };
+    let made = core_admin::drained(alloc, h, gate_at, &mut gate, actor);
     put_one(cells, gate_at, gate);
     made
 }
@@ -75,9 +75,10 @@ pub fn collect_block(
 {
     let (cells, actors) = (&mut state.cells, &mut state.actors);
     let mut block = lift_one(cells, block_at);
-    let mut actor = lift(actors, number);
-    let made = core_admin::collect_block(h, block_at, &mut block, &mut actor);
-    put_actor(actors, number, actor);
+    let Some(actor) = &mut actors[number] else {
+        unreachable!()
+    };
+    let made = core_admin::collect_block(h, block_at, &mut block, actor);
     put_one(cells, block_at, block);
     made
 }
@@ -96,9 +97,10 @@ pub fn collect_row(
 {
     let (cells, actors) = (&mut state.cells, &mut state.actors);
     let mut gate = lift_one(cells, gate_at);
-    let mut actor = lift(actors, number);
-    let made = core_admin::collect_row(h, gate_at, &mut gate, &mut actor);
-    put_actor(actors, number, actor);
+    let Some(actor) = &mut actors[number] else {
+        unreachable!()
+    };
+    let made = core_admin::collect_row(h, gate_at, &mut gate, actor);
     put_one(cells, gate_at, gate);
     made
 }
@@ -119,9 +121,10 @@ pub fn build_trees(
 {
     let (cells, actors) = (&mut state.cells, &mut state.actors);
     let mut gate = lift_one(cells, gate_at);
-    let mut actor = lift(actors, number);
-    let made = core_admin::build_trees(alloc, h, gate_at, &mut gate, &mut actor);
-    put_actor(actors, number, actor);
+    let Some(actor) = &mut actors[number] else {
+        unreachable!()
+    };
+    let made = core_admin::build_trees(alloc, h, gate_at, &mut gate, actor);
     put_one(cells, gate_at, gate);
     made
 }
@@ -135,9 +138,10 @@ pub fn build_block(alloc: Global, h: &Hierarchy, state: &mut State, number: usiz
 {
     let (cells, actors) = (&mut state.cells, &mut state.actors);
     let mut cell = lift_one(cells, at);
-    let mut actor = lift(actors, number);
-    core_admin::build_block(alloc, h, at, &mut cell, &mut actor);
-    put_actor(actors, number, actor);
+    let Some(actor) = &mut actors[number] else {
+        unreachable!()
+    };
+    core_admin::build_block(alloc, h, at, &mut cell, actor);
     put_one(cells, at, cell);
 }
 
@@ -149,8 +153,9 @@ pub fn postpone(h: &Hierarchy, state: &mut State, number: usize, stock_at: u32, 
 {
     let (cells, actors) = (&mut state.cells, &mut state.actors);
     let (mut stock, mut ledger) = lift_two(cells, stock_at, ledger_at);
-    let mut actor = lift(actors, number);
-    core_admin::postpone(h, stock_at, &mut stock, ledger_at, &mut ledger, &mut actor);
-    put_actor(actors, number, actor);
+    let Some(actor) = &mut actors[number] else {
+        unreachable!()
+    };
+    core_admin::postpone(h, stock_at, &mut stock, ledger_at, &mut ledger, actor);
     put_two(cells, stock_at, stock, ledger_at, ledger);
 }

@@ -1,5 +1,5 @@
-//! Each kind of step, made in a state that one thread holds: the cells and the actor are moved out, the step is made, and all of
-//! them are put back.
+//! Each kind of step, made in a state that one thread holds: the cells are moved out, the step is made with the actor where it
+//! stands, and the cells are put back.
 #![tactic(auto)]
 
 mod books;

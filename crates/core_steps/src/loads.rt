@@ -7,7 +7,7 @@ ghost use Rattle.volap_cell.specs.declared.kind.Kind.TheVariants.{LookUp};
 
 use dim_hierarchy::Hierarchy;
 use std::alloc::{AllocError, Global};
-use volap_cell::{State, lift, lift_two, put_actor, put_two};
+use volap_cell::{State, lift_two, put_two};
 
 /// The next load of an actor's balance is read: with the table of the load's worker, and the gate to which
 /// that leads. Behind the last one the actions are planned, for so many workers. Where memory is wanting, the
@@ -28,11 +28,12 @@ pub fn read_load(
 {
     let (cells, actors) = (&mut state.cells, &mut state.actors);
     let (mut map, mut gate) = lift_two(cells, map_at, gate_at);
-    let mut actor = lift(actors, number);
+    let Some(actor) = &mut actors[number] else {
+        unreachable!()
+    };
     let read = core_admin::read_load(
-        alloc, h, map_at, &mut map, gate_at, &mut gate, &mut actor, workers,
+        alloc, h, map_at, &mut map, gate_at, &mut gate, actor, workers,
     );
-    put_actor(actors, number, actor);
     put_two(cells, map_at, map, gate_at, gate);
     read
 }

@@ -10,7 +10,7 @@ ghost use Rattle.volap_cell.specs.declared.kind.Kind.TheVariants.{Note};
 use dim_hierarchy::Hierarchy;
 use row_ledger::{Call, How};
 use std::alloc::{AllocError, Global};
-use volap_cell::{State, lift, lift_one, lift_two, put_actor, put_one, put_two};
+use volap_cell::{State, lift_one, lift_two, put_one, put_two};
 
 /// An actor's command names what isn't known, first in this dimension, and ends with that. Where memory is
 /// wanting, the state stays as it was.
@@ -29,9 +29,10 @@ pub fn note_unknown(
 {
     let (cells, actors) = (&mut state.cells, &mut state.actors);
     let mut ledger = lift_one(cells, ledger_at);
-    let mut actor = lift(actors, number);
-    let made = core_image::note_unknown(h, ledger_at, &mut ledger, &mut actor, dim);
-    put_actor(actors, number, actor);
+    let Some(actor) = &mut actors[number] else {
+        unreachable!()
+    };
+    let made = core_image::note_unknown(h, ledger_at, &mut ledger, actor, dim);
     put_one(cells, ledger_at, ledger);
     made
 }
@@ -52,9 +53,10 @@ pub fn note_refused(
 {
     let (cells, actors) = (&mut state.cells, &mut state.actors);
     let mut ledger = lift_one(cells, ledger_at);
-    let mut actor = lift(actors, number);
-    let made = core_image::note_refused(h, ledger_at, &mut ledger, &mut actor);
-    put_actor(actors, number, actor);
+    let Some(actor) = &mut actors[number] else {
+        unreachable!()
+    };
+    let made = core_image::note_refused(h, ledger_at, &mut ledger, actor);
     put_one(cells, ledger_at, ledger);
     made
 }
@@ -76,9 +78,10 @@ pub fn note_called(
 {
     let (cells, actors) = (&mut state.cells, &mut state.actors);
     let mut ledger = lift_one(cells, ledger_at);
-    let mut actor = lift(actors, number);
-    let made = core_image::note_called(h, ledger_at, &mut ledger, &mut actor, call);
-    put_actor(actors, number, actor);
+    let Some(actor) = &mut actors[number] else {
+        unreachable!()
+    };
+    let made = core_image::note_called(h, ledger_at, &mut ledger, actor, call);
     put_one(cells, ledger_at, ledger);
     made
 }
@@ -103,7 +106,9 @@ pub fn note_asking(
 {
     let (cells, actors) = (&mut state.cells, &mut state.actors);
     let (mut registry, mut ledger) = lift_two(cells, registry_at, ledger_at);
-    let mut actor = lift(actors, number);
+    let Some(actor) = &mut actors[number] else {
+        unreachable!()
+    };
     let made = core_image::note_asking(
         alloc,
         h,
@@ -111,11 +116,10 @@ pub fn note_asking(
         &mut registry,
         ledger_at,
         &mut ledger,
-        &mut actor,
+        actor,
         call,
         workers,
     );
-    put_actor(actors, number, actor);
     put_two(cells, registry_at, registry, ledger_at, ledger);
     made
 }
@@ -129,9 +133,10 @@ pub fn note_ended(h: &Hierarchy, state: &mut State, number: usize, ledger_at: u3
 {
     let (cells, actors) = (&mut state.cells, &mut state.actors);
     let mut ledger = lift_one(cells, ledger_at);
-    let mut actor = lift(actors, number);
-    core_image::note_ended(h, ledger_at, &mut ledger, &mut actor, how);
-    put_actor(actors, number, actor);
+    let Some(actor) = &mut actors[number] else {
+        unreachable!()
+    };
+    core_image::note_ended(h, ledger_at, &mut ledger, actor, how);
     put_one(cells, ledger_at, ledger);
 }
 
@@ -144,8 +149,9 @@ pub fn note_left(h: &Hierarchy, state: &mut State, number: usize, ledger_at: u32
 {
     let (cells, actors) = (&mut state.cells, &mut state.actors);
     let mut ledger = lift_one(cells, ledger_at);
-    let mut actor = lift(actors, number);
-    core_image::note_left(h, ledger_at, &mut ledger, &mut actor);
-    put_actor(actors, number, actor);
+    let Some(actor) = &mut actors[number] else {
+        unreachable!()
+    };
+    core_image::note_left(h, ledger_at, &mut ledger, actor);
     put_one(cells, ledger_at, ledger);
 }

@@ -9,7 +9,7 @@ ghost use Rattle.volap_cell.specs.declared.kind.Kind.TheVariants.{Expand, Finish
 use crate::held::HeldIf;
 use dim_hierarchy::Hierarchy;
 use std::alloc::{AllocError, Global};
-use volap_cell::{State, lift, lift_if, lift_one, lift_two, put_actor, put_if, put_one, put_two};
+use volap_cell::{State, lift_if, lift_one, lift_two, put_if, put_one, put_two};
 
 /// An actor takes the first part on this desk that it may take. Takes no memory.
 pub fn take_part(h: &Hierarchy, state: &mut State, number: usize, desk_at: u32)
@@ -19,9 +19,10 @@ pub fn take_part(h: &Hierarchy, state: &mut State, number: usize, desk_at: u32)
 {
     let (cells, actors) = (&mut state.cells, &mut state.actors);
     let mut desk = lift_one(cells, desk_at);
-    let mut actor = lift(actors, number);
-    core_shard::take_part(h, desk_at, &mut desk, &mut actor);
-    put_actor(actors, number, actor);
+    let Some(actor) = &mut actors[number] else {
+        unreachable!()
+    };
+    core_shard::take_part(h, desk_at, &mut desk, actor);
     put_one(cells, desk_at, desk);
 }
 
@@ -34,9 +35,10 @@ pub fn forward(h: &Hierarchy, state: &mut State, number: usize, map_at: u32, des
 {
     let (cells, actors) = (&mut state.cells, &mut state.actors);
     let (mut map, mut desk) = lift_two(cells, map_at, desk_at);
-    let mut actor = lift(actors, number);
-    core_shard::forward(h, map_at, &mut map, desk_at, &mut desk, &mut actor);
-    put_actor(actors, number, actor);
+    let Some(actor) = &mut actors[number] else {
+        unreachable!()
+    };
+    core_shard::forward(h, map_at, &mut map, desk_at, &mut desk, actor);
     put_two(cells, map_at, map, desk_at, desk);
 }
 
@@ -50,9 +52,10 @@ pub fn finish_part(h: &Hierarchy, state: &mut State, number: usize, gate: HeldIf
     let (cells, actors) = (&mut state.cells, &mut state.actors);
     let mut pinned = lift_if(cells, gate.at, gate.wanted);
     let mut desk = lift_one(cells, desk_at);
-    let mut actor = lift(actors, number);
-    core_shard::finish_part(h, gate.at, &mut pinned, desk_at, &mut desk, &mut actor);
-    put_actor(actors, number, actor);
+    let Some(actor) = &mut actors[number] else {
+        unreachable!()
+    };
+    core_shard::finish_part(h, gate.at, &mut pinned, desk_at, &mut desk, actor);
     put_one(cells, desk_at, desk);
     put_if(cells, gate.at, pinned);
 }
@@ -74,9 +77,10 @@ pub fn expand(
 {
     let (cells, actors) = (&mut state.cells, &mut state.actors);
     let (mut map, mut desk) = lift_two(cells, map_at, desk_at);
-    let mut actor = lift(actors, number);
-    let divided = core_shard::expand(alloc, h, map_at, &mut map, desk_at, &mut desk, &mut actor);
-    put_actor(actors, number, actor);
+    let Some(actor) = &mut actors[number] else {
+        unreachable!()
+    };
+    let divided = core_shard::expand(alloc, h, map_at, &mut map, desk_at, &mut desk, actor);
     put_two(cells, map_at, map, desk_at, desk);
     divided
 }
@@ -90,8 +94,9 @@ pub fn look_up(h: &Hierarchy, state: &mut State, number: usize, map_at: u32, gat
 {
     let (cells, actors) = (&mut state.cells, &mut state.actors);
     let (mut map, mut gate) = lift_two(cells, map_at, gate_at);
-    let mut actor = lift(actors, number);
-    core_shard::look_up(h, map_at, &mut map, gate_at, &mut gate, &mut actor);
-    put_actor(actors, number, actor);
+    let Some(actor) = &mut actors[number] else {
+        unreachable!()
+    };
+    core_shard::look_up(h, map_at, &mut map, gate_at, &mut gate, actor);
     put_two(cells, map_at, map, gate_at, gate);
 }

@@ -10,7 +10,7 @@ ghost use Rattle.volap_cell.specs.declared.kind.Kind.TheVariants.{Note};
 
 use dim_hierarchy::Hierarchy;
 use row_ledger::Page;
-use volap_cell::{State, lift, lift_one, put_actor, put_one};
+use volap_cell::{State, lift_one, put_one};
 
 /// The page of an actor's command is shown, which is what the state has while everyone else is idle. It is
 /// noted as it is, so this takes no memory.
@@ -23,8 +23,9 @@ pub fn note_shown(h: &Hierarchy, state: &mut State, number: usize, ledger_at: u3
 {
     let (cells, actors) = (&mut state.cells, &mut state.actors);
     let mut ledger = lift_one(cells, ledger_at);
-    let mut actor = lift(actors, number);
-    core_image::note_shown(h, ledger_at, &mut ledger, &mut actor, page);
-    put_actor(actors, number, actor);
+    let Some(actor) = &mut actors[number] else {
+        unreachable!()
+    };
+    core_image::note_shown(h, ledger_at, &mut ledger, actor, page);
     put_one(cells, ledger_at, ledger);
 }

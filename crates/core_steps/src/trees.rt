@@ -11,8 +11,7 @@ use crate::held::{HeldIf, lift_both, put_both};
 use dim_hierarchy::Hierarchy;
 use std::alloc::{AllocError, Global};
 use volap_cell::{
-    State, lift, lift_if, lift_one, lift_three, lift_two, put_actor, put_if, put_one, put_three,
-    put_two,
+    State, lift_if, lift_one, lift_three, lift_two, put_if, put_one, put_three, put_two,
 };
 
 /// An actor puts its row in the leaf in this cell.
@@ -23,9 +22,10 @@ pub fn put_in_leaf(h: &Hierarchy, state: &mut State, number: usize, at: u32)
 {
     let (cells, actors) = (&mut state.cells, &mut state.actors);
     let mut leaf = lift_one(cells, at);
-    let mut actor = lift(actors, number);
-    core_tree::put_in_leaf(h, at, &mut leaf, &mut actor);
-    put_actor(actors, number, actor);
+    let Some(actor) = &mut actors[number] else {
+        unreachable!()
+    };
+    core_tree::put_in_leaf(h, at, &mut leaf, actor);
     put_one(cells, at, leaf);
 }
 
@@ -38,9 +38,10 @@ pub fn leave_tree(h: &Hierarchy, state: &mut State, number: usize, gate_at: u32)
 {
     let (cells, actors) = (&mut state.cells, &mut state.actors);
     let mut gate = lift_one(cells, gate_at);
-    let mut actor = lift(actors, number);
-    core_tree::leave_tree(h, gate_at, &mut gate, &mut actor);
-    put_actor(actors, number, actor);
+    let Some(actor) = &mut actors[number] else {
+        unreachable!()
+    };
+    core_tree::leave_tree(h, gate_at, &mut gate, actor);
     put_one(cells, gate_at, gate);
 }
 
@@ -61,11 +62,10 @@ pub fn enter_queue(
 {
     let (cells, actors) = (&mut state.cells, &mut state.actors);
     let (mut map, mut gate) = lift_two(cells, map_at, gate_at);
-    let mut actor = lift(actors, number);
-    let entered = core_tree::enter_queue(
-        alloc, h, map_at, &mut map, gate_at, &mut gate, &mut actor,
-    );
-    put_actor(actors, number, actor);
+    let Some(actor) = &mut actors[number] else {
+        unreachable!()
+    };
+    let entered = core_tree::enter_queue(alloc, h, map_at, &mut map, gate_at, &mut gate, actor);
     put_two(cells, map_at, map, gate_at, gate);
     entered
 }
@@ -87,9 +87,10 @@ pub fn gate_read(
 {
     let (cells, actors) = (&mut state.cells, &mut state.actors);
     let (mut map, mut gate) = lift_two(cells, map_at, gate_at);
-    let mut actor = lift(actors, number);
-    let read = core_tree::gate_read(alloc, h, map_at, &mut map, gate_at, &mut gate, &mut actor);
-    put_actor(actors, number, actor);
+    let Some(actor) = &mut actors[number] else {
+        unreachable!()
+    };
+    let read = core_tree::gate_read(alloc, h, map_at, &mut map, gate_at, &mut gate, actor);
     put_two(cells, map_at, map, gate_at, gate);
     read
 }
@@ -109,9 +110,10 @@ pub fn block_visit(
 {
     let (cells, actors) = (&mut state.cells, &mut state.actors);
     let mut block = lift_one(cells, block_at);
-    let mut actor = lift(actors, number);
-    let visited = core_tree::block_visit(h, block_at, &mut block, &mut actor);
-    put_actor(actors, number, actor);
+    let Some(actor) = &mut actors[number] else {
+        unreachable!()
+    };
+    let visited = core_tree::block_visit(h, block_at, &mut block, actor);
     put_one(cells, block_at, block);
     visited
 }
@@ -132,9 +134,10 @@ pub fn refill(
 {
     let (cells, actors) = (&mut state.cells, &mut state.actors);
     let mut stock = lift_one(cells, stock_at);
-    let mut actor = lift(actors, number);
-    let filled = core_tree::refill(alloc, h, stock_at, &mut stock, &mut actor);
-    put_actor(actors, number, actor);
+    let Some(actor) = &mut actors[number] else {
+        unreachable!()
+    };
+    let filled = core_tree::refill(alloc, h, stock_at, &mut stock, actor);
     put_one(cells, stock_at, stock);
     filled
 }
@@ -147,9 +150,10 @@ pub fn give_back(h: &Hierarchy, state: &mut State, number: usize, stock_at: u32)
 {
     let (cells, actors) = (&mut state.cells, &mut state.actors);
     let mut stock = lift_one(cells, stock_at);
-    let mut actor = lift(actors, number);
-    core_tree::give_back(h, stock_at, &mut stock, &mut actor);
-    put_actor(actors, number, actor);
+    let Some(actor) = &mut actors[number] else {
+        unreachable!()
+    };
+    core_tree::give_back(h, stock_at, &mut stock, actor);
     put_one(cells, stock_at, stock);
 }
 
@@ -175,7 +179,9 @@ pub fn down(
     let (mut parent, mut child) = lift_two(cells, parent_at, child_at);
     let (mut next, mut last) = lift_both(cells, first, second);
     let mut new = lift_if(cells, fresh.at, fresh.wanted);
-    let mut actor = lift(actors, number);
+    let Some(actor) = &mut actors[number] else {
+        unreachable!()
+    };
     core_tree::down(
         h,
         parent_at,
@@ -188,9 +194,8 @@ pub fn down(
         &mut last,
         fresh.at,
         &mut new,
-        &mut actor,
+        actor,
     );
-    put_actor(actors, number, actor);
     put_if(cells, fresh.at, new);
     put_both(cells, first, next, second, last);
     put_two(cells, parent_at, parent, child_at, child);
@@ -221,12 +226,13 @@ pub fn enter_tree(
     let (mut map, mut gate, mut root) = lift_three(cells, map_at, gate_at, root_at);
     let (mut next, mut last) = lift_both(cells, first, second);
     let (mut new, mut above) = lift_both(cells, fresh, top);
-    let mut actor = lift(actors, number);
+    let Some(actor) = &mut actors[number] else {
+        unreachable!()
+    };
     core_tree::enter_tree(
         h, map_at, &mut map, gate_at, &mut gate, root_at, &mut root, first.at, &mut next,
-        second.at, &mut last, fresh.at, &mut new, top.at, &mut above, &mut actor,
+        second.at, &mut last, fresh.at, &mut new, top.at, &mut above, actor,
     );
-    put_actor(actors, number, actor);
     put_both(cells, fresh, new, top, above);
     put_both(cells, first, next, second, last);
     put_three(cells, map_at, map, gate_at, gate, root_at, root);

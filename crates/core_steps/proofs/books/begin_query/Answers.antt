@@ -4,7 +4,7 @@ use Rattle.volap_cell.specs.State.{Exchange, exchange}
 use Rattle.volap_cell.specs.declared.kind.Kind.TheVariants.{BeginQuery}
 use Rattle.volap_cell.proofs.States.{drives}
 use Rattle.volap_cell.proofs.Outcomes.{on-ok, on-err}
-use Rattle.core_steps.proofs.Ready.{can-lift, can-step, may-hold, step-here}
+use Rattle.core_steps.proofs.Ready.{can-lift, can-step, lent-is, may-hold, put-over, step-here}
 use Rattle.core_steps.proofs.Staying.{stays-so}
 use Rattle.core_steps.proofs.Adding.{adds}
 use Rattle.core_image.specs.Told.{asked_by}
@@ -16,20 +16,20 @@ lift_three-desk-requires c = record { there = can-lift c.args.h.now c.args.state
 pub begin_query-made-requires-clause-here : goal.begin_query-made-requires-clause-here
 begin_query-made-requires-clause-here c =
     let r = c.lift_three-desk.result in
-    step-here c.args.h.now c.args.state.now.cells.items c.args.state.now.actors.items c.requires.state c.args.number (BeginsQuery c.args.h.now c.args.filter) ((c.args.desk_at, r.0) ∷ (c.args.image_at, r.1) ∷ (c.args.ledger_at, r.2) ∷ []) c.requires.ready c.lift_three-desk.ensures.value c.lift-actor.result c.lift-actor.ensures.value
+    step-here c.args.h.now c.args.state.now.cells.items c.args.state.now.actors.items c.requires.state c.args.number (BeginsQuery c.args.h.now c.args.filter) ((c.args.desk_at, r.0) ∷ (c.args.image_at, r.1) ∷ (c.args.ledger_at, r.2) ∷ []) c.requires.ready c.lift_three-desk.ensures.value c.in-Some.actor (lent-is c.args.state.now.actors.items c.args.number c.index_mut.result.now c.in-Some.actor c.requires.ready.actor c.index_mut.ensures.value c.in-Some.is)
 
 pub begin_query-made-requires-clause-due : goal.begin_query-made-requires-clause-due
 begin_query-made-requires-clause-due c =
     let r = c.lift_three-desk.result in
-    can-step c.args.h.now c.args.state.now.cells.items c.args.state.now.actors.items c.requires.state c.args.number (BeginsQuery c.args.h.now c.args.filter) ((c.args.desk_at, r.0) ∷ (c.args.image_at, r.1) ∷ (c.args.ledger_at, r.2) ∷ []) c.requires.ready c.lift_three-desk.ensures.value c.lift-actor.result c.lift-actor.ensures.value
+    can-step c.args.h.now c.args.state.now.cells.items c.args.state.now.actors.items c.requires.state c.args.number (BeginsQuery c.args.h.now c.args.filter) ((c.args.desk_at, r.0) ∷ (c.args.image_at, r.1) ∷ (c.args.ledger_at, r.2) ∷ []) c.requires.ready c.lift_three-desk.ensures.value c.in-Some.actor (lent-is c.args.state.now.actors.items c.args.number c.index_mut.result.now c.in-Some.actor c.requires.ready.actor c.index_mut.ensures.value c.in-Some.is)
 
 pub returns : goal.returns
 returns c =
     let r = c.lift_three-desk.result in
     let xs : List Exchange = exchange c.args.desk_at r.0 c.begin_query-made.new.desk ∷ exchange c.args.image_at r.1 c.begin_query-made.new.image ∷ exchange c.args.ledger_at r.2 c.begin_query-made.new.ledger ∷ [] in
-    let may = may-hold c.args.h.now c.args.state.now.cells.items c.args.state.now.actors.items c.requires.state c.args.number (BeginsQuery c.args.h.now c.args.filter) ((c.args.desk_at, r.0) ∷ (c.args.image_at, r.1) ∷ (c.args.ledger_at, r.2) ∷ []) c.requires.ready c.lift_three-desk.ensures.value c.lift-actor.result c.lift-actor.ensures.value in
+    let may = may-hold c.args.h.now c.args.state.now.cells.items c.args.state.now.actors.items c.requires.state c.args.number (BeginsQuery c.args.h.now c.args.filter) ((c.args.desk_at, r.0) ∷ (c.args.image_at, r.1) ∷ (c.args.ledger_at, r.2) ∷ []) c.requires.ready c.lift_three-desk.ensures.value c.in-Some.actor (lent-is c.args.state.now.actors.items c.args.number c.index_mut.result.now c.in-Some.actor c.requires.ready.actor c.index_mut.ensures.value c.in-Some.is) in
     record {
-      stepped = on-ok c.begin_query-made.result c.begin_query-made.ensures.made (λ m. drives c.args.h.now BeginQuery c.args.state.now.cells.items _ _ c.args.state.now.actors.items _ _ xs c.args.number c.lift-actor.result c.begin_query-made.new.actor c.lift_three-desk.ensures.rest c.lift-actor.ensures.rest c.put_three.ensures.value c.put_actor.ensures.value may m (λ s w same is inv. tt));
-      told = on-ok c.begin_query-made.result c.begin_query-made.ensures.told (λ t. adds c.args.state.now.cells.items _ _ c.args.state.now.actors.items _ _ xs c.args.number c.lift-actor.result c.begin_query-made.new.actor c.lift_three-desk.ensures.rest c.lift-actor.ensures.rest c.put_three.ensures.value c.put_actor.ensures.value may (asked_by c.args.filter) 2 (exchange c.args.ledger_at r.2 c.begin_query-made.new.ledger) refl c.requires.ready.apart t);
-      stays = on-err c.begin_query-made.result c.begin_query-made.ensures.refused (λ k. stays-so c.args.state.now.cells.items _ _ c.args.state.now.actors.items _ _ xs c.args.number c.lift-actor.result c.begin_query-made.new.actor c.lift_three-desk.ensures.rest c.lift-actor.ensures.rest c.put_three.ensures.value c.put_actor.ensures.value may (k.0, (k.1, (k.2, tt))) k.3);
+      stepped = on-ok c.begin_query-made.result c.begin_query-made.ensures.made (λ m. drives c.args.h.now BeginQuery c.args.state.now.cells.items _ _ c.args.state.now.actors.items _ _ xs c.args.number c.in-Some.actor c.begin_query-made.new.actor c.lift_three-desk.ensures.rest refl c.put_three.ensures.value (put-over c.args.state.now.actors.items c.args.number _) may m (λ s w same is inv. tt));
+      told = on-ok c.begin_query-made.result c.begin_query-made.ensures.told (λ t. adds c.args.state.now.cells.items _ _ c.args.state.now.actors.items _ _ xs c.args.number c.in-Some.actor c.begin_query-made.new.actor c.lift_three-desk.ensures.rest refl c.put_three.ensures.value (put-over c.args.state.now.actors.items c.args.number _) may (asked_by c.args.filter) 2 (exchange c.args.ledger_at r.2 c.begin_query-made.new.ledger) refl c.requires.ready.apart t);
+      stays = on-err c.begin_query-made.result c.begin_query-made.ensures.refused (λ k. stays-so c.args.state.now.cells.items _ _ c.args.state.now.actors.items _ _ xs c.args.number c.in-Some.actor c.begin_query-made.new.actor c.lift_three-desk.ensures.rest refl c.put_three.ensures.value (put-over c.args.state.now.actors.items c.args.number _) may (k.0, (k.1, (k.2, tt))) k.3);
     }

@@ -3,7 +3,7 @@ use Rattle.core_steps.specs.AskedNotes.{FailsRouted}
 use Rattle.volap_cell.specs.State.{Exchange, exchange}
 use Rattle.volap_cell.specs.declared.kind.Kind.TheVariants.{Note}
 use Rattle.volap_cell.proofs.States.{drives}
-use Rattle.core_steps.proofs.Ready.{can-lift, can-step, may-hold, step-here}
+use Rattle.core_steps.proofs.Ready.{can-lift, can-step, lent-is, may-hold, put-over, step-here}
 use Rattle.core_steps.proofs.Adding.{adds-quiet}
 use Rattle.core_steps.proofs.Quiet.{routed-ends}
 use Rattle.core_steps.proofs.fails.fail_routed.Goals as goal
@@ -14,19 +14,19 @@ lift_three-desk-requires c = record { there = can-lift c.args.h.now c.args.state
 pub fail_routed-requires-clause-here : goal.fail_routed-requires-clause-here
 fail_routed-requires-clause-here c =
     let r = c.lift_three-desk.result in
-    step-here c.args.h.now c.args.state.now.cells.items c.args.state.now.actors.items c.requires.state c.args.number FailsRouted ((c.args.desk_at, r.0) ∷ (c.args.image_at, r.1) ∷ (c.args.ledger_at, r.2) ∷ []) c.requires.ready c.lift_three-desk.ensures.value c.lift-actor.result c.lift-actor.ensures.value
+    step-here c.args.h.now c.args.state.now.cells.items c.args.state.now.actors.items c.requires.state c.args.number FailsRouted ((c.args.desk_at, r.0) ∷ (c.args.image_at, r.1) ∷ (c.args.ledger_at, r.2) ∷ []) c.requires.ready c.lift_three-desk.ensures.value c.in-Some.actor (lent-is c.args.state.now.actors.items c.args.number c.index_mut.result.now c.in-Some.actor c.requires.ready.actor c.index_mut.ensures.value c.in-Some.is)
 
 pub fail_routed-requires-clause-due : goal.fail_routed-requires-clause-due
 fail_routed-requires-clause-due c =
     let r = c.lift_three-desk.result in
-    can-step c.args.h.now c.args.state.now.cells.items c.args.state.now.actors.items c.requires.state c.args.number FailsRouted ((c.args.desk_at, r.0) ∷ (c.args.image_at, r.1) ∷ (c.args.ledger_at, r.2) ∷ []) c.requires.ready c.lift_three-desk.ensures.value c.lift-actor.result c.lift-actor.ensures.value
+    can-step c.args.h.now c.args.state.now.cells.items c.args.state.now.actors.items c.requires.state c.args.number FailsRouted ((c.args.desk_at, r.0) ∷ (c.args.image_at, r.1) ∷ (c.args.ledger_at, r.2) ∷ []) c.requires.ready c.lift_three-desk.ensures.value c.in-Some.actor (lent-is c.args.state.now.actors.items c.args.number c.index_mut.result.now c.in-Some.actor c.requires.ready.actor c.index_mut.ensures.value c.in-Some.is)
 
 pub returns : goal.returns
 returns c =
     let r = c.lift_three-desk.result in
     let xs : List Exchange = exchange c.args.desk_at r.0 c.fail_routed.new.desk ∷ exchange c.args.image_at r.1 c.fail_routed.new.image ∷ exchange c.args.ledger_at r.2 c.fail_routed.new.ledger ∷ [] in
-    let may = may-hold c.args.h.now c.args.state.now.cells.items c.args.state.now.actors.items c.requires.state c.args.number FailsRouted ((c.args.desk_at, r.0) ∷ (c.args.image_at, r.1) ∷ (c.args.ledger_at, r.2) ∷ []) c.requires.ready c.lift_three-desk.ensures.value c.lift-actor.result c.lift-actor.ensures.value in
+    let may = may-hold c.args.h.now c.args.state.now.cells.items c.args.state.now.actors.items c.requires.state c.args.number FailsRouted ((c.args.desk_at, r.0) ∷ (c.args.image_at, r.1) ∷ (c.args.ledger_at, r.2) ∷ []) c.requires.ready c.lift_three-desk.ensures.value c.in-Some.actor (lent-is c.args.state.now.actors.items c.args.number c.index_mut.result.now c.in-Some.actor c.requires.ready.actor c.index_mut.ensures.value c.in-Some.is) in
     record {
-      stepped = drives c.args.h.now Note c.args.state.now.cells.items _ _ c.args.state.now.actors.items _ _ xs c.args.number c.lift-actor.result c.fail_routed.new.actor c.lift_three-desk.ensures.rest c.lift-actor.ensures.rest c.put_three.ensures.value c.put_actor.ensures.value may c.fail_routed.ensures.made (λ s w same is inv. tt);
-      quiet = adds-quiet c.args.state.now.cells.items _ _ c.args.state.now.actors.items _ _ xs c.args.number c.lift-actor.result c.fail_routed.new.actor c.lift_three-desk.ensures.rest c.lift-actor.ensures.rest c.put_three.ensures.value c.put_actor.ensures.value may 2 (exchange c.args.ledger_at r.2 c.fail_routed.new.ledger) refl c.requires.ready.apart (routed-ends c.fail_routed.ensures.made.does);
+      stepped = drives c.args.h.now Note c.args.state.now.cells.items _ _ c.args.state.now.actors.items _ _ xs c.args.number c.in-Some.actor c.fail_routed.new.actor c.lift_three-desk.ensures.rest refl c.put_three.ensures.value (put-over c.args.state.now.actors.items c.args.number _) may c.fail_routed.ensures.made (λ s w same is inv. tt);
+      quiet = adds-quiet c.args.state.now.cells.items _ _ c.args.state.now.actors.items _ _ xs c.args.number c.in-Some.actor c.fail_routed.new.actor c.lift_three-desk.ensures.rest refl c.put_three.ensures.value (put-over c.args.state.now.actors.items c.args.number _) may 2 (exchange c.args.ledger_at r.2 c.fail_routed.new.ledger) refl c.requires.ready.apart (routed-ends c.fail_routed.ensures.made.does);
     }

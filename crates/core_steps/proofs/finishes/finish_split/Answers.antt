@@ -1,10 +1,10 @@
-use Rattle.std.proofs.Common.{List, [], ◌∷◌}
+use Rattle.std.proofs.Common.{List, [], ◌∷◌, refl}
 use Rattle.core_steps.specs.AskedFinishes.{EndsSplit}
 use Rattle.volap_cell.specs.State.{Exchange, exchange}
 use Rattle.volap_cell.specs.declared.kind.Kind.TheVariants.{FinishSplit}
 use Rattle.volap_cell.proofs.States.{drives}
 use Rattle.volap_cell.proofs.Outcomes.{on-ok, on-err}
-use Rattle.core_steps.proofs.Ready.{can-lift, can-step, may-hold, step-here}
+use Rattle.core_steps.proofs.Ready.{can-lift, can-step, lent-is, may-hold, put-over, step-here}
 use Rattle.core_steps.proofs.Staying.{stays-so}
 use Rattle.core_steps.proofs.finishes.finish_split.Goals as goal
 
@@ -14,19 +14,19 @@ lift_seven-table-requires c = record { there = can-lift c.args.h.now c.args.stat
 pub finish_split-made-requires-clause-here : goal.finish_split-made-requires-clause-here
 finish_split-made-requires-clause-here c =
     let r = c.lift_seven-table.result in
-    step-here c.args.h.now c.args.state.now.cells.items c.args.state.now.actors.items c.requires.state c.args.number (EndsSplit c.args.gate_at c.args.left_at c.args.right_at) ((c.args.table_at, r.0) ∷ (c.args.gate_at, r.1) ∷ (c.args.left_at, r.2) ∷ (c.args.right_at, r.3) ∷ (c.args.registry_at, r.4) ∷ (c.args.stock_at, r.5) ∷ (c.args.ledger_at, r.6) ∷ []) c.requires.ready c.lift_seven-table.ensures.value c.lift-actor.result c.lift-actor.ensures.value
+    step-here c.args.h.now c.args.state.now.cells.items c.args.state.now.actors.items c.requires.state c.args.number (EndsSplit c.args.gate_at c.args.left_at c.args.right_at) ((c.args.table_at, r.0) ∷ (c.args.gate_at, r.1) ∷ (c.args.left_at, r.2) ∷ (c.args.right_at, r.3) ∷ (c.args.registry_at, r.4) ∷ (c.args.stock_at, r.5) ∷ (c.args.ledger_at, r.6) ∷ []) c.requires.ready c.lift_seven-table.ensures.value c.in-Some.actor (lent-is c.args.state.now.actors.items c.args.number c.index_mut.result.now c.in-Some.actor c.requires.ready.actor c.index_mut.ensures.value c.in-Some.is)
 
 pub finish_split-made-requires-clause-due : goal.finish_split-made-requires-clause-due
 finish_split-made-requires-clause-due c =
     let r = c.lift_seven-table.result in
-    can-step c.args.h.now c.args.state.now.cells.items c.args.state.now.actors.items c.requires.state c.args.number (EndsSplit c.args.gate_at c.args.left_at c.args.right_at) ((c.args.table_at, r.0) ∷ (c.args.gate_at, r.1) ∷ (c.args.left_at, r.2) ∷ (c.args.right_at, r.3) ∷ (c.args.registry_at, r.4) ∷ (c.args.stock_at, r.5) ∷ (c.args.ledger_at, r.6) ∷ []) c.requires.ready c.lift_seven-table.ensures.value c.lift-actor.result c.lift-actor.ensures.value
+    can-step c.args.h.now c.args.state.now.cells.items c.args.state.now.actors.items c.requires.state c.args.number (EndsSplit c.args.gate_at c.args.left_at c.args.right_at) ((c.args.table_at, r.0) ∷ (c.args.gate_at, r.1) ∷ (c.args.left_at, r.2) ∷ (c.args.right_at, r.3) ∷ (c.args.registry_at, r.4) ∷ (c.args.stock_at, r.5) ∷ (c.args.ledger_at, r.6) ∷ []) c.requires.ready c.lift_seven-table.ensures.value c.in-Some.actor (lent-is c.args.state.now.actors.items c.args.number c.index_mut.result.now c.in-Some.actor c.requires.ready.actor c.index_mut.ensures.value c.in-Some.is)
 
 pub returns : goal.returns
 returns c =
     let r = c.lift_seven-table.result in
     let xs : List Exchange = exchange c.args.table_at r.0 c.finish_split-made.new.table ∷ exchange c.args.gate_at r.1 c.finish_split-made.new.gate ∷ exchange c.args.left_at r.2 c.finish_split-made.new.left ∷ exchange c.args.right_at r.3 c.finish_split-made.new.right ∷ exchange c.args.registry_at r.4 c.finish_split-made.new.registry ∷ exchange c.args.stock_at r.5 c.finish_split-made.new.stock ∷ exchange c.args.ledger_at r.6 c.finish_split-made.new.ledger ∷ [] in
-    let may = may-hold c.args.h.now c.args.state.now.cells.items c.args.state.now.actors.items c.requires.state c.args.number (EndsSplit c.args.gate_at c.args.left_at c.args.right_at) ((c.args.table_at, r.0) ∷ (c.args.gate_at, r.1) ∷ (c.args.left_at, r.2) ∷ (c.args.right_at, r.3) ∷ (c.args.registry_at, r.4) ∷ (c.args.stock_at, r.5) ∷ (c.args.ledger_at, r.6) ∷ []) c.requires.ready c.lift_seven-table.ensures.value c.lift-actor.result c.lift-actor.ensures.value in
+    let may = may-hold c.args.h.now c.args.state.now.cells.items c.args.state.now.actors.items c.requires.state c.args.number (EndsSplit c.args.gate_at c.args.left_at c.args.right_at) ((c.args.table_at, r.0) ∷ (c.args.gate_at, r.1) ∷ (c.args.left_at, r.2) ∷ (c.args.right_at, r.3) ∷ (c.args.registry_at, r.4) ∷ (c.args.stock_at, r.5) ∷ (c.args.ledger_at, r.6) ∷ []) c.requires.ready c.lift_seven-table.ensures.value c.in-Some.actor (lent-is c.args.state.now.actors.items c.args.number c.index_mut.result.now c.in-Some.actor c.requires.ready.actor c.index_mut.ensures.value c.in-Some.is) in
     record {
-      stepped = on-ok c.finish_split-made.result c.finish_split-made.ensures.made (λ m. drives c.args.h.now FinishSplit c.args.state.now.cells.items _ _ c.args.state.now.actors.items _ _ xs c.args.number c.lift-actor.result c.finish_split-made.new.actor c.lift_seven-table.ensures.rest c.lift-actor.ensures.rest c.put_seven.ensures.value c.put_actor.ensures.value may m (λ s w same is inv. tt));
-      stays = on-err c.finish_split-made.result c.finish_split-made.ensures.refused (λ k. stays-so c.args.state.now.cells.items _ _ c.args.state.now.actors.items _ _ xs c.args.number c.lift-actor.result c.finish_split-made.new.actor c.lift_seven-table.ensures.rest c.lift-actor.ensures.rest c.put_seven.ensures.value c.put_actor.ensures.value may (k.0, (k.1, (k.2, (k.3, (k.4, (k.5, (k.6, tt))))))) k.7);
+      stepped = on-ok c.finish_split-made.result c.finish_split-made.ensures.made (λ m. drives c.args.h.now FinishSplit c.args.state.now.cells.items _ _ c.args.state.now.actors.items _ _ xs c.args.number c.in-Some.actor c.finish_split-made.new.actor c.lift_seven-table.ensures.rest refl c.put_seven.ensures.value (put-over c.args.state.now.actors.items c.args.number _) may m (λ s w same is inv. tt));
+      stays = on-err c.finish_split-made.result c.finish_split-made.ensures.refused (λ k. stays-so c.args.state.now.cells.items _ _ c.args.state.now.actors.items _ _ xs c.args.number c.in-Some.actor c.finish_split-made.new.actor c.lift_seven-table.ensures.rest refl c.put_seven.ensures.value (put-over c.args.state.now.actors.items c.args.number _) may (k.0, (k.1, (k.2, (k.3, (k.4, (k.5, (k.6, tt))))))) k.7);
     }

@@ -7,7 +7,7 @@ use Rattle.volap_cell.specs.Values.{actor_of}
 use Rattle.volap_cell.specs.World.{change, held}
 use Rattle.volap_cell.specs.declared.kind.Kind.TheVariants.{FinishPart}
 use Rattle.volap_cell.proofs.Lifting.{drives-as, if-before, if-changes, if-now, if-numbers, if-still, if-within, long-back, long-out}
-use Rattle.core_steps.proofs.Ready.{values_in}
+use Rattle.core_steps.proofs.Ready.{lent-is, put-over, values_in}
 use Rattle.core_steps.proofs.AtTimes.{can-out, first-is, given-both, here-out, hold-out, joined, out-both, out-if}
 use Rattle.core_steps.proofs.parts.finish_part.Goals as goal
 
@@ -20,7 +20,7 @@ finish_part-requires-clause-here c =
     let things = cell_if gate.at one.result ++ (c.args.desk_at, two.result) ∷ [] in
     let out = out-both cells _ _ (number_of gate) (c.args.desk_at ∷ []) (cell_if gate.at one.result) ((c.args.desk_at, two.result) ∷ []) c.requires.ready.apart
     (out-if cells _ gate.at gate.wanted one.result one.ensures.some one.ensures.value one.ensures.rest) (record { stand = two.ensures.value; rest = two.ensures.rest; named = refl }) in
-    here-out c.args.h.now cells _ c.args.state.now.actors.items c.requires.state c.args.number (FinishesPart gate) _ things c.requires.ready out c.lift-actor.result c.lift-actor.ensures.value _
+    here-out c.args.h.now cells _ c.args.state.now.actors.items c.requires.state c.args.number (FinishesPart gate) _ things c.requires.ready out c.in-Some.actor (lent-is c.args.state.now.actors.items c.args.number c.index_mut.result.now c.in-Some.actor c.requires.ready.actor c.index_mut.ensures.value c.in-Some.is) _
     (joined _ (cell_if gate.at one.result) ((c.args.desk_at, two.result) ∷ []) _ (held c.args.desk_at (cell_of two.result) ∷ []) (if-still gate.at one.result) refl)
 
 pub finish_part-requires-clause-due : goal.finish_part-requires-clause-due
@@ -32,9 +32,9 @@ finish_part-requires-clause-due c =
     let things = cell_if gate.at one.result ++ (c.args.desk_at, two.result) ∷ [] in
     let out = out-both cells _ _ (number_of gate) (c.args.desk_at ∷ []) (cell_if gate.at one.result) ((c.args.desk_at, two.result) ∷ []) c.requires.ready.apart
     (out-if cells _ gate.at gate.wanted one.result one.ensures.some one.ensures.value one.ensures.rest) (record { stand = two.ensures.value; rest = two.ensures.rest; named = refl }) in
-    let can = can-out c.args.h.now cells _ c.args.state.now.actors.items c.requires.state c.args.number (FinishesPart gate) _ things c.requires.ready out c.lift-actor.result c.lift-actor.ensures.value in
+    let can = can-out c.args.h.now cells _ c.args.state.now.actors.items c.requires.state c.args.number (FinishesPart gate) _ things c.requires.ready out c.in-Some.actor (lent-is c.args.state.now.actors.items c.args.number c.index_mut.result.now c.in-Some.actor c.requires.ready.actor c.index_mut.ensures.value c.in-Some.is) in
     let first = first-is gate.at gate.wanted one.result ((c.args.desk_at, two.result) ∷ []) one.ensures.some in
-    let a = actor_of c.lift-actor.result in
+    let a = actor_of c.in-Some.actor in
     subst (λ (o : Option CellValue). EndsAt gate.at o (cell_of two.result ∷ []) a) first.0
     (subst (λ (vs : List CellValue). EndsAt gate.at (first_if gate.wanted (values_in things)) vs a) first.1 can)
 
@@ -59,13 +59,13 @@ returns c =
     let desk : List Exchange = exchange c.args.desk_at two.result now.desk ∷ [] in
     let held = c.finish_part.ensures.held in
     record {
-      stepped = drives-as c.args.h.now FinishPart cells _ _ c.args.state.now.actors.items _ _ (some ++ desk) _ things (cell_if gate.at now.gate ++ (c.args.desk_at, now.desk) ∷ []) _ c.args.number c.lift-actor.result now.actor
+      stepped = drives-as c.args.h.now FinishPart cells _ _ c.args.state.now.actors.items _ _ (some ++ desk) _ things (cell_if gate.at now.gate ++ (c.args.desk_at, now.desk) ∷ []) _ c.args.number c.in-Some.actor now.actor
           (joined _ some desk (number_of gate) (c.args.desk_at ∷ []) (if-numbers gate.at gate.wanted one.result now.gate one.ensures.some held) refl)
           (joined _ some desk (cell_if gate.at one.result) ((c.args.desk_at, two.result) ∷ []) (if-before gate.at one.result now.gate held) refl)
           (joined _ some desk (cell_if gate.at now.gate) ((c.args.desk_at, now.desk) ∷ []) (if-now gate.at one.result now.gate held) refl)
           (joined _ some desk _ (change c.args.desk_at (cell_of two.result) (cell_of now.desk) ∷ []) (if-changes gate.at one.result now.gate) refl)
-          out.rest c.lift-actor.ensures.rest
-          (given-both two.new.cells.items c.put_one.new.cells.items c.put_if.new.cells.items (cell_if gate.at now.gate) ((c.args.desk_at, now.desk) ∷ []) c.put_one.ensures.value c.put_if.ensures.value) c.put_actor.ensures.value
-          (hold-out c.args.h.now cells _ c.args.state.now.actors.items c.requires.state c.args.number (FinishesPart gate) _ things c.requires.ready out c.lift-actor.result c.lift-actor.ensures.value)
+          out.rest refl
+          (given-both two.new.cells.items c.put_one.new.cells.items c.put_if.new.cells.items (cell_if gate.at now.gate) ((c.args.desk_at, now.desk) ∷ []) c.put_one.ensures.value c.put_if.ensures.value) (put-over c.args.state.now.actors.items c.args.number _)
+          (hold-out c.args.h.now cells _ c.args.state.now.actors.items c.requires.state c.args.number (FinishesPart gate) _ things c.requires.ready out c.in-Some.actor (lent-is c.args.state.now.actors.items c.args.number c.index_mut.result.now c.in-Some.actor c.requires.ready.actor c.index_mut.ensures.value c.in-Some.is))
           c.finish_part.ensures.made (λ s w same is inv. tt);
     }

@@ -1,9 +1,9 @@
-use Rattle.std.proofs.Common.{List, [], ◌∷◌}
+use Rattle.std.proofs.Common.{List, [], ◌∷◌, refl}
 use Rattle.core_steps.specs.AskedParts.{Forwards}
 use Rattle.volap_cell.specs.State.{Exchange, exchange}
 use Rattle.volap_cell.specs.declared.kind.Kind.TheVariants.{Forward}
 use Rattle.volap_cell.proofs.States.{drives}
-use Rattle.core_steps.proofs.Ready.{can-lift, can-step, may-hold, step-here}
+use Rattle.core_steps.proofs.Ready.{can-lift, can-step, lent-is, may-hold, put-over, step-here}
 use Rattle.core_steps.proofs.parts.forward.Goals as goal
 
 pub lift_two-map-requires : goal.lift_two-map-requires
@@ -12,18 +12,18 @@ lift_two-map-requires c = record { there = can-lift c.args.h.now c.args.state.no
 pub forward-requires-clause-here : goal.forward-requires-clause-here
 forward-requires-clause-here c =
     let r = c.lift_two-map.result in
-    step-here c.args.h.now c.args.state.now.cells.items c.args.state.now.actors.items c.requires.state c.args.number Forwards ((c.args.map_at, r.0) ∷ (c.args.desk_at, r.1) ∷ []) c.requires.ready c.lift_two-map.ensures.value c.lift-actor.result c.lift-actor.ensures.value
+    step-here c.args.h.now c.args.state.now.cells.items c.args.state.now.actors.items c.requires.state c.args.number Forwards ((c.args.map_at, r.0) ∷ (c.args.desk_at, r.1) ∷ []) c.requires.ready c.lift_two-map.ensures.value c.in-Some.actor (lent-is c.args.state.now.actors.items c.args.number c.index_mut.result.now c.in-Some.actor c.requires.ready.actor c.index_mut.ensures.value c.in-Some.is)
 
 pub forward-requires-clause-due : goal.forward-requires-clause-due
 forward-requires-clause-due c =
     let r = c.lift_two-map.result in
-    can-step c.args.h.now c.args.state.now.cells.items c.args.state.now.actors.items c.requires.state c.args.number Forwards ((c.args.map_at, r.0) ∷ (c.args.desk_at, r.1) ∷ []) c.requires.ready c.lift_two-map.ensures.value c.lift-actor.result c.lift-actor.ensures.value
+    can-step c.args.h.now c.args.state.now.cells.items c.args.state.now.actors.items c.requires.state c.args.number Forwards ((c.args.map_at, r.0) ∷ (c.args.desk_at, r.1) ∷ []) c.requires.ready c.lift_two-map.ensures.value c.in-Some.actor (lent-is c.args.state.now.actors.items c.args.number c.index_mut.result.now c.in-Some.actor c.requires.ready.actor c.index_mut.ensures.value c.in-Some.is)
 
 pub returns : goal.returns
 returns c =
     let r = c.lift_two-map.result in
     let xs : List Exchange = exchange c.args.map_at r.0 c.forward.new.map ∷ exchange c.args.desk_at r.1 c.forward.new.desk ∷ [] in
-    let may = may-hold c.args.h.now c.args.state.now.cells.items c.args.state.now.actors.items c.requires.state c.args.number Forwards ((c.args.map_at, r.0) ∷ (c.args.desk_at, r.1) ∷ []) c.requires.ready c.lift_two-map.ensures.value c.lift-actor.result c.lift-actor.ensures.value in
+    let may = may-hold c.args.h.now c.args.state.now.cells.items c.args.state.now.actors.items c.requires.state c.args.number Forwards ((c.args.map_at, r.0) ∷ (c.args.desk_at, r.1) ∷ []) c.requires.ready c.lift_two-map.ensures.value c.in-Some.actor (lent-is c.args.state.now.actors.items c.args.number c.index_mut.result.now c.in-Some.actor c.requires.ready.actor c.index_mut.ensures.value c.in-Some.is) in
     record {
-      stepped = drives c.args.h.now Forward c.args.state.now.cells.items _ _ c.args.state.now.actors.items _ _ xs c.args.number c.lift-actor.result c.forward.new.actor c.lift_two-map.ensures.rest c.lift-actor.ensures.rest c.put_two.ensures.value c.put_actor.ensures.value may c.forward.ensures.made (λ s w same is inv. tt);
+      stepped = drives c.args.h.now Forward c.args.state.now.cells.items _ _ c.args.state.now.actors.items _ _ xs c.args.number c.in-Some.actor c.forward.new.actor c.lift_two-map.ensures.rest refl c.put_two.ensures.value (put-over c.args.state.now.actors.items c.args.number _) may c.forward.ensures.made (λ s w same is inv. tt);
     }

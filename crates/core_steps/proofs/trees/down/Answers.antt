@@ -11,7 +11,7 @@ use Rattle.volap_cell.specs.World.{Change, change, held, held_if}
 use Rattle.volap_cell.specs.declared.cell.Cell.{Cell}
 use Rattle.volap_cell.specs.declared.kind.Kind.TheVariants.{Down}
 use Rattle.volap_cell.proofs.Lifting.{drives-as, if-before, if-changes, if-now, if-numbers, if-still, if-within, lift-others, lift-some, long-back, long-out}
-use Rattle.core_steps.proofs.Ready.{can-lift, values_in}
+use Rattle.core_steps.proofs.Ready.{can-lift, lent-is, put-over, values_in}
 use Rattle.core_steps.proofs.AtTimes.{behind-two, can-out, first-of-two, given-both, here-out, hold-out, in-two, joined, only-is, out-both, out-if, out-two, second-of-two}
 use Rattle.core_steps.proofs.trees.down.Goals as goal
 
@@ -40,7 +40,7 @@ down-requires-clause-here c =
     (out-both _ _ _ (number_of c.args.first ++ number_of c.args.second) (number_of c.args.fresh) (cell_if c.args.first.at B.result.0 ++ cell_if c.args.second.at B.result.1) (cell_if c.args.fresh.at N.result) c.requires.ready.apart.1.1
     (out-two _ _ c.args.first c.args.second B.result.0 B.result.1 B.ensures.some B.ensures.value B.ensures.rest)
     (out-if _ _ c.args.fresh.at c.args.fresh.wanted N.result N.ensures.some N.ensures.value N.ensures.rest)) in
-    here-out c.args.h.now cells _ c.args.state.now.actors.items c.requires.state c.args.number (GoesDown c.args.h.now c.args.parent_at c.args.child_at c.args.first c.args.second c.args.fresh) _ things c.requires.ready out c.lift-actor.result c.lift-actor.ensures.value _
+    here-out c.args.h.now cells _ c.args.state.now.actors.items c.requires.state c.args.number (GoesDown c.args.h.now c.args.parent_at c.args.child_at c.args.first c.args.second c.args.fresh) _ things c.requires.ready out c.in-Some.actor (lent-is c.args.state.now.actors.items c.args.number c.index_mut.result.now c.in-Some.actor c.requires.ready.actor c.index_mut.ensures.value c.in-Some.is) _
     (ap (λ (l : List Change). held c.args.parent_at (cell_of A.result.0) ∷ held c.args.child_at (cell_of A.result.1) ∷ l) (joined _ (cell_if c.args.first.at B.result.0 ++ cell_if c.args.second.at B.result.1) (cell_if c.args.fresh.at N.result) _ _
     (joined _ (cell_if c.args.first.at B.result.0) (cell_if c.args.second.at B.result.1) _ _ (if-still c.args.first.at B.result.0) (if-still c.args.second.at B.result.1)) (if-still c.args.fresh.at N.result)))
 
@@ -57,14 +57,14 @@ down-requires-clause-due c =
     (out-two _ _ c.args.first c.args.second B.result.0 B.result.1 B.ensures.some B.ensures.value B.ensures.rest)
     (out-if _ _ c.args.fresh.at c.args.fresh.wanted N.result N.ensures.some N.ensures.value N.ensures.rest)) in
     let vs : List CellValue = values_in ((cell_if c.args.first.at B.result.0 ++ cell_if c.args.second.at B.result.1) ++ (cell_if c.args.fresh.at N.result)) in
-    let can = can-out c.args.h.now cells _ c.args.state.now.actors.items c.requires.state c.args.number (GoesDown c.args.h.now c.args.parent_at c.args.child_at c.args.first c.args.second c.args.fresh) _ things c.requires.ready out c.lift-actor.result c.lift-actor.ensures.value in
+    let can = can-out c.args.h.now cells _ c.args.state.now.actors.items c.requires.state c.args.number (GoesDown c.args.h.now c.args.parent_at c.args.child_at c.args.first c.args.second c.args.fresh) _ things c.requires.ready out c.in-Some.actor (lent-is c.args.state.now.actors.items c.args.number c.index_mut.result.now c.in-Some.actor c.requires.ready.actor c.index_mut.ensures.value c.in-Some.is) in
     let e1 = first-of-two c.args.first c.args.second B.result.0 B.result.1 B.ensures.some (cell_if c.args.fresh.at N.result) in
     let e2 = second-of-two c.args.first c.args.second B.result.0 B.result.1 B.ensures.some (cell_if c.args.fresh.at N.result) in
     let r2 = behind-two c.args.first c.args.second B.result.0 B.result.1 B.ensures.some (cell_if c.args.fresh.at N.result) in
     let e3 = ap (λ (l : List CellValue). first_if c.args.fresh.wanted l) r2 ∙ only-is c.args.fresh.at c.args.fresh.wanted N.result N.ensures.some in
-    subst (λ (o : Option CellValue). CanDown c.args.h.now c.args.parent_at (cell_of A.result.0) c.args.child_at (cell_of A.result.1) (two_if c.args.first.at (option_map cell_of B.result.0) c.args.second.at (option_map cell_of B.result.1)) (held_if c.args.fresh.at o) (actor_of c.lift-actor.result)) e3
-    (subst (λ (o : Option CellValue). CanDown c.args.h.now c.args.parent_at (cell_of A.result.0) c.args.child_at (cell_of A.result.1) (two_if c.args.first.at (option_map cell_of B.result.0) c.args.second.at o) (held_if c.args.fresh.at (first_if c.args.fresh.wanted (rest_if c.args.second.wanted (rest_if c.args.first.wanted vs)))) (actor_of c.lift-actor.result)) e2
-    (subst (λ (o : Option CellValue). CanDown c.args.h.now c.args.parent_at (cell_of A.result.0) c.args.child_at (cell_of A.result.1) (two_if c.args.first.at o c.args.second.at (first_if c.args.second.wanted (rest_if c.args.first.wanted vs))) (held_if c.args.fresh.at (first_if c.args.fresh.wanted (rest_if c.args.second.wanted (rest_if c.args.first.wanted vs)))) (actor_of c.lift-actor.result)) e1 can))
+    subst (λ (o : Option CellValue). CanDown c.args.h.now c.args.parent_at (cell_of A.result.0) c.args.child_at (cell_of A.result.1) (two_if c.args.first.at (option_map cell_of B.result.0) c.args.second.at (option_map cell_of B.result.1)) (held_if c.args.fresh.at o) (actor_of c.in-Some.actor)) e3
+    (subst (λ (o : Option CellValue). CanDown c.args.h.now c.args.parent_at (cell_of A.result.0) c.args.child_at (cell_of A.result.1) (two_if c.args.first.at (option_map cell_of B.result.0) c.args.second.at o) (held_if c.args.fresh.at (first_if c.args.fresh.wanted (rest_if c.args.second.wanted (rest_if c.args.first.wanted vs)))) (actor_of c.in-Some.actor)) e2
+    (subst (λ (o : Option CellValue). CanDown c.args.h.now c.args.parent_at (cell_of A.result.0) c.args.child_at (cell_of A.result.1) (two_if c.args.first.at o c.args.second.at (first_if c.args.second.wanted (rest_if c.args.first.wanted vs))) (held_if c.args.fresh.at (first_if c.args.fresh.wanted (rest_if c.args.second.wanted (rest_if c.args.first.wanted vs)))) (actor_of c.in-Some.actor)) e1 can))
 
 pub put_if-requires : goal.put_if-requires
 put_if-requires c = record { within = if-within c.lift_both-next.new.cells.items c.lift_if-new.new.cells.items c.args.fresh.at c.lift_if-new.result c.down.new.fresh (long-out c.lift_both-next.new.cells.items c.lift_if-new.new.cells.items (number_of c.args.fresh) c.lift_if-new.ensures.rest) c.down.ensures.held c.lift_if-new.ensures.value }
@@ -96,14 +96,14 @@ returns c =
     let kept = c.down.ensures.held in
     let xs : List Exchange = exchange c.args.parent_at A.result.0 now.parent ∷ exchange c.args.child_at A.result.1 now.child ∷ (exchange_if c.args.first.at B.result.0 now.first ++ exchange_if c.args.second.at B.result.1 now.second) ++ (exchange_if c.args.fresh.at N.result now.fresh) in
     record {
-      stepped = drives-as c.args.h.now Down cells _ _ c.args.state.now.actors.items _ _ xs _ things (((c.args.parent_at, now.parent) ∷ (c.args.child_at, now.child) ∷ []) ++ ((cell_if c.args.first.at now.first ++ cell_if c.args.second.at now.second) ++ (cell_if c.args.fresh.at now.fresh))) _ c.args.number c.lift-actor.result now.actor
+      stepped = drives-as c.args.h.now Down cells _ _ c.args.state.now.actors.items _ _ xs _ things (((c.args.parent_at, now.parent) ∷ (c.args.child_at, now.child) ∷ []) ++ ((cell_if c.args.first.at now.first ++ cell_if c.args.second.at now.second) ++ (cell_if c.args.fresh.at now.fresh))) _ c.args.number c.in-Some.actor now.actor
           (ap (λ (l : List ℕ). c.args.parent_at ∷ c.args.child_at ∷ l) (joined _ (exchange_if c.args.first.at B.result.0 now.first ++ exchange_if c.args.second.at B.result.1 now.second) (exchange_if c.args.fresh.at N.result now.fresh) _ _ (joined _ (exchange_if c.args.first.at B.result.0 now.first) (exchange_if c.args.second.at B.result.1 now.second) _ _ (if-numbers c.args.first.at c.args.first.wanted B.result.0 now.first B.ensures.some.0 behind.0) (if-numbers c.args.second.at c.args.second.wanted B.result.1 now.second B.ensures.some.1 behind.1)) (if-numbers c.args.fresh.at c.args.fresh.wanted N.result now.fresh N.ensures.some kept)))
           (ap (λ (l : List (ℕ × Cell)). (c.args.parent_at, A.result.0) ∷ (c.args.child_at, A.result.1) ∷ l) (joined _ (exchange_if c.args.first.at B.result.0 now.first ++ exchange_if c.args.second.at B.result.1 now.second) (exchange_if c.args.fresh.at N.result now.fresh) _ _ (joined _ (exchange_if c.args.first.at B.result.0 now.first) (exchange_if c.args.second.at B.result.1 now.second) _ _ (if-before c.args.first.at B.result.0 now.first behind.0) (if-before c.args.second.at B.result.1 now.second behind.1)) (if-before c.args.fresh.at N.result now.fresh kept)))
           (ap (λ (l : List (ℕ × Cell)). (c.args.parent_at, now.parent) ∷ (c.args.child_at, now.child) ∷ l) (joined _ (exchange_if c.args.first.at B.result.0 now.first ++ exchange_if c.args.second.at B.result.1 now.second) (exchange_if c.args.fresh.at N.result now.fresh) _ _ (joined _ (exchange_if c.args.first.at B.result.0 now.first) (exchange_if c.args.second.at B.result.1 now.second) _ _ (if-now c.args.first.at B.result.0 now.first behind.0) (if-now c.args.second.at B.result.1 now.second behind.1)) (if-now c.args.fresh.at N.result now.fresh kept)))
           (ap (λ (l : List Change). change c.args.parent_at (cell_of A.result.0) (cell_of now.parent) ∷ change c.args.child_at (cell_of A.result.1) (cell_of now.child) ∷ l) (joined _ (exchange_if c.args.first.at B.result.0 now.first ++ exchange_if c.args.second.at B.result.1 now.second) (exchange_if c.args.fresh.at N.result now.fresh) _ _ (joined _ (exchange_if c.args.first.at B.result.0 now.first) (exchange_if c.args.second.at B.result.1 now.second) _ _ (if-changes c.args.first.at B.result.0 now.first) (if-changes c.args.second.at B.result.1 now.second)) (if-changes c.args.fresh.at N.result now.fresh)))
-          out.rest c.lift-actor.ensures.rest
+          out.rest refl
           (given-both N.new.cells.items c.put_both.new.cells.items c.put_two.new.cells.items ((c.args.parent_at, now.parent) ∷ (c.args.child_at, now.child) ∷ []) ((cell_if c.args.first.at now.first ++ cell_if c.args.second.at now.second) ++ (cell_if c.args.fresh.at now.fresh))
-          (given-both N.new.cells.items c.put_if.new.cells.items c.put_both.new.cells.items (cell_if c.args.first.at now.first ++ cell_if c.args.second.at now.second) (cell_if c.args.fresh.at now.fresh) c.put_if.ensures.value c.put_both.ensures.value) c.put_two.ensures.value) c.put_actor.ensures.value
-          (hold-out c.args.h.now cells _ c.args.state.now.actors.items c.requires.state c.args.number (GoesDown c.args.h.now c.args.parent_at c.args.child_at c.args.first c.args.second c.args.fresh) _ things c.requires.ready out c.lift-actor.result c.lift-actor.ensures.value)
+          (given-both N.new.cells.items c.put_if.new.cells.items c.put_both.new.cells.items (cell_if c.args.first.at now.first ++ cell_if c.args.second.at now.second) (cell_if c.args.fresh.at now.fresh) c.put_if.ensures.value c.put_both.ensures.value) c.put_two.ensures.value) (put-over c.args.state.now.actors.items c.args.number _)
+          (hold-out c.args.h.now cells _ c.args.state.now.actors.items c.requires.state c.args.number (GoesDown c.args.h.now c.args.parent_at c.args.child_at c.args.first c.args.second c.args.fresh) _ things c.requires.ready out c.in-Some.actor (lent-is c.args.state.now.actors.items c.args.number c.index_mut.result.now c.in-Some.actor c.requires.ready.actor c.index_mut.ensures.value c.in-Some.is))
           c.down.ensures.made (λ s w same is inv. tt);
     }

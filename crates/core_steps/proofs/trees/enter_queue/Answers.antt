@@ -1,10 +1,10 @@
-use Rattle.std.proofs.Common.{List, [], ◌∷◌}
+use Rattle.std.proofs.Common.{List, [], ◌∷◌, refl}
 use Rattle.core_steps.specs.AskedParts.{EntersQueue}
 use Rattle.volap_cell.specs.State.{Exchange, exchange}
 use Rattle.volap_cell.specs.declared.kind.Kind.TheVariants.{EnterQueue}
 use Rattle.volap_cell.proofs.States.{drives}
 use Rattle.volap_cell.proofs.Outcomes.{on-ok, on-err}
-use Rattle.core_steps.proofs.Ready.{can-lift, can-step, may-hold, step-here}
+use Rattle.core_steps.proofs.Ready.{can-lift, can-step, lent-is, may-hold, put-over, step-here}
 use Rattle.core_steps.proofs.Staying.{stays-so}
 use Rattle.core_steps.proofs.trees.enter_queue.Goals as goal
 
@@ -14,19 +14,19 @@ lift_two-map-requires c = record { there = can-lift c.args.h.now c.args.state.no
 pub enter_queue-entered-requires-clause-here : goal.enter_queue-entered-requires-clause-here
 enter_queue-entered-requires-clause-here c =
     let r = c.lift_two-map.result in
-    step-here c.args.h.now c.args.state.now.cells.items c.args.state.now.actors.items c.requires.state c.args.number (EntersQueue c.args.map_at c.args.gate_at) ((c.args.map_at, r.0) ∷ (c.args.gate_at, r.1) ∷ []) c.requires.ready c.lift_two-map.ensures.value c.lift-actor.result c.lift-actor.ensures.value
+    step-here c.args.h.now c.args.state.now.cells.items c.args.state.now.actors.items c.requires.state c.args.number (EntersQueue c.args.map_at c.args.gate_at) ((c.args.map_at, r.0) ∷ (c.args.gate_at, r.1) ∷ []) c.requires.ready c.lift_two-map.ensures.value c.in-Some.actor (lent-is c.args.state.now.actors.items c.args.number c.index_mut.result.now c.in-Some.actor c.requires.ready.actor c.index_mut.ensures.value c.in-Some.is)
 
 pub enter_queue-entered-requires-clause-due : goal.enter_queue-entered-requires-clause-due
 enter_queue-entered-requires-clause-due c =
     let r = c.lift_two-map.result in
-    can-step c.args.h.now c.args.state.now.cells.items c.args.state.now.actors.items c.requires.state c.args.number (EntersQueue c.args.map_at c.args.gate_at) ((c.args.map_at, r.0) ∷ (c.args.gate_at, r.1) ∷ []) c.requires.ready c.lift_two-map.ensures.value c.lift-actor.result c.lift-actor.ensures.value
+    can-step c.args.h.now c.args.state.now.cells.items c.args.state.now.actors.items c.requires.state c.args.number (EntersQueue c.args.map_at c.args.gate_at) ((c.args.map_at, r.0) ∷ (c.args.gate_at, r.1) ∷ []) c.requires.ready c.lift_two-map.ensures.value c.in-Some.actor (lent-is c.args.state.now.actors.items c.args.number c.index_mut.result.now c.in-Some.actor c.requires.ready.actor c.index_mut.ensures.value c.in-Some.is)
 
 pub returns : goal.returns
 returns c =
     let r = c.lift_two-map.result in
     let xs : List Exchange = exchange c.args.map_at r.0 c.enter_queue-entered.new.map ∷ exchange c.args.gate_at r.1 c.enter_queue-entered.new.gate ∷ [] in
-    let may = may-hold c.args.h.now c.args.state.now.cells.items c.args.state.now.actors.items c.requires.state c.args.number (EntersQueue c.args.map_at c.args.gate_at) ((c.args.map_at, r.0) ∷ (c.args.gate_at, r.1) ∷ []) c.requires.ready c.lift_two-map.ensures.value c.lift-actor.result c.lift-actor.ensures.value in
+    let may = may-hold c.args.h.now c.args.state.now.cells.items c.args.state.now.actors.items c.requires.state c.args.number (EntersQueue c.args.map_at c.args.gate_at) ((c.args.map_at, r.0) ∷ (c.args.gate_at, r.1) ∷ []) c.requires.ready c.lift_two-map.ensures.value c.in-Some.actor (lent-is c.args.state.now.actors.items c.args.number c.index_mut.result.now c.in-Some.actor c.requires.ready.actor c.index_mut.ensures.value c.in-Some.is) in
     record {
-      stepped = on-ok c.enter_queue-entered.result c.enter_queue-entered.ensures.made (λ m. drives c.args.h.now EnterQueue c.args.state.now.cells.items _ _ c.args.state.now.actors.items _ _ xs c.args.number c.lift-actor.result c.enter_queue-entered.new.actor c.lift_two-map.ensures.rest c.lift-actor.ensures.rest c.put_two.ensures.value c.put_actor.ensures.value may m (λ s w same is inv. tt));
-      stays = on-err c.enter_queue-entered.result c.enter_queue-entered.ensures.refused (λ k. stays-so c.args.state.now.cells.items _ _ c.args.state.now.actors.items _ _ xs c.args.number c.lift-actor.result c.enter_queue-entered.new.actor c.lift_two-map.ensures.rest c.lift-actor.ensures.rest c.put_two.ensures.value c.put_actor.ensures.value may (k.0, (k.1, tt)) k.2);
+      stepped = on-ok c.enter_queue-entered.result c.enter_queue-entered.ensures.made (λ m. drives c.args.h.now EnterQueue c.args.state.now.cells.items _ _ c.args.state.now.actors.items _ _ xs c.args.number c.in-Some.actor c.enter_queue-entered.new.actor c.lift_two-map.ensures.rest refl c.put_two.ensures.value (put-over c.args.state.now.actors.items c.args.number _) may m (λ s w same is inv. tt));
+      stays = on-err c.enter_queue-entered.result c.enter_queue-entered.ensures.refused (λ k. stays-so c.args.state.now.cells.items _ _ c.args.state.now.actors.items _ _ xs c.args.number c.in-Some.actor c.enter_queue-entered.new.actor c.lift_two-map.ensures.rest refl c.put_two.ensures.value (put-over c.args.state.now.actors.items c.args.number _) may (k.0, (k.1, tt)) k.2);
     }
