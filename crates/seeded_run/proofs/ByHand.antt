@@ -1,12 +1,21 @@
--- Later moments of a phase.
-use Rattle.std.proofs.Common.{◌≡◌, ◌∙◌, ◌&&◌, ℕ, Bool, true, false, Option, Some, None, is_none, length, refl, ap}
+-- Later moments of a phase, and the moves between them.
+use Rattle.std.proofs.Common.{rules, not, ◌≡◌, ◌≢◌, ◌∙◌, ◌&&◌, ◌<◌, ◌+◌, inl, ℕ, suc, Bool, true, false, Option, Some, None, is_none, List, [], ◌∷◌, ◌++◌, length, take, slice_get, refl, sym, ap, subst, arith}
+use Rattle.core_image.proofs.NextAction.{inside, take-more}
+use Rattle.std.specs.Prelude.{IfOk, OnErr, Result, Ok, Err}
+use Rattle.std.specs.Option.{option_eq, option_map_or}
+use Rattle.volap_cell.specs.Setting.{Setting, actor_count}
 use Rattle.volap_cell.specs.Values.{actor_of}
+use Rattle.volap_cell.specs.World.{World}
 use Rattle.volap_cell.specs.declared.actor.Actor.{Actor}
+use Rattle.volap_cell.specs.contracts.kind.KindPartialEq.TheImpl as test_of
 use Rattle.volap_cell.specs.declared.kind.Kind.{Kind}
-use Rattle.seeded_run.specs.ByHand.{IsLater}
+use Rattle.seeded_run.specs.ByHand.{AreMoves, CannotMove, CannotMoveAt, HasMoved, HasMovedTo, IsLater, Moves, MovesTo, StopsAmong, StopsAmongAt}
+use Rattle.seeded_run.specs.Can.{can, can_step, meets}
 use Rattle.seeded_run.specs.Commands.{may_begin}
+use Rattle.seeded_run.specs.Due.{due}
 use Rattle.seeded_run.specs.Kept.{IsStopped}
-use Rattle.seeded_run.specs.Machine.{HasTurned, IsPhaseHeld, about_in, cursor, phase_of, world_of}
+use Rattle.seeded_run.specs.Machine.{HasTurned, IsPhaseHeld, TakesTurn, about_in, can_in, cursor, phase_of, world_of}
+use Rattle.seeded_run.specs.Rests.{PhaseRun}
 use Rattle.seeded_run.specs.Steps.{begins_of_one}
 use Rattle.seeded_run.specs.declared.machine.Running.{Running}
 use Rattle.seeded_run.proofs.Begun.{turned-then}
@@ -60,3 +69,115 @@ no-both false b e = refl
 pub never-begins : (k : Kind) → may_begin k ≡ false → (o : Option Actor) → begins_of_one o k ≡ false
 never-begins k never None = refl
 never-begins k never (Some a) = no-both (is_none (actor_of a).command) (may_begin k) never
+
+-- One move.
+
+no-way : {X : Type 0} → false ≡ true → X
+no-way never = cc
+
+-- kinds that are told apart by no test are one
+same-kind : (a b : Kind) → test_of.eq-value.it a b ≡ true → a ≡ b
+same-kind a b same = search rules
+
+not-false : (b : Bool) → false ≡ not b → b ≡ true
+not-false true e = refl
+not-false false e = no-way e
+
+pub same-told : (a b : Option Kind) → false ≡ not (option_eq test_of.eq-value.it a b) → a ≡ b
+same-told None None e = refl
+same-told None (Some b) e = no-way e
+same-told (Some a) None e = no-way e
+same-told (Some a) (Some b) e = ap Some (same-kind a b (not-false _ e))
+
+none-able : (s : Setting) (p : PhaseRun) (w : World) (n : ℕ) → due s p w n ≡ None → can s p w n ≡ false
+none-able s p w n none = ap (λ (o : Option Kind). option_map_or (meets s w n) o false) none
+
+-- for whom nothing is due can make no step
+none-due : (in_order : Bool) (s : Setting) (p : PhaseRun) (w : World) (n : ℕ) → due s p w n ≡ None → can_step in_order s p w n ≡ false
+none-due false s p w n none = none-able s p w n none
+none-due true s p w n none = no-both _ (can s p w n) (none-able s p w n none)
+
+module _ (m : Running) (n : ℕ) where
+  -- who can make no step is told none,
+  pub rests-as-told : (n < actor_count (about_in m) → can_in m n ≡ false) → (told : Option Kind) → is_none told ≡ true → MovesTo m n told m
+  rests-as-told stuck None none = (stuck, refl)
+  rests-as-told stuck (Some k) none = no-way none
+
+  -- and can't move where it is told another;
+  pub cannot-as-told : (n < actor_count (about_in m) → can_in m n ≡ false) → (told : Option Kind) → is_none told ≡ false → CannotMoveAt m n told × (world_of m ≡ world_of m)
+  cannot-as-told stuck (Some k) some = (λ other is can low. no-way (sym (stuck low) ∙ can), refl)
+  cannot-as-told stuck None some = no-way (sym some)
+
+  -- nor can who is told another kind than the one that is due;
+  pub cannot-another : (told : Option Kind) → due (about_in m) (phase_of m) (world_of m) n ≢ told → can_in m n ≡ true → CannotMoveAt m n told × (world_of m ≡ world_of m)
+  cannot-another (Some k) other can = (λ named is able low. other is, refl)
+  cannot-another None other can = (can, refl)
+
+  -- and whose turn it is moves as it is told.
+  pub moves-as-told : (now : Running) (told : Option Kind) → due (about_in m) (phase_of m) (world_of m) n ≡ told → can_in m n ≡ true → TakesTurn m n now → MovesTo m n told now
+  moves-as-told now (Some k) is can turn = (inl is, turn.turn)
+  moves-as-told now None is can turn = no-way (sym (none-due m.in_order (about_in m) (phase_of m) (world_of m) n is) ∙ can)
+
+-- Moves.
+
+-- one more behind others
+one-more : (in_order : Bool) (s : Setting) (p : PhaseRun) (w x now : World) (moves : List (ℕ × Option Kind)) (move : ℕ × Option Kind)
+    → AreMoves in_order s p w moves x → Moves in_order s p x move.0 move.1 now → AreMoves in_order s p w (moves ++ move ∷ []) now
+one-more in_order s p w x now [] move are moved = (now, subst (λ y. Moves in_order s p y move.0 move.1 now) are moved, refl)
+one-more in_order s p w x now (first ∷ moves) move are moved = (are.0, are.1, one-more in_order s p are.0 x now moves move are.2 moved)
+
+module _ (m x now : Running) (later : IsLater m x) (moves : List (ℕ × Option Kind)) (i : ℕ) where
+  abbrev AreMade : ℕ → Running → Type 0
+  AreMade count to = AreMoves m.in_order (about_in m) (phase_of m) (world_of m) (take count moves) (world_of to)
+
+  -- the next one is made
+  pub makes-one-more : (move : ℕ × Option Kind) → slice_get moves i ≡ Some move → AreMade i x → MovesTo x move.0 move.1 now → AreMade (i + 1) now
+  makes-one-more move at made moved =
+      let as_first = as-before (λ b s p d. Moves b s p (world_of x) move.0 move.1 (world_of now)) m x later.same later.about moved in
+      let on : suc i ≡ i + 1 = omega arith in
+      subst (λ k. AreMade k now) on (subst (λ ms. AreMoves m.in_order (about_in m) (phase_of m) (world_of m) ms (world_of now)) (sym (take-more i moves move at))
+      (one-more m.in_order (about_in m) (phase_of m) (world_of m) (world_of x) (world_of now) (take i moves) move made as_first))
+
+  -- the next one can't be made, and nothing changed
+  pub made-up-to : (move : ℕ × Option Kind) → slice_get moves i ≡ Some move → AreMade i x → IsLater m now → world_of now ≡ world_of x → CannotMoveAt now move.0 move.1 → HasMovedTo m moves i now
+  made-up-to move at made later_now same cannot =
+      let cannot_here = as-before (λ b s p d. CannotMove b s p (world_of now) move.0 move.1) m now later_now.same later_now.about cannot in
+      let low = inside i moves move at in
+      record {
+        within = omega (arith, low);
+        made = subst (AreMoves m.in_order (about_in m) (phase_of m) (world_of m) (take i moves)) (sym same) made;
+        next = λ other there. subst (λ (o : ℕ × Option Kind). CannotMove m.in_order (about_in m) (phase_of m) (world_of now) o.0 o.1) (one-value move other (sym at ∙ there)) cannot_here;
+      }
+    where
+      one-value : (a b : ℕ × Option Kind) → ◌≡◌ {A = Option (ℕ × Option Kind)} (Some a) (Some b) → a ≡ b
+      one-value a b is = cc
+
+  -- all were made
+  pub made-all : i ≡ length moves → AreMade i x → HasMovedTo m moves (length moves) x
+  made-all end made = record {
+    within = omega arith;
+    made = subst (λ k. AreMade k x) end made;
+    next = λ other there. absurd (omega (arith, inside (length moves) moves other there));
+  }
+
+-- In order it is looked up first whose command is the first one. The moves are those of the phase that begins.
+module _ (m x now : Running) (is : x ≡ record m { begun = x.begun; first = x.first }) (moves : List (ℕ × Option Kind)) where
+  moved-first : (count : ℕ) → HasMovedTo x moves count now → HasMovedTo m moves count now
+  moved-first count moved =
+      let later = after-look m x is in
+      subst (λ w. HasMoved m.in_order (about_in m) (phase_of m) w moves count (world_of now)) (ap world_of is)
+      (as-before (λ b s p d. HasMoved b s p (world_of x) moves count (world_of now)) m x later.same later.about moved)
+
+  stopped-first : StopsAmongAt x moves now → StopsAmongAt m moves now
+  stopped-first stopped =
+      let later = after-look m x is in
+      subst (λ w. StopsAmong m.in_order (about_in m) (phase_of m) w moves (world_of now)) (ap world_of is)
+      (as-before (λ b s p d. StopsAmong b s p (world_of x) moves (world_of now)) m x later.same later.about stopped)
+
+  pub moved-from-first : {E : Type 0} (r : Result ℕ E) → IfOk r (λ count. HasMovedTo x moves count now) → IfOk r (λ count. HasMovedTo m moves count now)
+  moved-from-first (Ok count) moved = moved-first count moved
+  moved-from-first (Err e) moved = tt
+
+  pub stopped-from-first : {E : Type 0} (r : Result ℕ E) → OnErr r (StopsAmongAt x moves now) → OnErr r (StopsAmongAt m moves now)
+  stopped-from-first (Ok count) stopped = tt
+  stopped-from-first (Err e) stopped = stopped-first stopped

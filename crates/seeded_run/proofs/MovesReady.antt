@@ -1,5 +1,5 @@
 -- Where the end of a move is due for the administrator, the core has what its kind asks, and its purse has one spare left for the new gate.
-use Rattle.std.proofs.Common.{◌≡◌, ◌≢◌, ◌∙◌, ℕ, ◌+◌, ◌-◌, ◌^◌, ◌<◌, true, false, List, [], ◌∷◌, ◌++◌, length, Option, Some, None, refl, sym, ap, subst, inl, inr, arith}
+use Rattle.std.proofs.Common.{◌≡◌, ◌≢◌, ◌∙◌, ℕ, ◌+◌, ◌^◌, ◌<◌, true, false, List, [], ◌∷◌, ◌++◌, length, Option, Some, None, refl, sym, ap, subst, inl, inr, arith}
 use Rattle.std.proofs.lemmas.List.{length-map}
 use Rattle.cell_stock.specs.Stock.{cells_of}
 use Rattle.cell_stock.specs.declared.purse.Spare.{Spare}

@@ -1,11 +1,12 @@
 //! A phase of which the steps are made by hand: who makes the next one is up to the caller.
-ghost use Rattle.std.specs.Prelude.{◌≡◌, ◌++◌, ◌<◌, true, false, length};
-ghost use Rattle.seeded_run.specs.ByHand.{IsLater, IsOfJob, may_find_none};
+ghost use Rattle.std.specs.Prelude.{◌≡◌, ◌++◌, ◌<◌, true, false, length, IfOk, OnErr, Some};
+ghost use Rattle.seeded_run.specs.ByHand.{CannotMoveAt, HasMoved, HasMovedTo, IsLater, IsOfJob, MovesTo, StopsAmong, StopsAmongAt, may_find_none};
 ghost use Rattle.seeded_run.specs.Due.{due};
 ghost use Rattle.seeded_run.specs.Jobs.{CanGiveUpBy};
 ghost use Rattle.seeded_run.specs.Kept.{IsBetween, IsStopped};
 ghost use Rattle.seeded_run.specs.Machine.{AreFirstCursors, HasTurned, HoldsNow, IsDueNow, IsFirstMoment, IsPhaseHeld, IsSamePhase, about_in, can_in, phase_of, world_of};
 ghost use Rattle.seeded_run.specs.Phase.{ClosesLast, IsCoreHeld, MayAllRun, about, held, phase_from};
+ghost use Rattle.volap_cell.specs.declared.kind.Kind.TheVariants as kind_is;
 
 use crate::jobs::{give_up, has_frozen_by};
 use crate::look;
@@ -70,6 +71,8 @@ impl<'a> Running<'a> {
         requires can { can_in self.old actor ≡ true }
         ensures holds { HoldsNow self.new }
         ensures later { IsLater self.old self.new }
+        ensures moved { result ≡ true → MovesTo self.old actor (Some kind_is.Postpone) self.new }
+        ensures none { result ≡ false → self.new ≡ self.old }
     {
         let number = actor as usize;
         let Some(kind) = self.due(actor) else {
@@ -94,6 +97,9 @@ impl<'a> Running<'a> {
         requires holds { HoldsNow self.old }
         ensures holds { HoldsNow self.new }
         ensures later { IsLater self.old self.new }
+        ensures moved { IfOk result (λ could. could ≡ true → MovesTo self.old actor kind self.new) }
+        ensures cannot { IfOk result (λ could. could ≡ false → CannotMoveAt self.new actor kind × (world_of self.new ≡ world_of self.old)) }
+        ensures rests { OnErr result (world_of self.new ≡ world_of self.old) }
     {
         if actor >= self.actors() || !self.can_step(actor) {
             return Ok(kind.is_none());
@@ -113,6 +119,8 @@ impl<'a> Running<'a> {
         requires holds { HoldsNow self.old }
         ensures holds { HoldsNow self.new }
         ensures later { IsLater self.old self.new }
+        ensures moved { IfOk result (λ count. HasMovedTo self.old moves.now count self.new) }
+        ensures stopped { OnErr result (StopsAmongAt self.old moves.now self.new) }
     {
         for (place, (actor, kind)) in moves.iter().enumerate() {
             if !self.make_move(alloc, *actor, *kind)? {
@@ -129,6 +137,8 @@ fn make_whole(running: &mut Running, alloc: Global, moves: &[Move]) -> Result<us
     ensures held { IsPhaseHeld running.new }
     ensures same { IsSamePhase running.old running.new }
     ensures about { about_in running.new ≡ about_in running.old }
+    ensures moved { IfOk result (λ count. HasMovedTo running.old moves.now count running.new) }
+    ensures stopped { OnErr result (StopsAmongAt running.old moves.now running.new) }
     ensures into { IsStopped running.old.in_order (about_in running.old) (phase_of running.old) running.old.done.now (world_of running.new) }
 {
     running.look_first(0);
@@ -153,6 +163,8 @@ fn make_from(
     requires between { IsBetween false (about h.now with.now state.old) with.now done.now (held h.now with.now state.old) }
     ensures core { IsCoreHeld h.now with.now state.new }
     ensures about { about h.now with.now state.new ≡ about h.now with.now state.old }
+    ensures moved { IfOk result (λ count. HasMoved false (about h.now with.now state.old) (phase_from h.now with.now phase.now state.old) (held h.now with.now state.old) moves.now count (held h.now with.now state.new)) }
+    ensures stopped { OnErr result (StopsAmong false (about h.now with.now state.old) (phase_from h.now with.now phase.now state.old) (held h.now with.now state.old) moves.now (held h.now with.now state.new)) }
     ensures into { IsStopped false (about h.now with.now state.old) (phase_from h.now with.now phase.now state.old) done.now (held h.now with.now state.new) }
 {
     let left = streams_open(&next, phase.len());
@@ -202,6 +214,8 @@ pub fn run_by_hand(
     requires between { IsBetween false (about h.now with.now state.old) with.now done.now (held h.now with.now state.old) }
     ensures core { IsCoreHeld h.now with.now state.new }
     ensures about { about h.now with.now state.new ≡ about h.now with.now state.old }
+    ensures moved { IfOk result (λ count. HasMoved false (about h.now with.now state.old) (phase_from h.now with.now phase.now state.old) (held h.now with.now state.old) moves.now count (held h.now with.now state.new)) }
+    ensures stopped { OnErr result (StopsAmong false (about h.now with.now state.old) (phase_from h.now with.now phase.now state.old) (held h.now with.now state.old) moves.now (held h.now with.now state.new)) }
     ensures into { IsStopped false (about h.now with.now state.old) (phase_from h.now with.now phase.now state.old) done.now (held h.now with.now state.new) }
 {
     match first_cursors(alloc, with, phase, state.actors.len()) {
