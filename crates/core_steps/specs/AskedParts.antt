@@ -66,13 +66,13 @@ EndsAt gate_at gate cells a = ⊥
 abbrev pub FinishesPart : HeldIf → List CellValue → ActorValue → Type 0
 FinishesPart gate cells a = EndsAt gate.at (first_if gate.wanted cells) (rest_if gate.wanted cells) a
 
--- a directory and the child; the next two of its group, and the cell of the last spare
-abbrev pub GoesDown : List Dimension → ℕ → ℕ → HeldIf → HeldIf → HeldIf → List CellValue → ActorValue → Type 0
-GoesDown h parent_at child_at first second fresh (parent ∷ child ∷ cells) a =
-    CanDown h parent_at parent child_at child
+-- a directory, and the child to which the entry at a place leads; the next two of its group, and the cell of the last spare
+abbrev pub GoesDown : List Dimension → ℕ → ℕ → ℕ → HeldIf → HeldIf → HeldIf → List CellValue → ActorValue → Type 0
+GoesDown h parent_at place child_at first second fresh (parent ∷ child ∷ cells) a =
+    CanDown h parent_at parent place child_at child
     (two_if first.at (first_if first.wanted cells) second.at (first_if second.wanted (rest_if first.wanted cells)))
     (held_if fresh.at (first_if fresh.wanted (rest_if second.wanted (rest_if first.wanted cells)))) a
-GoesDown h parent_at child_at first second fresh cells a = ⊥
+GoesDown h parent_at place child_at first second fresh cells a = ⊥
 
 -- a table, a gate and the root; the next two of the root's group, and the cells of the last two spares
 abbrev pub EntersTree : List Dimension → ℕ → ℕ → ℕ → HeldIf → HeldIf → HeldIf → HeldIf → List CellValue → ActorValue → Type 0

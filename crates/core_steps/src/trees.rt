@@ -157,14 +157,15 @@ pub fn give_back(h: &Hierarchy, state: &mut State, number: usize, stock_at: u32)
     put_one(cells, stock_at, stock);
 }
 
-/// An actor's row goes from a directory down to the child that comes first for it. Where that is full, the
-/// next two blocks of its group are held, as many as there are, and the cell of the last spare. Takes no
-/// memory.
+/// An actor's row goes from a directory down to the child that comes first for it, to which the entry at a
+/// place leads. Where that is full, the next two blocks of its group are held, as many as there are, and the
+/// cell of the last spare. Takes no memory.
 pub fn down(
     h: &Hierarchy,
     state: &mut State,
     number: usize,
     parent_at: u32,
+    place: u8,
     child_at: u32,
     first: HeldIf,
     second: HeldIf,
@@ -172,7 +173,7 @@ pub fn down(
 )
     requires state { HasInv h.now state.old.cells.items state.old.actors.items }
     requires ready { MayStep state.old.cells.items state.old.actors.items (parent_at ∷ child_at ∷ (number_of first ++ number_of second) ++ number_of fresh) number
-        (GoesDown h.now parent_at child_at first second fresh) }
+        (GoesDown h.now parent_at place child_at first second fresh) }
     ensures stepped { Stepped h.now Down number state.old.cells.items state.old.actors.items state.new.cells.items state.new.actors.items }
 {
     let (cells, actors) = (&mut state.cells, &mut state.actors);
@@ -186,6 +187,7 @@ pub fn down(
         h,
         parent_at,
         &mut parent,
+        place,
         child_at,
         &mut child,
         first.at,

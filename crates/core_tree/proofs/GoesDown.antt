@@ -68,8 +68,8 @@ pub record GivenDown (parent child : CellValue) (tail : List Change) (h : List D
   pub made : has_block child ≡ true
   pub can : CanStep h row (block_in parent) (block_in child) (blocks_of tail) purse boxes
 
-module _ (gates : GateLaw) (blocks : BlockLaw) (childs : ChildLaw) (behinds : BehindLaw) (fits : BehindFitsLaw) (h : List Dimension) (at : ℕ) (parent : CellValue) (child_at : ℕ) (child : CellValue) (tail fresh : List Change) (a : ActorValue)
-    (k : IsHere h (held at parent ∷ held child_at child ∷ (tail ++ fresh)) a) (due : CanDown h at parent child_at child tail fresh a) (e : ErrandValue) (r : RowErrand) (gate : ℕ) (has : HasRow a e r) (carried : r.way ≡ Carried gate at) where
+module _ (gates : GateLaw) (blocks : BlockLaw) (childs : ChildLaw) (behinds : BehindLaw) (fits : BehindFitsLaw) (h : List Dimension) (at : ℕ) (parent : CellValue) (place child_at : ℕ) (child : CellValue) (tail fresh : List Change) (a : ActorValue)
+    (k : IsHere h (held at parent ∷ held child_at child ∷ (tail ++ fresh)) a) (due : CanDown h at parent place child_at child tail fresh a) (e : ErrandValue) (r : RowErrand) (gate : ℕ) (has : HasRow a e r) (carried : r.way ≡ Carried gate at) where
   abbrev s : Setting
   s = a.setting
 
@@ -110,8 +110,8 @@ module _ (gates : GateLaw) (blocks : BlockLaw) (childs : ChildLaw) (behinds : Be
   tail-was = each-map (λ (c : Change). w.cells c.number ≡ c.before) (λ (c : Change). v.blocks c.number ≡ block_in c.before) tail (λ c e. ap block_in e)
       (each-left (λ (c : Change). w.cells c.number ≡ c.before) tail fresh k.agrees.cells.1.1)
 
-  entry-at : slice_get (entries_in (v.blocks at).body) due.place ≡ Some due.entry
-  entry-at = ap (λ (b : Block). slice_get (entries_in b.body) due.place) parent-was ∙ due.entry_at
+  entry-at : slice_get (entries_in (v.blocks at).body) place ≡ Some due.entry
+  entry-at = ap (λ (b : Block). slice_get (entries_in b.body) place) parent-was ∙ due.entry_at
 
   tall : IsHierarchy s.hierarchy
   tall = i.numbering.setting.hierarchy
@@ -120,19 +120,19 @@ module _ (gates : GateLaw) (blocks : BlockLaw) (childs : ChildLaw) (behinds : Be
   parent-fits = blocks table cells shape at here.tree tall here.inside here.apart
 
   below : IsBelow cells shape due.entry.child (shape.level at)
-  below = childs table cells shape at due.place due.entry here.tree here.inside here.apart entry-at
+  below = childs table cells shape at place due.entry here.tree here.inside here.apart entry-at
 
   child-fits : BlockFits table cells due.entry.child
   child-fits = blocks table cells shape due.entry.child here.tree tall below.inside below.block
 
   behind-fits : (m : ℕ) → BehindFits table cells due.entry m
-  behind-fits m = fits table cells shape at due.place m due.entry here.tree tall here.inside here.apart entry-at
+  behind-fits m = fits table cells shape at place m due.entry here.tree tall here.inside here.apart entry-at
 
   few-there : (v.trees gate).agg.count < 2 ^ 31
   few-there = (let n = tree-few s v g i gates gate here.whole in let m = i.owing.few in omega arith)
 
   entry-few : due.entry.agg.count ≤ (v.trees gate).agg.count
-  entry-few = all-at (λ (x : Entry). x.agg.count ≤ (v.trees gate).agg.count) (entries_in (v.blocks at).body) due.place due.entry entry-at parent-fits.entries
+  entry-few = all-at (λ (x : Entry). x.agg.count ≤ (v.trees gate).agg.count) (entries_in (v.blocks at).body) place due.entry entry-at parent-fits.entries
 
   -- the blocks that are lent, and no more rows are beneath them than the entry counts
   lent : All (λ (b : Block). IsBodyOf s.hierarchy b.body) (blocks_of tail) × (row_count (together (v.blocks due.entry.child).body (blocks_of tail)) ≤ due.entry.agg.count)
@@ -160,7 +160,7 @@ module _ (gates : GateLaw) (blocks : BlockLaw) (childs : ChildLaw) (behinds : Be
       let count = lent.1 in
       record {
         room = (here.tree.blocks at here.inside here.apart).room r.row.no here.in_tree.placed here.carried here.at;
-        entries = some-at (entries_in (v.blocks at).body) due.place due.entry entry-at;
+        entries = some-at (entries_in (v.blocks at).body) place due.entry entry-at;
         parent_valid = parent-fits.body;
         child_valid = child-fits.body;
         row_valid = subst (IsRowOf s.hierarchy) here.known (here.tree.numbered r.row.no here.in_tree.placed).1;
@@ -180,23 +180,24 @@ module _ (gates : GateLaw) (blocks : BlockLaw) (childs : ChildLaw) (behinds : Be
         (subst (λ (x : Block). CanStep s.hierarchy r.row (v.blocks at) x (blocks_of tail) a.purse a.boxes) child-was can-at));
   }
 
+-- the place is that of the entry for the row that the actor has
+pub picked-for : (h : List Dimension) (at : ℕ) (parent : CellValue) (place child_at : ℕ) (child : CellValue) (tail fresh : List Change) (a : ActorValue) (e : ErrandValue) (r : RowErrand)
+    → CanDown h at parent place child_at child tail fresh a → HasRow a e r → IsPick h r.row.at (map (λ (x : Entry). x.set) (entries_in (block_in parent).body)) place
+picked-for h at parent place child_at child tail fresh a e r due has =
+    let row_same : due.r ≡ r = (let k : Some due.e ≡ Some e = sym due.has.errand ∙ has.errand in let es : due.e ≡ e = cc in let ts : OfRow due.r ≡ OfRow r = sym due.has.row ∙ ap (λ (z : ErrandValue). z.task) es ∙ has.row in cc) in
+    subst (λ (z : RowErrand). IsPick h z.row.at (map (λ (x : Entry). x.set) (entries_in (block_in parent).body)) place) row_same due.picked
+
 -- what the call did
 pub down-makes : OtherLaw → CollectOtherLaw → DownLaw → ChildLaw → BehindLaw → (h : List Dimension) (at : ℕ) (parent : CellValue) (child_at : ℕ) (child : CellValue)
     (first_at : ℕ) (first : Option CellValue) (second_at : ℕ) (second : Option CellValue) (fresh_at : ℕ) (fresh fresh_now : Option CellValue) (a b : ActorValue) (e : ErrandValue) (r : RowErrand) (gate y : ℕ)
     (p p2 c c2 : Block) (purse purse2 : PurseValue) (place to : ℕ)
-    → CanDown h at parent child_at child (two_if first_at first second_at second) (held_if fresh_at fresh) a → parent ≡ BlockCell p → child ≡ BlockCell c → HasRow a e r → r.way ≡ Carried gate y → purse.spares ≡ a.purse
-    → IsPick h r.row.at (map (λ (x : Entry). x.set) (entries_in p.body)) place → ((other : ℕ) → IsPick h r.row.at (map (λ (x : Entry). x.set) (entries_in p.body)) other → other ≡ place)
+    → CanDown h at parent place child_at child (two_if first_at first second_at second) (held_if fresh_at fresh) a → parent ≡ BlockCell p → child ≡ BlockCell c → HasRow a e r → r.way ≡ Carried gate y → purse.spares ≡ a.purse
     → WentDown h r.row place (blocks_if first second) p p2 c c2 purse purse2 fresh fresh_now a.boxes b.boxes to → b ≡ record a { purse = purse2.spares; boxes = b.boxes; errand = on_way e r (Carried gate to) }
     → Makes h Down (change at parent (BlockCell p2) ∷ change child_at child (BlockCell c2) ∷ (two_if first_at first second_at second ++ change_if fresh_at fresh fresh_now)) a b
-down-makes other collects downs childs behinds h at parent child_at child first_at first second_at second fresh_at fresh fresh_now a b e r gate y p p2 c c2 purse purse2 place to due is_p is_c has carried same_purse picked only went actor_is =
+down-makes other collects downs childs behinds h at parent child_at child first_at first second_at second fresh_at fresh fresh_now a b e r gate y p p2 c c2 purse purse2 place to due is_p is_c has carried same_purse went actor_is =
     let tail = two_if first_at first second_at second in
-    let row_same : due.r ≡ r = (let k : Some due.e ≡ Some e = sym due.has.errand ∙ has.errand in let es : due.e ≡ e = cc in let ts : OfRow due.r ≡ OfRow r = sym due.has.row ∙ ap (λ (z : ErrandValue). z.task) es ∙ has.row in cc) in
     let parent_is : block_in parent ≡ p = ap block_in is_p in
     let child_is : block_in child ≡ c = ap block_in is_c in
-    let due_picked : IsPick h r.row.at (map (λ (x : Entry). x.set) (entries_in p.body)) due.place =
-    subst (λ (z : RowErrand). IsPick h z.row.at (map (λ (x : Entry). x.set) (entries_in p.body)) due.place) row_same
-    (subst (λ (z : Block). IsPick h due.r.row.at (map (λ (x : Entry). x.set) (entries_in z.body)) due.place) parent_is due.picked) in
-    let place_is : due.place ≡ place = only due.place due_picked in
     let blocks_are : blocks_if first second ≡ blocks_of tail = held-blocks first_at first second_at second (tail-are due.entry.stamp (block_in child) tail due.behind).0 in
     let step : StepsDown h r.row place (blocks_of tail) p p2 c c2 purse purse2 went.entered = subst (λ (bs : List Block). StepsDown h r.row place bs p p2 c c2 purse purse2 went.entered) blocks_are went.step in
     let for_new = subst (λ (ss : List Spare). AreForNew (is_full (block_in child).body) 1 ss (held_if fresh_at fresh)) (sym same_purse) due.for_new in
@@ -216,9 +217,9 @@ down-makes other collects downs childs behinds h at parent child_at child first_
       head = c;
       head_now = c2;
       place = place;
-      picked = picked;
+      picked = subst (λ (z : Block). IsPick h r.row.at (map (λ (x : Entry). x.set) (entries_in z.body)) place) parent_is (picked-for h at parent place child_at child tail (held_if fresh_at fresh) a e r due has);
       entry = due.entry;
-      entry_at = ap (λ (z : Block). slice_get (entries_in z.body) place) (sym parent_is) ∙ ap (slice_get (entries_in (block_in parent).body)) (sym place_is) ∙ due.entry_at;
+      entry_at = ap (λ (z : Block). slice_get (entries_in z.body) place) (sym parent_is) ∙ due.entry_at;
       child = due.child_is;
       tail = tail;
       fresh = change_if fresh_at fresh fresh_now;

@@ -46,14 +46,13 @@ abbrev pub AreForNew : Bool → ℕ → List Spare → List Change → Type 0
 AreForNew true most purse changes = (length changes ≡ most) × AreLast purse changes
 AreForNew false most purse changes = changes ≡ []
 
--- The actor carries its row at a directory. The child is the one that comes first for the row; where it is full the next two blocks
--- of its group are held, or as many as there are, and the cell of the last spare.
-pub record CanDown (h : List Dimension) (at : ℕ) (parent : CellValue) (child_at : ℕ) (child : CellValue) (tail fresh : List Change) (a : ActorValue) : Type 0 where
+-- The actor carries its row at a directory. The entry at the place comes first for the row, and leads to the child; where that is full
+-- the next two blocks of its group are held, or as many as there are, and the cell of the last spare.
+pub record CanDown (h : List Dimension) (at : ℕ) (parent : CellValue) (place child_at : ℕ) (child : CellValue) (tail fresh : List Change) (a : ActorValue) : Type 0 where
   pub carried : MustKeep a at
   pub e : ErrandValue
   pub r : RowErrand
   pub has : HasRow a e r
-  pub place : ℕ
   pub picked : IsPick h r.row.at (each (λ e. e.set) (entries_in (block_in parent).body)) place
   pub entry : Entry
   pub entry_at : slice_get (entries_in (block_in parent).body) place ≡ Some entry

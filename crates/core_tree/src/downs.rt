@@ -1,4 +1,4 @@
-ghost use Rattle.std.specs.Prelude.{ℕ, ◌≡◌, ◌+◌, ◌<◌, [], ◌∷◌, ◌++◌, Some, length, map, option_map, is_some, slice_get};
+ghost use Rattle.std.specs.Prelude.{◌≡◌, ◌+◌, ◌<◌, [], ◌∷◌, ◌++◌, Some, length, map, option_map, is_some, slice_get};
 ghost use Rattle.dc_node.specs.Block.{entries_in};
 ghost use Rattle.dc_node.specs.declared.entry.Entry.{Entry};
 ghost use Rattle.core_tree.specs.Descent.{CanDown, CanStep, block_if, blocks_if, two_if};
@@ -13,7 +13,7 @@ ghost use Rattle.volap_cell.specs.declared.kind.Kind.TheVariants.{Down};
 use cell_stock::Purse;
 use dc_node::Block;
 use dim_hierarchy::{Hierarchy, Row};
-use link_descent::{Tail, pass_down, pick};
+use link_descent::{Tail, pass_down};
 use tree_shape::{collect_laws, frame_law, insert_laws, tree_laws};
 use volap_cell::{Actor, Boxes, Cell, Task, Way, go_on};
 
@@ -35,11 +35,12 @@ fn child_at(parent: &Block, place: u8) -> u32
     parent.entries()[usize::from(place)].child
 }
 
-/// Takes a row from a directory down to the child that comes first for it, with the blocks behind the
-/// child that are held. Where the child has room the row is counted beneath its entry, and that is all.
-/// Tells where the row is carried then.
+/// Takes a row from a directory down to the child to which the entry at a place leads, the one that comes
+/// first for it, with the blocks behind the child that are held. Where the child has room the row is counted
+/// beneath its entry, and that is all. Tells where the row is carried then.
 fn step(
     parent: &mut Block,
+    place: u8,
     child: &mut Block,
     first: &Option<Cell>,
     second: &Option<Cell>,
@@ -49,16 +50,12 @@ fn step(
     h: &Hierarchy,
     row: &Row,
 ) -> u32
-    requires { CanStep h.now row.now parent.old child.old (blocks_if (option_map cell_of first.now) (option_map cell_of second.now)) purse.old.spares boxes.old }
-    ensures { (place : ℕ)
-        × IsPick h.now row.now.at (map (λ e. e.set) (entries_in parent.old.body)) place
-        × ((other : ℕ) → IsPick h.now row.now.at (map (λ e. e.set) (entries_in parent.old.body)) other → other ≡ place)
-        × WentDown h.now row.now place (blocks_if (option_map cell_of first.now) (option_map cell_of second.now))
+    requires can { CanStep h.now row.now parent.old child.old (blocks_if (option_map cell_of first.now) (option_map cell_of second.now)) purse.old.spares boxes.old }
+    requires picked { IsPick h.now row.now.at (map (λ e. e.set) (entries_in parent.old.body)) place }
+    ensures { WentDown h.now row.now place (blocks_if (option_map cell_of first.now) (option_map cell_of second.now))
         parent.old parent.new child.old child.new purse.old purse.new
         (option_map cell_of fresh.old) (option_map cell_of fresh.new) boxes.old boxes.new result }
 {
-    let lineages = h.lineages(&row.at);
-    let place = pick(parent, h, &lineages);
     if !child.is_full() {
         let at = child_at(parent, place);
         pass_down(parent, place, h, row);
@@ -70,13 +67,15 @@ fn step(
     boxes.step_down(parent, place, child, &tail, fresh, purse, h, row)
 }
 
-/// Takes the row that the actor carries down to the child that comes first for it, of which the head is
-/// divided where it is full. Then the next two blocks of its group are lent too, as many as there are,
-/// and the cell of the last spare is held for the new block. Takes no memory.
+/// Takes the row that the actor carries down to the child that comes first for it, to which the entry at a
+/// place leads. The head of the child's group is divided where it is full. Then the next two blocks of the
+/// group are lent too, as many as there are, and the cell of the last spare is held for the new block. Takes
+/// no memory.
 pub fn down(
     h: &Hierarchy,
     parent_at: u32,
     parent: &mut Cell,
+    place: u8,
     child_at: u32,
     child: &mut Cell,
     first_at: u32,
@@ -89,7 +88,7 @@ pub fn down(
 )
     requires here { IsHere h.now (held parent_at (cell_of parent.old) ∷ held child_at (cell_of child.old)
         ∷ two_if first_at (option_map cell_of first.old) second_at (option_map cell_of second.old) ++ held_if fresh_at (option_map cell_of fresh.old)) (actor_of actor.old) }
-    requires due { CanDown h.now parent_at (cell_of parent.old) child_at (cell_of child.old)
+    requires due { CanDown h.now parent_at (cell_of parent.old) place child_at (cell_of child.old)
         (two_if first_at (option_map cell_of first.old) second_at (option_map cell_of second.old)) (held_if fresh_at (option_map cell_of fresh.old)) (actor_of actor.old) }
     ensures made { Makes h.now Down (change parent_at (cell_of parent.old) (cell_of parent.new) ∷ change child_at (cell_of child.old) (cell_of child.new)
         ∷ (change_if first_at (option_map cell_of first.old) (option_map cell_of first.new) ++ change_if second_at (option_map cell_of second.old) (option_map cell_of second.new))
@@ -118,7 +117,7 @@ pub fn down(
     };
     let (purse, boxes) = (&mut actor.purse, &mut actor.boxes);
     let block = step(
-        parent, child, first, second, fresh, purse, boxes, h, &going.row,
+        parent, place, child, first, second, fresh, purse, boxes, h, &going.row,
     );
     go_on(&mut actor.errand, Way::Carried { gate, block });
 }

@@ -60,7 +60,7 @@ use Rattle.seeded_run.specs.Core.{HasCore, IsCore, IsDue}
 use Rattle.seeded_run.specs.Due.{led_to, may_enter}
 use Rattle.seeded_run.specs.Led.{gate_led}
 use Rattle.seeded_run.specs.Look.{cell_at, setting_by, world_by}
-use Rattle.seeded_run.specs.Rows.{IsBeforeLast, IsOfLast, entry_for, first_behind, lead_at, lead_down, lead_of, lead_on, purse_by, purse_of_one, root_lead, second_behind}
+use Rattle.seeded_run.specs.Rows.{IsBeforeLast, IsOfLast, first_behind, lead_at, lead_down, lead_of, lead_on, no_lead, purse_by, purse_of_one, root_lead, second_behind}
 use Rattle.seeded_run.specs.Takes.{CanPick}
 use Rattle.seeded_run.specs.declared.rows.Lead.{Lead}
 use Rattle.seeded_run.proofs.DueParts.{at-part, part-case}
@@ -211,11 +211,11 @@ module _ (h : List Dimension) (with : Use) (cells : List (Option Cell)) (actors 
     abbrev entry : Entry
     entry = entry-there.0
 
-    for-row : entry_for h r.row (block_in (w.cells block)) ≡ Some entry
-    for-row = ap (option_and_then (λ (place : ℕ). slice_get entries place)) picked.2 ∙ entry-there.1
-
-    lead-seen : lead_at h w.cells (Some e) ≡ record { child = entry.child; stamp = entry.stamp }
-    lead-seen = ap (lead_down h w.cells) row ∙ ap (lead_on h w.cells r.row) way_is ∙ ap lead_of for-row
+    lead-seen : lead_at h w.cells (Some e) ≡ record { child = entry.child; stamp = entry.stamp; place = picked.0 }
+    lead-seen =
+        ap (lead_down h w.cells) row ∙ ap (lead_on h w.cells r.row) way_is
+        ∙ ap (λ (o : Option ℕ). option_map_or (λ (place : ℕ). lead_of place (slice_get entries place)) o no_lead) picked.2
+        ∙ ap (lead_of picked.0) entry-there.1
 
     below : IsBelow tree_cells shape entry.child (shape.level block)
     below = leads-down table tree_cells shape block picked.0 entry here.tree here.inside here.apart entry-there.1
@@ -285,13 +285,12 @@ module _ (h : List Dimension) (with : Use) (cells : List (Option Cell)) (actors 
       own : CanHold cells w n block
       own = hold-own h with cells actors s w is n block (carried-own (w.actors n) e r gate block errand row way_is)
 
-      can : CanDown h block (w.cells block) entry.child (w.cells entry.child) (lent_as w.cells behind) (lent_as w.cells (number_if x full)) (w.actors n)
+      can : CanDown h block (w.cells block) picked.0 entry.child (w.cells entry.child) (lent_as w.cells behind) (lent_as w.cells (number_if x full)) (w.actors n)
       can = record {
         carried = carried-own (w.actors n) e r gate block errand row way_is;
         e = e;
         r = r;
         has = has;
-        place = picked.0;
         picked = picked.1;
         entry = entry;
         entry_at = entry-there.1;
@@ -306,14 +305,14 @@ module _ (h : List Dimension) (with : Use) (cells : List (Option Cell)) (actors 
       abbrev second : Option ℕ
       second = second_behind w.cells entry-there.0.stamp (first_behind entry-there.0.stamp (block_in (w.cells entry-there.0.child)))
 
-      down-at : MayStep cells actors (block ∷ entry.child ∷ (behind ++ number_if x full)) n (GoesDown h block entry.child (held_pin first) (held_pin second) (record { at = x; wanted = full }))
-      down-at = steps-with h with cells actors s w is (block ∷ entry.child ∷ (behind ++ number_if x full)) n (GoesDown h block entry.child (held_pin first) (held_pin second) (record { at = x; wanted = full }))
+      down-at : MayStep cells actors (block ∷ entry.child ∷ (behind ++ number_if x full)) n (GoesDown h block picked.0 entry.child (held_pin first) (held_pin second) (record { at = x; wanted = full }))
+      down-at = steps-with h with cells actors s w is (block ∷ entry.child ∷ (behind ++ number_if x full)) n (GoesDown h block picked.0 entry.child (held_pin first) (held_pin second) (record { at = x; wanted = full }))
           (own, (hold-free h with cells actors s w is n entry.child child-used.1 child-free, held-others))
           ((child-off, off-parent), (off-child, others-apart))
           (at-part-there h with cells actors s w is n e errand)
-          (subst (λ (t : List Change). CanDown h block (w.cells block) entry.child (w.cells entry.child) t (held_if x (first_if full (rest_if (held_pin second).wanted (rest_if (held_pin first).wanted (map w.cells (behind ++ number_if x full)))))) (w.actors n))
+          (subst (λ (t : List Change). CanDown h block (w.cells block) picked.0 entry.child (w.cells entry.child) t (held_if x (first_if full (rest_if (held_pin second).wanted (rest_if (held_pin first).wanted (map w.cells (behind ++ number_if x full)))))) (w.actors n))
           (sym (tail-lent w.cells first second (number_if x full)))
-          (subst (λ (t : List Change). CanDown h block (w.cells block) entry.child (w.cells entry.child) (lent_as w.cells behind) t (w.actors n)) (sym (one-lent w.cells first second x full)) can))
+          (subst (λ (t : List Change). CanDown h block (w.cells block) picked.0 entry.child (w.cells entry.child) (lent_as w.cells behind) t (w.actors n)) (sym (one-lent w.cells first second x full)) can))
 
   -- what one sees of it
 
@@ -327,9 +326,9 @@ module _ (h : List Dimension) (with : Use) (cells : List (Option Cell)) (actors 
       by None at errand = (let never : ◌≡◌ {A = Option ErrandValue} None (Some e) = sym (ap errand_of_one at) ∙ errand in absurd (cc))
       by (Some a) at errand = can-pick h with cells actors s w n is (within actors n a at) a at (λ table there shape b tree tall inside off. block-fits table there shape tree b inside off tall) e (sym (ap errand_of_one at) ∙ errand)
 
-  abbrev MayGoDown : (at child : ℕ) (first second : HeldIf) (x : ℕ) (wanted : Bool) → Type 0
-  MayGoDown at child first second x wanted =
-      MayStep cells actors (at ∷ child ∷ (number_of first ++ number_of second) ++ number_if x wanted) n (GoesDown h at child first second (record { at = x; wanted = wanted }))
+  abbrev MayGoDown : (at place child : ℕ) (first second : HeldIf) (x : ℕ) (wanted : Bool) → Type 0
+  MayGoDown at place child first second x wanted =
+      MayStep cells actors (at ∷ child ∷ (number_of first ++ number_of second) ++ number_if x wanted) n (GoesDown h at place child first second (record { at = x; wanted = wanted }))
 
   -- the blocks behind a head, and whether it is full
 
@@ -345,13 +344,14 @@ module _ (h : List Dimension) (with : Use) (cells : List (Option Cell)) (actors 
   pub down-ready : (at : ℕ) (l : Lead) (first second : HeldIf) (x : ℕ) (wanted : Bool) → at ≡ block_on (way_at (errand_by actors n)) → l ≡ lead_at h (cell_at cells) (errand_by actors n)
       → first ≡ held_pin (first_behind l.stamp (block_in (cell_at cells l.child))) → second ≡ held_pin (second_behind (cell_at cells) l.stamp (first_behind l.stamp (block_in (cell_at cells l.child))))
       → IsOfLast (purse_by actors n) x → wanted ≡ is_full (block_in (cell_at cells l.child)).body → IsDue h with cells actors n Down
-      → MayStep cells actors (at ∷ l.child ∷ (number_of first ++ number_of second) ++ number_if x wanted) n (GoesDown h at l.child first second (record { at = x; wanted = wanted }))
+      → MayStep cells actors (at ∷ l.child ∷ (number_of first ++ number_of second) ++ number_if x wanted) n (GoesDown h at l.place l.child first second (record { at = x; wanted = wanted }))
   down-ready at l first second x wanted at_is l_is first_is second_is last wanted_is due =
       let d = due s w is in
       let p = at-part s w d.rest n Down d.due_is refl in
       let k = part-case w (w.actors n) (led_to s w p.e) p.e.task Down p.due in
       let entry : Entry = (entry-there p.e p.errand k.r k.row k.gate k.block k.way_is k.is_leaf_is d.meets_it).0 in
-      let found : Lead = record { child = entry.child; stamp = entry.stamp } in
+      let place : ℕ = (picked p.e p.errand k.r k.row k.gate k.block k.way_is k.is_leaf_is d.meets_it).0 in
+      let found : Lead = record { child = entry.child; stamp = entry.stamp; place = place } in
       let at_same : k.block ≡ at = sym (at_is ∙ ap block_on (way-seen h with cells actors n core p.e k.r p.errand k.row ∙ k.way_is)) in
       let lead_same : found ≡ l = sym (l_is ∙ ap (λ (f : ℕ → CellValue). lead_at h f (errand_by actors n)) (sym same-cells) ∙ ap (lead_at h w.cells) (errand-seen h with cells actors n core p.e p.errand)
       ∙ lead-seen p.e p.errand k.r k.row k.gate k.block k.way_is k.is_leaf_is d.meets_it) in
@@ -360,11 +360,11 @@ module _ (h : List Dimension) (with : Use) (cells : List (Option Cell)) (actors 
       let full_same : full_of l ≡ wanted = sym (wanted_is ∙ ap (λ (f : ℕ → CellValue). is_full (block_in (f l.child)).body) (sym same-cells)) in
       let there = at-part-there h with cells actors s w is n p.e p.errand in
       let step = down-at p.e p.errand k.r k.row k.gate k.block k.way_is k.is_leaf_is d.meets_it x (subst (λ (ys : List Spare). IsOfLast ys x) (purse-seen there) last) in
-      subst (λ (b : Bool). MayGoDown at l.child first second x b) full_same
-      (subst (λ (z : HeldIf). MayGoDown at l.child first z x (full_of l)) second_same
-      (subst (λ (z : HeldIf). MayGoDown at l.child z (second_of l) x (full_of l)) first_same
-      (subst (λ (m : Lead). MayGoDown at m.child (first_of m) (second_of m) x (full_of m)) lead_same
-      (subst (λ (z : ℕ). MayGoDown z entry.child (first_of found) (second_of found) x (full_of found)) at_same step))))
+      subst (λ (b : Bool). MayGoDown at l.place l.child first second x b) full_same
+      (subst (λ (z : HeldIf). MayGoDown at l.place l.child first z x (full_of l)) second_same
+      (subst (λ (z : HeldIf). MayGoDown at l.place l.child z (second_of l) x (full_of l)) first_same
+      (subst (λ (m : Lead). MayGoDown at m.place m.child (first_of m) (second_of m) x (full_of m)) lead_same
+      (subst (λ (z : ℕ). MayGoDown z place entry.child (first_of found) (second_of found) x (full_of found)) at_same step))))
 
   -- A gate and its root.
 

@@ -1,6 +1,7 @@
 -- What a row's step in a tree holds, as one thread sees it that holds a core's cells and actors: where the row goes down, the blocks
 -- behind a full head, and the cells of the last spares.
 use Rattle.std.specs.Prelude.{ℕ, ◌≡◌, ◌==◌, if◌then◌else◌, List, [], ◌∷◌, ◌++◌, map, slice_get, get_or, Option, Some, None, option_and_then}
+use Rattle.std.specs.Option.{option_map_or}
 use Rattle.cell_stock.specs.declared.purse.Spare.{Spare}
 use Rattle.dc_node.specs.Block.{entries_in, is_full}
 use Rattle.dc_node.specs.declared.block.Block.{Block}
@@ -19,25 +20,25 @@ use Rattle.seeded_run.specs.declared.rows.Lead.{Lead}
 -- Where a row goes.
 
 abbrev pub no_lead : Lead
-no_lead = record { child = 0; stamp = 0 }
+no_lead = record { child = 0; stamp = 0; place = 0 }
 
--- the head to which an entry leads, and the stamp that it expects of the last block of the head's group
-abbrev pub lead_of : Option Entry → Lead
-lead_of None = no_lead
-lead_of (Some e) = record { child = e.child; stamp = e.stamp }
+-- the head to which the entry at a place leads, and the stamp that it expects of the last block of the head's group
+abbrev pub lead_of : ℕ → Option Entry → Lead
+lead_of place None = no_lead
+lead_of place (Some e) = record { child = e.child; stamp = e.stamp; place = place }
 
 -- a gate leads to its root
 abbrev pub root_lead : Gate → Lead
-root_lead gate = record { child = gate.root; stamp = gate.stamp }
+root_lead gate = record { child = gate.root; stamp = gate.stamp; place = 0 }
 
--- the entry of a directory that comes first for a row
-abbrev pub entry_for : List Dimension → Row → Block → Option Entry
-entry_for h row block =
-    option_and_then (λ place. slice_get (entries_in block.body) place) (pick_place h row.at (map (λ (e : Entry). e.set) (entries_in block.body)))
+-- by the entry of a directory that comes first for a row
+abbrev pub lead_for : List Dimension → Row → Block → Lead
+lead_for h row block =
+    option_map_or (λ place. lead_of place (slice_get (entries_in block.body) place)) (pick_place h row.at (map (λ (e : Entry). e.set) (entries_in block.body))) no_lead
 
 -- of a row that is carried at a block
 abbrev pub lead_on : List Dimension → (ℕ → CellValue) → Row → Way → Lead
-lead_on h cells row (Carried gate block) = lead_of (entry_for h row (block_in (cells block)))
+lead_on h cells row (Carried gate block) = lead_for h row (block_in (cells block))
 lead_on h cells row _ = no_lead
 
 -- of a part that is a row's

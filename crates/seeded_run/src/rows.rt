@@ -5,7 +5,7 @@ ghost use Rattle.dim_hierarchy.specs.Row.{IsRowOf};
 ghost use Rattle.seeded_run.specs.AtWork.{errand_by, held_pin};
 ghost use Rattle.seeded_run.specs.Core.{HasCore, IsDue};
 ghost use Rattle.seeded_run.specs.Look.{cell_at};
-ghost use Rattle.seeded_run.specs.Rows.{IsBeforeLast, IsOfLast, entry_for, first_behind, lead_at, lead_down, lead_of, next_behind, purse_by, root_lead, second_behind};
+ghost use Rattle.seeded_run.specs.Rows.{IsBeforeLast, IsOfLast, first_behind, lead_at, lead_down, lead_for, no_lead, next_behind, purse_by, root_lead, second_behind};
 ghost use Rattle.seeded_run.specs.Takes.{CanPick};
 ghost use Rattle.volap_cell.specs.Cells.{block_in, way_in};
 ghost use Rattle.volap_cell.specs.State.{Has, Stepped};
@@ -25,18 +25,24 @@ use row_ledger::Use;
 use std::alloc::Global;
 use volap_cell::{Actor, Cell, Errand, State, Task, Way, lift, put_actor};
 
-/// The head that a row comes to next, and the stamp that is expected of the last block of its group.
+/// The head that a row comes to next, the stamp that is expected of the last block of its group, and the place
+/// of the entry that leads there, 0 where that is a gate.
 #[derive(Clone, Copy)]
 pub(crate) struct Lead {
     pub(crate) child: u32,
     pub(crate) stamp: u64,
+    pub(crate) place: u8,
 }
 
 /// No head.
 fn no_lead() -> Lead
-    ensures { result ≡ lead_of None }
+    ensures { result ≡ no_lead }
 {
-    Lead { child: 0, stamp: 0 }
+    Lead {
+        child: 0,
+        stamp: 0,
+        place: 0,
+    }
 }
 
 /// Where a row goes down from a block.
@@ -44,7 +50,7 @@ fn no_lead() -> Lead
 fn lead_from(h: &Hierarchy, block: &Block, row: &Row) -> Lead
     requires body { IsBodyOf h.now block.now.body }
     requires row { IsRowOf h.now row.now }
-    ensures { result ≡ lead_of (entry_for h.now row.now block.now) }
+    ensures { result ≡ lead_for h.now row.now block.now }
 {
     let entries = block.entries();
     if entries.is_empty() {
@@ -55,6 +61,7 @@ fn lead_from(h: &Hierarchy, block: &Block, row: &Row) -> Lead
     Lead {
         child: entry.child,
         stamp: entry.stamp,
+        place,
     }
 }
 
@@ -62,7 +69,7 @@ fn lead_from(h: &Hierarchy, block: &Block, row: &Row) -> Lead
 fn lead_in(h: &Hierarchy, cells: &[Option<Cell>], at: u32, row: &Row) -> Lead
     requires body { IsBodyOf h.now (block_in (cell_at cells.now at)).body }
     requires row { IsRowOf h.now row.now }
-    ensures { result ≡ lead_of (entry_for h.now row.now (block_in (cell_at cells.now at))) }
+    ensures { result ≡ lead_for h.now row.now (block_in (cell_at cells.now at)) }
 {
     match cell_at(cells, at) {
         Some(Cell::Block(block)) => lead_from(h, block, row),
@@ -114,6 +121,7 @@ fn lead_from_gate(cells: &[Option<Cell>], gate: u32) -> Lead
         Some(Cell::Gate(gate)) => Lead {
             child: gate.root,
             stamp: gate.stamp,
+            place: 0,
         },
         _ => no_lead(),
     }
@@ -259,7 +267,9 @@ pub(crate) fn down(h: &Hierarchy, with: &Use, state: &mut State, number: usize)
         wanted: is_full_at(&state.cells, head.child),
     };
     let (first, second) = (held(first), held(second));
-    core_steps::down(h, state, number, parent, head.child, first, second, fresh);
+    core_steps::down(
+        h, state, number, parent, head.place, head.child, first, second, fresh,
+    );
 }
 
 /// An actor's row comes in at its shard's gate, where that is due. Takes no memory.

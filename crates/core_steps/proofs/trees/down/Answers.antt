@@ -16,16 +16,16 @@ use Rattle.core_steps.proofs.AtTimes.{behind-two, can-out, first-of-two, given-b
 use Rattle.core_steps.proofs.trees.down.Goals as goal
 
 pub lift_two-parent-requires : goal.lift_two-parent-requires
-lift_two-parent-requires c = record { there = lift-some c.args.state.now.cells.items (c.args.parent_at ∷ c.args.child_at ∷ []) ((number_of c.args.first ++ number_of c.args.second) ++ (number_of c.args.fresh)) (can-lift c.args.h.now c.args.state.now.cells.items c.args.state.now.actors.items c.requires.state c.args.number (GoesDown c.args.h.now c.args.parent_at c.args.child_at c.args.first c.args.second c.args.fresh) ((c.args.parent_at ∷ c.args.child_at ∷ []) ++ ((number_of c.args.first ++ number_of c.args.second) ++ (number_of c.args.fresh))) c.requires.ready) }
+lift_two-parent-requires c = record { there = lift-some c.args.state.now.cells.items (c.args.parent_at ∷ c.args.child_at ∷ []) ((number_of c.args.first ++ number_of c.args.second) ++ (number_of c.args.fresh)) (can-lift c.args.h.now c.args.state.now.cells.items c.args.state.now.actors.items c.requires.state c.args.number (GoesDown c.args.h.now c.args.parent_at c.args.place c.args.child_at c.args.first c.args.second c.args.fresh) ((c.args.parent_at ∷ c.args.child_at ∷ []) ++ ((number_of c.args.first ++ number_of c.args.second) ++ (number_of c.args.fresh))) c.requires.ready) }
 
 pub lift_both-next-requires : goal.lift_both-next-requires
 lift_both-next-requires c =
-    let others = lift-others c.args.state.now.cells.items _ (c.args.parent_at ∷ c.args.child_at ∷ []) ((number_of c.args.first ++ number_of c.args.second) ++ (number_of c.args.fresh)) c.lift_two-parent.ensures.rest (can-lift c.args.h.now c.args.state.now.cells.items c.args.state.now.actors.items c.requires.state c.args.number (GoesDown c.args.h.now c.args.parent_at c.args.child_at c.args.first c.args.second c.args.fresh) ((c.args.parent_at ∷ c.args.child_at ∷ []) ++ ((number_of c.args.first ++ number_of c.args.second) ++ (number_of c.args.fresh))) c.requires.ready) in
+    let others = lift-others c.args.state.now.cells.items _ (c.args.parent_at ∷ c.args.child_at ∷ []) ((number_of c.args.first ++ number_of c.args.second) ++ (number_of c.args.fresh)) c.lift_two-parent.ensures.rest (can-lift c.args.h.now c.args.state.now.cells.items c.args.state.now.actors.items c.requires.state c.args.number (GoesDown c.args.h.now c.args.parent_at c.args.place c.args.child_at c.args.first c.args.second c.args.fresh) ((c.args.parent_at ∷ c.args.child_at ∷ []) ++ ((number_of c.args.first ++ number_of c.args.second) ++ (number_of c.args.fresh))) c.requires.ready) in
     record { there = lift-some _ (number_of c.args.first ++ number_of c.args.second) (number_of c.args.fresh) others }
 
 pub lift_if-new-requires : goal.lift_if-new-requires
 lift_if-new-requires c =
-    let others = lift-others c.args.state.now.cells.items _ (c.args.parent_at ∷ c.args.child_at ∷ []) ((number_of c.args.first ++ number_of c.args.second) ++ (number_of c.args.fresh)) c.lift_two-parent.ensures.rest (can-lift c.args.h.now c.args.state.now.cells.items c.args.state.now.actors.items c.requires.state c.args.number (GoesDown c.args.h.now c.args.parent_at c.args.child_at c.args.first c.args.second c.args.fresh) ((c.args.parent_at ∷ c.args.child_at ∷ []) ++ ((number_of c.args.first ++ number_of c.args.second) ++ (number_of c.args.fresh))) c.requires.ready) in
+    let others = lift-others c.args.state.now.cells.items _ (c.args.parent_at ∷ c.args.child_at ∷ []) ((number_of c.args.first ++ number_of c.args.second) ++ (number_of c.args.fresh)) c.lift_two-parent.ensures.rest (can-lift c.args.h.now c.args.state.now.cells.items c.args.state.now.actors.items c.requires.state c.args.number (GoesDown c.args.h.now c.args.parent_at c.args.place c.args.child_at c.args.first c.args.second c.args.fresh) ((c.args.parent_at ∷ c.args.child_at ∷ []) ++ ((number_of c.args.first ++ number_of c.args.second) ++ (number_of c.args.fresh))) c.requires.ready) in
     record { there = lift-others _ _ (number_of c.args.first ++ number_of c.args.second) (number_of c.args.fresh) c.lift_both-next.ensures.rest others }
 
 pub down-requires-clause-here : goal.down-requires-clause-here
@@ -40,7 +40,7 @@ down-requires-clause-here c =
     (out-both _ _ _ (number_of c.args.first ++ number_of c.args.second) (number_of c.args.fresh) (cell_if c.args.first.at B.result.0 ++ cell_if c.args.second.at B.result.1) (cell_if c.args.fresh.at N.result) c.requires.ready.apart.1.1
     (out-two _ _ c.args.first c.args.second B.result.0 B.result.1 B.ensures.some B.ensures.value B.ensures.rest)
     (out-if _ _ c.args.fresh.at c.args.fresh.wanted N.result N.ensures.some N.ensures.value N.ensures.rest)) in
-    here-out c.args.h.now cells _ c.args.state.now.actors.items c.requires.state c.args.number (GoesDown c.args.h.now c.args.parent_at c.args.child_at c.args.first c.args.second c.args.fresh) _ things c.requires.ready out c.in-Some.actor (lent-is c.args.state.now.actors.items c.args.number c.index_mut.result.now c.in-Some.actor c.requires.ready.actor c.index_mut.ensures.value c.in-Some.is) _
+    here-out c.args.h.now cells _ c.args.state.now.actors.items c.requires.state c.args.number (GoesDown c.args.h.now c.args.parent_at c.args.place c.args.child_at c.args.first c.args.second c.args.fresh) _ things c.requires.ready out c.in-Some.actor (lent-is c.args.state.now.actors.items c.args.number c.index_mut.result.now c.in-Some.actor c.requires.ready.actor c.index_mut.ensures.value c.in-Some.is) _
     (ap (λ (l : List Change). held c.args.parent_at (cell_of A.result.0) ∷ held c.args.child_at (cell_of A.result.1) ∷ l) (joined _ (cell_if c.args.first.at B.result.0 ++ cell_if c.args.second.at B.result.1) (cell_if c.args.fresh.at N.result) _ _
     (joined _ (cell_if c.args.first.at B.result.0) (cell_if c.args.second.at B.result.1) _ _ (if-still c.args.first.at B.result.0) (if-still c.args.second.at B.result.1)) (if-still c.args.fresh.at N.result)))
 
@@ -57,14 +57,14 @@ down-requires-clause-due c =
     (out-two _ _ c.args.first c.args.second B.result.0 B.result.1 B.ensures.some B.ensures.value B.ensures.rest)
     (out-if _ _ c.args.fresh.at c.args.fresh.wanted N.result N.ensures.some N.ensures.value N.ensures.rest)) in
     let vs : List CellValue = values_in ((cell_if c.args.first.at B.result.0 ++ cell_if c.args.second.at B.result.1) ++ (cell_if c.args.fresh.at N.result)) in
-    let can = can-out c.args.h.now cells _ c.args.state.now.actors.items c.requires.state c.args.number (GoesDown c.args.h.now c.args.parent_at c.args.child_at c.args.first c.args.second c.args.fresh) _ things c.requires.ready out c.in-Some.actor (lent-is c.args.state.now.actors.items c.args.number c.index_mut.result.now c.in-Some.actor c.requires.ready.actor c.index_mut.ensures.value c.in-Some.is) in
+    let can = can-out c.args.h.now cells _ c.args.state.now.actors.items c.requires.state c.args.number (GoesDown c.args.h.now c.args.parent_at c.args.place c.args.child_at c.args.first c.args.second c.args.fresh) _ things c.requires.ready out c.in-Some.actor (lent-is c.args.state.now.actors.items c.args.number c.index_mut.result.now c.in-Some.actor c.requires.ready.actor c.index_mut.ensures.value c.in-Some.is) in
     let e1 = first-of-two c.args.first c.args.second B.result.0 B.result.1 B.ensures.some (cell_if c.args.fresh.at N.result) in
     let e2 = second-of-two c.args.first c.args.second B.result.0 B.result.1 B.ensures.some (cell_if c.args.fresh.at N.result) in
     let r2 = behind-two c.args.first c.args.second B.result.0 B.result.1 B.ensures.some (cell_if c.args.fresh.at N.result) in
     let e3 = ap (λ (l : List CellValue). first_if c.args.fresh.wanted l) r2 ∙ only-is c.args.fresh.at c.args.fresh.wanted N.result N.ensures.some in
-    subst (λ (o : Option CellValue). CanDown c.args.h.now c.args.parent_at (cell_of A.result.0) c.args.child_at (cell_of A.result.1) (two_if c.args.first.at (option_map cell_of B.result.0) c.args.second.at (option_map cell_of B.result.1)) (held_if c.args.fresh.at o) (actor_of c.in-Some.actor)) e3
-    (subst (λ (o : Option CellValue). CanDown c.args.h.now c.args.parent_at (cell_of A.result.0) c.args.child_at (cell_of A.result.1) (two_if c.args.first.at (option_map cell_of B.result.0) c.args.second.at o) (held_if c.args.fresh.at (first_if c.args.fresh.wanted (rest_if c.args.second.wanted (rest_if c.args.first.wanted vs)))) (actor_of c.in-Some.actor)) e2
-    (subst (λ (o : Option CellValue). CanDown c.args.h.now c.args.parent_at (cell_of A.result.0) c.args.child_at (cell_of A.result.1) (two_if c.args.first.at o c.args.second.at (first_if c.args.second.wanted (rest_if c.args.first.wanted vs))) (held_if c.args.fresh.at (first_if c.args.fresh.wanted (rest_if c.args.second.wanted (rest_if c.args.first.wanted vs)))) (actor_of c.in-Some.actor)) e1 can))
+    subst (λ (o : Option CellValue). CanDown c.args.h.now c.args.parent_at (cell_of A.result.0) c.args.place c.args.child_at (cell_of A.result.1) (two_if c.args.first.at (option_map cell_of B.result.0) c.args.second.at (option_map cell_of B.result.1)) (held_if c.args.fresh.at o) (actor_of c.in-Some.actor)) e3
+    (subst (λ (o : Option CellValue). CanDown c.args.h.now c.args.parent_at (cell_of A.result.0) c.args.place c.args.child_at (cell_of A.result.1) (two_if c.args.first.at (option_map cell_of B.result.0) c.args.second.at o) (held_if c.args.fresh.at (first_if c.args.fresh.wanted (rest_if c.args.second.wanted (rest_if c.args.first.wanted vs)))) (actor_of c.in-Some.actor)) e2
+    (subst (λ (o : Option CellValue). CanDown c.args.h.now c.args.parent_at (cell_of A.result.0) c.args.place c.args.child_at (cell_of A.result.1) (two_if c.args.first.at o c.args.second.at (first_if c.args.second.wanted (rest_if c.args.first.wanted vs))) (held_if c.args.fresh.at (first_if c.args.fresh.wanted (rest_if c.args.second.wanted (rest_if c.args.first.wanted vs)))) (actor_of c.in-Some.actor)) e1 can))
 
 pub put_if-requires : goal.put_if-requires
 put_if-requires c = record { within = if-within c.lift_both-next.new.cells.items c.lift_if-new.new.cells.items c.args.fresh.at c.lift_if-new.result c.down.new.fresh (long-out c.lift_both-next.new.cells.items c.lift_if-new.new.cells.items (number_of c.args.fresh) c.lift_if-new.ensures.rest) c.down.ensures.held c.lift_if-new.ensures.value }
@@ -104,6 +104,6 @@ returns c =
           out.rest refl
           (given-both N.new.cells.items c.put_both.new.cells.items c.put_two.new.cells.items ((c.args.parent_at, now.parent) ∷ (c.args.child_at, now.child) ∷ []) ((cell_if c.args.first.at now.first ++ cell_if c.args.second.at now.second) ++ (cell_if c.args.fresh.at now.fresh))
           (given-both N.new.cells.items c.put_if.new.cells.items c.put_both.new.cells.items (cell_if c.args.first.at now.first ++ cell_if c.args.second.at now.second) (cell_if c.args.fresh.at now.fresh) c.put_if.ensures.value c.put_both.ensures.value) c.put_two.ensures.value) (put-over c.args.state.now.actors.items c.args.number _)
-          (hold-out c.args.h.now cells _ c.args.state.now.actors.items c.requires.state c.args.number (GoesDown c.args.h.now c.args.parent_at c.args.child_at c.args.first c.args.second c.args.fresh) _ things c.requires.ready out c.in-Some.actor (lent-is c.args.state.now.actors.items c.args.number c.index_mut.result.now c.in-Some.actor c.requires.ready.actor c.index_mut.ensures.value c.in-Some.is))
+          (hold-out c.args.h.now cells _ c.args.state.now.actors.items c.requires.state c.args.number (GoesDown c.args.h.now c.args.parent_at c.args.place c.args.child_at c.args.first c.args.second c.args.fresh) _ things c.requires.ready out c.in-Some.actor (lent-is c.args.state.now.actors.items c.args.number c.index_mut.result.now c.in-Some.actor c.requires.ready.actor c.index_mut.ensures.value c.in-Some.is))
           c.down.ensures.made (λ s w same is inv. tt);
     }
