@@ -1,7 +1,6 @@
 //! What the words of a command line want to run: a script from the source, with a seed or without, or
 //! the generated one.
-ghost use Rattle.std.specs.Prelude.{◌≡◌, ◌≤◌, ◌^◌, ◌∷◌, [], map, string_bytes, Some, None};
-ghost use Rattle.std.specs.Option.{MatchOption};
+ghost use Rattle.std.specs.Prelude.{◌≡◌, codes, map, option_and_then, option_map, string_bytes};
 ghost use Rattle.std.specs.Str.{bytes_eq};
 ghost use Rattle.olap_top.specs.Wanted.{behind, given, given_both, load_by, load_of, rows_of, seed_of, step_of, wanted};
 
@@ -55,13 +54,17 @@ fn rows_of(word: &[u8]) -> Option<u64>
 }
 
 /// What stands in a word behind the name of an option and an equals sign.
-fn behind<'a>(word: &'a [u8], name: &[u8]) -> Option<&'a [u8]> {
+fn behind<'a>(word: &'a [u8], name: &[u8]) -> Option<&'a [u8]>
+    ensures { option_map (λ text. text.now) result ≡ option_and_then (behind (codes "=")) (behind name.now word.now) }
+{
     word.strip_prefix(name)?.strip_prefix(b"=".as_slice())
 }
 
 /// What the first of these words give an option: the text behind its name, as a word or behind an
 /// equals sign; and the words behind that.
-fn given<'a>(name: &str, words: &'a [String]) -> Option<(&'a [u8], &'a [String])> {
+fn given<'a>(name: &str, words: &'a [String]) -> Option<(&'a [u8], &'a [String])>
+    ensures { option_map (λ one. (one.0.now, map string_bytes one.1.now)) result ≡ given name.now (map string_bytes words.now) }
+{
     let (word, rest) = words.split_first()?;
     if is_word(word, name) {
         let (text, rest) = rest.split_first()?;
@@ -72,7 +75,9 @@ fn given<'a>(name: &str, words: &'a [String]) -> Option<(&'a [u8], &'a [String])
 }
 
 /// What these words give two options, in this order.
-fn given_both<'a>(first: &str, second: &str, words: &'a [String]) -> Option<(&'a [u8], &'a [u8])> {
+fn given_both<'a>(first: &str, second: &str, words: &'a [String]) -> Option<(&'a [u8], &'a [u8])>
+    ensures { option_map (λ both. (both.0.now, both.1.now)) result ≡ given_both first.now second.now (map string_bytes words.now) }
+{
     let (one, rest) = given(first, words)?;
     let (two, rest) = given(second, rest)?;
     if rest.is_empty() {
