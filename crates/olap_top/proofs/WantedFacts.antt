@@ -1,6 +1,6 @@
 -- What words want, computed and meant.
-use Rattle.std.proofs.Common.{◌≡◌, ◌<◌, ◌≤◌, ◌×◌, ◌∙◌, ◌^◌, ℕ, List, [], ◌∷◌, ◌++◌, length, take, drop, Bool, true, false, ◌&&◌, Option, Some, None, ap, sym, subst, refl, arith, inl, inr, append-nil}
-use Rattle.std.specs.Prelude.{IfSome, nat_lt, nat_le, option_and_then, option_map, codes, if◌then◌else◌}
+use Rattle.std.proofs.Common.{◌≡◌, ◌<◌, ◌≤◌, ◌∙◌, ◌^◌, ℕ, List, [], ◌∷◌, ◌++◌, length, take, drop, Bool, true, false, ◌&&◌, Option, Some, None, ap, sym, subst, refl, arith, inl, inr, append-nil}
+use Rattle.std.specs.Prelude.{IfSome, nat_lt, nat_le, option_and_then, option_map, ◌⊎◌, codes, if◌then◌else◌}
 use Rattle.std.specs.Option.{option_map_or}
 use Rattle.std.specs.Str.{bytes_eq}
 use Rattle.std.proofs.lemmas.Bool.{and_parts}
@@ -8,7 +8,7 @@ use Rattle.std.proofs.lemmas.List.{take-append-drop}
 use Rattle.std.proofs.lemmas.Bool.Decides.{nat_tests}
 use Rattle.std.proofs.lemmas.Slice.Eq.{bytes_eq-Decides}
 use Rattle.script_form.specs.Fields.{number_of}
-use Rattle.olap_top.specs.Wanted.{AreFewRows, GiveBoth, GiveOption, Given, SpellsRows, SpellsSeed, Want, at_end, behind, below_2_64, first_word, from_1_to_most, given, given_both, load_by, load_of, most_rows, rows_of, seed_of, step_of, wanted}
+use Rattle.olap_top.specs.Wanted.{AreFewRows, GiveBoth, GiveOption, Given, SpellsRows, SpellsSeed, Want, at_end, behind, below_2_64, first_word, from_1_to_most, given, given_alone, given_both, load_by, load_of, most_rows, rows_of, seed_of, step_of, wanted}
 use Rattle.olap_top.specs.declared.wanted.Wanted.{Wanted}
 use Rattle.olap_top.specs.declared.wanted.Wanted.TheVariants.{Step, Seeded, Load}
 
@@ -117,34 +117,29 @@ record GivesBoth (first second : List ℕ) (words : List (List ℕ)) (texts : Li
   pub one : GiveOption first front texts.0
   pub two : GiveOption second back texts.1
 
+given_alone_is : (name : List ℕ) (words : List (List ℕ)) (text : List ℕ) → given_alone name words ≡ Some text → GiveOption name words text
+given_alone_is name words text is =
+    let one = then_some (λ (one : Given). at_end one.1 one.0) (given name words) text is in
+    let ended = end_some one.0.1 one.0.0 text one.2 in
+    let a = given_is name words one.0 one.1 in
+    let whole : words ≡ a.front = a.whole ∙ ap (λ l. a.front ++ l) ended.0 ∙ append-nil a.front in
+    subst (GiveOption name words) ended.1 (subst (λ l. GiveOption name l one.0.0) (sym whole) a.gives)
+
 given_both_is : (first second : List ℕ) (words : List (List ℕ)) (texts : List ℕ × List ℕ) → given_both first second words ≡ Some texts → GivesBoth first second words texts
 given_both_is first second words texts is =
-    let one = then_some (λ (one : Given). option_and_then (λ (two : Given). at_end two.1 (one.0, two.0)) (given second one.1)) (given first words) texts is in
-    let two = then_some (λ (two : Given). at_end two.1 (one.0.0, two.0)) (given second one.0.1) texts one.2 in
-    let ended = end_some two.0.1 (one.0.0, two.0.0) texts two.2 in
+    let one = then_some (λ (one : Given). option_map (λ two. (one.0, two)) (given_alone second one.1)) (given first words) texts is in
+    let two = map_some (λ (two : List ℕ). (one.0.0, two)) (given_alone second one.0.1) texts one.2 in
     let a = given_is first words one.0 one.1 in
-    let b = given_is second one.0.1 two.0 two.1 in
-    subst (GivesBoth first second words) ended.1
-    (record {
-      front = a.front;
-      back = b.front;
-      whole = a.whole ∙ ap (λ l. a.front ++ l) (b.whole ∙ ap (λ l. b.front ++ l) ended.0 ∙ append-nil b.front);
-      one = a.gives;
-      two = b.gives;
-    })
+    subst (GivesBoth first second words) two.2
+    (record { front = a.front; back = one.0.1; whole = a.whole; one = a.gives; two = given_alone_is second one.0.1 two.0 two.1 })
 
 step_is : (options : List (List ℕ)) (w : Wanted) → step_of options ≡ Some w → Want (codes "step" ∷ options) w
 step_is [] w is = subst (Want (codes "step" ∷ [])) (same_some Step w is) refl
 step_is (option ∷ more) w is =
     let options = option ∷ more in
-    let one = then_some (λ (one : Given). option_and_then (λ text. option_map Seeded (seed_of text)) (at_end one.1 one.0)) (given (codes "--seed") options) w is in
-    let text = then_some (λ text. option_map Seeded (seed_of text)) (at_end one.0.1 one.0.0) w one.2 in
-    let ended = end_some one.0.1 one.0.0 text.0 text.1 in
+    let text = then_some (λ text. option_map Seeded (seed_of text)) (given_alone (codes "--seed") options) w is in
     let seed = map_some Seeded (seed_of text.0) w text.2 in
-    let a = given_is (codes "--seed") options one.0 one.1 in
-    let whole : options ≡ a.front = a.whole ∙ ap (λ l. a.front ++ l) ended.0 ∙ append-nil a.front in
-    let gives : GiveOption (codes "--seed") options one.0.0 = subst (λ l. GiveOption (codes "--seed") l one.0.0) (sym whole) a.gives in
-    subst (Want (codes "step" ∷ options)) seed.2 (options, refl, text.0, subst (GiveOption (codes "--seed") options) ended.1 gives, spells text.0 seed.0 seed.1)
+    subst (Want (codes "step" ∷ options)) seed.2 (options, refl, (text.0, given_alone_is (codes "--seed") options text.0 text.1, spells text.0 seed.0 seed.1))
 
 -- a load whose numbers are spelled so
 record LoadBy (rows seed : List ℕ) (w : Wanted) : Type 0 where
@@ -225,10 +220,13 @@ none_given : (words : List (List ℕ)) (text : List ℕ) (rest : List (List ℕ)
 none_given words text rest (inl two) = rw two refl
 none_given words text rest (inr one) = rw one refl
 
+alone_given : (name : List ℕ) (words : List (List ℕ)) (text : List ℕ) → given name words ≡ Some (text, []) → given_alone name words ≡ Some text
+alone_given name words text one = ap (λ o. option_and_then (λ (x : Given). at_end x.1 x.0) o) one
+
 two_given : (first second : List ℕ) (words rest : List (List ℕ)) (a b : List ℕ) → given first words ≡ Some (a, rest) → given second rest ≡ Some (b, []) → given_both first second words ≡ Some (a, b)
 two_given first second words rest a b one two =
-    ap (λ o. option_and_then (λ (x : Given). option_and_then (λ (y : Given). at_end y.1 (x.0, y.0)) (given second x.1)) o) one
-    ∙ ap (λ o. option_and_then (λ (y : Given). at_end y.1 (a, y.0)) o) two
+    ap (λ o. option_and_then (λ (x : Given). option_map (λ y. (x.0, y)) (given_alone second x.1)) o) one
+    ∙ ap (λ o. option_map (λ y. (a, y)) o) (alone_given second rest b two)
 
 by_seed : (options : List (List ℕ)) (text : List ℕ) (seed : ℕ) → GiveOption (codes "--seed") options text → SpellsSeed text seed → wanted (codes "step" ∷ options) ≡ Some (Seeded seed)
 by_seed options text seed (inl two) spelt = rw (two, spelled text seed spelt) refl
@@ -265,7 +263,7 @@ by_load options rows seed give = by give.either_order
         let none : given (codes "--rows") options ≡ None = ap (given (codes "--rows")) first ∙ none_given give.for_seed seed_text give.for_rows give.seed_is.1 in
         let one : given (codes "--seed") options ≡ Some (seed_text, give.for_rows) = ap (given (codes "--seed")) first ∙ given_seed give.for_seed seed_text give.for_rows give.seed_is.1 in
         let two : given (codes "--rows") give.for_rows ≡ Some (rows_text, []) = ap (given (codes "--rows")) (sym (append-nil give.for_rows)) ∙ given_rows give.for_rows rows_text [] give.rows_are.1 in
-        ap else_by (ap (λ o. option_and_then (λ (x : Given). option_and_then (λ (y : Given). at_end y.1 (x.0, y.0)) (given (codes "--seed") x.1)) o) none)
+        ap else_by (ap (λ o. option_and_then (λ (x : Given). option_map (λ y. (x.0, y)) (given_alone (codes "--seed") x.1)) o) none)
         ∙ ap (λ o. option_and_then (λ (texts : List ℕ × List ℕ). load_by texts.1 texts.0) o) (two_given (codes "--seed") (codes "--rows") options give.for_rows seed_text rows_text one two)
         ∙ made
 

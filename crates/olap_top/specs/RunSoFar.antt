@@ -1,9 +1,10 @@
 -- What a run has made so far, and what a phase of it makes.
-use Rattle.std.specs.Prelude.{ℕ, ◌≡◌, ◌++◌, Bool, true, if◌then◌else◌, IfSome, is_some, List, []}
+use Rattle.std.specs.Prelude.{ℕ, ◌≡◌, ◌++◌, Bool, true, if◌then◌else◌, Option, Some, None, IfSome, is_some, List, [], take, drop}
 use Rattle.answer_text.specs.Printed.{phase_behind}
 use Rattle.answer_text.specs.Told.{HasTold}
 use Rattle.answer_text.specs.declared.text.Teller.{Teller}
 use Rattle.row_ledger.specs.declared.event.Event.{Event}
+use Rattle.row_ledger.specs.declared.settings.Use.{Use}
 use Rattle.script_form.specs.declared.script.Command.{Command}
 use Rattle.script_form.specs.declared.script.Script.{Script}
 use Rattle.script_run.specs.Runs.{IsRunSoFar, IsSerial}
@@ -36,6 +37,11 @@ pub record HasToldSo (s : Script) (done : List Command) (history : List Event) (
   pub more : List Event
   pub told : HasTold s.with done past teller
   pub grown : history ≡ more ++ past
+
+-- the text of the commands that a teller has not told; nothing without a teller
+abbrev pub untold_text : Option Teller → Use → List Command → List Event → List ℕ
+untold_text None with commands history = []
+untold_text (Some teller) with commands history = phase_behind with (take teller.told commands) (drop teller.told commands) history
 
 -- whether the run tells its phases
 abbrev pub tells : Run → Bool

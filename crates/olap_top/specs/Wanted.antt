@@ -88,14 +88,18 @@ abbrev pub at_end : {A : Type 0} → List (List ℕ) → A → Option A
 at_end [] a = Some a
 at_end (word ∷ rest) a = None
 
+-- what these words give an option, and nothing more
+abbrev pub given_alone : List ℕ → List (List ℕ) → Option (List ℕ)
+given_alone name words = option_and_then (λ (one : Given). at_end one.1 one.0) (given name words)
+
 -- what these words give two options, in this order
 abbrev pub given_both : List ℕ → List ℕ → List (List ℕ) → Option (List ℕ × List ℕ)
-given_both first second words = option_and_then (λ (one : Given). option_and_then (λ (two : Given). at_end two.1 (one.0, two.0)) (given second one.1)) (given first words)
+given_both first second words = option_and_then (λ (one : Given). option_map (λ two. (one.0, two)) (given_alone second one.1)) (given first words)
 
 -- `step` with these options
 abbrev pub step_of : List (List ℕ) → Option Wanted
 step_of [] = Some Step
-step_of (option ∷ more) = option_and_then (λ (one : Given). option_and_then (λ text. option_map Seeded (seed_of text)) (at_end one.1 one.0)) (given (codes "--seed") (option ∷ more))
+step_of (option ∷ more) = option_and_then (λ text. option_map Seeded (seed_of text)) (given_alone (codes "--seed") (option ∷ more))
 
 abbrev pub load_by : List ℕ → List ℕ → Option Wanted
 load_by rows seed = option_and_then (λ n. option_map (Load n) (seed_of seed)) (rows_of rows)

@@ -1,6 +1,8 @@
 // A script's run over the core, phase by phase, and what is told of it.
-ghost use Rattle.std.specs.Prelude.{◌≡◌, ◌≤◌, List, [], length, take, drop, reverse, IfOk, IfSome, OnErr, is_some};
-ghost use Rattle.answer_text.specs.Told.{IsTeller};
+ghost use Rattle.std.specs.Prelude.{◌≡◌, ◌≤◌, List, [], length, take, drop, reverse, IfOk, IfSome, OnOk, OnErr, is_some};
+ghost use Rattle.answer_text.specs.Marks.{RefersBack};
+ghost use Rattle.answer_text.specs.Told.{HasTold, IsTeller, IsToldOf, seen_of};
+ghost use Rattle.olap_top.specs.RunSoFar.{untold_text};
 ghost use Rattle.olap_top.specs.OneRun.{schedule_of};
 ghost use Rattle.olap_top.specs.Outcomes.{tells_phases};
 ghost use Rattle.answer_text.specs.Summary.{summary};
@@ -12,7 +14,7 @@ ghost use Rattle.volap_cell.specs.Steps.{history_in};
 
 use crate::wanted::Wanted;
 use answer_text::{Teller, summary};
-use row_ledger::Event;
+use row_ledger::{Event, Use};
 use script_form::{Command, Script};
 use seeded_run::{open_core, run_phase};
 use seeded_turns::Schedule;
@@ -48,6 +50,26 @@ fn teller_of(alloc: Global, wanted: Wanted) -> Result<Option<Teller>, AllocError
     match wanted {
         Wanted::Step | Wanted::Seeded(_) => Ok(Some(Teller::new(alloc)?)),
         Wanted::Load { .. } => Ok(None),
+    }
+}
+
+/// The text of the commands that a teller has not told, a phase that has ended; no bytes without a teller.
+fn tell(
+    teller: &mut Option<Teller>,
+    alloc: Global,
+    with: &Use,
+    commands: &[Command],
+    events: &[Event],
+) -> Result<Vec<u8>, AllocError>
+    requires told { IfSome teller.old (IsToldOf with.now commands.now events.now) }
+    requires refers { IfSome teller.old (λ t. RefersBack (reverse (take (seen_of t) events.now))) }
+    ensures text { IfOk result (λ text. text.items ≡ untold_text teller.old with.now commands.now (reverse events.now)) }
+    ensures told { OnOk result (IfSome teller.new (HasTold with.now commands.now (reverse events.now))) }
+    ensures same { is_some teller.new ≡ is_some teller.old }
+{
+    match teller {
+        Some(teller) => teller.phase(alloc, with, commands, events),
+        None => Ok(Vec::new(alloc)),
     }
 }
 
@@ -110,10 +132,7 @@ impl Run {
             &mut self.schedule,
         )?;
         let events = events(&self.state);
-        match &mut self.teller {
-            Some(teller) => teller.phase(alloc, &script.with, commands, events),
-            None => Ok(Vec::new(alloc)),
-        }
+        tell(&mut self.teller, alloc, &script.with, commands, events)
     }
 
     /// The summary of a run of the generated script of so many rows by a seed.

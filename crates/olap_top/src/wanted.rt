@@ -2,7 +2,7 @@
 //! the generated one.
 ghost use Rattle.std.specs.Prelude.{◌≡◌, codes, map, option_and_then, option_map, string_bytes};
 ghost use Rattle.std.specs.Str.{bytes_eq};
-ghost use Rattle.olap_top.specs.Wanted.{behind, given, given_both, load_by, load_of, rows_of, seed_of, step_of, wanted};
+ghost use Rattle.olap_top.specs.Wanted.{behind, given, given_alone, given_both, load_by, load_of, rows_of, seed_of, step_of, wanted};
 
 use script_form::field::number;
 
@@ -74,17 +74,21 @@ fn given<'a>(name: &str, words: &'a [String]) -> Option<(&'a [u8], &'a [String])
     Some((text, rest))
 }
 
+/// What these words give an option, and nothing more.
+fn given_alone<'a>(name: &str, words: &'a [String]) -> Option<&'a [u8]>
+    ensures { option_map (λ text. text.now) result ≡ given_alone name.now (map string_bytes words.now) }
+{
+    let (text, rest) = given(name, words)?;
+    if rest.is_empty() { Some(text) } else { None }
+}
+
 /// What these words give two options, in this order.
 fn given_both<'a>(first: &str, second: &str, words: &'a [String]) -> Option<(&'a [u8], &'a [u8])>
     ensures { option_map (λ both. (both.0.now, both.1.now)) result ≡ given_both first.now second.now (map string_bytes words.now) }
 {
     let (one, rest) = given(first, words)?;
-    let (two, rest) = given(second, rest)?;
-    if rest.is_empty() {
-        Some((one, two))
-    } else {
-        None
-    }
+    let two = given_alone(second, rest)?;
+    Some((one, two))
 }
 
 /// What `step` with these options wants.
@@ -94,12 +98,8 @@ fn step_of(options: &[String]) -> Option<Wanted>
     if options.is_empty() {
         return Some(Wanted::Step);
     }
-    let (text, rest) = given("--seed", options)?;
-    if rest.is_empty() {
-        seed_of(text).map(Wanted::Seeded)
-    } else {
-        None
-    }
+    let text = given_alone("--seed", options)?;
+    seed_of(text).map(Wanted::Seeded)
 }
 
 /// The load of so many rows by this seed.
