@@ -281,7 +281,11 @@ some_wanted words None is = tt
 some_wanted words (Some w) is = wanted_is words w (sym is)
 
 -- What is wanted can be generated.
-pub few_wanted : (words : List (List ℕ)) (w : Wanted) → Want words w → AreFewRows w
+few_wanted : (words : List (List ℕ)) (w : Wanted) → Want words w → AreFewRows w
 few_wanted words Step want = tt
 few_wanted words (Seeded seed) want = tt
 few_wanted words (Load rows seed) want = want.2.rows_are.2.2
+
+pub few_some : (words : List (List ℕ)) (found : Option Wanted) → found ≡ wanted words → IfSome found AreFewRows
+few_some words None is = tt
+few_some words (Some w) is = few_wanted words w (wanted_is words w (sym is))

@@ -139,13 +139,14 @@ fn by_words(words: &[String]) -> Option<Wanted>
 impl Wanted {
     ghost use Rattle.std.specs.Prelude.{◌≡◌, IfSome, None, Some, map, string_bytes};
     ghost use Rattle.olap_top.specs.declared.wanted.Wanted.{Wanted};
-    ghost use Rattle.olap_top.specs.Wanted.{Want};
+    ghost use Rattle.olap_top.specs.Wanted.{AreFewRows, Want};
 
     /// What these words want to run, where they leave out the program's own name; nothing where the
     /// program does not know them.
     pub fn of_words(words: &[String]) -> Option<Wanted>
         ensures some { IfSome result (Want (map string_bytes words.now)) }
         ensures sole { (w : Wanted) → Want (map string_bytes words.now) w → result ≡ Some w }
+        ensures few { IfSome result AreFewRows }
         ensures none { result ≡ None → (w : Wanted) → ¬ Want (map string_bytes words.now) w }
     {
         by_words(words)
