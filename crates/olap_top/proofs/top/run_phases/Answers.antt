@@ -59,11 +59,12 @@ returns-in_default-write_all-clause-write_fault g c = λ is.
     (subst (λ (l : List Command). phases l ≡ take c.phase_len.result l ∷ phases (drop c.phase_len.result l)) c.split_at.ensures.back c.phase_len.ensures.phase) in
     let later : g.K.Sink.faults c.args.sink.now ≤ g.K.Sink.faults c.loop-done.sink = c.loop-done.invariant.later in
     let rose : Rose (g.K.Sink.faults c.loop-done.sink) (g.K.Sink.faults c.write_all.new.sink) = c.in_default-write_all.ensures.cause.failed in
+    let risen : Rose (g.K.Sink.faults c.args.sink.now) (g.K.Sink.faults c.write_all.new.sink) = omega arith in
     let part = rw c.deref.ensures.value at c.in_default-write_all.ensures.part in
     let fault = at-fault s n m (g.K.Sink.taken c.args.sink.now) (g.K.Sink.taken c.loop-done.sink) (g.K.Sink.taken c.write_all.new.sink) c.args.run.now c.loop-done.run c.phase.new.self c.in-Ok.text.items next c.loop-done.invariant.at
     (gone-of s all n m c.loop-done.run c.phase.new.self c.in-Ok.text.items low c.loop-done.invariant.all_is c.in-Ok.ensures.gone)
     (record { count = part.0; part = part.1; took = part.2 }) in
-    (omega arith, fault.0, fault.1)
+    (risen, fault.0, fault.1)
 
 pub returns-in_default-write_all-clause-left : goal.returns-in_default-write_all-clause-left
 returns-in_default-write_all-clause-left g c =
