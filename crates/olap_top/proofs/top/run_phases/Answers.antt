@@ -80,6 +80,18 @@ returns-in_default-write_all-clause-left g c =
     (unread s n (g.K.Sink.taken c.args.sink.now) (g.K.Sink.taken c.loop-done.sink) c.args.run.now c.loop-done.run c.loop-done.invariant.at)
     (gone-of s all n m c.loop-done.run c.phase.new.self c.in-Ok.text.items low c.loop-done.invariant.all_is c.in-Ok.ensures.gone) tt)
 
+pub returns-in_default-clause-later : goal.returns-in_default-clause-later
+returns-in_default-clause-later g c = c.loop-done.invariant.later
+
+pub returns-in_default-write_all-clause-later : goal.returns-in_default-write_all-clause-later
+returns-in_default-write_all-clause-later g c =
+    let before : g.K.Sink.faults c.args.sink.now ≤ g.K.Sink.faults c.loop-done.sink = c.loop-done.invariant.later in
+    let behind : g.K.Sink.faults c.loop-done.sink ≤ g.K.Sink.faults c.write_all.new.sink = c.in_default-write_all.ensures.cause.later in
+    omega arith
+
+pub returns-clause-later : goal.returns-clause-later
+returns-clause-later g c = c.loop-done.invariant.later
+
 pub loop-done-preserved : goal.loop-done-preserved
 loop-done-preserved g c =
     let s = c.args.script.now in
