@@ -1,5 +1,5 @@
 -- What is asked to be written, as phases are told or not.
-use Rattle.std.proofs.Common.{◌≡◌, ◌∙◌, ℕ, true, List, [], refl, sym, ap}
+use Rattle.std.proofs.Common.{◌≡◌, ◌∙◌, ◌⊎◌, inl, inr, ℕ, true, List, [], refl, sym, ap}
 use Rattle.std.specs.Prelude.{Option, Ok, Err, if◌then◌else◌}
 use Rattle.std.proofs.lemmas.Bool.{false≢true}
 use Rattle.answer_text.specs.Printed.{told, told_to}
@@ -17,6 +17,10 @@ pub asked-to : (wanted : Wanted) (k : ℕ) (s : Script) (history : List Event) �
 asked-to Step k s history = refl
 asked-to (Seeded seed) k s history = refl
 asked-to (Load rows seed) k s history = refl
+
+pub tells-step : (wanted : Wanted) → (wanted ≡ Step) ⊎ ((seed : ℕ) × (wanted ≡ Seeded seed)) → tells_phases wanted ≡ true
+tells-step wanted (inl is) = ap tells_phases is
+tells-step wanted (inr is) = ap tells_phases is.1
 
 -- where phases are told, their text is what is asked for
 pub asked-told : (wanted : Wanted) (s : Script) (history : List Event) → tells_phases wanted ≡ true → asked_text wanted s history ≡ told s.with s.commands history
