@@ -214,7 +214,6 @@ fn tell_bad<K: Sink>(alloc: Global, at: u64, cause: Cause, sink: &mut K) -> Outc
 }
 
 /// Reads a script and runs it, or says why it is none. The bytes go before the run.
-#[tactic(none)]
 fn run_bytes<K: Sink>(alloc: Global, bytes: Vec<u8>, wanted: Wanted, sink: &mut K) -> Outcome
     ensures kinds { (result.status ≡ Status.Done)
         ⊎ (result.status ≡ Status.BadScript)
@@ -277,7 +276,6 @@ fn wanted_bytes<S: Source>(
 }
 
 /// Runs the script that is wanted on this thread, and writes what is wanted of it to a sink.
-#[tactic(none)]
 fn run_source<S: Source, K: Sink>(
     alloc: Global,
     wanted: Wanted,
