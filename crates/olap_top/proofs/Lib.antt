@@ -3,9 +3,11 @@ pub mod WantedFacts
 pub mod Ends
 pub mod Grown
 pub mod Handing
+pub mod Asked
 pub mod PhaseTurns
 pub mod Kept
 pub mod InsertsEnd
 pub mod PhaseSteps
+pub mod Summaries
 pub mod Settled
 pub mod Leaving

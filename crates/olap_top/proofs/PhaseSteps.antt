@@ -39,14 +39,15 @@ use Rattle.seeded_turns.specs.declared.schedule.Schedule.{Schedule}
 use Rattle.volap_cell.specs.Steps.{Inv, history_in}
 use Rattle.volap_cell.specs.World.{World}
 use Rattle.olap_top.specs.OneRun.{GoesTo, RunPhases, RunsPhase, phase_of, setting_of}
-use Rattle.olap_top.specs.Outcomes.{HasRun, RanInto, RanTo, TookPart}
-use Rattle.olap_top.specs.RunSoFar.{HasGone, HasGrown, HasLeft, HasStopped, IsBehind, IsHeld, history_of, moment_of, world_of}
+use Rattle.olap_top.specs.Outcomes.{HasRun, RanInto, RanToPhase, TookPart, asked_text_to, tells_phases}
+use Rattle.olap_top.specs.RunSoFar.{HasGone, HasGrown, HasLeft, HasStopped, IsBehind, IsHeld, history_of, moment_of, tells, world_of}
 use Rattle.olap_top.specs.declared.run.Run.{Run}
 use Rattle.olap_top.specs.declared.wanted.Wanted.{Wanted}
 use Rattle.olap_top.proofs.Handing.{held-inv}
 use Rattle.olap_top.proofs.InsertsEnd.{inserts-end, inserts-over}
 use Rattle.olap_top.proofs.Kept.{lines-grown, lines_of}
 use Rattle.olap_top.proofs.PhaseTurns.{first-over}
+use Rattle.olap_top.proofs.Asked.{asked-to}
 
 -- What a sink took.
 
@@ -80,23 +81,32 @@ phases-more in_order s (p ∷ ps) phase from between to first next = (first.0, f
 
 -- Between two phases.
 
--- the first n commands are done, which are whole phases, and their text is written
+-- what is told of these commands, where phases are told
+abbrev pub said : Bool → Use → List Command → List Event → List ℕ
+said telling with done history = if telling then lines_of with done history else []
+
+-- the first n commands are done, which are whole phases, and their text is written, where phases are told
 pub record IsAtPhase (s : Script) (n : ℕ) (taken_before taken_now : Option (List ℕ)) (start run : Run) : Type 0 where
   pub ps : List (List Command)
   pub first : AreFirst s.commands ps (phases (drop n s.commands))
   pub all : all_of ps ≡ take n s.commands
   pub behind : IsBehind s (take n s.commands) run
   pub order : is_order run.schedule ≡ is_order start.schedule
-  pub took : Appends taken_before taken_now (lines_of s.with (take n s.commands) (history_of s run))
+  pub same : tells run ≡ tells start
+  pub took : Appends taken_before taken_now (said (tells start) s.with (take n s.commands) (history_of s run))
   pub turns : RunPhases (is_order start.schedule) s ps (moment_of s start) (moment_of s run)
 
 -- whatever a sink took
 pub unread : (s : Script) (n : ℕ) (taken_before taken_now : Option (List ℕ)) (start run : Run) → IsAtPhase s n taken_before taken_now start run → IsAtPhase s n None None start run
-unread s n taken_before taken_now start run at = record { ps = at.ps; first = at.first; all = at.all; behind = at.behind; order = at.order; took = tt; turns = at.turns }
+unread s n taken_before taken_now start run at = record { ps = at.ps; first = at.first; all = at.all; behind = at.behind; order = at.order; same = at.same; took = tt; turns = at.turns }
 
 lines_of-nil : (with : Use) (history : List Event) → lines_of with [] history ≡ []
 unfolding lines
 lines_of-nil with history = refl
+
+said-nil : (telling : Bool) (with : Use) (history : List Event) → said telling with [] history ≡ []
+said-nil true with history = lines_of-nil with history
+said-nil false with history = refl
 
 pub at-start : (s : Script) (taken : Option (List ℕ)) (run : Run) → IsBehind s [] run → IsAtPhase s 0 taken taken run run
 at-start s taken run behind = record {
@@ -105,7 +115,8 @@ at-start s taken run behind = record {
   all = refl;
   behind = behind;
   order = refl;
-  took = subst (Appends taken taken) (sym (lines_of-nil s.with (history_of s run))) (Appends-nil taken);
+  same = refl;
+  took = subst (Appends taken taken) (sym (said-nil (tells run) s.with (history_of s run))) (Appends-nil taken);
   turns = refl;
 }
 
@@ -136,10 +147,10 @@ told-is s n taken_before taken_now start run at =
 
 -- Where nothing is left, all is done.
 pub at-done : (s : Script) (n : ℕ) (taken_before taken_now : Option (List ℕ)) (start run : Run) → length s.commands ≤ n → IsAtPhase s n taken_before taken_now start run
-    → HasRun s.with s.hierarchy s.commands (history_of s run) × Appends taken_before taken_now (told s.with s.commands (history_of s run))
+    → HasRun s.with s.hierarchy s.commands (history_of s run) × Appends taken_before taken_now (if tells start then told s.with s.commands (history_of s run) else [])
 at-done s n taken_before taken_now start run past at = (
   subst (λ l. HasRun s.with s.hierarchy l (history_of s run)) (take_all n s.commands past) (has-run s (take n s.commands) run at.behind),
-  subst (Appends taken_before taken_now) (sym (told-is s n taken_before taken_now start run at)) at.took,
+  subst (Appends taken_before taken_now) (sym (ap (λ l. if tells start then l else []) (told-is s n taken_before taken_now start run at))) at.took,
 )
 
 -- The next phase.
@@ -191,9 +202,9 @@ closes-last cs k some within none = λ i c at closing.
 
 -- Its text is behind that of the phases that are done.
 
-grown-text : (s : Script) (done phase : List Command) (run now : Run) (text : List ℕ) → IsBehind s done run → HasGone s done phase run now text
-    → lines_of s.with (done ++ phase) (history_of s now) ≡ lines_of s.with done (history_of s run) ++ text
-grown-text s done phase run now text behind gone =
+grown-lines : (s : Script) (done phase : List Command) (run now : Run) (text : List ℕ) → IsBehind s done run → HasGone s done phase run now text
+    → lines_of s.with (done ++ phase) (history_of s now) ≡ lines_of s.with done (history_of s run) ++ phase_behind s.with done phase (history_of s now)
+grown-lines s done phase run now text behind gone =
     let h = history_of s now in
     let here = places s.with done h in
     let there = places_behind s.with done phase h in
@@ -205,15 +216,21 @@ grown-text s done phase run now text behind gone =
     let each : EachEvent (Stands (site_of s.with s.hierarchy) right.0) (gone.grows.newer ++ history_of s run) = subst (EachEvent (Stands (site_of s.with s.hierarchy) right.0)) gone.grows.grown right.1 in
     let before : lines 1 done here h ≡ lines_of s.with done (history_of s run) =
     ap (lines_of s.with done) gone.grows.grown ∙ lines-grown (site_of s.with s.hierarchy) right.0 s.with s.hierarchy done gone.grows.newer (history_of s run) each behind.between.through in
-    let new : lines (1 + length done) phase there h ≡ text =
+    let new : lines (1 + length done) phase there h ≡ phase_behind s.with done phase h =
     ap (λ k. lines k phase there h) (let k : 1 + length done ≡ length done + 1 = omega arith in k)
     ∙ ap (λ b. if b then lines (length done + 1) phase there h else []) (sym phase_over)
-    ∙ sym (phase_behind-is s.with done phase h)
-    ∙ sym gone.text_is in
+    ∙ sym (phase_behind-is s.with done phase h) in
     ap (λ ps. lines 1 (done ++ phase) ps h) places_are
     ∙ lines-append 1 done phase here there h (sym (places_behind-length s.with [] done h))
     ∙ ap (λ l. l ++ lines (1 + length done) phase there h) before
     ∙ ap (λ l. lines_of s.with done (history_of s run) ++ l) new
+
+grown-text : (s : Script) (done phase : List Command) (run now : Run) (text : List ℕ) (telling : Bool) → tells run ≡ telling → IsBehind s done run → HasGone s done phase run now text
+    → said telling s.with (done ++ phase) (history_of s now) ≡ said telling s.with done (history_of s run) ++ text
+grown-text s done phase run now text true is behind gone =
+    grown-lines s done phase run now text behind gone
+    ∙ ap (λ l. lines_of s.with done (history_of s run) ++ l) (sym (gone.text_is ∙ ap (λ b. if b then phase_behind s.with done phase (history_of s now) else []) is))
+grown-text s done phase run now text false is behind gone = sym (gone.text_is ∙ ap (λ b. if b then phase_behind s.with done phase (history_of s now) else []) is)
 
 -- The sink took it.
 pub at-next : (s : Script) (n m : ℕ) (taken_before taken_middle taken_now : Option (List ℕ)) (start run now : Run) (text : List ℕ) → IsNext s n m → IsAtPhase s n taken_before taken_middle start run
@@ -224,9 +241,10 @@ at-next s n m taken_before taken_middle taken_now start run now text next at gon
   all = all_of-append at.ps (next_phase s n m ∷ []) ∙ ap (λ l. all_of at.ps ++ l) (append-nil (next_phase s n m)) ∙ ap (λ l. l ++ next_phase s n m) at.all ∙ next.whole;
   behind = subst (λ l. IsBehind s l now) next.whole gone.behind;
   order = gone.order ∙ at.order;
+  same = gone.same ∙ at.same;
   took = subst (Appends taken_before taken_now)
-      (sym (grown-text s (take n s.commands) (next_phase s n m) run now text at.behind gone) ∙ ap (λ l. lines_of s.with l (history_of s now)) next.whole)
-      (Appends-more taken_before taken_middle taken_now (lines_of s.with (take n s.commands) (history_of s run)) text at.took took);
+      (sym (grown-text s (take n s.commands) (next_phase s n m) run now text (tells start) at.same at.behind gone) ∙ ap (λ l. said (tells start) s.with l (history_of s now)) next.whole)
+      (Appends-more taken_before taken_middle taken_now (said (tells start) s.with (take n s.commands) (history_of s run)) text at.took took);
   turns = phases-more (is_order start.schedule) s at.ps (next_phase s n m) (moment_of s start) (moment_of s run) (moment_of s now) at.turns
       (subst (λ b. RunsPhase b s (next_phase s n m) (moment_of s run) (moment_of s now)) at.order gone.turns);
 }
@@ -253,15 +271,15 @@ told-to-is s n taken_before taken_now start run history is over at =
     ∙ ap (λ l. lines_of s.with l history) at.all
 
 -- The sink failed in it.
-pub at-fault : (wanted : Wanted) (s : Script) (n m : ℕ) (taken_before taken_middle taken_now : Option (List ℕ)) (start run now : Run) (text : List ℕ) → IsNext s n m
+ran-to-phase : (s : Script) (n m : ℕ) (taken_before taken_middle taken_now : Option (List ℕ)) (start run now : Run) (text : List ℕ) → tells start ≡ true → IsNext s n m
     → IsAtPhase s n taken_before taken_middle start run → HasGone s (take n s.commands) (next_phase s n m) run now text → TookPart taken_middle taken_now text
-    → RanTo wanted s taken_before taken_now (history_of s now)
-at-fault wanted s n m taken_before taken_middle taken_now start run now text next at gone part =
+    → RanToPhase s taken_before taken_now (history_of s now)
+ran-to-phase s n m taken_before taken_middle taken_now start run now text telling next at gone part =
     let history = history_of s now in
     let behind : IsBehind s (take m s.commands) now = subst (λ l. IsBehind s l now) next.whole gone.behind in
     let written = lines_of s.with (take n s.commands) (history_of s run) in
     let grown : lines_of s.with (take m s.commands) history ≡ written ++ text =
-    ap (λ l. lines_of s.with l history) (sym next.whole) ∙ grown-text s (take n s.commands) (next_phase s n m) run now text at.behind gone in
+    ap (λ l. lines_of s.with l history) (sym next.whole) ∙ grown-text s (take n s.commands) (next_phase s n m) run now text true (at.same ∙ telling) at.behind gone in
     let both = at-next s n m None None None start run now text next (unread s n taken_before taken_middle start run at) gone tt in
     let whole : told s.with s.commands history ≡ written ++ text = told-is s m None None start now both ∙ grown in
     let took : take (length written + part.count) (told s.with s.commands history) ≡ written ++ take part.count text =
@@ -272,16 +290,29 @@ at-fault wanted s n m taken_before taken_middle taken_now start run now text nex
     let before : told_to (length at.ps) s.with s.commands history ≡ written =
     told-to-is s n taken_before taken_middle start run history at over at
     ∙ ap (lines_of s.with (take n s.commands)) gone.grows.grown ∙ lines-grown (site_of s.with s.hierarchy) right.0 s.with s.hierarchy (take n s.commands) gone.grows.newer (history_of s run) each at.behind.between.through in
+    let written_all : Appends taken_before taken_middle written = subst (λ b. Appends taken_before taken_middle (said b s.with (take n s.commands) (history_of s run))) telling at.took in
     record {
       phase = length at.ps;
       ran = subst (λ l. HasRun s.with s.hierarchy l history) (sym (next-phases s n m at.ps at.first at.all next)) (has-run s (take m s.commands) now behind);
       took = record {
         count = length written + part.count;
         part = omega (arith, part.part, ap length whole, length-append written text);
-        took = subst (Appends taken_before taken_now) (sym took) (Appends-more taken_before taken_middle taken_now written (take part.count text) at.took part.took);
+        took = subst (Appends taken_before taken_now) (sym took) (Appends-more taken_before taken_middle taken_now written (take part.count text) written_all part.took);
       };
       phases = omega (arith, ap length before);
     }
+
+-- It can fail only where there is a text.
+pub at-fault : (s : Script) (n m : ℕ) (taken_before taken_middle taken_now : Option (List ℕ)) (start run now : Run) (text : List ℕ) → IsNext s n m
+    → IsAtPhase s n taken_before taken_middle start run → HasGone s (take n s.commands) (next_phase s n m) run now text → TookPart taken_middle taken_now text
+    → (tells start ≡ true) × RanToPhase s taken_before taken_now (history_of s now)
+at-fault s n m taken_before taken_middle taken_now start run now text next at gone part = by (tells start) refl
+  where
+    by : (b : Bool) → tells start ≡ b → (tells start ≡ true) × RanToPhase s taken_before taken_now (history_of s now)
+    by true telling = (telling, ran-to-phase s n m taken_before taken_middle taken_now start run now text telling next at gone part)
+    by false silent =
+        let none : text ≡ [] = gone.text_is ∙ ap (λ b. if b then phase_behind s.with (take n s.commands) (next_phase s n m) (history_of s now) else []) (at.same ∙ silent) in
+        absurd (omega (arith, part.part, ap length none))
 
 -- Memory ran out in it.
 
@@ -292,9 +323,9 @@ stopped-all s done phase more run now stopped whole =
     subst (λ l. IsRunSoFar s.with s.hierarchy l (history_of s now)) whole
     (part_law s.with s.hierarchy (cs ++ more) (history_of s now) (start_law s.with s.hierarchy cs more (history_of s now) stopped.stopped.few stopped.stopped.part))
 
-pub at-halt : (wanted : Wanted) (s : Script) (n m : ℕ) (taken_before taken_now : Option (List ℕ)) (start run now : Run) → IsNext s n m
+pub at-halt : (wanted : Wanted) (s : Script) (n m : ℕ) (taken_before taken_now : Option (List ℕ)) (start run now : Run) → tells start ≡ tells_phases wanted → IsNext s n m
     → IsAtPhase s n taken_before taken_now start run → HasStopped s (take n s.commands) (next_phase s n m) run now → RanInto wanted s taken_before taken_now (history_of s now)
-at-halt wanted s n m taken_before taken_now start run now next at stopped =
+at-halt wanted s n m taken_before taken_now start run now same_telling next at stopped =
     let history = history_of s now in
     let done = take n s.commands in
     let phase = next_phase s n m in
@@ -304,6 +335,8 @@ at-halt wanted s n m taken_before taken_now start run now next at stopped =
     ap (lines_of s.with done) stopped.grows.grown ∙ lines-grown (site_of s.with s.hierarchy) right.0 s.with s.hierarchy done stopped.grows.newer (history_of s run) each at.behind.between.through in
     let text : lines_of s.with done (history_of s run) ≡ told_to (length at.ps) s.with s.commands history =
     sym same ∙ sym (told-to-is s n taken_before taken_now start run history at stopped.stopped.over at) in
+    let asked : said (tells start) s.with done (history_of s run) ≡ asked_text_to (length at.ps) wanted s history =
+    ap (λ l. if tells start then l else []) text ∙ ap (λ b. if b then told_to (length at.ps) s.with s.commands history else []) same_telling ∙ sym (asked-to wanted (length at.ps) s history) in
     let all = stopped-all s done phase (drop m s.commands) run now stopped (ap (λ l. l ++ drop m s.commands) next.whole ∙ take-append-drop m s.commands) in
     record {
       phase = length at.ps;
@@ -313,7 +346,7 @@ at-halt wanted s n m taken_before taken_now start run now next at stopped =
         over = subst (λ l. IsTrue (are_over history (places s.with l history))) (sym (first-phases s at.ps (phases (drop n s.commands)) at.first ∙ at.all)) stopped.stopped.over;
       };
       inserts = inserts-end (site_of s.with s.hierarchy) right.0 s.with s.hierarchy history right.1 s.commands (places s.with s.commands history) all.begun;
-      took = subst (Appends taken_before taken_now) text at.took;
+      took = subst (Appends taken_before taken_now) asked at.took;
     }
 
 -- What is left, however it ended.

@@ -1,15 +1,17 @@
 -- A phase of a run, by what the core's run says of it.
-use Rattle.std.proofs.Common.{◌≡◌, ◌∙◌, ◌≤◌, ℕ, Bool, true, IsTrue, List, [], ◌∷◌, ◌++◌, refl, sym, ap, subst, arith, length, take, drop, reverse}
-use Rattle.std.specs.Prelude.{◌&&◌}
+use Rattle.std.proofs.Common.{◌≡◌, ◌∙◌, ◌≤◌, ℕ, Bool, true, IsTrue, List, [], ◌∷◌, ◌++◌, refl, sym, ap, subst, arith, length, take, drop, reverse, append-nil, append_assoc}
+use Rattle.std.specs.Prelude.{◌&&◌, if◌then◌else◌, IfSome, is_some, Option, Some, None}
 use Rattle.std.proofs.lemmas.Bool.{and_parts}
-use Rattle.std.proofs.lemmas.List.{reverse-append, take-append-drop}
+use Rattle.std.proofs.lemmas.List.{length-take-le, reverse-append, take-append-drop}
 use Rattle.std.proofs.lemmas.List.Folds.{list_all-append}
 use Rattle.dim_hierarchy.specs.Dimension.{Dimension}
 use Rattle.answer_text.proofs.Referring.{refers-back}
+use Rattle.answer_text.proofs.TellerFacts.{teller_law}
 use Rattle.answer_text.specs.Marks.{RefersBack}
 use Rattle.row_ledger.proofs.SettledAnswer.{EachEvent-later}
 use Rattle.answer_text.specs.Printed.{phase_behind}
-use Rattle.answer_text.specs.Told.{HasTold}
+use Rattle.answer_text.specs.Told.{HasTold, IsTeller, IsToldOf, seen_of}
+use Rattle.answer_text.specs.declared.text.Teller.{Teller}
 use Rattle.row_ledger.specs.declared.event.Event.{Event}
 use Rattle.row_ledger.specs.declared.settings.Use.{Use}
 use Rattle.script_form.specs.declared.script.Command.{Command}
@@ -28,7 +30,7 @@ use Rattle.volap_cell.specs.Steps.{Inv, history_in}
 use Rattle.volap_cell.specs.World.{World}
 use Rattle.volap_cell.specs.declared.state.State.{State}
 use Rattle.olap_top.specs.OneRun.{RunsPhase, phase_at, setting_of}
-use Rattle.olap_top.specs.RunSoFar.{HasGone, HasGrown, HasStopped, IsBehind, IsHeld, history_of, moment_of, world_of}
+use Rattle.olap_top.specs.RunSoFar.{HasGone, HasGrown, HasStopped, HasToldSo, IsBehind, IsHeld, history_of, moment_of, tells, untold_text, world_of}
 use Rattle.olap_top.specs.declared.run.Run.{Run}
 use Rattle.olap_top.proofs.Grown.{turns-come}
 use Rattle.olap_top.proofs.Handing.{held-inv}
@@ -62,10 +64,39 @@ refers-held h with x core =
     refers-back (site_in (about h with x)) inv.ghost_of.placed (history_in (held h with x)) inv.holds.telling.right.right
 
 -- and so it is of the first events
-pub refers-part : (seen : ℕ) (events : List Event) → RefersBack (reverse events) → RefersBack (reverse (take seen events))
+refers-part : (seen : ℕ) (events : List Event) → RefersBack (reverse events) → RefersBack (reverse (take seen events))
 refers-part seen events refers =
     EachEvent-later _ (reverse (drop seen events)) (reverse (take seen events))
     (subst RefersBack (ap reverse (sym (take-append-drop seen events)) ∙ reverse-append (take seen events) (drop seen events)) refers)
+
+-- what a teller has told it has told so
+told-so : (s : Script) (done : List Command) (history : List Event) (teller : Option Teller) → IfSome teller (HasTold s.with done history) → IfSome teller (HasToldSo s done history)
+told-so s done history None told = tt
+told-so s done history (Some teller) told = record { past = history; more = []; told = told; grown = refl }
+
+-- a new one has told nothing
+pub told-none : (s : Script) (history : List Event) (teller : Option Teller) → IfSome teller IsTeller → IfSome teller (HasToldSo s [] history)
+told-none s history None new = tt
+told-none s history (Some teller) new = record { past = []; more = history; told = new.has s.with; grown = sym (append-nil history) }
+
+-- one that has told the first n commands knows of them all, where the history has gone on
+pub told-of : (s : Script) (all : List Command) (n : ℕ) (past newer : List Event) (events : List Event) (teller : Option Teller) → IfSome teller (HasToldSo s (take n all) past) → reverse events ≡ newer ++ past
+    → IfSome teller (IsToldOf s.with all events)
+told-of s all n past newer events None told grown = tt
+told-of s all n past newer events (Some teller) told grown =
+    let whole : reverse events ≡ (newer ++ told.more) ++ told.past = grown ∙ ap (λ l. newer ++ l) told.grown ∙ sym (append_assoc newer told.more told.past) in
+    subst (λ (l : List Command). IsToldOf s.with l events teller) (take-append-drop n all)
+    (teller_law s.with (take n all) (drop n all) told.past (newer ++ told.more) events teller told.told whole)
+
+pub refers-seen : (events : List Event) (teller : Option Teller) → RefersBack (reverse events) → IfSome teller (λ t. RefersBack (reverse (take (seen_of t) events)))
+refers-seen events None refers = tt
+refers-seen events (Some teller) refers = refers-part (seen_of teller) events refers
+
+-- and it tells the others
+pub untold-is : (s : Script) (all : List Command) (n : ℕ) (past history : List Event) (teller : Option Teller) → n ≤ length all → IfSome teller (HasToldSo s (take n all) past)
+    → untold_text teller s.with all history ≡ (if is_some teller then phase_behind s.with (take n all) (drop n all) history else [])
+untold-is s all n past history None within told = refl
+untold-is s all n past history (Some teller) within told = ap (λ k. phase_behind s.with (take k all) (drop k all) history) (told.told.told ∙ length-take-le n all within)
 
 -- Turns.
 
@@ -107,18 +138,19 @@ module _ (s : Script) (done phase : List Command) (run now : Run) (behind : IsBe
   pub gone-run : IsCoreHeld s.hierarchy s.with now.state → about s.hierarchy s.with now.state ≡ about s.hierarchy s.with run.state → is_order now.schedule ≡ is_order run.schedule
       → RunsTo s.hierarchy s.with phase run.state run.schedule now.state now.schedule
       → IsBetween (is_order run.schedule) (about s.hierarchy s.with run.state) s.with (done ++ phase) (held s.hierarchy s.with now.state)
-      → HasTold s.with (done ++ phase) (history_of s now) now.teller
-      → (text : List ℕ) → text ≡ phase_behind s.with done phase (history_of s now)
+      → IfSome now.teller (HasTold s.with (done ++ phase) (history_of s now)) → tells now ≡ tells run
+      → (text : List ℕ) → text ≡ (if tells run then phase_behind s.with done phase (history_of s now) else [])
       → HasGone s done phase run now text
-  gone-run core same order turns between told text text_is = record {
+  gone-run core same order turns between told tells_same text text_is = record {
     behind = record {
       is_held = held-now core same;
       between = subst (λ b. IsBetween b (setting_of s) s.with (done ++ phase) (world_of s now)) (sym order)
           (subst (λ t. IsBetween (is_order run.schedule) t s.with (done ++ phase) (world_of s now)) behind.is_held.about_is between);
-      told = record { past = history_of s now; more = []; told = told; grown = refl };
+      told = told-so s (done ++ phase) (history_of s now) now.teller told;
     };
     order = order;
     turns = turns-of now.schedule turns;
     grows = grows-by now.schedule (turns-of now.schedule turns);
+    same = tells_same;
     text_is = text_is;
   }

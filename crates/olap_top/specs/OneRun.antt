@@ -23,7 +23,7 @@ use Rattle.volap_cell.specs.World.{World, change, put}
 use Rattle.volap_cell.specs.declared.cell.Cell.TheVariants as cell
 use Rattle.volap_cell.specs.declared.state.State.{State}
 use Rattle.olap_top.specs.declared.wanted.Wanted.{Wanted}
-use Rattle.olap_top.specs.declared.wanted.Wanted.TheVariants.{Step, Seeded}
+use Rattle.olap_top.specs.declared.wanted.Wanted.TheVariants.{Step, Seeded, Load}
 
 -- what the core of a script's run is about
 abbrev pub setting_of : Script → Setting
@@ -33,6 +33,7 @@ setting_of s = setting_for s.hierarchy s.with (roles_of s.with)
 abbrev pub schedule_of : Wanted → Schedule
 schedule_of Step = schedule_is.Order
 schedule_of (Seeded seed) = schedule_is.Seed (pcg32_of_seed (pcg32_seed 16 seed))
+schedule_of (Load rows seed) = schedule_is.Order
 
 abbrev pub goes_in_order : Wanted → Bool
 goes_in_order wanted = is_order (schedule_of wanted)

@@ -1,7 +1,7 @@
 -- What each answer of the top call says of the source, the sink and the history.
 --
 -- `before` and `now` are what a source has left, or a sink has taken, before the call and after it, where it tells that.
-use Rattle.std.specs.Prelude.{ℕ, ◌≡◌, ◌+◌, ◌<◌, ◌≤◌, ◌^◌, ◌⊎◌, IsTrue, Option, Some, Ok, Err, List, length, take}
+use Rattle.std.specs.Prelude.{ℕ, ◌≡◌, ◌+◌, ◌<◌, ◌≤◌, ◌^◌, ◌⊎◌, ⊤, Bool, true, false, IsTrue, Option, Some, Ok, Err, List, [], length, take}
 use Rattle.std.specs.List.{AllZip}
 use Rattle.std.specs.Io.KnownBytes.{Appends, Consumes, IsAtEnd}
 use Rattle.volap_io.specs.Causes.{Rose}
@@ -17,9 +17,12 @@ use Rattle.script_form.specs.Scripts.{records_of, script}
 use Rattle.script_run.specs.Phases.{phases_to}
 use Rattle.script_run.specs.Places.{places, is_over_at}
 use Rattle.answer_text.specs.Printed.{told, told_to, bad_line}
+use Rattle.answer_text.specs.Summary.{summary}
+use Rattle.volap_gen.specs.Generated.{generated, text_of}
 use Rattle.row_ledger.specs.Site.{site_of}
 use Rattle.script_run.specs.Runs.{IsRunSoFar, IsRunOf, IsRunInto, IsSerial, InsertEnds}
 use Rattle.olap_top.specs.declared.wanted.Wanted.{Wanted}
+use Rattle.olap_top.specs.declared.wanted.Wanted.TheVariants.{Step, Seeded, Load}
 
 -- What was read.
 
@@ -29,23 +32,32 @@ pub record IsReadWhole (before now : Option (List ℕ)) (bytes : List ℕ) : Typ
   pub at_end : IsAtEnd now
   pub few : length bytes ≤ 2 ^ 26
 
--- and these bytes are this script
-pub record IsReadScript (before now : Option (List ℕ)) (s : Script) : Type 0 where
-  pub bytes : List ℕ
-  pub read : IsReadWhole before now bytes
-  pub is_script : script (records_of bytes) ≡ Ok s
+-- these bytes are asked for: those that the source gave; for a load the generated text, and nothing was read
+abbrev pub AreAsked : Wanted → Option (List ℕ) → Option (List ℕ) → List ℕ → Type 0
+AreAsked (Load rows seed) before now bytes = (now ≡ before) × (bytes ≡ text_of (generated rows seed))
+AreAsked wanted before now bytes = IsReadWhole before now bytes
 
--- this script is asked for: by the word `step`, with a seed or without, that of the bytes which the source gave
-abbrev pub IsAskedScript : Wanted → Option (List ℕ) → Option (List ℕ) → Script → Type 0
-IsAskedScript wanted before now s = IsReadScript before now s
+-- and these bytes are this script
+pub record IsAskedScript (wanted : Wanted) (before now : Option (List ℕ)) (s : Script) : Type 0 where
+  pub bytes : List ℕ
+  pub asked : AreAsked wanted before now bytes
+  pub is_script : script (records_of bytes) ≡ Ok s
 
 -- What is written.
 
--- what is asked to be written of a script that ran with this history, whole and of the first k phases
+-- whether the text of each phase is asked for; a load is asked for its summary instead
+abbrev pub tells_phases : Wanted → Bool
+tells_phases (Load rows seed) = false
+tells_phases wanted = true
+
+-- what is asked to be written of a script that ran with this history
 abbrev pub asked_text : Wanted → Script → List Event → List ℕ
+asked_text (Load rows seed) s history = summary rows seed s.with s.commands history
 asked_text wanted s history = told s.with s.commands history
 
+-- what of that is written when the first k phases have ended: their text, and nothing of a summary, which is written behind all phases
 abbrev pub asked_text_to : ℕ → Wanted → Script → List Event → List ℕ
+asked_text_to k (Load rows seed) s history = []
 asked_text_to k wanted s history = told_to k s.with s.commands history
 
 -- the sink took the first bytes of this text, and not all of it
@@ -84,19 +96,30 @@ pub record IsDone (wanted : Wanted) (left_before left_now taken_before taken_now
 
 -- The script ran up to the end of a phase, in whose text the sink failed: it took the first bytes of the text, and the
 -- whole text of the phases before.
-pub record RanTo (wanted : Wanted) (s : Script) (taken_before taken_now : Option (List ℕ)) (history : List Event) : Type 0 where
+pub record RanToPhase (s : Script) (taken_before taken_now : Option (List ℕ)) (history : List Event) : Type 0 where
   pub phase : ℕ
   pub ran : HasRun s.with s.hierarchy (phases_to (phase + 1) s.commands) history
-  pub took : TookPart taken_before taken_now (asked_text wanted s history)
-  pub phases : length (asked_text_to phase wanted s history) ≤ took.count
+  pub took : TookPart taken_before taken_now (told s.with s.commands history)
+  pub phases : length (told_to phase s.with s.commands history) ≤ took.count
+
+-- The whole script ran, and the sink failed in its summary, of which it took the first bytes.
+pub record RanToSummary (rows seed : ℕ) (s : Script) (taken_before taken_now : Option (List ℕ)) (history : List Event) : Type 0 where
+  pub ran : HasRun s.with s.hierarchy s.commands history
+  pub took : TookPart taken_before taken_now (summary rows seed s.with s.commands history)
+
+-- the script ran up to where the sink failed
+abbrev pub RanTo : Wanted → Script → Option (List ℕ) → Option (List ℕ) → List Event → Type 0
+RanTo (Load rows seed) s taken_before taken_now history = RanToSummary rows seed s taken_before taken_now history
+RanTo wanted s taken_before taken_now history = RanToPhase s taken_before taken_now history
 
 pub record IsCutOff (wanted : Wanted) (left_before left_now taken_before taken_now : Option (List ℕ)) (history : List Event) : Type 0 where
   pub script : Script
   pub read : IsAskedScript wanted left_before left_now script
   pub ran : RanTo wanted script taken_before taken_now history
 
--- The script ran into a phase, in which memory ran out; the sink took the whole text of the phases before. An insert of
--- known leaf concepts that is over was acknowledged or ended for want of memory.
+-- The script ran into a phase, in which memory ran out, or behind the last one, where none was found for a summary. The sink took
+-- the whole text of the phases before, and nothing of a summary. An insert of known leaf concepts that is over was acknowledged or
+-- ended for want of memory.
 pub record RanInto (wanted : Wanted) (s : Script) (taken_before taken_now : Option (List ℕ)) (history : List Event) : Type 0 where
   pub phase : ℕ
   pub right : IsRight (site_of s.with s.hierarchy) history
@@ -126,3 +149,8 @@ pub record IsGoodScript (left : Option (List ℕ)) : Type 0 where
   pub tells : left ≡ Some bytes
   pub few : length bytes ≤ 2 ^ 26
   pub is_script : (s : Script) × (script (records_of bytes) ≡ Ok s)
+
+-- there is a good script: the generated text is one, and else the source tells its bytes, and they are one
+abbrev pub HasGoodScript : Wanted → Option (List ℕ) → Type 0
+HasGoodScript (Load rows seed) left = ⊤
+HasGoodScript wanted left = IsGoodScript left

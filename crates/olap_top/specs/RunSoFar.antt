@@ -1,9 +1,10 @@
 -- What a run has made so far, and what a phase of it makes.
-use Rattle.std.specs.Prelude.{ℕ, ◌≡◌, ◌++◌, Bool, true, List, []}
+use Rattle.std.specs.Prelude.{ℕ, ◌≡◌, ◌++◌, Bool, true, if◌then◌else◌, Option, Some, None, IfSome, is_some, List, [], take, drop}
 use Rattle.answer_text.specs.Printed.{phase_behind}
 use Rattle.answer_text.specs.Told.{HasTold}
 use Rattle.answer_text.specs.declared.text.Teller.{Teller}
 use Rattle.row_ledger.specs.declared.event.Event.{Event}
+use Rattle.row_ledger.specs.declared.settings.Use.{Use}
 use Rattle.script_form.specs.declared.script.Command.{Command}
 use Rattle.script_form.specs.declared.script.Script.{Script}
 use Rattle.script_run.specs.Runs.{IsRunSoFar, IsSerial}
@@ -37,24 +38,34 @@ pub record HasToldSo (s : Script) (done : List Command) (history : List Event) (
   pub told : HasTold s.with done past teller
   pub grown : history ≡ more ++ past
 
--- A run between two phases: these commands are over and told, in order where the schedule says so.
+-- the text of the commands that a teller has not told; nothing without a teller
+abbrev pub untold_text : Option Teller → Use → List Command → List Event → List ℕ
+untold_text None with commands history = []
+untold_text (Some teller) with commands history = phase_behind with (take teller.told commands) (drop teller.told commands) history
+
+-- whether the run tells its phases
+abbrev pub tells : Run → Bool
+tells run = is_some run.teller
+
+-- A run between two phases: these commands are over, in order where the schedule says so, and told where phases are.
 pub record IsBehind (s : Script) (done : List Command) (run : Run) : Type 0 where
   pub is_held : IsHeld s run
   pub between : IsBetween (is_order run.schedule) (setting_of s) s.with done (world_of s run)
-  pub told : HasToldSo s done (history_of s run) run.teller
+  pub told : IfSome run.teller (HasToldSo s done (history_of s run))
 
 -- the history has gone on
 pub record HasGrown (before now : List Event) : Type 0 where
   pub newer : List Event
   pub grown : now ≡ newer ++ before
 
--- A phase ran to its end, and this is its text.
+-- A phase ran to its end, and this is its text, where it is told.
 pub record HasGone (s : Script) (done phase : List Command) (run now : Run) (text : List ℕ) : Type 0 where
   pub behind : IsBehind s (done ++ phase) now
   pub order : is_order now.schedule ≡ is_order run.schedule
   pub turns : RunsPhase (is_order run.schedule) s phase (moment_of s run) (moment_of s now)
   pub grows : HasGrown (history_of s run) (history_of s now)
-  pub text_is : text ≡ phase_behind s.with done phase (history_of s now)
+  pub same : tells now ≡ tells run
+  pub text_is : text ≡ (if tells run then phase_behind s.with done phase (history_of s now) else [])
 
 -- Memory ran out in a phase, or for its text.
 pub record HasStopped (s : Script) (done phase : List Command) (run now : Run) : Type 0 where

@@ -1,23 +1,55 @@
--- What the words of a command line want to run, with a seed or without.
-use Rattle.std.specs.Prelude.{ℕ, ◌≡◌, ◌⊎◌, ◌&&◌, ◌<◌, ◌^◌, nat_lt, Option, Some, None, option_and_then, option_map, if◌then◌else◌, List, [], ◌∷◌, ◌++◌, take, drop, codes}
+-- What the words of a command line want to run: a script from the source, with a seed or without, or the generated one.
+use Rattle.std.specs.Prelude.{ℕ, ◌≡◌, ◌⊎◌, ⊤, ◌<◌, ◌≤◌, ◌^◌, ◌&&◌, nat_lt, nat_le, Option, Some, None, option_and_then, option_map, if◌then◌else◌, List, [], ◌∷◌, ◌++◌, length, take, drop, codes}
+use Rattle.std.specs.Option.{option_map_or}
 use Rattle.std.specs.Str.{bytes_eq}
 use Rattle.script_form.specs.Fields.{number_of}
 use Rattle.olap_top.specs.declared.wanted.Wanted.{Wanted}
-use Rattle.olap_top.specs.declared.wanted.Wanted.TheVariants.{Step, Seeded}
+use Rattle.olap_top.specs.declared.wanted.Wanted.TheVariants.{Step, Seeded, Load}
 
--- What it means, of words without the program's name: `step`, `step --seed N` or `step --seed=N`.
+-- What it means, of words without the program's name: `step`, `step --seed N`, and `load --rows N --seed K` with its options in
+-- either order. Behind the name of an option there may be an equals sign in place of the space.
 
 -- this text spells this seed
 abbrev pub SpellsSeed : List ℕ → ℕ → Type 0
 SpellsSeed text seed = (number_of text ≡ Some seed) × (seed < 2 ^ 64)
 
--- the word behind the option, or the rest of the option's own word behind an equals sign
-abbrev pub GiveSeed : List (List ℕ) → List ℕ → Type 0
-GiveSeed options text = (options ≡ codes "--seed" ∷ text ∷ []) ⊎ (options ≡ (codes "--seed=" ++ text) ∷ [])
+-- how many rows a generated script has at most
+abbrev pub most_rows : ℕ
+most_rows = 200000
+
+-- this text spells how many rows a generated script is to have
+abbrev pub SpellsRows : List ℕ → ℕ → Type 0
+SpellsRows text rows = (number_of text ≡ Some rows) × (1 ≤ rows) × (rows ≤ most_rows)
+
+-- these words give the option of this name this text: its name and the text as a word behind it, or one word with an equals sign between them
+abbrev pub GiveOption : List ℕ → List (List ℕ) → List ℕ → Type 0
+GiveOption name words text = (words ≡ name ∷ text ∷ []) ⊎ (words ≡ (name ++ (codes "=" ++ text)) ∷ [])
+
+-- these words give a seed
+abbrev pub GiveSeed : List (List ℕ) → ℕ → Type 0
+GiveSeed words seed = (text : List ℕ) × GiveOption (codes "--seed") words text × SpellsSeed text seed
+
+-- these words give a number of rows
+abbrev pub GiveRows : List (List ℕ) → ℕ → Type 0
+GiveRows words rows = (text : List ℕ) × GiveOption (codes "--rows") words text × SpellsRows text rows
+
+-- these words give both, each once, in either order
+pub record GiveBoth (words : List (List ℕ)) (rows seed : ℕ) : Type 0 where
+  pub for_rows : List (List ℕ)
+  pub for_seed : List (List ℕ)
+  pub either_order : (words ≡ for_rows ++ for_seed) ⊎ (words ≡ for_seed ++ for_rows)
+  pub rows_are : GiveRows for_rows rows
+  pub seed_is : GiveSeed for_seed seed
 
 abbrev pub Want : List (List ℕ) → Wanted → Type 0
 Want words Step = words ≡ codes "step" ∷ []
-Want words (Seeded seed) = (options : List (List ℕ)) × (text : List ℕ) × (words ≡ codes "step" ∷ options) × GiveSeed options text × SpellsSeed text seed
+Want words (Seeded seed) = (options : List (List ℕ)) × (words ≡ codes "step" ∷ options) × GiveSeed options seed
+Want words (Load rows seed) = (options : List (List ℕ)) × (words ≡ codes "load" ∷ options) × GiveBoth options rows seed
+
+-- a load is of no more rows than can be generated
+abbrev pub AreFewRows : Wanted → Type 0
+AreFewRows (Load rows seed) = rows ≤ most_rows
+AreFewRows wanted = ⊤
 
 -- How it is found.
 
@@ -27,14 +59,61 @@ below_2_64 n = if nat_lt n (2 ^ 64) then Some n else None
 abbrev pub seed_of : List ℕ → Option ℕ
 seed_of text = option_and_then below_2_64 (number_of text)
 
-abbrev pub seed_behind : List ℕ → Option ℕ
-seed_behind word = if bytes_eq (take 7 word) (codes "--seed=") then seed_of (drop 7 word) else None
+abbrev pub from_1_to_most : ℕ → Option ℕ
+from_1_to_most n = if nat_le 1 n && nat_le n most_rows then Some n else None
 
-abbrev pub seeded : Option ℕ → Option Wanted
-seeded seed = option_map (λ n. Seeded n) seed
+abbrev pub rows_of : List ℕ → Option ℕ
+rows_of text = option_and_then from_1_to_most (number_of text)
+
+-- what stands in a word behind these bytes at its front
+abbrev pub behind : List ℕ → List ℕ → Option (List ℕ)
+behind front word = if bytes_eq (take (length front) word) front then Some (drop (length front) word) else None
+
+-- a text, and the words behind it
+abbrev pub Given : Type 0
+Given = List ℕ × List (List ℕ)
+
+abbrev pub first_word : List (List ℕ) → Option Given
+first_word [] = None
+first_word (text ∷ rest) = Some (text, rest)
+
+-- what the first of these words give an option
+abbrev pub given : List ℕ → List (List ℕ) → Option Given
+given name [] = None
+given name (word ∷ rest) =
+    if bytes_eq word name then first_word rest else option_map (λ text. (text, rest)) (option_and_then (behind (codes "=")) (behind name word))
+
+-- where no word is left
+abbrev pub at_end : {A : Type 0} → List (List ℕ) → A → Option A
+at_end [] a = Some a
+at_end (word ∷ rest) a = None
+
+-- what these words give an option, and nothing more
+abbrev pub given_alone : List ℕ → List (List ℕ) → Option (List ℕ)
+given_alone name words = option_and_then (λ (one : Given). at_end one.1 one.0) (given name words)
+
+-- what these words give two options, in this order
+abbrev pub given_both : List ℕ → List ℕ → List (List ℕ) → Option (List ℕ × List ℕ)
+given_both first second words = option_and_then (λ (one : Given). option_map (λ two. (one.0, two)) (given_alone second one.1)) (given first words)
+
+-- `step` with these options
+abbrev pub step_of : List (List ℕ) → Option Wanted
+step_of [] = Some Step
+step_of (option ∷ more) = option_and_then (λ text. option_map Seeded (seed_of text)) (given_alone (codes "--seed") (option ∷ more))
+
+abbrev pub load_by : List ℕ → List ℕ → Option Wanted
+load_by rows seed = option_and_then (λ n. option_map (Load n) (seed_of seed)) (rows_of rows)
+
+-- `load` with these options
+abbrev pub load_of : List (List ℕ) → Option Wanted
+load_of options =
+    option_map_or (λ (texts : List ℕ × List ℕ). load_by texts.0 texts.1)
+    (given_both (codes "--rows") (codes "--seed") options)
+    (option_and_then (λ (texts : List ℕ × List ℕ). load_by texts.1 texts.0) (given_both (codes "--seed") (codes "--rows") options))
 
 abbrev pub wanted : List (List ℕ) → Option Wanted
-wanted (first ∷ []) = if bytes_eq first (codes "step") then Some Step else None
-wanted (first ∷ option ∷ []) = if bytes_eq first (codes "step") then seeded (seed_behind option) else None
-wanted (first ∷ option ∷ value ∷ []) = if bytes_eq first (codes "step") && bytes_eq option (codes "--seed") then seeded (seed_of value) else None
-wanted _ = None
+wanted [] = None
+wanted (first ∷ options) =
+    if bytes_eq first (codes "step") then step_of options
+    else if bytes_eq first (codes "load") then load_of options
+    else None

@@ -17,6 +17,8 @@ mod by_seed;
 #[cfg(test)]
 mod flat;
 #[cfg(test)]
+mod load;
+#[cfg(test)]
 mod shard_tests;
 #[cfg(test)]
 mod tests;

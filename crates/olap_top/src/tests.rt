@@ -347,13 +347,17 @@ fn expect_bad_words<R: Abort + Threads + Wait + Sync>(
     source: &mut MemSource,
     sink: &mut MemSink,
 ) -> Result<(), Fail> {
-    let lists: [&[&str]; 7] = [
+    let lists: [&[&str]; 11] = [
         &[],
         &[""],
         &["Step"],
         &["step", "step"],
         &["run"],
+        &["run", "run"],
         &["step", "--"],
+        &["step", "--seed", "x"],
+        &["step", "--seed", "1", "--seed", "1"],
+        &["load", "--rows", "0", "--seed", "1"],
         &["--help"],
     ];
     for list in lists {
@@ -403,12 +407,15 @@ fn a_history_tells_what_was_printed(rt: HostRuntime) -> Result<(), Fail> {
     Ok(())
 }
 
+/// What the words of a load of three rows want.
+const LOAD: Option<Wanted> = Some(Wanted::Load { rows: 3, seed: 1 });
+
 /// Words, and what they want to run.
 type WordsCase = (&'static [&'static str], Option<Wanted>);
 
 #[test]
 fn words_and_what_they_want(rt: HostRuntime) -> Result<(), Fail> {
-    const CASES: [WordsCase; 22] = [
+    const CASES: [WordsCase; 46] = [
         (&["step"], Some(Wanted::Step)),
         (&["step", "--seed", "7"], Some(Wanted::Seeded(7))),
         (&["step", "--seed=7"], Some(Wanted::Seeded(7))),
@@ -437,6 +444,39 @@ fn words_and_what_they_want(rt: HostRuntime) -> Result<(), Fail> {
         (&["--seed", "7"], None),
         (&["Step", "--seed=7"], None),
         (&[], None),
+        (&["load", "--rows", "3", "--seed", "1"], LOAD),
+        (&["load", "--seed", "1", "--rows", "3"], LOAD),
+        (&["load", "--rows=3", "--seed", "1"], LOAD),
+        (&["load", "--rows", "3", "--seed=1"], LOAD),
+        (&["load", "--seed=1", "--rows", "3"], LOAD),
+        (&["load", "--seed", "1", "--rows=3"], LOAD),
+        (&["load", "--rows=3", "--seed=1"], LOAD),
+        (&["load", "--seed=00000000000000000001", "--rows=003"], LOAD),
+        (
+            &["load", "--rows=200000", "--seed=18446744073709551615"],
+            Some(Wanted::Load {
+                rows: 200_000,
+                seed: u64::MAX,
+            }),
+        ),
+        (
+            &["load", "--rows", "1", "--seed", "0"],
+            Some(Wanted::Load { rows: 1, seed: 0 }),
+        ),
+        (&["load"], None),
+        (&["load", "--rows", "3"], None),
+        (&["load", "--seed=1"], None),
+        (&["load", "--rows", "0", "--seed", "1"], None),
+        (&["load", "--rows=200001", "--seed=1"], None),
+        (&["load", "--rows=3", "--seed=18446744073709551616"], None),
+        (&["load", "--rows=3", "--rows=3"], None),
+        (&["load", "--rows=3", "--seed=1", "--seed=1"], None),
+        (&["load", "--rows=3", "--seed=1", "--threads"], None),
+        (&["load", "--rows", "--seed", "3", "1"], None),
+        (&["load", "--rows", "3", "--seed"], None),
+        (&["load", "--rows=", "--seed=1"], None),
+        (&["--rows=3", "--seed=1"], None),
+        (&["step", "--rows=3", "--seed=1"], None),
     ];
     for (list, wanted) in &CASES {
         let words = words(rt.alloc(), list)?;

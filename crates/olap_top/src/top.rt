@@ -1,5 +1,5 @@
 // The top call.
-ghost use Rattle.std.specs.Prelude.{◌≡◌, ◌≢◌, ◌+◌, ◌≤◌, ◌^◌, ◌⊎◌, ◌↔◌, ◌<◌, List, ℕ, [], ◌∷◌, Ok, Err, All, length, string_bytes};
+ghost use Rattle.std.specs.Prelude.{◌≡◌, ◌≢◌, ◌+◌, ◌≤◌, ◌^◌, ◌⊎◌, ◌↔◌, ◌<◌, List, ℕ, [], ◌∷◌, Ok, Err, IfOk, IsErrOf, true, All, if◌then◌else◌, length, string_bytes};
 ghost use Rattle.std.specs.Io.KnownBytes.{Appends};
 ghost use Rattle.volap_io.specs.Causes.{Rose};
 ghost use Rattle.volap_io.specs.Source.{Gave};
@@ -11,10 +11,12 @@ ghost use Rattle.script_form.specs.declared.script.Script.{Script};
 ghost use Rattle.script_form.specs.declared.script.ScriptFault.TheVariants as fault;
 ghost use Rattle.seeded_run.specs.Phase.{IsCoreHeld};
 ghost use Rattle.answer_text.specs.Printed.{told, bad_line};
+ghost use Rattle.answer_text.specs.Summary.{summary};
 ghost use Rattle.olap_top.specs.Left.{IsHandedOut, LeavesAsked, LeavesNothing, LeavesRun};
-ghost use Rattle.olap_top.specs.OneRun.{schedule_of};
-ghost use Rattle.olap_top.specs.Outcomes.{TookPart, HasRun, IsSerialRun, RanTo, RanInto, IsDone, IsCutOff, IsStarved, IsNoScript, IsGoodScript};
-ghost use Rattle.olap_top.specs.RunSoFar.{HasLeft, IsBehind, history_of};
+ghost use Rattle.olap_top.specs.OneRun.{goes_in_order};
+ghost use Rattle.olap_top.specs.Outcomes.{AreAsked, TookPart, HasRun, IsSerialRun, RanTo, RanToPhase, RanInto, IsDone, IsCutOff, IsStarved, IsNoScript, HasGoodScript, asked_text, tells_phases};
+ghost use Rattle.olap_top.specs.RunSoFar.{HasLeft, IsBehind, IsHeld, history_of, tells};
+ghost use Rattle.olap_top.specs.Wanted.{AreFewRows};
 ghost use Rattle.olap_top.specs.Words.{AskFor, ForSomeWanted};
 ghost use Rattle.olap_top.specs.declared.wanted.Wanted as words_ask;
 
@@ -25,11 +27,11 @@ use answer_text::BadLine;
 use row_ledger::Ledger;
 use script_form::{Cause, Script, ScriptFault, read_script};
 use script_run::phase_len;
-use seeded_turns::Schedule;
 use std::alloc::Global;
 use std::sync::Wait;
 use std::thread::Threads;
 use volap_cell::{Cell, State, lift_one, put_one};
+use volap_gen::{generate, generated_is_a_script};
 use volap_io::{Meet, ReadEnd, Sink, Source, read_all, write_all};
 
 /// How many bytes a script may have.
@@ -65,17 +67,8 @@ fn with_rest(status: Status, mut state: State) -> Outcome
     }
 }
 
-/// Whose turn it is in a run that is wanted. Takes no memory.
-fn schedule_of(wanted: Wanted) -> Schedule
-    ensures { result ≡ schedule_of wanted }
-{
-    match wanted {
-        Wanted::Step => Schedule::Order,
-        Wanted::Seeded(seed) => Schedule::seeded(seed),
-    }
-}
-
-/// Runs a script phase by phase, and writes the text of each as one piece when it has ended.
+/// Runs a script phase by phase, and writes the text of each as one piece when it has ended, where
+/// phases are told.
 fn run_phases<K: Sink>(run: &mut Run, alloc: Global, script: &Script, sink: &mut K) -> Status
     requires settings { AreSettings script.now.with }
     requires fits { All (Fits script.now) script.now.commands }
@@ -83,14 +76,17 @@ fn run_phases<K: Sink>(run: &mut Run, alloc: Global, script: &Script, sink: &mut
     requires start { IsBehind script.now [] run.old }
     ensures kinds { (result ≡ Status.Done) ⊎ (result ≡ Status.WriteFault) ⊎ (result ≡ Status.NoMemory) }
     ensures no_memory { result ≡ Status.NoMemory
-        → (wanted : words_ask.Wanted) → RanInto wanted script.now (K.taken sink.old) (K.taken sink.new) (history_of script.now run.new) }
+        → (wanted : words_ask.Wanted) → tells run.old ≡ tells_phases wanted
+        → RanInto wanted script.now (K.taken sink.old) (K.taken sink.new) (history_of script.now run.new) }
     ensures write_fault { result ≡ Status.WriteFault
         → Rose (K.faults sink.old) (K.faults sink.new)
-        × ((wanted : words_ask.Wanted) → RanTo wanted script.now (K.taken sink.old) (K.taken sink.new) (history_of script.now run.new)) }
+        × (tells run.old ≡ true)
+        × RanToPhase script.now (K.taken sink.old) (K.taken sink.new) (history_of script.now run.new) }
     ensures done { result ≡ Status.Done
         → HasRun script.now.with script.now.hierarchy script.now.commands (history_of script.now run.new)
         × Appends (K.taken sink.old) (K.taken sink.new)
-        (told script.now.with script.now.commands (history_of script.now run.new)) }
+        (if tells run.old then told script.now.with script.now.commands (history_of script.now run.new) else []) }
+    ensures later { K.faults sink.old ≤ K.faults sink.new }
     ensures left { HasLeft script.now run.old run.new }
 {
     let all = script.commands.as_slice();
@@ -109,6 +105,68 @@ fn run_phases<K: Sink>(run: &mut Run, alloc: Global, script: &Script, sink: &mut
     Status::Done
 }
 
+/// Writes the summary of a run of the generated script as one piece.
+fn write_summary<K: Sink>(
+    run: &Run,
+    alloc: Global,
+    script: &Script,
+    rows: u64,
+    seed: u64,
+    sink: &mut K,
+) -> Status
+    requires { IsHeld script.now run.now }
+    ensures kinds { (result ≡ Status.Done) ⊎ (result ≡ Status.WriteFault) ⊎ (result ≡ Status.NoMemory) }
+    ensures no_memory { result ≡ Status.NoMemory → sink.new ≡ sink.old }
+    ensures write_fault { result ≡ Status.WriteFault
+        → Rose (K.faults sink.old) (K.faults sink.new)
+        × TookPart (K.taken sink.old) (K.taken sink.new) (summary rows seed script.now.with script.now.commands (history_of script.now run.now)) }
+    ensures done { result ≡ Status.Done
+        → Appends (K.taken sink.old) (K.taken sink.new) (summary rows seed script.now.with script.now.commands (history_of script.now run.now)) }
+{
+    let Ok(text) = run.summary(alloc, script, rows, seed) else {
+        return Status::NoMemory;
+    };
+    let Ok(()) = write_all(sink, &text) else {
+        return Status::WriteFault;
+    };
+    Status::Done
+}
+
+/// Runs a script to its end, and writes what is wanted of it: its phases one by one, or a summary at
+/// the end.
+fn run_wanted<K: Sink>(
+    run: &mut Run,
+    alloc: Global,
+    script: &Script,
+    wanted: Wanted,
+    sink: &mut K,
+) -> Status
+    requires settings { AreSettings script.now.with }
+    requires fits { All (Fits script.now) script.now.commands }
+    requires dims { 0 < length script.now.commands → 0 < length script.now.hierarchy }
+    requires start { IsBehind script.now [] run.old }
+    requires tells { tells run.old ≡ tells_phases wanted }
+    ensures kinds { (result ≡ Status.Done) ⊎ (result ≡ Status.WriteFault) ⊎ (result ≡ Status.NoMemory) }
+    ensures no_memory { result ≡ Status.NoMemory
+        → RanInto wanted script.now (K.taken sink.old) (K.taken sink.new) (history_of script.now run.new) }
+    ensures write_fault { result ≡ Status.WriteFault
+        → Rose (K.faults sink.old) (K.faults sink.new)
+        × RanTo wanted script.now (K.taken sink.old) (K.taken sink.new) (history_of script.now run.new) }
+    ensures done { result ≡ Status.Done
+        → HasRun script.now.with script.now.hierarchy script.now.commands (history_of script.now run.new)
+        × Appends (K.taken sink.old) (K.taken sink.new) (asked_text wanted script.now (history_of script.now run.new)) }
+    ensures left { HasLeft script.now run.old run.new }
+{
+    let status = run_phases(run, alloc, script, sink);
+    if status != Status::Done {
+        return status;
+    }
+    match wanted {
+        Wanted::Step | Wanted::Seeded(_) => Status::Done,
+        Wanted::Load { rows, seed } => write_summary(run, alloc, script, rows, seed, sink),
+    }
+}
+
 /// Runs a script to its end. One without commands has the history and the state of its opening.
 fn run_script<K: Sink>(alloc: Global, script: &Script, wanted: Wanted, sink: &mut K) -> Outcome
     requires settings { AreSettings script.now.with }
@@ -125,16 +183,15 @@ fn run_script<K: Sink>(alloc: Global, script: &Script, wanted: Wanted, sink: &mu
         × RanTo wanted script.now (K.taken sink.old) (K.taken sink.new) result.ledger.history }
     ensures done { result.status ≡ Status.Done
         → HasRun script.now.with script.now.hierarchy script.now.commands result.ledger.history
-        × Appends (K.taken sink.old) (K.taken sink.new)
-        (told script.now.with script.now.commands result.ledger.history) }
+        × Appends (K.taken sink.old) (K.taken sink.new) (asked_text wanted script.now result.ledger.history) }
     ensures run { ((result.status ≡ Status.NoMemory) × LeavesNothing result) ⊎ LeavesRun wanted script.now result }
 {
     // What `open_core` asks of the dimensions is known of each hierarchy that is asked how many it has.
     let _dims = script.hierarchy.dims();
-    let Ok(mut run) = Run::new(alloc, script, schedule_of(wanted)) else {
+    let Ok(mut run) = Run::new(alloc, script, wanted) else {
         return without_run(alloc, Status::NoMemory);
     };
-    let status = run_phases(&mut run, alloc, script, sink);
+    let status = run_wanted(&mut run, alloc, script, wanted, sink);
     with_rest(status, run.state)
 }
 
@@ -158,7 +215,6 @@ fn tell_bad<K: Sink>(alloc: Global, at: u64, cause: Cause, sink: &mut K) -> Outc
 
 /// Reads a script and runs it, or says why it is none. The bytes go before the run.
 fn run_bytes<K: Sink>(alloc: Global, bytes: Vec<u8>, wanted: Wanted, sink: &mut K) -> Outcome
-    requires { length bytes.items ≤ 2 ^ 26 }
     ensures kinds { (result.status ≡ Status.Done)
         ⊎ (result.status ≡ Status.BadScript)
         ⊎ (result.status ≡ Status.WriteFault)
@@ -184,7 +240,7 @@ fn run_bytes<K: Sink>(alloc: Global, bytes: Vec<u8>, wanted: Wanted, sink: &mut 
         → (s : Script)
         × (script (records_of bytes.items) ≡ Ok s)
         × HasRun s.with s.hierarchy s.commands result.ledger.history
-        × Appends (K.taken sink.old) (K.taken sink.new) (told s.with s.commands result.ledger.history) }
+        × Appends (K.taken sink.old) (K.taken sink.new) (asked_text wanted s result.ledger.history) }
     ensures run { (((result.status ≡ Status.BadScript) ⊎ (result.status ≡ Status.NoMemory)) × LeavesNothing result)
         ⊎ ((s : Script) × (script (records_of bytes.items) ≡ Ok s) × LeavesRun wanted s result) }
 {
@@ -197,14 +253,36 @@ fn run_bytes<K: Sink>(alloc: Global, bytes: Vec<u8>, wanted: Wanted, sink: &mut 
     }
 }
 
-/// Reads a script from a source, runs it on this thread as is wanted, and writes the text of its
-/// answers to a sink.
+/// The bytes that are wanted as a script: all those of the source, or the generated text.
+fn wanted_bytes<S: Source>(
+    alloc: Global,
+    wanted: Wanted,
+    source: &mut S,
+) -> Result<Vec<u8>, ReadEnd>
+    requires { AreFewRows wanted }
+    ensures asked { IfOk result (λ bytes. AreAsked wanted (S.left source.old) (S.left source.new) bytes.items) }
+    ensures large { IsErrOf result ReadEnd.TooLarge
+        → Gave (S.left source.old) (S.left source.new) (λ count. count ≡ 2 ^ 26 + 1) }
+    ensures fault { IsErrOf result ReadEnd.ReadFault
+        → Rose (S.faults source.old) (S.faults source.new)
+        × Gave (S.left source.old) (S.left source.new) (λ count. count ≤ 2 ^ 26) }
+    ensures load { (rows seed : ℕ) → wanted ≡ Wanted.Load rows seed
+        → (source.new ≡ source.old) × ¬ IsErrOf result ReadEnd.TooLarge × ¬ IsErrOf result ReadEnd.ReadFault }
+{
+    match wanted {
+        Wanted::Step | Wanted::Seeded(_) => read_all(alloc, source, LIMIT),
+        Wanted::Load { rows, seed } => Ok(generate(alloc, rows, seed)?),
+    }
+}
+
+/// Runs the script that is wanted on this thread, and writes what is wanted of it to a sink.
 fn run_source<S: Source, K: Sink>(
     alloc: Global,
     wanted: Wanted,
     source: &mut S,
     sink: &mut K,
 ) -> Outcome
+    requires { AreFewRows wanted }
     ensures words { result.status ≢ Status.BadWords }
     ensures read_fault { result.status ≡ Status.ReadFault
         → Rose (S.faults source.old) (S.faults source.new)
@@ -238,8 +316,11 @@ fn run_source<S: Source, K: Sink>(
         result.ledger.history }
     ensures run { ((result.status ≢ Status.Done) × (result.status ≢ Status.WriteFault) × LeavesNothing result)
         ⊎ LeavesAsked wanted (S.left source.old) (S.left source.new) result }
+    ensures load { (rows seed : ℕ) → wanted ≡ Wanted.Load rows seed → (source.new ≡ source.old)
+        × ((result.status ≡ Status.Done) ⊎ (result.status ≡ Status.WriteFault) ⊎ (result.status ≡ Status.NoMemory)) }
 {
-    match read_all(alloc, source, LIMIT) {
+    generated_is_a_script();
+    match wanted_bytes(alloc, wanted, source) {
         Ok(bytes) => run_bytes(alloc, bytes, wanted, sink),
         Err(ReadEnd::ReadFault) => without_run(alloc, Status::ReadFault),
         Err(ReadEnd::TooLarge) => without_run(alloc, Status::TooLarge),
@@ -248,7 +329,9 @@ fn run_source<S: Source, K: Sink>(
 }
 
 /// Does what the words of a command line ask, over a source and a sink. The words leave out the
-/// program's own name; `step`, `step --seed N` and `step --seed=N` are known.
+/// program's own name; `step`, `step --seed N` and `load --rows N --seed K` are known. An option's
+/// name and its number may be one word with an equals sign between them, and those of `load` come in
+/// either order.
 ///
 /// Decided in this order: the words, the reading, the script, the run and the writing.
 pub fn olap<R: Threads + Wait + Sync, S: Source, K: Sink, M: Meet>(
@@ -299,17 +382,22 @@ pub fn olap<R: Threads + Wait + Sync, S: Source, K: Sink, M: Meet>(
     ensures run { ((result.status ≢ Status.Done) × (result.status ≢ Status.WriteFault) × LeavesNothing result)
         ⊎ ForSomeWanted words.now (λ wanted. LeavesAsked wanted (S.left source.old) (S.left source.new) result) }
 
-    // Where the word is `step` alone, each command ends before the next begins, whatever the answer.
-    ensures serial { AskFor words.now Wanted.Step
+    // Where the commands go in order, for `step` alone and for `load`, each ends before the next begins, whatever the answer.
+    ensures serial { (wanted : words_ask.Wanted) → AskFor words.now wanted → goes_in_order wanted ≡ true
         → (result.ledger.history ≡ [])
-        ⊎ IsSerialRun Wanted.Step (S.left source.old) (S.left source.new) result.ledger.history }
+        ⊎ IsSerialRun wanted (S.left source.old) (S.left source.new) result.ledger.history }
 
     // A good script on which no fault rises is run to its end, unless memory runs out.
     ensures complete { (wanted : words_ask.Wanted) → AskFor words.now wanted
-        → IsGoodScript (S.left source.old)
+        → HasGoodScript wanted (S.left source.old)
         → ¬ Rose (S.faults source.old) (S.faults source.new)
         → ¬ Rose (K.faults sink.old) (K.faults sink.new)
         → (result.status ≡ Status.Done) ⊎ (result.status ≡ Status.NoMemory) }
+
+    // A load does not touch the source, and its script is never bad.
+    ensures load { (rows seed : ℕ) → AskFor words.now (Wanted.Load rows seed)
+        → (source.new ≡ source.old)
+        × ((result.status ≡ Status.Done) ⊎ (result.status ≡ Status.WriteFault) ⊎ (result.status ≡ Status.NoMemory)) }
 {
     match Wanted::of_words(words) {
         Some(wanted) => run_source(alloc, wanted, source, sink),

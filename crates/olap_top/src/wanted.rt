@@ -1,7 +1,8 @@
-//! What the words of a command line want to run, with a seed or without.
-ghost use Rattle.std.specs.Prelude.{◌≡◌, ◌∷◌, [], map, string_bytes};
+//! What the words of a command line want to run: a script from the source, with a seed or without, or
+//! the generated one.
+ghost use Rattle.std.specs.Prelude.{◌≡◌, codes, map, option_and_then, option_map, string_bytes};
 ghost use Rattle.std.specs.Str.{bytes_eq};
-ghost use Rattle.olap_top.specs.Wanted.{seed_behind, seed_of, wanted};
+ghost use Rattle.olap_top.specs.Wanted.{behind, given, given_alone, given_both, load_by, load_of, rows_of, seed_of, step_of, wanted};
 
 use script_form::field::number;
 
@@ -13,7 +14,13 @@ pub enum Wanted {
     /// A script from the source, on this thread, where a seed draws whose turn it is: `step` with
     /// the option `--seed`.
     Seeded(u64),
+    /// The generated script of so many rows by a seed, run as `step` runs one, and its summary: `load`
+    /// with the options `--rows` and `--seed`.
+    Load { rows: u64, seed: u64 },
 }
+
+/// How many rows a generated script has at most.
+const MOST_ROWS: u128 = 200_000;
 
 /// Whether a word is this text.
 fn is_word(word: &String, text: &str) -> bool
@@ -34,70 +41,112 @@ fn seed_of(word: &[u8]) -> Option<u64>
     }
 }
 
-/// The seed in a word that names the option too, with an equals sign between them.
-fn seed_behind(word: &[u8]) -> Option<u64>
-    ensures { result ≡ seed_behind word.now }
+/// How many rows a word spells: a number from 1 to 200000, in at most 20 digits.
+fn rows_of(word: &[u8]) -> Option<u64>
+    ensures { result ≡ rows_of word.now }
 {
-    match word.strip_prefix(b"--seed=".as_slice()) {
-        Some(text) => seed_of(text),
-        None => None,
-    }
-}
-
-/// What one word wants.
-fn by_one(first: &String) -> Option<Wanted>
-    ensures { result ≡ wanted (string_bytes first.now ∷ []) }
-{
-    if is_word(first, "step") {
-        Some(Wanted::Step)
+    let value = number(word)?;
+    if 1 <= value && value <= MOST_ROWS {
+        Some(value as u64)
     } else {
         None
     }
 }
 
-/// What two words want.
-fn by_two(first: &String, option: &String) -> Option<Wanted>
-    ensures { result ≡ wanted (string_bytes first.now ∷ string_bytes option.now ∷ []) }
+/// What stands in a word behind the name of an option and an equals sign.
+fn behind<'a>(word: &'a [u8], name: &[u8]) -> Option<&'a [u8]>
+    ensures { option_map (λ text. text.now) result ≡ option_and_then (behind (codes "=")) (behind name.now word.now) }
 {
-    if is_word(first, "step") {
-        seed_behind(option.as_str().as_bytes()).map(Wanted::Seeded)
-    } else {
-        None
-    }
+    word.strip_prefix(name)?.strip_prefix(b"=".as_slice())
 }
 
-/// What three words want.
-fn by_three(first: &String, option: &String, value: &String) -> Option<Wanted>
-    ensures { result ≡ wanted (string_bytes first.now ∷ string_bytes option.now ∷ string_bytes value.now ∷ []) }
+/// What the first of these words give an option: the text behind its name, as a word or behind an
+/// equals sign; and the words behind that.
+fn given<'a>(name: &str, words: &'a [String]) -> Option<(&'a [u8], &'a [String])>
+    ensures { option_map (λ one. (one.0.now, map string_bytes one.1.now)) result ≡ given name.now (map string_bytes words.now) }
 {
-    if is_word(first, "step") && is_word(option, "--seed") {
-        seed_of(value.as_str().as_bytes()).map(Wanted::Seeded)
-    } else {
-        None
+    let (word, rest) = words.split_first()?;
+    if is_word(word, name) {
+        let (text, rest) = rest.split_first()?;
+        return Some((text.as_str().as_bytes(), rest));
     }
+    let text = behind(word.as_str().as_bytes(), name.as_bytes())?;
+    Some((text, rest))
+}
+
+/// What these words give an option, and nothing more.
+fn given_alone<'a>(name: &str, words: &'a [String]) -> Option<&'a [u8]>
+    ensures { option_map (λ text. text.now) result ≡ given_alone name.now (map string_bytes words.now) }
+{
+    let (text, rest) = given(name, words)?;
+    if rest.is_empty() { Some(text) } else { None }
+}
+
+/// What these words give two options, in this order.
+fn given_both<'a>(first: &str, second: &str, words: &'a [String]) -> Option<(&'a [u8], &'a [u8])>
+    ensures { option_map (λ both. (both.0.now, both.1.now)) result ≡ given_both first.now second.now (map string_bytes words.now) }
+{
+    let (one, rest) = given(first, words)?;
+    let two = given_alone(second, rest)?;
+    Some((one, two))
+}
+
+/// What `step` with these options wants.
+fn step_of(options: &[String]) -> Option<Wanted>
+    ensures { result ≡ step_of (map string_bytes options.now) }
+{
+    if options.is_empty() {
+        return Some(Wanted::Step);
+    }
+    let text = given_alone("--seed", options)?;
+    seed_of(text).map(Wanted::Seeded)
+}
+
+/// The load of so many rows by this seed.
+fn load_by(rows: &[u8], seed: &[u8]) -> Option<Wanted>
+    ensures { result ≡ load_by rows.now seed.now }
+{
+    let rows = rows_of(rows)?;
+    let seed = seed_of(seed)?;
+    Some(Wanted::Load { rows, seed })
+}
+
+/// What `load` with these options wants.
+fn load_of(options: &[String]) -> Option<Wanted>
+    ensures { result ≡ load_of (map string_bytes options.now) }
+{
+    if let Some((rows, seed)) = given_both("--rows", "--seed", options) {
+        return load_by(rows, seed);
+    }
+    let (seed, rows) = given_both("--seed", "--rows", options)?;
+    load_by(rows, seed)
 }
 
 /// What words want.
 fn by_words(words: &[String]) -> Option<Wanted>
     ensures { result ≡ wanted (map string_bytes words.now) }
 {
-    match words {
-        [first] => by_one(first),
-        [first, option] => by_two(first, option),
-        [first, option, value] => by_three(first, option, value),
-        _ => None,
+    let (first, options) = words.split_first()?;
+    if is_word(first, "step") {
+        step_of(options)
+    } else if is_word(first, "load") {
+        load_of(options)
+    } else {
+        None
     }
 }
 
 impl Wanted {
-    ghost use Rattle.std.specs.Prelude.{◌≡◌, IfSome, None, map, string_bytes};
+    ghost use Rattle.std.specs.Prelude.{◌≡◌, IfSome, None, Some, map, string_bytes};
     ghost use Rattle.olap_top.specs.declared.wanted.Wanted.{Wanted};
-    ghost use Rattle.olap_top.specs.Wanted.{Want};
+    ghost use Rattle.olap_top.specs.Wanted.{AreFewRows, Want};
 
     /// What these words want to run, where they leave out the program's own name; nothing where the
     /// program does not know them.
     pub fn of_words(words: &[String]) -> Option<Wanted>
         ensures some { IfSome result (Want (map string_bytes words.now)) }
+        ensures sole { (w : Wanted) → Want (map string_bytes words.now) w → result ≡ Some w }
+        ensures few { IfSome result AreFewRows }
         ensures none { result ≡ None → (w : Wanted) → ¬ Want (map string_bytes words.now) w }
     {
         by_words(words)

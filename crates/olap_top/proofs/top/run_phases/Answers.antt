@@ -25,7 +25,7 @@ phase-requires-clause-closes g c =
     (subst (λ (l : List Command). NoneCloses (take (c.phase_len.result - 1) l)) back c.phase_len.ensures.closing)
 
 pub returns-in_default-clause-no_memory : goal.returns-in_default-clause-no_memory
-returns-in_default-clause-no_memory g c = λ is wanted.
+returns-in_default-clause-no_memory g c = λ is wanted telling.
     let s = c.args.script.now in
     let all = c.as_slice-all.result.now in
     let n = c.loop-done.done in
@@ -33,7 +33,7 @@ returns-in_default-clause-no_memory g c = λ is wanted.
     let low : n ≤ m = omega arith in
     let next = next-of s all n c.phase_len.result c.loop-done.invariant.all_is
     (subst (λ (l : List Command). phases l ≡ take c.phase_len.result l ∷ phases (drop c.phase_len.result l)) c.split_at.ensures.back c.phase_len.ensures.phase) in
-    at-halt wanted s n m (g.K.Sink.taken c.args.sink.now) (g.K.Sink.taken c.loop-done.sink) c.args.run.now c.loop-done.run c.phase.new.self next c.loop-done.invariant.at
+    at-halt wanted s n m (g.K.Sink.taken c.args.sink.now) (g.K.Sink.taken c.loop-done.sink) c.args.run.now c.loop-done.run c.phase.new.self telling next c.loop-done.invariant.at
     (stopped-of s all n m c.loop-done.run c.phase.new.self low c.loop-done.invariant.all_is c.in_default.ensures.stopped)
 
 pub returns-in_default-clause-left : goal.returns-in_default-clause-left
@@ -59,12 +59,12 @@ returns-in_default-write_all-clause-write_fault g c = λ is.
     (subst (λ (l : List Command). phases l ≡ take c.phase_len.result l ∷ phases (drop c.phase_len.result l)) c.split_at.ensures.back c.phase_len.ensures.phase) in
     let later : g.K.Sink.faults c.args.sink.now ≤ g.K.Sink.faults c.loop-done.sink = c.loop-done.invariant.later in
     let rose : Rose (g.K.Sink.faults c.loop-done.sink) (g.K.Sink.faults c.write_all.new.sink) = c.in_default-write_all.ensures.cause.failed in
-    let part = rw c.deref.ensures.value at c.in_default-write_all.ensures.part in (
-      omega arith,
-      (λ wanted. at-fault wanted s n m (g.K.Sink.taken c.args.sink.now) (g.K.Sink.taken c.loop-done.sink) (g.K.Sink.taken c.write_all.new.sink) c.args.run.now c.loop-done.run c.phase.new.self c.in-Ok.text.items next c.loop-done.invariant.at
-          (gone-of s all n m c.loop-done.run c.phase.new.self c.in-Ok.text.items low c.loop-done.invariant.all_is c.in-Ok.ensures.gone)
-          (record { count = part.0; part = part.1; took = part.2 })),
-    )
+    let risen : Rose (g.K.Sink.faults c.args.sink.now) (g.K.Sink.faults c.write_all.new.sink) = omega arith in
+    let part = rw c.deref.ensures.value at c.in_default-write_all.ensures.part in
+    let fault = at-fault s n m (g.K.Sink.taken c.args.sink.now) (g.K.Sink.taken c.loop-done.sink) (g.K.Sink.taken c.write_all.new.sink) c.args.run.now c.loop-done.run c.phase.new.self c.in-Ok.text.items next c.loop-done.invariant.at
+    (gone-of s all n m c.loop-done.run c.phase.new.self c.in-Ok.text.items low c.loop-done.invariant.all_is c.in-Ok.ensures.gone)
+    (record { count = part.0; part = part.1; took = part.2 }) in
+    (risen, fault.0, fault.1)
 
 pub returns-in_default-write_all-clause-left : goal.returns-in_default-write_all-clause-left
 returns-in_default-write_all-clause-left g c =
@@ -79,6 +79,18 @@ returns-in_default-write_all-clause-left g c =
     (at-next s n m None None None c.args.run.now c.loop-done.run c.phase.new.self c.in-Ok.text.items next
     (unread s n (g.K.Sink.taken c.args.sink.now) (g.K.Sink.taken c.loop-done.sink) c.args.run.now c.loop-done.run c.loop-done.invariant.at)
     (gone-of s all n m c.loop-done.run c.phase.new.self c.in-Ok.text.items low c.loop-done.invariant.all_is c.in-Ok.ensures.gone) tt)
+
+pub returns-in_default-clause-later : goal.returns-in_default-clause-later
+returns-in_default-clause-later g c = c.loop-done.invariant.later
+
+pub returns-in_default-write_all-clause-later : goal.returns-in_default-write_all-clause-later
+returns-in_default-write_all-clause-later g c =
+    let before : g.K.Sink.faults c.args.sink.now ≤ g.K.Sink.faults c.loop-done.sink = c.loop-done.invariant.later in
+    let behind : g.K.Sink.faults c.loop-done.sink ≤ g.K.Sink.faults c.write_all.new.sink = c.in_default-write_all.ensures.cause.later in
+    omega arith
+
+pub returns-clause-later : goal.returns-clause-later
+returns-clause-later g c = c.loop-done.invariant.later
 
 pub loop-done-preserved : goal.loop-done-preserved
 loop-done-preserved g c =

@@ -1,8 +1,9 @@
-use Rattle.std.proofs.Common.{◌≡◌, [], append-nil, sym, subst}
+use Rattle.std.proofs.Common.{◌≡◌, [], subst}
 use Rattle.seeded_run.specs.Kept.{IsBetween}
 use Rattle.seeded_run.specs.Phase.{about, held, is_order}
 use Rattle.volap_cell.specs.Steps.{history_in}
 use Rattle.olap_top.specs.OneRun.{setting_of}
+use Rattle.olap_top.proofs.PhaseTurns.{told-none}
 use Rattle.olap_top.proofs.run.Run.new.Goals as goal
 
 pub returns-clause-behind : goal.returns-clause-behind
@@ -12,11 +13,6 @@ returns-clause-behind c =
     let about_is : about s.hierarchy s.with c.in_ok-state.state ≡ setting_of s = (λ k. record { hierarchy = s.hierarchy; servers = s.with.servers; workers = s.with.workers; stock_cells = s.with.cells; roles = opened.roles k }) in
     record {
       is_held = record { core = opened.core; about_is = about_is };
-      between = subst (λ t. IsBetween (is_order c.args.schedule) t s.with [] (held s.hierarchy s.with c.in_ok-state.state)) about_is (opened.between (is_order c.args.schedule));
-      told = record {
-        past = [];
-        more = history_in (held s.hierarchy s.with c.in_ok-state.state);
-        told = c.in_ok-teller.ensures.has s.with;
-        grown = sym (append-nil (history_in (held s.hierarchy s.with c.in_ok-state.state)));
-      };
+      between = subst (λ t. IsBetween (is_order c.schedule_of.result) t s.with [] (held s.hierarchy s.with c.in_ok-state.state)) about_is (opened.between (is_order c.schedule_of.result));
+      told = told-none s (history_in (held s.hierarchy s.with c.in_ok-state.state)) c.in_ok-teller.teller c.in_ok-teller.ensures.has;
     }
