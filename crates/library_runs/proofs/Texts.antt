@@ -30,7 +30,7 @@ is-answer words bytes given left empty taken history given_is empty_is alone don
     let asked : IsDone Step (Some given) (Some left) (Some empty) (Some taken) history = subst (λ wanted. IsDone wanted (Some given) (Some left) (Some empty) (Some taken) history) step done.2 in
     let read : IsDone Step (Some bytes) (Some left) (Some empty) (Some taken) history = subst (λ l. IsDone Step (Some l) (Some left) (Some empty) (Some taken) history) given_is asked in
     let is : IsDone Step (Some bytes) (Some left) (Some []) (Some taken) history = subst (λ l. IsDone Step (Some bytes) (Some left) (Some l) (Some taken) history) empty_is read in
-    let whole : IsReadWhole (Some bytes) (Some left) is.read.bytes = is.read.read in
+    let whole : IsReadWhole (Some bytes) (Some left) is.read.bytes = is.read.asked in
     record {
       asked = is.script;
       read = subst (λ l. script (records_of l) ≡ Ok is.script) (read-all bytes left is.read.bytes whole.consumed whole.at_end) is.read.is_script;
