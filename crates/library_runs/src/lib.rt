@@ -1,0 +1,12 @@
+//! Small callers of whole runs, as examples of how these are used: an index for one thread, and a
+//! script from its bytes to the bytes of its answers.
+#![tactic(auto)]
+
+mod index;
+mod text;
+
+pub use index::Index;
+pub use text::{Answered, run_text};
+
+#[cfg(test)]
+mod tests;
