@@ -11,3 +11,4 @@ pub mod PhaseSteps
 pub mod Summaries
 pub mod Settled
 pub mod Leaving
+pub mod Complete

@@ -68,15 +68,15 @@ returns-in-Ok-clause-run g c = elim c.run_bytes.ensures.run [
 
 pub returns-in-Ok-clause-load : goal.returns-in-Ok-clause-load
 returns-in-Ok-clause-load g c = λ rows seed load. (
-      (c.wanted_bytes.ensures.load rows seed load).0,
-      elim c.run_bytes.ensures.kinds [
-        | inl done ↦ inl done
-        | inr (inl is) ↦
-            let bad = c.run_bytes.ensures.bad_script is in
-            absurd (load-good rows seed (g.S.Source.left c.args.source.now) (g.S.Source.left c.wanted_bytes.new.source) c.in-Ok.bytes.items bad.0 bad.1 c.generated_is_a_script.ensures (subst (λ (w : Wanted). AreAsked w (g.S.Source.left c.args.source.now) (g.S.Source.left c.wanted_bytes.new.source) c.in-Ok.bytes.items) load c.in-Ok.ensures.asked) bad.2)
-        | inr (inr rest) ↦ inr rest
-      ],
-    )
+  (c.wanted_bytes.ensures.load rows seed load).0,
+  elim c.run_bytes.ensures.kinds [
+    | inl done ↦ inl done
+    | inr (inl is) ↦
+        let bad = c.run_bytes.ensures.bad_script is in
+        absurd (load-good rows seed (g.S.Source.left c.args.source.now) (g.S.Source.left c.wanted_bytes.new.source) c.in-Ok.bytes.items bad.0 bad.1 c.generated_is_a_script.ensures (subst (λ (w : Wanted). AreAsked w (g.S.Source.left c.args.source.now) (g.S.Source.left c.wanted_bytes.new.source) c.in-Ok.bytes.items) load c.in-Ok.ensures.asked) bad.2)
+    | inr (inr rest) ↦ inr rest
+  ],
+)
 
 pub returns-in-Err-ReadFault-clause-words : goal.returns-in-Err-ReadFault-clause-words
 returns-in-Err-ReadFault-clause-words g c = λ is. let same : status_is.ReadFault ≡ status_is.BadWords = sym c.without_run.ensures.status ∙ is in cc

@@ -56,8 +56,8 @@ returns-in-Step g c =
       no_memory = λ is. absurd cc;
       write_fault = λ is. absurd cc;
       done = λ is. (
-          ran.0,
-          wrote-all c.args.wanted s (g.K.Sink.taken c.args.sink.now) (g.K.Sink.taken status.new.sink) (history_of s status.new.run) (tells c.args.run.now) c.requires.tells (tells-step c.args.wanted c.in-Step.is) ran.1,
+        ran.0,
+        wrote-all c.args.wanted s (g.K.Sink.taken c.args.sink.now) (g.K.Sink.taken status.new.sink) (history_of s status.new.run) (tells c.args.run.now) c.requires.tells (tells-step c.args.wanted c.in-Step.is) ran.1,
       );
       left = status.ensures.left;
     }
@@ -108,7 +108,7 @@ returns-in-Load-clause-done g c = λ is.
     let none = wrote-none c.in-Load.rows c.in-Load.seed s before (g.K.Sink.taken status.new.sink) history (tells c.args.run.now) (c.requires.tells ∙ ap tells_phases c.in-Load.is) ran.1 in (
       ran.0,
       subst (λ (w : Wanted). Appends before (g.K.Sink.taken c.write_summary.new.sink) (asked_text w s history)) (sym c.in-Load.is)
-      (Appends-more before (g.K.Sink.taken status.new.sink) (g.K.Sink.taken c.write_summary.new.sink) [] (summary c.in-Load.rows c.in-Load.seed s.with s.commands history) none (c.write_summary.ensures.done is)),
+          (Appends-more before (g.K.Sink.taken status.new.sink) (g.K.Sink.taken c.write_summary.new.sink) [] (summary c.in-Load.rows c.in-Load.seed s.with s.commands history) none (c.write_summary.ensures.done is)),
     )
 
 pub returns-in-Load-clause-left : goal.returns-in-Load-clause-left
