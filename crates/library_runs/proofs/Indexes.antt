@@ -1,7 +1,8 @@
 -- What is known of an index.
-use Rattle.std.proofs.Common.{◌≡◌, ◌∙◌, ℕ, ◌<◌, ◌≤◌, ◌-◌, ◌^◌, Bool, true, List, [], ◌∷◌, ◌++◌, zero, suc, length, take, drop, refl, reverse, sym, ap, subst, arith}
+use Rattle.std.proofs.Common.{◌≡◌, ◌∙◌, ℕ, ◌<◌, ◌≤◌, ◌-◌, ◌^◌, Bool, true, List, [], ◌∷◌, ◌++◌, zero, suc, get_or, length, take, drop, refl, reverse, sym, ap, subst, arith}
 use Rattle.std.specs.Prelude.{Some, slice_get}
 use Rattle.std.proofs.lemmas.List.{reverse-append, take-append-drop, take-append-le, take_all}
+use Rattle.std.proofs.lemmas.Option.{slice_get-get_or}
 use Rattle.dim_hierarchy.specs.Dimension.{Dimension, IsHierarchy}
 use Rattle.measure_agg.specs.Aggregate.{Aggregate}
 use Rattle.row_ledger.proofs.Growth.{IsRight-kept}
@@ -136,6 +137,18 @@ last-newest (x ∷ y ∷ rest) e at =
     let there : slice_get (x ∷ y ∷ rest) (suc (length rest)) ≡ Some e = subst (λ k. slice_get (x ∷ y ∷ rest) k ≡ Some e) n at in
     let before = last-newest (y ∷ rest) e (subst (λ k. slice_get (y ∷ rest) k ≡ Some e) (sym m) there) in
     (before.0 ++ x ∷ [], reverse-append (x ∷ []) (y ∷ rest) ∙ ap (λ l. l ++ x ∷ []) before.1)
+
+-- and the newest one is the last of them
+pub newest-last : (events : List Event) (e : Event) (past : List Event) → reverse events ≡ e ∷ past → slice_get events (length events - 1) ≡ Some e
+newest-last [] e past is = cc
+newest-last (x ∷ rest) e past is =
+    let last : Event = get_or (x ∷ rest) (length (x ∷ rest) - 1) e in
+    let at : slice_get (x ∷ rest) (length (x ∷ rest) - 1) ≡ Some last = slice_get-get_or (x ∷ rest) (length (x ∷ rest) - 1) e (omega arith) in
+    let newest = last-newest (x ∷ rest) last at in
+    at ∙ ap Some (same-head last e newest.0 past (sym newest.1 ∙ is))
+  where
+    same-head : (a b : Event) (xs ys : List Event) → a ∷ xs ≡ b ∷ ys → a ≡ b
+    same-head a b xs ys same = cc
 
 -- the newest answer is of all, and to the last command
 pub answers-last : (x : Index) (of : ℕ) (answer : Aggregate) (past : List Event) → IsHeld x → history_of x ≡ Answered of answer ∷ past → AnswersLast x answer

@@ -1,5 +1,5 @@
 -- What an index for one thread is, and what its history says.
-use Rattle.std.specs.Prelude.{ℕ, ◌≡◌, true, List, [], ◌∷◌, ◌++◌, Some, filter}
+use Rattle.std.specs.Prelude.{ℕ, ◌≡◌, ◌≢◌, true, List, [], ◌∷◌, ◌++◌, Some, filter}
 use Rattle.dim_hierarchy.specs.Dimension.{Dimension}
 use Rattle.dim_hierarchy.specs.Filter.{matches}
 use Rattle.dim_hierarchy.specs.declared.row.Row.{Row}
@@ -71,3 +71,7 @@ pub record AnswersLast (x : Index) (answer : Aggregate) : Type 0 where
   pub asked : query_at past of ≡ Some query
   pub all : IsOfAll x.hierarchy past of query answer
   pub last : (done : List Command) (c : Command) → x.commands ≡ done ++ c ∷ [] → BeginsAt (alone x.cells) x.hierarchy (history_of x) c (Some of)
+
+-- the newest event is no answer
+abbrev pub AnswersNothing : Index → Type 0
+AnswersNothing x = (of : ℕ) (answer : Aggregate) (past : List Event) → history_of x ≢ Answered of answer ∷ past

@@ -1,12 +1,12 @@
 //! An index for one thread: rows come in and questions are answered, one after the other.
-ghost use Rattle.std.specs.Prelude.{◌≡◌, ◌<◌, ◌≤◌, ◌^◌, All, IfOk, IfSome, List, length, reverse};
+ghost use Rattle.std.specs.Prelude.{◌≡◌, ◌<◌, ◌≤◌, ◌^◌, All, IfOk, IfSome, List, None, length, reverse};
 ghost use Rattle.dim_hierarchy.specs.Filter.{IsNamePick};
 ghost use Rattle.dim_hierarchy.specs.Dimension.{Dimension};
 ghost use Rattle.row_ledger.specs.declared.settings.Use as settings;
 ghost use Rattle.script_form.specs.declared.script.Command.TheVariants as command;
 ghost use Rattle.seeded_run.specs.Phase.{IsCoreHeld, MayRun, held};
 ghost use Rattle.volap_cell.specs.Steps.{history_in};
-ghost use Rattle.library_runs.specs.Index.{AnswersLast, HasDone, IsHeld, IsNew, IsRightIndex, alone, history_of};
+ghost use Rattle.library_runs.specs.Index.{AnswersLast, AnswersNothing, HasDone, IsHeld, IsNew, IsRightIndex, alone, history_of};
 
 use dim_hierarchy::{Hierarchy, NameFilter, Names};
 use measure_agg::Agg;
@@ -141,7 +141,8 @@ impl Index {
     /// The answer to the query that was done last, where it was answered.
     pub fn answer(&self) -> Option<Agg>
         requires { IsHeld self.now }
-        ensures { IfSome result (AnswersLast self.now) }
+        ensures some { IfSome result (AnswersLast self.now) }
+        ensures none { result ≡ None → AnswersNothing self.now }
     {
         match events_in(&self.state).last() {
             Some(Event::Answered { agg, .. }) => Some(*agg),
