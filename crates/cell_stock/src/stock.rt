@@ -1,3 +1,4 @@
+//! The stock of free cells, stamps and shard ids.
 ghost use Rattle.std.specs.Prelude.{ℕ, ◌≡◌, ◌+◌, ◌-◌, ◌<◌, ◌≤◌, ◌^◌, ◌↔◌, List, [], ◌++◌, length, vec_len, vec_capacity, IfOk, IfSome, IfNone, IsNone};
 ghost use Rattle.std.specs.List.{range_with_len};
 ghost use Rattle.cell_stock.specs.Stock.{StockValue, PurseValue, cells_of, IsStock, Takes, AreOut, Gives, AreFresh};

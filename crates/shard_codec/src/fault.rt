@@ -1,3 +1,4 @@
+//! What can be wrong with a transfer text.
 use std::alloc::{AllocError, AllocFailed};
 
 /// The first fault of a transfer text, or want of memory.

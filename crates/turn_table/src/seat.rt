@@ -11,7 +11,7 @@ pub const MOST: usize = 7;
 #[derive(Drop)]
 pub struct Seat<C: Core> {
     pub(crate) number: u32,
-    // The held cells, the first taken first, each with the rank that was told for it.
+    /// The held cells, the first taken first, each with the rank that was told for it.
     pub(crate) row: ArrayVec<(u32, Option<u8>), MOST>,
     pub(crate) lifted: bool,
     pub(crate) place: Place<C>,
