@@ -1,3 +1,4 @@
+//! What a cell holds.
 use cell_stock::Stock;
 use dc_node::Block;
 use mapping_table::MapTable;

@@ -1,3 +1,4 @@
+//! The split or the move of a shard, and how far it has come.
 use cell_stock::Purse;
 use dc_node::{Block, Todo};
 use describing_set::{DescSet, Plane};
@@ -59,7 +60,7 @@ pub struct Building {
     pub read: CellList,
     pub left: BuiltTree,
     pub right: Option<BuiltTree>,
-    /// The blocks that aren't in their cells yet.
+    /// The blocks that are not in their cells yet.
     pub unbuilt: Items<Unbuilt>,
     /// The spares that all new blocks took.
     pub spent: Purse,
@@ -75,7 +76,7 @@ pub struct BuiltTree {
     pub set: DescSet,
 }
 
-/// A block of a new tree that isn't in its cell yet.
+/// A block of a new tree that is not in its cell yet.
 #[derive(Drop)]
 pub struct Unbuilt {
     pub cell: u32,
