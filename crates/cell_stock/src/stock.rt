@@ -11,6 +11,7 @@ use std::marker::Model;
 /// Cells that are free, and how many stamps and shard ids were given out. Cells are numbered from 0.
 #[derive(Drop)]
 pub struct Stock {
+    /// How many cells there are, free or not.
     cells: u32,
     free: Vec<u32>,
     stamps: u64,

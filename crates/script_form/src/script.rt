@@ -36,6 +36,7 @@ pub enum Cause {
 pub enum ScriptFault {
     /// The record with this number, counted from 1, is the first bad one, and why.
     Bad { at: u64, cause: Cause },
+    /// No memory was found.
     NoMemory,
 }
 

@@ -14,6 +14,7 @@ pub enum CodecFault {
     BadConcept { at: u64, id: u32 },
     /// Bytes follow the last row, from this offset on.
     Trailing { at: u64 },
+    /// No memory was found.
     NoMemory,
 }
 

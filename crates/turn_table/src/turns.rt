@@ -18,7 +18,7 @@ use arrayvec::ArrayVec;
 use std::marker::Brand;
 use std::sync::Wait;
 
-/// The cell's word was not 0, so another seat held the cell.
+/// A cell that another seat held, and its word, which was not 0.
 #[derive(Clone, Copy)]
 pub struct Busy {
     pub cell: u32,
