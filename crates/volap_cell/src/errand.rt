@@ -22,9 +22,11 @@ pub struct Errand {
 /// What an errand does for its part.
 #[derive(Drop)]
 pub enum Task {
+    /// It takes a row to its place.
     Row(RowErrand),
     /// A query's part that has read no gate.
     Unread(Filter),
+    /// A query's part that has read its gate.
     Read(Box<Reading>),
 }
 

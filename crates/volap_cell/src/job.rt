@@ -21,11 +21,15 @@ pub struct Job {
 /// How far a job has come.
 #[derive(Drop)]
 pub enum Stage {
+    /// The shard is not frozen yet.
     Called,
+    /// It is declined, and why.
     Declined(Decline),
     /// The shard is frozen, and inserts may still be in its tree.
     Frozen(Frozen),
+    /// The shard's rows are collected.
     Collecting(Collecting),
+    /// The new trees are put into their cells.
     Building(Building),
 }
 
