@@ -1,3 +1,4 @@
+//! The plan of a balance, action by action.
 ghost use Rattle.std.specs.Prelude.{◌≡◌, ◌^◌, ◌<◌, IfOk};
 ghost use Rattle.shard_plan.specs.Balancing.{plan, after_move};
 ghost use Rattle.balancer.specs.Turn.{next_action, split_of, rows_of_all};
@@ -7,10 +8,10 @@ use crate::workers::{emptiest, fullest, rows_on};
 use shard_plan::{Action, Load};
 use std::alloc::{AllocError, Global};
 
-// The gap between the fullest and the emptiest worker that is left as it is, in rows.
+/// The gap between the fullest and the emptiest worker that is left as it is, in rows.
 const EVEN_GAP: u64 = 32;
 
-// The fewest rows of a shard that is split.
+/// The fewest rows of a shard that is split.
 const SPLIT_ROWS: u64 = 64;
 
 /// The plan of a balance for at most `n` actions.
@@ -35,7 +36,7 @@ pub fn plan(alloc: Global, loads: &[Load], workers: u8, n: u8) -> Result<Vec<Act
     Ok(actions)
 }
 
-// What is planned first, or nothing where the loads are even enough or no shard can make them so.
+/// What is planned first, or nothing where the loads are even enough or no shard can make them so.
 fn next_action(loads: &[Load], workers: u8) -> Option<Action>
     requires { rows_of_all loads.now < 2 ^ 63 }
     ensures { result ≡ next_action loads.now workers }
@@ -55,7 +56,7 @@ fn next_action(loads: &[Load], workers: u8) -> Option<Action>
     }
 }
 
-// The split of a shard that is large enough.
+/// The split of a shard that is large enough.
 fn split_of(found: Option<Load>) -> Option<Action>
     ensures { result ≡ split_of found }
 {

@@ -31,7 +31,7 @@ pub fn largest_on(loads: &[Load], worker: u8) -> Option<Load>
     found
 }
 
-// The one of more rows, on a tie the one of the lower id; the one found before stays where the two are alike.
+/// The one of more rows, on a tie the one of the lower id; the one found before stays where the two are alike.
 fn larger(found: Option<Load>, load: Load) -> Load
     ensures { Some result ≡ earlier is_larger found load }
 {
@@ -41,7 +41,7 @@ fn larger(found: Option<Load>, load: Load) -> Load
     }
 }
 
-// Whether a load comes before another one where the largest is looked for.
+/// Whether a load comes before another one where the largest is looked for.
 fn is_larger(a: &Load, b: &Load) -> bool
     ensures { result ≡ is_larger a.now b.now }
 {

@@ -1,3 +1,4 @@
+//! The blocks of cells, made as they are needed.
 ghost use Rattle.std.specs.Prelude.{◌≡◌, ◌≤◌, ◌<◌, ◌+◌, ◌++◌, ◌∷◌, ◌^◌, [], true, false, min, length, replicate, set, slice_get, IfSome, OnOk};
 ghost use Rattle.std.specs.Option.{option_copied};
 ghost use Rattle.dim_hierarchy.specs.Row.{IsRowOf};

@@ -1,3 +1,4 @@
+//! Spares, and the purse that an actor has them in.
 ghost use Rattle.std.specs.Prelude.{◌≡◌, ◌+◌, ◌<◌, ◌≤◌, ◌^◌, List, None, ◌∷◌, ◌++◌, [], length, vec_len, vec_capacity, OnOk, IfSome};
 ghost use Rattle.cell_stock.specs.Stock.{Fills};
 ghost use Rattle.cell_stock.specs.declared.purse.Spare as declared;

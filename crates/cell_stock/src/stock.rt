@@ -1,3 +1,4 @@
+//! The stock of free cells, stamps and shard ids.
 ghost use Rattle.std.specs.Prelude.{ℕ, ◌≡◌, ◌+◌, ◌-◌, ◌<◌, ◌≤◌, ◌^◌, ◌↔◌, List, [], ◌++◌, length, vec_len, vec_capacity, IfOk, IfSome, IfNone, IsNone};
 ghost use Rattle.std.specs.List.{range_with_len};
 ghost use Rattle.cell_stock.specs.Stock.{StockValue, PurseValue, cells_of, IsStock, Takes, AreOut, Gives, AreFresh};
@@ -10,6 +11,7 @@ use std::marker::Model;
 /// Cells that are free, and how many stamps and shard ids were given out. Cells are numbered from 0.
 #[derive(Drop)]
 pub struct Stock {
+    /// How many cells there are, free or not.
     cells: u32,
     free: Vec<u32>,
     stamps: u64,

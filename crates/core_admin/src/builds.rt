@@ -19,7 +19,7 @@ use std::mem;
 use tree_shape::{collect_laws, frame_law};
 use volap_cell::{Actor, Building, Cell, Command, Job, Stage, Unbuilt, Work};
 
-/// Puts the last block of the actor's job that isn't in its cell yet there. What the cell had goes. Takes no
+/// Puts the last block of the actor's job that is not in its cell yet there. What the cell had goes. Takes no
 /// memory; the allocator is that of the list of blocks.
 pub fn build_block(alloc: Global, h: &Hierarchy, at: u32, cell: &mut Cell, actor: &mut Actor)
     requires here { IsHere h.now (held at (cell_of cell.old) ∷ []) (actor_of actor.old) }
@@ -35,7 +35,7 @@ pub fn build_block(alloc: Global, h: &Hierarchy, at: u32, cell: &mut Cell, actor
     build_next(alloc, job, cell);
 }
 
-/// Puts the last block that isn't in its cell yet into the cell, where the job builds.
+/// Puts the last block that is not in its cell yet into the cell, where the job builds.
 fn build_next(alloc: Global, job: &mut Job, cell: &mut Cell)
     requires { IsUnbuilt job.old }
     ensures { BuildsNext job.old job.new (cell_of cell.new) }
@@ -45,7 +45,7 @@ fn build_next(alloc: Global, job: &mut Job, cell: &mut Cell)
     }
 }
 
-/// Puts the last block that isn't in its cell yet into the cell, and takes it off the list.
+/// Puts the last block that is not in its cell yet into the cell, and takes it off the list.
 fn build_last(alloc: Global, building: &mut Building, cell: &mut Cell)
     requires { building.old.unbuilt ≢ [] }
     ensures { BuildsLast building.old building.new (cell_of cell.new) }

@@ -343,7 +343,7 @@ fn give_rest(stock: &mut Stock, purse: &mut Purse)
     stock.give(purse);
 }
 
-/// Notes that an action is done, and with it the end of a command that doesn't plan. Takes no memory.
+/// Notes that an action is done, and with it the end of a command that does not plan. Takes no memory.
 pub(crate) fn note_done(ledger: &mut Ledger, planned: bool, of: u64, event: Event)
     requires { gone_by planned ≤ ledger.old.promised }
     ensures { NotesDone planned of event ledger.old ledger.new }

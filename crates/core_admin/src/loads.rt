@@ -1,3 +1,4 @@
+//! The step that reads the next load of a balance, and plans behind the last one.
 ghost use Rattle.std.specs.Prelude.{◌≡◌, ◌<◌, ◌^◌, [], ◌∷◌, Some, length, slice_get, slice_set, option_map, option_and_then, OnOk, OnErr, IfOk};
 ghost use Rattle.balancer.specs.Turn.{rows_of_all};
 ghost use Rattle.core_admin.specs.LoadDue.{CanNote, CanRead, CanReadLoad, HasFewRows, NotesLoad, ReadsIn, plan_once};

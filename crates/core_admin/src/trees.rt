@@ -205,7 +205,7 @@ fn way_to(tree: &Built) -> BuiltTree
     }
 }
 
-/// Memory for the blocks of trees: boxes, and lists of the blocks that aren't in their cells, the last one
+/// Memory for the blocks of trees: boxes, and lists of the blocks that are not in their cells, the last one
 /// first, and of their spares.
 #[derive(Drop)]
 struct Room {
@@ -273,7 +273,7 @@ fn place_one(boxes: &mut Vec<Box<Block>>, unbuilt: &mut Vec<Unbuilt>, fresh: Fre
     });
 }
 
-/// The blocks that aren't in their cells, in order, and their spares. Takes no memory.
+/// The blocks that are not in their cells, in order, and their spares. Takes no memory.
 fn all_placed(room: Room) -> (Items<Unbuilt>, Purse)
     requires none { room.spent.spares ≡ [] }
     requires enough { length room.unbuilt.items ≤ room.spent.room }

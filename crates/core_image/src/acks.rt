@@ -1,3 +1,4 @@
+//! The step that acknowledges an insert.
 ghost use Rattle.std.specs.Prelude.{[], ◌∷◌};
 ghost use Rattle.core_image.specs.Due.{CanAck, CanBook, Books, IsPlacedBy, HasPath};
 ghost use Rattle.volap_cell.specs.Cells.{cell_of};

@@ -1,3 +1,4 @@
+//! The step that answers a query.
 ghost use Rattle.std.specs.Prelude.{◌≡◌, ◌<◌, ◌^◌, [], ◌∷◌, IsSome, Some};
 ghost use Rattle.core_image.specs.Asking.{CanAnswer, CanGive, Gives, IsSum};
 ghost use Rattle.query_router.specs.Desk.{sum_of, verdict_of};

@@ -1,3 +1,4 @@
+//! The step that begins a command that asks the registry what stands.
 ghost use Rattle.std.specs.Prelude.{◌≡◌, [], ◌∷◌, OnOk, OnErr, IfOk, true, map, option_map};
 ghost use Rattle.core_image.specs.NotesDue.{CanNoteAsking, Begins};
 ghost use Rattle.core_image.specs.Told.{Tells, called_by};

@@ -1,3 +1,4 @@
+//! The step that begins an insert.
 ghost use Rattle.std.specs.Prelude.{◌≡◌, [], ◌∷◌, OnOk, OnErr};
 ghost use Rattle.core_image.specs.NotesDue.{CanBeginInsert, Opens};
 ghost use Rattle.row_ledger.specs.declared.event.Event.TheVariants.{Begun};

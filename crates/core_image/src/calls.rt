@@ -1,3 +1,4 @@
+//! The step that begins a command that asks nothing of the registry.
 ghost use Rattle.std.specs.Prelude.{◌≡◌, ◌+◌, [], ◌∷◌, OnOk, OnErr, false};
 ghost use Rattle.core_image.specs.NotesDue.{CanNoteCalled, Notes, work_alone};
 ghost use Rattle.row_ledger.specs.declared.event.Event.TheVariants.{Called};

@@ -1,3 +1,4 @@
+//! The steps by which a session comes to its desk, and goes.
 ghost use Rattle.std.specs.Prelude.{[], ◌∷◌};
 ghost use Rattle.core_image.specs.NotesDue.{CanCount, Counts, MayCount};
 ghost use Rattle.volap_cell.specs.Cells.{cell_of};

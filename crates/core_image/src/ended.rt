@@ -1,3 +1,4 @@
+//! The step that ends a command that is no insert and no query.
 ghost use Rattle.std.specs.Prelude.{◌≡◌, ◌<◌, ◌≤◌, [], ◌∷◌, None};
 ghost use Rattle.core_image.specs.NotesDue.{CanNoteEnded, NotesEnd};
 ghost use Rattle.volap_cell.specs.Cells.{cell_of};
@@ -12,7 +13,7 @@ use row_ledger::{Event, How, Ledger};
 use volap_cell::{Actor, Cell};
 
 /// Ends the actor's command that is no insert and no query, and its job where it has one. The
-/// promises that it didn't need are given back. Takes no memory.
+/// promises that it did not need are given back. Takes no memory.
 pub fn note_ended(h: &Hierarchy, ledger_at: u32, ledger: &mut Cell, actor: &mut Actor, how: How)
     requires here { IsHere h.now (held ledger_at (cell_of ledger.old) ∷ []) (actor_of actor.old) }
     requires due { CanNoteEnded how (cell_of ledger.old) (actor_of actor.old) }

@@ -1,3 +1,4 @@
+//! The steps that end an insert or a query for want of memory.
 ghost use Rattle.std.specs.Prelude.{[], ◌∷◌};
 ghost use Rattle.core_image.specs.NotesDue.{CanFailQuery, CanFailRouted, CanFailUnrouted};
 ghost use Rattle.volap_cell.specs.Cells.{cell_of};
@@ -10,7 +11,7 @@ use dim_hierarchy::Hierarchy;
 use row_ledger::Event;
 use volap_cell::{Actor, Cell};
 
-/// Ends the actor's insert for want of memory, before a part for it was routed. The desk isn't
+/// Ends the actor's insert for want of memory, before a part for it was routed. The desk is not
 /// asked: another session's command may stand there. Takes no memory.
 pub fn fail_unrouted(
     h: &Hierarchy,

@@ -1,3 +1,4 @@
+//! The step that leaves an action of a balance, and how a balance goes on to its next action.
 ghost use Rattle.std.specs.Prelude.{◌≡◌, ◌+◌, ◌<◌, ◌^◌, Some, [], ◌∷◌, true, is_some, option_map, option_and_then, slice_get};
 ghost use Rattle.core_image.specs.NotesDue.{CanNoteLeft, GoesOn, MayBeLeft, MayGoOn};
 ghost use Rattle.volap_cell.specs.ImageKinds.{LeavesAs};

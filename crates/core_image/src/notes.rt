@@ -1,3 +1,4 @@
+//! The steps that note a command that did not begin.
 ghost use Rattle.std.specs.Prelude.{◌≡◌, [], ◌∷◌, OnOk, OnErr};
 ghost use Rattle.core_image.specs.NotesDue.{CanNoteRefused, CanNoteUnknown, Notes};
 ghost use Rattle.row_ledger.specs.declared.event.Event.TheVariants.{Refused, Unknown};
@@ -13,7 +14,7 @@ use row_ledger::{Event, Ledger};
 use std::alloc::AllocError;
 use volap_cell::{Actor, Cell, Role};
 
-/// Notes that an insert or a query of the actor's names what isn't known, first in this dimension.
+/// Notes that an insert or a query of the actor's names what is not known, first in this dimension.
 /// It ends with that. Takes memory for the one event, of the ledger's allocator.
 pub fn note_unknown(
     h: &Hierarchy,
@@ -63,7 +64,7 @@ pub fn note_refused(
     Ok(())
 }
 
-/// Notes a command that names what isn't known, where the ledger has or finds room.
+/// Notes a command that names what is not known, where the ledger has or finds room.
 fn push_unknown(ledger: &mut Ledger, session: u16, server: u8, dim: u8) -> Result<(), AllocError>
     ensures ok { OnOk result (Notes (Unknown session server dim) 1 1 ledger.old ledger.new) }
     ensures err { OnErr result (ledger.new ≡ ledger.old) }

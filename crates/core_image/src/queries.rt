@@ -1,3 +1,4 @@
+//! The step that begins a query.
 ghost use Rattle.std.specs.Prelude.{◌≡◌, ◌+◌, ◌<◌, ◌≤◌, [], ◌∷◌, ◌++◌, length, map, vec_len, vec_capacity, IfOk, OnOk, OnErr};
 ghost use Rattle.core_image.specs.Asking.{CanBeginQuery, CanAsk, Asks};
 ghost use Rattle.core_image.specs.Told.{Tells, asked_by};

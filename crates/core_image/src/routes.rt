@@ -1,3 +1,4 @@
+//! The step that routes an insert.
 ghost use Rattle.std.specs.Prelude.{◌≡◌, [], ◌∷◌, Some, OnOk, OnErr, false, true};
 ghost use Rattle.core_image.specs.Routing.{CanRoute, CanLay, Lays};
 ghost use Rattle.dim_hierarchy.specs.declared.row.Row.{Row};

@@ -1,3 +1,4 @@
+//! The step that shows a page.
 ghost use Rattle.std.specs.Prelude.{◌≡◌, [], ◌∷◌, true, is_some, Some};
 ghost use Rattle.core_image.specs.NotesDue.{CanNoteShown, HasShown, MayShow};
 ghost use Rattle.core_image.specs.Told.{Tells};

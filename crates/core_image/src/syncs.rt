@@ -1,3 +1,4 @@
+//! The step of a pull.
 ghost use Rattle.std.specs.Prelude.{◌≡◌, ◌<◌, ◌+◌, ◌^◌, [], ◌∷◌, Some, OnOk, OnErr};
 ghost use Rattle.core_image.specs.Pulling.{CanSync, CanPull, Pulls};
 ghost use Rattle.volap_cell.specs.Cells.{cell_of};
@@ -57,7 +58,7 @@ pub fn sync(
 }
 
 /// Pushes the growths of the server's image, takes what stands, and puts that in the ledger. Where no memory
-/// is found for the listings, the event isn't promised any more.
+/// is found for the listings, the event is not promised any more.
 fn pull(
     alloc: Global,
     h: &Hierarchy,

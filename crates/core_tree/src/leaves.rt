@@ -1,3 +1,4 @@
+//! The step at which a gate counts an insert no more.
 ghost use Rattle.std.specs.Prelude.{[], ◌∷◌};
 ghost use Rattle.core_tree.specs.DueAtGates.{CanLeaveTree};
 ghost use Rattle.volap_cell.specs.Cells.{cell_of};

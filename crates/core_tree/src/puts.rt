@@ -1,3 +1,4 @@
+//! The step of a row into its leaf.
 ghost use Rattle.std.specs.Prelude.{[], ◌∷◌};
 ghost use Rattle.core_tree.specs.Due.{CanPutInLeaf};
 ghost use Rattle.volap_cell.specs.Cells.{cell_of};

@@ -1,3 +1,4 @@
+//! The step of a row into a queue.
 ghost use Rattle.std.specs.Prelude.{◌≡◌, [], ◌∷◌, OnErr, OnOk};
 ghost use Rattle.core_tree.specs.DueAtGates.{CanEnterQueue};
 ghost use Rattle.volap_cell.specs.Cells.{cell_of};

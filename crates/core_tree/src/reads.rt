@@ -1,3 +1,4 @@
+//! The step of a query at a gate.
 ghost use Rattle.std.specs.Prelude.{◌≡◌, [], ◌∷◌, IfOk, OnOk, OnErr};
 ghost use Rattle.core_tree.specs.ReadDue.{CanGateRead, CanBegin, IsAtGate, BeginsFor, OfAllLaw, begun};
 ghost use Rattle.volap_cell.specs.Cells.{cell_of};

@@ -1,3 +1,4 @@
+//! The steps by which a purse is filled, and given back.
 ghost use Rattle.std.specs.Prelude.{◌≡◌, ◌+◌, ◌*◌, ◌^◌, ◌<◌, [], ◌∷◌, OnErr, OnOk};
 ghost use Rattle.cell_stock.specs.Stock.{AreOut};
 ghost use Rattle.core_tree.specs.DueAtGates.{CanGiveBack, CanRefill, IsRefilled};

@@ -1,3 +1,4 @@
+//! The step of a query at a block.
 ghost use Rattle.std.specs.Prelude.{◌≡◌, ◌≤◌, [], ◌∷◌, IsOk, OnOk, OnErr};
 ghost use Rattle.core_tree.specs.ReadDue.{CanBlockVisit, CanVisit, Visits, IsAtBlock, VisitsFor, most_noted, room_in_task, room_to_note};
 ghost use Rattle.volap_cell.specs.Cells.{cell_of};
@@ -17,7 +18,7 @@ use volap_cell::{Actor, Cell, Errand, Reading, Task};
 const MOST_NOTED: u64 = 17;
 
 /// Visits the block that the actor's query noted last: counts what it must there, and notes what it has
-/// still to visit. Takes memory only where there isn't room to note as many blocks as a visit may.
+/// still to visit. Takes memory only where there is not room to note as many blocks as a visit may.
 pub fn block_visit(
     h: &Hierarchy,
     at: u32,

@@ -43,7 +43,7 @@ impl Core for Counters {
     ghost lawful = { lawful };
 }
 
-// One unit from one number to the other, if there is one and the other has room.
+/// One unit from one number to the other, if there is one and the other has room.
 fn shifted(from: u64, to: u64) -> (u64, u64)
     ensures { result.0 + result.1 ≡ from + to }
 {
@@ -53,7 +53,7 @@ fn shifted(from: u64, to: u64) -> (u64, u64)
     (from, to)
 }
 
-// The two held counters after a unit went up, from the first to the second, or down.
+/// The two held counters after a unit went up, from the first to the second, or down.
 fn moved(cells: Held<u64>, up: bool) -> Held<u64>
     requires { (i j x y : ℕ) × (cells ≡ (i, x) ∷ (j, y) ∷ []) }
     ensures cells { (i j x y v w : ℕ) × (cells ≡ (i, x) ∷ (j, y) ∷ []) × (result ≡ (i, v) ∷ (j, w) ∷ []) × (v + w ≡ x + y) }

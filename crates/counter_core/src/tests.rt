@@ -1,3 +1,4 @@
+//! Cells under turns, with three counters as their core.
 ghost use Rattle.std.specs.Prelude.{◌≡◌, ◌<◌, [], false};
 ghost use mathlib.Core.Option.{some};
 ghost use Rattle.turn_table.specs.Numbered.{value_of};
@@ -9,7 +10,7 @@ use std::test::Fail;
 use std::thread::join;
 use turn_table::{Seat, TurnTable};
 
-// Thousands of transfers up and down between two counters.
+/// Thousands of transfers up and down between two counters.
 fn work<R: Wait>(
     rt: &R,
     table: &TurnTable<Counters>,

@@ -1,3 +1,4 @@
+//! Boxes without items, which are made before they are needed.
 ghost use Rattle.std.specs.Prelude.{◌≡◌, ◌+◌, ◌<◌, ◌≤◌, [], length, OnOk};
 
 use crate::block::Body;

@@ -1,3 +1,4 @@
+//! The blocks of a tree.
 ghost use Rattle.std.specs.Prelude.{◌≡◌, ◌+◌, ◌<◌, ◌≤◌, ◌^◌, ◌∷◌, ◌++◌, [], true, false, length};
 ghost use Rattle.dc_node.specs.Block.{rows_in, entries_in, is_leaf, is_full, with_rows, with_entries, replaced, IsBodyOf};
 ghost use Rattle.dc_node.specs.Summary.{row_count, IsSummary};

@@ -1,3 +1,4 @@
+//! The entries of a directory.
 ghost use Rattle.std.specs.Prelude.{◌≡◌, ◌+◌, ◌<◌, ◌^◌};
 ghost use Rattle.dim_hierarchy.specs.Row.{IsRowOf};
 ghost use Rattle.describing_set.specs.DescSet.{IsDescSetOf};

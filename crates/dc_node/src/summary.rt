@@ -1,3 +1,4 @@
+//! The summary of a body: the aggregate and the set of all rows beneath it.
 ghost use Rattle.std.specs.Prelude.{◌≡◌, ◌<◌, ◌^◌, List, ◌∷◌, [], ◌++◌, map, All, IsPermutation};
 ghost use Rattle.std.specs.List.{AllZip, flat_map};
 ghost use Rattle.dim_hierarchy.specs.declared.row.Row.{Row};
@@ -41,7 +42,7 @@ pub(crate) fn set_of_entries(entries: &[Entry], h: &Hierarchy) -> DescSet
 }
 
 /// Laws of summaries, with no code: what the summary of a block says of all rows beneath it, that it
-/// doesn't depend on their order, and how it is kept when rows are added.
+/// does not depend on their order, and how it is kept when rows are added.
 pub fn laws(h: &Hierarchy)
     ensures leaf { (rows : List Row) (total : Aggregate) (set : DescSet)
         → All (IsRowOf h.now) rows

@@ -1,3 +1,4 @@
+//! The blocks that a query has still to visit.
 ghost use Rattle.std.specs.Prelude.{◌≡◌, ◌==◌, ◌+◌, ◌<◌, ◌≤◌, ◌∷◌, ◌++◌, [], List, length, MatchOption, IsOk, OnOk};
 ghost use Rattle.dc_node.specs.declared.todo.Item as noted;
 

@@ -1,3 +1,4 @@
+//! At most six concepts, where they stand.
 ghost use Rattle.std.specs.Prelude.{◌≡◌, ◌≢◌, ◌==◌, ◌↔◌, ◌<◌, ◌≤◌, ◌+◌, [], ◌∷◌, ◌++◌, length, IsTrue, Contains};
 ghost use Rattle.std.specs.List.{list_any, insert};
 ghost use Rattle.std.specs.Bool.{OnTrue, OnFalse};
@@ -7,7 +8,7 @@ ghost use Rattle.describing_set.specs.Places.{no_concept};
 use dim_hierarchy::ConceptId;
 use std::marker::Model;
 
-// What an unused place holds: no hierarchy has a concept of level 15.
+/// What an unused place holds: no hierarchy has a concept of level 15.
 const NO_CONCEPT: ConceptId = ConceptId(0xffff_ffff);
 
 /// At most six concepts. Contracts see the list.
@@ -93,7 +94,7 @@ impl FewConcepts {
         self.count += 1;
     }
 
-    // Adds concepts at the end.
+    /// Adds concepts at the end.
     fn extend(&mut self, ids: &[ConceptId])
         requires { length self.old.items + length ids.now ≤ 6 }
         ensures { self.new.items ≡ self.old.items ++ ids.now }
@@ -103,7 +104,7 @@ impl FewConcepts {
         }
     }
 
-    // Puts a concept before the one at a place.
+    /// Puts a concept before the one at a place.
     fn insert(&mut self, at: usize, id: ConceptId)
         requires within { at ≤ length self.old.items }
         requires room { length self.old.items < 6 }

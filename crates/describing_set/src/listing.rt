@@ -1,3 +1,4 @@
+//! Shards as a server knows them.
 ghost use Rattle.std.specs.Prelude.{◌≡◌};
 
 use crate::set::DescSet;

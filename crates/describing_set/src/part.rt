@@ -1,3 +1,4 @@
+//! One dimension of a describing set.
 ghost use Rattle.std.specs.Prelude.{◌≡◌, ◌<◌, ◌≤◌, ◌-◌, [], ◌∷◌, length};
 ghost use Rattle.std.specs.Bool.{OnTrue};
 ghost use Rattle.dim_hierarchy.specs.Concept.{level_of};

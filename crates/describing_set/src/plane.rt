@@ -1,3 +1,4 @@
+//! Planes, by which the rows of a shard are divided.
 ghost use Rattle.std.specs.Prelude.{◌≡◌, ℕ, ◌<◌, ◌⊎◌, ◌↔◌, length, IsTrue, IsNone, IfSome};
 ghost use Rattle.dim_hierarchy.specs.Row.{IsCoordOf};
 

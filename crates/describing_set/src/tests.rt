@@ -1,3 +1,4 @@
+//! How sets grow, and what they cover.
 ghost use Rattle.std.specs.Prelude.{◌≡◌, ◌+◌, ◌<◌, length, IfOk, OnOk};
 ghost use Rattle.dim_hierarchy.specs.Row.{IsCoordOf};
 ghost use Rattle.describing_set.specs.DescSet.{IsDescSetOf};
@@ -183,6 +184,7 @@ fn a_set_is_lifted_twice_at_once(rt: HostRuntime) -> Result<(), Fail> {
     Ok(())
 }
 
+/// Adds eight dimensions of two concepts each.
 fn add_eight(alloc: Global, h: &mut Hierarchy) -> Result<(), Fail>
     ensures { OnOk result (length h.new ≡ length h.old + 8) }
 {
@@ -207,7 +209,7 @@ fn grow(alloc: Global, h: &Hierarchy, set: &mut DescSet, letters: &[u8]) -> Resu
     requires letters { length letters.now ≡ length h.now }
     ensures { IsDescSetOf h.now set.new }
 {
-    // Laid out, as the prover can't carry the answer itself to the next call.
+    // Laid out, as the prover cannot carry the answer itself to the next call.
     let at = Coord {
         at: coord(alloc, h, letters)?.at,
     };

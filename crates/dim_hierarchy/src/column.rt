@@ -63,8 +63,8 @@ impl RowPlaces {
     }
 }
 
-// Moves the places that are kept to the front, in their order and without a branch, and tells how
-// many they are.
+/// Moves the places that are kept to the front, in their order and without a branch, and tells how
+/// many they are.
 fn sift(all: &mut [u8; 32], count: usize, column: &Column, marks: &[u8]) -> usize
     requires few { count ≤ 32 }
     requires within { All (λ place. place < 32) (take count all.old) }
@@ -82,7 +82,7 @@ fn sift(all: &mut [u8; 32], count: usize, column: &Column, marks: &[u8]) -> usiz
     kept
 }
 
-// One where the concept at a place is marked `UNDER`, else none.
+/// One where the concept at a place is marked `UNDER`, else none.
 fn one_if_marked(column: &Column, marks: &[u8], place: u8) -> usize
     requires place { place < 32 }
     requires concept { number_of (slice_index column.now place) < length marks.now }

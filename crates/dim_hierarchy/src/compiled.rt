@@ -1,3 +1,4 @@
+//! Filters made ready for many questions.
 ghost use Rattle.std.specs.Prelude.{◌≡◌, ◌<◌, ◌↔◌, [], All, filter, length, option_map, slice_index, IsTrue, IfOk};
 ghost use Rattle.dim_hierarchy.specs.Tree.{IsConcept, IsLeaf};
 ghost use Rattle.std.specs.List.{list_all, list_any};
@@ -59,7 +60,7 @@ impl Hierarchy {
         })
     }
 
-    // The marks of the concepts of a dimension; none where all are picked.
+    /// The marks of the concepts of a dimension; none where all are picked.
     fn dim_marks(
         &self,
         alloc: Global,
@@ -88,7 +89,7 @@ impl CompiledFilter {
         self.dims.len() as u8
     }
 
-    // The marks of the concepts of a dimension; none where all are picked.
+    /// The marks of the concepts of a dimension; none where all are picked.
     fn marks(&self, dim: u8) -> Option<&DimMarks>
         requires { dim < length self.now.hierarchy }
         ensures marks { AreDimMarks (tree self.now.hierarchy dim) (pick_at self.now.picks dim) (option_map (λ m. m.now) result) }
@@ -97,7 +98,7 @@ impl CompiledFilter {
         self.dims[usize::from(dim)].as_ref()
     }
 
-    // Whether the filter picks the concept in its dimension: it is under a listed one, or all are.
+    /// Whether the filter picks the concept in its dimension: it is under a listed one, or all are.
     fn has(&self, dim: u8, id: ConceptId) -> bool
         requires dim { dim < length self.now.hierarchy }
         requires concept { IsConcept (tree self.now.hierarchy dim) id }

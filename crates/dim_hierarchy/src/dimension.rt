@@ -1,3 +1,4 @@
+//! One dimension: its concepts as a tree, and by their names.
 ghost use Rattle.std.specs.Prelude.{◌≡◌, ◌+◌, ◌≤◌, ◌<◌, ◌^◌, List, ℕ, length, is_some, IsSome, IfOk, OnOk, OnErr};
 ghost use Rattle.std.specs.List.{list_any, slice_index_or};
 ghost use Rattle.std.specs.FinMap as map;
@@ -13,7 +14,7 @@ use crate::name_table::NameTable;
 use std::alloc::{AllocError, Global};
 use std::marker::Model;
 
-// The concepts of one level: their parents by number.
+/// The concepts of one level: their parents by number.
 #[derive(Drop)]
 struct Level {
     parents: Vec<ConceptId>,
@@ -25,10 +26,10 @@ impl Model for Level {
     ghost view = { λ l. l.parents.items };
 }
 
-// A concept's ancestors by their level, itself at its own, and `ALL` past that.
+/// A concept's ancestors by their level, itself at its own, and `ALL` past that.
 pub(crate) type Lineage = [ConceptId; 9];
 
-// The lineages of the concepts of one level, by number.
+/// The lineages of the concepts of one level, by number.
 #[derive(Drop)]
 struct LevelLineages {
     all: Vec<Lineage>,
@@ -222,7 +223,7 @@ impl DimensionTable {
         }
     }
 
-    // Whether the concept is under one of these.
+    /// Whether the concept is under one of these.
     fn is_under_any(&self, id: ConceptId, tops: &[ConceptId]) -> bool
         requires tree { IsTree self.now.tree }
         requires concept { IsConcept self.now.tree id }
@@ -254,7 +255,7 @@ impl DimensionTable {
         }
     }
 
-    // Whether each of these names is that of a concept.
+    /// Whether each of these names is that of a concept.
     fn knows_all(&self, names: &[Name]) -> bool
         ensures { result ≡ is_some (ids_named self.now names.now) }
     {
@@ -277,7 +278,7 @@ impl DimensionTable {
         }
     }
 
-    // The concepts of names that are all known.
+    /// The concepts of names that are all known.
     fn ids(&self, alloc: Global, names: &[Name]) -> Result<IdList, AllocError>
         requires { IsSome (ids_named self.now names.now) }
         ensures { IfOk result (λ ids. ids_named self.now names.now ≡ Some ids) }

@@ -19,26 +19,37 @@ const MOST_CONCEPTS: u32 = 0x1000_0000;
 /// Why a dimension was not added.
 #[derive(Clone, Copy, Debug, PartialEq, Eq)]
 pub enum DimFault {
+    /// There are 8 dimensions already.
     Full,
+    /// A dimension has the name already.
     Twice,
+    /// There are not 1 to 8 levels.
     BadLevels,
+    /// No memory was found.
     NoMemory,
 }
 
 /// Why a concept was not added.
 #[derive(Clone, Copy, Debug, PartialEq, Eq)]
 pub enum ConceptFault {
+    /// There is no such dimension.
     NoDim,
+    /// The parent is no concept of the dimension.
     NoParent,
+    /// A concept of the dimension has the name already.
     Twice,
+    /// The parent is on the leaf level.
     TooDeep,
+    /// No memory was found, or there are 2^28 concepts already.
     NoMemory,
 }
 
 /// Why names are no filter.
 #[derive(Clone, Copy, Debug, PartialEq, Eq)]
 pub enum FilterFault {
+    /// A name of this dimension, the first such one, is that of no concept.
     Unknown { dim: u8 },
+    /// No memory was found.
     NoMemory,
 }
 

@@ -1,3 +1,4 @@
+//! The marks of concepts, by which a compiled filter answers.
 ghost use Rattle.std.specs.Prelude.{◌≡◌, ◌==◌, ◌<◌, ◌-◌, ℕ, List, [], All, filter, length, nat_lt, if◌then◌else◌, slice_index, slice_set, IfOk};
 ghost use Rattle.std.specs.List.{slice_index_or, list_all, list_any};
 ghost use Rattle.dim_hierarchy.specs.Concept.{level_of, number_of};
@@ -12,16 +13,16 @@ use crate::dimension::DimensionTable;
 use std::alloc::{AllocError, Global};
 use std::marker::Model;
 
-// The mark of a concept that is neither of these two.
+/// The mark of a concept that is neither `ABOVE` nor `UNDER`.
 const APART: u8 = 0;
 
-// The mark of a concept that is not under a listed one, and above one.
+/// The mark of a concept that is not under a listed one, and above one.
 const ABOVE: u8 = 1;
 
 /// The mark of a concept that the pick has.
 pub const UNDER: u8 = 2;
 
-// The marks of the concepts of one level, by number.
+/// The marks of the concepts of one level, by number.
 #[derive(Drop)]
 pub struct LevelMarks {
     all: Vec<u8>,
@@ -47,7 +48,7 @@ impl Model for DimMarks {
 }
 
 impl LevelMarks {
-    // The mark of a concept of the level.
+    /// The mark of a concept of the level.
     fn mark(&self, id: ConceptId) -> u8
         requires { number_of id < length self.now }
         ensures { result ≡ slice_index self.now (number_of id) }
@@ -124,7 +125,7 @@ impl DimensionTable {
         Ok(DimMarks { levels })
     }
 
-    // The marks of the concepts of a level, by those of the levels above.
+    /// The marks of the concepts of a level, by those of the levels above.
     fn level_marks(
         &self,
         alloc: Global,
@@ -145,7 +146,7 @@ impl DimensionTable {
         Ok(LevelMarks { all })
     }
 
-    // Marks the listed concepts of a level, and those that lie above a listed one.
+    /// Marks the listed concepts of a level, and those that lie above a listed one.
     fn note_all(&self, level: u8, ids: &[ConceptId], marks: &mut [u8])
         requires tree { IsTree self.now.tree }
         requires ids { All (IsConcept self.now.tree) ids.now }
@@ -159,7 +160,7 @@ impl DimensionTable {
         }
     }
 
-    // Marks a listed concept of a level, or that which lies above it.
+    /// Marks a listed concept of a level, or that which lies above it.
     fn note(&self, level: u8, id: ConceptId, marks: &mut [u8])
         requires tree { IsTree self.now.tree }
         requires concept { IsConcept self.now.tree id }
@@ -178,7 +179,7 @@ impl DimensionTable {
         }
     }
 
-    // Each concept of a level has the mark of its parent, where the pick has that.
+    /// Each concept of a level has the mark of its parent, where the pick has that.
     fn inherit(&self, level: u8, upper: &[LevelMarks], marks: &mut [u8])
         requires tree { IsTree self.now.tree }
         requires level { level < length self.now.tree }
@@ -196,7 +197,8 @@ impl DimensionTable {
         }
     }
 
-    // The same from the marks of the level above.
+    /// Each concept of a level has the mark of its parent, where the pick has that, by the marks of the
+    /// level above.
     fn inherit_from(&self, level: u8, upper: &[u8], marks: &mut [u8])
         requires tree { IsTree self.now.tree }
         requires level { level < length self.now.tree }
@@ -214,7 +216,7 @@ impl DimensionTable {
         }
     }
 
-    // The same for one concept, whose parent is `top`.
+    /// A concept has the mark of its parent `top`, where the pick has that.
     fn inherit_one(&self, id: ConceptId, top: ConceptId, upper: &[u8], marks: &mut [u8])
         requires tree { IsTree self.now.tree }
         requires concept { IsConcept self.now.tree id }

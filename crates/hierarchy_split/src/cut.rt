@@ -1,3 +1,4 @@
+//! The good cut of a full list of items.
 ghost use Rattle.std.specs.Prelude.{◌≡◌, ◌<◌, ◌≤◌, ◌⊎◌, ◌↔◌, length, All, IsTrue, IfSome, IfNone, IsPermutation};
 ghost use Rattle.std.specs.List.{range_with_len};
 ghost use Rattle.describing_set.specs.DescSet.{IsDescSetOf};

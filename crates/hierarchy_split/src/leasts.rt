@@ -1,3 +1,4 @@
+//! The level of a cut, and the concept by which each item is ordered there.
 ghost use Rattle.std.specs.Prelude.{◌≡◌, ◌<◌, ◌≤◌, ◌↔◌, ℕ, length, All, IsTrue, IfSome, IfNone};
 ghost use Rattle.dim_hierarchy.specs.Concept.{level_of};
 ghost use Rattle.dim_hierarchy.specs.Tree.{IsConcept};

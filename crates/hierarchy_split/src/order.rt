@@ -1,3 +1,4 @@
+//! The cut order of items, and the place of a cut in it.
 ghost use Rattle.std.specs.Prelude.{◌≡◌, ◌-◌, ◌<◌, ◌≤◌, ◌↔◌, ℕ, length, slice_index, All, IsTrue, IfSome, IfNone};
 ghost use Rattle.hierarchy_split.specs.Order.{IsOrder, IsBetween, distance, IsPlace};
 ghost use Rattle.hierarchy_split.specs.Limits.{most_items};

@@ -1,3 +1,4 @@
+//! How many concepts the two sides of a cut share.
 ghost use Rattle.std.specs.Prelude.{◌≡◌, ◌+◌, ◌<◌, ◌≤◌, ◌++◌, length, All};
 ghost use Rattle.describing_set.specs.DescSet.{part_at, IsDescSetOf};
 ghost use Rattle.hierarchy_split.specs.Order.{shared_count};

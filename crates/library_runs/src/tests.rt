@@ -1,4 +1,4 @@
-// An index for one thread that is built, filled and asked, and a script from its bytes to its text.
+//! An index for one thread that is built, filled and asked, and a script from its bytes to its text.
 ghost use Rattle.std.specs.Prelude.{◌≡◌, All, IfOk, length};
 ghost use Rattle.dim_hierarchy.specs.Filter.{IsNamePick};
 ghost use Rattle.library_runs.specs.Index.{IsHeld};

@@ -1,3 +1,4 @@
+//! Which entry of a directory a row goes down by.
 ghost use Rattle.std.specs.Prelude.{ℕ, ◌≡◌, ◌<◌, ◌≤◌, ◌⊎◌, ◌↔◌, Some, length, map, All, IsTrue};
 ghost use Rattle.describing_set.specs.DescSet.{growth_of, size_of, IsDescSetOf};
 ghost use Rattle.dc_node.specs.Block.{entries_in, IsBodyOf};

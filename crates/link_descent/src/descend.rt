@@ -1,3 +1,4 @@
+//! The steps of a row down a tree.
 ghost use Rattle.std.specs.Prelude.{◌≡◌, ◌+◌, ◌*◌, ◌^◌, ◌<◌, ◌≤◌, true, false, List, [], ◌∷◌, ◌++◌, length, map, slice_get, All, IfSome};
 ghost use Rattle.dim_hierarchy.specs.Dimension.{Dimension};
 ghost use Rattle.dim_hierarchy.specs.Row.{IsRowOf};

@@ -1,3 +1,4 @@
+//! How a full head is divided.
 ghost use Rattle.std.specs.Prelude.{◌≡◌, ◌+◌, ◌<◌, ◌≤◌, ◌++◌, true, length, take, drop, All, IsPermutation};
 ghost use Rattle.std.specs.List.{range_with_len};
 ghost use Rattle.dc_node.specs.Block.{size, is_full, IsBodyOf};
@@ -18,7 +19,7 @@ pub enum Division {
     Halved(Block),
     /// The new block has the items on the right of the good cut.
     Cut(Block),
-    /// The new block has the items that the good head cut doesn't keep.
+    /// The new block has the items that the good head cut does not keep.
     HeadCut(Block),
 }
 

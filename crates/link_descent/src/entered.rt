@@ -1,3 +1,4 @@
+//! What a step of an insert leaves.
 ghost use Rattle.std.specs.Prelude.{◌≡◌, [], ◌∷◌};
 
 use arrayvec::ArrayVec;

@@ -1,3 +1,4 @@
+//! The blocks behind a full head.
 ghost use Rattle.std.specs.Prelude.{◌≡◌, ◌<◌, [], ◌∷◌, ◌++◌, length};
 ghost use Rattle.std.specs.Option.{option_copied, option_to_list};
 ghost use Rattle.link_descent.specs.Divide.{ends_with};

@@ -1,3 +1,4 @@
+//! What a query counts and notes at blocks and gates.
 ghost use Rattle.std.specs.Prelude.{◌≡◌, ◌≢◌, ◌^◌, ◌<◌, length, All, IfOk, IsSome};
 ghost use Rattle.dim_hierarchy.specs.Row.{IsRowOf};
 ghost use Rattle.dim_hierarchy.specs.Filter.{IsFilterOf};

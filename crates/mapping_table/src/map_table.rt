@@ -1,3 +1,4 @@
+//! The table of a worker.
 ghost use Rattle.std.specs.Prelude.{◌≡◌, None, OnOk, OnErr};
 ghost use Rattle.std.specs.FinMap as map;
 

@@ -1,3 +1,4 @@
+//! Where the id of a shard leads.
 ghost use Rattle.std.specs.Prelude.{◌≡◌};
 
 use describing_set::Plane;

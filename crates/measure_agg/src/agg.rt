@@ -1,3 +1,4 @@
+//! The aggregate of rows.
 ghost use Rattle.std.specs.Prelude.{◌≡◌, ◌+◌, ◌^◌, ◌<◌, ℤ, ◌≤ℤ◌, List, [], ◌++◌, MatchOption, All, Contains, IsPermutation};
 ghost use Rattle.measure_agg.specs.Aggregate.{Aggregate, agg, one, join, lesser, greater, least_of, greatest_of};
 
@@ -103,7 +104,7 @@ impl Agg {
 }
 
 /// The laws of aggregates: `agg` takes `++` to `join`, under which aggregates are a commutative
-/// monoid, and doesn't depend on the order of the rows.
+/// monoid, and does not depend on the order of the rows.
 pub fn laws()
     ensures append { (xs ys : List Row) → agg (xs ++ ys) ≡ join (agg xs) (agg ys) }
     ensures order { (xs ys : List Row) → IsPermutation xs ys → agg xs ≡ agg ys }

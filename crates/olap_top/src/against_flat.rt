@@ -1,4 +1,4 @@
-// Scripts made by chance: behind a settle the word `step` prints what a plain list of rows answers.
+//! Scripts made by chance: behind a settle the word `step` prints what a plain list of rows answers.
 ghost use Rattle.std.specs.Prelude.{◌<◌, ◌^◌, All};
 ghost use Rattle.dim_hierarchy.specs.Row.{IsRowOf};
 ghost use Rattle.script_form.specs.Scripts.{Fits};
@@ -23,6 +23,7 @@ use volap_io::{MemSink, MemSource};
 /// How many concepts the levels of the first dimension have, and the one level of the second.
 const PLACES: [u64; 3] = [3, 9, 40];
 
+/// How many concepts the second dimension has.
 const DAYS: u64 = 6;
 
 /// Numbers by chance, the same ones in each run.
@@ -78,7 +79,7 @@ pub(crate) fn head(alloc: Global, workers: u64, cells: u64) -> Result<String, Al
 }
 
 /// Adds the insert with a number, whose measure is a power of two: of up to 62 inserts each has its own,
-/// so that a sum tells which rows were counted. Now and then its place isn't known.
+/// so that a sum tells which rows were counted. Now and then its place is not known.
 pub(crate) fn push_insert(
     text: &mut String,
     dice: &mut Dice,

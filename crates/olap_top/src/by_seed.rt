@@ -1,6 +1,6 @@
-// Scripts made by chance, run by chance: each answer holds the rows that its server must know, only rows
-// that had begun, and each once; and each page of all shards or of all rows tells of just the rows that
-// had begun, whatever was split and moved meanwhile.
+//! Scripts made by chance, run by chance: each answer holds the rows that its server must know, only rows
+//! that had begun, and each once; and each page of all shards or of all rows tells of just the rows that
+//! had begun, whatever was split and moved meanwhile.
 ghost use Rattle.std.specs.Prelude.{◌<◌};
 
 use crate::against_flat::{Dice, head, push_insert};

@@ -1,4 +1,4 @@
-// The words `load`: the generated script, and its summary in place of its text.
+//! The words `load`: the generated script, and its summary in place of its text.
 use crate::tests::words;
 use crate::{Outcome, Status, olap};
 use std::alloc::{AllocError, Global};
@@ -44,6 +44,7 @@ fn expect<R: Abort + Threads + Wait + Sync>(
     Ok(())
 }
 
+/// What a load of three rows prints by the seed 1.
 const THREE: &str =
     "load 3 1 refused 0\nall 3 -297 -99 -99\nyear 3 -297 -99 -99\ncountries 0 0 - -\ngroup 0 0 - -\naudit 3 -297 -99 -99\n";
 

@@ -1,3 +1,4 @@
+//! What a call of the top leaves.
 use row_ledger::Ledger;
 use volap_cell::State;
 

@@ -1,4 +1,4 @@
-// A script's run over the core, phase by phase, and what is told of it.
+//! A script's run over the core, phase by phase, and what is told of it.
 ghost use Rattle.std.specs.Prelude.{◌≡◌, ◌≤◌, List, [], length, take, drop, reverse, IfOk, IfSome, OnOk, OnErr, is_some};
 ghost use Rattle.answer_text.specs.Marks.{RefersBack};
 ghost use Rattle.answer_text.specs.Told.{HasTold, IsTeller, IsToldOf, seen_of};

@@ -1,4 +1,4 @@
-// The commands `split`, `move` and `balance`, and what pages and queries tell behind them.
+//! The commands `split`, `move` and `balance`, and what pages and queries tell behind them.
 use crate::tree_tests::{CITIES, LETTERS, expect, printed, push_inserts};
 use std::alloc::{AllocError, Global};
 use std::fmt::Write;

@@ -1,3 +1,4 @@
+//! Scripts and words that the top call is given, and what it answers.
 ghost use Rattle.std.specs.Prelude.{◌<◌};
 
 use crate::{Outcome, Status, Wanted, olap};
@@ -10,6 +11,7 @@ use std::test::Fail;
 use std::thread::Threads;
 use volap_io::{MemSink, MemSource, Quiet};
 
+/// One dimension of countries and cities, with which the scripts begin.
 const BASE: &str =
     "volap,1\ndim,geo,2\nconcept,geo,de,*\nconcept,geo,berlin,de\nconcept,geo,munich,de\n";
 
@@ -20,6 +22,7 @@ fn on_base(alloc: Global, lines: &str) -> Result<String, AllocError> {
     Ok(text)
 }
 
+/// The words of a command line.
 pub(crate) fn words(alloc: Global, all: &[&str]) -> Result<Vec<String>, AllocError> {
     let mut words = Vec::new(alloc);
     for word in all {
@@ -247,8 +250,10 @@ fn bad_scripts_and_their_causes(rt: HostRuntime) -> Result<(), Fail> {
 /// An insert and a query, and what is printed of them.
 const GOOD: &str = "insert,0,5,berlin\nquery,0,de\n";
 
+/// What the script of `PHASES` prints.
 const GOOD_LINES: &str = "1 insert ok\n2 query 1 5 5 5\n";
 
+/// An insert and a query, each a phase of its own.
 const PHASES: &str = "insert,0,5,berlin\nbarrier\nquery,0,de\nbarrier\n";
 
 /// A source of the base and these lines, of 10 bytes a call, of which these calls fail.
@@ -323,7 +328,8 @@ fn a_failing_sink(rt: HostRuntime) -> Result<(), Fail> {
     Ok(())
 }
 
-// Behind a call, so that the proof of the test doesn't lay out so long a list.
+/// A byte more than a script may have. Behind a call, so that the proof of the test does not lay out so
+/// long a list.
 fn one_too_many() -> usize {
     (1 << 26) + 1
 }

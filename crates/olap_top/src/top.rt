@@ -1,4 +1,4 @@
-// The top call.
+//! The top call.
 ghost use Rattle.std.specs.Prelude.{◌≡◌, ◌≢◌, ◌+◌, ◌≤◌, ◌^◌, ◌⊎◌, ◌↔◌, ◌<◌, List, ℕ, [], ◌∷◌, Ok, Err, IfOk, IsErrOf, true, All, if◌then◌else◌, length, string_bytes};
 ghost use Rattle.std.specs.Io.KnownBytes.{Appends};
 ghost use Rattle.volap_io.specs.Causes.{Rose};

@@ -1,4 +1,4 @@
-// The command `tree`, and how a tree grows.
+//! The command `tree`, and how a tree grows.
 use crate::tests::step;
 use crate::{Outcome, Status};
 use row_ledger::{Event, Page};

@@ -1,3 +1,4 @@
+//! The desk of a server.
 ghost use Rattle.std.specs.Prelude.{◌≡◌, ◌+◌, ◌<◌, ◌^◌, [], position, slice_get, slice_set, IsSome, IsNone, IfSome, OnOk, OnErr, false};
 ghost use Rattle.std.specs.List.{list_any};
 
@@ -165,7 +166,7 @@ impl Desk {
             && part.is_taken())
     }
 
-    /// What the command on the desk comes to, `None` where a part isn't at an end.
+    /// What the command on the desk comes to, `None` where a part is not at an end.
     pub fn answer(&self) -> Option<Verdict>
         requires some { IsSome self.now.op }
         requires few { (sum_of self.now.parts).count < 2 ^ 63 }
@@ -186,7 +187,7 @@ impl Desk {
 
 ghost use Rattle.query_router.specs.Desk.{is_open, is_refused, is_placed, sum_of};
 
-/// Whether a part isn't at an end.
+/// Whether a part is not at an end.
 fn has_open(parts: &[Part]) -> bool
     ensures { result ≡ list_any is_open parts.now }
 {

@@ -1,3 +1,4 @@
+//! The parts of a command.
 ghost use Rattle.std.specs.Prelude.{◌≡◌};
 
 use describing_set::Path;
@@ -71,7 +72,7 @@ impl Part {
         }
     }
 
-    /// Whether the part isn't at an end.
+    /// Whether the part is not at an end.
     pub fn is_open(&self) -> bool
         ensures { result ≡ is_open self.now }
     {
@@ -98,7 +99,7 @@ impl Part {
         }
     }
 
-    /// What the part has read, nothing where it isn't done.
+    /// What the part has read, nothing where it is not done.
     pub fn done(&self) -> Agg
         ensures { result ≡ done_of self.now.state }
     {

@@ -1,3 +1,4 @@
+//! What a history tells of.
 use crate::page::Page;
 use crate::settings::{Call, How};
 use describing_set::{Listing, Path};
@@ -34,7 +35,7 @@ pub enum Event {
         of: u64,
         agg: Agg,
     },
-    /// An insert or a query names what isn't known, first in this dimension. It ends with this.
+    /// An insert or a query names what is not known, first in this dimension. It ends with this.
     Unknown {
         session: u16,
         server: u8,

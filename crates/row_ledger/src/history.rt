@@ -1,3 +1,4 @@
+//! Histories.
 ghost use Rattle.std.specs.Prelude.{◌≡◌, ◌==◌, ◌∷◌, ◌<◌, [], Some, OnOk, OnErr, length, reverse};
 
 use crate::event::Event;

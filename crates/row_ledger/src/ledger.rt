@@ -1,3 +1,4 @@
+//! The history that a run keeps, with pushes that were promised.
 ghost use Rattle.std.specs.Prelude.{◌≡◌, ◌+◌, ◌<◌, ◌≤◌, ◌^◌, [], ◌∷◌, OnOk, OnErr, length, reverse};
 
 use crate::event::Event;
@@ -5,10 +6,10 @@ use crate::history::History;
 use std::alloc::{AllocError, Global};
 use std::marker::Model;
 
-// Events and promises together stay below this.
+/// Events and promises together stay below this.
 const MOST: usize = 1 << 31;
 
-/// The history that a run keeps, with promised pushes, which can't be refused. It has room for fewer
+/// The history that a run keeps, with promised pushes, which cannot be refused. It has room for fewer
 /// than 2^31 events, the promised ones among them.
 #[derive(Drop)]
 pub struct Ledger {

@@ -1,3 +1,4 @@
+//! Pages: what a command shows.
 use describing_set::DescSet;
 use dim_hierarchy::Items;
 use measure_agg::Agg;

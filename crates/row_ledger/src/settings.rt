@@ -1,3 +1,4 @@
+//! The settings of a run, and the commands that are called.
 /// How many servers, workers, threads for each worker and stock cells there are.
 #[derive(Clone, Copy, Debug, PartialEq, Eq)]
 pub struct Use {

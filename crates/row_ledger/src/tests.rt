@@ -1,3 +1,4 @@
+//! Ledgers and histories keep the order of events.
 use crate::*;
 use std::test::Fail;
 

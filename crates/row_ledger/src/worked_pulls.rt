@@ -1,4 +1,4 @@
-//! Worked pulls: what a server must know that it didn't acknowledge itself. Each function's contract
+//! Worked pulls: what a server must know that it did not acknowledge itself. Each function's contract
 //! is a law about the definitions, and there is nothing to do at run time.
 
 ghost use Rattle.row_ledger.specs.Right.{IsRight};

@@ -70,7 +70,7 @@ pub fn page_amid_an_insert_is_wrong()
     ensures { (page : Page) → IsRight site (shown_amid page) → ⊥ }
 {}
 
-/// A move to a worker that isn't there is declined, and one to a worker that is there is done.
+/// A move to a worker that is not there is declined, and one to a worker that is there is done.
 pub fn declined_and_fine_moves_are_right()
     ensures { IsRight site moved }
 {}

@@ -10,7 +10,7 @@ use std::alloc::{AllocError, Global};
 /// The names of rows. Most rows have one of the first three.
 const TOWNS: [&str; 10] = ["t0", "t1", "t2", "t3", "t4", "t5", "t6", "t7", "t8", "t9"];
 
-/// What queries pick: everything, a country, one or two towns, or a name that isn't known.
+/// What queries pick: everything, a country, one or two towns, or a name that is not known.
 const PICKS: [&[&str]; 24] = [
     &[],
     &[],

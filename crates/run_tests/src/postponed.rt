@@ -15,6 +15,7 @@ const BUILD: &[Kind] = &[Kind::Collect, Kind::Collect, Kind::BuildBlock];
 /// What a balance does that plans a job.
 const PLAN: &[Kind] = &[Kind::Note, Kind::LookUp, Kind::LookUp];
 
+/// Jobs that are given up, and what goes on beside them.
 const STORIES: [Story; 3] = [
     // A split is given up right behind its freeze. A row comes to the queue, a query counts it there, and a second split
     // collects it.

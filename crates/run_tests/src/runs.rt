@@ -159,7 +159,7 @@ fn push_shards(text: &mut String, lines: &[ShardLine]) -> Result<(), AllocError>
     Ok(())
 }
 
-/// Adds how a split, a move or a balance ended, where it isn't told by what it did.
+/// Adds how a split, a move or a balance ended, where it is not told by what it did.
 fn push_end(text: &mut String, how: &How) -> Result<(), AllocError> {
     match how {
         How::Declined(_) => write!(text, "declined; "),

@@ -84,6 +84,7 @@ pub(crate) const ASK_BOTH: &[Kind] = &[
 /// What a page of all shards does.
 pub(crate) const SHOW: &[Kind] = &[Kind::Note, Kind::Note, Kind::Note];
 
+/// What goes on beside splits and moves.
 const STORIES: [Story; 5] = [
     // A shard of 33 rows moves to the other worker. The move waits for the last insert in the tree; a later one comes to the
     // queue, and goes with it. A query that has noted the old root reads the old tree. One that begins behind the move is

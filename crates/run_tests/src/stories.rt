@@ -87,6 +87,7 @@ pub(crate) struct Story {
     pub told: &'static str,
 }
 
+/// What goes on beside pulls, inserts and queries.
 const STORIES: [Story; 6] = [
     // Pulls between a row's place and its acknowledgement; its box is pushed by a later one.
     Story {

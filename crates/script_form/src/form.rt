@@ -40,6 +40,7 @@ pub(crate) fn kind_at(at: u64, script: &Script, row: &ByteRecord) -> Result<Kind
     Ok(kind)
 }
 
+/// Whether a record tells the one version there is.
 fn is_version(row: &ByteRecord) -> bool
     ensures { result ≡ is_version (fields_of row.now) }
 {

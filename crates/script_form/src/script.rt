@@ -1,3 +1,4 @@
+//! Scripts, and why a text is none.
 use dim_hierarchy::{Hierarchy, Items, NameFilter, Names};
 use row_ledger::{Call, Use};
 
@@ -20,7 +21,7 @@ pub enum Cause {
     DimFull,
     /// A dimension has the name already.
     DimTwice,
-    /// The concept's dimension doesn't stand.
+    /// The concept's dimension does not stand.
     NoDim,
     /// The parent is neither `*` nor a concept of the dimension.
     NoParent,
@@ -35,6 +36,7 @@ pub enum Cause {
 pub enum ScriptFault {
     /// The record with this number, counted from 1, is the first bad one, and why.
     Bad { at: u64, cause: Cause },
+    /// No memory was found.
     NoMemory,
 }
 

@@ -1,3 +1,4 @@
+//! What a server knows of the shards.
 ghost use Rattle.std.specs.Prelude.{◌≡◌, ◌+◌, ◌<◌, ◌∷◌, ◌++◌, [], length, vec_len, vec_capacity, IfOk, OnOk, OnErr};
 ghost use Rattle.dim_hierarchy.specs.Row.{IsCoordOf};
 ghost use Rattle.dim_hierarchy.specs.Filter.{IsFilterOf};
@@ -50,7 +51,7 @@ impl Model for Image {
 impl Image {
     ghost use Rattle.server_image.specs.Image.{IsRoute, IsAcked, IsSynced, AreGrowths, planned};
 
-    /// The image of a listing that isn't empty, with no growth and nothing owed. Takes no memory.
+    /// The image of a listing that is not empty, with no growth and nothing owed. Takes no memory.
     pub fn new(alloc: Global, listing: Listing) -> Image
         requires { 0 < length listing }
         ensures { result ≡ record { spots = listing; growths = []; owed = 0 } }

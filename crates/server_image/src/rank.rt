@@ -1,3 +1,4 @@
+//! Which of two shards a row goes to.
 ghost use Rattle.std.specs.Prelude.{◌≡◌, ◌↔◌, IsTrue};
 ghost use Rattle.describing_set.specs.DescSet.{IsDescSetOf};
 ghost use Rattle.server_image.specs.Image.{RanksBefore};

@@ -1,3 +1,4 @@
+//! All shards that were ever made.
 ghost use Rattle.std.specs.Prelude.{◌≡◌, ◌≢◌, ◌+◌, ◌<◌, ◌≤◌, ◌∷◌, ◌++◌, [], length, vec_len, vec_capacity, IsTrue, false, IfOk, OnOk, OnErr};
 ghost use Rattle.describing_set.specs.DescSet.{IsDescSetOf};
 ghost use Rattle.server_image.specs.Spots.{AreBoxes, Widens, Grows};

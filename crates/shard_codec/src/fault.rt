@@ -1,3 +1,4 @@
+//! What can be wrong with a transfer text.
 use std::alloc::{AllocError, AllocFailed};
 
 /// The first fault of a transfer text, or want of memory.
@@ -13,6 +14,7 @@ pub enum CodecFault {
     BadConcept { at: u64, id: u32 },
     /// Bytes follow the last row, from this offset on.
     Trailing { at: u64 },
+    /// No memory was found.
     NoMemory,
 }
 

@@ -7,7 +7,7 @@ ghost use Rattle.shard_codec.specs.Reading.{Gives, mark_at, byte_at, number_at, 
 use crate::fault::CodecFault;
 use dim_hierarchy::{ConceptId, Hierarchy};
 
-// What a transfer text begins with.
+/// What a transfer text begins with.
 const MARK: &[u8; 8] = b"VOLAPTR1";
 
 /// What is left behind the mark.
@@ -83,7 +83,7 @@ pub fn leaf_at<'a>(
     Ok((id, rest))
 }
 
-// Whether an id is a leaf concept of the dimension.
+/// Whether an id is a leaf concept of the dimension.
 fn is_leaf_concept(h: &Hierarchy, dim: u8, id: ConceptId) -> bool
     requires { dim < length h.now }
     ensures { result ≡ is_leaf_concept h.now dim id }

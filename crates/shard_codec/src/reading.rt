@@ -1,3 +1,4 @@
+//! Transfer texts, read.
 ghost use Rattle.std.specs.Prelude.{◌≡◌, List, [], length, Ok, All, IfOk};
 ghost use Rattle.shard_codec.specs.Spelled.{AreSpelled};
 ghost use Rattle.shard_codec.specs.Wire.{wire};
@@ -28,7 +29,7 @@ pub fn decode(alloc: Global, bytes: &[u8], h: &Hierarchy) -> Result<Vec<Row>, Co
     all_rows(alloc, bytes, h)
 }
 
-// The rows of the whole text, or its first fault.
+/// The rows of the whole text, or its first fault.
 #[tactic(auto, unfolding(crate::specs::Reading::decoded))]
 fn all_rows(alloc: Global, bytes: &[u8], h: &Hierarchy) -> Result<Vec<Row>, CodecFault>
     ensures exact { GivesUnlessFull (λ rows. rows.items) result (decoded h.now bytes.now) }
@@ -45,7 +46,7 @@ fn all_rows(alloc: Global, bytes: &[u8], h: &Hierarchy) -> Result<Vec<Row>, Code
     }
 }
 
-// The number of rows, behind the mark and the number of dimensions.
+/// The number of rows, behind the mark and the number of dimensions.
 #[tactic(auto, unfolding(crate::specs::Reading::head_at))]
 fn head_at(dims: u8, len: u64, bytes: &[u8]) -> Result<(u64, &[u8]), CodecFault>
     ensures { Gives (λ x. (x.0, x.1.now)) result (head_at dims len bytes.now) }
@@ -58,7 +59,7 @@ fn head_at(dims: u8, len: u64, bytes: &[u8]) -> Result<(u64, &[u8]), CodecFault>
     u64_at(len, rest)
 }
 
-// So many rows, and what is left.
+/// The next `count` rows, and what is left.
 fn rows_at<'a>(
     alloc: Global,
     h: &Hierarchy,
@@ -82,7 +83,7 @@ fn rows_at<'a>(
     Ok((rows, rest))
 }
 
-// A row, and what is left.
+/// A row, and what is left.
 #[tactic(auto, unfolding(crate::specs::Reading::row_at))]
 fn row_at<'a>(h: &Hierarchy, len: u64, bytes: &'a [u8]) -> Result<(Row, &'a [u8]), CodecFault>
     ensures { Gives (λ x. (x.0, x.1.now)) result (row_at h.now len bytes.now) }
@@ -98,7 +99,7 @@ fn row_at<'a>(h: &Hierarchy, len: u64, bytes: &'a [u8]) -> Result<(Row, &'a [u8]
     }
 }
 
-// A leaf concept for each dimension, and what is left.
+/// A leaf concept for each dimension, and what is left.
 fn coord_at<'a>(h: &Hierarchy, len: u64, bytes: &'a [u8]) -> Result<(Coord, &'a [u8]), CodecFault>
     ensures { Gives (λ x. (x.0.at, x.1.now)) result (coord_at h.now len (length h.now) 0 all_at_top bytes.now) }
 {

@@ -1,10 +1,11 @@
+//! Transfer texts, written.
 ghost use Rattle.std.specs.Prelude.{◌≡◌, ◌≤◌, ◌++◌, OnOk, IfOk};
 ghost use Rattle.shard_codec.specs.Wire.{head_wire, id_wire, ids_wire, row_wire, wire};
 
 use dim_hierarchy::{ConceptId, Row};
 use std::alloc::{AllocError, Global};
 
-// What a transfer text begins with.
+/// What a transfer text begins with.
 const MARK: &[u8; 8] = b"VOLAPTR1";
 
 /// The transfer text of rows over so many dimensions.
@@ -20,7 +21,7 @@ pub fn encode(alloc: Global, dims: u8, rows: &[Row]) -> Result<Vec<u8>, AllocErr
     Ok(bytes)
 }
 
-// Adds the mark, the number of dimensions and the number of rows.
+/// Adds the mark, the number of dimensions and the number of rows.
 #[tactic(auto, unfolding(crate::specs::Wire::head_wire))]
 fn push_head(bytes: &mut Vec<u8>, dims: u8, count: u64) -> Result<(), AllocError>
     ensures { OnOk result (bytes.new.items ≡ bytes.old.items ++ head_wire dims count) }
@@ -31,7 +32,7 @@ fn push_head(bytes: &mut Vec<u8>, dims: u8, count: u64) -> Result<(), AllocError
     Ok(())
 }
 
-// Adds a row.
+/// Adds a row.
 #[tactic(auto, unfolding(crate::specs::Wire::row_wire))]
 fn push_row(bytes: &mut Vec<u8>, dims: u8, row: &Row) -> Result<(), AllocError>
     requires { dims ≤ 8 }
@@ -43,7 +44,7 @@ fn push_row(bytes: &mut Vec<u8>, dims: u8, row: &Row) -> Result<(), AllocError>
     Ok(())
 }
 
-// Adds the ids of concepts.
+/// Adds the ids of concepts.
 fn push_ids(bytes: &mut Vec<u8>, ids: &[ConceptId]) -> Result<(), AllocError>
     ensures { OnOk result (bytes.new.items ≡ bytes.old.items ++ ids_wire ids.now) }
 {
@@ -53,7 +54,7 @@ fn push_ids(bytes: &mut Vec<u8>, ids: &[ConceptId]) -> Result<(), AllocError>
     Ok(())
 }
 
-// Adds an id.
+/// Adds an id.
 #[tactic(auto, unfolding(crate::specs::Wire::id_wire))]
 fn push_id(bytes: &mut Vec<u8>, id: u32) -> Result<(), AllocError>
     ensures { OnOk result (bytes.new.items ≡ bytes.old.items ++ id_wire id) }

@@ -1,3 +1,4 @@
+//! Loads of shards, and what a balance plans.
 /// A shard with the worker that has it and how many rows it has, those of its queue among them.
 #[derive(Clone, Copy, Debug, PartialEq, Eq)]
 pub struct Load {

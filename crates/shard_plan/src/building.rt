@@ -1,3 +1,4 @@
+//! How large a built tree is, and what a split needs.
 ghost use Rattle.std.specs.Prelude.{◌≡◌, ℕ, ◌+◌, ◌*◌, ◌^◌, ◌<◌, ◌≤◌, [], ◌∷◌};
 ghost use Rattle.std.specs.Int.{div_ceil};
 ghost use Rattle.shard_plan.specs.Building.{parent_nodes, leaves_for, levels_over, cells_for, levels_for, split_need};

@@ -1,3 +1,4 @@
+//! The gate of a shard.
 ghost use Rattle.std.specs.Prelude.{◌≡◌, ◌≢◌, ◌↔◌, ◌+◌, ◌<◌, ◌^◌, [], length, IsOk, IfErr, OnOk, OnErr};
 ghost use Rattle.dim_hierarchy.specs.Row.{IsRowOf};
 
@@ -40,7 +41,7 @@ pub struct Gate {
     pub active: u64,
     pub pins: u64,
     pub queue: Queue,
-    /// Of a shard that is gone, the cells of its tree that aren't free again.
+    /// Of a shard that is gone, the cells of its tree that are not free again.
     pub gone: CellList,
 }
 

@@ -1,3 +1,4 @@
+//! The queue of a shard.
 ghost use Rattle.std.specs.Prelude.{◌≡◌, ◌+◌, ◌<◌, ◌^◌, [], OnOk, OnErr};
 ghost use Rattle.dim_hierarchy.specs.Row.{IsRowOf};
 

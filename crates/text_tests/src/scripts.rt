@@ -9,6 +9,7 @@ use std::alloc::{AllocError, Global};
 use std::process::Abort;
 use std::test::Fail;
 
+/// The lines with which the scripts begin: one dimension of a country and two cities.
 const BASE: &[u8] =
     b"volap,1\ndim,geo,2\nconcept,geo,de,*\nconcept,geo,berlin,de\nconcept,geo,munich,de\n";
 

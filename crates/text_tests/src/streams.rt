@@ -10,6 +10,7 @@ use volap_io::{
     write_all,
 };
 
+/// The bytes that sources give and sinks take here.
 const TEXT: &[u8] = b"abcdef";
 
 /// Whether a whole text is read, by calls of at most `most` bytes, of which those named fail.
@@ -121,6 +122,7 @@ struct Noting {
 }
 
 impl Noting {
+    /// A source of `left` zeros, that has noted nothing.
     fn new(left: usize) -> Noting {
         Noting {
             left,
@@ -129,6 +131,7 @@ impl Noting {
         }
     }
 
+    /// Notes the length of a buffer or a piece, of the first four.
     fn note(&mut self, len: usize) {
         if self.calls < 4 {
             self.lens[self.calls] = len;
@@ -186,6 +189,7 @@ struct Breaking {
 }
 
 impl Breaking {
+    /// Moves at most `len` bytes, and fails where none are left.
     fn step(&mut self, len: usize) -> io::Result<usize>
         ensures { IfOk result (λ count. count ≤ len) }
     {

@@ -1,3 +1,4 @@
+//! Groups of blocks, as a page reads them.
 ghost use Rattle.std.specs.Prelude.{◌≡◌, ◌<◌, ◌^◌, length};
 ghost use Rattle.std.specs.Option.{option_copied};
 ghost use Rattle.dc_node.specs.Block.{size};

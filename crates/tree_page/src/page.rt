@@ -1,3 +1,4 @@
+//! The page that shows a tree.
 ghost use Rattle.std.specs.Prelude.{ℕ, ◌≡◌, ◌+◌, ◌-◌, ◌<◌, ◌^◌, ◌++◌, List, map, length, cond, IfOk, OnOk};
 ghost use Rattle.std.specs.List.{flat_map};
 ghost use Rattle.dc_node.specs.Block.{entries_in};

@@ -29,6 +29,7 @@ const STORES: [Dim; 1] = [(
     ],
 )];
 
+/// The names of the stores.
 const NAMES: [&str; 8] = ["a", "b", "c", "d", "e", "f", "g", "h"];
 
 /// Adds a copy of an item at the end: the generated proof follows no coordinate that is handed to a

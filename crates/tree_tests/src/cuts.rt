@@ -41,6 +41,7 @@ const WORLD: [Dim; 2] = [
 /// Items in one place and in one year.
 const AX: &[At] = &[["a", "x"]];
 
+/// The same in the second place.
 const BX: &[At] = &[["b", "x"]];
 
 /// The set of these rows.

@@ -56,7 +56,7 @@ fn plans_and_their_loads(rt: HostRuntime) -> Result<(), Fail> {
             1,
             &[moved(2, 1)],
         ),
-        // A gap of 32 is left, one of 33 isn't.
+        // A gap of 32 is left, one of 33 is not.
         (&[load(0, 0, 16), load(2, 0, 16), load(1, 1, 0)], 2, 4, &[]),
         (
             &[load(0, 0, 16), load(2, 0, 17), load(1, 1, 0)],
@@ -64,7 +64,7 @@ fn plans_and_their_loads(rt: HostRuntime) -> Result<(), Fail> {
             4,
             &[moved(0, 1)],
         ),
-        // 64 rows are enough for a split, 63 aren't.
+        // 64 rows are enough for a split, 63 are not.
         (&[load(0, 0, 64), load(1, 1, 0)], 2, 4, &[split(0)]),
         (&[load(0, 0, 63), load(1, 1, 0)], 2, 4, &[]),
         // Ties go to the lower number, of workers and of shards, whatever the order of the loads.
@@ -85,7 +85,7 @@ fn plans_and_their_loads(rt: HostRuntime) -> Result<(), Fail> {
             2,
             &[moved(3, 2), split(4)],
         ),
-        // A shard without rows isn't moved, and a split ends the plan.
+        // A shard without rows is not moved, and a split ends the plan.
         (&[load(0, 0, 0), load(1, 0, 70)], 2, 16, &[split(1)]),
     ];
     for (loads, workers, n, actions) in &cases {

@@ -3,10 +3,13 @@ ghost use Rattle.std.specs.Prelude.{IsTrue};
 
 /// A core is its ghost members and its law.
 pub trait Core {
+    /// What a cell holds.
     type Cell: Drop;
 
+    /// Who takes cells, and changes them.
     type Actor;
 
+    /// What the list in the cell of the log is made of.
     type Entry;
 
     ghost use Rattle.std.specs.Prelude.{ℕ, List};

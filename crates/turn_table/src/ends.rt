@@ -16,7 +16,7 @@ use atomic_table::{Closed, Table};
 use std::alloc::{AllocError, Global};
 use std::snapshot::Snapshot;
 
-// The words of free cells.
+/// The words of free cells.
 fn zeros(alloc: Global, count: usize) -> Result<Vec<u64>, AllocError>
     ensures { IfOk result (λ v. v.items ≡ replicate count 0) }
 {
@@ -25,7 +25,7 @@ fn zeros(alloc: Global, count: usize) -> Result<Vec<u64>, AllocError>
     Ok(words)
 }
 
-// Slots with these values.
+/// Slots with these values.
 fn filled<T: Drop>(alloc: Global, cells: Vec<T>) -> Result<Vec<Option<T>>, AllocError>
     ensures { IfOk result (λ v. v.items ≡ map (λ x. Some x) cells.items) }
 {
@@ -93,7 +93,7 @@ impl<C: Core> TurnTable<C> {
     }
 }
 
-// The values in the slots of a table that has ended.
+/// The values in the slots of a table that has ended.
 fn taken_apart<S>(mut closed: Closed<S, Global>, mut out: Vec<S>) -> Vec<S>
     requires full { IsFull closed.slots }
     requires room { (vec_len out ≡ 0) × (slots_len closed.slots ≤ vec_capacity out) }

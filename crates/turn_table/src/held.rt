@@ -1,4 +1,4 @@
-// The values of the held cells, by number, in the order in which the cells were after_take.
+//! The values of the held cells, by number, in the order in which the cells were taken.
 ghost use Rattle.std.specs.Prelude.{◌≡◌, ◌<◌, [], ◌∷◌, ◌++◌, length, IfSome, IfNone};
 
 use std::marker::Model;

@@ -12,7 +12,7 @@ use crate::rule::Place;
 use crate::table::TurnTable;
 
 impl<C: Core> TurnTable<C> {
-    // Takes the value out of the first slot, which goes behind the others.
+    /// Takes the value out of the first slot, which goes behind the others.
     fn take_front(&self, place: &mut Place<C>, number: u32) -> C::Cell
         requires own { place.old.table_id ≡ self.now }
         requires front { (c : C.Cell) × (place.old.me.1 ≡ (number, Some c) ∷ rest place.old.me.1) }
@@ -25,7 +25,7 @@ impl<C: Core> TurnTable<C> {
         value.unwrap()
     }
 
-    // Puts a value into the first slot, which goes behind the others.
+    /// Puts a value into the first slot, which goes behind the others.
     fn fill_front(&self, place: &mut Place<C>, number: u32, value: C::Cell)
         requires own { place.old.table_id ≡ self.now }
         requires front { place.old.me.1 ≡ (number, None) ∷ rest place.old.me.1 }
@@ -38,7 +38,7 @@ impl<C: Core> TurnTable<C> {
         place.turn();
     }
 
-    // Takes the values out of all slots.
+    /// Takes the values out of all slots.
     pub(crate) fn empty_slots(
         &self,
         place: &mut Place<C>,
@@ -59,7 +59,7 @@ impl<C: Core> TurnTable<C> {
         held
     }
 
-    // Puts the values into the slots.
+    /// Puts the values into the slots.
     pub(crate) fn fill_slots(&self, place: &mut Place<C>, cells: Held<C::Cell>)
         requires own { place.old.table_id ≡ self.now }
         requires empty { place.old.me.1 ≡ slots_of true cells }
@@ -76,7 +76,7 @@ impl<C: Core> TurnTable<C> {
     }
 }
 
-// The first slots go behind the others, as many as `count`.
+/// The first slots go behind the others, as many as `count`.
 pub(crate) fn turn_by<C: Core>(place: &mut Place<C>, count: usize)
     requires { count ≤ length place.old.me.1 }
     ensures same { (place.new.table_id ≡ place.old.table_id) × (place.new.id ≡ place.old.id) }
@@ -87,7 +87,7 @@ pub(crate) fn turn_by<C: Core>(place: &mut Place<C>, count: usize)
     }
 }
 
-// Where a held cell stands among those of its seat.
+/// Where a held cell stands among those of its seat.
 pub(crate) fn position(row: &[(u32, Option<u8>)], cell: u32) -> usize
     requires { (r : Option ℕ) × (value_of row.now cell ≡ some r) }
     ensures { (r : Option ℕ) × (get_elem? row.now result ≡ some (cell, r)) }

@@ -10,9 +10,11 @@ pub const MOST: usize = 7;
 /// The right to step on a table with some of its actors. The actors themselves stay with the caller.
 #[derive(Drop)]
 pub struct Seat<C: Core> {
+    /// Its number, which is that of one of its actors.
     pub(crate) number: u32,
-    // The held cells, the first taken first, each with the rank that was told for it.
+    /// The held cells, the first taken first, each with the rank that was told for it.
     pub(crate) row: ArrayVec<(u32, Option<u8>), MOST>,
+    /// Whether the values of the held cells are out.
     pub(crate) lifted: bool,
     pub(crate) place: Place<C>,
 }

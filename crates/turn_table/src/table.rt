@@ -18,7 +18,7 @@ use std::marker::Model;
 #[derive(Drop)]
 pub struct TurnTable<C: Core> {
     pub(crate) table: Inner<C>,
-    // Room for the cells at the end.
+    /// Room for the cells at the end.
     pub(crate) spare: Vec<Option<C::Cell>>,
 }
 
@@ -34,7 +34,7 @@ impl<C: Core> Model for TurnTable<C> {
 }
 
 impl<C: Core> TurnTable<C> {
-    // Takes the cell's turn if it is free, and answers the word that was found.
+    /// Takes the cell's turn if it is free, and answers the word that was found.
     pub(crate) fn grab(&self, place: &mut Place<C>, number: u32, cell: u32) -> u64
         requires own { (place.old.table_id ≡ self.now) × (place.old.me.0.number ≡ number) }
         requires active { place.old.me.0.actors ≢ [] }
@@ -50,8 +50,8 @@ impl<C: Core> TurnTable<C> {
             .compare_exchange::<Take<C>>(place, cell as usize, 0, number as u64 + 1)
     }
 
-    // One event: the cell that was taken last is given back, and the view is the one that is picked.
-    // Wakes one thread that waits for the cell.
+    /// One event: the cell that was taken last is given back, and the view is the one that is picked.
+    /// Wakes one thread that waits for the cell.
     pub(crate) fn commit_as<B: Aim<View<C::Cell, C::Actor, C::Entry>>>(
         &self,
         place: &mut Place<C>,
@@ -69,7 +69,7 @@ impl<C: Core> TurnTable<C> {
         self.table.shared.wake_one(cell as usize);
     }
 
-    // No event: the cell that was taken last is given back as it was. Wakes one thread that waits for it.
+    /// No event: the cell that was taken last is given back as it was. Wakes one thread that waits for it.
     pub(crate) fn release_as<B: Aim<View<C::Cell, C::Actor, C::Entry>>>(
         &self,
         place: &mut Place<C>,

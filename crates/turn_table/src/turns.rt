@@ -18,14 +18,14 @@ use arrayvec::ArrayVec;
 use std::marker::Brand;
 use std::sync::Wait;
 
-/// The cell's word wasn't 0, so another seat held the cell.
+/// A cell that another seat held, and its word, which was not 0.
 #[derive(Clone, Copy)]
 pub struct Busy {
     pub cell: u32,
     pub word: u64,
 }
 
-// A thread parks on the low half of a word.
+/// The low half of a word is below this; a thread parks on that half.
 const HALF: u64 = 1 << 32;
 
 impl<C: Core> TurnTable<C> {
@@ -54,7 +54,7 @@ impl<C: Core> TurnTable<C> {
         self.attempt(seat, cell, None)
     }
 
-    /// Waits until the turn of a cell is had. The rank isn't below one that was told for a held cell;
+    /// Waits until the turn of a cell is had. The rank is not below one that was told for a held cell;
     /// where it is equal and not `free_rank`, the cell's number is greater.
     pub fn take<R: Wait>(&self, rt: &R, seat: &mut Seat<C>, cell: u32, rank: u8)
         requires own { seat.old.table_id ≡ self.now }
@@ -80,7 +80,7 @@ impl<C: Core> TurnTable<C> {
         unreachable!()
     }
 
-    // One try, with the rank that is told for it.
+    /// One try, with the rank that is told for it.
     fn attempt(&self, seat: &mut Seat<C>, cell: u32, rank: Option<u8>) -> Result<(), Busy>
         requires own { seat.old.table_id ≡ self.now }
         requires cell { (cell < cell_count self.now) × (value_of seat.old.view.held cell ≡ none) }
@@ -183,7 +183,7 @@ impl<C: Core> TurnTable<C> {
         }
     }
 
-    // Cuts a view into the two that are picked.
+    /// Cuts a view into the two that are picked.
     fn cut<B: Cut<View<C::Cell, C::Actor, C::Entry>>>(
         &self,
         place: &mut Place<C>,

@@ -23,6 +23,7 @@ fn words(rt: &HostRuntime) -> Result<Vec<String>, Status> {
     Ok(words)
 }
 
+/// The word for how a call ended.
 fn name_of(status: Status) -> &'static str {
     match status {
         Status::Done => "Done",
@@ -35,6 +36,7 @@ fn name_of(status: Status) -> &'static str {
     }
 }
 
+/// Runs what the words ask, over standard input and output, and ends with the code of how it went.
 fn main(rt: HostRuntime) -> ExitCode {
     let mut source = StdSource::new(rt.stdin());
     let mut sink = StdSink::new(io::writer(&rt));

@@ -1,3 +1,4 @@
+//! Who makes the steps.
 use crate::boxes::Boxes;
 use crate::command::Command;
 use crate::errand::Errand;

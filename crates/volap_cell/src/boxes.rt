@@ -1,3 +1,4 @@
+//! Boxes for new blocks, and the steps of a row that take them.
 ghost use Rattle.std.specs.Prelude.{◌≡◌, ◌+◌, ◌<◌, ◌≤◌, true, false, length, option_map, OnErr, OnOk, [], ◌∷◌, ◌++◌};
 ghost use Rattle.dc_node.specs.Block.{is_leaf, is_full, rows_in, with_rows};
 ghost use Rattle.volap_cell.specs.Cells.{cell_of};

@@ -1,3 +1,4 @@
+//! What a cell holds.
 use cell_stock::Stock;
 use dc_node::Block;
 use mapping_table::MapTable;
@@ -13,6 +14,7 @@ use shard_store::Gate;
 /// block or gate: nobody reads it, and who fills it replaces that.
 #[derive(Drop)]
 pub enum Cell {
+    /// Nothing that is read.
     Free,
     /// The history.
     Ledger(Box<Ledger>),

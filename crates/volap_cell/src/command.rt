@@ -1,3 +1,4 @@
+//! A command, and how far it has come.
 use dim_hierarchy::{Items, Row};
 use shard_plan::{Action, Load};
 
@@ -29,7 +30,7 @@ pub enum Work {
         pulls: u16,
     },
     /// A split or a move is at work as long as its actor has a job; without one its shard, or the worker
-    /// that it was to go to, didn't stand when it began.
+    /// that it was to go to, did not stand when it began.
     Split {
         shard: u32,
     },

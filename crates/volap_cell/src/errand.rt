@@ -1,3 +1,4 @@
+//! A part that an actor took from a desk.
 ghost use Rattle.std.specs.Prelude.{◌≡◌, Some};
 ghost use Rattle.volap_cell.specs.declared.errand.Errand.{Errand};
 ghost use Rattle.volap_cell.specs.declared.errand.RowErrand.{RowErrand};
@@ -18,11 +19,14 @@ pub struct Errand {
     pub task: Task,
 }
 
+/// What an errand does for its part.
 #[derive(Drop)]
 pub enum Task {
+    /// It takes a row to its place.
     Row(RowErrand),
     /// A query's part that has read no gate.
     Unread(Filter),
+    /// A query's part that has read its gate.
     Read(Box<Reading>),
 }
 
@@ -37,7 +41,7 @@ pub struct RowErrand {
 /// How far a row has come.
 #[derive(Clone, Copy, Debug, PartialEq, Eq)]
 pub enum Way {
-    /// It hasn't passed its gate. The height of the tree there, where that was looked up, and whether the
+    /// It has not passed its gate. The height of the tree there, where that was looked up, and whether the
     /// purse was filled by it since the part was taken.
     Before { height: Option<u32>, filled: bool },
     /// It is carried at the head of a group of the gate's tree.

@@ -1,3 +1,4 @@
+//! New blocks, put into the cells that are held for them.
 ghost use Rattle.std.specs.Prelude.{◌≡◌, ◌+◌, ◌<◌, ◌≤◌, [], ◌∷◌, length, Some, option_map};
 ghost use Rattle.volap_cell.specs.Cells.{BlockCell, cell_of};
 ghost use Rattle.volap_cell.specs.NewBlocks.{HaveNew};

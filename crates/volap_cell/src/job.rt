@@ -1,3 +1,4 @@
+//! The split or the move of a shard, and how far it has come.
 use cell_stock::Purse;
 use dc_node::{Block, Todo};
 use describing_set::{DescSet, Plane};
@@ -20,11 +21,15 @@ pub struct Job {
 /// How far a job has come.
 #[derive(Drop)]
 pub enum Stage {
+    /// The shard is not frozen yet.
     Called,
+    /// It is declined, and why.
     Declined(Decline),
     /// The shard is frozen, and inserts may still be in its tree.
     Frozen(Frozen),
+    /// The shard's rows are collected.
     Collecting(Collecting),
+    /// The new trees are put into their cells.
     Building(Building),
 }
 
@@ -59,7 +64,7 @@ pub struct Building {
     pub read: CellList,
     pub left: BuiltTree,
     pub right: Option<BuiltTree>,
-    /// The blocks that aren't in their cells yet.
+    /// The blocks that are not in their cells yet.
     pub unbuilt: Items<Unbuilt>,
     /// The spares that all new blocks took.
     pub spent: Purse,
@@ -75,7 +80,7 @@ pub struct BuiltTree {
     pub set: DescSet,
 }
 
-/// A block of a new tree that isn't in its cell yet.
+/// A block of a new tree that is not in its cell yet.
 #[derive(Drop)]
 pub struct Unbuilt {
     pub cell: u32,

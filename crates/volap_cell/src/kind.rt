@@ -1,3 +1,4 @@
+//! The kinds of step.
 /// The kinds of step. A step changes the cells that its kind holds and its actor, and nothing else.
 #[derive(Clone, Copy, Debug, PartialEq, Eq)]
 pub enum Kind {

@@ -8,13 +8,13 @@ pub fn opening_holds()
     ensures { OpeningLaw }
 {}
 
-/// Each row whose insert began and didn't fail has one place: it is in one shard that stands, once, in
+/// Each row whose insert began and did not fail has one place: it is in one shard that stands, once, in
 /// its tree or its queue; or its insert stands on its server's desk, or no part for it was routed yet.
 pub fn each_row_has_one_place()
     ensures { PlaceLaw }
 {}
 
-/// The rows of the shards that stand were begun and don't fail, each is there once, and each row that was
+/// The rows of the shards that stand were begun and do not fail, each is there once, and each row that was
 /// acknowledged is one of them.
 pub fn shards_have_the_rows()
     ensures { RowsLaw }
@@ -26,8 +26,8 @@ pub fn images_cover()
     ensures { ImageLaw }
 {}
 
-/// What the parts of an open query have counted are rows that its filter matches and that don't fail, each
-/// once; and what it must hold is counted, or is in a shard that comes from that of a part which isn't at
+/// What the parts of an open query have counted are rows that its filter matches and that do not fail, each
+/// once; and what it must hold is counted, or is in a shard that comes from that of a part which is not at
 /// its end.
 pub fn queries_count_once()
     ensures { QueryLaw }

@@ -1,3 +1,4 @@
+//! The state with which a run opens.
 ghost use Rattle.std.specs.Prelude.{◌≡◌, ◌+◌, ◌<◌, ◌≤◌, ◌^◌, ◌∷◌, ◌++◌, [], Some, length, IfOk, OnOk};
 ghost use Rattle.volap_cell.specs.Filling.{Adds, HasPulled, IsActor, IsDesk, IsFirstStock, IsFreeCell, IsGate, IsImage, IsMap, IsOpened, IsRoot, Stands, setting_for};
 ghost use Rattle.volap_cell.specs.Numbering.{IsSetting};

@@ -1,3 +1,4 @@
+//! What actors are there for.
 use dim_hierarchy::Items;
 
 /// What an actor is there for.

@@ -1,3 +1,4 @@
+//! All cells and actors, moved out and put back.
 ghost use Rattle.std.specs.Prelude.{◌≡◌, ◌<◌, ⊤, Some, None, [], ◌∷◌, length, get_or, set, is_some};
 ghost use Rattle.tree_shape.specs.Counts.{Each};
 ghost use Rattle.volap_cell.specs.State.{Has, CanLift, Stand, taken, given, cell_if, number_if};

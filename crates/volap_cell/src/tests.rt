@@ -1,3 +1,4 @@
+//! Cells that are moved out and put back.
 ghost use Rattle.std.specs.Prelude.{◌≡◌, ◌<◌, [], ◌∷◌, length, IfOk};
 ghost use Rattle.volap_cell.specs.State.{CanLift};
 ghost use Rattle.volap_cell.specs.declared.role.Role.TheVariants.{Session, Admin};

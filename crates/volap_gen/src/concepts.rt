@@ -16,7 +16,7 @@ pub fn push_concepts(text: &mut String, dim: Dim) -> Result<(), AllocError>
     Ok(())
 }
 
-// Adds a concept of the first level and those under it.
+/// Adds a concept of the first level and those under it.
 fn push_top(text: &mut String, concept: Top) -> Result<(), AllocError>
     ensures { OnOk result (string_bytes text.new ≡ string_bytes text.old ++ text_of (top_record concept.dim concept.number ∷ middle_records concept.dim concept.number)) }
 {
@@ -25,7 +25,7 @@ fn push_top(text: &mut String, concept: Top) -> Result<(), AllocError>
     push_middles(text, concept)
 }
 
-// Adds those of the second level that are under a concept, and those under them.
+/// Adds those of the second level that are under a concept, and those under them.
 fn push_middles(text: &mut String, above: Top) -> Result<(), AllocError>
     ensures { OnOk result (string_bytes text.new ≡ string_bytes text.old ++ text_of (middle_records above.dim above.number)) }
 {
@@ -35,7 +35,7 @@ fn push_middles(text: &mut String, above: Top) -> Result<(), AllocError>
     Ok(())
 }
 
-// Adds a concept of the second level and those under it.
+/// Adds a concept of the second level and those under it.
 fn push_middle(text: &mut String, concept: Middle) -> Result<(), AllocError>
     ensures { OnOk result (string_bytes text.new ≡ string_bytes text.old ++ text_of (middle_record concept.above.dim concept.above.number concept.number ∷ leaf_records concept.above.dim concept.above.number concept.number)) }
 {
@@ -45,7 +45,7 @@ fn push_middle(text: &mut String, concept: Middle) -> Result<(), AllocError>
     push_leaves(text, concept)
 }
 
-// Adds the leaf concepts under a concept.
+/// Adds the leaf concepts under a concept.
 fn push_leaves(text: &mut String, above: Middle) -> Result<(), AllocError>
     ensures { OnOk result (string_bytes text.new ≡ string_bytes text.old ++ text_of (leaf_records above.above.dim above.above.number above.number)) }
 {
@@ -55,7 +55,7 @@ fn push_leaves(text: &mut String, above: Middle) -> Result<(), AllocError>
     Ok(())
 }
 
-// Adds a leaf concept.
+/// Adds a leaf concept.
 fn push_leaf(text: &mut String, concept: Leaf) -> Result<(), AllocError>
     ensures { OnOk result (string_bytes text.new ≡ string_bytes text.old ++ record_line (leaf_record concept.above.above.dim concept.above.above.number concept.above.number concept.number)) }
 {

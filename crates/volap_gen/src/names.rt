@@ -47,7 +47,7 @@ impl Dim {
         }
     }
 
-    // The letter of the first level's names.
+    /// The letter of the first level's names.
     fn top_letter(self) -> &'static str
         ensures { result.now ≡ top_letter self }
     {
@@ -58,7 +58,7 @@ impl Dim {
         }
     }
 
-    // The letter of the second level's names.
+    /// The letter of the second level's names.
     fn middle_letter(self) -> &'static str
         ensures { result.now ≡ middle_letter self }
     {
@@ -69,7 +69,7 @@ impl Dim {
         }
     }
 
-    // The letter of the leaf level's names.
+    /// The letter of the leaf level's names.
     fn leaf_letter(self) -> &'static str
         ensures { result.now ≡ leaf_letter self }
     {

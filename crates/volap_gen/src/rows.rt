@@ -7,16 +7,19 @@ use crate::names::{Dim, Leaf};
 use std::alloc::AllocError;
 use std::fmt::Write;
 
-// How many rows are inserted between two balances.
+/// How many rows are inserted between two balances.
 const STAGE: u64 = 1000;
 
-// How many servers, shops and days there are, and how many measures, from -100 on.
+/// How many servers there are.
 const SERVERS: u64 = 4;
 
+/// How many shops there are.
 const SHOPS: u64 = 100;
 
+/// How many days there are.
 const DAYS: u64 = 1008;
 
+/// How many measures there are, from -100 on.
 const MEASURES: u64 = 201;
 
 /// Adds the records of the rows and of what is done after them.
@@ -30,7 +33,7 @@ pub fn push_rows(text: &mut String, rows: u64, seed: u64) -> Result<(), AllocErr
     Ok(())
 }
 
-// Adds a row's record and what is done after it.
+/// Adds a row's record and what is done after it.
 fn push_row(text: &mut String, rows: u64, seed: u64, i: u64) -> Result<(), AllocError>
     requires { i < 200000 }
     ensures { OnOk result (string_bytes text.new ≡ string_bytes text.old ++ text_of (row_records rows seed i)) }
@@ -42,7 +45,7 @@ fn push_row(text: &mut String, rows: u64, seed: u64, i: u64) -> Result<(), Alloc
     Ok(())
 }
 
-// What the record of a row says.
+/// What the record of a row says.
 #[derive(Clone, Copy)]
 pub struct NewRow {
     pub server: u64,
@@ -52,7 +55,7 @@ pub struct NewRow {
     pub item: Leaf,
 }
 
-// The row with a number.
+/// The row with a number.
 #[tactic(auto, unfolding(crate::specs::Generated::insert_record))]
 fn row_at(seed: u64, i: u64) -> NewRow
     requires { i < 200000 }
@@ -67,7 +70,7 @@ fn row_at(seed: u64, i: u64) -> NewRow
     }
 }
 
-// Adds a row's record.
+/// Adds a row's record.
 fn push_insert(text: &mut String, row: &NewRow) -> Result<(), AllocError>
     ensures { OnOk result (string_bytes text.new ≡ string_bytes text.old ++ record_line (row_fields row.now)) }
 {
@@ -79,7 +82,7 @@ fn push_insert(text: &mut String, row: &NewRow) -> Result<(), AllocError>
     writeln!(text, "insert,{server},{measure},{day},{shop},{item}")
 }
 
-// Each server pulls, and the load is balanced, before the next rows begin.
+/// Each server pulls, and the load is balanced, before the next rows begin.
 #[tactic(auto, unfolding(crate::specs::Generated::pulls))]
 fn push_pulls(text: &mut String) -> Result<(), AllocError>
     ensures { OnOk result (string_bytes text.new ≡ string_bytes text.old ++ text_of pulls) }
@@ -87,7 +90,7 @@ fn push_pulls(text: &mut String) -> Result<(), AllocError>
     text.push_str("sync,0\nsync,1\nsync,2\nsync,3\nbalance,4\nbarrier\n")
 }
 
-// The measure of a row.
+/// The measure of a row.
 fn measure_at(seed: u64, i: u64) -> i64
     requires { i < 200000 }
     ensures { result ≡ measure_at seed i }
@@ -95,7 +98,7 @@ fn measure_at(seed: u64, i: u64) -> i64
     ((i / SHOPS + seed % MEASURES) % MEASURES) as i64 - 100
 }
 
-// The number of a row's day.
+/// The number of a row's day.
 fn day_at(seed: u64, i: u64) -> u64
     requires { i < 200000 }
     ensures { result ≡ day_at seed i }
@@ -103,7 +106,7 @@ fn day_at(seed: u64, i: u64) -> u64
     (5 * (i / SHOPS) + i % SHOPS % 5 + seed % DAYS) % DAYS
 }
 
-// The number of a row's item.
+/// The number of a row's item.
 fn item_at(i: u64) -> u64
     ensures { result ≡ item_at i }
 {

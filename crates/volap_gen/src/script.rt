@@ -1,3 +1,4 @@
+//! The generated script as text.
 ghost use Rattle.std.specs.Prelude.{◌≡◌, ◌≤◌, ◌++◌, IfOk, OnOk, string_bytes};
 ghost use Rattle.volap_gen.specs.Generated.{text_of, generated, opening, closing};
 
@@ -22,7 +23,7 @@ pub fn generate(alloc: Global, rows: u64, seed: u64) -> Result<Vec<u8>, AllocErr
     Ok(text.into_bytes())
 }
 
-// Adds the settings and the dimensions.
+/// Adds the settings and the dimensions.
 #[tactic(auto, unfolding(crate::specs::Generated::opening))]
 fn push_opening(text: &mut String) -> Result<(), AllocError>
     ensures { OnOk result (string_bytes text.new ≡ string_bytes text.old ++ text_of opening) }
@@ -30,7 +31,7 @@ fn push_opening(text: &mut String) -> Result<(), AllocError>
     text.push_str("volap,1\nuse,4,4,2,16384\ndim,date,3\ndim,store,3\ndim,product,3\n")
 }
 
-// Adds the queries of everything, of a year, of two countries and of a group of products.
+/// Adds the queries of everything, of a year, of two countries and of a group of products.
 #[tactic(auto, unfolding(crate::specs::Generated::closing))]
 fn push_closing(text: &mut String) -> Result<(), AllocError>
     ensures { OnOk result (string_bytes text.new ≡ string_bytes text.old ++ text_of closing) }

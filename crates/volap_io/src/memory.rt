@@ -13,8 +13,11 @@ use std::marker::Model;
 #[derive(Drop)]
 pub struct MemSource {
     bytes: Vec<u8>,
+    /// How many bytes were given.
     at: usize,
+    /// The calls that fail, counted from 0.
     fail: Vec<u64>,
+    /// How many bytes a call gives at most.
     most: usize,
     calls: u64,
     faults: u64,
@@ -101,8 +104,11 @@ impl Source for MemSource {
 #[derive(Drop)]
 pub struct MemSink {
     bytes: Vec<u8>,
+    /// How many bytes were taken.
     len: usize,
+    /// The calls that fail, counted from 0.
     fail: Vec<u64>,
+    /// How many bytes a call takes at most.
     most: usize,
     calls: u64,
     faults: u64,

@@ -31,6 +31,7 @@ pub enum ReadEnd {
     ReadFault,
     /// A byte more came than there may be.
     TooLarge,
+    /// No memory was found.
     NoMemory,
 }
 
