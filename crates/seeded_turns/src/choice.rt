@@ -32,9 +32,9 @@ fn able_at<M: Machine>(machine: &M, place: u32) -> Option<(u32, M::Kind)>
 {
     let mut left = place;
     for actor in 0..machine.actors() {
-        if let Some(kind) = machine.due(actor) {
+        if let Some(due) = machine.due(actor) {
             if left == 0 {
-                return Some((actor, kind));
+                return Some((actor, due));
             }
             left -= 1;
         }
