@@ -1,5 +1,5 @@
 -- What is due for an actor whose command may begin, or that can step at all.
-use Rattle.std.proofs.Common.{◌≡◌, ◌∙◌, ◌<◌, ℕ, Bool, true, false, ◌+◌, ◌==◌, List, [], ◌∷◌, Option, Some, None, is_none, length, get_or, refl, sym, ap, subst}
+use Rattle.std.proofs.Common.{◌≡◌, ◌≢◌, ◌∙◌, ◌<◌, ◌&&◌, inl, inr, ℕ, Bool, true, false, not, ◌+◌, ◌==◌, List, [], ◌∷◌, Option, Some, None, is_none, length, get_or, refl, sym, ap, subst}
 use Rattle.std.specs.Prelude.{if◌then◌else◌, slice_get}
 use Rattle.std.specs.Option.{option_map_or}
 use Rattle.dim_hierarchy.specs.Dimension.{Dimension}
@@ -18,26 +18,25 @@ use Rattle.volap_cell.specs.declared.role.Role.{Role}
 use Rattle.volap_cell.specs.declared.role.Role.TheVariants as role
 use Rattle.volap_cell.proofs.States.{stands}
 use Rattle.script_run.proofs.Between.{get-behind}
-use Rattle.seeded_run.specs.Can.{can, can_step, meets}
+use Rattle.std.proofs.lemmas.Bool.{eq-eqb}
+use Rattle.volap_cell.specs.Errands.{way_of}
+use Rattle.seeded_run.specs.Can.{can, can_step, is_carried_at, meets}
 use Rattle.seeded_run.specs.Commands.{may_begin}
 use Rattle.seeded_run.specs.Due.{command_kind, due, desk_of, free_kind, is_alone, next_kind}
 use Rattle.seeded_run.specs.Look.{HasNextNames}
-use Rattle.seeded_run.specs.Machine.{HasLeftOver, HasTurned, IsDueNow, IsPhaseKept, TakesTurn, about_in, can_in, next_at, phase_of, world_of}
+use Rattle.seeded_run.specs.Machine.{BeginsNow, HasLeftOver, HasTurned, IsDueNow, IsDueStep, IsPhaseHeld, IsPhaseKept, TakesTurn, about_in, can_in, next_at, phase_of, world_of}
 use Rattle.seeded_run.specs.Rests.{first_open, rest_of}
 use Rattle.seeded_run.specs.Steps.{begins_by, begins_of_one, is_for_part}
-use Rattle.seeded_run.specs.Takes.{AsksHere}
+use Rattle.seeded_run.specs.Takes.{AsksHere, carries_at, free_by}
 use Rattle.seeded_run.specs.Told.{is_of_part}
+use Rattle.seeded_run.specs.declared.due_step.DueStep.TheVariants.{Begins, GoesOn}
 use Rattle.seeded_run.specs.declared.machine.Running.{Running}
+use Rattle.seeded_run.proofs.DueSteps.{begins-apart, begins-by-none, goes-by-one, kind-of}
 use Rattle.seeded_run.proofs.Held.{none-past, rest-none, rest-some}
-use Rattle.seeded_run.proofs.LeftAlone.{apart, at-command, both-parts, off-part}
+use Rattle.seeded_run.proofs.LeftAlone.{apart, at-command, both-parts, is-idle, off-part, or-true, same-or-not, true-or}
+use Rattle.seeded_run.proofs.Movers.{all-from}
 use Rattle.seeded_run.proofs.PhaseRuns.{script}
 use Rattle.seeded_run.proofs.StepsReady.{some-if}
-
-begins-apart : (k : Kind) → may_begin k ≡ true → is_of_part k ≡ false
-begins-apart kind.BeginInsert e = refl
-begins-apart kind.BeginQuery e = refl
-begins-apart kind.Note e = refl
-begins-apart k e = cc
 
 may-of : (actors : List (Option Actor)) (n : ℕ) (k : Kind) → begins_by actors n k ≡ true → may_begin k ≡ true
 may-of actors n k = by (get_or actors n None)
@@ -130,6 +129,50 @@ module _ (m : Running) (kept : IsPhaseKept m) (n : ℕ) where
           none : (o : Option Actor) → AsksHere o (Some (script.Control called))
           none None = tt
           none (Some a) = tt
+
+-- What an actor does on its turn.
+module _ (m : Running) (kept : IsPhaseKept m) (n : ℕ) (within : n < length m.state.actors.items) where
+  begins-seen : (k : Kind) → begins_by m.state.actors.items n k ≡ (is_none ((world_of m).actors n).command && may_begin k)
+  begins-seen k =
+      let a = stands (get_or m.state.actors.items n None) (λ x. actor_of x ≡ (world_of m).actors n) (kept.core.is.actor n within) in
+      ap (λ o. begins_of_one o k) a.1 ∙ ap (λ (x : ActorValue). is_none x.command && may_begin k) a.2
+
+  -- it begins its next command
+  pub begins-now : IsDueStep m n Begins → BeginsNow m n
+  begins-now is =
+      let k = kind-of m.in_order (about_in m) (phase_of m) (world_of m) n Begins is in
+      record { kind = k.0; due = record { due_is = k.1; can = k.2 }; begins = begins-seen k.0 ∙ begins-by-none (is_none ((world_of m).actors n).command) k.0 k.3 }
+
+  -- or it goes on by a kind that begins none
+  pub goes-now : (k : Kind) → IsDueStep m n (GoesOn k) → IsDueNow m n k × (begins_by m.state.actors.items n k ≡ false)
+  goes-now l is =
+      let k = kind-of m.in_order (about_in m) (phase_of m) (world_of m) n (GoesOn l) is in
+      let one = goes-by-one (is_none ((world_of m).actors n).command) k.0 l k.3 in
+      subst (λ x. IsDueNow m n x × (begins_by m.state.actors.items n x ≡ false)) one.0 (record { due_is = k.1; can = k.2 }, begins-seen k.0 ∙ one.1)
+
+-- Where the commands go in order, nobody but the actor of the first one carries a row.
+pub alone-carries : (m : Running) → IsPhaseHeld m → (n : ℕ) → m.in_order ≡ true → m.first ≡ Some n → (block : ℕ) → free_by m.state.actors.items n block ≡ true
+alone-carries m held n order first block = all-from (length m.state.actors.items) _ (λ a low. elim (same-or-not a n) [
+  | inl is ↦ true-or (a == n) (not (carries_at (get_or m.state.actors.items a None) block)) (eq-eqb a n is)
+  | inr differs ↦ or-true (a == n) (not (carries_at (get_or m.state.actors.items a None) block)) (rests a low differs)
+])
+  where
+    opened : first_open (phase_of m) (history_in (world_of m)) ≡ Some n
+    opened = held.first order ∙ first
+
+    other : (a : ℕ) → a ≢ n → first_open (phase_of m) (history_in (world_of m)) ≢ Some a
+    other a differs is = differs (some-same (sym is ∙ opened))
+      where
+        some-same : ◌≡◌ {A = Option ℕ} (Some a) (Some n) → a ≡ n
+        some-same e = cc
+
+    rests : (a : ℕ) → a < length m.state.actors.items → a ≢ n → not (carries_at (get_or m.state.actors.items a None) block) ≡ true
+    rests a low differs =
+        let x = stands (get_or m.state.actors.items a None) (λ y. actor_of y ≡ (world_of m).actors a) (held.kept.core.is.actor a low) in
+        let idle = is-idle ((world_of m).actors a) ((held.kept.is_running.ordered order).idle a (other a differs)) in
+        ap (λ o. not (carries_at o block)) x.1
+        ∙ ap (λ (y : ActorValue). not (is_carried_at block (way_of y.errand))) x.2
+        ∙ ap (λ e. not (is_carried_at block (way_of e))) idle.errand
 
 -- What a turn was it is still when it is known whose the first command is.
 pub turned-then : (m mid now : Running) (n : ℕ) → HasTurned m n mid → now ≡ record mid { begun = now.begun; first = now.first } → TakesTurn m n now

@@ -1,8 +1,8 @@
 -- Later moments of a phase, and the moves between them.
-use Rattle.std.proofs.Common.{rules, not, ◌≡◌, ◌≢◌, ◌∙◌, ◌&&◌, ◌<◌, ◌+◌, inl, ℕ, suc, Bool, true, false, Option, Some, None, is_none, List, [], ◌∷◌, ◌++◌, length, take, slice_get, refl, sym, ap, subst, arith}
+use Rattle.std.proofs.Common.{rules, not, ◌≡◌, ◌≢◌, ◌∙◌, ◌<◌, ◌+◌, inl, ℕ, suc, Bool, true, false, Option, Some, None, is_none, List, [], ◌∷◌, ◌++◌, length, take, slice_get, refl, sym, ap, subst, arith}
 use Rattle.core_image.proofs.NextAction.{inside, take-more}
 use Rattle.std.specs.Prelude.{IfOk, OnErr, Result, Ok, Err}
-use Rattle.std.specs.Option.{option_eq, option_map_or}
+use Rattle.std.specs.Option.{option_eq}
 use Rattle.volap_cell.specs.Setting.{Setting, actor_count}
 use Rattle.volap_cell.specs.Values.{actor_of}
 use Rattle.volap_cell.specs.World.{World}
@@ -10,7 +10,6 @@ use Rattle.volap_cell.specs.declared.actor.Actor.{Actor}
 use Rattle.volap_cell.specs.contracts.kind.KindPartialEq.TheImpl as test_of
 use Rattle.volap_cell.specs.declared.kind.Kind.{Kind}
 use Rattle.seeded_run.specs.ByHand.{AreMoves, CannotMove, CannotMoveAt, HasMoved, HasMovedTo, IsLater, Moves, MovesTo, StopsAmong, StopsAmongAt}
-use Rattle.seeded_run.specs.Can.{can, can_step, meets}
 use Rattle.seeded_run.specs.Commands.{may_begin}
 use Rattle.seeded_run.specs.Due.{due}
 use Rattle.seeded_run.specs.Kept.{IsStopped}
@@ -19,6 +18,7 @@ use Rattle.seeded_run.specs.Rests.{PhaseRun}
 use Rattle.seeded_run.specs.Steps.{begins_of_one}
 use Rattle.seeded_run.specs.declared.machine.Running.{Running}
 use Rattle.seeded_run.proofs.Begun.{turned-then}
+use Rattle.seeded_run.proofs.DueSteps.{no-both, none-due}
 use Rattle.seeded_run.proofs.PhaseRuns.{stops-law}
 use Rattle.seeded_run.proofs.WholePhases.{as-before}
 
@@ -62,10 +62,6 @@ later-turned m mid now n turned is = (let t = turned-then m mid now n turned is 
 
 -- A step of a kind by which no command begins begins none.
 
-no-both : (a b : Bool) → b ≡ false → (a && b) ≡ false
-no-both true b e = e
-no-both false b e = refl
-
 pub never-begins : (k : Kind) → may_begin k ≡ false → (o : Option Actor) → begins_of_one o k ≡ false
 never-begins k never None = refl
 never-begins k never (Some a) = no-both (is_none (actor_of a).command) (may_begin k) never
@@ -88,14 +84,6 @@ same-told None None e = refl
 same-told None (Some b) e = no-way e
 same-told (Some a) None e = no-way e
 same-told (Some a) (Some b) e = ap Some (same-kind a b (not-false _ e))
-
-none-able : (s : Setting) (p : PhaseRun) (w : World) (n : ℕ) → due s p w n ≡ None → can s p w n ≡ false
-none-able s p w n none = ap (λ (o : Option Kind). option_map_or (meets s w n) o false) none
-
--- for whom nothing is due can make no step
-none-due : (in_order : Bool) (s : Setting) (p : PhaseRun) (w : World) (n : ℕ) → due s p w n ≡ None → can_step in_order s p w n ≡ false
-none-due false s p w n none = none-able s p w n none
-none-due true s p w n none = no-both _ (can s p w n) (none-able s p w n none)
 
 module _ (m : Running) (n : ℕ) where
   -- who can make no step is told none,

@@ -123,7 +123,7 @@ row-part w led a (way.Carried gate block) k is = let same : carry_kind (block_in
 row-part w led a (way.Put gate) k is = let same : kind.LeaveTree ≡ k = cc in ap is_of_part (sym same)
 row-part w led a way.Placed k is = let same : placed_kind a ≡ k = cc in ap is_of_part (sym same) ∙ if-part (is_empty a.purse) kind.FinishPart kind.Refill refl refl
 
-task-part : (w : World) (led : Option Where) (a : ActorValue) (t : TaskValue) (k : Kind) → task_kind w led a t ≡ Some k → is_of_part k ≡ true
+pub task-part : (w : World) (led : Option Where) (a : ActorValue) (t : TaskValue) (k : Kind) → task_kind w led a t ≡ Some k → is_of_part k ≡ true
 task-part w led a (OfRow r) k is = row-part w led a r.way k is
 task-part w led a (Unread f) k is = kind-by-part led _ k (λ g. refl) is
 task-part w led a (Read r) k is = let same : read_kind r.items ≡ k = cc in ap is_of_part (sym same) ∙ if-part (is_empty r.items) kind.FinishPart kind.BlockVisit refl refl

@@ -28,6 +28,7 @@ pub mod PhaseRuns
 pub mod Pulled
 pub mod Keeps
 pub mod Begins
+pub mod DueSteps
 pub mod Takings
 pub mod DueParts
 pub mod Holds

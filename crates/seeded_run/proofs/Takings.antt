@@ -1,6 +1,6 @@
--- A step that is due, and can be made, is told by what one thread sees that holds all cells and actors.
-use Rattle.std.proofs.Common.{◌≡◌, ◌≢◌, ◌∙◌, ℕ, ◌<◌, Bool, true, false, List, [], length, get_or, Option, Some, None, refl, sym, ap, subst, not, arith, ◌+◌}
-use Rattle.std.specs.Prelude.{◌==◌, ◌&&◌, ◌||◌, if◌then◌else◌, is_some, is_none, option_and_then}
+-- What an actor does on its turn is told by what one thread sees that holds all cells and actors.
+use Rattle.std.proofs.Common.{◌≡◌, ◌∙◌, ℕ, ◌<◌, Bool, true, false, List, [], length, get_or, Option, Some, None, refl, sym, ap, subst, not, arith, ◌+◌, cond}
+use Rattle.std.specs.Prelude.{◌==◌, ◌&&◌, ◌||◌, if◌then◌else◌, is_none, option_and_then, option_map}
 use Rattle.std.specs.Option.{option_map_or}
 use mathlib.Core.Path.{fun_ext}
 use Rattle.core_tree.proofs.Carriers.{Carries, carries}
@@ -10,11 +10,9 @@ use Rattle.dim_hierarchy.specs.Row.{IsRowOf}
 use Rattle.dim_hierarchy.specs.declared.row.Row.{Row}
 use Rattle.mapping_table.specs.declared.place.Where.{Where}
 use Rattle.mapping_table.specs.declared.place.Where.TheVariants as where_is
-use Rattle.query_router.specs.Desk.{DeskValue}
 use Rattle.row_ledger.specs.declared.settings.Use.{Use}
 use Rattle.script_form.specs.declared.script.Command.{Command}
 use Rattle.script_form.specs.declared.script.Command.TheVariants as script
-use Rattle.script_run.specs.Phases.{closes}
 use Rattle.tree_shape.specs.Laws.{BlockLaw}
 use Rattle.volap_cell.proofs.Actors.{row-at}
 use Rattle.volap_cell.proofs.States.{same-actor}
@@ -35,8 +33,8 @@ use Rattle.volap_cell.specs.declared.errand.Way.{Way}
 use Rattle.volap_cell.specs.declared.errand.Way.TheVariants as way
 use Rattle.volap_cell.specs.declared.kind.Kind.{Kind}
 use Rattle.volap_cell.specs.declared.kind.Kind.TheVariants as kind
-use Rattle.volap_cell.specs.declared.role.Role.{Role}
 use Rattle.volap_cell.specs.declared.role.Role.TheVariants as role
+use Rattle.seeded_run.proofs.DueSteps.{if-out}
 use Rattle.seeded_run.proofs.Looks.{due-seen}
 use Rattle.seeded_run.proofs.Others.{all-same}
 use Rattle.seeded_run.proofs.Progress.{session-within}
@@ -44,36 +42,11 @@ use Rattle.seeded_run.proofs.Scripts.{session-is}
 use Rattle.seeded_run.proofs.Seen.{cell-seen}
 use Rattle.seeded_run.specs.Can.{child_wanted, is_block_free, is_carried_at, is_drained, meets, root_at, wanted_down, wanted_of}
 use Rattle.seeded_run.specs.Core.{IsCore}
-use Rattle.seeded_run.specs.Due.{actor_kind, all_below, are_known, desk_of, due_by, first_kind, free_kind, is_empty_desk, led_to, next_kind}
+use Rattle.seeded_run.specs.DueSteps.{kind_if, step_of}
+use Rattle.seeded_run.specs.declared.due_step.DueStep.{DueStep}
+use Rattle.seeded_run.specs.Due.{actor_kind, all_below, desk_of, due_by, is_empty_desk, led_to}
 use Rattle.seeded_run.specs.Look.{IsTold, ahead, alone_by, cell_at, cells_only, setting_by, setting_for, world_by}
-use Rattle.seeded_run.specs.Takes.{AsksHere, CanPick, HasDeskFor, carries_at, free_by, is_free_by, may_next}
-
--- Beginning a command.
-
-first-some : (desk : Option DeskValue) (c : Command) (known : Bool) → HasDeskFor desk (Some c) → is_some (first_kind desk c known) ≡ true
-first-some desk (script.Insert new) true e = refl
-first-some desk (script.Insert new) false e = refl
-first-some desk (script.Query q) true e = ap (λ b. is_some (if b then Some kind.BeginQuery else None)) e
-first-some desk (script.Query q) false e = refl
-first-some desk (script.Control call) true e = refl
-first-some desk (script.Control call) false e = refl
-
-late : (closed alone : Bool) (k : Option Kind) → is_some k ≡ true → is_some (if closed && not alone then None else k) ≡ (not closed || alone)
-late true true k e = e
-late true false k e = refl
-late false alone k e = e
-
--- whatever its names are, a command that may begin makes something due
-next-some : (h : List Dimension) (alone : Bool) (desk : Option DeskValue) (next : Option Command) → HasDeskFor desk next → is_some (next_kind h alone desk (ahead next)) ≡ may_next next alone
-next-some h alone desk None e = refl
-next-some h alone desk (Some c) e = late (closes c) alone (first_kind desk c (are_known h c)) (first-some desk c (are_known h c) e)
-
-pub free-some : (h : List Dimension) (servers : ℕ) (w : World) (alone : Bool) (next : Option Command) (r : Role) → ((worker : ℕ) → r ≢ role.Hand worker)
-    → HasDeskFor (desk_of (setting_for [] servers) w r) next → is_some (free_kind (setting_for h servers) w alone (ahead next) r) ≡ may_next next alone
-free-some h servers w alone next (role.Hand worker) other e = absurd (other worker refl)
-free-some h servers w alone next (role.Session server) other e = next-some h alone (desk_of (setting_for h servers) w (role.Session server)) next e
-free-some h servers w alone next role.Puller other e = next-some h alone None next e
-free-some h servers w alone next role.Admin other e = next-some h alone None next e
+use Rattle.seeded_run.specs.Takes.{AsksHere, CanPick, HasDeskFor, carries_at, free_by, is_free_by}
 
 -- The block that is wanted.
 
@@ -147,15 +120,6 @@ free-seen s w actors n y count is =
 
 -- All of it.
 
-and-out : (o : Option Kind) (f : Kind → Bool) (d : Bool) → option_map_or (λ k. f k && d) o false ≡ (option_map_or f o false && d)
-and-out None f d = refl
-and-out (Some k) f d = refl
-
--- with no part no block is wanted
-pub no-part : (o : Option Kind) → is_some o ≡ option_map_or (λ (k : Kind). true) o false
-no-part None = refl
-no-part (Some k) = refl
-
 same-or : (o : Option ℕ) (f g : ℕ → Bool) → ((y : ℕ) → f y ≡ g y) → option_map_or f o true ≡ option_map_or g o true
 same-or None f g same = refl
 same-or (Some y) f g same = same y
@@ -181,15 +145,26 @@ module _ (h : List Dimension) (with : Use) (cells : List (Option Cell)) (actors 
       (λ y. free-seen s w actors n y core.count core.is.actor))
       ∙ ap (λ (f : ℕ → CellValue). is_free_for k && is_drained (cells_only f) (actor_of a).job) (fun_ext (cell-seen cells actors w core.is))
 
-  -- the actor can make its step
-  pub can-seen : (rest : ℕ → List Command) (next : Option Command) (left : ℕ) → IsTold s rest n next left
-      → option_map_or (meets s w n) (due_by s w rest n) false
-      ≡ (option_map_or (is_free_by h with cells actors n (actor_of a).errand) (actor_kind (setting_by h with) (world_by cells) (alone_by actors n next left) (ahead next) (actor_of a) (actor_of a).errand) false
-      && is_drained (world_by cells) (actor_of a).job)
-  can-seen rest next left told =
-      ap (λ (f : Kind → Bool). option_map_or f (due_by s w rest n) false) (fun_ext meets-seen)
-      ∙ ap (λ o. option_map_or (λ k. is_free_for k && is_drained (world_by cells) (actor_of a).job) o false) (due-seen h with cells actors s w n core low rest next left a told at)
-      ∙ and-out (actor_kind (setting_by h with) (world_by cells) (alone_by actors n next left) (ahead next) (actor_of a) (actor_of a).errand) is_free_for (is_drained (world_by cells) (actor_of a).job)
+  -- What it does.
+  module _ (rest : ℕ → List Command) (next : Option Command) (left : ℕ) (told : IsTold s rest n next left) where
+    abbrev free_kind_by : Option Kind
+    free_kind_by = kind_if is_free_for (actor_kind (setting_by h with) (world_by cells) (alone_by actors n next left) (ahead next) (actor_of a) (actor_of a).errand)
+
+    kinds-seen : kind_if (meets s w n) (due_by s w rest n) ≡ cond (is_drained (world_by cells) (actor_of a).job) free_kind_by None
+    kinds-seen =
+        ap (λ (f : Kind → Bool). kind_if f (due_by s w rest n)) (fun_ext meets-seen)
+        ∙ ap (λ o. kind_if (λ k. is_free_for k && is_drained (world_by cells) (actor_of a).job) o) (due-seen h with cells actors s w n core low rest next left a told at)
+        ∙ if-out (actor_kind (setting_by h with) (world_by cells) (alone_by actors n next left) (ahead next) (actor_of a) (actor_of a).errand) is_free_for (is_drained (world_by cells) (actor_of a).job)
+
+    -- while inserts are in the tree that its job waits for, it does nothing
+    pub stays-so : is_drained (world_by cells) (actor_of a).job ≡ false → option_map (step_of (w.actors n)) (kind_if (meets s w n) (due_by s w rest n)) ≡ None
+    stays-so waits = ap (option_map (step_of (w.actors n))) (kinds-seen ∙ ap (λ b. cond b free_kind_by None) waits)
+
+    pub steps-so : is_drained (world_by cells) (actor_of a).job ≡ true → (step : Option DueStep) → option_map (step_of (actor_of a)) free_kind_by ≡ step
+        → option_map (step_of (w.actors n)) (kind_if (meets s w n) (due_by s w rest n)) ≡ step
+    steps-so drained step is =
+        ap (option_map (step_of (w.actors n))) (kinds-seen ∙ ap (λ b. cond b free_kind_by None) drained)
+        ∙ ap (λ x. option_map (step_of x) free_kind_by) is-actor ∙ is
 
   -- Its row, and the block at which it is carried, are of the dimensions.
   module _ (blocks : BlockLaw) (e : ErrandValue) (has_errand : (actor_of a).errand ≡ Some e) where

@@ -17,6 +17,7 @@ pub mod Kept
 pub mod Arms
 pub mod Phase
 pub mod Steps
+pub mod DueSteps
 pub mod Machine
 pub mod AtWork
 pub mod Led

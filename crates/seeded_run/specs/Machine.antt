@@ -1,5 +1,5 @@
 -- What holds between the turns of a phase, and what a turn is.
-use Rattle.std.specs.Prelude.{ℕ, ◌≡◌, ◌≢◌, ◌+◌, ◌≤◌, ◌<◌, Bool, true, false, nat_lt, count_by, List, [], ◌++◌, Some, length, get_or, slice_get}
+use Rattle.std.specs.Prelude.{ℕ, ◌≡◌, ◌≢◌, ◌+◌, ◌≤◌, ◌<◌, Bool, true, false, nat_lt, count_by, List, [], ◌++◌, Option, Some, length, get_or, slice_get}
 use Rattle.core_steps.specs.Ready.{Stays}
 use Rattle.script_form.specs.declared.script.Command.{Command}
 use Rattle.script_run.specs.Places.{session_of}
@@ -15,6 +15,7 @@ use Rattle.seeded_run.specs.Can.{can_step}
 use Rattle.row_ledger.specs.declared.settings.Use.{Use}
 use Rattle.seeded_run.specs.Core.{HasCore, IsCore}
 use Rattle.seeded_run.specs.Due.{does_nothing, due}
+use Rattle.seeded_run.specs.DueSteps.{due_step}
 use Rattle.seeded_run.specs.Kept.{IsBetween}
 use Rattle.seeded_run.specs.Measure.{CoreHasLeft, limits_of}
 use Rattle.seeded_run.specs.Phase.{ClosesLast, IsKeptTurn, MayAllRun, about, held, most_actors, phase_from, RunsTo, StopsAt}
@@ -22,6 +23,8 @@ use Rattle.seeded_turns.specs.declared.schedule.Schedule.{Schedule}
 use Rattle.seeded_run.specs.Ranks.{rank, waiting, with_waiting}
 use Rattle.seeded_run.specs.Rests.{PhaseRun, first_open}
 use Rattle.seeded_run.specs.Running.{IsRunning}
+use Rattle.seeded_run.specs.Steps.{begins_by}
+use Rattle.seeded_run.specs.declared.due_step.DueStep.{DueStep}
 use Rattle.seeded_run.specs.declared.machine.Running.{Running}
 
 -- what the core is about, the state that it is, and the phase
@@ -86,6 +89,20 @@ AloneInOrder m n = m.in_order ≡ true → (a : ℕ) → a ≢ n → does_nothin
 pub record IsDueNow (m : Running) (n : ℕ) (k : Kind) : Type 0 where
   pub due_is : due (about_in m) (phase_of m) (world_of m) n ≡ Some k
   pub can : can_in m n ≡ true
+
+-- the actor begins its next command, by one of the kinds that begin one
+pub record BeginsNow (m : Running) (n : ℕ) : Type 0 where
+  pub kind : Kind
+  pub due : IsDueNow m n kind
+  pub begins : begins_by m.state.actors.items n kind ≡ true
+
+-- what the actor does on its turn, if it can make the step that is due for it
+abbrev pub step_in : Running → ℕ → Option DueStep
+step_in m n = due_step m.in_order (about_in m) (phase_of m) (world_of m) n
+
+-- this is what it does
+abbrev pub IsDueStep : Running → ℕ → DueStep → Type 0
+IsDueStep m n step = step_in m n ≡ Some step
 
 -- all but the state and the cursors stays
 pub record IsSamePhase (m now : Running) : Type 0 where

@@ -1,13 +1,15 @@
 //! A phase of which the steps are made by hand: who makes the next one is up to the caller.
-ghost use Rattle.std.specs.Prelude.{◌≡◌, ◌++◌, ◌<◌, true, false, length, IfOk, OnErr, Some};
+ghost use Rattle.std.specs.Prelude.{◌≡◌, ◌++◌, ◌<◌, true, false, length, IfOk, IfSome, OnErr, None, Some};
 ghost use Rattle.seeded_run.specs.ByHand.{CannotMoveAt, HasMoved, HasMovedTo, IsLater, IsOfJob, MovesTo, StopsAmong, StopsAmongAt, may_find_none};
 ghost use Rattle.seeded_run.specs.Due.{due};
 ghost use Rattle.seeded_run.specs.Jobs.{CanGiveUpBy};
 ghost use Rattle.seeded_run.specs.Kept.{IsBetween, IsStopped};
-ghost use Rattle.seeded_run.specs.Machine.{AreFirstCursors, HasTurned, HoldsNow, IsDueNow, IsFirstMoment, IsPhaseHeld, IsSamePhase, about_in, can_in, phase_of, world_of};
+ghost use Rattle.seeded_run.specs.Machine.{AreFirstCursors, HasTurned, HoldsNow, IsDueNow, IsDueStep, IsFirstMoment, IsPhaseHeld, IsSamePhase, about_in, can_in, phase_of, world_of};
 ghost use Rattle.seeded_run.specs.Phase.{ClosesLast, IsCoreHeld, MayAllRun, about, held, phase_from};
+ghost use Rattle.volap_cell.specs.Setting.{actor_count};
 ghost use Rattle.volap_cell.specs.declared.kind.Kind.TheVariants as kind_is;
 
+use crate::due_step::DueStep;
 use crate::jobs::{give_up, has_frozen_by};
 use crate::look;
 use crate::machine::Running;
@@ -39,7 +41,7 @@ fn may_find_none(kind: Kind) -> bool
 impl<'a> Running<'a> {
     /// The kind of step that is due for an actor, if one is. It may have to wait.
     #[tactic(auto, unfolding(crate::specs::Machine::HoldsNow))]
-    fn due(&self, actor: u32) -> Option<Kind>
+    fn kind_due(&self, actor: u32) -> Option<Kind>
         requires holds { HoldsNow self.now }
         requires within { actor < length self.now.next.items }
         ensures { due (about_in self.now) (phase_of self.now) (world_of self.now) actor ≡ result }
@@ -47,6 +49,19 @@ impl<'a> Running<'a> {
         let number = actor as usize;
         let next = self.next_command(number);
         look::due(self.h, &self.with, &self.state, number, next, self.left)
+    }
+
+    /// What an actor does on its turn, if there is such an actor, and it can make a step.
+    #[tactic(auto, unfolding(crate::specs::Machine::HoldsNow))]
+    fn step_due(&self, actor: u32) -> Option<DueStep>
+        requires holds { HoldsNow self.now }
+        ensures none { result ≡ None → actor < actor_count (about_in self.now) → can_in self.now actor ≡ false }
+        ensures some { IfSome result (λ step. (actor < length self.now.next.items) × (can_in self.now actor ≡ true) × IsDueStep self.now actor step) }
+    {
+        if actor >= self.actors() {
+            return None;
+        }
+        self.due(actor)
     }
 
     /// An actor's job is given up, in place of the step that is due for it, as where that finds no memory.
@@ -75,7 +90,7 @@ impl<'a> Running<'a> {
         ensures none { result ≡ false → self.new ≡ self.old }
     {
         let number = actor as usize;
-        let Some(kind) = self.due(actor) else {
+        let Some(kind) = self.kind_due(actor) else {
             return false;
         };
         if !may_find_none(kind) || !has_frozen_by(&self.state, number) {
@@ -101,16 +116,16 @@ impl<'a> Running<'a> {
         ensures cannot { IfOk result (λ could. could ≡ false → CannotMoveAt self.new actor kind × (world_of self.new ≡ world_of self.old)) }
         ensures rests { OnErr result (world_of self.new ≡ world_of self.old) }
     {
-        if actor >= self.actors() || !self.can_step(actor) {
+        let Some(step) = self.step_due(actor) else {
             return Ok(kind.is_none());
-        }
+        };
         if kind == Some(Kind::Postpone) {
             return Ok(self.make_postpone(actor));
         }
-        if self.due(actor) != kind {
+        if self.kind_due(actor) != kind {
             return Ok(false);
         }
-        self.step(alloc, actor)?;
+        self.step(alloc, actor, step)?;
         Ok(true)
     }
 

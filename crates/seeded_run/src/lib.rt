@@ -8,6 +8,7 @@ mod by_hand;
 mod can;
 mod commands;
 mod commands_due;
+mod due_step;
 mod errands;
 mod errands_due;
 mod jobs;

@@ -2,14 +2,14 @@
 ghost use Rattle.std.specs.Prelude.{◌≡◌, ◌<◌, ◌+◌, ℕ, length, get_or, slice_get, option_copied, OnOk, OnErr, Some, None, true};
 ghost use Rattle.std.specs.Prelude.{false, option_map};
 ghost use Rattle.script_run.specs.Places.{session_of};
-ghost use Rattle.seeded_run.specs.Machine.{AloneInOrder, HasBegunTo, HasLeftOver, HasMovedOn, HasTurned, HoldsNow, IsDueNow, IsPhaseHeld, IsPhaseKept, LeavesAtMost, RestsAsIs, TakesTurn, WaitsAt, can_in, next_at, streams_open};
+ghost use Rattle.seeded_run.specs.Machine.{AloneInOrder, BeginsNow, HasBegunTo, HasLeftOver, HasMovedOn, HasTurned, HoldsNow, IsDueNow, IsDueStep, IsPhaseHeld, IsPhaseKept, LeavesAtMost, RestsAsIs, TakesTurn, WaitsAt, can_in, next_at, streams_open};
 ghost use Rattle.seeded_run.specs.Steps.{begins_by};
 
 use crate::alone::rests;
 use crate::beginnings::begin;
-use crate::can::can_step;
-use crate::look::due;
-use crate::steps::{go_on_at_part, go_on_with_command, is_for_part, may_begin};
+use crate::can::due_step;
+use crate::due_step::DueStep;
+use crate::steps::{go_on_at_part, go_on_with_command, is_for_part};
 use dim_hierarchy::Hierarchy;
 use row_ledger::Use;
 use script_form::Command;
@@ -51,17 +51,6 @@ impl<'a> Running<'a> {
         self.phase.get(self.next[number])
     }
 
-    /// Whether an actor's step of this kind begins its next command: no command is open, and one may begin so.
-    fn begins(&self, number: usize, kind: Kind) -> bool
-        requires within { number < length self.now.state.actors.items }
-        ensures { result ≡ begins_by self.now.state.actors.items number kind }
-    {
-        match &self.state.actors[number] {
-            Some(actor) => actor.command.is_none() && may_begin(kind),
-            None => false,
-        }
-    }
-
     /// An actor goes on with its part, its purse or its command, where that is due.
     fn go_on(&mut self, alloc: Global, number: usize, kind: Kind)
         requires held { IsPhaseHeld self.old }
@@ -78,17 +67,10 @@ impl<'a> Running<'a> {
     }
 
     /// An actor's next command begins, where that is due: then its session's next one is the one behind it.
-    fn begin(
-        &mut self,
-        alloc: Global,
-        number: usize,
-        command: &Command,
-        kind: Kind,
-    ) -> Result<(), AllocError>
+    fn begin(&mut self, alloc: Global, number: usize, command: &Command) -> Result<(), AllocError>
         requires held { IsPhaseHeld self.old }
         requires within { number < length self.old.state.actors.items }
-        requires due { IsDueNow self.old number kind }
-        requires begins { begins_by self.old.state.actors.items number kind ≡ true }
+        requires begins { BeginsNow self.old number }
         requires next { slice_get self.old.phase.now (next_at self.old number) ≡ Some command.now }
         ensures turned { OnOk result (HasTurned self.old number self.new) }
         ensures rests { OnErr result (IsPhaseHeld self.new × RestsAsIs self.old self.new) }
@@ -102,21 +84,25 @@ impl<'a> Running<'a> {
     }
 
     /// An actor makes the step that is due for it.
-    fn take_turn(&mut self, alloc: Global, number: usize, kind: Kind) -> Result<(), AllocError>
+    fn take_turn(&mut self, alloc: Global, number: usize, due: DueStep) -> Result<(), AllocError>
         requires held { IsPhaseHeld self.old }
         requires within { number < length self.old.state.actors.items }
-        requires due { IsDueNow self.old number kind }
+        requires due { IsDueStep self.old number due }
         ensures turned { OnOk result (HasTurned self.old number self.new) }
         ensures rests { OnErr result (IsPhaseHeld self.new × RestsAsIs self.old self.new) }
     {
-        if self.begins(number, kind) {
-            let Some(command) = self.next_command(number) else {
-                unreachable!()
-            };
-            return self.begin(alloc, number, command, kind);
+        match due {
+            DueStep::Begins => {
+                let Some(command) = self.next_command(number) else {
+                    unreachable!()
+                };
+                self.begin(alloc, number, command)
+            }
+            DueStep::GoesOn(kind) => {
+                self.go_on(alloc, number, kind);
+                Ok(())
+            }
         }
-        self.go_on(alloc, number, kind);
-        Ok(())
     }
 
     /// The session's next command is the one behind its next one, which has begun.
@@ -182,9 +168,13 @@ impl<'a> Running<'a> {
 }
 
 impl<'a> Machine for Running<'a> {
+    type Kind = DueStep;
+
     ghost actors = { λ m. length m.next.items };
 
     ghost can = { can_in };
+
+    ghost IsDue = { IsDueStep };
 
     ghost Holds = { HoldsNow };
 
@@ -200,10 +190,10 @@ impl<'a> Machine for Running<'a> {
     }
 
     #[tactic(auto, unfolding(crate::specs::Machine::HoldsNow))]
-    fn can_step(&self, actor: u32) -> bool {
+    fn due(&self, actor: u32) -> Option<DueStep> {
         let number = actor as usize;
         let next = self.next_command(number);
-        can_step(
+        due_step(
             self.h,
             &self.with,
             &self.state,
@@ -216,12 +206,8 @@ impl<'a> Machine for Running<'a> {
     }
 
     #[tactic(auto, unfolding(crate::specs::Machine::HoldsNow, crate::specs::Machine::LeavesAtMost))]
-    fn step(&mut self, alloc: Global, actor: u32) -> Result<(), AllocError> {
+    fn step(&mut self, alloc: Global, actor: u32, kind: DueStep) -> Result<(), AllocError> {
         let number = actor as usize;
-        let next = self.next_command(number);
-        let Some(kind) = due(self.h, &self.with, &self.state, number, next, self.left) else {
-            unreachable!()
-        };
         if let Err(refused) = self.take_turn(alloc, number, kind) {
             return Err(refused);
         }

@@ -1,7 +1,6 @@
 //! The step that is due for an actor is made: of a part or a purse, or of its command.
 ghost use Rattle.std.specs.Prelude.{◌≡◌, ◌<◌, length, true, false};
 ghost use Rattle.seeded_run.specs.Arms.{GoesOnAtPart, GoesOnWithCommand};
-ghost use Rattle.seeded_run.specs.Commands.{may_begin};
 ghost use Rattle.seeded_run.specs.Core.{HasCore, IsDue};
 ghost use Rattle.seeded_run.specs.Steps.{HasCommand, is_for_part_by};
 ghost use Rattle.seeded_run.specs.Told.{is_of_part};
@@ -54,16 +53,6 @@ pub(crate) fn is_for_part(state: &State, number: usize, kind: Kind) -> bool
     match kind {
         Kind::LookUp => has_part(state, number),
         _ => is_of_part(kind),
-    }
-}
-
-/// Whether a command may begin by a step of this kind.
-pub(crate) fn may_begin(kind: Kind) -> bool
-    ensures { result ≡ may_begin kind }
-{
-    match kind {
-        Kind::BeginInsert | Kind::BeginQuery | Kind::Note => true,
-        _ => false,
     }
 }
 

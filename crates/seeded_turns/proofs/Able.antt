@@ -1,5 +1,5 @@
 -- Facts on the actors that can step.
-use Rattle.std.proofs.Common.{◌≡◌, ℕ, zero, suc, ◌+◌, ◌<◌, ◌≤◌, ◌⊎◌, inl, inr, Bool, true, false, cond, List, [], ◌∷◌, ◌++◌, length, Some, refl, ap, ◌∙◌, subst, arith, length-append, add-one}
+use Rattle.std.proofs.Common.{◌≡◌, ℕ, zero, suc, ◌+◌, ◌<◌, ◌≤◌, ◌⊎◌, inl, inr, Bool, true, false, cond, List, [], ◌∷◌, ◌++◌, length, Option, None, Some, IfSome, refl, ap, ◌∙◌, subst, arith, length-append, add-one}
 use Rattle.std.specs.List.{slice_get}
 use Rattle.seeded_turns.specs.Drawn.{able}
 
@@ -70,3 +70,8 @@ is_step true can n k i is more e =
 pub able_is : (can : ℕ → Bool) (n k i : ℕ) → slice_get (able can n) k ≡ Some i → (i < n) × (can i ≡ true)
 able_is can zero k i e = cc
 able_is can (suc n) k i e = is_step (can n) can n k i refl (able_is can n k i) e
+
+-- what is found so is so in other words
+pub some_so : {A : Type 0} (o : Option A) (P Q : A → Type 0) → ((x : A) → P x → Q x) → IfSome o P → IfSome o Q
+some_so None P Q other p = p
+some_so (Some x) P Q other p = other x p

@@ -1,5 +1,5 @@
 //! Whose turn it is.
-ghost use Rattle.std.specs.Prelude.{◌≡◌, ◌<◌, length, Some, None, true, slice_get, IfSome, List, ℕ, []};
+ghost use Rattle.std.specs.Prelude.{◌≡◌, ◌<◌, length, Some, None, true, is_some, slice_get, IfSome, List, ℕ, []};
 ghost use Rattle.rand_pcg.specs.Pcg.{pcg32};
 ghost use Rattle.seeded_turns.specs.Drawn.{able, chosen, drawn, next_schedule};
 
@@ -15,69 +15,71 @@ fn able_count<M: Machine>(machine: &M) -> u32
 {
     let mut seen = 0;
     for actor in 0..machine.actors() {
-        if machine.can_step(actor) {
+        if machine.due(actor).is_some() {
             seen += 1;
         }
     }
     seen
 }
 
-/// The actor at a place among those that can step.
-fn able_at<M: Machine>(machine: &M, place: u32) -> u32
+/// The actor at a place among those that can step, and what is due for it.
+fn able_at<M: Machine>(machine: &M, place: u32) -> Option<(u32, M::Kind)>
     requires holds { M.Holds machine.now }
     requires within { place < length (able (M.can machine.now) (M.actors machine.now)) }
-    ensures { Some result ≡ slice_get (able (M.can machine.now) (M.actors machine.now)) place }
+    ensures some { is_some result ≡ true }
+    ensures due { IfSome result (λ x. (slice_get (able (M.can machine.now) (M.actors machine.now)) place ≡ Some x.0)
+        × (x.0 < M.actors machine.now) × M.IsDue machine.now x.0 x.1) }
 {
     let mut left = place;
     for actor in 0..machine.actors() {
-        if machine.can_step(actor) {
+        if let Some(due) = machine.due(actor) {
             if left == 0 {
-                return actor;
+                return Some((actor, due));
             }
             left -= 1;
-        }
-    }
-    0
-}
-
-/// The first of the actors that can step. Who comes behind it isn't asked.
-fn first_able<M: Machine>(machine: &M) -> Option<u32>
-    requires { M.Holds machine.now }
-    ensures none { result ≡ None → able (M.can machine.now) (M.actors machine.now) ≡ [] }
-    ensures some { IfSome result (λ i. (slice_get (able (M.can machine.now) (M.actors machine.now)) 0 ≡ Some i)
-        × (i < M.actors machine.now) × (M.can machine.now i ≡ true)) }
-{
-    for actor in 0..machine.actors() {
-        if machine.can_step(actor) {
-            return Some(actor);
         }
     }
     None
 }
 
-/// The actor that a generator draws of those that can step. Where nobody can, no word is drawn.
-fn draw_able<M: Machine>(machine: &M, generator: &mut Lcg64Xsh32) -> Option<u32>
+/// The first of the actors that can step, and what is due for it. Who comes behind it isn't asked.
+fn first_able<M: Machine>(machine: &M) -> Option<(u32, M::Kind)>
+    requires { M.Holds machine.now }
+    ensures none { result ≡ None → able (M.can machine.now) (M.actors machine.now) ≡ [] }
+    ensures some { IfSome result (λ x. (slice_get (able (M.can machine.now) (M.actors machine.now)) 0 ≡ Some x.0)
+        × (x.0 < M.actors machine.now) × M.IsDue machine.now x.0 x.1) }
+{
+    for actor in 0..machine.actors() {
+        if let Some(kind) = machine.due(actor) {
+            return Some((actor, kind));
+        }
+    }
+    None
+}
+
+/// The actor that a generator draws of those that can step, and what is due for it. Where nobody can, no word is drawn.
+fn draw_able<M: Machine>(machine: &M, generator: &mut Lcg64Xsh32) -> Option<(u32, M::Kind)>
     requires { M.Holds machine.now }
     ensures none { result ≡ None → (able (M.can machine.now) (M.actors machine.now) ≡ []) × (generator.new ≡ generator.old) }
-    ensures some { IfSome result (λ i. (generator.new ≡ (pcg32 generator.old).1)
-        × (drawn generator.old (able (M.can machine.now) (M.actors machine.now)) ≡ Some i)
-        × (i < M.actors machine.now) × (M.can machine.now i ≡ true)) }
+    ensures some { IfSome result (λ x. (generator.new ≡ (pcg32 generator.old).1)
+        × (drawn generator.old (able (M.can machine.now) (M.actors machine.now)) ≡ Some x.0)
+        × (x.0 < M.actors machine.now) × M.IsDue machine.now x.0 x.1) }
 {
     let count = able_count(machine);
     if count == 0 {
         return None;
     }
     let place = generator.next_word() % count;
-    Some(able_at(machine, place))
+    able_at(machine, place)
 }
 
-/// The actor whose turn it is, if anybody can step. Where nobody can, no word is drawn.
-pub(crate) fn choose<M: Machine>(machine: &M, schedule: &mut Schedule) -> Option<u32>
+/// The actor whose turn it is, and what is due for it, if anybody can step. Where nobody can, no word is drawn.
+pub(crate) fn choose<M: Machine>(machine: &M, schedule: &mut Schedule) -> Option<(u32, M::Kind)>
     requires { M.Holds machine.now }
     ensures none { result ≡ None → (able (M.can machine.now) (M.actors machine.now) ≡ []) × (schedule.new ≡ schedule.old) }
-    ensures some { IfSome result (λ i. (schedule.new ≡ next_schedule schedule.old)
-        × (chosen schedule.old (able (M.can machine.now) (M.actors machine.now)) ≡ Some i)
-        × (i < M.actors machine.now) × (M.can machine.now i ≡ true)) }
+    ensures some { IfSome result (λ x. (schedule.new ≡ next_schedule schedule.old)
+        × (chosen schedule.old (able (M.can machine.now) (M.actors machine.now)) ≡ Some x.0)
+        × (x.0 < M.actors machine.now) × M.IsDue machine.now x.0 x.1) }
 {
     match schedule {
         Schedule::Order => first_able(machine),

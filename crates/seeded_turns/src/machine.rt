@@ -1,15 +1,21 @@
 //! What a run asks of actors that make steps.
-ghost use Rattle.std.specs.Prelude.{◌≡◌, ◌<◌, ℕ, Bool, true, OnOk, OnErr};
+ghost use Rattle.std.specs.Prelude.{◌≡◌, ◌<◌, ℕ, Bool, is_some, IfSome, OnOk, OnErr};
 
 use std::alloc::{AllocError, Global};
 
 /// Actors by number, some of which can step.
 pub trait Machine: Sized {
+    /// What is due for an actor that can step. It is looked up once a turn, and handed to the step.
+    type Kind: Drop;
+
     /// How many actors there are.
     ghost actors: { Self → ℕ };
 
     /// Whether an actor can step.
     ghost can: { Self → ℕ → Bool };
+
+    /// This is due for an actor, which can step.
+    ghost IsDue: { Self → ℕ → Self.Kind → Type 0 };
 
     /// What holds between steps.
     ghost Holds: { Self → Type 0 };
@@ -28,18 +34,19 @@ pub trait Machine: Sized {
         requires { Holds self.now }
         ensures { result ≡ actors self.now };
 
-    /// Whether an actor can step. In order it is asked of each actor up to the first that can; where a generator
-    /// draws, of each twice a turn.
-    fn can_step(&self, actor: u32) -> bool
+    /// What is due for an actor, if it can step. In order it is asked of each actor up to the first that can; where a
+    /// generator draws, of each twice a turn.
+    fn due(&self, actor: u32) -> Option<Self::Kind>
         requires within { actor < actors self.now }
         requires holds { Holds self.now }
-        ensures { result ≡ can self.now actor };
+        ensures can { is_some result ≡ can self.now actor }
+        ensures due { IfSome result (IsDue self.now actor) };
 
-    /// One step of an actor that can. Where it finds no memory, nothing of what it does is done.
-    fn step(&mut self, alloc: Global, actor: u32) -> Result<(), AllocError>
+    /// One step of an actor, by what is due for it. Where it finds no memory, nothing of what it does is done.
+    fn step(&mut self, alloc: Global, actor: u32, kind: Self::Kind) -> Result<(), AllocError>
         requires within { actor < actors self.old }
         requires holds { Holds self.old }
-        requires can { can self.old actor ≡ true }
+        requires due { IsDue self.old actor kind }
         ensures holds { Holds self.new }
         ensures step { OnOk result (makes self.old actor self.new) }
         ensures left { OnOk result ((n : ℕ) → Left self.old n → (m : ℕ) × Left self.new m × (m < n)) }

@@ -31,8 +31,8 @@ pub fn run<M: Machine, L: Ledger>(
         record { state = machine.old; schedule = schedule.old } machine.new schedule.new) }
 {
     let (mut book, mut share) = blank.open::<L>();
-    while let Some(actor) = choose(machine, schedule) {
-        if let Err(refused) = machine.step(alloc, actor) {
+    while let Some((actor, kind)) = choose(machine, schedule) {
+        if let Err(refused) = machine.step(alloc, actor, kind) {
             return Err(refused);
         }
         book.add(&mut share, 1);

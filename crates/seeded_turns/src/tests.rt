@@ -17,9 +17,13 @@ struct Piles {
 }
 
 impl Machine for Piles {
+    type Kind = ();
+
     ghost actors = { λ p. length p.piles.items };
 
     ghost can = { λ p i. nat_lt 0 (slice_index_or p.piles.items i 0) };
+
+    ghost IsDue = { λ p i k. 0 < slice_index_or p.piles.items i 0 };
 
     ghost Holds = { λ p. length p.piles.items < 2 ^ 32 };
 
@@ -33,11 +37,15 @@ impl Machine for Piles {
         self.piles.len() as u32
     }
 
-    fn can_step(&self, actor: u32) -> bool {
-        self.piles[actor as usize] > 0
+    fn due(&self, actor: u32) -> Option<()> {
+        if self.piles[actor as usize] > 0 {
+            Some(())
+        } else {
+            None
+        }
     }
 
-    fn step(&mut self, _alloc: Global, actor: u32) -> Result<(), AllocError> {
+    fn step(&mut self, _alloc: Global, actor: u32, _kind: ()) -> Result<(), AllocError> {
         self.takers.push(actor)?;
         self.piles[actor as usize] -= 1;
         Ok(())

@@ -7,7 +7,9 @@ use Rattle.seeded_run.proofs.Turns.{has-begun, rests-held, to-begin}
 use Rattle.seeded_run.proofs.machine.Running.begin.Goals as goal
 
 pub begin-requires-clause-begins : goal.begin-requires-clause-begins
-begin-requires-clause-begins c = to-begin c.args.self.now c.requires.held.kept c.args.number c.args.kind c.requires.due c.args.command.now c.requires.next c.requires.within c.requires.begins
+begin-requires-clause-begins c =
+    let b = c.requires.begins in
+    to-begin c.args.self.now c.requires.held.kept c.args.number b.kind b.due c.args.command.now c.requires.next c.requires.within b.begins
 
 pub returns-in-Err-clause-rests : goal.returns-in-Err-clause-rests
 returns-in-Err-clause-rests c = rests-held c.args.self.now c.requires.held c.begin.new.state c.in-Err.ensures.stays
@@ -24,5 +26,6 @@ pub returns-clause-turned : goal.returns-clause-turned
 returns-clause-turned c =
     let m = c.args.self.now in
     let made = c.in_default.ensures.made in
-    has-begun m c.requires.held.kept c.args.number c.args.kind c.requires.due c.begin.new.state made.0 made.1 c.requires.within
-    (no-part m.state.actors.items c.args.number ((world_of m).actors c.args.number).errand c.args.kind made.0 c.requires.begins) c.args.command.now c.requires.next c.in_default.ensures.begun c.move_on.new.self c.move_on.ensures.moved
+    let b = c.requires.begins in
+    has-begun m c.requires.held.kept c.args.number b.kind b.due c.begin.new.state made.0 made.1 c.requires.within
+    (no-part m.state.actors.items c.args.number ((world_of m).actors c.args.number).errand b.kind made.0 b.begins) c.args.command.now c.requires.next c.in_default.ensures.begun c.move_on.new.self c.move_on.ensures.moved

@@ -5,7 +5,7 @@ use Rattle.seeded_run.specs.Machine.{HoldsNow, about_in, phase_of, world_of}
 use Rattle.seeded_run.specs.Rests.{rest_of}
 use Rattle.seeded_run.proofs.Begun.{names-ahead}
 use Rattle.seeded_run.proofs.Held.{told}
-use Rattle.seeded_run.proofs.machine.Running.due.Goals as goal
+use Rattle.seeded_run.proofs.machine.Running.kind_due.Goals as goal
 
 pub due-requires-clause-names : goal.due-requires-clause-names
 unfolding HoldsNow
