@@ -6,13 +6,10 @@ use Rattle.row_ledger.specs.declared.event.Event.{Event}
 use Rattle.row_ledger.specs.declared.event.Event.TheVariants.{Shown}
 use Rattle.row_ledger.specs.declared.page.Page.{Page}
 use Rattle.row_ledger.specs.declared.settings.Use.{Use}
-use Rattle.row_ledger.specs.Past.{end_in, number_in}
+use Rattle.row_ledger.specs.Past.{number_in}
 use Rattle.row_ledger.specs.Right.{EachEvent}
 use Rattle.script_form.specs.declared.script.Command.{Command}
 use Rattle.script_run.specs.Places.{sessions, begins_of, count_of}
-use Rattle.answer_text.specs.Printed.{split_for}
-use Rattle.answer_text.specs.declared.notes.Mark.{Mark}
-use Rattle.answer_text.specs.declared.notes.Mark.TheVariants as mark
 
 -- the position of the command for which an event shows a page
 abbrev pub shown_for : Event → Option ℕ
@@ -23,12 +20,6 @@ shown_for _ = None
 abbrev pub shown : Event → Option Page
 shown (Shown of page) = Some page
 shown _ = None
-
--- the position of the command that an event ends, or for which it shows a page
-abbrev pub marked : Mark → Event → Option ℕ
-marked mark.End e = end_in e
-marked mark.Page e = shown_for e
-marked mark.Split e = split_for e
 
 -- whether this is the position
 abbrev pub is_at : ℕ → Option ℕ → Bool
@@ -48,9 +39,9 @@ pub record KnowsBegins (lists : List (List ℕ)) (past : List Event) : Type 0 wh
   pub len : length lists ≡ sessions
   pub begun : (s : ℕ) → s < sessions → slice_index_or lists s [] ≡ begins_of past s
 
--- for each of the first n positions the newest event that marks its command
+-- for each of the first n positions the newest event that marks its command; there is none behind the end of the list
 pub record KnowsNewest (marks : Event → Option ℕ) (n : ℕ) (noted : List (Option ℕ)) (past : List Event) : Type 0 where
-  pub positions : length noted ≡ n
+  pub few : length noted ≤ n
   pub known : (p : ℕ) → p < n → slice_index_or noted p None ≡ newest marks past p
 
 -- no event marks a command that begins behind this past

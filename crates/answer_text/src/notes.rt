@@ -1,11 +1,13 @@
 //! What is known of a history while it grows: where the commands of each session begin, and which
 //! events end them, show pages and split shards for them. Each event is read once.
-ghost use Rattle.std.specs.Prelude.{◌≡◌, ◌∷◌, ◌++◌, [], ℕ, ◌<◌, ◌≤◌, None, Some, if◌then◌else◌, length, reverse, take, slice_index_or, slice_set, IfOk, OnOk};
-ghost use Rattle.std.specs.Option.{option_copied};
+//!
+//! Most scripts show no page and split no shard, and no list of marks is longer than up to its last
+//! one: where there are none, it takes no memory.
+ghost use Rattle.std.specs.Prelude.{◌≡◌, ◌==◌, ◌∷◌, ◌+◌, ◌++◌, [], ℕ, ◌<◌, ◌≤◌, None, Some, if◌then◌else◌, length, reverse, take, slice_index_or, IfOk, OnOk};
 ghost use Rattle.row_ledger.specs.Past.{end_in, session_in};
 ghost use Rattle.script_run.specs.Places.{sessions};
 ghost use Rattle.answer_text.specs.Printed.{split_for};
-ghost use Rattle.answer_text.specs.Marks.{KnowsBegins, KnowsNewest, IsQuiet, RefersBack, is_at, marked, shown_for};
+ghost use Rattle.answer_text.specs.Marks.{RefersBack, is_at, shown_for};
 
 use dim_hierarchy::Items;
 use row_ledger::Event;
@@ -13,7 +15,11 @@ use script_run::SESSIONS;
 use std::alloc::{AllocError, Global};
 
 /// Positions of a history, the oldest first.
-pub(crate) type Positions = Items<usize>;
+pub(crate) type Positions = Items<u32>;
+
+/// For each position that of the newest event that marks the command begun there; behind the end of
+/// the list stands no mark.
+pub(crate) type Marks = Vec<Option<u32>>;
 
 // The session of the command that an event begins.
 fn session_in(event: &Event) -> Option<u16>
@@ -74,66 +80,26 @@ fn no_begins(alloc: Global) -> Result<Vec<Positions>, AllocError>
     Ok(begins)
 }
 
-// Adds a beginning of a session; those of sessions that no command has are left out.
-fn add_begin(begins: &mut Vec<Positions>, session: usize, position: usize) -> Result<(), AllocError>
-    ensures { OnOk result (begins.new.items ≡ slice_set begins.old.items session (slice_index_or begins.old.items session [] ++ position ∷ [])) }
+// Adds a beginning of a session, where an event is one; those of sessions that no command has are
+// left out.
+fn add_begin(
+    begins: &mut Vec<Positions>,
+    session: Option<u16>,
+    position: u32,
+) -> Result<(), AllocError>
+    ensures len { OnOk result (length begins.new.items ≡ length begins.old.items) }
+    ensures begun { OnOk result ((s : ℕ) → s < length begins.old.items → slice_index_or begins.new.items s [] ≡ (if is_at s session then slice_index_or begins.old.items s [] ++ position ∷ [] else slice_index_or begins.old.items s [])) }
 {
-    if session < begins.len() {
-        begins[session].push(position)?;
-    }
-    Ok(())
-}
-
-// Adds the beginnings of the commands of each session from a position on.
-fn read_begins(begins: &mut Vec<Positions>, events: &[Event], from: usize) -> Result<(), AllocError>
-    requires within { from ≤ length events.now }
-    requires known { KnowsBegins begins.old.items (reverse (take from events.now)) }
-    ensures { OnOk result (KnowsBegins begins.new.items (reverse events.now)) }
-{
-    for i in from..events.len() {
-        if let Some(session) = session_in(&events[i]) {
-            add_begin(begins, session as usize, i)?;
-        }
-    }
-    Ok(())
-}
-
-// What an event is to a command that began before.
-#[derive(Clone, Copy)]
-pub(crate) enum Mark {
-    // It ends the command.
-    End,
-    // It shows a page for the command.
-    Page,
-    // It splits a shard for the command.
-    Split,
-}
-
-// The position of the command that an event marks so.
-fn marked(mark: Mark, event: &Event) -> Option<u64>
-    ensures { result ≡ marked mark event.now }
-{
-    match mark {
-        Mark::End => end_in(event),
-        Mark::Page => shown_for(event),
-        Mark::Split => split_for(event),
-    }
-}
-
-// Notes a position for the command at another; where the history has no such one, it is left out.
-fn note(noted: &mut Vec<Option<usize>>, of: Option<u64>, position: usize)
-    ensures len { length noted.new.items ≡ length noted.old.items }
-    ensures noted { (p : ℕ) → p < length noted.old.items → slice_index_or noted.new.items p None ≡ (if is_at p of then Some position else slice_index_or noted.old.items p None) }
-{
-    if let Some(of) = of
-        && of < noted.len() as u64
+    if let Some(session) = session
+        && (session as usize) < begins.len()
     {
-        noted[of as usize] = Some(position);
+        begins[session as usize].push(position)?;
     }
+    Ok(())
 }
 
-// No mark, for each position up to the end of a history.
-fn extend(noted: &mut Vec<Option<usize>>, len: usize) -> Result<(), AllocError>
+// No mark, for each position up to an end.
+fn extend(noted: &mut Marks, len: usize) -> Result<(), AllocError>
     requires { length noted.old.items ≤ len }
     ensures len { OnOk result (length noted.new.items ≡ len) }
     ensures none { OnOk result ((p : ℕ) → slice_index_or noted.new.items p None ≡ slice_index_or noted.old.items p None) }
@@ -144,41 +110,63 @@ fn extend(noted: &mut Vec<Option<usize>>, len: usize) -> Result<(), AllocError>
     Ok(())
 }
 
-// Notes for each position that of the newest event that marks the command begun there, from the
-// events that were not read.
-fn read_marks(
-    noted: &mut Vec<Option<usize>>,
-    events: &[Event],
-    mark: Mark,
-) -> Result<(), AllocError>
-    requires within { length noted.old.items ≤ length events.now }
-    requires known { KnowsNewest (marked mark) (length noted.old.items) noted.old.items (reverse (take (length noted.old.items) events.now)) }
-    requires quiet { IsQuiet (marked mark) (reverse (take (length noted.old.items) events.now)) }
-    ensures { OnOk result (KnowsNewest (marked mark) (length events.now) noted.new.items (reverse events.now)) }
+// Notes for the command at a position that the event at another marks it.
+fn set_mark(noted: &mut Marks, of: usize, position: u32) -> Result<(), AllocError>
+    ensures few { OnOk result ((n : ℕ) → length noted.old.items ≤ n → of < n → length noted.new.items ≤ n) }
+    ensures noted { OnOk result ((p : ℕ) → slice_index_or noted.new.items p None ≡ (if of == p then Some position else slice_index_or noted.old.items p None)) }
 {
-    let from = noted.len();
-    extend(noted, events.len())?;
-    for i in from..events.len() {
-        note(noted, marked(mark, &events[i]), i);
+    if of < noted.len() {
+        noted[of] = Some(position);
+        return Ok(());
+    }
+    extend(noted, of)?;
+    noted.push(Some(position))?;
+    Ok(())
+}
+
+// Notes for a command that the event at a position marks it, where it does; where a history of this
+// length has no such command, it is left out.
+fn note(noted: &mut Marks, of: Option<u64>, position: u32, len: usize) -> Result<(), AllocError>
+    requires { length noted.old.items ≤ len }
+    ensures few { OnOk result (length noted.new.items ≤ len) }
+    ensures noted { OnOk result ((p : ℕ) → p < len → slice_index_or noted.new.items p None ≡ (if is_at p of then Some position else slice_index_or noted.old.items p None)) }
+{
+    if let Some(of) = of
+        && of < len as u64
+    {
+        set_mark(noted, of as usize, position)?;
     }
     Ok(())
+}
+
+/// The position of the event that marks the command begun at another.
+pub(crate) fn noted_at(noted: &[Option<u32>], position: u32) -> Option<u32>
+    ensures { result ≡ slice_index_or noted.now position None }
+{
+    if (position as usize) < noted.len() {
+        noted[position as usize]
+    } else {
+        None
+    }
 }
 
 /// What is known of the events that were read.
 #[derive(Drop)]
 pub(crate) struct Notes {
+    /// How many events were read.
+    pub(crate) seen: usize,
     /// For each session the positions of its beginnings.
     pub(crate) begins: Vec<Positions>,
-    /// For each position that of the newest event that ends the command begun there.
-    pub(crate) ends: Vec<Option<usize>>,
-    /// For each position that of the newest event that shows a page for that command.
-    pub(crate) pages: Vec<Option<usize>>,
-    /// For each position that of the newest event that splits a shard for that command.
-    pub(crate) splits: Vec<Option<usize>>,
+    /// Which events end commands.
+    pub(crate) ends: Marks,
+    /// Which events show pages for commands.
+    pub(crate) pages: Marks,
+    /// Which events split shards for commands.
+    pub(crate) splits: Marks,
 }
 
 impl Notes {
-    ghost use Rattle.answer_text.specs.Notes.{Knows};
+    ghost use Rattle.answer_text.specs.Notes.{Knows, KnowsMarks};
 
     /// Nothing, of no event.
     pub(crate) fn new(alloc: Global) -> Result<Notes, AllocError>
@@ -186,6 +174,7 @@ impl Notes {
     {
         let begins = no_begins(alloc)?;
         Ok(Notes {
+            seen: 0,
             begins,
             ends: Vec::new(alloc),
             pages: Vec::new(alloc),
@@ -193,25 +182,36 @@ impl Notes {
         })
     }
 
-    /// How many events were read.
-    pub(crate) fn len(&self) -> usize
-        ensures { result ≡ length self.now.ends.items }
+    // Reads the event at a position, behind those before it. A position of more than 32 bits finds no
+    // memory.
+    fn read_at(&mut self, events: &[Event], i: usize) -> Result<(), AllocError>
+        requires within { i < length events.now }
+        requires known { KnowsMarks (length events.now) self.old (reverse (take i events.now)) }
+        ensures { OnOk result (KnowsMarks (length events.now) self.new (reverse (take (i + 1) events.now))) }
     {
-        self.ends.len()
+        let Ok(position) = u32::try_from(i) else {
+            return Err(AllocError);
+        };
+        let event = &events[i];
+        let len = events.len();
+        add_begin(&mut self.begins, session_in(event), position)?;
+        note(&mut self.ends, end_in(event), position, len)?;
+        note(&mut self.pages, shown_for(event), position, len)?;
+        note(&mut self.splits, split_for(event), position, len)?;
+        Ok(())
     }
 
     /// Reads the events that came since. Those before belong to no command that began since.
     pub(crate) fn read(&mut self, events: &[Event]) -> Result<(), AllocError>
-        requires within { length self.old.ends.items ≤ length events.now }
-        requires known { Knows self.old (reverse (take (length self.old.ends.items) events.now)) }
-        requires refers { RefersBack (reverse (take (length self.old.ends.items) events.now)) }
+        requires within { self.old.seen ≤ length events.now }
+        requires known { Knows self.old (reverse (take self.old.seen events.now)) }
+        requires refers { RefersBack (reverse (take self.old.seen events.now)) }
         ensures { OnOk result (Knows self.new (reverse events.now)) }
     {
-        let from = self.len();
-        read_begins(&mut self.begins, events, from)?;
-        read_marks(&mut self.ends, events, Mark::End)?;
-        read_marks(&mut self.pages, events, Mark::Page)?;
-        read_marks(&mut self.splits, events, Mark::Split)?;
+        for i in self.seen..events.len() {
+            self.read_at(events, i)?;
+        }
+        self.seen = events.len();
         Ok(())
     }
 }
