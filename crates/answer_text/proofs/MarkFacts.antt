@@ -1,20 +1,19 @@
 -- What is noted of a history, one event more at a time.
-use Rattle.std.proofs.Common.{◌≡◌, ◌∙◌, ℕ, zero, suc, ◌+◌, ◌<◌, ◌≤◌, ◌⊎◌, List, [], ◌∷◌, ◌++◌, if◌then◌else◌, ◌==◌, Option, Some, None, length, get_or, set, take, reverse, refl, ap, sym, subst, inl, inr, arith}
+use Rattle.std.proofs.Common.{◌≡◌, ◌∙◌, ℕ, zero, suc, ◌+◌, ◌<◌, ◌≤◌, ◌⊎◌, List, [], ◌∷◌, ◌==◌, Option, Some, None, length, get_or, take, reverse, refl, ap, sym, subst, inl, inr, arith}
 use Rattle.std.specs.Prelude.{IfSome, false, find, is_some, option_and_then, true, All}
 use Rattle.std.specs.Option.{option_or}
-use Rattle.std.proofs.lemmas.Bool.{cases_Bool, eqb-true, eqb-false}
+use Rattle.std.proofs.lemmas.Bool.{cases_Bool, eqb-true}
 use Rattle.std.proofs.lemmas.Bool.Decides.{nat_tests}
 use Rattle.std.proofs.lemmas.Option.{same_Some}
-use Rattle.std.proofs.lemmas.List.{take_more, reverse-append, length-reverse, length-take-le, length-set, get_or-set_same, get_or-set_other}
+use Rattle.std.proofs.lemmas.List.{take_more, reverse-append, length-reverse, length-take-le}
 use Rattle.std.proofs.lemmas.List.Elements.{All-nil, All-push, All-weaker}
 use Rattle.row_ledger.specs.declared.event.Event.{Event}
 use Rattle.row_ledger.specs.declared.event.Event.TheVariants.{Acked, Answered, Failed, Split, Shown, Ended}
 use Rattle.row_ledger.specs.declared.page.Page.{Page}
 use Rattle.row_ledger.specs.Past.{end_in, event_at, has_ended, is_end_of, number_in, page_in, page_of, session_in}
 use Rattle.script_run.specs.Places.{sessions, begins_in, begins_of}
-use Rattle.script_run.specs.Places.{end_of}
-use Rattle.answer_text.specs.Printed.{split_for, split_of}
-use Rattle.answer_text.specs.Marks.{IsPosition, IsQuiet, KnowsBegins, KnowsNewest, RefersBack, is_at, newest, shown, shown_for}
+use Rattle.answer_text.specs.Printed.{split_for}
+use Rattle.answer_text.specs.Marks.{HasBegin, HasMark, IsPosition, IsQuiet, KnowsBegins, KnowsNewest, RefersBack, is_at, newest, shown, shown_for}
 use Rattle.answer_text.specs.Notes.{KnowsMarks}
 use Rattle.answer_text.specs.declared.notes.Notes.{Notes}
 
@@ -31,13 +30,13 @@ pub begins_none : (lists : List (List ℕ)) → length lists ≡ sessions → ((
 unfolding begins_of
 begins_none lists len none = record { len = len; begun = none }
 
-pub begins_more : (lists new : List (List ℕ)) (past : List Event) (e : Event) (i : ℕ) → KnowsBegins lists past → length past ≡ i → length new ≡ length lists
-    → ((s : ℕ) → s < length lists → get_or new s [] ≡ (if is_at s (session_in e) then get_or lists s [] ++ i ∷ [] else get_or lists s [])) → KnowsBegins new (e ∷ past)
+begins_more : (lists new : List (List ℕ)) (past : List Event) (e : Event) (i : ℕ) → KnowsBegins lists past → length past ≡ i → HasBegin (session_in e) i lists new
+    → KnowsBegins new (e ∷ past)
 unfolding begins_of
-begins_more lists new past e i known at len begun =
+begins_more lists new past e i known at has =
     record {
-      len = len ∙ known.len;
-      begun = λ s below. rw (begun s (rw known.len below), known.begun s below, at) refl;
+      len = has.len ∙ known.len;
+      begun = λ s below. rw (has.begun s (rw known.len below), known.begun s below, at) refl;
     }
 
 -- The newest marks by position.
@@ -67,13 +66,25 @@ newest_further marks n noted past more quiet so_far =
     below-or : (a b : ℕ) → (a < b) ⊎ (b ≤ a)
     below-or a b = grind arith
 
-pub newest_more : (marks : Event → Option ℕ) (n : ℕ) (noted new : List (Option ℕ)) (past : List Event) (e : Event) (i : ℕ) → KnowsNewest marks n noted past → length past ≡ i
-    → length new ≤ n → ((p : ℕ) → p < n → get_or new p None ≡ (if is_at p (marks e) then Some i else get_or noted p None)) → KnowsNewest marks n new (e ∷ past)
+newest_more : (marks : Event → Option ℕ) (n : ℕ) (noted new : List (Option ℕ)) (past : List Event) (e : Event) (i : ℕ) → KnowsNewest marks n noted past → length past ≡ i
+    → HasMark n (marks e) i noted new → KnowsNewest marks n new (e ∷ past)
 unfolding newest
-newest_more marks n noted new past e i so_far at few notes =
+newest_more marks n noted new past e i so_far at has =
     record {
-      few = few;
-      known = λ p below. rw (notes p below, so_far.known p below, at) refl;
+      few = has.few;
+      known = λ p below. rw (has.noted p below, so_far.known p below, at) refl;
+    }
+
+-- an event is noted for all lists
+pub marks_more : (n : ℕ) (notes new : Notes) (past : List Event) (e : Event) (i : ℕ) → KnowsMarks n notes past → length past ≡ i
+    → HasBegin (session_in e) i notes.begins.items new.begins.items → HasMark n (end_in e) i notes.ends.items new.ends.items → HasMark n (shown_for e) i notes.pages.items new.pages.items
+    → HasMark n (split_for e) i notes.splits.items new.splits.items → KnowsMarks n new (e ∷ past)
+marks_more n notes new past e i known at begun ended shown split =
+    record {
+      begins = begins_more notes.begins.items new.begins.items past e i known.begins at begun;
+      ends = newest_more end_in n notes.ends.items new.ends.items past e i known.ends at ended;
+      pages = newest_more shown_for n notes.pages.items new.pages.items past e i known.pages at shown;
+      splits = newest_more split_for n notes.splits.items new.splits.items past e i known.splits at split;
     }
 
 -- Where each event refers back, none marks a command that begins behind them all.

@@ -1,5 +1,5 @@
 -- What is noted of a history: beginnings, and the newest events that end commands, show pages or split shards for them.
-use Rattle.std.specs.Prelude.{ℕ, ◌≡◌, ◌<◌, ◌≤◌, ◌==◌, Bool, false, Option, Some, None, IfSome, if◌then◌else◌, List, [], ◌∷◌, length, ⊤}
+use Rattle.std.specs.Prelude.{ℕ, ◌≡◌, ◌<◌, ◌≤◌, ◌==◌, Bool, false, Option, Some, None, IfSome, if◌then◌else◌, List, [], ◌∷◌, ◌++◌, length, ⊤}
 use Rattle.std.specs.List.{slice_index_or}
 use Rattle.std.specs.Option.{MatchOption, option_map_or}
 use Rattle.row_ledger.specs.declared.event.Event.{Event}
@@ -43,6 +43,16 @@ pub record KnowsBegins (lists : List (List ℕ)) (past : List Event) : Type 0 wh
 pub record KnowsNewest (marks : Event → Option ℕ) (n : ℕ) (noted : List (Option ℕ)) (past : List Event) : Type 0 where
   pub few : length noted ≤ n
   pub known : (p : ℕ) → p < n → slice_index_or noted p None ≡ newest marks past p
+
+-- the beginnings with one of a session more, at a position, where there is one
+pub record HasBegin (session : Option ℕ) (position : ℕ) (old new : List (List ℕ)) : Type 0 where
+  pub len : length new ≡ length old
+  pub begun : (s : ℕ) → s < length old → slice_index_or new s [] ≡ (if is_at s session then slice_index_or old s [] ++ position ∷ [] else slice_index_or old s [])
+
+-- the marks of the first n positions with one of a command more, at a position, where there is one
+pub record HasMark (n : ℕ) (of : Option ℕ) (position : ℕ) (old new : List (Option ℕ)) : Type 0 where
+  pub few : length new ≤ n
+  pub noted : (p : ℕ) → p < n → slice_index_or new p None ≡ (if is_at p of then Some position else slice_index_or old p None)
 
 -- no event marks a command that begins behind this past
 abbrev pub IsQuiet : (Event → Option ℕ) → List Event → Type 0

@@ -3,11 +3,11 @@
 //!
 //! Most scripts show no page and split no shard, and no list of marks is longer than up to its last
 //! one: where there are none, it takes no memory.
-ghost use Rattle.std.specs.Prelude.{◌≡◌, ◌==◌, ◌∷◌, ◌+◌, ◌++◌, [], ℕ, ◌<◌, ◌≤◌, None, Some, if◌then◌else◌, length, reverse, take, slice_index_or, IfOk, OnOk};
+ghost use Rattle.std.specs.Prelude.{◌≡◌, ◌+◌, [], ℕ, ◌<◌, ◌≤◌, None, Some, length, reverse, take, slice_index_or, IfOk, OnOk};
 ghost use Rattle.row_ledger.specs.Past.{end_in, session_in};
 ghost use Rattle.script_run.specs.Places.{sessions};
 ghost use Rattle.answer_text.specs.Printed.{split_for};
-ghost use Rattle.answer_text.specs.Marks.{RefersBack, is_at, shown_for};
+ghost use Rattle.answer_text.specs.Marks.{HasBegin, HasMark, RefersBack, shown_for};
 
 use dim_hierarchy::Items;
 use row_ledger::Event;
@@ -21,53 +21,6 @@ pub(crate) type Positions = Items<u32>;
 /// the list stands no mark.
 pub(crate) type Marks = Vec<Option<u32>>;
 
-// The session of the command that an event begins.
-fn session_in(event: &Event) -> Option<u16>
-    ensures { result ≡ session_in event.now }
-{
-    match event {
-        Event::Begun { session, .. }
-        | Event::Asked { session, .. }
-        | Event::Unknown { session, .. }
-        | Event::Refused { session }
-        | Event::Called { session, .. } => Some(*session),
-        _ => None,
-    }
-}
-
-// The position of the command that an event ends.
-fn end_in(event: &Event) -> Option<u64>
-    ensures { result ≡ end_in event.now }
-{
-    match event {
-        Event::Acked { of, .. }
-        | Event::Answered { of, .. }
-        | Event::Failed { of }
-        | Event::Ended { of, .. } => Some(*of),
-        _ => None,
-    }
-}
-
-// The position of the command for which an event shows a page.
-fn shown_for(event: &Event) -> Option<u64>
-    ensures { result ≡ shown_for event.now }
-{
-    match event {
-        Event::Shown { of, .. } => Some(*of),
-        _ => None,
-    }
-}
-
-// The position of the command for which an event splits a shard.
-fn split_for(event: &Event) -> Option<u64>
-    ensures { result ≡ split_for event.now }
-{
-    match event {
-        Event::Split { of, .. } => Some(*of),
-        _ => None,
-    }
-}
-
 // No beginning, for each session.
 fn no_begins(alloc: Global) -> Result<Vec<Positions>, AllocError>
     ensures len { IfOk result (λ v. length v.items ≡ sessions) }
@@ -80,19 +33,11 @@ fn no_begins(alloc: Global) -> Result<Vec<Positions>, AllocError>
     Ok(begins)
 }
 
-// Adds a beginning of a session, where an event is one; those of sessions that no command has are
-// left out.
-fn add_begin(
-    begins: &mut Vec<Positions>,
-    session: Option<u16>,
-    position: u32,
-) -> Result<(), AllocError>
-    ensures len { OnOk result (length begins.new.items ≡ length begins.old.items) }
-    ensures begun { OnOk result ((s : ℕ) → s < length begins.old.items → slice_index_or begins.new.items s [] ≡ (if is_at s session then slice_index_or begins.old.items s [] ++ position ∷ [] else slice_index_or begins.old.items s [])) }
+// Adds a beginning of a session; those of sessions that no command has are left out.
+fn add_begin(begins: &mut Vec<Positions>, session: u16, position: u32) -> Result<(), AllocError>
+    ensures { OnOk result (HasBegin (Some session) position begins.old.items begins.new.items) }
 {
-    if let Some(session) = session
-        && (session as usize) < begins.len()
-    {
+    if (session as usize) < begins.len() {
         begins[session as usize].push(position)?;
     }
     Ok(())
@@ -110,32 +55,22 @@ fn extend(noted: &mut Marks, len: usize) -> Result<(), AllocError>
     Ok(())
 }
 
-// Notes for the command at a position that the event at another marks it.
-fn set_mark(noted: &mut Marks, of: usize, position: u32) -> Result<(), AllocError>
-    ensures few { OnOk result ((n : ℕ) → length noted.old.items ≤ n → of < n → length noted.new.items ≤ n) }
-    ensures noted { OnOk result ((p : ℕ) → slice_index_or noted.new.items p None ≡ (if of == p then Some position else slice_index_or noted.old.items p None)) }
+// Notes for a command that the event at a position marks it; where a history of this length has no
+// such command, it is left out.
+fn add_mark(noted: &mut Marks, of: u64, position: u32, len: usize) -> Result<(), AllocError>
+    requires { length noted.old.items ≤ len }
+    ensures { OnOk result (HasMark len (Some of) position noted.old.items noted.new.items) }
 {
+    if of >= len as u64 {
+        return Ok(());
+    }
+    let of = of as usize;
     if of < noted.len() {
         noted[of] = Some(position);
         return Ok(());
     }
     extend(noted, of)?;
     noted.push(Some(position))?;
-    Ok(())
-}
-
-// Notes for a command that the event at a position marks it, where it does; where a history of this
-// length has no such command, it is left out.
-fn note(noted: &mut Marks, of: Option<u64>, position: u32, len: usize) -> Result<(), AllocError>
-    requires { length noted.old.items ≤ len }
-    ensures few { OnOk result (length noted.new.items ≤ len) }
-    ensures noted { OnOk result ((p : ℕ) → p < len → slice_index_or noted.new.items p None ≡ (if is_at p of then Some position else slice_index_or noted.old.items p None)) }
-{
-    if let Some(of) = of
-        && of < len as u64
-    {
-        set_mark(noted, of as usize, position)?;
-    }
     Ok(())
 }
 
@@ -182,6 +117,32 @@ impl Notes {
         })
     }
 
+    // Notes an event at a position of a history of this length.
+    fn note(&mut self, event: &Event, position: u32, len: usize) -> Result<(), AllocError>
+        requires ends { length self.old.ends.items ≤ len }
+        requires pages { length self.old.pages.items ≤ len }
+        requires splits { length self.old.splits.items ≤ len }
+        ensures begins { OnOk result (HasBegin (session_in event.now) position self.old.begins.items self.new.begins.items) }
+        ensures ends { OnOk result (HasMark len (end_in event.now) position self.old.ends.items self.new.ends.items) }
+        ensures pages { OnOk result (HasMark len (shown_for event.now) position self.old.pages.items self.new.pages.items) }
+        ensures splits { OnOk result (HasMark len (split_for event.now) position self.old.splits.items self.new.splits.items) }
+    {
+        match event {
+            Event::Begun { session, .. }
+            | Event::Asked { session, .. }
+            | Event::Unknown { session, .. }
+            | Event::Refused { session }
+            | Event::Called { session, .. } => add_begin(&mut self.begins, *session, position),
+            Event::Acked { of, .. }
+            | Event::Answered { of, .. }
+            | Event::Failed { of }
+            | Event::Ended { of, .. } => add_mark(&mut self.ends, *of, position, len),
+            Event::Shown { of, .. } => add_mark(&mut self.pages, *of, position, len),
+            Event::Split { of, .. } => add_mark(&mut self.splits, *of, position, len),
+            Event::Synced { .. } | Event::Moved { .. } | Event::Left { .. } => Ok(()),
+        }
+    }
+
     // Reads the event at a position, behind those before it. A position of more than 32 bits finds no
     // memory.
     fn read_at(&mut self, events: &[Event], i: usize) -> Result<(), AllocError>
@@ -192,12 +153,7 @@ impl Notes {
         let Ok(position) = u32::try_from(i) else {
             return Err(AllocError);
         };
-        let event = &events[i];
-        let len = events.len();
-        add_begin(&mut self.begins, session_in(event), position)?;
-        note(&mut self.ends, end_in(event), position, len)?;
-        note(&mut self.pages, shown_for(event), position, len)?;
-        note(&mut self.splits, split_for(event), position, len)?;
+        self.note(&events[i], position, events.len())?;
         Ok(())
     }
 
