@@ -65,7 +65,7 @@ phase-further with all start n end h whole left t more same some low phase has s
 pub new_teller_law : NewTellerLaw
 new_teller_law with commands events teller new =
     let has = new.has with in
-    let seen : seen_of teller ≡ 0 = has.notes.ends.positions in
+    let seen : seen_of teller ≡ 0 = has.notes.seen in
     record {
       within = omega (arith, new.told);
       seen = omega (arith, seen);
@@ -76,7 +76,7 @@ new_teller_law with commands events teller new =
 pub teller_law : TellerLaw
 teller_law with done phase past more events teller has grown =
     let told : teller.told ≡ length done = has.told in
-    let seen : seen_of teller ≡ length past = has.notes.ends.positions in
+    let seen : seen_of teller ≡ length past = has.notes.seen in
     let front : events ≡ reverse past ++ reverse more = sym (reverse-reverse events) ∙ ap reverse grown ∙ reverse-append more past in
     let first : reverse (take (seen_of teller) events) ≡ past =
     ap (λ n. reverse (take n events)) (seen ∙ sym (length-reverse past))

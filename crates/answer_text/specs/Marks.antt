@@ -1,18 +1,15 @@
 -- What is noted of a history: beginnings, and the newest events that end commands, show pages or split shards for them.
-use Rattle.std.specs.Prelude.{ℕ, ◌≡◌, ◌<◌, ◌≤◌, ◌==◌, Bool, false, Option, Some, None, IfSome, if◌then◌else◌, List, [], ◌∷◌, length, ⊤}
+use Rattle.std.specs.Prelude.{ℕ, ◌≡◌, ◌<◌, ◌≤◌, ◌==◌, Bool, false, Option, Some, None, IfSome, if◌then◌else◌, List, [], ◌∷◌, ◌++◌, length, ⊤}
 use Rattle.std.specs.List.{slice_index_or}
 use Rattle.std.specs.Option.{MatchOption, option_map_or}
 use Rattle.row_ledger.specs.declared.event.Event.{Event}
 use Rattle.row_ledger.specs.declared.event.Event.TheVariants.{Shown}
 use Rattle.row_ledger.specs.declared.page.Page.{Page}
 use Rattle.row_ledger.specs.declared.settings.Use.{Use}
-use Rattle.row_ledger.specs.Past.{end_in, number_in}
+use Rattle.row_ledger.specs.Past.{number_in}
 use Rattle.row_ledger.specs.Right.{EachEvent}
 use Rattle.script_form.specs.declared.script.Command.{Command}
 use Rattle.script_run.specs.Places.{sessions, begins_of, count_of}
-use Rattle.answer_text.specs.Printed.{split_for}
-use Rattle.answer_text.specs.declared.notes.Mark.{Mark}
-use Rattle.answer_text.specs.declared.notes.Mark.TheVariants as mark
 
 -- the position of the command for which an event shows a page
 abbrev pub shown_for : Event → Option ℕ
@@ -23,12 +20,6 @@ shown_for _ = None
 abbrev pub shown : Event → Option Page
 shown (Shown of page) = Some page
 shown _ = None
-
--- the position of the command that an event ends, or for which it shows a page
-abbrev pub marked : Mark → Event → Option ℕ
-marked mark.End e = end_in e
-marked mark.Page e = shown_for e
-marked mark.Split e = split_for e
 
 -- whether this is the position
 abbrev pub is_at : ℕ → Option ℕ → Bool
@@ -48,10 +39,20 @@ pub record KnowsBegins (lists : List (List ℕ)) (past : List Event) : Type 0 wh
   pub len : length lists ≡ sessions
   pub begun : (s : ℕ) → s < sessions → slice_index_or lists s [] ≡ begins_of past s
 
--- for each of the first n positions the newest event that marks its command
+-- for each of the first n positions the newest event that marks its command; there is none behind the end of the list
 pub record KnowsNewest (marks : Event → Option ℕ) (n : ℕ) (noted : List (Option ℕ)) (past : List Event) : Type 0 where
-  pub positions : length noted ≡ n
+  pub few : length noted ≤ n
   pub known : (p : ℕ) → p < n → slice_index_or noted p None ≡ newest marks past p
+
+-- the beginnings with one of a session more, at a position, where there is one
+pub record HasBegin (session : Option ℕ) (position : ℕ) (old new : List (List ℕ)) : Type 0 where
+  pub len : length new ≡ length old
+  pub begun : (s : ℕ) → s < length old → slice_index_or new s [] ≡ (if is_at s session then slice_index_or old s [] ++ position ∷ [] else slice_index_or old s [])
+
+-- the marks of the first n positions with one of a command more, at a position, where there is one
+pub record HasMark (n : ℕ) (of : Option ℕ) (position : ℕ) (old new : List (Option ℕ)) : Type 0 where
+  pub few : length new ≤ n
+  pub noted : (p : ℕ) → p < n → slice_index_or new p None ≡ (if is_at p of then Some position else slice_index_or old p None)
 
 -- no event marks a command that begins behind this past
 abbrev pub IsQuiet : (Event → Option ℕ) → List Event → Type 0

@@ -9,7 +9,7 @@ use Rattle.answer_text.specs.Notes.{Knows}
 
 -- how many events it has read
 abbrev pub seen_of : Teller → ℕ
-seen_of teller = length teller.notes.ends.items
+seen_of teller = teller.notes.seen
 
 -- it has told these commands, and knows this history
 pub record HasTold (with : Use) (commands : List Command) (history : List Event) (teller : Teller) : Type 0 where

@@ -6,7 +6,7 @@ ghost use Rattle.answer_text.specs.Marks.{shown};
 ghost use Rattle.answer_text.specs.Notes.{Knows};
 
 use crate::answer::Answer;
-use crate::notes::Notes;
+use crate::notes::{Notes, noted_at};
 use row_ledger::{Event, Page};
 use script_form::Command;
 
@@ -52,15 +52,26 @@ impl<'a> Index<'a> {
     }
 
     // The event at a position.
-    fn get(&self, position: usize) -> &Event
+    fn get(&self, position: u32) -> &Event
         requires { position < length self.now.events.now }
         ensures { event_at (reverse self.now.events.now) position ≡ Some result.now }
     {
-        &self.events[position]
+        &self.events[position as usize]
+    }
+
+    /// The event at a place.
+    pub(crate) fn event_at(&self, place: Option<u32>) -> Option<&Event>
+        requires { IsPosition (reverse self.now.events.now) place }
+        ensures { option_copied result ≡ option_and_then (event_at (reverse self.now.events.now)) place }
+    {
+        match place {
+            Some(position) => Some(self.get(position)),
+            None => None,
+        }
     }
 
     /// Where a session's command begins, by its number from 0.
-    pub(crate) fn place(&self, session: usize, number: usize) -> Option<usize>
+    pub(crate) fn place(&self, session: usize, number: usize) -> Option<u32>
         requires { session < sessions }
         ensures { result ≡ slice_get (begins_of (reverse self.now.events.now) session) number }
     {
@@ -68,15 +79,15 @@ impl<'a> Index<'a> {
     }
 
     // Whether the command that began at a position has its end.
-    fn is_over(&self, position: usize) -> bool
+    fn is_over(&self, position: u32) -> bool
         requires { position < length self.now.events.now }
         ensures { result ≡ is_over (reverse self.now.events.now) position }
     {
-        self.notes.ends[position].is_some() || ends_itself(self.get(position))
+        noted_at(&self.notes.ends, position).is_some() || ends_itself(self.get(position))
     }
 
     /// Whether a command has begun and has its end.
-    pub(crate) fn is_over_at(&self, place: Option<usize>) -> bool
+    pub(crate) fn is_over_at(&self, place: Option<u32>) -> bool
         requires { IsPosition (reverse self.now.events.now) place }
         ensures { result ≡ is_over_at (reverse self.now.events.now) place }
     {
@@ -87,29 +98,23 @@ impl<'a> Index<'a> {
     }
 
     // The event that ends the command begun at a position.
-    fn end_of(&self, position: usize) -> Option<&Event>
+    fn end_of(&self, position: u32) -> Option<&Event>
         requires { position < length self.now.events.now }
         ensures { option_copied result ≡ end_of (reverse self.now.events.now) position }
     {
-        match self.notes.ends[position] {
-            Some(end) => Some(self.get(end)),
-            None => None,
-        }
+        self.event_at(noted_at(&self.notes.ends, position))
     }
 
     // The newest event that splits a shard for the command begun at a position.
-    fn split_of(&self, position: usize) -> Option<&Event>
+    fn split_of(&self, position: u32) -> Option<&Event>
         requires { position < length self.now.events.now }
         ensures { option_copied result ≡ split_of (reverse self.now.events.now) position }
     {
-        match self.notes.splits[position] {
-            Some(split) => Some(self.get(split)),
-            None => None,
-        }
+        self.event_at(noted_at(&self.notes.splits, position))
     }
 
     /// What is said of a command that began at a place.
-    pub(crate) fn answer_at(&self, command: &Command, place: Option<usize>) -> Answer
+    pub(crate) fn answer_at(&self, command: &Command, place: Option<u32>) -> Answer
         requires { IsPosition (reverse self.now.events.now) place }
         ensures { said result ≡ answer_at command.now (reverse self.now.events.now) place }
     {
@@ -124,19 +129,8 @@ impl<'a> Index<'a> {
         }
     }
 
-    /// The event that begins the command of a place.
-    pub(crate) fn begin_at(&self, place: Option<usize>) -> Option<&Event>
-        requires { IsPosition (reverse self.now.events.now) place }
-        ensures { option_copied result ≡ option_and_then (event_at (reverse self.now.events.now)) place }
-    {
-        match place {
-            Some(position) => Some(self.get(position)),
-            None => None,
-        }
-    }
-
     /// The event that ends the command of a place.
-    pub(crate) fn end_at(&self, place: Option<usize>) -> Option<&Event>
+    pub(crate) fn end_at(&self, place: Option<u32>) -> Option<&Event>
         requires { IsPosition (reverse self.now.events.now) place }
         ensures { option_copied result ≡ option_and_then (end_of (reverse self.now.events.now)) place }
     {
@@ -147,18 +141,18 @@ impl<'a> Index<'a> {
     }
 
     // The page that was shown for the command begun at a position.
-    fn page_of(&self, position: usize) -> Option<&Page>
+    fn page_of(&self, position: u32) -> Option<&Page>
         requires { position < length self.now.events.now }
         ensures { option_copied result ≡ page_of (reverse self.now.events.now) position }
     {
-        match self.notes.pages[position] {
-            Some(at) => shown(self.get(at)),
+        match self.event_at(noted_at(&self.notes.pages, position)) {
+            Some(event) => shown(event),
             None => None,
         }
     }
 
     /// The page that was shown for a command that began at a place.
-    pub(crate) fn page_at(&self, place: Option<usize>) -> Option<&Page>
+    pub(crate) fn page_at(&self, place: Option<u32>) -> Option<&Page>
         requires { IsPosition (reverse self.now.events.now) place }
         ensures { option_copied result ≡ option_and_then (page_of (reverse self.now.events.now)) place }
     {

@@ -1,11 +1,13 @@
 //! What is known of a history while it grows: where the commands of each session begin, and which
 //! events end them, show pages and split shards for them. Each event is read once.
-ghost use Rattle.std.specs.Prelude.{◌≡◌, ◌∷◌, ◌++◌, [], ℕ, ◌<◌, ◌≤◌, None, Some, if◌then◌else◌, length, reverse, take, slice_index_or, slice_set, IfOk, OnOk};
-ghost use Rattle.std.specs.Option.{option_copied};
+//!
+//! Most scripts show no page and split no shard, and no list of marks is longer than up to its last
+//! one: where there are none, it takes no memory.
+ghost use Rattle.std.specs.Prelude.{◌≡◌, ◌+◌, [], ℕ, ◌<◌, ◌≤◌, None, Some, length, reverse, take, slice_index_or, IfOk, OnOk};
 ghost use Rattle.row_ledger.specs.Past.{end_in, session_in};
 ghost use Rattle.script_run.specs.Places.{sessions};
 ghost use Rattle.answer_text.specs.Printed.{split_for};
-ghost use Rattle.answer_text.specs.Marks.{KnowsBegins, KnowsNewest, IsQuiet, RefersBack, is_at, marked, shown_for};
+ghost use Rattle.answer_text.specs.Marks.{HasBegin, HasMark, RefersBack, shown_for};
 
 use dim_hierarchy::Items;
 use row_ledger::Event;
@@ -13,54 +15,11 @@ use script_run::SESSIONS;
 use std::alloc::{AllocError, Global};
 
 /// Positions of a history, the oldest first.
-pub(crate) type Positions = Items<usize>;
+pub(crate) type Positions = Items<u32>;
 
-// The session of the command that an event begins.
-fn session_in(event: &Event) -> Option<u16>
-    ensures { result ≡ session_in event.now }
-{
-    match event {
-        Event::Begun { session, .. }
-        | Event::Asked { session, .. }
-        | Event::Unknown { session, .. }
-        | Event::Refused { session }
-        | Event::Called { session, .. } => Some(*session),
-        _ => None,
-    }
-}
-
-// The position of the command that an event ends.
-fn end_in(event: &Event) -> Option<u64>
-    ensures { result ≡ end_in event.now }
-{
-    match event {
-        Event::Acked { of, .. }
-        | Event::Answered { of, .. }
-        | Event::Failed { of }
-        | Event::Ended { of, .. } => Some(*of),
-        _ => None,
-    }
-}
-
-// The position of the command for which an event shows a page.
-fn shown_for(event: &Event) -> Option<u64>
-    ensures { result ≡ shown_for event.now }
-{
-    match event {
-        Event::Shown { of, .. } => Some(*of),
-        _ => None,
-    }
-}
-
-// The position of the command for which an event splits a shard.
-fn split_for(event: &Event) -> Option<u64>
-    ensures { result ≡ split_for event.now }
-{
-    match event {
-        Event::Split { of, .. } => Some(*of),
-        _ => None,
-    }
-}
+/// For each position that of the newest event that marks the command begun there; behind the end of
+/// the list stands no mark.
+pub(crate) type Marks = Vec<Option<u32>>;
 
 // No beginning, for each session.
 fn no_begins(alloc: Global) -> Result<Vec<Positions>, AllocError>
@@ -75,65 +34,17 @@ fn no_begins(alloc: Global) -> Result<Vec<Positions>, AllocError>
 }
 
 // Adds a beginning of a session; those of sessions that no command has are left out.
-fn add_begin(begins: &mut Vec<Positions>, session: usize, position: usize) -> Result<(), AllocError>
-    ensures { OnOk result (begins.new.items ≡ slice_set begins.old.items session (slice_index_or begins.old.items session [] ++ position ∷ [])) }
+fn add_begin(begins: &mut Vec<Positions>, session: u16, position: u32) -> Result<(), AllocError>
+    ensures { OnOk result (HasBegin (Some session) position begins.old.items begins.new.items) }
 {
-    if session < begins.len() {
-        begins[session].push(position)?;
+    if (session as usize) < begins.len() {
+        begins[session as usize].push(position)?;
     }
     Ok(())
 }
 
-// Adds the beginnings of the commands of each session from a position on.
-fn read_begins(begins: &mut Vec<Positions>, events: &[Event], from: usize) -> Result<(), AllocError>
-    requires within { from ≤ length events.now }
-    requires known { KnowsBegins begins.old.items (reverse (take from events.now)) }
-    ensures { OnOk result (KnowsBegins begins.new.items (reverse events.now)) }
-{
-    for i in from..events.len() {
-        if let Some(session) = session_in(&events[i]) {
-            add_begin(begins, session as usize, i)?;
-        }
-    }
-    Ok(())
-}
-
-// What an event is to a command that began before.
-#[derive(Clone, Copy)]
-pub(crate) enum Mark {
-    // It ends the command.
-    End,
-    // It shows a page for the command.
-    Page,
-    // It splits a shard for the command.
-    Split,
-}
-
-// The position of the command that an event marks so.
-fn marked(mark: Mark, event: &Event) -> Option<u64>
-    ensures { result ≡ marked mark event.now }
-{
-    match mark {
-        Mark::End => end_in(event),
-        Mark::Page => shown_for(event),
-        Mark::Split => split_for(event),
-    }
-}
-
-// Notes a position for the command at another; where the history has no such one, it is left out.
-fn note(noted: &mut Vec<Option<usize>>, of: Option<u64>, position: usize)
-    ensures len { length noted.new.items ≡ length noted.old.items }
-    ensures noted { (p : ℕ) → p < length noted.old.items → slice_index_or noted.new.items p None ≡ (if is_at p of then Some position else slice_index_or noted.old.items p None) }
-{
-    if let Some(of) = of
-        && of < noted.len() as u64
-    {
-        noted[of as usize] = Some(position);
-    }
-}
-
-// No mark, for each position up to the end of a history.
-fn extend(noted: &mut Vec<Option<usize>>, len: usize) -> Result<(), AllocError>
+// No mark, for each position up to an end.
+fn extend(noted: &mut Marks, len: usize) -> Result<(), AllocError>
     requires { length noted.old.items ≤ len }
     ensures len { OnOk result (length noted.new.items ≡ len) }
     ensures none { OnOk result ((p : ℕ) → slice_index_or noted.new.items p None ≡ slice_index_or noted.old.items p None) }
@@ -144,41 +55,53 @@ fn extend(noted: &mut Vec<Option<usize>>, len: usize) -> Result<(), AllocError>
     Ok(())
 }
 
-// Notes for each position that of the newest event that marks the command begun there, from the
-// events that were not read.
-fn read_marks(
-    noted: &mut Vec<Option<usize>>,
-    events: &[Event],
-    mark: Mark,
-) -> Result<(), AllocError>
-    requires within { length noted.old.items ≤ length events.now }
-    requires known { KnowsNewest (marked mark) (length noted.old.items) noted.old.items (reverse (take (length noted.old.items) events.now)) }
-    requires quiet { IsQuiet (marked mark) (reverse (take (length noted.old.items) events.now)) }
-    ensures { OnOk result (KnowsNewest (marked mark) (length events.now) noted.new.items (reverse events.now)) }
+// Notes for a command that the event at a position marks it; where a history of this length has no
+// such command, it is left out.
+fn add_mark(noted: &mut Marks, of: u64, position: u32, len: usize) -> Result<(), AllocError>
+    requires { length noted.old.items ≤ len }
+    ensures { OnOk result (HasMark len (Some of) position noted.old.items noted.new.items) }
 {
-    let from = noted.len();
-    extend(noted, events.len())?;
-    for i in from..events.len() {
-        note(noted, marked(mark, &events[i]), i);
+    if of >= len as u64 {
+        return Ok(());
     }
+    let of = of as usize;
+    if of < noted.len() {
+        noted[of] = Some(position);
+        return Ok(());
+    }
+    extend(noted, of)?;
+    noted.push(Some(position))?;
     Ok(())
+}
+
+/// The position of the event that marks the command begun at another.
+pub(crate) fn noted_at(noted: &[Option<u32>], position: u32) -> Option<u32>
+    ensures { result ≡ slice_index_or noted.now position None }
+{
+    if (position as usize) < noted.len() {
+        noted[position as usize]
+    } else {
+        None
+    }
 }
 
 /// What is known of the events that were read.
 #[derive(Drop)]
 pub(crate) struct Notes {
+    /// How many events were read.
+    pub(crate) seen: usize,
     /// For each session the positions of its beginnings.
     pub(crate) begins: Vec<Positions>,
-    /// For each position that of the newest event that ends the command begun there.
-    pub(crate) ends: Vec<Option<usize>>,
-    /// For each position that of the newest event that shows a page for that command.
-    pub(crate) pages: Vec<Option<usize>>,
-    /// For each position that of the newest event that splits a shard for that command.
-    pub(crate) splits: Vec<Option<usize>>,
+    /// Which events end commands.
+    pub(crate) ends: Marks,
+    /// Which events show pages for commands.
+    pub(crate) pages: Marks,
+    /// Which events split shards for commands.
+    pub(crate) splits: Marks,
 }
 
 impl Notes {
-    ghost use Rattle.answer_text.specs.Notes.{Knows};
+    ghost use Rattle.answer_text.specs.Notes.{Knows, KnowsMarks};
 
     /// Nothing, of no event.
     pub(crate) fn new(alloc: Global) -> Result<Notes, AllocError>
@@ -186,6 +109,7 @@ impl Notes {
     {
         let begins = no_begins(alloc)?;
         Ok(Notes {
+            seen: 0,
             begins,
             ends: Vec::new(alloc),
             pages: Vec::new(alloc),
@@ -193,25 +117,57 @@ impl Notes {
         })
     }
 
-    /// How many events were read.
-    pub(crate) fn len(&self) -> usize
-        ensures { result ≡ length self.now.ends.items }
+    // Notes an event at a position of a history of this length.
+    fn note(&mut self, event: &Event, position: u32, len: usize) -> Result<(), AllocError>
+        requires ends { length self.old.ends.items ≤ len }
+        requires pages { length self.old.pages.items ≤ len }
+        requires splits { length self.old.splits.items ≤ len }
+        ensures begins { OnOk result (HasBegin (session_in event.now) position self.old.begins.items self.new.begins.items) }
+        ensures ends { OnOk result (HasMark len (end_in event.now) position self.old.ends.items self.new.ends.items) }
+        ensures pages { OnOk result (HasMark len (shown_for event.now) position self.old.pages.items self.new.pages.items) }
+        ensures splits { OnOk result (HasMark len (split_for event.now) position self.old.splits.items self.new.splits.items) }
     {
-        self.ends.len()
+        match event {
+            Event::Begun { session, .. }
+            | Event::Asked { session, .. }
+            | Event::Unknown { session, .. }
+            | Event::Refused { session }
+            | Event::Called { session, .. } => add_begin(&mut self.begins, *session, position),
+            Event::Acked { of, .. }
+            | Event::Answered { of, .. }
+            | Event::Failed { of }
+            | Event::Ended { of, .. } => add_mark(&mut self.ends, *of, position, len),
+            Event::Shown { of, .. } => add_mark(&mut self.pages, *of, position, len),
+            Event::Split { of, .. } => add_mark(&mut self.splits, *of, position, len),
+            Event::Synced { .. } | Event::Moved { .. } | Event::Left { .. } => Ok(()),
+        }
+    }
+
+    // Reads the event at a position, behind those before it. A position of more than 32 bits finds no
+    // memory.
+    fn read_at(&mut self, events: &[Event], i: usize) -> Result<(), AllocError>
+        requires within { i < length events.now }
+        requires known { KnowsMarks (length events.now) self.old (reverse (take i events.now)) }
+        ensures { OnOk result (KnowsMarks (length events.now) self.new (reverse (take (i + 1) events.now))) }
+    {
+        let Ok(position) = u32::try_from(i) else {
+            return Err(AllocError);
+        };
+        self.note(&events[i], position, events.len())?;
+        Ok(())
     }
 
     /// Reads the events that came since. Those before belong to no command that began since.
     pub(crate) fn read(&mut self, events: &[Event]) -> Result<(), AllocError>
-        requires within { length self.old.ends.items ≤ length events.now }
-        requires known { Knows self.old (reverse (take (length self.old.ends.items) events.now)) }
-        requires refers { RefersBack (reverse (take (length self.old.ends.items) events.now)) }
+        requires within { self.old.seen ≤ length events.now }
+        requires known { Knows self.old (reverse (take self.old.seen events.now)) }
+        requires refers { RefersBack (reverse (take self.old.seen events.now)) }
         ensures { OnOk result (Knows self.new (reverse events.now)) }
     {
-        let from = self.len();
-        read_begins(&mut self.begins, events, from)?;
-        read_marks(&mut self.ends, events, Mark::End)?;
-        read_marks(&mut self.pages, events, Mark::Page)?;
-        read_marks(&mut self.splits, events, Mark::Split)?;
+        for i in self.seen..events.len() {
+            self.read_at(events, i)?;
+        }
+        self.seen = events.len();
         Ok(())
     }
 }

@@ -31,18 +31,18 @@ fn fails(end: Option<&Event>) -> bool
 }
 
 /// Whether a command is an insert that was refused before it began, or failed after.
-fn is_lost(index: &Index, command: &Command, place: Option<usize>) -> bool
+fn is_lost(index: &Index, command: &Command, place: Option<u32>) -> bool
     requires { IsPosition (reverse index.now.events.now) place }
     ensures { result ≡ is_lost (reverse index.now.events.now) command.now place }
 {
     match command {
-        Command::Insert(_) => refuses(index.begin_at(place)) || fails(index.end_at(place)),
+        Command::Insert(_) => refuses(index.event_at(place)) || fails(index.end_at(place)),
         _ => false,
     }
 }
 
 /// How many of these commands are inserts that found no memory.
-fn count_lost(commands: &[Command], places: &[Option<usize>], index: &Index) -> u64
+fn count_lost(commands: &[Command], places: &[Option<u32>], index: &Index) -> u64
     requires same { length places.now ≡ length commands.now }
     requires places { All (IsPosition (reverse index.now.events.now)) places.now }
     ensures { result ≡ lost (reverse index.now.events.now) (zip commands.now places.now) }
@@ -84,7 +84,7 @@ fn asks_total(command: &Command) -> bool
 }
 
 /// The aggregate that a command was given, if one was.
-fn total_of(index: &Index, command: &Command, place: Option<usize>) -> Option<Agg>
+fn total_of(index: &Index, command: &Command, place: Option<u32>) -> Option<Agg>
     requires { IsPosition (reverse index.now.events.now) place }
     ensures { result ≡ total_of (reverse index.now.events.now) command.now place }
 {
@@ -99,7 +99,7 @@ fn total_of(index: &Index, command: &Command, place: Option<usize>) -> Option<Ag
 fn totals(
     alloc: Global,
     commands: &[Command],
-    places: &[Option<usize>],
+    places: &[Option<u32>],
     index: &Index,
 ) -> Result<Vec<Option<Agg>>, AllocError>
     requires same { length places.now ≡ length commands.now }
@@ -184,7 +184,7 @@ fn all_places(
     with: &Use,
     commands: &[Command],
     index: &Index,
-) -> Result<Vec<Option<usize>>, AllocError>
+) -> Result<Vec<Option<u32>>, AllocError>
     ensures { IfOk result (λ v. v.items ≡ places with.now commands.now (reverse index.now.events.now)) }
 {
     let mut counts = vec![in alloc; 0usize; SESSIONS]?;

@@ -23,7 +23,7 @@ pub(crate) fn places(
     commands: &[Command],
     start: usize,
     index: &Index,
-) -> Result<Vec<Option<usize>>, AllocError>
+) -> Result<Vec<Option<u32>>, AllocError>
     requires within { start ≤ length commands.now }
     requires counted { Counts counts.old.items with.now (take start commands.now) }
     ensures counted { OnOk result (Counts counts.new.items with.now commands.now) }
@@ -40,7 +40,7 @@ pub(crate) fn places(
 }
 
 // Whether all commands that begin at these places have begun and have their ends.
-fn are_over(index: &Index, places: &[Option<usize>]) -> bool
+fn are_over(index: &Index, places: &[Option<u32>]) -> bool
     requires { All (IsPosition (reverse index.now.events.now)) places.now }
     ensures { result ≡ are_over (reverse index.now.events.now) places.now }
 {
@@ -57,7 +57,7 @@ fn push_text(
     text: &mut String,
     number: u64,
     command: &Command,
-    place: Option<usize>,
+    place: Option<u32>,
     index: &Index,
 ) -> Result<(), AllocError>
     requires { IsPosition (reverse index.now.events.now) place }
@@ -85,7 +85,7 @@ fn push_lines(
     text: &mut String,
     first: u64,
     commands: &[Command],
-    places: &[Option<usize>],
+    places: &[Option<u32>],
     index: &Index,
 ) -> Result<(), AllocError>
     requires few { first + length commands.now ≤ 2 ^ 64 }
@@ -105,7 +105,7 @@ fn push_phase(
     text: &mut String,
     first: u64,
     phase: &[Command],
-    places: &[Option<usize>],
+    places: &[Option<u32>],
     index: &Index,
 ) -> Result<(), AllocError>
     requires few { first + length phase.now ≤ 2 ^ 64 }

@@ -7,5 +7,5 @@ phase-requires-clause-told c = c.tellers_go_on.ensures.new _ _ _ c.in_ok-teller.
 
 pub phase-requires-clause-refers : goal.phase-requires-clause-refers
 phase-requires-clause-refers c =
-    let none : seen_of c.in_ok-teller.teller ≡ 0 = (c.in_ok-teller.ensures.has record { servers = 0; workers = 0; threads = 0; cells = 0 }).notes.ends.positions in
+    let none : seen_of c.in_ok-teller.teller ≡ 0 = (c.in_ok-teller.ensures.has record { servers = 0; workers = 0; threads = 0; cells = 0 }).notes.seen in
     rw none tt

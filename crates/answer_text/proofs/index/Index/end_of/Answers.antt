@@ -1,23 +1,15 @@
-use Rattle.std.proofs.Common.{◌≡◌, Some, None, reverse, refl, arith}
-use Rattle.std.proofs.lemmas.Grind.{common_steps}
+use Rattle.std.proofs.Common.{reverse, arith}
 use Rattle.std.proofs.lemmas.List.{length-reverse}
-use Rattle.answer_text.specs.Marks.{marked, newest}
-use Rattle.answer_text.specs.declared.notes.Mark.TheVariants as mark
-use Rattle.answer_text.proofs.MarkFacts.{end_of-at, newest-below}
+use Rattle.row_ledger.specs.Past.{end_in}
+use Rattle.answer_text.proofs.MarkFacts.{noted-event, noted-position}
 use Rattle.answer_text.proofs.index.Index.end_of.Goals as goal
 
-pub get-requires : goal.get-requires
-get-requires c =
-    let known : newest (marked mark.End) (reverse c.args.self.now.events.now) c.args.position ≡ Some c.in-Some.end = let fact = c.args.self.now.known.ends.known c.args.position (omega (arith, length-reverse c.args.self.now.events.now)) in grind (arith, common_steps) in
-    let below = newest-below (marked mark.End) (reverse c.args.self.now.events.now) c.args.position c.in-Some.end known in
-    rw (length-reverse c.args.self.now.events.now) at below
+pub event_at-requires : goal.event_at-requires
+event_at-requires c =
+    rw (c.noted_at.ensures, c.deref.ensures.value)
+    (noted-position end_in (reverse c.args.self.now.events.now) c.args.self.now.notes.now.ends.items c.args.position c.args.self.now.known.marks.ends (omega (arith, length-reverse c.args.self.now.events.now)))
 
-pub returns-in-Some : goal.returns-in-Some
-returns-in-Some c =
-    let known : newest (marked mark.End) (reverse c.args.self.now.events.now) c.args.position ≡ Some c.in-Some.end = let fact = c.args.self.now.known.ends.known c.args.position (omega (arith, length-reverse c.args.self.now.events.now)) in grind (arith, common_steps) in
-    rw (← end_of-at (reverse c.args.self.now.events.now) c.args.position, known, c.get.ensures) refl
-
-pub returns-in-None : goal.returns-in-None
-returns-in-None c =
-    let known : newest (marked mark.End) (reverse c.args.self.now.events.now) c.args.position ≡ None = let fact = c.args.self.now.known.ends.known c.args.position (omega (arith, length-reverse c.args.self.now.events.now)) in grind (arith, common_steps) in
-    rw (← end_of-at (reverse c.args.self.now.events.now) c.args.position, known) refl
+pub returns : goal.returns
+returns c =
+    rw (c.event_at.ensures, c.noted_at.ensures, c.deref.ensures.value)
+    (noted-event end_in (reverse c.args.self.now.events.now) c.args.self.now.notes.now.ends.items c.args.position c.args.self.now.known.marks.ends (omega (arith, length-reverse c.args.self.now.events.now)))

@@ -1,17 +1,9 @@
-use Rattle.std.proofs.Common.{◌≡◌, ◌∙◌, length, take, reverse, sym}
-use Rattle.answer_text.specs.declared.notes.Mark.TheVariants as mark
-use Rattle.answer_text.proofs.MarkFacts.{quiet}
+use Rattle.std.proofs.Common.{◌≤◌, length, take, reverse, arith}
+use Rattle.answer_text.proofs.MarkFacts.{marks_further}
 use Rattle.answer_text.proofs.notes.Notes.read.Goals as goal
 
-pub read_marks-requires-clause-quiet : goal.read_marks-requires-clause-quiet
-read_marks-requires-clause-quiet c = quiet mark.End (reverse (take (length c.args.self.now.ends.items) c.args.events.now)) c.requires.refers
-
-pub read_marks-requires-2-clause-quiet : goal.read_marks-requires-2-clause-quiet
-read_marks-requires-2-clause-quiet c =
-    let same : length c.args.self.now.pages.items ≡ length c.args.self.now.ends.items = c.requires.known.pages.positions ∙ sym c.requires.known.ends.positions in
-    rw same (quiet mark.Page (reverse (take (length c.args.self.now.ends.items) c.args.events.now)) c.requires.refers)
-
-pub read_marks-requires-3-clause-quiet : goal.read_marks-requires-3-clause-quiet
-read_marks-requires-3-clause-quiet c =
-    let same : length c.args.self.now.splits.items ≡ length c.args.self.now.ends.items = c.requires.known.splits.positions ∙ sym c.requires.known.ends.positions in
-    rw same (quiet mark.Split (reverse (take (length c.args.self.now.ends.items) c.args.events.now)) c.requires.refers)
+pub loop-i-init : goal.loop-i-init
+loop-i-init c =
+    let past = reverse (take c.args.self.now.seen c.args.events.now) in
+    let low : length past ≤ length c.args.events.now = omega (arith, c.requires.known.seen) in
+    marks_further (length c.args.events.now) c.args.self.now past low c.requires.refers c.requires.known.marks
