@@ -6,11 +6,12 @@ use Rattle.std.proofs.lemmas.List.{append-nil, append_assoc, take_more_set, drop
 use Rattle.std.proofs.lemmas.List.{map-id}
 use Rattle.std.proofs.lemmas.List.FromFn.{map-range_with_len_more}
 use Rattle.std.proofs.lemmas.List.Elements.{All-append, All-cons, All-nil, All-set, all_zip_more}
+use Rattle.std.proofs.lemmas.List.Sorted.{IsPermutation-sym, IsPermutation-to_front, Contains-permutation}
 use Rattle.dim_hierarchy.specs.Dimension.{Dimension}
 use Rattle.dim_hierarchy.specs.Row.{IsCoordOf}
 use Rattle.dim_hierarchy.specs.declared.row.Coord.{Coord}
 use Rattle.describing_set.specs.Ascending.{Below, Ascends}
-use Rattle.describing_set.specs.DescSet.{IsSetOf, IsDescSetOf}
+use Rattle.describing_set.specs.DescSet.{IsSetOf, IsDescSetOf, GrowsBy, AreAmong}
 use Rattle.describing_set.specs.declared.set.DescSet.{DescSet}
 use Rattle.describing_set.specs.declared.listing.Spot.{Spot}
 use Rattle.server_image.specs.declared.image.Growth.{Growth}
@@ -39,17 +40,21 @@ Widens-length h ids by [] (y ∷ ys) w = absurd w
 Widens-length h ids by (x ∷ xs) [] w = absurd w
 Widens-length h ids by (x ∷ xs) (y ∷ ys) w = ap (λ n. suc n) (Widens-length h ids by xs ys w.1)
 
--- one spot more is widened
-pub widens-more : (h : List Dimension) (ids : List ℕ) (by : DescSet) (before now : List Spot) (i : ℕ) (x y : Spot) → i < length now → length now ≡ length before → x ≡ get_or now i x → IsWidened h ids by x y → IsDescSetOf h y.set
-    → Widens h ids by (take i before) (take i now) → drop i now ≡ drop i before → AreBoxes h now
-    → Widens h ids by (take (i + 1) before) (take (i + 1) (set now i y)) × (drop (i + 1) (set now i y) ≡ drop (i + 1) before) × AreBoxes h (set now i y) × (length (set now i y) ≡ length before)
-widens-more h ids by before now i x y lt same is w valid front back boxes =
+-- before a place each spot has become what it should, from there on the spots are as they were, and each box is valid
+abbrev pub AreDone : List Dimension → (Spot → Spot → Type 0) → ℕ → List Spot → List Spot → Type 0
+AreDone h Becomes i before now = AllZip Becomes (take i before) (take i now) × (drop i now ≡ drop i before) × AreBoxes h now × (length now ≡ length before)
+
+-- one spot more becomes what it should
+pub done-more : (h : List Dimension) (Becomes : Spot → Spot → Type 0) (i : ℕ) (before now : List Spot) (x y : Spot) → i < length now → x ≡ get_or now i x → Becomes x y → IsDescSetOf h y.set
+    → AreDone h Becomes i before now → AreDone h Becomes (i + 1) before (set now i y)
+done-more h Becomes i before now x y lt is becomes valid done =
+    let back = done.1 in
     let here : get_or before i x ≡ get_or now i x = at_drop before ∙ sym (ap (λ l. get_or l 0 x) back) ∙ sym (at_drop now) in (
-      subst (Widens h ids by (take (i + 1) before)) (sym (take_more_set now i y lt))
-          (all_zip_more (IsWidened h ids by) before (take i now) i x y (omega (arith, lt, same)) (is ∙ sym here) front w),
+      subst (AllZip Becomes (take (i + 1) before)) (sym (take_more_set now i y lt))
+          (all_zip_more Becomes before (take i now) i x y (omega (arith, lt, done.3)) (is ∙ sym here) done.0 becomes),
       drop-set-lt (i + 1) now i y (omega arith) ∙ drop_more now ∙ ap (drop 1) back ∙ sym (drop_more before),
-      All-set (λ s. IsDescSetOf h s.set) now i y valid boxes,
-      length-set now i y ∙ same,
+      All-set (λ s. IsDescSetOf h s.set) now i y valid done.2,
+      length-set now i y ∙ done.3,
     )
   where
     at_drop : (l : List Spot) → get_or l i x ≡ get_or (drop i l) 0 x
@@ -79,6 +84,18 @@ Widens-Grows h path at by [] [] valid one w = tt
 Widens-Grows h path at by [] (y ∷ ys) valid one w = absurd w
 Widens-Grows h path at by (x ∷ xs) [] valid one w = absurd w
 Widens-Grows h path at by (x ∷ xs) (y ∷ ys) valid one w = (IsWidened-IsGrown h path at by x y valid one w.0, Widens-Grows h path at by xs ys valid one w.1)
+
+-- A box that grows by one coordinate.
+
+-- a set is that of the same coordinates in another order, as the law of sets says it
+abbrev pub SameLaw : List Dimension → Type 0
+SameLaw h = (rows others : List Coord) (set : DescSet) → AreAmong rows others → AreAmong others rows → IsSetOf h rows set → IsSetOf h others set
+
+pub grown-last : (h : List Dimension) (same : SameLaw h) (at : Coord) (old new : DescSet) → GrowsBy h at old new → (rows : List Coord) → All (IsCoordOf h) rows → IsSetOf h rows old → IsSetOf h (rows ++ at ∷ []) new
+grown-last h same at old new grows rows all s =
+    let p = IsPermutation-to_front rows at in
+    same (at ∷ rows) (rows ++ at ∷ []) new (λ x. Contains-permutation (at ∷ rows) (rows ++ at ∷ []) x (IsPermutation-sym (rows ++ at ∷ []) (at ∷ rows) p)) (λ x. Contains-permutation (rows ++ at ∷ []) (at ∷ rows) x p)
+    (grows.grown rows all s)
 
 -- One growth after another.
 

@@ -3,7 +3,7 @@ ghost use Rattle.std.specs.Prelude.{◌≡◌, ◌==◌, ◌+◌, ◌<◌, ◌�
 ghost use Rattle.std.specs.List.{position_or_len, position};
 ghost use Rattle.dim_hierarchy.specs.Row.{IsCoordOf};
 ghost use Rattle.describing_set.specs.DescSet.{IsDescSetOf};
-ghost use Rattle.server_image.specs.Spots.{AreBoxes, is_among, has_spot, place_of, worker_in, with_spot, IsWidened, Widens, along, Grows};
+ghost use Rattle.server_image.specs.Spots.{AreBoxes, is_among, has_spot, place_of, worker_in, with_spot, IsWidened, Widens, IsGrown, along, Grows};
 
 use describing_set::{DescSet, Spot};
 use dim_hierarchy::{Coord, Hierarchy};
@@ -110,6 +110,20 @@ pub fn widen_spots(spots: &mut Vec<Spot>, ids: &[u32], by: &DescSet, h: &Hierarc
     }
 }
 
+/// Grows a spot's box by a coordinate where it has one of these ids. A box that covers the coordinate
+/// is only read.
+fn grow_spot(spot: &mut Spot, ids: &[u32], at: &Coord, h: &Hierarchy)
+    requires box_of { IsDescSetOf h.now spot.old.set }
+    requires at { IsCoordOf h.now at.now }
+    ensures grown { IsGrown h.now (along ids.now at.now spot.old.shard) spot.old spot.new }
+    ensures valid { IsDescSetOf h.now spot.new.set }
+{
+    if is_among(ids, spot.shard) {
+        DescSet::laws(h);
+        spot.set.grow(h, at);
+    }
+}
+
 /// Grows the box of each spot of these ids by a coordinate.
 pub fn grow_spots(spots: &mut Vec<Spot>, ids: &[u32], at: &Coord, h: &Hierarchy)
     requires boxes { AreBoxes h.now spots.old.items }
@@ -117,5 +131,7 @@ pub fn grow_spots(spots: &mut Vec<Spot>, ids: &[u32], at: &Coord, h: &Hierarchy)
     ensures grown { Grows h.now (along ids.now at.now) spots.old.items spots.new.items }
     ensures boxes { AreBoxes h.now spots.new.items }
 {
-    widen_spots(spots, ids, &DescSet::of_coord(h, at), h);
+    for place in 0..spots.len() {
+        grow_spot(&mut spots[place], ids, at, h);
+    }
 }
