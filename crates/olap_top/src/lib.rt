@@ -15,9 +15,15 @@ mod against_flat;
 #[cfg(test)]
 mod by_seed;
 #[cfg(test)]
+mod example_cases;
+#[cfg(test)]
+mod examples;
+#[cfg(test)]
 mod flat;
 #[cfg(test)]
 mod load;
+#[cfg(test)]
+mod parts;
 #[cfg(test)]
 mod shard_tests;
 #[cfg(test)]

@@ -1,4 +1,8 @@
 //! The commands `split`, `move` and `balance`, and what pages and queries tell behind them.
+use crate::Status;
+use crate::parts::Part::{self, Again, Counted, Text};
+use crate::parts::text_of;
+use crate::tests::run_words;
 use crate::tree_tests::{CITIES, LETTERS, expect, printed, push_inserts};
 use std::alloc::{AllocError, Global};
 use std::fmt::Write;
@@ -6,6 +10,7 @@ use std::process::Abort;
 use std::sync::Wait;
 use std::test::Fail;
 use std::thread::Threads;
+use volap_io::MemSink;
 
 /// Three places of one level.
 const PLACES: &str = "dim,geo,1\nconcept,geo,a,*\nconcept,geo,b,*\nconcept,geo,c,*\n";
@@ -50,9 +55,20 @@ fn expect_case<R: Abort + Threads + Wait + Sync>(
     Ok(())
 }
 
+/// A row in each of two cities, a split that parts them, and queries behind it.
+const PARTED: &str = "insert,0,5,berlin\ninsert,0,7,munich\nsplit,0\nquery,0,*\nquery,0,munich\n";
+
 #[test]
 fn splits_and_what_they_leave(rt: HostRuntime) -> Result<(), Fail> {
-    const CASES: [Case; 7] = [
+    const CASES: [Case; 9] = [
+        (
+            "1,1,1,256",
+            CITIES,
+            &[],
+            0,
+            PARTED,
+            "1 insert ok\n2 insert ok\n3 split ok 1 2\n4 query 2 12 5 7\n5 query 1 7 7 7\n",
+        ),
         (
             "1,1,1,256",
             CITIES,
@@ -87,6 +103,14 @@ fn splits_and_what_they_leave(rt: HostRuntime) -> Result<(), Fail> {
             "split,0\nquery,0,a|g\n",
             "8 split declined oneplace\n9 query 2 2 1 1\n",
         ),
+        (
+            "1,1,1,256",
+            LETTERS,
+            &[],
+            0,
+            "insert,0,1,a\ninsert,0,2,b\ninsert,0,3,c\ninsert,0,4,d\ninsert,0,5,e\ninsert,0,6,f\ninsert,0,7,g\nsplit,0\n",
+            "1 insert ok\n2 insert ok\n3 insert ok\n4 insert ok\n5 insert ok\n6 insert ok\n7 insert ok\n8 split declined oneplace\n",
+        ),
         // A shard that was split is none, and its children can be split until one place is left.
         (
             "1,1,1,256",
@@ -119,6 +143,58 @@ fn splits_and_what_they_leave(rt: HostRuntime) -> Result<(), Fail> {
         expect_case(&rt, rt.alloc(), case)?;
     }
     Ok(())
+}
+
+/// What that script prints, where this is said of its split.
+fn parted(alloc: Global, said: &str) -> Result<String, AllocError> {
+    format!(in alloc;
+        "1 insert ok\n2 insert ok\n3 split {said}\n4 query 2 12 5 7\n5 query 1 7 7 7\n"
+    )
+}
+
+/// Runs a script by a seed. It prints one of two texts.
+fn expect_one_of<R: Abort + Threads + Wait + Sync>(
+    rt: &R,
+    alloc: Global,
+    script: &str,
+    seed: u64,
+    texts: [&str; 2],
+) -> Result<(), Fail> {
+    let seed = format!(in alloc; "{seed}")?;
+    let list = ["step", "--seed", seed.as_str()];
+    let mut sink = MemSink::new(alloc, 1000, Vec::new(alloc), 4096)?;
+    let outcome = run_words(rt, alloc, &list, script, &mut sink)?;
+    assert_eq!(rt; outcome.status, Status::Done);
+    let [first, second] = texts;
+    assert!(rt; sink.taken() == first.as_bytes() || sink.taken() == second.as_bytes());
+    Ok(())
+}
+
+/// Runs a script by the seeds 0 to 9. Each time it prints one of two texts.
+fn expect_by_seeds<R: Abort + Threads + Wait + Sync>(
+    rt: &R,
+    alloc: Global,
+    script: &str,
+    texts: [&str; 2],
+) -> Result<(), Fail> {
+    for seed in 0..10u64 {
+        expect_one_of(rt, alloc, script, seed, texts)?;
+    }
+    Ok(())
+}
+
+// A seed may draw the split before the second row has come, and then there is one place at most. The
+// queries stand behind both rows in the session of their server, so they count them whatever is drawn.
+#[test]
+fn a_split_by_seeds_is_done_or_finds_one_place_and_no_query_misses_a_row(
+    rt: HostRuntime,
+) -> Result<(), Fail> {
+    let alloc = rt.alloc();
+    let script = script(alloc, "1,1,1,256", CITIES, &[], 0, PARTED)?;
+    let done = parted(alloc, "ok 1 2")?;
+    let declined = parted(alloc, "declined oneplace")?;
+    let texts = [done.as_str(), declined.as_str()];
+    expect_by_seeds(&rt, alloc, script.as_str(), texts)
 }
 
 #[test]
@@ -162,6 +238,23 @@ fn moves_and_what_they_leave(rt: HostRuntime) -> Result<(), Fail> {
     for case in &CASES {
         expect_case(&rt, rt.alloc(), case)?;
     }
+    Ok(())
+}
+
+// Each takes a cell for the new gate and one for its leaf, and of 64 the first shard has two.
+#[test]
+fn moves_to_its_own_worker_until_no_cells_are_left(rt: HostRuntime) -> Result<(), Fail> {
+    const MOVES: [Part; 2] = [Text("insert,0,5,berlin\n"), Again(32, "move,0,0\n")];
+    const LINES: [Part; 3] = [
+        Text("1 insert ok\n"),
+        Counted(2, 32, " move ok\n"),
+        Text("33 move declined nocell 2 0\n"),
+    ];
+    let alloc = rt.alloc();
+    let moves = text_of(alloc, &MOVES)?;
+    let script = script(alloc, "1,1,1,64", CITIES, &[], 0, moves.as_str())?;
+    let wanted = text_of(alloc, &LINES)?;
+    let _outcome = expect(&rt, alloc, script.as_str(), wanted.as_str())?;
     Ok(())
 }
 

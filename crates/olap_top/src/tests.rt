@@ -42,6 +42,19 @@ pub(crate) fn step<R: Threads + Wait + Sync>(
     Ok(olap(rt, alloc, words.as_slice(), source, sink, &Quiet))
 }
 
+/// Runs a text as these words ask, into a sink.
+pub(crate) fn run_words<R: Threads + Wait + Sync>(
+    rt: &R,
+    alloc: Global,
+    list: &[&str],
+    text: &str,
+    sink: &mut MemSink,
+) -> Result<Outcome, AllocError> {
+    let words = words(alloc, list)?;
+    let mut source = MemSource::new(text.as_bytes().to_vec(alloc)?, Vec::new(alloc), 4096);
+    Ok(olap(rt, alloc, words.as_slice(), &mut source, sink, &Quiet))
+}
+
 /// Runs a text as these words ask, and compares.
 fn expect_words<R: Abort + Threads + Wait + Sync>(
     rt: &R,
@@ -50,10 +63,8 @@ fn expect_words<R: Abort + Threads + Wait + Sync>(
     text: &str,
     printed: &str,
 ) -> Result<(), Fail> {
-    let words = words(alloc, list)?;
-    let mut source = MemSource::new(text.as_bytes().to_vec(alloc)?, Vec::new(alloc), 4096);
     let mut sink = MemSink::new(alloc, 1000, Vec::new(alloc), 4096)?;
-    let outcome = olap(rt, alloc, words.as_slice(), &mut source, &mut sink, &Quiet);
+    let outcome = run_words(rt, alloc, list, text, &mut sink)?;
     assert_eq!(rt; outcome.status, Status::Done);
     assert!(rt; outcome.rest.is_some());
     assert_eq!(rt; sink.taken(), printed.as_bytes());
