@@ -197,6 +197,23 @@ fn a_split_by_seeds_is_done_or_finds_one_place_and_no_query_misses_a_row(
     expect_by_seeds(&rt, alloc, script.as_str(), texts)
 }
 
+/// The same with a barrier before the split, and what that prints.
+const PARTED_BEHIND: &str =
+    "insert,0,5,berlin\ninsert,0,7,munich\nbarrier\nsplit,0\nquery,0,*\nquery,0,munich\n";
+
+const PARTED_BEHIND_LINES: &str =
+    "1 insert ok\n2 insert ok\n3 barrier ok\n4 split ok 1 2\n5 query 2 12 5 7\n6 query 1 7 7 7\n";
+
+#[test]
+fn a_split_by_seeds_behind_a_barrier_is_done_and_no_query_misses_a_row(
+    rt: HostRuntime,
+) -> Result<(), Fail> {
+    let alloc = rt.alloc();
+    let script = script(alloc, "1,1,1,256", CITIES, &[], 0, PARTED_BEHIND)?;
+    let texts = [PARTED_BEHIND_LINES; 2];
+    expect_by_seeds(&rt, alloc, script.as_str(), texts)
+}
+
 #[test]
 fn moves_and_what_they_leave(rt: HostRuntime) -> Result<(), Fail> {
     const CASES: [Case; 4] = [
