@@ -21,7 +21,7 @@ abbrev pub shown : Event → Option Page
 shown (Shown of page) = Some page
 shown _ = None
 
--- whether this is the position
+-- whether this is the number
 abbrev pub is_at : ℕ → Option ℕ → Bool
 is_at p place = option_map_or (λ of. of == p) place false
 
@@ -44,12 +44,12 @@ pub record KnowsNewest (marks : Event → Option ℕ) (n : ℕ) (noted : List (O
   pub few : length noted ≤ n
   pub known : (p : ℕ) → p < n → slice_index_or noted p None ≡ newest marks past p
 
--- the beginnings with one of a session more, at a position, where there is one
+-- the beginnings as before, and where a session is given this position behind its own
 pub record HasBegin (session : Option ℕ) (position : ℕ) (old new : List (List ℕ)) : Type 0 where
   pub len : length new ≡ length old
   pub begun : (s : ℕ) → s < length old → slice_index_or new s [] ≡ (if is_at s session then slice_index_or old s [] ++ position ∷ [] else slice_index_or old s [])
 
--- the marks of the first n positions with one of a command more, at a position, where there is one
+-- the marks of the first n positions as before, and where a command is given this position for its own
 pub record HasMark (n : ℕ) (of : Option ℕ) (position : ℕ) (old new : List (Option ℕ)) : Type 0 where
   pub few : length new ≤ n
   pub noted : (p : ℕ) → p < n → slice_index_or new p None ≡ (if is_at p of then Some position else slice_index_or old p None)
