@@ -1,9 +1,10 @@
+//! What is said of a command: how it ended, or what was asked for.
 use measure_agg::Agg;
 use row_ledger::{Call, Decline, Event, How};
 use script_form::Command;
 use std::fmt;
 
-// A number, or a dash for none.
+/// A number, or a dash for none.
 #[derive(Drop)]
 struct OrDash(Option<i64>);
 
@@ -41,7 +42,7 @@ impl fmt::Display for Total {
     }
 }
 
-// Why a command is declined.
+/// Why a command is declined.
 #[derive(Drop)]
 struct Why(Decline);
 
@@ -87,7 +88,7 @@ impl Answer {
     ghost use Rattle.answer_text.specs.Answer.{said};
     ghost use Rattle.answer_text.specs.Printed.{answer_text, end_text, fine_text, how_text, starved_call_text, starved_text};
 
-    // What is said of a called command that found no memory.
+    /// What is said of a called command that found no memory.
     fn of_starved_call(call: &Call) -> Answer
         ensures { said result ≡ starved_call_text call.now }
     {
@@ -107,7 +108,7 @@ impl Answer {
         }
     }
 
-    // What is said of a called command that did what it was to do.
+    /// What is said of a called command that did what it was to do.
     fn of_fine(call: &Call, split: Option<&Event>) -> Answer
         ensures { said result ≡ fine_text call.now (option_copied split.entry) }
     {
@@ -120,7 +121,7 @@ impl Answer {
         }
     }
 
-    // What is said of a called command by how it ended.
+    /// What is said of a called command by how it ended.
     fn of_how(call: &Call, split: Option<&Event>, how: How) -> Answer
         ensures { said result ≡ how_text call.now (option_copied split.entry) how }
     {
@@ -133,7 +134,7 @@ impl Answer {
         }
     }
 
-    // What is said of a command by how it ended; only a called one ends so.
+    /// What is said of a command by how it ended; only a called one ends so.
     fn of_end(command: &Command, split: Option<&Event>, how: How) -> Answer
         ensures { said result ≡ end_text command.now (option_copied split.entry) how }
     {

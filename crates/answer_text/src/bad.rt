@@ -1,3 +1,4 @@
+//! The line that tells the first bad record of a text.
 use script_form::Cause;
 use std::fmt;
 
@@ -8,7 +9,7 @@ pub struct BadLine {
     pub cause: Cause,
 }
 
-// The word of a cause.
+/// The word of a cause.
 #[derive(Drop)]
 struct CauseWord(Cause);
 

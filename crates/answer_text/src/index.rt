@@ -10,7 +10,7 @@ use crate::notes::{Notes, noted_at};
 use row_ledger::{Event, Page};
 use script_form::Command;
 
-// The page that an event shows.
+/// The page that an event shows.
 fn shown(event: &Event) -> Option<&Page>
     ensures { option_copied result ≡ shown event.now }
 {
@@ -20,7 +20,7 @@ fn shown(event: &Event) -> Option<&Page>
     }
 }
 
-// Whether the event that begins a command is its end too.
+/// Whether the event that begins a command is its end too.
 fn ends_itself(event: &Event) -> bool
     ensures { result ≡ ends_itself event.now }
 {
@@ -51,7 +51,7 @@ impl<'a> Index<'a> {
         Index { events, notes }
     }
 
-    // The event at a position.
+    /// The event at a position.
     fn get(&self, position: u32) -> &Event
         requires { position < length self.now.events.now }
         ensures { event_at (reverse self.now.events.now) position ≡ Some result.now }
@@ -78,7 +78,7 @@ impl<'a> Index<'a> {
         self.notes.begins[session].as_slice().get(number).copied()
     }
 
-    // Whether the command that began at a position has its end.
+    /// Whether the command that began at a position has its end.
     fn is_over(&self, position: u32) -> bool
         requires { position < length self.now.events.now }
         ensures { result ≡ is_over (reverse self.now.events.now) position }
@@ -97,7 +97,7 @@ impl<'a> Index<'a> {
         }
     }
 
-    // The event that ends the command begun at a position.
+    /// The event that ends the command begun at a position.
     fn end_of(&self, position: u32) -> Option<&Event>
         requires { position < length self.now.events.now }
         ensures { option_copied result ≡ end_of (reverse self.now.events.now) position }
@@ -105,7 +105,7 @@ impl<'a> Index<'a> {
         self.event_at(noted_at(&self.notes.ends, position))
     }
 
-    // The newest event that splits a shard for the command begun at a position.
+    /// The newest event that splits a shard for the command begun at a position.
     fn split_of(&self, position: u32) -> Option<&Event>
         requires { position < length self.now.events.now }
         ensures { option_copied result ≡ split_of (reverse self.now.events.now) position }
@@ -140,7 +140,7 @@ impl<'a> Index<'a> {
         }
     }
 
-    // The page that was shown for the command begun at a position.
+    /// The page that was shown for the command begun at a position.
     fn page_of(&self, position: u32) -> Option<&Page>
         requires { position < length self.now.events.now }
         ensures { option_copied result ≡ page_of (reverse self.now.events.now) position }

@@ -1,3 +1,4 @@
+//! A line of the output.
 ghost use Rattle.std.specs.Prelude.{◌≡◌, ◌++◌, OnOk, string_bytes};
 ghost use Rattle.answer_text.specs.Answer.{said, spelled};
 ghost use Rattle.answer_text.specs.Printed.{line};
@@ -29,7 +30,7 @@ impl Word {
     ghost use Rattle.answer_text.specs.Answer.{spelled};
     ghost use Rattle.answer_text.specs.Printed.{call_word, word_of};
 
-    // The word of a called command.
+    /// The word of a called command.
     fn of_call(call: &Call) -> Word
         ensures { spelled result ≡ call_word call.now }
     {

@@ -21,7 +21,7 @@ pub(crate) type Positions = Items<u32>;
 /// the list stands no mark.
 pub(crate) type Marks = Vec<Option<u32>>;
 
-// No beginning, for each session.
+/// No beginning, for each session.
 fn no_begins(alloc: Global) -> Result<Vec<Positions>, AllocError>
     ensures len { IfOk result (λ v. length v.items ≡ sessions) }
     ensures none { IfOk result (λ v. (s : ℕ) → s < sessions → slice_index_or v.items s [] ≡ []) }
@@ -33,7 +33,7 @@ fn no_begins(alloc: Global) -> Result<Vec<Positions>, AllocError>
     Ok(begins)
 }
 
-// Adds a beginning of a session; those of sessions that no command has are left out.
+/// Adds a beginning of a session; those of sessions that no command has are left out.
 fn add_begin(begins: &mut Vec<Positions>, session: u16, position: u32) -> Result<(), AllocError>
     ensures { OnOk result (HasBegin (Some session) position begins.old.items begins.new.items) }
 {
@@ -43,7 +43,7 @@ fn add_begin(begins: &mut Vec<Positions>, session: u16, position: u32) -> Result
     Ok(())
 }
 
-// No mark, for each position up to an end.
+/// No mark, for each position up to an end.
 fn extend(noted: &mut Marks, len: usize) -> Result<(), AllocError>
     requires { length noted.old.items ≤ len }
     ensures len { OnOk result (length noted.new.items ≡ len) }
@@ -55,8 +55,8 @@ fn extend(noted: &mut Marks, len: usize) -> Result<(), AllocError>
     Ok(())
 }
 
-// Notes for a command that the event at a position marks it; where a history of this length has no
-// such command, it is left out.
+/// Notes for a command that the event at a position marks it; where a history of this length has no
+/// such command, it is left out.
 fn add_mark(noted: &mut Marks, of: u64, position: u32, len: usize) -> Result<(), AllocError>
     requires { length noted.old.items ≤ len }
     ensures { OnOk result (HasMark len (Some of) position noted.old.items noted.new.items) }
@@ -117,7 +117,7 @@ impl Notes {
         })
     }
 
-    // Notes an event at a position of a history of this length.
+    /// Notes an event at a position of a history of this length.
     fn note(&mut self, event: &Event, position: u32, len: usize) -> Result<(), AllocError>
         requires ends { length self.old.ends.items ≤ len }
         requires pages { length self.old.pages.items ≤ len }
@@ -143,8 +143,8 @@ impl Notes {
         }
     }
 
-    // Reads the event at a position, behind those before it. A position of more than 32 bits finds no
-    // memory.
+    /// Reads the event at a position, behind those before it. A position of more than 32 bits finds no
+    /// memory.
     fn read_at(&mut self, events: &[Event], i: usize) -> Result<(), AllocError>
         requires within { i < length events.now }
         requires known { KnowsMarks (length events.now) self.old (reverse (take i events.now)) }

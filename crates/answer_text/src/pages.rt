@@ -10,7 +10,7 @@ use row_ledger::{AuditLine, NodeLine, Page, ShardLine, TreePage};
 use std::alloc::AllocError;
 use std::fmt::{self, Write};
 
-// The numbers of concepts within their level, joined by `+`.
+/// The numbers of concepts within their level, joined by `+`.
 #[derive(Drop)]
 struct Numbers<'a>(&'a [ConceptId]);
 
@@ -33,7 +33,7 @@ impl fmt::Display for Numbers<'_> {
     }
 }
 
-// One dimension of a set: its level and the numbers of its concepts.
+/// One dimension of a set: its level and the numbers of its concepts.
 #[derive(Drop)]
 struct PartText<'a>(&'a Part);
 
@@ -50,7 +50,7 @@ impl fmt::Display for PartText<'_> {
     }
 }
 
-// A set: its dimensions, joined by `/`.
+/// A set: its dimensions, joined by `/`.
 #[derive(Drop)]
 struct BoxText<'a>(&'a DescSet);
 
@@ -73,7 +73,7 @@ impl fmt::Display for BoxText<'_> {
     }
 }
 
-// The word of a group's kind.
+/// The word of a group's kind.
 #[derive(Drop)]
 struct KindWord {
     leaf: bool,
@@ -94,7 +94,7 @@ impl fmt::Display for KindWord {
     }
 }
 
-// What is said of a group of a tree.
+/// What is said of a group of a tree.
 #[derive(Drop)]
 struct NodeText<'a>(&'a NodeLine);
 
@@ -116,7 +116,7 @@ impl fmt::Display for NodeText<'_> {
     }
 }
 
-// What is said of a tree.
+/// What is said of a tree.
 #[derive(Drop)]
 struct TreeText<'a>(&'a TreePage);
 
@@ -136,7 +136,7 @@ impl fmt::Display for TreeText<'_> {
     }
 }
 
-// What is said of a shard.
+/// What is said of a shard.
 #[derive(Drop)]
 struct ShardText<'a>(&'a ShardLine);
 
@@ -160,7 +160,7 @@ impl fmt::Display for ShardText<'_> {
     }
 }
 
-// What is said of all rows.
+/// What is said of all rows.
 #[derive(Drop)]
 struct AuditText<'a>(&'a AuditLine);
 
@@ -177,7 +177,7 @@ impl fmt::Display for AuditText<'_> {
     }
 }
 
-// Adds the line of a group.
+/// Adds the line of a group.
 fn push_node(text: &mut String, number: u64, node: &NodeLine) -> Result<(), AllocError>
     ensures { OnOk result (string_bytes text.new ≡ string_bytes text.old ++ line number (codes "node") (node_said node.now)) }
 {
@@ -185,7 +185,7 @@ fn push_node(text: &mut String, number: u64, node: &NodeLine) -> Result<(), Allo
     writeln!(text, "{number} node {said}")
 }
 
-// Adds the line of a tree.
+/// Adds the line of a tree.
 fn push_head(text: &mut String, number: u64, tree: &TreePage) -> Result<(), AllocError>
     ensures { OnOk result (string_bytes text.new ≡ string_bytes text.old ++ line number (codes "tree") (tree_said tree.now)) }
 {
@@ -193,7 +193,7 @@ fn push_head(text: &mut String, number: u64, tree: &TreePage) -> Result<(), Allo
     writeln!(text, "{number} tree {said}")
 }
 
-// Adds the lines of groups.
+/// Adds the lines of groups.
 fn push_nodes(text: &mut String, number: u64, nodes: &[NodeLine]) -> Result<(), AllocError>
     ensures { OnOk result (string_bytes text.new ≡ string_bytes text.old ++ flat_map (λ node. line number (codes "node") (node_said node)) nodes.now) }
 {
@@ -203,7 +203,7 @@ fn push_nodes(text: &mut String, number: u64, nodes: &[NodeLine]) -> Result<(), 
     Ok(())
 }
 
-// Adds the line of a shard.
+/// Adds the line of a shard.
 fn push_shard(text: &mut String, number: u64, shard: &ShardLine) -> Result<(), AllocError>
     ensures { OnOk result (string_bytes text.new ≡ string_bytes text.old ++ line number (codes "shard") (shard_said shard.now)) }
 {
@@ -211,7 +211,7 @@ fn push_shard(text: &mut String, number: u64, shard: &ShardLine) -> Result<(), A
     writeln!(text, "{number} shard {said}")
 }
 
-// Adds the lines of shards.
+/// Adds the lines of shards.
 fn push_shards(text: &mut String, number: u64, shards: &[ShardLine]) -> Result<(), AllocError>
     ensures { OnOk result (string_bytes text.new ≡ string_bytes text.old ++ flat_map (λ shard. line number (codes "shard") (shard_said shard)) shards.now) }
 {
@@ -221,7 +221,7 @@ fn push_shards(text: &mut String, number: u64, shards: &[ShardLine]) -> Result<(
     Ok(())
 }
 
-// Adds the line of an audit.
+/// Adds the line of an audit.
 fn push_audit(text: &mut String, number: u64, audit: &AuditLine) -> Result<(), AllocError>
     ensures { OnOk result (string_bytes text.new ≡ string_bytes text.old ++ line number (codes "audit") (audit_said audit.now)) }
 {

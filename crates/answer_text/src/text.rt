@@ -39,7 +39,7 @@ pub(crate) fn places(
     Ok(places)
 }
 
-// Whether all commands that begin at these places have begun and have their ends.
+/// Whether all commands that begin at these places have begun and have their ends.
 fn are_over(index: &Index, places: &[Option<u32>]) -> bool
     requires { All (IsPosition (reverse index.now.events.now)) places.now }
     ensures { result ≡ are_over (reverse index.now.events.now) places.now }
@@ -52,7 +52,7 @@ fn are_over(index: &Index, places: &[Option<u32>]) -> bool
     true
 }
 
-// Adds what is told of a command that began at a place: its page, or one line.
+/// Adds what is told of a command that began at a place: its page, or one line.
 fn push_text(
     text: &mut String,
     number: u64,
@@ -80,7 +80,7 @@ fn push_text(
     }
 }
 
-// Adds the lines of commands that begin at these places, numbered from `first`.
+/// Adds the lines of commands that begin at these places, numbered from `first`.
 fn push_lines(
     text: &mut String,
     first: u64,
@@ -100,7 +100,7 @@ fn push_lines(
     Ok(())
 }
 
-// Adds the lines of a phase, or nothing where one of its commands has no end.
+/// Adds the lines of a phase, or nothing where one of its commands has no end.
 fn push_phase(
     text: &mut String,
     first: u64,
@@ -119,7 +119,7 @@ fn push_phase(
     Ok(())
 }
 
-// Where the phase ends that begins at a place.
+/// Where the phase ends that begins at a place.
 fn phase_end(commands: &[Command], start: usize) -> usize
     requires { start < length commands.now }
     ensures some { start < result }
@@ -155,8 +155,8 @@ impl Teller {
         })
     }
 
-    // Adds the text of the next phase, whose last command is the last of these; the history was read
-    // to its end.
+    /// Adds the text of the next phase, whose last command is the last of these; the history was read
+    /// to its end.
     fn push_next(
         &mut self,
         alloc: Global,
@@ -199,7 +199,7 @@ impl Teller {
         Ok(text.into_bytes())
     }
 
-    // Reads a whole history, and tells nothing so far.
+    /// Reads a whole history, and tells nothing so far.
     fn of(alloc: Global, with: &Use, events: &[Event]) -> Result<Teller, AllocError>
         ensures told { IfOk result (λ teller. teller.told ≡ 0) }
         ensures read { IfOk result (λ teller. HasTold with.now [] (reverse events.now) teller) }

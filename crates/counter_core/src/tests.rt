@@ -56,7 +56,7 @@ fn two_threads_keep_the_sum(rt: HostRuntime) -> Result<(), Fail> {
     Ok(())
 }
 
-// A second seat gets each free cell, and at a held one it reads the word of its holder.
+/// A second seat gets each free cell, and at a held one it reads the word of its holder.
 #[test]
 fn a_held_cell_is_busy_and_others_are_free(rt: HostRuntime) -> Result<(), Fail> {
     let cells = vec![in rt.alloc(); 10u64, 10, 10]?;

@@ -1,5 +1,5 @@
-// The scripts of the folder examples/, each with its answer. They stand in a source, as a test starts in an
-// empty folder and no source can take in a file.
+//! The scripts of the folder examples/, each with its answer. They stand in a source, as a test starts in an
+//! empty folder and no source can take in a file.
 use crate::Status;
 use crate::example_cases::{COUNT, example};
 use crate::parts::{Part, text_of};

@@ -1,4 +1,4 @@
-// Long texts for tests, of which lines that are alike are written once.
+//! Long texts for tests, of which lines that are alike are written once.
 use std::alloc::{AllocError, Global};
 use std::fmt::Write;
 

@@ -183,8 +183,8 @@ fn expect_by_seeds<R: Abort + Threads + Wait + Sync>(
     Ok(())
 }
 
-// A seed may draw the split before the second row has come, and then there is one place at most. The
-// queries stand behind both rows in the session of their server, so they count them whatever is drawn.
+/// A seed may draw the split before the second row has come, and then there is one place at most. The
+/// queries stand behind both rows in the session of their server, so they count them whatever is drawn.
 #[test]
 fn a_split_by_seeds_is_done_or_finds_one_place_and_no_query_misses_a_row(
     rt: HostRuntime,
@@ -258,7 +258,7 @@ fn moves_and_what_they_leave(rt: HostRuntime) -> Result<(), Fail> {
     Ok(())
 }
 
-// Each takes a cell for the new gate and one for its leaf, and of 64 the first shard has two.
+/// Each takes a cell for the new gate and one for its leaf, and of 64 the first shard has two.
 #[test]
 fn moves_to_its_own_worker_until_no_cells_are_left(rt: HostRuntime) -> Result<(), Fail> {
     const MOVES: [Part; 2] = [Text("insert,0,5,berlin\n"), Again(32, "move,0,0\n")];

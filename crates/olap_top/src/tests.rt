@@ -224,7 +224,7 @@ fn a_script_by_seeds(rt: HostRuntime) -> Result<(), Fail> {
     Ok(())
 }
 
-// What is a bad record and what is its first cause is tested where scripts are read; here stands what is printed of it.
+/// What is a bad record and what is its first cause is tested where scripts are read; here stands what is printed of it.
 #[test]
 fn bad_scripts_and_their_causes(rt: HostRuntime) -> Result<(), Fail> {
     let alloc = rt.alloc();
