@@ -1,6 +1,6 @@
 -- What the tests of a set against a filter say of the coordinates that the set covers.
 use Rattle.std.proofs.Common.{ℕ, ◌≡◌, ◌≢◌, ◌+◌, ◌-◌, ◌<◌, ◌≤◌, Bool, true, false, nat_lt, List, [], ◌∷◌, length, get_or, refl, sym, ap, subst, ◌∙◌, arith, inl, inr, Contains, ◌||◌, ◌⊎◌}
-use Rattle.std.specs.Prelude.{All as Each, Any, ◌↔◌, IsTrue, ◌&&◌}
+use Rattle.std.specs.Prelude.{All as Each, Any, ◌↔◌, IsTrue, ◌&&◌, if◌then◌else◌}
 use Rattle.std.specs.List.{list_any, list_all}
 use Rattle.std.proofs.lemmas.Bool.{and_parts, and_from, cases_lt, false≢true, lt-ltb, ltb-true}
 use Rattle.std.proofs.lemmas.List.Folds.{Any-from_list_any, list_any-from_Any}
@@ -16,11 +16,14 @@ use Rattle.dim_hierarchy.proofs.Ancestors.{climb-climb, IsUnder-trans, under_up,
 use Rattle.dim_hierarchy.proofs.Matching.{is_picked-IsPicked}
 use Rattle.describing_set.specs.declared.part.Part.{Part}
 use Rattle.describing_set.specs.declared.set.DescSet.{DescSet}
-use Rattle.describing_set.specs.DescSet.{part_at, IsDescSetOf, Covers}
+use Rattle.describing_set.specs.declared.bearing.Bearing.{Bearing}
+use Rattle.describing_set.specs.declared.bearing.Bearing.TheVariants as it
+use Rattle.describing_set.specs.DescSet.{part_at, IsDescSetOf, Covers, in_each}
 use Rattle.dim_hierarchy.specs.Compiled.{is_related}
-use Rattle.describing_set.specs.Filter.{IsInside, is_part_inside, is_inside, AreRelated, are_related, IsMet, is_met, is_part_met, Overlaps, overlaps}
-use Rattle.describing_set.proofs.Covering.{in_each-from, in_each-at}
+use Rattle.describing_set.specs.Filter.{IsInside, is_part_inside, is_inside, AreRelated, are_related, IsMet, is_met, is_part_met, Overlaps, overlaps, IsMetFrom, IsBearing, bearing}
+use Rattle.describing_set.proofs.Covering.{test_at, in_each-from, in_each-at, in_each-fails, IsSetOf-Covers}
 use Rattle.describing_set.proofs.Sets.{part_at-IsPart, IsPart-concepts}
+use Rattle.describing_set.proofs.Laws.{IsSetOf-Describes}
 
 -- Inside.
 
@@ -179,3 +182,60 @@ related_met t (Ids tops) part = some part.ids.items
     some : (ids : List ℕ) → list_any (is_related t (Ids tops)) ids ≡ (nat_lt 0 (length ids) && list_any (λ id. list_any (are_related t id) tops) ids)
     some [] = refl
     some (x ∷ xs) = rw (lt-ltb 0 (length (x ∷ xs)) (omega arith)) (again (x ∷ xs))
+
+-- From one dimension on, and both tests in one answer.
+
+-- each part of a set has a concept where one has
+some_each : (h : List Dimension) (set : DescSet) (j k : ℕ) → IsDescSetOf h set → j < length h → k < length h → (part_at set j).ids.items ≢ [] → (part_at set k).ids.items ≢ []
+some_each h set j k s lj lk some = by_one (part_at set j).ids.items some (λ x here.
+    let below = (IsSetOf-Describes h s.rows set s.hierarchy s.valid s.set_of).beneath j x lj here in
+    let covered = IsSetOf-Covers h s.rows set below.1 s.set_of (below.0, below.2, below.3) in
+    not_nil (part_at set k).ids.items (up (tree h k) (concept_at below.1 k) (part_at set k).level) (covered.ancestor k lk))
+  where
+    by_one : (xs : List ℕ) → xs ≢ [] → ((x : ℕ) → Contains xs x → (part_at set k).ids.items ≢ []) → (part_at set k).ids.items ≢ []
+    by_one [] n f = absurd (n refl)
+    by_one (x ∷ xs) n f = f x (0, omega arith, refl)
+
+-- concepts that are picked are met, where there is one
+picked_met : (t : Tree) (pick : Pick) (ids : List ℕ) → ids ≢ [] → list_all (is_picked t pick) ids ≡ true → (nat_lt 0 (length ids) && is_met t ids pick) ≡ true
+picked_met t pick [] n e = absurd (n refl)
+picked_met t All (x ∷ xs) n e = and_from (nat_lt 0 (length (x ∷ xs))) true (lt-ltb 0 (length (x ∷ xs)) (omega arith)) refl
+picked_met t (Ids tops) (x ∷ xs) n e =
+    let here : list_any (is_under t x) tops ≡ true = (and_parts (is_picked t (Ids tops) x) (list_all (is_picked t (Ids tops)) xs) e).0 in
+    and_from (nat_lt 0 (length (x ∷ xs))) (is_met t (x ∷ xs) (Ids tops)) (lt-ltb 0 (length (x ∷ xs)) (omega arith)) (rw (any_or (is_under t x) (λ top. is_under t top x) tops, here) refl)
+
+met_from-in_each : (h : List Dimension) (set : DescSet) (f : List Pick) (first : ℕ) → IsDescSetOf h set → IsFilterOf h f → ((k : ℕ) → k < first → test_at is_part_met h set.parts.items f All k ≡ true) → IsMetFrom h set f first ↔ IsTrue (in_each is_part_met h set.parts.items f)
+met_from-in_each h set f first s v before = (
+  λ m. in_each-from is_part_met h set.parts.items f All s.set_of.count (let n = v.count in omega arith) (λ dim lt. elim (cases_lt dim first) [ inl less ↦ before dim less | inr le ↦ m.met dim le lt ]),
+  λ b. record { met = λ dim le lt. in_each-at is_part_met h set.parts.items f All b dim lt },
+)
+
+same_test : (a b : Bool) → IsTrue a ↔ IsTrue b → a ≡ b
+same_test true b m = sym (m.0 refl)
+same_test false true m = m.1 refl
+same_test false false m = refl
+
+-- the test from one dimension on is that of all, where those before pass it
+pub met_from-overlaps : (h : List Dimension) (set : DescSet) (f : List Pick) (first : ℕ) (met : Bool) → IsDescSetOf h set → IsFilterOf h f → first < length h → ((k : ℕ) → k < first → test_at is_part_met h set.parts.items f All k ≡ true) → IsTrue met ↔ IsMetFrom h set f first → met ≡ overlaps h set f
+met_from-overlaps h set f first met s v lt before m =
+    let each = met_from-in_each h set f first s v before in
+    rw (lt-ltb 0 (length h) (omega arith)) (same_test met (in_each is_part_met h set.parts.items f) (λ e. each.0 (m.0 e), λ e. m.1 (each.1 e)))
+
+-- A set that is inside the filter before a dimension, and not in this one, is not inside, and overlaps where it is met
+-- from there on.
+pub left_bearing : (h : List Dimension) (set : DescSet) (f : List Pick) (dim : ℕ) (met : Bool) → IsDescSetOf h set → IsFilterOf h f → dim < length h → ((k : ℕ) → k < dim → test_at is_part_inside h set.parts.items f All k ≡ true) → test_at is_part_inside h set.parts.items f All dim ≡ false → IsTrue met ↔ IsMetFrom h set f dim → (if met then it.Overlaps else it.Apart) ≡ bearing h set f
+left_bearing h set f dim met s v lt before here m =
+    let some : (part_at set dim).ids.items ≢ [] = λ e. false≢true (sym here ∙ ap (list_all (is_picked (tree h dim) (pick_at f dim))) e) in
+    let met_before : (k : ℕ) → k < dim → test_at is_part_met h set.parts.items f All k ≡ true =
+    λ k less. picked_met (tree h k) (pick_at f k) (part_at set k).ids.items (some_each h set dim k s lt (omega (arith, less, lt)) some) (before k less) in
+    let inside : is_inside h set f ≡ false = sym (in_each-fails is_part_inside h set.parts.items f All dim lt here) in
+    rw (inside, sym (met_from-overlaps h set f dim met s v lt met_before m)) refl
+
+-- what the answer means
+pub bearing-IsBearing : (h : List Dimension) (set : DescSet) (f : List Pick) (r : Bearing) → IsDescSetOf h set → IsFilterOf h f → r ≡ bearing h set f → IsBearing h set f r
+bearing-IsBearing h set f r s v e = subst (IsBearing h set f) (sym e) (by_tests (is_inside h set f) (overlaps h set f) (is_inside-IsInside h set f s v) (overlaps-Overlaps h set f s v))
+  where
+    by_tests : (a b : Bool) → IsTrue a ↔ IsInside h set f → IsTrue b ↔ Overlaps h set f → IsBearing h set f (if a then it.Inside else if b then it.Overlaps else it.Apart)
+    by_tests true b m n = m.0 refl
+    by_tests false true m n = (λ i. false≢true (m.1 i), n.0 refl)
+    by_tests false false m n = (λ i. false≢true (m.1 i), λ o. false≢true (n.1 o))

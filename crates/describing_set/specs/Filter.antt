@@ -1,5 +1,5 @@
 -- How a filter lies to a describing set.
-use Rattle.std.specs.Prelude.{ℕ, ◌≢◌, ◌<◌, ◌⊎◌, List, [], length, All as Each, Any, Bool, true, ◌&&◌, ◌||◌, nat_lt}
+use Rattle.std.specs.Prelude.{ℕ, ◌≡◌, ◌≢◌, ◌<◌, ◌≤◌, ◌⊎◌, List, [], length, All as Each, Any, Bool, true, ◌&&◌, ◌||◌, nat_lt, if◌then◌else◌}
 use Rattle.std.specs.List.{list_any, list_all}
 use Rattle.dim_hierarchy.specs.Tree.{Tree, IsUnder, is_under}
 use Rattle.dim_hierarchy.specs.Dimension.{Dimension, tree}
@@ -9,6 +9,8 @@ use Rattle.dim_hierarchy.specs.declared.filter.Pick.TheVariants.{All, Ids}
 use Rattle.describing_set.specs.DescSet.{part_at, in_each}
 use Rattle.describing_set.specs.declared.part.Part.{Part}
 use Rattle.describing_set.specs.declared.set.DescSet.{DescSet}
+use Rattle.describing_set.specs.declared.bearing.Bearing.{Bearing}
+use Rattle.describing_set.specs.declared.bearing.Bearing.TheVariants as it
 
 -- Inside: the filter matches each coordinate that the set covers.
 
@@ -53,3 +55,19 @@ is_part_met t p pick = nat_lt 0 (length p.ids.items) && is_met t p.ids.items pic
 
 abbrev pub overlaps : List Dimension → DescSet → List Pick → Bool
 overlaps h set f = nat_lt 0 (length h) && in_each is_part_met h set.parts.items f
+
+-- the same from one dimension on
+pub record IsMetFrom (h : List Dimension) (set : DescSet) (f : List Pick) (first : ℕ) : Type 0 where
+  pub met : (dim : ℕ) → first ≤ dim → dim < length h → is_part_met (tree h dim) (part_at set dim) (pick_at f dim) ≡ true
+
+-- Both in one answer.
+
+-- the set is inside the filter, else overlaps it, or neither
+abbrev pub IsBearing : List Dimension → DescSet → List Pick → Bearing → Type 0
+IsBearing h set f it.Inside = IsInside h set f
+IsBearing h set f it.Overlaps = (¬ IsInside h set f) × Overlaps h set f
+IsBearing h set f it.Apart = (¬ IsInside h set f) × (¬ Overlaps h set f)
+
+-- the same as a test
+abbrev pub bearing : List Dimension → DescSet → List Pick → Bearing
+bearing h set f = if is_inside h set f then it.Inside else if overlaps h set f then it.Overlaps else it.Apart

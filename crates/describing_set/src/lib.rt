@@ -2,6 +2,7 @@
 //! rows in one way only.
 #![tactic(auto)]
 
+mod bearing;
 mod few;
 mod listing;
 mod part;
@@ -12,6 +13,7 @@ mod set;
 #[cfg(test)]
 mod tests;
 
+pub use bearing::Bearing;
 pub use few::FewConcepts;
 pub use listing::{Listing, Spot};
 pub use part::Part;

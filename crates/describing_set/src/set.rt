@@ -1,12 +1,13 @@
 //! Describing sets.
 ghost use Rattle.std.specs.Prelude.{◌≡◌, ◌<◌, ◌≤◌, ◌↔◌, [], ◌∷◌, length, IsTrue, List, All, Contains};
-ghost use Rattle.std.specs.Bool.{OnTrue, OnFalse};
+ghost use Rattle.std.specs.Bool.{OnFalse};
 ghost use Rattle.dim_hierarchy.specs.Tree.{IsConcept, leaf_level};
 ghost use Rattle.dim_hierarchy.specs.Dimension.{tree, IsHierarchy};
 ghost use Rattle.dim_hierarchy.specs.Row.{IsCoordOf};
 ghost use Rattle.dim_hierarchy.specs.Filter.{Matches};
 ghost use Rattle.dim_hierarchy.specs.Compiled.{AreOfLevel};
 
+use crate::bearing::Bearing;
 use crate::few::FewConcepts;
 use crate::part::Part;
 use crate::part_list::PartList;
@@ -23,7 +24,8 @@ impl DescSet {
     ghost use Rattle.describing_set.specs.declared.set.DescSet.{DescSet};
     ghost use Rattle.describing_set.specs.Part.{IsPart};
     ghost use Rattle.describing_set.specs.DescSet.{part_at, IsSetOf, IsDescSetOf, GrowsBy, JoinsTo, Covers, covers, growth_of, size_of, Describes, AreAmong};
-    ghost use Rattle.describing_set.specs.Filter.{IsInside, is_inside, Overlaps, overlaps};
+    ghost use Rattle.describing_set.specs.declared.bearing.Bearing.TheVariants.{Inside, Apart};
+    ghost use Rattle.describing_set.specs.Filter.{Overlaps, overlaps, IsMetFrom, IsBearing, bearing};
 
     /// The set of no coordinate: the leaf level and no concept everywhere.
     pub fn empty(h: &Hierarchy) -> DescSet
@@ -98,23 +100,30 @@ impl DescSet {
         true
     }
 
-    /// Whether in each dimension the filter picks each concept of the set. It then matches each
-    /// coordinate that the set covers.
-    pub fn inside(&self, wanted: &CompiledFilter) -> bool
+    /// How the set lies to the filter: it is inside where in each dimension the filter picks each of
+    /// its concepts, so a set of none is; else it overlaps as `overlaps` says.
+    pub fn bearing(&self, wanted: &CompiledFilter) -> Bearing
         requires { IsDescSetOf wanted.now.hierarchy self.now }
-        ensures test { result ≡ is_inside wanted.now.hierarchy self.now wanted.now.picks }
-        ensures meaning { IsTrue result
-            ↔ IsInside wanted.now.hierarchy self.now wanted.now.picks }
-        ensures all_match { OnTrue result
-            ((at : Coord) → Covers wanted.now.hierarchy self.now at
-            → Matches wanted.now.hierarchy wanted.now.picks at) }
+        ensures test { result ≡ bearing wanted.now.hierarchy self.now wanted.now.picks }
+        ensures meaning { IsBearing wanted.now.hierarchy self.now wanted.now.picks result }
+        ensures all_match { result ≡ Inside
+            → (at : Coord) → Covers wanted.now.hierarchy self.now at
+            → Matches wanted.now.hierarchy wanted.now.picks at }
+        ensures none_match { result ≡ Apart
+            → (at : Coord) → Covers wanted.now.hierarchy self.now at
+            → ¬ Matches wanted.now.hierarchy wanted.now.picks at }
     {
         for dim in 0..wanted.dims() {
             if !self.part_for(wanted, dim).is_inside(wanted, dim) {
-                return false;
+                // The set has a concept then, so it is met in the dimensions before, as it is inside.
+                return if self.is_met_from(wanted, dim) {
+                    Bearing::Overlaps
+                } else {
+                    Bearing::Apart
+                };
             }
         }
-        true
+        Bearing::Inside
     }
 
     /// Whether the set is not empty, and in each dimension the filter is all or lists a concept of
@@ -129,12 +138,22 @@ impl DescSet {
             → (at : Coord) → Covers wanted.now.hierarchy self.now at
             → ¬ Matches wanted.now.hierarchy wanted.now.picks at) }
     {
-        for dim in 0..wanted.dims() {
+        wanted.dims() > 0 && self.is_met_from(wanted, 0)
+    }
+
+    /// Whether in each dimension from this one on the set is not empty, and the filter is all or lists
+    /// a concept of which one of the set's is an ancestor or a descendant.
+    fn is_met_from(&self, wanted: &CompiledFilter, first: u8) -> bool
+        requires { IsDescSetOf wanted.now.hierarchy self.now }
+        ensures { IsTrue result
+            ↔ IsMetFrom wanted.now.hierarchy self.now wanted.now.picks first }
+    {
+        for dim in first..wanted.dims() {
             if !self.part_for(wanted, dim).is_met(wanted, dim) {
                 return false;
             }
         }
-        wanted.dims() > 0
+        true
     }
 
     /// In how many dimensions the coordinate is not covered.

@@ -1,13 +1,17 @@
-//! How sets grow, and what they cover.
-ghost use Rattle.std.specs.Prelude.{◌≡◌, ◌+◌, ◌<◌, length, IfOk, OnOk};
+//! How sets grow, what they cover, and how they lie to filters.
+ghost use Rattle.std.specs.Prelude.{◌≡◌, ◌+◌, ◌<◌, All, length, IfOk, OnOk};
 ghost use Rattle.dim_hierarchy.specs.Row.{IsCoordOf};
+ghost use Rattle.dim_hierarchy.specs.Filter.{IsNamePick};
 ghost use Rattle.describing_set.specs.DescSet.{IsDescSetOf};
 
+use crate::bearing::Bearing;
 use crate::few::FewConcepts;
 use crate::path::Path;
 use crate::plane::{goes_left, plane_of};
 use crate::set::DescSet;
-use dim_hierarchy::{ConceptId, Coord, Hierarchy, Name, Names};
+use dim_hierarchy::{
+    CompiledFilter, ConceptId, Coord, Hierarchy, Name, NameFilter, NamePick, Names,
+};
 use std::alloc::Global;
 use std::test::Fail;
 
@@ -57,16 +61,23 @@ fn places(alloc: Global) -> Result<Hierarchy, Fail>
     one_dim(alloc, 2, &CONCEPTS)
 }
 
-/// The coordinate of concepts of these letters, one for each dimension.
-fn coord(alloc: Global, h: &Hierarchy, letters: &[u8]) -> Result<Coord, Fail>
-    requires { length letters.now ≡ length h.now }
-    ensures { IfOk result (IsCoordOf h.now) }
+/// A name for each of these letters.
+fn names(alloc: Global, letters: &[u8]) -> Result<Names, Fail>
+    ensures { IfOk result (λ names. length names ≡ length letters.now) }
 {
     let mut names = Names::new(alloc);
     for letter in letters {
         names.push(Name::from_bytes(alloc, &[*letter])?)?;
     }
-    Ok(h.coord(&names)?)
+    Ok(names)
+}
+
+/// The coordinate of concepts of these letters, one for each dimension.
+fn coord(alloc: Global, h: &Hierarchy, letters: &[u8]) -> Result<Coord, Fail>
+    requires { length letters.now ≡ length h.now }
+    ensures { IfOk result (IsCoordOf h.now) }
+{
+    Ok(h.coord(&names(alloc, letters)?)?)
 }
 
 /// The set of the coordinates of these letters, where there is one dimension.
@@ -248,6 +259,143 @@ fn eight_dimensions(rt: HostRuntime) -> Result<(), Fail> {
     let left = side(alloc, &h, &set, b"aaaaaaaa")?;
     let right = side(alloc, &h, &set, b"aababaaa")?;
     assert_eq!(rt; (left, right), (Some((2, true)), Some((2, false))));
+    Ok(())
+}
+
+/// A pick of the concepts of these letters, of all where there is none.
+fn pick(alloc: Global, letters: &[u8]) -> Result<NamePick, Fail>
+    ensures { IfOk result IsNamePick }
+{
+    if letters.is_empty() {
+        return Ok(NamePick::All);
+    }
+    Ok(NamePick::Any(names(alloc, letters)?))
+}
+
+/// A pick for each of these texts.
+fn picks(alloc: Global, texts: &[&[u8]]) -> Result<NameFilter, Fail>
+    ensures count { IfOk result (λ picks. length picks ≡ length texts.now) }
+    ensures some { IfOk result (All IsNamePick) }
+{
+    let mut picks = NameFilter::new(alloc);
+    for letters in texts {
+        picks.push(pick(alloc, letters)?)?;
+    }
+    Ok(picks)
+}
+
+/// The compiled filter of a text for each dimension.
+fn compiled(alloc: Global, h: &Hierarchy, texts: &[&[u8]]) -> Result<CompiledFilter, Fail>
+    requires { length texts.now ≡ length h.now }
+    ensures { IfOk result (λ wanted. wanted.hierarchy ≡ h.now) }
+{
+    Ok(h.compile(alloc, &h.filter(alloc, &picks(alloc, texts)?)?)?)
+}
+
+/// How a set lies to the filter of these texts, and whether it overlaps that.
+fn bearing(
+    alloc: Global,
+    h: &Hierarchy,
+    set: &DescSet,
+    texts: &[&[u8]],
+) -> Result<(Bearing, bool), Fail>
+    requires set { IsDescSetOf h.now set.now }
+    requires texts { length texts.now ≡ length h.now }
+{
+    let wanted = compiled(alloc, h, texts)?;
+    Ok((set.bearing(&wanted), set.overlaps(&wanted)))
+}
+
+/// The same for the set of the coordinates of these letters, where there is one dimension.
+fn bearing_of(
+    alloc: Global,
+    h: &Hierarchy,
+    letters: &[u8],
+    pick: &[u8],
+) -> Result<(Bearing, bool), Fail>
+    requires { length h.now ≡ 1 }
+{
+    bearing(alloc, h, &set_of(alloc, h, letters)?, &[pick])
+}
+
+#[test]
+fn a_set_is_inside_a_filter_overlaps_it_or_is_apart(rt: HostRuntime) -> Result<(), Fail> {
+    const CASES: [(&[u8], &[u8], (Bearing, bool)); 8] = [
+        (b"ab", b"", (Bearing::Inside, true)),
+        (b"ab", b"cba", (Bearing::Inside, true)),
+        (b"ab", b"D", (Bearing::Inside, true)),
+        (b"ab", b"bc", (Bearing::Overlaps, true)),
+        (b"abcdefg", b"g", (Bearing::Overlaps, true)),
+        (b"ab", b"c", (Bearing::Apart, false)),
+        (b"", b"", (Bearing::Inside, false)),
+        (b"", b"c", (Bearing::Inside, false)),
+    ];
+    let alloc = rt.alloc();
+    let h = places(alloc)?;
+    for (letters, pick, answer) in &CASES {
+        assert_eq!(rt; bearing_of(alloc, &h, letters, pick)?, *answer);
+    }
+    Ok(())
+}
+
+/// A set of eight dimensions with two concepts in the third and in the fifth.
+fn two_and_two(alloc: Global, h: &Hierarchy) -> Result<DescSet, Fail>
+    requires { length h.now ≡ 8 }
+    ensures { IfOk result (IsDescSetOf h.now) }
+{
+    let mut set = DescSet::empty(h);
+    set.grow(h, &coord(alloc, h, b"aaaaaaaa")?);
+    set.grow(h, &coord(alloc, h, b"aababaaa")?);
+    Ok(set)
+}
+
+#[test]
+fn a_set_lies_to_a_filter_as_in_all_its_dimensions(rt: HostRuntime) -> Result<(), Fail> {
+    const CASES: [([&[u8]; 8], (Bearing, bool)); 7] = [
+        (
+            [b"", b"", b"", b"", b"", b"", b"", b""],
+            (Bearing::Inside, true),
+        ),
+        (
+            [b"a", b"ab", b"ba", b"", b"ab", b"", b"", b"a"],
+            (Bearing::Inside, true),
+        ),
+        (
+            [b"a", b"", b"b", b"", b"ab", b"", b"", b"a"],
+            (Bearing::Overlaps, true),
+        ),
+        (
+            [b"", b"", b"b", b"", b"a", b"", b"", b""],
+            (Bearing::Overlaps, true),
+        ),
+        (
+            [b"", b"", b"b", b"", b"", b"", b"", b"b"],
+            (Bearing::Apart, false),
+        ),
+        (
+            [b"", b"b", b"b", b"", b"", b"", b"", b""],
+            (Bearing::Apart, false),
+        ),
+        (
+            [b"b", b"", b"", b"", b"", b"", b"", b""],
+            (Bearing::Apart, false),
+        ),
+    ];
+    let alloc = rt.alloc();
+    let h = eight_dims(alloc)?;
+    let set = two_and_two(alloc, &h)?;
+    for (texts, answer) in &CASES {
+        assert_eq!(rt; bearing(alloc, &h, &set, texts)?, *answer);
+    }
+    Ok(())
+}
+
+#[test]
+fn a_set_of_no_dimension_is_inside_and_overlaps_nothing(rt: HostRuntime) -> Result<(), Fail> {
+    let alloc = rt.alloc();
+    let h = Hierarchy::new(alloc);
+    let set = DescSet::empty(&h);
+    assert_eq!(rt; bearing(alloc, &h, &set, &[])?, (Bearing::Inside, false));
     Ok(())
 }
 

@@ -10,6 +10,7 @@ ghost use Rattle.link_descent.specs.Visit.{matching};
 use crate::descend::root_entry;
 use crate::visits::visit_entry;
 use dc_node::Todo;
+use describing_set::Bearing;
 use dim_hierarchy::{CompiledFilter, Row};
 use measure_agg::Agg;
 use shard_store::{Gate, Queue};
@@ -38,10 +39,10 @@ fn visit_queue(queue: &Queue, wanted: &CompiledFilter, total: &mut Agg)
     ensures few { total.new.count ≤ total.old.count + queue.now.agg.count }
 {
     measure_agg::laws();
-    if queue.set.inside(wanted) {
-        *total = total.join(&queue.agg);
-    } else if queue.set.overlaps(wanted) {
-        visit_rows(queue.rows.as_slice(), wanted, total);
+    match queue.set.bearing(wanted) {
+        Bearing::Inside => *total = total.join(&queue.agg),
+        Bearing::Overlaps => visit_rows(queue.rows.as_slice(), wanted, total),
+        Bearing::Apart => {}
     }
 }
 

@@ -9,6 +9,7 @@ ghost use Rattle.dc_node.specs.Summary.{row_count, joined, aggs};
 ghost use Rattle.link_descent.specs.Visit.{matching, taken, noted, counted, noted_in, noted_right};
 
 use dc_node::{Block, Body, Entry, Item, LeafRows, Todo};
+use describing_set::Bearing;
 use dim_hierarchy::CompiledFilter;
 use measure_agg::Agg;
 
@@ -67,13 +68,13 @@ pub(crate) fn visit_entry(entry: &Entry, wanted: &CompiledFilter, total: &mut Ag
     ensures todo { todo.new.items ≡ todo.old.items ++ noted wanted.now.hierarchy wanted.now.picks (entry.now ∷ []) }
     ensures room { todo.old.room ≤ todo.new.room + 1 }
 {
-    if entry.set.inside(wanted) {
-        *total = total.join(&entry.agg);
-    } else if entry.set.overlaps(wanted) {
-        todo.push(Item {
+    match entry.set.bearing(wanted) {
+        Bearing::Inside => *total = total.join(&entry.agg),
+        Bearing::Overlaps => todo.push(Item {
             cell: entry.child,
             stamp: entry.stamp,
-        });
+        }),
+        Bearing::Apart => {}
     }
 }
 
