@@ -3,8 +3,8 @@
 /// Items of a full block.
 pub const MOST_ITEMS: usize = 32;
 
-/// Concepts of a describing set in a dimension.
-pub const MOST_OF_SET: usize = 6;
-
 /// Concepts of that many items in a dimension.
 pub const MOST_CONCEPTS: usize = 192;
+
+/// Concepts of one item in a dimension, which is as many as a describing set has at most.
+pub const MOST_OF_SET: usize = 6;
