@@ -7,14 +7,14 @@ ghost use Rattle.hierarchy_split.specs.Crossing.{has_lifted, is_crossed_in_head,
 ghost use Rattle.hierarchy_split.specs.Limits.{most_items};
 
 use crate::leasts::{least, part};
-use crate::limits::{MOST_CONCEPTS, MOST_ITEMS};
+use crate::limits::{MOST_ITEMS, MOST_OF_SET};
 use crate::overlap::add_lifted;
 use arrayvec::ArrayVec;
 use describing_set::DescSet;
 use dim_hierarchy::{ConceptId, Hierarchy};
 
 /// The lifted concepts of a set.
-fn lifted(set: &DescSet, h: &Hierarchy, dim: u8, level: u8) -> ArrayVec<ConceptId, MOST_CONCEPTS>
+fn lifted(set: &DescSet, h: &Hierarchy, dim: u8, level: u8) -> ArrayVec<ConceptId, MOST_OF_SET>
     requires dim { dim < length h.now }
     requires set { IsDescSetOf h.now set.now }
     requires level { level ≤ (part_at set.now dim).level }

@@ -1,5 +1,5 @@
 //! How many concepts the two sides of a cut share.
-ghost use Rattle.std.specs.Prelude.{◌≡◌, ◌+◌, ◌<◌, ◌≤◌, ◌++◌, length, All};
+ghost use Rattle.std.specs.Prelude.{◌≡◌, ◌+◌, ◌<◌, ◌≤◌, ◌++◌, [], length, All};
 ghost use Rattle.describing_set.specs.DescSet.{part_at, IsDescSetOf};
 ghost use Rattle.hierarchy_split.specs.Order.{shared_count};
 ghost use Rattle.hierarchy_split.specs.Cut.{lifted, IsAbove, concepts_of};
@@ -12,8 +12,8 @@ use describing_set::DescSet;
 use dim_hierarchy::{ConceptId, Hierarchy};
 
 /// Adds a set's lifted concepts to a list.
-pub fn add_lifted(
-    concepts: &mut ArrayVec<ConceptId, MOST_CONCEPTS>,
+pub fn add_lifted<const MOST: usize>(
+    concepts: &mut ArrayVec<ConceptId, MOST>,
     set: &DescSet,
     h: &Hierarchy,
     dim: u8,
@@ -22,7 +22,7 @@ pub fn add_lifted(
     requires dim { dim < length h.now }
     requires set { IsDescSetOf h.now set.now }
     requires level { level ≤ (part_at set.now dim).level }
-    requires room { length concepts.old.items + 6 ≤ most_concepts }
+    requires room { length concepts.old.items + 6 ≤ MOST }
     ensures added { concepts.new.items ≡ concepts.old.items ++ lifted h.now dim level set.now }
     ensures few { length concepts.new.items ≤ length concepts.old.items + 6 }
 {
@@ -31,26 +31,27 @@ pub fn add_lifted(
     }
 }
 
-/// The lifted concepts of the items at some places.
+/// Puts the lifted concepts of the items at some places into an empty list, which is lent, as a list
+/// that is returned is copied.
 fn concepts_of(
     sets: &[DescSet],
     h: &Hierarchy,
     dim: u8,
     level: u8,
     places: &[u8],
-) -> ArrayVec<ConceptId, MOST_CONCEPTS>
+    concepts: &mut ArrayVec<ConceptId, MOST_CONCEPTS>,
+)
     requires dim { dim < length h.now }
     requires sets { All (IsDescSetOf h.now) sets.now }
     requires level { IsAbove sets.now dim level }
     requires places { All (λ place. place < length sets.now) places.now }
     requires few { length places.now ≤ most_items }
-    ensures { result.items ≡ concepts_of h.now sets.now dim level places.now }
+    requires empty { concepts.old.items ≡ [] }
+    ensures { concepts.new.items ≡ concepts_of h.now sets.now dim level places.now }
 {
-    let mut concepts = ArrayVec::new();
     for place in places {
-        add_lifted(&mut concepts, &sets[usize::from(*place)], h, dim, level);
+        add_lifted(concepts, &sets[usize::from(*place)], h, dim, level);
     }
-    concepts
 }
 
 /// How many different concepts of the first list the second has too. Each counts where it stands
@@ -89,7 +90,9 @@ pub fn overlap(
         (concepts_of h.now sets.now dim level right.now) }
     ensures fits { result ≤ most_concepts }
 {
-    let left = concepts_of(sets, h, dim, level, left);
-    let right = concepts_of(sets, h, dim, level, right);
-    shared_count(left.as_slice(), right.as_slice())
+    let mut on_left = ArrayVec::new();
+    let mut on_right = ArrayVec::new();
+    concepts_of(sets, h, dim, level, left, &mut on_left);
+    concepts_of(sets, h, dim, level, right, &mut on_right);
+    shared_count(on_left.as_slice(), on_right.as_slice())
 }

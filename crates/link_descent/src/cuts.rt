@@ -17,8 +17,12 @@ use describing_set::DescSet;
 use dim_hierarchy::Hierarchy;
 use hierarchy_split::{Cut, HeadCuts, Places, choose};
 
+/// Room for the describing sets of a full block's items. It has 8 KB, so it is made once, is kept by
+/// who divides blocks, and is lent. What is in it before goes.
+pub type ItemSets = ArrayVec<DescSet, 32>;
+
 /// Puts the describing sets of rows into an empty list.
-fn row_sets(rows: &LeafRows, h: &Hierarchy, sets: &mut ArrayVec<DescSet, 32>)
+fn row_sets(rows: &LeafRows, h: &Hierarchy, sets: &mut ItemSets)
     requires rows { All (IsRowOf h.now) rows.now.items }
     requires empty { sets.old.items ≡ [] }
     ensures sets { AllZip (λ r s. IsSetOf h.now (r.at ∷ []) s) rows.now.items sets.new.items }
@@ -31,7 +35,7 @@ fn row_sets(rows: &LeafRows, h: &Hierarchy, sets: &mut ArrayVec<DescSet, 32>)
 }
 
 /// Puts the describing sets of entries into an empty list.
-fn entry_sets(entries: &[Entry], sets: &mut ArrayVec<DescSet, 32>)
+fn entry_sets(entries: &[Entry], sets: &mut ItemSets)
     requires few { length entries.now ≤ 32 }
     requires empty { sets.old.items ≡ [] }
     ensures { sets.new.items ≡ map (λ e. e.set) entries.now }
@@ -43,7 +47,7 @@ fn entry_sets(entries: &[Entry], sets: &mut ArrayVec<DescSet, 32>)
 
 /// Puts the describing sets of a body's items into an empty list, which is lent, as a list that is
 /// returned is one more among the caller's locals.
-fn item_sets(body: &Body, h: &Hierarchy, sets: &mut ArrayVec<DescSet, 32>)
+fn item_sets(body: &Body, h: &Hierarchy, sets: &mut ItemSets)
     requires body { IsBodyOf h.now body.now }
     requires empty { sets.old.items ≡ [] }
     ensures sets { AreItemSets h.now body.now sets.new.items }
@@ -57,14 +61,14 @@ fn item_sets(body: &Body, h: &Hierarchy, sets: &mut ArrayVec<DescSet, 32>)
 }
 
 /// The good cut of a full head that is its whole group.
-pub fn good_cut(body: &Body, h: &Hierarchy) -> Option<Cut>
+pub fn good_cut(body: &Body, sets: &mut ItemSets, h: &Hierarchy) -> Option<Cut>
     requires full { is_full body.now ≡ true }
     requires body { IsBodyOf h.now body.now }
     ensures cut { IfSome result (IsTheCut h.now body.now) }
     ensures none { IfNone result (HasNoCut h.now body.now) }
 {
-    let mut sets = ArrayVec::new();
-    item_sets(body, h, &mut sets);
+    sets.clear();
+    item_sets(body, h, sets);
     choose(sets.as_slice(), h)
 }
 
@@ -114,19 +118,25 @@ fn strike_block(cuts: &mut HeadCuts, head: &Body, block: Option<&Block>, h: &Hie
 }
 
 /// The places of the items that the good head cut of a group keeps, and those of the others.
-pub fn good_head_cut(body: &Body, tail: &Tail, h: &Hierarchy) -> Option<(Places, Places)>
+pub fn good_head_cut(
+    body: &Body,
+    tail: &Tail,
+    sets: &mut ItemSets,
+    h: &Hierarchy,
+) -> Option<(Places, Places)>
     requires full { is_full body.now ≡ true }
     requires body { IsBodyOf h.now body.now }
     requires tail { All (λ b. IsBodyOf h.now b.body) tail.now }
     ensures parts { IfSome result (λ parts. AreTheParts h.now body.now tail.now parts.0.items parts.1.items) }
     ensures none { IfNone result (HasNoHeadCut h.now body.now tail.now) }
 {
-    let mut sets = ArrayVec::new();
-    item_sets(body, h, &mut sets);
-    let mut cuts = HeadCuts::of(sets.as_slice(), h);
+    sets.clear();
+    item_sets(body, h, sets);
+    let sets = sets.as_slice();
+    let mut cuts = HeadCuts::of(sets, h);
     let (first, second) = tail.blocks();
     strike_block(&mut cuts, body, first, h);
     strike_block(&mut cuts, body, second, h);
     let cut = cuts.best(h)?;
-    Some(cut.parts(sets.as_slice(), h))
+    Some(cut.parts(sets, h))
 }

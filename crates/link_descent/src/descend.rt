@@ -17,6 +17,7 @@ ghost use Rattle.link_descent.specs.Room.{MakesRoom, AreTwoGroups, new_blocks, H
 ghost use Rattle.dc_node.specs.declared.entry.Entry.{Entry};
 
 use crate::choice::is_before;
+use crate::cuts::ItemSets;
 use crate::divide::{Division, divide};
 use crate::entered::{Entered, Fresh};
 use crate::groups::group_entry;
@@ -117,6 +118,7 @@ fn make_room(
     entry: &Entry,
     purse: &mut Purse,
     blanks: &mut Blanks,
+    sets: &mut ItemSets,
     h: &Hierarchy,
 ) -> Room
     requires body { IsBodyOf h.now head.old.body }
@@ -133,7 +135,7 @@ fn make_room(
         return Room::Had;
     }
     let spare = purse.next();
-    match divide(head, tail, entry.stamp, spare, blanks, h) {
+    match divide(head, tail, entry.stamp, spare, blanks, sets, h) {
         Division::Halved(block) => Room::Half(Fresh {
             cell: spare.cell,
             block,
@@ -154,6 +156,7 @@ pub fn step_down(
     tail: &Tail,
     purse: &mut Purse,
     blanks: &mut Blanks,
+    sets: &mut ItemSets,
     h: &Hierarchy,
     row: &Row,
 ) -> Entered
@@ -176,7 +179,7 @@ pub fn step_down(
 {
     let place = usize::from(place);
     let mut entry = parent.entries()[place].copy();
-    match make_room(child, tail, &entry, purse, blanks, h) {
+    match make_room(child, tail, &entry, purse, blanks, sets, h) {
         Room::Had => {
             let at = entry.child;
             entry.add_row(h, row);
@@ -245,6 +248,7 @@ pub fn enter_root(
     tail: &Tail,
     purse: &mut Purse,
     blanks: &mut Blanks,
+    sets: &mut ItemSets,
     h: &Hierarchy,
     row: &Row,
 ) -> Entered
@@ -266,7 +270,7 @@ pub fn enter_root(
     ensures fresh { All (λ f. HasRoom h.now f.block) result.fresh.items }
 {
     let mut entry = root_entry(gate);
-    let room = make_room(root, tail, &entry, purse, blanks, h);
+    let room = make_room(root, tail, &entry, purse, blanks, sets, h);
     entry.add_row(h, row);
     gate.agg = entry.agg;
     gate.set = entry.set;

@@ -5,7 +5,7 @@ ghost use Rattle.dc_node.specs.Block.{size, is_full, IsBodyOf};
 ghost use Rattle.link_descent.specs.Divide.{items_at, body_at, front, rest, half, left_block, right_block, IsHalved};
 ghost use Rattle.link_descent.specs.Room.{IsCutBy, DividesAlone, DividesGroup, Divides};
 
-use crate::cuts::{good_cut, good_head_cut};
+use crate::cuts::{ItemSets, good_cut, good_head_cut};
 use crate::tail::Tail;
 use cell_stock::Spare;
 use dc_node::{Blanks, Block, Body, Entry, EntryBox, LeafRows, RowBox};
@@ -172,14 +172,20 @@ fn cut_in_two(
 }
 
 /// Divides a full head that is its whole group: by its good cut, else by halves.
-fn divide_alone(head: &mut Block, spare: Spare, blanks: &mut Blanks, h: &Hierarchy) -> Division
+fn divide_alone(
+    head: &mut Block,
+    spare: Spare,
+    blanks: &mut Blanks,
+    sets: &mut ItemSets,
+    h: &Hierarchy,
+) -> Division
     requires full { is_full head.old.body ≡ true }
     requires body { IsBodyOf h.now head.old.body }
     requires blanks { 2 ≤ blanks.old }
     ensures divided { DividesAlone h.now head.old spare head.new result }
     ensures blanks { blanks.old ≤ blanks.new + 2 }
 {
-    let Some(cut) = good_cut(&head.body, h) else {
+    let Some(cut) = good_cut(&head.body, sets, h) else {
         return Division::Halved(halve(head, spare, blanks));
     };
     let (left, right) = cut.order.as_slice().split_at(usize::from(cut.left));
@@ -192,6 +198,7 @@ fn divide_group(
     tail: &Tail,
     spare: Spare,
     blanks: &mut Blanks,
+    sets: &mut ItemSets,
     h: &Hierarchy,
 ) -> Division
     requires full { is_full head.old.body ≡ true }
@@ -201,7 +208,7 @@ fn divide_group(
     ensures divided { DividesGroup h.now tail.now head.old spare head.new result }
     ensures blanks { blanks.old ≤ blanks.new + 2 }
 {
-    let Some((stays, goes)) = good_head_cut(&head.body, tail, h) else {
+    let Some((stays, goes)) = good_head_cut(&head.body, tail, sets, h) else {
         return Division::Halved(halve(head, spare, blanks));
     };
     Division::HeadCut(cut_in_two(head, stays.as_slice(), goes.as_slice(), spare, blanks))
@@ -216,6 +223,7 @@ pub fn divide(
     expected: u64,
     spare: Spare,
     blanks: &mut Blanks,
+    sets: &mut ItemSets,
     h: &Hierarchy,
 ) -> Division
     requires full { is_full head.old.body ≡ true }
@@ -226,10 +234,10 @@ pub fn divide(
     ensures blanks { blanks.old ≤ blanks.new + 2 }
 {
     if head.stamp == expected {
-        return divide_alone(head, spare, blanks, h);
+        return divide_alone(head, spare, blanks, sets, h);
     }
     if tail.ends_with(expected) {
-        return divide_group(head, tail, spare, blanks, h);
+        return divide_group(head, tail, spare, blanks, sets, h);
     }
     Division::Halved(halve(head, spare, blanks))
 }

@@ -17,6 +17,7 @@ mod visit_tests;
 mod visits;
 
 pub use choice::pick;
+pub use cuts::ItemSets;
 pub use descend::{enter_root, entry_of, pass_down, pass_root, put_leaf, step_down};
 pub use entered::{Entered, Fresh};
 pub use gate_reads::read_gate;

@@ -9,7 +9,7 @@ ghost use Rattle.dc_node.specs.Summary.{row_count};
 ghost use Rattle.link_descent.specs.Divide.{together};
 ghost use Rattle.link_descent.specs.Room.{HasRoom};
 
-use crate::{Fresh, Tail, enter_root, pick, put_leaf, step_down};
+use crate::{Fresh, ItemSets, Tail, enter_root, pick, put_leaf, step_down};
 use arrayvec::ArrayVec;
 use cell_stock::{Purse, Stock};
 use dc_node::{Blanks, Block, Body, Entry};
@@ -221,6 +221,7 @@ fn enter(
     blocks: &mut Vec<Block>,
     purse: &mut Purse,
     blanks: &mut Blanks,
+    sets: &mut ItemSets,
     h: &Hierarchy,
     row: &Row,
 ) -> Result<u32, Fail>
@@ -240,7 +241,7 @@ fn enter(
     let mut root = lift(blocks, h, cell)?;
     let tail = tail_of(blocks.as_slice(), h, &root, gate.stamp)?;
     blanks.refill(3)?;
-    let entered = enter_root(gate, &mut root, &tail, purse, blanks, h, row);
+    let entered = enter_root(gate, &mut root, &tail, purse, blanks, sets, h, row);
     put(blocks, h, cell, root)?;
     put_fresh(blocks, h, entered.fresh)?;
     Ok(entered.at)
@@ -251,6 +252,7 @@ fn down(
     blocks: &mut Vec<Block>,
     purse: &mut Purse,
     blanks: &mut Blanks,
+    sets: &mut ItemSets,
     h: &Hierarchy,
     row: &Row,
     at: u32,
@@ -270,7 +272,17 @@ fn down(
     let mut child = lift(blocks, h, cell)?;
     let tail = tail_of(blocks.as_slice(), h, &child, stamp)?;
     blanks.refill(2)?;
-    let entered = step_down(&mut parent, place, &mut child, &tail, purse, blanks, h, row);
+    let entered = step_down(
+        &mut parent,
+        place,
+        &mut child,
+        &tail,
+        purse,
+        blanks,
+        sets,
+        h,
+        row,
+    );
     put(blocks, h, at, parent)?;
     put(blocks, h, cell, child)?;
     put_fresh(blocks, h, entered.fresh)?;
@@ -283,6 +295,7 @@ fn insert(
     blocks: &mut Vec<Block>,
     purse: &mut Purse,
     blanks: &mut Blanks,
+    sets: &mut ItemSets,
     h: &Hierarchy,
     row: &Row,
 ) -> Result<(), Fail>
@@ -292,9 +305,9 @@ fn insert(
     ensures blocks { All (λ b. IsBodyOf h.now b.body) blocks.new.items }
     ensures set { IsDescSetOf h.now gate.new.set }
 {
-    let mut at = enter(gate, blocks, purse, blanks, h, row)?;
+    let mut at = enter(gate, blocks, purse, blanks, sets, h, row)?;
     for _ in 1..gate.height {
-        at = down(blocks, purse, blanks, h, row, at)?;
+        at = down(blocks, purse, blanks, sets, h, row, at)?;
     }
     let mut leaf = lift(blocks, h, at)?;
     if !leaf.is_leaf() || leaf.is_full() {
@@ -405,6 +418,7 @@ fn grown(alloc: Global, shape: &Shape, count: u64) -> Result<(u32, usize), Fail>
     let h = &hierarchy(alloc)?;
     let mut purse = filled_purse(alloc, 1024)?;
     let mut blanks = Blanks::new(alloc);
+    let mut sets = ItemSets::new();
     let mut blocks = blank_blocks(alloc, h, 1024)?;
     if purse.len() == 0 {
         return Err("no spare".into());
@@ -416,7 +430,15 @@ fn grown(alloc: Global, shape: &Shape, count: u64) -> Result<(u32, usize), Fail>
     let mut rows = Vec::new(alloc);
     for no in 0..count {
         let row = &row(alloc, h, shape, no)?;
-        insert(&mut gate, &mut blocks, &mut purse, &mut blanks, h, row)?;
+        insert(
+            &mut gate,
+            &mut blocks,
+            &mut purse,
+            &mut blanks,
+            &mut sets,
+            h,
+            row,
+        )?;
         rows.push(*row)?;
     }
     check_rows(alloc, &blocks, &rows)?;

@@ -9,7 +9,7 @@ use crate::fills::{fill_one, fill_two};
 use cell_stock::Purse;
 use dc_node::{Blanks, Block};
 use dim_hierarchy::{Hierarchy, Row};
-use link_descent::{Tail, enter_root, put_leaf, step_down};
+use link_descent::{ItemSets, Tail, enter_root, put_leaf, step_down};
 use shard_store::Gate;
 use std::alloc::{AllocError, Global};
 use std::marker::Model;
@@ -21,18 +21,20 @@ pub struct Boxes {
     alloc: Global,
     blocks: Vec<Box<Block>>,
     blanks: Blanks,
+    /// Lent to each step that may divide a block. There is none before the first boxes.
+    sets: Option<Box<ItemSets>>,
     /// For how many blocks they count: there may be more, where memory was wanting for all that were asked for.
     ready: u64,
 }
 
 impl Model for Boxes {
-    ghost use Rattle.std.specs.Prelude.{ℕ, ◌≤◌, length};
+    ghost use Rattle.std.specs.Prelude.{ℕ, ◌<◌, ◌≤◌, length, IsSome};
 
     ghost Value = { ℕ };
 
     ghost view = { λ b. b.ready };
 
-    ghost invariant = { λ b. (b.ready ≤ length b.blocks.items) × (b.ready ≤ b.blanks) };
+    ghost invariant = { λ b. (b.ready ≤ length b.blocks.items) × (b.ready ≤ b.blanks) × (0 < b.ready → IsSome b.sets) };
 }
 
 impl Boxes {
@@ -44,6 +46,7 @@ impl Boxes {
             alloc,
             blocks: Vec::new(alloc),
             blanks: Blanks::new(alloc),
+            sets: None,
             ready: 0,
         }
     }
@@ -62,6 +65,9 @@ impl Boxes {
     {
         self.blanks.refill(n)?;
         make_blocks(&mut self.blocks, self.alloc, n as usize)?;
+        if self.sets.is_none() {
+            self.sets = Some(new_sets(self.alloc)?);
+        }
         if self.ready < n {
             self.ready = n;
         }
@@ -100,7 +106,20 @@ impl Boxes {
         ensures { WentDown h.now row.now place tail.now parent.old parent.new child.old child.new purse.old purse.new
             (option_map cell_of fresh.old) (option_map cell_of fresh.new) self.old self.new result }
     {
-        let entered = step_down(parent, place, child, tail, purse, &mut self.blanks, h, row);
+        let Some(sets) = &mut self.sets else {
+            unreachable!()
+        };
+        let entered = step_down(
+            parent,
+            place,
+            child,
+            tail,
+            purse,
+            &mut self.blanks,
+            sets,
+            h,
+            row,
+        );
         let at = entered.at;
         self.ready -= 2 * entered.fresh.len() as u64;
         fill_one(fresh, &mut self.blocks, entered.fresh);
@@ -127,12 +146,21 @@ impl Boxes {
             (option_map cell_of first.old) (option_map cell_of second.old) (option_map cell_of first.new) (option_map cell_of second.new)
             self.old self.new result }
     {
-        let entered = enter_root(gate, root, tail, purse, &mut self.blanks, h, row);
+        let Some(sets) = &mut self.sets else {
+            unreachable!()
+        };
+        let entered = enter_root(gate, root, tail, purse, &mut self.blanks, sets, h, row);
         let at = entered.at;
         self.ready -= 2 * entered.fresh.len() as u64;
         fill_two(first, second, &mut self.blocks, entered.fresh);
         at
     }
+}
+
+/// Room for the sets of a full block's items, in a box. A function of its own, as it pays for 8 KB among
+/// its locals.
+fn new_sets(alloc: Global) -> Result<Box<ItemSets>, AllocError> {
+    Ok(Box::new(alloc, ItemSets::new())?)
 }
 
 /// Makes boxes of blocks until there are `n` at least.

@@ -2,8 +2,6 @@ use Rattle.std.proofs.Common.{subst, sym, ap, length, ◌∙◌}
 use Rattle.std.specs.Option.{option_copied, option_to_list}
 use Rattle.std.proofs.lemmas.List.Elements.{All-same}
 use Rattle.describing_set.specs.DescSet.{IsDescSetOf}
-use Rattle.hierarchy_split.specs.Head.{head_items}
-use Rattle.hierarchy_split.specs.Flags.{AreHeadCutsOf}
 use Rattle.link_descent.specs.Divide.{AreItemSets}
 use Rattle.link_descent.proofs.Divisions.{group_cuts, the_parts, no_head_cut}
 use Rattle.link_descent.proofs.cuts.good_head_cut.Goals as goal
@@ -12,23 +10,22 @@ pub returns-in_err-cut-clause-none : goal.returns-in_err-cut-clause-none
 returns-in_err-cut-clause-none c =
     let h = c.args.h.now in
     let body = c.args.body.now in
-    let are = subst (AreItemSets h body) (sym c.as_slice.ensures.value) c.item_sets.ensures.sets in
-    let g = group_cuts h body (option_to_list (option_copied c.blocks-2.result.0)) (option_to_list (option_copied c.blocks-2.result.1)) c.args.tail.now c.as_slice.result.now
+    let sets = c.as_slice-sets.result.now in
+    let are = subst (AreItemSets h body) (sym c.as_slice-sets.ensures.value) c.item_sets.ensures.sets in
+    let g = group_cuts h body (option_to_list (option_copied c.blocks-2.result.0)) (option_to_list (option_copied c.blocks-2.result.1)) c.args.tail.now sets
     c.of-cuts.result c.strike_block.new.cuts c.strike_block-2.new.cuts are c.of-cuts.ensures.cuts_of c.strike_block.ensures.struck c.strike_block-2.ensures.struck c.blocks-2.ensures in
-    no_head_cut h body c.args.tail.now c.as_slice.result.now c.strike_block-2.new.cuts c.from_residual.result g c.in_err-cut.ensures.none
+    no_head_cut h body c.args.tail.now sets c.strike_block-2.new.cuts c.from_residual.result g c.in_err-cut.ensures.none
 
 pub parts-requires-clause-head : goal.parts-requires-clause-head
-parts-requires-clause-head c = All-same (IsDescSetOf c.args.h.now) c.as_slice-2.result.now c.item_sets.new.sets.items c.as_slice-2.ensures.value c.item_sets.ensures.valid
+parts-requires-clause-head c = All-same (IsDescSetOf c.args.h.now) c.as_slice-sets.result.now c.item_sets.new.sets.items c.as_slice-sets.ensures.value c.item_sets.ensures.valid
 
 pub returns-clause-parts : goal.returns-clause-parts
 returns-clause-parts c =
     let h = c.args.h.now in
     let body = c.args.body.now in
-    let same = c.as_slice.ensures.value ∙ sym c.as_slice-2.ensures.value in
-    let sets = c.as_slice-2.result.now in
-    let are = subst (AreItemSets h body) (sym c.as_slice-2.ensures.value) c.item_sets.ensures.sets in
-    let of = subst (λ l. AreHeadCutsOf h (head_items l) c.of-cuts.result) same c.of-cuts.ensures.cuts_of in
+    let sets = c.as_slice-sets.result.now in
+    let are = subst (AreItemSets h body) (sym c.as_slice-sets.ensures.value) c.item_sets.ensures.sets in
     let g = group_cuts h body (option_to_list (option_copied c.blocks-2.result.0)) (option_to_list (option_copied c.blocks-2.result.1)) c.args.tail.now sets
-    c.of-cuts.result c.strike_block.new.cuts c.strike_block-2.new.cuts are of c.strike_block.ensures.struck c.strike_block-2.ensures.struck c.blocks-2.ensures in
-    the_parts h body c.args.tail.now sets c.strike_block-2.new.cuts c.in_ok-cut.cut c.parts.result.0.items c.parts.result.1.items g (ap length c.as_slice-2.ensures.value ∙ c.item_sets.ensures.count)
+    c.of-cuts.result c.strike_block.new.cuts c.strike_block-2.new.cuts are c.of-cuts.ensures.cuts_of c.strike_block.ensures.struck c.strike_block-2.ensures.struck c.blocks-2.ensures in
+    the_parts h body c.args.tail.now sets c.strike_block-2.new.cuts c.in_ok-cut.cut c.parts.result.0.items c.parts.result.1.items g (ap length c.as_slice-sets.ensures.value ∙ c.item_sets.ensures.count)
     c.in_ok-cut.ensures.cut c.parts.ensures.kept c.parts.ensures.parted c.parts.ensures.order
