@@ -7,7 +7,7 @@ use crate::few::FewConcepts;
 use crate::path::Path;
 use crate::plane::{goes_left, plane_of};
 use crate::set::DescSet;
-use dim_hierarchy::{ConceptId, Coord, Hierarchy, Name, Names};
+use dim_hierarchy::{ConceptId, Coord, Hierarchy, Name, RowNames};
 use std::alloc::Global;
 use std::test::Fail;
 
@@ -62,9 +62,9 @@ fn coord(alloc: Global, h: &Hierarchy, letters: &[u8]) -> Result<Coord, Fail>
     requires { length letters.now ≡ length h.now }
     ensures { IfOk result (IsCoordOf h.now) }
 {
-    let mut names = Names::new(alloc);
+    let mut names = RowNames::new(alloc);
     for letter in letters {
-        names.push(Name::from_bytes(alloc, &[*letter])?)?;
+        names.push(&[*letter])?;
     }
     Ok(h.coord(&names)?)
 }
