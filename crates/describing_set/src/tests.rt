@@ -10,7 +10,7 @@ use crate::path::Path;
 use crate::plane::{goes_left, plane_of};
 use crate::set::DescSet;
 use dim_hierarchy::{
-    CompiledFilter, ConceptId, Coord, Hierarchy, Name, NameFilter, NamePick, Names,
+    CompiledFilter, ConceptId, Coord, Hierarchy, Name, NameFilter, NamePick, Names, RowNames,
 };
 use std::alloc::Global;
 use std::test::Fail;
@@ -61,23 +61,16 @@ fn places(alloc: Global) -> Result<Hierarchy, Fail>
     one_dim(alloc, 2, &CONCEPTS)
 }
 
-/// A name for each of these letters.
-fn names(alloc: Global, letters: &[u8]) -> Result<Names, Fail>
-    ensures { IfOk result (λ names. length names ≡ length letters.now) }
-{
-    let mut names = Names::new(alloc);
-    for letter in letters {
-        names.push(Name::from_bytes(alloc, &[*letter])?)?;
-    }
-    Ok(names)
-}
-
 /// The coordinate of concepts of these letters, one for each dimension.
 fn coord(alloc: Global, h: &Hierarchy, letters: &[u8]) -> Result<Coord, Fail>
     requires { length letters.now ≡ length h.now }
     ensures { IfOk result (IsCoordOf h.now) }
 {
-    Ok(h.coord(&names(alloc, letters)?)?)
+    let mut names = RowNames::new(alloc);
+    for letter in letters {
+        names.push(&[*letter])?;
+    }
+    Ok(h.coord(&names)?)
 }
 
 /// The set of the coordinates of these letters, where there is one dimension.
@@ -260,6 +253,17 @@ fn eight_dimensions(rt: HostRuntime) -> Result<(), Fail> {
     let right = side(alloc, &h, &set, b"aababaaa")?;
     assert_eq!(rt; (left, right), (Some((2, true)), Some((2, false))));
     Ok(())
+}
+
+/// A name for each of these letters.
+fn names(alloc: Global, letters: &[u8]) -> Result<Names, Fail>
+    ensures { IfOk result (λ names. length names ≡ length letters.now) }
+{
+    let mut names = Names::new(alloc);
+    for letter in letters {
+        names.push(Name::from_bytes(alloc, &[*letter])?)?;
+    }
+    Ok(names)
 }
 
 /// A pick of the concepts of these letters, of all where there is none.

@@ -8,6 +8,7 @@ pub mod Growth
 pub mod Lineages
 pub mod Marking
 pub mod Matching
+pub mod NameBytes
 pub mod Named
 pub mod Names
 pub mod Places

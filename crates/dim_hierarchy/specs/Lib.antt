@@ -3,6 +3,7 @@ pub mod Tree
 pub mod Lineage
 pub mod Dimension
 pub mod Row
+pub mod RowNames
 pub mod Column
 pub mod CoordLineages
 pub mod Filter

@@ -8,8 +8,9 @@ ghost use Rattle.dim_hierarchy.specs.Filter.{IsFilterOf, IsFilterNamed, IsNamePi
 use crate::concept::ConceptId;
 use crate::dimension::DimensionTable;
 use crate::filter::{Filter, NameFilter, Pick};
-use crate::items::{Name, Names};
+use crate::items::Name;
 use crate::row::Coord;
+use crate::row_names::RowNames;
 use std::alloc::{AllocError, Global};
 use std::marker::Model;
 
@@ -292,7 +293,7 @@ impl Hierarchy {
 
     /// The coordinate of these names, one for each dimension; else the first dimension whose name
     /// is not that of a leaf concept. Takes no memory.
-    pub fn coord(&self, names: &Names) -> Result<Coord, u8>
+    pub fn coord(&self, names: &RowNames) -> Result<Coord, u8>
         requires { length names.now ≡ length self.now }
         ensures unknown { IfSome (position is_none (leaves self.now names.now))
             (λ dim. result ≡ Err dim) }
@@ -310,13 +311,13 @@ impl Hierarchy {
     }
 
     /// The leaf concept of a dimension's name among these.
-    fn leaf(&self, names: &Names, dim: u8) -> Option<ConceptId>
+    fn leaf(&self, names: &RowNames, dim: u8) -> Option<ConceptId>
         requires count { length names.now ≡ length self.now }
         requires dim { dim < length self.now }
         ensures { result ≡ slice_index_or (leaves self.now names.now) dim None }
     {
-        let name = &names.as_slice()[usize::from(dim)];
-        self.table(dim).find_leaf(name.as_slice())
+        let name = names.get(usize::from(dim));
+        self.table(dim).find_leaf(name)
     }
 
     /// The filter of these picks by name, one for each dimension; else the first dimension with a

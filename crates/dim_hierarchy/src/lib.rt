@@ -12,6 +12,7 @@ mod items;
 mod marks;
 mod name_table;
 mod row;
+mod row_names;
 
 pub use column::{Column, RowPlaces};
 pub use compiled::CompiledFilter;
@@ -21,3 +22,4 @@ pub use filter::{Filter, IdList, NameFilter, NamePick, Pick};
 pub use hierarchy::{ConceptFault, DimFault, FilterFault, Hierarchy};
 pub use items::{Items, Name, Names};
 pub use row::{Coord, Row};
+pub use row_names::RowNames;

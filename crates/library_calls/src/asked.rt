@@ -5,7 +5,7 @@ ghost use Rattle.dim_hierarchy.specs.Row.{IsCoordNamed, leaves};
 ghost use Rattle.dim_hierarchy.specs.declared.filter.Pick.{Pick};
 ghost use Rattle.dim_hierarchy.specs.declared.row.Coord.{Coord};
 
-use dim_hierarchy::{FilterFault, Hierarchy, NameFilter, Names};
+use dim_hierarchy::{FilterFault, Hierarchy, NameFilter, RowNames};
 use std::alloc::Global;
 
 /// Whether a row of these names is one that the question in names asks for. Else the first dimension
@@ -13,7 +13,7 @@ use std::alloc::Global;
 pub fn is_counted(
     alloc: Global,
     h: &Hierarchy,
-    row: &Names,
+    row: &RowNames,
     question: &NameFilter,
 ) -> Result<bool, FilterFault>
     requires row { length row.now ≡ length h.now }

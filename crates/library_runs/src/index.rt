@@ -8,7 +8,7 @@ ghost use Rattle.seeded_run.specs.Phase.{IsCoreHeld, MayRun, held};
 ghost use Rattle.volap_cell.specs.Steps.{history_in};
 ghost use Rattle.library_runs.specs.Index.{AnswersLast, AnswersNothing, HasDone, IsHeld, IsNew, IsRightIndex, alone, history_of};
 
-use dim_hierarchy::{Hierarchy, NameFilter, Names};
+use dim_hierarchy::{Hierarchy, NameFilter, RowNames};
 use measure_agg::Agg;
 use row_ledger::{Event, Use};
 use script_form::{Command, Commands, NewRow, Question};
@@ -101,7 +101,7 @@ impl Index {
     }
 
     /// Inserts a row, of one name for each dimension.
-    pub fn insert(self, alloc: Global, names: Names, measure: i64) -> Result<Index, AllocError>
+    pub fn insert(self, alloc: Global, names: RowNames, measure: i64) -> Result<Index, AllocError>
         requires held { IsHeld self }
         requires names { length names ≡ length self.hierarchy }
         ensures held { IfOk result IsHeld }

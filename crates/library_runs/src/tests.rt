@@ -4,7 +4,7 @@ ghost use Rattle.dim_hierarchy.specs.Filter.{IsNamePick};
 ghost use Rattle.library_runs.specs.Index.{IsHeld};
 
 use crate::{Index, run_text};
-use dim_hierarchy::{Hierarchy, Name, NameFilter, NamePick, Names};
+use dim_hierarchy::{Hierarchy, Name, NameFilter, NamePick, Names, RowNames};
 use measure_agg::Agg;
 use olap_top::Status;
 use script_form::{Script, read_script};
@@ -29,12 +29,13 @@ fn towns(alloc: Global) -> Result<Hierarchy, Fail>
     Ok(hierarchy)
 }
 
-/// One name.
-fn names(alloc: Global, text: &str) -> Result<Names, AllocError>
+/// The one name of a row, of a text its first 255 bytes.
+fn names(alloc: Global, text: &str) -> Result<RowNames, AllocError>
     ensures { IfOk result (λ names. length names ≡ 1) }
 {
-    let mut names = Names::new(alloc);
-    names.push(Name::from_bytes(alloc, text.as_bytes())?)?;
+    let bytes = text.as_bytes();
+    let mut names = RowNames::new(alloc);
+    names.push(&bytes[..bytes.len().min(255)])?;
     Ok(names)
 }
 
@@ -43,8 +44,10 @@ fn under(alloc: Global, text: &str) -> Result<NameFilter, AllocError>
     ensures one { IfOk result (λ filter. length filter ≡ 1) }
     ensures some { IfOk result (λ filter. All IsNamePick filter) }
 {
+    let mut names = Names::new(alloc);
+    names.push(Name::from_bytes(alloc, text.as_bytes())?)?;
     let mut filter = NameFilter::new(alloc);
-    filter.push(NamePick::Any(names(alloc, text)?))?;
+    filter.push(NamePick::Any(names))?;
     Ok(filter)
 }
 

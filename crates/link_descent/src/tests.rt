@@ -14,7 +14,7 @@ use arrayvec::ArrayVec;
 use cell_stock::{Purse, Stock};
 use dc_node::{Blanks, Block, Body, Entry};
 use describing_set::DescSet;
-use dim_hierarchy::{ConceptId, Hierarchy, Name, Names, Row};
+use dim_hierarchy::{ConceptId, Hierarchy, Name, Row, RowNames};
 use measure_agg::Agg;
 use shard_store::{Gate, Phase};
 use std::alloc::{AllocError, Global};
@@ -77,10 +77,10 @@ fn hierarchy(alloc: Global) -> Result<Hierarchy, Fail>
 type Shape = [(u8, u64, u64); 3];
 
 /// The name of a row's concept in a dimension.
-fn name(alloc: Global, places: (u8, u64, u64), no: u64) -> Result<Name, AllocError> {
+fn name(places: (u8, u64, u64), no: u64) -> [u8; 2] {
     let (count, turn, step) = places;
     let place = ((no / turn.max(1)).wrapping_mul(step) % u64::from(count.clamp(1, 48))) as u8;
-    Name::from_bytes(alloc, &[b'A' + place / 8, b'a' + place % 8])
+    [b'A' + place / 8, b'a' + place % 8]
 }
 
 /// The row of a number.
@@ -88,10 +88,10 @@ fn row(alloc: Global, h: &Hierarchy, shape: &Shape, no: u64) -> Result<Row, Fail
     requires { length h.now ≡ 3 }
     ensures { IfOk result (IsRowOf h.now) }
 {
-    let mut names = Names::new(alloc);
-    names.push(name(alloc, shape[0], no)?)?;
-    names.push(name(alloc, shape[1], no)?)?;
-    names.push(name(alloc, shape[2], no)?)?;
+    let mut names = RowNames::new(alloc);
+    names.push(&name(shape[0], no))?;
+    names.push(&name(shape[1], no))?;
+    names.push(&name(shape[2], no))?;
     Ok(Row {
         no,
         at: h.coord(&names)?,

@@ -10,7 +10,9 @@ use crate::put_leaf;
 use crate::visits::visit;
 use dc_node::{Blanks, Block, Entry, Item, Todo};
 use describing_set::DescSet;
-use dim_hierarchy::{CompiledFilter, Filter, Hierarchy, Name, NameFilter, NamePick, Names, Row};
+use dim_hierarchy::{
+    CompiledFilter, Filter, Hierarchy, Name, NameFilter, NamePick, Names, Row, RowNames,
+};
 use measure_agg::Agg;
 use std::alloc::{AllocError, Global};
 use std::test::Fail;
@@ -36,8 +38,8 @@ fn row(alloc: Global, h: &Hierarchy, letter: u8, measure: i64) -> Result<Row, Fa
     requires { length h.now ≡ 1 }
     ensures { IfOk result (IsRowOf h.now) }
 {
-    let mut names = Names::new(alloc);
-    names.push(Name::from_bytes(alloc, &[letter])?)?;
+    let mut names = RowNames::new(alloc);
+    names.push(&[letter])?;
     Ok(Row {
         no: 0,
         at: h.coord(&names)?,

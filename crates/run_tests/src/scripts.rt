@@ -5,7 +5,7 @@ ghost use Rattle.script_form.specs.Scripts.{AreSettings};
 ghost use Rattle.script_form.specs.declared.script.Command.TheVariants as script_is;
 ghost use Rattle.seeded_run.specs.Phase.{MayAllRun, MayRun};
 
-use dim_hierarchy::{Hierarchy, Name, NameFilter, NamePick, Names};
+use dim_hierarchy::{Hierarchy, Name, NameFilter, NamePick, Names, RowNames};
 use row_ledger::{Call, Use};
 use script_form::{Command, Commands, NewRow, Question, Script, read_script};
 use std::alloc::{AllocError, Global};
@@ -32,10 +32,11 @@ fn pick(alloc: Global, picked: &[&str]) -> Result<NamePick, AllocError> {
     Ok(NamePick::Any(names))
 }
 
-/// The insert of a row.
+/// The insert of a row, of whose name the first 255 bytes count.
 fn insert(alloc: Global, server: u8, measure: i64, name: &str) -> Result<Command, AllocError> {
-    let mut names = Names::new(alloc);
-    names.push(Name::from_bytes(alloc, name.as_bytes())?)?;
+    let bytes = name.as_bytes();
+    let mut names = RowNames::new(alloc);
+    names.push(&bytes[..bytes.len().min(255)])?;
     Ok(Command::Insert(NewRow {
         server,
         measure,

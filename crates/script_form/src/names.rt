@@ -1,5 +1,5 @@
 //! Names and filters as the fields of a record spell them.
-ghost use Rattle.std.specs.Prelude.{◌≡◌, ◌≤◌, length, drop, map, position, IfOk};
+ghost use Rattle.std.specs.Prelude.{◌≡◌, ◌≤◌, true, length, drop, map, position, IfOk};
 ghost use Rattle.std.specs.List.{list_all};
 ghost use Rattle.csv.specs.Records.{fields_of};
 ghost use Rattle.script_form.specs.Fields.{is_bar, is_name, is_pick, pieces};
@@ -7,7 +7,7 @@ ghost use Rattle.script_form.specs.Scripts.{pick_of};
 
 use crate::field::{field, is_name, is_star};
 use csv::ByteRecord;
-use dim_hierarchy::{Name, NameFilter, NamePick, Names};
+use dim_hierarchy::{Name, NameFilter, NamePick, Names, RowNames};
 use std::alloc::{AllocError, Global};
 
 /// The place of the first vertical bar.
@@ -61,16 +61,26 @@ pub(crate) fn are_picks(row: &ByteRecord, from: usize) -> bool
     true
 }
 
-/// The fields from a place on, as names.
-pub(crate) fn names(alloc: Global, row: &ByteRecord, from: usize) -> Result<Names, AllocError>
-    requires { from ≤ length (fields_of row.now) }
+/// The fields from a place on, as a row's names.
+pub(crate) fn names(alloc: Global, row: &ByteRecord, from: usize) -> Result<RowNames, AllocError>
+    requires within { from ≤ length (fields_of row.now) }
+    requires names { list_all is_name (drop from (fields_of row.now)) ≡ true }
     ensures { IfOk result (λ names. names ≡ drop from (fields_of row.now)) }
 {
-    let mut names = Names::from_vec(Vec::with_capacity(alloc, row.len() - from)?);
+    let mut names = RowNames::with_capacity(alloc, room(row, from))?;
     for i in from..row.len() {
-        names.push(Name::from_bytes(alloc, field(row, i))?)?;
+        names.push(field(row, i))?;
     }
     Ok(names)
+}
+
+/// How many bytes the fields from a place on take as a row's names.
+fn room(row: &ByteRecord, from: usize) -> usize {
+    let mut bytes: usize = 0;
+    for i in from..row.len() {
+        bytes = bytes.saturating_add(1 + field(row, i).len());
+    }
+    bytes
 }
 
 /// The fields from a place on, as a filter.

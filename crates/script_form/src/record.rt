@@ -1,8 +1,9 @@
 //! What a record adds to the script of those before it.
-ghost use Rattle.std.specs.Prelude.{◌≡◌, ◌≤◌, true, false, is_some, IsTrue, Some, length, IfOk, IfErr, OnErr, OnOk};
+ghost use Rattle.std.specs.Prelude.{◌≡◌, ◌≤◌, true, false, is_some, IsTrue, Some, length, drop, IfOk, IfErr, OnErr, OnOk};
+ghost use Rattle.std.specs.List.{list_all};
 ghost use Rattle.csv.specs.Records.{fields_of};
 ghost use Rattle.script_form.specs.Limits.{most_levels};
-ghost use Rattle.script_form.specs.Fields.{field, in_range, is_below};
+ghost use Rattle.script_form.specs.Fields.{field, in_range, is_below, is_name};
 ghost use Rattle.script_form.specs.Causes.{HasForm, TellsCause, cause_at, hierarchy_cause, parent_of, wrong_number};
 ghost use Rattle.script_form.specs.Scripts.{IsTaken, after, call_by, command_by, hierarchy_with, settings_in};
 ghost use Rattle.script_form.specs.declared.kind.Kind.TheVariants as kind;
@@ -181,6 +182,7 @@ fn parent(hierarchy: &Hierarchy, dim: u8, name: &[u8]) -> Option<ConceptId>
 fn new_row(alloc: Global, row: &ByteRecord) -> Result<NewRow, AllocError>
     requires server { is_below (field (fields_of row.now) 1) 256 ≡ true }
     requires fields { 3 ≤ length (fields_of row.now) }
+    requires names { list_all is_name (drop 3 (fields_of row.now)) ≡ true }
     ensures { IfOk result
         (λ new. command_by (Some kind.Insert) (fields_of row.now) ≡ Some (Command.Insert new)) }
 {

@@ -1,5 +1,5 @@
 //! Scripts, and why a text is none.
-use dim_hierarchy::{Hierarchy, Items, NameFilter, Names};
+use dim_hierarchy::{Hierarchy, Items, NameFilter, RowNames};
 use row_ledger::{Call, Use};
 
 /// Why a record is bad, in the order in which causes count.
@@ -45,7 +45,7 @@ pub enum ScriptFault {
 pub struct NewRow {
     pub server: u8,
     pub measure: i64,
-    pub names: Names,
+    pub names: RowNames,
 }
 
 /// A query to a server: what it asks of each dimension, by names.

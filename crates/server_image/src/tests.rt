@@ -7,7 +7,7 @@ ghost use Rattle.server_image.specs.Image.{AreGrowths};
 
 use crate::{Image, Registry};
 use describing_set::{DescSet, Path, Spot};
-use dim_hierarchy::{Coord, Filter, Hierarchy, Name, NameFilter, NamePick, Names};
+use dim_hierarchy::{Coord, Filter, Hierarchy, Name, NameFilter, NamePick, Names, RowNames};
 use std::alloc::{AllocError, Global};
 use std::process::Abort;
 use std::test::Fail;
@@ -32,8 +32,8 @@ fn at(alloc: Global, h: &Hierarchy, letter: u8) -> Result<Coord, Fail>
     requires { length h.now ≡ 1 }
     ensures { IfOk result (IsCoordOf h.now) }
 {
-    let mut names = Names::new(alloc);
-    names.push(Name::from_bytes(alloc, &[letter])?)?;
+    let mut names = RowNames::new(alloc);
+    names.push(&[letter])?;
     Ok(h.coord(&names)?)
 }
 

@@ -2,7 +2,7 @@
 ghost use Rattle.std.specs.Prelude.{◌≡◌, ◌+◌, length, IfOk, OnOk};
 ghost use Rattle.dim_hierarchy.specs.Row.{IsCoordOf, IsRowOf};
 
-use dim_hierarchy::{Coord, Hierarchy, Name, Names, Row};
+use dim_hierarchy::{Coord, Hierarchy, Name, Names, Row, RowNames};
 use std::alloc::{AllocError, Global};
 use std::test::Fail;
 
@@ -79,12 +79,24 @@ pub fn names(alloc: Global, texts: &[&str]) -> Result<Names, AllocError>
     Ok(names)
 }
 
+/// The names of a row, of each text its first 255 bytes.
+pub fn row_names(alloc: Global, texts: &[&str]) -> Result<RowNames, AllocError>
+    ensures { IfOk result (λ names. length names ≡ length texts.now) }
+{
+    let mut names = RowNames::new(alloc);
+    for text in texts {
+        let bytes = text.as_bytes();
+        names.push(&bytes[..bytes.len().min(255)])?;
+    }
+    Ok(names)
+}
+
 /// The coordinate of leaf concepts, by their names.
 pub fn coord(alloc: Global, h: &Hierarchy, texts: &[&str]) -> Result<Coord, Fail>
     requires { length texts.now ≡ length h.now }
     ensures { IfOk result (IsCoordOf h.now) }
 {
-    Ok(h.coord(&names(alloc, texts)?)?)
+    Ok(h.coord(&row_names(alloc, texts)?)?)
 }
 
 /// The row of a number at a leaf concept, where there is one dimension.

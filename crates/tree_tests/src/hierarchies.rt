@@ -5,7 +5,7 @@ ghost use Rattle.dim_hierarchy.specs.Dimension.{tree};
 ghost use Rattle.dim_hierarchy.specs.Row.{IsCoordOf};
 ghost use Rattle.dim_hierarchy.specs.Filter.{IsFilterOf, IsNamePick};
 
-use crate::fixtures::{Dim, coord, hierarchy, names};
+use crate::fixtures::{Dim, coord, hierarchy, names, row_names};
 use dim_hierarchy::{
     CompiledFilter, ConceptFault, ConceptId, Coord, DimFault, Filter, FilterFault, Hierarchy, Name,
     NameFilter, NamePick, Pick,
@@ -156,7 +156,7 @@ fn expect_coords<R: Abort>(rt: &R, alloc: Global, h: &Hierarchy) -> Result<(), F
         (["rome", "green"], Err(0)),
     ];
     for (texts, answer) in &CASES {
-        assert_eq!(rt; h.coord(&names(alloc, texts)?), *answer);
+        assert_eq!(rt; h.coord(&row_names(alloc, texts)?), *answer);
     }
     Ok(())
 }
