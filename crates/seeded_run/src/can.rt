@@ -85,16 +85,16 @@ fn command_step(
     with: &Use,
     state: &State,
     actor: &Actor,
-    open: &Open,
+    command: &Open,
     number: usize,
     next: Option<&Command>,
     left: usize,
 ) -> Option<DueStep>
     ensures { result ≡ option_map GoesOn (work_kind (setting_by [] with.now) (history_at state.now.cells.items) (alone_by state.now.actors.items number (option_copied next.entry) left)
-        (desk_of (setting_by [] with.now) (world_by state.now.cells.items) (actor_of actor.now).role) (actor_of actor.now) open.now.of open.now.work) }
+        (desk_of (setting_by [] with.now) (world_by state.now.cells.items) (actor_of actor.now).role) (actor_of actor.now) command.now.of command.now.work) }
 {
-    let alone = waits_for_others(&open.work) && is_alone(&state.actors, number, next, left);
-    match work_kind(with, &state.cells, alone, actor, open.of, &open.work) {
+    let alone = waits_for_others(&command.work) && is_alone(&state.actors, number, next, left);
+    match work_kind(with, &state.cells, alone, actor, command.of, &command.work) {
         Some(due) => Some(DueStep::GoesOn(due)),
         None => None,
     }
