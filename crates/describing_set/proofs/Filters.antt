@@ -216,7 +216,7 @@ same_test false true m = m.1 refl
 same_test false false m = refl
 
 -- the test from one dimension on is that of all, where those before pass it
-pub met_from-overlaps : (h : List Dimension) (set : DescSet) (f : List Pick) (first : ℕ) (met : Bool) → IsDescSetOf h set → IsFilterOf h f → first < length h → ((k : ℕ) → k < first → test_at is_part_met h set.parts.items f All k ≡ true) → IsTrue met ↔ IsMetFrom h set f first → met ≡ overlaps h set f
+met_from-overlaps : (h : List Dimension) (set : DescSet) (f : List Pick) (first : ℕ) (met : Bool) → IsDescSetOf h set → IsFilterOf h f → first < length h → ((k : ℕ) → k < first → test_at is_part_met h set.parts.items f All k ≡ true) → IsTrue met ↔ IsMetFrom h set f first → met ≡ overlaps h set f
 met_from-overlaps h set f first met s v lt before m =
     let each = met_from-in_each h set f first s v before in
     rw (lt-ltb 0 (length h) (omega arith)) (same_test met (in_each is_part_met h set.parts.items f) (λ e. each.0 (m.0 e), λ e. m.1 (each.1 e)))

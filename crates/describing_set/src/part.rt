@@ -1,15 +1,17 @@
 //! One dimension of a describing set.
-ghost use Rattle.std.specs.Prelude.{◌≡◌, ◌<◌, ◌≤◌, ◌-◌, [], ◌∷◌, length};
+ghost use Rattle.std.specs.Prelude.{◌≡◌, ◌<◌, ◌≤◌, ◌-◌, [], ◌∷◌, length, All};
+ghost use Rattle.std.specs.List.{list_any};
 ghost use Rattle.std.specs.Bool.{OnTrue};
 ghost use Rattle.dim_hierarchy.specs.Concept.{level_of};
 ghost use Rattle.dim_hierarchy.specs.Tree.{IsConcept, leaf_level};
 ghost use Rattle.dim_hierarchy.specs.Dimension.{tree, IsHierarchy};
 ghost use Rattle.dim_hierarchy.specs.Row.{concept_at};
-ghost use Rattle.dim_hierarchy.specs.Filter.{pick_at};
+ghost use Rattle.dim_hierarchy.specs.Filter.{pick_at, IsPickOf};
 ghost use Rattle.dim_hierarchy.specs.Compiled.{AreOfLevel};
+ghost use Rattle.describing_set.specs.Filter.{are_related};
 
 use crate::few::FewConcepts;
-use dim_hierarchy::{CompiledFilter, ConceptId, CoordLineages, Hierarchy};
+use dim_hierarchy::{CompiledFilter, ConceptId, CoordLineages, Hierarchy, Pick};
 
 /// One dimension of a describing set: a level, and at most 6 concepts of it, ascending.
 #[derive(Clone, Copy, Debug, Default, Drop, PartialEq)]
@@ -147,4 +149,52 @@ impl Part {
     {
         wanted.meets_any(dim, self.level, self.ids.as_slice())
     }
+
+    /// As `is_met`, by a pick that is not compiled: whether the part has a concept, and the pick is all
+    /// or lists a concept of which one of the part's is an ancestor or a descendant.
+    pub(crate) fn is_met_by(&self, h: &Hierarchy, dim: u8, pick: &Pick) -> bool
+        requires dim { dim < length h.now }
+        requires concepts { All (IsConcept (tree h.now dim)) self.now.ids.items }
+        requires pick { IsPickOf (tree h.now dim) pick.now }
+        ensures { result ≡ is_part_met (tree h.now dim) self.now pick.now }
+    {
+        match pick {
+            Pick::All => !self.ids.is_empty(),
+            Pick::Ids(tops) => self.is_related_to_any(h, dim, tops.as_slice()),
+        }
+    }
+
+    /// Whether one of the part's concepts is an ancestor or a descendant of one of these.
+    fn is_related_to_any(&self, h: &Hierarchy, dim: u8, tops: &[ConceptId]) -> bool
+        requires dim { dim < length h.now }
+        requires concepts { All (IsConcept (tree h.now dim)) self.now.ids.items }
+        requires tops { All (IsConcept (tree h.now dim)) tops.now }
+        ensures { result
+            ≡ list_any (λ id. list_any (are_related (tree h.now dim) id) tops.now) self.now.ids.items }
+    {
+        self.ids
+            .as_slice()
+            .iter()
+            .any(|id| is_any_related(h, dim, *id, tops))
+    }
+}
+
+/// Whether the concept is an ancestor or a descendant of one of these.
+fn is_any_related(h: &Hierarchy, dim: u8, id: ConceptId, tops: &[ConceptId]) -> bool
+    requires dim { dim < length h.now }
+    requires concept { IsConcept (tree h.now dim) id }
+    requires tops { All (IsConcept (tree h.now dim)) tops.now }
+    ensures { result ≡ list_any (are_related (tree h.now dim) id) tops.now }
+{
+    tops.iter().any(|top| are_related(h, dim, id, *top))
+}
+
+/// Whether one of two concepts is under the other.
+fn are_related(h: &Hierarchy, dim: u8, id: ConceptId, other: ConceptId) -> bool
+    requires dim { dim < length h.now }
+    requires concept { IsConcept (tree h.now dim) id }
+    requires other { IsConcept (tree h.now dim) other }
+    ensures { result ≡ are_related (tree h.now dim) id other }
+{
+    h.is_under(dim, id, other) || h.is_under(dim, other, id)
 }

@@ -4,14 +4,14 @@ ghost use Rattle.std.specs.Bool.{OnFalse};
 ghost use Rattle.dim_hierarchy.specs.Tree.{IsConcept, leaf_level};
 ghost use Rattle.dim_hierarchy.specs.Dimension.{tree, IsHierarchy};
 ghost use Rattle.dim_hierarchy.specs.Row.{IsCoordOf};
-ghost use Rattle.dim_hierarchy.specs.Filter.{Matches};
+ghost use Rattle.dim_hierarchy.specs.Filter.{IsFilterOf, Matches, pick_at};
 ghost use Rattle.dim_hierarchy.specs.Compiled.{AreOfLevel};
 
 use crate::bearing::Bearing;
 use crate::few::FewConcepts;
 use crate::part::Part;
 use crate::part_list::PartList;
-use dim_hierarchy::{CompiledFilter, Coord, CoordLineages, Hierarchy};
+use dim_hierarchy::{CompiledFilter, Coord, CoordLineages, Filter, Hierarchy, Pick};
 
 /// A part for each dimension. No call on sets takes memory.
 #[derive(Debug, Default, Drop, PartialEq)]
@@ -23,9 +23,9 @@ impl DescSet {
     ghost use Rattle.dim_hierarchy.specs.declared.row.Coord.{Coord};
     ghost use Rattle.describing_set.specs.declared.set.DescSet.{DescSet};
     ghost use Rattle.describing_set.specs.Part.{IsPart};
-    ghost use Rattle.describing_set.specs.DescSet.{part_at, IsSetOf, IsDescSetOf, GrowsBy, JoinsTo, Covers, covers, growth_of, size_of, Describes, AreAmong};
+    ghost use Rattle.describing_set.specs.DescSet.{part_at, IsSetOf, IsDescSetOf, GrowsBy, JoinsTo, Covers, covers, growth_of, size_of, in_each, Describes, AreAmong};
     ghost use Rattle.describing_set.specs.declared.bearing.Bearing.TheVariants.{Inside, Apart};
-    ghost use Rattle.describing_set.specs.Filter.{Overlaps, overlaps, IsMetFrom, IsBearing, bearing};
+    ghost use Rattle.describing_set.specs.Filter.{Overlaps, overlaps, is_part_met, IsMetFrom, IsBearing, bearing};
 
     /// The set of no coordinate: the leaf level and no concept everywhere.
     pub fn empty(h: &Hierarchy) -> DescSet
@@ -129,16 +129,30 @@ impl DescSet {
     /// Whether the set is not empty, and in each dimension the filter is all or lists a concept of
     /// which one of the set's is an ancestor or a descendant. Else the filter matches no coordinate
     /// that the set covers. False where there is no dimension.
-    pub fn overlaps(&self, wanted: &CompiledFilter) -> bool
-        requires { IsDescSetOf wanted.now.hierarchy self.now }
-        ensures test { result ≡ overlaps wanted.now.hierarchy self.now wanted.now.picks }
-        ensures meaning { IsTrue result
-            ↔ Overlaps wanted.now.hierarchy self.now wanted.now.picks }
-        ensures none_match { OnFalse result (0 < length wanted.now.hierarchy
-            → (at : Coord) → Covers wanted.now.hierarchy self.now at
-            → ¬ Matches wanted.now.hierarchy wanted.now.picks at) }
+    pub fn overlaps(&self, h: &Hierarchy, filter: &Filter) -> bool
+        requires set { IsDescSetOf h.now self.now }
+        requires filter { IsFilterOf h.now filter.now }
+        ensures test { result ≡ overlaps h.now self.now filter.now }
+        ensures meaning { IsTrue result ↔ Overlaps h.now self.now filter.now }
+        ensures none_match { OnFalse result (0 < length h.now
+            → (at : Coord) → Covers h.now self.now at → ¬ Matches h.now filter.now at) }
     {
-        wanted.dims() > 0 && self.is_met_from(wanted, 0)
+        h.dims() > 0 && self.is_met_by(h, filter)
+    }
+
+    /// Whether in each dimension the set is not empty, and the filter is all or lists a concept of
+    /// which one of the set's is an ancestor or a descendant.
+    fn is_met_by(&self, h: &Hierarchy, filter: &Filter) -> bool
+        requires set { IsDescSetOf h.now self.now }
+        requires filter { IsFilterOf h.now filter.now }
+        ensures { result ≡ in_each is_part_met h.now self.now.parts.items filter.now }
+    {
+        for dim in 0..h.dims() {
+            if !self.part(h, dim).is_met_by(h, dim, pick(filter, dim)) {
+                return false;
+            }
+        }
+        true
     }
 
     /// Whether in each dimension from this one on the set is not empty, and the filter is all or lists
@@ -238,4 +252,12 @@ impl DescSet {
     {
         &self.parts.as_slice()[usize::from(dim)]
     }
+}
+
+/// The pick of a filter in a dimension.
+fn pick(filter: &Filter, dim: u8) -> &Pick
+    requires { dim < length filter.now }
+    ensures { result.now ≡ pick_at filter.now dim }
+{
+    &filter.as_slice()[usize::from(dim)]
 }

@@ -1,7 +1,7 @@
 //! How sets grow, what they cover, and how they lie to filters.
 ghost use Rattle.std.specs.Prelude.{◌≡◌, ◌+◌, ◌<◌, All, length, IfOk, OnOk};
 ghost use Rattle.dim_hierarchy.specs.Row.{IsCoordOf};
-ghost use Rattle.dim_hierarchy.specs.Filter.{IsNamePick};
+ghost use Rattle.dim_hierarchy.specs.Filter.{IsFilterOf, IsNamePick};
 ghost use Rattle.describing_set.specs.DescSet.{IsDescSetOf};
 
 use crate::bearing::Bearing;
@@ -10,7 +10,7 @@ use crate::path::Path;
 use crate::plane::{goes_left, plane_of};
 use crate::set::DescSet;
 use dim_hierarchy::{
-    CompiledFilter, ConceptId, Coord, Hierarchy, Name, NameFilter, NamePick, Names, RowNames,
+    ConceptId, Coord, Filter, Hierarchy, Name, NameFilter, NamePick, Names, RowNames,
 };
 use std::alloc::Global;
 use std::test::Fail;
@@ -288,12 +288,12 @@ fn picks(alloc: Global, texts: &[&[u8]]) -> Result<NameFilter, Fail>
     Ok(picks)
 }
 
-/// The compiled filter of a text for each dimension.
-fn compiled(alloc: Global, h: &Hierarchy, texts: &[&[u8]]) -> Result<CompiledFilter, Fail>
+/// The filter of a text for each dimension.
+fn filter(alloc: Global, h: &Hierarchy, texts: &[&[u8]]) -> Result<Filter, Fail>
     requires { length texts.now ≡ length h.now }
-    ensures { IfOk result (λ wanted. wanted.hierarchy ≡ h.now) }
+    ensures { IfOk result (IsFilterOf h.now) }
 {
-    Ok(h.compile(alloc, &h.filter(alloc, &picks(alloc, texts)?)?)?)
+    Ok(h.filter(alloc, &picks(alloc, texts)?)?)
 }
 
 /// How a set lies to the filter of these texts, and whether it overlaps that.
@@ -306,8 +306,9 @@ fn bearing(
     requires set { IsDescSetOf h.now set.now }
     requires texts { length texts.now ≡ length h.now }
 {
-    let wanted = compiled(alloc, h, texts)?;
-    Ok((set.bearing(&wanted), set.overlaps(&wanted)))
+    let filter = filter(alloc, h, texts)?;
+    let bearing = set.bearing(&h.compile(alloc, &filter)?);
+    Ok((bearing, set.overlaps(h, &filter)))
 }
 
 /// The same for the set of the coordinates of these letters, where there is one dimension.

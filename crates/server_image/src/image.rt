@@ -8,7 +8,7 @@ use crate::rank::comes_before;
 use crate::registry::Registry;
 use crate::spots::grow_spots;
 use describing_set::{Listing, Path, Spot};
-use dim_hierarchy::{CompiledFilter, Coord, CoordLineages, Filter, Hierarchy};
+use dim_hierarchy::{Coord, CoordLineages, Filter, Hierarchy};
 use std::alloc::{AllocError, Global};
 use std::marker::Model;
 
@@ -124,14 +124,14 @@ impl Image {
         self.owed -= 1;
     }
 
-    /// The shards that a query asks: those whose boxes overlap its filter, in order.
+    /// The shards that a query asks: those whose boxes overlap its filter, in order. Takes memory for
+    /// the listing alone.
     pub fn plan(&self, alloc: Global, filter: &Filter, h: &Hierarchy) -> Result<Listing, AllocError>
         requires boxes { AreBoxes h.now self.now.spots }
         requires filter { IsFilterOf h.now filter.now }
         ensures { IfOk result (λ listing. listing ≡ planned h.now filter.now self.now.spots) }
     {
-        let wanted = h.compile(alloc, filter)?;
-        overlapping(alloc, &self.spots, &wanted)
+        overlapping(alloc, &self.spots, filter, h)
     }
 
     /// Pushes the growths to the registry and takes its frontier. What is owed stays, with its
@@ -175,14 +175,16 @@ fn add<T: Copy>(items: &mut Vec<T>, item: &T)
 fn overlapping(
     alloc: Global,
     spots: &[Spot],
-    wanted: &CompiledFilter,
+    filter: &Filter,
+    h: &Hierarchy,
 ) -> Result<Listing, AllocError>
-    requires boxes { AreBoxes wanted.now.hierarchy spots.now }
-    ensures { IfOk result (λ listing. listing ≡ planned wanted.now.hierarchy wanted.now.picks spots.now) }
+    requires boxes { AreBoxes h.now spots.now }
+    requires filter { IsFilterOf h.now filter.now }
+    ensures { IfOk result (λ listing. listing ≡ planned h.now filter.now spots.now) }
 {
     let mut listing = Listing::new(alloc);
     for spot in spots {
-        let asked = spot.set.overlaps(wanted);
+        let asked = spot.set.overlaps(h, filter);
         if asked {
             listing.push(spot.copy())?;
         }

@@ -3,4 +3,4 @@ use Rattle.server_image.specs.Image.{planned}
 use Rattle.server_image.proofs.image.overlapping.Given as goal
 
 abbrev pub invariant-loop-spot : goal.invariant-loop-spot
-invariant-loop-spot l = l.listing ≡ planned l.wanted.hierarchy l.wanted.picks (take l.spot-index l.spots)
+invariant-loop-spot l = l.listing ≡ planned l.h l.filter (take l.spot-index l.spots)
