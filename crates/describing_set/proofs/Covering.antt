@@ -1,8 +1,8 @@
 -- Tests along the dimensions, and what a set covers.
-use Rattle.std.proofs.Common.{ℕ, zero, suc, ◌≡◌, ◌+◌, ◌<◌, ◌≤◌, Bool, true, false, eqb, List, [], ◌∷◌, length, map, get_or, refl, sym, ap, subst, ◌∙◌, arith, inl, inr, Contains, eq-eqb, sum}
+use Rattle.std.proofs.Common.{ℕ, zero, suc, ◌≡◌, ◌+◌, ◌<◌, ◌≤◌, Bool, if◌then◌else◌, true, false, eqb, List, [], ◌∷◌, length, map, get_or, refl, sym, ap, subst, ◌∙◌, arith, inl, inr, Contains, eq-eqb, sum}
 use Rattle.std.specs.Prelude.{◌↔◌, IsTrue}
 use Rattle.std.specs.List.{list_any, range_with_len}
-use Rattle.std.proofs.lemmas.Bool.{and_parts, and_from, eqb-true, false≢true}
+use Rattle.std.proofs.lemmas.Bool.{and_parts, and_from, cases_lt, eqb-true, false≢true}
 use Rattle.std.proofs.lemmas.List.Folds.{Any-from_list_any, list_any_at}
 use Rattle.std.proofs.lemmas.List.FromFn.{sum_by-map-range_with_len_more}
 use Rattle.dim_hierarchy.specs.Tree.{Tree, up, leaf_level}
@@ -14,7 +14,7 @@ use Rattle.describing_set.specs.Ascending.{In}
 use Rattle.describing_set.specs.declared.part.Part.{Part}
 use Rattle.describing_set.specs.declared.set.DescSet.{DescSet}
 use Rattle.describing_set.specs.Part.{part, ancestors, has_ancestor}
-use Rattle.describing_set.specs.DescSet.{part_at, column, IsSetOf, Covers, covers, in_each}
+use Rattle.describing_set.specs.DescSet.{part_at, column, IsSetOf, Covers, covers, in_each, growth_at}
 use Rattle.describing_set.proofs.Sorted.{Contains-from_In}
 use Rattle.describing_set.proofs.Parts.{deepest, In-ancestors}
 
@@ -103,3 +103,33 @@ pub IsSumBelow-next : (f : ℕ → ℕ) (dim total here new : ℕ) → IsSumBelo
 IsSumBelow-next f dim total here new s e n = record {
   is = n ∙ ap (λ x. x + here) s.is ∙ ap (λ x. sum (map f (range_with_len 0 dim)) + x) (sym e) ∙ sym (sum_by-map-range_with_len_more (λ x. x) f 0 dim dim (omega arith));
 }
+
+-- the sum over the dimensions before one is at most that over all
+IsSumBelow-within : (f : ℕ → ℕ) (dim total n : ℕ) → IsSumBelow f dim total → dim ≤ n → total ≤ sum (map f (range_with_len 0 n))
+IsSumBelow-within f dim total zero s le =
+    let e : dim ≡ 0 = omega arith in
+    let all : total ≡ sum (map f (range_with_len 0 0)) = s.is ∙ ap (λ k. sum (map f (range_with_len 0 k))) e in
+    omega arith
+IsSumBelow-within f dim total (suc n) s le = elim (cases_lt dim (suc n)) [
+  | inl less ↦
+      let before : total ≤ sum (map f (range_with_len 0 n)) = IsSumBelow-within f dim total n s (omega arith) in
+      let e : n + 1 ≡ suc n = omega arith in
+      let more : sum (map f (range_with_len 0 (suc n))) ≡ sum (map f (range_with_len 0 n)) + f n =
+      ap (λ k. sum (map f (range_with_len 0 k))) (sym e) ∙ sum_by-map-range_with_len_more (λ x. x) f 0 n n (omega arith) in
+      omega arith
+  | inr past ↦
+      let e : dim ≡ suc n = omega arith in
+      let all : total ≡ sum (map f (range_with_len 0 (suc n))) = s.is ∙ ap (λ k. sum (map f (range_with_len 0 k))) e in
+      omega arith
+]
+
+-- with one more at a dimension it is beyond what it was
+pub IsSumBelow-beyond : (f : ℕ → ℕ) (dim total n : ℕ) → IsSumBelow f dim total → f dim ≡ 1 → dim < n → total < sum (map f (range_with_len 0 n))
+IsSumBelow-beyond f dim total n s one lt =
+    let all = IsSumBelow-within f (dim + 1) (total + 1) n (IsSumBelow-next f dim total 1 (total + 1) s one refl) (omega arith) in
+    omega arith
+
+-- what a dimension adds to the growth, from what the code reads there
+pub growth_read : (h : List Dimension) (set : DescSet) (at : Coord) (dim : ℕ) (p : Part) (b covered : Bool) → p ≡ part_at set dim → b ≡ has_ancestor (tree h dim) p (concept_at at dim) → b ≡ covered → growth_at h set at dim ≡ if covered then 0 else 1
+growth_read h set at dim p b covered e r c =
+    ap (λ x. if x then 0 else 1) (test_read has_ancestor (tree h dim) p (part_at set dim) (concept_at at dim) (concept_at at dim) b e refl r ∙ c)

@@ -1,5 +1,5 @@
 //! Describing sets.
-ghost use Rattle.std.specs.Prelude.{◌≡◌, ◌<◌, ◌≤◌, ◌↔◌, [], ◌∷◌, length, IsTrue, List, All, Contains};
+ghost use Rattle.std.specs.Prelude.{◌≡◌, ◌<◌, ◌≤◌, ◌↔◌, [], ◌∷◌, length, IsTrue, List, All, Contains, IfSome, IfNone};
 ghost use Rattle.std.specs.Bool.{OnFalse};
 ghost use Rattle.dim_hierarchy.specs.Tree.{IsConcept, leaf_level};
 ghost use Rattle.dim_hierarchy.specs.Dimension.{tree, IsHierarchy};
@@ -183,6 +183,27 @@ impl DescSet {
             }
         }
         growth
+    }
+
+    /// In how many dimensions the coordinate is not covered, where these are at most `most`. It stops
+    /// at the first one beyond.
+    pub fn growth_within(&self, h: &Hierarchy, at: &CoordLineages, most: u32) -> Option<u32>
+        requires set { IsDescSetOf h.now self.now }
+        requires at { at.now.hierarchy ≡ h.now }
+        ensures some { IfSome result (λ growth. growth ≡ growth_of h.now self.now at.now.coord) }
+        ensures few { IfSome result (λ growth. growth ≤ most) }
+        ensures none { IfNone result (most < growth_of h.now self.now at.now.coord) }
+    {
+        let mut growth = 0;
+        for dim in 0..h.dims() {
+            if !self.part(h, dim).covers(h, dim, at) {
+                if growth == most {
+                    return None;
+                }
+                growth += 1;
+            }
+        }
+        Some(growth)
     }
 
     /// The sum over the dimensions of 8 for each level from the set's down to the leaves, and 1

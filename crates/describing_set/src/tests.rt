@@ -255,6 +255,27 @@ fn eight_dimensions(rt: HostRuntime) -> Result<(), Fail> {
     Ok(())
 }
 
+/// How much the set of one coordinate grows by one that differs in two of eight dimensions, where
+/// that is at most `most`.
+fn growth_within(alloc: Global, h: &Hierarchy, most: u32) -> Result<Option<u32>, Fail>
+    requires { length h.now ≡ 8 }
+{
+    let set = DescSet::of_coord(h, &coord(alloc, h, b"aaaaaaaa")?);
+    let at = coord(alloc, h, b"aababaaa")?;
+    Ok(set.growth_within(h, &h.lineages(&at), most))
+}
+
+#[test]
+fn a_growth_beyond_the_most_is_not_counted(rt: HostRuntime) -> Result<(), Fail> {
+    const CASES: [(u32, Option<u32>); 4] = [(0, None), (1, None), (2, Some(2)), (3, Some(2))];
+    let alloc = rt.alloc();
+    let h = eight_dims(alloc)?;
+    for (most, answer) in &CASES {
+        assert_eq!(rt; growth_within(alloc, &h, *most)?, *answer);
+    }
+    Ok(())
+}
+
 /// A name for each of these letters.
 fn names(alloc: Global, letters: &[u8]) -> Result<Names, Fail>
     ensures { IfOk result (λ names. length names ≡ length letters.now) }

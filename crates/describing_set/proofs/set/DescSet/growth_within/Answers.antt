@@ -1,0 +1,26 @@
+use Rattle.std.proofs.Common.{length, false, true, arith}
+use Rattle.describing_set.specs.DescSet.{growth_at}
+use Rattle.describing_set.proofs.Covering.{IsSumBelow-next, IsSumBelow-beyond, growth_read}
+use Rattle.describing_set.proofs.set.DescSet.growth_within.Goals as goal
+use Rattle.describing_set.proofs.set.DescSet.growth_within.Goals.{then-not-covers+else-growth-most, else-not-covers}
+
+pub returns-then-growth-most-clause-none : goal.returns-then-growth-most-clause-none
+returns-then-growth-most-clause-none c =
+    let one = growth_read c.args.h.now c.args.self.now c.args.at.now.coord c.loop-dim.dim c.part.result.now c.covers.result false c.part.ensures.value c.covers.ensures c.if-not-covers.true in
+    let beyond = IsSumBelow-beyond (growth_at c.args.h.now c.args.self.now c.args.at.now.coord) c.loop-dim.dim c.loop-dim.growth (length c.args.h.now) c.loop-dim.invariant.0 one (omega (arith, c.loop-dim-test.true, c.dims-dim-end.ensures.value)) in
+    omega (arith, beyond, c.if-growth-most.true)
+
+pub loop-dim-preserved : goal.loop-dim-preserved
+loop-dim-preserved c =
+    let here = growth_read c.args.h.now c.args.self.now c.args.at.now.coord c.loop-dim.dim c.part.result.now c.covers.result in
+    let next = IsSumBelow-next (growth_at c.args.h.now c.args.self.now c.args.at.now.coord) c.loop-dim.dim c.loop-dim.growth in
+    elim c.if-not-covers.branch [
+      | then-not-covers+else-growth-most w ↦ (
+        next 1 c.if-not-covers.growth c.loop-dim.invariant.0 (here false c.part.ensures.value c.covers.ensures w.if-not-covers.true) w.growth-is,
+        omega (arith, c.loop-dim.invariant.1, w.if-growth-most.false, w.growth-is),
+      )
+      | else-not-covers w ↦ (
+        next 0 c.if-not-covers.growth c.loop-dim.invariant.0 (here true c.part.ensures.value c.covers.ensures w.if-not-covers.false) (omega (arith, w.growth-is)),
+        omega (arith, c.loop-dim.invariant.1, w.growth-is),
+      )
+    ]
