@@ -1,5 +1,5 @@
 -- The best of a directory's first entries with its rank.
-use Rattle.std.proofs.Common.{ℕ, ◌≡◌, ◌+◌, List, arith, ap, sym, ◌∙◌, Some, inl, inr}
+use Rattle.std.proofs.Common.{ℕ, ◌≡◌, ◌+◌, ◌<◌, List, arith, ap, refl, sym, ◌∙◌, Some, inl, inr}
 use Rattle.std.specs.Prelude.{slice_get}
 use Rattle.std.proofs.lemmas.Option.{same_Some}
 use Rattle.dim_hierarchy.specs.Dimension.{Dimension}
@@ -37,3 +37,9 @@ module _ (h : List Dimension) (at : Coord) (sets : List DescSet) (n best least :
         (λ k. b (before-as (growth_of h next at) (growth_of h set at) growth least (size_of h next) (size_of h set) (sym growth_is) (sym (was.growth set here)) k));
     growth = was.growth;
   }
+
+-- what grows by more than the least is no better
+pub keeps-beyond : (h : List Dimension) (at : Coord) (sets : List DescSet) (n best least : ℕ) → IsBestRanked h at sets n best least → (set next : DescSet) → slice_get sets best ≡ Some set → slice_get sets n ≡ Some next → least < growth_of h next at → IsBestRanked h at sets (n + 1) best least
+keeps-beyond h at sets n best least was set next here there more =
+    keeps-ranked h at sets n best least was set next here there (growth_of h next at) refl
+    (λ b. elim b [ inl l ↦ omega (arith, l, more) | inr l ↦ omega (arith, l.0, more) ])

@@ -47,10 +47,12 @@ fn place_of(entries: &[Entry], h: &Hierarchy, at: &CoordLineages) -> u8
     let mut least = entries[0].set.growth(h, at);
     for place in 1..entries.len() as u8 {
         let next = &entries[usize::from(place)].set;
-        let growth = next.growth(h, at);
-        if comes_before(next, growth, &entries[usize::from(best)].set, least, h) {
-            best = place;
-            least = growth;
+        // A growth beyond the least so far is not counted to its end.
+        if let Some(growth) = next.growth_within(h, at, least) {
+            if comes_before(next, growth, &entries[usize::from(best)].set, least, h) {
+                best = place;
+                least = growth;
+            }
         }
     }
     best

@@ -1,10 +1,11 @@
-use Rattle.std.proofs.Common.{get_or, map, refl, sym, arith, ◌∙◌}
+use Rattle.std.proofs.Common.{ℕ, ◌≡◌, ◌<◌, length, get_or, map, refl, sym, arith, ◌∙◌}
 use Rattle.std.proofs.lemmas.List.{length-map}
 use Rattle.std.proofs.lemmas.Bool.{false≢true}
+use Rattle.dc_node.specs.declared.entry.Entry.{Entry}
 use Rattle.link_descent.proofs.Picks.{IsPick-from_best, set_at}
-use Rattle.link_descent.proofs.Ranks.{first-ranked, takes-ranked, keeps-ranked}
+use Rattle.link_descent.proofs.Ranks.{first-ranked, takes-ranked, keeps-ranked, keeps-beyond}
 use Rattle.link_descent.proofs.choice.place_of.Goals as goal
-use Rattle.link_descent.proofs.choice.place_of.Goals.{then-comes_before, else-comes_before}
+use Rattle.link_descent.proofs.choice.place_of.Goals.{in-Some+then-comes_before, in-Some+else-comes_before, in_default}
 
 pub loop-place-init : goal.loop-place-init
 loop-place-init c =
@@ -21,13 +22,15 @@ loop-place-preserved c =
     let n = c.loop-place.place in
     let was = c.loop-place.invariant in
     let best = c.loop-place.best in
+    let least = c.loop-place.least in
     let next = get_or entries c.from.result c.index-entries-from.result in
-    let first = get_or entries c.from-in-loop-place.result c.index-entries-from-in-loop-place.result in
-    let here = set_at entries c.from-in-loop-place.result best c.index-entries-from-in-loop-place.result c.from-in-loop-place.ensures (let w = was.best.within in let f = c.from-in-loop-place.ensures in omega arith) in
     let there = set_at entries c.from.result n c.index-entries-from.result c.from.ensures (let f = c.from.ensures in omega arith) in
-    elim c.if-comes_before.branch [
-      | then-comes_before w ↦ rw (w.best-is, w.least-is) (takes-ranked h at sets n best c.loop-place.least was first.set next.set here there c.growth-growth.result c.growth-growth.ensures (c.comes_before.ensures.0 w.if-comes_before.true))
-      | else-comes_before w ↦ rw (w.best-is, w.least-is) (keeps-ranked h at sets n best c.loop-place.least was first.set next.set here there c.growth-growth.result c.growth-growth.ensures (λ b. false≢true (sym w.if-comes_before.false ∙ c.comes_before.ensures.1 b)))
+    let within : best < length entries = (let w = was.best.within in omega arith) in
+    let here = λ (k : ℕ) (d : Entry) (is : k ≡ best). set_at entries k best d is (omega (arith, is, within)) in
+    elim c.match-growth_within.branch [
+      | in-Some+then-comes_before w ↦ rw (w.best-is, w.least-is) (takes-ranked h at sets n best least was _ next.set (here w.from-in-Some.result w.index-entries-from-in-Some.result w.from-in-Some.ensures) there w.in-Some.growth w.in-Some.ensures.some (w.comes_before.ensures.0 w.if-comes_before.true))
+      | in-Some+else-comes_before w ↦ rw (w.best-is, w.least-is) (keeps-ranked h at sets n best least was _ next.set (here w.from-in-Some.result w.index-entries-from-in-Some.result w.from-in-Some.ensures) there w.in-Some.growth w.in-Some.ensures.some (λ b. false≢true (sym w.if-comes_before.false ∙ w.comes_before.ensures.1 b)))
+      | in_default w ↦ rw (w.best-is, w.least-is) (keeps-beyond h at sets n best least was _ next.set (here best c.index-entries-from.result refl) there w.in_default.ensures.none)
     ]
 
 pub returns : goal.returns
