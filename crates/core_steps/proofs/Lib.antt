@@ -5,3 +5,4 @@ pub mod Adding
 pub mod Sights
 pub mod Quiet
 pub mod PageSights
+pub mod Lent

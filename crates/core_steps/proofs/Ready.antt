@@ -32,15 +32,15 @@ has-not : (o : Option Actor) (v : ActorValue) (y : ℕ) → Has o (λ x. actor_o
 has-not None v y has not = absurd has
 has-not (Some x) v y has not = λ k. not (subst (λ (z : ActorValue). MustKeep z y) has k)
 
--- An actor that is lent where it stands.
+-- A cell or an actor that is lent where it stands.
 
 -- it is the one that stands there
-pub lent-is : (actors : List (Option Actor)) (n : ℕ) (o : Option Actor) (a : Actor) → n < length actors → o ≡ get_or actors n o → o ≡ Some a → get_or actors n None ≡ Some a
-lent-is actors n o a lt is some = get_or_default actors n None o lt ∙ sym is ∙ some
+pub lent-is : {A : Type 0} (places : List (Option A)) (n : ℕ) (o : Option A) (x : A) → n < length places → o ≡ get_or places n o → o ≡ Some x → get_or places n None ≡ Some x
+lent-is places n o x lt is some = get_or_default places n None o lt ∙ sym is ∙ some
 
 -- and then the vector is as if it had been moved out and put back
-pub put-over : (actors : List (Option Actor)) (n : ℕ) (a : Actor) → set actors n (Some a) ≡ set (set actors n None) n (Some a)
-put-over actors n a = sym (set-set actors n None (Some a))
+pub put-over : {A : Type 0} (places : List (Option A)) (n : ℕ) (x : A) → set places n (Some x) ≡ set (set places n None) n (Some x)
+put-over places n x = sym (set-set places n None (Some x))
 
 module _ (h : List Dimension) (cells : List (Option Cell)) (actors : List (Option Actor)) (has : HasInv h cells actors) (n : ℕ) (Can : List CellValue → ActorValue → Type 0) where
   abbrev w : World

@@ -7,7 +7,7 @@ ghost use Rattle.volap_cell.specs.declared.kind.Kind.TheVariants.{BuildBlock, Co
 
 use dim_hierarchy::Hierarchy;
 use std::alloc::{AllocError, Global};
-use volap_cell::{State, lift_one, lift_three, lift_two, put_one, put_three, put_two};
+use volap_cell::{State, lift_three, lift_two, put_three, put_two};
 
 /// The shard of an actor's job is frozen, or the job is declined: with its worker's table, the gate to which that leads,
 /// and the stock. Where memory is wanting, the state stays as it was.
@@ -52,13 +52,13 @@ pub fn drained(
     ensures stays { OnErr result (Stays state.old.cells.items state.old.actors.items state.new.cells.items state.new.actors.items) }
 {
     let (cells, actors) = (&mut state.cells, &mut state.actors);
-    let mut gate = lift_one(cells, gate_at);
+    let Some(gate) = &mut cells[gate_at as usize] else {
+        unreachable!()
+    };
     let Some(actor) = &mut actors[number] else {
         unreachable!()
     };
-    let made = core_admin::drained(alloc, h, gate_at, &mut gate, actor);
-    put_one(cells, gate_at, gate);
-    made
+    core_admin::drained(alloc, h, gate_at, gate, actor)
 }
 
 /// An actor's job reads the block that it noted last. Where memory is wanting, the state stays as it was.
@@ -74,13 +74,13 @@ pub fn collect_block(
     ensures stays { OnErr result (Stays state.old.cells.items state.old.actors.items state.new.cells.items state.new.actors.items) }
 {
     let (cells, actors) = (&mut state.cells, &mut state.actors);
-    let mut block = lift_one(cells, block_at);
+    let Some(block) = &mut cells[block_at as usize] else {
+        unreachable!()
+    };
     let Some(actor) = &mut actors[number] else {
         unreachable!()
     };
-    let made = core_admin::collect_block(h, block_at, &mut block, actor);
-    put_one(cells, block_at, block);
-    made
+    core_admin::collect_block(h, block_at, block, actor)
 }
 
 /// An actor's job collects the next row of the gate's queue. Where memory is wanting, the state stays as it was.
@@ -96,13 +96,13 @@ pub fn collect_row(
     ensures stays { OnErr result (Stays state.old.cells.items state.old.actors.items state.new.cells.items state.new.actors.items) }
 {
     let (cells, actors) = (&mut state.cells, &mut state.actors);
-    let mut gate = lift_one(cells, gate_at);
+    let Some(gate) = &mut cells[gate_at as usize] else {
+        unreachable!()
+    };
     let Some(actor) = &mut actors[number] else {
         unreachable!()
     };
-    let made = core_admin::collect_row(h, gate_at, &mut gate, actor);
-    put_one(cells, gate_at, gate);
-    made
+    core_admin::collect_row(h, gate_at, gate, actor)
 }
 
 /// An actor's job makes the new trees of the rows that it has collected. Where memory is wanting, the state stays as
@@ -120,13 +120,13 @@ pub fn build_trees(
     ensures stays { OnErr result (Stays state.old.cells.items state.old.actors.items state.new.cells.items state.new.actors.items) }
 {
     let (cells, actors) = (&mut state.cells, &mut state.actors);
-    let mut gate = lift_one(cells, gate_at);
+    let Some(gate) = &mut cells[gate_at as usize] else {
+        unreachable!()
+    };
     let Some(actor) = &mut actors[number] else {
         unreachable!()
     };
-    let made = core_admin::build_trees(alloc, h, gate_at, &mut gate, actor);
-    put_one(cells, gate_at, gate);
-    made
+    core_admin::build_trees(alloc, h, gate_at, gate, actor)
 }
 
 /// The last block of an actor's job that isn't in its cell yet is put there. Takes no memory; the allocator is that
@@ -137,12 +137,13 @@ pub fn build_block(alloc: Global, h: &Hierarchy, state: &mut State, number: usiz
     ensures stepped { Stepped h.now BuildBlock number state.old.cells.items state.old.actors.items state.new.cells.items state.new.actors.items }
 {
     let (cells, actors) = (&mut state.cells, &mut state.actors);
-    let mut cell = lift_one(cells, at);
+    let Some(cell) = &mut cells[at as usize] else {
+        unreachable!()
+    };
     let Some(actor) = &mut actors[number] else {
         unreachable!()
     };
-    core_admin::build_block(alloc, h, at, &mut cell, actor);
-    put_one(cells, at, cell);
+    core_admin::build_block(alloc, h, at, cell, actor);
 }
 
 /// An actor's job is given up, whose shard stays frozen: with the stock and the ledger. Takes no memory.

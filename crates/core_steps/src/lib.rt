@@ -1,5 +1,5 @@
-//! Each kind of step, made in a state that one thread holds: the cells are moved out, the step is made with the actor where it
-//! stands, and the cells are put back.
+//! Each kind of step, made in a state that one thread holds: it is made with the actor where it stands, and with its cell too
+//! where that is one; more cells are moved out and put back.
 #![tactic(auto)]
 
 mod books;

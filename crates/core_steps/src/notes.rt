@@ -10,7 +10,7 @@ ghost use Rattle.volap_cell.specs.declared.kind.Kind.TheVariants.{Note};
 use dim_hierarchy::Hierarchy;
 use row_ledger::{Call, How};
 use std::alloc::{AllocError, Global};
-use volap_cell::{State, lift_one, lift_two, put_one, put_two};
+use volap_cell::{State, lift_two, put_two};
 
 /// An actor's command names what isn't known, first in this dimension, and ends with that. Where memory is
 /// wanting, the state stays as it was.
@@ -28,13 +28,13 @@ pub fn note_unknown(
     ensures stays { OnErr result (Stays state.old.cells.items state.old.actors.items state.new.cells.items state.new.actors.items) }
 {
     let (cells, actors) = (&mut state.cells, &mut state.actors);
-    let mut ledger = lift_one(cells, ledger_at);
+    let Some(ledger) = &mut cells[ledger_at as usize] else {
+        unreachable!()
+    };
     let Some(actor) = &mut actors[number] else {
         unreachable!()
     };
-    let made = core_image::note_unknown(h, ledger_at, &mut ledger, actor, dim);
-    put_one(cells, ledger_at, ledger);
-    made
+    core_image::note_unknown(h, ledger_at, ledger, actor, dim)
 }
 
 /// An actor's command found no memory before it began, and ends with that. Where memory is wanting for that
@@ -52,13 +52,13 @@ pub fn note_refused(
     ensures stays { OnErr result (Stays state.old.cells.items state.old.actors.items state.new.cells.items state.new.actors.items) }
 {
     let (cells, actors) = (&mut state.cells, &mut state.actors);
-    let mut ledger = lift_one(cells, ledger_at);
+    let Some(ledger) = &mut cells[ledger_at as usize] else {
+        unreachable!()
+    };
     let Some(actor) = &mut actors[number] else {
         unreachable!()
     };
-    let made = core_image::note_refused(h, ledger_at, &mut ledger, actor);
-    put_one(cells, ledger_at, ledger);
-    made
+    core_image::note_refused(h, ledger_at, ledger, actor)
 }
 
 /// An actor begins a command that asks nothing of the registry. Where memory is wanting, the state stays as it
@@ -77,13 +77,13 @@ pub fn note_called(
     ensures stays { OnErr result (Stays state.old.cells.items state.old.actors.items state.new.cells.items state.new.actors.items) }
 {
     let (cells, actors) = (&mut state.cells, &mut state.actors);
-    let mut ledger = lift_one(cells, ledger_at);
+    let Some(ledger) = &mut cells[ledger_at as usize] else {
+        unreachable!()
+    };
     let Some(actor) = &mut actors[number] else {
         unreachable!()
     };
-    let made = core_image::note_called(h, ledger_at, &mut ledger, actor, call);
-    put_one(cells, ledger_at, ledger);
-    made
+    core_image::note_called(h, ledger_at, ledger, actor, call)
 }
 
 /// An actor begins a command that asks the registry what stands, where there are so many workers. Where memory
@@ -132,12 +132,13 @@ pub fn note_ended(h: &Hierarchy, state: &mut State, number: usize, ledger_at: u3
     ensures quiet { AddsQuiet ledger_at state.old.cells.items state.old.actors.items state.new.cells.items state.new.actors.items }
 {
     let (cells, actors) = (&mut state.cells, &mut state.actors);
-    let mut ledger = lift_one(cells, ledger_at);
+    let Some(ledger) = &mut cells[ledger_at as usize] else {
+        unreachable!()
+    };
     let Some(actor) = &mut actors[number] else {
         unreachable!()
     };
-    core_image::note_ended(h, ledger_at, &mut ledger, actor, how);
-    put_one(cells, ledger_at, ledger);
+    core_image::note_ended(h, ledger_at, ledger, actor, how);
 }
 
 /// An actor's balance leaves the action that it is at. Takes no memory.
@@ -148,10 +149,11 @@ pub fn note_left(h: &Hierarchy, state: &mut State, number: usize, ledger_at: u32
     ensures quiet { AddsQuiet ledger_at state.old.cells.items state.old.actors.items state.new.cells.items state.new.actors.items }
 {
     let (cells, actors) = (&mut state.cells, &mut state.actors);
-    let mut ledger = lift_one(cells, ledger_at);
+    let Some(ledger) = &mut cells[ledger_at as usize] else {
+        unreachable!()
+    };
     let Some(actor) = &mut actors[number] else {
         unreachable!()
     };
-    core_image::note_left(h, ledger_at, &mut ledger, actor);
-    put_one(cells, ledger_at, ledger);
+    core_image::note_left(h, ledger_at, ledger, actor);
 }

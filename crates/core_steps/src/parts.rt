@@ -18,12 +18,13 @@ pub fn take_part(h: &Hierarchy, state: &mut State, number: usize, desk_at: u32)
     ensures stepped { Stepped h.now TakePart number state.old.cells.items state.old.actors.items state.new.cells.items state.new.actors.items }
 {
     let (cells, actors) = (&mut state.cells, &mut state.actors);
-    let mut desk = lift_one(cells, desk_at);
+    let Some(desk) = &mut cells[desk_at as usize] else {
+        unreachable!()
+    };
     let Some(actor) = &mut actors[number] else {
         unreachable!()
     };
-    core_shard::take_part(h, desk_at, &mut desk, actor);
-    put_one(cells, desk_at, desk);
+    core_shard::take_part(h, desk_at, desk, actor);
 }
 
 /// An actor puts its part back on its desk, where it waits for the worker to which its shard has moved.

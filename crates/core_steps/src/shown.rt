@@ -10,7 +10,7 @@ ghost use Rattle.volap_cell.specs.declared.kind.Kind.TheVariants.{Note};
 
 use dim_hierarchy::Hierarchy;
 use row_ledger::Page;
-use volap_cell::{State, lift_one, put_one};
+use volap_cell::State;
 
 /// The page of an actor's command is shown, which is what the state has while everyone else is idle. It is
 /// noted as it is, so this takes no memory.
@@ -22,10 +22,11 @@ pub fn note_shown(h: &Hierarchy, state: &mut State, number: usize, ledger_at: u3
     ensures told { Adds (shown_by page) number ledger_at state.old.cells.items state.old.actors.items state.new.cells.items state.new.actors.items }
 {
     let (cells, actors) = (&mut state.cells, &mut state.actors);
-    let mut ledger = lift_one(cells, ledger_at);
+    let Some(ledger) = &mut cells[ledger_at as usize] else {
+        unreachable!()
+    };
     let Some(actor) = &mut actors[number] else {
         unreachable!()
     };
-    core_image::note_shown(h, ledger_at, &mut ledger, actor, page);
-    put_one(cells, ledger_at, ledger);
+    core_image::note_shown(h, ledger_at, ledger, actor, page);
 }

@@ -10,9 +10,7 @@ ghost use Rattle.volap_cell.specs.declared.kind.Kind.TheVariants.{BlockVisit, Do
 use crate::held::{HeldIf, lift_both, put_both};
 use dim_hierarchy::Hierarchy;
 use std::alloc::{AllocError, Global};
-use volap_cell::{
-    State, lift_if, lift_one, lift_three, lift_two, put_if, put_one, put_three, put_two,
-};
+use volap_cell::{State, lift_if, lift_three, lift_two, put_if, put_three, put_two};
 
 /// An actor puts its row in the leaf in this cell.
 pub fn put_in_leaf(h: &Hierarchy, state: &mut State, number: usize, at: u32)
@@ -21,12 +19,13 @@ pub fn put_in_leaf(h: &Hierarchy, state: &mut State, number: usize, at: u32)
     ensures stepped { Stepped h.now PutInLeaf number state.old.cells.items state.old.actors.items state.new.cells.items state.new.actors.items }
 {
     let (cells, actors) = (&mut state.cells, &mut state.actors);
-    let mut leaf = lift_one(cells, at);
+    let Some(leaf) = &mut cells[at as usize] else {
+        unreachable!()
+    };
     let Some(actor) = &mut actors[number] else {
         unreachable!()
     };
-    core_tree::put_in_leaf(h, at, &mut leaf, actor);
-    put_one(cells, at, leaf);
+    core_tree::put_in_leaf(h, at, leaf, actor);
 }
 
 /// An actor's insert, whose row is in its leaf, is counted no more at the gate in this cell. Takes no
@@ -37,12 +36,13 @@ pub fn leave_tree(h: &Hierarchy, state: &mut State, number: usize, gate_at: u32)
     ensures stepped { Stepped h.now LeaveTree number state.old.cells.items state.old.actors.items state.new.cells.items state.new.actors.items }
 {
     let (cells, actors) = (&mut state.cells, &mut state.actors);
-    let mut gate = lift_one(cells, gate_at);
+    let Some(gate) = &mut cells[gate_at as usize] else {
+        unreachable!()
+    };
     let Some(actor) = &mut actors[number] else {
         unreachable!()
     };
-    core_tree::leave_tree(h, gate_at, &mut gate, actor);
-    put_one(cells, gate_at, gate);
+    core_tree::leave_tree(h, gate_at, gate, actor);
 }
 
 /// An actor puts its row in the queue of the gate, to which the worker's table leads. Where memory is
@@ -109,13 +109,13 @@ pub fn block_visit(
     ensures stays { OnErr result (Stays state.old.cells.items state.old.actors.items state.new.cells.items state.new.actors.items) }
 {
     let (cells, actors) = (&mut state.cells, &mut state.actors);
-    let mut block = lift_one(cells, block_at);
+    let Some(block) = &mut cells[block_at as usize] else {
+        unreachable!()
+    };
     let Some(actor) = &mut actors[number] else {
         unreachable!()
     };
-    let visited = core_tree::block_visit(h, block_at, &mut block, actor);
-    put_one(cells, block_at, block);
-    visited
+    core_tree::block_visit(h, block_at, block, actor)
 }
 
 /// An actor's purse is emptied into the stock, and filled for the height that was looked up. Where memory
@@ -133,13 +133,13 @@ pub fn refill(
     ensures stays { OnErr result (Stays state.old.cells.items state.old.actors.items state.new.cells.items state.new.actors.items) }
 {
     let (cells, actors) = (&mut state.cells, &mut state.actors);
-    let mut stock = lift_one(cells, stock_at);
+    let Some(stock) = &mut cells[stock_at as usize] else {
+        unreachable!()
+    };
     let Some(actor) = &mut actors[number] else {
         unreachable!()
     };
-    let filled = core_tree::refill(alloc, h, stock_at, &mut stock, actor);
-    put_one(cells, stock_at, stock);
-    filled
+    core_tree::refill(alloc, h, stock_at, stock, actor)
 }
 
 /// An actor gives the spares that are left in its purse back to the stock. Takes no memory.
@@ -149,12 +149,13 @@ pub fn give_back(h: &Hierarchy, state: &mut State, number: usize, stock_at: u32)
     ensures stepped { Stepped h.now Refill number state.old.cells.items state.old.actors.items state.new.cells.items state.new.actors.items }
 {
     let (cells, actors) = (&mut state.cells, &mut state.actors);
-    let mut stock = lift_one(cells, stock_at);
+    let Some(stock) = &mut cells[stock_at as usize] else {
+        unreachable!()
+    };
     let Some(actor) = &mut actors[number] else {
         unreachable!()
     };
-    core_tree::give_back(h, stock_at, &mut stock, actor);
-    put_one(cells, stock_at, stock);
+    core_tree::give_back(h, stock_at, stock, actor);
 }
 
 /// An actor's row goes from a directory down to the child that comes first for it, to which the entry at a

@@ -1,26 +1,19 @@
-use Rattle.std.proofs.Common.{List, [], ◌∷◌, refl}
-use Rattle.core_steps.specs.AskedJobs.{TakesQueued}
-use Rattle.volap_cell.specs.State.{Exchange, exchange}
-use Rattle.volap_cell.specs.declared.kind.Kind.TheVariants.{Collect}
-use Rattle.volap_cell.proofs.States.{drives}
-use Rattle.volap_cell.proofs.Outcomes.{on-ok, on-err}
-use Rattle.core_steps.proofs.Ready.{can-step, lent-is, may-hold, put-over, step-here}
-use Rattle.core_steps.proofs.Staying.{stays-so}
+use Rattle.volap_cell.proofs.Outcomes.{on-err, on-ok}
+use Rattle.core_steps.proofs.Lent.{can-lent, here-lent, lent, stays-lent, steps-lent}
 use Rattle.core_steps.proofs.jobs.collect_row.Goals as goal
 
-pub collect_row-made-requires-clause-here : goal.collect_row-made-requires-clause-here
-collect_row-made-requires-clause-here c =
-    step-here c.args.h.now c.args.state.now.cells.items c.args.state.now.actors.items c.requires.state c.args.number (TakesQueued c.args.gate_at) ((c.args.gate_at, c.lift_one-gate.result) ∷ []) c.requires.ready c.lift_one-gate.ensures.value c.in-Some.actor (lent-is c.args.state.now.actors.items c.args.number c.index_mut.result.now c.in-Some.actor c.requires.ready.actor c.index_mut.ensures.value c.in-Some.is)
+pub collect_row-requires-clause-here : goal.collect_row-requires-clause-here
+collect_row-requires-clause-here c = here-lent (lent c.requires.state c.requires.ready c.index_mut.ensures.value c.in-Some.is c.index_mut-2.ensures.value c.in-Some-index_mut.is)
 
-pub collect_row-made-requires-clause-due : goal.collect_row-made-requires-clause-due
-collect_row-made-requires-clause-due c =
-    can-step c.args.h.now c.args.state.now.cells.items c.args.state.now.actors.items c.requires.state c.args.number (TakesQueued c.args.gate_at) ((c.args.gate_at, c.lift_one-gate.result) ∷ []) c.requires.ready c.lift_one-gate.ensures.value c.in-Some.actor (lent-is c.args.state.now.actors.items c.args.number c.index_mut.result.now c.in-Some.actor c.requires.ready.actor c.index_mut.ensures.value c.in-Some.is)
+pub collect_row-requires-clause-due : goal.collect_row-requires-clause-due
+collect_row-requires-clause-due c = can-lent (lent c.requires.state c.requires.ready c.index_mut.ensures.value c.in-Some.is c.index_mut-2.ensures.value c.in-Some-index_mut.is)
 
 pub returns : goal.returns
 returns c =
-    let xs : List Exchange = exchange c.args.gate_at c.lift_one-gate.result c.collect_row-made.new.gate ∷ [] in
-    let may = may-hold c.args.h.now c.args.state.now.cells.items c.args.state.now.actors.items c.requires.state c.args.number (TakesQueued c.args.gate_at) ((c.args.gate_at, c.lift_one-gate.result) ∷ []) c.requires.ready c.lift_one-gate.ensures.value c.in-Some.actor (lent-is c.args.state.now.actors.items c.args.number c.index_mut.result.now c.in-Some.actor c.requires.ready.actor c.index_mut.ensures.value c.in-Some.is) in
+    let both = lent c.requires.state c.requires.ready c.index_mut.ensures.value c.in-Some.is c.index_mut-2.ensures.value c.in-Some-index_mut.is in
+    let call = c.collect_row in
+    let now = call.new in
     record {
-      stepped = on-ok c.collect_row-made.result c.collect_row-made.ensures.made (λ m. drives c.args.h.now Collect c.args.state.now.cells.items _ _ c.args.state.now.actors.items _ _ xs c.args.number c.in-Some.actor c.collect_row-made.new.actor c.lift_one-gate.ensures.rest refl c.put_one.ensures.value (put-over c.args.state.now.actors.items c.args.number _) may m (λ s w same is inv. tt));
-      stays = on-err c.collect_row-made.result c.collect_row-made.ensures.refused (λ k. stays-so c.args.state.now.cells.items _ _ c.args.state.now.actors.items _ _ xs c.args.number c.in-Some.actor c.collect_row-made.new.actor c.lift_one-gate.ensures.rest refl c.put_one.ensures.value (put-over c.args.state.now.actors.items c.args.number _) may (k.0, tt) k.1);
+      stepped = on-ok call.result call.ensures.made (λ m. steps-lent both now.gate now.actor m (λ s w same is inv. tt));
+      stays = on-err call.result call.ensures.refused (λ k. stays-lent both now.gate now.actor k.0 k.1);
     }

@@ -1,31 +1,23 @@
-use Rattle.std.proofs.Common.{List, [], ◌∷◌, refl}
-use Rattle.core_steps.specs.AskedNotes.{NotesCalled}
-use Rattle.volap_cell.specs.State.{Exchange, exchange}
-use Rattle.volap_cell.specs.declared.kind.Kind.TheVariants.{Note}
-use Rattle.volap_cell.proofs.States.{drives}
-use Rattle.volap_cell.proofs.Outcomes.{on-ok, on-err}
-use Rattle.core_steps.proofs.Ready.{can-step, lent-is, may-hold, put-over, step-here}
-use Rattle.core_steps.proofs.Staying.{stays-so}
-use Rattle.core_steps.proofs.Adding.{adds}
-use Rattle.core_image.specs.Told.{called_by}
 use Rattle.core_steps.proofs.Sights.{free-sight}
 use Rattle.volap_cell.specs.Values.{actor_of}
+use Rattle.core_image.specs.Told.{called_by}
+use Rattle.volap_cell.proofs.Outcomes.{on-err, on-ok}
+use Rattle.core_steps.proofs.Lent.{adds-lent, can-lent, here-lent, lent, stays-lent, steps-lent}
 use Rattle.core_steps.proofs.notes.note_called.Goals as goal
 
-pub note_called-made-requires-clause-here : goal.note_called-made-requires-clause-here
-note_called-made-requires-clause-here c =
-    step-here c.args.h.now c.args.state.now.cells.items c.args.state.now.actors.items c.requires.state c.args.number (NotesCalled c.args.call) ((c.args.ledger_at, c.lift_one-ledger.result) ∷ []) c.requires.ready c.lift_one-ledger.ensures.value c.in-Some.actor (lent-is c.args.state.now.actors.items c.args.number c.index_mut.result.now c.in-Some.actor c.requires.ready.actor c.index_mut.ensures.value c.in-Some.is)
+pub note_called-requires-clause-here : goal.note_called-requires-clause-here
+note_called-requires-clause-here c = here-lent (lent c.requires.state c.requires.ready c.index_mut.ensures.value c.in-Some.is c.index_mut-2.ensures.value c.in-Some-index_mut.is)
 
-pub note_called-made-requires-clause-due : goal.note_called-made-requires-clause-due
-note_called-made-requires-clause-due c =
-    can-step c.args.h.now c.args.state.now.cells.items c.args.state.now.actors.items c.requires.state c.args.number (NotesCalled c.args.call) ((c.args.ledger_at, c.lift_one-ledger.result) ∷ []) c.requires.ready c.lift_one-ledger.ensures.value c.in-Some.actor (lent-is c.args.state.now.actors.items c.args.number c.index_mut.result.now c.in-Some.actor c.requires.ready.actor c.index_mut.ensures.value c.in-Some.is)
+pub note_called-requires-clause-due : goal.note_called-requires-clause-due
+note_called-requires-clause-due c = can-lent (lent c.requires.state c.requires.ready c.index_mut.ensures.value c.in-Some.is c.index_mut-2.ensures.value c.in-Some-index_mut.is)
 
 pub returns : goal.returns
 returns c =
-    let xs : List Exchange = exchange c.args.ledger_at c.lift_one-ledger.result c.note_called-made.new.ledger ∷ [] in
-    let may = may-hold c.args.h.now c.args.state.now.cells.items c.args.state.now.actors.items c.requires.state c.args.number (NotesCalled c.args.call) ((c.args.ledger_at, c.lift_one-ledger.result) ∷ []) c.requires.ready c.lift_one-ledger.ensures.value c.in-Some.actor (lent-is c.args.state.now.actors.items c.args.number c.index_mut.result.now c.in-Some.actor c.requires.ready.actor c.index_mut.ensures.value c.in-Some.is) in
+    let both = lent c.requires.state c.requires.ready c.index_mut.ensures.value c.in-Some.is c.index_mut-2.ensures.value c.in-Some-index_mut.is in
+    let call = c.note_called in
+    let now = call.new in
     record {
-      stepped = on-ok c.note_called-made.result c.note_called-made.ensures.made (λ m. drives c.args.h.now Note c.args.state.now.cells.items _ _ c.args.state.now.actors.items _ _ xs c.args.number c.in-Some.actor c.note_called-made.new.actor c.lift_one-ledger.ensures.rest refl c.put_one.ensures.value (put-over c.args.state.now.actors.items c.args.number _) may m (λ s w same is inv. free-sight s w c.args.number _ (actor_of c.in-Some.actor) (actor_of c.note_called-made.new.actor) (can-step c.args.h.now c.args.state.now.cells.items c.args.state.now.actors.items c.requires.state c.args.number (NotesCalled c.args.call) ((c.args.ledger_at, c.lift_one-ledger.result) ∷ []) c.requires.ready c.lift_one-ledger.ensures.value c.in-Some.actor (lent-is c.args.state.now.actors.items c.args.number c.index_mut.result.now c.in-Some.actor c.requires.ready.actor c.index_mut.ensures.value c.in-Some.is)).free m.does));
-      told = on-ok c.note_called-made.result c.note_called-made.ensures.told (λ t. adds c.args.state.now.cells.items _ _ c.args.state.now.actors.items _ _ xs c.args.number c.in-Some.actor c.note_called-made.new.actor c.lift_one-ledger.ensures.rest refl c.put_one.ensures.value (put-over c.args.state.now.actors.items c.args.number _) may (called_by c.args.call) 0 (exchange c.args.ledger_at c.lift_one-ledger.result c.note_called-made.new.ledger) refl c.requires.ready.apart t);
-      stays = on-err c.note_called-made.result c.note_called-made.ensures.refused (λ k. stays-so c.args.state.now.cells.items _ _ c.args.state.now.actors.items _ _ xs c.args.number c.in-Some.actor c.note_called-made.new.actor c.lift_one-ledger.ensures.rest refl c.put_one.ensures.value (put-over c.args.state.now.actors.items c.args.number _) may (k.0, tt) k.1);
+      stepped = on-ok call.result call.ensures.made (λ m. steps-lent both now.ledger now.actor m (λ s w same is inv. free-sight s w c.args.number _ (actor_of c.in-Some-index_mut.actor) (actor_of now.actor) (can-lent both).free m.does));
+      told = on-ok call.result call.ensures.told (λ t. adds-lent both now.ledger now.actor (called_by c.args.call) t);
+      stays = on-err call.result call.ensures.refused (λ k. stays-lent both now.ledger now.actor k.0 k.1);
     }

@@ -1,26 +1,19 @@
-use Rattle.std.proofs.Common.{List, [], ◌∷◌, refl}
-use Rattle.core_steps.specs.AskedParts.{Refills}
-use Rattle.volap_cell.specs.State.{Exchange, exchange}
-use Rattle.volap_cell.specs.declared.kind.Kind.TheVariants.{Refill}
-use Rattle.volap_cell.proofs.States.{drives}
-use Rattle.volap_cell.proofs.Outcomes.{on-ok, on-err}
-use Rattle.core_steps.proofs.Ready.{can-step, lent-is, may-hold, put-over, step-here}
-use Rattle.core_steps.proofs.Staying.{stays-so}
+use Rattle.volap_cell.proofs.Outcomes.{on-err, on-ok}
+use Rattle.core_steps.proofs.Lent.{can-lent, here-lent, lent, stays-lent, steps-lent}
 use Rattle.core_steps.proofs.trees.refill.Goals as goal
 
-pub refill-filled-requires-clause-here : goal.refill-filled-requires-clause-here
-refill-filled-requires-clause-here c =
-    step-here c.args.h.now c.args.state.now.cells.items c.args.state.now.actors.items c.requires.state c.args.number Refills ((c.args.stock_at, c.lift_one-stock.result) ∷ []) c.requires.ready c.lift_one-stock.ensures.value c.in-Some.actor (lent-is c.args.state.now.actors.items c.args.number c.index_mut.result.now c.in-Some.actor c.requires.ready.actor c.index_mut.ensures.value c.in-Some.is)
+pub refill-requires-clause-here : goal.refill-requires-clause-here
+refill-requires-clause-here c = here-lent (lent c.requires.state c.requires.ready c.index_mut.ensures.value c.in-Some.is c.index_mut-2.ensures.value c.in-Some-index_mut.is)
 
-pub refill-filled-requires-clause-due : goal.refill-filled-requires-clause-due
-refill-filled-requires-clause-due c =
-    can-step c.args.h.now c.args.state.now.cells.items c.args.state.now.actors.items c.requires.state c.args.number Refills ((c.args.stock_at, c.lift_one-stock.result) ∷ []) c.requires.ready c.lift_one-stock.ensures.value c.in-Some.actor (lent-is c.args.state.now.actors.items c.args.number c.index_mut.result.now c.in-Some.actor c.requires.ready.actor c.index_mut.ensures.value c.in-Some.is)
+pub refill-requires-clause-due : goal.refill-requires-clause-due
+refill-requires-clause-due c = can-lent (lent c.requires.state c.requires.ready c.index_mut.ensures.value c.in-Some.is c.index_mut-2.ensures.value c.in-Some-index_mut.is)
 
 pub returns : goal.returns
 returns c =
-    let xs : List Exchange = exchange c.args.stock_at c.lift_one-stock.result c.refill-filled.new.stock ∷ [] in
-    let may = may-hold c.args.h.now c.args.state.now.cells.items c.args.state.now.actors.items c.requires.state c.args.number Refills ((c.args.stock_at, c.lift_one-stock.result) ∷ []) c.requires.ready c.lift_one-stock.ensures.value c.in-Some.actor (lent-is c.args.state.now.actors.items c.args.number c.index_mut.result.now c.in-Some.actor c.requires.ready.actor c.index_mut.ensures.value c.in-Some.is) in
+    let both = lent c.requires.state c.requires.ready c.index_mut.ensures.value c.in-Some.is c.index_mut-2.ensures.value c.in-Some-index_mut.is in
+    let call = c.refill in
+    let now = call.new in
     record {
-      stepped = on-ok c.refill-filled.result c.refill-filled.ensures.made (λ m. drives c.args.h.now Refill c.args.state.now.cells.items _ _ c.args.state.now.actors.items _ _ xs c.args.number c.in-Some.actor c.refill-filled.new.actor c.lift_one-stock.ensures.rest refl c.put_one.ensures.value (put-over c.args.state.now.actors.items c.args.number _) may m (λ s w same is inv. tt));
-      stays = on-err c.refill-filled.result c.refill-filled.ensures.refused (λ k. stays-so c.args.state.now.cells.items _ _ c.args.state.now.actors.items _ _ xs c.args.number c.in-Some.actor c.refill-filled.new.actor c.lift_one-stock.ensures.rest refl c.put_one.ensures.value (put-over c.args.state.now.actors.items c.args.number _) may (k.0, tt) k.1);
+      stepped = on-ok call.result call.ensures.made (λ m. steps-lent both now.stock now.actor m (λ s w same is inv. tt));
+      stays = on-err call.result call.ensures.refused (λ k. stays-lent both now.stock now.actor k.0 k.1);
     }
