@@ -1,6 +1,6 @@
 -- What is known of a row for which a step at a gate or in its tree is due: the gate, the entry by which it goes down, the blocks
 -- behind a head, and the last spares.
-use Rattle.std.proofs.Common.{◌≡◌, ◌≢◌, ◌∙◌, ℕ, zero, suc, ◌+◌, ◌-◌, ◌*◌, ◌≤◌, ◌⊎◌, inl, inr, Bool, true, false, cond, eqb, List, [], ◌∷◌, ◌++◌, length, map, take, drop, set, get_or, Option, Some, None, IsSome, refl, sym, ap, subst, arith}
+use Rattle.std.proofs.Common.{◌≡◌, ◌≢◌, ◌∙◌, ℕ, zero, suc, ◌+◌, ◌-◌, ◌*◌, ◌≤◌, ◌⊎◌, inl, inr, Bool, true, false, cond, eqb, List, [], ◌∷◌, ◌++◌, length, map, take, drop, Option, Some, None, IsSome, refl, sym, ap, subst, arith}
 use Rattle.std.specs.Prelude.{◌&&◌, if◌then◌else◌, nat_le, option_and_then}
 use Rattle.std.specs.Option.{option_map_or}
 use Rattle.std.proofs.lemmas.Bool.{cases_lt, leb-true, leb-false}
@@ -51,12 +51,6 @@ use Rattle.seeded_run.proofs.DueReads.{ends-in}
 pub append-two : {A : Type 0} (front : List A) (x last : A) → front ++ x ∷ last ∷ [] ≡ (front ++ x ∷ []) ++ last ∷ []
 append-two [] x last = refl
 append-two {A} (y ∷ front) x last = ap (λ (zs : List A). y ∷ zs) (append-two front x last)
-
--- what is taken out of a place and put back is there as it was
-pub set-back : {A : Type 0} (xs : List (Option A)) (n : ℕ) (x : A) → get_or xs n None ≡ Some x → set (set xs n None) n (Some x) ≡ xs
-set-back {A} [] n x is = (let never : ◌≡◌ {A = Option A} None (Some x) = is in absurd (cc))
-set-back (y ∷ xs) zero x is = (λ k. sym is k ∷ xs)
-set-back (y ∷ xs) (suc n) x is = (λ k. y ∷ set-back xs n x is k)
 
 -- different numbers behind others, of which none is one of them
 pub apart-append : (xs ys : List ℕ) → AreDifferent xs → AreDifferent ys → Each (λ x. Each (λ y. y ≢ x) ys) xs → AreDifferent (xs ++ ys)

@@ -23,7 +23,7 @@ use dim_hierarchy::{Hierarchy, Row};
 use link_descent::pick;
 use row_ledger::Use;
 use std::alloc::Global;
-use volap_cell::{Actor, Cell, Errand, State, Task, Way, lift, put_actor};
+use volap_cell::{Actor, Cell, Errand, State, Task, Way};
 
 /// The head that a row comes to next, the stamp that is expected of the last block of its group, and the place
 /// of the entry that leads there, 0 where that is a gate.
@@ -215,6 +215,16 @@ fn last_two(purse: &mut Purse) -> (u32, u32)
     (last.cell, before)
 }
 
+/// The cells of the last two spares of an actor, which stays as it was. Takes no memory.
+fn last_two_of(actor: &mut Actor) -> (u32, u32)
+    requires some { 0 < length (actor_of actor.old).purse }
+    ensures last { IsOfLast (actor_of actor.old).purse result.0 }
+    ensures before { IsBeforeLast (actor_of actor.old).purse result.1 }
+    ensures same { actor.new ≡ actor.old }
+{
+    last_two(&mut actor.purse)
+}
+
 /// The cells of the last two spares of the actor with this number, which stays as it was. Takes no memory.
 fn last_two_by(state: &mut State, number: usize) -> (u32, u32)
     requires some { Has (get_or state.old.actors.items number None) (λ x. 0 < length (actor_of x).purse) }
@@ -223,10 +233,10 @@ fn last_two_by(state: &mut State, number: usize) -> (u32, u32)
     ensures cells { state.new.cells.items ≡ state.old.cells.items }
     ensures actors { state.new.actors.items ≡ state.old.actors.items }
 {
-    let mut actor = lift(&mut state.actors, number);
-    let two = last_two(&mut actor.purse);
-    put_actor(&mut state.actors, number, actor);
-    two
+    let Some(actor) = &mut state.actors[number] else {
+        unreachable!()
+    };
+    last_two_of(actor)
 }
 
 /// An actor's row goes to the queue of its shard's gate, where that is due. Where no memory is found for it,

@@ -1,11 +1,12 @@
-use Rattle.std.proofs.Common.{◌∙◌, Some, set}
-use Rattle.seeded_run.proofs.DueRows.{set-back}
+use Rattle.std.proofs.Common.{◌∙◌, List, Option, Some, ap, set, sym}
+use Rattle.std.proofs.lemmas.List.{set-get_or}
+use Rattle.volap_cell.specs.declared.actor.Actor.{Actor}
 use Rattle.seeded_run.proofs.rows.last_two_by.Goals as goal
 
 pub returns-clause-actors : goal.returns-clause-actors
 returns-clause-actors c =
-    let old = c.args.state.now.actors.items in
+    let actors : List (Option Actor) = c.args.state.now.actors.items in
     let n = c.args.number in
-    c.put_actor.ensures.value
-    ∙ (λ k. set (c.lift-actor.ensures.rest k) n (Some (record c.lift-actor.result { purse = c.last_two-two.ensures.same k })))
-    ∙ set-back old n c.lift-actor.result c.lift-actor.ensures.value
+    (λ k. set actors n (Some (c.last_two_of.ensures.same k)))
+    ∙ ap (λ (place : Option Actor). set actors n place) (sym c.in-Some.is ∙ c.index_mut.ensures.value)
+    ∙ set-get_or actors n c.index_mut.result.now
