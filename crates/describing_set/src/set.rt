@@ -102,6 +102,7 @@ impl DescSet {
 
     /// How the set lies to the filter: it is inside where in each dimension the filter picks each of
     /// its concepts, so a set of none is; else it overlaps as `overlaps` says.
+    #[inline(always)]
     pub fn bearing(&self, wanted: &CompiledFilter) -> Bearing
         requires { IsDescSetOf wanted.now.hierarchy self.now }
         ensures test { result ≡ bearing wanted.now.hierarchy self.now wanted.now.picks }

@@ -59,7 +59,9 @@ fn visit_entries(entries: &[Entry], wanted: &CompiledFilter, total: &mut Agg, to
     }
 }
 
-/// Adds an entry inside the filter, or notes the child of one that else overlaps it.
+/// Adds an entry inside the filter, or notes the child of one that else overlaps it. A query asks this of
+/// each entry of a directory, so it is no call.
+#[inline(always)]
 pub(crate) fn visit_entry(entry: &Entry, wanted: &CompiledFilter, total: &mut Agg, todo: &mut Todo)
     requires set { IsDescSetOf wanted.now.hierarchy entry.now.set }
     requires few { total.old.count + entry.now.agg.count < 2 ^ 63 }

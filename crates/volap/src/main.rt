@@ -3,7 +3,7 @@
 
 use olap_top::{Status, olap};
 use std::process::ExitCode;
-use std::{env, io};
+use std::{env, io, mem};
 use volap_io::{Quiet, StdSink, StdSource};
 
 /// The words of the command line without the program's name. Words that are no text are none that
@@ -41,15 +41,20 @@ fn main(rt: HostRuntime) -> ExitCode {
     let mut source = StdSource::new(rt.stdin());
     let mut sink = StdSink::new(io::writer(&rt));
     let status = match words(&rt) {
-        Ok(words) => olap(
-            &rt,
-            rt.alloc(),
-            words.as_slice(),
-            &mut source,
-            &mut sink,
-            &Quiet,
-        )
-        .status,
+        Ok(words) => {
+            let outcome = olap(
+                &rt,
+                rt.alloc(),
+                words.as_slice(),
+                &mut source,
+                &mut sink,
+                &Quiet,
+            );
+            let status = outcome.status;
+            // The program ends, so what is left is not given back block by block.
+            mem::forget(outcome);
+            status
+        }
         Err(status) => status,
     };
     if status != Status::Done {

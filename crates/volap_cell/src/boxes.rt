@@ -157,8 +157,9 @@ impl Boxes {
     }
 }
 
-/// Room for the sets of a full block's items, in a box. A function of its own, as it pays for 8 KB among
-/// its locals.
+/// Room for the sets of a full block's items, in a box. A function of its own, and never inlined, as it pays
+/// for 8 KB among its locals: else each step of an actor would.
+#[inline(never)]
 fn new_sets(alloc: Global) -> Result<Box<ItemSets>, AllocError> {
     Ok(Box::new(alloc, ItemSets::new())?)
 }

@@ -29,7 +29,6 @@ pub use laws::{
 pub use opening::open;
 pub use role::{Role, RoleList};
 pub use state::{
-    State, lift, lift_five, lift_four, lift_if, lift_one, lift_seven, lift_six, lift_three,
-    lift_two, put_actor, put_five, put_four, put_if, put_one, put_seven, put_six, put_three,
-    put_two,
+    State, lift_five, lift_four, lift_if, lift_one, lift_seven, lift_six, lift_three, lift_two,
+    put_five, put_four, put_if, put_one, put_seven, put_six, put_three, put_two,
 };

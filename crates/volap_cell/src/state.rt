@@ -1,45 +1,16 @@
-//! All cells and actors, moved out and put back.
-ghost use Rattle.std.specs.Prelude.{◌≡◌, ◌<◌, ⊤, Some, None, [], ◌∷◌, length, get_or, set, is_some};
+//! All cells and actors, and how cells are moved out and put back.
+ghost use Rattle.std.specs.Prelude.{◌≡◌, ◌<◌, [], ◌∷◌, length, is_some};
 ghost use Rattle.tree_shape.specs.Counts.{Each};
-ghost use Rattle.volap_cell.specs.State.{Has, CanLift, Stand, taken, given, cell_if, number_if};
+ghost use Rattle.volap_cell.specs.State.{CanLift, Stand, taken, given, cell_if, number_if};
 
 use crate::actor::Actor;
 use crate::cell::Cell;
 
-/// All cells and actors, as one thread holds them; a place is empty while its cell or actor is out.
+/// All cells and actors, as one thread holds them; a cell's place is empty while it is moved out.
 #[derive(Drop)]
 pub struct State {
     pub cells: Vec<Option<Cell>>,
     pub actors: Vec<Option<Actor>>,
-}
-
-/// Moves what stands at a place out.
-pub fn lift<T>(places: &mut Vec<Option<T>>, at: usize) -> T
-    requires there { Has (get_or places.old.items at None) (λ x. ⊤) }
-    ensures value { get_or places.old.items at None ≡ Some result }
-    ensures rest { places.new.items ≡ set places.old.items at None }
-{
-    let place = &mut places[at];
-    match place.take() {
-        Some(x) => x,
-        None => unreachable!(),
-    }
-}
-
-/// Puts it back.
-fn put_back<T: Drop>(places: &mut Vec<Option<T>>, at: usize, x: T)
-    requires within { at < length places.old.items }
-    ensures value { places.new.items ≡ set places.old.items at (Some x) }
-{
-    places[at] = Some(x);
-}
-
-/// Puts an actor back.
-pub fn put_actor(actors: &mut Vec<Option<Actor>>, number: usize, actor: Actor)
-    requires within { number < length actors.old.items }
-    ensures value { actors.new.items ≡ set actors.old.items number (Some actor) }
-{
-    put_back(actors, number, actor);
 }
 
 /// Moves a cell out.
@@ -48,7 +19,11 @@ pub fn lift_one(cells: &mut Vec<Option<Cell>>, a: u32) -> Cell
     ensures value { Stand cells.old.items ((a, result) ∷ []) }
     ensures rest { cells.new.items ≡ taken (a ∷ []) cells.old.items }
 {
-    lift(cells, a as usize)
+    let place = &mut cells[a as usize];
+    match place.take() {
+        Some(cell) => cell,
+        None => unreachable!(),
+    }
 }
 
 /// Moves two cells out.
@@ -176,7 +151,7 @@ pub fn put_one(cells: &mut Vec<Option<Cell>>, a: u32, cell: Cell)
     requires within { Each (λ y. y < length cells.old.items) (a ∷ []) }
     ensures value { cells.new.items ≡ given ((a, cell) ∷ []) cells.old.items }
 {
-    put_back(cells, a as usize, cell);
+    cells[a as usize] = Some(cell);
 }
 
 /// Puts two cells back.
