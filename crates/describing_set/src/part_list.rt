@@ -1,5 +1,5 @@
 //! The parts of a describing set.
-ghost use Rattle.std.specs.Prelude.{◌≡◌, ◌<◌, ◌≤◌, ◌+◌, [], ◌∷◌, ◌++◌, length};
+ghost use Rattle.std.specs.Prelude.{◌≡◌, ◌<◌, ◌≤◌, ◌+◌, [], ◌∷◌, ◌++◌, length, slice_set};
 ghost use Rattle.std.specs.List.{slice_index_or};
 ghost use Rattle.dim_hierarchy.specs.Concept.{level_of};
 ghost use Rattle.dim_hierarchy.specs.Tree.{IsConcept};
@@ -73,6 +73,14 @@ impl PartList {
     {
         self.places[usize::from(self.count)] = part;
         self.count += 1;
+    }
+
+    /// Puts a part in place of that of a dimension.
+    pub(crate) fn set(&mut self, dim: u8, part: Part)
+        requires { dim < length self.old.items }
+        ensures { self.new.items ≡ slice_set self.old.items dim part }
+    {
+        self.places[usize::from(dim)] = part;
     }
 
     /// Adds a concept to the part of a dimension. A part that has the concept's ancestor is read only.

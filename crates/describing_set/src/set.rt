@@ -55,6 +55,29 @@ impl DescSet {
         DescSet { parts }
     }
 
+    /// Lets the set be that of one coordinate, where it stands, whatever it was before. A set that has
+    /// a part for each dimension already is written part by part, without another set beside it.
+    pub fn set_to_coord(&mut self, h: &Hierarchy, at: &Coord)
+        requires { IsCoordOf h.now at.now }
+        ensures set_of { IsSetOf h.now (at.now ∷ []) self.new }
+        ensures valid { IsDescSetOf h.now self.new }
+    {
+        self.fit(h);
+        for dim in 0..h.dims() {
+            self.parts
+                .set(dim, Part::of(h.levels(dim), at.concept(dim)));
+        }
+    }
+
+    /// Lets the set have a part for each dimension.
+    fn fit(&mut self, h: &Hierarchy)
+        ensures { length self.new.parts.items ≡ length h.now }
+    {
+        if self.parts.as_slice().len() != usize::from(h.dims()) {
+            *self = DescSet::empty(h);
+        }
+    }
+
     /// Adds a coordinate: in each dimension its ancestor at the set's level joins the concepts.
     /// While it would be the seventh, the level falls by one and each concept becomes its parent.
     pub fn grow(&mut self, h: &Hierarchy, at: &Coord)

@@ -1,0 +1,12 @@
+use Rattle.std.proofs.Common.{ℕ, ◌≡◌, ◌<◌, [], ◌∷◌, length, get_or}
+use Rattle.dim_hierarchy.specs.Tree.{leaf_level}
+use Rattle.dim_hierarchy.specs.Dimension.{tree}
+use Rattle.dim_hierarchy.specs.Row.{concept_at}
+use Rattle.describing_set.specs.Part.{part}
+use Rattle.describing_set.proofs.set.DescSet.set_to_coord.Given as goal
+
+abbrev pub invariant-loop-dim : goal.invariant-loop-dim
+invariant-loop-dim l = record {
+  count : length l.self.parts.items ≡ length l.h;
+  parts : (k : ℕ) → k < l.dim → get_or l.self.parts.items k (part 0 []) ≡ part (leaf_level (tree l.h k)) (concept_at l.at k ∷ []);
+}
