@@ -3,5 +3,6 @@ pub mod Pass
 pub mod GateRead
 pub mod Pick
 pub mod Divide
+pub mod MoreSets
 pub mod Descend
 pub mod Room

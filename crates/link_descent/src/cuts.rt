@@ -10,16 +10,11 @@ ghost use Rattle.dc_node.specs.declared.block.Body.TheVariants.{Rows, Entries};
 ghost use Rattle.link_descent.specs.Divide.{front, together, AreItemSets, HasNoCut, HasNoHeadCut};
 ghost use Rattle.link_descent.specs.Room.{Strikes, IsTheCut, AreTheParts};
 
+use crate::item_sets::ItemSets;
 use crate::tail::Tail;
-use arrayvec::ArrayVec;
 use dc_node::{Block, Body, Entry, LeafRows};
-use describing_set::DescSet;
 use dim_hierarchy::Hierarchy;
 use hierarchy_split::{Cut, HeadCuts, Places, choose};
-
-/// Room for the describing sets of a full block's items. It has 8 KB, so it is made once, is kept by
-/// who divides blocks, and is lent. What is in it before goes.
-pub type ItemSets = ArrayVec<DescSet, 32>;
 
 /// Puts the describing sets of rows into an empty list.
 fn row_sets(rows: &LeafRows, h: &Hierarchy, sets: &mut ItemSets)
@@ -30,7 +25,9 @@ fn row_sets(rows: &LeafRows, h: &Hierarchy, sets: &mut ItemSets)
     ensures count { length sets.new.items ≡ length rows.now.items }
 {
     for place in 0..rows.len() {
-        sets.push(rows.set_at(place, h));
+        if let Some(row) = rows.row(place) {
+            sets.push_coord(h, &row.at);
+        }
     }
 }
 
@@ -41,7 +38,7 @@ fn entry_sets(entries: &[Entry], sets: &mut ItemSets)
     ensures { sets.new.items ≡ map (λ e. e.set) entries.now }
 {
     for entry in entries {
-        sets.push(entry.set.copy());
+        sets.push_copy(&entry.set);
     }
 }
 

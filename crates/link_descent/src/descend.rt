@@ -17,10 +17,10 @@ ghost use Rattle.link_descent.specs.Room.{MakesRoom, AreTwoGroups, new_blocks, H
 ghost use Rattle.dc_node.specs.declared.entry.Entry.{Entry};
 
 use crate::choice::is_before;
-use crate::cuts::ItemSets;
 use crate::divide::{Division, divide};
 use crate::entered::{Entered, Fresh};
 use crate::groups::group_entry;
+use crate::item_sets::ItemSets;
 use crate::tail::Tail;
 use cell_stock::Purse;
 use dc_node::{Blanks, Block, Body, Entry, EntryBox};

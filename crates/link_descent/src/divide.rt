@@ -5,7 +5,8 @@ ghost use Rattle.dc_node.specs.Block.{size, is_full, IsBodyOf};
 ghost use Rattle.link_descent.specs.Divide.{items_at, body_at, front, rest, half, left_block, right_block, IsHalved};
 ghost use Rattle.link_descent.specs.Room.{IsCutBy, DividesAlone, DividesGroup, Divides};
 
-use crate::cuts::{ItemSets, good_cut, good_head_cut};
+use crate::cuts::{good_cut, good_head_cut};
+use crate::item_sets::ItemSets;
 use crate::tail::Tail;
 use cell_stock::Spare;
 use dc_node::{Blanks, Block, Body, Entry, EntryBox, LeafRows, RowBox};

@@ -9,6 +9,7 @@ mod divide;
 mod entered;
 mod gate_reads;
 mod groups;
+mod item_sets;
 mod tail;
 #[cfg(test)]
 mod tests;
@@ -17,9 +18,9 @@ mod visit_tests;
 mod visits;
 
 pub use choice::pick;
-pub use cuts::ItemSets;
 pub use descend::{enter_root, entry_of, pass_down, pass_root, put_leaf, step_down};
 pub use entered::{Entered, Fresh};
 pub use gate_reads::read_gate;
+pub use item_sets::ItemSets;
 pub use tail::Tail;
 pub use visits::visit;
