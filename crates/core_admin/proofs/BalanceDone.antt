@@ -21,7 +21,7 @@ use Rattle.shard_plan.specs.declared.action.Load.{Load}
 use Rattle.tree_shape.proofs.Walks.{on_bool, eqb-eq, eqb-ne, eqb-no}
 use Rattle.volap_cell.specs.Commands.{after_action, stands_after}
 use Rattle.volap_cell.specs.Growing.{IsUnder}
-use Rattle.volap_cell.specs.Planning.{has_load, job_for, next_job, worker_in}
+use Rattle.volap_cell.specs.Planning.{has_load, job_for, next_job, worker_among}
 use Rattle.volap_cell.specs.Setting.{Setting, site_in}
 use Rattle.volap_cell.specs.Values.{JobValue, IsCalled}
 use Rattle.volap_cell.specs.Working.{IsAhead, IsBalancing, IsPlanned, IsReadLoad, StandsBy, action_of, action_to, begun}
@@ -32,14 +32,14 @@ use Rattle.core_image.proofs.NextAction.{drop-at, inside, next-action, take-more
 
 -- Where the loads stand: the shard on its new worker, and all others where they were.
 
-at-moved : (loads : List Load) (shard to : ℕ) → list_any (λ (l : Load). l.shard == shard) loads ≡ true → worker_in (after_move loads shard to) shard ≡ to
+at-moved : (loads : List Load) (shard to : ℕ) → list_any (λ (l : Load). l.shard == shard) loads ≡ true → worker_among (after_move loads shard to) shard ≡ to
 at-moved [] shard to has = absurd (false≢true has)
 at-moved (l ∷ loads) shard to has = (let rest = at-moved loads shard to in on_bool (l.shard == shard)
     (λ q. rw (q, q) refl)
     (λ q. let more : list_any (λ (z : Load). z.shard == shard) loads ≡ true = (let k : (false || list_any (λ (z : Load). z.shard == shard) loads) ≡ true = sym (ap (λ (b : Bool). b || list_any (λ (z : Load). z.shard == shard) loads) q) ∙ has in k) in
     rw (q, q) (rest more)))
 
-at-other : (loads : List Load) (shard to x : ℕ) → x ≢ shard → worker_in (after_move loads shard to) x ≡ worker_in loads x
+at-other : (loads : List Load) (shard to x : ℕ) → x ≢ shard → worker_among (after_move loads shard to) x ≡ worker_among loads x
 at-other [] shard to x ne = refl
 at-other (l ∷ loads) shard to x ne = (let rest = at-other loads shard to x ne in on_bool (l.shard == shard)
     (λ q.
@@ -107,15 +107,15 @@ module _ (s : Setting) (h : List Event) (placed : ℕ → Bool) (home : ℕ → 
   -- what is known of the shards that stand
   module _ (on_same : (x w : ℕ) → x ≢ job.shard → is_on s.workers (e ∷ h) x w ≡ is_on s.workers h x w) (on_now : is_on s.workers (e ∷ h) job.shard to ≡ true) (live_same : (x : ℕ) → is_live s.workers (e ∷ h) x ≡ is_live s.workers h x)
       (comes : (x y : ℕ) → comes_from (e ∷ h) x y ≡ comes_from h x y) where
-    on-now : (x : ℕ) → is_on s.workers h x (worker_in b.standing x) ≡ true → is_on s.workers (e ∷ h) x (worker_in next.standing x) ≡ true
-    on-now x was = subst (λ (loads : List Load). is_on s.workers (e ∷ h) x (worker_in loads x) ≡ true) (sym now-standing) (on_bool (eqb x job.shard)
+    on-now : (x : ℕ) → is_on s.workers h x (worker_among b.standing x) ≡ true → is_on s.workers (e ∷ h) x (worker_among next.standing x) ≡ true
+    on-now x was = subst (λ (loads : List Load). is_on s.workers (e ∷ h) x (worker_among loads x) ≡ true) (sym now-standing) (on_bool (eqb x job.shard)
         (λ q.
         let is = eqb-eq x job.shard q in
-        subst (λ (y : ℕ). is_on s.workers (e ∷ h) y (worker_in (after_move b.standing job.shard to) y) ≡ true) (sym is)
+        subst (λ (y : ℕ). is_on s.workers (e ∷ h) y (worker_among (after_move b.standing job.shard to) y) ≡ true) (sym is)
         (ap (is_on s.workers (e ∷ h) job.shard) (at-moved b.standing job.shard to stands) ∙ on_now))
         (λ q.
         let ne = eqb-ne x job.shard q in
-        ap (is_on s.workers (e ∷ h) x) (at-other b.standing job.shard to x ne) ∙ on_same x (worker_in b.standing x) ne ∙ was))
+        ap (is_on s.workers (e ∷ h) x) (at-other b.standing job.shard to x ne) ∙ on_same x (worker_among b.standing x) ne ∙ was))
 
     stands-now : (x : ℕ) → StandsBy s h b.standing x → StandsBy s (e ∷ h) next.standing x
     stands-now x i = (ap (λ (loads : List Load). has_load loads x) now-standing ∙ has-moved b.standing job.shard to x ∙ i.0, on-now x i.1)

@@ -12,7 +12,7 @@ use Rattle.row_ledger.specs.declared.event.Event.TheVariants.{Split, Moved}
 use Rattle.row_ledger.proofs.Elements.{Contains-nil}
 use Rattle.shard_plan.specs.declared.action.Load.{Load}
 use Rattle.tree_shape.proofs.Walks.{on_bool}
-use Rattle.volap_cell.specs.Planning.{worker_in}
+use Rattle.volap_cell.specs.Planning.{worker_among}
 use Rattle.volap_cell.specs.Working.{places_in}
 use Rattle.balancer.specs.Turn.{rows_of_all}
 
@@ -62,13 +62,13 @@ few-places workers (e ∷ past) = (let before = few-places workers past in let n
 -- Where loads stand.
 
 -- a shard with a load stands where the loads have it
-pub stands-there : (loads : List Load) (x : ℕ) → list_any (λ (l : Load). l.shard == x) loads ≡ true → list_any (λ (p : Place). is_of x p && (p.worker == worker_in loads x)) (places_in loads) ≡ true
+pub stands-there : (loads : List Load) (x : ℕ) → list_any (λ (l : Load). l.shard == x) loads ≡ true → list_any (λ (p : Place). is_of x p && (p.worker == worker_among loads x)) (places_in loads) ≡ true
 stands-there [] x has = (let never : false ≡ true = has in absurd (cc))
 stands-there (l ∷ loads) x has = on_bool (l.shard == x)
-    (λ q. let here : worker_in (l ∷ loads) x ≡ l.worker = rw q refl in
-    or_left ((l.shard == x) && (l.worker == worker_in (l ∷ loads) x)) _ ((λ k. q k && (l.worker == here k)) ∙ eq-eqb l.worker l.worker refl))
+    (λ q. let here : worker_among (l ∷ loads) x ≡ l.worker = rw q refl in
+    or_left ((l.shard == x) && (l.worker == worker_among (l ∷ loads) x)) _ ((λ k. q k && (l.worker == here k)) ∙ eq-eqb l.worker l.worker refl))
     (λ q. let more : list_any (λ (z : Load). z.shard == x) loads ≡ true = sym (ap (λ (b : Bool). b || list_any (λ (z : Load). z.shard == x) loads) q) ∙ has in
-    let later : worker_in (l ∷ loads) x ≡ worker_in loads x = rw q refl in
+    let later : worker_among (l ∷ loads) x ≡ worker_among loads x = rw q refl in
     rw q (subst (λ (w : ℕ). list_any (λ (p : Place). is_of x p && (p.worker == w)) (places_in loads) ≡ true) (sym later) (stands-there loads x more)))
 
 among : (xs : List ℕ) (x : ℕ) → Contains xs x → list_any (λ y. y == x) xs ≡ true

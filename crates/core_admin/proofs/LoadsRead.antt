@@ -14,7 +14,7 @@ use Rattle.shard_plan.specs.declared.action.Action.{Action}
 use Rattle.shard_plan.specs.declared.action.Action.TheVariants as action
 use Rattle.shard_plan.specs.declared.action.Load.{Load}
 use Rattle.tree_shape.proofs.Walks.{on_bool, eqb-eq}
-use Rattle.volap_cell.specs.Planning.{has_load, job_for, next_job, worker_in}
+use Rattle.volap_cell.specs.Planning.{has_load, job_for, next_job, worker_among}
 use Rattle.volap_cell.specs.Setting.{Setting, site_in}
 use Rattle.volap_cell.specs.Values.{JobValue, IsCalled}
 use Rattle.volap_cell.specs.Working.{IsAhead, IsBalancing, IsPlanned, IsReadLoad, StandsBy, places_in}
@@ -85,7 +85,7 @@ module _ (s : Setting) (h : List Event) (placed : ℕ → Bool) (home : ℕ → 
     stands : (x : ℕ) → list_any (λ y. y == x) (shards_in now) ≡ true → StandsBy s h now x
     stands x has =
         let there : has_load now x ≡ true = has-by-shard now x ∙ has in
-        (there, subst (λ (places : List Place). list_any (λ (p : Place). is_of x p && (p.worker == worker_in now x)) places ≡ true) (sym front) (stands-there now x there))
+        (there, subst (λ (places : List Place). list_any (λ (p : Place). is_of x p && (p.worker == worker_among now x)) places ≡ true) (sym front) (stands-there now x there))
 
     all-stand : All (StandsBy s h now) (shards_in now)
     all-stand = All-weaker (λ x. list_any (λ y. y == x) (shards_in now) ≡ true) (StandsBy s h now) stands (shards_in now) (each-among (shards_in now))

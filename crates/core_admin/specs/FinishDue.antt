@@ -239,8 +239,8 @@ pub record NotesDone (planned : Bool) (of : ℕ) (e : Event) (ledger ledger_now 
   pub promised : ledger_now.promised + gone_by planned ≡ ledger.promised
 
 -- one action more of a balance is done, and after a move its loads stand where they do now
-abbrev pub counted : ℕ → Option ℕ → Balance → Balance
-counted shard to b = record b { standing = stands_after true shard to b.standing; done = b.done + 1 }
+abbrev pub with_one_done : ℕ → Option ℕ → Balance → Balance
+with_one_done shard to b = record b { standing = stands_after true shard to b.standing; done = b.done + 1 }
 
 pub record MayCount (command : Option Command) : Type 0 where
   pub of : ℕ
@@ -249,7 +249,7 @@ pub record MayCount (command : Option Command) : Type 0 where
   pub few : balance.done + 1 < 2 ^ 8
 
 abbrev pub CountsDone : ℕ → Option ℕ → Option Command → Option Command → Type 0
-CountsDone shard to command command_now = (of : ℕ) (b : Balance) → command ≡ doing of (work_is.Balance b) → command_now ≡ doing of (work_is.Balance (counted shard to b))
+CountsDone shard to command command_now = (of : ℕ) (b : Balance) → command ≡ doing of (work_is.Balance b) → command_now ≡ doing of (work_is.Balance (with_one_done shard to b))
 
 -- a command that plans may go on behind that
 pub record MayGoOnDone (command : Option Command) (has_job : Bool) : Type 0 where
@@ -265,7 +265,7 @@ MayCloseDone false command has_job = ⊤
 abbrev pub GoesOnDone : ℕ → Option ℕ → Option Command → Option Command → Option JobValue → Type 0
 GoesOnDone shard to command command_now job =
     (of : ℕ) (b : Balance) → command ≡ doing of (work_is.Balance b)
-    → (command_now ≡ doing of (work_is.Balance (record (counted shard to b) { over = b.over + 1 }))) × (job ≡ next_job (record (counted shard to b) { over = b.over + 1 }))
+    → (command_now ≡ doing of (work_is.Balance (record (with_one_done shard to b) { over = b.over + 1 }))) × (job ≡ next_job (record (with_one_done shard to b) { over = b.over + 1 }))
 
 abbrev pub ClosesDone : Bool → ℕ → Option ℕ → Option Command → Option Command → Option JobValue → Type 0
 ClosesDone true shard to command command_now job = GoesOnDone shard to command command_now job

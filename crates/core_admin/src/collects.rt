@@ -2,6 +2,7 @@
 ghost use Rattle.std.specs.Prelude.{◌≡◌, ◌≢◌, ◌+◌, ◌<◌, ◌≤◌, [], ◌∷◌, ◌++◌, length, map, vec_len, vec_capacity, slice_get, IfSome, OnOk, OnErr};
 ghost use Rattle.core_admin.specs.CollectDue.{CanCollectBlock, CanCollectRow, CollectsRow, HasMore, HasNoted, ReadsBlock, ReadsInto, TakesRow};
 ghost use Rattle.dc_node.specs.Block.{rows_in};
+ghost use Rattle.dc_node.specs.Limits.{most_of_leaf};
 ghost use Rattle.link_descent.specs.Visit.{noted_right};
 ghost use Rattle.tree_shape.specs.Collecting.{entry_items};
 ghost use Rattle.volap_cell.specs.Cells.{cell_of};
@@ -11,18 +12,13 @@ ghost use Rattle.volap_cell.specs.World.{change, held};
 ghost use Rattle.volap_cell.specs.declared.kind.Kind.TheVariants.{Collect};
 
 use dc_node::{Block, Body, Entry, Item, LeafRows, Todo};
-use dim_hierarchy::{Coord, Hierarchy, Row};
+use dim_hierarchy::{COLUMN_PLACES, Coord, Hierarchy, Row};
+use link_descent::MOST_NOTED;
 use shard_store::{CellList, Gate, RowList};
 use std::alloc::AllocError;
 use std::mem;
 use tree_shape::collect_laws;
 use volap_cell::{Actor, Cell, Collecting, Job, Stage};
-
-/// How many blocks a reading notes at most: the children of a directory, and the block to the right.
-const MOST_NOTED: u64 = 17;
-
-/// How many rows a leaf has at most.
-const MOST_ROWS: usize = 32;
 
 /// Reads the block that the actor's job noted last: collects its rows, and notes all its entries and its
 /// right link. The room for these is made first; where memory is wanting for it, nothing changes.
@@ -93,7 +89,7 @@ fn read_into(
 {
     todo.reserve(MOST_NOTED)?;
     read.reserve(1)?;
-    rows.reserve(MOST_ROWS)?;
+    rows.reserve(COLUMN_PLACES)?;
     let Some(item) = todo.pop() else {
         unreachable!()
     };
@@ -133,7 +129,7 @@ fn note_right(block: &Block, stamp: u64, todo: &mut Todo)
 
 /// Collects the rows of a leaf; a directory has none. Takes no memory.
 fn collect_rows(block: &Block, rows: &mut Vec<Row>)
-    requires room { vec_len rows.old + 32 ≤ vec_capacity rows.old }
+    requires room { vec_len rows.old + most_of_leaf ≤ vec_capacity rows.old }
     ensures { rows.new.items ≡ rows.old.items ++ rows_in block.now.body }
 {
     if let Body::Rows(leaf) = &block.body {
@@ -143,7 +139,7 @@ fn collect_rows(block: &Block, rows: &mut Vec<Row>)
 
 /// Collects the rows of a leaf. Takes no memory.
 fn collect_leaf(leaf: &LeafRows, rows: &mut Vec<Row>)
-    requires room { vec_len rows.old + 32 ≤ vec_capacity rows.old }
+    requires room { vec_len rows.old + most_of_leaf ≤ vec_capacity rows.old }
     ensures { rows.new.items ≡ rows.old.items ++ leaf.now.items }
 {
     for place in 0..leaf.len() {

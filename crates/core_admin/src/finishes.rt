@@ -1,7 +1,7 @@
 //! A job ends with new gates: what ends of splits and of moves have in common, and the moves.
 ghost use Rattle.std.specs.Prelude.{ℕ, ◌≡◌, ◌+◌, ◌≤◌, ◌<◌, ◌^◌, [], ◌∷◌, length, drop, is_some, Some, option_map, IsSome, IfOk, OnOk, OnErr};
 ghost use Rattle.std.specs.FinMap as map;
-ghost use Rattle.core_admin.specs.FinishDue.{CanFinishHere, CanFinishMove, CanQueue, ClosesDone, CountsDone, FinishesFor, GivesRest, IsLate, IsNextGate, MakesWay, MakesWayHere, MayCloseDone, MayCount, MayFinish, MayGiveRest, MayMakeWay, MovesTo, NotesDone, QueuesAll, RetiresFor, counted, gone_by};
+ghost use Rattle.core_admin.specs.FinishDue.{CanFinishHere, CanFinishMove, CanQueue, ClosesDone, CountsDone, FinishesFor, GivesRest, IsLate, IsNextGate, MakesWay, MakesWayHere, MayCloseDone, MayCount, MayFinish, MayGiveRest, MayMakeWay, MovesTo, NotesDone, QueuesAll, RetiresFor, with_one_done, gone_by};
 ghost use Rattle.mapping_table.specs.declared.place.Where.TheVariants as where_is;
 ghost use Rattle.shard_plan.specs.Balancing.{after_move};
 ghost use Rattle.shard_store.specs.Gate.{IsFrozen, IsQueueOf};
@@ -400,7 +400,7 @@ fn count_for(alloc: Global, command: &mut Command, shard: u32, to: Option<u8>)
 /// Counts an action that is done; after a move the loads stand where they do now.
 fn count_in(alloc: Global, balance: &mut Balance, shard: u32, to: Option<u8>)
     requires few { balance.old.done + 1 < 2 ^ 8 }
-    ensures { balance.new ≡ counted shard to balance.old }
+    ensures { balance.new ≡ with_one_done shard to balance.old }
 {
     balance.done += 1;
     if let Some(worker) = to {

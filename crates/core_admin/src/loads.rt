@@ -6,7 +6,7 @@ ghost use Rattle.shard_plan.specs.declared.action.Load.{Load};
 ghost use Rattle.shard_store.specs.declared.gate.Gate.{Gate};
 ghost use Rattle.volap_cell.specs.AdminKinds.{rows_at};
 ghost use Rattle.volap_cell.specs.Cells.{GateCell, cell_of};
-ghost use Rattle.volap_cell.specs.Planning.{job_for, worker_in as worker_among};
+ghost use Rattle.volap_cell.specs.Planning.{job_for, worker_among};
 ghost use Rattle.volap_cell.specs.Steps.{IsHere, Makes};
 ghost use Rattle.volap_cell.specs.Values.{actor_of, job_of};
 ghost use Rattle.volap_cell.specs.World.{change, held};
@@ -173,13 +173,13 @@ fn job_of_action(standing: &[Load], action: Action) -> Job
     match action {
         Action::Split { shard } => Job {
             shard,
-            worker: worker_in(standing, shard),
+            worker: worker_among(standing, shard),
             to: None,
             stage: Stage::Called,
         },
         Action::Move { shard, worker } => Job {
             shard,
-            worker: worker_in(standing, shard),
+            worker: worker_among(standing, shard),
             to: Some(worker),
             stage: Stage::Called,
         },
@@ -187,7 +187,7 @@ fn job_of_action(standing: &[Load], action: Action) -> Job
 }
 
 /// The worker of a shard by these loads; 0 where none is of it.
-fn worker_in(standing: &[Load], shard: u32) -> u8
+fn worker_among(standing: &[Load], shard: u32) -> u8
     ensures { result ≡ worker_among standing.now shard }
 {
     match standing.iter().find(|load| load.shard == shard) {

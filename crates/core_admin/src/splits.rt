@@ -290,7 +290,7 @@ fn give_most(stock: &mut Stock, purse: &mut Purse) -> u32
 fn next_ids(stock: &mut Stock) -> Result<u32, AllocError>
     requires few { stock.old.ids < 2 ^ 32 }
     ensures ok { IfOk result (λ first. (first ≡ stock.old.ids) × (first + 2 < 2 ^ 32)) }
-    ensures same { stock.new ≡ stock.old }
+    ensures unchanged { stock.new ≡ stock.old }
 {
     let first = stock.shard_ids(0);
     if first > LAST_PAIR {

@@ -3,7 +3,7 @@ ghost use Rattle.std.specs.Prelude.{◌≡◌, ◌+◌, ◌<◌, ◌^◌, Some, 
 ghost use Rattle.core_image.specs.NotesDue.{CanNoteLeft, GoesOn, MayBeLeft, MayGoOn};
 ghost use Rattle.volap_cell.specs.ImageKinds.{LeavesAs};
 ghost use Rattle.volap_cell.specs.Cells.{cell_of};
-ghost use Rattle.volap_cell.specs.Planning.{job_for, next_job, worker_in as worker_among};
+ghost use Rattle.volap_cell.specs.Planning.{job_for, next_job, worker_among};
 ghost use Rattle.volap_cell.specs.Steps.{IsHere, Makes};
 ghost use Rattle.volap_cell.specs.Values.{actor_of, job_of, stage_of};
 ghost use Rattle.volap_cell.specs.World.{change, held};
@@ -107,12 +107,12 @@ fn turn(job: &mut Job, standing: &[Load], action: Action)
     match action {
         Action::Split { shard } => {
             job.shard = shard;
-            job.worker = worker_in(standing, shard);
+            job.worker = worker_among(standing, shard);
             job.to = None;
         }
         Action::Move { shard, worker } => {
             job.shard = shard;
-            job.worker = worker_in(standing, shard);
+            job.worker = worker_among(standing, shard);
             job.to = Some(worker);
         }
     }
@@ -120,7 +120,7 @@ fn turn(job: &mut Job, standing: &[Load], action: Action)
 }
 
 /// The worker of a shard by these loads; 0 where none is of it.
-fn worker_in(standing: &[Load], shard: u32) -> u8
+fn worker_among(standing: &[Load], shard: u32) -> u8
     ensures { result ≡ worker_among standing.now shard }
 {
     match standing.iter().find(|load| load.shard == shard) {

@@ -14,12 +14,12 @@ block_held None = leaf_without_rows 0
 block_held (Some c) = block_in (cell_of c)
 
 -- how many cells have a number at most
-abbrev pub most_cells : ℕ
-most_cells = 2 ^ 32 - 1
+abbrev pub most_numbered : ℕ
+most_numbered = 2 ^ 32 - 1
 
 -- the blocks as a page reads them
 abbrev pub blocks_of : List (Option Cell) → CellBlocks
-blocks_of cells = record { count = min (length cells) most_cells; block = λ y. block_held (get_or cells y None) }
+blocks_of cells = record { count = min (length cells) most_numbered; block = λ y. block_held (get_or cells y None) }
 
 -- the gate of a cell
 abbrev pub gate_held : Option Cell → Option Gate

@@ -30,10 +30,6 @@ use Rattle.volap_cell.specs.declared.errand.Task.TheVariants as task
 
 -- Visits.
 
--- so many blocks a visit notes at most
-abbrev pub most_noted : ℕ
-most_noted = 17
-
 -- how many blocks an actor's query can note without memory
 
 abbrev pub room_in_task : Task → ℕ

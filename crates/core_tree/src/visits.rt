@@ -1,6 +1,7 @@
 //! The step of a query at a block.
 ghost use Rattle.std.specs.Prelude.{◌≡◌, ◌≤◌, [], ◌∷◌, IsOk, OnOk, OnErr};
-ghost use Rattle.core_tree.specs.ReadDue.{CanBlockVisit, CanVisit, Visits, IsAtBlock, VisitsFor, most_noted, room_in_task, room_to_note};
+ghost use Rattle.core_tree.specs.ReadDue.{CanBlockVisit, CanVisit, Visits, IsAtBlock, VisitsFor, room_in_task, room_to_note};
+ghost use Rattle.link_descent.specs.Visit.{most_noted};
 ghost use Rattle.volap_cell.specs.Cells.{cell_of};
 ghost use Rattle.volap_cell.specs.Steps.{IsHere, Makes};
 ghost use Rattle.volap_cell.specs.Values.{actor_of, errand_of, reading_of};
@@ -9,13 +10,10 @@ ghost use Rattle.volap_cell.specs.declared.kind.Kind.TheVariants.{BlockVisit};
 
 use dc_node::Block;
 use dim_hierarchy::Hierarchy;
-use link_descent::visit;
+use link_descent::{MOST_NOTED, visit};
 use std::alloc::AllocError;
 use tree_shape::{query_laws, tree_laws};
 use volap_cell::{Actor, Cell, Errand, Reading, Task};
-
-/// How many blocks a visit notes at most: the children of a directory, and the block to the right.
-const MOST_NOTED: u64 = 17;
 
 /// Visits the block that the actor's query noted last: counts what it must there, and notes what it has
 /// still to visit. Takes memory only where there is not room to note as many blocks as a visit may.

@@ -4,6 +4,7 @@ use Rattle.dim_hierarchy.specs.declared.row.Row.{Row}
 use Rattle.dim_hierarchy.specs.Dimension.{Dimension}
 use Rattle.dim_hierarchy.specs.Row.{IsRowOf}
 use Rattle.describing_set.specs.DescSet.{IsDescSetOf}
+use Rattle.dc_node.specs.Limits.{most_of_leaf, most_of_directory}
 use Rattle.dc_node.specs.declared.block.Body.{Body}
 use Rattle.dc_node.specs.declared.block.Body.TheVariants.{Rows, Entries}
 use Rattle.dc_node.specs.declared.block.Block.{Block}
@@ -30,8 +31,8 @@ size (Rows rows) = length rows.items
 size (Entries entries) = length entries.items
 
 abbrev pub is_full : Body → Bool
-is_full (Rows rows) = length rows.items == 32
-is_full (Entries entries) = length entries.items == 16
+is_full (Rows rows) = length rows.items == most_of_leaf
+is_full (Entries entries) = length entries.items == most_of_directory
 
 -- the items are of this hierarchy
 abbrev pub IsBodyOf : List Dimension → Body → Type 0

@@ -1,5 +1,6 @@
 //! The blocks of a tree.
 ghost use Rattle.std.specs.Prelude.{◌≡◌, ◌+◌, ◌<◌, ◌≤◌, ◌^◌, ◌∷◌, ◌++◌, [], true, false, length};
+ghost use Rattle.dc_node.specs.Limits.{most_of_directory};
 ghost use Rattle.dc_node.specs.Block.{rows_in, entries_in, is_leaf, is_full, with_rows, with_entries, replaced, IsBodyOf};
 ghost use Rattle.dc_node.specs.Summary.{row_count, IsSummary};
 ghost use Rattle.describing_set.specs.DescSet.{IsDescSetOf};
@@ -67,7 +68,7 @@ impl Block {
         }
     }
 
-    /// Whether there is no room for a further item: a leaf has at most 32, a directory 16.
+    /// Whether there is no room for a further item: a leaf has at most 32 rows, a directory 16 entries.
     pub fn is_full(&self) -> bool
         ensures { result ≡ is_full self.now.body }
     {
@@ -80,7 +81,7 @@ impl Block {
     /// The entries of a directory in order; none of a leaf.
     pub fn entries(&self) -> &[Entry]
         ensures value { result.now ≡ entries_in self.now.body }
-        ensures few { length result.now ≤ 16 }
+        ensures few { length result.now ≤ most_of_directory }
     {
         match &self.body {
             Body::Rows(_) => &[],

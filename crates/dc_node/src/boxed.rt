@@ -4,6 +4,7 @@ ghost use Rattle.dim_hierarchy.specs.Filter.{matches};
 ghost use Rattle.dim_hierarchy.specs.Row.{IsRowOf};
 ghost use Rattle.measure_agg.specs.Aggregate.{agg};
 ghost use Rattle.describing_set.specs.DescSet.{IsSetOf, IsDescSetOf};
+ghost use Rattle.dc_node.specs.Limits.{most_of_leaf, most_of_directory};
 ghost use Rattle.dc_node.specs.Entry.{HasRowMore};
 ghost use Rattle.dc_node.specs.Summary.{coords};
 
@@ -16,7 +17,7 @@ use measure_agg::Agg;
 use std::alloc::{AllocError, Global};
 use std::marker::Model;
 
-/// The rows of a leaf by columns in a box of their own, at most 32. Contracts see the list of rows, as
+/// The rows of a leaf by columns in a box of their own. Contracts see the list of rows, as
 /// of an `ArrayVec`.
 #[derive(Drop)]
 pub struct RowBox {
@@ -28,13 +29,14 @@ impl Model for RowBox {
     ghost use Rattle.std.specs.Prelude.{◌≤◌};
     ghost use Rattle.arrayvec.specs.ArrayVec.{ArrayVec as Items};
     ghost use Rattle.dim_hierarchy.specs.declared.row.Row.{Row};
+    ghost use Rattle.dc_node.specs.Limits.{most_of_leaf};
     ghost use Rattle.dc_node.specs.Columns.{rows_of};
 
     ghost Value = { Items Row };
 
     ghost view = { λ b. record { items = rows_of b.columns.value b.count } };
 
-    ghost invariant = { λ b. b.count ≤ 32 };
+    ghost invariant = { λ b. b.count ≤ most_of_leaf };
 }
 
 impl RowBox {
@@ -50,7 +52,7 @@ impl RowBox {
     #[tactic(auto, using(crate::proofs::Rows::length_rows))]
     pub fn len(&self) -> usize
         ensures value { result ≡ length self.now.items }
-        ensures fits { result ≤ 32 }
+        ensures few { result ≤ most_of_leaf }
     {
         self.count
     }
@@ -67,7 +69,7 @@ impl RowBox {
     /// Adds a row at the end. There must be room.
     #[tactic(auto, using(crate::proofs::Rows::length_rows))]
     pub fn push(&mut self, row: &Row)
-        requires { length self.old.items < 32 }
+        requires { length self.old.items < most_of_leaf }
         ensures items { self.new.items ≡ self.old.items ++ row.now ∷ [] }
         ensures len { length self.new.items ≡ length self.old.items + 1 }
     {
@@ -86,7 +88,7 @@ impl RowBox {
     #[tactic(auto, using(crate::proofs::Rows::length_rows, crate::proofs::Rows::row_of_rows))]
     pub fn copy_row(&self, place: usize, other: &mut RowBox)
         requires place { place < length self.now.items }
-        requires room { length other.old.items < 32 }
+        requires room { length other.old.items < most_of_leaf }
         ensures items { IfSome (slice_get self.now.items place)
             (λ row. other.new.items ≡ other.old.items ++ row ∷ []) }
         ensures len { length other.new.items ≡ length other.old.items + 1 }
@@ -133,10 +135,13 @@ impl RowBox {
     }
 }
 
-/// The entries of a directory in a box of their own, at most 16. Contracts see the same as of an `ArrayVec`.
+/// How many entries a directory has at most.
+pub const MOST_OF_DIRECTORY: usize = 16;
+
+/// The entries of a directory in a box of their own. Contracts see the same as of an `ArrayVec`.
 #[derive(Drop)]
 pub struct EntryBox {
-    list: Box<ArrayVec<Entry, 16>>,
+    list: Box<ArrayVec<Entry, MOST_OF_DIRECTORY>>,
 }
 
 impl Model for EntryBox {
@@ -166,8 +171,8 @@ impl EntryBox {
 
     /// Whether there is no room left.
     pub fn is_full(&self) -> bool
-        ensures value { result ≡ (length self.now.items == 16) }
-        ensures fits { length self.now.items ≤ 16 }
+        ensures value { result ≡ (length self.now.items == most_of_directory) }
+        ensures few { length self.now.items ≤ most_of_directory }
     {
         self.list.is_full()
     }
@@ -175,14 +180,14 @@ impl EntryBox {
     /// The elements.
     pub fn as_slice(&self) -> &[Entry]
         ensures value { result.now ≡ self.now.items }
-        ensures fits { length result.now ≤ 16 }
+        ensures few { length result.now ≤ most_of_directory }
     {
         self.list.as_slice()
     }
 
     /// Appends an element. There must be room.
     pub fn push(&mut self, element: Entry)
-        requires { length self.old.items < 16 }
+        requires { length self.old.items < most_of_directory }
         ensures items { self.new.items ≡ self.old.items ++ element ∷ [] }
         ensures len { length self.new.items ≡ length self.old.items + 1 }
     {
@@ -191,8 +196,8 @@ impl EntryBox {
 
     /// Inserts an element at a place, and moves the later ones up. There must be room.
     pub fn insert(&mut self, index: usize, element: Entry)
-        requires in_bounds { index ≤ length self.old.items }
-        requires room { length self.old.items < 16 }
+        requires within { index ≤ length self.old.items }
+        requires room { length self.old.items < most_of_directory }
         ensures { self.new.items ≡ insert self.old.items index element }
     {
         self.list.insert(index, element);
@@ -200,7 +205,7 @@ impl EntryBox {
 
     /// Counts a row beneath the entry at a place, where it stands.
     pub fn add_row(&mut self, index: usize, h: &Hierarchy, row: &Row)
-        requires in_bounds { index < length self.old.items }
+        requires within { index < length self.old.items }
         requires set { IfSome (slice_get self.old.items index) (λ e. IsDescSetOf h.now e.set) }
         requires row { IsRowOf h.now row.now }
         requires few { IfSome (slice_get self.old.items index) (λ e. e.agg.count + 1 < 2 ^ 63) }

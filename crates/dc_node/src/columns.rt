@@ -7,35 +7,38 @@ ghost use Rattle.dim_hierarchy.specs.Filter.{matches};
 ghost use Rattle.dim_hierarchy.specs.Row.{IsRowOf};
 ghost use Rattle.measure_agg.specs.Aggregate.{agg, join};
 ghost use Rattle.describing_set.specs.DescSet.{IsSetOf, IsDescSetOf};
+ghost use Rattle.dc_node.specs.Limits.{most_of_leaf};
 ghost use Rattle.dc_node.specs.Summary.{coords};
 ghost use Rattle.dc_node.specs.Columns.{coord_at, row_at, rows_of, IsPut};
 
 use describing_set::DescSet;
-use dim_hierarchy::{Column, CompiledFilter, ConceptId, Coord, Hierarchy, Row, RowPlaces};
+use dim_hierarchy::{
+    COLUMN_PLACES, Column, CompiledFilter, ConceptId, Coord, Hierarchy, Row, RowPlaces,
+};
 use measure_agg::Agg;
 
-/// Rows at 32 places. How many of the first ones are in use stands with the box, as a query goes over
+/// Rows by places. How many of the first ones are in use stands with the box, as a query goes over
 /// many leaves, and else would wait for the box before it could ask for a column.
 #[derive(Drop)]
 pub struct Columns {
     concepts: [Column; 8],
-    measures: [i64; 32],
-    numbers: [u64; 32],
+    measures: [i64; COLUMN_PLACES],
+    numbers: [u64; COLUMN_PLACES],
 }
 
 impl Columns {
     /// Places of which none is in use.
     pub fn new() -> Columns {
         Columns {
-            concepts: [[ConceptId::ALL; 32]; 8],
-            measures: [0; 32],
-            numbers: [0; 32],
+            concepts: [[ConceptId::ALL; COLUMN_PLACES]; 8],
+            measures: [0; COLUMN_PLACES],
+            numbers: [0; COLUMN_PLACES],
         }
     }
 
     /// Puts a row behind the first `count`.
     pub fn put(&mut self, count: usize, row: &Row)
-        requires { count < 32 }
+        requires { count < most_of_leaf }
         ensures { rows_of self.new (count + 1) ≡ rows_of self.old count ++ row.now ∷ [] }
     {
         self.numbers[count] = row.no;
@@ -45,7 +48,7 @@ impl Columns {
 
     /// The row at a place.
     pub fn row(&self, place: usize) -> Row
-        requires { place < 32 }
+        requires { place < most_of_leaf }
         ensures { result ≡ row_at self.now place }
     {
         Row {
@@ -57,8 +60,8 @@ impl Columns {
 
     /// Puts a copy of the row at a place behind the first `count` of other ones.
     pub fn copy_row(&self, place: usize, other: &mut Columns, count: usize)
-        requires place { place < 32 }
-        requires room { count < 32 }
+        requires place { place < most_of_leaf }
+        requires room { count < most_of_leaf }
         ensures { rows_of other.new (count + 1) ≡ rows_of other.old count ++ row_at self.now place ∷ [] }
     {
         other.put(count, &self.row(place));
@@ -66,7 +69,7 @@ impl Columns {
 
     /// The describing set of the row at a place.
     pub fn set_at(&self, place: usize, h: &Hierarchy) -> DescSet
-        requires place { place < 32 }
+        requires place { place < most_of_leaf }
         requires row { IsRowOf h.now (row_at self.now place) }
         ensures set { IsSetOf h.now ((row_at self.now place).at ∷ []) result }
         ensures valid { IsDescSetOf h.now result }
@@ -76,7 +79,7 @@ impl Columns {
 
     /// The describing set of the first `count` rows.
     pub fn set(&self, count: usize, h: &Hierarchy) -> DescSet
-        requires count { count ≤ 32 }
+        requires count { count ≤ most_of_leaf }
         requires rows { All (IsRowOf h.now) (rows_of self.now count) }
         ensures set { IsSetOf h.now (coords (rows_of self.now count)) result }
         ensures valid { IsDescSetOf h.now result }
@@ -91,7 +94,7 @@ impl Columns {
 
     /// The aggregate of the first `count` rows.
     pub fn total(&self, count: usize) -> Agg
-        requires { count ≤ 32 }
+        requires { count ≤ most_of_leaf }
         ensures { result ≡ agg (rows_of self.now count) }
     {
         let places = RowPlaces::first(count);
@@ -100,7 +103,7 @@ impl Columns {
 
     /// The aggregate of those of the first `count` rows that a filter matches.
     pub fn matching(&self, count: usize, wanted: &CompiledFilter) -> Agg
-        requires count { count ≤ 32 }
+        requires count { count ≤ most_of_leaf }
         requires rows { All (IsRowOf wanted.now.hierarchy) (rows_of self.now count) }
         ensures { result ≡ agg (filter (λ r. matches wanted.now.hierarchy wanted.now.picks r.at) (rows_of self.now count)) }
     {
@@ -113,8 +116,8 @@ impl Columns {
 
     /// The aggregate of the rows at some places.
     fn total_at(&self, places: &[u8]) -> Agg
-        requires few { length places.now ≤ 32 }
-        requires within { All (λ place. place < 32) places.now }
+        requires few { length places.now ≤ most_of_leaf }
+        requires within { All (λ place. place < most_of_leaf) places.now }
         ensures { result ≡ agg (map (row_at self.now) places.now) }
     {
         measure_agg::laws();
@@ -127,7 +130,7 @@ impl Columns {
 
     /// Adds the row at a place to an aggregate.
     fn add_to(&self, total: &mut Agg, place: u8)
-        requires place { place < 32 }
+        requires place { place < most_of_leaf }
         requires few { total.old.count + 1 < 2 ^ 63 }
         ensures total { total.new ≡ join total.old (agg (row_at self.now place ∷ [])) }
         ensures count { total.new.count ≡ total.old.count + 1 }
@@ -138,7 +141,7 @@ impl Columns {
 
 /// Writes concepts, one for each dimension, at a place of the columns.
 fn put(columns: &mut [Column; 8], place: usize, ids: &[ConceptId; 8])
-    requires { place < 32 }
+    requires { place < most_of_leaf }
     ensures { IsPut columns.old columns.new place ids.now }
 {
     for dim in 0..8 {
@@ -148,7 +151,7 @@ fn put(columns: &mut [Column; 8], place: usize, ids: &[ConceptId; 8])
 
 /// Reads the coordinate at a place of the columns.
 fn coord(columns: &[Column; 8], place: usize) -> Coord
-    requires { place < 32 }
+    requires { place < most_of_leaf }
     ensures { result ≡ coord_at columns.now place }
 {
     Coord {

@@ -4,12 +4,13 @@ ghost use Rattle.dim_hierarchy.specs.Filter.{matches};
 ghost use Rattle.dim_hierarchy.specs.Row.{IsRowOf};
 ghost use Rattle.measure_agg.specs.Aggregate.{agg};
 ghost use Rattle.describing_set.specs.DescSet.{IsSetOf, IsDescSetOf};
+ghost use Rattle.dc_node.specs.Limits.{most_of_leaf};
 ghost use Rattle.dc_node.specs.Summary.{coords};
 
 use crate::blanks::Blanks;
 use crate::boxed::RowBox;
 use describing_set::DescSet;
-use dim_hierarchy::{CompiledFilter, Hierarchy, Row};
+use dim_hierarchy::{COLUMN_PLACES, CompiledFilter, Hierarchy, Row};
 use measure_agg::Agg;
 use std::marker::Model;
 
@@ -48,7 +49,7 @@ impl LeafRows {
     /// How many there are.
     pub fn len(&self) -> usize
         ensures value { result ≡ length self.now.items }
-        ensures few { result ≤ 32 }
+        ensures few { result ≤ most_of_leaf }
     {
         match &self.list {
             Some(rows) => rows.len(),
@@ -58,10 +59,10 @@ impl LeafRows {
 
     /// Whether there is no room for a further one.
     pub fn is_full(&self) -> bool
-        ensures value { result ≡ (length self.now.items == 32) }
-        ensures few { length self.now.items ≤ 32 }
+        ensures value { result ≡ (length self.now.items == most_of_leaf) }
+        ensures few { length self.now.items ≤ most_of_leaf }
     {
-        self.len() == 32
+        self.len() == COLUMN_PLACES
     }
 
     /// The row at a place.
@@ -77,7 +78,7 @@ impl LeafRows {
     /// Adds a copy of the row at a place to a box, where there is room.
     pub fn copy_row(&self, place: usize, other: &mut RowBox)
         requires place { place < length self.now.items }
-        requires room { length other.old.items < 32 }
+        requires room { length other.old.items < most_of_leaf }
         ensures items { IfSome (slice_get self.now.items place)
             (λ row. other.new.items ≡ other.old.items ++ row ∷ []) }
         ensures len { length other.new.items ≡ length other.old.items + 1 }
@@ -154,7 +155,7 @@ impl LeafRows {
 
     /// Adds a row at the end, where there is room.
     pub(crate) fn push(&mut self, row: &Row, blanks: &mut Blanks)
-        requires room { length self.old.items < 32 }
+        requires room { length self.old.items < most_of_leaf }
         requires blanks { 0 < blanks.old }
         ensures rows { self.new.items ≡ self.old.items ++ row.now ∷ [] }
         ensures blanks { blanks.old ≤ blanks.new + 1 }

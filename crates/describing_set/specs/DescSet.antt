@@ -7,6 +7,7 @@ use Rattle.dim_hierarchy.specs.Dimension.{Dimension, tree, IsHierarchy}
 use Rattle.dim_hierarchy.specs.Row.{concept_at, IsCoordOf}
 use Rattle.dim_hierarchy.specs.declared.row.Coord.{Coord}
 use Rattle.describing_set.specs.Part.{part, part_of, ancestors, has_ancestor}
+use Rattle.describing_set.specs.Places.{most_of_set}
 use Rattle.describing_set.specs.declared.part.Part.{Part}
 use Rattle.describing_set.specs.declared.set.DescSet.{DescSet}
 
@@ -85,10 +86,10 @@ pub record Describes (h : List Dimension) (rows : List Coord) (set : DescSet) : 
   pub beneath : (dim id : ℕ) → dim < length h → Contains (part_at set dim).ids.items id
       → Any (λ at. up (tree h dim) (concept_at at dim) (part_at set dim).level ≡ id) rows
   pub ascending : (dim : ℕ) → dim < length h → IsStrictlyIncreasing (part_at set dim).ids.items
-  pub few : (dim : ℕ) → dim < length h → length (part_at set dim).ids.items ≤ 6
+  pub few : (dim : ℕ) → dim < length h → length (part_at set dim).ids.items ≤ most_of_set
   pub level : (dim : ℕ) → dim < length h → (part_at set dim).level ≤ leaf_level (tree h dim)
   pub deepest : (dim level : ℕ) → dim < length h → (part_at set dim).level < level → level ≤ leaf_level (tree h dim)
-      → 6 < length (ancestors (tree h dim) level (column rows dim))
+      → most_of_set < length (ancestors (tree h dim) level (column rows dim))
 
 -- each coordinate of the first list occurs in the second
 abbrev pub AreAmong : List Coord → List Coord → Type 0

@@ -4,7 +4,7 @@ use Rattle.std.specs.List.{list_any, slice_index_or}
 use Rattle.dim_hierarchy.specs.Concept.{level_of}
 use Rattle.dim_hierarchy.specs.Tree.{Tree, IsConcept, up, leaf_level}
 use Rattle.describing_set.specs.Ascending.{ascending, In, Ascends}
-use Rattle.describing_set.specs.Places.{AreFilled}
+use Rattle.describing_set.specs.Places.{AreFilled, most_of_set}
 use Rattle.describing_set.specs.declared.part.Part.{Part}
 
 -- a level and concepts of it
@@ -23,7 +23,7 @@ ancestors t level ids = ascending (map (λ id. up t id level) ids)
 unfoldable pub part_from : Tree → ℕ → List ℕ → Part
 part_from t zero ids = part 0 (ancestors t 0 ids)
 part_from t (suc top) ids =
-    if nat_le (length (ancestors t (suc top) ids)) 6 then part (suc top) (ancestors t (suc top) ids) else part_from t top ids
+    if nat_le (length (ancestors t (suc top) ids)) most_of_set then part (suc top) (ancestors t (suc top) ids) else part_from t top ids
 
 -- the part of a list of leaf concepts
 abbrev pub part_of : Tree → List ℕ → Part
@@ -45,7 +45,7 @@ pub record IsPart (t : Tree) (p : Part) : Type 0 where
   pub concept : (id : ℕ) → In id p.ids.items → IsConcept t id
   pub level : (id : ℕ) → In id p.ids.items → level_of id ≡ p.level
   pub ascends : Ascends p.ids.items
-  pub few : length p.ids.items ≤ 6
+  pub few : length p.ids.items ≤ most_of_set
 
 -- where the old part is that of a list of concepts, the new one is that of the list with this concept
 pub record GrowsPart (t : Tree) (id : ℕ) (old new : Part) : Type 0 where

@@ -12,6 +12,10 @@ pub record AreFilled {A : Type 0} (most : ℕ) (blank : A) (count : ℕ) (places
 abbrev pub no_concept : ℕ
 no_concept = 4294967295
 
--- six places, of which the first `count` are used and the others hold no concept
+-- how many concepts a describing set has in a dimension at most
+abbrev pub most_of_set : ℕ
+most_of_set = 6
+
+-- places for these, of which the first `count` are used and the others hold no concept
 abbrev pub AreFew : ℕ → List ℕ → Type 0
-AreFew count places = AreFilled 6 no_concept count places
+AreFew count places = AreFilled most_of_set no_concept count places

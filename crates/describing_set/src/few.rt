@@ -3,10 +3,13 @@ ghost use Rattle.std.specs.Prelude.{◌≡◌, ◌≢◌, ◌==◌, ◌↔◌, �
 ghost use Rattle.std.specs.List.{list_any, insert};
 ghost use Rattle.std.specs.Bool.{OnTrue, OnFalse};
 ghost use Rattle.describing_set.specs.Ascending.{with_id, Ascends};
-ghost use Rattle.describing_set.specs.Places.{no_concept};
+ghost use Rattle.describing_set.specs.Places.{most_of_set, no_concept};
 
 use dim_hierarchy::ConceptId;
 use std::marker::Model;
+
+/// How many concepts a describing set has in a dimension at most.
+pub const MOST_OF_SET: usize = 6;
 
 /// What an unused place holds: no hierarchy has a concept of level 15.
 const NO_CONCEPT: ConceptId = ConceptId(0xffff_ffff);
@@ -17,14 +20,14 @@ const NO_CONCEPT: ConceptId = ConceptId(0xffff_ffff);
 /// no branch.
 #[derive(Clone, Copy, Debug, Drop, PartialEq)]
 pub struct FewConcepts {
-    places: [ConceptId; 6],
+    places: [ConceptId; MOST_OF_SET],
     count: u8,
 }
 
 impl Model for FewConcepts {
     ghost use Rattle.std.specs.Prelude.{ℕ, ◌≡◌, ◌≤◌, ◌++◌, ◌-◌, take, length, replicate};
     ghost use Rattle.arrayvec.specs.ArrayVec.{ArrayVec as Items};
-    ghost use Rattle.describing_set.specs.Places.{no_concept, AreFew};
+    ghost use Rattle.describing_set.specs.Places.{most_of_set, no_concept, AreFew};
 
     ghost Value = { Items ℕ };
 
@@ -33,7 +36,7 @@ impl Model for FewConcepts {
     ghost invariant = { λ s. AreFew s.count s.places };
 
     ghost inverse = { λ v. record {
-      places = v.items ++ replicate (6 - length v.items) no_concept;
+      places = v.items ++ replicate (most_of_set - length v.items) no_concept;
       count = length v.items;
     } };
 
@@ -46,7 +49,7 @@ impl FewConcepts {
         ensures { result.items ≡ [] }
     {
         FewConcepts {
-            places: [NO_CONCEPT; 6],
+            places: [NO_CONCEPT; MOST_OF_SET],
             count: 0,
         }
     }
@@ -54,7 +57,7 @@ impl FewConcepts {
     /// How many there are.
     pub fn len(&self) -> usize
         ensures value { result ≡ length self.now.items }
-        ensures few { result ≤ 6 }
+        ensures few { result ≤ most_of_set }
     {
         usize::from(self.count)
     }
@@ -69,7 +72,7 @@ impl FewConcepts {
     /// The concepts.
     pub fn as_slice(&self) -> &[ConceptId]
         ensures value { result.now ≡ self.now.items }
-        ensures few { length result.now ≤ 6 }
+        ensures few { length result.now ≤ most_of_set }
     {
         &self.places[..usize::from(self.count)]
     }
@@ -87,7 +90,7 @@ impl FewConcepts {
 
     /// Adds a concept at the end.
     pub(crate) fn push(&mut self, id: ConceptId)
-        requires { length self.old.items < 6 }
+        requires { length self.old.items < most_of_set }
         ensures { self.new.items ≡ self.old.items ++ id ∷ [] }
     {
         self.places[usize::from(self.count)] = id;
@@ -96,7 +99,7 @@ impl FewConcepts {
 
     /// Adds concepts at the end.
     fn extend(&mut self, ids: &[ConceptId])
-        requires { length self.old.items + length ids.now ≤ 6 }
+        requires { length self.old.items + length ids.now ≤ most_of_set }
         ensures { self.new.items ≡ self.old.items ++ ids.now }
     {
         for id in ids {
@@ -107,7 +110,7 @@ impl FewConcepts {
     /// Puts a concept before the one at a place.
     fn insert(&mut self, at: usize, id: ConceptId)
         requires within { at ≤ length self.old.items }
-        requires room { length self.old.items < 6 }
+        requires room { length self.old.items < most_of_set }
         ensures { self.new.items ≡ insert self.old.items at id }
     {
         let ids = self.as_slice();
@@ -121,9 +124,9 @@ impl FewConcepts {
     /// Adds a concept to ascending ones; false, with nothing changed, where it would be the seventh.
     pub fn put(&mut self, id: ConceptId) -> bool
         ensures added { OnTrue result (self.new.items ≡ with_id id self.old.items) }
-        ensures seventh { OnFalse result (6 < length (with_id id self.old.items)) }
+        ensures seventh { OnFalse result (most_of_set < length (with_id id self.old.items)) }
         ensures full { OnFalse result (self.new ≡ self.old) }
-        ensures few { length self.new.items ≤ 6 }
+        ensures few { length self.new.items ≤ most_of_set }
     {
         let mut at = 0;
         while at < self.len() && self.as_slice()[at] < id {
@@ -132,7 +135,7 @@ impl FewConcepts {
         if at < self.len() && self.as_slice()[at] == id {
             return true;
         }
-        if self.len() == 6 {
+        if self.len() == MOST_OF_SET {
             return false;
         }
         self.insert(at, id);
@@ -144,9 +147,9 @@ impl FewConcepts {
         requires ascends { Ascends self.old.items }
         requires concept { id ≢ no_concept }
         ensures added { OnTrue result (self.new.items ≡ with_id id self.old.items) }
-        ensures seventh { OnFalse result (6 < length (with_id id self.old.items)) }
+        ensures seventh { OnFalse result (most_of_set < length (with_id id self.old.items)) }
         ensures full { OnFalse result (self.new ≡ self.old) }
-        ensures few { length self.new.items ≤ 6 }
+        ensures few { length self.new.items ≤ most_of_set }
     {
         // This use of a field says that there are at most six.
         let _ = &self.count;

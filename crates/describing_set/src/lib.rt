@@ -14,7 +14,7 @@ mod set;
 mod tests;
 
 pub use bearing::Bearing;
-pub use few::FewConcepts;
+pub use few::{FewConcepts, MOST_OF_SET};
 pub use listing::{Listing, Spot};
 pub use part::Part;
 pub use part_list::PartList;

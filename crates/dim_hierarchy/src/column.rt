@@ -2,20 +2,23 @@
 ghost use Rattle.std.specs.Prelude.{◌≡◌, ◌<◌, ◌≤◌, if◌then◌else◌, length, filter, take, slice_index, All};
 ghost use Rattle.std.specs.List.{range_with_len};
 ghost use Rattle.dim_hierarchy.specs.Concept.{number_of};
-ghost use Rattle.dim_hierarchy.specs.Column.{is_marked};
+ghost use Rattle.dim_hierarchy.specs.Column.{column_places, is_marked};
 
 use crate::concept::ConceptId;
 use crate::marks::UNDER;
 use std::marker::Model;
 
-/// The concepts of up to 32 rows in one dimension, by the rows' places.
-pub type Column = [ConceptId; 32];
+/// How many places a column has: one for each row of a full leaf.
+pub const COLUMN_PLACES: usize = 32;
+
+/// The concepts of a leaf's rows in one dimension, by the rows' places.
+pub type Column = [ConceptId; COLUMN_PLACES];
 
 /// Some of the places of a column. Contracts see the list.
 #[derive(Drop)]
 pub struct RowPlaces {
     count: usize,
-    all: [u8; 32],
+    all: [u8; COLUMN_PLACES],
 }
 
 impl Model for RowPlaces {
@@ -32,7 +35,7 @@ impl Model for RowPlaces {
 impl RowPlaces {
     /// The first so many.
     pub fn first(count: usize) -> RowPlaces
-        requires { count ≤ 32 }
+        requires { count ≤ column_places }
         ensures { result ≡ range_with_len 0 count }
     {
         RowPlaces {
@@ -47,8 +50,8 @@ impl RowPlaces {
     /// The places.
     pub fn as_slice(&self) -> &[u8]
         ensures value { result.now ≡ self.now }
-        ensures few { length result.now ≤ 32 }
-        ensures within { All (λ place. place < 32) result.now }
+        ensures few { length result.now ≤ column_places }
+        ensures within { All (λ place. place < column_places) result.now }
     {
         &self.all[..self.count]
     }
@@ -65,13 +68,13 @@ impl RowPlaces {
 
 /// Moves the places that are kept to the front, in their order and without a branch, and tells how
 /// many they are.
-fn sift(all: &mut [u8; 32], count: usize, column: &Column, marks: &[u8]) -> usize
-    requires few { count ≤ 32 }
-    requires within { All (λ place. place < 32) (take count all.old) }
+fn sift(all: &mut [u8; COLUMN_PLACES], count: usize, column: &Column, marks: &[u8]) -> usize
+    requires few { count ≤ column_places }
+    requires within { All (λ place. place < column_places) (take count all.old) }
     requires concepts { All (λ place. number_of (slice_index column.now place) < length marks.now) (take count all.old) }
     ensures kept { take result all.new ≡ filter (is_marked column.now marks.now) (take count all.old) }
     ensures few { result ≤ count }
-    ensures length { length all.new ≡ 32 }
+    ensures length { length all.new ≡ column_places }
 {
     let mut kept = 0;
     for at in 0..count {
@@ -84,7 +87,7 @@ fn sift(all: &mut [u8; 32], count: usize, column: &Column, marks: &[u8]) -> usiz
 
 /// One where the concept at a place is marked `UNDER`, else none.
 fn one_if_marked(column: &Column, marks: &[u8], place: u8) -> usize
-    requires place { place < 32 }
+    requires place { place < column_places }
     requires concept { number_of (slice_index column.now place) < length marks.now }
     ensures { result ≡ (if is_marked column.now marks.now place then 1 else 0) }
 {

@@ -35,7 +35,7 @@ impl ConceptId {
     /// The level, 0 for `ALL`.
     pub fn level(&self) -> u8
         ensures value { result ≡ level_of self.now }
-        ensures range { result < 16 }
+        ensures few { result < 16 }
     {
         (self.0 / 0x1000_0000) as u8
     }
@@ -43,7 +43,7 @@ impl ConceptId {
     /// The number within the level.
     pub fn number(&self) -> u32
         ensures value { result ≡ number_of self.now }
-        ensures range { result < 2 ^ 28 }
+        ensures few { result < 2 ^ 28 }
     {
         self.0 % 0x1000_0000
     }

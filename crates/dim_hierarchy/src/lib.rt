@@ -14,7 +14,7 @@ mod name_table;
 mod row;
 mod row_names;
 
-pub use column::{Column, RowPlaces};
+pub use column::{COLUMN_PLACES, Column, RowPlaces};
 pub use compiled::CompiledFilter;
 pub use concept::ConceptId;
 pub use coord_lineages::CoordLineages;

@@ -6,5 +6,5 @@ abbrev pub most_items : ℕ
 most_items = 32
 
 -- the concepts of that many items in a dimension, where a describing set has at most 6
-abbrev pub most_concepts : ℕ
-most_concepts = 192
+abbrev pub most_of_items : ℕ
+most_of_items = 192

@@ -7,10 +7,10 @@ ghost use Rattle.hierarchy_split.specs.Crossing.{has_lifted, is_crossed_in_head,
 ghost use Rattle.hierarchy_split.specs.Limits.{most_items};
 
 use crate::leasts::{least, part};
-use crate::limits::{MOST_ITEMS, MOST_OF_SET};
+use crate::limits::MOST_ITEMS;
 use crate::overlap::add_lifted;
 use arrayvec::ArrayVec;
-use describing_set::DescSet;
+use describing_set::{DescSet, MOST_OF_SET};
 use dim_hierarchy::{ConceptId, Hierarchy};
 
 /// The lifted concepts of a set.

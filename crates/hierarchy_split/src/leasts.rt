@@ -27,7 +27,7 @@ pub fn part<'a>(set: &'a DescSet, h: &Hierarchy, dim: u8) -> &'a Part
     ensures value { result.now ≡ part_at set.now dim }
     ensures concepts { All (IsConcept (tree h.now dim)) result.now.ids.items }
     ensures level { All (λ id. level_of id ≡ result.now.level) result.now.ids.items }
-    ensures deepest { result.now.level ≤ 8 }
+    ensures few { result.now.level ≤ 8 }
 {
     &set.parts.as_slice()[usize::from(dim)]
 }
@@ -80,7 +80,7 @@ fn highest_level(sets: &[DescSet], h: &Hierarchy, dim: u8) -> u8
     requires sets { All (IsDescSetOf h.now) sets.now }
     ensures above { IsAbove sets.now dim result }
     ensures lowest { (level : ℕ) → IsAbove sets.now dim level → level ≤ result }
-    ensures deepest { result ≤ 8 }
+    ensures few { result ≤ 8 }
 {
     let mut level = part(&sets[0], h, dim).level;
     for set in sets {

@@ -13,3 +13,4 @@ mod overlap;
 pub use cut::{Cut, choose};
 pub use head::HeadCuts;
 pub use head_cut::{HeadCut, Places};
+pub use limits::MOST_ITEMS;

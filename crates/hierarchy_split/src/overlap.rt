@@ -1,12 +1,13 @@
 //! How many concepts the two sides of a cut share.
 ghost use Rattle.std.specs.Prelude.{◌≡◌, ◌+◌, ◌<◌, ◌≤◌, ◌++◌, [], length, All};
 ghost use Rattle.describing_set.specs.DescSet.{part_at, IsDescSetOf};
+ghost use Rattle.describing_set.specs.Places.{most_of_set};
 ghost use Rattle.hierarchy_split.specs.Order.{shared_count};
 ghost use Rattle.hierarchy_split.specs.Cut.{lifted, IsAbove, concepts_of};
-ghost use Rattle.hierarchy_split.specs.Limits.{most_items, most_concepts};
+ghost use Rattle.hierarchy_split.specs.Limits.{most_items, most_of_items};
 
 use crate::leasts::part;
-use crate::limits::MOST_CONCEPTS;
+use crate::limits::MOST_OF_ITEMS;
 use arrayvec::ArrayVec;
 use describing_set::DescSet;
 use dim_hierarchy::{ConceptId, Hierarchy};
@@ -22,9 +23,9 @@ pub fn add_lifted<const MOST: usize>(
     requires dim { dim < length h.now }
     requires set { IsDescSetOf h.now set.now }
     requires level { level ≤ (part_at set.now dim).level }
-    requires room { length concepts.old.items + 6 ≤ MOST }
+    requires room { length concepts.old.items + most_of_set ≤ MOST }
     ensures added { concepts.new.items ≡ concepts.old.items ++ lifted h.now dim level set.now }
-    ensures few { length concepts.new.items ≤ length concepts.old.items + 6 }
+    ensures few { length concepts.new.items ≤ length concepts.old.items + most_of_set }
 {
     for id in part(set, h, dim).ids.as_slice() {
         concepts.push(h.up(dim, *id, level));
@@ -39,7 +40,7 @@ fn concepts_of(
     dim: u8,
     level: u8,
     places: &[u8],
-    concepts: &mut ArrayVec<ConceptId, MOST_CONCEPTS>,
+    concepts: &mut ArrayVec<ConceptId, MOST_OF_ITEMS>,
 )
     requires dim { dim < length h.now }
     requires sets { All (IsDescSetOf h.now) sets.now }
@@ -58,7 +59,7 @@ fn concepts_of(
 /// for the last time.
 fn shared_count(left: &[ConceptId], right: &[ConceptId]) -> usize
     ensures value { result ≡ shared_count left.now right.now }
-    ensures fits { result ≤ length left.now }
+    ensures few { result ≤ length left.now }
 {
     let mut count = 0;
     for (i, id) in left.iter().enumerate() {
@@ -88,7 +89,7 @@ pub fn overlap(
     ensures value { result
         ≡ shared_count (concepts_of h.now sets.now dim level left.now)
         (concepts_of h.now sets.now dim level right.now) }
-    ensures fits { result ≤ most_concepts }
+    ensures few { result ≤ most_of_items }
 {
     let mut on_left = ArrayVec::new();
     let mut on_right = ArrayVec::new();

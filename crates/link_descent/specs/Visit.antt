@@ -1,5 +1,5 @@
 -- What a query does at a block.
-use Rattle.std.specs.Prelude.{ℕ, ◌==◌, ◌&&◌, not, Bool, if◌then◌else◌, List, [], ◌∷◌, map, filter}
+use Rattle.std.specs.Prelude.{ℕ, ◌+◌, ◌==◌, ◌&&◌, not, Bool, if◌then◌else◌, List, [], ◌∷◌, map, filter}
 use Rattle.std.specs.Option.{option_map_or}
 use Rattle.dim_hierarchy.specs.declared.row.Row.{Row}
 use Rattle.dim_hierarchy.specs.declared.filter.Pick.{Pick}
@@ -12,7 +12,12 @@ use Rattle.dc_node.specs.declared.block.Body.TheVariants.{Rows, Entries}
 use Rattle.dc_node.specs.declared.block.Block.{Block}
 use Rattle.dc_node.specs.declared.entry.Entry.{Entry}
 use Rattle.dc_node.specs.declared.todo.Item.{Item}
+use Rattle.dc_node.specs.Limits.{most_of_directory}
 use Rattle.dc_node.specs.Summary.{joined, aggs}
+
+-- how many blocks a visit notes at most: the children of a directory, and the block to the right
+abbrev pub most_noted : ℕ
+most_noted = most_of_directory + 1
 
 -- the rows that a filter matches
 abbrev pub matching : List Dimension → List Pick → List Row → List Row

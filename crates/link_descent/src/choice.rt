@@ -2,6 +2,7 @@
 ghost use Rattle.std.specs.Prelude.{ℕ, ◌≡◌, ◌<◌, ◌≤◌, ◌⊎◌, ◌↔◌, Some, length, map, All, IsTrue};
 ghost use Rattle.describing_set.specs.DescSet.{growth_of, size_of, IsDescSetOf};
 ghost use Rattle.dc_node.specs.Block.{entries_in, IsBodyOf};
+ghost use Rattle.dc_node.specs.Limits.{most_of_directory};
 ghost use Rattle.link_descent.specs.Pick.{IsPick, pick_place};
 
 use dc_node::{Block, Entry};
@@ -38,7 +39,7 @@ pub fn is_before(a: &DescSet, b: &DescSet, h: &Hierarchy, at: &CoordLineages) ->
 /// The place of the entry that comes first for a coordinate.
 fn place_of(entries: &[Entry], h: &Hierarchy, at: &CoordLineages) -> u8
     requires some { 0 < length entries.now }
-    requires few { length entries.now ≤ 16 }
+    requires few { length entries.now ≤ most_of_directory }
     requires sets { All (λ e. IsDescSetOf h.now e.set) entries.now }
     requires at { at.now.hierarchy ≡ h.now }
     ensures { IsPick h.now at.now.coord (map (λ e. e.set) entries.now) result }

@@ -7,6 +7,7 @@ ghost use Rattle.describing_set.specs.DescSet.{IsSetOf, IsDescSetOf};
 ghost use Rattle.hierarchy_split.specs.Flags.{AreHeadCuts};
 ghost use Rattle.dc_node.specs.Block.{size, is_full, IsBodyOf};
 ghost use Rattle.dc_node.specs.declared.block.Body.TheVariants.{Rows, Entries};
+ghost use Rattle.hierarchy_split.specs.Limits.{most_items};
 ghost use Rattle.link_descent.specs.Divide.{front, together, AreItemSets, HasNoCut, HasNoHeadCut};
 ghost use Rattle.link_descent.specs.Room.{Strikes, IsTheCut, AreTheParts};
 
@@ -33,7 +34,7 @@ fn row_sets(rows: &LeafRows, h: &Hierarchy, sets: &mut ItemSets)
 
 /// Puts the describing sets of entries into an empty list.
 fn entry_sets(entries: &[Entry], sets: &mut ItemSets)
-    requires few { length entries.now ≤ 32 }
+    requires few { length entries.now ≤ most_items }
     requires empty { sets.old.items ≡ [] }
     ensures { sets.new.items ≡ map (λ e. e.set) entries.now }
 {

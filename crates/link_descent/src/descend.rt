@@ -8,6 +8,7 @@ ghost use Rattle.dc_node.specs.Summary.{row_count};
 ghost use Rattle.shard_store.specs.Gate.{root_entry};
 ghost use Rattle.shard_store.specs.declared.gate.Phase.TheVariants.{Open};
 ghost use Rattle.dc_node.specs.declared.block.Body.TheVariants.{Entries};
+ghost use Rattle.dc_node.specs.Limits.{most_of_directory};
 ghost use Rattle.link_descent.specs.Pick.{IsPick};
 ghost use Rattle.dc_node.specs.Entry.{IsWithRow};
 ghost use Rattle.link_descent.specs.Descend.{IsEntryOf, IsShared, StepsDown, Enters};
@@ -174,7 +175,7 @@ pub fn step_down(
     ensures parent { IsBodyOf h.now parent.new.body }
     ensures child { HasRoom h.now child.new }
     ensures fresh { All (λ f. HasRoom h.now f.block) result.fresh.items }
-    ensures entries { length (entries_in parent.new.body) ≤ 16 }
+    ensures few { length (entries_in parent.new.body) ≤ most_of_directory }
     ensures blanks { blanks.old ≤ blanks.new + 2 * length result.fresh.items }
 {
     let place = usize::from(place);
@@ -222,7 +223,7 @@ fn raise(
     blanks: &mut Blanks,
 ) -> Entered
     requires purse { 0 < length purse.old.spares }
-    requires low { gate.old.height + 1 < 2 ^ 32 }
+    requires height { gate.old.height + 1 < 2 ^ 32 }
     requires blanks { 0 < blanks.old }
     ensures blanks { blanks.old ≤ blanks.new + 1 }
     ensures raised { IsRaised gate.old gate.new cut left right purse.old purse.new result }
@@ -260,7 +261,7 @@ pub fn enter_root(
     requires few { gate.old.agg.count + 1 < 2 ^ 63 }
     requires tail { All (λ b. IsBodyOf h.now b.body) tail.now }
     requires few_beneath { row_count (together root.old.body tail.now) + 1 < 2 ^ 63 }
-    requires low { gate.old.height + 1 < 2 ^ 32 }
+    requires height { gate.old.height + 1 < 2 ^ 32 }
     requires blanks { 3 ≤ blanks.old }
     ensures step { Enters h.now row.now tail.now gate.old gate.new root.old root.new purse.old purse.new result }
     ensures set { IsDescSetOf h.now gate.new.set }

@@ -2,6 +2,7 @@
 ghost use Rattle.std.specs.Prelude.{◌≡◌, ◌+◌, ◌<◌, ◌≤◌, ◌++◌, true, length, take, drop, All, IsPermutation};
 ghost use Rattle.std.specs.List.{range_with_len};
 ghost use Rattle.dc_node.specs.Block.{size, is_full, IsBodyOf};
+ghost use Rattle.dc_node.specs.Limits.{most_of_leaf, most_of_directory};
 ghost use Rattle.link_descent.specs.Divide.{items_at, body_at, front, rest, half, left_block, right_block, IsHalved};
 ghost use Rattle.link_descent.specs.Room.{IsCutBy, DividesAlone, DividesGroup, Divides};
 
@@ -12,6 +13,11 @@ use cell_stock::Spare;
 use dc_node::{Blanks, Block, Body, Entry, EntryBox, LeafRows, RowBox};
 use dim_hierarchy::Hierarchy;
 use std::mem;
+
+/// Half of the rows of a full leaf, and of the entries of a full directory.
+const HALF_OF_LEAF: usize = 16;
+
+const HALF_OF_DIRECTORY: usize = 8;
 
 /// How a full head was divided, with the new block.
 #[derive(Drop)]
@@ -42,7 +48,7 @@ fn rows_at(rows: &LeafRows, places: &[u8], blanks: &mut Blanks) -> RowBox
 
 /// Copies of the entries at some places, in a blank box.
 fn entries_at(entries: &[Entry], places: &[u8], blanks: &mut Blanks) -> EntryBox
-    requires few { length places.now ≤ 16 }
+    requires few { length places.now ≤ most_of_directory }
     requires places { All (λ place. place < length entries.now) places.now }
     requires blanks { 0 < blanks.old }
     ensures entries { result.items ≡ items_at entries.now places.now }
@@ -71,7 +77,7 @@ fn body_at(body: &Body, places: &[u8], blanks: &mut Blanks) -> Body
 
 /// Copies of so many rows from a place on, in a blank box.
 fn copy_rows(rows: &LeafRows, first: usize, count: usize, blanks: &mut Blanks) -> RowBox
-    requires few { first + count ≤ 32 }
+    requires few { first + count ≤ most_of_leaf }
     requires within { first + count ≤ length rows.now.items }
     requires blanks { 0 < blanks.old }
     ensures rows { result.items ≡ take count (drop first rows.now.items) }
@@ -86,7 +92,7 @@ fn copy_rows(rows: &LeafRows, first: usize, count: usize, blanks: &mut Blanks) -
 
 /// Copies of all entries, in a blank box.
 fn copy_entries(entries: &[Entry], blanks: &mut Blanks) -> EntryBox
-    requires few { length entries.now ≤ 16 }
+    requires few { length entries.now ≤ most_of_directory }
     requires blanks { 0 < blanks.old }
     ensures entries { result.items ≡ entries.now }
     ensures blanks { blanks.old ≤ blanks.new + 1 }
@@ -106,8 +112,11 @@ fn first_half(body: &Body, blanks: &mut Blanks) -> Body
     ensures blanks { blanks.old ≤ blanks.new + 1 }
 {
     match body {
-        Body::Rows(rows) => Body::Rows(LeafRows::of(copy_rows(rows, 0, 16, blanks))),
-        Body::Entries(entries) => Body::Entries(copy_entries(&entries.as_slice()[..8], blanks)),
+        Body::Rows(rows) => Body::Rows(LeafRows::of(copy_rows(rows, 0, HALF_OF_LEAF, blanks))),
+        Body::Entries(entries) => Body::Entries(copy_entries(
+            &entries.as_slice()[..HALF_OF_DIRECTORY],
+            blanks,
+        )),
     }
 }
 
@@ -119,8 +128,16 @@ fn second_half(body: &Body, blanks: &mut Blanks) -> Body
     ensures blanks { blanks.old ≤ blanks.new + 1 }
 {
     match body {
-        Body::Rows(rows) => Body::Rows(LeafRows::of(copy_rows(rows, 16, 16, blanks))),
-        Body::Entries(entries) => Body::Entries(copy_entries(&entries.as_slice()[8..], blanks)),
+        Body::Rows(rows) => Body::Rows(LeafRows::of(copy_rows(
+            rows,
+            HALF_OF_LEAF,
+            HALF_OF_LEAF,
+            blanks,
+        ))),
+        Body::Entries(entries) => Body::Entries(copy_entries(
+            &entries.as_slice()[HALF_OF_DIRECTORY..],
+            blanks,
+        )),
     }
 }
 

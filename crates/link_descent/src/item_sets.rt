@@ -1,11 +1,13 @@
 //! Room for the describing sets of a block's items.
 ghost use Rattle.std.specs.Prelude.{◌≡◌, ◌+◌, ◌<◌, ◌≤◌, [], ◌∷◌, ◌++◌, length, take};
 ghost use Rattle.dim_hierarchy.specs.Row.{IsCoordOf};
+ghost use Rattle.hierarchy_split.specs.Limits.{most_items};
 ghost use Rattle.link_descent.specs.MoreSets.{HasSetMore};
 
 use arrayvec::ArrayVec;
 use describing_set::DescSet;
 use dim_hierarchy::{Coord, Hierarchy};
+use hierarchy_split::MOST_ITEMS;
 use std::marker::Model;
 
 /// Room for the describing sets of a full block's items. It has 8 KB, so it is made once, is kept by
@@ -14,7 +16,7 @@ use std::marker::Model;
 /// Sets that go stay behind the others, so that the next ones are written where they stand.
 #[derive(Drop)]
 pub struct ItemSets {
-    places: ArrayVec<DescSet, 32>,
+    places: ArrayVec<DescSet, MOST_ITEMS>,
     count: usize,
 }
 
@@ -44,7 +46,7 @@ impl ItemSets {
     /// The sets.
     pub fn as_slice(&self) -> &[DescSet]
         ensures value { result.now ≡ self.now.items }
-        ensures few { length result.now ≤ 32 }
+        ensures few { length result.now ≤ most_items }
     {
         &self.places.as_slice()[..self.count]
     }
@@ -58,7 +60,7 @@ impl ItemSets {
 
     /// Adds the set of a coordinate at the end. There must be room.
     pub fn push_coord(&mut self, h: &Hierarchy, at: &Coord)
-        requires room { length self.old.items < 32 }
+        requires room { length self.old.items < most_items }
         requires at { IsCoordOf h.now at.now }
         ensures items { HasSetMore h.now at.now self.old.items self.new.items }
         ensures len { length self.new.items ≡ length self.old.items + 1 }
@@ -71,7 +73,7 @@ impl ItemSets {
 
     /// Adds a copy of a set at the end. There must be room.
     pub fn push_copy(&mut self, set: &DescSet)
-        requires { length self.old.items < 32 }
+        requires { length self.old.items < most_items }
         ensures items { self.new.items ≡ self.old.items ++ set.now ∷ [] }
         ensures len { length self.new.items ≡ length self.old.items + 1 }
     {
@@ -82,8 +84,8 @@ impl ItemSets {
 }
 
 /// Lets there be a place behind the first so many. These stay as they are.
-fn make_place(places: &mut ArrayVec<DescSet, 32>, count: usize)
-    requires few { count < 32 }
+fn make_place(places: &mut ArrayVec<DescSet, MOST_ITEMS>, count: usize)
+    requires few { count < most_items }
     requires places { count ≤ length places.old.items }
     ensures room { count < length places.new.items }
     ensures unchanged { take count places.new.items ≡ take count places.old.items }

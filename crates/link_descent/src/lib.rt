@@ -23,4 +23,4 @@ pub use entered::{Entered, Fresh};
 pub use gate_reads::read_gate;
 pub use item_sets::ItemSets;
 pub use tail::Tail;
-pub use visits::visit;
+pub use visits::{MOST_NOTED, visit};

@@ -6,20 +6,24 @@ ghost use Rattle.describing_set.specs.DescSet.{IsDescSetOf};
 ghost use Rattle.describing_set.specs.Filter.{is_inside};
 ghost use Rattle.dc_node.specs.Block.{IsBodyOf};
 ghost use Rattle.dc_node.specs.Summary.{row_count, joined, aggs};
-ghost use Rattle.link_descent.specs.Visit.{matching, taken, noted, counted, noted_in, noted_right};
+ghost use Rattle.link_descent.specs.Visit.{most_noted, matching, taken, noted, counted, noted_in, noted_right};
 
 use dc_node::{Block, Body, Entry, Item, LeafRows, Todo};
 use describing_set::Bearing;
 use dim_hierarchy::CompiledFilter;
 use measure_agg::Agg;
 
+/// How many blocks a visit notes at most: the children of a directory, and the block to the right.
+pub const MOST_NOTED: u64 = 17;
+
 /// What a query does at a block, at which a walk that ends at `stamp` has come. It adds the matching
 /// rows of a leaf, and of a directory the aggregates of the entries whose sets are inside the
 /// filter. It notes the children whose sets else overlap the filter, and the block to the right
-/// unless the walk ends here. Takes no memory: there is room for 17 noted blocks.
+/// unless the walk ends here. Takes no memory: there is room for as many noted blocks
+/// as a visit may note.
 pub fn visit(block: &Block, stamp: u64, wanted: &CompiledFilter, agg: &mut Agg, todo: &mut Todo)
     requires body { IsBodyOf wanted.now.hierarchy block.now.body }
-    requires room { 17 ≤ todo.old.room }
+    requires room { most_noted ≤ todo.old.room }
     requires link { block.now.stamp ≢ stamp → IsSome block.now.right }
     requires few { agg.old.count + row_count block.now.body < 2 ^ 63 }
     ensures agg { agg.new ≡ join agg.old (counted wanted.now.hierarchy wanted.now.picks block.now.body) }

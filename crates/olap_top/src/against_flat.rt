@@ -36,7 +36,7 @@ impl Dice {
     /// A number below `sides`, which is 0 where that is 0.
     pub(crate) fn roll(&mut self, sides: u64) -> u64
         ensures below { 0 < sides → result < sides }
-        ensures small { result < 2 ^ 32 }
+        ensures few { result < 2 ^ 32 }
     {
         u64::from(self.words.next_word()) % sides.max(1)
     }

@@ -13,19 +13,19 @@ use Rattle.row_ledger.specs.declared.settings.Call.{Call}
 use Rattle.row_ledger.specs.declared.settings.How.{How}
 use Rattle.row_ledger.specs.Past.{failed, is_kept}
 use Rattle.row_ledger.specs.Listings.{IsFirstListing}
-pub use Rattle.row_ledger.specs.Right.{IsOpening}
+pub use Rattle.row_ledger.specs.Right.{IsOpeningHistory}
 use Rattle.row_ledger.specs.Right.{Site, EachEvent, IsFirstPull, Opens, IsRightAck, IsRightAnswer, IsRightFailure, IsLaterPull, IsRightSplit, IsRightMove, IsRightLeft, IsRightPage, IsRightEnd, Stands, StandsRight, KeepsRight, IsRight}
 use Rattle.row_ledger.proofs.Within.{Within, StandsRight-within}
 
 -- The opening.
 
-pub IsOpening-nil : (site : Site) → IsOpening site []
-IsOpening-nil site = record { few = omega arith; pulls = tt }
+pub IsOpeningHistory-nil : (site : Site) → IsOpeningHistory site []
+IsOpeningHistory-nil site = record { few = omega arith; pulls = tt }
 
 -- the next server's first pull
-pub IsOpening-pull : (site : Site) (h : List Event) (listing : List Spot)
-    → IsOpening site h → length h < site.servers → IsFirstListing site listing → IsOpening site (Synced (length h) listing ∷ h)
-IsOpening-pull site h listing opens more lists = record { few = omega arith; pulls = ((refl, lists), opens.pulls) }
+pub IsOpeningHistory-pull : (site : Site) (h : List Event) (listing : List Spot)
+    → IsOpeningHistory site h → length h < site.servers → IsFirstListing site listing → IsOpeningHistory site (Synced (length h) listing ∷ h)
+IsOpeningHistory-pull site h listing opens more lists = record { few = omega arith; pulls = ((refl, lists), opens.pulls) }
 
 EachEvent-opens : (site : Site) (h : List Event) → EachEvent (IsFirstPull site) h → EachEvent (Opens site) h
 EachEvent-opens site [] pulls = tt
@@ -43,7 +43,7 @@ failed-none site (Failed of ∷ past) pulls = absurd pulls.0
 failed-none site (e ∷ past) pulls = failed-none site past pulls.1
 
 -- where each server has pulled, the history begins right
-pub KeepsRight-opened : (site : Site) (placed : ℕ → Bool) (h : List Event) → IsOpening site h → length h ≡ site.servers → KeepsRight site placed h
+pub KeepsRight-opened : (site : Site) (placed : ℕ → Bool) (h : List Event) → IsOpeningHistory site h → length h ≡ site.servers → KeepsRight site placed h
 KeepsRight-opened site placed h opens all = record {
   right = record { opened = omega arith; opening = EachEvent-opens site h opens.pulls; each = EachEvent-stands site placed h opens.few opens.pulls };
   kept = λ number is_placed. rw (failed-none site h opens.pulls) refl;

@@ -12,7 +12,7 @@ use Rattle.row_ledger.specs.Listings.{IsFirstListing}
 use Rattle.row_ledger.specs.Right.{KeepsRight}
 use Rattle.row_ledger.specs.Worked.{site, berlin, munich, in_city, box, first_listing, opened}
 use Rattle.row_ledger.proofs.Answering.{CanAnswer-nil, CanAnswer-older}
-use Rattle.row_ledger.proofs.Growth.{IsOpening-nil, IsOpening-pull, KeepsRight-opened}
+use Rattle.row_ledger.proofs.Growth.{IsOpeningHistory-nil, IsOpeningHistory-pull, KeepsRight-opened}
 
 -- no rows have an empty box
 pub empty_box : IsSetOf site.hierarchy [] (box [])
@@ -53,7 +53,7 @@ is_first = record { places = refl; boxes = All-from_recursion (λ (spot : Spot).
 pub opened_right : (placed : ℕ → Bool) → KeepsRight site placed opened
 opened_right placed =
     KeepsRight-opened site placed opened
-    (IsOpening-pull site _ first_listing (IsOpening-pull site [] first_listing (IsOpening-nil site) (omega arith) is_first) (omega arith) is_first)
+    (IsOpeningHistory-pull site _ first_listing (IsOpeningHistory-pull site [] first_listing (IsOpeningHistory-nil site) (omega arith) is_first) (omega arith) is_first)
     refl
 
 pub opened_answer : (usable : ℕ → Bool) → CanAnswer usable opened []

@@ -44,19 +44,26 @@ rows_beneath none = []
 rows_beneath (leaf line rows more) = rows ++ rows_beneath more
 rows_beneath (directory line below more) = rows_beneath below ++ rows_beneath more
 
+-- how many rows a block of a leaf group has room for, and how many groups a block of a directory group
+abbrev pub leaf_room : ℕ
+leaf_room = 32
+
+abbrev pub directory_room : ℕ
+directory_room = 16
+
 -- A leaf group with these rows, so many groups below the root: its items are the rows, and it lies as deep as the tree is
--- high. A block has room for 32.
+-- high.
 pub record IsLeafGroup (h : List Dimension) (height at : ℕ) (rows : List Row) (line : NodeLine) : Type 0 where
   pub depth : line.depth ≡ at
   pub lowest : at + 1 ≡ height
   pub leaf : line.leaf ≡ true
   pub blocks : 1 ≤ line.blocks
   pub items : line.items ≡ length rows
-  pub room : line.items ≤ 32 * line.blocks
+  pub room : line.items ≤ leaf_room * line.blocks
   pub agg : line.agg ≡ agg rows
   pub set : IsSetOf h (map (λ r. r.at) rows) line.set
 
--- A directory group with these groups beneath it: its items are these groups, at least one. A block has room for 16.
+-- A directory group with these groups beneath it: its items are these groups, at least one.
 pub record IsDirectoryGroup (h : List Dimension) (height at : ℕ) (below : Groups) (line : NodeLine) : Type 0 where
   pub depth : line.depth ≡ at
   pub higher : at + 1 < height
@@ -64,7 +71,7 @@ pub record IsDirectoryGroup (h : List Dimension) (height at : ℕ) (below : Grou
   pub blocks : 1 ≤ line.blocks
   pub items : line.items ≡ length (tops below)
   pub some : 1 ≤ line.items
-  pub room : line.items ≤ 16 * line.blocks
+  pub room : line.items ≤ directory_room * line.blocks
   pub agg : line.agg ≡ agg (rows_beneath below)
   pub set : IsSetOf h (map (λ r. r.at) (rows_beneath below)) line.set
 

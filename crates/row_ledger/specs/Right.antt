@@ -39,7 +39,7 @@ abbrev pub Opens : Site → List Event → Event → Type 0
 Opens site past e = length past < site.servers → IsFirstPull site past e
 
 -- an opening so far: only first pulls
-pub record IsOpening (site : Site) (h : List Event) : Type 0 where
+pub record IsOpeningHistory (site : Site) (h : List Event) : Type 0 where
   pub few : length h ≤ site.servers
   pub pulls : EachEvent (IsFirstPull site) h
 

@@ -19,7 +19,7 @@ use Rattle.seeded_run.proofs.Ranks.{rank-falls, step-falls}
 use Rattle.seeded_run.proofs.Waiting.{waiting-law}
 use Rattle.seeded_run.specs.Core.{IsCore}
 use Rattle.seeded_run.specs.Measure.{BeginInTurn, MostLaw, FewerLaw, StepsLeftLaw, limits_of, steps_left}
-use Rattle.seeded_run.specs.Ranks.{IsWithin, waiting, with_waiting}
+use Rattle.seeded_run.specs.Ranks.{IsWithin, commands_waiting, with_waiting}
 use Rattle.seeded_run.specs.Rests.{PhaseRun}
 
 -- a session has no fewer beginnings with an event
@@ -36,7 +36,7 @@ begun-later (e ∷ newer) history session =
     let rest = begun-later newer history session in omega arith
 
 -- so no more commands wait later
-waits-no-more : (s : Setting) (p : PhaseRun) (newer history : List Event) → ((session : ℕ) → length (begins_of p.before session) ≤ length (begins_of history session)) → waiting s p (newer ++ history) ≤ waiting s p history
+waits-no-more : (s : Setting) (p : PhaseRun) (newer history : List Event) → ((session : ℕ) → length (begins_of p.before session) ≤ length (begins_of history session)) → commands_waiting s p (newer ++ history) ≤ commands_waiting s p history
 waits-no-more s p [] history few = omega arith
 waits-no-more s p (e ∷ newer) history few =
     let here = (waiting-law s p e (newer ++ history) (λ session. let k = few session in let more = begun-later newer history session in omega arith)).0 in
@@ -47,11 +47,11 @@ some-session None is = absurd (false≢true is)
 some-session (Some a) is = (a, refl)
 
 -- and fewer where one begins
-waits-less : (s : Setting) (p : PhaseRun) (e : Event) (history history_now : List Event) → BeginInTurn s p history history_now → is_beginning e ≡ true → history_now ≡ e ∷ history → waiting s p history_now < waiting s p history
+waits-less : (s : Setting) (p : PhaseRun) (e : Event) (history history_now : List Event) → BeginInTurn s p history history_now → is_beginning e ≡ true → history_now ≡ e ∷ history → commands_waiting s p history_now < commands_waiting s p history
 waits-less s p e history history_now turn is grown =
     let (a, session) = some-session (session_in e) is in
     let next = turn.next e a session grown in
-    subst (λ (h : List Event). waiting s p h < waiting s p history) (sym grown) ((waiting-law s p e history turn.before).1 a session next.0 next.1)
+    subst (λ (h : List Event). commands_waiting s p h < commands_waiting s p history) (sym grown) ((waiting-law s p e history turn.before).1 a session next.0 next.1)
 
 -- as many actors are counted at desks, where one is as it was
 counted-same : (s : Setting) (k : Kind) (n : ℕ) (w now : World) (g g2 : Ghost) → Step s k n w now → (now.actors n).counted ≡ (w.actors n).counted → (left s now g2).counted ≡ (left s w g).counted
@@ -62,13 +62,13 @@ counted-same s k n w now g g2 step same = sum-kept (actor_count s) (λ a. if (w.
 pub steps-left-law : StepsLeftLaw
 steps-left-law s p k n w now g kept same turn =
     let limits = limits-law s now kept.ghost_now kept.holds in
-    let within : IsWithin (limits_of s) (with_waiting s (waiting s p (history_in now)) (left s now kept.ghost_now)) =
+    let within : IsWithin (limits_of s) (with_waiting s (commands_waiting s p (history_in now)) (left s now kept.ghost_now)) =
     record { gates = limits.gates; rows = limits.rows; queries = limits.queries } in
-    let few : waiting s p (history_in now) ≤ waiting s p (history_in w) =
-    subst (λ (h : List Event). waiting s p h ≤ waiting s p (history_in w)) (sym kept.grows) (waits-no-more s p kept.newer (history_in w) turn.before) in
-    let falls = step-falls s (left s w g) (left s now kept.ghost_now) (history_in w) (history_in now) (waiting s p (history_in w)) (waiting s p (history_in now)) kept.goes_on
+    let few : commands_waiting s p (history_in now) ≤ commands_waiting s p (history_in w) =
+    subst (λ (h : List Event). commands_waiting s p h ≤ commands_waiting s p (history_in w)) (sym kept.grows) (waits-no-more s p kept.newer (history_in w) turn.before) in
+    let falls = step-falls s (left s w g) (left s now kept.ghost_now) (history_in w) (history_in now) (commands_waiting s p (history_in w)) (commands_waiting s p (history_in now)) kept.goes_on
     (counted-same s k n w now g kept.ghost_now kept.step same) few (λ e is grown. waits-less s p e (history_in w) (history_in now) turn is grown) in
-    rank-falls (limits_of s) (with_waiting s (waiting s p (history_in w)) (left s w g)) (with_waiting s (waiting s p (history_in now)) (left s now kept.ghost_now)) falls within
+    rank-falls (limits_of s) (with_waiting s (commands_waiting s p (history_in w)) (left s w g)) (with_waiting s (commands_waiting s p (history_in now)) (left s now kept.ghost_now)) falls within
 
 -- Runs.
 

@@ -29,7 +29,7 @@ use Rattle.seeded_run.specs.Machine.{AloneInOrder, HasLeftOver, HasRunTo, HasSto
 use Rattle.seeded_run.specs.Measure.{limits_of}
 use Rattle.seeded_run.specs.Phase.{IsKeptTurn, MayRun, about, held, is_order, most_actors, phase_from}
 use Rattle.seeded_run.specs.Progress.{IsPhaseOf}
-use Rattle.seeded_run.specs.Ranks.{IsWithin, waiting, with_waiting}
+use Rattle.seeded_run.specs.Ranks.{IsWithin, commands_waiting, with_waiting}
 use Rattle.seeded_run.specs.Rests.{PhaseRun}
 use Rattle.seeded_run.specs.Worlds.{setting_in, world_in}
 use Rattle.seeded_run.specs.Running.{IsRunning}
@@ -145,7 +145,7 @@ has-left m kept =
     let s = about_in m in
     let w = world_of m in
     let g = kept.core.inv.ghost_of in
-    let count = waiting s (phase_of m) (history_in w) in
+    let count = commands_waiting s (phase_of m) (history_in w) in
     let limits = limits-law s w g kept.core.inv.holds in
     let now = with_waiting s count (left s w g) in
     let within : IsWithin (limits_of s) now = record { gates = limits.gates; rows = limits.rows; queries = limits.queries } in

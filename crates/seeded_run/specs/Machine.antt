@@ -20,7 +20,7 @@ use Rattle.seeded_run.specs.Kept.{IsBetween}
 use Rattle.seeded_run.specs.Measure.{CoreHasLeft, limits_of}
 use Rattle.seeded_run.specs.Phase.{ClosesLast, IsKeptTurn, MayAllRun, about, held, most_actors, phase_from, RunsTo, StopsAt}
 use Rattle.seeded_turns.specs.declared.schedule.Schedule.{Schedule}
-use Rattle.seeded_run.specs.Ranks.{rank, waiting, with_waiting}
+use Rattle.seeded_run.specs.Ranks.{rank, commands_waiting, with_waiting}
 use Rattle.seeded_run.specs.Rests.{PhaseRun, first_open}
 use Rattle.seeded_run.specs.Running.{IsRunning}
 use Rattle.seeded_run.specs.Steps.{begins_by}
@@ -189,7 +189,7 @@ abbrev pub nothing : Ghost
 nothing = record { owner = λ y. NotOfStock; gate = λ x. 0; shape = λ c. bare; placed = λ r. false; home = λ r. 0; path = λ r. []; counted = λ a b. [] }
 
 abbrev pub control_left : Setting → PhaseRun → World → ℕ
-control_left s p w = (with_waiting s (waiting s p (history_in w)) (left s w nothing)).control
+control_left s p w = (with_waiting s (commands_waiting s p (history_in w)) (left s w nothing)).control
 
 unfoldable pub most_steps : Running → ℕ
 most_steps m = rank (limits_of (about_in m)) (record { control = control_left (about_in m) (phase_of m) (world_of m) + 1; gates = 0; rows = 0; queries = 0; counted = 0 })

@@ -17,7 +17,7 @@ use Rattle.volap_cell.specs.declared.cell.Cell.{Cell}
 use Rattle.volap_cell.specs.declared.kind.Kind.{Kind}
 use Rattle.volap_cell.specs.declared.kind.Kind.TheVariants.{Note}
 use Rattle.seeded_run.specs.Core.{HasCore, IsCore}
-use Rattle.seeded_run.specs.Ranks.{Limits, IsWithin, rank, waiting, with_waiting}
+use Rattle.seeded_run.specs.Ranks.{Limits, IsWithin, rank, commands_waiting, with_waiting}
 use Rattle.seeded_run.specs.Rests.{PhaseRun, rest_of}
 
 -- Limits.
@@ -51,7 +51,7 @@ LimitsLaw = (s : Setting) (w : World) (g : Ghost) → InvWith s (view s w) g →
 
 -- What is left as one number, where each command that hasn't begun counts more than it can bring.
 abbrev pub steps_left : Setting → PhaseRun → World → Ghost → ℕ
-steps_left s p w g = rank (limits_of s) (with_waiting s (waiting s p (history_in w)) (left s w g))
+steps_left s p w g = rank (limits_of s) (with_waiting s (commands_waiting s p (history_in w)) (left s w g))
 
 -- Commands begin in turn: the phase had begun before, and who begins a command has it from its stream.
 pub record BeginInTurn (s : Setting) (p : PhaseRun) (history history_now : List Event) : Type 0 where

@@ -28,14 +28,14 @@ abbrev pub RankFallsLaw : Type 0
 RankFallsLaw = (limits : Limits) (before now : Left) → Falls before now → IsWithin limits now → rank limits now < rank limits before
 
 -- how many commands the streams still have
-abbrev pub waiting : Setting → PhaseRun → List Event → ℕ
-waiting s p history = sum_below (actor_count s) (λ session. length (rest_of p history session))
+abbrev pub commands_waiting : Setting → PhaseRun → List Event → ℕ
+commands_waiting s p history = sum_below (actor_count s) (λ session. length (rest_of p history session))
 
 -- With no event they get more. With one that begins a command of a stream that isn't at its end there is one fewer.
 abbrev pub WaitingLaw : Type 0
 WaitingLaw = (s : Setting) (p : PhaseRun) (e : Event) (history : List Event) → ((session : ℕ) → length (begins_of p.before session) ≤ length (begins_of history session))
-    → (waiting s p (e ∷ history) ≤ waiting s p history)
-    × ((a : ℕ) → session_in e ≡ Some a → a < actor_count s → rest_of p history a ≢ [] → waiting s p (e ∷ history) < waiting s p history)
+    → (commands_waiting s p (e ∷ history) ≤ commands_waiting s p history)
+    × ((a : ℕ) → session_in e ≡ Some a → a < actor_count s → rest_of p history a ≢ [] → commands_waiting s p (e ∷ history) < commands_waiting s p history)
 
 -- for each of them the first number has more than its beginning can add
 abbrev pub with_waiting : Setting → ℕ → Left → Left

@@ -207,7 +207,7 @@ fn last_two(purse: &mut Purse) -> (u32, u32)
     requires some { 0 < length purse.old.spares }
     ensures last { IsOfLast purse.old.spares result.0 }
     ensures before { IsBeforeLast purse.old.spares result.1 }
-    ensures same { purse.new ≡ purse.old }
+    ensures unchanged { purse.new ≡ purse.old }
 {
     let last = purse.next();
     let before = last_cell(purse);
@@ -220,7 +220,7 @@ fn last_two_of(actor: &mut Actor) -> (u32, u32)
     requires some { 0 < length (actor_of actor.old).purse }
     ensures last { IsOfLast (actor_of actor.old).purse result.0 }
     ensures before { IsBeforeLast (actor_of actor.old).purse result.1 }
-    ensures same { actor.new ≡ actor.old }
+    ensures unchanged { actor.new ≡ actor.old }
 {
     last_two(&mut actor.purse)
 }

@@ -22,7 +22,7 @@ use volap_cell::{Actor, State};
 /// look at the other, and put back. Takes no memory.
 fn last_but_one(purse: &mut Purse) -> u32
     ensures value { result ≡ last_but_one purse.old.spares }
-    ensures same { purse.new ≡ purse.old }
+    ensures unchanged { purse.new ≡ purse.old }
 {
     if purse.len() < 2 {
         return 0;
@@ -39,7 +39,7 @@ fn last_but_one(purse: &mut Purse) -> u32
 /// The cell of the last spare but one of an actor, 0 where it has not two. Takes no memory.
 fn right_of(actor: &mut Actor) -> u32
     ensures value { result ≡ last_but_one (actor_of actor.old).purse }
-    ensures same { actor.new ≡ actor.old }
+    ensures unchanged { actor.new ≡ actor.old }
 {
     last_but_one(&mut actor.purse)
 }

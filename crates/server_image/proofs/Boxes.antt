@@ -16,7 +16,7 @@ use Rattle.describing_set.specs.declared.set.DescSet.{DescSet}
 use Rattle.describing_set.specs.declared.listing.Spot.{Spot}
 use Rattle.server_image.specs.declared.image.Growth.{Growth}
 use Rattle.server_image.specs.Spots.{spot_ids, is_among, IsWidened, Widens, IsGrown, Grows, AreBoxes, along}
-use Rattle.server_image.specs.Registry.{IsFirstShard}
+use Rattle.server_image.specs.Registry.{IsFirstSpot}
 use Rattle.server_image.specs.Image.{noted, AreGrowths}
 use Rattle.server_image.proofs.Lists.{by_test}
 
@@ -138,7 +138,7 @@ Grows-more h gs g (x ∷ xs) (y ∷ ys) (z ∷ zs) valid first second = (
 
 -- The first shards.
 
-pub first-ids : (h : List Dimension) (xs : List ℕ) (ys : List Spot) → AllZip (IsFirstShard h) xs ys → spot_ids ys ≡ xs
+pub first-ids : (h : List Dimension) (xs : List ℕ) (ys : List Spot) → AllZip (IsFirstSpot h) xs ys → spot_ids ys ≡ xs
 first-ids h [] [] all = refl
 first-ids h [] (y ∷ ys) all = absurd all
 first-ids h (x ∷ xs) [] all = absurd all

@@ -28,14 +28,14 @@ abbrev pub host_of : ℕ → RegistryValue → Option ℕ
 host_of id r = option_or (worker_in id r.frontier) (worker_in id r.retired)
 
 -- a first shard: that of the worker of the same number, with an empty box
-pub record IsFirstShard (h : List Dimension) (id : ℕ) (spot : Spot) : Type 0 where
+pub record IsFirstSpot (h : List Dimension) (id : ℕ) (spot : Spot) : Type 0 where
   pub shard : spot.shard ≡ id
   pub worker : spot.worker ≡ id
   pub box : IsSetOf h [] spot.set
 
 -- one first shard for each worker, and none retired
 pub record IsNewRegistry (h : List Dimension) (workers : ℕ) (r : RegistryValue) : Type 0 where
-  pub first : AllZip (IsFirstShard h) (range_with_len 0 workers) r.frontier
+  pub first : AllZip (IsFirstSpot h) (range_with_len 0 workers) r.frontier
   pub none : r.retired ≡ []
 
 -- a shard is retired, and two of its worker's stand in its place

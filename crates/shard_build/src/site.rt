@@ -1,6 +1,7 @@
 //! The blocks of a tree that is being built, with the memory for those that it has not yet.
 ghost use Rattle.std.specs.Prelude.{◌≡◌, ◌+◌, ◌<◌, ◌≤◌, ◌-◌, ◌^◌, [], ◌∷◌, ◌++◌, length, take, drop, All, IfOk};
 ghost use Rattle.std.specs.List.{AllZip};
+ghost use Rattle.dc_node.specs.Limits.{most_of_leaf, most_of_directory};
 ghost use Rattle.shard_build.specs.Building.{leaf_in, IsEntryTo, AddsDirectory, IsCountable};
 
 use cell_stock::Spare;
@@ -67,7 +68,7 @@ impl Site {
     /// Adds a leaf of rows.
     pub fn add_leaf(&mut self, rows: &[Row], spare: Spare)
         requires room { 0 < self.old.leaves }
-        requires few { length rows.now ≤ 32 }
+        requires few { length rows.now ≤ most_of_leaf }
         ensures blocks { self.new.blocks ≡ self.old.blocks ++ leaf_in spare rows.now ∷ [] }
         ensures leaves { self.new.leaves + 1 ≡ self.old.leaves }
         ensures directories { self.new.directories ≡ self.old.directories }
@@ -88,7 +89,7 @@ impl Site {
         requires room { 0 < self.old.directories }
         requires order { from ≤ to }
         requires within { to ≤ length self.old.blocks }
-        requires few { to ≤ from + 16 }
+        requires few { to ≤ from + most_of_directory }
         requires countable { All (IsCountable h.now) (take (to - from) (drop from self.old.blocks)) }
         ensures added { AddsDirectory h.now (take (to - from) (drop from self.old.blocks)) spare self.old.blocks self.new.blocks }
         ensures leaves { self.new.leaves ≡ self.old.leaves }
@@ -108,7 +109,7 @@ impl Site {
 
 /// These rows in a leaf's box.
 fn filled(leaf: RowBox, rows: &[Row]) -> RowBox
-    requires { length rows.now ≤ 32 }
+    requires { length rows.now ≤ most_of_leaf }
     ensures { result.items ≡ rows.now }
 {
     let mut leaf = leaf;
@@ -121,7 +122,7 @@ fn filled(leaf: RowBox, rows: &[Row]) -> RowBox
 
 /// The entries that lead to blocks, in a directory's box.
 fn entered(entries: EntryBox, children: &[Fresh], h: &Hierarchy) -> EntryBox
-    requires few { length children.now ≤ 16 }
+    requires few { length children.now ≤ most_of_directory }
     requires countable { All (IsCountable h.now) children.now }
     ensures { AllZip (IsEntryTo h.now) children.now result.items }
 {

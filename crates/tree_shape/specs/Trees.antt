@@ -2,6 +2,7 @@
 use Rattle.std.specs.Prelude.{ℕ, zero, suc, ◌≡◌, ◌≢◌, ◌+◌, ◌≤◌, true, false, cond, eqb, None, List, [], ◌∷◌, map, take, drop, All}
 use Rattle.std.specs.Option.{option_map_or}
 use Rattle.dim_hierarchy.specs.Row.{IsRowOf}
+use Rattle.dc_node.specs.Limits.{most_of_leaf, most_of_directory}
 use Rattle.dc_node.specs.Block.{rows_in, entries_in, is_leaf, size, is_full, IsBodyOf}
 use Rattle.dc_node.specs.Summary.{IsSummaryOf, row_count}
 use Rattle.dc_node.specs.declared.block.Body.{Body}
@@ -38,8 +39,8 @@ pub record TreeOk (g : Shape) (look : ℕ → Node) (table : Table) : Type 0 whe
 
 -- how many items there may be
 abbrev pub limit : Body → ℕ
-limit (Rows rows) = 32
-limit (Entries entries) = 16
+limit (Rows rows) = most_of_leaf
+limit (Entries entries) = most_of_directory
 
 -- a leaf that is its own group
 abbrev pub leaf_without_rows : ℕ → Block

@@ -15,10 +15,10 @@ use Rattle.mapping_table.specs.declared.place.Where.TheVariants as where_is
 use Rattle.row_ledger.specs.Bounds.{listing_of}
 use Rattle.row_ledger.specs.LedgerValue.{LedgerValue}
 use Rattle.row_ledger.specs.Listings.{IsFirstListing}
-use Rattle.row_ledger.specs.Right.{IsOpening as IsOpeningHistory}
+use Rattle.row_ledger.specs.Right.{IsOpeningHistory}
 use Rattle.row_ledger.specs.declared.event.Event.{Event}
 use Rattle.row_ledger.specs.declared.event.Event.TheVariants.{Synced}
-use Rattle.row_ledger.proofs.Growth.{IsOpening-nil, IsOpening-pull}
+use Rattle.row_ledger.proofs.Growth.{IsOpeningHistory-nil, IsOpeningHistory-pull}
 use Rattle.server_image.specs.Registry.{RegistryValue, IsNewRegistry}
 use Rattle.tree_shape.specs.Counts.{times}
 use Rattle.tree_shape.specs.Trees.{leaf_without_rows}
@@ -68,11 +68,11 @@ pulls-length spots zero = refl
 pulls-length spots (suc n) = let rest = pulls-length spots n in omega arith
 
 pulls-open : (s : Setting) (spots : List Spot) → IsFirstListing (site_in s) spots → (n : ℕ) → n ≤ s.servers → IsOpeningHistory (site_in s) (pulls_of spots n)
-pulls-open s spots first zero few = IsOpening-nil (site_in s)
+pulls-open s spots first zero few = IsOpeningHistory-nil (site_in s)
 pulls-open s spots first (suc n) few =
     let long = pulls-length spots n in
     subst (λ (k : ℕ). IsOpeningHistory (site_in s) (Synced k spots ∷ pulls_of spots n)) long
-    (IsOpening-pull (site_in s) (pulls_of spots n) spots (pulls-open s spots first n (omega arith)) (omega arith) first)
+    (IsOpeningHistory-pull (site_in s) (pulls_of spots n) spots (pulls-open s spots first n (omega arith)) (omega arith) first)
 
 pulls-list : (spots : List Spot) (n server : ℕ) → server < n → listing_of (pulls_of spots n) server ≡ spots
 pulls-list spots zero server low = absurd (omega arith)

@@ -10,7 +10,7 @@ use Rattle.row_ledger.specs.declared.event.Event.TheVariants.{Synced}
 use Rattle.row_ledger.specs.Bounds.{known, listing_of, own, passed, published}
 use Rattle.row_ledger.specs.Listings.{IsFirstListing}
 use Rattle.row_ledger.specs.Past.{acked, event_at, insert_at, insert_in, query_at, query_in, session_in}
-use Rattle.row_ledger.specs.Right.{IsFirstPull, IsOpening}
+use Rattle.row_ledger.specs.Right.{IsFirstPull, IsOpeningHistory}
 use Rattle.row_ledger.specs.Shards.{Place, place, is_of, comes_from, first_places, frontier, ids_made}
 use Rattle.row_ledger.specs.Site.{Site}
 
@@ -28,7 +28,7 @@ first-pull site past _ is = absurd is
 
 -- what holds of the empty history and stays with each first pull holds of an opening
 along : (site : Site) (P : List Event → Type 0) → P [] → ((past : List Event) (listing : List Spot) → IsFirstListing site listing → P past → P (Synced (length past) listing ∷ past))
-    → (h : List Event) → IsOpening site h → P h
+    → (h : List Event) → IsOpeningHistory site h → P h
 along site P start step [] opens = start
 along site P start step (e ∷ past) opens =
     let few : length (e ∷ past) ≤ site.servers = opens.few in
@@ -38,41 +38,41 @@ along site P start step (e ∷ past) opens =
 
 -- What follows.
 
-pub opening-acked : (site : Site) (h : List Event) → IsOpening site h → acked h ≡ []
+pub opening-acked : (site : Site) (h : List Event) → IsOpeningHistory site h → acked h ≡ []
 opening-acked site = along site (λ h. acked h ≡ []) refl (λ past listing first none. none)
 
-pub opening-frontier : (site : Site) (workers : ℕ) (h : List Event) → IsOpening site h → frontier workers h ≡ first_places workers
+pub opening-frontier : (site : Site) (workers : ℕ) (h : List Event) → IsOpeningHistory site h → frontier workers h ≡ first_places workers
 opening-frontier site workers = along site (λ h. frontier workers h ≡ first_places workers) refl (λ past listing first is. is)
 
-pub opening-ids : (site : Site) (workers : ℕ) (h : List Event) → IsOpening site h → ids_made workers h ≡ workers
+pub opening-ids : (site : Site) (workers : ℕ) (h : List Event) → IsOpeningHistory site h → ids_made workers h ≡ workers
 opening-ids site workers = along site (λ h. ids_made workers h ≡ workers) (omega arith) (λ past listing first is. is)
 
 -- a shard comes from itself alone
-pub opening-comes : (site : Site) (h : List Event) → IsOpening site h → (x y : ℕ) → comes_from h x y ≡ true → y ≡ x
+pub opening-comes : (site : Site) (h : List Event) → IsOpeningHistory site h → (x y : ℕ) → comes_from h x y ≡ true → y ≡ x
 opening-comes site = along site (λ h. (x y : ℕ) → comes_from h x y ≡ true → y ≡ x) (λ x y is. eqb-true y x is)
     (λ past listing first older x y is. elim (or_cases (y == x) (comes_from past x y) is) [ inl same ↦ eqb-true y x same | inr more ↦ older x y more ])
 
-pub opening-comes_self : (site : Site) (h : List Event) → IsOpening site h → (x : ℕ) → comes_from h x x ≡ true
+pub opening-comes_self : (site : Site) (h : List Event) → IsOpeningHistory site h → (x : ℕ) → comes_from h x x ≡ true
 opening-comes_self site = along site (λ h. (x : ℕ) → comes_from h x x ≡ true) (λ x. eq-eqb x x refl) (λ past listing first older x. rw (eq-eqb x x refl) refl)
 
 -- no event is of a kind that a pull isn't
 opening-no : {A : Type 0} (f : Event → Option A) → ((server : ℕ) (listing : List Spot) → f (Synced server listing) ≡ None)
-    → (site : Site) (h : List Event) → IsOpening site h → (p : ℕ) → option_and_then f (event_at h p) ≡ None
+    → (site : Site) (h : List Event) → IsOpeningHistory site h → (p : ℕ) → option_and_then f (event_at h p) ≡ None
 opening-no {A} f none site = along site (λ h. (p : ℕ) → option_and_then f (event_at h p) ≡ None) (λ p. refl)
     (λ past listing first older p. elim (cases_Bool (p == length past)) [
       | inl here ↦ rw here (none (length past) listing)
       | inr other ↦ rw other (older p)
     ])
 
-pub opening-session : (site : Site) (h : List Event) → IsOpening site h → (p : ℕ) → option_and_then session_in (event_at h p) ≡ None
+pub opening-session : (site : Site) (h : List Event) → IsOpeningHistory site h → (p : ℕ) → option_and_then session_in (event_at h p) ≡ None
 opening-session site h opens p = opening-no session_in (λ server listing. refl) site h opens p
 
 -- no insert and no query
 
-pub opening-insert : (site : Site) (h : List Event) → IsOpening site h → (p : ℕ) → insert_at h p ≡ None
+pub opening-insert : (site : Site) (h : List Event) → IsOpeningHistory site h → (p : ℕ) → insert_at h p ≡ None
 opening-insert site h opens p = opening-no insert_in (λ server listing. refl) site h opens p
 
-pub opening-query : (site : Site) (h : List Event) → IsOpening site h → (p : ℕ) → query_at h p ≡ None
+pub opening-query : (site : Site) (h : List Event) → IsOpeningHistory site h → (p : ℕ) → query_at h p ≡ None
 opening-query site h opens p = opening-no query_in (λ server listing. refl) site h opens p
 
 -- What servers know.
@@ -80,11 +80,11 @@ opening-query site h opens p = opening-no query_in (λ server listing. refl) sit
 own-none : (h : List Event) (server : ℕ) → acked h ≡ [] → own h server ≡ []
 own-none h server none = rw none refl
 
-pub opening-published : (site : Site) (h : List Event) → IsOpening site h → published h ≡ []
+pub opening-published : (site : Site) (h : List Event) → IsOpeningHistory site h → published h ≡ []
 opening-published site h opens = (along site (λ h. (acked h ≡ []) × (published h ≡ [])) (refl, refl)
     (λ past listing first older. (older.0, rw (own-none past (length past) older.0, older.1) refl)) h opens).1
 
-passed-none : (site : Site) (h : List Event) → IsOpening site h → (server : ℕ) → passed h server ≡ []
+passed-none : (site : Site) (h : List Event) → IsOpeningHistory site h → (server : ℕ) → passed h server ≡ []
 passed-none site h opens server = (along site (λ h. (acked h ≡ []) × (published h ≡ []) × (passed h server ≡ [])) (refl, refl, refl)
     (λ past listing first older. (
       older.0,
@@ -92,13 +92,13 @@ passed-none site h opens server = (along site (λ h. (acked h ≡ []) × (publis
       elim (cases_Bool (length past == server)) [ inl here ↦ rw (here, older.1, older.2) refl | inr other ↦ rw (other, older.2) refl ],
     )) h opens).2
 
-pub opening-known : (site : Site) (h : List Event) → IsOpening site h → (hierarchy : List Dimension) (server : ℕ) → known hierarchy h server ≡ []
+pub opening-known : (site : Site) (h : List Event) → IsOpeningHistory site h → (hierarchy : List Dimension) (server : ℕ) → known hierarchy h server ≡ []
 opening-known site h opens hierarchy server =
     let none = opening-acked site h opens in
     rw (own-none h server none, passed-none site h opens server, none) refl
 
 -- each server that has pulled lists the first shards
-pub opening-listing : (site : Site) (h : List Event) → IsOpening site h → (server : ℕ) → server < length h → IsFirstListing site (listing_of h server)
+pub opening-listing : (site : Site) (h : List Event) → IsOpeningHistory site h → (server : ℕ) → server < length h → IsFirstListing site (listing_of h server)
 opening-listing site = along site (λ h. (server : ℕ) → server < length h → IsFirstListing site (listing_of h server)) (λ server within. absurd (omega (arith, within)))
     (λ past listing first older server within. elim (cases_Bool (length past == server)) [
       | inl here ↦ rw here first

@@ -8,8 +8,8 @@ use Rattle.volap_cell.specs.Values.{JobValue, IsCalled}
 use Rattle.volap_cell.specs.declared.command.Balance.{Balance}
 
 -- the worker that has the shard
-abbrev pub worker_in : List Load → ℕ → ℕ
-worker_in loads shard = unwrap_or (option_map (λ (l : Load). l.worker) (find (λ (l : Load). l.shard == shard) loads)) 0
+abbrev pub worker_among : List Load → ℕ → ℕ
+worker_among loads shard = unwrap_or (option_map (λ (l : Load). l.worker) (find (λ (l : Load). l.shard == shard) loads)) 0
 
 -- whether a shard is among the loads
 abbrev pub has_load : List Load → ℕ → Bool
@@ -17,8 +17,8 @@ has_load loads shard = list_any (λ (l : Load). l.shard == shard) loads
 
 -- the job of an action, at its beginning
 abbrev pub job_for : List Load → Action → JobValue
-job_for standing (action.Split shard) = record { shard = shard; worker = worker_in standing shard; to = None; stage = IsCalled }
-job_for standing (action.Move shard worker) = record { shard = shard; worker = worker_in standing shard; to = Some worker; stage = IsCalled }
+job_for standing (action.Split shard) = record { shard = shard; worker = worker_among standing shard; to = None; stage = IsCalled }
+job_for standing (action.Move shard worker) = record { shard = shard; worker = worker_among standing shard; to = Some worker; stage = IsCalled }
 
 -- the job of the action that is next; none before the plan is made, and none after the last action
 abbrev pub next_job : Balance → Option JobValue

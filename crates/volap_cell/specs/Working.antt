@@ -27,7 +27,7 @@ use Rattle.tree_shape.specs.Counts.{Each, times}
 use Rattle.tree_shape.specs.Shape.{Shape, numbers}
 use Rattle.volap_cell.specs.AdminKinds.{IsBuiltOf, cells_needed, spent_in}
 use Rattle.volap_cell.specs.Growing.{IsUnder}
-use Rattle.volap_cell.specs.Planning.{has_load, next_job, worker_in}
+use Rattle.volap_cell.specs.Planning.{has_load, next_job, worker_among}
 use Rattle.volap_cell.specs.Setting.{Setting, site_in}
 use Rattle.volap_cell.specs.Stocking.{cells_at}
 use Rattle.volap_cell.specs.Values.{JobValue, StageValue, IsCalled, IsDeclined, IsFrozen, Collects, Builds, CollectingValue, BuildingValue}
@@ -142,7 +142,7 @@ places_in loads = map (λ (l : Load). place l.shard l.worker) loads
 
 -- a shard stands where the balance has it
 abbrev pub StandsBy : Setting → List Event → List Load → ℕ → Type 0
-StandsBy s h standing x = (has_load standing x ≡ true) × (is_on s.workers h x (worker_in standing x) ≡ true)
+StandsBy s h standing x = (has_load standing x ≡ true) × (is_on s.workers h x (worker_among standing x) ≡ true)
 
 -- what is still to do: the shards of these actions stand, where the balance has them, and their new workers are there
 abbrev pub IsAhead : Setting → List Event → List Load → Action → Type 0

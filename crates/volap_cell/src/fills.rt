@@ -36,7 +36,7 @@ pub(crate) fn fill_one(
     pointers: &mut Vec<Box<Block>>,
     fresh: ArrayVec<Fresh, 2>,
 )
-    requires one { length fresh.items ≤ 1 }
+    requires few { length fresh.items ≤ 1 }
     requires some { length fresh.items ≤ length pointers.old.items }
     ensures filled { HaveNew fresh.items (option_map cell_of cell.old ∷ []) (option_map cell_of cell.new ∷ []) }
     ensures left { length pointers.new.items + length fresh.items ≡ length pointers.old.items }
@@ -54,7 +54,7 @@ pub(crate) fn fill_two(
     pointers: &mut Vec<Box<Block>>,
     fresh: ArrayVec<Fresh, 2>,
 )
-    requires two { length fresh.items ≤ 2 }
+    requires few { length fresh.items ≤ 2 }
     requires some { length fresh.items ≤ length pointers.old.items }
     ensures filled { HaveNew fresh.items (option_map cell_of first.old ∷ option_map cell_of second.old ∷ [])
         (option_map cell_of first.new ∷ option_map cell_of second.new ∷ []) }

@@ -45,7 +45,7 @@ divide-requires c =
 
 pub finish_divided-requires : goal.finish_divided-requires
 finish_divided-requires c =
-    let same : c.deref_mut-5.result.now ≡ c.deref_mut.result.now = c.deref_mut-5.ensures.value ∙ c.in_ok-first.ensures.same in
+    let same : c.deref_mut-5.result.now ≡ c.deref_mut.result.now = c.deref_mut-5.ensures.value ∙ c.in_ok-first.ensures.unchanged in
     let ids = same-ids c.in_ok-first.first c.deref_mut.result.now c.deref_mut-5.result.now same c.in_ok-first.ensures.ok in record {
       due = may-finish-split c.args.h.now c.args.table_at (cell_of c.args.table.now) c.args.gate_at c.args.left_at c.args.right_at c.args.registry_at c.args.stock_at c.args.ledger_at (cell_of c.args.gate.now) (cell_of c.args.left.now) (cell_of c.args.right.now) (cell_of c.args.registry.now) (cell_of c.args.stock.now) (cell_of c.args.ledger.now) (actor_of c.args.actor.now) c.requires.here c.requires.due
           c.deref_mut-4.result.now (ap cell_of c.in-Gate.is ∙ ap GateCell (sym c.deref_mut-4.ensures.value))
@@ -56,7 +56,7 @@ finish_divided-requires c =
 
 pub returns-clause-made : goal.returns-clause-made
 returns-clause-made c =
-    let same : c.deref_mut-5.result.now ≡ c.deref_mut.result.now = c.deref_mut-5.ensures.value ∙ c.in_ok-first.ensures.same in
+    let same : c.deref_mut-5.result.now ≡ c.deref_mut.result.now = c.deref_mut-5.ensures.value ∙ c.in_ok-first.ensures.unchanged in
     let ids = same-ids c.in_ok-first.first c.deref_mut.result.now c.deref_mut-5.result.now same c.in_ok-first.ensures.ok in
     let way = subst (λ (k : ℕ). DividesShard c.args.h.now c.args.left_at c.args.right_at c.deref_mut-2.result.now c.divide.new.table c.deref_mut-4.result.now c.deref_mut-3.result.now c.divide.new.registry k (job_of c.deref-2.result.now) c.in_ok-one.one.value c.in_ok-one.two.value) ids.0
     (subst (λ (x : Gate). DividesShard c.args.h.now c.args.left_at c.args.right_at c.deref_mut-2.result.now c.divide.new.table x c.deref_mut-3.result.now c.divide.new.registry c.in_ok-first.first (job_of c.deref-2.result.now) c.in_ok-one.one.value c.in_ok-one.two.value)

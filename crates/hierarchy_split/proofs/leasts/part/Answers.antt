@@ -19,8 +19,8 @@ returns-clause-level c =
     rw (part_read c.args.set.now c.as_slice.result.now c.from.result c.args.dim c.index-as_slice-from.result c.as_slice.ensures.value c.from.ensures lt c.index-as_slice-from.is)
     (All-from_In (λ id. level_of id ≡ p.level) p.ids.items (part_at-IsPart c.args.h.now c.args.set.now c.args.dim c.requires.dim c.requires.set).level)
 
-pub returns-clause-deepest : goal.returns-clause-deepest
-returns-clause-deepest c =
+pub returns-clause-few : goal.returns-clause-few
+returns-clause-few c =
     let lt : c.args.dim < length c.args.set.now.parts.items = omega (arith, c.requires.dim, c.requires.set.set_of.count) in
     let deep = part_at-level c.args.h.now c.args.set.now c.args.dim c.requires.dim c.requires.set in
     let nine = (c.requires.set.hierarchy.each c.args.dim c.requires.dim).tree.few in

@@ -16,8 +16,8 @@ pub returns-in-Two-clause-parent : goal.returns-in-Two-clause-parent
 returns-in-Two-clause-parent c =
     valid_with_two c.args.h.now c.args.parent.now c.split_entry.new.self c.from-place.result c.share-at.new.left c.share-at.new.right c.split_entry.ensures c.requires.parent c.share-at.ensures.left c.share-at.ensures.right
 
-pub returns-in-Two-clause-entries : goal.returns-in-Two-clause-entries
-returns-in-Two-clause-entries c =
+pub returns-in-Two-clause-few : goal.returns-in-Two-clause-few
+returns-in-Two-clause-few c =
     let entries = entries_in c.args.parent.now.body in
     let w = c.requires.place.within in
     let m = length-map entries (λ e. e.set) in

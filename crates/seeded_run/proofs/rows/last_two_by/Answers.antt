@@ -7,6 +7,6 @@ pub returns-clause-actors : goal.returns-clause-actors
 returns-clause-actors c =
     let actors : List (Option Actor) = c.args.state.now.actors.items in
     let n = c.args.number in
-    (λ k. set actors n (Some (c.last_two_of.ensures.same k)))
+    (λ k. set actors n (Some (c.last_two_of.ensures.unchanged k)))
     ∙ ap (λ (place : Option Actor). set actors n place) (sym c.in-Some.is ∙ c.index_mut.ensures.value)
     ∙ set-get_or actors n c.index_mut.result.now

@@ -12,7 +12,7 @@ returns c =
     let lent = c.deref_mut.result.now.items in
     let seen : lent ≡ c.args.self.now.items = ap (λ v. v.items) (c.deref_mut.ensures.value ∙ c.self.view_is) in
     let read : e ≡ get_or lent c.args.index e = c.index-deref_mut-index.is ∙ ap (λ (xs : List Entry). get_or xs c.args.index e) c.deref_mut-2.ensures.value in
-    let within : c.args.index < length lent = subst (λ (xs : List Entry). c.args.index < length xs) (sym seen) c.requires.in_bounds in
+    let within : c.args.index < length lent = subst (λ (xs : List Entry). c.args.index < length xs) (sym seen) c.requires.within in
     record {
       entry = e;
       entry_now = c.add_row.new.self;

@@ -6,7 +6,7 @@ use Rattle.std.proofs.lemmas.List.FromFn.{length-range_with_len}
 use Rattle.describing_set.specs.Ascending.{Ascends}
 use Rattle.describing_set.specs.DescSet.{IsDescSetOf}
 use Rattle.describing_set.specs.declared.listing.Spot.{Spot}
-use Rattle.server_image.specs.Registry.{IsFirstShard}
+use Rattle.server_image.specs.Registry.{IsFirstSpot}
 use Rattle.server_image.proofs.Boxes.{first-ids, range-Ascends, range-more, AllZip-snoc}
 use Rattle.server_image.proofs.registry.Registry.new.Goals as goal
 
@@ -16,8 +16,8 @@ loop-worker-preserved c =
     let w = c.loop-worker.worker in
     let xs = c.loop-worker.frontier.items in
     let spot : Spot = record { shard = c.from.result; worker = w; set = c.empty.result } in
-    let first : IsFirstShard h w spot = record { shard = c.from.ensures; worker = refl; box = c.empty.ensures.set_of } in
-    let snoc = AllZip-snoc (IsFirstShard h) (range_with_len 0 w) xs w spot c.loop-worker.invariant.0 first in
+    let first : IsFirstSpot h w spot = record { shard = c.from.ensures; worker = refl; box = c.empty.ensures.set_of } in
+    let snoc = AllZip-snoc (IsFirstSpot h) (range_with_len 0 w) xs w spot c.loop-worker.invariant.0 first in
     let boxes = All-push (λ (s : Spot). IsDescSetOf h s.set) xs spot c.loop-worker.invariant.1 c.empty.ensures.valid in (
       rw (c.in_ok-push.ensures.items, range-more w) snoc,
       rw c.in_ok-push.ensures.items boxes,

@@ -1,7 +1,7 @@
 use Rattle.std.specs.List.{AllZip, range_with_len}
 use Rattle.server_image.specs.Spots.{AreBoxes}
-use Rattle.server_image.specs.Registry.{IsFirstShard}
+use Rattle.server_image.specs.Registry.{IsFirstSpot}
 use Rattle.server_image.proofs.registry.Registry.new.Given as goal
 
 abbrev pub invariant-loop-worker : goal.invariant-loop-worker
-invariant-loop-worker l = AllZip (IsFirstShard l.h) (range_with_len 0 l.worker) l.frontier.items × AreBoxes l.h l.frontier.items
+invariant-loop-worker l = AllZip (IsFirstSpot l.h) (range_with_len 0 l.worker) l.frontier.items × AreBoxes l.h l.frontier.items
