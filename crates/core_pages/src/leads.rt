@@ -1,5 +1,5 @@
 //! Where the cells that one thread holds have the registry, and to which gate a worker's table leads.
-ghost use Rattle.std.specs.Prelude.{◌≡◌, Some, None, get_or, IsSome};
+ghost use Rattle.std.specs.Prelude.{◌≡◌, Some, None, get_or, option_copied, IsSome};
 ghost use Rattle.core_pages.specs.HeldLines.{gate_by_table, gate_cell_of, registry_held, table_place, where_held};
 ghost use Rattle.volap_cell.specs.Setting.{registry_cell};
 
@@ -20,9 +20,9 @@ pub(crate) fn registry_of(cells: &[Option<Cell>]) -> &Registry
     }
 }
 
-/// Where the table in a cell has a shard. Takes no memory.
-fn where_of(cells: &[Option<Cell>], table_at: u32, shard: u32) -> Option<Where>
-    ensures { result ≡ where_held (get_or cells.now table_at None) shard }
+/// Where the table in a cell has a shard.
+fn where_of(cells: &[Option<Cell>], table_at: u32, shard: u32) -> Option<&Where>
+    ensures { option_copied result ≡ where_held (get_or cells.now table_at None) shard }
 {
     match cells.get(table_at as usize) {
         Some(Some(Cell::Map { map, .. })) => map.look(shard),
@@ -31,8 +31,8 @@ fn where_of(cells: &[Option<Cell>], table_at: u32, shard: u32) -> Option<Where>
 }
 
 /// The cell of the gate that a place is.
-fn gate_cell_of(place: &Option<Where>) -> Option<u32>
-    ensures { result ≡ gate_cell_of place.now }
+fn gate_cell_of(place: Option<&Where>) -> Option<u32>
+    ensures { result ≡ gate_cell_of (option_copied place.entry) }
 {
     match place {
         Some(Where::Gate(at)) => Some(*at),
@@ -46,7 +46,7 @@ pub(crate) fn gate_by_table(cells: &[Option<Cell>], table_at: u32, shard: u32) -
     ensures { gate_by_table cells.now table_at shard ≡ Some result.now }
 {
     let place = where_of(cells, table_at, shard);
-    match gate_cell_of(&place) {
+    match gate_cell_of(place) {
         Some(at) => gate_of(cells, at),
         None => unreachable!(),
     }

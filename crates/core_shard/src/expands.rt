@@ -70,9 +70,9 @@ fn divide(
         unreachable!()
     };
     if let Task::Row(_) = &had.task {
-        return row_on(h, &plane, left, right, place, desk, errand);
+        return row_on(h, plane, *left, *right, place, desk, errand);
     }
-    both_on(alloc, left, right, place, desk, errand)
+    both_on(alloc, *left, *right, place, desk, errand)
 }
 
 /// A row's part goes on to the child on its side.

@@ -51,6 +51,6 @@ fn send(map: &MapTable, desk: &mut Desk, errand: Errand)
     let Some(place) = desk.taken(errand.shard, errand.worker) else {
         unreachable!()
     };
-    let part = waiting(errand, to, desk.no_path());
+    let part = waiting(errand, *to, desk.no_path());
     desk.set(place, part);
 }

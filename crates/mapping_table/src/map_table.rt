@@ -1,5 +1,5 @@
 //! The table of a worker.
-ghost use Rattle.std.specs.Prelude.{◌≡◌, None, OnOk, OnErr};
+ghost use Rattle.std.specs.Prelude.{◌≡◌, None, OnOk, OnErr, option_copied};
 ghost use Rattle.std.specs.FinMap as map;
 
 use crate::place::Where;
@@ -37,14 +37,11 @@ impl MapTable {
         }
     }
 
-    /// Where an id leads, `None` for one that was never set. Takes no memory.
-    pub fn look(&self, id: u32) -> Option<Where>
-        ensures { result ≡ map.get self.now id }
+    /// Where an id leads, lent where that stands; `None` for one that was never set.
+    pub fn look(&self, id: u32) -> Option<&Where>
+        ensures { option_copied result ≡ map.get self.now id }
     {
-        match self.places.get(&id) {
-            Some(place) => Some(place.copy()),
-            None => None,
-        }
+        self.places.get(&id)
     }
 
     /// Lets an id lead to this place, in place of the one before. Only one that led nowhere takes memory.

@@ -1,5 +1,5 @@
 //! What is due for an actor that is at a part.
-ghost use Rattle.std.specs.Prelude.{◌≡◌, ◌+◌, ◌*◌, [], length, nat_le};
+ghost use Rattle.std.specs.Prelude.{◌≡◌, ◌+◌, ◌*◌, [], length, nat_le, option_copied};
 ghost use Rattle.seeded_run.specs.Due.{carry_kind, errand_kind, gate_kind, is_empty, kind_by, led_to, may_enter, placed_kind, read_kind, row_kind};
 ghost use Rattle.seeded_run.specs.Look.{cell_at, setting_by, world_by};
 ghost use Rattle.volap_cell.specs.Cells.{GateCell, block_in};
@@ -14,9 +14,13 @@ use row_ledger::Use;
 use shard_store::{Gate, Phase};
 use volap_cell::{Actor, Cell, Errand, Kind, Task, Way};
 
-/// Where the part's worker has its shard. Takes no memory.
-pub(crate) fn led_to(with: &Use, cells: &[Option<Cell>], errand: &Errand) -> Option<Where>
-    ensures { result ≡ led_to (setting_by [] with.now) (world_by cells.now) (errand_of errand.now) }
+/// Where the part's worker has its shard.
+pub(crate) fn led_to<'a>(
+    with: &Use,
+    cells: &'a [Option<Cell>],
+    errand: &Errand,
+) -> Option<&'a Where>
+    ensures { option_copied result ≡ led_to (setting_by [] with.now) (world_by cells.now) (errand_of errand.now) }
 {
     where_at(cells, map_place(with, errand.worker), errand.shard)
 }
@@ -83,12 +87,12 @@ fn gate_kind(
 /// What is due for a row that hasn't passed its gate.
 fn before_kind(
     cells: &[Option<Cell>],
-    led: &Option<Where>,
+    led: Option<&Where>,
     actor: &Actor,
     height: Option<u32>,
     filled: bool,
 ) -> Option<Kind>
-    ensures { result ≡ kind_by led.now (λ gate. gate_kind (cell_at cells.now gate) (actor_of actor.now) height filled) }
+    ensures { result ≡ kind_by (option_copied led.entry) (λ gate. gate_kind (cell_at cells.now gate) (actor_of actor.now) height filled) }
 {
     match led {
         None => None,
@@ -99,8 +103,8 @@ fn before_kind(
 }
 
 /// What is due for a query's part that has read no gate.
-fn unread_kind(led: &Option<Where>) -> Option<Kind>
-    ensures { result ≡ kind_by led.now (λ gate. kind.GateRead) }
+fn unread_kind(led: Option<&Where>) -> Option<Kind>
+    ensures { result ≡ kind_by (option_copied led.entry) (λ gate. kind.GateRead) }
 {
     match led {
         None => None,
@@ -145,7 +149,7 @@ fn row_kind(
     match way {
         Way::Before { height, filled } => {
             let led = led_to(with, cells, errand);
-            before_kind(cells, &led, actor, height, filled)
+            before_kind(cells, led, actor, height, filled)
         }
         Way::Carried { block, .. } => Some(carry_kind(cells, block)),
         Way::Put { .. } => Some(Kind::LeaveTree),
@@ -175,7 +179,7 @@ pub(crate) fn errand_kind(
 {
     match &errand.task {
         Task::Row(going) => row_kind(with, cells, actor, errand, going.way),
-        Task::Unread(_) => unread_kind(&led_to(with, cells, errand)),
+        Task::Unread(_) => unread_kind(led_to(with, cells, errand)),
         Task::Read(reading) => Some(read_kind(&reading.todo)),
     }
 }

@@ -1,6 +1,6 @@
 //! The steps of the administrator's splits and moves, made where they are due, as far as all new blocks are in their cells; and what
 //! becomes of a job that finds no memory.
-ghost use Rattle.std.specs.Prelude.{◌≡◌, ◌^◌, ◌<◌, [], length, true, false, is_some};
+ghost use Rattle.std.specs.Prelude.{◌≡◌, ◌^◌, ◌<◌, [], length, true, false, is_some, option_copied};
 ghost use Rattle.seeded_run.specs.Arms.{GoesOnWithCommand};
 ghost use Rattle.seeded_run.specs.Core.{HasCore, IsDue};
 ghost use Rattle.seeded_run.specs.Jobs.{CanGiveUp, CanGiveUpBy, CanLeaveBy, IsAtFirstBy, cell_at_stage, cell_unbuilt, end_in_balance, end_of_balance, frozen_gate, gate_found, gate_to_freeze, has_more, job_by, led_for, most_in, most_of, next_at, next_of, worker_of_job};
@@ -55,9 +55,9 @@ pub(crate) fn worker_by(state: &State, number: usize) -> u8
     }
 }
 
-/// Where the worker of a job has its shard. Takes no memory.
-fn led_for(with: &Use, cells: &[Option<Cell>], job: &Job) -> Option<Where>
-    ensures { result ≡ led_for (setting_by [] with.now) (world_by cells.now) (job_of job.now) }
+/// Where the worker of a job has its shard.
+fn led_for<'a>(with: &Use, cells: &'a [Option<Cell>], job: &Job) -> Option<&'a Where>
+    ensures { option_copied result ≡ led_for (setting_by [] with.now) (world_by cells.now) (job_of job.now) }
 {
     where_at(cells, map_place(with, job.worker), job.shard)
 }
@@ -68,7 +68,7 @@ fn gate_of(with: &Use, cells: &[Option<Cell>], actor: &Actor) -> u32
     ensures { result ≡ gate_to_freeze (setting_by [] with.now) (world_by cells.now) (actor_of actor.now).job }
 {
     match &actor.job {
-        Some(job) => gate_there(&led_for(with, cells, job)),
+        Some(job) => gate_there(led_for(with, cells, job)),
         None => 0,
     }
 }

@@ -61,7 +61,7 @@ fn read_next(alloc: Global, h: &Hierarchy, with: &Use, state: &mut State, number
     let ledger = ledger_place();
     let map = map_place(with, load.worker);
     let led = where_at(&state.cells, map, load.shard);
-    let gate = gate_there(&led);
+    let gate = gate_there(led);
     match core_steps::read_load(alloc, h, state, number, map, gate, with.workers) {
         Ok(()) => {}
         Err(_) => core_steps::note_ended(h, state, number, ledger, How::NoMemory),

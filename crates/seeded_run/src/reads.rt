@@ -1,5 +1,5 @@
 //! The steps of actors at parts that look at a gate or a block, where they are due.
-ghost use Rattle.std.specs.Prelude.{◌≡◌, ◌⊎◌, [], Some};
+ghost use Rattle.std.specs.Prelude.{◌≡◌, ◌⊎◌, [], Some, option_copied};
 ghost use Rattle.seeded_run.specs.AtWork.{errand_by};
 ghost use Rattle.seeded_run.specs.Core.{HasCore, IsDue};
 ghost use Rattle.seeded_run.specs.Led.{block_noted, cell_or_zero, gate_led, gate_there};
@@ -19,8 +19,8 @@ use std::alloc::Global;
 use volap_cell::{Actor, Cell, State};
 
 /// The gate to which a table leads, 0 where it leads elsewhere.
-pub(crate) fn gate_there(led: &Option<Where>) -> u32
-    ensures { result ≡ gate_there led.now }
+pub(crate) fn gate_there(led: Option<&Where>) -> u32
+    ensures { result ≡ gate_there (option_copied led.entry) }
 {
     match led {
         Some(Where::Gate(gate)) => *gate,
@@ -33,7 +33,7 @@ fn gate_of(with: &Use, cells: &[Option<Cell>], actor: &Actor) -> u32
     ensures { result ≡ gate_led (setting_by [] with.now) (world_by cells.now) (actor_of actor.now).errand }
 {
     match &actor.errand {
-        Some(errand) => gate_there(&led_to(with, cells, errand)),
+        Some(errand) => gate_there(led_to(with, cells, errand)),
         None => 0,
     }
 }

@@ -52,7 +52,7 @@ fn standing_gate(with: &Use, cells: &[Option<Cell>], shard: u32) -> u32
     match host_at(cells, shard) {
         Some(worker) => {
             let place = where_at(cells, map_place(with, worker), shard);
-            gate_there(&place)
+            gate_there(place)
         }
         None => 0,
     }

@@ -40,9 +40,9 @@ pub(crate) fn events(cells: &[Option<Cell>]) -> u64
     }
 }
 
-/// Where the table in a cell has a shard. Takes no memory.
-pub(crate) fn where_at(cells: &[Option<Cell>], at: u32, shard: u32) -> Option<Where>
-    ensures { result ≡ where_in (cell_at cells.now at) shard }
+/// Where the table in a cell has a shard.
+pub(crate) fn where_at(cells: &[Option<Cell>], at: u32, shard: u32) -> Option<&Where>
+    ensures { option_copied result ≡ where_in (cell_at cells.now at) shard }
 {
     match cell_at(cells, at) {
         Some(Cell::Map { map, .. }) => map.look(shard),

@@ -35,7 +35,7 @@ fn root_wanted(with: &Use, cells: &[Option<Cell>], errand: &Errand) -> Option<u3
     ensures { result ≡ root_at (world_by cells.now) (led_to (setting_by [] with.now) (world_by cells.now) (errand_of errand.now)) }
 {
     match led_to(with, cells, errand) {
-        Some(Where::Gate(gate)) => Some(root_in(cells, gate)),
+        Some(Where::Gate(gate)) => Some(root_in(cells, *gate)),
         _ => None,
     }
 }

@@ -5,6 +5,7 @@ ghost use Rattle.volap_cell.specs.State.{CanLift, Stand, taken, given, cell_if, 
 
 use crate::actor::Actor;
 use crate::cell::Cell;
+use std::mem::{forget, replace};
 
 /// All cells and actors, as one thread holds them; a cell's place is empty while it is moved out.
 #[derive(Drop)]
@@ -146,12 +147,16 @@ pub fn put_if(cells: &mut Vec<Option<Cell>>, at: u32, cell: Option<Cell>)
     }
 }
 
-/// Puts a cell back.
+/// Puts a cell back. Its place is empty, so nothing is dropped there; that isn't asked again, and as each
+/// step puts cells back it is no call.
+#[inline(always)]
 pub fn put_one(cells: &mut Vec<Option<Cell>>, a: u32, cell: Cell)
     requires within { Each (λ y. y < length cells.old.items) (a ∷ []) }
     ensures value { cells.new.items ≡ given ((a, cell) ∷ []) cells.old.items }
 {
-    cells[a as usize] = Some(cell);
+    let place = &mut cells[a as usize];
+    let empty = replace(place, Some(cell));
+    forget(empty);
 }
 
 /// Puts two cells back.

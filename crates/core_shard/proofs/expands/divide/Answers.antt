@@ -1,4 +1,5 @@
 use Rattle.std.proofs.Common.{Some, sym, ap, ◌∙◌}
+use Rattle.std.specs.Prelude.{option_copied}
 use Rattle.std.proofs.lemmas.Result.{on_ok_weaker}
 use Rattle.core_shard.proofs.ExpandReady.{divided-row}
 use Rattle.core_shard.proofs.expands.divide.Goals as goal
@@ -9,4 +10,4 @@ returns-in-Row-clause-done c =
     let split = c.in-Some-Split in
     on_ok_weaker c.row_on.result (λ done.
     divided-row c.args.h.now c.args.map.now c.args.desk.now c.row_on.new.desk c.args.errand.now c.in-Some.had c.in-Some.is c.in-Row.field-0 c.in-Row.is split.plane split.left split.right
-    (sym c.look.ensures ∙ split.is ∙ ap Some split.field-0-is) c.in-Some-taken.place (sym c.taken.ensures.place ∙ c.in-Some-taken.is) done) c.row_on.ensures.done
+    (sym c.look.ensures ∙ ap option_copied split.is ∙ ap Some split.field-0-is) c.in-Some-taken.place (sym c.taken.ensures.place ∙ c.in-Some-taken.is) done) c.row_on.ensures.done
