@@ -3,7 +3,7 @@ use Rattle.std.specs.Prelude.{ℕ, List, [], ◌∷◌, ◌++◌, length, get_or
 use Rattle.dc_node.specs.declared.block.Block.{Block}
 use Rattle.link_descent.specs.declared.entered.Fresh.{Fresh}
 use Rattle.tree_shape.specs.Trees.{leaf_without_rows}
-use Rattle.block_cells.specs.Cells.{CellBlocks}
+use Rattle.tree_shape.specs.PageLines.{CellBlocks}
 
 -- the blocks by their cells, of which so many at the front are not made: an empty leaf stands for each
 pub record BlocksValue : Type 0 where

@@ -5,7 +5,7 @@ use dc_node::Block;
 
 /// Cells, in each of which a block may stand.
 pub trait BlockCells {
-    ghost use Rattle.block_cells.specs.Cells.{CellBlocks};
+    ghost use Rattle.tree_shape.specs.PageLines.{CellBlocks};
 
     /// How many cells there are, and the block in each.
     ghost blocks: { Self → CellBlocks };

@@ -7,8 +7,8 @@ use Rattle.dc_node.specs.declared.block.Block.{Block}
 use Rattle.dc_node.specs.declared.entry.Entry.{Entry}
 use Rattle.shard_store.specs.Gate.{root_entry}
 use Rattle.shard_store.specs.declared.gate.Gate.{Gate}
-use Rattle.block_cells.specs.Cells.{CellBlocks}
-use Rattle.tree_page.specs.Lines.{group, beneath}
+use Rattle.tree_shape.specs.PageLines.{CellBlocks}
+use Rattle.tree_shape.specs.PageLines.{group, group_entries}
 use Rattle.tree_page.specs.Still.{cells_with, IsStill}
 use Rattle.tree_page.proofs.Bodies.{each-mapped, total-none}
 use Rattle.tree_page.proofs.Counts.{IsEntry, group-is, entries-ok, root-ok, rows-ok}
@@ -115,23 +115,23 @@ module _ (table : Table) (home : ℕ) (gate : Gate) (blocks : CellBlocks) (g0 g 
 
   -- rows beneath directories
 
-  entries-here : (l k : ℕ) (e : Entry) → k ≡ l + 1 → k < gate.height → Ok0 k e → Ok k e → Each (Ok l) (beneath blocks e)
+  entries-here : (l k : ℕ) (e : Entry) → k ≡ l + 1 → k < gate.height → Ok0 k e → Ok k e → Each (Ok l) (group_entries blocks e)
   entries-here l k e up lt a ok = subst (λ bs. Each (Ok l) (flat_map (λ (b : Block). entries_in b.body) bs)) (sym (group-here k e lt a ok))
       (each-flat (Ok l) (λ (b : Block). entries_in b.body) (map (blocks.block) (g.group e.child))
       (each-mapped (IsHere k) (λ (b : Block). Each (Ok l) (entries_in b.body)) (blocks.block) (g.group e.child)
       (λ y on. subst (λ (n : Node). Each (Ok l) n.entries) (node-is k y lt on) (t.tree.dirs y l on.0 (on.1 ∙ up)).entries) (on-level k e ok)))
 
-  dir-le : (l k : ℕ) (e : Entry) → k ≡ l + 1 → k < gate.height → Ok0 k e → Ok k e → (r : ℕ) → total (λ x. times r (g.below x.child)) (beneath blocks e) ≤ times r (g.below e.child)
+  dir-le : (l k : ℕ) (e : Entry) → k ≡ l + 1 → k < gate.height → Ok0 k e → Ok k e → (r : ℕ) → total (λ x. times r (g.below x.child)) (group_entries blocks e) ≤ times r (g.below e.child)
   dir-le l k e up lt a ok r =
       let ws = g.group e.child in
       let w : Entry → ℕ = λ x. times r (g.below x.child) in
       let in_cell : ℕ → ℕ = λ y. total w (entries_in (blocks.block y).body) in
       let seen : (y : ℕ) → IsHere k y → in_cell y ≡ total w (look y).entries = λ y on. ap (λ (n : Node). total w n.entries) (sym (node-is k y lt on)) in
-      let all : total w (beneath blocks e) ≡ total in_cell ws =
+      let all : total w (group_entries blocks e) ≡ total in_cell ws =
       ap (λ bs. total w (flat_map (λ (b : Block). entries_in b.body) bs)) (group-here k e lt a ok)
       ∙ total-flat w (λ (b : Block). entries_in b.body) (map (blocks.block) ws)
       ∙ total-map (λ (b : Block). total w (entries_in b.body)) (blocks.block) ws in
-      let none : ((y : ℕ) → IsHere k y → total w (look y).entries ≡ 0) → total w (beneath blocks e) ≤ times r (g.below e.child) =
+      let none : ((y : ℕ) → IsHere k y → total w (look y).entries ≡ 0) → total w (group_entries blocks e) ≤ times r (g.below e.child) =
       λ z. (let sum : total in_cell ws ≡ total (λ (_ : ℕ). 0) ws = total-same (IsHere k) in_cell (λ _. 0) ws (λ y on. seen y on ∙ z y on) (on-level k e ok) in
       let nothing = total-none ws in omega arith) in
       on_bool (g.placed r)
@@ -158,9 +158,9 @@ module _ (table : Table) (home : ℕ) (gate : Gate) (blocks : CellBlocks) (g0 g 
   rows-le : (l : ℕ) (e : Entry) → l < gate.height → Ok0 l e → Ok l e → (r : ℕ) → times r (numbers (rows_at blocks l e)) ≤ times r (g.below e.child)
   rows-le zero e lt a ok r = leaf-le e lt a ok r
   rows-le (suc l) e lt a ok r =
-      let flat = times-flat (λ x. rows_at blocks l x) r (beneath blocks e) in
-      let each = total-le (λ x. times r (numbers (rows_at blocks l x))) (λ x. times r (g.below x.child)) (beneath blocks e)
-      (each-both (Ok0 l) (Ok l) (λ x. times r (numbers (rows_at blocks l x)) ≤ times r (g.below x.child)) (beneath blocks e) (λ x b o. rows-le l x (omega arith) b o r)
+      let flat = times-flat (λ x. rows_at blocks l x) r (group_entries blocks e) in
+      let each = total-le (λ x. times r (numbers (rows_at blocks l x))) (λ x. times r (g.below x.child)) (group_entries blocks e)
+      (each-both (Ok0 l) (Ok l) (λ x. times r (numbers (rows_at blocks l x)) ≤ times r (g.below x.child)) (group_entries blocks e) (λ x b o. rows-le l x (omega arith) b o r)
       (entries-ok table home gate blocks g0 still l (suc l) e (omega arith) lt a) (entries-here l (suc l) e (omega arith) lt a ok)) in
       let d = dir-le l (suc l) e (omega arith) lt a ok r in
       omega arith

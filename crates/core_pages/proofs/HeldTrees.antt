@@ -1,22 +1,23 @@
 -- What the cells of a state have that one thread holds: the blocks and the gate are those of the state, and where nobody is at a part the
 -- gate's tree is at rest, so that a page made of it is what the state has.
-use Rattle.std.proofs.Common.{Result, Ok, Err, ℕ, ◌≡◌, ◌≢◌, ◌<◌, true, false, cond, eqb, List, [], ◌∷◌, length, map, Option, Some, None, get_or, inl, inr, refl, sym, ap, ◌∙◌, subst, arith}
+use Rattle.std.proofs.Common.{Result, Ok, Err, ℕ, ◌≡◌, ◌≢◌, ◌-◌, ◌<◌, true, false, cond, eqb, List, [], ◌∷◌, length, map, Option, Some, None, get_or, inl, inr, refl, sym, ap, ◌∙◌, subst, arith}
 use Rattle.std.specs.Prelude.{IfOk, IsSome}
 use Rattle.std.proofs.lemmas.Bool.{cases_lt}
 use Rattle.std.proofs.lemmas.List.{get_or_past}
 use Rattle.dim_hierarchy.specs.declared.row.Row.{Row}
-use Rattle.block_cells.specs.Cells.{CellBlocks}
 use Rattle.dc_node.specs.Summary.{IsSummaryOf}
 use Rattle.row_ledger.specs.Pages.{IsPageOf}
 use Rattle.row_ledger.specs.declared.page.TreePage.{TreePage}
-use Rattle.shard_store.specs.Gate.{IsQueueOf}
+use Rattle.shard_store.specs.Gate.{IsQueueOf, root_entry}
 use Rattle.shard_store.specs.declared.gate.Gate.{Gate}
 use Rattle.shard_store.specs.declared.gate.Phase.{Phase}
 use Rattle.tree_page.specs.Still.{cells_with, IsStill, CanShow}
+use Rattle.tree_page.proofs.AnyCount.{with_count, lines-same}
 use Rattle.tree_page.proofs.Bodies.{each-mapped}
 use Rattle.tree_page.proofs.Counts.{root-times}
 use Rattle.tree_page.proofs.Numbers.{each-times}
 use Rattle.tree_shape.specs.Counts.{Each, times}
+use Rattle.tree_shape.specs.PageLines.{CellBlocks, lines}
 use Rattle.tree_shape.specs.Shape.{Shape, Table, TreeCells, numbers}
 use Rattle.tree_shape.specs.Trees.{IsTree}
 use Rattle.tree_shape.proofs.Totals.{gate-sum}
@@ -26,8 +27,8 @@ use Rattle.volap_cell.specs.Errands.{RowWay, way_of}
 use Rattle.volap_cell.specs.Ghost.{Ghost, NotOfStock, AGate, InTree}
 use Rattle.volap_cell.specs.Growing.{table_of}
 use Rattle.volap_cell.specs.Invariant.{InvWith}
-use Rattle.volap_cell.specs.Setting.{Setting}
-use Rattle.volap_cell.specs.Sights.{HasRows, SeesTree}
+use Rattle.volap_cell.specs.Setting.{Setting, cell_count}
+use Rattle.volap_cell.specs.Sights.{HasRows, SeesTree, blocks_seen}
 use Rattle.volap_cell.specs.State.{IsWorldOf}
 use Rattle.volap_cell.specs.Stocking.{IsWhole, cells_at}
 use Rattle.volap_cell.specs.View.{View, view}
@@ -45,6 +46,17 @@ use Rattle.core_pages.proofs.AnyShape.{same-placed}
 abbrev pub IsMade : Gate → CellBlocks → TreePage → Type 0
 IsMade gate blocks page = (table : Table) (home : ℕ) (g : Shape) → IsStill table home gate blocks g
     → (ns : List ℕ) → ((r : ℕ) → times r ns ≡ cond (g.placed r) 1 0) → IsPageOf table.hierarchy (map table.row ns) gate.queue.rows page
+
+-- and that it shows the tree of the gate: as high, and with a line for each group of these blocks
+pub record ShowsTree (gate : Gate) (blocks : CellBlocks) (page : TreePage) : Type 0 where
+  pub shard : page.shard ≡ gate.shard
+  pub height : page.height ≡ gate.height
+  pub nodes : page.nodes ≡ lines blocks (gate.height - 1) 0 (root_entry gate)
+
+pub ok-shows : {E : Type 0} (r : Result TreePage E) (gate : Gate) (blocks : CellBlocks) → IfOk r (λ p. p.shard ≡ gate.shard) → IfOk r (λ p. p.height ≡ gate.height)
+    → IfOk r (λ p. p.nodes ≡ lines blocks (gate.height - 1) 0 (root_entry gate)) → IfOk r (ShowsTree gate blocks)
+ok-shows (Ok p) gate blocks s h n = record { shard = s; height = h; nodes = n }
+ok-shows (Err e) gate blocks s h n = tt
 
 -- what is so of a result, and what else
 pub ok-both : {T E : Type 0} (r : Result T E) (P Q R : T → Type 0) → ((x : T) → P x → Q x → R x) → IfOk r P → IfOk r Q → IfOk r R
@@ -144,14 +156,23 @@ module _ (cells : List (Option Cell)) (actors : List (Option Actor)) (s : Settin
       let c = has-place cells actors w y is there in
       omega arith
 
-  known : (y : ℕ) → g0.inside y ≡ true → y < blocks.count
-  known y inside = on_bool (eqb y at)
-      (λ q. let e = eqb-eq _ _ q in subst (λ (z : ℕ). z < blocks.count) (sym e)
-      (few-cells at (λ o. let never : AGate ≡ NotOfStock = sym (inv.stocking.gate at can.gate) ∙ o in cc) taken))
+  -- the cells of the tree are in use, so they are among those that the thread has, and among those of the state
+
+  in-use : (y : ℕ) → g0.inside y ≡ true → (ghost.owner y ≢ NotOfStock) × (w.cells y ≢ FreeCell)
+  in-use y inside = on_bool (eqb y at)
+      (λ q. let e = eqb-eq _ _ q in subst (λ (z : ℕ). (ghost.owner z ≢ NotOfStock) × (w.cells z ≢ FreeCell)) (sym e)
+      (λ o. (let never : AGate ≡ NotOfStock = sym (inv.stocking.gate at can.gate) ∙ o in cc), taken))
       (λ q. let ne = eqb-ne _ _ q in
-      let in_tree = inv.stocking.tree at y whole inside ne in
-      few-cells y (λ o. let never : InTree at ≡ NotOfStock = sym in_tree.0 ∙ o in cc)
-      (λ free. let never : false ≡ true = sym (ap has_block free) ∙ in_tree.1 in cc))
+      let in_tree = inv.stocking.tree at y whole inside ne in (
+        λ o. (let never : InTree at ≡ NotOfStock = sym in_tree.0 ∙ o in cc),
+        λ free. (let never : false ≡ true = sym (ap has_block free) ∙ in_tree.1 in cc),
+      ))
+
+  known : (y : ℕ) → g0.inside y ≡ true → y < blocks.count
+  known y inside = let o = in-use y inside in few-cells y o.0 o.1
+
+  known-seen : (y : ℕ) → g0.inside y ≡ true → y < cell_count s
+  known-seen y inside = (inv.stocking.within y (in-use y inside).0).1
 
   module _ (gate : Gate) (gate_is : gate_held (get_or cells at None) ≡ Some gate) where
     abbrev gate_cell : w.cells at ≡ GateCell gate
@@ -199,15 +220,19 @@ module _ (cells : List (Option Cell)) (actors : List (Option Actor)) (s : Settin
     abbrev pub tree_rows : List Row
     tree_rows = map v.row ns
 
-    pub has-rows : HasRows s v gate.shard tree_rows gate.queue.rows
-    has-rows = record {
+    -- the rows that the shard has, by any word for its id
+    abbrev has-rows-of : (x : ℕ) → gate.shard ≡ x → HasRows s v x tree_rows gate.queue.rows
+    has-rows-of x e = record {
       gate = at;
-      is_gate = ap gate_shard gate_cell;
+      is_gate = ap gate_shard gate_cell ∙ ap Some e;
       stands = can.stands;
       queue_is = ap (λ (c : CellValue). (queue_in c).rows) gate_cell;
       named = each-mapped (λ n. (v.row n).no ≡ n) (λ (r : Row). v.row r.no ≡ r) v.row ns (λ n e. ap v.row e) all-numbered;
       tree_is = λ g tree r. ap (times r) (numbers-back v.row ns all-numbered) ∙ same-placed table at gate blocks g0 g still (as-read g tree) r;
     }
+
+    pub has-rows : HasRows s v gate.shard tree_rows gate.queue.rows
+    has-rows = has-rows-of gate.shard refl
 
     pub tree-sums : IsSummaryOf s.hierarchy tree_rows gate.agg gate.set
     tree-sums = gate-sum table (cells_with at gate blocks) g0 still.tree ns all-placed
@@ -215,18 +240,30 @@ module _ (cells : List (Option Cell)) (actors : List (Option Actor)) (s : Settin
     pub queue-is : IsQueueOf s.hierarchy gate.queue
     queue-is = subst (IsQueueOf s.hierarchy) (ap queue_in gate_cell) (inv.queueing.queue at can.gate)
 
-    pub shown-seen : (shown : TreePage) → shown.shard ≡ gate.shard → IsMade gate blocks shown → SeesTree s v shown
-    shown-seen shown shard made = record {
+    still-seen : IsStill table at gate (with_count (cell_count s) blocks) g0
+    still-seen = record { tree = still.tree; settled = settled; known = known-seen }
+
+    -- the lines of the blocks that the thread has are those of the state's
+    lines-seen : lines blocks (gate.height - 1) 0 (root_entry gate) ≡ lines (blocks_seen s v) ((v.trees at).height - 1) 0 (root_entry (v.trees at))
+    lines-seen =
+        let same : lines (blocks_seen s v) ((v.trees at).height - 1) 0 (root_entry (v.trees at)) ≡ lines (with_count (cell_count s) blocks) (gate.height - 1) 0 (root_entry gate) =
+        λ k. lines (record { count = cell_count s; block = λ y. block-is y k }) ((way_in (gate_cell k)).height - 1) 0 (root_entry (way_in (gate_cell k))) in
+        lines-same table at gate blocks (cell_count s) g0 still still-seen ∙ sym same
+
+    pub shown-seen : (shown : TreePage) → ShowsTree gate blocks shown → IsMade gate blocks shown → SeesTree s v shown
+    shown-seen shown shows made = record {
       tree = tree_rows;
       queue = gate.queue.rows;
-      has = subst (λ (x : ℕ). HasRows s v x tree_rows gate.queue.rows) (sym shard) has-rows;
+      has = has-rows-of shown.shard (sym shows.shard);
       is_page = made table at g0 still ns all-placed;
+      height = shows.height ∙ sym (ap (λ (c : CellValue). (way_in c).height) gate_cell);
+      nodes = shows.nodes ∙ lines-seen;
     }
 
 -- The same of whatever state the vectors are.
 module _ (cells : List (Option Cell)) (actors : List (Option Actor)) (at : ℕ) where
-  pub seen-in : CanSeeIn cells actors at → (gate : Gate) → gate_held (get_or cells at None) ≡ Some gate → (shown : TreePage) → shown.shard ≡ gate.shard → IsMade gate (blocks_of cells) shown → IsSeenIn cells actors shown
-  seen-in can gate gate_is shown shard made = λ s w is inv. shown-seen cells actors s w inv.ghost_of is inv.holds at (can s w is inv) gate gate_is shown shard made
+  pub seen-in : CanSeeIn cells actors at → (gate : Gate) → gate_held (get_or cells at None) ≡ Some gate → (shown : TreePage) → ShowsTree gate (blocks_of cells) shown → IsMade gate (blocks_of cells) shown → IsSeenIn cells actors shown
+  seen-in can gate gate_is shown shows made = λ s w is inv. shown-seen cells actors s w inv.ghost_of is inv.holds at (can s w is inv) gate gate_is shown shows made
 
   pub of-gate : (gate : Gate) → gate_held (get_or cells at None) ≡ Some gate → (shown : TreePage) → shown.shard ≡ gate.shard → IsOfGate cells actors at shown
   of-gate gate gate_is shown shard = λ w is. ap gate_shard (gate-cell cells actors w is at gate gate_is) ∙ ap Some (sym shard)

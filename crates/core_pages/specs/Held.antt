@@ -1,6 +1,6 @@
 -- What a page reads of the cells that one thread holds: the blocks there, and a gate.
 use Rattle.std.specs.Prelude.{ℕ, ◌-◌, ◌^◌, min, List, length, get_or, Option, Some, None}
-use Rattle.block_cells.specs.Cells.{CellBlocks}
+use Rattle.tree_shape.specs.PageLines.{CellBlocks}
 use Rattle.dc_node.specs.declared.block.Block.{Block}
 use Rattle.shard_store.specs.declared.gate.Gate.{Gate}
 use Rattle.tree_shape.specs.Trees.{leaf_without_rows}

@@ -4,8 +4,8 @@ use Rattle.tree_shape.specs.Counts.{Each}
 use Rattle.tree_shape.specs.Shape.{Node, node_of}
 use Rattle.tree_shape.specs.Walks.{IsTail}
 use Rattle.tree_shape.proofs.Walks.{eqb-yes, eqb-no}
-use Rattle.tree_page.specs.Lines.{linked, after, walk}
-use Rattle.block_cells.specs.Cells.{CellBlocks}
+use Rattle.tree_shape.specs.PageLines.{linked, after, walk}
+use Rattle.tree_shape.specs.PageLines.{CellBlocks}
 use Rattle.tree_page.proofs.Walks.{walk-none}
 
 -- a tree sees the block that is in the cell

@@ -17,8 +17,8 @@ use Rattle.tree_shape.proofs.Parts.{total-map}
 use Rattle.tree_shape.proofs.Queries.{reach-low}
 use Rattle.tree_shape.proofs.Walks.{on_bool, same_is}
 use Rattle.tree_page.specs.Still.{cells_with, IsStill}
-use Rattle.block_cells.specs.Cells.{CellBlocks}
-use Rattle.tree_page.specs.Lines.{group, beneath}
+use Rattle.tree_shape.specs.PageLines.{CellBlocks}
+use Rattle.tree_shape.specs.PageLines.{group, group_entries}
 use Rattle.tree_page.proofs.Numbers.{length-few, each-times, times-flat, each-flat, total-flat, total-same}
 use Rattle.tree_page.proofs.Bodies.{each-mapped, total-none}
 use Rattle.tree_page.proofs.Cells.{IsSeen, walk-cells}
@@ -112,20 +112,20 @@ module _ (table : Table) (home : ℕ) (gate : Gate) (blocks : CellBlocks) (g : S
       rw p (sums-low g look table l r (look b).entries dir.entries p (omega arith) ∙ dir.each (g.above (g.at r) l) up.0 up.1 ∙ ap (λ y. same y b) on))
       (λ p. rw p (sums-out g look table l r (look b).entries dir.entries p))
 
-  pub entries-ok : (l k : ℕ) (e : Entry) → k ≡ l + 1 → k < gate.height → IsEntry k e → Each (IsEntry l) (beneath blocks e)
+  pub entries-ok : (l k : ℕ) (e : Entry) → k ≡ l + 1 → k < gate.height → IsEntry k e → Each (IsEntry l) (group_entries blocks e)
   entries-ok l k e up lt ok = subst (λ bs. Each (IsEntry l) (flat_map (λ (b : Block). entries_in b.body) bs)) (sym (group-is k e lt ok))
       (each-flat (IsEntry l) (λ (b : Block). entries_in b.body) (map (blocks.block) (g.group e.child))
       (each-mapped (IsOn k) (λ (b : Block). Each (IsEntry l) (entries_in b.body)) (blocks.block) (g.group e.child)
       (λ y on. subst (λ (n : Node). Each (IsEntry l) n.entries) (seen k y lt on).is (still.tree.tree.dirs y l on.0 (on.1 ∙ up)).entries) (on-level k e ok)))
 
-  pub dir-times : (l k : ℕ) (e : Entry) → k ≡ l + 1 → k < gate.height → IsEntry k e → (r : ℕ) → total (λ x. times r (g.below x.child)) (beneath blocks e) ≡ times r (g.below e.child)
+  pub dir-times : (l k : ℕ) (e : Entry) → k ≡ l + 1 → k < gate.height → IsEntry k e → (r : ℕ) → total (λ x. times r (g.below x.child)) (group_entries blocks e) ≡ times r (g.below e.child)
   dir-times l k e up lt ok r =
       let ws = g.group e.child in
       let w : Entry → ℕ = λ x. times r (g.below x.child) in
       let in_cell : ℕ → ℕ = λ y. total w (entries_in (blocks.block y).body) in
       let sum : (y : ℕ) → IsOn k y → in_cell y ≡ cond (g.placed r) (same (g.above (g.at r) k) y) 0
       = λ y on. ap (λ (n : Node). total w n.entries) (sym (seen k y lt on).is) ∙ dir-sum y l r on.0 (on.1 ∙ up) ∙ ap (λ m. cond (g.placed r) (same (g.above (g.at r) m) y) 0) (sym up) in
-      let all : total w (beneath blocks e) ≡ total in_cell ws =
+      let all : total w (group_entries blocks e) ≡ total in_cell ws =
       ap (λ bs. total w (flat_map (λ (b : Block). entries_in b.body) bs)) (group-is k e lt ok)
       ∙ total-flat w (λ (b : Block). entries_in b.body) (map (blocks.block) ws)
       ∙ total-map (λ (b : Block). total w (entries_in b.body)) (blocks.block) ws in
@@ -176,13 +176,13 @@ module _ (table : Table) (home : ℕ) (gate : Gate) (blocks : CellBlocks) (g : S
   pub rows-ok : (l : ℕ) (e : Entry) → l < gate.height → IsEntry l e → (r : ℕ) → times r (numbers (rows_at blocks l e)) ≡ times r (g.below e.child)
   rows-ok zero e lt ok r = leaf-times e lt ok r
   rows-ok (suc l) e lt ok r =
-      times-flat (λ x. rows_at blocks l x) r (beneath blocks e)
-      ∙ total-same (IsEntry l) (λ x. times r (numbers (rows_at blocks l x))) (λ x. times r (g.below x.child)) (beneath blocks e) (λ x o. rows-ok l x (omega arith) o r) (entries-ok l (suc l) e (omega arith) lt ok)
+      times-flat (λ x. rows_at blocks l x) r (group_entries blocks e)
+      ∙ total-same (IsEntry l) (λ x. times r (numbers (rows_at blocks l x))) (λ x. times r (g.below x.child)) (group_entries blocks e) (λ x o. rows-ok l x (omega arith) o r) (entries-ok l (suc l) e (omega arith) lt ok)
       ∙ dir-times l (suc l) e (omega arith) lt ok r
 
   pub named-ok : (l : ℕ) (e : Entry) → l < gate.height → IsEntry l e → Each (λ r. table.row r.no ≡ r) (rows_at blocks l e)
   named-ok zero e lt ok = subst (λ bs. Each (λ r. table.row r.no ≡ r) (flat_map (λ (b : Block). rows_in b.body) bs)) (sym (group-is 0 e lt ok))
       (each-flat (λ (r : Row). table.row r.no ≡ r) (λ (b : Block). rows_in b.body) (map (blocks.block) (g.group e.child))
       (each-mapped (IsOn 0) (λ (b : Block). Each (λ r. table.row r.no ≡ r) (rows_in b.body)) (blocks.block) (g.group e.child) (λ y on. (block-ok 0 y lt on).rows) (on-level 0 e ok)))
-  named-ok (suc l) e lt ok = each-flat (λ (r : Row). table.row r.no ≡ r) (λ x. rows_at blocks l x) (beneath blocks e)
-      (each-map (IsEntry l) (λ x. Each (λ r. table.row r.no ≡ r) (rows_at blocks l x)) (beneath blocks e) (λ x o. named-ok l x (omega arith) o) (entries-ok l (suc l) e (omega arith) lt ok))
+  named-ok (suc l) e lt ok = each-flat (λ (r : Row). table.row r.no ≡ r) (λ x. rows_at blocks l x) (group_entries blocks e)
+      (each-map (IsEntry l) (λ x. Each (λ r. table.row r.no ≡ r) (rows_at blocks l x)) (group_entries blocks e) (λ x o. named-ok l x (omega arith) o) (entries-ok l (suc l) e (omega arith) lt ok))

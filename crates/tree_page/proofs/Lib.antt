@@ -6,3 +6,4 @@ pub mod Listing
 pub mod Counts
 pub mod Pages
 pub mod Openings
+pub mod AnyCount

@@ -6,8 +6,8 @@ use Rattle.dc_node.specs.Block.{rows_in}
 use Rattle.dc_node.specs.declared.entry.Entry.{Entry}
 use Rattle.row_ledger.specs.declared.page.NodeLine.{NodeLine}
 use Rattle.row_ledger.specs.Pages.{Groups, none, leaf, directory, tops, listing, rows_beneath}
-use Rattle.block_cells.specs.Cells.{CellBlocks}
-use Rattle.tree_page.specs.Lines.{group, beneath, line, lines}
+use Rattle.tree_shape.specs.PageLines.{CellBlocks}
+use Rattle.tree_shape.specs.PageLines.{group, group_entries, line, lines}
 
 -- the rows of a group's blocks
 abbrev pub leaf_rows : CellBlocks → Entry → List Row
@@ -16,7 +16,7 @@ leaf_rows blocks e = flat_map (λ b. rows_in b.body) (group blocks e)
 -- the rows beneath an entry on a level
 abbrev pub rows_at : CellBlocks → ℕ → Entry → List Row
 rows_at blocks zero e = leaf_rows blocks e
-rows_at blocks (suc level) e = flat_map (λ x. rows_at blocks level x) (beneath blocks e)
+rows_at blocks (suc level) e = flat_map (λ x. rows_at blocks level x) (group_entries blocks e)
 
 abbrev pub all_groups : (Entry → Groups → Groups) → List Entry → Groups
 all_groups f [] = none
@@ -25,7 +25,7 @@ all_groups f (e ∷ es) = f e (all_groups f es)
 -- an entry's group with those beneath it, and then more
 abbrev pub grouped : CellBlocks → ℕ → ℕ → Entry → Groups → Groups
 grouped blocks zero depth e more = leaf (line true depth (group blocks e) e) (leaf_rows blocks e) more
-grouped blocks (suc level) depth e more = directory (line false depth (group blocks e) e) (all_groups (λ x m. grouped blocks level (depth + 1) x m) (beneath blocks e)) more
+grouped blocks (suc level) depth e more = directory (line false depth (group blocks e) e) (all_groups (λ x m. grouped blocks level (depth + 1) x m) (group_entries blocks e)) more
 
 -- their lines
 
@@ -36,7 +36,7 @@ listing-all f w h (e ∷ es) = h e (all_groups f es) ∙ ap (λ xs. w e ++ xs) (
 pub listing-one : (blocks : CellBlocks) (level depth : ℕ) (e : Entry) (more : Groups) → listing (grouped blocks level depth e more) ≡ lines blocks level depth e ++ listing more
 listing-one blocks zero depth e more = refl
 listing-one blocks (suc level) depth e more = ap (λ xs. line false depth (group blocks e) e ∷ (xs ++ listing more))
-    (listing-all (λ x m. grouped blocks level (depth + 1) x m) (λ x. lines blocks level (depth + 1) x) (listing-one blocks level (depth + 1)) (beneath blocks e))
+    (listing-all (λ x m. grouped blocks level (depth + 1) x m) (λ x. lines blocks level (depth + 1) x) (listing-one blocks level (depth + 1)) (group_entries blocks e))
 
 -- their rows
 
@@ -47,7 +47,7 @@ rows-all f w h (e ∷ es) = h e (all_groups f es) ∙ ap (λ xs. w e ++ xs) (row
 pub rows-one : (blocks : CellBlocks) (level depth : ℕ) (e : Entry) (more : Groups) → rows_beneath (grouped blocks level depth e more) ≡ rows_at blocks level e ++ rows_beneath more
 rows-one blocks zero depth e more = refl
 rows-one blocks (suc level) depth e more = ap (λ xs. xs ++ rows_beneath more)
-    (rows-all (λ x m. grouped blocks level (depth + 1) x m) (λ x. rows_at blocks level x) (rows-one blocks level (depth + 1)) (beneath blocks e))
+    (rows-all (λ x m. grouped blocks level (depth + 1) x m) (λ x. rows_at blocks level x) (rows-one blocks level (depth + 1)) (group_entries blocks e))
 
 pub rows-beneath : (blocks : CellBlocks) (level depth : ℕ) (es : List Entry) → rows_beneath (all_groups (λ x m. grouped blocks level depth x m) es) ≡ flat_map (λ x. rows_at blocks level x) es
 rows-beneath blocks level depth es = rows-all (λ x m. grouped blocks level depth x m) (λ x. rows_at blocks level x) (rows-one blocks level depth) es

@@ -8,7 +8,7 @@ use Rattle.tree_shape.specs.Shape.{Table}
 use Rattle.tree_shape.specs.Laws.{OpeningLaw}
 use Rattle.tree_shape.specs.Steps.{OpensOver, AfterOpening}
 use Rattle.tree_shape.proofs.Walks.{on_bool, eqb-eq, eqb-ne}
-use Rattle.block_cells.specs.Cells.{CellBlocks}
+use Rattle.tree_shape.specs.PageLines.{CellBlocks}
 use Rattle.tree_page.specs.Still.{cells_with, CanShow}
 
 -- any rows will do

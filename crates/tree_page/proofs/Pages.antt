@@ -18,8 +18,8 @@ use Rattle.tree_shape.specs.Laws.{OrderLaw, GateLaw}
 use Rattle.tree_shape.proofs.Sums.{rows-named}
 use Rattle.tree_shape.proofs.Walks.{eqb-no}
 use Rattle.tree_page.specs.Still.{cells_with, IsStill}
-use Rattle.block_cells.specs.Cells.{CellBlocks}
-use Rattle.tree_page.specs.Lines.{group, beneath, line, lines}
+use Rattle.tree_shape.specs.PageLines.{CellBlocks}
+use Rattle.tree_shape.specs.PageLines.{group, group_entries, line, lines}
 use Rattle.tree_page.proofs.Numbers.{perm-rows, length-flat, total-same}
 use Rattle.tree_page.proofs.Bodies.{leaf-size, leaf-limit, directory-size, directory-limit, each-mapped, total-few, total-some}
 use Rattle.tree_page.proofs.Listing.{leaf_rows, rows_at, all_groups, grouped, listing-one, rows-one, rows-beneath, tops-one, tops-all}
@@ -102,18 +102,18 @@ module _ (table : Table) (home : ℕ) (gate : Gate) (blocks : CellBlocks) (g : S
       }
 
   directory-ok : (l d : ℕ) (e : Entry) → d + suc l + 1 ≡ gate.height → Entry_ok (suc l) e
-      → IsDirectoryGroup table.hierarchy gate.height d (all_groups (λ x m. grouped blocks l (d + 1) x m) (beneath blocks e)) (line false d (group blocks e) e)
+      → IsDirectoryGroup table.hierarchy gate.height d (all_groups (λ x m. grouped blocks l (d + 1) x m) (group_entries blocks e)) (line false d (group blocks e) e)
   directory-ok l d e h ok =
       let lt : suc l < gate.height = omega arith in
       let bs = directory-blocks l e lt ok in
-      let rows = rows-beneath blocks l (d + 1) (beneath blocks e) in
+      let rows = rows-beneath blocks l (d + 1) (group_entries blocks e) in
       record {
         depth = refl;
         higher = omega arith;
         leaf = refl;
         blocks = blocks-some (suc l) e lt ok;
         items = total-same IsDirectoryBlock (λ (b : Block). size b.body) (λ (b : Block). length (entries_in b.body)) (group blocks e) (λ b w. w.items) bs ∙ sym (length-flat (λ (b : Block). entries_in b.body) (group blocks e))
-            ∙ sym (tops-all blocks l (d + 1) (beneath blocks e));
+            ∙ sym (tops-all blocks l (d + 1) (group_entries blocks e));
         some = total-some IsDirectoryBlock (λ (b : Block). size b.body) (group blocks e) (λ b w. w.some) bs (blocks-some (suc l) e lt ok);
         room = total-few IsDirectoryBlock (λ (b : Block). size b.body) 16 (group blocks e) (λ b w. w.few) bs;
         agg = agg-ok (suc l) e lt ok ∙ ap agg (sym rows);
@@ -129,7 +129,7 @@ module _ (table : Table) (home : ℕ) (gate : Gate) (blocks : CellBlocks) (g : S
   groups-ok zero d h e ok more rest = (leaf-ok d e (omega arith) ok, rest)
   groups-ok (suc l) d h e ok more rest = (
     directory-ok l d e h ok,
-    all-ok l (d + 1) (groups-ok l (d + 1) (omega arith)) (beneath blocks e) (entries-ok table home gate blocks g still l (suc l) e (omega arith) (omega arith) ok),
+    all-ok l (d + 1) (groups-ok l (d + 1) (omega arith)) (group_entries blocks e) (entries-ok table home gate blocks g still l (suc l) e (omega arith) (omega arith) ok),
     rest,
   )
 

@@ -7,8 +7,8 @@ use Rattle.dc_node.specs.Block.{entries_in}
 use Rattle.dc_node.specs.declared.block.Block.{Block}
 use Rattle.dc_node.specs.declared.entry.Entry.{Entry}
 use Rattle.row_ledger.specs.declared.page.NodeLine.{NodeLine}
-use Rattle.block_cells.specs.Cells.{CellBlocks}
-use Rattle.tree_page.specs.Lines.{after, walk, line, lines, group, beneath}
+use Rattle.tree_shape.specs.PageLines.{CellBlocks}
+use Rattle.tree_shape.specs.PageLines.{after, walk, line, lines, group, group_entries}
 
 pub walk-none : (blocks : CellBlocks) (stamp n : ℕ) → walk blocks stamp n None ≡ []
 walk-none blocks stamp zero = refl
@@ -30,9 +30,9 @@ pub lines-low : (blocks : CellBlocks) (level depth : ℕ) (e : Entry) → level 
 lines-low blocks zero depth e h = refl
 lines-low blocks (suc l) depth e h = absurd (omega arith)
 
-pub lines-high : (blocks : CellBlocks) (level l depth : ℕ) (e : Entry) → level ≡ l + 1 → lines blocks level depth e ≡ line false depth (group blocks e) e ∷ flat_map (λ x. lines blocks l (depth + 1) x) (beneath blocks e)
+pub lines-high : (blocks : CellBlocks) (level l depth : ℕ) (e : Entry) → level ≡ l + 1 → lines blocks level depth e ≡ line false depth (group blocks e) e ∷ flat_map (λ x. lines blocks l (depth + 1) x) (group_entries blocks e)
 lines-high blocks zero l depth e h = absurd (omega arith)
-lines-high blocks (suc level) l depth e h = let i : level ≡ l = omega arith in ap (λ k. line false depth (group blocks e) e ∷ flat_map (λ x. lines blocks k (depth + 1) x) (beneath blocks e)) i
+lines-high blocks (suc level) l depth e h = let i : level ≡ l = omega arith in ap (λ k. line false depth (group blocks e) e ∷ flat_map (λ x. lines blocks k (depth + 1) x) (group_entries blocks e)) i
 
 -- the lines of a block's entries are added, and those of the blocks behind it are left
 pub lines-on : (f : Entry → List NodeLine) (old new all : List NodeLine) (block : Block) (left rest : List Block) → left ≡ block ∷ rest
@@ -47,10 +47,10 @@ lines-on f old new all block left rest is added before =
 -- the line of a group, and then those beneath it
 pub lines-deeper : (blocks : CellBlocks) (level m depth : ℕ) (entry : Entry) (nodes pushed all : List NodeLine) → level ≡ suc m
     → pushed ≡ nodes ++ line (eqb level 0) depth (group blocks entry) entry ∷ []
-    → all ≡ pushed ++ flat_map (λ e. lines blocks m (depth + 1) e) (beneath blocks entry)
+    → all ≡ pushed ++ flat_map (λ e. lines blocks m (depth + 1) e) (group_entries blocks entry)
     → all ≡ nodes ++ lines blocks level depth entry
 lines-deeper blocks level m depth entry nodes pushed all is p a =
-    let more = flat_map (λ e. lines blocks m (depth + 1) e) (beneath blocks entry) in
+    let more = flat_map (λ e. lines blocks m (depth + 1) e) (group_entries blocks entry) in
     a
     ∙ ap (λ l. l ++ more) (p ∙ ap (λ k. nodes ++ line (eqb k 0) depth (group blocks entry) entry ∷ []) is ∙ ap (λ b. nodes ++ line b depth (group blocks entry) entry ∷ []) (eqb-suc-zero m))
     ∙ append_assoc nodes (line false depth (group blocks entry) entry ∷ []) more

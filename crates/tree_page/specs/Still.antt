@@ -3,7 +3,7 @@ use Rattle.std.specs.Prelude.{ℕ, ◌≡◌, ◌<◌, true, false}
 use Rattle.shard_store.specs.declared.gate.Gate.{Gate}
 use Rattle.tree_shape.specs.Shape.{Table, TreeCells, Shape}
 use Rattle.tree_shape.specs.Trees.{IsTree}
-use Rattle.block_cells.specs.Cells.{CellBlocks}
+use Rattle.tree_shape.specs.PageLines.{CellBlocks}
 
 abbrev pub cells_with : ℕ → Gate → CellBlocks → TreeCells
 cells_with home gate blocks = record { gate_cell = home; gate = gate; block = blocks.block }

@@ -3,7 +3,7 @@ ghost use Rattle.std.specs.Prelude.{◌≡◌, ◌<◌, ◌^◌, length};
 ghost use Rattle.std.specs.Option.{option_copied};
 ghost use Rattle.dc_node.specs.Block.{size};
 ghost use Rattle.tree_shape.specs.Counts.{total};
-ghost use Rattle.tree_page.specs.Lines.{after, group};
+ghost use Rattle.tree_shape.specs.PageLines.{after, group};
 
 use block_cells::BlockCells;
 use dc_node::{Block, Body, Entry};

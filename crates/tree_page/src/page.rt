@@ -7,7 +7,7 @@ ghost use Rattle.shard_store.specs.Gate.{root_entry};
 ghost use Rattle.tree_shape.specs.Counts.{times};
 ghost use Rattle.tree_shape.specs.Shape.{Table, Shape};
 ghost use Rattle.tree_page.specs.Still.{IsStill, CanShow};
-ghost use Rattle.tree_page.specs.Lines.{lines, beneath};
+ghost use Rattle.tree_shape.specs.PageLines.{lines, group_entries};
 
 use crate::group::{after, extent};
 use block_cells::BlockCells;
@@ -91,7 +91,7 @@ fn push_beneath<C: BlockCells>(
     level: u32,
 ) -> Result<(), AllocError>
     requires { depth + level < 2 ^ 32 }
-    ensures { OnOk result (nodes.new ≡ nodes.old ++ flat_map (λ e. lines (C.blocks cells.now) level depth e) (beneath (C.blocks cells.now) entry.now)) }
+    ensures { OnOk result (nodes.new ≡ nodes.old ++ flat_map (λ e. lines (C.blocks cells.now) level depth e) (group_entries (C.blocks cells.now) entry.now)) }
 {
     let mut next = Some(cells.block(entry.child));
     for _ in 0..cells.cells() {

@@ -13,3 +13,4 @@ pub mod Forest
 pub mod Example
 pub mod Cities
 pub mod HeadCuts
+pub mod PageLines

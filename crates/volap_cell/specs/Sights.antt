@@ -1,5 +1,5 @@
 -- What a page must show: it is read off the whole state, by an actor beside which nobody is at work.
-use Rattle.std.specs.Prelude.{ℕ, ◌≡◌, ◌≢◌, cond, List, [], ◌++◌, length, flat_map, Some, None}
+use Rattle.std.specs.Prelude.{ℕ, ◌≡◌, ◌≢◌, ◌-◌, cond, List, [], ◌++◌, length, flat_map, Some, None}
 use Rattle.std.specs.List.{AllZip}
 use Rattle.dim_hierarchy.specs.declared.row.Row.{Row}
 use Rattle.dc_node.specs.Summary.{coords}
@@ -12,12 +12,14 @@ use Rattle.row_ledger.specs.declared.page.Page.{Page}
 use Rattle.row_ledger.specs.declared.page.Page.TheVariants as page
 use Rattle.row_ledger.specs.declared.page.ShardLine.{ShardLine}
 use Rattle.row_ledger.specs.declared.page.TreePage.{TreePage}
+use Rattle.shard_store.specs.Gate.{root_entry}
 use Rattle.shard_store.specs.declared.gate.Phase.TheVariants.{Gone}
 use Rattle.tree_shape.specs.Counts.{Each, times}
+use Rattle.tree_shape.specs.PageLines.{CellBlocks, lines}
 use Rattle.tree_shape.specs.Shape.{Shape, numbers}
 use Rattle.tree_shape.specs.Trees.{IsTree}
 use Rattle.volap_cell.specs.Growing.{table_of}
-use Rattle.volap_cell.specs.Setting.{Setting}
+use Rattle.volap_cell.specs.Setting.{Setting, cell_count}
 use Rattle.volap_cell.specs.Stocking.{cells_at}
 use Rattle.volap_cell.specs.Values.{ActorValue}
 use Rattle.volap_cell.specs.View.{View, view}
@@ -39,11 +41,19 @@ pub record HasRows (s : Setting) (v : View) (x : ℕ) (tree queue : List Row) : 
   pub named : Each (λ r. v.row r.no ≡ r) tree
   pub tree_is : (g : Shape) → IsTree (table_of s v.row) (cells_at v.blocks v.trees gate) g → (r : ℕ) → times r (numbers tree) ≡ cond (g.placed r) 1 0
 
+-- all blocks of the state, by their cells
+abbrev pub blocks_seen : Setting → View → CellBlocks
+blocks_seen s v = record { count = cell_count s; block = v.blocks }
+
+-- A page of the tree that stands. It tells of exactly the rows that the shard has; it is as high as the gate says; and it has
+-- the line of the root's group and then those of the groups beneath it, read off the blocks of the state.
 pub record SeesTree (s : Setting) (v : View) (shown : TreePage) : Type 0 where
   pub tree : List Row
   pub queue : List Row
   pub has : HasRows s v shown.shard tree queue
   pub is_page : IsPageOf s.hierarchy tree queue shown
+  pub height : shown.height ≡ (v.trees has.gate).height
+  pub nodes : shown.nodes ≡ lines (blocks_seen s v) ((v.trees has.gate).height - 1) 0 (root_entry (v.trees has.gate))
 
 -- a line of the shards' page is that of a spot of the registry
 pub record SeesLine (s : Setting) (v : View) (spot : Spot) (line : ShardLine) : Type 0 where

@@ -2,7 +2,7 @@ use Rattle.std.proofs.Common.{◌≡◌, ◌+◌, ◌-◌, [], ◌∷◌, ◌++�
 use Rattle.std.specs.List.{flat_map}
 use Rattle.std.specs.Option.{option_copied}
 use Rattle.dc_node.specs.declared.entry.Entry.{Entry}
-use Rattle.tree_page.specs.Lines.{walk, group, line, lines, beneath}
+use Rattle.tree_shape.specs.PageLines.{walk, group, line, lines, group_entries}
 use Rattle.tree_page.proofs.Walks.{walk-on, lines-on, lines-deeper}
 use Rattle.tree_page.proofs.page.+group.Goals as goal
 
@@ -17,7 +17,7 @@ push_beneath-loop-preserved g t c =
     let rest = walk blocks entry.stamp m (option_copied c.after-next.result) in
     let e = walk-on blocks entry.stamp (c.cells-end.result - c.loop.counter) m block (option_copied c.loop.next) (option_copied c.after-next.result) (omega arith) (ap option_copied c.in-Some.is) c.after-next.ensures in
     record {
-      lines = lines-on f c.loop.nodes c.push_entries.new.nodes (c.args.nodes.now ++ flat_map f (beneath blocks entry)) block left rest e c.in_ok-push_entries.ensures c.loop.invariant.lines;
+      lines = lines-on f c.loop.nodes c.push_entries.new.nodes (c.args.nodes.now ++ flat_map f (group_entries blocks entry)) block left rest e c.in_ok-push_entries.ensures c.loop.invariant.lines;
       end = c.loop.invariant.end;
     }
 

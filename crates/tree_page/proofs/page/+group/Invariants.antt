@@ -2,7 +2,7 @@ use Rattle.std.proofs.Common.{◌≡◌, ◌+◌, ◌-◌, ◌*◌, ◌++◌, dr
 use Rattle.std.specs.List.{flat_map}
 use Rattle.std.specs.Option.{option_copied}
 use Rattle.dc_node.specs.Block.{entries_in}
-use Rattle.tree_page.specs.Lines.{walk, lines, beneath}
+use Rattle.tree_shape.specs.PageLines.{walk, lines, group_entries}
 use Rattle.tree_page.proofs.page.+group.Given as goal
 
 abbrev pub decreases-push_beneath : goal.decreases-push_beneath
@@ -17,7 +17,7 @@ decreases-push_group g l = 3 * l.level
 abbrev pub invariant-push_beneath-loop : goal.invariant-push_beneath-loop
 invariant-push_beneath-loop g l = record {
   lines : l.nodes ++ flat_map (λ e. lines (g.C.BlockCells.blocks l.cells) l.level l.depth e) (flat_map (λ b. entries_in b.body) (walk (g.C.BlockCells.blocks l.cells) l.entry.stamp (l.end - l.counter) (option_copied l.next)))
-      ≡ l.initial.nodes ++ flat_map (λ e. lines (g.C.BlockCells.blocks l.cells) l.level l.depth e) (beneath (g.C.BlockCells.blocks l.cells) l.entry);
+      ≡ l.initial.nodes ++ flat_map (λ e. lines (g.C.BlockCells.blocks l.cells) l.level l.depth e) (group_entries (g.C.BlockCells.blocks l.cells) l.entry);
   end : l.end ≡ (g.C.BlockCells.blocks l.cells).count;
 }
 

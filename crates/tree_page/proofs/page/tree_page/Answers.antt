@@ -1,6 +1,6 @@
 use Rattle.std.proofs.Common.{◌-◌, ◌++◌, ap, ◌∙◌}
 use Rattle.describing_set.specs.declared.set.DescSet.{DescSet}
-use Rattle.tree_page.specs.Lines.{lines}
+use Rattle.tree_shape.specs.PageLines.{lines}
 use Rattle.tree_page.proofs.Pages.{page-ok}
 use Rattle.tree_page.proofs.page.tree_page.Goals as goal
 

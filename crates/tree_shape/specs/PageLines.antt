@@ -1,5 +1,5 @@
--- The lines that the calls add to a page, whatever the blocks may hold: a group ends at the stamp that the entry expects,
--- or where no link leads on; it has no more blocks than there are cells.
+-- The lines of a page, read off blocks, whatever these may hold: a group ends at the stamp that the entry expects, or where
+-- no link leads on; it has no more blocks than there are cells.
 use Rattle.std.specs.Prelude.{ℕ, zero, suc, ◌+◌, Bool, true, false, cond, eqb, Option, Some, None, List, [], ◌∷◌, length}
 use Rattle.std.specs.List.{flat_map}
 use Rattle.dc_node.specs.Block.{entries_in, size}
@@ -7,7 +7,11 @@ use Rattle.dc_node.specs.declared.block.Block.{Block}
 use Rattle.dc_node.specs.declared.entry.Entry.{Entry}
 use Rattle.row_ledger.specs.declared.page.NodeLine.{NodeLine}
 use Rattle.tree_shape.specs.Counts.{total}
-use Rattle.block_cells.specs.Cells.{CellBlocks}
+
+-- how many cells there are, and the block in each
+pub record CellBlocks : Type 0 where
+  pub count : ℕ
+  pub block : ℕ → Block
 
 abbrev pub linked : CellBlocks → Option ℕ → Option Block
 linked blocks None = None
@@ -28,8 +32,8 @@ walk blocks stamp (suc n) (Some block) = block ∷ walk blocks stamp n (after bl
 abbrev pub group : CellBlocks → Entry → List Block
 group blocks entry = walk blocks entry.stamp blocks.count (Some (blocks.block entry.child))
 
-abbrev pub beneath : CellBlocks → Entry → List Entry
-beneath blocks entry = flat_map (λ b. entries_in b.body) (group blocks entry)
+abbrev pub group_entries : CellBlocks → Entry → List Entry
+group_entries blocks entry = flat_map (λ b. entries_in b.body) (group blocks entry)
 
 -- the line of a group
 abbrev pub line : Bool → ℕ → List Block → Entry → NodeLine
@@ -45,4 +49,4 @@ line leaf depth blocks entry = record {
 -- the line of a group on a level, and of those beneath it
 abbrev pub lines : CellBlocks → ℕ → ℕ → Entry → List NodeLine
 lines blocks zero depth entry = line true depth (group blocks entry) entry ∷ []
-lines blocks (suc level) depth entry = line false depth (group blocks entry) entry ∷ flat_map (λ e. lines blocks level (depth + 1) e) (beneath blocks entry)
+lines blocks (suc level) depth entry = line false depth (group blocks entry) entry ∷ flat_map (λ e. lines blocks level (depth + 1) e) (group_entries blocks entry)
