@@ -1,27 +1,24 @@
 -- In a right history in which the commands of one server go one after the other, each answer is of all.
-use Rattle.std.proofs.Common.{◌≡◌, ◌∙◌, ℕ, ◌<◌, ◌≤◌, ◌||◌, inl, inr, Bool, true, false, IsTrue, List, [], ◌∷◌, ◌++◌, length, length-append, refl, sym, ap, subst, arith, ◌==◌}
-use Rattle.std.specs.Prelude.{Option, Some, None, Contains, filter_map, option_and_then, slice_get}
-use Rattle.std.specs.List.{cons_option}
-use Rattle.std.specs.Option.{option_map_or}
+use Rattle.std.proofs.Common.{◌≡◌, ◌∙◌, ℕ, ◌<◌, ◌≤◌, inl, inr, Bool, true, IsTrue, List, [], ◌∷◌, ◌++◌, length, length-append, refl, sym, ap, subst, arith, ◌==◌}
+use Rattle.std.specs.Prelude.{Option, Some, Contains, option_and_then, slice_get}
 use Rattle.std.proofs.lemmas.Bool.{cases_lt, eq-eqb, false≢true}
 use Rattle.std.proofs.lemmas.Option.{slice_get_within}
-use Rattle.std.proofs.lemmas.Bool.Decides.{nat_tests}
 use Rattle.std.proofs.lemmas.List.Elements.{All-contains_itself, All-weaker, Contains-append_left}
 use Rattle.dim_hierarchy.specs.Dimension.{Dimension}
 use Rattle.dim_hierarchy.specs.declared.row.Row.{Row}
 use Rattle.measure_agg.specs.Aggregate.{Aggregate}
+use Rattle.row_ledger.proofs.Before.{at-later, at-older, before-at, before-later, begins-query, BeginsQuery, ended-before, insert-at-later, no-insert, none-since, over-ended}
 use Rattle.row_ledger.proofs.Elements.{Contains-filter, Contains-map, Contains-mapped, Some-same}
 use Rattle.row_ledger.proofs.Fresh.{event_at-within, kind-within}
-use Rattle.row_ledger.proofs.Older.{has_ended-older}
-use Rattle.row_ledger.proofs.Positions.{before-older, event_at-here, event_at-older, since-inside, since-outside}
+use Rattle.row_ledger.proofs.Positions.{before-older}
 use Rattle.row_ledger.proofs.SettledAnswer.{EachEvent-before, EachEvent-later, begun-at, settled-is_all}
 use Rattle.row_ledger.specs.Bounds.{known, listed, must, own, passed}
-use Rattle.row_ledger.specs.Past.{Ack, Insert, Query, acked, acked_rows, before, begun, ends_itself, event_at, has_ended, insert_at, insert_in, is_beginning, is_over, query_at, query_in, since}
+use Rattle.row_ledger.specs.Past.{Ack, Insert, Query, acked, acked_rows, before, begun, event_at, has_ended, insert_at, is_beginning, is_over, query_at, query_in}
 use Rattle.row_ledger.specs.Right.{EachEvent, IsRight, Stands}
 use Rattle.row_ledger.specs.Settled.{IsSettled}
 use Rattle.row_ledger.specs.Site.{site_of}
 use Rattle.row_ledger.specs.declared.event.Event.{Event}
-use Rattle.row_ledger.specs.declared.event.Event.TheVariants.{Answered, Asked, Begun}
+use Rattle.row_ledger.specs.declared.event.Event.TheVariants.{Answered, Begun}
 use Rattle.row_ledger.specs.declared.settings.Use.{Use}
 use Rattle.script_form.specs.declared.script.Command.{Command}
 use Rattle.script_run.specs.Between.{IsInOrder, IsThrough}
@@ -30,72 +27,7 @@ use Rattle.script_run.specs.Runs.{BeginsAt, EndsBefore}
 use Rattle.volap_cell.proofs.Knowing.{acked-begun}
 use Rattle.library_runs.specs.Index.{AnswersAreOfAll}
 
--- Positions.
-
--- before a position behind the newest event stands all
-before-whole : (e : Event) (past : List Event) (p : ℕ) → length past < p → before (e ∷ past) p ≡ e ∷ past
-before-whole e past p low = grind (arith, nat_tests)
-
--- what stands before a position stands there in the whole
-before-at : (past : List Event) (of p : ℕ) (e : Event) → event_at (before past of) p ≡ Some e → (event_at past p ≡ Some e) × (p < of)
-before-at [] of p e at = cc
-before-at (x ∷ past) of p e at = elim (cases_lt (length past) of) [
-  | inl low ↦
-      let here : event_at (x ∷ past) p ≡ Some e = subst (λ (l : List Event). event_at l p ≡ Some e) (before-whole x past of low) at in
-      let within : p < length (x ∷ past) = event_at-within (x ∷ past) p (λ none. cc) in
-      (here, omega (arith, within, low))
-  | inr high ↦
-      let older = before-at past of p e (subst (λ (l : List Event). event_at l p ≡ Some e) (before-older x past of high) at) in
-      let there : event_at past p ≡ Some e = older.0 in
-      (event_at-older x past p (event_at-within past p (λ none. cc)) ∙ there, older.1)
-]
-
-at-older : (x : Event) (past : List Event) (p : ℕ) (e : Event) → event_at past p ≡ Some e → event_at (x ∷ past) p ≡ Some e
-at-older x past p e at = event_at-older x past p (event_at-within past p (λ none. cc)) ∙ at
-
-at-later : (later past : List Event) (p : ℕ) (e : Event) → event_at past p ≡ Some e → event_at (later ++ past) p ≡ Some e
-at-later [] past p e at = at
-at-later (x ∷ later) past p e at = at-older x (later ++ past) p e (at-later later past p e at)
-
-before-later : (later past : List Event) (of : ℕ) → of ≤ length past → before (later ++ past) of ≡ before past of
-before-later [] past of low = refl
-before-later (x ∷ later) past of low = before-older x (later ++ past) of (omega (arith, length-append later past, low)) ∙ before-later later past of low
-
--- what has ended before a position has ended
-ended-before : (past : List Event) (p of : ℕ) → has_ended (before past p) of ≡ true → has_ended past of ≡ true
-ended-before [] p of ended = ended
-ended-before (x ∷ past) p of ended = elim (cases_lt (length past) p) [
-  | inl low ↦ subst (λ (l : List Event). has_ended l of ≡ true) (before-whole x past p low) ended
-  | inr high ↦ has_ended-older x past of (ended-before past p of (subst (λ (l : List Event). has_ended l of ≡ true) (before-older x past p high) ended))
-]
-
--- where no insert stands behind a position, none began since
-none-since : (past : List Event) (of : ℕ) → ((p : ℕ) (e : Event) → event_at past p ≡ Some e → of < p → insert_in e ≡ None) → filter_map insert_in (since past of) ≡ []
-none-since [] of none = refl
-none-since (x ∷ past) of none = elim (cases_lt of (length past)) [
-  | inl inside ↦
-      let here : insert_in x ≡ None = none (length past) x (event_at-here x past) inside in
-      ap (filter_map insert_in) (since-inside x past of inside)
-      ∙ ap (λ (o : Option Insert). cons_option o (filter_map insert_in (since past of))) here
-      ∙ none-since past of (λ p e at low. none p e (at-older x past p e at) low)
-  | inr outside ↦ ap (filter_map insert_in) (since-outside x past of outside)
-]
-
 -- Beginnings and ends.
-
-or-none : (a b : Bool) → b ≡ false → (a || b) ≡ true → a ≡ true
-or-none true b left is = refl
-or-none false b left is = absurd (false≢true (sym left ∙ is))
-
--- a command that doesn't end itself and is over before a position has its end there
-over-ended : (h : List Event) (p of : ℕ) (e : Event) → event_at h of ≡ Some e → ends_itself e ≡ false → IsTrue (is_over (before h p) of) → has_ended (before h p) of ≡ true
-over-ended h p of e at no_end over = go (event_at (before h p) of) refl over
-  where
-    go : (o : Option Event) → event_at (before h p) of ≡ o → (has_ended (before h p) of || option_map_or ends_itself o false) ≡ true → has_ended (before h p) of ≡ true
-    go None is over = or-none (has_ended (before h p) of) false refl over
-    go (Some d) is over =
-        let same : e ≡ d = Some-same d e (sym (before-at h p of d is).0 ∙ at) in
-        or-none (has_ended (before h p) of) (ends_itself d) (ap ends_itself (sym same) ∙ no_end) over
 
 -- of two commands that have begun the one ended before the other
 ends : (history : List Event) (a b : Option ℕ) (p q : ℕ) → a ≡ Some p → b ≡ Some q → EndsBefore history a b → (p < q) × IsTrue (is_over (before history q) p)
@@ -120,30 +52,6 @@ over-before with h commands history order p q d e at_p begins_p at_q begins_q lo
             absurd (omega (arith, low, one))
       ]
     ]
-
--- Kinds of events.
-
-record BeginsQuery (o : Option Event) : Type 0 where
-  event : Event
-  is : o ≡ Some event
-  begins : IsTrue (is_beginning event)
-  no_end : ends_itself event ≡ false
-
-begins-query : (o : Option Event) (q : Query) → option_and_then query_in o ≡ Some q → BeginsQuery o
-begins-query None q is = cc
-begins-query (Some (Asked n s f)) q is = record { event = Asked n s f; is = refl; begins = refl; no_end = refl }
-begins-query (Some _) q is = cc
-
-no-insert : (e : Event) → (IsTrue (is_beginning e) → ⊥) → insert_in e ≡ None
-no-insert (Begun n s r) none = absurd (none refl)
-no-insert _ none = refl
-
-insert-at-later : (h : List Event) (k p : ℕ) (i : Insert) → insert_at (before h k) p ≡ Some i → insert_at h p ≡ Some i
-insert-at-later h k p i is = go (event_at (before h k) p) refl is
-  where
-    go : (o : Option Event) → event_at (before h k) p ≡ o → option_and_then insert_in o ≡ Some i → insert_at h p ≡ Some i
-    go None at is = cc
-    go (Some e) at is = ap (option_and_then insert_in) (before-at h k p e at).0 ∙ is
 
 -- One server.
 

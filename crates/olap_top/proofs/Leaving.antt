@@ -21,6 +21,7 @@ use Rattle.olap_top.specs.Settles.{IsSettling}
 use Rattle.olap_top.specs.declared.outcome.Outcome.{Outcome}
 use Rattle.olap_top.specs.declared.run.Run.{Run}
 use Rattle.olap_top.specs.declared.wanted.Wanted.{Wanted}
+use Rattle.olap_top.proofs.Behind.{of-all-behind}
 use Rattle.olap_top.proofs.Handing.{held-inv}
 use Rattle.olap_top.proofs.PhaseSteps.{held-right}
 use Rattle.olap_top.proofs.Settled.{settled-all, settles-tell}
@@ -62,9 +63,11 @@ leaves-run wanted s start now o settings opening schedule left out =
     let same = history-left s now o out in
     let goes = subst (λ t. GoesTo (is_order t) s (record { state = world_of s start; schedule = t }) (world_of s now)) schedule left.goes in
     let run : IsRunUpTo wanted s (world_of s now) = record { opening = world_of s start; is_opening = opening; goes = goes } in
+    let tell = settles-tell s.with s.hierarchy right.0 (history_of s now) right.1 left.part.pulls (record { each = λ r i is. (inv.holds.telling.rows r i is).1 }) in
     let settling : IsSettling site (history_of s now) = record {
       answers = settled-all site (history_of s now) right.2;
-      settles = settles-tell s.with s.hierarchy right.0 (history_of s now) right.1 left.part.pulls (record { each = λ r i is. (inv.holds.telling.rows r i is).1 });
+      settles = tell;
+      of_all = of-all-behind s.with s.hierarchy s.commands (history_of s now) right.2 left.part tell (λ p q is. (inv.holds.telling.filters p q is).1);
     } in
     record {
       some = omega (arith, right.2.opened, ap length same, settings.servers.0);

@@ -10,5 +10,6 @@ pub mod InsertsEnd
 pub mod PhaseSteps
 pub mod Summaries
 pub mod Settled
+pub mod Behind
 pub mod Leaving
 pub mod Complete

@@ -1,12 +1,19 @@
 -- What each answer of the top call says of the source, the sink and the history.
 --
 -- `before` and `now` are what a source has left, or a sink has taken, before the call and after it, where it tells that.
-use Rattle.std.specs.Prelude.{ℕ, ◌≡◌, ◌+◌, ◌<◌, ◌≤◌, ◌^◌, ◌⊎◌, ⊤, Bool, true, false, IsTrue, Option, Some, Ok, Err, List, [], length, take}
+use Rattle.std.specs.Prelude.{ℕ, ◌≡◌, ◌+◌, ◌<◌, ◌≤◌, ◌^◌, ◌⊎◌, ⊤, Bool, true, false, IsTrue, Option, Some, Ok, Err, List, [], ◌∷◌, ◌++◌, filter, length, take}
 use Rattle.std.specs.List.{AllZip}
 use Rattle.std.specs.Io.KnownBytes.{Appends, Consumes, IsAtEnd}
 use Rattle.volap_io.specs.Causes.{Rose}
 use Rattle.dim_hierarchy.specs.Dimension.{Dimension}
+use Rattle.dim_hierarchy.specs.Filter.{matches}
+use Rattle.dim_hierarchy.specs.declared.row.Row.{Row}
+use Rattle.measure_agg.specs.Aggregate.{Aggregate, agg}
+use Rattle.row_ledger.specs.Past.{Query, acked_rows, begun, call_at, query_at}
 use Rattle.row_ledger.specs.declared.event.Event.{Event}
+use Rattle.row_ledger.specs.declared.event.Event.TheVariants.{Answered, Ended}
+use Rattle.row_ledger.specs.declared.settings.Call.TheVariants.{Settle}
+use Rattle.row_ledger.specs.declared.settings.How.TheVariants.{Fine}
 use Rattle.row_ledger.specs.declared.settings.Use.{Use}
 use Rattle.row_ledger.specs.Right.{IsRight}
 use Rattle.script_form.specs.declared.script.Cause.{Cause}
@@ -84,6 +91,27 @@ pub record IsSerialRun (wanted : Wanted) (left_before left_now : Option (List �
   pub script : Script
   pub read : IsAskedScript wanted left_before left_now script
   pub runs : RunsInOrder script history
+
+-- The history comes to an answer behind a settle that was fine, and no insert has begun since.
+pub record IsBehindSettle (past : List Event) : Type 0 where
+  pub since : List Event
+  pub of : ℕ
+  pub before : List Event
+  pub ended : past ≡ since ++ Ended of Fine ∷ before
+  pub called : call_at before of ≡ Some Settle
+  pub none_begun : begun since ≡ []
+
+-- There each answer, whichever server gives it, is the aggregate of all matching rows that were acknowledged before it.
+abbrev pub AreOfAllBehindSettles : List Dimension → List Event → Type 0
+AreOfAllBehindSettles h history =
+    (later past : List Event) (of : ℕ) (answer : Aggregate) (query : Query) → history ≡ later ++ Answered of answer ∷ past
+    → query_at past of ≡ Some query → IsBehindSettle past
+    → answer ≡ agg (filter (λ (r : Row). matches h query.filter r.at) (acked_rows past))
+
+pub record IsSettlingRun (wanted : Wanted) (left_before left_now : Option (List ℕ)) (history : List Event) : Type 0 where
+  pub script : Script
+  pub read : IsAskedScript wanted left_before left_now script
+  pub of_all : AreOfAllBehindSettles script.hierarchy history
 
 -- What each answer says.
 

@@ -1,19 +1,18 @@
 -- That each row has its place in a state.
-use Rattle.std.specs.Prelude.{ℕ, ◌≡◌, ◌≤◌, ◌⊎◌, true, IsTrue, Some, Contains}
+use Rattle.std.specs.Prelude.{ℕ, ◌≡◌, ◌≤◌, true, IsTrue, Some, Contains}
 use Rattle.row_ledger.specs.Past.{Ack, Insert, acked, insert_at, is_kept}
 use Rattle.row_ledger.specs.Shards.{is_live}
-use Rattle.volap_cell.specs.Promises.{IsInNone, IsInOne, IsOnDesk, IsUnrouted, Standing, times_in}
+use Rattle.volap_cell.specs.Promises.{IsInOne, HasItsPlace, Standing, times_in}
 use Rattle.volap_cell.specs.Setting.{Setting}
 use Rattle.volap_cell.specs.View.{view}
 use Rattle.volap_cell.specs.World.{World}
 
--- Each row whose insert began and didn't fail is in one shard that stands, once; or in none, and its insert stands on a desk, or no
--- part for it was routed yet.
+-- Each row whose insert began and didn't fail is in one place: in one shard that stands, once; or its insert stands on a desk, and its
+-- part hasn't passed a gate; or no part for it was routed yet.
 pub record HavePlaces (s : Setting) (w : World) : Type 0 where
   pub standing : Standing s (view s w)
   pub one : (r : ℕ) (i : Insert) → insert_at (view s w).history r ≡ Some i → IsTrue (is_kept (view s w).history r)
-      → ((x : ℕ) × IsInOne s (view s w) standing r x)
-      ⊎ (IsInNone s (view s w) standing r × (IsOnDesk s (view s w) i r ⊎ IsUnrouted (view s w) r))
+      → HasItsPlace s (view s w) standing i r
 
 -- The rows of the shards that stand began and didn't fail, and are there once; and each row that was acknowledged is one of them.
 pub record AreInShards (s : Setting) (w : World) : Type 0 where

@@ -11,6 +11,7 @@ use Rattle.row_ledger.specs.declared.event.Event.{Event}
 use Rattle.row_ledger.specs.declared.event.Event.TheVariants.{Answered, Ended}
 use Rattle.row_ledger.specs.declared.settings.Call.TheVariants.{Settle}
 use Rattle.row_ledger.specs.declared.settings.How.TheVariants.{Fine}
+use Rattle.olap_top.specs.Outcomes.{AreOfAllBehindSettles}
 
 -- The answer to a query that is settled is the aggregate of all matching rows that were acknowledged when it began.
 abbrev pub SettledAreAll : Site → List Event → Type 0
@@ -29,3 +30,4 @@ SettlesTell site history =
 pub record IsSettling (site : Site) (history : List Event) : Type 0 where
   pub answers : SettledAreAll site history
   pub settles : SettlesTell site history
+  pub of_all : AreOfAllBehindSettles site.hierarchy history

@@ -14,7 +14,7 @@ ghost use Rattle.answer_text.specs.Printed.{told, bad_line};
 ghost use Rattle.answer_text.specs.Summary.{summary};
 ghost use Rattle.olap_top.specs.Left.{IsHandedOut, LeavesAsked, LeavesNothing, LeavesRun};
 ghost use Rattle.olap_top.specs.OneRun.{goes_in_order};
-ghost use Rattle.olap_top.specs.Outcomes.{AreAsked, TookPart, HasRun, IsSerialRun, RanTo, RanToPhase, RanInto, IsDone, IsCutOff, IsStarved, IsNoScript, HasGoodScript, asked_text, tells_phases};
+ghost use Rattle.olap_top.specs.Outcomes.{AreAsked, TookPart, HasRun, IsSerialRun, IsSettlingRun, RanTo, RanToPhase, RanInto, IsDone, IsCutOff, IsStarved, IsNoScript, HasGoodScript, asked_text, tells_phases};
 ghost use Rattle.olap_top.specs.RunSoFar.{HasLeft, IsBehind, IsHeld, history_of, tells};
 ghost use Rattle.olap_top.specs.Wanted.{AreFewRows};
 ghost use Rattle.olap_top.specs.Words.{AskFor, ForSomeWanted};
@@ -377,6 +377,10 @@ pub fn olap<R: Threads + Wait + Sync, S: Source, K: Sink, M: Meet>(
         (S.left source.old) (S.left source.new)
         (K.taken sink.old) (K.taken sink.new)
         result.ledger.history) }
+
+    // Whatever the answer: behind a fine settle, while no insert has begun since, each answer is of all that was acknowledged.
+    ensures settle { (result.ledger.history ≡ [])
+        ⊎ ForSomeWanted words.now (λ wanted. IsSettlingRun wanted (S.left source.old) (S.left source.new) result.ledger.history) }
 
     // Whatever the answer: nothing ran, or what is left is the state of one run of the core.
     ensures run { ((result.status ≢ Status.Done) × (result.status ≢ Status.WriteFault) × LeavesNothing result)

@@ -16,7 +16,7 @@ use Rattle.row_ledger.proofs.Positions.{event_at-here, event_at-older, event_at-
 use Rattle.row_ledger.proofs.Older.{has_ended-older}
 use Rattle.row_ledger.proofs.Fresh.{fresh-newest}
 
-insert_at-is : (e : Option Event) (i : Insert) → option_and_then insert_in e ≡ Some i → (n : ℕ) × (e ≡ Some (Begun n i.server i.row))
+pub insert_at-is : (e : Option Event) (i : Insert) → option_and_then insert_in e ≡ Some i → (n : ℕ) × (e ≡ Some (Begun n i.server i.row))
 insert_at-is None i q = cc
 insert_at-is (Some (Begun n s r)) i q = let j : record { server = s; row = r } ≡ i = cc in (n, ap (λ (i : Insert). Some (Begun n i.server i.row)) j)
 insert_at-is (Some _) i q = cc

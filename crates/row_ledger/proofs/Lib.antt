@@ -9,6 +9,7 @@ pub mod Opened
 pub mod SameRows
 pub mod Settling
 pub mod Ended
+pub mod Before
 pub mod SettledAnswer
 pub mod Changes
 pub mod Descent

@@ -9,4 +9,5 @@ pub mod PhaseEnds
 pub mod Ranks
 pub mod InPhase
 pub mod Between
+pub mod Closing
 pub mod WorkedRuns

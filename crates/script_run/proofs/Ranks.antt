@@ -11,16 +11,16 @@ yes-of b is xs ys = rw is refl
 no-of : (b : Bool) → b ≡ false → (xs ys : List ℕ) → (if b then xs else ys) ≡ ys
 no-of b is xs ys = rw is refl
 
-ranks-closing : (k : ℕ) (c : Command) (cs : List Command) → closes c ≡ true → ranks_from k (c ∷ cs) ≡ (2 * k + 1) ∷ ranks_from (k + 1) cs
+pub ranks-closing : (k : ℕ) (c : Command) (cs : List Command) → closes c ≡ true → ranks_from k (c ∷ cs) ≡ (2 * k + 1) ∷ ranks_from (k + 1) cs
 unfolding ranks_from
 ranks-closing k c cs is = yes-of (closes c) is ((2 * k + 1) ∷ ranks_from (k + 1) cs) ((2 * k) ∷ ranks_from k cs)
 
-ranks-open : (k : ℕ) (c : Command) (cs : List Command) → closes c ≡ false → ranks_from k (c ∷ cs) ≡ (2 * k) ∷ ranks_from k cs
+pub ranks-open : (k : ℕ) (c : Command) (cs : List Command) → closes c ≡ false → ranks_from k (c ∷ cs) ≡ (2 * k) ∷ ranks_from k cs
 unfolding ranks_from
 ranks-open k c cs is = no-of (closes c) is ((2 * k + 1) ∷ ranks_from (k + 1) cs) ((2 * k) ∷ ranks_from k cs)
 
 -- no rank is below the first
-least : (k : ℕ) (cs : List Command) (i : ℕ) → i < length cs → 2 * k ≤ get_or (ranks_from k cs) i 0
+pub least : (k : ℕ) (cs : List Command) (i : ℕ) → i < length cs → 2 * k ≤ get_or (ranks_from k cs) i 0
 least k [] i h = absurd (omega arith)
 least k (c ∷ cs) zero h = elim (bool-or (closes c)) [
   | inl is ↦ subst (λ l. 2 * k ≤ get_or l 0 0) (sym (ranks-closing k c cs is)) (omega arith)

@@ -22,7 +22,7 @@ all-zip R (x ∷ xs) [] d len h = absurd (omega arith)
 all-zip R (x ∷ xs) (y ∷ ys) d len h = (h 0 x refl, all-zip R xs ys d (omega arith) (λ i z at. h (suc i) z at))
 
 -- what stands in a list doesn't depend on the default
-same-default : {A : Type 0} → (xs : List A) (i : ℕ) (d e : A) → i < length xs → get_or xs i d ≡ get_or xs i e
+pub same-default : {A : Type 0} → (xs : List A) (i : ℕ) (d e : A) → i < length xs → get_or xs i d ≡ get_or xs i e
 same-default [] i d e h = absurd (omega arith)
 same-default (x ∷ xs) zero d e h = refl
 same-default (x ∷ xs) (suc i) d e h = same-default xs i d e (omega arith)
@@ -66,7 +66,7 @@ ends with h commands waits history part i j low lower w =
     part.in_turn i j c.0 d.0 c.1 d.1 w
 
 -- the second members of a list of pairs
-second : {A : Type 0} → (with : Use) (commands : List Command) (history : List Event) (xs : List A) (i : ℕ) (d : A × Option ℕ) → length xs ≡ length commands
+pub second : {A : Type 0} → (with : Use) (commands : List Command) (history : List Event) (xs : List A) (i : ℕ) (d : A × Option ℕ) → length xs ≡ length commands
     → i < length (zip xs (places with commands history))
     → ((get_or (zip xs (places with commands history)) i d).1 ≡ place_in with commands history i) × ((get_or (zip xs (places with commands history)) i d).0 ≡ get_or xs i d.0) × (i < length commands)
 second {A} with commands history xs i d len h =

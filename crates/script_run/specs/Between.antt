@@ -1,16 +1,19 @@
 -- What holds between phases, where a phase begins and where it ends; and what is kept besides where the commands go one after the
 -- other.
-use Rattle.std.specs.Prelude.{ℕ, false, ◌≡◌, ◌≢◌, ◌<◌, ◌≤◌, IsTrue, Option, Some, None, List, [], ◌∷◌, ◌++◌, length, slice_get}
+use Rattle.std.specs.Prelude.{ℕ, true, false, ◌≡◌, ◌≢◌, ◌<◌, ◌≤◌, ◌⊎◌, IsTrue, Option, Some, None, List, [], ◌∷◌, ◌++◌, length, slice_get}
 use Rattle.dim_hierarchy.specs.Dimension.{Dimension}
 use Rattle.row_ledger.specs.Past.{event_at, is_beginning, is_over, session_in}
 use Rattle.row_ledger.specs.Right.{EachEvent}
 use Rattle.row_ledger.specs.declared.event.Event.{Event}
+use Rattle.row_ledger.specs.declared.event.Event.TheVariants.{Called}
+use Rattle.row_ledger.specs.declared.settings.Call.{Call}
 use Rattle.row_ledger.specs.declared.settings.Use.{Use}
 use Rattle.script_form.specs.declared.script.Command.{Command}
 use Rattle.script_run.specs.Parts.{IsPartAt, Waits, place_in}
+use Rattle.script_run.specs.Phases.{is_closing}
 use Rattle.script_run.specs.Places.{begins_of, count_of, session_of}
 use Rattle.script_run.specs.Pulls.{HasPulls}
-use Rattle.script_run.specs.Runs.{Begins, IsRunOf}
+use Rattle.script_run.specs.Runs.{Begins, EndsBefore, IsRunOf, IsRunSoFar}
 use Rattle.script_run.specs.Streams.{AreFinished, IsInPhase}
 
 -- Between phases.
@@ -65,3 +68,12 @@ OrderBeginLaw = (with : Use) (h : List Dimension) (front : List Command) (c : Co
     → count_of with (session_of with c) front ≡ length (begins_of history (session_of with c))
     → session_in e ≡ Some (session_of with c) → Begins with h c e
     → IsInOrder with h (front ++ c ∷ back) history → IsInOrder with h (front ++ c ∷ back) (e ∷ history)
+
+-- Closing commands.
+
+-- A command that closes its phase stands alone: each other one was over when it began, or began when it was over.
+abbrev pub ClosingLaw : Type 0
+ClosingLaw = (with : Use) (h : List Dimension) (commands : List Command) (history : List Event) (of p session : ℕ) (call : Call) (e : Event)
+    → IsRunSoFar with h commands history → event_at history of ≡ Some (Called session call) → is_closing call ≡ true
+    → event_at history p ≡ Some e → IsTrue (is_beginning e) → p ≢ of
+    → EndsBefore history (Some p) (Some of) ⊎ EndsBefore history (Some of) (Some p)

@@ -1,5 +1,5 @@
 //! Laws of runs, as histories grow.
-ghost use Rattle.script_run.specs.Between.{NoneBegunLaw, OrderBeginLaw, OrderOtherLaw, OrderStartLaw, PhaseEndLaw, PhaseStartLaw, ThroughLaw};
+ghost use Rattle.script_run.specs.Between.{ClosingLaw, NoneBegunLaw, OrderBeginLaw, OrderOtherLaw, OrderStartLaw, PhaseEndLaw, PhaseStartLaw, ThroughLaw};
 ghost use Rattle.script_run.specs.Parts.{PartLaw, SerialLaw};
 ghost use Rattle.script_run.specs.Streams.{StreamBeginLaw, FinishLaw, NextLaw, StreamOtherLaw, PhaseBeginLaw, PhaseOtherLaw, RankLaw, StartLaw};
 
@@ -40,4 +40,10 @@ pub fn commands_stay_in_order()
     ensures start { OrderStartLaw }
     ensures other { OrderOtherLaw }
     ensures begin { OrderBeginLaw }
+{}
+
+/// A command that closes its phase stands alone: each other one was over when it began, or began when it
+/// was over.
+pub fn closing_commands_stand_alone()
+    ensures { ClosingLaw }
 {}

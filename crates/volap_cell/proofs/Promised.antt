@@ -1,8 +1,8 @@
 -- The promises of the invariant: the one place of each row, and what images and queries have.
 use Rattle.std.proofs.Common.{◌≡◌, ◌≢◌, ℕ, zero, suc, ◌<◌, ◌≤◌, List, [], ◌∷◌, true, false, eqb, get_or, refl, sym, ap, subst, arith, ◌∙◌, ◌⊎◌, inl, inr}
-use Rattle.std.specs.Prelude.{Option, Some, None, Contains, IsTrue, Any}
+use Rattle.std.specs.Prelude.{All, Option, Some, None, Contains, IsTrue, Any, option_and_then}
 use Rattle.std.proofs.lemmas.Bool.{cases_lt, eq-eqb, false≢true}
-use Rattle.std.proofs.lemmas.List.Elements.{All-contains, All-contains_itself, Contains-append_cases}
+use Rattle.std.proofs.lemmas.List.Elements.{All-contains, All-contains_itself, All-head, Contains-append_cases}
 use Rattle.row_ledger.proofs.Descent.{comes_from-comparable, live-made}
 use Rattle.tree_shape.specs.Counts.{times}
 use Rattle.tree_shape.specs.Queries.{fits}
@@ -11,21 +11,22 @@ use Rattle.describing_set.specs.DescSet.{covers}
 use Rattle.describing_set.specs.declared.listing.Spot.{Spot}
 use Rattle.row_ledger.specs.Bounds.{known}
 use Rattle.dim_hierarchy.specs.declared.row.Row.{Row}
-use Rattle.query_router.specs.Desk.{is_refused, is_taken}
+use Rattle.query_router.specs.Desk.{is_refused, is_taken, is_waiting, state_is_refused, state_waits}
 use Rattle.query_router.specs.declared.part.Part.{Part}
 use Rattle.query_router.specs.declared.part.PartState.{PartState}
 use Rattle.query_router.specs.declared.part.PartState.TheVariants as state_is
-use Rattle.row_ledger.specs.Past.{Ack, Insert, Query, insert_at, is_kept, query_at}
+use Rattle.row_ledger.specs.Past.{Ack, Insert, Query, event_at, insert_at, is_kept, query_at, session_in}
 use Rattle.row_ledger.specs.Shards.{comes_from, is_live}
 use Rattle.row_ledger.specs.declared.event.Event.{Event}
-use Rattle.volap_cell.specs.Desking.{AreLinesApart, AreUnrelated, IsQueryState, IsTaken}
+use Rattle.volap_cell.specs.Desking.{AreLinesApart, AreUnrelated, IsInsertState, IsQueryState, IsTaken, is_on_desk}
 use Rattle.volap_cell.specs.Errands.{ReadPart, Taken, read_in_task, read_of, taken_by, taken_of}
 use Rattle.volap_cell.specs.Ghost.{Ghost}
 use Rattle.volap_cell.specs.Growing.{IsUnder, table_of}
 use Rattle.volap_cell.specs.ImageKinds.{doing}
 use Rattle.volap_cell.specs.Imaging.{IsCovered}
 use Rattle.volap_cell.specs.Invariant.{InvWith}
-use Rattle.volap_cell.specs.Promises.{HasNotRead, IsAheadOf, IsBeneath, IsCoveredBy, IsOnDesk, IsUnrouted, IsInOne, times_in, HasCounted, PlaceLaw, RowsLaw, ImageLaw, QueryLaw}
+use Rattle.volap_cell.specs.Promises.{HasNotRead, IsAheadOf, IsBeneath, IsCoveredBy, HasItsPlace, IsOnDesk, HasNotPassed, IsUnrouted, IsInOne, times_in, HasCounted, PlaceLaw, RowsLaw, ImageLaw, QueryLaw}
+use Rattle.volap_cell.specs.Placing.{IsRowPart}
 use Rattle.volap_cell.specs.Querying.{IsCounted, IsEndOfPart, IsInTreeOf, IsReading, IsWalk, must_hold, pins_of}
 use Rattle.volap_cell.specs.Setting.{Setting, actor_count, site_in}
 use Rattle.volap_cell.specs.Stocking.{IsWhole}
@@ -34,57 +35,123 @@ use Rattle.volap_cell.specs.Telling.{IsProgress}
 use Rattle.volap_cell.specs.Values.{ErrandValue, JobValue, TaskValue, OfRow, Unread, Read}
 use Rattle.volap_cell.specs.View.{View, row_at, view}
 use Rattle.volap_cell.specs.World.{World}
+use Rattle.volap_cell.specs.declared.command.Command.{Command}
 use Rattle.volap_cell.specs.declared.command.Work.{Work}
 use Rattle.volap_cell.specs.declared.command.Work.TheVariants as work_is
 use Rattle.volap_cell.specs.declared.role.Role.TheVariants.{Session}
 use Rattle.tree_shape.proofs.Walks.{on_bool, eqb-eq, eqb-ne}
 use Rattle.volap_cell.proofs.Beginnings.{acked-of, insert-ended, insert-session, no-query, no-call}
+use Rattle.volap_cell.proofs.InsertWays.{taken-way}
 use Rattle.volap_cell.proofs.Knowing.{acked-begun, known-acked}
 use Rattle.volap_cell.proofs.Standings.{standing, in-one, in-none}
 
 -- An insert that hasn't passed a gate stands on its server's desk, or isn't routed.
 
--- what the actor of an open insert does
-at-work : (s : Setting) (v : View) (g : Ghost) → InvWith s v g → (a r : ℕ) (i : Insert) (job : Option JobValue) (work : Work) → v.commands a ≡ doing r work → insert_at v.history r ≡ Some i
-    → IsProgress s v.history r work job (v.roles a) → IsOnDesk s v i r ⊎ IsUnrouted v r
-at-work s v g inv a r i job (work_is.Insert row false) command begun progress = inr (a, row, command)
-at-work s v g inv a r i job (work_is.Insert row true) command begun progress =
-    let server : progress.0 ≡ i.server = (let both : Some (record { server = progress.0; row = row }) ≡ Some i = sym progress.2 ∙ begun in cc) in
-    let role : v.roles a ≡ Session i.server = subst (λ n. v.roles a ≡ Session n) server progress.1 in
-    let within = (inv.telling.rows r i begun).1 in
-    let op = inv.desking.on_desk a i.server (record { of = r; work = work_is.Insert row true }) command role refl in
-    let one = inv.desking.insert i.server r i within op begun in
-    inl (op, (one.0, one.1))
-at-work s v g inv a r i job work_is.Query command begun progress = absurd (no-query v.history r i progress.0 begun progress.2)
-at-work s v g inv a r i job (work_is.Sync server pulled) command begun progress = absurd (no-call v.history r i _ begun progress.0)
-at-work s v g inv a r i job work_is.Barrier command begun progress = absurd (no-call v.history r i _ begun progress)
-at-work s v g inv a r i job (work_is.Settle pulls) command begun progress = absurd (no-call v.history r i _ begun progress.0)
-at-work s v g inv a r i job (work_is.Split shard) command begun progress = absurd (no-call v.history r i _ begun progress.0)
-at-work s v g inv a r i job (work_is.Move shard worker) command begun progress = absurd (no-call v.history r i _ begun progress.0)
-at-work s v g inv a r i job (work_is.Balance b) command begun progress = absurd (no-call v.history r i _ begun progress.0)
-at-work s v g inv a r i job (work_is.Shards shown) command begun progress = absurd (no-call v.history r i _ begun progress.0)
-at-work s v g inv a r i job (work_is.Tree shard stands shown) command begun progress = absurd (no-call v.history r i _ begun progress.0)
-at-work s v g inv a r i job (work_is.Audit shown) command begun progress = absurd (no-call v.history r i _ begun progress.0)
+module _ (s : Setting) (w : World) (g : Ghost) (inv : InvWith s (view s w) g) (r : ℕ) (i : Insert) (begun : insert_at (view s w).history r ≡ Some i) where
+  abbrev row_part : Part → PartState → Type 0
+  row_part p st = IsRowPart (view s w).history (view s w).images (view s w).ways g.placed g.path i.server r p st
 
-before-gate : (s : Setting) (v : View) (g : Ghost) → InvWith s v g → (r : ℕ) (i : Insert) → insert_at v.history r ≡ Some i → IsTrue (is_kept v.history r) → g.placed r ≡ false → IsOnDesk s v i r ⊎ IsUnrouted v r
-before-gate s v g inv r i begun kept out = (let its = insert-session v.history r i begun in elim (inv.telling.status its.0 r its.1) [
-  | inl over ↦
-      let k = acked-of _ _ v.history r i inv.telling.right.right.each begun (insert-ended v.history r i begun over) kept in
-      let placed : g.placed r ≡ true = subst (λ n. g.placed n ≡ true) k.2 (inv.placing.acked_rows k.0 k.1).0 in
-      absurd (false≢true (sym out ∙ placed))
-  | inr x ↦
-      let command : v.commands x.0 ≡ doing r x.1.work = x.2 ∙ ap (λ n. Some (record { of = n; work = x.1.work })) x.3 in
-      at-work s v g inv x.0 r i (v.jobs x.0) x.1.work command begun (subst (λ n. IsProgress s v.history n x.1.work (v.jobs x.0) (v.roles x.0)) x.3 (inv.telling.progress x.0 x.1 x.2))
-])
+  within : i.server < s.servers
+  within = (inv.telling.rows r i begun).1
+
+  -- of the one part of the insert
+  its-part : ((view s w).desks i.server).op ≡ Some r → (p : Part) → ((view s w).desks i.server).parts ≡ p ∷ [] → row_part p p.state
+  its-part op p alone = All-head (λ (p : Part). row_part p p.state) p [] (subst (All (λ (p : Part). row_part p p.state)) alone (inv.inserting.parts i.server r i within op begun))
+
+  its-taker : (p : Part) → ((view s w).desks i.server).parts ≡ p ∷ [] → is_taken p ≡ true → IsTaken (view s w).taken i.server p
+  its-taker p alone = All-head (λ (p : Part). is_taken p ≡ true → IsTaken (view s w).taken i.server p) p [] (subst (All (λ (p : Part). is_taken p ≡ true → IsTaken (view s w).taken i.server p)) alone (inv.desking.takers i.server within))
+
+  -- a part before a gate, by its state
+  outside : g.placed r ≡ false → ((view s w).desks i.server).op ≡ Some r → (p : Part) → ((view s w).desks i.server).parts ≡ p ∷ []
+      → (st : PartState) → p.state ≡ st → IsInsertState i st → row_part p st → HasNotPassed (view s w) i.server r p
+  outside out op p alone (state_is.Waiting wanted) is valid part = inl (rw is refl)
+  outside out op p alone state_is.Taken is valid part =
+      let t = its-taker p alone (rw is refl) in
+      let has = taken-way s w g inv r i t.0 t.1 begun (ap (λ n. ((view s w).desks n).op) t.3 ∙ op) t.2 in
+      inr (inr (rw is refl, (t.0, has.way, has.at, has.server_is ∙ t.3, has.number, sym (inv.inserting.on_way t.0 has.way has.at).passed ∙ ap g.placed has.number ∙ out)))
+  outside out op p alone (state_is.Placed path) is valid part = absurd (false≢true (sym out ∙ part.0))
+  outside out op p alone state_is.NoMemory is valid part = inr (inl (rw is refl))
+  outside out op p alone (state_is.Done total) is valid part = absurd valid
+
+  -- what the actor of an open insert does
+  at-work : g.placed r ≡ false → (a : ℕ) (job : Option JobValue) (work : Work) → (view s w).commands a ≡ doing r work → IsProgress s (view s w).history r work job ((view s w).roles a) → IsOnDesk s (view s w) i r ⊎ IsUnrouted (view s w) r
+  at-work out a job (work_is.Insert row false) command progress = inr (a, row, command)
+  at-work out a job (work_is.Insert row true) command progress =
+      let server : progress.0 ≡ i.server = (let both : Some (record { server = progress.0; row = row }) ≡ Some i = sym progress.2 ∙ begun in cc) in
+      let role : (view s w).roles a ≡ Session i.server = subst (λ n. (view s w).roles a ≡ Session n) server progress.1 in
+      let op = inv.desking.on_desk a i.server (record { of = r; work = work_is.Insert row true }) command role refl in
+      let one = inv.desking.insert i.server r i within op begun in
+      inl (record { op = op; part = one.0; alone = one.1; outside = outside out op one.0 one.1 one.0.state refl one.2 (its-part op one.0 one.1) })
+  at-work out a job work_is.Query command progress = absurd (no-query (view s w).history r i progress.0 begun progress.2)
+  at-work out a job (work_is.Sync server pulled) command progress = absurd (no-call (view s w).history r i _ begun progress.0)
+  at-work out a job work_is.Barrier command progress = absurd (no-call (view s w).history r i _ begun progress)
+  at-work out a job (work_is.Settle pulls) command progress = absurd (no-call (view s w).history r i _ begun progress.0)
+  at-work out a job (work_is.Split shard) command progress = absurd (no-call (view s w).history r i _ begun progress.0)
+  at-work out a job (work_is.Move shard worker) command progress = absurd (no-call (view s w).history r i _ begun progress.0)
+  at-work out a job (work_is.Balance b) command progress = absurd (no-call (view s w).history r i _ begun progress.0)
+  at-work out a job (work_is.Shards shown) command progress = absurd (no-call (view s w).history r i _ begun progress.0)
+  at-work out a job (work_is.Tree shard stands shown) command progress = absurd (no-call (view s w).history r i _ begun progress.0)
+  at-work out a job (work_is.Audit shown) command progress = absurd (no-call (view s w).history r i _ begun progress.0)
+
+  before-gate : IsTrue (is_kept (view s w).history r) → g.placed r ≡ false → IsOnDesk s (view s w) i r ⊎ IsUnrouted (view s w) r
+  before-gate kept out = (let its = insert-session (view s w).history r i begun in elim (inv.telling.status its.0 r its.1) [
+    | inl over ↦
+        let k = acked-of _ _ (view s w).history r i inv.telling.right.right.each begun (insert-ended (view s w).history r i begun over) kept in
+        let placed : g.placed r ≡ true = subst (λ n. g.placed n ≡ true) k.2 (inv.placing.acked_rows k.0 k.1).0 in
+        absurd (false≢true (sym out ∙ placed))
+    | inr x ↦
+        let command : (view s w).commands x.0 ≡ doing r x.1.work = x.2 ∙ ap (λ n. Some (record { of = n; work = x.1.work })) x.3 in
+        at-work out x.0 ((view s w).jobs x.0) x.1.work command (subst (λ n. IsProgress s (view s w).history n x.1.work ((view s w).jobs x.0) ((view s w).roles x.0)) x.3 (inv.telling.progress x.0 x.1 x.2))
+  ])
+
+  -- A row that has passed a gate is on no desk before one, and its insert is routed.
+
+  waits-out : (p : Part) (st : PartState) → p.state ≡ st → is_waiting p ≡ true → row_part p st → g.placed r ≡ false
+  waits-out p (state_is.Waiting wanted) is waits part = part.0
+  waits-out p state_is.Taken is waits part = absurd (false≢true (sym (ap state_waits is) ∙ waits))
+  waits-out p (state_is.Placed path) is waits part = absurd (false≢true (sym (ap state_waits is) ∙ waits))
+  waits-out p (state_is.Done total) is waits part = absurd (false≢true (sym (ap state_waits is) ∙ waits))
+  waits-out p state_is.NoMemory is waits part = absurd (false≢true (sym (ap state_waits is) ∙ waits))
+
+  refused-out : (p : Part) (st : PartState) → p.state ≡ st → is_refused p ≡ true → row_part p st → g.placed r ≡ false
+  refused-out p (state_is.Waiting wanted) is refused part = absurd (false≢true (sym (ap state_is_refused is) ∙ refused))
+  refused-out p state_is.Taken is refused part = absurd (false≢true (sym (ap state_is_refused is) ∙ refused))
+  refused-out p (state_is.Placed path) is refused part = absurd (false≢true (sym (ap state_is_refused is) ∙ refused))
+  refused-out p (state_is.Done total) is refused part = absurd (false≢true (sym (ap state_is_refused is) ∙ refused))
+  refused-out p state_is.NoMemory is refused part = part.0
+
+  desk-out : IsOnDesk s (view s w) i r → g.placed r ≡ false
+  desk-out d = elim d.outside [
+    | inl waits ↦ waits-out d.part d.part.state refl waits (its-part d.op d.part d.alone)
+    | inr other ↦ elim other [
+      | inl refused ↦ refused-out d.part d.part.state refl refused (its-part d.op d.part d.alone)
+      | inr x ↦ ap g.placed (sym x.1.4) ∙ (inv.inserting.on_way x.1.0 x.1.1 x.1.2).passed ∙ x.1.5
+    ]
+  ]
+
+  unrouted-out : IsUnrouted (view s w) r → g.placed r ≡ false
+  unrouted-out x = (inv.inserting.unrouted x.0 r x.1 x.2).0
+
+  -- and an insert that stands on a desk is routed
+  not-both : IsOnDesk s (view s w) i r → IsUnrouted (view s w) r → ⊥
+  not-both d x =
+      let its = inv.desking.whose i.server r within d.op in
+      let mine = inv.telling.own its.0 its.1 its.2 in
+      let other = inv.telling.own x.0 (record { of = r; work = work_is.Insert x.1 false }) x.2 in
+      let one : its.0 ≡ x.0 = (let there : option_and_then session_in (event_at (view s w).history r) ≡ Some its.0 = subst (λ n. option_and_then session_in (event_at (view s w).history n) ≡ Some its.0) its.3 mine in cc) in
+      let same : its.1 ≡ record { of = r; work = work_is.Insert x.1 false } = (let both : Some its.1 ≡ doing r (work_is.Insert x.1 false) = sym its.2 ∙ ap (view s w).commands one ∙ x.2 in cc) in
+      false≢true (ap (λ (c : Command). is_on_desk c.work) (sym same) ∙ its.5)
+
+  pub in-place : IsTrue (is_kept (view s w).history r) → HasItsPlace s (view s w) (standing s (view s w) g inv) i r
+  in-place kept = on_bool (g.placed r)
+      (λ placed. inl ((g.home r, in-one s (view s w) g inv r placed), (λ d. false≢true (sym (desk-out d) ∙ placed)), (λ x. false≢true (sym (unrouted-out x) ∙ placed))))
+      (λ out. let none = in-none s (view s w) g inv r out in elim (before-gate kept out) [
+        | inl d ↦ inr (inl (none, d, (λ x. not-both d x)))
+        | inr x ↦ inr (inr (none, (λ d. not-both d x), x))
+      ])
 
 pub place-law : PlaceLaw
-place-law s w inv =
-    let v = view s w in let g = inv.ghost_of in let i = inv.holds in (
-      standing s v g i,
-      λ r ins begun kept. on_bool (g.placed r)
-          (λ placed. inl (g.home r, in-one s v g i r placed))
-          (λ out. inr (in-none s v g i r out, before-gate s v g i r ins begun kept out)),
-    )
+place-law s w inv = (standing s (view s w) inv.ghost_of inv.holds, λ r i begun kept. in-place s w inv.ghost_of inv.holds r i begun kept)
 
 -- The rows of the shards that stand.
 
@@ -92,7 +159,7 @@ eqb-cases : (x y : ℕ) → (x ≡ y) ⊎ (x ≢ y)
 eqb-cases x y = on_bool (eqb x y) (λ q. inl (eqb-eq x y q)) (λ q. inr (eqb-ne x y q))
 
 -- a row that a shard has has passed a gate
-is-placed : (s : Setting) (v : View) (g : Ghost) (i : InvWith s v g) (x r : ℕ) → is_live s.workers v.history x ≡ true → 1 ≤ times_in v (standing s v g i).gate (standing s v g i).shape x r → g.placed r ≡ true
+pub is-placed : (s : Setting) (v : View) (g : Ghost) (i : InvWith s v g) (x r : ℕ) → is_live s.workers v.history x ≡ true → 1 ≤ times_in v (standing s v g i).gate (standing s v g i).shape x r → g.placed r ≡ true
 is-placed s v g i x r live some = on_bool (g.placed r) (λ placed. placed)
     (λ out. let none : times_in v (standing s v g i).gate (standing s v g i).shape x r ≡ 0 = in-none s v g i r out x live in absurd (omega arith))
 
@@ -141,7 +208,7 @@ image-law s w inv =
 -- Queries.
 
 -- the parts of a query with one shard are one, as a shard comes from itself
-apart-at : (h : List Event) (parts : List Part) (p other : Part) → AreLinesApart h parts → Contains parts p → Contains parts other → (p.shard ≡ other.shard) ⊎ AreUnrelated h p other
+pub apart-at : (h : List Event) (parts : List Part) (p other : Part) → AreLinesApart h parts → Contains parts p → Contains parts other → (p.shard ≡ other.shard) ⊎ AreUnrelated h p other
 apart-at h [] p other apart c d = absurd (Contains-nil p c)
 apart-at h (x ∷ parts) p other apart c d = elim (Contains-append_cases (x ∷ []) parts p c) [
   | inl first ↦ elim (Contains-append_cases (x ∷ []) parts other d) [
@@ -172,7 +239,7 @@ reads-taken None p is none = cc
 reads-taken (Some e) p is none = cc
 
 -- a gate to which an actor's part is pinned has a whole tree
-pinned-whole : (s : Setting) (w : World) (g : Ghost) → InvWith s (view s w) g → (a c : ℕ) (p : ReadPart) → (view s w).reads a ≡ Some p → p.reading.pin ≡ Some c
+pub pinned-whole : (s : Setting) (w : World) (g : Ghost) → InvWith s (view s w) g → (a c : ℕ) (p : ReadPart) → (view s w).reads a ≡ Some p → p.reading.pin ≡ Some c
     → IsWhole (view s w).gates (view s w).phases (view s w).pins c
 pinned-whole s w g i a c p reads pin =
     let v = view s w in
@@ -235,7 +302,7 @@ by-task e (Read x) is part t a b =
     let two : taken_by e ≡ t = cc in
     (ap (λ (p : ReadPart). p.server) one ∙ ap (λ (u : Taken). u.server) two, ap (λ (p : ReadPart). p.shard) one ∙ ap (λ (u : Taken). u.shard) two))
 
-reads-same : (errand : Option ErrandValue) (part : ReadPart) (t : Taken) → read_of errand ≡ Some part → taken_of errand ≡ Some t → (part.server ≡ t.server) × (part.shard ≡ t.shard)
+pub reads-same : (errand : Option ErrandValue) (part : ReadPart) (t : Taken) → read_of errand ≡ Some part → taken_of errand ≡ Some t → (part.server ≡ t.server) × (part.shard ≡ t.shard)
 reads-same None part t a b = cc
 reads-same (Some e) part t a b = by-task e e.task refl part t a b
 
@@ -268,7 +335,7 @@ by-state s w g i server of r q p under must fit op asked taker (state_is.Done to
 by-state s w g i server of r q p under must fit op asked taker (state_is.Placed path) is valid end = absurd valid
 by-state s w g i server of r q p under must fit op asked taker state_is.NoMemory is valid end = inr (inr (inr (inl (rw is refl)), (g.home r, in-one s (view s w) g i r under.is_placed, under.comes)))
 
-has-counted : (s : Setting) (w : World) (g : Ghost) (i : InvWith s (view s w) g) (server of : ℕ) (q : Query) → server < s.servers → ((view s w).desks server).op ≡ Some of
+pub has-counted : (s : Setting) (w : World) (g : Ghost) (i : InvWith s (view s w) g) (server of : ℕ) (q : Query) → server < s.servers → ((view s w).desks server).op ≡ Some of
     → query_at (view s w).history of ≡ Some q → HasCounted s (view s w) (standing s (view s w) g i) of server q
 has-counted s w g i server of q within op asked =
     let v = view s w in

@@ -4,7 +4,7 @@ use Rattle.std.specs.Prelude.{ℕ, ◌≡◌, ◌≢◌, ◌+◌, ◌<◌, ◌�
 use Rattle.dim_hierarchy.specs.declared.row.Row.{Row}
 use Rattle.describing_set.specs.DescSet.{covers}
 use Rattle.describing_set.specs.declared.listing.Spot.{Spot}
-use Rattle.query_router.specs.Desk.{is_refused, is_waiting}
+use Rattle.query_router.specs.Desk.{is_refused, is_taken, is_waiting}
 use Rattle.query_router.specs.declared.part.Part.{Part}
 use Rattle.row_ledger.specs.Bounds.{known}
 use Rattle.row_ledger.specs.Past.{Ack, Insert, Query, acked, insert_at, is_kept, query_at}
@@ -15,7 +15,7 @@ use Rattle.tree_shape.specs.Queries.{fits, items_of}
 use Rattle.tree_shape.specs.Shape.{Shape, nodes, numbers}
 use Rattle.tree_shape.specs.Trees.{IsTree}
 use Rattle.tree_shape.specs.Walks.{Noted, AreNoted, pending}
-use Rattle.volap_cell.specs.Errands.{ReadPart, Taken}
+use Rattle.volap_cell.specs.Errands.{ReadPart, RowWay, Taken, has_passed}
 use Rattle.volap_cell.specs.Ghost.{Ghost}
 use Rattle.volap_cell.specs.Growing.{table_of}
 use Rattle.volap_cell.specs.ImageKinds.{doing}
@@ -55,18 +55,34 @@ pub record IsInOne (s : Setting) (v : View) (t : Standing s v) (r x : ℕ) : Typ
 abbrev pub IsInNone : (s : Setting) (v : View) → Standing s v → ℕ → Type 0
 IsInNone s v t r = (x : ℕ) → is_live s.workers v.history x ≡ true → times_in v t.gate t.shape x r ≡ 0
 
--- the insert of the row stands on the desk of its server, by which one place is meant before its gate
-abbrev pub IsOnDesk : Setting → View → Insert → ℕ → Type 0
-IsOnDesk s v i r = ((v.desks i.server).op ≡ Some r) × ((p : Part) × ((v.desks i.server).parts ≡ p ∷ []))
+-- a part of the row's insert that hasn't passed a gate: it waits, or no memory was found for it, or an actor has it before its gate
+abbrev pub HasNotPassed : View → ℕ → ℕ → Part → Type 0
+HasNotPassed v server r p =
+    (is_waiting p ≡ true) ⊎ (is_refused p ≡ true)
+    ⊎ ((is_taken p ≡ true) × ((a : ℕ) × (way : RowWay) × (v.ways a ≡ Some way) × (way.server ≡ server) × (way.row.no ≡ r) × (has_passed way.place ≡ false)))
+
+-- the insert of the row stands on the desk of its server, and its one part hasn't passed a gate
+pub record IsOnDesk (s : Setting) (v : View) (i : Insert) (r : ℕ) : Type 0 where
+  pub op : (v.desks i.server).op ≡ Some r
+  pub part : Part
+  pub alone : (v.desks i.server).parts ≡ part ∷ []
+  pub outside : HasNotPassed v i.server r part
 
 -- an insert for which no part was routed yet
 abbrev pub IsUnrouted : View → ℕ → Type 0
 IsUnrouted v r = (a : ℕ) × (row : Row) × (v.commands a ≡ doing r (work_is.Insert row false))
 
--- Each row whose insert began and didn't fail is in one shard, once; or it is in none, and its insert stands on a desk or isn't routed.
+-- A row is in one place: in one shard that stands, once; or on a desk before a gate; or no part for it was routed yet.
+abbrev pub HasItsPlace : (s : Setting) (v : View) → Standing s v → Insert → ℕ → Type 0
+HasItsPlace s v t i r =
+    (((x : ℕ) × IsInOne s v t r x) × ¬ IsOnDesk s v i r × ¬ IsUnrouted v r)
+    ⊎ (IsInNone s v t r × IsOnDesk s v i r × ¬ IsUnrouted v r)
+    ⊎ (IsInNone s v t r × ¬ IsOnDesk s v i r × IsUnrouted v r)
+
+-- So is each row whose insert began and didn't fail.
 abbrev pub PlaceLaw : Type 0
 PlaceLaw = (s : Setting) (w : World) → Inv s w → (t : Standing s (view s w)) × ((r : ℕ) (i : Insert) → insert_at (view s w).history r ≡ Some i → IsTrue (is_kept (view s w).history r)
-    → ((x : ℕ) × IsInOne s (view s w) t r x) ⊎ (IsInNone s (view s w) t r × (IsOnDesk s (view s w) i r ⊎ IsUnrouted (view s w) r)))
+    → HasItsPlace s (view s w) t i r)
 
 -- The rows of the shards that stand: each was begun and hasn't failed, and each row that was acknowledged is there.
 abbrev pub RowsLaw : Type 0

@@ -8,8 +8,9 @@ pub fn opening_holds()
     ensures { OpeningLaw }
 {}
 
-/// Each row whose insert began and did not fail has one place: it is in one shard that stands, once, in
-/// its tree or its queue; or its insert stands on its server's desk, or no part for it was routed yet.
+/// Each row whose insert began and did not fail has just one place: it is in one shard that stands, once, in
+/// its tree or its queue; or its insert stands on its server's desk, and its part has not passed a gate; or no part
+/// for it was routed yet.
 pub fn each_row_has_one_place()
     ensures { PlaceLaw }
 {}

@@ -37,6 +37,12 @@ returns-in-Some-clause-no_memory g c = λ is. elim (c.run_source.ensures.no_memo
 pub returns-in-Some-clause-done : goal.returns-in-Some-clause-done
 returns-in-Some-clause-done g c = λ is. (c.in-Some.wanted, c.in-Some.ensures.some, c.run_source.ensures.done is)
 
+pub returns-in-Some-clause-settle : goal.returns-in-Some-clause-settle
+returns-in-Some-clause-settle g c = elim c.run_source.ensures.run [
+  | inl none ↦ inl none.2.0
+  | inr left ↦ inr (c.in-Some.wanted, c.in-Some.ensures.some, record { script = left.script; read = left.read; of_all = left.leaves.settling.of_all })
+]
+
 pub returns-in-Some-clause-run : goal.returns-in-Some-clause-run
 returns-in-Some-clause-run g c = elim c.run_source.ensures.run [
   | inl none ↦ inl none
@@ -87,6 +93,9 @@ returns-in-None-clause-no_memory g c = λ is. absurd (let same : status_is.BadWo
 
 pub returns-in-None-clause-done : goal.returns-in-None-clause-done
 returns-in-None-clause-done g c = λ is. absurd (let same : status_is.BadWords ≡ status_is.Done = sym c.without_run.ensures.status ∙ is in cc)
+
+pub returns-in-None-clause-settle : goal.returns-in-None-clause-settle
+returns-in-None-clause-settle g c = inl c.without_run.ensures.nothing.0
 
 pub returns-in-None-clause-run : goal.returns-in-None-clause-run
 returns-in-None-clause-run g c = inl (λ is. let same : status_is.BadWords ≡ status_is.Done = sym c.without_run.ensures.status ∙ is in cc, λ is. let same : status_is.BadWords ≡ status_is.WriteFault = sym c.without_run.ensures.status ∙ is in cc, c.without_run.ensures.nothing)

@@ -1,0 +1,4 @@
+pub mod PassedGates
+pub mod QuietLedger
+pub mod SameRows
+pub mod InLine
