@@ -10,8 +10,6 @@ mod part_list;
 mod path;
 mod plane;
 mod set;
-#[cfg(test)]
-mod tests;
 
 pub use bearing::Bearing;
 pub use few::{FewConcepts, MOST_OF_SET};

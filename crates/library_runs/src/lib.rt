@@ -7,6 +7,3 @@ mod text;
 
 pub use index::Index;
 pub use text::{Answered, run_text};
-
-#[cfg(test)]
-mod tests;

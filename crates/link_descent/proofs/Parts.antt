@@ -20,7 +20,7 @@ use Rattle.hierarchy_split.specs.Head.{kept_places, parted_places}
 use Rattle.hierarchy_split.proofs.Cuts.{cut_length}
 use Rattle.hierarchy_split.proofs.Crossings.{all_left, all_right}
 use Rattle.hierarchy_split.proofs.Partings.{kept_count, parts-order}
-use Rattle.dc_node.specs.Block.{rows_in, entries_in, size, is_full, IsBodyOf}
+use Rattle.dc_node.specs.Block.{size, is_full, IsBodyOf}
 use Rattle.dc_node.specs.Summary.{joined, aggs, row_count, IsSummary}
 use Rattle.dc_node.specs.declared.block.Body.{Body}
 use Rattle.dc_node.specs.declared.block.Body.TheVariants.{Rows, Entries}
@@ -71,10 +71,6 @@ rows-parts rows some more p =
     let d = length-append some more in
     let e = length_permutation rows (some ++ more) p in
     omega (arith, d, e)
-
-pub row_count-sum : (b : Body) → row_count b ≡ length (rows_in b) + sum_by weigh (entries_in b)
-row_count-sum (Rows rows) = omega arith
-row_count-sum (Entries entries) = let e = joined-count entries.items in omega (arith, e)
 
 pub IsSummary-count : (h : List Dimension) (b : Body) (total : Aggregate) (set : DescSet) → IsSummary h b total set → total.count ≡ row_count b
 IsSummary-count h (Rows rows) total set s = ap (λ a. a.count) s.0

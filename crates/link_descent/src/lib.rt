@@ -11,10 +11,6 @@ mod gate_reads;
 mod groups;
 mod item_sets;
 mod tail;
-#[cfg(test)]
-mod tests;
-#[cfg(test)]
-mod visit_tests;
 mod visits;
 
 pub use choice::pick;

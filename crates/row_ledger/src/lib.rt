@@ -8,8 +8,6 @@ mod ledger;
 mod page;
 mod settings;
 pub mod settled;
-#[cfg(test)]
-mod tests;
 pub mod worked;
 pub mod worked_balance;
 pub mod worked_pulls;

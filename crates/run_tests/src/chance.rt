@@ -45,10 +45,10 @@ pub(crate) struct Dice {
 }
 
 impl Dice {
-    /// By the generator of this number.
-    pub(crate) fn new(seed: u64) -> Dice {
+    /// By the generator of this number, in a stream of its own.
+    pub(crate) fn new(seed: u64, stream: u64) -> Dice {
         Dice {
-            words: Pcg32::new(seed, 1),
+            words: Pcg32::new(seed, stream),
         }
     }
 
@@ -57,6 +57,19 @@ impl Dice {
         ensures below { 0 < sides → result < sides }
     {
         self.words.next_word() % sides.max(1)
+    }
+
+    /// The same, of up to 64 bits; it is below 2 to the 32nd.
+    pub(crate) fn number(&mut self, sides: u64) -> u64
+        ensures below { 0 < sides → result < sides }
+        ensures few { result < 2 ^ 32 }
+    {
+        u64::from(self.words.next_word()) % sides.max(1)
+    }
+
+    /// Whether one of so many sides is up.
+    pub(crate) fn hits(&mut self, sides: u64) -> bool {
+        self.number(sides) == 0
     }
 
     /// The number of one of two servers, or of two workers.

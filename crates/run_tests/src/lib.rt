@@ -2,9 +2,19 @@
 #![tactic(auto)]
 
 #[cfg(test)]
+mod against_flat;
+#[cfg(test)]
 mod bounds;
 #[cfg(test)]
+mod by_seed;
+#[cfg(test)]
+mod cells;
+#[cfg(test)]
 mod chance;
+#[cfg(test)]
+mod flat;
+#[cfg(test)]
+mod indexes;
 #[cfg(test)]
 mod phases;
 #[cfg(test)]
@@ -17,3 +27,7 @@ mod scripts;
 mod shard_stories;
 #[cfg(test)]
 mod stories;
+#[cfg(test)]
+mod top;
+#[cfg(test)]
+mod trees;

@@ -1,7 +1,7 @@
-//! Phases in order and by seeds, beside a plain reading of what their answers must and may count.
+//! Phases by seeds, beside a plain reading of what their answers must and may count.
 use crate::bounds::{Tally, judge_all};
 use crate::chance::{Dice, lines};
-use crate::runs::{answers, events, run_script};
+use crate::runs::{events, run_script};
 use crate::scripts::{Line, script};
 use row_ledger::Call;
 use seeded_run::Schedule;
@@ -43,17 +43,6 @@ const PHASES: [Line; 27] = [
     Line::Call(Call::Tree(0)),
 ];
 
-/// What is answered where these go one after the other.
-const IN_ORDER: &str =
-    "0 0 - -; 2 3 1 2; 2 3 1 2; 2 5 1 4; 1 2 2 2; unknown 0; unknown 0; 2 10 2 8; 4 15 1 8; 4 15 1 8; 3 81 1 64; 3 42 2 32; 7 127 1 64; 7 127 1 64; ";
-
-/// What is answered to lines that go one after the other.
-fn told(alloc: Global, lines: &[Line]) -> Result<String, AllocError> {
-    let script = script(alloc, WORLD, lines)?;
-    let state = run_script(alloc, &script, &mut Schedule::Order)?;
-    answers(alloc, events(&state))
-}
-
 /// What is found of the answers to lines.
 fn tally(alloc: Global, lines: &[Line], schedule: &mut Schedule) -> Result<Tally, AllocError> {
     let script = script(alloc, WORLD, lines)?;
@@ -73,7 +62,7 @@ fn by_seeds(alloc: Global, lines: &[Line], seeds: u64) -> Result<Tally, AllocErr
 
 /// What is found of the answers to so many scripts by chance, of five phases each.
 fn by_chance(alloc: Global, scripts: u64) -> Result<Tally, AllocError> {
-    let dice = &mut Dice::new(1);
+    let dice = &mut Dice::new(1, 1);
     let mut found = Tally::NONE;
     for seed in 0..scripts {
         let lines = lines(alloc, dice, 5, 14)?;
@@ -81,13 +70,6 @@ fn by_chance(alloc: Global, scripts: u64) -> Result<Tally, AllocError> {
         found = found.join(&one);
     }
     Ok(found)
-}
-
-#[test]
-fn phases_in_order(rt: HostRuntime) -> Result<(), Fail> {
-    let alloc = rt.alloc();
-    assert_eq!(rt; told(alloc, &PHASES)?.as_str(), IN_ORDER);
-    Ok(())
 }
 
 #[test]

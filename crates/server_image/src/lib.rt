@@ -6,8 +6,6 @@ mod image;
 mod rank;
 mod registry;
 mod spots;
-#[cfg(test)]
-mod tests;
 
 pub use image::{Growth, Image};
 pub use registry::Registry;

@@ -9,6 +9,8 @@ mod fixtures;
 #[cfg(test)]
 mod generated;
 #[cfg(test)]
+mod ledgers;
+#[cfg(test)]
 mod scripts;
 #[cfg(test)]
 mod streams;

@@ -170,8 +170,10 @@ fn expect_built<R: Abort>(
     expect_rows(rt, alloc, &tree, count)
 }
 
-#[test]
-fn built_trees_are_read_back(rt: HostRuntime) -> Result<(), Fail> {
+/// Compares the trees of few rows and of many.
+fn expect_all<R: Abort>(rt: &R, alloc: Global, h: &Hierarchy) -> Result<(), Fail>
+    requires { length h.now ≡ 1 }
+{
     const CASES: [(u32, usize, u32); 5] = [
         (0, 1, 1),
         (1, 1, 1),
@@ -179,10 +181,14 @@ fn built_trees_are_read_back(rt: HostRuntime) -> Result<(), Fail> {
         (25, 3, 2),
         (289, 16, 3),
     ];
-    let alloc = rt.alloc();
-    let h = hierarchy(alloc, &STORES)?;
     for case in &CASES {
-        expect_built(&rt, alloc, &h, case)?;
+        expect_built(rt, alloc, h, case)?;
     }
     Ok(())
+}
+
+#[test]
+fn built_trees_are_read_back(rt: HostRuntime) -> Result<(), Fail> {
+    let alloc = rt.alloc();
+    expect_all(&rt, alloc, &hierarchy(alloc, &STORES)?)
 }

@@ -18,25 +18,30 @@ type At = [&'static str; 2];
 type Kind = (u8, &'static [At]);
 
 /// Three places of a country, and years of two decades.
-const WORLD: [Dim; 2] = [
-    (
-        "place",
-        2,
-        &[["-", "D"], ["D", "a"], ["D", "b"], ["D", "c"]],
-    ),
-    (
-        "year",
-        2,
-        &[
-            ["-", "V"],
-            ["V", "x"],
-            ["V", "y"],
-            ["V", "z"],
-            ["-", "W"],
-            ["W", "w"],
-        ],
-    ),
-];
+fn world(alloc: Global) -> Result<Hierarchy, Fail>
+    ensures { IfOk result (λ h. length h ≡ 2) }
+{
+    const WORLD: [Dim; 2] = [
+        (
+            "place",
+            2,
+            &[["-", "D"], ["D", "a"], ["D", "b"], ["D", "c"]],
+        ),
+        (
+            "year",
+            2,
+            &[
+                ["-", "V"],
+                ["V", "x"],
+                ["V", "y"],
+                ["V", "z"],
+                ["-", "W"],
+                ["W", "w"],
+            ],
+        ),
+    ];
+    hierarchy(alloc, &WORLD)
+}
 
 /// Items in one place and in one year.
 const AX: &[At] = &[["a", "x"]];
@@ -162,7 +167,7 @@ fn good_cuts(rt: HostRuntime) -> Result<(), Fail> {
         ),
     ];
     let alloc = rt.alloc();
-    expect_cuts(&rt, alloc, &hierarchy(alloc, &WORLD)?, &CASES)
+    expect_cuts(&rt, alloc, &world(alloc)?, &CASES)
 }
 
 /// Compares the order of the good cut of items, and how many go left.
@@ -187,7 +192,7 @@ fn expect_order<R: Abort>(
 fn ties_stay_in_order(rt: HostRuntime) -> Result<(), Fail> {
     const KINDS: [Kind; 5] = [(1, BX), (1, AX), (1, BX), (1, AX), (1, BX)];
     let alloc = rt.alloc();
-    let h = hierarchy(alloc, &WORLD)?;
+    let h = world(alloc)?;
     expect_order(&rt, alloc, &h, &KINDS, &[1, 3, 0, 2, 4], Some((0, 2, 2)))
 }
 
@@ -330,7 +335,7 @@ fn good_head_cuts(rt: HostRuntime) -> Result<(), Fail> {
         (&[(2, TWO), (2, CX)], &[(1, BX)], Some((0, 2, "c", 2))),
     ];
     let alloc = rt.alloc();
-    expect_head_cuts(&rt, alloc, &hierarchy(alloc, &WORLD)?, &CASES)
+    expect_head_cuts(&rt, alloc, &world(alloc)?, &CASES)
 }
 
 /// Seven places of one country and one of another, and three years of a decade.

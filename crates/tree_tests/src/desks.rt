@@ -56,14 +56,18 @@ fn take<R: Abort>(rt: &R, desk: &mut Desk, worker: u8) -> Part {
     desk.take(place)
 }
 
-/// The first part is taken, and two stand in its place.
-fn expands<R: Abort>(rt: &R, alloc: Global, desk: &mut Desk) -> Result<(), Fail> {
+/// The first part is taken.
+fn takes<R: Abort>(rt: &R, desk: &mut Desk) {
     let taken = take(rt, desk, 1);
     assert_eq!(rt; (taken.shard, taken.worker), (4, 1));
     assert_eq!(rt;
         [desk.ready(1), desk.taken(4, 1), desk.taken(4, 0)],
         [None, Some(0), None]
     );
+}
+
+/// Two parts stand in the place of the one that was taken.
+fn expands<R: Abort>(rt: &R, alloc: Global, desk: &mut Desk) -> Result<(), Fail> {
     let place = desk.taken(4, 1).expect(rt, "the part taken");
     desk.expand(place, part(alloc, 5, 1), part(alloc, 6, 1))?;
     Ok(())
@@ -88,6 +92,7 @@ fn two_parts_stand_in_the_place_of_the_one_taken(rt: HostRuntime) -> Result<(), 
         [desk.ready(0), desk.ready(1), desk.ready(2)],
         [Some(1), Some(0), None]
     );
+    takes(&rt, desk);
     expands(&rt, alloc, desk)?;
     expect_shards(&rt, alloc, desk, &[5, 6, 0])?;
     finishes(&rt, desk);

@@ -1,14 +1,22 @@
 //! Hierarchies made of tables, and names, coordinates and rows over them.
-ghost use Rattle.std.specs.Prelude.{◌≡◌, ◌+◌, length, IfOk, OnOk};
+ghost use Rattle.std.specs.Prelude.{◌≡◌, ◌+◌, length, All, IfOk, OnOk};
+ghost use Rattle.dim_hierarchy.specs.Filter.{IsFilterOf, IsNamePick};
 ghost use Rattle.dim_hierarchy.specs.Row.{IsCoordOf, IsRowOf};
+ghost use Rattle.describing_set.specs.DescSet.{IsDescSetOf};
 
-use dim_hierarchy::{Coord, Hierarchy, Name, Names, Row, RowNames};
+use describing_set::DescSet;
+use dim_hierarchy::{
+    Coord, Filter, FilterFault, Hierarchy, Name, NameFilter, NamePick, Names, Row, RowNames,
+};
 use std::alloc::{AllocError, Global};
 use std::test::Fail;
 
 /// A dimension: its name, how many levels it has, and its concepts in their order, each after the
 /// name of its parent, or after `-` where it has none.
 pub type Dim = (&'static str, u8, &'static [[&'static str; 2]]);
+
+/// Two places.
+pub const PLACES: [Dim; 1] = [("place", 1, &[["-", "a"], ["-", "b"]])];
 
 /// Adds a concept under the one that has the name of its parent, or on top where none has it.
 fn add_concept(
@@ -69,7 +77,7 @@ pub fn hierarchy(alloc: Global, dims: &[Dim]) -> Result<Hierarchy, Fail>
 }
 
 /// A list of names.
-pub fn names(alloc: Global, texts: &[&str]) -> Result<Names, AllocError>
+fn names(alloc: Global, texts: &[&str]) -> Result<Names, AllocError>
     ensures { IfOk result (λ names. length names ≡ length texts.now) }
 {
     let mut names = Names::new(alloc);
@@ -77,6 +85,39 @@ pub fn names(alloc: Global, texts: &[&str]) -> Result<Names, AllocError>
         names.push(Name::from_bytes(alloc, text.as_bytes())?)?;
     }
     Ok(names)
+}
+
+/// A pick of these names, of all where there is none.
+fn pick(alloc: Global, texts: &[&str]) -> Result<NamePick, AllocError>
+    ensures { IfOk result IsNamePick }
+{
+    if texts.is_empty() {
+        return Ok(NamePick::All);
+    }
+    Ok(NamePick::Any(names(alloc, texts)?))
+}
+
+/// A pick for each list of names.
+fn picks(alloc: Global, lists: &[&[&str]]) -> Result<NameFilter, AllocError>
+    ensures count { IfOk result (λ picks. length picks ≡ length lists.now) }
+    ensures some { IfOk result (All IsNamePick) }
+{
+    let mut picks = NameFilter::new(alloc);
+    for texts in lists {
+        picks.push(pick(alloc, texts)?)?;
+    }
+    Ok(picks)
+}
+
+/// The filter of lists of names.
+pub fn filter(alloc: Global, h: &Hierarchy, lists: &[&[&str]]) -> Result<Filter, FilterFault>
+    requires { length lists.now ≡ length h.now }
+    ensures { IfOk result (IsFilterOf h.now) }
+{
+    let Ok(picks) = picks(alloc, lists) else {
+        return Err(FilterFault::NoMemory);
+    };
+    h.filter(alloc, &picks)
 }
 
 /// The names of a row, of each text its first 255 bytes.
@@ -97,6 +138,18 @@ pub fn coord(alloc: Global, h: &Hierarchy, texts: &[&str]) -> Result<Coord, Fail
     ensures { IfOk result (IsCoordOf h.now) }
 {
     Ok(h.coord(&row_names(alloc, texts)?)?)
+}
+
+/// The set of leaf concepts, by their names, where there is one dimension.
+pub fn one_set(alloc: Global, h: &Hierarchy, texts: &[&str]) -> Result<DescSet, Fail>
+    requires { length h.now ≡ 1 }
+    ensures { IfOk result (IsDescSetOf h.now) }
+{
+    let mut set = DescSet::empty(h);
+    for text in texts {
+        set.grow(h, &coord(alloc, h, &[*text])?);
+    }
+    Ok(set)
 }
 
 /// The row of a number at a leaf concept, where there is one dimension.

@@ -4,7 +4,7 @@ ghost use Rattle.dim_hierarchy.specs.Row.{IsRowOf};
 ghost use Rattle.shard_store.specs.Gate.{IsQueueOf};
 ghost use Rattle.shard_store.specs.declared.gate.Phase as Phase;
 
-use crate::fixtures::{Dim, hierarchy, row};
+use crate::fixtures::{PLACES, hierarchy, row};
 use describing_set::DescSet;
 use dim_hierarchy::{Hierarchy, Row};
 use measure_agg::Agg;
@@ -12,9 +12,6 @@ use shard_store::{Gate, NotYet, Phase};
 use std::alloc::{AllocError, Global};
 use std::process::Abort;
 use std::test::Fail;
-
-/// Two places.
-const PLACES: [Dim; 1] = [("place", 1, &[["-", "a"], ["-", "b"]])];
 
 /// Adds a row to a queue of few rows.
 fn enqueue<R: Abort>(rt: &R, h: &Hierarchy, gate: &mut Gate, row: &Row) -> Result<(), AllocError>

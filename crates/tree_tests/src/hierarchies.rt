@@ -1,16 +1,15 @@
 //! What is tested of `dim_hierarchy`.
-ghost use Rattle.std.specs.Prelude.{◌≡◌, ◌<◌, length, All, IfOk};
+ghost use Rattle.std.specs.Prelude.{◌≡◌, ◌<◌, length, IfOk};
 ghost use Rattle.dim_hierarchy.specs.Tree.{IsConcept};
 ghost use Rattle.dim_hierarchy.specs.Dimension.{tree};
 ghost use Rattle.dim_hierarchy.specs.Row.{IsCoordOf};
-ghost use Rattle.dim_hierarchy.specs.Filter.{IsFilterOf, IsNamePick};
 
-use crate::fixtures::{Dim, coord, hierarchy, names, row_names};
+use crate::fixtures::{Dim, coord, filter, hierarchy, row_names};
 use dim_hierarchy::{
     CompiledFilter, ConceptFault, ConceptId, Coord, DimFault, Filter, FilterFault, Hierarchy, Name,
-    NameFilter, NamePick, Pick,
+    Pick,
 };
-use std::alloc::{AllocError, Global};
+use std::alloc::Global;
 use std::process::Abort;
 use std::test::Fail;
 
@@ -29,20 +28,25 @@ const MITTE: ConceptId = ConceptId(0x3000_0000);
 const BLUE: ConceptId = ConceptId(0x1000_0001);
 
 /// Three cities in their countries, and the colors red and blue.
-const WORLD: [Dim; 2] = [
-    (
-        "geo",
-        2,
-        &[
-            ["-", "de"],
-            ["-", "fr"],
-            ["de", "berlin"],
-            ["de", "munich"],
-            ["fr", "paris"],
-        ],
-    ),
-    ("color", 1, &[["-", "red"], ["-", "blue"]]),
-];
+fn world(alloc: Global) -> Result<Hierarchy, Fail>
+    ensures { IfOk result (λ h. length h ≡ 2) }
+{
+    const WORLD: [Dim; 2] = [
+        (
+            "geo",
+            2,
+            &[
+                ["-", "de"],
+                ["-", "fr"],
+                ["de", "berlin"],
+                ["de", "munich"],
+                ["fr", "paris"],
+            ],
+        ),
+        ("color", 1, &[["-", "red"], ["-", "blue"]]),
+    ];
+    hierarchy(alloc, &WORLD)
+}
 
 /// Two countries, two cities of one and a part of a city.
 const TOWNS: [Dim; 1] = [(
@@ -133,7 +137,7 @@ fn concepts_are_added(rt: HostRuntime) -> Result<(), Fail> {
 
 #[test]
 fn leaves_are_told_and_names_found(rt: HostRuntime) -> Result<(), Fail> {
-    let h = hierarchy(rt.alloc(), &WORLD)?;
+    let h = world(rt.alloc())?;
     let leaves = (h.is_leaf(0, PARIS), h.is_leaf(0, FR), h.is_leaf(1, PARIS));
     let found = (h.find_bytes(0, b"paris"), h.find_bytes(1, b"paris"));
     assert_eq!(rt;
@@ -164,40 +168,7 @@ fn expect_coords<R: Abort>(rt: &R, alloc: Global, h: &Hierarchy) -> Result<(), F
 #[test]
 fn names_make_coordinates(rt: HostRuntime) -> Result<(), Fail> {
     let alloc = rt.alloc();
-    expect_coords(&rt, alloc, &hierarchy(alloc, &WORLD)?)
-}
-
-/// A pick of these names, of all where there is none.
-fn pick(alloc: Global, texts: &[&str]) -> Result<NamePick, AllocError>
-    ensures { IfOk result IsNamePick }
-{
-    if texts.is_empty() {
-        return Ok(NamePick::All);
-    }
-    Ok(NamePick::Any(names(alloc, texts)?))
-}
-
-/// A pick for each list of names.
-fn picks(alloc: Global, lists: &[&[&str]]) -> Result<NameFilter, AllocError>
-    ensures count { IfOk result (λ picks. length picks ≡ length lists.now) }
-    ensures some { IfOk result (All IsNamePick) }
-{
-    let mut picks = NameFilter::new(alloc);
-    for texts in lists {
-        picks.push(pick(alloc, texts)?)?;
-    }
-    Ok(picks)
-}
-
-/// The filter of lists of names.
-fn filter(alloc: Global, h: &Hierarchy, lists: &[&[&str]]) -> Result<Filter, FilterFault>
-    requires { length lists.now ≡ length h.now }
-    ensures { IfOk result (IsFilterOf h.now) }
-{
-    let Ok(picks) = picks(alloc, lists) else {
-        return Err(FilterFault::NoMemory);
-    };
-    h.filter(alloc, &picks)
+    expect_coords(&rt, alloc, &world(alloc)?)
 }
 
 /// The ids that are picked in the first dimension, where all are picked in the second.
@@ -211,7 +182,7 @@ fn ids_of(filter: &Filter) -> Option<&[ConceptId]> {
 #[test]
 fn names_make_filters(rt: HostRuntime) -> Result<(), Fail> {
     let alloc = rt.alloc();
-    let h = hierarchy(alloc, &WORLD)?;
+    let h = world(alloc)?;
     let known = filter(alloc, &h, &[&["berlin", "de"], &[]])?;
     assert_eq!(rt; ids_of(&known), Some([BERLIN, DE].as_slice()));
     Ok(())
@@ -220,7 +191,7 @@ fn names_make_filters(rt: HostRuntime) -> Result<(), Fail> {
 #[test]
 fn an_unknown_name_makes_no_filter(rt: HostRuntime) -> Result<(), Fail> {
     let alloc = rt.alloc();
-    let h = hierarchy(alloc, &WORLD)?;
+    let h = world(alloc)?;
     let fault = filter(alloc, &h, &[&["de", "rome"], &["green"]]).err();
     assert_eq!(rt; fault, Some(FilterFault::Unknown { dim: 0 }));
     Ok(())
@@ -254,7 +225,7 @@ fn expect_matches<R: Abort>(rt: &R, alloc: Global, h: &Hierarchy) -> Result<(), 
 #[test]
 fn filters_match_what_is_under_a_pick(rt: HostRuntime) -> Result<(), Fail> {
     let alloc = rt.alloc();
-    expect_matches(&rt, alloc, &hierarchy(alloc, &WORLD)?)
+    expect_matches(&rt, alloc, &world(alloc)?)
 }
 
 /// A compiled filter.

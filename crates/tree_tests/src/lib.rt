@@ -26,6 +26,8 @@ mod pages;
 #[cfg(test)]
 mod plans;
 #[cfg(test)]
+mod sets;
+#[cfg(test)]
 mod sizes;
 #[cfg(test)]
 mod stocks;

@@ -13,8 +13,6 @@ mod laws;
 mod opening;
 mod role;
 mod state;
-#[cfg(test)]
-mod tests;
 
 pub use actor::{About, Actor};
 pub use boxes::Boxes;

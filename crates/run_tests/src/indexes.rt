@@ -1,0 +1,130 @@
+//! What is tested of `library_runs`: an index for one thread that is built, filled and asked, and a script from its bytes
+//! to its text.
+ghost use Rattle.std.specs.Prelude.{◌≡◌, All, IfOk, length};
+ghost use Rattle.dim_hierarchy.specs.Filter.{IsNamePick};
+ghost use Rattle.library_runs.specs.Index.{IsHeld};
+
+use dim_hierarchy::{Hierarchy, Name, NameFilter, NamePick, Names, RowNames};
+use library_runs::{Index, run_text};
+use measure_agg::Agg;
+use olap_top::Status;
+use script_form::{Script, read_script};
+use std::alloc::{AllocError, Global};
+use std::test::Fail;
+
+/// A country with two towns.
+const TOWNS: &str =
+    "volap,1\nuse,1,1,1,64\ndim,geo,2\nconcept,geo,de,*\nconcept,geo,berlin,de\nconcept,geo,munich,de\n";
+
+/// The hierarchy of the towns.
+fn towns(alloc: Global) -> Result<Hierarchy, Fail>
+    ensures { IfOk result (λ h. length h ≡ 1) }
+{
+    let Ok(script) = read_script(alloc, TOWNS.as_bytes()) else {
+        return Err("the script is good".into());
+    };
+    let Script { hierarchy, .. } = script;
+    if hierarchy.dims() != 1 {
+        return Err("there is one dimension".into());
+    }
+    Ok(hierarchy)
+}
+
+/// The one name of a row, of a text its first 255 bytes.
+fn names(alloc: Global, text: &str) -> Result<RowNames, AllocError>
+    ensures { IfOk result (λ names. length names ≡ 1) }
+{
+    let bytes = text.as_bytes();
+    let mut names = RowNames::new(alloc);
+    names.push(&bytes[..bytes.len().min(255)])?;
+    Ok(names)
+}
+
+/// What lies under one name.
+fn under(alloc: Global, text: &str) -> Result<NameFilter, AllocError>
+    ensures one { IfOk result (λ filter. length filter ≡ 1) }
+    ensures some { IfOk result (λ filter. All IsNamePick filter) }
+{
+    let mut names = Names::new(alloc);
+    names.push(Name::from_bytes(alloc, text.as_bytes())?)?;
+    let mut filter = NameFilter::new(alloc);
+    filter.push(NamePick::Any(names))?;
+    Ok(filter)
+}
+
+/// The count, the sum, the least and the greatest.
+fn parts(total: Option<Agg>) -> Option<(u64, i128, Option<i64>, Option<i64>)> {
+    let total = total?;
+    Some((total.count(), total.sum(), total.least(), total.greatest()))
+}
+
+/// An index of two rows of Berlin and one of Munich.
+fn filled(alloc: Global) -> Result<Index, Fail>
+    ensures held { IfOk result IsHeld }
+    ensures dims { IfOk result (λ x. length x.hierarchy ≡ 1) }
+{
+    let index = Index::open(alloc, towns(alloc)?, 64)?;
+    let index = index.insert(alloc, names(alloc, "berlin")?, 5)?;
+    let index = index.insert(alloc, names(alloc, "munich")?, 7)?;
+    let index = index.insert(alloc, names(alloc, "berlin")?, -9)?;
+    Ok(index)
+}
+
+#[test]
+fn an_index_counts_what_came_in(rt: HostRuntime) -> Result<(), Fail> {
+    let alloc = rt.alloc();
+    let index = filled(alloc)?;
+    assert_eq!(rt; parts(index.answer()), None);
+    let index = index.query(alloc, under(alloc, "berlin")?)?;
+    assert_eq!(rt; parts(index.answer()), Some((2, -4, Some(-9), Some(5))));
+    let index = index.query(alloc, under(alloc, "de")?)?;
+    assert_eq!(rt; parts(index.answer()), Some((3, 3, Some(-9), Some(7))));
+    // The first pull, and a beginning and an end of each command.
+    assert_eq!(rt; index.events().len(), 11);
+    Ok(())
+}
+
+#[test]
+fn an_index_answers_nothing_of_a_name_that_it_does_not_know(rt: HostRuntime) -> Result<(), Fail> {
+    let alloc = rt.alloc();
+    let index = filled(alloc)?;
+    let index = index.query(alloc, under(alloc, "paris")?)?;
+    assert_eq!(rt; parts(index.answer()), None);
+    Ok(())
+}
+
+/// A script of two servers, and its lines.
+const SCRIPT: &str = "volap,1\ndim,geo,1\nconcept,geo,de,*\ninsert,0,5,de\nsettle\nquery,1,de\n";
+
+const LINES: &str = "1 insert ok\n2 settle ok\n3 query 1 5 5 5\n";
+
+#[test]
+fn a_script_from_bytes_to_bytes(rt: HostRuntime) -> Result<(), Fail> {
+    let alloc = rt.alloc();
+    let script = SCRIPT.as_bytes().to_vec(alloc)?;
+    let Ok(answered) = run_text(&rt, alloc, script, 1000) else {
+        panic!(rt; "the script is good");
+    };
+    assert_eq!(rt; answered.text.as_slice(), LINES.as_bytes());
+    // Two first pulls, a beginning and an end of each command, and the four pulls of the settle.
+    assert_eq!(rt; answered.ledger.len(), 12);
+    Ok(())
+}
+
+#[test]
+fn a_script_that_is_not_answered(rt: HostRuntime) -> Result<(), Fail> {
+    let alloc = rt.alloc();
+    let cases: [(&str, usize, Status); 3] = [
+        ("volap,2\n", 1000, Status::BadScript),
+        ("volap,2\n", 3, Status::BadScript),
+        (SCRIPT, 5, Status::WriteFault),
+    ];
+    for (text, room, status) in cases {
+        let script = text.as_bytes().to_vec(alloc)?;
+        let Err(found) = run_text(&rt, alloc, script, room) else {
+            panic!(rt; "it is not answered");
+        };
+        assert_eq!(rt; found, status);
+    }
+    Ok(())
+}
