@@ -8,6 +8,7 @@ of 4 countries, 200 articles in 20 lines of 5 groups. One server takes ROWS sale
 shuffled, with QUERIES queries spread evenly among them. A query picks in each dimension everything or
 one concept of some level, each with a fixed chance."""
 import random
+import signal
 import sys
 
 LEVELS = {
@@ -67,4 +68,6 @@ def script(rows, queries, seed, shuffled):
 if __name__ == "__main__":
     if len(sys.argv) not in (4, 5) or sys.argv[4:] not in ([], ["shuffled"]):
         sys.exit(__doc__)
+    # It ends quietly where its reader goes away.
+    signal.signal(signal.SIGPIPE, signal.SIG_DFL)
     print("\n".join(script(*map(int, sys.argv[1:4]), len(sys.argv) == 5)))
