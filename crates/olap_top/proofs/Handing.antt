@@ -1,7 +1,10 @@
 -- The ledger in its cell, of a core that one thread holds.
-use Rattle.std.proofs.Common.{◌≡◌, ◌∙◌, ℕ, zero, suc, ◌<◌, false, eqb, List, [], ◌∷◌, length, get_or, set, Option, Some, None, refl, sym, ap, subst, arith}
+use Rattle.std.proofs.Common.{◌≡◌, ◌∙◌, ℕ, zero, suc, ◌<◌, true, false, eqb, List, [], ◌∷◌, length, get_or, set, Option, Some, None, refl, sym, ap, subst, arith}
+use Rattle.std.specs.Prelude.{All, is_some}
 use Rattle.std.specs.Option.{option_map_or}
 use Rattle.std.proofs.lemmas.Bool.{ne_eqb}
+use Rattle.std.proofs.lemmas.List.{length-set}
+use Rattle.std.proofs.lemmas.List.Elements.{All-cons, All-from_get_or, All-tail}
 use Rattle.dim_hierarchy.specs.Dimension.{Dimension}
 use Rattle.row_ledger.specs.LedgerValue.{LedgerValue}
 use Rattle.row_ledger.specs.declared.settings.Use.{Use}
@@ -9,12 +12,16 @@ use Rattle.seeded_run.proofs.Worlds.{only-world, one-setting}
 use Rattle.seeded_run.specs.Phase.{IsCoreHeld, about, held}
 use Rattle.volap_cell.proofs.States.{stands}
 use Rattle.volap_cell.specs.Cells.{CellValue, FreeCell, LedgerCell, TheLedger, cell_of, ledger_in, tag_of}
-use Rattle.volap_cell.specs.Setting.{ledger_cell}
+use Rattle.volap_cell.specs.Setting.{actor_count, cell_count, ledger_cell}
+use Rattle.volap_cell.specs.State.{Has}
 use Rattle.volap_cell.specs.Steps.{Inv}
 use Rattle.volap_cell.specs.World.{change, put}
+use Rattle.volap_cell.specs.Values.{actor_of}
+use Rattle.volap_cell.specs.declared.actor.Actor.{Actor}
 use Rattle.volap_cell.specs.declared.cell.Cell.{Cell}
 use Rattle.volap_cell.specs.declared.cell.Cell.TheVariants as cell
 use Rattle.volap_cell.specs.declared.state.State.{State}
+use Rattle.olap_top.specs.OneRun.{IsWhole}
 
 -- the core that is held meets the invariant
 pub held-inv : (h : List Dimension) (with : Use) (x : State) → IsCoreHeld h with x → Inv (about h with x) (held h with x)
@@ -48,3 +55,27 @@ cells-back (x ∷ xs) b l at is (suc y) = let other : eqb (suc y) 0 ≡ false = 
 pub cell-freed : (xs : List (Option Cell)) (b : Cell) → get_or xs 0 None ≡ Some b → get_or (set (set xs 0 None) 0 (Some cell.Free)) 0 None ≡ Some cell.Free
 cell-freed [] b at = cc
 cell-freed (x ∷ xs) b at = refl
+
+-- The state that is left is whole.
+
+stands-so : {A : Type 0} (o : Option A) (P : A → Type 0) → Has o P → is_some o ≡ true
+stands-so None P has = absurd has
+stands-so (Some x) P has = refl
+
+pub whole-left : (h : List Dimension) (with : Use) (x : State) → IsCoreHeld h with x → (rest : State) → rest.cells.items ≡ set (set x.cells.items 0 None) 0 (Some cell.Free) → rest.actors.items ≡ x.actors.items
+    → IsWhole (about h with x) rest
+whole-left h with x core rest is actors_are =
+    let c = core.0.is_core in
+    let same : core.0.setting ≡ about h with x = one-setting h with x.cells.items x.actors.items core.0.setting core.0.world c in
+    let stand = All-from_get_or (λ (o : Option Cell). is_some o ≡ true) x.cells.items None (λ y low. stands-so (get_or x.cells.items y None) (λ b. cell_of b ≡ core.0.world.cells y) (c.is.cell y low)) in
+    record {
+      cells = ap length is ∙ length-set (set x.cells.items 0 None) 0 (Some cell.Free) ∙ length-set x.cells.items 0 None ∙ c.places ∙ ap cell_count same;
+      actors = ap length actors_are ∙ c.count ∙ ap actor_count same;
+      each_cell = subst (All (λ (o : Option Cell). is_some o ≡ true)) (sym is) (all-back x.cells.items stand);
+      each_actor = subst (All (λ (o : Option Actor). is_some o ≡ true)) (sym actors_are)
+          (All-from_get_or (λ (o : Option Actor). is_some o ≡ true) x.actors.items None (λ a low. stands-so (get_or x.actors.items a None) (λ b. actor_of b ≡ core.0.world.actors a) (c.is.actor a low)));
+    }
+  where
+    all-back : (xs : List (Option Cell)) → All (λ (o : Option Cell). is_some o ≡ true) xs → All (λ (o : Option Cell). is_some o ≡ true) (set (set xs 0 None) 0 (Some cell.Free))
+    all-back [] all = all
+    all-back (y ∷ ys) all = All-cons (λ (o : Option Cell). is_some o ≡ true) (Some cell.Free) ys refl (All-tail (λ (o : Option Cell). is_some o ≡ true) y ys all)

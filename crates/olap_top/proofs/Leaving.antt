@@ -14,7 +14,7 @@ use Rattle.volap_cell.specs.Steps.{Inv, history_in}
 use Rattle.volap_cell.specs.World.{World}
 use Rattle.olap_top.specs.Left.{IsHandedOut, LeavesRun}
 use Rattle.olap_top.specs.Outcomes.{RunsInOrder}
-use Rattle.olap_top.specs.OneRun.{GoesTo, IsRunUpTo, schedule_of, setting_of, with_ledger}
+use Rattle.olap_top.specs.OneRun.{EndsAs, GoesTo, IsRunUpTo, IsWhole, schedule_of, setting_of, with_ledger}
 use Rattle.olap_top.specs.RowsKept.{AreRowsKept}
 use Rattle.olap_top.specs.RunSoFar.{HasLeft, history_of, moment_of, world_of}
 use Rattle.olap_top.specs.Settles.{IsSettling}
@@ -55,14 +55,15 @@ pub of-history : (s : Script) (now : Run) (o : Outcome) (P : List Event → Type
 of-history s now o P out holds = subst P (sym (history-left s now o out)) holds
 
 pub leaves-run : (wanted : Wanted) (s : Script) (start now : Run) (o : Outcome) → AreSettings s.with → IsOpening (setting_of s) (world_of s start) → start.schedule ≡ schedule_of wanted
-    → HasLeft s start now → IsHandedOut s.hierarchy s.with now.state o → LeavesRun wanted s o
+    → HasLeft s o.status start now → IsHandedOut s.hierarchy s.with now.state o → LeavesRun wanted s o
 leaves-run wanted s start now o settings opening schedule left out =
     let site = site_of s.with s.hierarchy in
     let inv : Inv (setting_of s) (world_of s now) = subst (λ t. Inv t (world_of s now)) left.is_held.about_is (held-inv s.hierarchy s.with now.state left.is_held.core) in
     let right = held-right s now left.is_held in
     let same = history-left s now o out in
     let goes = subst (λ t. GoesTo (is_order t) s (record { state = world_of s start; schedule = t }) (world_of s now)) schedule left.goes in
-    let run : IsRunUpTo wanted s (world_of s now) = record { opening = world_of s start; is_opening = opening; goes = goes } in
+    let ends = subst (λ t. EndsAs o.status (is_order t) s (record { state = world_of s start; schedule = t }) (world_of s now)) schedule left.ends in
+    let run : IsRunUpTo wanted s o.status (world_of s now) = record { opening = world_of s start; is_opening = opening; goes = goes; ends = ends } in
     let tell = settles-tell s.with s.hierarchy right.0 (history_of s now) right.1 left.part.pulls (record { each = λ r i is. (inv.holds.telling.rows r i is).1 }) in
     let settling : IsSettling site (history_of s now) = record {
       answers = settled-all site (history_of s now) right.2;
@@ -75,8 +76,9 @@ leaves-run wanted s start now o settings opening schedule left out =
       left = out.left;
       is_rest = record {
         about_is = out.about_is ∙ left.is_held.about_is;
+        whole = subst (λ t. IsWhole t out.rest) left.is_held.about_is out.whole;
         freed = out.freed;
-        run = subst (IsRunUpTo wanted s) (sym out.same) run;
+        run = subst (IsRunUpTo wanted s o.status) (sym out.same) run;
       };
       rows = subst (AreRowsKept (setting_of s)) (sym out.same) (rows-kept (setting_of s) (world_of s now) inv);
       settling = subst (IsSettling site) (sym same) settling;

@@ -1,11 +1,11 @@
 -- A run between two phases, and how it goes on from there.
-use Rattle.std.proofs.Common.{◌≡◌, ◌∙◌, ℕ, zero, suc, ◌+◌, ◌-◌, ◌≤◌, ◌<◌, inl, inr, Bool, true, false, IsTrue, List, [], ◌∷◌, ◌++◌, length, take, drop, refl, sym, ap, subst, arith, append_assoc, append-nil, length-append}
+use Rattle.std.proofs.Common.{◌≡◌, ◌∙◌, ◌⊎◌, ℕ, zero, suc, ◌+◌, ◌-◌, ◌≤◌, ◌<◌, inl, inr, Bool, true, false, IsTrue, List, [], ◌∷◌, ◌++◌, length, take, drop, refl, sym, ap, subst, arith, append_assoc, append-nil, length-append}
 use Rattle.std.specs.Prelude.{All, Option, Some, None, ◌&&◌, if◌then◌else◌, get_or, slice_get}
 use Rattle.std.specs.Io.KnownBytes.{Appends}
 use Rattle.std.specs.List.{AllZip}
 use Rattle.std.proofs.Math.Seq.{take-append_seam, take-append-add}
 use Rattle.std.proofs.lemmas.Bool.{and_parts, cases_lt, false≢true}
-use Rattle.std.proofs.lemmas.List.{drop-drop, drop-take, length-take-le, take-append-drop, take-take, take_all}
+use Rattle.std.proofs.lemmas.List.{drop-drop, drop-take, drop_all, length-take-le, take-append-drop, take-take, take_all}
 use Rattle.std.proofs.lemmas.List.Elements.{All-head, All-tail}
 use Rattle.std.proofs.lemmas.Option.{slice_get_within}
 use Rattle.std.proofs.lemmas.List.Folds.{list_all-append}
@@ -38,9 +38,11 @@ use Rattle.seeded_turns.specs.Drawn.{Moment}
 use Rattle.seeded_turns.specs.declared.schedule.Schedule.{Schedule}
 use Rattle.volap_cell.specs.Steps.{Inv, history_in}
 use Rattle.volap_cell.specs.World.{World}
-use Rattle.olap_top.specs.OneRun.{GoesTo, RunPhases, RunsPhase, phase_of, setting_of}
+use Rattle.olap_top.specs.OneRun.{EndsAs, GoesTo, RunPhases, RunsPhase, RunsWhole, phase_of, setting_of}
 use Rattle.olap_top.specs.Outcomes.{HasRun, RanInto, RanToPhase, TookPart, asked_text_to, tells_phases}
 use Rattle.olap_top.specs.RunSoFar.{HasGone, HasGrown, HasLeft, HasStopped, IsBehind, IsHeld, history_of, moment_of, tells, world_of}
+use Rattle.olap_top.specs.declared.outcome.Status.{Status}
+use Rattle.olap_top.specs.declared.outcome.Status.TheVariants as status_is
 use Rattle.olap_top.specs.declared.run.Run.{Run}
 use Rattle.olap_top.specs.declared.wanted.Wanted.{Wanted}
 use Rattle.olap_top.proofs.Handing.{held-inv}
@@ -74,9 +76,9 @@ right-held s run is = (held-right s run is).2
 
 -- Runs of phases.
 
-pub phases-more : (in_order : Bool) (s : Script) (ps : List (List Command)) (phase : List Command) (from between to : Moment World) → RunPhases in_order s ps from between → RunsPhase in_order s phase between to
+pub phases-more : (in_order : Bool) (s : Script) (ps : List (List Command)) (phase : List Command) (from between to : Moment World) → RunPhases in_order s ps from between → RunsWhole in_order s phase between to
     → RunPhases in_order s (ps ++ phase ∷ []) from to
-phases-more in_order s [] phase from between to first next = (to, subst (λ m. RunsPhase in_order s phase m to) first next, refl)
+phases-more in_order s [] phase from between to first next = (to, subst (λ m. RunsWhole in_order s phase m to) first next, refl)
 phases-more in_order s (p ∷ ps) phase from between to first next = (first.0, first.1, phases-more in_order s ps phase first.0 between to first.2 next)
 
 -- Between two phases.
@@ -246,7 +248,7 @@ at-next s n m taken_before taken_middle taken_now start run now text next at gon
       (sym (grown-text s (take n s.commands) (next_phase s n m) run now text (tells start) at.same at.behind gone) ∙ ap (λ l. said (tells start) s.with l (history_of s now)) next.whole)
       (Appends-more taken_before taken_middle taken_now (said (tells start) s.with (take n s.commands) (history_of s run)) text at.took took);
   turns = phases-more (is_order start.schedule) s at.ps (next_phase s n m) (moment_of s start) (moment_of s run) (moment_of s now) at.turns
-      (subst (λ b. RunsPhase b s (next_phase s n m) (moment_of s run) (moment_of s now)) at.order gone.turns);
+      (subst (λ b. RunsWhole b s (next_phase s n m) (moment_of s run) (moment_of s now)) at.order gone.turns);
 }
 
 first-phases : (s : Script) (ps rest : List (List Command)) → AreFirst s.commands ps rest → phases_to (length ps) s.commands ≡ all_of ps
@@ -351,12 +353,37 @@ at-halt wanted s n m taken_before taken_now start run now same_telling next at s
 
 -- What is left, however it ended.
 
+-- the phases that are done are the first ones
+first-taken : (s : Script) (n : ℕ) (taken_before taken_now : Option (List ℕ)) (start run : Run) (at : IsAtPhase s n taken_before taken_now start run) → at.ps ≡ take (length at.ps) (phases s.commands)
+first-taken s n taken_before taken_now start run at = sym (ap (take (length at.ps)) at.first.split ∙ take-append_seam at.ps (phases (drop n s.commands)))
+
+-- where nothing is left they are all
+all-taken : (s : Script) (n : ℕ) (taken_before taken_now : Option (List ℕ)) (start run : Run) (at : IsAtPhase s n taken_before taken_now start run) → length s.commands ≤ n → at.ps ≡ phases s.commands
+all-taken s n taken_before taken_now start run at past =
+    let none : drop n s.commands ≡ [] = drop_all n s.commands past in
+    sym (at.first.split ∙ ap (λ l. at.ps ++ phases l) none ∙ ap (λ l. at.ps ++ l) phases-nil ∙ append-nil at.ps)
+
+-- the run ends where a phase has ended,
+pub ends-fault : (s : Script) (n : ℕ) (taken_before taken_now : Option (List ℕ)) (start run : Run) → IsAtPhase s n taken_before taken_now start run
+    → EndsAs status_is.WriteFault (is_order start.schedule) s (moment_of s start) (world_of s run)
+ends-fault s n taken_before taken_now start run at =
+    let whole = subst (λ l. RunPhases (is_order start.schedule) s l (moment_of s start) (moment_of s run)) (first-taken s n taken_before taken_now start run at) at.turns in
+    (length at.ps, (run.schedule, whole))
+
+-- and where that was the last one, it is done
+pub ends-done : (s : Script) (n : ℕ) (taken_before taken_now : Option (List ℕ)) (start run : Run) → length s.commands ≤ n → IsAtPhase s n taken_before taken_now start run
+    → EndsAs status_is.Done (is_order start.schedule) s (moment_of s start) (world_of s run)
+ends-done s n taken_before taken_now start run past at = (
+  run.schedule,
+  subst (λ l. RunPhases (is_order start.schedule) s l (moment_of s start) (moment_of s run)) (all-taken s n taken_before taken_now start run at past) at.turns,
+)
+
 goes-to : (s : Script) (n : ℕ) (taken_before taken_now : Option (List ℕ)) (start run : Run) (at : IsAtPhase s n taken_before taken_now start run) (to : World) (schedule : Schedule)
     → RunsPhase (is_order start.schedule) s (phase_of s (length at.ps)) (moment_of s run) (record { state = to; schedule = schedule }) → GoesTo (is_order start.schedule) s (moment_of s start) to
 goes-to s n taken_before taken_now start run at to schedule part = record {
   phase = length at.ps;
   between = moment_of s run;
-  whole = subst (λ l. RunPhases (is_order start.schedule) s l (moment_of s start) (moment_of s run)) (sym (ap (take (length at.ps)) at.first.split ∙ take-append_seam at.ps (phases (drop n s.commands)))) at.turns;
+  whole = subst (λ l. RunPhases (is_order start.schedule) s l (moment_of s start) (moment_of s run)) (first-taken s n taken_before taken_now start run at) at.turns;
   schedule = schedule;
   part = part;
 }
@@ -375,17 +402,39 @@ serial-behind s done more run behind whole order =
     (serial_law s.with s.hierarchy (done ++ more) (history_of s run) (order-start-law s.with s.hierarchy done more (history_of s run) (few-begun s done run behind) (behind.between.ordered order)))
 
 -- between phases
-pub left-at : (s : Script) (n : ℕ) (taken_before taken_now : Option (List ℕ)) (start run : Run) → IsAtPhase s n taken_before taken_now start run → HasLeft s start run
-left-at s n taken_before taken_now start run at = record {
+pub left-at : (s : Script) (status : Status) (n : ℕ) (taken_before taken_now : Option (List ℕ)) (start run : Run) → EndsAs status (is_order start.schedule) s (moment_of s start) (world_of s run)
+    → IsAtPhase s n taken_before taken_now start run → HasLeft s status start run
+left-at s status n taken_before taken_now start run ends at = record {
   is_held = at.behind.is_held;
+  ends = ends;
   goes = goes-to s n taken_before taken_now start run at (world_of s run) run.schedule (record { turns = []; are = refl });
   part = part-behind s (take n s.commands) (drop n s.commands) run at.behind (take-append-drop n s.commands);
   serial = λ order. serial-behind s (take n s.commands) (drop n s.commands) run at.behind (take-append-drop n s.commands) (at.order ∙ order);
 }
 
+-- behind all phases, however the summary ended
+pub left-behind : (s : Script) (start run : Run) → HasLeft s status_is.Done start run → (status : Status) → (status ≡ status_is.Done) ⊎ (status ≡ status_is.WriteFault) ⊎ (status ≡ status_is.NoMemory)
+    → HasLeft s status start run
+left-behind s start run left status kinds = record {
+  is_held = left.is_held;
+  goes = left.goes;
+  ends = elim kinds [
+    | inl done ↦ subst (λ (t : Status). EndsAs t (is_order start.schedule) s (moment_of s start) (world_of s run)) (sym done) left.ends
+    | inr (inl fault) ↦
+        subst (λ (t : Status). EndsAs t (is_order start.schedule) s (moment_of s start) (world_of s run)) (sym fault)
+        (length (phases s.commands), (left.ends.0, subst (λ l. RunPhases (is_order start.schedule) s l (moment_of s start) (moment_at s run left.ends.0)) (sym (take_all (length (phases s.commands)) (phases s.commands) (omega arith))) left.ends.1))
+    | inr (inr none) ↦ subst (λ (t : Status). EndsAs t (is_order start.schedule) s (moment_of s start) (world_of s run)) (sym none) tt
+  ];
+  part = left.part;
+  serial = left.serial;
+}
+  where
+    moment_at : (s : Script) (run : Run) (schedule : Schedule) → Moment World
+    moment_at s run schedule = record { state = world_of s run; schedule = schedule }
+
 -- in a phase
 pub left-halt : (s : Script) (n m : ℕ) (taken_before taken_now : Option (List ℕ)) (start run now : Run) → IsNext s n m
-    → IsAtPhase s n taken_before taken_now start run → HasStopped s (take n s.commands) (next_phase s n m) run now → HasLeft s start now
+    → IsAtPhase s n taken_before taken_now start run → HasStopped s (take n s.commands) (next_phase s n m) run now → HasLeft s status_is.NoMemory start now
 left-halt s n m taken_before taken_now start run now next at stopped =
     let here : phase_of s (length at.ps) ≡ next_phase s n m =
     ap (λ l. get_or l (length at.ps) []) (at.first.split ∙ ap (λ l. at.ps ++ l) next.split) ∙ get-seam at.ps (next_phase s n m) (phases (drop m s.commands)) in
@@ -393,6 +442,7 @@ left-halt s n m taken_before taken_now start run now next at stopped =
     let whole : cs ++ drop m s.commands ≡ s.commands = ap (λ l. l ++ drop m s.commands) next.whole ∙ take-append-drop m s.commands in
     record {
       is_held = stopped.is_held;
+      ends = tt;
       goes = goes-to s n taken_before taken_now start run at (world_of s now) stopped.schedule
           (subst (λ l. RunsPhase (is_order start.schedule) s l (moment_of s run) (record { state = world_of s now; schedule = stopped.schedule })) (sym here)
           (subst (λ b. RunsPhase b s (next_phase s n m) (moment_of s run) (record { state = world_of s now; schedule = stopped.schedule })) at.order stopped.turns));

@@ -21,7 +21,7 @@ use Rattle.script_run.proofs.PlaceFacts.{places_behind-append}
 use Rattle.script_run.specs.Places.{are_over, is_over_at, places, places_behind}
 use Rattle.seeded_run.specs.Can.{able_in}
 use Rattle.seeded_run.specs.Kept.{IsBetween, IsStopped}
-use Rattle.seeded_run.specs.Phase.{IsCoreHeld, IsKeptTurn, RunsTo, about, held, is_order, phase_from}
+use Rattle.seeded_run.specs.Phase.{IsCoreHeld, IsKeptTurn, NobodyCanStep, RunsTo, about, held, is_order, phase_from}
 use Rattle.seeded_run.specs.Rests.{PhaseRun}
 use Rattle.seeded_turns.specs.Drawn.{Reaches}
 use Rattle.seeded_turns.specs.declared.schedule.Schedule.{Schedule}
@@ -137,11 +137,12 @@ module _ (s : Script) (done phase : List Command) (run now : Run) (behind : IsBe
 
   pub gone-run : IsCoreHeld s.hierarchy s.with now.state → about s.hierarchy s.with now.state ≡ about s.hierarchy s.with run.state → is_order now.schedule ≡ is_order run.schedule
       → RunsTo s.hierarchy s.with phase run.state run.schedule now.state now.schedule
+      → NobodyCanStep (is_order run.schedule) s.hierarchy s.with phase run.state now.state
       → IsBetween (is_order run.schedule) (about s.hierarchy s.with run.state) s.with (done ++ phase) (held s.hierarchy s.with now.state)
       → IfSome now.teller (HasTold s.with (done ++ phase) (history_of s now)) → tells now ≡ tells run
       → (text : List ℕ) → text ≡ (if tells run then phase_behind s.with done phase (history_of s now) else [])
       → HasGone s done phase run now text
-  gone-run core same order turns between told tells_same text text_is = record {
+  gone-run core same order turns rested between told tells_same text text_is = record {
     behind = record {
       is_held = held-now core same;
       between = subst (λ b. IsBetween b (setting_of s) s.with (done ++ phase) (world_of s now)) (sym order)
@@ -149,7 +150,10 @@ module _ (s : Script) (done phase : List Command) (run now : Run) (behind : IsBe
       told = told-so s (done ++ phase) (history_of s now) now.teller told;
     };
     order = order;
-    turns = turns-of now.schedule turns;
+    turns = record {
+      turns = turns-of now.schedule turns;
+      rested = subst (λ t. able_in (is_order run.schedule) t (phase_at s phase (moment_of s run)) (world_of s now) ≡ []) behind.is_held.about_is rested;
+    };
     grows = grows-by now.schedule (turns-of now.schedule turns);
     same = tells_same;
     text_is = text_is;

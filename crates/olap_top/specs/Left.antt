@@ -8,7 +8,7 @@ use Rattle.seeded_run.specs.Phase.{about, held}
 use Rattle.volap_cell.specs.Setting.{ledger_cell}
 use Rattle.volap_cell.specs.declared.cell.Cell.TheVariants as cell
 use Rattle.volap_cell.specs.declared.state.State.{State}
-use Rattle.olap_top.specs.OneRun.{IsRestOf, goes_in_order, setting_of, with_ledger}
+use Rattle.olap_top.specs.OneRun.{IsRestOf, IsWhole, goes_in_order, setting_of, with_ledger}
 use Rattle.olap_top.specs.Outcomes.{IsAskedScript, RunsInOrder}
 use Rattle.olap_top.specs.RowsKept.{AreRowsKept}
 use Rattle.olap_top.specs.Settles.{IsSettling}
@@ -24,6 +24,7 @@ pub record IsHandedOut (h : List Dimension) (with : Use) (state : State) (o : Ou
   pub rest : State
   pub left : o.rest ≡ Some rest
   pub about_is : about h with rest ≡ about h with state
+  pub whole : IsWhole (about h with state) rest
   pub freed : get_or rest.cells.items ledger_cell None ≡ Some cell.Free
   pub same : with_ledger o.ledger (held h with rest) ≡ held h with state
 
@@ -33,7 +34,7 @@ pub record LeavesRun (wanted : Wanted) (s : Script) (o : Outcome) : Type 0 where
   pub some : 0 < length o.ledger.history
   pub rest : State
   pub left : o.rest ≡ Some rest
-  pub is_rest : IsRestOf wanted s o.ledger rest
+  pub is_rest : IsRestOf wanted s o.status o.ledger rest
   pub rows : AreRowsKept (setting_of s) (with_ledger o.ledger (held s.hierarchy s.with rest))
   pub settling : IsSettling (site_of s.with s.hierarchy) o.ledger.history
   pub serial : goes_in_order wanted ≡ true → RunsInOrder s o.ledger.history

@@ -1,5 +1,5 @@
 -- The one run of the core by which a script's history came about, and the state that is left of it.
-use Rattle.std.specs.Prelude.{ℕ, ◌≡◌, Bool, Option, Some, None, List, [], ◌∷◌, get_or, take}
+use Rattle.std.specs.Prelude.{ℕ, ◌≡◌, ⊤, Bool, true, Option, Some, None, is_some, List, [], ◌∷◌, All, get_or, length, take}
 use Rattle.std.specs.List.{slice_index_or}
 use Rattle.rand_core.specs.Pcg32Seed.{pcg32_seed}
 use Rattle.rand_pcg.specs.Pcg.{pcg32_of_seed}
@@ -17,11 +17,13 @@ use Rattle.seeded_turns.specs.declared.schedule.Schedule.TheVariants as schedule
 use Rattle.volap_cell.specs.Cells.{FreeCell, LedgerCell}
 use Rattle.volap_cell.specs.Filling.{setting_for}
 use Rattle.volap_cell.specs.Opening.{IsOpening}
-use Rattle.volap_cell.specs.Setting.{Setting, ledger_cell}
+use Rattle.volap_cell.specs.Setting.{Setting, actor_count, cell_count, ledger_cell}
 use Rattle.volap_cell.specs.Steps.{history_in}
 use Rattle.volap_cell.specs.World.{World, change, put}
 use Rattle.volap_cell.specs.declared.cell.Cell.TheVariants as cell
 use Rattle.volap_cell.specs.declared.state.State.{State}
+use Rattle.olap_top.specs.declared.outcome.Status.{Status}
+use Rattle.olap_top.specs.declared.outcome.Status.TheVariants as status_is
 use Rattle.olap_top.specs.declared.wanted.Wanted.{Wanted}
 use Rattle.olap_top.specs.declared.wanted.Wanted.TheVariants.{Step, Seeded, Load}
 
@@ -49,16 +51,21 @@ phase_at s phase from = record { with = s.with; commands = phase; before = histo
 abbrev pub RunsPhase : Bool → Script → List Command → Moment World → Moment World → Type 0
 RunsPhase in_order s phase from to = Reaches World (able_in in_order (setting_of s) (phase_at s phase from)) (IsKeptTurn in_order (setting_of s) (phase_at s phase from)) from to.state to.schedule
 
--- phases, one after the other
+-- a whole phase: its turns lead to a moment at which nobody can make a step of it any more
+pub record RunsWhole (in_order : Bool) (s : Script) (phase : List Command) (from to : Moment World) : Type 0 where
+  pub turns : RunsPhase in_order s phase from to
+  pub rested : able_in in_order (setting_of s) (phase_at s phase from) to.state ≡ []
+
+-- whole phases, one after the other
 abbrev pub RunPhases : Bool → Script → List (List Command) → Moment World → Moment World → Type 0
 RunPhases in_order s [] from to = to ≡ from
-RunPhases in_order s (phase ∷ more) from to = (between : Moment World) × RunsPhase in_order s phase from between × RunPhases in_order s more between to
+RunPhases in_order s (phase ∷ more) from to = (between : Moment World) × RunsWhole in_order s phase from between × RunPhases in_order s more between to
 
 -- the commands of the phase with a number from 0; none behind the last one
 abbrev pub phase_of : Script → ℕ → List Command
 phase_of s k = slice_index_or (phases s.commands) k []
 
--- through the first phases, and then by some turns of the next one
+-- through the first phases, each to its end, and then by some turns of the next one
 pub record GoesTo (in_order : Bool) (s : Script) (from : Moment World) (to : World) : Type 0 where
   pub phase : ℕ
   pub between : Moment World
@@ -66,11 +73,23 @@ pub record GoesTo (in_order : Bool) (s : Script) (from : Moment World) (to : Wor
   pub schedule : Schedule
   pub part : RunsPhase in_order s (phase_of s phase) between (record { state = to; schedule = schedule })
 
--- A state to which the script's run leads from its opening.
-pub record IsRunUpTo (wanted : Wanted) (s : Script) (to : World) : Type 0 where
+-- through these phases, each to its end, and no further
+abbrev pub GoesThrough : Bool → Script → List (List Command) → Moment World → World → Type 0
+GoesThrough in_order s ps from to = (schedule : Schedule) × RunPhases in_order s ps from (record { state = to; schedule = schedule })
+
+-- A run ends where a phase has ended: one that is done behind the last phase, and one whose sink failed behind some phase. Only where
+-- memory ran out it may end in the midst of one.
+abbrev pub EndsAs : Status → Bool → Script → Moment World → World → Type 0
+EndsAs status_is.Done in_order s from to = GoesThrough in_order s (phases s.commands) from to
+EndsAs status_is.WriteFault in_order s from to = (count : ℕ) × GoesThrough in_order s (take count (phases s.commands)) from to
+EndsAs _ in_order s from to = ⊤
+
+-- A state to which the script's run leads from its opening, where it ends with this status.
+pub record IsRunUpTo (wanted : Wanted) (s : Script) (status : Status) (to : World) : Type 0 where
   pub opening : World
   pub is_opening : IsOpening (setting_of s) opening
   pub goes : GoesTo (goes_in_order wanted) s (record { state = opening; schedule = schedule_of wanted }) to
+  pub ends : EndsAs status (goes_in_order wanted) s (record { state = opening; schedule = schedule_of wanted }) to
 
 -- What is left.
 
@@ -78,8 +97,16 @@ pub record IsRunUpTo (wanted : Wanted) (s : Script) (to : World) : Type 0 where
 abbrev pub with_ledger : LedgerValue → World → World
 with_ledger ledger w = record { cells = put (change ledger_cell FreeCell (LedgerCell ledger) ∷ []) w.cells; actors = w.actors }
 
+-- as many cells and actors as a core of these settings has, and each stands in its place
+pub record IsWhole (s : Setting) (x : State) : Type 0 where
+  pub cells : length x.cells.items ≡ cell_count s
+  pub actors : length x.actors.items ≡ actor_count s
+  pub each_cell : All (λ place. is_some place ≡ true) x.cells.items
+  pub each_actor : All (λ place. is_some place ≡ true) x.actors.items
+
 -- What is left of a run: the state that it led to, but that the ledger was moved out of its cell, which is free.
-pub record IsRestOf (wanted : Wanted) (s : Script) (ledger : LedgerValue) (rest : State) : Type 0 where
+pub record IsRestOf (wanted : Wanted) (s : Script) (status : Status) (ledger : LedgerValue) (rest : State) : Type 0 where
   pub about_is : about s.hierarchy s.with rest ≡ setting_of s
+  pub whole : IsWhole (setting_of s) rest
   pub freed : get_or rest.cells.items ledger_cell None ≡ Some cell.Free
-  pub run : IsRunUpTo wanted s (with_ledger ledger (held s.hierarchy s.with rest))
+  pub run : IsRunUpTo wanted s status (with_ledger ledger (held s.hierarchy s.with rest))

@@ -14,7 +14,8 @@ use Rattle.seeded_turns.specs.Drawn.{Moment}
 use Rattle.seeded_turns.specs.declared.schedule.Schedule.{Schedule}
 use Rattle.volap_cell.specs.Steps.{history_in}
 use Rattle.volap_cell.specs.World.{World}
-use Rattle.olap_top.specs.OneRun.{GoesTo, RunsPhase, phase_at, setting_of}
+use Rattle.olap_top.specs.OneRun.{EndsAs, GoesTo, RunsPhase, RunsWhole, phase_at, setting_of}
+use Rattle.olap_top.specs.declared.outcome.Status.{Status}
 use Rattle.olap_top.specs.declared.run.Run.{Run}
 
 abbrev pub world_of : Script → Run → World
@@ -62,7 +63,7 @@ pub record HasGrown (before now : List Event) : Type 0 where
 pub record HasGone (s : Script) (done phase : List Command) (run now : Run) (text : List ℕ) : Type 0 where
   pub behind : IsBehind s (done ++ phase) now
   pub order : is_order now.schedule ≡ is_order run.schedule
-  pub turns : RunsPhase (is_order run.schedule) s phase (moment_of s run) (moment_of s now)
+  pub turns : RunsWhole (is_order run.schedule) s phase (moment_of s run) (moment_of s now)
   pub grows : HasGrown (history_of s run) (history_of s now)
   pub same : tells now ≡ tells run
   pub text_is : text ≡ (if tells run then phase_behind s.with done phase (history_of s now) else [])
@@ -75,9 +76,10 @@ pub record HasStopped (s : Script) (done phase : List Command) (run now : Run) :
   pub grows : HasGrown (history_of s run) (history_of s now)
   pub stopped : IsStopped (is_order run.schedule) (setting_of s) (phase_at s phase (moment_of s run)) done (world_of s now)
 
--- what the phases of a script leave, however they ended
-pub record HasLeft (s : Script) (run now : Run) : Type 0 where
+-- what the phases of a script leave that ended so
+pub record HasLeft (s : Script) (status : Status) (run now : Run) : Type 0 where
   pub is_held : IsHeld s now
   pub goes : GoesTo (is_order run.schedule) s (moment_of s run) (world_of s now)
+  pub ends : EndsAs status (is_order run.schedule) s (moment_of s run) (world_of s now)
   pub part : IsRunSoFar s.with s.hierarchy s.commands (history_of s now)
   pub serial : is_order run.schedule ≡ true → IsSerial s.with s.commands (history_of s now)

@@ -87,7 +87,7 @@ fn run_phases<K: Sink>(run: &mut Run, alloc: Global, script: &Script, sink: &mut
         × Appends (K.taken sink.old) (K.taken sink.new)
         (if tells run.old then told script.now.with script.now.commands (history_of script.now run.new) else []) }
     ensures later { K.faults sink.old ≤ K.faults sink.new }
-    ensures left { HasLeft script.now run.old run.new }
+    ensures left { HasLeft script.now result run.old run.new }
 {
     let all = script.commands.as_slice();
     let mut done = 0;
@@ -155,7 +155,7 @@ fn run_wanted<K: Sink>(
     ensures done { result ≡ Status.Done
         → HasRun script.now.with script.now.hierarchy script.now.commands (history_of script.now run.new)
         × Appends (K.taken sink.old) (K.taken sink.new) (asked_text wanted script.now (history_of script.now run.new)) }
-    ensures left { HasLeft script.now run.old run.new }
+    ensures left { HasLeft script.now result run.old run.new }
 {
     let status = run_phases(run, alloc, script, sink);
     if status != Status::Done {

@@ -1,5 +1,5 @@
 -- What becomes of a core by a step: what was due in it, where the state stayed as it was, and its history.
-use Rattle.std.proofs.Common.{ℕ, suc, ◌≡◌, ◌≢◌, Bool, true, false, List, ◌∷◌, length, Option, inl, inr, sym, ap, ◌∙◌, subst, arith}
+use Rattle.std.proofs.Common.{ℕ, suc, ◌≡◌, ◌≢◌, Bool, true, false, List, ◌∷◌, length, Option, Some, None, inl, inr, refl, sym, ap, ◌∙◌, subst, arith}
 use Rattle.core_steps.specs.Added.{AddsQuiet}
 use Rattle.core_steps.specs.Ready.{Stays}
 use Rattle.dim_hierarchy.specs.Dimension.{Dimension}
@@ -15,6 +15,8 @@ use Rattle.volap_cell.specs.declared.kind.Kind.{Kind}
 use Rattle.volap_cell.specs.declared.kind.Kind.TheVariants.{Note}
 use Rattle.seeded_run.specs.Arms.{GoesOnWithCommand, TellsIfNote}
 use Rattle.seeded_run.specs.Core.{IsCore}
+use Rattle.seeded_run.specs.Instead.{in_place_of}
+use Rattle.seeded_run.proofs.Instead.{falls-to}
 
 -- a history isn't one that has an event more
 longer-is-other : (e : Event) (before now : List Event) → now ≡ e ∷ before → now ≢ before
@@ -25,15 +27,20 @@ is_note Note = true
 is_note _ = false
 
 -- a step of another kind than a note
-pub other-step : (k : Kind) → is_note k ≡ false → (h : List Dimension) (n : ℕ) (cells cells_now : List (Option Cell)) (actors actors_now : List (Option Actor)) → Stepped h k n cells actors cells_now actors_now → GoesOnWithCommand h n cells actors cells_now actors_now
-other-step k other h n cells cells_now actors actors_now stepped = (k, stepped, inl (λ e. (let never : true ≡ false = sym (ap is_note e) ∙ other in absurd (cc))))
+pub other-step : (k : Kind) → is_note k ≡ false → (h : List Dimension) (n : ℕ) (cells cells_now : List (Option Cell)) (actors actors_now : List (Option Actor)) → Stepped h k n cells actors cells_now actors_now → GoesOnWithCommand h k n cells actors cells_now actors_now
+other-step k other h n cells cells_now actors actors_now stepped = (k, stepped, inl (λ e. (let never : true ≡ false = sym (ap is_note e) ∙ other in absurd (cc))), inl refl)
 
 -- a note
 pub noted-step : (h : List Dimension) (n at : ℕ) (cells cells_now : List (Option Cell)) (actors actors_now : List (Option Actor)) → at ≡ ledger_cell → Stepped h Note n cells actors cells_now actors_now → AddsQuiet at cells actors cells_now actors_now
-    → GoesOnWithCommand h n cells actors cells_now actors_now
+    → GoesOnWithCommand h Note n cells actors cells_now actors_now
 noted-step h n at cells cells_now actors actors_now is stepped adds =
     let here : AddsQuiet ledger_cell cells actors cells_now actors_now = subst (λ (y : ℕ). AddsQuiet y cells actors cells_now actors_now) is adds in
-    (Note, stepped, inr (λ w now i j. (let q = here w now i j in longer-is-other q.0 (history_in w) (history_in now) q.2)))
+    (Note, stepped, inr (λ w now i j. (let q = here w now i j in longer-is-other q.0 (history_in w) (history_in now) q.2)), inl refl)
+
+-- a note in place of the step that was due
+pub ends-instead : (due : Kind) → in_place_of due ≡ Some Note → (h : List Dimension) (n : ℕ) (cells cells_now : List (Option Cell)) (actors actors_now : List (Option Actor)) → GoesOnWithCommand h Note n cells actors cells_now actors_now
+    → GoesOnWithCommand h due n cells actors cells_now actors_now
+ends-instead due other h n cells cells_now actors actors_now goes = (goes.0, goes.1, goes.2, falls-to due Note goes.0 other refl goes.3)
 
 -- where the state stayed as it was
 module _ (cells cells_now : List (Option Cell)) (actors actors_now : List (Option Actor)) (stays : Stays cells actors cells_now actors_now) where
@@ -57,9 +64,10 @@ module _ (cells cells_now : List (Option Cell)) (actors actors_now : List (Optio
     step = λ s w ghost same is inv reached. stepped.step s w ghost same (stays.same w is) inv reached;
   }
 
-  -- the actor has gone on with its command from there
-  pub goes-on-then : (h : List Dimension) (n : ℕ) (cells_then : List (Option Cell)) (actors_then : List (Option Actor)) → GoesOnWithCommand h n cells_now actors_now cells_then actors_then → GoesOnWithCommand h n cells actors cells_then actors_then
-  goes-on-then h n cells_then actors_then goes = (goes.0, step-then h goes.0 n cells_then actors_then goes.1, told goes.2)
+  -- the actor has gone on with its command from there, in place of the step that was due
+  pub goes-on-then : (due instead : Kind) → in_place_of due ≡ Some instead → in_place_of instead ≡ None → (h : List Dimension) (n : ℕ) (cells_then : List (Option Cell)) (actors_then : List (Option Actor))
+      → GoesOnWithCommand h instead n cells_now actors_now cells_then actors_then → GoesOnWithCommand h due n cells actors cells_then actors_then
+  goes-on-then due instead other none h n cells_then actors_then goes = (goes.0, step-then h goes.0 n cells_then actors_then goes.1, told goes.2, falls-to due instead goes.0 other none goes.3)
     where
       told : TellsIfNote goes.0 cells_now actors_now cells_then actors_then → TellsIfNote goes.0 cells actors cells_then actors_then
       told (inl other) = inl other

@@ -31,9 +31,9 @@ use Rattle.volap_cell.specs.declared.kind.Kind.TheVariants as kind
 use Rattle.volap_cell.specs.declared.role.Role.{Role}
 use Rattle.volap_cell.specs.declared.role.Role.TheVariants.{Admin, Hand, Puller, Session}
 use Rattle.volap_cell.proofs.States.{of-it, stands}
-use Rattle.seeded_run.specs.Commands.{IsAllowed, IsToBegin, may_begin}
+use Rattle.seeded_run.specs.Commands.{IsAllowed, IsToBegin, beginning, beginning_if, may_begin}
 use Rattle.seeded_run.specs.Core.{IsCore}
-use Rattle.seeded_run.specs.Due.{are_known, desk_of, first_kind, is_alone, next_kind}
+use Rattle.seeded_run.specs.Due.{are_known, desk_of, first_kind, is_alone, is_empty_desk, next_kind}
 use Rattle.seeded_run.specs.Progress.{AreScriptRoles}
 use Rattle.seeded_run.specs.Told.{is_of_part}
 use Rattle.seeded_run.proofs.DueCommands.{IsAtEmpty, at-empty}
@@ -109,6 +109,20 @@ first-due h alone desk c more k e = by (closes c && not alone) e
     by true e = (let none : None ≡ Some k = e in absurd (cc))
     by false e = e
 
+kind-same : (k x : Kind) → ◌≡◌ {A = Option Kind} (Some k) (Some x) → k ≡ x
+kind-same k x e = cc
+
+first-as : (desk : Option DeskValue) (c : Command) (known : Bool) (k : Kind) → first_kind desk c known ≡ Some k → k ≡ beginning_if c known
+first-as desk (script.Insert new) true k e = sym (kind-same kind.BeginInsert k e)
+first-as desk (script.Insert new) false k e = sym (kind-same kind.Note k e)
+first-as desk (script.Query question) true k e = by (is_empty_desk desk) e
+  where
+    by : (b : Bool) → (if b then Some kind.BeginQuery else None) ≡ Some k → k ≡ kind.BeginQuery
+    by true e = sym (kind-same kind.BeginQuery k e)
+    by false e = cc
+first-as desk (script.Query question) false k e = sym (kind-same kind.Note k e)
+first-as desk (script.Control called) known k e = sym (kind-same kind.Note k e)
+
 -- The actor has nothing to do and is there for the command; where that is a query of which all is known, the desk is empty.
 pub record IsAtNext (s : Setting) (w : World) (n : ℕ) (c : Command) : Type 0 where
   pub free : IsFree (w.actors n)
@@ -141,6 +155,10 @@ module _ (h : List Dimension) (with : Use) (cells : List (Option Cell)) (actors 
       first-due s.hierarchy (is_alone s w rest n) (desk_of s w (w.actors n).role) c (b.next s w core).more b.kind_is
       (ap (next_kind s.hierarchy (is_alone s w rest n) (desk_of s w (w.actors n).role)) (sym (b.next s w core).next) ∙ next)
 
+  -- the command begins by that kind, or ends
+  pub beginning-is : b.kind_is ≡ beginning s.hierarchy c
+  beginning-is = first-as (desk_of s w (w.actors n).role) c (are_known s.hierarchy c) b.kind_is first
+
   empty : (question : Question) → c ≡ script.Query question → are_known s.hierarchy c ≡ true → (desk_in (w.cells (desk_cell s question.server))).op ≡ None
   empty question is known =
       let due : first_kind (desk_of s w (w.actors n).role) (script.Query question) true ≡ Some b.kind_is =
@@ -160,6 +178,11 @@ module _ (h : List Dimension) (with : Use) (cells : List (Option Cell)) (actors 
 pub unknown-name : {A : Type 0} (first : Option ℕ) (dim : ℕ) (r : Result A ℕ) → r ≡ Err dim → IfSome first (λ d. r ≡ Err d) → IfNone first (IsOk r) → first ≡ Some dim
 unknown-name None dim r is unknown known = let never = rw is at known in cc
 unknown-name (Some d) dim r is unknown known = cc
+
+-- where it answers with a coordinate, there is none
+pub known-names : {A : Type 0} (first : Option ℕ) (x : A) (r : Result A ℕ) → r ≡ Ok x → IfSome first (λ d. r ≡ Err d) → first ≡ None
+known-names None x r is unknown = refl
+known-names (Some d) x r is unknown = cc
 
 pub unknown-pick : {A : Type 0} (first : Option ℕ) (dim : ℕ) (r : Result A FilterFault) → r ≡ Err (Unknown dim) → IfSome first (λ d. r ≡ Err (Unknown d)) → IfNone first (IsOkUnless r NoMemory) → first ≡ Some dim
 unknown-pick None dim r is unknown known = let never = rw is at known in cc

@@ -16,6 +16,8 @@ pub mod Openings
 pub mod DueCommands
 pub mod FixedCells
 pub mod CommandsReady
+pub mod Instead
+pub mod OneTurn
 pub mod Afterwards
 pub mod CommandsHeld
 pub mod Seen

@@ -30,11 +30,12 @@ use Rattle.volap_cell.specs.declared.kind.Kind.TheVariants as kind
 use Rattle.volap_cell.specs.declared.role.Role.{Role}
 use Rattle.volap_cell.specs.declared.role.Role.TheVariants as role
 use Rattle.volap_cell.proofs.States.{is-some, stands}
-use Rattle.seeded_run.specs.Arms.{GoesOnAtPart}
+use Rattle.seeded_run.specs.Arms.{GoesOnAtPart, GoesOnWithCommand}
 use Rattle.seeded_run.specs.AtWork.{errand_by}
 use Rattle.seeded_run.specs.Commands.{may_begin}
 use Rattle.seeded_run.specs.Core.{HasCore, IsDue, IsDueAt}
 use Rattle.seeded_run.specs.Due.{any_below, are_known, balance_kind, command_kind, desk_of, due_by, finish_kind, first_kind, free_kind, is_alone, is_empty, is_empty_desk, job_kind, kind_by_verdict, next_kind, page_kind, parts_kind, stage_kind, tree_kind, work_kind}
+use Rattle.seeded_run.specs.Instead.{in_place_of}
 use Rattle.seeded_run.specs.Steps.{HasCommand, is_at_command, is_for_part, is_for_part_by}
 use Rattle.seeded_run.specs.Look.{waits_for_others}
 use Rattle.seeded_run.specs.Shown.{HasPageOf, HasToShow, IsToShow, subject_by, subject_in, subject_of}
@@ -44,10 +45,20 @@ use Rattle.seeded_run.proofs.LeftAlone.{apart, at-command}
 use Rattle.seeded_run.proofs.PartsReady.{errand-same}
 
 -- a part that went on, or that ended for want of memory
-pub either-ends : (h : List Dimension) (k : Kind) (n : ℕ) (cells cells_now : List (Option Cell)) (actors actors_now : List (Option Actor)) → is_of_part k ≡ true
-    → (Stepped h k n cells actors cells_now actors_now ⊎ Stepped h kind.FinishPart n cells actors cells_now actors_now) → GoesOnAtPart h n cells actors cells_now actors_now
-either-ends h k n cells cells_now actors actors_now part (inl made) = (k, part, made)
-either-ends h k n cells cells_now actors actors_now part (inr made) = (kind.FinishPart, refl, made)
+pub either-ends : (h : List Dimension) (due k : Kind) (n : ℕ) (cells cells_now : List (Option Cell)) (actors actors_now : List (Option Actor)) → due ≡ k → is_of_part k ≡ true → in_place_of k ≡ Some kind.FinishPart
+    → (Stepped h k n cells actors cells_now actors_now ⊎ Stepped h kind.FinishPart n cells actors cells_now actors_now) → GoesOnAtPart h due n cells actors cells_now actors_now
+either-ends h due k n cells cells_now actors actors_now is part ends (inl made) = (k, part, made, inl (sym is))
+either-ends h due k n cells cells_now actors actors_now is part ends (inr made) = (kind.FinishPart, refl, made, inr (ap in_place_of is ∙ ends))
+
+-- a part that went on as it was due
+pub goes-so : (h : List Dimension) (due k : Kind) (n : ℕ) (cells cells_now : List (Option Cell)) (actors actors_now : List (Option Actor)) → due ≡ k → is_of_part k ≡ true → Stepped h k n cells actors cells_now actors_now
+    → GoesOnAtPart h due n cells actors cells_now actors_now
+goes-so h due k n cells cells_now actors actors_now is part made = (k, part, made, inl (sym is))
+
+-- a command that went on where this kind was due
+pub due-so : (h : List Dimension) (due k : Kind) (n : ℕ) (cells cells_now : List (Option Cell)) (actors actors_now : List (Option Actor)) → due ≡ k → GoesOnWithCommand h k n cells actors cells_now actors_now
+    → GoesOnWithCommand h due n cells actors cells_now actors_now
+due-so h due k n cells cells_now actors actors_now is made = subst (λ (x : Kind). GoesOnWithCommand h x n cells actors cells_now actors_now) (sym is) made
 
 -- A kind that is due.
 

@@ -31,6 +31,7 @@ use Rattle.seeded_run.specs.Commands.{GoesBy, IsBegunBy, IsNextAt, IsToBegin, ma
 use Rattle.seeded_run.specs.Core.{IsCore, IsDue, IsDueAt}
 use Rattle.seeded_run.specs.Due.{does_nothing, due}
 use Rattle.seeded_run.specs.Kept.{IsTurn, MovesOn}
+use Rattle.seeded_run.specs.Instead.{StandsFor}
 use Rattle.seeded_run.specs.Machine.{AloneInOrder, HasLeftOver, HasMovedOn, HasTurned, IsDueNow, IsPhaseHeld, IsPhaseKept, RestsAsIs, about_in, cursor, next_at, phase_of, world_of}
 use Rattle.seeded_run.specs.Measure.{BeginInTurn}
 use Rattle.seeded_run.specs.Phase.{most_actors}
@@ -167,7 +168,7 @@ module _ (m : Running) (kept : IsPhaseKept m) (n : ℕ) (due_kind : Kind) (now_d
       (subst (λ (z : Setting). IsNextAt z w n c due_kind) (sym (one-setting m.h.now m.with m.state.cells.items m.state.actors.items t x core)) here)
 
   -- where a command may begin, the next one of the actor's stream does
-  pub to-begin : (c : Command) → slice_get m.phase.now (next_at m n) ≡ Some c → n < length m.state.actors.items → begins_by m.state.actors.items n due_kind ≡ true
+  unfoldable pub to-begin : (c : Command) → slice_get m.phase.now (next_at m n) ≡ Some c → n < length m.state.actors.items → begins_by m.state.actors.items n due_kind ≡ true
       → IsToBegin m.h.now m.with m.state.cells.items m.state.actors.items n c
   to-begin c at within begins =
       let a = stands (get_or m.state.actors.items n None) (λ x. actor_of x ≡ w.actors n) (kept.core.is.actor n within) in
@@ -206,7 +207,7 @@ module _ (m : Running) (kept : IsPhaseKept m) (n : ℕ) (due_kind : Kind) (now_d
 
   -- A step that begins nothing.
   module _ (state_now : State) (k : Kind) (stepped : Stepped m.h.now k n m.state.cells.items m.state.actors.items state_now.cells.items state_now.actors.items)
-      (within : n < length m.state.actors.items) (of_part : is_for_part (w.actors n).errand due_kind ≡ true → is_of_part k ≡ true) where
+      (within : n < length m.state.actors.items) (of_part : is_for_part (w.actors n).errand due_kind ≡ true → is_of_part k ≡ true) (stands : StandsFor due_kind k) where
     after : (x : World) × IsCore m.h.now m.with state_now.cells.items state_now.actors.items s x × Step s k n w x
     after = core-then m.h.now m.with m.state.cells.items state_now.cells.items m.state.actors.items state_now.actors.items s w k n kept.core stepped
 
@@ -226,7 +227,7 @@ module _ (m : Running) (kept : IsPhaseKept m) (n : ℕ) (due_kind : Kind) (now_d
     core-now = subst (λ (x : World). IsCore m.h.now m.with state_now.cells.items state_now.actors.items s x) same-world after.1
 
     turn : IsTurn m.in_order s p w n world_now
-    turn = record { within = subst (λ c. n < c) kept.core.count within; can = now_due.can; due_kind = due_kind; is_due = now_due.due_is; made = k; of_part = of_part; step = step }
+    turn = record { within = subst (λ c. n < c) kept.core.count within; can = now_due.can; due_kind = due_kind; is_due = now_due.due_is; made = k; stands = stands; of_part = of_part; step = step }
 
     alone-now : m.in_order ≡ true → (a : ℕ) → a ≢ n → does_nothing (world_now.actors a) ≡ true
     alone-now order a differs = ap does_nothing (others-law s k n w world_now a step differs) ∙ alone-before order a differs

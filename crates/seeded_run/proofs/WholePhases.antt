@@ -25,7 +25,7 @@ use Rattle.volap_cell.specs.World.{World}
 use Rattle.seeded_run.specs.Can.{able_in, can_step}
 use Rattle.seeded_run.specs.Core.{HasCore, IsCore}
 use Rattle.seeded_run.specs.Kept.{IsBetween, IsStopped}
-use Rattle.seeded_run.specs.Machine.{AloneInOrder, HasLeftOver, HasRunTo, HasStoppedAt, IsFirstMoment, IsPhaseHeld, IsPhaseKept, IsSamePhase, RestsAsIs, TakesTurn, about_in, can_in, cursor, most_steps, next_at, nothing, phase_of, world_of}
+use Rattle.seeded_run.specs.Machine.{AloneInOrder, HasComeToRest, HasLeftOver, HasRunTo, HasStoppedAt, IsFirstMoment, IsPhaseHeld, IsPhaseKept, IsSamePhase, RestsAsIs, TakesTurn, about_in, can_in, cursor, most_steps, next_at, nothing, phase_of, world_of}
 use Rattle.seeded_run.specs.Measure.{limits_of}
 use Rattle.seeded_run.specs.Phase.{IsKeptTurn, MayRun, about, held, is_order, most_actors, phase_from}
 use Rattle.seeded_run.specs.Progress.{IsPhaseOf}
@@ -219,6 +219,7 @@ pub record WholeRun (m : Running) (schedule : Schedule) (now : Running) (schedul
   pub about : about_in now ≡ about_in m
   pub order : is_order schedule_now ≡ is_order schedule
   pub turns : HasRunTo m schedule now schedule_now
+  pub rested : HasComeToRest m schedule now
   pub between : IsBetween m.in_order (about_in m) m.with (m.done.now ++ m.phase.now) (world_of now)
 
 -- and one that stopped
@@ -318,20 +319,30 @@ module _ (m : Running) (first : IsFirstMoment m) (schedule : Schedule) (order : 
       (subst (λ (x : State). Reaches World (able_in m.in_order (about m.h.now m.with x) (phase_of m)) (IsKeptTurn m.in_order (about m.h.now m.with x) (phase_of m)) (record { state = held m.h.now m.with x; schedule = schedule }) (held m.h.now m.with now.state) to) (sym first.before)
       (subst (λ (v : World). Reaches World (able_in m.in_order (about_in m) (phase_of m)) (IsKeptTurn m.in_order (about_in m) (phase_of m)) (record { state = world_of m; schedule = schedule }) v to) there at_first))
 
+  -- that nobody can step, as it is told of the state
+  comes-to-rest : IsSamePhase m now → about_in now ≡ about_in m → able_in now.in_order (about_in now) (phase_of now) (world_of now) ≡ [] → HasComeToRest m schedule now
+  comes-to-rest same about_same none =
+      let there : world_of now ≡ held m.h.now m.with now.state = (λ i. held (same.h i).now (same.with i) now.state) in
+      subst (λ (b : Bool). able_in b (about m.h.now m.with m.before.value) (phase_of m) (held m.h.now m.with now.state) ≡ []) order
+      (subst (λ (x : State). able_in m.in_order (about m.h.now m.with x) (phase_of m) (held m.h.now m.with now.state) ≡ []) (sym first.before)
+      (subst (λ (v : World). able_in m.in_order (about_in m) (phase_of m) v ≡ []) there
+      (as-before (λ b s p d. able_in b s p (world_of now) ≡ []) m now same about_same none)))
+
   -- where nobody can step any more
   pub has-run : Reached start held_start.kept schedule now schedule_now held_now → able_here start held_start.kept now ≡ [] → WholeRun m schedule now schedule_now
   has-run r ended =
       let from = from-turns start held_start.kept schedule now schedule_now r in
       let same = same-from from in
       let count : length now.next.items ≡ actor_count (about_in now) = held_now.kept.count ∙ held_now.kept.core.count in
+      let none : able_in now.in_order (about_in now) (phase_of now) (world_of now) ≡ [] = ap (able (can_in now)) (sym count) ∙ ended in
       record {
         same = same.0;
         about = same.1;
         order = turns-order Running (able_here start held_start.kept) TakesTurn (record { state = start; schedule = schedule }) (record { state = now; schedule = schedule_now }) r.turns r.are;
         turns = runs schedule_now from (ran start held_start.kept schedule now schedule_now r);
+        rested = comes-to-rest same.0 same.1 none;
         between = as-before (λ b s p d. IsBetween b s p.with (d ++ p.commands) (world_of now)) m now same.0 same.1
-            (phase-ends-law now.in_order (about_in now) (phase_of now) now.done.now (world_of now) held_now.kept.core.inv.ghost_of (cursor now) held_now.kept.core.inv.holds held_now.kept.is_running
-            (ap (able (can_in now)) (sym count) ∙ ended));
+            (phase-ends-law now.in_order (about_in now) (phase_of now) now.done.now (world_of now) held_now.kept.core.inv.ghost_of (cursor now) held_now.kept.core.inv.holds held_now.kept.is_running none);
       }
 
   pub has-stopped : Stopped start held_start.kept schedule now schedule_now held_now → PartRun m schedule now schedule_now

@@ -8,17 +8,19 @@ use Rattle.volap_cell.specs.declared.actor.Actor.{Actor}
 use Rattle.volap_cell.specs.declared.cell.Cell.{Cell}
 use Rattle.volap_cell.specs.declared.kind.Kind.{Kind}
 use Rattle.volap_cell.specs.declared.kind.Kind.TheVariants.{Note}
+use Rattle.seeded_run.specs.Instead.{StandsFor}
 use Rattle.seeded_run.specs.Told.{is_of_part}
 
--- the actor has gone on with a part or with its purse
-abbrev pub GoesOnAtPart : (h : List Dimension) (n : ℕ) (cells : List (Option Cell)) (actors : List (Option Actor)) (cells_now : List (Option Cell)) (actors_now : List (Option Actor)) → Type 0
-GoesOnAtPart h n cells actors cells_now actors_now = (k : Kind) × (is_of_part k ≡ true) × Stepped h k n cells actors cells_now actors_now
+-- the actor has gone on with a part or with its purse, where a step of this kind was due
+abbrev pub GoesOnAtPart : (h : List Dimension) (due : Kind) (n : ℕ) (cells : List (Option Cell)) (actors : List (Option Actor)) (cells_now : List (Option Cell)) (actors_now : List (Option Actor)) → Type 0
+GoesOnAtPart h due n cells actors cells_now actors_now = (k : Kind) × (is_of_part k ≡ true) × Stepped h k n cells actors cells_now actors_now × StandsFor due k
 
 -- a step of this kind is no note, or it has told the history something
 abbrev pub TellsIfNote : (k : Kind) (cells : List (Option Cell)) (actors : List (Option Actor)) (cells_now : List (Option Cell)) (actors_now : List (Option Actor)) → Type 0
 TellsIfNote k cells actors cells_now actors_now =
     (k ≢ Note) ⊎ ((w now : World) → IsWorldOf cells actors w → IsWorldOf cells_now actors_now now → history_in now ≢ history_in w)
 
--- the actor has gone on with its command
-abbrev pub GoesOnWithCommand : (h : List Dimension) (n : ℕ) (cells : List (Option Cell)) (actors : List (Option Actor)) (cells_now : List (Option Cell)) (actors_now : List (Option Actor)) → Type 0
-GoesOnWithCommand h n cells actors cells_now actors_now = (k : Kind) × Stepped h k n cells actors cells_now actors_now × TellsIfNote k cells actors cells_now actors_now
+-- the actor has gone on with its command, where a step of this kind was due
+abbrev pub GoesOnWithCommand : (h : List Dimension) (due : Kind) (n : ℕ) (cells : List (Option Cell)) (actors : List (Option Actor)) (cells_now : List (Option Cell)) (actors_now : List (Option Actor)) → Type 0
+GoesOnWithCommand h due n cells actors cells_now actors_now =
+    (k : Kind) × Stepped h k n cells actors cells_now actors_now × TellsIfNote k cells actors cells_now actors_now × StandsFor due k

@@ -8,6 +8,7 @@ use Rattle.volap_cell.specs.declared.kind.Kind.TheVariants as kind
 use Rattle.seeded_run.specs.Can.{can_step}
 use Rattle.seeded_run.specs.Commands.{may_begin}
 use Rattle.seeded_run.specs.Due.{due}
+use Rattle.seeded_run.specs.Instead.{in_place_of}
 use Rattle.seeded_run.specs.Machine.{IsSamePhase, about_in, phase_of, world_of}
 use Rattle.seeded_run.specs.Phase.{IsKeptTurn}
 use Rattle.seeded_run.specs.Rests.{PhaseRun}
@@ -76,6 +77,6 @@ may_find_none kind.FinishSplit = true
 may_find_none kind.FinishMove = true
 may_find_none _ = false
 
--- such a step begins no command, and goes on with no part
+-- such a step begins no command, and goes on with no part, and in its place a job is given up
 abbrev pub IsOfJob : Kind → Type 0
-IsOfJob k = (may_begin k ≡ false) × ((errand : Option ErrandValue) → is_for_part errand k ≡ false)
+IsOfJob k = (may_begin k ≡ false) × ((errand : Option ErrandValue) → is_for_part errand k ≡ false) × (in_place_of k ≡ Some kind.Postpone)

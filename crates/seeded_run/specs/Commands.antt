@@ -23,7 +23,7 @@ use Rattle.volap_cell.specs.declared.kind.Kind.TheVariants as kind
 use Rattle.volap_cell.specs.declared.role.Role.TheVariants.{Session}
 use Rattle.seeded_run.specs.Can.{meets}
 use Rattle.seeded_run.specs.Core.{IsCore}
-use Rattle.seeded_run.specs.Due.{due_by}
+use Rattle.seeded_run.specs.Due.{are_known, due_by}
 use Rattle.seeded_run.specs.Look.{HasNames}
 
 -- a step of this kind is due for the actor, and it can be made, where this command is the next one of its stream
@@ -58,6 +58,15 @@ may_begin kind.BeginInsert = true
 may_begin kind.BeginQuery = true
 may_begin kind.Note = true
 may_begin _ = false
+
+-- by which kind a command begins of whose names all are known, or ends of which one isn't
+abbrev pub beginning_if : Command → Bool → Kind
+beginning_if (script.Insert new) true = kind.BeginInsert
+beginning_if (script.Query question) true = kind.BeginQuery
+beginning_if c known = kind.Note
+
+abbrev pub beginning : List Dimension → Command → Kind
+beginning h c = beginning_if c (are_known h c)
 
 -- a pull is for a server that is there
 abbrev pub IsAllowedCall : Use → Call → Type 0

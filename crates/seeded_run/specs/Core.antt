@@ -12,6 +12,7 @@ use Rattle.volap_cell.specs.declared.cell.Cell.{Cell}
 use Rattle.volap_cell.specs.declared.kind.Kind.{Kind}
 use Rattle.seeded_run.specs.Can.{meets}
 use Rattle.seeded_run.specs.Due.{due_by}
+use Rattle.seeded_run.specs.Instead.{StandsFor}
 use Rattle.seeded_run.specs.Progress.{AreScriptRoles}
 
 -- the vectors are this state, of a core for these dimensions and settings and for a script's actors, which meets the invariant
@@ -40,6 +41,6 @@ pub record IsDueAt (s : Setting) (w : World) (n : ℕ) (k : Kind) : Type 0 where
 abbrev pub IsDue : (h : List Dimension) (with : Use) (cells : List (Option Cell)) (actors : List (Option Actor)) (n : ℕ) (k : Kind) → Type 0
 IsDue h with cells actors n k = (s : Setting) (w : World) → IsCore h with cells actors s w → IsDueAt s w n k
 
--- the vectors after a step of the actor, of some kind, from what they were
-abbrev pub StepsOn : List Dimension → ℕ → List (Option Cell) → List (Option Actor) → List (Option Cell) → List (Option Actor) → Type 0
-StepsOn h n cells actors cells_now actors_now = (k : Kind) × Stepped h k n cells actors cells_now actors_now
+-- the vectors after a step of the actor, where one of this kind was due, from what they were
+abbrev pub StepsOn : List Dimension → Kind → ℕ → List (Option Cell) → List (Option Actor) → List (Option Cell) → List (Option Actor) → Type 0
+StepsOn h due n cells actors cells_now actors_now = (k : Kind) × Stepped h k n cells actors cells_now actors_now × StandsFor due k

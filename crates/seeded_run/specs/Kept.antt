@@ -18,6 +18,7 @@ use Rattle.volap_cell.specs.World.{World}
 use Rattle.volap_cell.specs.declared.kind.Kind.{Kind}
 use Rattle.seeded_run.specs.Can.{able_in, can_step}
 use Rattle.seeded_run.specs.Due.{due}
+use Rattle.seeded_run.specs.Instead.{StandsFor, in_place_of}
 use Rattle.seeded_run.specs.Progress.{AreScriptRoles, IsOrderedRun, IsPhaseOf, IsScriptRun}
 use Rattle.seeded_run.specs.Rests.{PhaseRun, rest_of}
 use Rattle.seeded_run.specs.Running.{AreAtOwn, IsRunning}
@@ -66,15 +67,21 @@ StopsLaw = (in_order : Bool) (s : Setting) (p : PhaseRun) (done : List Command) 
 
 -- Steps.
 
--- An actor that can step makes a step. Where it is due that it goes on with its part or its purse, it does so.
+-- An actor that can step makes the step that is due, or what is made in its place where no memory is found. Where it is due that it goes
+-- on with its part or its purse, it does so.
 pub record IsTurn (in_order : Bool) (s : Setting) (p : PhaseRun) (w : World) (n : ℕ) (now : World) : Type 0 where
   pub within : n < actor_count s
   pub can : can_step in_order s p w n ≡ true
   pub due_kind : Kind
   pub is_due : due s p w n ≡ Some due_kind
   pub made : Kind
+  pub stands : StandsFor due_kind made
   pub of_part : is_for_part (w.actors n).errand due_kind ≡ true → is_of_part made ≡ true
   pub step : Step s made n w now
+
+-- A step of a kind that takes no memory is made as it is due.
+abbrev pub MadeLaw : Type 0
+MadeLaw = (in_order : Bool) (s : Setting) (p : PhaseRun) (w : World) (n : ℕ) (now : World) (turn : IsTurn in_order s p w n now) → in_place_of turn.due_kind ≡ None → turn.made ≡ turn.due_kind
 
 -- A step that begins nothing keeps all of it;
 abbrev pub KeepsOtherLaw : Type 0

@@ -12,6 +12,7 @@ pub mod Measure
 pub mod Progress
 pub mod Running
 pub mod Told
+pub mod Instead
 pub mod Commands
 pub mod Kept
 pub mod Arms

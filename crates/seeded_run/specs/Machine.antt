@@ -18,7 +18,7 @@ use Rattle.seeded_run.specs.Due.{does_nothing, due}
 use Rattle.seeded_run.specs.DueSteps.{due_step}
 use Rattle.seeded_run.specs.Kept.{IsBetween}
 use Rattle.seeded_run.specs.Measure.{CoreHasLeft, limits_of}
-use Rattle.seeded_run.specs.Phase.{ClosesLast, IsKeptTurn, MayAllRun, about, held, most_actors, phase_from, RunsTo, StopsAt}
+use Rattle.seeded_run.specs.Phase.{ClosesLast, IsKeptTurn, MayAllRun, NobodyCanStep, about, held, is_order, most_actors, phase_from, RunsTo, StopsAt}
 use Rattle.seeded_turns.specs.declared.schedule.Schedule.{Schedule}
 use Rattle.seeded_run.specs.Ranks.{rank, commands_waiting, with_waiting}
 use Rattle.seeded_run.specs.Rests.{PhaseRun, first_open}
@@ -175,6 +175,10 @@ pub record IsFirstMoment (m : Running) : Type 0 where
 -- some turns lead from one moment of a phase to another
 abbrev pub HasRunTo : Running → Schedule → Running → Schedule → Type 0
 HasRunTo m schedule now schedule_now = RunsTo m.h.now m.with m.phase.now m.before.value schedule now.state schedule_now
+
+-- and nobody can make a step any more
+abbrev pub HasComeToRest : Running → Schedule → Running → Type 0
+HasComeToRest m schedule now = NobodyCanStep (is_order schedule) m.h.now m.with m.phase.now m.before.value now.state
 
 abbrev pub HasStoppedAt : Running → Schedule → Running → Type 0
 HasStoppedAt m schedule now = StopsAt m.h.now m.with m.phase.now m.before.value schedule now.state

@@ -1,10 +1,10 @@
 -- A phase of a script, as it runs over a core that one thread holds.
-use Rattle.std.specs.Prelude.{ℕ, ◌≡◌, ◌+◌, ◌^◌, ◌<◌, Bool, true, false, List, Some, length, slice_get}
+use Rattle.std.specs.Prelude.{ℕ, ◌≡◌, ◌+◌, ◌^◌, ◌<◌, Bool, true, false, List, [], Some, length, slice_get}
 use Rattle.dim_hierarchy.specs.Dimension.{Dimension}
 use Rattle.row_ledger.specs.declared.settings.Use.{Use}
 use Rattle.script_form.specs.declared.script.Command.{Command}
 use Rattle.script_run.specs.Phases.{closes}
-use Rattle.seeded_turns.specs.Drawn.{Reaches}
+use Rattle.seeded_turns.specs.Drawn.{Moment, Reaches, Turn}
 use Rattle.seeded_turns.specs.declared.schedule.Schedule.{Schedule}
 use Rattle.seeded_turns.specs.declared.schedule.Schedule.TheVariants as schedule_is
 use Rattle.volap_cell.specs.Setting.{Setting}
@@ -76,3 +76,18 @@ RunsTo h with phase from schedule to schedule_now =
 -- and where a step found no memory, to the state that was reached, with some schedule
 abbrev pub StopsAt : List Dimension → Use → List Command → State → Schedule → State → Type 0
 StopsAt h with phase from schedule to = (s : Schedule) × RunsTo h with phase from schedule to s
+
+-- nobody can make a step any more in this state of the phase that began in another one
+abbrev pub NobodyCanStep : Bool → List Dimension → Use → List Command → State → State → Type 0
+NobodyCanStep in_order h with phase from to = able_in in_order (about h with from) (phase_from h with phase from) (held h with to) ≡ []
+
+-- Turns.
+
+-- a turn of a phase, from one moment to the next
+abbrev pub IsTurnOf : Bool → Setting → PhaseRun → Moment World → Moment World → Type 0
+IsTurnOf in_order s p before now = Turn World (able_in in_order s p) (IsKeptTurn in_order s p) before now
+
+-- Two turns from one moment are of one actor, for whom a step of one kind was due, and leave one schedule.
+abbrev pub OneTurnLaw : Type 0
+OneTurnLaw = (in_order : Bool) (s : Setting) (p : PhaseRun) (before a b : Moment World) (x : IsTurnOf in_order s p before a) (y : IsTurnOf in_order s p before b)
+    → (x.actor ≡ y.actor) × (x.step.turn.due_kind ≡ y.step.turn.due_kind) × (a.schedule ≡ b.schedule)

@@ -2,9 +2,11 @@
 ghost use Rattle.std.specs.Prelude.{◌≡◌, true, OnErr, OnOk};
 ghost use Rattle.core_steps.specs.Ready.{Stays};
 ghost use Rattle.script_form.specs.declared.script.Command.TheVariants.{Control, Insert, Query};
-ghost use Rattle.seeded_run.specs.Commands.{GoesBy, IsToBegin, may_be_refused};
+ghost use Rattle.seeded_run.specs.Commands.{GoesBy, IsToBegin, beginning, may_be_refused};
 ghost use Rattle.seeded_run.specs.Core.{HasCore, StepsOn};
 ghost use Rattle.volap_cell.specs.ImageKinds.{asks_registry};
+ghost use Rattle.volap_cell.specs.State.{Stepped};
+ghost use Rattle.volap_cell.specs.declared.kind.Kind.TheVariants.{Note};
 
 use crate::places::{desk_place, image_place, ledger_place, registry_place};
 use dim_hierarchy::{FilterFault, Hierarchy};
@@ -25,7 +27,7 @@ fn begin_insert(
 ) -> Result<(), AllocError>
     requires core { HasCore h.now with.now state.old.cells.items state.old.actors.items }
     requires begins { IsToBegin h.now with.now state.old.cells.items state.old.actors.items number (Insert new.now) }
-    ensures made { OnOk result (StepsOn h.now number state.old.cells.items state.old.actors.items state.new.cells.items state.new.actors.items) }
+    ensures made { OnOk result (Stepped h.now (beginning h.now (Insert new.now)) number state.old.cells.items state.old.actors.items state.new.cells.items state.new.actors.items) }
     ensures begun { OnOk result (GoesBy with.now h.now (Insert new.now) state.old.cells.items state.old.actors.items state.new.cells.items state.new.actors.items) }
     ensures stays { OnErr result (Stays state.old.cells.items state.old.actors.items state.new.cells.items state.new.actors.items) }
 {
@@ -50,7 +52,7 @@ fn begin_query(
 ) -> Result<(), AllocError>
     requires core { HasCore h.now with.now state.old.cells.items state.old.actors.items }
     requires begins { IsToBegin h.now with.now state.old.cells.items state.old.actors.items number (Query question.now) }
-    ensures made { OnOk result (StepsOn h.now number state.old.cells.items state.old.actors.items state.new.cells.items state.new.actors.items) }
+    ensures made { OnOk result (Stepped h.now (beginning h.now (Query question.now)) number state.old.cells.items state.old.actors.items state.new.cells.items state.new.actors.items) }
     ensures begun { OnOk result (GoesBy with.now h.now (Query question.now) state.old.cells.items state.old.actors.items state.new.cells.items state.new.actors.items) }
     ensures stays { OnErr result (Stays state.old.cells.items state.old.actors.items state.new.cells.items state.new.actors.items) }
 {
@@ -88,7 +90,7 @@ fn begin_call(
 ) -> Result<(), AllocError>
     requires core { HasCore h.now with.now state.old.cells.items state.old.actors.items }
     requires begins { IsToBegin h.now with.now state.old.cells.items state.old.actors.items number (Control called) }
-    ensures made { OnOk result (StepsOn h.now number state.old.cells.items state.old.actors.items state.new.cells.items state.new.actors.items) }
+    ensures made { OnOk result (Stepped h.now Note number state.old.cells.items state.old.actors.items state.new.cells.items state.new.actors.items) }
     ensures begun { OnOk result (GoesBy with.now h.now (Control called) state.old.cells.items state.old.actors.items state.new.cells.items state.new.actors.items) }
     ensures stays { OnErr result (Stays state.old.cells.items state.old.actors.items state.new.cells.items state.new.actors.items) }
 {
@@ -122,7 +124,7 @@ fn try_to_begin(
 ) -> Result<(), AllocError>
     requires core { HasCore h.now with.now state.old.cells.items state.old.actors.items }
     requires begins { IsToBegin h.now with.now state.old.cells.items state.old.actors.items number command.now }
-    ensures made { OnOk result (StepsOn h.now number state.old.cells.items state.old.actors.items state.new.cells.items state.new.actors.items) }
+    ensures made { OnOk result (Stepped h.now (beginning h.now command.now) number state.old.cells.items state.old.actors.items state.new.cells.items state.new.actors.items) }
     ensures begun { OnOk result (GoesBy with.now h.now command.now state.old.cells.items state.old.actors.items state.new.cells.items state.new.actors.items) }
     ensures stays { OnErr result (Stays state.old.cells.items state.old.actors.items state.new.cells.items state.new.actors.items) }
 {
@@ -155,7 +157,7 @@ fn refuse(
     requires core { HasCore h.now with.now state.old.cells.items state.old.actors.items }
     requires begins { IsToBegin h.now with.now state.old.cells.items state.old.actors.items number command.now }
     requires refused { may_be_refused command.now ≡ true }
-    ensures made { OnOk result (StepsOn h.now number state.old.cells.items state.old.actors.items state.new.cells.items state.new.actors.items) }
+    ensures made { OnOk result (Stepped h.now Note number state.old.cells.items state.old.actors.items state.new.cells.items state.new.actors.items) }
     ensures begun { OnOk result (GoesBy with.now h.now command.now state.old.cells.items state.old.actors.items state.new.cells.items state.new.actors.items) }
     ensures stays { OnErr result (Stays state.old.cells.items state.old.actors.items state.new.cells.items state.new.actors.items) }
 {
@@ -177,7 +179,7 @@ pub(crate) fn begin(
 ) -> Result<(), AllocError>
     requires core { HasCore h.now with.now state.old.cells.items state.old.actors.items }
     requires begins { IsToBegin h.now with.now state.old.cells.items state.old.actors.items number command.now }
-    ensures made { OnOk result (StepsOn h.now number state.old.cells.items state.old.actors.items state.new.cells.items state.new.actors.items) }
+    ensures made { OnOk result (StepsOn h.now (beginning h.now command.now) number state.old.cells.items state.old.actors.items state.new.cells.items state.new.actors.items) }
     ensures begun { OnOk result (GoesBy with.now h.now command.now state.old.cells.items state.old.actors.items state.new.cells.items state.new.actors.items) }
     ensures stays { OnErr result (Stays state.old.cells.items state.old.actors.items state.new.cells.items state.new.actors.items) }
 {

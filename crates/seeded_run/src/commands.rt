@@ -32,7 +32,7 @@ pub(crate) fn ack(h: &Hierarchy, with: &Use, state: &mut State, number: usize)
     requires core { HasCore h.now with.now state.old.cells.items state.old.actors.items }
     requires within { number < length state.old.actors.items }
     requires due { IsDue h.now with.now state.old.cells.items state.old.actors.items number Ack }
-    ensures made { GoesOnWithCommand h.now number state.old.cells.items state.old.actors.items state.new.cells.items state.new.actors.items }
+    ensures made { GoesOnWithCommand h.now Ack number state.old.cells.items state.old.actors.items state.new.cells.items state.new.actors.items }
 {
     let server = session_server(state, number);
     let desk = desk_place(with, server);
@@ -46,7 +46,7 @@ pub(crate) fn answer(h: &Hierarchy, with: &Use, state: &mut State, number: usize
     requires core { HasCore h.now with.now state.old.cells.items state.old.actors.items }
     requires within { number < length state.old.actors.items }
     requires due { IsDue h.now with.now state.old.cells.items state.old.actors.items number Answer }
-    ensures made { GoesOnWithCommand h.now number state.old.cells.items state.old.actors.items state.new.cells.items state.new.actors.items }
+    ensures made { GoesOnWithCommand h.now Answer number state.old.cells.items state.old.actors.items state.new.cells.items state.new.actors.items }
 {
     let server = session_server(state, number);
     let desk = desk_place(with, server);
@@ -60,7 +60,7 @@ pub(crate) fn route(alloc: Global, h: &Hierarchy, with: &Use, state: &mut State,
     requires core { HasCore h.now with.now state.old.cells.items state.old.actors.items }
     requires within { number < length state.old.actors.items }
     requires due { IsDue h.now with.now state.old.cells.items state.old.actors.items number Route }
-    ensures made { GoesOnWithCommand h.now number state.old.cells.items state.old.actors.items state.new.cells.items state.new.actors.items }
+    ensures made { GoesOnWithCommand h.now Route number state.old.cells.items state.old.actors.items state.new.cells.items state.new.actors.items }
 {
     let server = session_server(state, number);
     let desk = desk_place(with, server);
@@ -78,7 +78,7 @@ pub(crate) fn sync(alloc: Global, h: &Hierarchy, with: &Use, state: &mut State, 
     requires core { HasCore h.now with.now state.old.cells.items state.old.actors.items }
     requires within { number < length state.old.actors.items }
     requires due { IsDue h.now with.now state.old.cells.items state.old.actors.items number Sync }
-    ensures made { GoesOnWithCommand h.now number state.old.cells.items state.old.actors.items state.new.cells.items state.new.actors.items }
+    ensures made { GoesOnWithCommand h.now Sync number state.old.cells.items state.old.actors.items state.new.cells.items state.new.actors.items }
 {
     let server = pull_by(with, state, number);
     let image = image_place(server);

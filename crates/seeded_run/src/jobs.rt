@@ -11,7 +11,7 @@ ghost use Rattle.volap_cell.specs.AdminKinds.{HasFrozen};
 ghost use Rattle.volap_cell.specs.Cells.{phase_of};
 ghost use Rattle.volap_cell.specs.Values.{actor_of, building_of, collecting_of, job_of, stage_of, Builds, Collects};
 ghost use Rattle.volap_cell.specs.Working.{frozen_in};
-ghost use Rattle.volap_cell.specs.declared.kind.Kind.TheVariants.{BuildBlock, Collect, Drained, Freeze, Note};
+ghost use Rattle.volap_cell.specs.declared.kind.Kind.TheVariants.{BuildBlock, Collect, Drained, Freeze, Note, Postpone};
 
 use crate::places::{ledger_place, map_place, stock_place};
 use crate::reads::gate_there;
@@ -333,7 +333,7 @@ pub(crate) fn give_up(h: &Hierarchy, with: &Use, state: &mut State, number: usiz
     requires core { HasCore h.now with.now state.old.cells.items state.old.actors.items }
     requires within { number < length state.old.actors.items }
     requires frozen { CanGiveUpBy state.old.actors.items number }
-    ensures made { GoesOnWithCommand h.now number state.old.cells.items state.old.actors.items state.new.cells.items state.new.actors.items }
+    ensures made { GoesOnWithCommand h.now Postpone number state.old.cells.items state.old.actors.items state.new.cells.items state.new.actors.items }
 {
     let _ = with;
     let _most = most_by(state, number);
@@ -346,7 +346,7 @@ fn leave(h: &Hierarchy, with: &Use, state: &mut State, number: usize)
     requires within { number < length state.old.actors.items }
     requires balance { is_balance (command_by state.old.actors.items number) ≡ true }
     requires left { CanLeaveBy state.old.actors.items number }
-    ensures made { GoesOnWithCommand h.now number state.old.cells.items state.old.actors.items state.new.cells.items state.new.actors.items }
+    ensures made { GoesOnWithCommand h.now Note number state.old.cells.items state.old.actors.items state.new.cells.items state.new.actors.items }
 {
     let _ = with;
     let _most = most_by(state, number);
@@ -359,7 +359,7 @@ fn end_unfrozen(h: &Hierarchy, with: &Use, state: &mut State, number: usize)
     requires core { HasCore h.now with.now state.old.cells.items state.old.actors.items }
     requires within { number < length state.old.actors.items }
     requires first { IsAtFirstBy state.old.actors.items number }
-    ensures made { GoesOnWithCommand h.now number state.old.cells.items state.old.actors.items state.new.cells.items state.new.actors.items }
+    ensures made { GoesOnWithCommand h.now Note number state.old.cells.items state.old.actors.items state.new.cells.items state.new.actors.items }
 {
     if is_balance(state, number) {
         leave(h, with, state, number);
@@ -374,7 +374,7 @@ pub(crate) fn freeze(alloc: Global, h: &Hierarchy, with: &Use, state: &mut State
     requires core { HasCore h.now with.now state.old.cells.items state.old.actors.items }
     requires within { number < length state.old.actors.items }
     requires due { IsDue h.now with.now state.old.cells.items state.old.actors.items number Freeze }
-    ensures made { GoesOnWithCommand h.now number state.old.cells.items state.old.actors.items state.new.cells.items state.new.actors.items }
+    ensures made { GoesOnWithCommand h.now Freeze number state.old.cells.items state.old.actors.items state.new.cells.items state.new.actors.items }
 {
     let map = map_place(with, worker_by(state, number));
     let gate = gate_by(with, state, number);
@@ -389,7 +389,7 @@ pub(crate) fn drained(alloc: Global, h: &Hierarchy, with: &Use, state: &mut Stat
     requires core { HasCore h.now with.now state.old.cells.items state.old.actors.items }
     requires within { number < length state.old.actors.items }
     requires due { IsDue h.now with.now state.old.cells.items state.old.actors.items number Drained }
-    ensures made { GoesOnWithCommand h.now number state.old.cells.items state.old.actors.items state.new.cells.items state.new.actors.items }
+    ensures made { GoesOnWithCommand h.now Drained number state.old.cells.items state.old.actors.items state.new.cells.items state.new.actors.items }
 {
     let gate = frozen_by(state, number);
     match core_steps::drained(alloc, h, state, number, gate) {
@@ -405,7 +405,7 @@ fn collect_block(h: &Hierarchy, with: &Use, state: &mut State, number: usize, bl
     requires within { number < length state.old.actors.items }
     requires due { IsDue h.now with.now state.old.cells.items state.old.actors.items number Collect }
     requires next { next_of (world_by state.old.cells.items) (job_by state.old.actors.items number) ≡ Block block }
-    ensures made { GoesOnWithCommand h.now number state.old.cells.items state.old.actors.items state.new.cells.items state.new.actors.items }
+    ensures made { GoesOnWithCommand h.now Collect number state.old.cells.items state.old.actors.items state.new.cells.items state.new.actors.items }
 {
     collect_laws();
     match core_steps::collect_block(h, state, number, block) {
@@ -420,7 +420,7 @@ fn collect_row(h: &Hierarchy, with: &Use, state: &mut State, number: usize)
     requires within { number < length state.old.actors.items }
     requires due { IsDue h.now with.now state.old.cells.items state.old.actors.items number Collect }
     requires next { next_of (world_by state.old.cells.items) (job_by state.old.actors.items number) ≡ Row }
-    ensures made { GoesOnWithCommand h.now number state.old.cells.items state.old.actors.items state.new.cells.items state.new.actors.items }
+    ensures made { GoesOnWithCommand h.now Collect number state.old.cells.items state.old.actors.items state.new.cells.items state.new.actors.items }
 {
     let gate = frozen_by(state, number);
     match core_steps::collect_row(h, state, number, gate) {
@@ -435,7 +435,7 @@ fn build_trees(alloc: Global, h: &Hierarchy, with: &Use, state: &mut State, numb
     requires within { number < length state.old.actors.items }
     requires due { IsDue h.now with.now state.old.cells.items state.old.actors.items number Collect }
     requires next { next_of (world_by state.old.cells.items) (job_by state.old.actors.items number) ≡ Trees }
-    ensures made { GoesOnWithCommand h.now number state.old.cells.items state.old.actors.items state.new.cells.items state.new.actors.items }
+    ensures made { GoesOnWithCommand h.now Collect number state.old.cells.items state.old.actors.items state.new.cells.items state.new.actors.items }
 {
     let gate = frozen_by(state, number);
     match core_steps::build_trees(alloc, h, state, number, gate) {
@@ -450,7 +450,7 @@ pub(crate) fn collect(alloc: Global, h: &Hierarchy, with: &Use, state: &mut Stat
     requires core { HasCore h.now with.now state.old.cells.items state.old.actors.items }
     requires within { number < length state.old.actors.items }
     requires due { IsDue h.now with.now state.old.cells.items state.old.actors.items number Collect }
-    ensures made { GoesOnWithCommand h.now number state.old.cells.items state.old.actors.items state.new.cells.items state.new.actors.items }
+    ensures made { GoesOnWithCommand h.now Collect number state.old.cells.items state.old.actors.items state.new.cells.items state.new.actors.items }
 {
     match next_by(state, number) {
         Next::Block(block) => collect_block(h, with, state, number, block),
@@ -470,7 +470,7 @@ pub(crate) fn build_block(
     requires core { HasCore h.now with.now state.old.cells.items state.old.actors.items }
     requires within { number < length state.old.actors.items }
     requires due { IsDue h.now with.now state.old.cells.items state.old.actors.items number BuildBlock }
-    ensures made { GoesOnWithCommand h.now number state.old.cells.items state.old.actors.items state.new.cells.items state.new.actors.items }
+    ensures made { GoesOnWithCommand h.now BuildBlock number state.old.cells.items state.old.actors.items state.new.cells.items state.new.actors.items }
 {
     let _ = with;
     let cell = unbuilt_by(state, number);
@@ -484,7 +484,7 @@ fn end_balance(h: &Hierarchy, with: &Use, state: &mut State, number: usize)
     requires due { IsDue h.now with.now state.old.cells.items state.old.actors.items number Note }
     requires balance { is_balance (command_by state.old.actors.items number) ≡ true }
     requires jobless { is_some (job_by state.old.actors.items number) ≡ false }
-    ensures made { GoesOnWithCommand h.now number state.old.cells.items state.old.actors.items state.new.cells.items state.new.actors.items }
+    ensures made { GoesOnWithCommand h.now Note number state.old.cells.items state.old.actors.items state.new.cells.items state.new.actors.items }
 {
     let _ = with;
     let how = end_by(state, number);
@@ -498,7 +498,7 @@ pub(crate) fn note_balance(h: &Hierarchy, with: &Use, state: &mut State, number:
     requires within { number < length state.old.actors.items }
     requires due { IsDue h.now with.now state.old.cells.items state.old.actors.items number Note }
     requires balance { is_balance (command_by state.old.actors.items number) ≡ true }
-    ensures made { GoesOnWithCommand h.now number state.old.cells.items state.old.actors.items state.new.cells.items state.new.actors.items }
+    ensures made { GoesOnWithCommand h.now Note number state.old.cells.items state.old.actors.items state.new.cells.items state.new.actors.items }
 {
     if has_job_by(state, number) {
         leave(h, with, state, number);

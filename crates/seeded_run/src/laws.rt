@@ -1,7 +1,8 @@
 //! Laws of what is due, and of what the streams of a phase still have. There is nothing to do at run time.
 ghost use Rattle.seeded_run.specs.Cursors.{CursorLaw, FirstLaw, LastLaw};
-ghost use Rattle.seeded_run.specs.Kept.{KeepsBeginningLaw, KeepsOtherLaw, PhaseBeginsLaw, PhaseEndsLaw, QuietLaw, RunsLaw, StopsLaw};
+ghost use Rattle.seeded_run.specs.Kept.{KeepsBeginningLaw, KeepsOtherLaw, MadeLaw, PhaseBeginsLaw, PhaseEndsLaw, QuietLaw, RunsLaw, StopsLaw};
 ghost use Rattle.seeded_run.specs.Laws.{WholeLaw, RestLaw, IdleLaw, AtPartLaw, CarrierLaw, WantedLaw, FreeLaw, OrderLaw};
+ghost use Rattle.seeded_run.specs.Phase.{OneTurnLaw};
 ghost use Rattle.seeded_run.specs.Progress.{CanLaw, DueLaw, EndLaw, OrderEndLaw, ScriptLaw};
 ghost use Rattle.seeded_run.specs.Measure.{CountedLaw, FewerLaw, LimitsLaw, MostLaw, StepsLeftLaw};
 ghost use Rattle.seeded_run.specs.Ranks.{RankFallsLaw, StepFallsLaw, WaitingLaw};
@@ -100,4 +101,11 @@ pub fn steps_keep_a_phase()
     ensures other { KeepsOtherLaw }
     ensures beginning { KeepsBeginningLaw }
     ensures quiet { QuietLaw }
+{}
+
+/// On each turn the step is made that is due, if it is of a kind that takes no memory. And in each state the
+/// schedule alone tells whose turn it is, and so which kind is due.
+pub fn due_steps_are_made()
+    ensures made { MadeLaw }
+    ensures one { OneTurnLaw }
 {}

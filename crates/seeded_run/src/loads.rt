@@ -56,7 +56,7 @@ fn read_next(alloc: Global, h: &Hierarchy, with: &Use, state: &mut State, number
     requires due { IsDue h.now with.now state.old.cells.items state.old.actors.items number LookUp }
     requires idle { errand_by state.old.actors.items number ≡ None }
     requires next { load_of (command_by state.old.actors.items number) ≡ Some load }
-    ensures made { GoesOnWithCommand h.now number state.old.cells.items state.old.actors.items state.new.cells.items state.new.actors.items }
+    ensures made { GoesOnWithCommand h.now LookUp number state.old.cells.items state.old.actors.items state.new.cells.items state.new.actors.items }
 {
     let ledger = ledger_place();
     let map = map_place(with, load.worker);
@@ -74,7 +74,7 @@ fn end_unplanned(h: &Hierarchy, with: &Use, state: &mut State, number: usize)
     requires within { number < length state.old.actors.items }
     requires due { IsDue h.now with.now state.old.cells.items state.old.actors.items number LookUp }
     requires idle { errand_by state.old.actors.items number ≡ None }
-    ensures made { GoesOnWithCommand h.now number state.old.cells.items state.old.actors.items state.new.cells.items state.new.actors.items }
+    ensures made { GoesOnWithCommand h.now LookUp number state.old.cells.items state.old.actors.items state.new.cells.items state.new.actors.items }
 {
     let _ = with;
     core_steps::note_ended(h, state, number, ledger_place(), How::NoMemory);
@@ -88,7 +88,7 @@ pub(crate) fn read_load(alloc: Global, h: &Hierarchy, with: &Use, state: &mut St
     requires within { number < length state.old.actors.items }
     requires due { IsDue h.now with.now state.old.cells.items state.old.actors.items number LookUp }
     requires idle { errand_by state.old.actors.items number ≡ None }
-    ensures made { GoesOnWithCommand h.now number state.old.cells.items state.old.actors.items state.new.cells.items state.new.actors.items }
+    ensures made { GoesOnWithCommand h.now LookUp number state.old.cells.items state.old.actors.items state.new.cells.items state.new.actors.items }
 {
     match load_by(state, number) {
         Some(load) => read_next(alloc, h, with, state, number, load),

@@ -80,7 +80,7 @@ fn move_away(alloc: Global, h: &Hierarchy, with: &Use, state: &mut State, number
     requires within { number < length state.old.actors.items }
     requires due { IsDue h.now with.now state.old.cells.items state.old.actors.items number FinishMove }
     requires away { goes_to (job_by state.old.actors.items number) ≢ worker_of_job (job_by state.old.actors.items number) }
-    ensures made { GoesOnWithCommand h.now number state.old.cells.items state.old.actors.items state.new.cells.items state.new.actors.items }
+    ensures made { GoesOnWithCommand h.now FinishMove number state.old.cells.items state.old.actors.items state.new.cells.items state.new.actors.items }
 {
     collect_laws();
     let _most = most_by(state, number);
@@ -104,7 +104,7 @@ fn move_here(alloc: Global, h: &Hierarchy, with: &Use, state: &mut State, number
     requires within { number < length state.old.actors.items }
     requires due { IsDue h.now with.now state.old.cells.items state.old.actors.items number FinishMove }
     requires here { goes_to (job_by state.old.actors.items number) ≡ worker_of_job (job_by state.old.actors.items number) }
-    ensures made { GoesOnWithCommand h.now number state.old.cells.items state.old.actors.items state.new.cells.items state.new.actors.items }
+    ensures made { GoesOnWithCommand h.now FinishMove number state.old.cells.items state.old.actors.items state.new.cells.items state.new.actors.items }
 {
     collect_laws();
     let _most = most_by(state, number);
@@ -132,7 +132,7 @@ pub(crate) fn finish_move(
     requires core { HasCore h.now with.now state.old.cells.items state.old.actors.items }
     requires within { number < length state.old.actors.items }
     requires due { IsDue h.now with.now state.old.cells.items state.old.actors.items number FinishMove }
-    ensures made { GoesOnWithCommand h.now number state.old.cells.items state.old.actors.items state.new.cells.items state.new.actors.items }
+    ensures made { GoesOnWithCommand h.now FinishMove number state.old.cells.items state.old.actors.items state.new.cells.items state.new.actors.items }
 {
     if goes_to_by(state, number) == worker_by(state, number) {
         move_here(alloc, h, with, state, number);

@@ -3,8 +3,8 @@ ghost use Rattle.std.specs.Prelude.{◌≡◌, ◌++◌, ◌<◌, ◌≤◌, ℕ
 ghost use Rattle.seeded_turns.specs.Drawn.{Reaches, Stops, able};
 ghost use Rattle.seeded_run.specs.declared.machine.Running.{Running};
 ghost use Rattle.seeded_run.specs.Kept.{IsBetween, IsStopped};
-ghost use Rattle.seeded_run.specs.Machine.{AreFirstCursors, HasLeftOver, HasRunTo, HasStoppedAt, HoldsNow, IsFirstMoment, IsPhaseHeld, IsSamePhase, LeavesAtMost, RestsAsIs, TakesTurn, about_in, can_in, most_steps, phase_of, streams_open, world_of};
-ghost use Rattle.seeded_run.specs.Phase.{ClosesLast, IsCoreHeld, MayAllRun, RunsTo, StopsAt, about, held, is_order, most_actors, phase_from};
+ghost use Rattle.seeded_run.specs.Machine.{AreFirstCursors, HasComeToRest, HasLeftOver, HasRunTo, HasStoppedAt, HoldsNow, IsFirstMoment, IsPhaseHeld, IsSamePhase, LeavesAtMost, RestsAsIs, TakesTurn, about_in, can_in, most_steps, phase_of, streams_open, world_of};
+ghost use Rattle.seeded_run.specs.Phase.{ClosesLast, IsCoreHeld, MayAllRun, NobodyCanStep, RunsTo, StopsAt, about, held, is_order, most_actors, phase_from};
 
 use crate::machine::Running;
 use dim_hierarchy::Hierarchy;
@@ -85,6 +85,7 @@ fn run_whole(
     ensures about { about_in running.new ≡ about_in running.old }
     ensures order { is_order schedule.new ≡ is_order schedule.old }
     ensures turns { OnOk result (HasRunTo running.old schedule.old running.new schedule.new) }
+    ensures rested { OnOk result (HasComeToRest running.old schedule.old running.new) }
     ensures stopped { OnErr result (HasStoppedAt running.old schedule.old running.new) }
     ensures between { OnOk result (IsBetween running.old.in_order (about_in running.old) running.old.with (running.old.done.now ++ running.old.phase.now) (world_of running.new)) }
     ensures into { OnErr result (IsStopped running.old.in_order (about_in running.old) (phase_of running.old) running.old.done.now (world_of running.new)) }
@@ -113,6 +114,7 @@ fn run_from(
     ensures about { about h.now with.now state.new ≡ about h.now with.now state.old }
     ensures order { is_order schedule.new ≡ is_order schedule.old }
     ensures turns { OnOk result (RunsTo h.now with.now phase.now state.old schedule.old state.new schedule.new) }
+    ensures rested { OnOk result (NobodyCanStep (is_order schedule.old) h.now with.now phase.now state.old state.new) }
     ensures stopped { OnErr result (StopsAt h.now with.now phase.now state.old schedule.old state.new) }
     ensures between { OnOk result (IsBetween (is_order schedule.old) (about h.now with.now state.old) with.now (done.now ++ phase.now) (held h.now with.now state.new)) }
     ensures into { OnErr result (IsStopped (is_order schedule.old) (about h.now with.now state.old) (phase_from h.now with.now phase.now state.old) done.now (held h.now with.now state.new)) }
@@ -167,6 +169,7 @@ pub fn run_phase(
     ensures about { about h.now with.now state.new ≡ about h.now with.now state.old }
     ensures order { is_order schedule.new ≡ is_order schedule.old }
     ensures turns { OnOk result (RunsTo h.now with.now phase.now state.old schedule.old state.new schedule.new) }
+    ensures rested { OnOk result (NobodyCanStep (is_order schedule.old) h.now with.now phase.now state.old state.new) }
     ensures stopped { OnErr result (StopsAt h.now with.now phase.now state.old schedule.old state.new) }
     ensures between { OnOk result (IsBetween (is_order schedule.old) (about h.now with.now state.old) with.now (done.now ++ phase.now) (held h.now with.now state.new)) }
     ensures into { OnErr result (IsStopped (is_order schedule.old) (about h.now with.now state.old) (phase_from h.now with.now phase.now state.old) done.now (held h.now with.now state.new)) }

@@ -59,7 +59,7 @@ pub(crate) fn show_page(alloc: Global, h: &Hierarchy, with: &Use, state: &mut St
     requires within { number < length state.old.actors.items }
     requires due { IsDue h.now with.now state.old.cells.items state.old.actors.items number Note }
     requires shows { HasPageOf (subject_by state.old.actors.items number) state.old.actors.items number }
-    ensures made { GoesOnWithCommand h.now number state.old.cells.items state.old.actors.items state.new.cells.items state.new.actors.items }
+    ensures made { GoesOnWithCommand h.now Note number state.old.cells.items state.old.actors.items state.new.cells.items state.new.actors.items }
 {
     match subject_by(state, number) {
         Subject::Tree => show_tree(alloc, h, with, state, number),

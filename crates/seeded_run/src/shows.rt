@@ -65,7 +65,7 @@ pub(crate) fn show_tree(alloc: Global, h: &Hierarchy, with: &Use, state: &mut St
     requires within { number < length state.old.actors.items }
     requires due { IsDue h.now with.now state.old.cells.items state.old.actors.items number Note }
     requires shows { (shard : ℕ) × HasTreeToShow state.old.actors.items number shard }
-    ensures made { GoesOnWithCommand h.now number state.old.cells.items state.old.actors.items state.new.cells.items state.new.actors.items }
+    ensures made { GoesOnWithCommand h.now Note number state.old.cells.items state.old.actors.items state.new.cells.items state.new.actors.items }
 {
     let shard = tree_shard(state, number);
     let gate = standing_gate(with, &state.cells, shard);

@@ -64,7 +64,7 @@ fn split_at(alloc: Global, h: &Hierarchy, with: &Use, state: &mut State, number:
     requires within { number < length state.old.actors.items }
     requires due { IsDue h.now with.now state.old.cells.items state.old.actors.items number FinishSplit }
     requires right { right ≡ last_but_one (purse_by state.old.actors.items number) }
-    ensures made { GoesOnWithCommand h.now number state.old.cells.items state.old.actors.items state.new.cells.items state.new.actors.items }
+    ensures made { GoesOnWithCommand h.now FinishSplit number state.old.cells.items state.old.actors.items state.new.cells.items state.new.actors.items }
 {
     collect_laws();
     parts_fit();
@@ -93,7 +93,7 @@ pub(crate) fn finish_split(
     requires core { HasCore h.now with.now state.old.cells.items state.old.actors.items }
     requires within { number < length state.old.actors.items }
     requires due { IsDue h.now with.now state.old.cells.items state.old.actors.items number FinishSplit }
-    ensures made { GoesOnWithCommand h.now number state.old.cells.items state.old.actors.items state.new.cells.items state.new.actors.items }
+    ensures made { GoesOnWithCommand h.now FinishSplit number state.old.cells.items state.old.actors.items state.new.cells.items state.new.actors.items }
 {
     let right = right_by(state, number);
     split_at(alloc, h, with, state, number, right);

@@ -69,7 +69,7 @@ pub(crate) fn go_on_at_part(
     requires within { number < length state.old.actors.items }
     requires due { IsDue h.now with.now state.old.cells.items state.old.actors.items number kind }
     requires of_part { is_for_part_by state.old.actors.items number kind ≡ true }
-    ensures made { GoesOnAtPart h.now number state.old.cells.items state.old.actors.items state.new.cells.items state.new.actors.items }
+    ensures made { GoesOnAtPart h.now kind number state.old.cells.items state.old.actors.items state.new.cells.items state.new.actors.items }
 {
     match kind {
         Kind::GateRead => gate_read(alloc, h, with, state, number),
@@ -97,7 +97,7 @@ fn note_command(alloc: Global, h: &Hierarchy, with: &Use, state: &mut State, num
     requires within { number < length state.old.actors.items }
     requires due { IsDue h.now with.now state.old.cells.items state.old.actors.items number Note }
     requires command { HasCommand state.old.actors.items number }
-    ensures made { GoesOnWithCommand h.now number state.old.cells.items state.old.actors.items state.new.cells.items state.new.actors.items }
+    ensures made { GoesOnWithCommand h.now Note number state.old.cells.items state.old.actors.items state.new.cells.items state.new.actors.items }
 {
     if is_page_due(state, number) {
         show_page(alloc, h, with, state, number);
@@ -123,7 +123,7 @@ pub(crate) fn go_on_with_command(
     requires due { IsDue h.now with.now state.old.cells.items state.old.actors.items number kind }
     requires of_command { is_for_part_by state.old.actors.items number kind ≡ false }
     requires command { HasCommand state.old.actors.items number }
-    ensures made { GoesOnWithCommand h.now number state.old.cells.items state.old.actors.items state.new.cells.items state.new.actors.items }
+    ensures made { GoesOnWithCommand h.now kind number state.old.cells.items state.old.actors.items state.new.cells.items state.new.actors.items }
 {
     match kind {
         Kind::Ack => ack(h, with, state, number),

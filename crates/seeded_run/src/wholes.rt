@@ -24,7 +24,7 @@ pub(crate) fn show_shards(
     requires within { number < length state.old.actors.items }
     requires due { IsDue h.now with.now state.old.cells.items state.old.actors.items number Note }
     requires shows { HasToShow state.old.actors.items number (work.Shards false) }
-    ensures made { GoesOnWithCommand h.now number state.old.cells.items state.old.actors.items state.new.cells.items state.new.actors.items }
+    ensures made { GoesOnWithCommand h.now Note number state.old.cells.items state.old.actors.items state.new.cells.items state.new.actors.items }
 {
     let ledger = ledger_place();
     match core_pages::shards_page(alloc, h, state, with.servers) {
@@ -39,7 +39,7 @@ pub(crate) fn show_audit(h: &Hierarchy, with: &Use, state: &mut State, number: u
     requires within { number < length state.old.actors.items }
     requires due { IsDue h.now with.now state.old.cells.items state.old.actors.items number Note }
     requires shows { HasToShow state.old.actors.items number (work.Audit false) }
-    ensures made { GoesOnWithCommand h.now number state.old.cells.items state.old.actors.items state.new.cells.items state.new.actors.items }
+    ensures made { GoesOnWithCommand h.now Note number state.old.cells.items state.old.actors.items state.new.cells.items state.new.actors.items }
 {
     let ledger = ledger_place();
     let audit = core_pages::audit_page(state, with.servers);

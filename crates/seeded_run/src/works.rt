@@ -183,7 +183,7 @@ fn fail_routed(h: &Hierarchy, with: &Use, state: &mut State, number: usize)
     requires due { IsDue h.now with.now state.old.cells.items state.old.actors.items number Note }
     requires own { has_own_note (command_by state.old.actors.items number) ≡ true }
     requires insert { ending_by state.old.actors.items number ≡ Insert }
-    ensures made { GoesOnWithCommand h.now number state.old.cells.items state.old.actors.items state.new.cells.items state.new.actors.items }
+    ensures made { GoesOnWithCommand h.now Note number state.old.cells.items state.old.actors.items state.new.cells.items state.new.actors.items }
 {
     let server = session_server(state, number);
     let desk = desk_place(with, server);
@@ -199,7 +199,7 @@ fn fail_query(h: &Hierarchy, with: &Use, state: &mut State, number: usize)
     requires due { IsDue h.now with.now state.old.cells.items state.old.actors.items number Note }
     requires own { has_own_note (command_by state.old.actors.items number) ≡ true }
     requires query { ending_by state.old.actors.items number ≡ Query }
-    ensures made { GoesOnWithCommand h.now number state.old.cells.items state.old.actors.items state.new.cells.items state.new.actors.items }
+    ensures made { GoesOnWithCommand h.now Note number state.old.cells.items state.old.actors.items state.new.cells.items state.new.actors.items }
 {
     let server = session_server(state, number);
     let desk = desk_place(with, server);
@@ -214,7 +214,7 @@ fn note_ended(h: &Hierarchy, with: &Use, state: &mut State, number: usize, how: 
     requires due { IsDue h.now with.now state.old.cells.items state.old.actors.items number Note }
     requires own { has_own_note (command_by state.old.actors.items number) ≡ true }
     requires called { ending_by state.old.actors.items number ≡ Called how }
-    ensures made { GoesOnWithCommand h.now number state.old.cells.items state.old.actors.items state.new.cells.items state.new.actors.items }
+    ensures made { GoesOnWithCommand h.now Note number state.old.cells.items state.old.actors.items state.new.cells.items state.new.actors.items }
 {
     let _ = with;
     core_steps::note_ended(h, state, number, ledger_place(), how);
@@ -228,7 +228,7 @@ pub(crate) fn note(h: &Hierarchy, with: &Use, state: &mut State, number: usize)
     requires within { number < length state.old.actors.items }
     requires due { IsDue h.now with.now state.old.cells.items state.old.actors.items number Note }
     requires own { has_own_note (command_by state.old.actors.items number) ≡ true }
-    ensures made { GoesOnWithCommand h.now number state.old.cells.items state.old.actors.items state.new.cells.items state.new.actors.items }
+    ensures made { GoesOnWithCommand h.now Note number state.old.cells.items state.old.actors.items state.new.cells.items state.new.actors.items }
 {
     match ending_by(state, number) {
         Ending::Insert => fail_routed(h, with, state, number),

@@ -3,7 +3,8 @@ use Rattle.std.proofs.lemmas.List.{length-drop}
 use Rattle.volap_io.specs.Causes.{Rose}
 use Rattle.script_form.specs.declared.script.Command.{Command}
 use Rattle.script_run.specs.Phases.{NoneCloses, phases}
-use Rattle.olap_top.proofs.PhaseSteps.{at-done, at-fault, at-halt, at-next, at-start, closes-of, gone-of, left-at, left-halt, may-run, next-of, stopped-of, unread}
+use Rattle.olap_top.specs.declared.outcome.Status.TheVariants as status_is
+use Rattle.olap_top.proofs.PhaseSteps.{at-done, at-fault, at-halt, at-next, at-start, closes-of, ends-done, ends-fault, gone-of, left-at, left-halt, may-run, next-of, stopped-of, unread}
 use Rattle.olap_top.proofs.top.run_phases.Goals as goal
 
 pub loop-done-init : goal.loop-done-init
@@ -75,10 +76,11 @@ returns-in_default-write_all-clause-left g c =
     let low : n ≤ m = omega arith in
     let next = next-of s all n c.phase_len.result c.loop-done.invariant.all_is
     (subst (λ (l : List Command). phases l ≡ take c.phase_len.result l ∷ phases (drop c.phase_len.result l)) c.split_at.ensures.back c.phase_len.ensures.phase) in
-    left-at s m None None c.args.run.now c.phase.new.self
-    (at-next s n m None None None c.args.run.now c.loop-done.run c.phase.new.self c.in-Ok.text.items next
+    let at =
+    at-next s n m None None None c.args.run.now c.loop-done.run c.phase.new.self c.in-Ok.text.items next
     (unread s n (g.K.Sink.taken c.args.sink.now) (g.K.Sink.taken c.loop-done.sink) c.args.run.now c.loop-done.run c.loop-done.invariant.at)
-    (gone-of s all n m c.loop-done.run c.phase.new.self c.in-Ok.text.items low c.loop-done.invariant.all_is c.in-Ok.ensures.gone) tt)
+    (gone-of s all n m c.loop-done.run c.phase.new.self c.in-Ok.text.items low c.loop-done.invariant.all_is c.in-Ok.ensures.gone) tt in
+    left-at s status_is.WriteFault m None None c.args.run.now c.phase.new.self (ends-fault s m None None c.args.run.now c.phase.new.self at) at
 
 pub returns-in_default-clause-later : goal.returns-in_default-clause-later
 returns-in_default-clause-later g c = c.loop-done.invariant.later
@@ -121,4 +123,10 @@ returns-clause-done g c = λ is.
     at-done c.args.script.now c.loop-done.done (g.K.Sink.taken c.args.sink.now) (g.K.Sink.taken c.loop-done.sink) c.args.run.now c.loop-done.run (subst (λ (l : List Command). length l ≤ c.loop-done.done) c.loop-done.invariant.all_is c.loop-done-test.false) c.loop-done.invariant.at
 
 pub returns-clause-left : goal.returns-clause-left
-returns-clause-left g c = left-at c.args.script.now c.loop-done.done (g.K.Sink.taken c.args.sink.now) (g.K.Sink.taken c.loop-done.sink) c.args.run.now c.loop-done.run c.loop-done.invariant.at
+returns-clause-left g c =
+    let s = c.args.script.now in
+    let past = subst (λ (l : List Command). length l ≤ c.loop-done.done) c.loop-done.invariant.all_is c.loop-done-test.false in
+    let at = c.loop-done.invariant.at in
+    let before = g.K.Sink.taken c.args.sink.now in
+    let now = g.K.Sink.taken c.loop-done.sink in
+    left-at s status_is.Done c.loop-done.done before now c.args.run.now c.loop-done.run (ends-done s c.loop-done.done before now c.args.run.now c.loop-done.run past at) at

@@ -1,6 +1,7 @@
 use Rattle.std.proofs.Common.{◌≡◌, ◌∙◌, ◌⊎◌, inl, inr, refl, sym, subst}
 use Rattle.std.specs.Io.KnownBytes.{Appends}
 use Rattle.olap_top.specs.Outcomes.{HasRun, RanInto, RanTo, asked_text}
+use Rattle.olap_top.specs.RunSoFar.{HasLeft}
 use Rattle.olap_top.specs.declared.outcome.Status.{Status}
 use Rattle.olap_top.specs.declared.outcome.Status.TheVariants as status_is
 use Rattle.olap_top.proofs.Leaving.{leaves-run, of-history}
@@ -68,4 +69,5 @@ pub returns-clause-run : goal.returns-clause-run
 returns-clause-run g c =
     let s = c.args.script.now in
     let out = c.with_rest.ensures.rest s.hierarchy s.with c.run_wanted-status.ensures.left.is_held.core in
-    inr (leaves-run c.args.wanted s c.in-Ok.run' c.run_wanted-status.new.run c.with_rest.result c.requires.settings c.in-Ok.ensures.opening c.in-Ok.ensures.schedule c.run_wanted-status.ensures.left out)
+    let left = subst (λ (t : Status). HasLeft s t c.in-Ok.run' c.run_wanted-status.new.run) (sym c.with_rest.ensures.status) c.run_wanted-status.ensures.left in
+    inr (leaves-run c.args.wanted s c.in-Ok.run' c.run_wanted-status.new.run c.with_rest.result c.requires.settings c.in-Ok.ensures.opening c.in-Ok.ensures.schedule left out)

@@ -4,11 +4,12 @@ use Rattle.std.proofs.lemmas.Bool.{false≢true}
 use Rattle.answer_text.specs.Summary.{summary}
 use Rattle.volap_io.specs.Causes.{Rose}
 use Rattle.olap_top.specs.Outcomes.{RanInto, RanTo, asked_text, tells_phases}
-use Rattle.olap_top.specs.RunSoFar.{history_of, tells}
+use Rattle.olap_top.specs.RunSoFar.{HasLeft, history_of, tells}
+use Rattle.olap_top.specs.declared.outcome.Status.{Status}
 use Rattle.olap_top.specs.declared.wanted.Wanted.{Wanted}
 use Rattle.olap_top.proofs.Asked.{ran-to, tells-step}
 use Rattle.olap_top.proofs.Ends.{only-done}
-use Rattle.olap_top.proofs.PhaseSteps.{Appends-more}
+use Rattle.olap_top.proofs.PhaseSteps.{Appends-more, left-behind}
 use Rattle.olap_top.proofs.Summaries.{part-behind, ran-all, wrote-all, wrote-none}
 use Rattle.olap_top.proofs.top.run_wanted.Goals as goal
 
@@ -59,7 +60,7 @@ returns-in-Step g c =
         ran.0,
         wrote-all c.args.wanted s (g.K.Sink.taken c.args.sink.now) (g.K.Sink.taken status.new.sink) (history_of s status.new.run) (tells c.args.run.now) c.requires.tells (tells-step c.args.wanted c.in-Step.is) ran.1,
       );
-      left = status.ensures.left;
+      left = subst (λ (t : Status). HasLeft s t c.args.run.now status.new.run) ended status.ensures.left;
     }
 
 pub returns-in-Load-clause-kinds : goal.returns-in-Load-clause-kinds
@@ -112,4 +113,8 @@ returns-in-Load-clause-done g c = λ is.
     )
 
 pub returns-in-Load-clause-left : goal.returns-in-Load-clause-left
-returns-in-Load-clause-left g c = c.run_phases-status.ensures.left
+returns-in-Load-clause-left g c =
+    let s = c.args.script.now in
+    let status = c.run_phases-status in
+    let ended = only-done status.result status.ensures.kinds (λ other. false≢true (sym c.if-ne.false ∙ (rw other at c.ne.ensures))) (λ other. false≢true (sym c.if-ne.false ∙ (rw other at c.ne.ensures))) in
+    left-behind s c.args.run.now status.new.run (subst (λ (t : Status). HasLeft s t c.args.run.now status.new.run) ended status.ensures.left) c.write_summary.result c.write_summary.ensures.kinds

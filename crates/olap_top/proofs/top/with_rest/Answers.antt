@@ -6,7 +6,7 @@ use Rattle.volap_cell.specs.World.{change, put}
 use Rattle.volap_cell.specs.declared.cell.Cell.{Cell}
 use Rattle.volap_cell.specs.declared.cell.Cell.TheVariants as cell
 use Rattle.seeded_run.specs.Phase.{held}
-use Rattle.olap_top.proofs.Handing.{cell-freed, cells-back}
+use Rattle.olap_top.proofs.Handing.{cell-freed, cells-back, whole-left}
 use Rattle.olap_top.proofs.top.with_rest.Goals as goal
 
 pub returns-clause-rest : goal.returns-clause-rest
@@ -19,6 +19,7 @@ returns-clause-rest c = λ h with core.
       rest = record { cells = c.put_one.new.cells; actors = c.args.state.actors };
       left = refl;
       about_is = refl;
+      whole = whole-left h with c.args.state core (record { cells = c.put_one.new.cells; actors = c.args.state.actors }) emptied refl;
       freed = subst (λ (l : List (Option Cell)). get_or l 0 None ≡ Some cell.Free) (sym emptied) (cell-freed xs c.lift_one-cell.result at);
       same = (λ k. record {
         cells = λ y. subst (λ (l : List (Option Cell)). put (change ledger_cell FreeCell (LedgerCell c.into_inner.result) ∷ []) (λ z. option_map_or cell_of (get_or l z None) FreeCell) y ≡ option_map_or cell_of (get_or xs y None) FreeCell) (sym emptied) (cells-back xs c.lift_one-cell.result c.into_inner.result at ledger y) k;

@@ -1,5 +1,5 @@
 use Rattle.std.proofs.Common.{refl}
-use Rattle.volap_cell.specs.declared.kind.Kind.TheVariants.{Route}
+use Rattle.volap_cell.specs.declared.kind.Kind.TheVariants.{Note, Route}
 use Rattle.seeded_run.proofs.Afterwards.{goes-on-then, noted-step, other-step}
 use Rattle.seeded_run.proofs.CommandsHeld.{route-ready, route-session, unrouted-ready}
 use Rattle.seeded_run.proofs.commands.route.Goals as goal
@@ -23,6 +23,6 @@ returns-in-Ok c = record {
 pub returns-in-Err : goal.returns-in-Err
 returns-in-Err c = record {
   made =
-      goes-on-then c.args.state.now.cells.items c.route.new.state.cells.items c.args.state.now.actors.items c.route.new.state.actors.items c.in-Err.ensures.stays c.args.h.now c.args.number c.fail_unrouted.new.state.cells.items c.fail_unrouted.new.state.actors.items
+      goes-on-then c.args.state.now.cells.items c.route.new.state.cells.items c.args.state.now.actors.items c.route.new.state.actors.items c.in-Err.ensures.stays Route Note refl refl c.args.h.now c.args.number c.fail_unrouted.new.state.cells.items c.fail_unrouted.new.state.actors.items
       (noted-step c.args.h.now c.args.number c.ledger_place-ledger.result c.route.new.state.cells.items c.fail_unrouted.new.state.cells.items c.route.new.state.actors.items c.fail_unrouted.new.state.actors.items c.ledger_place-ledger.ensures c.fail_unrouted.ensures.stepped c.fail_unrouted.ensures.quiet);
 }

@@ -1,5 +1,5 @@
 use Rattle.std.proofs.Common.{refl}
-use Rattle.volap_cell.specs.declared.kind.Kind.TheVariants.{Sync}
+use Rattle.volap_cell.specs.declared.kind.Kind.TheVariants.{Note, Sync}
 use Rattle.seeded_run.proofs.Afterwards.{goes-on-then, noted-step, other-step}
 use Rattle.seeded_run.proofs.WorksReady.{sync-ready, unpulled-ready}
 use Rattle.seeded_run.proofs.commands.sync.Goals as goal
@@ -22,6 +22,6 @@ returns-in-Ok c = record {
 pub returns-in-Err : goal.returns-in-Err
 returns-in-Err c = record {
   made =
-      goes-on-then c.args.state.now.cells.items c.sync.new.state.cells.items c.args.state.now.actors.items c.sync.new.state.actors.items c.in-Err.ensures.stays c.args.h.now c.args.number c.note_ended.new.state.cells.items c.note_ended.new.state.actors.items
+      goes-on-then c.args.state.now.cells.items c.sync.new.state.cells.items c.args.state.now.actors.items c.sync.new.state.actors.items c.in-Err.ensures.stays Sync Note refl refl c.args.h.now c.args.number c.note_ended.new.state.cells.items c.note_ended.new.state.actors.items
       (noted-step c.args.h.now c.args.number c.ledger_place-ledger.result c.sync.new.state.cells.items c.note_ended.new.state.cells.items c.sync.new.state.actors.items c.note_ended.new.state.actors.items c.ledger_place-ledger.ensures c.note_ended.ensures.stepped c.note_ended.ensures.quiet);
 }

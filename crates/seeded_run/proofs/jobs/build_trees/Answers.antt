@@ -1,5 +1,5 @@
 use Rattle.std.proofs.Common.{refl}
-use Rattle.volap_cell.specs.declared.kind.Kind.TheVariants.{Collect}
+use Rattle.volap_cell.specs.declared.kind.Kind.TheVariants.{Collect, Postpone}
 use Rattle.seeded_run.proofs.Afterwards.{goes-on-then, other-step}
 use Rattle.seeded_run.proofs.Fallbacks.{still-core}
 use Rattle.seeded_run.proofs.Holds.{inv-of}
@@ -26,4 +26,4 @@ pub returns-in-Ok : goal.returns-in-Ok
 returns-in-Ok c = record { made = other-step Collect refl c.args.h.now c.args.number c.args.state.now.cells.items c.build_trees.new.state.cells.items c.args.state.now.actors.items c.build_trees.new.state.actors.items c.in-Ok.ensures.stepped }
 
 pub returns-in-Err : goal.returns-in-Err
-returns-in-Err c = record { made = goes-on-then c.args.state.now.cells.items c.build_trees.new.state.cells.items c.args.state.now.actors.items c.build_trees.new.state.actors.items c.in-Err.ensures.stays c.args.h.now c.args.number c.give_up.new.state.cells.items c.give_up.new.state.actors.items c.give_up.ensures.made }
+returns-in-Err c = record { made = goes-on-then c.args.state.now.cells.items c.build_trees.new.state.cells.items c.args.state.now.actors.items c.build_trees.new.state.actors.items c.in-Err.ensures.stays Collect Postpone refl refl c.args.h.now c.args.number c.give_up.new.state.cells.items c.give_up.new.state.actors.items c.give_up.ensures.made }

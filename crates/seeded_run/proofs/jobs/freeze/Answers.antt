@@ -1,6 +1,6 @@
 use Rattle.std.proofs.Common.{◌∙◌, ap, refl, ℕ}
 use Rattle.volap_cell.specs.Setting.{map_cell}
-use Rattle.volap_cell.specs.declared.kind.Kind.TheVariants.{Freeze}
+use Rattle.volap_cell.specs.declared.kind.Kind.TheVariants.{Freeze, Note}
 use Rattle.seeded_run.proofs.Afterwards.{goes-on-then, other-step}
 use Rattle.seeded_run.proofs.Fallbacks.{still-core}
 use Rattle.seeded_run.proofs.Holds.{inv-of}
@@ -30,4 +30,4 @@ pub returns-in-Ok : goal.returns-in-Ok
 returns-in-Ok c = record { made = other-step Freeze refl c.args.h.now c.args.number c.args.state.now.cells.items c.freeze.new.state.cells.items c.args.state.now.actors.items c.freeze.new.state.actors.items c.in-Ok.ensures.stepped }
 
 pub returns-in-Err : goal.returns-in-Err
-returns-in-Err c = record { made = goes-on-then c.args.state.now.cells.items c.freeze.new.state.cells.items c.args.state.now.actors.items c.freeze.new.state.actors.items c.in-Err.ensures.stays c.args.h.now c.args.number c.end_unfrozen.new.state.cells.items c.end_unfrozen.new.state.actors.items c.end_unfrozen.ensures.made }
+returns-in-Err c = record { made = goes-on-then c.args.state.now.cells.items c.freeze.new.state.cells.items c.args.state.now.actors.items c.freeze.new.state.actors.items c.in-Err.ensures.stays Freeze Note refl refl c.args.h.now c.args.number c.end_unfrozen.new.state.cells.items c.end_unfrozen.new.state.actors.items c.end_unfrozen.ensures.made }

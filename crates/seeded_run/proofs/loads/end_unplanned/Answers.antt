@@ -1,4 +1,6 @@
-use Rattle.seeded_run.proofs.Afterwards.{noted-step}
+use Rattle.std.proofs.Common.{refl}
+use Rattle.volap_cell.specs.declared.kind.Kind.TheVariants.{LookUp}
+use Rattle.seeded_run.proofs.Afterwards.{ends-instead, noted-step}
 use Rattle.seeded_run.proofs.LoadsReady.{unplanned-ends}
 use Rattle.seeded_run.proofs.loads.end_unplanned.Goals as goal
 
@@ -8,5 +10,6 @@ note_ended-requires-clause-ready c =
 
 pub returns : goal.returns
 returns c = record {
-  made = noted-step c.args.h.now c.args.number c.ledger_place.result c.args.state.now.cells.items c.note_ended.new.state.cells.items c.args.state.now.actors.items c.note_ended.new.state.actors.items c.ledger_place.ensures c.note_ended.ensures.stepped c.note_ended.ensures.quiet;
+  made = ends-instead LookUp refl c.args.h.now c.args.number c.args.state.now.cells.items c.note_ended.new.state.cells.items c.args.state.now.actors.items c.note_ended.new.state.actors.items
+      (noted-step c.args.h.now c.args.number c.ledger_place.result c.args.state.now.cells.items c.note_ended.new.state.cells.items c.args.state.now.actors.items c.note_ended.new.state.actors.items c.ledger_place.ensures c.note_ended.ensures.stepped c.note_ended.ensures.quiet);
 }

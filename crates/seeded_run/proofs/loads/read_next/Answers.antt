@@ -1,7 +1,7 @@
 use Rattle.std.proofs.Common.{List, Option, refl, ap, ◌∙◌}
 use Rattle.volap_cell.specs.Cells.{where_in}
 use Rattle.volap_cell.specs.declared.cell.Cell.{Cell}
-use Rattle.volap_cell.specs.declared.kind.Kind.TheVariants.{LookUp}
+use Rattle.volap_cell.specs.declared.kind.Kind.TheVariants.{LookUp, Note}
 use Rattle.seeded_run.specs.Led.{gate_there}
 use Rattle.seeded_run.specs.Look.{cell_at}
 use Rattle.seeded_run.proofs.Afterwards.{goes-on-then, noted-step, other-step}
@@ -26,6 +26,6 @@ returns-in-Ok c = record {
 pub returns-in-Err : goal.returns-in-Err
 returns-in-Err c = record {
   made =
-      goes-on-then c.args.state.now.cells.items c.read_load.new.state.cells.items c.args.state.now.actors.items c.read_load.new.state.actors.items c.in-Err.ensures.stays c.args.h.now c.args.number c.note_ended.new.state.cells.items c.note_ended.new.state.actors.items
+      goes-on-then c.args.state.now.cells.items c.read_load.new.state.cells.items c.args.state.now.actors.items c.read_load.new.state.actors.items c.in-Err.ensures.stays LookUp Note refl refl c.args.h.now c.args.number c.note_ended.new.state.cells.items c.note_ended.new.state.actors.items
       (noted-step c.args.h.now c.args.number c.ledger_place-ledger.result c.read_load.new.state.cells.items c.note_ended.new.state.cells.items c.read_load.new.state.actors.items c.note_ended.new.state.actors.items c.ledger_place-ledger.ensures c.note_ended.ensures.stepped c.note_ended.ensures.quiet);
 }

@@ -39,6 +39,10 @@ pub returns-clause-turns : goal.returns-clause-turns
 unfolding HoldsNow
 returns-clause-turns c = (let x = ends-so c.args.running.now c.requires.first c.args.schedule.now c.requires.order c.look_first.new.self c.run_turns.new.running c.look_first.ensures.same c.look_first.ensures.held c.run_turns.ensures.held c.run_turns.new.schedule c.run_turns.result c.run_turns.ensures.turns c.run_turns.ensures.ended c.run_turns.ensures.stopped in on-one c.run_turns.result _ _ (λ (w : WholeRun _ _ _ _). w.turns) x.0)
 
+pub returns-clause-rested : goal.returns-clause-rested
+unfolding HoldsNow
+returns-clause-rested c = (let x = ends-so c.args.running.now c.requires.first c.args.schedule.now c.requires.order c.look_first.new.self c.run_turns.new.running c.look_first.ensures.same c.look_first.ensures.held c.run_turns.ensures.held c.run_turns.new.schedule c.run_turns.result c.run_turns.ensures.turns c.run_turns.ensures.ended c.run_turns.ensures.stopped in on-one c.run_turns.result _ _ (λ (w : WholeRun _ _ _ _). w.rested) x.0)
+
 pub returns-clause-between : goal.returns-clause-between
 unfolding HoldsNow
 returns-clause-between c = (let x = ends-so c.args.running.now c.requires.first c.args.schedule.now c.requires.order c.look_first.new.self c.run_turns.new.running c.look_first.ensures.same c.look_first.ensures.held c.run_turns.ensures.held c.run_turns.new.schedule c.run_turns.result c.run_turns.ensures.turns c.run_turns.ensures.ended c.run_turns.ensures.stopped in on-one c.run_turns.result _ _ (λ (w : WholeRun _ _ _ _). w.between) x.0)

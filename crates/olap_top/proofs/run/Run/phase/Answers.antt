@@ -70,7 +70,7 @@ returns-clause-gone c =
     (λ text is told.
     subst (λ (l : List Command). HasGone s l (drop n all) run now text.items) front
     (subst (λ (l : List Command). HasGone s c.split_at.result.0.now l run now text.items) back
-    (gone-run s c.split_at.result.0.now c.split_at.result.1.now run now behind ran.core ran.about ran.order ran.turns ran.between
+    (gone-run s c.split_at.result.0.now c.split_at.result.1.now run now behind ran.core ran.about ran.order ran.turns ran.rested ran.between
     (subst (λ h. IfSome now.teller (HasTold s.with (c.split_at.result.0.now ++ c.split_at.result.1.now) h)) events
     (subst (λ (l : List Command). IfSome now.teller (HasTold s.with l (reverse c.events-events.result.now))) whole told))
     c.tell.ensures.same

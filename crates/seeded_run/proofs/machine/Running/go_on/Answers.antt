@@ -18,7 +18,7 @@ pub returns-then-is_for_part : goal.returns-then-is_for_part
 returns-then-is_for_part c =
     let made = c.go_on_at_part.ensures.made in
     record {
-      turned = has-gone-on-at-part c.args.self.now c.requires.held.kept c.args.number c.args.kind c.requires.due c.go_on_at_part.new.state made.0 made.2 c.requires.within (λ part. made.1) made.1;
+      turned = has-gone-on-at-part c.args.self.now c.requires.held.kept c.args.number c.args.kind c.requires.due c.go_on_at_part.new.state made.0 made.2 c.requires.within (λ part. made.1) made.3 made.1;
     }
 
 pub returns-else-is_for_part : goal.returns-else-is_for_part
@@ -28,5 +28,6 @@ returns-else-is_for_part c =
     record {
       turned = has-gone-on-with-command c.args.self.now c.requires.held.kept c.args.number c.args.kind c.requires.due c.go_on_with_command.new.state made.0 made.1 c.requires.within
           (λ part. apart _ part (sym (part-seen c.args.self.now c.requires.held.kept c.args.number c.args.kind c.requires.within) ∙ off))
+          made.3
           (going-command c.args.self.now c.requires.held.kept c.args.number c.args.kind c.requires.due c.requires.within c.requires.goes_on off) made.2;
     }

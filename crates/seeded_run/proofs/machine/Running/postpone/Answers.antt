@@ -1,7 +1,10 @@
+use Rattle.std.proofs.Common.{refl}
+use Rattle.volap_cell.specs.declared.kind.Kind.TheVariants.{Postpone}
 use Rattle.seeded_run.specs.Machine.{world_of}
 use Rattle.seeded_run.specs.Steps.{is_for_part}
 use Rattle.seeded_run.proofs.ByHand.{never-begins}
 use Rattle.seeded_run.proofs.Goings.{going-command}
+use Rattle.seeded_run.proofs.Instead.{falls-to}
 use Rattle.seeded_run.proofs.LeftAlone.{apart}
 use Rattle.seeded_run.proofs.Turns.{has-gone-on-with-command}
 use Rattle.seeded_run.proofs.machine.Running.postpone.Goals as goal
@@ -14,5 +17,6 @@ returns c =
     record {
       turned = has-gone-on-with-command m c.requires.held.kept c.args.number c.args.kind c.requires.due c.give_up.new.state made.0 made.1 c.requires.within
           (λ part. apart (is_for_part ((world_of m).actors c.args.number).errand c.args.kind) part (of_job.1 _))
+          (falls-to c.args.kind Postpone made.0 of_job.2 refl made.3)
           (going-command m c.requires.held.kept c.args.number c.args.kind c.requires.due c.requires.within (never-begins c.args.kind of_job.0 _) (of_job.1 _)) made.2;
     }
