@@ -1,7 +1,7 @@
 -- The text that a history tells of a script: a line or a page for each command, in the order of the script, phase by
 -- phase.
 use Rattle.std.specs.Prelude.{ℕ, ◌+◌, ℤ, ◌==◌, Bool, false, Option, Some, None, option_and_then, if◌then◌else◌, List, [], ◌∷◌, ◌++◌, length, take, find, codes}
-use Rattle.std.specs.List.{flat_map, join_by, slice_index_or}
+use Rattle.std.specs.List.{flat_map, join_by}
 use Rattle.std.specs.Option.{option_map_or}
 use Rattle.std.specs.Fmt.{decimal, signed_decimal}
 use Rattle.dim_hierarchy.specs.Concept.{number_of}
@@ -195,10 +195,6 @@ texts_behind with before (phase ∷ more) history = phase_behind with before pha
 -- the text of each phase of a script
 abbrev pub texts : Use → List Command → List Event → List (List ℕ)
 texts with commands history = texts_behind with [] (phases commands) history
-
--- the text of the phase with a number from 0
-abbrev pub phase_text : Use → List Command → List Event → ℕ → List ℕ
-phase_text with commands history k = slice_index_or (texts with commands history) k []
 
 -- the text of the first k phases
 abbrev pub told_to : ℕ → Use → List Command → List Event → List ℕ

@@ -1,11 +1,13 @@
 -- What a teller has told of a run, and read of its history.
 use Rattle.std.specs.Prelude.{ℕ, ◌≡◌, ◌≤◌, ◌++◌, List, [], length, reverse, take}
+use Rattle.std.specs.List.{slice_index_or}
 use Rattle.row_ledger.specs.declared.event.Event.{Event}
 use Rattle.row_ledger.specs.declared.settings.Use.{Use}
 use Rattle.script_form.specs.declared.script.Command.{Command}
 use Rattle.answer_text.specs.declared.text.Teller.{Teller}
 use Rattle.answer_text.specs.Marks.{Counts}
 use Rattle.answer_text.specs.Notes.{Knows}
+use Rattle.answer_text.specs.Printed.{texts}
 
 -- how many events it has read
 abbrev pub seen_of : Teller → ℕ
@@ -36,3 +38,7 @@ NewTellerLaw = (with : Use) (commands : List Command) (events : List Event) (tel
 abbrev pub TellerLaw : Type 0
 TellerLaw = (with : Use) (done phase : List Command) (past more : List Event) (events : List Event) (teller : Teller)
     → HasTold with done past teller → reverse events ≡ more ++ past → IsToldOf with (done ++ phase) events teller
+
+-- the text of the phase with a number from 0
+abbrev pub phase_text : Use → List Command → List Event → ℕ → List ℕ
+phase_text with commands history k = slice_index_or (texts with commands history) k []

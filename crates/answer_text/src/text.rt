@@ -3,7 +3,8 @@ ghost use Rattle.std.specs.Prelude.{◌≡◌, ◌∷◌, ◌+◌, ◌-◌, ◌<
 ghost use Rattle.std.specs.String.{string_bytes};
 ghost use Rattle.script_run.specs.Phases.{phases};
 ghost use Rattle.script_run.specs.Places.{are_over, places_behind};
-ghost use Rattle.answer_text.specs.Printed.{lines, phase_behind, phase_lines, phase_text, text_at, told};
+ghost use Rattle.answer_text.specs.Printed.{lines, phase_behind, phase_lines, text_at, told};
+ghost use Rattle.answer_text.specs.Told.{phase_text};
 ghost use Rattle.answer_text.specs.Marks.{Counts, IsPosition, RefersBack};
 
 use crate::index::Index;

@@ -8,7 +8,8 @@ use Rattle.std.proofs.lemmas.List.Sums.{sum_by-cons}
 use Rattle.std.proofs.lemmas.List.Elements.{All-head, All-tail, All-weaker}
 use Rattle.dim_hierarchy.specs.declared.row.Row.{Row}
 use Rattle.row_ledger.specs.Past.{Ack, Step, acked, before, work}
-use Rattle.row_ledger.specs.Shards.{is_live, is_on, comes_from, frontier}
+use Rattle.row_ledger.specs.Shards.{is_live, comes_from, frontier}
+use Rattle.row_ledger.specs.Workers.{is_on}
 use Rattle.row_ledger.specs.Work.{Reading, Settles, is_done}
 use Rattle.row_ledger.specs.declared.event.Event.{Event}
 use Rattle.row_ledger.specs.declared.event.Event.TheVariants.{Moved}

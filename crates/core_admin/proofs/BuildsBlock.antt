@@ -6,7 +6,7 @@ use Rattle.cell_stock.specs.Stock.{cells_of}
 use Rattle.cell_stock.specs.declared.purse.Spare.{Spare}
 use Rattle.dim_hierarchy.specs.Dimension.{Dimension}
 use Rattle.link_descent.specs.declared.entered.Fresh.{Fresh}
-use Rattle.row_ledger.specs.Shards.{is_on}
+use Rattle.row_ledger.specs.Workers.{is_on}
 use Rattle.tree_shape.specs.Counts.{Among, Each, times}
 use Rattle.tree_shape.specs.Laws.{CollectOtherLaw, OtherLaw}
 use Rattle.tree_shape.specs.Shape.{numbers}

@@ -2,7 +2,7 @@
 use Rattle.std.proofs.Common.{◌≡◌, ℕ, ◌+◌, Bool, true, false, List, Option, Some, sym, ap, ◌∙◌, subst, drop}
 use Rattle.std.specs.FinMap as map
 use Rattle.std.specs.Ordering.{nat_cmp}
-use Rattle.describing_set.specs.DescSet.{IsDescSetOf}
+use Rattle.describing_set.specs.Sets.{IsDescSetOf}
 use Rattle.describing_set.specs.declared.plane.Plane.{Plane}
 use Rattle.describing_set.specs.declared.set.DescSet.{DescSet}
 use Rattle.dim_hierarchy.specs.Dimension.{Dimension}

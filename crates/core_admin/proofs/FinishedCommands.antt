@@ -2,7 +2,7 @@
 use Rattle.std.proofs.Common.{◌≡◌, ◌≢◌, ℕ, ◌<◌, List, ◌∷◌, Bool, eqb, length, Option, Some, None, option_and_then, refl, sym, ap, ◌∙◌, subst, inl, inr, arith, le_of_eq, eq-eqb}
 use Rattle.std.proofs.lemmas.Bool.{or_left}
 use Rattle.row_ledger.specs.Past.{end_in, event_at, has_ended, insert_at, insert_in, is_end_of, number_in, query_at, query_in, session_in}
-use Rattle.row_ledger.specs.Right.{KeepsRight}
+use Rattle.row_ledger.specs.Kept.{KeepsRight}
 use Rattle.row_ledger.specs.declared.event.Event.{Event}
 use Rattle.row_ledger.specs.declared.event.Event.TheVariants.{Ended}
 use Rattle.row_ledger.specs.declared.settings.How.{How}

@@ -5,7 +5,8 @@ use Rattle.std.proofs.lemmas.List.{map-append}
 use Rattle.dim_hierarchy.specs.Row.{IsRowOf}
 use Rattle.dim_hierarchy.specs.declared.row.Row.{Row}
 use Rattle.link_descent.specs.declared.entered.Fresh.{Fresh}
-use Rattle.row_ledger.specs.Shards.{is_live, is_on}
+use Rattle.row_ledger.specs.Shards.{is_live}
+use Rattle.row_ledger.specs.Workers.{is_on}
 use Rattle.shard_store.specs.declared.gate.Gate.{Gate}
 use Rattle.shard_store.specs.declared.gate.Phase.TheVariants.{Frozen, Gone}
 use Rattle.tree_shape.specs.Counts.{Among, Each, same, times}

@@ -20,8 +20,9 @@ use Rattle.describing_set.specs.declared.listing.Spot.{Spot}
 use Rattle.row_ledger.specs.Laws.{AscendFrom}
 use Rattle.row_ledger.specs.Listings.{places_of}
 use Rattle.row_ledger.specs.Past.{Step, before, call_at, work}
-use Rattle.row_ledger.specs.Right.{KeepsRight}
-use Rattle.row_ledger.specs.Shards.{is_live, is_on}
+use Rattle.row_ledger.specs.Kept.{KeepsRight}
+use Rattle.row_ledger.specs.Shards.{is_live}
+use Rattle.row_ledger.specs.Workers.{is_on}
 use Rattle.row_ledger.specs.Work.{DidOnly, is_known}
 use Rattle.row_ledger.specs.declared.event.Event.{Event}
 use Rattle.row_ledger.specs.declared.event.Event.TheVariants.{Ended, Moved}

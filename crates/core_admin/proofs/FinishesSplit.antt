@@ -6,7 +6,7 @@ use Rattle.row_ledger.specs.LedgerValue.{LedgerValue}
 use Rattle.volap_cell.proofs.Touches.{IsBlank}
 use Rattle.dim_hierarchy.specs.declared.row.Row.{Row}
 use Rattle.row_ledger.specs.Past.{Step, before, call_at, work}
-use Rattle.row_ledger.specs.Right.{KeepsRight}
+use Rattle.row_ledger.specs.Kept.{KeepsRight}
 use Rattle.row_ledger.specs.Shards.{is_live}
 use Rattle.row_ledger.specs.Work.{DidOnly, is_known}
 use Rattle.row_ledger.specs.declared.event.Event.{Event}

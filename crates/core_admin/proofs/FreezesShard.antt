@@ -3,9 +3,9 @@ use Rattle.std.proofs.Common.{◌≡◌, ℕ, ◌+◌, ◌*◌, ◌<◌, List, [
 use Rattle.cell_stock.specs.declared.purse.Spare.{Spare}
 use Rattle.dim_hierarchy.specs.Dimension.{Dimension}
 use Rattle.dim_hierarchy.specs.declared.row.Row.{Row}
-use Rattle.describing_set.specs.DescSet.{JoinsTo}
+use Rattle.describing_set.specs.Sets.{JoinsTo}
 use Rattle.describing_set.specs.declared.plane.Plane.{Plane}
-use Rattle.row_ledger.specs.Shards.{is_on}
+use Rattle.row_ledger.specs.Workers.{is_on}
 use Rattle.row_ledger.specs.Work.{IsCause}
 use Rattle.row_ledger.specs.declared.settings.Decline.{Decline}
 use Rattle.row_ledger.specs.declared.settings.Decline.TheVariants.{OnePlace, NoCell}

@@ -5,7 +5,7 @@ use Rattle.std.proofs.lemmas.List.Elements.{All-head, All-tail}
 use Rattle.cell_stock.specs.Stock.{IsStock, StockValue, cells_of, stamps_of}
 use Rattle.cell_stock.specs.declared.purse.Spare.{Spare}
 use Rattle.cell_stock.proofs.Cells.{IsDistinct-range, Takes-AreFresh}
-use Rattle.describing_set.specs.DescSet.{IsDescSetOf}
+use Rattle.describing_set.specs.Sets.{IsDescSetOf}
 use Rattle.describing_set.specs.Plane.{IsPlaneOf}
 use Rattle.describing_set.specs.declared.plane.Plane.{Plane}
 use Rattle.describing_set.specs.declared.set.DescSet.{DescSet}

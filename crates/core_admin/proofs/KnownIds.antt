@@ -4,7 +4,8 @@ use Rattle.mapping_table.specs.declared.place.Where.{Where}
 use Rattle.mapping_table.specs.declared.place.Where.TheVariants as where_is
 use Rattle.row_ledger.specs.Listings.{places_of}
 use Rattle.row_ledger.specs.Right.{EachEvent, Stands}
-use Rattle.row_ledger.specs.Shards.{frontier, ids_made, left_at}
+use Rattle.row_ledger.specs.Shards.{frontier, ids_made}
+use Rattle.row_ledger.specs.Workers.{left_at}
 use Rattle.row_ledger.proofs.Descent.{live-made, split-made}
 use Rattle.server_image.specs.Registry.{RegistryValue, on_frontier}
 use Rattle.tree_shape.proofs.Walks.{on_bool}

@@ -9,7 +9,8 @@ use Rattle.dim_hierarchy.specs.Dimension.{Dimension}
 use Rattle.dim_hierarchy.specs.declared.row.Row.{Row}
 use Rattle.mapping_table.specs.declared.place.Where.{Where}
 use Rattle.mapping_table.specs.declared.place.Where.TheVariants as where_is
-use Rattle.row_ledger.specs.Shards.{frontier, is_on, place}
+use Rattle.row_ledger.specs.Shards.{frontier, place}
+use Rattle.row_ledger.specs.Workers.{is_on}
 use Rattle.row_ledger.specs.Work.{Reading, loads as loads_of}
 use Rattle.shard_plan.specs.Balancing.{plan}
 use Rattle.shard_plan.specs.declared.action.Load.{Load}

@@ -6,7 +6,8 @@ use Rattle.std.proofs.lemmas.List.{map-append, take_more_set, length-set}
 use Rattle.std.proofs.lemmas.List.Elements.{All-append, All-cons, All-head, All-nil, All-weaker}
 use Rattle.std.proofs.lemmas.List.Folds.{Any-from_list_any, list_any-from_Any}
 use Rattle.row_ledger.specs.Past.{Step, work}
-use Rattle.row_ledger.specs.Shards.{Place, comes_from, frontier, is_of, is_on, place}
+use Rattle.row_ledger.specs.Shards.{Place, comes_from, frontier, is_of, place}
+use Rattle.row_ledger.specs.Workers.{is_on}
 use Rattle.row_ledger.specs.Work.{Reading, Settles, is_done}
 use Rattle.row_ledger.specs.declared.event.Event.{Event}
 use Rattle.shard_plan.specs.Balancing.{plan}

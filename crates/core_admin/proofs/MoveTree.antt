@@ -6,7 +6,7 @@ use Rattle.dim_hierarchy.specs.Row.{IsRowOf}
 use Rattle.dim_hierarchy.specs.declared.row.Row.{Row}
 use Rattle.dc_node.specs.declared.entry.Entry.{Entry}
 use Rattle.link_descent.specs.declared.entered.Fresh.{Fresh}
-use Rattle.row_ledger.specs.Shards.{is_on}
+use Rattle.row_ledger.specs.Workers.{is_on}
 use Rattle.shard_build.specs.Built.{IsBuilt}
 use Rattle.shard_build.specs.Building.{spare_of}
 use Rattle.shard_build.specs.declared.builder.Built.{Built}

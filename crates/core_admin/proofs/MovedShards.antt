@@ -6,7 +6,8 @@ use Rattle.std.proofs.lemmas.Bool.{and_parts, false≢true, or_cases, or_right}
 use Rattle.describing_set.specs.declared.listing.Spot.{Spot}
 use Rattle.row_ledger.specs.Laws.{AscendFrom}
 use Rattle.row_ledger.specs.Listings.{places_of}
-use Rattle.row_ledger.specs.Shards.{Place, is_of, left_at, place}
+use Rattle.row_ledger.specs.Shards.{Place, is_of, place}
+use Rattle.row_ledger.specs.Workers.{left_at}
 use Rattle.row_ledger.specs.declared.event.Event.{Event}
 use Rattle.server_image.specs.Spots.{place_of}
 use Rattle.tree_shape.proofs.Walks.{on_bool}

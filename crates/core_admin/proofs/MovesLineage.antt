@@ -9,7 +9,8 @@ use Rattle.query_router.specs.Desk.{is_open}
 use Rattle.query_router.specs.declared.part.Part.{Part}
 use Rattle.row_ledger.specs.Listings.{places_of}
 use Rattle.row_ledger.specs.Right.{EachEvent, Stands}
-use Rattle.row_ledger.specs.Shards.{frontier, ids_made, is_child, is_live, is_on, left_at}
+use Rattle.row_ledger.specs.Shards.{frontier, ids_made, is_child, is_live}
+use Rattle.row_ledger.specs.Workers.{is_on, left_at}
 use Rattle.row_ledger.specs.declared.event.Event.{Event}
 use Rattle.row_ledger.specs.declared.event.Event.TheVariants.{Moved, Split}
 use Rattle.row_ledger.proofs.Descent.{live-last}

@@ -8,13 +8,15 @@ use Rattle.dim_hierarchy.specs.declared.row.Row.{Row}
 use Rattle.dim_hierarchy.specs.declared.row.Coord.{Coord}
 use Rattle.dim_hierarchy.specs.Row.{IsCoordOf, IsRowOf}
 use Rattle.dc_node.specs.Summary.{IsSummaryOf, coords}
-use Rattle.describing_set.specs.DescSet.{IsDescSetOf, IsSetOf, JoinsTo}
+use Rattle.describing_set.specs.Sets.{IsDescSetOf, JoinsTo}
+use Rattle.describing_set.specs.DescSet.{IsSetOf}
 use Rattle.describing_set.specs.declared.set.DescSet.{DescSet}
 use Rattle.measure_agg.specs.Aggregate.{Aggregate}
 use Rattle.row_ledger.specs.Bounds.{may}
 use Rattle.row_ledger.specs.Past.{Ack, Insert, acked, acked_into, before, begun, ends_with, insert_at, insert_in, last_of}
 use Rattle.row_ledger.specs.Right.{EachEvent, Stands}
-use Rattle.row_ledger.specs.Shards.{comes_from, is_on}
+use Rattle.row_ledger.specs.Shards.{comes_from}
+use Rattle.row_ledger.specs.Workers.{is_on}
 use Rattle.row_ledger.specs.Work.{AreReadOf}
 use Rattle.row_ledger.specs.declared.event.Event.{Event}
 use Rattle.row_ledger.specs.declared.event.Event.TheVariants.{Begun}

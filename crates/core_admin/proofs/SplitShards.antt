@@ -9,7 +9,8 @@ use Rattle.describing_set.specs.declared.listing.Spot.{Spot}
 use Rattle.row_ledger.specs.Laws.{AscendFrom}
 use Rattle.row_ledger.specs.Listings.{places_of}
 use Rattle.row_ledger.specs.Right.{EachEvent, IsRightSplit, Stands}
-use Rattle.row_ledger.specs.Shards.{Place, children, frontier, ids_made, is_live, is_of, is_on, place, worker_of}
+use Rattle.row_ledger.specs.Shards.{Place, children, frontier, ids_made, is_live, is_of, place, worker_of}
+use Rattle.row_ledger.specs.Workers.{is_on}
 use Rattle.row_ledger.specs.Site.{Site}
 use Rattle.row_ledger.specs.declared.event.Event.{Event}
 use Rattle.row_ledger.specs.declared.event.Event.TheVariants.{Split}

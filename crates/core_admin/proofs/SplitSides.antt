@@ -7,7 +7,7 @@ use Rattle.std.proofs.lemmas.List.Elements.{All-map}
 use Rattle.cell_stock.specs.Stock.{PurseValue, cells_of}
 use Rattle.cell_stock.specs.declared.purse.Spare.{Spare}
 use Rattle.dc_node.specs.Summary.{coords}
-use Rattle.describing_set.specs.DescSet.{IsDescSetOf}
+use Rattle.describing_set.specs.Sets.{IsDescSetOf}
 use Rattle.describing_set.specs.Plane.{goes_left}
 use Rattle.describing_set.specs.declared.plane.Plane.{Plane}
 use Rattle.dim_hierarchy.specs.Row.{IsCoordOf, IsRowOf}

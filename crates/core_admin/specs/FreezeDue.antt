@@ -2,7 +2,7 @@
 -- are those of a state; and what their calls do.
 use Rattle.std.specs.Prelude.{ℕ, ◌≡◌, ◌≢◌, ◌^◌, ◌<◌, ◌≤◌, ◌⊎◌, List, [], ◌∷◌, Option, length}
 use Rattle.dim_hierarchy.specs.Dimension.{Dimension}
-use Rattle.describing_set.specs.DescSet.{IsDescSetOf, JoinsTo}
+use Rattle.describing_set.specs.Sets.{IsDescSetOf, JoinsTo}
 use Rattle.describing_set.specs.declared.plane.Plane.{Plane}
 use Rattle.describing_set.specs.declared.set.DescSet.{DescSet}
 use Rattle.cell_stock.specs.Stock.{PurseValue, StockValue, Takes}

@@ -4,7 +4,7 @@ use Rattle.std.specs.FinMap as map
 use Rattle.std.specs.Ordering.{nat_cmp}
 use Rattle.cell_stock.specs.Stock.{AreOut, Gives, PurseValue, StockValue}
 use Rattle.cell_stock.specs.declared.purse.Spare.{Spare}
-use Rattle.describing_set.specs.DescSet.{IsDescSetOf}
+use Rattle.describing_set.specs.Sets.{IsDescSetOf}
 use Rattle.describing_set.specs.Plane.{IsHierarchyPlane}
 use Rattle.describing_set.specs.declared.plane.Plane.{Plane}
 use Rattle.describing_set.specs.declared.set.DescSet.{DescSet}

@@ -2,7 +2,7 @@
 ghost use Rattle.std.specs.Prelude.{ℕ, ◌≡◌, ◌+◌, ◌<◌, ◌^◌, [], ◌∷◌, true, false, Bool, Some, None, IsSome, IfOk, OnOk, OnErr};
 ghost use Rattle.std.specs.FinMap as map;
 ghost use Rattle.core_admin.specs.SplitDue.{CanFinishSplit, DividesShard, EntersBoth, FinishesDivided, GivesMost, IsChildGate, LeadNowhere, MayDivideShard, MayEnterBoth, MayFinishSplit, MayGiveMost, MayMakeChild, with_children};
-ghost use Rattle.describing_set.specs.DescSet.{IsDescSetOf};
+ghost use Rattle.describing_set.specs.Sets.{IsDescSetOf};
 ghost use Rattle.mapping_table.specs.declared.place.Where.TheVariants as where_is;
 ghost use Rattle.shard_store.specs.Gate.{IsQueueOf};
 ghost use Rattle.volap_cell.specs.AdminKinds.{IsTrueBox};

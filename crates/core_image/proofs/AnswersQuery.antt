@@ -12,7 +12,7 @@ use Rattle.query_router.specs.declared.part.PartState.{PartState}
 use Rattle.query_router.specs.declared.part.PartState.TheVariants.{Done}
 use Rattle.query_router.specs.declared.part.Verdict.TheVariants.{Sum}
 use Rattle.row_ledger.specs.Past.{Query, event_at, query_at, session_in}
-use Rattle.row_ledger.specs.Right.{KeepsRight}
+use Rattle.row_ledger.specs.Kept.{KeepsRight}
 use Rattle.row_ledger.specs.declared.event.Event.{Event}
 use Rattle.row_ledger.specs.declared.event.Event.TheVariants.{Answered}
 use Rattle.row_ledger.proofs.Growth.{KeepsRight-answered}

@@ -4,7 +4,7 @@ use Rattle.std.specs.Prelude.{IsSome, sum_by}
 use Rattle.std.proofs.lemmas.Bool.{false≢true}
 use Rattle.std.proofs.lemmas.List.Elements.{All-contains, All-contains_itself, All-map, All-weaker}
 use Rattle.dim_hierarchy.specs.Filter.{IsFilterOf}
-use Rattle.describing_set.specs.DescSet.{IsDescSetOf}
+use Rattle.describing_set.specs.Sets.{IsDescSetOf}
 use Rattle.describing_set.specs.Filter.{overlaps}
 use Rattle.server_image.specs.Spots.{AreBoxes}
 use Rattle.describing_set.specs.declared.listing.Spot.{Spot}
@@ -13,7 +13,7 @@ use Rattle.query_router.specs.declared.part.Part.{Part}
 use Rattle.query_router.specs.declared.part.Want.TheVariants as want
 use Rattle.dim_hierarchy.specs.Dimension.{Dimension}
 use Rattle.row_ledger.specs.Past.{Ack, Insert, Query, insert_at, insert_in, query_at, query_in}
-use Rattle.row_ledger.specs.Right.{KeepsRight}
+use Rattle.row_ledger.specs.Kept.{KeepsRight}
 use Rattle.row_ledger.specs.declared.event.Event.{Event}
 use Rattle.row_ledger.specs.declared.event.Event.TheVariants.{Asked}
 use Rattle.row_ledger.specs.Bounds.{known}

@@ -11,7 +11,7 @@ use Rattle.query_router.specs.declared.part.PartState.TheVariants as state
 use Rattle.query_router.specs.declared.part.Verdict.{Verdict}
 use Rattle.query_router.specs.declared.part.Verdict.TheVariants as verdict
 use Rattle.row_ledger.specs.Past.{Insert, Query, event_at, has_ended, insert_at, query_at, session_in}
-use Rattle.row_ledger.specs.Right.{KeepsRight}
+use Rattle.row_ledger.specs.Kept.{KeepsRight}
 use Rattle.row_ledger.specs.declared.event.Event.{Event}
 use Rattle.row_ledger.specs.declared.event.Event.TheVariants.{Failed}
 use Rattle.row_ledger.proofs.Elements.{Contains-nil}

@@ -8,7 +8,7 @@ use Rattle.query_router.specs.Desk.{DeskValue, is_taken, is_waiting}
 use Rattle.query_router.specs.declared.part.Part.{Part}
 use Rattle.row_ledger.specs.Changes.{ShardsStay}
 use Rattle.row_ledger.specs.Past.{Query, query_at}
-use Rattle.row_ledger.specs.Right.{KeepsRight}
+use Rattle.row_ledger.specs.Kept.{KeepsRight}
 use Rattle.row_ledger.specs.declared.event.Event.{Event}
 use Rattle.row_ledger.specs.declared.event.Event.TheVariants.{Failed}
 use Rattle.row_ledger.proofs.Changes.{quiet}

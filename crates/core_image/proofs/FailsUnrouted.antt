@@ -6,7 +6,7 @@ use mathlib.Core.Path.{fun_ext}
 use Rattle.dim_hierarchy.specs.Dimension.{Dimension}
 use Rattle.row_ledger.specs.Changes.{ShardsStay}
 use Rattle.row_ledger.specs.Past.{insert_at}
-use Rattle.row_ledger.specs.Right.{KeepsRight}
+use Rattle.row_ledger.specs.Kept.{KeepsRight}
 use Rattle.row_ledger.specs.declared.event.Event.{Event}
 use Rattle.row_ledger.specs.declared.event.Event.TheVariants.{Failed}
 use Rattle.row_ledger.proofs.Changes.{quiet}

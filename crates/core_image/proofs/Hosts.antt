@@ -5,7 +5,8 @@ use Rattle.std.specs.Prelude.{if◌then◌else◌}
 use Rattle.std.proofs.lemmas.Bool.{eq-eqb, false≢true, or_right}
 use Rattle.describing_set.specs.declared.listing.Spot.{Spot}
 use Rattle.row_ledger.specs.Listings.{places_of}
-use Rattle.row_ledger.specs.Shards.{Place, frontier, is_live, is_of, is_on, place, children, places_after, worker_of}
+use Rattle.row_ledger.specs.Shards.{Place, frontier, is_live, is_of, place, children, places_after, worker_of}
+use Rattle.row_ledger.specs.Workers.{is_on}
 use Rattle.row_ledger.specs.declared.event.Event.{Event}
 use Rattle.server_image.specs.Registry.{RegistryValue, host_of, on_frontier}
 use Rattle.server_image.specs.Spots.{has_spot, worker_in}

@@ -5,7 +5,7 @@ use Rattle.cell_stock.specs.declared.purse.Spare.{Spare}
 use Rattle.std.proofs.lemmas.Bool.{false≢true}
 use Rattle.dc_node.specs.declared.block.Block.{Block}
 use Rattle.dc_node.specs.declared.todo.Item.{Item}
-use Rattle.row_ledger.specs.Shards.{is_on}
+use Rattle.row_ledger.specs.Workers.{is_on}
 use Rattle.row_ledger.specs.declared.settings.Decline.{Decline}
 use Rattle.row_ledger.specs.declared.event.Event.{Event}
 use Rattle.shard_store.specs.declared.gate.Gate.{Gate}

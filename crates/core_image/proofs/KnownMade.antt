@@ -4,7 +4,8 @@ use Rattle.std.specs.Prelude.{IsSome}
 use Rattle.std.proofs.lemmas.Bool.{false≢true}
 use Rattle.mapping_table.specs.declared.place.Where.{Where}
 use Rattle.mapping_table.specs.declared.place.Where.TheVariants as where_is
-use Rattle.row_ledger.specs.Shards.{ids_made, left_at}
+use Rattle.row_ledger.specs.Shards.{ids_made}
+use Rattle.row_ledger.specs.Workers.{left_at}
 use Rattle.row_ledger.proofs.Descent.{split-made}
 use Rattle.volap_cell.specs.Ghost.{Ghost}
 use Rattle.volap_cell.specs.Invariant.{InvWith}

@@ -4,8 +4,9 @@ use Rattle.std.proofs.lemmas.Bool.{and_parts, false≢true, ltb-true}
 use Rattle.cell_stock.specs.declared.purse.Spare.{Spare}
 use Rattle.row_ledger.specs.Listings.{places_of}
 use Rattle.row_ledger.specs.Past.{before, call_at, call_in, has_page, work}
-use Rattle.row_ledger.specs.Right.{KeepsRight}
-use Rattle.row_ledger.specs.Shards.{frontier, is_live, is_on, comes_from, place}
+use Rattle.row_ledger.specs.Kept.{KeepsRight}
+use Rattle.row_ledger.specs.Shards.{frontier, is_live, comes_from, place}
+use Rattle.row_ledger.specs.Workers.{is_on}
 use Rattle.row_ledger.specs.Work.{is_known}
 use Rattle.row_ledger.specs.declared.event.Event.{Event}
 use Rattle.row_ledger.specs.declared.event.Event.TheVariants.{Called}

@@ -6,7 +6,8 @@ use Rattle.std.proofs.lemmas.List.{reverse-append}
 use Rattle.std.proofs.lemmas.List.Elements.{All-head, All-tail, All-weaker}
 use Rattle.row_ledger.specs.Changes.{ShardsStay}
 use Rattle.row_ledger.specs.Past.{Step, before, work}
-use Rattle.row_ledger.specs.Shards.{is_on, comes_from, frontier}
+use Rattle.row_ledger.specs.Workers.{is_on}
+use Rattle.row_ledger.specs.Shards.{comes_from, frontier}
 use Rattle.row_ledger.specs.Work.{AreReadOf, IsCause, IsRightDecline, Settles, is_done, shard_of}
 use Rattle.row_ledger.specs.declared.event.Event.{Event}
 use Rattle.row_ledger.specs.declared.event.Event.TheVariants.{Left}

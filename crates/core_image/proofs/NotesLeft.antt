@@ -7,7 +7,8 @@ use Rattle.dim_hierarchy.specs.declared.row.Row.{Row}
 use Rattle.query_router.specs.Desk.{DeskValue}
 use Rattle.row_ledger.specs.Changes.{ShardsStay}
 use Rattle.row_ledger.specs.Past.{call_at, number_in}
-use Rattle.row_ledger.specs.Right.{KeepsRight, MayLeave}
+use Rattle.row_ledger.specs.Kept.{KeepsRight}
+use Rattle.row_ledger.specs.Right.{MayLeave}
 use Rattle.row_ledger.specs.Work.{IsCause}
 use Rattle.row_ledger.specs.declared.event.Event.{Event}
 use Rattle.row_ledger.specs.declared.event.Event.TheVariants.{Left}
@@ -24,7 +25,7 @@ use Rattle.shard_store.specs.declared.queue.Queue.{Queue}
 use Rattle.tree_shape.specs.Shape.{Shape}
 use Rattle.tree_shape.proofs.Walks.{on_bool, eqb-eq, eqb-ne}
 use Rattle.std.proofs.lemmas.Option.{slice_get_past}
-use Rattle.row_ledger.specs.Shards.{is_on}
+use Rattle.row_ledger.specs.Workers.{is_on}
 use Rattle.row_ledger.specs.LedgerValue.{LedgerValue}
 use Rattle.core_image.specs.NotesDue.{CanNoteLeft, GoesOn}
 use Rattle.core_image.proofs.Backed.{all-promised}

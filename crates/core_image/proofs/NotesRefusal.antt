@@ -5,7 +5,7 @@ use Rattle.dim_hierarchy.specs.Dimension.{Dimension}
 use Rattle.row_ledger.specs.Changes.{ShardsStay, is_quiet}
 use Rattle.row_ledger.specs.LedgerValue.{LedgerValue}
 use Rattle.row_ledger.specs.Past.{Insert, Query, ends_itself, insert_in, is_beginning, is_work_of, query_in, session_in}
-use Rattle.row_ledger.specs.Right.{KeepsRight}
+use Rattle.row_ledger.specs.Kept.{KeepsRight}
 use Rattle.row_ledger.specs.declared.event.Event.{Event}
 use Rattle.row_ledger.specs.declared.event.Event.TheVariants.{Refused, Unknown}
 use Rattle.row_ledger.proofs.Changes.{quiet}

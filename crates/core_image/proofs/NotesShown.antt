@@ -8,7 +8,8 @@ use Rattle.dim_hierarchy.specs.Dimension.{Dimension}
 use Rattle.dim_hierarchy.specs.declared.row.Row.{Row}
 use Rattle.row_ledger.specs.LedgerValue.{LedgerValue}
 use Rattle.row_ledger.specs.Past.{Ack, acked, before, beginnings, call_at, call_in, ends_itself, event_at, has_ended, has_page, is_idle, is_over, session_in}
-use Rattle.row_ledger.specs.Right.{Asks, IsShown, KeepsRight}
+use Rattle.row_ledger.specs.Right.{Asks, IsShown}
+use Rattle.row_ledger.specs.Kept.{KeepsRight}
 use Rattle.row_ledger.specs.Shards.{is_live}
 use Rattle.row_ledger.specs.declared.event.Event.{Event}
 use Rattle.row_ledger.specs.declared.event.Event.TheVariants.{Called, Shown}

@@ -12,7 +12,8 @@ use Rattle.dim_hierarchy.specs.declared.filter.Pick.{Pick}
 use Rattle.dim_hierarchy.specs.declared.row.Coord.{Coord}
 use Rattle.dim_hierarchy.specs.declared.row.Row.{Row}
 use Rattle.dim_hierarchy.proofs.Matching.{matches-Matches}
-use Rattle.describing_set.specs.DescSet.{IsDescSetOf, covers}
+use Rattle.describing_set.specs.Sets.{IsDescSetOf}
+use Rattle.describing_set.specs.DescSet.{covers}
 use Rattle.describing_set.specs.Filter.{overlaps}
 use Rattle.describing_set.specs.declared.listing.Spot.{Spot}
 use Rattle.describing_set.specs.declared.set.DescSet.{DescSet}

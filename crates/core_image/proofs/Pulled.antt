@@ -19,7 +19,8 @@ use Rattle.row_ledger.specs.Changes.{ShardsStay}
 use Rattle.row_ledger.specs.Listings.{IsBox, places_of}
 use Rattle.row_ledger.specs.Past.{Ack, ack_of, acked, insert_at, last_of}
 use Rattle.row_ledger.specs.Right.{EachEvent, Site, Stands}
-use Rattle.row_ledger.specs.Shards.{Place, comes_from, frontier, is_of, is_on, is_path, place}
+use Rattle.row_ledger.specs.Shards.{Place, comes_from, frontier, is_of, is_path, place}
+use Rattle.row_ledger.specs.Workers.{is_on}
 use Rattle.row_ledger.specs.declared.event.Event.{Event}
 use Rattle.row_ledger.specs.declared.event.Event.TheVariants.{Acked, Synced}
 use Rattle.row_ledger.proofs.Descent.{comes_from-made, comes_from-self, live-apart, live-made}

@@ -8,7 +8,8 @@ use Rattle.dim_hierarchy.specs.Dimension.{Dimension}
 use Rattle.dim_hierarchy.specs.declared.row.Row.{Row}
 use Rattle.describing_set.specs.declared.listing.Spot.{Spot}
 use Rattle.row_ledger.specs.Past.{call_at, is_pull_of, since}
-use Rattle.row_ledger.specs.Right.{KeepsRight, pulls_for}
+use Rattle.row_ledger.specs.Kept.{KeepsRight}
+use Rattle.row_ledger.specs.Right.{pulls_for}
 use Rattle.row_ledger.specs.declared.event.Event.{Event}
 use Rattle.row_ledger.specs.declared.event.Event.TheVariants.{Synced}
 use Rattle.row_ledger.specs.declared.settings.Call.{Call}

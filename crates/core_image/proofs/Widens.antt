@@ -18,7 +18,8 @@ use Rattle.query_router.specs.declared.part.PartState.TheVariants as state
 use Rattle.row_ledger.specs.Bounds.{is_listed, known, listing_of, may}
 use Rattle.row_ledger.specs.Listings.{IsBox}
 use Rattle.row_ledger.specs.Past.{Ack, Insert, ack_of, acked, begun, event_at, insert_at, insert_in, last_of}
-use Rattle.row_ledger.specs.Right.{EachEvent, KeepsRight, Stands}
+use Rattle.row_ledger.specs.Right.{EachEvent, Stands}
+use Rattle.row_ledger.specs.Kept.{KeepsRight}
 use Rattle.row_ledger.specs.Shards.{comes_from, ids_made, is_live, is_path}
 use Rattle.row_ledger.specs.declared.event.Event.{Event}
 use Rattle.row_ledger.proofs.Descent.{comes_from-made, live-made}

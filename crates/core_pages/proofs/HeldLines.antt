@@ -13,7 +13,8 @@ use Rattle.mapping_table.specs.declared.place.Where.{Where}
 use Rattle.measure_agg.specs.Aggregate.{Aggregate, agg, join}
 use Rattle.measure_agg.proofs.AggLaws.{agg-append}
 use Rattle.row_ledger.specs.Listings.{places_of}
-use Rattle.row_ledger.specs.Shards.{Place, is_of, is_on}
+use Rattle.row_ledger.specs.Shards.{Place, is_of}
+use Rattle.row_ledger.specs.Workers.{is_on}
 use Rattle.row_ledger.specs.declared.page.ShardLine.{ShardLine}
 use Rattle.server_image.specs.Registry.{RegistryValue}
 use Rattle.shard_store.specs.declared.gate.Gate.{Gate}

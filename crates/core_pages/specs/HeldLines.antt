@@ -1,6 +1,6 @@
 -- What a page of all shards reads of the cells that one thread holds: for each spot the gate to which its worker's table leads.
 use Rattle.std.specs.Prelude.{ℕ, ◌≡◌, ◌+◌, List, length, get_or, Option, Some, None, IsSome, option_and_then}
-use Rattle.describing_set.specs.DescSet.{IsDescSetOf, JoinsTo}
+use Rattle.describing_set.specs.Sets.{IsDescSetOf, JoinsTo}
 use Rattle.describing_set.specs.declared.listing.Spot.{Spot}
 use Rattle.dim_hierarchy.specs.Dimension.{Dimension}
 use Rattle.mapping_table.specs.declared.place.Where.{Where}

@@ -10,7 +10,7 @@ use Rattle.query_router.specs.Desk.{DeskValue}
 use Rattle.query_router.specs.declared.part.Part.{Part}
 use Rattle.query_router.specs.declared.part.PartState.TheVariants as state
 use Rattle.query_router.specs.declared.part.Want.{Want}
-use Rattle.row_ledger.specs.Shards.{left_at}
+use Rattle.row_ledger.specs.Workers.{left_at}
 use Rattle.row_ledger.specs.declared.event.Event.{Event}
 use Rattle.volap_cell.specs.Cells.{tag_of}
 use Rattle.volap_cell.specs.Errands.{RowWay, gate_entered, read_in_task, row_way, way_in_task}

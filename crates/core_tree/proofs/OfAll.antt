@@ -1,6 +1,7 @@
 -- A filter that is All in each dimension: each set is inside it.
 use Rattle.std.proofs.Common.{◌≡◌, List, get_or, true, sym, subst, refl}
-use Rattle.describing_set.specs.DescSet.{IsDescSetOf, part_at}
+use Rattle.describing_set.specs.Sets.{IsDescSetOf}
+use Rattle.describing_set.specs.DescSet.{part_at}
 use Rattle.describing_set.specs.Filter.{is_inside, overlaps}
 use Rattle.describing_set.specs.declared.set.DescSet.{DescSet}
 use Rattle.describing_set.proofs.Filters.{is_inside-IsInside}

@@ -8,7 +8,7 @@ use Rattle.dim_hierarchy.specs.Dimension.{Dimension}
 use Rattle.dim_hierarchy.specs.Filter.{IsFilterOf, pick_at}
 use Rattle.dim_hierarchy.specs.declared.filter.Pick.{Pick}
 use Rattle.dim_hierarchy.specs.declared.filter.Pick.TheVariants.{All}
-use Rattle.describing_set.specs.DescSet.{IsDescSetOf}
+use Rattle.describing_set.specs.Sets.{IsDescSetOf}
 use Rattle.dc_node.specs.Block.{IsBodyOf}
 use Rattle.dc_node.specs.Summary.{row_count}
 use Rattle.dc_node.specs.declared.block.Block.{Block}

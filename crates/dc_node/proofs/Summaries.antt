@@ -12,7 +12,8 @@ use Rattle.dim_hierarchy.specs.declared.row.Coord.{Coord}
 use Rattle.dim_hierarchy.specs.Dimension.{Dimension}
 use Rattle.dim_hierarchy.specs.Row.{IsCoordOf, IsRowOf}
 use Rattle.measure_agg.specs.Aggregate.{Aggregate, agg, one, join}
-use Rattle.describing_set.specs.DescSet.{IsSetOf, GrowsBy, JoinsTo, AreAmong}
+use Rattle.describing_set.specs.DescSet.{IsSetOf}
+use Rattle.describing_set.specs.Sets.{GrowsBy, JoinsTo, AreAmong}
 use Rattle.describing_set.specs.declared.set.DescSet.{DescSet}
 use Rattle.dc_node.specs.Summary.{coords, aggs, joined, IsSummaryOf, IsUnionOf}
 use Rattle.dc_node.specs.declared.entry.Entry.{Entry}

@@ -3,7 +3,7 @@ ghost use Rattle.std.specs.Prelude.{◌≡◌, ◌+◌, ◌<◌, ◌≤◌, ◌^
 ghost use Rattle.dc_node.specs.Limits.{most_of_directory};
 ghost use Rattle.dc_node.specs.Block.{rows_in, entries_in, is_leaf, is_full, with_rows, with_entries, replaced, IsBodyOf};
 ghost use Rattle.dc_node.specs.Summary.{row_count, IsSummary};
-ghost use Rattle.describing_set.specs.DescSet.{IsDescSetOf};
+ghost use Rattle.describing_set.specs.Sets.{IsDescSetOf};
 
 use crate::blanks::Blanks;
 use crate::boxed::EntryBox;

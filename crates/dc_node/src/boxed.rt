@@ -3,7 +3,8 @@ ghost use Rattle.std.specs.Prelude.{◌≡◌, ◌==◌, ◌+◌, ◌<◌, ◌�
 ghost use Rattle.dim_hierarchy.specs.Filter.{matches};
 ghost use Rattle.dim_hierarchy.specs.Row.{IsRowOf};
 ghost use Rattle.measure_agg.specs.Aggregate.{agg};
-ghost use Rattle.describing_set.specs.DescSet.{IsSetOf, IsDescSetOf};
+ghost use Rattle.describing_set.specs.DescSet.{IsSetOf};
+ghost use Rattle.describing_set.specs.Sets.{IsDescSetOf};
 ghost use Rattle.dc_node.specs.Limits.{most_of_leaf, most_of_directory};
 ghost use Rattle.dc_node.specs.Entry.{HasRowMore};
 ghost use Rattle.dc_node.specs.Summary.{coords};

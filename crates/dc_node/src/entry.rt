@@ -1,7 +1,7 @@
 //! The entries of a directory.
 ghost use Rattle.std.specs.Prelude.{◌≡◌, ◌+◌, ◌<◌, ◌^◌};
 ghost use Rattle.dim_hierarchy.specs.Row.{IsRowOf};
-ghost use Rattle.describing_set.specs.DescSet.{IsDescSetOf};
+ghost use Rattle.describing_set.specs.Sets.{IsDescSetOf};
 
 use describing_set::DescSet;
 use dim_hierarchy::{Hierarchy, Row};

@@ -10,11 +10,12 @@ use Rattle.dim_hierarchy.specs.Dimension.{Dimension, tree}
 use Rattle.dim_hierarchy.specs.Row.{IsCoordOf, concept_at}
 use Rattle.dim_hierarchy.specs.declared.row.Coord.{Coord}
 use Rattle.dim_hierarchy.proofs.Matching.{IsCoordOf-length}
-use Rattle.describing_set.specs.Ascending.{In}
+use Rattle.describing_set.specs.Sorted.{In}
 use Rattle.describing_set.specs.declared.part.Part.{Part}
 use Rattle.describing_set.specs.declared.set.DescSet.{DescSet}
 use Rattle.describing_set.specs.Part.{part, ancestors, has_ancestor}
-use Rattle.describing_set.specs.DescSet.{part_at, column, IsSetOf, Covers, covers, in_each, growth_at}
+use Rattle.describing_set.specs.DescSet.{part_at, column, IsSetOf, covers, in_each}
+use Rattle.describing_set.specs.Sets.{Covers, growth_at}
 use Rattle.describing_set.proofs.Sorted.{Contains-from_In}
 use Rattle.describing_set.proofs.Parts.{deepest, In-ancestors}
 

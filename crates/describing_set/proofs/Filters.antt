@@ -18,7 +18,8 @@ use Rattle.describing_set.specs.declared.part.Part.{Part}
 use Rattle.describing_set.specs.declared.set.DescSet.{DescSet}
 use Rattle.describing_set.specs.declared.bearing.Bearing.{Bearing}
 use Rattle.describing_set.specs.declared.bearing.Bearing.TheVariants as it
-use Rattle.describing_set.specs.DescSet.{part_at, IsDescSetOf, Covers, in_each}
+use Rattle.describing_set.specs.DescSet.{part_at, in_each}
+use Rattle.describing_set.specs.Sets.{IsDescSetOf, Covers}
 use Rattle.dim_hierarchy.specs.Compiled.{is_related}
 use Rattle.describing_set.specs.Filter.{IsInside, is_part_inside, is_inside, AreRelated, are_related, IsMet, is_met, is_part_met, Overlaps, overlaps, IsMetFrom, IsBearing, bearing}
 use Rattle.describing_set.proofs.Covering.{test_at, in_each-from, in_each-at, in_each-fails, IsSetOf-Covers}

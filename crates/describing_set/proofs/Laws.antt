@@ -9,11 +9,12 @@ use Rattle.dim_hierarchy.specs.Dimension.{Dimension, IsHierarchy, tree}
 use Rattle.dim_hierarchy.specs.Row.{IsCoordOf, concept_at}
 use Rattle.dim_hierarchy.specs.declared.row.Coord.{Coord}
 use Rattle.dim_hierarchy.proofs.Ancestors.{up-up}
-use Rattle.describing_set.specs.Ascending.{In}
+use Rattle.describing_set.specs.Sorted.{In}
 use Rattle.describing_set.specs.declared.part.Part.{Part}
 use Rattle.describing_set.specs.declared.set.DescSet.{DescSet}
 use Rattle.describing_set.specs.Part.{part, ancestors}
-use Rattle.describing_set.specs.DescSet.{part_at, column, IsSetOf, IsDescSetOf, Covers, Describes, AreAmong}
+use Rattle.describing_set.specs.DescSet.{part_at, column, IsSetOf}
+use Rattle.describing_set.specs.Sets.{IsDescSetOf, Covers, Describes, AreAmong}
 use Rattle.describing_set.proofs.Sorted.{Contains-from_In, In-from_Contains, Ascends-IsStrictlyIncreasing}
 use Rattle.describing_set.proofs.Parts.{IsDeepest, deepest, part_from-same, ancestors-source, In-ancestors, AreBeside-within, length-ancestors-within}
 use Rattle.describing_set.proofs.Sets.{part_at-IsPart, part_at-level, column-AreConcepts}

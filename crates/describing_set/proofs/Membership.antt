@@ -5,7 +5,8 @@ use Rattle.std.specs.List.{list_any}
 use Rattle.std.proofs.lemmas.Bool.{eqb-true}
 use Rattle.std.proofs.lemmas.List.{get_or_default}
 use Rattle.dim_hierarchy.specs.Tree.{Tree, IsConcept, IsTree}
-use Rattle.describing_set.specs.Ascending.{with_id, In, Ascends}
+use Rattle.describing_set.specs.Ascending.{with_id}
+use Rattle.describing_set.specs.Sorted.{In, Ascends}
 use Rattle.describing_set.specs.Places.{no_concept, AreFew}
 use Rattle.describing_set.proofs.Sorted.{with_id-here, with_id-after, Below-In}
 

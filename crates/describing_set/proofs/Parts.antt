@@ -7,9 +7,11 @@ use Rattle.std.proofs.Math.Nat.{eq-or-lt_of_le}
 use Rattle.dim_hierarchy.specs.Concept.{level_of}
 use Rattle.dim_hierarchy.specs.Tree.{Tree, IsConcept, IsTree, up}
 use Rattle.dim_hierarchy.proofs.Ancestors.{up-up, up-IsConcept, level_of-up, concept_at_top}
-use Rattle.describing_set.specs.Ascending.{with_id, In, Ascends}
+use Rattle.describing_set.specs.Ascending.{with_id}
+use Rattle.describing_set.specs.Sorted.{In, Ascends}
 use Rattle.describing_set.specs.declared.part.Part.{Part}
-use Rattle.describing_set.specs.Part.{part, part_from, ancestors, AreConcepts, IsPart, GrowsPart, JoinsParts}
+use Rattle.describing_set.specs.Part.{part, part_from, ancestors}
+use Rattle.describing_set.specs.Parts.{AreConcepts, IsPart, GrowsPart, JoinsParts}
 use Rattle.describing_set.proofs.Membership.{with_id-member}
 use Rattle.describing_set.proofs.Sorted.{length-ascending-within, In-take, In-append_left, In-append_right, In-append_cases, In-map, In-map-source, Source, In-ascending, In-from_ascending, In-with_id-cases, ascending-same, Ascends-ascending, Ascends-with_id, length-ascending, length-with_id-ge, length-with_id-le}
 

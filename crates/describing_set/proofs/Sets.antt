@@ -11,11 +11,13 @@ use Rattle.dim_hierarchy.specs.Row.{IsCoordOf, concept_at}
 use Rattle.dim_hierarchy.specs.Compiled.{AreOfLevel}
 use Rattle.dim_hierarchy.specs.declared.row.Coord.{Coord}
 use Rattle.dim_hierarchy.proofs.Ancestors.{up-self}
-use Rattle.describing_set.specs.Ascending.{In}
+use Rattle.describing_set.specs.Sorted.{In}
 use Rattle.describing_set.specs.declared.part.Part.{Part}
 use Rattle.describing_set.specs.declared.set.DescSet.{DescSet}
-use Rattle.describing_set.specs.Part.{part, part_of, AreConcepts, IsPart, GrowsPart, PartGrows, JoinsParts}
-use Rattle.describing_set.specs.DescSet.{part_at, column, IsSetOf, IsDescSetOf, GrowsBy, JoinsTo}
+use Rattle.describing_set.specs.Part.{part, part_of}
+use Rattle.describing_set.specs.Parts.{AreConcepts, IsPart, GrowsPart, PartGrows, JoinsParts}
+use Rattle.describing_set.specs.DescSet.{part_at, column, IsSetOf}
+use Rattle.describing_set.specs.Sets.{IsDescSetOf, GrowsBy, JoinsTo}
 use Rattle.describing_set.proofs.Sorted.{All-from_In}
 use Rattle.describing_set.proofs.Parts.{deepest, part_from-few, part_from-IsPart}
 

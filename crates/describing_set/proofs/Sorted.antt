@@ -5,7 +5,8 @@ use Rattle.std.specs.Bool.{OnTrue, OnFalse}
 use Rattle.std.specs.List.Sorted.{IsStrictlyIncreasing}
 use Rattle.std.proofs.lemmas.List.{take_more}
 use Rattle.std.proofs.lemmas.Bool.Decides.{nat_tests}
-use Rattle.describing_set.specs.Ascending.{with_id, ascending, In, Below, Ascends}
+use Rattle.describing_set.specs.Ascending.{with_id, ascending}
+use Rattle.describing_set.specs.Sorted.{In, Below, Ascends}
 
 -- One number more: where it goes.
 

@@ -1,7 +1,10 @@
 pub mod Ascending
+pub mod Sorted
 pub mod Places
 pub mod Part
+pub mod Parts
 pub mod DescSet
+pub mod Sets
 pub mod Filter
 pub mod Plane
 pub mod Path

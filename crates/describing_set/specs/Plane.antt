@@ -7,7 +7,8 @@ use Rattle.dim_hierarchy.specs.Row.{concept_at}
 use Rattle.dim_hierarchy.specs.declared.row.Coord.{Coord}
 use Rattle.describing_set.specs.declared.set.DescSet.{DescSet}
 use Rattle.describing_set.specs.declared.plane.Plane.{Plane}
-use Rattle.describing_set.specs.DescSet.{part_at, IsDescSetOf}
+use Rattle.describing_set.specs.DescSet.{part_at}
+use Rattle.describing_set.specs.Sets.{IsDescSetOf}
 
 -- how many concepts a set has in a dimension
 abbrev pub count_at : DescSet → ℕ → ℕ

@@ -2,8 +2,9 @@
 ghost use Rattle.std.specs.Prelude.{◌≡◌, ◌≢◌, ◌==◌, ◌↔◌, ◌<◌, ◌≤◌, ◌+◌, [], ◌∷◌, ◌++◌, length, IsTrue, Contains};
 ghost use Rattle.std.specs.List.{list_any, insert};
 ghost use Rattle.std.specs.Bool.{OnTrue, OnFalse};
-ghost use Rattle.describing_set.specs.Ascending.{with_id, Ascends};
-ghost use Rattle.describing_set.specs.Places.{most_of_set, no_concept};
+ghost use Rattle.describing_set.specs.Ascending.{with_id, most_of_set};
+ghost use Rattle.describing_set.specs.Sorted.{Ascends};
+ghost use Rattle.describing_set.specs.Places.{no_concept};
 
 use dim_hierarchy::ConceptId;
 use std::marker::Model;
@@ -27,7 +28,8 @@ pub struct FewConcepts {
 impl Model for FewConcepts {
     ghost use Rattle.std.specs.Prelude.{ℕ, ◌≡◌, ◌≤◌, ◌++◌, ◌-◌, take, length, replicate};
     ghost use Rattle.arrayvec.specs.ArrayVec.{ArrayVec as Items};
-    ghost use Rattle.describing_set.specs.Places.{most_of_set, no_concept, AreFew};
+    ghost use Rattle.describing_set.specs.Ascending.{most_of_set};
+    ghost use Rattle.describing_set.specs.Places.{no_concept, AreFew};
 
     ghost Value = { Items ℕ };
 

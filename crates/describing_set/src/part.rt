@@ -21,7 +21,8 @@ pub struct Part {
 }
 
 impl Part {
-    ghost use Rattle.describing_set.specs.Part.{part, IsPart, GrowsPart, JoinsParts, ancestors, has_ancestor};
+    ghost use Rattle.describing_set.specs.Part.{part, ancestors, has_ancestor};
+    ghost use Rattle.describing_set.specs.Parts.{IsPart, GrowsPart, JoinsParts};
     ghost use Rattle.describing_set.specs.Filter.{is_part_inside, is_part_met};
 
     /// One concept of a level.

@@ -24,7 +24,8 @@ impl Model for PartList {
     ghost use Rattle.std.specs.Prelude.{◌≡◌, ◌≤◌, ◌++◌, ◌-◌, [], take, length, replicate};
     ghost use Rattle.arrayvec.specs.ArrayVec.{ArrayVec as Items};
     ghost use Rattle.describing_set.specs.declared.part.Part.{Part};
-    ghost use Rattle.describing_set.specs.Part.{part, AreParts};
+    ghost use Rattle.describing_set.specs.Part.{part};
+    ghost use Rattle.describing_set.specs.Parts.{AreParts};
 
     ghost Value = { Items Part };
 
@@ -41,7 +42,8 @@ impl Model for PartList {
 }
 
 impl PartList {
-    ghost use Rattle.describing_set.specs.Part.{part, IsPart, PartGrows};
+    ghost use Rattle.describing_set.specs.Part.{part};
+    ghost use Rattle.describing_set.specs.Parts.{IsPart, PartGrows};
 
     /// None.
     pub fn new() -> PartList

@@ -22,8 +22,9 @@ pub struct DescSet {
 impl DescSet {
     ghost use Rattle.dim_hierarchy.specs.declared.row.Coord.{Coord};
     ghost use Rattle.describing_set.specs.declared.set.DescSet.{DescSet};
-    ghost use Rattle.describing_set.specs.Part.{IsPart};
-    ghost use Rattle.describing_set.specs.DescSet.{part_at, IsSetOf, IsDescSetOf, GrowsBy, JoinsTo, Covers, covers, growth_of, size_of, in_each, Describes, AreAmong};
+    ghost use Rattle.describing_set.specs.Parts.{IsPart};
+    ghost use Rattle.describing_set.specs.DescSet.{part_at, IsSetOf, covers, in_each};
+    ghost use Rattle.describing_set.specs.Sets.{IsDescSetOf, GrowsBy, JoinsTo, Covers, growth_of, size_of, Describes, AreAmong};
     ghost use Rattle.describing_set.specs.declared.bearing.Bearing.TheVariants.{Inside, Apart};
     ghost use Rattle.describing_set.specs.Filter.{Overlaps, overlaps, is_part_met, IsMetFrom, IsBearing, bearing};
 

@@ -10,8 +10,9 @@ use Rattle.std.proofs.lemmas.List.Elements.{All-head, All-map}
 use Rattle.dim_hierarchy.specs.Tree.{Tree, IsConcept, IsTree, up}
 use Rattle.dim_hierarchy.specs.Dimension.{Dimension, tree}
 use Rattle.dim_hierarchy.proofs.Ancestors.{concept_at_top, up-IsConcept, level_of-up}
-use Rattle.describing_set.specs.Ascending.{In}
-use Rattle.describing_set.specs.DescSet.{part_at, IsDescSetOf}
+use Rattle.describing_set.specs.Sorted.{In}
+use Rattle.describing_set.specs.DescSet.{part_at}
+use Rattle.describing_set.specs.Sets.{IsDescSetOf}
 use Rattle.describing_set.specs.declared.set.DescSet.{DescSet}
 use Rattle.describing_set.proofs.Sets.{part_at-IsPart}
 use Rattle.hierarchy_split.specs.Order.{least, AreEqual}

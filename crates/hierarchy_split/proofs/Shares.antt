@@ -5,7 +5,8 @@ use Rattle.std.specs.List.{list_any}
 use Rattle.std.proofs.lemmas.Bool.{cases_order, false≢true}
 use Rattle.std.proofs.lemmas.List.{at_drop_more}
 use Rattle.std.proofs.lemmas.List.Sums.{sum_by-cons}
-use Rattle.describing_set.specs.Ascending.{with_id, ascending, In, Ascends}
+use Rattle.describing_set.specs.Ascending.{with_id, ascending}
+use Rattle.describing_set.specs.Sorted.{In, Ascends}
 use Rattle.describing_set.proofs.Sorted.{with_id-before, with_id-here, with_id-after, Below-In, Ascends-ascending, In-ascending, In-from_ascending, In-from_Contains, Contains-from_In}
 use Rattle.describing_set.proofs.Covering.{has-Contains}
 use Rattle.hierarchy_split.specs.Order.{shared_count}

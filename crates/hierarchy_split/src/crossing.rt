@@ -1,6 +1,7 @@
 //! Which items of a head have a lifted concept that an item has too which no head cut keeps beside them.
 ghost use Rattle.std.specs.Prelude.{◌≡◌, ◌++◌, ◌∷◌, [], ◌<◌, ◌≤◌, length, map, List, All};
-ghost use Rattle.describing_set.specs.DescSet.{part_at, IsDescSetOf};
+ghost use Rattle.describing_set.specs.DescSet.{part_at};
+ghost use Rattle.describing_set.specs.Sets.{IsDescSetOf};
 ghost use Rattle.describing_set.specs.declared.set.DescSet.{DescSet};
 ghost use Rattle.hierarchy_split.specs.Cut.{lifted, IsAbove};
 ghost use Rattle.hierarchy_split.specs.Crossing.{has_lifted, is_crossed_in_head, is_crossed};

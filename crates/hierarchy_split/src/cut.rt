@@ -1,7 +1,7 @@
 //! The good cut of a full list of items.
 ghost use Rattle.std.specs.Prelude.{◌≡◌, ◌<◌, ◌≤◌, ◌⊎◌, ◌↔◌, length, All, IsTrue, IfSome, IfNone, IsPermutation};
 ghost use Rattle.std.specs.List.{range_with_len};
-ghost use Rattle.describing_set.specs.DescSet.{IsDescSetOf};
+ghost use Rattle.describing_set.specs.Sets.{IsDescSetOf};
 ghost use Rattle.hierarchy_split.specs.Limits.{most_items};
 
 use crate::leasts::cut_level;

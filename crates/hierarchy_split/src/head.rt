@@ -1,6 +1,6 @@
 //! The head cuts of a group: which items stay in its first block.
 ghost use Rattle.std.specs.Prelude.{◌≡◌, ◌<◌, ◌≤◌, length, All, IfSome, IfNone};
-ghost use Rattle.describing_set.specs.DescSet.{IsDescSetOf};
+ghost use Rattle.describing_set.specs.Sets.{IsDescSetOf};
 ghost use Rattle.hierarchy_split.specs.Limits.{most_items};
 ghost use Rattle.hierarchy_split.specs.Cut.{IsAbove};
 

@@ -3,7 +3,8 @@ ghost use Rattle.std.specs.Prelude.{◌≡◌, ◌<◌, ◌≤◌, ◌↔◌, �
 ghost use Rattle.dim_hierarchy.specs.Concept.{level_of};
 ghost use Rattle.dim_hierarchy.specs.Tree.{IsConcept};
 ghost use Rattle.dim_hierarchy.specs.Dimension.{tree};
-ghost use Rattle.describing_set.specs.DescSet.{part_at, IsDescSetOf};
+ghost use Rattle.describing_set.specs.DescSet.{part_at};
+ghost use Rattle.describing_set.specs.Sets.{IsDescSetOf};
 ghost use Rattle.hierarchy_split.specs.Order.{least, AreEqual};
 ghost use Rattle.hierarchy_split.specs.Cut.{lifted, leasts, IsAbove, IsCutLevel};
 ghost use Rattle.hierarchy_split.specs.Limits.{most_items};

@@ -1,7 +1,8 @@
 //! How many concepts the two sides of a cut share.
 ghost use Rattle.std.specs.Prelude.{◌≡◌, ◌+◌, ◌<◌, ◌≤◌, ◌++◌, [], length, All};
-ghost use Rattle.describing_set.specs.DescSet.{part_at, IsDescSetOf};
-ghost use Rattle.describing_set.specs.Places.{most_of_set};
+ghost use Rattle.describing_set.specs.DescSet.{part_at};
+ghost use Rattle.describing_set.specs.Sets.{IsDescSetOf};
+ghost use Rattle.describing_set.specs.Ascending.{most_of_set};
 ghost use Rattle.hierarchy_split.specs.Order.{shared_count};
 ghost use Rattle.hierarchy_split.specs.Cut.{lifted, IsAbove, concepts_of};
 ghost use Rattle.hierarchy_split.specs.Limits.{most_items, most_of_items};

@@ -13,7 +13,8 @@ use Rattle.dim_hierarchy.specs.Dimension.{Dimension}
 use Rattle.dim_hierarchy.specs.Row.{IsRowOf}
 use Rattle.dim_hierarchy.specs.declared.row.Row.{Row}
 use Rattle.measure_agg.specs.Aggregate.{Aggregate, agg, join}
-use Rattle.describing_set.specs.DescSet.{IsSetOf, JoinsTo}
+use Rattle.describing_set.specs.DescSet.{IsSetOf}
+use Rattle.describing_set.specs.Sets.{JoinsTo}
 use Rattle.describing_set.specs.declared.set.DescSet.{DescSet}
 use Rattle.dc_node.specs.Block.{rows_in, entries_in, is_leaf, IsBodyOf}
 use Rattle.dc_node.specs.Summary.{coords, aggs, joined, row_count, IsSummary, IsUnionOf}

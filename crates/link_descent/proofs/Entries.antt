@@ -4,7 +4,7 @@ use Rattle.std.specs.Prelude.{All}
 use Rattle.std.proofs.lemmas.List.Elements.{All-nil}
 use Rattle.dim_hierarchy.specs.Dimension.{Dimension}
 use Rattle.dim_hierarchy.specs.Row.{IsRowOf}
-use Rattle.describing_set.specs.DescSet.{IsDescSetOf}
+use Rattle.describing_set.specs.Sets.{IsDescSetOf}
 use Rattle.dc_node.specs.Block.{rows_in, entries_in, IsBodyOf}
 use Rattle.dc_node.specs.declared.block.Body.{Body}
 use Rattle.dc_node.specs.declared.block.Body.TheVariants.{Rows, Entries}

@@ -13,7 +13,7 @@ use Rattle.dim_hierarchy.specs.Dimension.{Dimension}
 use Rattle.dim_hierarchy.specs.Row.{IsRowOf}
 use Rattle.dim_hierarchy.specs.declared.row.Row.{Row}
 use Rattle.measure_agg.specs.Aggregate.{Aggregate, agg}
-use Rattle.describing_set.specs.DescSet.{IsDescSetOf}
+use Rattle.describing_set.specs.Sets.{IsDescSetOf}
 use Rattle.describing_set.specs.declared.set.DescSet.{DescSet}
 use Rattle.hierarchy_split.proofs.Orders.{places_length, places_below}
 use Rattle.hierarchy_split.specs.Head.{kept_places, parted_places}

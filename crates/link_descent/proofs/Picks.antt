@@ -8,7 +8,7 @@ use Rattle.std.proofs.lemmas.List.Sums.{position_or_len_is}
 use Rattle.std.proofs.lemmas.Option.{get_or_from_slice_get, slice_get_cases, slice_get-map, same_Some, slice_get_within, slice_get-get_or}
 use Rattle.dim_hierarchy.specs.Dimension.{Dimension}
 use Rattle.dim_hierarchy.specs.declared.row.Coord.{Coord}
-use Rattle.describing_set.specs.DescSet.{growth_of, size_of}
+use Rattle.describing_set.specs.Sets.{growth_of, size_of}
 use Rattle.describing_set.specs.declared.set.DescSet.{DescSet}
 use Rattle.dc_node.specs.declared.entry.Entry.{Entry}
 use Rattle.link_descent.specs.Pick.{IsPickedBefore, IsPick, is_before, pick_place}

@@ -4,7 +4,7 @@ use Rattle.std.specs.Prelude.{slice_get}
 use Rattle.std.proofs.lemmas.Option.{same_Some}
 use Rattle.dim_hierarchy.specs.Dimension.{Dimension}
 use Rattle.dim_hierarchy.specs.declared.row.Coord.{Coord}
-use Rattle.describing_set.specs.DescSet.{growth_of, size_of}
+use Rattle.describing_set.specs.Sets.{growth_of, size_of}
 use Rattle.describing_set.specs.declared.set.DescSet.{DescSet}
 use Rattle.link_descent.proofs.Picks.{Before, IsBestOf, IsBestOf-one, IsBestOf-keeps, IsBestOf-takes}
 

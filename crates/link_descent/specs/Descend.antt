@@ -2,7 +2,7 @@
 use Rattle.std.specs.Prelude.{ℕ, ◌≡◌, ◌+◌, ◌⊎◌, false, true, List, [], ◌∷◌, ◌++◌, slice_get, Some, None}
 use Rattle.dim_hierarchy.specs.declared.row.Row.{Row}
 use Rattle.dim_hierarchy.specs.Dimension.{Dimension}
-use Rattle.describing_set.specs.DescSet.{IsDescSetOf}
+use Rattle.describing_set.specs.Sets.{IsDescSetOf}
 use Rattle.dc_node.specs.Block.{is_full, entries_in, with_entries, replaced}
 use Rattle.dc_node.specs.Summary.{IsSummary}
 use Rattle.dc_node.specs.Entry.{IsWithRow}

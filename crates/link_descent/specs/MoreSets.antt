@@ -2,7 +2,8 @@
 use Rattle.std.specs.Prelude.{◌≡◌, List, [], ◌∷◌, ◌++◌}
 use Rattle.dim_hierarchy.specs.Dimension.{Dimension}
 use Rattle.dim_hierarchy.specs.declared.row.Coord.{Coord}
-use Rattle.describing_set.specs.DescSet.{IsSetOf, IsDescSetOf}
+use Rattle.describing_set.specs.DescSet.{IsSetOf}
+use Rattle.describing_set.specs.Sets.{IsDescSetOf}
 use Rattle.describing_set.specs.declared.set.DescSet.{DescSet}
 
 -- of two lists of sets the second has one more at its end, that of a coordinate

@@ -1,6 +1,6 @@
 //! Which entry of a directory a row goes down by.
 ghost use Rattle.std.specs.Prelude.{ℕ, ◌≡◌, ◌<◌, ◌≤◌, ◌⊎◌, ◌↔◌, Some, length, map, All, IsTrue};
-ghost use Rattle.describing_set.specs.DescSet.{growth_of, size_of, IsDescSetOf};
+ghost use Rattle.describing_set.specs.Sets.{growth_of, size_of, IsDescSetOf};
 ghost use Rattle.dc_node.specs.Block.{entries_in, IsBodyOf};
 ghost use Rattle.dc_node.specs.Limits.{most_of_directory};
 ghost use Rattle.link_descent.specs.Pick.{IsPick, pick_place};

@@ -3,7 +3,8 @@ ghost use Rattle.std.specs.Prelude.{◌≡◌, ◌≤◌, ◌+◌, [], ◌∷◌
 ghost use Rattle.std.specs.Option.{option_copied, option_to_list};
 ghost use Rattle.std.specs.List.{AllZip, range_with_len};
 ghost use Rattle.dim_hierarchy.specs.Row.{IsRowOf};
-ghost use Rattle.describing_set.specs.DescSet.{IsSetOf, IsDescSetOf};
+ghost use Rattle.describing_set.specs.DescSet.{IsSetOf};
+ghost use Rattle.describing_set.specs.Sets.{IsDescSetOf};
 ghost use Rattle.hierarchy_split.specs.Flags.{AreHeadCuts};
 ghost use Rattle.dc_node.specs.Block.{size, is_full, IsBodyOf};
 ghost use Rattle.dc_node.specs.declared.block.Body.TheVariants.{Rows, Entries};

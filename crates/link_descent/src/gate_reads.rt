@@ -2,7 +2,7 @@
 ghost use Rattle.std.specs.Prelude.{◌≡◌, ◌+◌, ◌<◌, ◌≤◌, ◌^◌, ◌++◌, All, length};
 ghost use Rattle.dim_hierarchy.specs.Row.{IsRowOf};
 ghost use Rattle.measure_agg.specs.Aggregate.{agg, join};
-ghost use Rattle.describing_set.specs.DescSet.{IsDescSetOf};
+ghost use Rattle.describing_set.specs.Sets.{IsDescSetOf};
 ghost use Rattle.shard_store.specs.Gate.{IsQueueOf};
 ghost use Rattle.link_descent.specs.GateRead.{queue_part, tree_part, root_items};
 ghost use Rattle.link_descent.specs.Visit.{matching};

@@ -1,7 +1,7 @@
 //! The entries of groups of several blocks.
 ghost use Rattle.std.specs.Prelude.{◌≡◌, ◌+◌, ◌^◌, ◌<◌, [], ◌∷◌, ◌++◌, List, All, IfSome};
 ghost use Rattle.std.specs.Option.{option_copied, option_to_list};
-ghost use Rattle.describing_set.specs.DescSet.{IsDescSetOf};
+ghost use Rattle.describing_set.specs.Sets.{IsDescSetOf};
 ghost use Rattle.dc_node.specs.Block.{IsBodyOf};
 ghost use Rattle.dc_node.specs.Summary.{row_count, IsSummary};
 ghost use Rattle.dc_node.specs.declared.block.Block.{Block};

@@ -2,7 +2,7 @@
 ghost use Rattle.std.specs.Prelude.{◌≡◌, ◌≢◌, ◌+◌, ◌<◌, ◌≤◌, ◌^◌, ◌∷◌, ◌++◌, [], if◌then◌else◌, length, All, IsSome};
 ghost use Rattle.dim_hierarchy.specs.Row.{IsRowOf};
 ghost use Rattle.measure_agg.specs.Aggregate.{agg, join};
-ghost use Rattle.describing_set.specs.DescSet.{IsDescSetOf};
+ghost use Rattle.describing_set.specs.Sets.{IsDescSetOf};
 ghost use Rattle.describing_set.specs.Filter.{is_inside};
 ghost use Rattle.dc_node.specs.Block.{IsBodyOf};
 ghost use Rattle.dc_node.specs.Summary.{row_count, joined, aggs};

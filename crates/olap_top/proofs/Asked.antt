@@ -11,7 +11,8 @@ use Rattle.script_form.specs.declared.script.Script.{Script}
 use Rattle.script_form.specs.declared.script.ScriptFault.TheVariants.{Bad}
 use Rattle.volap_gen.specs.Law.{GoodScriptLaw}
 use Rattle.volap_io.specs.declared.source.ReadEnd.{ReadEnd}
-use Rattle.olap_top.specs.Outcomes.{AreAsked, IsReadWhole, RanTo, RanToPhase, asked_text, asked_text_to, tells_phases}
+use Rattle.olap_top.specs.Outcomes.{AreAsked, IsReadWhole, RanTo, RanToPhase, asked_text, asked_text_to}
+use Rattle.olap_top.specs.RunSoFar.{tells_phases}
 use Rattle.olap_top.specs.declared.wanted.Wanted.{Wanted}
 use Rattle.olap_top.specs.declared.wanted.Wanted.TheVariants.{Step, Seeded, Load}
 

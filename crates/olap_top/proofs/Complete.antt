@@ -5,7 +5,7 @@ use Rattle.std.proofs.lemmas.List.{length-append}
 use Rattle.script_form.specs.Scripts.{records_of, script}
 use Rattle.script_form.specs.declared.script.Cause.{Cause}
 use Rattle.script_form.specs.declared.script.ScriptFault.TheVariants.{Bad}
-use Rattle.volap_io.specs.Source.{Gave}
+use Rattle.volap_io.specs.Causes.{Gave}
 use Rattle.olap_top.specs.Outcomes.{HasGoodScript, IsGoodScript, IsNoScript, IsReadWhole}
 use Rattle.olap_top.specs.declared.outcome.Status.{Status}
 use Rattle.olap_top.specs.declared.outcome.Status.TheVariants as status_is

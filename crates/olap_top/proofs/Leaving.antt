@@ -3,9 +3,10 @@ use Rattle.std.proofs.Common.{◌≡◌, ◌∙◌, ◌+◌, ◌<◌, ◌≤◌,
 use Rattle.dim_hierarchy.specs.Dimension.{IsHierarchy}
 use Rattle.row_ledger.specs.Site.{site_of}
 use Rattle.row_ledger.specs.declared.event.Event.{Event}
-use Rattle.script_form.specs.Scripts.{AreSettings}
+use Rattle.script_form.specs.Fits.{AreSettings}
 use Rattle.script_form.specs.declared.script.Script.{Script}
-use Rattle.seeded_run.specs.Phase.{held, is_order}
+use Rattle.seeded_run.specs.Phase.{held}
+use Rattle.seeded_run.specs.Order.{is_order}
 use Rattle.seeded_run.specs.Roles.{CanOpen}
 use Rattle.volap_cell.proofs.Promised.{place-law, rows-law}
 use Rattle.volap_cell.specs.Opening.{IsOpening}
@@ -13,8 +14,8 @@ use Rattle.volap_cell.specs.Setting.{Setting}
 use Rattle.volap_cell.specs.Steps.{Inv, history_in}
 use Rattle.volap_cell.specs.World.{World}
 use Rattle.olap_top.specs.Left.{IsHandedOut, LeavesRun}
-use Rattle.olap_top.specs.Outcomes.{RunsInOrder}
-use Rattle.olap_top.specs.OneRun.{EndsAs, GoesTo, IsRunUpTo, IsWhole, schedule_of, setting_of, with_ledger}
+use Rattle.olap_top.specs.Outcomes.{RunsInOrder, schedule_of}
+use Rattle.olap_top.specs.OneRun.{EndsAs, GoesTo, IsRunUpTo, IsWhole, setting_of, with_ledger}
 use Rattle.olap_top.specs.RowsKept.{AreRowsKept}
 use Rattle.olap_top.specs.RunSoFar.{HasLeft, history_of, moment_of, world_of}
 use Rattle.olap_top.specs.Settles.{IsSettling}

@@ -19,7 +19,7 @@ use Rattle.row_ledger.specs.Site.{site_of}
 use Rattle.row_ledger.specs.declared.event.Event.{Event}
 use Rattle.row_ledger.specs.declared.settings.Use.{Use}
 use Rattle.row_ledger.specs.declared.settings.Call.TheVariants as call
-use Rattle.script_form.specs.Scripts.{Fits}
+use Rattle.script_form.specs.Fits.{Fits}
 use Rattle.script_form.specs.declared.script.Command.{Command}
 use Rattle.script_form.specs.declared.script.Command.TheVariants as command
 use Rattle.script_form.specs.declared.script.Script.{Script}
@@ -33,14 +33,15 @@ use Rattle.script_run.specs.Phases.{NoneCloses, all_of, closes, phases, phases_t
 use Rattle.script_run.specs.Places.{are_over, begins_of, count_of, is_over_at, places, places_behind}
 use Rattle.script_run.specs.Runs.{IsRunOf, IsRunSoFar, IsSerial}
 use Rattle.seeded_run.specs.Kept.{IsBetween}
-use Rattle.seeded_run.specs.Phase.{ClosesLast, MayAllRun, MayRun, is_order}
+use Rattle.seeded_run.specs.Phase.{ClosesLast, MayAllRun, MayRun}
+use Rattle.seeded_run.specs.Order.{is_order}
 use Rattle.seeded_turns.specs.Drawn.{Moment}
 use Rattle.seeded_turns.specs.declared.schedule.Schedule.{Schedule}
 use Rattle.volap_cell.specs.Steps.{Inv, history_in}
 use Rattle.volap_cell.specs.World.{World}
 use Rattle.olap_top.specs.OneRun.{EndsAs, GoesTo, RunPhases, RunsPhase, RunsWhole, phase_of, setting_of}
-use Rattle.olap_top.specs.Outcomes.{HasRun, RanInto, RanToPhase, TookPart, asked_text_to, tells_phases}
-use Rattle.olap_top.specs.RunSoFar.{HasGone, HasGrown, HasLeft, HasStopped, IsBehind, IsHeld, history_of, moment_of, tells, world_of}
+use Rattle.olap_top.specs.Outcomes.{HasRun, RanInto, RanToPhase, TookPart, asked_text_to}
+use Rattle.olap_top.specs.RunSoFar.{tells_phases, HasGone, HasGrown, HasLeft, HasStopped, IsBehind, IsHeld, history_of, moment_of, tells, world_of}
 use Rattle.olap_top.specs.declared.outcome.Status.{Status}
 use Rattle.olap_top.specs.declared.outcome.Status.TheVariants as status_is
 use Rattle.olap_top.specs.declared.run.Run.{Run}

@@ -21,7 +21,8 @@ use Rattle.script_run.proofs.PlaceFacts.{places_behind-append}
 use Rattle.script_run.specs.Places.{are_over, is_over_at, places, places_behind}
 use Rattle.seeded_run.specs.Can.{able_in}
 use Rattle.seeded_run.specs.Kept.{IsBetween, IsStopped}
-use Rattle.seeded_run.specs.Phase.{IsCoreHeld, IsKeptTurn, NobodyCanStep, RunsTo, about, held, is_order, phase_from}
+use Rattle.seeded_run.specs.Phase.{IsCoreHeld, IsKeptTurn, NobodyCanStep, RunsTo, about, held, phase_from}
+use Rattle.seeded_run.specs.Order.{is_order}
 use Rattle.seeded_run.specs.Rests.{PhaseRun}
 use Rattle.seeded_turns.specs.Drawn.{Reaches}
 use Rattle.seeded_turns.specs.declared.schedule.Schedule.{Schedule}

@@ -21,7 +21,7 @@ use Rattle.row_ledger.specs.declared.event.Event.TheVariants.{Ended}
 use Rattle.row_ledger.specs.declared.settings.Call.TheVariants.{Settle}
 use Rattle.row_ledger.specs.declared.settings.How.TheVariants.{Fine}
 use Rattle.row_ledger.specs.declared.settings.Use.{Use}
-use Rattle.script_run.specs.Pulls.{ArePulls, HasPulls, each_server, each_twice, pulled_since}
+use Rattle.script_run.specs.Runs.{ArePulls, HasPulls, each_server, each_twice, pulled_since}
 use Rattle.olap_top.specs.Settles.{SettledAreAll, SettlesTell}
 
 pub settled-all : (site : Site) (history : List Event) → IsRight site history → SettledAreAll site history

@@ -11,7 +11,8 @@ use Rattle.script_run.proofs.PhaseFacts.{all_of-phases}
 use Rattle.script_run.specs.Phases.{all_of, phases, phases_to}
 use Rattle.script_run.specs.Places.{are_over, is_over_at, places}
 use Rattle.script_run.specs.Runs.{InsertEnds, IsRunSoFar}
-use Rattle.olap_top.specs.Outcomes.{HasRun, RanInto, TookPart, asked_text, tells_phases}
+use Rattle.olap_top.specs.Outcomes.{HasRun, RanInto, TookPart, asked_text}
+use Rattle.olap_top.specs.RunSoFar.{tells_phases}
 use Rattle.olap_top.specs.declared.wanted.Wanted.{Wanted}
 use Rattle.olap_top.specs.declared.wanted.Wanted.TheVariants.{Load}
 use Rattle.olap_top.proofs.Asked.{asked-told}

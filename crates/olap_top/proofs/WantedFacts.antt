@@ -8,7 +8,8 @@ use Rattle.std.proofs.lemmas.List.{take-append-drop}
 use Rattle.std.proofs.lemmas.Bool.Decides.{nat_tests}
 use Rattle.std.proofs.lemmas.Slice.Eq.{bytes_eq-Decides}
 use Rattle.script_form.specs.Fields.{number_of}
-use Rattle.olap_top.specs.Wanted.{AreFewRows, GiveBoth, GiveOption, Given, SpellsRows, SpellsSeed, Want, at_end, behind, below_2_64, first_word, from_1_to_most, given, given_alone, given_both, load_by, load_of, most_rows, rows_of, seed_of, step_of, wanted}
+use Rattle.olap_top.specs.Wanted.{AreFewRows, Given, at_end, behind, below_2_64, first_word, from_1_to_most, given, given_alone, given_both, load_by, load_of, rows_of, seed_of, step_of, wanted}
+use Rattle.olap_top.specs.Words.{GiveBoth, GiveOption, SpellsRows, SpellsSeed, Want, most_rows}
 use Rattle.olap_top.specs.declared.wanted.Wanted.{Wanted}
 use Rattle.olap_top.specs.declared.wanted.Wanted.TheVariants.{Step, Seeded, Load}
 

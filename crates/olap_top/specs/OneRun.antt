@@ -1,19 +1,16 @@
 -- The one run of the core by which a script's history came about, and the state that is left of it.
-use Rattle.std.specs.Prelude.{ℕ, ◌≡◌, ⊤, Bool, true, Option, Some, None, is_some, List, [], ◌∷◌, All, get_or, length, take}
+use Rattle.std.specs.Prelude.{ℕ, ◌≡◌, ⊤, Bool, true, Some, None, is_some, List, [], ◌∷◌, All, get_or, length, take}
 use Rattle.std.specs.List.{slice_index_or}
-use Rattle.rand_core.specs.Pcg32Seed.{pcg32_seed}
-use Rattle.rand_pcg.specs.Pcg.{pcg32_of_seed}
 use Rattle.row_ledger.specs.LedgerValue.{LedgerValue}
 use Rattle.script_form.specs.declared.script.Command.{Command}
 use Rattle.script_form.specs.declared.script.Script.{Script}
 use Rattle.script_run.specs.Phases.{phases}
 use Rattle.seeded_run.specs.Can.{able_in}
-use Rattle.seeded_run.specs.Phase.{IsKeptTurn, about, held, is_order}
+use Rattle.seeded_run.specs.Phase.{IsKeptTurn, about, held}
 use Rattle.seeded_run.specs.Rests.{PhaseRun}
 use Rattle.seeded_run.specs.Roles.{roles_of}
 use Rattle.seeded_turns.specs.Drawn.{Moment, Reaches}
 use Rattle.seeded_turns.specs.declared.schedule.Schedule.{Schedule}
-use Rattle.seeded_turns.specs.declared.schedule.Schedule.TheVariants as schedule_is
 use Rattle.volap_cell.specs.Cells.{FreeCell, LedgerCell}
 use Rattle.volap_cell.specs.Filling.{setting_for}
 use Rattle.volap_cell.specs.Opening.{IsOpening}
@@ -25,20 +22,11 @@ use Rattle.volap_cell.specs.declared.state.State.{State}
 use Rattle.olap_top.specs.declared.outcome.Status.{Status}
 use Rattle.olap_top.specs.declared.outcome.Status.TheVariants as status_is
 use Rattle.olap_top.specs.declared.wanted.Wanted.{Wanted}
-use Rattle.olap_top.specs.declared.wanted.Wanted.TheVariants.{Step, Seeded, Load}
+use Rattle.olap_top.specs.Outcomes.{schedule_of, goes_in_order}
 
 -- what the core of a script's run is about
 abbrev pub setting_of : Script → Setting
 setting_of s = setting_for s.hierarchy s.with (roles_of s.with)
-
--- The commands go one after the other; or whose turn it is the seed's generator draws, from the first phase on.
-abbrev pub schedule_of : Wanted → Schedule
-schedule_of Step = schedule_is.Order
-schedule_of (Seeded seed) = schedule_is.Seed (pcg32_of_seed (pcg32_seed 16 seed))
-schedule_of (Load rows seed) = schedule_is.Order
-
-abbrev pub goes_in_order : Wanted → Bool
-goes_in_order wanted = is_order (schedule_of wanted)
 
 -- Runs.
 

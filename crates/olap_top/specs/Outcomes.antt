@@ -1,10 +1,12 @@
 -- What each answer of the top call says of the source, the sink and the history.
 --
 -- `before` and `now` are what a source has left, or a sink has taken, before the call and after it, where it tells that.
-use Rattle.std.specs.Prelude.{ℕ, ◌≡◌, ◌+◌, ◌<◌, ◌≤◌, ◌^◌, ◌⊎◌, ⊤, Bool, true, false, IsTrue, Option, Some, Ok, Err, List, [], ◌∷◌, ◌++◌, filter, length, take}
+use Rattle.std.specs.Prelude.{ℕ, ◌≡◌, ◌+◌, ◌<◌, ◌≤◌, ◌^◌, ◌⊎◌, ⊤, Bool, IsTrue, Option, Some, Ok, Err, List, [], ◌∷◌, ◌++◌, filter, length, take, None}
 use Rattle.std.specs.List.{AllZip}
 use Rattle.std.specs.Io.KnownBytes.{Appends, Consumes, IsAtEnd}
 use Rattle.volap_io.specs.Causes.{Rose}
+use Rattle.rand_core.specs.Pcg32Seed.{pcg32_seed}
+use Rattle.rand_pcg.specs.Pcg.{pcg32_of_seed}
 use Rattle.dim_hierarchy.specs.Dimension.{Dimension}
 use Rattle.dim_hierarchy.specs.Filter.{matches}
 use Rattle.dim_hierarchy.specs.declared.row.Row.{Row}
@@ -26,10 +28,14 @@ use Rattle.script_run.specs.Places.{places, is_over_at}
 use Rattle.answer_text.specs.Printed.{told, told_to, bad_line}
 use Rattle.answer_text.specs.Summary.{summary}
 use Rattle.volap_gen.specs.Generated.{generated, text_of}
+use Rattle.seeded_turns.specs.declared.schedule.Schedule.{Schedule}
+use Rattle.seeded_turns.specs.declared.schedule.Schedule.TheVariants as schedule_is
 use Rattle.row_ledger.specs.Site.{site_of}
 use Rattle.script_run.specs.Runs.{IsRunSoFar, IsRunOf, IsRunInto, IsSerial, InsertEnds}
+use Rattle.seeded_run.specs.Order.{is_order}
 use Rattle.olap_top.specs.declared.wanted.Wanted.{Wanted}
 use Rattle.olap_top.specs.declared.wanted.Wanted.TheVariants.{Step, Seeded, Load}
+use Rattle.olap_top.specs.declared.outcome.Outcome.{Outcome}
 
 -- What was read.
 
@@ -52,11 +58,6 @@ pub record IsAskedScript (wanted : Wanted) (before now : Option (List ℕ)) (s :
 
 -- What is written.
 
--- whether the text of each phase is asked for; a load is asked for its summary instead
-abbrev pub tells_phases : Wanted → Bool
-tells_phases (Load rows seed) = false
-tells_phases wanted = true
-
 -- what is asked to be written of a script that ran with this history
 abbrev pub asked_text : Wanted → Script → List Event → List ℕ
 asked_text (Load rows seed) s history = summary rows seed s.with s.commands history
@@ -75,12 +76,25 @@ pub record TookPart (taken_before taken_now : Option (List ℕ)) (text : List �
 
 -- What ran.
 
+-- nothing ran
+abbrev pub LeavesNothing : Outcome → Type 0
+LeavesNothing o = (o.ledger.history ≡ []) × (o.rest ≡ None)
+
 -- The history is right and a run of exactly these commands, and each insert of known leaf concepts is acknowledged or
 -- ended for want of memory.
 pub record HasRun (with : Use) (h : List Dimension) (commands : List Command) (history : List Event) : Type 0 where
   pub right : IsRight (site_of with h) history
   pub run : IsRunOf with h commands history
   pub inserts : AllZip (InsertEnds h history) commands (places with commands history)
+
+-- The commands go one after the other; or whose turn it is the seed's generator draws, from the first phase on.
+abbrev pub schedule_of : Wanted → Schedule
+schedule_of Step = schedule_is.Order
+schedule_of (Seeded seed) = schedule_is.Seed (pcg32_of_seed (pcg32_seed 16 seed))
+schedule_of (Load rows seed) = schedule_is.Order
+
+abbrev pub goes_in_order : Wanted → Bool
+goes_in_order wanted = is_order (schedule_of wanted)
 
 -- the history is a part of a run of this script, and in it the commands begin in order, each when the one before has ended
 pub record RunsInOrder (s : Script) (history : List Event) : Type 0 where

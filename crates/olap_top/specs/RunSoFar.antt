@@ -1,5 +1,5 @@
 -- What a run has made so far, and what a phase of it makes.
-use Rattle.std.specs.Prelude.{ℕ, ◌≡◌, ◌++◌, Bool, true, if◌then◌else◌, Option, Some, None, IfSome, is_some, List, [], take, drop}
+use Rattle.std.specs.Prelude.{ℕ, ◌≡◌, ◌++◌, Bool, true, if◌then◌else◌, Option, Some, None, IfSome, is_some, List, [], take, drop, false}
 use Rattle.answer_text.specs.Printed.{phase_behind}
 use Rattle.answer_text.specs.Told.{HasTold}
 use Rattle.answer_text.specs.declared.text.Teller.{Teller}
@@ -9,14 +9,17 @@ use Rattle.script_form.specs.declared.script.Command.{Command}
 use Rattle.script_form.specs.declared.script.Script.{Script}
 use Rattle.script_run.specs.Runs.{IsRunSoFar, IsSerial}
 use Rattle.seeded_run.specs.Kept.{IsBetween, IsStopped}
-use Rattle.seeded_run.specs.Phase.{IsCoreHeld, about, held, is_order}
+use Rattle.seeded_run.specs.Phase.{IsCoreHeld, about, held}
 use Rattle.seeded_turns.specs.Drawn.{Moment}
 use Rattle.seeded_turns.specs.declared.schedule.Schedule.{Schedule}
 use Rattle.volap_cell.specs.Steps.{history_in}
 use Rattle.volap_cell.specs.World.{World}
+use Rattle.seeded_run.specs.Order.{is_order}
 use Rattle.olap_top.specs.OneRun.{EndsAs, GoesTo, RunsPhase, RunsWhole, phase_at, setting_of}
 use Rattle.olap_top.specs.declared.outcome.Status.{Status}
 use Rattle.olap_top.specs.declared.run.Run.{Run}
+use Rattle.olap_top.specs.declared.wanted.Wanted.{Wanted}
+use Rattle.olap_top.specs.declared.wanted.Wanted.TheVariants.{Load}
 
 abbrev pub world_of : Script → Run → World
 world_of s run = held s.hierarchy s.with run.state
@@ -43,6 +46,11 @@ pub record HasToldSo (s : Script) (done : List Command) (history : List Event) (
 abbrev pub untold_text : Option Teller → Use → List Command → List Event → List ℕ
 untold_text None with commands history = []
 untold_text (Some teller) with commands history = phase_behind with (take teller.told commands) (drop teller.told commands) history
+
+-- whether the text of each phase is asked for; a load is asked for its summary instead
+abbrev pub tells_phases : Wanted → Bool
+tells_phases (Load rows seed) = false
+tells_phases wanted = true
 
 -- whether the run tells its phases
 abbrev pub tells : Run → Bool

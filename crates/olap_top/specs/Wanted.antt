@@ -1,57 +1,16 @@
--- What the words of a command line want to run: a script from the source, with a seed or without, or the generated one.
-use Rattle.std.specs.Prelude.{ℕ, ◌≡◌, ◌⊎◌, ⊤, ◌<◌, ◌≤◌, ◌^◌, ◌&&◌, nat_lt, nat_le, Option, Some, None, option_and_then, option_map, if◌then◌else◌, List, [], ◌∷◌, ◌++◌, length, take, drop, codes}
+-- How it is found in the words of a command line what they want to run.
+use Rattle.std.specs.Prelude.{ℕ, ⊤, ◌≤◌, ◌^◌, ◌&&◌, nat_lt, nat_le, Option, Some, None, option_and_then, option_map, if◌then◌else◌, List, [], ◌∷◌, length, take, drop, codes}
 use Rattle.std.specs.Option.{option_map_or}
 use Rattle.std.specs.Str.{bytes_eq}
 use Rattle.script_form.specs.Fields.{number_of}
 use Rattle.olap_top.specs.declared.wanted.Wanted.{Wanted}
 use Rattle.olap_top.specs.declared.wanted.Wanted.TheVariants.{Step, Seeded, Load}
-
--- What it means, of words without the program's name: `step`, `step --seed N`, and `load --rows N --seed K` with its options in
--- either order. Behind the name of an option there may be an equals sign in place of the space.
-
--- this text spells this seed
-abbrev pub SpellsSeed : List ℕ → ℕ → Type 0
-SpellsSeed text seed = (number_of text ≡ Some seed) × (seed < 2 ^ 64)
-
--- how many rows a generated script has at most
-abbrev pub most_rows : ℕ
-most_rows = 200000
-
--- this text spells how many rows a generated script is to have
-abbrev pub SpellsRows : List ℕ → ℕ → Type 0
-SpellsRows text rows = (number_of text ≡ Some rows) × (1 ≤ rows) × (rows ≤ most_rows)
-
--- these words give the option of this name this text: its name and the text as a word behind it, or one word with an equals sign between them
-abbrev pub GiveOption : List ℕ → List (List ℕ) → List ℕ → Type 0
-GiveOption name words text = (words ≡ name ∷ text ∷ []) ⊎ (words ≡ (name ++ (codes "=" ++ text)) ∷ [])
-
--- these words give a seed
-abbrev pub GiveSeed : List (List ℕ) → ℕ → Type 0
-GiveSeed words seed = (text : List ℕ) × GiveOption (codes "--seed") words text × SpellsSeed text seed
-
--- these words give a number of rows
-abbrev pub GiveRows : List (List ℕ) → ℕ → Type 0
-GiveRows words rows = (text : List ℕ) × GiveOption (codes "--rows") words text × SpellsRows text rows
-
--- these words give both, each once, in either order
-pub record GiveBoth (words : List (List ℕ)) (rows seed : ℕ) : Type 0 where
-  pub for_rows : List (List ℕ)
-  pub for_seed : List (List ℕ)
-  pub either_order : (words ≡ for_rows ++ for_seed) ⊎ (words ≡ for_seed ++ for_rows)
-  pub rows_are : GiveRows for_rows rows
-  pub seed_is : GiveSeed for_seed seed
-
-abbrev pub Want : List (List ℕ) → Wanted → Type 0
-Want words Step = words ≡ codes "step" ∷ []
-Want words (Seeded seed) = (options : List (List ℕ)) × (words ≡ codes "step" ∷ options) × GiveSeed options seed
-Want words (Load rows seed) = (options : List (List ℕ)) × (words ≡ codes "load" ∷ options) × GiveBoth options rows seed
+use Rattle.olap_top.specs.Words.{most_rows}
 
 -- a load is of no more rows than can be generated
 abbrev pub AreFewRows : Wanted → Type 0
 AreFewRows (Load rows seed) = rows ≤ most_rows
 AreFewRows wanted = ⊤
-
--- How it is found.
 
 abbrev pub below_2_64 : ℕ → Option ℕ
 below_2_64 n = if nat_lt n (2 ^ 64) then Some n else None

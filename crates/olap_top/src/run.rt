@@ -2,9 +2,8 @@
 ghost use Rattle.std.specs.Prelude.{◌≡◌, ◌≤◌, List, [], length, take, drop, reverse, IfOk, IfSome, OnOk, OnErr, is_some};
 ghost use Rattle.answer_text.specs.Marks.{RefersBack};
 ghost use Rattle.answer_text.specs.Told.{HasTold, IsTeller, IsToldOf, seen_of};
-ghost use Rattle.olap_top.specs.RunSoFar.{untold_text};
-ghost use Rattle.olap_top.specs.OneRun.{schedule_of};
-ghost use Rattle.olap_top.specs.Outcomes.{tells_phases};
+ghost use Rattle.olap_top.specs.RunSoFar.{untold_text, tells_phases};
+ghost use Rattle.olap_top.specs.Outcomes.{schedule_of};
 ghost use Rattle.answer_text.specs.Summary.{summary};
 ghost use Rattle.dim_hierarchy.specs.Dimension.{Dimension};
 ghost use Rattle.row_ledger.specs.declared.settings.Use as settings;
@@ -83,10 +82,10 @@ pub struct Run {
 }
 
 impl Run {
-    ghost use Rattle.olap_top.specs.RunSoFar.{HasGone, HasStopped, IsBehind, IsHeld, history_of, tells, world_of};
+    ghost use Rattle.olap_top.specs.RunSoFar.{HasGone, HasStopped, IsBehind, IsHeld, history_of, tells, world_of, tells_phases};
     ghost use Rattle.volap_cell.specs.Opening.{IsOpening};
-    ghost use Rattle.olap_top.specs.OneRun.{schedule_of, setting_of};
-    ghost use Rattle.olap_top.specs.Outcomes.{tells_phases};
+    ghost use Rattle.olap_top.specs.Outcomes.{schedule_of};
+    ghost use Rattle.olap_top.specs.OneRun.{setting_of};
 
     /// The core of a script as it opens for a run that is wanted, with nothing done.
     pub fn new(alloc: Global, script: &Script, wanted: Wanted) -> Result<Run, AllocError>

@@ -1,21 +1,20 @@
 //! The top call.
 ghost use Rattle.std.specs.Prelude.{◌≡◌, ◌≢◌, ◌+◌, ◌≤◌, ◌^◌, ◌⊎◌, ◌↔◌, ◌<◌, List, ℕ, [], ◌∷◌, Ok, Err, IfOk, IsErrOf, true, All, if◌then◌else◌, length, string_bytes};
 ghost use Rattle.std.specs.Io.KnownBytes.{Appends};
-ghost use Rattle.volap_io.specs.Causes.{Rose};
-ghost use Rattle.volap_io.specs.Source.{Gave};
+ghost use Rattle.volap_io.specs.Causes.{Rose, Gave};
 ghost use Rattle.dim_hierarchy.specs.Dimension.{Dimension};
 ghost use Rattle.row_ledger.specs.declared.settings.Use as settings;
-ghost use Rattle.script_form.specs.Scripts.{AreSettings, Fits, records_of, script};
+ghost use Rattle.script_form.specs.Fits.{AreSettings, Fits};
+ghost use Rattle.script_form.specs.Scripts.{records_of, script};
 ghost use Rattle.script_form.specs.declared.script.Cause.{Cause};
 ghost use Rattle.script_form.specs.declared.script.Script.{Script};
 ghost use Rattle.script_form.specs.declared.script.ScriptFault.TheVariants as fault;
 ghost use Rattle.seeded_run.specs.Phase.{IsCoreHeld};
 ghost use Rattle.answer_text.specs.Printed.{told, bad_line};
 ghost use Rattle.answer_text.specs.Summary.{summary};
-ghost use Rattle.olap_top.specs.Left.{IsHandedOut, LeavesAsked, LeavesNothing, LeavesRun};
-ghost use Rattle.olap_top.specs.OneRun.{goes_in_order};
-ghost use Rattle.olap_top.specs.Outcomes.{AreAsked, TookPart, HasRun, IsSerialRun, IsSettlingRun, RanTo, RanToPhase, RanInto, IsDone, IsCutOff, IsStarved, IsNoScript, HasGoodScript, asked_text, tells_phases};
-ghost use Rattle.olap_top.specs.RunSoFar.{HasLeft, IsBehind, IsHeld, history_of, tells};
+ghost use Rattle.olap_top.specs.Left.{IsHandedOut, LeavesAsked, LeavesRun};
+ghost use Rattle.olap_top.specs.Outcomes.{LeavesNothing, goes_in_order, AreAsked, TookPart, HasRun, IsSerialRun, IsSettlingRun, RanTo, RanToPhase, RanInto, IsDone, IsCutOff, IsStarved, IsNoScript, HasGoodScript, asked_text};
+ghost use Rattle.olap_top.specs.RunSoFar.{tells_phases, HasLeft, IsBehind, IsHeld, history_of, tells};
 ghost use Rattle.olap_top.specs.Wanted.{AreFewRows};
 ghost use Rattle.olap_top.specs.Words.{AskFor, ForSomeWanted};
 ghost use Rattle.olap_top.specs.declared.wanted.Wanted as words_ask;

@@ -139,7 +139,8 @@ fn by_words(words: &[String]) -> Option<Wanted>
 impl Wanted {
     ghost use Rattle.std.specs.Prelude.{◌≡◌, IfSome, None, Some, map, string_bytes};
     ghost use Rattle.olap_top.specs.declared.wanted.Wanted.{Wanted};
-    ghost use Rattle.olap_top.specs.Wanted.{AreFewRows, Want};
+    ghost use Rattle.olap_top.specs.Wanted.{AreFewRows};
+    ghost use Rattle.olap_top.specs.Words.{Want};
 
     /// What these words want to run, where they leave out the program's own name; nothing where the
     /// program does not know them.

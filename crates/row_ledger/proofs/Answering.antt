@@ -15,8 +15,9 @@ use Rattle.row_ledger.specs.declared.event.Event.{Event}
 use Rattle.row_ledger.specs.declared.event.Event.TheVariants.{Begun, Acked, Asked, Answered}
 use Rattle.row_ledger.specs.Past.{Ack, Query, Pull, begun, before, query_at, ack_in, pull_in, acked, acked_rows, has_ended}
 use Rattle.row_ledger.specs.Shards.{is_path}
-use Rattle.row_ledger.specs.Bounds.{own, published, passed, listing_of, is_listed, listed, known, must, may, numbers, IsAllowed, CanAnswer}
-use Rattle.row_ledger.specs.Right.{Site, EachEvent, Stands, IsRightAnswer, KeepsRight}
+use Rattle.row_ledger.specs.Bounds.{own, published, passed, listing_of, is_listed, listed, known, must, may, numbers, IsAllowed}
+use Rattle.row_ledger.specs.Kept.{CanAnswer, KeepsRight}
+use Rattle.row_ledger.specs.Right.{Site, EachEvent, Stands, IsRightAnswer}
 use Rattle.row_ledger.proofs.Elements.{All-cons_option, Contains-filter, Contains-filtered}
 use Rattle.row_ledger.proofs.Positions.{event_at-here}
 use Rattle.row_ledger.proofs.Older.{may-older, is_path-older}

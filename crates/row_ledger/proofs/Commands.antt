@@ -10,7 +10,8 @@ use Rattle.row_ledger.specs.declared.settings.How.{How}
 use Rattle.row_ledger.specs.declared.settings.How.TheVariants.{Fine}
 use Rattle.row_ledger.specs.Past.{before, call_in, call_at, has_page, is_idle}
 use Rattle.row_ledger.specs.Pages.{IsShown}
-use Rattle.row_ledger.specs.Right.{Site, Asks, MayEnd, shows, KeepsRight}
+use Rattle.row_ledger.specs.Right.{Site, Asks, MayEnd, shows}
+use Rattle.row_ledger.specs.Kept.{KeepsRight}
 use Rattle.row_ledger.proofs.Positions.{event_at-here, event_at-older, before-here}
 use Rattle.row_ledger.proofs.Fresh.{fresh, pageless}
 use Rattle.row_ledger.proofs.Growth.{KeepsRight-called, KeepsRight-shown, KeepsRight-ended}

@@ -13,8 +13,9 @@ use Rattle.row_ledger.specs.declared.settings.Call.{Call}
 use Rattle.row_ledger.specs.declared.settings.How.{How}
 use Rattle.row_ledger.specs.Past.{failed, is_kept}
 use Rattle.row_ledger.specs.Listings.{IsFirstListing}
-pub use Rattle.row_ledger.specs.Right.{IsOpeningHistory}
-use Rattle.row_ledger.specs.Right.{Site, EachEvent, IsFirstPull, Opens, IsRightAck, IsRightAnswer, IsRightFailure, IsLaterPull, IsRightSplit, IsRightMove, IsRightLeft, IsRightPage, IsRightEnd, Stands, StandsRight, KeepsRight, IsRight}
+pub use Rattle.row_ledger.specs.Kept.{IsOpeningHistory}
+use Rattle.row_ledger.specs.Right.{Site, EachEvent, IsFirstPull, Opens, IsRightAck, IsRightAnswer, IsRightFailure, IsLaterPull, IsRightSplit, IsRightMove, IsRightLeft, IsRightPage, IsRightEnd, Stands, StandsRight, IsRight}
+use Rattle.row_ledger.specs.Kept.{KeepsRight}
 use Rattle.row_ledger.proofs.Within.{Within, StandsRight-within}
 
 -- The opening.

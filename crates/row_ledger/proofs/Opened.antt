@@ -7,9 +7,8 @@ use Rattle.describing_set.specs.declared.listing.Spot.{Spot}
 use Rattle.describing_set.specs.Part.{part_of, part_from}
 use Rattle.describing_set.specs.DescSet.{part_at, column, IsSetOf}
 use Rattle.row_ledger.specs.declared.event.Event.TheVariants.{Synced}
-use Rattle.row_ledger.specs.Bounds.{CanAnswer}
+use Rattle.row_ledger.specs.Kept.{CanAnswer, KeepsRight}
 use Rattle.row_ledger.specs.Listings.{IsFirstListing}
-use Rattle.row_ledger.specs.Right.{KeepsRight}
 use Rattle.row_ledger.specs.Worked.{site, berlin, munich, in_city, box, first_listing, opened}
 use Rattle.row_ledger.proofs.Answering.{CanAnswer-nil, CanAnswer-older}
 use Rattle.row_ledger.proofs.Growth.{IsOpeningHistory-nil, IsOpeningHistory-pull, KeepsRight-opened}

@@ -10,9 +10,9 @@ use Rattle.row_ledger.specs.declared.event.Event.TheVariants.{Synced, Called, En
 use Rattle.row_ledger.specs.declared.settings.Call.TheVariants.{Sync}
 use Rattle.row_ledger.specs.declared.settings.How.TheVariants.{Fine}
 use Rattle.row_ledger.specs.Past.{Ack}
-use Rattle.row_ledger.specs.Bounds.{may, own, published, CanAnswer}
+use Rattle.row_ledger.specs.Bounds.{may, own, published}
+use Rattle.row_ledger.specs.Kept.{CanAnswer, KeepsRight}
 use Rattle.row_ledger.specs.Listings.{IsBox, IsListing, is_covered}
-use Rattle.row_ledger.specs.Right.{KeepsRight}
 use Rattle.row_ledger.specs.Worked.{site, berlin, row, box, opened}
 use Rattle.row_ledger.specs.WorkedPulls.{inserted, with_berlin, pulled, told}
 use Rattle.row_ledger.proofs.Growth.{KeepsRight-called, KeepsRight-synced, KeepsRight-ended}

@@ -5,8 +5,7 @@ use Rattle.row_ledger.specs.declared.event.Event.TheVariants.{Asked, Called, Ans
 use Rattle.row_ledger.specs.declared.event.Event.TheVariants as event
 use Rattle.row_ledger.specs.declared.settings.Call.TheVariants.{Split}
 use Rattle.row_ledger.specs.declared.settings.How.TheVariants.{Fine}
-use Rattle.row_ledger.specs.Bounds.{CanAnswer}
-use Rattle.row_ledger.specs.Right.{KeepsRight}
+use Rattle.row_ledger.specs.Kept.{CanAnswer, KeepsRight}
 use Rattle.row_ledger.specs.Worked.{site, row, once}
 use Rattle.row_ledger.specs.WorkedPulls.{inserted}
 use Rattle.row_ledger.specs.WorkedShards.{other, two_cities, for_berlin, to_split, split, across_split}

@@ -67,10 +67,3 @@ pub record IsAllowed (h : List Dimension) (must may : List Row) (filter : List P
   pub usable : All (Contains may) rows
   pub matching : All (λ r. IsTrue (matches h filter r.at)) rows
   pub total : answer ≡ agg rows
-
--- A flat list of rows can answer any query behind this past: each stands in it once and may be counted, and all that
--- were acknowledged are there.
-pub record CanAnswer (usable : ℕ → Bool) (past : List Event) (rows : List Row) : Type 0 where
-  pub once : IsDistinct nat_eq (numbers rows)
-  pub allowed : All (Contains (may usable past)) rows
-  pub known : All (λ (a : Ack). Contains rows a.row) (acked past)

@@ -5,7 +5,8 @@ use Rattle.describing_set.specs.declared.listing.Spot.{Spot}
 use Rattle.row_ledger.specs.declared.event.Event.{Event}
 use Rattle.row_ledger.specs.declared.event.Event.TheVariants.{Synced, Acked, Split, Moved}
 use Rattle.row_ledger.specs.Past.{Insert, ack_of, acked}
-use Rattle.row_ledger.specs.Shards.{Place, place, is_of, is_on, children, worker_of, frontier, comes_from, left_at, ids_made}
+use Rattle.row_ledger.specs.Shards.{Place, place, is_of, children, worker_of, frontier, comes_from, ids_made}
+use Rattle.row_ledger.specs.Workers.{is_on, left_at}
 use Rattle.row_ledger.specs.Bounds.{own, published, passed, listing_of, is_listed, listed, must}
 
 -- whether an event changes nothing of it: all but acknowledgements, pulls, splits and moves

@@ -7,7 +7,8 @@ use Rattle.row_ledger.specs.declared.event.Event.TheVariants.{Split}
 use Rattle.row_ledger.specs.Past.{Insert, insert_at}
 use Rattle.row_ledger.specs.Shards.{Place, frontier, is_live, ids_made, comes_from}
 use Rattle.row_ledger.specs.Changes.{is_quiet, AllStays, AckChanges, PullChanges, SplitChanges, MoveChanges}
-use Rattle.row_ledger.specs.Right.{Site, StandsRight, KeepsRight, IsRight}
+use Rattle.row_ledger.specs.Right.{Site, StandsRight, IsRight}
+use Rattle.row_ledger.specs.Kept.{KeepsRight}
 
 -- what a run keeps is a right history
 abbrev pub KeptIsRight : Type 0

@@ -1,11 +1,13 @@
 pub mod Past
 pub mod Site
 pub mod Shards
+pub mod Workers
 pub mod Bounds
 pub mod Listings
 pub mod Pages
 pub mod Work
 pub mod Right
+pub mod Kept
 pub mod Settled
 pub mod Changes
 pub mod Laws

@@ -38,11 +38,6 @@ IsFirstPull site past e = ⊥
 abbrev pub Opens : Site → List Event → Event → Type 0
 Opens site past e = length past < site.servers → IsFirstPull site past e
 
--- an opening so far: only first pulls
-pub record IsOpeningHistory (site : Site) (h : List Event) : Type 0 where
-  pub few : length h ≤ site.servers
-  pub pulls : EachEvent (IsFirstPull site) h
-
 -- Inserts and queries.
 
 -- an acknowledgement is of an insert that hasn't ended, by a path from a shard that its server has pulled down finished splits
@@ -228,9 +223,3 @@ pub record StandsRight (site : Site) (usable : ℕ → Bool) (h : List Event) : 
 -- a right history: its usable rows are those whose insert ends nowhere in it for want of memory
 abbrev pub IsRight : Site → List Event → Type 0
 IsRight site h = StandsRight site (is_kept h) h
-
--- What a run keeps: the history is right over the rows that have found their place, and none of these ever fails.
--- A right history doesn't stay right when a failure follows, since an earlier answer may have counted that row; this does.
-pub record KeepsRight (site : Site) (placed : ℕ → Bool) (h : List Event) : Type 0 where
-  pub right : StandsRight site placed h
-  pub kept : (number : ℕ) → IsTrue (placed number) → IsTrue (is_kept h number)

@@ -48,20 +48,9 @@ frontier workers (e ∷ past) = places_after (frontier workers past) e
 abbrev pub is_live : ℕ → List Event → ℕ → Bool
 is_live workers past shard = list_any (is_of shard) (frontier workers past)
 
--- a shard stands on a worker
-abbrev pub is_on : ℕ → List Event → ℕ → ℕ → Bool
-is_on workers past shard worker = list_any (λ (p : Place). is_of shard p && (p.worker == worker)) (frontier workers past)
-
 -- how many ids shards have had
 abbrev pub ids_made : ℕ → List Event → ℕ
 ids_made workers past = workers + 2 * length (filter_map split_in past)
-
--- the position of the last move of a shard away from a worker
-abbrev pub left_at : ℕ → List Event → ℕ → ℕ → Option ℕ
-left_at workers [] shard worker = None
-left_at workers (Moved of moved to ∷ past) shard worker =
-    if (moved == shard) && is_on workers past shard worker && not (to == worker) then Some (length past) else left_at workers past shard worker
-left_at workers (e ∷ past) shard worker = left_at workers past shard worker
 
 -- Lines of descent.
 
@@ -74,10 +63,6 @@ parent_in _ y = y
 abbrev pub comes_from : List Event → ℕ → ℕ → Bool
 comes_from [] x y = y == x
 comes_from (e ∷ past) x y = (y == x) || comes_from past x (parent_in e y)
-
--- the places of the shards that stand and are this one or come from it
-abbrev pub line : ℕ → List Event → ℕ → List Place
-line workers past x = filter (λ (p : Place). comes_from past x p.shard) (frontier workers past)
 
 -- Paths.
 

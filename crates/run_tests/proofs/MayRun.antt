@@ -7,7 +7,7 @@ use Rattle.std.proofs.lemmas.List.Elements.{All-head, All-push, All-tail}
 use Rattle.std.proofs.lemmas.Option.{slice_get_within}
 use Rattle.dim_hierarchy.specs.Dimension.{Dimension, IsHierarchy}
 use Rattle.row_ledger.specs.declared.settings.Use.{Use}
-use Rattle.script_form.specs.Scripts.{AreSettings}
+use Rattle.script_form.specs.Fits.{AreSettings}
 use Rattle.script_form.specs.declared.script.Command.{Command}
 use Rattle.script_run.specs.Phases.{NoneCloses, closes}
 use Rattle.seeded_run.specs.Phase.{ClosesLast, MayAllRun, MayRun}

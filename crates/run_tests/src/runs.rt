@@ -1,8 +1,9 @@
 //! Commands of a script run, phase by phase, and what is answered.
 ghost use Rattle.std.specs.Prelude.{◌≡◌, ◌≤◌, length, take, drop, IfOk, OnOk};
-ghost use Rattle.script_form.specs.Scripts.{AreSettings};
+ghost use Rattle.script_form.specs.Fits.{AreSettings};
 ghost use Rattle.seeded_run.specs.Kept.{IsBetween};
-ghost use Rattle.seeded_run.specs.Phase.{ClosesLast, IsCoreHeld, MayAllRun, about, held, is_order};
+ghost use Rattle.seeded_run.specs.Phase.{ClosesLast, IsCoreHeld, MayAllRun, about, held};
+ghost use Rattle.seeded_run.specs.Order.{is_order};
 
 use describing_set::{DescSet, Part};
 use row_ledger::{Event, How, Page, ShardLine};

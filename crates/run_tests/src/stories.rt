@@ -1,6 +1,6 @@
 //! Phases whose steps are made by hand, each in an order that is told.
 ghost use Rattle.std.specs.Prelude.{◌≡◌, ◌++◌, IfOk, true};
-ghost use Rattle.script_form.specs.Scripts.{AreSettings};
+ghost use Rattle.script_form.specs.Fits.{AreSettings};
 ghost use Rattle.seeded_run.specs.Phase.{ClosesLast, MayAllRun};
 
 use crate::runs::{all_rest, answers, events, run_all};

@@ -8,7 +8,8 @@ use Rattle.std.proofs.lemmas.Bool.Decides.{nat_tests}
 use Rattle.row_ledger.specs.declared.settings.Use.{Use}
 use Rattle.script_form.specs.Causes.{wrong_number}
 use Rattle.script_form.specs.Fields.{Record, field, in_range, is_below, measure_of, number_of, value_of}
-use Rattle.script_form.specs.Scripts.{AreSettings, settings_with}
+use Rattle.script_form.specs.Fits.{AreSettings}
+use Rattle.script_form.specs.Scripts.{settings_with}
 use Rattle.script_form.specs.declared.kind.Kind.{Kind}
 use Rattle.script_form.specs.declared.kind.Kind.TheVariants as kind
 

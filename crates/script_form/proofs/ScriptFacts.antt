@@ -13,10 +13,12 @@ use Rattle.std.proofs.lemmas.List.Splits.{length-slice_split}
 use Rattle.std.proofs.lemmas.List.Sums.{fold-append}
 use Rattle.dim_hierarchy.specs.Dimension.{Dimension, new_dimension}
 use Rattle.dim_hierarchy.specs.Filter.{IsNamePick}
-use Rattle.script_form.specs.Causes.{MayStand, cause_at, is_version}
+use Rattle.script_form.specs.Reading.{MayStand, IsTaken, after}
+use Rattle.script_form.specs.Causes.{cause_at, is_version}
 use Rattle.script_form.specs.Fields.{Record, field, is_bar, is_star, value_of}
 use Rattle.script_form.specs.Kinds.{kind_of}
-use Rattle.script_form.specs.Scripts.{AreSettings, Fits, IsTaken, after, command_by, command_of, default_settings, first_cause, first_fault, hierarchy_with, pick_of, script, script_of, settings_with}
+use Rattle.script_form.specs.Fits.{AreSettings, Fits}
+use Rattle.script_form.specs.Scripts.{command_by, command_of, default_settings, first_cause, first_fault, hierarchy_with, pick_of, script, script_of, settings_with}
 use Rattle.script_form.specs.declared.kind.Kind.{Kind}
 use Rattle.script_form.specs.declared.kind.Kind.TheVariants as kind
 use Rattle.script_form.specs.declared.script.Cause.{Cause}

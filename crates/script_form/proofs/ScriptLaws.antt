@@ -4,7 +4,8 @@ use Rattle.std.specs.Prelude.{option_map}
 use Rattle.std.specs.Option.{option_or}
 use Rattle.std.proofs.lemmas.List.{append_assoc, append-nil}
 use Rattle.script_form.specs.Fields.{Record}
-use Rattle.script_form.specs.Scripts.{AreFine, IsFirstFault, first_cause, first_fault, script, script_of, unless}
+use Rattle.script_form.specs.Faults.{AreFine, IsFirstFault}
+use Rattle.script_form.specs.Scripts.{first_cause, first_fault, script, script_of, unless}
 use Rattle.script_form.specs.declared.script.Cause.{Cause}
 use Rattle.script_form.specs.declared.script.Script.{Script}
 use Rattle.script_form.specs.declared.script.ScriptFault.{ScriptFault}

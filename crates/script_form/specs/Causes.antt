@@ -1,6 +1,6 @@
 -- The causes for which a record is bad, given the script of the records before it.
 use Rattle.script_form.specs.Limits.{most_servers, most_workers, most_threads, fewest_cells, most_cells, most_levels, shard_ids, worker_ids, most_actions}
-use Rattle.std.specs.Prelude.{ℕ, ◌≡◌, ◌<◌, ◌==◌, ◌&&◌, ◌||◌, not, Bool, true, false, ⊤, Option, Some, None, is_some, option_and_then, if◌then◌else◌, List, length, drop, codes}
+use Rattle.std.specs.Prelude.{ℕ, ◌==◌, ◌&&◌, ◌||◌, not, Bool, false, Option, Some, None, is_some, option_and_then, if◌then◌else◌, List, length, drop, codes}
 use Rattle.std.specs.List.{list_all}
 use Rattle.std.specs.Str.{bytes_eq}
 use Rattle.dim_hierarchy.specs.Dimension.{Dimension, concept_fault, dim_fault, find, find_dim}
@@ -15,8 +15,6 @@ use Rattle.script_form.specs.declared.kind.Kind.TheVariants as kind
 use Rattle.script_form.specs.declared.script.Cause.{Cause}
 use Rattle.script_form.specs.declared.script.Cause.TheVariants as cause
 use Rattle.script_form.specs.declared.script.Script.{Script}
-use Rattle.script_form.specs.declared.record.RecordFault.{RecordFault}
-use Rattle.script_form.specs.declared.record.RecordFault.TheVariants as fault
 
 -- `volap`, `1`
 abbrev pub is_version : Record → Bool
@@ -105,25 +103,3 @@ abbrev pub cause_at : ℕ → Script → Record → Option Cause
 cause_at place before r =
     if (place == 0) && not (is_version r) then Some cause.Version
     else cause_by_kind place before (kind_of (field r 0)) r
-
--- What the code tells of a record.
-
--- a record of this kind has the fields of its kind
-pub record HasForm (before : Script) (k : Kind) (r : Record) : Type 0 where
-  pub kind : kind_of (field r 0) ≡ Some k
-  pub fields : length r ≡ width k (length before.hierarchy)
-  pub number : wrong_number before.with.servers k r ≡ false
-  pub name : wrong_name k r ≡ false
-  pub servers : before.with.servers < 256
-
--- and nothing but the hierarchy can stand against it
-pub record MayStand (place : ℕ) (before : Script) (k : Kind) (r : Record) : Type 0 where
-  pub form : HasForm before k r
-  pub version : place ≡ 0 → is_version r ≡ true
-  pub order : wrong_order place before k ≡ false
-  pub cause : cause_at place before r ≡ hierarchy_cause before.hierarchy k r
-
--- want of memory, or this cause
-abbrev pub TellsCause : Option Cause → RecordFault → Type 0
-TellsCause cause (fault.Bad told) = cause ≡ Some told
-TellsCause cause fault.NoMemory = ⊤

@@ -3,3 +3,6 @@ pub mod Fields
 pub mod Kinds
 pub mod Causes
 pub mod Scripts
+pub mod Fits
+pub mod Reading
+pub mod Faults

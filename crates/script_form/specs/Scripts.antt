@@ -1,11 +1,9 @@
 -- The script that a list of records is, or where and why it is bad.
-use Rattle.script_form.specs.Limits.{most_servers, most_workers, most_threads, fewest_cells, most_cells, shard_ids, worker_ids, most_actions}
-use Rattle.std.specs.Prelude.{ℕ, pos, ◌≡◌, ◌+◌, ◌<◌, ◌≤◌, Option, Some, None, option_map, unwrap_or, Result, Ok, Err, if◌then◌else◌, ⊤, List, [], ◌∷◌, ◌++◌, length, drop, map, fold, slice_set, All}
+use Rattle.std.specs.Prelude.{ℕ, pos, ◌+◌, Option, Some, None, option_map, unwrap_or, Result, Ok, Err, if◌then◌else◌, List, [], ◌∷◌, ◌++◌, length, drop, map, fold, slice_set}
 use Rattle.std.specs.List.{filter_map}
-use Rattle.std.specs.Option.{option_or, option_to_list}
+use Rattle.std.specs.Option.{option_or}
 use Rattle.csv.specs.Reading.{default_config, records, strip_bom}
 use Rattle.dim_hierarchy.specs.Dimension.{Dimension, dimension, find_dim, new_dimension, with_concept}
-use Rattle.dim_hierarchy.specs.Filter.{IsNamePick}
 use Rattle.dim_hierarchy.specs.declared.filter.NamePick.{NamePick}
 use Rattle.dim_hierarchy.specs.declared.filter.NamePick.TheVariants as pick
 use Rattle.row_ledger.specs.declared.settings.Use.{Use}
@@ -13,7 +11,7 @@ use Rattle.row_ledger.specs.declared.settings.Call.{Call}
 use Rattle.row_ledger.specs.declared.settings.Call.TheVariants as call
 use Rattle.script_form.specs.Fields.{Record, field, is_star, measure_of, pieces, value_of}
 use Rattle.script_form.specs.Kinds.{kind_of}
-use Rattle.script_form.specs.Causes.{MayStand, cause_at, hierarchy_cause, parent_of}
+use Rattle.script_form.specs.Causes.{cause_at, parent_of}
 use Rattle.script_form.specs.declared.kind.Kind.{Kind}
 use Rattle.script_form.specs.declared.kind.Kind.TheVariants as kind
 use Rattle.script_form.specs.declared.script.Cause.{Cause}
@@ -98,10 +96,6 @@ commands_of rs = filter_map command_of rs
 abbrev pub script_of : List Record → Script
 script_of rs = record { with = settings_of rs; hierarchy = hierarchy_of rs; commands = commands_of rs }
 
--- the script of the records before it, after one more
-abbrev pub after : Script → Record → Script
-after s r = record { with = settings_with (kind_of (field r 0)) s.with r; hierarchy = hierarchy_with (kind_of (field r 0)) s.hierarchy r; commands = s.commands ++ option_to_list (command_of r) }
-
 -- the first cause of a record, given the records before it
 abbrev pub first_cause : List Record → Record → Option Cause
 first_cause before r = cause_at (length before) (script_of before) r
@@ -120,54 +114,3 @@ unless (Some f) s = Err f
 abbrev pub script : List Record → Result Script ScriptFault
 script [] = Err (fault.Bad 1 cause.Version)
 script (r ∷ rest) = unless (first_fault [] (r ∷ rest)) (script_of (r ∷ rest))
-
--- What contracts say of scripts.
-
--- want of memory, or this answer
-abbrev pub IsAnswer : Result Script ScriptFault → Result Script ScriptFault → Type 0
-IsAnswer answer (Ok s) = answer ≡ Ok s
-IsAnswer answer (Err (fault.Bad at cause)) = answer ≡ Err (fault.Bad at cause)
-IsAnswer answer (Err fault.NoMemory) = ⊤
-
--- settings in their ranges
-pub record AreSettings (with : Use) : Type 0 where
-  pub servers : (1 ≤ with.servers) × (with.servers ≤ most_servers)
-  pub workers : (1 ≤ with.workers) × (with.workers ≤ most_workers)
-  pub threads : (1 ≤ with.threads) × (with.threads ≤ most_threads)
-  pub cells : (fewest_cells ≤ with.cells) × (with.cells ≤ most_cells)
-
--- the numbers of a call are in their ranges, where there are so many servers
-abbrev pub IsInRange : ℕ → Call → Type 0
-IsInRange servers (call.Sync server) = server < servers
-IsInRange servers (call.Split shard) = shard < shard_ids
-IsInRange servers (call.Move shard worker) = (shard < shard_ids) × (worker < worker_ids)
-IsInRange servers (call.Balance most) = (1 ≤ most) × (most ≤ most_actions)
-IsInRange servers (call.Tree shard) = shard < shard_ids
-IsInRange servers other = ⊤
-
--- a command of a server of the script, with a name or a pick for each dimension and its numbers in their ranges
-abbrev pub Fits : Script → Command → Type 0
-Fits s (command.Insert row) = (row.server < s.with.servers) × (length row.names ≡ length s.hierarchy)
-Fits s (command.Query question) = (question.server < s.with.servers) × (length question.filter ≡ length s.hierarchy) × All IsNamePick question.filter
-Fits s (command.Control call) = IsInRange s.with.servers call
-
--- none of the records has a cause, each behind those before it
-abbrev pub AreFine : List Record → Type 0
-AreFine rs = (before : List Record) (r : Record) (after : List Record) → rs ≡ before ++ r ∷ after → first_cause before r ≡ None
-
--- the record with this number is the first with a cause, and this is its first cause
-pub record IsFirstFault (rs : List Record) (at : ℕ) (c : Cause) : Type 0 where
-  pub front : List Record
-  pub bad : Record
-  pub rest : List Record
-  pub whole : rs ≡ front ++ bad ∷ rest
-  pub fine : AreFine front
-  pub cause : first_cause front bad ≡ Some c
-  pub number : at ≡ length front + 1
-
--- a record that nothing stands against, with the script of those before it and with its own
-pub record IsTaken (place : ℕ) (before new : Script) (r : Record) : Type 0 where
-  pub kind : Kind
-  pub stands : MayStand place before kind r
-  pub fine : hierarchy_cause before.hierarchy kind r ≡ None
-  pub script : new ≡ after before r

@@ -1,7 +1,8 @@
 //! Whether a record may stand where it does, by its fields alone.
 ghost use Rattle.std.specs.Prelude.{◌≡◌, IfOk, IfErr};
 ghost use Rattle.csv.specs.Records.{fields_of};
-ghost use Rattle.script_form.specs.Causes.{MayStand, cause_at, is_version, wrong_name, wrong_number, wrong_order};
+ghost use Rattle.script_form.specs.Reading.{MayStand};
+ghost use Rattle.script_form.specs.Causes.{cause_at, is_version, wrong_name, wrong_number, wrong_order};
 
 use crate::field::{field, in_range, is_below, is_name, is_star, measure};
 use crate::kind::{Kind, kind_of, width};

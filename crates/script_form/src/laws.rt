@@ -1,7 +1,8 @@
 //! Laws of the definition of scripts, with no code.
 ghost use Rattle.std.specs.Prelude.{◌≡◌, ◌↔◌, ◌<◌, List, ℕ, length};
 ghost use Rattle.script_form.specs.Fields.{Record};
-ghost use Rattle.script_form.specs.Scripts.{AreFine, IsFirstFault, script, script_of};
+ghost use Rattle.script_form.specs.Faults.{AreFine, IsFirstFault};
+ghost use Rattle.script_form.specs.Scripts.{script, script_of};
 ghost use Rattle.script_form.specs.declared.script.Cause.{Cause};
 ghost use Rattle.script_form.specs.declared.script.Script.{Script};
 ghost use Rattle.script_form.specs.declared.script.ScriptFault.TheVariants.{Bad};

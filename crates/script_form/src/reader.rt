@@ -1,7 +1,9 @@
 //! The reader of scripts.
 ghost use Rattle.std.specs.Prelude.{◌≡◌, ◌<◌, ◌+◌, true, length, All, IfOk};
 ghost use Rattle.csv.specs.Reading.{error_kind, stops_reader};
-ghost use Rattle.script_form.specs.Scripts.{AreSettings, Fits, IsAnswer, records_of, script};
+ghost use Rattle.script_form.specs.Fits.{AreSettings, Fits};
+ghost use Rattle.script_form.specs.Faults.{IsAnswer};
+ghost use Rattle.script_form.specs.Scripts.{records_of, script};
 
 use crate::record::{RecordFault, take_record};
 use crate::script::{Cause, Commands, Script, ScriptFault};

@@ -4,8 +4,9 @@ ghost use Rattle.std.specs.List.{list_all};
 ghost use Rattle.csv.specs.Records.{fields_of};
 ghost use Rattle.script_form.specs.Limits.{most_levels};
 ghost use Rattle.script_form.specs.Fields.{field, in_range, is_below, is_name};
-ghost use Rattle.script_form.specs.Causes.{HasForm, TellsCause, cause_at, hierarchy_cause, parent_of, wrong_number};
-ghost use Rattle.script_form.specs.Scripts.{IsTaken, after, call_by, command_by, hierarchy_with, settings_in};
+ghost use Rattle.script_form.specs.Reading.{HasForm, TellsCause, IsTaken, after};
+ghost use Rattle.script_form.specs.Causes.{cause_at, hierarchy_cause, parent_of, wrong_number};
+ghost use Rattle.script_form.specs.Scripts.{call_by, command_by, hierarchy_with, settings_in};
 ghost use Rattle.script_form.specs.declared.kind.Kind.TheVariants as kind;
 
 use crate::field::{field, is_star, measure, value_u8, value_u32};

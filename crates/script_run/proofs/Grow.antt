@@ -9,8 +9,7 @@ use Rattle.row_ledger.specs.Past.{event_at, is_over, is_beginning}
 use Rattle.row_ledger.proofs.Positions.{event_at-here, event_at-older, event_at-past, before-older, before-here}
 use Rattle.script_form.specs.declared.script.Command.{Command}
 use Rattle.script_form.specs.declared.script.Command.TheVariants.{Insert, Query, Control}
-use Rattle.script_run.specs.Pulls.{HasPulls}
-use Rattle.script_run.specs.Runs.{Begins, BeginsAt, EndsBefore}
+use Rattle.script_run.specs.Runs.{HasPulls, Begins, BeginsAt, EndsBefore}
 use Rattle.script_run.specs.Parts.{IsPartAt, IsNext, HasPlace}
 
 pub below-or : (a b : ℕ) → (a < b) ⊎ (b ≤ a)

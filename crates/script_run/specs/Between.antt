@@ -12,8 +12,7 @@ use Rattle.script_form.specs.declared.script.Command.{Command}
 use Rattle.script_run.specs.Parts.{IsPartAt, Waits, place_in}
 use Rattle.script_run.specs.Phases.{is_closing}
 use Rattle.script_run.specs.Places.{begins_of, count_of, session_of}
-use Rattle.script_run.specs.Pulls.{HasPulls}
-use Rattle.script_run.specs.Runs.{Begins, EndsBefore, IsRunOf, IsRunSoFar}
+use Rattle.script_run.specs.Runs.{HasPulls, Begins, EndsBefore, IsRunOf, IsRunSoFar}
 use Rattle.script_run.specs.Streams.{AreFinished, IsInPhase}
 
 -- Between phases.

@@ -1,6 +1,5 @@
 pub mod Phases
 pub mod Places
-pub mod Pulls
 pub mod Runs
 pub mod Parts
 pub mod Streams

@@ -7,8 +7,7 @@ use Rattle.row_ledger.specs.Past.{event_at, is_over, is_beginning}
 use Rattle.row_ledger.specs.Right.{EachEvent}
 use Rattle.script_form.specs.declared.script.Command.{Command}
 use Rattle.script_run.specs.Places.{session_of, places}
-use Rattle.script_run.specs.Pulls.{HasPulls}
-use Rattle.script_run.specs.Runs.{Begins, BeginsAt, EndsBefore, IsRunSoFar, IsSerial}
+use Rattle.script_run.specs.Runs.{HasPulls, Begins, BeginsAt, EndsBefore, IsRunSoFar, IsSerial}
 use Rattle.script_run.specs.Phases.{ranks}
 use Rattle.std.specs.List.{slice_index_or}
 

@@ -1,21 +1,24 @@
 -- A history is a run of a script's commands, whole or in part.
-use Rattle.std.specs.Prelude.{ℕ, ◌≡◌, ◌+◌, ◌<◌, ◌⊎◌, ⊤, Bool, true, false, IsTrue, Option, Some, None, is_none, List, zip, position, AllPairs, Contains}
+use Rattle.std.specs.Prelude.{ℕ, ◌≡◌, ◌+◌, ◌<◌, ◌⊎◌, ⊤, Bool, true, false, IsTrue, Option, Some, None, is_none, List, zip, position, AllPairs, Contains, zero, suc, IfSome, [], ◌∷◌, ◌++◌, length, map, reverse, take, filter_map}
 use Rattle.std.specs.List.{AllZip}
 use Rattle.dim_hierarchy.specs.Dimension.{Dimension}
 use Rattle.dim_hierarchy.specs.Row.{IsCoordNamed, leaves}
 use Rattle.dim_hierarchy.specs.Filter.{IsFilterNamed, picks}
 use Rattle.row_ledger.specs.declared.event.Event.{Event}
-use Rattle.row_ledger.specs.declared.event.Event.TheVariants.{Begun, Acked, Asked, Unknown, Failed, Refused, Called}
+use Rattle.row_ledger.specs.declared.event.Event.TheVariants.{Begun, Acked, Asked, Unknown, Failed, Refused, Called, Ended}
 use Rattle.row_ledger.specs.declared.settings.Call.{Call}
-use Rattle.row_ledger.specs.declared.settings.Call.TheVariants.{Barrier}
+use Rattle.row_ledger.specs.declared.settings.Call.TheVariants.{Barrier, Sync, Settle}
 use Rattle.row_ledger.specs.declared.settings.Use.{Use}
-use Rattle.row_ledger.specs.Past.{event_at, before, is_over, is_beginning}
+use Rattle.row_ledger.specs.Past.{event_at, before, is_over, is_beginning, Pull, call_at, pull_in, since}
 use Rattle.row_ledger.specs.Right.{EachEvent}
+use Rattle.row_ledger.specs.declared.settings.How.{How}
+use Rattle.row_ledger.specs.declared.settings.How.TheVariants.{Fine, NoMemory}
 use Rattle.script_form.specs.declared.script.Command.{Command}
 use Rattle.script_form.specs.declared.script.Command.TheVariants.{Insert, Query, Control}
 use Rattle.script_run.specs.Phases.{phases_to, ranks}
-use Rattle.script_run.specs.Pulls.{HasPulls}
 use Rattle.script_run.specs.Places.{session_of, session_of_call, places, are_over, end_of}
+
+-- How a command begins, and that one ends before another begins.
 
 -- a barrier takes no memory, so it is never refused
 abbrev pub can_be_refused : Call → Bool
@@ -51,6 +54,37 @@ EndsBefore history place None = ⊤
 EndsBefore history None (Some q) = ⊥
 EndsBefore history (Some p) (Some q) = (p < q) × IsTrue (is_over (before history q) p)
 
+-- Which servers a command pulled for, by how it ended.
+
+-- the servers of the pulls behind a position, the oldest first
+abbrev pub pulled_since : List Event → ℕ → List ℕ
+pulled_since past p = reverse (map (λ (pull : Pull). pull.server) (filter_map pull_in (since past p)))
+
+-- all servers in the order of their numbers
+abbrev pub each_server : ℕ → List ℕ
+each_server zero = []
+each_server (suc n) = each_server n ++ n ∷ []
+
+-- and then once more
+abbrev pub each_twice : ℕ → List ℕ
+each_twice servers = each_server servers ++ each_server servers
+
+-- A sync that is fine pulled once, for its server, and one that found no memory not at all. A settle that is fine pulled
+-- for each server, and for each once more; one that found no memory got less far.
+abbrev pub ArePulls : ℕ → Call → How → List ℕ → Type 0
+ArePulls servers (Sync server) Fine pulled = pulled ≡ server ∷ []
+ArePulls servers (Sync server) NoMemory pulled = pulled ≡ []
+ArePulls servers Settle Fine pulled = pulled ≡ each_twice servers
+ArePulls servers Settle NoMemory pulled = (n : ℕ) × (n < length (each_twice servers)) × (pulled ≡ take n (each_twice servers))
+ArePulls servers called how pulled = ⊤
+
+-- where an event ends a called command, what was pulled since it began
+abbrev pub HasPulls : Use → List Event → Event → Type 0
+HasPulls with past (Ended of how) = IfSome (call_at past of) (λ called. ArePulls with.servers called how (pulled_since past of))
+HasPulls with past e = ⊤
+
+-- Runs.
+
 -- The history is a part of a run of exactly these commands: each that has begun begins as it is to, and nothing else
 -- begins; a session begins one when the one before has ended; and a command that closes a phase begins when all
 -- others of the phase have ended, as the next phase's do when it has ended. A sync and a settle that have ended pulled as
@@ -66,10 +100,6 @@ pub record IsRunSoFar (with : Use) (h : List Dimension) (commands : List Command
 pub record IsRunOf (with : Use) (h : List Dimension) (commands : List Command) (history : List Event) : Type 0 where
   pub part : IsRunSoFar with h commands history
   pub over : IsTrue (are_over history (places with commands history))
-
--- a run of the first k phases, and nothing of a later one
-abbrev pub IsRunTo : ℕ → Use → List Dimension → List Command → List Event → Type 0
-IsRunTo k with h commands history = IsRunOf with h (phases_to k commands) history
 
 -- a run of the first k phases, and besides a part of the next one, of each session the first commands
 pub record IsRunInto (k : ℕ) (with : Use) (h : List Dimension) (commands : List Command) (history : List Event) : Type 0 where

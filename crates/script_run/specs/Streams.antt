@@ -8,8 +8,7 @@ use Rattle.row_ledger.specs.Past.{is_over, session_in}
 use Rattle.script_form.specs.declared.script.Command.{Command}
 use Rattle.script_run.specs.Phases.{NoneCloses, ranks, closes}
 use Rattle.script_run.specs.Places.{session_of, count_of, begins_of}
-use Rattle.script_run.specs.Pulls.{HasPulls}
-use Rattle.script_run.specs.Runs.{Begins, IsRunOf}
+use Rattle.script_run.specs.Runs.{HasPulls, Begins, IsRunOf}
 use Rattle.script_run.specs.Parts.{IsPartAt, IsNext, HasPlace, Waits, place_in}
 
 -- Of each session: which of the commands comes next, and where the one began that its actor has open. All its commands

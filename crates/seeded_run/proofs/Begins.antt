@@ -22,8 +22,7 @@ use Rattle.script_run.specs.Between.{IsInOrder}
 use Rattle.script_run.specs.Parts.{HasPlace, place_in}
 use Rattle.script_run.specs.Phases.{NoneCloses, closes, is_closing, ranks}
 use Rattle.script_run.specs.Places.{begins_of, count_of, is_over_at, session_of}
-use Rattle.script_run.specs.Pulls.{pulled_since}
-use Rattle.script_run.specs.Runs.{Begins}
+use Rattle.script_run.specs.Runs.{pulled_since, Begins}
 use Rattle.script_run.specs.Streams.{IsInPhase, IsReady, StepsOn}
 use Rattle.volap_cell.specs.Ghost.{Ghost}
 use Rattle.volap_cell.specs.ImageKinds.{doing}

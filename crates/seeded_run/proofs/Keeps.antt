@@ -19,8 +19,7 @@ use Rattle.script_run.proofs.InPhase.{phase_other_law}
 use Rattle.script_run.proofs.PlaceFacts.{begins_of-other}
 use Rattle.script_run.specs.Between.{IsInOrder}
 use Rattle.script_run.specs.Places.{begins_of, count_of, session_of, session_of_call}
-use Rattle.script_run.specs.Pulls.{ArePulls, HasPulls, pulled_since}
-use Rattle.script_run.specs.Runs.{Begins, BeginsAt}
+use Rattle.script_run.specs.Runs.{ArePulls, HasPulls, pulled_since, Begins, BeginsAt}
 use Rattle.script_run.specs.Streams.{IsInPhase}
 use Rattle.volap_cell.specs.Commands.{MayNoteEnd, due_pull, once_shown, pulled_once}
 use Rattle.volap_cell.specs.Ghost.{Ghost}

@@ -9,7 +9,8 @@ use Rattle.core_steps.specs.AskedNotes.{NotesEnded}
 use Rattle.core_steps.specs.Ready.{MayStep, Stays}
 use Rattle.dim_hierarchy.specs.Dimension.{Dimension}
 use Rattle.mapping_table.specs.declared.place.Where.TheVariants as where_is
-use Rattle.row_ledger.specs.Shards.{Place, frontier, is_of, is_on}
+use Rattle.row_ledger.specs.Shards.{Place, frontier, is_of}
+use Rattle.row_ledger.specs.Workers.{is_on}
 use Rattle.row_ledger.specs.declared.event.Event.{Event}
 use Rattle.row_ledger.specs.declared.settings.How.TheVariants.{NoMemory}
 use Rattle.row_ledger.specs.declared.settings.Use.{Use}

@@ -13,7 +13,7 @@ use Rattle.row_ledger.specs.declared.event.Event.TheVariants.{Synced}
 use Rattle.row_ledger.specs.declared.settings.Use.{Use}
 use Rattle.script_form.specs.declared.script.Command.{Command}
 use Rattle.script_run.specs.Between.{IsInOrder, IsThrough, NoneBegunLaw}
-use Rattle.script_run.specs.Pulls.{HasPulls}
+use Rattle.script_run.specs.Runs.{HasPulls}
 use Rattle.volap_cell.specs.Cells.{CellValue, ledger_in}
 use Rattle.volap_cell.specs.Filling.{IsOpened, setting_for}
 use Rattle.volap_cell.specs.Numbering.{IsRoleOf, IsSetting}

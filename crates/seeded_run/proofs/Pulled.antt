@@ -12,7 +12,7 @@ use Rattle.row_ledger.specs.declared.settings.Call.TheVariants as call
 use Rattle.row_ledger.specs.declared.settings.How.{How}
 use Rattle.row_ledger.specs.declared.settings.How.TheVariants as how
 use Rattle.row_ledger.specs.declared.settings.Use.{Use}
-use Rattle.script_run.specs.Pulls.{ArePulls, HasPulls, each_server, each_twice, pulled_since}
+use Rattle.script_run.specs.Runs.{ArePulls, HasPulls, each_server, each_twice, pulled_since}
 use Rattle.volap_cell.specs.Commands.{MayNoteEnd, due_pull, pulled_once, settles_next}
 use Rattle.volap_cell.specs.Setting.{Setting}
 use Rattle.volap_cell.specs.Telling.{IsProgress}

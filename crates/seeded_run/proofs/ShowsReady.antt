@@ -13,7 +13,8 @@ use Rattle.core_steps.specs.Ready.{MayStep}
 use Rattle.core_steps.specs.Seen.{IsSeen}
 use Rattle.dim_hierarchy.specs.Dimension.{Dimension}
 use Rattle.row_ledger.specs.Past.{before, call_at, call_in}
-use Rattle.row_ledger.specs.Shards.{Place, frontier, is_live, is_of, is_on, places_after}
+use Rattle.row_ledger.specs.Shards.{Place, frontier, is_live, is_of, places_after}
+use Rattle.row_ledger.specs.Workers.{is_on}
 use Rattle.row_ledger.specs.declared.event.Event.{Event}
 use Rattle.row_ledger.specs.declared.event.Event.TheVariants.{Called}
 use Rattle.row_ledger.specs.declared.page.Page.{Page}

@@ -27,7 +27,8 @@ use Rattle.seeded_run.specs.Core.{HasCore, IsCore}
 use Rattle.seeded_run.specs.Kept.{IsBetween, IsStopped}
 use Rattle.seeded_run.specs.Machine.{AloneInOrder, HasComeToRest, HasLeftOver, HasRunTo, HasStoppedAt, IsFirstMoment, IsPhaseHeld, IsPhaseKept, IsSamePhase, RestsAsIs, TakesTurn, about_in, can_in, cursor, most_steps, next_at, nothing, phase_of, world_of}
 use Rattle.seeded_run.specs.Measure.{limits_of}
-use Rattle.seeded_run.specs.Phase.{IsKeptTurn, MayRun, about, held, is_order, most_actors, phase_from}
+use Rattle.seeded_run.specs.Phase.{IsKeptTurn, MayRun, about, held, most_actors, phase_from}
+use Rattle.seeded_run.specs.Order.{is_order}
 use Rattle.seeded_run.specs.Progress.{IsPhaseOf}
 use Rattle.seeded_run.specs.Ranks.{IsWithin, commands_waiting, with_waiting}
 use Rattle.seeded_run.specs.Rests.{PhaseRun}

@@ -16,6 +16,7 @@ pub mod Instead
 pub mod Commands
 pub mod Kept
 pub mod Arms
+pub mod Order
 pub mod Phase
 pub mod Steps
 pub mod DueSteps

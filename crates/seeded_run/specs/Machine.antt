@@ -18,7 +18,8 @@ use Rattle.seeded_run.specs.Due.{does_nothing, due}
 use Rattle.seeded_run.specs.DueSteps.{due_step}
 use Rattle.seeded_run.specs.Kept.{IsBetween}
 use Rattle.seeded_run.specs.Measure.{CoreHasLeft, limits_of}
-use Rattle.seeded_run.specs.Phase.{ClosesLast, IsKeptTurn, MayAllRun, NobodyCanStep, about, held, is_order, most_actors, phase_from, RunsTo, StopsAt}
+use Rattle.seeded_run.specs.Phase.{ClosesLast, IsKeptTurn, MayAllRun, NobodyCanStep, about, held, most_actors, phase_from, RunsTo, StopsAt}
+use Rattle.seeded_run.specs.Order.{is_order}
 use Rattle.seeded_turns.specs.declared.schedule.Schedule.{Schedule}
 use Rattle.seeded_run.specs.Ranks.{rank, commands_waiting, with_waiting}
 use Rattle.seeded_run.specs.Rests.{PhaseRun, first_open}

@@ -1,12 +1,11 @@
 -- A phase of a script, as it runs over a core that one thread holds.
-use Rattle.std.specs.Prelude.{ℕ, ◌≡◌, ◌+◌, ◌^◌, ◌<◌, Bool, true, false, List, [], Some, length, slice_get}
+use Rattle.std.specs.Prelude.{ℕ, ◌≡◌, ◌+◌, ◌^◌, ◌<◌, Bool, true, List, [], Some, length, slice_get}
 use Rattle.dim_hierarchy.specs.Dimension.{Dimension}
 use Rattle.row_ledger.specs.declared.settings.Use.{Use}
 use Rattle.script_form.specs.declared.script.Command.{Command}
 use Rattle.script_run.specs.Phases.{closes}
 use Rattle.seeded_turns.specs.Drawn.{Moment, Reaches, Turn}
 use Rattle.seeded_turns.specs.declared.schedule.Schedule.{Schedule}
-use Rattle.seeded_turns.specs.declared.schedule.Schedule.TheVariants as schedule_is
 use Rattle.volap_cell.specs.Setting.{Setting}
 use Rattle.volap_cell.specs.Steps.{Inv, history_in}
 use Rattle.volap_cell.specs.World.{World}
@@ -18,6 +17,7 @@ use Rattle.seeded_run.specs.Commands.{IsAllowed}
 use Rattle.seeded_run.specs.Look.{HasNames}
 use Rattle.seeded_run.specs.Rests.{PhaseRun}
 use Rattle.seeded_run.specs.Worlds.{setting_in, world_in}
+use Rattle.seeded_run.specs.Order.{is_order}
 
 -- What may run.
 
@@ -35,11 +35,6 @@ abbrev pub ClosesLast : List Command → Type 0
 ClosesLast phase = (i : ℕ) (c : Command) → slice_get phase i ≡ Some c → closes c ≡ true → i + 1 ≡ length phase
 
 -- The state.
-
--- whether the commands go one after the other
-abbrev pub is_order : Schedule → Bool
-is_order schedule_is.Order = true
-is_order (schedule_is.Seed g) = false
 
 -- so many actors a number has room for
 abbrev pub most_actors : ℕ

@@ -3,7 +3,7 @@ use Rattle.std.specs.Prelude.{ℕ, ◌≡◌, ◌≢◌, ◌-◌, ⊤, Bool, tru
 use Rattle.script_form.specs.declared.script.Command.{Command}
 use Rattle.script_run.specs.Between.{IsInOrder}
 use Rattle.script_run.specs.Places.{session_of}
-use Rattle.script_run.specs.Pulls.{each_twice, pulled_since}
+use Rattle.script_run.specs.Runs.{each_twice, pulled_since}
 use Rattle.script_run.specs.Streams.{IsInPhase}
 use Rattle.volap_cell.specs.Setting.{Setting}
 use Rattle.volap_cell.specs.Steps.{history_in}

@@ -4,7 +4,8 @@ ghost use Rattle.seeded_turns.specs.Drawn.{Reaches, Stops, able};
 ghost use Rattle.seeded_run.specs.declared.machine.Running.{Running};
 ghost use Rattle.seeded_run.specs.Kept.{IsBetween, IsStopped};
 ghost use Rattle.seeded_run.specs.Machine.{AreFirstCursors, HasComeToRest, HasLeftOver, HasRunTo, HasStoppedAt, HoldsNow, IsFirstMoment, IsPhaseHeld, IsSamePhase, LeavesAtMost, RestsAsIs, TakesTurn, about_in, can_in, most_steps, phase_of, streams_open, world_of};
-ghost use Rattle.seeded_run.specs.Phase.{ClosesLast, IsCoreHeld, MayAllRun, NobodyCanStep, RunsTo, StopsAt, about, held, is_order, most_actors, phase_from};
+ghost use Rattle.seeded_run.specs.Phase.{ClosesLast, IsCoreHeld, MayAllRun, NobodyCanStep, RunsTo, StopsAt, about, held, most_actors, phase_from};
+ghost use Rattle.seeded_run.specs.Order.{is_order};
 
 use crate::machine::Running;
 use dim_hierarchy::Hierarchy;

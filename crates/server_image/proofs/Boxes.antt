@@ -10,8 +10,9 @@ use Rattle.std.proofs.lemmas.List.Sorted.{IsPermutation-sym, IsPermutation-to_fr
 use Rattle.dim_hierarchy.specs.Dimension.{Dimension}
 use Rattle.dim_hierarchy.specs.Row.{IsCoordOf}
 use Rattle.dim_hierarchy.specs.declared.row.Coord.{Coord}
-use Rattle.describing_set.specs.Ascending.{Below, Ascends}
-use Rattle.describing_set.specs.DescSet.{IsSetOf, IsDescSetOf, GrowsBy, AreAmong}
+use Rattle.describing_set.specs.Sorted.{Below, Ascends}
+use Rattle.describing_set.specs.DescSet.{IsSetOf}
+use Rattle.describing_set.specs.Sets.{IsDescSetOf, GrowsBy, AreAmong}
 use Rattle.describing_set.specs.declared.set.DescSet.{DescSet}
 use Rattle.describing_set.specs.declared.listing.Spot.{Spot}
 use Rattle.server_image.specs.declared.image.Growth.{Growth}

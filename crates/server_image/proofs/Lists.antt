@@ -3,7 +3,7 @@ use Rattle.std.proofs.Common.{ℕ, suc, ◌≡◌, ◌+◌, ◌<◌, ◌≤◌, 
 use Rattle.std.specs.Prelude.{◌==◌, nat_lt, position, unwrap_or}
 use Rattle.std.specs.List.{position_or_len, list_any, insert, remove}
 use Rattle.std.proofs.lemmas.Bool.{false≢true, eqb-false, ltb-true, ltb-false}
-use Rattle.describing_set.specs.Ascending.{Below, Ascends, In}
+use Rattle.describing_set.specs.Sorted.{Below, Ascends, In}
 use Rattle.describing_set.specs.declared.listing.Spot.{Spot}
 use Rattle.server_image.specs.Spots.{has_spot, spot_ids, place_of, without, with_spot}
 use Rattle.server_image.specs.Registry.{IsRegistry}

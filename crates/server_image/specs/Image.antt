@@ -4,7 +4,7 @@ use Rattle.dim_hierarchy.specs.declared.row.Coord.{Coord}
 use Rattle.dim_hierarchy.specs.declared.filter.Pick.{Pick}
 use Rattle.dim_hierarchy.specs.Dimension.{Dimension}
 use Rattle.dim_hierarchy.specs.Row.{IsCoordOf}
-use Rattle.describing_set.specs.DescSet.{growth_of, size_of}
+use Rattle.describing_set.specs.Sets.{growth_of, size_of}
 use Rattle.describing_set.specs.Filter.{overlaps}
 use Rattle.describing_set.specs.declared.listing.Spot.{Spot}
 use Rattle.server_image.specs.declared.image.Growth.{Growth}

@@ -2,7 +2,7 @@
 use Rattle.std.specs.Prelude.{ℕ, ◌≡◌, ◌<◌, Bool, Option, Some, List, [], ◌∷◌, ◌++◌, length, slice_get, slice_set}
 use Rattle.std.specs.Option.{option_or}
 use Rattle.std.specs.List.{AllZip, range_with_len}
-use Rattle.describing_set.specs.Ascending.{Ascends}
+use Rattle.describing_set.specs.Sorted.{Ascends}
 use Rattle.dim_hierarchy.specs.Dimension.{Dimension}
 use Rattle.describing_set.specs.DescSet.{IsSetOf}
 use Rattle.describing_set.specs.declared.set.DescSet.{DescSet}

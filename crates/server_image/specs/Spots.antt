@@ -4,7 +4,8 @@ use Rattle.std.specs.List.{AllZip, insert, remove, position_or_len, list_any}
 use Rattle.dim_hierarchy.specs.declared.row.Coord.{Coord}
 use Rattle.dim_hierarchy.specs.Dimension.{Dimension}
 use Rattle.dim_hierarchy.specs.Row.{IsCoordOf}
-use Rattle.describing_set.specs.DescSet.{IsSetOf, IsDescSetOf, JoinsTo}
+use Rattle.describing_set.specs.DescSet.{IsSetOf}
+use Rattle.describing_set.specs.Sets.{IsDescSetOf, JoinsTo}
 use Rattle.describing_set.specs.declared.set.DescSet.{DescSet}
 use Rattle.describing_set.specs.declared.listing.Spot.{Spot}
 

@@ -1,6 +1,6 @@
 //! Which of two shards a row goes to.
 ghost use Rattle.std.specs.Prelude.{◌≡◌, ◌↔◌, IsTrue};
-ghost use Rattle.describing_set.specs.DescSet.{IsDescSetOf};
+ghost use Rattle.describing_set.specs.Sets.{IsDescSetOf};
 ghost use Rattle.server_image.specs.Image.{RanksBefore};
 
 use describing_set::Spot;

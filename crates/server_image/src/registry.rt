@@ -1,6 +1,6 @@
 //! All shards that were ever made.
 ghost use Rattle.std.specs.Prelude.{◌≡◌, ◌≢◌, ◌+◌, ◌<◌, ◌≤◌, ◌∷◌, ◌++◌, [], length, vec_len, vec_capacity, IsTrue, false, IfOk, OnOk, OnErr};
-ghost use Rattle.describing_set.specs.DescSet.{IsDescSetOf};
+ghost use Rattle.describing_set.specs.Sets.{IsDescSetOf};
 ghost use Rattle.server_image.specs.Spots.{AreBoxes, Widens, Grows};
 ghost use Rattle.server_image.specs.Image.{noted, AreGrowths};
 

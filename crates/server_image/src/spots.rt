@@ -2,7 +2,7 @@
 ghost use Rattle.std.specs.Prelude.{◌≡◌, ◌==◌, ◌+◌, ◌<◌, ◌≤◌, ◌++◌, nat_lt, length, vec_len, vec_capacity};
 ghost use Rattle.std.specs.List.{position_or_len, position};
 ghost use Rattle.dim_hierarchy.specs.Row.{IsCoordOf};
-ghost use Rattle.describing_set.specs.DescSet.{IsDescSetOf};
+ghost use Rattle.describing_set.specs.Sets.{IsDescSetOf};
 ghost use Rattle.server_image.specs.Spots.{AreBoxes, is_among, has_spot, place_of, worker_in, with_spot, IsWidened, Widens, IsGrown, along, Grows};
 
 use describing_set::{DescSet, Spot};

@@ -8,7 +8,7 @@ use Rattle.dim_hierarchy.specs.declared.row.Row.{Row}
 use Rattle.dim_hierarchy.specs.Row.{IsRowOf}
 use Rattle.dim_hierarchy.specs.Dimension.{Dimension}
 use Rattle.measure_agg.specs.Aggregate.{Aggregate}
-use Rattle.describing_set.specs.DescSet.{IsDescSetOf}
+use Rattle.describing_set.specs.Sets.{IsDescSetOf}
 use Rattle.describing_set.specs.declared.set.DescSet.{DescSet}
 use Rattle.dc_node.specs.Block.{rows_in, entries_in, is_leaf, size, IsBodyOf}
 use Rattle.dc_node.specs.Summary.{IsSummary, aggs, joined, row_count}

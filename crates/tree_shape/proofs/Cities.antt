@@ -7,7 +7,7 @@ use Rattle.std.proofs.lemmas.List.Sorted.{IsPermutation-refl}
 use Rattle.dim_hierarchy.specs.Tree.{IsConcept, is_under, way_up}
 use Rattle.dim_hierarchy.specs.Dimension.{tree}
 use Rattle.dim_hierarchy.specs.Filter.{IsPickOf, pick_at}
-use Rattle.describing_set.specs.DescSet.{GrowsBy}
+use Rattle.describing_set.specs.Sets.{GrowsBy}
 use Rattle.dc_node.specs.declared.block.Block.{Block}
 use Rattle.dc_node.specs.declared.todo.Item.{Item}
 use Rattle.cell_stock.specs.Stock.{PurseValue}

@@ -20,7 +20,8 @@ use Rattle.dim_hierarchy.proofs.Ancestors.{up-self}
 use Rattle.dim_hierarchy.proofs.Growth.{IsDimension-new_dimension, IsDimension-with_concept, IsHierarchy-push}
 use Rattle.dim_hierarchy.proofs.Names.{get-insert_other}
 use Rattle.describing_set.specs.Ascending.{with_id}
-use Rattle.describing_set.specs.DescSet.{GrowsBy, IsDescSetOf, IsSetOf, column, part_at}
+use Rattle.describing_set.specs.Sets.{GrowsBy, IsDescSetOf}
+use Rattle.describing_set.specs.DescSet.{IsSetOf, column, part_at}
 use Rattle.describing_set.specs.Part.{ancestors, part, part_from, part_of}
 use Rattle.describing_set.specs.declared.set.DescSet.{DescSet}
 use Rattle.describing_set.proofs.Parts.{deepest, part_from-few}

@@ -8,7 +8,8 @@ use Rattle.dim_hierarchy.specs.Tree.{climb, up}
 use Rattle.dim_hierarchy.specs.Dimension.{tree}
 use Rattle.dim_hierarchy.proofs.Ancestors.{up-self}
 use Rattle.dim_hierarchy.specs.Row.{IsCoordOf}
-use Rattle.describing_set.specs.DescSet.{GrowsBy, IsDescSetOf, IsSetOf, part_at}
+use Rattle.describing_set.specs.Sets.{GrowsBy, IsDescSetOf}
+use Rattle.describing_set.specs.DescSet.{IsSetOf, part_at}
 use Rattle.describing_set.specs.declared.set.DescSet.{DescSet}
 use Rattle.hierarchy_split.specs.Order.{AreEqual}
 use Rattle.hierarchy_split.specs.Cut.{IsCutLevel, leasts, lifted}

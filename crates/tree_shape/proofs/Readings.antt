@@ -10,7 +10,7 @@ use Rattle.dim_hierarchy.specs.declared.filter.Pick.{Pick}
 use Rattle.dim_hierarchy.proofs.Matching.{matches-Matches}
 use Rattle.measure_agg.specs.Aggregate.{agg, join}
 use Rattle.measure_agg.proofs.AggLaws.{agg-append, join_commutative}
-use Rattle.describing_set.specs.DescSet.{IsDescSetOf, Covers}
+use Rattle.describing_set.specs.Sets.{IsDescSetOf, Covers}
 use Rattle.describing_set.specs.Filter.{is_inside, overlaps}
 use Rattle.describing_set.proofs.Covering.{IsSetOf-Covers}
 use Rattle.describing_set.proofs.Filters.{is_inside-IsInside, inside_matches, overlaps-Overlaps, matched_overlaps}

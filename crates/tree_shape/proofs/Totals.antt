@@ -9,7 +9,8 @@ use Rattle.dim_hierarchy.specs.Row.{IsRowOf}
 use Rattle.dim_hierarchy.specs.declared.row.Coord.{Coord}
 use Rattle.measure_agg.specs.Aggregate.{agg, join, Aggregate}
 use Rattle.measure_agg.proofs.AggLaws.{agg-append, agg-IsPermutation}
-use Rattle.describing_set.specs.DescSet.{IsSetOf, IsDescSetOf, AreAmong}
+use Rattle.describing_set.specs.DescSet.{IsSetOf}
+use Rattle.describing_set.specs.Sets.{IsDescSetOf, AreAmong}
 use Rattle.describing_set.specs.declared.set.DescSet.{DescSet}
 use Rattle.describing_set.proofs.Laws.{IsSetOf-same}
 use Rattle.dc_node.specs.Block.{rows_in, entries_in, is_leaf, IsBodyOf}

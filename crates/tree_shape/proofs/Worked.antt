@@ -6,7 +6,8 @@ use Rattle.std.proofs.lemmas.List.Elements.{All-nil, All-cons}
 use Rattle.dim_hierarchy.specs.Dimension.{Dimension}
 use Rattle.dim_hierarchy.specs.declared.row.Coord.{Coord}
 use Rattle.measure_agg.specs.Aggregate.{one}
-use Rattle.describing_set.specs.DescSet.{IsSetOf, GrowsBy}
+use Rattle.describing_set.specs.DescSet.{IsSetOf}
+use Rattle.describing_set.specs.Sets.{GrowsBy}
 use Rattle.describing_set.specs.declared.set.DescSet.{DescSet}
 use Rattle.hierarchy_split.specs.Cut.{leasts, lifted}
 use Rattle.hierarchy_split.specs.Order.{AreEqual, least}

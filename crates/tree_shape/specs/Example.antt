@@ -6,7 +6,8 @@ use Rattle.dim_hierarchy.specs.declared.row.Row.{Row}
 use Rattle.dim_hierarchy.specs.declared.row.Coord.{Coord}
 use Rattle.dim_hierarchy.specs.Row.{IsRowOf}
 use Rattle.measure_agg.specs.Aggregate.{Aggregate, agg, join, one}
-use Rattle.describing_set.specs.DescSet.{IsSetOf, IsDescSetOf, GrowsBy}
+use Rattle.describing_set.specs.DescSet.{IsSetOf}
+use Rattle.describing_set.specs.Sets.{IsDescSetOf, GrowsBy}
 use Rattle.describing_set.specs.declared.set.DescSet.{DescSet}
 use Rattle.dim_hierarchy.specs.declared.filter.Pick.{Pick}
 use Rattle.shard_store.specs.Gate.{root_entry, IsQueueOf}

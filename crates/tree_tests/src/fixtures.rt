@@ -2,7 +2,7 @@
 ghost use Rattle.std.specs.Prelude.{◌≡◌, ◌+◌, length, All, IfOk, OnOk};
 ghost use Rattle.dim_hierarchy.specs.Filter.{IsFilterOf, IsNamePick};
 ghost use Rattle.dim_hierarchy.specs.Row.{IsCoordOf, IsRowOf};
-ghost use Rattle.describing_set.specs.DescSet.{IsDescSetOf};
+ghost use Rattle.describing_set.specs.Sets.{IsDescSetOf};
 
 use describing_set::DescSet;
 use dim_hierarchy::{

@@ -1,6 +1,6 @@
 //! What is tested of `describing_set`.
 ghost use Rattle.std.specs.Prelude.{◌≡◌, length, IfOk};
-ghost use Rattle.describing_set.specs.DescSet.{IsDescSetOf};
+ghost use Rattle.describing_set.specs.Sets.{IsDescSetOf};
 
 use crate::fixtures::{Dim, coord, filter, hierarchy, one_set};
 use describing_set::{Bearing, DescSet, FewConcepts, goes_left, plane_of};

@@ -5,7 +5,8 @@ use Rattle.std.specs.List.{list_any}
 use Rattle.std.proofs.lemmas.Bool.{and_parts, eq-eqb, eqb-true, false≢true, or_cases, or_right}
 use Rattle.std.proofs.lemmas.List.Folds.{list_any-append}
 use Rattle.row_ledger.specs.Right.{EachEvent, Site, Stands}
-use Rattle.row_ledger.specs.Shards.{Place, children, frontier, ids_made, is_of, is_on, left_at, place, worker_of}
+use Rattle.row_ledger.specs.Shards.{Place, children, frontier, ids_made, is_of, place, worker_of}
+use Rattle.row_ledger.specs.Workers.{is_on, left_at}
 use Rattle.row_ledger.specs.declared.event.Event.{Event}
 use Rattle.row_ledger.specs.declared.event.Event.TheVariants.{Moved, Split}
 use Rattle.row_ledger.proofs.Descent.{live-made}

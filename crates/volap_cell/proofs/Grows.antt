@@ -9,7 +9,8 @@ use Rattle.describing_set.specs.declared.listing.Spot.{Spot}
 use Rattle.row_ledger.specs.declared.event.Event.{Event}
 use Rattle.row_ledger.specs.Past.{Insert, Query, event_at, insert_at, insert_in, query_at, query_in, call_at, call_in}
 use Rattle.row_ledger.specs.declared.settings.Call.{Call}
-use Rattle.row_ledger.specs.Shards.{Place, is_of, is_live, is_on, comes_from}
+use Rattle.row_ledger.specs.Shards.{Place, is_of, is_live, comes_from}
+use Rattle.row_ledger.specs.Workers.{is_on}
 use Rattle.row_ledger.specs.Bounds.{may}
 use Rattle.row_ledger.specs.Changes.{ShardsStay}
 use Rattle.row_ledger.specs.Listings.{IsBox}

@@ -9,7 +9,8 @@ use Rattle.dim_hierarchy.specs.Row.{IsRowOf}
 use Rattle.row_ledger.specs.declared.event.Event.{Event}
 use Rattle.row_ledger.specs.declared.event.Event.TheVariants.{Acked, Answered, Failed, Split, Moved, Left, Shown, Ended}
 use Rattle.row_ledger.specs.Past.{Insert, Query, event_at, insert_in, query_in, session_in, number_in, ends_itself, is_end_of, has_ended, is_work_of, page_in, has_page, since, is_pull_of}
-use Rattle.row_ledger.specs.Right.{KeepsRight, has_pulled}
+use Rattle.row_ledger.specs.Kept.{KeepsRight}
+use Rattle.row_ledger.specs.Right.{has_pulled}
 use Rattle.row_ledger.specs.Shards.{is_live}
 use Rattle.row_ledger.specs.Work.{is_known}
 use Rattle.row_ledger.proofs.Fresh.{kind-within}

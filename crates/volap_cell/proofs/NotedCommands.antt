@@ -9,7 +9,7 @@ use Rattle.dim_hierarchy.specs.Row.{IsRowOf}
 use Rattle.row_ledger.specs.declared.event.Event.{Event}
 use Rattle.row_ledger.specs.declared.event.Event.TheVariants.{Begun, Acked, Asked, Answered, Unknown, Failed, Refused, Called, Ended}
 use Rattle.row_ledger.specs.Past.{Insert, Query, event_at, insert_in, query_in, session_in, number_in, end_in, ends_itself, is_end_of, has_ended, has_page, work}
-use Rattle.row_ledger.specs.Right.{KeepsRight}
+use Rattle.row_ledger.specs.Kept.{KeepsRight}
 use Rattle.row_ledger.proofs.Fresh.{fresh-newest, pageless, workless}
 use Rattle.row_ledger.proofs.Positions.{event_at-here}
 use Rattle.volap_cell.specs.Setting.{Setting, site_in}

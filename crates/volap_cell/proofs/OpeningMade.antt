@@ -15,7 +15,7 @@ use Rattle.mapping_table.specs.declared.place.Where.TheVariants as where_is
 use Rattle.row_ledger.specs.Bounds.{listing_of}
 use Rattle.row_ledger.specs.LedgerValue.{LedgerValue}
 use Rattle.row_ledger.specs.Listings.{IsFirstListing}
-use Rattle.row_ledger.specs.Right.{IsOpeningHistory}
+use Rattle.row_ledger.specs.Kept.{IsOpeningHistory}
 use Rattle.row_ledger.specs.declared.event.Event.{Event}
 use Rattle.row_ledger.specs.declared.event.Event.TheVariants.{Synced}
 use Rattle.row_ledger.proofs.Growth.{IsOpeningHistory-nil, IsOpeningHistory-pull}

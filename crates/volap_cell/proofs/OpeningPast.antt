@@ -10,7 +10,8 @@ use Rattle.row_ledger.specs.declared.event.Event.TheVariants.{Synced}
 use Rattle.row_ledger.specs.Bounds.{known, listing_of, own, passed, published}
 use Rattle.row_ledger.specs.Listings.{IsFirstListing}
 use Rattle.row_ledger.specs.Past.{acked, event_at, insert_at, insert_in, query_at, query_in, session_in}
-use Rattle.row_ledger.specs.Right.{IsFirstPull, IsOpeningHistory}
+use Rattle.row_ledger.specs.Right.{IsFirstPull}
+use Rattle.row_ledger.specs.Kept.{IsOpeningHistory}
 use Rattle.row_ledger.specs.Shards.{Place, place, is_of, comes_from, first_places, frontier, ids_made}
 use Rattle.row_ledger.specs.Site.{Site}
 

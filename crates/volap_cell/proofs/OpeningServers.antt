@@ -17,7 +17,8 @@ use Rattle.query_router.specs.Desk.{is_open}
 use Rattle.row_ledger.specs.Bounds.{known, listing_of, may, published}
 use Rattle.row_ledger.specs.Listings.{IsBox, places_of}
 use Rattle.row_ledger.specs.Past.{Ack, acked, last_of}
-use Rattle.row_ledger.specs.Shards.{Place, place, comes_from, first_places, frontier, ids_made, is_live, is_of, is_on}
+use Rattle.row_ledger.specs.Shards.{Place, place, comes_from, first_places, frontier, ids_made, is_live, is_of}
+use Rattle.row_ledger.specs.Workers.{is_on}
 use Rattle.server_image.specs.Registry.{RegistryValue, IsFirstSpot}
 use Rattle.shard_store.specs.declared.gate.Phase.TheVariants.{Gone}
 use Rattle.volap_cell.specs.Ghost.{Ghost}

@@ -8,7 +8,7 @@ use Rattle.mapping_table.specs.declared.place.Where.TheVariants as where_is
 use Rattle.query_router.specs.Desk.{DeskValue}
 use Rattle.row_ledger.specs.Bounds.{listing_of}
 use Rattle.row_ledger.specs.Listings.{IsFirstListing}
-use Rattle.row_ledger.specs.Right.{IsOpeningHistory}
+use Rattle.row_ledger.specs.Kept.{IsOpeningHistory}
 use Rattle.row_ledger.specs.declared.event.Event.{Event}
 use Rattle.server_image.specs.Image.{ImageValue}
 use Rattle.shard_store.specs.declared.gate.Phase.{Phase}

@@ -3,7 +3,8 @@ use Rattle.std.proofs.Common.{◌≡◌, ℕ, List, [], ◌∷◌, Bool, true, f
 use Rattle.std.specs.List.{list_any}
 use Rattle.std.proofs.lemmas.Bool.{eq-eqb}
 use Rattle.tree_shape.proofs.Walks.{eqb-self, eqb-no}
-use Rattle.row_ledger.specs.Shards.{Place, frontier, is_live, is_of, is_on}
+use Rattle.row_ledger.specs.Shards.{Place, frontier, is_live, is_of}
+use Rattle.row_ledger.specs.Workers.{is_on}
 use Rattle.volap_cell.specs.Ghost.{Ghost}
 use Rattle.volap_cell.specs.Invariant.{InvWith}
 use Rattle.volap_cell.specs.Promises.{Standing, IsInOne, IsInNone}

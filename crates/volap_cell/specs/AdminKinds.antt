@@ -8,7 +8,8 @@ use Rattle.dc_node.specs.Block.{rows_in}
 use Rattle.dc_node.specs.Summary.{coords}
 use Rattle.dc_node.specs.declared.block.Block.{Block}
 use Rattle.dc_node.specs.declared.todo.Item.{Item}
-use Rattle.describing_set.specs.DescSet.{IsSetOf, JoinsTo}
+use Rattle.describing_set.specs.DescSet.{IsSetOf}
+use Rattle.describing_set.specs.Sets.{JoinsTo}
 use Rattle.describing_set.specs.Plane.{IsPlaneOf, goes_left}
 use Rattle.describing_set.specs.declared.plane.Plane.{Plane}
 use Rattle.describing_set.specs.declared.set.DescSet.{DescSet}

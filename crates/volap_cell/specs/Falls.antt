@@ -9,7 +9,8 @@ use Rattle.query_router.specs.declared.part.PartState.{PartState}
 use Rattle.query_router.specs.declared.part.PartState.TheVariants as state
 use Rattle.query_router.specs.declared.part.Want.TheVariants as want
 use Rattle.row_ledger.specs.Past.{is_beginning}
-use Rattle.row_ledger.specs.Shards.{comes_from, left_at}
+use Rattle.row_ledger.specs.Shards.{comes_from}
+use Rattle.row_ledger.specs.Workers.{left_at}
 use Rattle.row_ledger.specs.declared.event.Event.{Event}
 use Rattle.row_ledger.specs.declared.event.Event.TheVariants as event
 use Rattle.shard_plan.specs.declared.action.Action.{Action}

@@ -10,7 +10,7 @@ use Rattle.mapping_table.specs.declared.place.Where.{Where}
 use Rattle.mapping_table.specs.declared.place.Where.TheVariants as where_is
 use Rattle.row_ledger.specs.Bounds.{listing_of}
 use Rattle.row_ledger.specs.LedgerValue.{LedgerValue}
-use Rattle.row_ledger.specs.Right.{IsOpeningHistory}
+use Rattle.row_ledger.specs.Kept.{IsOpeningHistory}
 use Rattle.server_image.specs.Registry.{RegistryValue, IsNewRegistry}
 use Rattle.shard_store.specs.Gate.{IsNewGate}
 use Rattle.shard_store.specs.declared.gate.Gate.{Gate}

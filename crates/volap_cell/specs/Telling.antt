@@ -4,7 +4,8 @@ use Rattle.dim_hierarchy.specs.Filter.{IsFilterOf}
 use Rattle.dim_hierarchy.specs.Row.{IsRowOf}
 use Rattle.shard_plan.specs.declared.action.Action.TheVariants as action
 use Rattle.row_ledger.specs.Past.{Insert, Query, before, event_at, insert_at, query_at, call_at, has_ended, has_page, is_over, session_in, work}
-use Rattle.row_ledger.specs.Right.{KeepsRight, has_pulled}
+use Rattle.row_ledger.specs.Kept.{KeepsRight}
+use Rattle.row_ledger.specs.Right.{has_pulled}
 use Rattle.row_ledger.specs.Shards.{is_live}
 use Rattle.row_ledger.specs.Work.{is_known}
 use Rattle.row_ledger.specs.declared.event.Event.{Event}

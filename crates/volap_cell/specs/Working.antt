@@ -10,7 +10,8 @@ use Rattle.cell_stock.specs.declared.purse.Spare.{Spare}
 use Rattle.link_descent.specs.declared.entered.Fresh.{Fresh}
 use Rattle.row_ledger.specs.Past.{Ack, Insert, acked, before, insert_at, work, Step}
 use Rattle.row_ledger.specs.Bounds.{may}
-use Rattle.row_ledger.specs.Shards.{Place, comes_from, frontier, is_live, is_on, place}
+use Rattle.row_ledger.specs.Shards.{Place, comes_from, frontier, is_live, place}
+use Rattle.row_ledger.specs.Workers.{is_on}
 use Rattle.row_ledger.specs.Work.{AreReadOf, IsCause, Reading, Settles, loads as loads_of, is_done}
 use Rattle.row_ledger.specs.declared.event.Event.{Event}
 use Rattle.row_ledger.specs.declared.settings.Decline.{Decline}

@@ -13,7 +13,8 @@ use Rattle.dim_hierarchy.specs.declared.hierarchy.ConceptFault.TheVariants as co
 use Rattle.row_ledger.specs.declared.settings.Use.{Use}
 use Rattle.script_form.specs.Causes.{cause_at, parent_of}
 use Rattle.script_form.specs.Fields.{Record, is_name, is_star}
-use Rattle.script_form.specs.Scripts.{after, with_named}
+use Rattle.script_form.specs.Reading.{after}
+use Rattle.script_form.specs.Scripts.{with_named}
 use Rattle.script_form.specs.declared.script.Script.{Script}
 use Rattle.script_form.proofs.Standing.{Fine, afters, concept_after, concept_fine}
 use Rattle.volap_gen.proofs.Growing.{IsFilled, StandsAt, concept_is, grown, is_new}

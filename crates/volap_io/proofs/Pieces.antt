@@ -5,7 +5,7 @@ use Rattle.std.proofs.Math.Seq.{take-add}
 use Rattle.std.proofs.lemmas.Grind.{common_steps}
 use Rattle.std.proofs.lemmas.List.{take_all, drop-drop}
 use Rattle.std.specs.Io.KnownBytes.{Appends, Consumes}
-use Rattle.volap_io.specs.Source.{Gave}
+use Rattle.volap_io.specs.Causes.{Gave}
 
 -- a list's first bytes, copied to the front of a buffer, and then the rest of the list
 front-copied : (left rest : List ℕ) (n : ℕ) → n ≤ length left → take n (take n left ++ rest) ++ drop n left ≡ left

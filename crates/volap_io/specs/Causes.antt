@@ -1,5 +1,6 @@
--- What a count of faults says of an answer.
-use Rattle.std.specs.Prelude.{ℕ, ◌+◌, ◌-◌, ◌^◌, ◌≤◌, min, Result, OnErr}
+-- When a count of faults rose, and what a source gave over many reads.
+use Rattle.std.specs.Prelude.{ℕ, ◌+◌, ◌-◌, ◌^◌, ◌≤◌, min, List, Option, length}
+use Rattle.std.specs.Io.KnownBytes.{Consumes}
 
 -- one more, in a count of 64 bits that stays at its last value
 abbrev pub one_more : ℕ → ℕ
@@ -9,7 +10,6 @@ one_more count = min (count + 1) (2 ^ 64 - 1)
 abbrev pub Rose : ℕ → ℕ → Type 0
 Rose before now = one_more before ≤ now
 
--- the count has not fallen, and an error comes only where it rose
-pub record HasCause {T E : Type 0} (before now : ℕ) (result : Result T E) : Type 0 where
-  pub later : before ≤ now
-  pub failed : OnErr result (Rose before now)
+-- bytes came, and P holds of how many
+abbrev pub Gave : Option (List ℕ) → Option (List ℕ) → (ℕ → Type 0) → Type 0
+Gave before now P = (bytes : List ℕ) × Consumes before now bytes × P (length bytes)

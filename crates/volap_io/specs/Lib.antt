@@ -1,3 +1,3 @@
 pub mod Causes
+pub mod Failing
 pub mod Memory
-pub mod Source

@@ -2,7 +2,8 @@
 ghost use Rattle.std.specs.Prelude.{◌≡◌, ◌+◌, ◌-◌, ◌<◌, ◌≤◌, ◌↔◌, ◌++◌, [], min, take, drop, length, vec_len, Some, IfOk, IsErr, OnErr};
 ghost use Rattle.std.specs.Io.{ReadsAtMost, WritesAtMost};
 ghost use Rattle.std.specs.Io.KnownBytes.{ReadConsumes, WriteAppends};
-ghost use Rattle.volap_io.specs.Causes.{HasCause, one_more};
+ghost use Rattle.volap_io.specs.Failing.{HasCause};
+ghost use Rattle.volap_io.specs.Causes.{one_more};
 ghost use Rattle.volap_io.specs.Memory.{ReadFails, WriteFails};
 
 use crate::{Failed, Sink, Source};

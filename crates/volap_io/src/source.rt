@@ -2,8 +2,8 @@
 ghost use Rattle.std.specs.Prelude.{◌≡◌, ◌+◌, ◌≤◌, List, ℕ, Option, vec_len, IfOk, IsErrOf};
 ghost use Rattle.std.specs.Io.{ReadsAtMost};
 ghost use Rattle.std.specs.Io.KnownBytes.{Consumes, IsAtEnd, ReadConsumes};
-ghost use Rattle.volap_io.specs.Causes.{HasCause, Rose};
-ghost use Rattle.volap_io.specs.Source.{Gave};
+ghost use Rattle.volap_io.specs.Failing.{HasCause};
+ghost use Rattle.volap_io.specs.Causes.{Rose, Gave};
 
 use crate::Failed;
 use std::alloc::{AllocError, Global};

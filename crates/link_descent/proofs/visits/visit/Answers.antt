@@ -1,5 +1,5 @@
 use Rattle.std.proofs.lemmas.List.Elements.{All-same}
-use Rattle.describing_set.specs.DescSet.{IsDescSetOf}
+use Rattle.describing_set.specs.Sets.{IsDescSetOf}
 use Rattle.link_descent.proofs.visits.visit.Goals as goal
 
 pub visit_entries-requires-clause-sets : goal.visit_entries-requires-clause-sets

@@ -1,6 +1,5 @@
 use Rattle.std.proofs.Common.{◌≡◌, ◌∙◌, true, inl, inr, refl, sym, subst}
-use Rattle.olap_top.specs.OneRun.{goes_in_order}
-use Rattle.olap_top.specs.Outcomes.{HasGoodScript, IsSerialRun}
+use Rattle.olap_top.specs.Outcomes.{goes_in_order, HasGoodScript, IsSerialRun}
 use Rattle.olap_top.specs.declared.outcome.Status.TheVariants as status_is
 use Rattle.olap_top.specs.declared.wanted.Wanted.{Wanted}
 use Rattle.olap_top.specs.declared.wanted.Wanted.TheVariants.{Load}

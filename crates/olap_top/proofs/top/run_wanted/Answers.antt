@@ -3,8 +3,8 @@ use Rattle.std.specs.Io.KnownBytes.{Appends}
 use Rattle.std.proofs.lemmas.Bool.{false≢true}
 use Rattle.answer_text.specs.Summary.{summary}
 use Rattle.volap_io.specs.Causes.{Rose}
-use Rattle.olap_top.specs.Outcomes.{RanInto, RanTo, asked_text, tells_phases}
-use Rattle.olap_top.specs.RunSoFar.{HasLeft, history_of, tells}
+use Rattle.olap_top.specs.Outcomes.{RanInto, RanTo, asked_text}
+use Rattle.olap_top.specs.RunSoFar.{tells_phases, HasLeft, history_of, tells}
 use Rattle.olap_top.specs.declared.outcome.Status.{Status}
 use Rattle.olap_top.specs.declared.wanted.Wanted.{Wanted}
 use Rattle.olap_top.proofs.Asked.{ran-to, tells-step}

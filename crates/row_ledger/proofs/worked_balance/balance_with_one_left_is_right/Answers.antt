@@ -7,7 +7,7 @@ use Rattle.row_ledger.specs.declared.settings.Call.TheVariants.{Split, Move, Bal
 use Rattle.row_ledger.specs.declared.settings.How.TheVariants.{Fine, Balanced, Postponed}
 use Rattle.row_ledger.specs.Past.{before, begun, acked}
 use Rattle.row_ledger.specs.Work.{Reading, IsRead, IsRightBalance}
-use Rattle.row_ledger.specs.Right.{KeepsRight}
+use Rattle.row_ledger.specs.Kept.{KeepsRight}
 use Rattle.row_ledger.specs.Worked.{site}
 use Rattle.row_ledger.specs.WorkedBalance.{crowd_row, crowd, to_balance, balanced}
 use Rattle.row_ledger.proofs.Growth.{KeepsRight-begun, KeepsRight-called, KeepsRight-split, KeepsRight-moved, KeepsRight-left, KeepsRight-ended, IsRight-kept}

@@ -4,7 +4,8 @@ use Rattle.std.proofs.lemmas.List.Elements.{All-contains}
 use Rattle.dim_hierarchy.specs.declared.row.Coord.{Coord}
 use Rattle.dim_hierarchy.specs.declared.row.Row.{Row}
 use Rattle.describing_set.specs.declared.part.Part.{Part}
-use Rattle.describing_set.specs.DescSet.{part_at, IsSetOf, AreAmong}
+use Rattle.describing_set.specs.DescSet.{part_at, IsSetOf}
+use Rattle.describing_set.specs.Sets.{AreAmong}
 use Rattle.describing_set.proofs.Laws.{IsSetOf-same}
 use Rattle.row_ledger.specs.declared.settings.Call.{Call}
 use Rattle.row_ledger.specs.declared.settings.Call.TheVariants.{Split}

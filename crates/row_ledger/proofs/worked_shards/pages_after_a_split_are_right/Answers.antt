@@ -9,7 +9,7 @@ use Rattle.row_ledger.specs.declared.settings.How.TheVariants.{Fine}
 use Rattle.row_ledger.specs.Past.{Ack, acked_into, acked_rows}
 use Rattle.row_ledger.specs.Bounds.{numbers}
 use Rattle.row_ledger.specs.Pages.{leaf, none, IsPageOf, IsShownTree, AreShownShards}
-use Rattle.row_ledger.specs.Right.{KeepsRight}
+use Rattle.row_ledger.specs.Kept.{KeepsRight}
 use Rattle.row_ledger.specs.Worked.{site, row, once, one_leaf}
 use Rattle.row_ledger.specs.WorkedPulls.{both}
 use Rattle.row_ledger.specs.WorkedShards.{other, across_split, all_lines, shards_shown, audit_shown, tree_of_two, tree_shown}

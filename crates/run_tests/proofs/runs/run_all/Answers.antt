@@ -3,7 +3,8 @@ use Rattle.std.proofs.lemmas.List.{length-take-le, take-take, take_all}
 use Rattle.script_form.specs.declared.script.Command.{Command}
 use Rattle.script_run.specs.Phases.{NoneCloses}
 use Rattle.seeded_run.specs.Kept.{IsBetween}
-use Rattle.seeded_run.specs.Phase.{about, held, is_order}
+use Rattle.seeded_run.specs.Phase.{about, held}
+use Rattle.seeded_run.specs.Order.{is_order}
 use Rattle.run_tests.proofs.MayRun.{can-open, closes-behind, ends-within, may-take}
 use Rattle.run_tests.proofs.runs.run_all.Goals as goal
 

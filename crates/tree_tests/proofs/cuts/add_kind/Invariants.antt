@@ -1,5 +1,5 @@
 use Rattle.std.specs.Prelude.{All}
-use Rattle.describing_set.specs.DescSet.{IsDescSetOf}
+use Rattle.describing_set.specs.Sets.{IsDescSetOf}
 use Rattle.tree_tests.proofs.cuts.add_kind.Given as goal
 
 abbrev pub invariant-loop : goal.invariant-loop

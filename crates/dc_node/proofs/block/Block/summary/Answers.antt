@@ -1,5 +1,5 @@
 use Rattle.std.proofs.lemmas.List.Elements.{All-same}
-use Rattle.describing_set.specs.DescSet.{IsDescSetOf}
+use Rattle.describing_set.specs.Sets.{IsDescSetOf}
 use Rattle.dc_node.proofs.block.Block.summary.Goals as goal
 
 pub set_of_entries-requires : goal.set_of_entries-requires

@@ -3,7 +3,8 @@ use Rattle.std.proofs.lemmas.List.{take_all}
 use Rattle.dim_hierarchy.specs.Row.{IsCoordOf, IsRowOf}
 use Rattle.dim_hierarchy.specs.declared.row.Coord.{Coord}
 use Rattle.dim_hierarchy.specs.declared.row.Row.{Row}
-use Rattle.describing_set.specs.DescSet.{IsSetOf, GrowsBy}
+use Rattle.describing_set.specs.DescSet.{IsSetOf}
+use Rattle.describing_set.specs.Sets.{GrowsBy}
 use Rattle.dc_node.specs.Summary.{coords}
 use Rattle.dc_node.specs.Columns.{row_at, rows_of}
 use Rattle.dc_node.proofs.Rows.{length_rows, read_row, row_fact}

@@ -4,7 +4,8 @@ use Rattle.std.proofs.lemmas.List.{set-get_or}
 use Rattle.arrayvec.specs.ArrayVec.{ArrayVec}
 use Rattle.dim_hierarchy.specs.Concept.{level_of}
 use Rattle.dim_hierarchy.specs.Dimension.{tree}
-use Rattle.describing_set.specs.Part.{part, IsPart, GrowsPart}
+use Rattle.describing_set.specs.Part.{part}
+use Rattle.describing_set.specs.Parts.{IsPart, GrowsPart}
 use Rattle.describing_set.specs.declared.part.Part.{Part}
 use Rattle.describing_set.proofs.Filled.{AreFilled-set, used-read}
 use Rattle.describing_set.proofs.part_list.PartList.add.Goals as goal

@@ -3,7 +3,8 @@ use Rattle.dim_hierarchy.specs.Dimension.{Dimension, tree}
 use Rattle.dim_hierarchy.specs.Row.{concept_at, IsCoordOf}
 use Rattle.dim_hierarchy.proofs.Matching.{IsCoordOf-length}
 use Rattle.describing_set.specs.Part.{has_ancestor}
-use Rattle.describing_set.specs.DescSet.{part_at, Covers, covers}
+use Rattle.describing_set.specs.DescSet.{part_at, covers}
+use Rattle.describing_set.specs.Sets.{Covers}
 use Rattle.describing_set.proofs.Covering.{in_each-from, in_each-fails, test_read, means, covers-Covers, IsSetOf-Covers}
 use Rattle.describing_set.proofs.set.DescSet.covers.Goals as goal
 

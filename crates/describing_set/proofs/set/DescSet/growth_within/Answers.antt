@@ -1,5 +1,5 @@
 use Rattle.std.proofs.Common.{length, false, true, arith}
-use Rattle.describing_set.specs.DescSet.{growth_at}
+use Rattle.describing_set.specs.Sets.{growth_at}
 use Rattle.describing_set.proofs.Covering.{IsSumBelow-next, IsSumBelow-beyond, growth_read}
 use Rattle.describing_set.proofs.set.DescSet.growth_within.Goals as goal
 use Rattle.describing_set.proofs.set.DescSet.growth_within.Goals.{then-not-covers+else-growth-most, else-not-covers}

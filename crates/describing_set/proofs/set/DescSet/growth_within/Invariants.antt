@@ -1,5 +1,5 @@
 use Rattle.std.proofs.Common.{◌≤◌}
-use Rattle.describing_set.specs.DescSet.{growth_at}
+use Rattle.describing_set.specs.Sets.{growth_at}
 use Rattle.describing_set.proofs.Covering.{IsSumBelow}
 use Rattle.describing_set.proofs.set.DescSet.growth_within.Given as goal
 

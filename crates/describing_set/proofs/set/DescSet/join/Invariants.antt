@@ -1,6 +1,7 @@
 use Rattle.std.proofs.Common.{ℕ, ◌≡◌, ◌<◌, [], length, get_or}
 use Rattle.dim_hierarchy.specs.Dimension.{tree}
-use Rattle.describing_set.specs.Part.{part, JoinsParts}
+use Rattle.describing_set.specs.Part.{part}
+use Rattle.describing_set.specs.Parts.{JoinsParts}
 use Rattle.describing_set.specs.DescSet.{part_at}
 use Rattle.describing_set.proofs.set.DescSet.join.Given as goal
 

@@ -1,5 +1,5 @@
 use Rattle.std.proofs.Common.{◌≤◌, ◌*◌}
-use Rattle.describing_set.specs.DescSet.{size_at}
+use Rattle.describing_set.specs.Sets.{size_at}
 use Rattle.describing_set.proofs.Covering.{IsSumBelow}
 use Rattle.describing_set.proofs.set.DescSet.size.Given as goal
 

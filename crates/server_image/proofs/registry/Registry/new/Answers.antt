@@ -3,8 +3,8 @@ use Rattle.std.specs.List.{range_with_len}
 use Rattle.std.proofs.lemmas.List.{length-map}
 use Rattle.std.proofs.lemmas.List.Elements.{All-push}
 use Rattle.std.proofs.lemmas.List.FromFn.{length-range_with_len}
-use Rattle.describing_set.specs.Ascending.{Ascends}
-use Rattle.describing_set.specs.DescSet.{IsDescSetOf}
+use Rattle.describing_set.specs.Sorted.{Ascends}
+use Rattle.describing_set.specs.Sets.{IsDescSetOf}
 use Rattle.describing_set.specs.declared.listing.Spot.{Spot}
 use Rattle.server_image.specs.Registry.{IsFirstSpot}
 use Rattle.server_image.proofs.Boxes.{first-ids, range-Ascends, range-more, AllZip-snoc}

@@ -3,7 +3,7 @@ use Rattle.std.specs.Prelude.{◌==◌, IsTrue}
 use Rattle.std.proofs.lemmas.List.{length-set}
 use Rattle.std.proofs.lemmas.Option.{slice_get-get_or}
 use Rattle.std.proofs.Math.Seq.{map-set_same}
-use Rattle.describing_set.specs.Ascending.{Ascends}
+use Rattle.describing_set.specs.Sorted.{Ascends}
 use Rattle.describing_set.specs.declared.listing.Spot.{Spot}
 use Rattle.server_image.specs.Spots.{has_spot, place_of}
 use Rattle.server_image.specs.Registry.{RegistryValue, IsRehosted, on_frontier}

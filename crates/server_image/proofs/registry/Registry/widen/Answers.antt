@@ -1,5 +1,5 @@
 use Rattle.std.proofs.Common.{◌∷◌, [], subst, sym, arith}
-use Rattle.describing_set.specs.Ascending.{Ascends}
+use Rattle.describing_set.specs.Sorted.{Ascends}
 use Rattle.server_image.proofs.Boxes.{Widens-ids, Widens-length}
 use Rattle.server_image.proofs.registry.Registry.widen.Goals as goal
 

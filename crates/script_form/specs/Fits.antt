@@ -1,0 +1,32 @@
+-- Settings in their ranges, and commands that fit their script.
+use Rattle.std.specs.Prelude.{ℕ, ◌≡◌, ◌<◌, ◌≤◌, ⊤, length, All}
+use Rattle.dim_hierarchy.specs.Filter.{IsNamePick}
+use Rattle.row_ledger.specs.declared.settings.Use.{Use}
+use Rattle.row_ledger.specs.declared.settings.Call.{Call}
+use Rattle.row_ledger.specs.declared.settings.Call.TheVariants as call
+use Rattle.script_form.specs.Limits.{most_servers, most_workers, most_threads, fewest_cells, most_cells, shard_ids, worker_ids, most_actions}
+use Rattle.script_form.specs.declared.script.Command.{Command}
+use Rattle.script_form.specs.declared.script.Command.TheVariants as command
+use Rattle.script_form.specs.declared.script.Script.{Script}
+
+-- settings in their ranges
+pub record AreSettings (with : Use) : Type 0 where
+  pub servers : (1 ≤ with.servers) × (with.servers ≤ most_servers)
+  pub workers : (1 ≤ with.workers) × (with.workers ≤ most_workers)
+  pub threads : (1 ≤ with.threads) × (with.threads ≤ most_threads)
+  pub cells : (fewest_cells ≤ with.cells) × (with.cells ≤ most_cells)
+
+-- the numbers of a call are in their ranges, where there are so many servers
+abbrev pub IsInRange : ℕ → Call → Type 0
+IsInRange servers (call.Sync server) = server < servers
+IsInRange servers (call.Split shard) = shard < shard_ids
+IsInRange servers (call.Move shard worker) = (shard < shard_ids) × (worker < worker_ids)
+IsInRange servers (call.Balance most) = (1 ≤ most) × (most ≤ most_actions)
+IsInRange servers (call.Tree shard) = shard < shard_ids
+IsInRange servers other = ⊤
+
+-- a command of a server of the script, with a name or a pick for each dimension and its numbers in their ranges
+abbrev pub Fits : Script → Command → Type 0
+Fits s (command.Insert row) = (row.server < s.with.servers) × (length row.names ≡ length s.hierarchy)
+Fits s (command.Query question) = (question.server < s.with.servers) × (length question.filter ≡ length s.hierarchy) × All IsNamePick question.filter
+Fits s (command.Control call) = IsInRange s.with.servers call

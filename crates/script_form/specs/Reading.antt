@@ -1,0 +1,43 @@
+-- What contracts say of a record that is read behind others.
+use Rattle.std.specs.Prelude.{ℕ, ◌≡◌, ◌<◌, true, false, ⊤, Option, Some, None, length, ◌++◌}
+use Rattle.std.specs.Option.{option_to_list}
+use Rattle.script_form.specs.Fields.{Record, field}
+use Rattle.script_form.specs.Kinds.{kind_of, width}
+use Rattle.script_form.specs.declared.kind.Kind.{Kind}
+use Rattle.script_form.specs.declared.script.Cause.{Cause}
+use Rattle.script_form.specs.declared.script.Script.{Script}
+use Rattle.script_form.specs.declared.record.RecordFault.{RecordFault}
+use Rattle.script_form.specs.declared.record.RecordFault.TheVariants as fault
+use Rattle.script_form.specs.Causes.{is_version, wrong_order, wrong_number, wrong_name, hierarchy_cause, cause_at}
+use Rattle.script_form.specs.Scripts.{settings_with, hierarchy_with, command_of}
+
+-- a record of this kind has the fields of its kind
+pub record HasForm (before : Script) (k : Kind) (r : Record) : Type 0 where
+  pub kind : kind_of (field r 0) ≡ Some k
+  pub fields : length r ≡ width k (length before.hierarchy)
+  pub number : wrong_number before.with.servers k r ≡ false
+  pub name : wrong_name k r ≡ false
+  pub servers : before.with.servers < 256
+
+-- and nothing but the hierarchy can stand against it
+pub record MayStand (place : ℕ) (before : Script) (k : Kind) (r : Record) : Type 0 where
+  pub form : HasForm before k r
+  pub version : place ≡ 0 → is_version r ≡ true
+  pub order : wrong_order place before k ≡ false
+  pub cause : cause_at place before r ≡ hierarchy_cause before.hierarchy k r
+
+-- want of memory, or this cause
+abbrev pub TellsCause : Option Cause → RecordFault → Type 0
+TellsCause cause (fault.Bad told) = cause ≡ Some told
+TellsCause cause fault.NoMemory = ⊤
+
+-- the script of the records before it, after one more
+abbrev pub after : Script → Record → Script
+after s r = record { with = settings_with (kind_of (field r 0)) s.with r; hierarchy = hierarchy_with (kind_of (field r 0)) s.hierarchy r; commands = s.commands ++ option_to_list (command_of r) }
+
+-- a record that nothing stands against, with the script of those before it and with its own
+pub record IsTaken (place : ℕ) (before new : Script) (r : Record) : Type 0 where
+  pub kind : Kind
+  pub stands : MayStand place before kind r
+  pub fine : hierarchy_cause before.hierarchy kind r ≡ None
+  pub script : new ≡ after before r
