@@ -14,5 +14,6 @@ pub mod Laws
 pub mod LedgerValue
 pub mod Worked
 pub mod WorkedPulls
+pub mod WorkedScript
 pub mod WorkedShards
 pub mod WorkedBalance

@@ -11,6 +11,7 @@ pub mod settled;
 pub mod worked;
 pub mod worked_balance;
 pub mod worked_pulls;
+pub mod worked_script;
 pub mod worked_shards;
 
 pub use event::Event;
