@@ -1,6 +1,7 @@
 pub mod Lists
 pub mod Counts
 pub mod Sizes
+pub mod Levels
 pub mod LeavesFirst
 pub mod Steps
 pub mod Summed

@@ -1,16 +1,18 @@
 -- A built tree.
-use Rattle.std.specs.Prelude.{ℕ, ◌≡◌, ◌≤◌, List, ◌∷◌, length, map, Contains, IsPermutation}
+use Rattle.std.specs.Prelude.{ℕ, ◌≡◌, ◌≤◌, List, [], ◌∷◌, length, map, take, drop, Contains, IsPermutation, ⊤}
+use Rattle.std.specs.List.{AllZip}
 use Rattle.std.specs.List.Sorted.{IsSortedBy}
 use Rattle.dim_hierarchy.specs.declared.row.Row.{Row}
 use Rattle.dim_hierarchy.specs.Dimension.{Dimension}
 use Rattle.dc_node.specs.declared.entry.Entry.{Entry}
 use Rattle.cell_stock.specs.Stock.{PurseValue}
+use Rattle.link_descent.specs.declared.entered.Fresh.{Fresh}
 use Rattle.shard_store.specs.Gate.{root_entry}
-use Rattle.shard_plan.specs.Building.{cells_for, leaves_for, levels_for}
+use Rattle.shard_plan.specs.Building.{cells_for, leaves_for, levels_for, levels_of}
 use Rattle.tree_shape.specs.Counts.{times}
 use Rattle.tree_shape.specs.Shape.{Table, TreeCells, numbers}
-use Rattle.tree_shape.specs.Forest.{AfterBuilding, AreInCells, AreRowsOf, all_rows, filled_cells}
-use Rattle.shard_build.specs.Building.{AreAlone, AreLeavesFirst, AreLed, AreSmall, UsesUp, comes_before, spare_of, spare_to}
+use Rattle.tree_shape.specs.Forest.{AfterBuilding, AreInCells, AreRowsOf, all_entries, all_rows, filled_cells}
+use Rattle.shard_build.specs.Building.{AreAlone, AreLeavesFirst, AreLed, AreSmall, IsEntryTo, UsesUp, comes_before, spare_of, spare_to}
 use Rattle.shard_build.specs.Sizes.{built_sizes, sizes_of}
 use Rattle.shard_build.specs.declared.builder.Built.{Built}
 
@@ -25,14 +27,23 @@ pub record IsInCells (cells : TreeCells) (b : Built) : Type 0 where
   pub root : root_entry cells.gate ≡ root_of b
   pub height : cells.gate.height ≡ b.height
 
--- A tree of rows: as many blocks and levels as the rule says, the leaves first, then the parents level by level, each block
--- with as many items as the rule says and a spare of the purse, and the rows in order in the leaves. In cells, under a gate,
--- the blocks are a tree of exactly these rows.
+-- The blocks stand in levels of these sizes, the lowest first. The entries of each level, block by block, lead in order to the
+-- blocks of the level below: one to each.
+abbrev pub AreLevels : List Dimension → List ℕ → List Fresh → Type 0
+AreLevels h [] blocks = ⊤
+AreLevels h (root ∷ []) blocks = ⊤
+AreLevels h (lower ∷ upper ∷ above) blocks =
+    AllZip (IsEntryTo h) (take lower blocks) (all_entries (take upper (drop lower blocks))) × AreLevels h (upper ∷ above) (drop lower blocks)
+
+-- A tree of rows: as many blocks and levels as the rule says, the leaves first, then the parents level by level, with their
+-- entries in the order of the blocks below, each block with as many items as the rule says and a spare of the purse, and the
+-- rows in order in the leaves. In cells, under a gate, the blocks are a tree of exactly these rows.
 pub record IsBuilt (h : List Dimension) (rows : List Row) (before now : PurseValue) (b : Built) : Type 0 where
   pub count : length b.blocks.items ≡ cells_for (length rows)
   pub height : b.height ≡ levels_for (length rows)
   pub kinds : AreLeavesFirst (leaves_for (length rows)) b.blocks.items
   pub sizes : sizes_of b.blocks.items ≡ built_sizes (length rows)
+  pub levels : AreLevels h (levels_of (length rows)) b.blocks.items
   pub uses : UsesUp b.blocks.items before now
   pub permutation : IsPermutation rows (all_rows b.blocks.items)
   pub ordered : IsSortedBy comes_before (all_rows b.blocks.items)

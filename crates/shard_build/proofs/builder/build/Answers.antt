@@ -4,15 +4,16 @@ use Rattle.std.proofs.lemmas.List.Sorted.{All-permutation}
 use Rattle.dim_hierarchy.specs.declared.row.Row.{Row}
 use Rattle.dim_hierarchy.specs.Row.{IsRowOf}
 use Rattle.link_descent.specs.declared.entered.Fresh.{Fresh}
-use Rattle.shard_plan.specs.Building.{leaf_rows, leaves_for, cells_for, levels_for}
+use Rattle.shard_plan.specs.Building.{leaf_rows, leaves_for, cells_for, levels_for, levels_of}
 use Rattle.tree_shape.specs.Forest.{all_rows}
 use Rattle.std.specs.Prelude.{Contains, IsPermutation}
 use Rattle.std.specs.List.Sorted.{IsSortedBy}
 use Rattle.shard_build.specs.Building.{AreAlone, AreLeavesFirst, AreLeavesOf, AreLed, AreParentsOf, AreSmall, IsGrown, SiteValue, UsesUp, comes_before, spare_of, spare_to}
-use Rattle.shard_build.specs.Built.{root_of}
+use Rattle.shard_build.specs.Built.{AreLevels, root_of}
 use Rattle.shard_build.specs.Sizes.{built_sizes, put_by, sizes_of}
 use Rattle.shard_build.proofs.Led.{taken-first, taken-from}
 use Rattle.shard_build.proofs.Counts.{leaves-few, cells-first, cells-next, cells-all, many, parents-count}
+use Rattle.shard_build.proofs.Levels.{levels-first, levels-next, levels-all}
 use Rattle.shard_build.proofs.Sizes.{sizes-first, sizes-next, sizes-all}
 use Rattle.shard_build.proofs.LeavesFirst.{kinds-first, kinds-next}
 use Rattle.shard_build.proofs.Grown.{leaves-grown, level-grown}
@@ -40,6 +41,7 @@ loop-init c =
       kinds = kinds-first (leaves_for c.len-n.result) blocks count leaves.kind;
       sizes = sizes-first c.level_laws.ensures.root c.level_laws.ensures.parents blocks c.len-n.result count
           (c.add_leaves.ensures.leaves.sizes ∙ ap (put_by leaf_rows (length blocks)) (sym n));
+      parents = levels-first c.level_laws.ensures.root c.level_laws.ensures.parents c.args.h.now blocks c.len-n.result count;
       boxes = omega (arith, count, few, boxes, c.add_leaves.ensures.directories, c.cells_for.ensures, c.leaves_for.ensures);
       uses = c.add_leaves.ensures.leaves.uses;
     }
@@ -70,6 +72,8 @@ loop-preserved c =
       kinds = subst (AreLeavesFirst (leaves_for c.len-n.result)) (sym w.added) (kinds-next (leaves_for c.len-n.result) blocks w.parents c.loop.invariant.kinds are.kind);
       sizes = sizes-next c.level_laws.ensures.root c.level_laws.ensures.parents blocks w.parents c.add_level.new.site.blocks level c.len-n.result more made w.sizes
           c.loop.invariant.sizes w.added;
+      parents = levels-next c.level_laws.ensures.root c.level_laws.ensures.parents h blocks w.parents c.add_level.new.site.blocks c.loop.from c.len-n.result more made are.entries
+          c.loop.invariant.parents w.added;
       boxes = omega (arith, now, w.directories, c.loop.invariant.boxes);
       uses = subst (λ (fs : List Fresh). UsesUp fs c.args.purse.now c.add_level.new.purse) (sym w.added)
           (uses-both blocks w.parents c.args.purse.now c.loop.purse c.add_level.new.purse c.loop.invariant.uses w.uses);
@@ -95,6 +99,8 @@ returns-clause-ok c =
       sizes = ap sizes_of c.finished.ensures.blocks
           ∙ sizes-all c.level_laws.ensures.root c.level_laws.ensures.parents blocks (length blocks - c.loop.from) c.len-n.result (omega (arith, all.1)) c.loop.invariant.sizes
           ∙ ap built_sizes n;
+      levels = subst (λ (k : ℕ). AreLevels h (levels_of k) b.blocks.items) n (subst (AreLevels h (levels_of c.len-n.result)) (sym c.finished.ensures.blocks)
+          (levels-all c.level_laws.ensures.root c.level_laws.ensures.parents h blocks c.loop.from c.len-n.result (omega (arith, all.1)) c.loop.invariant.parents));
       uses = subst (λ (fs : List Fresh). UsesUp fs c.args.purse.now c.loop.purse) (sym c.finished.ensures.blocks) c.loop.invariant.uses;
       permutation = subst (λ (fs : List Fresh). IsPermutation rows (all_rows fs)) (sym c.finished.ensures.blocks) (subst (IsPermutation rows) (sym g.rows_are) c.in_order-rows.ensures.permutation);
       ordered = subst (λ (fs : List Fresh). IsSortedBy comes_before (all_rows fs)) (sym c.finished.ensures.blocks) (subst (IsSortedBy comes_before) (sym g.rows_are) c.in_order-rows.ensures.sorted);
