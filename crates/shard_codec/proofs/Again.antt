@@ -19,14 +19,14 @@ use Rattle.shard_codec.proofs.Leaves.{AreLeaves, ArePlaces-of}
 
 -- Numbers.
 
-number-again : (w : Width) (len n : ℕ) (rest : List ℕ) → length (to_be_bytes w n) ≡ byte_len w → from_be_bytes w (to_be_bytes w n) ≡ n
+pub number-again : (w : Width) (len n : ℕ) (rest : List ℕ) → length (to_be_bytes w n) ≡ byte_len w → from_be_bytes w (to_be_bytes w n) ≡ n
     → number_at w len (to_be_bytes w n ++ rest) ≡ Ok (n, rest)
 unfolding number_at
 number-again w len n rest wide back =
     let long : ltb (length (to_be_bytes w n ++ rest)) (byte_len w) ≡ false = le-ltb _ _ (omega (arith, length-append (to_be_bytes w n) rest)) in
     rw (long, take_at (to_be_bytes w n) rest (byte_len w) wide, drop_at (to_be_bytes w n) rest (byte_len w) wide, back) refl
 
-u64-again : (len n : ℕ) (rest : List ℕ) → n < 2 ^ 64 → number_at w64 len (to_be_bytes w64 n ++ rest) ≡ Ok (n, rest)
+pub u64-again : (len n : ℕ) (rest : List ℕ) → n < 2 ^ 64 → number_at w64 len (to_be_bytes w64 n ++ rest) ≡ Ok (n, rest)
 u64-again len n rest fits = number-again w64 len n rest refl (from_be_bytes-to_be_bytes_8 n fits)
 
 -- The concepts of a row.
@@ -69,7 +69,7 @@ coords-again h len ids rest few count leaves =
 
 -- Rows.
 
-of_z-bound : (z : ℤ) → FitsSigned w64 z → cast_unsigned w64 z < 2 ^ 64
+pub of_z-bound : (z : ℤ) → FitsSigned w64 z → cast_unsigned w64 z < 2 ^ 64
 of_z-bound z fits = omega (arith, ints)
 
 row-again : (h : List Dimension) (len : ℕ) (row : Row) (rest : List ℕ) → IsSpelled h row → row_at h len (row_wire (length h) row ++ rest) ≡ Ok (row, rest)
@@ -128,19 +128,3 @@ decoded-again h rows spelled =
     let text = wire (length h) rows in
     let whole : all_at h (length text) text ≡ Ok (rows, []) = ap (all_at h (length text)) (sym (append-nil text)) ∙ all-again h (length text) rows [] spelled in
     bind-bind (head_at (length h) (length text) text) (λ count. rows_at h (length text) count.0 [] count.1) (ended (length text)) ∙ ap (λ r. r >>= ended (length text)) whole
-
-abbrev done : {A : Type 0} → A → Result A CodecFault
-done x = Ok x
-
-ok-same : {A : Type 0} (x y : A) → done x ≡ done y → x ≡ y
-ok-same x y same = cc
-
-pub distinct : (h : List Dimension) (xs ys : List Row) → AreSpelled h xs → AreSpelled h ys → wire (length h) xs ≡ wire (length h) ys → xs ≡ ys
-distinct h xs ys fits_xs fits_ys same = ok-same xs ys (sym (decoded-again h xs fits_xs) ∙ ap (decoded h) same ∙ decoded-again h ys fits_ys)
-
-pub no_prefix : (h : List Dimension) (xs ys : List Row) (rest : List ℕ) → AreSpelled h xs → AreSpelled h ys → wire (length h) ys ≡ wire (length h) xs ++ rest → rest ≡ []
-no_prefix h xs ys rest fits_xs fits_ys same =
-    let right : all_at h 0 (wire (length h) ys) ≡ Ok (ys, []) = ap (all_at h 0) (sym (append-nil (wire (length h) ys))) ∙ all-again h 0 ys [] fits_ys in
-    let first : List Row × List ℕ = (xs, rest) in
-    let second : List Row × List ℕ = (ys, []) in
-    ap (λ (p : List Row × List ℕ). p.1) (ok-same first second (sym (all-again h 0 xs rest fits_xs) ∙ ap (all_at h 0) (sym same) ∙ right))

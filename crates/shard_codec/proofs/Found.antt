@@ -28,6 +28,12 @@ use Rattle.shard_codec.proofs.Leaves.{AreLeaves, ArePlaces, ArePlaces-found}
 abbrev pub IsBytes : List ℕ → Type 0
 IsBytes bytes = (i : ℕ) → get_or bytes i 0 < 256
 
+pub each-byte : (bytes : List ℕ) → All (λ b. b < 256) bytes → IsBytes bytes
+each-byte bytes all i = elim (cases_lt i (length bytes)) [
+  | inl lt ↦ all i 0 lt
+  | inr past ↦ rw (get_or_past bytes i 0 past) (omega arith)
+]
+
 IsBytes-drop : (n : ℕ) (bytes : List ℕ) → IsBytes bytes → IsBytes (drop n bytes)
 IsBytes-drop n bytes small i = rw get_or-drop (small (n + i))
 

@@ -1,4 +1,5 @@
 pub mod Again
+pub mod Apart
 pub mod Found
 pub mod Leaves
 pub mod Loops

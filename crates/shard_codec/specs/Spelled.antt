@@ -1,5 +1,5 @@
--- Which rows have a transfer text over a hierarchy.
-use Rattle.std.specs.Prelude.{◌≡◌, ◌^◌, ◌<◌, List, length, FitsSigned, All}
+-- Which rows have a transfer text, over a hierarchy and by the format alone.
+use Rattle.std.specs.Prelude.{ℕ, ◌≡◌, ◌-◌, ◌^◌, ◌<◌, List, length, drop, replicate, FitsSigned, All}
 use Rattle.std.specs.Int.{w64}
 use Rattle.dim_hierarchy.specs.Dimension.{Dimension}
 use Rattle.dim_hierarchy.specs.Row.{IsRowOf}
@@ -16,3 +16,16 @@ pub record IsSpelled (h : List Dimension) (row : Row) : Type 0 where
 pub record AreSpelled (h : List Dimension) (rows : List Row) : Type 0 where
   pub few : length rows < 2 ^ 64
   pub each : All (IsSpelled h) rows
+
+-- a row of whatever hierarchy: eight ids of any value, with ALL past the last dimension, and numbers of their widths
+pub record IsOfFormat (dims : ℕ) (row : Row) : Type 0 where
+  pub places : length row.at.at ≡ 8
+  pub ids : All (λ id. id < 2 ^ 32) row.at.at
+  pub rest : drop dims row.at.at ≡ replicate (8 - dims) 0
+  pub number : row.no < 2 ^ 64
+  pub measure : FitsSigned w64 row.measure
+
+-- such rows, fewer than 2^64
+pub record AreOfFormat (dims : ℕ) (rows : List Row) : Type 0 where
+  pub few : length rows < 2 ^ 64
+  pub each : All (IsOfFormat dims) rows
