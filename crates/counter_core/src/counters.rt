@@ -34,10 +34,6 @@ impl Core for Counters {
 
     ghost idle = { λ _. Unit {0} };
 
-    fn is_idle(_actor: &u64) -> bool {
-        true
-    }
-
     ghost idle_free = { λ _ _ _ never. never };
 
     ghost lawful = { lawful };

@@ -1,5 +1,4 @@
 //! What a table is made for: cells and actors by number, and the changes that are its events.
-ghost use Rattle.std.specs.Prelude.{IsTrue};
 
 /// A core is its ghost members and its law.
 pub trait Core {
@@ -31,10 +30,6 @@ pub trait Core {
     ghost needs: { Self.Actor → ℕ → Type 0 };
 
     ghost idle: { Self.Actor → Type 0 };
-
-    /// Whether the actor is idle. The table itself never asks.
-    fn is_idle(actor: &Self::Actor) -> bool
-        ensures { IsTrue result → idle actor.now };
 
     ghost idle_free: { (a : Self.Actor) (k : ℕ) → idle a → needs a k → ⊥ };
 

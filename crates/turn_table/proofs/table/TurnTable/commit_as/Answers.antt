@@ -6,5 +6,5 @@ pub swap-requires : goal.swap-requires
 swap-requires g c = (
   search rules,
   search rules,
-  commits_allowed g.C.Core.invariant g.C.Core.log_at g.C.Core.log g.C.Core.needs (length c.self.inside.table.shared.key.actors.value.items) g.C.Core.change g.met.C.Core.lawful _ _ _ _ _ c.requires.goes,
+  commits_allowed g.C.Core.invariant g.C.Core.log_at g.C.Core.log g.C.Core.needs (length c.self.inside.table.shared.key.actors.value.items) g.C.Core.change g.C.Core.lawful _ _ _ _ _ c.requires.goes,
 )
