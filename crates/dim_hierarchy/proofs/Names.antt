@@ -1,10 +1,11 @@
 -- The map from names that a `HashMap` with byte strings as keys stands for.
-use Rattle.std.proofs.Common.{ℕ, ◌≡◌, ◌≢◌, ◌⊎◌, inl, inr, List, [], ◌∷◌, map, Vec, Global, refl, sym, ap, ◌∙◌, cond, Bool, true, false}
-use Rattle.std.specs.Prelude.{Option, Some}
-use Rattle.std.specs.Ordering.{nat_cmp, is_eq, match_ordering}
+use Rattle.std.proofs.Common.{ℕ, ◌≡◌, ◌≢◌, ◌⊎◌, inl, inr, List, [], ◌∷◌, map, Vec, Global, refl, sym, ap, ◌∙◌, cond, Bool, true, false, nat_eq, get_or, eq-eqb}
+use Rattle.std.specs.Prelude.{Option, Some, None, All}
+use Rattle.std.specs.Ordering.{nat_cmp, is_eq}
 use Rattle.std.specs.Cmp.Lexicographic.{slice_cmp, nat_list_cmp_total}
 use Rattle.std.specs.Cmp.{tied_itself}
-use Rattle.std.proofs.lemmas.Bool.{false≢true}
+use Rattle.std.proofs.lemmas.Bool.{eqb-true, false≢true}
+use Rattle.std.proofs.lemmas.List.Elements.{All-head, All-tail}
 use Rattle.std.specs.declared.cmp.Ordering.{Ordering}
 use Rattle.std.specs.declared.cmp.Ordering.TheVariants.{Less, Equal, Greater}
 use Rattle.std.specs.FinMap.{slice_cmp-IsAntisymmetric, nat_cmp-IsAntisymmetric}
@@ -96,3 +97,33 @@ get-insert_other m name id other ne =
     not_true : (b : Bool) → (b ≡ true → ⊥) → b ≡ false
     not_true true n = absurd (n refl)
     not_true false n = refl
+
+-- The entries while a concept is sought among them.
+
+-- each entry that is left says what its name stands for, and a name of the concept is among them
+pub record AreLeft (names : fin.FinMap by_byte ℕ) (id : ℕ) (left : List (Vec ℕ Global × ℕ)) : Type 0 where
+  pub found : All (λ e. fin.get names e.0.items ≡ Some e.1) left
+  pub named : (name : List ℕ) → fin.get names name ≡ Some id → lookup (same_bytes name) left ≡ Some id
+
+pub AreLeft-all : (es : List (Vec ℕ Global × ℕ)) (names : fin.FinMap by_byte ℕ) (id : ℕ) → fin.from_entries {R = by_byte} (named es) ≡ names → All (λ e. lookup (same_keys e.0) es ≡ Some e.1) es → AreLeft names id es
+AreLeft-all es names id seen all = record {
+  found = λ k x lt. let e = get_or es k x in ap (λ m. fin.get m e.0.items) (sym seen) ∙ sym (lookup-named e.0.items es) ∙ all k x lt;
+  named = λ name e. lookup-named name es ∙ ap (λ m. fin.get m name) seen ∙ e;
+}
+
+-- the first entry is one of the concept
+pub AreLeft-here : (names : fin.FinMap by_byte ℕ) (id : ℕ) (e : Vec ℕ Global × ℕ) (left : List (Vec ℕ Global × ℕ)) → AreLeft names id (e ∷ left) → nat_eq e.1 id ≡ true → fin.get names e.0.items ≡ Some id
+AreLeft-here names id e left a this = All-head (λ e. fin.get names e.0.items ≡ Some e.1) e left a.found ∙ ap Some (eqb-true e.1 id this)
+
+pub AreLeft-next : (names : fin.FinMap by_byte ℕ) (id : ℕ) (e : Vec ℕ Global × ℕ) (left : List (Vec ℕ Global × ℕ)) → AreLeft names id (e ∷ left) → nat_eq e.1 id ≡ false → AreLeft names id left
+AreLeft-next names id e left a other = record {
+  found = All-tail (λ e. fin.get names e.0.items ≡ Some e.1) e left a.found;
+  named = λ name found. past (bytes_eq name e.0.items) (lookup (same_bytes name) left) (a.named name found);
+}
+  where
+    past : (b : Bool) (rest : Option ℕ) → cond b (Some e.1) rest ≡ Some id → rest ≡ Some id
+    past true rest same = let is : e.1 ≡ id = cc in absurd (false≢true (sym other ∙ eq-eqb e.1 id is))
+    past false rest same = same
+
+pub AreLeft-none : (names : fin.FinMap by_byte ℕ) (id : ℕ) → AreLeft names id [] → (name : List ℕ) → fin.get names name ≢ Some id
+AreLeft-none names id a name e = let n : None ≡ Some id = a.named name e in cc

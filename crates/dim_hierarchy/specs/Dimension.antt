@@ -45,6 +45,11 @@ tree h dim = (dimension h dim).tree
 abbrev pub find : List Dimension → ℕ → List ℕ → Option ℕ
 find h dim name = map.get (dimension h dim).names name
 
+-- the name of a concept in a dimension: it stands for the concept, and no other name does
+pub record IsNameOf (h : List Dimension) (dim id : ℕ) (name : List ℕ) : Type 0 where
+  pub found : find h dim name ≡ Some id
+  pub only : (other : List ℕ) → find h dim other ≡ Some id → other ≡ name
+
 -- the number of the dimension with a name
 abbrev pub find_dim : List Dimension → List ℕ → Option ℕ
 find_dim h name = position (λ d. bytes_eq d.name name) h

@@ -1,5 +1,5 @@
 //! One dimension: its concepts as a tree, and by their names.
-ghost use Rattle.std.specs.Prelude.{◌≡◌, ◌+◌, ◌≤◌, ◌<◌, ◌^◌, List, ℕ, length, is_some, IsSome, IfOk, OnOk, OnErr};
+ghost use Rattle.std.specs.Prelude.{◌≡◌, ◌≢◌, ◌+◌, ◌≤◌, ◌<◌, ◌^◌, List, ℕ, length, Some, is_some, IsSome, IfNone, IfOk, IfSome, OnOk, OnErr};
 ghost use Rattle.std.specs.List.{list_any, slice_index_or};
 ghost use Rattle.std.specs.FinMap as map;
 ghost use Rattle.dim_hierarchy.specs.Concept.{level_of};
@@ -166,6 +166,14 @@ impl DimensionTable {
         ensures { result ≡ map.get self.now.names name.now }
     {
         self.names.find(name)
+    }
+
+    /// A name of a concept.
+    pub fn name_of(&self, id: ConceptId) -> Option<&[u8]>
+        ensures some { IfSome result (λ name. map.get self.now.names name.now ≡ Some id) }
+        ensures none { IfNone result ((name : List ℕ) → map.get self.now.names name ≢ Some id) }
+    {
+        self.names.name_of(id)
     }
 
     /// Whether the id is a concept of the dimension.

@@ -1,5 +1,5 @@
 //! The dimensions together, and what rows and filters say over them.
-ghost use Rattle.std.specs.Prelude.{◌≡◌, ◌+◌, ◌<◌, ◌≤◌, ◌^◌, ◌↔◌, List, [], ℕ, ◌∷◌, ◌++◌, length, unwrap_or, position, is_none, All, Any, IsTrue, IsOk, IfOk, IfSome, IfNone, OnErr, IsOkUnless};
+ghost use Rattle.std.specs.Prelude.{◌≡◌, ◌+◌, ◌<◌, ◌≤◌, ◌^◌, ◌↔◌, List, [], ℕ, ◌∷◌, ◌++◌, length, unwrap_or, position, is_none, All, Any, IsTrue, IsOk, IsSome, IfOk, IfSome, IfNone, OnErr, IsOkUnless};
 ghost use Rattle.dim_hierarchy.specs.Concept.{level_of};
 ghost use Rattle.dim_hierarchy.specs.Tree.{IsConcept, is_concept, IsLeaf, leaf_level, up, is_under, IsUnder, next_under};
 ghost use Rattle.dim_hierarchy.specs.Row.{IsCoordOf, IsCoordNamed, leaves};
@@ -80,7 +80,7 @@ impl Model for Hierarchy {
 
 impl Hierarchy {
     ghost use Rattle.std.specs.Prelude.{slice_index_or, slice_set};
-    ghost use Rattle.dim_hierarchy.specs.Dimension.{IsHierarchy, IsDimension, dimension, tree, find, find_dim, concept_count, dim_fault, new_dimension, concept_fault, with_concept};
+    ghost use Rattle.dim_hierarchy.specs.Dimension.{IsHierarchy, IsDimension, dimension, tree, find, find_dim, IsNameOf, concept_count, dim_fault, new_dimension, concept_fault, with_concept};
 
     /// No dimension. Takes no memory.
     pub fn new(alloc: Global) -> Hierarchy
@@ -252,6 +252,19 @@ impl Hierarchy {
             return None;
         }
         self.table(dim).find(name)
+    }
+
+    /// The name that a concept was added with, lent; none for `ALL`, for what is no concept of the
+    /// dimension, and where there is no such dimension. It takes no memory, and reads the names of
+    /// the dimension one after another.
+    pub fn name_of(&self, dim: u8, id: ConceptId) -> Option<&[u8]>
+        ensures name { IfSome result (λ name. IsNameOf self.now dim id name.now) }
+        ensures some { IsConcept (tree self.now dim) id → 0 < level_of id → IsSome result }
+    {
+        if dim >= self.dims() {
+            return None;
+        }
+        self.table(dim).name_of(id)
     }
 
     /// Whether the id is a concept of the dimension, `ALL` among them.

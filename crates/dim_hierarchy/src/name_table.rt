@@ -1,5 +1,5 @@
 //! The concepts of a dimension by name.
-ghost use Rattle.std.specs.Prelude.{◌≡◌, OnOk, OnErr};
+ghost use Rattle.std.specs.Prelude.{◌≡◌, ◌≢◌, List, ℕ, Some, IfNone, IfSome, OnOk, OnErr};
 ghost use Rattle.std.specs.FinMap as map;
 
 use crate::concept::ConceptId;
@@ -44,6 +44,19 @@ impl NameTable {
         ensures { result ≡ map.get self.now name.now }
     {
         self.ids.get(name).copied()
+    }
+
+    /// A name of a concept. It reads the names one after another.
+    pub fn name_of(&self, id: ConceptId) -> Option<&[u8]>
+        ensures some { IfSome result (λ name. map.get self.now name.now ≡ Some id) }
+        ensures none { IfNone result ((name : List ℕ) → map.get self.now name ≢ Some id) }
+    {
+        for (name, named) in self.ids.iter() {
+            if *named == id {
+                return Some(name.as_slice());
+            }
+        }
+        None
     }
 
     /// Gives a concept a name, in place of the concept that had it.
