@@ -3,10 +3,10 @@ ghost use Rattle.std.specs.Prelude.{◌≡◌, ◌<◌, ◌≤◌, ◌-◌, [], 
 ghost use Rattle.std.specs.List.{list_any};
 ghost use Rattle.std.specs.Bool.{OnTrue};
 ghost use Rattle.dim_hierarchy.specs.Concept.{level_of};
-ghost use Rattle.dim_hierarchy.specs.Tree.{IsConcept, leaf_level};
+ghost use Rattle.dim_hierarchy.specs.Tree.{IsConcept, is_under, leaf_level};
 ghost use Rattle.dim_hierarchy.specs.Dimension.{tree, IsHierarchy};
 ghost use Rattle.dim_hierarchy.specs.Row.{concept_at};
-ghost use Rattle.dim_hierarchy.specs.Filter.{pick_at, IsPickOf};
+ghost use Rattle.dim_hierarchy.specs.Filter.{pick_at, IsPickOf, is_picked};
 ghost use Rattle.dim_hierarchy.specs.Compiled.{AreOfLevel};
 ghost use Rattle.describing_set.specs.Filter.{are_related};
 
@@ -140,6 +140,19 @@ impl Part {
         wanted.has_all(dim, self.level, self.ids.as_slice())
     }
 
+    /// As `is_inside`, by a pick that is not compiled.
+    pub(crate) fn is_inside_of(&self, h: &Hierarchy, dim: u8, pick: &Pick) -> bool
+        requires dim { dim < length h.now }
+        requires concepts { All (IsConcept (tree h.now dim)) self.now.ids.items }
+        requires pick { IsPickOf (tree h.now dim) pick.now }
+        ensures { result ≡ is_part_inside (tree h.now dim) self.now pick.now }
+    {
+        self.ids
+            .as_slice()
+            .iter()
+            .all(|id| is_picked(h, dim, *id, pick))
+    }
+
     /// Whether the filter picks a concept of the part or lists one that is under it.
     pub(crate) fn is_met(&self, wanted: &CompiledFilter, dim: u8) -> bool
         requires dim { dim < length wanted.now.hierarchy }
@@ -178,6 +191,29 @@ impl Part {
             .iter()
             .any(|id| is_any_related(h, dim, *id, tops))
     }
+}
+
+/// Whether the pick is all or lists a concept that this one is under.
+fn is_picked(h: &Hierarchy, dim: u8, id: ConceptId, pick: &Pick) -> bool
+    requires dim { dim < length h.now }
+    requires concept { IsConcept (tree h.now dim) id }
+    requires pick { IsPickOf (tree h.now dim) pick.now }
+    ensures { result ≡ is_picked (tree h.now dim) pick.now id }
+{
+    match pick {
+        Pick::All => true,
+        Pick::Ids(tops) => is_under_any(h, dim, id, tops.as_slice()),
+    }
+}
+
+/// Whether the concept is under one of these.
+fn is_under_any(h: &Hierarchy, dim: u8, id: ConceptId, tops: &[ConceptId]) -> bool
+    requires dim { dim < length h.now }
+    requires concept { IsConcept (tree h.now dim) id }
+    requires tops { All (IsConcept (tree h.now dim)) tops.now }
+    ensures { result ≡ list_any (is_under (tree h.now dim) id) tops.now }
+{
+    tops.iter().any(|top| h.is_under(dim, id, *top))
 }
 
 /// Whether the concept is an ancestor or a descendant of one of these.

@@ -1,6 +1,6 @@
 //! Describing sets.
 ghost use Rattle.std.specs.Prelude.{◌≡◌, ◌<◌, ◌≤◌, ◌↔◌, [], ◌∷◌, length, IsTrue, List, All, Contains, IfSome, IfNone};
-ghost use Rattle.std.specs.Bool.{OnFalse};
+ghost use Rattle.std.specs.Bool.{OnFalse, OnTrue};
 ghost use Rattle.dim_hierarchy.specs.Tree.{IsConcept, leaf_level};
 ghost use Rattle.dim_hierarchy.specs.Dimension.{tree, IsHierarchy};
 ghost use Rattle.dim_hierarchy.specs.Row.{IsCoordOf};
@@ -26,7 +26,7 @@ impl DescSet {
     ghost use Rattle.describing_set.specs.DescSet.{part_at, IsSetOf, covers, in_each};
     ghost use Rattle.describing_set.specs.Sets.{IsDescSetOf, GrowsBy, JoinsTo, Covers, growth_of, size_of, Describes, AreAmong};
     ghost use Rattle.describing_set.specs.declared.bearing.Bearing.TheVariants.{Inside, Apart};
-    ghost use Rattle.describing_set.specs.Filter.{Overlaps, overlaps, is_part_met, IsMetFrom, IsBearing, bearing};
+    ghost use Rattle.describing_set.specs.Filter.{IsInside, is_inside, Overlaps, overlaps, is_part_met, IsMetFrom, IsBearing, bearing};
 
     /// The set of no coordinate: the leaf level and no concept everywhere.
     pub fn empty(h: &Hierarchy) -> DescSet
@@ -149,6 +149,25 @@ impl DescSet {
             }
         }
         Bearing::Inside
+    }
+
+    /// Whether in each dimension the filter is all, or each concept of the set is one that it lists or
+    /// under one, so a set of none is inside. Then the filter matches each coordinate that the set
+    /// covers.
+    pub fn inside(&self, h: &Hierarchy, filter: &Filter) -> bool
+        requires set { IsDescSetOf h.now self.now }
+        requires filter { IsFilterOf h.now filter.now }
+        ensures test { result ≡ is_inside h.now self.now filter.now }
+        ensures meaning { IsTrue result ↔ IsInside h.now self.now filter.now }
+        ensures all_match { OnTrue result
+            ((at : Coord) → Covers h.now self.now at → Matches h.now filter.now at) }
+    {
+        for dim in 0..h.dims() {
+            if !self.part(h, dim).is_inside_of(h, dim, pick(filter, dim)) {
+                return false;
+            }
+        }
+        true
     }
 
     /// Whether the set is not empty, and in each dimension the filter is all or lists a concept of
