@@ -6,3 +6,4 @@ mod shards;
 mod workers;
 
 pub use balance::{move_shard, plan};
+pub use shard_plan::{Action, Load};

@@ -7,4 +7,5 @@ mod site;
 mod worked;
 
 pub use builder::{Built, build};
+pub use shard_plan::{cells_for, levels_for, split_need};
 pub use worked::sizes_of_25_rows;

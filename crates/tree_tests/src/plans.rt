@@ -2,8 +2,7 @@
 ghost use Rattle.std.specs.Prelude.{◌^◌, ◌<◌, IsTrue};
 ghost use Rattle.balancer.specs.Turn.{rows_of_all};
 
-use balancer::plan;
-use shard_plan::{Action, Load};
+use balancer::{Action, Load, plan};
 use std::test::Fail;
 
 /// A shard on a worker, and its rows.
