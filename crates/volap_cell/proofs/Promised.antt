@@ -257,12 +257,13 @@ pinned-whole s w g i a c p reads pin =
 by-reading : (s : Setting) (w : World) (g : Ghost) (i : InvWith s (view s w) g) (server shard of r : ℕ) (q : Query) (a : ℕ) (p : ReadPart) → (view s w).reads a ≡ Some p → p.server ≡ server → p.shard ≡ shard
     → IsUnder (view s w).history g.placed g.home shard r → must_hold s.hierarchy (view s w).history of q r ≡ true → fits (table_of s (view s w).row) q.filter r ≡ true
     → IsReading s (view s w).history (view s w).row (view s w).blocks (view s w).trees g.shape g.placed g.home of q shard (g.counted server shard) p.reading
-    → (1 ≤ times r (g.counted server shard)) ⊎ IsBeneath s (view s w) server shard r
+    → (1 ≤ times r (g.counted server shard)) ⊎ IsBeneath s (view s w) (standing s (view s w) g i) server shard r
+unfolding standing
 by-reading s w g i server shard of r q a p reads same_server same_shard under must fit reading =
     at p.reading.pin refl reading.walk (reading.holds r must fit under)
   where
     at : (pin : Option ℕ) → p.reading.pin ≡ pin → IsWalk s (view s w).history (view s w).row (view s w).blocks (view s w).trees g.shape of q (g.counted server shard) p.reading pin
-        → (1 ≤ times r (g.counted server shard)) ⊎ IsInTreeOf g.shape pin r → (1 ≤ times r (g.counted server shard)) ⊎ IsBeneath s (view s w) server shard r
+        → (1 ≤ times r (g.counted server shard)) ⊎ IsInTreeOf g.shape pin r → (1 ≤ times r (g.counted server shard)) ⊎ IsBeneath s (view s w) (standing s (view s w) g i) server shard r
     at None is walk holds = elim holds [ inl has ↦ inl has | inr never ↦ absurd never ]
     at (Some c) is walk holds = elim holds [
       | inl has ↦ inl has
@@ -280,7 +281,6 @@ by-reading s w g i server shard of r q a p reads same_server same_shard under mu
               shard_is = same_shard;
               gate = c;
               pinned = is;
-              shape = g.shape c;
               tree = i.growing.tree c (pinned-whole s w g i a c p reads is);
               noted = u.noted;
               items = u.are;
@@ -311,14 +311,14 @@ by-state : (s : Setting) (w : World) (g : Ghost) (i : InvWith s (view s w) g) (s
     → must_hold s.hierarchy (view s w).history of q r ≡ true → fits (table_of s (view s w).row) q.filter r ≡ true → ((view s w).desks server).op ≡ Some of → query_at (view s w).history of ≡ Some q
     → (is_taken p ≡ true → IsTaken (view s w).taken server p)
     → (state : PartState) → p.state ≡ state → IsQueryState q state → IsEndOfPart s (view s w).history (view s w).row g.placed g.home of q p.shard (g.counted server p.shard) state
-    → (1 ≤ times r (g.counted server p.shard)) ⊎ IsBeneath s (view s w) server p.shard r ⊎ (HasNotRead (view s w) server p × IsAheadOf s (view s w) (standing s (view s w) g i) p r)
+    → (1 ≤ times r (g.counted server p.shard)) ⊎ IsBeneath s (view s w) (standing s (view s w) g i) server p.shard r ⊎ (HasNotRead (view s w) server p × IsAheadOf s (view s w) (standing s (view s w) g i) p r)
 by-state s w g i server of r q p under must fit op asked taker (state_is.Waiting wanted) is valid end = inr (inr (inl (rw is refl), (g.home r, in-one s (view s w) g i r under.is_placed, under.comes)))
 by-state s w g i server of r q p under must fit op asked taker state_is.Taken is valid end =
     let t = taker (rw is refl) in
     at t ((view s w).reads t.0) refl
   where
     at : (t : IsTaken (view s w).taken server p) → (o : Option ReadPart) → (view s w).reads t.0 ≡ o
-        → (1 ≤ times r (g.counted server p.shard)) ⊎ IsBeneath s (view s w) server p.shard r ⊎ (HasNotRead (view s w) server p × IsAheadOf s (view s w) (standing s (view s w) g i) p r)
+        → (1 ≤ times r (g.counted server p.shard)) ⊎ IsBeneath s (view s w) (standing s (view s w) g i) server p.shard r ⊎ (HasNotRead (view s w) server p × IsAheadOf s (view s w) (standing s (view s w) g i) p r)
     at t None none = inr (inr (inr (inr (t.0, t.1, t.2, t.3, t.4, none)), (g.home r, in-one s (view s w) g i r under.is_placed, under.comes)))
     at t (Some part) reads =
         let same = reads-same (w.actors t.0).errand part t.1 reads t.2 in
@@ -336,7 +336,7 @@ by-state s w g i server of r q p under must fit op asked taker (state_is.Placed 
 by-state s w g i server of r q p under must fit op asked taker state_is.NoMemory is valid end = inr (inr (inr (inl (rw is refl)), (g.home r, in-one s (view s w) g i r under.is_placed, under.comes)))
 
 pub has-counted : (s : Setting) (w : World) (g : Ghost) (i : InvWith s (view s w) g) (server of : ℕ) (q : Query) → server < s.servers → ((view s w).desks server).op ≡ Some of
-    → query_at (view s w).history of ≡ Some q → HasCounted s (view s w) (standing s (view s w) g i) of server q
+    → query_at (view s w).history of ≡ Some q → HasCounted s (view s w) (standing s (view s w) g i) of server q (g.counted server)
 has-counted s w g i server of q within op asked =
     let v = view s w in
     let parts = (v.desks server).parts in
@@ -345,7 +345,6 @@ has-counted s w g i server of q within op asked =
     let desk = i.desking.query server of q within op asked in
     let one-part = All-contains (λ (p : Part). is_refused p ≡ false → IsCounted s v.history v.row g.placed g.home q p.shard (g.counted server p.shard)) parts in
     record {
-      counted = g.counted server;
       once = λ r n d lt well. (counts n d lt well).once r;
       apart = λ r p other c d well well-other some some-other.
           (let under = (one-part p counts c well).under r some in
@@ -368,4 +367,4 @@ has-counted s w g i server of q within op asked =
     }
 
 pub query-law : QueryLaw
-query-law s w inv = (standing s (view s w) inv.ghost_of inv.holds, λ server of q within op asked. has-counted s w inv.ghost_of inv.holds server of q within op asked)
+query-law s w inv = (standing s (view s w) inv.ghost_of inv.holds, λ server of q within op asked. (inv.ghost_of.counted server, has-counted s w inv.ghost_of inv.holds server of q within op asked))

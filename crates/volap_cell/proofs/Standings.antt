@@ -25,7 +25,7 @@ pub live-on : (s : Setting) (v : View) (x : ℕ) → is_live s.workers v.history
 live-on s v x live = on-worker (frontier s.workers v.history) x live
 
 -- the gates of the shards that stand, and the shapes of their trees
-pub standing : (s : Setting) (v : View) (g : Ghost) → InvWith s v g → Standing s v
+unfoldable pub standing : (s : Setting) (v : View) (g : Ghost) → InvWith s v g → Standing s v
 standing s v g i = record {
   gate = g.gate;
   shape = g.shape;

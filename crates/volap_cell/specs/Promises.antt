@@ -103,7 +103,7 @@ ImageLaw = (s : Setting) (w : World) → Inv s w → (t : Standing s (view s w))
 
 -- A row is beneath what an actor has noted for the part of a query at a shard: it is in the tree of the gate to which the part is
 -- pinned, and is reached once from the noted blocks along right links and down.
-pub record IsBeneath (s : Setting) (v : View) (server shard r : ℕ) : Type 0 where
+pub record IsBeneath (s : Setting) (v : View) (t : Standing s v) (server shard r : ℕ) : Type 0 where
   pub actor : ℕ
   pub part : ReadPart
   pub reads : v.reads actor ≡ Some part
@@ -111,13 +111,12 @@ pub record IsBeneath (s : Setting) (v : View) (server shard r : ℕ) : Type 0 wh
   pub shard_is : part.shard ≡ shard
   pub gate : ℕ
   pub pinned : part.reading.pin ≡ Some gate
-  pub shape : Shape
-  pub tree : IsTree (table_of s v.row) (cells_at v.blocks v.trees gate) shape
+  pub tree : IsTree (table_of s v.row) (cells_at v.blocks v.trees gate) (t.shape gate)
   pub noted : List Noted
   pub items : items_of noted ≡ part.reading.items
-  pub walks : AreNoted shape (nodes (cells_at v.blocks v.trees gate)) noted
-  pub placed : shape.placed r ≡ true
-  pub once : pending shape noted (shape.at r) ≡ 1
+  pub walks : AreNoted (t.shape gate) (nodes (cells_at v.blocks v.trees gate)) noted
+  pub placed : (t.shape gate).placed r ≡ true
+  pub once : pending (t.shape gate) noted ((t.shape gate).at r) ≡ 1
 
 -- a part that has read no gate yet: it waits, or an actor has it and hasn't read; or no memory was found for it
 abbrev pub HasNotRead : View → ℕ → Part → Type 0
@@ -132,16 +131,15 @@ IsAheadOf s v t p r = (x : ℕ) × IsInOne s v t r x × IsTrue (comes_from v.his
 -- What the parts of an open query have counted: a list for each part's shard. No row stands in two of them or twice in one, each is
 -- begun, doesn't fail, and is one that the filter matches; and each that the query must hold is counted, or is beneath what is noted
 -- for a part, or is in the line of the shard of a part that has read nothing.
-pub record HasCounted (s : Setting) (v : View) (t : Standing s v) (of server : ℕ) (q : Query) : Type 0 where
-  pub counted : ℕ → List ℕ
+pub record HasCounted (s : Setting) (v : View) (t : Standing s v) (of server : ℕ) (q : Query) (counted : ℕ → List ℕ) : Type 0 where
   pub once : (r : ℕ) → All (λ (p : Part). is_refused p ≡ false → times r (counted p.shard) ≤ 1) (v.desks server).parts
   pub apart : (r : ℕ) (p other : Part) → Contains (v.desks server).parts p → Contains (v.desks server).parts other → is_refused p ≡ false → is_refused other ≡ false
       → 1 ≤ times r (counted p.shard) → 1 ≤ times r (counted other.shard) → p.shard ≡ other.shard
   pub usable : (r : ℕ) (p : Part) → Contains (v.desks server).parts p → is_refused p ≡ false → 1 ≤ times r (counted p.shard)
       → IsTrue (is_kept v.history r) × (fits (table_of s v.row) q.filter r ≡ true) × ((x : ℕ) × IsInOne s v t r x)
   pub whole : (r : ℕ) → must_hold s.hierarchy v.history of q r ≡ true → fits (table_of s v.row) q.filter r ≡ true
-      → Any (λ (p : Part). (1 ≤ times r (counted p.shard)) ⊎ IsBeneath s v server p.shard r ⊎ (HasNotRead v server p × IsAheadOf s v t p r)) (v.desks server).parts
+      → Any (λ (p : Part). (1 ≤ times r (counted p.shard)) ⊎ IsBeneath s v t server p.shard r ⊎ (HasNotRead v server p × IsAheadOf s v t p r)) (v.desks server).parts
 
 abbrev pub QueryLaw : Type 0
 QueryLaw = (s : Setting) (w : World) → Inv s w → (t : Standing s (view s w)) × ((server of : ℕ) (q : Query) → server < s.servers
-    → ((view s w).desks server).op ≡ Some of → query_at (view s w).history of ≡ Some q → HasCounted s (view s w) t of server q)
+    → ((view s w).desks server).op ≡ Some of → query_at (view s w).history of ≡ Some q → (counted : ℕ → List ℕ) × HasCounted s (view s w) t of server q counted)
