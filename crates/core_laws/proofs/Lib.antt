@@ -2,3 +2,4 @@ pub mod PassedGates
 pub mod QuietLedger
 pub mod SameRows
 pub mod InLine
+pub mod Meetings

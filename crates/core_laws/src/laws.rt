@@ -1,7 +1,8 @@
-//! Laws of rows. There is nothing to do at run time.
+//! Laws of rows and of queries. There is nothing to do at run time.
 
 ghost use Rattle.core_laws.specs.Finishing.{FinishLaw};
 ghost use Rattle.core_laws.specs.Lines.{LineLaw};
+ghost use Rattle.core_laws.specs.Meeting.{MeetLaw};
 
 /// A split or a move that is finished leaves the rows of the shards that stand as they were: each is in one of them, once,
 /// before the step and behind it, and no other row is in any.
@@ -13,4 +14,11 @@ pub fn finished_splits_and_moves_leave_the_rows()
 /// comes from it.
 pub fn acknowledged_rows_stay_in_line()
     ensures { LineLaw }
+{}
+
+/// What the parts of an open query have read is together the aggregate of the rows that are counted for them, none of
+/// them twice. What is beneath a part that has read no gate, or beneath a block that is noted for one, is beneath no
+/// other of these and is not counted.
+pub fn queries_meet_each_row_once()
+    ensures { MeetLaw }
 {}
