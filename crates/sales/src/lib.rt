@@ -1,0 +1,52 @@
+//! Whether a question in names asks for a sale.
+#![tactic(auto)]
+
+ghost use Rattle.std.specs.Prelude.{◌≡◌, ◌↔◌, All, IfOk, IsTrue, List, length};
+ghost use Rattle.dim_hierarchy.specs.Filter.{IsFilterNamed, IsNamePick, Matches};
+ghost use Rattle.dim_hierarchy.specs.Row.{IsCoordNamed};
+ghost use Rattle.dim_hierarchy.specs.declared.filter.Pick.{Pick};
+ghost use Rattle.dim_hierarchy.specs.declared.row.Coord.{Coord};
+
+mod sets;
+
+use dim_hierarchy::{FilterFault, Hierarchy, Name, NameFilter, NamePick, Names, RowNames};
+pub use sets::set_of_both;
+use std::alloc::Global;
+
+/// Whether the question asks for a sale of these names, one for each dimension.
+pub fn is_asked(
+    alloc: Global,
+    h: &Hierarchy,
+    sale: &RowNames,
+    question: &NameFilter,
+) -> Result<bool, FilterFault>
+    requires sale { length sale.now ≡ length h.now }
+    requires question { length question.now ≡ length h.now }
+    requires some { All IsNamePick question.now }
+    ensures asked { IfOk result (λ test. (at : Coord) × (f : List Pick) × IsCoordNamed h.now sale.now at
+        × IsFilterNamed h.now question.now f × (IsTrue test ↔ Matches h.now f at)) }
+{
+    let at = match h.coord(sale) {
+        Ok(at) => at,
+        Err(dim) => return Err(FilterFault::Unknown { dim }),
+    };
+    let filter = h.filter(alloc, question)?;
+    Ok(h.matches(&filter, &at))
+}
+
+#[test]
+fn a_town_lies_in_its_country(rt: HostRuntime) -> Result<(), std::test::Fail> {
+    let alloc = rt.alloc();
+    let mut h = Hierarchy::new(alloc);
+    let geo = h.add_dim(&Name::from_bytes(alloc, b"geo")?, 2)?;
+    let de = h.add_concept(geo, &Name::from_bytes(alloc, b"de")?, None)?;
+    h.add_concept(geo, &Name::from_bytes(alloc, b"berlin")?, Some(de))?;
+    let mut sale = RowNames::new(alloc);
+    sale.push(b"berlin")?;
+    let mut countries = Names::new(alloc);
+    countries.push(Name::from_bytes(alloc, b"de")?)?;
+    let mut question = NameFilter::new(alloc);
+    question.push(NamePick::Any(countries))?;
+    assert_eq!(rt; is_asked(alloc, &h, &sale, &question), Ok(true));
+    Ok(())
+}
