@@ -46,10 +46,6 @@ total_no given whole h cs ps i c inside same is other so_far =
     let here : totals h (behind cs ps i) ≡ totals h (behind cs ps (i + 1)) = ap (totals h) (behind_more cs ps i c inside same is) ∙ rw other refl in
     ap (λ l. given ++ l) (sym here) ∙ so_far
 
-pub total_all : (given whole : List (Option Aggregate)) (h : List Event) (cs : List Command) (ps : List (Option ℕ)) (i : ℕ) → length cs ≤ i
-    → given ++ totals h (behind cs ps i) ≡ whole → given ≡ whole
-total_all given whole h cs ps i all so_far = sym (append-nil given) ∙ ap (λ l. given ++ l) (sym (ap (totals h) (zip_end cs ps i all))) ∙ so_far
-
 -- The lines of aggregates.
 
 abbrev pub lines_behind : List (Option Aggregate) → ℕ → List ℕ

@@ -1,9 +1,9 @@
 -- Where commands begin, one command more at a time.
-use Rattle.std.proofs.Common.{◌≡◌, ◌∙◌, ℕ, ◌+◌, ◌<◌, ◌≤◌, List, [], ◌∷◌, ◌++◌, true, false, Option, Some, None, length, get_or, set, take, drop, replicate, append-nil, refl, ap, sym, inl, inr, arith}
+use Rattle.std.proofs.Common.{◌≡◌, ◌∙◌, ℕ, ◌+◌, ◌<◌, ◌≤◌, List, [], ◌∷◌, ◌++◌, true, false, Option, Some, None, length, get_or, set, take, drop, append-nil, refl, ap, sym, inl, inr, arith}
 use Rattle.std.specs.Prelude.{All, slice_get, ◌==◌}
 use Rattle.std.proofs.lemmas.Bool.{cases_Bool, eqb-true, eqb-false, eq-eqb}
 use Rattle.std.proofs.lemmas.Option.{slice_get_within, get_or_from_slice_get}
-use Rattle.std.proofs.lemmas.List.{append_assoc, drop_more, drop_all, take_more, length-take, length-set, get_or-set_same, get_or-set_other, get_or-replicate, get_or_read, length-replicate}
+use Rattle.std.proofs.lemmas.List.{append_assoc, drop_more, drop_all, take_more, length-take, length-set, get_or-set_same, get_or-set_other, get_or_read}
 use Rattle.std.proofs.lemmas.List.Elements.{All-nil, All-cons, All-get_or}
 use Rattle.std.proofs.lemmas.List.Sums.{count_by_more_yes, count_by_more_no, count_by-le-length}
 use Rattle.row_ledger.specs.declared.event.Event.{Event}
@@ -14,13 +14,6 @@ use Rattle.answer_text.specs.Marks.{Counts, IsPosition}
 use Rattle.answer_text.proofs.MarkFacts.{begins_of-below}
 
 -- The commands of each session so far.
-
-pub counts_none : (counts : List ℕ) (with : Use) (n : ℕ) → n ≡ sessions → counts ≡ replicate n 0 → Counts counts with []
-counts_none counts with n all made =
-    rw made (record {
-      len = length-replicate n 0 ∙ all;
-      counted = λ s below. get_or-replicate n s 0 0 (omega arith);
-    })
 
 pub count_read : (counts : List ℕ) (with : Use) (before : List Command) (session count : ℕ) → Counts counts with before → session < sessions
     → count ≡ get_or counts session count → count ≡ count_of with session before

@@ -3,22 +3,13 @@ use Rattle.std.proofs.Common.{◌≡◌, ℕ, ◌+◌, ◌<◌, ◌≤◌, Bool,
 use Rattle.std.proofs.lemmas.Bool.{eq-eqb, ne_eqb}
 use Rattle.std.proofs.lemmas.List.{get_or_default, take_all, drop_all}
 use Rattle.std.proofs.lemmas.List.Edits.{map_over_more}
-use Rattle.std.proofs.lemmas.List.Elements.{filter_more}
 use Rattle.std.proofs.lemmas.List.Filters.{sum_by-filter_both}
-use Rattle.std.proofs.lemmas.List.Sums.{sum_by_push, sum_by-cons, sum_by_more_le}
+use Rattle.std.proofs.lemmas.List.Sums.{sum_by-cons, sum_by_more_le}
 use Rattle.shard_plan.specs.declared.action.Load.{Load}
 use Rattle.shard_plan.specs.Balancing.{after_move}
 use Rattle.balancer.specs.Turn.{rows_of_all}
 
 -- what passes a test is gone over: one more item is looked at
-
-sum_by-push_if : {X : Type 0} (f : X → ℕ) (keep : Bool) (xs : List X) (x : X) → sum_by f (xs ++ cond keep (x ∷ []) []) ≡ sum_by f xs + cond keep (f x) 0
-sum_by-push_if f true xs x = sum_by_push f xs x
-sum_by-push_if f false xs x = ap (sum_by f) (append-nil xs) ∙ omega arith
-
-pub sum_by-filter_more : {X : Type 0} (f : X → ℕ) (test : X → Bool) (xs : List X) (i : ℕ) (x : X) → i < length xs → x ≡ get_or xs i x
-    → sum_by f (filter test (take (i + 1) xs)) ≡ sum_by f (filter test (take i xs)) + cond (test x) (f x) 0
-sum_by-filter_more f test xs i x within read = rw (filter_more test xs i x within, ← read) (sum_by-push_if f (test x) (filter test (take i xs)) x)
 
 -- the sum so far and the next item are within the whole sum
 pub sum_by-filter_bound : {X : Type 0} (f : X → ℕ) (test : X → Bool) (xs : List X) (i : ℕ) (d : X) → i < length xs

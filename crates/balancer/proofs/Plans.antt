@@ -1,7 +1,7 @@
 -- A plan turn by turn.
 use Rattle.std.proofs.Common.{◌≡◌, ℕ, suc, ◌+◌, ◌-◌, ◌<◌, ◌≤◌, filter, ◌==◌, sym, ap, ◌∙◌, arith, append-nil, append_assoc, Bool, true, false, cond, nat_le, List, [], ◌∷◌, ◌++◌, Option, Some, None, refl}
 use Rattle.std.specs.Option.{option_map_or}
-use Rattle.std.proofs.lemmas.Bool.{le-leb, lt-leb}
+use Rattle.std.proofs.lemmas.Bool.{lt-leb}
 use Rattle.shard_plan.specs.declared.action.Load.{Load}
 use Rattle.shard_plan.specs.declared.action.Action.{Action}
 use Rattle.shard_plan.specs.declared.action.Action.TheVariants.{Move, Split}
@@ -52,12 +52,6 @@ uneven : (loads : List Load) (workers g : ℕ) → g ≡ gap loads workers → 3
     → option_map_or (λ (l : Load). Some (Move l.shard (emptiest loads workers))) (to_move loads workers) (split_of (to_look_at loads workers)) ≡ next_action loads workers
 uneven loads workers g g_is large = ap (λ b. cond b None (option_map_or (λ (l : Load). Some (Move l.shard (emptiest loads workers))) (to_move loads workers) (split_of (to_look_at loads workers)))) (sym (lt-leb (gap loads workers) 32 (omega arith)))
 
-pub next_action-none : (loads : List Load) (workers from to g : ℕ) → from ≡ fullest loads workers → to ≡ emptiest loads workers → g ≡ rows_on loads from - rows_on loads to → g ≤ 32
-    → None ≡ next_action loads workers
-next_action-none loads workers from to g from_is to_is g_is small =
-    let even = gap-is loads workers from to g from_is to_is g_is in
-    ap (λ b. cond b None (option_map_or (λ (l : Load). Some (Move l.shard (emptiest loads workers))) (to_move loads workers) (split_of (to_look_at loads workers)))) (sym (le-leb (gap loads workers) 32 (omega arith)))
-
 pub next_action-move : (loads : List Load) (workers from to g : ℕ) (l : Load) → from ≡ fullest loads workers → to ≡ emptiest loads workers → g ≡ rows_on loads from - rows_on loads to → 32 < g
     → Some l ≡ largest (filter (fits_gap from g) loads) → Some (Move l.shard to) ≡ next_action loads workers
 next_action-move loads workers from to g l from_is to_is g_is large found =
@@ -103,8 +97,3 @@ plan-moves actions more whole loads now workers n turn shard worker within befor
     ∙ append_assoc actions (Move shard worker ∷ []) (plan (after_move loads shard worker) workers (n - (turn + 1)))
     ∙ ap (λ o. actions ++ plan_from loads workers (n - (turn + 1)) o) next
     ∙ so_far actions whole loads workers n turn within before
-
-pub plan-all : (actions whole : List Action) (loads : List Load) (workers n turn : ℕ) → n ≤ turn → actions ++ plan loads workers (n - turn) ≡ whole → actions ≡ whole
-plan-all actions whole loads workers n turn done before =
-    let none : n - turn ≡ 0 = omega arith in
-    sym (append-nil actions) ∙ ap (λ k. actions ++ plan loads workers k) (sym none) ∙ before

@@ -1,5 +1,5 @@
 -- The blocks of cells, as those that are made give them.
-use Rattle.std.proofs.Common.{ℕ, zero, suc, ◌≡◌, ◌+◌, ◌-◌, ◌<◌, ◌≤◌, List, [], ◌∷◌, ◌++◌, length, set, get_or, replicate, reverse, refl, sym, ap, ◌∙◌, arith, append-nil, append_assoc}
+use Rattle.std.proofs.Common.{ℕ, zero, suc, ◌≡◌, ◌+◌, ◌-◌, ◌<◌, ◌≤◌, List, [], ◌∷◌, ◌++◌, length, set, get_or, replicate, reverse, refl, sym, ap, ◌∙◌, arith, append_assoc}
 use Rattle.std.proofs.lemmas.List.{length-append, length-set, length-replicate, length-reverse, get_or-reverse, get_or-append_right, set-append_left, set-append_right, reverse-append, replicate_more}
 use Rattle.dc_node.specs.declared.block.Block.{Block}
 use Rattle.tree_shape.specs.Trees.{leaf_without_rows}
@@ -47,9 +47,6 @@ made-one missing left made e =
     ap (λ ys. replicate left none ++ ys) (reverse-append made (none ∷ []))
     ∙ sym (append_assoc (replicate left none) (none ∷ []) (reverse made))
     ∙ ap (λ ys. ys ++ reverse made) (replicate_more left none ∙ ap (λ n. replicate n none) e)
-
-pub none-made : (n : ℕ) → by_cell n [] ≡ replicate n none
-none-made n = append-nil (replicate n none)
 
 -- the same of what contracts see
 module _ (cells : ℕ) (made : List Block) (v : BlocksValue) (view_is : record { items = by_cell (cells - length made) made; missing = cells - length made } ≡ v) (few : length made ≤ cells) where

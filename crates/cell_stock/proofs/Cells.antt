@@ -74,15 +74,6 @@ IsStock-taken s kept n v fits = record {
   ids = v.ids;
 }
 
--- the stock after spares that were out came back
-pub IsStock-given : (s : StockValue) (spares : List Spare) → IsStock s → AreOut s spares → IsStock (record s { free = s.free ++ cells_of spares })
-IsStock-given s spares v out = record {
-  known = All-append (λ cell. cell < s.cells) s.free (cells_of spares) v.known out.known;
-  once = out.once;
-  stamps = v.stamps;
-  ids = v.ids;
-}
-
 -- there is room for them
 pub room_for_given : (s : StockValue) (spares : List Spare) → IsStock s → AreOut s spares → length s.free + length spares ≤ s.cells
 room_for_given s spares v out =

@@ -16,7 +16,3 @@ set-entry xs place e within =
 pub set-refilled : (xs ys : List Entry) (place : ℕ) (e : Entry) → ys ≡ xs → refill (length xs) xs (slice_set ys place e) ≡ slice_set xs place e
 set-refilled xs ys place e same =
     rw same (take_at (slice_set xs place e) (drop (length (slice_set xs place e)) xs) (length xs) (length-set xs place e))
-
--- the same, in place of the entry there
-pub set-replaced : (xs ys : List Entry) (place : ℕ) (e : Entry) → ys ≡ xs → place < length xs → refill (length xs) xs (slice_set ys place e) ≡ replaced xs place (e ∷ [])
-set-replaced xs ys place e same within = set-refilled xs ys place e same ∙ set-entry xs place e within

@@ -66,15 +66,6 @@ up-up t w id high low c a b =
     let f : m + (high - low) ≡ level_of id - low = omega arith in
     ap (λ n. climb t n (climb t m id)) e ∙ climb-climb t m (high - low) id ∙ ap (λ n. climb t n id) f
 
--- the parent of an ancestor is the ancestor one level higher
-pub parent-up : (t : Tree) (id level : ℕ) → suc level ≤ level_of id → parent t (up t id (suc level)) ≡ up t id level
-unfolding up climb
-parent-up t id level h =
-    let m = level_of id - suc level in
-    let e : m + 1 ≡ level_of id - level = omega arith in
-    let one : climb t 1 (climb t m id) ≡ climb t (m + 1) id = climb-climb t m 1 id in
-    one ∙ ap (λ n. climb t n id) e
-
 -- the ancestor of the parent is the concept's own
 pub up-parent : (t : Tree) → IsTree t → (id level : ℕ) → IsConcept t id → level < level_of id → up t (parent t id) level ≡ up t id level
 unfolding up climb

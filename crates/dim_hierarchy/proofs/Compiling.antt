@@ -3,7 +3,7 @@ use Rattle.std.proofs.Common.{ℕ, ◌≡◌, ◌+◌, ◌-◌, ◌<◌, ◌≤�
 use Rattle.std.specs.Prelude.{All as Each, ◌==◌, filter, nat_lt, not}
 use Rattle.std.specs.List.{list_all, list_any}
 use Rattle.std.proofs.lemmas.Bool.{cases_lt, eqb-true}
-use Rattle.std.proofs.lemmas.List.{get_or_append_left, get_or_push, get_or_default}
+use Rattle.std.proofs.lemmas.List.{get_or_append_left, get_or_push}
 use Rattle.std.proofs.lemmas.List.Elements.{All-head, All-tail}
 use Rattle.dim_hierarchy.specs.Concept.{level_of, number_of}
 use Rattle.dim_hierarchy.specs.Tree.{Tree, IsConcept, IsLeaf, leaf_level, parents_at}
@@ -41,29 +41,12 @@ AreFilterMarks-all h f n marks v e u = record {
   each = λ dim lt. u.each dim (omega (arith, e, lt));
 }
 
--- the marks of a dimension, as the code reads them
-pub marks_read : (h : List Dimension) (f : List Pick) (all : List (Option (List (List ℕ)))) (i dim : ℕ) (marks : Option (List (List ℕ))) → AreFilterMarks h f all → dim < length h
-    → i ≡ dim → marks ≡ get_or all i marks → AreDimMarks (tree h dim) (pick_at f dim) marks
-marks_read h f all i dim marks a lt e read =
-    let within : dim < length all = let n = a.count in omega (arith, n, lt) in
-    let is : marks ≡ get_or all dim None = read ∙ ap (λ k. get_or all k marks) e ∙ get_or_default all dim marks None within in
-    subst (AreDimMarks (tree h dim) (pick_at f dim)) (sym is) (a.each dim lt)
-
 -- What is read at a concept.
 
 pub record IsRead (t : Tree) (p : Pick) (id : ℕ) (marks : List (List ℕ)) : Type 0 where
   pub level : level_of id < length marks
   pub number : number_of id < length (get_or marks (level_of id) [])
   pub is : mark_at marks id ≡ mark t p id
-
-pub IsRead-at : (t : Tree) (p : Pick) (id : ℕ) (marks : List (List ℕ)) → AreMarksOf t p marks → IsConcept t id → IsRead t p id marks
-IsRead-at t p id marks m c =
-    let lc = c.level in
-    let here = m.each (level_of id) lc in record {
-      level = let n = m.count in omega (arith, n, lc);
-      number = let n = here.count in let k = c.number in omega (arith, n, k);
-      is = here.each id c refl;
-    }
 
 -- What is read at concepts of a level.
 

@@ -1,15 +1,15 @@
 -- Marks, and the pick that they stand for.
 use Rattle.std.proofs.Common.{ℕ, zero, suc, ◌≡◌, ◌≢◌, ◌+◌, ◌-◌, ◌*◌, ◌<◌, ◌≤◌, List, [], ◌∷◌, ◌++◌, length, get_or, set, take, refl, sym, ap, subst, ◌∙◌, arith, Bool, true, false, eqb, inl, inr, eq-eqb, ◌⊎◌}
-use Rattle.std.specs.Prelude.{◌||◌, ◌==◌, nat_lt, if◌then◌else◌, replicate}
+use Rattle.std.specs.Prelude.{◌||◌, ◌==◌, nat_lt, if◌then◌else◌}
 use Rattle.std.specs.List.{list_any}
 use Rattle.std.proofs.lemmas.Bool.{cases_lt, eqb-true}
-use Rattle.std.proofs.lemmas.List.{get_or-set_same, get_or-set_other, get_or-replicate, get_or_past, get_or_append_left, get_or_push, take_more, length-replicate, length-append}
+use Rattle.std.proofs.lemmas.List.{get_or-set_same, get_or-set_other, get_or_append_left, get_or_push, take_more, length-append}
 use Rattle.std.proofs.lemmas.List.Folds.{list_any-append}
 use Rattle.dim_hierarchy.specs.Concept.{level_of, number_of, id_of}
 use Rattle.dim_hierarchy.specs.Tree.{Tree, IsConcept, IsTree, is_under, way_up, parent, parents_at, up}
 use Rattle.dim_hierarchy.specs.Filter.{is_picked}
 use Rattle.dim_hierarchy.specs.declared.filter.Pick.{Pick}
-use Rattle.dim_hierarchy.specs.declared.filter.Pick.TheVariants.{All, Ids}
+use Rattle.dim_hierarchy.specs.declared.filter.Pick.TheVariants.{Ids}
 use Rattle.dim_hierarchy.specs.Marks.{is_above, mark_of, mark, AreLevelMarks, AreUpperMarks, listed_mark, AreListed, mark_more, noted, Notes, raised, inherited, Inherits}
 use Rattle.dim_hierarchy.proofs.Ancestors.{up-IsConcept, level_of-up, up-self, is_under-at, is_under-below}
 
@@ -32,14 +32,6 @@ mark_some t p id = cases (is_picked t p id) (is_above t p id)
     cases false false = refl
 
 -- Listed concepts.
-
-pub AreListed-none : (t : Tree) (level n : ℕ) → AreListed t level [] (replicate n 0)
-AreListed-none t level n = record {
-  each = λ id c e. elim (cases_lt (number_of id) n) [
-    | inl h ↦ get_or-replicate n (number_of id) 0 0 h
-    | inr h ↦ get_or_past (replicate n 0) (number_of id) 0 (let r = length-replicate n (let z : ℕ = 0 in z) in omega (arith, r, h))
-  ];
-}
 
 listed_more : (t : Tree) (ids : List ℕ) (x id : ℕ) → listed_mark t (ids ++ x ∷ []) id ≡ noted t x id (listed_mark t ids id)
 listed_more t ids x id =
@@ -242,22 +234,6 @@ AreLevelMarks-below t w level ids upper old new lt n u a i = record {
       ∙ sym (picked_parent t w ids id c (omega (arith, e, lt)));
 }
 
-pub AreLevelMarks-all : (t : Tree) (level n : ℕ) → n ≡ length (parents_at t level) → AreLevelMarks t All level (replicate n 2)
-AreLevelMarks-all t level n e = record {
-  count = length-replicate n (let two : ℕ = 2 in two) ∙ e;
-  each = λ id c l.
-      let h : length (parents_at t (level_of id)) ≡ length (parents_at t level) = ap (λ k. length (parents_at t k)) l in
-      let m = c.number in
-      get_or-replicate n (number_of id) 2 0 (omega (arith, e, h, m));
-}
-
--- the parent of a concept is within the level above
-pub parent_within : (t : Tree) → IsTree t → (id : ℕ) (upper : List ℕ) → IsConcept t id → length upper ≡ length (parents_at t (level_of id - 1)) → number_of (parent t id) < length upper
-parent_within t w id upper c n =
-    let p = (w.parent_concept id c).number in
-    let h : length (parents_at t (level_of (parent t id))) ≡ length (parents_at t (level_of id - 1)) = ap (λ k. length (parents_at t k)) (w.parent_level id c) in
-    omega (arith, p, h, n)
-
 -- Concepts by number.
 
 pub level_of-id_of : (level n : ℕ) → n < 268435456 → level_of (id_of level n) ≡ level
@@ -265,12 +241,6 @@ level_of-id_of level n lt = omega (arith, lt)
 
 pub number_of-id_of : (level n : ℕ) → n < 268435456 → number_of (id_of level n) ≡ n
 number_of-id_of level n lt = omega (arith, lt)
-
-pub IsConcept-id_of : (t : Tree) (level n : ℕ) → n < 268435456 → level < length t → n < length (parents_at t level) → IsConcept t (id_of level n)
-IsConcept-id_of t level n lt l h = record {
-  level = rw (level_of-id_of level n lt) l;
-  number = rw (level_of-id_of level n lt, number_of-id_of level n lt) h;
-}
 
 -- The loop in which the concepts of a level take the marks of their parents.
 

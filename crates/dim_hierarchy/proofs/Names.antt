@@ -54,9 +54,6 @@ same_keys x y = bytes_eq x.items y.items
 bytes_eq-is : (x y : List ℕ) → bytes_eq x y ≡ true → x ≡ y
 bytes_eq-is x y h = by_byte-is_eq x y (is_eq-slice_cmp x y ∙ h)
 
-bytes_eq-itself : (x : List ℕ) → bytes_eq x x ≡ true
-bytes_eq-itself x = sym (is_eq-slice_cmp x x) ∙ ap is_eq (by_byte-itself x)
-
 -- what is found after an insertion
 lookup-inserted : (old new : List (Vec ℕ Global × ℕ)) (name : Vec ℕ Global) (id : ℕ) → lookup (same_keys name) new ≡ Some id → KeepsOthers same_keys (same_keys name) old new
     → (q : List ℕ) → lookup (same_bytes q) new ≡ cond (bytes_eq q name.items) (Some id) (lookup (same_bytes q) old)

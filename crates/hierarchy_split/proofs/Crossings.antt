@@ -2,7 +2,6 @@
 use Rattle.std.proofs.Common.{ℕ, ◌≡◌, ◌+◌, ◌<◌, Bool, true, false, not, ◌&&◌, cond, eqb, zero, suc, List, [], ◌∷◌, ◌++◌, length, map, get_or, refl, sym, ap, subst, ◌∙◌, arith}
 use Rattle.std.specs.Prelude.{All, Contains}
 use Rattle.std.specs.List.{list_any, filter, count_by}
-use Rattle.std.proofs.Math.Bool.{or-false}
 use Rattle.std.proofs.lemmas.Bool.{false≢true, or_from, or_parts, eq-eqb, eqb-true}
 use Rattle.std.proofs.lemmas.List.{length-map, get_or-map, get_or_default, get_or_append_left, get_or-append-add, length-append}
 use Rattle.std.proofs.lemmas.List.Elements.{All-head, All-tail, All-append, All-filter, filter_passes}
@@ -104,12 +103,6 @@ not_among : (h : List Dimension) (dim level : ℕ) (set : DescSet) (ys : List �
 not_among h dim level set ys a = test-from_AreApart (λ id. up (tree h dim) id level) (part_at set dim).ids.items ys a
 
 -- With no item of another block.
-
-pub crossed_alone : (h : List Dimension) (head sets : List DescSet) (dim level : ℕ) → map (is_crossed_in_head h head dim level) sets ≡ map (is_crossed h head [] dim level) sets
-crossed_alone h head [] dim level = refl
-crossed_alone h head (x ∷ xs) dim level =
-    ap (λ b. b ∷ map (is_crossed_in_head h head dim level) xs) (sym (or-false (is_crossed_in_head h head dim level x)))
-    ∙ ap (λ l. is_crossed h head [] dim level x ∷ l) (crossed_alone h head xs dim level)
 
 -- That no kept item is crossed says that the kept items are apart from the others.
 

@@ -1,21 +1,19 @@
 -- What is kept of a group's head cuts, and what it says of them.
-use Rattle.std.proofs.Common.{ℕ, ◌≡◌, ◌+◌, ◌<◌, ◌≤◌, zero, suc, Bool, Option, Some, None, List, [], ◌∷◌, ◌++◌, length, map, get_or, refl, sym, ap, subst, ◌∙◌, arith, inl, inr}
+use Rattle.std.proofs.Common.{ℕ, ◌≡◌, ◌+◌, ◌<◌, ◌≤◌, Bool, Option, Some, None, List, [], ◌∷◌, ◌++◌, length, map, get_or, refl, sym, ap, subst, ◌∙◌, arith, inl, inr}
 use Rattle.std.specs.Prelude.{IfSome, IfNone, ◌==◌}
 use Rattle.std.specs.List.{count_by}
 use Rattle.std.specs.Option.{unwrap_or}
 use Rattle.std.proofs.Math.Seq.{get_or-append_seam}
 use Rattle.std.proofs.lemmas.Bool.{cases_lt}
-use Rattle.std.proofs.lemmas.Option.{none-some}
 use Rattle.std.proofs.lemmas.List.{length-map, get_or_append_left}
-use Rattle.std.proofs.lemmas.List.Elements.{All-nil, All-append}
 use Rattle.std.proofs.lemmas.List.Sums.{length-filter}
 use Rattle.dim_hierarchy.specs.Dimension.{Dimension}
 use Rattle.describing_set.specs.DescSet.{part_at}
 use Rattle.describing_set.specs.declared.set.DescSet.{DescSet}
 use Rattle.hierarchy_split.specs.Order.{least}
-use Rattle.hierarchy_split.specs.Cut.{lifted, leasts, IsAbove, IsCutLevel}
-use Rattle.hierarchy_split.specs.Crossing.{is_crossed_in_head, is_crossed}
-use Rattle.hierarchy_split.specs.Head.{GroupItems, head_items, with_other, IsHeadLevel, is_kept, kept_items, IsHeadCut, IsGoodHead, IsGoodHeadCut}
+use Rattle.hierarchy_split.specs.Cut.{lifted, leasts}
+use Rattle.hierarchy_split.specs.Crossing.{is_crossed}
+use Rattle.hierarchy_split.specs.Head.{GroupItems, with_other, IsHeadLevel, is_kept, kept_items, IsHeadCut, IsGoodHead, IsGoodHeadCut}
 use Rattle.hierarchy_split.specs.Best.{IsBestWith, IsBetterOf, IsFlaggedGood, IsFlaggedAt}
 use Rattle.hierarchy_split.specs.Flags.{AreDimCutsOf, cuts_at, AreHeadCutsOf, IsFlaggedIn, IsFlagged}
 use Rattle.hierarchy_split.specs.declared.head_cut.HeadCut.{HeadCut}
@@ -23,40 +21,17 @@ use Rattle.hierarchy_split.specs.declared.head.DimCuts.{DimCuts}
 use Rattle.hierarchy_split.specs.declared.head.HeadCuts.{HeadCuts}
 use Rattle.hierarchy_split.proofs.Cuts.{IsCutLevel-unique}
 use Rattle.hierarchy_split.proofs.Heads.{IsBestWith-both}
-use Rattle.hierarchy_split.proofs.Crossings.{all_left, all_right, crossed_alone, count_by-map, apart_from_uncrossed, uncrossed_from_apart}
+use Rattle.hierarchy_split.proofs.Crossings.{all_left, count_by-map, apart_from_uncrossed, uncrossed_from_apart}
 
 -- Head levels.
 
-pub alone_level : (h : List Dimension) (head : List DescSet) (dim level : ℕ) → IsCutLevel h head dim level → IsHeadLevel h (head_items head) dim level
-alone_level h head dim level c = record { cut_level = c; others = All-nil (λ set. level ≤ (part_at set dim).level) }
-
-one_above : (set : DescSet) (dim level : ℕ) → level ≤ (part_at set dim).level → IsAbove (set ∷ []) dim level
-one_above set dim level le zero d lt = le
-one_above set dim level le (suc k) d lt = absurd (omega arith)
-
-pub more_level : (h : List Dimension) (items : GroupItems) (set : DescSet) (dim level : ℕ) → level ≤ (part_at set dim).level → IsHeadLevel h items dim level → IsHeadLevel h (with_other items set) dim level
-more_level h items set dim level le l = record {
-  cut_level = l.cut_level;
-  others = All-append (λ other. level ≤ (part_at other dim).level) items.others (set ∷ []) l.others (one_above set dim level le);
-}
-
 pub less_level : (h : List Dimension) (items : GroupItems) (set : DescSet) (dim level : ℕ) → IsHeadLevel h (with_other items set) dim level → IsHeadLevel h items dim level
 less_level h items set dim level l = record { cut_level = l.cut_level; others = all_left (λ other. level ≤ (part_at other dim).level) items.others (set ∷ []) l.others }
-
-last_level : (h : List Dimension) (items : GroupItems) (set : DescSet) (dim level : ℕ) → IsHeadLevel h (with_other items set) dim level → level ≤ (part_at set dim).level
-last_level h items set dim level l = all_right (λ other. level ≤ (part_at other dim).level) items.others (set ∷ []) l.others 0 set (omega arith)
 
 pub IsHeadLevel-unique : (h : List Dimension) (items : GroupItems) (dim a b : ℕ) → IsHeadLevel h items dim a → IsHeadLevel h items dim b → a ≡ b
 IsHeadLevel-unique h items dim a b p q = IsCutLevel-unique h items.head dim a b p.cut_level q.cut_level
 
 -- A dimension's cuts.
-
-pub cuts_of_head : (h : List Dimension) (head : List DescSet) (dim level : ℕ) (crossed : List Bool) (cuts : DimCuts) → cuts.level ≡ Some level → cuts.crossed.items ≡ crossed → IsCutLevel h head dim level → crossed ≡ map (is_crossed_in_head h head dim level) head → AreDimCutsOf h (head_items head) dim cuts
-cuts_of_head h head dim level crossed cuts e m c read = record {
-  level = subst (λ o. IfSome o (IsHeadLevel h (head_items head) dim)) (sym e) (alone_level h head dim level c);
-  none = subst (λ o. IfNone o ((level : ℕ) → ¬ IsHeadLevel h (head_items head) dim level)) (sym e) tt;
-  crossed = subst (λ o. IfSome o (λ level. cuts.crossed.items ≡ map (is_crossed h head [] dim level) head)) (sym e) (m ∙ read ∙ crossed_alone h head head dim level);
-}
 
 pub no_cuts : (h : List Dimension) (items : GroupItems) (dim : ℕ) (cuts : DimCuts) → cuts.level ≡ None → ((level : ℕ) → ¬ IsHeadLevel h items dim level) → AreDimCutsOf h items dim cuts
 no_cuts h items dim cuts e none = record {
@@ -84,19 +59,6 @@ cuts_none h items dim cuts e a = subst (λ o. IfNone o ((level : ℕ) → ¬ IsH
 pub struck_none : (h : List Dimension) (items : GroupItems) (set : DescSet) (dim : ℕ) (cuts now : DimCuts) → cuts.level ≡ None → now.level ≡ None → AreDimCutsOf h items dim cuts → AreDimCutsOf h (with_other items set) dim now
 struck_none h items set dim cuts now e n a = no_cuts h (with_other items set) dim now n (λ level l. cuts_none h items dim cuts e a level (less_level h items set dim level l))
 
-pub struck_out : (h : List Dimension) (items : GroupItems) (set : DescSet) (dim level : ℕ) (cuts now : DimCuts) → cuts.level ≡ Some level → now.level ≡ None → ¬ (level ≤ (part_at set dim).level) → AreDimCutsOf h items dim cuts → AreDimCutsOf h (with_other items set) dim now
-struck_out h items set dim level cuts now e n high a =
-    no_cuts h (with_other items set) dim now n (λ other l.
-    let same = IsHeadLevel-unique h items dim other level (less_level h items set dim other l) (cuts_level h items dim level cuts e a).head_level in
-    high (subst (λ n. n ≤ (part_at set dim).level) same (last_level h items set dim other l)))
-
-pub struck_more : (h : List Dimension) (items : GroupItems) (set : DescSet) (dim level : ℕ) (cuts now : DimCuts) → cuts.level ≡ Some level → now.level ≡ Some level → level ≤ (part_at set dim).level → now.crossed.items ≡ map (is_crossed h items.head (items.others ++ set ∷ []) dim level) items.head → AreDimCutsOf h items dim cuts → AreDimCutsOf h (with_other items set) dim now
-struck_more h items set dim level cuts now e n le crossed a = record {
-  level = subst (λ o. IfSome o (IsHeadLevel h (with_other items set) dim)) (sym n) (more_level h items set dim level le (cuts_level h items dim level cuts e a).head_level);
-  none = subst (λ o. IfNone o ((level : ℕ) → ¬ IsHeadLevel h (with_other items set) dim level)) (sym n) tt;
-  crossed = subst (λ o. IfSome o (λ level. now.crossed.items ≡ map (is_crossed h items.head (items.others ++ set ∷ []) dim level) items.head)) (sym n) crossed;
-}
-
 -- what is kept for the dimensions below a number, and for this one
 pub cuts_pushed : (P : ℕ → DimCuts → Type 0) (dims now : List DimCuts) (n : ℕ) (cuts : DimCuts) → now ≡ dims ++ cuts ∷ [] → length dims ≡ n → ((k : ℕ) → k < n → P k (cuts_at dims k)) → P n cuts → (k : ℕ) → k < n + 1 → P k (cuts_at now k)
 cuts_pushed P dims now n cuts e count below here k lt =
@@ -110,15 +72,6 @@ cuts_pushed P dims now n cuts e count below here k lt =
     ])
 
 -- What the calls ask.
-
-pub cuts_above : (h : List Dimension) (items : GroupItems) (head : List DescSet) (dim : ℕ) (cuts : DimCuts) (level : Option ℕ) → cuts.level ≡ level → head ≡ items.head → AreDimCutsOf h items dim cuts → IfSome level (IsAbove head dim)
-cuts_above h items head dim cuts None e same a = tt
-cuts_above h items head dim cuts (Some level) e same a = subst (λ sets. IsAbove sets dim level) (sym same) (cuts_level h items dim level cuts e a).head_level.cut_level.above
-
-pub cuts_count : (h : List Dimension) (items : GroupItems) (head : List DescSet) (dim : ℕ) (cuts : DimCuts) (level : Option ℕ) → cuts.level ≡ level → head ≡ items.head → AreDimCutsOf h items dim cuts → IfSome level (λ level. length cuts.crossed.items ≡ length head)
-cuts_count h items head dim cuts None e same a = tt
-cuts_count h items head dim cuts (Some level) e same a =
-    ap (λ l. length l) (cuts_level h items dim level cuts e a).crossed_is ∙ length-map items.head (is_crossed h items.head items.others dim level) ∙ ap (λ l. length l) (sym same)
 
 -- Good by what is kept, and good.
 
@@ -206,16 +159,10 @@ best_of_level h head dim level cuts xs crossed best e read m b =
     })
     b
 
-pub best_of_none : (h : List Dimension) (head : List DescSet) (dim : ℕ) (cuts : DimCuts) → cuts.level ≡ None → IsBestWith (IsFlaggedIn h head dim cuts) None
-best_of_none h head dim cuts e = λ cut f. none-some cut.level (sym e ∙ f.level)
-
 -- it is good by what is kept for a dimension below a number
 pub record IsFlaggedBelow (h : List Dimension) (head : List DescSet) (dims : List DimCuts) (n : ℕ) (cut : HeadCut) : Type 0 where
   pub flagged : IsFlagged h head dims cut
   pub below : cut.dim < n
-
-pub best_below_none : (h : List Dimension) (head : List DescSet) (dims : List DimCuts) → IsBestWith (IsFlaggedBelow h head dims 0) None
-best_below_none h head dims = λ cut f. let b = f.below in omega (arith, b)
 
 pub best_below_more : (h : List Dimension) (head : List DescSet) (dims : List DimCuts) (n : ℕ) (cuts : DimCuts) (best found now : Option HeadCut) → n < length h → cuts ≡ cuts_at dims n → IsBestWith (IsFlaggedBelow h head dims n) best → IsBestWith (IsFlaggedIn h head n cuts) found → IsBetterOf best found now → IsBestWith (IsFlaggedBelow h head dims (n + 1)) now
 best_below_more h head dims n cuts best found now lt read b f better =

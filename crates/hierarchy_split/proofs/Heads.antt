@@ -112,9 +112,6 @@ pub record IsOfConcept (dim level : ℕ) (leasts : List ℕ) (crossed : List Boo
 abbrev pub IsBestBelow : ℕ → ℕ → List ℕ → List Bool → ℕ → Option HeadCut → Type 0
 IsBestBelow dim level leasts crossed n best = IsBestWith (IsBelow dim level leasts crossed n) best
 
-pub IsBestBelow-none : (dim level : ℕ) (leasts : List ℕ) (crossed : List Bool) → IsBestBelow dim level leasts crossed 0 None
-IsBestBelow-none dim level leasts crossed = λ cut i. let b = i.below in omega (arith, b)
-
 -- the good cut of a concept is the first of the cuts of this concept
 pub IsBestWith-concept : (dim level : ℕ) (leasts : List ℕ) (crossed : List Bool) (concept : ℕ) (found : Option HeadCut) → IfSome found (λ cut. cut.concept ≡ concept) → IfSome found (IsFlaggedAt dim level leasts crossed) → IfNone found ((cut : HeadCut) → cut.concept ≡ concept → ¬ IsFlaggedAt dim level leasts crossed cut) → IsBestWith (IsOfConcept dim level leasts crossed concept) found
 IsBestWith-concept dim level leasts crossed concept None is good none = λ cut i. none cut i.concept_is i.flagged

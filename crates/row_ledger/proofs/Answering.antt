@@ -13,7 +13,7 @@ use Rattle.dim_hierarchy.specs.Filter.{matches}
 use Rattle.measure_agg.specs.Aggregate.{Aggregate, agg}
 use Rattle.row_ledger.specs.declared.event.Event.{Event}
 use Rattle.row_ledger.specs.declared.event.Event.TheVariants.{Begun, Acked, Asked, Answered}
-use Rattle.row_ledger.specs.Past.{Ack, Query, Pull, begun, before, query_at, ack_in, pull_in, acked, acked_rows, has_ended}
+use Rattle.row_ledger.specs.Past.{Ack, Query, Pull, begun, before, query_at, ack_in, pull_in, acked, has_ended}
 use Rattle.row_ledger.specs.Shards.{is_path}
 use Rattle.row_ledger.specs.Bounds.{own, published, passed, listing_of, is_listed, listed, known, must, may, numbers, IsAllowed}
 use Rattle.row_ledger.specs.Kept.{CanAnswer, KeepsRight}
@@ -21,7 +21,6 @@ use Rattle.row_ledger.specs.Right.{Site, EachEvent, Stands, IsRightAnswer}
 use Rattle.row_ledger.proofs.Elements.{All-cons_option, Contains-filter, Contains-filtered}
 use Rattle.row_ledger.proofs.Positions.{event_at-here}
 use Rattle.row_ledger.proofs.Older.{may-older, is_path-older}
-use Rattle.row_ledger.proofs.Within.{Within, may-within}
 use Rattle.row_ledger.proofs.Growth.{KeepsRight-begun, KeepsRight-acked, KeepsRight-asked, KeepsRight-answered}
 use Rattle.row_ledger.proofs.Fresh.{fresh, begun-within}
 
@@ -136,13 +135,6 @@ pub CanAnswer-nil : (usable : ℕ → Bool) → CanAnswer usable [] []
 unfolding IsDistinct
 CanAnswer-nil usable = record { once = tt; allowed = All-nil (Contains (may usable [])); known = All-nil (λ (a : Ack). Contains [] a.row) }
 
-pub CanAnswer-within : (fewer more : ℕ → Bool) (past : List Event) (rows : List Row) → CanAnswer fewer past rows → Within fewer more → CanAnswer more past rows
-CanAnswer-within fewer more past rows can within = record {
-  once = can.once;
-  allowed = All-weaker (Contains (may fewer past)) (Contains (may more past)) (may-within fewer more within past) rows can.allowed;
-  known = can.known;
-}
-
 -- behind an event that acknowledges nothing the same rows can answer
 pub CanAnswer-older : (usable : ℕ → Bool) (e : Event) (past : List Event) (rows : List Row)
     → CanAnswer usable past rows → acked (e ∷ past) ≡ acked past → CanAnswer usable (e ∷ past) rows
@@ -194,11 +186,6 @@ CanAnswer-insert site placed h rows session server row path keeps can numbered i
           (All-weaker (λ (a : Ack). Contains rows a.row) (λ (a : Ack). Contains (row ∷ rows) a.row)
           (λ a has. Contains-append_right (row ∷ []) rows a.row has) (acked h) can.known));
     }
-
--- what an insert acknowledges stands in front
-pub acked_rows-insert : (h : List Event) (session server : ℕ) (row : Row) (path : List ℕ)
-    → acked_rows (Acked (length h) path ∷ Begun session server row ∷ h) ≡ row ∷ acked_rows h
-acked_rows-insert h session server row path = rw event_at-here refl
 
 -- Whole commands, the end right behind the beginning.
 

@@ -111,6 +111,3 @@ is_kept-open [] p is_open = refl
 is_kept-open (Failed of ∷ past) p is_open =
     let parts = or_parts (of == p) (has_ended past p) is_open in rw parts.0 (is_kept-open past p parts.1)
 is_kept-open (e ∷ past) p is_open = is_kept-open past p (or_parts (is_end_of p e) (has_ended past p) is_open).1
-
-pub is_kept-fresh : (site : Site) (usable : ℕ → Bool) (h : List Event) → EachEvent (Stands site usable) h → (p : ℕ) → length h ≤ p → is_kept h p ≡ true
-is_kept-fresh site usable h each p beyond = is_kept-open h p (fresh site usable h each p beyond)

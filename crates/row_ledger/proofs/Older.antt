@@ -1,18 +1,18 @@
 -- What an event adds to what is ended, acknowledged, begun and may be counted.
 use Rattle.std.proofs.Common.{◌≡◌, ℕ, List, [], ◌∷◌, Bool, true, false, IsTrue, length, refl, ap, sym, ◌∙◌, ◌==◌, inl, inr}
 use Rattle.std.specs.Prelude.{Option, Some, None, Contains, filter_map}
-use Rattle.std.specs.List.{list_any, list_all, cons_option}
+use Rattle.std.specs.List.{list_any, cons_option}
 use Rattle.std.specs.Option.{option_map_or}
-use Rattle.std.proofs.lemmas.Bool.{cases_lt, eq-eqb, false≢true, or_right, or_left, or_cases, and_parts, and_from}
+use Rattle.std.proofs.lemmas.Bool.{cases_lt, false≢true, or_right, or_left, or_cases, and_parts, and_from}
 use Rattle.std.proofs.lemmas.List.Elements.{Contains-append_right}
 use Rattle.dim_hierarchy.specs.declared.row.Row.{Row}
 use Rattle.row_ledger.specs.declared.event.Event.{Event}
 use Rattle.row_ledger.specs.declared.event.Event.TheVariants.{Begun}
-use Rattle.row_ledger.specs.Past.{Ack, ack_in, pull_in, split_in, is_beginning, ends_itself, end_in, is_end_of, has_ended, is_over, beginnings, is_idle, begun, acked}
+use Rattle.row_ledger.specs.Past.{Ack, ack_in, pull_in, split_in, ends_itself, is_end_of, has_ended, is_over, begun, acked}
 use Rattle.row_ledger.specs.Shards.{was_listed, is_child, descends, is_path}
 use Rattle.row_ledger.specs.Bounds.{own, published, passed, may}
 use Rattle.row_ledger.proofs.Elements.{Contains-cons_option, Contains-filter, Contains-filtered, IsTrue-filtered}
-use Rattle.row_ledger.proofs.Positions.{event_at-here, event_at-older, event_at-past}
+use Rattle.row_ledger.proofs.Positions.{event_at-older, event_at-past}
 
 pub has_ended-older : (e : Event) (past : List Event) (p : ℕ) → has_ended past p ≡ true → has_ended (e ∷ past) p ≡ true
 has_ended-older e past p ended = or_right (is_end_of p e) (has_ended past p) ended
@@ -78,39 +78,3 @@ is_over-older e past p over = elim (or_cases (has_ended past p) _ over) [
     | inr beyond ↦ absurd (false≢true (sym (ap (λ o. option_map_or ends_itself o false) (event_at-past past p beyond)) ∙ itself))
   ])
 ]
-
-pub are_over-older : (e : Event) (past : List Event) (ps : List ℕ) → list_all (is_over past) ps ≡ true → list_all (is_over (e ∷ past)) ps ≡ true
-are_over-older e past [] over = refl
-are_over-older e past (p ∷ ps) over =
-    let parts = and_parts (is_over past p) (list_all (is_over past) ps) over in
-    and_from (is_over (e ∷ past) p) (list_all (is_over (e ∷ past)) ps) (is_over-older e past p parts.0) (are_over-older e past ps parts.1)
-
--- no command is open where none was and the event begins none
-pub is_idle-older : (e : Event) (past : List Event) → is_beginning e ≡ false → is_idle past ≡ true → is_idle (e ∷ past) ≡ true
-is_idle-older e past none idle = rw none (are_over-older e past (beginnings past) idle)
-
--- nor where the event begins one that ends itself
-pub is_idle-itself : (e : Event) (past : List Event) → is_beginning e ≡ true → ends_itself e ≡ true → is_idle past ≡ true → is_idle (e ∷ past) ≡ true
-is_idle-itself e past begins ends idle =
-    rw begins
-    (and_from (is_over (e ∷ past) (length past)) (list_all (is_over (e ∷ past)) (beginnings past))
-    (or_right (has_ended (e ∷ past) (length past)) _ (ap (λ o. option_map_or ends_itself o false) (event_at-here e past) ∙ ends))
-    (are_over-older e past (beginnings past) idle))
-
--- nor where one begins and right behind it ends
-pub is_idle-ended : (b e : Event) (past : List Event) → is_beginning b ≡ true → is_beginning e ≡ false → end_in e ≡ Some (length past)
-    → is_idle past ≡ true → is_idle (e ∷ b ∷ past) ≡ true
-is_idle-ended b e past begins none ends idle =
-    rw (none, begins)
-    (and_from (is_over (e ∷ b ∷ past) (length past)) (list_all (is_over (e ∷ b ∷ past)) (beginnings past))
-    (or_left (has_ended (e ∷ b ∷ past) (length past)) _ (or_left (is_end_of (length past) e) (has_ended (b ∷ past) (length past)) (rw (ends, eq-eqb (length past) (length past) refl) refl)))
-    (are_over-older e (b ∷ past) (beginnings past) (are_over-older b past (beginnings past) idle)))
-
--- nor where it shows a page before that
-pub is_idle-shown : (b m e : Event) (past : List Event) → is_beginning b ≡ true → is_beginning m ≡ false → is_beginning e ≡ false → end_in e ≡ Some (length past)
-    → is_idle past ≡ true → is_idle (e ∷ m ∷ b ∷ past) ≡ true
-is_idle-shown b m e past begins between none ends idle =
-    rw (none, between, begins)
-    (and_from (is_over (e ∷ m ∷ b ∷ past) (length past)) (list_all (is_over (e ∷ m ∷ b ∷ past)) (beginnings past))
-    (or_left (has_ended (e ∷ m ∷ b ∷ past) (length past)) _ (or_left (is_end_of (length past) e) (has_ended (m ∷ b ∷ past) (length past)) (rw (ends, eq-eqb (length past) (length past) refl) refl)))
-    (are_over-older e (m ∷ b ∷ past) (beginnings past) (are_over-older m (b ∷ past) (beginnings past) (are_over-older b past (beginnings past) idle))))

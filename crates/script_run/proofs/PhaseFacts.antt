@@ -9,12 +9,6 @@ use Rattle.script_run.specs.Phases.{NoneCloses, closes, with_first, phases, all_
 
 -- commands up to the first that closes are a phase
 
-pub phases-closed : (cs : List Command) (c : Command) (more : List Command) → NoneCloses cs → closes c ≡ true
-    → phases (cs ++ c ∷ more) ≡ (cs ++ c ∷ []) ∷ phases more
-unfolding phases
-phases-closed [] c more none closed = rw closed refl
-phases-closed (x ∷ cs) c more none closed = rw none.0 (ap (with_first x) (phases-closed cs c more none.1 closed))
-
 -- and so are all where none closes
 pub phases-open : (c : Command) (cs : List Command) → NoneCloses (c ∷ cs) → phases (c ∷ cs) ≡ (c ∷ cs) ∷ []
 unfolding phases

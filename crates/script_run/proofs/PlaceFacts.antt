@@ -8,7 +8,7 @@ use Rattle.std.proofs.Math.ListN.{get_or-append}
 use Rattle.row_ledger.specs.declared.event.Event.{Event}
 use Rattle.row_ledger.specs.declared.settings.Use.{Use}
 use Rattle.script_form.specs.declared.script.Command.{Command}
-use Rattle.script_run.specs.Places.{session_of, count_of, begins_in, begins_of, place_behind, places_behind, places}
+use Rattle.script_run.specs.Places.{session_of, count_of, begins_in, begins_of, place_behind, places_behind}
 
 -- what one event adds to the beginnings of a session
 
@@ -89,10 +89,3 @@ places_behind-none with before (c ∷ cs) history none =
     record { counts = λ t. omega (arith, none.counts t, count_of-append with t before (c ∷ [])) } in
     ap (λ p. p ∷ places_behind with (before ++ c ∷ []) cs history) (slice_get_past (begins_of history (session_of with c)) (count_of with (session_of with c) before) (none.counts (session_of with c)))
     ∙ ap (λ ps. None ∷ ps) (places_behind-none with (before ++ c ∷ []) cs history none_on)
-
--- a command more that has begun last of its session
-pub places-push : (with : Use) (done : List Command) (c : Command) (history : List Event) (p : ℕ) → slice_get (begins_of history (session_of with c)) (count_of with (session_of with c) done) ≡ Some p
-    → places with (done ++ c ∷ []) history ≡ places with done history ++ Some p ∷ []
-unfolding places_behind
-places-push with done c history p here =
-    places_behind-append with [] done (c ∷ []) history ∙ ap (λ o. places with done history ++ o ∷ []) here

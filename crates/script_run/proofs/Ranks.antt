@@ -54,8 +54,3 @@ law-from k (d ∷ done) front c back (suc i) none is low less =
       | inr open_ ↦ let more = law-from k done front c back i none is (omega arith)
           (subst (λ l. get_or l (suc i) 0 < get_or l (suc (length done + length front)) 0) (ranks-open k d rest open_) less_on) in omega arith
     ]
-
-past-zero : (xs : List ℕ) (i : ℕ) → length xs ≤ i → get_or xs i 0 ≡ 0
-past-zero [] i h = refl
-past-zero (x ∷ xs) zero h = absurd (omega arith)
-past-zero (x ∷ xs) (suc i) h = past-zero xs i (omega arith)

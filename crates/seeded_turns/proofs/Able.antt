@@ -1,20 +1,10 @@
 -- Facts on the actors that can step.
-use Rattle.std.proofs.Common.{◌≡◌, ℕ, zero, suc, ◌+◌, ◌<◌, ◌≤◌, ◌⊎◌, inl, inr, Bool, true, false, cond, List, [], ◌∷◌, ◌++◌, length, Option, None, Some, IfSome, refl, ap, ◌∙◌, subst, arith, length-append, add-one}
+use Rattle.std.proofs.Common.{◌≡◌, ℕ, zero, suc, ◌+◌, ◌<◌, ◌≤◌, ◌⊎◌, inl, inr, Bool, true, false, cond, List, [], ◌∷◌, ◌++◌, length, Option, None, Some, IfSome, refl, ◌∙◌, subst, arith, length-append}
 use Rattle.std.specs.List.{slice_get}
 use Rattle.seeded_turns.specs.Drawn.{able}
 
-skipped : (b : Bool) (xs ys : List ℕ) → b ≡ false → cond b xs ys ≡ ys
-skipped b xs ys e = rw e
-
 taken : (b : Bool) (xs ys : List ℕ) → b ≡ true → cond b xs ys ≡ xs
 taken b xs ys e = rw e
-
--- one more actor that can't step, or can
-pub able_skip : (can : ℕ → Bool) (n : ℕ) → can n ≡ false → able can (n + 1) ≡ able can n
-able_skip can n e = rw add-one (skipped (can n) (able can n ++ n ∷ []) (able can n) e)
-
-pub able_take : (can : ℕ → Bool) (n : ℕ) → can n ≡ true → able can (n + 1) ≡ able can n ++ n ∷ []
-able_take can n e = rw add-one (taken (can n) (able can n ++ n ∷ []) (able can n) e)
 
 few_step : (b : Bool) (xs : List ℕ) (n : ℕ) → length xs ≤ n → length (cond b (xs ++ n ∷ []) xs) ≤ suc n
 few_step true xs n h = simp length-append (omega arith)
@@ -56,20 +46,6 @@ last_of [] n zero i e = inr (cc)
 last_of [] n (suc k) i e = cc
 last_of (x ∷ xs) n zero i e = inl e
 last_of (x ∷ xs) n (suc k) i e = last_of xs n k i e
-
-is_step : (b : Bool) (can : ℕ → Bool) (n k i : ℕ) → can n ≡ b → (slice_get (able can n) k ≡ Some i → (i < n) × (can i ≡ true))
-    → slice_get (cond b (able can n ++ n ∷ []) (able can n)) k ≡ Some i → (i < suc n) × (can i ≡ true)
-is_step false can n k i is more e = let m = more e in (omega (arith, m.0), m.1)
-is_step true can n k i is more e =
-    elim (last_of (able can n) n k i e) [
-      | inl before ↦ let m = more before in (omega (arith, m.0), m.1)
-      | inr at ↦ (omega arith, ap can at ∙ is)
-    ]
-
--- each of the actors is below the number, and can step
-pub able_is : (can : ℕ → Bool) (n k i : ℕ) → slice_get (able can n) k ≡ Some i → (i < n) × (can i ≡ true)
-able_is can zero k i e = cc
-able_is can (suc n) k i e = is_step (can n) can n k i refl (able_is can n k i) e
 
 -- what is found so is so in other words
 pub some_so : {A : Type 0} (o : Option A) (P Q : A → Type 0) → ((x : A) → P x → Q x) → IfSome o P → IfSome o Q

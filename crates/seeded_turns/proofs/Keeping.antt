@@ -14,20 +14,6 @@ pub run_keeps : (S : Type 0) (able_in : S → List ℕ) (makes : S → ℕ → S
     → (from : Moment S) (to : S) (schedule : Schedule) → Reaches S able_in makes from to schedule → P from.state → P to
 run_keeps S able_in makes P kept from to schedule r p = turns_keep S able_in makes P kept from (record { state = to; schedule = schedule }) r.turns r.are p
 
--- a run behind a run is one run
-turns_join : (S : Type 0) (able_in : S → List ℕ) (makes : S → ℕ → S → Type 0) (from mid to : Moment S) (first later : List (Moment S))
-    → AreTurns S able_in makes from first mid → AreTurns S able_in makes mid later to → (all : List (Moment S)) × AreTurns S able_in makes from all to
-turns_join S able_in makes from mid to first [] a b = (first, subst (AreTurns S able_in makes from first) (sym b) a)
-turns_join S able_in makes from mid to first (last ∷ later) a (turn, are) =
-    let rest = turns_join S able_in makes from mid last first later a are in
-    (last ∷ rest.0, (turn, rest.1))
-
-pub runs_join : (S : Type 0) (able_in : S → List ℕ) (makes : S → ℕ → S → Type 0) (from mid : Moment S) (to : S) (schedule : Schedule)
-    → Reaches S able_in makes from mid.state mid.schedule → Reaches S able_in makes mid to schedule → Reaches S able_in makes from to schedule
-runs_join S able_in makes from mid to schedule a b =
-    let all = turns_join S able_in makes from mid (record { state = to; schedule = schedule }) a.turns b.turns a.are b.are in
-    record { turns = all.0; are = all.1 }
-
 -- A run of states is a run of what they stand for, where each step is one of these, and the same actors can step.
 module _ (S T : Type 0) (of : S → T) (able_in : S → List ℕ) (makes : S → ℕ → S → Type 0) (able_of : T → List ℕ) (makes_of : T → ℕ → T → Type 0)
     (P : S → Type 0) (kept : (s t : S) (i : ℕ) → makes s i t → P s → P t)

@@ -1,13 +1,13 @@
 -- The spot before which no other comes.
-use Rattle.std.proofs.Common.{ℕ, ◌≡◌, ◌+◌, ◌<◌, ◌⊎◌, inl, inr, List, length, Some, sym, ap, ◌∙◌, subst, arith}
+use Rattle.std.proofs.Common.{ℕ, ◌≡◌, ◌+◌, ◌<◌, ◌⊎◌, inl, inr, List, Some, sym, ap, ◌∙◌, subst, arith}
 use Rattle.std.specs.Prelude.{slice_get}
 use Rattle.std.proofs.lemmas.Bool.{cases_lt}
-use Rattle.std.proofs.lemmas.Option.{same_Some, slice_get_within}
+use Rattle.std.proofs.lemmas.Option.{same_Some}
 use Rattle.dim_hierarchy.specs.Dimension.{Dimension}
 use Rattle.dim_hierarchy.specs.declared.row.Coord.{Coord}
 use Rattle.describing_set.specs.Sets.{growth_of, size_of}
 use Rattle.describing_set.specs.declared.listing.Spot.{Spot}
-use Rattle.server_image.specs.Image.{RanksBefore, IsRoute}
+use Rattle.server_image.specs.Image.{RanksBefore}
 
 -- The order, over its numbers: growth, size and id.
 
@@ -50,15 +50,6 @@ pub record IsFirstOf (h : List Dimension) (at : Coord) (spots : List Spot) (n be
   pub within : best < n
   pub first : (spot other : Spot) (k : ℕ) → k < n → slice_get spots best ≡ Some spot → slice_get spots k ≡ Some other → ¬ RanksBefore h at other spot
 
-pub IsFirstOf-one : (h : List Dimension) (at : Coord) (spots : List Spot) → IsFirstOf h at spots 1 0
-IsFirstOf-one h at spots = record {
-  within = omega arith;
-  first = λ spot other k lt p q.
-      let e : k ≡ 0 = omega (arith, lt) in
-      let same : other ≡ spot = same_Some other spot (sym q ∙ ap (slice_get spots) e ∙ p) in
-      subst (λ s. ¬ RanksBefore h at other s) same (RanksBefore-not_itself h at other);
-}
-
 module _ (h : List Dimension) (at : Coord) (spots : List Spot) (n best : ℕ) (was : IsFirstOf h at spots n best) (spot next : Spot) (here : slice_get spots best ≡ Some spot) (there : slice_get spots n ≡ Some next) where
   pub IsFirstOf-keeps : ¬ RanksBefore h at next spot → IsFirstOf h at spots (n + 1) best
   IsFirstOf-keeps unless = record {
@@ -86,9 +77,3 @@ module _ (h : List Dimension) (at : Coord) (spots : List Spot) (n best : ℕ) (w
               subst (λ s. ¬ RanksBefore h at s next) same (RanksBefore-not_itself h at next)
         ]);
   }
-
-pub IsRoute-from_first : (h : List Dimension) (at : Coord) (spots : List Spot) (n best : ℕ) → n ≡ length spots → IsFirstOf h at spots n best → IsRoute h at spots best
-IsRoute-from_first h at spots n best all f = record {
-  within = let w = f.within in omega (arith, w, all);
-  first = λ spot other k p q. f.first spot other k (let lt = slice_get_within spots k other q in omega (arith, lt, all)) p q;
-}

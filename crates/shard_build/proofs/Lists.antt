@@ -52,12 +52,6 @@ all-part P from a b xs le h = All-take P (b - a) (drop a xs) (subst (All P) (dro
 pub all-at : {A : Type 0} (P : A → Type 0) (place : ℕ) (x : A) (xs : List A) → place < length xs → x ≡ get_or xs place x → All P (drop place xs) → P x
 all-at P place x xs lt is h = subst P (sym is) (All-head P (get_or xs place x) (drop (place + 1) xs) (subst (All P) (drop_more xs place x lt) h))
 
-pub only-at : {A : Type 0} (place : ℕ) (x f : A) (xs : List A) → place < length xs → x ≡ get_or xs place x → drop place xs ≡ f ∷ [] → f ≡ x
-only-at place x f xs lt is e =
-    let all : f ∷ [] ≡ get_or xs place x ∷ drop (place + 1) xs = sym e ∙ drop_more xs place x lt in
-    let first : f ≡ get_or xs place x = cc in
-    first ∙ sym is
-
 pub one-left : {A : Type 0} (from : ℕ) (xs : List A) → length xs ≡ from + 1 → (f : A) × (drop from xs ≡ f ∷ [])
 one-left zero [] e = absurd (omega arith)
 one-left zero (x ∷ []) e = (x, refl)

@@ -2,7 +2,7 @@
 use Rattle.std.proofs.Common.{◌≡◌, ℕ, ◌+◌, ◌-◌, ◌*◌, ◌<◌, ◌≤◌, true, false, List, [], ◌∷◌, ◌++◌, length, map, take, drop, refl, sym, ap, ◌∙◌, subst, arith, length-append}
 use Rattle.std.specs.Prelude.{min, None, reverse}
 use Rattle.std.specs.List.{AllZip}
-use Rattle.std.proofs.lemmas.List.{append-nil, append_assoc, map-append, reverse-append, length-reverse, length-map, length-take, length-drop}
+use Rattle.std.proofs.lemmas.List.{append-nil, append_assoc, map-append, reverse-append, length-take, length-drop}
 use Rattle.std.proofs.lemmas.List.Elements.{All-push}
 use Rattle.std.proofs.lemmas.Grind.{flat_map-append}
 use Rattle.dim_hierarchy.specs.declared.row.Row.{Row}
@@ -29,10 +29,6 @@ uses-both xs ys a b c u v = record {
 
 uses-one : (f : Fresh) (a b : PurseValue) → a.spares ≡ b.spares ++ spare_of f ∷ [] → b.room ≡ a.room + 1 → UsesUp (f ∷ []) a b
 uses-one f a b s r = record { spares = s; room = r }
-
-pub uses-count : (blocks : List Fresh) (a b : PurseValue) → UsesUp blocks a b → length a.spares ≡ length b.spares + length blocks
-uses-count blocks a b u =
-    ap length u.spares ∙ length-append b.spares (reverse (map spare_of blocks)) ∙ ap (λ n. length b.spares + n) (length-reverse (map spare_of blocks) ∙ length-map blocks spare_of)
 
 -- Leaves.
 

@@ -1,5 +1,5 @@
 -- The blocks that are left of a walk.
-use Rattle.std.proofs.Common.{ℕ, zero, suc, ◌≡◌, ◌+◌, Option, Some, None, List, [], ◌∷◌, ◌++◌, refl, sym, ap, ◌∙◌, append_assoc, arith, true, false, eqb}
+use Rattle.std.proofs.Common.{ℕ, zero, suc, ◌≡◌, ◌+◌, Option, Some, None, List, [], ◌∷◌, ◌++◌, refl, sym, ap, ◌∙◌, append_assoc, arith, false, eqb}
 use Rattle.std.proofs.Math.Dec.{eqb-suc-zero}
 use Rattle.std.specs.List.{flat_map}
 use Rattle.std.proofs.lemmas.List.Concat.{flat_map-append}
@@ -14,10 +14,6 @@ pub walk-none : (blocks : CellBlocks) (stamp n : ℕ) → walk blocks stamp n No
 walk-none blocks stamp zero = refl
 walk-none blocks stamp (suc n) = refl
 
-pub walk-done : (blocks : CellBlocks) (stamp n : ℕ) (next : Option Block) → n ≡ 0 → walk blocks stamp n next ≡ []
-walk-done blocks stamp zero next h = refl
-walk-done blocks stamp (suc n) next h = absurd (omega arith)
-
 -- one block, and those behind it
 pub walk-on : (blocks : CellBlocks) (stamp n m : ℕ) (block : Block) (next following : Option Block) → n ≡ m + 1 → next ≡ Some block → following ≡ after blocks stamp block
     → walk blocks stamp n next ≡ block ∷ walk blocks stamp m following
@@ -25,14 +21,6 @@ walk-on blocks stamp zero m block next following h is behind = absurd (omega ari
 walk-on blocks stamp (suc n) m block next following h is behind =
     let e : n ≡ m = omega arith in
     ap (walk blocks stamp (suc n)) is ∙ ap (λ k. block ∷ walk blocks stamp k (after blocks stamp block)) e ∙ ap (λ o. block ∷ walk blocks stamp m o) (sym behind)
-
-pub lines-low : (blocks : CellBlocks) (level depth : ℕ) (e : Entry) → level ≡ 0 → lines blocks level depth e ≡ line true depth (group blocks e) e ∷ []
-lines-low blocks zero depth e h = refl
-lines-low blocks (suc l) depth e h = absurd (omega arith)
-
-pub lines-high : (blocks : CellBlocks) (level l depth : ℕ) (e : Entry) → level ≡ l + 1 → lines blocks level depth e ≡ line false depth (group blocks e) e ∷ flat_map (λ x. lines blocks l (depth + 1) x) (group_entries blocks e)
-lines-high blocks zero l depth e h = absurd (omega arith)
-lines-high blocks (suc level) l depth e h = let i : level ≡ l = omega arith in ap (λ k. line false depth (group blocks e) e ∷ flat_map (λ x. lines blocks k (depth + 1) x) (group_entries blocks e)) i
 
 -- the lines of a block's entries are added, and those of the blocks behind it are left
 pub lines-on : (f : Entry → List NodeLine) (old new all : List NodeLine) (block : Block) (left rest : List Block) → left ≡ block ∷ rest
