@@ -35,6 +35,7 @@ use Rattle.volap_cell.specs.declared.command.Command.{Command as OpenCommand}
 use Rattle.volap_cell.specs.declared.command.Work.{Work}
 use Rattle.volap_cell.specs.declared.role.Role.TheVariants.{Hand}
 use Rattle.seeded_run.proofs.LeftAlone.{IsAtCommand, alone-parts, apart, closing-alone, does-nothing, next-due, same-or-not}
+use Rattle.seeded_run.proofs.Counted.{counted-law}
 use Rattle.seeded_run.proofs.Cursors.{first-law, is-one}
 use Rattle.seeded_run.proofs.Firsts.{IsFirst, first-at, first-fails, first-pass, first-some, over_in}
 use Rattle.seeded_run.proofs.Keeps.{Own, can-first, doing-is, idle-from, is-at-command, kept-by, none-some, one-more, opened-other}
@@ -143,6 +144,9 @@ begins-closes with h c (event.Left of shard how) b closing = cc
 begins-closes with h c (event.Synced server listing) b closing = cc
 begins-closes with h c (event.Shown of page) b closing = cc
 
+longer : (e : Event) (h : List Event) → h ≡ e ∷ h → ⊥
+longer e h is = let len : length h ≡ suc (length h) = ap length is in omega arith
+
 over-place : (history : List Event) (o : Option ℕ) → is_over_at history o ≡ true → (q : ℕ) × (o ≡ Some q) × IsTrue (is_over history q)
 over-place history None over = cc
 over-place history (Some q) over = (q, refl, over)
@@ -167,6 +171,9 @@ module _ (in_order : Bool) (s : Setting) (p : PhaseRun) (done : List Command) (w
   alone : closes c ≡ true → is_alone s w (rest_of p (history_in w)) n ≡ true
   alone closing = closing-alone s.hierarchy (is_alone s w (rest_of p (history_in w)) n) (desk_of s w (w.actors n).role) c (stream_of p.with (drop (next n - length done + 1) p.commands) n) (rest_of p (history_in w) n) turn.due_kind
       (next-due s w (rest_of p (history_in w)) n turn.due_kind at-command-now t.free.command no-hand) rest-first closing
+
+  counted : (now.actors n).counted ≡ (w.actors n).counted
+  counted = counted-law s turn.made n w now turn.step (inr (inl (λ same. longer t.begins (history_in w) (sym same ∙ t.history))))
 
   nothing-open : opened_in w n ≡ None
   nothing-open = opened-none in_order s p done w g next i r n t.free.command
@@ -355,6 +362,7 @@ module _ (in_order : Bool) (s : Setting) (p : PhaseRun) (done : List Command) (w
           errand = t.errand ∙ t.free.errand;
           job = t.job itself;
           purse = t.purse ∙ at-command-now.purse t.free.job;
+          counted = counted ∙ r.nobody n;
         })
         by (OpensOne work itself command pulled closing) = absurd (differs (still-first work itself command))
 
@@ -365,15 +373,12 @@ module _ (in_order : Bool) (s : Setting) (p : PhaseRun) (done : List Command) (w
     }
 
   pub keeps-beginning : IsRunning in_order s p done now next_now
-  keeps-beginning = kept-by in_order s p done w now g g_now next n i i_now turn r next_now rest-others own-beginning phase-now past-now moves.own order-now
+  keeps-beginning = kept-by in_order s p done w now g g_now next n i i_now turn r next_now rest-others counted own-beginning phase-now past-now moves.own order-now
 
 -- What is told with a beginning is one.
 
 heads : (x y : Event) (xs ys : List Event) → x ∷ xs ≡ y ∷ ys → x ≡ y
 heads x y xs ys e = cc
-
-longer : (e : Event) (h : List Event) → h ≡ e ∷ h → ⊥
-longer e h is = let len : length h ≡ suc (length h) = ap length is in omega arith
 
 session-clash : {X : Type 0} (o : Option ℕ) (n : ℕ) → o ≡ None → o ≡ Some n → X
 session-clash o n x y = cc

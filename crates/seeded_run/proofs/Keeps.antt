@@ -378,9 +378,9 @@ module _ (in_order : Bool) (s : Setting) (p : PhaseRun) (done : List Command) (w
       | inr differs ↦ absurd (not-other a c differs at closing)
     ]
 
-    pub kept-by : Own → IsInPhase p.with s.hierarchy (done ++ p.commands) (length done) (history_in now) next_now (opened_in now) → ((t : ℕ) → length done ≤ next_now t) → AreAtOwn p done next_now
+    pub kept-by : (now.actors n).counted ≡ (w.actors n).counted → Own → IsInPhase p.with s.hierarchy (done ++ p.commands) (length done) (history_in now) next_now (opened_in now) → ((t : ℕ) → length done ≤ next_now t) → AreAtOwn p done next_now
         → (in_order ≡ true → IsOrderKept s p done now) → IsRunning in_order s p done now next_now
-    kept-by own phase past at_own ordered = record {
+    kept-by counted own phase past at_own ordered = record {
       roles = r.roles;
       phase = r.phase;
       in_phase = phase;
@@ -394,6 +394,10 @@ module _ (in_order : Bool) (s : Setting) (p : PhaseRun) (done : List Command) (w
       pulled = λ a c at. elim (same-or-not a n) [
         | inl is ↦ own.pulled c (ap (λ x. (now.actors x).command) (sym is) ∙ at)
         | inr differs ↦ own.pulled_others a c differs (was-at a c differs at)
+      ];
+      nobody = λ a. elim (same-or-not a n) [
+        | inl is ↦ ap (λ x. (now.actors x).counted) is ∙ counted ∙ r.nobody n
+        | inr differs ↦ ap (λ (x : ActorValue). x.counted) (others a differs) ∙ r.nobody a
       ];
       ordered = ordered;
     }
@@ -525,18 +529,19 @@ module _ (in_order : Bool) (s : Setting) (p : PhaseRun) (done : List Command) (w
       by false is = is
       by true is = apart (is_of_part turn.made) (turn.of_part is) other
 
-  end-idle : TellsEnd s turn.made n w now → does_nothing (now.actors n) ≡ true
-  end-idle t =
+  end-idle : (now.actors n).counted ≡ (w.actors n).counted → TellsEnd s turn.made n w now → does_nothing (now.actors n) ≡ true
+  end-idle counted t =
       let at = is-at-command t.of_command in
       does-nothing (now.actors n) (record {
         command = t.command;
         errand = t.errand ∙ at.errand;
         job = t.job;
         purse = elim t.purse [ inl none ↦ none | inr (same, job) ↦ same ∙ at.purse job ];
+        counted = counted ∙ r.nobody n;
       })
 
-  kept-quietly : Own → GoesQuietly → (in_order ≡ true → first_open p (history_in now) ≢ Some n → does_nothing (now.actors n) ≡ true) → IsRunning in_order s p done now next
-  kept-quietly own quiet idle = kept-by next (λ t differs. quiet.rest t) own quiet.phase r.cursors.past r.own (λ order. record {
+  kept-quietly : (now.actors n).counted ≡ (w.actors n).counted → Own → GoesQuietly → (in_order ≡ true → first_open p (history_in now) ≢ Some n → does_nothing (now.actors n) ≡ true) → IsRunning in_order s p done now next
+  kept-quietly counted own quiet idle = kept-by next (λ t differs. quiet.rest t) counted own quiet.phase r.cursors.past r.own (λ order. record {
     order = quiet.order (r.ordered order).order;
     idle = idle-from (idle order) order;
   })
@@ -544,18 +549,18 @@ module _ (in_order : Bool) (s : Setting) (p : PhaseRun) (done : List Command) (w
   first-stays : {X : Type 0} → first_open p (history_in now) ≡ first_open p (history_in w) → (order : in_order ≡ true) → first_open p (history_in now) ≢ Some n → X
   first-stays same order differs = absurd (differs (same ∙ can-first in_order order turn.can))
 
-  pub keeps-other : ((e : Event) → history_in now ≡ e ∷ history_in w → session_in e ≡ None) → Told s turn.made n w now → IsRunning in_order s p done now next
-  keeps-other none (OfNothing t) = kept-quietly (own-nothing t) (quiet-nothing t) (first-stays (ap (first_open p) t.history))
-  keeps-other none (OfDeed t) = kept-quietly (own-deed t) (quiet-deed t)
+  pub keeps-other : ((e : Event) → history_in now ≡ e ∷ history_in w → session_in e ≡ None) → (now.actors n).counted ≡ (w.actors n).counted → Told s turn.made n w now → IsRunning in_order s p done now next
+  keeps-other none counted (OfNothing t) = kept-quietly counted (own-nothing t) (quiet-nothing t) (first-stays (ap (first_open p) t.history))
+  keeps-other none counted (OfDeed t) = kept-quietly counted (own-deed t) (quiet-deed t)
       (first-stays (ap (first_open p) t.history ∙ first-same p t.deed (history_in w) (deed-session t.deed t.is_that) (deed-ends t.deed t.is_that)))
-  keeps-other none (OfPull t) = kept-quietly (own-pull t) (quiet-pull t) (first-stays (ap (first_open p) t.history ∙ first-same p (event.Synced t.server t.listing) (history_in w) refl refl))
-  keeps-other none (OfPage t) = kept-quietly (own-page t) (quiet-page t) (first-stays (ap (first_open p) t.history ∙ first-same p (event.Shown t.of t.page) (history_in w) refl refl))
-  keeps-other none (OfEnd t) = kept-quietly (own-end t) (quiet-end t) (λ order differs. end-idle t)
-  keeps-other none (OfBeginning t) = absurd (clash (session_in t.begins) n (none t.begins t.history) t.session)
+  keeps-other none counted (OfPull t) = kept-quietly counted (own-pull t) (quiet-pull t) (first-stays (ap (first_open p) t.history ∙ first-same p (event.Synced t.server t.listing) (history_in w) refl refl))
+  keeps-other none counted (OfPage t) = kept-quietly counted (own-page t) (quiet-page t) (first-stays (ap (first_open p) t.history ∙ first-same p (event.Shown t.of t.page) (history_in w) refl refl))
+  keeps-other none counted (OfEnd t) = kept-quietly counted (own-end t) (quiet-end t) (λ order differs. end-idle counted t)
+  keeps-other none counted (OfBeginning t) = absurd (clash (session_in t.begins) n (none t.begins t.history) t.session)
     where
       clash : (o : Option ℕ) (n : ℕ) → o ≡ None → o ≡ Some n → ⊥
       clash o n x y = cc
 
 pub keeps-other-law : KeepsOtherLaw
-keeps-other-law in_order s p done w now g g_now next n i i_now turn none r =
-    keeps-other in_order s p done w now g g_now next n i i_now turn r none (told-law s turn.made n w now g g_now i i_now turn.step)
+keeps-other-law in_order s p done w now g g_now next n i i_now turn none counted r =
+    keeps-other in_order s p done w now g g_now next n i i_now turn r none counted (told-law s turn.made n w now g g_now i i_now turn.step)

@@ -74,15 +74,20 @@ pub empty-of : {A : Type 0} (xs : List A) → is_empty xs ≡ true → xs ≡ []
 empty-of [] e = refl
 empty-of (x ∷ xs) e = cc
 
+not-so : (b : Bool) → not b ≡ true → b ≡ false
+not-so true e = cc
+not-so false e = refl
+
 pub is-idle : (a : ActorValue) → does_nothing a ≡ true → IsIdle a
 is-idle a e =
-    let c = both-parts (is_none a.command && is_none a.errand && is_none a.job) (is_empty a.purse) e in
+    let b = both-parts (is_none a.command && is_none a.errand && is_none a.job && is_empty a.purse) (not a.counted) e in
+    let c = both-parts (is_none a.command && is_none a.errand && is_none a.job) (is_empty a.purse) b.0 in
     let d = both-parts (is_none a.command && is_none a.errand) (is_none a.job) c.0 in
     let f = both-parts (is_none a.command) (is_none a.errand) d.0 in
-    record { command = none-of a.command f.0; errand = none-of a.errand f.1; job = none-of a.job d.1; purse = empty-of a.purse c.1 }
+    record { command = none-of a.command f.0; errand = none-of a.errand f.1; job = none-of a.job d.1; purse = empty-of a.purse c.1; counted = not-so a.counted b.1 }
 
 pub does-nothing : (a : ActorValue) → IsIdle a → does_nothing a ≡ true
-does-nothing a idle = rw idle.command (rw idle.errand (rw idle.job (rw idle.purse refl)))
+does-nothing a idle = rw idle.command (rw idle.errand (rw idle.job (rw idle.purse (rw idle.counted refl))))
 
 -- Being alone.
 

@@ -277,7 +277,7 @@ module _ (h : List Dimension) (with : Use) (roles : List Role) (roles_are : role
       let through : IsThrough with h [] history = none_begun with h history (none-begins (site_in s) history pulls) (none-ends with (site_in s) history pulls) in
       record {
         through = through;
-        idle = λ a. (let fresh = opened.opening.actors a in record { command = fresh.command; errand = fresh.errand; job = fresh.job; purse = fresh.purse });
+        idle = λ a. (let fresh = opened.opening.actors a in record { command = fresh.command; errand = fresh.errand; job = fresh.job; purse = fresh.purse; counted = fresh.counted });
         ordered = λ order. in-order with h history through;
       }
 

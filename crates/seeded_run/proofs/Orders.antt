@@ -30,10 +30,10 @@ same-or : (a b : ℕ) → (a ≡ b) ⊎ (a ≢ b)
 same-or a b = grind arith
 
 -- who does nothing is at no part
-no-part : (c e j q : Bool) → (c && e && j && q) ≡ true → e ≡ true
-no-part true true j q is = refl
-no-part true false j q is = cc
-no-part false e j q is = cc
+no-part : (c e j q b : Bool) → (c && e && j && q && b) ≡ true → e ≡ true
+no-part true true j q b is = refl
+no-part true false j q b is = cc
+no-part false e j q b is = cc
 
 none-is : (o : Option ErrandValue) → is_none o ≡ true → o ≡ None
 none-is None is = refl
@@ -42,7 +42,7 @@ none-is (Some e) is = cc
 module _ (s : Setting) (p : PhaseRun) (w : World) (g : Ghost) (i : InvWith s (view s w) g) (run : IsScriptRun s w (rest_of p (history_in w))) (order : IsOrderedRun s p w)
     (n : ℕ) (first : first_open p (history_in w) ≡ Some n) where
   at-no-part : (a : ℕ) → a ≢ n → (w.actors a).errand ≡ None
-  at-no-part a apart = none-is (w.actors a).errand (no-part _ _ _ _ (order.others n a first apart))
+  at-no-part a apart = none-is (w.actors a).errand (no-part _ _ _ _ _ (order.others n a first apart))
 
   own-due : (k : Kind) × (due_by s w (rest_of p (history_in w)) n ≡ Some k)
   own-due = elim (due-or-blocked s w g (rest_of p (history_in w)) i run n (order.here n first).0 (order.here n first).1 (w.actors n).errand refl) [

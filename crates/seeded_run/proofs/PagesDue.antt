@@ -1,6 +1,5 @@
 -- Where a page is due for an open command, the actor is at no part, everyone else is idle, and the newest event is the command's beginning.
-use Rattle.std.proofs.Common.{ℕ, ◌≡◌, ◌≢◌, ◌+◌, ◌==◌, ◌&&◌, ◌||◌, Bool, true, false, eqb, List, [], ◌∷◌, length, Option, Some, None, inl, inr, refl, sym, ap, ◌∙◌, if◌then◌else◌}
-use Rattle.std.specs.Prelude.{is_none}
+use Rattle.std.proofs.Common.{ℕ, ◌≡◌, ◌≢◌, ◌+◌, ◌==◌, ◌&&◌, ◌||◌, Bool, true, false, eqb, length, Option, Some, None, inl, inr, refl, sym, ap, ◌∙◌, if◌then◌else◌}
 use Rattle.std.proofs.lemmas.Bool.{and_parts, cases_lt, ne_eqb}
 use Rattle.tree_shape.proofs.Walks.{on_bool, eqb-eq, eqb-ne}
 use Rattle.volap_cell.specs.Errands.{taken_of}
@@ -20,6 +19,7 @@ use Rattle.seeded_run.specs.Core.{IsDueAt}
 use Rattle.seeded_run.specs.Due.{command_kind, desk_of, does_nothing, is_alone, is_empty, page_kind, work_kind}
 use Rattle.seeded_run.proofs.DueCommands.{IsByCommand, by-command}
 use Rattle.seeded_run.proofs.Dues.{all_below-at}
+use Rattle.seeded_run.proofs.LeftAlone.{is-idle}
 
 both-so : (a b : Bool) → (if a && b then Some kind.Note else None) ≡ Some kind.Note → (a ≡ true) × (b ≡ true)
 both-so true true e = (refl, refl)
@@ -29,22 +29,6 @@ both-so false b e = (let never : ◌≡◌ {A = Option Kind} None (Some kind.Not
 second-so : (a b : Bool) → (a || b) ≡ true → a ≡ false → b ≡ true
 second-so true b e f = cc
 second-so false b e f = e
-
-none-so : {A : Type 0} (o : Option A) → is_none o ≡ true → o ≡ None
-none-so None e = refl
-none-so (Some x) e = cc
-
-empty-so : {A : Type 0} (xs : List A) → is_empty xs ≡ true → xs ≡ []
-empty-so [] e = refl
-empty-so (x ∷ xs) e = cc
-
--- an actor with nothing to do
-idle-so : (a : ActorValue) → does_nothing a ≡ true → IsIdle a
-idle-so a e =
-    let first = and_parts (is_none a.command && is_none a.errand && is_none a.job) (is_empty a.purse) e in
-    let second = and_parts (is_none a.command && is_none a.errand) (is_none a.job) first.0 in
-    let third = and_parts (is_none a.command) (is_none a.errand) second.0 in
-    record { command = none-so a.command third.0; errand = none-so a.errand third.1; job = none-so a.job second.1; purse = empty-so a.purse first.1 }
 
 untaken : (o : Option ErrandValue) → taken_of o ≡ None → o ≡ None
 untaken None e = refl
@@ -73,10 +57,10 @@ module _ (s : Setting) (w : World) (ghost : Ghost) (i : InvWith s (view s w) gho
   idle a ne = elim (cases_lt a (actor_count s)) [
     | inl low ↦
         let t = all_below-at (actor_count s) (λ b. b == n || (does_nothing (w.actors b) && is_empty (at.rest b))) a two.0 low in
-        idle-so (w.actors a) (and_parts _ _ (second-so (a == n) (does_nothing (w.actors a) && is_empty (at.rest a)) t (ne_eqb a n ne))).0
+        is-idle (w.actors a) (and_parts _ _ (second-so (a == n) (does_nothing (w.actors a) && is_empty (at.rest a)) t (ne_eqb a n ne))).0
     | inr past ↦
         let k = i.numbering.nobody a past in
-        record { command = k.2; errand = untaken (w.actors a).errand k.3; job = k.4; purse = k.1 }
+        record { command = k.2; errand = untaken (w.actors a).errand k.3; job = k.4; purse = k.1; counted = k.0 }
   ]
 
   pub quiet : (a : ℕ) → (w.actors a).errand ≡ None

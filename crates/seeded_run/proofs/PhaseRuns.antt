@@ -105,6 +105,7 @@ phase-begins-law in_order s p done w next roles phase between before first =
       closing = λ a c at closing. none (w.actors a).command c (between.idle a).command at;
       pages = λ a c at page. none (w.actors a).command c (between.idle a).command at;
       pulled = λ a c at. none (w.actors a).command c (between.idle a).command at;
+      nobody = λ a. (between.idle a).counted;
       ordered = λ order. record {
         order = order-start-law p.with s.hierarchy done p.commands (history_in w) (λ t. omega (arith, between.through.counts t)) (between.ordered order);
         idle = λ a other. does-nothing (w.actors a) (between.idle a);
@@ -128,13 +129,13 @@ module _ (in_order : Bool) (s : Setting) (p : PhaseRun) (done : List Command) (w
   pub beyond-idle : (a : ℕ) → actor_count s ≤ a → IsIdle (w.actors a)
   beyond-idle a high =
       let nobody = i.numbering.nobody a high in
-      record { command = nobody.2; errand = no-part (w.actors a).errand nobody.3; job = nobody.4; purse = nobody.1 }
+      record { command = nobody.2; errand = no-part (w.actors a).errand nobody.3; job = nobody.4; purse = nobody.1; counted = nobody.0 }
 
   pub all-idle : ((a : ℕ) → a < actor_count s → IsIdle (w.actors a)) → (a : ℕ) → IsIdle (w.actors a)
   all-idle within a = elim (low-or-high a (actor_count s)) [ inl low ↦ within a low | inr high ↦ beyond-idle a high ]
 
   pub script : IsScriptRun s w (rest_of p (history_in w))
-  script = script-law s p w g i r.roles r.phase r.pages
+  script = script-law s p w g i r.roles r.phase r.pages r.nobody
 
   -- a session is an actor
   pub is-actor : (k : ℕ) (c : Command) → slice_get p.commands k ≡ Some c → session_of p.with c < actor_count s

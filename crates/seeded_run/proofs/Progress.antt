@@ -33,7 +33,7 @@ use Rattle.volap_cell.specs.declared.kind.Kind.TheVariants as kind
 use Rattle.volap_cell.specs.declared.role.Role.{Role}
 use Rattle.volap_cell.specs.declared.role.Role.TheVariants as role
 use Rattle.volap_cell.specs.declared.role.Role.TheVariants.{Session}
-use Rattle.seeded_run.specs.Due.{actor_kind, all_below, are_known, command_kind, desk_of, due_by, first_kind, free_kind, is_alone, is_empty, kind_at_empty, kind_by_verdict, led_to, next_kind, page_kind, parts_kind, work_kind}
+use Rattle.seeded_run.specs.Due.{actor_kind, all_below, are_known, command_kind, desk_of, does_nothing, due_by, first_kind, free_kind, is_alone, is_empty, kind_at_empty, kind_by_verdict, led_to, next_kind, page_kind, parts_kind, work_kind}
 use Rattle.seeded_run.specs.Progress.{DueLaw, IsScriptRun, SomeDue, is_done}
 use Rattle.seeded_run.proofs.Dues.{at-part-law}
 
@@ -276,15 +276,10 @@ module _ (s : Setting) (w : World) (g : Ghost) (rest : ℕ → List Command) (i 
 
       idle-left : (w.actors a).command ≡ None → (w.actors a).errand ≡ None → (w.actors a).job ≡ None → is_empty (w.actors a).purse ≡ true → is_empty (rest a) ≡ false
       idle-left command errand job purse =
-          by (is_none (w.actors a).command) (is_none (w.actors a).errand) (is_none (w.actors a).job) (is_empty (w.actors a).purse) (is_empty (rest a))
-          (ap is_none command) (ap is_none errand) (ap is_none job) purse busy
+          sym (ap (λ b. b && is_empty (rest a)) nothing) ∙ busy
         where
-          by : (b c d e f : Bool) → b ≡ true → c ≡ true → d ≡ true → e ≡ true → ((b && c && d && e) && f) ≡ false → f ≡ false
-          by true true true true f x y z v is = is
-          by false c d e f x y z v is = cc
-          by true false d e f x y z v is = cc
-          by true true false e f x y z v is = cc
-          by true true true false f x y z v is = cc
+          nothing : does_nothing (w.actors a) ≡ true
+          nothing = rw command (rw errand (rw job (rw purse (rw (run.nobody a) refl))))
 
       without-command : (w.actors a).errand ≡ None → (w.actors a).command ≡ None → (b : Bool) → is_empty (w.actors a).purse ≡ b → Goes a ⊎ Blocked a
       without-command errand command false purse =

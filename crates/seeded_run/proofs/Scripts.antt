@@ -82,7 +82,7 @@ module _ (s : Setting) (w : World) (g : Ghost) (i : InvWith s (view s w) g) (rol
   ]
 
 pub script-law : ScriptLaw
-script-law s p w g i roles phase pages = record {
+script-law s p w g i roles phase pages nobody = record {
   one = λ a b server is_a is_b. session-is s w g i roles a server is_a ∙ sym (session-is s w g i roles b server is_b);
   asks = λ a q more is.
       let found = next-of p w a (Query q) more is in
@@ -97,6 +97,7 @@ script-law s p w g i roles phase pages = record {
       let same = same-command p.commands first.0 second.0 c d (omega (arith, e, f)) first.1 second.1 in
       sym first.2 ∙ ap (session_of p.with) same ∙ second.2;
   pages = pages;
+  nobody = nobody;
 }
   where
     by : (a worker : ℕ) → (w.actors a).role ≡ Hand worker → (cs : List Command) → rest_of p (history_in w) a ≡ cs → rest_of p (history_in w) a ≡ []

@@ -250,7 +250,7 @@ module _ (m : Running) (kept : IsPhaseKept m) (n : ℕ) (due_kind : Kind) (now_d
       none-begins o a x y = cc
 
       running-now : IsRunning m.in_order s p m.done.now world_now (cursor m)
-      running-now = keeps-other-law m.in_order s p m.done.now w world_now kept.core.inv.ghost_of core-now.inv.ghost_of (cursor m) n kept.core.inv.holds core-now.inv.holds turn quiet kept.is_running
+      running-now = keeps-other-law m.in_order s p m.done.now w world_now kept.core.inv.ghost_of core-now.inv.ghost_of (cursor m) n kept.core.inv.holds core-now.inv.holds turn quiet counted kept.is_running
 
       pub has-gone-on : HasTurned m n (record m { state = state_now })
       has-gone-on = record {

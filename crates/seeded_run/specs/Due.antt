@@ -216,9 +216,9 @@ free_kind s w alone rest r = next_kind s.hierarchy alone (desk_of s w r) rest
 
 -- All of it.
 
--- an actor with nothing to do
+-- an actor with nothing to do, and not counted in at its desk
 abbrev pub does_nothing : ActorValue → Bool
-does_nothing a = is_none a.command && is_none a.errand && is_none a.job && is_empty a.purse
+does_nothing a = is_none a.command && is_none a.errand && is_none a.job && is_empty a.purse && not a.counted
 
 -- all other actors are idle, with nothing left in their streams
 abbrev pub is_alone : Setting → World → (ℕ → List Command) → ℕ → Bool

@@ -83,11 +83,11 @@ pub record IsTurn (in_order : Bool) (s : Setting) (p : PhaseRun) (w : World) (n 
 abbrev pub MadeLaw : Type 0
 MadeLaw = (in_order : Bool) (s : Setting) (p : PhaseRun) (w : World) (n : ℕ) (now : World) (turn : IsTurn in_order s p w n now) → in_place_of turn.due_kind ≡ None → turn.made ≡ turn.due_kind
 
--- A step that begins nothing keeps all of it;
+-- A step that begins nothing and counts nobody keeps all of it;
 abbrev pub KeepsOtherLaw : Type 0
 KeepsOtherLaw = (in_order : Bool) (s : Setting) (p : PhaseRun) (done : List Command) (w now : World) (g g_now : Ghost) (next : ℕ → ℕ) (n : ℕ)
     → InvWith s (view s w) g → InvWith s (view s now) g_now → IsTurn in_order s p w n now
-    → ((e : Event) → history_in now ≡ e ∷ history_in w → session_in e ≡ None) → IsRunning in_order s p done w next → IsRunning in_order s p done now next
+    → ((e : Event) → history_in now ≡ e ∷ history_in w → session_in e ≡ None) → (now.actors n).counted ≡ (w.actors n).counted → IsRunning in_order s p done w next → IsRunning in_order s p done now next
 
 -- the session's next command stands behind this one of the phase, and none of it between
 pub record MovesOn (p : PhaseRun) (done : List Command) (session k : ℕ) (next now : ℕ → ℕ) : Type 0 where

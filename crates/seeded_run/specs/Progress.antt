@@ -25,14 +25,19 @@ abbrev pub ArePagesNext : Setting → World → (ℕ → List Command) → Type 
 ArePagesNext s w rest = (a : ℕ) (c : OpenCommand) → (w.actors a).command ≡ Some c → is_some (once_shown c.work) ≡ true
     → (is_alone s w rest a ≡ true) × (length (history_in w) ≡ c.of + 1)
 
+-- nobody is counted in at a desk
+abbrev pub IsNobodyIn : World → Type 0
+IsNobodyIn w = (a : ℕ) → (w.actors a).counted ≡ false
+
 -- What a run of a script keeps: a server has one session; queries are of sessions, hands begin nothing, and one stream at most has a
--- command next that closes the phase; and so it is with pages.
+-- command next that closes the phase; so it is with pages; and nobody is counted in.
 pub record IsScriptRun (s : Setting) (w : World) (rest : ℕ → List Command) : Type 0 where
   pub one : (a b server : ℕ) → (w.actors a).role ≡ Session server → (w.actors b).role ≡ Session server → a ≡ b
   pub asks : (a : ℕ) (q : Question) (more : List Command) → rest a ≡ Query q ∷ more → (server : ℕ) × ((w.actors a).role ≡ Session server)
   pub hands : (a worker : ℕ) → (w.actors a).role ≡ Hand worker → rest a ≡ []
   pub closing : (a b : ℕ) (c d : Command) (cs ds : List Command) → rest a ≡ c ∷ cs → rest b ≡ d ∷ ds → closes c ≡ true → closes d ≡ true → a ≡ b
   pub pages : ArePagesNext s w rest
+  pub nobody : IsNobodyIn w
 
 -- the actors of a script's run: the sessions by server, then the puller, the administrator, and the hands
 pub record AreScriptRoles (s : Setting) : Type 0 where
@@ -48,10 +53,10 @@ pub record IsPhaseOf (s : Setting) (p : PhaseRun) : Type 0 where
   pub asked : (i : ℕ) (q : Question) → slice_get p.commands i ≡ Some (Query q) → q.server < s.servers
   pub last : (i : ℕ) (c : Command) → slice_get p.commands i ≡ Some c → closes c ≡ true → i + 1 ≡ length p.commands
 
--- Of such actors and such a phase only the pages have still to be said.
+-- Of such actors and such a phase only the pages have still to be said, and that nobody is counted in.
 abbrev pub ScriptLaw : Type 0
 ScriptLaw = (s : Setting) (p : PhaseRun) (w : World) (g : Ghost) → InvWith s (view s w) g → AreScriptRoles s → IsPhaseOf s p
-    → ArePagesNext s w (rest_of p (history_in w)) → IsScriptRun s w (rest_of p (history_in w))
+    → ArePagesNext s w (rest_of p (history_in w)) → IsNobodyIn w → IsScriptRun s w (rest_of p (history_in w))
 
 -- the actor is idle, and its stream at its end
 abbrev pub is_done : World → (ℕ → List Command) → ℕ → Bool

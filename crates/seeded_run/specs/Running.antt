@@ -13,7 +13,7 @@ use Rattle.volap_cell.specs.declared.command.Work.{Work}
 use Rattle.volap_cell.specs.declared.command.Work.TheVariants as work_is
 use Rattle.seeded_run.specs.Cursors.{HasCursors}
 use Rattle.seeded_run.specs.Due.{does_nothing, is_alone}
-use Rattle.seeded_run.specs.Progress.{ArePagesNext, AreScriptRoles, IsPhaseOf}
+use Rattle.seeded_run.specs.Progress.{ArePagesNext, AreScriptRoles, IsNobodyIn, IsPhaseOf}
 use Rattle.seeded_run.specs.Rests.{PhaseRun, first_open, rest_of}
 
 -- by session: where the command began that its actor has open
@@ -68,4 +68,5 @@ pub record IsRunning (in_order : Bool) (s : Setting) (p : PhaseRun) (done : List
   pub closing : AreClosingAlone s w (rest_of p (history_in w))
   pub pages : ArePagesNext s w (rest_of p (history_in w))
   pub pulled : ArePulling s w
+  pub nobody : IsNobodyIn w
   pub ordered : in_order ≡ true → IsOrderKept s p done w

@@ -8,11 +8,15 @@ use crate::errands_due::is_spent;
 use script_form::Command;
 use volap_cell::Actor;
 
-/// Whether the actor has nothing to do.
+/// Whether the actor has nothing to do, and is not counted in at its desk.
 fn does_nothing(actor: &Actor) -> bool
     ensures { result ≡ does_nothing (actor_of actor.now) }
 {
-    actor.command.is_none() && actor.errand.is_none() && actor.job.is_none() && is_spent(actor)
+    actor.command.is_none()
+        && actor.errand.is_none()
+        && actor.job.is_none()
+        && is_spent(actor)
+        && !actor.counted
 }
 
 /// Whether the actor at a place has nothing to do, or none is there.

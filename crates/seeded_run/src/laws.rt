@@ -95,8 +95,8 @@ pub fn phases_begin_and_end()
     ensures stops { StopsLaw }
 {}
 
-/// What holds between the steps of a phase holds after a step that begins nothing, and after one that
-/// begins the next command of its session. Which steps begin nothing.
+/// What holds between the steps of a phase holds after a step that begins nothing and counts nobody at a desk,
+/// and after one that begins the next command of its session. Which steps begin nothing.
 pub fn steps_keep_a_phase()
     ensures other { KeepsOtherLaw }
     ensures beginning { KeepsBeginningLaw }

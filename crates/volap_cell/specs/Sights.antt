@@ -1,5 +1,5 @@
 -- What a page must show: it is read off the whole state, by an actor beside which nobody is at work.
-use Rattle.std.specs.Prelude.{ℕ, ◌≡◌, ◌≢◌, ◌-◌, cond, List, [], ◌++◌, length, flat_map, Some, None}
+use Rattle.std.specs.Prelude.{ℕ, ◌≡◌, ◌≢◌, ◌-◌, cond, false, List, [], ◌++◌, length, flat_map, Some, None}
 use Rattle.std.specs.List.{AllZip}
 use Rattle.dim_hierarchy.specs.declared.row.Row.{Row}
 use Rattle.dc_node.specs.Summary.{coords}
@@ -25,12 +25,13 @@ use Rattle.volap_cell.specs.Values.{ActorValue}
 use Rattle.volap_cell.specs.View.{View, view}
 use Rattle.volap_cell.specs.World.{World}
 
--- an actor with nothing to do
+-- an actor with nothing to do, and not counted in at its desk
 pub record IsIdle (a : ActorValue) : Type 0 where
   pub command : a.command ≡ None
   pub errand : a.errand ≡ None
   pub job : a.job ≡ None
   pub purse : a.purse ≡ []
+  pub counted : a.counted ≡ false
 
 -- the rows that a shard has: those in the tree of its gate, whatever shape fits it, and those in its queue
 pub record HasRows (s : Setting) (v : View) (x : ℕ) (tree queue : List Row) : Type 0 where
