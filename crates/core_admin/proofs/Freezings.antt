@@ -227,6 +227,7 @@ module _ (s : Setting) (w : World) (n : ℕ) (g : Ghost) (i : InvWith s (view s 
         ids = reshares.ids ∙ k.ids;
         front = k.front;
         gate_of = λ x y on. let (leads, is, stands) = k.gate_of x y on in (leads, is, λ e. stands (gone-was (g.gate x) e));
+        known = k.known;
         live = λ y x is stands. k.live y x is (λ e. stands (gone-now y e));
         leads = k.leads;
         split = k.split;

@@ -1,6 +1,7 @@
 -- A shard moves: the worker that had it leads on to the other one, which leads to its new gate; all else leads where it did.
 use Rattle.std.proofs.Common.{◌≡◌, ◌≢◌, ℕ, ◌<◌, List, [], ◌∷◌, length, map, true, false, eqb, Option, Some, None, IsSome, refl, sym, ap, ◌∙◌, subst, ◌⊎◌, inl, inr, arith, ◌==◌}
 use Rattle.std.specs.Prelude.{IsTrue, Contains}
+use Rattle.std.proofs.lemmas.Bool.{or_cases}
 use Rattle.std.proofs.lemmas.List.Elements.{All-weaker, Contains-append_right}
 use Rattle.describing_set.specs.Plane.{IsHierarchyPlane}
 use Rattle.describing_set.specs.declared.listing.Spot.{Spot}
@@ -19,7 +20,7 @@ use Rattle.shard_store.specs.declared.gate.Phase.TheVariants.{Frozen, Gone, Open
 use Rattle.tree_shape.proofs.Walks.{on_bool, eqb-eq, eqb-ne, eqb-no, eqb-self}
 use Rattle.volap_cell.specs.Ghost.{Ghost}
 use Rattle.volap_cell.specs.Invariant.{InvWith}
-use Rattle.volap_cell.specs.Lineage.{Leading, Lineage, went_to}
+use Rattle.volap_cell.specs.Lineage.{Leading, Lineage, was_on, went_to}
 use Rattle.volap_cell.specs.Setting.{Setting, site_in}
 use Rattle.volap_cell.specs.View.{View}
 use Rattle.volap_cell.proofs.Lines.{child-comes}
@@ -136,26 +137,34 @@ module _ (s : Setting) (v v2 : View) (g g2 : Ghost) (n : ℕ) (i : InvWith s v g
       let d = live-last (site_in s) g.placed h m.shard r each live-here b.1 b.0 in
       ne (c ∙ sym d)
 
+  -- a table leads to the gate of a shard that stands
+  gate-now : (z w : ℕ) → is_on s.workers (e ∷ h) z w ≡ true → (v2.maps w z ≡ Some (where_is.Gate (g2.gate z))) × (v2.gates (g2.gate z) ≡ Some z) × (v2.phases (g2.gate z) ≢ Some Gone)
+  gate-now z w is = on_bool (eqb z m.shard)
+      (λ q.
+      let here = eqb-eq z m.shard q in
+      let w_is : w ≡ t.to = on-there m.shard t.to w (frontier s.workers h) (subst (λ (x : ℕ). is_on s.workers (e ∷ h) x w ≡ true) here is) in
+      subst (λ (x : ℕ). (v2.maps w x ≡ Some (where_is.Gate (g2.gate x))) × (v2.gates (g2.gate x) ≡ Some x) × (v2.phases (g2.gate x) ≢ Some Gone)) (sym here)
+      (subst (λ (x : ℕ). (v2.maps x m.shard ≡ Some (where_is.Gate (g2.gate m.shard))) × (v2.gates (g2.gate m.shard) ≡ Some m.shard) × (v2.phases (g2.gate m.shard) ≢ Some Gone)) (sym w_is)
+      (subst (λ (c : ℕ). (v2.maps t.to m.shard ≡ Some (where_is.Gate c)) × (v2.gates c ≡ Some m.shard) × (v2.phases c ≢ Some Gone)) (sym t.gate_there)
+      (t.to_gate, m.gate_new t.y t.new_y ∙ ap Some t.shard_y, λ gone. let no : Some Open ≡ Some Gone = sym (m.phase_new t.y t.new_y) ∙ gone in cc))))
+      (λ q.
+      let ne = eqb-ne z m.shard q in
+      let o = i.lineage.gate_of z w (sym (on-same z w ne) ∙ is) in
+      let old = gate-old s v v2 g g2 n i m (g.gate z) (subst IsSome (sym o.1) refl) in
+      let off = others-gate (g.gate z) z o.1 ne in
+      subst (λ (c : ℕ). (v2.maps w z ≡ Some (where_is.Gate c)) × (v2.gates c ≡ Some z) × (v2.phases c ≢ Some Gone)) (sym (t.gate_other z ne))
+      (t.other_shard w z ne ∙ o.0, m.gates_off (g.gate z) old ∙ o.1, λ gone. o.2 (sym (m.phases_off (g.gate z) old off) ∙ gone)))
+
   pub moved-lineage : Lineage s (e ∷ h) v2.stock v2.registry v2.maps v2.gates v2.phases g2.gate
   moved-lineage =
       let k = i.lineage in record {
         ids = t.ids ∙ k.ids;
         front = t.places ∙ ap (map (moved_place m.shard t.to)) k.front;
-        gate_of = λ z w is. on_bool (eqb z m.shard)
-            (λ q.
-            let here = eqb-eq z m.shard q in
-            let w_is : w ≡ t.to = on-there m.shard t.to w (frontier s.workers h) (subst (λ (x : ℕ). is_on s.workers (e ∷ h) x w ≡ true) here is) in
-            subst (λ (x : ℕ). (v2.maps w x ≡ Some (where_is.Gate (g2.gate x))) × (v2.gates (g2.gate x) ≡ Some x) × (v2.phases (g2.gate x) ≢ Some Gone)) (sym here)
-            (subst (λ (x : ℕ). (v2.maps x m.shard ≡ Some (where_is.Gate (g2.gate m.shard))) × (v2.gates (g2.gate m.shard) ≡ Some m.shard) × (v2.phases (g2.gate m.shard) ≢ Some Gone)) (sym w_is)
-            (subst (λ (c : ℕ). (v2.maps t.to m.shard ≡ Some (where_is.Gate c)) × (v2.gates c ≡ Some m.shard) × (v2.phases c ≢ Some Gone)) (sym t.gate_there)
-            (t.to_gate, m.gate_new t.y t.new_y ∙ ap Some t.shard_y, λ gone. let no : Some Open ≡ Some Gone = sym (m.phase_new t.y t.new_y) ∙ gone in cc))))
-            (λ q.
-            let ne = eqb-ne z m.shard q in
-            let o = k.gate_of z w (sym (on-same z w ne) ∙ is) in
-            let old = gate-old s v v2 g g2 n i m (g.gate z) (subst IsSome (sym o.1) refl) in
-            let off = others-gate (g.gate z) z o.1 ne in
-            subst (λ (c : ℕ). (v2.maps w z ≡ Some (where_is.Gate c)) × (v2.gates c ≡ Some z) × (v2.phases c ≢ Some Gone)) (sym (t.gate_other z ne))
-            (t.other_shard w z ne ∙ o.0, m.gates_off (g.gate z) old ∙ o.1, λ gone. o.2 (sym (m.phases_off (g.gate z) old off) ∙ gone)));
+        gate_of = gate-now;
+        known = λ z w was. elim (or_cases (is_on s.workers (e ∷ h) z w) (was_on s.workers h z w) was) [
+          | inl now ↦ subst IsSome (sym (gate-now z w now).0) refl
+          | inr before ↦ leads-still w z (k.known z w before)
+        ];
         live = λ c z is stands. on_bool (m.new c)
             (λ q.
             let at = t.only_y c q in

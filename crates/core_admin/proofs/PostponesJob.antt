@@ -227,6 +227,7 @@ module _ (c led : Change) (b : ActorValue) (s : Setting) (w : World) (n : ℕ) (
             ids = returns.ids ∙ k.ids;
             front = k.front;
             gate_of = k.gate_of;
+            known = k.known;
             live = k.live;
             leads = k.leads;
             split = k.split;

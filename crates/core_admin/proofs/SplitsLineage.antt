@@ -2,7 +2,7 @@
 use Rattle.std.proofs.Common.{◌≡◌, ◌≢◌, ℕ, ◌+◌, ◌<◌, List, [], ◌∷◌, true, eqb, Option, Some, None, IsSome, refl, sym, ap, ◌∙◌, subst, ◌⊎◌, inl, inr, arith, ◌==◌, ◌&&◌, ◌||◌, eq-eqb, filter_map}
 use Rattle.std.specs.Prelude.{IsTrue, Contains}
 use Rattle.std.specs.List.{list_any}
-use Rattle.std.proofs.lemmas.Bool.{or_left, or_right}
+use Rattle.std.proofs.lemmas.Bool.{or_cases, or_left, or_right}
 use Rattle.std.proofs.lemmas.List.Elements.{All-weaker, Contains-append_right}
 use Rattle.describing_set.specs.Plane.{IsHierarchyPlane}
 use Rattle.describing_set.specs.declared.listing.Spot.{Spot}
@@ -25,7 +25,7 @@ use Rattle.shard_store.specs.declared.gate.Phase.TheVariants.{Frozen, Gone, Open
 use Rattle.tree_shape.proofs.Walks.{on_bool, eqb-eq, eqb-ne}
 use Rattle.volap_cell.specs.Ghost.{Ghost}
 use Rattle.volap_cell.specs.Invariant.{InvWith}
-use Rattle.volap_cell.specs.Lineage.{Leading, Lineage, went_to}
+use Rattle.volap_cell.specs.Lineage.{Leading, Lineage, was_on, went_to}
 use Rattle.volap_cell.specs.Setting.{Setting, site_in}
 use Rattle.volap_cell.specs.View.{View}
 use Rattle.volap_cell.proofs.Departures.{on-stays-at, older-made}
@@ -137,28 +137,44 @@ module _ (s : Setting) (v v2 : View) (g g2 : Ghost) (n : ℕ) (i : InvWith s v g
       (λ k. let both : Some (where_is.Gate t.yr) ≡ Some to = sym t.at_right ∙ k in absurd (no_gate t.yr cc))
       (λ same off k. sym same ∙ k) is
 
+  by-old : (w z : ℕ) → z ≢ m.shard → z < ids_made s.workers h → v2.maps w z ≡ v.maps w z
+  by-old w z ne lt = on_bool (eqb w t.from)
+      (λ q. let is = eqb-eq w t.from q in ap (λ (x : ℕ). v2.maps x z) is ∙ t.at_other z ne (not-left z lt) (not-right z lt) ∙ sym (ap (λ (x : ℕ). v.maps x z) is))
+      (λ q. ap (λ (k : ℕ → Option Where). k z) (t.other_worker w (eqb-ne w t.from q)))
+
+  stands : (y : ℕ) → m.new y ≡ true → v2.phases y ≢ Some Gone
+  stands y new gone = (let no : Some Open ≡ Some Gone = sym (m.phase_new y new) ∙ gone in cc)
+
+  -- a table leads to the gate of a shard that stands
+  gate-now : (z w : ℕ) → is_on s.workers (e ∷ h) z w ≡ true → (v2.maps w z ≡ Some (where_is.Gate (g2.gate z))) × (v2.gates (g2.gate z) ≡ Some z) × (v2.phases (g2.gate z) ≢ Some Gone)
+  gate-now z w is = elim (on-before (site_in s) g.placed h each t.of m.shard t.left t.right t.from t.is_right t.was_on z w is) [
+    | inl old ↦
+        let o = i.lineage.gate_of z w old.0 in
+        let lt = i.lineage.made (g.gate z) z o.1 in
+        let kept = gate-old s v v2 g g2 n i m (g.gate z) (subst IsSome (sym o.1) refl) in
+        let off = others-gate (g.gate z) z o.1 old.1 in
+        let entry : v2.maps w z ≡ v.maps w z = by-old w z old.1 lt in
+        subst (λ (c : ℕ). (v2.maps w z ≡ Some (where_is.Gate c)) × (v2.gates c ≡ Some z) × (v2.phases c ≢ Some Gone)) (sym (gate-made z lt))
+        (entry ∙ o.0, m.gates_off (g.gate z) kept ∙ o.1, λ gone. o.2 (sym (m.phases_off (g.gate z) kept off) ∙ gone))
+    | inr new ↦ subst (λ (a : ℕ). (v2.maps a z ≡ Some (where_is.Gate (g2.gate z))) × (v2.gates (g2.gate z) ≡ Some z) × (v2.phases (g2.gate z) ≢ Some Gone)) (sym new.1) (elim new.0 [
+      | inl is_left ↦ subst (λ (x : ℕ). (v2.maps t.from x ≡ Some (where_is.Gate (g2.gate x))) × (v2.gates (g2.gate x) ≡ Some x) × (v2.phases (g2.gate x) ≢ Some Gone)) (sym is_left)
+          (subst (λ (c : ℕ). (v2.maps t.from t.left ≡ Some (where_is.Gate c)) × (v2.gates c ≡ Some t.left) × (v2.phases c ≢ Some Gone)) (sym t.gate_l)
+          (t.at_left, m.gate_new t.yl t.new_l ∙ ap Some t.shard_l, stands t.yl t.new_l))
+      | inr is_right ↦ subst (λ (x : ℕ). (v2.maps t.from x ≡ Some (where_is.Gate (g2.gate x))) × (v2.gates (g2.gate x) ≡ Some x) × (v2.phases (g2.gate x) ≢ Some Gone)) (sym is_right)
+          (subst (λ (c : ℕ). (v2.maps t.from t.right ≡ Some (where_is.Gate c)) × (v2.gates c ≡ Some t.right) × (v2.phases c ≢ Some Gone)) (sym t.gate_r)
+          (t.at_right, m.gate_new t.yr t.new_r ∙ ap Some t.shard_r, stands t.yr t.new_r))
+    ])
+  ]
+
   pub split-lineage : Lineage s (e ∷ h) v2.stock v2.registry v2.maps v2.gates v2.phases g2.gate
   split-lineage =
       let k = i.lineage in record {
         ids = t.ids ∙ ap (λ (z : ℕ). z + 2) k.ids ∙ sym (split-changes s.hierarchy s.workers t.of m.shard t.left t.right h).ids;
         front = t.places;
-        gate_of = λ z w is. elim (on-before (site_in s) g.placed h each t.of m.shard t.left t.right t.from t.is_right t.was_on z w is) [
-          | inl old ↦
-              let o = k.gate_of z w old.0 in
-              let lt = k.made (g.gate z) z o.1 in
-              let kept = gate-old s v v2 g g2 n i m (g.gate z) (subst IsSome (sym o.1) refl) in
-              let off = others-gate (g.gate z) z o.1 old.1 in
-              let entry : v2.maps w z ≡ v.maps w z = by-old w z old.1 lt in
-              subst (λ (c : ℕ). (v2.maps w z ≡ Some (where_is.Gate c)) × (v2.gates c ≡ Some z) × (v2.phases c ≢ Some Gone)) (sym (gate-made z lt))
-              (entry ∙ o.0, m.gates_off (g.gate z) kept ∙ o.1, λ gone. o.2 (sym (m.phases_off (g.gate z) kept off) ∙ gone))
-          | inr new ↦ subst (λ (a : ℕ). (v2.maps a z ≡ Some (where_is.Gate (g2.gate z))) × (v2.gates (g2.gate z) ≡ Some z) × (v2.phases (g2.gate z) ≢ Some Gone)) (sym new.1) (elim new.0 [
-            | inl is_left ↦ subst (λ (x : ℕ). (v2.maps t.from x ≡ Some (where_is.Gate (g2.gate x))) × (v2.gates (g2.gate x) ≡ Some x) × (v2.phases (g2.gate x) ≢ Some Gone)) (sym is_left)
-                (subst (λ (c : ℕ). (v2.maps t.from t.left ≡ Some (where_is.Gate c)) × (v2.gates c ≡ Some t.left) × (v2.phases c ≢ Some Gone)) (sym t.gate_l)
-                (t.at_left, m.gate_new t.yl t.new_l ∙ ap Some t.shard_l, stands t.yl t.new_l))
-            | inr is_right ↦ subst (λ (x : ℕ). (v2.maps t.from x ≡ Some (where_is.Gate (g2.gate x))) × (v2.gates (g2.gate x) ≡ Some x) × (v2.phases (g2.gate x) ≢ Some Gone)) (sym is_right)
-                (subst (λ (c : ℕ). (v2.maps t.from t.right ≡ Some (where_is.Gate c)) × (v2.gates c ≡ Some t.right) × (v2.phases c ≢ Some Gone)) (sym t.gate_r)
-                (t.at_right, m.gate_new t.yr t.new_r ∙ ap Some t.shard_r, stands t.yr t.new_r))
-          ])
+        gate_of = gate-now;
+        known = λ z w was. elim (or_cases (is_on s.workers (e ∷ h) z w) (was_on s.workers h z w) was) [
+          | inl now ↦ subst IsSome (sym (gate-now z w now).0) refl
+          | inr before ↦ leads-still w z (k.known z w before)
         ];
         live = λ c z is stands. on_bool (m.new c)
             (λ q. elim (t.only c q) [
@@ -228,14 +244,6 @@ module _ (s : Setting) (v v2 : View) (g g2 : Ghost) (n : ℕ) (i : InvWith s v g
             (λ q. older-made s.workers e h z (k.made c z (sym (m.gates_off c q) ∙ is)));
       }
     where
-      by-old : (w z : ℕ) → z ≢ m.shard → z < ids_made s.workers h → v2.maps w z ≡ v.maps w z
-      by-old w z ne lt = on_bool (eqb w t.from)
-          (λ q. let is = eqb-eq w t.from q in ap (λ (x : ℕ). v2.maps x z) is ∙ t.at_other z ne (not-left z lt) (not-right z lt) ∙ sym (ap (λ (x : ℕ). v.maps x z) is))
-          (λ q. ap (λ (k : ℕ → Option Where). k z) (t.other_worker w (eqb-ne w t.from q)))
-
-      stands : (y : ℕ) → m.new y ≡ true → v2.phases y ≢ Some Gone
-      stands y new gone = (let no : Some Open ≡ Some Gone = sym (m.phase_new y new) ∙ gone in cc)
-
       new-left : IsTrue (is_child (e ∷ h) m.shard t.left)
       new-left = rw (eq-eqb m.shard m.shard refl, eq-eqb t.left t.left refl) refl
 

@@ -112,6 +112,7 @@ module _ (s : Setting) (w : World) (g : Ghost) (i : InvWith s (view s w) g) (ser
         ids = l.ids;
         front = front ∙ sym stay.frontier;
         gate_of = l.gate_of;
+        known = l.known;
         live = l.live;
         leads = l.leads;
         split = l.split;

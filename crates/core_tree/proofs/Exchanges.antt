@@ -289,6 +289,7 @@ module _ (s : Setting) (w : World) (g : Ghost) (i : InvWith s (view s w) g) (n :
           ids = x.ids ∙ k.ids;
           front = k.front;
           gate_of = k.gate_of;
+          known = k.known;
           live = k.live;
           leads = k.leads;
           split = k.split;

@@ -1,8 +1,9 @@
 -- One event more: what it leaves of what a past tells at older positions, of shards, and of rows that may be counted.
-use Rattle.std.proofs.Common.{◌≡◌, ℕ, ◌<◌, ◌∙◌, List, ◌∷◌, Bool, length, refl, sym, ap, arith, ◌==◌, ◌&&◌, eqb-true, eq-eqb, All, Any, Contains}
+use Rattle.std.proofs.Common.{◌≡◌, ℕ, ◌<◌, ◌∙◌, List, [], ◌∷◌, Bool, true, inl, inr, length, refl, sym, ap, arith, ◌==◌, ◌&&◌, eqb-true, eq-eqb, All, Any, Contains}
 use mathlib.Core.Path.{fun_ext}
 use Rattle.std.specs.Prelude.{Option, Some, None, option_and_then}
 use Rattle.std.specs.List.{list_any}
+use Rattle.std.proofs.lemmas.Bool.{or_cases, or_left}
 use Rattle.std.proofs.lemmas.List.Elements.{All-weaker}
 use Rattle.dim_hierarchy.specs.Dimension.{Dimension}
 use Rattle.describing_set.specs.declared.listing.Spot.{Spot}
@@ -19,6 +20,7 @@ use Rattle.row_ledger.proofs.Descent.{comes_from-self}
 use Rattle.row_ledger.proofs.Fresh.{kind-within}
 use Rattle.row_ledger.proofs.Older.{may-older}
 use Rattle.tree_shape.proofs.Walks.{on_bool}
+use Rattle.volap_cell.specs.Lineage.{was_on}
 use Rattle.volap_cell.specs.View.{row_at, row_or}
 
 -- Positions. What began at an older one is what it was.
@@ -73,6 +75,17 @@ live-stays workers e h stay x = ap (λ (places : List Place). list_any (is_of x)
 
 pub on-stays : (workers : ℕ) (e : Event) (h : List Event) → ShardsStay workers e h → (x w : ℕ) → is_on workers (e ∷ h) x w ≡ is_on workers h x w
 on-stays workers e h stay x w = let f : List Place → Bool = λ places. list_any (λ (p : Place). is_of x p && (p.worker == w)) places in ap f stay.frontier
+
+-- a shard was where it is
+on-was : (workers : ℕ) (h : List Event) (x w : ℕ) → is_on workers h x w ≡ true → was_on workers h x w ≡ true
+on-was workers [] x w on = on
+on-was workers (e ∷ past) x w on = or_left (is_on workers (e ∷ past) x w) (was_on workers past x w) on
+
+pub was-stays : (workers : ℕ) (e : Event) (h : List Event) → ShardsStay workers e h → (x w : ℕ) → was_on workers (e ∷ h) x w ≡ true → was_on workers h x w ≡ true
+was-stays workers e h stay x w was = elim (or_cases (is_on workers (e ∷ h) x w) (was_on workers h x w) was) [
+  | inl now ↦ on-was workers h x w (sym (on-stays workers e h stay x w) ∙ now)
+  | inr before ↦ before
+]
 
 pub comes-stays : (workers : ℕ) (e : Event) (h : List Event) → ShardsStay workers e h → (x y : ℕ) → comes_from (e ∷ h) x y ≡ comes_from h x y
 comes-stays workers e h stay x y = stay.comes_from x y ∙ on_bool (y == x)

@@ -25,7 +25,7 @@ use Rattle.volap_cell.specs.Lineage.{Lineage, went_to}
 use Rattle.volap_cell.specs.Placing.{IsRouted, Placing, IsLead, IsRowPart, IsOnWay, Inserting}
 use Rattle.volap_cell.specs.Setting.{Setting}
 use Rattle.volap_cell.specs.declared.command.Command.{Command}
-use Rattle.volap_cell.proofs.Grows.{live-stays, on-stays, comes-stays, insert-kept}
+use Rattle.volap_cell.proofs.Grows.{live-stays, on-stays, was-stays, comes-stays, insert-kept}
 
 module _ (s : Setting) (e : Event) (h : List Event) (stay : ShardsStay s.workers e h) where
   pub under-grown : (placed : ℕ → Bool) (home : ℕ → ℕ) (x r : ℕ) → IsUnder h placed home x r → IsUnder (e ∷ h) placed home x r
@@ -49,6 +49,7 @@ module _ (s : Setting) (e : Event) (h : List Event) (stay : ShardsStay s.workers
     ids = i.ids ∙ sym stay.ids;
     front = i.front ∙ sym stay.frontier;
     gate_of = λ x w on. i.gate_of x w (sym (on-stays s.workers e h stay x w) ∙ on);
+    known = λ x w was. i.known x w (was-stays s.workers e h stay x w was);
     live = λ c x g p. let l = i.live c x g p in (live-stays s.workers e h stay x ∙ l.0, l.1);
     leads = λ w x c m. let l = i.leads w x c m in (on-stays s.workers e h stay x w ∙ l.0, l.1);
     split = λ w x l r plane m. let t = i.split w x l r plane m in (is_child-older e h x l t.0, is_child-older e h x r t.1, t.2, t.3, t.4);

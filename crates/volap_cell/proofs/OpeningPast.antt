@@ -13,7 +13,9 @@ use Rattle.row_ledger.specs.Past.{acked, event_at, insert_at, insert_in, query_a
 use Rattle.row_ledger.specs.Right.{IsFirstPull}
 use Rattle.row_ledger.specs.Kept.{IsOpeningHistory}
 use Rattle.row_ledger.specs.Shards.{Place, place, is_of, comes_from, first_places, frontier, ids_made}
+use Rattle.row_ledger.specs.Workers.{is_on}
 use Rattle.row_ledger.specs.Site.{Site}
+use Rattle.volap_cell.specs.Lineage.{was_on}
 
 -- The events of an opening, one by one.
 
@@ -44,6 +46,11 @@ opening-acked site = along site (λ h. acked h ≡ []) refl (λ past listing fir
 
 pub opening-frontier : (site : Site) (workers : ℕ) (h : List Event) → IsOpeningHistory site h → frontier workers h ≡ first_places workers
 opening-frontier site workers = along site (λ h. frontier workers h ≡ first_places workers) refl (λ past listing first is. is)
+
+-- no shard has stood elsewhere
+pub opening-was : (site : Site) (workers x w : ℕ) (h : List Event) → IsOpeningHistory site h → was_on workers h x w ≡ true → is_on workers h x w ≡ true
+opening-was site workers x w = along site (λ h. was_on workers h x w ≡ true → is_on workers h x w ≡ true) (λ was. was)
+    (λ past listing first older was. elim (or_cases (is_on workers past x w) (was_on workers past x w) was) [ inl now ↦ now | inr before ↦ older before ])
 
 pub opening-ids : (site : Site) (workers : ℕ) (h : List Event) → IsOpeningHistory site h → ids_made workers h ≡ workers
 opening-ids site workers = along site (λ h. ids_made workers h ≡ workers) (omega arith) (λ past listing first is. is)

@@ -29,7 +29,7 @@ use Rattle.volap_cell.specs.Opening.{IsOpening}
 use Rattle.volap_cell.specs.Setting.{Setting, site_in}
 use Rattle.volap_cell.specs.View.{View}
 use Rattle.volap_cell.specs.World.{World}
-use Rattle.volap_cell.proofs.OpeningPast.{first-is, first-on, first-there, opening-acked, opening-comes, opening-comes_self, opening-frontier, opening-ids, opening-known, opening-published}
+use Rattle.volap_cell.proofs.OpeningPast.{first-is, first-on, first-there, opening-acked, opening-comes, opening-comes_self, opening-frontier, opening-ids, opening-known, opening-published, opening-was}
 use Rattle.volap_cell.proofs.OpeningShapes.{ghost, is-gate}
 use Rattle.volap_cell.proofs.OpeningView.{v, gate-shard, growths-none, lists, not-gone, opens, own-map, parts-none, registry-is, spots-are, stock-is, table-is}
 
@@ -156,6 +156,7 @@ module _ (s : Setting) (w : World) (set : IsSetting s) (o : IsOpening s w) where
     ids = o.ids ∙ sym ids;
     front = first-spots s.hierarchy 0 s.workers o.registry.frontier o.is_new.first ∙ sym stands;
     gate_of = gate-of;
+    known = λ x worker was. subst IsSome (sym (gate-of x worker (opening-was (site_in s) s.workers x worker vs.history (opens s w set o) was)).0) refl;
     live = λ c x is not_gone. (live x (shard-is c x is).0, (shard-is c x is).1);
     leads = leads;
     split = λ worker x l r plane is. no-split worker x l r plane is;

@@ -1,6 +1,6 @@
 -- Where shards are: the registry has those that stand, and the workers' tables lead from each id that a server or a part may
 -- still have to a gate, or on to children or another worker.
-use Rattle.std.specs.Prelude.{ℕ, ◌≡◌, ◌≢◌, ◌==◌, ◌<◌, ◌⊎◌, Bool, true, false, IsTrue, IsSome, List, [], ◌∷◌, Option, Some, None, All, Contains, if◌then◌else◌}
+use Rattle.std.specs.Prelude.{ℕ, ◌≡◌, ◌≢◌, ◌==◌, ◌<◌, ◌⊎◌, ◌||◌, Bool, true, false, IsTrue, IsSome, List, [], ◌∷◌, Option, Some, None, All, Contains, if◌then◌else◌}
 use Rattle.describing_set.specs.Plane.{IsHierarchyPlane}
 use Rattle.describing_set.specs.declared.listing.Spot.{Spot}
 use Rattle.cell_stock.specs.Stock.{StockValue}
@@ -26,13 +26,19 @@ went_to [] x w = false
 went_to (Moved of shard to ∷ past) x w = if shard == x then to == w else went_to past x w
 went_to (e ∷ past) x w = went_to past x w
 
+-- a shard stands on a worker, or stood there once
+abbrev pub was_on : ℕ → List Event → ℕ → ℕ → Bool
+was_on workers [] x w = is_on workers [] x w
+was_on workers (e ∷ past) x w = is_on workers (e ∷ past) x w || was_on workers past x w
+
 -- The registry has the shards that stand, and a table leads to the gate of each, from the worker that has it, and from no other. A
 -- shard that was split leads to its children, by a plane of the hierarchy, where its last move had brought it. A shard that has
--- moved leads on, and the farther the later it moved.
+-- moved leads on, and the farther the later it moved. So a worker's table knows each shard that ever stood there.
 pub record Lineage (s : Setting) (history : List Event) (stock : StockValue) (registry : RegistryValue) (maps : ℕ → ℕ → Option Where) (gates : ℕ → Option ℕ) (phases : ℕ → Option Phase) (gate : ℕ → ℕ) : Type 0 where
   pub ids : stock.ids ≡ ids_made s.workers history
   pub front : places_of registry.frontier ≡ frontier s.workers history
   pub gate_of : (x w : ℕ) → is_on s.workers history x w ≡ true → (maps w x ≡ Some (where_is.Gate (gate x))) × (gates (gate x) ≡ Some x) × (phases (gate x) ≢ Some Gone)
+  pub known : (x w : ℕ) → was_on s.workers history x w ≡ true → IsSome (maps w x)
   pub live : (c x : ℕ) → gates c ≡ Some x → phases c ≢ Some Gone → (is_live s.workers history x ≡ true) × (gate x ≡ c)
   pub leads : (w x c : ℕ) → maps w x ≡ Some (where_is.Gate c) → (is_on s.workers history x w ≡ true) × (gate x ≡ c)
   pub split : (w x l r : ℕ) (plane : Plane) → maps w x ≡ Some (where_is.Split plane l r)
