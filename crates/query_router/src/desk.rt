@@ -1,5 +1,5 @@
 //! The desk of a server.
-ghost use Rattle.std.specs.Prelude.{◌≡◌, ◌+◌, ◌<◌, ◌^◌, [], position, slice_get, slice_set, IsSome, IsNone, IfSome, OnOk, OnErr, false};
+ghost use Rattle.std.specs.Prelude.{◌≡◌, ◌+◌, ◌<◌, ◌^◌, [], drop, position, slice_get, slice_set, option_map, IsSome, IsNone, IfSome, OnOk, OnErr, false};
 ghost use Rattle.std.specs.List.{list_any};
 
 use crate::part::{Part, PartState, Verdict};
@@ -15,16 +15,23 @@ use std::mem;
 pub struct Desk {
     op: Option<u64>,
     parts: Vec<Part>,
+    /// The parts before this place are at an end, so nobody looks at them again until all are.
+    ended: usize,
+    /// How many parts are not at an end.
+    open_count: usize,
     sessions: u16,
     alloc: Global,
 }
 
 impl Model for Desk {
     ghost use Rattle.query_router.specs.Desk.{DeskValue};
+    ghost use Rattle.query_router.specs.Progress.{IsProgress};
 
     ghost Value = { DeskValue };
 
     ghost view = { λ d. record { op = d.op; parts = d.parts.items; sessions = d.sessions } };
+
+    ghost invariant = { λ d. IsProgress d.parts.items d.ended d.open_count };
 }
 
 impl Desk {
@@ -38,6 +45,8 @@ impl Desk {
         Desk {
             op: None,
             parts: Vec::new(alloc),
+            ended: 0,
+            open_count: 0,
             sessions: 0,
             alloc,
         }
@@ -93,6 +102,8 @@ impl Desk {
         ensures { self.new ≡ record self.old { op = Some op; parts = parts.items } }
     {
         self.op = Some(op);
+        self.open_count = count_open(&parts);
+        self.ended = 0;
         self.parts = parts;
     }
 
@@ -119,7 +130,9 @@ impl Desk {
         requires { IsAt is_taken self.old.parts place }
         ensures { self.new ≡ record self.old { parts = slice_set self.old.parts place part } }
     {
+        self.open_count = self.open_count - 1 + usize::from(part.is_open());
         self.parts[place] = part;
+        self.ended = first_open(&self.parts, self.ended);
     }
 
     /// Puts two parts in the place of a taken one.
@@ -129,6 +142,9 @@ impl Desk {
         ensures err { OnErr result (self.new ≡ self.old) }
     {
         self.parts.reserve(1)?;
+        self.open_count = self.open_count - 1
+            + usize::from(left.is_open())
+            + usize::from(right.is_open());
         self.parts[place] = left;
         let inserted = self.parts.insert(place + 1, right);
         prove!(inserted.is_ok());
@@ -142,7 +158,24 @@ impl Desk {
         ensures empty { self.new ≡ record self.old { op = None; parts = [] } }
     {
         self.op = None;
+        self.ended = 0;
+        self.open_count = 0;
         mem::replace(&mut self.parts, Vec::new(self.alloc))
+    }
+
+    /// Whether a part is not at an end.
+    pub fn has_open(&self) -> bool
+        ensures { result ≡ list_any is_open self.now.parts }
+    {
+        self.open_count > 0
+    }
+
+    /// The place of the first part that waits, whichever worker has its shard.
+    pub fn first_waiting(&self) -> Option<usize>
+        ensures place { result ≡ position is_waiting self.now.parts }
+        ensures waiting { IfSome result (IsAt is_waiting self.now.parts) }
+    {
+        behind(self.ended, waiting_in(&self.parts[self.ended..]))
     }
 
     /// The place of the first part that waits for a worker.
@@ -150,9 +183,7 @@ impl Desk {
         ensures place { result ≡ position (waits_for worker) self.now.parts }
         ensures waiting { IfSome result (IsAt is_waiting self.now.parts) }
     {
-        self.parts
-            .iter()
-            .position(|part| part.worker == worker && part.is_waiting())
+        behind(self.ended, ready_in(&self.parts[self.ended..], worker))
     }
 
     /// The place of the part of a shard that a worker has taken. It shifts where another part is
@@ -161,9 +192,10 @@ impl Desk {
         ensures place { result ≡ position (is_with shard worker) self.now.parts }
         ensures taken { IfSome result (IsAt is_taken self.now.parts) }
     {
-        self.parts.iter().position(|part| part.shard == shard
-            && part.worker == worker
-            && part.is_taken())
+        behind(
+            self.ended,
+            taken_in(&self.parts[self.ended..], shard, worker),
+        )
     }
 
     /// What the command on the desk comes to, `None` where a part is not at an end.
@@ -172,7 +204,7 @@ impl Desk {
         requires few { (sum_of self.now.parts).count < 2 ^ 63 }
         ensures { result ≡ verdict_of self.now.parts }
     {
-        if has_open(&self.parts) {
+        if self.has_open() {
             return None;
         }
         if has_refused(&self.parts) {
@@ -185,13 +217,64 @@ impl Desk {
     }
 }
 
-ghost use Rattle.query_router.specs.Desk.{is_open, is_refused, is_placed, sum_of};
+ghost use Rattle.std.specs.Prelude.{◌≤◌, count_by, length};
+ghost use Rattle.query_router.specs.Desk.{is_open, is_placed, is_refused, is_taken, is_waiting, is_with, sum_of, waits_for, IsAt};
+ghost use Rattle.query_router.specs.Progress.{HasEnded};
 
-/// Whether a part is not at an end.
-fn has_open(parts: &[Part]) -> bool
-    ensures { result ≡ list_any is_open parts.now }
+/// How many parts are not at an end.
+fn count_open(parts: &[Part]) -> usize
+    ensures { result ≡ count_by is_open parts.now }
 {
-    parts.iter().any(|part| part.is_open())
+    parts.iter().filter(|part| part.is_open()).count()
+}
+
+/// The first place from one on at which a part is not at an end, or the end of the list.
+fn first_open(parts: &[Part], from: usize) -> usize
+    requires { HasEnded parts.now from }
+    ensures { HasEnded parts.now result }
+{
+    let mut ended = from;
+    while ended < parts.len() && !parts[ended].is_open() {
+        ended += 1;
+    }
+    ended
+}
+
+/// The place of the first part that waits.
+fn waiting_in(parts: &[Part]) -> Option<usize>
+    ensures place { result ≡ position is_waiting parts.now }
+    ensures waiting { IfSome result (IsAt is_waiting parts.now) }
+{
+    parts.iter().position(|part| part.is_waiting())
+}
+
+/// The place of the first part that waits for the worker.
+fn ready_in(parts: &[Part], worker: u8) -> Option<usize>
+    ensures place { result ≡ position (waits_for worker) parts.now }
+    ensures waiting { IfSome result (IsAt is_waiting parts.now) }
+{
+    parts
+        .iter()
+        .position(|part| part.worker == worker && part.is_waiting())
+}
+
+/// The place of the part of the shard that is with the worker.
+fn taken_in(parts: &[Part], shard: u32, worker: u8) -> Option<usize>
+    ensures place { result ≡ position (is_with shard worker) parts.now }
+    ensures taken { IfSome result (IsAt is_taken parts.now) }
+{
+    parts.iter().position(|part| part.shard == shard && part.worker == worker && part.is_taken())
+}
+
+/// A place in what stands behind so many parts, counted from the first of all.
+fn behind(before: usize, place: Option<usize>) -> Option<usize>
+    requires { IfSome place (λ i. before + i < 2 ^ 64) }
+    ensures { result ≡ option_map (λ i. before + i) place }
+{
+    match place {
+        None => None,
+        Some(place) => Some(before + place),
+    }
 }
 
 /// Whether no memory was found for a part.
