@@ -4,14 +4,16 @@ use Rattle.std.specs.Prelude.{take}
 use Rattle.std.proofs.lemmas.List.{length-append, map-append}
 use Rattle.cell_stock.specs.Stock.{cells_of}
 use Rattle.cell_stock.specs.declared.purse.Spare.{Spare}
+use Rattle.dc_node.specs.declared.block.Block.{Block}
 use Rattle.dim_hierarchy.specs.Dimension.{Dimension}
 use Rattle.link_descent.specs.declared.entered.Fresh.{Fresh}
 use Rattle.row_ledger.specs.Workers.{is_on}
 use Rattle.tree_shape.specs.Counts.{Among, Each, times}
 use Rattle.tree_shape.specs.Laws.{CollectOtherLaw, OtherLaw}
-use Rattle.tree_shape.specs.Shape.{numbers}
-use Rattle.tree_shape.proofs.Divisions.{each-both}
-use Rattle.tree_shape.proofs.Parts.{among-right}
+use Rattle.tree_shape.specs.Shape.{nodes, numbers}
+use Rattle.tree_shape.specs.Steps.{AreApart}
+use Rattle.tree_shape.proofs.Divisions.{each-both, each-map}
+use Rattle.tree_shape.proofs.Parts.{among-right, each-here}
 use Rattle.tree_shape.proofs.Visits.{times-append}
 use Rattle.tree_shape.proofs.Walks.{on_bool, eqb-eq, eqb-ne, same_is}
 use Rattle.volap_cell.specs.AdminKinds.{DoesBuildBlock, IsBuiltOf, spent_by, spent_in}
@@ -22,7 +24,7 @@ use Rattle.volap_cell.specs.Growing.{table_of}
 use Rattle.volap_cell.specs.Invariant.{InvWith}
 use Rattle.volap_cell.specs.Setting.{Setting}
 use Rattle.volap_cell.specs.Steps.{IsKept, Keeps, Makes}
-use Rattle.volap_cell.specs.Stocking.{IsWhole, Stamping, Stocking, all_spares, cells_at, items_in, items_of_job, spent_of}
+use Rattle.volap_cell.specs.Stocking.{IsWhole, LeavesStamp, Stamping, Stocking, all_spares, cells_at, items_in, items_of_job, spent_of}
 use Rattle.volap_cell.specs.Values.{ActorValue, BuildingValue, Builds, Collects, IsDeclined, JobValue, StageValue, building_of, job_of, stage_of}
 use Rattle.volap_cell.specs.View.{View, view}
 use Rattle.volap_cell.specs.Working.{IsBuilding, IsCollected, IsDeclinedFor, IsFrozenFor, IsJobOf, Working, frozen_in}
@@ -38,10 +40,12 @@ use Rattle.volap_cell.specs.declared.kind.Kind.TheVariants as kind
 use Rattle.volap_cell.proofs.AdminViews.{by_build_block, view-build_block}
 use Rattle.volap_cell.proofs.Blanks.{spent-owner}
 use Rattle.volap_cell.proofs.Fields.{IsNewAt}
-use Rattle.volap_cell.proofs.Frames.{actor-at, actor-off, elsewhere, first}
+use Rattle.volap_cell.proofs.Frames.{actor-at, actor-off, each-among, elsewhere, first}
 use Rattle.volap_cell.proofs.GrowsReads.{pinned-whole, readers-take}
 use Rattle.volap_cell.proofs.Seen.{renewed}
 use Rattle.volap_cell.proofs.Spares.{among-cells, build-blank}
+use Rattle.core_tree.proofs.Spares.{spares-distinct}
+use Rattle.core_tree.proofs.Stamps.{distinct-stamps}
 use Rattle.core_image.proofs.Jobs.{stamping-alike, stocking-alike}
 use Rattle.core_image.proofs.Remains.{control-changed}
 use Rattle.core_admin.specs.FinishDue.{BuildsNext, CanBuildBlock, IsUnbuilt}
@@ -95,11 +99,15 @@ module _ (c : Change) (b : ActorValue) (s : Setting) (w : World) (n : ℕ) (g : 
   spent-is : spent_of (v.jobs n) ≡ spent_by (d.others ++ d.next ∷ was.built)
   spent-is = ap spent_of d.has.is_job ∙ ap spent_in d.has.stage_is ∙ was.trees_are.spent ∙ ap (λ (fs : List Fresh). spent_by (fs ++ was.built)) d.unbuilt ∙ ap spent_by (append_assoc d.others (d.next ∷ []) was.built)
 
+  -- the spare that the block took
+  abbrev spare : Spare
+  spare = record { cell = d.next.cell; stamp = d.next.block.stamp }
+
+  among : Among spare (spent_of (v.jobs n))
+  among = subst (Among spare) (sym spent-is) (among-spent d.next (d.others ++ d.next ∷ was.built) (among-right d.others (d.next ∷ was.built) d.next (inl refl)))
+
   owner : g.owner c.number ≡ InJob n
-  owner =
-      let mine = among-spent d.next (d.others ++ d.next ∷ was.built) (among-right d.others (d.next ∷ was.built) d.next (inl refl)) in
-      let spare : Spare = record { cell = d.next.cell; stamp = d.next.block.stamp } in
-      ap g.owner (sym d.here) ∙ spent-owner s w g i n d.next.cell (among-cells spare (spent_of (v.jobs n)) (subst (Among spare) (sym spent-is) mine))
+  owner = ap g.owner (sym d.here) ∙ spent-owner s w g i n d.next.cell (among-cells spare (spent_of (v.jobs n)) among)
 
   -- each cell has one block of the job at most
   apart : Each (λ f. f.cell ≢ d.next.cell) was.built
@@ -153,6 +161,7 @@ module _ (c : Change) (b : ActorValue) (s : Setting) (w : World) (n : ℕ) (g : 
         valid = k.valid;
         count = k.count;
         within = k.within;
+        every = k.every;
         unused = k.unused;
         purse = k.purse;
         job = k.job;
@@ -164,9 +173,70 @@ module _ (c : Change) (b : ActorValue) (s : Setting) (w : World) (n : ℕ) (g : 
         none_gone = k.none_gone;
       }
 
-  stamping-now : Stamping v.stock v2.blocks v.trees v.gates v.phases v.pins v.purses v.reads v2.jobs g.shape
+  -- The shard of the job is frozen.
+
+  frozen-was : IsFrozenFor s v.trees v.phases g.gate (v.purses n) d.job d.building.frozen
+  frozen-was = i.working.frozen n d.job d.building.frozen d.has.is_job (ap frozen_in d.has.stage_is)
+
+  whole : IsWhole v.gates v.phases v.pins d.building.frozen.gate
+  whole =
+      let at = i.lineage.gate_of d.job.shard d.job.worker (i.working.front n d.job d.has.is_job) in
+      subst (IsWhole v.gates v.phases v.pins) (sym frozen-was.gate_is) (subst IsSome (sym at.1) refl, inl at.2)
+
+  -- Stamps. The block has its spare's, which no other block has and no other spare.
+
+  among-all : Among spare (all_spares v.purses v.jobs n)
+  among-all = among-right (v.purses n) (spent_of (v.jobs n)) spare among
+
+  of-spare : (P : Spare → Type 0) → Each P (all_spares v.purses v.jobs n) → P spare
+  of-spare P all = each-among P spare (all_spares v.purses v.jobs n) all among-all
+
+  stamp-at : (y : ℕ) → y ≡ c.number → (v2.blocks y).stamp ≡ d.next.block.stamp
+  stamp-at y e = ap (λ (z : ℕ). (v2.blocks z).stamp) e ∙ ap (λ (x : CellValue). (block_in x).stamp) filled
+
+  old-block : (y : ℕ) → y ≢ c.number → v2.made y ≡ true → (v.made y ≡ true) × ((v2.blocks y).stamp ≡ (v.blocks y).stamp)
+  old-block y ne is = (sym (made-off y ne) ∙ is, ap (λ (x : Block). x.stamp) (block-off y ne))
+
+  -- another block has another stamp
+  other-stamp : (y : ℕ) → y ≢ c.number → v2.made y ≡ true → (v2.blocks y).stamp ≢ d.next.block.stamp
+  other-stamp y ne is e =
+      let old = old-block y ne is in
+      of-spare (LeavesStamp y (v.blocks y).stamp) (i.stamping.unspared n y old.0) (λ k. ne (k ∙ d.here)) (sym old.1 ∙ e)
+
+  blocks-apart : (y z : ℕ) → y ≢ z → v2.made y ≡ true → v2.made z ≡ true → (v2.blocks y).stamp ≢ (v2.blocks z).stamp
+  blocks-apart y z ne my mz e = on_bool (eqb y c.number)
+      (λ q. let at = eqb-eq y c.number q in other-stamp z (λ k. ne (at ∙ sym k)) mz (sym e ∙ stamp-at y at))
+      (λ q. let ny = eqb-ne y c.number q in
+      on_bool (eqb z c.number)
+      (λ p. other-stamp y ny my (e ∙ stamp-at z (eqb-eq z c.number p)))
+      (λ p. let a = old-block y ny my in let b = old-block z (eqb-ne z c.number p) mz in i.stamping.blocks_apart y z ne a.0 b.0 (sym a.1 ∙ e ∙ b.1)))
+
+  -- and so has another spare
+  spares-apart : (a : ℕ) → Each (LeavesStamp c.number d.next.block.stamp) (all_spares v.purses v.jobs a)
+  spares-apart a = on_bool (eqb a n)
+      (λ q. subst (λ (z : ℕ). Each (LeavesStamp c.number d.next.block.stamp) (all_spares v.purses v.jobs z)) (sym (eqb-eq a n q))
+      (each-here (LeavesStamp c.number d.next.block.stamp) (all_spares v.purses v.jobs n) (λ x there ne. distinct-stamps (all_spares v.purses v.jobs n) spare x
+      (spares-distinct (g.shape d.building.frozen.gate) (nodes (cells_at v.blocks v.trees d.building.frozen.gate)) (all_spares v.purses v.jobs n) (i.stamping.spare n d.building.frozen.gate whole))
+      among-all there (λ e. ne (sym d.here ∙ e)))))
+      (λ q. each-map (AreApart spare) (LeavesStamp c.number d.next.block.stamp) (all_spares v.purses v.jobs a) (λ x apart ne. apart.1)
+      (of-spare (λ (x : Spare). Each (AreApart x) (all_spares v.purses v.jobs a)) (i.stamping.apart n a (λ e. eqb-ne a n q (sym e)))))
+
+  unspared-now : (a y : ℕ) → v2.made y ≡ true → Each (LeavesStamp y (v2.blocks y).stamp) (all_spares v.purses v.jobs a)
+  unspared-now a y is = on_bool (eqb y c.number)
+      (λ q. let at = eqb-eq y c.number q in
+      subst (λ (stamp : ℕ). Each (LeavesStamp y stamp) (all_spares v.purses v.jobs a)) (sym (stamp-at y at))
+      (subst (λ (z : ℕ). Each (LeavesStamp z d.next.block.stamp) (all_spares v.purses v.jobs a)) (sym at) (spares-apart a)))
+      (λ q. let old = old-block y (eqb-ne y c.number q) is in
+      subst (λ (stamp : ℕ). Each (LeavesStamp y stamp) (all_spares v.purses v.jobs a)) (sym old.1) (i.stamping.unspared a y old.0))
+
+  stamping-now : Stamping v.stock v2.blocks v2.made v.trees v.gates v.phases v.pins v.purses v.reads v2.jobs g.shape
   stamping-now =
-      let k = stamping-alike v.jobs v2.jobs v.purses spent-same items-same v.stock v.blocks v.trees v.gates v.phases v.pins v.reads g.shape i.stamping in record {
+      let k = stamping-alike v.jobs v2.jobs v.purses spent-same items-same v.stock v.blocks v.made v.trees v.gates v.phases v.pins v.reads g.shape i.stamping in record {
+        blocks_given = λ y is. on_bool (eqb y c.number)
+            (λ q. let at = stamp-at y (eqb-eq y c.number q) in let low = of-spare (λ (x : Spare). x.stamp < v.stock.stamps) (i.stamping.given n) in omega (arith, at, low))
+            (λ q. let old = old-block y (eqb-ne y c.number q) is in let low = i.stamping.blocks_given y old.0 in let same_stamp = old.1 in omega (arith, low, same_stamp));
+        blocks_apart = blocks-apart;
+        unspared = λ a y is. subst (λ (xs : List Spare). Each (LeavesStamp y (v2.blocks y).stamp) (v.purses a ++ xs)) (sym (spent-same a)) (unspared-now a y is);
         given = k.given;
         apart = k.apart;
         spare = λ a x whole. spares-off s v g other i v2.blocks v2.trees off trees-off x whole (all_spares v.purses v2.jobs a) (k.spare a x whole);
@@ -176,14 +246,6 @@ module _ (c : Change) (b : ActorValue) (s : Setting) (w : World) (n : ℕ) (g : 
       }
 
   -- The job.
-
-  frozen-was : IsFrozenFor s v.trees v.phases g.gate (v.purses n) d.job d.building.frozen
-  frozen-was = i.working.frozen n d.job d.building.frozen d.has.is_job (ap frozen_in d.has.stage_is)
-
-  whole : IsWhole v.gates v.phases v.pins d.building.frozen.gate
-  whole =
-      let at = i.lineage.gate_of d.job.shard d.job.worker (i.working.front n d.job d.has.is_job) in
-      subst (IsWhole v.gates v.phases v.pins) (sym frozen-was.gate_is) (subst IsSome (sym at.1) refl, inl at.2)
 
   frozen-now : (f : Frozen) → d.building.frozen ≡ f → IsFrozenFor s v.trees v.phases g.gate (v.purses n) job_now f
   frozen-now f is = subst (IsFrozenFor s v.trees v.phases g.gate (v.purses n) job_now) is (record {

@@ -287,6 +287,7 @@ module _ (maps : List Change) (x gc reg c led : Change) (b : ActorValue) (s : Se
       active_new = λ z q. ap u.active (eqb-eq z y q) ∙ ap active_in gate-now ∙ d.new_is.active;
       pins_new = λ z q. ap u.pins (eqb-eq z y q) ∙ ap pins_in gate-now ∙ d.new_is.pins;
       gone_new = λ z q. ap u.gone (eqb-eq z y q) ∙ ap gone_in gate-now ∙ d.new_is.gone;
+      unmade = λ z q. ap u.made (eqb-eq z y q) ∙ ap has_block gate-now;
       valid_new = λ z q. subst (IsQueueOf s.hierarchy) (sym (ap u.queues (eqb-eq z y q) ∙ ap queue_in gate-now)) d.new_is.valid;
       named_new = λ z q. subst (λ (rows : List Row). Each (λ (r : Row). v.row r.no ≡ r) rows)
           (sym (ap (λ (k : ℕ). (u.queues k).rows) (eqb-eq z y q) ∙ ap (λ (k : CellValue). (queue_in k).rows) gate-now ∙ d.new_is.queue ∙ late-is maps x gc reg c led b s w n g i ag d)) (late-named maps x gc reg c led b s w n g i ag d ends);

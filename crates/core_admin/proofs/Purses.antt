@@ -23,7 +23,7 @@ use Rattle.volap_cell.specs.Ghost.{AGate, Ghost, InJob, InPurse, InTree, NotOfSt
 use Rattle.volap_cell.specs.Invariant.{InvWith}
 use Rattle.volap_cell.specs.Owing.{one_if}
 use Rattle.volap_cell.specs.Setting.{Setting, cell_count, first_stock_cell}
-use Rattle.volap_cell.specs.Stocking.{IsWhole, Stamping, Stocking, all_items, all_spares, cells_at, items_in, items_of_job, items_of_read, spent_of}
+use Rattle.volap_cell.specs.Stocking.{IsWhole, LeavesStamp, Stamping, Stocking, all_items, all_spares, cells_at, items_in, items_of_job, items_of_read, spent_of}
 use Rattle.volap_cell.specs.Values.{JobValue, StageValue}
 use Rattle.volap_cell.specs.View.{View, view}
 use Rattle.volap_cell.specs.World.{World}
@@ -334,6 +334,7 @@ module _ (s : Setting) (w : World) (g : Ghost) (i : InvWith s (view s w) g) (n :
           count = x.all ∙ k.count;
           within = λ y ne. on-owner (λ o. o ≢ NotOfStock → (first_stock_cell s ≤ y) × (y < cell_count s)) y
               (λ le was e. spare-within y was) (λ none le was e. spare-within y was) (λ none none2 was u e. spare-within y was) (λ none none2 r e. k.within y e) ne;
+          every = λ y high low no. k.every y high low (owner-was y NotOfStock (λ e. cc) (λ e. cc) (λ e. cc) no);
           unused = free-now;
           purse = λ a y. on_bool (eqb a n)
               (λ q. subst (λ (z : ℕ). times y (cells_of (purses z)) ≡ cond (is_in_purse z (owner_now y)) 1 0) (sym (eqb-eq _ _ q)) (ap (λ (ss : List Spare). times y (cells_of ss)) mine ∙ purse-now y))
@@ -366,10 +367,15 @@ module _ (s : Setting) (w : World) (g : Ghost) (i : InvWith s (view s w) g) (n :
           (subst (λ (ss : List Spare). P n (ss ++ spent_of (jobs n))) (sym mine) (subst (λ (o : Option JobValue). P n (purse ++ spent_of o)) (sym new.is_there) its_own)))
           (λ q. let ne = eqb-ne _ _ q in subst (λ (ss : List Spare). P a (ss ++ spent_of (jobs a))) (sym (off a ne)) (subst (λ (ss : List Spare). P a (v.purses a ++ ss)) (sym (spent-off a ne)) (old a ne)))
 
-      pub reshared-stamping : Stamping now v.blocks v.trees v.gates phases v.pins purses v.reads jobs g.shape
+      pub reshared-stamping : Stamping now v.blocks v.made v.trees v.gates phases v.pins purses v.reads jobs g.shape
       reshared-stamping =
           let k = i.stamping in
           let later = x.later in record {
+            blocks_given = λ y made. let low = k.blocks_given y made in omega (arith, low, later);
+            blocks_apart = k.blocks_apart;
+            unspared = λ a y made. spares-of (λ a ss. Each (LeavesStamp y (v.blocks y).stamp) ss)
+                (on-mine (LeavesStamp y (v.blocks y).stamp) (λ z ge lt ne e. let low = k.blocks_given y made in absurd (omega (arith, low, ge, e))) (k.unspared n y made))
+                (λ a ne. k.unspared a y made) a;
             given = spares-of (λ a ss. Each (λ (y : Spare). y.stamp < now.stamps) ss)
                 (on-mine (λ (y : Spare). y.stamp < now.stamps) (λ y ge lt. lt) (each-map (λ (y : Spare). y.stamp < v.stock.stamps) (λ (y : Spare). y.stamp < now.stamps) (all_spares v.purses v.jobs n) (λ y lt. omega (arith, lt, later)) (k.given n)))
                 (λ a ne. each-map (λ (y : Spare). y.stamp < v.stock.stamps) (λ (y : Spare). y.stamp < now.stamps) (all_spares v.purses v.jobs a) (λ y lt. omega (arith, lt, later)) (k.given a));

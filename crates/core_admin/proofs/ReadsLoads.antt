@@ -312,7 +312,7 @@ module _ (gates : GateLaw) (s : Setting) (w : World) (n : ℕ) (g : Ghost) (i : 
     owing = owing-now;
     turning = i.turning;
     stocking = stocking-alike s v.jobs v2.jobs v.purses spent-same v.stock v.made v.gates v.phases v.pins v.gone g.owner g.shape i.stocking;
-    stamping = stamping-alike v.jobs v2.jobs v.purses spent-same items-same v.stock v.blocks v.trees v.gates v.phases v.pins v.reads g.shape i.stamping;
+    stamping = stamping-alike v.jobs v2.jobs v.purses spent-same items-same v.stock v.blocks v.made v.trees v.gates v.phases v.pins v.reads g.shape i.stamping;
     lineage = i.lineage;
     leading = i.leading;
     growing = i.growing;

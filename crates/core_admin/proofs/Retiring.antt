@@ -52,6 +52,7 @@ pub record Retiring (s : Setting) (v v2 : View) (g g2 : Ghost) (n : ℕ) : Type 
   pub active_new : (c : ℕ) → new c ≡ true → v2.active c ≡ 0
   pub pins_new : (c : ℕ) → new c ≡ true → v2.pins c ≡ 0
   pub gone_new : (c : ℕ) → new c ≡ true → v2.gone c ≡ []
+  pub unmade : (c : ℕ) → new c ≡ true → v2.made c ≡ false
   pub valid_new : (c : ℕ) → new c ≡ true → IsQueueOf s.hierarchy (v2.queues c)
   pub named_new : (c : ℕ) → new c ≡ true → Each (λ r. v.row r.no ≡ r) (v2.queues c).rows
   -- there was no gate before
@@ -134,6 +135,18 @@ gate-was n t (InPurse a) e = on_bool (eqb a n)
     (λ q. sym (ap (λ (b : Bool). cond b Unused (InPurse a)) q) ∙ e)
 gate-was n t (InJob a) e = on_bool (eqb a n)
     (λ q. let no : InTree t ≡ AGate = sym (ap (λ (b : Bool). cond b (InTree t) (InJob a)) q) ∙ e in cc)
+    (λ q. sym (ap (λ (b : Bool). cond b (InTree t) (InJob a)) q) ∙ e)
+
+stock-was : (n t : ℕ) (o : Owner) → given_to n t o ≡ NotOfStock → o ≡ NotOfStock
+stock-was n t NotOfStock e = e
+stock-was n t Unused e = e
+stock-was n t AGate e = e
+stock-was n t (InTree c) e = e
+stock-was n t (InPurse a) e = on_bool (eqb a n)
+    (λ q. let no : Unused ≡ NotOfStock = sym (ap (λ (b : Bool). cond b Unused (InPurse a)) q) ∙ e in cc)
+    (λ q. sym (ap (λ (b : Bool). cond b Unused (InPurse a)) q) ∙ e)
+stock-was n t (InJob a) e = on_bool (eqb a n)
+    (λ q. let no : InTree t ≡ NotOfStock = sym (ap (λ (b : Bool). cond b (InTree t) (InJob a)) q) ∙ e in cc)
     (λ q. sym (ap (λ (b : Bool). cond b (InTree t) (InJob a)) q) ∙ e)
 
 tree-was : (n t c : ℕ) (o : Owner) → given_to n t o ≡ InTree c → (o ≡ InTree c) ⊎ ((o ≡ InJob n) × (t ≡ c))
@@ -276,6 +289,7 @@ module _ (s : Setting) (v v2 : View) (g g2 : Ghost) (n : ℕ) (i : InvWith s v g
         valid = stock-valid;
         count = m.all ∙ k.count;
         within = λ y ne. k.within y (no-stock y ne);
+        every = λ y high low. by-new (λ o. o ≢ NotOfStock) y (λ q e. cc) (λ q e. k.every y high low (stock-was n (m.built y) (g.owner y) e));
         unused = uses;
         purse = λ a y. on_bool (eqb a n)
             (λ q. let e = eqb-eq a n q in

@@ -3,6 +3,7 @@ use Rattle.std.proofs.Common.{◌≡◌, ◌≢◌, ℕ, ◌+◌, ◌*◌, ◌<�
 use Rattle.std.proofs.lemmas.Bool.{false≢true}
 use Rattle.cell_stock.specs.declared.purse.Spare.{Spare}
 use Rattle.dim_hierarchy.specs.declared.row.Row.{Row}
+use Rattle.dc_node.specs.declared.block.Block.{Block}
 use Rattle.dc_node.specs.declared.entry.Entry.{Entry}
 use Rattle.dc_node.specs.declared.todo.Item.{Item}
 use Rattle.row_ledger.specs.declared.event.Event.{Event}
@@ -24,7 +25,7 @@ use Rattle.volap_cell.specs.Growing.{Growing, IsUnder, Queueing, Resting, table_
 use Rattle.volap_cell.specs.Invariant.{InvWith}
 use Rattle.volap_cell.specs.Querying.{Pinning}
 use Rattle.volap_cell.specs.Setting.{Setting, actor_count}
-use Rattle.volap_cell.specs.Stocking.{IsWhole, NoneExpects, Stamping, all_items, all_spares, cells_at, items_of_job, items_of_read, spent_of}
+use Rattle.volap_cell.specs.Stocking.{IsWhole, LeavesStamp, NoneExpects, Stamping, all_items, all_spares, cells_at, items_of_job, items_of_read, spent_of}
 use Rattle.volap_cell.specs.Turning.{IsIn, Turning, inside_of, is_inside}
 use Rattle.volap_cell.specs.Values.{ErrandValue, JobValue}
 use Rattle.volap_cell.specs.View.{View, view}
@@ -235,9 +236,19 @@ module _ (s : Setting) (w : World) (v2 : View) (g g2 : Ghost) (n : ℕ) (i : Inv
       each-among-right : (P : Spare → Type 0) (z : Spare) (xs ys : List Spare) → Each P (xs ++ ys) → Among z ys → P z
       each-among-right P z xs ys e among = each-among P z ys (each-right P xs ys e) among
 
-  pub retired-stamping : OtherLaw → Stamping v2.stock v2.blocks v2.trees v2.gates v2.phases v2.pins v2.purses v.reads v2.jobs g2.shape
+  -- a block stands in no new gate's cell, so it is as it was
+  old-block : (y : ℕ) → v2.made y ≡ true → (v.made y ≡ true) × ((v2.blocks y).stamp ≡ (v.blocks y).stamp)
+  old-block y made =
+      let q = on_bool (m.new y) (λ q. absurd (false≢true (sym (m.unmade y q) ∙ made))) (λ q. q) in
+      (sym (m.made_off y q) ∙ made, ap (λ (x : Block). x.stamp) (m.blocks_off y q))
+
+  pub retired-stamping : OtherLaw → Stamping v2.stock v2.blocks v2.made v2.trees v2.gates v2.phases v2.pins v2.purses v.reads v2.jobs g2.shape
   retired-stamping other =
       let k = i.stamping in record {
+        blocks_given = λ y made. let old = old-block y made in let low = k.blocks_given y old.0 in let same = old.1 in let all = m.stamps in omega (arith, low, same, all);
+        blocks_apart = λ y z ne my mz same. let a = old-block y my in let b = old-block z mz in k.blocks_apart y z ne a.0 b.0 (sym a.1 ∙ same ∙ b.1);
+        unspared = λ a y made. let old = old-block y made in spares-of (λ a ss. Each (LeavesStamp y (v2.blocks y).stamp) ss) tt
+            (λ a ne. subst (λ (stamp : ℕ). Each (LeavesStamp y stamp) (all_spares v.purses v.jobs a)) (sym old.1) (k.unspared a y old.0)) a;
         given = spares-of (λ a ss. Each (λ (y : Spare). y.stamp < v2.stock.stamps) ss) tt (λ a ne. subst (λ (m : ℕ). Each (λ (y : Spare). y.stamp < m) (all_spares v.purses v.jobs a)) (sym m.stamps) (k.given a));
         apart = λ a b ne. spares-of (λ a ss. a ≢ b → Each (λ (y : Spare). Each (AreApart y) (all_spares v2.purses v2.jobs b)) ss)
             (λ no. tt)

@@ -14,7 +14,7 @@ use Rattle.tree_shape.proofs.Walks.{on_bool, eqb-eq, eqb-ne, eqb-no}
 use Rattle.volap_cell.specs.Ghost.{AGate, Ghost, InJob, InPurse, InTree, NotOfStock, Owner, Unused, is_in_job, is_in_purse, is_in_tree, is_unused}
 use Rattle.volap_cell.specs.Invariant.{InvWith}
 use Rattle.volap_cell.specs.Setting.{Setting}
-use Rattle.volap_cell.specs.Stocking.{Stamping, Stocking, all_items, all_spares, cells_at, items_of_job, items_of_read, spent_of}
+use Rattle.volap_cell.specs.Stocking.{LeavesStamp, Stamping, Stocking, all_items, all_spares, cells_at, items_of_job, items_of_read, spent_of}
 use Rattle.volap_cell.specs.Values.{JobValue}
 use Rattle.volap_cell.specs.View.{View}
 use Rattle.core_tree.proofs.Spares.{other-purse}
@@ -151,6 +151,7 @@ module _ (s : Setting) (v : View) (g : Ghost) (i : InvWith s v g) (n : ℕ) (now
         valid = stock-valid;
         count = x.all ∙ k.count;
         within = λ y ne. k.within y (λ e. ne (ap (returned n) e));
+        every = λ y high low no. k.every y high low (was-so n (g.owner y) NotOfStock (λ e. cc) no);
         unused = uses;
         purse = λ a y. on_bool (eqb a n)
             (λ q. let e = eqb-eq a n q in
@@ -187,9 +188,12 @@ module _ (s : Setting) (v : View) (g : Ghost) (i : InvWith s v g) (n : ℕ) (now
       subst (NoneWaits stamp) (sym now_is) (each-left (λ (z : Item). z.stamp ≢ stamp) (items_of_read (v.reads b)) (items_of_job (v.jobs b)) none))
       (λ q. subst (λ (j : Option JobValue). NoneWaits stamp (items_of_read (v.reads b) ++ items_of_job j)) (sym (jobs_off b (eqb-ne b n q))) none)
 
-  pub returned-stamping : Stamping now v.blocks v.trees v.gates v.phases v.pins purses_now v.reads jobs_now g.shape
+  pub returned-stamping : Stamping now v.blocks v.made v.trees v.gates v.phases v.pins purses_now v.reads jobs_now g.shape
   returned-stamping =
       let k = i.stamping in record {
+        blocks_given = λ y made. subst (λ (m : ℕ). (v.blocks y).stamp < m) (sym x.stamps) (k.blocks_given y made);
+        blocks_apart = k.blocks_apart;
+        unspared = λ a y made. spares-of (λ a ss. Each (LeavesStamp y (v.blocks y).stamp) ss) tt (λ a ne. k.unspared a y made) a;
         given = spares-of (λ a ss. Each (λ (y : Spare). y.stamp < now.stamps) ss) tt (λ a ne. subst (λ (m : ℕ). Each (λ (y : Spare). y.stamp < m) (all_spares v.purses v.jobs a)) (sym x.stamps) (k.given a));
         apart = λ a b ne. spares-of (λ a ss. a ≢ b → Each (λ (y : Spare). Each (AreApart y) (all_spares purses_now jobs_now b)) ss)
             (λ no. tt)

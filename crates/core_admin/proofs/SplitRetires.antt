@@ -285,6 +285,7 @@ module _ (m x l r reg c led : Change) (b : ActorValue) (s : Setting) (w : World)
       active_new = by-gate (λ z. u.active z ≡ 0) (ap active_in (l-now m x l r reg c led b s w n g i ag d) ∙ d.left_is.active) (ap active_in (r-now m x l r reg c led b s w n g i ag d) ∙ d.right_gate_is.active);
       pins_new = by-gate (λ z. u.pins z ≡ 0) (ap pins_in (l-now m x l r reg c led b s w n g i ag d) ∙ d.left_is.pins) (ap pins_in (r-now m x l r reg c led b s w n g i ag d) ∙ d.right_gate_is.pins);
       gone_new = by-gate (λ z. u.gone z ≡ []) (ap gone_in (l-now m x l r reg c led b s w n g i ag d) ∙ d.left_is.gone) (ap gone_in (r-now m x l r reg c led b s w n g i ag d) ∙ d.right_gate_is.gone);
+      unmade = by-gate (λ z. u.made z ≡ false) (ap has_block (l-now m x l r reg c led b s w n g i ag d)) (ap has_block (r-now m x l r reg c led b s w n g i ag d));
       valid_new = by-gate (λ z. IsQueueOf s.hierarchy (u.queues z)) (subst (IsQueueOf s.hierarchy) (sym (ap queue_in (l-now m x l r reg c led b s w n g i ag d))) d.left_is.valid) (subst (IsQueueOf s.hierarchy) (sym (ap queue_in (r-now m x l r reg c led b s w n g i ag d))) d.right_gate_is.valid);
       named_new = by-gate (λ z. Each (λ (q : Row). v.row q.no ≡ q) (u.queues z).rows)
           (subst (Each (λ (q : Row). v.row q.no ≡ q)) (sym queue-l) (left-are m x l r reg c led b s w n g i ag d ends).1.named)

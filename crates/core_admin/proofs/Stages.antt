@@ -62,7 +62,7 @@ module _ (s : Setting) (w : World) (n : ℕ) (g : Ghost) (i : InvWith s (view s 
     owing = i.owing;
     turning = i.turning;
     stocking = staged-stocking s v i.numbering n job stage u.jobs new to.spent v.stock v.made v.gates v.phases v.pins v.gone v.purses g.owner g.shape i.stocking;
-    stamping = staged-stamping s v i.numbering n job stage u.jobs new to.spent v.stock v.blocks v.trees v.gates v.phases v.pins v.purses v.reads g.shape i.stamping to.waits to.fresh;
+    stamping = staged-stamping s v i.numbering n job stage u.jobs new to.spent v.stock v.blocks v.made v.trees v.gates v.phases v.pins v.purses v.reads g.shape i.stamping to.waits to.fresh;
     lineage = i.lineage;
     leading = i.leading;
     growing = i.growing;

@@ -21,7 +21,7 @@ use Rattle.volap_cell.specs.Errands.{ReadPart}
 use Rattle.volap_cell.specs.Ghost.{Owner}
 use Rattle.volap_cell.specs.Numbering.{Numbering}
 use Rattle.volap_cell.specs.Setting.{Setting}
-use Rattle.volap_cell.specs.Stocking.{Stamping, Stocking, all_items, all_spares, cells_at, items_in, items_of_job, items_of_read, spent_of}
+use Rattle.volap_cell.specs.Stocking.{LeavesStamp, Stamping, Stocking, all_items, all_spares, cells_at, items_in, items_of_job, items_of_read, spent_of}
 use Rattle.volap_cell.specs.Telling.{IsProgress, Telling}
 use Rattle.volap_cell.specs.Values.{JobValue, StageValue, IsDeclined, Collects, Builds, CollectingValue, BuildingValue}
 use Rattle.volap_cell.specs.View.{View}
@@ -178,6 +178,7 @@ module _ (s : Setting) (v : View) (numbered : IsNumbered s v) (n : ℕ) (job : J
       valid = i.valid;
       count = i.count;
       within = i.within;
+      every = i.every;
       unused = i.unused;
       purse = i.purse;
       job = λ a y. ap (λ (xs : List Spare). times y (cells_of xs)) (spent-same a) ∙ i.job a y;
@@ -190,14 +191,17 @@ module _ (s : Setting) (v : View) (numbered : IsNumbered s v) (n : ℕ) (job : J
     }
 
     -- what is noted for it now no spare has as its stamp, and no stamp that isn't given out yet is one of these
-    pub staged-stamping : (stock : StockValue) (blocks : ℕ → Block) (trees : ℕ → Gate) (gates : ℕ → Option ℕ) (phases : ℕ → Option Phase) (pins : ℕ → ℕ) (purses : ℕ → List Spare) (reads : ℕ → Option ReadPart) (shape : ℕ → Shape)
-        → Stamping stock blocks trees gates phases pins purses reads v.jobs shape
+    pub staged-stamping : (stock : StockValue) (blocks : ℕ → Block) (made : ℕ → Bool) (trees : ℕ → Gate) (gates : ℕ → Option ℕ) (phases : ℕ → Option Phase) (pins : ℕ → ℕ) (purses : ℕ → List Spare) (reads : ℕ → Option ReadPart) (shape : ℕ → Shape)
+        → Stamping stock blocks made trees gates phases pins purses reads v.jobs shape
         → ((a : ℕ) → Each (λ (x : Spare). NoneWaits x.stamp (items_in stage)) (all_spares purses v.jobs a))
         → ((stamp : ℕ) → stock.stamps ≤ stamp → NoneWaits stamp (items_in stage))
-        → Stamping stock blocks trees gates phases pins purses reads jobs shape
-    staged-stamping stock blocks trees gates phases pins purses reads shape i waits fresh =
+        → Stamping stock blocks made trees gates phases pins purses reads jobs shape
+    staged-stamping stock blocks made trees gates phases pins purses reads shape i waits fresh =
         let spares : (a : ℕ) → all_spares purses v.jobs a ≡ all_spares purses jobs a = λ a. ap (λ (xs : List Spare). purses a ++ xs) (sym (spent-same a)) in
         record {
+          blocks_given = i.blocks_given;
+          blocks_apart = i.blocks_apart;
+          unspared = λ a y is. subst (λ (xs : List Spare). Each (LeavesStamp y (blocks y).stamp) xs) (spares a) (i.unspared a y is);
           given = λ a. subst (λ (xs : List Spare). Each (λ x. x.stamp < stock.stamps) xs) (spares a) (i.given a);
           apart = λ a b ne. subst (λ (xs : List Spare). Each (λ x. Each (AreApart x) (all_spares purses jobs b)) xs) (spares a)
               (subst (λ (ys : List Spare). Each (λ x. Each (AreApart x) ys) (all_spares purses v.jobs a)) (spares b) (i.apart a b ne));

@@ -142,7 +142,7 @@ module _ (cs : List Change) (b : ActorValue) (s : Setting) (w : World) (n : ℕ)
     owing = owing-now;
     turning = i.turning;
     stocking = begun-stocking n its v.commands v2.commands begin job v.jobs v2.jobs new s (e ∷ h) v.roles v.purses is.new_job v.stock v.made v.gates v.phases v.pins v.gone g.owner g.shape i.stocking;
-    stamping = begun-stamping n its v.commands v2.commands begin job v.jobs v2.jobs new s (e ∷ h) v.roles v.purses is.new_job v.stock v.blocks v.trees v.gates v.phases v.pins v.reads g.shape i.stamping;
+    stamping = begun-stamping n its v.commands v2.commands begin job v.jobs v2.jobs new s (e ∷ h) v.roles v.purses is.new_job v.stock v.blocks v.made v.trees v.gates v.phases v.pins v.reads g.shape i.stamping;
     lineage = told.lineage;
     leading = i.leading;
     growing = told.growing;

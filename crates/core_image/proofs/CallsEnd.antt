@@ -144,7 +144,7 @@ module _ (l : Change) (b : ActorValue) (s : Setting) (w : World) (n : ℕ) (g : 
     owing = owing-now;
     turning = i.turning;
     stocking = jobless-stocking n its v.commands v2.commands end (w.actors n).job v.jobs v2.jobs gone is.unspent s v.purses v.stock v.made v.gates v.phases v.pins v.gone g.owner g.shape i.stocking;
-    stamping = jobless-stamping n its v.commands v2.commands end (w.actors n).job v.jobs v2.jobs gone is.unspent is.unnoted v.purses v.stock v.blocks v.trees v.gates v.phases v.pins v.reads g.shape i.stamping;
+    stamping = jobless-stamping n its v.commands v2.commands end (w.actors n).job v.jobs v2.jobs gone is.unspent is.unnoted v.purses v.stock v.blocks v.made v.trees v.gates v.phases v.pins v.reads g.shape i.stamping;
     lineage = told.lineage;
     leading = i.leading;
     growing = told.growing;

@@ -21,7 +21,7 @@ use Rattle.volap_cell.specs.Errands.{ReadPart, Taken}
 use Rattle.volap_cell.specs.Ghost.{Owner}
 use Rattle.volap_cell.specs.Numbering.{Numbering}
 use Rattle.volap_cell.specs.Setting.{Setting, actor_count}
-use Rattle.volap_cell.specs.Stocking.{Stamping, Stocking, all_items, all_spares, items_of_job, items_of_read, spent_of, cells_at}
+use Rattle.volap_cell.specs.Stocking.{LeavesStamp, Stamping, Stocking, all_items, all_spares, items_of_job, items_of_read, spent_of, cells_at}
 use Rattle.volap_cell.specs.Values.{JobValue, StageValue, IsCalled, IsDeclined}
 use Rattle.volap_cell.specs.Working.{Balancing, IsBalancing, IsJobOf, Working, frozen_in}
 use Rattle.volap_cell.specs.declared.command.Balance.{Balance}
@@ -42,6 +42,7 @@ module _ (s : Setting) (jobs jobs_now : ℕ → Option JobValue) (purses : ℕ �
     valid = i.valid;
     count = i.count;
     within = i.within;
+    every = i.every;
     unused = i.unused;
     purse = i.purse;
     job = λ a y. ap (λ (xs : List Spare). times y (cells_of xs)) (spent-same a) ∙ i.job a y;
@@ -54,12 +55,15 @@ module _ (s : Setting) (jobs jobs_now : ℕ → Option JobValue) (purses : ℕ �
   }
 
 module _ (jobs jobs_now : ℕ → Option JobValue) (purses : ℕ → List Spare) (spent-same : (a : ℕ) → spent_of (jobs_now a) ≡ spent_of (jobs a)) (items-same : (a : ℕ) → items_of_job (jobs_now a) ≡ items_of_job (jobs a)) where
-  pub stamping-alike : (stock : StockValue) (blocks : ℕ → Block) (trees : ℕ → Gate) (gates : ℕ → Option ℕ) (phases : ℕ → Option Phase) (pins : ℕ → ℕ) (reads : ℕ → Option ReadPart) (shape : ℕ → Shape)
-      → Stamping stock blocks trees gates phases pins purses reads jobs shape → Stamping stock blocks trees gates phases pins purses reads jobs_now shape
-  stamping-alike stock blocks trees gates phases pins reads shape i =
+  pub stamping-alike : (stock : StockValue) (blocks : ℕ → Block) (made : ℕ → Bool) (trees : ℕ → Gate) (gates : ℕ → Option ℕ) (phases : ℕ → Option Phase) (pins : ℕ → ℕ) (reads : ℕ → Option ReadPart) (shape : ℕ → Shape)
+      → Stamping stock blocks made trees gates phases pins purses reads jobs shape → Stamping stock blocks made trees gates phases pins purses reads jobs_now shape
+  stamping-alike stock blocks made trees gates phases pins reads shape i =
       let spares : (a : ℕ) → all_spares purses jobs a ≡ all_spares purses jobs_now a = λ a. ap (λ (xs : List Spare). purses a ++ xs) (sym (spent-same a)) in
       let items : (a : ℕ) → all_items reads jobs a ≡ all_items reads jobs_now a = λ a. ap (λ (xs : List Item). items_of_read (reads a) ++ xs) (sym (items-same a)) in
       record {
+        blocks_given = i.blocks_given;
+        blocks_apart = i.blocks_apart;
+        unspared = λ a y is. subst (λ (xs : List Spare). Each (LeavesStamp y (blocks y).stamp) xs) (spares a) (i.unspared a y is);
         given = λ a. subst (λ (xs : List Spare). Each (λ x. x.stamp < stock.stamps) xs) (spares a) (i.given a);
         apart = λ a b ne. subst (λ (xs : List Spare). Each (λ x. Each (AreApart x) (all_spares purses jobs_now b)) xs) (spares a)
             (subst (λ (ys : List Spare). Each (λ x. Each (AreApart x) ys) (all_spares purses jobs a)) (spares b) (i.apart a b ne));
@@ -143,8 +147,8 @@ module _ (n : ℕ) (its : Command) (commands commands_now : ℕ → Option Comma
       → Stocking s stock made gates phases pins gone purses jobs owner shape → Stocking s stock made gates phases pins gone purses jobs_now owner shape
   begun-stocking = stocking-alike s jobs jobs_now purses spent-same
 
-  pub begun-stamping : (stock : StockValue) (blocks : ℕ → Block) (trees : ℕ → Gate) (gates : ℕ → Option ℕ) (phases : ℕ → Option Phase) (pins : ℕ → ℕ) (reads : ℕ → Option ReadPart) (shape : ℕ → Shape)
-      → Stamping stock blocks trees gates phases pins purses reads jobs shape → Stamping stock blocks trees gates phases pins purses reads jobs_now shape
+  pub begun-stamping : (stock : StockValue) (blocks : ℕ → Block) (made : ℕ → Bool) (trees : ℕ → Gate) (gates : ℕ → Option ℕ) (phases : ℕ → Option Phase) (pins : ℕ → ℕ) (reads : ℕ → Option ReadPart) (shape : ℕ → Shape)
+      → Stamping stock blocks made trees gates phases pins purses reads jobs shape → Stamping stock blocks made trees gates phases pins purses reads jobs_now shape
   begun-stamping = stamping-alike jobs jobs_now purses spent-same items-same
 
   -- Jobs.

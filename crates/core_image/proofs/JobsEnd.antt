@@ -70,8 +70,8 @@ module _ (n : ℕ) (its : Command) (commands commands_now : ℕ → Option Comma
       → Stocking s stock made gates phases pins cells purses jobs owner shape → Stocking s stock made gates phases pins cells purses jobs_now owner shape
   jobless-stocking nothing s purses = stocking-alike s jobs jobs_now purses (spent-gone nothing)
 
-  pub jobless-stamping : spent_of job ≡ [] → items_of_job job ≡ [] → (purses : ℕ → List Spare) (stock : StockValue) (blocks : ℕ → Block) (trees : ℕ → Gate) (gates : ℕ → Option ℕ) (phases : ℕ → Option Phase) (pins : ℕ → ℕ) (reads : ℕ → Option ReadPart) (shape : ℕ → Shape)
-      → Stamping stock blocks trees gates phases pins purses reads jobs shape → Stamping stock blocks trees gates phases pins purses reads jobs_now shape
+  pub jobless-stamping : spent_of job ≡ [] → items_of_job job ≡ [] → (purses : ℕ → List Spare) (stock : StockValue) (blocks : ℕ → Block) (made : ℕ → Bool) (trees : ℕ → Gate) (gates : ℕ → Option ℕ) (phases : ℕ → Option Phase) (pins : ℕ → ℕ) (reads : ℕ → Option ReadPart) (shape : ℕ → Shape)
+      → Stamping stock blocks made trees gates phases pins purses reads jobs shape → Stamping stock blocks made trees gates phases pins purses reads jobs_now shape
   jobless-stamping nothing none purses = stamping-alike jobs jobs_now purses (spent-gone nothing) (items-gone none)
 
   -- other jobs, and other balances

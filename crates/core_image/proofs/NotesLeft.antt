@@ -378,7 +378,7 @@ module _ (l : Change) (b : ActorValue) (s : Setting) (w : World) (n : ℕ) (g : 
     owing = owing-now;
     turning = i.turning;
     stocking = stocking-alike s v.jobs v2.jobs v.purses spent-same v.stock v.made v.gates v.phases v.pins v.gone g.owner g.shape i.stocking;
-    stamping = stamping-alike v.jobs v2.jobs v.purses spent-same items-same v.stock v.blocks v.trees v.gates v.phases v.pins v.reads g.shape i.stamping;
+    stamping = stamping-alike v.jobs v2.jobs v.purses spent-same items-same v.stock v.blocks v.made v.trees v.gates v.phases v.pins v.reads g.shape i.stamping;
     lineage = lineage-quiet s e h refl v.stock v.registry v.maps v.gates v.phases g.gate i.lineage;
     leading = i.leading;
     growing = growing-grown s e h some v.blocks v.trees v.gates v.phases v.pins g.shape i.growing;

@@ -178,6 +178,7 @@ module _ (s : Setting) (v : View) (g : Ghost) (i : InvWith s v g) (readers : Rea
     valid = m.valid;
     count = m.count;
     within = m.within;
+    every = m.every;
     unused = m.unused;
     purse = m.purse;
     job = m.job;
@@ -200,8 +201,11 @@ module _ (s : Setting) (v : View) (g : Ghost) (i : InvWith s v g) (readers : Rea
       (each-right (λ x. x.stamp ≢ stamp) (items_of_read (v.reads b)) (items_of_job (v.jobs b)) none))
       (λ q. subst (λ (o : Option ReadPart). NoneWaits stamp (items_of_read o ++ items_of_job (v.jobs b))) (sym (k.reads.elsewhere b (eqb-ne b n q))) none)
 
-  pub back-stamping : Stamping v.stock v.blocks v.trees v.gates v.phases pins_now v.purses reads_now v.jobs g.shape
+  pub back-stamping : Stamping v.stock v.blocks v.made v.trees v.gates v.phases pins_now v.purses reads_now v.jobs g.shape
   back-stamping = (let m = i.stamping in record {
+    blocks_given = m.blocks_given;
+    blocks_apart = m.blocks_apart;
+    unspared = m.unspared;
     given = m.given;
     apart = m.apart;
     spare = λ a c whole. m.spare a c (whole-was c whole);

@@ -48,6 +48,7 @@ use Rattle.core_tree.proofs.Places.{with_one, at-one, off-one, Passes, HaveOneMo
 use Rattle.core_tree.proofs.PlacesRead.{querying-placed, working-placed, balancing-placed}
 use Rattle.core_tree.proofs.Remains.{IsStepOf, control-same, gates-changed}
 use Rattle.core_tree.proofs.Spares.{moved_owner}
+use Rattle.core_tree.proofs.Stamps.{Restamps}
 use Rattle.core_tree.proofs.TreeSteps.{IsOwn, block-off, with_shape}
 
 -- what holds of a cell, and of what each changed one becomes where it held before, holds still
@@ -81,6 +82,7 @@ pub record ComesIn (s : Setting) (w : World) (n : ℕ) (cs : List Change) (b : A
   pub used : List Spare
   pub purse : (w.actors n).purse ≡ b.purse ++ used
   pub fresh : Each (λ x. (view s (after w cs n b)).made x.cell ≡ true) used
+  pub stamps : Restamps (g.shape gate).inside (view s w).made (view s (after w cs n b)).made (view s w).blocks (view s (after w cs n b)).blocks used
   pub moved : Moved (table_of s (view s w).row) (cells_at (view s w).blocks (view s w).trees gate) (cells_at (view s (after w cs n b)).blocks (view s (after w cs n b)).trees gate) (g.shape gate) shape r.row.no used
   pub went : IsCarriedOn shape gate r.row.no b.purse b.boxes gate at
   pub command : b.command ≡ (w.actors n).command
@@ -159,6 +161,7 @@ module _ (s : Setting) (w : World) (n : ℕ) (cs : List Change) (b : ActorValue)
     off = λ y nt np. block-off cs w.cells g.owner t.gate n y ag.cells t.own nt np;
     still = t.still;
     fresh = t.fresh;
+    stamps = t.stamps;
     ways_off = go.off;
     purses_off = λ a ne. ap (λ (z : ActorValue). z.purse) (actor-off w.actors n b a ne);
     boxes_off = λ a ne. ap (λ (z : ActorValue). z.boxes) (actor-off w.actors n b a ne);

@@ -39,29 +39,48 @@ use Rattle.volap_cell.proofs.Numbers.{tag-rest}
 use Rattle.volap_cell.proofs.Seen.{beside, actor_beside}
 use Rattle.volap_cell.proofs.Touches.{IsBlank, tail-read, turned-block, others-blocks}
 use Rattle.core_tree.proofs.Carriers.{Carries, carries, purse-owned}
-use Rattle.core_tree.proofs.NewBlocks.{AreIn, count-filled, filled-each, filled-made, filled-off, filled-at, in-fresh, in-spares, put-skip, put-behind, block-stays}
+use Rattle.core_tree.proofs.NewBlocks.{AreIn, count-filled, filled-each, filled-made, filled-off, filled-at, in-fresh, in-spares, put-skip, put-behind, seen-stays}
 use Rattle.core_tree.proofs.Spares.{AreDistinct, spares-distinct, spares-left, distinct-right}
+use Rattle.core_tree.proofs.Stamps.{KeepsStamp, StampsWith, Restamps, cuts-stamps, divides-once, restamps}
 use Rattle.core_tree.proofs.TreeSteps.{TreeStep, IsOwn, tree-kept, with_shape, of_steps}
 
--- a step down uses one spare for one new block, or none
-pub record UsesSpares (purse purse2 : List Spare) (items : List Fresh) : Type 0 where
+-- a step down uses one spare for one new block, or none; the parent keeps its stamp
+pub record UsesSpares (purse purse2 : List Spare) (items : List Fresh) (parent parent_now head head_now : Block) : Type 0 where
   pub used : List Spare
   pub few : length used ≤ 1
   pub purse_is : purse ≡ purse2 ++ used
   pub are_in : AreIn used items
+  pub parent_stamp : parent_now.stamp ≡ parent.stamp
+  pub stamps : StampsWith used items head head_now
 
 pub spares-down : (h : List Dimension) (row : Row) (place : ℕ) (tail : List Block) (parent parent_now head head_now : Block) (purse purse_now : PurseValue) (entered : Entered)
-    → StepsDown h row place tail parent parent_now head head_now purse purse_now entered → UsesSpares purse.spares purse_now.spares entered.fresh.items
+    → StepsDown h row place tail parent parent_now head head_now purse purse_now entered → UsesSpares purse.spares purse_now.spares entered.fresh.items parent parent_now head head_now
 spares-down h row place tail parent parent_now head head_now purse purse_now entered step = elim step.step [
   | inl w ↦ record {
     used = [];
     few = omega arith;
     purse_is = ap (λ (p : PurseValue). p.spares) (sym w.2.purse_is) ∙ sym (append-nil purse_now.spares);
     are_in = subst (AreIn []) (sym w.2.fresh) tt;
+    parent_stamp = ap (λ (x : Block). x.stamp) w.1.parent_is;
+    stamps = inl (refl, ap (λ (x : Block). x.stamp) w.2.head_is);
   }
   | inr more ↦ elim more [
-    | inl w ↦ record { used = w.2.spare ∷ []; few = omega arith; purse_is = w.2.purse_is; are_in = subst (AreIn (w.2.spare ∷ [])) (sym w.2.fresh) (refl, tt) }
-    | inr w ↦ record { used = w.spare ∷ []; few = omega arith; purse_is = w.cuts.purse_is; are_in = subst (AreIn (w.spare ∷ [])) (sym w.fresh) (refl, tt) }
+    | inl w ↦ record {
+      used = w.2.spare ∷ [];
+      few = omega arith;
+      purse_is = w.2.purse_is;
+      are_in = subst (AreIn (w.2.spare ∷ [])) (sym w.2.fresh) (refl, tt);
+      parent_stamp = ap (λ (x : Block). x.stamp) w.1.parent_is;
+      stamps = inr (divides-once w.2.spare entered.fresh.items head head_now w.2.new w.2.fresh (ap (λ (x : Block). x.stamp) w.2.halved.head_is) (ap (λ (x : Block). x.stamp) w.2.halved.new_is));
+    }
+    | inr w ↦ record {
+      used = w.spare ∷ [];
+      few = omega arith;
+      purse_is = w.cuts.purse_is;
+      are_in = subst (AreIn (w.spare ∷ [])) (sym w.fresh) (refl, tt);
+      parent_stamp = ap (λ (x : Block). x.stamp) w.parent_is;
+      stamps = inr (let cut = cuts-stamps h tail step.entry w.left w.right head head_now purse purse_now w.spare w.new w.cuts in divides-once w.spare entered.fresh.items head head_now w.new w.fresh cut.0 cut.1);
+    }
   ]
 ]
 
@@ -214,7 +233,7 @@ module _ (downs : DownLaw) (childs : ChildLaw) (behinds : BehindLaw) (p c : Chan
 
   -- the new blocks
 
-  uses : UsesSpares d.purse.spares d.purse_now.spares d.entered.fresh.items
+  uses : UsesSpares d.purse.spares d.purse_now.spares d.entered.fresh.items d.parent d.parent_now d.head d.head_now
   uses = spares-down s.hierarchy d.r.row d.place (blocks_of d.tail) d.parent d.parent_now d.head d.head_now d.purse d.purse_now d.entered d.step
 
   spares : AreSpares shape (nodes (cells_at v.blocks v.trees gate)) d.purse.spares
@@ -271,17 +290,43 @@ module _ (downs : DownLaw) (childs : ChildLaw) (behinds : BehindLaw) (p c : Chan
       let k4 = subst (λ (x : Block). StepsDown s.hierarchy (v.row r) d.place (map v.blocks (map (λ (x : Change). x.number) d.tail)) (v.blocks p.number) ((view s w2).blocks p.number) x d.head_now d.purse d.purse_now d.entered) (sym (ap v.blocks d.child ∙ c-was)) k3 in
       subst (λ (x : Block). StepsDown s.hierarchy (v.row r) d.place (map v.blocks (map (λ (x : Change). x.number) d.tail)) (v.blocks p.number) ((view s w2).blocks p.number) (v.blocks d.entry.child) x d.purse d.purse_now d.entered) (sym (ap (view s w2).blocks d.child ∙ c-now)) k4
 
-  others-off : (y : ℕ) → y ≢ p.number → y ≢ d.entry.child → Each (λ (x : Fresh). y ≢ x.cell) d.entered.fresh.items → (view s w2).blocks y ≡ v.blocks y
-  others-off y np nc nf = block-stays cs w.cells y ag.cells (
+  others-off : {A : Type 0} (f : CellValue → A) (y : ℕ) → y ≢ p.number → y ≢ d.entry.child → Each (λ (x : Fresh). y ≢ x.cell) d.entered.fresh.items → f (put cs w.cells y) ≡ f (w.cells y)
+  others-off f y np nc nf = seen-stays f cs w.cells y ag.cells (
     inl np,
     (
       inl (λ e. nc (e ∙ sym d.child)),
-      subst (Each (λ (x : Change). (y ≢ x.number) ⊎ (block_in x.now ≡ block_in x.before))) (sym d.others_are)
-          (each-append (λ (x : Change). (y ≢ x.number) ⊎ (block_in x.now ≡ block_in x.before)) d.tail d.fresh
-          (each-map (λ (x : Change). x.now ≡ x.before) (λ (x : Change). (y ≢ x.number) ⊎ (block_in x.now ≡ block_in x.before)) d.tail (λ x e. inr (ap block_in e)) (tail-read d.entry.stamp d.head d.tail d.behind))
-          (each-map (λ (x : Change). y ≢ x.number) (λ (x : Change). (y ≢ x.number) ⊎ (block_in x.now ≡ block_in x.before)) d.fresh (λ x e. inl e) (filled-off y d.entered.fresh.items d.fresh d.are_filled nf))),
+      subst (Each (λ (x : Change). (y ≢ x.number) ⊎ (f x.now ≡ f x.before))) (sym d.others_are)
+          (each-append (λ (x : Change). (y ≢ x.number) ⊎ (f x.now ≡ f x.before)) d.tail d.fresh
+          (each-map (λ (x : Change). x.now ≡ x.before) (λ (x : Change). (y ≢ x.number) ⊎ (f x.now ≡ f x.before)) d.tail (λ x e. inr (ap f e)) (tail-read d.entry.stamp d.head d.tail d.behind))
+          (each-map (λ (x : Change). y ≢ x.number) (λ (x : Change). (y ≢ x.number) ⊎ (f x.now ≡ f x.before)) d.fresh (λ x e. inl e) (filled-off y d.entered.fresh.items d.fresh d.are_filled nf))),
     ),
   )
+
+  -- the new blocks as they stand
+  filled-blocks : Each (λ (x : Fresh). (view s w2).blocks x.cell ≡ x.block) d.entered.fresh.items
+  filled-blocks = each-map (λ (x : Fresh). put cs w.cells x.cell ≡ BlockCell x.block) (λ (x : Fresh). block_in (put cs w.cells x.cell) ≡ x.block) d.entered.fresh.items (λ x e. ap block_in e) filled
+
+  -- blocks but the head and the new ones keep their stamps
+  keeps-stamp : (y : ℕ) → y ≢ c.number → Each (λ (x : Spare). y ≢ x.cell) uses.used → (view s w2).made y ≡ true → KeepsStamp v.made v.blocks (view s w2).blocks y
+  keeps-stamp y nc nf made = on_bool (eqb y p.number)
+      (λ q. let e = eqb-eq y p.number q in record {
+        made_before = ap v.made e ∙ ap has_block (ag.cells.0 ∙ d.turns_parent.was);
+        same = ap (λ (z : ℕ). ((view s w2).blocks z).stamp) e ∙ ap (λ (x : Block). x.stamp) p-now ∙ uses.parent_stamp ∙ ap (λ (x : Block). x.stamp) (sym p-was) ∙ ap (λ (z : ℕ). (v.blocks z).stamp) (sym e);
+      })
+      (λ q.
+      let np = eqb-ne y p.number q in
+      let off = in-fresh (λ z. y ≢ z) uses.used d.entered.fresh.items uses.are_in nf in
+      let other : y ≢ d.entry.child = (λ e. nc (e ∙ d.child)) in
+      record { made_before = sym (others-off has_block y np other off) ∙ made; same = ap (λ (x : Block). x.stamp) (others-off block_in y np other off) })
+
+  stamps : Restamps shape.inside v.made (view s w2).made v.blocks (view s w2).blocks uses.used
+  stamps =
+      let c_stands : v.made c.number ≡ true = ap has_block (ag.cells.1.0 ∙ d.turns_head.was) in
+      let with_was = subst (λ (x : Block). StampsWith uses.used d.entered.fresh.items x d.head_now) (sym c-was) uses.stamps in
+      let with_now = subst (λ (x : Block). StampsWith uses.used d.entered.fresh.items (v.blocks c.number) x) (sym c-now) with_was in
+      restamps shape.inside v.made (view s w2).made v.blocks (view s w2).blocks uses.used d.entered.fresh.items c.number with_now child-inside c_stands
+      (each-map (λ (x : Spare). g.owner x.cell ≡ InPurse n) (λ (x : Spare). c.number ≢ x.cell) uses.used (λ x own e. let k : InTree gate ≡ InPurse n = sym child-owner ∙ ap g.owner e ∙ own in cc) used-owner)
+      distinct filled-blocks keeps-stamp
 
   law : AfterStep (table_of s v.row) shape r d.entered.at (shape.level (shape.at r)) (cells_at v.blocks v.trees gate) (cells_at (view s w2).blocks v.trees gate) d.purse.spares d.purse_now.spares
   law = downs (table_of s v.row) shape r (cells_at v.blocks v.trees gate) (cells_at (view s w2).blocks v.trees gate) d.purse d.purse_now d.entered here.tree (record {
@@ -297,8 +342,8 @@ module _ (downs : DownLaw) (childs : ChildLaw) (behinds : BehindLaw) (p c : Chan
     step = step;
     idle = subst (IsIdle shape) (sym d.child) idle;
     spares = spares;
-    filled = each-map (λ (x : Fresh). put cs w.cells x.cell ≡ BlockCell x.block) (λ (x : Fresh). block_in (put cs w.cells x.cell) ≡ x.block) d.entered.fresh.items (λ x e. ap block_in e) filled;
-    other = others-off;
+    filled = filled-blocks;
+    other = others-off block_in;
     gate_cell = refl;
     gate = record { root = refl; height = refl };
   })
@@ -358,6 +403,7 @@ module _ (downs : DownLaw) (childs : ChildLaw) (behinds : BehindLaw) (p c : Chan
         fresh = subst (Each (λ (x : Spare). has_block (put cs w.cells x.cell) ≡ true)) (sym same_used)
             (in-spares (λ y. has_block (put cs w.cells y) ≡ true) uses.used d.entered.fresh.items uses.are_in
             (each-map (λ (x : Fresh). put cs w.cells x.cell ≡ BlockCell x.block) (λ (x : Fresh). has_block (put cs w.cells x.cell) ≡ true) d.entered.fresh.items (λ x e. ap has_block e) filled));
+        stamps = subst (λ (ss : List Spare). Restamps shape.inside v.made (view s w2).made v.blocks (view s w2).blocks ss) (sym same_used) stamps;
         moved = record {
           tree = law.tree;
           here = law.row.placed;

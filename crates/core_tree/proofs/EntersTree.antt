@@ -49,13 +49,14 @@ use Rattle.core_tree.proofs.Carriers.{purse-owned}
 use Rattle.core_tree.proofs.ComesIn.{ComesIn, comes-in-kept, still-has}
 use Rattle.core_tree.proofs.Counts.{tree-placed}
 use Rattle.core_tree.proofs.Descents.{tail-blocks, tail-numbers, each-numbers, tail-made, append-cancel, gate-phase}
-use Rattle.core_tree.proofs.NewBlocks.{AreIn, count-filled, filled-each, filled-made, filled-off, filled-at, in-fresh, in-spares, put-skip, put-behind, block-stays}
+use Rattle.core_tree.proofs.NewBlocks.{AreIn, count-filled, filled-each, filled-made, filled-off, filled-at, in-fresh, in-spares, put-skip, put-behind, seen-stays}
 use Rattle.core_tree.proofs.Spares.{AreDistinct, apart-sym, spares-distinct, spares-left, distinct-right}
+use Rattle.core_tree.proofs.Stamps.{KeepsStamp, Restamps, StampsWith, cuts-stamps, divides-once, restamps}
 use Rattle.core_tree.proofs.TreeSteps.{IsOwn, of_steps}
 
 -- The spares that a step in uses: none where the root has room, the last one where it is halved, and the last two where it is cut; the new
 -- blocks have them in this order.
-pub record UsesIn (purse purse2 : List Spare) (items : List Fresh) (height height_now : ℕ) : Type 1 where
+pub record UsesIn (purse purse2 : List Spare) (items : List Fresh) (height height_now : ℕ) (root root_now : Block) : Type 1 where
   pub used : List Spare
   pub in_order : List Spare
   pub purse_is : purse ≡ purse2 ++ used
@@ -65,9 +66,10 @@ pub record UsesIn (purse purse2 : List Spare) (items : List Fresh) (height heigh
   pub distinct : AreDistinct used → AreDistinct in_order
   pub many : length used ≡ length in_order
   pub few : height_now + length used ≤ height + 3
+  pub stamps : StampsWith used items root root_now
 
 pub spares-in : (h : List Dimension) (row : Row) (tail : List Block) (gate gate_now : Gate) (root root_now : Block) (purse purse_now : PurseValue) (entered : Entered)
-    → Enters h row tail gate gate_now root root_now purse purse_now entered → UsesIn purse.spares purse_now.spares entered.fresh.items gate.height gate_now.height
+    → Enters h row tail gate gate_now root root_now purse purse_now entered → UsesIn purse.spares purse_now.spares entered.fresh.items gate.height gate_now.height root root_now
 spares-in h row tail gate gate_now root root_now purse purse_now entered enters = elim enters.step [
   | inl w ↦ (let high = ap (λ (x : Gate). x.height) w.1.gate_is in record {
     used = [];
@@ -79,6 +81,7 @@ spares-in h row tail gate gate_now root root_now purse purse_now entered enters 
     distinct = λ e. e;
     many = refl;
     few = omega arith;
+    stamps = inl (refl, ap (λ (x : Block). x.stamp) w.2.head_is);
   })
   | inr more ↦ elim more [
     | inl w ↦ (let high = ap (λ (x : Gate). x.height) w.1.gate_is in record {
@@ -91,6 +94,7 @@ spares-in h row tail gate gate_now root root_now purse purse_now entered enters 
       distinct = λ e. e;
       many = refl;
       few = omega arith;
+      stamps = inr (divides-once w.2.spare entered.fresh.items root root_now w.2.new w.2.fresh (ap (λ (x : Block). x.stamp) w.2.halved.head_is) (ap (λ (x : Block). x.stamp) w.2.halved.new_is));
     })
     | inr w ↦ (let high = ap (λ (x : Gate). x.height) w.gate_is in record {
       used = w.top ∷ w.spare ∷ [];
@@ -102,6 +106,13 @@ spares-in h row tail gate gate_now root root_now purse purse_now entered enters 
       distinct = λ e. ((apart-sym w.top w.spare e.0.0, tt), (tt, tt));
       many = refl;
       few = omega arith;
+      stamps = inr (let cut = cuts-stamps h tail (root_entry gate) w.left w.right root root_now purse w.between w.spare w.new w.cuts in record {
+        spare = w.spare;
+        among = inr (inl refl);
+        head_is = cut.0;
+        placed = λ now apart filled. let there = subst (Each (λ (f : Fresh). now f.cell ≡ f.block)) w.fresh filled in
+            (ap (λ (x : Block). x.stamp) there.0 ∙ cut.1, (inr (apart.0.0, ap (λ (x : Block). x.stamp) there.1.0), (inl refl, tt)));
+      });
     })
   ]
 ]
@@ -259,14 +270,17 @@ module _ (ins : InLaw) (roots : RootLaw) (behinds : RootBehindLaw) (m gt root : 
 
   -- the new blocks
 
-  uses : UsesIn d.purse.spares d.purse_now.spares d.entered.fresh.items d.gate.height d.entered_gate.height
+  uses : UsesIn d.purse.spares d.purse_now.spares d.entered.fresh.items d.gate.height d.entered_gate.height d.head d.head_now
   uses = spares-in s.hierarchy d.r.row (blocks_of d.tail) d.gate d.entered_gate d.head d.head_now d.purse d.purse_now d.entered d.enters
 
   spares : AreSpares shape (nodes cells) d.purse.spares
   spares = subst (AreSpares shape (nodes cells)) (sym d.purse_was) (spares-left shape (nodes cells) (w.actors n).purse (spent_of (v.jobs n)) (i.stamping.spare n c whole))
 
+  used-distinct : AreDistinct uses.used
+  used-distinct = distinct-right d.purse_now.spares uses.used (subst AreDistinct uses.purse_is (spares-distinct shape (nodes cells) d.purse.spares spares))
+
   distinct : AreDistinct uses.in_order
-  distinct = uses.distinct (distinct-right d.purse_now.spares uses.used (subst AreDistinct uses.purse_is (spares-distinct shape (nodes cells) d.purse.spares spares)))
+  distinct = uses.distinct used-distinct
 
   order-owner : Each (λ (x : Spare). g.owner x.cell ≡ InPurse n) uses.in_order
   order-owner = uses.there (λ (x : Spare). g.owner x.cell ≡ InPurse n) (each-right (λ (x : Spare). g.owner x.cell ≡ InPurse n) d.purse_now.spares uses.used
@@ -346,22 +360,42 @@ module _ (ins : InLaw) (roots : RootLaw) (behinds : RootBehindLaw) (m gt root : 
       let k4 = subst (λ (x : Block). Enters s.hierarchy (v.row r) (map v.blocks (map (λ (x : Change). x.number) d.tail)) (v.trees c) (way_to_tree d.entered_gate) x d.head_now d.purse d.purse_now d.entered) (sym (ap v.blocks root-at ∙ root-was)) k3 in
       subst (λ (x : Block). Enters s.hierarchy (v.row r) (map v.blocks (map (λ (x : Change). x.number) d.tail)) (v.trees c) (way_to_tree d.entered_gate) (v.blocks (v.trees c).root) x d.purse d.purse_now d.entered) (sym (ap u.blocks root-at ∙ root-now)) k4
 
-  others-off : (y : ℕ) → y ≢ (v.trees c).root → Each (λ (x : Fresh). y ≢ x.cell) d.entered.fresh.items → u.blocks y ≡ v.blocks y
-  others-off y nr nf = block-stays cs w.cells y ag.cells (
-    inr (ap block_in d.leads.same),
+  others-off : {A : Type 0} (f : CellValue → A) (y : ℕ) → f (GateCell (record d.entered_gate { active = d.gate.active + 1 })) ≡ f (GateCell d.gate) → y ≢ root.number → Each (λ (x : Fresh). y ≢ x.cell) d.entered.fresh.items
+      → f (put cs w.cells y) ≡ f (w.cells y)
+  others-off f y gate nr nf = seen-stays f cs w.cells y ag.cells (
+    inr (ap f d.leads.same),
     (
-      inr (ap block_in d.counted.is ∙ sym (ap block_in d.counted.was)),
+      inr (ap f d.counted.is ∙ gate ∙ sym (ap f d.counted.was)),
       (
-        inl (λ e. nr (e ∙ sym root-at)),
-        subst (Each (λ (x : Change). (y ≢ x.number) ⊎ (block_in x.now ≡ block_in x.before))) (sym d.others_are)
-            (each-append (λ (x : Change). (y ≢ x.number) ⊎ (block_in x.now ≡ block_in x.before)) (d.tail ++ d.fresh) d.unfilled
-            (each-append (λ (x : Change). (y ≢ x.number) ⊎ (block_in x.now ≡ block_in x.before)) d.tail d.fresh
-            (each-map (λ (x : Change). x.now ≡ x.before) (λ (x : Change). (y ≢ x.number) ⊎ (block_in x.now ≡ block_in x.before)) d.tail (λ x e. inr (ap block_in e)) (tail-read d.gate.stamp d.head d.tail d.behind))
-            (each-map (λ (x : Change). y ≢ x.number) (λ (x : Change). (y ≢ x.number) ⊎ (block_in x.now ≡ block_in x.before)) d.fresh (λ x e. inl e) (filled-off y d.entered.fresh.items d.fresh d.are_filled nf)))
-            (each-map (λ (x : Change). x.now ≡ x.before) (λ (x : Change). (y ≢ x.number) ⊎ (block_in x.now ≡ block_in x.before)) d.unfilled (λ x e. inr (ap block_in e)) d.stay)),
+        inl nr,
+        subst (Each (λ (x : Change). (y ≢ x.number) ⊎ (f x.now ≡ f x.before))) (sym d.others_are)
+            (each-append (λ (x : Change). (y ≢ x.number) ⊎ (f x.now ≡ f x.before)) (d.tail ++ d.fresh) d.unfilled
+            (each-append (λ (x : Change). (y ≢ x.number) ⊎ (f x.now ≡ f x.before)) d.tail d.fresh
+            (each-map (λ (x : Change). x.now ≡ x.before) (λ (x : Change). (y ≢ x.number) ⊎ (f x.now ≡ f x.before)) d.tail (λ x e. inr (ap f e)) (tail-read d.gate.stamp d.head d.tail d.behind))
+            (each-map (λ (x : Change). y ≢ x.number) (λ (x : Change). (y ≢ x.number) ⊎ (f x.now ≡ f x.before)) d.fresh (λ x e. inl e) (filled-off y d.entered.fresh.items d.fresh d.are_filled nf)))
+            (each-map (λ (x : Change). x.now ≡ x.before) (λ (x : Change). (y ≢ x.number) ⊎ (f x.now ≡ f x.before)) d.unfilled (λ x e. inr (ap f e)) d.stay)),
       ),
     ),
   )
+
+  -- the new blocks as they stand
+  filled-blocks : Each (λ (x : Fresh). u.blocks x.cell ≡ x.block) d.entered.fresh.items
+  filled-blocks = each-map (λ (x : Fresh). put cs w.cells x.cell ≡ BlockCell x.block) (λ (x : Fresh). block_in (put cs w.cells x.cell) ≡ x.block) d.entered.fresh.items (λ x e. ap block_in e) filled
+
+  -- blocks but the root and the new ones keep their stamps
+  keeps-stamp : (y : ℕ) → y ≢ root.number → Each (λ (x : Spare). y ≢ x.cell) uses.used → u.made y ≡ true → KeepsStamp v.made v.blocks u.blocks y
+  keeps-stamp y nr nf made =
+      let off = in-fresh (λ z. y ≢ z) uses.in_order d.entered.fresh.items uses.are_in (uses.there (λ (x : Spare). y ≢ x.cell) nf) in
+      record { made_before = sym (others-off has_block y refl nr off) ∙ made; same = ap (λ (x : Block). x.stamp) (others-off block_in y refl nr off) }
+
+  stamps : Restamps shape.inside v.made u.made v.blocks u.blocks uses.used
+  stamps =
+      let with_was = subst (λ (x : Block). StampsWith uses.used d.entered.fresh.items x d.head_now) (sym root-was) uses.stamps in
+      let with_now = subst (λ (x : Block). StampsWith uses.used d.entered.fresh.items (v.blocks root.number) x) (sym root-now) with_was in
+      restamps shape.inside v.made u.made v.blocks u.blocks uses.used d.entered.fresh.items root.number with_now root-inside (ap has_block (ag.cells.1.1.0 ∙ d.turns.was))
+      (each-map (λ (x : Spare). g.owner x.cell ≡ InPurse n) (λ (x : Spare). root.number ≢ x.cell) uses.used (λ x own e. let k : InTree c ≡ InPurse n = sym root-owner ∙ ap g.owner e ∙ own in cc)
+      (uses.back (λ (x : Spare). g.owner x.cell ≡ InPurse n) order-owner))
+      used-distinct filled-blocks keeps-stamp
 
   law : AfterStep table shape r d.entered.at (v2.trees c).height cells (cells_at v2.blocks v2.trees c) d.purse.spares d.purse_now.spares
   law = ins table shape r cells (cells_at v2.blocks v2.trees c) d.purse d.purse_now d.entered tree (record {
@@ -374,8 +408,8 @@ module _ (ins : InLaw) (roots : RootLaw) (behinds : RootBehindLaw) (m gt root : 
     step = step;
     idle = subst (IsIdle shape) (sym root-at) idle;
     spares = spares;
-    filled = each-map (λ (x : Fresh). put cs w.cells x.cell ≡ BlockCell x.block) (λ (x : Fresh). block_in (put cs w.cells x.cell) ≡ x.block) d.entered.fresh.items (λ x e. ap block_in e) filled;
-    other = others-off;
+    filled = filled-blocks;
+    other = λ y nr nf. others-off block_in y refl (λ e. nr (e ∙ sym root-at)) nf;
     gate_cell = refl;
     gate = record { root = ap root_entry trees-new.is_there; height = ap (λ (x : Gate). x.height) trees-new.is_there };
   })
@@ -453,6 +487,7 @@ module _ (ins : InLaw) (roots : RootLaw) (behinds : RootBehindLaw) (m gt root : 
         fresh = subst (Each (λ (x : Spare). u.made x.cell ≡ true)) (sym same_used)
             (uses.back (λ (x : Spare). u.made x.cell ≡ true) (in-spares (λ y. u.made y ≡ true) uses.in_order d.entered.fresh.items uses.are_in
             (each-map (λ (x : Fresh). put cs w.cells x.cell ≡ BlockCell x.block) (λ (x : Fresh). u.made x.cell ≡ true) d.entered.fresh.items (λ x e. ap has_block e) filled)));
+        stamps = subst (λ (ss : List Spare). Restamps shape.inside v.made u.made v.blocks u.blocks ss) (sym same_used) stamps;
         moved = record {
           tree = law.tree;
           here = law.row.placed;

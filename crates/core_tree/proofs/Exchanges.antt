@@ -19,7 +19,7 @@ use Rattle.volap_cell.specs.Lineage.{Lineage}
 use Rattle.volap_cell.specs.Numbering.{Numbering}
 use Rattle.volap_cell.specs.Owing.{one_if}
 use Rattle.volap_cell.specs.Setting.{Setting, actor_count, cell_count, first_stock_cell}
-use Rattle.volap_cell.specs.Stocking.{IsWhole, Stamping, Stocking, all_items, all_spares, cells_at, spent_of}
+use Rattle.volap_cell.specs.Stocking.{IsWhole, LeavesStamp, Stamping, Stocking, all_items, all_spares, cells_at, spent_of}
 use Rattle.volap_cell.specs.Turning.{Turning}
 use Rattle.volap_cell.specs.Values.{JobValue}
 use Rattle.volap_cell.specs.View.{View, view}
@@ -169,6 +169,7 @@ module _ (s : Setting) (w : World) (g : Ghost) (i : InvWith s (view s w) g) (n :
           valid = stock-valid;
           count = x.all ∙ k.count;
           within = λ y ne. on-owner (λ o. o ≢ NotOfStock → (first_stock_cell s ≤ y) × (y < cell_count s)) y (λ le was e. spare-within y was) (λ none p e. spare-within y (inr p)) (λ none r e. within y e) ne;
+          every = λ y high low no. k.every y high low (owner-was y NotOfStock (λ e. cc) (λ e. cc) no);
           unused = free-now;
           purse = λ a y. on_bool (eqb a n)
               (λ q. let e = eqb-eq _ _ q in
@@ -239,10 +240,15 @@ module _ (s : Setting) (w : World) (g : Ghost) (i : InvWith s (view s w) g) (n :
         elim was [ inl u ↦ (let no : Unused ≡ InTree c = sym u ∙ own in cc) | inr p ↦ (let no : InPurse n ≡ InTree c = sym p ∙ own in cc) ])))
         (λ q. q)
 
-    pub exchanged-stamping : Stamping now v.blocks v.trees v.gates v.phases v.pins purses_now v.reads v.jobs g.shape
+    pub exchanged-stamping : Stamping now v.blocks v.made v.trees v.gates v.phases v.pins purses_now v.reads v.jobs g.shape
     exchanged-stamping =
         let k = i.stamping in
         let later = x.later in record {
+          blocks_given = λ y made. let lt = k.blocks_given y made in omega (arith, lt, later);
+          blocks_apart = k.blocks_apart;
+          unspared = λ a y made. spares-of (λ a ss. Each (LeavesStamp y (v.blocks y).stamp) ss)
+              (each-map (λ (z : Spare). (v.stock.stamps ≤ z.stamp) × (z.stamp < now.stamps)) (LeavesStamp y (v.blocks y).stamp) purse (λ z fresh ne e. let lt = k.blocks_given y made in let le = fresh.0 in absurd (omega (arith, lt, le, e))) x.given)
+              (λ a ne. k.unspared a y made) a;
           given = spares-of (λ a ss. Each (λ (y : Spare). y.stamp < now.stamps) ss)
               (each-map (λ (y : Spare). (v.stock.stamps ≤ y.stamp) × (y.stamp < now.stamps)) (λ (y : Spare). y.stamp < now.stamps) purse (λ y both. both.1) x.given)
               (λ a ne. each-map (λ (y : Spare). y.stamp < v.stock.stamps) (λ (y : Spare). y.stamp < now.stamps) (all_spares v.purses v.jobs a) (λ y lt. omega arith) (k.given a));

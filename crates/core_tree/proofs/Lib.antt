@@ -1,4 +1,5 @@
 pub mod Spares
+pub mod Stamps
 pub mod Counts
 pub mod Carriers
 pub mod Moves

@@ -16,7 +16,7 @@ use Rattle.tree_shape.specs.Shape.{Table, TreeCells, nodes, Shape}
 use Rattle.tree_shape.specs.Steps.{IsSpare, AreSpares, AreApart, LeavesTree, AfterOther}
 use Rattle.tree_shape.specs.Trees.{IsTree}
 use Rattle.tree_shape.proofs.Divisions.{each-map, each-both}
-use Rattle.tree_shape.proofs.Parts.{each-left, each-right}
+use Rattle.tree_shape.proofs.Parts.{each-here, each-left, each-right}
 use Rattle.tree_shape.proofs.Walks.{on_bool, eqb-eq, eqb-ne}
 use Rattle.volap_cell.specs.Errands.{RowWay, RowPlace, Outside, AtBlock, InLeaf, AtRest}
 use Rattle.volap_cell.specs.Ghost.{Ghost, Owner, InPurse, InTree, NotOfStock, AGate, is_unused, is_in_purse, is_in_tree, is_in_job}
@@ -24,12 +24,14 @@ use Rattle.volap_cell.specs.Growing.{table_of, Growing}
 use Rattle.volap_cell.specs.Invariant.{InvWith}
 use Rattle.volap_cell.specs.Numbering.{Numbering}
 use Rattle.volap_cell.specs.Setting.{Setting, actor_count}
-use Rattle.volap_cell.specs.Stocking.{cells_at, IsWhole, Stocking, Stamping, NoneExpects, all_spares, spent_of, all_items}
+use Rattle.volap_cell.specs.Stocking.{cells_at, IsWhole, LeavesStamp, Stocking, Stamping, NoneExpects, all_spares, spent_of, all_items}
 use Rattle.volap_cell.specs.Sums.{sum_below}
 use Rattle.volap_cell.specs.Turning.{Turning, IsIn, is_inside, inside_of}
 use Rattle.volap_cell.specs.View.{View}
+use Rattle.volap_cell.proofs.Frames.{each-among}
 use Rattle.core_tree.proofs.Carriers.{purse-owned}
-use Rattle.core_tree.proofs.Spares.{spares-each, spares-distinct, spares-from, AreDistinct, each-drop, distinct-drop, used-apart, moved_owner, on_used, each-times, times-off, times-cells, in-own, other-purse, other-tree}
+use Rattle.core_tree.proofs.Stamps.{Restamps, restamped-apart, restamped-each}
+use Rattle.core_tree.proofs.Spares.{spares-each, spares-distinct, spares-from, AreDistinct, each-drop, distinct-drop, distinct-right, spares-left, used-apart, moved_owner, on_used, each-times, times-off, times-cells, in-own, other-purse, other-tree}
 
 -- what a tree's law says: `used` are the spares that are blocks of the tree now
 pub record Moved (table : Table) (before now : TreeCells) (g g2 : Shape) (r : ℕ) (used : List Spare) : Type 0 where
@@ -77,6 +79,7 @@ pub record TreeMoves (s : Setting) (v v2 : View) (g g2 : Ghost) (n c : ℕ) : Ty
   pub off : (y : ℕ) → g.owner y ≢ InTree c → g.owner y ≢ InPurse n → v2.blocks y ≡ v.blocks y
   pub still : (y : ℕ) → v.made y ≡ true → v2.made y ≡ true
   pub fresh : Each (λ (x : Spare). v2.made x.cell ≡ true) used
+  pub stamps : Restamps (g.shape c).inside v.made v2.made v.blocks v2.blocks used
   pub ways_off : (a : ℕ) → a ≢ n → v2.ways a ≡ v.ways a
   pub purses_off : (a : ℕ) → a ≢ n → v2.purses a ≡ v.purses a
   pub boxes_off : (a : ℕ) → a ≢ n → v2.boxes a ≡ v.boxes a
@@ -310,6 +313,7 @@ module _ (s : Setting) (v v2 : View) (g g2 : Ghost) (n c : ℕ) (other : OtherLa
         valid = k.valid;
         count = k.count;
         within = λ y ne. on y (λ p t u. k.within y (λ z. let e : InPurse n ≡ NotOfStock = sym p ∙ z in cc)) (λ o t. k.within y (λ z. ne (t ∙ z)));
+        every = λ y high low no. on y (λ p t u. let z : InTree c ≡ NotOfStock = sym t ∙ no in cc) (λ o t. k.every y high low (sym t ∙ no));
         unused = λ y. k.unused y ∙ as-before is_unused refl refl y;
         purse = λ a y. on_bool (eqb a n)
             (λ q. subst (λ (z : ℕ). times y (cells_of (v2.purses z)) ≡ cond (is_in_purse z (g2.owner y)) 1 0) (sym (eqb-eq _ _ q)) (my-purse y))
@@ -397,10 +401,31 @@ module _ (s : Setting) (v v2 : View) (g g2 : Ghost) (n c : ℕ) (other : OtherLa
       in-stock : (y : ℕ) → g.owner y ≡ InPurse n → 0 ≡ y → ⊥
       in-stock y p e = (let k = (i.stocking.within y (λ z. let q : InPurse n ≡ NotOfStock = sym p ∙ z in cc)).0 in omega arith)
 
-  pub moved-stamping : Stamping v.stock v2.blocks v2.trees v.gates v.phases v.pins v2.purses v.reads v.jobs g2.shape
+  -- the used ones are apart from each other too
+  used-distinct : AreDistinct used
+  used-distinct =
+      let look = nodes (cells_at v.blocks v.trees c) in
+      distinct-right (v2.purses n) used (subst AreDistinct m.purse (spares-distinct (g.shape c) look (v.purses n) (spares-left (g.shape c) look (v.purses n) (spent_of (v.jobs n)) (i.stamping.spare n c whole))))
+
+  -- a block of the tree is in no spare's cell
+  off-spares : (a y : ℕ) → (g.shape c).inside y ≡ true → Each (λ (x : Spare). y ≢ x.cell) (all_spares v2.purses v.jobs a)
+  off-spares a y there =
+      let look = nodes (cells_at v.blocks v.trees c) in
+      fewer (λ (x : Spare). y ≢ x.cell) a (each-map (IsSpare (g.shape c) look) (λ (x : Spare). y ≢ x.cell) (all_spares v.purses v.jobs a)
+      (λ x is e. let k : true ≡ false = sym there ∙ ap (g.shape c).inside e ∙ is.cell in cc) (spares-each (g.shape c) look (all_spares v.purses v.jobs a) (i.stamping.spare a c whole)))
+
+  pub moved-stamping : Stamping v.stock v2.blocks v2.made v2.trees v.gates v.phases v.pins v2.purses v.reads v.jobs g2.shape
   moved-stamping =
       let k = i.stamping in
       record {
+        blocks_given = restamped-each (g.shape c).inside v.made v2.made v.blocks v2.blocks used (λ y stamp. stamp < v.stock.stamps) m.stamps k.blocks_given (λ head y stamp there low. low)
+            (each-map (λ (x : Spare). x.stamp < v.stock.stamps) (λ (x : Spare). (y : ℕ) → x.stamp < v.stock.stamps) used (λ x low y. low) (used-part (λ (x : Spare). x.stamp < v.stock.stamps) (k.given n)));
+        blocks_apart = restamped-apart (g.shape c).inside v.made v2.made v.blocks v2.blocks used k.blocks_apart (λ y made. used-part (LeavesStamp y (v.blocks y).stamp) (k.unspared n y made)) used-distinct m.stamps;
+        unspared = λ a. restamped-each (g.shape c).inside v.made v2.made v.blocks v2.blocks used (λ y stamp. Each (LeavesStamp y stamp) (all_spares v2.purses v.jobs a)) m.stamps
+            (λ y made. fewer (LeavesStamp y (v.blocks y).stamp) a (k.unspared a y made))
+            (λ head y stamp there free. each-both (λ (x : Spare). head ≢ x.cell) (LeavesStamp head stamp) (LeavesStamp y stamp) (all_spares v2.purses v.jobs a) (λ x off leaves ne. leaves off) (off-spares a head there) free)
+            (each-here (λ (x : Spare). (y : ℕ) → Each (LeavesStamp y x.stamp) (all_spares v2.purses v.jobs a)) used
+            (λ x among y. each-map (λ (z : Spare). Each (AreApart z) used) (LeavesStamp y x.stamp) (all_spares v2.purses v.jobs a) (λ z apart ne same. (each-among (AreApart z) x used apart among).1 (sym same)) (away a)));
         given = λ a. fewer (λ (x : Spare). x.stamp < v.stock.stamps) a (k.given a);
         apart = λ a b ne. fewer (λ (x : Spare). Each (AreApart x) (all_spares v2.purses v.jobs b)) a
             (each-map (λ (x : Spare). Each (AreApart x) (all_spares v.purses v.jobs b)) (λ (x : Spare). Each (AreApart x) (all_spares v2.purses v.jobs b)) (all_spares v.purses v.jobs a)

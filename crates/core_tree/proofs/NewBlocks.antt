@@ -6,7 +6,7 @@ use Rattle.tree_shape.specs.Counts.{Each}
 use Rattle.tree_shape.specs.Steps.{AreApart}
 use Rattle.tree_shape.proofs.Divisions.{each-map, each-both}
 use Rattle.tree_shape.proofs.Walks.{on_bool, eqb-eq, eqb-no}
-use Rattle.volap_cell.specs.Cells.{CellValue, BlockCell, block_in, has_block}
+use Rattle.volap_cell.specs.Cells.{CellValue, BlockCell, has_block}
 use Rattle.volap_cell.specs.TreeKinds.{AreFilled}
 use Rattle.volap_cell.specs.World.{Change, put}
 use Rattle.volap_cell.proofs.Frames.{AreAt, first}
@@ -71,17 +71,17 @@ pub put-behind : (xs cs : List Change) (cells : ℕ → CellValue) (y : ℕ) →
 put-behind [] cs cells y e = refl
 put-behind (x ∷ xs) cs cells y e = put-skip x (xs ++ cs) cells y e.0 ∙ put-behind xs cs cells y e.1
 
--- a cell that isn't changed, or of which the block stays
-pub block-stays : (cs : List Change) (cells : ℕ → CellValue) (y : ℕ) → AreAt cells cs → Each (λ x. (y ≢ x.number) ⊎ (block_in x.now ≡ block_in x.before)) cs → block_in (put cs cells y) ≡ block_in (cells y)
-block-stays [] cells y at e = refl
-block-stays (x ∷ cs) cells y at e =
-    let ih = block-stays cs cells y at.1 e.1 in
+-- a cell that isn't changed, or of which what is seen stays
+pub seen-stays : {A : Type 0} (f : CellValue → A) (cs : List Change) (cells : ℕ → CellValue) (y : ℕ) → AreAt cells cs → Each (λ x. (y ≢ x.number) ⊎ (f x.now ≡ f x.before)) cs → f (put cs cells y) ≡ f (cells y)
+seen-stays f [] cells y at e = refl
+seen-stays f (x ∷ cs) cells y at e =
+    let ih = seen-stays f cs cells y at.1 e.1 in
     on_bool (eqb y x.number)
     (λ q. elim e.0 [
       | inl ne ↦ absurd (ne (eqb-eq _ _ q))
-      | inr same ↦ (let is = eqb-eq _ _ q in ap (λ (b : Bool). block_in (cond b x.now (put cs cells y))) q ∙ same ∙ ap block_in (sym at.0) ∙ ap (λ (z : ℕ). block_in (cells z)) (sym is))
+      | inr same ↦ (let is = eqb-eq _ _ q in ap (λ (b : Bool). f (cond b x.now (put cs cells y))) q ∙ same ∙ ap f (sym at.0) ∙ ap (λ (z : ℕ). f (cells z)) (sym is))
     ])
-    (λ q. ap (λ (b : Bool). block_in (cond b x.now (put cs cells y))) q ∙ ih)
+    (λ q. ap (λ (b : Bool). f (cond b x.now (put cs cells y))) q ∙ ih)
 
 -- each new block stands in its cell
 pub filled-at : (cells : ℕ → CellValue) (ss : List Spare) (fs : List Fresh) (cs : List Change) → AreIn ss fs → AreFilled fs cs → AreDistinct ss → Each (λ x. put cs cells x.cell ≡ BlockCell x.block) fs

@@ -1,5 +1,5 @@
 -- A row that is put in its leaf.
-use Rattle.std.proofs.Common.{◌≡◌, ℕ, ◌+◌, ◌<◌, ◌≤◌, true, false, List, [], ◌∷◌, ◌++◌, Some, refl, sym, ap, ◌∙◌, subst, inl, arith, append-nil}
+use Rattle.std.proofs.Common.{◌≡◌, ℕ, ◌+◌, ◌<◌, ◌≤◌, true, false, eqb, List, [], ◌∷◌, ◌++◌, Some, refl, sym, ap, ◌∙◌, subst, inl, arith, append-nil}
 use Rattle.dim_hierarchy.specs.Dimension.{Dimension}
 use Rattle.dim_hierarchy.specs.declared.row.Row.{Row}
 use Rattle.dc_node.specs.Block.{is_leaf, is_full, rows_in, with_rows}
@@ -8,6 +8,7 @@ use Rattle.dc_node.specs.declared.block.Body.TheVariants.{Rows}
 use Rattle.tree_shape.specs.Laws.{OtherLaw, PutLaw, CollectOtherLaw}
 use Rattle.tree_shape.specs.Shape.{Shape}
 use Rattle.tree_shape.specs.Steps.{AfterPut}
+use Rattle.tree_shape.proofs.Walks.{on_bool, eqb-eq, eqb-ne}
 use Rattle.volap_cell.specs.Cells.{CellValue, BlockCell, block_in, has_block}
 use Rattle.volap_cell.specs.Errands.{AtBlock, row_way, way_of, place_of}
 use Rattle.volap_cell.specs.Ghost.{Ghost}
@@ -87,6 +88,12 @@ module _ (puts : PutLaw) (c : Change) (b : ActorValue) (s : Setting) (w : World)
     used = [];
     purse = sym (append-nil b.purse ∙ ap (λ (a : ActorValue). a.purse) d.actor_is);
     fresh = tt;
+    stamps = inl (λ y made. on_bool (eqb y c.number)
+        (λ q. let e = eqb-eq y c.number q in record {
+          made_before = ap v.made e ∙ ap has_block (ag.cells.0 ∙ d.last.was);
+          same = ap (λ (z : ℕ). ((view s (after w (c ∷ []) n b)).blocks z).stamp) e ∙ ap (λ (x : Block). x.stamp) is ∙ ap (λ (x : Block). x.stamp) (sym was) ∙ ap (λ (z : ℕ). (v.blocks z).stamp) (sym e);
+        })
+        (λ q. let off = elsewhere (c ∷ []) w.cells y (eqb-ne y c.number q, tt) in record { made_before = ap has_block (sym off) ∙ made; same = ap (λ x. (block_in x).stamp) off }));
     moved = record {
       tree = law.tree;
       here = law.placed r ∙ here.in_tree.placed;

@@ -250,6 +250,7 @@ module _ (s : Setting) (w : World) (n : ℕ) (cs : List Change) (b : ActorValue)
         valid = k.valid;
         count = k.count;
         within = k.within;
+        every = k.every;
         unused = k.unused;
         purse = k.purse;
         job = k.job;
@@ -275,9 +276,12 @@ module _ (s : Setting) (w : World) (n : ℕ) (cs : List Change) (b : ActorValue)
       subst (λ (z : ℕ). NoneWaits stamp (all_items v2.reads v.jobs z)) (sym is) (items-me stamp unexpected (subst (λ (z : ℕ). NoneWaits stamp (all_items v.reads v.jobs z)) is none)))
       (λ q. subst (λ (o : Option ReadPart). NoneWaits stamp (items_of_read o ++ items_of_job (v.jobs a))) (sym (reads-off a (eqb-ne _ _ q))) none)
 
-  stamping : Stamping v.stock v.blocks v.trees v.gates v.phases v2.pins v.purses v2.reads v.jobs g.shape
+  stamping : Stamping v.stock v.blocks v.made v.trees v.gates v.phases v2.pins v.purses v2.reads v.jobs g.shape
   stamping =
       let k = i.stamping in record {
+        blocks_given = k.blocks_given;
+        blocks_apart = k.blocks_apart;
+        unspared = k.unspared;
         given = k.given;
         apart = k.apart;
         spare = λ a c whole. k.spare a c (d.whole c whole);

@@ -39,6 +39,7 @@ use Rattle.core_tree.proofs.Less.{rows-as-before, any-front}
 use Rattle.core_tree.proofs.Moves.{Moved, Went, TreeMoves, moved-growing, moved-numbering, moved-turning, counts-same, level-kept, moved-stocking, moved-stamping}
 use Rattle.core_tree.proofs.MovesRest.{moved-resting, moved-placing, moved-inserting, moved-querying, moved-working}
 use Rattle.core_tree.proofs.Spares.{moved_owner}
+use Rattle.core_tree.proofs.Stamps.{Restamps}
 
 -- what such a commit touches
 abbrev pub of_steps : Touched
@@ -86,6 +87,7 @@ pub record TreeStep (s : Setting) (w : World) (n : ℕ) (cs : List Change) (b : 
   pub used : List Spare
   pub purse : (w.actors n).purse ≡ b.purse ++ used
   pub fresh : Each (λ x. has_block (put cs w.cells x.cell) ≡ true) used
+  pub stamps : Restamps (g.shape gate).inside (view s w).made (view s (after w cs n b)).made (view s w).blocks (view s (after w cs n b)).blocks used
   pub moved : Moved (table_of s (view s w).row) (cells_at (view s w).blocks (view s w).trees gate) (cells_at (view s (after w cs n b)).blocks (view s w).trees gate) (g.shape gate) shape r.row.no used
   pub went : Went shape gate r.row.no b.purse b.boxes (place_of way)
   pub inside : (d : ℕ) → is_inside d (place_of way) ≡ is_inside d (AtBlock gate block)
@@ -169,6 +171,7 @@ module _ (s : Setting) (w : World) (n : ℕ) (cs : List Change) (b : ActorValue)
     off = λ y nt np. block-off cs w.cells g.owner t.gate n y ag.cells t.own nt np;
     still = λ y. holds-still (λ c. has_block c ≡ true) cs w.cells t.made y;
     fresh = t.fresh;
+    stamps = t.stamps;
     ways_off = λ a ne. ap (λ (z : ActorValue). way_of z.errand) (actor-off w.actors n b a ne);
     purses_off = λ a ne. ap (λ (z : ActorValue). z.purse) (actor-off w.actors n b a ne);
     boxes_off = λ a ne. ap (λ (z : ActorValue). z.boxes) (actor-off w.actors n b a ne);

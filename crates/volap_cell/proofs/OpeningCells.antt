@@ -1,11 +1,11 @@
 -- The cells of an opening: each is one of the fixed cells, a gate, a root or free.
-use Rattle.std.proofs.Common.{◌≡◌, ◌≢◌, ◌∙◌, ℕ, zero, suc, ◌<◌, ◌≤◌, ◌⊎◌, inl, inr, List, [], ◌∷◌, refl, sym, ap, arith}
+use Rattle.std.proofs.Common.{◌≡◌, ◌≢◌, ◌∙◌, ℕ, zero, suc, ◌<◌, ◌≤◌, ◌⊎◌, inl, inr, true, List, [], ◌∷◌, refl, sym, ap, arith}
 use Rattle.std.specs.Prelude.{None, All, nat_lt, ◌==◌, if◌then◌else◌}
-use Rattle.std.proofs.lemmas.Bool.{cases_Bool, cases_lt, eqb-true, eqb-false}
+use Rattle.std.proofs.lemmas.Bool.{cases_Bool, cases_lt, eqb-true, eqb-false, false≢true}
 use Rattle.std.proofs.lemmas.List.Elements.{All-head, All-tail}
 use Rattle.tree_shape.specs.Counts.{times}
 use Rattle.tree_shape.proofs.Walks.{same_not}
-use Rattle.volap_cell.specs.Cells.{CellValue, FreeCell, LedgerCell, StockCell, RegistryCell, ImageCell, DeskCell, MapCell, GateCell, BlockCell, OfStock, tag_of, gate_shard, phase_of, active_in, pins_in, queue_in, gone_in, no_queue}
+use Rattle.volap_cell.specs.Cells.{CellValue, FreeCell, LedgerCell, StockCell, RegistryCell, ImageCell, DeskCell, MapCell, GateCell, BlockCell, OfStock, has_block, tag_of, gate_shard, phase_of, active_in, pins_in, queue_in, gone_in, no_queue}
 use Rattle.volap_cell.specs.Ghost.{Owner, NotOfStock, Unused, AGate, InTree}
 use Rattle.volap_cell.specs.Setting.{Setting, cell_count, first_stock_cell}
 use Rattle.volap_cell.specs.World.{World}
@@ -107,9 +107,21 @@ not-owned s gate root y (ImageCell server l) tag = refl
 not-owned s gate root y (DeskCell server l) tag = refl
 not-owned s gate root y (MapCell worker l) tag = refl
 
+-- a block is of the tree of a worker's gate
+pub block-owned : (s : Setting) (gate root : ℕ → ℕ) (y : ℕ) (c : CellValue) → has_block c ≡ true → owner_in s gate root y c ≡ InTree (gate (seek root s.workers y))
+block-owned s gate root y (BlockCell b) made = refl
+block-owned s gate root y FreeCell made = absurd (false≢true made)
+block-owned s gate root y (GateCell g) made = absurd (false≢true made)
+block-owned s gate root y (LedgerCell l) made = absurd (false≢true made)
+block-owned s gate root y (StockCell l) made = absurd (false≢true made)
+block-owned s gate root y (RegistryCell l) made = absurd (false≢true made)
+block-owned s gate root y (ImageCell server l) made = absurd (false≢true made)
+block-owned s gate root y (DeskCell server l) made = absurd (false≢true made)
+block-owned s gate root y (MapCell worker l) made = absurd (false≢true made)
+
 -- what a cell of an opening is
 pub data Found (s : Setting) (w : World) (gate root owner_free : ℕ → ℕ) (owner : ℕ → Owner) (y : ℕ) : Type 0 where
-  IsOther : owner y ≡ NotOfStock → owner_free y ≡ 0 → NoGate (w.cells y) → Found s w gate root owner_free owner y
+  IsOther : ((y < first_stock_cell s) ⊎ (cell_count s ≤ y)) → owner y ≡ NotOfStock → owner_free y ≡ 0 → NoGate (w.cells y) → Found s w gate root owner_free owner y
   IsSpare : first_stock_cell s ≤ y → y < cell_count s → owner y ≡ Unused → owner_free y ≡ 1 → NoGate (w.cells y) → Found s w gate root owner_free owner y
   IsGateOf : (i : ℕ) → i < s.workers → gate i ≡ y → first_stock_cell s ≤ y → y < cell_count s → owner y ≡ AGate → owner_free y ≡ 0 → Found s w gate root owner_free owner y
   IsRootOf : (i : ℕ) → i < s.workers → root i ≡ y → first_stock_cell s ≤ y → y < cell_count s → owner y ≡ InTree (gate i) → owner_free y ≡ 0 → NoGate (w.cells y) → Found s w gate root owner_free owner y

@@ -112,7 +112,7 @@ module _ (s : Setting) (w : World) (set : IsSetting s) (o : IsOpening s w) where
   found-fixed y low =
       let f = fixed y low in
       let other : tag_of (w.cells y) ≢ OfStock = (λ e. f.other (sym f.is ∙ e)) in
-      IsOther (not-owned s o.gate o.root y (w.cells y) other) (o.filled y (λ free. other (ap tag_of free))) (no-gate (w.cells y) (not-of-stock (w.cells y) other))
+      IsOther (inl low) (not-owned s o.gate o.root y (w.cells y) other) (o.filled y (λ free. other (ap tag_of free))) (no-gate (w.cells y) (not-of-stock (w.cells y) other))
 
   found-free : (y : ℕ) → first_stock_cell s ≤ y → y < cell_count s → ((i : ℕ) → i < s.workers → (y ≢ o.gate i) × (y ≢ o.root i)) → FoundAt y
   found-free y high low off =
@@ -122,7 +122,7 @@ module _ (s : Setting) (w : World) (set : IsSetting s) (o : IsOpening s w) where
   found-past : (y : ℕ) → cell_count s ≤ y → FoundAt y
   found-past y high =
       let c = o.count in
-      IsOther (ap (owner_in s o.gate o.root y) (o.rest y high) ∙ (rw (le-ltb y (cell_count s) high) refl)) (times-above o.stock.cells y o.stock.free o.valid.known (omega arith)) (no-gate (w.cells y) (ap gate_shard (o.rest y high)))
+      IsOther (inr high) (ap (owner_in s o.gate o.root y) (o.rest y high) ∙ (rw (le-ltb y (cell_count s) high) refl)) (times-above o.stock.cells y o.stock.free o.valid.known (omega arith)) (no-gate (w.cells y) (ap gate_shard (o.rest y high)))
 
   pub found : (y : ℕ) → FoundAt y
   found y = elim (is-there o.gate s.workers y) [

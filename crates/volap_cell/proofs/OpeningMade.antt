@@ -217,17 +217,15 @@ module _ (s : Setting) (set_ok : IsSetting s) (spots : List Spot) (first first_g
     boxes = first-boxes s.hierarchy 0 s.workers registry.frontier registry_ok.first;
   })
 
-  shard-is : (k : ℕ) → k < s.workers → IsFirstShard s w stock k (first_gate + k) (first_root + k)
+  shard-is : (k : ℕ) → k < s.workers → IsFirstShard s w k (first_gate + k) (first_root + k)
   shard-is k low =
       let x = gate-is k low in
       let g = x.2 in
       let e = set_ok.enough in
       record {
         gate = g.gate;
-        stamp = k;
         set = g.set;
         empty = g.empty;
-        given = (let a = stock_ok.stamps in omega arith);
         is_new = g.is_new;
         in_cell = ap cell_or x.1 ∙ g.is;
         root = value (first_root + k) (BlockCell (leaf_without_rows k)) (root-is k low);
@@ -298,6 +296,7 @@ module _ (s : Setting) (set_ok : IsSetting s) (spots : List Spot) (first first_g
     valid = stock_ok.valid;
     count = stock_ok.count;
     ids = stock_ok.ids;
+    stamps = (let a = stock_ok.stamps in omega arith);
     registry = registry;
     registry_is = ap cell_or at-third ∙ r_is;
     is_new = registry_ok;

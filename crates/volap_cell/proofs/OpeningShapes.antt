@@ -19,7 +19,7 @@ use Rattle.volap_cell.specs.Setting.{Setting}
 use Rattle.volap_cell.specs.Stocking.{cells_at}
 use Rattle.volap_cell.specs.View.{View, view}
 use Rattle.volap_cell.specs.World.{World}
-use Rattle.volap_cell.proofs.OpeningCells.{IsOther, IsSpare, IsGateOf, IsRootOf, seek, seek-found, seek-within}
+use Rattle.volap_cell.proofs.OpeningCells.{IsOther, IsSpare, IsGateOf, IsRootOf, block-owned, seek, seek-found, seek-within}
 use Rattle.volap_cell.proofs.OpeningFound.{found, owner_at}
 
 module _ (s : Setting) (w : World) (set : IsSetting s) (o : IsOpening s w) where
@@ -36,10 +36,10 @@ module _ (s : Setting) (w : World) (set : IsSetting s) (o : IsOpening s w) where
   pub root-at : (i : ℕ) → i < s.workers → (v.trees (o.gate i)).root ≡ o.root i
   root-at i low = ap (λ (g : Gate). g.root) (way-at i low) ∙ (o.shards i low).is_new.root_is
 
-  pub leaf-at : (i : ℕ) (low : i < s.workers) → v.blocks (v.trees (o.gate i)).root ≡ leaf_without_rows (o.shards i low).stamp
+  pub leaf-at : (i : ℕ) (low : i < s.workers) → v.blocks (v.trees (o.gate i)).root ≡ leaf_without_rows i
   leaf-at i low = ap v.blocks (root-at i low) ∙ ap block_in (o.shards i low).root
 
-  opens : (i : ℕ) (low : i < s.workers) → OpensOver (table_of s v.row) (cells i) (leaf_without_rows (o.shards i low).stamp)
+  opens : (i : ℕ) (low : i < s.workers) → OpensOver (table_of s v.row) (cells i) (leaf_without_rows i)
   opens i low =
       let d = o.shards i low in
       record {
@@ -52,7 +52,7 @@ module _ (s : Setting) (w : World) (set : IsSetting s) (o : IsOpening s w) where
       }
 
   pub opened : (i : ℕ) → i < s.workers → AfterOpening (table_of s v.row) (cells i)
-  opened i low = opening-law (o.shards i low).stamp [] refl (table_of s v.row) (cells i) (opens i low)
+  opened i low = opening-law i [] refl (table_of s v.row) (cells i) (opens i low)
 
   abbrev pub worker_at : ℕ → ℕ
   worker_at c = seek o.gate s.workers c
@@ -76,11 +76,22 @@ module _ (s : Setting) (w : World) (set : IsSetting s) (o : IsOpening s w) where
   -- a cell with a gate is a worker's
   pub is-gate : (c : ℕ) → IsSome (v.gates c) → (i : ℕ) × (i < s.workers) × (o.gate i ≡ c)
   is-gate c some = elim (found s w set o c) [
-    | IsOther a b none ↦ absurd (none-some c none.gate some)
+    | IsOther out a b none ↦ absurd (none-some c none.gate some)
     | IsSpare a b d e none ↦ absurd (none-some c none.gate some)
     | IsGateOf i low is a b d e ↦ (i, low, is)
     | IsRootOf i low is a b d e none ↦ absurd (none-some c none.gate some)
   ]
+
+  -- a cell with a block is a worker's root, whose stamp is the worker's number
+  pub is-root : (y : ℕ) → v.made y ≡ true → (i : ℕ) × (i < s.workers) × (o.root i ≡ y) × ((v.blocks y).stamp ≡ i)
+  is-root y made =
+      let owned = block-owned s o.gate o.root y (w.cells y) made in
+      elim (found s w set o y) [
+        | IsOther out own a none ↦ absurd (let never : ⊥ = cc in never)
+        | IsSpare a b own d none ↦ absurd (let never : ⊥ = cc in never)
+        | IsGateOf i low is a b own d ↦ absurd (let never : ⊥ = cc in never)
+        | IsRootOf i low is a b own d none ↦ (i, low, is, ap (λ (k : ℕ). (v.blocks k).stamp) (sym is) ∙ ap (λ c. (block_in c).stamp) (o.shards i low).root)
+      ]
 
   worker-found : (c : ℕ) → IsSome (v.gates c) → o.gate (worker_at c) ≡ c
   worker-found c some = let g = is-gate c some in seek-found o.gate s.workers c g.0 g.1 g.2

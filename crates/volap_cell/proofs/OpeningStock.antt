@@ -13,20 +13,20 @@ use Rattle.tree_shape.specs.Shape.{Node, nodes, node_of}
 use Rattle.tree_shape.specs.Steps.{AreApart, AreSpares}
 use Rattle.tree_shape.proofs.Assembled.{node-block, node-gate}
 use Rattle.volap_cell.specs.Cells.{has_block, queue_in, way_in}
-use Rattle.volap_cell.specs.Ghost.{Ghost, Owner, NotOfStock, AGate, InTree, is_unused, is_in_purse, is_in_job}
+use Rattle.volap_cell.specs.Ghost.{Ghost, Owner, NotOfStock, Unused, AGate, InTree, is_unused, is_in_purse, is_in_job}
 use Rattle.volap_cell.specs.Growing.{Growing, Queueing, Resting}
 use Rattle.volap_cell.specs.Numbering.{IsSetting}
 use Rattle.volap_cell.specs.Opening.{IsOpening}
 use Rattle.volap_cell.specs.Querying.{Pinning, pins_of}
 use Rattle.volap_cell.specs.Setting.{Setting, actor_count, cell_count, first_stock_cell}
-use Rattle.volap_cell.specs.Stocking.{Stocking, Stamping, IsWhole, NoneExpects, all_items, all_spares, cells_at, spent_of}
+use Rattle.volap_cell.specs.Stocking.{Stocking, Stamping, IsWhole, LeavesStamp, NoneExpects, all_items, all_spares, cells_at, spent_of}
 use Rattle.volap_cell.specs.Turning.{Turning, inside_of}
 use Rattle.volap_cell.specs.View.{View}
 use Rattle.volap_cell.specs.World.{World}
 use Rattle.tree_shape.specs.Trees.{leaf_without_rows}
 use Rattle.volap_cell.proofs.OpeningCells.{IsOther, IsSpare, IsGateOf, IsRootOf}
 use Rattle.volap_cell.proofs.OpeningFound.{found, owner-root}
-use Rattle.volap_cell.proofs.OpeningShapes.{ghost, inside-root, is-gate, none-there, root-at, leaf-at, root-inside, tree-at}
+use Rattle.volap_cell.proofs.OpeningShapes.{ghost, inside-root, is-gate, is-root, none-there, root-at, leaf-at, root-inside, tree-at}
 use Rattle.volap_cell.proofs.OpeningView.{v, gate-shard, items-none, job-none, no-read, no-way, not-frozen, not-gone, purse-none, quiet, read-none, spares-none, stock-is, sum-none, way-none}
 
 each-none : {A : Type 0} (P : A → Type 0) (xs : List A) → xs ≡ [] → Each P xs
@@ -53,7 +53,7 @@ module _ (s : Setting) (w : World) (set : IsSetting s) (o : IsOpening s w) where
 
   unused : (y : ℕ) → times y o.stock.free ≡ cond (is_unused (g.owner y)) 1 0
   unused y = elim (found s w set o y) [
-    | IsOther own free none ↦ free ∙ sym (ap (λ (x : Owner). cond (is_unused x) 1 0) own)
+    | IsOther out own free none ↦ free ∙ sym (ap (λ (x : Owner). cond (is_unused x) 1 0) own)
     | IsSpare high low own free none ↦ free ∙ sym (ap (λ (x : Owner). cond (is_unused x) 1 0) own)
     | IsGateOf i l is high low own free ↦ free ∙ sym (ap (λ (x : Owner). cond (is_unused x) 1 0) own)
     | IsRootOf i l is high low own free none ↦ free ∙ sym (ap (λ (x : Owner). cond (is_unused x) 1 0) own)
@@ -61,16 +61,24 @@ module _ (s : Setting) (w : World) (set : IsSetting s) (o : IsOpening s w) where
 
   within : (y : ℕ) → g.owner y ≢ NotOfStock → (first_stock_cell s ≤ y) × (y < cell_count s)
   within y used = elim (found s w set o y) [
-    | IsOther own free none ↦ absurd (used own)
+    | IsOther out own free none ↦ absurd (used own)
     | IsSpare high low own free none ↦ (high, low)
     | IsGateOf i l is high low own free ↦ (high, low)
     | IsRootOf i l is high low own free none ↦ (high, low)
   ]
 
+  every : (y : ℕ) → first_stock_cell s ≤ y → y < cell_count s → g.owner y ≢ NotOfStock
+  every y high low used = elim (found s w set o y) [
+    | IsOther out own free none ↦ elim out [ inl before ↦ absurd (omega (arith, before, high)) | inr past ↦ absurd (omega (arith, past, low)) ]
+    | IsSpare h l own free none ↦ (let never : Unused ≡ NotOfStock = sym own ∙ used in cc)
+    | IsGateOf i l is h l2 own free ↦ (let never : AGate ≡ NotOfStock = sym own ∙ used in cc)
+    | IsRootOf i l is h l2 own free none ↦ (let never : InTree (o.gate i) ≡ NotOfStock = sym own ∙ used in cc)
+  ]
+
   -- no cell is an actor's
   in-purse : (a y : ℕ) → ◌≡◌ {A = ℕ} (cond (is_in_purse a (g.owner y)) 1 0) 0
   in-purse a y = elim (found s w set o y) [
-    | IsOther own free none ↦ ap (λ (x : Owner). cond (is_in_purse a x) 1 0) own
+    | IsOther out own free none ↦ ap (λ (x : Owner). cond (is_in_purse a x) 1 0) own
     | IsSpare high low own free none ↦ ap (λ (x : Owner). cond (is_in_purse a x) 1 0) own
     | IsGateOf i l is high low own free ↦ ap (λ (x : Owner). cond (is_in_purse a x) 1 0) own
     | IsRootOf i l is high low own free none ↦ ap (λ (x : Owner). cond (is_in_purse a x) 1 0) own
@@ -78,7 +86,7 @@ module _ (s : Setting) (w : World) (set : IsSetting s) (o : IsOpening s w) where
 
   in-job : (a y : ℕ) → ◌≡◌ {A = ℕ} (cond (is_in_job a (g.owner y)) 1 0) 0
   in-job a y = elim (found s w set o y) [
-    | IsOther own free none ↦ ap (λ (x : Owner). cond (is_in_job a x) 1 0) own
+    | IsOther out own free none ↦ ap (λ (x : Owner). cond (is_in_job a x) 1 0) own
     | IsSpare high low own free none ↦ ap (λ (x : Owner). cond (is_in_job a x) 1 0) own
     | IsGateOf i l is high low own free ↦ ap (λ (x : Owner). cond (is_in_job a x) 1 0) own
     | IsRootOf i l is high low own free none ↦ ap (λ (x : Owner). cond (is_in_job a x) 1 0) own
@@ -86,7 +94,7 @@ module _ (s : Setting) (w : World) (set : IsSetting s) (o : IsOpening s w) where
 
   gate-owned : (c : ℕ) → IsSome (vs.gates c) → g.owner c ≡ AGate
   gate-owned c some = elim (found s w set o c) [
-    | IsOther own free none ↦ absurd (false≢true (subst IsSome none.gate some))
+    | IsOther out own free none ↦ absurd (false≢true (subst IsSome none.gate some))
     | IsSpare high low own free none ↦ absurd (false≢true (subst IsSome none.gate some))
     | IsGateOf i l is high low own free ↦ own
     | IsRootOf i l is high low own free none ↦ absurd (false≢true (subst IsSome none.gate some))
@@ -97,7 +105,7 @@ module _ (s : Setting) (w : World) (set : IsSetting s) (o : IsOpening s w) where
 
   owned-gate : (c : ℕ) → g.owner c ≡ AGate → IsSome (vs.gates c)
   owned-gate c is_owned = elim (found s w set o c) [
-    | IsOther own free none ↦ absurd (let never : ⊥ = cc in never)
+    | IsOther out own free none ↦ absurd (let never : ⊥ = cc in never)
     | IsSpare high low own free none ↦ absurd (let never : ⊥ = cc in never)
     | IsGateOf i l is high low own free ↦ subst (λ (k : ℕ). IsSome (vs.gates k)) is (gate-some i l)
     | IsRootOf i l is high low own free none ↦ absurd (let never : ⊥ = cc in never)
@@ -114,7 +122,7 @@ module _ (s : Setting) (w : World) (set : IsSetting s) (o : IsOpening s w) where
 
   in-tree : (c y : ℕ) → g.owner y ≡ InTree c → IsSome (vs.gates c) × (IsWhole vs.gates vs.phases vs.pins c → ((g.shape c).inside y ≡ true) × (y ≢ c))
   in-tree c y is_owned = elim (found s w set o y) [
-    | IsOther own free none ↦ absurd (let never : ⊥ = cc in never)
+    | IsOther out own free none ↦ absurd (let never : ⊥ = cc in never)
     | IsSpare high low own free none ↦ absurd (let never : ⊥ = cc in never)
     | IsGateOf i l is high low own free ↦ absurd (let never : ⊥ = cc in never)
     | IsRootOf i l is high low own free none ↦
@@ -129,6 +137,7 @@ module _ (s : Setting) (w : World) (set : IsSetting s) (o : IsOpening s w) where
     valid = o.valid;
     count = o.count;
     within = within;
+    every = every;
     unused = unused;
     purse = λ a y. ap (λ (p : List Spare). times y (cells_of p)) (purse-none s w set o a) ∙ sym (in-purse a y);
     job = λ a y. ap (λ j. times y (cells_of (spent_of j))) (job-none s w set o a) ∙ sym (in-job a y);
@@ -151,20 +160,24 @@ module _ (s : Setting) (w : World) (set : IsSetting s) (o : IsOpening s w) where
       let cells = cells_at vs.blocks vs.trees c in
       let i = is-gate s w set o c some in
       let d = o.shards i.0 i.1 in
-      let given : d.stamp < o.stock.stamps = d.given in
+      let low = i.1 in
+      let given = o.stamps in
       elim (cases_eq b c) [
         | inl here ↦
-            let stamp_is : (vs.trees c).stamp ≡ d.stamp = sym (ap (λ (k : ℕ). (vs.trees k).stamp) i.2) ∙ ap (λ x. (way_in x).stamp) d.in_cell ∙ d.is_new.stamp_is in
+            let stamp_is : (vs.trees c).stamp ≡ i.0 = sym (ap (λ (k : ℕ). (vs.trees k).stamp) i.2) ∙ ap (λ x. (way_in x).stamp) d.in_cell ∙ d.is_new.stamp_is in
             subst (λ (k : ℕ). Each (λ (e : Entry). e.stamp ≢ stamp) (nodes cells k).entries) (sym here)
             (subst (λ (n : Node). Each (λ (e : Entry). e.stamp ≢ stamp) n.entries) (sym (node-gate cells)) ((λ same. absurd (omega arith)), tt))
         | inr off ↦
             let root = inside-root s w set o c b some inside off in
-            let leaf : vs.blocks b ≡ leaf_without_rows d.stamp = ap vs.blocks (root ∙ sym (ap (λ (k : ℕ). (vs.trees k).root) i.2)) ∙ leaf-at s w set o i.0 i.1 in
+            let leaf : vs.blocks b ≡ leaf_without_rows i.0 = ap vs.blocks (root ∙ sym (ap (λ (k : ℕ). (vs.trees k).root) i.2)) ∙ leaf-at s w set o i.0 i.1 in
             each-none (λ (e : Entry). e.stamp ≢ stamp) (nodes cells b).entries (ap (λ (n : Node). n.entries) (node-block cells b off) ∙ ap (λ (x : Block). (node_of x).entries) leaf)
       ]
 
-  stamping-own : Stamping o.stock vs.blocks vs.trees vs.gates vs.phases vs.pins vs.purses vs.reads vs.jobs g.shape
+  stamping-own : Stamping o.stock vs.blocks vs.made vs.trees vs.gates vs.phases vs.pins vs.purses vs.reads vs.jobs g.shape
   stamping-own = record {
+    blocks_given = λ y made. let r = is-root s w set o y made in let low = r.1 in let is = r.3 in let all = o.stamps in omega arith;
+    blocks_apart = λ y z ne made made2 same. let a = is-root s w set o y made in let b = is-root s w set o z made2 in ne (sym a.2 ∙ ap o.root (sym a.3 ∙ same ∙ b.3) ∙ b.2);
+    unspared = λ a y made. each-none (LeavesStamp y (vs.blocks y).stamp) (all_spares vs.purses vs.jobs a) (spares-none s w set o a);
     given = λ a. each-none (λ (x : Spare). x.stamp < o.stock.stamps) (all_spares vs.purses vs.jobs a) (spares-none s w set o a);
     apart = λ a b ne. each-none (λ (x : Spare). Each (AreApart x) (all_spares vs.purses vs.jobs b)) (all_spares vs.purses vs.jobs a) (spares-none s w set o a);
     spare = λ a c whole. subst (AreSpares (g.shape c) (nodes (cells_at vs.blocks vs.trees c))) (sym (spares-none s w set o a)) tt;
@@ -173,8 +186,8 @@ module _ (s : Setting) (w : World) (set : IsSetting s) (o : IsOpening s w) where
     fresh_waits = λ b stamp high. subst (NoneWaits stamp) (sym (items-none s w set o b)) tt;
   }
 
-  pub stamping : Stamping vs.stock vs.blocks vs.trees vs.gates vs.phases vs.pins vs.purses vs.reads vs.jobs g.shape
-  stamping = subst (λ (x : StockValue). Stamping x vs.blocks vs.trees vs.gates vs.phases vs.pins vs.purses vs.reads vs.jobs g.shape) (sym (stock-is s w set o)) stamping-own
+  pub stamping : Stamping vs.stock vs.blocks vs.made vs.trees vs.gates vs.phases vs.pins vs.purses vs.reads vs.jobs g.shape
+  stamping = subst (λ (x : StockValue). Stamping x vs.blocks vs.made vs.trees vs.gates vs.phases vs.pins vs.purses vs.reads vs.jobs g.shape) (sym (stock-is s w set o)) stamping-own
 
   -- Trees and queues.
 

@@ -149,7 +149,7 @@ module _ (s : Setting) (w : World) (set : IsSetting s) (o : IsOpening s w) where
 
   pub quiet : (c : ℕ) → IsQuiet (w.cells c)
   quiet c = elim (found s w set o c) [
-    | IsOther a b none ↦ quiet-none (w.cells c) none
+    | IsOther out a b none ↦ quiet-none (w.cells c) none
     | IsSpare a b d e none ↦ quiet-none (w.cells c) none
     | IsGateOf i low is a b d e ↦ subst (λ (k : ℕ). IsQuiet (w.cells k)) is (quiet-gate i low)
     | IsRootOf i low is a b d e none ↦ quiet-none (w.cells c) none

@@ -22,7 +22,7 @@ pub record InvWith (s : Setting) (v : View) (g : Ghost) : Type 0 where
   pub owing : Owing s v.history v.promised v.images v.desks v.roles v.commands v.counted_in
   pub turning : Turning s v.ways v.purses v.boxes v.phases v.active g.gate g.shape g.home
   pub stocking : Stocking s v.stock v.made v.gates v.phases v.pins v.gone v.purses v.jobs g.owner g.shape
-  pub stamping : Stamping v.stock v.blocks v.trees v.gates v.phases v.pins v.purses v.reads v.jobs g.shape
+  pub stamping : Stamping v.stock v.blocks v.made v.trees v.gates v.phases v.pins v.purses v.reads v.jobs g.shape
   pub lineage : Lineage s v.history v.stock v.registry v.maps v.gates v.phases g.gate
   pub leading : Leading s v.maps v.images v.desks
   pub growing : Growing s v.row v.blocks v.trees v.gates v.phases v.pins g.shape

@@ -22,16 +22,14 @@ use Rattle.volap_cell.specs.Values.{ActorValue}
 use Rattle.volap_cell.specs.World.{World}
 use Rattle.volap_cell.specs.declared.role.Role.TheVariants.{Hand}
 
--- the first shard of a worker: a gate over an empty leaf, in two cells of the stock
-pub record IsFirstShard (s : Setting) (w : World) (stock : StockValue) (worker gate_cell root_cell : ℕ) : Type 0 where
+-- the first shard of a worker: a gate over an empty leaf, whose stamp is the worker's number, in two cells of the stock
+pub record IsFirstShard (s : Setting) (w : World) (worker gate_cell root_cell : ℕ) : Type 0 where
   pub gate : Gate
-  pub stamp : ℕ
   pub set : DescSet
   pub empty : IsSetOf s.hierarchy [] set
-  pub given : stamp < stock.stamps
-  pub is_new : IsNewGate s.hierarchy worker root_cell stamp 1 (agg []) set gate
+  pub is_new : IsNewGate s.hierarchy worker root_cell worker 1 (agg []) set gate
   pub in_cell : w.cells gate_cell ≡ GateCell gate
-  pub root : w.cells root_cell ≡ BlockCell (leaf_without_rows stamp)
+  pub root : w.cells root_cell ≡ BlockCell (leaf_without_rows worker)
   pub apart : gate_cell ≢ root_cell
 
 -- an actor that has done nothing
@@ -59,6 +57,7 @@ pub record IsOpening (s : Setting) (w : World) : Type 0 where
   pub valid : IsStock stock
   pub count : stock.cells ≡ cell_count s
   pub ids : stock.ids ≡ s.workers
+  pub stamps : s.workers ≤ stock.stamps
   pub registry : RegistryValue
   pub registry_is : w.cells registry_cell ≡ RegistryCell registry
   pub is_new : IsNewRegistry s.hierarchy s.workers registry
@@ -68,7 +67,7 @@ pub record IsOpening (s : Setting) (w : World) : Type 0 where
   pub root : ℕ → ℕ
   pub tables : (worker : ℕ) → worker < s.workers → (table : map.FinMap nat_cmp Where) × (w.cells (map_cell s worker) ≡ MapCell worker table)
       × ((x : ℕ) → map.get table x ≡ (if x == worker then Some (where_is.Gate (gate worker)) else None))
-  pub shards : (worker : ℕ) → worker < s.workers → IsFirstShard s w stock worker (gate worker) (root worker)
+  pub shards : (worker : ℕ) → worker < s.workers → IsFirstShard s w worker (gate worker) (root worker)
   pub apart : (a b : ℕ) → a < s.workers → b < s.workers → root a ≡ root b → a ≡ b
   pub free : (y : ℕ) → first_stock_cell s ≤ y → y < cell_count s
       → ((worker : ℕ) → worker < s.workers → (y ≢ gate worker) × (y ≢ root worker)) → (w.cells y ≡ FreeCell) × (times y stock.free ≡ 1)

@@ -1,4 +1,4 @@
--- Each cell of the stock has one use, and each stamp is given out once.
+-- Each cell of the stock has one use, and each stamp is given out once and is in one block at most.
 use Rattle.std.specs.Prelude.{ℕ, ◌≡◌, ◌≢◌, ◌+◌, ◌<◌, ◌≤◌, ◌⊎◌, Bool, true, cond, List, [], ◌++◌, Option, Some, None, IsSome}
 use Rattle.dc_node.specs.declared.block.Block.{Block}
 use Rattle.dc_node.specs.declared.todo.Item.{Item}
@@ -33,6 +33,7 @@ pub record Stocking (s : Setting) (stock : StockValue) (made : ℕ → Bool) (ga
   pub valid : IsStock stock
   pub count : stock.cells ≡ cell_count s
   pub within : (y : ℕ) → owner y ≢ NotOfStock → (first_stock_cell s ≤ y) × (y < cell_count s)
+  pub every : (y : ℕ) → first_stock_cell s ≤ y → y < cell_count s → owner y ≢ NotOfStock
   pub unused : (y : ℕ) → times y stock.free ≡ cond (is_unused (owner y)) 1 0
   pub purse : (a y : ℕ) → times y (cells_of (purses a)) ≡ cond (is_in_purse a (owner y)) 1 0
   pub job : (a y : ℕ) → times y (cells_of (spent_of (jobs a))) ≡ cond (is_in_job a (owner y)) 1 0
@@ -43,8 +44,9 @@ pub record Stocking (s : Setting) (stock : StockValue) (made : ℕ → Bool) (ga
   pub gone_cells : (c : ℕ) → phases c ≡ Some Gone → (y : ℕ) → times y (gone c) ≡ cond (is_in_tree c (owner y)) 1 0
   pub none_gone : (c : ℕ) → phases c ≢ Some Gone → gone c ≡ []
 
--- Stamps. A spare's stamp is of that spare alone, and one that isn't given out yet is nowhere: no entry or gate expects it, and
--- nothing that is noted waits for it.
+-- Stamps. A spare's stamp is of that spare alone, and one that isn't given out yet is nowhere: no block has it, no entry or gate
+-- expects it, and nothing that is noted waits for it. No two blocks have one stamp, those of trees that are gone and those that
+-- were left in cells given back included.
 
 -- the spares of a purse and those that a job has spent
 abbrev pub all_spares : (ℕ → List Spare) → (ℕ → Option JobValue) → ℕ → List Spare
@@ -70,7 +72,14 @@ items_of_read (Some p) = p.reading.items
 abbrev pub all_items : (ℕ → Option ReadPart) → (ℕ → Option JobValue) → ℕ → List Item
 all_items reads jobs a = items_of_read (reads a) ++ items_of_job (jobs a)
 
-pub record Stamping (stock : StockValue) (blocks : ℕ → Block) (trees : ℕ → Gate) (gates : ℕ → Option ℕ) (phases : ℕ → Option Phase) (pins : ℕ → ℕ) (purses : ℕ → List Spare) (reads : ℕ → Option ReadPart) (jobs : ℕ → Option JobValue) (shape : ℕ → Shape) : Type 0 where
+-- what a block in a cell, with a stamp, leaves to a spare: its stamp, unless the block has gone to the spare's cell already
+abbrev pub LeavesStamp : (cell stamp : ℕ) → Spare → Type 0
+LeavesStamp cell stamp x = cell ≢ x.cell → stamp ≢ x.stamp
+
+pub record Stamping (stock : StockValue) (blocks : ℕ → Block) (made : ℕ → Bool) (trees : ℕ → Gate) (gates : ℕ → Option ℕ) (phases : ℕ → Option Phase) (pins : ℕ → ℕ) (purses : ℕ → List Spare) (reads : ℕ → Option ReadPart) (jobs : ℕ → Option JobValue) (shape : ℕ → Shape) : Type 0 where
+  pub blocks_given : (y : ℕ) → made y ≡ true → (blocks y).stamp < stock.stamps
+  pub blocks_apart : (y z : ℕ) → y ≢ z → made y ≡ true → made z ≡ true → (blocks y).stamp ≢ (blocks z).stamp
+  pub unspared : (a y : ℕ) → made y ≡ true → Each (LeavesStamp y (blocks y).stamp) (all_spares purses jobs a)
   pub given : (a : ℕ) → Each (λ x. x.stamp < stock.stamps) (all_spares purses jobs a)
   pub apart : (a b : ℕ) → a ≢ b → Each (λ x. Each (AreApart x) (all_spares purses jobs b)) (all_spares purses jobs a)
   pub spare : (a c : ℕ) → IsWhole gates phases pins c → AreSpares (shape c) (nodes (cells_at blocks trees c)) (all_spares purses jobs a)
