@@ -134,6 +134,9 @@ module _ (s : Setting) (w : World) (n : ℕ) (g : Ghost) (i : InvWith s (view s 
         enough = λ a y z x is placed.
             let ne : a ≢ n = (λ e. no-way x (ap v.ways (sym e) ∙ is)) in
             rw (off a ne) (k.enough a y z x is placed);
+        boxed = λ a x is filled.
+            let ne : a ≢ n = (λ e. no-way x (ap v.ways (sym e) ∙ is)) in
+            rw (off a ne) (k.boxed a x is filled);
         counts = k.counts;
       }
 

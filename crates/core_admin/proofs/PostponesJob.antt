@@ -211,6 +211,7 @@ module _ (c led : Change) (b : ActorValue) (s : Setting) (w : World) (n : ℕ) (
             in_leaf = k.in_leaf;
             carried = k.carried;
             enough = λ a x y way has at. subst (λ (ss : List Spare). ((g.shape x).level y ≤ length ss) × (2 * length ss + 1 ≤ v.boxes a)) (sym (off a (λ e. on-way a way has e))) (k.enough a x y way has at);
+            boxed = λ a way has filled. subst (λ (ss : List Spare). 2 * length ss + 1 ≤ v.boxes a) (sym (off a (λ e. on-way a way has e))) (k.boxed a way has filled);
             counts = k.counts;
           }
         where

@@ -158,6 +158,7 @@ module _ (s : Setting) (w : World) (v2 : View) (g g2 : Ghost) (n : ℕ) (i : Inv
             let q = at-block-old a c y way has at in
             subst (λ (ss : List Spare). ((g2.shape c).level y ≤ length ss) × (2 * length ss + 1 ≤ v.boxes a)) (sym (m.purses_off a (not-admin a way has)))
             (subst (λ (z : Shape). (z.level y ≤ length (v.purses a)) × (2 * length (v.purses a) + 1 ≤ v.boxes a)) (sym (m.shape_off c q.0)) o);
+        boxed = λ a way has filled. subst (λ (ss : List Spare). 2 * length ss + 1 ≤ v.boxes a) (sym (m.purses_off a (not-admin a way has))) (k.boxed a way has filled);
         counts = λ c. on_bool (m.new c) (λ q. m.active_new c q ∙ sym (m.blank c q).0 ∙ k.counts c) (λ q. m.active_off c q ∙ k.counts c);
       }
     where

@@ -163,6 +163,7 @@ module _ (s : Setting) (v : View) (g : Ghost) (i : InvWith s v g) (readers : Rea
         let never : Some c ≡ None = sym (ap gate_entered place) ∙ k.outside w mine in absurd (cc)) in
         (a, y, w, k.ways.elsewhere a ne ∙ is, row, place);
     enough = λ a c y w is. m.enough a c y w (went a w is).1;
+    boxed = λ a w is. m.boxed a w (went a w is).1;
     counts = λ c. m.counts c ∙ sym (sum-kept (actor_count s) (λ a. inside_of c (v.ways a)) (λ a. inside_of c (ways_now a)) n (λ a ne. ap (inside_of c) (k.ways.elsewhere a ne))
         (ap (inside_of c) k.ways.is_there ∙ sym (ap (inside_of c) k.ways.was_there ∙ none-inside (way_in_task e e.task) refl c)));
   })

@@ -141,6 +141,7 @@ module _ (s : Setting) (v : View) (g : Ghost) (i : InvWith s v g) (n server : �
 
   record IsNewRow (w : RowWay) : Type 0 where
     pub outside : w.place ≡ Outside
+    pub unfilled : w.filled ≡ false
     pub unplaced : g.placed w.row.no ≡ false
     pub nobody : NobodyAt v.ways w.row.no
     pub on_way : IsOnWay v.history v.images g.placed g.path w
@@ -150,7 +151,7 @@ module _ (s : Setting) (v : View) (g : Ghost) (i : InvWith s v g) (n server : �
   new-row-of (want.Filter f) same w is = (let never : ◌≡◌ {A = Option RowWay} None (Some w) = is in absurd (cc))
   new-row-of (want.Row row) same w is =
       let waits : part.state ≡ state.Waiting (want.Row row) = k.waits ∙ ap state.Waiting same in
-      let it : record { row = row; server = server; shard = part.shard; path = part.path; place = Outside } ≡ w = cc in
+      let it : record { row = row; server = server; shard = part.shard; path = part.path; place = Outside; filled = false } ≡ w = cc in
       elim (on-desk s v g i server of within op) [
         | inl here ↦
             let (x, begun, its_server, number) = here in
@@ -165,6 +166,7 @@ module _ (s : Setting) (v : View) (g : Ghost) (i : InvWith s v g) (n server : �
             let no : of ≡ row.no = sym number ∙ ap (λ (r : Row). r.no) row_is in
             subst IsNewRow it (record {
               outside = refl;
+              unfilled = refl;
               unplaced = ap g.placed (sym no) ∙ facts.0;
               nobody = subst (NobodyAt v.ways) no facts.1;
               on_way = record {
@@ -237,6 +239,10 @@ module _ (s : Setting) (v : View) (g : Ghost) (i : InvWith s v g) (n server : �
     enough = λ a c y w is place. elim (went a w is) [
       | inl mine ↦ (let never : ◌≡◌ {A = Option ℕ} None (Some c) = sym (ap gate_entered (new-row w mine.1).outside) ∙ ap gate_entered place in absurd (cc))
       | inr it ↦ m.enough a c y w it.1 place
+    ];
+    boxed = λ a w is filled. elim (went a w is) [
+      | inl mine ↦ absurd (false≢true (sym (new-row w mine.1).unfilled ∙ filled))
+      | inr it ↦ m.boxed a w it.1 filled
     ];
     counts = λ c. m.counts c ∙ sym (sum-kept (actor_count s) (λ a. inside_of c (v.ways a)) (λ a. inside_of c (ways_now a)) n (λ a ne. ap (inside_of c) (k.ways.elsewhere a ne))
         (ap (inside_of c) k.ways.is_there ∙ outside-none (way_in_task e e.task) refl c ∙ sym (ap (inside_of c) k.ways.was_there)));

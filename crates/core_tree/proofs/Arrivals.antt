@@ -10,7 +10,7 @@ use Rattle.row_ledger.specs.declared.event.Event.{Event}
 use Rattle.shard_store.specs.declared.gate.Phase.TheVariants.{Gone}
 use Rattle.tree_shape.proofs.Walks.{on_bool}
 use Rattle.volap_cell.specs.Desking.{is_on_desk}
-use Rattle.volap_cell.specs.Errands.{Outside, RowWay, has_passed, place_of, row_way, way_of}
+use Rattle.volap_cell.specs.Errands.{Outside, RowWay, has_passed, is_filled, place_of, row_way, way_of}
 use Rattle.volap_cell.specs.Ghost.{Ghost}
 use Rattle.volap_cell.specs.ImageKinds.{doing}
 use Rattle.volap_cell.specs.Invariant.{InvWith}
@@ -25,6 +25,8 @@ use Rattle.volap_cell.specs.declared.command.Command.{Command}
 use Rattle.volap_cell.specs.declared.command.Work.{Work}
 use Rattle.volap_cell.specs.declared.command.Work.TheVariants as work_is
 use Rattle.volap_cell.specs.declared.errand.RowErrand.{RowErrand}
+use Rattle.volap_cell.specs.declared.errand.Way.{Way}
+use Rattle.volap_cell.specs.declared.errand.Way.TheVariants as way_is
 use Rattle.volap_cell.specs.declared.role.Role.{Role}
 use Rattle.volap_cell.proofs.Actors.{row-at, taken-is}
 use Rattle.volap_cell.proofs.Beginnings.{no-query, row-number}
@@ -37,6 +39,13 @@ same-row {a} {e} {f} {r} {q} has also =
     let errand : e ≡ f = cc in
     let tasks : OfRow r ≡ OfRow q = sym has.row ∙ ap (λ (x : ErrandValue). x.task) errand ∙ also.row in
     (errand, cc)
+
+-- a row for which the purse was filled is outside
+pub filled-outside : (w : Way) → is_filled w ≡ true → place_of w ≡ Outside
+filled-outside (way_is.Before height filled) e = refl
+filled-outside (way_is.Carried gate block) e = cc
+filled-outside (way_is.Put gate) e = cc
+filled-outside way_is.Placed e = cc
 
 -- a shard that stands on a worker stands
 pub on-live : (x w : ℕ) (places : List Place) → list_any (λ (p : Place). is_of x p && (p.worker == w)) places ≡ true → list_any (is_of x) places ≡ true

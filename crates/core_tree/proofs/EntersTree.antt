@@ -1,5 +1,5 @@
 -- A row that comes in at a gate.
-use Rattle.std.proofs.Common.{◌≡◌, ◌≢◌, ℕ, ◌+◌, ◌≤◌, Bool, true, false, cond, eqb, List, [], ◌∷◌, ◌++◌, length, map, Option, Some, IsSome, refl, sym, ap, ◌∙◌, subst, ◌⊎◌, inl, inr, arith, append-nil, append_assoc}
+use Rattle.std.proofs.Common.{◌≡◌, ◌≢◌, ℕ, ◌+◌, ◌*◌, ◌≤◌, Bool, true, false, cond, eqb, List, [], ◌∷◌, ◌++◌, length, map, Option, Some, IsSome, refl, sym, ap, ◌∙◌, subst, ◌⊎◌, inl, inr, arith, append-nil, append_assoc}
 use Rattle.std.proofs.lemmas.List.{length-append}
 use Rattle.dim_hierarchy.specs.Dimension.{Dimension}
 use Rattle.dim_hierarchy.specs.Row.{IsRowOf}
@@ -23,7 +23,7 @@ use Rattle.tree_shape.proofs.Divisions.{each-map, each-both}
 use Rattle.tree_shape.proofs.Parts.{each-append, each-left, each-right}
 use Rattle.tree_shape.proofs.Walks.{on_bool, eqb-eq, eqb-ne}
 use Rattle.volap_cell.specs.Cells.{CellValue, OfStock, MapOf, GateCell, BlockCell, block_in, has_block, phase_of, tag_of, way_in, way_to_tree, active_in}
-use Rattle.volap_cell.specs.Errands.{RowWay, Outside, AtBlock, row_way, block_at, IsCarried}
+use Rattle.volap_cell.specs.Errands.{RowWay, Outside, AtBlock, place_of, row_way, block_at, IsCarried}
 use Rattle.volap_cell.specs.Ghost.{Ghost, NotOfStock, AGate, InTree, InPurse}
 use Rattle.volap_cell.specs.Growing.{table_of}
 use Rattle.volap_cell.specs.Invariant.{InvWith}
@@ -44,7 +44,7 @@ use Rattle.volap_cell.proofs.Seen.{CellSeen, beside, renewed}
 use Rattle.volap_cell.proofs.Spares.{enter-blank}
 use Rattle.volap_cell.proofs.Touches.{IsBlank, all-read, tail-read, turned-block, others-blocks}
 use Rattle.volap_cell.proofs.TreeViews.{by_enter_tree, view-enter_tree}
-use Rattle.core_tree.proofs.Arrivals.{Arrives, arrives}
+use Rattle.core_tree.proofs.Arrivals.{Arrives, arrives, filled-outside}
 use Rattle.core_tree.proofs.Carriers.{purse-owned}
 use Rattle.core_tree.proofs.ComesIn.{ComesIn, comes-in-kept, still-has}
 use Rattle.core_tree.proofs.Counts.{tree-placed}
@@ -182,8 +182,11 @@ module _ (ins : InLaw) (roots : RootLaw) (behinds : RootBehindLaw) (m gt root : 
   leads : (view s w).maps d.e.worker d.e.shard ≡ Some (where_is.Gate c)
   leads = (held-leads s w i.numbering.tag m ag.cells.0 d.e.worker d.e.shard (where_is.Gate c) d.leads).1
 
+  outside : place_of d.r.way ≡ Outside
+  outside = filled-outside d.r.way d.filled
+
   arr : Arrives s v g n c way
-  arr = arrives s w g i n c d.e d.r d.has d.outside leads
+  arr = arrives s w g i n c d.e d.r d.has outside leads
 
   whole : IsWhole v.gates v.phases v.pins c
   whole = (subst IsSome (sym arr.is_gate) refl, inl arr.stands)
@@ -265,7 +268,7 @@ module _ (ins : InLaw) (roots : RootLaw) (behinds : RootBehindLaw) (m gt root : 
       on_bool (eqb k.0 n)
       (λ e. let same : Some k.2 ≡ Some way = sym k.3 ∙ ap v.ways (eqb-eq _ _ e) ∙ arr.was in
       let mine : k.2 ≡ way = cc in
-      let z : AtBlock c k.1 ≡ Outside = sym k.5 ∙ ap (λ (u : RowWay). u.place) mine ∙ d.outside in cc)
+      let z : AtBlock c k.1 ≡ Outside = sym k.5 ∙ ap (λ (u : RowWay). u.place) mine ∙ outside in cc)
       (λ e. (ag.free k.0 (eqb-ne _ _ e)).1.1.0 (subst (λ (u : Option RowWay). IsCarried u root.number) (sym k.3) place))
 
   -- the new blocks
@@ -459,14 +462,14 @@ module _ (ins : InLaw) (roots : RootLaw) (behinds : RootBehindLaw) (m gt root : 
       let few = uses.few in
       let boxes = d.boxes in
       let enough = d.enough in
-      let boxed = d.boxed in
+      let boxed : 2 * length (w.actors n).purse + 1 ≤ (w.actors n).boxes = i.turning.boxed n way arr.was d.filled in
       let lower = law.level in
       let high : (v2.trees c).height ≡ d.entered_gate.height = ap (λ (x : Gate). x.height) trees-new.is_there in
       record {
         e = d.e;
         r = d.r;
         has = d.has;
-        outside = d.outside;
+        outside = outside;
         gate = c;
         arr = arr;
         at = d.entered.at;

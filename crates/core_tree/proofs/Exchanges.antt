@@ -12,7 +12,6 @@ use Rattle.tree_shape.proofs.Parts.{each-append, each-here}
 use Rattle.tree_shape.proofs.Visits.{times-append}
 use Rattle.tree_shape.proofs.Walks.{eqb-eq, eqb-ne, on_bool, same_is}
 use Rattle.tree_shape.proofs.Queries.{leb-gt, leb-le}
-use Rattle.volap_cell.specs.Errands.{AtBlock, RowWay}
 use Rattle.volap_cell.specs.Ghost.{AGate, Ghost, InJob, InPurse, InTree, NotOfStock, Owner, Unused, is_in_job, is_in_purse, is_in_tree, is_unused}
 use Rattle.volap_cell.specs.Invariant.{InvWith}
 use Rattle.volap_cell.specs.Lineage.{Lineage}
@@ -20,7 +19,6 @@ use Rattle.volap_cell.specs.Numbering.{Numbering}
 use Rattle.volap_cell.specs.Owing.{one_if}
 use Rattle.volap_cell.specs.Setting.{Setting, actor_count, cell_count, first_stock_cell}
 use Rattle.volap_cell.specs.Stocking.{IsWhole, LeavesStamp, Stamping, Stocking, all_items, all_spares, cells_at, spent_of}
-use Rattle.volap_cell.specs.Turning.{Turning}
 use Rattle.volap_cell.specs.Values.{JobValue}
 use Rattle.volap_cell.specs.View.{View, view}
 use Rattle.volap_cell.specs.World.{World}
@@ -303,22 +301,6 @@ module _ (s : Setting) (w : World) (g : Ghost) (i : InvWith s (view s w) g) (n :
           moved = k.moved;
           later = k.later;
           made = k.made;
-        }
-
-    -- who carries a row is another actor
-    pub exchanged-turning : (boxes_now : ℕ → ℕ) → ((a : ℕ) → a ≢ n → boxes_now a ≡ v.boxes a) → ((c y : ℕ) (way : RowWay) → v.ways n ≡ Some way → way.place ≢ AtBlock c y)
-        → Turning s v.ways purses_now boxes_now v.phases v.active g.gate g.shape g.home
-    exchanged-turning boxes_now boxes_off free =
-        let k = i.turning in record {
-          one = k.one;
-          carrying = k.carrying;
-          in_leaf = k.in_leaf;
-          carried = k.carried;
-          enough = λ a c y way is at.
-              let ne : a ≢ n = (λ e. free c y way (ap v.ways (sym e) ∙ is) at) in
-              let o = k.enough a c y way is at in
-              rw (off a ne, boxes_off a ne) o;
-          counts = k.counts;
         }
 
     pub exchanged-working : Working s v.history v.blocks v.made v.trees v.phases v.active v.queues purses_now v.commands v.jobs g.gate g.shape g.placed

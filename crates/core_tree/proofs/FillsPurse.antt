@@ -1,5 +1,6 @@
 -- A purse is filled, or what is left in it is given back.
-use Rattle.std.proofs.Common.{◌≡◌, ◌≢◌, ℕ, ◌+◌, ◌-◌, ◌*◌, ◌^◌, ◌<◌, ◌≤◌, Bool, true, false, leb, List, [], ◌∷◌, ◌++◌, length, Option, Some, None, All, refl, sym, ap, ◌∙◌, subst, inl, inr, arith}
+use Rattle.std.proofs.Common.{◌≡◌, ◌≢◌, ℕ, ◌+◌, ◌-◌, ◌*◌, ◌^◌, ◌<◌, ◌≤◌, Bool, true, false, eqb, leb, List, [], ◌∷◌, ◌++◌, length, Option, Some, None, All, refl, sym, ap, ◌∙◌, subst, inl, inr, arith}
+use Rattle.std.specs.Prelude.{option_map}
 use Rattle.std.specs.List.{range_with_len}
 use Rattle.std.proofs.lemmas.List.Elements.{All-head, All-tail, All-weaker}
 use Rattle.cell_stock.specs.Stock.{AreOut, Gives, IsStock, PurseValue, StockValue, Takes, cells_of, stamps_of}
@@ -10,9 +11,9 @@ use Rattle.row_ledger.specs.declared.event.Event.{Event}
 use Rattle.tree_shape.specs.Counts.{Each, times}
 use Rattle.tree_shape.proofs.Queries.{leb-gt, leb-le}
 use Rattle.tree_shape.proofs.Visits.{times-append}
-use Rattle.tree_shape.proofs.Walks.{on_bool}
+use Rattle.tree_shape.proofs.Walks.{eqb-eq, eqb-ne, on_bool}
 use Rattle.volap_cell.specs.Cells.{CellValue, StockCell}
-use Rattle.volap_cell.specs.Errands.{AtBlock, IsCarried, Outside, RowWay, block_at, height_of, is_filled, place_of, row_way}
+use Rattle.volap_cell.specs.Errands.{AtBlock, IsCarried, Outside, RowWay, block_at, height_of, is_filled, place_of, row_way, way_of}
 use Rattle.volap_cell.specs.Falls.{far, gates_of_errand, gates_of_task, gates_of_way, left, one_if_any, per_gate, rows_of_errand}
 use Rattle.volap_cell.specs.Ghost.{Ghost}
 use Rattle.volap_cell.specs.Invariant.{InvWith}
@@ -36,8 +37,9 @@ use Rattle.core_tree.specs.DueAtGates.{CanGiveBack, CanRefill, IsRefilled}
 use Rattle.core_tree.proofs.Arrivals.{same-row}
 use Rattle.volap_cell.proofs.Persons.{has-taken}
 use Rattle.volap_cell.proofs.Seen.{renewed}
-use Rattle.volap_cell.proofs.TreeViews.{by_refill, noted-outside, view-refill}
-use Rattle.core_tree.proofs.Exchanges.{Exchanges, are-out, exchanged-lineage, exchanged-numbering, exchanged-stamping, exchanged-stocking, exchanged-turning, exchanged-working, exchanged_owner, stock-valid}
+use Rattle.volap_cell.proofs.TreeViews.{by_refill, view-refill}
+use Rattle.core_tree.proofs.AsFar.{as_far, inserting-still, placing-still, turning-still}
+use Rattle.core_tree.proofs.Exchanges.{Exchanges, are-out, exchanged-lineage, exchanged-numbering, exchanged-stamping, exchanged-stocking, exchanged-working, exchanged_owner, stock-valid}
 use Rattle.core_tree.proofs.Remains.{IsStepOf, control-same, gates-changed, rows-changed}
 use Rattle.core_tree.proofs.Tallies.{times-distinct}
 
@@ -146,7 +148,7 @@ module _ (c : Change) (b : ActorValue) (s : Setting) (w : World) (n : ℕ) (g : 
   free x y way is at = elim d.does [
     | inl filled ↦ (let f = filled.1 in
         let both : ◌≡◌ {A = Option RowWay} (Some (row_way f.e f.r)) (Some way) = sym (row-at f.has) ∙ is in
-        let out : place_of f.r.way ≡ Outside = noted-outside f.r.way filled.0 f.noted in
+        let out : place_of f.r.way ≡ Outside = ap place_of (noted-before f.r.way filled.0 f.noted f.unfilled) in
         let its : row_way f.e f.r ≡ way = cc in
         let no : Outside ≡ AtBlock x y = sym out ∙ ap (λ (z : RowWay). z.place) its ∙ at in cc)
     | inr e ↦ e.none_carried y (subst (λ (o : Option RowWay). IsCarried o y) (sym is) (ap block_at at))
@@ -157,6 +159,39 @@ module _ (c : Change) (b : ActorValue) (s : Setting) (w : World) (n : ℕ) (g : 
 
   off : (a : ℕ) → a ≢ n → u.purses a ≡ v.purses a
   off a ne = ap (λ (z : ActorValue). z.purse) (actor-off w.actors n b a ne)
+
+  boxes-off : (a : ℕ) → a ≢ n → u.boxes a ≡ v.boxes a
+  boxes-off a ne = ap (λ (z : ActorValue). z.boxes) (actor-off w.actors n b a ne)
+
+  ways-off : (a : ℕ) → a ≢ n → u.ways a ≡ v.ways a
+  ways-off a ne = ap (λ (z : ActorValue). way_of z.errand) (actor-off w.actors n b a ne)
+
+  -- its row is where it was
+  still : (a : ℕ) → option_map as_far (u.ways a) ≡ option_map as_far (v.ways a)
+  still a = on_bool (eqb a n)
+      (λ q. let is = eqb-eq a n q in
+      ap (λ (z : ℕ). option_map as_far (u.ways z)) is ∙ ap (λ (z : ActorValue). option_map as_far (way_of z.errand)) (actor-at w.actors n b) ∙ here ∙ sym (ap (λ (z : ℕ). option_map as_far (v.ways z)) is))
+      (λ q. ap (option_map as_far) (ways-off a (eqb-ne a n q)))
+    where
+      here : option_map as_far (way_of b.errand) ≡ option_map as_far (v.ways n)
+      here = elim d.does [
+        | inl filled ↦ (let f = filled.1 in
+            let out : place_of f.r.way ≡ Outside = ap place_of (noted-before f.r.way filled.0 f.noted f.unfilled) in
+            ap (λ (z : ActorValue). option_map as_far (way_of z.errand)) f.actor_is ∙ (λ k. Some (record (row_way f.e f.r) { place = sym out k; filled = false })) ∙ sym (ap (option_map as_far) (row-at f.has)))
+        | inr e ↦ ap (λ (z : ActorValue). option_map as_far (way_of z.errand)) e.actor_is
+      ]
+
+  boxed : (x : RowWay) → u.ways n ≡ Some x → x.filled ≡ true → 2 * length (u.purses n) + 1 ≤ u.boxes n
+  boxed x is filled =
+      let boxes_now : u.boxes n ≡ b.boxes = ap (λ (z : ActorValue). z.boxes) (actor-at w.actors n b) in
+      rw (mine, boxes_now) (elim d.does [
+        | inl done ↦ done.1.boxes
+        | inr e ↦ (let was : v.ways n ≡ Some x = sym (ap (λ (z : ActorValue). way_of z.errand) (actor-at w.actors n b) ∙ ap (λ (z : ActorValue). way_of z.errand) e.actor_is) ∙ is in
+            let had : 2 * length (w.actors n).purse + 1 ≤ (w.actors n).boxes = i.turning.boxed n x was filled in
+            let none : length b.purse ≡ 0 = ap (λ (z : ActorValue). length z.purse) e.actor_is in
+            let same_boxes : b.boxes ≡ (w.actors n).boxes = ap (λ (z : ActorValue). z.boxes) e.actor_is in
+            omega arith)
+      ])
 
   -- an administrator is at no part, and so gives its spares back
   admin : v.roles n ≡ Admin → b.purse ≡ []
@@ -173,7 +208,7 @@ module _ (c : Change) (b : ActorValue) (s : Setting) (w : World) (n : ℕ) (g : 
     numbering = exchanged-numbering s w g i n u.stock b.purse jobless exchange u.purses mine off few admin;
     telling = i.telling;
     owing = i.owing;
-    turning = exchanged-turning s w g i n u.stock b.purse jobless exchange u.purses mine off u.boxes (λ a ne. ap (λ (z : ActorValue). z.boxes) (actor-off w.actors n b a ne)) free;
+    turning = turning-still v.ways u.ways still n ways-off free v.purses u.purses off v.boxes u.boxes boxes-off s v.phases v.active g.gate g.shape g.home boxed i.turning;
     stocking = exchanged-stocking s w g i n u.stock b.purse jobless exchange u.purses mine off;
     stamping = exchanged-stamping s w g i n u.stock b.purse jobless exchange u.purses mine off;
     lineage = exchanged-lineage s w g i n u.stock b.purse jobless exchange u.purses mine off;
@@ -181,8 +216,8 @@ module _ (c : Change) (b : ActorValue) (s : Setting) (w : World) (n : ℕ) (g : 
     growing = i.growing;
     queueing = i.queueing;
     resting = i.resting;
-    placing = i.placing;
-    inserting = i.inserting;
+    placing = placing-still v.ways u.ways still s v.history v.commands v.queues g.gate g.shape g.placed g.home g.path i.placing;
+    inserting = inserting-still v.ways u.ways still s v.history v.images v.desks v.commands g.placed g.path i.inserting;
     imaging = i.imaging;
     covering = i.covering;
     desking = i.desking;

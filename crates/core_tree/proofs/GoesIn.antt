@@ -1,5 +1,5 @@
 -- The call that takes a row in: what its callee asks for, and what it did.
-use Rattle.std.proofs.Common.{◌≡◌, ℕ, ◌+◌, ◌^◌, ◌<◌, ◌≤◌, Bool, true, false, List, [], ◌∷◌, ◌++◌, length, map, Option, Some, None, IsSome, All, refl, sym, ap, ◌∙◌, subst, ◌⊎◌, inl, inr, arith, append_assoc}
+use Rattle.std.proofs.Common.{◌≡◌, ℕ, ◌+◌, ◌*◌, ◌^◌, ◌<◌, ◌≤◌, Bool, true, false, List, [], ◌∷◌, ◌++◌, length, map, Option, Some, None, IsSome, All, refl, sym, ap, ◌∙◌, subst, ◌⊎◌, inl, inr, arith, append_assoc}
 use Rattle.std.specs.Option.{is_some}
 use Rattle.std.proofs.lemmas.List.{length-map}
 use Rattle.dim_hierarchy.specs.Dimension.{Dimension, IsHierarchy}
@@ -26,7 +26,7 @@ use Rattle.tree_shape.proofs.Divisions.{each-map}
 use Rattle.tree_shape.proofs.Parts.{each-left}
 use Rattle.tree_shape.proofs.Walks.{on_bool}
 use Rattle.volap_cell.specs.Cells.{CellValue, BlockCell, GateCell, block_in, has_block, way_in, way_to_tree, active_in}
-use Rattle.volap_cell.specs.Errands.{RowWay, place_of, row_way}
+use Rattle.volap_cell.specs.Errands.{RowWay, is_filled, row_way}
 use Rattle.volap_cell.specs.Ghost.{Ghost}
 use Rattle.volap_cell.specs.Growing.{table_of}
 use Rattle.volap_cell.specs.Invariant.{InvWith}
@@ -43,7 +43,7 @@ use Rattle.volap_cell.specs.declared.errand.Way.TheVariants.{Carried}
 use Rattle.volap_cell.specs.declared.kind.Kind.TheVariants.{EnterTree}
 use Rattle.volap_cell.proofs.Helds.{held-leads}
 use Rattle.core_tree.specs.Descent.{AreForNew, AreLast, CanEnterTree, CanComeIn, CameIn, blocks_if, two_if}
-use Rattle.core_tree.proofs.Arrivals.{Arrives, arrives}
+use Rattle.core_tree.proofs.Arrivals.{Arrives, arrives, filled-outside}
 use Rattle.core_tree.proofs.Behind.{MakesOne, tail-are, held-blocks, last-same, filled-length}
 use Rattle.core_tree.proofs.Counts.{active-few, purse-few, tree-few, tree-set}
 use Rattle.core_tree.proofs.Descents.{tail-blocks, tail-numbers}
@@ -87,7 +87,7 @@ module _ (gates : GateLaw) (blocks : BlockLaw) (roots : RootLaw) (fits : RootBeh
   has = record { errand = ap (λ (z : ActorValue). z.errand) k.agrees.actor_is ∙ due.has.errand; row = due.has.row }
 
   arr : Arrives s v g k.number gate_at way
-  arr = arrives s w g i k.number gate_at due.e due.r has due.outside (held-leads s w i.numbering.tag (held map_at map_) k.agrees.cells.0 due.e.worker due.e.shard (where_is.Gate gate_at) due.leads).1
+  arr = arrives s w g i k.number gate_at due.e due.r has (filled-outside due.r.way due.filled) (held-leads s w i.numbering.tag (held map_at map_) k.agrees.cells.0 due.e.worker due.e.shard (where_is.Gate gate_at) due.leads).1
 
   whole : IsWhole v.gates v.phases v.pins gate_at
   whole = (subst IsSome (sym arr.is_gate) refl, inl arr.stands)
@@ -146,7 +146,7 @@ module _ (gates : GateLaw) (blocks : BlockLaw) (roots : RootLaw) (fits : RootBeh
       let few = few-there in
       let same = ap (λ (x : Gate). x.agg.count) trees-was in
       let enough = due.enough in
-      let boxed = due.boxed in
+      let boxed : 2 * length a.purse + 1 ≤ a.boxes = subst (λ (z : ActorValue). 2 * length z.purse + 1 ≤ z.boxes) k.agrees.actor_is (i.turning.boxed k.number way arr.was due.filled) in
       let count = lent.1 in
       let purse : length (v.purses k.number) ≡ length a.purse = ap (λ (z : ActorValue). length z.purse) k.agrees.actor_is in
       let purses = purse-few s v g i k.number in
@@ -319,12 +319,11 @@ enter-makes other collects ins roots behinds h map_at map_ gate_at cell root_at 
       e = e;
       r = r;
       has = has;
-      outside = ap (λ (z : RowErrand). place_of z.way) (sym row_same) ∙ due.outside;
+      filled = ap (λ (z : RowErrand). is_filled z.way) (sym row_same) ∙ due.filled;
       leads = subst (λ (z : ErrandValue). Leads (held map_at map_) z.worker z.shard (where_is.Gate gate_at)) es due.leads;
       gate = q;
       is_open = ap (λ (z : Gate). z.phase) (sym gate_same) ∙ due.is_open;
       enough = subst (λ (z : Gate). z.height + 2 ≤ length a.purse) gate_same due.enough;
-      boxed = due.boxed;
       root_is = due.root_is ∙ ap (λ (z : Gate). z.root) gate_same;
       head = c;
       head_now = c2;

@@ -1,7 +1,7 @@
 -- An insert that has put its row leaves the tree.
 use Rattle.query_router.specs.declared.part.PartState.TheVariants.{Placed}
 use Rattle.volap_cell.specs.declared.errand.RowErrand.{RowErrand}
-use Rattle.std.proofs.Common.{◌≡◌, ℕ, ◌+◌, ◌<◌, ◌≤◌, ◌==◌, eqb, if◌then◌else◌, List, [], ◌∷◌, Option, Some, refl, sym, ap, ◌∙◌, subst, inl, inr, arith, IsSome, true}
+use Rattle.std.proofs.Common.{◌≡◌, ℕ, ◌+◌, ◌<◌, ◌≤◌, ◌==◌, eqb, if◌then◌else◌, List, [], ◌∷◌, Option, Some, refl, sym, ap, ◌∙◌, subst, inl, inr, arith, IsSome, true, false}
 use Rattle.std.proofs.lemmas.List.Elements.{All-weaker}
 use Rattle.dim_hierarchy.specs.Dimension.{Dimension}
 use Rattle.dim_hierarchy.specs.declared.row.Row.{Row}
@@ -136,8 +136,8 @@ module _ (c : Change) (b : ActorValue) (s : Setting) (w : World) (n : ℕ) (g : 
         parts = λ server q x within op is. All-weaker (λ (p : Part). IsRowPart v.history v.images v.ways g.placed g.path server q p p.state) (λ (p : Part). IsRowPart v.history v.images v2.ways g.placed g.path server q p p.state)
             (λ p. part-now server q p p.state) (v.desks server).parts (k.parts server q x within op is);
         on_way = λ a x is. on_bool (eqb a n)
-            (λ q. let both : ◌≡◌ {A = Option RowWay} (Some (record way { place = AtRest })) (Some x) = sym go.is ∙ ap v2.ways (sym (eqb-eq _ _ q)) ∙ is in
-            let x_is : record way { place = AtRest } ≡ x = cc in
+            (λ q. let both : ◌≡◌ {A = Option RowWay} (Some (record way { place = AtRest; filled = false })) (Some x) = sym go.is ∙ ap v2.ways (sym (eqb-eq _ _ q)) ∙ is in
+            let x_is : record way { place = AtRest; filled = false } ≡ x = cc in
             let o = k.on_way n way go.was in
             subst (IsOnWay v.history v.images g.placed g.path) x_is (record { known = o.known; lead = o.lead; passed = o.passed ∙ ap has_passed in-leaf; came = λ e. o.came (ap has_passed in-leaf) }))
             (λ q. k.on_way a x (sym (go.off a (eqb-ne _ _ q)) ∙ is));

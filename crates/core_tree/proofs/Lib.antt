@@ -23,6 +23,7 @@ pub mod Walkers
 pub mod VisitsBlock
 pub mod Tallies
 pub mod Exchanges
+pub mod AsFar
 pub mod ReadsGate
 pub mod GateDue
 pub mod FillsPurse

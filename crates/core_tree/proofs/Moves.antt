@@ -2,6 +2,7 @@
 -- invariant that speak of trees. One proof for every kind by which a row comes in, goes down or is put in its leaf.
 use Rattle.std.proofs.Common.{◌≡◌, ◌≢◌, ℕ, ◌+◌, ◌*◌, ◌<◌, ◌≤◌, Bool, true, false, cond, eqb, List, [], ◌∷◌, ◌++◌, length, Some, None, IsSome, refl, sym, ap, ◌∙◌, subst, inl, arith}
 use mathlib.Core.Path.{fun_ext}
+use Rattle.std.proofs.lemmas.Bool.{false≢true}
 use Rattle.cell_stock.specs.Stock.{cells_of}
 use Rattle.cell_stock.specs.declared.purse.Spare.{Spare}
 use Rattle.dim_hierarchy.specs.declared.row.Row.{Row}
@@ -67,7 +68,7 @@ pub record TreeMoves (s : Setting) (v v2 : View) (g g2 : Ghost) (n c : ℕ) : Ty
   pub way : RowWay
   pub place : RowPlace
   pub was : v.ways n ≡ Some way
-  pub is : v2.ways n ≡ Some (record way { place = place })
+  pub is : v2.ways n ≡ Some (record way { place = place; filled = false })
   pub from : (d y : ℕ) → way.place ≡ AtBlock d y → d ≡ c
   pub is_gate : IsSome (v.gates c)
   pub stands : v.phases c ≢ Some Gone
@@ -97,7 +98,7 @@ module _ (s : Setting) (v v2 : View) (g g2 : Ghost) (n c : ℕ) (other : OtherLa
   used = m.used
 
   abbrev now : RowWay
-  now = record m.way { place = m.place }
+  now = record m.way { place = m.place; filled = false }
 
   -- at the gate, or at another one
   pub by_gate : (P : ℕ → Shape → Type 0) → P c (g2.shape c) → ((d : ℕ) → d ≢ c → P d (g.shape d)) → (d : ℕ) → P d (g2.shape d)
@@ -266,6 +267,9 @@ module _ (s : Setting) (v v2 : View) (g g2 : Ghost) (n c : ℕ) (other : OtherLa
         let old : v.ways a ≡ Some w = sym (m.ways_off a ne) ∙ is in
         let o = i.turning.enough a d y w old p in
         rw (m.purses_off a ne, m.boxes_off a ne, level-kept a d y w old p) o);
+    boxed = λ a w is filled. on_bool (eqb a n)
+        (λ q. absurd (false≢true (ap (λ (u : RowWay). u.filled) (sym (mine-now w (ap v2.ways (sym (eqb-eq _ _ q)) ∙ is))) ∙ filled)))
+        (λ q. let ne = eqb-ne _ _ q in rw (m.purses_off a ne, m.boxes_off a ne) (i.turning.boxed a w (sym (m.ways_off a ne) ∙ is) filled));
     counts = counts;
   }
 

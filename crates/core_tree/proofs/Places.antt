@@ -52,7 +52,7 @@ off-one f r x q ne = rw (eqb-no q r ne) refl
 -- an actor's row goes on to a place past its gate
 pub record Passes (ways ways_now : ℕ → Option RowWay) (n : ℕ) (way : RowWay) (place : RowPlace) : Type 0 where
   pub was : ways n ≡ Some way
-  pub is : ways_now n ≡ Some (record way { place = place })
+  pub is : ways_now n ≡ Some (record way { place = place; filled = false })
   pub off : (a : ℕ) → a ≢ n → ways_now a ≡ ways a
   pub passed : has_passed place ≡ true
 
@@ -175,7 +175,7 @@ module _ (h : List Event) (placed : ℕ → Bool) (home : ℕ → ℕ) (path : �
     -- actors have the rows that they had
     pub nobody-placed : (q : ℕ) → NobodyAt ways q → NobodyAt ways_now q
     nobody-placed q none a w is e = on_bool (eqb a n)
-        (λ k. let its : ◌≡◌ {A = Option RowWay} (Some (record way { place = place })) (Some w) = sym go.is ∙ ap ways_now (sym (eqb-eq _ _ k)) ∙ is in
+        (λ k. let its : ◌≡◌ {A = Option RowWay} (Some (record way { place = place; filled = false })) (Some w) = sym go.is ∙ ap ways_now (sym (eqb-eq _ _ k)) ∙ is in
         let row : way.row.no ≡ w.row.no = cc in none n way go.was (row ∙ e))
         (λ k. none a w (sym (go.off a (eqb-ne _ _ k)) ∙ is) e)
 
@@ -197,8 +197,8 @@ module _ (h : List Event) (placed : ℕ → Bool) (home : ℕ → ℕ) (path : �
       parts = λ server q insert within op is. All-weaker (λ (p : Part). IsRowPart h images ways placed path server q p p.state) (λ (p : Part). IsRowPart h images ways_now placed_now path_now server q p p.state)
           (λ p. part-placed images server q p p.state) (desks server).parts (i.parts server q insert within op is);
       on_way = λ a w is. on_bool (eqb a n)
-          (λ k. let its : ◌≡◌ {A = Option RowWay} (Some (record way { place = place })) (Some w) = sym go.is ∙ ap ways_now (sym (eqb-eq _ _ k)) ∙ is in
-          let w_is : record way { place = place } ≡ w = cc in
+          (λ k. let its : ◌≡◌ {A = Option RowWay} (Some (record way { place = place; filled = false })) (Some w) = sym go.is ∙ ap ways_now (sym (eqb-eq _ _ k)) ∙ is in
+          let w_is : record way { place = place; filled = false } ≡ w = cc in
           let o = i.on_way n way go.was in
           subst (IsOnWay h images placed_now path_now) w_is (record { known = o.known; lead = o.lead; passed = at-one placed r true ∙ sym go.passed; came = λ e. at-one path r way.path }))
           (λ k. let ne = eqb-ne _ _ k in

@@ -1,5 +1,6 @@
 -- A row that isn't carried comes to rest: all rows that are carried stay so, at their blocks and by their actors.
-use Rattle.std.proofs.Common.{◌≡◌, ◌≢◌, ℕ, eqb, Option, Some, refl, sym, ap, ◌∙◌}
+use Rattle.std.proofs.Common.{◌≡◌, ◌≢◌, ℕ, false, eqb, Option, Some, refl, sym, ap, ◌∙◌}
+use Rattle.std.proofs.lemmas.Bool.{false≢true}
 use Rattle.cell_stock.specs.declared.purse.Spare.{Spare}
 use Rattle.dim_hierarchy.specs.declared.row.Row.{Row}
 use Rattle.shard_store.specs.declared.gate.Phase.{Phase}
@@ -15,7 +16,7 @@ use Rattle.core_tree.proofs.Places.{Passes}
 module _ (s : Setting) (ways ways_now : ℕ → Option RowWay) (n : ℕ) (way : RowWay) (go : Passes ways ways_now n way AtRest) (purses : ℕ → List Spare) (boxes : ℕ → ℕ) (phases : ℕ → Option Phase) (active : ℕ → ℕ) (gate : ℕ → ℕ) (shape : ℕ → Shape) (home : ℕ → ℕ)
     (i : Turning s ways purses boxes phases active gate shape home) where
   abbrev rested : RowWay
-  rested = record way { place = AtRest }
+  rested = record way { place = AtRest; filled = false }
 
   mine : (w : RowWay) → ways n ≡ Some w → way ≡ w
   mine w is = (let both : ◌≡◌ {A = Option RowWay} (Some way) (Some w) = sym go.was ∙ is in cc)
@@ -53,6 +54,9 @@ module _ (s : Setting) (ways ways_now : ℕ → Option RowWay) (n : ℕ) (way : 
         let ne : k.0 ≢ n = (λ e. free c k.1 (ap (λ (u : RowWay). u.place) (mine k.2 (ap ways (sym e) ∙ k.3)) ∙ k.5)) in
         (k.0, k.1, k.2, go.off k.0 ne ∙ k.3, k.4, k.5);
     enough = λ a c y w is p. still-on a w is (λ e. let no : AtBlock c y ≡ AtRest = sym p ∙ e in cc) (λ ne was off. i.enough a c y w was p);
+    boxed = λ a w is filled. on_bool (eqb a n)
+        (λ q. absurd (false≢true (ap (λ (u : RowWay). u.filled) (mine-now w (ap ways_now (sym (eqb-eq _ _ q)) ∙ is)) ∙ filled)))
+        (λ q. i.boxed a w (sym (go.off a (eqb-ne _ _ q)) ∙ is) filled);
     counts = counts;
   }
     where

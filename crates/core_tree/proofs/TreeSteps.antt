@@ -9,7 +9,7 @@ use Rattle.tree_shape.specs.Shape.{Shape}
 use Rattle.tree_shape.proofs.Queries.{leb-le, leb-gt}
 use Rattle.tree_shape.proofs.Walks.{on_bool, eqb-eq, eqb-self, eqb-no}
 use Rattle.volap_cell.specs.Cells.{CellValue, block_in, has_block}
-use Rattle.volap_cell.specs.Errands.{RowWay, AtBlock, ReadPart, way_of, taken_of, read_of, place_of, row_way, has_passed}
+use Rattle.volap_cell.specs.Errands.{RowWay, AtBlock, ReadPart, way_of, taken_of, read_of, place_of, row_way, has_passed, is_filled}
 use Rattle.volap_cell.specs.Falls.{left, far, rows_of_way, rows_of_task, rows_of_errand, gates_of_way, gates_of_task, gates_of_errand, gates_of_work, gates_of_part, control_of, of_work, job_left, gone_left, one_if_any, rows_of_part}
 use Rattle.volap_cell.specs.Ghost.{Ghost, Owner, InTree, InPurse}
 use Rattle.volap_cell.specs.Growing.{table_of}
@@ -26,7 +26,7 @@ use Rattle.volap_cell.specs.View.{View, view}
 use Rattle.volap_cell.specs.World.{World, Change, put, after, Agrees}
 use Rattle.volap_cell.specs.declared.errand.RowErrand.{RowErrand}
 use Rattle.volap_cell.specs.declared.errand.Way.{Way}
-use Rattle.volap_cell.specs.declared.errand.Way.TheVariants.{Carried}
+use Rattle.volap_cell.specs.declared.errand.Way.TheVariants.{Before, Carried, Placed, Put}
 use Rattle.volap_cell.specs.declared.kind.Kind.{Kind}
 use Rattle.volap_cell.proofs.Actors.{row-at, taken-is}
 use Rattle.volap_cell.proofs.Ahead.{job-stays}
@@ -97,6 +97,13 @@ pub record TreeStep (s : Setting) (w : World) (n : ℕ) (cs : List Change) (b : 
 
 -- Small facts.
 
+-- a row that has passed its gate is none for which the purse was filled
+passed-unfilled : (w : Way) → has_passed (place_of w) ≡ true → is_filled w ≡ false
+passed-unfilled (Before height filled) e = cc
+passed-unfilled (Carried gate block) e = refl
+passed-unfilled (Put gate) e = refl
+passed-unfilled Placed e = refl
+
 none-of : {A : Type 0} (o : Option A) → ((x : A) → o ≡ Some x → ⊥) → o ≡ None
 none-of None f = refl
 none-of (Some x) f = absurd (f x refl)
@@ -158,7 +165,7 @@ module _ (s : Setting) (w : World) (n : ℕ) (cs : List Change) (b : ActorValue)
     way = way;
     place = place_of t.way;
     was = was;
-    is = ap (λ (a : ActorValue). way_of a.errand) me ∙ ap way_of t.errand;
+    is = ap (λ (a : ActorValue). way_of a.errand) me ∙ ap way_of t.errand ∙ (λ k. Some (record way { place = place_of t.way; filled = passed-unfilled t.way t.passed k }));
     from = λ d y p. let z : AtBlock d y ≡ AtBlock t.gate t.block = sym p ∙ at-block in cc;
     is_gate = here.whole.0;
     stands = here.in_tree.stands;

@@ -15,7 +15,7 @@ use Rattle.mapping_table.specs.declared.place.Where.TheVariants as where_is
 use Rattle.shard_store.specs.declared.gate.Gate.{Gate}
 use Rattle.shard_store.specs.declared.gate.Phase.TheVariants.{Open}
 use Rattle.volap_cell.specs.Cells.{CellValue, BlockCell, GateCell, block_in}
-use Rattle.volap_cell.specs.Errands.{Outside, place_of}
+use Rattle.volap_cell.specs.Errands.{is_filled}
 use Rattle.volap_cell.specs.NewBlocks.{FitsIn, WentIn}
 use Rattle.volap_cell.specs.TreeKinds.{HasRow, IsTailOf, Leads}
 use Rattle.volap_cell.specs.Values.{ActorValue, ErrandValue}
@@ -74,20 +74,19 @@ pub record CanStep (h : List Dimension) (row : Row) (parent child : Block) (tail
   pub few_beneath : row_count (together child.body tail) + 1 < 2 ^ 63
   pub boxed : 2 ≤ boxes
 
--- The actor's row is outside, and the worker's table leads it to the gate in the cell, which is open and for which purse and boxes are
--- enough. The root is held; where it is full the next two blocks of its group are held too, or as many as there are, and the cells of
--- the last two spares.
+-- The actor's purse was filled for its row, and the worker's table leads the row to the gate in the cell, which is open and for which
+-- the purse has enough. The root is held; where it is full the next two blocks of its group are held too, or as many as there are, and
+-- the cells of the last two spares.
 pub record CanEnterTree (h : List Dimension) (map_at : ℕ) (map : CellValue) (gate_at : ℕ) (cell : CellValue) (root_at : ℕ) (root : CellValue) (tail fresh : List Change) (a : ActorValue) : Type 0 where
   pub e : ErrandValue
   pub r : RowErrand
   pub has : HasRow a e r
-  pub outside : place_of r.way ≡ Outside
+  pub filled : is_filled r.way ≡ true
   pub leads : Leads (held map_at map) e.worker e.shard (where_is.Gate gate_at)
   pub gate : Gate
   pub gate_is : cell ≡ GateCell gate
   pub is_open : gate.phase ≡ Open
   pub enough : gate.height + 2 ≤ length a.purse
-  pub boxed : 2 * length a.purse + 1 ≤ a.boxes
   pub root_is : root_at ≡ gate.root
   pub behind : IsTailOf gate.stamp (block_in root) tail
   pub for_new : AreForNew (is_full (block_in root).body) 2 a.purse fresh

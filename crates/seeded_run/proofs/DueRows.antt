@@ -1,6 +1,6 @@
 -- What is known of a row for which a step at a gate or in its tree is due: the gate, the entry by which it goes down, the blocks
 -- behind a head, and the last spares.
-use Rattle.std.proofs.Common.{◌≡◌, ◌≢◌, ◌∙◌, ℕ, zero, suc, ◌+◌, ◌-◌, ◌*◌, ◌≤◌, ◌⊎◌, inl, inr, Bool, true, false, cond, eqb, List, [], ◌∷◌, ◌++◌, length, map, take, drop, Option, Some, None, IsSome, refl, sym, ap, subst, arith}
+use Rattle.std.proofs.Common.{◌≡◌, ◌≢◌, ◌∙◌, ℕ, zero, suc, ◌+◌, ◌-◌, ◌≤◌, ◌⊎◌, inl, inr, Bool, true, false, cond, eqb, List, [], ◌∷◌, ◌++◌, length, map, take, drop, Option, Some, None, IsSome, refl, sym, ap, subst, arith}
 use Rattle.std.specs.Prelude.{◌&&◌, if◌then◌else◌, nat_le, option_and_then}
 use Rattle.std.specs.Option.{option_map_or}
 use Rattle.std.proofs.lemmas.Bool.{cases_lt, leb-true, leb-false}
@@ -90,25 +90,22 @@ closed-phase p e is = (let never : true ≡ false = sym (ap (λ (q : Phase). is_
 pub record MayEnter (gate : Gate) (a : ActorValue) : Type 0 where
   pub is_open : gate.phase ≡ Open
   pub enough : gate.height + 2 ≤ length a.purse
-  pub boxed : 2 * length a.purse + 1 ≤ a.boxes
 
 pub may-enter : (gate : Gate) (a : ActorValue) → may_enter (GateCell gate) a ≡ true → MayEnter gate a
-may-enter gate a = by (is_gate_open (Some gate.phase)) (nat_le (gate.height + 2) (length a.purse)) (nat_le (2 * length a.purse + 1) a.boxes) refl refl refl
+may-enter gate a = by (is_gate_open (Some gate.phase)) (nat_le (gate.height + 2) (length a.purse)) refl refl
   where
-    by : (x y z : Bool) → is_gate_open (Some gate.phase) ≡ x → nat_le (gate.height + 2) (length a.purse) ≡ y → nat_le (2 * length a.purse + 1) a.boxes ≡ z → (x && y && z) ≡ true → MayEnter gate a
-    by true true true p q r may = record { is_open = open-phase gate.phase p; enough = leb-true _ _ q; boxed = leb-true _ _ r }
-    by true true false p q r may = cc
-    by true false z p q r may = cc
-    by false y z p q r may = cc
+    by : (x y : Bool) → is_gate_open (Some gate.phase) ≡ x → nat_le (gate.height + 2) (length a.purse) ≡ y → (x && y) ≡ true → MayEnter gate a
+    by true true p q may = record { is_open = open-phase gate.phase p; enough = leb-true _ _ q }
+    by true false p q may = cc
+    by false y p q may = cc
 
 pub must-queue : (gate : Gate) (a : ActorValue) (height : ℕ) (on : Way) → on ≡ way.Before (Some height) true → may_enter (GateCell gate) a ≡ false → MayQueue gate a on
-must-queue gate a height on is = by (is_gate_open (Some gate.phase)) (nat_le (gate.height + 2) (length a.purse)) (nat_le (2 * length a.purse + 1) a.boxes) refl refl refl
+must-queue gate a height on is = by (is_gate_open (Some gate.phase)) (nat_le (gate.height + 2) (length a.purse)) refl refl
   where
-    by : (x y z : Bool) → is_gate_open (Some gate.phase) ≡ x → nat_le (gate.height + 2) (length a.purse) ≡ y → nat_le (2 * length a.purse + 1) a.boxes ≡ z → (x && y && z) ≡ false → MayQueue gate a on
-    by true true true p q r may = cc
-    by true true false p q r may = inr (inr (leb-false _ _ r), ap is_filled is)
-    by true false z p q r may = inr (inl (leb-false _ _ q), ap is_filled is)
-    by false y z p q r may = inl (closed-phase gate.phase p)
+    by : (x y : Bool) → is_gate_open (Some gate.phase) ≡ x → nat_le (gate.height + 2) (length a.purse) ≡ y → (x && y) ≡ false → MayQueue gate a on
+    by true true p q may = cc
+    by true false p q may = inr (leb-false _ _ q, ap is_filled is)
+    by false y p q may = inl (closed-phase gate.phase p)
 
 -- Directories.
 

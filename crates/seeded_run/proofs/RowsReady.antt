@@ -38,7 +38,7 @@ use Rattle.volap_cell.proofs.Holding.{has-place}
 use Rattle.volap_cell.proofs.Numbers.{tag-map, tag-rest}
 use Rattle.volap_cell.proofs.States.{is-some, stands, within}
 use Rattle.volap_cell.specs.Cells.{CellValue, GateCell, MapOf, OfStock, block_in, gate_shard, has_block, phase_of, tag_of, way_in}
-use Rattle.volap_cell.specs.Errands.{place_of, row_way}
+use Rattle.volap_cell.specs.Errands.{is_filled, place_of, row_way}
 use Rattle.volap_cell.specs.Ghost.{Ghost, AGate, InPurse, InTree, NotOfStock}
 use Rattle.volap_cell.specs.Growing.{table_of}
 use Rattle.volap_cell.specs.Invariant.{InvWith}
@@ -480,13 +480,12 @@ module _ (h : List Dimension) (with : Use) (cells : List (Option Cell)) (actors 
               e = e;
               r = r;
               has = record { errand = errand; row = row };
-              outside = ap place_of way_is;
+              filled = ap is_filled way_is;
               leads = record { table = t.places; was = t.is; leads = t.leads; same = refl };
               gate = the-gate.0;
               gate_is = the-gate.1;
               is_open = enters.is_open;
               enough = enters.enough;
-              boxed = enters.boxed;
               root_is = ap (λ (c : CellValue). (way_in c).root) the-gate.1;
               behind = subst (λ (stamp : ℕ). IsTailOf stamp (block_in (w.cells root)) (lent_as w.cells behind_root)) (ap (λ (c : CellValue). (way_in c).stamp) the-gate.1) root-tail.asked;
               for_new = spares.asked;

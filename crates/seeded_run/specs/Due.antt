@@ -1,7 +1,7 @@
 -- Which kind of step is due for an actor: a function of its fields, of what the streams of the phase still have, and of the cells.
 -- An actor first goes on with the part that it is at, then empties its purse, then goes on with its command, and at last begins the
 -- next one. Where it waits for others none is due, but where it waits for a block, or for a gate's inserts: of that see `can`.
-use Rattle.std.specs.Prelude.{ℕ, zero, suc, ◌+◌, ◌*◌, ◌==◌, ◌&&◌, ◌||◌, Bool, true, false, not, nat_le, Option, Some, None, is_some, is_none, if◌then◌else◌, List, [], ◌∷◌, length, position}
+use Rattle.std.specs.Prelude.{ℕ, zero, suc, ◌+◌, ◌==◌, ◌&&◌, ◌||◌, Bool, true, false, not, nat_le, Option, Some, None, is_some, is_none, if◌then◌else◌, List, [], ◌∷◌, length, position}
 use Rattle.std.specs.List.{list_any}
 use Rattle.dim_hierarchy.specs.Dimension.{Dimension}
 use Rattle.dim_hierarchy.specs.Filter.{picks}
@@ -71,9 +71,9 @@ abbrev pub is_gate_open : Option Phase → Bool
 is_gate_open (Some Open) = true
 is_gate_open _ = false
 
--- the gate is open, and the actor has spares and boxes for every level of its tree
+-- the gate is open, and the actor has spares for every level of its tree
 abbrev pub may_enter : CellValue → ActorValue → Bool
-may_enter gate a = is_gate_open (phase_of gate) && nat_le ((way_in gate).height + 2) (length a.purse) && nat_le (2 * length a.purse + 1) a.boxes
+may_enter gate a = is_gate_open (phase_of gate) && nat_le ((way_in gate).height + 2) (length a.purse)
 
 -- at its gate a row's height is looked up, its purse is filled by that, and it comes in
 abbrev pub gate_kind : CellValue → ActorValue → Option ℕ → Bool → Kind

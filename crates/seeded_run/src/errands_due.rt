@@ -1,5 +1,5 @@
 //! What is due for an actor that is at a part.
-ghost use Rattle.std.specs.Prelude.{◌≡◌, ◌+◌, ◌*◌, [], length, nat_le, option_copied};
+ghost use Rattle.std.specs.Prelude.{◌≡◌, [], option_copied};
 ghost use Rattle.seeded_run.specs.Due.{carry_kind, errand_kind, gate_kind, is_empty, kind_by, led_to, may_enter, placed_kind, read_kind, row_kind};
 ghost use Rattle.seeded_run.specs.Look.{cell_at, setting_by, world_by};
 ghost use Rattle.volap_cell.specs.Cells.{GateCell, block_in};
@@ -32,21 +32,12 @@ pub(crate) fn is_spent(actor: &Actor) -> bool
     actor.purse.len() == 0
 }
 
-/// Whether the actor has boxes for its spares, with one row more: two for each, and one.
-fn has_boxes(actor: &Actor) -> bool
-    ensures { result ≡ nat_le (2 * length (actor_of actor.now).purse + 1) (actor_of actor.now).boxes }
-{
-    let spares = actor.purse.len() as u64;
-    let boxes = actor.boxes.count();
-    spares < boxes && spares < boxes - spares
-}
-
-/// Whether rows come in at the gate, and the actor has spares and boxes for each level of its tree.
+/// Whether rows come in at the gate, and the actor has spares for each level of its tree.
 fn lets_in(gate: &Gate, actor: &Actor) -> bool
     ensures { result ≡ may_enter (GateCell gate.now) (actor_of actor.now) }
 {
     match gate.phase {
-        Phase::Open => u64::from(gate.height) + 2 <= actor.purse.len() as u64 && has_boxes(actor),
+        Phase::Open => u64::from(gate.height) + 2 <= actor.purse.len() as u64,
         Phase::Frozen { .. } | Phase::Gone => false,
     }
 }

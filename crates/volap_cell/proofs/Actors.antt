@@ -2,7 +2,7 @@
 use Rattle.std.proofs.Common.{◌≡◌, ℕ, cond, List, [], Option, Some, None, refl, sym, ap, ◌∙◌}
 use Rattle.cell_stock.specs.declared.purse.Spare.{Spare}
 use Rattle.query_router.specs.declared.part.Want.TheVariants as want
-use Rattle.volap_cell.specs.Errands.{taken_of, way_of, read_of, want_of, way_in_task, read_in_task, place_of, row_way}
+use Rattle.volap_cell.specs.Errands.{taken_of, way_of, read_of, want_of, way_in_task, read_in_task, place_of, is_filled, row_way}
 use Rattle.volap_cell.specs.TreeKinds.{HasRow, on_way, with_reading}
 use Rattle.volap_cell.specs.Values.{ActorValue, ErrandValue, ReadingValue, TaskValue, OfRow, Read}
 use Rattle.volap_cell.specs.declared.errand.RowErrand.{RowErrand}
@@ -42,9 +42,9 @@ row-taken {r} way has = taken-stays (OfRow (record r { way = way })) has.errand 
 pub row-reads : {a : ActorValue} {e : ErrandValue} {r : RowErrand} (way : Way) → HasRow a e r → read_of (on_way e r way) ≡ read_of a.errand
 row-reads way has = sym (read-is has.errand has.row)
 
--- a row that is at the same place
-pub row-stays : {a : ActorValue} {e : ErrandValue} {r : RowErrand} (way : Way) → HasRow a e r → place_of way ≡ place_of r.way → way_of (on_way e r way) ≡ way_of a.errand
-row-stays {e} {r} way has same = (λ k. Some (record (row_way e r) { place = same k })) ∙ sym (row-at has)
+-- a row that is at the same place, with its purse filled or not as before
+pub row-stays : {a : ActorValue} {e : ErrandValue} {r : RowErrand} (way : Way) → HasRow a e r → place_of way ≡ place_of r.way → is_filled way ≡ is_filled r.way → way_of (on_way e r way) ≡ way_of a.errand
+row-stays {e} {r} way has same filled = (λ k. Some (record (row_way e r) { place = same k; filled = filled k })) ∙ sym (row-at has)
 
 -- A row comes on, with what it uses of the purse and the boxes. Of what is touched nothing is asked, and `refl` says that.
 pub row-moved : (t : Touched) {a b : ActorValue} {e : ErrandValue} {r : RowErrand} {way : Way} {purse : List Spare} {boxes : ℕ} → b ≡ record a { purse = purse; boxes = boxes; errand = on_way e r way } → HasRow a e r

@@ -46,6 +46,7 @@ module _ (s : Setting) (w : World) (set : IsSetting s) (o : IsOpening s w) where
     in_leaf = λ a c m is at. no-way s w set o a m is;
     carried = λ c r some placed. absurd (false≢true (sym (none-there s w set o c r) ∙ placed));
     enough = λ a c y m is at. no-way s w set o a m is;
+    boxed = λ a m is filled. no-way s w set o a m is;
     counts = λ c. (quiet s w set o c).active ∙ sym (sum-none (actor_count s) (λ a. inside_of c (vs.ways a)) (λ a. ap (inside_of c) (way-none s w set o a)));
   }
 

@@ -6,7 +6,7 @@ use Rattle.query_router.specs.declared.part.Part.{Part}
 use Rattle.shard_store.specs.declared.gate.Gate.{Gate}
 use Rattle.tree_shape.proofs.Parts.{each-append}
 use Rattle.volap_cell.specs.Cells.{GateCell}
-use Rattle.volap_cell.specs.Errands.{place_of}
+use Rattle.volap_cell.specs.Errands.{is_filled, place_of}
 use Rattle.volap_cell.specs.Setting.{Setting}
 use Rattle.volap_cell.specs.ShardKinds.{DoesTakePart, NotesHeight, ReadsLoad, DoesForward, DoesExpand, DoesFinishPart, PutsOne, PutsChildren, Unpins, pin_of}
 use Rattle.volap_cell.specs.Values.{ActorValue, ErrandValue, TaskValue, OfRow, Unread, Read}
@@ -90,7 +90,7 @@ view-note_height s w n m g a b agrees d =
     let known = way.Before (Some d.gate.height) d.filled in
     view-step nothing s w (m ∷ g ∷ []) n a b agrees
     (ap (beside nothing) d.leads.same, (turned (beside nothing) g (GateCell d.gate) (GateCell d.gate) d.same.was d.same.is refl, tt))
-    (row-moved nothing {purse = a.purse} {boxes = a.boxes} d.actor_is d.has (row-stays known d.has (sym (ap place_of d.unknown))) refl refl)
+    (row-moved nothing {purse = a.purse} {boxes = a.boxes} d.actor_is d.has (row-stays known d.has (sym (ap place_of d.unknown)) (sym (ap is_filled d.unknown))) refl refl)
 
 abbrev pub by_load : Touched
 by_load = record nothing { commands = true; jobs = true }

@@ -1,5 +1,5 @@
 -- The view after the steps of rows and queries at gates and blocks: the fields that each touches, and no other.
-use Rattle.std.proofs.Common.{◌≡◌, ℕ, ◌+◌, true, List, [], ◌∷◌, ◌++◌, Some, inl, inr, refl, sym, ap, subst}
+use Rattle.std.proofs.Common.{◌≡◌, ℕ, ◌+◌, true, List, [], ◌∷◌, ◌++◌, inl, inr, refl, sym, ap, subst}
 use Rattle.dim_hierarchy.specs.Dimension.{Dimension}
 use Rattle.dim_hierarchy.specs.declared.row.Row.{Row}
 use Rattle.dc_node.specs.declared.block.Block.{Block}
@@ -9,19 +9,16 @@ use Rattle.link_descent.specs.declared.entered.Entered.{Entered}
 use Rattle.shard_store.specs.declared.gate.Gate.{Gate}
 use Rattle.tree_shape.specs.Counts.{Each}
 use Rattle.volap_cell.specs.Cells.{GateCell, StockCell}
-use Rattle.volap_cell.specs.Errands.{place_of, height_of, Outside}
 use Rattle.volap_cell.specs.Setting.{Setting}
 use Rattle.volap_cell.specs.TreeKinds.{DoesGateRead, DoesBlockVisit, DoesEnterTree, DoesEnterQueue, DoesDown, DoesPutInLeaf, DoesLeaveTree, DoesRefill, blocks_of}
 use Rattle.volap_cell.specs.Values.{ActorValue}
 use Rattle.volap_cell.specs.View.{view}
 use Rattle.volap_cell.specs.World.{World, Change, Agrees, after}
-use Rattle.volap_cell.specs.declared.errand.Way.{Way}
-use Rattle.volap_cell.specs.declared.errand.Way.TheVariants as way
 use Rattle.volap_cell.proofs.Frames.{Same}
 use Rattle.volap_cell.proofs.Seen.{Touched, nothing, beside, actor_beside, renewed}
 use Rattle.tree_shape.proofs.Parts.{each-append}
 use Rattle.volap_cell.proofs.Touches.{IsBlank, turned, turned-block, tail-read, all-read, others-blocks}
-use Rattle.volap_cell.proofs.Actors.{row-moved, row-stays, query-read}
+use Rattle.volap_cell.proofs.Actors.{row-moved, query-read}
 use Rattle.volap_cell.proofs.Views.{view-step}
 
 -- Queries.
@@ -124,14 +121,7 @@ view-leave_tree s w n g a b agrees d =
 -- Purses.
 
 abbrev pub by_refill : Touched
-by_refill = record nothing { stock = true; purses = true; boxes = true }
-
--- a row of which the height was looked up is outside
-pub noted-outside : (w : Way) (height : ℕ) → height_of w ≡ Some height → place_of w ≡ Outside
-noted-outside (way.Before known filled) height e = refl
-noted-outside (way.Carried gate block) height e = cc
-noted-outside (way.Put gate) height e = cc
-noted-outside way.Placed height e = cc
+by_refill = record nothing { stock = true; purses = true; boxes = true; ways = true }
 
 pub view-refill : (s : Setting) (w : World) (n : ℕ) (c : Change) (a b : ActorValue) → Agrees w (c ∷ []) n a → DoesRefill c a b
     → view s (after w (c ∷ []) n b) ≡ renewed by_refill (view s (after w (c ∷ []) n b)) (view s w)
@@ -140,7 +130,6 @@ view-refill s w n c a b agrees d =
     view-step t s w (c ∷ []) n a b agrees
     (turned (beside t) c (StockCell d.stock) (StockCell d.stock_now) d.was d.is refl, tt)
     (elim d.does [
-      | inl filled ↦ (let (height, f) = filled in
-          row-moved t f.actor_is f.has (row-stays (way.Before (Some height) true) f.has (sym (noted-outside f.r.way height f.noted))) refl refl)
+      | inl filled ↦ row-moved t filled.1.actor_is filled.1.has refl refl refl
       | inr emptied ↦ ap (actor_beside t) emptied.actor_is
     ])

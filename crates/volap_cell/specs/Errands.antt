@@ -26,7 +26,7 @@ taken_by e = record { server = e.server; shard = e.shard; worker = e.worker; wan
 abbrev pub taken_of : Option ErrandValue → Option Taken
 taken_of errand = option_map taken_by errand
 
--- How far a row has come. What was looked up and filled before its gate isn't seen.
+-- How far a row has come. What was looked up before its gate isn't seen.
 pub data RowPlace : Type 0 where
   Outside : RowPlace
   AtBlock : ℕ → ℕ → RowPlace
@@ -58,16 +58,17 @@ height_in_task (Read r) = None
 abbrev pub height_to_fill : Option ErrandValue → Option ℕ
 height_to_fill errand = option_and_then (λ (e : ErrandValue). height_in_task e.task) errand
 
--- a row on its way: the row, its part's shard, the shards by which it came, and its place
+-- a row on its way: the row, its part's shard, the shards by which it came, its place, and whether the purse was filled for it
 pub record RowWay : Type 0 where
   pub row : Row
   pub server : ℕ
   pub shard : ℕ
   pub path : List ℕ
   pub place : RowPlace
+  pub filled : Bool
 
 abbrev pub row_way : ErrandValue → RowErrand → RowWay
-row_way e r = record { row = r.row; server = e.server; shard = e.shard; path = r.path; place = place_of r.way }
+row_way e r = record { row = r.row; server = e.server; shard = e.shard; path = r.path; place = place_of r.way; filled = is_filled r.way }
 
 abbrev pub way_in_task : ErrandValue → TaskValue → Option RowWay
 way_in_task e (OfRow r) = Some (row_way e r)

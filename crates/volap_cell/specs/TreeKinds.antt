@@ -152,18 +152,17 @@ pub record DoesBlockVisit (h : List Dimension) (c : Change) (a b : ActorValue) :
 
 -- Rows.
 
--- The row comes in at the open gate, for which the purse has enough, with boxes for all of it; the insert is counted there. It is carried at the root's
--- head, or at a new root. A cell that is held for a new root stays as it is where the root is only halved.
+-- The row comes in at the open gate, for which the purse was filled and has enough; the insert is counted there. It is carried at
+-- the root's head, or at a new root. A cell that is held for a new root stays as it is where the root is only halved.
 pub record DoesEnterTree (h : List Dimension) (m g root : Change) (others : List Change) (a b : ActorValue) : Type 0 where
   pub e : ErrandValue
   pub r : RowErrand
   pub has : HasRow a e r
-  pub outside : place_of r.way ≡ Outside
+  pub filled : is_filled r.way ≡ true
   pub leads : Leads m e.worker e.shard (where_is.Gate g.number)
   pub gate : Gate
   pub is_open : gate.phase ≡ Open
   pub enough : gate.height + 2 ≤ length a.purse
-  pub boxed : 2 * length a.purse + 1 ≤ a.boxes
   pub root_is : root.number ≡ gate.root
   pub head : Block
   pub head_now : Block
@@ -185,9 +184,9 @@ pub record DoesEnterTree (h : List Dimension) (m g root : Change) (others : List
   pub boxes : a.boxes ≤ b.boxes + 2 * length fresh
   pub actor_is : b ≡ record a { purse = purse_now.spares; boxes = b.boxes; errand = on_way e r (Carried g.number entered.at) }
 
--- why a row goes to the queue: the gate isn't open, or a purse that was filled for this part hasn't enough, or not the boxes
+-- why a row goes to the queue: the gate isn't open, or a purse that was filled for this part hasn't enough
 abbrev pub MayQueue : Gate → ActorValue → Way → Type 0
-MayQueue gate a way = (gate.phase ≢ Open) ⊎ (((length a.purse < gate.height + 2) ⊎ (a.boxes < 2 * length a.purse + 1)) × (is_filled way ≡ true))
+MayQueue gate a way = (gate.phase ≢ Open) ⊎ ((length a.purse < gate.height + 2) × (is_filled way ≡ true))
 
 -- the row is last in the queue of its shard's gate
 pub record DoesEnterQueue (h : List Dimension) (m g : Change) (a b : ActorValue) : Type 0 where

@@ -26,7 +26,8 @@ pub record IsIn (phases : ℕ → Option Phase) (gate : ℕ → ℕ) (shape : �
   pub placed : (shape c).placed w.row.no ≡ true
 
 -- An actor carries a row of a tree for each row that the tree's shape says is carried, at its block, and has a spare for each
--- level that the row may still go down, with the boxes for them; and a gate counts the inserts in its tree.
+-- level that the row may still go down, with the boxes for them. For a row that is to come in it has the boxes for all its spares,
+-- once its purse was filled for that. A gate counts the inserts in its tree.
 pub record Turning (s : Setting) (ways : ℕ → Option RowWay) (purses : ℕ → List Spare) (boxes : ℕ → ℕ) (phases : ℕ → Option Phase) (active : ℕ → ℕ) (gate : ℕ → ℕ) (shape : ℕ → Shape) (home : ℕ → ℕ) : Type 0 where
   pub one : (a b : ℕ) (w v : RowWay) → ways a ≡ Some w → ways b ≡ Some v → w.row.no ≡ v.row.no → a ≡ b
   pub carrying : (a c y : ℕ) (w : RowWay) → ways a ≡ Some w → w.place ≡ AtBlock c y → IsIn phases gate shape home w c × ((shape c).carried w.row.no ≡ true) × ((shape c).at w.row.no ≡ y)
@@ -34,4 +35,5 @@ pub record Turning (s : Setting) (ways : ℕ → Option RowWay) (purses : ℕ �
   pub carried : (c r : ℕ) → phases c ≢ None → (shape c).placed r ≡ true → (shape c).carried r ≡ true
       → (a : ℕ) × (y : ℕ) × (w : RowWay) × (ways a ≡ Some w) × (w.row.no ≡ r) × (w.place ≡ AtBlock c y)
   pub enough : (a c y : ℕ) (w : RowWay) → ways a ≡ Some w → w.place ≡ AtBlock c y → ((shape c).level y ≤ length (purses a)) × (2 * length (purses a) + 1 ≤ boxes a)
+  pub boxed : (a : ℕ) (w : RowWay) → ways a ≡ Some w → w.filled ≡ true → 2 * length (purses a) + 1 ≤ boxes a
   pub counts : (c : ℕ) → active c ≡ sum_below (actor_count s) (λ a. inside_of c (ways a))
