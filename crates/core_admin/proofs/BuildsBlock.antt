@@ -381,7 +381,7 @@ is-building at a job due has =
     by (stage_is.Building b) e = (b, refl)
     by stage_is.Called e = cc
     by (stage_is.Declined why) e = cc
-    by (stage_is.Frozen f) e = cc
+    by (stage_is.Frozen f room) e = cc
     by (stage_is.Collecting x) e = cc
 
 -- what it did, where it was given the cell of the block that is next

@@ -48,7 +48,7 @@ nothing-spent stock = record {
 pub none-spent : (stock : StockValue) (stage : Stage) → ((b : Building) → stage ≡ stage_is.Building b → ⊥) → GivesSpent stock stock (spent_in (stage_of stage))
 none-spent stock stage_is.Called never = nothing-spent stock
 none-spent stock (stage_is.Declined why) never = nothing-spent stock
-none-spent stock (stage_is.Frozen f) never = nothing-spent stock
+none-spent stock (stage_is.Frozen f room) never = nothing-spent stock
 none-spent stock (stage_is.Collecting c) never = nothing-spent stock
 none-spent stock (stage_is.Building b) never = absurd (never b refl)
 

@@ -31,7 +31,7 @@ pub fn collect_block(
     requires here { IsHere h.now (held at (cell_of cell.old) ∷ []) (actor_of actor.old) }
     requires due { CanCollectBlock at (actor_of actor.old) }
     ensures made { OnOk result (Makes h.now Collect (change at (cell_of cell.old) (cell_of cell.new) ∷ []) (actor_of actor.old) (actor_of actor.new)) }
-    ensures refused { OnErr result ((cell_of cell.new ≡ cell_of cell.old) × (actor_of actor.new ≡ actor_of actor.old)) }
+    ensures refused { OnErr result ((cell.new ≡ cell.old) × (actor_of actor.new ≡ actor_of actor.old)) }
 {
     let _ = h;
     let _ = at;
@@ -183,7 +183,7 @@ pub fn collect_row(
     requires here { IsHere h.now (held gate_at (cell_of gate.old) ∷ []) (actor_of actor.old) }
     requires due { CanCollectRow gate_at (cell_of gate.old) (actor_of actor.old) }
     ensures made { OnOk result (Makes h.now Collect (change gate_at (cell_of gate.old) (cell_of gate.new) ∷ []) (actor_of actor.old) (actor_of actor.new)) }
-    ensures refused { OnErr result ((cell_of gate.new ≡ cell_of gate.old) × (actor_of actor.new ≡ actor_of actor.old)) }
+    ensures refused { OnErr result ((gate.new ≡ gate.old) × (actor_of actor.new ≡ actor_of actor.old)) }
 {
     let _ = h;
     let _ = gate_at;

@@ -60,9 +60,9 @@ pub fn finish_move(
         ∷ change new_at (cell_of new.old) (cell_of new.new) ∷ change registry_at (cell_of registry.old) (cell_of registry.new)
         ∷ change stock_at (cell_of stock.old) (cell_of stock.new) ∷ change ledger_at (cell_of ledger.old) (cell_of ledger.new) ∷ [])
         (actor_of actor.old) (actor_of actor.new)) }
-    ensures refused { OnErr result ((cell_of from.new ≡ cell_of from.old) × (cell_of to.new ≡ cell_of to.old) × (cell_of gate.new ≡ cell_of gate.old)
-        × (cell_of new.new ≡ cell_of new.old) × (cell_of registry.new ≡ cell_of registry.old) × (cell_of stock.new ≡ cell_of stock.old)
-        × (cell_of ledger.new ≡ cell_of ledger.old) × (actor_of actor.new ≡ actor_of actor.old)) }
+    ensures refused { OnErr result ((from.new ≡ from.old) × (to.new ≡ to.old) × (gate.new ≡ gate.old)
+        × (new.new ≡ new.old) × (registry.new ≡ registry.old) × (stock.new ≡ stock.old)
+        × (ledger.new ≡ ledger.old) × (actor_of actor.new ≡ actor_of actor.old)) }
 {
     frame_law();
     collect_laws();
@@ -122,8 +122,8 @@ pub fn finish_here(
         ∷ change registry_at (cell_of registry.old) (cell_of registry.new) ∷ change stock_at (cell_of stock.old) (cell_of stock.new)
         ∷ change ledger_at (cell_of ledger.old) (cell_of ledger.new) ∷ [])
         (actor_of actor.old) (actor_of actor.new)) }
-    ensures refused { OnErr result ((cell_of table.new ≡ cell_of table.old) × (cell_of gate.new ≡ cell_of gate.old) × (cell_of new.new ≡ cell_of new.old)
-        × (cell_of registry.new ≡ cell_of registry.old) × (cell_of stock.new ≡ cell_of stock.old) × (cell_of ledger.new ≡ cell_of ledger.old)
+    ensures refused { OnErr result ((table.new ≡ table.old) × (gate.new ≡ gate.old) × (new.new ≡ new.old)
+        × (registry.new ≡ registry.old) × (stock.new ≡ stock.old) × (ledger.new ≡ ledger.old)
         × (actor_of actor.new ≡ actor_of actor.old)) }
 {
     frame_law();

@@ -9,23 +9,25 @@ ghost use Rattle.volap_cell.specs.World.{change, held};
 ghost use Rattle.volap_cell.specs.declared.kind.Kind.TheVariants.{Drained, Freeze};
 
 use cell_stock::{Purse, Stock};
-use dc_node::{Item, Todo};
+use dc_node::Item;
 use describing_set::{DescSet, Plane, plane_of};
 use dim_hierarchy::Hierarchy;
 use row_ledger::Decline;
 use shard_plan::{cells_for, split_need};
 use shard_store::{CellList, Gate, RowList};
 use std::alloc::{AllocError, Global};
+use std::mem;
 use tree_shape::{collect_laws, tree_laws};
-use volap_cell::{Actor, Cell, Collecting, Frozen, Job, Stage};
+use volap_cell::{Actor, Cell, Collecting, Frozen, Job, NoteRoom, Stage};
 
 /// So many stamps there are.
 const STAMPS: u64 = 1 << 63;
 
 /// Freezes the shard of the actor's job, anew where it is frozen already: its inserts go to the queue from
 /// then on, and the cells that the job needs are in the purse. Declines a split of rows that have one
-/// place, and then a job for which there are fewer cells than it needs. The room in the purse is made
-/// first; where memory is wanting for it, or no stamps are left, nothing changes.
+/// place, and then a job for which there are fewer cells than it needs. The room for the note of the root
+/// is taken first, and the room in the purse; where memory is wanting for these, or no stamps are left,
+/// nothing changes.
 pub fn freeze(
     alloc: Global,
     h: &Hierarchy,
@@ -42,10 +44,9 @@ pub fn freeze(
     ensures made { OnOk result (Makes h.now Freeze
         (change map_at (cell_of map.old) (cell_of map.new) ∷ change gate_at (cell_of gate.old) (cell_of gate.new) ∷ change stock_at (cell_of stock.old) (cell_of stock.new) ∷ [])
         (actor_of actor.old) (actor_of actor.new)) }
-    ensures refused { OnErr result ((cell_of map.new ≡ cell_of map.old) × (cell_of gate.new ≡ cell_of gate.old) × (cell_of stock.new ≡ cell_of stock.old)
+    ensures refused { OnErr result ((map.new ≡ map.old) × (gate.new ≡ gate.old) × (stock.new ≡ stock.old)
         × (actor_of actor.new ≡ actor_of actor.old)) }
 {
-    let _ = alloc;
     let _ = map_at;
     let _ = map;
     let _ = stock_at;
@@ -59,11 +60,12 @@ pub fn freeze(
     let Cell::Stock(stock) = stock else {
         unreachable!()
     };
-    freeze_for(h, gate_at, gate, stock, &mut actor.purse, job)
+    freeze_for(alloc, h, gate_at, gate, stock, &mut actor.purse, job)
 }
 
 /// Looks whether the rows of tree and queue can be divided as the job needs it.
 fn freeze_for(
+    alloc: Global,
     h: &Hierarchy,
     gate_at: u32,
     gate: &mut Gate,
@@ -80,11 +82,12 @@ fn freeze_for(
         decline(job, Decline::OnePlace);
         return Ok(());
     };
-    freeze_or(h, gate_at, plane, gate, stock, purse, job)
+    freeze_or(alloc, h, gate_at, plane, gate, stock, purse, job)
 }
 
-/// Looks whether there are enough cells, takes these, and freezes the gate.
+/// Looks whether there are enough cells, takes these, and freezes the gate. What can fail comes first.
 fn freeze_or(
+    alloc: Global,
     h: &Hierarchy,
     gate_at: u32,
     plane: Option<Plane>,
@@ -105,13 +108,15 @@ fn freeze_or(
         decline(job, Decline::NoCell { need, free });
         return Ok(());
     }
+    let room = NoteRoom::new(alloc)?;
     take(need, stock, purse)?;
     gate.freeze();
-    job.stage = Stage::Frozen(Frozen {
+    let frozen = Frozen {
         gate: gate_at,
         plane,
         rows,
-    });
+    };
+    job.stage = Stage::Frozen(frozen, room);
     Ok(())
 }
 
@@ -172,19 +177,13 @@ fn take(n: u64, stock: &mut Stock, purse: &mut Purse) -> Result<(), AllocError>
     Ok(())
 }
 
-/// Goes on to collect the rows of the frozen shard, in whose tree no insert is any more. The root is
-/// noted, and that takes memory.
-pub fn drained(
-    alloc: Global,
-    h: &Hierarchy,
-    gate_at: u32,
-    gate: &mut Cell,
-    actor: &mut Actor,
-) -> Result<(), AllocError>
+/// Goes on to collect the rows of the frozen shard, in whose tree no insert is any more. The root is noted,
+/// in the room that was taken for that when the shard was frozen. Takes no memory; the allocator is that of
+/// the lists of what is collected.
+pub fn drained(alloc: Global, h: &Hierarchy, gate_at: u32, gate: &mut Cell, actor: &mut Actor)
     requires here { IsHere h.now (held gate_at (cell_of gate.old) ∷ []) (actor_of actor.old) }
     requires due { CanDrain gate_at (cell_of gate.old) (actor_of actor.old) }
-    ensures made { OnOk result (Makes h.now Drained (change gate_at (cell_of gate.old) (cell_of gate.new) ∷ []) (actor_of actor.old) (actor_of actor.new)) }
-    ensures refused { OnErr result ((cell_of gate.new ≡ cell_of gate.old) × (actor_of actor.new ≡ actor_of actor.old)) }
+    ensures made { Makes h.now Drained (change gate_at (cell_of gate.old) (cell_of gate.new) ∷ []) (actor_of actor.old) (actor_of actor.new) }
 {
     let _ = h;
     let _ = gate_at;
@@ -195,32 +194,28 @@ pub fn drained(
     let Cell::Gate(gate) = &*gate else {
         unreachable!()
     };
-    begin_collecting(alloc, gate, job)
+    begin_collecting(alloc, gate, job);
 }
 
-/// Nothing is collected yet, and the gate's root is noted.
-fn begin_collecting(alloc: Global, gate: &Gate, job: &mut Job) -> Result<(), AllocError>
+/// Nothing is collected yet, and the gate's root is noted. Takes no memory.
+fn begin_collecting(alloc: Global, gate: &Gate, job: &mut Job)
     requires frozen { IsFrozenJob (job_of job.old) }
-    ensures made { OnOk result (BeginsCollecting gate.now (job_of job.old) (job_of job.new)) }
-    ensures refused { OnErr result (job_of job.new ≡ job_of job.old) }
+    ensures { BeginsCollecting gate.now (job_of job.old) (job_of job.new) }
 {
-    let Stage::Frozen(frozen) = &job.stage else {
+    let Stage::Frozen(frozen, room) = mem::replace(&mut job.stage, Stage::Called) else {
         unreachable!()
     };
-    let mut todo = Todo::new(alloc);
-    todo.reserve(1)?;
-    todo.push(Item {
+    let root = Item {
         cell: gate.root,
         stamp: gate.stamp,
-    });
+    };
     job.stage = Stage::Collecting(Collecting {
-        frozen: copy_of(frozen),
-        todo,
+        frozen,
+        todo: room.note(root),
         read: CellList::new(alloc),
         queued: 0,
         rows: RowList::new(alloc),
     });
-    Ok(())
 }
 
 /// The same findings, without taking memory.

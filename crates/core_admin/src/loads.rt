@@ -38,7 +38,7 @@ pub fn read_load(
     ensures made { OnOk result (Makes h.now LookUp
         (change map_at (cell_of map.old) (cell_of map.new) ∷ change gate_at (cell_of gate.old) (cell_of gate.new) ∷ [])
         (actor_of actor.old) (actor_of actor.new)) }
-    ensures refused { OnErr result ((cell_of map.new ≡ cell_of map.old) × (cell_of gate.new ≡ cell_of gate.old) × (actor_of actor.new ≡ actor_of actor.old)) }
+    ensures refused { OnErr result ((map.new ≡ map.old) × (gate.new ≡ gate.old) × (actor_of actor.new ≡ actor_of actor.old)) }
 {
     let _ = h;
     let _ = map_at;

@@ -62,9 +62,9 @@ pub fn finish_split(
         ∷ change right_at (cell_of right.old) (cell_of right.new) ∷ change registry_at (cell_of registry.old) (cell_of registry.new)
         ∷ change stock_at (cell_of stock.old) (cell_of stock.new) ∷ change ledger_at (cell_of ledger.old) (cell_of ledger.new) ∷ [])
         (actor_of actor.old) (actor_of actor.new)) }
-    ensures refused { OnErr result ((cell_of table.new ≡ cell_of table.old) × (cell_of gate.new ≡ cell_of gate.old) × (cell_of left.new ≡ cell_of left.old)
-        × (cell_of right.new ≡ cell_of right.old) × (cell_of registry.new ≡ cell_of registry.old) × (cell_of stock.new ≡ cell_of stock.old)
-        × (cell_of ledger.new ≡ cell_of ledger.old) × (actor_of actor.new ≡ actor_of actor.old)) }
+    ensures refused { OnErr result ((table.new ≡ table.old) × (gate.new ≡ gate.old) × (left.new ≡ left.old)
+        × (right.new ≡ right.old) × (registry.new ≡ registry.old) × (stock.new ≡ stock.old)
+        × (ledger.new ≡ ledger.old) × (actor_of actor.new ≡ actor_of actor.old)) }
 {
     frame_law();
     collect_laws();

@@ -41,7 +41,7 @@ pub fn build_trees(
     requires here { IsHere h.now (held gate_at (cell_of gate.old) ∷ []) (actor_of actor.old) }
     requires due { CanBuildTrees gate_at (cell_of gate.old) (actor_of actor.old) }
     ensures made { OnOk result (Makes h.now Collect (change gate_at (cell_of gate.old) (cell_of gate.new) ∷ []) (actor_of actor.old) (actor_of actor.new)) }
-    ensures refused { OnErr result ((cell_of gate.new ≡ cell_of gate.old) × (actor_of actor.new ≡ actor_of actor.old)) }
+    ensures refused { OnErr result ((gate.new ≡ gate.old) × (actor_of actor.new ≡ actor_of actor.old)) }
 {
     let _ = gate_at;
     let _ = gate;

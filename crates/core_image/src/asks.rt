@@ -39,7 +39,7 @@ pub fn note_asking(
         (change registry_at (cell_of registry.old) (cell_of registry.new) ∷ change ledger_at (cell_of ledger.old) (cell_of ledger.new) ∷ [])
         (actor_of actor.old) (actor_of actor.new)) }
     ensures told { OnOk result (Tells (called_by call) (actor_of actor.old) (cell_of ledger.old) (cell_of ledger.new)) }
-    ensures refused { OnErr result ((cell_of registry.new ≡ cell_of registry.old) × (cell_of ledger.new ≡ cell_of ledger.old) × (actor_of actor.new ≡ actor_of actor.old)) }
+    ensures refused { OnErr result ((registry.new ≡ registry.old) × (ledger.new ≡ ledger.old) × (actor_of actor.new ≡ actor_of actor.old)) }
 {
     let _ = h;
     let Cell::Registry(registry) = registry else {

@@ -35,7 +35,7 @@ pub fn begin_insert(
         (change image_at (cell_of image.old) (cell_of image.new) ∷ change ledger_at (cell_of ledger.old) (cell_of ledger.new) ∷ [])
         (actor_of actor.old) (actor_of actor.new)) }
     ensures told { OnOk result (Tells (begun_by at measure) (actor_of actor.old) (cell_of ledger.old) (cell_of ledger.new)) }
-    ensures refused { OnErr result ((cell_of image.new ≡ cell_of image.old) × (cell_of ledger.new ≡ cell_of ledger.old) × (actor_of actor.new ≡ actor_of actor.old)) }
+    ensures refused { OnErr result ((image.new ≡ image.old) × (ledger.new ≡ ledger.old) × (actor_of actor.new ≡ actor_of actor.old)) }
 {
     let _ = alloc;
     let _ = h;

@@ -31,7 +31,7 @@ pub fn note_called(
     requires due { CanNoteCalled call (cell_of ledger.old) (actor_of actor.old) }
     ensures made { OnOk result (Makes h.now Note (change ledger_at (cell_of ledger.old) (cell_of ledger.new) ∷ []) (actor_of actor.old) (actor_of actor.new)) }
     ensures told { OnOk result (Tells (called_by call) (actor_of actor.old) (cell_of ledger.old) (cell_of ledger.new)) }
-    ensures refused { OnErr result ((cell_of ledger.new ≡ cell_of ledger.old) × (actor_of actor.new ≡ actor_of actor.old)) }
+    ensures refused { OnErr result ((ledger.new ≡ ledger.old) × (actor_of actor.new ≡ actor_of actor.old)) }
 {
     let _ = h;
     let Cell::Ledger(ledger) = ledger else {

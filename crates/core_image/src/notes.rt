@@ -27,7 +27,7 @@ pub fn note_unknown(
     requires due { CanNoteUnknown (cell_of ledger.old) (actor_of actor.old) }
     ensures made { OnOk result (Makes h.now Note (change ledger_at (cell_of ledger.old) (cell_of ledger.new) ∷ []) (actor_of actor.old) (actor_of actor.new)) }
     ensures told { OnOk result (Tells (unknown_by dim) (actor_of actor.old) (cell_of ledger.old) (cell_of ledger.new)) }
-    ensures refused { OnErr result ((cell_of ledger.new ≡ cell_of ledger.old) × (actor_of actor.new ≡ actor_of actor.old)) }
+    ensures refused { OnErr result ((ledger.new ≡ ledger.old) × (actor_of actor.new ≡ actor_of actor.old)) }
 {
     let _ = h;
     let Cell::Ledger(ledger) = ledger else {
@@ -53,7 +53,7 @@ pub fn note_refused(
     requires due { CanNoteRefused (cell_of ledger.old) (actor_of actor.old) }
     ensures made { OnOk result (Makes h.now Note (change ledger_at (cell_of ledger.old) (cell_of ledger.new) ∷ []) (actor_of actor.old) (actor_of actor.new)) }
     ensures told { OnOk result (Tells refused_by (actor_of actor.old) (cell_of ledger.old) (cell_of ledger.new)) }
-    ensures refused { OnErr result ((cell_of ledger.new ≡ cell_of ledger.old) × (actor_of actor.new ≡ actor_of actor.old)) }
+    ensures refused { OnErr result ((ledger.new ≡ ledger.old) × (actor_of actor.new ≡ actor_of actor.old)) }
 {
     let _ = h;
     let Cell::Ledger(ledger) = ledger else {

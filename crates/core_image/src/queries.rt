@@ -42,8 +42,8 @@ pub fn begin_query(
         ∷ change ledger_at (cell_of ledger.old) (cell_of ledger.new) ∷ [])
         (actor_of actor.old) (actor_of actor.new)) }
     ensures told { OnOk result (Tells (asked_by filter) (actor_of actor.old) (cell_of ledger.old) (cell_of ledger.new)) }
-    ensures refused { OnErr result ((cell_of desk.new ≡ cell_of desk.old) × (cell_of image.new ≡ cell_of image.old)
-        × (cell_of ledger.new ≡ cell_of ledger.old) × (actor_of actor.new ≡ actor_of actor.old)) }
+    ensures refused { OnErr result ((desk.new ≡ desk.old) × (image.new ≡ image.old)
+        × (ledger.new ≡ ledger.old) × (actor_of actor.new ≡ actor_of actor.old)) }
 {
     let Cell::Desk { server, desk } = desk else {
         unreachable!()

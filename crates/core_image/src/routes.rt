@@ -33,7 +33,7 @@ pub fn route(
     ensures made { OnOk result (Makes h.now Route
         (change desk_at (cell_of desk.old) (cell_of desk.new) ∷ change image_at (cell_of image.old) (cell_of image.new) ∷ [])
         (actor_of actor.old) (actor_of actor.new)) }
-    ensures refused { OnErr result ((cell_of desk.new ≡ cell_of desk.old) × (cell_of image.new ≡ cell_of image.old) × (actor_of actor.new ≡ actor_of actor.old)) }
+    ensures refused { OnErr result ((desk.new ≡ desk.old) × (image.new ≡ image.old) × (actor_of actor.new ≡ actor_of actor.old)) }
 {
     let Cell::Desk { desk, .. } = desk else {
         unreachable!()

@@ -39,8 +39,8 @@ pub fn sync(
         (change image_at (cell_of image.old) (cell_of image.new) ∷ change registry_at (cell_of registry.old) (cell_of registry.new)
         ∷ change ledger_at (cell_of ledger.old) (cell_of ledger.new) ∷ [])
         (actor_of actor.old) (actor_of actor.new)) }
-    ensures refused { OnErr result ((cell_of image.new ≡ cell_of image.old) × (cell_of registry.new ≡ cell_of registry.old)
-        × (cell_of ledger.new ≡ cell_of ledger.old) × (actor_of actor.new ≡ actor_of actor.old)) }
+    ensures refused { OnErr result ((image.new ≡ image.old) × (registry.new ≡ registry.old)
+        × (ledger.new ≡ ledger.old) × (actor_of actor.new ≡ actor_of actor.old)) }
 {
     let Cell::Image { server, image } = image else {
         unreachable!()

@@ -38,7 +38,7 @@ pub fn expand(
     ensures made { OnOk result (Makes h.now Expand
         (change map_at (cell_of map.old) (cell_of map.new) ∷ change desk_at (cell_of desk.old) (cell_of desk.new) ∷ [])
         (actor_of actor.old) (actor_of actor.new)) }
-    ensures refused { OnErr result ((cell_of map.new ≡ cell_of map.old) × (cell_of desk.new ≡ cell_of desk.old) × (actor_of actor.new ≡ actor_of actor.old)) }
+    ensures refused { OnErr result ((map.new ≡ map.old) × (desk.new ≡ desk.old) × (actor_of actor.new ≡ actor_of actor.old)) }
 {
     let Cell::Map { map, .. } = map else {
         unreachable!()

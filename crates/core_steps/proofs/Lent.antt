@@ -57,7 +57,7 @@ module _ {h : List Dimension} {cells : List (Option Cell)} {actors : List (Optio
         → Stepped h kind n cells actors (set cells at (Some x_now)) (set actors n (Some now))
     steps-lent {kind} makes sight = drives h kind cells _ _ actors _ _ xs n a now refl refl (put-over cells at x_now) (put-over actors n now) hold makes sight
 
-    pub stays-lent : cell_of x_now ≡ cell_of x → actor_of now ≡ actor_of a → Stays cells actors (set cells at (Some x_now)) (set actors n (Some now))
+    pub stays-lent : x_now ≡ x → actor_of now ≡ actor_of a → Stays cells actors (set cells at (Some x_now)) (set actors n (Some now))
     stays-lent same equal = stays-so cells _ _ actors _ _ xs n a now refl refl (put-over cells at x_now) (put-over actors n now) hold (same, tt) equal
 
     pub adds-lent : (event_of : ActorValue → ℕ → Event) → Tells event_of (actor_of a) (cell_of x) (cell_of x_now) → Adds event_of n at cells actors (set cells at (Some x_now)) (set actors n (Some now))

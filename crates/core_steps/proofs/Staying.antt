@@ -15,7 +15,7 @@ use Rattle.core_steps.specs.Ready.{Stays}
 
 -- a cell that is put back as it was
 abbrev pub IsAsBefore : Exchange → Type 0
-IsAsBefore x = cell_of x.now ≡ cell_of x.before
+IsAsBefore x = x.now ≡ x.before
 
 places-within : (cells : List (Option Cell)) (xs : List Exchange) → Stand cells (cells_before xs) → Each (λ x. x.number < length cells) xs
 places-within cells [] st = tt
@@ -24,7 +24,7 @@ places-within cells (x ∷ xs) st = (within cells x.number x.before st.0, places
 put-same : (cells : ℕ → CellValue) (xs : List Exchange) → Each (λ (t : ℕ × Cell). cells t.0 ≡ cell_of t.1) (cells_before xs) → Each IsAsBefore xs → (y : ℕ) → put (changes_of xs) cells y ≡ cells y
 put-same cells [] stood same y = refl
 put-same cells (x ∷ xs) stood same y = on_bool (eqb y x.number)
-    (λ q. rw q (same.0 ∙ sym stood.0 ∙ ap cells (sym (eqb-eq _ _ q))))
+    (λ q. rw q (ap cell_of same.0 ∙ sym stood.0 ∙ ap cells (sym (eqb-eq _ _ q))))
     (λ q. rw q (put-same cells xs stood.1 same.1 y))
 
 -- a state whose cells and actors are those of another one

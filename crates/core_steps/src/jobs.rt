@@ -37,19 +37,12 @@ pub fn freeze(
     made
 }
 
-/// An actor's job goes on to collect its shard's rows, in whose tree no insert is any more. Where memory is wanting,
-/// the state stays as it was.
-pub fn drained(
-    alloc: Global,
-    h: &Hierarchy,
-    state: &mut State,
-    number: usize,
-    gate_at: u32,
-) -> Result<(), AllocError>
+/// An actor's job goes on to collect its shard's rows, in whose tree no insert is any more. Takes no memory; the
+/// allocator is that of the lists of what is collected.
+pub fn drained(alloc: Global, h: &Hierarchy, state: &mut State, number: usize, gate_at: u32)
     requires state { HasInv h.now state.old.cells.items state.old.actors.items }
     requires ready { MayStep state.old.cells.items state.old.actors.items (gate_at ∷ []) number (SeesDrained gate_at) }
-    ensures stepped { OnOk result (Stepped h.now Drained number state.old.cells.items state.old.actors.items state.new.cells.items state.new.actors.items) }
-    ensures stays { OnErr result (Stays state.old.cells.items state.old.actors.items state.new.cells.items state.new.actors.items) }
+    ensures stepped { Stepped h.now Drained number state.old.cells.items state.old.actors.items state.new.cells.items state.new.actors.items }
 {
     let (cells, actors) = (&mut state.cells, &mut state.actors);
     let Some(gate) = &mut cells[gate_at as usize] else {
@@ -58,7 +51,7 @@ pub fn drained(
     let Some(actor) = &mut actors[number] else {
         unreachable!()
     };
-    core_admin::drained(alloc, h, gate_at, gate, actor)
+    core_admin::drained(alloc, h, gate_at, gate, actor);
 }
 
 /// An actor's job reads the block that it noted last. Where memory is wanting, the state stays as it was.

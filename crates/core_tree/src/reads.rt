@@ -33,7 +33,7 @@ pub fn gate_read(
     ensures made { OnOk result (Makes h.now GateRead
         (change map_at (cell_of map.old) (cell_of map.new) ∷ change gate_at (cell_of gate.old) (cell_of gate.new) ∷ [])
         (actor_of actor.old) (actor_of actor.new)) }
-    ensures refused { OnErr result ((cell_of map.new ≡ cell_of map.old) × (cell_of gate.new ≡ cell_of gate.old) × (actor_of actor.new ≡ actor_of actor.old)) }
+    ensures refused { OnErr result ((map.new ≡ map.old) × (gate.new ≡ gate.old) × (actor_of actor.new ≡ actor_of actor.old)) }
 {
     let _ = map_at;
     frame_law();

@@ -33,7 +33,7 @@ pub fn refill(
     requires here { IsHere h.now (held stock_at (cell_of stock.old) ∷ []) (actor_of actor.old) }
     requires due { CanRefill (cell_of stock.old) (actor_of actor.old) }
     ensures made { OnOk result (Makes h.now Refill (change stock_at (cell_of stock.old) (cell_of stock.new) ∷ []) (actor_of actor.old) (actor_of actor.new)) }
-    ensures refused { OnErr result ((cell_of stock.new ≡ cell_of stock.old) × (actor_of actor.new ≡ actor_of actor.old)) }
+    ensures refused { OnErr result ((stock.new ≡ stock.old) × (actor_of actor.new ≡ actor_of actor.old)) }
 {
     let _ = alloc;
     let _ = h;

@@ -26,7 +26,7 @@ pub fn block_visit(
     requires here { IsHere h.now (held at (cell_of cell.old) ∷ []) (actor_of actor.old) }
     requires due { CanBlockVisit at (actor_of actor.old) }
     ensures made { OnOk result (Makes h.now BlockVisit (change at (cell_of cell.old) (cell_of cell.new) ∷ []) (actor_of actor.old) (actor_of actor.new)) }
-    ensures refused { OnErr result ((cell_of cell.new ≡ cell_of cell.old) × (actor_of actor.new ≡ actor_of actor.old)) }
+    ensures refused { OnErr result ((cell.new ≡ cell.old) × (actor_of actor.new ≡ actor_of actor.old)) }
     ensures enough { most_noted ≤ room_to_note actor.old → IsOk result }
 {
     let _ = h;

@@ -17,7 +17,7 @@ const PLAN: &[Kind] = &[Kind::Note, Kind::LookUp, Kind::LookUp];
 
 /// Jobs that are given up, and what goes on beside them.
 const STORIES: [Story; 3] = [
-    // A split is given up right behind its freeze. A row comes to the queue, a query counts it there, and a second split
+    // A split is given up before it reads a block. A row comes to the queue, a query counts it there, and a second split
     // collects it.
     Story {
         base: ONE_WORKER,
@@ -32,7 +32,8 @@ const STORIES: [Story; 3] = [
             Line::Call(Call::Shards),
         ],
         moves: &[
-            (3, &[Kind::Note, Kind::Freeze, Kind::Postpone]),
+            (3, BEGIN),
+            (3, &[Kind::Postpone]),
             (0, QUEUE),
             (1, ASK),
             (3, BEGIN),
@@ -113,7 +114,8 @@ const STORIES: [Story; 3] = [
             (0, BEHIND),
             (0, &[Kind::Ack]),
             (3, PLAN),
-            (3, &[Kind::Freeze, Kind::Postpone, Kind::Note]),
+            (3, &[Kind::Freeze, Kind::Drained]),
+            (3, &[Kind::Postpone, Kind::Note]),
             (0, ASK_BOTH),
             (3, PLAN),
             (3, &[Kind::Freeze, Kind::Drained]),

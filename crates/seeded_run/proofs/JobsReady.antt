@@ -427,9 +427,6 @@ module _ (h : List Dimension) (with : Use) (cells : List (Option Cell)) (actors 
       (steps-with h with cells actors s w is ((k.0).gate ∷ []) n (SeesDrained (k.0).gate) (hold-gate h with cells actors s w is n (k.0).gate gate, tt) (tt, tt) lt
       (record { job = t.job; frozen = k.0; has = record { is_job = t.is_job; stage_is = k.1 }; here = refl; drained = drained }))
 
-  pub drained-frozen : IsDue h with cells actors n kind.Drained → (job : JobValue) × ((w.actors n).job ≡ Some job) × HasFrozen job.stage
-  drained-frozen due = (let t = drained-at due in (t.job, t.is_job, subst HasFrozen (sym (stage-case w n kind.Drained t).1) tt))
-
   -- Collecting.
 
   collect-at : IsDue h with cells actors n kind.Collect → IsAtStage w n kind.Collect

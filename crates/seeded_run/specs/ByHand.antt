@@ -71,7 +71,6 @@ StopsAmongAt m moves now = StopsAmong m.in_order (about_in m) (phase_of m) (worl
 
 -- of a job that has frozen its shard, such a step may find no memory
 abbrev pub may_find_none : Kind → Bool
-may_find_none kind.Drained = true
 may_find_none kind.Collect = true
 may_find_none kind.FinishSplit = true
 may_find_none kind.FinishMove = true

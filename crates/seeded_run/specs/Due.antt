@@ -23,8 +23,9 @@ use Rattle.shard_store.specs.declared.gate.Phase.{Phase}
 use Rattle.shard_store.specs.declared.gate.Phase.TheVariants.{Open}
 use Rattle.volap_cell.specs.Cells.{CellValue, block_in, desk_in, ledger_in, phase_of, way_in, where_in}
 use Rattle.volap_cell.specs.Commands.{settles_next}
+pub use Rattle.volap_cell.specs.JobSteps.{finish_kind, is_empty, next_of_job, stage_kind}
 use Rattle.volap_cell.specs.Setting.{Setting, actor_count, desk_cell, ledger_cell, map_cell}
-use Rattle.volap_cell.specs.Values.{ActorValue, ErrandValue, TaskValue, OfRow, Unread, Read, JobValue, StageValue, IsCalled, IsDeclined, IsFrozen, Collects, Builds}
+use Rattle.volap_cell.specs.Values.{ActorValue, ErrandValue, TaskValue, OfRow, Unread, Read, JobValue}
 use Rattle.volap_cell.specs.World.{World}
 use Rattle.volap_cell.specs.declared.command.Balance.{Balance}
 use Rattle.volap_cell.specs.declared.command.Command.{Command as OpenCommand}
@@ -47,11 +48,6 @@ all_below (suc n) test = test n && all_below n test
 abbrev pub any_below : ℕ → (ℕ → Bool) → Bool
 any_below zero test = false
 any_below (suc n) test = test n || any_below n test
-
--- no item is in a list
-abbrev pub is_empty : {A : Type 0} → List A → Bool
-is_empty [] = true
-is_empty (x ∷ xs) = false
 
 -- Parts that an actor is at.
 
@@ -148,23 +144,10 @@ page_kind history alone of false = if alone && (length history == of + 1) then S
 abbrev pub tree_kind : List Event → Bool → ℕ → Bool → Bool → Option Kind
 tree_kind history alone of stands shown = if stands then page_kind history alone of shown else Some kind.Note
 
--- a split or a move ends with its new gates
-abbrev pub finish_kind : Option ℕ → Kind
-finish_kind None = kind.FinishSplit
-finish_kind (Some worker) = kind.FinishMove
-
--- by how far it has come, and whether it has a worker to go to
-abbrev pub stage_kind : Option ℕ → StageValue → Kind
-stage_kind to IsCalled = kind.Freeze
-stage_kind to (IsDeclined why) = kind.Note
-stage_kind to (IsFrozen f) = kind.Drained
-stage_kind to (Collects c) = kind.Collect
-stage_kind to (Builds b) = if is_empty b.unbuilt then finish_kind to else kind.BuildBlock
-
 -- of a job, or what is due without one
 abbrev pub job_kind : Option JobValue → Kind → Kind
 job_kind None without = without
-job_kind (Some job) without = stage_kind job.to job.stage
+job_kind (Some job) without = next_of_job job
 
 -- with no action before it, a balance still reads loads, or is at its end
 abbrev pub balance_kind : Balance → Kind

@@ -33,7 +33,7 @@ fn may_find_none(kind: Kind) -> bool
     ensures meaning { result ≡ true → IsOfJob kind }
 {
     match kind {
-        Kind::Drained | Kind::Collect | Kind::FinishSplit | Kind::FinishMove => true,
+        Kind::Collect | Kind::FinishSplit | Kind::FinishMove => true,
         _ => false,
     }
 }

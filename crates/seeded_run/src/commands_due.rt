@@ -1,19 +1,18 @@
 //! What is due for an actor with an open command.
-ghost use Rattle.std.specs.Prelude.{◌≡◌, ◌==◌, ◌+◌, [], length, if◌then◌else◌, is_none, is_some};
+ghost use Rattle.std.specs.Prelude.{◌≡◌, ◌==◌, ◌+◌, [], length, is_none, is_some};
 ghost use Rattle.std.specs.List.{list_any};
 ghost use Rattle.query_router.specs.Desk.{is_open, is_placed, is_refused, is_waiting, verdict_of};
-ghost use Rattle.seeded_run.specs.Due.{balance_kind, desk_of, finish_kind, is_empty, is_empty_desk, job_kind, kind_at_empty, kind_by_verdict, page_kind, parts_kind, stage_kind, tree_kind, work_kind};
+ghost use Rattle.seeded_run.specs.Due.{balance_kind, desk_of, is_empty_desk, job_kind, kind_at_empty, kind_by_verdict, page_kind, parts_kind, tree_kind, work_kind};
 ghost use Rattle.seeded_run.specs.Look.{cell_at, history_at, setting_by, waits_for_others, world_by};
 ghost use Rattle.volap_cell.specs.Cells.{desk_in};
 ghost use Rattle.volap_cell.specs.Commands.{settles_next};
-ghost use Rattle.volap_cell.specs.Values.{actor_of, building_of, stage_of};
-ghost use Rattle.volap_cell.specs.declared.kind.Kind.TheVariants as kind;
+ghost use Rattle.volap_cell.specs.Values.{actor_of};
 
 use crate::places::desk_place;
 use crate::sights::{cell_at, events};
 use query_router::Part;
 use row_ledger::Use;
-use volap_cell::{Actor, Balance, Building, Cell, Kind, Role, Stage, Work};
+use volap_cell::{Actor, Balance, Cell, Kind, Role, Work};
 
 /// Whether a part isn't at an end.
 fn any_open(parts: &[Part]) -> bool
@@ -158,46 +157,12 @@ fn tree_kind(
     }
 }
 
-/// How a split or a move ends.
-fn finish_kind(to: Option<u8>) -> Kind
-    ensures { result ≡ finish_kind to }
-{
-    match to {
-        Some(_) => Kind::FinishMove,
-        None => Kind::FinishSplit,
-    }
-}
-
-/// What is due for a job that builds its trees.
-fn building_kind(to: Option<u8>, building: &Building) -> Kind
-    ensures { result ≡ (if is_empty (building_of building.now).unbuilt then finish_kind to else kind.BuildBlock) }
-{
-    if building.unbuilt.is_empty() {
-        finish_kind(to)
-    } else {
-        Kind::BuildBlock
-    }
-}
-
-/// What is due for a job, by how far it has come.
-fn stage_kind(to: Option<u8>, stage: &Stage) -> Kind
-    ensures { result ≡ stage_kind to (stage_of stage.now) }
-{
-    match stage {
-        Stage::Called => Kind::Freeze,
-        Stage::Declined(_) => Kind::Note,
-        Stage::Frozen(_) => Kind::Drained,
-        Stage::Collecting(_) => Kind::Collect,
-        Stage::Building(building) => building_kind(to, building),
-    }
-}
-
 /// What is due for the actor's job, or what is due without one.
 fn job_kind(actor: &Actor, without: Kind) -> Kind
     ensures { result ≡ job_kind (actor_of actor.now).job without }
 {
     match &actor.job {
-        Some(job) => stage_kind(job.to, &job.stage),
+        Some(job) => job.next(),
         None => without,
     }
 }

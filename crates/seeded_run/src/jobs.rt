@@ -89,7 +89,7 @@ fn frozen_at(stage: &Stage) -> u32
     ensures { result ≡ gate_found (frozen_in (stage_of stage.now)) }
 {
     match stage {
-        Stage::Frozen(frozen) => frozen.gate,
+        Stage::Frozen(frozen, _) => frozen.gate,
         Stage::Collecting(collecting) => collecting.frozen.gate,
         Stage::Building(building) => building.frozen.gate,
         Stage::Called | Stage::Declined(_) => 0,
@@ -121,7 +121,7 @@ fn is_frozen(stage: &Stage) -> bool
     ensures { result ≡ true → HasFrozen (stage_of stage.now) }
 {
     match stage {
-        Stage::Frozen(_) | Stage::Collecting(_) | Stage::Building(_) => true,
+        Stage::Frozen(..) | Stage::Collecting(_) | Stage::Building(_) => true,
         Stage::Called | Stage::Declined(_) => false,
     }
 }
@@ -384,18 +384,16 @@ pub(crate) fn freeze(alloc: Global, h: &Hierarchy, with: &Use, state: &mut State
     }
 }
 
-/// The actor's job goes on to collect rows. Where no memory is found for the root's note, it is given up.
+/// The actor's job goes on to collect rows. Takes no memory.
 pub(crate) fn drained(alloc: Global, h: &Hierarchy, with: &Use, state: &mut State, number: usize)
     requires core { HasCore h.now with.now state.old.cells.items state.old.actors.items }
     requires within { number < length state.old.actors.items }
     requires due { IsDue h.now with.now state.old.cells.items state.old.actors.items number Drained }
     ensures made { GoesOnWithCommand h.now Drained number state.old.cells.items state.old.actors.items state.new.cells.items state.new.actors.items }
 {
+    let _ = with;
     let gate = frozen_by(state, number);
-    match core_steps::drained(alloc, h, state, number, gate) {
-        Ok(()) => {}
-        Err(_) => give_up(h, with, state, number),
-    }
+    core_steps::drained(alloc, h, state, number, gate);
 }
 
 /// The actor's job reads the block that it noted last. Where no memory is found for its rows and its

@@ -228,7 +228,7 @@ fn is_stage_left(cells: &[Option<Cell>], stage: &Stage) -> bool
     ensures { result ≡ option_map_or (λ gate. active_in (cell_at cells.now gate) == 0) (gate_awaited (stage_of stage.now)) true }
 {
     match stage {
-        Stage::Frozen(frozen) => is_left(cells, frozen.gate),
+        Stage::Frozen(frozen, _) => is_left(cells, frozen.gate),
         _ => true,
     }
 }

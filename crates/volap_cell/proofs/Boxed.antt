@@ -1,5 +1,5 @@
 -- What a cell has it holds in a box.
-use Rattle.std.proofs.Common.{◌≡◌, ℕ, true, Box, Global, refl, ap}
+use Rattle.std.proofs.Common.{◌≡◌, ◌∙◌, ℕ, true, Box, Global, refl, ap}
 use Rattle.std.specs.Prelude.{IsSome}
 use Rattle.cell_stock.specs.declared.stock.Stock.{Stock}
 use Rattle.dc_node.specs.declared.block.Block.{Block}
@@ -8,6 +8,10 @@ use Rattle.shard_store.specs.declared.gate.Gate.{Gate}
 use Rattle.volap_cell.specs.Cells.{TheStock, MapOf, cell_of, gate_shard, has_block, tag_of}
 use Rattle.volap_cell.specs.declared.cell.Cell.{Cell}
 use Rattle.volap_cell.specs.declared.cell.Cell.TheVariants as cell
+
+-- what was lent out of a box, and is as it was, leaves the box as it was
+pub same-box : {A : Type 0} (b : Box A Global) {lent now : A} → lent ≡ b.value → now ≡ lent → record b { value = now } ≡ b
+same-box {A} b is same = ap (λ (v : A). record b { value = v }) (same ∙ is)
 
 -- one that has a block
 pub boxed : {P : Type 0} (c : Cell) → has_block (cell_of c) ≡ true → ((x : Box Block Global) → c ≡ cell.Block x → P) → P

@@ -1,6 +1,7 @@
 pub mod Setting
 pub mod Cells
 pub mod Values
+pub mod JobSteps
 pub mod Errands
 pub mod World
 pub mod View

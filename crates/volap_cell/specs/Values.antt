@@ -95,7 +95,7 @@ building_of b = record { frozen = b.frozen; read = b.read; left = b.left; right 
 abbrev pub stage_of : Stage → StageValue
 stage_of stage.Called = IsCalled
 stage_of (stage.Declined d) = IsDeclined d
-stage_of (stage.Frozen f) = IsFrozen f
+stage_of (stage.Frozen f room) = IsFrozen f
 stage_of (stage.Collecting c) = Collects (collecting_of c)
 stage_of (stage.Building b) = Builds (building_of b)
 

@@ -1,4 +1,11 @@
-//! The split or the move of a shard, and how far it has come.
+//! The split or the move of a shard, how far it has come, and which kind of step is due for it.
+ghost use Rattle.std.specs.Prelude.{◌≡◌, if◌then◌else◌};
+ghost use Rattle.volap_cell.specs.JobSteps.{finish_kind, is_empty, next_of_job, stage_kind};
+ghost use Rattle.volap_cell.specs.Values.{building_of, job_of, stage_of};
+ghost use Rattle.volap_cell.specs.declared.kind.Kind.TheVariants.{BuildBlock};
+
+use crate::kind::Kind;
+use crate::room::NoteRoom;
 use cell_stock::Purse;
 use dc_node::{Block, Todo};
 use describing_set::{DescSet, Plane};
@@ -18,6 +25,50 @@ pub struct Job {
     pub stage: Stage,
 }
 
+impl Job {
+    /// The kind of step that is due for this job. It may have to wait: the job's stage alone tells the kind,
+    /// and nothing is known of the cells.
+    pub fn next(&self) -> Kind
+        ensures { result ≡ next_of_job (job_of self.now) }
+    {
+        stage_kind(self.to, &self.stage)
+    }
+}
+
+/// What is due for a job, by how far it has come.
+fn stage_kind(to: Option<u8>, stage: &Stage) -> Kind
+    ensures { result ≡ stage_kind to (stage_of stage.now) }
+{
+    match stage {
+        Stage::Called => Kind::Freeze,
+        Stage::Declined(_) => Kind::Note,
+        Stage::Frozen(..) => Kind::Drained,
+        Stage::Collecting(_) => Kind::Collect,
+        Stage::Building(building) => building_kind(to, building),
+    }
+}
+
+/// What is due for a job that builds its trees.
+fn building_kind(to: Option<u8>, building: &Building) -> Kind
+    ensures { result ≡ (if is_empty (building_of building.now).unbuilt then finish_kind to else BuildBlock) }
+{
+    if building.unbuilt.is_empty() {
+        finish_kind(to)
+    } else {
+        Kind::BuildBlock
+    }
+}
+
+/// How a split or a move ends.
+fn finish_kind(to: Option<u8>) -> Kind
+    ensures { result ≡ finish_kind to }
+{
+    match to {
+        Some(_) => Kind::FinishMove,
+        None => Kind::FinishSplit,
+    }
+}
+
 /// How far a job has come.
 #[derive(Drop)]
 pub enum Stage {
@@ -25,8 +76,8 @@ pub enum Stage {
     Called,
     /// It is declined, and why.
     Declined(Decline),
-    /// The shard is frozen, and inserts may still be in its tree.
-    Frozen(Frozen),
+    /// The shard is frozen, and inserts may still be in its tree. There is room for the note of its root.
+    Frozen(Frozen, NoteRoom),
     /// The shard's rows are collected.
     Collecting(Collecting),
     /// The new trees are put into their cells.

@@ -12,6 +12,7 @@ mod kind;
 mod laws;
 mod opening;
 mod role;
+mod room;
 mod state;
 
 pub use actor::{About, Actor};
@@ -26,6 +27,7 @@ pub use laws::{
 };
 pub use opening::open;
 pub use role::{Role, RoleList};
+pub use room::NoteRoom;
 pub use state::{
     State, lift_five, lift_four, lift_if, lift_one, lift_seven, lift_six, lift_three, lift_two,
     put_five, put_four, put_if, put_one, put_seven, put_six, put_three, put_two,

@@ -3,8 +3,10 @@ use Rattle.shard_store.specs.declared.gate.Gate.{Gate}
 use Rattle.volap_cell.specs.Cells.{GateCell, LedgerCell, MapCell, RegistryCell, StockCell, cell_of, gate_shard}
 use Rattle.volap_cell.specs.Values.{actor_of, job_of}
 use Rattle.volap_cell.specs.World.{held}
+use Rattle.volap_cell.specs.declared.cell.Cell.TheVariants as cell
 use Rattle.volap_cell.specs.declared.job.Job.{Job}
-use Rattle.volap_cell.proofs.Boxed.{gated}
+use Rattle.volap_cell.proofs.Boxed.{gated, same-box}
+use Rattle.volap_cell.proofs.Outcomes.{as-err}
 use Rattle.core_admin.specs.FinishDue.{MakesWayHere}
 use Rattle.core_admin.proofs.BuiltUp.{gate-there, is-late}
 use Rattle.core_admin.proofs.FinishReady.{may-finish, moves-of}
@@ -45,3 +47,7 @@ returns-clause-made c =
     (subst (λ (x : Gate). MakesWayHere c.args.h.now c.args.new_at c.deref_mut.result.now c.make_way_here.new.table x (job_of c.deref-2.result.now) c.in_ok-made.made.value)
     (c.deref.ensures ∙ sym c.deref_mut-2.ensures.value) c.in_ok-made.ensures.made)
     c.finish_for.ensures
+
+pub returns-in_err-made-clause-refused : goal.returns-in_err-made-clause-refused
+returns-in_err-made-clause-refused c =
+    as-err c.from_residual.result (ap (cell.Map c.in-Map.worker) (same-box c.in-Map.table c.deref_mut.ensures.value c.in_err-made.ensures.refused) ∙ sym c.in-Map.is, sym c.in-Gate.is, refl, sym c.in-Registry.is, sym c.in-Stock.is, sym c.in-Ledger.is, refl)

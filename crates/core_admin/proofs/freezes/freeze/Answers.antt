@@ -1,9 +1,10 @@
 use Rattle.std.proofs.Common.{Box, Global, ◌∙◌, option_map, refl, sym, ap, subst, IsSome, Some}
 use Rattle.volap_cell.specs.Cells.{GateCell, StockCell, cell_of, gate_shard}
 use Rattle.volap_cell.specs.Values.{actor_of, job_of}
+use Rattle.volap_cell.specs.declared.cell.Cell.TheVariants as cell
 use Rattle.volap_cell.specs.declared.job.Job.{Job}
-use Rattle.volap_cell.proofs.Boxed.{gated}
-use Rattle.volap_cell.proofs.Outcomes.{on-ok}
+use Rattle.volap_cell.proofs.Boxed.{gated, same-box}
+use Rattle.volap_cell.proofs.Outcomes.{on-ok, on-err}
 use Rattle.core_admin.proofs.FreezesHere.{freeze-gate, freeze-makes, is-freezable}
 use Rattle.core_admin.proofs.freezes.freeze.Goals as goal
 
@@ -28,3 +29,9 @@ returns-clause-made c =
     refl
     (ap (option_map (λ (j : Box Job Global). job_of j.value)) c.in-Some.is ∙ ap (λ (j : Job). Some (job_of j)) (sym c.deref_mut-3.ensures.value))
     refl did)
+
+pub returns-clause-refused : goal.returns-clause-refused
+returns-clause-refused c =
+    on-err c.freeze_for.result c.freeze_for.ensures.refused (λ k.
+    let job = ap Some (k.3 ∙ ap job_of c.deref_mut-3.ensures.value) ∙ sym (ap (option_map (λ (j : Box Job Global). job_of j.value)) c.in-Some.is) in
+    (refl, ap cell.Gate (same-box c.in-Gate.gate c.deref_mut.ensures.value k.0) ∙ sym c.in-Gate.is, ap cell.Stock (same-box c.in-Stock.stock c.deref_mut-2.ensures.value k.1) ∙ sym c.in-Stock.is, (λ i. record (actor_of c.args.actor.now) { purse = k.2 i; job = job i })))

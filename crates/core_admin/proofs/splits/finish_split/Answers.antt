@@ -4,8 +4,10 @@ use Rattle.shard_store.specs.declared.gate.Gate.{Gate}
 use Rattle.volap_cell.specs.Cells.{GateCell, LedgerCell, MapCell, RegistryCell, StockCell, cell_of, gate_shard}
 use Rattle.volap_cell.specs.Values.{actor_of, job_of}
 use Rattle.volap_cell.specs.World.{held}
+use Rattle.volap_cell.specs.declared.cell.Cell.TheVariants as cell
 use Rattle.volap_cell.specs.declared.job.Job.{Job}
-use Rattle.volap_cell.proofs.Boxed.{gated}
+use Rattle.volap_cell.proofs.Boxed.{gated, same-box}
+use Rattle.volap_cell.proofs.Outcomes.{as-err}
 use Rattle.core_admin.specs.SplitDue.{DividesShard, MayDivideShard}
 use Rattle.core_admin.proofs.BuiltUp.{gate-there}
 use Rattle.core_admin.proofs.SplitMade.{split-makes}
@@ -69,3 +71,12 @@ returns-clause-made c =
     c.deref_mut-5.result.now c.finish_divided.new.stock (ap cell_of c.in-Stock.is ∙ ap StockCell (sym c.deref_mut.ensures.value) ∙ ap StockCell (sym same))
     c.deref_mut-6.result.now c.finish_divided.new.ledger (ap cell_of c.in-Ledger.is ∙ ap LedgerCell (sym c.deref_mut-6.ensures.value))
     (job_of c.deref-2.result.now) (ap (option_map (λ (j : Box Job Global). job_of j.value)) c.in-Some.is ∙ ap (λ (j : Job). Some (job_of j)) (sym c.deref-2.ensures)) (actor_of c.finish_divided.new.actor) way c.finish_divided.ensures ids.1
+
+pub returns-in_err-first-clause-refused : goal.returns-in_err-first-clause-refused
+returns-in_err-first-clause-refused c =
+    as-err c.from_residual.result (sym c.in-Map.is, sym c.in-Gate.is, refl, refl, sym c.in-Registry.is, ap cell.Stock (same-box c.in-Stock.stock c.deref_mut.ensures.value c.in_err-first.ensures.unchanged) ∙ sym c.in-Stock.is, sym c.in-Ledger.is, refl)
+
+pub returns-in_err-one-clause-refused : goal.returns-in_err-one-clause-refused
+returns-in_err-one-clause-refused c =
+    let k = c.in_err-one.ensures.refused in
+    as-err c.from_residual-in_err-one.result (ap (cell.Map c.in-Map.worker) (same-box c.in-Map.table c.deref_mut-2.ensures.value k.0) ∙ sym c.in-Map.is, sym c.in-Gate.is, refl, refl, ap cell.Registry (same-box c.in-Registry.registry c.deref_mut-3.ensures.value k.1) ∙ sym c.in-Registry.is, ap cell.Stock (same-box c.in-Stock.stock c.deref_mut.ensures.value c.in_ok-first.ensures.unchanged) ∙ sym c.in-Stock.is, sym c.in-Ledger.is, refl)

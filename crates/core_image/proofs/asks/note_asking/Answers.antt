@@ -1,7 +1,10 @@
-use Rattle.std.proofs.Common.{length, ap, sym, ◌∙◌}
+use Rattle.std.proofs.Common.{length, ap, sym, ◌∙◌, refl}
 use Rattle.row_ledger.specs.LedgerValue.{LedgerValue}
 use Rattle.volap_cell.specs.Cells.{LedgerCell, RegistryCell, cell_of}
 use Rattle.volap_cell.specs.Values.{actor_of}
+use Rattle.volap_cell.specs.declared.cell.Cell.TheVariants as cell
+use Rattle.volap_cell.proofs.Boxed.{same-box}
+use Rattle.volap_cell.proofs.Outcomes.{as-err}
 use Rattle.core_image.proofs.NotesAsk.{asking-makes}
 use Rattle.core_image.proofs.asks.note_asking.Goals as goal
 use Rattle.core_image.specs.Told.{called_by}
@@ -19,3 +22,7 @@ pub returns-clause-told : goal.returns-clause-told
 returns-clause-told c =
     tells (called_by c.args.call) (actor_of c.args.actor.now) (cell_of c.args.ledger.now) c.deref_mut.result.now c.push_called.new.ledger
     (ap cell_of c.in-Ledger.is ∙ ap LedgerCell (sym c.deref_mut.ensures.value)) c.in_ok-push_called.ensures.ok.history
+
+pub returns-in_err-push_called-clause-refused : goal.returns-in_err-push_called-clause-refused
+returns-in_err-push_called-clause-refused c =
+    as-err c.from_residual-in_err-push_called.result (sym c.in-Registry.is, ap cell.Ledger (same-box c.in-Ledger.ledger c.deref_mut.ensures.value c.in_err-push_called.ensures.err) ∙ sym c.in-Ledger.is, refl)

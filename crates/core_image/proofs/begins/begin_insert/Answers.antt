@@ -5,6 +5,9 @@ use Rattle.core_image.specs.NotesDue.{Opens}
 use Rattle.row_ledger.specs.LedgerValue.{LedgerValue}
 use Rattle.volap_cell.specs.Cells.{ImageCell, LedgerCell, cell_of}
 use Rattle.volap_cell.specs.Values.{actor_of}
+use Rattle.volap_cell.specs.declared.cell.Cell.TheVariants as cell
+use Rattle.volap_cell.proofs.Boxed.{same-box}
+use Rattle.volap_cell.proofs.Outcomes.{as-err}
 use Rattle.core_image.proofs.BeginsInsert.{begin-makes}
 use Rattle.core_image.proofs.begins.begin_insert.Goals as goal
 use Rattle.core_image.proofs.Telling.{tells-begun}
@@ -29,3 +32,8 @@ returns-clause-told c =
     c.open.new.image c.open.new.ledger
     (subst (λ (m : ℤ). Opens (Begun (actor_of c.args.actor.now).number c.in-Image.server (record { no = c.len.result; at = c.args.at; measure = m })) c.deref_mut.result.now c.open.new.image c.deref_mut-2.result.now c.open.new.ledger)
     measured c.in_ok-open.ensures.ok)
+
+pub returns-in_err-open-clause-refused : goal.returns-in_err-open-clause-refused
+returns-in_err-open-clause-refused c =
+    let k = c.in_err-open.ensures.err in
+    as-err c.from_residual.result (ap (cell.Image c.in-Image.server) (same-box c.in-Image.image c.deref_mut.ensures.value k.0) ∙ sym c.in-Image.is, ap cell.Ledger (same-box c.in-Ledger.ledger c.deref_mut-2.ensures.value k.1) ∙ sym c.in-Ledger.is, refl)

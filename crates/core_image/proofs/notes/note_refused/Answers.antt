@@ -1,7 +1,10 @@
-use Rattle.std.proofs.Common.{length, ap, sym, ◌∙◌}
+use Rattle.std.proofs.Common.{length, ap, sym, ◌∙◌, refl}
 use Rattle.row_ledger.specs.LedgerValue.{LedgerValue}
 use Rattle.volap_cell.specs.Cells.{LedgerCell, cell_of}
 use Rattle.volap_cell.specs.Values.{actor_of}
+use Rattle.volap_cell.specs.declared.cell.Cell.TheVariants as cell
+use Rattle.volap_cell.proofs.Boxed.{same-box}
+use Rattle.volap_cell.proofs.Outcomes.{as-err}
 use Rattle.core_image.proofs.NotesRefusal.{refused-makes}
 use Rattle.core_image.proofs.notes.note_refused.Goals as goal
 use Rattle.core_image.specs.Told.{refused_by}
@@ -17,3 +20,7 @@ pub returns-clause-told : goal.returns-clause-told
 returns-clause-told c =
     tells refused_by (actor_of c.args.actor.now) (cell_of c.args.ledger.now) c.deref_mut.result.now c.push_refused.new.ledger
     (ap cell_of c.in-Ledger.is ∙ ap LedgerCell (sym c.deref_mut.ensures.value)) c.in_ok-push_refused.ensures.ok.history
+
+pub returns-in_err-push_refused-clause-refused : goal.returns-in_err-push_refused-clause-refused
+returns-in_err-push_refused-clause-refused c =
+    as-err c.from_residual.result (ap cell.Ledger (same-box c.in-Ledger.ledger c.deref_mut.ensures.value c.in_err-push_refused.ensures.err) ∙ sym c.in-Ledger.is, refl)

@@ -1,7 +1,10 @@
-use Rattle.std.proofs.Common.{length, ap, sym, ◌∙◌}
+use Rattle.std.proofs.Common.{length, ap, sym, ◌∙◌, refl}
 use Rattle.row_ledger.specs.LedgerValue.{LedgerValue}
 use Rattle.volap_cell.specs.Cells.{LedgerCell, cell_of}
 use Rattle.volap_cell.specs.Values.{actor_of}
+use Rattle.volap_cell.specs.declared.cell.Cell.TheVariants as cell
+use Rattle.volap_cell.proofs.Boxed.{same-box}
+use Rattle.volap_cell.proofs.Outcomes.{as-err}
 use Rattle.core_image.proofs.NotesRefusal.{unknown-makes}
 use Rattle.core_image.proofs.notes.note_unknown.Goals as goal
 use Rattle.core_image.proofs.Telling.{tells-unknown}
@@ -16,3 +19,7 @@ pub returns-clause-told : goal.returns-clause-told
 returns-clause-told c =
     tells-unknown c.args.dim (actor_of c.args.actor.now) (cell_of c.args.ledger.now) c.deref_mut.result.now c.push_unknown.new.ledger
     (ap cell_of c.in-Ledger.is ∙ ap LedgerCell (sym c.deref_mut.ensures.value)) c.in-Session.server c.in-Session.is c.in_ok-push_unknown.ensures.ok
+
+pub returns-in_err-push_unknown-clause-refused : goal.returns-in_err-push_unknown-clause-refused
+returns-in_err-push_unknown-clause-refused c =
+    as-err c.from_residual.result (ap cell.Ledger (same-box c.in-Ledger.ledger c.deref_mut.ensures.value c.in_err-push_unknown.ensures.err) ∙ sym c.in-Ledger.is, refl)

@@ -3,7 +3,10 @@ use Rattle.row_ledger.specs.LedgerValue.{LedgerValue}
 use Rattle.volap_cell.specs.Cells.{DeskCell, ImageCell, LedgerCell, cell_of}
 use Rattle.volap_cell.specs.ImageKinds.{doing}
 use Rattle.volap_cell.specs.Values.{actor_of}
+use Rattle.volap_cell.specs.declared.cell.Cell.TheVariants as cell
 use Rattle.volap_cell.specs.declared.command.Work.TheVariants.{Query}
+use Rattle.volap_cell.proofs.Boxed.{same-box}
+use Rattle.volap_cell.proofs.Outcomes.{as-err}
 use Rattle.core_image.proofs.AskedHere.{can-ask, has-asked}
 use Rattle.core_image.proofs.Tagged.{desk-boxed, image-boxed, ledger-boxed}
 use Rattle.core_image.proofs.queries.begin_query.Goals as goal
@@ -49,3 +52,8 @@ returns-clause-told c =
     c.in-Desk.server c.deref_mut.result.now (ap cell_of c.in-Desk.is ∙ ap (DeskCell c.in-Desk.server) (sym c.deref_mut.ensures.value))
     _ c.deref_mut-2.result.now (ap cell_of c.in-Ledger.is ∙ ap LedgerCell (sym c.deref_mut-2.ensures.value))
     c.ask.new.desk c.ask.new.ledger c.in_ok-ask.ensures.ok
+
+pub returns-in_err-ask-clause-refused : goal.returns-in_err-ask-clause-refused
+returns-in_err-ask-clause-refused c =
+    let k = c.in_err-ask.ensures.err in
+    as-err c.from_residual.result (ap (cell.Desk c.in-Desk.server) (same-box c.in-Desk.desk c.deref_mut.ensures.value k.0) ∙ sym c.in-Desk.is, sym c.in-Image.is, ap cell.Ledger (same-box c.in-Ledger.ledger c.deref_mut-2.ensures.value k.1) ∙ sym c.in-Ledger.is, refl)

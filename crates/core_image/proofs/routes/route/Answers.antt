@@ -3,6 +3,9 @@ use Rattle.dim_hierarchy.specs.declared.row.Row.{Row}
 use Rattle.core_image.specs.Routing.{CanLay, Lays}
 use Rattle.volap_cell.specs.Cells.{DeskCell, ImageCell, cell_of}
 use Rattle.volap_cell.specs.Values.{actor_of}
+use Rattle.volap_cell.specs.declared.cell.Cell.TheVariants as cell
+use Rattle.volap_cell.proofs.Boxed.{same-box}
+use Rattle.volap_cell.proofs.Outcomes.{as-err}
 use Rattle.core_image.proofs.Ready.{at-command}
 use Rattle.core_image.proofs.Routed.{can-lay, has-routed}
 use Rattle.core_image.proofs.routes.route.Goals as goal
@@ -31,3 +34,7 @@ returns-clause-made c =
     (subst (λ (of : ℕ). Lays hs of c.requires.due.row c.deref.result.now c.deref_mut.result.now c.lay.new.desk) same.0
     (subst (λ (r : Row). Lays hs c.in-Some.command.of r c.deref.result.now c.deref_mut.result.now c.lay.new.desk) same.1 c.in_ok-lay.ensures.ok))
     refl (ap (ImageCell c.in-Image.server) (sym c.deref.ensures)) (λ k. record (actor_of c.args.actor.now) { command = marked k })
+
+pub returns-in_err-lay-clause-refused : goal.returns-in_err-lay-clause-refused
+returns-in_err-lay-clause-refused c =
+    as-err c.from_residual.result (ap (cell.Desk c.in-Desk.server) (same-box c.in-Desk.desk c.deref_mut.ensures.value c.in_err-lay.ensures.err) ∙ sym c.in-Desk.is, sym c.in-Image.is, refl)

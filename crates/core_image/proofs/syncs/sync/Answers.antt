@@ -2,6 +2,9 @@ use Rattle.std.proofs.Common.{length, ◌∙◌, refl, ap, sym}
 use Rattle.row_ledger.specs.LedgerValue.{LedgerValue}
 use Rattle.volap_cell.specs.Cells.{ImageCell, LedgerCell, RegistryCell, cell_of}
 use Rattle.volap_cell.specs.Values.{actor_of}
+use Rattle.volap_cell.specs.declared.cell.Cell.TheVariants as cell
+use Rattle.volap_cell.proofs.Boxed.{same-box}
+use Rattle.volap_cell.proofs.Outcomes.{as-err}
 use Rattle.core_image.proofs.SyncedHere.{can-pull, few-pulls, has-synced}
 use Rattle.core_image.proofs.syncs.sync.Goals as goal
 
@@ -29,3 +32,8 @@ returns-clause-made c =
     c.deref_mut-3.result.now (ap cell_of c.in-Ledger.is ∙ ap LedgerCell (sym c.deref_mut-3.ensures.value))
     c.pull.new.image c.pull.new.registry c.pull.new.ledger (ImageCell c.in-Image.server c.pull.new.image) (RegistryCell c.pull.new.registry) (LedgerCell c.pull.new.ledger) _
     c.in_ok-pull.ensures.ok refl refl refl (λ k. record (actor_of c.args.actor.now) { command = went k; seen = seen k })
+
+pub returns-in_err-pull-clause-refused : goal.returns-in_err-pull-clause-refused
+returns-in_err-pull-clause-refused c =
+    let k = c.in_err-pull.ensures.err in
+    as-err c.from_residual.result (ap (cell.Image c.in-Image.server) (same-box c.in-Image.image c.deref_mut.ensures.value k.0) ∙ sym c.in-Image.is, ap cell.Registry (same-box c.in-Registry.registry c.deref_mut-2.ensures.value k.1) ∙ sym c.in-Registry.is, ap cell.Ledger (same-box c.in-Ledger.ledger c.deref_mut-3.ensures.value k.2) ∙ sym c.in-Ledger.is, refl)

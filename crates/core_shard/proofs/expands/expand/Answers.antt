@@ -2,6 +2,9 @@ use Rattle.std.proofs.Common.{option_map, sym, ap, ◌∙◌, subst, refl}
 use Rattle.row_ledger.proofs.Elements.{Some-same}
 use Rattle.volap_cell.specs.Cells.{DeskCell, MapCell, cell_of}
 use Rattle.volap_cell.specs.Values.{ErrandValue, actor_of, errand_of}
+use Rattle.volap_cell.specs.declared.cell.Cell.TheVariants as cell
+use Rattle.volap_cell.proofs.Boxed.{same-box}
+use Rattle.volap_cell.proofs.Outcomes.{on-err}
 use Rattle.core_shard.specs.Due.{Divides}
 use Rattle.core_shard.proofs.ExpandReady.{can-divide, expand-makes, on-both}
 use Rattle.core_shard.proofs.expands.expand.Goals as goal
@@ -30,3 +33,9 @@ returns-clause-made c =
     (subst (λ (e : ErrandValue). Divides c.args.h.now c.deref.result.now c.deref_mut.result.now c.divide.new.desk e) (sym same) (done had.e had.had)) refl
     (λ k. record (actor_of c.args.actor.now) { errand = option_map errand_of (none k) }))
     c.divide.ensures.done c.divide.ensures.left
+
+pub returns-clause-refused : goal.returns-clause-refused
+returns-clause-refused c =
+    on-err c.divide.result c.divide.ensures.refused (λ k.
+    let errand = ap (option_map errand_of) k.1 in
+    (sym c.in-Map.is, ap (cell.Desk c.in-Desk.server) (same-box c.in-Desk.desk c.deref_mut.ensures.value k.0) ∙ sym c.in-Desk.is, (λ i. record (actor_of c.args.actor.now) { errand = errand i })))

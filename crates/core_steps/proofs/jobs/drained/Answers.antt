@@ -1,5 +1,4 @@
-use Rattle.volap_cell.proofs.Outcomes.{on-err, on-ok}
-use Rattle.core_steps.proofs.Lent.{can-lent, here-lent, lent, stays-lent, steps-lent}
+use Rattle.core_steps.proofs.Lent.{can-lent, here-lent, lent, steps-lent}
 use Rattle.core_steps.proofs.jobs.drained.Goals as goal
 
 pub drained-requires-clause-here : goal.drained-requires-clause-here
@@ -14,6 +13,5 @@ returns c =
     let call = c.drained in
     let now = call.new in
     record {
-      stepped = on-ok call.result call.ensures.made (λ m. steps-lent both now.gate now.actor m (λ s w same is inv. tt));
-      stays = on-err call.result call.ensures.refused (λ k. stays-lent both now.gate now.actor k.0 k.1);
+      stepped = steps-lent both now.gate now.actor call.ensures.made (λ s w same is inv. tt);
     }

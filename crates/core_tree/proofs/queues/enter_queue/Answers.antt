@@ -1,9 +1,12 @@
-use Rattle.std.proofs.Common.{◌≡◌, ◌+◌, ◌<◌, ◌^◌, ◌∙◌, ap, option_map, subst, sym}
+use Rattle.std.proofs.Common.{◌≡◌, ◌+◌, ◌<◌, ◌^◌, ◌∙◌, ap, option_map, subst, sym, refl}
 use Rattle.dim_hierarchy.specs.Row.{IsRowOf}
 use Rattle.volap_cell.specs.Cells.{CellValue, GateCell, cell_of, queue_in}
 use Rattle.volap_cell.specs.Values.{actor_of, errand_of, task_of}
 use Rattle.volap_cell.specs.TreeKinds.{HasRow}
+use Rattle.volap_cell.specs.declared.cell.Cell.TheVariants as cell
 use Rattle.volap_cell.specs.declared.errand.RowErrand.{RowErrand}
+use Rattle.volap_cell.proofs.Boxed.{same-box}
+use Rattle.volap_cell.proofs.Outcomes.{as-err}
 use Rattle.core_tree.proofs.Arrivals.{same-row}
 use Rattle.core_tree.proofs.EntersQueue.{can-queue, queue-makes}
 use Rattle.core_tree.proofs.queues.enter_queue.Goals as goal
@@ -31,3 +34,7 @@ returns-clause-made c =
     c.in_ok-enqueue.ensures.ok
     c.enqueue.ensures.same
     (λ k. record (actor_of c.args.actor.now) { errand = option_map errand_of (go k) })
+
+pub returns-in_err-enqueue-clause-refused : goal.returns-in_err-enqueue-clause-refused
+returns-in_err-enqueue-clause-refused c =
+    as-err c.from_residual.result (refl, ap cell.Gate (same-box c.in-Gate.gate c.deref_mut.ensures.value c.in_err-enqueue.ensures.err) ∙ sym c.in-Gate.is, refl)

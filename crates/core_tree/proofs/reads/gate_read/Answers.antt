@@ -1,10 +1,12 @@
-use Rattle.std.proofs.Common.{◌≡◌, ◌∙◌, option_map, refl, sym, ap, subst}
+use Rattle.std.proofs.Common.{◌≡◌, ◌∙◌, option_map, refl, sym, ap, subst, Some}
 use Rattle.shard_store.specs.declared.gate.Gate.{Gate}
 use Rattle.volap_cell.specs.Cells.{GateCell, cell_of}
 use Rattle.volap_cell.specs.Values.{actor_of, errand_of}
+use Rattle.volap_cell.specs.declared.cell.Cell.TheVariants as cell
+use Rattle.volap_cell.proofs.Boxed.{same-box}
+use Rattle.volap_cell.proofs.Outcomes.{on-ok, on-err}
 use Rattle.core_tree.specs.ReadDue.{IsAtGate, BeginsFor}
 use Rattle.core_tree.proofs.GateDue.{boxed-gate, is-at-gate, read-makes}
-use Rattle.volap_cell.proofs.Outcomes.{on-ok}
 use Rattle.core_tree.proofs.reads.gate_read.Goals as goal
 
 pub unreachable-requires-in_default-gate : goal.unreachable-requires-in_default-gate
@@ -26,3 +28,9 @@ returns-clause-made c =
     (actor_of c.args.actor.now) _ (errand_of c.in-Some.errand) (errand_of c.read_part.new.errand) c.requires.due (ap cell_of c.in-Gate.is) refl (ap (option_map errand_of) c.in-Some.is)
     (subst (λ (x : Gate). BeginsFor c.args.h.now c.args.gate_at x c.read_part.new.gate (errand_of c.in-Some.errand) (errand_of c.read_part.new.errand)) c.deref_mut.ensures.value did)
     refl)
+
+pub returns-clause-refused : goal.returns-clause-refused
+returns-clause-refused c =
+    on-err c.read_part.result c.read_part.ensures.refused (λ k.
+    let errand = ap Some k.1 ∙ sym (ap (option_map errand_of) c.in-Some.is) in
+    (refl, ap cell.Gate (same-box c.in-Gate.gate c.deref_mut.ensures.value k.0) ∙ sym c.in-Gate.is, (λ i. record (actor_of c.args.actor.now) { errand = errand i })))

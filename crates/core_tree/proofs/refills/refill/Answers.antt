@@ -1,7 +1,10 @@
 use Rattle.std.proofs.Common.{◌∙◌, ap, option_map, refl, subst, sym, ℕ, Option, ◌+◌}
 use Rattle.volap_cell.specs.Cells.{StockCell, cell_of}
 use Rattle.volap_cell.specs.Values.{actor_of, errand_of, task_of}
+use Rattle.volap_cell.specs.declared.cell.Cell.TheVariants as cell
 use Rattle.volap_cell.specs.declared.errand.Way.TheVariants.{Before}
+use Rattle.volap_cell.proofs.Boxed.{same-box}
+use Rattle.volap_cell.proofs.Outcomes.{as-err}
 use Rattle.core_tree.specs.DueAtGates.{IsRefilled}
 use Rattle.core_tree.proofs.FillsPurse.{can-give, refill-makes}
 use Rattle.core_tree.proofs.refills.refill.Goals as goal
@@ -23,3 +26,8 @@ returns-clause-made c =
     (subst (λ (n : ℕ). IsRefilled (n + 2) c.deref_mut.result.now c.exchange.new.stock c.args.actor.now.purse c.exchange.new.purse c.exchange.new.boxes) c.from-spares.ensures c.in_ok-exchange.ensures.ok)
     refl
     (λ k. record (actor_of c.args.actor.now) { purse = c.exchange.new.purse.spares; boxes = c.exchange.new.boxes; errand = option_map errand_of (go k) })
+
+pub returns-in_err-exchange-clause-refused : goal.returns-in_err-exchange-clause-refused
+returns-in_err-exchange-clause-refused c =
+    let k = c.in_err-exchange.ensures.err in
+    as-err c.from_residual.result (ap cell.Stock (same-box c.in-Stock.stock c.deref_mut.ensures.value k.0) ∙ sym c.in-Stock.is, (λ i. record (actor_of c.args.actor.now) { purse = k.1 i; boxes = k.2 i }))
