@@ -42,7 +42,7 @@ fn ready_for(role: Role, desk: &Desk) -> Option<usize>
     ensures waiting { IfSome result (IsAt is_waiting desk.now.parts) }
 {
     match role {
-        Role::Session { .. } => desk.parts().iter().position(|part| part.is_waiting()),
+        Role::Session { .. } => desk.first_waiting(),
         Role::Hand { worker } => desk.ready(worker),
         _ => unreachable!(),
     }

@@ -4,7 +4,8 @@ use Rattle.std.specs.Int.{from_bool}
 use Rattle.std.specs.List.{list_any, position_from}
 use Rattle.std.proofs.lemmas.Bool.{cases_lt, false≢true}
 use Rattle.std.proofs.lemmas.Iterator.Adapters.{position_from-zero}
-use Rattle.std.proofs.lemmas.List.{get_or-take, length-drop, length-set, length-take-le, take-append-le, take-set-le, take-take, take_all}
+use Rattle.std.proofs.lemmas.List.{get_or-take, length-drop, length-set, length-take-le, take-append-drop, take-append-le, take-set-le, take-take, take_all}
+use Rattle.std.proofs.lemmas.List.Folds.{list_any-append, list_any_none}
 use Rattle.std.proofs.lemmas.List.Elements.{All-head, All-more, All-tail}
 use Rattle.std.proofs.lemmas.List.Sums.{get_or-le-sum_by, sum_by-cons, sum_by-insert, sum_by-set}
 use Rattle.std.proofs.lemmas.List.Edits.{length-insert}
@@ -74,6 +75,14 @@ pub first-behind : (t : Part → Bool) → ((p : Part) → t p ≡ true → is_o
     → rest ≡ drop ended parts → found ≡ position t rest → place ≡ option_map (λ k. ended + k) found → place ≡ position t parts
 first-behind t opens parts rest ended found place e is first counted =
     counted ∙ ap (option_map (λ k. ended + k)) (first ∙ ap (position t) is) ∙ position-behind t ended parts (none-passes t opens (take ended parts) e.none_open) e.within
+
+-- and one passes among those behind where one does at all
+pub any-behind : (t : Part → Bool) → ((p : Part) → t p ≡ true → is_open p ≡ true) → (parts rest : List Part) (ended : ℕ) (any : Bool) → HasEnded parts ended
+    → rest ≡ drop ended parts → any ≡ list_any t rest → any ≡ list_any t parts
+any-behind t opens parts rest ended any e is found =
+    let none = list_any_none t (take ended parts) (none-passes t opens (take ended parts) e.none_open) in
+    found ∙ ap (list_any t) is ∙ sym (ap (λ b. b || list_any t (drop ended parts)) none) ∙ sym (list_any-append t (take ended parts) (drop ended parts))
+    ∙ ap (list_any t) (take-append-drop ended parts)
 
 -- the part at a place passes the test
 passes-at : (test : Part → Bool) (parts : List Part) (place : ℕ) (p : Part) → IsAt test parts place → test (get_or parts place p) ≡ true

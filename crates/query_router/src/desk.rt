@@ -170,6 +170,20 @@ impl Desk {
         self.open_count > 0
     }
 
+    /// Whether a part waits for a worker.
+    pub fn has_waiting(&self) -> bool
+        ensures { result ≡ list_any is_waiting self.now.parts }
+    {
+        any_waits(&self.parts[self.ended..])
+    }
+
+    /// Whether a part waits for this worker.
+    pub fn awaits(&self, worker: u8) -> bool
+        ensures { result ≡ list_any (waits_for worker) self.now.parts }
+    {
+        any_waits_for(&self.parts[self.ended..], worker)
+    }
+
     /// The place of the first part that waits, whichever worker has its shard.
     pub fn first_waiting(&self) -> Option<usize>
         ensures place { result ≡ position is_waiting self.now.parts }
@@ -238,6 +252,22 @@ fn first_open(parts: &[Part], from: usize) -> usize
         ended += 1;
     }
     ended
+}
+
+/// Whether a part waits for a worker.
+fn any_waits(parts: &[Part]) -> bool
+    ensures { result ≡ list_any is_waiting parts.now }
+{
+    parts.iter().any(|part| part.is_waiting())
+}
+
+/// Whether a part waits for this worker.
+fn any_waits_for(parts: &[Part], worker: u8) -> bool
+    ensures { result ≡ list_any (waits_for worker) parts.now }
+{
+    parts
+        .iter()
+        .any(|part| part.worker == worker && part.is_waiting())
 }
 
 /// The place of the first part that waits.

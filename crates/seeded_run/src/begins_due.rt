@@ -13,27 +13,17 @@ use crate::names_due::are_known;
 use crate::places::desk_place;
 use crate::sights::cell_at;
 use dim_hierarchy::Hierarchy;
-use query_router::Part;
 use row_ledger::Use;
 use script_form::Command;
 use script_run::closes;
 use volap_cell::{Cell, Kind, Role};
-
-/// Whether a part waits for the worker.
-fn any_waits_for(parts: &[Part], worker: u8) -> bool
-    ensures { result ≡ list_any (waits_for worker) parts.now }
-{
-    parts
-        .iter()
-        .any(|part| part.worker == worker && part.is_waiting())
-}
 
 /// Whether a part on the desk in a cell waits for the worker.
 fn is_awaited_at(cells: &[Option<Cell>], at: u32, worker: u8) -> bool
     ensures { result ≡ list_any (waits_for worker) (desk_in (cell_at cells.now at)).parts }
 {
     match cell_at(cells, at) {
-        Some(Cell::Desk { desk, .. }) => any_waits_for(desk.parts(), worker),
+        Some(Cell::Desk { desk, .. }) => desk.awaits(worker),
         _ => false,
     }
 }

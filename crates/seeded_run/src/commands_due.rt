@@ -1,7 +1,7 @@
 //! What is due for an actor with an open command.
 ghost use Rattle.std.specs.Prelude.{◌≡◌, ◌==◌, ◌+◌, [], length, is_none, is_some};
 ghost use Rattle.std.specs.List.{list_any};
-ghost use Rattle.query_router.specs.Desk.{is_open, is_placed, is_refused, is_waiting, verdict_of};
+ghost use Rattle.query_router.specs.Desk.{is_placed, is_refused, verdict_of};
 ghost use Rattle.seeded_run.specs.Due.{balance_kind, desk_of, is_empty_desk, job_kind, kind_at_empty, kind_by_verdict, page_kind, parts_kind, tree_kind, work_kind};
 ghost use Rattle.seeded_run.specs.Look.{cell_at, history_at, setting_by, waits_for_others, world_by};
 ghost use Rattle.volap_cell.specs.Cells.{desk_in};
@@ -10,23 +10,9 @@ ghost use Rattle.volap_cell.specs.Values.{actor_of};
 
 use crate::places::desk_place;
 use crate::sights::{cell_at, events};
-use query_router::Part;
+use query_router::{Desk, Part};
 use row_ledger::Use;
 use volap_cell::{Actor, Balance, Cell, Kind, Role, Work};
-
-/// Whether a part isn't at an end.
-fn any_open(parts: &[Part]) -> bool
-    ensures { result ≡ list_any is_open parts.now }
-{
-    parts.iter().any(|part| part.is_open())
-}
-
-/// Whether a part waits for a worker.
-fn any_waits(parts: &[Part]) -> bool
-    ensures { result ≡ list_any is_waiting parts.now }
-{
-    parts.iter().any(|part| part.is_waiting())
-}
 
 /// Whether no memory was found for a part.
 fn any_refused(parts: &[Part]) -> bool
@@ -42,21 +28,21 @@ fn any_placed(parts: &[Part]) -> bool
     parts.iter().any(|part| part.is_placed())
 }
 
-/// What is due for the command of these parts. What they come to isn't summed up for that.
-fn verdict_kind(parts: &[Part]) -> Option<Kind>
-    ensures { result ≡ kind_by_verdict parts.now (verdict_of parts.now) }
+/// What is due for the command on a desk. What its parts come to isn't summed up for that.
+fn verdict_kind(desk: &Desk) -> Option<Kind>
+    ensures { result ≡ kind_by_verdict desk.now.parts (verdict_of desk.now.parts) }
 {
-    if any_open(parts) {
-        return if any_waits(parts) {
+    if desk.has_open() {
+        return if desk.has_waiting() {
             Some(Kind::TakePart)
         } else {
             None
         };
     }
-    if any_refused(parts) {
+    if any_refused(desk.parts()) {
         return Some(Kind::Note);
     }
-    if any_placed(parts) {
+    if any_placed(desk.parts()) {
         Some(Kind::Ack)
     } else {
         Some(Kind::Answer)
@@ -68,7 +54,7 @@ fn desk_kind(cells: &[Option<Cell>], at: u32) -> Option<Kind>
     ensures { result ≡ parts_kind (Some (desk_in (cell_at cells.now at))) }
 {
     match cell_at(cells, at) {
-        Some(Cell::Desk { desk, .. }) => verdict_kind(desk.parts()),
+        Some(Cell::Desk { desk, .. }) => verdict_kind(desk),
         _ => Some(Kind::Answer),
     }
 }
