@@ -1,3 +1,4 @@
 pub mod Alone
 pub mod Indexes
+pub mod Named
 pub mod Texts

@@ -1,13 +1,15 @@
 //! An index for one thread: rows come in and questions are answered, one after the other.
-ghost use Rattle.std.specs.Prelude.{◌≡◌, ◌<◌, ◌≤◌, ◌^◌, All, IfOk, IfSome, List, None, length, reverse};
+ghost use Rattle.std.specs.Prelude.{◌≡◌, ◌<◌, ◌≤◌, ◌^◌, All, IfOk, IfSome, List, None, is_none, length, position, reverse};
 ghost use Rattle.dim_hierarchy.specs.Filter.{IsNamePick};
 ghost use Rattle.dim_hierarchy.specs.Dimension.{Dimension};
+ghost use Rattle.dim_hierarchy.specs.Row.{leaves};
 ghost use Rattle.row_ledger.specs.declared.settings.Use as settings;
 ghost use Rattle.script_form.specs.declared.script.Command.TheVariants as command;
 ghost use Rattle.seeded_run.specs.Phase.{IsCoreHeld, MayRun, held};
 ghost use Rattle.volap_cell.specs.Steps.{history_in};
 ghost use Rattle.library_runs.specs.Index.{AnswersLast, AnswersNothing, HasDone, IsHeld, IsNew, IsRightIndex, alone, history_of};
 
+use crate::names::first_unknown;
 use dim_hierarchy::{Hierarchy, NameFilter, RowNames};
 use measure_agg::Agg;
 use row_ledger::{Event, Use};
@@ -100,21 +102,30 @@ impl Index {
         })
     }
 
-    /// Inserts a row, of one name for each dimension.
-    pub fn insert(self, alloc: Global, names: RowNames, measure: i64) -> Result<Index, AllocError>
+    /// Inserts a row, of one name for each dimension. Beside the index comes the first dimension whose
+    /// name is not that of a leaf concept, where there is one; then no row came in.
+    pub fn insert(
+        self,
+        alloc: Global,
+        names: RowNames,
+        measure: i64,
+    ) -> Result<(Index, Option<u8>), AllocError>
         requires held { IsHeld self }
         requires names { length names ≡ length self.hierarchy }
-        ensures held { IfOk result IsHeld }
-        ensures done { IfOk result (HasDone self (command.Insert (record { server = 0; measure = measure; names = names }))) }
+        ensures held { IfOk result (λ next. IsHeld next.0) }
+        ensures done { IfOk result (λ next. HasDone self (command.Insert (record { server = 0; measure = measure; names = names })) next.0) }
+        ensures unknown { IfOk result (λ next. next.1 ≡ position is_none (leaves self.hierarchy names)) }
     {
-        self.go_on(
+        let unknown = first_unknown(&self.hierarchy, &names);
+        let next = self.go_on(
             alloc,
             Command::Insert(NewRow {
                 server: 0,
                 measure,
                 names,
             }),
-        )
+        )?;
+        Ok((next, unknown))
     }
 
     /// Asks for the rows under a filter, of one pick for each dimension.

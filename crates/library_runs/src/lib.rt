@@ -3,7 +3,9 @@
 #![tactic(auto)]
 
 mod index;
+mod names;
 mod text;
 
 pub use index::Index;
+pub use names::{RowFault, row, under};
 pub use text::{Answered, run_text};

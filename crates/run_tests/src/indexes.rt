@@ -1,15 +1,14 @@
 //! What is tested of `library_runs`: an index for one thread that is built, filled and asked, and a script from its bytes
 //! to its text.
-ghost use Rattle.std.specs.Prelude.{◌≡◌, All, IfOk, length};
-ghost use Rattle.dim_hierarchy.specs.Filter.{IsNamePick};
+ghost use Rattle.std.specs.Prelude.{◌≡◌, IfOk, length};
 ghost use Rattle.library_runs.specs.Index.{IsHeld};
 
-use dim_hierarchy::{Hierarchy, Name, NameFilter, NamePick, Names, RowNames};
-use library_runs::{Index, run_text};
+use dim_hierarchy::Hierarchy;
+use library_runs::{Index, RowFault, row, run_text, under};
 use measure_agg::Agg;
 use olap_top::Status;
 use script_form::{Script, read_script};
-use std::alloc::{AllocError, Global};
+use std::alloc::Global;
 use std::test::Fail;
 
 /// A country with two towns.
@@ -30,28 +29,6 @@ fn towns(alloc: Global) -> Result<Hierarchy, Fail>
     Ok(hierarchy)
 }
 
-/// The one name of a row, of a text its first 255 bytes.
-fn names(alloc: Global, text: &str) -> Result<RowNames, AllocError>
-    ensures { IfOk result (λ names. length names ≡ 1) }
-{
-    let bytes = text.as_bytes();
-    let mut names = RowNames::new(alloc);
-    names.push(&bytes[..bytes.len().min(255)])?;
-    Ok(names)
-}
-
-/// What lies under one name.
-fn under(alloc: Global, text: &str) -> Result<NameFilter, AllocError>
-    ensures one { IfOk result (λ filter. length filter ≡ 1) }
-    ensures some { IfOk result (λ filter. All IsNamePick filter) }
-{
-    let mut names = Names::new(alloc);
-    names.push(Name::from_bytes(alloc, text.as_bytes())?)?;
-    let mut filter = NameFilter::new(alloc);
-    filter.push(NamePick::Any(names))?;
-    Ok(filter)
-}
-
 /// The count, the sum, the least and the greatest.
 fn parts(total: Option<Agg>) -> Option<(u64, i128, Option<i64>, Option<i64>)> {
     let total = total?;
@@ -64,9 +41,9 @@ fn filled(alloc: Global) -> Result<Index, Fail>
     ensures dims { IfOk result (λ x. length x.hierarchy ≡ 1) }
 {
     let index = Index::open(alloc, towns(alloc)?, 64)?;
-    let index = index.insert(alloc, names(alloc, "berlin")?, 5)?;
-    let index = index.insert(alloc, names(alloc, "munich")?, 7)?;
-    let index = index.insert(alloc, names(alloc, "berlin")?, -9)?;
+    let (index, _) = index.insert(alloc, row(alloc, &["berlin"])?, 5)?;
+    let (index, _) = index.insert(alloc, row(alloc, &["munich"])?, 7)?;
+    let (index, _) = index.insert(alloc, row(alloc, &["berlin"])?, -9)?;
     Ok(index)
 }
 
@@ -75,12 +52,14 @@ fn an_index_counts_what_came_in(rt: HostRuntime) -> Result<(), Fail> {
     let alloc = rt.alloc();
     let index = filled(alloc)?;
     assert_eq!(rt; parts(index.answer()), None);
-    let index = index.query(alloc, under(alloc, "berlin")?)?;
+    let index = index.query(alloc, under(alloc, &[&["berlin"]])?)?;
     assert_eq!(rt; parts(index.answer()), Some((2, -4, Some(-9), Some(5))));
-    let index = index.query(alloc, under(alloc, "de")?)?;
+    let index = index.query(alloc, under(alloc, &[&["de"]])?)?;
+    assert_eq!(rt; parts(index.answer()), Some((3, 3, Some(-9), Some(7))));
+    let index = index.query(alloc, under(alloc, &[&[]])?)?;
     assert_eq!(rt; parts(index.answer()), Some((3, 3, Some(-9), Some(7))));
     // The first pull, and a beginning and an end of each command.
-    assert_eq!(rt; index.events().len(), 11);
+    assert_eq!(rt; index.events().len(), 13);
     Ok(())
 }
 
@@ -88,8 +67,37 @@ fn an_index_counts_what_came_in(rt: HostRuntime) -> Result<(), Fail> {
 fn an_index_answers_nothing_of_a_name_that_it_does_not_know(rt: HostRuntime) -> Result<(), Fail> {
     let alloc = rt.alloc();
     let index = filled(alloc)?;
-    let index = index.query(alloc, under(alloc, "paris")?)?;
+    let index = index.query(alloc, under(alloc, &[&["paris"]])?)?;
     assert_eq!(rt; parts(index.answer()), None);
+    Ok(())
+}
+
+#[test]
+fn an_insert_tells_where_a_name_is_not_that_of_a_leaf(rt: HostRuntime) -> Result<(), Fail> {
+    let alloc = rt.alloc();
+    let index = filled(alloc)?;
+    let (index, unknown) = index.insert(alloc, row(alloc, &["paris"])?, 1)?;
+    assert_eq!(rt; unknown, Some(0));
+    let (index, unknown) = index.insert(alloc, row(alloc, &["de"])?, 1)?;
+    assert_eq!(rt; unknown, Some(0));
+    let (index, unknown) = index.insert(alloc, row(alloc, &["munich"])?, 1)?;
+    assert_eq!(rt; unknown, None);
+    let index = index.query(alloc, under(alloc, &[&["munich", "paris"]])?)?;
+    assert_eq!(rt; parts(index.answer()), None);
+    let index = index.query(alloc, under(alloc, &[&["munich"]])?)?;
+    assert_eq!(rt; parts(index.answer()), Some((2, 8, Some(1), Some(7))));
+    Ok(())
+}
+
+#[test]
+fn a_name_of_more_than_255_bytes_is_not_that_of_a_row(rt: HostRuntime) -> Result<(), Fail> {
+    let alloc = rt.alloc();
+    let long = str::from_utf8(&[b'a'; 256])?;
+    assert_eq!(rt;
+        row(alloc, &["berlin", long]).err(),
+        Some(RowFault::TooLong)
+    );
+    assert_eq!(rt; row(alloc, &["berlin", &long[1..]])?.len(), 2);
     Ok(())
 }
 

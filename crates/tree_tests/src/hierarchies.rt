@@ -147,6 +147,24 @@ fn leaves_are_told_and_names_found(rt: HostRuntime) -> Result<(), Fail> {
     Ok(())
 }
 
+#[test]
+fn concepts_tell_their_names(rt: HostRuntime) -> Result<(), Fail> {
+    const CASES: [(u8, ConceptId, Option<&str>); 7] = [
+        (0, DE, Some("de")),
+        (0, FR, Some("fr")),
+        (0, PARIS, Some("paris")),
+        (1, BLUE, Some("blue")),
+        (0, ConceptId::ALL, None),
+        (1, PARIS, None),
+        (2, DE, None),
+    ];
+    let h = world(rt.alloc())?;
+    for (dim, id, name) in &CASES {
+        assert_eq!(rt; h.name_of(*dim, *id), name.map(str::as_bytes));
+    }
+    Ok(())
+}
+
 /// Compares the coordinates of names, or the dimension of the first that is no leaf's.
 fn expect_coords<R: Abort>(rt: &R, alloc: Global, h: &Hierarchy) -> Result<(), Fail>
     requires { length h.now ≡ 2 }

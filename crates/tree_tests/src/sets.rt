@@ -169,8 +169,8 @@ fn a_plane_has_the_first_half_at_its_left(rt: HostRuntime) -> Result<(), Fail> {
     expect_lefts(&rt, alloc, &places(alloc)?)
 }
 
-/// How a set lies to a filter, and whether it overlaps that.
-type Lies = (Bearing, bool);
+/// How a set lies to a filter, and whether it is inside that and overlaps it.
+type Lies = (Bearing, bool, bool);
 
 /// How a set lies to the filter of lists of names.
 fn lies(alloc: Global, h: &Hierarchy, set: &DescSet, lists: &[&[&str]]) -> Result<Lies, Fail>
@@ -178,8 +178,10 @@ fn lies(alloc: Global, h: &Hierarchy, set: &DescSet, lists: &[&[&str]]) -> Resul
     requires lists { length lists.now ≡ length h.now }
 {
     let filter = filter(alloc, h, lists)?;
+    let inside = set.inside(h, &filter);
     let overlaps = set.overlaps(h, &filter);
-    Ok((set.bearing(&h.compile(alloc, &filter)?), overlaps))
+    let bearing = set.bearing(&h.compile(alloc, &filter)?);
+    Ok((bearing, inside, overlaps))
 }
 
 /// The concepts of a set, those that are picked, and how they lie.
@@ -199,14 +201,14 @@ fn expect_lies<R: Abort>(rt: &R, alloc: Global, h: &Hierarchy, cases: &[Case]) -
 #[test]
 fn a_set_is_inside_a_filter_overlaps_it_or_is_apart(rt: HostRuntime) -> Result<(), Fail> {
     const CASES: [Case; 8] = [
-        (&["a", "b"], &[], (Bearing::Inside, true)),
-        (&["a", "b"], &["c", "b", "a"], (Bearing::Inside, true)),
-        (&["a", "b"], &["D"], (Bearing::Inside, true)),
-        (&["a", "b"], &["b", "c"], (Bearing::Overlaps, true)),
-        (SEVEN, &["g"], (Bearing::Overlaps, true)),
-        (&["a", "b"], &["c"], (Bearing::Apart, false)),
-        (&[], &[], (Bearing::Inside, false)),
-        (&[], &["c"], (Bearing::Inside, false)),
+        (&["a", "b"], &[], (Bearing::Inside, true, true)),
+        (&["a", "b"], &["c", "b", "a"], (Bearing::Inside, true, true)),
+        (&["a", "b"], &["D"], (Bearing::Inside, true, true)),
+        (&["a", "b"], &["b", "c"], (Bearing::Overlaps, false, true)),
+        (SEVEN, &["g"], (Bearing::Overlaps, false, true)),
+        (&["a", "b"], &["c"], (Bearing::Apart, false, false)),
+        (&[], &[], (Bearing::Inside, true, false)),
+        (&[], &["c"], (Bearing::Inside, true, false)),
     ];
     let alloc = rt.alloc();
     expect_lies(&rt, alloc, &places(alloc)?, &CASES)
@@ -217,7 +219,7 @@ fn a_set_of_no_dimension_is_inside_and_overlaps_nothing(rt: HostRuntime) -> Resu
     let alloc = rt.alloc();
     let h = Hierarchy::new(alloc);
     let set = DescSet::empty(&h);
-    assert_eq!(rt; lies(alloc, &h, &set, &[])?, (Bearing::Inside, false));
+    assert_eq!(rt; lies(alloc, &h, &set, &[])?, (Bearing::Inside, true, false));
     Ok(())
 }
 
@@ -353,9 +355,9 @@ fn a_set_lies_to_a_filter_as_in_all_its_dimensions(rt: HostRuntime) -> Result<()
     const BOTH: &[&str] = &["a", "b"];
     const BACK: &[&str] = &["b", "a"];
     const ALL: &[&str] = &[];
-    const INSIDE: Lies = (Bearing::Inside, true);
-    const OVERLAPS: Lies = (Bearing::Overlaps, true);
-    const APART: Lies = (Bearing::Apart, false);
+    const INSIDE: Lies = (Bearing::Inside, true, true);
+    const OVERLAPS: Lies = (Bearing::Overlaps, false, true);
+    const APART: Lies = (Bearing::Apart, false, false);
     const CASES: [WideCase; 7] = [
         ([ALL, ALL, ALL, ALL, ALL, ALL, ALL, ALL], INSIDE),
         ([A, BOTH, BACK, ALL, BOTH, ALL, ALL, A], INSIDE),
