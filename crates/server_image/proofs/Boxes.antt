@@ -1,6 +1,6 @@
 -- How the boxes of spots grow.
 use Rattle.std.proofs.Common.{ℕ, zero, suc, ◌≡◌, ◌+◌, ◌<◌, List, [], ◌∷◌, ◌++◌, length, get_or, set, take, drop, refl, sym, ap, ◌∙◌, subst, arith, All, add-zero}
-use Rattle.std.specs.Prelude.{◌==◌, if◌then◌else◌}
+use Rattle.std.specs.Prelude.{◌==◌}
 use Rattle.std.specs.List.{AllZip, range_with_len}
 use Rattle.std.proofs.lemmas.List.{append-nil, append_assoc, take_more_set, drop-set-lt, length-set, get_or-drop, drop-drop}
 use Rattle.std.proofs.lemmas.List.{map-id}
@@ -16,7 +16,7 @@ use Rattle.describing_set.specs.Sets.{IsDescSetOf, GrowsBy, AreAmong}
 use Rattle.describing_set.specs.declared.set.DescSet.{DescSet}
 use Rattle.describing_set.specs.declared.listing.Spot.{Spot}
 use Rattle.server_image.specs.declared.image.Growth.{Growth}
-use Rattle.server_image.specs.Spots.{spot_ids, is_among, IsWidened, Widens, IsGrown, Grows, AreBoxes, along}
+use Rattle.server_image.specs.Spots.{spot_ids, IsGrown, Grows, AreBoxes, along}
 use Rattle.server_image.specs.Registry.{IsFirstSpot}
 use Rattle.server_image.specs.Image.{noted, AreGrowths}
 use Rattle.server_image.proofs.Lists.{by_test}
@@ -29,17 +29,17 @@ AllZip-snoc R [] (b ∷ ys) x y all r = absurd all
 AllZip-snoc R (a ∷ xs) [] x y all r = absurd all
 AllZip-snoc R (a ∷ xs) (b ∷ ys) x y all r = (all.0, AllZip-snoc R xs ys x y all.1 r)
 
-pub Widens-ids : (h : List Dimension) (ids : List ℕ) (by : DescSet) (xs ys : List Spot) → Widens h ids by xs ys → spot_ids ys ≡ spot_ids xs
-Widens-ids h ids by [] [] w = refl
-Widens-ids h ids by [] (y ∷ ys) w = absurd w
-Widens-ids h ids by (x ∷ xs) [] w = absurd w
-Widens-ids h ids by (x ∷ xs) (y ∷ ys) w = let first = w.0.shard in let rest = Widens-ids h ids by xs ys w.1 in cc
+pub Grows-ids : (h : List Dimension) (more : ℕ → List Coord) (xs ys : List Spot) → Grows h more xs ys → spot_ids ys ≡ spot_ids xs
+Grows-ids h more [] [] g = refl
+Grows-ids h more [] (y ∷ ys) g = absurd g
+Grows-ids h more (x ∷ xs) [] g = absurd g
+Grows-ids h more (x ∷ xs) (y ∷ ys) g = let first = g.0.shard in let rest = Grows-ids h more xs ys g.1 in cc
 
-pub Widens-length : (h : List Dimension) (ids : List ℕ) (by : DescSet) (xs ys : List Spot) → Widens h ids by xs ys → length ys ≡ length xs
-Widens-length h ids by [] [] w = refl
-Widens-length h ids by [] (y ∷ ys) w = absurd w
-Widens-length h ids by (x ∷ xs) [] w = absurd w
-Widens-length h ids by (x ∷ xs) (y ∷ ys) w = ap (λ n. suc n) (Widens-length h ids by xs ys w.1)
+pub Grows-length : (h : List Dimension) (more : ℕ → List Coord) (xs ys : List Spot) → Grows h more xs ys → length ys ≡ length xs
+Grows-length h more [] [] g = refl
+Grows-length h more [] (y ∷ ys) g = absurd g
+Grows-length h more (x ∷ xs) [] g = absurd g
+Grows-length h more (x ∷ xs) (y ∷ ys) g = ap (λ n. suc n) (Grows-length h more xs ys g.1)
 
 -- before a place each spot has become what it should, from there on the spots are as they were, and each box is valid
 abbrev pub AreDone : List Dimension → (Spot → Spot → Type 0) → ℕ → List Spot → List Spot → Type 0
@@ -64,27 +64,8 @@ done-more h Becomes i before now x y lt is becomes valid done =
     drop_more : (l : List Spot) → drop (i + 1) l ≡ drop 1 (drop i l)
     drop_more l = sym (drop-drop 1 i l)
 
--- The box that is joined with the set of one coordinate grows by it.
-
 no_more : (h : List Dimension) (rows : List Coord) (set : DescSet) → IsSetOf h rows set → IsSetOf h (rows ++ []) set
 no_more h rows set s = subst (λ l. IsSetOf h l set) (sym (append-nil rows)) s
-
-pub IsWidened-IsGrown : (h : List Dimension) (path : List ℕ) (at : Coord) (by : DescSet) (old new : Spot) → IsCoordOf h at → IsSetOf h (at ∷ []) by → IsWidened h path by old new → IsGrown h (along path at old.shard) old new
-IsWidened-IsGrown h path at by old new valid one w = record {
-  shard = w.shard;
-  worker = w.worker;
-  set = λ rows all s. by_test (is_among path old.shard)
-      (λ e. subst (λ b. IsSetOf h (rows ++ (if b then at ∷ [] else [])) new.set) (sym e)
-      ((w.joined e).joined rows (at ∷ []) all (All-cons (IsCoordOf h) at [] valid (All-nil (IsCoordOf h))) s one))
-      (λ e. subst (λ b. IsSetOf h (rows ++ (if b then at ∷ [] else [])) new.set) (sym e)
-      (no_more h rows new.set (subst (λ d. IsSetOf h rows d) (sym (w.other e)) s)));
-}
-
-pub Widens-Grows : (h : List Dimension) (path : List ℕ) (at : Coord) (by : DescSet) (xs ys : List Spot) → IsCoordOf h at → IsSetOf h (at ∷ []) by → Widens h path by xs ys → Grows h (along path at) xs ys
-Widens-Grows h path at by [] [] valid one w = tt
-Widens-Grows h path at by [] (y ∷ ys) valid one w = absurd w
-Widens-Grows h path at by (x ∷ xs) [] valid one w = absurd w
-Widens-Grows h path at by (x ∷ xs) (y ∷ ys) valid one w = (IsWidened-IsGrown h path at by x y valid one w.0, Widens-Grows h path at by xs ys valid one w.1)
 
 -- A box that grows by one coordinate.
 

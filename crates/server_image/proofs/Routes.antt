@@ -1,13 +1,15 @@
 -- The spot before which no other comes.
-use Rattle.std.proofs.Common.{ℕ, ◌≡◌, ◌+◌, ◌<◌, ◌⊎◌, inl, inr, List, Some, sym, ap, ◌∙◌, subst, arith}
+use Rattle.std.proofs.Common.{ℕ, ◌≡◌, ◌+◌, ◌<◌, ◌≤◌, ◌⊎◌, inl, inr, List, length, Some, refl, sym, ap, ◌∙◌, subst, arith}
 use Rattle.std.specs.Prelude.{slice_get}
 use Rattle.std.proofs.lemmas.Bool.{cases_lt}
-use Rattle.std.proofs.lemmas.Option.{same_Some}
+use Rattle.std.proofs.lemmas.Option.{same_Some, slice_get_within}
 use Rattle.dim_hierarchy.specs.Dimension.{Dimension}
 use Rattle.dim_hierarchy.specs.declared.row.Coord.{Coord}
 use Rattle.describing_set.specs.Sets.{growth_of, size_of}
 use Rattle.describing_set.specs.declared.listing.Spot.{Spot}
-use Rattle.server_image.specs.Image.{RanksBefore}
+use Rattle.server_image.specs.declared.rank.Rank.{Rank}
+use Rattle.server_image.specs.Image.{RanksBefore, IsRoute}
+use Rattle.server_image.specs.Rank.{rank_of, IsLower, IsRouteAmong}
 
 -- The order, over its numbers: growth, size and id.
 
@@ -45,14 +47,9 @@ RanksBefore-through : (h : List Dimension) (at : Coord) (a b c : Spot) → Ranks
 RanksBefore-through h at a b c =
     through (growth_of h a.set at) (size_of h a.set) a.shard (growth_of h b.set at) (size_of h b.set) b.shard (growth_of h c.set at) (size_of h c.set) c.shard
 
--- of the first n spots none comes before the one at a place
-pub record IsFirstOf (h : List Dimension) (at : Coord) (spots : List Spot) (n best : ℕ) : Type 0 where
-  pub within : best < n
-  pub first : (spot other : Spot) (k : ℕ) → k < n → slice_get spots best ≡ Some spot → slice_get spots k ≡ Some other → ¬ RanksBefore h at other spot
-
-module _ (h : List Dimension) (at : Coord) (spots : List Spot) (n best : ℕ) (was : IsFirstOf h at spots n best) (spot next : Spot) (here : slice_get spots best ≡ Some spot) (there : slice_get spots n ≡ Some next) where
-  pub IsFirstOf-keeps : ¬ RanksBefore h at next spot → IsFirstOf h at spots (n + 1) best
-  IsFirstOf-keeps unless = record {
+module _ (h : List Dimension) (at : Coord) (spots : List Spot) (n best : ℕ) (was : IsRouteAmong h at spots n best) (spot next : Spot) (here : slice_get spots best ≡ Some spot) (there : slice_get spots n ≡ Some next) where
+  pub IsRouteAmong-keeps : ¬ RanksBefore h at next spot → IsRouteAmong h at spots (n + 1) best
+  IsRouteAmong-keeps unless = record {
     within = let w = was.within in omega (arith, w);
     first = λ one other k lt p q. elim (cases_lt k n) [
       | inl less ↦ was.first one other k less p q
@@ -64,8 +61,8 @@ module _ (h : List Dimension) (at : Coord) (spots : List Spot) (n best : ℕ) (w
     ];
   }
 
-  pub IsFirstOf-takes : RanksBefore h at next spot → IsFirstOf h at spots (n + 1) n
-  IsFirstOf-takes before = record {
+  pub IsRouteAmong-takes : RanksBefore h at next spot → IsRouteAmong h at spots (n + 1) n
+  IsRouteAmong-takes before = record {
     within = omega arith;
     first = λ one other k lt p q.
         let one_is : next ≡ one = same_Some next one (sym there ∙ p) in
@@ -77,3 +74,59 @@ module _ (h : List Dimension) (at : Coord) (spots : List Spot) (n best : ℕ) (w
               subst (λ s. ¬ RanksBefore h at s next) same (RanksBefore-not_itself h at next)
         ]);
   }
+
+-- the boxes of the first n spots don't cover the coordinate
+abbrev pub AreBeyond : List Dimension → Coord → List Spot → ℕ → Type 0
+AreBeyond h at spots n = (other : Spot) (k : ℕ) → k < n → slice_get spots k ≡ Some other → 0 < growth_of h other.set at
+
+-- of the first n spots none comes before the one at a place, and this is its rank
+pub record IsBestRanked (h : List Dimension) (at : Coord) (spots : List Spot) (n place : ℕ) (least : Rank) : Type 0 where
+  pub within : place < length spots
+  pub best : IsRouteAmong h at spots n place
+  pub rank : (spot : Spot) → slice_get spots place ≡ Some spot → least ≡ rank_of h at spot
+
+-- what the code reads is the rank
+pub rank_read : (h : List Dimension) (at : Coord) (spot : Spot) (growth : ℕ) (rank : Rank) → rank ≡ record { growth = growth; size = size_of h spot.set; shard = spot.shard } → growth ≡ growth_of h spot.set at → rank ≡ rank_of h at spot
+rank_read h at spot growth rank is counted = subst (λ g. rank ≡ record { growth = g; size = size_of h spot.set; shard = spot.shard }) counted is
+
+pub IsBestRanked-read : (h : List Dimension) (at : Coord) (spots : List Spot) (n place : ℕ) (least : Rank) (spot : Spot) → slice_get spots place ≡ Some spot → IsRouteAmong h at spots n place → least ≡ rank_of h at spot → IsBestRanked h at spots n place least
+IsBestRanked-read h at spots n place least spot here first is = record {
+  within = slice_get_within spots place spot here;
+  best = first;
+  rank = λ one p. is ∙ ap (rank_of h at) (same_Some spot one (sym here ∙ p));
+}
+
+pub IsRoute-ranked : (h : List Dimension) (at : Coord) (spots : List Spot) (n place : ℕ) (least : Rank) → length spots ≤ n → IsBestRanked h at spots n place least → IsRoute h at spots place
+IsRoute-ranked h at spots n place least all b = record {
+  within = b.within;
+  first = λ spot other k p q. b.best.first spot other k (let lt = slice_get_within spots k other q in omega (arith, lt, all)) p q;
+}
+
+-- the best rank so far, and that of the next spot
+module _ (h : List Dimension) (at : Coord) (spots : List Spot) (n place : ℕ) (least : Rank) (was : IsBestRanked h at spots n place least) (spot next : Spot) (here : slice_get spots place ≡ Some spot) (there : slice_get spots n ≡ Some next) where
+  as_spots : (rank : Rank) → rank ≡ rank_of h at next → IsLower rank least → RanksBefore h at next spot
+  as_spots rank is lower = subst (IsLower (rank_of h at next)) (was.rank spot here) (subst (λ r. IsLower r least) is lower)
+
+  as_ranks : (rank : Rank) → rank ≡ rank_of h at next → RanksBefore h at next spot → IsLower rank least
+  as_ranks rank is before = subst (IsLower rank) (sym (was.rank spot here)) (subst (λ r. IsLower r (rank_of h at spot)) (sym is) before)
+
+  pub IsBestRanked-takes : (rank : Rank) → rank ≡ rank_of h at next → IsLower rank least → IsBestRanked h at spots (n + 1) n rank
+  IsBestRanked-takes rank is lower = record {
+    within = slice_get_within spots n next there;
+    best = IsRouteAmong-takes h at spots n place was.best spot next here there (as_spots rank is lower);
+    rank = λ one p. is ∙ ap (rank_of h at) (same_Some next one (sym there ∙ p));
+  }
+
+  pub IsBestRanked-keeps : (rank : Rank) → rank ≡ rank_of h at next → ¬ IsLower rank least → IsBestRanked h at spots (n + 1) place least
+  IsBestRanked-keeps rank is unless = record {
+    within = was.within;
+    best = IsRouteAmong-keeps h at spots n place was.best spot next here there (λ before. unless (as_ranks rank is before));
+    rank = was.rank;
+  }
+
+  -- a box that is grown by more than the least is no better
+  pub IsBestRanked-beyond : least.growth < growth_of h next.set at → IsBestRanked h at spots (n + 1) place least
+  IsBestRanked-beyond more = IsBestRanked-keeps (rank_of h at next) refl (λ lower. elim lower [
+    | inl less ↦ omega (arith, less, more)
+    | inr level ↦ let e = level.0 in omega (arith, e, more)
+  ])

@@ -1,3 +1,4 @@
 pub mod Spots
 pub mod Registry
 pub mod Image
+pub mod Rank

@@ -1,12 +1,11 @@
 -- Lists of spots: finding one, and how their boxes grow.
-use Rattle.std.specs.Prelude.{ℕ, ◌≡◌, ◌==◌, nat_lt, Bool, true, false, if◌then◌else◌, Option, Some, None, List, [], ◌∷◌, ◌++◌, map, All}
+use Rattle.std.specs.Prelude.{ℕ, ◌≡◌, ◌==◌, nat_lt, Bool, if◌then◌else◌, Option, Some, None, List, [], ◌∷◌, ◌++◌, map, All}
 use Rattle.std.specs.List.{AllZip, insert, remove, position_or_len, list_any}
 use Rattle.dim_hierarchy.specs.declared.row.Coord.{Coord}
 use Rattle.dim_hierarchy.specs.Dimension.{Dimension}
 use Rattle.dim_hierarchy.specs.Row.{IsCoordOf}
 use Rattle.describing_set.specs.DescSet.{IsSetOf}
-use Rattle.describing_set.specs.Sets.{IsDescSetOf, JoinsTo}
-use Rattle.describing_set.specs.declared.set.DescSet.{DescSet}
+use Rattle.describing_set.specs.Sets.{IsDescSetOf}
 use Rattle.describing_set.specs.declared.listing.Spot.{Spot}
 
 -- the boxes are sets of this hierarchy
@@ -43,17 +42,6 @@ with_spot s spots = insert spots (position_or_len (λ x. nat_lt s.shard x.shard)
 -- one of the ids
 abbrev pub is_among : List ℕ → ℕ → Bool
 is_among ids id = list_any (λ x. x == id) ids
-
--- the box is joined with a set where the spot has one of these ids; nothing else changes
-pub record IsWidened (h : List Dimension) (ids : List ℕ) (by : DescSet) (old new : Spot) : Type 0 where
-  pub shard : new.shard ≡ old.shard
-  pub worker : new.worker ≡ old.worker
-  pub joined : is_among ids old.shard ≡ true → JoinsTo h old.set by new.set
-  pub other : is_among ids old.shard ≡ false → new.set ≡ old.set
-
--- the box of each spot of these ids is joined with a set
-abbrev pub Widens : List Dimension → List ℕ → DescSet → List Spot → List Spot → Type 0
-Widens h ids by before now = AllZip (IsWidened h ids by) before now
 
 -- the box becomes that of its coordinates with these; nothing else changes
 pub record IsGrown (h : List Dimension) (more : List Coord) (old new : Spot) : Type 0 where

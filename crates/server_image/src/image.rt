@@ -4,11 +4,11 @@ ghost use Rattle.dim_hierarchy.specs.Row.{IsCoordOf};
 ghost use Rattle.dim_hierarchy.specs.Filter.{IsFilterOf};
 ghost use Rattle.server_image.specs.Spots.{AreBoxes};
 
-use crate::rank::comes_before;
+use crate::rank::first_for;
 use crate::registry::Registry;
 use crate::spots::grow_spots;
 use describing_set::{Listing, Path, Spot};
-use dim_hierarchy::{Coord, CoordLineages, Filter, Hierarchy};
+use dim_hierarchy::{Coord, Filter, Hierarchy};
 use std::alloc::{AllocError, Global};
 use std::marker::Model;
 
@@ -192,21 +192,4 @@ fn overlapping(
     Ok(listing)
 }
 
-/// The place of the spot before which no other comes.
-fn first_for(spots: &[Spot], at: &CoordLineages, h: &Hierarchy) -> usize
-    requires some { 0 < length spots.now }
-    requires boxes { AreBoxes h.now spots.now }
-    requires at { at.now.hierarchy ≡ h.now }
-    ensures { IsRoute h.now at.now.coord spots.now result }
-{
-    let mut best = 0;
-    for place in 1..spots.len() {
-        let sooner = comes_before(&spots[place], &spots[best], at, h);
-        if sooner {
-            best = place;
-        }
-    }
-    best
-}
-
-ghost use Rattle.server_image.specs.Image.{IsRoute, planned};
+ghost use Rattle.server_image.specs.Image.{planned};

@@ -1,13 +1,13 @@
 //! All shards that were ever made.
 ghost use Rattle.std.specs.Prelude.{◌≡◌, ◌≢◌, ◌+◌, ◌<◌, ◌≤◌, ◌∷◌, ◌++◌, [], length, vec_len, vec_capacity, IsTrue, false, IfOk, OnOk, OnErr};
-ghost use Rattle.describing_set.specs.Sets.{IsDescSetOf};
-ghost use Rattle.server_image.specs.Spots.{AreBoxes, Widens, Grows};
+ghost use Rattle.dim_hierarchy.specs.Row.{IsCoordOf};
+ghost use Rattle.server_image.specs.Spots.{AreBoxes, Grows, along};
 ghost use Rattle.server_image.specs.Image.{noted, AreGrowths};
 
 use crate::image::Growth;
-use crate::spots::{copy_spots, has_spot, place_of, put_spot, widen_spots, worker_in};
+use crate::spots::{copy_spots, grow_spots, has_spot, place_of, put_spot, worker_in};
 use describing_set::{DescSet, Listing, Spot};
-use dim_hierarchy::Hierarchy;
+use dim_hierarchy::{Coord, Hierarchy};
 use std::alloc::{AllocError, Global};
 use std::marker::Model;
 
@@ -99,16 +99,16 @@ impl Registry {
         worker_in(id, &self.frontier).or(worker_in(id, &self.retired))
     }
 
-    /// Joins the box of a shard of the frontier with a set; for another id nothing changes. Takes
+    /// Grows the box of a shard of the frontier by a coordinate; for another id nothing changes. Takes
     /// no memory.
-    pub fn widen(&mut self, id: u32, by: &DescSet, h: &Hierarchy)
+    fn grow(&mut self, id: u32, at: &Coord, h: &Hierarchy)
         requires boxes { AreBoxes h.now self.old.frontier }
-        requires by { IsDescSetOf h.now by.now }
-        ensures widened { Widens h.now (id ∷ []) by.now self.old.frontier self.new.frontier }
+        requires at { IsCoordOf h.now at.now }
+        ensures grown { Grows h.now (along (id ∷ []) at.now) self.old.frontier self.new.frontier }
         ensures boxes { AreBoxes h.now self.new.frontier }
         ensures retired { self.new.retired ≡ self.old.retired }
     {
-        widen_spots(&mut self.frontier, &[id], by, h);
+        grow_spots(&mut self.frontier, &[id], at, h);
     }
 
     /// Grows the boxes of shards of the frontier by what was noted; other shards' growths are
@@ -122,7 +122,7 @@ impl Registry {
         ensures len { length self.new.frontier ≡ length self.old.frontier }
     {
         for growth in growths {
-            self.widen(growth.shard, &DescSet::of_coord(h, &growth.at), h);
+            self.grow(growth.shard, &growth.at, h);
         }
     }
 

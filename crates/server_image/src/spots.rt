@@ -3,7 +3,7 @@ ghost use Rattle.std.specs.Prelude.{◌≡◌, ◌==◌, ◌+◌, ◌<◌, ◌�
 ghost use Rattle.std.specs.List.{position_or_len, position};
 ghost use Rattle.dim_hierarchy.specs.Row.{IsCoordOf};
 ghost use Rattle.describing_set.specs.Sets.{IsDescSetOf};
-ghost use Rattle.server_image.specs.Spots.{AreBoxes, is_among, has_spot, place_of, worker_in, with_spot, IsWidened, Widens, IsGrown, along, Grows};
+ghost use Rattle.server_image.specs.Spots.{AreBoxes, is_among, has_spot, place_of, worker_in, with_spot, IsGrown, along, Grows};
 
 use describing_set::{DescSet, Spot};
 use dim_hierarchy::{Coord, Hierarchy};
@@ -79,35 +79,11 @@ pub fn copy_spots(spots: &[Spot], into: &mut Vec<Spot>)
     }
 }
 
-/// Joins a spot's box with a set where it has one of these ids.
-fn widen_spot(spot: &mut Spot, ids: &[u32], by: &DescSet, h: &Hierarchy)
-    requires box_of { IsDescSetOf h.now spot.old.set }
-    requires by { IsDescSetOf h.now by.now }
-    ensures widened { IsWidened h.now ids.now by.now spot.old spot.new }
-    ensures valid { IsDescSetOf h.now spot.new.set }
-{
-    if is_among(ids, spot.shard) {
-        spot.set = spot.set.join(h, by);
-    }
-}
-
 /// Whether the id is one of these.
 fn is_among(ids: &[u32], id: u32) -> bool
     ensures { result ≡ is_among ids.now id }
 {
     ids.iter().any(|x| *x == id)
-}
-
-/// Joins the box of each spot of these ids with a set.
-pub fn widen_spots(spots: &mut Vec<Spot>, ids: &[u32], by: &DescSet, h: &Hierarchy)
-    requires boxes { AreBoxes h.now spots.old.items }
-    requires by { IsDescSetOf h.now by.now }
-    ensures widened { Widens h.now ids.now by.now spots.old.items spots.new.items }
-    ensures boxes { AreBoxes h.now spots.new.items }
-{
-    for place in 0..spots.len() {
-        widen_spot(&mut spots[place], ids, by, h);
-    }
 }
 
 /// Grows a spot's box by a coordinate where it has one of these ids. A box that covers the coordinate
