@@ -10,8 +10,10 @@ use Rattle.std.proofs.lemmas.List.Elements.{All-nil, All-push, All-weaker}
 use Rattle.row_ledger.specs.declared.event.Event.{Event}
 use Rattle.row_ledger.specs.declared.event.Event.TheVariants.{Acked, Answered, Failed, Split, Shown, Ended}
 use Rattle.row_ledger.specs.declared.page.Page.{Page}
-use Rattle.row_ledger.specs.Past.{end_in, event_at, has_ended, is_end_of, number_in, page_in, page_of, session_in}
-use Rattle.script_run.specs.Places.{sessions, begins_in, begins_of}
+use Rattle.row_ledger.specs.Past.{end_in, event_at, has_ended, is_end_of, page_in, page_of, session_in}
+use Rattle.row_ledger.specs.Belonging.{number_in}
+use Rattle.script_run.specs.Places.{begins_in, begins_of}
+use Rattle.script_run.specs.Streams.{sessions}
 use Rattle.answer_text.specs.Printed.{split_for}
 use Rattle.answer_text.specs.Marks.{HasBegin, HasMark, IsPosition, IsQuiet, KnowsBegins, KnowsNewest, RefersBack, is_at, newest, shown, shown_for}
 use Rattle.answer_text.specs.Notes.{KnowsMarks}

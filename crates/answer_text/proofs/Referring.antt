@@ -4,7 +4,8 @@ use Rattle.std.specs.Prelude.{IfSome}
 use Rattle.std.proofs.lemmas.Bool.{false≢true}
 use Rattle.row_ledger.specs.declared.event.Event.{Event}
 use Rattle.row_ledger.specs.declared.event.Event.TheVariants as event
-use Rattle.row_ledger.specs.Past.{call_in, insert_in, number_in, query_in}
+use Rattle.row_ledger.specs.Past.{call_in, insert_in, query_in}
+use Rattle.row_ledger.specs.Belonging.{number_in}
 use Rattle.row_ledger.specs.Right.{EachEvent, Stands, StandsRight}
 use Rattle.row_ledger.specs.Site.{Site}
 use Rattle.row_ledger.proofs.Fresh.{event_at-within, kind-within}

@@ -9,7 +9,8 @@ use Rattle.std.proofs.lemmas.List.Sums.{count_by_more_yes, count_by_more_no, cou
 use Rattle.row_ledger.specs.declared.event.Event.{Event}
 use Rattle.row_ledger.specs.declared.settings.Use.{Use}
 use Rattle.script_form.specs.declared.script.Command.{Command}
-use Rattle.script_run.specs.Places.{sessions, begins_of, count_of, place_behind, places_behind, session_of}
+use Rattle.script_run.specs.Places.{begins_of, count_of, place_behind, places_behind, session_of}
+use Rattle.script_run.specs.Streams.{sessions}
 use Rattle.answer_text.specs.Marks.{Counts, IsPosition}
 use Rattle.answer_text.proofs.MarkFacts.{begins_of-below}
 

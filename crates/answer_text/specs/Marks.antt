@@ -6,10 +6,11 @@ use Rattle.row_ledger.specs.declared.event.Event.{Event}
 use Rattle.row_ledger.specs.declared.event.Event.TheVariants.{Shown}
 use Rattle.row_ledger.specs.declared.page.Page.{Page}
 use Rattle.row_ledger.specs.declared.settings.Use.{Use}
-use Rattle.row_ledger.specs.Past.{number_in}
+use Rattle.row_ledger.specs.Belonging.{number_in}
 use Rattle.row_ledger.specs.Right.{EachEvent}
 use Rattle.script_form.specs.declared.script.Command.{Command}
-use Rattle.script_run.specs.Places.{sessions, begins_of, count_of}
+use Rattle.script_run.specs.Places.{begins_of, count_of}
+use Rattle.script_run.specs.Streams.{sessions}
 
 -- the position of the command for which an event shows a page
 abbrev pub shown_for : Event → Option ℕ

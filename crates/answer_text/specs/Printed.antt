@@ -61,7 +61,6 @@ abbrev pub total_text : Aggregate → List ℕ
 total_text a =
     decimal a.count ++ (codes " " ++ (signed_decimal a.sum ++ (codes " " ++ (or_dash a.least ++ (codes " " ++ or_dash a.greatest)))))
 
--- two numbers
 abbrev pub pair_text : ℕ → ℕ → List ℕ
 pair_text a b = decimal a ++ (codes " " ++ decimal b)
 
@@ -200,7 +199,6 @@ texts with commands history = texts_behind with [] (phases commands) history
 abbrev pub told_to : ℕ → Use → List Command → List Event → List ℕ
 told_to k with commands history = flat_map (λ text. text) (take k (texts with commands history))
 
--- the whole text
 abbrev pub told : Use → List Command → List Event → List ℕ
 told with commands history = flat_map (λ text. text) (texts with commands history)
 

@@ -1,8 +1,6 @@
 -- The summary of a run of the generated script, in place of its text: how many inserts found no memory, and the aggregate of each query
 -- and of the audit.
-use Rattle.std.specs.Prelude.{ℕ, Bool, true, false, ◌||◌, Option, Some, None, option_and_then, List, [], ◌∷◌, ◌++◌, map, filter, count_by, zip, codes}
-use Rattle.std.specs.List.{flat_map}
-use Rattle.std.specs.Fmt.{decimal}
+use Rattle.std.specs.Prelude.{ℕ, Bool, true, false, ◌||◌, Option, Some, None, option_and_then, List, [], ◌∷◌, ◌++◌, map, flat_map, filter, count_by, zip, codes, decimal}
 use Rattle.measure_agg.specs.Aggregate.{Aggregate}
 use Rattle.row_ledger.specs.declared.event.Event.{Event}
 use Rattle.row_ledger.specs.declared.event.Event.TheVariants.{Answered, Failed, Refused}

@@ -38,7 +38,8 @@ pub(crate) struct Index<'a> {
 impl<'a> Index<'a> {
     ghost use Rattle.std.specs.Prelude.{Some, slice_get, option_and_then};
     ghost use Rattle.row_ledger.specs.Past.{event_at, is_over, page_of};
-    ghost use Rattle.script_run.specs.Places.{sessions, begins_of, end_of, is_over_at};
+    ghost use Rattle.script_run.specs.Places.{begins_of, end_of, is_over_at};
+    ghost use Rattle.script_run.specs.Streams.{sessions};
     ghost use Rattle.answer_text.specs.Answer.{said};
     ghost use Rattle.answer_text.specs.Printed.{answer_at, split_of};
     ghost use Rattle.answer_text.specs.Marks.{IsPosition};

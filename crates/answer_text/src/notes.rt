@@ -5,7 +5,7 @@
 //! one: where there are none, it takes no memory.
 ghost use Rattle.std.specs.Prelude.{◌≡◌, ◌+◌, [], ℕ, ◌<◌, ◌≤◌, None, Some, length, reverse, take, slice_index_or, IfOk, OnOk};
 ghost use Rattle.row_ledger.specs.Past.{end_in, session_in};
-ghost use Rattle.script_run.specs.Places.{sessions};
+ghost use Rattle.script_run.specs.Streams.{sessions};
 ghost use Rattle.answer_text.specs.Printed.{split_for};
 ghost use Rattle.answer_text.specs.Marks.{HasBegin, HasMark, RefersBack, shown_for};
 

@@ -1,7 +1,7 @@
 //! The blocks of cells, made as they are needed.
 ghost use Rattle.std.specs.Prelude.{◌≡◌, ◌≤◌, ◌<◌, ◌+◌, ◌++◌, ◌∷◌, ◌^◌, [], true, false, min, length, replicate, set, slice_get, IfSome, OnOk};
 ghost use Rattle.std.specs.Option.{option_copied};
-ghost use Rattle.dim_hierarchy.specs.Row.{IsRowOf};
+ghost use Rattle.dim_hierarchy.specs.Rows.{IsRowOf};
 ghost use Rattle.dc_node.specs.Block.{rows_in, entries_in, is_leaf, is_full, with_rows, IsBodyOf};
 ghost use Rattle.dc_node.specs.declared.block.Block.{Block};
 ghost use Rattle.link_descent.specs.Pass.{PassesDown};

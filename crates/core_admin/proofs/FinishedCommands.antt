@@ -1,7 +1,8 @@
 -- A job comes to its end: its command of one action ends in the same commit, and a balance goes on to its next action.
 use Rattle.std.proofs.Common.{◌≡◌, ◌≢◌, ℕ, ◌<◌, List, ◌∷◌, Bool, eqb, length, Option, Some, None, option_and_then, refl, sym, ap, ◌∙◌, subst, inl, inr, arith, le_of_eq, eq-eqb}
 use Rattle.std.proofs.lemmas.Bool.{or_left}
-use Rattle.row_ledger.specs.Past.{end_in, event_at, has_ended, insert_at, insert_in, is_end_of, number_in, query_at, query_in, session_in}
+use Rattle.row_ledger.specs.Past.{end_in, event_at, has_ended, insert_at, insert_in, is_end_of, query_at, query_in, session_in}
+use Rattle.row_ledger.specs.Belonging.{number_in}
 use Rattle.row_ledger.specs.Kept.{KeepsRight}
 use Rattle.row_ledger.specs.declared.event.Event.{Event}
 use Rattle.row_ledger.specs.declared.event.Event.TheVariants.{Ended}

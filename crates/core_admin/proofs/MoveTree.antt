@@ -2,7 +2,7 @@
 use Rattle.std.proofs.Common.{◌≡◌, ◌≢◌, ℕ, ◌+◌, ◌≤◌, Bool, true, cond, List, [], ◌∷◌, ◌++◌, map, drop, Some, None, Contains, refl, sym, ap, ◌∙◌, subst, inl, inr, arith}
 use Rattle.cell_stock.specs.Stock.{cells_of}
 use Rattle.cell_stock.specs.declared.purse.Spare.{Spare}
-use Rattle.dim_hierarchy.specs.Row.{IsRowOf}
+use Rattle.dim_hierarchy.specs.Rows.{IsRowOf}
 use Rattle.dim_hierarchy.specs.declared.row.Row.{Row}
 use Rattle.dc_node.specs.declared.entry.Entry.{Entry}
 use Rattle.link_descent.specs.declared.entered.Fresh.{Fresh}

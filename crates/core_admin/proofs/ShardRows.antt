@@ -6,7 +6,8 @@ use Rattle.std.proofs.lemmas.List.{length-append, length-map, map-append}
 use Rattle.std.proofs.lemmas.List.Elements.{All-append, All-contains, All-contains_itself, All-cons, All-head, All-nil, All-tail, All-weaker, Contains-append_right}
 use Rattle.dim_hierarchy.specs.declared.row.Row.{Row}
 use Rattle.dim_hierarchy.specs.declared.row.Coord.{Coord}
-use Rattle.dim_hierarchy.specs.Row.{IsCoordOf, IsRowOf}
+use Rattle.dim_hierarchy.specs.Row.{IsCoordOf}
+use Rattle.dim_hierarchy.specs.Rows.{IsRowOf}
 use Rattle.dc_node.specs.Summary.{IsSummaryOf, coords}
 use Rattle.describing_set.specs.Sets.{IsDescSetOf, JoinsTo}
 use Rattle.describing_set.specs.DescSet.{IsSetOf}

@@ -5,7 +5,7 @@ use Rattle.std.proofs.lemmas.List.Sums.{count_by-le-length, length-filter}
 use Rattle.describing_set.specs.Plane.{goes_left}
 use Rattle.describing_set.specs.declared.plane.Plane.{Plane}
 use Rattle.dim_hierarchy.specs.Dimension.{Dimension}
-use Rattle.dim_hierarchy.specs.Row.{IsRowOf}
+use Rattle.dim_hierarchy.specs.Rows.{IsRowOf}
 use Rattle.dim_hierarchy.specs.declared.row.Row.{Row}
 use Rattle.core_admin.specs.BuildDue.{is_side, side_of}
 use Rattle.core_admin.specs.FinishDue.{CanQueue}

@@ -4,7 +4,8 @@ use Rattle.std.proofs.Common.{◌≡◌, ℕ, ◌+◌, ◌≤◌, List, ◌++◌
 use Rattle.std.proofs.lemmas.List.{map-append}
 use Rattle.std.proofs.lemmas.List.Elements.{All-contains, All-map}
 use Rattle.dim_hierarchy.specs.Dimension.{Dimension}
-use Rattle.dim_hierarchy.specs.Row.{IsCoordOf, IsRowOf}
+use Rattle.dim_hierarchy.specs.Row.{IsCoordOf}
+use Rattle.dim_hierarchy.specs.Rows.{IsRowOf}
 use Rattle.dim_hierarchy.specs.declared.row.Coord.{Coord}
 use Rattle.dim_hierarchy.specs.declared.row.Row.{Row}
 use Rattle.dc_node.specs.Summary.{coords}

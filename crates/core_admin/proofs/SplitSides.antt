@@ -10,7 +10,8 @@ use Rattle.dc_node.specs.Summary.{coords}
 use Rattle.describing_set.specs.Sets.{IsDescSetOf}
 use Rattle.describing_set.specs.Plane.{goes_left}
 use Rattle.describing_set.specs.declared.plane.Plane.{Plane}
-use Rattle.dim_hierarchy.specs.Row.{IsCoordOf, IsRowOf}
+use Rattle.dim_hierarchy.specs.Row.{IsCoordOf}
+use Rattle.dim_hierarchy.specs.Rows.{IsRowOf}
 use Rattle.dim_hierarchy.specs.declared.row.Row.{Row}
 use Rattle.link_descent.specs.declared.entered.Fresh.{Fresh}
 use Rattle.shard_build.specs.Built.{IsBuilt}

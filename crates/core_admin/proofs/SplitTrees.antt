@@ -1,7 +1,7 @@
 -- The two new trees of a shard that is split: each has those rows of its side that were in the old tree or stood in the queue when the
 -- shard was frozen. With the rows that came later, a side has all rows of the shard that go there, each once.
 use Rattle.std.proofs.Common.{◌≡◌, ◌≢◌, ℕ, ◌+◌, ◌≤◌, Bool, true, false, not, cond, List, [], ◌∷◌, ◌++◌, filter, drop, refl, sym, ap, ◌∙◌, subst, arith}
-use Rattle.dim_hierarchy.specs.Row.{IsRowOf}
+use Rattle.dim_hierarchy.specs.Rows.{IsRowOf}
 use Rattle.dim_hierarchy.specs.declared.row.Row.{Row}
 use Rattle.describing_set.specs.Plane.{goes_left}
 use Rattle.link_descent.specs.declared.entered.Fresh.{Fresh}

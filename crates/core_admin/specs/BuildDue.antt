@@ -5,7 +5,7 @@ use Rattle.cell_stock.specs.declared.purse.Spare.{Spare}
 use Rattle.describing_set.specs.Plane.{IsHierarchyPlane, goes_left}
 use Rattle.describing_set.specs.declared.plane.Plane.{Plane}
 use Rattle.dim_hierarchy.specs.Dimension.{Dimension}
-use Rattle.dim_hierarchy.specs.Row.{IsRowOf}
+use Rattle.dim_hierarchy.specs.Rows.{IsRowOf}
 use Rattle.dim_hierarchy.specs.declared.row.Row.{Row}
 use Rattle.link_descent.specs.declared.entered.Fresh.{Fresh}
 use Rattle.shard_build.specs.Built.{IsBuilt}

@@ -3,7 +3,8 @@ ghost use Rattle.std.specs.Prelude.{◌≡◌, ◌+◌, ◌<◌, ◌≤◌, ◌^
 ghost use Rattle.std.specs.Int.{w64};
 ghost use Rattle.core_admin.specs.BuildDue.{AreBuilt, BuildsTrees, CanBuild, CanBuildTrees, IsMadeOf, MayBuild, blocks_of, is_side, side_of};
 ghost use Rattle.describing_set.specs.Plane.{IsHierarchyPlane, goes_left};
-ghost use Rattle.dim_hierarchy.specs.Row.{IsCoordOf, IsRowOf};
+ghost use Rattle.dim_hierarchy.specs.Row.{IsCoordOf};
+ghost use Rattle.dim_hierarchy.specs.Rows.{IsRowOf};
 ghost use Rattle.shard_build.specs.Building.{spare_of};
 ghost use Rattle.shard_codec.specs.Spelled.{AreSpelled};
 ghost use Rattle.shard_plan.specs.Building.{cells_for};

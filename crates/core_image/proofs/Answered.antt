@@ -11,7 +11,8 @@ use Rattle.std.proofs.lemmas.List.Folds.{list_any-from_Any}
 use Rattle.cell_stock.proofs.Cells.{length-le_from_distinct}
 use Rattle.dim_hierarchy.specs.Filter.{matches}
 use Rattle.dim_hierarchy.specs.declared.row.Row.{Row}
-use Rattle.measure_agg.specs.Aggregate.{Aggregate, agg, join}
+use Rattle.measure_agg.specs.Aggregate.{Aggregate, agg}
+use Rattle.measure_agg.specs.Joining.{join}
 use Rattle.measure_agg.proofs.AggLaws.{agg-append}
 use Rattle.query_router.specs.Desk.{done_of, is_open, is_placed, is_refused, state_is_placed, state_is_refused, state_is_taken, state_waits, sum_of, verdict_of}
 use Rattle.query_router.specs.declared.part.Part.{Part}

@@ -6,7 +6,8 @@ use Rattle.std.proofs.lemmas.Bool.{cases_lt, cond_both, false≢true}
 use Rattle.std.proofs.lemmas.List.Elements.{All-contains, Contains-append_right}
 use Rattle.std.proofs.lemmas.Option.{get_or_from_slice_get, same_Some, slice_get_read, slice_get_within}
 use Rattle.measure_agg.proofs.AggLaws.{agg-append}
-use Rattle.measure_agg.specs.Aggregate.{Aggregate, agg, join}
+use Rattle.measure_agg.specs.Aggregate.{Aggregate, agg}
+use Rattle.measure_agg.specs.Joining.{join}
 use Rattle.dim_hierarchy.specs.declared.filter.Pick.{Pick}
 use Rattle.dc_node.specs.declared.todo.Item.{Item}
 use Rattle.query_router.specs.Desk.{is_refused, is_taken, state_is_refused, state_is_taken, state_waits}

@@ -8,7 +8,8 @@ use Rattle.dc_node.proofs.Summaries.{JoinLaws, joined-append}
 use Rattle.describing_set.specs.declared.listing.Spot.{Spot}
 use Rattle.dim_hierarchy.specs.Dimension.{Dimension}
 use Rattle.dim_hierarchy.specs.declared.row.Row.{Row}
-use Rattle.measure_agg.specs.Aggregate.{Aggregate, agg, join}
+use Rattle.measure_agg.specs.Aggregate.{Aggregate, agg}
+use Rattle.measure_agg.specs.Joining.{join}
 use Rattle.measure_agg.proofs.AggLaws.{agg-append, join_associative, join_empty_left, join_empty_right}
 use Rattle.row_ledger.specs.declared.page.AuditLine.{AuditLine}
 use Rattle.server_image.specs.Registry.{RegistryValue}

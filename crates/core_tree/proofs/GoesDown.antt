@@ -4,7 +4,7 @@ use Rattle.std.proofs.Common.{◌≡◌, ℕ, ◌+◌, ◌*◌, ◌^◌, ◌<◌
 use Rattle.std.proofs.lemmas.Option.{slice_get_cases}
 use Rattle.std.proofs.lemmas.List.{length-map}
 use Rattle.dim_hierarchy.specs.Dimension.{Dimension, IsHierarchy}
-use Rattle.dim_hierarchy.specs.Row.{IsRowOf}
+use Rattle.dim_hierarchy.specs.Rows.{IsRowOf}
 use Rattle.dim_hierarchy.specs.declared.row.Row.{Row}
 use Rattle.cell_stock.specs.Stock.{PurseValue}
 use Rattle.cell_stock.specs.declared.purse.Spare.{Spare}

@@ -6,7 +6,8 @@ use Rattle.describing_set.specs.Filter.{is_inside, overlaps}
 use Rattle.describing_set.specs.declared.set.DescSet.{DescSet}
 use Rattle.describing_set.proofs.Filters.{is_inside-IsInside}
 use Rattle.dim_hierarchy.specs.Dimension.{Dimension, tree}
-use Rattle.dim_hierarchy.specs.Filter.{IsFilterOf, IsPicked}
+use Rattle.dim_hierarchy.specs.Filter.{IsFilterOf}
+use Rattle.dim_hierarchy.specs.Meaning.{IsPicked}
 use Rattle.dim_hierarchy.specs.declared.filter.Pick.{Pick}
 use Rattle.measure_agg.proofs.AggLaws.{join_empty_right}
 use Rattle.tree_shape.proofs.Walks.{on_bool}

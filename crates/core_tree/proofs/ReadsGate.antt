@@ -8,7 +8,8 @@ use Rattle.dim_hierarchy.specs.Compiled.{compiled}
 use Rattle.dim_hierarchy.specs.Dimension.{Dimension}
 use Rattle.dim_hierarchy.specs.declared.filter.Pick.{Pick}
 use Rattle.dim_hierarchy.specs.declared.row.Row.{Row}
-use Rattle.measure_agg.specs.Aggregate.{Aggregate, agg, join}
+use Rattle.measure_agg.specs.Aggregate.{Aggregate, agg}
+use Rattle.measure_agg.specs.Joining.{join}
 use Rattle.measure_agg.proofs.AggLaws.{join_empty_left}
 use Rattle.dc_node.specs.declared.entry.Entry.{Entry}
 use Rattle.dc_node.specs.declared.todo.Item.{Item}

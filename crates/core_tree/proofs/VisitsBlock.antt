@@ -4,7 +4,8 @@ use Rattle.std.specs.Option.{option_map_or}
 use Rattle.dim_hierarchy.specs.Compiled.{Compiled}
 use Rattle.dim_hierarchy.specs.Dimension.{Dimension}
 use Rattle.dim_hierarchy.specs.declared.filter.Pick.{Pick}
-use Rattle.measure_agg.specs.Aggregate.{Aggregate, agg, join}
+use Rattle.measure_agg.specs.Aggregate.{Aggregate, agg}
+use Rattle.measure_agg.specs.Joining.{join}
 use Rattle.dc_node.specs.Block.{is_leaf, entries_in, IsBodyOf}
 use Rattle.dc_node.specs.Summary.{row_count}
 use Rattle.dc_node.specs.declared.block.Block.{Block}

@@ -17,7 +17,7 @@ use Rattle.link_descent.specs.GateRead.{queue_part, tree_part, root_items}
 use Rattle.link_descent.specs.Visit.{noted_in, noted_right, counted}
 use Rattle.mapping_table.specs.declared.place.Where.{Where}
 use Rattle.mapping_table.specs.declared.place.Where.TheVariants as where_is
-use Rattle.measure_agg.specs.Aggregate.{join}
+use Rattle.measure_agg.specs.Joining.{join}
 use Rattle.shard_store.specs.Gate.{IsQueueOf}
 use Rattle.shard_store.specs.declared.gate.Gate.{Gate}
 use Rattle.volap_cell.specs.Cells.{CellValue, MapCell}

@@ -9,10 +9,12 @@ use Rattle.dim_hierarchy.specs.declared.row.Row.{Row}
 use Rattle.dim_hierarchy.specs.declared.filter.Pick.{Pick}
 use Rattle.dim_hierarchy.specs.Tree.{IsLeaf}
 use Rattle.dim_hierarchy.specs.Dimension.{Dimension, tree}
-use Rattle.dim_hierarchy.specs.Row.{IsRowOf, concept_at}
+use Rattle.dim_hierarchy.specs.Row.{concept_at}
+use Rattle.dim_hierarchy.specs.Rows.{IsRowOf}
 use Rattle.dim_hierarchy.specs.Filter.{all_picked, is_picked, matches, pick_at}
 use Rattle.dim_hierarchy.proofs.Matching.{all_picked-step, all_picked-end}
-use Rattle.measure_agg.specs.Aggregate.{Aggregate, agg, join}
+use Rattle.measure_agg.specs.Aggregate.{Aggregate, agg}
+use Rattle.measure_agg.specs.Joining.{join}
 use Rattle.dc_node.specs.declared.columns.Columns.{Columns}
 use Rattle.dc_node.specs.Columns.{id_at, coord_at, row_at, rows_of}
 use Rattle.dc_node.proofs.Rows.{row_fact}

@@ -2,7 +2,7 @@
 use Rattle.std.specs.Prelude.{ℕ, ◌≡◌, List, slice_get, slice_set, Some}
 use Rattle.dim_hierarchy.specs.declared.row.Row.{Row}
 use Rattle.dim_hierarchy.specs.Dimension.{Dimension}
-use Rattle.measure_agg.specs.Aggregate.{join, one}
+use Rattle.measure_agg.specs.Joining.{join, one}
 use Rattle.describing_set.specs.Sets.{GrowsBy, IsDescSetOf}
 use Rattle.dc_node.specs.declared.entry.Entry.{Entry}
 

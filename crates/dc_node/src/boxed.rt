@@ -1,7 +1,7 @@
 //! The boxes in which a block keeps its items.
 ghost use Rattle.std.specs.Prelude.{◌≡◌, ◌==◌, ◌+◌, ◌<◌, ◌≤◌, ◌^◌, [], ◌∷◌, ◌++◌, All, filter, length, slice_get, slice_set, insert, IfOk, IfSome};
 ghost use Rattle.dim_hierarchy.specs.Filter.{matches};
-ghost use Rattle.dim_hierarchy.specs.Row.{IsRowOf};
+ghost use Rattle.dim_hierarchy.specs.Rows.{IsRowOf};
 ghost use Rattle.measure_agg.specs.Aggregate.{agg};
 ghost use Rattle.describing_set.specs.DescSet.{IsSetOf};
 ghost use Rattle.describing_set.specs.Sets.{IsDescSetOf};

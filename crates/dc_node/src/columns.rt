@@ -4,8 +4,9 @@
 ghost use Rattle.std.specs.Prelude.{◌≡◌, ◌+◌, ◌<◌, ◌≤◌, ◌^◌, ◌∷◌, ◌++◌, [], All, filter, length, map};
 ghost use Rattle.std.specs.List.{slice_index_or};
 ghost use Rattle.dim_hierarchy.specs.Filter.{matches};
-ghost use Rattle.dim_hierarchy.specs.Row.{IsRowOf};
-ghost use Rattle.measure_agg.specs.Aggregate.{agg, join};
+ghost use Rattle.dim_hierarchy.specs.Rows.{IsRowOf};
+ghost use Rattle.measure_agg.specs.Aggregate.{agg};
+ghost use Rattle.measure_agg.specs.Joining.{join};
 ghost use Rattle.describing_set.specs.DescSet.{IsSetOf};
 ghost use Rattle.describing_set.specs.Sets.{IsDescSetOf};
 ghost use Rattle.dc_node.specs.Limits.{most_of_leaf};

@@ -2,8 +2,9 @@
 ghost use Rattle.std.specs.Prelude.{◌≡◌, ◌<◌, ◌^◌, List, ◌∷◌, [], ◌++◌, map, All, IsPermutation};
 ghost use Rattle.std.specs.List.{AllZip, flat_map};
 ghost use Rattle.dim_hierarchy.specs.declared.row.Row.{Row};
-ghost use Rattle.dim_hierarchy.specs.Row.{IsRowOf};
-ghost use Rattle.measure_agg.specs.Aggregate.{Aggregate, agg, one, join};
+ghost use Rattle.dim_hierarchy.specs.Rows.{IsRowOf};
+ghost use Rattle.measure_agg.specs.Aggregate.{Aggregate, agg};
+ghost use Rattle.measure_agg.specs.Joining.{one, join};
 ghost use Rattle.describing_set.specs.DescSet.{IsSetOf};
 ghost use Rattle.describing_set.specs.Sets.{IsDescSetOf, GrowsBy, JoinsTo};
 ghost use Rattle.describing_set.specs.declared.set.DescSet.{DescSet};

@@ -5,10 +5,11 @@ use Rattle.std.specs.List.{list_any, list_all}
 use Rattle.std.proofs.lemmas.Bool.{and_parts, and_from, cases_lt, false≢true, lt-ltb, ltb-true}
 use Rattle.std.proofs.lemmas.List.Folds.{Any-from_list_any, list_any-from_Any}
 use Rattle.std.proofs.lemmas.List.Elements.{All-contains, All-head, All-tail, All-cons, All-nil}
-use Rattle.dim_hierarchy.specs.Tree.{Tree, IsConcept, IsTree, IsUnder, is_under, up, climb}
+use Rattle.dim_hierarchy.specs.Tree.{Tree, IsConcept, IsTree, is_under, up, climb}
+use Rattle.dim_hierarchy.specs.Meaning.{IsUnder, IsPicked, Matches}
 use Rattle.dim_hierarchy.specs.Dimension.{Dimension, tree}
 use Rattle.dim_hierarchy.specs.Row.{concept_at}
-use Rattle.dim_hierarchy.specs.Filter.{pick_at, IsPicked, is_picked, IsPickOf, IsFilterOf, Matches}
+use Rattle.dim_hierarchy.specs.Filter.{pick_at, is_picked, IsPickOf, IsFilterOf}
 use Rattle.dim_hierarchy.specs.declared.row.Coord.{Coord}
 use Rattle.dim_hierarchy.specs.declared.filter.Pick.{Pick}
 use Rattle.dim_hierarchy.specs.declared.filter.Pick.TheVariants.{All, Ids}

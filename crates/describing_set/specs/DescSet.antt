@@ -1,6 +1,5 @@
 -- The describing set of a list of coordinates, and what it covers.
-use Rattle.std.specs.Prelude.{ℕ, ◌≡◌, ◌<◌, List, [], ◌∷◌, length, map, Bool, true, false, ◌&&◌}
-use Rattle.std.specs.List.{slice_index_or}
+use Rattle.std.specs.Prelude.{ℕ, ◌≡◌, ◌<◌, List, [], ◌∷◌, length, map, slice_index_or, Bool, true, false, ◌&&◌}
 use Rattle.dim_hierarchy.specs.Tree.{Tree}
 use Rattle.dim_hierarchy.specs.Dimension.{Dimension, tree}
 use Rattle.dim_hierarchy.specs.Row.{concept_at}

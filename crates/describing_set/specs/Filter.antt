@@ -1,9 +1,10 @@
 -- How a filter lies to a describing set.
 use Rattle.std.specs.Prelude.{ℕ, ◌≡◌, ◌≢◌, ◌<◌, ◌≤◌, ◌⊎◌, List, [], length, All as Each, Any, Bool, true, ◌&&◌, ◌||◌, nat_lt, if◌then◌else◌}
 use Rattle.std.specs.List.{list_any, list_all}
-use Rattle.dim_hierarchy.specs.Tree.{Tree, IsUnder, is_under}
+use Rattle.dim_hierarchy.specs.Tree.{Tree, is_under}
+use Rattle.dim_hierarchy.specs.Meaning.{IsUnder, IsPicked}
 use Rattle.dim_hierarchy.specs.Dimension.{Dimension, tree}
-use Rattle.dim_hierarchy.specs.Filter.{IsPicked, is_picked, pick_at}
+use Rattle.dim_hierarchy.specs.Filter.{is_picked, pick_at}
 use Rattle.dim_hierarchy.specs.declared.filter.Pick.{Pick}
 use Rattle.dim_hierarchy.specs.declared.filter.Pick.TheVariants.{All, Ids}
 use Rattle.describing_set.specs.DescSet.{part_at, in_each}

@@ -4,7 +4,8 @@ ghost use Rattle.std.specs.Bool.{OnFalse, OnTrue};
 ghost use Rattle.dim_hierarchy.specs.Tree.{IsConcept, leaf_level};
 ghost use Rattle.dim_hierarchy.specs.Dimension.{tree, IsHierarchy};
 ghost use Rattle.dim_hierarchy.specs.Row.{IsCoordOf};
-ghost use Rattle.dim_hierarchy.specs.Filter.{IsFilterOf, Matches, pick_at};
+ghost use Rattle.dim_hierarchy.specs.Filter.{IsFilterOf, pick_at};
+ghost use Rattle.dim_hierarchy.specs.Meaning.{Matches};
 ghost use Rattle.dim_hierarchy.specs.Compiled.{AreOfLevel};
 
 use crate::bearing::Bearing;

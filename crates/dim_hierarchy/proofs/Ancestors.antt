@@ -4,7 +4,8 @@ use Rattle.std.specs.Prelude.{◌↔◌, IsTrue, ◌||◌}
 use Rattle.std.specs.List.{list_any}
 use Rattle.std.proofs.lemmas.Bool.{cases_lt, eqb-true}
 use Rattle.dim_hierarchy.specs.Concept.{level_of}
-use Rattle.dim_hierarchy.specs.Tree.{Tree, IsConcept, IsTree, parents_at, parent, climb, up, IsUnder, way_up, is_under}
+use Rattle.dim_hierarchy.specs.Tree.{Tree, IsConcept, IsTree, parents_at, parent, climb, up, way_up, is_under}
+use Rattle.dim_hierarchy.specs.Meaning.{IsUnder}
 
 -- a concept of level 0 is ALL
 pub concept_at_top : (t : Tree) → IsTree t → (id : ℕ) → IsConcept t id → level_of id ≡ 0 → id ≡ 0

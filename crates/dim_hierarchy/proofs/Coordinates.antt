@@ -8,7 +8,8 @@ use Rattle.dim_hierarchy.specs.Concept.{level_of}
 use Rattle.dim_hierarchy.specs.Tree.{IsLeaf, leaf_level}
 use Rattle.dim_hierarchy.specs.Dimension.{Dimension, IsDimension, IsHierarchy, dimension, no_dimension}
 use Rattle.dim_hierarchy.specs.Row.{IsCoordNamed, leaf_named, leaves}
-use Rattle.dim_hierarchy.specs.Filter.{IsFilterNamed, IsNamePick, pick_at, pick_named, picks}
+use Rattle.dim_hierarchy.specs.Filter.{IsFilterNamed, pick_at, pick_named, picks}
+use Rattle.dim_hierarchy.specs.Names.{IsNamePick}
 use Rattle.dim_hierarchy.specs.declared.row.Coord.{Coord}
 use Rattle.dim_hierarchy.specs.declared.filter.Pick.{Pick}
 use Rattle.dim_hierarchy.specs.declared.filter.Pick.TheVariants.{All}

@@ -4,7 +4,8 @@ use Rattle.std.specs.Prelude.{Option, Some, None, is_some, ◌||◌, ◌&&◌}
 use Rattle.std.proofs.lemmas.Bool.{leb-false, ltb-false, ltb-true, eqb-false}
 use Rattle.dim_hierarchy.specs.Concept.{level_of, number_of}
 use Rattle.dim_hierarchy.specs.Tree.{IsConcept, is_concept, leaf_level, parents_at}
-use Rattle.dim_hierarchy.specs.Dimension.{Dimension, dimension, tree, find, find_dim, dim_fault, concept_fault, concept_count}
+use Rattle.dim_hierarchy.specs.Dimension.{Dimension, dimension, tree, find, find_dim, dim_fault, concept_fault}
+use Rattle.dim_hierarchy.specs.Counted.{concept_count}
 use Rattle.dim_hierarchy.proofs.Growth.{CanGrow, length-parents_at-le}
 
 cond_None : {X : Type 0} (b : Bool) (x : X) (o : Option X) → cond b (Some x) o ≡ None → (b ≡ false) × (o ≡ None)

@@ -11,7 +11,8 @@ use Rattle.std.proofs.lemmas.List.Sums.{get_or-le-sum_by, sum_by-set, sum_by-app
 use Rattle.std.proofs.lemmas.Slice.Eq.{bytes_eq-Decides}
 use Rattle.dim_hierarchy.specs.Concept.{level_of, number_of}
 use Rattle.dim_hierarchy.specs.Tree.{Tree, IsConcept, IsTree, parents_at, parent, new_tree, next_under, with_child}
-use Rattle.dim_hierarchy.specs.Dimension.{Dimension, IsDimension, IsHierarchy, IsCounted, dimension, no_dimension, tree, find_dim, concept_count, new_dimension, with_concept}
+use Rattle.dim_hierarchy.specs.Dimension.{Dimension, IsDimension, IsHierarchy, dimension, no_dimension, tree, find_dim, new_dimension, with_concept}
+use Rattle.dim_hierarchy.specs.Counted.{IsCounted, concept_count}
 use Rattle.dim_hierarchy.proofs.Names.{same_name, get-insert_same, get-insert_other}
 use Rattle.dim_hierarchy.proofs.Places.{position-None}
 

@@ -5,10 +5,11 @@ use Rattle.std.proofs.lemmas.Bool.{cases_lt}
 use Rattle.std.proofs.lemmas.List.{drop_all, get_or_default, get_or_past, get_or_append_left, get_or-append-add, length-append}
 use Rattle.std.proofs.lemmas.List.Folds.{Any-from_list_any, list_any-from_Any}
 use Rattle.dim_hierarchy.specs.Concept.{level_of}
-use Rattle.dim_hierarchy.specs.Tree.{Tree, IsConcept, IsTree, IsUnder, is_under, leaf_level}
+use Rattle.dim_hierarchy.specs.Tree.{Tree, IsConcept, IsTree, is_under, leaf_level}
+use Rattle.dim_hierarchy.specs.Meaning.{IsUnder, IsPicked, Matches}
 use Rattle.dim_hierarchy.specs.Dimension.{Dimension, dimension, tree}
 use Rattle.dim_hierarchy.specs.Row.{IsCoordOf, concept_at}
-use Rattle.dim_hierarchy.specs.Filter.{IsFilterOf, IsPicked, Matches, is_picked, all_picked, matches, pick_at}
+use Rattle.dim_hierarchy.specs.Filter.{IsFilterOf, is_picked, all_picked, matches, pick_at}
 use Rattle.dim_hierarchy.specs.declared.row.Coord.{Coord}
 use Rattle.dim_hierarchy.specs.declared.filter.Pick.{Pick}
 use Rattle.dim_hierarchy.specs.declared.filter.Pick.TheVariants.{All, Ids}

@@ -5,7 +5,8 @@ use Rattle.std.specs.FinMap as fin
 use Rattle.std.proofs.lemmas.List.{at_drop_more, drop_all, append-nil, get_or_read}
 use Rattle.dim_hierarchy.specs.Tree.{IsConcept}
 use Rattle.dim_hierarchy.specs.Dimension.{Dimension, IsDimension}
-use Rattle.dim_hierarchy.specs.Filter.{ids_named, pick_named, IsNamePick, IsPickOf}
+use Rattle.dim_hierarchy.specs.Filter.{ids_named, pick_named, IsPickOf}
+use Rattle.dim_hierarchy.specs.Names.{IsNamePick}
 use Rattle.dim_hierarchy.specs.declared.filter.Pick.{Pick}
 use Rattle.dim_hierarchy.specs.declared.filter.Pick.TheVariants.{All, Ids}
 use Rattle.dim_hierarchy.specs.declared.filter.NamePick.{NamePick}

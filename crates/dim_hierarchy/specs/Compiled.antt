@@ -4,7 +4,8 @@ use Rattle.std.specs.List.{slice_index_or}
 use Rattle.std.specs.Coded.{Coded, code_by, coded×, coded_ℕ, coded_list, coded_option}
 use Rattle.dim_hierarchy.specs.Concept.{level_of}
 use Rattle.dim_hierarchy.specs.Tree.{Tree, IsConcept}
-use Rattle.dim_hierarchy.specs.Dimension.{Dimension, dimension_code, tree}
+use Rattle.dim_hierarchy.specs.Dimension.{Dimension, tree}
+use Rattle.dim_hierarchy.specs.Stored.{dimension_code}
 use Rattle.dim_hierarchy.specs.Filter.{IsFilterOf, is_picked, pick_at}
 use Rattle.dim_hierarchy.specs.Marks.{is_above, AreMarksOf}
 use Rattle.dim_hierarchy.specs.declared.filter.Pick.{Pick}

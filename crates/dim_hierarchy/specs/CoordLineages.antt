@@ -3,7 +3,8 @@ use Rattle.std.specs.Prelude.{ℕ, ◌≡◌, ◌<◌, ◌≤◌, refl, List, []
 use Rattle.std.specs.List.{slice_index_or}
 use Rattle.std.specs.Coded.{Coded, code_by, coded×, coded_ℕ, coded_list}
 use Rattle.dim_hierarchy.specs.Tree.{leaf_level, up}
-use Rattle.dim_hierarchy.specs.Dimension.{Dimension, dimension_code, tree}
+use Rattle.dim_hierarchy.specs.Dimension.{Dimension, tree}
+use Rattle.dim_hierarchy.specs.Stored.{dimension_code}
 use Rattle.dim_hierarchy.specs.Row.{concept_at, IsCoordOf}
 use Rattle.dim_hierarchy.specs.declared.row.Coord.{Coord}
 

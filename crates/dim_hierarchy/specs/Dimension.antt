@@ -1,10 +1,7 @@
 -- Dimensions and hierarchies: what contracts see of them, and how they grow.
-use Rattle.std.specs.Prelude.{ℕ, ◌≡◌, ◌<◌, ◌≤◌, ◌^◌, ◌==◌, not, ◌||◌, nat_lt, nat_le, Option, Some, None, is_some, refl, if◌then◌else◌, List, [], length, position, sum_by, drop}
-use Rattle.std.specs.List.{slice_index_or}
-use Rattle.std.specs.Str.{bytes_eq}
+use Rattle.std.specs.Prelude.{ℕ, ◌≡◌, ◌<◌, ◌≤◌, ◌==◌, not, ◌||◌, nat_lt, nat_le, Option, Some, None, is_some, if◌then◌else◌, List, [], length, position, slice_index_or, bytes_eq}
 use Rattle.std.specs.Ordering.{nat_cmp}
 use Rattle.std.specs.Cmp.Lexicographic.{slice_cmp}
-use Rattle.std.specs.Coded.{Coded, code_by, coded×, coded_ℕ, coded_list}
 use Rattle.std.specs.FinMap as map
 use Rattle.dim_hierarchy.specs.Concept.{level_of}
 use Rattle.dim_hierarchy.specs.Tree.{Tree, IsConcept, is_concept, IsTree, leaf_level, new_tree, next_under, with_child}
@@ -23,13 +20,6 @@ pub record Dimension : Type 0 where
   pub tree : Tree
   pub names : NameMap
 
--- a dimension is stored as its parts
-abbrev pub dimension_code : Coded Dimension
-dimension_code =
-    code_by (List ℕ × (List (List ℕ) × NameMap))
-    (coded× (coded_list coded_ℕ) (coded× (coded_list (coded_list coded_ℕ)) (map.code (coded_list coded_ℕ) coded_ℕ)))
-    (λ d. (d.name, (d.tree, d.names))) (λ p. record { name = p.0; tree = p.1.0; names = p.1.1 }) (λ _. refl)
-
 -- Dimensions by number. Past the last one there is no name and no concept.
 
 abbrev pub no_dimension : Dimension
@@ -45,18 +35,9 @@ tree h dim = (dimension h dim).tree
 abbrev pub find : List Dimension → ℕ → List ℕ → Option ℕ
 find h dim name = map.get (dimension h dim).names name
 
--- the name of a concept in a dimension: it stands for the concept, and no other name does
-pub record IsNameOf (h : List Dimension) (dim id : ℕ) (name : List ℕ) : Type 0 where
-  pub found : find h dim name ≡ Some id
-  pub only : (other : List ℕ) → find h dim other ≡ Some id → other ≡ name
-
 -- the number of the dimension with a name
 abbrev pub find_dim : List Dimension → List ℕ → Option ℕ
 find_dim h name = position (λ d. bytes_eq d.name name) h
-
--- how many concepts there are below ALL, in all dimensions
-abbrev pub concept_count : List Dimension → ℕ
-concept_count h = sum_by (λ d. sum_by length (drop 1 d.tree)) h
 
 -- What always holds.
 
@@ -72,12 +53,6 @@ pub record IsHierarchy (h : List Dimension) : Type 0 where
   pub few : length h ≤ 8
   pub each : (dim : ℕ) → dim < length h → IsDimension (dimension h dim)
   pub apart : (i j : ℕ) → i < length h → j < length h → (dimension h i).name ≡ (dimension h j).name → i ≡ j
-
--- a hierarchy and the number of its concepts
-pub record IsCounted (h : List Dimension) (concepts : ℕ) : Type 0 where
-  pub hierarchy : IsHierarchy h
-  pub count : concepts ≡ concept_count h
-  pub few : concepts ≤ 2 ^ 28
 
 -- Growth, and what stands against it: the first fault in order.
 

@@ -1,10 +1,9 @@
 -- Filters of a hierarchy, those that names stand for, and which coordinates a filter matches.
-use Rattle.std.specs.Prelude.{ℕ, ◌≡◌, ◌≢◌, ◌<◌, Bool, true, false, ◌&&◌, Option, Some, option_map, option_and_then, List, [], ◌∷◌, length, map as each, zip, All as Each, Any}
+use Rattle.std.specs.Prelude.{ℕ, ◌≡◌, ◌≢◌, ◌<◌, Bool, true, false, ◌&&◌, Option, Some, option_map, option_and_then, List, [], ◌∷◌, length, map as each, zip, All as Each}
 use Rattle.std.specs.List.{slice_index_or, list_any}
 use Rattle.std.specs.FinMap as map
-use Rattle.dim_hierarchy.specs.Tree.{Tree, IsConcept, IsUnder, is_under}
+use Rattle.dim_hierarchy.specs.Tree.{Tree, IsConcept, is_under}
 use Rattle.dim_hierarchy.specs.Dimension.{Dimension, tree, IsHierarchy}
-use Rattle.dim_hierarchy.specs.Row.{concept_at}
 use Rattle.dim_hierarchy.specs.declared.row.Coord.{Coord}
 use Rattle.dim_hierarchy.specs.declared.filter.Pick.{Pick}
 use Rattle.dim_hierarchy.specs.declared.filter.Pick.TheVariants.{All, Ids}
@@ -28,20 +27,12 @@ pub record IsFilterOf (h : List Dimension) (f : List Pick) : Type 0 where
 
 -- Matching.
 
--- the pick is All or lists a concept that this one is under
-abbrev pub IsPicked : Tree → Pick → ℕ → Type 0
-IsPicked t All id = Unit {0}
-IsPicked t (Ids ids) id = Any (IsUnder t id) ids
-
--- in each dimension the filter's pick has the coordinate's concept
-pub record Matches (h : List Dimension) (f : List Pick) (at : Coord) : Type 0 where
-  pub picked : (dim : ℕ) → dim < length h → IsPicked (tree h dim) (pick_at f dim) (concept_at at dim)
-
--- the same as tests
+-- whether the pick is All or lists a concept that this one is under
 abbrev pub is_picked : Tree → Pick → ℕ → Bool
 is_picked t All id = true
 is_picked t (Ids ids) id = list_any (is_under t id) ids
 
+-- whether in each dimension the pick has the concept
 abbrev pub all_picked : List Dimension → List Pick → List ℕ → Bool
 all_picked [] [] ids = true
 all_picked (d ∷ ds) (p ∷ ps) (id ∷ ids) = is_picked d.tree p id && all_picked ds ps ids
@@ -65,11 +56,6 @@ pick_named d (by_name.Any names) = option_map Ids (ids_named d names)
 -- the picks of a filter by names, one for each dimension
 abbrev pub picks : List Dimension → List NamePick → List (Option Pick)
 picks h names = each (λ p. pick_named p.0 p.1) (zip h names)
-
--- a pick by names lists one at least
-abbrev pub IsNamePick : NamePick → Type 0
-IsNamePick by_name.All = Unit {0}
-IsNamePick (by_name.Any names) = names ≢ []
 
 -- the filter of these names
 pub record IsFilterNamed (h : List Dimension) (names : List NamePick) (f : List Pick) : Type 0 where

@@ -2,10 +2,15 @@ pub mod Concept
 pub mod Tree
 pub mod Lineage
 pub mod Dimension
+pub mod Names
+pub mod Counted
+pub mod Stored
 pub mod Row
+pub mod Rows
 pub mod RowNames
 pub mod Column
 pub mod CoordLineages
 pub mod Filter
+pub mod Meaning
 pub mod Marks
 pub mod Compiled

@@ -5,7 +5,6 @@ use Rattle.dim_hierarchy.specs.Concept.{level_of}
 use Rattle.dim_hierarchy.specs.Tree.{IsLeaf, leaf_level}
 use Rattle.dim_hierarchy.specs.Dimension.{Dimension, tree, IsHierarchy}
 use Rattle.dim_hierarchy.specs.declared.row.Coord.{Coord}
-use Rattle.dim_hierarchy.specs.declared.row.Row.{Row}
 
 -- the concept of a coordinate in a dimension
 abbrev pub concept_at : Coord → ℕ → ℕ
@@ -16,10 +15,6 @@ pub record IsCoordOf (h : List Dimension) (at : Coord) : Type 0 where
   pub hierarchy : IsHierarchy h
   pub leaf : (dim : ℕ) → dim < length h → IsLeaf (tree h dim) (concept_at at dim)
   pub rest : (dim : ℕ) → length h ≤ dim → concept_at at dim ≡ 0
-
--- a row of the hierarchy has such a coordinate
-abbrev pub IsRowOf : List Dimension → Row → Type 0
-IsRowOf h row = IsCoordOf h row.at
 
 -- the leaf concept of a name
 abbrev pub leaf_named : Dimension → List ℕ → Option ℕ

@@ -52,11 +52,6 @@ climb t (suc n) id = climb t n (parent t id)
 unfoldable pub up : Tree → ℕ → ℕ → ℕ
 up t id level = climb t (level_of id - level) id
 
--- the first concept is the second, or is reached from it by parents
-pub record IsUnder (t : Tree) (id top : ℕ) : Type 0 where
-  pub steps : ℕ
-  pub reached : climb t steps id ≡ top
-
 -- a concept and what is reached from it by up to so many parents
 unfoldable pub way_up : Tree → ℕ → ℕ → List ℕ
 way_up t zero id = id ∷ []

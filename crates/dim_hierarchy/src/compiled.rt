@@ -4,7 +4,8 @@ ghost use Rattle.dim_hierarchy.specs.Tree.{IsConcept, IsLeaf};
 ghost use Rattle.std.specs.List.{list_all, list_any};
 ghost use Rattle.dim_hierarchy.specs.Dimension.{tree};
 ghost use Rattle.dim_hierarchy.specs.Row.{IsCoordOf};
-ghost use Rattle.dim_hierarchy.specs.Filter.{IsFilterOf, Matches, matches, is_picked, pick_at};
+ghost use Rattle.dim_hierarchy.specs.Filter.{IsFilterOf, matches, is_picked, pick_at};
+ghost use Rattle.dim_hierarchy.specs.Meaning.{Matches};
 
 use crate::column::{Column, RowPlaces};
 use crate::concept::ConceptId;

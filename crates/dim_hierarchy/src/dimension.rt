@@ -54,7 +54,8 @@ pub struct DimensionTable {
 }
 
 impl Model for DimensionTable {
-    ghost use Rattle.dim_hierarchy.specs.Dimension.{Dimension, dimension_code};
+    ghost use Rattle.dim_hierarchy.specs.Dimension.{Dimension};
+    ghost use Rattle.dim_hierarchy.specs.Stored.{dimension_code};
     ghost use Rattle.dim_hierarchy.specs.Lineage.{AreLineagesOf};
 
     ghost Value = { Dimension };

@@ -1,9 +1,11 @@
 //! The dimensions together, and what rows and filters say over them.
 ghost use Rattle.std.specs.Prelude.{◌≡◌, ◌+◌, ◌<◌, ◌≤◌, ◌^◌, ◌↔◌, List, [], ℕ, ◌∷◌, ◌++◌, length, unwrap_or, position, is_none, All, Any, IsTrue, IsOk, IsSome, IfOk, IfSome, IfNone, OnErr, IsOkUnless};
 ghost use Rattle.dim_hierarchy.specs.Concept.{level_of};
-ghost use Rattle.dim_hierarchy.specs.Tree.{IsConcept, is_concept, IsLeaf, leaf_level, up, is_under, IsUnder, next_under};
+ghost use Rattle.dim_hierarchy.specs.Tree.{IsConcept, is_concept, IsLeaf, leaf_level, up, is_under, next_under};
+ghost use Rattle.dim_hierarchy.specs.Meaning.{IsUnder, IsPicked, Matches};
 ghost use Rattle.dim_hierarchy.specs.Row.{IsCoordOf, IsCoordNamed, leaves};
-ghost use Rattle.dim_hierarchy.specs.Filter.{IsFilterOf, IsFilterNamed, IsNamePick, IsPicked, Matches, matches, picks};
+ghost use Rattle.dim_hierarchy.specs.Filter.{IsFilterOf, IsFilterNamed, matches, picks};
+ghost use Rattle.dim_hierarchy.specs.Names.{IsNamePick};
 
 use crate::concept::ConceptId;
 use crate::dimension::DimensionTable;
@@ -65,8 +67,9 @@ pub struct Hierarchy {
 
 impl Model for Hierarchy {
     ghost use Rattle.std.specs.Prelude.{List};
-    ghost use Rattle.dim_hierarchy.specs.Dimension.{Dimension, IsCounted};
-    ghost use Rattle.dim_hierarchy.specs.Dimension.{dimension_code};
+    ghost use Rattle.dim_hierarchy.specs.Dimension.{Dimension};
+    ghost use Rattle.dim_hierarchy.specs.Counted.{IsCounted};
+    ghost use Rattle.dim_hierarchy.specs.Stored.{dimension_code};
     ghost use Rattle.std.specs.Coded.{coded_list};
 
     ghost Value = { List Dimension };
@@ -80,7 +83,9 @@ impl Model for Hierarchy {
 
 impl Hierarchy {
     ghost use Rattle.std.specs.Prelude.{slice_index_or, slice_set};
-    ghost use Rattle.dim_hierarchy.specs.Dimension.{IsHierarchy, IsDimension, dimension, tree, find, find_dim, IsNameOf, concept_count, dim_fault, new_dimension, concept_fault, with_concept};
+    ghost use Rattle.dim_hierarchy.specs.Dimension.{IsHierarchy, IsDimension, dimension, tree, find, find_dim, dim_fault, new_dimension, concept_fault, with_concept};
+    ghost use Rattle.dim_hierarchy.specs.Names.{IsNameOf};
+    ghost use Rattle.dim_hierarchy.specs.Counted.{concept_count};
 
     /// No dimension. Takes no memory.
     pub fn new(alloc: Global) -> Hierarchy

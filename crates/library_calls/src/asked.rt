@@ -1,6 +1,8 @@
 //! A row and a question by names.
 ghost use Rattle.std.specs.Prelude.{◌≡◌, ◌↔◌, IsTrue, IsOkUnless, IfNone, IfOk, IfSome, All, Err, List, is_none, length, position};
-ghost use Rattle.dim_hierarchy.specs.Filter.{IsFilterNamed, IsNamePick, Matches, picks};
+ghost use Rattle.dim_hierarchy.specs.Filter.{IsFilterNamed, picks};
+ghost use Rattle.dim_hierarchy.specs.Names.{IsNamePick};
+ghost use Rattle.dim_hierarchy.specs.Meaning.{Matches};
 ghost use Rattle.dim_hierarchy.specs.Row.{IsCoordNamed, leaves};
 ghost use Rattle.dim_hierarchy.specs.declared.filter.Pick.{Pick};
 ghost use Rattle.dim_hierarchy.specs.declared.row.Coord.{Coord};

@@ -1,6 +1,6 @@
 //! An index for one thread: rows come in and questions are answered, one after the other.
 ghost use Rattle.std.specs.Prelude.{◌≡◌, ◌<◌, ◌≤◌, ◌^◌, All, IfOk, IfSome, List, None, is_none, length, position, reverse};
-ghost use Rattle.dim_hierarchy.specs.Filter.{IsNamePick};
+ghost use Rattle.dim_hierarchy.specs.Names.{IsNamePick};
 ghost use Rattle.dim_hierarchy.specs.Dimension.{Dimension};
 ghost use Rattle.dim_hierarchy.specs.Row.{leaves};
 ghost use Rattle.row_ledger.specs.declared.settings.Use as settings;

@@ -1,6 +1,6 @@
 //! Rows and questions from the texts of their names.
 ghost use Rattle.std.specs.Prelude.{◌≡◌, ◌↔◌, All, Err, IfOk, IsOkUnless, IsTrue, is_none, length, map, position};
-ghost use Rattle.dim_hierarchy.specs.Filter.{IsNamePick};
+ghost use Rattle.dim_hierarchy.specs.Names.{IsNamePick};
 ghost use Rattle.dim_hierarchy.specs.Row.{leaves};
 ghost use Rattle.library_runs.specs.Names.{AreShort, pick_under};
 

@@ -10,9 +10,10 @@ use Rattle.std.proofs.lemmas.List.Sums.{sum_by-append}
 use Rattle.std.proofs.lemmas.List.Concat.{flat_map-append}
 use Rattle.std.proofs.lemmas.List.Elements.{All-nil, All-append, All-tail}
 use Rattle.dim_hierarchy.specs.Dimension.{Dimension}
-use Rattle.dim_hierarchy.specs.Row.{IsRowOf}
+use Rattle.dim_hierarchy.specs.Rows.{IsRowOf}
 use Rattle.dim_hierarchy.specs.declared.row.Row.{Row}
-use Rattle.measure_agg.specs.Aggregate.{Aggregate, agg, join}
+use Rattle.measure_agg.specs.Aggregate.{Aggregate, agg}
+use Rattle.measure_agg.specs.Joining.{join}
 use Rattle.describing_set.specs.DescSet.{IsSetOf}
 use Rattle.describing_set.specs.Sets.{JoinsTo}
 use Rattle.describing_set.specs.declared.set.DescSet.{DescSet}

@@ -3,7 +3,7 @@ use Rattle.std.proofs.Common.{List}
 use Rattle.std.specs.Prelude.{All}
 use Rattle.std.proofs.lemmas.List.Elements.{All-nil}
 use Rattle.dim_hierarchy.specs.Dimension.{Dimension}
-use Rattle.dim_hierarchy.specs.Row.{IsRowOf}
+use Rattle.dim_hierarchy.specs.Rows.{IsRowOf}
 use Rattle.describing_set.specs.Sets.{IsDescSetOf}
 use Rattle.dc_node.specs.Block.{rows_in, entries_in, IsBodyOf}
 use Rattle.dc_node.specs.declared.block.Body.{Body}

@@ -5,7 +5,8 @@ use Rattle.std.proofs.lemmas.List.{take_more, map-append, take-append-drop}
 use Rattle.std.proofs.lemmas.List.Elements.{filter_more, filter-append}
 use Rattle.dim_hierarchy.specs.declared.filter.Pick.{Pick}
 use Rattle.dim_hierarchy.specs.Dimension.{Dimension}
-use Rattle.measure_agg.specs.Aggregate.{Aggregate, agg, join}
+use Rattle.measure_agg.specs.Aggregate.{Aggregate, agg}
+use Rattle.measure_agg.specs.Joining.{join}
 use Rattle.dc_node.specs.Summary.{joined, aggs}
 use Rattle.dc_node.specs.declared.entry.Entry.{Entry}
 use Rattle.dc_node.specs.declared.todo.Item.{Item}

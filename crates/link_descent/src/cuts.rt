@@ -2,7 +2,7 @@
 ghost use Rattle.std.specs.Prelude.{◌≡◌, ◌≤◌, ◌+◌, [], ◌∷◌, ◌++◌, true, length, map, All, IfSome, IfNone, IsPermutation};
 ghost use Rattle.std.specs.Option.{option_copied, option_to_list};
 ghost use Rattle.std.specs.List.{AllZip, range_with_len};
-ghost use Rattle.dim_hierarchy.specs.Row.{IsRowOf};
+ghost use Rattle.dim_hierarchy.specs.Rows.{IsRowOf};
 ghost use Rattle.describing_set.specs.DescSet.{IsSetOf};
 ghost use Rattle.describing_set.specs.Sets.{IsDescSetOf};
 ghost use Rattle.hierarchy_split.specs.Flags.{AreHeadCuts};

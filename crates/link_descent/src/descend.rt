@@ -1,7 +1,7 @@
 //! The steps of a row down a tree.
 ghost use Rattle.std.specs.Prelude.{◌≡◌, ◌+◌, ◌*◌, ◌^◌, ◌<◌, ◌≤◌, true, false, List, [], ◌∷◌, ◌++◌, length, map, slice_get, All, IfSome};
 ghost use Rattle.dim_hierarchy.specs.Dimension.{Dimension};
-ghost use Rattle.dim_hierarchy.specs.Row.{IsRowOf};
+ghost use Rattle.dim_hierarchy.specs.Rows.{IsRowOf};
 ghost use Rattle.describing_set.specs.Sets.{IsDescSetOf};
 ghost use Rattle.dc_node.specs.Block.{rows_in, entries_in, is_leaf, is_full, with_rows, IsBodyOf};
 ghost use Rattle.dc_node.specs.Summary.{row_count};

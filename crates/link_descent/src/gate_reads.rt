@@ -1,7 +1,8 @@
 //! What a query does at a gate.
 ghost use Rattle.std.specs.Prelude.{◌≡◌, ◌+◌, ◌<◌, ◌≤◌, ◌^◌, ◌++◌, All, length};
-ghost use Rattle.dim_hierarchy.specs.Row.{IsRowOf};
-ghost use Rattle.measure_agg.specs.Aggregate.{agg, join};
+ghost use Rattle.dim_hierarchy.specs.Rows.{IsRowOf};
+ghost use Rattle.measure_agg.specs.Aggregate.{agg};
+ghost use Rattle.measure_agg.specs.Joining.{join};
 ghost use Rattle.describing_set.specs.Sets.{IsDescSetOf};
 ghost use Rattle.shard_store.specs.Gate.{IsQueueOf};
 ghost use Rattle.link_descent.specs.GateRead.{queue_part, tree_part, root_items};

@@ -1,7 +1,8 @@
 //! What a query does at a block.
 ghost use Rattle.std.specs.Prelude.{◌≡◌, ◌≢◌, ◌+◌, ◌<◌, ◌≤◌, ◌^◌, ◌∷◌, ◌++◌, [], if◌then◌else◌, length, All, IsSome};
-ghost use Rattle.dim_hierarchy.specs.Row.{IsRowOf};
-ghost use Rattle.measure_agg.specs.Aggregate.{agg, join};
+ghost use Rattle.dim_hierarchy.specs.Rows.{IsRowOf};
+ghost use Rattle.measure_agg.specs.Aggregate.{agg};
+ghost use Rattle.measure_agg.specs.Joining.{join};
 ghost use Rattle.describing_set.specs.Sets.{IsDescSetOf};
 ghost use Rattle.describing_set.specs.Filter.{is_inside};
 ghost use Rattle.dc_node.specs.Block.{IsBodyOf};

@@ -9,7 +9,8 @@ use Rattle.std.proofs.lemmas.List.Sorted.{IsPermutation-map, IsPermutation-sym, 
 use Rattle.std.proofs.lemmas.List.Sums.{sum_by-cons}
 use borrow.Author.Differences.{up, down}
 use Rattle.dim_hierarchy.specs.declared.row.Row.{Row}
-use Rattle.measure_agg.specs.Aggregate.{Aggregate, agg, one, join, lesser, greater, total, least_of, greatest_of, measures}
+use Rattle.measure_agg.specs.Aggregate.{Aggregate, agg, lesser, greater, total, least_of, greatest_of, measures}
+use Rattle.measure_agg.specs.Joining.{one, join}
 
 same : (a b : Aggregate) → a.count ≡ b.count → a.sum ≡ b.sum → a.least ≡ b.least → a.greatest ≡ b.greatest → a ≡ b
 same a b count sum least greatest = λ i. record { count = count i; sum = sum i; least = least i; greatest = greatest i }

@@ -1,5 +1,5 @@
 -- Aggregates of rows.
-use Rattle.std.specs.Prelude.{ℕ, ◌+◌, ℤ, pos, ◌+ℤ◌, List, [], ◌∷◌, length, map, Option, Some, None}
+use Rattle.std.specs.Prelude.{ℕ, ℤ, pos, ◌+ℤ◌, List, [], ◌∷◌, length, map, Option, Some, None}
 use Rattle.std.specs.Int.{int_min, int_max}
 use Rattle.dim_hierarchy.specs.declared.row.Row.{Row}
 
@@ -46,17 +46,4 @@ agg rows = record {
   sum = total (measures rows);
   least = least_of (measures rows);
   greatest = greatest_of (measures rows);
-}
-
--- of one row, and of two lists of rows together
-
-abbrev pub one : ℤ → Aggregate
-one measure = record { count = 1; sum = measure; least = Some measure; greatest = Some measure }
-
-abbrev pub join : Aggregate → Aggregate → Aggregate
-join a b = record {
-  count = a.count + b.count;
-  sum = a.sum +ℤ b.sum;
-  least = lesser a.least b.least;
-  greatest = greater a.greatest b.greatest;
 }

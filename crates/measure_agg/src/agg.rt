@@ -1,6 +1,7 @@
 //! The aggregate of rows.
 ghost use Rattle.std.specs.Prelude.{◌≡◌, ◌+◌, ◌^◌, ◌<◌, ℤ, ◌≤ℤ◌, List, [], ◌++◌, MatchOption, All, Contains, IsPermutation};
-ghost use Rattle.measure_agg.specs.Aggregate.{Aggregate, agg, one, join, lesser, greater, least_of, greatest_of};
+ghost use Rattle.measure_agg.specs.Aggregate.{Aggregate, agg, lesser, greater, least_of, greatest_of};
+ghost use Rattle.measure_agg.specs.Joining.{one, join};
 
 use dim_hierarchy::Row;
 use std::marker::Model;

@@ -9,7 +9,8 @@ use Rattle.answer_text.proofs.TextFacts.{IsSameAt, lines-kept}
 use Rattle.answer_text.specs.Printed.{lines, split_for, split_of}
 use Rattle.row_ledger.proofs.Older.{is_over-older}
 use Rattle.row_ledger.proofs.Positions.{event_at-older}
-use Rattle.row_ledger.specs.Past.{call_in, end_in, ends_itself, event_at, has_ended, insert_at, insert_in, is_end_of, is_over, number_in, page_in, page_of, query_at, query_in}
+use Rattle.row_ledger.specs.Past.{call_in, end_in, ends_itself, event_at, has_ended, insert_at, insert_in, is_end_of, is_over, page_in, page_of, query_at, query_in}
+use Rattle.row_ledger.specs.Belonging.{number_in}
 use Rattle.row_ledger.specs.Right.{EachEvent, Stands}
 use Rattle.row_ledger.specs.Site.{Site}
 use Rattle.row_ledger.specs.declared.event.Event.{Event}

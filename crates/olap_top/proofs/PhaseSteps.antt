@@ -29,7 +29,8 @@ use Rattle.script_run.proofs.PhaseFacts.{all_of-append, all_of-phases, phases-ni
 use Rattle.script_run.proofs.PlaceFacts.{NoneMore, places_behind-append, places_behind-length}
 use Rattle.script_run.proofs.Whole.{part_law, serial_law}
 use Rattle.script_run.specs.Between.{IsThrough}
-use Rattle.script_run.specs.Phases.{NoneCloses, all_of, closes, phases, phases_to}
+use Rattle.script_run.specs.Phases.{all_of, closes, phases, phases_to}
+use Rattle.script_run.specs.Streams.{NoneCloses}
 use Rattle.script_run.specs.Places.{are_over, begins_of, count_of, is_over_at, places, places_behind}
 use Rattle.script_run.specs.Runs.{IsRunOf, IsRunSoFar, IsSerial}
 use Rattle.seeded_run.specs.Kept.{IsBetween}

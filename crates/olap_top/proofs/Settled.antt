@@ -21,23 +21,12 @@ use Rattle.row_ledger.specs.declared.event.Event.TheVariants.{Ended}
 use Rattle.row_ledger.specs.declared.settings.Call.TheVariants.{Settle}
 use Rattle.row_ledger.specs.declared.settings.How.TheVariants.{Fine}
 use Rattle.row_ledger.specs.declared.settings.Use.{Use}
-use Rattle.script_run.specs.Runs.{ArePulls, HasPulls, each_server, each_twice, pulled_since}
+use Rattle.script_run.specs.Runs.{ArePulls, HasPulls, each_twice, pulled_since}
 use Rattle.olap_top.specs.Settles.{SettledAreAll, SettlesTell}
 
 pub settled-all : (site : Site) (history : List Event) → IsRight site history → SettledAreAll site history
 settled-all site history right = λ later past of answer query whole asked settled.
     settled-is_all site later past of answer query (subst (IsRight site) whole right) asked settled
-
--- all servers in the order of their numbers
-
-range-last : (from n : ℕ) → range_with_len from n ++ (from + n) ∷ [] ≡ range_with_len from (suc n)
-range-last from zero = ap (λ k. k ∷ []) (let k : from + 0 ≡ from = omega arith in k)
-range-last from (suc n) = ap (λ l. from ∷ l) (ap (λ k. range_with_len (from + 1) n ++ k ∷ []) (let k : from + suc n ≡ from + 1 + n = omega arith in k) ∙ range-last (from + 1) n)
-
-servers-in-order : (n : ℕ) → each_server n ≡ range_with_len 0 n
-servers-in-order zero = refl
-servers-in-order (suc n) =
-    ap (λ l. l ++ n ∷ []) (servers-in-order n) ∙ ap (λ k. range_with_len 0 n ++ k ∷ []) (let k : n ≡ 0 + n = omega arith in k) ∙ range-last 0 n
 
 -- What was passed to a server stays so.
 passed-later : (later past : List Event) (server : ℕ) (a : Ack) → Contains (passed past server) a → Contains (passed (later ++ past) server) a
@@ -120,7 +109,7 @@ passed-settled : (past : List Event) (of servers server : ℕ) (a : Ack) → pul
 passed-settled past of servers server a pulled small through has =
     let once : List ℕ = range_with_len 0 servers in
     let turned : pulls (since past of) ≡ reverse once ++ reverse once =
-    sym (reverse-reverse (pulls (since past of))) ∙ ap reverse (pulled ∙ ap (λ l. l ++ l) (servers-in-order servers)) ∙ reverse-append once once in
+    sym (reverse-reverse (pulls (since past of))) ∙ ap reverse pulled ∙ reverse-append once once in
     let mine : Contains (own (before past of) a.server) a = Contains-filter (λ (b : Ack). b.server == a.server) (acked (before past of)) a has (eq-eqb a.server a.server refl) in
     passed-since past of server a.server a (reverse once) (reverse once) turned
     (Contains-reverse once server (Contains-range 0 servers server (omega arith) (omega arith)))

@@ -8,7 +8,6 @@ use Rattle.olap_top.specs.declared.wanted.Wanted.TheVariants.{Step, Seeded, Load
 -- Of words without the program's name: `step`, `step --seed N`, and `load --rows N --seed K` with its options in
 -- either order. Behind the name of an option there may be an equals sign in place of the space.
 
--- this text spells this seed
 abbrev pub SpellsSeed : List ℕ → ℕ → Type 0
 SpellsSeed text seed = (number_of text ≡ Some seed) × (seed < 2 ^ 64)
 
@@ -24,11 +23,9 @@ SpellsRows text rows = (number_of text ≡ Some rows) × (1 ≤ rows) × (rows �
 abbrev pub GiveOption : List ℕ → List (List ℕ) → List ℕ → Type 0
 GiveOption name words text = (words ≡ name ∷ text ∷ []) ⊎ (words ≡ (name ++ (codes "=" ++ text)) ∷ [])
 
--- these words give a seed
 abbrev pub GiveSeed : List (List ℕ) → ℕ → Type 0
 GiveSeed words seed = (text : List ℕ) × GiveOption (codes "--seed") words text × SpellsSeed text seed
 
--- these words give a number of rows
 abbrev pub GiveRows : List (List ℕ) → ℕ → Type 0
 GiveRows words rows = (text : List ℕ) × GiveOption (codes "--rows") words text × SpellsRows text rows
 

@@ -54,7 +54,6 @@ must h past server = map (λ (a : Ack). a.row) (known h past server)
 abbrev pub may : (ℕ → Bool) → List Event → List Row
 may usable past = filter (λ r. usable r.no) (begun past)
 
--- the numbers of rows
 abbrev pub numbers : List Row → List ℕ
 numbers rows = map (λ r. r.no) rows
 

@@ -1,4 +1,5 @@
 pub mod Past
+pub mod Belonging
 pub mod Site
 pub mod Shards
 pub mod Workers

@@ -1,7 +1,7 @@
 -- A history is a list of events, the newest first. What stands behind an event in the list is its past,
 -- and the length of its past is its position. So every notion "before a position" is a function of a past
 -- alone, and nothing that is said of an earlier event changes when the history grows.
-use Rattle.std.specs.Prelude.{ℕ, ◌==◌, Bool, true, false, not, ◌&&◌, ◌||◌, nat_lt, Option, Some, None, is_some, option_map, option_and_then, if◌then◌else◌, List, [], ◌∷◌, length, map, filter, filter_map}
+use Rattle.std.specs.Prelude.{ℕ, ◌==◌, Bool, true, false, not, ◌||◌, nat_lt, Option, Some, None, is_some, option_map, option_and_then, if◌then◌else◌, List, [], ◌∷◌, length, map, filter, filter_map}
 use Rattle.std.specs.List.{list_any, list_all, cons_option}
 use Rattle.std.specs.Option.{option_map_or, option_or}
 use Rattle.dim_hierarchy.specs.declared.row.Row.{Row}
@@ -63,7 +63,6 @@ abbrev pub pull_in : Event → Option Pull
 pull_in (Synced server listing) = Some (record { server = server; listing = listing })
 pull_in _ = None
 
--- whether an event is a pull of the server
 abbrev pub is_pull_of : ℕ → Event → Bool
 is_pull_of server e = option_map_or (λ (p : Pull). p.server == server) (pull_in e) false
 
@@ -104,18 +103,6 @@ end_in (Failed of) = Some of
 end_in (Ended of how) = Some of
 end_in _ = None
 
--- the position of the command that an event belongs to and doesn't begin
-abbrev pub number_in : Event → Option ℕ
-number_in (Acked of path) = Some of
-number_in (Answered of agg) = Some of
-number_in (Failed of) = Some of
-number_in (Split of shard left right) = Some of
-number_in (Moved of shard worker) = Some of
-number_in (Left of shard how) = Some of
-number_in (Shown of page) = Some of
-number_in (Ended of how) = Some of
-number_in _ = None
-
 -- the position of the command that an event ends for want of memory
 abbrev pub failed_in : Event → Option ℕ
 failed_in (Failed of) = Some of
@@ -155,15 +142,16 @@ is_idle past = list_all (is_over past) (beginnings past)
 
 -- Work of called commands: splits and moves that are done, and planned ones that were left.
 
-abbrev pub is_work : Event → Bool
-is_work (Split of shard left right) = true
-is_work (Moved of shard worker) = true
-is_work (Left of shard how) = true
-is_work _ = false
+-- the position of the command that an event is work of
+abbrev pub work_in : Event → Option ℕ
+work_in (Split of shard left right) = Some of
+work_in (Moved of shard worker) = Some of
+work_in (Left of shard how) = Some of
+work_in _ = None
 
 -- whether an event is work of the command that began at a position
 abbrev pub is_work_of : ℕ → Event → Bool
-is_work_of p e = is_work e && option_map_or (λ of. of == p) (number_in e) false
+is_work_of p e = option_map_or (λ of. of == p) (work_in e) false
 
 -- an event and the past behind it
 pub record Step : Type 0 where

@@ -10,7 +10,6 @@ use Rattle.row_ledger.specs.declared.page.Page.{Page}
 use Rattle.row_ledger.specs.declared.page.Page.TheVariants as page
 use Rattle.row_ledger.specs.declared.settings.Call.{Call}
 use Rattle.row_ledger.specs.declared.settings.Call.TheVariants.{Sync, Split, Move, Balance, Barrier, Settle, Shards, Tree, Audit}
-use Rattle.row_ledger.specs.declared.settings.Decline.TheVariants.{OnePlace, NoCell}
 use Rattle.row_ledger.specs.declared.settings.Decline.TheVariants as decline
 use Rattle.row_ledger.specs.declared.settings.How.{How}
 use Rattle.row_ledger.specs.declared.settings.How.TheVariants.{Fine, Balanced, Declined, Postponed, NoMemory}
@@ -119,8 +118,8 @@ Plans call = ⊥
 
 -- how a planned action may be left
 abbrev pub MayLeave : How → Type 0
-MayLeave (Declined OnePlace) = ⊤
-MayLeave (Declined (NoCell need free)) = ⊤
+MayLeave (Declined decline.OnePlace) = ⊤
+MayLeave (Declined (decline.NoCell need free)) = ⊤
 MayLeave Postponed = ⊤
 MayLeave how = ⊥
 
@@ -162,22 +161,17 @@ has_pulled past of server = list_any (is_pull_of server) (since past of)
 -- How a called command may end that began at `of`, behind this past. A barrier is always fine; a sync is where its server
 -- has pulled; a tree is declined exactly where its shard doesn't stand, unless it finds no memory.
 abbrev pub MayEnd : Site → (ℕ → Bool) → List Event → ℕ → Call → How → Type 0
-MayEnd site usable past of Barrier Fine = ⊤
-MayEnd site usable past of (Sync server) Fine = IsTrue (has_pulled past of server)
-MayEnd site usable past of (Sync server) NoMemory = ⊤
-MayEnd site usable past of Settle Fine = ⊤
-MayEnd site usable past of Settle NoMemory = ⊤
 MayEnd site usable past of (Split shard) how = MayEndAction site usable past of (action.Split shard) how
 MayEnd site usable past of (Move shard worker) how = MayEndAction site usable past of (action.Move shard worker) how
 MayEnd site usable past of (Balance most) (Balanced done planned) = IsRightBalance site usable past of most done planned
 MayEnd site usable past of (Balance most) NoMemory = work past of ≡ []
+MayEnd site usable past of (Balance most) how = ⊥
+MayEnd site usable past of (Sync server) Fine = IsTrue (has_pulled past of server)
 MayEnd site usable past of (Tree shard) Fine = IsTrue (is_live site.workers (before past of) shard)
 MayEnd site usable past of (Tree shard) (Declined decline.Unknown) = is_live site.workers (before past of) shard ≡ false
-MayEnd site usable past of (Tree shard) NoMemory = ⊤
-MayEnd site usable past of Shards Fine = ⊤
-MayEnd site usable past of Shards NoMemory = ⊤
-MayEnd site usable past of Audit Fine = ⊤
-MayEnd site usable past of Audit NoMemory = ⊤
+MayEnd site usable past of Barrier NoMemory = ⊥
+MayEnd site usable past of call Fine = ⊤
+MayEnd site usable past of call NoMemory = ⊤
 MayEnd site usable past of call how = ⊥
 
 -- whether a command that ends so has shown a page: one that asks for a page and is fine has, and no other has

@@ -13,7 +13,6 @@ pub record Place : Type 0 where
 abbrev pub place : ℕ → ℕ → Place
 place shard worker = record { shard = shard; worker = worker }
 
--- whether a place is that of a shard
 abbrev pub is_of : ℕ → Place → Bool
 is_of shard p = p.shard == shard
 

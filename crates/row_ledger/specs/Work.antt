@@ -14,7 +14,6 @@ use Rattle.shard_plan.specs.Building.{cells_for, split_need}
 use Rattle.row_ledger.specs.declared.event.Event.{Event}
 use Rattle.row_ledger.specs.declared.event.Event.TheVariants.{Split, Moved, Left}
 use Rattle.row_ledger.specs.declared.settings.Decline.{Decline}
-use Rattle.row_ledger.specs.declared.settings.Decline.TheVariants.{OnePlace, NoCell}
 use Rattle.row_ledger.specs.declared.settings.Decline.TheVariants as decline
 use Rattle.row_ledger.specs.declared.settings.How.{How}
 use Rattle.row_ledger.specs.declared.settings.How.TheVariants.{Fine, Declined, Postponed, NoMemory}
@@ -67,8 +66,8 @@ need_of (action.Move shard worker) n = 1 + cells_for n
 
 -- why an action on a shard with these rows is declined: a split for one place, either for want of cells
 abbrev pub IsCause : List Dimension → Action → List Row → Decline → Type 0
-IsCause h (action.Split shard) rows OnePlace = AreOnePlace h rows
-IsCause h a rows (NoCell need free) = (free < need) × (need ≡ need_of a (length rows))
+IsCause h (action.Split shard) rows decline.OnePlace = AreOnePlace h rows
+IsCause h a rows (decline.NoCell need free) = (free < need) × (need ≡ need_of a (length rows))
 IsCause h a rows other = ⊥
 
 -- an action for the command that began at `of` is declined rightly behind this past
@@ -98,7 +97,6 @@ pub record Reading : Type 0 where
 abbrev pub loads : List Reading → List Load
 loads readings = map (λ (r : Reading). r.load) readings
 
--- the rows of all loads
 abbrev pub rows_read : List Reading → List Row
 rows_read readings = flat_map (λ (r : Reading). r.rows) readings
 

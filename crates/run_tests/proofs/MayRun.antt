@@ -9,7 +9,8 @@ use Rattle.dim_hierarchy.specs.Dimension.{Dimension, IsHierarchy}
 use Rattle.row_ledger.specs.declared.settings.Use.{Use}
 use Rattle.script_form.specs.Fits.{AreSettings}
 use Rattle.script_form.specs.declared.script.Command.{Command}
-use Rattle.script_run.specs.Phases.{NoneCloses, closes}
+use Rattle.script_run.specs.Phases.{closes}
+use Rattle.script_run.specs.Streams.{NoneCloses}
 use Rattle.seeded_run.specs.Phase.{ClosesLast, MayAllRun, MayRun}
 use Rattle.seeded_run.specs.Roles.{CanOpen}
 

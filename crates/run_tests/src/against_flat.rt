@@ -1,6 +1,6 @@
 //! Scripts made by chance: behind a settle the word `step` prints what a plain list of rows answers.
 ghost use Rattle.std.specs.Prelude.{All};
-ghost use Rattle.dim_hierarchy.specs.Row.{IsRowOf};
+ghost use Rattle.dim_hierarchy.specs.Rows.{IsRowOf};
 ghost use Rattle.script_form.specs.Fits.{Fits};
 ghost use Rattle.script_form.specs.declared.script.Command.TheVariants as command;
 

@@ -1,7 +1,7 @@
 //! The plain program beside the core: rows in a list, which answers by going over all of them.
 ghost use Rattle.std.specs.Prelude.{◌≡◌, [], ◌∷◌, ◌++◌, filter, All, OnOk, OnErr};
 ghost use Rattle.dim_hierarchy.specs.Filter.{IsFilterOf, matches};
-ghost use Rattle.dim_hierarchy.specs.Row.{IsRowOf};
+ghost use Rattle.dim_hierarchy.specs.Rows.{IsRowOf};
 ghost use Rattle.measure_agg.specs.Aggregate.{agg};
 
 use dim_hierarchy::{Coord, Filter, Hierarchy, Items, Row};

@@ -1,6 +1,6 @@
 //! Scripts made of tables of lines.
 ghost use Rattle.std.specs.Prelude.{◌≡◌, All, IfOk, OnOk, true};
-ghost use Rattle.dim_hierarchy.specs.Filter.{IsNamePick};
+ghost use Rattle.dim_hierarchy.specs.Names.{IsNamePick};
 ghost use Rattle.script_form.specs.Fits.{AreSettings};
 ghost use Rattle.script_form.specs.declared.script.Command.TheVariants as script_is;
 ghost use Rattle.seeded_run.specs.Phase.{MayAllRun, MayRun};

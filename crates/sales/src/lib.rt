@@ -2,7 +2,9 @@
 #![tactic(auto)]
 
 ghost use Rattle.std.specs.Prelude.{◌≡◌, ◌↔◌, All, IfOk, IsTrue, List, length};
-ghost use Rattle.dim_hierarchy.specs.Filter.{IsFilterNamed, IsNamePick, Matches};
+ghost use Rattle.dim_hierarchy.specs.Filter.{IsFilterNamed};
+ghost use Rattle.dim_hierarchy.specs.Names.{IsNamePick};
+ghost use Rattle.dim_hierarchy.specs.Meaning.{Matches};
 ghost use Rattle.dim_hierarchy.specs.Row.{IsCoordNamed};
 ghost use Rattle.dim_hierarchy.specs.declared.filter.Pick.{Pick};
 ghost use Rattle.dim_hierarchy.specs.declared.row.Coord.{Coord};

@@ -12,7 +12,7 @@ use Rattle.std.proofs.lemmas.List.Elements.{All-map, All-push, filter_map-append
 use Rattle.std.proofs.lemmas.List.Splits.{length-slice_split}
 use Rattle.std.proofs.lemmas.List.Sums.{fold-append}
 use Rattle.dim_hierarchy.specs.Dimension.{Dimension, new_dimension}
-use Rattle.dim_hierarchy.specs.Filter.{IsNamePick}
+use Rattle.dim_hierarchy.specs.Names.{IsNamePick}
 use Rattle.script_form.specs.Reading.{MayStand, IsTaken, after}
 use Rattle.script_form.specs.Causes.{cause_at, is_version}
 use Rattle.script_form.specs.Fields.{Record, field, is_bar, is_star, value_of}

@@ -1,8 +1,7 @@
 -- The causes for which a record is bad, given the script of the records before it.
 use Rattle.script_form.specs.Limits.{most_servers, most_workers, most_threads, fewest_cells, most_cells, most_levels, shard_ids, worker_ids, most_actions}
-use Rattle.std.specs.Prelude.{ℕ, ◌==◌, ◌&&◌, ◌||◌, not, Bool, false, Option, Some, None, is_some, option_and_then, if◌then◌else◌, List, length, drop, codes}
+use Rattle.std.specs.Prelude.{ℕ, ◌==◌, ◌&&◌, ◌||◌, not, Bool, false, Option, Some, None, is_some, option_and_then, if◌then◌else◌, List, length, drop, bytes_eq, codes}
 use Rattle.std.specs.List.{list_all}
-use Rattle.std.specs.Str.{bytes_eq}
 use Rattle.dim_hierarchy.specs.Dimension.{Dimension, concept_fault, dim_fault, find, find_dim}
 use Rattle.dim_hierarchy.specs.declared.hierarchy.DimFault.{DimFault}
 use Rattle.dim_hierarchy.specs.declared.hierarchy.DimFault.TheVariants as dim
@@ -16,7 +15,6 @@ use Rattle.script_form.specs.declared.script.Cause.{Cause}
 use Rattle.script_form.specs.declared.script.Cause.TheVariants as cause
 use Rattle.script_form.specs.declared.script.Script.{Script}
 
--- `volap`, `1`
 abbrev pub is_version : Record → Bool
 is_version r = (length r == 2) && bytes_eq (field r 0) (codes "volap") && bytes_eq (field r 1) (codes "1")
 
@@ -30,21 +28,16 @@ wrong_order place before _ = length before.hierarchy == 0
 
 -- a number field is no number in its range
 abbrev pub wrong_number : ℕ → Kind → Record → Bool
-wrong_number servers kind.Volap r = false
 wrong_number servers kind.Use r = not (in_range (field r 1) 1 most_servers && in_range (field r 2) 1 most_workers && in_range (field r 3) 1 most_threads && in_range (field r 4) fewest_cells most_cells)
 wrong_number servers kind.Dim r = not (in_range (field r 2) 1 most_levels)
-wrong_number servers kind.Concept r = false
 wrong_number servers kind.Insert r = not (is_below (field r 1) servers && is_some (measure_of (field r 2)))
 wrong_number servers kind.Query r = not (is_below (field r 1) servers)
 wrong_number servers kind.Sync r = not (is_below (field r 1) servers)
 wrong_number servers kind.Split r = not (is_below (field r 1) shard_ids)
 wrong_number servers kind.Move r = not (is_below (field r 1) shard_ids && is_below (field r 2) worker_ids)
 wrong_number servers kind.Balance r = not (in_range (field r 1) 1 most_actions)
-wrong_number servers kind.Barrier r = false
-wrong_number servers kind.Settle r = false
-wrong_number servers kind.Shards r = false
 wrong_number servers kind.Tree r = not (is_below (field r 1) shard_ids)
-wrong_number servers kind.Audit r = false
+wrong_number servers _ r = false
 
 -- a name field, or a piece of a filter, is no name
 abbrev pub wrong_name : Kind → Record → Bool

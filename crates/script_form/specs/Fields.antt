@@ -1,9 +1,8 @@
 -- Numbers, measures, names and filters as the fields of a record spell them.
 use Rattle.script_form.specs.Limits.{most_bytes}
-use Rattle.std.specs.Prelude.{ℕ, ◌+◌, ◌-◌, ◌*◌, ◌==◌, ◌&&◌, ◌||◌, nat_lt, nat_le, not, Bool, false, ℤ, pos, neg_ℤ, Option, Some, None, unwrap_or, option_and_then, if◌then◌else◌, List, [], ◌∷◌, length, fold, codes}
+use Rattle.std.specs.Prelude.{ℕ, ◌+◌, ◌-◌, ◌*◌, ◌==◌, ◌&&◌, ◌||◌, nat_lt, nat_le, not, Bool, false, ℤ, pos, neg_ℤ, Option, Some, None, unwrap_or, option_and_then, if◌then◌else◌, List, [], ◌∷◌, length, fold, bytes_eq, codes}
 use Rattle.std.specs.List.{list_any, list_all, slice_split}
 use Rattle.std.specs.Option.{option_map_or}
-use Rattle.std.specs.Str.{bytes_eq}
 use Rattle.csv.specs.Records.{field_at}
 
 -- a record: its fields in order, each a list of bytes
@@ -26,11 +25,9 @@ digits_value text = fold (λ value b. 10 * value + (b - 48)) 0 text
 abbrev pub number_of : List ℕ → Option ℕ
 number_of text = if nat_le 1 (length text) && nat_le (length text) 20 && list_all is_digit text then Some (digits_value text) else None
 
--- a number from low to high
 abbrev pub in_range : List ℕ → ℕ → ℕ → Bool
 in_range text low high = option_map_or (λ value. nat_le low value && nat_le value high) (number_of text) false
 
--- a number below a limit
 abbrev pub is_below : List ℕ → ℕ → Bool
 is_below text limit = option_map_or (λ value. nat_lt value limit) (number_of text) false
 

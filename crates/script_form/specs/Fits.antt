@@ -1,6 +1,6 @@
 -- Settings in their ranges, and commands that fit their script.
 use Rattle.std.specs.Prelude.{ℕ, ◌≡◌, ◌<◌, ◌≤◌, ⊤, length, All}
-use Rattle.dim_hierarchy.specs.Filter.{IsNamePick}
+use Rattle.dim_hierarchy.specs.Names.{IsNamePick}
 use Rattle.row_ledger.specs.declared.settings.Use.{Use}
 use Rattle.row_ledger.specs.declared.settings.Call.{Call}
 use Rattle.row_ledger.specs.declared.settings.Call.TheVariants as call

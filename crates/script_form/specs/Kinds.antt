@@ -1,6 +1,5 @@
 -- The kinds of record.
-use Rattle.std.specs.Prelude.{ℕ, ◌+◌, List, Option, Some, None, if◌then◌else◌, codes}
-use Rattle.std.specs.Str.{bytes_eq}
+use Rattle.std.specs.Prelude.{ℕ, ◌+◌, List, Option, Some, None, if◌then◌else◌, bytes_eq, codes}
 use Rattle.script_form.specs.declared.kind.Kind.{Kind}
 use Rattle.script_form.specs.declared.kind.Kind.TheVariants as kind
 
@@ -36,8 +35,5 @@ width kind.Sync dims = 2
 width kind.Split dims = 2
 width kind.Move dims = 3
 width kind.Balance dims = 2
-width kind.Barrier dims = 1
-width kind.Settle dims = 1
-width kind.Shards dims = 1
 width kind.Tree dims = 2
-width kind.Audit dims = 1
+width _ dims = 1

@@ -1,6 +1,5 @@
 -- The script that a list of records is, or where and why it is bad.
-use Rattle.std.specs.Prelude.{ℕ, pos, ◌+◌, Option, Some, None, option_map, unwrap_or, Result, Ok, Err, if◌then◌else◌, List, [], ◌∷◌, ◌++◌, length, drop, map, fold, slice_set}
-use Rattle.std.specs.List.{filter_map}
+use Rattle.std.specs.Prelude.{ℕ, pos, ◌+◌, Option, Some, None, option_map, unwrap_or, Result, Ok, Err, if◌then◌else◌, List, [], ◌∷◌, ◌++◌, length, drop, map, filter_map, fold, slice_set}
 use Rattle.std.specs.Option.{option_or}
 use Rattle.csv.specs.Reading.{default_config, records, strip_bom}
 use Rattle.dim_hierarchy.specs.Dimension.{Dimension, dimension, find_dim, new_dimension, with_concept}

@@ -5,7 +5,8 @@ use Rattle.std.proofs.lemmas.Bool.{cases_Bool}
 use Rattle.std.proofs.lemmas.Grind.{flat_map-append}
 use Rattle.std.proofs.Math.Seq.{take-length, drop-length}
 use Rattle.script_form.specs.declared.script.Command.{Command}
-use Rattle.script_run.specs.Phases.{NoneCloses, closes, with_first, phases, all_of}
+use Rattle.script_run.specs.Phases.{closes, with_first, phases, all_of}
+use Rattle.script_run.specs.Streams.{NoneCloses}
 
 -- commands up to the first that closes are a phase
 

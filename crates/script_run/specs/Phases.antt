@@ -1,32 +1,21 @@
 -- The phases of a script: each ends with a command that closes it, or with the script.
-use Rattle.std.specs.Prelude.{ℕ, ◌+◌, ◌*◌, ◌≡◌, Bool, true, false, if◌then◌else◌, List, [], ◌∷◌, take}
-use Rattle.std.specs.List.{AllByRecursion, flat_map}
+use Rattle.std.specs.Prelude.{ℕ, ◌+◌, ◌*◌, Bool, true, false, if◌then◌else◌, List, [], ◌∷◌, take, flat_map}
 use Rattle.row_ledger.specs.declared.settings.Call.{Call}
-use Rattle.row_ledger.specs.declared.settings.Call.TheVariants.{Sync, Split, Move, Balance, Barrier, Settle, Shards, Tree, Audit}
+use Rattle.row_ledger.specs.declared.settings.Call.TheVariants.{Sync, Split, Move, Balance}
 use Rattle.script_form.specs.declared.script.Command.{Command}
-use Rattle.script_form.specs.declared.script.Command.TheVariants.{Insert, Query, Control}
+use Rattle.script_form.specs.declared.script.Command.TheVariants.{Control}
 
--- whether a command closes its phase: it begins when all others of the phase have ended
-
+-- whether a called command closes its phase: it begins when all others of the phase have ended
 abbrev pub is_closing : Call → Bool
 is_closing (Sync server) = false
 is_closing (Split shard) = false
 is_closing (Move shard worker) = false
 is_closing (Balance most) = false
-is_closing Barrier = true
-is_closing Settle = true
-is_closing Shards = true
-is_closing (Tree shard) = true
-is_closing Audit = true
+is_closing _ = true
 
 abbrev pub closes : Command → Bool
-closes (Insert new) = false
-closes (Query question) = false
 closes (Control call) = is_closing call
-
--- none of these commands closes a phase
-abbrev pub NoneCloses : List Command → Type 0
-NoneCloses cs = AllByRecursion (λ c. closes c ≡ false) cs
+closes _ = false
 
 -- phases with one command more in front of the first
 abbrev pub with_first : Command → List (List Command) → List (List Command)

@@ -11,10 +11,6 @@ use Rattle.row_ledger.specs.Past.{session_in, is_end_of, is_over}
 use Rattle.script_form.specs.declared.script.Command.{Command}
 use Rattle.script_form.specs.declared.script.Command.TheVariants.{Insert, Query, Control}
 
--- the session of every command is below this
-abbrev pub sessions : ℕ
-sessions = 257
-
 -- the session of a called command: a sync's is the pulling one, any other's the controlling one
 abbrev pub session_of_call : Use → Call → ℕ
 session_of_call with (Sync server) = with.servers

@@ -1,6 +1,6 @@
 -- A history is a run of a script's commands, whole or in part.
-use Rattle.std.specs.Prelude.{ℕ, ◌≡◌, ◌+◌, ◌<◌, ◌⊎◌, ⊤, Bool, true, false, IsTrue, Option, Some, None, is_none, List, zip, position, AllPairs, Contains, zero, suc, IfSome, [], ◌∷◌, ◌++◌, length, map, reverse, take, filter_map}
-use Rattle.std.specs.List.{AllZip}
+use Rattle.std.specs.Prelude.{ℕ, ◌≡◌, ◌+◌, ◌<◌, ◌⊎◌, ⊤, Bool, true, false, IsTrue, Option, Some, None, is_none, List, zip, position, AllPairs, Contains, IfSome, [], ◌∷◌, ◌++◌, length, map, reverse, take, filter_map}
+use Rattle.std.specs.List.{AllZip, range_with_len}
 use Rattle.dim_hierarchy.specs.Dimension.{Dimension}
 use Rattle.dim_hierarchy.specs.Row.{IsCoordNamed, leaves}
 use Rattle.dim_hierarchy.specs.Filter.{IsFilterNamed, picks}
@@ -60,14 +60,9 @@ EndsBefore history (Some p) (Some q) = (p < q) × IsTrue (is_over (before histor
 abbrev pub pulled_since : List Event → ℕ → List ℕ
 pulled_since past p = reverse (map (λ (pull : Pull). pull.server) (filter_map pull_in (since past p)))
 
--- all servers in the order of their numbers
-abbrev pub each_server : ℕ → List ℕ
-each_server zero = []
-each_server (suc n) = each_server n ++ n ∷ []
-
--- and then once more
+-- all servers in the order of their numbers, and then once more
 abbrev pub each_twice : ℕ → List ℕ
-each_twice servers = each_server servers ++ each_server servers
+each_twice servers = range_with_len 0 servers ++ range_with_len 0 servers
 
 -- A sync that is fine pulled once, for its server, and one that found no memory not at all. A settle that is fine pulled
 -- for each server, and for each once more; one that found no memory got less far.

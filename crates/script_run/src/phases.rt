@@ -1,6 +1,7 @@
 //! The phases of a script.
 ghost use Rattle.std.specs.Prelude.{◌≡◌, ◌-◌, ◌<◌, ◌≤◌, ◌∷◌, length, take, drop};
-ghost use Rattle.script_run.specs.Phases.{NoneCloses, closes, phases};
+ghost use Rattle.script_run.specs.Phases.{closes, phases};
+ghost use Rattle.script_run.specs.Streams.{NoneCloses};
 
 use row_ledger::Call;
 use script_form::Command;

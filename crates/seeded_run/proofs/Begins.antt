@@ -20,10 +20,10 @@ use Rattle.script_run.proofs.PlaceFacts.{begins_of-other, count_of-append}
 use Rattle.script_run.proofs.StreamSteps.{over-older}
 use Rattle.script_run.specs.Between.{IsInOrder}
 use Rattle.script_run.specs.Parts.{HasPlace, place_in}
-use Rattle.script_run.specs.Phases.{NoneCloses, closes, is_closing, ranks}
+use Rattle.script_run.specs.Phases.{closes, is_closing, ranks}
+use Rattle.script_run.specs.Streams.{NoneCloses, IsInPhase, IsReady, StepsOn}
 use Rattle.script_run.specs.Places.{begins_of, count_of, is_over_at, session_of}
 use Rattle.script_run.specs.Runs.{pulled_since, Begins}
-use Rattle.script_run.specs.Streams.{IsInPhase, IsReady, StepsOn}
 use Rattle.volap_cell.specs.Ghost.{Ghost}
 use Rattle.volap_cell.specs.ImageKinds.{doing}
 use Rattle.volap_cell.specs.Invariant.{InvWith}

@@ -2,7 +2,9 @@
 use Rattle.std.proofs.Common.{◌≡◌, ◌∙◌, ℕ, zero, suc, ◌+◌, ◌-◌, ◌<◌, ◌≤◌, ◌⊎◌, inl, inr, Bool, true, false, List, [], ◌∷◌, ◌++◌, length, map, reverse, take, Option, Some, None, refl, sym, ap, subst, arith, append_assoc, length-append}
 use mathlib.Core.List.{reverse-cons}
 use Rattle.std.specs.Prelude.{IfSome, filter_map, nat_lt, option_and_then, if◌then◌else◌}
+use Rattle.std.specs.List.{range_with_len}
 use Rattle.std.proofs.Math.Seq.{take-length}
+use Rattle.std.proofs.lemmas.List.FromFn.{length-range_with_len}
 use Rattle.row_ledger.proofs.Positions.{since-inside, since-outside}
 use Rattle.row_ledger.specs.Past.{Pull, call_at, call_in, end_in, event_at, insert_in, pull_in, query_in, session_in, since}
 use Rattle.row_ledger.specs.declared.event.Event.{Event}
@@ -12,7 +14,7 @@ use Rattle.row_ledger.specs.declared.settings.Call.TheVariants as call
 use Rattle.row_ledger.specs.declared.settings.How.{How}
 use Rattle.row_ledger.specs.declared.settings.How.TheVariants as how
 use Rattle.row_ledger.specs.declared.settings.Use.{Use}
-use Rattle.script_run.specs.Runs.{ArePulls, HasPulls, each_server, each_twice, pulled_since}
+use Rattle.script_run.specs.Runs.{ArePulls, HasPulls, each_twice, pulled_since}
 use Rattle.volap_cell.specs.Commands.{MayNoteEnd, due_pull, pulled_once, settles_next}
 use Rattle.volap_cell.specs.Setting.{Setting}
 use Rattle.volap_cell.specs.Telling.{IsProgress}
@@ -154,9 +156,12 @@ pulled-none e past = ap (λ es. reverse (map (λ (pull : Pull). pull.server) (fi
 
 -- All servers.
 
+-- all servers in the order of their numbers
+abbrev each_server : ℕ → List ℕ
+each_server n = range_with_len 0 n
+
 servers-length : (n : ℕ) → length (each_server n) ≡ n
-servers-length zero = refl
-servers-length (suc n) = omega (arith, servers-length n, length-append (each_server n) (n ∷ []))
+servers-length n = length-range_with_len 0 n
 
 pub twice-length : (n : ℕ) → length (each_twice n) ≡ n + n
 twice-length n = omega (arith, servers-length n, length-append (each_server n) (each_server n))
@@ -167,16 +172,18 @@ take-next [] ys x (suc k) is = absurd (omega arith)
 take-next (z ∷ xs) ys x zero is = absurd (omega arith)
 take-next (z ∷ xs) ys x (suc k) is = ap (λ l. z ∷ l) (take-next xs ys x k (omega arith))
 
--- the servers below one stand in front of it
+-- the numbers below one stand in front of it
+range-split : (from n k : ℕ) → k < n → (more : List ℕ) × (range_with_len from n ≡ range_with_len from k ++ (from + k) ∷ more)
+range-split from zero k low = absurd (omega arith)
+range-split from (suc n) zero low = (range_with_len (from + 1) n, ap (λ x. x ∷ range_with_len (from + 1) n) (let same : from ≡ from + 0 = omega arith in same))
+range-split from (suc n) (suc k) low =
+    let found = range-split (from + 1) n k (omega arith) in
+    (found.0, ap (λ l. from ∷ l) (found.1 ∙ ap (λ x. range_with_len (from + 1) k ++ x ∷ found.0) (let same : from + 1 + k ≡ from + suc k = omega arith in same)))
+
 server-split : (n k : ℕ) → k < n → (more : List ℕ) × (each_server n ≡ each_server k ++ k ∷ more)
-server-split zero k low = absurd (omega arith)
-server-split (suc n) k low = elim (low-or-at k n low) [
-  | inl below ↦ let found = server-split n k below in (found.0 ++ n ∷ [], ap (λ l. l ++ n ∷ []) found.1 ∙ append_assoc (each_server k) (k ∷ found.0) (n ∷ []))
-  | inr at ↦ ([], ap (λ m. each_server m ++ m ∷ []) (sym at))
-]
-  where
-    low-or-at : (k n : ℕ) → k < suc n → (k < n) ⊎ (k ≡ n)
-    low-or-at k n h = grind arith
+server-split n k low =
+    let found = range-split 0 n k low in
+    (found.0, found.1 ∙ ap (λ x. each_server k ++ x ∷ found.0) (let same : 0 + k ≡ k = omega arith in same))
 
 less-of : (a b : ℕ) → nat_lt a b ≡ true → a < b
 less-of a b h = grind arith

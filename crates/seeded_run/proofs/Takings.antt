@@ -6,7 +6,7 @@ use mathlib.Core.Path.{fun_ext}
 use Rattle.core_tree.proofs.Carriers.{Carries, carries}
 use Rattle.dc_node.specs.Block.{IsBodyOf}
 use Rattle.dim_hierarchy.specs.Dimension.{Dimension}
-use Rattle.dim_hierarchy.specs.Row.{IsRowOf}
+use Rattle.dim_hierarchy.specs.Rows.{IsRowOf}
 use Rattle.dim_hierarchy.specs.declared.row.Row.{Row}
 use Rattle.mapping_table.specs.declared.place.Where.{Where}
 use Rattle.mapping_table.specs.declared.place.Where.TheVariants as where_is

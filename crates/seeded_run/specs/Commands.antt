@@ -2,7 +2,7 @@
 -- history.
 use Rattle.std.specs.Prelude.{ℕ, ◌≡◌, ◌<◌, ⊤, Bool, true, false, All, List, ◌∷◌, get_or, length, Option, Some, None}
 use Rattle.dim_hierarchy.specs.Dimension.{Dimension}
-use Rattle.dim_hierarchy.specs.Filter.{IsNamePick}
+use Rattle.dim_hierarchy.specs.Names.{IsNamePick}
 use Rattle.row_ledger.specs.declared.event.Event.{Event}
 use Rattle.row_ledger.specs.declared.settings.Call.{Call}
 use Rattle.row_ledger.specs.declared.settings.Call.TheVariants.{Sync}

@@ -2,7 +2,7 @@
 use Rattle.std.specs.Prelude.{ℕ, ⊤, ◌≡◌, ◌==◌, ◌||◌, Bool, true, false, not, Option, Some, None, List, length, get_or, option_and_then}
 use Rattle.dc_node.specs.Block.{IsBodyOf}
 use Rattle.dim_hierarchy.specs.Dimension.{Dimension}
-use Rattle.dim_hierarchy.specs.Row.{IsRowOf}
+use Rattle.dim_hierarchy.specs.Rows.{IsRowOf}
 use Rattle.query_router.specs.Desk.{DeskValue}
 use Rattle.std.specs.Option.{option_map_or}
 use Rattle.row_ledger.specs.declared.settings.Use.{Use}

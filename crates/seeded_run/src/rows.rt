@@ -1,7 +1,7 @@
 //! The steps of rows at a gate and in its tree, where they are due.
 ghost use Rattle.std.specs.Prelude.{ℕ, ◌≡◌, ◌⊎◌, ◌<◌, ⊤, Some, None, length, get_or};
 ghost use Rattle.dc_node.specs.Block.{IsBodyOf, is_full};
-ghost use Rattle.dim_hierarchy.specs.Row.{IsRowOf};
+ghost use Rattle.dim_hierarchy.specs.Rows.{IsRowOf};
 ghost use Rattle.seeded_run.specs.AtWork.{errand_by, held_pin};
 ghost use Rattle.seeded_run.specs.Core.{HasCore, IsDue};
 ghost use Rattle.seeded_run.specs.Look.{cell_at};

@@ -2,7 +2,7 @@
 ghost use Rattle.std.specs.Prelude.{◌≡◌, ◌==◌, ℕ, Some, true, false, []};
 ghost use Rattle.std.specs.Option.{option_map_or};
 ghost use Rattle.dc_node.specs.Block.{IsBodyOf};
-ghost use Rattle.dim_hierarchy.specs.Row.{IsRowOf};
+ghost use Rattle.dim_hierarchy.specs.Rows.{IsRowOf};
 ghost use Rattle.seeded_run.specs.Can.{child_of, gate_awaited, is_carried_at, is_drained, last_noted, root_at, wanted_down, wanted_of, wanted_visit};
 ghost use Rattle.seeded_run.specs.Due.{led_to};
 ghost use Rattle.seeded_run.specs.Look.{cell_at, setting_by, world_by};

@@ -13,7 +13,7 @@ use Rattle.std.proofs.lemmas.List.Elements.{All-from_recursion}
 use Rattle.std.proofs.lemmas.Nat.{be_bytes_4, be_bytes_8}
 use Rattle.std.proofs.lemmas.Slice.Eq.{bytes_eq-Decides}
 use Rattle.dim_hierarchy.specs.Dimension.{Dimension, IsHierarchy}
-use Rattle.dim_hierarchy.specs.Row.{IsRowOf}
+use Rattle.dim_hierarchy.specs.Rows.{IsRowOf}
 use Rattle.dim_hierarchy.specs.declared.row.Row.{Row}
 use Rattle.shard_codec.specs.declared.fault.CodecFault.{CodecFault}
 use Rattle.shard_codec.specs.declared.fault.CodecFault.TheVariants.{Short, BadMark, BadCount, BadConcept, Trailing}

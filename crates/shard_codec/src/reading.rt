@@ -3,7 +3,7 @@ ghost use Rattle.std.specs.Prelude.{◌≡◌, List, [], length, Ok, All, IfOk};
 ghost use Rattle.shard_codec.specs.Spelled.{AreSpelled};
 ghost use Rattle.shard_codec.specs.Wire.{wire};
 ghost use Rattle.dim_hierarchy.specs.Dimension.{IsHierarchy};
-ghost use Rattle.dim_hierarchy.specs.Row.{IsRowOf};
+ghost use Rattle.dim_hierarchy.specs.Rows.{IsRowOf};
 ghost use Rattle.dim_hierarchy.specs.declared.row.Row.{Row};
 ghost use Rattle.shard_codec.specs.Reading.{Gives, GivesUnlessFull, coord_at, head_at, row_at, rows_at, decoded, all_at_top};
 

@@ -1,6 +1,6 @@
 //! The gate of a shard.
 ghost use Rattle.std.specs.Prelude.{◌≡◌, ◌≢◌, ◌↔◌, ◌+◌, ◌<◌, ◌^◌, [], length, IsOk, IfErr, OnOk, OnErr};
-ghost use Rattle.dim_hierarchy.specs.Row.{IsRowOf};
+ghost use Rattle.dim_hierarchy.specs.Rows.{IsRowOf};
 
 use crate::queue::{CellList, Queue};
 use describing_set::DescSet;

@@ -1,7 +1,7 @@
 -- What holds of a whole tree beside its nodes, and how it is put together after a step
 use Rattle.std.proofs.Common.{◌≡◌, ◌≢◌, ℕ, ◌+◌, ◌-◌, ◌<◌, ◌≤◌, Bool, true, false, eqb, List, [], ◌∷◌, ◌++◌, length, refl, sym, ap, ◌∙◌, subst, arith}
 use Rattle.std.specs.Prelude.{Some, slice_get}
-use Rattle.dim_hierarchy.specs.Row.{IsRowOf}
+use Rattle.dim_hierarchy.specs.Rows.{IsRowOf}
 use Rattle.dc_node.specs.Block.{rows_in, entries_in, is_leaf, is_full, size, with_entries}
 use Rattle.dc_node.specs.declared.block.Body.{Body}
 use Rattle.dc_node.specs.declared.block.Body.TheVariants.{Rows, Entries}

@@ -4,7 +4,8 @@ use Rattle.std.proofs.lemmas.List.{append-nil}
 use Rattle.dim_hierarchy.specs.Dimension.{Dimension}
 use Rattle.dim_hierarchy.specs.Filter.{matches}
 use Rattle.dim_hierarchy.specs.declared.filter.Pick.{Pick}
-use Rattle.measure_agg.specs.Aggregate.{agg, join}
+use Rattle.measure_agg.specs.Aggregate.{agg}
+use Rattle.measure_agg.specs.Joining.{join}
 use Rattle.describing_set.specs.Filter.{is_inside, overlaps}
 use Rattle.dc_node.specs.Summary.{IsSummaryOf, joined, aggs}
 use Rattle.shard_store.specs.Gate.{root_entry}

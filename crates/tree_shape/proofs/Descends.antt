@@ -1,7 +1,7 @@
 -- The step down by an entry of a directory, from what the call's contract says
 use Rattle.std.proofs.Common.{◌≡◌, ◌≢◌, ℕ, ◌+◌, ◌-◌, ◌<◌, ◌≤◌, ◌⊎◌, inl, inr, true, false, eqb, List, [], ◌∷◌, ◌++◌, length, map, take, drop, refl, sym, ap, ◌∙◌, subst, arith}
 use Rattle.std.specs.Prelude.{Some, None}
-use Rattle.dim_hierarchy.specs.Row.{IsRowOf}
+use Rattle.dim_hierarchy.specs.Rows.{IsRowOf}
 use Rattle.dc_node.specs.Block.{entries_in, is_leaf, is_full, size, with_entries, replaced}
 use Rattle.dc_node.specs.declared.block.Body.{Body}
 use Rattle.dc_node.specs.declared.block.Body.TheVariants.{Rows, Entries}

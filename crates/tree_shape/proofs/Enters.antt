@@ -1,6 +1,6 @@
 -- A row comes in at the gate, and goes down onto the root's head
 use Rattle.std.proofs.Common.{◌≡◌, ◌≢◌, ℕ, ◌+◌, ◌-◌, ◌<◌, true, false, cond, eqb, List, [], ◌∷◌, ◌++◌, refl, sym, ap, ◌∙◌, subst, arith}
-use Rattle.dim_hierarchy.specs.Row.{IsRowOf}
+use Rattle.dim_hierarchy.specs.Rows.{IsRowOf}
 use Rattle.dc_node.specs.Block.{is_full}
 use Rattle.cell_stock.specs.declared.purse.Spare.{Spare}
 use Rattle.shard_store.specs.Gate.{root_entry}

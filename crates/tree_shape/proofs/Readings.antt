@@ -8,7 +8,8 @@ use Rattle.dim_hierarchy.specs.Row.{IsCoordOf}
 use Rattle.dim_hierarchy.specs.Filter.{matches}
 use Rattle.dim_hierarchy.specs.declared.filter.Pick.{Pick}
 use Rattle.dim_hierarchy.proofs.Matching.{matches-Matches}
-use Rattle.measure_agg.specs.Aggregate.{agg, join}
+use Rattle.measure_agg.specs.Aggregate.{agg}
+use Rattle.measure_agg.specs.Joining.{join}
 use Rattle.measure_agg.proofs.AggLaws.{agg-append, join_commutative}
 use Rattle.describing_set.specs.Sets.{IsDescSetOf, Covers}
 use Rattle.describing_set.specs.Filter.{is_inside, overlaps}

@@ -1,7 +1,7 @@
 -- The steps as relations between two shapes and the nodes of the cells.
 use Rattle.std.specs.Prelude.{◌≡◌, ◌≢◌, ℕ, ◌+◌, ◌-◌, ◌<◌, ◌≤◌, ◌⊎◌, Bool, true, false, cond, eqb, leb, List, [], ◌∷◌, ◌++◌, Some, map}
 use Rattle.dc_node.specs.Summary.{IsSummaryOf}
-use Rattle.dim_hierarchy.specs.Row.{IsRowOf}
+use Rattle.dim_hierarchy.specs.Rows.{IsRowOf}
 use Rattle.dc_node.specs.Entry.{IsWithRow}
 use Rattle.dc_node.specs.declared.entry.Entry.{Entry}
 use Rattle.tree_shape.specs.Counts.{Among, Each, same, times, total}

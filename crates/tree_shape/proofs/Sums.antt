@@ -20,9 +20,10 @@ use Rattle.std.specs.List.{AllZip, flat_map}
 use Rattle.std.proofs.lemmas.List.{map-append}
 use Rattle.describing_set.specs.DescSet.{IsSetOf}
 use Rattle.dim_hierarchy.specs.declared.row.Coord.{Coord}
-use Rattle.measure_agg.specs.Aggregate.{agg, join, one}
+use Rattle.measure_agg.specs.Aggregate.{agg}
+use Rattle.measure_agg.specs.Joining.{join, one}
 use Rattle.measure_agg.proofs.AggLaws.{join_commutative, agg-append, join_empty_right}
-use Rattle.dim_hierarchy.specs.Row.{IsRowOf}
+use Rattle.dim_hierarchy.specs.Rows.{IsRowOf}
 
 -- two entries with the same aggregate and set
 pub sum-same : (table : Table) (ns ms : List ℕ) (e f : Entry) → f.agg ≡ e.agg → f.set ≡ e.set → ms ≡ ns → IsSumOf table ns e → IsSumOf table ms f

@@ -5,9 +5,10 @@ use Rattle.std.proofs.lemmas.List.Elements.{All-nil, All-cons}
 use Rattle.std.proofs.lemmas.List.Sorted.{IsPermutation-middle}
 use Rattle.std.proofs.lemmas.List.{map-append, length-map, take-append-drop}
 use Rattle.dim_hierarchy.specs.Dimension.{IsHierarchy}
-use Rattle.dim_hierarchy.specs.Row.{IsRowOf}
+use Rattle.dim_hierarchy.specs.Rows.{IsRowOf}
 use Rattle.dim_hierarchy.specs.declared.row.Coord.{Coord}
-use Rattle.measure_agg.specs.Aggregate.{agg, join, Aggregate}
+use Rattle.measure_agg.specs.Aggregate.{agg, Aggregate}
+use Rattle.measure_agg.specs.Joining.{join}
 use Rattle.measure_agg.proofs.AggLaws.{agg-append, agg-IsPermutation}
 use Rattle.describing_set.specs.DescSet.{IsSetOf}
 use Rattle.describing_set.specs.Sets.{IsDescSetOf, AreAmong}

@@ -5,7 +5,7 @@ use Rattle.std.specs.List.{AllZip}
 use Rattle.std.proofs.lemmas.List.Elements.{All-nil, All-cons}
 use Rattle.dim_hierarchy.specs.Dimension.{Dimension}
 use Rattle.dim_hierarchy.specs.declared.row.Coord.{Coord}
-use Rattle.measure_agg.specs.Aggregate.{one}
+use Rattle.measure_agg.specs.Joining.{one}
 use Rattle.describing_set.specs.DescSet.{IsSetOf}
 use Rattle.describing_set.specs.Sets.{GrowsBy}
 use Rattle.describing_set.specs.declared.set.DescSet.{DescSet}

@@ -9,7 +9,8 @@ use Rattle.dim_hierarchy.specs.declared.row.Row.{Row}
 use Rattle.dim_hierarchy.specs.declared.row.Coord.{Coord}
 use Rattle.dim_hierarchy.specs.declared.filter.Pick.{Pick}
 use Rattle.dim_hierarchy.specs.declared.filter.Pick.TheVariants.{Ids}
-use Rattle.measure_agg.specs.Aggregate.{agg, join, one}
+use Rattle.measure_agg.specs.Aggregate.{agg}
+use Rattle.measure_agg.specs.Joining.{join, one}
 use Rattle.describing_set.specs.Part.{part}
 use Rattle.describing_set.specs.declared.set.DescSet.{DescSet}
 use Rattle.dc_node.specs.declared.block.Body.TheVariants.{Rows, Entries}

@@ -4,8 +4,9 @@
 use Rattle.std.specs.Prelude.{ℕ, zero, suc, ◌≡◌, ◌≢◌, ◌+◌, ◌<◌, ◌≤◌, Bool, true, false, cond, eqb, Some, None, List, [], ◌∷◌, ◌++◌, take, drop}
 use Rattle.dim_hierarchy.specs.declared.row.Row.{Row}
 use Rattle.dim_hierarchy.specs.declared.row.Coord.{Coord}
-use Rattle.dim_hierarchy.specs.Row.{IsRowOf}
-use Rattle.measure_agg.specs.Aggregate.{Aggregate, agg, join, one}
+use Rattle.dim_hierarchy.specs.Rows.{IsRowOf}
+use Rattle.measure_agg.specs.Aggregate.{Aggregate, agg}
+use Rattle.measure_agg.specs.Joining.{join, one}
 use Rattle.describing_set.specs.DescSet.{IsSetOf}
 use Rattle.describing_set.specs.Sets.{IsDescSetOf, GrowsBy}
 use Rattle.describing_set.specs.declared.set.DescSet.{DescSet}

@@ -1,10 +1,11 @@
 -- What the steps of inserts and queries find in the cells and leave there, in the words of the calls' contracts.
 use Rattle.std.specs.Prelude.{ℕ, ◌≡◌, ◌≢◌, ◌+◌, ◌<◌, ◌≤◌, ◌⊎◌, Bool, true, false, Some, List, [], ◌∷◌, ◌++◌, map, take, drop, length, slice_get}
 use Rattle.dim_hierarchy.specs.declared.filter.Pick.{Pick}
-use Rattle.dim_hierarchy.specs.Row.{IsRowOf}
+use Rattle.dim_hierarchy.specs.Rows.{IsRowOf}
 use Rattle.dim_hierarchy.specs.Filter.{IsFilterOf}
 use Rattle.describing_set.specs.DescSet.{IsSetOf}
-use Rattle.measure_agg.specs.Aggregate.{agg, join}
+use Rattle.measure_agg.specs.Aggregate.{agg}
+use Rattle.measure_agg.specs.Joining.{join}
 use Rattle.dc_node.specs.Block.{rows_in, entries_in, is_leaf, is_full}
 use Rattle.dc_node.specs.declared.block.Body.TheVariants.{Rows}
 use Rattle.dc_node.specs.declared.block.Block.{Block}

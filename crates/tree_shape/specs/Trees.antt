@@ -1,7 +1,7 @@
 -- What it means that cells hold a tree of blocks.
 use Rattle.std.specs.Prelude.{ℕ, zero, suc, ◌≡◌, ◌≢◌, ◌+◌, ◌≤◌, true, false, cond, eqb, None, List, [], ◌∷◌, map, take, drop, All}
 use Rattle.std.specs.Option.{option_map_or}
-use Rattle.dim_hierarchy.specs.Row.{IsRowOf}
+use Rattle.dim_hierarchy.specs.Rows.{IsRowOf}
 use Rattle.dc_node.specs.Limits.{most_of_leaf, most_of_directory}
 use Rattle.dc_node.specs.Block.{rows_in, entries_in, is_leaf, size, is_full, IsBodyOf}
 use Rattle.dc_node.specs.Summary.{IsSummaryOf, row_count}

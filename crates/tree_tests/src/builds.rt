@@ -1,6 +1,6 @@
 //! What is tested of `shard_build`.
 ghost use Rattle.std.specs.Prelude.{◌≡◌, ◌+◌, ◌++◌, ◌∷◌, [], length, IfOk, OnOk, All};
-ghost use Rattle.dim_hierarchy.specs.Row.{IsRowOf};
+ghost use Rattle.dim_hierarchy.specs.Rows.{IsRowOf};
 
 use crate::fixtures::{Dim, coord, hierarchy};
 use cell_stock::{Purse, Stock};

@@ -1,7 +1,9 @@
 //! Hierarchies made of tables, and names, coordinates and rows over them.
 ghost use Rattle.std.specs.Prelude.{◌≡◌, ◌+◌, length, All, IfOk, OnOk};
-ghost use Rattle.dim_hierarchy.specs.Filter.{IsFilterOf, IsNamePick};
-ghost use Rattle.dim_hierarchy.specs.Row.{IsCoordOf, IsRowOf};
+ghost use Rattle.dim_hierarchy.specs.Filter.{IsFilterOf};
+ghost use Rattle.dim_hierarchy.specs.Names.{IsNamePick};
+ghost use Rattle.dim_hierarchy.specs.Row.{IsCoordOf};
+ghost use Rattle.dim_hierarchy.specs.Rows.{IsRowOf};
 ghost use Rattle.describing_set.specs.Sets.{IsDescSetOf};
 
 use describing_set::DescSet;

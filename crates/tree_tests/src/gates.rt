@@ -1,6 +1,6 @@
 //! What is tested of `shard_store`.
 ghost use Rattle.std.specs.Prelude.{◌≡◌, ◌<◌, length, OnOk};
-ghost use Rattle.dim_hierarchy.specs.Row.{IsRowOf};
+ghost use Rattle.dim_hierarchy.specs.Rows.{IsRowOf};
 ghost use Rattle.shard_store.specs.Gate.{IsQueueOf};
 ghost use Rattle.shard_store.specs.declared.gate.Phase as Phase;
 

@@ -5,10 +5,11 @@ use Rattle.std.specs.List.{list_any}
 use Rattle.std.specs.Option.{option_map_or}
 use Rattle.std.proofs.lemmas.Bool.{or_left, or_right}
 use Rattle.dim_hierarchy.specs.Filter.{IsFilterOf}
-use Rattle.dim_hierarchy.specs.Row.{IsRowOf}
+use Rattle.dim_hierarchy.specs.Rows.{IsRowOf}
 use Rattle.row_ledger.specs.declared.event.Event.{Event}
 use Rattle.row_ledger.specs.declared.event.Event.TheVariants.{Acked, Answered, Failed, Split, Moved, Left, Shown, Ended}
-use Rattle.row_ledger.specs.Past.{Insert, Query, event_at, insert_in, query_in, session_in, number_in, ends_itself, is_end_of, has_ended, is_work_of, page_in, has_page, since, is_pull_of}
+use Rattle.row_ledger.specs.Past.{Insert, Query, event_at, insert_in, query_in, session_in, ends_itself, is_end_of, has_ended, is_work_of, page_in, has_page, since, is_pull_of}
+use Rattle.row_ledger.specs.Belonging.{number_in}
 use Rattle.row_ledger.specs.Kept.{KeepsRight}
 use Rattle.row_ledger.specs.Right.{has_pulled}
 use Rattle.row_ledger.specs.Shards.{is_live}

@@ -1,7 +1,7 @@
 -- What a step of a row onto a head asks for, and what it leaves in the cells that are held for new blocks.
 use Rattle.std.specs.Prelude.{ℕ, ◌≡◌, ◌+◌, ◌*◌, ◌^◌, ◌<◌, ◌≤◌, false, List, [], ◌∷◌, Option, Some, slice_get, length, map, All, IfSome}
 use Rattle.dim_hierarchy.specs.Dimension.{Dimension}
-use Rattle.dim_hierarchy.specs.Row.{IsRowOf}
+use Rattle.dim_hierarchy.specs.Rows.{IsRowOf}
 use Rattle.dim_hierarchy.specs.declared.row.Row.{Row}
 use Rattle.describing_set.specs.Sets.{IsDescSetOf}
 use Rattle.dc_node.specs.Block.{is_full, entries_in, IsBodyOf}

@@ -1,7 +1,7 @@
 -- The history: it is kept right, and each actor's command is in it, open, and as far as the actor says.
 use Rattle.std.specs.Prelude.{ℕ, ◌≡◌, ◌+◌, ◌<◌, ◌≤◌, ◌⊎◌, Bool, true, false, IsTrue, List, [], length, Option, Some, is_some, option_and_then}
 use Rattle.dim_hierarchy.specs.Filter.{IsFilterOf}
-use Rattle.dim_hierarchy.specs.Row.{IsRowOf}
+use Rattle.dim_hierarchy.specs.Rows.{IsRowOf}
 use Rattle.shard_plan.specs.declared.action.Action.TheVariants as action
 use Rattle.row_ledger.specs.Past.{Insert, Query, before, event_at, insert_at, query_at, call_at, has_ended, has_page, is_over, session_in, work}
 use Rattle.row_ledger.specs.Kept.{KeepsRight}

@@ -6,7 +6,7 @@ use Rattle.std.specs.Ordering.{nat_cmp}
 use Rattle.dim_hierarchy.specs.Dimension.{Dimension}
 use Rattle.dim_hierarchy.specs.Compiled.{compiled}
 use Rattle.dim_hierarchy.specs.declared.filter.Pick.{Pick}
-use Rattle.measure_agg.specs.Aggregate.{join}
+use Rattle.measure_agg.specs.Joining.{join}
 use Rattle.dc_node.specs.Block.{rows_in, entries_in, is_leaf, is_full, with_rows}
 use Rattle.dc_node.specs.declared.block.Block.{Block}
 use Rattle.dc_node.specs.declared.entry.Entry.{Entry}

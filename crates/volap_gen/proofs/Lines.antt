@@ -9,7 +9,8 @@ use Rattle.csv.specs.Reading.{default_config, records_from}
 use Rattle.csv.specs.Writing.{default_writer, field_text, fields_text, is_blank, needs_byte, row_text}
 use Rattle.csv.specs.declared.parser.State.TheVariants as st
 use Rattle.csv.proofs.RoundTrip.{read-write}
-use Rattle.volap_gen.specs.Generated.{Record, record_line, text_of}
+use Rattle.volap_gen.specs.Generated.{record_line, text_of}
+use Rattle.script_form.specs.Fields.{Record}
 
 -- no byte of a field calls for quotes
 abbrev pub is_unquoted : List ℕ → Bool

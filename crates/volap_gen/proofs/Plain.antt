@@ -8,7 +8,8 @@ use Rattle.csv.specs.Records.{field_at}
 use Rattle.script_form.specs.Fields.{is_below, is_name, measure_of}
 use Rattle.script_form.proofs.Standing.{is_command}
 use Rattle.volap_gen.proofs.Lines.{is_plain, is_unquoted}
-use Rattle.volap_gen.specs.Generated.{Record, closing, concept_records, day_at, insert_record, item_at, leaf_records, measure_at, middle_records, opening, pulls, row_records, rows_of}
+use Rattle.volap_gen.specs.Generated.{closing, concept_records, day_at, insert_record, item_at, leaf_records, measure_at, middle_records, opening, pulls, row_records, rows_of}
+use Rattle.script_form.specs.Fields.{Record}
 use Rattle.volap_gen.specs.Names.{leaf_at, leaf_name, middle_name, top_name}
 use Rattle.volap_gen.specs.declared.names.Dim.TheVariants.{Date, Store, Product}
 

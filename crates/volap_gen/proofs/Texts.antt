@@ -4,7 +4,8 @@ use Rattle.std.specs.List.{flat_map, range_with_len}
 use Rattle.std.proofs.lemmas.List.{flat_map_more}
 use Rattle.std.proofs.lemmas.List.Concat.{flat_map-append}
 use Rattle.std.proofs.lemmas.List.FromFn.{map-range_with_len_more}
-use Rattle.volap_gen.specs.Generated.{Record, record_line, text_of}
+use Rattle.volap_gen.specs.Generated.{record_line, text_of}
+use Rattle.script_form.specs.Fields.{Record}
 
 -- n numbers and one more
 range-push : (a n : ℕ) → range_with_len a (suc n) ≡ range_with_len a n ++ (a + n) ∷ []

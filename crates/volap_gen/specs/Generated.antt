@@ -2,13 +2,10 @@
 use Rattle.std.specs.Prelude.{ℕ, ◌+◌, ◌*◌, ◌/◌, ◌%◌, ℤ, pos, ◌-ℤ◌, List, [], ◌∷◌, ◌++◌, map, ◌==◌, ◌||◌, if◌then◌else◌, codes}
 use Rattle.std.specs.List.{flat_map, join_with_byte, range_with_len}
 use Rattle.std.specs.Fmt.{decimal, signed_decimal}
+use Rattle.script_form.specs.Fields.{Record}
 use Rattle.volap_gen.specs.Names.{dim_name, top_count, middle_count, leaf_count, top_name, middle_name, leaf_name, leaf_at}
 use Rattle.volap_gen.specs.declared.names.Dim.{Dim}
 use Rattle.volap_gen.specs.declared.names.Dim.TheVariants.{Date, Store, Product}
-
--- a record: its fields in order, each a list of bytes
-abbrev pub Record : Type 0
-Record = List (List ℕ)
 
 -- a record's line: its fields with commas between them
 abbrev pub record_line : Record → List ℕ

@@ -1,6 +1,5 @@
 -- The dimensions of the generated hierarchy, and the names of their concepts.
-use Rattle.std.specs.Prelude.{ℕ, ◌*◌, ◌/◌, ◌%◌, List, ◌++◌, codes}
-use Rattle.std.specs.Fmt.{decimal}
+use Rattle.std.specs.Prelude.{ℕ, ◌*◌, ◌/◌, ◌%◌, List, ◌++◌, codes, decimal}
 use Rattle.volap_gen.specs.declared.names.Dim.{Dim}
 use Rattle.volap_gen.specs.declared.names.Dim.TheVariants.{Date, Store, Product}
 

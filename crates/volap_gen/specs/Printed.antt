@@ -2,7 +2,7 @@
 use Rattle.std.specs.Prelude.{ℕ, List, [], ◌∷◌, codes}
 use Rattle.std.specs.Fmt.{decimal, signed_decimal}
 use Rattle.volap_gen.specs.Names.{leaf_name}
-use Rattle.volap_gen.specs.Generated.{Record}
+use Rattle.script_form.specs.Fields.{Record}
 use Rattle.volap_gen.specs.declared.names.Leaf.{Leaf}
 use Rattle.volap_gen.specs.declared.rows.NewRow.{NewRow}
 

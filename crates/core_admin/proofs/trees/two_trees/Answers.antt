@@ -2,7 +2,7 @@ use Rattle.std.proofs.Common.{List, Some, All, ◌≡◌, ◌∙◌, ◌++◌, l
 use Rattle.std.specs.Prelude.{reverse}
 use Rattle.std.proofs.lemmas.List.Elements.{All-filter}
 use Rattle.describing_set.specs.Plane.{goes_left}
-use Rattle.dim_hierarchy.specs.Row.{IsRowOf}
+use Rattle.dim_hierarchy.specs.Rows.{IsRowOf}
 use Rattle.dim_hierarchy.specs.declared.row.Row.{Row}
 use Rattle.link_descent.specs.declared.entered.Fresh.{Fresh}
 use Rattle.shard_plan.specs.Building.{cells_for}

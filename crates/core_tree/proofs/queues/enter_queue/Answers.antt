@@ -1,5 +1,5 @@
 use Rattle.std.proofs.Common.{◌≡◌, ◌+◌, ◌<◌, ◌^◌, ◌∙◌, ap, option_map, subst, sym, refl}
-use Rattle.dim_hierarchy.specs.Row.{IsRowOf}
+use Rattle.dim_hierarchy.specs.Rows.{IsRowOf}
 use Rattle.volap_cell.specs.Cells.{CellValue, GateCell, cell_of, queue_in}
 use Rattle.volap_cell.specs.Values.{actor_of, errand_of, task_of}
 use Rattle.volap_cell.specs.TreeKinds.{HasRow}

@@ -1,6 +1,6 @@
 use Rattle.std.proofs.Common.{ℕ, ◌≡◌, List, Bor, length, map, take}
 use Rattle.std.specs.Prelude.{All}
-use Rattle.dim_hierarchy.specs.Filter.{IsNamePick}
+use Rattle.dim_hierarchy.specs.Names.{IsNamePick}
 use Rattle.library_runs.specs.Names.{pick_under}
 use Rattle.library_runs.proofs.names.under.Given as goal
 

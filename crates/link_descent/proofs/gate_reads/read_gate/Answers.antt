@@ -2,7 +2,8 @@ use Rattle.std.proofs.Common.{◌≡◌, ◌∙◌, List, [], ◌∷◌, true, f
 use Rattle.std.specs.Prelude.{if◌then◌else◌}
 use Rattle.dim_hierarchy.specs.Dimension.{Dimension}
 use Rattle.dim_hierarchy.specs.declared.filter.Pick.{Pick}
-use Rattle.measure_agg.specs.Aggregate.{Aggregate, agg, join}
+use Rattle.measure_agg.specs.Aggregate.{Aggregate, agg}
+use Rattle.measure_agg.specs.Joining.{join}
 use Rattle.describing_set.specs.Filter.{is_inside}
 use Rattle.dc_node.specs.Summary.{joined, aggs}
 use Rattle.dc_node.specs.declared.entry.Entry.{Entry}

@@ -1,5 +1,5 @@
 use Rattle.std.proofs.Common.{◌≡◌, ◌+◌, ◌≤◌, ◌++◌, take}
-use Rattle.measure_agg.specs.Aggregate.{join}
+use Rattle.measure_agg.specs.Joining.{join}
 use Rattle.dc_node.specs.Summary.{joined, aggs}
 use Rattle.link_descent.specs.Visit.{taken, noted}
 use Rattle.link_descent.proofs.visits.visit_entries.Given as goal

@@ -1,5 +1,5 @@
 use Rattle.std.proofs.Common.{◌≡◌, drop}
-use Rattle.measure_agg.specs.Aggregate.{join}
+use Rattle.measure_agg.specs.Joining.{join}
 use Rattle.query_router.specs.Desk.{sum_of}
 use Rattle.query_router.proofs.desk.sum.Given as goal
 

@@ -2,7 +2,7 @@ use Rattle.std.proofs.Common.{◌∙◌, ap}
 use Rattle.std.proofs.lemmas.List.Elements.{All-same}
 use Rattle.arrayvec.specs.ArrayVec.{ArrayVec as Items}
 use Rattle.dim_hierarchy.specs.declared.row.Row.{Row}
-use Rattle.dim_hierarchy.specs.Row.{IsRowOf}
+use Rattle.dim_hierarchy.specs.Rows.{IsRowOf}
 use Rattle.dc_node.specs.declared.columns.Columns.{Columns}
 use Rattle.dc_node.specs.Columns.{rows_of}
 use Rattle.dc_node.proofs.boxed.RowBox.set.Goals as goal

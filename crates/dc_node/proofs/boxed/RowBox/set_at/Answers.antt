@@ -3,7 +3,7 @@ use Rattle.std.specs.Prelude.{IfSome, slice_get}
 use Rattle.std.proofs.lemmas.List.Elements.{All-same}
 use Rattle.arrayvec.specs.ArrayVec.{ArrayVec as Items}
 use Rattle.dim_hierarchy.specs.declared.row.Row.{Row}
-use Rattle.dim_hierarchy.specs.Row.{IsRowOf}
+use Rattle.dim_hierarchy.specs.Rows.{IsRowOf}
 use Rattle.dc_node.specs.declared.columns.Columns.{Columns}
 use Rattle.dc_node.specs.Columns.{rows_of}
 use Rattle.describing_set.specs.DescSet.{IsSetOf}

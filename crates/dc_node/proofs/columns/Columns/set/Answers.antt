@@ -1,6 +1,7 @@
 use Rattle.std.proofs.Common.{List, ◌≤◌, length, subst, sym, arith}
 use Rattle.std.proofs.lemmas.List.{take_all}
-use Rattle.dim_hierarchy.specs.Row.{IsCoordOf, IsRowOf}
+use Rattle.dim_hierarchy.specs.Row.{IsCoordOf}
+use Rattle.dim_hierarchy.specs.Rows.{IsRowOf}
 use Rattle.dim_hierarchy.specs.declared.row.Coord.{Coord}
 use Rattle.dim_hierarchy.specs.declared.row.Row.{Row}
 use Rattle.describing_set.specs.DescSet.{IsSetOf}

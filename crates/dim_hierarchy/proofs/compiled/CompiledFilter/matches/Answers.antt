@@ -2,7 +2,8 @@ use Rattle.std.proofs.Common.{arith, ◌≡◌, ◌∙◌, ap, sym, subst, true,
 use Rattle.std.specs.Prelude.{◌↔◌, IsTrue}
 use Rattle.dim_hierarchy.specs.Dimension.{tree}
 use Rattle.dim_hierarchy.specs.Row.{concept_at}
-use Rattle.dim_hierarchy.specs.Filter.{Matches, is_picked, pick_at}
+use Rattle.dim_hierarchy.specs.Filter.{is_picked, pick_at}
+use Rattle.dim_hierarchy.specs.Meaning.{Matches}
 use Rattle.dim_hierarchy.proofs.Matching.{IsCoordOf-length, all_picked-end, all_picked-step, matches-Matches}
 use Rattle.dim_hierarchy.proofs.compiled.CompiledFilter.matches.Goals as goal
 

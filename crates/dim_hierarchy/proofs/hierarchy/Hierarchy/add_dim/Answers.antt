@@ -1,5 +1,6 @@
 use Rattle.std.proofs.Common.{◌≡◌, ◌∙◌, ◌++◌, ◌∷◌, [], List, ap, subst, sym}
-use Rattle.dim_hierarchy.specs.Dimension.{Dimension, IsCounted, new_dimension}
+use Rattle.dim_hierarchy.specs.Dimension.{Dimension, new_dimension}
+use Rattle.dim_hierarchy.specs.Counted.{IsCounted}
 use Rattle.dim_hierarchy.proofs.Faults.{dim_fault-None}
 use Rattle.dim_hierarchy.proofs.Growth.{IsCounted-new_dimension}
 use Rattle.dim_hierarchy.proofs.hierarchy.Hierarchy.add_dim.Goals as goal

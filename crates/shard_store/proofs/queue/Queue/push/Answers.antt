@@ -1,6 +1,6 @@
 use Rattle.std.proofs.Common.{◌≡◌, arith}
 use Rattle.std.proofs.lemmas.Int.{to_z-of_z}
-use Rattle.measure_agg.specs.Aggregate.{join, one}
+use Rattle.measure_agg.specs.Joining.{join, one}
 use Rattle.shard_store.proofs.queue.Queue.push.Goals as goal
 
 pub returns-clause-ok : goal.returns-clause-ok
