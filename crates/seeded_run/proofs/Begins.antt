@@ -13,13 +13,15 @@ use Rattle.row_ledger.specs.declared.event.Event.TheVariants as event
 use Rattle.row_ledger.specs.declared.settings.Use.{Use}
 use Rattle.script_form.specs.declared.script.Command.{Command}
 use Rattle.script_form.specs.declared.script.Command.TheVariants as script
+use Rattle.script_run.proofs.Begin.{begins-own}
 use Rattle.script_run.proofs.Between.{get-behind, none-count, order-begin-law}
 use Rattle.script_run.proofs.InPhase.{phase_begin_law, rank_law}
-use Rattle.script_run.proofs.NextCommand.{has-place, take-front}
-use Rattle.script_run.proofs.PlaceFacts.{begins_of-other, count_of-append}
-use Rattle.script_run.proofs.StreamSteps.{over-older}
+use Rattle.script_run.proofs.NextCommand.{take-front}
+use Rattle.script_run.proofs.PhaseEnds.{get-first}
+use Rattle.script_run.proofs.PlaceFacts.{begins_of-here, begins_of-other, count_of-append}
+use Rattle.script_run.proofs.Whole.{get-some}
 use Rattle.script_run.specs.Between.{IsInOrder}
-use Rattle.script_run.specs.Parts.{HasPlace, place_in}
+use Rattle.script_run.specs.Parts.{place_in}
 use Rattle.script_run.specs.Phases.{closes, is_closing, ranks}
 use Rattle.script_run.specs.Streams.{NoneCloses, IsInPhase, IsReady, StepsOn}
 use Rattle.script_run.specs.Places.{begins_of, count_of, is_over_at, session_of}
@@ -37,16 +39,17 @@ use Rattle.volap_cell.specs.declared.role.Role.TheVariants.{Hand}
 use Rattle.seeded_run.proofs.LeftAlone.{IsAtCommand, alone-parts, apart, closing-alone, does-nothing, next-due, same-or-not}
 use Rattle.seeded_run.proofs.Counted.{counted-law}
 use Rattle.seeded_run.proofs.Cursors.{first-law, is-one}
-use Rattle.seeded_run.proofs.Firsts.{IsFirst, first-at, first-fails, first-pass, first-some, over_in}
-use Rattle.seeded_run.proofs.Keeps.{Own, can-first, doing-is, idle-from, is-at-command, kept-by, none-some, one-more, opened-other}
-use Rattle.seeded_run.proofs.PhaseRuns.{at-all, is-actor, low-or-high, opened-none, past-over, rest-past}
+use Rattle.seeded_run.proofs.Firsts.{IsFirst, first-at, first-fails, first-pass, first-some, over-at, over-place, over-still, over_in, place-behind, place-now, place_since}
+use Rattle.seeded_run.proofs.Keeps.{Own, OwnPulls, behind-by, can-first, doing-is, idle-from, is-at-command, kept-by, none-some, one-more, opened-other}
+use Rattle.seeded_run.proofs.PhaseRuns.{is-actor, low-or-high, opened-none, past-over, rest-past}
 use Rattle.seeded_run.proofs.Pulled.{begin-pulls-none, deed-session, end-session, pulled-none}
 use Rattle.seeded_run.proofs.Scripts.{hand-behind}
 use Rattle.seeded_run.proofs.Told.{told-law}
+use Rattle.seeded_run.specs.Cursors.{HasCursors}
 use Rattle.seeded_run.specs.Due.{desk_of, does_nothing, is_alone}
 use Rattle.seeded_run.specs.Kept.{IsTurn, KeepsBeginningLaw, MovesOn, QuietLaw}
 use Rattle.seeded_run.specs.Rests.{PhaseRun, first_open, rest_of, stream_of}
-use Rattle.seeded_run.specs.Running.{HasPulled, IsOrderKept, IsRunning, is_closing_work, opened_in}
+use Rattle.seeded_run.specs.Running.{HasPulled, IsRunning, RunsBehind, behind, is_closing_work, opened_in}
 use Rattle.seeded_run.specs.Told.{OfBeginning, OfDeed, OfEnd, OfNothing, OfPage, OfPull, Opens, OpensNone, OpensOne, TellsBeginning, Told, begins_closing, is_of_part}
 
 -- Lists of commands.
@@ -105,9 +108,7 @@ begin-phase with h done cs k c e history next now_next opened now_opened at phas
 begin-order : (with : Use) (h : List Dimension) (done cs : List Command) (k : ℕ) (c : Command) (e : Event) (history : List Event)
     → slice_get cs k ≡ Some c → ((j : ℕ) → j < length done + k → (q : ℕ) × (place_in with (done ++ cs) history j ≡ Some q) × IsTrue (is_over history q))
     → count_of with (session_of with c) (take (length done + k) (done ++ cs)) ≡ length (begins_of history (session_of with c))
-    → session_in e ≡ Some (session_of with c) → Begins with h c e → IsInOrder with h (done ++ cs) history
-    → IsInOrder with h (done ++ cs) (e ∷ history)
-    × HasPlace (length done + k) (length history) (place_in with (done ++ cs) history) (place_in with (done ++ cs) (e ∷ history))
+    → session_in e ≡ Some (session_of with c) → Begins with h c e → IsInOrder with h (done ++ cs) history → IsInOrder with h (done ++ cs) (e ∷ history)
 begin-order with h done cs k c e history at before count session begins order =
     let front = done ++ take k cs in
     let back = drop (suc k) cs in
@@ -115,14 +116,11 @@ begin-order with h done cs k c e history at before count session begins order =
     let all : done ++ cs ≡ front ++ c ∷ back = ap (λ l. done ++ l) split.0 ∙ sym (append_assoc done (take k cs) (c ∷ back)) in
     let far : length done + k ≡ length front = omega (arith, split.1, length-append done (take k cs)) in
     let first : take (length done + k) (done ++ cs) ≡ front = ap (take (length done + k)) all ∙ ap (λ m. take m (front ++ c ∷ back)) far ∙ take-front front (c ∷ back) in
-    let count_front : count_of with (session_of with c) front ≡ length (begins_of history (session_of with c)) = ap (count_of with (session_of with c)) (sym first) ∙ count in (
-      subst (λ l. IsInOrder with h l (e ∷ history)) (sym all)
-          (order-begin-law with h front c back e history
-          (λ j low. let found = before j (omega (arith, low, far)) in (found.0, ap (λ l. place_in with l history j) (sym all) ∙ found.1, found.2))
-          count_front session begins (subst (λ l. IsInOrder with h l history) all order)),
-      subst (λ m. HasPlace m (length history) (place_in with (done ++ cs) history) (place_in with (done ++ cs) (e ∷ history))) (sym far)
-          (subst (λ l. HasPlace (length front) (length history) (place_in with l history) (place_in with l (e ∷ history))) (sym all) (has-place with front c back e history session count_front)),
-    )
+    let count_front : count_of with (session_of with c) front ≡ length (begins_of history (session_of with c)) = ap (count_of with (session_of with c)) (sym first) ∙ count in
+    subst (λ l. IsInOrder with h l (e ∷ history)) (sym all)
+    (order-begin-law with h front c back e history
+    (λ j low. let found = before j (omega (arith, low, far)) in (found.0, ap (λ l. place_in with l history j) (sym all) ∙ found.1, found.2))
+    count_front session begins (subst (λ l. IsInOrder with h l history) all order))
 
 -- Events that begin commands.
 
@@ -147,140 +145,68 @@ begins-closes with h c (event.Shown of page) b closing = cc
 longer : (e : Event) (h : List Event) → h ≡ e ∷ h → ⊥
 longer e h is = let len : length h ≡ suc (length h) = ap length is in omega arith
 
-over-place : (history : List Event) (o : Option ℕ) → is_over_at history o ≡ true → (q : ℕ) × (o ≡ Some q) × IsTrue (is_over history q)
-over-place history None over = cc
-over-place history (Some q) over = (q, refl, over)
-
-module _ (in_order : Bool) (s : Setting) (p : PhaseRun) (done : List Command) (w now : World) (g g_now : Ghost) (next : ℕ → ℕ) (n : ℕ)
-    (i : InvWith s (view s w) g) (i_now : InvWith s (view s now) g_now) (turn : IsTurn in_order s p w n now) (r : IsRunning in_order s p done w next)
-    (t : TellsBeginning s turn.made n w now) (next_now : ℕ → ℕ) (k : ℕ) (c : Command) (at : slice_get p.commands k ≡ Some c) (is : next n ≡ length done + k)
-    (begins : Begins p.with s.hierarchy c t.begins) (moves : MovesOn p done n k next next_now) where
+module _ (in_order : Bool) (s : Setting) (p : PhaseRun) (w now : World) (g g_now : Ghost) (next : ℕ → ℕ) (n : ℕ)
+    (i : InvWith s (view s w) g) (i_now : InvWith s (view s now) g_now) (turn : IsTurn in_order s p w n now) (r : IsRunning in_order s p w next)
+    (t : TellsBeginning s turn.made n w now) (next_now : ℕ → ℕ) (c : Command) (at : slice_get p.commands (next n) ≡ Some c)
+    (begins : Begins p.with s.hierarchy c t.begins) (moves : MovesOn p n next next_now) where
   own-session : session_of p.with c ≡ n
-  own-session = let here : next n - length done ≡ k = omega (arith, is) in r.own n c (ap (slice_get p.commands) here ∙ at)
+  own-session = r.own n c at
 
   at-command-now : IsAtCommand s w (rest_of p (history_in w)) n turn.due_kind
-  at-command-now = is-at-command in_order s p done w now g g_now next n i i_now turn r t.of_command
+  at-command-now = is-at-command in_order s p w now g g_now next n i i_now turn r t.of_command
 
-  rest-first : rest_of p (history_in w) n ≡ c ∷ stream_of p.with (drop (next n - length done + 1) p.commands) n
-  rest-first = let here : next n - length done ≡ k = omega (arith, is) in first-law p done (history_in w) next (opened_in w) r.cursors n c (ap (slice_get p.commands) here ∙ at) own-session
+  rest-first : rest_of p (history_in w) n ≡ c ∷ stream_of p.with (drop (next n + 1) p.commands) n
+  rest-first = first-law p (history_in w) next r.cursors n c at own-session
 
   no-hand : (worker : ℕ) → (w.actors n).role ≢ Hand worker
-  no-hand worker role = hand-behind s w g i r.roles n worker role (subst (λ x. x < s.servers + 2) own-session (r.phase.sessions k c at))
+  no-hand worker role = hand-behind s w g i r.roles n worker role (subst (λ x. x < s.servers + 2) own-session (r.phase.sessions (next n) c at))
 
   -- a command that closes the phase begins alone
   alone : closes c ≡ true → is_alone s w (rest_of p (history_in w)) n ≡ true
-  alone closing = closing-alone s.hierarchy (is_alone s w (rest_of p (history_in w)) n) (desk_of s w (w.actors n).role) c (stream_of p.with (drop (next n - length done + 1) p.commands) n) (rest_of p (history_in w) n) turn.due_kind
+  alone closing = closing-alone s.hierarchy (is_alone s w (rest_of p (history_in w)) n) (desk_of s w (w.actors n).role) c (stream_of p.with (drop (next n + 1) p.commands) n) (rest_of p (history_in w) n) turn.due_kind
       (next-due s w (rest_of p (history_in w)) n turn.due_kind at-command-now t.free.command no-hand) rest-first closing
 
   counted : (now.actors n).counted ≡ (w.actors n).counted
   counted = counted-law s turn.made n w now turn.step (inr (inl (λ same. longer t.begins (history_in w) (sym same ∙ t.history))))
 
-  nothing-open : opened_in w n ≡ None
-  nothing-open = opened-none in_order s p done w g next i r n t.free.command
-
-  -- The part.
-
-  ready : IsReady p.with (done ++ p.commands) (length done) next (opened_in w) (length done + k)
-  ready j d there lower = by (closes c) refl
-    where
-      far : length done ≤ j → length done + (j - length done) ≡ j
-      far high = omega (arith, high)
-
-      by : (b : Bool) → closes c ≡ b → (j < length done) ⊎ ((j < next (session_of p.with d)) × (opened_in w (session_of p.with d) ≡ None))
-      by false open_ =
-          let split = split-at p.commands k c at in
-          let all = ap (λ l. done ++ l) split.0 in
-          inl (rank_law done (take k p.commands) c (drop (suc k) p.commands) j
-          (none-closes (take k p.commands) (λ m x found. not-closing m x (take-get p.commands k m x found) (closes x) refl)) open_
-          (subst (λ l. j < length l) all (slice_get_within (done ++ p.commands) j d there))
-          (subst (λ m. slice_index_or (ranks (done ++ (take k p.commands ++ c ∷ drop (suc k) p.commands))) j 0 < slice_index_or (ranks (done ++ (take k p.commands ++ c ∷ drop (suc k) p.commands))) (length done + m) 0) (sym split.1)
-          (subst (λ l. slice_index_or (ranks l) j 0 < slice_index_or (ranks l) (length done + k) 0) all lower)))
-        where
-          not-closing : (m : ℕ) (x : Command) → (slice_get p.commands m ≡ Some x) × (m < k) → (b : Bool) → closes x ≡ b → closes x ≡ false
-          not-closing m x found false at_x = at_x
-          not-closing m x found true at_x = absurd (omega (arith, r.phase.last m x found.0 at_x, found.1, slice_get_within p.commands k c at))
-      by true closing = elim (low-or-high j (length done)) [
-        | inl low ↦ inl low
-        | inr high ↦
-            let here : slice_get p.commands (j - length done) ≡ Some d = sym (get-behind done p.commands (j - length done)) ∙ ap (slice_get (done ++ p.commands)) (far high) ∙ there in
-            let within = slice_get_within p.commands (j - length done) d here in
-            let last = r.phase.last k c at closing in
-            inr (elim (same-or-not (session_of p.with d) n) [
-              | inl same ↦ (
-                subst (λ x. j < next x) (sym same) (elim (same-or-not j (length done + k)) [
-                  | inl is_it ↦ absurd (omega (arith, lower, ap (λ m. slice_index_or (ranks (done ++ p.commands)) m 0) is_it))
-                  | inr other ↦ omega (arith, is, within, last, far high, other)
-                ]),
-                ap (opened_in w) same ∙ nothing-open,
-              )
-              | inr other ↦
-                  let idle = alone-parts s w (rest_of p (history_in w)) n (session_of p.with d) (alone closing) (is-actor in_order s p done w g next i r (j - length done) d here) other in
-                  let past = rest-past in_order s p done w g next i r (j - length done) d here idle.1 in
-                  (subst (λ x. x < next (session_of p.with d)) (far high) past, opened-none in_order s p done w g next i r (session_of p.with d) idle.0.command)
-            ])
-      ]
-
-  opens-now : IsTrue (is_over (t.begins ∷ history_in w) (length (history_in w))) ⊎ (opened_in now n ≡ Some (length (history_in w)))
-  opens-now = by t.opens
-    where
-      by : Opens s t.begins n w now → IsTrue (is_over (t.begins ∷ history_in w) (length (history_in w))) ⊎ (opened_in now n ≡ Some (length (history_in w)))
-      by (OpensNone itself none) = inl (or-last (has_ended (t.begins ∷ history_in w) (length (history_in w))) (option_map_or ends_itself (event_at (t.begins ∷ history_in w) (length (history_in w))) false)
-          (ap (λ o. option_map_or ends_itself o false) (event_at-here t.begins (history_in w)) ∙ itself))
-        where
-          or-last : (a b : Bool) → b ≡ true → (a || b) ≡ true
-          or-last true b x = refl
-          or-last false b x = x
-      by (OpensOne work itself command pulled closing) = inr (rw command refl)
-
-  on : StepsOn p.with (done ++ p.commands) t.begins (history_in w) (session_of p.with c) (length done + k) next next_now (opened_in w) (opened_in now)
-  on = record {
-    further = subst (λ x. length done + k < next_now x) (sym own-session) moves.further;
-    one = count-gap p.with (session_of p.with c) (done ++ p.commands) (length done + k) (next_now (session_of p.with c)) c (at-all in_order s p done w g next i r k c at) refl
-        (subst (λ x. length done + k < next_now x) (sym own-session) moves.further) none-between;
-    no_other = none-between;
-    others = λ x differs. let apart_n : x ≢ n = λ e. differs (e ∙ sym own-session) in (moves.others x apart_n, opened-other in_order s p done w now g g_now next n i i_now turn r x apart_n);
-    opens = elim opens-now [ inl over ↦ inl over | inr opened ↦ inr (ap (opened_in now) own-session ∙ opened) ];
-  }
-    where
-      none-between : (j : ℕ) (d : Command) → slice_get (done ++ p.commands) j ≡ Some d → length done + k < j → j < next_now (session_of p.with c) → session_of p.with d ≢ session_of p.with c
-      none-between j d there far below same =
-          let high : length done + (j - length done) ≡ j = omega (arith, far) in
-          let here : slice_get p.commands (j - length done) ≡ Some d = sym (get-behind done p.commands (j - length done)) ∙ ap (slice_get (done ++ p.commands)) high ∙ there in
-          let below_n = subst (λ x. j < next_now x) own-session below in
-          moves.none (j - length done) d here (omega (arith, far, high)) (omega (arith, below_n, high)) (same ∙ own-session)
-
   session-is : session_in t.begins ≡ Some (session_of p.with c)
   session-is = t.session ∙ ap Some (sym own-session)
 
-  phase-now : IsInPhase p.with s.hierarchy (done ++ p.commands) (length done) (history_in now) next_now (opened_in now)
-  phase-now = subst (λ x. IsInPhase p.with s.hierarchy (done ++ p.commands) (length done) x next_now (opened_in now)) (sym t.history)
-      (begin-phase p.with s.hierarchy done p.commands k c t.begins (history_in w) next next_now (opened_in w) (opened_in now) at r.in_phase (ap next own-session ∙ is) (ap (opened_in w) own-session ∙ nothing-open)
-      ready session-is begins on)
+  -- The others begin nothing, and the session one command.
+
+  begins-others : (x : ℕ) → x ≢ n → begins_of (history_in now) x ≡ begins_of (history_in w) x
+  begins-others x differs =
+      ap (λ h. begins_of h x) t.history
+      ∙ begins_of-other t.begins (history_in w) x (ap (λ o. option_map_or (λ y. y == x) o false) t.session ∙ ne_eqb n x (λ e. differs (sym e)))
 
   rest-others : (x : ℕ) → x ≢ n → rest_of p (history_in now) x ≡ rest_of p (history_in w) x
-  rest-others x differs =
-      let other = ap (λ o. option_map_or (λ y. y == x) o false) t.session ∙ ne_eqb n x (λ e. differs (sym e)) in
-      ap (λ y. rest_of p y x) t.history
-      ∙ ap (λ m. drop (m - length (begins_of p.before x)) (stream_of p.with p.commands x)) (ap length (begins_of-other t.begins (history_in w) x other))
+  rest-others x differs = ap (λ l. drop (length l - length (begins_of p.before x)) (stream_of p.with p.commands x)) (begins-others x differs)
 
-  past-now : (x : ℕ) → length done ≤ next_now x
-  past-now x = elim (same-or-not x n) [
-    | inl same ↦ subst (λ y. length done ≤ next_now y) (sym same) (omega (arith, moves.further))
-    | inr differs ↦ omega (arith, moves.others x differs, r.cursors.past x)
-  ]
+  one-more-begun : length (begins_of (history_in now) n) ≡ length (begins_of (history_in w) n) + 1
+  one-more-begun =
+      ap (λ h. length (begins_of h n)) t.history
+      ∙ ap length (begins_of-here t.begins (history_in w) n (begins-own n t.begins t.session))
+      ∙ length-append (begins_of (history_in w) n) (length (history_in w) ∷ [])
 
-  own-beginning : Own in_order s p done w now g g_now next n i i_now turn r
+  one-more-past : count_of p.with n (take (next_now n) p.commands) ≡ count_of p.with n (take (next n) p.commands) + 1
+  one-more-past = count-gap p.with n p.commands (next n) (next_now n) c at own-session moves.further (λ j d there far below. moves.none j d there far below)
+
+  cursors-now : HasCursors p (history_in now) next_now
+  cursors-now = record {
+    counts = λ x. elim (same-or-not x n) [
+      | inl same ↦ subst (λ y. length (begins_of (history_in now) y) ≡ length (begins_of p.before y) + count_of p.with y (take (next_now y) p.commands)) (sym same)
+          (omega (arith, one-more-begun, one-more-past, r.cursors.counts n))
+      | inr differs ↦ ap length (begins-others x differs) ∙ r.cursors.counts x ∙ ap (λ m. length (begins_of p.before x) + count_of p.with x (take m p.commands)) (sym (moves.others x differs))
+    ];
+  }
+
+  own-beginning : Own in_order s p w now g g_now next n i i_now turn r
   own-beginning = by t.opens
     where
-      pulls : (a : ℕ) (x : OpenCommand) → a ≢ n → (w.actors a).command ≡ Some x → HasPulled s.servers x.work (pulled_since (history_in now) x.of)
-      pulls a x differs there = one-more in_order s p done w now g g_now next n i i_now turn r t.begins t.history (begin-pulls-none t.begins n t.session) a x there
-
-      by : Opens s t.begins n w now → Own in_order s p done w now g g_now next n i i_now turn r
+      by : Opens s t.begins n w now → Own in_order s p w now g g_now next n i i_now turn r
       by (OpensNone itself none) = record {
         closing = λ x there closing. none-some (now.actors n).command x none there;
         pages = λ x there page. none-some (now.actors n).command x none there;
-        pulled = λ x there. none-some (now.actors n).command x none there;
-        pulled_others = pulls;
       }
       by (OpensOne work itself command pulled closing_is) = record {
         closing = λ x there closing.
@@ -289,68 +215,38 @@ module _ (in_order : Bool) (s : Setting) (p : PhaseRun) (done : List Command) (w
         pages = λ x there page.
             let same = doing-is (now.actors n).command x (length (history_in w)) work there command in
             omega (arith, ap length t.history, same.0);
-        pulled = λ x there.
-            let same = doing-is (now.actors n).command x (length (history_in w)) work there command in
-            let none : pulled_since (history_in now) x.of ≡ [] = ap (λ y. pulled_since y x.of) t.history ∙ ap (pulled_since (t.begins ∷ history_in w)) same.0 ∙ pulled-none t.begins (history_in w) in
-            subst (HasPulled s.servers x.work) (sym none) (subst (λ y. HasPulled s.servers y []) (sym same.1) pulled);
-        pulled_others = pulls;
       }
 
   -- One after the other.
   module _ (order : in_order ≡ true) where
-    f : IsFirst (over_in p done (history_in w)) (session_of p.with) 0 p.commands n
-    f = first-some p done (history_in w) r.cursors.through n (can-first in_order s p done w now g g_now next n i i_now turn r in_order order turn.can)
+    f : IsFirst (over_in p (history_in w)) (session_of p.with) 0 p.commands n
+    f = first-some p (history_in w) n (can-first in_order s p w now g g_now next n i i_now turn r in_order order turn.can)
 
-    not-past : k ≤ f.at
-    not-past = elim (low-or-high f.at k) [
+    not-past : next n ≤ f.at
+    not-past = elim (low-or-high f.at (next n)) [
       | inr high ↦ high
-      | inl low ↦ apart (over_in p done (history_in w) f.at)
-          (past-over in_order s p done w g next i r f.at f.command f.here (subst (λ x. length done + f.at < next x) (sym f.is) (omega (arith, low, is))) (ap (opened_in w) f.is ∙ nothing-open))
-          (first-fails p done (history_in w) n f)
+      | inl low ↦ apart (over_in p (history_in w) f.at)
+          (past-over in_order s p w g next i r f.at f.command f.here (subst (λ x. f.at < next x) (sym f.is) low) (ap (λ x. (w.actors x).command) f.is ∙ t.free.command))
+          (first-fails p (history_in w) n f)
     ]
 
-    over-before : (j : ℕ) → j < k → over_in p done (history_in w) j ≡ true
-    over-before j low = first-pass p done (history_in w) n f j (omega (arith, low, not-past))
-
-    all-before : (j : ℕ) → j < length done + k → (q : ℕ) × (place_in p.with (done ++ p.commands) (history_in w) j ≡ Some q) × IsTrue (is_over (history_in w) q)
-    all-before j low = elim (low-or-high j (length done)) [
-      | inl old ↦ let d = some-at done j old in r.in_phase.past j d.0 (get-first done p.commands j d.0 d.1) old
-      | inr high ↦
-          let far : length done + (j - length done) ≡ j = omega (arith, high) in
-          subst (λ m. (q : ℕ) × (place_in p.with (done ++ p.commands) (history_in w) m ≡ Some q) × IsTrue (is_over (history_in w) q)) far
-          (over-place (history_in w) (place_in p.with (done ++ p.commands) (history_in w) (length done + (j - length done))) (over-before (j - length done) (omega (arith, low, far))))
-    ]
-      where
-        some-at : (cs : List Command) (m : ℕ) → m < length cs → (d : Command) × (slice_get cs m ≡ Some d)
-        some-at [] m low = absurd (omega arith)
-        some-at (d ∷ cs) zero low = (d, refl)
-        some-at (d ∷ cs) (suc m) low = some-at cs m (omega (arith, low))
-
-        get-first : (xs ys : List Command) (m : ℕ) (d : Command) → slice_get xs m ≡ Some d → slice_get (xs ++ ys) m ≡ Some d
-        get-first [] ys m d at = cc
-        get-first (x ∷ xs) ys zero d at = at
-        get-first (x ∷ xs) ys (suc m) d at = get-first xs ys m d at
-
-    begun-in-order : IsInOrder p.with s.hierarchy (done ++ p.commands) (t.begins ∷ history_in w)
-        × HasPlace (length done + k) (length (history_in w)) (place_in p.with (done ++ p.commands) (history_in w)) (place_in p.with (done ++ p.commands) (t.begins ∷ history_in w))
-    begun-in-order = begin-order p.with s.hierarchy done p.commands k c t.begins (history_in w) at all-before
-        (ap (λ m. count_of p.with (session_of p.with c) (take m (done ++ p.commands))) (sym is ∙ ap next (sym own-session)) ∙ r.in_phase.streams.counts (session_of p.with c))
-        session-is begins (r.ordered order).order
+    over-before : (j : ℕ) → j < next n → over_in p (history_in w) j ≡ true
+    over-before j low = first-pass p (history_in w) n f j (omega (arith, low, not-past))
 
     -- what has begun and doesn't end with that is the first one that isn't over
     still-first : (work : Work) → ends_itself t.begins ≡ false → (now.actors n).command ≡ doing (length (history_in w)) work → first_open p (history_in now) ≡ Some n
     still-first work itself command =
-        let places = begun-in-order.1 in
         let ended : has_ended (t.begins ∷ history_in w) (length (history_in w)) ≡ false =
         ap (λ x. has_ended x (length (history_in w))) (sym t.history) ∙ i_now.telling.is_open n (record { of = length (history_in w); work = work }) command in
-        let here : over_in p done (t.begins ∷ history_in w) k ≡ false =
-        ap (is_over_at (t.begins ∷ history_in w)) places.here
+        let here : over_in p (t.begins ∷ history_in w) (next n) ≡ false =
+        over-at p (t.begins ∷ history_in w) (next n) c at
+        ∙ ap (is_over_at (t.begins ∷ history_in w))
+        (place-now p t.begins (history_in w) (next n) c session-is
+        (subst (λ x. length (begins_of (history_in w) x) ≡ length (begins_of p.before x) + count_of p.with x (take (next n) p.commands)) (sym own-session) (r.cursors.counts n)))
         ∙ ap (λ b. b || option_map_or ends_itself (event_at (t.begins ∷ history_in w) (length (history_in w))) false) ended
         ∙ ap (λ o. option_map_or ends_itself o false) (event_at-here t.begins (history_in w)) ∙ itself in
         ap (first_open p) t.history
-        ∙ first-at p done (t.begins ∷ history_in w) r.cursors.through k c at here (λ j low.
-        let old = over-place (history_in w) (place_in p.with (done ++ p.commands) (history_in w) (length done + j)) (over-before j low) in
-        ap (is_over_at (t.begins ∷ history_in w)) (places.others (length done + j) (λ e. omega (arith, e, low)) ∙ old.1) ∙ over-older t.begins (history_in w) old.0 old.2)
+        ∙ first-at p (t.begins ∷ history_in w) (next n) c at here (λ j low. over-still p t.begins (history_in w) j (over-before j low))
         ∙ ap Some own-session
 
     own-idle : first_open p (history_in now) ≢ Some n → does_nothing (now.actors n) ≡ true
@@ -366,14 +262,143 @@ module _ (in_order : Bool) (s : Setting) (p : PhaseRun) (done : List Command) (w
         })
         by (OpensOne work itself command pulled closing) = absurd (differs (still-first work itself command))
 
-    order-now : IsOrderKept s p done now
-    order-now = record {
-      order = subst (λ x. IsInOrder p.with s.hierarchy (done ++ p.commands) x) (sym t.history) begun-in-order.0;
-      idle = idle-from in_order s p done w now g g_now next n i i_now turn r own-idle order;
-    }
+  pub keeps-beginning : IsRunning in_order s p now next_now
+  keeps-beginning = kept-by in_order s p w now g g_now next n i i_now turn r next_now rest-others counted own-beginning cursors-now moves.own
+      (λ order. idle-from in_order s p w now g g_now next n i i_now turn r (own-idle order) order)
 
-  pub keeps-beginning : IsRunning in_order s p done now next_now
-  keeps-beginning = kept-by in_order s p done w now g g_now next n i i_now turn r next_now rest-others counted own-beginning phase-now past-now moves.own order-now
+  -- Behind commands that are done.
+
+  module _ (done : List Command) (b : RunsBehind in_order s p done w next) where
+    -- the command's place among all
+    abbrev k : ℕ
+    k = behind done next n
+
+    next-is : behind done next (session_of p.with c) ≡ k
+    next-is = ap (behind done next) own-session
+
+    nothing-open : opened_in w (session_of p.with c) ≡ None
+    nothing-open = ap (opened_in w) own-session ∙ opened-none w n t.free.command
+
+    -- where a command of the phase stands among all
+    far : (j : ℕ) → length done ≤ j → length done + (j - length done) ≡ j
+    far j high = omega (arith, high)
+
+    in-phase : (j : ℕ) (d : Command) → length done ≤ j → slice_get (done ++ p.commands) j ≡ Some d → slice_get p.commands (j - length done) ≡ Some d
+    in-phase j d high there = sym (get-behind done p.commands (j - length done)) ∙ ap (slice_get (done ++ p.commands)) (far j high) ∙ there
+
+    ready : IsReady p.with (done ++ p.commands) (length done) (behind done next) (opened_in w) k
+    ready j d there lower = by (closes c) refl
+      where
+        by : (b : Bool) → closes c ≡ b → (j < length done) ⊎ ((j < behind done next (session_of p.with d)) × (opened_in w (session_of p.with d) ≡ None))
+        by false open_ =
+            let split = split-at p.commands (next n) c at in
+            let all = ap (λ l. done ++ l) split.0 in
+            inl (rank_law done (take (next n) p.commands) c (drop (suc (next n)) p.commands) j
+            (none-closes (take (next n) p.commands) (λ m x found. not-closing m x (take-get p.commands (next n) m x found) (closes x) refl)) open_
+            (subst (λ l. j < length l) all (slice_get_within (done ++ p.commands) j d there))
+            (subst (λ m. slice_index_or (ranks (done ++ (take (next n) p.commands ++ c ∷ drop (suc (next n)) p.commands))) j 0 < slice_index_or (ranks (done ++ (take (next n) p.commands ++ c ∷ drop (suc (next n)) p.commands))) (length done + m) 0) (sym split.1)
+            (subst (λ l. slice_index_or (ranks l) j 0 < slice_index_or (ranks l) k 0) all lower)))
+          where
+            not-closing : (m : ℕ) (x : Command) → (slice_get p.commands m ≡ Some x) × (m < next n) → (b : Bool) → closes x ≡ b → closes x ≡ false
+            not-closing m x found false at_x = at_x
+            not-closing m x found true at_x = absurd (omega (arith, r.phase.last m x found.0 at_x, found.1, slice_get_within p.commands (next n) c at))
+        by true closing = elim (low-or-high j (length done)) [
+          | inl low ↦ inl low
+          | inr high ↦
+              let here = in-phase j d high there in
+              let within = slice_get_within p.commands (j - length done) d here in
+              let last = r.phase.last (next n) c at closing in
+              inr (elim (same-or-not (session_of p.with d) n) [
+                | inl same ↦ (
+                  subst (λ x. j < behind done next x) (sym same) (elim (same-or-not j k) [
+                    | inl is_it ↦ absurd (omega (arith, lower, ap (λ m. slice_index_or (ranks (done ++ p.commands)) m 0) is_it))
+                    | inr other ↦ omega (arith, within, last, far j high, other)
+                  ]),
+                  ap (opened_in w) same ∙ opened-none w n t.free.command,
+                )
+                | inr other ↦
+                    let idle = alone-parts s w (rest_of p (history_in w)) n (session_of p.with d) (alone closing) (is-actor in_order s p w g next i r (j - length done) d here) other in
+                    let past = rest-past in_order s p w g next i r (j - length done) d here idle.1 in
+                    (omega (arith, past, far j high), opened-none w (session_of p.with d) idle.0.command)
+              ])
+        ]
+
+    opens-now : IsTrue (is_over (t.begins ∷ history_in w) (length (history_in w))) ⊎ (opened_in now n ≡ Some (length (history_in w)))
+    opens-now = by t.opens
+      where
+        by : Opens s t.begins n w now → IsTrue (is_over (t.begins ∷ history_in w) (length (history_in w))) ⊎ (opened_in now n ≡ Some (length (history_in w)))
+        by (OpensNone itself none) = inl (or-last (has_ended (t.begins ∷ history_in w) (length (history_in w))) (option_map_or ends_itself (event_at (t.begins ∷ history_in w) (length (history_in w))) false)
+            (ap (λ o. option_map_or ends_itself o false) (event_at-here t.begins (history_in w)) ∙ itself))
+          where
+            or-last : (a b : Bool) → b ≡ true → (a || b) ≡ true
+            or-last true b x = refl
+            or-last false b x = x
+        by (OpensOne work itself command pulled closing) = inr (rw command refl)
+
+    on : StepsOn p.with (done ++ p.commands) t.begins (history_in w) (session_of p.with c) k (behind done next) (behind done next_now) (opened_in w) (opened_in now)
+    on = record {
+      further = further;
+      one = count-gap p.with (session_of p.with c) (done ++ p.commands) k (behind done next_now (session_of p.with c)) c (get-behind done p.commands (next n) ∙ at) refl further none-between;
+      no_other = none-between;
+      others = λ x differs. let apart_n : x ≢ n = λ e. differs (e ∙ sym own-session) in (
+        ap (λ m. length done + m) (moves.others x apart_n),
+        opened-other in_order s p w now g g_now next n i i_now turn r x apart_n,
+      );
+      opens = elim opens-now [ inl over ↦ inl over | inr opened ↦ inr (ap (opened_in now) own-session ∙ opened) ];
+    }
+      where
+        further : k < behind done next_now (session_of p.with c)
+        further = subst (λ x. k < behind done next_now x) (sym own-session) (let low = moves.further in omega arith)
+
+        none-between : (j : ℕ) (d : Command) → slice_get (done ++ p.commands) j ≡ Some d → k < j → j < behind done next_now (session_of p.with c) → session_of p.with d ≢ session_of p.with c
+        none-between j d there low below same =
+            let high : length done ≤ j = omega (arith, low) in
+            let below_n : j < behind done next_now n = subst (λ x. j < behind done next_now x) own-session below in
+            moves.none (j - length done) d (in-phase j d high there) (omega (arith, low, far j high)) (omega (arith, below_n, far j high)) (same ∙ own-session)
+
+    phase-now : IsInPhase p.with s.hierarchy (done ++ p.commands) (length done) (history_in now) (behind done next_now) (opened_in now)
+    phase-now = subst (λ x. IsInPhase p.with s.hierarchy (done ++ p.commands) (length done) x (behind done next_now) (opened_in now)) (sym t.history)
+        (begin-phase p.with s.hierarchy done p.commands (next n) c t.begins (history_in w) (behind done next) (behind done next_now) (opened_in w) (opened_in now) at b.in_phase next-is nothing-open
+        ready session-is begins on)
+
+    pulls-beginning : OwnPulls in_order s p w now g g_now next n i i_now turn r done b
+    pulls-beginning = by t.opens
+      where
+        pulls : (a : ℕ) (x : OpenCommand) → a ≢ n → (w.actors a).command ≡ Some x → HasPulled s.servers x.work (pulled_since (history_in now) x.of)
+        pulls a x differs there = one-more in_order s p w now g g_now next n i i_now turn r done b t.begins t.history (begin-pulls-none t.begins n t.session) a x there
+
+        by : Opens s t.begins n w now → OwnPulls in_order s p w now g g_now next n i i_now turn r done b
+        by (OpensNone itself none) = record { pulled = λ x there. none-some (now.actors n).command x none there; pulled_others = pulls }
+        by (OpensOne work itself command pulled closing_is) = record {
+          pulled = λ x there.
+              let same = doing-is (now.actors n).command x (length (history_in w)) work there command in
+              let none : pulled_since (history_in now) x.of ≡ [] = ap (λ y. pulled_since y x.of) t.history ∙ ap (pulled_since (t.begins ∷ history_in w)) same.0 ∙ pulled-none t.begins (history_in w) in
+              subst (HasPulled s.servers x.work) (sym none) (subst (λ y. HasPulled s.servers y []) (sym same.1) pulled);
+          pulled_others = pulls;
+        }
+
+    -- in their order each one before is over
+    order-now : in_order ≡ true → IsInOrder p.with s.hierarchy (done ++ p.commands) (history_in now)
+    order-now order = subst (λ x. IsInOrder p.with s.hierarchy (done ++ p.commands) x) (sym t.history)
+        (begin-order p.with s.hierarchy done p.commands (next n) c t.begins (history_in w) at all-before
+        (ap (λ m. count_of p.with (session_of p.with c) (take m (done ++ p.commands))) (sym next-is) ∙ b.in_phase.streams.counts (session_of p.with c))
+        session-is begins (b.ordered order))
+      where
+        all-before : (j : ℕ) → j < k → (q : ℕ) × (place_in p.with (done ++ p.commands) (history_in w) j ≡ Some q) × IsTrue (is_over (history_in w) q)
+        all-before j low = elim (low-or-high j (length done)) [
+          | inl old ↦ let d = get-some done j old in b.in_phase.past j d.0 (get-first done p.commands j old ∙ d.1) old
+          | inr high ↦
+              let below : j - length done < next n = omega (arith, low, far j high) in
+              let d = get-some p.commands (j - length done) (omega (arith, below, slice_get_within p.commands (next n) c at)) in
+              let over = over-place (history_in w) (place_since p (history_in w) (j - length done) d.0) (sym (over-at p (history_in w) (j - length done) d.0 d.1) ∙ over-before order (j - length done) below) in (
+                over.0,
+                ap (place_in p.with (done ++ p.commands) (history_in w)) (sym (far j high)) ∙ sym (place-behind p done (history_in w) b.through (j - length done) d.0 d.1) ∙ over.1,
+                over.2,
+              )
+        ]
+
+    pub beginning-behind : RunsBehind in_order s p done now next_now
+    beginning-behind = behind-by in_order s p w now g g_now next n i i_now turn r done b next_now pulls-beginning phase-now order-now
 
 -- What is told with a beginning is one.
 
@@ -393,9 +418,12 @@ beginning-of s k n w now e is session (OfEnd t) = session-clash (session_in e) n
 beginning-of s k n w now e is session (OfBeginning t) = (t, heads e t.begins _ _ (sym is ∙ t.history))
 
 pub keeps-beginning-law : KeepsBeginningLaw
-keeps-beginning-law in_order s p done w now g g_now next next_now n k c e i i_now turn at is history session begins moves r =
+keeps-beginning-law in_order s p w now g g_now next next_now n c e i i_now turn at history session begins moves r =
     let found = beginning-of s turn.made n w now e history session (told-law s turn.made n w now g g_now i i_now turn.step) in
-    keeps-beginning in_order s p done w now g g_now next n i i_now turn r found.0 next_now k c at is (subst (Begins p.with s.hierarchy c) found.1 begins) moves
+    let told = subst (Begins p.with s.hierarchy c) found.1 begins in (
+      keeps-beginning in_order s p w now g g_now next n i i_now turn r found.0 next_now c at told moves,
+      λ done b. beginning-behind in_order s p w now g g_now next n i i_now turn r found.0 next_now c at told moves done b,
+    )
 
 -- Kinds that begin nothing.
 

@@ -1,5 +1,5 @@
 -- What is due for an actor whose command may begin, or that can step at all.
-use Rattle.std.proofs.Common.{◌≡◌, ◌≢◌, ◌∙◌, ◌<◌, ◌&&◌, inl, inr, ℕ, Bool, true, false, not, ◌+◌, ◌==◌, List, [], ◌∷◌, Option, Some, None, is_none, length, get_or, refl, sym, ap, subst}
+use Rattle.std.proofs.Common.{◌≡◌, ◌≢◌, ◌∙◌, ◌<◌, ◌&&◌, inl, inr, ℕ, Bool, true, false, not, ◌==◌, List, [], ◌∷◌, Option, Some, None, is_none, length, get_or, refl, sym, ap, subst}
 use Rattle.std.specs.Prelude.{if◌then◌else◌, slice_get}
 use Rattle.std.specs.Option.{option_map_or}
 use Rattle.dim_hierarchy.specs.Dimension.{Dimension}
@@ -17,7 +17,6 @@ use Rattle.volap_cell.specs.declared.kind.Kind.TheVariants as kind
 use Rattle.volap_cell.specs.declared.role.Role.{Role}
 use Rattle.volap_cell.specs.declared.role.Role.TheVariants as role
 use Rattle.volap_cell.proofs.States.{stands}
-use Rattle.script_run.proofs.Between.{get-behind}
 use Rattle.std.proofs.lemmas.Bool.{eq-eqb}
 use Rattle.volap_cell.specs.Errands.{way_of}
 use Rattle.seeded_run.specs.Can.{can, can_step, is_carried_at, meets}
@@ -101,7 +100,7 @@ module _ (m : Running) (kept : IsPhaseKept m) (n : ℕ) where
     where
       by : (o : Option Command) → slice_get m.phase.now (next_at m n) ≡ o → HasNextNames m.h.now o
       by None at = tt
-      by (Some c) at = (kept.may_run (length m.done.now + next_at m n) c (get-behind m.done.now m.phase.now (next_at m n) ∙ at)).names
+      by (Some c) at = (kept.may_run (next_at m n) c at).names
 
   -- and a query is next for a session
   pub asks-ahead : n < length m.state.actors.items → AsksHere (get_or m.state.actors.items n None) (slice_get m.phase.now (next_at m n))
@@ -109,7 +108,7 @@ module _ (m : Running) (kept : IsPhaseKept m) (n : ℕ) where
     where
       by : (o : Option Command) → slice_get m.phase.now (next_at m n) ≡ o → AsksHere (get_or m.state.actors.items n None) o
       by (Some (script.Query question)) at =
-          let run = script m.in_order (about_in m) (phase_of m) m.done.now (world_of m) kept.core.inv.ghost_of _ kept.core.inv.holds kept.is_running in
+          let run = script m.in_order (about_in m) (phase_of m) (world_of m) kept.core.inv.ghost_of _ kept.core.inv.holds kept.is_running in
           let rest = rest-some m kept n (script.Query question) at in
           let who = run.asks n question rest.0 rest.1 in
           let a = stands (get_or m.state.actors.items n None) (λ x. actor_of x ≡ (world_of m).actors n) (kept.core.is.actor n within) in
@@ -169,7 +168,7 @@ alone-carries m held n order first block = all-from (length m.state.actors.items
     rests : (a : ℕ) → a < length m.state.actors.items → a ≢ n → not (carries_at (get_or m.state.actors.items a None) block) ≡ true
     rests a low differs =
         let x = stands (get_or m.state.actors.items a None) (λ y. actor_of y ≡ (world_of m).actors a) (held.kept.core.is.actor a low) in
-        let idle = is-idle ((world_of m).actors a) ((held.kept.is_running.ordered order).idle a (other a differs)) in
+        let idle = is-idle ((world_of m).actors a) (held.kept.is_running.idle order a (other a differs)) in
         ap (λ o. not (carries_at o block)) x.1
         ∙ ap (λ (y : ActorValue). not (is_carried_at block (way_of y.errand))) x.2
         ∙ ap (λ e. not (is_carried_at block (way_of e))) idle.errand
@@ -180,7 +179,7 @@ turned-then m mid now n turned same =
     let t = turned.turn in
     subst (λ (x : Running). TakesTurn m n x) (sym same)
     (record {
-      same = record { h = t.same.h; with = t.same.with; done = t.same.done; phase = t.same.phase; in_order = t.same.in_order; before = t.same.before; count = t.same.count };
+      same = record { h = t.same.h; with = t.same.with; phase = t.same.phase; in_order = t.same.in_order; before = t.same.before; count = t.same.count };
       about = t.about;
       is = t.is;
       turn = t.turn;

@@ -12,14 +12,12 @@ use Rattle.volap_cell.specs.declared.kind.Kind.{Kind}
 use Rattle.seeded_run.specs.ByHand.{AreMoves, CannotMove, CannotMoveAt, HasMoved, HasMovedTo, IsLater, Moves, MovesTo, StopsAmong, StopsAmongAt}
 use Rattle.seeded_run.specs.Commands.{may_begin}
 use Rattle.seeded_run.specs.Due.{due}
-use Rattle.seeded_run.specs.Kept.{IsStopped}
-use Rattle.seeded_run.specs.Machine.{HasTurned, IsPhaseHeld, TakesTurn, about_in, can_in, cursor, phase_of, world_of}
+use Rattle.seeded_run.specs.Machine.{HasTurned, TakesTurn, about_in, can_in, phase_of, world_of}
 use Rattle.seeded_run.specs.Rests.{PhaseRun}
 use Rattle.seeded_run.specs.Steps.{begins_of_one}
 use Rattle.seeded_run.specs.declared.machine.Running.{Running}
 use Rattle.seeded_run.proofs.Begun.{turned-then}
 use Rattle.seeded_run.proofs.DueSteps.{no-both, none-due}
-use Rattle.seeded_run.proofs.PhaseRuns.{stops-law}
 use Rattle.seeded_run.proofs.WholePhases.{as-before}
 
 pub later-then : (m x now : Running) → IsLater m x → IsLater x now → IsLater m now
@@ -27,7 +25,6 @@ later-then m x now first then = record {
   same = record {
     h = then.same.h ∙ first.same.h;
     with = then.same.with ∙ first.same.with;
-    done = then.same.done ∙ first.same.done;
     phase = then.same.phase ∙ first.same.phase;
     in_order = then.same.in_order ∙ first.same.in_order;
     before = then.same.before ∙ first.same.before;
@@ -42,7 +39,6 @@ after-look m now is = record {
   same = record {
     h = ap (λ (x : Running). x.h) is;
     with = ap (λ (x : Running). x.with) is;
-    done = ap (λ (x : Running). x.done) is;
     phase = ap (λ (x : Running). x.phase) is;
     in_order = ap (λ (x : Running). x.in_order) is;
     before = ap (λ (x : Running). x.before) is;
@@ -50,11 +46,6 @@ after-look m now is = record {
   };
   about = ap about_in is;
 }
-
--- what is said of a phase that stops there
-pub stops-later : (m now : Running) → IsLater m now → IsPhaseHeld now → IsStopped m.in_order (about_in m) (phase_of m) m.done.now (world_of now)
-stops-later m now later held_now = as-before (λ b s p d. IsStopped b s p d (world_of now)) m now later.same later.about
-    (stops-law now.in_order (about_in now) (phase_of now) now.done.now (world_of now) (cursor now) held_now.kept.is_running)
 
 -- behind a turn, whatever is known then of the commands in order
 pub later-turned : (m mid now : Running) (n : ℕ) → HasTurned m n mid → now ≡ record mid { begun = now.begun; first = now.first } → IsLater m now
@@ -121,7 +112,7 @@ module _ (m x now : Running) (later : IsLater m x) (moves : List (ℕ × Option 
   -- the next one is made
   pub makes-one-more : (move : ℕ × Option Kind) → slice_get moves i ≡ Some move → AreMade i x → MovesTo x move.0 move.1 now → AreMade (i + 1) now
   makes-one-more move at made moved =
-      let as_first = as-before (λ b s p d. Moves b s p (world_of x) move.0 move.1 (world_of now)) m x later.same later.about moved in
+      let as_first = as-before (λ b s p. Moves b s p (world_of x) move.0 move.1 (world_of now)) m x later.same later.about moved in
       let on : suc i ≡ i + 1 = omega arith in
       subst (λ k. AreMade k now) on (subst (λ ms. AreMoves m.in_order (about_in m) (phase_of m) (world_of m) ms (world_of now)) (sym (take-more i moves move at))
       (one-more m.in_order (about_in m) (phase_of m) (world_of m) (world_of x) (world_of now) (take i moves) move made as_first))
@@ -129,7 +120,7 @@ module _ (m x now : Running) (later : IsLater m x) (moves : List (ℕ × Option 
   -- the next one can't be made, and nothing changed
   pub made-up-to : (move : ℕ × Option Kind) → slice_get moves i ≡ Some move → AreMade i x → IsLater m now → world_of now ≡ world_of x → CannotMoveAt now move.0 move.1 → HasMovedTo m moves i now
   made-up-to move at made later_now same cannot =
-      let cannot_here = as-before (λ b s p d. CannotMove b s p (world_of now) move.0 move.1) m now later_now.same later_now.about cannot in
+      let cannot_here = as-before (λ b s p. CannotMove b s p (world_of now) move.0 move.1) m now later_now.same later_now.about cannot in
       let low = inside i moves move at in
       record {
         within = omega (arith, low);
@@ -154,13 +145,13 @@ module _ (m x now : Running) (is : x ≡ record m { begun = x.begun; first = x.f
   moved-first count moved =
       let later = after-look m x is in
       subst (λ w. HasMoved m.in_order (about_in m) (phase_of m) w moves count (world_of now)) (ap world_of is)
-      (as-before (λ b s p d. HasMoved b s p (world_of x) moves count (world_of now)) m x later.same later.about moved)
+      (as-before (λ b s p. HasMoved b s p (world_of x) moves count (world_of now)) m x later.same later.about moved)
 
   stopped-first : StopsAmongAt x moves now → StopsAmongAt m moves now
   stopped-first stopped =
       let later = after-look m x is in
       subst (λ w. StopsAmong m.in_order (about_in m) (phase_of m) w moves (world_of now)) (ap world_of is)
-      (as-before (λ b s p d. StopsAmong b s p (world_of x) moves (world_of now)) m x later.same later.about stopped)
+      (as-before (λ b s p. StopsAmong b s p (world_of x) moves (world_of now)) m x later.same later.about stopped)
 
   pub moved-from-first : {E : Type 0} (r : Result ℕ E) → IfOk r (λ count. HasMovedTo x moves count now) → IfOk r (λ count. HasMovedTo m moves count now)
   moved-from-first (Ok count) moved = moved-first count moved

@@ -1,12 +1,11 @@
 -- What streams still have, by cursors.
-use Rattle.std.proofs.Common.{◌≡◌, ◌∙◌, ℕ, zero, suc, ◌+◌, ◌-◌, ◌≤◌, Bool, true, false, List, [], ◌∷◌, ◌++◌, length, take, drop, Some, refl, sym, ap, arith}
+use Rattle.std.proofs.Common.{◌≡◌, ◌∙◌, ℕ, zero, suc, ◌+◌, ◌≤◌, Bool, true, false, List, [], ◌∷◌, length, take, drop, Some, refl, ap, arith}
 use Rattle.std.specs.Prelude.{◌==◌, slice_get}
 use Rattle.std.proofs.lemmas.Bool.{eq-eqb}
 use Rattle.row_ledger.specs.declared.settings.Use.{Use}
 use Rattle.script_form.specs.declared.script.Command.{Command}
-use Rattle.script_run.proofs.Between.{take-behind}
 use Rattle.script_run.proofs.PlaceFacts.{count_of-append}
-use Rattle.script_run.specs.Places.{begins_of, count_of, session_of}
+use Rattle.script_run.specs.Places.{count_of, session_of}
 use Rattle.seeded_run.specs.Cursors.{CursorLaw, FirstLaw, LastLaw}
 use Rattle.seeded_run.specs.Rests.{begun_in, stream_of}
 
@@ -41,14 +40,9 @@ drop-stream with s (c ∷ cs) (suc m) = by (drop-stream with s cs m) (session_of
         ap (λ k. drop k (stream_of with (c ∷ cs) s)) same ∙ ap (drop (count_of with s (take m cs))) (other-first with s c cs is) ∙ more
 
 pub cursor-law : CursorLaw
-cursor-law p done history next opened has session =
-    let taken = take-behind done p.commands (next session) (has.past session) in
-    let m : next session - length done ≡ taken.0 = omega (arith, taken.1) in
-    let count : count_of p.with session (done ++ take taken.0 p.commands) ≡ length (begins_of history session) = ap (count_of p.with session) (sym taken.2) ∙ has.streams.counts session in
-    let begun : begun_in p history session ≡ count_of p.with session (take taken.0 p.commands) =
-    omega (arith, count, has.through session, count_of-append p.with session done (take taken.0 p.commands)) in
-    ap (λ k. drop k (stream_of p.with p.commands session)) begun ∙ drop-stream p.with session p.commands taken.0
-    ∙ ap (λ k. stream_of p.with (drop k p.commands) session) (sym m)
+cursor-law p history next has session =
+    let begun : begun_in p history session ≡ count_of p.with session (take (next session) p.commands) = omega (arith, has.counts session) in
+    ap (λ k. drop k (stream_of p.with p.commands session)) begun ∙ drop-stream p.with session p.commands (next session)
 
 drop-at : (cs : List Command) (k : ℕ) (c : Command) → slice_get cs k ≡ Some c → drop k cs ≡ c ∷ drop (suc k) cs
 drop-at [] k c at = cc
@@ -62,15 +56,15 @@ drop-past (c ∷ cs) zero past = absurd (omega arith)
 drop-past (c ∷ cs) (suc k) past = drop-past cs k (omega arith)
 
 pub first-law : FirstLaw
-first-law p done history next opened has session c at own =
-    let k = next session - length done in
+first-law p history next has session c at own =
+    let k = next session in
     let later : suc k ≡ k + 1 = omega arith in
-    cursor-law p done history next opened has session
+    cursor-law p history next has session
     ∙ ap (λ cs. stream_of p.with cs session) (drop-at p.commands k c at)
     ∙ own-first p.with session c (drop (suc k) p.commands) (eq-eqb (session_of p.with c) session own)
     ∙ ap (λ n. c ∷ stream_of p.with (drop n p.commands) session) later
 
 pub last-law : LastLaw
-last-law p done history next opened has session past =
-    cursor-law p done history next opened has session
-    ∙ ap (λ cs. stream_of p.with cs session) (drop-past p.commands (next session - length done) past)
+last-law p history next has session past =
+    cursor-law p history next has session
+    ∙ ap (λ cs. stream_of p.with cs session) (drop-past p.commands (next session) past)

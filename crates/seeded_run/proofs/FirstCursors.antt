@@ -5,19 +5,15 @@ use Rattle.std.proofs.lemmas.Bool.{eq-eqb, eqb-true}
 use Rattle.dim_hierarchy.specs.Dimension.{Dimension}
 use Rattle.row_ledger.specs.declared.settings.Use.{Use}
 use Rattle.script_form.specs.declared.script.Command.{Command}
-use Rattle.script_form.specs.declared.script.Command.TheVariants as script
 use Rattle.script_run.specs.Places.{session_of}
-use Rattle.script_run.proofs.Between.{get-behind}
 use Rattle.volap_cell.specs.declared.state.State.{State}
-use Rattle.seeded_run.specs.Kept.{IsBetween, IsStopped}
+use Rattle.seeded_run.specs.Kept.{AreIdle}
 use Rattle.seeded_run.specs.Core.{HasCore}
 use Rattle.seeded_run.specs.Machine.{AreFirstCursors, IsFirstAt, IsFirstMoment, streams_open}
-use Rattle.seeded_run.specs.Phase.{ClosesLast, IsCoreHeld, MayAllRun, MayRun, about, held, most_actors, phase_from}
-use Rattle.seeded_run.specs.Progress.{IsPhaseOf}
+use Rattle.seeded_run.specs.Phase.{ClosesLast, IsCoreHeld, MayAllRun, StopsBehindAny, about, held, most_actors, phase_from}
 use Rattle.seeded_run.specs.declared.machine.Running.{Running}
 use Rattle.seeded_run.proofs.LeftAlone.{apart}
-use Rattle.seeded_run.proofs.PhaseRuns.{phase-begins-law, stops-law}
-use Rattle.seeded_run.proofs.WholePhases.{here-core, session-low}
+use Rattle.seeded_run.proofs.PhaseRuns.{behind-begins-law, stops-law}
 
 -- where a session's first command stands, or how many there are
 first_in : Use → ℕ → List Command → ℕ
@@ -45,37 +41,14 @@ first-at with s (c ∷ cs) = by (first-at with s cs) (session_of with c == s) re
         none zero d at low = λ e. (let same : c ≡ d = cc in apart (session_of with c == s) (eq-eqb (session_of with c) s (ap (session_of with) same ∙ e)) is)
         none (suc i) d at low = f.none i d at (omega (arith, low))
 
-module _ (h : List Dimension) (with : Use) (done phase : List Command) (x : State) (core : IsCoreHeld h with x) (all : MayAllRun h with (done ++ phase)) (closes : ClosesLast phase)
-    (in_order : Bool) (between : IsBetween in_order (about h with x) with done (held h with x)) where
-  may : (k : ℕ) (c : Command) → slice_get phase k ≡ Some c → MayRun h with c
-  may k c at = all (length done + k) c (get-behind done phase k ∙ at)
-
-  phase-is : IsPhaseOf (about h with x) (phase_from h with phase x)
-  phase-is = record {
-    servers = refl;
-    sessions = λ i c at. session-low h with c (may i c at);
-    asked = λ i q at. (may i (script.Query q) at).allowed.0;
-    last = closes;
-  }
-
-  next : ℕ → ℕ
-  next s = length done + first_in with s phase
-
-  -- it is a part of a run as it was before
-  pub stopped-first : IsStopped in_order (about h with x) (phase_from h with phase x) done (held h with x)
-  unfolding next
-  stopped-first =
-      stops-law in_order (about h with x) (phase_from h with phase x) done (held h with x) next
-      (phase-begins-law in_order (about h with x) (phase_from h with phase x) done (held h with x) next (here-core h with x.cells.items x.actors.items core.0).roles phase-is between refl
-      (record {
-        first = λ s. (
-          omega arith,
-          λ i c at high low.
-              (let k : i ≡ length done + (i - length done) = omega arith in
-              (first-at with s phase).none (i - length done) c (sym (get-behind done phase (i - length done)) ∙ ap (slice_get (done ++ phase)) (sym k) ∙ at) (omega (arith, low, high))),
-        );
-        own = λ s c at. (let k : length done + first_in with s phase - length done ≡ first_in with s phase = omega arith in (first-at with s phase).own c (ap (slice_get phase) (sym k) ∙ at));
-      }))
+-- Where a phase stops as it begins, so far is a part of a run as it was before.
+pub stopped-first : (h : List Dimension) (with : Use) (phase : List Command) (x : State) (in_order : Bool) → StopsBehindAny in_order h with phase x x
+stopped-first h with phase x in_order done between =
+    let p = phase_from h with phase x in
+    let next = λ (s : ℕ). first_in with s phase in
+    stops-law in_order (about h with x) p done (held h with x) next
+    (behind-begins-law in_order (about h with x) p done (held h with x) next between refl
+    (record { first = λ s i c at low. (first-at with s phase).none i c at low; own = λ s c at. (first-at with s phase).own c at }))
 
 -- Cursors, one after the other.
 
@@ -111,15 +84,15 @@ pub none-yet : (with : Use) (phase : List Command) → AreFirstCursors with phas
 none-yet with phase = (refl, λ s low. absurd (omega arith))
 
 -- Where a phase begins so.
-pub first-moment : (m : Running) (x : State) → m.state ≡ x → IsCoreHeld m.h.now m.with x → MayAllRun m.h.now m.with (m.done.now ++ m.phase.now) → ClosesLast m.phase.now
-    → IsBetween m.in_order (about m.h.now m.with x) m.with m.done.now (held m.h.now m.with x) → m.before.value ≡ x → AreFirstCursors m.with m.phase.now (length x.actors.items) m.next.items
+pub first-moment : (m : Running) (x : State) → m.state ≡ x → IsCoreHeld m.h.now m.with x → MayAllRun m.h.now m.with m.phase.now → ClosesLast m.phase.now
+    → AreIdle (held m.h.now m.with x) → m.before.value ≡ x → AreFirstCursors m.with m.phase.now (length x.actors.items) m.next.items
     → m.left ≡ streams_open (length m.phase.now) m.next.items → m.begun ≡ 0 → IsFirstMoment m
-first-moment m x is core may closes between before next left begun = record {
+first-moment m x is core may closes idle before next left begun = record {
   core = subst (λ (y : State). HasCore m.h.now m.with y.cells.items y.actors.items) (sym is) core.0;
   few = subst (λ (y : State). length y.actors.items < most_actors) (sym is) core.1;
   may_run = may;
   closes = closes;
-  between = subst (λ (y : State). IsBetween m.in_order (about m.h.now m.with y) m.with m.done.now (held m.h.now m.with y)) (sym is) between;
+  idle = subst (λ (y : State). AreIdle (held m.h.now m.with y)) (sym is) idle;
   before = before ∙ sym is;
   next = subst (λ (y : State). AreFirstCursors m.with m.phase.now (length y.actors.items) m.next.items) (sym is) next;
   left = left;

@@ -1,34 +1,29 @@
 -- Whose the first command is that isn't over, where the commands go in order; and what moving a cursor on does.
-use Rattle.std.proofs.Common.{◌≡◌, ◌≢◌, ◌∙◌, ◌+◌, ◌<◌, ◌≤◌, ◌⊎◌, inl, inr, ℕ, zero, suc, Bool, true, false, cond, List, [], ◌∷◌, ◌++◌, length, get_or, set, Option, Some, None, refl, sym, ap, arith, nat_lt}
+use Rattle.std.proofs.Common.{◌≡◌, ◌≢◌, ◌∙◌, ◌+◌, ◌<◌, ◌≤◌, ◌⊎◌, inl, inr, ℕ, zero, suc, Bool, true, false, cond, List, [], ◌∷◌, length, get_or, set, Option, Some, None, refl, sym, ap, arith, nat_lt}
 use Rattle.std.specs.Prelude.{count_by, option_map, slice_get}
 use Rattle.std.proofs.lemmas.List.Recursion.{is_count_by}
 use Rattle.script_form.specs.declared.script.Command.{Command}
-use Rattle.script_run.specs.Places.{is_over_at, session_of}
+use Rattle.script_run.proofs.Whole.{get-some}
+use Rattle.script_run.specs.Places.{session_of}
 use Rattle.volap_cell.specs.Steps.{history_in}
 use Rattle.volap_cell.specs.Values.{actor_of}
 use Rattle.volap_cell.specs.World.{World}
 use Rattle.volap_cell.proofs.States.{stands}
 use Rattle.seeded_run.specs.Due.{does_nothing}
 use Rattle.seeded_run.specs.Look.{rests}
-use Rattle.seeded_run.specs.Machine.{AloneInOrder, HasBegunTo, IsPhaseKept, WaitsAt, about_in, cursor, next_at, phase_of, world_of}
+use Rattle.seeded_run.specs.Machine.{AloneInOrder, HasBegunTo, IsPhaseKept, WaitsAt, about_in, next_at, phase_of, world_of}
 use Rattle.seeded_run.specs.Rests.{PhaseRun, first_open}
 use Rattle.seeded_run.specs.declared.machine.Running.{Running}
-use Rattle.seeded_run.proofs.Firsts.{first-at, first-fails, first-some, late-none, over_in}
+use Rattle.seeded_run.proofs.Firsts.{first-at, first-fails, first-some, late-not, over_in}
 use Rattle.seeded_run.proofs.Held.{none-past, some-within}
 use Rattle.seeded_run.proofs.LeftAlone.{apart, is-idle, same-or-not}
-use Rattle.seeded_run.proofs.PhaseRuns.{at-all, is-actor, opened-none, past-over}
+use Rattle.seeded_run.proofs.PhaseRuns.{is-actor, past-over}
 
 some-apart : (o : Option ℕ) (a b : ℕ) → o ≡ Some a → a ≢ b → o ≢ Some b
 some-apart o a b x differs y = differs (let z : ◌≡◌ {A = Option ℕ} (Some a) (Some b) = sym x ∙ y in cc)
 
 pub below-or-at : (i n : ℕ) → i < n + 1 → (i < n) ⊎ (i ≡ n)
 below-or-at i n h = grind arith
-
--- a command stands at each place of a list
-some-at : (xs : List Command) (i : ℕ) → i < length xs → (c : Command) × (slice_get xs i ≡ Some c)
-some-at [] i low = absurd (omega arith)
-some-at (x ∷ xs) zero low = (x, refl)
-some-at (x ∷ xs) (suc i) low = some-at xs i (omega arith)
 
 module _ (m : Running) (kept : IsPhaseKept m) (order : m.in_order ≡ true) where
   abbrev p : PhaseRun
@@ -42,7 +37,7 @@ module _ (m : Running) (kept : IsPhaseKept m) (order : m.in_order ≡ true) wher
   first-busy n busy = by (first_open p (history_in w)) refl
     where
       idle : (a : ℕ) → first_open p (history_in w) ≢ Some a → does_nothing (w.actors a) ≡ true
-      idle = (kept.is_running.ordered order).idle
+      idle = kept.is_running.idle order
 
       by : (o : Option ℕ) → first_open p (history_in w) ≡ o → first_open p (history_in w) ≡ Some n
       by None is = apart (does_nothing (w.actors n)) (idle n (λ here. (let never : ◌≡◌ {A = Option ℕ} None (Some n) = sym is ∙ here in cc))) busy
@@ -53,15 +48,13 @@ module _ (m : Running) (kept : IsPhaseKept m) (order : m.in_order ≡ true) wher
 
   -- where everyone does nothing, a command is over that has begun, and no other one
   module _ (idle : (a : ℕ) → does_nothing (w.actors a) ≡ true) where
-    over-begun : (k : ℕ) (c : Command) → slice_get m.phase.now k ≡ Some c → k < next_at m (session_of m.with c) → over_in p m.done.now (history_in w) k ≡ true
+    over-begun : (k : ℕ) (c : Command) → slice_get m.phase.now k ≡ Some c → k < next_at m (session_of m.with c) → over_in p (history_in w) k ≡ true
     over-begun k c at low =
-        past-over m.in_order (about_in m) p m.done.now w kept.core.inv.ghost_of (cursor m) kept.core.inv.holds kept.is_running k c at (omega (arith, low))
-        (opened-none m.in_order (about_in m) p m.done.now w kept.core.inv.ghost_of (cursor m) kept.core.inv.holds kept.is_running (session_of m.with c) (is-idle (w.actors (session_of m.with c)) (idle (session_of m.with c))).command)
+        past-over m.in_order (about_in m) p w kept.core.inv.ghost_of (next_at m) kept.core.inv.holds kept.is_running k c at low
+        (is-idle (w.actors (session_of m.with c)) (idle (session_of m.with c))).command
 
-    not-over : (k : ℕ) (c : Command) → slice_get m.phase.now k ≡ Some c → next_at m (session_of m.with c) ≤ k → over_in p m.done.now (history_in w) k ≡ false
-    not-over k c at late =
-        ap (is_over_at (history_in w)) (late-none m.with (m.done.now ++ m.phase.now) (history_in w) (cursor m) _ kept.is_running.in_phase.streams (length m.done.now + k) c
-        (at-all m.in_order (about_in m) p m.done.now w kept.core.inv.ghost_of (cursor m) kept.core.inv.holds kept.is_running k c at) (omega (arith, late)))
+    not-over : (k : ℕ) (c : Command) → slice_get m.phase.now k ≡ Some c → next_at m (session_of m.with c) ≤ k → over_in p (history_in w) k ≡ false
+    not-over k c at late = late-not p (history_in w) (next_at m) kept.is_running.cursors k c at late
 
     -- the first one that hasn't begun is the first that isn't over
     pub first-idle : (place : ℕ) → HasBegunTo m place → WaitsAt m place → first_open p (history_in w) ≡ option_map (session_of m.with) (slice_get m.phase.now place)
@@ -70,17 +63,17 @@ module _ (m : Running) (kept : IsPhaseKept m) (order : m.in_order ≡ true) wher
         none : (o : Option ℕ) → first_open p (history_in w) ≡ o → slice_get m.phase.now place ≡ None → first_open p (history_in w) ≡ None
         none None is past = is
         none (Some a) is past =
-            let f = first-some p m.done.now (history_in w) kept.is_running.cursors.through a is in
+            let f = first-some p (history_in w) a is in
             let within = some-within m.phase.now f.at f.command f.here in
             let high = none-past m.phase.now place past in
-            apart (over_in p m.done.now (history_in w) f.at) (over-begun f.at f.command f.here (begun f.at f.command f.here (omega (arith, within, high)))) (first-fails p m.done.now (history_in w) a f)
+            apart (over_in p (history_in w) f.at) (over-begun f.at f.command f.here (begun f.at f.command f.here (omega (arith, within, high)))) (first-fails p (history_in w) a f)
 
         by : (o : Option Command) → slice_get m.phase.now place ≡ o → first_open p (history_in w) ≡ option_map (session_of m.with) (slice_get m.phase.now place)
         by (Some c) at =
-            first-at p m.done.now (history_in w) kept.is_running.cursors.through place c at (not-over place c at (waits c at))
+            first-at p (history_in w) place c at (not-over place c at (waits c at))
             (λ i low.
             let within = some-within m.phase.now place c at in
-            let d = some-at m.phase.now i (omega (arith, within, low)) in
+            let d = get-some m.phase.now i (omega (arith, within, low)) in
             over-begun i d.0 d.1 (begun i d.0 d.1 low))
             ∙ sym (ap (option_map (session_of m.with)) at)
         by None past = none (first_open p (history_in w)) refl past ∙ sym (ap (option_map (session_of m.with)) past)
@@ -159,7 +152,7 @@ get-any (x ∷ xs) (suc i) d e low = get-any xs i d e (omega arith)
 
 pub session-within : (m : Running) → IsPhaseKept m → (place : ℕ) (c : Command) → slice_get m.phase.now place ≡ Some c → session_of m.with c < length m.next.items
 session-within m kept place c at =
-    omega (arith, is-actor m.in_order (about_in m) (phase_of m) m.done.now (world_of m) kept.core.inv.ghost_of (cursor m) kept.core.inv.holds kept.is_running place c at, kept.count, kept.core.count)
+    omega (arith, is-actor m.in_order (about_in m) (phase_of m) (world_of m) kept.core.inv.ghost_of (next_at m) kept.core.inv.holds kept.is_running place c at, kept.count, kept.core.count)
 
 pub next-read : (m : Running) → IsPhaseKept m → (place : ℕ) (c d : Command) (session from next : ℕ) → slice_get m.phase.now place ≡ Some c → session ≡ session_of m.with (get_or m.phase.now place d) → from ≡ session
     → next ≡ get_or m.next.items from next → next ≡ next_at m (session_of m.with c)
@@ -173,6 +166,7 @@ kept-look m kept begun first to = record {
   core = kept.core;
   may_run = kept.may_run;
   is_running = kept.is_running;
+  behind = kept.behind;
   count = kept.count;
   few = kept.few;
   within = kept.within;

@@ -1,5 +1,5 @@
 -- What the cursors of a phase tell: the next command of each stream, and how many streams aren't at their ends.
-use Rattle.std.proofs.Common.{◌≡◌, ◌∙◌, ◌+◌, ◌-◌, ◌<◌, ◌≤◌, ℕ, zero, suc, Bool, true, false, List, [], ◌∷◌, length, get_or, Option, Some, None, refl, sym, ap, subst, arith, nat_lt, cond}
+use Rattle.std.proofs.Common.{◌≡◌, ◌∙◌, ◌+◌, ◌<◌, ◌≤◌, ℕ, zero, suc, Bool, true, false, List, [], ◌∷◌, length, get_or, Option, Some, None, refl, sym, ap, arith, nat_lt, cond}
 use Rattle.std.proofs.lemmas.List.Recursion.{is_count_by}
 use Rattle.std.specs.Prelude.{count_by, slice_get, if◌then◌else◌}
 use Rattle.script_form.specs.declared.script.Command.{Command}
@@ -9,9 +9,8 @@ use Rattle.volap_cell.specs.Sums.{sum_below}
 use Rattle.volap_cell.proofs.Sums.{sum-same}
 use Rattle.seeded_run.specs.Due.{is_empty}
 use Rattle.seeded_run.specs.Look.{IsTold, streams_left}
-use Rattle.seeded_run.specs.Machine.{IsPhaseKept, about_in, cursor, next_at, phase_of, world_of}
+use Rattle.seeded_run.specs.Machine.{IsPhaseKept, about_in, next_at, phase_of, world_of}
 use Rattle.seeded_run.specs.Rests.{PhaseRun, rest_of}
-use Rattle.seeded_run.specs.Running.{opened_in}
 use Rattle.seeded_run.specs.declared.machine.Running.{Running}
 use Rattle.seeded_run.proofs.Cursors.{first-law, last-law}
 
@@ -49,18 +48,13 @@ module _ (m : Running) (kept : IsPhaseKept m) where
   abbrev p : PhaseRun
   p = phase_of m
 
-  pub at-next : (n : ℕ) → cursor m n - length m.done.now ≡ next_at m n
-  at-next n = omega arith
-
   -- a stream whose next command is this one begins with it
   pub rest-some : (n : ℕ) (c : Command) → slice_get m.phase.now (next_at m n) ≡ Some c → (more : List Command) × (rest_of (phase_of m) (history_in (world_of m)) n ≡ c ∷ more)
-  rest-some n c at =
-      let here : slice_get m.phase.now (cursor m n - length m.done.now) ≡ Some c = ap (slice_get m.phase.now) (at-next n) ∙ at in
-      (_, first-law p m.done.now (history_in (world_of m)) (cursor m) (opened_in (world_of m)) kept.is_running.cursors n c here (kept.is_running.own n c here))
+  rest-some n c at = (_, first-law p (history_in (world_of m)) (next_at m) kept.is_running.cursors n c at (kept.is_running.own n c at))
 
   -- and one that has none is at its end
   pub rest-none : (n : ℕ) → length m.phase.now ≤ next_at m n → rest_of (phase_of m) (history_in (world_of m)) n ≡ []
-  rest-none n past = last-law p m.done.now (history_in (world_of m)) (cursor m) (opened_in (world_of m)) kept.is_running.cursors n (subst (λ k. length m.phase.now ≤ k) (sym (at-next n)) past)
+  rest-none n past = last-law p (history_in (world_of m)) (next_at m) kept.is_running.cursors n past
 
   next-is : (n : ℕ) → slice_get (rest_of (phase_of m) (history_in (world_of m)) n) 0 ≡ slice_get m.phase.now (next_at m n)
   next-is n = by (slice_get m.phase.now (next_at m n)) refl

@@ -39,10 +39,11 @@ use Rattle.seeded_run.proofs.LeftAlone.{IsAtCommand, alone-from, alone-parts, ap
 use Rattle.seeded_run.proofs.Pulled.{deed-ends, deed-pulls, deed-right, deed-session, end-pulls-none, end-right, end-session, plain-pulled, pull-next, pulled-more, pulled-same, right-if}
 use Rattle.seeded_run.proofs.Told.{others-law, told-law}
 use Rattle.seeded_run.specs.Can.{can, can_step}
+use Rattle.seeded_run.specs.Cursors.{HasCursors}
 use Rattle.seeded_run.specs.Due.{does_nothing, is_alone}
 use Rattle.seeded_run.specs.Kept.{IsTurn, KeepsOtherLaw}
 use Rattle.seeded_run.specs.Rests.{PhaseRun, first_behind, first_open, is_over_behind, rest_of, stream_of}
-use Rattle.seeded_run.specs.Running.{AreAtOwn, HasPulled, IsOrderKept, IsRunning, is_closing_work, opened_in}
+use Rattle.seeded_run.specs.Running.{AreAtOwn, AreOthersIdle, HasPulled, IsRunning, RunsBehind, behind, is_closing_work, opened_in}
 use Rattle.seeded_run.specs.Steps.{is_for_part}
 use Rattle.seeded_run.specs.Told.{GoesFurther, OfBeginning, OfDeed, OfEnd, OfNothing, OfPage, OfPull, TellsDeed, TellsEnd, TellsNothing, TellsPage, TellsPull, Told, is_of_part, is_plain}
 
@@ -198,8 +199,8 @@ begins-called with h (script.Insert new) session server b = absurd b
 begins-called with h (script.Query question) session server b = absurd b
 begins-called with h (script.Control called) session server b = b.0 ∙ ap (session_of_call with) (sym b.1)
 
-module _ (in_order : Bool) (s : Setting) (p : PhaseRun) (done : List Command) (w now : World) (g g_now : Ghost) (next : ℕ → ℕ) (n : ℕ)
-    (i : InvWith s (view s w) g) (i_now : InvWith s (view s now) g_now) (turn : IsTurn in_order s p w n now) (r : IsRunning in_order s p done w next) where
+module _ (in_order : Bool) (s : Setting) (p : PhaseRun) (w now : World) (g g_now : Ghost) (next : ℕ → ℕ) (n : ℕ)
+    (i : InvWith s (view s w) g) (i_now : InvWith s (view s now) g_now) (turn : IsTurn in_order s p w n now) (r : IsRunning in_order s p w next) where
   -- The other actors.
 
   pub others : (a : ℕ) → a ≢ n → now.actors a ≡ w.actors a
@@ -221,67 +222,13 @@ module _ (in_order : Bool) (s : Setting) (p : PhaseRun) (done : List Command) (w
   pub of-within : (a : ℕ) (c : OpenCommand) → (w.actors a).command ≡ Some c → c.of < length (history_in w)
   of-within a c at = omega (arith, i.telling.last a c.of (i.telling.own a c at), i.telling.within a)
 
-  -- a sync is the puller's
-  sync-owner : (a : ℕ) (c : OpenCommand) (server : ℕ) (did : Bool) → (w.actors a).command ≡ Some c → c.work ≡ work_is.Sync server did → a ≡ s.servers
-  sync-owner a c server did at work =
-      let progress = subst (λ x. IsProgress s (history_in w) c.of x (w.actors a).job (w.actors a).role) work (i.telling.progress a c at) in
-      by (event_at (history_in w) c.of) refl progress.0 (i.telling.own a c at)
-    where
-      called : (session : ℕ) → event_at (history_in w) c.of ≡ Some (event.Called session (call.Sync server)) → session ≡ s.servers
-      called session here =
-          let found = r.in_phase.part.only c.of (event.Called session (call.Sync server)) here refl in
-          let begins = subst (BeginsAt p.with s.hierarchy (history_in w) found.1) found.3 (r.in_phase.part.begun found.0 found.1 found.2) in
-          begins-called p.with s.hierarchy found.1 session server (subst (Begins p.with s.hierarchy found.1) (same-event (event_at (history_in w) c.of) begins.0 (event.Called session (call.Sync server)) begins.1 here) begins.2)
-          ∙ r.phase.servers
-        where
-          same-event : (o : Option Event) (x y : Event) → o ≡ Some x → o ≡ Some y → x ≡ y
-          same-event o x y e f = cc
-
-      by : (o : Option Event) → event_at (history_in w) c.of ≡ o → option_and_then call_in o ≡ Some (call.Sync server) → option_and_then session_in o ≡ Some a → a ≡ s.servers
-      by None here is own = cc
-      by (Some (event.Called session called_is)) here is own =
-          let same : called_is ≡ call.Sync server = cc in
-          let whose : session ≡ a = cc in
-          sym whose ∙ called session (here ∙ ap (λ x. Some (event.Called session x)) same)
-      by (Some (event.Begun session x row)) here is own = cc
-      by (Some (event.Asked session x filter)) here is own = cc
-      by (Some (event.Unknown session x dim)) here is own = cc
-      by (Some (event.Refused session)) here is own = cc
-      by (Some (event.Acked of path)) here is own = cc
-      by (Some (event.Answered of agg)) here is own = cc
-      by (Some (event.Failed of)) here is own = cc
-      by (Some (event.Ended of how)) here is own = cc
-      by (Some (event.Split of shard left right)) here is own = cc
-      by (Some (event.Moved of shard worker)) here is own = cc
-      by (Some (event.Left of shard how)) here is own = cc
-      by (Some (event.Synced x listing)) here is own = cc
-      by (Some (event.Shown of page)) here is own = cc
-
-  -- What is told of the actor's own command, and of the pulls of others.
+  -- What is told of the actor's own command.
   pub record Own : Type 0 where
     pub closing : (c : OpenCommand) → (now.actors n).command ≡ Some c → is_closing_work c.work ≡ true → is_alone s w (rest_of p (history_in w)) n ≡ true
     pub pages : (c : OpenCommand) → (now.actors n).command ≡ Some c → is_some (once_shown c.work) ≡ true → length (history_in now) ≡ c.of + 1
-    pub pulled : (c : OpenCommand) → (now.actors n).command ≡ Some c → HasPulled s.servers c.work (pulled_since (history_in now) c.of)
-    pub pulled_others : (a : ℕ) (c : OpenCommand) → a ≢ n → (w.actors a).command ≡ Some c → HasPulled s.servers c.work (pulled_since (history_in now) c.of)
 
-  -- no pull was made
-  no-pull : (e : Event) (past : List Event) → pull_in e ≡ None → (a : ℕ) (c : OpenCommand) → (w.actors a).command ≡ Some c → length (history_in w) ≤ length past
-      → HasPulled s.servers c.work (pulled_since past c.of) → HasPulled s.servers c.work (pulled_since (e ∷ past) c.of)
-  no-pull e past none a c at long has =
-      let low = of-within a c at in
-      subst (HasPulled s.servers c.work) (sym (pulled-same e past c.of none (omega (arith, low, long)))) has
-
-  pub one-more : (e : Event) → history_in now ≡ e ∷ history_in w → pull_in e ≡ None → (a : ℕ) (c : OpenCommand) → (w.actors a).command ≡ Some c → HasPulled s.servers c.work (pulled_since (history_in now) c.of)
-  one-more e is none a c at =
-      subst (λ x. HasPulled s.servers c.work (pulled_since x c.of)) (sym is) (no-pull e (history_in w) none a c at (omega arith) (r.pulled a c at))
-
-  own-further : (f : GoesFurther (w.actors n).command (now.actors n).command) → ((a : ℕ) (c : OpenCommand) → a ≢ n → (w.actors a).command ≡ Some c → HasPulled s.servers c.work (pulled_since (history_in now) c.of)) → Own
-  own-further f pulls = record {
-    closing = λ c at closing. absurd (not-plain c at closing);
-    pages = λ c at page. absurd (not-plain c at (page-closing c.work page));
-    pulled = λ c at. plain-pulled s.servers c.work (pulled_since (history_in now) c.of) (ap is_plain (doing-is (now.actors n).command c f.of f.work_now at f.is).1 ∙ f.plain_now);
-    pulled_others = pulls;
-  }
+  own-further : GoesFurther (w.actors n).command (now.actors n).command → Own
+  own-further f = record { closing = λ c at closing. absurd (not-plain c at closing); pages = λ c at page. absurd (not-plain c at (page-closing c.work page)) }
     where
       not-plain : (c : OpenCommand) → (now.actors n).command ≡ Some c → is_closing_work c.work ≡ true → ⊥
       not-plain c at closing =
@@ -293,76 +240,25 @@ module _ (in_order : Bool) (s : Setting) (p : PhaseRun) (done : List Command) (w
     | inl same ↦ record {
       closing = λ c at closing. r.closing n c (sym same ∙ at) closing;
       pages = λ c at page. ap length t.history ∙ (r.pages n c (sym same ∙ at) page).1;
-      pulled = λ c at. subst (λ x. HasPulled s.servers c.work (pulled_since x c.of)) (sym t.history) (r.pulled n c (sym same ∙ at));
-      pulled_others = λ a c differs at. subst (λ x. HasPulled s.servers c.work (pulled_since x c.of)) (sym t.history) (r.pulled a c at);
     }
-    | inr f ↦ own-further f (λ a c differs at. subst (λ x. HasPulled s.servers c.work (pulled_since x c.of)) (sym t.history) (r.pulled a c at))
+    | inr f ↦ own-further f
   ]
-
-  own-deed : TellsDeed n w now → Own
-  own-deed t = own-further t.further (λ a c differs at. one-more t.deed t.history (deed-pulls t.deed t.is_that) a c at)
 
   own-page : TellsPage n w now → Own
   own-page t = record {
     closing = λ c at closing. r.closing n (record { of = t.of; work = t.work }) t.was (page-closing t.work (ap is_some t.once));
     pages = λ c at page. apart (is_some (once_shown c.work)) page (ap (λ x. is_some (once_shown x)) (doing-is (now.actors n).command c t.of t.work_now at t.is).1 ∙ shown-once t.work t.work_now t.once);
-    pulled = λ c at. subst (λ x. HasPulled s.servers x (pulled_since (history_in now) c.of)) (sym (doing-is (now.actors n).command c t.of t.work_now at t.is).1)
-        (shown-pulled s.servers t.work t.work_now (pulled_since (history_in now) c.of) t.once);
-    pulled_others = λ a c differs at. one-more (event.Shown t.of t.page) t.history refl a c at;
   }
-
-  -- while the actor pulls nobody else is at a sync or a settle
-  pull-alone : TellsPull s n w now → (a : ℕ) (c : OpenCommand) → a ≢ n → (w.actors a).command ≡ Some c → ((server : ℕ) (did : Bool) → c.work ≡ work_is.Sync server did → ⊥) × (is_closing_work c.work ≡ true → ⊥)
-  pull-alone t a c differs at = (
-    (λ server did work. elim (pull-kinds s.servers t.server t.work t.due) [
-      | inl (x, own_did, own) ↦ differs (sync-owner a c server did at work ∙ sym (sync-owner n (record { of = t.of; work = t.work }) x own_did t.was own))
-      | inr closing ↦ none-some (w.actors a).command c (alone-parts s w (rest_of p (history_in w)) n a (r.closing n (record { of = t.of; work = t.work }) t.was closing) (within-of s w g i a c at) differs).0.command at
-    ]),
-    (λ closing. none-some (w.actors n).command (record { of = t.of; work = t.work })
-        (alone-parts s w (rest_of p (history_in w)) a n (r.closing a c at closing) turn.within (λ e. differs (sym e))).0.command t.was),
-  )
-
-  pulled-if : (servers : ℕ) (work : Work) (pulled : List ℕ) → ((server : ℕ) (did : Bool) → work ≡ work_is.Sync server did → ⊥) → (is_closing_work work ≡ true → ⊥) → HasPulled servers work pulled
-  pulled-if servers (work_is.Sync server did) pulled sync closing = absurd (sync server did refl)
-  pulled-if servers (work_is.Settle pulls) pulled sync closing = absurd (closing refl)
-  pulled-if servers (work_is.Insert row routed) pulled sync closing = tt
-  pulled-if servers work_is.Query pulled sync closing = tt
-  pulled-if servers work_is.Barrier pulled sync closing = tt
-  pulled-if servers (work_is.Split shard) pulled sync closing = tt
-  pulled-if servers (work_is.Move shard worker) pulled sync closing = tt
-  pulled-if servers (work_is.Balance b) pulled sync closing = tt
-  pulled-if servers (work_is.Shards shown) pulled sync closing = tt
-  pulled-if servers (work_is.Tree shard stands shown) pulled sync closing = tt
-  pulled-if servers (work_is.Audit shown) pulled sync closing = tt
 
   own-pull : TellsPull s n w now → Own
   own-pull t = record {
     closing = λ c at closing. r.closing n (record { of = t.of; work = t.work }) t.was
         (sym (pulled-closing t.work) ∙ ap is_closing_work (sym (doing-is (now.actors n).command c t.of (pulled_once t.work) at t.is).1) ∙ closing);
     pages = λ c at page. apart (is_some (once_shown c.work)) page (ap (λ x. is_some (once_shown x)) (doing-is (now.actors n).command c t.of (pulled_once t.work) at t.is).1 ∙ pull-no-page s.servers t.server t.work t.due);
-    pulled = λ c at.
-        let is = doing-is (now.actors n).command c t.of (pulled_once t.work) at t.is in
-        let old : OpenCommand = record { of = t.of; work = t.work } in
-        let more : pulled_since (history_in now) t.of ≡ pulled_since (history_in w) t.of ++ t.server ∷ [] = ap (λ x. pulled_since x t.of) t.history ∙ pulled-more t.server t.listing (history_in w) t.of (of-within n old t.was) in
-        let has : HasPulled s.servers (pulled_once t.work) (pulled_since (history_in now) t.of) = subst (HasPulled s.servers (pulled_once t.work)) (sym more) (pull-next s.servers t.server t.work (pulled_since (history_in w) t.of) t.due (r.pulled n old t.was)) in
-        subst (λ x. HasPulled s.servers x (pulled_since (history_in now) c.of)) (sym is.1) (subst (λ x. HasPulled s.servers (pulled_once t.work) (pulled_since (history_in now) x)) (sym is.0) has);
-    pulled_others = λ a c differs at. let alone = pull-alone t a c differs at in pulled-if s.servers c.work (pulled_since (history_in now) c.of) alone.0 alone.1;
   }
 
   own-end : TellsEnd s turn.made n w now → Own
-  own-end t = record {
-    closing = λ c at closing. none-some (now.actors n).command c t.command at;
-    pages = λ c at page. none-some (now.actors n).command c t.command at;
-    pulled = λ c at. none-some (now.actors n).command c t.command at;
-    pulled_others = λ a c differs at. subst (λ x. HasPulled s.servers c.work (pulled_since x c.of)) (sym t.history)
-        (elim t.are_deeds [
-          | inl none ↦ subst (λ ds. HasPulled s.servers c.work (pulled_since (t.end_is ∷ ds ++ history_in w) c.of)) (sym none)
-              (no-pull t.end_is (history_in w) (end-pulls-none t.end_is t.of t.ends.0) a c at (omega arith) (r.pulled a c at))
-          | inr (deed, is, that) ↦ subst (λ ds. HasPulled s.servers c.work (pulled_since (t.end_is ∷ ds ++ history_in w) c.of)) (sym is)
-              (no-pull t.end_is (deed ∷ history_in w) (end-pulls-none t.end_is t.of t.ends.0) a c at (omega arith)
-              (no-pull deed (history_in w) (deed-pulls deed that) a c at (omega arith) (r.pulled a c at)))
-        ]);
-  }
+  own-end t = record { closing = λ c at closing. none-some (now.actors n).command c t.command at; pages = λ c at page. none-some (now.actors n).command c t.command at }
 
   -- All of it again.
 
@@ -378,132 +274,48 @@ module _ (in_order : Bool) (s : Setting) (p : PhaseRun) (done : List Command) (w
       | inr differs ↦ absurd (not-other a c differs at closing)
     ]
 
-    pub kept-by : (now.actors n).counted ≡ (w.actors n).counted → Own → IsInPhase p.with s.hierarchy (done ++ p.commands) (length done) (history_in now) next_now (opened_in now) → ((t : ℕ) → length done ≤ next_now t) → AreAtOwn p done next_now
-        → (in_order ≡ true → IsOrderKept s p done now) → IsRunning in_order s p done now next_now
-    kept-by counted own phase past at_own ordered = record {
+    pub kept-by : (now.actors n).counted ≡ (w.actors n).counted → Own → HasCursors p (history_in now) next_now → AreAtOwn p next_now → (in_order ≡ true → AreOthersIdle p now) → IsRunning in_order s p now next_now
+    kept-by counted own cursors at_own idle = record {
       roles = r.roles;
       phase = r.phase;
-      in_phase = phase;
-      cursors = record { through = r.cursors.through; streams = phase.streams; past = past };
+      cursors = cursors;
       own = at_own;
       closing = closing-now own;
       pages = λ a c at page. elim (same-or-not a n) [
         | inl is ↦ (closing-now own a c at (page-closing c.work page), own.pages c (ap (λ x. (now.actors x).command) (sym is) ∙ at) page)
         | inr differs ↦ absurd (not-other a c differs at (page-closing c.work page))
       ];
-      pulled = λ a c at. elim (same-or-not a n) [
-        | inl is ↦ own.pulled c (ap (λ x. (now.actors x).command) (sym is) ∙ at)
-        | inr differs ↦ own.pulled_others a c differs (was-at a c differs at)
-      ];
       nobody = λ a. elim (same-or-not a n) [
         | inl is ↦ ap (λ x. (now.actors x).counted) is ∙ counted ∙ r.nobody n
         | inr differs ↦ ap (λ (x : ActorValue). x.counted) (others a differs) ∙ r.nobody a
       ];
-      ordered = ordered;
+      idle = idle;
     }
 
   -- Histories without a beginning.
 
-  -- the history goes on without a beginning
-  pub record GoesQuietly : Type 0 where
-    pub phase : IsInPhase p.with s.hierarchy (done ++ p.commands) (length done) (history_in now) next (opened_in now)
-    pub order : IsInOrder p.with s.hierarchy (done ++ p.commands) (history_in w) → IsInOrder p.with s.hierarchy (done ++ p.commands) (history_in now)
-    pub rest : (t : ℕ) → rest_of p (history_in now) t ≡ rest_of p (history_in w) t
+  -- no session has begun anything
+  abbrev BeginsNone : Type 0
+  BeginsNone = (t : ℕ) → begins_of (history_in now) t ≡ begins_of (history_in w) t
 
-  opened-all : opened_in now n ≡ opened_in w n → (t : ℕ) → opened_in now t ≡ opened_in w t
-  opened-all own t = elim (same-or-not t n) [
-    | inl is ↦ ap (opened_in now) is ∙ own ∙ ap (opened_in w) (sym is)
-    | inr differs ↦ opened-other t differs
+  no-event : history_in now ≡ history_in w → BeginsNone
+  no-event is t = ap (λ x. begins_of x t) is
+
+  one-event : (e : Event) → history_in now ≡ e ∷ history_in w → session_in e ≡ None → BeginsNone
+  one-event e is none t = ap (λ x. begins_of x t) is ∙ begins_of-other e (history_in w) t (begins-none t e none)
+
+  two-events : (e d : Event) → history_in now ≡ e ∷ d ∷ history_in w → session_in e ≡ None → session_in d ≡ None → BeginsNone
+  two-events e d is none_e none_d t =
+      ap (λ x. begins_of x t) is ∙ begins_of-other e (d ∷ history_in w) t (begins-none t e none_e) ∙ begins_of-other d (history_in w) t (begins-none t d none_d)
+
+  none-with-end : TellsEnd s turn.made n w now → BeginsNone
+  none-with-end t = elim t.are_deeds [
+    | inl none ↦ one-event t.end_is (t.history ∙ ap (λ ds. t.end_is ∷ ds ++ history_in w) none) (end-session t.end_is t.of t.ends.0)
+    | inr (deed, is, that) ↦ two-events t.end_is deed (t.history ∙ ap (λ ds. t.end_is ∷ ds ++ history_in w) is) (end-session t.end_is t.of t.ends.0) (deed-session deed that)
   ]
 
-  no-event : history_in now ≡ history_in w → opened_in now n ≡ opened_in w n → GoesQuietly
-  no-event is own = record {
-    phase = subst (λ x. IsInPhase p.with s.hierarchy (done ++ p.commands) (length done) x next (opened_in now)) (sym is) (record {
-      part = r.in_phase.part;
-      streams = record {
-        counts = r.in_phase.streams.counts;
-        begun = λ k c at low.
-            let found = r.in_phase.streams.begun k c at low in
-            (found.0, found.1, elim found.2 [ inl over ↦ inl over | inr opened ↦ inr (opened-all own (session_of p.with c) ∙ opened) ]);
-      };
-      past = r.in_phase.past;
-    });
-    order = λ order. subst (λ x. IsInOrder p.with s.hierarchy (done ++ p.commands) x) (sym is) order;
-    rest = λ t. ap (λ x. rest_of p x t) is;
-  }
-
-  one-event : (e : Event) → history_in now ≡ e ∷ history_in w → session_in e ≡ None → HasPulls p.with (history_in w) e
-      → ((t q : ℕ) → opened_in w t ≡ Some q → IsTrue (is_over (e ∷ history_in w) q) ⊎ (opened_in now t ≡ Some q)) → GoesQuietly
-  one-event e is none right ends = record {
-    phase = subst (λ x. IsInPhase p.with s.hierarchy (done ++ p.commands) (length done) x next (opened_in now)) (sym is)
-        (phase_other_law p.with s.hierarchy (done ++ p.commands) (length done) e (history_in w) next (opened_in w) (opened_in now) r.in_phase none right ends);
-    order = λ order. subst (λ x. IsInOrder p.with s.hierarchy (done ++ p.commands) x) (sym is) (order-other-law p.with s.hierarchy (done ++ p.commands) e (history_in w) none right order);
-    rest = λ t. ap (λ x. rest_of p x t) is ∙ rest-none p e (history_in w) t none;
-  }
-
-  two-events : (e d : Event) → history_in now ≡ e ∷ d ∷ history_in w → session_in e ≡ None → session_in d ≡ None → HasPulls p.with (history_in w) d → HasPulls p.with (d ∷ history_in w) e
-      → ((t q : ℕ) → opened_in w t ≡ Some q → IsTrue (is_over (e ∷ d ∷ history_in w) q) ⊎ (opened_in now t ≡ Some q)) → GoesQuietly
-  two-events e d is none_e none_d right_d right_e ends = record {
-    phase = subst (λ x. IsInPhase p.with s.hierarchy (done ++ p.commands) (length done) x next (opened_in now)) (sym is)
-        (phase_other_law p.with s.hierarchy (done ++ p.commands) (length done) e (d ∷ history_in w) next (opened_in w) (opened_in now)
-        (phase_other_law p.with s.hierarchy (done ++ p.commands) (length done) d (history_in w) next (opened_in w) (opened_in w) r.in_phase none_d right_d (λ t q at. inr at)) none_e right_e ends);
-    order = λ order. subst (λ x. IsInOrder p.with s.hierarchy (done ++ p.commands) x) (sym is)
-        (order-other-law p.with s.hierarchy (done ++ p.commands) e (d ∷ history_in w) none_e right_e (order-other-law p.with s.hierarchy (done ++ p.commands) d (history_in w) none_d right_d order));
-    rest = λ t. ap (λ x. rest_of p x t) is ∙ rest-none p e (d ∷ history_in w) t none_e ∙ rest-none p d (history_in w) t none_d;
-  }
-
-  -- an actor's command stays open
-  stays-open : (of : ℕ) (work work_now : Work) → (w.actors n).command ≡ doing of work → (now.actors n).command ≡ doing of work_now → opened_in now n ≡ opened_in w n
-  stays-open of work work_now was is = ap (option_map (λ (c : OpenCommand). c.of)) is ∙ sym (ap (option_map (λ (c : OpenCommand). c.of)) was)
-
-  quiet-nothing : TellsNothing n w now → GoesQuietly
-  quiet-nothing t = elim t.stays [
-    | inl same ↦ no-event t.history (ap (option_map (λ (c : OpenCommand). c.of)) same)
-    | inr f ↦ no-event t.history (stays-open f.of f.work f.work_now f.was f.is)
-  ]
-
-  quiet-deed : TellsDeed n w now → GoesQuietly
-  quiet-deed t = one-event t.deed t.history (deed-session t.deed t.is_that) (deed-right p.with (history_in w) t.deed t.is_that)
-      (λ x q at. inr (opened-all (stays-open t.further.of t.further.work t.further.work_now t.further.was t.further.is) x ∙ at))
-
-  quiet-pull : TellsPull s n w now → GoesQuietly
-  quiet-pull t = one-event (event.Synced t.server t.listing) t.history refl tt (λ x q at. inr (opened-all (stays-open t.of t.work (pulled_once t.work) t.was t.is) x ∙ at))
-
-  quiet-page : TellsPage n w now → GoesQuietly
-  quiet-page t = one-event (event.Shown t.of t.page) t.history refl tt (λ x q at. inr (opened-all (stays-open t.of t.work t.work_now t.was t.is) x ∙ at))
-
-  -- An end.
-  module _ (t : TellsEnd s turn.made n w now) where
-    ended : (past : List Event) (x q : ℕ) → opened_in w x ≡ Some q → IsTrue (is_over (t.end_is ∷ past) q) ⊎ (opened_in now x ≡ Some q)
-    ended past x q at = elim (same-or-not x n) [
-      | inr differs ↦ inr (opened-other x differs ∙ at)
-      | inl is ↦
-          let of_is : t.of ≡ q = same-open (opened_in w n) t.of q (ap (option_map (λ (c : OpenCommand). c.of)) t.was) (ap (opened_in w) (sym is) ∙ at) in
-          inl (over-end t.end_is past q (t.ends.0 ∙ ap Some of_is))
-    ]
-
-    right : (past : List Event) → call_at past t.of ≡ call_at (history_in w) t.of → pulled_since past t.of ≡ pulled_since (history_in w) t.of → HasPulls p.with past t.end_is
-    right past calls pulls = right-if p.with past t.end_is (λ of h is.
-        let of_is : of ≡ t.of = same-open (end_in t.end_is) of t.of (ap end_in is) t.ends.0 in
-        let may : (is_plain t.work ≡ true) ⊎ MayNoteEnd s.servers t.work (w.actors n).job h = elim t.ends.1 [
-          | inl plain ↦ inl plain
-          | inr (how, as_is, may) ↦ inr (subst (MayNoteEnd s.servers t.work (w.actors n).job) (same-how t.end_is of t.of h how is as_is) may)
-        ] in
-        let there = end-right s (history_in w) past t.of (w.actors n).job (w.actors n).role h calls pulls t.work (i.telling.progress n (record { of = t.of; work = t.work }) t.was) (r.pulled n (record { of = t.of; work = t.work }) t.was) may in
-        subst (λ x. HasPulls p.with past (event.Ended x h)) (sym of_is) (subst (λ m. IfSome (call_at past t.of) (λ called. ArePulls m called h (pulled_since past t.of))) (sym r.phase.servers) there))
-      where
-        same-how : (e : Event) (of of_now : ℕ) (h how : How) → e ≡ event.Ended of h → e ≡ event.Ended of_now how → how ≡ h
-        same-how e of of_now h how x y = cc
-
-    pub quiet-end : GoesQuietly
-    quiet-end = elim t.are_deeds [
-      | inl none ↦ one-event t.end_is (t.history ∙ ap (λ ds. t.end_is ∷ ds ++ history_in w) none) (end-session t.end_is t.of t.ends.0) (right (history_in w) refl refl) (ended (history_in w))
-      | inr (deed, is, that) ↦
-          let low = of-within n (record { of = t.of; work = t.work }) t.was in
-          two-events t.end_is deed (t.history ∙ ap (λ ds. t.end_is ∷ ds ++ history_in w) is) (end-session t.end_is t.of t.ends.0) (deed-session deed that) (deed-right p.with (history_in w) deed that)
-          (right (deed ∷ history_in w) (ap (option_and_then call_in) (event_at-older deed (history_in w) t.of low)) (pulled-same deed (history_in w) t.of (deed-pulls deed that) low))
-          (ended (deed ∷ history_in w))
-    ]
+  rest-so : BeginsNone → (t : ℕ) → rest_of p (history_in now) t ≡ rest_of p (history_in w) t
+  rest-so none t = ap (λ l. drop (length l - length (begins_of p.before t)) (stream_of p.with p.commands t)) (none t)
 
   -- One after the other.
 
@@ -518,7 +330,7 @@ module _ (in_order : Bool) (s : Setting) (p : PhaseRun) (done : List Command) (w
   pub idle-from : (first_open p (history_in now) ≢ Some n → does_nothing (now.actors n) ≡ true) → (order : in_order ≡ true) → (a : ℕ) → first_open p (history_in now) ≢ Some a → does_nothing (now.actors a) ≡ true
   idle-from own order a differs = elim (same-or-not a n) [
     | inl is ↦ ap (λ x. does_nothing (now.actors x)) is ∙ own (λ here. differs (here ∙ ap Some (sym is)))
-    | inr other ↦ ap does_nothing (others a other) ∙ (r.ordered order).idle a (λ here. other (same-open (first_open p (history_in w)) a n here (can-first in_order order turn.can)))
+    | inr other ↦ ap does_nothing (others a other) ∙ r.idle order a (λ here. other (same-open (first_open p (history_in w)) a n here (can-first in_order order turn.can)))
   ]
 
   -- the actor is at its command
@@ -540,27 +352,279 @@ module _ (in_order : Bool) (s : Setting) (p : PhaseRun) (done : List Command) (w
         counted = counted ∙ r.nobody n;
       })
 
-  kept-quietly : (now.actors n).counted ≡ (w.actors n).counted → Own → GoesQuietly → (in_order ≡ true → first_open p (history_in now) ≢ Some n → does_nothing (now.actors n) ≡ true) → IsRunning in_order s p done now next
-  kept-quietly counted own quiet idle = kept-by next (λ t differs. quiet.rest t) counted own quiet.phase r.cursors.past r.own (λ order. record {
-    order = quiet.order (r.ordered order).order;
-    idle = idle-from (idle order) order;
-  })
+  kept-quietly : (now.actors n).counted ≡ (w.actors n).counted → Own → BeginsNone → (in_order ≡ true → first_open p (history_in now) ≢ Some n → does_nothing (now.actors n) ≡ true) → IsRunning in_order s p now next
+  kept-quietly counted own none idle =
+      kept-by next (λ t differs. rest-so none t) counted own (record { counts = λ t. ap length (none t) ∙ r.cursors.counts t }) r.own (λ order. idle-from (idle order) order)
 
   first-stays : {X : Type 0} → first_open p (history_in now) ≡ first_open p (history_in w) → (order : in_order ≡ true) → first_open p (history_in now) ≢ Some n → X
   first-stays same order differs = absurd (differs (same ∙ can-first in_order order turn.can))
 
-  pub keeps-other : ((e : Event) → history_in now ≡ e ∷ history_in w → session_in e ≡ None) → (now.actors n).counted ≡ (w.actors n).counted → Told s turn.made n w now → IsRunning in_order s p done now next
-  keeps-other none counted (OfNothing t) = kept-quietly counted (own-nothing t) (quiet-nothing t) (first-stays (ap (first_open p) t.history))
-  keeps-other none counted (OfDeed t) = kept-quietly counted (own-deed t) (quiet-deed t)
+  clash : (o : Option ℕ) (a : ℕ) → o ≡ None → o ≡ Some a → ⊥
+  clash o a x y = cc
+
+  pub keeps-other : ((e : Event) → history_in now ≡ e ∷ history_in w → session_in e ≡ None) → (now.actors n).counted ≡ (w.actors n).counted → Told s turn.made n w now → IsRunning in_order s p now next
+  keeps-other none counted (OfNothing t) = kept-quietly counted (own-nothing t) (no-event t.history) (first-stays (ap (first_open p) t.history))
+  keeps-other none counted (OfDeed t) = kept-quietly counted (own-further t.further) (one-event t.deed t.history (deed-session t.deed t.is_that))
       (first-stays (ap (first_open p) t.history ∙ first-same p t.deed (history_in w) (deed-session t.deed t.is_that) (deed-ends t.deed t.is_that)))
-  keeps-other none counted (OfPull t) = kept-quietly counted (own-pull t) (quiet-pull t) (first-stays (ap (first_open p) t.history ∙ first-same p (event.Synced t.server t.listing) (history_in w) refl refl))
-  keeps-other none counted (OfPage t) = kept-quietly counted (own-page t) (quiet-page t) (first-stays (ap (first_open p) t.history ∙ first-same p (event.Shown t.of t.page) (history_in w) refl refl))
-  keeps-other none counted (OfEnd t) = kept-quietly counted (own-end t) (quiet-end t) (λ order differs. end-idle counted t)
+  keeps-other none counted (OfPull t) = kept-quietly counted (own-pull t) (one-event (event.Synced t.server t.listing) t.history refl)
+      (first-stays (ap (first_open p) t.history ∙ first-same p (event.Synced t.server t.listing) (history_in w) refl refl))
+  keeps-other none counted (OfPage t) = kept-quietly counted (own-page t) (one-event (event.Shown t.of t.page) t.history refl)
+      (first-stays (ap (first_open p) t.history ∙ first-same p (event.Shown t.of t.page) (history_in w) refl refl))
+  keeps-other none counted (OfEnd t) = kept-quietly counted (own-end t) (none-with-end t) (λ order differs. end-idle counted t)
   keeps-other none counted (OfBeginning t) = absurd (clash (session_in t.begins) n (none t.begins t.history) t.session)
-    where
-      clash : (o : Option ℕ) (n : ℕ) → o ≡ None → o ≡ Some n → ⊥
-      clash o n x y = cc
+
+  -- Behind commands that are done.
+
+  module _ (done : List Command) (b : RunsBehind in_order s p done w next) where
+    -- a sync is the puller's
+    sync-owner : (a : ℕ) (c : OpenCommand) (server : ℕ) (did : Bool) → (w.actors a).command ≡ Some c → c.work ≡ work_is.Sync server did → a ≡ s.servers
+    sync-owner a c server did at work =
+        let progress = subst (λ x. IsProgress s (history_in w) c.of x (w.actors a).job (w.actors a).role) work (i.telling.progress a c at) in
+        by (event_at (history_in w) c.of) refl progress.0 (i.telling.own a c at)
+      where
+        called : (session : ℕ) → event_at (history_in w) c.of ≡ Some (event.Called session (call.Sync server)) → session ≡ s.servers
+        called session here =
+            let found = b.in_phase.part.only c.of (event.Called session (call.Sync server)) here refl in
+            let begins = subst (BeginsAt p.with s.hierarchy (history_in w) found.1) found.3 (b.in_phase.part.begun found.0 found.1 found.2) in
+            begins-called p.with s.hierarchy found.1 session server (subst (Begins p.with s.hierarchy found.1) (same-event (event_at (history_in w) c.of) begins.0 (event.Called session (call.Sync server)) begins.1 here) begins.2)
+            ∙ r.phase.servers
+          where
+            same-event : (o : Option Event) (x y : Event) → o ≡ Some x → o ≡ Some y → x ≡ y
+            same-event o x y e f = cc
+
+        by : (o : Option Event) → event_at (history_in w) c.of ≡ o → option_and_then call_in o ≡ Some (call.Sync server) → option_and_then session_in o ≡ Some a → a ≡ s.servers
+        by None here is own = cc
+        by (Some (event.Called session called_is)) here is own =
+            let same : called_is ≡ call.Sync server = cc in
+            let whose : session ≡ a = cc in
+            sym whose ∙ called session (here ∙ ap (λ x. Some (event.Called session x)) same)
+        by (Some (event.Begun session x row)) here is own = cc
+        by (Some (event.Asked session x filter)) here is own = cc
+        by (Some (event.Unknown session x dim)) here is own = cc
+        by (Some (event.Refused session)) here is own = cc
+        by (Some (event.Acked of path)) here is own = cc
+        by (Some (event.Answered of agg)) here is own = cc
+        by (Some (event.Failed of)) here is own = cc
+        by (Some (event.Ended of how)) here is own = cc
+        by (Some (event.Split of shard left right)) here is own = cc
+        by (Some (event.Moved of shard worker)) here is own = cc
+        by (Some (event.Left of shard how)) here is own = cc
+        by (Some (event.Synced x listing)) here is own = cc
+        by (Some (event.Shown of page)) here is own = cc
+
+    -- what is told of the pulls since the actor's own command began, and since those of others did
+    pub record OwnPulls : Type 0 where
+      pub pulled : (c : OpenCommand) → (now.actors n).command ≡ Some c → HasPulled s.servers c.work (pulled_since (history_in now) c.of)
+      pub pulled_others : (a : ℕ) (c : OpenCommand) → a ≢ n → (w.actors a).command ≡ Some c → HasPulled s.servers c.work (pulled_since (history_in now) c.of)
+
+    -- no pull was made
+    no-pull : (e : Event) (past : List Event) → pull_in e ≡ None → (a : ℕ) (c : OpenCommand) → (w.actors a).command ≡ Some c → length (history_in w) ≤ length past
+        → HasPulled s.servers c.work (pulled_since past c.of) → HasPulled s.servers c.work (pulled_since (e ∷ past) c.of)
+    no-pull e past none a c at long has =
+        let low = of-within a c at in
+        subst (HasPulled s.servers c.work) (sym (pulled-same e past c.of none (omega (arith, low, long)))) has
+
+    pub one-more : (e : Event) → history_in now ≡ e ∷ history_in w → pull_in e ≡ None → (a : ℕ) (c : OpenCommand) → (w.actors a).command ≡ Some c → HasPulled s.servers c.work (pulled_since (history_in now) c.of)
+    one-more e is none a c at =
+        subst (λ x. HasPulled s.servers c.work (pulled_since x c.of)) (sym is) (no-pull e (history_in w) none a c at (omega arith) (b.pulled a c at))
+
+    same-pulls : history_in now ≡ history_in w → (a : ℕ) (c : OpenCommand) → (w.actors a).command ≡ Some c → HasPulled s.servers c.work (pulled_since (history_in now) c.of)
+    same-pulls is a c at = subst (λ x. HasPulled s.servers c.work (pulled_since x c.of)) (sym is) (b.pulled a c at)
+
+    pulls-further : (f : GoesFurther (w.actors n).command (now.actors n).command) → ((a : ℕ) (c : OpenCommand) → (w.actors a).command ≡ Some c → HasPulled s.servers c.work (pulled_since (history_in now) c.of)) → OwnPulls
+    pulls-further f pulls = record {
+      pulled = λ c at. plain-pulled s.servers c.work (pulled_since (history_in now) c.of) (ap is_plain (doing-is (now.actors n).command c f.of f.work_now at f.is).1 ∙ f.plain_now);
+      pulled_others = λ a c differs at. pulls a c at;
+    }
+
+    pulls-nothing : TellsNothing n w now → OwnPulls
+    pulls-nothing t = elim t.stays [
+      | inl same ↦ record { pulled = λ c at. same-pulls t.history n c (sym same ∙ at); pulled_others = λ a c differs at. same-pulls t.history a c at }
+      | inr f ↦ pulls-further f (same-pulls t.history)
+    ]
+
+    pulls-page : TellsPage n w now → OwnPulls
+    pulls-page t = record {
+      pulled = λ c at. subst (λ x. HasPulled s.servers x (pulled_since (history_in now) c.of)) (sym (doing-is (now.actors n).command c t.of t.work_now at t.is).1)
+          (shown-pulled s.servers t.work t.work_now (pulled_since (history_in now) c.of) t.once);
+      pulled_others = λ a c differs at. one-more (event.Shown t.of t.page) t.history refl a c at;
+    }
+
+    -- while the actor pulls nobody else is at a sync or a settle
+    pull-alone : TellsPull s n w now → (a : ℕ) (c : OpenCommand) → a ≢ n → (w.actors a).command ≡ Some c → ((server : ℕ) (did : Bool) → c.work ≡ work_is.Sync server did → ⊥) × (is_closing_work c.work ≡ true → ⊥)
+    pull-alone t a c differs at = (
+      (λ server did work. elim (pull-kinds s.servers t.server t.work t.due) [
+        | inl (x, own_did, own) ↦ differs (sync-owner a c server did at work ∙ sym (sync-owner n (record { of = t.of; work = t.work }) x own_did t.was own))
+        | inr closing ↦ none-some (w.actors a).command c (alone-parts s w (rest_of p (history_in w)) n a (r.closing n (record { of = t.of; work = t.work }) t.was closing) (within-of s w g i a c at) differs).0.command at
+      ]),
+      (λ closing. none-some (w.actors n).command (record { of = t.of; work = t.work })
+          (alone-parts s w (rest_of p (history_in w)) a n (r.closing a c at closing) turn.within (λ e. differs (sym e))).0.command t.was),
+    )
+
+    pulled-if : (servers : ℕ) (work : Work) (pulled : List ℕ) → ((server : ℕ) (did : Bool) → work ≡ work_is.Sync server did → ⊥) → (is_closing_work work ≡ true → ⊥) → HasPulled servers work pulled
+    pulled-if servers (work_is.Sync server did) pulled sync closing = absurd (sync server did refl)
+    pulled-if servers (work_is.Settle pulls) pulled sync closing = absurd (closing refl)
+    pulled-if servers (work_is.Insert row routed) pulled sync closing = tt
+    pulled-if servers work_is.Query pulled sync closing = tt
+    pulled-if servers work_is.Barrier pulled sync closing = tt
+    pulled-if servers (work_is.Split shard) pulled sync closing = tt
+    pulled-if servers (work_is.Move shard worker) pulled sync closing = tt
+    pulled-if servers (work_is.Balance b) pulled sync closing = tt
+    pulled-if servers (work_is.Shards shown) pulled sync closing = tt
+    pulled-if servers (work_is.Tree shard stands shown) pulled sync closing = tt
+    pulled-if servers (work_is.Audit shown) pulled sync closing = tt
+
+    pulls-pull : TellsPull s n w now → OwnPulls
+    pulls-pull t = record {
+      pulled = λ c at.
+          let is = doing-is (now.actors n).command c t.of (pulled_once t.work) at t.is in
+          let old : OpenCommand = record { of = t.of; work = t.work } in
+          let more : pulled_since (history_in now) t.of ≡ pulled_since (history_in w) t.of ++ t.server ∷ [] = ap (λ x. pulled_since x t.of) t.history ∙ pulled-more t.server t.listing (history_in w) t.of (of-within n old t.was) in
+          let has : HasPulled s.servers (pulled_once t.work) (pulled_since (history_in now) t.of) = subst (HasPulled s.servers (pulled_once t.work)) (sym more) (pull-next s.servers t.server t.work (pulled_since (history_in w) t.of) t.due (b.pulled n old t.was)) in
+          subst (λ x. HasPulled s.servers x (pulled_since (history_in now) c.of)) (sym is.1) (subst (λ x. HasPulled s.servers (pulled_once t.work) (pulled_since (history_in now) x)) (sym is.0) has);
+      pulled_others = λ a c differs at. let alone = pull-alone t a c differs at in pulled-if s.servers c.work (pulled_since (history_in now) c.of) alone.0 alone.1;
+    }
+
+    pulls-end : TellsEnd s turn.made n w now → OwnPulls
+    pulls-end t = record {
+      pulled = λ c at. none-some (now.actors n).command c t.command at;
+      pulled_others = λ a c differs at. subst (λ x. HasPulled s.servers c.work (pulled_since x c.of)) (sym t.history)
+          (elim t.are_deeds [
+            | inl none ↦ subst (λ ds. HasPulled s.servers c.work (pulled_since (t.end_is ∷ ds ++ history_in w) c.of)) (sym none)
+                (no-pull t.end_is (history_in w) (end-pulls-none t.end_is t.of t.ends.0) a c at (omega arith) (b.pulled a c at))
+            | inr (deed, is, that) ↦ subst (λ ds. HasPulled s.servers c.work (pulled_since (t.end_is ∷ ds ++ history_in w) c.of)) (sym is)
+                (no-pull t.end_is (deed ∷ history_in w) (end-pulls-none t.end_is t.of t.ends.0) a c at (omega arith)
+                (no-pull deed (history_in w) (deed-pulls deed that) a c at (omega arith) (b.pulled a c at)))
+          ]);
+    }
+
+    -- all of it again
+    pub behind-by : (next_now : ℕ → ℕ) → OwnPulls → IsInPhase p.with s.hierarchy (done ++ p.commands) (length done) (history_in now) (behind done next_now) (opened_in now)
+        → (in_order ≡ true → IsInOrder p.with s.hierarchy (done ++ p.commands) (history_in now)) → RunsBehind in_order s p done now next_now
+    behind-by next_now pulls phase ordered = record {
+      through = b.through;
+      in_phase = phase;
+      pulled = λ a c at. elim (same-or-not a n) [
+        | inl is ↦ pulls.pulled c (ap (λ x. (now.actors x).command) (sym is) ∙ at)
+        | inr differs ↦ pulls.pulled_others a c differs (was-at a c differs at)
+      ];
+      ordered = ordered;
+    }
+
+    -- the history goes on without a beginning
+    record GoesQuietly : Type 0 where
+      phase : IsInPhase p.with s.hierarchy (done ++ p.commands) (length done) (history_in now) (behind done next) (opened_in now)
+      order : IsInOrder p.with s.hierarchy (done ++ p.commands) (history_in w) → IsInOrder p.with s.hierarchy (done ++ p.commands) (history_in now)
+
+    opened-all : opened_in now n ≡ opened_in w n → (t : ℕ) → opened_in now t ≡ opened_in w t
+    opened-all own t = elim (same-or-not t n) [
+      | inl is ↦ ap (opened_in now) is ∙ own ∙ ap (opened_in w) (sym is)
+      | inr differs ↦ opened-other t differs
+    ]
+
+    quiet-still : history_in now ≡ history_in w → opened_in now n ≡ opened_in w n → GoesQuietly
+    quiet-still is own = record {
+      phase = subst (λ x. IsInPhase p.with s.hierarchy (done ++ p.commands) (length done) x (behind done next) (opened_in now)) (sym is) (record {
+        part = b.in_phase.part;
+        streams = record {
+          counts = b.in_phase.streams.counts;
+          begun = λ k c at low.
+              let found = b.in_phase.streams.begun k c at low in
+              (found.0, found.1, elim found.2 [ inl over ↦ inl over | inr opened ↦ inr (opened-all own (session_of p.with c) ∙ opened) ]);
+        };
+        past = b.in_phase.past;
+      });
+      order = λ order. subst (λ x. IsInOrder p.with s.hierarchy (done ++ p.commands) x) (sym is) order;
+    }
+
+    quiet-one : (e : Event) → history_in now ≡ e ∷ history_in w → session_in e ≡ None → HasPulls p.with (history_in w) e
+        → ((t q : ℕ) → opened_in w t ≡ Some q → IsTrue (is_over (e ∷ history_in w) q) ⊎ (opened_in now t ≡ Some q)) → GoesQuietly
+    quiet-one e is none right ends = record {
+      phase = subst (λ x. IsInPhase p.with s.hierarchy (done ++ p.commands) (length done) x (behind done next) (opened_in now)) (sym is)
+          (phase_other_law p.with s.hierarchy (done ++ p.commands) (length done) e (history_in w) (behind done next) (opened_in w) (opened_in now) b.in_phase none right ends);
+      order = λ order. subst (λ x. IsInOrder p.with s.hierarchy (done ++ p.commands) x) (sym is) (order-other-law p.with s.hierarchy (done ++ p.commands) e (history_in w) none right order);
+    }
+
+    quiet-two : (e d : Event) → history_in now ≡ e ∷ d ∷ history_in w → session_in e ≡ None → session_in d ≡ None → HasPulls p.with (history_in w) d → HasPulls p.with (d ∷ history_in w) e
+        → ((t q : ℕ) → opened_in w t ≡ Some q → IsTrue (is_over (e ∷ d ∷ history_in w) q) ⊎ (opened_in now t ≡ Some q)) → GoesQuietly
+    quiet-two e d is none_e none_d right_d right_e ends = record {
+      phase = subst (λ x. IsInPhase p.with s.hierarchy (done ++ p.commands) (length done) x (behind done next) (opened_in now)) (sym is)
+          (phase_other_law p.with s.hierarchy (done ++ p.commands) (length done) e (d ∷ history_in w) (behind done next) (opened_in w) (opened_in now)
+          (phase_other_law p.with s.hierarchy (done ++ p.commands) (length done) d (history_in w) (behind done next) (opened_in w) (opened_in w) b.in_phase none_d right_d (λ t q at. inr at)) none_e right_e ends);
+      order = λ order. subst (λ x. IsInOrder p.with s.hierarchy (done ++ p.commands) x) (sym is)
+          (order-other-law p.with s.hierarchy (done ++ p.commands) e (d ∷ history_in w) none_e right_e (order-other-law p.with s.hierarchy (done ++ p.commands) d (history_in w) none_d right_d order));
+    }
+
+    -- an actor's command stays open
+    stays-open : (of : ℕ) (work work_now : Work) → (w.actors n).command ≡ doing of work → (now.actors n).command ≡ doing of work_now → opened_in now n ≡ opened_in w n
+    stays-open of work work_now was is = ap (option_map (λ (c : OpenCommand). c.of)) is ∙ sym (ap (option_map (λ (c : OpenCommand). c.of)) was)
+
+    quiet-nothing : TellsNothing n w now → GoesQuietly
+    quiet-nothing t = elim t.stays [
+      | inl same ↦ quiet-still t.history (ap (option_map (λ (c : OpenCommand). c.of)) same)
+      | inr f ↦ quiet-still t.history (stays-open f.of f.work f.work_now f.was f.is)
+    ]
+
+    quiet-deed : TellsDeed n w now → GoesQuietly
+    quiet-deed t = quiet-one t.deed t.history (deed-session t.deed t.is_that) (deed-right p.with (history_in w) t.deed t.is_that)
+        (λ x q at. inr (opened-all (stays-open t.further.of t.further.work t.further.work_now t.further.was t.further.is) x ∙ at))
+
+    quiet-pull : TellsPull s n w now → GoesQuietly
+    quiet-pull t = quiet-one (event.Synced t.server t.listing) t.history refl tt (λ x q at. inr (opened-all (stays-open t.of t.work (pulled_once t.work) t.was t.is) x ∙ at))
+
+    quiet-page : TellsPage n w now → GoesQuietly
+    quiet-page t = quiet-one (event.Shown t.of t.page) t.history refl tt (λ x q at. inr (opened-all (stays-open t.of t.work t.work_now t.was t.is) x ∙ at))
+
+    -- An end.
+    module _ (t : TellsEnd s turn.made n w now) where
+      ended : (past : List Event) (x q : ℕ) → opened_in w x ≡ Some q → IsTrue (is_over (t.end_is ∷ past) q) ⊎ (opened_in now x ≡ Some q)
+      ended past x q at = elim (same-or-not x n) [
+        | inr differs ↦ inr (opened-other x differs ∙ at)
+        | inl is ↦
+            let of_is : t.of ≡ q = same-open (opened_in w n) t.of q (ap (option_map (λ (c : OpenCommand). c.of)) t.was) (ap (opened_in w) (sym is) ∙ at) in
+            inl (over-end t.end_is past q (t.ends.0 ∙ ap Some of_is))
+      ]
+
+      right : (past : List Event) → call_at past t.of ≡ call_at (history_in w) t.of → pulled_since past t.of ≡ pulled_since (history_in w) t.of → HasPulls p.with past t.end_is
+      right past calls pulls = right-if p.with past t.end_is (λ of h is.
+          let of_is : of ≡ t.of = same-open (end_in t.end_is) of t.of (ap end_in is) t.ends.0 in
+          let may : (is_plain t.work ≡ true) ⊎ MayNoteEnd s.servers t.work (w.actors n).job h = elim t.ends.1 [
+            | inl plain ↦ inl plain
+            | inr (how, as_is, may) ↦ inr (subst (MayNoteEnd s.servers t.work (w.actors n).job) (same-how t.end_is of t.of h how is as_is) may)
+          ] in
+          let there = end-right s (history_in w) past t.of (w.actors n).job (w.actors n).role h calls pulls t.work (i.telling.progress n (record { of = t.of; work = t.work }) t.was) (b.pulled n (record { of = t.of; work = t.work }) t.was) may in
+          subst (λ x. HasPulls p.with past (event.Ended x h)) (sym of_is) (subst (λ m. IfSome (call_at past t.of) (λ called. ArePulls m called h (pulled_since past t.of))) (sym r.phase.servers) there))
+        where
+          same-how : (e : Event) (of of_now : ℕ) (h how : How) → e ≡ event.Ended of h → e ≡ event.Ended of_now how → how ≡ h
+          same-how e of of_now h how x y = cc
+
+      quiet-end : GoesQuietly
+      quiet-end = elim t.are_deeds [
+        | inl none ↦ quiet-one t.end_is (t.history ∙ ap (λ ds. t.end_is ∷ ds ++ history_in w) none) (end-session t.end_is t.of t.ends.0) (right (history_in w) refl refl) (ended (history_in w))
+        | inr (deed, is, that) ↦
+            let low = of-within n (record { of = t.of; work = t.work }) t.was in
+            quiet-two t.end_is deed (t.history ∙ ap (λ ds. t.end_is ∷ ds ++ history_in w) is) (end-session t.end_is t.of t.ends.0) (deed-session deed that) (deed-right p.with (history_in w) deed that)
+            (right (deed ∷ history_in w) (ap (option_and_then call_in) (event_at-older deed (history_in w) t.of low)) (pulled-same deed (history_in w) t.of (deed-pulls deed that) low))
+            (ended (deed ∷ history_in w))
+      ]
+
+    other-behind : ((e : Event) → history_in now ≡ e ∷ history_in w → session_in e ≡ None) → Told s turn.made n w now → RunsBehind in_order s p done now next
+    other-behind none told = by told
+      where
+        kept : OwnPulls → GoesQuietly → RunsBehind in_order s p done now next
+        kept pulls quiet = behind-by next pulls quiet.phase (λ order. quiet.order (b.ordered order))
+
+        by : Told s turn.made n w now → RunsBehind in_order s p done now next
+        by (OfNothing t) = kept (pulls-nothing t) (quiet-nothing t)
+        by (OfDeed t) = kept (pulls-further t.further (one-more t.deed t.history (deed-pulls t.deed t.is_that))) (quiet-deed t)
+        by (OfPull t) = kept (pulls-pull t) (quiet-pull t)
+        by (OfPage t) = kept (pulls-page t) (quiet-page t)
+        by (OfEnd t) = kept (pulls-end t) (quiet-end t)
+        by (OfBeginning t) = absurd (clash (session_in t.begins) n (none t.begins t.history) t.session)
 
 pub keeps-other-law : KeepsOtherLaw
-keeps-other-law in_order s p done w now g g_now next n i i_now turn none counted r =
-    keeps-other in_order s p done w now g g_now next n i i_now turn r none counted (told-law s turn.made n w now g g_now i i_now turn.step)
+keeps-other-law in_order s p w now g g_now next n i i_now turn none counted r =
+    let told = told-law s turn.made n w now g g_now i i_now turn.step in (
+      keeps-other in_order s p w now g g_now next n i i_now turn r none counted told,
+      λ done b. other-behind in_order s p w now g g_now next n i i_now turn r done b none told,
+    )

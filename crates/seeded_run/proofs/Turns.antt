@@ -1,5 +1,5 @@
 -- What an actor's step is as a turn of a phase, and what holds behind it.
-use Rattle.std.proofs.Common.{◌≡◌, ◌≢◌, ◌∙◌, ◌+◌, ◌-◌, ◌<◌, ◌≤◌, ◌⊎◌, inl, inr, ℕ, suc, Bool, true, false, List, [], ◌∷◌, ◌++◌, length, take, get_or, Option, Some, None, is_some, is_none, refl, sym, ap, subst, arith, eqb-true, ◌==◌}
+use Rattle.std.proofs.Common.{◌≡◌, ◌≢◌, ◌∙◌, ◌-◌, ◌<◌, ◌≤◌, ◌⊎◌, inl, inr, ℕ, suc, Bool, true, false, List, [], ◌∷◌, length, get_or, Option, Some, None, is_some, is_none, refl, sym, ap, subst, arith, eqb-true, ◌==◌}
 use Rattle.std.specs.Prelude.{slice_get}
 use Rattle.std.specs.Option.{option_map_or}
 use Rattle.row_ledger.specs.Past.{session_in}
@@ -11,9 +11,7 @@ use Rattle.dim_hierarchy.specs.Dimension.{Dimension}
 use Rattle.script_form.specs.declared.script.Command.{Command}
 use Rattle.script_form.specs.declared.script.Command.TheVariants as script
 use Rattle.script_run.specs.Runs.{Begins}
-use Rattle.script_run.specs.Places.{begins_of, count_of, session_of}
-use Rattle.script_run.proofs.PlaceFacts.{count_of-append}
-use Rattle.script_run.proofs.Between.{get-behind, take-behind}
+use Rattle.script_run.specs.Places.{begins_of, session_of}
 use Rattle.volap_cell.specs.Setting.{Setting, actor_count}
 use Rattle.volap_cell.specs.State.{IsWorldOf, Stepped}
 use Rattle.volap_cell.specs.Values.{ActorValue, actor_of}
@@ -32,11 +30,11 @@ use Rattle.seeded_run.specs.Core.{IsCore, IsDue, IsDueAt}
 use Rattle.seeded_run.specs.Due.{does_nothing, due}
 use Rattle.seeded_run.specs.Kept.{IsTurn, MovesOn}
 use Rattle.seeded_run.specs.Instead.{StandsFor}
-use Rattle.seeded_run.specs.Machine.{AloneInOrder, HasLeftOver, HasMovedOn, HasTurned, IsDueNow, IsPhaseHeld, IsPhaseKept, RestsAsIs, about_in, cursor, next_at, phase_of, world_of}
+use Rattle.seeded_run.specs.Machine.{AloneInOrder, HasLeftOver, HasMovedOn, HasTurned, IsDueNow, IsPhaseHeld, IsPhaseKept, RestsAsIs, about_in, next_at, phase_of, world_of}
 use Rattle.seeded_run.specs.Measure.{BeginInTurn}
 use Rattle.seeded_run.specs.Phase.{most_actors}
 use Rattle.seeded_run.specs.Rests.{PhaseRun, first_open, rest_of}
-use Rattle.seeded_run.specs.Running.{IsRunning}
+use Rattle.seeded_run.specs.Running.{IsRunning, RunsBehind}
 use Rattle.seeded_run.specs.Arms.{TellsIfNote}
 use Rattle.seeded_run.specs.Steps.{HasCommand, begins_by, begins_of_one, is_for_part}
 use Rattle.seeded_run.specs.Works.{command_by, command_of_one}
@@ -46,7 +44,7 @@ use Rattle.seeded_run.specs.Worlds.{setting_in, world_in}
 use Rattle.seeded_run.proofs.Begins.{keeps-beginning-law, quiet-law}
 use Rattle.seeded_run.proofs.Counted.{counted-law}
 use Rattle.seeded_run.proofs.Fallbacks.{still-is}
-use Rattle.seeded_run.proofs.Held.{at-next, rest-some}
+use Rattle.seeded_run.proofs.Held.{rest-some}
 use Rattle.seeded_run.proofs.Keeps.{keeps-other-law}
 use Rattle.seeded_run.proofs.LeftAlone.{apart, both-parts, same-or-not}
 use Rattle.seeded_run.proofs.Measure.{fewer-law}
@@ -173,13 +171,13 @@ module _ (m : Running) (kept : IsPhaseKept m) (n : ℕ) (due_kind : Kind) (now_d
   to-begin c at within begins =
       let a = stands (get_or m.state.actors.items n None) (λ x. actor_of x ≡ w.actors n) (kept.core.is.actor n within) in
       let both = both-parts (is_none (actor_of a.0).command) (may_begin due_kind) (sym (ap (λ o. begins_of_one o due_kind) a.1) ∙ begins) in
-      let may = kept.may_run (length m.done.now + next_at m n) c (get-behind m.done.now m.phase.now (next_at m n) ∙ at) in
+      let may = kept.may_run (next_at m n) c at in
       record {
         within = within;
         kind_is = due_kind;
         begins = both.1;
         next = is-next c at;
-        own = kept.is_running.own n c (ap (slice_get m.phase.now) (at-next m kept n) ∙ at);
+        own = kept.is_running.own n c at;
         free = is-some (get_or m.state.actors.items n None) (λ x. (actor_of x).command ≡ None) a.0 a.1 (none-is (actor_of a.0).command both.0);
         names = may.names;
         allowed = may.allowed;
@@ -191,19 +189,14 @@ module _ (m : Running) (kept : IsPhaseKept m) (n : ℕ) (due_kind : Kind) (now_d
 
   -- no command has begun that hadn't as the phase began
   begun-before : (session : ℕ) → length (begins_of p.before session) ≤ length (begins_of (history_in w) session)
-  begun-before session =
-      let r = kept.is_running in
-      let taken = take-behind m.done.now m.phase.now (cursor m session) (r.cursors.past session) in
-      let counts = r.cursors.streams.counts session in
-      let all : count_of m.with session (m.done.now ++ take taken.0 m.phase.now) ≡ length (begins_of (history_in w) session) = ap (count_of m.with session) (sym taken.2) ∙ counts in
-      omega (arith, r.cursors.through session, all, count_of-append m.with session m.done.now (take taken.0 m.phase.now))
+  begun-before session = omega (arith, kept.is_running.cursors.counts session)
 
   -- Where the commands go in order it is the actor's turn, and everyone else does nothing.
   alone-before : AloneInOrder m n
   alone-before order a differs =
       let is : can_step true s p w n ≡ true = ap (λ b. can_step b s p w n) (sym order) ∙ now_due.can in
       let first = first-is (first_open p (history_in w)) n (both-parts (option_map_or (λ first. first == n) (first_open p (history_in w)) false) (can s p w n) is).0 in
-      (kept.is_running.ordered order).idle a (some-apart (first_open p (history_in w)) n a first (λ same. differs (sym same)))
+      kept.is_running.idle order a (some-apart (first_open p (history_in w)) n a first (λ same. differs (sym same)))
 
   -- A step that begins nothing.
   module _ (state_now : State) (k : Kind) (stepped : Stepped m.h.now k n m.state.cells.items m.state.actors.items state_now.cells.items state_now.actors.items)
@@ -249,13 +242,13 @@ module _ (m : Running) (kept : IsPhaseKept m) (n : ℕ) (due_kind : Kind) (now_d
       none-begins : {X : Type 0} (o : Option ℕ) (a : ℕ) → o ≡ None → o ≡ Some a → X
       none-begins o a x y = cc
 
-      running-now : IsRunning m.in_order s p m.done.now world_now (cursor m)
-      running-now = keeps-other-law m.in_order s p m.done.now w world_now kept.core.inv.ghost_of core-now.inv.ghost_of (cursor m) n kept.core.inv.holds core-now.inv.holds turn quiet counted kept.is_running
+      running-now : IsRunning m.in_order s p world_now (next_at m) × ((done : List Command) → RunsBehind m.in_order s p done w (next_at m) → RunsBehind m.in_order s p done world_now (next_at m))
+      running-now = keeps-other-law m.in_order s p w world_now kept.core.inv.ghost_of core-now.inv.ghost_of (next_at m) n kept.core.inv.holds core-now.inv.holds turn quiet counted kept.is_running
 
       pub has-gone-on : HasTurned m n (record m { state = state_now })
       has-gone-on = record {
         turn = record {
-          same = record { h = refl; with = refl; done = refl; phase = refl; in_order = refl; before = refl; count = refl };
+          same = record { h = refl; with = refl; phase = refl; in_order = refl; before = refl; count = refl };
           about = same-about;
           is = core-now.is;
           turn = record { turn = turn; inv = core-now.inv };
@@ -263,7 +256,8 @@ module _ (m : Running) (kept : IsPhaseKept m) (n : ℕ) (due_kind : Kind) (now_d
         kept = record {
           core = subst (λ (z : Setting). IsCore m.h.now m.with state_now.cells.items state_now.actors.items z world_now) (sym same-about) core-now;
           may_run = kept.may_run;
-          is_running = subst (λ (z : Setting). IsRunning m.in_order z p m.done.now world_now (cursor m)) (sym same-about) running-now;
+          is_running = subst (λ (z : Setting). IsRunning m.in_order z p world_now (next_at m)) (sym same-about) running-now.0;
+          behind = λ done through. subst (λ (z : Setting). RunsBehind m.in_order z p done world_now (next_at m)) (sym same-about) (running-now.1 done (kept.behind done through));
           count = kept.count ∙ sym stepped.actors_kept;
           few = kept.few;
           within = kept.within;
@@ -305,7 +299,7 @@ module _ (m : Running) (kept : IsPhaseKept m) (n : ℕ) (due_kind : Kind) (now_d
       grown = begun w world_now kept.core.is core-now.is
 
       own : session_of m.with c ≡ n
-      own = kept.is_running.own n c (ap (slice_get m.phase.now) (at-next m kept n) ∙ at)
+      own = kept.is_running.own n c at
 
       session : session_in grown.event ≡ Some n
       session = begins-session m.with m.h.now c grown.event grown.begins ∙ ap Some own
@@ -337,28 +331,18 @@ module _ (m : Running) (kept : IsPhaseKept m) (n : ℕ) (due_kind : Kind) (now_d
           not-empty : (x : Command) (xs : List Command) → x ∷ xs ≡ [] → ⊥
           not-empty x xs e = cc
 
-      abbrev next_now : ℕ → ℕ
-      next_now a = length m.done.now + next_at mid a
-
-      moves : MovesOn p m.done.now n (next_at m n) (cursor m) next_now
-      moves = record {
-        further = let far = moved.further in omega arith;
-        none = λ i d here low high. moved.none i d here low (omega (arith, high));
-        others = λ t differs. ap (λ k. length m.done.now + k) (moved.others t differs);
-        own = own-now;
-      }
+      moves : MovesOn p n (next_at m) (next_at mid)
+      moves = record { further = moved.further; none = moved.none; others = moved.others; own = own-now }
         where
-          own-now : (t : ℕ) (d : Command) → slice_get m.phase.now (next_now t - length m.done.now) ≡ Some d → session_of m.with d ≡ t
-          own-now t d here =
-              let far : next_now t - length m.done.now ≡ next_at mid t = omega arith in
-              elim (same-or-not t n) [
-                | inl is ↦ moved.own d (ap (λ a. slice_get m.phase.now (next_at mid a)) (sym is) ∙ ap (slice_get m.phase.now) (sym far) ∙ here) ∙ sym is
-                | inr differs ↦ kept.is_running.own t d (ap (slice_get m.phase.now) (at-next m kept t ∙ sym (moved.others t differs) ∙ sym far) ∙ here)
-              ]
+          own-now : (t : ℕ) (d : Command) → slice_get m.phase.now (next_at mid t) ≡ Some d → session_of m.with d ≡ t
+          own-now t d here = elim (same-or-not t n) [
+            | inl is ↦ moved.own d (ap (λ a. slice_get m.phase.now (next_at mid a)) (sym is) ∙ here) ∙ sym is
+            | inr differs ↦ kept.is_running.own t d (ap (slice_get m.phase.now) (sym (moved.others t differs)) ∙ here)
+          ]
 
-      running-begun : IsRunning m.in_order s p m.done.now world_now next_now
-      running-begun = keeps-beginning-law m.in_order s p m.done.now w world_now kept.core.inv.ghost_of core-now.inv.ghost_of (cursor m) next_now n (next_at m n) c grown.event
-          kept.core.inv.holds core-now.inv.holds turn at refl grown.grows session grown.begins moves kept.is_running
+      running-begun : IsRunning m.in_order s p world_now (next_at mid) × ((done : List Command) → RunsBehind m.in_order s p done w (next_at m) → RunsBehind m.in_order s p done world_now (next_at mid))
+      running-begun = keeps-beginning-law m.in_order s p w world_now kept.core.inv.ghost_of core-now.inv.ghost_of (next_at m) (next_at mid) n c grown.event
+          kept.core.inv.holds core-now.inv.holds turn at grown.grows session grown.begins moves kept.is_running
 
       within-now : (t : ℕ) → next_at mid t ≤ length m.phase.now
       within-now t = elim (same-or-not t n) [
@@ -377,7 +361,7 @@ module _ (m : Running) (kept : IsPhaseKept m) (n : ℕ) (due_kind : Kind) (now_d
       turned-mid : HasTurned m n mid
       turned-mid = record {
         turn = record {
-          same = record { h = refl; with = refl; done = refl; phase = refl; in_order = refl; before = refl; count = moved.count };
+          same = record { h = refl; with = refl; phase = refl; in_order = refl; before = refl; count = moved.count };
           about = same-about;
           is = core-now.is;
           turn = record { turn = turn; inv = core-now.inv };
@@ -385,7 +369,8 @@ module _ (m : Running) (kept : IsPhaseKept m) (n : ℕ) (due_kind : Kind) (now_d
         kept = record {
           core = subst (λ (z : Setting). IsCore m.h.now m.with state_now.cells.items state_now.actors.items z world_now) (sym same-about) core-now;
           may_run = kept.may_run;
-          is_running = subst (λ (z : Setting). IsRunning m.in_order z p m.done.now world_now next_now) (sym same-about) running-begun;
+          is_running = subst (λ (z : Setting). IsRunning m.in_order z p world_now (next_at mid)) (sym same-about) running-begun.0;
+          behind = λ done through. subst (λ (z : Setting). RunsBehind m.in_order z p done world_now (next_at mid)) (sym same-about) (running-begun.1 done (kept.behind done through));
           count = moved.count ∙ kept.count ∙ sym stepped.actors_kept;
           few = subst (λ k. k < most_actors) (sym moved.count) kept.few;
           within = within-now;
@@ -415,8 +400,10 @@ rests-held m held state_now stays =
           core = subst (λ (x : World). IsCore m.h.now m.with state_now.cells.items state_now.actors.items (setting_in m.h.now m.with state_now.actors.items) x) world
               (subst (λ (z : Setting). IsCore m.h.now m.with state_now.cells.items state_now.actors.items z w) about core);
           may_run = kept.may_run;
-          is_running = subst (λ (x : World). IsRunning m.in_order (setting_in m.h.now m.with state_now.actors.items) (phase_of m) m.done.now x (cursor m)) world
-              (subst (λ (z : Setting). IsRunning m.in_order z (phase_of m) m.done.now w (cursor m)) about kept.is_running);
+          is_running = subst (λ (x : World). IsRunning m.in_order (setting_in m.h.now m.with state_now.actors.items) (phase_of m) x (next_at m)) world
+              (subst (λ (z : Setting). IsRunning m.in_order z (phase_of m) w (next_at m)) about kept.is_running);
+          behind = λ done through. subst (λ (x : World). RunsBehind m.in_order (setting_in m.h.now m.with state_now.actors.items) (phase_of m) done x (next_at m)) world
+              (subst (λ (z : Setting). RunsBehind m.in_order z (phase_of m) done w (next_at m)) about (kept.behind done through));
           count = kept.count ∙ sym stays.actors_kept;
           few = kept.few;
           within = kept.within;
@@ -425,5 +412,5 @@ rests-held m held state_now stays =
         };
         first = λ order. ap (λ (x : World). first_open (phase_of m) (history_in x)) (sym world) ∙ first order;
       },
-      record { same = record { h = refl; with = refl; done = refl; phase = refl; in_order = refl; before = refl; count = refl }; state = stays; about = sym about; world = sym world },
+      record { same = record { h = refl; with = refl; phase = refl; in_order = refl; before = refl; count = refl }; state = stays; about = sym about; world = sym world },
     )

@@ -12,7 +12,6 @@ use Rattle.seeded_turns.proofs.Keeping.{run_keeps, run_map}
 use Rattle.dim_hierarchy.specs.Dimension.{Dimension}
 use Rattle.row_ledger.specs.declared.settings.Call.TheVariants as call
 use Rattle.script_form.specs.declared.script.Command.TheVariants as script
-use Rattle.script_run.specs.Between.{AreFirst}
 use Rattle.volap_cell.specs.Falls.{left}
 use Rattle.volap_cell.specs.declared.actor.Actor.{Actor}
 use Rattle.volap_cell.specs.declared.cell.Cell.{Cell}
@@ -24,10 +23,10 @@ use Rattle.volap_cell.specs.Steps.{history_in}
 use Rattle.volap_cell.specs.World.{World}
 use Rattle.seeded_run.specs.Can.{able_in, can_step}
 use Rattle.seeded_run.specs.Core.{HasCore, IsCore}
-use Rattle.seeded_run.specs.Kept.{IsBetween, IsStopped}
-use Rattle.seeded_run.specs.Machine.{AloneInOrder, HasComeToRest, HasLeftOver, HasRunTo, HasStoppedAt, IsFirstMoment, IsPhaseHeld, IsPhaseKept, IsSamePhase, RestsAsIs, TakesTurn, about_in, can_in, cursor, most_steps, next_at, nothing, phase_of, world_of}
+use Rattle.seeded_run.specs.Kept.{AreAtFirst, AreIdle, HasBegunAll, IsBetween, IsStopped}
+use Rattle.seeded_run.specs.Machine.{AloneInOrder, HasComeToRest, WereThrough, HasEndedBehindAny, HasLeftOver, HasRunTo, HasStoppedAt, HasStoppedBehindAny, IsFirstMoment, IsPhaseHeld, IsPhaseKept, IsSamePhase, RestsAsIs, RunsBehindAny, TakesTurn, about_in, can_in, most_steps, next_at, nothing, phase_of, world_of}
 use Rattle.seeded_run.specs.Measure.{limits_of}
-use Rattle.seeded_run.specs.Phase.{IsKeptTurn, MayRun, about, held, most_actors, phase_from}
+use Rattle.seeded_run.specs.Phase.{IsKeptTurn, MayAllRun, MayRun, about, held, most_actors, phase_from}
 use Rattle.seeded_run.specs.Order.{is_order}
 use Rattle.seeded_run.specs.Progress.{IsPhaseOf}
 use Rattle.seeded_run.specs.Ranks.{IsWithin, commands_waiting, with_waiting}
@@ -38,7 +37,7 @@ use Rattle.seeded_run.specs.declared.machine.Running.{Running}
 use Rattle.seeded_run.proofs.Held.{some-within}
 use Rattle.seeded_run.proofs.LeftAlone.{does-nothing}
 use Rattle.seeded_run.proofs.Limits.{limits-law}
-use Rattle.seeded_run.proofs.PhaseRuns.{phase-begins-law, phase-ends-law, stops-law}
+use Rattle.seeded_run.proofs.PhaseRuns.{behind-begins-law, behind-ends-law, phase-begins-law, phase-ends-law, stops-law}
 use Rattle.seeded_run.proofs.Ranks.{rank-falls}
 use Rattle.seeded_run.proofs.Worlds.{one-setting, only-world}
 
@@ -72,12 +71,13 @@ session-low h with (script.Control call.Shards) may = omega arith
 session-low h with (script.Control (call.Tree shard)) may = omega arith
 session-low h with (script.Control call.Audit) may = omega arith
 
+-- where all of some commands may run, those behind the first ones may
+pub may-behind : (h : List Dimension) (with : Use) (done phase : List Command) → MayAllRun h with (done ++ phase) → MayAllRun h with phase
+may-behind h with done phase all i c at = all (length done + i) c (get-behind done phase i ∙ at)
+
 module _ (m : Running) (first : IsFirstMoment m) where
   core : IsCore m.h.now m.with m.state.cells.items m.state.actors.items (about_in m) (world_of m)
   core = here-core m.h.now m.with m.state.cells.items m.state.actors.items first.core
-
-  may : (k : ℕ) (c : Command) → slice_get m.phase.now k ≡ Some c → MayRun m.h.now m.with c
-  may k c at = first.may_run (length m.done.now + k) c (get-behind m.done.now m.phase.now k ∙ at)
 
   enough : m.with.servers + 2 ≤ length m.state.actors.items
   enough = omega (arith, core.count, slice_get_within (about_in m).roles (m.with.servers + 1) _ core.roles.admin)
@@ -88,8 +88,8 @@ module _ (m : Running) (first : IsFirstMoment m) where
   phase-is : IsPhaseOf (about_in m) (phase_of m)
   phase-is = record {
     servers = refl;
-    sessions = λ i c at. session-low m.h.now m.with c (may i c at);
-    asked = λ i q at. (may i (script.Query q) at).allowed.0;
+    sessions = λ i c at. session-low m.h.now m.with c (first.may_run i c at);
+    asked = λ i q at. (first.may_run i (script.Query q) at).allowed.0;
     last = first.closes;
   }
 
@@ -100,34 +100,35 @@ module _ (m : Running) (first : IsFirstMoment m) where
   none-before : (s k : ℕ) (c : Command) → slice_get m.phase.now k ≡ Some c → k < next_at m s → session_of m.with c ≢ s
   none-before s k c at low = elim (low-or-high s (length m.state.actors.items)) [
     | inl is ↦ (first.next.1 s is).none k c at low
-    | inr high ↦ λ e. absurd (omega (arith, e, high, enough, session-low m.h.now m.with c (may k c at)))
+    | inr high ↦ λ e. absurd (omega (arith, e, high, enough, session-low m.h.now m.with c (first.may_run k c at)))
   ]
 
-  own : (s : ℕ) (c : Command) → slice_get m.phase.now (cursor m s - length m.done.now) ≡ Some c → session_of m.with c ≡ s
-  own s c at =
-      let here : slice_get m.phase.now (next_at m s) ≡ Some c = (let e : cursor m s - length m.done.now ≡ next_at m s = omega arith in ap (slice_get m.phase.now) (sym e) ∙ at) in
-      elim (low-or-high s (length m.state.actors.items)) [
-        | inl is ↦ (first.next.1 s is).own c here
-        | inr high ↦ absurd (omega (arith, some-within m.phase.now (next_at m s) c here, no-stream s high))
-      ]
+  own : (s : ℕ) (c : Command) → slice_get m.phase.now (next_at m s) ≡ Some c → session_of m.with c ≡ s
+  own s c at = elim (low-or-high s (length m.state.actors.items)) [
+    | inl is ↦ (first.next.1 s is).own c at
+    | inr high ↦ absurd (omega (arith, some-within m.phase.now (next_at m s) c at, no-stream s high))
+  ]
 
-  are-first : AreFirst m.with (m.done.now ++ m.phase.now) (length m.done.now) (cursor m)
-  are-first s = (
-    omega arith,
-    λ i c at high low.
-        (let k : i ≡ length m.done.now + (i - length m.done.now) = omega arith in
-        none-before s (i - length m.done.now) c (sym (get-behind m.done.now m.phase.now (i - length m.done.now)) ∙ ap (slice_get (m.done.now ++ m.phase.now)) (sym k) ∙ at) (omega (arith, low, high))),
-  )
+  at-first : AreAtFirst (phase_of m) (next_at m)
+  at-first = record { first = none-before; own = own }
 
-  pub begins-running : IsRunning m.in_order (about_in m) (phase_of m) m.done.now (world_of m) (cursor m)
-  begins-running = phase-begins-law m.in_order (about_in m) (phase_of m) m.done.now (world_of m) (cursor m) core.roles phase-is first.between
-      (ap (λ (x : State). history_in (held m.h.now m.with x)) first.before) (record { first = are-first; own = own })
+  before : (phase_of m).before ≡ history_in (world_of m)
+  before = ap (λ (x : State). history_in (held m.h.now m.with x)) first.before
+
+  begins-behind : RunsBehindAny m
+  begins-behind done through =
+      behind-begins-law m.in_order (about_in m) (phase_of m) done (world_of m) (next_at m)
+      (subst (λ (x : State). IsBetween m.in_order (about m.h.now m.with x) m.with done (held m.h.now m.with x)) first.before through) before at-first
+
+  begins-running : IsRunning m.in_order (about_in m) (phase_of m) (world_of m) (next_at m)
+  begins-running = phase-begins-law m.in_order (about_in m) (phase_of m) (world_of m) (next_at m) core.roles phase-is first.idle before at-first
 
   pub begins-kept : IsPhaseKept m
   begins-kept = record {
     core = core;
     may_run = first.may_run;
     is_running = begins-running;
+    behind = begins-behind;
     count = first.next.0;
     few = subst (λ k. k < most_actors) (sym first.next.0) first.few;
     within = λ s. elim (low-or-high s (length m.state.actors.items)) [ inl is ↦ (first.next.1 s is).within | inr high ↦ omega (arith, no-stream s high) ];
@@ -136,7 +137,7 @@ module _ (m : Running) (first : IsFirstMoment m) where
   }
 
   pub begins-alone : AloneInOrder m 0
-  begins-alone order a differs = does-nothing ((world_of m).actors a) (first.between.idle a)
+  begins-alone order a differs = does-nothing ((world_of m).actors a) (first.idle a)
 
 -- At most so many steps are left.
 
@@ -167,7 +168,6 @@ from-then m x y n turn from = record {
   same = record {
     h = turn.same.h ∙ from.same.h;
     with = turn.same.with ∙ from.same.with;
-    done = turn.same.done ∙ from.same.done;
     phase = turn.same.phase ∙ from.same.phase;
     in_order = turn.same.in_order ∙ from.same.in_order;
     before = turn.same.before ∙ from.same.before;
@@ -200,7 +200,7 @@ module _ (m : Running) (kept : IsPhaseKept m) where
       (subst (λ q. IsKeptTurn x.in_order (about_in x) q (world_of x) n (world_of y)) (same-phase m x from.same) turn.turn))
 
   from-start : IsFrom m m
-  from-start = record { same = record { h = refl; with = refl; done = refl; phase = refl; in_order = refl; before = refl; count = refl }; about = refl; is = kept.core.is }
+  from-start = record { same = record { h = refl; with = refl; phase = refl; in_order = refl; before = refl; count = refl }; about = refl; is = kept.core.is }
 
   abbrev able_here : Running → List ℕ
   able_here x = able (can_in x) (length x.next.items)
@@ -221,7 +221,9 @@ pub record WholeRun (m : Running) (schedule : Schedule) (now : Running) (schedul
   pub order : is_order schedule_now ≡ is_order schedule
   pub turns : HasRunTo m schedule now schedule_now
   pub rested : HasComeToRest m schedule now
-  pub between : IsBetween m.in_order (about_in m) m.with (m.done.now ++ m.phase.now) (world_of now)
+  pub idle : AreIdle (world_of now)
+  pub begun : HasBegunAll (phase_of m) (held m.h.now m.with now.state)
+  pub behind : HasEndedBehindAny m now
 
 -- and one that stopped
 pub record PartRun (m : Running) (schedule : Schedule) (now : Running) (schedule_now : Schedule) : Type 0 where
@@ -229,7 +231,7 @@ pub record PartRun (m : Running) (schedule : Schedule) (now : Running) (schedule
   pub about : about_in now ≡ about_in m
   pub order : is_order schedule_now ≡ is_order schedule
   pub stopped : HasStoppedAt m schedule now
-  pub into : IsStopped m.in_order (about_in m) (phase_of m) m.done.now (world_of now)
+  pub behind : HasStoppedBehindAny m now
 
 pub on-both : {A E : Type 0} (r : Result A E) (P Q R : Type 0) → (P → Q → R) → OnOk r P → OnOk r Q → OnOk r R
 on-both (Ok x) P Q R f p q = f p q
@@ -273,7 +275,6 @@ module _ (m : Running) (kept : IsPhaseKept m) (schedule : Schedule) (now : Runni
         same = record {
           h = rests.h ∙ last.same.h;
           with = rests.with ∙ last.same.with;
-          done = rests.done ∙ last.same.done;
           phase = rests.phase ∙ last.same.phase;
           in_order = rests.in_order ∙ last.same.in_order;
           before = rests.before ∙ last.same.before;
@@ -284,13 +285,58 @@ module _ (m : Running) (kept : IsPhaseKept m) (schedule : Schedule) (now : Runni
       }
 
 -- what is so of a phase is so of the one that began
-pub as-before : (F : Bool → Setting → PhaseRun → List Command → Type 0) (m now : Running) → IsSamePhase m now → about_in now ≡ about_in m
-    → F now.in_order (about_in now) (phase_of now) now.done.now → F m.in_order (about_in m) (phase_of m) m.done.now
+pub as-before : (F : Bool → Setting → PhaseRun → Type 0) (m now : Running) → IsSamePhase m now → about_in now ≡ about_in m
+    → F now.in_order (about_in now) (phase_of now) → F m.in_order (about_in m) (phase_of m)
 as-before F m now same about f =
-    subst (λ b. F b (about_in m) (phase_of m) m.done.now) same.in_order
-    (subst (λ s. F now.in_order s (phase_of m) m.done.now) about
-    (subst (λ p. F now.in_order (about_in now) p m.done.now) (same-phase m now same)
-    (subst (λ d. F now.in_order (about_in now) (phase_of now) d.now) same.done f)))
+    subst (λ b. F b (about_in m) (phase_of m)) same.in_order
+    (subst (λ s. F now.in_order s (phase_of m)) about
+    (subst (λ p. F now.in_order (about_in now) p) (same-phase m now same) f))
+
+-- The commands that were through as it began are the same.
+
+record Start : Type 0 where
+  in_order : Bool
+  setting : Setting
+  with : Use
+  world : World
+
+start-of : Running → Start
+start-of m = record { in_order = m.in_order; setting = about m.h.now m.with m.before.value; with = m.with; world = held m.h.now m.with m.before.value }
+
+same-start : (m now : Running) → IsSamePhase m now → start-of now ≡ start-of m
+unfolding start-of
+same-start m now same = (λ i. record {
+  in_order = same.in_order i;
+  setting = about (same.h i).now (same.with i) (same.before i).value;
+  with = same.with i;
+  world = held (same.h i).now (same.with i) (same.before i).value;
+})
+
+done-then : (m now : Running) → IsSamePhase m now → (done : List Command) → WereThrough m done → WereThrough now done
+unfolding start-of
+done-then m now same done through = subst (λ (x : Start). IsBetween x.in_order x.setting x.with done x.world) (sym (same-start m now same)) through
+
+-- what a phase runs behind, told of the state as it began
+
+module _ (m now : Running) (begun : m.before.value ≡ m.state) (same : IsSamePhase m now) (about_same : about_in now ≡ about_in m) (held_now : IsPhaseHeld now) where
+  -- the setting and the state, as they are told of the phase that began
+  told-before : (F : Setting → World → Type 0) → F (about_in m) (world_of now) → F (about m.h.now m.with m.before.value) (held m.h.now m.with now.state)
+  told-before F f =
+      let there : world_of now ≡ held m.h.now m.with now.state = (λ i. held (same.h i).now (same.with i) now.state) in
+      subst (λ (x : State). F (about m.h.now m.with x) (held m.h.now m.with now.state)) (sym begun) (subst (F (about_in m)) there f)
+
+  pub stopped-behind : HasStoppedBehindAny m now
+  stopped-behind done through =
+      told-before (λ s w. IsStopped m.in_order s (phase_of m) done w)
+      (as-before (λ b s p. IsStopped b s p done (world_of now)) m now same about_same
+      (stops-law now.in_order (about_in now) (phase_of now) done (world_of now) (next_at now) (held_now.kept.behind done (done-then m now same done through))))
+
+  pub ended-behind : able_in now.in_order (about_in now) (phase_of now) (world_of now) ≡ [] → HasEndedBehindAny m now
+  ended-behind none done through =
+      told-before (λ s w. IsBetween m.in_order s m.with (done ++ m.phase.now) w)
+      (as-before (λ b s p. IsBetween b s p.with (done ++ p.commands) (world_of now)) m now same about_same
+      (behind-ends-law now.in_order (about_in now) (phase_of now) done (world_of now) held_now.kept.core.inv.ghost_of (next_at now) held_now.kept.core.inv.holds held_now.kept.is_running
+      (held_now.kept.behind done (done-then m now same done through)) none))
 
 module _ (m : Running) (first : IsFirstMoment m) (schedule : Schedule) (order : m.in_order ≡ is_order schedule) (start now : Running) (start_is : start ≡ record m { begun = start.begun; first = start.first })
     (held_start : IsPhaseHeld start) (held_now : IsPhaseHeld now) (schedule_now : Schedule) where
@@ -299,7 +345,6 @@ module _ (m : Running) (first : IsFirstMoment m) (schedule : Schedule) (order : 
     record {
       h = from.same.h ∙ ap (λ (x : Running). x.h) start_is;
       with = from.same.with ∙ ap (λ (x : Running). x.with) start_is;
-      done = from.same.done ∙ ap (λ (x : Running). x.done) start_is;
       phase = from.same.phase ∙ ap (λ (x : Running). x.phase) start_is;
       in_order = from.same.in_order ∙ ap (λ (x : Running). x.in_order) start_is;
       before = from.same.before ∙ ap (λ (x : Running). x.before) start_is;
@@ -327,7 +372,7 @@ module _ (m : Running) (first : IsFirstMoment m) (schedule : Schedule) (order : 
       subst (λ (b : Bool). able_in b (about m.h.now m.with m.before.value) (phase_of m) (held m.h.now m.with now.state) ≡ []) order
       (subst (λ (x : State). able_in m.in_order (about m.h.now m.with x) (phase_of m) (held m.h.now m.with now.state) ≡ []) (sym first.before)
       (subst (λ (v : World). able_in m.in_order (about_in m) (phase_of m) v ≡ []) there
-      (as-before (λ b s p d. able_in b s p (world_of now) ≡ []) m now same about_same none)))
+      (as-before (λ b s p. able_in b s p (world_of now) ≡ []) m now same about_same none)))
 
   -- where nobody can step any more
   pub has-run : Reached start held_start.kept schedule now schedule_now held_now → able_here start held_start.kept now ≡ [] → WholeRun m schedule now schedule_now
@@ -336,14 +381,17 @@ module _ (m : Running) (first : IsFirstMoment m) (schedule : Schedule) (order : 
       let same = same-from from in
       let count : length now.next.items ≡ actor_count (about_in now) = held_now.kept.count ∙ held_now.kept.core.count in
       let none : able_in now.in_order (about_in now) (phase_of now) (world_of now) ≡ [] = ap (able (can_in now)) (sym count) ∙ ended in
+      let there : world_of now ≡ held m.h.now m.with now.state = (λ i. held (same.0.h i).now (same.0.with i) now.state) in
+      let ends = phase-ends-law now.in_order (about_in now) (phase_of now) (world_of now) held_now.kept.core.inv.ghost_of (next_at now) held_now.kept.core.inv.holds held_now.kept.is_running none in
       record {
         same = same.0;
         about = same.1;
         order = turns-order Running (able_here start held_start.kept) TakesTurn (record { state = start; schedule = schedule }) (record { state = now; schedule = schedule_now }) r.turns r.are;
         turns = runs schedule_now from (ran start held_start.kept schedule now schedule_now r);
         rested = comes-to-rest same.0 same.1 none;
-        between = as-before (λ b s p d. IsBetween b s p.with (d ++ p.commands) (world_of now)) m now same.0 same.1
-            (phase-ends-law now.in_order (about_in now) (phase_of now) now.done.now (world_of now) held_now.kept.core.inv.ghost_of (cursor now) held_now.kept.core.inv.holds held_now.kept.is_running none);
+        idle = ends.0;
+        begun = subst (HasBegunAll (phase_of m)) there (as-before (λ b s p. HasBegunAll p (world_of now)) m now same.0 same.1 ends.1);
+        behind = ended-behind m now first.before same.0 same.1 held_now none;
       }
 
   pub has-stopped : Stopped start held_start.kept schedule now schedule_now held_now → PartRun m schedule now schedule_now
@@ -361,8 +409,7 @@ module _ (m : Running) (first : IsFirstMoment m) (schedule : Schedule) (order : 
               (subst (λ (v : World). Reaches World (able_of start held_start.kept) (makes_of start held_start.kept) (record { state = world_of start; schedule = schedule }) v stop.last.schedule) (sym stop.stayed.world)
               (ran start held_start.kept schedule stop.last.state stop.last.schedule stop.reached)),
         );
-        into = as-before (λ b s p d. IsStopped b s p d (world_of now)) m now same.0 same.1
-            (stops-law now.in_order (about_in now) (phase_of now) now.done.now (world_of now) (cursor now) held_now.kept.is_running);
+        behind = stopped-behind m now first.before same.0 same.1 held_now;
       }
 
   pub ends-so : {A E : Type 0} (r : Result A E) → OnOk r (Reached start held_start.kept schedule now schedule_now held_now) → OnOk r (able_here start held_start.kept now ≡ [])

@@ -4,7 +4,7 @@ use Rattle.row_ledger.specs.Past.{session_in}
 use Rattle.row_ledger.specs.declared.event.Event.{Event}
 use Rattle.row_ledger.specs.declared.settings.Use.{Use}
 use Rattle.script_form.specs.declared.script.Command.{Command}
-use Rattle.script_run.specs.Between.{AreFirst, IsInOrder, IsThrough}
+use Rattle.script_run.specs.Between.{IsInOrder, IsThrough}
 use Rattle.script_run.specs.Places.{are_over, begins_of, count_of, places, session_of}
 use Rattle.script_run.specs.Parts.{IsPartAt, Waits, place_in}
 use Rattle.script_run.specs.Runs.{Begins}
@@ -21,36 +21,44 @@ use Rattle.seeded_run.specs.Due.{due}
 use Rattle.seeded_run.specs.Instead.{StandsFor, in_place_of}
 use Rattle.seeded_run.specs.Progress.{AreScriptRoles, IsOrderedRun, IsPhaseOf, IsScriptRun}
 use Rattle.seeded_run.specs.Rests.{PhaseRun, rest_of}
-use Rattle.seeded_run.specs.Running.{AreAtOwn, IsRunning}
+use Rattle.seeded_run.specs.Running.{AreAtOwn, IsRunning, RunsBehind}
 use Rattle.seeded_run.specs.Steps.{is_for_part}
 use Rattle.seeded_run.specs.Told.{is_of_part}
 
 -- Between phases.
 
--- nobody has anything to do, and the commands so far are through, in order where that is asked for
+-- everybody is idle
+abbrev pub AreIdle : World → Type 0
+AreIdle w = (a : ℕ) → IsIdle (w.actors a)
+
+-- everybody is idle, and the commands so far are through, in order where that is asked for
 pub record IsBetween (in_order : Bool) (s : Setting) (with : Use) (done : List Command) (w : World) : Type 0 where
   pub through : IsThrough with s.hierarchy done (history_in w)
-  pub idle : (a : ℕ) → IsIdle (w.actors a)
+  pub idle : AreIdle w
   pub ordered : in_order ≡ true → IsInOrder with s.hierarchy done (history_in w)
 
+-- since the phase began each session has begun so many commands as it has in it
+abbrev pub HasBegunAll : PhaseRun → World → Type 0
+HasBegunAll p w = (session : ℕ) → length (begins_of (history_in w) session) ≡ length (begins_of p.before session) + count_of p.with session p.commands
+
 -- each session's next command is its first one in the phase
-pub record AreAtFirst (p : PhaseRun) (done : List Command) (next : ℕ → ℕ) : Type 0 where
-  pub first : AreFirst p.with (done ++ p.commands) (length done) next
-  pub own : AreAtOwn p done next
+pub record AreAtFirst (p : PhaseRun) (next : ℕ → ℕ) : Type 0 where
+  pub first : (session i : ℕ) (c : Command) → slice_get p.commands i ≡ Some c → i < next session → session_of p.with c ≢ session
+  pub own : AreAtOwn p next
 
--- There a phase begins;
+-- Where everybody is idle a phase begins;
 abbrev pub PhaseBeginsLaw : Type 0
-PhaseBeginsLaw = (in_order : Bool) (s : Setting) (p : PhaseRun) (done : List Command) (w : World) (next : ℕ → ℕ) → AreScriptRoles s → IsPhaseOf s p → IsBetween in_order s p.with done w
-    → p.before ≡ history_in w → AreAtFirst p done next → IsRunning in_order s p done w next
+PhaseBeginsLaw = (in_order : Bool) (s : Setting) (p : PhaseRun) (w : World) (next : ℕ → ℕ) → AreScriptRoles s → IsPhaseOf s p → AreIdle w
+    → p.before ≡ history_in w → AreAtFirst p next → IsRunning in_order s p w next
 
--- and where nobody can make a step any more, it is through too.
+-- and where nobody can make a step any more, everybody is idle again, and all its commands have begun.
 abbrev pub PhaseEndsLaw : Type 0
-PhaseEndsLaw = (in_order : Bool) (s : Setting) (p : PhaseRun) (done : List Command) (w : World) (g : Ghost) (next : ℕ → ℕ) → InvWith s (view s w) g → IsRunning in_order s p done w next
-    → able_in in_order s p w ≡ [] → IsBetween in_order s p.with (done ++ p.commands) w
+PhaseEndsLaw = (in_order : Bool) (s : Setting) (p : PhaseRun) (w : World) (g : Ghost) (next : ℕ → ℕ) → InvWith s (view s w) g → IsRunning in_order s p w next
+    → able_in in_order s p w ≡ [] → AreIdle w × HasBegunAll p w
 
 -- While it runs somebody can step, as it is a script's run, and where that is asked for an ordered one.
 abbrev pub RunsLaw : Type 0
-RunsLaw = (in_order : Bool) (s : Setting) (p : PhaseRun) (done : List Command) (w : World) (g : Ghost) (next : ℕ → ℕ) → InvWith s (view s w) g → IsRunning in_order s p done w next
+RunsLaw = (in_order : Bool) (s : Setting) (p : PhaseRun) (w : World) (g : Ghost) (next : ℕ → ℕ) → InvWith s (view s w) g → IsRunning in_order s p w next
     → IsScriptRun s w (rest_of p (history_in w)) × (in_order ≡ true → IsOrderedRun s p w)
 
 -- What is said of a run that stops in the midst of a phase: it is a part of a run of the commands so far, of which those before the
@@ -61,9 +69,19 @@ pub record IsStopped (in_order : Bool) (s : Setting) (p : PhaseRun) (done : List
   pub over : IsTrue (are_over (history_in w) (places p.with done (history_in w)))
   pub ordered : in_order ≡ true → IsInOrder p.with s.hierarchy (done ++ p.commands) (history_in w)
 
--- So it is wherever a phase runs.
+-- Between phases one runs behind the commands so far from its beginning on; so it is wherever it stops; and at its end its commands
+-- are through too.
+
+abbrev pub BehindBeginsLaw : Type 0
+BehindBeginsLaw = (in_order : Bool) (s : Setting) (p : PhaseRun) (done : List Command) (w : World) (next : ℕ → ℕ) → IsBetween in_order s p.with done w
+    → p.before ≡ history_in w → AreAtFirst p next → RunsBehind in_order s p done w next
+
 abbrev pub StopsLaw : Type 0
-StopsLaw = (in_order : Bool) (s : Setting) (p : PhaseRun) (done : List Command) (w : World) (next : ℕ → ℕ) → IsRunning in_order s p done w next → IsStopped in_order s p done w
+StopsLaw = (in_order : Bool) (s : Setting) (p : PhaseRun) (done : List Command) (w : World) (next : ℕ → ℕ) → RunsBehind in_order s p done w next → IsStopped in_order s p done w
+
+abbrev pub BehindEndsLaw : Type 0
+BehindEndsLaw = (in_order : Bool) (s : Setting) (p : PhaseRun) (done : List Command) (w : World) (g : Ghost) (next : ℕ → ℕ) → InvWith s (view s w) g → IsRunning in_order s p w next
+    → RunsBehind in_order s p done w next → able_in in_order s p w ≡ [] → IsBetween in_order s p.with (done ++ p.commands) w
 
 -- Steps.
 
@@ -85,23 +103,25 @@ MadeLaw = (in_order : Bool) (s : Setting) (p : PhaseRun) (w : World) (n : ℕ) (
 
 -- A step that begins nothing and counts nobody keeps all of it;
 abbrev pub KeepsOtherLaw : Type 0
-KeepsOtherLaw = (in_order : Bool) (s : Setting) (p : PhaseRun) (done : List Command) (w now : World) (g g_now : Ghost) (next : ℕ → ℕ) (n : ℕ)
+KeepsOtherLaw = (in_order : Bool) (s : Setting) (p : PhaseRun) (w now : World) (g g_now : Ghost) (next : ℕ → ℕ) (n : ℕ)
     → InvWith s (view s w) g → InvWith s (view s now) g_now → IsTurn in_order s p w n now
-    → ((e : Event) → history_in now ≡ e ∷ history_in w → session_in e ≡ None) → (now.actors n).counted ≡ (w.actors n).counted → IsRunning in_order s p done w next → IsRunning in_order s p done now next
+    → ((e : Event) → history_in now ≡ e ∷ history_in w → session_in e ≡ None) → (now.actors n).counted ≡ (w.actors n).counted → IsRunning in_order s p w next
+    → IsRunning in_order s p now next × ((done : List Command) → RunsBehind in_order s p done w next → RunsBehind in_order s p done now next)
 
--- the session's next command stands behind this one of the phase, and none of it between
-pub record MovesOn (p : PhaseRun) (done : List Command) (session k : ℕ) (next now : ℕ → ℕ) : Type 0 where
-  pub further : length done + k < now session
-  pub none : (i : ℕ) (c : Command) → slice_get p.commands i ≡ Some c → k < i → length done + i < now session → session_of p.with c ≢ session
+-- the session's next command stands behind the one that was next, and none of it between
+pub record MovesOn (p : PhaseRun) (session : ℕ) (next now : ℕ → ℕ) : Type 0 where
+  pub further : next session < now session
+  pub none : (i : ℕ) (c : Command) → slice_get p.commands i ≡ Some c → next session < i → i < now session → session_of p.with c ≢ session
   pub others : (t : ℕ) → t ≢ session → now t ≡ next t
-  pub own : AreAtOwn p done now
+  pub own : AreAtOwn p now
 
 -- and so does one that begins the next command of its session, which has a next one then.
 abbrev pub KeepsBeginningLaw : Type 0
-KeepsBeginningLaw = (in_order : Bool) (s : Setting) (p : PhaseRun) (done : List Command) (w now : World) (g g_now : Ghost) (next next_now : ℕ → ℕ) (n k : ℕ) (c : Command) (e : Event)
+KeepsBeginningLaw = (in_order : Bool) (s : Setting) (p : PhaseRun) (w now : World) (g g_now : Ghost) (next next_now : ℕ → ℕ) (n : ℕ) (c : Command) (e : Event)
     → InvWith s (view s w) g → InvWith s (view s now) g_now → IsTurn in_order s p w n now
-    → slice_get p.commands k ≡ Some c → next n ≡ length done + k → history_in now ≡ e ∷ history_in w → session_in e ≡ Some n → Begins p.with s.hierarchy c e
-    → MovesOn p done n k next next_now → IsRunning in_order s p done w next → IsRunning in_order s p done now next_now
+    → slice_get p.commands (next n) ≡ Some c → history_in now ≡ e ∷ history_in w → session_in e ≡ Some n → Begins p.with s.hierarchy c e
+    → MovesOn p n next next_now → IsRunning in_order s p w next
+    → IsRunning in_order s p now next_now × ((done : List Command) → RunsBehind in_order s p done w next → RunsBehind in_order s p done now next_now)
 
 -- Of a step by an actor that has a command, a part or a job, or of a kind that begins nothing, no event begins a command.
 abbrev pub QuietLaw : Type 0

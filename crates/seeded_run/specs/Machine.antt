@@ -1,5 +1,5 @@
 -- What holds between the turns of a phase, and what a turn is.
-use Rattle.std.specs.Prelude.{ℕ, ◌≡◌, ◌≢◌, ◌+◌, ◌≤◌, ◌<◌, Bool, true, false, nat_lt, count_by, List, [], ◌++◌, Option, Some, length, get_or, slice_get}
+use Rattle.std.specs.Prelude.{ℕ, ◌≡◌, ◌≢◌, ◌+◌, ◌≤◌, ◌<◌, Bool, true, false, nat_lt, count_by, List, [], Option, Some, length, get_or, slice_get}
 use Rattle.core_steps.specs.Ready.{Stays}
 use Rattle.script_form.specs.declared.script.Command.{Command}
 use Rattle.script_run.specs.Places.{session_of}
@@ -16,14 +16,14 @@ use Rattle.row_ledger.specs.declared.settings.Use.{Use}
 use Rattle.seeded_run.specs.Core.{HasCore, IsCore}
 use Rattle.seeded_run.specs.Due.{does_nothing, due}
 use Rattle.seeded_run.specs.DueSteps.{due_step}
-use Rattle.seeded_run.specs.Kept.{IsBetween}
+use Rattle.seeded_run.specs.Kept.{AreIdle, IsBetween}
 use Rattle.seeded_run.specs.Measure.{CoreHasLeft, limits_of}
-use Rattle.seeded_run.specs.Phase.{ClosesLast, IsKeptTurn, MayAllRun, NobodyCanStep, about, held, most_actors, phase_from, RunsTo, StopsAt}
+use Rattle.seeded_run.specs.Phase.{ClosesLast, EndsBehindAny, IsKeptTurn, MayAllRun, NobodyCanStep, about, held, most_actors, phase_from, RunsTo, StopsAt, StopsBehindAny}
 use Rattle.seeded_run.specs.Order.{is_order}
 use Rattle.seeded_turns.specs.declared.schedule.Schedule.{Schedule}
 use Rattle.seeded_run.specs.Ranks.{rank, commands_waiting, with_waiting}
 use Rattle.seeded_run.specs.Rests.{PhaseRun, first_open}
-use Rattle.seeded_run.specs.Running.{IsRunning}
+use Rattle.seeded_run.specs.Running.{IsRunning, RunsBehind}
 use Rattle.seeded_run.specs.Steps.{begins_by}
 use Rattle.seeded_run.specs.declared.due_step.DueStep.{DueStep}
 use Rattle.seeded_run.specs.declared.machine.Running.{Running}
@@ -38,13 +38,9 @@ world_of m = held m.h.now m.with m.state
 abbrev pub phase_of : Running → PhaseRun
 phase_of m = phase_from m.h.now m.with m.phase.now m.before.value
 
--- by session: where its next command stands in the phase, and among all commands
-
+-- by session: where its next command stands in the phase
 abbrev pub next_at : Running → ℕ → ℕ
 next_at m session = get_or m.next.items session (length m.phase.now)
-
-abbrev pub cursor : Running → ℕ → ℕ
-cursor m session = length m.done.now + next_at m session
 
 -- the actors can do what can be done in the phase
 abbrev pub can_in : Running → ℕ → Bool
@@ -62,11 +58,20 @@ HasBegunTo m place = (i : ℕ) (c : Command) → slice_get m.phase.now i ≡ Som
 abbrev pub WaitsAt : Running → ℕ → Type 0
 WaitsAt m place = (c : Command) → slice_get m.phase.now place ≡ Some c → next_at m (session_of m.with c) ≤ place
 
+-- these commands were through as the phase began
+abbrev pub WereThrough : Running → List Command → Type 0
+WereThrough m done = IsBetween m.in_order (about m.h.now m.with m.before.value) m.with done (held m.h.now m.with m.before.value)
+
+-- whichever they were, it runs behind them
+abbrev pub RunsBehindAny : Running → Type 0
+RunsBehindAny m = (done : List Command) → WereThrough m done → RunsBehind m.in_order (about_in m) (phase_of m) done (world_of m) (next_at m)
+
 -- The phase runs, and the cursors tell how far.
 pub record IsPhaseKept (m : Running) : Type 0 where
   pub core : IsCore m.h.now m.with m.state.cells.items m.state.actors.items (about_in m) (world_of m)
-  pub may_run : MayAllRun m.h.now m.with (m.done.now ++ m.phase.now)
-  pub is_running : IsRunning m.in_order (about_in m) (phase_of m) m.done.now (world_of m) (cursor m)
+  pub may_run : MayAllRun m.h.now m.with m.phase.now
+  pub is_running : IsRunning m.in_order (about_in m) (phase_of m) (world_of m) (next_at m)
+  pub behind : RunsBehindAny m
   pub count : length m.next.items ≡ length m.state.actors.items
   pub few : length m.next.items < most_actors
   pub within : (session : ℕ) → next_at m session ≤ length m.phase.now
@@ -109,7 +114,6 @@ IsDueStep m n step = step_in m n ≡ Some step
 pub record IsSamePhase (m now : Running) : Type 0 where
   pub h : now.h ≡ m.h
   pub with : now.with ≡ m.with
-  pub done : now.done ≡ m.done
   pub phase : now.phase ≡ m.phase
   pub in_order : now.in_order ≡ m.in_order
   pub before : now.before ≡ m.before
@@ -165,9 +169,9 @@ AreFirstCursors with phase actors next = (length next ≡ actors) × ((session :
 pub record IsFirstMoment (m : Running) : Type 0 where
   pub core : HasCore m.h.now m.with m.state.cells.items m.state.actors.items
   pub few : length m.state.actors.items < most_actors
-  pub may_run : MayAllRun m.h.now m.with (m.done.now ++ m.phase.now)
+  pub may_run : MayAllRun m.h.now m.with m.phase.now
   pub closes : ClosesLast m.phase.now
-  pub between : IsBetween m.in_order (about_in m) m.with m.done.now (world_of m)
+  pub idle : AreIdle (world_of m)
   pub before : m.before.value ≡ m.state
   pub next : AreFirstCursors m.with m.phase.now (length m.state.actors.items) m.next.items
   pub left : m.left ≡ streams_open (length m.phase.now) m.next.items
@@ -183,6 +187,14 @@ HasComeToRest m schedule now = NobodyCanStep (is_order schedule) m.h.now m.with 
 
 abbrev pub HasStoppedAt : Running → Schedule → Running → Type 0
 HasStoppedAt m schedule now = StopsAt m.h.now m.with m.phase.now m.before.value schedule now.state
+
+-- whatever commands were through before, those of the phase are now too; or a part of them has run
+
+abbrev pub HasEndedBehindAny : Running → Running → Type 0
+HasEndedBehindAny m now = EndsBehindAny m.in_order m.h.now m.with m.phase.now m.before.value now.state
+
+abbrev pub HasStoppedBehindAny : Running → Running → Type 0
+HasStoppedBehindAny m now = StopsBehindAny m.in_order m.h.now m.with m.phase.now m.before.value now.state
 
 -- At most so many steps are left: what control is left doesn't rest on what stands beside a state, and below it are the limits. So
 -- many are fewer than if control were one more, and nothing else left.

@@ -1,5 +1,5 @@
 -- A phase of a script, as it runs over a core that one thread holds.
-use Rattle.std.specs.Prelude.{ℕ, ◌≡◌, ◌+◌, ◌^◌, ◌<◌, Bool, true, List, [], Some, length, slice_get}
+use Rattle.std.specs.Prelude.{ℕ, ◌≡◌, ◌+◌, ◌^◌, ◌<◌, Bool, true, false, List, [], ◌++◌, Some, length, slice_get}
 use Rattle.dim_hierarchy.specs.Dimension.{Dimension}
 use Rattle.row_ledger.specs.declared.settings.Use.{Use}
 use Rattle.script_form.specs.declared.script.Command.{Command}
@@ -12,7 +12,7 @@ use Rattle.volap_cell.specs.World.{World}
 use Rattle.volap_cell.specs.declared.state.State.{State}
 use Rattle.seeded_run.specs.Can.{able_in}
 use Rattle.seeded_run.specs.Core.{HasCore}
-use Rattle.seeded_run.specs.Kept.{IsTurn}
+use Rattle.seeded_run.specs.Kept.{IsBetween, IsStopped, IsTurn}
 use Rattle.seeded_run.specs.Commands.{IsAllowed}
 use Rattle.seeded_run.specs.Look.{HasNames}
 use Rattle.seeded_run.specs.Rests.{PhaseRun}
@@ -75,6 +75,17 @@ StopsAt h with phase from schedule to = (s : Schedule) × RunsTo h with phase fr
 -- nobody can make a step any more in this state of the phase that began in another one
 abbrev pub NobodyCanStep : Bool → List Dimension → Use → List Command → State → State → Type 0
 NobodyCanStep in_order h with phase from to = able_in in_order (about h with from) (phase_from h with phase from) (held h with to) ≡ []
+
+-- Whatever commands were through as the phase began, they and those of the phase are through now; and where it stopped, so far is a part
+-- of a run of them.
+
+abbrev pub EndsBehindAny : Bool → List Dimension → Use → List Command → State → State → Type 0
+EndsBehindAny in_order h with phase from to =
+    (done : List Command) → IsBetween in_order (about h with from) with done (held h with from) → IsBetween in_order (about h with from) with (done ++ phase) (held h with to)
+
+abbrev pub StopsBehindAny : Bool → List Dimension → Use → List Command → State → State → Type 0
+StopsBehindAny in_order h with phase from to =
+    (done : List Command) → IsBetween in_order (about h with from) with done (held h with from) → IsStopped in_order (about h with from) (phase_from h with phase from) done (held h with to)
 
 -- Turns.
 

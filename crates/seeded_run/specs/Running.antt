@@ -1,8 +1,8 @@
 -- What holds between the steps of a phase.
-use Rattle.std.specs.Prelude.{ℕ, ◌≡◌, ◌≢◌, ◌-◌, ⊤, Bool, true, false, List, [], ◌∷◌, ◌++◌, Option, Some, option_map, length, take, slice_get}
+use Rattle.std.specs.Prelude.{ℕ, ◌≡◌, ◌≢◌, ◌+◌, ⊤, Bool, true, false, List, [], ◌∷◌, ◌++◌, Option, Some, option_map, length, take, slice_get}
 use Rattle.script_form.specs.declared.script.Command.{Command}
 use Rattle.script_run.specs.Between.{IsInOrder}
-use Rattle.script_run.specs.Places.{session_of}
+use Rattle.script_run.specs.Places.{begins_of, count_of, session_of}
 use Rattle.script_run.specs.Runs.{each_twice, pulled_since}
 use Rattle.script_run.specs.Streams.{IsInPhase}
 use Rattle.volap_cell.specs.Setting.{Setting}
@@ -21,8 +21,8 @@ abbrev pub opened_in : World → ℕ → Option ℕ
 opened_in w a = option_map (λ (c : OpenCommand). c.of) (w.actors a).command
 
 -- a session's next command, where it has one, is its own
-abbrev pub AreAtOwn : PhaseRun → List Command → (ℕ → ℕ) → Type 0
-AreAtOwn p done next = (session : ℕ) (c : Command) → slice_get p.commands (next session - length done) ≡ Some c → session_of p.with c ≡ session
+abbrev pub AreAtOwn : PhaseRun → (ℕ → ℕ) → Type 0
+AreAtOwn p next = (session : ℕ) (c : Command) → slice_get p.commands (next session) ≡ Some c → session_of p.with c ≡ session
 
 -- Closing commands.
 
@@ -52,21 +52,32 @@ HasPulled servers work pulled = ⊤
 abbrev pub ArePulling : Setting → World → Type 0
 ArePulling s w = (a : ℕ) (c : OpenCommand) → (w.actors a).command ≡ Some c → HasPulled s.servers c.work (pulled_since (history_in w) c.of)
 
--- Where the commands go one after the other they stay in order, and but for the actor of the first one that isn't over all are idle.
-pub record IsOrderKept (s : Setting) (p : PhaseRun) (done : List Command) (w : World) : Type 0 where
-  pub order : IsInOrder p.with s.hierarchy (done ++ p.commands) (history_in w)
-  pub idle : (a : ℕ) → first_open p (history_in w) ≢ Some a → does_nothing (w.actors a) ≡ true
+-- The phase.
 
--- A phase runs behind the commands that are done: its commands have begun up to their sessions' next ones, and are over but for
--- those that are open.
-pub record IsRunning (in_order : Bool) (s : Setting) (p : PhaseRun) (done : List Command) (w : World) (next : ℕ → ℕ) : Type 0 where
+-- all are idle but for the actor of the first command that isn't over
+abbrev pub AreOthersIdle : PhaseRun → World → Type 0
+AreOthersIdle p w = (a : ℕ) → first_open p (history_in w) ≢ Some a → does_nothing (w.actors a) ≡ true
+
+-- A phase runs: each session has begun its commands up to its next one, and where they go one after the other only the actor of the
+-- first one that isn't over has anything to do. Nothing is said of what the history was before.
+pub record IsRunning (in_order : Bool) (s : Setting) (p : PhaseRun) (w : World) (next : ℕ → ℕ) : Type 0 where
   pub roles : AreScriptRoles s
   pub phase : IsPhaseOf s p
-  pub in_phase : IsInPhase p.with s.hierarchy (done ++ p.commands) (length done) (history_in w) next (opened_in w)
-  pub cursors : HasCursors p done (history_in w) next (opened_in w)
-  pub own : AreAtOwn p done next
+  pub cursors : HasCursors p (history_in w) next
+  pub own : AreAtOwn p next
   pub closing : AreClosingAlone s w (rest_of p (history_in w))
   pub pages : ArePagesNext s w (rest_of p (history_in w))
-  pub pulled : ArePulling s w
   pub nobody : IsNobodyIn w
-  pub ordered : in_order ≡ true → IsOrderKept s p done w
+  pub idle : in_order ≡ true → AreOthersIdle p w
+
+-- by session, where its next command stands among those before the phase and those of the phase
+abbrev pub behind : List Command → (ℕ → ℕ) → ℕ → ℕ
+behind done next session = length done + next session
+
+-- A phase runs behind commands that were through when it began: what has begun so far is a part of a run of these and of those of
+-- the phase, in their order where that is asked for.
+pub record RunsBehind (in_order : Bool) (s : Setting) (p : PhaseRun) (done : List Command) (w : World) (next : ℕ → ℕ) : Type 0 where
+  pub through : (session : ℕ) → length (begins_of p.before session) ≡ count_of p.with session done
+  pub in_phase : IsInPhase p.with s.hierarchy (done ++ p.commands) (length done) (history_in w) (behind done next) (opened_in w)
+  pub pulled : ArePulling s w
+  pub ordered : in_order ≡ true → IsInOrder p.with s.hierarchy (done ++ p.commands) (history_in w)

@@ -3,9 +3,9 @@ ghost use Rattle.std.specs.Prelude.{◌≡◌, ◌++◌, ◌<◌, true, false, l
 ghost use Rattle.seeded_run.specs.ByHand.{CannotMoveAt, HasMoved, HasMovedTo, IsLater, IsOfJob, MovesTo, StopsAmong, StopsAmongAt, may_find_none};
 ghost use Rattle.seeded_run.specs.Due.{due};
 ghost use Rattle.seeded_run.specs.Jobs.{CanGiveUpBy};
-ghost use Rattle.seeded_run.specs.Kept.{IsBetween, IsStopped};
-ghost use Rattle.seeded_run.specs.Machine.{AreFirstCursors, HasTurned, HoldsNow, IsDueNow, IsDueStep, IsFirstMoment, IsPhaseHeld, IsSamePhase, about_in, can_in, phase_of, world_of};
-ghost use Rattle.seeded_run.specs.Phase.{ClosesLast, IsCoreHeld, MayAllRun, about, held, phase_from};
+ghost use Rattle.seeded_run.specs.Kept.{AreIdle, IsBetween, IsStopped};
+ghost use Rattle.seeded_run.specs.Machine.{AreFirstCursors, HasStoppedBehindAny, HasTurned, HoldsNow, IsDueNow, IsDueStep, IsFirstMoment, IsPhaseHeld, IsSamePhase, about_in, can_in, phase_of, world_of};
+ghost use Rattle.seeded_run.specs.Phase.{ClosesLast, IsCoreHeld, MayAllRun, StopsBehindAny, about, held, phase_from};
 ghost use Rattle.volap_cell.specs.Setting.{actor_count};
 ghost use Rattle.volap_cell.specs.declared.kind.Kind.TheVariants as kind_is;
 
@@ -154,7 +154,7 @@ fn make_whole(running: &mut Running, alloc: Global, moves: &[Move]) -> Result<us
     ensures about { about_in running.new ≡ about_in running.old }
     ensures moved { IfOk result (λ count. HasMovedTo running.old moves.now count running.new) }
     ensures stopped { OnErr result (StopsAmongAt running.old moves.now running.new) }
-    ensures into { IsStopped running.old.in_order (about_in running.old) (phase_of running.old) running.old.done.now (world_of running.new) }
+    ensures into { HasStoppedBehindAny running.old running.new }
 {
     running.look_first(0);
     running.make_all(alloc, moves)
@@ -165,7 +165,6 @@ fn make_from(
     alloc: Global,
     h: &Hierarchy,
     with: &Use,
-    done: &[Command],
     phase: &[Command],
     state: &mut State,
     moves: &[Move],
@@ -173,14 +172,14 @@ fn make_from(
 ) -> Result<usize, AllocError>
     requires first { AreFirstCursors with.now phase.now (length state.old.actors.items) next.items }
     requires core { IsCoreHeld h.now with.now state.old }
-    requires may_run { MayAllRun h.now with.now (done.now ++ phase.now) }
+    requires may_run { MayAllRun h.now with.now phase.now }
     requires closes { ClosesLast phase.now }
-    requires between { IsBetween false (about h.now with.now state.old) with.now done.now (held h.now with.now state.old) }
+    requires idle { AreIdle (held h.now with.now state.old) }
     ensures core { IsCoreHeld h.now with.now state.new }
     ensures about { about h.now with.now state.new ≡ about h.now with.now state.old }
     ensures moved { IfOk result (λ count. HasMoved false (about h.now with.now state.old) (phase_from h.now with.now phase.now state.old) (held h.now with.now state.old) moves.now count (held h.now with.now state.new)) }
     ensures stopped { OnErr result (StopsAmong false (about h.now with.now state.old) (phase_from h.now with.now phase.now state.old) (held h.now with.now state.old) moves.now (held h.now with.now state.new)) }
-    ensures into { IsStopped false (about h.now with.now state.old) (phase_from h.now with.now phase.now state.old) done.now (held h.now with.now state.new) }
+    ensures into { StopsBehindAny false h.now with.now phase.now state.old state.new }
 {
     let left = streams_open(&next, phase.len());
     let before = Snapshot::of(state);
@@ -191,7 +190,6 @@ fn make_from(
     let mut running = Running {
         h,
         with: *with,
-        done,
         phase,
         in_order: false,
         before,
@@ -233,8 +231,9 @@ pub fn run_by_hand(
     ensures stopped { OnErr result (StopsAmong false (about h.now with.now state.old) (phase_from h.now with.now phase.now state.old) (held h.now with.now state.old) moves.now (held h.now with.now state.new)) }
     ensures into { IsStopped false (about h.now with.now state.old) (phase_from h.now with.now phase.now state.old) done.now (held h.now with.now state.new) }
 {
+    let _ = done;
     match first_cursors(alloc, with, phase, state.actors.len()) {
-        Ok(next) => make_from(alloc, h, with, done, phase, state, moves, next),
+        Ok(next) => make_from(alloc, h, with, phase, state, moves, next),
         Err(refused) => Err(refused),
     }
 }

@@ -1,6 +1,6 @@
 //! Laws of what is due, and of what the streams of a phase still have. There is nothing to do at run time.
 ghost use Rattle.seeded_run.specs.Cursors.{CursorLaw, FirstLaw, LastLaw};
-ghost use Rattle.seeded_run.specs.Kept.{KeepsBeginningLaw, KeepsOtherLaw, MadeLaw, PhaseBeginsLaw, PhaseEndsLaw, QuietLaw, RunsLaw, StopsLaw};
+ghost use Rattle.seeded_run.specs.Kept.{BehindBeginsLaw, BehindEndsLaw, KeepsBeginningLaw, KeepsOtherLaw, MadeLaw, PhaseBeginsLaw, PhaseEndsLaw, QuietLaw, RunsLaw, StopsLaw};
 ghost use Rattle.seeded_run.specs.Laws.{WholeLaw, RestLaw, IdleLaw, AtPartLaw, CarrierLaw, WantedLaw, FreeLaw, OrderLaw};
 ghost use Rattle.seeded_run.specs.Phase.{OneTurnLaw};
 ghost use Rattle.seeded_run.specs.Progress.{CanLaw, DueLaw, EndLaw, OrderEndLaw, ScriptLaw};
@@ -85,18 +85,24 @@ pub fn steps_tell_so()
     ensures others { OthersLaw }
 {}
 
-/// A phase begins between phases, and where nobody can make a step any more it is between phases again,
-/// with the commands of the phase done. Between its steps it runs as the laws of progress ask, and where it
-/// stops there it is a part of a run.
+/// A phase begins where everybody is idle, and where nobody can make a step any more everybody is idle again, and
+/// each session has begun all its commands. Between its steps it runs as the laws of progress ask.
 pub fn phases_begin_and_end()
     ensures begins { PhaseBeginsLaw }
     ensures ends { PhaseEndsLaw }
     ensures runs { RunsLaw }
-    ensures stops { StopsLaw }
 {}
 
-/// What holds between the steps of a phase holds after a step that begins nothing and counts nobody at a desk,
-/// and after one that begins the next command of its session. Which steps begin nothing.
+/// Where commands were through as it began, it runs behind them: where it stops so far is a part of a run of
+/// these and of those of the phase, and at its end they are through too.
+pub fn phases_go_on_behind()
+    ensures begins { BehindBeginsLaw }
+    ensures stops { StopsLaw }
+    ensures ends { BehindEndsLaw }
+{}
+
+/// What holds between the steps of a phase, and what it runs behind, holds after a step that begins nothing and
+/// counts nobody at a desk, and after one that begins the next command of its session. Which steps begin nothing.
 pub fn steps_keep_a_phase()
     ensures other { KeepsOtherLaw }
     ensures beginning { KeepsBeginningLaw }

@@ -24,8 +24,6 @@ use volap_cell::{Kind, State};
 pub struct Running<'a> {
     pub h: &'a Hierarchy,
     pub with: Use,
-    /// The commands before the phase, which are over.
-    pub done: &'a [Command],
     pub phase: &'a [Command],
     /// Whether the commands go one after the other.
     pub in_order: bool,

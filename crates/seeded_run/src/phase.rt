@@ -2,9 +2,9 @@
 ghost use Rattle.std.specs.Prelude.{◌≡◌, ◌++◌, ◌<◌, ◌≤◌, ℕ, [], length, OnOk, OnErr, IfOk};
 ghost use Rattle.seeded_turns.specs.Drawn.{Reaches, Stops, able};
 ghost use Rattle.seeded_run.specs.declared.machine.Running.{Running};
-ghost use Rattle.seeded_run.specs.Kept.{IsBetween, IsStopped};
-ghost use Rattle.seeded_run.specs.Machine.{AreFirstCursors, HasComeToRest, HasLeftOver, HasRunTo, HasStoppedAt, HoldsNow, IsFirstMoment, IsPhaseHeld, IsSamePhase, LeavesAtMost, RestsAsIs, TakesTurn, about_in, can_in, most_steps, phase_of, streams_open, world_of};
-ghost use Rattle.seeded_run.specs.Phase.{ClosesLast, IsCoreHeld, MayAllRun, NobodyCanStep, RunsTo, StopsAt, about, held, most_actors, phase_from};
+ghost use Rattle.seeded_run.specs.Kept.{AreIdle, HasBegunAll, IsBetween, IsStopped};
+ghost use Rattle.seeded_run.specs.Machine.{AreFirstCursors, HasComeToRest, HasEndedBehindAny, HasLeftOver, HasRunTo, HasStoppedAt, HasStoppedBehindAny, HoldsNow, IsFirstMoment, IsPhaseHeld, IsSamePhase, LeavesAtMost, RestsAsIs, TakesTurn, about_in, can_in, most_steps, phase_of, streams_open, world_of};
+ghost use Rattle.seeded_run.specs.Phase.{ClosesLast, EndsBehindAny, IsCoreHeld, MayAllRun, NobodyCanStep, RunsTo, StopsAt, StopsBehindAny, about, held, most_actors, phase_from};
 ghost use Rattle.seeded_run.specs.Order.{is_order};
 
 use crate::machine::Running;
@@ -88,8 +88,10 @@ fn run_whole(
     ensures turns { OnOk result (HasRunTo running.old schedule.old running.new schedule.new) }
     ensures rested { OnOk result (HasComeToRest running.old schedule.old running.new) }
     ensures stopped { OnErr result (HasStoppedAt running.old schedule.old running.new) }
-    ensures between { OnOk result (IsBetween running.old.in_order (about_in running.old) running.old.with (running.old.done.now ++ running.old.phase.now) (world_of running.new)) }
-    ensures into { OnErr result (IsStopped running.old.in_order (about_in running.old) (phase_of running.old) running.old.done.now (world_of running.new)) }
+    ensures idle { OnOk result (AreIdle (world_of running.new)) }
+    ensures begun { OnOk result (HasBegunAll (phase_of running.old) (held running.old.h.now running.old.with running.new.state)) }
+    ensures behind { OnOk result (HasEndedBehindAny running.old running.new) }
+    ensures into { OnErr result (HasStoppedBehindAny running.old running.new) }
 {
     running.look_first(0);
     run_turns(running, alloc, schedule)
@@ -100,7 +102,6 @@ fn run_from(
     alloc: Global,
     h: &Hierarchy,
     with: &Use,
-    done: &[Command],
     phase: &[Command],
     state: &mut State,
     schedule: &mut Schedule,
@@ -108,17 +109,19 @@ fn run_from(
 ) -> Result<(), AllocError>
     requires first { AreFirstCursors with.now phase.now (length state.old.actors.items) next.items }
     requires core { IsCoreHeld h.now with.now state.old }
-    requires may_run { MayAllRun h.now with.now (done.now ++ phase.now) }
+    requires may_run { MayAllRun h.now with.now phase.now }
     requires closes { ClosesLast phase.now }
-    requires between { IsBetween (is_order schedule.old) (about h.now with.now state.old) with.now done.now (held h.now with.now state.old) }
+    requires idle { AreIdle (held h.now with.now state.old) }
     ensures core { IsCoreHeld h.now with.now state.new }
     ensures about { about h.now with.now state.new ≡ about h.now with.now state.old }
     ensures order { is_order schedule.new ≡ is_order schedule.old }
     ensures turns { OnOk result (RunsTo h.now with.now phase.now state.old schedule.old state.new schedule.new) }
     ensures rested { OnOk result (NobodyCanStep (is_order schedule.old) h.now with.now phase.now state.old state.new) }
     ensures stopped { OnErr result (StopsAt h.now with.now phase.now state.old schedule.old state.new) }
-    ensures between { OnOk result (IsBetween (is_order schedule.old) (about h.now with.now state.old) with.now (done.now ++ phase.now) (held h.now with.now state.new)) }
-    ensures into { OnErr result (IsStopped (is_order schedule.old) (about h.now with.now state.old) (phase_from h.now with.now phase.now state.old) done.now (held h.now with.now state.new)) }
+    ensures idle { OnOk result (AreIdle (held h.now with.now state.new)) }
+    ensures begun { OnOk result (HasBegunAll (phase_from h.now with.now phase.now state.old) (held h.now with.now state.new)) }
+    ensures behind { OnOk result (EndsBehindAny (is_order schedule.old) h.now with.now phase.now state.old state.new) }
+    ensures into { OnErr result (StopsBehindAny (is_order schedule.old) h.now with.now phase.now state.old state.new) }
 {
     let left = streams_open(&next, phase.len());
     let before = Snapshot::of(state);
@@ -129,7 +132,6 @@ fn run_from(
     let mut running = Running {
         h,
         with: *with,
-        done,
         phase,
         in_order: is_order(schedule),
         before,
@@ -145,14 +147,46 @@ fn run_from(
     ran
 }
 
-/// Runs a phase of a script's commands, behind those that are done: turn by turn, each step made by the actor
-/// whose turn it is of those that can make the step that is due for them, until nobody can. Under
-/// `Schedule::Order` the commands go one after the other, and hands make no step; by a seed each turn is drawn.
-/// Then every command of the phase has begun and ended, and all actors are idle.
+/// Runs commands as one phase over a core whose actors, those of a script's run, are all idle: turn by turn, each
+/// step made by the actor whose turn it is of those that can make the step that is due for them, until nobody can.
+/// Under `Schedule::Order` the commands go one after the other, and hands make no step; by a seed each turn is
+/// drawn. Then every command of the phase has begun and ended, and all actors are idle. What the core did before
+/// doesn't matter; where its history was a run of some commands, it goes on as one of these and those of the phase.
 ///
 /// Where a command finds no memory it ends with that, and the phase goes on. Only where none is found for noting
 /// that either, for noting that a barrier begins, or for the cursors of the phase, this answers `AllocError`, with the
 /// state that was reached.
+pub fn run_commands(
+    alloc: Global,
+    h: &Hierarchy,
+    with: &Use,
+    phase: &[Command],
+    state: &mut State,
+    schedule: &mut Schedule,
+) -> Result<(), AllocError>
+    requires core { IsCoreHeld h.now with.now state.old }
+    requires may_run { MayAllRun h.now with.now phase.now }
+    requires closes { ClosesLast phase.now }
+    requires idle { AreIdle (held h.now with.now state.old) }
+    ensures core { IsCoreHeld h.now with.now state.new }
+    ensures about { about h.now with.now state.new ≡ about h.now with.now state.old }
+    ensures order { is_order schedule.new ≡ is_order schedule.old }
+    ensures turns { OnOk result (RunsTo h.now with.now phase.now state.old schedule.old state.new schedule.new) }
+    ensures rested { OnOk result (NobodyCanStep (is_order schedule.old) h.now with.now phase.now state.old state.new) }
+    ensures stopped { OnErr result (StopsAt h.now with.now phase.now state.old schedule.old state.new) }
+    ensures idle { OnOk result (AreIdle (held h.now with.now state.new)) }
+    ensures begun { OnOk result (HasBegunAll (phase_from h.now with.now phase.now state.old) (held h.now with.now state.new)) }
+    ensures behind { OnOk result (EndsBehindAny (is_order schedule.old) h.now with.now phase.now state.old state.new) }
+    ensures into { OnErr result (StopsBehindAny (is_order schedule.old) h.now with.now phase.now state.old state.new) }
+{
+    match first_cursors(alloc, with, phase, state.actors.len()) {
+        Ok(next) => run_from(alloc, h, with, phase, state, schedule, next),
+        Err(refused) => Err(refused),
+    }
+}
+
+/// Runs the next phase of a script's commands, behind those that are done, as `run_commands` does. Then the history
+/// is a run of all of them; or where it stopped, a part of one.
 pub fn run_phase(
     alloc: Global,
     h: &Hierarchy,
@@ -175,8 +209,6 @@ pub fn run_phase(
     ensures between { OnOk result (IsBetween (is_order schedule.old) (about h.now with.now state.old) with.now (done.now ++ phase.now) (held h.now with.now state.new)) }
     ensures into { OnErr result (IsStopped (is_order schedule.old) (about h.now with.now state.old) (phase_from h.now with.now phase.now state.old) done.now (held h.now with.now state.new)) }
 {
-    match first_cursors(alloc, with, phase, state.actors.len()) {
-        Ok(next) => run_from(alloc, h, with, done, phase, state, schedule, next),
-        Err(refused) => Err(refused),
-    }
+    let _ = done;
+    run_commands(alloc, h, with, phase, state, schedule)
 }

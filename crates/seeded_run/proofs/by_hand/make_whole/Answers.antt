@@ -1,6 +1,6 @@
 use Rattle.seeded_run.specs.Machine.{HoldsNow}
-use Rattle.seeded_run.proofs.ByHand.{after-look, later-then, moved-from-first, stopped-from-first, stops-later}
-use Rattle.seeded_run.proofs.WholePhases.{begins-alone, begins-kept, some-actor}
+use Rattle.seeded_run.proofs.ByHand.{after-look, later-then, moved-from-first, stopped-from-first}
+use Rattle.seeded_run.proofs.WholePhases.{begins-alone, begins-kept, some-actor, stopped-behind}
 use Rattle.seeded_run.proofs.by_hand.make_whole.Goals as goal
 
 pub look_first-requires-clause-kept : goal.look_first-requires-clause-kept
@@ -34,7 +34,7 @@ pub returns-clause-into : goal.returns-clause-into
 unfolding HoldsNow
 returns-clause-into c =
     let later = later-then c.args.running.now c.look_first.new.self c.make_all.new.self (after-look c.args.running.now c.look_first.new.self c.look_first.ensures.same) c.make_all.ensures.later in
-    stops-later c.args.running.now c.make_all.new.self later c.make_all.ensures.holds
+    stopped-behind c.args.running.now c.make_all.new.self c.requires.first.before later.same later.about c.make_all.ensures.holds
 
 pub returns-clause-moved : goal.returns-clause-moved
 returns-clause-moved c = moved-from-first c.args.running.now c.look_first.new.self c.make_all.new.self c.look_first.ensures.same c.args.moves.now c.make_all.result c.make_all.ensures.moved

@@ -1,4 +1,4 @@
-use Rattle.seeded_run.proofs.PhaseRuns.{phase-begins-law, phase-ends-law, runs-law, stops-law}
+use Rattle.seeded_run.proofs.PhaseRuns.{phase-begins-law, phase-ends-law, runs-law}
 use Rattle.seeded_run.proofs.laws.phases_begin_and_end.Goals as goal
 
 pub returns-clause-begins : goal.returns-clause-begins
@@ -9,6 +9,3 @@ returns-clause-ends c = phase-ends-law
 
 pub returns-clause-runs : goal.returns-clause-runs
 returns-clause-runs c = runs-law
-
-pub returns-clause-stops : goal.returns-clause-stops
-returns-clause-stops c = stops-law

@@ -1,12 +1,28 @@
-use Rattle.std.proofs.Common.{◌∙◌, ap, length, refl, subst, sym}
+use Rattle.std.proofs.Common.{◌∙◌, ap, length, refl, subst}
+use Rattle.std.specs.Prelude.{OnErr, OnOk}
+use Rattle.volap_cell.specs.declared.state.State.{State}
 use Rattle.seeded_run.specs.Machine.{streams_open}
-use Rattle.seeded_run.specs.Kept.{IsBetween}
-use Rattle.seeded_run.specs.Phase.{about, held}
+use Rattle.seeded_run.specs.Kept.{HasBegunAll}
+use Rattle.seeded_run.specs.Phase.{EndsBehindAny, StopsBehindAny, held, phase_from}
+use Rattle.seeded_run.specs.Order.{is_order}
 use Rattle.seeded_run.proofs.FirstCursors.{first-moment}
 use Rattle.seeded_run.proofs.phase.run_from.Goals as goal
 
 pub run_whole-ran-requires-clause-first : goal.run_whole-ran-requires-clause-first
 run_whole-ran-requires-clause-first c =
-    first-moment _ c.args.state.now c.replace.ensures.value c.requires.core c.requires.may_run c.requires.closes
-    (subst (λ b. IsBetween b (about c.args.h.now c.args.with.now c.args.state.now) c.args.with.now c.args.done.now (held c.args.h.now c.args.with.now c.args.state.now)) (sym c.is_order.ensures) c.requires.between)
+    first-moment _ c.args.state.now c.replace.ensures.value c.requires.core c.requires.may_run c.requires.closes c.requires.idle
     c.of-before.ensures c.requires.first (c.streams_open-left.ensures ∙ ap (streams_open (length c.args.phase.now)) c.deref.ensures.value) refl
+
+pub returns-clause-begun : goal.returns-clause-begun
+returns-clause-begun c =
+    subst (λ (x : State). OnOk c.run_whole-ran.result (HasBegunAll (phase_from c.args.h.now c.args.with.now c.args.phase.now x) (held c.args.h.now c.args.with.now c.run_whole-ran.new.running.state))) c.of-before.ensures c.run_whole-ran.ensures.begun
+
+pub returns-clause-behind : goal.returns-clause-behind
+returns-clause-behind c =
+    subst (λ (x : State). OnOk c.run_whole-ran.result (EndsBehindAny (is_order c.args.schedule.now) c.args.h.now c.args.with.now c.args.phase.now x c.run_whole-ran.new.running.state)) c.of-before.ensures
+    (subst (λ b. OnOk c.run_whole-ran.result (EndsBehindAny b c.args.h.now c.args.with.now c.args.phase.now c.of-before.result.value c.run_whole-ran.new.running.state)) c.is_order.ensures c.run_whole-ran.ensures.behind)
+
+pub returns-clause-into : goal.returns-clause-into
+returns-clause-into c =
+    subst (λ (x : State). OnErr c.run_whole-ran.result (StopsBehindAny (is_order c.args.schedule.now) c.args.h.now c.args.with.now c.args.phase.now x c.run_whole-ran.new.running.state)) c.of-before.ensures
+    (subst (λ b. OnErr c.run_whole-ran.result (StopsBehindAny b c.args.h.now c.args.with.now c.args.phase.now c.of-before.result.value c.run_whole-ran.new.running.state)) c.is_order.ensures c.run_whole-ran.ensures.into)

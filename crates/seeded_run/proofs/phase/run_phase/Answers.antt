@@ -1,10 +1,15 @@
-use Rattle.std.proofs.Common.{refl, []}
-use Rattle.seeded_run.proofs.FirstCursors.{stopped-first}
+use Rattle.seeded_run.specs.Phase.{EndsBehindAny, StopsBehindAny}
+use Rattle.seeded_run.proofs.WholePhases.{may-behind, on-fault, on-one}
 use Rattle.seeded_run.proofs.phase.run_phase.Goals as goal
 
-pub returns-in-Err-clause-stopped : goal.returns-in-Err-clause-stopped
-returns-in-Err-clause-stopped c = (c.args.schedule.now, record { turns = []; are = refl })
+pub run_commands-requires-clause-may_run : goal.run_commands-requires-clause-may_run
+run_commands-requires-clause-may_run c = may-behind c.args.h.now c.args.with.now c.args.done.now c.args.phase.now c.requires.may_run
 
-pub returns-in-Err-clause-into : goal.returns-in-Err-clause-into
-returns-in-Err-clause-into c =
-    stopped-first c.args.h.now c.args.with.now c.args.done.now c.args.phase.now c.args.state.now c.requires.core c.requires.may_run c.requires.closes _ c.requires.between
+pub run_commands-requires-clause-idle : goal.run_commands-requires-clause-idle
+run_commands-requires-clause-idle c = c.requires.between.idle
+
+pub returns-clause-between : goal.returns-clause-between
+returns-clause-between c = on-one c.run_commands.result _ _ (λ (ends : EndsBehindAny _ _ _ _ _ _). ends c.args.done.now c.requires.between) c.run_commands.ensures.behind
+
+pub returns-clause-into : goal.returns-clause-into
+returns-clause-into c = on-fault c.run_commands.result _ _ (λ (stops : StopsBehindAny _ _ _ _ _ _). stops c.args.done.now c.requires.between) c.run_commands.ensures.into

@@ -43,9 +43,17 @@ pub returns-clause-rested : goal.returns-clause-rested
 unfolding HoldsNow
 returns-clause-rested c = (let x = ends-so c.args.running.now c.requires.first c.args.schedule.now c.requires.order c.look_first.new.self c.run_turns.new.running c.look_first.ensures.same c.look_first.ensures.held c.run_turns.ensures.held c.run_turns.new.schedule c.run_turns.result c.run_turns.ensures.turns c.run_turns.ensures.ended c.run_turns.ensures.stopped in on-one c.run_turns.result _ _ (λ (w : WholeRun _ _ _ _). w.rested) x.0)
 
-pub returns-clause-between : goal.returns-clause-between
+pub returns-clause-idle : goal.returns-clause-idle
 unfolding HoldsNow
-returns-clause-between c = (let x = ends-so c.args.running.now c.requires.first c.args.schedule.now c.requires.order c.look_first.new.self c.run_turns.new.running c.look_first.ensures.same c.look_first.ensures.held c.run_turns.ensures.held c.run_turns.new.schedule c.run_turns.result c.run_turns.ensures.turns c.run_turns.ensures.ended c.run_turns.ensures.stopped in on-one c.run_turns.result _ _ (λ (w : WholeRun _ _ _ _). w.between) x.0)
+returns-clause-idle c = (let x = ends-so c.args.running.now c.requires.first c.args.schedule.now c.requires.order c.look_first.new.self c.run_turns.new.running c.look_first.ensures.same c.look_first.ensures.held c.run_turns.ensures.held c.run_turns.new.schedule c.run_turns.result c.run_turns.ensures.turns c.run_turns.ensures.ended c.run_turns.ensures.stopped in on-one c.run_turns.result _ _ (λ (w : WholeRun _ _ _ _). w.idle) x.0)
+
+pub returns-clause-begun : goal.returns-clause-begun
+unfolding HoldsNow
+returns-clause-begun c = (let x = ends-so c.args.running.now c.requires.first c.args.schedule.now c.requires.order c.look_first.new.self c.run_turns.new.running c.look_first.ensures.same c.look_first.ensures.held c.run_turns.ensures.held c.run_turns.new.schedule c.run_turns.result c.run_turns.ensures.turns c.run_turns.ensures.ended c.run_turns.ensures.stopped in on-one c.run_turns.result _ _ (λ (w : WholeRun _ _ _ _). w.begun) x.0)
+
+pub returns-clause-behind : goal.returns-clause-behind
+unfolding HoldsNow
+returns-clause-behind c = (let x = ends-so c.args.running.now c.requires.first c.args.schedule.now c.requires.order c.look_first.new.self c.run_turns.new.running c.look_first.ensures.same c.look_first.ensures.held c.run_turns.ensures.held c.run_turns.new.schedule c.run_turns.result c.run_turns.ensures.turns c.run_turns.ensures.ended c.run_turns.ensures.stopped in on-one c.run_turns.result _ _ (λ (w : WholeRun _ _ _ _). w.behind) x.0)
 
 pub returns-clause-stopped : goal.returns-clause-stopped
 unfolding HoldsNow
@@ -53,4 +61,4 @@ returns-clause-stopped c = (let x = ends-so c.args.running.now c.requires.first 
 
 pub returns-clause-into : goal.returns-clause-into
 unfolding HoldsNow
-returns-clause-into c = (let x = ends-so c.args.running.now c.requires.first c.args.schedule.now c.requires.order c.look_first.new.self c.run_turns.new.running c.look_first.ensures.same c.look_first.ensures.held c.run_turns.ensures.held c.run_turns.new.schedule c.run_turns.result c.run_turns.ensures.turns c.run_turns.ensures.ended c.run_turns.ensures.stopped in on-fault c.run_turns.result _ _ (λ (p : PartRun _ _ _ _). p.into) x.1)
+returns-clause-into c = (let x = ends-so c.args.running.now c.requires.first c.args.schedule.now c.requires.order c.look_first.new.self c.run_turns.new.running c.look_first.ensures.same c.look_first.ensures.held c.run_turns.ensures.held c.run_turns.new.schedule c.run_turns.result c.run_turns.ensures.turns c.run_turns.ensures.ended c.run_turns.ensures.stopped in on-fault c.run_turns.result _ _ (λ (p : PartRun _ _ _ _). p.behind) x.1)

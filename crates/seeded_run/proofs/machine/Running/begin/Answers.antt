@@ -1,11 +1,10 @@
-use Rattle.std.proofs.Common.{◌∙◌, ap, subst, sym}
-use Rattle.std.specs.Prelude.{slice_get}
+use Rattle.std.proofs.Common.{◌∙◌, subst, sym}
 use Rattle.volap_cell.specs.declared.kind.Kind.{Kind}
 use Rattle.seeded_run.specs.Instead.{StandsFor}
 use Rattle.seeded_run.specs.Machine.{about_in, world_of}
 use Rattle.seeded_run.proofs.Begun.{no-part}
 use Rattle.seeded_run.proofs.DueBegins.{beginning-is}
-use Rattle.seeded_run.proofs.Held.{at-next, some-within}
+use Rattle.seeded_run.proofs.Held.{some-within}
 use Rattle.seeded_run.proofs.Turns.{has-begun, rests-held, to-begin}
 use Rattle.seeded_run.proofs.machine.Running.begin.Goals as goal
 
@@ -19,8 +18,7 @@ returns-in-Err-clause-rests c = rests-held c.args.self.now c.requires.held c.beg
 
 pub move_on-requires-clause-session : goal.move_on-requires-clause-session
 move_on-requires-clause-session c =
-    let m = c.args.self.now in
-    c.session_of-session.ensures.value ∙ c.requires.held.kept.is_running.own c.args.number c.args.command.now (ap (slice_get m.phase.now) (at-next m c.requires.held.kept c.args.number) ∙ c.requires.next)
+    c.session_of-session.ensures.value ∙ c.requires.held.kept.is_running.own c.args.number c.args.command.now c.requires.next
 
 pub move_on-requires-clause-next : goal.move_on-requires-clause-next
 move_on-requires-clause-next c = some-within c.args.self.now.phase.now _ c.args.command.now c.requires.next
