@@ -212,16 +212,13 @@ module _ (hs : List Dimension) (maps others : List Change) (gate_at registry_at 
       let over = up.few b same in
       let done = done-few s v g i n up.of b job (command-here ∙ ap (doing up.of) same) (subst (λ (k : Work). IsJobOf k job) same its-job) in
       record { count = record { of = up.of; balance = b; command_is = up.command ∙ ap (doing up.of) same; few = omega (arith, over, done) }; few = over; some = refl }
-  may-close (work_is.Split z) same = tt
-  may-close (work_is.Move z to) same = tt
+  may-close (work_is.Action act) same = tt
   may-close (work_is.Insert row routed) same = tt
   may-close work_is.Query same = tt
   may-close (work_is.Sync server pulled) same = tt
-  may-close work_is.Barrier same = tt
+  may-close work_is.Bare same = tt
   may-close (work_is.Settle pulls) same = tt
-  may-close (work_is.Shards shown) same = tt
-  may-close (work_is.Tree z stands shown) same = tt
-  may-close (work_is.Audit shown) same = tt
+  may-close (work_is.Page subject there shown) same = tt
 
   -- the table of the worker that has the shard knows it
   pub known : (from_at : ℕ) (from : CellValue) → here.world.cells from_at ≡ from → tag_of from ≡ MapOf job.worker → (worker : ℕ) (table : map.FinMap nat_cmp Where) → from ≡ MapCell worker table → IsSome (map.get table job.shard)

@@ -19,14 +19,16 @@ use Rattle.dim_hierarchy.specs.declared.row.Row.{Row}
 use Rattle.describing_set.specs.declared.listing.Spot.{Spot}
 use Rattle.row_ledger.specs.Laws.{AscendFrom}
 use Rattle.row_ledger.specs.Listings.{places_of}
-use Rattle.row_ledger.specs.Past.{Step, before, call_at, work}
+use Rattle.row_ledger.specs.Past.{Step, before, work}
 use Rattle.row_ledger.specs.Kept.{KeepsRight}
 use Rattle.row_ledger.specs.Shards.{is_live}
 use Rattle.row_ledger.specs.Workers.{is_on}
 use Rattle.row_ledger.specs.Work.{DidOnly, is_known}
 use Rattle.row_ledger.specs.declared.event.Event.{Event}
 use Rattle.row_ledger.specs.declared.event.Event.TheVariants.{Ended, Moved}
-use Rattle.row_ledger.specs.declared.settings.Call.TheVariants as call_is
+use Rattle.row_ledger.specs.declared.class.Class.{Class}
+use Rattle.row_ledger.specs.declared.class.Class.TheVariants as class_is
+use Rattle.row_ledger.specs.Right.{AsksMove, MayEnd, shows}
 use Rattle.row_ledger.specs.declared.settings.How.TheVariants as how_is
 use Rattle.row_ledger.proofs.Ascent.{frontier-ascends}
 use Rattle.row_ledger.proofs.Growth.{KeepsRight-ended, KeepsRight-moved}
@@ -60,7 +62,7 @@ use Rattle.volap_cell.specs.Lineage.{Lineage}
 use Rattle.volap_cell.specs.Placing.{Inserting, Placing}
 use Rattle.volap_cell.specs.Desking.{Desking}
 use Rattle.volap_cell.specs.Owing.{Owing, owed_by}
-use Rattle.volap_cell.specs.Telling.{IsProgress, Telling}
+use Rattle.volap_cell.specs.Telling.{IsCalledAs, IsProgress, Telling}
 use Rattle.volap_cell.specs.Planning.{job_for, next_job}
 use Rattle.volap_cell.specs.Querying.{IsInTreeOf, Querying}
 use Rattle.volap_cell.specs.Setting.{Setting, actor_count, cell_count, ledger_cell, site_in}
@@ -83,7 +85,7 @@ use Rattle.volap_cell.proofs.GrowsReads.{ReadersTake, pinned-whole, readers-take
 use Rattle.volap_cell.proofs.Persons.{has-command}
 use Rattle.volap_cell.proofs.Grows.{call-kept, query-same}
 use Rattle.volap_cell.proofs.GrowsKnown.{AreOlder, older-rows}
-use Rattle.volap_cell.proofs.GrowsTold.{commands-older}
+use Rattle.volap_cell.proofs.GrowsTold.{called-kept, commands-older}
 use Rattle.volap_cell.proofs.GrowsTrees.{growing-grown, past-there, queueing-grown}
 use Rattle.volap_cell.proofs.NotedCommands.{telling-goes-on}
 use Rattle.volap_cell.proofs.QuietHistory.{covering-quiet, desking-quiet, desks-older, imaging-quiet, inserting-quiet, lineage-quiet, placing-quiet, querying-quiet, readers-older, resting-quiet}
@@ -120,26 +122,17 @@ pub record IsFinished (s : Setting) (w w2 : World) (g : Ghost) : Type 0 where
 
 -- The command of a job that moves a shard is a move, or a balance.
 finish-cases : (of : ℕ) (work k : Work) (job : JobValue) (to : ℕ) (e : Event) (led : Change) (a b : ActorValue) → work ≡ k → IsJobOf k job → job.to ≡ Some to → Finishes of k job e led a b
-    → ((b ≡ record a { purse = []; seen = b.seen; command = None; job = None }) × PushesBoth e (Ended of how_is.Fine) led b.seen × (work ≡ work_is.Move job.shard to))
+    → ((b ≡ record a { purse = []; seen = b.seen; command = None; job = None }) × PushesBoth e (Ended of how_is.Fine) led b.seen × (work ≡ work_is.Action (action.Move job.shard to)))
     ⊎ ((balance : Balance) × (work ≡ work_is.Balance balance)
     × (b ≡ record a { purse = []; seen = b.seen; command = doing of (work_is.Balance (after_action true job balance)); job = next_job (after_action true job balance) }) × Pushes e 0 1 led b.seen)
-finish-cases of work (work_is.Move z there) job to e led a b is its to_is f =
-    let both : action.Move job.shard to ≡ action.Move z there = sym (ap (action_to job.shard) to_is) ∙ its in
-    let same_shard : job.shard ≡ z = cc in
-    let same_to : to ≡ there = cc in
-    let one = sym same_shard in
-    let two = sym same_to in
-    inl (f.1, f.0, is ∙ (λ k. work_is.Move (one k) (two k)))
-finish-cases of work (work_is.Split z) job to e led a b is its to_is f = (let no : action.Move job.shard to ≡ action.Split z = sym (ap (action_to job.shard) to_is) ∙ its in cc)
+finish-cases of work (work_is.Action act) job to e led a b is its to_is f = inl (f.1, f.0, is ∙ ap work_is.Action (sym its ∙ ap (action_to job.shard) to_is))
 finish-cases of work (work_is.Balance k) job to e led a b is its to_is f = inr (k, is, f.1, f.0)
 finish-cases of work (work_is.Insert row routed) job to e led a b is its to_is f = absurd its
 finish-cases of work work_is.Query job to e led a b is its to_is f = absurd its
 finish-cases of work (work_is.Sync server pulled) job to e led a b is its to_is f = absurd its
-finish-cases of work work_is.Barrier job to e led a b is its to_is f = absurd its
+finish-cases of work work_is.Bare job to e led a b is its to_is f = absurd its
 finish-cases of work (work_is.Settle pulls) job to e led a b is its to_is f = absurd its
-finish-cases of work (work_is.Shards shown) job to e led a b is its to_is f = absurd its
-finish-cases of work (work_is.Tree z stands shown) job to e led a b is its to_is f = absurd its
-finish-cases of work (work_is.Audit shown) job to e led a b is its to_is f = absurd its
+finish-cases of work (work_is.Page subject there shown) job to e led a b is its to_is f = absurd its
 
 -- a blank cell has no gate that counts
 pub blank-counts : (c : CellValue) → tag_of c ≡ OfStock → gate_shard c ≡ None → (active_in c ≡ 0) × (pins_in c ≡ 0)
@@ -501,7 +494,7 @@ module _ (maps : List Change) (x gc reg c led : Change) (b : ActorValue) (s : Se
   its-action : action_of d.job ≡ action.Move shard d.to
   its-action = ap (action_to shard) d.to_is
 
-  module _ (is : b ≡ record (w.actors n) { purse = []; seen = b.seen; command = None; job = None }) (p : PushesBoth e (Ended d.of how_is.Fine) led b.seen) (is_move : d.work ≡ work_is.Move shard d.to) where
+  module _ (is : b ≡ record (w.actors n) { purse = []; seen = b.seen; command = None; job = None }) (p : PushesBoth e (Ended d.of how_is.Fine) led b.seen) (is_move : d.work ≡ work_is.Action (action.Move shard d.to)) where
     abbrev f : Event
     f = Ended d.of how_is.Fine
 
@@ -517,15 +510,15 @@ module _ (maps : List Change) (x gc reg c led : Change) (b : ActorValue) (s : Se
     promised : v.promised ≡ u.promised + 2
     promised = ap (λ (l : LedgerValue). l.promised) news.was_that ∙ p.promised ∙ sym (ap (λ (l : LedgerValue). l.promised + 2) news.is_that)
 
-    told : (call_at h d.of ≡ Some (call_is.Move shard d.to)) × (work h d.of ≡ []) × (true ≡ is_known (site_in s) (before h d.of) (action.Move shard d.to))
+    told : IsCalledAs h d.of (class_is.Action (action.Move shard d.to)) × (work h d.of ≡ []) × (true ≡ is_known (site_in s) (before h d.of) (action.Move shard d.to))
     told = subst (λ (k : Work). IsProgress s h d.of k (Some d.job) (v.roles n)) is_move progress
 
     right-moved : KeepsRight (site_in s) g.placed (e ∷ h)
     right-moved = KeepsRight-moved (site_in s) g.placed h d.of shard d.to i.telling.right (record {
-      call = call_is.Move shard d.to;
-      called = told.0;
+      call = told.0.0;
+      called = told.0.1;
       is_open = i.telling.is_open n its-command d.command;
-      asked = (refl, refl, told.1);
+      asked = subst (λ (c : Class). AsksMove h d.of c shard d.to) (sym told.0.2) (refl, refl, told.1);
       live = live;
     })
 
@@ -534,14 +527,14 @@ module _ (maps : List Change) (x gc reg c led : Change) (b : ActorValue) (s : Se
 
     right : KeepsRight (site_in s) g.placed history
     right = KeepsRight-ended (site_in s) g.placed (e ∷ h) d.of how_is.Fine right-moved (record {
-      call = call_is.Move shard d.to;
-      called = call-kept e h d.of _ told.0;
+      call = told.0.0;
+      called = call-kept e h d.of _ told.0.1;
       is_open = i.telling.is_open n its-command d.command;
-      may_end = (
+      may_end = subst (λ (c : Class). MayEnd (site_in s) g.placed (e ∷ h) d.of c how_is.Fine) (sym told.0.2) (
         ap (λ (past : List Event). is_known (site_in s) past (action.Move shard d.to)) (before-older e h d.of (le_of_lt (began n its-command d.command))) ∙ sym told.2,
         subst (DidOnly (action.Move shard d.to)) (sym worked) (refl, refl),
       );
-      page = unasked s v g i n d.of (call_is.Move shard d.to) told.0 refl;
+      page = unasked s v g i n d.of _ told.0 refl ∙ ap (λ (c : Class). shows c how_is.Fine) (sym told.0.2);
     })
 
     no-job : (j : JobValue) → ◌≡◌ {A = Option JobValue} None (Some j) → j.stage ≡ IsCalled
@@ -631,7 +624,7 @@ module _ (maps : List Change) (x gc reg c led : Change) (b : ActorValue) (s : Se
     is-next : next_job balance ≡ Some (begun d.job)
     is-next = subst (λ (k : Work). IsJobOf k d.job) works its-work
 
-    calls : (call_at h d.of ≡ Some (call_is.Balance balance.most)) × (v.roles n ≡ Admin)
+    calls : IsCalledAs h d.of (class_is.Balance balance.most) × (v.roles n ≡ Admin)
     calls = subst (λ (k : Work). IsProgress s h d.of k (Some d.job) (v.roles n)) works progress
 
     began-here : d.of < length h
@@ -681,10 +674,10 @@ module _ (maps : List Change) (x gc reg c led : Change) (b : ActorValue) (s : Se
 
       right-on : KeepsRight (site_in s) g.placed (e ∷ h)
       right-on = KeepsRight-moved (site_in s) g.placed h d.of shard d.to i.telling.right (record {
-        call = call_is.Balance balance.most;
-        called = calls.0;
+        call = calls.0.0;
+        called = calls.0.1;
         is_open = i.telling.is_open n its-command d.command;
-        asked = tt;
+        asked = subst (λ (c : Class). AsksMove h d.of c shard d.to) (sym calls.0.2) tt;
         live = live;
       })
 
@@ -746,7 +739,7 @@ module _ (maps : List Change) (x gc reg c led : Change) (b : ActorValue) (s : Se
             others = λ a ne. (command-on.elsewhere a ne, job-on.elsewhere a ne, seen-off grown (Some its_now) (next_job next) is called a ne);
             all_seen = ap (λ (a : ActorValue). a.seen) (actor-now grown (Some its_now) (next_job next) is called) ∙ pushed.all_seen ∙ ap length pushed.history_is;
           })
-          right-on i.telling its-command its_now refl refl (λ r has. let both : ◌≡◌ {A = Option ℕ} (Some d.of) (Some r) = has in let it : d.of ≡ r = cc in sym it) d.command command-on.is_there refl (call-kept e h d.of _ calls.0, calls.1))
+          right-on i.telling its-command its_now refl refl (λ r has. let both : ◌≡◌ {A = Option ℕ} (Some d.of) (Some r) = has in let it : d.of ≡ r = cc in sym it) d.command command-on.is_there refl (called-kept e h d.of _ calls.0, calls.1))
           owing-on
           (lineage-1 grown (Some its_now) (next_job next) is called) (growing-1 grown (Some its_now) (next_job next) is called) (queueing-1 grown (Some its_now) (next_job next) is called) (resting-1 grown (Some its_now) (next_job next) is called)
           (placing-1 grown (Some its_now) (next_job next) is called) (moved-inserting s w g i d.of shard d.to) (imaging-1 grown (Some its_now) (next_job next) is called) (covering-1 grown (Some its_now) (next_job next) is called)

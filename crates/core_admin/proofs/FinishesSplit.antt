@@ -5,12 +5,14 @@ use Rattle.cell_stock.specs.Stock.{StockValue}
 use Rattle.row_ledger.specs.LedgerValue.{LedgerValue}
 use Rattle.volap_cell.proofs.Touches.{IsBlank}
 use Rattle.dim_hierarchy.specs.declared.row.Row.{Row}
+use Rattle.row_ledger.specs.Classes.{class_of}
 use Rattle.row_ledger.specs.Past.{Step, before, call_at, work}
 use Rattle.row_ledger.specs.Kept.{KeepsRight}
 use Rattle.row_ledger.specs.Shards.{is_live}
 use Rattle.row_ledger.specs.Work.{DidOnly, is_known}
 use Rattle.row_ledger.specs.declared.event.Event.{Event}
-use Rattle.row_ledger.specs.declared.settings.Call.TheVariants as call_is
+use Rattle.row_ledger.specs.declared.class.Class.{Class}
+use Rattle.row_ledger.specs.declared.class.Class.TheVariants as class_is
 use Rattle.row_ledger.specs.declared.settings.How.TheVariants as how_is
 use Rattle.row_ledger.proofs.Positions.{before-older}
 use Rattle.shard_plan.specs.declared.action.Action.{Action}
@@ -34,7 +36,7 @@ use Rattle.volap_cell.specs.Lineage.{Lineage}
 use Rattle.volap_cell.specs.Placing.{Inserting, Placing}
 use Rattle.volap_cell.specs.Desking.{Desking}
 use Rattle.volap_cell.specs.Owing.{Owing, owed_by}
-use Rattle.volap_cell.specs.Telling.{IsProgress, Telling}
+use Rattle.volap_cell.specs.Telling.{IsCalledAs, IsProgress, Telling}
 use Rattle.volap_cell.specs.Planning.{next_job}
 use Rattle.volap_cell.specs.Querying.{IsInTreeOf, Querying}
 use Rattle.volap_cell.specs.Setting.{Setting, actor_count, cell_count, ledger_cell, site_in}
@@ -56,7 +58,7 @@ use Rattle.volap_cell.proofs.GrowsReads.{ReadersTake, pinned-whole, readers-take
 use Rattle.volap_cell.proofs.Persons.{has-command}
 use Rattle.volap_cell.proofs.Grows.{call-kept, query-same}
 use Rattle.volap_cell.proofs.GrowsKnown.{AreOlder, older-rows}
-use Rattle.volap_cell.proofs.GrowsTold.{commands-older}
+use Rattle.volap_cell.proofs.GrowsTold.{called-kept, commands-older}
 use Rattle.volap_cell.proofs.GrowsTrees.{growing-grown, past-there, queueing-grown}
 use Rattle.volap_cell.proofs.NotedCommands.{telling-goes-on}
 use Rattle.volap_cell.proofs.QuietHistory.{covering-quiet, desking-quiet, desks-older, imaging-quiet, inserting-quiet, lineage-quiet, placing-quiet, querying-quiet, readers-older, resting-quiet}
@@ -73,7 +75,7 @@ use Rattle.core_admin.proofs.RetiringTrees.{retired-growing, retired-pinning, re
 use Rattle.core_admin.proofs.Untouched.{querying-off}
 use Rattle.row_ledger.specs.declared.event.Event.TheVariants.{Ended, Split}
 use Rattle.row_ledger.specs.declared.settings.Call.{Call}
-use Rattle.row_ledger.specs.Right.{AsksSplit, IsRightSplit}
+use Rattle.row_ledger.specs.Right.{AsksSplit, IsRightSplit, MayEnd, shows}
 use Rattle.row_ledger.specs.Shards.{ids_made}
 use Rattle.row_ledger.proofs.Growth.{KeepsRight-ended, KeepsRight-split}
 use Rattle.std.specs.Prelude.{not}
@@ -97,24 +99,17 @@ use Rattle.core_admin.proofs.SplitsShard.{ledger-now, stock-now}
 
 -- The command of a job that splits a shard is a split, or a balance.
 split-cases : (of : ℕ) (work k : Work) (job : JobValue) (e : Event) (led : Change) (a b : ActorValue) → work ≡ k → IsJobOf k job → job.to ≡ None → Finishes of k job e led a b
-    → ((b ≡ record a { purse = []; seen = b.seen; command = None; job = None }) × PushesBoth e (Ended of how_is.Fine) led b.seen × (work ≡ work_is.Split job.shard))
+    → ((b ≡ record a { purse = []; seen = b.seen; command = None; job = None }) × PushesBoth e (Ended of how_is.Fine) led b.seen × (work ≡ work_is.Action (action.Split job.shard)))
     ⊎ ((balance : Balance) × (work ≡ work_is.Balance balance)
     × (b ≡ record a { purse = []; seen = b.seen; command = doing of (work_is.Balance (after_action true job balance)); job = next_job (after_action true job balance) }) × Pushes e 0 1 led b.seen)
-split-cases of work (work_is.Split z) job e led a b is its to_is f =
-    let both : action.Split job.shard ≡ action.Split z = sym (ap (action_to job.shard) to_is) ∙ its in
-    let same_shard : job.shard ≡ z = cc in
-    let one = sym same_shard in
-    inl (f.1, f.0, is ∙ (λ k. work_is.Split (one k)))
-split-cases of work (work_is.Move z there) job e led a b is its to_is f = (let no : action.Split job.shard ≡ action.Move z there = sym (ap (action_to job.shard) to_is) ∙ its in cc)
+split-cases of work (work_is.Action act) job e led a b is its to_is f = inl (f.1, f.0, is ∙ ap work_is.Action (sym its ∙ ap (action_to job.shard) to_is))
 split-cases of work (work_is.Balance k) job e led a b is its to_is f = inr (k, is, f.1, f.0)
 split-cases of work (work_is.Insert row routed) job e led a b is its to_is f = absurd its
 split-cases of work work_is.Query job e led a b is its to_is f = absurd its
 split-cases of work (work_is.Sync server pulled) job e led a b is its to_is f = absurd its
-split-cases of work work_is.Barrier job e led a b is its to_is f = absurd its
+split-cases of work work_is.Bare job e led a b is its to_is f = absurd its
 split-cases of work (work_is.Settle pulls) job e led a b is its to_is f = absurd its
-split-cases of work (work_is.Shards shown) job e led a b is its to_is f = absurd its
-split-cases of work (work_is.Tree z stands shown) job e led a b is its to_is f = absurd its
-split-cases of work (work_is.Audit shown) job e led a b is its to_is f = absurd its
+split-cases of work (work_is.Page subject there shown) job e led a b is its to_is f = absurd its
 
 module _ (m x l r reg c led : Change) (b : ActorValue) (s : Setting) (w : World) (n : ℕ) (g : Ghost) (i : InvWith s (view s w) g) (ag : Agrees w (m ∷ x ∷ l ∷ r ∷ reg ∷ c ∷ led ∷ []) n (w.actors n)) (d : DoesFinishSplit s.hierarchy m x l r reg c led (w.actors n) b)
     (other : OtherLaw) (ends : CollectEndLaw) (gates : GateLaw) (few : d.stock.ids + 2 < 2 ^ 32) where
@@ -351,12 +346,12 @@ module _ (m x l r reg c led : Change) (b : ActorValue) (s : Setting) (w : World)
   began = commands-older s h i.telling
 
   -- the split is right, whoever asks for it
-  right-split : (call : Call) → call_at h d.of ≡ Some call → AsksSplit h d.of call shard → IsRightSplit (site_in s) h d.of shard left_id right_id
+  right-split : (call : Call) → call_at h d.of ≡ Some call → AsksSplit h d.of (class_of call) shard → IsRightSplit (site_in s) h d.of shard left_id right_id
   right-split call called asked =
       let next : left_id ≡ ids_made s.workers h = ap (λ (k : StockValue). k.ids) (sym (stock-now m x l r reg c led b s w n g i ag d).0) ∙ i.lineage.ids in
       record { call = call; called = called; is_open = i.telling.is_open n its-command d.command; asked = asked; live = live; next = next; after = ap (λ (k : ℕ). k + 1) next }
 
-  module _ (is : b ≡ record (w.actors n) { purse = []; seen = b.seen; command = None; job = None }) (p : PushesBoth e (Ended d.of how_is.Fine) led b.seen) (is_split : d.work ≡ work_is.Split shard) where
+  module _ (is : b ≡ record (w.actors n) { purse = []; seen = b.seen; command = None; job = None }) (p : PushesBoth e (Ended d.of how_is.Fine) led b.seen) (is_split : d.work ≡ work_is.Action (action.Split shard)) where
     abbrev f : Event
     f = Ended d.of how_is.Fine
 
@@ -372,11 +367,11 @@ module _ (m x l r reg c led : Change) (b : ActorValue) (s : Setting) (w : World)
     promised : v.promised ≡ u.promised + 2
     promised = ap (λ (l : LedgerValue). l.promised) news.was_that ∙ p.promised ∙ sym (ap (λ (l : LedgerValue). l.promised + 2) news.is_that)
 
-    told : (call_at h d.of ≡ Some (call_is.Split shard)) × (work h d.of ≡ []) × (true ≡ is_known (site_in s) (before h d.of) (action.Split shard))
+    told : IsCalledAs h d.of (class_is.Action (action.Split shard)) × (work h d.of ≡ []) × (true ≡ is_known (site_in s) (before h d.of) (action.Split shard))
     told = subst (λ (k : Work). IsProgress s h d.of k (Some d.job) (v.roles n)) is_split progress
 
     is-right : IsRightSplit (site_in s) h d.of shard left_id right_id
-    is-right = right-split (call_is.Split shard) told.0 (refl, told.1)
+    is-right = right-split told.0.0 told.0.1 (subst (λ (c : Class). AsksSplit h d.of c shard) (sym told.0.2) (refl, told.1))
 
     right-done : KeepsRight (site_in s) g.placed (e ∷ h)
     right-done = KeepsRight-split (site_in s) g.placed h d.of shard left_id right_id i.telling.right is-right
@@ -386,14 +381,14 @@ module _ (m x l r reg c led : Change) (b : ActorValue) (s : Setting) (w : World)
 
     right : KeepsRight (site_in s) g.placed history
     right = KeepsRight-ended (site_in s) g.placed (e ∷ h) d.of how_is.Fine right-done (record {
-      call = call_is.Split shard;
-      called = call-kept e h d.of _ told.0;
+      call = told.0.0;
+      called = call-kept e h d.of _ told.0.1;
       is_open = i.telling.is_open n its-command d.command;
-      may_end = (
+      may_end = subst (λ (c : Class). MayEnd (site_in s) g.placed (e ∷ h) d.of c how_is.Fine) (sym told.0.2) (
         ap (λ (past : List Event). is_known (site_in s) past (action.Split shard)) (before-older e h d.of (le_of_lt (began n its-command d.command))) ∙ sym told.2,
         subst (DidOnly (action.Split shard)) (sym worked) refl,
       );
-      page = unasked s v g i n d.of (call_is.Split shard) told.0 refl;
+      page = unasked s v g i n d.of _ told.0 refl ∙ ap (λ (c : Class). shows c how_is.Fine) (sym told.0.2);
     })
 
     no-job : (j : JobValue) → ◌≡◌ {A = Option JobValue} None (Some j) → j.stage ≡ IsCalled
@@ -483,14 +478,14 @@ module _ (m x l r reg c led : Change) (b : ActorValue) (s : Setting) (w : World)
     is-next : next_job balance ≡ Some (begun d.job)
     is-next = subst (λ (k : Work). IsJobOf k d.job) works its-work
 
-    calls : (call_at h d.of ≡ Some (call_is.Balance balance.most)) × (v.roles n ≡ Admin)
+    calls : IsCalledAs h d.of (class_is.Balance balance.most) × (v.roles n ≡ Admin)
     calls = subst (λ (k : Work). IsProgress s h d.of k (Some d.job) (v.roles n)) works progress
 
     began-here : d.of < length h
     began-here = began n its-command d.command
 
     asked-right : IsRightSplit (site_in s) h d.of shard left_id right_id
-    asked-right = right-split (call_is.Balance balance.most) calls.0 tt
+    asked-right = right-split calls.0.0 calls.0.1 (subst (λ (c : Class). AsksSplit h d.of c shard) (sym calls.0.2) tt)
 
     live-then : (z : ℕ) → is_live s.workers (e ∷ h) z ≡ true → ((is_live s.workers h z ≡ true) × (z ≢ shard)) ⊎ ((z ≡ left_id) ⊎ (z ≡ right_id))
     live-then = live-before (site_in s) g.placed h i.telling.right.right.each d.of shard left_id right_id d.job.worker asked-right (was-on m x l r reg c led b s w n g i ag d ends few asked-right)
@@ -572,7 +567,7 @@ module _ (m x l r reg c led : Change) (b : ActorValue) (s : Setting) (w : World)
             others = λ a ne. (command-on.elsewhere a ne, job-on.elsewhere a ne, seen-off asked-right grown (Some its_now) (next_job next) is called a ne);
             all_seen = ap (λ (a : ActorValue). a.seen) (actor-now asked-right grown (Some its_now) (next_job next) is called) ∙ pushed.all_seen ∙ ap length pushed.history_is;
           })
-          right-on i.telling its-command its_now refl refl (λ z has. let both : ◌≡◌ {A = Option ℕ} (Some d.of) (Some z) = has in let it : d.of ≡ z = cc in sym it) d.command command-on.is_there refl (call-kept e h d.of _ calls.0, calls.1))
+          right-on i.telling its-command its_now refl refl (λ z has. let both : ◌≡◌ {A = Option ℕ} (Some d.of) (Some z) = has in let it : d.of ≡ z = cc in sym it) d.command command-on.is_there refl (called-kept e h d.of _ calls.0, calls.1))
           owing-on
           (lineage-1 asked-right grown (Some its_now) (next_job next) is called) (growing-1 asked-right grown (Some its_now) (next_job next) is called) (queueing-1 asked-right grown (Some its_now) (next_job next) is called) (resting-1 asked-right grown (Some its_now) (next_job next) is called)
           (placing-1 asked-right grown (Some its_now) (next_job next) is called) (inserting-1 asked-right grown (Some its_now) (next_job next) is called) (imaging-1 asked-right grown (Some its_now) (next_job next) is called) (covering-1 asked-right grown (Some its_now) (next_job next) is called)

@@ -22,28 +22,22 @@ pub progress-alike : (s : Setting) (h : List Event) (of : ℕ) (work : Work) (jo
 progress-alike s h of (work_is.Insert row routed) job job_now role same p = p
 progress-alike s h of work_is.Query job job_now role same p = p
 progress-alike s h of (work_is.Sync server pulled) job job_now role same p = p
-progress-alike s h of work_is.Barrier job job_now role same p = p
+progress-alike s h of work_is.Bare job job_now role same p = p
 progress-alike s h of (work_is.Settle pulls) job job_now role same p = p
-progress-alike s h of (work_is.Split shard) job job_now role same p = (p.0, p.1, same ∙ p.2)
-progress-alike s h of (work_is.Move shard worker) job job_now role same p = (p.0, p.1, same ∙ p.2)
+progress-alike s h of (work_is.Action act) job job_now role same p = (p.0, p.1, same ∙ p.2)
 progress-alike s h of (work_is.Balance b) job job_now role same p = p
-progress-alike s h of (work_is.Shards shown) job job_now role same p = p
-progress-alike s h of (work_is.Tree shard stands shown) job job_now role same p = p
-progress-alike s h of (work_is.Audit shown) job job_now role same p = p
+progress-alike s h of (work_is.Page subject there shown) job job_now role same p = p
 
 -- a job at another stage is for the same command
 pub job-alike : (work : Work) (job : JobValue) (stage : StageValue) → IsJobOf work job → IsJobOf work (record job { stage = stage })
 job-alike (work_is.Insert row routed) job stage p = p
 job-alike work_is.Query job stage p = p
 job-alike (work_is.Sync server pulled) job stage p = p
-job-alike work_is.Barrier job stage p = p
+job-alike work_is.Bare job stage p = p
 job-alike (work_is.Settle pulls) job stage p = p
-job-alike (work_is.Split shard) job stage p = p
-job-alike (work_is.Move shard worker) job stage p = p
+job-alike (work_is.Action act) job stage p = p
 job-alike (work_is.Balance b) job stage p = p
-job-alike (work_is.Shards shown) job stage p = p
-job-alike (work_is.Tree shard stands shown) job stage p = p
-job-alike (work_is.Audit shown) job stage p = p
+job-alike (work_is.Page subject there shown) job stage p = p
 
 -- there is one administrator
 pub only-one : (s : Setting) (v : View) (g : Ghost) → InvWith s v g → (a b : ℕ) (j k : JobValue) → v.jobs a ≡ Some j → v.jobs b ≡ Some k → a ≡ b

@@ -45,15 +45,7 @@ module _ (of : ℕ) (its_work : Work) (job : JobValue) (e : Event) (led : Change
         record { ledger = lv; ledger_now = lv2; was = was; is = is; history = did.history; promised = omega (arith, promised); all_seen = seen },
         actor_is ∙ (λ k. record a { purse = []; seen = b.seen; command = next.0 k; job = next.1 k }),
       )
-  finishes-as (work_is.Split x) same asks =
-      let planned : plans its_work ≡ false = ap plans same in
-      let did : NotesDone false of e lv lv2 = subst (λ (x : Bool). NotesDone x of e lv lv2) planned noted in
-      let over : ClosesDone false job.shard job.to a.command b.command b.job = subst (λ (x : Bool). ClosesDone x job.shard job.to a.command b.command b.job) planned closed in
-      let promised = did.promised in (
-        record { ledger = lv; ledger_now = lv2; was = was; is = is; history = did.history; promised = omega (arith, promised); all_seen = seen },
-        actor_is ∙ (λ k. record a { purse = []; seen = b.seen; command = over.0 k; job = over.1 k }),
-      )
-  finishes-as (work_is.Move x to) same asks =
+  finishes-as (work_is.Action act) same asks =
       let planned : plans its_work ≡ false = ap plans same in
       let did : NotesDone false of e lv lv2 = subst (λ (x : Bool). NotesDone x of e lv lv2) planned noted in
       let over : ClosesDone false job.shard job.to a.command b.command b.job = subst (λ (x : Bool). ClosesDone x job.shard job.to a.command b.command b.job) planned closed in
@@ -64,11 +56,9 @@ module _ (of : ℕ) (its_work : Work) (job : JobValue) (e : Event) (led : Change
   finishes-as (work_is.Insert row routed) same asks = absurd asks
   finishes-as work_is.Query same asks = absurd asks
   finishes-as (work_is.Sync server pulled) same asks = absurd asks
-  finishes-as work_is.Barrier same asks = absurd asks
+  finishes-as work_is.Bare same asks = absurd asks
   finishes-as (work_is.Settle pulls) same asks = absurd asks
-  finishes-as (work_is.Shards shown) same asks = absurd asks
-  finishes-as (work_is.Tree x stands shown) same asks = absurd asks
-  finishes-as (work_is.Audit shown) same asks = absurd asks
+  finishes-as (work_is.Page subject there shown) same asks = absurd asks
 
 pub same-building : (x y : BuildingValue) → Builds x ≡ Builds y → x ≡ y
 same-building x y is = cc

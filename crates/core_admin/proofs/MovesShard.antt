@@ -40,13 +40,10 @@ ledger-of of (work_is.Balance balance) job e l a b f = (f.0.ledger, f.0.ledger_n
 ledger-of of (work_is.Insert row routed) job e l a b f = (f.0.ledger, f.0.ledger_now, f.0.was, f.0.is)
 ledger-of of work_is.Query job e l a b f = (f.0.ledger, f.0.ledger_now, f.0.was, f.0.is)
 ledger-of of (work_is.Sync server pulled) job e l a b f = (f.0.ledger, f.0.ledger_now, f.0.was, f.0.is)
-ledger-of of work_is.Barrier job e l a b f = (f.0.ledger, f.0.ledger_now, f.0.was, f.0.is)
+ledger-of of work_is.Bare job e l a b f = (f.0.ledger, f.0.ledger_now, f.0.was, f.0.is)
 ledger-of of (work_is.Settle pulls) job e l a b f = (f.0.ledger, f.0.ledger_now, f.0.was, f.0.is)
-ledger-of of (work_is.Split shard) job e l a b f = (f.0.ledger, f.0.ledger_now, f.0.was, f.0.is)
-ledger-of of (work_is.Move shard worker) job e l a b f = (f.0.ledger, f.0.ledger_now, f.0.was, f.0.is)
-ledger-of of (work_is.Shards shown) job e l a b f = (f.0.ledger, f.0.ledger_now, f.0.was, f.0.is)
-ledger-of of (work_is.Tree shard stands shown) job e l a b f = (f.0.ledger, f.0.ledger_now, f.0.was, f.0.is)
-ledger-of of (work_is.Audit shown) job e l a b f = (f.0.ledger, f.0.ledger_now, f.0.was, f.0.is)
+ledger-of of (work_is.Action act) job e l a b f = (f.0.ledger, f.0.ledger_now, f.0.was, f.0.is)
+ledger-of of (work_is.Page subject there shown) job e l a b f = (f.0.ledger, f.0.ledger_now, f.0.was, f.0.is)
 
 -- the cells of spent spares are those of the blocks
 pub cells-spent : (fs : List Fresh) → cells_of (spent_by fs) ≡ filled_cells fs

@@ -29,17 +29,14 @@ use Rattle.core_admin.proofs.TurnedCommands.{IsOffDesk}
 
 -- the command asks for a job: it is a split, a move or a balance
 pub off-desk : (work : Work) (job : JobValue) → IsJobOf work job → IsOffDesk work
-off-desk (work_is.Split x) job is = record { no_insert = refl; off = refl }
-off-desk (work_is.Move x to) job is = record { no_insert = refl; off = refl }
+off-desk (work_is.Action act) job is = record { no_insert = refl; off = refl }
 off-desk (work_is.Balance b) job is = record { no_insert = refl; off = refl }
 off-desk (work_is.Insert row routed) job is = absurd is
 off-desk work_is.Query job is = absurd is
 off-desk (work_is.Sync server pulled) job is = absurd is
-off-desk work_is.Barrier job is = absurd is
+off-desk work_is.Bare job is = absurd is
 off-desk (work_is.Settle pulls) job is = absurd is
-off-desk (work_is.Shards shown) job is = absurd is
-off-desk (work_is.Tree x stands shown) job is = absurd is
-off-desk (work_is.Audit shown) job is = absurd is
+off-desk (work_is.Page subject there shown) job is = absurd is
 
 pub none-insert : (command : Option Command) → ((k : Command) → command ≡ Some k → is_insert_work k.work ≡ false) → is_insert command ≡ false
 none-insert None none = refl

@@ -79,8 +79,7 @@ all-out s v g i n =
 
 -- a command with a job has as many pushes as go by its end or its next action
 pub owes-enough : (s : Setting) (v : View) (g : Ghost) → InvWith s v g → (n of : ℕ) (work : Work) (job : JobValue) → v.commands n ≡ doing of work → IsJobOf work job → gone_by (plans work) ≤ owes work
-owes-enough s v g i n of (work_is.Split x) job has is = omega arith
-owes-enough s v g i n of (work_is.Move x to) job has is = omega arith
+owes-enough s v g i n of (work_is.Action act) job has is = omega arith
 owes-enough s v g i n of (work_is.Balance b) job has is =
     let bal = i.balancing.balance n of b has in
     let at = next-action b (begun job) is in
@@ -91,11 +90,9 @@ owes-enough s v g i n of (work_is.Balance b) job has is =
 owes-enough s v g i n of (work_is.Insert row routed) job has is = absurd is
 owes-enough s v g i n of work_is.Query job has is = absurd is
 owes-enough s v g i n of (work_is.Sync server pulled) job has is = absurd is
-owes-enough s v g i n of work_is.Barrier job has is = absurd is
+owes-enough s v g i n of work_is.Bare job has is = absurd is
 owes-enough s v g i n of (work_is.Settle pulls) job has is = absurd is
-owes-enough s v g i n of (work_is.Shards shown) job has is = absurd is
-owes-enough s v g i n of (work_is.Tree x stands shown) job has is = absurd is
-owes-enough s v g i n of (work_is.Audit shown) job has is = absurd is
+owes-enough s v g i n of (work_is.Page subject there shown) job has is = absurd is
 
 module _ (hs : List Dimension) (stock_at ledger_at : ℕ) (stock ledger : CellValue) (a : ActorValue) (here : IsHere hs (held stock_at stock ∷ held ledger_at ledger ∷ []) a) (due : CanPostpone stock ledger a) where
   abbrev s : Setting
@@ -157,16 +154,13 @@ module _ (hs : List Dimension) (stock_at ledger_at : ℕ) (stock ledger : CellVa
           few = due.few b same;
           some = refl;
         }
-        by (work_is.Split x) same true is = cc
-        by (work_is.Move x to) same true is = cc
+        by (work_is.Action act) same true is = cc
         by (work_is.Insert row routed) same true is = cc
         by work_is.Query same true is = cc
         by (work_is.Sync server pulled) same true is = cc
-        by work_is.Barrier same true is = cc
+        by work_is.Bare same true is = cc
         by (work_is.Settle pulls) same true is = cc
-        by (work_is.Shards shown) same true is = cc
-        by (work_is.Tree x stands shown) same true is = cc
-        by (work_is.Audit shown) same true is = cc
+        by (work_is.Page subject there shown) same true is = cc
 
     -- what it did
 
@@ -192,15 +186,7 @@ module _ (hs : List Dimension) (stock_at ledger_at : ℕ) (stock ledger : CellVa
             record { ledger = lv; ledger_now = lv2; was = ledger_is; is = refl; history = noted.history; promised = omega (arith, promised); all_seen = all_seen },
             emptied ∙ (λ k. record a { purse = []; seen = seen; command = next.0 k; job = next.1 k }),
           )
-      gives-up (work_is.Split x) is of =
-          let planned : plans command.work ≡ false = ap plans is in
-          let noted : NotesGivenUp false command.of job.shard lv lv2 = subst (λ (x : Bool). NotesGivenUp x command.of job.shard lv lv2) planned notes in
-          let over : Closes false (Some command) command2 job2 = subst (λ (x : Bool). Closes x (Some command) command2 job2) planned closes in
-          let promised = noted.promised in (
-            record { ledger = lv; ledger_now = lv2; was = ledger_is; is = refl; history = noted.history; promised = omega (arith, promised); all_seen = all_seen },
-            emptied ∙ (λ k. record a { purse = []; seen = seen; command = over.0 k; job = over.1 k }),
-          )
-      gives-up (work_is.Move x to) is of =
+      gives-up (work_is.Action act) is of =
           let planned : plans command.work ≡ false = ap plans is in
           let noted : NotesGivenUp false command.of job.shard lv lv2 = subst (λ (x : Bool). NotesGivenUp x command.of job.shard lv lv2) planned notes in
           let over : Closes false (Some command) command2 job2 = subst (λ (x : Bool). Closes x (Some command) command2 job2) planned closes in
@@ -211,11 +197,9 @@ module _ (hs : List Dimension) (stock_at ledger_at : ℕ) (stock ledger : CellVa
       gives-up (work_is.Insert row routed) is of = absurd of
       gives-up work_is.Query is of = absurd of
       gives-up (work_is.Sync server pulled) is of = absurd of
-      gives-up work_is.Barrier is of = absurd of
+      gives-up work_is.Bare is of = absurd of
       gives-up (work_is.Settle pulls) is of = absurd of
-      gives-up (work_is.Shards shown) is of = absurd of
-      gives-up (work_is.Tree x stands shown) is of = absurd of
-      gives-up (work_is.Audit shown) is of = absurd of
+      gives-up (work_is.Page subject there shown) is of = absurd of
 
       pub postpone-makes : Makes hs kind.Postpone (change stock_at stock (StockCell sv2) ∷ led ∷ []) a b
       postpone-makes =

@@ -7,13 +7,12 @@ use Rattle.cell_stock.specs.Stock.{StockValue}
 use Rattle.cell_stock.specs.declared.purse.Spare.{Spare}
 use Rattle.dim_hierarchy.specs.Dimension.{Dimension}
 use Rattle.row_ledger.specs.Changes.{ShardsStay, is_quiet}
-use Rattle.row_ledger.specs.Past.{call_at}
 use Rattle.row_ledger.specs.Belonging.{number_in}
-use Rattle.row_ledger.specs.Right.{MayEnd, shows}
+use Rattle.row_ledger.specs.Right.{MayEnd, Plans, shows}
 use Rattle.row_ledger.specs.declared.event.Event.{Event}
 use Rattle.row_ledger.specs.declared.event.Event.TheVariants.{Ended, Left}
-use Rattle.row_ledger.specs.declared.settings.Call.{Call}
-use Rattle.row_ledger.specs.declared.settings.Call.TheVariants as call_is
+use Rattle.row_ledger.specs.declared.class.Class.{Class}
+use Rattle.row_ledger.specs.declared.class.Class.TheVariants as class_is
 use Rattle.row_ledger.specs.declared.settings.Decline.{Decline}
 use Rattle.row_ledger.specs.declared.settings.How.TheVariants as how_is
 use Rattle.row_ledger.proofs.Changes.{quiet}
@@ -34,7 +33,7 @@ use Rattle.volap_cell.specs.Planning.{job_for, next_job}
 use Rattle.volap_cell.specs.Setting.{Setting, actor_count, site_in}
 use Rattle.volap_cell.specs.Steps.{IsKept, Keeps}
 use Rattle.volap_cell.specs.Stocking.{items_of_job, spent_of}
-use Rattle.volap_cell.specs.Telling.{IsProgress, Telling}
+use Rattle.volap_cell.specs.Telling.{IsCalledAs, IsProgress, Telling}
 use Rattle.volap_cell.specs.Turning.{Turning}
 use Rattle.volap_cell.specs.Values.{ActorValue, ErrandValue, JobValue, StageValue, IsCalled, IsDeclined, IsFrozen, Collects, Builds}
 use Rattle.volap_cell.specs.View.{View, view, row_at}
@@ -49,10 +48,10 @@ use Rattle.volap_cell.specs.declared.role.Role.TheVariants.{Admin}
 use Rattle.volap_cell.proofs.AdminViews.{by_postpone, view-postpone}
 use Rattle.volap_cell.proofs.Fields.{IsNew, IsNewAt, IsPushed, pushed-new}
 use Rattle.volap_cell.proofs.Frames.{actor-at, actor-off}
-use Rattle.volap_cell.proofs.Grows.{call-kept, on-stays}
+use Rattle.volap_cell.proofs.Grows.{on-stays}
 use Rattle.volap_cell.proofs.GrowsKnown.{AreOlder, older-rows}
 use Rattle.volap_cell.proofs.GrowsReads.{ReadersTake, pinned-whole, readers-take, reading-rows-older}
-use Rattle.volap_cell.proofs.GrowsTold.{commands-older, no-work}
+use Rattle.volap_cell.proofs.GrowsTold.{called-kept, commands-older, no-work}
 use Rattle.volap_cell.proofs.GrowsTrees.{growing-grown, past-there, queueing-grown}
 use Rattle.volap_cell.proofs.GrowsWork.{one-balance-grown}
 use Rattle.volap_cell.proofs.NotedCommands.{IsNotedBy, telling-ends, telling-goes-on}
@@ -60,7 +59,7 @@ use Rattle.volap_cell.proofs.Past.{ledger-past, stock-past}
 use Rattle.volap_cell.proofs.Persons.{has-command}
 use Rattle.volap_cell.proofs.QuietHistory.{balancing-quiet, covering-quiet, desking-quiet, desks-older, imaging-quiet, inserting-quiet, lineage-quiet, placing-quiet, querying-quiet, readers-older, resting-quiet}
 use Rattle.volap_cell.proofs.Seen.{renewed}
-use Rattle.core_image.proofs.Endings.{unasked}
+use Rattle.core_image.proofs.Endings.{right-end, unasked}
 use Rattle.core_image.proofs.Ends.{only-its}
 use Rattle.core_image.proofs.Jobs.{items-new, spent-new}
 use Rattle.core_image.proofs.JobsEnd.{jobless-balancing}
@@ -297,17 +296,12 @@ module _ (c led : Change) (b : ActorValue) (s : Setting) (w : World) (n : ℕ) (
   frozen-left : 1 ≤ stage_left s v job.stage
   frozen-left = frozen-some s v job.stage d.frozen
 
-  ends : (call : Call) → call_at h d.of ≡ Some call → asks_page call ≡ false → MayEnd (site_in s) g.placed h d.of call how_is.Postponed → shows call how_is.Postponed ≡ false → owes d.work ≡ 2 → control_of s d.work ≡ 1
+  ends : (class : Class) → IsCalledAs h d.of class → asks_page class ≡ false → MayEnd (site_in s) g.placed h d.of class how_is.Postponed → shows class how_is.Postponed ≡ false → owes d.work ≡ 2 → control_of s d.work ≡ 1
       → Pushes (Ended d.of how_is.Postponed) 0 2 led b.seen → b ≡ record (w.actors n) { purse = []; seen = b.seen; command = None; job = None } → IsKept s kind.Postpone n w w2 g
-  ends call called pageless may unshown two one_left p is =
+  ends class called pageless may unshown two one_left p is =
       let e : Event = Ended d.of how_is.Postponed in
-      let right = KeepsRight-ended (site_in s) g.placed h d.of how_is.Postponed i.telling.right (record {
-        call = call;
-        called = called;
-        is_open = i.telling.is_open n its d.command;
-        may_end = may;
-        page = unasked s v g i n d.of call called pageless ∙ sym unshown;
-      }) in
+      let right = KeepsRight-ended (site_in s) g.placed h d.of how_is.Postponed i.telling.right
+      (right-end s v g i n d.of class how_is.Postponed called (i.telling.is_open n its d.command) may (unasked s v g i n d.of class called pageless ∙ sym unshown)) in
       let turned = turn e 2 None None refl p is in
       let gone = new e 2 None None refl p is in
       kept e 2 None None refl p is
@@ -348,7 +342,7 @@ module _ (c led : Change) (b : ActorValue) (s : Setting) (w : World) (n : ℕ) (
     is-next : next_job balance ≡ Some (begun job)
     is-next = subst (λ (x : Work). IsJobOf x job) works its-job
 
-    calls : (call_at h d.of ≡ Some (call_is.Balance balance.most)) × (v.roles n ≡ Admin)
+    calls : IsCalledAs h d.of (class_is.Balance balance.most) × (v.roles n ≡ Admin)
     calls = subst (λ (x : Work). IsProgress s h d.of x (Some job) (v.roles n)) works progress
 
     began-here : d.of < length h
@@ -415,10 +409,10 @@ module _ (c led : Change) (b : ActorValue) (s : Setting) (w : World) (n : ℕ) (
         let turned = turn e 1 (Some its_now) (next_job next) refl p is in
         let news = new e 1 (Some its_now) (next_job next) refl p is in
         let right = KeepsRight-left (site_in s) g.placed h d.of job.shard how_is.Postponed i.telling.right (record {
-          call = call_is.Balance balance.most;
-          called = calls.0;
+          call = calls.0.0;
+          called = calls.0.1;
           is_open = i.telling.is_open n its d.command;
-          plans = tt;
+          plans = subst Plans (sym calls.0.2) tt;
           may_leave = tt;
         }) in
         let stays = stay e 1 (Some its_now) (next_job next) refl p is in
@@ -432,7 +426,7 @@ module _ (c led : Change) (b : ActorValue) (s : Setting) (w : World) (n : ℕ) (
         kept e 1 (Some its_now) (next_job next) refl p is
         (telling-goes-on s e h n v.commands u.commands v.jobs u.jobs v.roles v.seen u.seen g.placed (noted e 1 (Some its_now) (next_job next) refl p is) right i.telling its its_now refl refl
         (λ r has. let both : ◌≡◌ {A = Option ℕ} (Some d.of) (Some r) = has in let it : d.of ≡ r = cc in sym it) d.command turned.is_there refl
-        (call-kept e h d.of _ calls.0, calls.1))
+        (called-kept e h d.of _ calls.0, calls.1))
         (omega (arith, owed, inside, few)) (omega arith)
         (λ j has. record { called = (nexts j has).0; whose = (its_now, refl, has ∙ (λ z. Some (record j { stage = (nexts j has).0 z }))); front = (nexts j has).1; to = (nexts j has).2 })
         (λ k has. let it : its_now ≡ k = cc in subst (λ (x : Command). IsOffDesk x.work) it (record { no_insert = refl; off = refl }))
@@ -441,17 +435,14 @@ module _ (c led : Change) (b : ActorValue) (s : Setting) (w : World) (n : ℕ) (
   -- Each command that may have a job.
 
   by-work : (work : Work) → d.work ≡ work → IsJobOf work job → IsProgress s h d.of work (Some job) (v.roles n) → GivesUp d.of work job led (w.actors n) b → IsKept s kind.Postpone n w w2 g
-  by-work (work_is.Split x) is of told f = ends (call_is.Split x) told.0 refl (sym told.2, told.1) refl (ap owes is) (ap (control_of s) is) f.0 f.1
-  by-work (work_is.Move x to) is of told f = ends (call_is.Move x to) told.0 refl (sym told.2, told.1) refl (ap owes is) (ap (control_of s) is) f.0 f.1
+  by-work (work_is.Action act) is of told f = ends (class_is.Action act) told.0 refl (sym told.2, told.1) refl (ap owes is) (ap (control_of s) is) f.0 f.1
   by-work (work_is.Balance balance) is of told f = goes-on balance is f.0 f.1
   by-work (work_is.Insert row routed) is of told f = absurd of
   by-work work_is.Query is of told f = absurd of
   by-work (work_is.Sync server pulled) is of told f = absurd of
-  by-work work_is.Barrier is of told f = absurd of
+  by-work work_is.Bare is of told f = absurd of
   by-work (work_is.Settle pulls) is of told f = absurd of
-  by-work (work_is.Shards shown) is of told f = absurd of
-  by-work (work_is.Tree x stands shown) is of told f = absurd of
-  by-work (work_is.Audit shown) is of told f = absurd of
+  by-work (work_is.Page subject there shown) is of told f = absurd of
 
   pub postpone-kept : IsKept s kind.Postpone n w w2 g
   postpone-kept = by-work d.work refl its-job progress d.gives_up

@@ -6,11 +6,11 @@ use Rattle.std.proofs.lemmas.List.{length-set}
 use Rattle.dim_hierarchy.specs.Dimension.{Dimension}
 use Rattle.dim_hierarchy.specs.declared.row.Row.{Row}
 use Rattle.mapping_table.specs.declared.place.Where.TheVariants as where_is
-use Rattle.row_ledger.specs.Past.{call_at, event_at, has_ended, session_in}
+use Rattle.row_ledger.specs.Past.{event_at, has_ended, session_in}
 use Rattle.row_ledger.specs.Workers.{is_on}
 use Rattle.row_ledger.specs.Work.{Reading}
 use Rattle.row_ledger.specs.declared.event.Event.{Event}
-use Rattle.row_ledger.specs.declared.settings.Call.TheVariants as call_is
+use Rattle.row_ledger.specs.declared.class.Class.TheVariants as class_is
 use Rattle.shard_plan.specs.Balancing.{plan}
 use Rattle.shard_plan.specs.declared.action.Action.{Action}
 use Rattle.shard_plan.specs.declared.action.Load.{Load}
@@ -29,7 +29,7 @@ use Rattle.volap_cell.specs.Setting.{Setting, actor_count}
 use Rattle.volap_cell.specs.ShardKinds.{ReadsLoad}
 use Rattle.volap_cell.specs.Steps.{IsKept, Keeps}
 use Rattle.volap_cell.specs.Stocking.{items_of_job, spent_of}
-use Rattle.volap_cell.specs.Telling.{IsProgress, Telling}
+use Rattle.volap_cell.specs.Telling.{IsCalledAs, IsProgress, Telling}
 use Rattle.volap_cell.specs.Values.{ActorValue, JobValue, StageValue, IsCalled}
 use Rattle.volap_cell.specs.View.{View, view}
 use Rattle.volap_cell.specs.Working.{Balancing, IsBalancing, IsReadLoad, Working, frozen_in}
@@ -165,7 +165,7 @@ module _ (gates : GateLaw) (s : Setting) (w : World) (n : ℕ) (g : Ghost) (i : 
   there : n < actor_count s
   there = has-command s v i.numbering n its d.command
 
-  progress : (call_at h d.of ≡ Some (call_is.Balance d.balance.most)) × (v.roles n ≡ Admin)
+  progress : IsCalledAs h d.of (class_is.Balance d.balance.most) × (v.roles n ≡ Admin)
   progress = i.telling.progress n its d.command
 
   bal : IsBalancing s h g.placed g.home (v.jobs n) d.of d.balance

@@ -56,14 +56,11 @@ pub progress-as : (s : Setting) (h : List Event) (of : ℕ) (w : Work) (job now 
 progress-as s h of (work_is.Insert row routed) job now role same p = p
 progress-as s h of work_is.Query job now role same p = p
 progress-as s h of (work_is.Sync server pulled) job now role same p = p
-progress-as s h of work_is.Barrier job now role same p = p
+progress-as s h of work_is.Bare job now role same p = p
 progress-as s h of (work_is.Settle pulls) job now role same p = p
-progress-as s h of (work_is.Split shard) job now role same p = (p.0, p.1, same ∙ p.2)
-progress-as s h of (work_is.Move shard worker) job now role same p = (p.0, p.1, same ∙ p.2)
+progress-as s h of (work_is.Action act) job now role same p = (p.0, p.1, same ∙ p.2)
 progress-as s h of (work_is.Balance b) job now role same p = p
-progress-as s h of (work_is.Shards shown) job now role same p = p
-progress-as s h of (work_is.Tree shard stands shown) job now role same p = p
-progress-as s h of (work_is.Audit shown) job now role same p = p
+progress-as s h of (work_is.Page subject there shown) job now role same p = p
 
 -- what the work of one job says, where its actor has this purse
 pub record IsAtWork (s : Setting) (history : List Event) (blocks : ℕ → Block) (made : ℕ → Bool) (trees : ℕ → Gate) (phases : ℕ → Option Phase) (active : ℕ → ℕ) (queues : ℕ → Queue) (purse : List Spare) (command : Option Command) (gate : ℕ → ℕ) (shape : ℕ → Shape) (placed : ℕ → Bool) (j : JobValue) : Type 0 where
@@ -159,8 +156,7 @@ module _ (s : Setting) (v : View) (numbered : IsNumbered s v) (n : ℕ) (job : J
   }
     where
       as-job : (w : Work) → IsJobOf w job → IsJobOf w now
-      as-job (work_is.Split shard) p = p
-      as-job (work_is.Move shard worker) p = p
+      as-job (work_is.Action act) p = p
       as-job (work_is.Balance b) p = p
       as-job _ p = absurd p
 

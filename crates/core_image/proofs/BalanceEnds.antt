@@ -8,12 +8,12 @@ use Rattle.std.proofs.lemmas.List.Elements.{Contains-append_right, All-contains,
 use Rattle.std.proofs.lemmas.Option.{slice_get_past}
 use Rattle.row_ledger.specs.Bounds.{may}
 use Rattle.row_ledger.specs.Laws.{AscendFrom}
-use Rattle.row_ledger.specs.Past.{Ack, Step, acked, before, call_at, last_of, work}
+use Rattle.row_ledger.specs.Past.{Ack, Step, acked, before, last_of, work}
 use Rattle.row_ledger.specs.Right.{EachEvent, MayEnd, Opens, Stands}
 use Rattle.row_ledger.specs.Shards.{Place, comes_from, frontier, ids_made, is_live, place}
 use Rattle.row_ledger.specs.Work.{IsRead, IsRightBalance, Reading, Settles, loads as loads_of}
 use Rattle.row_ledger.specs.declared.event.Event.{Event}
-use Rattle.row_ledger.specs.declared.settings.Call.TheVariants as call_is
+use Rattle.row_ledger.specs.declared.class.Class.TheVariants as class_is
 use Rattle.row_ledger.specs.declared.settings.How.{How}
 use Rattle.row_ledger.specs.declared.settings.How.TheVariants as how_is
 use Rattle.row_ledger.proofs.Answering.{All-acked_before}
@@ -30,6 +30,7 @@ use Rattle.volap_cell.specs.Growing.{IsUnder}
 use Rattle.volap_cell.specs.ImageKinds.{doing}
 use Rattle.volap_cell.specs.Invariant.{InvWith}
 use Rattle.volap_cell.specs.Planning.{job_for, next_job}
+use Rattle.volap_cell.specs.Telling.{IsCalledAs}
 use Rattle.volap_cell.specs.Setting.{Setting, site_in}
 use Rattle.volap_cell.specs.Values.{JobValue}
 use Rattle.volap_cell.specs.View.{View}
@@ -37,7 +38,7 @@ use Rattle.volap_cell.specs.Working.{IsBalancing, IsPlanned, IsReadLoad, places_
 use Rattle.volap_cell.specs.declared.command.Balance.{Balance}
 use Rattle.volap_cell.specs.declared.command.Work.TheVariants as work_is
 use Rattle.core_image.proofs.CallsEnd.{IsEnding}
-use Rattle.core_image.proofs.Endings.{none-spent, unasked}
+use Rattle.core_image.proofs.Endings.{none-spent, right-end, unasked}
 use Rattle.core_image.proofs.MadePaths.{acked-made, comes-before}
 use Rattle.core_image.proofs.ReadOnce.{all-read, last-then, places_read, read-live, read-once}
 
@@ -142,20 +143,14 @@ module _ (s : Setting) (v : View) (g : Ghost) (i : InvWith s v g) (n of : ℕ) (
 
   -- The end.
 
-  called : call_at h of ≡ Some (call_is.Balance b.most)
+  called : IsCalledAs h of (class_is.Balance b.most)
   called = (i.telling.progress n (record { of = of; work = work_is.Balance b }) has).0
 
-  as-ending : (how : How) → MayEnd (site_in s) g.placed h of (call_is.Balance b.most) how → is_some (next_job b) ≡ false → b.over ≤ b.most → IsEnding s h g.placed of (work_is.Balance b) (v.jobs n) how
+  as-ending : (how : How) → MayEnd (site_in s) g.placed h of (class_is.Balance b.most) how → is_some (next_job b) ≡ false → b.over ≤ b.most → IsEnding s h g.placed of (work_is.Balance b) (v.jobs n) how
   as-ending how may none over =
       let nothing = none-spent (v.jobs n) (jobless none) in
       record {
-        right = record {
-          call = call_is.Balance b.most;
-          called = called;
-          is_open = i.telling.is_open n (record { of = of; work = work_is.Balance b }) has;
-          may_end = may;
-          page = unasked s v g i n of (call_is.Balance b.most) called refl;
-        };
+        right = right-end s v g i n of (class_is.Balance b.most) how called (i.telling.is_open n (record { of = of; work = work_is.Balance b }) has) may (unasked s v g i n of (class_is.Balance b.most) called refl);
         off_desk = refl;
         no_insert = refl;
         some = omega (arith, over);

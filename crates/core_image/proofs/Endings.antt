@@ -3,10 +3,12 @@ use Rattle.std.proofs.Common.{◌≡◌, ℕ, ◌≤◌, List, [], Bool, true, f
 use Rattle.std.specs.Option.{option_map_or}
 use Rattle.dim_hierarchy.specs.Dimension.{Dimension}
 use Rattle.dim_hierarchy.specs.declared.row.Row.{Row}
-use Rattle.row_ledger.specs.Past.{before, call_at, has_ended, has_page, work}
+use Rattle.row_ledger.specs.Past.{before, has_ended, has_page, work}
 use Rattle.row_ledger.specs.Work.{AreReadOf, IsCause, IsRightDecline, MayEndAction, is_known, shard_of}
 use Rattle.row_ledger.specs.declared.event.Event.{Event}
-use Rattle.row_ledger.specs.declared.settings.Call.{Call}
+use Rattle.row_ledger.specs.declared.class.Class.{Class}
+use Rattle.row_ledger.specs.declared.class.Class.TheVariants as class_is
+use Rattle.row_ledger.specs.declared.class.Subject.{Subject}
 use Rattle.row_ledger.specs.declared.settings.Decline.{Decline}
 use Rattle.row_ledger.specs.declared.settings.Decline.TheVariants as decline
 use Rattle.row_ledger.specs.declared.settings.How.{How}
@@ -15,11 +17,10 @@ use Rattle.shard_plan.specs.declared.action.Action.{Action}
 use Rattle.shard_plan.specs.declared.action.Action.TheVariants as action
 use Rattle.std.specs.Prelude.{if◌then◌else◌}
 use Rattle.std.proofs.lemmas.Bool.{false≢true}
-use Rattle.row_ledger.specs.Right.{MayEnd, shows}
+use Rattle.row_ledger.specs.Right.{IsRightEnd, MayEnd, shows}
 use Rattle.tree_shape.proofs.Walks.{on_bool}
 use Rattle.volap_cell.specs.declared.command.Work.TheVariants as work_is
 use Rattle.core_image.proofs.CallsEnd.{IsEnding}
-use Rattle.row_ledger.specs.declared.settings.Call.TheVariants as call_is
 use Rattle.volap_cell.specs.declared.command.Balance.{Balance}
 use Rattle.volap_cell.specs.AdminKinds.{spent_in}
 use Rattle.volap_cell.specs.Commands.{EndsJob, EndsStage, MayNoteEnd}
@@ -29,7 +30,7 @@ use Rattle.volap_cell.specs.ImageKinds.{doing}
 use Rattle.volap_cell.specs.Invariant.{InvWith}
 use Rattle.volap_cell.specs.Setting.{Setting, site_in}
 use Rattle.volap_cell.specs.Stocking.{items_in, items_of_job, spent_of}
-use Rattle.volap_cell.specs.Telling.{IsProgress}
+use Rattle.volap_cell.specs.Telling.{IsCalledAs, IsProgress}
 use Rattle.volap_cell.specs.Values.{JobValue, StageValue, IsCalled, IsDeclined, IsFrozen, Collects, Builds}
 use Rattle.volap_cell.specs.View.{View}
 use Rattle.volap_cell.specs.Working.{IsDeclinedFor, IsJobOf, action_of, action_to, frozen_in}
@@ -74,8 +75,8 @@ module _ (s : Setting) (v : View) (g : Ghost) (i : InvWith s v g) (n of : ℕ) w
   h = v.history
 
   -- no page was asked for
-  pub unasked : (call : Call) → call_at h of ≡ Some call → asks_page call ≡ false → has_page h of ≡ false
-  unasked call called none = no-page (site_in s) g.placed h i.telling.right.right.each of call called none
+  pub unasked : (class : Class) → IsCalledAs h of class → asks_page class ≡ false → has_page h of ≡ false
+  unasked class called none = no-page (site_in s) g.placed h i.telling.right.right.each of called.0 called.1 (ap asks_page called.2 ∙ none)
 
   module _ (its_work : Work) (has : v.commands n ≡ doing of its_work) (open_ : has_ended h of ≡ false) (progress : IsProgress s h of its_work (v.jobs n) (v.roles n)) where
     -- what the command's job is of
@@ -125,12 +126,22 @@ module _ (s : Setting) (v : View) (g : Ghost) (i : InvWith s v g) (n of : ℕ) w
   one-owed true = omega arith
   one-owed false = omega arith
 
+  -- an end of a command that was called as of this class
+  pub right-end : (class : Class) (how : How) → IsCalledAs h of class → has_ended h of ≡ false → MayEnd (site_in s) g.placed h of class how → has_page h of ≡ shows class how → IsRightEnd (site_in s) g.placed h of how
+  right-end class how called open_ may page = record {
+    call = called.0;
+    called = called.1;
+    is_open = open_;
+    may_end = subst (λ (c : Class). MayEnd (site_in s) g.placed h of c how) (sym called.2) may;
+    page = page ∙ ap (λ (c : Class). shows c how) (sym called.2);
+  }
+
   sync-ends : (server : ℕ) (pulled : Bool) → v.commands n ≡ doing of (work_is.Sync server pulled) → has_ended h of ≡ false → IsProgress s h of (work_is.Sync server pulled) (v.jobs n) (v.roles n) → (how : How)
-      → MayEnd (site_in s) g.placed h of (call_is.Sync server) how → shows (call_is.Sync server) how ≡ false → IsEnding s h g.placed of (work_is.Sync server pulled) (v.jobs n) how
+      → MayEnd (site_in s) g.placed h of (class_is.Sync server) how → shows (class_is.Sync server) how ≡ false → IsEnding s h g.placed of (work_is.Sync server pulled) (v.jobs n) how
   sync-ends server pulled has open_ progress how may none =
       let nothing = none-spent (v.jobs n) (λ j is. job-of (work_is.Sync server pulled) has open_ progress j is) in
       record {
-        right = record { call = call_is.Sync server; called = progress.0; is_open = open_; may_end = may; page = unasked (call_is.Sync server) progress.0 refl ∙ sym none };
+        right = right-end (class_is.Sync server) how progress.0 open_ may (unasked (class_is.Sync server) progress.0 refl ∙ sym none);
         off_desk = refl;
         no_insert = refl;
         some = omega arith;
@@ -141,11 +152,11 @@ module _ (s : Setting) (v : View) (g : Ghost) (i : InvWith s v g) (n of : ℕ) w
       }
 
   settle-ends : (pulls : ℕ) → v.commands n ≡ doing of (work_is.Settle pulls) → has_ended h of ≡ false → IsProgress s h of (work_is.Settle pulls) (v.jobs n) (v.roles n) → (how : How)
-      → MayEnd (site_in s) g.placed h of call_is.Settle how → shows call_is.Settle how ≡ false → IsEnding s h g.placed of (work_is.Settle pulls) (v.jobs n) how
+      → MayEnd (site_in s) g.placed h of class_is.Settle how → shows class_is.Settle how ≡ false → IsEnding s h g.placed of (work_is.Settle pulls) (v.jobs n) how
   settle-ends pulls has open_ progress how may none =
       let nothing = none-spent (v.jobs n) (λ j is. job-of (work_is.Settle pulls) has open_ progress j is) in
       record {
-        right = record { call = call_is.Settle; called = progress.0; is_open = open_; may_end = may; page = unasked call_is.Settle progress.0 refl ∙ sym none };
+        right = right-end class_is.Settle how progress.0 open_ may (unasked class_is.Settle progress.0 refl ∙ sym none);
         off_desk = refl;
         no_insert = refl;
         some = omega arith;
@@ -155,42 +166,12 @@ module _ (s : Setting) (v : View) (g : Ghost) (i : InvWith s v g) (n of : ℕ) w
         less = inl (omega arith);
       }
 
-  shards-end : (shown : Bool) → v.commands n ≡ doing of (work_is.Shards shown) → has_ended h of ≡ false → IsProgress s h of (work_is.Shards shown) (v.jobs n) (v.roles n) → (how : How)
-      → MayEnd (site_in s) g.placed h of call_is.Shards how → has_page h of ≡ shows call_is.Shards how → IsEnding s h g.placed of (work_is.Shards shown) (v.jobs n) how
-  shards-end shown has open_ progress how may page =
-      let nothing = none-spent (v.jobs n) (λ j is. job-of (work_is.Shards shown) has open_ progress j is) in
+  page-ends : (subject : Subject) (there shown : Bool) → v.commands n ≡ doing of (work_is.Page subject there shown) → has_ended h of ≡ false → IsProgress s h of (work_is.Page subject there shown) (v.jobs n) (v.roles n) → (how : How)
+      → MayEnd (site_in s) g.placed h of (class_is.Page subject) how → has_page h of ≡ shows (class_is.Page subject) how → IsEnding s h g.placed of (work_is.Page subject there shown) (v.jobs n) how
+  page-ends subject there shown has open_ progress how may page =
+      let nothing = none-spent (v.jobs n) (λ j is. job-of (work_is.Page subject there shown) has open_ progress j is) in
       record {
-        right = record { call = call_is.Shards; called = progress.0; is_open = open_; may_end = may; page = page };
-        off_desk = refl;
-        no_insert = refl;
-        some = one-owed shown;
-        unspent = nothing.0;
-        unnoted = nothing.1;
-        unfrozen = nothing.2;
-        less = inl (one-shown shown);
-      }
-
-  tree-ends : (x : ℕ) (stands shown : Bool) → v.commands n ≡ doing of (work_is.Tree x stands shown) → has_ended h of ≡ false → IsProgress s h of (work_is.Tree x stands shown) (v.jobs n) (v.roles n) → (how : How)
-      → MayEnd (site_in s) g.placed h of (call_is.Tree x) how → has_page h of ≡ shows (call_is.Tree x) how → IsEnding s h g.placed of (work_is.Tree x stands shown) (v.jobs n) how
-  tree-ends x stands shown has open_ progress how may page =
-      let nothing = none-spent (v.jobs n) (λ j is. job-of (work_is.Tree x stands shown) has open_ progress j is) in
-      record {
-        right = record { call = call_is.Tree x; called = progress.0; is_open = open_; may_end = may; page = page };
-        off_desk = refl;
-        no_insert = refl;
-        some = one-owed shown;
-        unspent = nothing.0;
-        unnoted = nothing.1;
-        unfrozen = nothing.2;
-        less = inl (one-shown shown);
-      }
-
-  audit-ends : (shown : Bool) → v.commands n ≡ doing of (work_is.Audit shown) → has_ended h of ≡ false → IsProgress s h of (work_is.Audit shown) (v.jobs n) (v.roles n) → (how : How)
-      → MayEnd (site_in s) g.placed h of call_is.Audit how → has_page h of ≡ shows call_is.Audit how → IsEnding s h g.placed of (work_is.Audit shown) (v.jobs n) how
-  audit-ends shown has open_ progress how may page =
-      let nothing = none-spent (v.jobs n) (λ j is. job-of (work_is.Audit shown) has open_ progress j is) in
-      record {
-        right = record { call = call_is.Audit; called = progress.0; is_open = open_; may_end = may; page = page };
+        right = right-end (class_is.Page subject) how progress.0 open_ may page;
         off_desk = refl;
         no_insert = refl;
         some = one-owed shown;
@@ -203,10 +184,10 @@ module _ (s : Setting) (v : View) (g : Ghost) (i : InvWith s v g) (n of : ℕ) w
   -- Each command. That of a balance stands by itself.
   pub ends-as : (its_work : Work) → v.commands n ≡ doing of its_work → has_ended h of ≡ false → IsProgress s h of its_work (v.jobs n) (v.roles n) → (how : How) → MayNoteEnd s.servers its_work (v.jobs n) how
       → ((b : Balance) → its_work ≡ work_is.Balance b → IsEnding s h g.placed of its_work (v.jobs n) how) → IsEnding s h g.placed of its_work (v.jobs n) how
-  ends-as work_is.Barrier has open_ progress how_is.Fine ends balance =
-      let nothing = none-spent (v.jobs n) (λ j is. job-of work_is.Barrier has open_ progress j is) in
+  ends-as work_is.Bare has open_ progress how_is.Fine ends balance =
+      let nothing = none-spent (v.jobs n) (λ j is. job-of work_is.Bare has open_ progress j is) in
       record {
-        right = record { call = call_is.Barrier; called = progress; is_open = open_; may_end = tt; page = unasked call_is.Barrier progress refl };
+        right = right-end class_is.Bare how_is.Fine progress open_ tt (unasked class_is.Bare progress refl);
         off_desk = refl;
         no_insert = refl;
         some = omega arith;
@@ -219,34 +200,19 @@ module _ (s : Setting) (v : View) (g : Ghost) (i : InvWith s v g) (n of : ℕ) w
   ends-as (work_is.Sync server pulled) has open_ progress how_is.NoMemory ends balance = sync-ends server pulled has open_ progress how_is.NoMemory tt refl
   ends-as (work_is.Settle pulls) has open_ progress how_is.Fine ends balance = settle-ends pulls has open_ progress how_is.Fine tt refl
   ends-as (work_is.Settle pulls) has open_ progress how_is.NoMemory ends balance = settle-ends pulls has open_ progress how_is.NoMemory tt refl
-  ends-as (work_is.Split x) has open_ progress how ends balance =
+  ends-as (work_is.Page subject there shown) has open_ progress how_is.Fine ends balance =
+      page-ends subject there shown has open_ progress how_is.Fine (progress.2 ∙ progress.3 ends) (progress.1 ∙ ends)
+  ends-as (work_is.Page subject there shown) has open_ progress how_is.NoMemory ends balance = page-ends subject there shown has open_ progress how_is.NoMemory tt (progress.1 ∙ ends)
+  ends-as (work_is.Page subject there shown) has open_ progress (how_is.Declined why) ends balance =
+      let unshown : shown ≡ false = on_bool shown (λ q. absurd (false≢true (sym ends.0 ∙ progress.3 q))) (λ q. q) in
+      subst (λ (d : Decline). IsEnding s h g.placed of (work_is.Page subject there shown) (v.jobs n) (how_is.Declined d)) (sym ends.1)
+      (page-ends subject there shown has open_ progress (how_is.Declined decline.Unknown) (progress.2 ∙ ends.0) (progress.1 ∙ unshown))
+  ends-as (work_is.Action a) has open_ progress how ends balance =
       let nothing = job-spent (v.jobs n) how ends in
       record {
-        right = record {
-          call = call_is.Split x;
-          called = progress.0;
-          is_open = open_;
-          may_end = action-ends (work_is.Split x) has open_ progress (action.Split x) (λ j is. job-of (work_is.Split x) has open_ progress j is) (v.jobs n) refl how ends progress.1 progress.2;
-          page = unasked (call_is.Split x) progress.0 refl;
-        };
-        off_desk = refl;
-        no_insert = refl;
-        some = omega arith;
-        unspent = nothing.0;
-        unnoted = nothing.1;
-        unfrozen = nothing.2;
-        less = inl (omega arith);
-      }
-  ends-as (work_is.Move x to) has open_ progress how ends balance =
-      let nothing = job-spent (v.jobs n) how ends in
-      record {
-        right = record {
-          call = call_is.Move x to;
-          called = progress.0;
-          is_open = open_;
-          may_end = action-ends (work_is.Move x to) has open_ progress (action.Move x to) (λ j is. job-of (work_is.Move x to) has open_ progress j is) (v.jobs n) refl how ends progress.1 progress.2;
-          page = unasked (call_is.Move x to) progress.0 refl;
-        };
+        right = right-end (class_is.Action a) how progress.0 open_
+            (action-ends (work_is.Action a) has open_ progress a (λ j is. job-of (work_is.Action a) has open_ progress j is) (v.jobs n) refl how ends progress.1 progress.2)
+            (unasked (class_is.Action a) progress.0 refl);
         off_desk = refl;
         no_insert = refl;
         some = omega arith;
@@ -256,14 +222,4 @@ module _ (s : Setting) (v : View) (g : Ghost) (i : InvWith s v g) (n of : ℕ) w
         less = inl (omega arith);
       }
   ends-as (work_is.Balance b) has open_ progress how ends balance = balance b refl
-  ends-as (work_is.Shards shown) has open_ progress how_is.Fine ends balance = shards-end shown has open_ progress how_is.Fine tt (progress.1 ∙ ends)
-  ends-as (work_is.Shards shown) has open_ progress how_is.NoMemory ends balance = shards-end shown has open_ progress how_is.NoMemory tt (progress.1 ∙ ends)
-  ends-as (work_is.Tree x stands shown) has open_ progress how_is.Fine ends balance = tree-ends x stands shown has open_ progress how_is.Fine (progress.2 ∙ progress.3 ends) (progress.1 ∙ ends)
-  ends-as (work_is.Tree x stands shown) has open_ progress how_is.NoMemory ends balance = tree-ends x stands shown has open_ progress how_is.NoMemory tt (progress.1 ∙ ends)
-  ends-as (work_is.Tree x stands shown) has open_ progress (how_is.Declined why) ends balance =
-      let unshown : shown ≡ false = on_bool shown (λ q. absurd (false≢true (sym ends.0 ∙ progress.3 q))) (λ q. q) in
-      subst (λ (d : Decline). IsEnding s h g.placed of (work_is.Tree x stands shown) (v.jobs n) (how_is.Declined d)) (sym ends.1)
-      (tree-ends x stands shown has open_ progress (how_is.Declined decline.Unknown) (progress.2 ∙ ends.0) (progress.1 ∙ unshown))
-  ends-as (work_is.Audit shown) has open_ progress how_is.Fine ends balance = audit-ends shown has open_ progress how_is.Fine tt (progress.1 ∙ ends)
-  ends-as (work_is.Audit shown) has open_ progress how_is.NoMemory ends balance = audit-ends shown has open_ progress how_is.NoMemory tt (progress.1 ∙ ends)
   ends-as _ has open_ progress how ends balance = absurd ends

@@ -2,6 +2,7 @@
 use Rattle.std.proofs.Common.{◌≡◌, ◌≢◌, ℕ, ◌*◌, ◌<◌, ◌≤◌, List, [], ◌∷◌, Bool, true, false, length, Option, Some, None, refl, sym, ap, ◌∙◌, subst, arith, ◌&&◌, nat_lt, take, map, Any, option_map, option_and_then, is_some, ◌==◌, eqb-true, slice_get, ◌^◌, ◌-◌, ◌+◌}
 use Rattle.std.proofs.lemmas.Bool.{and_parts, false≢true, ltb-true}
 use Rattle.cell_stock.specs.declared.purse.Spare.{Spare}
+use Rattle.row_ledger.specs.Classes.{class_of, is_there}
 use Rattle.row_ledger.specs.Listings.{places_of}
 use Rattle.row_ledger.specs.Past.{before, call_at, call_in, has_page, work}
 use Rattle.row_ledger.specs.Kept.{KeepsRight}
@@ -11,7 +12,10 @@ use Rattle.row_ledger.specs.Work.{is_known}
 use Rattle.row_ledger.specs.declared.event.Event.{Event}
 use Rattle.row_ledger.specs.declared.event.Event.TheVariants.{Called}
 use Rattle.row_ledger.specs.declared.settings.Call.{Call}
-use Rattle.row_ledger.specs.declared.settings.Call.TheVariants as call_is
+use Rattle.row_ledger.specs.declared.class.Class.{Class}
+use Rattle.row_ledger.specs.declared.class.Class.TheVariants as class_is
+use Rattle.row_ledger.specs.declared.class.Subject.{Subject}
+use Rattle.row_ledger.specs.declared.class.Subject.TheVariants as subject
 use Rattle.row_ledger.proofs.Changes.{quiet}
 use Rattle.row_ledger.proofs.Growth.{KeepsRight-called}
 use Rattle.row_ledger.proofs.Positions.{before-here}
@@ -28,15 +32,15 @@ use Rattle.std.proofs.lemmas.List.{length-map}
 use Rattle.describing_set.specs.declared.listing.Spot.{Spot}
 use Rattle.volap_cell.specs.declared.command.Balance.{Balance}
 use Rattle.volap_cell.specs.Planning.{job_for}
-use Rattle.volap_cell.specs.Commands.{MayCall}
+use Rattle.volap_cell.specs.Commands.{MayCall, MayCallAs}
 use Rattle.volap_cell.specs.Falls.{job_left, plenty, actions_left, control_of}
 use Rattle.volap_cell.specs.Ghost.{Ghost}
-use Rattle.volap_cell.specs.ImageKinds.{IsBegun, asks_registry, job_called, IsNewBalance, unread_load}
+use Rattle.volap_cell.specs.ImageKinds.{IsBegun, asks_registry, job_begun, job_called, IsNewBalance, unread_load}
 use Rattle.volap_cell.specs.Invariant.{InvWith}
 use Rattle.volap_cell.specs.Setting.{Setting, site_in}
 use Rattle.volap_cell.specs.Values.{JobValue, StageValue, IsCalled}
 use Rattle.volap_cell.specs.View.{View}
-use Rattle.volap_cell.specs.Working.{action_of, IsBalancing, IsReadLoad, places_in}
+use Rattle.volap_cell.specs.Working.{action_of, action_to, IsBalancing, IsReadLoad, places_in}
 use Rattle.volap_cell.specs.declared.command.Work.{Work}
 use Rattle.volap_cell.specs.declared.command.Work.TheVariants as work_is
 use Rattle.volap_cell.specs.declared.role.Role.{Role}
@@ -86,9 +90,9 @@ module _ (s : Setting) (v : View) (g : Ghost) (i : InvWith s v g) (number : ℕ)
     past : before (e ∷ h) of ≡ h
     past = before-here e h
 
-  pub sync-begins : (server : ℕ) → server < s.servers → IsBeginning s v g (Called number (call_is.Sync server) ∷ h) of role purse (work_is.Sync server false) None
-  sync-begins server within = record {
-    progress = (told (call_is.Sync server), within, λ never. absurd (false≢true never));
+  pub sync-begins : (call : Call) (server : ℕ) → class_of call ≡ class_is.Sync server → server < s.servers → IsBeginning s v g (Called number call ∷ h) of role purse (work_is.Sync server false) None
+  sync-begins call server class within = record {
+    progress = ((call, told call, class), within, λ never. absurd (false≢true never));
     new_job = λ j is. none-new j _ _ is;
     off_desk = refl;
     no_insert = refl;
@@ -97,9 +101,9 @@ module _ (s : Setting) (v : View) (g : Ghost) (i : InvWith s v g) (number : ℕ)
     gates = omega arith;
   }
 
-  pub barrier-begins : IsBeginning s v g (Called number call_is.Barrier ∷ h) of role purse work_is.Barrier None
-  barrier-begins = record {
-    progress = told call_is.Barrier;
+  pub settle-begins : (call : Call) → class_of call ≡ class_is.Settle → IsBeginning s v g (Called number call ∷ h) of role purse (work_is.Settle 0) None
+  settle-begins call class = record {
+    progress = ((call, told call, class), omega arith);
     new_job = λ j is. none-new j _ _ is;
     off_desk = refl;
     no_insert = refl;
@@ -108,9 +112,9 @@ module _ (s : Setting) (v : View) (g : Ghost) (i : InvWith s v g) (number : ℕ)
     gates = omega arith;
   }
 
-  pub settle-begins : IsBeginning s v g (Called number call_is.Settle ∷ h) of role purse (work_is.Settle 0) None
-  settle-begins = record {
-    progress = (told call_is.Settle, omega arith);
+  pub bare-begins : (call : Call) → class_of call ≡ class_is.Bare → IsBeginning s v g (Called number call ∷ h) of role purse work_is.Bare None
+  bare-begins call class = record {
+    progress = (call, told call, class);
     new_job = λ j is. none-new j _ _ is;
     off_desk = refl;
     no_insert = refl;
@@ -119,20 +123,15 @@ module _ (s : Setting) (v : View) (g : Ghost) (i : InvWith s v g) (number : ℕ)
     gates = omega arith;
   }
 
-  pub shards-begins : IsBeginning s v g (Called number call_is.Shards ∷ h) of role purse (work_is.Shards false) None
-  shards-begins = record {
-    progress = (told call_is.Shards, pageless call_is.Shards);
-    new_job = λ j is. none-new j _ _ is;
-    off_desk = refl;
-    no_insert = refl;
-    balance = λ b is. absurd (cc);
-    control = omega arith;
-    gates = omega arith;
-  }
-
-  pub audit-begins : IsBeginning s v g (Called number call_is.Audit ∷ h) of role purse (work_is.Audit false) None
-  audit-begins = record {
-    progress = (told call_is.Audit, pageless call_is.Audit);
+  pub page-begins : (call : Call) (subject : Subject) (there : Bool) → class_of call ≡ class_is.Page subject → is_there s.workers h subject ≡ there
+      → IsBeginning s v g (Called number call ∷ h) of role purse (work_is.Page subject there false) None
+  page-begins call subject there class is_so = record {
+    progress = (
+      (call, told call, class),
+      pageless call,
+      ap (λ (p : List Event). is_there s.workers p subject) (past call) ∙ is_so,
+      λ never. absurd (false≢true never),
+    );
     new_job = λ j is. none-new j _ _ is;
     off_desk = refl;
     no_insert = refl;
@@ -149,22 +148,6 @@ module _ (s : Setting) (v : View) (g : Ghost) (i : InvWith s v g) (number : ℕ)
 
     live : (x : ℕ) → on_frontier x r ≡ is_live s.workers h x
     live x = stands-live s.workers h r front x
-
-    pub tree-begins : (x : ℕ) → IsBeginning s v g (Called number (call_is.Tree x) ∷ h) of role purse (work_is.Tree x (on_frontier x r) false) None
-    tree-begins x = record {
-      progress = (
-        told (call_is.Tree x),
-        pageless (call_is.Tree x),
-        ap (λ (p : List Event). is_live s.workers p x) (past (call_is.Tree x)) ∙ sym (live x),
-        λ never. absurd (false≢true never),
-      );
-      new_job = λ j is. none-new j _ _ is;
-      off_desk = refl;
-      no_insert = refl;
-      balance = λ b is. absurd (cc);
-      control = omega arith;
-      gates = omega arith;
-    }
 
     -- a job at its beginning leaves so much
     job-few : (job : Option JobValue) → ((j : JobValue) → job ≡ Some j → j.stage ≡ IsCalled) → job_left s v job ≤ 6 * plenty s
@@ -189,56 +172,28 @@ module _ (s : Setting) (v : View) (g : Ghost) (i : InvWith s v g) (number : ℕ)
             (k, (w, (job-new r x to known w has j is).1, on))
         by false k = (let never : ◌≡◌ {A = Option JobValue} None (Some j) = ap (job_called r x to) (sym k) ∙ is in absurd (cc))
 
-    pub split-begins : (x : ℕ) → role ≡ Admin → purse ≡ [] → IsBeginning s v g (Called number (call_is.Split x) ∷ h) of role purse (work_is.Split x) (job_called r x None (on_frontier x r))
-    split-begins x admin spares =
-        let new = job-as x None (on_frontier x r) (λ k. k) in
-        let few = job-few (job_called r x None (on_frontier x r)) (λ j is. ap (λ (y : JobValue). y.stage) (new j is).1.1) in
+    -- an action on this shard, that goes to this worker, of which this tells whether it is known
+    job-begins : (call : Call) (a : Action) (x : ℕ) (to : Option ℕ) (known : Bool) → class_of call ≡ class_is.Action a → action_to x to ≡ a → (known ≡ true → on_frontier x r ≡ true)
+        → known ≡ is_known (site_in s) h a → ((worker : ℕ) → to ≡ Some worker → known ≡ true → worker < s.workers) → role ≡ Admin → purse ≡ []
+        → IsBeginning s v g (Called number call ∷ h) of role purse (work_is.Action a) (job_called r x to known)
+    job-begins call a x to known class its stands known_is within admin spares =
+        let new = job-as x to known stands in
+        let few = job-few (job_called r x to known) (λ j is. ap (λ (y : JobValue). y.stage) (new j is).1.1) in
         record {
           progress = (
-            told (call_is.Split x),
-            workless (call_is.Split x),
-            job-known r x None (on_frontier x r) (λ k. let (w, has, on) = host x k in (w, has)) ∙ live x ∙ ap (λ (p : List Event). is_known (site_in s) p (action.Split x)) (sym (past (call_is.Split x))),
-          );
-          new_job = λ j is.
-              let (known, (w, same, on)) = new j is in
-              record {
-                called = ap (λ (y : JobValue). y.stage) same;
-                admin = admin;
-                spares = spares;
-                is_job = ap action_of same;
-                front = subst (λ (y : JobValue). is_on s.workers (Called number (call_is.Split x) ∷ h) y.shard y.worker ≡ true) (sym same) (on-still (call_is.Split x) x w on);
-                to = λ worker to_is. let never : ◌≡◌ {A = Option ℕ} None (Some worker) = sym (ap (λ (y : JobValue). y.to) same) ∙ to_is in absurd (cc);
-              };
-          off_desk = refl;
-          no_insert = refl;
-          balance = λ b is. absurd (cc);
-          control = omega (arith, few);
-          gates = omega arith;
-        }
-
-    pub move-begins : (x to : ℕ) → role ≡ Admin → purse ≡ [] → IsBeginning s v g (Called number (call_is.Move x to) ∷ h) of role purse (work_is.Move x to) (job_called r x (Some to) (on_frontier x r && nat_lt to s.workers))
-    move-begins x to admin spares =
-        let known : Bool = on_frontier x r && nat_lt to s.workers in
-        let stands : known ≡ true → on_frontier x r ≡ true = λ k. (and_parts (on_frontier x r) (nat_lt to s.workers) k).0 in
-        let new = job-as x (Some to) known stands in
-        let few = job-few (job_called r x (Some to) known) (λ j is. ap (λ (y : JobValue). y.stage) (new j is).1.1) in
-        record {
-          progress = (
-            told (call_is.Move x to),
-            workless (call_is.Move x to),
-            job-known r x (Some to) known (λ k. let (w, has, on) = host x (stands k) in (w, has)) ∙ ap (λ (b : Bool). b && nat_lt to s.workers) (live x)
-                ∙ ap (λ (p : List Event). is_known (site_in s) p (action.Move x to)) (sym (past (call_is.Move x to))),
+            (call, told call, class),
+            workless call,
+            job-known r x to known (λ k. let (w, has, on) = host x (stands k) in (w, has)) ∙ known_is ∙ ap (λ (p : List Event). is_known (site_in s) p a) (sym (past call)),
           );
           new_job = λ j is.
               let (k, (w, same, on)) = new j is in
-              let within : to < s.workers = ltb-true to s.workers (and_parts (on_frontier x r) (nat_lt to s.workers) k).1 in
               record {
                 called = ap (λ (y : JobValue). y.stage) same;
                 admin = admin;
                 spares = spares;
-                is_job = ap action_of same;
-                front = subst (λ (y : JobValue). is_on s.workers (Called number (call_is.Move x to) ∷ h) y.shard y.worker ≡ true) (sym same) (on-still (call_is.Move x to) x w on);
-                to = λ worker to_is. let both : ◌≡◌ {A = Option ℕ} (Some to) (Some worker) = sym (ap (λ (y : JobValue). y.to) same) ∙ to_is in let is : to ≡ worker = cc in subst (λ (n : ℕ). n < s.workers) is within;
+                is_job = ap action_of same ∙ its;
+                front = subst (λ (y : JobValue). is_on s.workers (Called number call ∷ h) y.shard y.worker ≡ true) (sym same) (on-still call x w on);
+                to = λ worker to_is. within worker (sym (ap (λ (y : JobValue). y.to) same) ∙ to_is) k;
               };
           off_desk = refl;
           no_insert = refl;
@@ -247,21 +202,33 @@ module _ (s : Setting) (v : View) (g : Ghost) (i : InvWith s v g) (number : ℕ)
           gates = omega arith;
         }
 
+    pub action-begins : (call : Call) (a : Action) → class_of call ≡ class_is.Action a → role ≡ Admin → purse ≡ [] → IsBeginning s v g (Called number call ∷ h) of role purse (work_is.Action a) (job_begun s.workers r a)
+    action-begins call (action.Split x) class admin spares =
+        job-begins call (action.Split x) x None (on_frontier x r) class refl (λ k. k) (live x) (λ worker never known. let no : ◌≡◌ {A = Option ℕ} None (Some worker) = never in absurd (cc)) admin spares
+    action-begins call (action.Move x to) class admin spares =
+        job-begins call (action.Move x to) x (Some to) (on_frontier x r && nat_lt to s.workers) class refl
+        (λ k. (and_parts (on_frontier x r) (nat_lt to s.workers) k).0) (ap (λ (b : Bool). b && nat_lt to s.workers) (live x))
+        (λ worker is k. let same : to ≡ worker = cc in subst (λ (n : ℕ). n < s.workers) same (ltb-true to s.workers (and_parts (on_frontier x r) (nat_lt to s.workers) k).1)) admin spares
+
   -- a call that asks nothing of the registry
-  pub alone-begins : (call : Call) → asks_registry call ≡ false → ((x : ℕ) → call ≡ call_is.Sync x → x < s.servers) → (workers : ℕ) (r : RegistryValue) (work : Work) (job : Option JobValue) → IsBegun workers r call work job
+  alone-as : (call : Call) (class : Class) → class_of call ≡ class → asks_registry class ≡ false → ((x : ℕ) → class ≡ class_is.Sync x → x < s.servers) → (workers : ℕ) (r : RegistryValue) (work : Work) (job : Option JobValue) → IsBegun workers r class work job
       → IsBeginning s v g (Called number call ∷ h) of role purse work job
-  alone-begins (call_is.Sync server) alone within workers r work job is = as-said (Called number (call_is.Sync server)) _ _ is.0 is.1 (sync-begins server (within server refl))
-  alone-begins call_is.Barrier alone within workers r work job is = as-said (Called number call_is.Barrier) _ _ is.0 is.1 barrier-begins
-  alone-begins call_is.Settle alone within workers r work job is = as-said (Called number call_is.Settle) _ _ is.0 is.1 settle-begins
-  alone-begins call_is.Shards alone within workers r work job is = as-said (Called number call_is.Shards) _ _ is.0 is.1 shards-begins
-  alone-begins call_is.Audit alone within workers r work job is = as-said (Called number call_is.Audit) _ _ is.0 is.1 audit-begins
-  alone-begins _ alone within workers r work job is = absurd (false≢true (sym alone))
+  alone-as call (class_is.Sync server) class alone within workers r work job is = as-said (Called number call) _ _ is.0 is.1 (sync-begins call server class (within server refl))
+  alone-as call class_is.Settle class alone within workers r work job is = as-said (Called number call) _ _ is.0 is.1 (settle-begins call class)
+  alone-as call class_is.Bare class alone within workers r work job is = as-said (Called number call) _ _ is.0 is.1 (bare-begins call class)
+  alone-as call (class_is.Page subject.Shards) class alone within workers r work job is = as-said (Called number call) _ _ is.0 is.1 (page-begins call subject.Shards true class refl)
+  alone-as call (class_is.Page subject.Rows) class alone within workers r work job is = as-said (Called number call) _ _ is.0 is.1 (page-begins call subject.Rows true class refl)
+  alone-as call _ class alone within workers r work job is = absurd (false≢true (sym alone))
+
+  pub alone-begins : (call : Call) → asks_registry (class_of call) ≡ false → ((x : ℕ) → class_of call ≡ class_is.Sync x → x < s.servers) → (workers : ℕ) (r : RegistryValue) (work : Work) (job : Option JobValue) → IsBegun workers r (class_of call) work job
+      → IsBeginning s v g (Called number call ∷ h) of role purse work job
+  alone-begins call = alone-as call (class_of call) refl
 
   -- A balance.
 
-  module _ (r : RegistryValue) (is_registry : v.registry ≡ r) (most : ℕ) (b : Balance) (new : IsNewBalance r most b) (admin : role ≡ Admin) where
+  module _ (r : RegistryValue) (is_registry : v.registry ≡ r) (most : ℕ) (b : Balance) (new : IsNewBalance r most b) (admin : role ≡ Admin) (call : Call) (class : class_of call ≡ class_is.Balance most) where
     abbrev calls : Event
-    calls = Called number (call_is.Balance most)
+    calls = Called number call
 
     stays : ShardsStay s.workers calls h
     stays = (quiet s.hierarchy s.workers calls h refl).shards
@@ -271,12 +238,12 @@ module _ (s : Setting) (v : View) (g : Ghost) (i : InvWith s v g) (number : ℕ)
 
     balancing : IsBalancing s (calls ∷ h) g.placed g.home None of b
     balancing = record {
-      places = ap places_in new.loads ∙ places-unread r.frontier ∙ its-front ∙ ap (frontier s.workers) (sym (past (call_is.Balance most)));
+      places = ap places_in new.loads ∙ places-unread r.frontier ∙ its-front ∙ ap (frontier s.workers) (sym (past call));
       readings = [];
       loads = ap (λ (n : ℕ). take n b.loads) (sym new.read);
       each = All-nil (IsReadLoad s (calls ∷ h) g.placed g.home of);
       read = (let none = new.read in omega (arith, none));
-      still = λ unplanned. (stays.frontier ∙ ap (frontier s.workers) (sym (past (call_is.Balance most))), workless (call_is.Balance most), new.over, new.done, new.standing);
+      still = λ unplanned. (stays.frontier ∙ ap (frontier s.workers) (sym (past call)), workless call, new.over, new.done, new.standing);
       planned = λ actions is. let never : ◌≡◌ {A = Option (List Action)} None (Some actions) = sym new.plan ∙ is in absurd (cc);
       from = λ x live.
           let has : on_frontier x r ≡ true = stands-live s.workers h r its-front x ∙ sym (live-stays s.workers calls h stays x) ∙ live in
@@ -300,7 +267,7 @@ module _ (s : Setting) (v : View) (g : Ghost) (i : InvWith s v g) (number : ℕ)
 
     pub balance-begins : most < 2 ^ 8 → IsBeginning s v g (calls ∷ h) of role purse (work_is.Balance b) None
     balance-begins few = record {
-      progress = (told (call_is.Balance most) ∙ ap (λ (m : ℕ). Some (call_is.Balance m)) (sym new.most_is), admin);
+      progress = ((call, told call, class ∙ ap class_is.Balance (sym new.most_is)), admin);
       new_job = λ j is. none-new j _ _ is;
       off_desk = refl;
       no_insert = refl;
@@ -310,22 +277,29 @@ module _ (s : Setting) (v : View) (g : Ghost) (i : InvWith s v g) (number : ℕ)
     }
 
   -- a call that asks the registry
-  pub asking-begins : (call : Call) → asks_registry call ≡ true → (r : RegistryValue) → v.registry ≡ r → role ≡ Admin → purse ≡ [] → (work : Work) (job : Option JobValue) → Begins s.workers r call work job
+  asking-as : (call : Call) (class : Class) → class_of call ≡ class → asks_registry class ≡ true → (r : RegistryValue) → v.registry ≡ r → role ≡ Admin → purse ≡ [] → (work : Work) (job : Option JobValue) → Begins s.workers r class work job
       → IsBeginning s v g (Called number call ∷ h) of role purse work job
-  asking-begins (call_is.Tree x) asks r is_registry admin spares work job is = as-said (Called number (call_is.Tree x)) _ _ is.0 is.1 (tree-begins r is_registry x)
-  asking-begins (call_is.Split x) asks r is_registry admin spares work job is = as-said (Called number (call_is.Split x)) _ _ is.0 is.1 (split-begins r is_registry x admin spares)
-  asking-begins (call_is.Move x to) asks r is_registry admin spares work job is = as-said (Called number (call_is.Move x to)) _ _ is.0 is.1 (move-begins r is_registry x to admin spares)
-  asking-begins (call_is.Balance most) asks r is_registry admin spares work job is =
+  asking-as call (class_is.Page (subject.Tree x)) class asks r is_registry admin spares work job is =
+      as-said (Called number call) _ _ is.0 is.1 (page-begins call (subject.Tree x) (on_frontier x r) class (sym (live r is_registry x)))
+  asking-as call (class_is.Action a) class asks r is_registry admin spares work job is = as-said (Called number call) _ _ is.0 is.1 (action-begins r is_registry call a class admin spares)
+  asking-as call (class_is.Balance most) class asks r is_registry admin spares work job is =
       let none = is.0.0 in
       let (b, works, new) = is.0.1 in
-      as-said (Called number (call_is.Balance most)) _ _ works none (balance-begins r is_registry most b new admin is.1)
-  asking-begins _ asks r is_registry admin spares work job is = absurd (false≢true asks)
+      as-said (Called number call) _ _ works none (balance-begins r is_registry most b new admin call class is.1)
+  asking-as call _ class asks r is_registry admin spares work job is = absurd (false≢true asks)
+
+  pub asking-begins : (call : Call) → asks_registry (class_of call) ≡ true → (r : RegistryValue) → v.registry ≡ r → role ≡ Admin → purse ≡ [] → (work : Work) (job : Option JobValue) → Begins s.workers r (class_of call) work job
+      → IsBeginning s v g (Called number call ∷ h) of role purse work job
+  asking-begins call = asking-as call (class_of call) refl
 
 -- the administrator alone asks the registry
-pub asker-admin : (role : Role) (call : Call) → MayCall role call → asks_registry call ≡ true → role ≡ Admin
-asker-admin Admin call may asks = refl
-asker-admin (Session x) (call_is.Sync server) may asks = absurd (false≢true asks)
-asker-admin (Session x) _ may asks = absurd may
-asker-admin Puller (call_is.Sync server) may asks = absurd (false≢true asks)
-asker-admin Puller _ may asks = absurd may
-asker-admin (Hand w) call may asks = absurd may
+asker-as : (role : Role) (class : Class) → MayCallAs role class → asks_registry class ≡ true → role ≡ Admin
+asker-as Admin class may asks = refl
+asker-as (Session x) (class_is.Sync server) may asks = absurd (false≢true asks)
+asker-as (Session x) _ may asks = absurd may
+asker-as Puller (class_is.Sync server) may asks = absurd (false≢true asks)
+asker-as Puller _ may asks = absurd may
+asker-as (Hand w) class may asks = absurd may
+
+pub asker-admin : (role : Role) (call : Call) → MayCall role call → asks_registry (class_of call) ≡ true → role ≡ Admin
+asker-admin role call = asker-as role (class_of call)

@@ -1,11 +1,13 @@
 -- A command that asks the registry what stands is noted: that keeps the invariant.
 use Rattle.std.proofs.Common.{◌≡◌, ◌≢◌, ℕ, ◌+◌, List, [], ◌∷◌, true, length, Option, refl, sym, ap, ◌∙◌, subst}
 use Rattle.dim_hierarchy.specs.Dimension.{Dimension}
+use Rattle.row_ledger.specs.Classes.{class_of}
 use Rattle.row_ledger.specs.LedgerValue.{LedgerValue}
+use Rattle.row_ledger.specs.declared.class.Class.{Class}
+use Rattle.row_ledger.specs.declared.class.Class.TheVariants as class_is
 use Rattle.row_ledger.specs.declared.event.Event.{Event}
 use Rattle.row_ledger.specs.declared.event.Event.TheVariants.{Called}
 use Rattle.row_ledger.specs.declared.settings.Call.{Call}
-use Rattle.row_ledger.specs.declared.settings.Call.TheVariants as call_is
 use Rattle.server_image.specs.Registry.{RegistryValue}
 use Rattle.volap_cell.specs.Cells.{CellValue, LedgerCell, RegistryCell, TheLedger, TheRegistry, tag_of}
 use Rattle.volap_cell.specs.Commands.{owes}
@@ -33,7 +35,7 @@ use Rattle.core_image.proofs.Owed.{IsFew, few-pushed}
 record IsSoundAsk (l : Change) (a b : ActorValue) (registry : RegistryValue) (d : NotesCalled registry true l a b) : Type 0 where
   pub few : IsFew d.pushed
   pub spares : a.purse ≡ []
-  pub begins : Begins a.setting.workers registry d.called d.work d.job
+  pub begins : Begins a.setting.workers registry (class_of d.called) d.work d.job
 
 asking-keeps : (hierarchy : List Dimension) (registry : RegistryValue) (c l : Change) (a b : ActorValue) (asked : IsAsked registry c) (d : NotesCalled registry true l a b) → IsSoundAsk l a b registry d
     → Keeps hierarchy kind.Note (c ∷ l ∷ []) a b (OfCalledAsking registry asked d)
@@ -53,30 +55,27 @@ asking-keeps hierarchy registry c l a b asked d sound s w n g i_same i ag sight 
     (few-pushed x.pushed v.history v.promised (view s (after w (c ∷ l ∷ []) n b)).promised ledger-was.0 ledger-was.1 pushed.promised_is here.1.few)
     (view-note_asking s w n registry true c l (w.actors n) b agrees asked x)
     (asking-begins s v g i (w.actors n).number (v.roles n) (v.purses n) x.called x.asks_is registry registry-was (asker-admin (v.roles n) x.called x.allowed x.asks_is) here.1.spares x.work x.job
-    (subst (λ (z : Setting). Begins z.workers registry x.called x.work x.job) about here.1.begins))
+    (subst (λ (z : Setting). Begins z.workers registry (class_of x.called) x.work x.job) about here.1.begins))
     (x.actor_is ∙ (λ k. record (w.actors n) { command = doing (length (sym ledger-was.0 k)) x.work; job = x.job; seen = b.seen }))
     (OfCalledAsking registry asked x) tt
 
 -- The kind was done.
 
 -- what begins is begun
-begins-begun : (workers : ℕ) (r : RegistryValue) (call : Call) (work : Work) (job : Option JobValue) → Begins workers r call work job → IsBegun workers r call work job
-begins-begun workers r (call_is.Balance most) work job is = is.0
-begins-begun workers r (call_is.Sync server) work job is = is
-begins-begun workers r (call_is.Split x) work job is = is
-begins-begun workers r (call_is.Move x to) work job is = is
-begins-begun workers r call_is.Barrier work job is = is
-begins-begun workers r call_is.Settle work job is = is
-begins-begun workers r call_is.Shards work job is = is
-begins-begun workers r (call_is.Tree x) work job is = is
-begins-begun workers r call_is.Audit work job is = is
+begins-begun : (workers : ℕ) (r : RegistryValue) (class : Class) (work : Work) (job : Option JobValue) → Begins workers r class work job → IsBegun workers r class work job
+begins-begun workers r (class_is.Balance most) work job is = is.0
+begins-begun workers r (class_is.Sync server) work job is = is
+begins-begun workers r class_is.Settle work job is = is
+begins-begun workers r class_is.Bare work job is = is
+begins-begun workers r (class_is.Page subject) work job is = is
+begins-begun workers r (class_is.Action x) work job is = is
 
 pub asking-makes : (hs : List Dimension) (registry_at ledger_at : ℕ) (call : Call) (workers : ℕ) (registry ledger : CellValue) (a : ActorValue) → CanNoteAsking call workers registry ledger a
     → (rv : RegistryValue) → registry ≡ RegistryCell rv → (rv2 : RegistryValue) → rv2 ≡ rv → (lv : LedgerValue) → ledger ≡ LedgerCell lv → (lv2 : LedgerValue)
-    → (of : ℕ) → of ≡ length lv.history → (work : Work) (job : Option JobValue) → Begins workers rv call work job → Notes (Called a.number call) (1 + owes work) 1 lv lv2 → (seen : ℕ) → seen ≡ length lv2.history
+    → (of : ℕ) → of ≡ length lv.history → (work : Work) (job : Option JobValue) → Begins workers rv (class_of call) work job → Notes (Called a.number call) (1 + owes work) 1 lv lv2 → (seen : ℕ) → seen ≡ length lv2.history
     → Makes hs kind.Note (change registry_at registry (RegistryCell rv2) ∷ change ledger_at ledger (LedgerCell lv2) ∷ []) a (record a { command = doing of work; job = job; seen = seen })
 asking-makes hs registry_at ledger_at call workers registry ledger a due rv registry_is rv2 same lv ledger_is lv2 of of_is work job begins notes seen all_seen =
-    let here : Begins a.setting.workers rv call work job = subst (λ (x : ℕ). Begins x rv call work job) due.workers_are begins in
+    let here : Begins a.setting.workers rv (class_of call) work job = subst (λ (x : ℕ). Begins x rv (class_of call) work job) due.workers_are begins in
     let asked : IsAsked rv (change registry_at registry (RegistryCell rv2)) = record { was = registry_is; same = ap RegistryCell same ∙ sym registry_is } in
     let d : NotesCalled rv true (change ledger_at ledger (LedgerCell lv2)) a (record a { command = doing of work; job = job; seen = seen }) = record {
       free = due.free;
@@ -85,7 +84,7 @@ asking-makes hs registry_at ledger_at call workers registry ledger a due rv regi
       asks_is = due.asks;
       work = work;
       job = job;
-      begun = begins-begun a.setting.workers rv call work job here;
+      begun = begins-begun a.setting.workers rv (class_of call) work job here;
       pushed = record { ledger = lv; ledger_now = lv2; was = ledger_is; is = refl; history = notes.history; promised = notes.promised; all_seen = all_seen };
       actor_is = λ k. record a { command = doing (of_is k) work; job = job; seen = seen };
     } in

@@ -2,11 +2,14 @@
 use Rattle.std.proofs.Common.{◌≡◌, ℕ, ◌+◌, ◌<◌, List, [], ◌∷◌, false, length, None, refl, sym, ◌∙◌, subst}
 use Rattle.std.proofs.lemmas.Bool.{false≢true}
 use Rattle.dim_hierarchy.specs.Dimension.{Dimension}
+use Rattle.row_ledger.specs.Classes.{class_of}
 use Rattle.row_ledger.specs.LedgerValue.{LedgerValue}
 use Rattle.row_ledger.specs.declared.event.Event.{Event}
 use Rattle.row_ledger.specs.declared.event.Event.TheVariants.{Called}
 use Rattle.row_ledger.specs.declared.settings.Call.{Call}
-use Rattle.row_ledger.specs.declared.settings.Call.TheVariants as call_is
+use Rattle.row_ledger.specs.declared.class.Class.{Class}
+use Rattle.row_ledger.specs.declared.class.Class.TheVariants as class_is
+use Rattle.row_ledger.specs.declared.class.Subject.TheVariants as subject
 use Rattle.server_image.specs.Registry.{RegistryValue}
 use Rattle.volap_cell.specs.Cells.{CellValue, LedgerCell}
 use Rattle.volap_cell.specs.Commands.{owes}
@@ -30,7 +33,7 @@ use Rattle.core_image.proofs.Owed.{IsFew, few-pushed}
 -- what the step needs beside what it does: the ledger holds no more than it may, and a pull is for a server that is there
 record IsSound (l : Change) (a b : ActorValue) (registry : RegistryValue) (d : NotesCalled registry false l a b) : Type 0 where
   pub few : IsFew d.pushed
-  pub server : (x : ℕ) → d.called ≡ call_is.Sync x → x < a.setting.servers
+  pub server : (x : ℕ) → class_of d.called ≡ class_is.Sync x → x < a.setting.servers
 
 called-keeps : (hierarchy : List Dimension) (registry : RegistryValue) (l : Change) (a b : ActorValue) (d : NotesCalled registry false l a b) → IsSound l a b registry d → Keeps hierarchy kind.Note (l ∷ []) a b (OfCalled registry d)
 called-keeps hierarchy registry l a b d sound s w n g i_same i ag sight =
@@ -51,12 +54,12 @@ called-keeps hierarchy registry l a b d sound s w n g i_same i ag sight =
 
 -- The kind was done.
 
-alone-begun : (workers : ℕ) (r : RegistryValue) (call : Call) → asks_registry call ≡ false → IsBegun workers r call (work_alone call) None
-alone-begun workers r (call_is.Sync server) alone = (refl, refl)
-alone-begun workers r call_is.Barrier alone = (refl, refl)
-alone-begun workers r call_is.Settle alone = (refl, refl)
-alone-begun workers r call_is.Shards alone = (refl, refl)
-alone-begun workers r call_is.Audit alone = (refl, refl)
+alone-begun : (workers : ℕ) (r : RegistryValue) (class : Class) → asks_registry class ≡ false → IsBegun workers r class (work_alone class) None
+alone-begun workers r (class_is.Sync server) alone = (refl, refl)
+alone-begun workers r class_is.Settle alone = (refl, refl)
+alone-begun workers r class_is.Bare alone = (refl, refl)
+alone-begun workers r (class_is.Page subject.Shards) alone = (refl, refl)
+alone-begun workers r (class_is.Page subject.Rows) alone = (refl, refl)
 alone-begun workers r _ alone = absurd (false≢true (sym alone))
 
 -- a registry without shards, for a step that holds none
@@ -64,7 +67,7 @@ no_registry : RegistryValue
 no_registry = record { frontier = []; retired = [] }
 
 pub called-makes : (hs : List Dimension) (ledger_at : ℕ) (call : Call) (ledger : CellValue) (a : ActorValue) → CanNoteCalled call ledger a → (lv : LedgerValue) → ledger ≡ LedgerCell lv → (lv2 : LedgerValue)
-    → (of : ℕ) → of ≡ length lv.history → (work : Work) → work ≡ work_alone call → Notes (Called a.number call) (1 + owes work) 1 lv lv2 → (seen : ℕ) → seen ≡ length lv2.history
+    → (of : ℕ) → of ≡ length lv.history → (work : Work) → work ≡ work_alone (class_of call) → Notes (Called a.number call) (1 + owes work) 1 lv lv2 → (seen : ℕ) → seen ≡ length lv2.history
     → Makes hs kind.Note (change ledger_at ledger (LedgerCell lv2) ∷ []) a (record a { command = doing of work; seen = seen })
 called-makes hs ledger_at call ledger a due lv ledger_is lv2 of of_is work work_is notes seen all_seen =
     let d : NotesCalled no_registry false (change ledger_at ledger (LedgerCell lv2)) a (record a { command = doing of work; seen = seen }) = record {
@@ -74,7 +77,7 @@ called-makes hs ledger_at call ledger a due lv ledger_is lv2 of of_is work work_
       asks_is = due.alone;
       work = work;
       job = None;
-      begun = subst (λ (x : Work). IsBegun a.setting.workers no_registry call x None) (sym work_is) (alone-begun a.setting.workers no_registry call due.alone);
+      begun = subst (λ (x : Work). IsBegun a.setting.workers no_registry (class_of call) x None) (sym work_is) (alone-begun a.setting.workers no_registry (class_of call) due.alone);
       pushed = record { ledger = lv; ledger_now = lv2; was = ledger_is; is = refl; history = notes.history; promised = notes.promised; all_seen = all_seen };
       actor_is = λ k. record a { command = doing (of_is k) work; job = due.free.job k; seen = seen };
     } in

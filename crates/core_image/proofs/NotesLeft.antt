@@ -9,11 +9,11 @@ use Rattle.row_ledger.specs.Changes.{ShardsStay}
 use Rattle.row_ledger.specs.Past.{call_at}
 use Rattle.row_ledger.specs.Belonging.{number_in}
 use Rattle.row_ledger.specs.Kept.{KeepsRight}
-use Rattle.row_ledger.specs.Right.{MayLeave}
+use Rattle.row_ledger.specs.Right.{MayLeave, Plans}
 use Rattle.row_ledger.specs.Work.{IsCause}
 use Rattle.row_ledger.specs.declared.event.Event.{Event}
 use Rattle.row_ledger.specs.declared.event.Event.TheVariants.{Left}
-use Rattle.row_ledger.specs.declared.settings.Call.TheVariants as call_is
+use Rattle.row_ledger.specs.declared.class.Class.TheVariants as class_is
 use Rattle.row_ledger.specs.declared.settings.Decline.{Decline}
 use Rattle.row_ledger.specs.declared.settings.Decline.TheVariants as decline
 use Rattle.row_ledger.specs.declared.settings.How.{How}
@@ -42,6 +42,7 @@ use Rattle.volap_cell.specs.Invariant.{InvWith}
 use Rattle.volap_cell.specs.Owing.{Owing, is_insert_work}
 use Rattle.volap_cell.specs.Placing.{Inserting, Placing}
 use Rattle.volap_cell.specs.Planning.{next_job, job_for}
+use Rattle.volap_cell.specs.Telling.{IsCalledAs}
 use Rattle.volap_cell.specs.Setting.{Setting, actor_count, site_in}
 use Rattle.volap_cell.specs.Steps.{IsKept, Keeps, IsHere, Makes}
 use Rattle.volap_cell.specs.Stocking.{items_in, items_of_job, spent_of}
@@ -60,10 +61,10 @@ use Rattle.volap_cell.proofs.BookViews.{by_call, view-note_left}
 use Rattle.volap_cell.proofs.Books.{EventNew, one-event}
 use Rattle.volap_cell.proofs.Fields.{IsNewAt}
 use Rattle.volap_cell.proofs.Frames.{actor-at, actor-off}
-use Rattle.volap_cell.proofs.Grows.{call-kept, on-stays}
+use Rattle.volap_cell.proofs.Grows.{on-stays}
 use Rattle.volap_cell.proofs.GrowsKnown.{AreOlder, older-rows}
 use Rattle.volap_cell.proofs.GrowsReads.{ReadersTake, pinned-whole, readers-take, reading-rows-older}
-use Rattle.volap_cell.proofs.GrowsTold.{commands-older, no-work}
+use Rattle.volap_cell.proofs.GrowsTold.{called-kept, commands-older, no-work}
 use Rattle.volap_cell.proofs.GrowsTrees.{growing-grown, past-there, queueing-grown}
 use Rattle.volap_cell.proofs.GrowsWork.{one-balance-grown}
 use Rattle.volap_cell.proofs.NotedCommands.{telling-goes-on}
@@ -229,7 +230,7 @@ module _ (l : Change) (b : ActorValue) (s : Setting) (w : World) (n : ℕ) (g : 
   began : (a : ℕ) (c : Command) → v.commands a ≡ Some c → c.of < length h
   began = commands-older s h i.telling
 
-  progress : (call_at h of ≡ Some (call_is.Balance does.balance.most)) × (v.roles n ≡ Admin)
+  progress : IsCalledAs h of (class_is.Balance does.balance.most) × (v.roles n ≡ Admin)
   progress = i.telling.progress n its does.command
 
   bal : IsBalancing s h g.placed g.home (Some job) of does.balance
@@ -255,10 +256,10 @@ module _ (l : Change) (b : ActorValue) (s : Setting) (w : World) (n : ℕ) (g : 
 
   right : KeepsRight (site_in s) g.placed (e ∷ h)
   right = KeepsRight-left (site_in s) g.placed h of job.shard does.left_as i.telling.right (record {
-    call = call_is.Balance does.balance.most;
-    called = progress.0;
+    call = progress.0.0;
+    called = progress.0.1;
     is_open = i.telling.is_open n its does.command;
-    plans = tt;
+    plans = subst Plans (sym progress.0.2) tt;
     may_leave = may-leave s.hierarchy (action_of job) job.stage does.left_as does.leaves (λ why st. let d = declined why st in (d.rows, d.cause));
   })
 
@@ -375,7 +376,7 @@ module _ (l : Change) (b : ActorValue) (s : Setting) (w : World) (n : ℕ) (g : 
           all_seen = ap (λ (x : ActorValue). x.seen) actor-now ∙ pushed.all_seen ∙ ap length pushed.history_is;
         })
         right i.telling its its_now refl refl (λ p is. let both : ◌≡◌ {A = Option ℕ} (Some of) (Some p) = is in let mine : of ≡ p = cc in sym mine) does.command turn.is_there refl
-        (call-kept e h of _ progress.0, progress.1);
+        (called-kept e h of _ progress.0, progress.1);
     owing = owing-now;
     turning = i.turning;
     stocking = stocking-alike s v.jobs v2.jobs v.purses spent-same v.stock v.made v.gates v.phases v.pins v.gone g.owner g.shape i.stocking;

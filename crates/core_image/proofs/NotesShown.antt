@@ -10,13 +10,13 @@ use Rattle.row_ledger.specs.LedgerValue.{LedgerValue}
 use Rattle.row_ledger.specs.Past.{Ack, acked, before, beginnings, call_at, call_in, ends_itself, event_at, has_ended, has_page, is_idle, is_over, session_in}
 use Rattle.row_ledger.specs.Right.{Asks, IsShown}
 use Rattle.row_ledger.specs.Kept.{KeepsRight}
-use Rattle.row_ledger.specs.Shards.{is_live}
+use Rattle.row_ledger.specs.Classes.{class_of, is_there}
+use Rattle.row_ledger.specs.declared.class.Class.{Class}
+use Rattle.row_ledger.specs.declared.class.Subject.{Subject}
 use Rattle.row_ledger.specs.declared.event.Event.{Event}
 use Rattle.row_ledger.specs.declared.event.Event.TheVariants.{Called, Shown}
 use Rattle.row_ledger.specs.declared.page.Page.{Page}
-use Rattle.row_ledger.specs.declared.page.Page.TheVariants as page
 use Rattle.row_ledger.specs.declared.settings.Call.{Call}
-use Rattle.row_ledger.specs.declared.settings.Call.TheVariants as call
 use Rattle.row_ledger.proofs.Fresh.{kind-within}
 use Rattle.row_ledger.proofs.Growth.{KeepsRight-shown}
 use Rattle.row_ledger.proofs.Positions.{before-here, before-older, event_at-older}
@@ -47,7 +47,8 @@ use Rattle.volap_cell.proofs.BookViews.{by_event, view-note_shown}
 use Rattle.volap_cell.proofs.Books.{EventNew, one-event}
 use Rattle.volap_cell.proofs.Fields.{IsNewAt}
 use Rattle.volap_cell.proofs.Frames.{actor-at, actor-off}
-use Rattle.volap_cell.proofs.Grows.{call-kept, kind-older}
+use Rattle.volap_cell.proofs.Grows.{kind-older}
+use Rattle.volap_cell.proofs.GrowsTold.{called-kept}
 use Rattle.volap_cell.proofs.GrowsTold.{commands-older}
 use Rattle.volap_cell.proofs.Helds.{held-ledger}
 use Rattle.volap_cell.proofs.NotedCommands.{new-told, telling-goes-on}
@@ -72,7 +73,7 @@ record IsShowing (s : Setting) (h : List Event) (of : ℕ) (shown : Page) (work 
   pub owes_less : owes work ≡ owes now + 1
   pub jobless : (j : JobValue) → IsJobOf work j → ⊥
   pub no_balance : (b : Balance) → now ≡ work_is.Balance b → ⊥
-  pub calls : (c : Call) × (call_at h of ≡ Some c) × Asks c shown
+  pub calls : (c : Call) × (call_at h of ≡ Some c) × Asks (class_of c) shown
   pub first : has_page h of ≡ false
   pub progress : (job : Option JobValue) (role : Role) → IsProgress s (Shown of shown ∷ h) of now job role
   pub falls : control_of s now < control_of s work
@@ -81,9 +82,9 @@ has-shown : (h : List Event) (of : ℕ) (shown : Page) → has_page (Shown of sh
 has-shown h of shown = rw (eq-eqb of of refl) refl
 
 showing : (s : Setting) (h : List Event) (of : ℕ) (work : Work) (shown : Page) (now : Work) (job : Option JobValue) (role : Role) → of < length h → IsProgress s h of work job role → once_shown work ≡ Some now → Shows work shown → IsShowing s h of shown work now
-showing s h of (work_is.Shards false) (page.Shards lines) now job role began is once shows =
-    let same : work_is.Shards true ≡ now = cc in
-    subst (λ (x : Work). IsShowing s h of (page.Shards lines) (work_is.Shards false) x) same (record {
+showing s h of (work_is.Page subject true false) shown now job role began is once shows =
+    let same : work_is.Page subject true true ≡ now = cc in
+    subst (λ (x : Work). IsShowing s h of shown (work_is.Page subject true false) x) same (record {
       off_desk = refl;
       off_desk_now = refl;
       no_insert = refl;
@@ -91,69 +92,28 @@ showing s h of (work_is.Shards false) (page.Shards lines) now job role began is 
       owes_less = refl;
       jobless = λ j never. never;
       no_balance = λ b never. cc;
-      calls = (call.Shards, is.0, tt);
-      first = is.1;
-      progress = λ job_ role_. (call-kept (Shown of (page.Shards lines)) h of _ is.0, has-shown h of (page.Shards lines));
-      falls = omega arith;
-    })
-showing s h of (work_is.Tree shard true false) (page.Tree tree) now job role began is once shows =
-    let same : work_is.Tree shard true true ≡ now = cc in
-    subst (λ (x : Work). IsShowing s h of (page.Tree tree) (work_is.Tree shard true false) x) same (record {
-      off_desk = refl;
-      off_desk_now = refl;
-      no_insert = refl;
-      no_insert_now = refl;
-      owes_less = refl;
-      jobless = λ j never. never;
-      no_balance = λ b never. cc;
-      calls = (call.Tree shard, is.0, shows);
+      calls = (is.0.0, is.0.1, subst (λ (c : Class). Asks c shown) (sym is.0.2) shows);
       first = is.1;
       progress = λ job_ role_. (
-        call-kept (Shown of (page.Tree tree)) h of _ is.0,
-        has-shown h of (page.Tree tree),
-        ap (λ (past : List Event). is_live s.workers past shard) (before-older (Shown of (page.Tree tree)) h of (le_of_lt began)) ∙ is.2,
+        called-kept (Shown of shown) h of _ is.0,
+        has-shown h of shown,
+        ap (λ (past : List Event). is_there s.workers past subject) (before-older (Shown of shown) h of (le_of_lt began)) ∙ is.2,
         λ t. refl,
       );
-      falls = omega arith;
-    })
-showing s h of (work_is.Audit false) (page.Audit audit) now job role began is once shows =
-    let same : work_is.Audit true ≡ now = cc in
-    subst (λ (x : Work). IsShowing s h of (page.Audit audit) (work_is.Audit false) x) same (record {
-      off_desk = refl;
-      off_desk_now = refl;
-      no_insert = refl;
-      no_insert_now = refl;
-      owes_less = refl;
-      jobless = λ j never. never;
-      no_balance = λ b never. cc;
-      calls = (call.Audit, is.0, tt);
-      first = is.1;
-      progress = λ job_ role_. (call-kept (Shown of (page.Audit audit)) h of _ is.0, has-shown h of (page.Audit audit));
       falls = omega arith;
     })
 showing s h of work shown now job role began is once shows = absurd shows
 
 -- such a command isn't over
 shows-some : (work : Work) (shown : Page) → Shows work shown → (1 ≤ owes work) × (is_some (once_shown work) ≡ true)
-shows-some (work_is.Shards false) (page.Shards lines) shows = (omega arith, refl)
-shows-some (work_is.Tree shard true false) (page.Tree tree) shows = (omega arith, refl)
-shows-some (work_is.Audit false) (page.Audit audit) shows = (omega arith, refl)
+shows-some (work_is.Page subject true false) shown shows = (omega arith, refl)
 shows-some work shown shows = absurd shows
 
 -- the page of a command is shown
-
-pub shards-marked : (done : Bool) → is_some (once_shown (work_is.Shards done)) ≡ true → once_shown (work_is.Shards done) ≡ Some (work_is.Shards true)
-shards-marked false some = refl
-shards-marked true some = absurd (false≢true some)
-
-pub tree-marked : (shard : ℕ) (stands done : Bool) → is_some (once_shown (work_is.Tree shard stands done)) ≡ true → once_shown (work_is.Tree shard stands done) ≡ Some (work_is.Tree shard stands true)
-tree-marked shard true false some = refl
-tree-marked shard true true some = absurd (false≢true some)
-tree-marked shard false done some = absurd (false≢true some)
-
-pub audit-marked : (done : Bool) → is_some (once_shown (work_is.Audit done)) ≡ true → once_shown (work_is.Audit done) ≡ Some (work_is.Audit true)
-audit-marked false some = refl
-audit-marked true some = absurd (false≢true some)
+pub page-marked : (subject : Subject) (there done : Bool) → is_some (once_shown (work_is.Page subject there done)) ≡ true → once_shown (work_is.Page subject there done) ≡ Some (work_is.Page subject there true)
+page-marked subject true false some = refl
+page-marked subject true true some = absurd (false≢true some)
+page-marked subject false done some = absurd (false≢true some)
 
 -- Where a command has just begun.
 

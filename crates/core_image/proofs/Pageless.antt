@@ -3,29 +3,27 @@ use Rattle.std.proofs.Common.{◌≡◌, ℕ, List, [], ◌∷◌, Bool, true, f
 use Rattle.std.specs.Prelude.{if◌then◌else◌}
 use Rattle.std.specs.Option.{option_or}
 use Rattle.std.proofs.lemmas.Bool.{false≢true}
+use Rattle.row_ledger.specs.Classes.{class_of}
 use Rattle.row_ledger.specs.Past.{call_at, call_in, has_page, page_in, page_of}
 use Rattle.row_ledger.specs.Right.{Asks, EachEvent, Stands}
 use Rattle.row_ledger.specs.Site.{Site}
+use Rattle.row_ledger.specs.declared.class.Class.{Class}
+use Rattle.row_ledger.specs.declared.class.Class.TheVariants as class_is
 use Rattle.row_ledger.specs.declared.event.Event.{Event}
 use Rattle.row_ledger.specs.declared.event.Event.TheVariants.{Shown}
 use Rattle.row_ledger.specs.declared.page.Page.{Page}
 use Rattle.row_ledger.specs.declared.settings.Call.{Call}
-use Rattle.row_ledger.specs.declared.settings.Call.TheVariants as call_is
 use Rattle.row_ledger.proofs.Fresh.{pageless}
 use Rattle.tree_shape.proofs.Walks.{on_bool}
 use Rattle.volap_cell.proofs.GrowsTold.{kind-cases}
 
--- whether a call asks for a page
-abbrev pub asks_page : Call → Bool
-asks_page call_is.Shards = true
-asks_page (call_is.Tree shard) = true
-asks_page call_is.Audit = true
+-- whether a call of the class asks for a page
+abbrev pub asks_page : Class → Bool
+asks_page (class_is.Page subject) = true
 asks_page _ = false
 
-asked-page : (call : Call) (shown : Page) → Asks call shown → asks_page call ≡ true
-asked-page call_is.Shards shown asks = refl
-asked-page (call_is.Tree shard) shown asks = refl
-asked-page call_is.Audit shown asks = refl
+asked-page : (class : Class) (shown : Page) → Asks class shown → asks_page class ≡ true
+asked-page (class_is.Page subject) shown asks = refl
 asked-page _ shown asks = absurd asks
 
 -- an event that begins a call is no page, and none is for a call that asks for none
@@ -34,16 +32,16 @@ call-no-page : (e : Event) (of : ℕ) (call : Call) → call_in e ≡ Some call 
 call-no-page (Shown p shown) of call is = (let never : ◌≡◌ {A = Option Call} None (Some call) = is in absurd (cc))
 call-no-page _ of call is = refl
 
-other-page : (site : Site) (usable : ℕ → Bool) (e : Event) (past : List Event) → Stands site usable past e → (of : ℕ) (call : Call) → call_at past of ≡ Some call → asks_page call ≡ false → page_in of e ≡ None
+other-page : (site : Site) (usable : ℕ → Bool) (e : Event) (past : List Event) → Stands site usable past e → (of : ℕ) (call : Call) → call_at past of ≡ Some call → asks_page (class_of call) ≡ false → page_in of e ≡ None
 other-page site usable (Shown p shown) past right of call at none = on_bool (p == of)
     (λ q.
     let both : ◌≡◌ {A = Option Call} (Some right.call) (Some call) = sym right.called ∙ ap (call_at past) (eqb-true p of q) ∙ at in
     let same : right.call ≡ call = cc in
-    absurd (false≢true (sym none ∙ ap asks_page (sym same) ∙ asked-page right.call shown right.asked)))
+    absurd (false≢true (sym none ∙ ap (λ (c : Call). asks_page (class_of c)) (sym same) ∙ asked-page (class_of right.call) shown right.asked)))
     (λ q. ap (λ (b : Bool). if b then Some shown else None) q)
 other-page site usable _ past right of call at none = refl
 
-pub no-page : (site : Site) (usable : ℕ → Bool) (h : List Event) → EachEvent (Stands site usable) h → (of : ℕ) (call : Call) → call_at h of ≡ Some call → asks_page call ≡ false → has_page h of ≡ false
+pub no-page : (site : Site) (usable : ℕ → Bool) (h : List Event) → EachEvent (Stands site usable) h → (of : ℕ) (call : Call) → call_at h of ≡ Some call → asks_page (class_of call) ≡ false → has_page h of ≡ false
 no-page site usable [] each of call at none = refl
 no-page site usable (e ∷ past) each of call at none = elim (kind-cases call_in e past of call at) [
   | inl old ↦

@@ -9,11 +9,11 @@ use Rattle.dim_hierarchy.specs.declared.row.Row.{Row}
 use Rattle.describing_set.specs.declared.listing.Spot.{Spot}
 use Rattle.row_ledger.specs.Past.{call_at, is_pull_of, since}
 use Rattle.row_ledger.specs.Kept.{KeepsRight}
+use Rattle.row_ledger.specs.Classes.{class_of}
 use Rattle.row_ledger.specs.Right.{pulls_for}
 use Rattle.row_ledger.specs.declared.event.Event.{Event}
 use Rattle.row_ledger.specs.declared.event.Event.TheVariants.{Synced}
 use Rattle.row_ledger.specs.declared.settings.Call.{Call}
-use Rattle.row_ledger.specs.declared.settings.Call.TheVariants as call
 use Rattle.row_ledger.proofs.Growth.{KeepsRight-synced}
 use Rattle.row_ledger.proofs.Positions.{since-inside}
 use Rattle.server_image.specs.Image.{ImageValue}
@@ -42,7 +42,7 @@ use Rattle.volap_cell.proofs.BookViews.{by_sync, view-sync}
 use Rattle.volap_cell.proofs.Books.{image-registry-event}
 use Rattle.volap_cell.proofs.Fields.{IsNew, IsNewAt, IsPushed}
 use Rattle.volap_cell.proofs.Frames.{actor-at, actor-off}
-use Rattle.volap_cell.proofs.Grows.{call-kept}
+use Rattle.volap_cell.proofs.GrowsTold.{called-kept}
 use Rattle.volap_cell.proofs.GrowsKnown.{AreOlder, older-rows}
 use Rattle.volap_cell.proofs.GrowsTold.{commands-older}
 use Rattle.volap_cell.proofs.GrowsTrees.{growing-grown, past-there, queueing-grown}
@@ -68,7 +68,7 @@ pub record IsPull (s : Setting) (h : List Event) (of server : ℕ) (work : Work)
   pub owes_same : owes (pulled_once work) ≡ owes work
   pub jobless : (j : JobValue) → IsJobOf work j → ⊥
   pub no_balance : (b : Balance) → pulled_once work ≡ work_is.Balance b → ⊥
-  pub calls : (c : Call) × (call_at h of ≡ Some c) × IsTrue (pulls_for server c)
+  pub calls : (c : Call) × (call_at h of ≡ Some c) × IsTrue (pulls_for server (class_of c))
   pub progress : (listing : List Spot) (job : Option JobValue) (role : Role) → IsProgress s (Synced server listing ∷ h) of (pulled_once work) job role
   pub falls : (control_of s (pulled_once work) < control_of s work) ⊎ ((control_of s (pulled_once work) ≡ control_of s work) × (gates_of_work h (pulled_once work) < gates_of_work h work))
 
@@ -94,9 +94,9 @@ pull-of s h of server (work_is.Sync t false) job role began is due =
       owes_same = refl;
       jobless = λ j never. never;
       no_balance = λ b never. cc;
-      calls = (call.Sync t, is.0, eq-eqb t server same);
+      calls = (is.0.0, is.0.1, ap (pulls_for server) is.0.2 ∙ eq-eqb t server same);
       progress = λ listing job_ role_. (
-        call-kept (Synced server listing) h of (call.Sync t) is.0,
+        called-kept (Synced server listing) h of _ is.0,
         is.1,
         λ z. ap (list_any (is_pull_of t)) (since-inside (Synced server listing) h of began) ∙ or_left (server == t) (list_any (is_pull_of t) (since h of)) (eq-eqb server t (sym same)),
       );
@@ -112,8 +112,8 @@ pull-of s h of server (work_is.Settle pulls) job role began is due =
       owes_same = refl;
       jobless = λ j never. never;
       no_balance = λ b never. cc;
-      calls = (call.Settle, is.0, refl);
-      progress = λ listing job_ role_. (call-kept (Synced server listing) h of call.Settle is.0, omega (arith, more));
+      calls = (is.0.0, is.0.1, ap (pulls_for server) is.0.2);
+      progress = λ listing job_ role_. (called-kept (Synced server listing) h of _ is.0, omega (arith, more));
       falls = inl (omega (arith, more));
     }
 pull-of s h of server (work_is.Sync t true) job role began is due = (let never : ◌≡◌ {A = Option ℕ} None (Some server) = due in absurd (cc))

@@ -7,13 +7,15 @@ use Rattle.dim_hierarchy.specs.declared.row.Coord.{Coord}
 use Rattle.dim_hierarchy.specs.declared.row.Row.{Row}
 use Rattle.query_router.specs.Desk.{DeskValue, verdict_of}
 use Rattle.query_router.specs.declared.part.Verdict.TheVariants as verdict
+use Rattle.row_ledger.specs.Classes.{class_of}
 use Rattle.row_ledger.specs.LedgerValue.{LedgerValue}
+use Rattle.row_ledger.specs.Right.{Asks}
+use Rattle.row_ledger.specs.declared.class.Class.{Class}
+use Rattle.row_ledger.specs.declared.class.Class.TheVariants as class
 use Rattle.row_ledger.specs.declared.event.Event.{Event}
 use Rattle.row_ledger.specs.declared.event.Event.TheVariants.{Ended}
 use Rattle.row_ledger.specs.declared.page.Page.{Page}
-use Rattle.row_ledger.specs.declared.page.Page.TheVariants as page
 use Rattle.row_ledger.specs.declared.settings.Call.{Call}
-use Rattle.row_ledger.specs.declared.settings.Call.TheVariants as call
 use Rattle.row_ledger.specs.declared.settings.How.{How}
 use Rattle.server_image.specs.Image.{ImageValue}
 use Rattle.server_image.specs.Registry.{RegistryValue}
@@ -116,19 +118,18 @@ Counts desk desk_now false = desk ≡ record desk_now { sessions = desk_now.sess
 -- Commands.
 
 -- the work of a call that asks nothing of the registry, as it begins
-abbrev pub work_alone : Call → Work
-work_alone (call.Sync server) = work_is.Sync server false
-work_alone call.Settle = work_is.Settle 0
-work_alone call.Shards = work_is.Shards false
-work_alone call.Audit = work_is.Audit false
-work_alone _ = work_is.Barrier
+abbrev pub work_alone : Class → Work
+work_alone (class.Sync server) = work_is.Sync server false
+work_alone class.Settle = work_is.Settle 0
+work_alone (class.Page subject) = work_is.Page subject true false
+work_alone _ = work_is.Bare
 
 -- an actor that does nothing makes a call that asks nothing of the registry; a pull is for a server that is there
 pub record CanNoteCalled (called : Call) (ledger : CellValue) (a : ActorValue) : Type 0 where
   pub free : IsFree a
   pub allowed : MayCall a.role called
-  pub alone : asks_registry called ≡ false
-  pub server : (x : ℕ) → called ≡ call.Sync x → x < a.setting.servers
+  pub alone : asks_registry (class_of called) ≡ false
+  pub server : (x : ℕ) → class_of called ≡ class.Sync x → x < a.setting.servers
   pub ledger_is : tag_of ledger ≡ TheLedger
 
 -- an administrator that does nothing, and has no spares, makes a call that asks the registry; it is told how many workers there are
@@ -136,14 +137,14 @@ pub record CanNoteAsking (called : Call) (workers : ℕ) (registry ledger : Cell
   pub free : IsFree a
   pub spares : a.purse ≡ []
   pub allowed : MayCall a.role called
-  pub asks : asks_registry called ≡ true
+  pub asks : asks_registry (class_of called) ≡ true
   pub workers_are : workers ≡ a.setting.workers
   pub registry_is : tag_of registry ≡ TheRegistry
   pub ledger_is : tag_of ledger ≡ TheLedger
 
 -- the work of a call that asks the registry, and its job, as they begin; a balance makes no more actions than a byte can tell
-abbrev pub Begins : ℕ → RegistryValue → Call → Work → Option JobValue → Type 0
-Begins workers r (call.Balance most) work job = IsBegun workers r (call.Balance most) work job × (most < 2 ^ 8)
+abbrev pub Begins : ℕ → RegistryValue → Class → Work → Option JobValue → Type 0
+Begins workers r (class.Balance most) work job = IsBegun workers r (class.Balance most) work job × (most < 2 ^ 8)
 Begins workers r called work job = IsBegun workers r called work job
 
 -- the actor's command may end so by its own note
@@ -194,9 +195,7 @@ GoesOn command command_now job =
 
 -- a command of which the page is due, and such a page
 abbrev pub Shows : Work → Page → Type 0
-Shows (work_is.Shards false) (page.Shards lines) = Unit {0}
-Shows (work_is.Tree shard true false) (page.Tree tree) = tree.shard ≡ shard
-Shows (work_is.Audit false) (page.Audit audit) = Unit {0}
+Shows (work_is.Page subject true false) shown = Asks (class.Page subject) shown
 Shows work shown = ⊥
 
 -- the actor's command has begun with the newest event, and such a page is due of it

@@ -3,7 +3,7 @@ ghost use Rattle.std.specs.Prelude.{◌≡◌, [], ◌∷◌, OnOk, OnErr, IfOk,
 ghost use Rattle.core_image.specs.NotesDue.{CanNoteAsking, Begins};
 ghost use Rattle.core_image.specs.Told.{Tells, called_by};
 ghost use Rattle.volap_cell.specs.Cells.{cell_of};
-ghost use Rattle.volap_cell.specs.ImageKinds.{IsNewBalance, asks_registry, job_called, unread_load};
+ghost use Rattle.volap_cell.specs.ImageKinds.{IsNewBalance, asks_registry, job_begun, job_called, unread_load};
 ghost use Rattle.volap_cell.specs.Steps.{IsHere, Makes};
 ghost use Rattle.volap_cell.specs.Values.{actor_of, job_of};
 ghost use Rattle.volap_cell.specs.World.{change, held};
@@ -12,9 +12,9 @@ ghost use Rattle.volap_cell.specs.declared.kind.Kind.TheVariants.{Note};
 use crate::calls::push_called;
 use describing_set::Spot;
 use dim_hierarchy::{Hierarchy, Items};
-use row_ledger::Call;
+use row_ledger::{Call, Class, Subject};
 use server_image::Registry;
-use shard_plan::Load;
+use shard_plan::{Action, Load};
 use std::alloc::{AllocError, Global};
 use volap_cell::{Actor, Balance, Cell, Command, Job, Stage, Work};
 
@@ -48,7 +48,7 @@ pub fn note_asking(
     let Cell::Ledger(ledger) = ledger else {
         unreachable!()
     };
-    let Begun { work, job } = begin(alloc, registry, call, workers)?;
+    let Begun { work, job } = begin(alloc, registry, call.class(), workers)?;
     let of = ledger.len();
     push_called(ledger, actor.number, call, &work)?;
     actor.command = Some(Command { of, work });
@@ -64,38 +64,49 @@ struct Begun {
 }
 
 /// The command of a call that asks the registry, at its beginning.
-fn begin(alloc: Global, registry: &Registry, call: Call, workers: u8) -> Result<Begun, AllocError>
-    requires { asks_registry call ≡ true }
-    ensures { IfOk result (λ begun. Begins workers registry.now call begun.work (option_map (λ j. job_of j.value) begun.job)) }
+fn begin(alloc: Global, registry: &Registry, class: Class, workers: u8) -> Result<Begun, AllocError>
+    requires { asks_registry class ≡ true }
+    ensures { IfOk result (λ begun. Begins workers registry.now class begun.work (option_map (λ j. job_of j.value) begun.job)) }
 {
-    match call {
-        Call::Tree(shard) => Ok(Begun {
-            work: Work::Tree {
-                shard,
-                stands: registry.on_frontier(shard),
+    match class {
+        Class::Action(action) => Ok(Begun {
+            work: Work::Action(action),
+            job: job_begun(alloc, registry, action, workers)?,
+        }),
+        Class::Balance(most) => Ok(Begun {
+            work: Work::Balance(first_balance(alloc, registry, most)?),
+            job: None,
+        }),
+        Class::Page(Subject::Tree(shard)) => Ok(Begun {
+            work: Work::Page {
+                subject: Subject::Tree(shard),
+                there: registry.on_frontier(shard),
                 shown: false,
             },
             job: None,
         }),
-        Call::Split(shard) => {
-            let known = registry.on_frontier(shard);
-            Ok(Begun {
-                work: Work::Split { shard },
-                job: first_job(alloc, registry, shard, None, known)?,
-            })
-        }
-        Call::Move(shard, worker) => {
-            let known = registry.on_frontier(shard) && worker < workers;
-            Ok(Begun {
-                work: Work::Move { shard, worker },
-                job: first_job(alloc, registry, shard, Some(worker), known)?,
-            })
-        }
-        Call::Balance(most) => Ok(Begun {
-            work: Work::Balance(first_balance(alloc, registry, most)?),
-            job: None,
-        }),
         _ => unreachable!(),
+    }
+}
+
+/// The job of a split or a move, at its beginning; none where it is unknown.
+fn job_begun(
+    alloc: Global,
+    registry: &Registry,
+    action: Action,
+    workers: u8,
+) -> Result<Option<Box<Job>>, AllocError>
+    ensures { IfOk result (λ job. option_map (λ j. job_of j.value) job ≡ job_begun workers registry.now action) }
+{
+    match action {
+        Action::Split { shard } => {
+            let known = registry.on_frontier(shard);
+            first_job(alloc, registry, shard, None, known)
+        }
+        Action::Move { shard, worker } => {
+            let known = registry.on_frontier(shard) && worker < workers;
+            first_job(alloc, registry, shard, Some(worker), known)
+        }
     }
 }
 

@@ -13,7 +13,7 @@ ghost use Rattle.volap_cell.specs.declared.kind.Kind.TheVariants.{Note};
 
 use crate::owing::owed;
 use dim_hierarchy::Hierarchy;
-use row_ledger::{Call, Event, Ledger};
+use row_ledger::{Call, Class, Event, Ledger};
 use std::alloc::AllocError;
 use volap_cell::{Actor, Cell, Command, Work};
 
@@ -37,7 +37,7 @@ pub fn note_called(
     let Cell::Ledger(ledger) = ledger else {
         unreachable!()
     };
-    let work = begun(call);
+    let work = begun(call.class());
     let of = ledger.len();
     push_called(ledger, actor.number, call, &work)?;
     actor.command = Some(Command { of, work });
@@ -46,20 +46,22 @@ pub fn note_called(
 }
 
 /// The work of a call that asks nothing of the registry, at its beginning.
-fn begun(call: Call) -> Work
-    requires { asks_registry call ≡ false }
-    ensures { result ≡ work_alone call }
+fn begun(class: Class) -> Work
+    requires { asks_registry class ≡ false }
+    ensures { result ≡ work_alone class }
 {
-    match call {
-        Call::Sync(server) => Work::Sync {
+    match class {
+        Class::Sync(server) => Work::Sync {
             server,
             pulled: false,
         },
-        Call::Barrier => Work::Barrier,
-        Call::Settle => Work::Settle { pulls: 0 },
-        Call::Shards => Work::Shards { shown: false },
-        Call::Audit => Work::Audit { shown: false },
-        _ => unreachable!(),
+        Class::Settle => Work::Settle { pulls: 0 },
+        Class::Page(subject) => Work::Page {
+            subject,
+            there: true,
+            shown: false,
+        },
+        _ => Work::Bare,
     }
 }
 

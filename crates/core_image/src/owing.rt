@@ -10,13 +10,12 @@ pub(crate) fn owed(work: &Work) -> u64
     ensures few { result ≤ 256 }
 {
     match work {
-        Work::Split { .. } | Work::Move { .. } => 2,
+        Work::Action(_) => 2,
         Work::Balance(balance) => {
             (u64::from(balance.most) + 1).saturating_sub(u64::from(balance.over))
         }
-        Work::Shards { shown } | Work::Tree { shown, .. } | Work::Audit { shown } => {
-            if *shown { 1 } else { 2 }
-        }
+        Work::Page { shown: true, .. } => 1,
+        Work::Page { .. } => 2,
         _ => 1,
     }
 }

@@ -53,10 +53,7 @@ fn mark(work: &mut Work)
     requires { is_some (once_shown work.old) ≡ true }
     ensures { once_shown work.old ≡ Some work.new }
 {
-    match work {
-        Work::Shards { shown } => *shown = true,
-        Work::Tree { shown, .. } => *shown = true,
-        Work::Audit { shown } => *shown = true,
-        _ => {}
+    if let Work::Page { shown, .. } = work {
+        *shown = true;
     }
 }

@@ -93,13 +93,10 @@ ends-cell of (work_is.Balance balance) job e l a b beside f = pushes-cell e l 0 
 ends-cell of (work_is.Insert row routed) job e l a b beside f = both-cell e of l b.seen beside f.0
 ends-cell of work_is.Query job e l a b beside f = both-cell e of l b.seen beside f.0
 ends-cell of (work_is.Sync server pulled) job e l a b beside f = both-cell e of l b.seen beside f.0
-ends-cell of work_is.Barrier job e l a b beside f = both-cell e of l b.seen beside f.0
+ends-cell of work_is.Bare job e l a b beside f = both-cell e of l b.seen beside f.0
 ends-cell of (work_is.Settle pulls) job e l a b beside f = both-cell e of l b.seen beside f.0
-ends-cell of (work_is.Split shard) job e l a b beside f = both-cell e of l b.seen beside f.0
-ends-cell of (work_is.Move shard worker) job e l a b beside f = both-cell e of l b.seen beside f.0
-ends-cell of (work_is.Shards shown) job e l a b beside f = both-cell e of l b.seen beside f.0
-ends-cell of (work_is.Tree shard stands shown) job e l a b beside f = both-cell e of l b.seen beside f.0
-ends-cell of (work_is.Audit shown) job e l a b beside f = both-cell e of l b.seen beside f.0
+ends-cell of (work_is.Action act) job e l a b beside f = both-cell e of l b.seen beside f.0
+ends-cell of (work_is.Page subject there shown) job e l a b beside f = both-cell e of l b.seen beside f.0
 
 -- so is that of each cell of the state
 pub quiet-at : (cs : List Change) (cells : ℕ → CellValue) → AreAt cells cs → Each IsQuietCell cs → (y : ℕ) → IsQuiet (ledger_in (cells y)).history (ledger_in (put cs cells y)).history

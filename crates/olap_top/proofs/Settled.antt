@@ -13,6 +13,7 @@ use Rattle.row_ledger.proofs.Positions.{before-older, since-inside, since-outsid
 use Rattle.row_ledger.proofs.SettledAnswer.{EachEvent-later, settled-is_all}
 use Rattle.volap_cell.proofs.Knowing.{acked-begun}
 use Rattle.row_ledger.specs.Bounds.{known, listed, own, passed, published}
+use Rattle.row_ledger.specs.Classes.{class_of}
 use Rattle.row_ledger.specs.Past.{Ack, Insert, Pull, acked, before, call_at, insert_at, pull_in, since}
 use Rattle.row_ledger.specs.Right.{EachEvent, IsRight, Stands}
 use Rattle.row_ledger.specs.Site.{Site, site_of}
@@ -120,7 +121,7 @@ settle-pulled : (with : Use) (history later past : List Event) (of : ℕ) → Ea
     → pulled_since past of ≡ each_twice with.servers
 settle-pulled with history later past of each whole called =
     let here = (EachEvent-later (HasPulls with) later (Ended of Fine ∷ past) (subst (EachEvent (HasPulls with)) whole each)).0 in
-    subst (λ o. IfSome o (λ called. ArePulls with.servers called Fine (pulled_since past of))) called here
+    subst (λ o. IfSome o (λ called. ArePulls with.servers (class_of called) Fine (pulled_since past of))) called here
 
 -- whose rows were acknowledged is a server of the script
 pub record AreOfServers (servers : ℕ) (history : List Event) : Type 0 where

@@ -9,11 +9,10 @@ use Rattle.measure_agg.specs.Aggregate.{Aggregate}
 use Rattle.describing_set.specs.declared.listing.Spot.{Spot}
 use Rattle.describing_set.specs.declared.set.DescSet.{DescSet}
 use Rattle.shard_plan.specs.declared.action.Action.{Action}
-use Rattle.shard_plan.specs.declared.action.Action.TheVariants as action
 use Rattle.row_ledger.specs.declared.event.Event.{Event}
 use Rattle.row_ledger.specs.declared.event.Event.TheVariants as event
-use Rattle.row_ledger.specs.declared.settings.Call.{Call}
-use Rattle.row_ledger.specs.declared.settings.Call.TheVariants.{Split, Move, Balance}
+use Rattle.row_ledger.specs.declared.class.Class.{Class}
+use Rattle.row_ledger.specs.declared.class.Class.TheVariants as class_is
 use Rattle.row_ledger.specs.declared.settings.Decline.{Decline}
 use Rattle.row_ledger.specs.declared.settings.Decline.TheVariants as decline
 use Rattle.row_ledger.specs.declared.settings.How.{How}
@@ -22,6 +21,7 @@ use Rattle.row_ledger.specs.Past.{Step, begun}
 use Rattle.row_ledger.specs.Bounds.{may}
 use Rattle.row_ledger.specs.Listings.{IsBox, IsListing}
 use Rattle.row_ledger.specs.Work.{IsRightDecline, MayEndAction, Settles, IsRightBalance, rows_read}
+use Rattle.row_ledger.specs.Classes.{class_of}
 use Rattle.row_ledger.specs.Right.{Site, EachEvent, IsRightAnswer, IsLaterPull, IsRightPull, MayEnd, IsRightEnd, Stands, StandsRight}
 use Rattle.row_ledger.proofs.Elements.{Contains-filter, Contains-filtered, IsTrue-filtered}
 
@@ -132,11 +132,10 @@ IsRightBalance-within site fewer more within past of most done planned right = r
   did = right.did;
 }
 
-MayEnd-within : (site : Site) (fewer more : ℕ → Bool) → Within fewer more → (past : List Event) (of : ℕ) (call : Call) (how : How)
-    → MayEnd site fewer past of call how → MayEnd site more past of call how
-MayEnd-within site fewer more within past of (Split shard) how may = MayEndAction-within site fewer more within past of (action.Split shard) how may
-MayEnd-within site fewer more within past of (Move shard worker) how may = MayEndAction-within site fewer more within past of (action.Move shard worker) how may
-MayEnd-within site fewer more within past of (Balance most) (Balanced done planned) may = IsRightBalance-within site fewer more within past of most done planned may
+MayEnd-within : (site : Site) (fewer more : ℕ → Bool) → Within fewer more → (past : List Event) (of : ℕ) (class : Class) (how : How)
+    → MayEnd site fewer past of class how → MayEnd site more past of class how
+MayEnd-within site fewer more within past of (class_is.Action a) how may = MayEndAction-within site fewer more within past of a how may
+MayEnd-within site fewer more within past of (class_is.Balance most) (Balanced done planned) may = IsRightBalance-within site fewer more within past of most done planned may
 MayEnd-within site fewer more within past of _ _ may = may
 
 IsRightEnd-within : (site : Site) (fewer more : ℕ → Bool) → Within fewer more → (past : List Event) (of : ℕ) (how : How)
@@ -145,7 +144,7 @@ IsRightEnd-within site fewer more within past of how right = record {
   call = right.call;
   called = right.called;
   is_open = right.is_open;
-  may_end = MayEnd-within site fewer more within past of right.call how right.may_end;
+  may_end = MayEnd-within site fewer more within past of (class_of right.call) how right.may_end;
   page = right.page;
 }
 

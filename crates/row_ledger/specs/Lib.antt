@@ -2,6 +2,7 @@ pub mod Past
 pub mod Belonging
 pub mod Site
 pub mod Shards
+pub mod Classes
 pub mod Workers
 pub mod Bounds
 pub mod Listings

@@ -4,17 +4,21 @@ use Rattle.std.specs.List.{list_any}
 use Rattle.measure_agg.specs.Aggregate.{Aggregate}
 use Rattle.describing_set.specs.declared.listing.Spot.{Spot}
 use Rattle.shard_plan.specs.declared.action.Action.TheVariants as action
+use Rattle.row_ledger.specs.declared.class.Class.{Class}
+use Rattle.row_ledger.specs.declared.class.Class.TheVariants.{Sync, Settle, Bare, Action, Balance}
+use Rattle.row_ledger.specs.declared.class.Class.TheVariants as class
+use Rattle.row_ledger.specs.declared.class.Subject.TheVariants as subject
 use Rattle.row_ledger.specs.declared.event.Event.{Event}
 use Rattle.row_ledger.specs.declared.event.Event.TheVariants as event
 use Rattle.row_ledger.specs.declared.page.Page.{Page}
 use Rattle.row_ledger.specs.declared.page.Page.TheVariants as page
 use Rattle.row_ledger.specs.declared.settings.Call.{Call}
-use Rattle.row_ledger.specs.declared.settings.Call.TheVariants.{Sync, Split, Move, Balance, Barrier, Settle, Shards, Tree, Audit}
 use Rattle.row_ledger.specs.declared.settings.Decline.TheVariants as decline
 use Rattle.row_ledger.specs.declared.settings.How.{How}
 use Rattle.row_ledger.specs.declared.settings.How.TheVariants.{Fine, Balanced, Declined, Postponed, NoMemory}
 use Rattle.row_ledger.specs.Past.{Insert, Query, before, since, insert_at, query_at, call_at, has_ended, is_idle, has_page, is_kept, is_pull_of, work}
 pub use Rattle.row_ledger.specs.Site.{Site}
+use Rattle.row_ledger.specs.Classes.{class_of, is_there}
 use Rattle.row_ledger.specs.Shards.{is_live, ids_made, is_path}
 use Rattle.row_ledger.specs.Bounds.{must, may, IsAllowed}
 use Rattle.row_ledger.specs.Listings.{IsFirstListing, IsListing}
@@ -61,10 +65,10 @@ pub record IsRightFailure (past : List Event) (of : ℕ) : Type 0 where
 -- Pulls.
 
 -- a call pulls for a server: a sync of it does, and a settle
-abbrev pub pulls_for : ℕ → Call → Bool
+abbrev pub pulls_for : ℕ → Class → Bool
 pulls_for server (Sync s) = s == server
 pulls_for server Settle = true
-pulls_for server call = false
+pulls_for server class = false
 
 -- a pull stands while a call is open that pulls for its server, and lists what stands
 pub record IsLaterPull (site : Site) (usable : ℕ → Bool) (past : List Event) (server : ℕ) (listing : List Spot) : Type 0 where
@@ -72,7 +76,7 @@ pub record IsLaterPull (site : Site) (usable : ℕ → Bool) (past : List Event)
   pub call : Call
   pub called : call_at past of ≡ Some call
   pub is_open : has_ended past of ≡ false
-  pub pulls : IsTrue (pulls_for server call)
+  pub pulls : IsTrue (pulls_for server (class_of call))
   pub lists : IsListing site usable past server listing
 
 -- the first pulls aside, one for each server
@@ -82,23 +86,23 @@ pub record IsRightPull (site : Site) (usable : ℕ → Bool) (past : List Event)
 -- Splits and moves.
 
 -- a call asks for this split as its only work, or plans it
-abbrev pub AsksSplit : List Event → ℕ → Call → ℕ → Type 0
-AsksSplit past of (Split x) shard = (shard ≡ x) × (work past of ≡ [])
+abbrev pub AsksSplit : List Event → ℕ → Class → ℕ → Type 0
+AsksSplit past of (Action (action.Split x)) shard = (shard ≡ x) × (work past of ≡ [])
 AsksSplit past of (Balance most) shard = ⊤
-AsksSplit past of call shard = ⊥
+AsksSplit past of class shard = ⊥
 
 -- a call asks for this move as its only work, or plans it
-abbrev pub AsksMove : List Event → ℕ → Call → ℕ → ℕ → Type 0
-AsksMove past of (Move x w) shard worker = (shard ≡ x) × (worker ≡ w) × (work past of ≡ [])
+abbrev pub AsksMove : List Event → ℕ → Class → ℕ → ℕ → Type 0
+AsksMove past of (Action (action.Move x w)) shard worker = (shard ≡ x) × (worker ≡ w) × (work past of ≡ [])
 AsksMove past of (Balance most) shard worker = ⊤
-AsksMove past of call shard worker = ⊥
+AsksMove past of class shard worker = ⊥
 
 -- a split is for a call that hasn't ended, of a shard that stands, whose children have the next two ids
 pub record IsRightSplit (site : Site) (past : List Event) (of shard left right : ℕ) : Type 0 where
   pub call : Call
   pub called : call_at past of ≡ Some call
   pub is_open : has_ended past of ≡ false
-  pub asked : AsksSplit past of call shard
+  pub asked : AsksSplit past of (class_of call) shard
   pub live : IsTrue (is_live site.workers past shard)
   pub next : left ≡ ids_made site.workers past
   pub after : right ≡ ids_made site.workers past + 1
@@ -108,13 +112,13 @@ pub record IsRightMove (site : Site) (past : List Event) (of shard worker : ℕ)
   pub call : Call
   pub called : call_at past of ≡ Some call
   pub is_open : has_ended past of ≡ false
-  pub asked : AsksMove past of call shard worker
+  pub asked : AsksMove past of (class_of call) shard worker
   pub live : IsTrue (is_live site.workers past shard)
 
 -- only a balance leaves a planned action
-abbrev pub Plans : Call → Type 0
+abbrev pub Plans : Class → Type 0
 Plans (Balance most) = ⊤
-Plans call = ⊥
+Plans class = ⊥
 
 -- how a planned action may be left
 abbrev pub MayLeave : How → Type 0
@@ -128,17 +132,17 @@ pub record IsRightLeft (past : List Event) (of : ℕ) (how : How) : Type 0 where
   pub call : Call
   pub called : call_at past of ≡ Some call
   pub is_open : has_ended past of ≡ false
-  pub plans : Plans call
+  pub plans : Plans (class_of call)
   pub may_leave : MayLeave how
 
 -- Pages.
 
 -- a page is such as a command asks for: a tree's is that of its shard
-abbrev pub Asks : Call → Page → Type 0
-Asks Shards (page.Shards lines) = ⊤
-Asks (Tree shard) (page.Tree shown) = shown.shard ≡ shard
-Asks Audit (page.Audit audit) = ⊤
-Asks call shown = ⊥
+abbrev pub Asks : Class → Page → Type 0
+Asks (class.Page subject.Shards) (page.Shards lines) = ⊤
+Asks (class.Page (subject.Tree shard)) (page.Tree shown) = shown.shard ≡ shard
+Asks (class.Page subject.Rows) (page.Audit audit) = ⊤
+Asks class shown = ⊥
 
 -- A page is such as a called command asks for that hasn't ended, the first one for it, and what it tells was so when the
 -- command began. It stands right behind the command's beginning, and no other command was open there.
@@ -147,7 +151,7 @@ pub record IsRightPage (site : Site) (past : List Event) (of : ℕ) (page : Page
   pub called : call_at past of ≡ Some call
   pub is_open : has_ended past of ≡ false
   pub first : has_page past of ≡ false
-  pub asked : Asks call page
+  pub asked : Asks (class_of call) page
   pub next : length past ≡ of + 1
   pub alone : IsTrue (is_idle (before past of))
   pub shown : IsShown site (before past of) page
@@ -158,36 +162,34 @@ pub record IsRightPage (site : Site) (past : List Event) (of : ℕ) (page : Page
 abbrev pub has_pulled : List Event → ℕ → ℕ → Bool
 has_pulled past of server = list_any (is_pull_of server) (since past of)
 
--- How a called command may end that began at `of`, behind this past. A barrier is always fine; a sync is where its server
--- has pulled; a tree is declined exactly where its shard doesn't stand, unless it finds no memory.
-abbrev pub MayEnd : Site → (ℕ → Bool) → List Event → ℕ → Call → How → Type 0
-MayEnd site usable past of (Split shard) how = MayEndAction site usable past of (action.Split shard) how
-MayEnd site usable past of (Move shard worker) how = MayEndAction site usable past of (action.Move shard worker) how
+-- How a called command may end that began at `of`, behind this past. One that does nothing is always fine; a sync is where its
+-- server has pulled; a page is declined exactly where what it is of isn't there, unless it finds no memory.
+abbrev pub MayEnd : Site → (ℕ → Bool) → List Event → ℕ → Class → How → Type 0
+MayEnd site usable past of Bare Fine = ⊤
+MayEnd site usable past of (Sync server) Fine = IsTrue (has_pulled past of server)
+MayEnd site usable past of (Sync server) NoMemory = ⊤
+MayEnd site usable past of Settle Fine = ⊤
+MayEnd site usable past of Settle NoMemory = ⊤
+MayEnd site usable past of (Action a) how = MayEndAction site usable past of a how
 MayEnd site usable past of (Balance most) (Balanced done planned) = IsRightBalance site usable past of most done planned
 MayEnd site usable past of (Balance most) NoMemory = work past of ≡ []
-MayEnd site usable past of (Balance most) how = ⊥
-MayEnd site usable past of (Sync server) Fine = IsTrue (has_pulled past of server)
-MayEnd site usable past of (Tree shard) Fine = IsTrue (is_live site.workers (before past of) shard)
-MayEnd site usable past of (Tree shard) (Declined decline.Unknown) = is_live site.workers (before past of) shard ≡ false
-MayEnd site usable past of Barrier NoMemory = ⊥
-MayEnd site usable past of call Fine = ⊤
-MayEnd site usable past of call NoMemory = ⊤
-MayEnd site usable past of call how = ⊥
+MayEnd site usable past of (class.Page subject) Fine = IsTrue (is_there site.workers (before past of) subject)
+MayEnd site usable past of (class.Page subject) (Declined decline.Unknown) = is_there site.workers (before past of) subject ≡ false
+MayEnd site usable past of (class.Page subject) NoMemory = ⊤
+MayEnd site usable past of class how = ⊥
 
 -- whether a command that ends so has shown a page: one that asks for a page and is fine has, and no other has
-abbrev pub shows : Call → How → Bool
-shows Shards Fine = true
-shows (Tree shard) Fine = true
-shows Audit Fine = true
-shows call how = false
+abbrev pub shows : Class → How → Bool
+shows (class.Page subject) Fine = true
+shows class how = false
 
 -- an end is of a called command that hasn't ended, and is one that it may have, with a page where it has to
 pub record IsRightEnd (site : Site) (usable : ℕ → Bool) (past : List Event) (of : ℕ) (how : How) : Type 0 where
   pub call : Call
   pub called : call_at past of ≡ Some call
   pub is_open : has_ended past of ≡ false
-  pub may_end : MayEnd site usable past of call how
-  pub page : has_page past of ≡ shows call how
+  pub may_end : MayEnd site usable past of (class_of call) how
+  pub page : has_page past of ≡ shows (class_of call) how
 
 -- Histories.
 

@@ -1,6 +1,7 @@
 //! The kept history: what happened, event by event, and when such a history is right.
 #![tactic(auto)]
 
+mod class;
 mod event;
 mod history;
 pub mod laws;
@@ -14,6 +15,7 @@ pub mod worked_pulls;
 pub mod worked_script;
 pub mod worked_shards;
 
+pub use class::{Class, Subject};
 pub use event::Event;
 pub use history::History;
 pub use ledger::Ledger;

@@ -1,17 +1,22 @@
 -- The phases of a script: each ends with a command that closes it, or with the script.
 use Rattle.std.specs.Prelude.{ℕ, ◌+◌, ◌*◌, Bool, true, false, if◌then◌else◌, List, [], ◌∷◌, take, flat_map}
+use Rattle.row_ledger.specs.Classes.{class_of}
+use Rattle.row_ledger.specs.declared.class.Class.{Class}
+use Rattle.row_ledger.specs.declared.class.Class.TheVariants.{Settle, Bare, Page}
 use Rattle.row_ledger.specs.declared.settings.Call.{Call}
-use Rattle.row_ledger.specs.declared.settings.Call.TheVariants.{Sync, Split, Move, Balance}
 use Rattle.script_form.specs.declared.script.Command.{Command}
 use Rattle.script_form.specs.declared.script.Command.TheVariants.{Control}
 
 -- whether a called command closes its phase: it begins when all others of the phase have ended
+
+abbrev pub closes_as : Class → Bool
+closes_as Bare = true
+closes_as Settle = true
+closes_as (Page subject) = true
+closes_as class = false
+
 abbrev pub is_closing : Call → Bool
-is_closing (Sync server) = false
-is_closing (Split shard) = false
-is_closing (Move shard worker) = false
-is_closing (Balance most) = false
-is_closing _ = true
+is_closing call = closes_as (class_of call)
 
 abbrev pub closes : Command → Bool
 closes (Control call) = is_closing call

@@ -4,23 +4,24 @@ use Rattle.std.specs.Prelude.{ℕ, ◌+◌, ◌==◌, Bool, false, Option, if◌
 use Rattle.std.specs.List.{list_all}
 use Rattle.std.specs.Option.{option_map_or}
 use Rattle.row_ledger.specs.declared.event.Event.{Event}
-use Rattle.row_ledger.specs.declared.settings.Call.{Call}
-use Rattle.row_ledger.specs.declared.settings.Call.TheVariants.{Sync}
+use Rattle.row_ledger.specs.Classes.{class_of}
+use Rattle.row_ledger.specs.declared.class.Class.{Class}
+use Rattle.row_ledger.specs.declared.class.Class.TheVariants.{Sync}
 use Rattle.row_ledger.specs.declared.settings.Use.{Use}
 use Rattle.row_ledger.specs.Past.{session_in, is_end_of, is_over}
 use Rattle.script_form.specs.declared.script.Command.{Command}
 use Rattle.script_form.specs.declared.script.Command.TheVariants.{Insert, Query, Control}
 
 -- the session of a called command: a sync's is the pulling one, any other's the controlling one
-abbrev pub session_of_call : Use → Call → ℕ
+abbrev pub session_of_call : Use → Class → ℕ
 session_of_call with (Sync server) = with.servers
-session_of_call with called = with.servers + 1
+session_of_call with class = with.servers + 1
 
 -- the session of a command: an insert's and a query's is that of its server
 abbrev pub session_of : Use → Command → ℕ
 session_of with (Insert new) = new.server
 session_of with (Query question) = question.server
-session_of with (Control called) = session_of_call with called
+session_of with (Control called) = session_of_call with (class_of called)
 
 -- how many commands are of a session
 abbrev pub count_of : Use → ℕ → List Command → ℕ

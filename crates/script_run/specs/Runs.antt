@@ -4,10 +4,11 @@ use Rattle.std.specs.List.{AllZip, range_with_len}
 use Rattle.dim_hierarchy.specs.Dimension.{Dimension}
 use Rattle.dim_hierarchy.specs.Row.{IsCoordNamed, leaves}
 use Rattle.dim_hierarchy.specs.Filter.{IsFilterNamed, picks}
+use Rattle.row_ledger.specs.Classes.{class_of}
+use Rattle.row_ledger.specs.declared.class.Class.{Class}
+use Rattle.row_ledger.specs.declared.class.Class.TheVariants.{Sync, Settle, Bare}
 use Rattle.row_ledger.specs.declared.event.Event.{Event}
 use Rattle.row_ledger.specs.declared.event.Event.TheVariants.{Begun, Acked, Asked, Unknown, Failed, Refused, Called, Ended}
-use Rattle.row_ledger.specs.declared.settings.Call.{Call}
-use Rattle.row_ledger.specs.declared.settings.Call.TheVariants.{Barrier, Sync, Settle}
 use Rattle.row_ledger.specs.declared.settings.Use.{Use}
 use Rattle.row_ledger.specs.Past.{event_at, before, is_over, is_beginning, Pull, call_at, pull_in, since}
 use Rattle.row_ledger.specs.Right.{EachEvent}
@@ -20,10 +21,10 @@ use Rattle.script_run.specs.Places.{session_of, session_of_call, places, are_ove
 
 -- How a command begins, and that one ends before another begins.
 
--- a barrier takes no memory, so it is never refused
-abbrev pub can_be_refused : Call → Bool
-can_be_refused Barrier = false
-can_be_refused called = true
+-- what does nothing takes no memory, so it is never refused
+abbrev pub can_be_refused : Class → Bool
+can_be_refused Bare = false
+can_be_refused class = true
 
 -- An event begins a command, with the command's session: an insert or a query with its server and what its names
 -- stand for, or with the first dimension in which one is not known; a command of another kind as that call; or, but
@@ -39,8 +40,8 @@ Begins with h (Query question) (Asked session server filter) =
 Begins with h (Query question) (Unknown session server dim) =
     (session ≡ question.server) × (server ≡ question.server) × (position is_none (picks h question.filter) ≡ Some dim)
 Begins with h (Query question) (Refused session) = session ≡ question.server
-Begins with h (Control called) (Refused session) = (session ≡ session_of_call with called) × IsTrue (can_be_refused called)
-Begins with h (Control called) (Called session call) = (session ≡ session_of_call with called) × (call ≡ called)
+Begins with h (Control called) (Refused session) = (session ≡ session_of_call with (class_of called)) × IsTrue (can_be_refused (class_of called))
+Begins with h (Control called) (Called session call) = (session ≡ session_of_call with (class_of called)) × (call ≡ called)
 Begins with h _ _ = ⊥
 
 -- a command begins at its place, where it has one
@@ -66,16 +67,16 @@ each_twice servers = range_with_len 0 servers ++ range_with_len 0 servers
 
 -- A sync that is fine pulled once, for its server, and one that found no memory not at all. A settle that is fine pulled
 -- for each server, and for each once more; one that found no memory got less far.
-abbrev pub ArePulls : ℕ → Call → How → List ℕ → Type 0
+abbrev pub ArePulls : ℕ → Class → How → List ℕ → Type 0
 ArePulls servers (Sync server) Fine pulled = pulled ≡ server ∷ []
 ArePulls servers (Sync server) NoMemory pulled = pulled ≡ []
 ArePulls servers Settle Fine pulled = pulled ≡ each_twice servers
 ArePulls servers Settle NoMemory pulled = (n : ℕ) × (n < length (each_twice servers)) × (pulled ≡ take n (each_twice servers))
-ArePulls servers called how pulled = ⊤
+ArePulls servers class how pulled = ⊤
 
 -- where an event ends a called command, what was pulled since it began
 abbrev pub HasPulls : Use → List Event → Event → Type 0
-HasPulls with past (Ended of how) = IfSome (call_at past of) (λ called. ArePulls with.servers called how (pulled_since past of))
+HasPulls with past (Ended of how) = IfSome (call_at past of) (λ called. ArePulls with.servers (class_of called) how (pulled_since past of))
 HasPulls with past e = ⊤
 
 -- Runs.

@@ -3,7 +3,7 @@ ghost use Rattle.std.specs.Prelude.{◌≡◌, ◌-◌, ◌<◌, ◌≤◌, ◌�
 ghost use Rattle.script_run.specs.Phases.{closes, phases};
 ghost use Rattle.script_run.specs.Streams.{NoneCloses};
 
-use row_ledger::Call;
+use row_ledger::Class;
 use script_form::Command;
 
 /// Whether a command closes its phase.
@@ -12,11 +12,9 @@ pub fn closes(command: &Command) -> bool
 {
     match command {
         Command::Insert(_) | Command::Query(_) => false,
-        Command::Control(Call::Sync(_) | Call::Split(_) | Call::Move(_, _) | Call::Balance(_)) =>
-            false,
-        Command::Control(
-            Call::Barrier | Call::Settle | Call::Shards | Call::Tree(_) | Call::Audit,
-        ) => true,
+        Command::Control(call) => {
+            matches!(call.class(), Class::Bare | Class::Settle | Class::Page(_))
+        }
     }
 }
 

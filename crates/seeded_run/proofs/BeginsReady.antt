@@ -13,6 +13,7 @@ use Rattle.dim_hierarchy.specs.Filter.{IsFilterNamed, picks}
 use Rattle.dim_hierarchy.specs.Row.{IsCoordNamed, leaves}
 use Rattle.dim_hierarchy.specs.declared.filter.Pick.{Pick}
 use Rattle.dim_hierarchy.specs.declared.row.Coord.{Coord}
+use Rattle.row_ledger.specs.Classes.{class_of}
 use Rattle.row_ledger.specs.declared.event.Event.{Event}
 use Rattle.row_ledger.specs.declared.settings.Call.{Call}
 use Rattle.row_ledger.specs.declared.settings.Use.{Use}
@@ -118,7 +119,7 @@ module _ (h : List Dimension) (with : Use) (cells : List (Option Cell)) (actors 
       let can : CanNoteRefused (w.cells ledger_cell) (w.actors n) = record { free = (next-at c b).free; ledger_is = tag-is h with cells actors s w core.is_core ledger_cell } in
       with-ledger b.within NotesRefused ledger ledger_is can
 
-  pub called-ready : (called : Call) → IsToBegin h with cells actors n (script.Control called) → asks_registry called ≡ false → (ledger : ℕ) → ledger ≡ ledger_cell → MayStep cells actors (ledger ∷ []) n (NotesCalled called)
+  pub called-ready : (called : Call) → IsToBegin h with cells actors n (script.Control called) → asks_registry (class_of called) ≡ false → (ledger : ℕ) → ledger ≡ ledger_cell → MayStep cells actors (ledger ∷ []) n (NotesCalled called)
   called-ready called b alone ledger ledger_is =
       let x = next-at (script.Control called) b in
       let about : s.servers ≡ (w.actors n).setting.servers = ap (λ (z : Setting). z.servers) (sym (core.is_core.inv.holds.numbering.about n)) in
@@ -131,7 +132,7 @@ module _ (h : List Dimension) (with : Use) (cells : List (Option Cell)) (actors 
       } in
       with-ledger b.within (NotesCalled called) ledger ledger_is can
 
-  pub asking-ready : (called : Call) → IsToBegin h with cells actors n (script.Control called) → asks_registry called ≡ true → (registry ledger : ℕ) → registry ≡ registry_cell → ledger ≡ ledger_cell
+  pub asking-ready : (called : Call) → IsToBegin h with cells actors n (script.Control called) → asks_registry (class_of called) ≡ true → (registry ledger : ℕ) → registry ≡ registry_cell → ledger ≡ ledger_cell
       → MayStep cells actors (registry ∷ ledger ∷ []) n (NotesAsking called with.workers)
   asking-ready called b asks registry ledger registry_is ledger_is =
       let x = next-at (script.Control called) b in

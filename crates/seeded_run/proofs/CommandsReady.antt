@@ -63,13 +63,10 @@ route-is s w rest n due =
     by of work_is.Query is case = absurd case.comes
     by of (work_is.Sync server pulled) is case = (let same : kind.Route ≡ kind.Sync = case.1 in absurd (cc))
     by of (work_is.Settle pulls) is case = (let same : kind.Route ≡ kind.Sync = case.1 in absurd (cc))
-    by of work_is.Barrier is case = absurd case
-    by of (work_is.Split shard) is case = absurd case
-    by of (work_is.Move shard worker) is case = absurd case
+    by of work_is.Bare is case = absurd case
+    by of (work_is.Action act) is case = absurd case
     by of (work_is.Balance b) is case = absurd case
-    by of (work_is.Shards shown) is case = absurd case
-    by of (work_is.Tree shard stands shown) is case = absurd case
-    by of (work_is.Audit shown) is case = absurd case
+    by of (work_is.Page subject there shown) is case = absurd case
 
 -- What the parts of a command come to.
 
@@ -145,13 +142,10 @@ parts-case s w rest n k first aside job no_route no_sync due =
     by of work_is.Query is case = record { of = of; work = work_is.Query; command = is; work_is = inr refl; at = case }
     by of (work_is.Sync server pulled) is case = absurd (no_sync case.1)
     by of (work_is.Settle pulls) is case = absurd (no_sync case.1)
-    by of work_is.Barrier is case = absurd case
-    by of (work_is.Split shard) is case = absurd case
-    by of (work_is.Move shard worker) is case = absurd case
+    by of work_is.Bare is case = absurd case
+    by of (work_is.Action act) is case = absurd case
     by of (work_is.Balance b) is case = absurd case
-    by of (work_is.Shards shown) is case = absurd case
-    by of (work_is.Tree shard stands shown) is case = absurd case
-    by of (work_is.Audit shown) is case = absurd case
+    by of (work_is.Page subject there shown) is case = absurd case
 
 -- a pull that is due for the actor's command
 pub record IsPulling (s : Setting) (w : World) (n : ℕ) : Type 0 where
@@ -179,13 +173,10 @@ sync-is s w rest n due =
     by of (work_is.Settle pulls) is case =
         let x = some-of (settles_next s.servers pulls) case.0 in
         record { of = of; work = work_is.Settle pulls; command = is; server = x.0; due = x.1 }
-    by of work_is.Barrier is case = absurd case
-    by of (work_is.Split shard) is case = absurd case
-    by of (work_is.Move shard worker) is case = absurd case
+    by of work_is.Bare is case = absurd case
+    by of (work_is.Action act) is case = absurd case
     by of (work_is.Balance b) is case = absurd case
-    by of (work_is.Shards shown) is case = absurd case
-    by of (work_is.Tree shard stands shown) is case = absurd case
-    by of (work_is.Audit shown) is case = absurd case
+    by of (work_is.Page subject there shown) is case = absurd case
 
 -- What the kinds ask.
 

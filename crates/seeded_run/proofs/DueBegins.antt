@@ -7,16 +7,18 @@ use Rattle.dim_hierarchy.specs.Dimension.{Dimension}
 use Rattle.dim_hierarchy.specs.declared.hierarchy.FilterFault.{FilterFault}
 use Rattle.dim_hierarchy.specs.declared.hierarchy.FilterFault.TheVariants.{Unknown, NoMemory}
 use Rattle.query_router.specs.Desk.{DeskValue}
+use Rattle.row_ledger.specs.Classes.{class_of}
+use Rattle.row_ledger.specs.declared.class.Class.{Class}
+use Rattle.row_ledger.specs.declared.class.Class.TheVariants as class_is
 use Rattle.row_ledger.specs.declared.settings.Call.{Call}
-use Rattle.row_ledger.specs.declared.settings.Call.TheVariants as call
 use Rattle.row_ledger.specs.declared.settings.Use.{Use}
 use Rattle.script_form.specs.declared.script.Command.{Command}
 use Rattle.script_form.specs.declared.script.Command.TheVariants as script
 use Rattle.script_form.specs.declared.script.Question.{Question}
 use Rattle.script_run.specs.Phases.{closes}
-use Rattle.script_run.specs.Places.{session_of}
+use Rattle.script_run.specs.Places.{session_of, session_of_call}
 use Rattle.volap_cell.specs.Cells.{desk_in}
-use Rattle.volap_cell.specs.Commands.{MayCall}
+use Rattle.volap_cell.specs.Commands.{MayCall, MayCallAs}
 use Rattle.volap_cell.specs.Ghost.{Ghost}
 use Rattle.volap_cell.specs.ImageKinds.{IsFree}
 use Rattle.volap_cell.specs.Invariant.{InvWith}
@@ -43,48 +45,52 @@ use Rattle.seeded_run.proofs.Scripts.{role-is}
 -- Whose a command is.
 
 -- what its actor is there for
+
+abbrev pub role_of_class : Class → Role
+role_of_class (class_is.Sync server) = Puller
+role_of_class class = Admin
+
 abbrev pub role_for : Command → Role
 role_for (script.Insert new) = Session new.server
 role_for (script.Query question) = Session question.server
-role_for (script.Control (call.Sync server)) = Puller
-role_for (script.Control called) = Admin
+role_for (script.Control called) = role_of_class (class_of called)
+
+called-at : (s : Setting) (with : Use) (class : Class) → s.servers ≡ with.servers → AreScriptRoles s → slice_get s.roles (session_of_call with class) ≡ Some (role_of_class class)
+called-at s with (class_is.Sync server) same roles = ap (λ (m : ℕ). slice_get s.roles m) (sym same) ∙ roles.puller
+called-at s with class_is.Settle same roles = ap (λ (m : ℕ). slice_get s.roles (m + 1)) (sym same) ∙ roles.admin
+called-at s with class_is.Bare same roles = ap (λ (m : ℕ). slice_get s.roles (m + 1)) (sym same) ∙ roles.admin
+called-at s with (class_is.Page subject) same roles = ap (λ (m : ℕ). slice_get s.roles (m + 1)) (sym same) ∙ roles.admin
+called-at s with (class_is.Action act) same roles = ap (λ (m : ℕ). slice_get s.roles (m + 1)) (sym same) ∙ roles.admin
+called-at s with (class_is.Balance most) same roles = ap (λ (m : ℕ). slice_get s.roles (m + 1)) (sym same) ∙ roles.admin
 
 own-at : (s : Setting) (with : Use) (h : List Dimension) (c : Command) → s.servers ≡ with.servers → AreScriptRoles s → IsAllowed with h c → slice_get s.roles (session_of with c) ≡ Some (role_for c)
 own-at s with h (script.Insert new) same roles allowed = roles.session new.server (subst (λ (m : ℕ). new.server < m) (sym same) allowed)
 own-at s with h (script.Query question) same roles allowed = roles.session question.server (subst (λ (m : ℕ). question.server < m) (sym same) allowed.0)
-own-at s with h (script.Control (call.Sync server)) same roles allowed = ap (λ (m : ℕ). slice_get s.roles m) (sym same) ∙ roles.puller
-own-at s with h (script.Control (call.Split shard)) same roles allowed = ap (λ (m : ℕ). slice_get s.roles (m + 1)) (sym same) ∙ roles.admin
-own-at s with h (script.Control (call.Move shard worker)) same roles allowed = ap (λ (m : ℕ). slice_get s.roles (m + 1)) (sym same) ∙ roles.admin
-own-at s with h (script.Control (call.Balance most)) same roles allowed = ap (λ (m : ℕ). slice_get s.roles (m + 1)) (sym same) ∙ roles.admin
-own-at s with h (script.Control call.Barrier) same roles allowed = ap (λ (m : ℕ). slice_get s.roles (m + 1)) (sym same) ∙ roles.admin
-own-at s with h (script.Control call.Settle) same roles allowed = ap (λ (m : ℕ). slice_get s.roles (m + 1)) (sym same) ∙ roles.admin
-own-at s with h (script.Control call.Shards) same roles allowed = ap (λ (m : ℕ). slice_get s.roles (m + 1)) (sym same) ∙ roles.admin
-own-at s with h (script.Control (call.Tree shard)) same roles allowed = ap (λ (m : ℕ). slice_get s.roles (m + 1)) (sym same) ∙ roles.admin
-own-at s with h (script.Control call.Audit) same roles allowed = ap (λ (m : ℕ). slice_get s.roles (m + 1)) (sym same) ∙ roles.admin
+own-at s with h (script.Control called) same roles allowed = called-at s with (class_of called) same roles
+
+may-call-as : (class : Class) → MayCallAs (role_of_class class) class
+may-call-as (class_is.Sync server) = tt
+may-call-as class_is.Settle = tt
+may-call-as class_is.Bare = tt
+may-call-as (class_is.Page subject) = tt
+may-call-as (class_is.Action act) = tt
+may-call-as (class_is.Balance most) = tt
 
 pub may-call : (called : Call) → MayCall (role_for (script.Control called)) called
-may-call (call.Sync server) = tt
-may-call (call.Split shard) = tt
-may-call (call.Move shard worker) = tt
-may-call (call.Balance most) = tt
-may-call call.Barrier = tt
-may-call call.Settle = tt
-may-call call.Shards = tt
-may-call (call.Tree shard) = tt
-may-call call.Audit = tt
+may-call called = may-call-as (class_of called)
+
+no-hand : (class : Class) (worker : ℕ) → role_of_class class ≡ Hand worker → ⊥
+no-hand (class_is.Sync server) worker e = cc
+no-hand class_is.Settle worker e = cc
+no-hand class_is.Bare worker e = cc
+no-hand (class_is.Page subject) worker e = cc
+no-hand (class_is.Action act) worker e = cc
+no-hand (class_is.Balance most) worker e = cc
 
 not-hand : (c : Command) (worker : ℕ) → role_for c ≡ Hand worker → ⊥
 not-hand (script.Insert new) worker e = cc
 not-hand (script.Query question) worker e = cc
-not-hand (script.Control (call.Sync server)) worker e = cc
-not-hand (script.Control (call.Split shard)) worker e = cc
-not-hand (script.Control (call.Move shard to)) worker e = cc
-not-hand (script.Control (call.Balance most)) worker e = cc
-not-hand (script.Control call.Barrier) worker e = cc
-not-hand (script.Control call.Settle) worker e = cc
-not-hand (script.Control call.Shards) worker e = cc
-not-hand (script.Control (call.Tree shard)) worker e = cc
-not-hand (script.Control call.Audit) worker e = cc
+not-hand (script.Control called) worker e = no-hand (class_of called) worker e
 
 -- What is due.
 

@@ -29,7 +29,7 @@ use Rattle.volap_cell.specs.declared.kind.Kind.{Kind}
 use Rattle.volap_cell.specs.declared.kind.Kind.TheVariants as kind
 use Rattle.volap_cell.specs.declared.role.Role.{Role}
 use Rattle.volap_cell.specs.declared.role.Role.TheVariants.{Admin, Hand, Puller, Session}
-use Rattle.seeded_run.specs.Due.{actor_kind, any_below, are_known, balance_kind, carry_kind, command_kind, desk_of, due_by, finish_kind, first_kind, free_kind, gate_kind, is_alone, is_empty, is_empty_desk, job_kind, kind_at_empty, kind_by, kind_by_verdict, led_to, may_enter, next_kind, page_kind, parts_kind, placed_kind, read_kind, row_kind, stage_kind, task_kind, tree_kind, work_kind}
+use Rattle.seeded_run.specs.Due.{actor_kind, any_below, are_known, balance_kind, carry_kind, command_kind, desk_of, due_by, finish_kind, first_kind, free_kind, gate_kind, is_alone, is_empty, is_empty_desk, job_kind, kind_at_empty, kind_by, kind_by_verdict, led_to, may_enter, next_kind, page_kind, parts_kind, placed_kind, read_kind, row_kind, stage_kind, task_kind, there_kind, work_kind}
 
 -- Kinds of steps that no command makes due.
 
@@ -263,9 +263,9 @@ page-job : (history : List Event) (alone : Bool) (of : ℕ) (shown : Bool) (k : 
 page-job history alone of true k e = of-kind is_of_job k kind.Note e refl
 page-job history alone of false k e = if-some is_of_job _ kind.Note k refl e
 
-tree-job : (history : List Event) (alone : Bool) (of : ℕ) (stands shown : Bool) (k : Kind) → tree_kind history alone of stands shown ≡ Some k → is_of_job k ≡ true
-tree-job history alone of true shown k e = page-job history alone of shown k e
-tree-job history alone of false shown k e = of-kind is_of_job k kind.Note e refl
+there-job : (history : List Event) (alone : Bool) (of : ℕ) (stands shown : Bool) (k : Kind) → there_kind history alone of stands shown ≡ Some k → is_of_job k ≡ true
+there-job history alone of true shown k e = page-job history alone of shown k e
+there-job history alone of false shown k e = of-kind is_of_job k kind.Note e refl
 
 -- What is known by the work, where a step is due that isn't of a job.
 abbrev pub WorkCase : Setting → World → Role → Kind → Work → Type 0
@@ -283,16 +283,13 @@ work-case s w alone a of (work_is.Insert row true) k e off = at-parts s w a.role
 work-case s w alone a of work_is.Query k e off = at-parts s w a.role k e
 work-case s w alone a of (work_is.Sync server true) k e off = never (is_of_job k) (of-kind is_of_job k kind.Note e refl) off
 work-case s w alone a of (work_is.Sync server false) k e off = (refl, (let same : kind.Sync ≡ k = cc in sym same))
-work-case s w alone a of work_is.Barrier k e off = never (is_of_job k) (of-kind is_of_job k kind.Note e refl) off
+work-case s w alone a of work_is.Bare k e off = never (is_of_job k) (of-kind is_of_job k kind.Note e refl) off
 work-case s w alone a of (work_is.Settle pulls) k e off = by (is_some (settles_next s.servers pulls)) e
   where
     by : (b : Bool) → Some (if b then kind.Sync else kind.Note) ≡ Some k → (b ≡ true) × (k ≡ kind.Sync)
     by true e = (refl, (let same : kind.Sync ≡ k = cc in sym same))
     by false e = never (is_of_job k) (of-kind is_of_job k kind.Note e refl) off
-work-case s w alone a of (work_is.Split shard) k e off = never (is_of_job k) (of-kind is_of_job k (job_kind a.job kind.Note) e (job-job a.job kind.Note refl)) off
-work-case s w alone a of (work_is.Move shard worker) k e off = never (is_of_job k) (of-kind is_of_job k (job_kind a.job kind.Note) e (job-job a.job kind.Note refl)) off
+work-case s w alone a of (work_is.Action act) k e off = never (is_of_job k) (of-kind is_of_job k (job_kind a.job kind.Note) e (job-job a.job kind.Note refl)) off
 work-case s w alone a of (work_is.Balance b) k e off =
     never (is_of_job k) (of-kind is_of_job k (job_kind a.job (balance_kind b)) e (job-job a.job (balance_kind b) (if-kind is_of_job (is_none b.plan) kind.LookUp kind.Note refl refl))) off
-work-case s w alone a of (work_is.Shards shown) k e off = never (is_of_job k) (page-job (history_in w) alone of shown k e) off
-work-case s w alone a of (work_is.Tree shard stands shown) k e off = never (is_of_job k) (tree-job (history_in w) alone of stands shown k e) off
-work-case s w alone a of (work_is.Audit shown) k e off = never (is_of_job k) (page-job (history_in w) alone of shown k e) off
+work-case s w alone a of (work_is.Page subject there shown) k e off = never (is_of_job k) (there-job (history_in w) alone of there shown k e) off

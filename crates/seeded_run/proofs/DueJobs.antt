@@ -83,22 +83,17 @@ work-stage s w alone n of (work_is.Insert row true) k e on = (let p = at-parts s
 work-stage s w alone n of work_is.Query k e on = (let p = at-parts s w (w.actors n).role k e in parts-off k _ p.comes on)
 work-stage s w alone n of (work_is.Sync server true) k e on = off-stage kind.Note k refl e on
 work-stage s w alone n of (work_is.Sync server false) k e on = off-stage kind.Sync k refl e on
-work-stage s w alone n of work_is.Barrier k e on = off-stage kind.Note k refl e on
+work-stage s w alone n of work_is.Bare k e on = off-stage kind.Note k refl e on
 work-stage s w alone n of (work_is.Settle pulls) k e on = by (is_some (settles_next s.servers pulls)) e
   where
     by : (b : Bool) → Some (if b then kind.Sync else kind.Note) ≡ Some k → IsAtStage w n k
     by true e = off-stage kind.Sync k refl e on
     by false e = off-stage kind.Note k refl e on
-work-stage s w alone n of (work_is.Split shard) k e on = with-job w n k kind.Note refl e on
-work-stage s w alone n of (work_is.Move shard worker) k e on = with-job w n k kind.Note refl e on
+work-stage s w alone n of (work_is.Action act) k e on = with-job w n k kind.Note refl e on
 work-stage s w alone n of (work_is.Balance b) k e on = with-job w n k (balance_kind b) (balance-off b) e on
-work-stage s w alone n of (work_is.Shards true) k e on = off-stage kind.Note k refl e on
-work-stage s w alone n of (work_is.Shards false) k e on = page-off (alone && (length (history_in w) == of + 1)) k e on
-work-stage s w alone n of (work_is.Tree shard false shown) k e on = off-stage kind.Note k refl e on
-work-stage s w alone n of (work_is.Tree shard true true) k e on = off-stage kind.Note k refl e on
-work-stage s w alone n of (work_is.Tree shard true false) k e on = page-off (alone && (length (history_in w) == of + 1)) k e on
-work-stage s w alone n of (work_is.Audit true) k e on = off-stage kind.Note k refl e on
-work-stage s w alone n of (work_is.Audit false) k e on = page-off (alone && (length (history_in w) == of + 1)) k e on
+work-stage s w alone n of (work_is.Page subject false shown) k e on = off-stage kind.Note k refl e on
+work-stage s w alone n of (work_is.Page subject true true) k e on = off-stage kind.Note k refl e on
+work-stage s w alone n of (work_is.Page subject true false) k e on = page-off (alone && (length (history_in w) == of + 1)) k e on
 
 pub at-stage : (s : Setting) (w : World) (rest : ℕ → List Command) (n : ℕ) (k : Kind) → is_aside k ≡ false → is_first k ≡ false → is_staged k ≡ true → due_by s w rest n ≡ Some k → IsAtStage w n k
 at-stage s w rest n k aside first on due =

@@ -69,19 +69,16 @@ note-case s w alone a of (work_is.Insert row true) is e page balance = (refl, at
 note-case s w alone a of work_is.Query is e page balance = at-parts s w a.role kind.Note e
 note-case s w alone a of (work_is.Sync server true) is e page balance = refl
 note-case s w alone a of (work_is.Sync server false) is e page balance = (let never : kind.Sync ≡ kind.Note = cc in absurd (cc))
-note-case s w alone a of work_is.Barrier is e page balance = tt
+note-case s w alone a of work_is.Bare is e page balance = tt
 note-case s w alone a of (work_is.Settle pulls) is e page balance = settled s.servers pulls is.1 (by (is_some (settles_next s.servers pulls)) e)
   where
     by : (b : Bool) → Some (if b then kind.Sync else kind.Note) ≡ Some kind.Note → b ≡ false
     by true e = (let never : kind.Sync ≡ kind.Note = cc in absurd (cc))
     by false e = refl
-note-case s w alone a of (work_is.Split shard) is e page balance = job-note a.job e
-note-case s w alone a of (work_is.Move shard worker) is e page balance = job-note a.job e
+note-case s w alone a of (work_is.Action act) is e page balance = job-note a.job e
 note-case s w alone a of (work_is.Balance b) is e page balance = (let never : true ≡ false = balance in absurd (cc))
-note-case s w alone a of (work_is.Shards shown) is e page balance = shown-is shown page
-note-case s w alone a of (work_is.Tree shard false shown) is e page balance = (refl, refl)
-note-case s w alone a of (work_is.Tree shard true shown) is e page balance = shown-is shown page
-note-case s w alone a of (work_is.Audit shown) is e page balance = shown-is shown page
+note-case s w alone a of (work_is.Page subject false shown) is e page balance = (refl, refl)
+note-case s w alone a of (work_is.Page subject true shown) is e page balance = shown-is shown page
 
 -- an actor whose open command ends so
 pub record IsNoted (s : Setting) (w : World) (n : ℕ) : Type 0 where

@@ -102,14 +102,11 @@ other-work s history alone desk a of (work_is.Insert row false) = other-if _ (So
 other-work s history alone desk a of (work_is.Insert row true) = other-parts desk
 other-work s history alone desk a of work_is.Query = other-parts desk
 other-work s history alone desk a of (work_is.Sync server pulled) = other-kind pulled kind.Note kind.Sync refl refl
-other-work s history alone desk a of work_is.Barrier = refl
+other-work s history alone desk a of work_is.Bare = refl
 other-work s history alone desk a of (work_is.Settle pulls) = other-kind _ kind.Sync kind.Note refl refl
-other-work s history alone desk a of (work_is.Split shard) = other-job a.job kind.Note refl
-other-work s history alone desk a of (work_is.Move shard worker) = other-job a.job kind.Note refl
+other-work s history alone desk a of (work_is.Action act) = other-job a.job kind.Note refl
 other-work s history alone desk a of (work_is.Balance b) = other-job a.job (balance_kind b) (other-kind (is_none b.plan) kind.LookUp kind.Note refl refl)
-other-work s history alone desk a of (work_is.Shards shown) = other-page history alone of shown
-other-work s history alone desk a of (work_is.Tree shard stands shown) = other-if stands _ _ (other-page history alone of shown) refl
-other-work s history alone desk a of (work_is.Audit shown) = other-page history alone of shown
+other-work s history alone desk a of (work_is.Page subject there shown) = other-if there _ _ (other-page history alone of shown) refl
 
 other-first : (desk : Option DeskValue) (c : Command) (known : Bool) → IsOther (first_kind desk c known)
 other-first desk (script.Insert new) true = refl

@@ -116,13 +116,10 @@ session-takes s w alone n c command e = by c.work refl e (work-case s w alone (w
     by work_is.Query is e case = taking (ap is_on_desk is) (waits-at s w (w.actors n).role e)
     by (work_is.Sync server pulled) is e case = (let same : kind.TakePart ≡ kind.Sync = case.1 in absurd (cc))
     by (work_is.Settle pulls) is e case = (let same : kind.TakePart ≡ kind.Sync = case.1 in absurd (cc))
-    by work_is.Barrier is e case = absurd case
-    by (work_is.Split shard) is e case = absurd case
-    by (work_is.Move shard worker) is e case = absurd case
+    by work_is.Bare is e case = absurd case
+    by (work_is.Action act) is e case = absurd case
     by (work_is.Balance b) is e case = absurd case
-    by (work_is.Shards shown) is e case = absurd case
-    by (work_is.Tree shard stands shown) is e case = absurd case
-    by (work_is.Audit shown) is e case = absurd case
+    by (work_is.Page subject there shown) is e case = absurd case
 
 -- the one or the other
 pub takes : (s : Setting) (w : World) (alone : Bool) (rest : List Command) (n : ℕ) → command_kind s w alone rest (w.actors n) (w.actors n).command ≡ Some kind.TakePart

@@ -182,13 +182,10 @@ balance-work (work_is.Balance b) e = (b, refl)
 balance-work (work_is.Insert row routed) e = cc
 balance-work work_is.Query e = cc
 balance-work (work_is.Sync server pulled) e = cc
-balance-work work_is.Barrier e = cc
+balance-work work_is.Bare e = cc
 balance-work (work_is.Settle pulls) e = cc
-balance-work (work_is.Split shard) e = cc
-balance-work (work_is.Move shard worker) e = cc
-balance-work (work_is.Shards shown) e = cc
-balance-work (work_is.Tree shard stands shown) e = cc
-balance-work (work_is.Audit shown) e = cc
+balance-work (work_is.Action act) e = cc
+balance-work (work_is.Page subject there shown) e = cc
 
 -- a command that is a balance
 pub balance-is : (o : Option OpenCommand) → is_balance o ≡ true → (of : ℕ) × (b : Balance) × (o ≡ doing of (work_is.Balance b))
@@ -197,17 +194,14 @@ balance-is (Some c) e = (let k = balance-work c.work e in (c.of, k.0, ap (doing 
 
 -- a command with a job that isn't a balance, and has frozen nothing, may end for want of memory
 unfrozen-ends : (servers : ℕ) (work : Work) (job : JobValue) → IsJobOf work job → is_balance_work work ≡ false → job.stage ≡ IsCalled → MayNoteEnd servers work (Some job) NoMemory
-unfrozen-ends servers (work_is.Split shard) job of off called = subst (λ (st : StageValue). EndsStage st NoMemory) (sym called) tt
-unfrozen-ends servers (work_is.Move shard worker) job of off called = subst (λ (st : StageValue). EndsStage st NoMemory) (sym called) tt
+unfrozen-ends servers (work_is.Action act) job of off called = subst (λ (st : StageValue). EndsStage st NoMemory) (sym called) tt
 unfrozen-ends servers (work_is.Balance b) job of off called = cc
 unfrozen-ends servers (work_is.Insert row routed) job of off called = absurd of
 unfrozen-ends servers work_is.Query job of off called = absurd of
 unfrozen-ends servers (work_is.Sync server pulled) job of off called = absurd of
-unfrozen-ends servers work_is.Barrier job of off called = absurd of
+unfrozen-ends servers work_is.Bare job of off called = absurd of
 unfrozen-ends servers (work_is.Settle pulls) job of off called = absurd of
-unfrozen-ends servers (work_is.Shards shown) job of off called = absurd of
-unfrozen-ends servers (work_is.Tree shard stands shown) job of off called = absurd of
-unfrozen-ends servers (work_is.Audit shown) job of off called = absurd of
+unfrozen-ends servers (work_is.Page subject there shown) job of off called = absurd of
 
 none-next : (o : Option JobValue) → is_some o ≡ false → o ≡ None
 none-next None e = refl

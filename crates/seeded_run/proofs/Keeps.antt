@@ -5,10 +5,12 @@ use Rattle.std.specs.Option.{option_map_or}
 use Rattle.std.proofs.lemmas.Bool.{eq-eqb, eqb-true}
 use Rattle.dim_hierarchy.specs.Dimension.{Dimension}
 use Rattle.row_ledger.proofs.Positions.{event_at-older, event_at-past}
+use Rattle.row_ledger.specs.Classes.{class_of}
 use Rattle.row_ledger.specs.Past.{call_at, call_in, end_in, ends_itself, event_at, has_ended, is_end_of, is_over, pull_in, session_in}
 use Rattle.row_ledger.specs.declared.event.Event.{Event}
 use Rattle.row_ledger.specs.declared.event.Event.TheVariants as event
-use Rattle.row_ledger.specs.declared.settings.Call.TheVariants as call
+use Rattle.row_ledger.specs.declared.settings.Call.{Call}
+use Rattle.row_ledger.specs.declared.class.Class.TheVariants as class_is
 use Rattle.row_ledger.specs.declared.settings.How.{How}
 use Rattle.row_ledger.specs.declared.settings.Use.{Use}
 use Rattle.script_form.specs.declared.script.Command.{Command}
@@ -109,37 +111,27 @@ first-same p e past none ends = first-behind-same p e past [] p.commands none en
 -- Work.
 
 shown-once : (work work_now : Work) → once_shown work ≡ Some work_now → is_some (once_shown work_now) ≡ false
-shown-once (work_is.Shards false) work_now is = let same : work_is.Shards true ≡ work_now = cc in ap (λ x. is_some (once_shown x)) (sym same)
-shown-once (work_is.Tree shard true false) work_now is = let same : work_is.Tree shard true true ≡ work_now = cc in ap (λ x. is_some (once_shown x)) (sym same)
-shown-once (work_is.Audit false) work_now is = let same : work_is.Audit true ≡ work_now = cc in ap (λ x. is_some (once_shown x)) (sym same)
-shown-once (work_is.Shards true) work_now is = cc
-shown-once (work_is.Tree shard true true) work_now is = cc
-shown-once (work_is.Tree shard false shown) work_now is = cc
-shown-once (work_is.Audit true) work_now is = cc
+shown-once (work_is.Page subject true false) work_now is = let same : work_is.Page subject true true ≡ work_now = cc in ap (λ x. is_some (once_shown x)) (sym same)
+shown-once (work_is.Page subject true true) work_now is = cc
+shown-once (work_is.Page subject false shown) work_now is = cc
 shown-once (work_is.Insert row routed) work_now is = cc
 shown-once work_is.Query work_now is = cc
 shown-once (work_is.Sync server pulled) work_now is = cc
-shown-once work_is.Barrier work_now is = cc
+shown-once work_is.Bare work_now is = cc
 shown-once (work_is.Settle pulls) work_now is = cc
-shown-once (work_is.Split shard) work_now is = cc
-shown-once (work_is.Move shard worker) work_now is = cc
+shown-once (work_is.Action act) work_now is = cc
 shown-once (work_is.Balance b) work_now is = cc
 
 shown-pulled : (servers : ℕ) (work work_now : Work) (pulled : List ℕ) → once_shown work ≡ Some work_now → HasPulled servers work_now pulled
-shown-pulled servers (work_is.Shards false) work_now pulled is = let same : work_is.Shards true ≡ work_now = cc in subst (λ x. HasPulled servers x pulled) same tt
-shown-pulled servers (work_is.Tree shard true false) work_now pulled is = let same : work_is.Tree shard true true ≡ work_now = cc in subst (λ x. HasPulled servers x pulled) same tt
-shown-pulled servers (work_is.Audit false) work_now pulled is = let same : work_is.Audit true ≡ work_now = cc in subst (λ x. HasPulled servers x pulled) same tt
-shown-pulled servers (work_is.Shards true) work_now pulled is = cc
-shown-pulled servers (work_is.Tree shard true true) work_now pulled is = cc
-shown-pulled servers (work_is.Tree shard false shown) work_now pulled is = cc
-shown-pulled servers (work_is.Audit true) work_now pulled is = cc
+shown-pulled servers (work_is.Page subject true false) work_now pulled is = let same : work_is.Page subject true true ≡ work_now = cc in subst (λ x. HasPulled servers x pulled) same tt
+shown-pulled servers (work_is.Page subject true true) work_now pulled is = cc
+shown-pulled servers (work_is.Page subject false shown) work_now pulled is = cc
 shown-pulled servers (work_is.Insert row routed) work_now pulled is = cc
 shown-pulled servers work_is.Query work_now pulled is = cc
 shown-pulled servers (work_is.Sync server did) work_now pulled is = cc
-shown-pulled servers work_is.Barrier work_now pulled is = cc
+shown-pulled servers work_is.Bare work_now pulled is = cc
 shown-pulled servers (work_is.Settle pulls) work_now pulled is = cc
-shown-pulled servers (work_is.Split shard) work_now pulled is = cc
-shown-pulled servers (work_is.Move shard worker) work_now pulled is = cc
+shown-pulled servers (work_is.Action act) work_now pulled is = cc
 shown-pulled servers (work_is.Balance b) work_now pulled is = cc
 
 -- a pull is a sync's or a settle's
@@ -149,39 +141,30 @@ pull-kinds servers server (work_is.Sync x did) is = inl (x, did, refl)
 pull-kinds servers server (work_is.Settle pulls) is = inr refl
 pull-kinds servers server (work_is.Insert row routed) is = cc
 pull-kinds servers server work_is.Query is = cc
-pull-kinds servers server work_is.Barrier is = cc
-pull-kinds servers server (work_is.Split shard) is = cc
-pull-kinds servers server (work_is.Move shard worker) is = cc
+pull-kinds servers server work_is.Bare is = cc
+pull-kinds servers server (work_is.Action act) is = cc
 pull-kinds servers server (work_is.Balance b) is = cc
-pull-kinds servers server (work_is.Shards shown) is = cc
-pull-kinds servers server (work_is.Tree shard stands shown) is = cc
-pull-kinds servers server (work_is.Audit shown) is = cc
+pull-kinds servers server (work_is.Page subject there shown) is = cc
 
 pulled-closing : (work : Work) → is_closing_work (pulled_once work) ≡ is_closing_work work
 pulled-closing (work_is.Sync x did) = refl
 pulled-closing (work_is.Settle pulls) = refl
 pulled-closing (work_is.Insert row routed) = refl
 pulled-closing work_is.Query = refl
-pulled-closing work_is.Barrier = refl
-pulled-closing (work_is.Split shard) = refl
-pulled-closing (work_is.Move shard worker) = refl
+pulled-closing work_is.Bare = refl
+pulled-closing (work_is.Action act) = refl
 pulled-closing (work_is.Balance b) = refl
-pulled-closing (work_is.Shards shown) = refl
-pulled-closing (work_is.Tree shard stands shown) = refl
-pulled-closing (work_is.Audit shown) = refl
+pulled-closing (work_is.Page subject there shown) = refl
 
 pull-no-page : (servers server : ℕ) (work : Work) → due_pull servers work ≡ Some server → is_some (once_shown (pulled_once work)) ≡ false
 pull-no-page servers server (work_is.Sync x did) is = refl
 pull-no-page servers server (work_is.Settle pulls) is = refl
 pull-no-page servers server (work_is.Insert row routed) is = cc
 pull-no-page servers server work_is.Query is = cc
-pull-no-page servers server work_is.Barrier is = cc
-pull-no-page servers server (work_is.Split shard) is = cc
-pull-no-page servers server (work_is.Move shard worker) is = cc
+pull-no-page servers server work_is.Bare is = cc
+pull-no-page servers server (work_is.Action act) is = cc
 pull-no-page servers server (work_is.Balance b) is = cc
-pull-no-page servers server (work_is.Shards shown) is = cc
-pull-no-page servers server (work_is.Tree shard stands shown) is = cc
-pull-no-page servers server (work_is.Audit shown) is = cc
+pull-no-page servers server (work_is.Page subject there shown) is = cc
 
 -- Commands.
 
@@ -194,10 +177,10 @@ none-some o c x y = cc
 pub same-open : (o : Option ℕ) (a b : ℕ) → o ≡ Some a → o ≡ Some b → a ≡ b
 same-open o a b x y = cc
 
-begins-called : (with : Use) (h : List Dimension) (c : Command) (session server : ℕ) → Begins with h c (event.Called session (call.Sync server)) → session ≡ with.servers
-begins-called with h (script.Insert new) session server b = absurd b
-begins-called with h (script.Query question) session server b = absurd b
-begins-called with h (script.Control called) session server b = b.0 ∙ ap (session_of_call with) (sym b.1)
+begins-called : (with : Use) (h : List Dimension) (c : Command) (session server : ℕ) (call : Call) → class_of call ≡ class_is.Sync server → Begins with h c (event.Called session call) → session ≡ with.servers
+begins-called with h (script.Insert new) session server call class b = absurd b
+begins-called with h (script.Query question) session server call class b = absurd b
+begins-called with h (script.Control called) session server call class b = b.0 ∙ ap (λ (c : Call). session_of_call with (class_of c)) (sym b.1) ∙ ap (session_of_call with) class
 
 module _ (in_order : Bool) (s : Setting) (p : PhaseRun) (w now : World) (g g_now : Ghost) (next : ℕ → ℕ) (n : ℕ)
     (i : InvWith s (view s w) g) (i_now : InvWith s (view s now) g_now) (turn : IsTurn in_order s p w n now) (r : IsRunning in_order s p w next) where
@@ -380,37 +363,37 @@ module _ (in_order : Bool) (s : Setting) (p : PhaseRun) (w now : World) (g g_now
     sync-owner : (a : ℕ) (c : OpenCommand) (server : ℕ) (did : Bool) → (w.actors a).command ≡ Some c → c.work ≡ work_is.Sync server did → a ≡ s.servers
     sync-owner a c server did at work =
         let progress = subst (λ x. IsProgress s (history_in w) c.of x (w.actors a).job (w.actors a).role) work (i.telling.progress a c at) in
-        by (event_at (history_in w) c.of) refl progress.0 (i.telling.own a c at)
+        by progress.0.0 progress.0.2 (event_at (history_in w) c.of) refl progress.0.1 (i.telling.own a c at)
       where
-        called : (session : ℕ) → event_at (history_in w) c.of ≡ Some (event.Called session (call.Sync server)) → session ≡ s.servers
-        called session here =
-            let found = b.in_phase.part.only c.of (event.Called session (call.Sync server)) here refl in
+        called : (call : Call) → class_of call ≡ class_is.Sync server → (session : ℕ) → event_at (history_in w) c.of ≡ Some (event.Called session call) → session ≡ s.servers
+        called call class session here =
+            let found = b.in_phase.part.only c.of (event.Called session call) here refl in
             let begins = subst (BeginsAt p.with s.hierarchy (history_in w) found.1) found.3 (b.in_phase.part.begun found.0 found.1 found.2) in
-            begins-called p.with s.hierarchy found.1 session server (subst (Begins p.with s.hierarchy found.1) (same-event (event_at (history_in w) c.of) begins.0 (event.Called session (call.Sync server)) begins.1 here) begins.2)
+            begins-called p.with s.hierarchy found.1 session server call class (subst (Begins p.with s.hierarchy found.1) (same-event (event_at (history_in w) c.of) begins.0 (event.Called session call) begins.1 here) begins.2)
             ∙ r.phase.servers
           where
             same-event : (o : Option Event) (x y : Event) → o ≡ Some x → o ≡ Some y → x ≡ y
             same-event o x y e f = cc
 
-        by : (o : Option Event) → event_at (history_in w) c.of ≡ o → option_and_then call_in o ≡ Some (call.Sync server) → option_and_then session_in o ≡ Some a → a ≡ s.servers
-        by None here is own = cc
-        by (Some (event.Called session called_is)) here is own =
-            let same : called_is ≡ call.Sync server = cc in
+        by : (call : Call) → class_of call ≡ class_is.Sync server → (o : Option Event) → event_at (history_in w) c.of ≡ o → option_and_then call_in o ≡ Some call → option_and_then session_in o ≡ Some a → a ≡ s.servers
+        by call class None here is own = cc
+        by call class (Some (event.Called session called_is)) here is own =
+            let same : called_is ≡ call = cc in
             let whose : session ≡ a = cc in
-            sym whose ∙ called session (here ∙ ap (λ x. Some (event.Called session x)) same)
-        by (Some (event.Begun session x row)) here is own = cc
-        by (Some (event.Asked session x filter)) here is own = cc
-        by (Some (event.Unknown session x dim)) here is own = cc
-        by (Some (event.Refused session)) here is own = cc
-        by (Some (event.Acked of path)) here is own = cc
-        by (Some (event.Answered of agg)) here is own = cc
-        by (Some (event.Failed of)) here is own = cc
-        by (Some (event.Ended of how)) here is own = cc
-        by (Some (event.Split of shard left right)) here is own = cc
-        by (Some (event.Moved of shard worker)) here is own = cc
-        by (Some (event.Left of shard how)) here is own = cc
-        by (Some (event.Synced x listing)) here is own = cc
-        by (Some (event.Shown of page)) here is own = cc
+            sym whose ∙ called call class session (here ∙ ap (λ x. Some (event.Called session x)) same)
+        by call class (Some (event.Begun session x row)) here is own = cc
+        by call class (Some (event.Asked session x filter)) here is own = cc
+        by call class (Some (event.Unknown session x dim)) here is own = cc
+        by call class (Some (event.Refused session)) here is own = cc
+        by call class (Some (event.Acked of path)) here is own = cc
+        by call class (Some (event.Answered of agg)) here is own = cc
+        by call class (Some (event.Failed of)) here is own = cc
+        by call class (Some (event.Ended of how)) here is own = cc
+        by call class (Some (event.Split of shard left right)) here is own = cc
+        by call class (Some (event.Moved of shard worker)) here is own = cc
+        by call class (Some (event.Left of shard how)) here is own = cc
+        by call class (Some (event.Synced x listing)) here is own = cc
+        by call class (Some (event.Shown of page)) here is own = cc
 
     -- what is told of the pulls since the actor's own command began, and since those of others did
     pub record OwnPulls : Type 0 where
@@ -466,13 +449,10 @@ module _ (in_order : Bool) (s : Setting) (p : PhaseRun) (w now : World) (g g_now
     pulled-if servers (work_is.Settle pulls) pulled sync closing = absurd (closing refl)
     pulled-if servers (work_is.Insert row routed) pulled sync closing = tt
     pulled-if servers work_is.Query pulled sync closing = tt
-    pulled-if servers work_is.Barrier pulled sync closing = tt
-    pulled-if servers (work_is.Split shard) pulled sync closing = tt
-    pulled-if servers (work_is.Move shard worker) pulled sync closing = tt
+    pulled-if servers work_is.Bare pulled sync closing = tt
+    pulled-if servers (work_is.Action act) pulled sync closing = tt
     pulled-if servers (work_is.Balance b) pulled sync closing = tt
-    pulled-if servers (work_is.Shards shown) pulled sync closing = tt
-    pulled-if servers (work_is.Tree shard stands shown) pulled sync closing = tt
-    pulled-if servers (work_is.Audit shown) pulled sync closing = tt
+    pulled-if servers (work_is.Page subject there shown) pulled sync closing = tt
 
     pulls-pull : TellsPull s n w now → OwnPulls
     pulls-pull t = record {
@@ -593,7 +573,7 @@ module _ (in_order : Bool) (s : Setting) (p : PhaseRun) (w now : World) (g g_now
             | inr (how, as_is, may) ↦ inr (subst (MayNoteEnd s.servers t.work (w.actors n).job) (same-how t.end_is of t.of h how is as_is) may)
           ] in
           let there = end-right s (history_in w) past t.of (w.actors n).job (w.actors n).role h calls pulls t.work (i.telling.progress n (record { of = t.of; work = t.work }) t.was) (b.pulled n (record { of = t.of; work = t.work }) t.was) may in
-          subst (λ x. HasPulls p.with past (event.Ended x h)) (sym of_is) (subst (λ m. IfSome (call_at past t.of) (λ called. ArePulls m called h (pulled_since past t.of))) (sym r.phase.servers) there))
+          subst (λ x. HasPulls p.with past (event.Ended x h)) (sym of_is) (subst (λ m. IfSome (call_at past t.of) (λ called. ArePulls m (class_of called) h (pulled_since past t.of))) (sym r.phase.servers) there))
         where
           same-how : (e : Event) (of of_now : ℕ) (h how : How) → e ≡ event.Ended of h → e ≡ event.Ended of_now how → how ≡ h
           same-how e of of_now h how x y = cc

@@ -274,38 +274,29 @@ pub closing-off : (work : Work) → is_closing_work work ≡ true → is_on_desk
 closing-off (work_is.Insert row routed) e = cc
 closing-off work_is.Query e = cc
 closing-off (work_is.Sync server pulled) e = cc
-closing-off work_is.Barrier e = refl
+closing-off work_is.Bare e = refl
 closing-off (work_is.Settle pulls) e = refl
-closing-off (work_is.Split shard) e = cc
-closing-off (work_is.Move shard worker) e = cc
+closing-off (work_is.Action act) e = cc
 closing-off (work_is.Balance b) e = cc
-closing-off (work_is.Shards shown) e = refl
-closing-off (work_is.Tree shard stands shown) e = refl
-closing-off (work_is.Audit shown) e = refl
+closing-off (work_is.Page subject there shown) e = refl
 
 pub plain-open : (work : Work) → is_plain work ≡ true → is_closing_work work ≡ true → ⊥
 plain-open (work_is.Insert row routed) p e = cc
 plain-open work_is.Query p e = cc
 plain-open (work_is.Sync server pulled) p e = cc
-plain-open work_is.Barrier p e = cc
+plain-open work_is.Bare p e = cc
 plain-open (work_is.Settle pulls) p e = cc
-plain-open (work_is.Split shard) p e = cc
-plain-open (work_is.Move shard worker) p e = cc
+plain-open (work_is.Action act) p e = cc
 plain-open (work_is.Balance b) p e = cc
-plain-open (work_is.Shards shown) p e = cc
-plain-open (work_is.Tree shard stands shown) p e = cc
-plain-open (work_is.Audit shown) p e = cc
+plain-open (work_is.Page subject there shown) p e = cc
 
 -- what still has a page to show closes its phase
 pub page-closing : (work : Work) → is_some (once_shown work) ≡ true → is_closing_work work ≡ true
 page-closing (work_is.Insert row routed) e = cc
 page-closing work_is.Query e = cc
 page-closing (work_is.Sync server pulled) e = cc
-page-closing work_is.Barrier e = cc
+page-closing work_is.Bare e = cc
 page-closing (work_is.Settle pulls) e = cc
-page-closing (work_is.Split shard) e = cc
-page-closing (work_is.Move shard worker) e = cc
+page-closing (work_is.Action act) e = cc
 page-closing (work_is.Balance b) e = cc
-page-closing (work_is.Shards shown) e = refl
-page-closing (work_is.Tree shard stands shown) e = refl
-page-closing (work_is.Audit shown) e = refl
+page-closing (work_is.Page subject there shown) e = refl

@@ -35,7 +35,7 @@ use Rattle.volap_cell.specs.declared.kind.Kind.{Kind}
 use Rattle.volap_cell.specs.declared.kind.Kind.TheVariants as kind
 use Rattle.seeded_run.specs.AtWork.{errand_by}
 use Rattle.seeded_run.specs.Core.{HasCore, IsCore, IsDue}
-use Rattle.seeded_run.specs.Due.{balance_kind, command_kind, desk_of, due_by, finish_kind, is_alone, is_empty, job_kind, page_kind, stage_kind, tree_kind, work_kind}
+use Rattle.seeded_run.specs.Due.{balance_kind, command_kind, desk_of, due_by, finish_kind, is_alone, is_empty, job_kind, page_kind, stage_kind, there_kind, work_kind}
 use Rattle.seeded_run.specs.Led.{gate_there}
 use Rattle.seeded_run.specs.Loads.{load_of}
 use Rattle.seeded_run.specs.Look.{cell_at}
@@ -86,9 +86,9 @@ page-look {P} history alone of false e = by (alone && (length history == of + 1)
     by true e = not-look kind.Note refl e
     by false e = (let none : None ≡ Some kind.LookUp = e in absurd (cc))
 
-tree-look : {P : Type 0} (history : List Event) (alone : Bool) (of : ℕ) (stands shown : Bool) → tree_kind history alone of stands shown ≡ Some kind.LookUp → P
-tree-look history alone of true shown e = page-look history alone of shown e
-tree-look history alone of false shown e = not-look kind.Note refl e
+there-look : {P : Type 0} (history : List Event) (alone : Bool) (of : ℕ) (stands shown : Bool) → there_kind history alone of stands shown ≡ Some kind.LookUp → P
+there-look history alone of true shown e = page-look history alone of shown e
+there-look history alone of false shown e = not-look kind.Note refl e
 
 unplanned-by : (plan : Option (List Action)) → Some (if is_none plan then kind.LookUp else kind.Note) ≡ Some kind.LookUp → plan ≡ None
 unplanned-by None e = refl
@@ -109,19 +109,16 @@ work-look s w alone n of (work_is.Insert row false) is e = (let same = (at-empty
 work-look s w alone n of (work_is.Insert row true) is e = absurd (at-parts s w (w.actors n).role kind.LookUp e).comes
 work-look s w alone n of work_is.Query is e = absurd (at-parts s w (w.actors n).role kind.LookUp e).comes
 work-look s w alone n of (work_is.Sync server pulled) is e = not-look (if pulled then kind.Note else kind.Sync) (if-look pulled kind.Note kind.Sync refl refl) e
-work-look s w alone n of work_is.Barrier is e = not-look kind.Note refl e
+work-look s w alone n of work_is.Bare is e = not-look kind.Note refl e
 work-look s w alone n of (work_is.Settle pulls) is e =
     not-look (if is_some (settles_next s.servers pulls) then kind.Sync else kind.Note) (if-look (is_some (settles_next s.servers pulls)) kind.Sync kind.Note refl refl) e
-work-look s w alone n of (work_is.Split shard) is e = not-look (job_kind (w.actors n).job kind.Note) (job-look (w.actors n).job) e
-work-look s w alone n of (work_is.Move shard worker) is e = not-look (job_kind (w.actors n).job kind.Note) (job-look (w.actors n).job) e
+work-look s w alone n of (work_is.Action act) is e = not-look (job_kind (w.actors n).job kind.Note) (job-look (w.actors n).job) e
 work-look s w alone n of (work_is.Balance b) is e = by (w.actors n).job e
   where
     by : (job : Option JobValue) → Some (job_kind job (balance_kind b)) ≡ Some kind.LookUp → IsUnplanned w n
     by None e = record { of = of; balance = b; command = is; plan = unplanned-by b.plan e }
     by (Some job) e = not-look (stage_kind job.to job.stage) (stage-look job.to job.stage) e
-work-look s w alone n of (work_is.Shards shown) is e = page-look (history_in w) alone of shown e
-work-look s w alone n of (work_is.Tree shard stands shown) is e = tree-look (history_in w) alone of stands shown e
-work-look s w alone n of (work_is.Audit shown) is e = page-look (history_in w) alone of shown e
+work-look s w alone n of (work_is.Page subject there shown) is e = there-look (history_in w) alone of there shown e
 
 pub unplanned-is : (s : Setting) (w : World) (rest : ℕ → List Command) (n : ℕ) → due_by s w rest n ≡ Some kind.LookUp → (w.actors n).errand ≡ None → IsUnplanned w n
 unplanned-is s w rest n due none = elim (at-part-or s w rest n kind.LookUp due) [

@@ -214,15 +214,12 @@ module _ (s : Setting) (w : World) (g : Ghost) (rest : ℕ → List Command) (i 
       by-work (work_is.Insert row true) is = let p = progress (work_is.Insert row true) is in parts-here p.0 p.1 (of-work _ is)
       by-work work_is.Query is = let p = progress work_is.Query is in parts-here p.0.server p.1 (of-work _ is)
       by-work (work_is.Sync server pulled) is = found _ (of-work _ is)
-      by-work work_is.Barrier is = found _ (of-work _ is)
+      by-work work_is.Bare is = found _ (of-work _ is)
       by-work (work_is.Settle pulls) is = found _ (of-work _ is)
-      by-work (work_is.Split shard) is = found _ (of-work _ is)
-      by-work (work_is.Move shard worker) is = found _ (of-work _ is)
+      by-work (work_is.Action act) is = found _ (of-work _ is)
       by-work (work_is.Balance b) is = found _ (of-work _ is)
-      by-work (work_is.Shards shown) is = page-due _ is shown (λ e. ap (λ b. is_some (once_shown (work_is.Shards b))) e) (of-work _ is)
-      by-work (work_is.Tree shard false shown) is = found kind.Note (of-work _ is)
-      by-work (work_is.Tree shard true shown) is = page-due _ is shown (λ e. ap (λ b. is_some (once_shown (work_is.Tree shard true b))) e) (of-work _ is)
-      by-work (work_is.Audit shown) is = page-due _ is shown (λ e. ap (λ b. is_some (once_shown (work_is.Audit b))) e) (of-work _ is)
+      by-work (work_is.Page subject false shown) is = found kind.Note (of-work _ is)
+      by-work (work_is.Page subject true shown) is = page-due _ is shown (λ e. ap (λ b. is_some (once_shown (work_is.Page subject true b))) e) (of-work _ is)
 
     -- Of an actor without a command: the one that it has next closes the phase, and someone else isn't done.
     pub record Blocked (a : ℕ) : Type 0 where

@@ -6,18 +6,19 @@ use Rattle.std.specs.List.{range_with_len}
 use Rattle.std.proofs.Math.Seq.{take-length}
 use Rattle.std.proofs.lemmas.List.FromFn.{length-range_with_len}
 use Rattle.row_ledger.proofs.Positions.{since-inside, since-outside}
+use Rattle.row_ledger.specs.Classes.{class_of}
 use Rattle.row_ledger.specs.Past.{Pull, call_at, call_in, end_in, event_at, insert_in, pull_in, query_in, session_in, since}
 use Rattle.row_ledger.specs.declared.event.Event.{Event}
 use Rattle.row_ledger.specs.declared.event.Event.TheVariants as event
-use Rattle.row_ledger.specs.declared.settings.Call.{Call}
-use Rattle.row_ledger.specs.declared.settings.Call.TheVariants as call
+use Rattle.row_ledger.specs.declared.class.Class.{Class}
+use Rattle.row_ledger.specs.declared.class.Class.TheVariants as class_is
 use Rattle.row_ledger.specs.declared.settings.How.{How}
 use Rattle.row_ledger.specs.declared.settings.How.TheVariants as how
 use Rattle.row_ledger.specs.declared.settings.Use.{Use}
 use Rattle.script_run.specs.Runs.{ArePulls, HasPulls, each_twice, pulled_since}
 use Rattle.volap_cell.specs.Commands.{MayNoteEnd, due_pull, pulled_once, settles_next}
 use Rattle.volap_cell.specs.Setting.{Setting}
-use Rattle.volap_cell.specs.Telling.{IsProgress}
+use Rattle.volap_cell.specs.Telling.{IsCalledAs, IsProgress}
 use Rattle.volap_cell.specs.Values.{JobValue}
 use Rattle.volap_cell.specs.declared.command.Work.{Work}
 use Rattle.volap_cell.specs.declared.command.Work.TheVariants as work_is
@@ -237,26 +238,20 @@ pull-next servers server (work_is.Sync x true) pulled due has = cc
 pull-next servers server (work_is.Settle pulls) pulled due has = ap (λ l. l ++ server ∷ []) has ∙ sym (settle-next servers pulls server due)
 pull-next servers server (work_is.Insert row routed) pulled due has = cc
 pull-next servers server work_is.Query pulled due has = cc
-pull-next servers server work_is.Barrier pulled due has = cc
-pull-next servers server (work_is.Split shard) pulled due has = cc
-pull-next servers server (work_is.Move shard worker) pulled due has = cc
+pull-next servers server work_is.Bare pulled due has = cc
+pull-next servers server (work_is.Action act) pulled due has = cc
 pull-next servers server (work_is.Balance b) pulled due has = cc
-pull-next servers server (work_is.Shards shown) pulled due has = cc
-pull-next servers server (work_is.Tree shard stands shown) pulled due has = cc
-pull-next servers server (work_is.Audit shown) pulled due has = cc
+pull-next servers server (work_is.Page subject there shown) pulled due has = cc
 
 pub plain-pulled : (servers : ℕ) (work : Work) (pulled : List ℕ) → is_plain work ≡ true → HasPulled servers work pulled
 plain-pulled servers (work_is.Sync x pulls) pulled plain = cc
 plain-pulled servers (work_is.Settle pulls) pulled plain = cc
 plain-pulled servers (work_is.Insert row routed) pulled plain = tt
 plain-pulled servers work_is.Query pulled plain = tt
-plain-pulled servers work_is.Barrier pulled plain = tt
-plain-pulled servers (work_is.Split shard) pulled plain = tt
-plain-pulled servers (work_is.Move shard worker) pulled plain = tt
+plain-pulled servers work_is.Bare pulled plain = tt
+plain-pulled servers (work_is.Action act) pulled plain = tt
 plain-pulled servers (work_is.Balance b) pulled plain = tt
-plain-pulled servers (work_is.Shards shown) pulled plain = tt
-plain-pulled servers (work_is.Tree shard stands shown) pulled plain = tt
-plain-pulled servers (work_is.Audit shown) pulled plain = tt
+plain-pulled servers (work_is.Page subject there shown) pulled plain = tt
 
 -- Ends.
 
@@ -312,7 +307,7 @@ right-if with past (event.Synced server listing) f = tt
 right-if with past (event.Shown of page) f = tt
 
 sync-ends : (servers server : ℕ) (did : Bool) (job : Option JobValue) (h : How) (pulled : List ℕ) → HasPulled servers (work_is.Sync server did) pulled → MayNoteEnd servers (work_is.Sync server did) job h
-    → ArePulls servers (call.Sync server) h pulled
+    → ArePulls servers (class_is.Sync server) h pulled
 sync-ends servers server true job how.Fine pulled has may = has
 sync-ends servers server false job how.Fine pulled has may = cc
 sync-ends servers server true job how.NoMemory pulled has may = cc
@@ -322,7 +317,7 @@ sync-ends servers server did job (how.Declined why) pulled has may = tt
 sync-ends servers server did job how.Postponed pulled has may = tt
 
 settle-ends : (servers pulls : ℕ) (job : Option JobValue) (h : How) (pulled : List ℕ) → HasPulled servers (work_is.Settle pulls) pulled → MayNoteEnd servers (work_is.Settle pulls) job h
-    → ArePulls servers call.Settle h pulled
+    → ArePulls servers class_is.Settle h pulled
 settle-ends servers pulls job how.Fine pulled has may =
     has ∙ ap (λ n. take n (each_twice servers)) (may ∙ sym (twice-length servers)) ∙ take-length (each_twice servers)
 settle-ends servers pulls job how.NoMemory pulled has may = (pulls, omega (arith, may, twice-length servers), has)
@@ -332,24 +327,22 @@ settle-ends servers pulls job how.Postponed pulled has may = tt
 
 -- the pulls of a command that ends
 module _ (s : Setting) (h past : List Event) (of : ℕ) (job : Option JobValue) (role : Role) (ends_as : How) (calls : call_at past of ≡ call_at h of) (pulls_are : pulled_since past of ≡ pulled_since h of) where
-  if-none : call_at h of ≡ None → IfSome (call_at past of) (λ called. ArePulls s.servers called ends_as (pulled_since past of))
-  if-none is = subst (λ o. IfSome o (λ called. ArePulls s.servers called ends_as (pulled_since past of))) (sym (calls ∙ is)) tt
+  if-none : call_at h of ≡ None → IfSome (call_at past of) (λ called. ArePulls s.servers (class_of called) ends_as (pulled_since past of))
+  if-none is = subst (λ o. IfSome o (λ called. ArePulls s.servers (class_of called) ends_as (pulled_since past of))) (sym (calls ∙ is)) tt
 
-  if-some : (c : Call) → call_at h of ≡ Some c → ArePulls s.servers c ends_as (pulled_since h of) → IfSome (call_at past of) (λ called. ArePulls s.servers called ends_as (pulled_since past of))
-  if-some c is right = subst (λ o. IfSome o (λ called. ArePulls s.servers called ends_as (pulled_since past of))) (sym (calls ∙ is)) (subst (ArePulls s.servers c ends_as) (sym pulls_are) right)
+  if-some : (class : Class) → IsCalledAs h of class → ArePulls s.servers class ends_as (pulled_since h of) → IfSome (call_at past of) (λ called. ArePulls s.servers (class_of called) ends_as (pulled_since past of))
+  if-some class is right = subst (λ o. IfSome o (λ called. ArePulls s.servers (class_of called) ends_as (pulled_since past of))) (sym (calls ∙ is.1))
+      (subst (λ c. ArePulls s.servers c ends_as (pulled_since past of)) (sym is.2) (subst (ArePulls s.servers class ends_as) (sym pulls_are) right))
 
   pub end-right : (work : Work) → IsProgress s h of work job role → HasPulled s.servers work (pulled_since h of) → (is_plain work ≡ true) ⊎ MayNoteEnd s.servers work job ends_as
-      → IfSome (call_at past of) (λ called. ArePulls s.servers called ends_as (pulled_since past of))
+      → IfSome (call_at past of) (λ called. ArePulls s.servers (class_of called) ends_as (pulled_since past of))
   end-right (work_is.Insert row routed) p has may = if-none (insert-no-call (event_at h of) _ p.2)
   end-right work_is.Query p has may = if-none (query-no-call (event_at h of) _ p.2)
   end-right (work_is.Sync server pulled) p has (inl plain) = cc
-  end-right (work_is.Sync server pulled) p has (inr may) = if-some (call.Sync server) p.0 (sync-ends s.servers server pulled job ends_as (pulled_since h of) has may)
-  end-right work_is.Barrier p has may = if-some call.Barrier p tt
+  end-right (work_is.Sync server pulled) p has (inr may) = if-some (class_is.Sync server) p.0 (sync-ends s.servers server pulled job ends_as (pulled_since h of) has may)
+  end-right work_is.Bare p has may = if-some class_is.Bare p tt
   end-right (work_is.Settle pulls) p has (inl plain) = cc
-  end-right (work_is.Settle pulls) p has (inr may) = if-some call.Settle p.0 (settle-ends s.servers pulls job ends_as (pulled_since h of) has may)
-  end-right (work_is.Split shard) p has may = if-some (call.Split shard) p.0 tt
-  end-right (work_is.Move shard worker) p has may = if-some (call.Move shard worker) p.0 tt
-  end-right (work_is.Balance b) p has may = if-some (call.Balance b.most) p.0 tt
-  end-right (work_is.Shards shown) p has may = if-some call.Shards p.0 tt
-  end-right (work_is.Tree shard stands shown) p has may = if-some (call.Tree shard) p.0 tt
-  end-right (work_is.Audit shown) p has may = if-some call.Audit p.0 tt
+  end-right (work_is.Settle pulls) p has (inr may) = if-some class_is.Settle p.0 (settle-ends s.servers pulls job ends_as (pulled_since h of) has may)
+  end-right (work_is.Page subject there shown) p has may = if-some (class_is.Page subject) p.0 tt
+  end-right (work_is.Action act) p has may = if-some (class_is.Action act) p.0 tt
+  end-right (work_is.Balance b) p has may = if-some (class_is.Balance b.most) p.0 tt

@@ -83,14 +83,11 @@ module _ (s : Setting) (w : World) where
   work-seen history alone desk a of (work_is.Insert row true) = refl
   work-seen history alone desk a of work_is.Query = refl
   work-seen history alone desk a of (work_is.Sync server pulled) = refl
-  work-seen history alone desk a of work_is.Barrier = refl
+  work-seen history alone desk a of work_is.Bare = refl
   work-seen history alone desk a of (work_is.Settle pulls) = refl
-  work-seen history alone desk a of (work_is.Split shard) = refl
-  work-seen history alone desk a of (work_is.Move shard worker) = refl
+  work-seen history alone desk a of (work_is.Action act) = refl
   work-seen history alone desk a of (work_is.Balance b) = refl
-  work-seen history alone desk a of (work_is.Shards shown) = refl
-  work-seen history alone desk a of (work_is.Tree shard stands shown) = refl
-  work-seen history alone desk a of (work_is.Audit shown) = refl
+  work-seen history alone desk a of (work_is.Page subject there shown) = refl
 
   command-seen : (alone : Bool) (rest : List Command) (a : ActorValue) (o : Option OpenCommand)
       → command_kind s w alone rest a o ≡ command_kind known seen alone (ahead (slice_get rest 0)) a o
@@ -136,15 +133,10 @@ work-waits s history alone desk a of (work_is.Insert row false) = refl
 work-waits s history alone desk a of (work_is.Insert row true) = refl
 work-waits s history alone desk a of work_is.Query = refl
 work-waits s history alone desk a of (work_is.Sync server pulled) = refl
-work-waits s history alone desk a of work_is.Barrier = refl
+work-waits s history alone desk a of work_is.Bare = refl
 work-waits s history alone desk a of (work_is.Settle pulls) = refl
-work-waits s history alone desk a of (work_is.Split shard) = refl
-work-waits s history alone desk a of (work_is.Move shard worker) = refl
+work-waits s history alone desk a of (work_is.Action act) = refl
 work-waits s history alone desk a of (work_is.Balance b) = refl
-work-waits s history alone desk a of (work_is.Shards true) = refl
-work-waits s history alone desk a of (work_is.Shards false) = refl
-work-waits s history alone desk a of (work_is.Tree shard true true) = refl
-work-waits s history alone desk a of (work_is.Tree shard true false) = refl
-work-waits s history alone desk a of (work_is.Tree shard false shown) = refl
-work-waits s history alone desk a of (work_is.Audit true) = refl
-work-waits s history alone desk a of (work_is.Audit false) = refl
+work-waits s history alone desk a of (work_is.Page subject true true) = refl
+work-waits s history alone desk a of (work_is.Page subject true false) = refl
+work-waits s history alone desk a of (work_is.Page subject false shown) = refl

@@ -21,7 +21,7 @@ use Rattle.row_ledger.specs.declared.page.Page.{Page}
 use Rattle.row_ledger.specs.declared.page.Page.TheVariants as page
 use Rattle.row_ledger.specs.declared.page.TreePage.{TreePage}
 use Rattle.row_ledger.specs.declared.settings.Call.{Call}
-use Rattle.row_ledger.specs.declared.settings.Call.TheVariants as call
+use Rattle.row_ledger.specs.declared.class.Subject.TheVariants as subject
 use Rattle.row_ledger.specs.declared.settings.How.TheVariants as how
 use Rattle.row_ledger.specs.declared.settings.Use.{Use}
 use Rattle.row_ledger.proofs.Positions.{before-here}
@@ -45,7 +45,7 @@ use Rattle.volap_cell.proofs.States.{of-it, same-setting, stands}
 use Rattle.seeded_run.specs.Core.{HasCore, IsCore, IsDue, IsDueAt}
 use Rattle.seeded_run.specs.Progress.{AreScriptRoles}
 use Rattle.seeded_run.specs.Led.{gate_there}
-use Rattle.seeded_run.specs.Shown.{HasTreeToShow, IsTreeToShow, gate_of_host, standing_gate}
+use Rattle.seeded_run.specs.Shown.{HasPageOf, IsToShow, gate_of_host, standing_gate}
 use Rattle.seeded_run.proofs.FixedCells.{ledger-fixed, may-step}
 use Rattle.seeded_run.proofs.PagesDue.{IsPageWork, idle as page-idle, next as page-next, quiet as page-quiet}
 use Rattle.seeded_run.proofs.Seen.{cell-seen}
@@ -64,7 +64,7 @@ live-now workers (e ∷ past) of shard c long is =
     ap (list_any (is_of shard)) (called-keeps e c (frontier workers past) told) ∙ ap (λ (xs : List Event). is_live workers xs shard) (sym (before-here e past) ∙ ap (before (e ∷ past)) at)
 
 module _ (h : List Dimension) (with : Use) (cells : List (Option Cell)) (actors : List (Option Actor)) (s : Setting) (w : World) (core : IsCore h with cells actors s w) (n : ℕ) (lt : n < length actors) (at : IsDueAt s w n kind.Note)
-    (shard : ℕ) (has : HasTreeToShow actors n shard) where
+    (shard : ℕ) (has : HasPageOf (subject.Tree shard) actors n) where
   abbrev v : View
   v = view s w
 
@@ -74,29 +74,29 @@ module _ (h : List Dimension) (with : Use) (cells : List (Option Cell)) (actors 
   abbrev i : InvWith s v g
   i = core.inv.holds
 
-  its : IsTreeToShow shard (w.actors n).command
+  its : IsToShow (work_is.Page (subject.Tree shard) true false) (w.actors n).command
   its =
       let k = stands (get_or actors n None) (λ x. actor_of x ≡ w.actors n) (core.is.actor n lt) in
-      subst (λ (a : ActorValue). IsTreeToShow shard a.command) k.2 (of-it (get_or actors n None) (λ a. IsTreeToShow shard a.command) k.0 has k.1)
+      subst (λ (a : ActorValue). IsToShow (work_is.Page (subject.Tree shard) true false) a.command) k.2 (of-it (get_or actors n None) (λ a. IsToShow (work_is.Page (subject.Tree shard) true false) a.command) k.0 has k.1)
 
-  shows : IsPageWork (work_is.Tree shard true false)
+  shows : IsPageWork (work_is.Page (subject.Tree shard) true false)
   shows s w alone a of = refl
 
   next : length v.history ≡ its.0 + 1
-  next = page-next s w g i n at its.0 (work_is.Tree shard true false) its.1 shows
+  next = page-next s w g i n at its.0 (work_is.Page (subject.Tree shard) true false) its.1 shows
 
   idle : (a : ℕ) → a ≢ n → IsIdle (w.actors a)
-  idle = page-idle s w g i n at its.0 (work_is.Tree shard true false) its.1 shows
+  idle = page-idle s w g i n at its.0 (work_is.Page (subject.Tree shard) true false) its.1 shows
 
   quiet : (a : ℕ) → (w.actors a).errand ≡ None
-  quiet = page-quiet s w g i n at its.0 (work_is.Tree shard true false) its.1 shows
+  quiet = page-quiet s w g i n at its.0 (work_is.Page (subject.Tree shard) true false) its.1 shows
 
   -- its gate
 
   live : is_live s.workers v.history shard ≡ true
   live =
-      let told = i.telling.progress n (record { of = its.0; work = work_is.Tree shard true false }) its.1 in
-      live-now s.workers v.history its.0 shard (call.Tree shard) next told.0 ∙ told.2
+      let told = i.telling.progress n (record { of = its.0; work = work_is.Page (subject.Tree shard) true false }) its.1 in
+      live-now s.workers v.history its.0 shard told.0.0 next told.0.1 ∙ told.2
 
   host : (x : ℕ) × (host_of shard v.registry ≡ Some x) × (is_on s.workers v.history shard x ≡ true)
   host = host-on s.workers v.history v.registry i.lineage.front shard (stands-live s.workers v.history v.registry i.lineage.front shard ∙ live)
@@ -123,10 +123,10 @@ module _ (h : List Dimension) (with : Use) (cells : List (Option Cell)) (actors 
   can-note shown given =
       let both : Some shown.shard ≡ Some shard = sym given ∙ ap (λ (y : ℕ). gate_shard (w.cells y)) gate-is ∙ (i.lineage.gate_of shard host.0 host.2).1 in
       let same : shown.shard ≡ shard = cc in
-      record { of = its.0; work = work_is.Tree shard true false; command = its.1; shows = same; next = next; ledger_is = i.numbering.tag ledger_cell }
+      record { of = its.0; work = work_is.Page (subject.Tree shard) true false; command = its.1; shows = same; next = next; ledger_is = i.numbering.tag ledger_cell }
 
   can-end : NotesEnded how.NoMemory (map w.cells (ledger_cell ∷ [])) (w.actors n)
-  can-end = record { of = its.0; work = work_is.Tree shard true false; command = its.1; ends = refl; ledger_is = i.numbering.tag ledger_cell }
+  can-end = record { of = its.0; work = work_is.Page (subject.Tree shard) true false; command = its.1; ends = refl; ledger_is = i.numbering.tag ledger_cell }
 
 -- the gate that was found in the cells that were lent
 pub gate-so : (with : Use) (lent cells : List (Option Cell)) (shard gate : ℕ) → lent ≡ cells → ((s : Setting) → s.servers ≡ with.servers → gate ≡ standing_gate s lent shard) → (s : Setting) → s.servers ≡ with.servers → gate ≡ standing_gate s cells shard
@@ -153,7 +153,7 @@ module _ (h : List Dimension) (with : Use) (cells : List (Option Cell)) (actors 
 
 -- The same of the vectors.
 module _ (h : List Dimension) (with : Use) (cells : List (Option Cell)) (actors : List (Option Actor)) (core : HasCore h with cells actors) (n : ℕ) (lt : n < length actors) (due : IsDue h with cells actors n kind.Note)
-    (shard : ℕ) (has : HasTreeToShow actors n shard) (gate ledger : ℕ) (gate_is : (s : Setting) → s.servers ≡ with.servers → gate ≡ standing_gate s cells shard) (ledger_is : ledger ≡ ledger_cell) where
+    (shard : ℕ) (has : HasPageOf (subject.Tree shard) actors n) (gate ledger : ℕ) (gate_is : (s : Setting) → s.servers ≡ with.servers → gate ≡ standing_gate s cells shard) (ledger_is : ledger ≡ ledger_cell) where
   pub can-see-in : CanSeeIn cells actors gate
   can-see-in s w is inv = (let c = core-in h with cells actors core n lt s w is inv in subst (CanSee w) (sym (gate_is s c.servers)) (can-see h with cells actors s w c n lt (due s w c) shard has))
 

@@ -34,7 +34,7 @@ use Rattle.seeded_run.specs.Arms.{GoesOnAtPart, GoesOnWithCommand}
 use Rattle.seeded_run.specs.AtWork.{errand_by}
 use Rattle.seeded_run.specs.Commands.{may_begin}
 use Rattle.seeded_run.specs.Core.{HasCore, IsDue, IsDueAt}
-use Rattle.seeded_run.specs.Due.{any_below, are_known, balance_kind, command_kind, desk_of, due_by, finish_kind, first_kind, free_kind, is_alone, is_empty, is_empty_desk, job_kind, kind_by_verdict, next_kind, page_kind, parts_kind, stage_kind, tree_kind, work_kind}
+use Rattle.seeded_run.specs.Due.{any_below, are_known, balance_kind, command_kind, desk_of, due_by, finish_kind, first_kind, free_kind, is_alone, is_empty, is_empty_desk, job_kind, kind_by_verdict, next_kind, page_kind, parts_kind, stage_kind, there_kind, work_kind}
 use Rattle.seeded_run.specs.Instead.{in_place_of}
 use Rattle.seeded_run.specs.Steps.{HasCommand, is_at_command, is_for_part, is_for_part_by}
 use Rattle.seeded_run.specs.Look.{waits_for_others}
@@ -139,9 +139,9 @@ unfolding IsWork
 page-work history alone of true k e = work-same kind.Note k refl e
 page-work history alone of false k e = inr (ap is_at_command (sym (some-if (alone && (length history == of + 1)) kind.Note k e)))
 
-tree-work : (history : List Event) (alone : Bool) (of : ℕ) (there shown : Bool) (k : Kind) → tree_kind history alone of there shown ≡ Some k → IsWork k
-tree-work history alone of true shown k e = page-work history alone of shown k e
-tree-work history alone of false shown k e = work-same kind.Note k refl e
+there-work : (history : List Event) (alone : Bool) (of : ℕ) (there shown : Bool) (k : Kind) → there_kind history alone of there shown ≡ Some k → IsWork k
+there-work history alone of true shown k e = page-work history alone of shown k e
+there-work history alone of false shown k e = work-same kind.Note k refl e
 
 stage-command : (to : Option ℕ) (stage : StageValue) → is_at_command (stage_kind to stage) ≡ true
 stage-command to IsCalled = refl
@@ -164,16 +164,13 @@ open-work s history alone desk a of (work_is.Insert row false) k e = inr (ap is_
 open-work s history alone desk a of (work_is.Insert row true) k e = parts-work desk k e
 open-work s history alone desk a of work_is.Query k e = parts-work desk k e
 open-work s history alone desk a of (work_is.Sync server pulled) k e = work-same (if pulled then kind.Note else kind.Sync) k (if-command pulled kind.Note kind.Sync refl refl) e
-open-work s history alone desk a of work_is.Barrier k e = work-same kind.Note k refl e
+open-work s history alone desk a of work_is.Bare k e = work-same kind.Note k refl e
 open-work s history alone desk a of (work_is.Settle pulls) k e =
     work-same (if is_some (settles_next s.servers pulls) then kind.Sync else kind.Note) k (if-command (is_some (settles_next s.servers pulls)) kind.Sync kind.Note refl refl) e
-open-work s history alone desk a of (work_is.Split shard) k e = work-same (job_kind a.job kind.Note) k (job-command a.job kind.Note refl) e
-open-work s history alone desk a of (work_is.Move shard worker) k e = work-same (job_kind a.job kind.Note) k (job-command a.job kind.Note refl) e
+open-work s history alone desk a of (work_is.Action act) k e = work-same (job_kind a.job kind.Note) k (job-command a.job kind.Note refl) e
 open-work s history alone desk a of (work_is.Balance b) k e =
     work-same (job_kind a.job (balance_kind b)) k (job-command a.job (balance_kind b) (if-command (is_none b.plan) kind.LookUp kind.Note refl refl)) e
-open-work s history alone desk a of (work_is.Shards shown) k e = page-work history alone of shown k e
-open-work s history alone desk a of (work_is.Tree shard there shown) k e = tree-work history alone of there shown k e
-open-work s history alone desk a of (work_is.Audit shown) k e = page-work history alone of shown k e
+open-work s history alone desk a of (work_is.Page subject there shown) k e = there-work history alone of there shown k e
 
 -- At a look-up it is known whether its actor has a part.
 
@@ -240,18 +237,13 @@ module _ (h : List Dimension) (with : Use) (cells : List (Option Cell)) (actors 
   page-of of (work_is.Insert row routed) is e = absurd (let never : false ≡ true = e in cc)
   page-of of work_is.Query is e = absurd (let never : false ≡ true = e in cc)
   page-of of (work_is.Sync server pulled) is e = absurd (let never : false ≡ true = e in cc)
-  page-of of work_is.Barrier is e = absurd (let never : false ≡ true = e in cc)
+  page-of of work_is.Bare is e = absurd (let never : false ≡ true = e in cc)
   page-of of (work_is.Settle pulls) is e = absurd (let never : false ≡ true = e in cc)
-  page-of of (work_is.Split shard) is e = absurd (let never : false ≡ true = e in cc)
-  page-of of (work_is.Move shard worker) is e = absurd (let never : false ≡ true = e in cc)
+  page-of of (work_is.Action act) is e = absurd (let never : false ≡ true = e in cc)
   page-of of (work_is.Balance b) is e = absurd (let never : false ≡ true = e in cc)
-  page-of of (work_is.Shards false) is e = to-show of (work_is.Shards false) is
-  page-of of (work_is.Shards true) is e = absurd (let never : false ≡ true = e in cc)
-  page-of of (work_is.Tree shard true false) is e = (shard, to-show of (work_is.Tree shard true false) is)
-  page-of of (work_is.Tree shard true true) is e = absurd (let never : false ≡ true = e in cc)
-  page-of of (work_is.Tree shard false shown) is e = absurd (let never : false ≡ true = e in cc)
-  page-of of (work_is.Audit false) is e = to-show of (work_is.Audit false) is
-  page-of of (work_is.Audit true) is e = absurd (let never : false ≡ true = e in cc)
+  page-of of (work_is.Page subject true false) is e = to-show of (work_is.Page subject true false) is
+  page-of of (work_is.Page subject true true) is e = absurd (let never : false ≡ true = e in cc)
+  page-of of (work_is.Page subject false shown) is e = absurd (let never : false ≡ true = e in cc)
 
   page-open : is_page_due (command_by actors n) ≡ true → (c : OpenCommand) × (command_by actors n ≡ Some c) × (waits_for_others c.work ≡ true)
   page-open = by (command_by actors n) refl

@@ -9,14 +9,16 @@ use Rattle.link_descent.specs.declared.entered.Fresh.{Fresh}
 use Rattle.cell_stock.specs.declared.purse.Spare.{Spare}
 use Rattle.describing_set.specs.declared.plane.Plane.{Plane}
 use Rattle.row_ledger.specs.LedgerValue.{LedgerValue}
+use Rattle.row_ledger.specs.Classes.{class_of}
 use Rattle.row_ledger.specs.Past.{end_in, ends_itself, session_in}
 use Rattle.row_ledger.specs.declared.event.Event.{Event}
 use Rattle.row_ledger.specs.declared.event.Event.TheVariants as event
 use Rattle.row_ledger.specs.declared.settings.Call.{Call}
-use Rattle.row_ledger.specs.declared.settings.Call.TheVariants as call
+use Rattle.row_ledger.specs.declared.class.Class.{Class}
+use Rattle.row_ledger.specs.declared.class.Class.TheVariants as class_is
 use Rattle.row_ledger.specs.declared.settings.How.{How}
 use Rattle.row_ledger.specs.declared.settings.How.TheVariants as how
-use Rattle.script_run.specs.Phases.{is_closing}
+use Rattle.script_run.specs.Phases.{closes_as, is_closing}
 use Rattle.server_image.specs.Registry.{RegistryValue}
 use Rattle.shard_plan.specs.declared.action.Action.{Action}
 use Rattle.tree_shape.specs.Counts.{Each}
@@ -159,31 +161,25 @@ moves-off (m ∷ n ∷ []) job to gate d = (of-map m.now job.worker _ d.1.2, (of
 moves-off (m ∷ n ∷ x ∷ more) job to gate d = absurd d
 
 -- a call's work as it begins
-begun-new : (servers workers : ℕ) (r : RegistryValue) (called : Call) (work : Work) (job : Option JobValue) → IsBegun workers r called work job
-    → HasPulled servers work [] × (is_closing_work work ≡ is_closing called)
-begun-new servers workers r (call.Sync server) work job b = subst (λ x. HasPulled servers x [] × (is_closing_work x ≡ false)) (sym b.0) (refl, refl)
-begun-new servers workers r call.Barrier work job b = subst (λ x. HasPulled servers x [] × (is_closing_work x ≡ true)) (sym b.0) (tt, refl)
-begun-new servers workers r call.Settle work job b = subst (λ x. HasPulled servers x [] × (is_closing_work x ≡ true)) (sym b.0) (refl, refl)
-begun-new servers workers r call.Shards work job b = subst (λ x. HasPulled servers x [] × (is_closing_work x ≡ true)) (sym b.0) (tt, refl)
-begun-new servers workers r call.Audit work job b = subst (λ x. HasPulled servers x [] × (is_closing_work x ≡ true)) (sym b.0) (tt, refl)
-begun-new servers workers r (call.Tree shard) work job b = subst (λ x. HasPulled servers x [] × (is_closing_work x ≡ true)) (sym b.0) (tt, refl)
-begun-new servers workers r (call.Split shard) work job b = subst (λ x. HasPulled servers x [] × (is_closing_work x ≡ false)) (sym b.0) (tt, refl)
-begun-new servers workers r (call.Move shard worker) work job b = subst (λ x. HasPulled servers x [] × (is_closing_work x ≡ false)) (sym b.0) (tt, refl)
-begun-new servers workers r (call.Balance most) work job b = subst (λ x. HasPulled servers x [] × (is_closing_work x ≡ false)) (sym b.1.1) (tt, refl)
+begun-new : (servers workers : ℕ) (r : RegistryValue) (class : Class) (work : Work) (job : Option JobValue) → IsBegun workers r class work job
+    → HasPulled servers work [] × (is_closing_work work ≡ closes_as class)
+begun-new servers workers r (class_is.Sync server) work job b = subst (λ x. HasPulled servers x [] × (is_closing_work x ≡ false)) (sym b.0) (refl, refl)
+begun-new servers workers r class_is.Settle work job b = subst (λ x. HasPulled servers x [] × (is_closing_work x ≡ true)) (sym b.0) (refl, refl)
+begun-new servers workers r class_is.Bare work job b = subst (λ x. HasPulled servers x [] × (is_closing_work x ≡ true)) (sym b.0) (tt, refl)
+begun-new servers workers r (class_is.Page subject) work job b = subst (λ x. HasPulled servers x [] × (is_closing_work x ≡ true)) (sym b.0) (tt, refl)
+begun-new servers workers r (class_is.Action act) work job b = subst (λ x. HasPulled servers x [] × (is_closing_work x ≡ false)) (sym b.0) (tt, refl)
+begun-new servers workers r (class_is.Balance most) work job b = subst (λ x. HasPulled servers x [] × (is_closing_work x ≡ false)) (sym b.1.1) (tt, refl)
 
 -- a command with a job is a split, a move or a balance
 plain-job : (work : Work) (job : JobValue) → IsJobOf work job → is_plain work ≡ true
 plain-job (work_is.Insert row routed) job j = refl
 plain-job work_is.Query job j = refl
 plain-job (work_is.Sync server pulled) job j = absurd j
-plain-job work_is.Barrier job j = absurd j
+plain-job work_is.Bare job j = absurd j
 plain-job (work_is.Settle pulls) job j = absurd j
-plain-job (work_is.Split shard) job j = refl
-plain-job (work_is.Move shard worker) job j = refl
+plain-job (work_is.Action act) job j = refl
 plain-job (work_is.Balance b) job j = refl
-plain-job (work_is.Shards shown) job j = absurd j
-plain-job (work_is.Tree shard stands shown) job j = absurd j
-plain-job (work_is.Audit shown) job j = absurd j
+plain-job (work_is.Page subject there shown) job j = absurd j
 
 -- where a command ends by its own note with a job, nothing was frozen for that
 
@@ -226,14 +222,11 @@ note-unfrozen : (servers : ℕ) (work : Work) (job : JobValue) (h : How) → IsJ
 note-unfrozen servers (work_is.Insert row routed) job h j e = absurd j
 note-unfrozen servers work_is.Query job h j e = absurd j
 note-unfrozen servers (work_is.Sync server pulled) job h j e = absurd j
-note-unfrozen servers work_is.Barrier job h j e = absurd j
+note-unfrozen servers work_is.Bare job h j e = absurd j
 note-unfrozen servers (work_is.Settle pulls) job h j e = absurd j
-note-unfrozen servers (work_is.Split shard) job h j e = ends-stage job.stage h e
-note-unfrozen servers (work_is.Move shard worker) job h j e = ends-stage job.stage h e
+note-unfrozen servers (work_is.Action act) job h j e = ends-stage job.stage h e
 note-unfrozen servers (work_is.Balance b) job h j e = absurd (balance-done b job h j e)
-note-unfrozen servers (work_is.Shards shown) job h j e = absurd j
-note-unfrozen servers (work_is.Tree shard stands shown) job h j e = absurd j
-note-unfrozen servers (work_is.Audit shown) job h j e = absurd j
+note-unfrozen servers (work_is.Page subject there shown) job h j e = absurd j
 
 module _ (s : Setting) (n : ℕ) (w : World) (g : Ghost) (i : InvWith s (view s w) g) where
   -- a step behind which the ledger's cell is still the ledger
@@ -304,7 +297,7 @@ module _ (s : Setting) (n : ℕ) (w : World) (g : Ghost) (i : InvWith s (view s 
   called : (k : Kind) (front : List Change) (l : Change) (b : ActorValue) (registry : RegistryValue) (asks : Bool) → NotesCalled registry asks l (w.actors n) b → IsMade (front ++ l ∷ []) b
       → Each (λ c. tag_of c.now ≢ TheLedger) front → is_of_part k ≡ false → Told s k n w (after w (front ++ l ∷ []) n b)
   called k front l b registry asks d made off of_command =
-      let new = begun-new s.servers (w.actors n).setting.workers registry d.called d.work d.job d.begun in
+      let new = begun-new s.servers (w.actors n).setting.workers registry (class_of d.called) d.work d.job d.begun in
       begins k front l b (event.Called (w.actors n).number d.called) _ _ d.pushed made off of_command refl d.free
       (OpensOne d.work refl (opens-at front l b d.pushed.ledger (length d.pushed.ledger.history) d.work made d.pushed.was refl (ap (λ (x : ActorValue). x.command) d.actor_is)) new.0 new.1)
       (λ e. cc) (ap (λ (x : ActorValue). x.errand) d.actor_is) (ap (λ (x : ActorValue). x.purse) d.actor_is)
@@ -410,13 +403,10 @@ module _ (s : Setting) (n : ℕ) (w : World) (g : Ghost) (i : InvWith s (view s 
     finishes (work_is.Insert row routed) e is_that was f = both (work_is.Insert row routed) e is_that was f
     finishes work_is.Query e is_that was f = both work_is.Query e is_that was f
     finishes (work_is.Sync server pulled) e is_that was f = both (work_is.Sync server pulled) e is_that was f
-    finishes work_is.Barrier e is_that was f = both work_is.Barrier e is_that was f
+    finishes work_is.Bare e is_that was f = both work_is.Bare e is_that was f
     finishes (work_is.Settle pulls) e is_that was f = both (work_is.Settle pulls) e is_that was f
-    finishes (work_is.Split shard) e is_that was f = both (work_is.Split shard) e is_that was f
-    finishes (work_is.Move shard worker) e is_that was f = both (work_is.Move shard worker) e is_that was f
-    finishes (work_is.Shards shown) e is_that was f = both (work_is.Shards shown) e is_that was f
-    finishes (work_is.Tree shard stands shown) e is_that was f = both (work_is.Tree shard stands shown) e is_that was f
-    finishes (work_is.Audit shown) e is_that was f = both (work_is.Audit shown) e is_that was f
+    finishes (work_is.Page subject there shown) e is_that was f = both (work_is.Page subject there shown) e is_that was f
+    finishes (work_is.Action act) e is_that was f = both (work_is.Action act) e is_that was f
 
     one : (work : Work) → (w.actors n).command ≡ doing of work
         → Pushes (event.Ended of how.Postponed) 0 2 l b.seen × (b ≡ record (w.actors n) { purse = []; seen = b.seen; command = None; job = None }) → Told s k n w (after w (front ++ l ∷ []) n b)
@@ -430,13 +420,10 @@ module _ (s : Setting) (n : ℕ) (w : World) (g : Ghost) (i : InvWith s (view s 
     gives-up (work_is.Insert row routed) was f = one (work_is.Insert row routed) was f
     gives-up work_is.Query was f = one work_is.Query was f
     gives-up (work_is.Sync server pulled) was f = one (work_is.Sync server pulled) was f
-    gives-up work_is.Barrier was f = one work_is.Barrier was f
+    gives-up work_is.Bare was f = one work_is.Bare was f
     gives-up (work_is.Settle pulls) was f = one (work_is.Settle pulls) was f
-    gives-up (work_is.Split shard) was f = one (work_is.Split shard) was f
-    gives-up (work_is.Move shard worker) was f = one (work_is.Move shard worker) was f
-    gives-up (work_is.Shards shown) was f = one (work_is.Shards shown) was f
-    gives-up (work_is.Tree shard stands shown) was f = one (work_is.Tree shard stands shown) was f
-    gives-up (work_is.Audit shown) was f = one (work_is.Audit shown) was f
+    gives-up (work_is.Page subject there shown) was f = one (work_is.Page subject there shown) was f
+    gives-up (work_is.Action act) was f = one (work_is.Action act) was f
 
   -- Each kind.
 

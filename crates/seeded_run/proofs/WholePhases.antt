@@ -3,14 +3,16 @@ use Rattle.std.proofs.Common.{◌≡◌, ◌≢◌, ◌∙◌, ◌+◌, ◌-◌,
 use Rattle.std.specs.Prelude.{OnOk, OnErr, Ok, Err, Result, slice_get}
 use Rattle.row_ledger.specs.declared.settings.Use.{Use}
 use Rattle.script_form.specs.declared.script.Command.{Command}
-use Rattle.script_run.specs.Places.{session_of}
+use Rattle.script_run.specs.Places.{session_of, session_of_call}
 use Rattle.script_run.proofs.Between.{get-behind}
 use Rattle.seeded_turns.specs.Drawn.{AreTurns, Moment, Reaches, Stops, able, next_schedule}
 use Rattle.seeded_turns.specs.declared.schedule.Schedule.{Schedule}
 use Rattle.seeded_turns.specs.declared.schedule.Schedule.TheVariants.{Order, Seed}
 use Rattle.seeded_turns.proofs.Keeping.{run_keeps, run_map}
 use Rattle.dim_hierarchy.specs.Dimension.{Dimension}
-use Rattle.row_ledger.specs.declared.settings.Call.TheVariants as call
+use Rattle.row_ledger.specs.Classes.{class_of}
+use Rattle.row_ledger.specs.declared.class.Class.{Class}
+use Rattle.row_ledger.specs.declared.class.Class.TheVariants as class_is
 use Rattle.script_form.specs.declared.script.Command.TheVariants as script
 use Rattle.volap_cell.specs.Falls.{left}
 use Rattle.volap_cell.specs.declared.actor.Actor.{Actor}
@@ -57,19 +59,19 @@ beyond (x ∷ xs) (suc i) d high = beyond xs i d (omega arith)
 low-or-high : (a n : ℕ) → (a < n) ⊎ (n ≤ a)
 low-or-high a n = grind arith
 
+called-low : (with : Use) (class : Class) → session_of_call with class < with.servers + 2
+called-low with (class_is.Sync server) = omega arith
+called-low with class_is.Settle = omega arith
+called-low with class_is.Bare = omega arith
+called-low with (class_is.Page subject) = omega arith
+called-low with (class_is.Action act) = omega arith
+called-low with (class_is.Balance most) = omega arith
+
 -- the session of a command that may run is an actor
 pub session-low : (h : List Dimension) (with : Use) (c : Command) → MayRun h with c → session_of with c < with.servers + 2
 session-low h with (script.Insert new) may = (let low = may.allowed in omega (arith, low))
 session-low h with (script.Query question) may = (let low = may.allowed.0 in omega (arith, low))
-session-low h with (script.Control (call.Sync server)) may = omega arith
-session-low h with (script.Control (call.Split shard)) may = omega arith
-session-low h with (script.Control (call.Move shard worker)) may = omega arith
-session-low h with (script.Control (call.Balance most)) may = omega arith
-session-low h with (script.Control call.Barrier) may = omega arith
-session-low h with (script.Control call.Settle) may = omega arith
-session-low h with (script.Control call.Shards) may = omega arith
-session-low h with (script.Control (call.Tree shard)) may = omega arith
-session-low h with (script.Control call.Audit) may = omega arith
+session-low h with (script.Control called) may = called-low with (class_of called)
 
 -- where all of some commands may run, those behind the first ones may
 pub may-behind : (h : List Dimension) (with : Use) (done phase : List Command) → MayAllRun h with (done ++ phase) → MayAllRun h with phase

@@ -1,5 +1,5 @@
 -- Where a page of the whole state is due for a command, it can be made and shown, and where it can't be made the command can end.
-use Rattle.std.proofs.Common.{ℕ, ◌≡◌, ◌<◌, false, List, [], ◌∷◌, length, map, Option, None, get_or, refl, sym, subst}
+use Rattle.std.proofs.Common.{ℕ, ◌≡◌, ◌<◌, true, false, List, [], ◌∷◌, length, map, Option, None, get_or, refl, sym, subst}
 use Rattle.core_image.specs.NotesDue.{Shows}
 use Rattle.core_pages.specs.Seen.{IsQuiet, IsQuietIn}
 use Rattle.core_steps.specs.AskedNotes.{NotesEnded}
@@ -10,6 +10,7 @@ use Rattle.dim_hierarchy.specs.Dimension.{Dimension}
 use Rattle.row_ledger.specs.declared.page.Page.{Page}
 use Rattle.row_ledger.specs.declared.settings.How.TheVariants as how
 use Rattle.row_ledger.specs.declared.settings.Use.{Use}
+use Rattle.row_ledger.specs.declared.class.Subject.{Subject}
 use Rattle.volap_cell.specs.Commands.{MayNoteEnd}
 use Rattle.volap_cell.specs.Ghost.{Ghost}
 use Rattle.volap_cell.specs.Invariant.{InvWith}
@@ -32,13 +33,9 @@ use Rattle.seeded_run.proofs.FixedCells.{ledger-fixed, may-step}
 use Rattle.seeded_run.proofs.PagesDue.{IsPageWork, idle, next, quiet}
 use Rattle.seeded_run.proofs.ShowsReady.{core-in}
 
--- the work of showing all shards, and that of showing all rows
-
-pub shards-page : IsPageWork (work_is.Shards false)
-shards-page s w alone a of = refl
-
-pub audit-page : IsPageWork (work_is.Audit false)
-audit-page s w alone a of = refl
+-- the work of showing a page of what is there
+pub subject-page : (subject : Subject) → IsPageWork (work_is.Page subject true false)
+subject-page subject s w alone a of = refl
 
 module _ (h : List Dimension) (with : Use) (cells : List (Option Cell)) (actors : List (Option Actor)) (s : Setting) (w : World) (core : IsCore h with cells actors s w) (n : ℕ) (lt : n < length actors) (at : IsDueAt s w n kind.Note)
     (work : Work) (is_page : IsPageWork work) (has : HasToShow actors n work) where

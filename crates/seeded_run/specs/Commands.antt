@@ -4,12 +4,13 @@ use Rattle.std.specs.Prelude.{ℕ, ◌≡◌, ◌<◌, ⊤, Bool, true, false, A
 use Rattle.dim_hierarchy.specs.Dimension.{Dimension}
 use Rattle.dim_hierarchy.specs.Names.{IsNamePick}
 use Rattle.row_ledger.specs.declared.event.Event.{Event}
-use Rattle.row_ledger.specs.declared.settings.Call.{Call}
-use Rattle.row_ledger.specs.declared.settings.Call.TheVariants.{Sync}
+use Rattle.row_ledger.specs.declared.class.Class.{Class}
+use Rattle.row_ledger.specs.declared.class.Class.TheVariants.{Sync}
 use Rattle.row_ledger.specs.declared.settings.Use.{Use}
 use Rattle.script_form.specs.declared.script.Command.{Command}
 use Rattle.script_form.specs.declared.script.Command.TheVariants as script
 use Rattle.script_run.specs.Places.{session_of}
+use Rattle.row_ledger.specs.Classes.{class_of}
 use Rattle.script_run.specs.Runs.{Begins, can_be_refused}
 use Rattle.volap_cell.specs.Setting.{Setting}
 use Rattle.volap_cell.specs.State.{Has, IsWorldOf}
@@ -69,19 +70,19 @@ abbrev pub beginning : List Dimension → Command → Kind
 beginning h c = beginning_if c (are_known h c)
 
 -- a pull is for a server that is there
-abbrev pub IsAllowedCall : Use → Call → Type 0
+abbrev pub IsAllowedCall : Use → Class → Type 0
 IsAllowedCall with (Sync server) = server < with.servers
-IsAllowedCall with called = ⊤
+IsAllowedCall with class = ⊤
 
 -- a command is for a server that is there; a query is asked where there is a dimension, and picks by one name at least
 abbrev pub IsAllowed : Use → List Dimension → Command → Type 0
 IsAllowed with h (script.Insert new) = new.server < with.servers
 IsAllowed with h (script.Query question) = (question.server < with.servers) × (0 < length h) × All IsNamePick question.filter
-IsAllowed with h (script.Control called) = IsAllowedCall with called
+IsAllowed with h (script.Control called) = IsAllowedCall with (class_of called)
 
 -- the command may find no memory before it begins, and end with that
 abbrev pub may_be_refused : Command → Bool
-may_be_refused (script.Control called) = can_be_refused called
+may_be_refused (script.Control called) = can_be_refused (class_of called)
 may_be_refused c = true
 
 -- This command is the next one of the actor's stream, and its beginning is due for the actor, which is its session and has no command

@@ -140,9 +140,9 @@ abbrev pub page_kind : List Event → Bool → ℕ → Bool → Option Kind
 page_kind history alone of true = Some kind.Note
 page_kind history alone of false = if alone && (length history == of + 1) then Some kind.Note else None
 
--- of a shard that doesn't stand there is no page
-abbrev pub tree_kind : List Event → Bool → ℕ → Bool → Bool → Option Kind
-tree_kind history alone of stands shown = if stands then page_kind history alone of shown else Some kind.Note
+-- of what isn't there there is no page
+abbrev pub there_kind : List Event → Bool → ℕ → Bool → Bool → Option Kind
+there_kind history alone of there shown = if there then page_kind history alone of shown else Some kind.Note
 
 -- of a job, or what is due without one
 abbrev pub job_kind : Option JobValue → Kind → Kind
@@ -159,14 +159,11 @@ work_kind s history alone desk a of (work_is.Insert row false) = kind_at_empty d
 work_kind s history alone desk a of (work_is.Insert row true) = parts_kind desk
 work_kind s history alone desk a of work_is.Query = parts_kind desk
 work_kind s history alone desk a of (work_is.Sync server pulled) = Some (if pulled then kind.Note else kind.Sync)
-work_kind s history alone desk a of work_is.Barrier = Some kind.Note
 work_kind s history alone desk a of (work_is.Settle pulls) = Some (if is_some (settles_next s.servers pulls) then kind.Sync else kind.Note)
-work_kind s history alone desk a of (work_is.Split shard) = Some (job_kind a.job kind.Note)
-work_kind s history alone desk a of (work_is.Move shard worker) = Some (job_kind a.job kind.Note)
+work_kind s history alone desk a of work_is.Bare = Some kind.Note
+work_kind s history alone desk a of (work_is.Page subject there shown) = there_kind history alone of there shown
+work_kind s history alone desk a of (work_is.Action x) = Some (job_kind a.job kind.Note)
 work_kind s history alone desk a of (work_is.Balance b) = Some (job_kind a.job (balance_kind b))
-work_kind s history alone desk a of (work_is.Shards shown) = page_kind history alone of shown
-work_kind s history alone desk a of (work_is.Tree shard stands shown) = tree_kind history alone of stands shown
-work_kind s history alone desk a of (work_is.Audit shown) = page_kind history alone of shown
 
 -- Commands that begin.
 

@@ -91,9 +91,7 @@ history_at cells = (ledger_in (cell_at cells ledger_cell)).history
 
 -- a page that isn't shown waits until everyone else is idle
 abbrev pub waits_for_others : Work → Bool
-waits_for_others (work_is.Shards shown) = not shown
-waits_for_others (work_is.Tree shard stands shown) = stands && not shown
-waits_for_others (work_is.Audit shown) = not shown
+waits_for_others (work_is.Page subject there shown) = there && not shown
 waits_for_others _ = false
 
 abbrev pub HasNextNames : List Dimension → Option Command → Type 0

@@ -28,11 +28,9 @@ AreAtOwn p next = (session : ℕ) (c : Command) → slice_get p.commands (next s
 
 -- whether an open command closes its phase
 abbrev pub is_closing_work : Work → Bool
-is_closing_work work_is.Barrier = true
 is_closing_work (work_is.Settle pulls) = true
-is_closing_work (work_is.Shards shown) = true
-is_closing_work (work_is.Tree shard stands shown) = true
-is_closing_work (work_is.Audit shown) = true
+is_closing_work work_is.Bare = true
+is_closing_work (work_is.Page subject there shown) = true
 is_closing_work _ = false
 
 -- while it is open everyone else is idle, with nothing left

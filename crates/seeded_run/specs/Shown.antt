@@ -1,5 +1,7 @@
 -- The page that an actor's command is to show, of a tree, of all shards or of all rows; and where the gate of a shard is.
 use Rattle.std.specs.Prelude.{ℕ, ◌≡◌, true, false, List, get_or, Option, Some, None}
+use Rattle.row_ledger.specs.declared.class.Subject.{Subject}
+use Rattle.row_ledger.specs.declared.class.Subject.TheVariants as subject
 use Rattle.server_image.specs.Registry.{host_of}
 use Rattle.volap_cell.specs.Cells.{registry_in, where_in}
 use Rattle.volap_cell.specs.ImageKinds.{doing}
@@ -13,8 +15,6 @@ use Rattle.volap_cell.specs.declared.command.Work.TheVariants as work_is
 use Rattle.seeded_run.specs.Led.{gate_there}
 use Rattle.seeded_run.specs.Look.{cell_at}
 use Rattle.seeded_run.specs.Works.{command_by}
-use Rattle.seeded_run.specs.declared.shown.Subject.{Subject}
-use Rattle.seeded_run.specs.declared.shown.Subject.TheVariants as subject
 
 -- a command of this work, whose page is to be shown
 abbrev pub IsToShow : Work → Option Command → Type 0
@@ -24,33 +24,22 @@ IsToShow work command = (of : ℕ) × (command ≡ doing of work)
 abbrev pub HasToShow : List (Option Actor) → ℕ → Work → Type 0
 HasToShow actors n work = Has (get_or actors n None) (λ a. IsToShow work a.command)
 
--- one that is to show the tree of this shard, which stands
-
-abbrev pub IsTreeToShow : ℕ → Option Command → Type 0
-IsTreeToShow shard = IsToShow (work_is.Tree shard true false)
-
-abbrev pub HasTreeToShow : List (Option Actor) → ℕ → ℕ → Type 0
-HasTreeToShow actors n shard = HasToShow actors n (work_is.Tree shard true false)
-
--- what the page of a work is of, where it has one
+-- what the page of a work is of, where it has one; all rows where it has none
 
 abbrev pub subject_of : Work → Subject
-subject_of (work_is.Shards shown) = subject.Shards
-subject_of (work_is.Audit shown) = subject.Rows
-subject_of _ = subject.Tree
+subject_of (work_is.Page subject there shown) = subject
+subject_of _ = subject.Rows
 
 abbrev pub subject_in : Option Command → Subject
-subject_in None = subject.Tree
+subject_in None = subject.Rows
 subject_in (Some c) = subject_of c.work
 
 abbrev pub subject_by : List (Option Actor) → ℕ → Subject
 subject_by actors n = subject_in (command_by actors n)
 
--- the actor has a command that is to show a page of this
+-- the actor has a command that is to show a page of this, which is there
 abbrev pub HasPageOf : Subject → List (Option Actor) → ℕ → Type 0
-HasPageOf subject.Tree actors n = (shard : ℕ) × HasTreeToShow actors n shard
-HasPageOf subject.Shards actors n = HasToShow actors n (work_is.Shards false)
-HasPageOf subject.Rows actors n = HasToShow actors n (work_is.Audit false)
+HasPageOf subject actors n = HasToShow actors n (work_is.Page subject true false)
 
 -- the gate to which the table of a shard's worker leads
 abbrev pub gate_of_host : Setting → List (Option Cell) → ℕ → Option ℕ → ℕ

@@ -43,8 +43,7 @@ is_of_part _ = false
 abbrev pub is_plain : Work → Bool
 is_plain (work_is.Insert row routed) = true
 is_plain work_is.Query = true
-is_plain (work_is.Split shard) = true
-is_plain (work_is.Move shard worker) = true
+is_plain (work_is.Action x) = true
 is_plain (work_is.Balance b) = true
 is_plain _ = false
 

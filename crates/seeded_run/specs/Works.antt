@@ -66,9 +66,8 @@ decline_by (Some job) = decline_at job.stage
 
 -- how a called command ends by its own note, with the job that its actor has
 abbrev pub own_end : Work → Option JobValue → How
-own_end (work_is.Split shard) job = how.Declined (decline_by job)
-own_end (work_is.Move shard worker) job = how.Declined (decline_by job)
-own_end (work_is.Tree shard false shown) job = how.Declined Unknown
+own_end (work_is.Action x) job = how.Declined (decline_by job)
+own_end (work_is.Page subject false shown) job = how.Declined Unknown
 own_end _ job = how.Fine
 
 -- by which note a command ends

@@ -10,7 +10,7 @@ ghost use Rattle.volap_cell.specs.declared.kind.Kind.TheVariants.{Note};
 
 use crate::places::{desk_place, image_place, ledger_place, registry_place};
 use dim_hierarchy::{FilterFault, Hierarchy};
-use row_ledger::{Call, Use};
+use row_ledger::{Call, Class, Subject, Use};
 use script_form::{Command, NewRow, Question};
 use std::alloc::{AllocError, Global};
 use volap_cell::State;
@@ -69,13 +69,13 @@ fn begin_query(
 }
 
 /// Whether the call asks the registry what stands.
-fn asks_registry(call: Call) -> bool
-    ensures { result ≡ asks_registry call }
+fn asks_registry(class: Class) -> bool
+    ensures { result ≡ asks_registry class }
 {
-    match call {
-        Call::Split(_) | Call::Move(_, _) | Call::Balance(_) | Call::Tree(_) => true,
-        Call::Sync(_) | Call::Barrier | Call::Settle | Call::Shards | Call::Audit => false,
-    }
+    matches!(
+        class,
+        Class::Action(_) | Class::Balance(_) | Class::Page(Subject::Tree(_))
+    )
 }
 
 /// The actor begins its command that is no insert and no query. Where memory is wanting for that, the state
@@ -95,7 +95,7 @@ fn begin_call(
     ensures stays { OnErr result (Stays state.old.cells.items state.old.actors.items state.new.cells.items state.new.actors.items) }
 {
     let ledger = ledger_place();
-    if asks_registry(called) {
+    if asks_registry(called.class()) {
         let registry = registry_place();
         core_steps::note_asking(
             alloc,
@@ -140,7 +140,7 @@ fn may_be_refused(command: &Command) -> bool
     ensures { result ≡ may_be_refused command.now }
 {
     match command {
-        Command::Control(Call::Barrier) => false,
+        Command::Control(called) => !matches!(called.class(), Class::Bare),
         _ => true,
     }
 }

@@ -2,7 +2,7 @@
 ghost use Rattle.std.specs.Prelude.{◌≡◌, ◌==◌, ◌+◌, [], length, is_none, is_some};
 ghost use Rattle.std.specs.List.{list_any};
 ghost use Rattle.query_router.specs.Desk.{is_placed, is_refused, verdict_of};
-ghost use Rattle.seeded_run.specs.Due.{balance_kind, desk_of, is_empty_desk, job_kind, kind_at_empty, kind_by_verdict, page_kind, parts_kind, tree_kind, work_kind};
+ghost use Rattle.seeded_run.specs.Due.{balance_kind, desk_of, is_empty_desk, job_kind, kind_at_empty, kind_by_verdict, page_kind, parts_kind, there_kind, work_kind};
 ghost use Rattle.seeded_run.specs.Look.{cell_at, history_at, setting_by, waits_for_others, world_by};
 ghost use Rattle.volap_cell.specs.Cells.{desk_in};
 ghost use Rattle.volap_cell.specs.Commands.{settles_next};
@@ -126,17 +126,17 @@ fn page_kind(cells: &[Option<Cell>], alone: bool, of: u64, shown: bool) -> Optio
     }
 }
 
-/// What is due for a command that shows a tree.
-fn tree_kind(
+/// What is due for a command that shows a page of what may not be there.
+fn there_kind(
     cells: &[Option<Cell>],
     alone: bool,
     of: u64,
-    stands: bool,
+    there: bool,
     shown: bool,
 ) -> Option<Kind>
-    ensures { result ≡ tree_kind (history_at cells.now) alone of stands shown }
+    ensures { result ≡ there_kind (history_at cells.now) alone of there shown }
 {
-    if stands {
+    if there {
         page_kind(cells, alone, of, shown)
     } else {
         Some(Kind::Note)
@@ -177,8 +177,7 @@ pub(crate) fn waits_for_others(work: &Work) -> bool
     ensures { result ≡ waits_for_others work.now }
 {
     match work {
-        Work::Shards { shown } | Work::Audit { shown } => !*shown,
-        Work::Tree { stands, shown, .. } => *stands && !*shown,
+        Work::Page { there, shown, .. } => *there && !*shown,
         _ => false,
     }
 }
@@ -200,15 +199,14 @@ pub(crate) fn work_kind(
         Work::Insert { routed: false, .. } => kind_at_empty(with, cells, actor.role, Kind::Route),
         Work::Insert { routed: true, .. } | Work::Query => parts_kind(with, cells, actor.role),
         Work::Sync { pulled: false, .. } => Some(Kind::Sync),
-        Work::Sync { pulled: true, .. } | Work::Barrier => Some(Kind::Note),
+        Work::Sync { pulled: true, .. } | Work::Bare => Some(Kind::Note),
         Work::Settle { pulls } => Some(if is_settling(with, *pulls) {
             Kind::Sync
         } else {
             Kind::Note
         }),
-        Work::Split { .. } | Work::Move { .. } => Some(job_kind(actor, Kind::Note)),
+        Work::Page { there, shown, .. } => there_kind(cells, alone, of, *there, *shown),
+        Work::Action(_) => Some(job_kind(actor, Kind::Note)),
         Work::Balance(balance) => Some(job_kind(actor, balance_kind(balance))),
-        Work::Shards { shown } | Work::Audit { shown } => page_kind(cells, alone, of, *shown),
-        Work::Tree { stands, shown, .. } => tree_kind(cells, alone, of, *stands, *shown),
     }
 }

@@ -9,36 +9,27 @@ ghost use Rattle.volap_cell.specs.declared.kind.Kind.TheVariants.{Note};
 use crate::shows::show_tree;
 use crate::wholes::{show_audit, show_shards};
 use dim_hierarchy::Hierarchy;
-use row_ledger::Use;
+use row_ledger::{Subject, Use};
 use std::alloc::Global;
 use volap_cell::{Actor, State, Work};
 
-/// What a page is of: of a tree, of all shards, or of all rows.
-#[derive(Clone, Copy, Debug, PartialEq, Eq)]
-pub(crate) enum Subject {
-    Tree,
-    Shards,
-    Rows,
-}
-
-/// What the page of a work is of; a tree where it has none.
+/// What the page of a work is of; all rows where it has none.
 fn subject_of(work: &Work) -> Subject
     ensures { result ≡ subject_of work.now }
 {
     match work {
-        Work::Shards { .. } => Subject::Shards,
-        Work::Audit { .. } => Subject::Rows,
-        _ => Subject::Tree,
+        Work::Page { subject, .. } => *subject,
+        _ => Subject::Rows,
     }
 }
 
-/// What the page of an actor's command is of; a tree where it has none.
+/// What the page of an actor's command is of; all rows where it has none.
 fn subject_in(actor: &Actor) -> Subject
     ensures { result ≡ subject_in (actor_of actor.now).command }
 {
     match &actor.command {
         Some(open) => subject_of(&open.work),
-        None => Subject::Tree,
+        None => Subject::Rows,
     }
 }
 
@@ -48,7 +39,7 @@ fn subject_by(state: &State, number: usize) -> Subject
 {
     match state.actors.get(number) {
         Some(Some(actor)) => subject_in(actor),
-        _ => Subject::Tree,
+        _ => Subject::Rows,
     }
 }
 
@@ -62,7 +53,7 @@ pub(crate) fn show_page(alloc: Global, h: &Hierarchy, with: &Use, state: &mut St
     ensures made { GoesOnWithCommand h.now Note number state.old.cells.items state.old.actors.items state.new.cells.items state.new.actors.items }
 {
     match subject_by(state, number) {
-        Subject::Tree => show_tree(alloc, h, with, state, number),
+        Subject::Tree(shard) => show_tree(alloc, h, with, state, number, shard),
         Subject::Shards => show_shards(alloc, h, with, state, number),
         Subject::Rows => show_audit(h, with, state, number),
     }

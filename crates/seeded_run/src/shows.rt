@@ -1,9 +1,10 @@
 //! The page of a tree, made and shown where it is due.
-ghost use Rattle.std.specs.Prelude.{ℕ, ◌≡◌, ◌<◌, length};
+ghost use Rattle.std.specs.Prelude.{◌≡◌, ◌<◌, length};
 ghost use Rattle.seeded_run.specs.Arms.{GoesOnWithCommand};
 ghost use Rattle.seeded_run.specs.Core.{HasCore, IsDue};
 ghost use Rattle.seeded_run.specs.Look.{cell_at};
-ghost use Rattle.seeded_run.specs.Shown.{HasTreeToShow, standing_gate};
+ghost use Rattle.seeded_run.specs.Shown.{HasPageOf, standing_gate};
+ghost use Rattle.row_ledger.specs.declared.class.Subject.TheVariants.{Tree};
 ghost use Rattle.server_image.specs.Registry.{host_of};
 ghost use Rattle.volap_cell.specs.Cells.{registry_in};
 ghost use Rattle.volap_cell.specs.Setting.{Setting, registry_cell};
@@ -15,25 +16,7 @@ use crate::sights::{cell_at, where_at};
 use dim_hierarchy::Hierarchy;
 use row_ledger::{How, Page, Use};
 use std::alloc::Global;
-use volap_cell::{Cell, State, Work};
-
-/// The shard of which an actor's command is to show the tree.
-fn tree_shard(state: &State, number: usize) -> u32
-    requires within { number < length state.now.actors.items }
-    requires shows { (shard : ℕ) × HasTreeToShow state.now.actors.items number shard }
-    ensures { HasTreeToShow state.now.actors.items number result }
-{
-    let Some(actor) = &state.actors[number] else {
-        unreachable!()
-    };
-    let Some(command) = &actor.command else {
-        unreachable!()
-    };
-    let Work::Tree { shard, .. } = &command.work else {
-        unreachable!()
-    };
-    *shard
-}
+use volap_cell::{Cell, State};
 
 /// The worker of a shard, as the registry tells; none where it tells none.
 fn host_at(cells: &[Option<Cell>], shard: u32) -> Option<u8>
@@ -60,14 +43,20 @@ fn standing_gate(with: &Use, cells: &[Option<Cell>], shard: u32) -> u32
 
 /// The tree of a shard that stands is shown, where that is due. Where memory is wanting for the page, the
 /// command ends so.
-pub(crate) fn show_tree(alloc: Global, h: &Hierarchy, with: &Use, state: &mut State, number: usize)
+pub(crate) fn show_tree(
+    alloc: Global,
+    h: &Hierarchy,
+    with: &Use,
+    state: &mut State,
+    number: usize,
+    shard: u32,
+)
     requires core { HasCore h.now with.now state.old.cells.items state.old.actors.items }
     requires within { number < length state.old.actors.items }
     requires due { IsDue h.now with.now state.old.cells.items state.old.actors.items number Note }
-    requires shows { (shard : ℕ) × HasTreeToShow state.old.actors.items number shard }
+    requires shows { HasPageOf (Tree shard) state.old.actors.items number }
     ensures made { GoesOnWithCommand h.now Note number state.old.cells.items state.old.actors.items state.new.cells.items state.new.actors.items }
 {
-    let shard = tree_shard(state, number);
     let gate = standing_gate(with, &state.cells, shard);
     let ledger = ledger_place();
     match core_pages::tree_page_at(alloc, state, gate) {

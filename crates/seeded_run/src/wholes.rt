@@ -1,9 +1,9 @@
 //! The pages of the whole state, of all shards and of all rows, made and shown where they are due.
-ghost use Rattle.std.specs.Prelude.{◌<◌, false, length};
+ghost use Rattle.std.specs.Prelude.{◌<◌, length};
 ghost use Rattle.seeded_run.specs.Arms.{GoesOnWithCommand};
 ghost use Rattle.seeded_run.specs.Core.{HasCore, IsDue};
-ghost use Rattle.seeded_run.specs.Shown.{HasToShow};
-ghost use Rattle.volap_cell.specs.declared.command.Work.TheVariants as work;
+ghost use Rattle.seeded_run.specs.Shown.{HasPageOf};
+ghost use Rattle.row_ledger.specs.declared.class.Subject.TheVariants.{Rows, Shards};
 ghost use Rattle.volap_cell.specs.declared.kind.Kind.TheVariants.{Note};
 
 use crate::places::ledger_place;
@@ -23,7 +23,7 @@ pub(crate) fn show_shards(
     requires core { HasCore h.now with.now state.old.cells.items state.old.actors.items }
     requires within { number < length state.old.actors.items }
     requires due { IsDue h.now with.now state.old.cells.items state.old.actors.items number Note }
-    requires shows { HasToShow state.old.actors.items number (work.Shards false) }
+    requires shows { HasPageOf Shards state.old.actors.items number }
     ensures made { GoesOnWithCommand h.now Note number state.old.cells.items state.old.actors.items state.new.cells.items state.new.actors.items }
 {
     let ledger = ledger_place();
@@ -38,7 +38,7 @@ pub(crate) fn show_audit(h: &Hierarchy, with: &Use, state: &mut State, number: u
     requires core { HasCore h.now with.now state.old.cells.items state.old.actors.items }
     requires within { number < length state.old.actors.items }
     requires due { IsDue h.now with.now state.old.cells.items state.old.actors.items number Note }
-    requires shows { HasToShow state.old.actors.items number (work.Audit false) }
+    requires shows { HasPageOf Rows state.old.actors.items number }
     ensures made { GoesOnWithCommand h.now Note number state.old.cells.items state.old.actors.items state.new.cells.items state.new.actors.items }
 {
     let ledger = ledger_place();

@@ -139,8 +139,8 @@ fn own_end(actor: &Actor, work: &Work) -> How
     ensures { result ≡ own_end work.now (actor_of actor.now).job }
 {
     match work {
-        Work::Split { .. } | Work::Move { .. } => How::Declined(decline_by(actor)),
-        Work::Tree { stands: false, .. } => How::Declined(Decline::Unknown),
+        Work::Action(_) => How::Declined(decline_by(actor)),
+        Work::Page { there: false, .. } => How::Declined(Decline::Unknown),
         _ => How::Fine,
     }
 }

@@ -146,26 +146,20 @@ finishes-ends of (work_is.Balance balance) job e l a b f = let (p, is) = f in en
 finishes-ends of (work_is.Insert row routed) job e l a b f = ends-both f
 finishes-ends of work_is.Query job e l a b f = ends-both f
 finishes-ends of (work_is.Sync server pulled) job e l a b f = ends-both f
-finishes-ends of work_is.Barrier job e l a b f = ends-both f
 finishes-ends of (work_is.Settle pulls) job e l a b f = ends-both f
-finishes-ends of (work_is.Split shard) job e l a b f = ends-both f
-finishes-ends of (work_is.Move shard worker) job e l a b f = ends-both f
-finishes-ends of (work_is.Shards shown) job e l a b f = ends-both f
-finishes-ends of (work_is.Tree shard stands shown) job e l a b f = ends-both f
-finishes-ends of (work_is.Audit shown) job e l a b f = ends-both f
+finishes-ends of work_is.Bare job e l a b f = ends-both f
+finishes-ends of (work_is.Page subject there shown) job e l a b f = ends-both f
+finishes-ends of (work_is.Action a_is) job e l a b f = ends-both f
 
 gives-up-ends : (of : ℕ) (work : Work) (job : JobValue) (l : Change) (a b : ActorValue) → GivesUp of work job l a b → Ends l a b
 gives-up-ends of (work_is.Balance balance) job l a b f = let (p, is) = f in ends-one (doing of (work_is.Balance (after_action false job balance))) (next_job (after_action false job balance)) p is
 gives-up-ends of (work_is.Insert row routed) job l a b f = let (p, is) = f in ends-one None None p is
 gives-up-ends of work_is.Query job l a b f = let (p, is) = f in ends-one None None p is
 gives-up-ends of (work_is.Sync server pulled) job l a b f = let (p, is) = f in ends-one None None p is
-gives-up-ends of work_is.Barrier job l a b f = let (p, is) = f in ends-one None None p is
 gives-up-ends of (work_is.Settle pulls) job l a b f = let (p, is) = f in ends-one None None p is
-gives-up-ends of (work_is.Split shard) job l a b f = let (p, is) = f in ends-one None None p is
-gives-up-ends of (work_is.Move shard worker) job l a b f = let (p, is) = f in ends-one None None p is
-gives-up-ends of (work_is.Shards shown) job l a b f = let (p, is) = f in ends-one None None p is
-gives-up-ends of (work_is.Tree shard stands shown) job l a b f = let (p, is) = f in ends-one None None p is
-gives-up-ends of (work_is.Audit shown) job l a b f = let (p, is) = f in ends-one None None p is
+gives-up-ends of work_is.Bare job l a b f = let (p, is) = f in ends-one None None p is
+gives-up-ends of (work_is.Page subject there shown) job l a b f = let (p, is) = f in ends-one None None p is
+gives-up-ends of (work_is.Action a_is) job l a b f = let (p, is) = f in ends-one None None p is
 
 ends-ledger : (t : Touched) → t.ledger ≡ true → {l : Change} {a b : ActorValue} → Ends l a b → beside t l.now ≡ beside t l.before
 ends-ledger t on {l} e =

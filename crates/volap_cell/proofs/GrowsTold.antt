@@ -6,21 +6,21 @@ use Rattle.std.specs.Option.{option_map_or}
 use Rattle.std.proofs.lemmas.Bool.{or_left, or_right}
 use Rattle.dim_hierarchy.specs.Filter.{IsFilterOf}
 use Rattle.dim_hierarchy.specs.Rows.{IsRowOf}
+use Rattle.row_ledger.specs.Classes.{is_there}
+use Rattle.row_ledger.specs.declared.class.Class.{Class}
 use Rattle.row_ledger.specs.declared.event.Event.{Event}
 use Rattle.row_ledger.specs.declared.event.Event.TheVariants.{Acked, Answered, Failed, Split, Moved, Left, Shown, Ended}
 use Rattle.row_ledger.specs.Past.{Insert, Query, event_at, insert_in, query_in, session_in, ends_itself, is_end_of, has_ended, is_work_of, page_in, has_page, since, is_pull_of}
 use Rattle.row_ledger.specs.Belonging.{number_in}
 use Rattle.row_ledger.specs.Kept.{KeepsRight}
 use Rattle.row_ledger.specs.Right.{has_pulled}
-use Rattle.row_ledger.specs.Shards.{is_live}
 use Rattle.row_ledger.specs.Work.{is_known}
 use Rattle.row_ledger.proofs.Fresh.{kind-within}
 use Rattle.row_ledger.proofs.Older.{is_over-older}
 use Rattle.row_ledger.proofs.Positions.{before-older, event_at-here, since-inside}
-use Rattle.shard_plan.specs.declared.action.Action.TheVariants as action
 use Rattle.tree_shape.proofs.Walks.{on_bool, eqb-eq, eqb-ne, eqb-no}
 use Rattle.volap_cell.specs.Setting.{Setting, site_in}
-use Rattle.volap_cell.specs.Telling.{IsProgress, IsOverOrOpen, Telling}
+use Rattle.volap_cell.specs.Telling.{IsCalledAs, IsProgress, IsOverOrOpen, Telling}
 use Rattle.volap_cell.specs.Values.{JobValue}
 use Rattle.volap_cell.specs.declared.command.Command.{Command}
 use Rattle.volap_cell.specs.declared.command.Work.{Work}
@@ -58,33 +58,30 @@ page-same e h p other = rw (no-page e p other) refl
 pub pulled-grown : (e : Event) (h : List Event) (of server : ℕ) → of < length h → IsTrue (has_pulled h of server) → IsTrue (has_pulled (e ∷ h) of server)
 pulled-grown e h of server began pulled = ap (list_any (is_pull_of server)) (since-inside e h of began) ∙ or_right (is_pull_of server e) (list_any (is_pull_of server) (since h of)) pulled
 
+-- the class of a call stays
+pub called-kept : (e : Event) (h : List Event) (of : ℕ) (class : Class) → IsCalledAs h of class → IsCalledAs (e ∷ h) of class
+called-kept e h of class called = (called.0, call-kept e h of called.0 called.1, called.2)
+
 -- how far a command has come, that began before and to which the event doesn't belong
 pub progress-grown : (s : Setting) (e : Event) (h : List Event) (of : ℕ) (w : Work) (job : Option JobValue) (role : Role) → of < length h → number_in e ≢ Some of
     → IsProgress s h of w job role → IsProgress s (e ∷ h) of w job role
 progress-grown s e h of (work_is.Insert row routed) job role began other i = (i.0, i.1, insert-kept e h of _ i.2, i.3)
 progress-grown s e h of work_is.Query job role began other i = (i.0, i.1, query-kept e h of i.0 i.2)
-progress-grown s e h of (work_is.Sync server pulled) job role began other i = (call-kept e h of _ i.0, i.1, λ p. pulled-grown e h of server began (i.2 p))
-progress-grown s e h of work_is.Barrier job role began other i = call-kept e h of _ i
-progress-grown s e h of (work_is.Settle pulls) job role began other i = (call-kept e h of _ i.0, i.1)
-progress-grown s e h of (work_is.Split shard) job role began other i = (
-  call-kept e h of _ i.0,
-  work-same e h of (no-work e of other) ∙ i.1,
-  i.2 ∙ ap (λ (past : List Event). is_known (site_in s) past (action.Split shard)) (sym (before-older e h of (le_of_lt began))),
-)
-progress-grown s e h of (work_is.Move shard worker) job role began other i = (
-  call-kept e h of _ i.0,
-  work-same e h of (no-work e of other) ∙ i.1,
-  i.2 ∙ ap (λ (past : List Event). is_known (site_in s) past (action.Move shard worker)) (sym (before-older e h of (le_of_lt began))),
-)
-progress-grown s e h of (work_is.Balance b) job role began other i = (call-kept e h of _ i.0, i.1)
-progress-grown s e h of (work_is.Shards shown) job role began other i = (call-kept e h of _ i.0, page-same e h of other ∙ i.1)
-progress-grown s e h of (work_is.Tree shard stands shown) job role began other i = (
-  call-kept e h of _ i.0,
+progress-grown s e h of (work_is.Sync server pulled) job role began other i = (called-kept e h of _ i.0, i.1, λ p. pulled-grown e h of server began (i.2 p))
+progress-grown s e h of (work_is.Settle pulls) job role began other i = (called-kept e h of _ i.0, i.1)
+progress-grown s e h of work_is.Bare job role began other i = called-kept e h of _ i
+progress-grown s e h of (work_is.Page subject there shown) job role began other i = (
+  called-kept e h of _ i.0,
   page-same e h of other ∙ i.1,
-  ap (λ (past : List Event). is_live s.workers past shard) (before-older e h of (le_of_lt began)) ∙ i.2,
+  ap (λ (past : List Event). is_there s.workers past subject) (before-older e h of (le_of_lt began)) ∙ i.2,
   i.3,
 )
-progress-grown s e h of (work_is.Audit shown) job role began other i = (call-kept e h of _ i.0, page-same e h of other ∙ i.1)
+progress-grown s e h of (work_is.Action a) job role began other i = (
+  called-kept e h of _ i.0,
+  work-same e h of (no-work e of other) ∙ i.1,
+  i.2 ∙ ap (λ (past : List Event). is_known (site_in s) past a) (sym (before-older e h of (le_of_lt began))),
+)
+progress-grown s e h of (work_is.Balance b) job role began other i = (called-kept e h of _ i.0, i.1)
 
 -- what began at a position did so before, or is what the event begins
 pub kind-cases : {X : Type 0} (kind : Event → Option X) (e : Event) (h : List Event) (p : ℕ) (x : X) → option_and_then kind (event_at (e ∷ h) p) ≡ Some x

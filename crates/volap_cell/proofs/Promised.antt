@@ -83,15 +83,12 @@ module _ (s : Setting) (w : World) (g : Ghost) (inv : InvWith s (view s w) g) (r
       let one = inv.desking.insert i.server r i within op begun in
       inl (record { op = op; part = one.0; alone = one.1; outside = outside out op one.0 one.1 one.0.state refl one.2 (its-part op one.0 one.1) })
   at-work out a job work_is.Query command progress = absurd (no-query (view s w).history r i progress.0 begun progress.2)
-  at-work out a job (work_is.Sync server pulled) command progress = absurd (no-call (view s w).history r i _ begun progress.0)
-  at-work out a job work_is.Barrier command progress = absurd (no-call (view s w).history r i _ begun progress)
-  at-work out a job (work_is.Settle pulls) command progress = absurd (no-call (view s w).history r i _ begun progress.0)
-  at-work out a job (work_is.Split shard) command progress = absurd (no-call (view s w).history r i _ begun progress.0)
-  at-work out a job (work_is.Move shard worker) command progress = absurd (no-call (view s w).history r i _ begun progress.0)
-  at-work out a job (work_is.Balance b) command progress = absurd (no-call (view s w).history r i _ begun progress.0)
-  at-work out a job (work_is.Shards shown) command progress = absurd (no-call (view s w).history r i _ begun progress.0)
-  at-work out a job (work_is.Tree shard stands shown) command progress = absurd (no-call (view s w).history r i _ begun progress.0)
-  at-work out a job (work_is.Audit shown) command progress = absurd (no-call (view s w).history r i _ begun progress.0)
+  at-work out a job (work_is.Sync server pulled) command progress = absurd (no-call (view s w).history r i _ begun progress.0.1)
+  at-work out a job (work_is.Settle pulls) command progress = absurd (no-call (view s w).history r i _ begun progress.0.1)
+  at-work out a job work_is.Bare command progress = absurd (no-call (view s w).history r i _ begun progress.1)
+  at-work out a job (work_is.Page subject there shown) command progress = absurd (no-call (view s w).history r i _ begun progress.0.1)
+  at-work out a job (work_is.Action x) command progress = absurd (no-call (view s w).history r i _ begun progress.0.1)
+  at-work out a job (work_is.Balance b) command progress = absurd (no-call (view s w).history r i _ begun progress.0.1)
 
   before-gate : IsTrue (is_kept (view s w).history r) → g.placed r ≡ false → IsOnDesk s (view s w) i r ⊎ IsUnrouted (view s w) r
   before-gate kept out = (let its = insert-session (view s w).history r i begun in elim (inv.telling.status its.0 r its.1) [

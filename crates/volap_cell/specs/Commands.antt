@@ -3,8 +3,10 @@ use Rattle.std.specs.Prelude.{ℕ, ◌≡◌, ◌+◌, ◌-◌, ◌<◌, ⊤, Bo
 use Rattle.shard_plan.specs.Balancing.{after_move}
 use Rattle.shard_plan.specs.declared.action.Action.{Action}
 use Rattle.shard_plan.specs.declared.action.Load.{Load}
+use Rattle.row_ledger.specs.Classes.{class_of}
+use Rattle.row_ledger.specs.declared.class.Class.{Class}
+use Rattle.row_ledger.specs.declared.class.Class.TheVariants as class
 use Rattle.row_ledger.specs.declared.settings.Call.{Call}
-use Rattle.row_ledger.specs.declared.settings.Call.TheVariants as call
 use Rattle.row_ledger.specs.declared.settings.Decline.TheVariants.{Unknown}
 use Rattle.row_ledger.specs.declared.settings.How.{How}
 use Rattle.row_ledger.specs.declared.settings.How.TheVariants as how
@@ -16,18 +18,18 @@ use Rattle.volap_cell.specs.declared.role.Role.{Role}
 use Rattle.volap_cell.specs.declared.role.Role.TheVariants.{Session, Puller, Admin}
 
 -- a session pulls for its own server, a puller for each; the administrator makes all other calls
+abbrev pub MayCallAs : Role → Class → Type 0
+MayCallAs (Session s) (class.Sync server) = server ≡ s
+MayCallAs Puller (class.Sync server) = ⊤
+MayCallAs Admin class.Settle = ⊤
+MayCallAs Admin class.Bare = ⊤
+MayCallAs Admin (class.Page subject) = ⊤
+MayCallAs Admin (class.Action a) = ⊤
+MayCallAs Admin (class.Balance most) = ⊤
+MayCallAs role c = ⊥
+
 abbrev pub MayCall : Role → Call → Type 0
-MayCall (Session s) (call.Sync server) = server ≡ s
-MayCall Puller (call.Sync server) = ⊤
-MayCall Admin (call.Split shard) = ⊤
-MayCall Admin (call.Move shard worker) = ⊤
-MayCall Admin (call.Balance most) = ⊤
-MayCall Admin call.Barrier = ⊤
-MayCall Admin call.Settle = ⊤
-MayCall Admin call.Shards = ⊤
-MayCall Admin (call.Tree shard) = ⊤
-MayCall Admin call.Audit = ⊤
-MayCall role c = ⊥
+MayCall role c = MayCallAs role (class_of c)
 
 -- How many pushes a command may still need: its end, and before it the one event of a split or a move, that of each action which
 -- a balance may still make, or a page. A pull promises its own push when it is made.
@@ -35,14 +37,11 @@ abbrev pub owes : Work → ℕ
 owes (work_is.Insert row routed) = 1
 owes work_is.Query = 1
 owes (work_is.Sync server pulled) = 1
-owes work_is.Barrier = 1
 owes (work_is.Settle pulls) = 1
-owes (work_is.Split shard) = 2
-owes (work_is.Move shard worker) = 2
+owes work_is.Bare = 1
+owes (work_is.Page subject there shown) = if shown then 1 else 2
+owes (work_is.Action a) = 2
 owes (work_is.Balance b) = b.most + 1 - b.over
-owes (work_is.Shards shown) = if shown then 1 else 2
-owes (work_is.Tree shard stands shown) = if shown then 1 else 2
-owes (work_is.Audit shown) = if shown then 1 else 2
 
 -- Pulls.
 
@@ -66,9 +65,7 @@ pulled_once work = work
 
 -- the command once its page is shown
 abbrev pub once_shown : Work → Option Work
-once_shown (work_is.Shards false) = Some (work_is.Shards true)
-once_shown (work_is.Tree shard true false) = Some (work_is.Tree shard true true)
-once_shown (work_is.Audit false) = Some (work_is.Audit true)
+once_shown (work_is.Page subject true false) = Some (work_is.Page subject true true)
 once_shown _ = None
 
 -- Actions of a balance.
@@ -103,19 +100,14 @@ EndsBalance b h = ⊥
 
 -- how a command's own note may end it; what it did is behind it, or it found no memory for what is still to do
 abbrev pub MayNoteEnd : ℕ → Work → Option JobValue → How → Type 0
-MayNoteEnd servers work_is.Barrier job how.Fine = ⊤
+MayNoteEnd servers work_is.Bare job how.Fine = ⊤
 MayNoteEnd servers (work_is.Sync server pulled) job how.Fine = pulled ≡ true
 MayNoteEnd servers (work_is.Sync server pulled) job how.NoMemory = pulled ≡ false
 MayNoteEnd servers (work_is.Settle pulls) job how.Fine = pulls ≡ servers + servers
 MayNoteEnd servers (work_is.Settle pulls) job how.NoMemory = pulls < servers + servers
-MayNoteEnd servers (work_is.Split shard) job h = EndsJob job h
-MayNoteEnd servers (work_is.Move shard worker) job h = EndsJob job h
+MayNoteEnd servers (work_is.Action a) job h = EndsJob job h
 MayNoteEnd servers (work_is.Balance b) job h = EndsBalance b h
-MayNoteEnd servers (work_is.Shards shown) job how.Fine = shown ≡ true
-MayNoteEnd servers (work_is.Shards shown) job how.NoMemory = shown ≡ false
-MayNoteEnd servers (work_is.Tree shard stands shown) job how.Fine = shown ≡ true
-MayNoteEnd servers (work_is.Tree shard stands shown) job how.NoMemory = shown ≡ false
-MayNoteEnd servers (work_is.Tree shard stands shown) job (how.Declined why) = (stands ≡ false) × (why ≡ Unknown)
-MayNoteEnd servers (work_is.Audit shown) job how.Fine = shown ≡ true
-MayNoteEnd servers (work_is.Audit shown) job how.NoMemory = shown ≡ false
+MayNoteEnd servers (work_is.Page subject there shown) job how.Fine = shown ≡ true
+MayNoteEnd servers (work_is.Page subject there shown) job how.NoMemory = shown ≡ false
+MayNoteEnd servers (work_is.Page subject there shown) job (how.Declined why) = (there ≡ false) × (why ≡ Unknown)
 MayNoteEnd servers work job h = ⊥

@@ -135,14 +135,11 @@ abbrev pub shown_left : Bool → ℕ
 shown_left shown = if shown then 1 else 2
 
 abbrev pub control_of : Setting → Work → ℕ
-control_of s work_is.Barrier = 1
+control_of s work_is.Bare = 1
 control_of s (work_is.Settle pulls) = 1 + (s.servers + s.servers - pulls)
-control_of s (work_is.Split shard) = 1
-control_of s (work_is.Move shard worker) = 1
+control_of s (work_is.Page subject there shown) = shown_left shown
+control_of s (work_is.Action a) = 1
 control_of s (work_is.Balance b) = 1 + actions_left s b b.plan
-control_of s (work_is.Shards shown) = shown_left shown
-control_of s (work_is.Tree shard stands shown) = shown_left shown
-control_of s (work_is.Audit shown) = shown_left shown
 control_of s _ = 0
 
 -- the cells of a gate that is gone

@@ -12,16 +12,22 @@ use Rattle.query_router.specs.declared.part.Part.{Part}
 use Rattle.query_router.specs.declared.part.PartState.TheVariants as state
 use Rattle.query_router.specs.declared.part.Verdict.TheVariants as verdict
 use Rattle.query_router.specs.declared.part.Want.TheVariants as want
+use Rattle.row_ledger.specs.Classes.{class_of}
 use Rattle.row_ledger.specs.LedgerValue.{LedgerValue}
+use Rattle.row_ledger.specs.declared.class.Class.{Class}
+use Rattle.row_ledger.specs.declared.class.Class.TheVariants as class
+use Rattle.row_ledger.specs.declared.class.Subject.{Subject}
+use Rattle.row_ledger.specs.declared.class.Subject.TheVariants as subject
 use Rattle.row_ledger.specs.declared.event.Event.{Event}
 use Rattle.row_ledger.specs.declared.event.Event.TheVariants as event
 use Rattle.row_ledger.specs.declared.page.Page.{Page}
 use Rattle.row_ledger.specs.declared.settings.Call.{Call}
-use Rattle.row_ledger.specs.declared.settings.Call.TheVariants as call
 use Rattle.row_ledger.specs.declared.settings.How.{How}
 use Rattle.row_ledger.specs.declared.settings.How.TheVariants as how
 use Rattle.server_image.specs.Image.{ImageValue, IsRoute, IsAcked, IsSynced, planned}
 use Rattle.server_image.specs.Registry.{RegistryValue, host_of, on_frontier}
+use Rattle.shard_plan.specs.declared.action.Action.{Action}
+use Rattle.shard_plan.specs.declared.action.Action.TheVariants as action
 use Rattle.shard_plan.specs.declared.action.Load.{Load}
 use Rattle.volap_cell.specs.Cells.{LedgerCell, RegistryCell, ImageCell}
 use Rattle.volap_cell.specs.Commands.{MayCall, owes, due_pull, pulled_once, once_shown, after_action, MayNoteEnd}
@@ -221,24 +227,29 @@ pub record IsNewBalance (r : RegistryValue) (most : ℕ) (b : Balance) : Type 0 
   pub over : b.over ≡ 0
   pub done : b.done ≡ 0
 
+abbrev pub job_begun : ℕ → RegistryValue → Action → Option JobValue
+job_begun workers r (action.Split shard) = job_called r shard None (on_frontier shard r)
+job_begun workers r (action.Move shard worker) = job_called r shard (Some worker) (on_frontier shard r && nat_lt worker workers)
+
+-- whether there is what a page is of
+abbrev pub subject_stands : RegistryValue → Subject → Bool
+subject_stands r (subject.Tree shard) = on_frontier shard r
+subject_stands r _ = true
+
 -- the work of a call as it begins, where these shards stand
-abbrev pub IsBegun : ℕ → RegistryValue → Call → Work → Option JobValue → Type 0
-IsBegun workers r (call.Sync server) work job = (work ≡ work_is.Sync server false) × (job ≡ None)
-IsBegun workers r call.Barrier work job = (work ≡ work_is.Barrier) × (job ≡ None)
-IsBegun workers r call.Settle work job = (work ≡ work_is.Settle 0) × (job ≡ None)
-IsBegun workers r call.Shards work job = (work ≡ work_is.Shards false) × (job ≡ None)
-IsBegun workers r call.Audit work job = (work ≡ work_is.Audit false) × (job ≡ None)
-IsBegun workers r (call.Tree shard) work job = (work ≡ work_is.Tree shard (on_frontier shard r) false) × (job ≡ None)
-IsBegun workers r (call.Split shard) work job = (work ≡ work_is.Split shard) × (job ≡ job_called r shard None (on_frontier shard r))
-IsBegun workers r (call.Move shard worker) work job = (work ≡ work_is.Move shard worker) × (job ≡ job_called r shard (Some worker) (on_frontier shard r && nat_lt worker workers))
-IsBegun workers r (call.Balance most) work job = (job ≡ None) × ((b : Balance) × (work ≡ work_is.Balance b) × IsNewBalance r most b)
+abbrev pub IsBegun : ℕ → RegistryValue → Class → Work → Option JobValue → Type 0
+IsBegun workers r (class.Sync server) work job = (work ≡ work_is.Sync server false) × (job ≡ None)
+IsBegun workers r class.Settle work job = (work ≡ work_is.Settle 0) × (job ≡ None)
+IsBegun workers r class.Bare work job = (work ≡ work_is.Bare) × (job ≡ None)
+IsBegun workers r (class.Page subject) work job = (work ≡ work_is.Page subject (subject_stands r subject) false) × (job ≡ None)
+IsBegun workers r (class.Action a) work job = (work ≡ work_is.Action a) × (job ≡ job_begun workers r a)
+IsBegun workers r (class.Balance most) work job = (job ≡ None) × ((b : Balance) × (work ≡ work_is.Balance b) × IsNewBalance r most b)
 
 -- whether the call asks what stands: then the registry is held, and stays as it is
-abbrev pub asks_registry : Call → Bool
-asks_registry (call.Tree shard) = true
-asks_registry (call.Split shard) = true
-asks_registry (call.Move shard worker) = true
-asks_registry (call.Balance most) = true
+abbrev pub asks_registry : Class → Bool
+asks_registry (class.Page (subject.Tree shard)) = true
+asks_registry (class.Action a) = true
+asks_registry (class.Balance most) = true
 asks_registry _ = false
 
 pub record IsAsked (registry : RegistryValue) (r : Change) : Type 0 where
@@ -250,10 +261,10 @@ pub record NotesCalled (registry : RegistryValue) (asks : Bool) (l : Change) (a 
   pub free : IsFree a
   pub called : Call
   pub allowed : MayCall a.role called
-  pub asks_is : asks_registry called ≡ asks
+  pub asks_is : asks_registry (class_of called) ≡ asks
   pub work : Work
   pub job : Option JobValue
-  pub begun : IsBegun a.setting.workers registry called work job
+  pub begun : IsBegun a.setting.workers registry (class_of called) work job
   pub pushed : Pushes (event.Called a.number called) (1 + owes work) 1 l b.seen
   pub actor_is : b ≡ record a { command = doing (length pushed.ledger.history) work; job = job; seen = b.seen }
 

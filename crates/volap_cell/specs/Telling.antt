@@ -2,14 +2,15 @@
 use Rattle.std.specs.Prelude.{ℕ, ◌≡◌, ◌+◌, ◌<◌, ◌≤◌, ◌⊎◌, Bool, true, false, IsTrue, List, [], length, Option, Some, is_some, option_and_then}
 use Rattle.dim_hierarchy.specs.Filter.{IsFilterOf}
 use Rattle.dim_hierarchy.specs.Rows.{IsRowOf}
-use Rattle.shard_plan.specs.declared.action.Action.TheVariants as action
+use Rattle.row_ledger.specs.Classes.{class_of, is_there}
 use Rattle.row_ledger.specs.Past.{Insert, Query, before, event_at, insert_at, query_at, call_at, has_ended, has_page, is_over, session_in, work}
 use Rattle.row_ledger.specs.Kept.{KeepsRight}
 use Rattle.row_ledger.specs.Right.{has_pulled}
-use Rattle.row_ledger.specs.Shards.{is_live}
 use Rattle.row_ledger.specs.Work.{is_known}
+use Rattle.row_ledger.specs.declared.class.Class.{Class}
+use Rattle.row_ledger.specs.declared.class.Class.TheVariants as class
 use Rattle.row_ledger.specs.declared.event.Event.{Event}
-use Rattle.row_ledger.specs.declared.settings.Call.TheVariants as call
+use Rattle.row_ledger.specs.declared.settings.Call.{Call}
 use Rattle.volap_cell.specs.Setting.{Setting, site_in}
 use Rattle.volap_cell.specs.Values.{JobValue}
 use Rattle.volap_cell.specs.declared.command.Command.{Command}
@@ -22,23 +23,22 @@ use Rattle.volap_cell.specs.declared.role.Role.TheVariants.{Session, Admin}
 abbrev pub IsSessionOf : ℕ → Role → Type 0
 IsSessionOf server role = role ≡ Session server
 
+-- a call of this class began the command
+abbrev pub IsCalledAs : List Event → ℕ → Class → Type 0
+IsCalledAs h of class = (c : Call) × (call_at h of ≡ Some c) × (class_of c ≡ class)
+
 -- What began a command, and how far it has come. A job is there exactly for a split or a move whose shard, and worker, stood
 -- when it began; what is said of a balance stands with the jobs.
 abbrev pub IsProgress : Setting → List Event → ℕ → Work → Option JobValue → Role → Type 0
 IsProgress s h of (work_is.Insert row routed) job role = (server : ℕ) × IsSessionOf server role × (insert_at h of ≡ Some (record { server = server; row = row })) × (row.no ≡ of)
 IsProgress s h of work_is.Query job role = (q : Query) × IsSessionOf q.server role × (query_at h of ≡ Some q)
-IsProgress s h of (work_is.Sync server pulled) job role = (call_at h of ≡ Some (call.Sync server)) × (server < s.servers) × (pulled ≡ true → IsTrue (has_pulled h of server))
-IsProgress s h of work_is.Barrier job role = call_at h of ≡ Some call.Barrier
-IsProgress s h of (work_is.Settle pulls) job role = (call_at h of ≡ Some call.Settle) × (pulls ≤ s.servers + s.servers)
-IsProgress s h of (work_is.Split shard) job role =
-    (call_at h of ≡ Some (call.Split shard)) × (work h of ≡ []) × (is_some job ≡ is_known (site_in s) (before h of) (action.Split shard))
-IsProgress s h of (work_is.Move shard worker) job role =
-    (call_at h of ≡ Some (call.Move shard worker)) × (work h of ≡ []) × (is_some job ≡ is_known (site_in s) (before h of) (action.Move shard worker))
-IsProgress s h of (work_is.Balance b) job role = (call_at h of ≡ Some (call.Balance b.most)) × (role ≡ Admin)
-IsProgress s h of (work_is.Shards shown) job role = (call_at h of ≡ Some call.Shards) × (has_page h of ≡ shown)
-IsProgress s h of (work_is.Tree shard stands shown) job role =
-    (call_at h of ≡ Some (call.Tree shard)) × (has_page h of ≡ shown) × (is_live s.workers (before h of) shard ≡ stands) × (shown ≡ true → stands ≡ true)
-IsProgress s h of (work_is.Audit shown) job role = (call_at h of ≡ Some call.Audit) × (has_page h of ≡ shown)
+IsProgress s h of (work_is.Sync server pulled) job role = IsCalledAs h of (class.Sync server) × (server < s.servers) × (pulled ≡ true → IsTrue (has_pulled h of server))
+IsProgress s h of (work_is.Settle pulls) job role = IsCalledAs h of class.Settle × (pulls ≤ s.servers + s.servers)
+IsProgress s h of work_is.Bare job role = IsCalledAs h of class.Bare
+IsProgress s h of (work_is.Page subject there shown) job role =
+    IsCalledAs h of (class.Page subject) × (has_page h of ≡ shown) × (is_there s.workers (before h of) subject ≡ there) × (shown ≡ true → there ≡ true)
+IsProgress s h of (work_is.Action a) job role = IsCalledAs h of (class.Action a) × (work h of ≡ []) × (is_some job ≡ is_known (site_in s) (before h of) a)
+IsProgress s h of (work_is.Balance b) job role = IsCalledAs h of (class.Balance b.most) × (role ≡ Admin)
 
 -- a command has its end, or an actor is still at it
 abbrev pub IsOverOrOpen : List Event → (ℕ → Option Command) → ℕ → Type 0

@@ -54,8 +54,7 @@ begun job = record job { stage = IsCalled }
 
 -- the command asks for the job as its only action, or as the one that is next
 abbrev pub IsJobOf : Work → JobValue → Type 0
-IsJobOf (work_is.Split shard) job = action_of job ≡ action.Split shard
-IsJobOf (work_is.Move shard worker) job = action_of job ≡ action.Move shard worker
+IsJobOf (work_is.Action a) job = action_of job ≡ a
 IsJobOf (work_is.Balance b) job = next_job b ≡ Some (begun job)
 IsJobOf work job = ⊥
 

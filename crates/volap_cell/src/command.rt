@@ -1,5 +1,6 @@
 //! A command, and how far it has come.
 use dim_hierarchy::{Items, Row};
+use row_ledger::Subject;
 use shard_plan::{Action, Load};
 
 /// A command that an actor has begun and not ended.
@@ -10,7 +11,7 @@ pub struct Command {
     pub work: Work,
 }
 
-/// What a command is and how far it has come.
+/// What a command is, by its class, and how far it has come.
 #[derive(Drop)]
 pub enum Work {
     /// Its row, and whether a part for it was put on the desk.
@@ -24,34 +25,22 @@ pub enum Work {
         server: u8,
         pulled: bool,
     },
-    Barrier,
     /// How many pulls were made, of two for each server.
     Settle {
         pulls: u16,
     },
+    /// It does nothing, and ends at once.
+    Bare,
+    /// A page, whether what it is of was there when the command began, and whether it was shown.
+    Page {
+        subject: Subject,
+        there: bool,
+        shown: bool,
+    },
     /// A split or a move is at work as long as its actor has a job; without one its shard, or the worker
     /// that it was to go to, did not stand when it began.
-    Split {
-        shard: u32,
-    },
-    Move {
-        shard: u32,
-        worker: u8,
-    },
+    Action(Action),
     Balance(Balance),
-    /// Whether the page was shown.
-    Shards {
-        shown: bool,
-    },
-    /// Whether the shard stood when the command began, and whether the page was shown.
-    Tree {
-        shard: u32,
-        stands: bool,
-        shown: bool,
-    },
-    Audit {
-        shown: bool,
-    },
 }
 
 /// How far a balance has come.

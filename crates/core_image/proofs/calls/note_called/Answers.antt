@@ -7,6 +7,7 @@ use Rattle.volap_cell.proofs.Boxed.{same-box}
 use Rattle.volap_cell.proofs.Outcomes.{as-err}
 use Rattle.core_image.proofs.NotesCall.{called-makes}
 use Rattle.core_image.proofs.calls.note_called.Goals as goal
+use Rattle.core_image.specs.NotesDue.{work_alone}
 use Rattle.core_image.specs.Told.{called_by}
 use Rattle.core_image.proofs.Telling.{tells}
 
@@ -15,7 +16,7 @@ returns-clause-made c =
     called-makes c.args.h.now c.args.ledger_at c.args.call (cell_of c.args.ledger.now) (actor_of c.args.actor.now) c.requires.due
     c.deref_mut.result.now (ap cell_of c.in-Ledger.is ∙ ap LedgerCell (sym c.deref_mut.ensures.value)) c.push_called.new.ledger
     _ (c.len-of.ensures.value ∙ ap (λ (l : LedgerValue). length l.history) (c.deref.ensures ∙ sym c.deref_mut.ensures.value))
-    _ c.begun-work.ensures c.in_ok-push_called.ensures.ok _ (c.len-actor.ensures.value ∙ ap (λ (l : LedgerValue). length l.history) c.deref-2.ensures)
+    _ (c.begun-work.ensures ∙ ap work_alone c.class.ensures) c.in_ok-push_called.ensures.ok _ (c.len-actor.ensures.value ∙ ap (λ (l : LedgerValue). length l.history) c.deref-2.ensures)
 
 pub returns-clause-told : goal.returns-clause-told
 returns-clause-told c =

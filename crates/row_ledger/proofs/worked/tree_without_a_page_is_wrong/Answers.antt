@@ -3,6 +3,7 @@ use Rattle.std.proofs.lemmas.Bool.{false≢true}
 use Rattle.row_ledger.specs.declared.settings.Call.{Call}
 use Rattle.row_ledger.specs.declared.settings.Call.TheVariants.{Tree}
 use Rattle.row_ledger.specs.declared.settings.How.TheVariants.{Fine}
+use Rattle.row_ledger.specs.Classes.{class_of}
 use Rattle.row_ledger.specs.Right.{shows}
 use Rattle.row_ledger.proofs.worked.tree_without_a_page_is_wrong.Goals as goal
 
@@ -10,4 +11,4 @@ pub returns : goal.returns
 returns c right =
     let end = right.each.0 in
     let call : end.call ≡ Tree 0 = cc end.called in
-    false≢true (subst (λ (call : Call). false ≡ shows call Fine) call end.page)
+    false≢true (subst (λ (call : Call). false ≡ shows (class_of call) Fine) call end.page)

@@ -8,6 +8,7 @@ use Rattle.row_ledger.specs.declared.settings.How.TheVariants.{Balanced}
 use Rattle.row_ledger.specs.Past.{work, is_kept}
 use Rattle.row_ledger.specs.Site.{Site}
 use Rattle.row_ledger.specs.Work.{IsRightBalance, loads}
+use Rattle.row_ledger.specs.Classes.{class_of}
 use Rattle.row_ledger.specs.Right.{MayEnd}
 use Rattle.row_ledger.specs.Worked.{site}
 use Rattle.row_ledger.proofs.Elements.{Some-same, length-AllZip}
@@ -23,7 +24,7 @@ pub returns : goal.returns
 returns c right =
     let end = right.each.0 in
     let call : end.call ≡ Balance 4 = Some-same (Balance 4) end.call end.called in
-    let may : MayEnd site (is_kept balanced_without) (Moved 43 1 1 ∷ to_balance) 43 (Balance 4) (Balanced 1 2) =
-    subst (λ (call : Call). MayEnd site (is_kept balanced_without) (Moved 43 1 1 ∷ to_balance) 43 call (Balanced 1 2)) call end.may_end in
+    let may : MayEnd site (is_kept balanced_without) (Moved 43 1 1 ∷ to_balance) 43 (class_of (Balance 4)) (Balanced 1 2) =
+    subst (λ (call : Call). MayEnd site (is_kept balanced_without) (Moved 43 1 1 ∷ to_balance) 43 (class_of call) (Balanced 1 2)) call end.may_end in
     let one : ◌≡◌ {A = ℕ} 2 1 = as_many site (is_kept balanced_without) (Moved 43 1 1 ∷ to_balance) 43 4 1 2 may in
     omega arith

@@ -13,6 +13,7 @@ use Rattle.row_ledger.specs.declared.settings.Decline.TheVariants.{OnePlace}
 use Rattle.row_ledger.specs.declared.settings.How.TheVariants.{Declined}
 use Rattle.row_ledger.specs.Past.{is_kept}
 use Rattle.row_ledger.specs.Work.{AreOnePlace}
+use Rattle.row_ledger.specs.Classes.{class_of}
 use Rattle.row_ledger.specs.Right.{MayEnd}
 use Rattle.row_ledger.specs.Worked.{site, berlin, munich, in_city, row, box}
 use Rattle.row_ledger.specs.WorkedShards.{other, to_split, split_declined}
@@ -52,8 +53,8 @@ pub returns : goal.returns
 returns c right =
     let end = right.each.0 in
     let call : end.call ≡ Split 0 = cc end.called in
-    let may : MayEnd site (is_kept (split_declined OnePlace)) to_split 7 (Split 0) (Declined OnePlace) =
-    subst (λ (call : Call). MayEnd site (is_kept (split_declined OnePlace)) to_split 7 call (Declined OnePlace)) call end.may_end in
+    let may : MayEnd site (is_kept (split_declined OnePlace)) to_split 7 (class_of (Split 0)) (Declined OnePlace) =
+    subst (λ (call : Call). MayEnd site (is_kept (split_declined OnePlace)) to_split 7 (class_of call) (Declined OnePlace)) call end.may_end in
     let decline = may.2 in
     let has_other : Contains decline.rows other = decline.read.came 0 (record { server = 0; row = other; path = 0 ∷ [] }) (omega arith) in
     let has_row : Contains decline.rows row = decline.read.came 1 (record { server = 0; row = row; path = 0 ∷ [] }) (omega arith) in

@@ -1,3 +1,4 @@
+use Rattle.seeded_run.specs.Order.{is_order}
 use Rattle.seeded_run.specs.Phase.{EndsBehindAny, StopsBehindAny}
 use Rattle.seeded_run.proofs.WholePhases.{may-behind, on-fault, on-one}
 use Rattle.seeded_run.proofs.phase.run_phase.Goals as goal
@@ -9,7 +10,7 @@ pub run_commands-requires-clause-idle : goal.run_commands-requires-clause-idle
 run_commands-requires-clause-idle c = c.requires.between.idle
 
 pub returns-clause-between : goal.returns-clause-between
-returns-clause-between c = on-one c.run_commands.result _ _ (λ (ends : EndsBehindAny _ _ _ _ _ _). ends c.args.done.now c.requires.between) c.run_commands.ensures.behind
+returns-clause-between c = on-one c.run_commands.result _ _ (λ (ends : EndsBehindAny (is_order c.args.schedule.now) c.args.h.now c.args.with.now c.args.phase.now c.args.state.now c.run_commands.new.state). ends c.args.done.now c.requires.between) c.run_commands.ensures.behind
 
 pub returns-clause-into : goal.returns-clause-into
-returns-clause-into c = on-fault c.run_commands.result _ _ (λ (stops : StopsBehindAny _ _ _ _ _ _). stops c.args.done.now c.requires.between) c.run_commands.ensures.into
+returns-clause-into c = on-fault c.run_commands.result _ _ (λ (stops : StopsBehindAny (is_order c.args.schedule.now) c.args.h.now c.args.with.now c.args.phase.now c.args.state.now c.run_commands.new.state). stops c.args.done.now c.requires.between) c.run_commands.ensures.into

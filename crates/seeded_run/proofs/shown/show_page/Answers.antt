@@ -1,6 +1,6 @@
 use Rattle.std.proofs.Common.{◌∙◌, subst, sym}
 use Rattle.seeded_run.specs.Shown.{HasPageOf}
-use Rattle.seeded_run.specs.declared.shown.Subject.{Subject}
+use Rattle.row_ledger.specs.declared.class.Subject.{Subject}
 use Rattle.seeded_run.proofs.shown.show_page.Goals as goal
 
 pub show_tree-requires-clause-shows : goal.show_tree-requires-clause-shows

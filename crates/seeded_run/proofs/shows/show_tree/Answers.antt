@@ -5,19 +5,19 @@ use Rattle.seeded_run.proofs.shows.show_tree.Goals as goal
 
 pub tree_page_at-requires-clause-can : goal.tree_page_at-requires-clause-can
 tree_page_at-requires-clause-can c =
-    can-see-in c.args.h.now c.args.with.now c.args.state.now.cells.items c.args.state.now.actors.items c.requires.core c.args.number c.requires.within c.requires.due c.tree_shard-shard.result c.tree_shard-shard.ensures c.standing_gate-gate.result c.ledger_place-ledger.result (gate-so c.args.with.now c.deref.result.now c.args.state.now.cells.items c.tree_shard-shard.result c.standing_gate-gate.result c.deref.ensures.value c.standing_gate-gate.ensures) c.ledger_place-ledger.ensures
+    can-see-in c.args.h.now c.args.with.now c.args.state.now.cells.items c.args.state.now.actors.items c.requires.core c.args.number c.requires.within c.requires.due c.args.shard c.requires.shows c.standing_gate-gate.result c.ledger_place-ledger.result (gate-so c.args.with.now c.deref.result.now c.args.state.now.cells.items c.args.shard c.standing_gate-gate.result c.deref.ensures.value c.standing_gate-gate.ensures) c.ledger_place-ledger.ensures
 
 pub note_shown-requires-clause-ready : goal.note_shown-requires-clause-ready
 note_shown-requires-clause-ready c =
-    shown-ready c.args.h.now c.args.with.now c.args.state.now.cells.items c.args.state.now.actors.items c.requires.core c.args.number c.requires.within c.requires.due c.tree_shard-shard.result c.tree_shard-shard.ensures c.standing_gate-gate.result c.ledger_place-ledger.result (gate-so c.args.with.now c.deref.result.now c.args.state.now.cells.items c.tree_shard-shard.result c.standing_gate-gate.result c.deref.ensures.value c.standing_gate-gate.ensures) c.ledger_place-ledger.ensures c.in-Ok.page c.in-Ok.ensures.shard
+    shown-ready c.args.h.now c.args.with.now c.args.state.now.cells.items c.args.state.now.actors.items c.requires.core c.args.number c.requires.within c.requires.due c.args.shard c.requires.shows c.standing_gate-gate.result c.ledger_place-ledger.result (gate-so c.args.with.now c.deref.result.now c.args.state.now.cells.items c.args.shard c.standing_gate-gate.result c.deref.ensures.value c.standing_gate-gate.ensures) c.ledger_place-ledger.ensures c.in-Ok.page c.in-Ok.ensures.shard
 
 pub note_shown-requires-clause-seen : goal.note_shown-requires-clause-seen
 note_shown-requires-clause-seen c =
-    seen-so c.args.h.now c.args.with.now c.args.state.now.cells.items c.args.state.now.actors.items c.requires.core c.args.number c.requires.within c.requires.due c.tree_shard-shard.result c.tree_shard-shard.ensures c.standing_gate-gate.result c.ledger_place-ledger.result (gate-so c.args.with.now c.deref.result.now c.args.state.now.cells.items c.tree_shard-shard.result c.standing_gate-gate.result c.deref.ensures.value c.standing_gate-gate.ensures) c.ledger_place-ledger.ensures c.in-Ok.page c.in-Ok.ensures.page
+    seen-so c.args.h.now c.args.with.now c.args.state.now.cells.items c.args.state.now.actors.items c.requires.core c.args.number c.requires.within c.requires.due c.args.shard c.requires.shows c.standing_gate-gate.result c.ledger_place-ledger.result (gate-so c.args.with.now c.deref.result.now c.args.state.now.cells.items c.args.shard c.standing_gate-gate.result c.deref.ensures.value c.standing_gate-gate.ensures) c.ledger_place-ledger.ensures c.in-Ok.page c.in-Ok.ensures.page
 
 pub note_ended-requires-clause-ready : goal.note_ended-requires-clause-ready
 note_ended-requires-clause-ready c =
-    ended-ready c.args.h.now c.args.with.now c.args.state.now.cells.items c.args.state.now.actors.items c.requires.core c.args.number c.requires.within c.requires.due c.tree_shard-shard.result c.tree_shard-shard.ensures c.standing_gate-gate.result c.ledger_place-ledger.result (gate-so c.args.with.now c.deref.result.now c.args.state.now.cells.items c.tree_shard-shard.result c.standing_gate-gate.result c.deref.ensures.value c.standing_gate-gate.ensures) c.ledger_place-ledger.ensures
+    ended-ready c.args.h.now c.args.with.now c.args.state.now.cells.items c.args.state.now.actors.items c.requires.core c.args.number c.requires.within c.requires.due c.args.shard c.requires.shows c.standing_gate-gate.result c.ledger_place-ledger.result (gate-so c.args.with.now c.deref.result.now c.args.state.now.cells.items c.args.shard c.standing_gate-gate.result c.deref.ensures.value c.standing_gate-gate.ensures) c.ledger_place-ledger.ensures
 
 pub returns-in-Ok : goal.returns-in-Ok
 returns-in-Ok c =

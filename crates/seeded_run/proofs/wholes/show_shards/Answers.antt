@@ -1,25 +1,26 @@
-use Rattle.std.proofs.Common.{false, refl}
+use Rattle.std.proofs.Common.{true, false, refl}
 use Rattle.row_ledger.specs.declared.page.Page.TheVariants.{Shards}
+use Rattle.row_ledger.specs.declared.class.Subject.TheVariants as subject
 use Rattle.volap_cell.specs.declared.command.Work.TheVariants as work_is
 use Rattle.seeded_run.proofs.Afterwards.{noted-step}
-use Rattle.seeded_run.proofs.WholesReady.{ended-ready, quiet-in, seen-so, shards-page, shown-ready}
+use Rattle.seeded_run.proofs.WholesReady.{ended-ready, quiet-in, seen-so, shown-ready, subject-page}
 use Rattle.seeded_run.proofs.ShowsReady.{tells-page}
 use Rattle.seeded_run.proofs.wholes.show_shards.Goals as goal
 
 pub shards_page-requires-clause-quiet : goal.shards_page-requires-clause-quiet
-shards_page-requires-clause-quiet c = quiet-in c.args.h.now c.args.with.now c.args.state.now.cells.items c.args.state.now.actors.items c.requires.core c.args.number c.requires.within c.requires.due (work_is.Shards false) shards-page c.requires.shows
+shards_page-requires-clause-quiet c = quiet-in c.args.h.now c.args.with.now c.args.state.now.cells.items c.args.state.now.actors.items c.requires.core c.args.number c.requires.within c.requires.due (work_is.Page subject.Shards true false) (subject-page subject.Shards) c.requires.shows
 
 pub note_shown-requires-clause-ready : goal.note_shown-requires-clause-ready
 note_shown-requires-clause-ready c =
-    shown-ready c.args.h.now c.args.with.now c.args.state.now.cells.items c.args.state.now.actors.items c.requires.core c.args.number c.requires.within c.requires.due (work_is.Shards false) shards-page c.requires.shows c.ledger_place-ledger.result c.ledger_place-ledger.ensures (Shards c.in-Ok.lines) tt
+    shown-ready c.args.h.now c.args.with.now c.args.state.now.cells.items c.args.state.now.actors.items c.requires.core c.args.number c.requires.within c.requires.due (work_is.Page subject.Shards true false) (subject-page subject.Shards) c.requires.shows c.ledger_place-ledger.result c.ledger_place-ledger.ensures (Shards c.in-Ok.lines) tt
 
 pub note_shown-requires-clause-seen : goal.note_shown-requires-clause-seen
 note_shown-requires-clause-seen c =
-    seen-so c.args.h.now c.args.with.now c.args.state.now.cells.items c.args.state.now.actors.items c.requires.core c.args.number c.requires.within c.requires.due (work_is.Shards false) shards-page c.requires.shows (Shards c.in-Ok.lines) c.in-Ok.ensures.page
+    seen-so c.args.h.now c.args.with.now c.args.state.now.cells.items c.args.state.now.actors.items c.requires.core c.args.number c.requires.within c.requires.due (work_is.Page subject.Shards true false) (subject-page subject.Shards) c.requires.shows (Shards c.in-Ok.lines) c.in-Ok.ensures.page
 
 pub note_ended-requires-clause-ready : goal.note_ended-requires-clause-ready
 note_ended-requires-clause-ready c =
-    ended-ready c.args.h.now c.args.with.now c.args.state.now.cells.items c.args.state.now.actors.items c.requires.core c.args.number c.requires.within c.requires.due (work_is.Shards false) shards-page c.requires.shows c.ledger_place-ledger.result c.ledger_place-ledger.ensures (λ servers job. refl)
+    ended-ready c.args.h.now c.args.with.now c.args.state.now.cells.items c.args.state.now.actors.items c.requires.core c.args.number c.requires.within c.requires.due (work_is.Page subject.Shards true false) (subject-page subject.Shards) c.requires.shows c.ledger_place-ledger.result c.ledger_place-ledger.ensures (λ servers job. refl)
 
 pub returns-in-Ok : goal.returns-in-Ok
 returns-in-Ok c =
