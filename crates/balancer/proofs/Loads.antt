@@ -1,7 +1,7 @@
 -- Loops over loads.
-use Rattle.std.proofs.Common.{◌≡◌, ℕ, ◌+◌, ◌<◌, ◌≤◌, Bool, true, false, not, cond, List, [], ◌∷◌, ◌++◌, length, take, drop, get_or, set, append-nil, sum_by, filter, ◌==◌, refl, sym, ap, ◌∙◌, arith}
+use Rattle.std.proofs.Common.{◌≡◌, ℕ, ◌+◌, ◌<◌, ◌≤◌, Bool, true, false, not, cond, List, [], ◌∷◌, ◌++◌, length, take, drop, get_or, set, sum_by, filter, ◌==◌, refl, sym, ap, ◌∙◌, arith}
 use Rattle.std.proofs.lemmas.Bool.{eq-eqb, ne_eqb}
-use Rattle.std.proofs.lemmas.List.{get_or_default, take_all, drop_all}
+use Rattle.std.proofs.lemmas.List.{get_or_default}
 use Rattle.std.proofs.lemmas.List.Edits.{map_over_more}
 use Rattle.std.proofs.lemmas.List.Filters.{sum_by-filter_both}
 use Rattle.std.proofs.lemmas.List.Sums.{sum_by-cons, sum_by_more_le}
@@ -53,8 +53,3 @@ pub after_move-elsewhere : (xs ys : List Load) (i shard worker : ℕ) (d : Load)
 after_move-elsewhere xs ys i shard worker d within within_ys before other =
     ap (λ b. set ys i (cond b (record (get_or ys i d) { worker = worker }) (get_or ys i d))) (sym (ne_eqb (get_or ys i d).shard shard other))
     ∙ after_move-more xs ys i shard worker d within within_ys before
-
--- all items were written back
-pub written : (loads now : List Load) (n : ℕ) → n ≡ length loads → length now ≡ length loads → take n (now ++ drop (length now) loads) ≡ now
-written loads now n all same =
-    ap (λ rest. take n (now ++ rest)) (drop_all (length now) loads (omega arith)) ∙ ap (take n) (append-nil now) ∙ take_all n now (omega arith)

@@ -1,5 +1,5 @@
 -- A plan turn by turn.
-use Rattle.std.proofs.Common.{◌≡◌, ℕ, suc, ◌+◌, ◌-◌, ◌<◌, ◌≤◌, filter, ◌==◌, sym, ap, ◌∙◌, arith, append-nil, append_assoc, Bool, true, false, cond, nat_le, List, [], ◌∷◌, ◌++◌, Option, Some, None, refl}
+use Rattle.std.proofs.Common.{◌≡◌, ℕ, suc, ◌+◌, ◌-◌, ◌<◌, filter, ◌==◌, sym, ap, ◌∙◌, arith, append-nil, append_assoc, Bool, true, false, cond, nat_le, List, [], ◌∷◌, ◌++◌, Option, Some, None, refl}
 use Rattle.std.specs.Option.{option_map_or}
 use Rattle.std.proofs.lemmas.Bool.{lt-leb}
 use Rattle.shard_plan.specs.declared.action.Load.{Load}

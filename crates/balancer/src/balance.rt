@@ -1,5 +1,5 @@
 //! The plan of a balance, action by action.
-ghost use Rattle.std.specs.Prelude.{◌≡◌, ◌^◌, ◌<◌, IfOk};
+ghost use Rattle.std.specs.Prelude.{◌≡◌, ◌^◌, ◌<◌, ◌≤◌, [], IfOk, vec_capacity};
 ghost use Rattle.shard_plan.specs.Balancing.{plan, after_move};
 ghost use Rattle.balancer.specs.Turn.{next_action, split_of, rows_of_all};
 
@@ -14,26 +14,36 @@ const EVEN_GAP: u64 = 32;
 /// The fewest rows of a shard that is split.
 const SPLIT_ROWS: u64 = 64;
 
-/// The plan of a balance for at most `n` actions.
-///
-/// The loads are gone over a few times for each worker and action, and copied once.
+/// The plan of a balance for at most `n` actions. Takes memory for a copy of the loads and for the actions.
 pub fn plan(alloc: Global, loads: &[Load], workers: u8, n: u8) -> Result<Vec<Action>, AllocError>
     requires { rows_of_all loads.now < 2 ^ 63 }
     ensures { IfOk result (λ actions. actions.items ≡ plan loads.now workers n) }
 {
     let mut standing = Vec::from_slice(alloc, loads)?;
-    let mut actions = Vec::new(alloc);
+    let mut actions = Vec::with_capacity(alloc, usize::from(n))?;
+    plan_into(standing.as_mut_slice(), &mut actions, workers, n);
+    Ok(actions)
+}
+
+/// Plans at most `n` actions into an empty list that has room for them. The loads are gone over a few times
+/// for each worker and action, and stand then where the plan moves them. Takes no memory.
+pub fn plan_into(standing: &mut [Load], actions: &mut Vec<Action>, workers: u8, n: u8)
+    requires rows { rows_of_all standing.old < 2 ^ 63 }
+    requires none { actions.old.items ≡ [] }
+    requires room { n ≤ vec_capacity actions.old }
+    ensures { actions.new.items ≡ plan standing.old workers n }
+{
     for _turn in 0..n {
-        let Some(action) = next_action(&standing, workers) else {
-            return Ok(actions);
+        let Some(action) = next_action(standing, workers) else {
+            return;
         };
-        actions.push(action)?;
+        let pushed = actions.push(action);
+        prove!(pushed.is_ok());
         match action {
-            Action::Move { shard, worker } => move_shard(&mut standing, shard, worker),
-            Action::Split { .. } => return Ok(actions),
+            Action::Move { shard, worker } => move_shard(standing, shard, worker),
+            Action::Split { .. } => return,
         }
     }
-    Ok(actions)
 }
 
 /// What is planned first, or nothing where the loads are even enough or no shard can make them so.

@@ -5,5 +5,5 @@ mod balance;
 mod shards;
 mod workers;
 
-pub use balance::{move_shard, plan};
+pub use balance::{move_shard, plan, plan_into};
 pub use shard_plan::{Action, Load};

@@ -145,6 +145,8 @@ module _ (gates : GateLaw) (hs : List Dimension) (workers map_at : ℕ) (cell : 
         record {
           load = due.load;
           load_at = due.load_at;
+          unplanned = none;
+          standing = (bal.still none).4;
           few = omega (arith, many);
           few_rows = λ all. rows-fit s v g i _ due.of _ (balancing-read s v.history g.placed g.home due.of due.balance (v.jobs here.number) bal due.load due.load_at (rows_at x) (reading-of gates s w g i due.load led.0 x there-is) refl (is-reading gates s w g i due.load led.0 x there-is due.of) i.numbering.setting.workers)
               (all ∙ sym len) le;

@@ -14,7 +14,7 @@ use Rattle.shard_plan.specs.Balancing.{plan}
 use Rattle.shard_plan.specs.declared.action.Action.{Action}
 use Rattle.shard_plan.specs.declared.action.Action.TheVariants as action
 use Rattle.shard_plan.specs.declared.action.Load.{Load}
-use Rattle.tree_shape.proofs.Walks.{on_bool, eqb-eq}
+use Rattle.tree_shape.proofs.Walks.{on_bool, eqb-eq, eqb-ne}
 use Rattle.volap_cell.specs.Planning.{has_load, job_for, next_job, worker_among}
 use Rattle.volap_cell.specs.Setting.{Setting, site_in}
 use Rattle.volap_cell.specs.Values.{JobValue, IsCalled}
@@ -125,6 +125,12 @@ module _ (s : Setting) (h : List Event) (placed : ℕ → Bool) (home : ℕ → 
           ahead = subst (λ (k : ℕ). All (IsAhead s h now) (drop k actions)) (sym none) (subst (All (IsAhead s h now)) same all-ahead);
         }
 
+    -- while nothing is planned there is a load to read
+    unread : next.plan ≡ None → b.read + 1 < length now
+    unread is = on_bool ((b.read + 1) == length now)
+        (λ q. let never : ◌≡◌ {A = Option (List Action)} (Some planning) None = sym (ap (λ (t : Bool). if t then Some planning else None) q) ∙ is in absurd (cc))
+        (λ q. let other = eqb-ne (b.read + 1) (length now) q in let lt = within in let len = same-length in omega (arith, other, lt, len))
+
     pub balancing-read : IsBalancing s h placed home (next_job next) of next
     balancing-read = record {
       places = same-places ∙ bal.places;
@@ -132,7 +138,7 @@ module _ (s : Setting) (h : List Event) (placed : ℕ → Bool) (home : ℕ → 
       loads = map-append (λ (r : Reading). r.load) bal.readings (reading ∷ []) ∙ (λ k. bal.loads k ++ is_load k ∷ []) ∙ sym (take_more_set b.loads b.read new_load within);
       each = All-append (IsReadLoad s h placed home of) bal.readings (reading ∷ []) bal.each (All-cons (IsReadLoad s h placed home of) reading [] read_load (All-nil (IsReadLoad s h placed home of)));
       read = (let lt = within in let len = same-length in omega (arith, lt, len));
-      still = λ p. let nothing = bal.still unplanned in (nothing.0, nothing.1, nothing.2, nothing.3, refl);
+      still = λ p. let nothing = bal.still unplanned in (nothing.0, nothing.1, nothing.2, nothing.3, refl, unread p);
       planned = is-planned;
       from = λ x live.
           let was = list_any-from_Any (λ (l : Load). comes_from h l.shard x) b.loads (bal.from x live) in

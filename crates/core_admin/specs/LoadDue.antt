@@ -41,10 +41,12 @@ loads_read b load rows = slice_set b.loads b.read (record load { rows = rows })
 abbrev pub plan_once : List Load → ℕ → ℕ → ℕ → Option (List Action)
 plan_once loads read workers most = if read == length loads then Some (plan loads workers most) else None
 
--- the balance has a load to read, and there are few loads, with few rows
+-- the balance has a load to read, has planned nothing and moved no shard, and there are few loads, with few rows
 pub record CanNote (b : Balance) (rows : ℕ) : Type 0 where
   pub load : Load
   pub load_at : slice_get b.loads b.read ≡ Some load
+  pub unplanned : b.plan ≡ None
+  pub standing : b.standing ≡ b.loads
   pub few : length b.loads < 2 ^ 32
   pub few_rows : b.read + 1 ≡ length b.loads → rows_of_all (loads_read b load rows) < 2 ^ 63
 

@@ -1,28 +1,30 @@
 //! The step that reads the next load of a balance, and plans behind the last one.
-ghost use Rattle.std.specs.Prelude.{◌≡◌, ◌<◌, ◌^◌, [], ◌∷◌, Some, length, slice_get, slice_set, option_map, option_and_then, OnOk, OnErr, IfOk};
+ghost use Rattle.std.specs.Prelude.{◌≡◌, ◌<◌, ◌≤◌, ◌^◌, [], ◌∷◌, None, Some, length, slice_get, slice_set, option_map, vec_capacity};
 ghost use Rattle.balancer.specs.Turn.{rows_of_all};
-ghost use Rattle.core_admin.specs.LoadDue.{CanNote, CanRead, CanReadLoad, HasFewRows, NotesLoad, ReadsIn, plan_once};
+ghost use Rattle.core_admin.specs.LoadDue.{CanNote, CanRead, CanReadLoad, HasFewRows, NotesLoad, ReadsIn};
+ghost use Rattle.shard_plan.specs.Balancing.{plan};
 ghost use Rattle.shard_plan.specs.declared.action.Load.{Load};
 ghost use Rattle.shard_store.specs.declared.gate.Gate.{Gate};
 ghost use Rattle.volap_cell.specs.AdminKinds.{rows_at};
 ghost use Rattle.volap_cell.specs.Cells.{GateCell, cell_of};
-ghost use Rattle.volap_cell.specs.Planning.{job_for, worker_among};
+ghost use Rattle.volap_cell.specs.Planning.{job_for, next_job, worker_among};
 ghost use Rattle.volap_cell.specs.Steps.{IsHere, Makes};
 ghost use Rattle.volap_cell.specs.Values.{actor_of, job_of};
 ghost use Rattle.volap_cell.specs.World.{change, held};
 ghost use Rattle.volap_cell.specs.declared.kind.Kind.TheVariants.{LookUp};
 
-use balancer::plan;
+use balancer::plan_into;
 use dim_hierarchy::{Hierarchy, Items};
 use shard_plan::{Action, Load};
-use std::alloc::{AllocError, Global};
+use std::alloc::Global;
+use std::mem;
 use tree_shape::tree_laws;
-use volap_cell::{Actor, Balance, Cell, Command, Job, Stage, Work};
+use volap_cell::{ActionPlan, Actor, Balance, Cell, Command, Job, Stage, Work};
 
 /// Reads the next load of the actor's balance: the rows of tree and queue of the gate, to which the table of
 /// the load's worker leads. After the last load the actions are planned, for so many workers, and the job of
-/// the first one begins. Takes memory for the loads as they are then, for the plan and for the job; the cells
-/// stay as they are.
+/// the first one begins, in the room and the box that were taken when the balance began. Takes no memory; the
+/// allocator is that of the lists.
 pub fn read_load(
     alloc: Global,
     h: &Hierarchy,
@@ -32,13 +34,12 @@ pub fn read_load(
     gate: &mut Cell,
     actor: &mut Actor,
     workers: u8,
-) -> Result<(), AllocError>
+)
     requires here { IsHere h.now (held map_at (cell_of map.old) ∷ held gate_at (cell_of gate.old) ∷ []) (actor_of actor.old) }
     requires due { CanReadLoad workers (cell_of map.old) gate_at (actor_of actor.old) }
-    ensures made { OnOk result (Makes h.now LookUp
+    ensures made { Makes h.now LookUp
         (change map_at (cell_of map.old) (cell_of map.new) ∷ change gate_at (cell_of gate.old) (cell_of gate.new) ∷ [])
-        (actor_of actor.old) (actor_of actor.new)) }
-    ensures refused { OnErr result ((map.new ≡ map.old) × (gate.new ≡ gate.old) × (actor_of actor.new ≡ actor_of actor.old)) }
+        (actor_of actor.old) (actor_of actor.new) }
 {
     let _ = h;
     let _ = map_at;
@@ -49,9 +50,7 @@ pub fn read_load(
     let Some(command) = &mut actor.command else {
         unreachable!()
     };
-    let first = read_in(alloc, command, rows, workers)?;
-    actor.job = first;
-    Ok(())
+    actor.job = read_in(alloc, command, rows, workers);
 }
 
 /// How many rows the gate in a cell has in its tree and its queue.
@@ -67,15 +66,9 @@ fn rows_in(cell: &Cell) -> u64
 
 /// Reads the next load of a command that is a balance, and gives the job of its first action, where that is
 /// planned then.
-fn read_in(
-    alloc: Global,
-    command: &mut Command,
-    rows: u64,
-    workers: u8,
-) -> Result<Option<Box<Job>>, AllocError>
+fn read_in(alloc: Global, command: &mut Command, rows: u64, workers: u8) -> Option<Box<Job>>
     requires due { CanRead command.old rows }
-    ensures made { IfOk result (λ job. ReadsIn command.old rows workers command.new (option_map (λ j. job_of j.value) job)) }
-    ensures refused { OnErr result (command.new ≡ command.old) }
+    ensures { ReadsIn command.old rows workers command.new (option_map (λ j. job_of j.value) result) }
 {
     let Work::Balance(balance) = &mut command.work else {
         unreachable!()
@@ -83,87 +76,89 @@ fn read_in(
     note_load(alloc, balance, rows, workers)
 }
 
-/// Notes the rows of a balance's next load, and plans its actions behind the last one. The lists are made
-/// anew first, so that the balance stays as it was where memory is wanting.
-fn note_load(
-    alloc: Global,
-    balance: &mut Balance,
-    rows: u64,
-    workers: u8,
-) -> Result<Option<Box<Job>>, AllocError>
+/// Notes the rows of a balance's next load, and plans its actions behind the last one.
+fn note_load(alloc: Global, balance: &mut Balance, rows: u64, workers: u8) -> Option<Box<Job>>
     requires due { CanNote balance.old rows }
-    ensures made { IfOk result (λ job. NotesLoad balance.old rows workers balance.new (option_map (λ j. job_of j.value) job)) }
-    ensures refused { OnErr result (balance.new ≡ balance.old) }
+    ensures { NotesLoad balance.old rows workers balance.new (option_map (λ j. job_of j.value) result) }
 {
-    let loads = with_rows(alloc, balance.loads.as_slice(), balance.read, rows)?;
-    let standing = with_rows(alloc, balance.loads.as_slice(), balance.read, rows)?;
-    let read = balance.read + 1;
-    let planned = plan_if(alloc, loads.as_slice(), read, workers, balance.most)?;
-    let job = first_job(alloc, loads.as_slice(), &planned, balance.over)?;
-    balance.loads = loads;
-    balance.standing = standing;
-    balance.read = read;
-    balance.plan = planned;
-    Ok(job)
+    set_rows(alloc, &mut balance.loads, balance.read, rows);
+    set_rows(alloc, &mut balance.standing, balance.read, rows);
+    balance.read += 1;
+    if balance.read as usize != balance.loads.len() {
+        return None;
+    }
+    plan_actions(alloc, balance, workers)
 }
 
-/// The same loads, one of them with so many rows. Takes memory for all of them.
-fn with_rows(alloc: Global, loads: &[Load], at: u32, rows: u64) -> Result<Items<Load>, AllocError>
-    requires within { at < length loads.now }
-    ensures { IfOk result (λ now. (load : Load) → slice_get loads.now at ≡ Some load → now ≡ slice_set loads.now at (record load { rows = rows })) }
+/// Sets the rows of one of the loads. The list is empty in between, which takes no memory.
+fn set_rows(alloc: Global, loads: &mut Items<Load>, at: u32, rows: u64)
+    requires within { at < length loads.old }
+    ensures { (load : Load) → slice_get loads.old at ≡ Some load → loads.new ≡ slice_set loads.old at (record load { rows = rows }) }
 {
-    let mut now = Vec::from_slice(alloc, loads)?;
-    let load = loads[at as usize];
+    let mut now = mem::replace(loads, Items::new(alloc)).into_vec();
+    let load = now[at as usize];
     now[at as usize] = Load {
         shard: load.shard,
         worker: load.worker,
         rows,
     };
-    Ok(Items::from_vec(now))
+    *loads = Items::from_vec(now);
 }
 
-/// The plan of at most so many actions, once all loads are read; none before that.
-fn plan_if(
+/// Plans the actions of a balance whose loads are read, in the room that it has for them, and gives the job of
+/// the first one, in its box.
+fn plan_actions(alloc: Global, balance: &mut Balance, workers: u8) -> Option<Box<Job>>
+    requires none { balance.old.plan ≡ None }
+    requires same { balance.old.standing ≡ balance.old.loads }
+    requires few { rows_of_all balance.old.loads < 2 ^ 63 }
+    ensures plan { balance.new ≡ record balance.old { plan = Some (plan balance.old.loads workers balance.old.most) } }
+    ensures job { option_map (λ j. job_of j.value) result ≡ next_job balance.new }
+{
+    let unmade = mem::replace(&mut balance.plan, ActionPlan::from_vec(Vec::new(alloc)));
+    let (mut actions, first) = unmade.into_room();
+    let loads = balance.loads.as_slice();
+    plan_among(
+        alloc,
+        loads,
+        &mut balance.standing,
+        &mut actions,
+        workers,
+        balance.most,
+    );
+    balance.plan = ActionPlan::from_vec(actions);
+    first_job(first, balance)
+}
+
+/// Plans at most so many actions for these loads into an empty list with room for them. The second list of
+/// the same loads is lent for that, and is as it was behind it.
+fn plan_among(
     alloc: Global,
     loads: &[Load],
-    read: u32,
+    standing: &mut Items<Load>,
+    actions: &mut Vec<Action>,
     workers: u8,
     most: u8,
-) -> Result<Option<Items<Action>>, AllocError>
-    requires few { read ≡ length loads.now → rows_of_all loads.now < 2 ^ 63 }
-    ensures { IfOk result (λ planned. planned ≡ plan_once loads.now read workers most) }
+)
+    requires same { standing.old ≡ loads.now }
+    requires few { rows_of_all loads.now < 2 ^ 63 }
+    requires none { actions.old.items ≡ [] }
+    requires room { most ≤ vec_capacity actions.old }
+    ensures plan { actions.new.items ≡ plan loads.now workers most }
+    ensures same { standing.new ≡ loads.now }
 {
-    if read as usize != loads.len() {
-        return Ok(None);
-    }
-    let actions = plan(alloc, loads, workers, most)?;
-    Ok(Some(Items::from_vec(actions)))
+    let mut moved = mem::replace(standing, Items::new(alloc)).into_vec();
+    plan_into(moved.as_mut_slice(), actions, workers, most);
+    moved.as_mut_slice().copy_from_slice(loads);
+    *standing = Items::from_vec(moved);
 }
 
-/// The job of the action that is next of those that are planned, by where the shards stand. Takes memory for
-/// it, if there is one.
-fn first_job(
-    alloc: Global,
-    standing: &[Load],
-    planned: &Option<Items<Action>>,
-    over: u8,
-) -> Result<Option<Box<Job>>, AllocError>
-    ensures { IfOk result (λ job. option_map (λ j. job_of j.value) job ≡ option_map (job_for standing.now) (option_and_then (λ actions. slice_get actions over) planned.now)) }
+/// The job of the action that a balance is at, if there is one, in this box.
+fn first_job(mut first: Box<Job>, balance: &Balance) -> Option<Box<Job>>
+    ensures { option_map (λ j. job_of j.value) result ≡ next_job balance.now }
 {
-    match action_at(planned, over) {
-        None => Ok(None),
-        Some(action) => Ok(Some(Box::new(alloc, job_of_action(standing, action))?)),
-    }
-}
-
-/// The action behind so many of those that are planned, if there is one.
-fn action_at(planned: &Option<Items<Action>>, over: u8) -> Option<Action>
-    ensures { result ≡ option_and_then (λ actions. slice_get actions over) planned.now }
-{
-    match planned {
-        None => None,
-        Some(actions) => actions.as_slice().get(usize::from(over)).copied(),
-    }
+    let action = balance.plan.get(balance.over)?;
+    *first = job_of_action(balance.standing.as_slice(), action);
+    Some(first)
 }
 
 /// The job of an action, at its beginning.

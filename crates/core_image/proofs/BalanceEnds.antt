@@ -167,7 +167,7 @@ module _ (s : Setting) (v : View) (g : Ghost) (i : InvWith s v g) (n of : ℕ) (
       let few = (planned actions plan_is over).few in
       as-ending (how_is.Balanced done planned_) (right-balance actions plan_is over done planned_ done_is planned_is) (none-next actions plan_is over) (omega (arith, over, few))
   balance-ends how_is.NoMemory ends =
-      let (stays, none, over, done, standing) = bal.still ends in
+      let (stays, none, over, done, standing, unread) = bal.still ends in
       as-ending how_is.NoMemory none
       (ap (λ (p : Option (List Action)). is_some (option_map (job_for b.standing) (option_and_then (λ (xs : List Action). slice_get xs b.over) p))) ends)
       (omega (arith, over))

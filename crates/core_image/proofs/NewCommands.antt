@@ -243,7 +243,7 @@ module _ (s : Setting) (v : View) (g : Ghost) (i : InvWith s v g) (number : ℕ)
       loads = ap (λ (n : ℕ). take n b.loads) (sym new.read);
       each = All-nil (IsReadLoad s (calls ∷ h) g.placed g.home of);
       read = (let none = new.read in omega (arith, none));
-      still = λ unplanned. (stays.frontier ∙ ap (frontier s.workers) (sym (past call)), workless call, new.over, new.done, new.standing);
+      still = λ unplanned. (stays.frontier ∙ ap (frontier s.workers) (sym (past call)), workless call, new.over, new.done, new.standing, (let none = new.read in let some = new.some in omega (arith, none, some)));
       planned = λ actions is. let never : ◌≡◌ {A = Option (List Action)} None (Some actions) = sym new.plan ∙ is in absurd (cc);
       from = λ x live.
           let has : on_frontier x r ≡ true = stands-live s.workers h r its-front x ∙ sym (live-stays s.workers calls h stays x) ∙ live in

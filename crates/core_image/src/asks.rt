@@ -16,12 +16,12 @@ use row_ledger::{Call, Class, Subject};
 use server_image::Registry;
 use shard_plan::{Action, Load};
 use std::alloc::{AllocError, Global};
-use volap_cell::{Actor, Balance, Cell, Command, Job, Stage, Work};
+use volap_cell::{ActionPlan, Actor, Balance, Cell, Command, Job, Stage, Work};
 
 /// Begins a command that asks the registry what stands: a split, a move, a balance, or the page of
 /// a tree. A split or a move has its job with it where its shard stands, and the worker to which it
-/// moves is one of so many. Takes memory for the job and a balance's loads, and then the ledger's
-/// room for all that the command may still push.
+/// moves is one of so many. Takes memory for the job, or for a balance's loads and all that it plans, and then
+/// the ledger's room for all that the command may still push.
 pub fn note_asking(
     alloc: Global,
     h: &Hierarchy,
@@ -137,7 +137,8 @@ fn first_job(
     }
 }
 
-/// A balance that has read nothing of the shards that stand.
+/// A balance that has read nothing of the shards that stand. Its lists, the room for its plan and the box of
+/// its first job are taken here, so that it takes no memory later.
 fn first_balance(alloc: Global, registry: &Registry, most: u8) -> Result<Balance, AllocError>
     ensures { IfOk result (IsNewBalance registry.now most) }
 {
@@ -146,7 +147,7 @@ fn first_balance(alloc: Global, registry: &Registry, most: u8) -> Result<Balance
         loads: unread(alloc, registry.spots())?,
         read: 0,
         standing: unread(alloc, registry.spots())?,
-        plan: None,
+        plan: ActionPlan::new(alloc)?,
         over: 0,
         done: 0,
     })

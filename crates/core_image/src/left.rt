@@ -1,5 +1,5 @@
 //! The step that leaves an action of a balance, and how a balance goes on to its next action.
-ghost use Rattle.std.specs.Prelude.{◌≡◌, ◌+◌, ◌<◌, ◌^◌, Some, [], ◌∷◌, true, is_some, option_map, option_and_then, slice_get};
+ghost use Rattle.std.specs.Prelude.{◌≡◌, ◌+◌, ◌<◌, ◌^◌, Some, [], ◌∷◌, true, is_some, option_map};
 ghost use Rattle.core_image.specs.NotesDue.{CanNoteLeft, GoesOn, MayBeLeft, MayGoOn};
 ghost use Rattle.volap_cell.specs.ImageKinds.{LeavesAs};
 ghost use Rattle.volap_cell.specs.Cells.{cell_of};
@@ -81,22 +81,12 @@ fn go_on(balance: &mut Balance, job: &mut Option<Box<Job>>)
     ensures next { option_map (λ j. job_of j.value) job.new ≡ next_job balance.new }
 {
     balance.over += 1;
-    match next_action(balance) {
+    match balance.plan.get(balance.over) {
         None => *job = None,
         Some(action) => {
             let Some(job) = job else { unreachable!() };
             turn(job, balance.standing.as_slice(), action);
         }
-    }
-}
-
-/// The action that a balance is at; none before it has planned, or behind the last one.
-fn next_action(balance: &Balance) -> Option<Action>
-    ensures { result ≡ option_and_then (λ actions. slice_get actions balance.now.over) balance.now.plan }
-{
-    match &balance.plan {
-        None => None,
-        Some(actions) => actions.as_slice().get(usize::from(balance.over)).copied(),
     }
 }
 

@@ -37,11 +37,6 @@ noted-step h n at cells cells_now actors actors_now is stepped adds =
     let here : AddsQuiet ledger_cell cells actors cells_now actors_now = subst (λ (y : ℕ). AddsQuiet y cells actors cells_now actors_now) is adds in
     (Note, stepped, inr (λ w now i j. (let q = here w now i j in longer-is-other q.0 (history_in w) (history_in now) q.2)), inl refl)
 
--- a note in place of the step that was due
-pub ends-instead : (due : Kind) → in_place_of due ≡ Some Note → (h : List Dimension) (n : ℕ) (cells cells_now : List (Option Cell)) (actors actors_now : List (Option Actor)) → GoesOnWithCommand h Note n cells actors cells_now actors_now
-    → GoesOnWithCommand h due n cells actors cells_now actors_now
-ends-instead due other h n cells cells_now actors actors_now goes = (goes.0, goes.1, goes.2, falls-to due Note goes.0 other refl goes.3)
-
 -- where the state stayed as it was
 module _ (cells cells_now : List (Option Cell)) (actors actors_now : List (Option Actor)) (stays : Stays cells actors cells_now actors_now) where
   pub core-stays : (h : List Dimension) (with : Use) (s : Setting) (w : World) → IsCore h with cells actors s w → IsCore h with cells_now actors_now s w

@@ -1,18 +1,17 @@
 -- Where a look-up is due for an actor at no part, it has a balance that isn't planned yet; and the core has what its next load asks.
-use Rattle.std.proofs.Common.{ℕ, zero, suc, ◌+◌, ◌≡◌, ◌≢◌, ◌<◌, inl, inr, Bool, true, false, not, is_none, List, [], ◌∷◌, length, Option, Some, None, slice_get, refl, sym, ap, ◌∙◌, subst, eq-eqb}
+use Rattle.std.proofs.Common.{ℕ, zero, suc, ◌+◌, ◌≡◌, ◌≢◌, ◌<◌, inl, inr, Bool, true, false, not, is_none, List, [], ◌∷◌, length, Option, Some, None, get_or, slice_get, refl, sym, ap, ◌∙◌, subst, eq-eqb}
 use Rattle.std.specs.Prelude.{◌&&◌, ◌==◌, if◌then◌else◌, is_some}
 use Rattle.std.specs.List.{list_any}
 use Rattle.std.proofs.lemmas.Bool.{or_left, or_right}
+use Rattle.std.proofs.lemmas.Option.{slice_get-get_or}
 use Rattle.core_admin.specs.LoadDue.{CanReadLoad}
 use Rattle.core_steps.specs.AskedLoads.{ReadsNext}
-use Rattle.core_steps.specs.AskedNotes.{NotesEnded}
-use Rattle.core_steps.specs.Ready.{MayStep, Stays}
+use Rattle.core_steps.specs.Ready.{MayStep}
 use Rattle.dim_hierarchy.specs.Dimension.{Dimension}
 use Rattle.mapping_table.specs.declared.place.Where.TheVariants as where_is
 use Rattle.row_ledger.specs.Shards.{Place, frontier, is_of}
 use Rattle.row_ledger.specs.Workers.{is_on}
 use Rattle.row_ledger.specs.declared.event.Event.{Event}
-use Rattle.row_ledger.specs.declared.settings.How.TheVariants.{NoMemory}
 use Rattle.row_ledger.specs.declared.settings.Use.{Use}
 use Rattle.script_form.specs.declared.script.Command.{Command}
 use Rattle.shard_plan.specs.declared.action.Action.{Action}
@@ -21,7 +20,7 @@ use Rattle.volap_cell.proofs.Numbers.{tag-map}
 use Rattle.volap_cell.specs.Cells.{CellValue, MapOf, tag_of, where_in}
 use Rattle.volap_cell.specs.Commands.{settles_next}
 use Rattle.volap_cell.specs.ImageKinds.{doing}
-use Rattle.volap_cell.specs.Setting.{Setting, ledger_cell, map_cell}
+use Rattle.volap_cell.specs.Setting.{Setting, map_cell}
 use Rattle.volap_cell.specs.Steps.{history_in}
 use Rattle.volap_cell.specs.Values.{ErrandValue, JobValue, StageValue, IsCalled, IsDeclined, IsFrozen, Collects, Builds}
 use Rattle.volap_cell.specs.Working.{places_in}
@@ -40,7 +39,6 @@ use Rattle.seeded_run.specs.Led.{gate_there}
 use Rattle.seeded_run.specs.Loads.{load_of}
 use Rattle.seeded_run.specs.Look.{cell_at}
 use Rattle.seeded_run.specs.Works.{command_by}
-use Rattle.seeded_run.proofs.Afterwards.{core-stays}
 use Rattle.seeded_run.proofs.DueCommands.{at-empty, at-parts, by-work}
 use Rattle.seeded_run.proofs.DueParts.{at-part-or}
 use Rattle.seeded_run.proofs.Holds.{gate-tag, hold-fixed, hold-gate, steps-with}
@@ -48,7 +46,7 @@ use Rattle.seeded_run.proofs.JobsReady.{worker-there}
 use Rattle.seeded_run.proofs.PartsReady.{errand-same, map-fixed}
 use Rattle.seeded_run.proofs.ReadsReady.{gate-stands}
 use Rattle.seeded_run.proofs.Seen.{cell-seen}
-use Rattle.seeded_run.proofs.WorksReady.{command-is, ended-may}
+use Rattle.seeded_run.proofs.WorksReady.{command-is}
 
 -- What isn't a look-up.
 
@@ -163,18 +161,15 @@ module _ (h : List Dimension) (with : Use) (cells : List (Option Cell)) (actors 
   unplanned : IsUnplanned w n
   unplanned = (let d = due s w is in unplanned-is s w d.rest n d.due_is (sym (errand-same h with cells actors n core) ∙ idle))
 
-  -- where it ends for want of memory
-  pub unplanned-ends : (ledger : ℕ) → ledger ≡ ledger_cell → MayStep cells actors (ledger ∷ []) n (NotesEnded NoMemory)
-  unplanned-ends ledger ledger_is =
+  -- there is a load to read, as nothing is planned
+  pub load-there : load_of (command_by actors n) ≡ None → ⊥
+  load-there none =
       let u = unplanned in
-      ended-may h with cells actors s w is n lt u.of (work_is.Balance u.balance) NoMemory u.command u.plan ledger ledger_is
-
-  pub unread-ends : (cells_now : List (Option Cell)) (actors_now : List (Option Actor)) → Stays cells actors cells_now actors_now → (ledger : ℕ) → ledger ≡ ledger_cell
-      → MayStep cells_now actors_now (ledger ∷ []) n (NotesEnded NoMemory)
-  unread-ends cells_now actors_now stays ledger ledger_is =
-      let u = unplanned in
-      ended-may h with cells_now actors_now s w (core-stays cells cells_now actors actors_now stays h with s w is) n (subst (λ (k : ℕ). n < k) (sym stays.actors_kept) lt)
-      u.of (work_is.Balance u.balance) NoMemory u.command u.plan ledger ledger_is
+      let within = ((is.inv.holds.balancing.balance n u.of u.balance u.command).still u.plan).5 in
+      let first : Load = record { shard = 0; worker = 0; rows = 0 } in
+      let gone : None ≡ slice_get u.balance.loads u.balance.read = sym none ∙ ap load_of (command-is h with cells actors s w is n lt ∙ u.command) in
+      let never : ◌≡◌ {A = Option Load} None (Some (get_or u.balance.loads u.balance.read first)) = gone ∙ slice_get-get_or u.balance.loads u.balance.read first within in
+      absurd (cc)
 
   module _ (load : Load) (next : load_of (command_by actors n) ≡ Some load) where
     load-is : slice_get unplanned.balance.loads unplanned.balance.read ≡ Some load

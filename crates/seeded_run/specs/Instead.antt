@@ -14,7 +14,6 @@ in_place_of kind.BeginInsert = Some kind.Note
 in_place_of kind.BeginQuery = Some kind.Note
 in_place_of kind.Route = Some kind.Note
 in_place_of kind.Sync = Some kind.Note
-in_place_of kind.LookUp = Some kind.Note
 in_place_of kind.Freeze = Some kind.Note
 in_place_of kind.Collect = Some kind.Postpone
 in_place_of kind.FinishSplit = Some kind.Postpone

@@ -8,11 +8,11 @@ ghost use Rattle.seeded_run.specs.Works.{command_by};
 ghost use Rattle.volap_cell.specs.Values.{actor_of};
 ghost use Rattle.volap_cell.specs.declared.kind.Kind.TheVariants.{LookUp};
 
-use crate::places::{ledger_place, map_place};
+use crate::places::map_place;
 use crate::reads::gate_there;
 use crate::sights::where_at;
 use dim_hierarchy::Hierarchy;
-use row_ledger::{How, Use};
+use row_ledger::Use;
 use shard_plan::Load;
 use std::alloc::Global;
 use volap_cell::{Actor, State, Work};
@@ -48,8 +48,7 @@ fn load_by(state: &State, number: usize) -> Option<Load>
 }
 
 /// The actor's balance reads this load, which is its next one: with the table of the load's worker and the
-/// gate to which that leads. Where memory is wanting for the loads, for the plan or for the first job, the
-/// command ends so.
+/// gate to which that leads. Takes no memory; the allocator is that of the lists.
 fn read_next(alloc: Global, h: &Hierarchy, with: &Use, state: &mut State, number: usize, load: Load)
     requires core { HasCore h.now with.now state.old.cells.items state.old.actors.items }
     requires within { number < length state.old.actors.items }
@@ -58,31 +57,14 @@ fn read_next(alloc: Global, h: &Hierarchy, with: &Use, state: &mut State, number
     requires next { load_of (command_by state.old.actors.items number) ≡ Some load }
     ensures made { GoesOnWithCommand h.now LookUp number state.old.cells.items state.old.actors.items state.new.cells.items state.new.actors.items }
 {
-    let ledger = ledger_place();
     let map = map_place(with, load.worker);
     let led = where_at(&state.cells, map, load.shard);
     let gate = gate_there(led);
-    match core_steps::read_load(alloc, h, state, number, map, gate, with.workers) {
-        Ok(()) => {}
-        Err(_) => core_steps::note_ended(h, state, number, ledger, How::NoMemory),
-    }
+    core_steps::read_load(alloc, h, state, number, map, gate, with.workers);
 }
 
-/// The actor's balance ends for want of memory before its actions are planned. Takes no memory.
-fn end_unplanned(h: &Hierarchy, with: &Use, state: &mut State, number: usize)
-    requires core { HasCore h.now with.now state.old.cells.items state.old.actors.items }
-    requires within { number < length state.old.actors.items }
-    requires due { IsDue h.now with.now state.old.cells.items state.old.actors.items number LookUp }
-    requires idle { errand_by state.old.actors.items number ≡ None }
-    ensures made { GoesOnWithCommand h.now LookUp number state.old.cells.items state.old.actors.items state.new.cells.items state.new.actors.items }
-{
-    let _ = with;
-    core_steps::note_ended(h, state, number, ledger_place(), How::NoMemory);
-}
-
-/// The next load is read of the balance of an actor that is at no part, where a look-up is due for it. Where
-/// no memory is found for that, the command ends so. It would end so as well with no load left and no plan,
-/// which does not come about: the plan is made with the last load.
+/// The next load is read of the balance of an actor that is at no part, where a look-up is due for it: there
+/// is one, since the plan is made with the last load. Takes no memory; the allocator is that of the lists.
 pub(crate) fn read_load(alloc: Global, h: &Hierarchy, with: &Use, state: &mut State, number: usize)
     requires core { HasCore h.now with.now state.old.cells.items state.old.actors.items }
     requires within { number < length state.old.actors.items }
@@ -90,8 +72,8 @@ pub(crate) fn read_load(alloc: Global, h: &Hierarchy, with: &Use, state: &mut St
     requires idle { errand_by state.old.actors.items number ≡ None }
     ensures made { GoesOnWithCommand h.now LookUp number state.old.cells.items state.old.actors.items state.new.cells.items state.new.actors.items }
 {
-    match load_by(state, number) {
-        Some(load) => read_next(alloc, h, with, state, number, load),
-        None => end_unplanned(h, with, state, number),
-    }
+    let Some(load) = load_by(state, number) else {
+        unreachable!()
+    };
+    read_next(alloc, h, with, state, number, load);
 }

@@ -60,9 +60,10 @@ impl Registry {
         self.frontier.len()
     }
 
-    /// The shards without successors, by ascending id, lent.
+    /// The shards without successors, by ascending id, lent. There is one at least.
     pub fn spots(&self) -> &[Spot]
-        ensures { result.now ≡ self.now.frontier }
+        ensures value { result.now ≡ self.now.frontier }
+        ensures some { 0 < length result.now }
     {
         self.frontier.as_slice()
     }

@@ -148,7 +148,7 @@ module _ (s : Setting) (e : Event) (h : List Event) (stay : ShardsStay s.workers
         loads = i.loads;
         each = All-weaker (IsReadLoad s h placed home of) (IsReadLoad s (e ∷ h) placed home of) (λ r. read-load-grown placed home of r began) i.readings i.each;
         read = i.read;
-        still = λ unplanned. let t = i.still unplanned in (stay.frontier ∙ t.0 ∙ ap (frontier s.workers) (sym past), same ∙ t.1, t.2, t.3, t.4);
+        still = λ unplanned. let t = i.still unplanned in (stay.frontier ∙ t.0 ∙ ap (frontier s.workers) (sym past), same ∙ t.1, t.2, t.3, t.4, t.5);
         planned = λ actions is. planned-grown placed of b actions none (i.planned actions is);
         from = λ x live. Any-weaker (λ (l : Load). IsTrue (comes_from h l.shard x)) (λ (l : Load). IsTrue (comes_from (e ∷ h) l.shard x))
             (λ l comes. comes-stays s.workers e h stay l.shard x ∙ comes) b.loads (i.from x (sym (live-stays s.workers e h stay x) ∙ live));

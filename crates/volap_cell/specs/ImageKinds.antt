@@ -217,10 +217,11 @@ job_called r shard to known =
 abbrev pub unread_load : Spot → Load
 unread_load spot = record { shard = spot.shard; worker = spot.worker; rows = 0 }
 
--- a balance that has read nothing of the shards that stand
+-- a balance that has read nothing of the shards that stand, of which there is one
 pub record IsNewBalance (r : RegistryValue) (most : ℕ) (b : Balance) : Type 0 where
   pub most_is : b.most ≡ most
   pub loads : b.loads ≡ map unread_load r.frontier
+  pub some : 0 < length b.loads
   pub standing : b.standing ≡ b.loads
   pub read : b.read ≡ 0
   pub plan : b.plan ≡ None

@@ -160,14 +160,14 @@ pub record IsPlanned (s : Setting) (history : List Event) (placed : ℕ → Bool
   pub ahead : All (IsAhead s history b.standing) (drop b.over actions)
 
 -- The shards that stood when the balance began are the loads; those read so far have their readings. Until the plan is made, and so
--- until its first action, these shards stand as they did; later each that stands comes from one of them.
+-- until its first action, these shards stand as they did, and there is one to read; later each that stands comes from one of them.
 pub record IsBalancing (s : Setting) (history : List Event) (placed : ℕ → Bool) (home : ℕ → ℕ) (job : Option JobValue) (of : ℕ) (b : Balance) : Type 0 where
   pub places : places_in b.loads ≡ frontier s.workers (before history of)
   pub readings : List Reading
   pub loads : loads_of readings ≡ take b.read b.loads
   pub each : All (IsReadLoad s history placed home of) readings
   pub read : b.read ≤ length b.loads
-  pub still : b.plan ≡ None → (frontier s.workers history ≡ frontier s.workers (before history of)) × (work history of ≡ []) × (b.over ≡ 0) × (b.done ≡ 0) × (b.standing ≡ b.loads)
+  pub still : b.plan ≡ None → (frontier s.workers history ≡ frontier s.workers (before history of)) × (work history of ≡ []) × (b.over ≡ 0) × (b.done ≡ 0) × (b.standing ≡ b.loads) × (b.read < length b.loads)
   pub planned : (actions : List Action) → b.plan ≡ Some actions → IsPlanned s history placed of b actions
   pub from : (x : ℕ) → is_live s.workers history x ≡ true → Any (λ (l : Load). IsTrue (comes_from history l.shard x)) b.loads
   pub at_work : is_some job ≡ is_some (next_job b)

@@ -1,4 +1,5 @@
 //! A command, and how far it has come.
+use crate::plan::ActionPlan;
 use dim_hierarchy::{Items, Row};
 use row_ledger::Subject;
 use shard_plan::{Action, Load};
@@ -54,8 +55,8 @@ pub struct Balance {
     pub read: u32,
     /// The same shards with the workers to which this balance has moved them.
     pub standing: Items<Load>,
-    /// What is planned, once all rows were read.
-    pub plan: Option<Items<Action>>,
+    /// What is planned, once all rows were read; it has the room for that from the beginning on.
+    pub plan: ActionPlan,
     /// How many actions are over, and how many of these were done.
     pub over: u8,
     pub done: u8,

@@ -11,6 +11,7 @@ mod job;
 mod kind;
 mod laws;
 mod opening;
+mod plan;
 mod role;
 mod room;
 mod state;
@@ -26,6 +27,7 @@ pub use laws::{
     each_row_has_one_place, images_cover, opening_holds, queries_count_once, shards_have_the_rows,
 };
 pub use opening::open;
+pub use plan::ActionPlan;
 pub use role::{Role, RoleList};
 pub use room::NoteRoom;
 pub use state::{

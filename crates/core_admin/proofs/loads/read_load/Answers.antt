@@ -33,8 +33,8 @@ read_in-requires c =
       };
     }
 
-pub returns-clause-made : goal.returns-clause-made
-returns-clause-made c =
+pub returns : goal.returns
+returns c =
     let gates = c.tree_laws.ensures.gate in
     let cell = cell_of c.args.map.now in
     let gate = cell_of c.args.gate.now in
@@ -44,8 +44,8 @@ returns-clause-made c =
     let same = sym c.in-Some.is ∙ due.command in
     let works = ap (λ (o : Option Command). option_map_or (λ (k : Command). k.work) o work_is.Query) same in
     let of_is = ap (λ (o : Option Command). option_map_or (λ (k : Command). k.of) o 0) same in
-    let did = c.in_ok-first.ensures.made due.balance works in
-    let job = option_map (λ j. job_of j.value) c.in_ok-first.first in
+    let did = c.read_in.ensures due.balance works in
+    let job = option_map (λ j. job_of j.value) c.read_in.result in
     let notes = subst (λ (rows : ℕ). NotesLoad due.balance rows c.args.workers did.0 job) (c.rows_in-rows.ensures.value it.0 it.1) did.2 in
     let whole = did.1 ∙ (λ k. record { of = of_is k; work = work_is.Balance did.0 }) in
-    load-makes gates c.args.h.now c.args.workers c.args.map_at cell c.args.gate_at gate a c.requires.here due it.0 it.1 cell gate did.0 job _ refl it.1 notes (λ k. record a { command = Some (whole k); job = job })
+    record { made = load-makes gates c.args.h.now c.args.workers c.args.map_at cell c.args.gate_at gate a c.requires.here due it.0 it.1 cell gate did.0 job _ refl it.1 notes (λ k. record a { command = Some (whole k); job = job }) }

@@ -15,15 +15,15 @@ registry_of-requires c =
 
 pub agg_of_spots-requires-clause-gates : goal.agg_of_spots-requires-clause-gates
 agg_of_spots-requires-clause-gates c =
-    leads-in c.args.servers c.args.state.now.cells.items c.args.state.now.actors.items c.requires.quiet c.deref.result.now c.deref.ensures.value c.registry_of.result.now c.registry_of.ensures c.spots-spots.result.now c.spots-spots.ensures c.requires.state.0 c.requires.state.1 c.deref-2.result.now c.deref-2.ensures.value
+    leads-in c.args.servers c.args.state.now.cells.items c.args.state.now.actors.items c.requires.quiet c.deref.result.now c.deref.ensures.value c.registry_of.result.now c.registry_of.ensures c.spots-spots.result.now c.spots-spots.ensures.value c.requires.state.0 c.requires.state.1 c.deref-2.result.now c.deref-2.ensures.value
 
 pub agg_of_spots-requires-clause-few : goal.agg_of_spots-requires-clause-few
 agg_of_spots-requires-clause-few c =
-    few-in c.args.servers c.args.state.now.cells.items c.args.state.now.actors.items c.requires.quiet c.deref.result.now c.deref.ensures.value c.registry_of.result.now c.registry_of.ensures c.spots-spots.result.now c.spots-spots.ensures c.requires.state.0 c.requires.state.1 c.deref-2.result.now c.deref-2.ensures.value
+    few-in c.args.servers c.args.state.now.cells.items c.args.state.now.actors.items c.requires.quiet c.deref.result.now c.deref.ensures.value c.registry_of.result.now c.registry_of.ensures c.spots-spots.result.now c.spots-spots.ensures.value c.requires.state.0 c.requires.state.1 c.deref-2.result.now c.deref-2.ensures.value
 
 pub returns : goal.returns
 returns c =
     record {
-      page = audited-in c.args.servers c.args.state.now.cells.items c.args.state.now.actors.items c.requires.quiet c.deref.result.now c.deref.ensures.value c.registry_of.result.now c.registry_of.ensures c.spots-spots.result.now c.spots-spots.ensures c.deref-2.result.now c.deref-2.ensures.value
+      page = audited-in c.args.servers c.args.state.now.cells.items c.args.state.now.actors.items c.requires.quiet c.deref.result.now c.deref.ensures.value c.registry_of.result.now c.registry_of.ensures c.spots-spots.result.now c.spots-spots.ensures.value c.deref-2.result.now c.deref-2.ensures.value
           (record { agg = c.agg_of_spots.result; shards = length c.spots-spots.result.now }) c.agg_of_spots.ensures refl;
     }

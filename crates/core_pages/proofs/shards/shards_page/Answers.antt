@@ -17,12 +17,12 @@ registry_of-registry-requires c =
 
 pub lines_of-requires : goal.lines_of-requires
 lines_of-requires c =
-    record { gates = gates-in c.args.h.now c.args.servers c.args.state.now.cells.items c.args.state.now.actors.items c.requires.quiet c.deref.result.now c.deref.ensures.value c.registry_of-registry.result.now c.registry_of-registry.ensures c.spots.result.now c.spots.ensures c.requires.state c.deref-2.result.now c.deref-2.ensures.value }
+    record { gates = gates-in c.args.h.now c.args.servers c.args.state.now.cells.items c.args.state.now.actors.items c.requires.quiet c.deref.result.now c.deref.ensures.value c.registry_of-registry.result.now c.registry_of-registry.ensures c.spots.result.now c.spots.ensures.value c.requires.state c.deref-2.result.now c.deref-2.ensures.value }
 
 pub returns : goal.returns
 returns c =
     record {
       page = IfOk-weaker c.lines_of.result (λ lines. AllZip (HasLine c.args.h.now c.args.servers c.deref-2.result.now) c.spots.result.now lines) (λ lines. AreSeenIn c.args.h.now c.args.state.now.cells.items c.args.state.now.actors.items lines)
-          (λ lines has. lines-in c.args.h.now c.args.servers c.args.state.now.cells.items c.args.state.now.actors.items c.requires.quiet c.deref.result.now c.deref.ensures.value c.registry_of-registry.result.now c.registry_of-registry.ensures c.spots.result.now c.spots.ensures c.deref-2.result.now c.deref-2.ensures.value lines has)
+          (λ lines has. lines-in c.args.h.now c.args.servers c.args.state.now.cells.items c.args.state.now.actors.items c.requires.quiet c.deref.result.now c.deref.ensures.value c.registry_of-registry.result.now c.registry_of-registry.ensures c.spots.result.now c.spots.ensures.value c.deref-2.result.now c.deref-2.ensures.value lines has)
           c.lines_of.ensures;
     }

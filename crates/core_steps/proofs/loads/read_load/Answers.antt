@@ -3,30 +3,27 @@ use Rattle.core_steps.specs.AskedLoads.{ReadsNext}
 use Rattle.volap_cell.specs.State.{Exchange, exchange}
 use Rattle.volap_cell.specs.declared.kind.Kind.TheVariants.{LookUp}
 use Rattle.volap_cell.proofs.States.{drives}
-use Rattle.volap_cell.proofs.Outcomes.{on-ok, on-err}
 use Rattle.core_steps.proofs.Ready.{can-lift, can-step, lent-is, may-hold, put-over, step-here}
-use Rattle.core_steps.proofs.Staying.{stays-so}
 use Rattle.core_steps.proofs.loads.read_load.Goals as goal
 
 pub lift_two-map-requires : goal.lift_two-map-requires
 lift_two-map-requires c = record { there = can-lift c.args.h.now c.args.state.now.cells.items c.args.state.now.actors.items c.requires.state c.args.number (ReadsNext c.args.workers c.args.gate_at) (c.args.map_at ∷ c.args.gate_at ∷ []) c.requires.ready }
 
-pub read_load-read-requires-clause-here : goal.read_load-read-requires-clause-here
-read_load-read-requires-clause-here c =
+pub read_load-requires-clause-here : goal.read_load-requires-clause-here
+read_load-requires-clause-here c =
     let r = c.lift_two-map.result in
     step-here c.args.h.now c.args.state.now.cells.items c.args.state.now.actors.items c.requires.state c.args.number (ReadsNext c.args.workers c.args.gate_at) ((c.args.map_at, r.0) ∷ (c.args.gate_at, r.1) ∷ []) c.requires.ready c.lift_two-map.ensures.value c.in-Some.actor (lent-is c.args.state.now.actors.items c.args.number c.index_mut.result.now c.in-Some.actor c.requires.ready.actor c.index_mut.ensures.value c.in-Some.is)
 
-pub read_load-read-requires-clause-due : goal.read_load-read-requires-clause-due
-read_load-read-requires-clause-due c =
+pub read_load-requires-clause-due : goal.read_load-requires-clause-due
+read_load-requires-clause-due c =
     let r = c.lift_two-map.result in
     can-step c.args.h.now c.args.state.now.cells.items c.args.state.now.actors.items c.requires.state c.args.number (ReadsNext c.args.workers c.args.gate_at) ((c.args.map_at, r.0) ∷ (c.args.gate_at, r.1) ∷ []) c.requires.ready c.lift_two-map.ensures.value c.in-Some.actor (lent-is c.args.state.now.actors.items c.args.number c.index_mut.result.now c.in-Some.actor c.requires.ready.actor c.index_mut.ensures.value c.in-Some.is)
 
 pub returns : goal.returns
 returns c =
     let r = c.lift_two-map.result in
-    let xs : List Exchange = exchange c.args.map_at r.0 c.read_load-read.new.map ∷ exchange c.args.gate_at r.1 c.read_load-read.new.gate ∷ [] in
+    let xs : List Exchange = exchange c.args.map_at r.0 c.read_load.new.map ∷ exchange c.args.gate_at r.1 c.read_load.new.gate ∷ [] in
     let may = may-hold c.args.h.now c.args.state.now.cells.items c.args.state.now.actors.items c.requires.state c.args.number (ReadsNext c.args.workers c.args.gate_at) ((c.args.map_at, r.0) ∷ (c.args.gate_at, r.1) ∷ []) c.requires.ready c.lift_two-map.ensures.value c.in-Some.actor (lent-is c.args.state.now.actors.items c.args.number c.index_mut.result.now c.in-Some.actor c.requires.ready.actor c.index_mut.ensures.value c.in-Some.is) in
     record {
-      stepped = on-ok c.read_load-read.result c.read_load-read.ensures.made (λ m. drives c.args.h.now LookUp c.args.state.now.cells.items _ _ c.args.state.now.actors.items _ _ xs c.args.number c.in-Some.actor c.read_load-read.new.actor c.lift_two-map.ensures.rest refl c.put_two.ensures.value (put-over c.args.state.now.actors.items c.args.number _) may m (λ s w same is inv. tt));
-      stays = on-err c.read_load-read.result c.read_load-read.ensures.refused (λ k. stays-so c.args.state.now.cells.items _ _ c.args.state.now.actors.items _ _ xs c.args.number c.in-Some.actor c.read_load-read.new.actor c.lift_two-map.ensures.rest refl c.put_two.ensures.value (put-over c.args.state.now.actors.items c.args.number _) may (k.0, (k.1, tt)) k.2);
+      stepped = drives c.args.h.now LookUp c.args.state.now.cells.items _ _ c.args.state.now.actors.items _ _ xs c.args.number c.in-Some.actor c.read_load.new.actor c.lift_two-map.ensures.rest refl c.put_two.ensures.value (put-over c.args.state.now.actors.items c.args.number _) may c.read_load.ensures.made (λ s w same is inv. tt);
     }
