@@ -10,7 +10,11 @@ pub run_commands-requires-clause-idle : goal.run_commands-requires-clause-idle
 run_commands-requires-clause-idle c = c.requires.between.idle
 
 pub returns-clause-between : goal.returns-clause-between
-returns-clause-between c = on-one c.run_commands.result _ _ (λ (ends : EndsBehindAny (is_order c.args.schedule.now) c.args.h.now c.args.with.now c.args.phase.now c.args.state.now c.run_commands.new.state). ends c.args.done.now c.requires.between) c.run_commands.ensures.behind
+returns-clause-between c =
+    on-one c.run_commands.result (EndsBehindAny (is_order c.args.schedule.now) c.args.h.now c.args.with.now c.args.phase.now c.args.state.now c.run_commands.new.state) _
+    (λ ends. ends c.args.done.now c.requires.between) c.run_commands.ensures.behind
 
 pub returns-clause-into : goal.returns-clause-into
-returns-clause-into c = on-fault c.run_commands.result _ _ (λ (stops : StopsBehindAny (is_order c.args.schedule.now) c.args.h.now c.args.with.now c.args.phase.now c.args.state.now c.run_commands.new.state). stops c.args.done.now c.requires.between) c.run_commands.ensures.into
+returns-clause-into c =
+    on-fault c.run_commands.result (StopsBehindAny (is_order c.args.schedule.now) c.args.h.now c.args.with.now c.args.phase.now c.args.state.now c.run_commands.new.state) _
+    (λ stops. stops c.args.done.now c.requires.between) c.run_commands.ensures.into
