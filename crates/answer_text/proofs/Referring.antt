@@ -15,7 +15,7 @@ refers : (site : Site) (usable : ℕ → Bool) (past : List Event) (e : Event) �
 refers site usable past (event.Acked of path) right = kind-within insert_in past of right.insert right.begun
 refers site usable past (event.Answered of answer) right = kind-within query_in past of right.query right.asked
 refers site usable past (event.Failed of) right = event_at-within past of (λ none. false≢true (rw none at right.begun))
-refers site usable past (event.Split of shard left half) right = kind-within call_in past of right.call right.called
+refers site usable past (event.Split of shard left half) right = kind-within call_in past of right.done.call right.done.called
 refers site usable past (event.Moved of shard worker) right = kind-within call_in past of right.call right.called
 refers site usable past (event.Left of shard how) right = kind-within call_in past of right.call right.called
 refers site usable past (event.Shown of page) right = kind-within call_in past of right.call right.called

@@ -1,5 +1,4 @@
--- The text that a history tells of a script: a line or a page for each command, in the order of the script, phase by
--- phase.
+-- The text that a history tells of a script: a line or a page for each command, in the order of the script, phase by phase.
 use Rattle.std.specs.Prelude.{ℕ, ◌+◌, ℤ, ◌==◌, Bool, false, Option, Some, None, option_and_then, if◌then◌else◌, List, [], ◌∷◌, ◌++◌, length, take, find, codes}
 use Rattle.std.specs.List.{flat_map, join_by}
 use Rattle.std.specs.Option.{option_map_or}
@@ -97,8 +96,7 @@ abbrev pub end_text : Command → Option Event → How → List ℕ
 end_text (Control called) split how = how_text called split how
 end_text c split how = starved_text c
 
--- what is said of a command by the events that begin and end it and the newest that splits a shard for it; without an end
--- it found no memory
+-- what is said of a command by the events that begin and end it and the newest that splits a shard for it; without an end it found no memory
 abbrev pub answer_text : Command → Option Event → Option Event → Option Event → List ℕ
 answer_text c (Some (Unknown session server dim)) end split = codes "unknown " ++ decimal dim
 answer_text c begin (Some (Acked of path)) split = codes "ok"

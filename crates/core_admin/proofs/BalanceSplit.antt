@@ -206,7 +206,7 @@ module _ (s : Setting) (w : World) (g : Ghost) (i : InvWith s (view s w) g) (of 
           | inl old ↦ Any-weaker (λ (z : Load). IsTrue (comes_from h z.shard x)) (λ (z : Load). IsTrue (comes_from (e ∷ h) z.shard x))
               (λ z is. comes s w g i of shard l r side right z.shard x (live-made (site_in s) g.placed h x each old.0) ∙ is) b.loads (bal.from x old.0)
           | inr new ↦
-              let onto = bal.from shard right.live in
+              let onto = bal.from shard right.done.live in
               elim new [
                 | inl is_left ↦ subst (λ (y : ℕ). Any (λ (z : Load). IsTrue (comes_from (e ∷ h) z.shard y)) b.loads) (sym is_left)
                     (Any-weaker (λ (z : Load). IsTrue (comes_from h z.shard shard)) (λ (z : Load). IsTrue (comes_from (e ∷ h) z.shard l)) (λ z is. from-child s w g i of shard l r side right z.shard true is) b.loads onto)

@@ -28,7 +28,7 @@ use Rattle.row_ledger.specs.declared.event.Event.{Event}
 use Rattle.row_ledger.specs.declared.event.Event.TheVariants.{Ended, Moved}
 use Rattle.row_ledger.specs.declared.class.Class.{Class}
 use Rattle.row_ledger.specs.declared.class.Class.TheVariants as class_is
-use Rattle.row_ledger.specs.Right.{AsksMove, MayEnd, shows}
+use Rattle.row_ledger.specs.Right.{AsksFor, MayEnd, shows}
 use Rattle.row_ledger.specs.declared.settings.How.TheVariants as how_is
 use Rattle.row_ledger.proofs.Ascent.{frontier-ascends}
 use Rattle.row_ledger.proofs.Growth.{KeepsRight-ended, KeepsRight-moved}
@@ -518,7 +518,7 @@ module _ (maps : List Change) (x gc reg c led : Change) (b : ActorValue) (s : Se
       call = told.0.0;
       called = told.0.1;
       is_open = i.telling.is_open n its-command d.command;
-      asked = subst (λ (c : Class). AsksMove h d.of c shard d.to) (sym told.0.2) (refl, refl, told.1);
+      asked = subst (λ (c : Class). AsksFor h d.of c (action.Move shard d.to)) (sym told.0.2) (refl, told.1);
       live = live;
     })
 
@@ -677,7 +677,7 @@ module _ (maps : List Change) (x gc reg c led : Change) (b : ActorValue) (s : Se
         call = calls.0.0;
         called = calls.0.1;
         is_open = i.telling.is_open n its-command d.command;
-        asked = subst (λ (c : Class). AsksMove h d.of c shard d.to) (sym calls.0.2) tt;
+        asked = subst (λ (c : Class). AsksFor h d.of c (action.Move shard d.to)) (sym calls.0.2) tt;
         live = live;
       })
 

@@ -75,7 +75,7 @@ use Rattle.core_admin.proofs.RetiringTrees.{retired-growing, retired-pinning, re
 use Rattle.core_admin.proofs.Untouched.{querying-off}
 use Rattle.row_ledger.specs.declared.event.Event.TheVariants.{Ended, Split}
 use Rattle.row_ledger.specs.declared.settings.Call.{Call}
-use Rattle.row_ledger.specs.Right.{AsksSplit, IsRightSplit, MayEnd, shows}
+use Rattle.row_ledger.specs.Right.{AsksFor, IsRightSplit, MayEnd, shows}
 use Rattle.row_ledger.specs.Shards.{ids_made}
 use Rattle.row_ledger.proofs.Growth.{KeepsRight-ended, KeepsRight-split}
 use Rattle.std.specs.Prelude.{not}
@@ -346,10 +346,14 @@ module _ (m x l r reg c led : Change) (b : ActorValue) (s : Setting) (w : World)
   began = commands-older s h i.telling
 
   -- the split is right, whoever asks for it
-  right-split : (call : Call) → call_at h d.of ≡ Some call → AsksSplit h d.of (class_of call) shard → IsRightSplit (site_in s) h d.of shard left_id right_id
+  right-split : (call : Call) → call_at h d.of ≡ Some call → AsksFor h d.of (class_of call) (action.Split shard) → IsRightSplit (site_in s) h d.of shard left_id right_id
   right-split call called asked =
       let next : left_id ≡ ids_made s.workers h = ap (λ (k : StockValue). k.ids) (sym (stock-now m x l r reg c led b s w n g i ag d).0) ∙ i.lineage.ids in
-      record { call = call; called = called; is_open = i.telling.is_open n its-command d.command; asked = asked; live = live; next = next; after = ap (λ (k : ℕ). k + 1) next }
+      record {
+        done = record { call = call; called = called; is_open = i.telling.is_open n its-command d.command; asked = asked; live = live };
+        next = next;
+        after = ap (λ (k : ℕ). k + 1) next;
+      }
 
   module _ (is : b ≡ record (w.actors n) { purse = []; seen = b.seen; command = None; job = None }) (p : PushesBoth e (Ended d.of how_is.Fine) led b.seen) (is_split : d.work ≡ work_is.Action (action.Split shard)) where
     abbrev f : Event
@@ -371,7 +375,7 @@ module _ (m x l r reg c led : Change) (b : ActorValue) (s : Setting) (w : World)
     told = subst (λ (k : Work). IsProgress s h d.of k (Some d.job) (v.roles n)) is_split progress
 
     is-right : IsRightSplit (site_in s) h d.of shard left_id right_id
-    is-right = right-split told.0.0 told.0.1 (subst (λ (c : Class). AsksSplit h d.of c shard) (sym told.0.2) (refl, told.1))
+    is-right = right-split told.0.0 told.0.1 (subst (λ (c : Class). AsksFor h d.of c (action.Split shard)) (sym told.0.2) (refl, told.1))
 
     right-done : KeepsRight (site_in s) g.placed (e ∷ h)
     right-done = KeepsRight-split (site_in s) g.placed h d.of shard left_id right_id i.telling.right is-right
@@ -485,7 +489,7 @@ module _ (m x l r reg c led : Change) (b : ActorValue) (s : Setting) (w : World)
     began-here = began n its-command d.command
 
     asked-right : IsRightSplit (site_in s) h d.of shard left_id right_id
-    asked-right = right-split calls.0.0 calls.0.1 (subst (λ (c : Class). AsksSplit h d.of c shard) (sym calls.0.2) tt)
+    asked-right = right-split calls.0.0 calls.0.1 (subst (λ (c : Class). AsksFor h d.of c (action.Split shard)) (sym calls.0.2) tt)
 
     live-then : (z : ℕ) → is_live s.workers (e ∷ h) z ≡ true → ((is_live s.workers h z ≡ true) × (z ≢ shard)) ⊎ ((z ≡ left_id) ⊎ (z ≡ right_id))
     live-then = live-before (site_in s) g.placed h i.telling.right.right.each d.of shard left_id right_id d.job.worker asked-right (was-on m x l r reg c led b s w n g i ag d ends few asked-right)

@@ -8,7 +8,7 @@ use Rattle.cell_stock.specs.declared.purse.Spare.{Spare}
 use Rattle.dim_hierarchy.specs.Dimension.{Dimension}
 use Rattle.row_ledger.specs.Changes.{ShardsStay, is_quiet}
 use Rattle.row_ledger.specs.Belonging.{number_in}
-use Rattle.row_ledger.specs.Right.{MayEnd, Plans, shows}
+use Rattle.row_ledger.specs.Right.{MayEnd, shows}
 use Rattle.row_ledger.specs.declared.event.Event.{Event}
 use Rattle.row_ledger.specs.declared.event.Event.TheVariants.{Ended, Left}
 use Rattle.row_ledger.specs.declared.class.Class.{Class}
@@ -410,9 +410,10 @@ module _ (c led : Change) (b : ActorValue) (s : Setting) (w : World) (n : ℕ) (
         let news = new e 1 (Some its_now) (next_job next) refl p is in
         let right = KeepsRight-left (site_in s) g.placed h d.of job.shard how_is.Postponed i.telling.right (record {
           call = calls.0.0;
+          most = balance.most;
           called = calls.0.1;
           is_open = i.telling.is_open n its d.command;
-          plans = subst Plans (sym calls.0.2) tt;
+          plans = calls.0.2;
           may_leave = tt;
         }) in
         let stays = stay e 1 (Some its_now) (next_job next) refl p is in

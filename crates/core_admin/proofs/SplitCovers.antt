@@ -117,7 +117,7 @@ module _ (s : Setting) (w : World) (g : Ghost) (i : InvWith s (view s w) g) (of 
       whole = λ x is. elim (live x is) [
         | inl old ↦ Any-weaker (λ (z : Spot). IsTrue (comes_from h z.shard x)) (λ (z : Spot). IsTrue (comes_from (e ∷ h) z.shard x)) (λ z c. comes-on z.shard x (live-made (site_in s) g.placed h x i.telling.right.right.each old.0) ∙ c) (v.images server).spots (k.whole x old.0)
         | inr new ↦
-            let to_shard = k.whole shard right.live in
+            let to_shard = k.whole shard right.done.live in
             elim new [
               | inl is_left ↦ subst (λ (y : ℕ). Any (λ (z : Spot). IsTrue (comes_from (e ∷ h) z.shard y)) (v.images server).spots) (sym is_left)
                   (Any-weaker (λ (z : Spot). IsTrue (comes_from h z.shard shard)) (λ (z : Spot). IsTrue (comes_from (e ∷ h) z.shard l)) (λ z c. from-child s w g i of shard l r side right z.shard true c) (v.images server).spots to_shard)

@@ -71,7 +71,7 @@ module _ (site : Site) (usable : ℕ → Bool) (h : List Event) (each : EachEven
   -- the worker is the one that had the shard
   pub worker-is : worker_of places shard ≡ Some from
   worker-is =
-      let o = worker-found shard places is_right.live in
+      let o = worker-found shard places is_right.done.live in
       let same = one-host 0 shard o.0 from places (frontier-ascends site usable h each) o.2 was_on in
       o.1 ∙ ap Some same
 
@@ -146,7 +146,7 @@ module _ (site : Site) (usable : ℕ → Bool) (h : List Event) (each : EachEven
 
   -- the shard had its id before its children
   pub shard-made : shard < ids_made site.workers h
-  shard-made = live-made site usable h shard each is_right.live
+  shard-made = live-made site usable h shard each is_right.done.live
 
   pub off-left : (x : ℕ) → x < ids_made site.workers h → x ≢ left
   off-left x lt is = (let next = is_right.next in absurd (omega (arith, lt, is, next)))

@@ -57,7 +57,7 @@ module _ (s : Setting) (w : World) (v2 : View) (g : Ghost) (owner : ℕ → Owne
   live-home q placed = made-live s v v2 g g2 n i m t (g.home q) (i.placing.stands q placed)
 
   shard-live : is_live s.workers h m.shard ≡ true
-  shard-live = t.is_right.live
+  shard-live = t.is_right.done.live
 
   under : (z q : ℕ) → IsUnder h g.placed g.home z q → IsUnder (e ∷ h) g.placed home2 z q
   under z q u = subst (λ (f : ℕ → ℕ). IsUnder (e ∷ h) g.placed f z q) (sym homes) (under-split s w g i t.of m.shard t.left t.right side t.is_right z q u)

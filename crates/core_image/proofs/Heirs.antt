@@ -82,7 +82,7 @@ live-end site usable [] x y each live comes = eqb-true y x comes
 live-end site usable (Split of shard left right ∷ past) x y each live comes =
     let next : left ≡ ids_made site.workers past = each.0.next in
     let after : right ≡ ids_made site.workers past + 1 = each.0.after in
-    let parent : shard < ids_made site.workers past = live-made site usable past shard each.1 each.0.live in
+    let parent : shard < ids_made site.workers past = live-made site usable past shard each.1 each.0.done.live in
     elim (or_cases (y == x) (comes_from past x (parent_in (Split of shard left right) y)) comes) [
       | inl same ↦ eqb-true y x same
       | inr older ↦ elim (live-split site.workers past of shard left right x live) [

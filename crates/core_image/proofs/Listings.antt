@@ -16,7 +16,7 @@ listing-ascends site usable (Synced t listing ∷ past) server opens each =
     cond_both (t == server) listing (listing_of past server) (λ (spots : List Spot). AscendFrom 0 (places_of spots))
     (λ is. elim (cases_lt (length past) site.servers) [
       | inl early ↦ subst (AscendFrom 0) (sym (opens.0 early).1.places) (frontier-ascends site usable [] tt)
-      | inr late ↦ subst (AscendFrom 0) (sym (each.0.later late).lists.places) (frontier-ascends site usable past each.1)
+      | inr late ↦ subst (AscendFrom 0) (sym (each.0 late).lists.places) (frontier-ascends site usable past each.1)
     ])
     (λ off. listing-ascends site usable past server opens.1 each.1)
 listing-ascends site usable (_ ∷ past) server opens each = listing-ascends site usable past server opens.1 each.1

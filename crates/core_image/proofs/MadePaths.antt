@@ -30,7 +30,7 @@ module _ (site : Site) (usable : ℕ → Bool) where
             let here : list_any (is_of x) (places_of listing) ≡ true = sym (has-place x listing) ∙ (and_parts (t == server) (list_any (λ (spot : Spot). spot.shard == x) listing) new).1 in
             elim (cases_lt (length past) site.servers) [
               | inl early ↦ first-made (Synced t listing ∷ past) x (sym (ap (list_any (is_of x)) (opens.0 early).1.places) ∙ here)
-              | inr late ↦ (let pull = each.0.later late in live-made site usable past x each.1 (sym (ap (list_any (is_of x)) pull.lists.places) ∙ here))
+              | inr late ↦ (let pull = each.0 late in live-made site usable past x each.1 (sym (ap (list_any (is_of x)) pull.lists.places) ∙ here))
             ]
         | inr old ↦ listed-made past opens.1 each.1 server x old
       ]

@@ -9,7 +9,7 @@ use Rattle.row_ledger.specs.Changes.{ShardsStay}
 use Rattle.row_ledger.specs.Past.{call_at}
 use Rattle.row_ledger.specs.Belonging.{number_in}
 use Rattle.row_ledger.specs.Kept.{KeepsRight}
-use Rattle.row_ledger.specs.Right.{MayLeave, Plans}
+use Rattle.row_ledger.specs.Right.{MayLeave}
 use Rattle.row_ledger.specs.Work.{IsCause}
 use Rattle.row_ledger.specs.declared.event.Event.{Event}
 use Rattle.row_ledger.specs.declared.event.Event.TheVariants.{Left}
@@ -257,9 +257,10 @@ module _ (l : Change) (b : ActorValue) (s : Setting) (w : World) (n : ℕ) (g : 
   right : KeepsRight (site_in s) g.placed (e ∷ h)
   right = KeepsRight-left (site_in s) g.placed h of job.shard does.left_as i.telling.right (record {
     call = progress.0.0;
+    most = does.balance.most;
     called = progress.0.1;
     is_open = i.telling.is_open n its does.command;
-    plans = subst Plans (sym progress.0.2) tt;
+    plans = progress.0.2;
     may_leave = may-leave s.hierarchy (action_of job) job.stage does.left_as does.leaves (λ why st. let d = declined why st in (d.rows, d.cause));
   })
 

@@ -11,8 +11,8 @@ use Rattle.dim_hierarchy.specs.Tree.{IsLeaf}
 use Rattle.dim_hierarchy.specs.Dimension.{Dimension, tree}
 use Rattle.dim_hierarchy.specs.Row.{concept_at}
 use Rattle.dim_hierarchy.specs.Rows.{IsRowOf}
-use Rattle.dim_hierarchy.specs.Filter.{all_picked, is_picked, matches, pick_at}
-use Rattle.dim_hierarchy.proofs.Matching.{all_picked-step, all_picked-end}
+use Rattle.dim_hierarchy.specs.Filter.{in_each, is_picked, matches, pick_at}
+use Rattle.dim_hierarchy.proofs.Matching.{picked-step, picked-end}
 use Rattle.measure_agg.specs.Aggregate.{Aggregate, agg}
 use Rattle.measure_agg.specs.Joining.{join}
 use Rattle.dc_node.specs.declared.columns.Columns.{Columns}
@@ -57,7 +57,7 @@ concept-column cs place (suc (suc (suc (suc (suc (suc (suc (suc dim)))))))) lt =
 
 -- what is left of the test from a dimension on, at a place
 abbrev pub rest : List Dimension → List Pick → List (List ℕ) → ℕ → ℕ → Bool
-rest h f cs dim place = all_picked (drop dim h) (drop dim f) (drop dim (coord_at cs place).at)
+rest h f cs dim place = in_each is_picked (drop dim h) (drop dim f) (drop dim (coord_at cs place).at)
 
 -- these places are left after so many dimensions
 pub record Keeping (h : List Dimension) (f : List Pick) (c : Columns) (count dim : ℕ) (places : List ℕ) : Type 0 where
@@ -87,7 +87,7 @@ Keeping-more h f c count dim column places new few long lt read e k = record {
 
     step : (place : ℕ) → rest h f c.concepts dim place ≡ (picked place && rest h f c.concepts (dim + 1) place)
     step place =
-        all_picked-step h f (coord_at c.concepts place).at dim (picked place) lt long few
+        picked-step h f (coord_at c.concepts place).at dim (picked place) lt long few
         (ap (is_picked (tree h dim) (pick_at f dim)) (ap (λ l. get_or l place 0) read ∙ sym (concept-column c.concepts place dim (omega (arith, lt, few)))))
 
 -- the column has leaf concepts at these places
@@ -104,7 +104,7 @@ pub Keeping-all : (h : List Dimension) (f : List Pick) (c : Columns) (count dim 
     → agg (filter (λ r. matches h f r.at) (rows_of c count)) ≡ agg (map (row_at c) places)
 Keeping-all h f c count dim places long le k =
     ap agg (filter-map (λ r. matches h f r.at) (row_at c) (range_with_len 0 count)
-    ∙ ap (map (row_at c)) (k.same ∙ filter_agree (rest h f c.concepts dim) (λ _. true) (λ place. all_picked-end h f (coord_at c.concepts place).at dim le long) places ∙ filter-whole places))
+    ∙ ap (map (row_at c)) (k.same ∙ filter_agree (rest h f c.concepts dim) (λ _. true) (λ place. picked-end h f (coord_at c.concepts place).at dim le long) places ∙ filter-whole places))
 
 -- The aggregate of the rows at places.
 

@@ -8,13 +8,14 @@ use Rattle.std.proofs.lemmas.List.FromFn.{sum_by-map-range_with_len_more}
 use Rattle.dim_hierarchy.specs.Tree.{Tree, up, leaf_level}
 use Rattle.dim_hierarchy.specs.Dimension.{Dimension, tree}
 use Rattle.dim_hierarchy.specs.Row.{IsCoordOf, concept_at}
+use Rattle.dim_hierarchy.specs.Filter.{in_each}
 use Rattle.dim_hierarchy.specs.declared.row.Coord.{Coord}
 use Rattle.dim_hierarchy.proofs.Matching.{IsCoordOf-length}
 use Rattle.describing_set.specs.Sorted.{In}
 use Rattle.describing_set.specs.declared.part.Part.{Part}
 use Rattle.describing_set.specs.declared.set.DescSet.{DescSet}
 use Rattle.describing_set.specs.Part.{part, ancestors, has_ancestor}
-use Rattle.describing_set.specs.DescSet.{part_at, column, IsSetOf, covers, in_each}
+use Rattle.describing_set.specs.DescSet.{part_at, column, IsSetOf, covers}
 use Rattle.describing_set.specs.Sets.{Covers, growth_at}
 use Rattle.describing_set.proofs.Sorted.{Contains-from_In}
 use Rattle.describing_set.proofs.Parts.{deepest, In-ancestors}

@@ -9,7 +9,7 @@ use Rattle.dim_hierarchy.specs.Tree.{Tree, IsConcept, IsTree, is_under, up, clim
 use Rattle.dim_hierarchy.specs.Meaning.{IsUnder, IsPicked, Matches}
 use Rattle.dim_hierarchy.specs.Dimension.{Dimension, tree}
 use Rattle.dim_hierarchy.specs.Row.{concept_at}
-use Rattle.dim_hierarchy.specs.Filter.{pick_at, is_picked, IsPickOf, IsFilterOf}
+use Rattle.dim_hierarchy.specs.Filter.{in_each, pick_at, is_picked, IsPickOf, IsFilterOf}
 use Rattle.dim_hierarchy.specs.declared.row.Coord.{Coord}
 use Rattle.dim_hierarchy.specs.declared.filter.Pick.{Pick}
 use Rattle.dim_hierarchy.specs.declared.filter.Pick.TheVariants.{All, Ids}
@@ -19,7 +19,7 @@ use Rattle.describing_set.specs.declared.part.Part.{Part}
 use Rattle.describing_set.specs.declared.set.DescSet.{DescSet}
 use Rattle.describing_set.specs.declared.bearing.Bearing.{Bearing}
 use Rattle.describing_set.specs.declared.bearing.Bearing.TheVariants as it
-use Rattle.describing_set.specs.DescSet.{part_at, in_each}
+use Rattle.describing_set.specs.DescSet.{part_at}
 use Rattle.describing_set.specs.Sets.{IsDescSetOf, Covers}
 use Rattle.dim_hierarchy.specs.Compiled.{is_related}
 use Rattle.describing_set.specs.Filter.{IsInside, is_part_inside, is_inside, AreRelated, are_related, IsMet, is_met, is_part_met, Overlaps, overlaps, IsMetFrom, IsBearing, bearing}

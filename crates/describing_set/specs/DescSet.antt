@@ -1,8 +1,8 @@
 -- The describing set of a list of coordinates, and what it covers.
-use Rattle.std.specs.Prelude.{ℕ, ◌≡◌, ◌<◌, List, [], ◌∷◌, length, map, slice_index_or, Bool, true, false, ◌&&◌}
-use Rattle.dim_hierarchy.specs.Tree.{Tree}
+use Rattle.std.specs.Prelude.{ℕ, ◌≡◌, ◌<◌, List, [], length, map, slice_index_or, Bool}
 use Rattle.dim_hierarchy.specs.Dimension.{Dimension, tree}
 use Rattle.dim_hierarchy.specs.Row.{concept_at}
+use Rattle.dim_hierarchy.specs.Filter.{in_each}
 use Rattle.dim_hierarchy.specs.declared.row.Coord.{Coord}
 use Rattle.describing_set.specs.Part.{part, part_of, has_ancestor}
 use Rattle.describing_set.specs.declared.part.Part.{Part}
@@ -23,13 +23,6 @@ pub record IsSetOf (h : List Dimension) (rows : List Coord) (set : DescSet) : Ty
   pub parts : (dim : ℕ) → dim < length h → part_at set dim ≡ part_of (tree h dim) (column rows dim)
 
 -- Covering.
-
--- A test that holds in each dimension, of its tree, its part and what a third list has there. It fails where there
--- are more or fewer parts than dimensions, or too few in the third list.
-abbrev pub in_each : {A : Type 0} → (Tree → Part → A → Bool) → List Dimension → List Part → List A → Bool
-in_each test [] [] xs = true
-in_each test (d ∷ ds) (p ∷ ps) (x ∷ xs) = test d.tree p x && in_each test ds ps xs
-in_each test _ _ _ = false
 
 -- whether in each dimension the coordinate's ancestor at the set's level is in the set
 abbrev pub covers : List Dimension → DescSet → Coord → Bool

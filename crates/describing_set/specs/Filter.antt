@@ -4,10 +4,10 @@ use Rattle.std.specs.List.{list_any, list_all}
 use Rattle.dim_hierarchy.specs.Tree.{Tree, is_under}
 use Rattle.dim_hierarchy.specs.Meaning.{IsUnder, IsPicked}
 use Rattle.dim_hierarchy.specs.Dimension.{Dimension, tree}
-use Rattle.dim_hierarchy.specs.Filter.{is_picked, pick_at}
+use Rattle.dim_hierarchy.specs.Filter.{in_each, is_picked, pick_at}
 use Rattle.dim_hierarchy.specs.declared.filter.Pick.{Pick}
 use Rattle.dim_hierarchy.specs.declared.filter.Pick.TheVariants.{All, Ids}
-use Rattle.describing_set.specs.DescSet.{part_at, in_each}
+use Rattle.describing_set.specs.DescSet.{part_at}
 use Rattle.describing_set.specs.declared.part.Part.{Part}
 use Rattle.describing_set.specs.declared.set.DescSet.{DescSet}
 use Rattle.describing_set.specs.declared.bearing.Bearing.{Bearing}

@@ -4,7 +4,7 @@ ghost use Rattle.std.specs.Bool.{OnFalse, OnTrue};
 ghost use Rattle.dim_hierarchy.specs.Tree.{IsConcept, leaf_level};
 ghost use Rattle.dim_hierarchy.specs.Dimension.{tree, IsHierarchy};
 ghost use Rattle.dim_hierarchy.specs.Row.{IsCoordOf};
-ghost use Rattle.dim_hierarchy.specs.Filter.{IsFilterOf, pick_at};
+ghost use Rattle.dim_hierarchy.specs.Filter.{IsFilterOf, pick_at, in_each};
 ghost use Rattle.dim_hierarchy.specs.Meaning.{Matches};
 ghost use Rattle.dim_hierarchy.specs.Compiled.{AreOfLevel};
 
@@ -24,7 +24,7 @@ impl DescSet {
     ghost use Rattle.dim_hierarchy.specs.declared.row.Coord.{Coord};
     ghost use Rattle.describing_set.specs.declared.set.DescSet.{DescSet};
     ghost use Rattle.describing_set.specs.Parts.{IsPart};
-    ghost use Rattle.describing_set.specs.DescSet.{part_at, IsSetOf, covers, in_each};
+    ghost use Rattle.describing_set.specs.DescSet.{part_at, IsSetOf, covers};
     ghost use Rattle.describing_set.specs.Sets.{IsDescSetOf, GrowsBy, JoinsTo, Covers, growth_of, size_of, Describes, AreAmong};
     ghost use Rattle.describing_set.specs.declared.bearing.Bearing.TheVariants.{Inside, Apart};
     ghost use Rattle.describing_set.specs.Filter.{IsInside, is_inside, Overlaps, overlaps, is_part_met, IsMetFrom, IsBearing, bearing};

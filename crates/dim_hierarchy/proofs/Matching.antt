@@ -9,7 +9,7 @@ use Rattle.dim_hierarchy.specs.Tree.{Tree, IsConcept, IsTree, is_under, leaf_lev
 use Rattle.dim_hierarchy.specs.Meaning.{IsUnder, IsPicked, Matches}
 use Rattle.dim_hierarchy.specs.Dimension.{Dimension, dimension, tree}
 use Rattle.dim_hierarchy.specs.Row.{IsCoordOf, concept_at}
-use Rattle.dim_hierarchy.specs.Filter.{IsFilterOf, is_picked, all_picked, matches, pick_at}
+use Rattle.dim_hierarchy.specs.Filter.{IsFilterOf, is_picked, in_each, matches, pick_at}
 use Rattle.dim_hierarchy.specs.declared.row.Coord.{Coord}
 use Rattle.dim_hierarchy.specs.declared.filter.Pick.{Pick}
 use Rattle.dim_hierarchy.specs.declared.filter.Pick.TheVariants.{All, Ids}
@@ -60,21 +60,21 @@ IsCoordOf-length h at c = elim (cases_lt (length at.at) (length h)) [
 ]
 
 -- what is left of the test from a dimension on
-pub all_picked-here : (h : List Dimension) (f : List Pick) (ids : List ℕ) (dim : ℕ) → dim < length h → length f ≡ length h → length h ≤ length ids → all_picked (drop dim h) (drop dim f) (drop dim ids) ≡ (is_picked (tree h dim) (pick_at f dim) (get_or ids dim 0) && all_picked (drop (suc dim) h) (drop (suc dim) f) (drop (suc dim) ids))
-all_picked-here [] f ids dim lt e l = absurd (omega arith)
-all_picked-here (d ∷ h) [] ids dim lt e l = absurd (omega arith)
-all_picked-here (d ∷ h) (p ∷ f) [] dim lt e l = absurd (omega arith)
-all_picked-here (d ∷ h) (p ∷ f) (id ∷ ids) zero lt e l = refl
-all_picked-here (d ∷ h) (p ∷ f) (id ∷ ids) (suc dim) lt e l = all_picked-here h f ids dim (omega arith) (omega arith) (omega arith)
+pub picked-here : (h : List Dimension) (f : List Pick) (ids : List ℕ) (dim : ℕ) → dim < length h → length f ≡ length h → length h ≤ length ids → in_each is_picked (drop dim h) (drop dim f) (drop dim ids) ≡ (is_picked (tree h dim) (pick_at f dim) (get_or ids dim 0) && in_each is_picked (drop (suc dim) h) (drop (suc dim) f) (drop (suc dim) ids))
+picked-here [] f ids dim lt e l = absurd (omega arith)
+picked-here (d ∷ h) [] ids dim lt e l = absurd (omega arith)
+picked-here (d ∷ h) (p ∷ f) [] dim lt e l = absurd (omega arith)
+picked-here (d ∷ h) (p ∷ f) (id ∷ ids) zero lt e l = refl
+picked-here (d ∷ h) (p ∷ f) (id ∷ ids) (suc dim) lt e l = picked-here h f ids dim (omega arith) (omega arith) (omega arith)
 
-pub all_picked-end : (h : List Dimension) (f : List Pick) (ids : List ℕ) (dim : ℕ) → length h ≤ dim → length f ≡ length h → all_picked (drop dim h) (drop dim f) (drop dim ids) ≡ true
-all_picked-end h f ids dim e l = ap (λ ds. all_picked ds (drop dim f) (drop dim ids)) (drop_all dim h e) ∙ ap (λ ps. all_picked [] ps (drop dim ids)) (drop_all dim f (omega arith))
+pub picked-end : (h : List Dimension) (f : List Pick) (ids : List ℕ) (dim : ℕ) → length h ≤ dim → length f ≡ length h → in_each is_picked (drop dim h) (drop dim f) (drop dim ids) ≡ true
+picked-end h f ids dim e l = ap (λ ds. in_each is_picked ds (drop dim f) (drop dim ids)) (drop_all dim h e) ∙ ap (λ ps. in_each is_picked [] ps (drop dim ids)) (drop_all dim f (omega arith))
 
 -- the test of one dimension, from what the code reads there
-pub all_picked-step : (h : List Dimension) (f : List Pick) (ids : List ℕ) (dim : ℕ) (r : Bool) → dim < length h → length f ≡ length h → length h ≤ length ids → r ≡ is_picked (tree h dim) (pick_at f dim) (get_or ids dim 0) → all_picked (drop dim h) (drop dim f) (drop dim ids) ≡ (r && all_picked (drop (dim + 1) h) (drop (dim + 1) f) (drop (dim + 1) ids))
-all_picked-step h f ids dim r lt e l t =
-    all_picked-here h f ids dim lt e l ∙ ap (λ b. b && all_picked (drop (suc dim) h) (drop (suc dim) f) (drop (suc dim) ids)) (sym t)
-    ∙ ap (λ k. r && all_picked (drop k h) (drop k f) (drop k ids)) (sym (add-one dim))
+pub picked-step : (h : List Dimension) (f : List Pick) (ids : List ℕ) (dim : ℕ) (r : Bool) → dim < length h → length f ≡ length h → length h ≤ length ids → r ≡ is_picked (tree h dim) (pick_at f dim) (get_or ids dim 0) → in_each is_picked (drop dim h) (drop dim f) (drop dim ids) ≡ (r && in_each is_picked (drop (dim + 1) h) (drop (dim + 1) f) (drop (dim + 1) ids))
+picked-step h f ids dim r lt e l t =
+    picked-here h f ids dim lt e l ∙ ap (λ b. b && in_each is_picked (drop (suc dim) h) (drop (suc dim) f) (drop (suc dim) ids)) (sym t)
+    ∙ ap (λ k. r && in_each is_picked (drop k h) (drop k f) (drop k ids)) (sym (add-one dim))
 
 pub is_picked-read : (h : List Dimension) (f read : List Pick) (dim i id here : ℕ) (d : Dimension) (p : Pick) → read ≡ f → i ≡ dim → dim < length f → d ≡ dimension h dim → p ≡ get_or read i p → id ≡ here → is_picked d.tree p id ≡ is_picked (tree h dim) (pick_at f dim) here
 is_picked-read h f read dim i id here d p e n lt de pe ie =
@@ -87,26 +87,26 @@ both true false e = absurd cc
 both false b e = absurd cc
 
 -- the test is that of each dimension
-pub all_picked-each : (h : List Dimension) (f : List Pick) (ids : List ℕ) → all_picked h f ids ≡ true → (dim : ℕ) → dim < length h → is_picked (tree h dim) (pick_at f dim) (get_or ids dim 0) ≡ true
-all_picked-each [] f ids e dim lt = absurd (omega arith)
-all_picked-each (d ∷ h) [] ids e dim lt = absurd cc
-all_picked-each (d ∷ h) (p ∷ f) [] e dim lt = absurd cc
-all_picked-each (d ∷ h) (p ∷ f) (id ∷ ids) e zero lt = (both (is_picked d.tree p id) (all_picked h f ids) e).0
-all_picked-each (d ∷ h) (p ∷ f) (id ∷ ids) e (suc dim) lt = all_picked-each h f ids (both (is_picked d.tree p id) (all_picked h f ids) e).1 dim (omega arith)
+pub picked-each : (h : List Dimension) (f : List Pick) (ids : List ℕ) → in_each is_picked h f ids ≡ true → (dim : ℕ) → dim < length h → is_picked (tree h dim) (pick_at f dim) (get_or ids dim 0) ≡ true
+picked-each [] f ids e dim lt = absurd (omega arith)
+picked-each (d ∷ h) [] ids e dim lt = absurd cc
+picked-each (d ∷ h) (p ∷ f) [] e dim lt = absurd cc
+picked-each (d ∷ h) (p ∷ f) (id ∷ ids) e zero lt = (both (is_picked d.tree p id) (in_each is_picked h f ids) e).0
+picked-each (d ∷ h) (p ∷ f) (id ∷ ids) e (suc dim) lt = picked-each h f ids (both (is_picked d.tree p id) (in_each is_picked h f ids) e).1 dim (omega arith)
 
-pub each-all_picked : (h : List Dimension) (f : List Pick) (ids : List ℕ) → length f ≡ length h → length h ≤ length ids → ((dim : ℕ) → dim < length h → is_picked (tree h dim) (pick_at f dim) (get_or ids dim 0) ≡ true) → all_picked h f ids ≡ true
-each-all_picked [] [] ids e l all = refl
-each-all_picked [] (p ∷ f) ids e l all = absurd (omega arith)
-each-all_picked (d ∷ h) [] ids e l all = absurd (omega arith)
-each-all_picked (d ∷ h) (p ∷ f) [] e l all = absurd (omega arith)
-each-all_picked (d ∷ h) (p ∷ f) (id ∷ ids) e l all =
+pub each-picked : (h : List Dimension) (f : List Pick) (ids : List ℕ) → length f ≡ length h → length h ≤ length ids → ((dim : ℕ) → dim < length h → is_picked (tree h dim) (pick_at f dim) (get_or ids dim 0) ≡ true) → in_each is_picked h f ids ≡ true
+each-picked [] [] ids e l all = refl
+each-picked [] (p ∷ f) ids e l all = absurd (omega arith)
+each-picked (d ∷ h) [] ids e l all = absurd (omega arith)
+each-picked (d ∷ h) (p ∷ f) [] e l all = absurd (omega arith)
+each-picked (d ∷ h) (p ∷ f) (id ∷ ids) e l all =
     let first : is_picked d.tree p id ≡ true = all 0 (omega arith) in
-    ap (λ b. b && all_picked h f ids) first ∙ each-all_picked h f ids (omega arith) (omega arith) (λ dim lt. all (suc dim) (omega arith))
+    ap (λ b. b && in_each is_picked h f ids) first ∙ each-picked h f ids (omega arith) (omega arith) (λ dim lt. all (suc dim) (omega arith))
 
 pub matches-Matches : (h : List Dimension) (f : List Pick) (at : Coord) → IsFilterOf h f → IsCoordOf h at → IsTrue (matches h f at) ↔ Matches h f at
 matches-Matches h f at v c =
     let meaning : (dim : ℕ) → dim < length h → IsTrue (is_picked (tree h dim) (pick_at f dim) (concept_at at dim)) ↔ IsPicked (tree h dim) (pick_at f dim) (concept_at at dim) =
     λ dim lt. is_picked-IsPicked (tree h dim) (c.hierarchy.each dim lt).tree (pick_at f dim) (concept_at at dim) (c.leaf dim lt).concept in (
-      λ b. record { picked = λ dim lt. (meaning dim lt).0 (all_picked-each h f at.at b dim lt) },
-      λ m. each-all_picked h f at.at v.count (IsCoordOf-length h at c) (λ dim lt. (meaning dim lt).1 (m.picked dim lt)),
+      λ b. record { picked = λ dim lt. (meaning dim lt).0 (picked-each h f at.at b dim lt) },
+      λ m. each-picked h f at.at v.count (IsCoordOf-length h at c) (λ dim lt. (meaning dim lt).1 (m.picked dim lt)),
     )

@@ -32,14 +32,16 @@ abbrev pub is_picked : Tree → Pick → ℕ → Bool
 is_picked t All id = true
 is_picked t (Ids ids) id = list_any (is_under t id) ids
 
--- whether in each dimension the pick has the concept
-abbrev pub all_picked : List Dimension → List Pick → List ℕ → Bool
-all_picked [] [] ids = true
-all_picked (d ∷ ds) (p ∷ ps) (id ∷ ids) = is_picked d.tree p id && all_picked ds ps ids
-all_picked _ _ _ = false
+-- A test that holds in each dimension, of its tree and of what two lists have there. It fails where the first list has
+-- more or fewer than there are dimensions, or the second one too few.
+abbrev pub in_each : {P A : Type 0} → (Tree → P → A → Bool) → List Dimension → List P → List A → Bool
+in_each test [] [] xs = true
+in_each test (d ∷ ds) (p ∷ ps) (x ∷ xs) = test d.tree p x && in_each test ds ps xs
+in_each test _ _ _ = false
 
+-- whether in each dimension the pick has the coordinate's concept
 abbrev pub matches : List Dimension → List Pick → Coord → Bool
-matches h f at = all_picked h f at.at
+matches h f at = in_each is_picked h f at.at
 
 -- Filters by name.
 

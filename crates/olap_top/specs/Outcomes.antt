@@ -80,8 +80,7 @@ pub record TookPart (taken_before taken_now : Option (List ℕ)) (text : List �
 abbrev pub LeavesNothing : Outcome → Type 0
 LeavesNothing o = (o.ledger.history ≡ []) × (o.rest ≡ None)
 
--- The history is right and a run of exactly these commands, and each insert of known leaf concepts is acknowledged or
--- ended for want of memory.
+-- The history is right and a run of exactly these commands, and each insert of known leaf concepts is acknowledged or ended for want of memory.
 pub record HasRun (with : Use) (h : List Dimension) (commands : List Command) (history : List Event) : Type 0 where
   pub right : IsRight (site_of with h) history
   pub run : IsRunOf with h commands history
@@ -174,8 +173,7 @@ pub record IsStarved (wanted : Wanted) (left_before left_now taken_before taken_
   pub read : IsAskedScript wanted left_before left_now script
   pub ran : RanInto wanted script taken_before taken_now history
 
--- what was read is no script: the sink took the line that tells the first bad record and its first cause, or failed at
--- a part of it
+-- what was read is no script: the sink took the line that tells the first bad record and its first cause, or failed at a part of it
 pub record IsNoScript (left_before left_now taken_before taken_now : Option (List ℕ)) (faults_before faults_now : ℕ) : Type 0 where
   pub bytes : List ℕ
   pub read : IsReadWhole left_before left_now bytes

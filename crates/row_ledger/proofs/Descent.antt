@@ -118,7 +118,7 @@ parent_in-made : (site : Site) (usable : ℕ → Bool) (past : List Event) (e : 
 parent_in-made site usable past (Split of shard left right) y each stands made =
     let next : left ≡ ids_made site.workers past = stands.next in
     let after : right ≡ ids_made site.workers past + 1 = stands.after in
-    let parent : shard < ids_made site.workers past = live-made site usable past shard each stands.live in
+    let parent : shard < ids_made site.workers past = live-made site usable past shard each stands.done.live in
     at (y == left) refl (y == right) refl next after parent made
   where
     at : (v : Bool) → (y == left) ≡ v → (w : Bool) → (y == right) ≡ w → left ≡ ids_made site.workers past → right ≡ ids_made site.workers past + 1
@@ -195,14 +195,14 @@ live-apart site usable (Split of shard left right ∷ past) x y each live_x live
       | inr from ↦
           let next : left ≡ ids_made site.workers past = each.0.next in
           let after : right ≡ ids_made site.workers past + 1 = each.0.after in
-          let parent : shard < ids_made site.workers past = live-made site usable past shard each.1 each.0.live in
+          let parent : shard < ids_made site.workers past = live-made site usable past shard each.1 each.0.done.live in
           elim (live-split site.workers past of shard left right x live_x) [
             | inl old_x ↦ elim (live-split site.workers past of shard left right y live_y) [
               | inl old_y ↦
                   let made : y < ids_made site.workers past = live-made site usable past y each.1 old_y.0 in
                   live-apart site usable past x y each.1 old_x.0 old_y.0
                   (sym (ap (λ p. comes_from past x p) (parent_in-older site usable past (Split of shard left right) y each.0 made)) ∙ from)
-              | inr new_y ↦ absurd (old_x.1 (sym (live-apart site usable past x shard each.1 old_x.0 each.0.live (from_parent new_y from))))
+              | inr new_y ↦ absurd (old_x.1 (sym (live-apart site usable past x shard each.1 old_x.0 each.0.done.live (from_parent new_y from))))
             ]
             | inr new_x ↦
                 let unmade : ids_made site.workers past ≤ x = elim new_x [ inl is_left ↦ omega arith | inr is_right ↦ omega arith ] in
@@ -268,12 +268,12 @@ live-parent site usable past (Split of shard left right) y each stands live =
     ]
   where
     child : (y ≡ left) ⊎ (y ≡ right) → is_live site.workers past (parent_in (Split of shard left right) y) ≡ true
-    child (inl same) = rw (eq-eqb y left same) stands.live
+    child (inl same) = rw (eq-eqb y left same) stands.done.live
     child (inr same) = go (y == left) (eq-eqb y right same)
       where
         go : (v : Bool) → (y == right) ≡ true → is_live site.workers past (if v || (y == right) then shard else y) ≡ true
-        go true is = stands.live
-        go false is = rw is stands.live
+        go true is = stands.done.live
+        go false is = rw is stands.done.live
 live-parent site usable past (Moved of shard worker) y each stands live = sym (has-moved (frontier site.workers past) shard worker y) ∙ live
 live-parent site usable past _ y each stands live = live
 
@@ -301,7 +301,7 @@ split-made site usable (e ∷ past) shard left right each (of, (zero, within, he
     let stands : IsRightSplit site past of shard left right = subst (λ (x : Event). Stands site usable past x) here each.0 in
     let next : left ≡ ids_made site.workers past = stands.next in
     let after : right ≡ ids_made site.workers past + 1 = stands.after in
-    let parent : shard < ids_made site.workers past = live-made site usable past shard each.1 stands.live in
+    let parent : shard < ids_made site.workers past = live-made site usable past shard each.1 stands.done.live in
     subst (λ (x : Event). (shard < ids_made site.workers (x ∷ past)) × (left < ids_made site.workers (x ∷ past)) × (right < ids_made site.workers (x ∷ past))) (sym here)
     (omega arith, omega arith, omega arith)
 split-made site usable (e ∷ past) shard left right each (of, (suc k, within, here)) =
@@ -315,7 +315,7 @@ newest_child : (site : Site) (usable : ℕ → Bool) (past : List Event) (of sha
 newest_child site usable past of shard left right y each stands live is =
     let next : left ≡ ids_made site.workers past = stands.next in
     let after : right ≡ ids_made site.workers past + 1 = stands.after in
-    let parent : shard < ids_made site.workers past = live-made site usable past shard each stands.live in
+    let parent : shard < ids_made site.workers past = live-made site usable past shard each stands.done.live in
     let no_left : comes_from past left shard ≡ false = is_false _ (comes_from-unmade site usable past left shard each parent (omega arith)) in
     let no_right : comes_from past right shard ≡ false = is_false _ (comes_from-unmade site usable past right shard each parent (omega arith)) in
     let apart : (left == right) ≡ false = grind (arith, nat_tests) in
@@ -323,7 +323,7 @@ newest_child site usable past of shard left right y each stands live is =
     elim (live-split site.workers past of shard left right y live) [
       | inl old ↦
           let same : y ≡ shard =
-          live-apart site usable past shard y each stands.live old.0
+          live-apart site usable past shard y each stands.done.live old.0
           (sym (comes_from-older site usable past (Split of shard left right) shard y stands (live-made site usable past y each old.0)) ∙ is) in
           absurd (old.1 same)
       | inr new ↦ elim new [

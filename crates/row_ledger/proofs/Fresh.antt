@@ -79,7 +79,7 @@ pageless site usable (e ∷ past) each p beyond =
 is_work_of-fresh : (site : Site) (usable : ℕ → Bool) (past : List Event) (e : Event)
     → Stands site usable past e → (p : ℕ) → length past ≤ p → is_work_of p e ≡ false
 is_work_of-fresh site usable past (Split of shard left right) is_right p beyond =
-    let within : of < length past = kind-within call_in past of is_right.call is_right.called in grind (arith, nat_tests)
+    let within : of < length past = kind-within call_in past of is_right.done.call is_right.done.called in grind (arith, nat_tests)
 is_work_of-fresh site usable past (Moved of shard worker) is_right p beyond =
     let within : of < length past = kind-within call_in past of is_right.call is_right.called in grind (arith, nat_tests)
 is_work_of-fresh site usable past (Left of shard how) is_right p beyond =

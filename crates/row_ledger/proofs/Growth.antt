@@ -6,6 +6,7 @@ use Rattle.dim_hierarchy.specs.declared.row.Row.{Row}
 use Rattle.dim_hierarchy.specs.declared.filter.Pick.{Pick}
 use Rattle.measure_agg.specs.Aggregate.{Aggregate}
 use Rattle.describing_set.specs.declared.listing.Spot.{Spot}
+use Rattle.shard_plan.specs.declared.action.Action.TheVariants as action
 use Rattle.row_ledger.specs.declared.event.Event.{Event}
 use Rattle.row_ledger.specs.declared.event.Event.TheVariants.{Synced, Begun, Acked, Asked, Answered, Unknown, Failed, Refused, Called, Split, Moved, Left, Shown, Ended}
 use Rattle.row_ledger.specs.declared.page.Page.{Page}
@@ -14,7 +15,7 @@ use Rattle.row_ledger.specs.declared.settings.How.{How}
 use Rattle.row_ledger.specs.Past.{failed, is_kept}
 use Rattle.row_ledger.specs.Listings.{IsFirstListing}
 pub use Rattle.row_ledger.specs.Kept.{IsOpeningHistory}
-use Rattle.row_ledger.specs.Right.{Site, EachEvent, IsFirstPull, Opens, IsRightAck, IsRightAnswer, IsRightFailure, IsLaterPull, IsRightSplit, IsRightMove, IsRightLeft, IsRightPage, IsRightEnd, Stands, StandsRight, IsRight}
+use Rattle.row_ledger.specs.Right.{Site, EachEvent, IsFirstPull, Opens, IsRightAck, IsRightAnswer, IsRightFailure, IsLaterPull, IsRightAction, IsRightSplit, IsRightLeft, IsRightPage, IsRightEnd, Stands, StandsRight, IsRight}
 use Rattle.row_ledger.specs.Kept.{KeepsRight}
 use Rattle.row_ledger.proofs.Within.{Within, StandsRight-within}
 
@@ -35,7 +36,7 @@ EachEvent-opens site (e ∷ past) pulls = (λ first. pulls.0, EachEvent-opens si
 EachEvent-stands : (site : Site) (usable : ℕ → Bool) (h : List Event) → length h ≤ site.servers → EachEvent (IsFirstPull site) h → EachEvent (Stands site usable) h
 EachEvent-stands site usable [] few pulls = tt
 EachEvent-stands site usable (Synced server listing ∷ past) few pulls =
-    (record { later = λ behind. absurd (omega arith) }, EachEvent-stands site usable past (omega arith) pulls.1)
+    (λ behind. absurd (omega arith), EachEvent-stands site usable past (omega arith) pulls.1)
 EachEvent-stands site usable (_ ∷ past) few pulls = absurd pulls.0
 
 failed-none : (site : Site) (h : List Event) → EachEvent (IsFirstPull site) h → failed h ≡ []
@@ -70,7 +71,7 @@ KeepsRight-grown site placed h e keeps stands same = record {
 
 pub KeepsRight-synced : (site : Site) (placed : ℕ → Bool) (h : List Event) (server : ℕ) (listing : List Spot)
     → KeepsRight site placed h → IsLaterPull site placed h server listing → KeepsRight site placed (Synced server listing ∷ h)
-KeepsRight-synced site placed h server listing keeps right = KeepsRight-grown site placed h (Synced server listing) keeps (record { later = λ behind. right }) refl
+KeepsRight-synced site placed h server listing keeps right = KeepsRight-grown site placed h (Synced server listing) keeps (λ behind. right) refl
 
 pub KeepsRight-begun : (site : Site) (placed : ℕ → Bool) (h : List Event) (session server : ℕ) (row : Row)
     → KeepsRight site placed h → row.no ≡ length h → KeepsRight site placed (Begun session server row ∷ h)
@@ -105,7 +106,7 @@ pub KeepsRight-split : (site : Site) (placed : ℕ → Bool) (h : List Event) (o
 KeepsRight-split site placed h of shard left right keeps is_right = KeepsRight-grown site placed h (Split of shard left right) keeps is_right refl
 
 pub KeepsRight-moved : (site : Site) (placed : ℕ → Bool) (h : List Event) (of shard worker : ℕ)
-    → KeepsRight site placed h → IsRightMove site h of shard worker → KeepsRight site placed (Moved of shard worker ∷ h)
+    → KeepsRight site placed h → IsRightAction site h of (action.Move shard worker) → KeepsRight site placed (Moved of shard worker ∷ h)
 KeepsRight-moved site placed h of shard worker keeps right = KeepsRight-grown site placed h (Moved of shard worker) keeps right refl
 
 pub KeepsRight-left : (site : Site) (placed : ℕ → Bool) (h : List Event) (of shard : ℕ) (how : How)

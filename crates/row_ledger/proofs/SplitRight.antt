@@ -28,7 +28,7 @@ to_split_answer = CanAnswer-older all (Called 3 (Split 0)) _ _ (CanAnswer-older 
 split_right : KeepsRight site all split
 split_right =
     let done = KeepsRight-split site all to_split 7 0 2 3 to_split_right
-    (record { call = Split 0; called = refl; is_open = refl; asked = (refl, refl); live = refl; next = refl; after = refl }) in
+    (record { done = record { call = Split 0; called = refl; is_open = refl; asked = (refl, refl); live = refl }; next = refl; after = refl }) in
     KeepsRight-ended site all (event.Split 7 0 2 3 ∷ to_split) 7 Fine done
     (record { call = Split 0; called = refl; is_open = refl; may_end = (refl, refl); page = refl })
 

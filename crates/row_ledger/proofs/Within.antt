@@ -22,7 +22,7 @@ use Rattle.row_ledger.specs.Bounds.{may}
 use Rattle.row_ledger.specs.Listings.{IsBox, IsListing}
 use Rattle.row_ledger.specs.Work.{IsRightDecline, MayEndAction, Settles, IsRightBalance, rows_read}
 use Rattle.row_ledger.specs.Classes.{class_of}
-use Rattle.row_ledger.specs.Right.{Site, EachEvent, IsRightAnswer, IsLaterPull, IsRightPull, MayEnd, IsRightEnd, Stands, StandsRight}
+use Rattle.row_ledger.specs.Right.{Site, EachEvent, IsRightAnswer, IsLaterPull, MayEnd, IsRightEnd, Stands, StandsRight}
 use Rattle.row_ledger.proofs.Elements.{Contains-filter, Contains-filtered, IsTrue-filtered}
 
 -- each number that the first has the second has
@@ -73,19 +73,16 @@ IsListing-within site fewer more within past server listing lists = record {
   published = lists.published;
 }
 
-IsRightPull-within : (site : Site) (fewer more : ℕ → Bool) → Within fewer more → (past : List Event) (server : ℕ) (listing : List Spot)
-    → IsRightPull site fewer past server listing → IsRightPull site more past server listing
-IsRightPull-within site fewer more within past server listing right = record { later = λ behind. go (right.later behind) }
-  where
-    go : IsLaterPull site fewer past server listing → IsLaterPull site more past server listing
-    go later = record {
-      of = later.of;
-      call = later.call;
-      called = later.called;
-      is_open = later.is_open;
-      pulls = later.pulls;
-      lists = IsListing-within site fewer more within past server listing later.lists;
-    }
+IsLaterPull-within : (site : Site) (fewer more : ℕ → Bool) → Within fewer more → (past : List Event) (server : ℕ) (listing : List Spot)
+    → IsLaterPull site fewer past server listing → IsLaterPull site more past server listing
+IsLaterPull-within site fewer more within past server listing later = record {
+  of = later.of;
+  call = later.call;
+  called = later.called;
+  is_open = later.is_open;
+  pulls = later.pulls;
+  lists = IsListing-within site fewer more within past server listing later.lists;
+}
 
 -- Ends.
 
@@ -152,7 +149,8 @@ IsRightEnd-within site fewer more within past of how right = record {
 
 Stands-within : (site : Site) (fewer more : ℕ → Bool) → Within fewer more → (past : List Event) (e : Event)
     → Stands site fewer past e → Stands site more past e
-Stands-within site fewer more within past (event.Synced server listing) right = IsRightPull-within site fewer more within past server listing right
+Stands-within site fewer more within past (event.Synced server listing) right =
+    λ behind. IsLaterPull-within site fewer more within past server listing (right behind)
 Stands-within site fewer more within past (event.Answered of answer) right = IsRightAnswer-within site fewer more within past of answer right
 Stands-within site fewer more within past (event.Ended of how) right = IsRightEnd-within site fewer more within past of how right
 Stands-within site fewer more within past _ right = right

@@ -51,8 +51,7 @@ leaf_room = 32
 abbrev pub directory_room : ℕ
 directory_room = 16
 
--- A leaf group with these rows, so many groups below the root: its items are the rows, and it lies as deep as the tree is
--- high.
+-- A leaf group with these rows, so many groups below the root: its items are the rows, and it lies as deep as the tree is high.
 pub record IsLeafGroup (h : List Dimension) (height at : ℕ) (rows : List Row) (line : NodeLine) : Type 0 where
   pub depth : line.depth ≡ at
   pub lowest : at + 1 ≡ height
@@ -117,8 +116,7 @@ pub record IsShardLine (h : List Dimension) (past : List Event) (line : ShardLin
 abbrev pub places_shown : List ShardLine → List Place
 places_shown lines = map (λ (line : ShardLine). place line.shard line.worker) lines
 
--- What a page of the shards may show behind this past: those that stand, and the acknowledged rows divided among them,
--- each row in one of them.
+-- What a page of the shards may show behind this past: those that stand, and the acknowledged rows divided among them, each row in one of them.
 pub record AreShownShards (site : Site) (past : List Event) (lines : List ShardLine) : Type 0 where
   pub places : places_shown lines ≡ frontier site.workers past
   pub parts : List (List Row)

@@ -3,9 +3,9 @@ use Rattle.std.specs.Prelude.{ℕ, ◌≡◌, ◌==◌, ◌+◌, ◌<◌, ◌≤
 use Rattle.std.specs.List.{list_any}
 use Rattle.measure_agg.specs.Aggregate.{Aggregate}
 use Rattle.describing_set.specs.declared.listing.Spot.{Spot}
+use Rattle.shard_plan.specs.declared.action.Action.{Action}
 use Rattle.shard_plan.specs.declared.action.Action.TheVariants as action
 use Rattle.row_ledger.specs.declared.class.Class.{Class}
-use Rattle.row_ledger.specs.declared.class.Class.TheVariants.{Sync, Settle, Bare, Action, Balance}
 use Rattle.row_ledger.specs.declared.class.Class.TheVariants as class
 use Rattle.row_ledger.specs.declared.class.Subject.TheVariants as subject
 use Rattle.row_ledger.specs.declared.event.Event.{Event}
@@ -23,7 +23,7 @@ use Rattle.row_ledger.specs.Shards.{is_live, ids_made, is_path}
 use Rattle.row_ledger.specs.Bounds.{must, may, IsAllowed}
 use Rattle.row_ledger.specs.Listings.{IsFirstListing, IsListing}
 pub use Rattle.row_ledger.specs.Pages.{IsShown}
-use Rattle.row_ledger.specs.Work.{MayEndAction, IsRightBalance}
+use Rattle.row_ledger.specs.Work.{shard_of, MayEndAction, IsRightBalance}
 
 -- P holds of each event, with the past behind it
 abbrev pub EachEvent : (List Event → Event → Type 0) → List Event → Type 0
@@ -66,9 +66,9 @@ pub record IsRightFailure (past : List Event) (of : ℕ) : Type 0 where
 
 -- a call pulls for a server: a sync of it does, and a settle
 abbrev pub pulls_for : ℕ → Class → Bool
-pulls_for server (Sync s) = s == server
-pulls_for server Settle = true
-pulls_for server class = false
+pulls_for server (class.Sync s) = s == server
+pulls_for server class.Settle = true
+pulls_for server other = false
 
 -- a pull stands while a call is open that pulls for its server, and lists what stands
 pub record IsLaterPull (site : Site) (usable : ℕ → Bool) (past : List Event) (server : ℕ) (listing : List Spot) : Type 0 where
@@ -79,46 +79,27 @@ pub record IsLaterPull (site : Site) (usable : ℕ → Bool) (past : List Event)
   pub pulls : IsTrue (pulls_for server (class_of call))
   pub lists : IsListing site usable past server listing
 
--- the first pulls aside, one for each server
-pub record IsRightPull (site : Site) (usable : ℕ → Bool) (past : List Event) (server : ℕ) (listing : List Spot) : Type 0 where
-  pub later : site.servers ≤ length past → IsLaterPull site usable past server listing
-
 -- Splits and moves.
 
--- a call asks for this split as its only work, or plans it
-abbrev pub AsksSplit : List Event → ℕ → Class → ℕ → Type 0
-AsksSplit past of (Action (action.Split x)) shard = (shard ≡ x) × (work past of ≡ [])
-AsksSplit past of (Balance most) shard = ⊤
-AsksSplit past of class shard = ⊥
+-- a call asks for this action as its only work, or plans it
+abbrev pub AsksFor : List Event → ℕ → Class → Action → Type 0
+AsksFor past of (class.Action asked) a = (a ≡ asked) × (work past of ≡ [])
+AsksFor past of (class.Balance most) a = ⊤
+AsksFor past of other a = ⊥
 
--- a call asks for this move as its only work, or plans it
-abbrev pub AsksMove : List Event → ℕ → Class → ℕ → ℕ → Type 0
-AsksMove past of (Action (action.Move x w)) shard worker = (shard ≡ x) × (worker ≡ w) × (work past of ≡ [])
-AsksMove past of (Balance most) shard worker = ⊤
-AsksMove past of class shard worker = ⊥
-
--- a split is for a call that hasn't ended, of a shard that stands, whose children have the next two ids
-pub record IsRightSplit (site : Site) (past : List Event) (of shard left right : ℕ) : Type 0 where
+-- an action is done for a call that hasn't ended, on a shard that stands
+pub record IsRightAction (site : Site) (past : List Event) (of : ℕ) (a : Action) : Type 0 where
   pub call : Call
   pub called : call_at past of ≡ Some call
   pub is_open : has_ended past of ≡ false
-  pub asked : AsksSplit past of (class_of call) shard
-  pub live : IsTrue (is_live site.workers past shard)
+  pub asked : AsksFor past of (class_of call) a
+  pub live : IsTrue (is_live site.workers past (shard_of a))
+
+-- the children of a split have the next two ids
+pub record IsRightSplit (site : Site) (past : List Event) (of shard left right : ℕ) : Type 0 where
+  pub done : IsRightAction site past of (action.Split shard)
   pub next : left ≡ ids_made site.workers past
   pub after : right ≡ ids_made site.workers past + 1
-
--- a move is for a call that hasn't ended, of a shard that stands
-pub record IsRightMove (site : Site) (past : List Event) (of shard worker : ℕ) : Type 0 where
-  pub call : Call
-  pub called : call_at past of ≡ Some call
-  pub is_open : has_ended past of ≡ false
-  pub asked : AsksMove past of (class_of call) shard worker
-  pub live : IsTrue (is_live site.workers past shard)
-
--- only a balance leaves a planned action
-abbrev pub Plans : Class → Type 0
-Plans (Balance most) = ⊤
-Plans class = ⊥
 
 -- how a planned action may be left
 abbrev pub MayLeave : How → Type 0
@@ -127,12 +108,13 @@ MayLeave (Declined (decline.NoCell need free)) = ⊤
 MayLeave Postponed = ⊤
 MayLeave how = ⊥
 
--- an action is left by a balance that hasn't ended
+-- only a balance leaves a planned action, and one that hasn't ended
 pub record IsRightLeft (past : List Event) (of : ℕ) (how : How) : Type 0 where
   pub call : Call
+  pub most : ℕ
   pub called : call_at past of ≡ Some call
   pub is_open : has_ended past of ≡ false
-  pub plans : Plans (class_of call)
+  pub plans : class_of call ≡ class.Balance most
   pub may_leave : MayLeave how
 
 -- Pages.
@@ -142,7 +124,7 @@ abbrev pub Asks : Class → Page → Type 0
 Asks (class.Page subject.Shards) (page.Shards lines) = ⊤
 Asks (class.Page (subject.Tree shard)) (page.Tree shown) = shown.shard ≡ shard
 Asks (class.Page subject.Rows) (page.Audit audit) = ⊤
-Asks class shown = ⊥
+Asks other shown = ⊥
 
 -- A page is such as a called command asks for that hasn't ended, the first one for it, and what it tells was so when the
 -- command began. It stands right behind the command's beginning, and no other command was open there.
@@ -165,23 +147,23 @@ has_pulled past of server = list_any (is_pull_of server) (since past of)
 -- How a called command may end that began at `of`, behind this past. One that does nothing is always fine; a sync is where its
 -- server has pulled; a page is declined exactly where what it is of isn't there, unless it finds no memory.
 abbrev pub MayEnd : Site → (ℕ → Bool) → List Event → ℕ → Class → How → Type 0
-MayEnd site usable past of Bare Fine = ⊤
-MayEnd site usable past of (Sync server) Fine = IsTrue (has_pulled past of server)
-MayEnd site usable past of (Sync server) NoMemory = ⊤
-MayEnd site usable past of Settle Fine = ⊤
-MayEnd site usable past of Settle NoMemory = ⊤
-MayEnd site usable past of (Action a) how = MayEndAction site usable past of a how
-MayEnd site usable past of (Balance most) (Balanced done planned) = IsRightBalance site usable past of most done planned
-MayEnd site usable past of (Balance most) NoMemory = work past of ≡ []
+MayEnd site usable past of class.Bare Fine = ⊤
+MayEnd site usable past of (class.Sync server) Fine = IsTrue (has_pulled past of server)
+MayEnd site usable past of (class.Sync server) NoMemory = ⊤
+MayEnd site usable past of class.Settle Fine = ⊤
+MayEnd site usable past of class.Settle NoMemory = ⊤
+MayEnd site usable past of (class.Action a) how = MayEndAction site usable past of a how
+MayEnd site usable past of (class.Balance most) (Balanced done planned) = IsRightBalance site usable past of most done planned
+MayEnd site usable past of (class.Balance most) NoMemory = work past of ≡ []
 MayEnd site usable past of (class.Page subject) Fine = IsTrue (is_there site.workers (before past of) subject)
 MayEnd site usable past of (class.Page subject) (Declined decline.Unknown) = is_there site.workers (before past of) subject ≡ false
 MayEnd site usable past of (class.Page subject) NoMemory = ⊤
-MayEnd site usable past of class how = ⊥
+MayEnd site usable past of other how = ⊥
 
 -- whether a command that ends so has shown a page: one that asks for a page and is fine has, and no other has
 abbrev pub shows : Class → How → Bool
 shows (class.Page subject) Fine = true
-shows class how = false
+shows other how = false
 
 -- an end is of a called command that hasn't ended, and is one that it may have, with a page where it has to
 pub record IsRightEnd (site : Site) (usable : ℕ → Bool) (past : List Event) (of : ℕ) (how : How) : Type 0 where
@@ -193,16 +175,16 @@ pub record IsRightEnd (site : Site) (usable : ℕ → Bool) (past : List Event) 
 
 -- Histories.
 
--- the event stands rightly behind this past; a row's number is the position of its beginning
+-- the event stands rightly behind this past, the first pulls aside, one for each server; a row's number is the position of its beginning
 abbrev pub Stands : Site → (ℕ → Bool) → List Event → Event → Type 0
-Stands site usable past (event.Synced server listing) = IsRightPull site usable past server listing
+Stands site usable past (event.Synced server listing) = site.servers ≤ length past → IsLaterPull site usable past server listing
 Stands site usable past (event.Begun session server row) = row.no ≡ length past
 Stands site usable past (event.Acked of path) = IsRightAck past of path
 Stands site usable past (event.Asked session server filter) = ⊤
 Stands site usable past (event.Answered of answer) = IsRightAnswer site usable past of answer
 Stands site usable past (event.Failed of) = IsRightFailure past of
 Stands site usable past (event.Split of shard left right) = IsRightSplit site past of shard left right
-Stands site usable past (event.Moved of shard worker) = IsRightMove site past of shard worker
+Stands site usable past (event.Moved of shard worker) = IsRightAction site past of (action.Move shard worker)
 Stands site usable past (event.Left of shard how) = IsRightLeft past of how
 Stands site usable past (event.Shown of page) = IsRightPage site past of page
 Stands site usable past (event.Ended of how) = IsRightEnd site usable past of how

@@ -4,6 +4,7 @@ use Rattle.std.specs.Prelude.{Option, Some, None, Contains, slice_get, zip}
 use Rattle.std.specs.List.{AllZip}
 use Rattle.std.proofs.lemmas.Bool.{cases_lt}
 use Rattle.dim_hierarchy.specs.Dimension.{Dimension}
+use Rattle.row_ledger.specs.Classes.{class_of}
 use Rattle.row_ledger.specs.declared.event.Event.{Event}
 use Rattle.row_ledger.specs.declared.event.Event.TheVariants.{Called}
 use Rattle.row_ledger.specs.declared.settings.Call.{Call}
@@ -70,13 +71,13 @@ all-zip-at R (x ∷ xs) (y ∷ ys) zero d all h = (x, refl, all.0)
 all-zip-at R (x ∷ xs) (y ∷ ys) (suc i) d all h = all-zip-at R xs ys i d all.1 (omega arith)
 
 -- the command that is called by an event closes its phase where the call does
-calls-closing : (with : Use) (h : List Dimension) (session : ℕ) (call : Call) (c : Command) → Begins with h c (Called session call) → is_closing call ≡ true → closes c ≡ true
+calls-closing : (with : Use) (h : List Dimension) (session : ℕ) (call : Call) (c : Command) → Begins with h c (Called session call) → is_closing (class_of call) ≡ true → closes c ≡ true
 calls-closing with h session call (Insert new) begins is = absurd begins
 calls-closing with h session call (Query question) begins is = absurd begins
-calls-closing with h session call (Control called) begins is = ap is_closing (sym begins.1) ∙ is
+calls-closing with h session call (Control called) begins is = ap (λ (x : Call). is_closing (class_of x)) (sym begins.1) ∙ is
 
 begun-closing : (with : Use) (h : List Dimension) (history : List Event) (session : ℕ) (call : Call) (c : Command) (of : ℕ) → BeginsAt with h history c (Some of)
-    → event_at history of ≡ Some (Called session call) → is_closing call ≡ true → closes c ≡ true
+    → event_at history of ≡ Some (Called session call) → is_closing (class_of call) ≡ true → closes c ≡ true
 begun-closing with h history session call c of begun at is =
     let same : begun.0 ≡ Called session call = (let first = begun.1 in cc) in
     calls-closing with h session call c (subst (Begins with h c) same begun.2) is

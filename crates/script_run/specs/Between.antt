@@ -2,6 +2,7 @@
 -- other.
 use Rattle.std.specs.Prelude.{ℕ, true, false, ◌≡◌, ◌≢◌, ◌<◌, ◌≤◌, ◌⊎◌, IsTrue, Option, Some, None, List, [], ◌∷◌, ◌++◌, length, slice_get}
 use Rattle.dim_hierarchy.specs.Dimension.{Dimension}
+use Rattle.row_ledger.specs.Classes.{class_of}
 use Rattle.row_ledger.specs.Past.{event_at, is_beginning, is_over, session_in}
 use Rattle.row_ledger.specs.Right.{EachEvent}
 use Rattle.row_ledger.specs.declared.event.Event.{Event}
@@ -73,6 +74,6 @@ OrderBeginLaw = (with : Use) (h : List Dimension) (front : List Command) (c : Co
 -- A command that closes its phase stands alone: each other one was over when it began, or began when it was over.
 abbrev pub ClosingLaw : Type 0
 ClosingLaw = (with : Use) (h : List Dimension) (commands : List Command) (history : List Event) (of p session : ℕ) (call : Call) (e : Event)
-    → IsRunSoFar with h commands history → event_at history of ≡ Some (Called session call) → is_closing call ≡ true
+    → IsRunSoFar with h commands history → event_at history of ≡ Some (Called session call) → is_closing (class_of call) ≡ true
     → event_at history p ≡ Some e → IsTrue (is_beginning e) → p ≢ of
     → EndsBefore history (Some p) (Some of) ⊎ EndsBefore history (Some of) (Some p)

@@ -3,23 +3,18 @@ use Rattle.std.specs.Prelude.{ℕ, ◌+◌, ◌*◌, Bool, true, false, if◌the
 use Rattle.row_ledger.specs.Classes.{class_of}
 use Rattle.row_ledger.specs.declared.class.Class.{Class}
 use Rattle.row_ledger.specs.declared.class.Class.TheVariants.{Settle, Bare, Page}
-use Rattle.row_ledger.specs.declared.settings.Call.{Call}
 use Rattle.script_form.specs.declared.script.Command.{Command}
 use Rattle.script_form.specs.declared.script.Command.TheVariants.{Control}
 
 -- whether a called command closes its phase: it begins when all others of the phase have ended
-
-abbrev pub closes_as : Class → Bool
-closes_as Bare = true
-closes_as Settle = true
-closes_as (Page subject) = true
-closes_as class = false
-
-abbrev pub is_closing : Call → Bool
-is_closing call = closes_as (class_of call)
+abbrev pub is_closing : Class → Bool
+is_closing Bare = true
+is_closing Settle = true
+is_closing (Page subject) = true
+is_closing class = false
 
 abbrev pub closes : Command → Bool
-closes (Control call) = is_closing call
+closes (Control call) = is_closing (class_of call)
 closes _ = false
 
 -- phases with one command more in front of the first

@@ -83,8 +83,7 @@ HasPulls with past e = ⊤
 
 -- The history is a part of a run of exactly these commands: each that has begun begins as it is to, and nothing else
 -- begins; a session begins one when the one before has ended; and a command that closes a phase begins when all
--- others of the phase have ended, as the next phase's do when it has ended. A sync and a settle that have ended pulled as
--- they were to.
+-- others of the phase have ended, as the next phase's do when it has ended. A sync and a settle that have ended pulled as they were to.
 pub record IsRunSoFar (with : Use) (h : List Dimension) (commands : List Command) (history : List Event) : Type 0 where
   pub begun : AllZip (BeginsAt with h history) commands (places with commands history)
   pub only : (p : ℕ) (e : Event) → event_at history p ≡ Some e → IsTrue (is_beginning e) → Contains (places with commands history) (Some p)

@@ -6,6 +6,8 @@ use Rattle.std.specs.Option.{option_map_or}
 use Rattle.std.proofs.lemmas.Bool.{eq-eqb, ne_eqb}
 use Rattle.std.proofs.lemmas.Option.{slice_get_within}
 use Rattle.dim_hierarchy.specs.Dimension.{Dimension}
+use Rattle.row_ledger.specs.Classes.{class_of}
+use Rattle.row_ledger.specs.declared.settings.Call.{Call}
 use Rattle.row_ledger.proofs.Positions.{event_at-here}
 use Rattle.row_ledger.specs.Past.{ends_itself, event_at, has_ended, is_over, session_in}
 use Rattle.row_ledger.specs.declared.event.Event.{Event}
@@ -127,7 +129,7 @@ begin-order with h done cs k c e history at before count session begins order =
 begins-closes : (with : Use) (h : List Dimension) (c : Command) (e : Event) → Begins with h c e → begins_closing e ≡ true → closes c ≡ true
 begins-closes with h (script.Insert new) (event.Called session call) b closing = absurd b
 begins-closes with h (script.Query question) (event.Called session call) b closing = absurd b
-begins-closes with h (script.Control called) (event.Called session call) b closing = ap is_closing (sym b.1) ∙ closing
+begins-closes with h (script.Control called) (event.Called session call) b closing = ap (λ (x : Call). is_closing (class_of x)) (sym b.1) ∙ closing
 begins-closes with h c (event.Begun session server row) b closing = cc
 begins-closes with h c (event.Asked session server filter) b closing = cc
 begins-closes with h c (event.Unknown session server dim) b closing = cc

@@ -18,7 +18,7 @@ use Rattle.row_ledger.specs.declared.class.Class.{Class}
 use Rattle.row_ledger.specs.declared.class.Class.TheVariants as class_is
 use Rattle.row_ledger.specs.declared.settings.How.{How}
 use Rattle.row_ledger.specs.declared.settings.How.TheVariants as how
-use Rattle.script_run.specs.Phases.{closes_as, is_closing}
+use Rattle.script_run.specs.Phases.{is_closing}
 use Rattle.server_image.specs.Registry.{RegistryValue}
 use Rattle.shard_plan.specs.declared.action.Action.{Action}
 use Rattle.tree_shape.specs.Counts.{Each}
@@ -162,7 +162,7 @@ moves-off (m ∷ n ∷ x ∷ more) job to gate d = absurd d
 
 -- a call's work as it begins
 begun-new : (servers workers : ℕ) (r : RegistryValue) (class : Class) (work : Work) (job : Option JobValue) → IsBegun workers r class work job
-    → HasPulled servers work [] × (is_closing_work work ≡ closes_as class)
+    → HasPulled servers work [] × (is_closing_work work ≡ is_closing class)
 begun-new servers workers r (class_is.Sync server) work job b = subst (λ x. HasPulled servers x [] × (is_closing_work x ≡ false)) (sym b.0) (refl, refl)
 begun-new servers workers r class_is.Settle work job b = subst (λ x. HasPulled servers x [] × (is_closing_work x ≡ true)) (sym b.0) (refl, refl)
 begun-new servers workers r class_is.Bare work job b = subst (λ x. HasPulled servers x [] × (is_closing_work x ≡ true)) (sym b.0) (tt, refl)

@@ -1,6 +1,7 @@
 -- What one step tells the history, and what becomes of its actor's command.
 use Rattle.std.specs.Prelude.{ℕ, ◌≡◌, ◌++◌, ◌⊎◌, Bool, true, false, List, [], ◌∷◌, Option, Some, None, length}
 use Rattle.describing_set.specs.declared.listing.Spot.{Spot}
+use Rattle.row_ledger.specs.Classes.{class_of}
 use Rattle.row_ledger.specs.Past.{end_in, ends_itself, session_in}
 use Rattle.row_ledger.specs.declared.event.Event.{Event}
 use Rattle.row_ledger.specs.declared.event.Event.TheVariants as event
@@ -123,7 +124,7 @@ pub record TellsEnd (s : Setting) (k : Kind) (n : ℕ) (w now : World) : Type 0 
 
 -- whether an event begins a command that closes its phase
 abbrev pub begins_closing : Event → Bool
-begins_closing (event.Called session call) = is_closing call
+begins_closing (event.Called session call) = is_closing (class_of call)
 begins_closing _ = false
 
 -- what a beginning opens: nothing, or a command that has pulled nothing

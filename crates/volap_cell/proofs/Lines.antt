@@ -18,7 +18,7 @@ parent-made : (site : Site) (usable : ℕ → Bool) (past : List Event) (e : Eve
 parent-made site usable past (Split of shard left right) y each stands made =
     let next : left ≡ ids_made site.workers past = stands.next in
     let after : right ≡ ids_made site.workers past + 1 = stands.after in
-    let parent : shard < ids_made site.workers past = live-made site usable past shard each stands.live in
+    let parent : shard < ids_made site.workers past = live-made site usable past shard each stands.done.live in
     at (y == left) refl (y == right) refl next after parent made
   where
     at : (v : Bool) → (y == left) ≡ v → (w : Bool) → (y == right) ≡ w → left ≡ ids_made site.workers past → right ≡ ids_made site.workers past + 1
@@ -119,7 +119,7 @@ are-children site usable (e ∷ past) x l r each (of, (zero, within, here)) =
     let stands : IsRightSplit site past of x l r = subst (λ (z : Event). Stands site usable past z) here each.0 in
     let next : l ≡ ids_made site.workers past = stands.next in
     let after : r ≡ ids_made site.workers past + 1 = stands.after in
-    let parent : x < ids_made site.workers past = live-made site usable past x each.1 stands.live in
+    let parent : x < ids_made site.workers past = live-made site usable past x each.1 stands.done.live in
     let is : Stands site usable past (Split of x l r) = stands in
     let unmade : (z : ℕ) → ids_made site.workers past ≤ z → comes_from past z x ≡ false =
     λ z le. is-not (comes_from past z x) (λ comes. let made = comes_from-made site usable past z x each.1 parent comes in absurd (omega (arith, made, le))) in

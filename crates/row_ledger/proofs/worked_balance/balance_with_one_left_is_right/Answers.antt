@@ -28,14 +28,14 @@ moved_right : KeepsRight site all (Ended 37 Fine ∷ Moved 37 1 0 ∷ Called 3 (
 moved_right =
     let called = KeepsRight-called site all (crowd 35) 3 (Move 1 0) (crowd_right 35) in
     let done = KeepsRight-moved site all _ 37 1 0 called
-    (record { call = Move 1 0; called = refl; is_open = refl; asked = (refl, refl, refl); live = refl }) in
+    (record { call = Move 1 0; called = refl; is_open = refl; asked = (refl, refl); live = refl }) in
     KeepsRight-ended site all _ 37 Fine done (record { call = Move 1 0; called = refl; is_open = refl; may_end = (refl, (refl, refl)); page = refl })
 
 to_balance_right : KeepsRight site all to_balance
 to_balance_right =
     let called = KeepsRight-called site all _ 3 (Split 0) moved_right in
     let done = KeepsRight-split site all _ 40 0 2 3 called
-    (record { call = Split 0; called = refl; is_open = refl; asked = (refl, refl); live = refl; next = refl; after = refl }) in
+    (record { done = record { call = Split 0; called = refl; is_open = refl; asked = (refl, refl); live = refl }; next = refl; after = refl }) in
     let ended = KeepsRight-ended site all _ 40 Fine done (record { call = Split 0; called = refl; is_open = refl; may_end = (refl, refl); page = refl }) in
     KeepsRight-called site all _ 3 (Balance 4) ended
 
@@ -68,7 +68,7 @@ returns c =
     let done = KeepsRight-moved site all to_balance 43 1 1 to_balance_right
     (record { call = Balance 4; called = refl; is_open = refl; asked = tt; live = refl }) in
     let left = KeepsRight-left site all _ 43 2 Postponed done
-    (record { call = Balance 4; called = refl; is_open = refl; plans = tt; may_leave = tt }) in
+    (record { call = Balance 4; most = 4; called = refl; is_open = refl; plans = refl; may_leave = tt }) in
     IsRight-kept site all balanced
     (KeepsRight-ended site all to_end 43 (Balanced 1 2) left
     (record { call = Balance 4; called = refl; is_open = refl; may_end = balance_right; page = refl }))

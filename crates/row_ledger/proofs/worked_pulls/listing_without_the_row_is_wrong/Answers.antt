@@ -7,5 +7,5 @@ use Rattle.row_ledger.proofs.worked_pulls.listing_without_the_row_is_wrong.Goals
 pub returns : goal.returns
 unfolding way.up way.climb
 returns c right =
-    let lists = (right.each.1.0.later (omega arith)).lists in
+    let lists = (right.each.1.0 (omega arith)).lists in
     false≢true (lists.own 0 (record { server = 0; row = row; path = 0 ∷ [] }) (omega arith))

@@ -16,7 +16,7 @@ returns c =
     (record { call = Move 0 7; called = refl; is_open = refl; may_end = (refl, refl); page = refl }) in
     let again = KeepsRight-called site all _ 3 (Move 0 1) declined in
     let done = KeepsRight-moved site all _ 6 0 1 again
-    (record { call = Move 0 1; called = refl; is_open = refl; asked = (refl, refl, refl); live = refl }) in
+    (record { call = Move 0 1; called = refl; is_open = refl; asked = (refl, refl); live = refl }) in
     IsRight-kept site all moved
     (KeepsRight-ended site all _ 6 Fine done
     (record { call = Move 0 1; called = refl; is_open = refl; may_end = (refl, (refl, refl)); page = refl }))

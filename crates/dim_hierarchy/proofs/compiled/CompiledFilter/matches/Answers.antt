@@ -4,7 +4,7 @@ use Rattle.dim_hierarchy.specs.Dimension.{tree}
 use Rattle.dim_hierarchy.specs.Row.{concept_at}
 use Rattle.dim_hierarchy.specs.Filter.{is_picked, pick_at}
 use Rattle.dim_hierarchy.specs.Meaning.{Matches}
-use Rattle.dim_hierarchy.proofs.Matching.{IsCoordOf-length, all_picked-end, all_picked-step, matches-Matches}
+use Rattle.dim_hierarchy.proofs.Matching.{IsCoordOf-length, picked-end, picked-step, matches-Matches}
 use Rattle.dim_hierarchy.proofs.compiled.CompiledFilter.matches.Goals as goal
 
 pub loop-dim-preserved : goal.loop-dim-preserved
@@ -14,7 +14,7 @@ loop-dim-preserved c =
     let here : c.has.result ≡ is_picked (tree h c.loop-dim.dim) (pick_at f c.loop-dim.dim) (concept_at c.args.at.now c.loop-dim.dim) =
     c.has.ensures ∙ ap (is_picked (tree h c.loop-dim.dim) (pick_at f c.loop-dim.dim)) c.concept.ensures in
     c.loop-dim.invariant
-    ∙ all_picked-step h f c.args.at.now.at c.loop-dim.dim true (omega arith) c.dims-dim-end.ensures.valid.count (IsCoordOf-length h c.args.at.now c.requires) (sym c.if-not-has.false ∙ here)
+    ∙ picked-step h f c.args.at.now.at c.loop-dim.dim true (omega arith) c.dims-dim-end.ensures.valid.count (IsCoordOf-length h c.args.at.now c.requires) (sym c.if-not-has.false ∙ here)
 
 not_matched : goal.returns-then-not-has-clause-test
 not_matched c =
@@ -23,7 +23,7 @@ not_matched c =
     let here : c.has.result ≡ is_picked (tree h c.loop-dim.dim) (pick_at f c.loop-dim.dim) (concept_at c.args.at.now c.loop-dim.dim) =
     c.has.ensures ∙ ap (is_picked (tree h c.loop-dim.dim) (pick_at f c.loop-dim.dim)) c.concept.ensures in
     sym (c.loop-dim.invariant
-    ∙ all_picked-step h f c.args.at.now.at c.loop-dim.dim false (omega arith) c.dims-dim-end.ensures.valid.count (IsCoordOf-length h c.args.at.now c.requires) (sym c.if-not-has.true ∙ here))
+    ∙ picked-step h f c.args.at.now.at c.loop-dim.dim false (omega arith) c.dims-dim-end.ensures.valid.count (IsCoordOf-length h c.args.at.now c.requires) (sym c.if-not-has.true ∙ here))
 
 pub returns-then-not-has-clause-test : goal.returns-then-not-has-clause-test
 returns-then-not-has-clause-test c = not_matched c
@@ -34,7 +34,7 @@ returns-then-not-has-clause-meaning c =
 
 matched : goal.returns-clause-test
 matched c =
-    sym (c.loop-dim.invariant ∙ all_picked-end c.args.self.now.hierarchy c.args.self.now.picks c.args.at.now.at c.loop-dim.dim (omega arith) c.dims-dim-end.ensures.valid.count)
+    sym (c.loop-dim.invariant ∙ picked-end c.args.self.now.hierarchy c.args.self.now.picks c.args.at.now.at c.loop-dim.dim (omega arith) c.dims-dim-end.ensures.valid.count)
 
 pub returns-clause-test : goal.returns-clause-test
 returns-clause-test c = matched c

@@ -4,7 +4,7 @@ use Rattle.dim_hierarchy.specs.Dimension.{tree}
 use Rattle.dim_hierarchy.specs.Row.{concept_at}
 use Rattle.dim_hierarchy.specs.Filter.{is_picked, pick_at}
 use Rattle.dim_hierarchy.specs.Meaning.{Matches}
-use Rattle.dim_hierarchy.proofs.Matching.{IsCoordOf-length, all_picked-end, all_picked-step, is_picked-read, matches-Matches}
+use Rattle.dim_hierarchy.proofs.Matching.{IsCoordOf-length, picked-end, picked-step, is_picked-read, matches-Matches}
 use Rattle.dim_hierarchy.proofs.hierarchy.Hierarchy.matches.Goals as goal
 
 pub loop-dim-preserved : goal.loop-dim-preserved
@@ -14,7 +14,7 @@ loop-dim-preserved c =
     let here : c.is_picked.result ≡ is_picked (tree h c.loop-dim.dim) (pick_at f c.loop-dim.dim) (concept_at c.args.at.now c.loop-dim.dim) =
     c.is_picked.ensures ∙ is_picked-read h f c.as_slice-picks.result.now c.loop-dim.dim c.from.result c.concept.result _ c.table.result.now c.index-picks-from.result c.as_slice-picks.ensures c.from.ensures (omega arith) c.table.ensures.value c.index-picks-from.is c.concept.ensures in
     c.loop-dim.invariant
-    ∙ all_picked-step h f c.args.at.now.at c.loop-dim.dim true (omega arith) c.requires.filter.count (IsCoordOf-length h c.args.at.now c.requires.at) (sym c.if-not-is_picked.false ∙ here)
+    ∙ picked-step h f c.args.at.now.at c.loop-dim.dim true (omega arith) c.requires.filter.count (IsCoordOf-length h c.args.at.now c.requires.at) (sym c.if-not-is_picked.false ∙ here)
 
 not_matched : goal.returns-then-not-is_picked-clause-test
 not_matched c =
@@ -23,7 +23,7 @@ not_matched c =
     let here : c.is_picked.result ≡ is_picked (tree h c.loop-dim.dim) (pick_at f c.loop-dim.dim) (concept_at c.args.at.now c.loop-dim.dim) =
     c.is_picked.ensures ∙ is_picked-read h f c.as_slice-picks.result.now c.loop-dim.dim c.from.result c.concept.result _ c.table.result.now c.index-picks-from.result c.as_slice-picks.ensures c.from.ensures (omega arith) c.table.ensures.value c.index-picks-from.is c.concept.ensures in
     sym (c.loop-dim.invariant
-    ∙ all_picked-step h f c.args.at.now.at c.loop-dim.dim false (omega arith) c.requires.filter.count (IsCoordOf-length h c.args.at.now c.requires.at) (sym c.if-not-is_picked.true ∙ here))
+    ∙ picked-step h f c.args.at.now.at c.loop-dim.dim false (omega arith) c.requires.filter.count (IsCoordOf-length h c.args.at.now c.requires.at) (sym c.if-not-is_picked.true ∙ here))
 
 pub returns-then-not-is_picked-clause-test : goal.returns-then-not-is_picked-clause-test
 returns-then-not-is_picked-clause-test c = not_matched c
@@ -33,7 +33,7 @@ returns-then-not-is_picked-clause-meaning c =
     rw (not_matched c) (matches-Matches c.args.self.now c.args.filter.now c.args.at.now c.requires.filter c.requires.at)
 
 matched : goal.returns-clause-test
-matched c = sym (c.loop-dim.invariant ∙ all_picked-end c.args.self.now c.args.filter.now c.args.at.now.at c.loop-dim.dim (omega arith) c.requires.filter.count)
+matched c = sym (c.loop-dim.invariant ∙ picked-end c.args.self.now c.args.filter.now c.args.at.now.at c.loop-dim.dim (omega arith) c.requires.filter.count)
 
 pub returns-clause-test : goal.returns-clause-test
 returns-clause-test c = matched c
