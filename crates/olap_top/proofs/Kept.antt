@@ -79,7 +79,7 @@ quiet-over site usable past e p stands over is = by e stands is
     by (event.Acked of path) r is = let same : of ≡ p = cc in still-open insert_in insert-stays past of r.insert r.begun r.is_open (rw same over)
     by (event.Answered of answer) r is = let same : of ≡ p = cc in still-open query_in query-stays past of r.query r.asked r.is_open (rw same over)
     by (event.Failed of) r is = let same : of ≡ p = cc in failed-open past of r.begun r.is_open (rw same over)
-    by (event.Split of shard left right) r is = let same : of ≡ p = cc in still-open call_in call-stays past of r.call r.called r.is_open (rw same over)
+    by (event.Split of shard left right) r is = let same : of ≡ p = cc in still-open call_in call-stays past of r.done.call r.done.called r.done.is_open (rw same over)
     by (event.Moved of shard worker) r is = let same : of ≡ p = cc in still-open call_in call-stays past of r.call r.called r.is_open (rw same over)
     by (event.Left of shard how) r is = let same : of ≡ p = cc in still-open call_in call-stays past of r.call r.called r.is_open (rw same over)
     by (event.Shown of page) r is = let same : of ≡ p = cc in still-open call_in call-stays past of r.call r.called r.is_open (rw same over)
