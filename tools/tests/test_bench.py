@@ -70,3 +70,39 @@ class Bench(unittest.TestCase):
         self.assertLess(kilobytes, 8192)
         with self.assertRaisesRegex(SystemExit, "sh -c exit 3 ended with status 3"):
             compare.measured(["sh", "-c", "exit 3"], *files)
+
+    def test_growth_is_told_for_twice_the_work_and_marked_where_it_is_more(self):
+        sys.path.insert(0, BENCH)
+        self.addCleanup(sys.path.remove, BENCH)
+        import compare
+        import growth
+        ctypes.CDLL(None).prctl(compare.SUBREAPER, 1)
+        self.addCleanup(ctypes.CDLL(None).prctl, compare.SUBREAPER, 0)
+        # A program that ends at once may be waited for by the shell that started it.
+        put(self.folder, {"program": "#!/bin/sh\nsleep 0.2\n", "wrong": "#!/bin/sh\nsleep 0.2\nexit 1\n"})
+        for name in ("program", "wrong"):
+            os.chmod(os.path.join(self.folder, name), 0o755)
+        kind = growth.Kind("rows", [2, 4], [1], growth.rows)
+        said = []
+        self.assertEqual(growth.table(os.path.join(self.folder, "program"), [kind], False, False, said.append), 0)
+        self.assertEqual([it.split()[0] for it in said], ["rows", "2", "4"])
+        self.assertRegex(said[2], r"^ +4 +\d+ ms .* MB +\d\.\d\d$")
+        said = []
+        growth.table(os.path.join(self.folder, "wrong"), [kind], True, False, said.append)
+        self.assertEqual(said, ["rows", "        1 did not end well, or took too long"])
+        self.assertTrue(growth.line(8, (100, 20), (40, 10), "ms").endswith("2.00 <- more than 2.3 times"))
+        self.assertTrue(growth.line(8, (100, 40), (50, 16), "ms").endswith("2.50 <- more than 2.3 times"))
+        self.assertFalse(growth.line(8, (10, 5), (1, 1), "ms").endswith("times"))
+
+    def test_scripts_of_growth_have_no_bad_record(self):
+        sys.path.insert(0, BENCH)
+        self.addCleanup(sys.path.remove, BENCH)
+        import growth
+        self.addCleanup(setattr, growth, "FIXED", growth.FIXED)
+        growth.FIXED = 100
+        why = os.path.join(ROOT, "tools", "why")
+        for kind in growth.KINDS:
+            for make in filter(None, (kind.script, kind.off)):
+                script = "".join(line + "\n" for line in make(8))
+                told = ran_command([sys.executable, why, "-"], BENCH, script)
+                self.assertEqual((kind.head, told.status, told.err), (kind.head, 0, ""))

@@ -1,5 +1,5 @@
 //! The summary of a run of the generated script.
-ghost use Rattle.std.specs.Prelude.{[], ◌≡◌, ◌++◌, ◌<◌, ℕ, All, IfOk, OnOk, length, reverse, slice_index_or, string_bytes, zip};
+ghost use Rattle.std.specs.Prelude.{[], ◌≡◌, ◌++◌, ◌<◌, All, IfOk, OnOk, length, reverse, slice_index_or, string_bytes, zip};
 ghost use Rattle.std.specs.Option.{option_copied};
 ghost use Rattle.script_run.specs.Places.{places};
 ghost use Rattle.answer_text.specs.Marks.{IsPosition};

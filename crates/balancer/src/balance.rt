@@ -26,7 +26,7 @@ pub fn plan(alloc: Global, loads: &[Load], workers: u8, n: u8) -> Result<Vec<Act
 }
 
 /// Plans at most `n` actions into an empty list that has room for them. The loads are gone over a few times
-/// for each worker and action, and stand then where the plan moves them. Takes no memory.
+/// for each worker and action, and changed on the way. Takes no memory.
 pub fn plan_into(standing: &mut [Load], actions: &mut Vec<Action>, workers: u8, n: u8)
     requires rows { rows_of_all standing.old < 2 ^ 63 }
     requires none { actions.old.items ≡ [] }

@@ -8,14 +8,14 @@ use Rattle.dc_node.specs.declared.block.Block.{Block}
 use Rattle.dim_hierarchy.specs.Dimension.{Dimension}
 use Rattle.link_descent.specs.declared.entered.Fresh.{Fresh}
 use Rattle.row_ledger.specs.Workers.{is_on}
-use Rattle.tree_shape.specs.Counts.{Among, Each, times}
+use Rattle.list_words.specs.Counts.{Among, Each, times}
+use Rattle.list_words.proofs.Each.{each-both, each-map, among-right, each-here, each-among}
+use Rattle.list_words.proofs.Times.{times-append, same_is}
+use Rattle.list_words.proofs.Truth.{on_bool}
+use Rattle.std.proofs.lemmas.Bool.{eqb-true, eqb-false}
 use Rattle.tree_shape.specs.Laws.{CollectOtherLaw, OtherLaw}
 use Rattle.tree_shape.specs.Shape.{nodes, numbers}
 use Rattle.tree_shape.specs.Steps.{AreApart}
-use Rattle.tree_shape.proofs.Divisions.{each-both, each-map}
-use Rattle.tree_shape.proofs.Parts.{among-right, each-here}
-use Rattle.tree_shape.proofs.Visits.{times-append}
-use Rattle.tree_shape.proofs.Walks.{on_bool, eqb-eq, eqb-ne, same_is}
 use Rattle.volap_cell.specs.AdminKinds.{DoesBuildBlock, IsBuiltOf, spent_by, spent_in}
 use Rattle.volap_cell.specs.Cells.{BlockCell, CellValue, block_in, has_block}
 use Rattle.volap_cell.specs.Falls.{control_of, job_left, left, of_work, plenty, stage_left}
@@ -40,7 +40,7 @@ use Rattle.volap_cell.specs.declared.kind.Kind.TheVariants as kind
 use Rattle.volap_cell.proofs.AdminViews.{by_build_block, view-build_block}
 use Rattle.volap_cell.proofs.Blanks.{spent-owner}
 use Rattle.volap_cell.proofs.Fields.{IsNewAt}
-use Rattle.volap_cell.proofs.Frames.{actor-at, actor-off, each-among, elsewhere, first}
+use Rattle.volap_cell.proofs.Frames.{actor-at, actor-off, elsewhere, first}
 use Rattle.volap_cell.proofs.GrowsReads.{pinned-whole, readers-take}
 use Rattle.volap_cell.proofs.Seen.{renewed}
 use Rattle.volap_cell.proofs.Spares.{among-cells, build-blank}
@@ -136,8 +136,8 @@ module _ (c : Change) (b : ActorValue) (s : Setting) (w : World) (n : ℕ) (g : 
 
   made-on : (y : ℕ) → v.made y ≡ true → v2.made y ≡ true
   made-on y is = on_bool (eqb y c.number)
-      (λ q. ap v2.made (eqb-eq y c.number q) ∙ ap has_block filled)
-      (λ q. made-off y (eqb-ne y c.number q) ∙ is)
+      (λ q. ap v2.made (eqb-true y c.number q) ∙ ap has_block filled)
+      (λ q. made-off y (eqb-false y c.number q) ∙ is)
 
   off : (y x : ℕ) → g.owner y ≡ InTree x → v2.blocks y ≡ v.blocks y
   off y x is = block-off y (λ e. let no : InTree x ≡ InJob n = sym is ∙ ap g.owner e ∙ owner in cc)
@@ -147,13 +147,13 @@ module _ (c : Change) (b : ActorValue) (s : Setting) (w : World) (n : ℕ) (g : 
 
   spent-same : (a : ℕ) → spent_of (v2.jobs a) ≡ spent_of (v.jobs a)
   spent-same a = on_bool (eqb a n)
-      (λ q. let e = eqb-eq a n q in ap spent_of (ap v2.jobs e ∙ new.is_there) ∙ sym (ap spent_of (ap v.jobs e ∙ new.was_there) ∙ ap spent_in d.has.stage_is))
-      (λ q. ap spent_of (new.elsewhere a (eqb-ne a n q)))
+      (λ q. let e = eqb-true a n q in ap spent_of (ap v2.jobs e ∙ new.is_there) ∙ sym (ap spent_of (ap v.jobs e ∙ new.was_there) ∙ ap spent_in d.has.stage_is))
+      (λ q. ap spent_of (new.elsewhere a (eqb-false a n q)))
 
   items-same : (a : ℕ) → items_of_job (v2.jobs a) ≡ items_of_job (v.jobs a)
   items-same a = on_bool (eqb a n)
-      (λ q. let e = eqb-eq a n q in ap items_of_job (ap v2.jobs e ∙ new.is_there) ∙ sym (ap items_of_job (ap v.jobs e ∙ new.was_there) ∙ ap items_in d.has.stage_is))
-      (λ q. ap items_of_job (new.elsewhere a (eqb-ne a n q)))
+      (λ q. let e = eqb-true a n q in ap items_of_job (ap v2.jobs e ∙ new.is_there) ∙ sym (ap items_of_job (ap v.jobs e ∙ new.was_there) ∙ ap items_in d.has.stage_is))
+      (λ q. ap items_of_job (new.elsewhere a (eqb-false a n q)))
 
   stocking-now : Stocking s v.stock v2.made v.gates v.phases v.pins v.gone v.purses v2.jobs g.owner g.shape
   stocking-now =
@@ -205,36 +205,36 @@ module _ (c : Change) (b : ActorValue) (s : Setting) (w : World) (n : ℕ) (g : 
 
   blocks-apart : (y z : ℕ) → y ≢ z → v2.made y ≡ true → v2.made z ≡ true → (v2.blocks y).stamp ≢ (v2.blocks z).stamp
   blocks-apart y z ne my mz e = on_bool (eqb y c.number)
-      (λ q. let at = eqb-eq y c.number q in other-stamp z (λ k. ne (at ∙ sym k)) mz (sym e ∙ stamp-at y at))
-      (λ q. let ny = eqb-ne y c.number q in
+      (λ q. let at = eqb-true y c.number q in other-stamp z (λ k. ne (at ∙ sym k)) mz (sym e ∙ stamp-at y at))
+      (λ q. let ny = eqb-false y c.number q in
       on_bool (eqb z c.number)
-      (λ p. other-stamp y ny my (e ∙ stamp-at z (eqb-eq z c.number p)))
-      (λ p. let a = old-block y ny my in let b = old-block z (eqb-ne z c.number p) mz in i.stamping.blocks_apart y z ne a.0 b.0 (sym a.1 ∙ e ∙ b.1)))
+      (λ p. other-stamp y ny my (e ∙ stamp-at z (eqb-true z c.number p)))
+      (λ p. let a = old-block y ny my in let b = old-block z (eqb-false z c.number p) mz in i.stamping.blocks_apart y z ne a.0 b.0 (sym a.1 ∙ e ∙ b.1)))
 
   -- and so has another spare
   spares-apart : (a : ℕ) → Each (LeavesStamp c.number d.next.block.stamp) (all_spares v.purses v.jobs a)
   spares-apart a = on_bool (eqb a n)
-      (λ q. subst (λ (z : ℕ). Each (LeavesStamp c.number d.next.block.stamp) (all_spares v.purses v.jobs z)) (sym (eqb-eq a n q))
+      (λ q. subst (λ (z : ℕ). Each (LeavesStamp c.number d.next.block.stamp) (all_spares v.purses v.jobs z)) (sym (eqb-true a n q))
       (each-here (LeavesStamp c.number d.next.block.stamp) (all_spares v.purses v.jobs n) (λ x there ne. distinct-stamps (all_spares v.purses v.jobs n) spare x
       (spares-distinct (g.shape d.building.frozen.gate) (nodes (cells_at v.blocks v.trees d.building.frozen.gate)) (all_spares v.purses v.jobs n) (i.stamping.spare n d.building.frozen.gate whole))
       among-all there (λ e. ne (sym d.here ∙ e)))))
       (λ q. each-map (AreApart spare) (LeavesStamp c.number d.next.block.stamp) (all_spares v.purses v.jobs a) (λ x apart ne. apart.1)
-      (of-spare (λ (x : Spare). Each (AreApart x) (all_spares v.purses v.jobs a)) (i.stamping.apart n a (λ e. eqb-ne a n q (sym e)))))
+      (of-spare (λ (x : Spare). Each (AreApart x) (all_spares v.purses v.jobs a)) (i.stamping.apart n a (λ e. eqb-false a n q (sym e)))))
 
   unspared-now : (a y : ℕ) → v2.made y ≡ true → Each (LeavesStamp y (v2.blocks y).stamp) (all_spares v.purses v.jobs a)
   unspared-now a y is = on_bool (eqb y c.number)
-      (λ q. let at = eqb-eq y c.number q in
+      (λ q. let at = eqb-true y c.number q in
       subst (λ (stamp : ℕ). Each (LeavesStamp y stamp) (all_spares v.purses v.jobs a)) (sym (stamp-at y at))
       (subst (λ (z : ℕ). Each (LeavesStamp z d.next.block.stamp) (all_spares v.purses v.jobs a)) (sym at) (spares-apart a)))
-      (λ q. let old = old-block y (eqb-ne y c.number q) is in
+      (λ q. let old = old-block y (eqb-false y c.number q) is in
       subst (λ (stamp : ℕ). Each (LeavesStamp y stamp) (all_spares v.purses v.jobs a)) (sym old.1) (i.stamping.unspared a y old.0))
 
   stamping-now : Stamping v.stock v2.blocks v2.made v.trees v.gates v.phases v.pins v.purses v.reads v2.jobs g.shape
   stamping-now =
       let k = stamping-alike v.jobs v2.jobs v.purses spent-same items-same v.stock v.blocks v.made v.trees v.gates v.phases v.pins v.reads g.shape i.stamping in record {
         blocks_given = λ y is. on_bool (eqb y c.number)
-            (λ q. let at = stamp-at y (eqb-eq y c.number q) in let low = of-spare (λ (x : Spare). x.stamp < v.stock.stamps) (i.stamping.given n) in omega (arith, at, low))
-            (λ q. let old = old-block y (eqb-ne y c.number q) is in let low = i.stamping.blocks_given y old.0 in let same_stamp = old.1 in omega (arith, low, same_stamp));
+            (λ q. let at = stamp-at y (eqb-true y c.number q) in let low = of-spare (λ (x : Spare). x.stamp < v.stock.stamps) (i.stamping.given n) in omega (arith, at, low))
+            (λ q. let old = old-block y (eqb-false y c.number q) is in let low = i.stamping.blocks_given y old.0 in let same_stamp = old.1 in omega (arith, low, same_stamp));
         blocks_apart = blocks-apart;
         unspared = λ a y is. subst (λ (xs : List Spare). Each (LeavesStamp y (v2.blocks y).stamp) (v.purses a ++ xs)) (sym (spent-same a)) (unspared-now a y is);
         given = k.given;

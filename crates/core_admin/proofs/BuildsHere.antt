@@ -16,9 +16,8 @@ use Rattle.shard_store.specs.declared.gate.Phase.TheVariants as phase
 use Rattle.tree_shape.specs.Collecting.{AfterCollecting, IsCollecting}
 use Rattle.tree_shape.specs.Laws.{CollectEndLaw, ReadLaw, ReadableLaw}
 use Rattle.tree_shape.specs.Shape.{numbers}
-use Rattle.tree_shape.proofs.Divisions.{each-map}
-use Rattle.tree_shape.proofs.Parts.{all-each}
-use Rattle.tree_shape.proofs.Walks.{on_bool}
+use Rattle.list_words.proofs.Each.{each-map, all-each}
+use Rattle.list_words.proofs.Truth.{on_bool}
 use Rattle.volap_cell.specs.AdminKinds.{CollectsAll, HasJob, cells_needed, left_of, right_of, spent_in}
 use Rattle.volap_cell.specs.Cells.{CellValue, phase_of}
 use Rattle.volap_cell.specs.Growing.{table_of}

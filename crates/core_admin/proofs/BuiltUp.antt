@@ -18,15 +18,15 @@ use Rattle.row_ledger.specs.Listings.{places_of}
 use Rattle.row_ledger.specs.Past.{Step, work}
 use Rattle.row_ledger.specs.Shards.{frontier}
 use Rattle.row_ledger.specs.Work.{Settles, is_done}
-use Rattle.row_ledger.proofs.Elements.{length-AllZip}
+use Rattle.list_words.proofs.Elements.{length-AllZip}
 use Rattle.server_image.specs.Registry.{RegistryValue, on_frontier}
 use Rattle.shard_store.specs.Gate.{IsQueueOf}
 use Rattle.shard_store.specs.declared.gate.Gate.{Gate}
 use Rattle.shard_store.specs.declared.gate.Phase.TheVariants as phase
 use Rattle.shard_store.specs.declared.queue.Queue.{Queue}
-use Rattle.tree_shape.specs.Counts.{Each, times}
-use Rattle.tree_shape.proofs.Parts.{each-right}
-use Rattle.tree_shape.proofs.Visits.{times-append}
+use Rattle.list_words.specs.Counts.{Each, times}
+use Rattle.list_words.proofs.Each.{each-right}
+use Rattle.list_words.proofs.Times.{times-append, all-times, distinct-times}
 use Rattle.volap_cell.specs.AdminKinds.{IsUpTo}
 use Rattle.volap_cell.specs.Cells.{CellValue, GateCell, LedgerCell, MapCell, MapOf, RegistryCell, StockCell, active_in, gate_shard, phase_of, queue_in, tag_of}
 use Rattle.volap_cell.specs.Ghost.{Ghost, NotOfStock, is_in_purse}
@@ -47,7 +47,6 @@ use Rattle.volap_cell.proofs.Helds.{held-map, held-registry, held-stock}
 use Rattle.core_image.proofs.Backed.{all-promised}
 use Rattle.core_image.proofs.Hosts.{stands-live}
 use Rattle.core_image.proofs.NextAction.{next-action}
-use Rattle.core_tree.proofs.Tallies.{all-times, distinct-times}
 use Rattle.core_admin.specs.FinishDue.{IsBuiltUp, IsLate, MayCloseDone, gone_by, plans}
 use Rattle.core_admin.proofs.FrozenGates.{IsGateOf, frozen-gate, queue-few, shard-gate}
 use Rattle.core_admin.proofs.PostponeReady.{owes-enough}

@@ -10,13 +10,13 @@ use Rattle.dc_node.specs.declared.entry.Entry.{Entry}
 use Rattle.dc_node.specs.declared.todo.Item.{Item}
 use Rattle.link_descent.specs.Visit.{noted_right}
 use Rattle.tree_shape.specs.Collecting.{IsCollecting, IsReadable, entry_items}
-use Rattle.tree_shape.specs.Counts.{Each, times}
+use Rattle.list_words.specs.Counts.{Each, times}
+use Rattle.list_words.proofs.Each.{each-map, each-append, each-left, each-right}
+use Rattle.std.proofs.lemmas.Bool.{eqb-true, eqb-false, ne_eqb}
+use Rattle.list_words.proofs.Truth.{on_bool}
 use Rattle.tree_shape.specs.Queries.{NoneWaits}
 use Rattle.tree_shape.specs.Shape.{Node, Shape, Table, TreeCells, gate_node, node_of, nodes}
 use Rattle.tree_shape.specs.Trees.{IsTree}
-use Rattle.tree_shape.proofs.Divisions.{each-map}
-use Rattle.tree_shape.proofs.Parts.{each-append, each-left, each-right}
-use Rattle.tree_shape.proofs.Walks.{eqb-eq, eqb-ne, eqb-no, on_bool}
 use Rattle.volap_cell.specs.Ghost.{AGate, Ghost, InTree, NotOfStock}
 use Rattle.volap_cell.specs.Invariant.{InvWith}
 use Rattle.volap_cell.specs.Setting.{Setting, cell_count}
@@ -47,7 +47,7 @@ unexpected : (table : Table) (cells : TreeCells) (g : Shape) (y stamp : ℕ) →
 unexpected table cells g y stamp tree inside ne none = at (g.level y) refl
   where
     node : nodes cells y ≡ node_of (cells.block y)
-    node = ap (λ (b : Bool). cond b (gate_node cells.gate) (node_of (cells.block y))) (eqb-no y cells.gate_cell ne)
+    node = ap (λ (b : Bool). cond b (gate_node cells.gate) (node_of (cells.block y))) (ne_eqb y cells.gate_cell ne)
 
     at : (l : ℕ) → g.level y ≡ l → Each (λ (e : Entry). e.stamp ≢ stamp) (entries_in (cells.block y).body)
     at zero level = no-entries (cells.block y).body ((tree.blocks y inside ne).kind ∙ ap (λ (k : ℕ). eqb k 0) level) stamp
@@ -70,8 +70,8 @@ module _ (s : Setting) (v : View) (g : Ghost) (i : InvWith s v g) where
   -- a block of a tree that is whole is a cell
   inside-within : (c y : ℕ) → IsWhole v.gates v.phases v.pins c → (g.shape c).inside y ≡ true → y < cell_count s
   inside-within c y whole inside = on_bool (eqb y c)
-      (λ q. let own = ap g.owner (eqb-eq _ _ q) ∙ i.stocking.gate c whole.0 in (i.stocking.within y (λ z. let never : AGate ≡ NotOfStock = sym own ∙ z in cc)).1)
-      (λ q. let own = (i.stocking.tree c y whole inside (eqb-ne _ _ q)).0 in (i.stocking.within y (λ z. let never : InTree c ≡ NotOfStock = sym own ∙ z in cc)).1)
+      (λ q. let own = ap g.owner (eqb-true _ _ q) ∙ i.stocking.gate c whole.0 in (i.stocking.within y (λ z. let never : AGate ≡ NotOfStock = sym own ∙ z in cc)).1)
+      (λ q. let own = (i.stocking.tree c y whole inside (eqb-false _ _ q)).0 in (i.stocking.within y (λ z. let never : InTree c ≡ NotOfStock = sym own ∙ z in cc)).1)
 
   -- no block is read twice, so there are no more than cells
   pub read-few : (c : ℕ) (cells : TreeCells) (items : List Item) (read collected : List ℕ) → IsWhole v.gates v.phases v.pins c → IsCollecting cells (g.shape c) items read collected → length read ≤ cell_count s

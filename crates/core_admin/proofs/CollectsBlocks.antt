@@ -9,15 +9,15 @@ use Rattle.dc_node.specs.declared.todo.Item.{Item}
 use Rattle.link_descent.specs.Visit.{noted_right}
 use Rattle.shard_store.specs.declared.gate.Phase.{Phase}
 use Rattle.tree_shape.specs.Collecting.{AfterRead, IsCollecting, IsReadable, entry_items}
-use Rattle.tree_shape.specs.Counts.{Among, Each, times}
+use Rattle.list_words.specs.Counts.{Among, Each, times}
+use Rattle.list_words.proofs.Each.{each-both, each-append, each-here}
+use Rattle.list_words.proofs.Times.{times-append, same_is}
+use Rattle.std.proofs.lemmas.Bool.{eqb-true, eqb-false}
+use Rattle.list_words.proofs.Truth.{on_bool}
 use Rattle.tree_shape.specs.Laws.{ReadLaw, ReadableLaw}
 use Rattle.tree_shape.specs.Queries.{NoneWaits}
 use Rattle.tree_shape.specs.Shape.{Shape, Table, TreeCells, nodes, numbers}
 use Rattle.tree_shape.specs.Steps.{IsIdle, IsSpare}
-use Rattle.tree_shape.proofs.Divisions.{each-both}
-use Rattle.tree_shape.proofs.Parts.{each-append, each-here}
-use Rattle.tree_shape.proofs.Visits.{times-append}
-use Rattle.tree_shape.proofs.Walks.{eqb-eq, eqb-ne, on_bool, same_is}
 use Rattle.volap_cell.specs.AdminKinds.{CollectsBlock}
 use Rattle.volap_cell.specs.Cells.{block_in}
 use Rattle.volap_cell.specs.Errands.{AtBlock, IsCarried, RowWay, block_at}
@@ -79,8 +79,8 @@ module _ (readable-law : ReadableLaw) (reads : ReadLaw) (s : Setting) (w : World
       let (a, y, way, is, row, place) = i.turning.carried d.collecting.frozen.gate r (some-phase (v.phases d.collecting.frozen.gate) _ (its s w n g i d.job d.collecting d.has).phase_is) placed carried in
       let here : y ≡ c.number = sym (at-row a y way is place) ∙ ap shape.at row ∙ there ∙ d.here in
       on_bool (eqb a n)
-      (λ q. wayless (w.actors n).errand (λ t of. i.numbering.parts n t of (i.numbering.working n d.job d.has.is_job)) way (sym (ap v.ways (eqb-eq _ _ q)) ∙ is))
-      (λ q. (ag.free a (eqb-ne _ _ q)).0 (subst (λ (o : Option RowWay). IsCarried o c.number) (sym is) (ap block_at place ∙ ap Some here)))
+      (λ q. wayless (w.actors n).errand (λ t of. i.numbering.parts n t of (i.numbering.working n d.job d.has.is_job)) way (sym (ap v.ways (eqb-true _ _ q)) ∙ is))
+      (λ q. (ag.free a (eqb-false _ _ q)).0 (subst (λ (o : Option RowWay). IsCarried o c.number) (sym is) (ap block_at place ∙ ap Some here)))
     where
       at-row : (a y : ℕ) (way : RowWay) → v.ways a ≡ Some way → way.place ≡ AtBlock d.collecting.frozen.gate y → shape.at way.row.no ≡ y
       at-row a y way is place = (i.turning.carrying a d.collecting.frozen.gate y way is place).2
@@ -103,7 +103,7 @@ module _ (readable-law : ReadableLaw) (reads : ReadLaw) (s : Setting) (w : World
 
   -- no row of the queue is collected yet
   none-queued : d.collecting.queued ≡ 0
-  none-queued = on_bool (eqb d.collecting.queued 0) (λ q. eqb-eq _ _ q) (λ q. let ne = eqb-ne _ _ q in absurd (none-left d.items d.item (sym d.noted ∙ k.blocks_first (omega (arith, ne)))))
+  none-queued = on_bool (eqb d.collecting.queued 0) (λ q. eqb-true _ _ q) (λ q. let ne = eqb-false _ _ q in absurd (none-left d.items d.item (sym d.noted ∙ k.blocks_first (omega (arith, ne)))))
 
   first-none : (rows : List Row) → take d.collecting.queued rows ≡ []
   first-none rows = ap (λ (m : ℕ). take m rows) none-queued

@@ -9,11 +9,10 @@ use Rattle.link_descent.specs.declared.entered.Fresh.{Fresh}
 use Rattle.shard_build.specs.Building.{spare_of}
 use Rattle.shard_store.specs.declared.gate.Phase.TheVariants as phase
 use Rattle.tree_shape.specs.Collecting.{IsCollecting}
-use Rattle.tree_shape.specs.Counts.{Among, times}
+use Rattle.list_words.specs.Counts.{Among, times}
+use Rattle.list_words.proofs.Each.{each-map, among-left, each-append}
+use Rattle.list_words.proofs.Truth.{on_bool}
 use Rattle.tree_shape.specs.Shape.{nodes, numbers}
-use Rattle.tree_shape.proofs.Divisions.{each-map}
-use Rattle.tree_shape.proofs.Parts.{among-left, each-append}
-use Rattle.tree_shape.proofs.Walks.{on_bool}
 use Rattle.volap_cell.specs.AdminKinds.{CollectsAll, IsBuiltOf, spent_in}
 use Rattle.volap_cell.specs.Cells.{phase_of}
 use Rattle.volap_cell.specs.Errands.{RowWay}

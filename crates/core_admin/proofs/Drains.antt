@@ -8,7 +8,7 @@ use Rattle.tree_shape.specs.Laws.{CollectBeginLaw}
 use Rattle.tree_shape.specs.Queries.{NoneWaits}
 use Rattle.tree_shape.specs.Shape.{nodes}
 use Rattle.tree_shape.specs.Steps.{IsSpare}
-use Rattle.tree_shape.proofs.Divisions.{each-map}
+use Rattle.list_words.proofs.Each.{each-map}
 use Rattle.volap_cell.specs.AdminKinds.{DoesDrained, cells_needed, spent_in}
 use Rattle.volap_cell.specs.Cells.{CellValue, GateCell, active_in, phase_of, way_in, way_to_tree}
 use Rattle.volap_cell.specs.Falls.{frozen_upto, plenty, stage_left}

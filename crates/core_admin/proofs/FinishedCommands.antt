@@ -1,6 +1,6 @@
 -- A job comes to its end: its command of one action ends in the same commit, and a balance goes on to its next action.
 use Rattle.std.proofs.Common.{◌≡◌, ◌≢◌, ℕ, ◌<◌, List, ◌∷◌, Bool, eqb, length, Option, Some, None, option_and_then, refl, sym, ap, ◌∙◌, subst, inl, inr, arith, le_of_eq, eq-eqb}
-use Rattle.std.proofs.lemmas.Bool.{or_left}
+use Rattle.std.proofs.lemmas.Bool.{or_left, eqb-true, eqb-false}
 use Rattle.row_ledger.specs.Past.{end_in, event_at, has_ended, insert_at, insert_in, is_end_of, query_at, query_in, session_in}
 use Rattle.row_ledger.specs.Belonging.{number_in}
 use Rattle.row_ledger.specs.Kept.{KeepsRight}
@@ -8,7 +8,7 @@ use Rattle.row_ledger.specs.declared.event.Event.{Event}
 use Rattle.row_ledger.specs.declared.event.Event.TheVariants.{Ended}
 use Rattle.row_ledger.specs.declared.settings.How.{How}
 use Rattle.row_ledger.proofs.Older.{is_over-older}
-use Rattle.tree_shape.proofs.Walks.{on_bool, eqb-eq, eqb-ne}
+use Rattle.list_words.proofs.Truth.{on_bool}
 use Rattle.volap_cell.specs.Setting.{Setting, site_in}
 use Rattle.volap_cell.specs.Telling.{IsProgress, Telling}
 use Rattle.volap_cell.specs.Values.{JobValue}
@@ -64,20 +64,20 @@ module _ (s : Setting) (h : List Event) (commands commands_now : ℕ → Option 
     last = λ a p own.
         let lt = i.last a p (sym (session-same p) ∙ own) in
         on_bool (eqb a n)
-        (λ q. let is = eqb-eq a n q in let all : seen_now a ≡ length h2 = ap seen_now is ∙ all_seen in let le = i.within a in omega (arith, lt, all, le))
-        (λ q. subst (λ (k : ℕ). p < k) (sym (seen_off a (eqb-ne a n q))) lt);
+        (λ q. let is = eqb-true a n q in let all : seen_now a ≡ length h2 = ap seen_now is ∙ all_seen in let le = i.within a in omega (arith, lt, all, le))
+        (λ q. subst (λ (k : ℕ). p < k) (sym (seen_off a (eqb-false a n q))) lt);
     within = λ a. on_bool (eqb a n)
-        (λ q. le_of_eq (ap seen_now (eqb-eq a n q) ∙ all_seen))
-        (λ q. let off = seen_off a (eqb-ne a n q) in let le = i.within a in omega (arith, off, le));
+        (λ q. le_of_eq (ap seen_now (eqb-true a n q) ∙ all_seen))
+        (λ q. let off = seen_off a (eqb-false a n q) in let le = i.within a in omega (arith, off, le));
     rows = λ r insert is. i.rows r insert (sym (insert-same r) ∙ is);
     filters = λ b q is. i.filters b q (sym (query-same b) ∙ is);
     status = λ a p own. elim (i.status a p (sym (session-same p) ∙ own)) [
       | inl over ↦ inl (is_over-older f (e ∷ h) p (is_over-older e h p over))
       | inr at ↦ on_bool (eqb at.0 n)
           (λ q.
-          let both : ◌≡◌ {A = Option Command} (Some its) (Some at.1) = sym turn.was_there ∙ ap commands (sym (eqb-eq at.0 n q)) ∙ at.2 in
+          let both : ◌≡◌ {A = Option Command} (Some its) (Some at.1) = sym turn.was_there ∙ ap commands (sym (eqb-true at.0 n q)) ∙ at.2 in
           let same : its.of ≡ at.1.of = (let k : its ≡ at.1 = cc in ap (λ (c : Command). c.of) k) in
           inl (or_left (has_ended h2 p) _ (or_left (is_end_of p f) (has_ended (e ∷ h) p) (eq-eqb its.of p (same ∙ at.3)))))
-          (λ q. inr (at.0, at.1, turn.elsewhere at.0 (eqb-ne at.0 n q) ∙ at.2, at.3))
+          (λ q. inr (at.0, at.1, turn.elsewhere at.0 (eqb-false at.0 n q) ∙ at.2, at.3))
     ];
   }

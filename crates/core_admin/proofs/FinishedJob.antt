@@ -9,14 +9,13 @@ use Rattle.row_ledger.specs.Shards.{is_live}
 use Rattle.row_ledger.specs.Workers.{is_on}
 use Rattle.shard_store.specs.declared.gate.Gate.{Gate}
 use Rattle.shard_store.specs.declared.gate.Phase.TheVariants.{Frozen, Gone}
-use Rattle.tree_shape.specs.Counts.{Among, Each, same, times}
+use Rattle.list_words.specs.Counts.{Among, Each, same, times}
+use Rattle.list_words.proofs.Each.{each-both, each-append, each-here, each-left, each-right}
+use Rattle.list_words.proofs.Times.{times-append, same_is}
+use Rattle.std.proofs.lemmas.Bool.{eqb-true}
 use Rattle.tree_shape.specs.Collecting.{AfterCollecting}
 use Rattle.tree_shape.specs.Laws.{CollectEndLaw}
 use Rattle.tree_shape.specs.Shape.{numbers}
-use Rattle.tree_shape.proofs.Divisions.{each-both}
-use Rattle.tree_shape.proofs.Parts.{each-append, each-here, each-left, each-right}
-use Rattle.tree_shape.proofs.Visits.{times-append}
-use Rattle.tree_shape.proofs.Walks.{eqb-eq, same_is}
 use Rattle.volap_cell.specs.AdminKinds.{spent_by, spent_in}
 use Rattle.volap_cell.specs.Cells.{GateCell, phase_of, queue_in}
 use Rattle.volap_cell.specs.Ghost.{AGate, Ghost, InJob, InPurse, InTree, NotOfStock, Owner, Unused, is_in_job}
@@ -57,7 +56,7 @@ at-most-one false b = omega arith
 
 -- a cell that is meant for a block of the actor's job
 pub is-job-cell : (n : ℕ) (o : Owner) → 1 ≤ cond (is_in_job n o) 1 0 → o ≡ InJob n
-is-job-cell n (InJob a) le = ap InJob (eqb-eq a n (is-true (eqb a n) 1 le))
+is-job-cell n (InJob a) le = ap InJob (eqb-true a n (is-true (eqb a n) 1 le))
 is-job-cell n NotOfStock le = absurd (omega (arith, le))
 is-job-cell n Unused le = absurd (omega (arith, le))
 is-job-cell n AGate le = absurd (omega (arith, le))

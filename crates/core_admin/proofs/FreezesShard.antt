@@ -13,7 +13,7 @@ use Rattle.shard_store.specs.declared.gate.Gate.{Gate}
 use Rattle.shard_store.specs.declared.queue.Queue.{Queue}
 use Rattle.tree_shape.specs.Laws.{GateLaw}
 use Rattle.tree_shape.specs.Queries.{NoneWaits}
-use Rattle.tree_shape.proofs.Parts.{each-here}
+use Rattle.list_words.proofs.Each.{each-here}
 use Rattle.volap_cell.specs.AdminKinds.{spent_in, Declines, DoesFreeze, Freezes, HasOnePlace, IsDivided, cells_needed, rows_at}
 use Rattle.volap_cell.specs.Cells.{GateCell, MapOf, tag_of, queue_in, way_in, way_to_tree}
 use Rattle.volap_cell.specs.Falls.{plenty, stage_left}

@@ -13,10 +13,11 @@ use Rattle.shard_store.specs.declared.gate.Gate.{Gate}
 use Rattle.shard_store.specs.declared.gate.Phase.{Phase}
 use Rattle.shard_store.specs.declared.gate.Phase.TheVariants as phase
 use Rattle.shard_store.specs.declared.queue.Queue.{Queue}
-use Rattle.tree_shape.specs.Counts.{Among, Each, times}
-use Rattle.tree_shape.proofs.Divisions.{each-map}
-use Rattle.tree_shape.proofs.Visits.{times-append}
-use Rattle.tree_shape.proofs.Walks.{on_bool, eqb-eq, eqb-ne, same_is, same_not}
+use Rattle.list_words.specs.Counts.{Among, Each, times}
+use Rattle.list_words.proofs.Each.{each-map}
+use Rattle.list_words.proofs.Times.{times-append, same_is, same_not}
+use Rattle.list_words.proofs.Truth.{on_bool}
+use Rattle.std.proofs.lemmas.Bool.{eqb-true, eqb-false}
 use Rattle.volap_cell.specs.AdminKinds.{Freezes, IsDivided, cells_needed, rows_at}
 use Rattle.volap_cell.specs.Cells.{GateCell, MapOf, OfStock, TheStock, phase_of, queue_in, tag_of, way_in, way_to_tree}
 use Rattle.volap_cell.specs.Errands.{RowWay, Taken, taken_of, way_of}
@@ -52,15 +53,15 @@ each-stamp P (x ∷ xs) all = (All-head P x.stamp (stamps_of xs) all, each-stamp
 
 not-counted : (x : ℕ) (ys : List ℕ) → AllByRecursion (λ y. eqb x y ≡ false) ys → times x ys ≡ 0
 not-counted x [] a = refl
-not-counted x (y ∷ ys) a = (let s = same_not x y (eqb-ne _ _ a.0) in let k = not-counted x ys a.1 in omega (arith, s, k))
+not-counted x (y ∷ ys) a = (let s = same_not x y (eqb-false _ _ a.0) in let k = not-counted x ys a.1 in omega (arith, s, k))
 
 times-distinct : (xs : List ℕ) → IsDistinct eqb xs → (y : ℕ) → times y xs ≤ 1
 unfolding IsDistinct
 times-distinct [] d y = omega arith
 times-distinct (x ∷ xs) d y = on_bool (eqb y x)
-    (λ q. let e = eqb-eq _ _ q in let s = same_is y x e in let k = not-counted x xs d.0 in
+    (λ q. let e = eqb-true _ _ q in let s = same_is y x e in let k = not-counted x xs d.0 in
     let z : times y xs ≡ 0 = ap (λ (w : ℕ). times w xs) e ∙ k in omega (arith, s, z))
-    (λ q. let s = same_not y x (eqb-ne _ _ q) in let k = times-distinct xs d.1 y in omega (arith, s, k))
+    (λ q. let s = same_not y x (eqb-false _ _ q) in let k = times-distinct xs d.1 y in omega (arith, s, k))
 
 -- an actor at no part carries no row
 pub wayless : (errand : Option ErrandValue) → ((t : Taken) → taken_of errand ≡ Some t → ⊥) → (x : RowWay) → way_of errand ≡ Some x → ⊥
@@ -144,8 +145,8 @@ module _ (s : Setting) (w : World) (n : ℕ) (g : Ghost) (i : InvWith s (view s 
   -- what holds of no gate's phase but of its being gone
   on-phase : (P : ℕ → Option Phase → Option Phase → Type 0) → P gt.number (Some gate.phase) (Some (phase.Frozen (length gate.queue.rows))) → ((y : ℕ) → P y (v.phases y) (v.phases y)) → (y : ℕ) → P y (v.phases y) (u.phases y)
   on-phase P here else_ y = on_bool (eqb y gt.number)
-      (λ q. subst (λ (z : ℕ). P z (v.phases z) (u.phases z)) (sym (eqb-eq _ _ q)) (subst (λ (p : Option Phase). P gt.number p (u.phases gt.number)) (sym phases-new.was_there) (subst (P gt.number (Some gate.phase)) (sym phases-new.is_there) here)))
-      (λ q. subst (P y (v.phases y)) (sym (phases-new.elsewhere y (eqb-ne _ _ q))) (else_ y))
+      (λ q. subst (λ (z : ℕ). P z (v.phases z) (u.phases z)) (sym (eqb-true _ _ q)) (subst (λ (p : Option Phase). P gt.number p (u.phases gt.number)) (sym phases-new.was_there) (subst (P gt.number (Some gate.phase)) (sym phases-new.is_there) here)))
+      (λ q. subst (P y (v.phases y)) (sym (phases-new.elsewhere y (eqb-false _ _ q))) (else_ y))
 
   gone-was : (y : ℕ) → u.phases y ≡ Some phase.Gone → v.phases y ≡ Some phase.Gone
   gone-was = on-phase (λ y was now. now ≡ Some phase.Gone → was ≡ Some phase.Gone) (λ e. absurd (cc)) (λ y e. e)

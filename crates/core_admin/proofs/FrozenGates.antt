@@ -9,11 +9,12 @@ use Rattle.row_ledger.specs.Workers.{is_on}
 use Rattle.shard_store.specs.declared.gate.Gate.{Gate}
 use Rattle.shard_store.specs.declared.gate.Phase.{Phase}
 use Rattle.shard_store.specs.declared.gate.Phase.TheVariants as phase
-use Rattle.tree_shape.specs.Counts.{Each, same, times}
+use Rattle.list_words.specs.Counts.{Each, same, times}
+use Rattle.list_words.proofs.Truth.{on_bool, eqb-self}
+use Rattle.list_words.proofs.Times.{same-le}
 use Rattle.tree_shape.specs.Shape.{Shape, TreeCells, Node, Table, nodes, gate_node, node_of, numbers}
 use Rattle.tree_shape.specs.Steps.{AreSpares, IsSpare}
 use Rattle.tree_shape.specs.Trees.{IsTree}
-use Rattle.tree_shape.proofs.Walks.{on_bool, eqb-self, same-le}
 use Rattle.volap_cell.specs.Cells.{CellValue, FreeCell, LedgerCell, StockCell, RegistryCell, ImageCell, DeskCell, MapCell, GateCell, BlockCell, gate_shard, phase_of}
 use Rattle.volap_cell.specs.Ghost.{Ghost}
 use Rattle.volap_cell.specs.Growing.{table_of}

@@ -1,7 +1,8 @@
 -- The one administrator's job goes on to another stage: what the parts keep that see of a job only whose it is.
 use Rattle.std.proofs.Common.{◌≡◌, ◌≢◌, ℕ, ◌<◌, List, eqb, Option, Some, None, is_some, sym, ap, ◌∙◌, subst, arith}
 use Rattle.row_ledger.specs.declared.event.Event.{Event}
-use Rattle.tree_shape.proofs.Walks.{on_bool, eqb-eq, eqb-ne}
+use Rattle.list_words.proofs.Truth.{on_bool}
+use Rattle.std.proofs.lemmas.Bool.{eqb-true, eqb-false}
 use Rattle.volap_cell.specs.Ghost.{Ghost}
 use Rattle.volap_cell.specs.Invariant.{InvWith}
 use Rattle.volap_cell.specs.Numbering.{Numbering}
@@ -57,16 +58,16 @@ module _ (s : Setting) (v : View) (g : Ghost) (i : InvWith s v g) (n : ℕ) (job
   pub its-job : (P : ℕ → JobValue → Type 0) → P n job_now → (a : ℕ) (j : JobValue) → jobs_now a ≡ Some j → P a j
   its-job P p a j is = on_bool (eqb a n)
       (λ q.
-      let e = eqb-eq a n q in
+      let e = eqb-true a n q in
       let both : ◌≡◌ {A = Option JobValue} (Some job_now) (Some j) = sym new.is_there ∙ ap jobs_now (sym e) ∙ is in
       let same : job_now ≡ j = cc in
       subst (λ (x : ℕ). P x j) (sym e) (subst (P n) same p))
-      (λ q. let ne = eqb-ne a n q in absurd (ne (only-one s v g i a n j job (sym (new.elsewhere a ne) ∙ is) new.was_there)))
+      (λ q. let ne = eqb-false a n q in absurd (ne (only-one s v g i a n j job (sym (new.elsewhere a ne) ∙ is) new.was_there)))
 
   pub some-same : (a : ℕ) → is_some (jobs_now a) ≡ is_some (v.jobs a)
   some-same a = on_bool (eqb a n)
-      (λ q. let e = eqb-eq a n q in ap is_some (ap jobs_now e ∙ new.is_there) ∙ sym (ap is_some (ap v.jobs e ∙ new.was_there)))
-      (λ q. ap is_some (new.elsewhere a (eqb-ne a n q)))
+      (λ q. let e = eqb-true a n q in ap is_some (ap jobs_now e ∙ new.is_there) ∙ sym (ap is_some (ap v.jobs e ∙ new.was_there)))
+      (λ q. ap is_some (new.elsewhere a (eqb-false a n q)))
 
   pub numbering-on : Numbering s v.tags v.numbers v.roles v.settings v.counted_in v.purses v.commands v.taken jobs_now
   numbering-on =
@@ -81,8 +82,8 @@ module _ (s : Setting) (v : View) (g : Ghost) (i : InvWith s v g) (n : ℕ) (job
         working = its-job (λ a j. v.roles a ≡ Admin) (k.working n job new.was_there);
         parts = k.parts;
         idle = λ a role none. k.idle a role (on_bool (eqb a n)
-            (λ q. let never : ◌≡◌ {A = Option JobValue} (Some job_now) None = sym new.is_there ∙ ap jobs_now (sym (eqb-eq a n q)) ∙ none in absurd (cc))
-            (λ q. sym (new.elsewhere a (eqb-ne a n q)) ∙ none));
+            (λ q. let never : ◌≡◌ {A = Option JobValue} (Some job_now) None = sym new.is_there ∙ ap jobs_now (sym (eqb-true a n q)) ∙ none in absurd (cc))
+            (λ q. sym (new.elsewhere a (eqb-false a n q)) ∙ none));
       }
 
   pub telling-on : Telling s v.history v.commands jobs_now v.roles v.seen g.placed

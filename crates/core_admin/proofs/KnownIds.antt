@@ -8,7 +8,7 @@ use Rattle.row_ledger.specs.Shards.{frontier, ids_made}
 use Rattle.row_ledger.specs.Workers.{left_at}
 use Rattle.row_ledger.proofs.Descent.{live-made, split-made}
 use Rattle.server_image.specs.Registry.{RegistryValue, on_frontier}
-use Rattle.tree_shape.proofs.Walks.{on_bool}
+use Rattle.list_words.proofs.Truth.{on_bool}
 use Rattle.volap_cell.specs.Ghost.{Ghost}
 use Rattle.volap_cell.specs.Invariant.{InvWith}
 use Rattle.volap_cell.specs.Setting.{Setting, site_in}

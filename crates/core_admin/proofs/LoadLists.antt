@@ -9,9 +9,9 @@ use Rattle.std.proofs.lemmas.List.Sums.{sum_by-cons}
 use Rattle.row_ledger.specs.Shards.{Place, children, frontier, is_of, place, places_after, worker_of}
 use Rattle.row_ledger.specs.declared.event.Event.{Event}
 use Rattle.row_ledger.specs.declared.event.Event.TheVariants.{Split, Moved}
-use Rattle.row_ledger.proofs.Elements.{Contains-nil}
+use Rattle.list_words.proofs.Elements.{Contains-nil}
 use Rattle.shard_plan.specs.declared.action.Load.{Load}
-use Rattle.tree_shape.proofs.Walks.{on_bool}
+use Rattle.list_words.proofs.Truth.{on_bool}
 use Rattle.volap_cell.specs.Planning.{worker_among}
 use Rattle.volap_cell.specs.Working.{places_in}
 use Rattle.balancer.specs.Turn.{rows_of_all}

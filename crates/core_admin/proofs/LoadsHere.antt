@@ -15,10 +15,12 @@ use Rattle.row_ledger.specs.Work.{Reading, loads as loads_of}
 use Rattle.shard_plan.specs.Balancing.{plan}
 use Rattle.shard_plan.specs.declared.action.Load.{Load}
 use Rattle.shard_store.specs.declared.gate.Gate.{Gate}
-use Rattle.tree_shape.specs.Counts.{times}
+use Rattle.list_words.specs.Counts.{times}
+use Rattle.list_words.proofs.Truth.{on_bool}
+use Rattle.std.proofs.lemmas.Bool.{eqb-true, eqb-false}
+use Rattle.list_words.proofs.Times.{same_not}
 use Rattle.tree_shape.specs.Laws.{GateLaw}
 use Rattle.tree_shape.specs.Shape.{numbers}
-use Rattle.tree_shape.proofs.Walks.{on_bool, eqb-eq, eqb-ne, same_not}
 use Rattle.volap_cell.specs.AdminKinds.{rows_at}
 use Rattle.volap_cell.specs.Cells.{CellValue, GateCell, MapCell, MapOf, gate_shard, tag_of, where_in}
 use Rattle.volap_cell.specs.Ghost.{Ghost}
@@ -49,8 +51,8 @@ use Rattle.core_admin.proofs.ShardRows.{rows-few}
 of-counted : (P : ℕ → Type 0) (rows : List Row) (n : ℕ) → All (λ (r : Row). P r.no) rows → 1 ≤ times n (numbers rows) → P n
 of-counted P [] n all some = absurd (omega (arith, some))
 of-counted P (r ∷ rows) n all some = on_bool (eqb n r.no)
-    (λ q. subst P (sym (eqb-eq n r.no q)) (All-head (λ (x : Row). P x.no) r rows all))
-    (λ q. let none = same_not n r.no (eqb-ne n r.no q) in of-counted P rows n (All-tail (λ (x : Row). P x.no) r rows all) (omega (arith, some, none)))
+    (λ q. subst P (sym (eqb-true n r.no q)) (All-head (λ (x : Row). P x.no) r rows all))
+    (λ q. let none = same_not n r.no (eqb-false n r.no q) in of-counted P rows n (All-tail (λ (x : Row). P x.no) r rows all) (omega (arith, some, none)))
 
 all-loads : (m : ℕ) (rs : List Reading) → All (λ (r : Reading). r.load.rows ≤ m) rs → All (λ (l : Load). l.rows ≤ m) (loads_of rs)
 all-loads m [] all = All-nil (λ (l : Load). l.rows ≤ m)

@@ -14,7 +14,8 @@ use Rattle.shard_plan.specs.Balancing.{plan}
 use Rattle.shard_plan.specs.declared.action.Action.{Action}
 use Rattle.shard_plan.specs.declared.action.Action.TheVariants as action
 use Rattle.shard_plan.specs.declared.action.Load.{Load}
-use Rattle.tree_shape.proofs.Walks.{on_bool, eqb-eq, eqb-ne}
+use Rattle.list_words.proofs.Truth.{on_bool}
+use Rattle.std.proofs.lemmas.Bool.{eqb-true, eqb-false}
 use Rattle.volap_cell.specs.Planning.{has_load, job_for, next_job, worker_among}
 use Rattle.volap_cell.specs.Setting.{Setting, site_in}
 use Rattle.volap_cell.specs.Values.{JobValue, IsCalled}
@@ -105,7 +106,7 @@ module _ (s : Setting) (h : List Event) (placed : ℕ → Bool) (home : ℕ → 
     pub planned-now : (actions : List Action) → next.plan ≡ Some actions → (b.read + 1 ≡ length b.loads) × (planning ≡ actions)
     planned-now actions is = on_bool ((b.read + 1) == length now)
         (λ q. let both : ◌≡◌ {A = Option (List Action)} (Some planning) (Some actions) = sym (ap (λ (t : Bool). if t then Some planning else None) q) ∙ is in
-        let same : planning ≡ actions = cc in (eqb-eq _ _ q ∙ same-length, same))
+        let same : planning ≡ actions = cc in (eqb-true _ _ q ∙ same-length, same))
         (λ q. let never : ◌≡◌ {A = Option (List Action)} None (Some actions) = sym (ap (λ (t : Bool). if t then Some planning else None) q) ∙ is in absurd (cc))
 
     pub is-planned : (actions : List Action) → next.plan ≡ Some actions → IsPlanned s h placed of next actions
@@ -129,7 +130,7 @@ module _ (s : Setting) (h : List Event) (placed : ℕ → Bool) (home : ℕ → 
     unread : next.plan ≡ None → b.read + 1 < length now
     unread is = on_bool ((b.read + 1) == length now)
         (λ q. let never : ◌≡◌ {A = Option (List Action)} (Some planning) None = sym (ap (λ (t : Bool). if t then Some planning else None) q) ∙ is in absurd (cc))
-        (λ q. let other = eqb-ne (b.read + 1) (length now) q in let lt = within in let len = same-length in omega (arith, other, lt, len))
+        (λ q. let other = eqb-false (b.read + 1) (length now) q in let lt = within in let len = same-length in omega (arith, other, lt, len))
 
     pub balancing-read : IsBalancing s h placed home (next_job next) of next
     balancing-read = record {

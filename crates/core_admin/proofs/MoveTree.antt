@@ -11,14 +11,13 @@ use Rattle.shard_build.specs.Built.{IsBuilt}
 use Rattle.shard_build.specs.Building.{spare_of}
 use Rattle.shard_build.specs.declared.builder.Built.{Built}
 use Rattle.shard_store.specs.declared.gate.Phase.TheVariants.{Frozen}
-use Rattle.tree_shape.specs.Counts.{Among, Each, times}
+use Rattle.list_words.specs.Counts.{Among, Each, times, same}
+use Rattle.list_words.proofs.Each.{each-both, all-each, among-right, each-here}
+use Rattle.list_words.proofs.Truth.{eqb-self}
 use Rattle.tree_shape.specs.Collecting.{AfterCollecting}
 use Rattle.tree_shape.specs.Forest.{AreInCells, AreRowsOf, filled_cells}
 use Rattle.tree_shape.specs.Laws.{CollectEndLaw}
 use Rattle.tree_shape.specs.Shape.{nodes, numbers}
-use Rattle.tree_shape.proofs.Divisions.{each-both}
-use Rattle.tree_shape.proofs.Parts.{all-each, among-right, each-here}
-use Rattle.tree_shape.proofs.Walks.{eqb-self}
 use Rattle.volap_cell.specs.AdminKinds.{DoesFinishMove, spent_by, tree_of}
 use Rattle.volap_cell.specs.Cells.{GateCell, block_in, way_in}
 use Rattle.volap_cell.specs.Ghost.{Ghost, InJob, InPurse, Owner, is_in_job}
@@ -33,9 +32,9 @@ use Rattle.volap_cell.specs.World.{Agrees, Change, World, after}
 use Rattle.volap_cell.proofs.Blanks.{spare-owner, spent-owner}
 use Rattle.volap_cell.proofs.Spares.{among-cells}
 use Rattle.core_admin.proofs.BuildsBlock.{among-spent}
-use Rattle.core_admin.proofs.FinishedJob.{all-rows as job-rows, front as job-front, frozen, is-gate as job-gate, is-job-cell, late as job-late, late-is as job-late-is, late-named as job-late-named, once, phase-here as job-phase, places, read as job-read, rows as rows_built, rows-named, rows-valid, spent-is, was as job-was}
-use Rattle.core_admin.proofs.MovesShard.{at-x, cells-spent, contains-among, gc-now, kept}
-use Rattle.core_admin.proofs.NewTree.{IsNewTree, leads-to, new-tree}
+use Rattle.core_admin.proofs.FinishedJob.{all-rows as job-rows, front as job-front, frozen, is-gate as job-gate, is-job-cell, late as job-late, late-is as job-late-is, late-named as job-late-named, once, phase-here as job-phase, read as job-read, rows as rows_built, rows-named, rows-valid, spent-is, was as job-was}
+use Rattle.core_admin.proofs.MovesShard.{at-x, gc-now, kept}
+use Rattle.core_admin.proofs.NewTree.{cells-spent, contains-among, IsNewTree, leads-to, new-tree}
 
 module _ (maps : List Change) (x gc reg c led : Change) (b : ActorValue) (s : Setting) (w : World) (n : ℕ) (g : Ghost) (i : InvWith s (view s w) g) (ag : Agrees w (maps ++ x ∷ gc ∷ reg ∷ c ∷ led ∷ []) n (w.actors n)) (d : DoesFinishMove s.hierarchy maps x gc reg c led (w.actors n) b) where
   abbrev pub v : View
@@ -124,8 +123,8 @@ module _ (maps : List Change) (x gc reg c led : Change) (b : ActorValue) (s : Se
     read = job-read s w g i n d.job d.building d.has.is_job d.has.stage_is d.in_cells d.gate here d.upto d.frozen ends
 
     -- all rows, in the new tree and the new queue
-    pub all-rows : (r : ℕ) → times r (numbers rows) + times r (numbers late) ≡ cond ((g.shape old).placed r) 1 0 + times r (numbers (v.queues old).rows)
-    all-rows r = job-rows s w g i n d.job d.building d.has.is_job d.has.stage_is d.in_cells d.gate here d.upto d.frozen ends r ∙ sym (places s w g i n d.job d.building d.has.is_job d.has.stage_is d.in_cells d.gate here d.upto d.frozen r)
+    pub all-rows : (r : ℕ) → times r (numbers rows) + times r (numbers late) ≡ cond (g.placed r) (same (g.home r) d.job.shard) 0
+    all-rows = job-rows s w g i n d.job d.building d.has.is_job d.has.stage_is d.in_cells d.gate here d.upto d.frozen ends
 
     pub late-named : Each (λ (r : Row). v.row r.no ≡ r) late
     late-named = job-late-named s w g i n d.job d.building d.has.is_job d.has.stage_is d.in_cells d.gate here d.upto d.frozen ends

@@ -10,7 +10,7 @@ use Rattle.row_ledger.specs.Shards.{Place, is_of, place}
 use Rattle.row_ledger.specs.Workers.{left_at}
 use Rattle.row_ledger.specs.declared.event.Event.{Event}
 use Rattle.server_image.specs.Spots.{place_of}
-use Rattle.tree_shape.proofs.Walks.{on_bool}
+use Rattle.list_words.proofs.Truth.{on_bool}
 use Rattle.volap_cell.proofs.Departures.{MovesAt, left-moves}
 
 -- a place after the move

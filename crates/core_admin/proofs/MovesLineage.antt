@@ -1,7 +1,7 @@
 -- A shard moves: the worker that had it leads on to the other one, which leads to its new gate; all else leads where it did.
 use Rattle.std.proofs.Common.{◌≡◌, ◌≢◌, ℕ, ◌<◌, List, [], ◌∷◌, length, map, true, false, eqb, Option, Some, None, IsSome, refl, sym, ap, ◌∙◌, subst, ◌⊎◌, inl, inr, arith, ◌==◌}
 use Rattle.std.specs.Prelude.{IsTrue, Contains}
-use Rattle.std.proofs.lemmas.Bool.{or_cases}
+use Rattle.std.proofs.lemmas.Bool.{or_cases, eqb-true, eqb-false, ne_eqb}
 use Rattle.std.proofs.lemmas.List.Elements.{All-weaker, Contains-append_right}
 use Rattle.describing_set.specs.Plane.{IsHierarchyPlane}
 use Rattle.describing_set.specs.declared.listing.Spot.{Spot}
@@ -17,7 +17,7 @@ use Rattle.row_ledger.specs.declared.event.Event.TheVariants.{Moved, Split}
 use Rattle.row_ledger.proofs.Descent.{live-last}
 use Rattle.row_ledger.proofs.Ascent.{frontier-ascends}
 use Rattle.shard_store.specs.declared.gate.Phase.TheVariants.{Frozen, Gone, Open}
-use Rattle.tree_shape.proofs.Walks.{on_bool, eqb-eq, eqb-ne, eqb-no, eqb-self}
+use Rattle.list_words.proofs.Truth.{on_bool, eqb-self}
 use Rattle.volap_cell.specs.Ghost.{Ghost}
 use Rattle.volap_cell.specs.Invariant.{InvWith}
 use Rattle.volap_cell.specs.Lineage.{Leading, Lineage, was_on, went_to}
@@ -81,14 +81,14 @@ module _ (s : Setting) (v v2 : View) (g g2 : Ghost) (n : ℕ) (i : InvWith s v g
 
   leads-still : (w z : ℕ) → IsSome (v.maps w z) → IsSome (v2.maps w z)
   leads-still w z is = on_bool (eqb z m.shard)
-      (λ q. subst (λ (x : ℕ). IsSome (v2.maps w x)) (sym (eqb-eq z m.shard q))
+      (λ q. subst (λ (x : ℕ). IsSome (v2.maps w x)) (sym (eqb-true z m.shard q))
       (on_bool (eqb w t.to)
-      (λ r. subst (λ (x : ℕ). IsSome (v2.maps x m.shard)) (sym (eqb-eq w t.to r)) (subst IsSome (sym t.to_gate) refl))
+      (λ r. subst (λ (x : ℕ). IsSome (v2.maps x m.shard)) (sym (eqb-true w t.to r)) (subst IsSome (sym t.to_gate) refl))
       (λ r. on_bool (eqb w t.from)
-      (λ f. let here = eqb-eq w t.from f in
-      subst (λ (x : ℕ). IsSome (v2.maps x m.shard)) (sym here) (subst IsSome (sym (t.leads_on (λ k. eqb-ne w t.to r (here ∙ k)))) refl))
-      (λ f. subst IsSome (sym (t.other_worker w (eqb-ne w t.to r) (eqb-ne w t.from f))) (subst (λ (x : ℕ). IsSome (v.maps w x)) (eqb-eq z m.shard q) is)))))
-      (λ q. subst IsSome (sym (t.other_shard w z (eqb-ne z m.shard q))) is)
+      (λ f. let here = eqb-true w t.from f in
+      subst (λ (x : ℕ). IsSome (v2.maps x m.shard)) (sym here) (subst IsSome (sym (t.leads_on (λ k. eqb-false w t.to r (here ∙ k)))) refl))
+      (λ f. subst IsSome (sym (t.other_worker w (eqb-false w t.to r) (eqb-false w t.from f))) (subst (λ (x : ℕ). IsSome (v.maps w x)) (eqb-true z m.shard q) is)))))
+      (λ q. subst IsSome (sym (t.other_shard w z (eqb-false z m.shard q))) is)
 
   pub moved-leading : Leading s v2.maps v.images v.desks
   moved-leading = record {
@@ -101,18 +101,18 @@ module _ (s : Setting) (v v2 : View) (g g2 : Ghost) (n : ℕ) (i : InvWith s v g
   -- where an entry leads: of another shard, of the shard on the worker that has it now, on the one that had it, or elsewhere
   by-entry : (P : ℕ → ℕ → Type 0) (w z : ℕ) → (z ≢ m.shard → P w z) → P t.to m.shard → (t.from ≢ t.to → P t.from m.shard) → ((w : ℕ) → w ≢ t.to → w ≢ t.from → P w m.shard) → P w z
   by-entry P w z other there from elsewhere = on_bool (eqb z m.shard)
-      (λ q. subst (P w) (sym (eqb-eq z m.shard q))
+      (λ q. subst (P w) (sym (eqb-true z m.shard q))
       (on_bool (eqb w t.to)
-      (λ r. subst (λ (x : ℕ). P x m.shard) (sym (eqb-eq w t.to r)) there)
+      (λ r. subst (λ (x : ℕ). P x m.shard) (sym (eqb-true w t.to r)) there)
       (λ r. on_bool (eqb w t.from)
-      (λ f. let here = eqb-eq w t.from f in subst (λ (x : ℕ). P x m.shard) (sym here) (from (λ k. eqb-ne w t.to r (here ∙ k))))
-      (λ f. elsewhere w (eqb-ne w t.to r) (eqb-ne w t.from f)))))
-      (λ q. other (eqb-ne z m.shard q))
+      (λ f. let here = eqb-true w t.from f in subst (λ (x : ℕ). P x m.shard) (sym here) (from (λ k. eqb-false w t.to r (here ∙ k))))
+      (λ f. elsewhere w (eqb-false w t.to r) (eqb-false w t.from f)))))
+      (λ q. other (eqb-false z m.shard q))
 
   -- when a shard left
 
   left-other : (z w : ℕ) → z ≢ m.shard → left_at s.workers (e ∷ h) z w ≡ left_at s.workers h z w
-  left-other z w ne = (let off : (m.shard == z) ≡ false = eqb-no m.shard z (λ k. ne (sym k)) in rw off refl)
+  left-other z w ne = (let off : (m.shard == z) ≡ false = ne_eqb m.shard z (λ k. ne (sym k)) in rw off refl)
 
   left-elsewhere : (w : ℕ) → w ≢ t.from → left_at s.workers (e ∷ h) m.shard w ≡ left_at s.workers h m.shard w
   left-elsewhere w ne =
@@ -120,13 +120,13 @@ module _ (s : Setting) (v v2 : View) (g g2 : Ghost) (n : ℕ) (i : InvWith s v g
       rw (eqb-self m.shard, off) refl
 
   left-from : t.from ≢ t.to → left_at s.workers (e ∷ h) m.shard t.from ≡ Some (length h)
-  left-from ne = (let off : (t.to == t.from) ≡ false = eqb-no t.to t.from (λ k. ne (sym k)) in rw (eqb-self m.shard, t.was_on, off) refl)
+  left-from ne = (let off : (t.to == t.from) ≡ false = ne_eqb t.to t.from (λ k. ne (sym k)) in rw (eqb-self m.shard, t.was_on, off) refl)
 
   went-other : (z w : ℕ) → z ≢ m.shard → went_to (e ∷ h) z w ≡ went_to h z w
-  went-other z w ne = (let off : (m.shard == z) ≡ false = eqb-no m.shard z (λ k. ne (sym k)) in rw off refl)
+  went-other z w ne = (let off : (m.shard == z) ≡ false = ne_eqb m.shard z (λ k. ne (sym k)) in rw off refl)
 
   went-here : (w : ℕ) → w ≢ t.to → went_to (e ∷ h) m.shard w ≡ false
-  went-here w ne = (let off : (t.to == w) ≡ false = eqb-no t.to w (λ k. ne (sym k)) in rw (eqb-self m.shard, off) refl)
+  went-here w ne = (let off : (t.to == w) ≡ false = ne_eqb t.to w (λ k. ne (sym k)) in rw (eqb-self m.shard, off) refl)
 
   -- the shard stands, so it has no children
   childless : (l r : ℕ) → IsTrue (is_child h m.shard l) → IsTrue (is_child h m.shard r) → l ≢ r → ⊥
@@ -141,14 +141,14 @@ module _ (s : Setting) (v v2 : View) (g g2 : Ghost) (n : ℕ) (i : InvWith s v g
   gate-now : (z w : ℕ) → is_on s.workers (e ∷ h) z w ≡ true → (v2.maps w z ≡ Some (where_is.Gate (g2.gate z))) × (v2.gates (g2.gate z) ≡ Some z) × (v2.phases (g2.gate z) ≢ Some Gone)
   gate-now z w is = on_bool (eqb z m.shard)
       (λ q.
-      let here = eqb-eq z m.shard q in
+      let here = eqb-true z m.shard q in
       let w_is : w ≡ t.to = on-there m.shard t.to w (frontier s.workers h) (subst (λ (x : ℕ). is_on s.workers (e ∷ h) x w ≡ true) here is) in
       subst (λ (x : ℕ). (v2.maps w x ≡ Some (where_is.Gate (g2.gate x))) × (v2.gates (g2.gate x) ≡ Some x) × (v2.phases (g2.gate x) ≢ Some Gone)) (sym here)
       (subst (λ (x : ℕ). (v2.maps x m.shard ≡ Some (where_is.Gate (g2.gate m.shard))) × (v2.gates (g2.gate m.shard) ≡ Some m.shard) × (v2.phases (g2.gate m.shard) ≢ Some Gone)) (sym w_is)
       (subst (λ (c : ℕ). (v2.maps t.to m.shard ≡ Some (where_is.Gate c)) × (v2.gates c ≡ Some m.shard) × (v2.phases c ≢ Some Gone)) (sym t.gate_there)
       (t.to_gate, m.gate_new t.y t.new_y ∙ ap Some t.shard_y, λ gone. let no : Some Open ≡ Some Gone = sym (m.phase_new t.y t.new_y) ∙ gone in cc))))
       (λ q.
-      let ne = eqb-ne z m.shard q in
+      let ne = eqb-false z m.shard q in
       let o = i.lineage.gate_of z w (sym (on-same z w ne) ∙ is) in
       let old = gate-old s v v2 g g2 n i m (g.gate z) (subst IsSome (sym o.1) refl) in
       let off = others-gate (g.gate z) z o.1 ne in
@@ -218,14 +218,14 @@ module _ (s : Setting) (v v2 : View) (g g2 : Ghost) (n : ℕ) (i : InvWith s v g
             (λ w off away is next lp lq.
             let early = left-within s.workers h m.shard w p (sym (left-elsewhere w away) ∙ lp) in
             on_bool (eqb u t.to)
-            (λ r. let no : Some (where_is.Gate t.y) ≡ Some (where_is.Moved x) = sym t.to_gate ∙ ap (λ (a : ℕ). v2.maps a m.shard) (sym (eqb-eq u t.to r)) ∙ next in cc)
+            (λ r. let no : Some (where_is.Gate t.y) ≡ Some (where_is.Moved x) = sym t.to_gate ∙ ap (λ (a : ℕ). v2.maps a m.shard) (sym (eqb-true u t.to r)) ∙ next in cc)
             (λ r. on_bool (eqb u t.from)
             (λ f.
-            let here = eqb-eq u t.from f in
-            let ne : t.from ≢ t.to = (λ a. eqb-ne u t.to r (here ∙ a)) in
+            let here = eqb-true u t.from f in
+            let ne : t.from ≢ t.to = (λ a. eqb-false u t.to r (here ∙ a)) in
             let both : ◌≡◌ {A = Option ℕ} (Some (length h)) (Some q) = sym (left-from ne) ∙ ap (left_at s.workers (e ∷ h) m.shard) (sym here) ∙ lq in
             let last : length h ≡ q = cc in omega (arith, early, last))
-            (λ f. k.later w m.shard u x p q (sym (t.other_worker w off away) ∙ is) (sym (t.other_worker u (eqb-ne u t.to r) (eqb-ne u t.from f)) ∙ next) (sym (left-elsewhere w away) ∙ lp) (sym (left-elsewhere u (eqb-ne u t.from f)) ∙ lq))));
+            (λ f. k.later w m.shard u x p q (sym (t.other_worker w off away) ∙ is) (sym (t.other_worker u (eqb-false u t.to r) (eqb-false u t.from f)) ∙ next) (sym (left-elsewhere w away) ∙ lp) (sym (left-elsewhere u (eqb-false u t.from f)) ∙ lq))));
         made = λ c z is. on_bool (m.new c)
             (λ q.
             let both : Some m.shard ≡ Some z = sym (m.gate_new t.y t.new_y ∙ ap Some t.shard_y) ∙ ap v2.gates (sym (t.only_y c q)) ∙ is in

@@ -1,71 +1,59 @@
--- A job that moves a shard comes to its end: what that leaves in the cells, and the new tree there.
-use Rattle.std.proofs.Common.{◌≡◌, ◌≢◌, ℕ, zero, suc, List, [], ◌∷◌, ◌++◌, map, Some, None, Contains, refl, sym, ap, ◌∙◌, inl, inr, arith}
+-- The cells that a move changes, as the view sees them.
+use Rattle.std.proofs.Common.{◌≡◌, ◌≢◌, ℕ, List, [], ◌∷◌, ◌++◌, map, Some, refl, sym, ap, ◌∙◌, inl, inr, eqb, Option, subst}
 use Rattle.std.specs.FinMap.{FinMap}
 use Rattle.std.specs.Ordering.{nat_cmp}
 use Rattle.mapping_table.specs.declared.place.Where.{Where}
-use Rattle.row_ledger.proofs.Elements.{Contains-nil}
-use Rattle.cell_stock.specs.Stock.{StockValue, cells_of}
-use Rattle.cell_stock.specs.declared.purse.Spare.{Spare}
-use Rattle.link_descent.specs.declared.entered.Fresh.{Fresh}
+use Rattle.cell_stock.specs.Stock.{StockValue}
 use Rattle.row_ledger.specs.LedgerValue.{LedgerValue}
-use Rattle.row_ledger.specs.declared.event.Event.{Event}
 use Rattle.row_ledger.specs.declared.event.Event.TheVariants.{Moved}
 use Rattle.server_image.specs.Registry.{RegistryValue}
-use Rattle.shard_build.specs.Building.{spare_of}
 use Rattle.shard_store.specs.declared.gate.Gate.{Gate}
-use Rattle.tree_shape.specs.Counts.{Among, Each}
-use Rattle.tree_shape.specs.Forest.{filled_cells}
-use Rattle.tree_shape.proofs.Divisions.{each-both, each-map}
-use Rattle.tree_shape.proofs.Parts.{each-append, each-left, each-right}
-use Rattle.volap_cell.specs.AdminKinds.{DoesFinishMove, Finishes, spent_by}
-use Rattle.volap_cell.specs.Cells.{BlockCell, CellValue, DeskCell, FreeCell, GateCell, ImageCell, LedgerCell, MapCell, MapOf, OfStock, RegistryCell, StockCell, Tag, TheLedger, TheRegistry, TheStock, gate_shard, ledger_in, registry_in, stock_in, tag_of, where_in}
+use Rattle.list_words.specs.Counts.{Each}
+use Rattle.list_words.proofs.Each.{each-left}
+use Rattle.volap_cell.specs.AdminKinds.{DoesFinishMove, MovesIn}
+use Rattle.volap_cell.specs.Cells.{CellValue, GateCell, LedgerCell, MapCell, MapOf, RegistryCell, StockCell, ledger_in, tag_of}
 use Rattle.volap_cell.specs.Ghost.{Ghost}
 use Rattle.volap_cell.specs.Invariant.{InvWith}
-use Rattle.volap_cell.specs.Setting.{Setting, ledger_cell, registry_cell, stock_cell}
+use Rattle.volap_cell.specs.Setting.{Setting, ledger_cell}
 use Rattle.volap_cell.specs.Values.{ActorValue, JobValue}
 use Rattle.volap_cell.specs.View.{View, view}
 use Rattle.volap_cell.specs.World.{Agrees, Change, World, after}
-use Rattle.volap_cell.specs.declared.command.Work.{Work}
-use Rattle.volap_cell.specs.declared.command.Work.TheVariants as work_is
 use Rattle.volap_cell.proofs.Fields.{IsNew}
-use Rattle.volap_cell.proofs.Frames.{AreAt}
-use Rattle.volap_cell.proofs.Numbers.{at-ledger, tag-ledger, at-registry, at-stock, tag-registry, tag-stock}
+use Rattle.volap_cell.proofs.Frames.{AreAt, AreApartCells}
 use Rattle.volap_cell.proofs.Spares.{move-blank}
-use Rattle.volap_cell.proofs.Touches.{IsBlank, turned}
-use Rattle.core_admin.proofs.MoveCells.{AreMoved, IsAnyTable, any-tables, are-moved, one-right, put-is, put-keeps}
+use Rattle.volap_cell.proofs.Touches.{IsBlank}
+use Rattle.std.specs.FinMap as map
+use Rattle.mapping_table.specs.declared.place.Where.TheVariants as where_is
+use Rattle.list_words.proofs.Truth.{on_bool}
+use Rattle.std.proofs.lemmas.Bool.{eqb-true, eqb-false}
+use Rattle.core_admin.proofs.EndedCells.{EndsCells, IsTable, at-x as at_x, get-other, get-same, kept as cells_kept, ledger-now as ledger_now, ledger-of, new-now, registry-now as registry_now, stock-now as stock_now, table-now, tables-off, x-now as x_now}
 
--- a job's end leaves a ledger
-pub ledger-of : (of : ℕ) (work : Work) (job : JobValue) (e : Event) (l : Change) (a b : ActorValue) → Finishes of work job e l a b → (lv : LedgerValue) × (lv2 : LedgerValue) × (l.before ≡ LedgerCell lv) × (l.now ≡ LedgerCell lv2)
-ledger-of of (work_is.Balance balance) job e l a b f = (f.0.ledger, f.0.ledger_now, f.0.was, f.0.is)
-ledger-of of (work_is.Insert row routed) job e l a b f = (f.0.ledger, f.0.ledger_now, f.0.was, f.0.is)
-ledger-of of work_is.Query job e l a b f = (f.0.ledger, f.0.ledger_now, f.0.was, f.0.is)
-ledger-of of (work_is.Sync server pulled) job e l a b f = (f.0.ledger, f.0.ledger_now, f.0.was, f.0.is)
-ledger-of of work_is.Bare job e l a b f = (f.0.ledger, f.0.ledger_now, f.0.was, f.0.is)
-ledger-of of (work_is.Settle pulls) job e l a b f = (f.0.ledger, f.0.ledger_now, f.0.was, f.0.is)
-ledger-of of (work_is.Action act) job e l a b f = (f.0.ledger, f.0.ledger_now, f.0.was, f.0.is)
-ledger-of of (work_is.Page subject there shown) job e l a b f = (f.0.ledger, f.0.ledger_now, f.0.was, f.0.is)
+-- What the tables have afterwards: on the worker that had the shard it has moved, and on the other one it has its new gate.
+pub record AreMoved (was now : ℕ → ℕ → Option Where) (shard from to gate : ℕ) : Type 0 where
+  pub to_gate : now to shard ≡ Some (where_is.Gate gate)
+  pub leads_on : from ≢ to → now from shard ≡ Some (where_is.Moved to)
+  pub other_worker : (w : ℕ) → w ≢ to → w ≢ from → now w shard ≡ was w shard
+  pub other_shard : (w z : ℕ) → z ≢ shard → now w z ≡ was w z
 
--- the cells of spent spares are those of the blocks
-pub cells-spent : (fs : List Fresh) → cells_of (spent_by fs) ≡ filled_cells fs
-cells-spent [] = refl
-cells-spent (f ∷ fs) = ap (λ (ys : List ℕ). f.cell ∷ ys) (cells-spent fs)
+turned-tables : (maps : List Change) (job : JobValue) (to gate : ℕ) → MovesIn maps job to gate → Each IsTable maps
+turned-tables [] job to gate m = absurd m
+turned-tables (d ∷ []) job to gate m = (record { worker = to; table = m.1.0; table_now = map.insert m.1.0 job.shard (where_is.Gate gate); was = m.1.1; is = m.1.2 }, tt)
+turned-tables (d ∷ f ∷ []) job to gate m = (
+  record { worker = job.worker; table = m.1.0; table_now = map.insert m.1.0 job.shard (where_is.Moved to); was = m.1.1; is = m.1.2 },
+  (record { worker = to; table = m.2.0; table_now = map.insert m.2.0 job.shard (where_is.Gate gate); was = m.2.1; is = m.2.2 }, tt),
+)
+turned-tables (d ∷ f ∷ k ∷ more) job to gate m = absurd m
 
-pub contains-among : (z : Spare) (fs : List Fresh) → Contains (map spare_of fs) z → Among z (spent_by fs)
-contains-among z [] has = absurd (Contains-nil z has)
-contains-among z (f ∷ fs) (zero, k, is) = inl (sym is)
-contains-among z (f ∷ fs) (suc j, k, is) = inr (contains-among z fs (j, omega (arith, k), is))
+-- two tables are of two workers
+apart-tables : (cells : ℕ → CellValue) (maps : List Change) (job : JobValue) (to gate : ℕ) → MovesIn maps job to gate → AreAt cells maps → AreApartCells maps
+apart-tables cells [] job to gate m at = tt
+apart-tables cells (d ∷ []) job to gate m at = (tt, tt)
+apart-tables cells (d ∷ f ∷ []) job to gate m at = (((λ e. let both : MapOf to ≡ MapOf job.worker = sym (ap tag_of m.2.1) ∙ ap tag_of (sym at.1.0) ∙ ap (λ (z : ℕ). tag_of (cells z)) e ∙ ap tag_of at.0 ∙ ap tag_of m.1.1 in m.0 cc), tt), (tt, tt))
+apart-tables cells (d ∷ f ∷ k ∷ more) job to gate m at = absurd m
 
--- a gate has no table, and a blank cell has none
-pub blank-where : (gate : Gate) (c : CellValue) → tag_of c ≡ OfStock → where_in (GateCell gate) ≡ where_in c
-blank-where gate FreeCell tag = refl
-blank-where gate (BlockCell k) tag = refl
-blank-where gate (GateCell k) tag = refl
-blank-where gate (LedgerCell l) tag = cc
-blank-where gate (StockCell k) tag = cc
-blank-where gate (RegistryCell r) tag = cc
-blank-where gate (ImageCell k image) tag = cc
-blank-where gate (DeskCell k desk) tag = cc
-blank-where gate (MapCell worker m) tag = cc
+-- tables of two workers are two
+of-map : (one two : ℕ) (m m2 : map.FinMap nat_cmp Where) → MapCell one m ≡ MapCell two m2 → one ≡ two
+of-map one two m m2 is = (let both : MapOf one ≡ MapOf two = ap tag_of is in cc)
 
 module _ (maps : List Change) (x gc reg c led : Change) (b : ActorValue) (s : Setting) (w : World) (n : ℕ) (g : Ghost) (i : InvWith s (view s w) g) (ag : Agrees w (maps ++ x ∷ gc ∷ reg ∷ c ∷ led ∷ []) n (w.actors n)) (d : DoesFinishMove s.hierarchy maps x gc reg c led (w.actors n) b) where
   abbrev pub v : View
@@ -83,155 +71,92 @@ module _ (maps : List Change) (x gc reg c led : Change) (b : ActorValue) (s : Se
   abbrev pub u : View
   u = view s w2
 
-  right : AreAt w.cells rest
-  right = each-right (λ (e : Change). w.cells e.number ≡ e.before) maps rest ag.cells
-
-  left : AreAt w.cells maps
-  left = each-left (λ (e : Change). w.cells e.number ≡ e.before) maps rest ag.cells
-
   blank : IsBlank gc.before
   blank = move-blank s w g i n s.hierarchy maps x gc reg c led (w.actors n) b ag d
 
-  led-is : (lv : LedgerValue) × (lv2 : LedgerValue) × (led.before ≡ LedgerCell lv) × (led.now ≡ LedgerCell lv2)
-  led-is = ledger-of d.of d.work d.job (Moved d.of d.job.shard d.to) led (w.actors n) b d.finishes
+  at-maps : AreAt w.cells maps
+  at-maps = each-left (λ (e : Change). w.cells e.number ≡ e.before) maps rest ag.cells
 
-  tables : Each (IsAnyTable d.job.shard) maps
-  tables = any-tables maps d.job d.to gc.number d.moves
+  abbrev cells : EndsCells maps (gc ∷ []) x reg c led
+  cells = record {
+    tables = turned-tables maps d.job d.to gc.number d.moves;
+    tables_apart = apart-tables w.cells maps d.job d.to gc.number d.moves at-maps;
+    new_gates = (record { blank = blank; gate = d.new_gate; is = d.new_now }, tt);
+    gates_apart = (tt, tt);
+    gate = d.gate;
+    gate_now = d.gate_now;
+    turns = d.turns;
+    registry = d.registry;
+    registry_now = d.registry_now;
+    registry_was = d.registry_was;
+    registry_is = d.registry_is;
+    stock = d.stock;
+    stock_now = d.stock_now;
+    turns_stock = d.turns_stock;
+    ledger = ledger-of d.of d.work d.job (Moved d.of d.job.shard d.to) led (w.actors n) b d.finishes;
+  }
 
   pub at-x : w.cells x.number ≡ GateCell d.gate
-  at-x = right.0 ∙ d.turns.was
-
-  apart : gc.number ≢ x.number
-  apart e =
-      let none : gate_shard (w.cells gc.number) ≡ None = ap gate_shard right.1.0 ∙ blank.no_gate in
-      let some : gate_shard (w.cells x.number) ≡ Some d.gate.shard = ap gate_shard at-x in
-      let no : None ≡ Some d.gate.shard = sym none ∙ ap (λ (y : ℕ). gate_shard (w.cells y)) e ∙ some in cc
-
-  tag-gc : tag_of (w.cells gc.number) ≡ OfStock
-  tag-gc = ap tag_of right.1.0 ∙ blank.tag
-
-  -- cells with different tags are different cells
-  clash : (e : Change) (y : ℕ) (t k : Tag) → w.cells e.number ≡ e.before → tag_of e.before ≡ t → tag_of (w.cells y) ≡ k → t ≢ k → e.number ≡ y → ⊥
-  clash e y t k here tag there ne is = ne (sym tag ∙ ap tag_of (sym here) ∙ ap (λ (z : ℕ). tag_of (w.cells z)) is ∙ there)
-
-  maps-off : (y : ℕ) (k : Tag) (z : CellValue) → tag_of (w.cells y) ≡ k → ((worker : ℕ) → MapOf worker ≢ k) → Each (λ (e : Change). e.number ≡ y → e.now ≡ z) maps
-  maps-off y k z there ne = each-both (IsAnyTable d.job.shard) (λ (e : Change). w.cells e.number ≡ e.before) (λ (e : Change). e.number ≡ y → e.now ≡ z) maps
-      (λ e table here is. absurd (clash e y (MapOf table.0) k here (ap tag_of table.2.was) there (ne table.0) is)) tables left
-
-  -- What the cells are afterwards.
+  at-x = at_x maps (gc ∷ []) x reg c led b s w n g i ag cells
 
   pub x-now : w2.cells x.number ≡ GateCell d.gate_now
-  x-now =
-      let tag : tag_of (w.cells x.number) ≡ OfStock = ap tag_of at-x in
-      put-is cs w.cells x.number (GateCell d.gate_now)
-      (each-append (λ (e : Change). e.number ≡ x.number → e.now ≡ GateCell d.gate_now) maps rest (maps-off x.number OfStock (GateCell d.gate_now) tag (λ k e. cc)) (
-        (λ e. d.turns.is),
-        (
-          (λ e. absurd (apart e)),
-          (
-            (λ e. absurd (clash reg x.number TheRegistry OfStock right.1.1.0 (ap tag_of d.registry_was) tag (λ k. cc) e)),
-            (
-              (λ e. absurd (clash c x.number TheStock OfStock right.1.1.1.0 (ap tag_of d.turns_stock.was) tag (λ k. cc) e)),
-              ((λ e. absurd (clash led x.number TheLedger OfStock right.1.1.1.1.0 (ap tag_of led-is.2) tag (λ k. cc) e)), tt),
-            ),
-          ),
-        ),
-      ))
-      (one-right x.number maps rest (inl refl))
+  x-now = x_now maps (gc ∷ []) x reg c led b s w n g i ag cells
 
   pub gc-now : w2.cells gc.number ≡ GateCell d.new_gate
-  gc-now =
-      put-is cs w.cells gc.number (GateCell d.new_gate)
-      (each-append (λ (e : Change). e.number ≡ gc.number → e.now ≡ GateCell d.new_gate) maps rest (maps-off gc.number OfStock (GateCell d.new_gate) tag-gc (λ k e. cc)) (
-        (λ e. absurd (apart (sym e))),
-        (
-          (λ e. d.new_now),
-          (
-            (λ e. absurd (clash reg gc.number TheRegistry OfStock right.1.1.0 (ap tag_of d.registry_was) tag-gc (λ k. cc) e)),
-            (
-              (λ e. absurd (clash c gc.number TheStock OfStock right.1.1.1.0 (ap tag_of d.turns_stock.was) tag-gc (λ k. cc) e)),
-              ((λ e. absurd (clash led gc.number TheLedger OfStock right.1.1.1.1.0 (ap tag_of led-is.2) tag-gc (λ k. cc) e)), tt),
-            ),
-          ),
-        ),
-      ))
-      (one-right gc.number maps rest (inr (inl refl)))
+  gc-now = new-now maps (gc ∷ []) x reg c led b s w n g i ag cells gc (inl refl) ∙ d.new_now
 
   pub registry-now : (v.registry ≡ d.registry) × (u.registry ≡ d.registry_now)
-  registry-now =
-      let number = at-registry s w.cells i.numbering.tag reg.number d.registry (right.1.1.0 ∙ d.registry_was) in
-      let tag : tag_of (w.cells registry_cell) ≡ TheRegistry = i.numbering.tag registry_cell ∙ tag-registry s in
-      let now = put-is cs w.cells registry_cell (RegistryCell d.registry_now)
-      (each-append (λ (e : Change). e.number ≡ registry_cell → e.now ≡ RegistryCell d.registry_now) maps rest (maps-off registry_cell TheRegistry (RegistryCell d.registry_now) tag (λ k e. cc)) (
-        (λ e. absurd (clash x registry_cell OfStock TheRegistry right.0 (ap tag_of d.turns.was) tag (λ k. cc) e)),
-        (
-          (λ e. absurd (clash gc registry_cell OfStock TheRegistry right.1.0 blank.tag tag (λ k. cc) e)),
-          (
-            (λ e. d.registry_is),
-            (
-              (λ e. absurd (clash c registry_cell TheStock TheRegistry right.1.1.1.0 (ap tag_of d.turns_stock.was) tag (λ k. cc) e)),
-              ((λ e. absurd (clash led registry_cell TheLedger TheRegistry right.1.1.1.1.0 (ap tag_of led-is.2) tag (λ k. cc) e)), tt),
-            ),
-          ),
-        ),
-      ))
-      (one-right registry_cell maps rest (inr (inr (inl number)))) in
-      (ap (λ (y : ℕ). registry_in (w.cells y)) (sym number) ∙ ap registry_in (right.1.1.0 ∙ d.registry_was), ap registry_in now)
+  registry-now = registry_now maps (gc ∷ []) x reg c led b s w n g i ag cells
 
   pub stock-now : (v.stock ≡ d.stock) × (u.stock ≡ d.stock_now)
-  stock-now =
-      let number = at-stock s w.cells i.numbering.tag c.number d.stock (right.1.1.1.0 ∙ d.turns_stock.was) in
-      let tag : tag_of (w.cells stock_cell) ≡ TheStock = i.numbering.tag stock_cell ∙ tag-stock s in
-      let now = put-is cs w.cells stock_cell (StockCell d.stock_now)
-      (each-append (λ (e : Change). e.number ≡ stock_cell → e.now ≡ StockCell d.stock_now) maps rest (maps-off stock_cell TheStock (StockCell d.stock_now) tag (λ k e. cc)) (
-        (λ e. absurd (clash x stock_cell OfStock TheStock right.0 (ap tag_of d.turns.was) tag (λ k. cc) e)),
-        (
-          (λ e. absurd (clash gc stock_cell OfStock TheStock right.1.0 blank.tag tag (λ k. cc) e)),
-          (
-            (λ e. absurd (clash reg stock_cell TheRegistry TheStock right.1.1.0 (ap tag_of d.registry_was) tag (λ k. cc) e)),
-            (
-              (λ e. d.turns_stock.is),
-              ((λ e. absurd (clash led stock_cell TheLedger TheStock right.1.1.1.1.0 (ap tag_of led-is.2) tag (λ k. cc) e)), tt),
-            ),
-          ),
-        ),
-      ))
-      (one-right stock_cell maps rest (inr (inr (inr (inl number))))) in
-      (ap (λ (y : ℕ). stock_in (w.cells y)) (sym number) ∙ ap stock_in (right.1.1.1.0 ∙ d.turns_stock.was), ap stock_in now)
+  stock-now = stock_now maps (gc ∷ []) x reg c led b s w n g i ag cells
 
   pub ledger-now : (lv lv2 : LedgerValue) → led.before ≡ LedgerCell lv → led.now ≡ LedgerCell lv2 → IsNew (ledger_in (w2.cells ledger_cell)) (ledger_in (w.cells ledger_cell)) lv lv2
-  ledger-now lv lv2 was is =
-      let number = at-ledger s w.cells i.numbering.tag led.number lv (right.1.1.1.1.0 ∙ was) in
-      let tag : tag_of (w.cells ledger_cell) ≡ TheLedger = i.numbering.tag ledger_cell ∙ tag-ledger s in
-      let now = put-is cs w.cells ledger_cell (LedgerCell lv2)
-      (each-append (λ (e : Change). e.number ≡ ledger_cell → e.now ≡ LedgerCell lv2) maps rest (maps-off ledger_cell TheLedger (LedgerCell lv2) tag (λ k e. cc)) (
-        (λ e. absurd (clash x ledger_cell OfStock TheLedger right.0 (ap tag_of d.turns.was) tag (λ k. cc) e)),
-        (
-          (λ e. absurd (clash gc ledger_cell OfStock TheLedger right.1.0 blank.tag tag (λ k. cc) e)),
-          (
-            (λ e. absurd (clash reg ledger_cell TheRegistry TheLedger right.1.1.0 (ap tag_of d.registry_was) tag (λ k. cc) e)),
-            ((λ e. absurd (clash c ledger_cell TheStock TheLedger right.1.1.1.0 (ap tag_of d.turns_stock.was) tag (λ k. cc) e)), ((λ e. is), tt)),
-          ),
-        ),
-      ))
-      (one-right ledger_cell maps rest (inr (inr (inr (inr (inl number)))))) in
-      record { was_that = ap (λ (y : ℕ). ledger_in (w.cells y)) (sym number) ∙ ap ledger_in (right.1.1.1.1.0 ∙ was); is_that = ap ledger_in now }
+  ledger-now = ledger_now maps (gc ∷ []) x reg c led b s w n g i ag cells
 
   -- everywhere but at the new gate, what a table, the registry, the stock and the ledger don't tell is as before
   pub kept : {A : Type 0} (f : CellValue → A) → ((worker : ℕ) (t t2 : FinMap nat_cmp Where) → f (MapCell worker t) ≡ f (MapCell worker t2)) → ((r r2 : RegistryValue) → f (RegistryCell r) ≡ f (RegistryCell r2)) → ((k k2 : StockValue) → f (StockCell k) ≡ f (StockCell k2))
       → ((l l2 : LedgerValue) → f (LedgerCell l) ≡ f (LedgerCell l2)) → (y : ℕ) → (y ≡ x.number → f (GateCell d.gate_now) ≡ f (GateCell d.gate)) → y ≢ gc.number → f (w2.cells y) ≡ f (w.cells y)
-  kept f of_map of_registry of_stock of_ledger y of_x ne = put-keeps f cs w.cells y ag.cells
-      (each-append (λ (e : Change). e.number ≡ y → f e.now ≡ f e.before) maps rest
-      (each-map (IsAnyTable d.job.shard) (λ (e : Change). e.number ≡ y → f e.now ≡ f e.before) maps (λ e t is. turned f e _ _ t.2.was t.2.is (of_map t.0 _ _)) tables) (
-        (λ e. turned f x _ _ d.turns.was d.turns.is (of_x (sym e))),
-        (
-          (λ e. absurd (ne (sym e))),
-          ((λ e. turned f reg _ _ d.registry_was d.registry_is (of_registry _ _)), ((λ e. turned f c _ _ d.turns_stock.was d.turns_stock.is (of_stock _ _)), ((λ e. turned f led _ _ led-is.2 led-is.3 (of_ledger _ _)), tt))),
-        ),
-      ))
+  kept f of_map of_registry of_stock of_ledger y of_x ne = cells_kept maps (gc ∷ []) x reg c led b s w n g i ag cells f of_map of_registry of_stock of_ledger y of_x (ne, tt)
 
-  pub moved-tables : AreMoved s v.maps u.maps d.job.shard d.job.worker d.to gc.number
-  moved-tables = are-moved s w.cells i.numbering.tag d.job d.to gc.number rest (
-    turned where_in x _ _ d.turns.was d.turns.is refl,
-    (ap where_in d.new_now ∙ blank-where d.new_gate gc.before blank.tag, (turned where_in reg _ _ d.registry_was d.registry_is refl, (turned where_in c _ _ d.turns_stock.was d.turns_stock.is refl, (turned where_in led _ _ led-is.2 led-is.3 refl, tt)))),
-  ) maps ag.cells d.moves
+  -- an entry of another shard stays
+  off-entry : (worker z : ℕ) (table : map.FinMap nat_cmp Where) (to : Where) → (v.maps worker ≡ map.get table) × (u.maps worker ≡ map.get (map.insert table d.job.shard to)) → z ≢ d.job.shard → u.maps worker z ≡ v.maps worker z
+  off-entry worker z table to both ne = ap (λ (k : ℕ → Option Where). k z) both.1 ∙ get-other table d.job.shard to z ne ∙ sym (ap (λ (k : ℕ → Option Where). k z) both.0)
+
+-- The tables, by whether there is one or two.
+pub moved-tables : (maps : List Change) (x gc reg c led : Change) (b : ActorValue) (s : Setting) (w : World) (n : ℕ) (g : Ghost) (i : InvWith s (view s w) g) (ag : Agrees w (maps ++ x ∷ gc ∷ reg ∷ c ∷ led ∷ []) n (w.actors n)) (d : DoesFinishMove s.hierarchy maps x gc reg c led (w.actors n) b)
+    → AreMoved (view s w).maps (view s (after w (maps ++ x ∷ gc ∷ reg ∷ c ∷ led ∷ []) n b)).maps d.job.shard d.job.worker d.to gc.number
+moved-tables [] x gc reg c led b s w n g i ag d = absurd d.moves
+moved-tables (k ∷ []) x gc reg c led b s w n g i ag d =
+    let t = cells (k ∷ []) x gc reg c led b s w n g i ag d in
+    let one = d.moves.1 in
+    let here = table-now (k ∷ []) (gc ∷ []) x reg c led b s w n g i ag t k (inl refl) d.to one.0 (map.insert one.0 d.job.shard (where_is.Gate gc.number)) ag.cells.0 one.1 one.2 in
+    let off : (worker : ℕ) → worker ≢ d.to → (view s (after w (k ∷ x ∷ gc ∷ reg ∷ c ∷ led ∷ []) n b)).maps worker ≡ (view s w).maps worker = λ worker ne.
+    tables-off (k ∷ []) (gc ∷ []) x reg c led b s w n g i ag t worker ((λ other table was same. ne (same ∙ of-map other d.to table one.0 (sym was ∙ one.1))), tt) in
+    record {
+      to_gate = ap (λ (z : ℕ → Option Where). z d.job.shard) here.1 ∙ get-same one.0 d.job.shard (where_is.Gate gc.number);
+      leads_on = λ ne. absurd (ne (sym d.moves.0));
+      other_worker = λ worker ne away. ap (λ (z : ℕ → Option Where). z d.job.shard) (off worker ne);
+      other_shard = λ worker z ne. on_bool (eqb worker d.to)
+          (λ q. subst (λ (p : ℕ). (view s (after w (k ∷ x ∷ gc ∷ reg ∷ c ∷ led ∷ []) n b)).maps p z ≡ (view s w).maps p z) (sym (eqb-true worker d.to q)) (off-entry (k ∷ []) x gc reg c led b s w n g i ag d d.to z one.0 (where_is.Gate gc.number) here ne))
+          (λ q. ap (λ (p : ℕ → Option Where). p z) (off worker (eqb-false worker d.to q)));
+    }
+moved-tables (k ∷ f ∷ []) x gc reg c led b s w n g i ag d =
+    let t = cells (k ∷ f ∷ []) x gc reg c led b s w n g i ag d in
+    let one = d.moves.1 in
+    let two = d.moves.2 in
+    let here = table-now (k ∷ f ∷ []) (gc ∷ []) x reg c led b s w n g i ag t k (inl refl) d.job.worker one.0 (map.insert one.0 d.job.shard (where_is.Moved d.to)) ag.cells.0 one.1 one.2 in
+    let there = table-now (k ∷ f ∷ []) (gc ∷ []) x reg c led b s w n g i ag t f (inr (inl refl)) d.to two.0 (map.insert two.0 d.job.shard (where_is.Gate gc.number)) ag.cells.1.0 two.1 two.2 in
+    let off : (worker : ℕ) → worker ≢ d.to → worker ≢ d.job.worker → (view s (after w (k ∷ f ∷ x ∷ gc ∷ reg ∷ c ∷ led ∷ []) n b)).maps worker ≡ (view s w).maps worker = λ worker ne away.
+    tables-off (k ∷ f ∷ []) (gc ∷ []) x reg c led b s w n g i ag t worker ((λ other table was same. away (same ∙ of-map other d.job.worker table one.0 (sym was ∙ one.1))), ((λ other table was same. ne (same ∙ of-map other d.to table two.0 (sym was ∙ two.1))), tt)) in
+    record {
+      to_gate = ap (λ (z : ℕ → Option Where). z d.job.shard) there.1 ∙ get-same two.0 d.job.shard (where_is.Gate gc.number);
+      leads_on = λ ne. ap (λ (z : ℕ → Option Where). z d.job.shard) here.1 ∙ get-same one.0 d.job.shard (where_is.Moved d.to);
+      other_worker = λ worker ne away. ap (λ (z : ℕ → Option Where). z d.job.shard) (off worker ne away);
+      other_shard = λ worker z ne. on_bool (eqb worker d.to)
+          (λ q. subst (λ (p : ℕ). (view s (after w (k ∷ f ∷ x ∷ gc ∷ reg ∷ c ∷ led ∷ []) n b)).maps p z ≡ (view s w).maps p z) (sym (eqb-true worker d.to q)) (off-entry (k ∷ f ∷ []) x gc reg c led b s w n g i ag d d.to z two.0 (where_is.Gate gc.number) there ne))
+          (λ q. on_bool (eqb worker d.job.worker)
+          (λ r. subst (λ (p : ℕ). (view s (after w (k ∷ f ∷ x ∷ gc ∷ reg ∷ c ∷ led ∷ []) n b)).maps p z ≡ (view s w).maps p z) (sym (eqb-true worker d.job.worker r)) (off-entry (k ∷ f ∷ []) x gc reg c led b s w n g i ag d d.job.worker z one.0 (where_is.Moved d.to) here ne))
+          (λ r. ap (λ (p : ℕ → Option Where). p z) (off worker (eqb-false worker d.to q) (eqb-false worker d.job.worker r))));
+    }
+moved-tables (k ∷ f ∷ e ∷ more) x gc reg c led b s w n g i ag d = absurd d.moves

@@ -1,6 +1,6 @@
 -- A tree that a job has built: its blocks are in their cells, and a new gate leads to it.
-use Rattle.std.proofs.Common.{◌≡◌, ◌≢◌, ℕ, ◌≤◌, Bool, true, false, cond, eqb, List, [], ◌∷◌, map, Contains, refl, sym, ap, ◌∙◌, subst, inl, inr, arith}
-use Rattle.cell_stock.specs.Stock.{PurseValue}
+use Rattle.std.proofs.Common.{◌≡◌, ◌≢◌, ℕ, ◌≤◌, Bool, true, false, cond, eqb, List, [], ◌∷◌, map, Contains, refl, sym, ap, ◌∙◌, subst, inl, inr, arith, zero, suc}
+use Rattle.cell_stock.specs.Stock.{PurseValue, cells_of}
 use Rattle.cell_stock.specs.declared.purse.Spare.{Spare}
 use Rattle.dim_hierarchy.specs.declared.row.Row.{Row}
 use Rattle.dim_hierarchy.specs.Dimension.{Dimension}
@@ -15,16 +15,16 @@ use Rattle.shard_build.specs.Building.{spare_of, spare_to}
 use Rattle.shard_build.specs.declared.builder.Built.{Built}
 use Rattle.shard_store.specs.Gate.{root_entry}
 use Rattle.shard_store.specs.declared.gate.Gate.{Gate}
-use Rattle.tree_shape.specs.Counts.{Among, Each, times}
+use Rattle.list_words.specs.Counts.{Among, Each, times}
+use Rattle.list_words.proofs.Each.{each-map, each-all, each-left, each-right, each-among}
+use Rattle.list_words.proofs.Truth.{on_bool}
+use Rattle.std.proofs.lemmas.Bool.{eqb-true, eqb-false}
+use Rattle.list_words.proofs.Times.{same_is, same_not}
 use Rattle.tree_shape.specs.Forest.{AfterBuilding, AreInCells, AreRowsOf, all_entries, filled_cells}
 use Rattle.tree_shape.specs.Laws.{GateLaw}
 use Rattle.tree_shape.specs.Shape.{Shape, nodes, numbers}
 use Rattle.tree_shape.specs.Trees.{IsTree}
-use Rattle.tree_shape.proofs.Divisions.{each-map}
-use Rattle.tree_shape.proofs.Forests.{each-all}
-use Rattle.tree_shape.proofs.Parts.{each-left, each-right}
-use Rattle.tree_shape.proofs.Walks.{on_bool, eqb-eq, eqb-ne, same_is, same_not}
-use Rattle.volap_cell.specs.AdminKinds.{IsGateFor, tree_of}
+use Rattle.volap_cell.specs.AdminKinds.{IsGateFor, tree_of, spent_by}
 use Rattle.volap_cell.specs.Cells.{way_to_tree}
 use Rattle.volap_cell.specs.declared.job.BuiltTree.{BuiltTree}
 use Rattle.volap_cell.specs.Ghost.{Ghost, InPurse, Owner, is_in_job}
@@ -32,14 +32,24 @@ use Rattle.volap_cell.specs.Growing.{table_of}
 use Rattle.volap_cell.specs.Setting.{Setting}
 use Rattle.volap_cell.specs.Stocking.{cells_at, spent_of}
 use Rattle.volap_cell.specs.View.{View}
-use Rattle.volap_cell.proofs.Frames.{each-among}
+use Rattle.list_words.proofs.Elements.{Contains-nil}
+
+-- the cells of spent spares are those of the blocks
+pub cells-spent : (fs : List Fresh) → cells_of (spent_by fs) ≡ filled_cells fs
+cells-spent [] = refl
+cells-spent (f ∷ fs) = ap (λ (ys : List ℕ). f.cell ∷ ys) (cells-spent fs)
+
+pub contains-among : (z : Spare) (fs : List Fresh) → Contains (map spare_of fs) z → Among z (spent_by fs)
+contains-among z [] has = absurd (Contains-nil z has)
+contains-among z (f ∷ fs) (zero, k, is) = inl (sym is)
+contains-among z (f ∷ fs) (suc j, k, is) = inr (contains-among z fs (j, omega (arith, k), is))
 
 -- a cell among those of blocks has one of them
 pub fresh-at : (y : ℕ) (fs : List Fresh) → 1 ≤ times y (filled_cells fs) → (f : Fresh) × Among f fs × (f.cell ≡ y)
 fresh-at y [] some = absurd (omega (arith, some))
 fresh-at y (f ∷ fs) some = (let later = fresh-at y fs in on_bool (eqb y f.cell)
-    (λ q. (f, inl refl, sym (eqb-eq y f.cell q)))
-    (λ q. let none = same_not y f.cell (eqb-ne y f.cell q) in let o = later (omega (arith, some, none)) in (o.0, inr o.1, o.2)))
+    (λ q. (f, inl refl, sym (eqb-true y f.cell q)))
+    (λ q. let none = same_not y f.cell (eqb-false y f.cell q) in let o = later (omega (arith, some, none)) in (o.0, inr o.1, o.2)))
 
 -- what holds of the entries of all blocks holds of those of one
 entries-of : (P : Entry → Type 0) (f : Fresh) (fs : List Fresh) → Each P (all_entries fs) → Among f fs → Each P (entries_in f.block.body)
@@ -90,10 +100,10 @@ module _ (s : Setting) (v : View) (g : Ghost) (n : ℕ) (blocks : ℕ → Block)
     blocks = stand;
     apart = λ z. let k = few z in on_bool (eqb z y)
         (λ q.
-        let is = eqb-eq z y q in
+        let is = eqb-true z y q in
         let none : ◌≡◌ {A = ℕ} (cond (is_in_job n (g.owner z)) 1 0) 0 = ap (λ (o : Owner). cond (is_in_job n o) 1 0) (ap g.owner is ∙ own) in
         let one = same_is z y is in omega (arith, k, none, one))
-        (λ q. let none = same_not z y (eqb-ne z y q) in let most = one-or-none (is_in_job n (g.owner z)) in omega (arith, k, none, most));
+        (λ q. let none = same_not z y (eqb-false z y q) in let most = one-or-none (is_in_job n (g.owner z)) in omega (arith, k, none, most));
     root = root;
     height = height;
   }
@@ -122,7 +132,7 @@ module _ (s : Setting) (v : View) (g : Ghost) (n : ℕ) (blocks : ℕ → Block)
     leads = λ z inside. on_bool (eqb z y)
         (λ q. rw q ((spare_to (root_of tree), spent (spare_to (root_of tree)) built.root, ap (λ (e : Entry). e.stamp) root), tt))
         (λ q.
-        let f = fresh-at z tree.blocks.items (filled-in z inside (eqb-ne z y q)) in
+        let f = fresh-at z tree.blocks.items (filled-in z inside (eqb-false z y q)) in
         let block : blocks z ≡ f.0.block = ap blocks (sym f.2) ∙ each-among (λ (k : Fresh). blocks k.cell ≡ k.block) f.0 tree.blocks.items stand f.1 in
         let led = entries-of (λ (e : Entry). Contains (map spare_of tree.blocks.items) (spare_to e)) f.0 tree.blocks.items (each-all (λ (e : Entry). Contains (map spare_of tree.blocks.items) (spare_to e)) (all_entries tree.blocks.items) built.led) f.1 in
         rw q (subst (λ (k : Block). Each (λ (e : Entry). (z : Spare) × Among z (spent_of (v.jobs n)) × (e.stamp ≡ z.stamp)) (entries_in k.body)) (sym block)

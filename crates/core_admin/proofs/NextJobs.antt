@@ -8,7 +8,8 @@ use Rattle.shard_store.specs.declared.gate.Gate.{Gate}
 use Rattle.shard_store.specs.declared.gate.Phase.{Phase}
 use Rattle.shard_store.specs.declared.queue.Queue.{Queue}
 use Rattle.tree_shape.specs.Shape.{Shape}
-use Rattle.tree_shape.proofs.Walks.{on_bool, eqb-eq, eqb-ne}
+use Rattle.list_words.proofs.Truth.{on_bool}
+use Rattle.std.proofs.lemmas.Bool.{eqb-true, eqb-false}
 use Rattle.volap_cell.specs.Falls.{job_left, plenty, stage_left}
 use Rattle.volap_cell.specs.Ghost.{Ghost}
 use Rattle.volap_cell.specs.Invariant.{InvWith}
@@ -58,8 +59,8 @@ module _ (s : Setting) (v : View) (g : Ghost) (i : InvWith s v g) (n : ℕ) (job
     (next : (j : JobValue) → job2 ≡ Some j → IsNextOf s h2 command2 j) (commands_now : ℕ → Option Command) (its : Option Command) (turn : IsNewAt commands_now v.commands n its command2) (purses_now : ℕ → List Spare) (mine : purses_now n ≡ []) where
   its-next : (P : ℕ → JobValue → Type 0) → ((j : JobValue) → job2 ≡ Some j → P n j) → (a : ℕ) (j : JobValue) → jobs_now a ≡ Some j → P a j
   its-next P f a j has = on_bool (eqb a n)
-      (λ z. let x = eqb-eq a n z in subst (λ (y : ℕ). P y j) (sym x) (f j (sym new.is_there ∙ ap jobs_now (sym x) ∙ has)))
-      (λ z. let ne = eqb-ne a n z in absurd (ne (only-one s v g i a n j job (sym (new.elsewhere a ne) ∙ has) new.was_there)))
+      (λ z. let x = eqb-true a n z in subst (λ (y : ℕ). P y j) (sym x) (f j (sym new.is_there ∙ ap jobs_now (sym x) ∙ has)))
+      (λ z. let ne = eqb-false a n z in absurd (ne (only-one s v g i a n j job (sym (new.elsewhere a ne) ∙ has) new.was_there)))
 
   pub numbering-next : ((a : ℕ) → a ≢ n → purses_now a ≡ v.purses a) → Numbering s v.tags v.numbers v.roles v.settings v.counted_in purses_now commands_now v.taken jobs_now
   numbering-next off =
@@ -77,8 +78,8 @@ module _ (s : Setting) (v : View) (g : Ghost) (i : InvWith s v g) (n : ℕ) (job
         working = its-next (λ a j. v.roles a ≡ Admin) (λ j has. k.working n job new.was_there);
         parts = k.parts;
         idle = λ a role none. on_bool (eqb a n)
-            (λ z. ap purses_now (eqb-eq a n z) ∙ mine)
-            (λ z. let ne = eqb-ne a n z in off a ne ∙ k.idle a role (sym (new.elsewhere a ne) ∙ none));
+            (λ z. ap purses_now (eqb-true a n z) ∙ mine)
+            (λ z. let ne = eqb-false a n z in off a ne ∙ k.idle a role (sym (new.elsewhere a ne) ∙ none));
       }
 
   pub working-next : (blocks : ℕ → Block) (made : ℕ → Bool) (trees : ℕ → Gate) (phases : ℕ → Option Phase) (active : ℕ → ℕ) (queues : ℕ → Queue) (gate : ℕ → ℕ) (shape : ℕ → Shape) (placed : ℕ → Bool)

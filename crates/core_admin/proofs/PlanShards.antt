@@ -7,7 +7,7 @@ use Rattle.shard_plan.specs.Balancing.{after_move, earlier, emptiest, even_gap, 
 use Rattle.shard_plan.specs.declared.action.Action.{Action}
 use Rattle.shard_plan.specs.declared.action.Action.TheVariants as action
 use Rattle.shard_plan.specs.declared.action.Load.{Load}
-use Rattle.tree_shape.proofs.Walks.{on_bool}
+use Rattle.list_words.proofs.Truth.{on_bool}
 use Rattle.volap_cell.specs.Planning.{has_load}
 
 -- The first of a list by an order is one of them.

@@ -5,8 +5,8 @@ use Rattle.cell_stock.specs.Stock.{StockValue, PurseValue, cells_of}
 use Rattle.cell_stock.specs.declared.purse.Spare.{Spare}
 use Rattle.dim_hierarchy.specs.Dimension.{Dimension}
 use Rattle.row_ledger.specs.LedgerValue.{LedgerValue}
-use Rattle.tree_shape.specs.Counts.{times}
-use Rattle.tree_shape.proofs.Visits.{times-append}
+use Rattle.list_words.specs.Counts.{times}
+use Rattle.list_words.proofs.Times.{times-append, all-times, distinct-times}
 use Rattle.volap_cell.specs.AdminKinds.{DoesPostpone, GivesUp, HasFrozen, spent_in}
 use Rattle.volap_cell.specs.Cells.{CellValue, LedgerCell, StockCell}
 use Rattle.volap_cell.specs.Commands.{owes}
@@ -31,7 +31,6 @@ use Rattle.volap_cell.proofs.Helds.{held-stock}
 use Rattle.core_image.proofs.Backed.{all-promised}
 use Rattle.core_image.proofs.NextAction.{inside, next-action}
 use Rattle.core_tree.proofs.Exchanges.{are-out}
-use Rattle.core_tree.proofs.Tallies.{all-times, distinct-times}
 use Rattle.core_admin.specs.FinishDue.{CanPostpone, Closes, GivesAll, GivesSpent, MayClose, MayGiveAll, NotesGivenUp, gone_by, plans}
 use Rattle.core_admin.proofs.PostponesJob.{postpone-keeps}
 use Rattle.core_admin.proofs.Returned.{cells-append, one-use}

@@ -1,7 +1,7 @@
 -- A job is given up: that keeps the invariant, and less is left.
 use Rattle.std.proofs.Common.{◌≡◌, ◌≢◌, ℕ, suc, ◌+◌, ◌-◌, ◌*◌, ◌<◌, ◌≤◌, List, [], ◌∷◌, ◌++◌, true, false, eqb, length, Option, Some, None, is_some, refl, sym, ap, ◌∙◌, subst, arith, inl, inr, le_of_lt, option_map, option_and_then, slice_get, suc-mul}
 use Rattle.std.specs.Option.{option_map_or}
-use Rattle.std.proofs.lemmas.Bool.{cases_lt}
+use Rattle.std.proofs.lemmas.Bool.{cases_lt, eqb-true, eqb-false}
 use Rattle.std.proofs.lemmas.Option.{slice_get_past}
 use Rattle.cell_stock.specs.Stock.{StockValue}
 use Rattle.cell_stock.specs.declared.purse.Spare.{Spare}
@@ -18,7 +18,7 @@ use Rattle.row_ledger.specs.declared.settings.How.TheVariants as how_is
 use Rattle.row_ledger.proofs.Changes.{quiet}
 use Rattle.row_ledger.proofs.Growth.{KeepsRight-ended, KeepsRight-left}
 use Rattle.shard_plan.specs.declared.action.Action.{Action}
-use Rattle.tree_shape.proofs.Walks.{on_bool, eqb-eq, eqb-ne}
+use Rattle.list_words.proofs.Truth.{on_bool}
 use Rattle.volap_cell.specs.AdminKinds.{DoesPostpone, GivesUp, HasFrozen}
 use Rattle.volap_cell.specs.Cells.{TheLedger, TheStock, tag_of}
 use Rattle.volap_cell.specs.Commands.{after_action, owes}
@@ -360,7 +360,7 @@ module _ (c led : Change) (b : ActorValue) (s : Setting) (w : World) (n : ℕ) (
         record {
           balance = λ a r k has. on_bool (eqb a n)
               (λ q.
-              let x = eqb-eq a n q in
+              let x = eqb-true a n q in
               let both : ◌≡◌ {A = Option Command} (Some its_now) (Some (record { of = r; work = work_is.Balance k })) = sym turned.is_there ∙ ap u.commands (sym x) ∙ has in
               let same_of : d.of ≡ r = ap (λ (o : Option Command). option_map_or (λ (c : Command). c.of) o 0) both in
               let same_work : work_is.Balance next ≡ work_is.Balance k = ap (λ (o : Option Command). option_map_or (λ (c : Command). c.work) o work_is.Query) both in
@@ -370,7 +370,7 @@ module _ (c led : Change) (b : ActorValue) (s : Setting) (w : World) (n : ℕ) (
               (subst (λ (y : Balance). IsBalancing s (e ∷ h) g.placed g.home (next_job next) d.of y) same_balance
               (balancing-next s h g.placed g.home d.of balance (begun job) how_is.Postponed bal is-next refl undeclined began-here))))
               (λ q.
-              let ne = eqb-ne a n q in
+              let ne = eqb-false a n q in
               let was : v.commands a ≡ Some (record { of = r; work = work_is.Balance k }) = sym (turned.elsewhere a ne) ∙ has in
               let other : number_in e ≢ Some r = (λ z. let mine : d.of ≡ r = cc in ne (only-its s h v.commands v.jobs v.roles v.seen g.placed i.telling n its d.command a _ was (sym mine))) in
               subst (λ (j : Option JobValue). IsBalancing s (e ∷ h) g.placed g.home j r k) (sym (news.elsewhere a ne))

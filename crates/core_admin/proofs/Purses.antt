@@ -10,15 +10,14 @@ use Rattle.dc_node.specs.declared.entry.Entry.{Entry}
 use Rattle.dc_node.specs.declared.todo.Item.{Item}
 use Rattle.shard_store.specs.declared.gate.Phase.{Phase}
 use Rattle.shard_store.specs.declared.gate.Phase.TheVariants.{Gone}
-use Rattle.tree_shape.specs.Counts.{Among, Each, times}
+use Rattle.list_words.specs.Counts.{Among, Each, times}
+use Rattle.list_words.proofs.Each.{each-among, each-both, each-map, each-append, each-here}
+use Rattle.std.proofs.lemmas.Bool.{leb-false, leb-true, eqb-true, eqb-false, ne_eqb}
+use Rattle.list_words.proofs.Times.{times-append, same_is}
+use Rattle.list_words.proofs.Truth.{eqb-self, on_bool}
 use Rattle.tree_shape.specs.Queries.{NoneWaits}
 use Rattle.tree_shape.specs.Shape.{Node, Shape, nodes}
 use Rattle.tree_shape.specs.Steps.{AreApart, AreSpares, IsSpare}
-use Rattle.tree_shape.proofs.Divisions.{each-among, each-both, each-map}
-use Rattle.tree_shape.proofs.Parts.{each-append, each-here}
-use Rattle.tree_shape.proofs.Queries.{leb-gt, leb-le}
-use Rattle.tree_shape.proofs.Visits.{times-append}
-use Rattle.tree_shape.proofs.Walks.{eqb-eq, eqb-ne, eqb-self, eqb-no, on_bool, same_is}
 use Rattle.volap_cell.specs.Ghost.{AGate, Ghost, InJob, InPurse, InTree, NotOfStock, Owner, Unused, is_in_job, is_in_purse, is_in_tree, is_unused}
 use Rattle.volap_cell.specs.Invariant.{InvWith}
 use Rattle.volap_cell.specs.Owing.{one_if}
@@ -67,7 +66,7 @@ times-cells y xs ys = ap (times y) (map-append (λ (x : Spare). x.cell) xs ys) �
 
 none-equal : (x : ℕ) (ys : List ℕ) → times x ys ≡ 0 → AllByRecursion (λ y. eqb x y ≡ false) ys
 none-equal x [] z = tt
-none-equal x (y ∷ ys) z = (on_bool (eqb x y) (λ q. let s = same_is x y (eqb-eq _ _ q) in absurd (omega (arith, z, s))) (λ q. q), none-equal x ys (omega (arith, z)))
+none-equal x (y ∷ ys) z = (on_bool (eqb x y) (λ q. let s = same_is x y (eqb-true _ _ q) in absurd (omega (arith, z, s))) (λ q. q), none-equal x ys (omega (arith, z)))
 
 distinct-times : (xs : List ℕ) → ((y : ℕ) → times y xs ≤ 1) → IsDistinct eqb xs
 unfolding IsDistinct
@@ -95,10 +94,10 @@ WasSpare n o = (o ≡ Unused) ⊎ (o ≡ InPurse n) ⊎ (o ≡ InJob n)
 was-spare : (n : ℕ) (o : Owner) → 1 ≤ one_if (is_unused o) + (one_if (is_in_purse n o) + one_if (is_in_job n o)) → WasSpare n o
 was-spare n NotOfStock le = absurd (omega arith)
 was-spare n Unused le = inl refl
-was-spare n (InPurse a) le = on_bool (eqb a n) (λ q. inr (inl (ap InPurse (eqb-eq _ _ q)))) (λ q. let z : one_if (is_in_purse n (InPurse a)) ≡ 0 = ap one_if q in absurd (omega (arith, le, z)))
+was-spare n (InPurse a) le = on_bool (eqb a n) (λ q. inr (inl (ap InPurse (eqb-true _ _ q)))) (λ q. let z : one_if (is_in_purse n (InPurse a)) ≡ 0 = ap one_if q in absurd (omega (arith, le, z)))
 was-spare n AGate le = absurd (omega arith)
 was-spare n (InTree c) le = absurd (omega arith)
-was-spare n (InJob a) le = on_bool (eqb a n) (λ q. inr (inr (ap InJob (eqb-eq _ _ q)))) (λ q. let z : one_if (is_in_job n (InJob a)) ≡ 0 = ap one_if q in absurd (omega (arith, le, z)))
+was-spare n (InJob a) le = on_bool (eqb a n) (λ q. inr (inr (ap InJob (eqb-true _ _ q)))) (λ q. let z : one_if (is_in_job n (InJob a)) ≡ 0 = ap one_if q in absurd (omega (arith, le, z)))
 
 -- the administrator's own
 abbrev is_own : ℕ → Owner → Bool
@@ -107,10 +106,10 @@ is_own n o = is_in_purse n o || is_in_job n o
 own-or : (n : ℕ) (o : Owner) → is_own n o ≡ true → (o ≡ InPurse n) ⊎ (o ≡ InJob n)
 own-or n NotOfStock q = absurd (cc)
 own-or n Unused q = absurd (cc)
-own-or n (InPurse a) q = on_bool (eqb a n) (λ e. inl (ap InPurse (eqb-eq _ _ e))) (λ e. absurd (let k : false ≡ true = rw e at q in cc))
+own-or n (InPurse a) q = on_bool (eqb a n) (λ e. inl (ap InPurse (eqb-true _ _ e))) (λ e. absurd (let k : false ≡ true = rw e at q in cc))
 own-or n AGate q = absurd (cc)
 own-or n (InTree c) q = absurd (cc)
-own-or n (InJob a) q = on_bool (eqb a n) (λ e. inr (ap InJob (eqb-eq _ _ e))) (λ e. absurd (let k : false ≡ true = rw e at q in cc))
+own-or n (InJob a) q = on_bool (eqb a n) (λ e. inr (ap InJob (eqb-true _ _ e))) (λ e. absurd (let k : false ≡ true = rw e at q in cc))
 
 not-own : (n : ℕ) (o : Owner) → is_own n o ≡ false → (one_if (is_in_purse n o) ≡ 0) × (one_if (is_in_job n o) ≡ 0)
 not-own n NotOfStock q = (refl, refl)
@@ -162,13 +161,13 @@ module _ (s : Setting) (w : World) (g : Ghost) (i : InvWith s (view s w) g) (n :
       → (times y (cells_of purse) ≡ 0 → times y (cells_of spent) ≡ 0 → is_own n (g.owner y) ≡ false → P (g.owner y)) → P (owner_now y)
   on-owner P y mine its free else_ = on_bool (leb 1 (times y (cells_of purse)))
       (λ q. subst (λ (b : Bool). P (cond b (InPurse n) rest)) (sym q)
-      (let le = leb-le 1 (times y (cells_of purse)) q in let k = uses y in mine le (was-spare n (g.owner y) (omega (arith, le, k)))))
-      (λ q. let gt = leb-gt 1 (times y (cells_of purse)) q in
+      (let le = leb-true 1 (times y (cells_of purse)) q in let k = uses y in mine le (was-spare n (g.owner y) (omega (arith, le, k)))))
+      (λ q. let gt = leb-false 1 (times y (cells_of purse)) q in
       let none : times y (cells_of purse) ≡ 0 = omega (arith, gt) in
       subst (λ (b : Bool). P (cond b (InPurse n) rest)) (sym q) (on_bool (leb 1 (times y (cells_of spent)))
       (λ r. subst (λ (b : Bool). P (cond b (InJob n) last)) (sym r)
-      (let le = leb-le 1 (times y (cells_of spent)) r in let k = uses y in its none le (was-spare n (g.owner y) (omega (arith, le, k)))))
-      (λ r. let gt2 = leb-gt 1 (times y (cells_of spent)) r in
+      (let le = leb-true 1 (times y (cells_of spent)) r in let k = uses y in its none le (was-spare n (g.owner y) (omega (arith, le, k)))))
+      (λ r. let gt2 = leb-false 1 (times y (cells_of spent)) r in
       let none2 : times y (cells_of spent) ≡ 0 = omega (arith, gt2) in
       subst (λ (b : Bool). P (cond b (InJob n) last)) (sym r) (on_bool (is_own n (g.owner y))
       (λ t. subst (λ (b : Bool). P (cond b Unused (g.owner y))) (sym t)
@@ -289,13 +288,13 @@ module _ (s : Setting) (w : World) (g : Ghost) (i : InvWith s (view s w) g) (n :
   -- what is so of a stamp that wasn't given out, and of the actor's spares as they were, is so of those that it has now
   on-mine : (P : Spare → Type 0) → ((y : Spare) → v.stock.stamps ≤ y.stamp → y.stamp < now.stamps → P y) → Each P (all_spares v.purses v.jobs n) → Each P mine_now
   on-mine P fresh old = each-map (λ (y : Spare). ((v.stock.stamps ≤ y.stamp) × (y.stamp < now.stamps)) ⊎ Among y mine_was) P mine_now
-      (λ y from. elim from [ inl new_one ↦ fresh y new_one.0 new_one.1 | inr among ↦ each-among P mine_was y (subst (Each P) its-spares old) among ]) x.given
+      (λ y from. elim from [ inl new_one ↦ fresh y new_one.0 new_one.1 | inr among ↦ each-among P y mine_was (subst (Each P) its-spares old) among ]) x.given
 
   outside : (c y : ℕ) → IsWhole v.gates v.phases v.pins c → WasSpare n (g.owner y) → (g.shape c).inside y ≡ false
   outside c y whole was = on_bool ((g.shape c).inside y)
       (λ q. absurd (on_bool (eqb y c)
-      (λ e. let own : g.owner y ≡ AGate = ap g.owner (eqb-eq _ _ e) ∙ i.stocking.gate c whole.0 in no-spare y AGate (λ z. cc) (λ z. cc) (λ z. cc) own was)
-      (λ e. let own = (i.stocking.tree c y whole q (eqb-ne _ _ e)).0 in no-spare y (InTree c) (λ z. cc) (λ z. cc) (λ z. cc) own was)))
+      (λ e. let own : g.owner y ≡ AGate = ap g.owner (eqb-true _ _ e) ∙ i.stocking.gate c whole.0 in no-spare y AGate (λ z. cc) (λ z. cc) (λ z. cc) own was)
+      (λ e. let own = (i.stocking.tree c y whole q (eqb-false _ _ e)).0 in no-spare y (InTree c) (λ z. cc) (λ z. cc) (λ z. cc) own was)))
       (λ q. q)
 
   -- the stamps of what it has now are apart from those of others
@@ -337,11 +336,11 @@ module _ (s : Setting) (w : World) (g : Ghost) (i : InvWith s (view s w) g) (n :
           every = λ y high low no. k.every y high low (owner-was y NotOfStock (λ e. cc) (λ e. cc) (λ e. cc) no);
           unused = free-now;
           purse = λ a y. on_bool (eqb a n)
-              (λ q. subst (λ (z : ℕ). times y (cells_of (purses z)) ≡ cond (is_in_purse z (owner_now y)) 1 0) (sym (eqb-eq _ _ q)) (ap (λ (ss : List Spare). times y (cells_of ss)) mine ∙ purse-now y))
-              (λ q. let ne = eqb-ne _ _ q in ap (λ (ss : List Spare). times y (cells_of ss)) (off a ne) ∙ k.purse a y ∙ ap one_if (sym (as-before (is_in_purse a) refl (eqb-no n a (λ e. ne (sym e))) refl y)));
+              (λ q. subst (λ (z : ℕ). times y (cells_of (purses z)) ≡ cond (is_in_purse z (owner_now y)) 1 0) (sym (eqb-true _ _ q)) (ap (λ (ss : List Spare). times y (cells_of ss)) mine ∙ purse-now y))
+              (λ q. let ne = eqb-false _ _ q in ap (λ (ss : List Spare). times y (cells_of ss)) (off a ne) ∙ k.purse a y ∙ ap one_if (sym (as-before (is_in_purse a) refl (ne_eqb n a (λ e. ne (sym e))) refl y)));
           job = λ a y. on_bool (eqb a n)
-              (λ q. subst (λ (z : ℕ). times y (cells_of (spent_of (jobs z))) ≡ cond (is_in_job z (owner_now y)) 1 0) (sym (eqb-eq _ _ q)) (ap (λ (o : Option JobValue). times y (cells_of (spent_of o))) new.is_there ∙ spent-now y))
-              (λ q. let ne = eqb-ne _ _ q in ap (λ (ss : List Spare). times y (cells_of ss)) (spent-off a ne) ∙ k.job a y ∙ ap one_if (sym (as-before (is_in_job a) refl refl (eqb-no n a (λ e. ne (sym e))) y)));
+              (λ q. subst (λ (z : ℕ). times y (cells_of (spent_of (jobs z))) ≡ cond (is_in_job z (owner_now y)) 1 0) (sym (eqb-true _ _ q)) (ap (λ (o : Option JobValue). times y (cells_of (spent_of o))) new.is_there ∙ spent-now y))
+              (λ q. let ne = eqb-false _ _ q in ap (λ (ss : List Spare). times y (cells_of ss)) (spent-off a ne) ∙ k.job a y ∙ ap one_if (sym (as-before (is_in_job a) refl refl (ne_eqb n a (λ e. ne (sym e))) y)));
           gate = λ c is. owner-kept c AGate (λ e. cc) (λ e. cc) (λ e. cc) (k.gate c is);
           gate_back = λ c own. k.gate_back c (owner-was c AGate (λ e. cc) (λ e. cc) (λ e. cc) own);
           tree = λ c y whole yi yc. let o = k.tree c y (whole-was c whole) yi yc in (owner-kept y (InTree c) (λ e. cc) (λ e. cc) (λ e. cc) o.0, o.1);
@@ -354,8 +353,8 @@ module _ (s : Setting) (w : World) (g : Ghost) (i : InvWith s (view s w) g) (n :
     module _ (items : items_in stage ≡ items_in job.stage) where
       items-same : (a : ℕ) → items_of_job (jobs a) ≡ items_of_job (v.jobs a)
       items-same a = on_bool (eqb a n)
-          (λ q. let e = eqb-eq a n q in ap (λ (z : ℕ). items_of_job (jobs z)) e ∙ ap items_of_job new.is_there ∙ items ∙ sym (ap (λ (z : ℕ). items_of_job (v.jobs z)) e ∙ ap items_of_job new.was_there))
-          (λ q. ap items_of_job (new.elsewhere a (eqb-ne a n q)))
+          (λ q. let e = eqb-true a n q in ap (λ (z : ℕ). items_of_job (jobs z)) e ∙ ap items_of_job new.is_there ∙ items ∙ sym (ap (λ (z : ℕ). items_of_job (v.jobs z)) e ∙ ap items_of_job new.was_there))
+          (λ q. ap items_of_job (new.elsewhere a (eqb-false a n q)))
 
       noted-same : (a : ℕ) → all_items v.reads v.jobs a ≡ all_items v.reads jobs a
       noted-same a = ap (λ (xs : List Item). items_of_read (v.reads a) ++ xs) (sym (items-same a))
@@ -363,9 +362,9 @@ module _ (s : Setting) (w : World) (g : Ghost) (i : InvWith s (view s w) g) (n :
       -- the spares of the actor, and those of others
       spares-of : (P : ℕ → List Spare → Type 0) → P n mine_now → ((a : ℕ) → a ≢ n → P a (all_spares v.purses v.jobs a)) → (a : ℕ) → P a (all_spares purses jobs a)
       spares-of P its_own old a = on_bool (eqb a n)
-          (λ q. subst (λ (z : ℕ). P z (all_spares purses jobs z)) (sym (eqb-eq _ _ q))
+          (λ q. subst (λ (z : ℕ). P z (all_spares purses jobs z)) (sym (eqb-true _ _ q))
           (subst (λ (ss : List Spare). P n (ss ++ spent_of (jobs n))) (sym mine) (subst (λ (o : Option JobValue). P n (purse ++ spent_of o)) (sym new.is_there) its_own)))
-          (λ q. let ne = eqb-ne _ _ q in subst (λ (ss : List Spare). P a (ss ++ spent_of (jobs a))) (sym (off a ne)) (subst (λ (ss : List Spare). P a (v.purses a ++ ss)) (sym (spent-off a ne)) (old a ne)))
+          (λ q. let ne = eqb-false _ _ q in subst (λ (ss : List Spare). P a (ss ++ spent_of (jobs a))) (sym (off a ne)) (subst (λ (ss : List Spare). P a (v.purses a ++ ss)) (sym (spent-off a ne)) (old a ne)))
 
       pub reshared-stamping : Stamping now v.blocks v.made v.trees v.gates phases v.pins purses v.reads jobs g.shape
       reshared-stamping =

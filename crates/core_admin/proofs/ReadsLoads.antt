@@ -16,7 +16,8 @@ use Rattle.shard_plan.specs.declared.action.Action.{Action}
 use Rattle.shard_plan.specs.declared.action.Load.{Load}
 use Rattle.shard_store.specs.declared.gate.Gate.{Gate}
 use Rattle.tree_shape.specs.Laws.{GateLaw}
-use Rattle.tree_shape.proofs.Walks.{on_bool, eqb-eq, eqb-ne}
+use Rattle.list_words.proofs.Truth.{on_bool}
+use Rattle.std.proofs.lemmas.Bool.{eqb-true, eqb-false}
 use Rattle.volap_cell.specs.AdminKinds.{rows_at}
 use Rattle.volap_cell.specs.Cells.{GateCell, queue_in, way_in, way_to_tree}
 use Rattle.volap_cell.specs.Falls.{actions_left, control_of, job_left, left, of_work, plenty}
@@ -194,20 +195,20 @@ module _ (gates : GateLaw) (s : Setting) (w : World) (n : ℕ) (g : Ghost) (i : 
 
   had-job : (a : ℕ) (j : JobValue) → v2.jobs a ≡ Some j → ((a ≢ n) × (v.jobs a ≡ Some j)) ⊎ ((a ≡ n) × (next_job next ≡ Some j))
   had-job a j is = on_bool (eqb a n)
-      (λ q. let x = eqb-eq a n q in inr (x, sym new.is_there ∙ ap v2.jobs (sym x) ∙ is))
-      (λ q. let ne = eqb-ne a n q in inl (ne, sym (new.elsewhere a ne) ∙ is))
+      (λ q. let x = eqb-true a n q in inr (x, sym new.is_there ∙ ap v2.jobs (sym x) ∙ is))
+      (λ q. let ne = eqb-false a n q in inl (ne, sym (new.elsewhere a ne) ∙ is))
 
   spent-same : (a : ℕ) → spent_of (v2.jobs a) ≡ spent_of (v.jobs a)
   spent-same a = on_bool (eqb a n)
-      (λ q. let x = eqb-eq a n q in ap (λ (y : ℕ). spent_of (v2.jobs y)) x ∙ ap spent_of new.is_there ∙ spent-new (next_job next) (λ j is. (its-first j is).0)
+      (λ q. let x = eqb-true a n q in ap (λ (y : ℕ). spent_of (v2.jobs y)) x ∙ ap spent_of new.is_there ∙ spent-new (next_job next) (λ j is. (its-first j is).0)
       ∙ sym (ap (λ (y : ℕ). spent_of (v.jobs y)) x ∙ ap spent_of idle))
-      (λ q. ap spent_of (new.elsewhere a (eqb-ne a n q)))
+      (λ q. ap spent_of (new.elsewhere a (eqb-false a n q)))
 
   items-same : (a : ℕ) → items_of_job (v2.jobs a) ≡ items_of_job (v.jobs a)
   items-same a = on_bool (eqb a n)
-      (λ q. let x = eqb-eq a n q in ap (λ (y : ℕ). items_of_job (v2.jobs y)) x ∙ ap items_of_job new.is_there ∙ items-new (next_job next) (λ j is. (its-first j is).0)
+      (λ q. let x = eqb-true a n q in ap (λ (y : ℕ). items_of_job (v2.jobs y)) x ∙ ap items_of_job new.is_there ∙ items-new (next_job next) (λ j is. (its-first j is).0)
       ∙ sym (ap (λ (y : ℕ). items_of_job (v.jobs y)) x ∙ ap items_of_job idle))
-      (λ q. ap items_of_job (new.elsewhere a (eqb-ne a n q)))
+      (λ q. ap items_of_job (new.elsewhere a (eqb-false a n q)))
 
   numbering-now : Numbering s v.tags v.numbers v.roles v.settings v.counted_in v.purses v2.commands v.taken v2.jobs
   numbering-now =
@@ -224,18 +225,18 @@ module _ (gates : GateLaw) (s : Setting) (w : World) (n : ℕ) (g : Ghost) (i : 
         working = λ a j is. elim (had-job a j is) [ inl t ↦ k.working a j t.1 | inr t ↦ ap v.roles t.0 ∙ progress.1 ];
         parts = k.parts;
         idle = λ a role none. on_bool (eqb a n)
-            (λ q. let x = eqb-eq a n q in k.idle a role (ap v.jobs x ∙ idle))
-            (λ q. k.idle a role (sym (new.elsewhere a (eqb-ne a n q)) ∙ none));
+            (λ q. let x = eqb-true a n q in k.idle a role (ap v.jobs x ∙ idle))
+            (λ q. k.idle a role (sym (new.elsewhere a (eqb-false a n q)) ∙ none));
       }
 
   by-command : (P : ℕ → Command → Type 0) → P n its_now → ((a : ℕ) (c : Command) → a ≢ n → v.commands a ≡ Some c → P a c) → (a : ℕ) (c : Command) → v2.commands a ≡ Some c → P a c
   by-command P mine others a c is = on_bool (eqb a n)
       (λ q.
-      let x = eqb-eq a n q in
+      let x = eqb-true a n q in
       let both : ◌≡◌ {A = Option Command} (Some its_now) (Some c) = sym turn.is_there ∙ ap v2.commands (sym x) ∙ is in
       let same_command : its_now ≡ c = ap (λ (o : Option Command). option_map_or (λ (k : Command). k) o its_now) both in
       subst (λ (y : ℕ). P y c) (sym x) (subst (P n) same_command mine))
-      (λ q. let ne = eqb-ne a n q in others a c ne (sym (turn.elsewhere a ne) ∙ is))
+      (λ q. let ne = eqb-false a n q in others a c ne (sym (turn.elsewhere a ne) ∙ is))
 
   telling-now : Telling s h v2.commands v2.jobs v.roles v.seen g.placed
   telling-now =
@@ -252,8 +253,8 @@ module _ (gates : GateLaw) (s : Setting) (w : World) (n : ℕ) (g : Ghost) (i : 
         status = λ a p is. elim (k.status a p is) [
           | inl over ↦ inl over
           | inr t ↦ inr (on_bool (eqb t.0 n)
-              (λ q. (n, its_now, turn.is_there, ap (λ (o : Option Command). option_map_or (λ (c : Command). c.of) o 0) (sym d.command ∙ ap v.commands (sym (eqb-eq t.0 n q)) ∙ t.2) ∙ t.3))
-              (λ q. (t.0, t.1, turn.elsewhere t.0 (eqb-ne t.0 n q) ∙ t.2, t.3)))
+              (λ q. (n, its_now, turn.is_there, ap (λ (o : Option Command). option_map_or (λ (c : Command). c.of) o 0) (sym d.command ∙ ap v.commands (sym (eqb-true t.0 n q)) ∙ t.2) ∙ t.3))
+              (λ q. (t.0, t.1, turn.elsewhere t.0 (eqb-false t.0 n q) ∙ t.2, t.3)))
         ];
       }
 

@@ -1,15 +1,16 @@
 -- A shard's gate is retired, and open gates with trees that a job has built take its place: one after a move, and two after a split.
 -- What becomes of cells: their uses, the trees, the queues, and the inserts that are in trees.
 use Rattle.std.proofs.Common.{◌≡◌, ◌≢◌, ℕ, ◌+◌, ◌^◌, ◌<◌, ◌≤◌, Bool, true, false, cond, eqb, [], Some, IsSome, refl, sym, ap, ◌∙◌, subst, ◌⊎◌, inl, inr, arith}
-use Rattle.std.proofs.lemmas.Bool.{false≢true}
+use Rattle.std.proofs.lemmas.Bool.{false≢true, eqb-true, eqb-false, ne_eqb}
 use Rattle.cell_stock.specs.Stock.{IsStock, cells_of}
 use Rattle.cell_stock.specs.declared.purse.Spare.{Spare}
 use Rattle.shard_store.specs.Gate.{IsQueueOf}
 use Rattle.shard_store.specs.declared.gate.Phase.TheVariants.{Frozen, Gone, Open}
-use Rattle.tree_shape.specs.Counts.{Among, Each, times}
+use Rattle.list_words.specs.Counts.{Among, Each, times}
+use Rattle.list_words.proofs.Truth.{on_bool, eqb-self}
+use Rattle.list_words.proofs.Times.{all-times, distinct-times}
 use Rattle.tree_shape.specs.Shape.{Shape, nodes}
 use Rattle.tree_shape.specs.Trees.{IsTree}
-use Rattle.tree_shape.proofs.Walks.{on_bool, eqb-eq, eqb-ne, eqb-no, eqb-self}
 use Rattle.volap_cell.specs.Ghost.{AGate, Ghost, InJob, InPurse, InTree, NotOfStock, Owner, Unused, is_in_job, is_in_purse, is_in_tree, is_unused}
 use Rattle.volap_cell.specs.Growing.{table_of}
 use Rattle.volap_cell.specs.Invariant.{InvWith}
@@ -17,7 +18,6 @@ use Rattle.volap_cell.specs.Setting.{Setting}
 use Rattle.volap_cell.specs.Stocking.{IsWhole, Stocking, cells_at, items_of_job, spent_of}
 use Rattle.volap_cell.specs.View.{View}
 use Rattle.core_tree.proofs.Spares.{in-own, other-purse}
-use Rattle.core_tree.proofs.Tallies.{all-times, distinct-times}
 use Rattle.core_admin.proofs.Returned.{one}
 
 -- What a cell of the actor's purse or job is for afterwards: free, or a block of the tree of the gate t.
@@ -103,10 +103,10 @@ other-then n t f u k p j Unused = refl
 other-then n t f u k p j AGate = refl
 other-then n t f u k p j (InTree c) = refl
 other-then n t f u k p j (InPurse a) = on_bool (eqb a n)
-    (λ q. ap (λ (b : Bool). f (cond b Unused (InPurse a))) q ∙ u ∙ sym (ap (λ (z : ℕ). f (InPurse z)) (eqb-eq a n q) ∙ p))
+    (λ q. ap (λ (b : Bool). f (cond b Unused (InPurse a))) q ∙ u ∙ sym (ap (λ (z : ℕ). f (InPurse z)) (eqb-true a n q) ∙ p))
     (λ q. ap (λ (b : Bool). f (cond b Unused (InPurse a))) q)
 other-then n t f u k p j (InJob a) = on_bool (eqb a n)
-    (λ q. ap (λ (b : Bool). f (cond b (InTree t) (InJob a))) q ∙ k ∙ sym (ap (λ (z : ℕ). f (InJob z)) (eqb-eq a n q) ∙ j))
+    (λ q. ap (λ (b : Bool). f (cond b (InTree t) (InJob a))) q ∙ k ∙ sym (ap (λ (z : ℕ). f (InJob z)) (eqb-true a n q) ∙ j))
     (λ q. ap (λ (b : Bool). f (cond b (InTree t) (InJob a))) q)
 
 no-purse : (n t : ℕ) (o : Owner) → is_in_purse n (given_to n t o) ≡ false
@@ -158,7 +158,7 @@ tree-was n t c (InPurse a) e = on_bool (eqb a n)
     (λ q. let no : Unused ≡ InTree c = sym (ap (λ (b : Bool). cond b Unused (InPurse a)) q) ∙ e in cc)
     (λ q. inl (sym (ap (λ (b : Bool). cond b Unused (InPurse a)) q) ∙ e))
 tree-was n t c (InJob a) e = on_bool (eqb a n)
-    (λ q. let both : InTree t ≡ InTree c = sym (ap (λ (b : Bool). cond b (InTree t) (InJob a)) q) ∙ e in inr (ap InJob (eqb-eq a n q), cc))
+    (λ q. let both : InTree t ≡ InTree c = sym (ap (λ (b : Bool). cond b (InTree t) (InJob a)) q) ∙ e in inr (ap InJob (eqb-true a n q), cc))
     (λ q. inl (sym (ap (λ (b : Bool). cond b (InTree t) (InJob a)) q) ∙ e))
 
 given-job : (n t : ℕ) → given_to n t (InJob n) ≡ InTree t
@@ -193,8 +193,8 @@ module _ (s : Setting) (v v2 : View) (g g2 : Ghost) (n : ℕ) (i : InvWith s v g
 
   pub whole-back : (c : ℕ) → m.new c ≡ false → IsWhole v2.gates v2.phases v2.pins c → IsWhole v.gates v.phases v.pins c
   whole-back c q w = on_bool (eqb c m.x)
-      (λ e. subst (IsWhole v.gates v.phases v.pins) (sym (eqb-eq c m.x e)) old-whole)
-      (λ e. let ne = eqb-ne c m.x e in (
+      (λ e. subst (IsWhole v.gates v.phases v.pins) (sym (eqb-true c m.x e)) old-whole)
+      (λ e. let ne = eqb-false c m.x e in (
         subst IsSome (m.gates_off c q) w.0,
         elim w.1 [ inl stands ↦ inl (λ gone. stands (m.phases_off c q ne ∙ gone)) | inr pinned ↦ inr (subst (λ (k : ℕ). 1 ≤ k) (m.pins_off c q) pinned) ],
       ))
@@ -248,7 +248,7 @@ module _ (s : Setting) (v v2 : View) (g g2 : Ghost) (n : ℕ) (i : InvWith s v g
       job-or-not t (InTree d) new = refl
       job-or-not t (InPurse a) new = on_bool (eqb a n) (λ q. ap (λ (b : Bool). is_in_tree c (cond b Unused (InPurse a))) q) (λ q. ap (λ (b : Bool). is_in_tree c (cond b Unused (InPurse a))) q)
       job-or-not t (InJob a) new = on_bool (eqb a n)
-          (λ q. ap (λ (b : Bool). is_in_tree c (cond b (InTree t) (InJob a))) q ∙ eqb-no t c (λ e. false≢true (sym old ∙ ap m.new (sym e) ∙ new (ap InJob (eqb-eq a n q)))))
+          (λ q. ap (λ (b : Bool). is_in_tree c (cond b (InTree t) (InJob a))) q ∙ ne_eqb t c (λ e. false≢true (sym old ∙ ap m.new (sym e) ∙ new (ap InJob (eqb-true a n q)))))
           (λ q. ap (λ (b : Bool). is_in_tree c (cond b (InTree t) (InJob a))) q)
 
   gone-then : (c : ℕ) → v2.phases c ≡ Some Gone → (y : ℕ) → times y (v2.gone c) ≡ one (is_in_tree c (g2.owner y))
@@ -256,14 +256,14 @@ module _ (s : Setting) (v v2 : View) (g g2 : Ghost) (n : ℕ) (i : InvWith s v g
       (λ q. let no : Some Open ≡ Some Gone = sym (m.phase_new c q) ∙ gone in cc)
       (λ q. on_bool (eqb c m.x)
       (λ e.
-      let is = eqb-eq c m.x e in
+      let is = eqb-true c m.x e in
       subst (λ (z : ℕ). times y (v2.gone z) ≡ one (is_in_tree z (g2.owner y))) (sym is) (m.read_x y ∙ read-owner y ∙ sym (ap one (tree-kept m.x y x-old))))
       (λ e.
-      let ne = eqb-ne c m.x e in
+      let ne = eqb-false c m.x e in
       ap (times y) (m.gone_off c q ne) ∙ i.stocking.gone_cells c (sym (m.phases_off c q ne) ∙ gone) y ∙ sym (ap one (tree-kept c y q))))
     where
       in-tree : (c : ℕ) (o : Owner) → is_in_tree c o ≡ true → o ≡ InTree c
-      in-tree c (InTree d) e = ap InTree (eqb-eq d c e)
+      in-tree c (InTree d) e = ap InTree (eqb-true d c e)
       in-tree c NotOfStock e = cc
       in-tree c Unused e = cc
       in-tree c AGate e = cc
@@ -274,10 +274,10 @@ module _ (s : Setting) (v v2 : View) (g g2 : Ghost) (n : ℕ) (i : InvWith s v g
       read-owner y = on_bool ((g.shape m.x).inside y)
           (λ q. on_bool (eqb y m.x)
           (λ e.
-          let own : is_in_tree m.x (g.owner y) ≡ false = ap (is_in_tree m.x) (ap g.owner (eqb-eq y m.x e) ∙ i.stocking.gate m.x old-whole.0) in
+          let own : is_in_tree m.x (g.owner y) ≡ false = ap (is_in_tree m.x) (ap g.owner (eqb-true y m.x e) ∙ i.stocking.gate m.x old-whole.0) in
           rw (q, e, own) refl)
           (λ e.
-          let own : is_in_tree m.x (g.owner y) ≡ true = ap (is_in_tree m.x) (i.stocking.tree m.x y old-whole q (eqb-ne y m.x e)).0 ∙ eqb-self m.x in
+          let own : is_in_tree m.x (g.owner y) ≡ true = ap (is_in_tree m.x) (i.stocking.tree m.x y old-whole q (eqb-false y m.x e)).0 ∙ eqb-self m.x in
           rw (q, e, own) refl))
           (λ q. on_bool (is_in_tree m.x (g.owner y))
           (λ own. absurd (false≢true (sym q ∙ ((i.stocking.tree_back m.x y (in-tree m.x (g.owner y) own)).1 old-whole).0)))
@@ -292,23 +292,23 @@ module _ (s : Setting) (v v2 : View) (g g2 : Ghost) (n : ℕ) (i : InvWith s v g
         every = λ y high low. by-new (λ o. o ≢ NotOfStock) y (λ q e. cc) (λ q e. k.every y high low (stock-was n (m.built y) (g.owner y) e));
         unused = uses;
         purse = λ a y. on_bool (eqb a n)
-            (λ q. let e = eqb-eq a n q in
+            (λ q. let e = eqb-true a n q in
             subst (λ (z : ℕ). times y (cells_of (v2.purses z)) ≡ one (is_in_purse z (g2.owner y))) (sym e)
             (ap (λ ss. times y (cells_of ss)) m.purse ∙ sym (ap one (by-new (λ o. is_in_purse n o ≡ false) y (λ q. refl) (λ q. no-purse n (m.built y) (g.owner y))))))
-            (λ q. let ne = eqb-ne a n q in
+            (λ q. let ne = eqb-false a n q in
             ap (λ ss. times y (cells_of ss)) (m.purses_off a ne) ∙ k.purse a y
             ∙ sym (ap one (by-new (λ o. is_in_purse a o ≡ is_in_purse a (g.owner y)) y
             (λ q. sym (ap (is_in_purse a) (m.purse_cell y q) ∙ other-purse a n ne))
             (λ q. other-then n (m.built y) (is_in_purse a) refl refl (other-purse a n ne) refl (g.owner y)))));
         job = λ a y. on_bool (eqb a n)
-            (λ q. let e = eqb-eq a n q in
+            (λ q. let e = eqb-true a n q in
             subst (λ (z : ℕ). times y (cells_of (spent_of (v2.jobs z))) ≡ one (is_in_job z (g2.owner y))) (sym e)
             (ap (λ ss. times y (cells_of ss)) m.spent ∙ sym (ap one (by-new (λ o. is_in_job n o ≡ false) y (λ q. refl) (λ q. no-job n (m.built y) (g.owner y))))))
-            (λ q. let ne = eqb-ne a n q in
+            (λ q. let ne = eqb-false a n q in
             ap (λ j. times y (cells_of (spent_of j))) (m.jobs_off a ne) ∙ k.job a y
             ∙ sym (ap one (by-new (λ o. is_in_job a o ≡ is_in_job a (g.owner y)) y
             (λ q. sym (ap (is_in_job a) (m.purse_cell y q)))
-            (λ q. other-then n (m.built y) (is_in_job a) refl refl refl (eqb-no n a (λ e. ne (sym e))) (g.owner y)))));
+            (λ q. other-then n (m.built y) (is_in_job a) refl refl refl (ne_eqb n a (λ e. ne (sym e))) (g.owner y)))));
         gate = λ c is. on_bool (m.new c) (owner-new c) (λ q. owner-old c q ∙ ap (given_to n (m.built c)) (k.gate c (subst IsSome (m.gates_off c q) is)));
         gate_back = λ c. by-new (λ o. o ≡ AGate → IsSome (v2.gates c)) c
             (λ q own. subst IsSome (sym (m.gate_new c q)) refl)
@@ -338,6 +338,6 @@ module _ (s : Setting) (v v2 : View) (g g2 : Ghost) (n : ℕ) (i : InvWith s v g
         none_gone = λ c stands. on_bool (m.new c)
             (m.gone_new c)
             (λ q. on_bool (eqb c m.x)
-            (λ e. absurd (stands (ap v2.phases (eqb-eq c m.x e) ∙ m.phase_x)))
-            (λ e. let ne = eqb-ne c m.x e in m.gone_off c q ne ∙ k.none_gone c (λ gone. stands (m.phases_off c q ne ∙ gone))));
+            (λ e. absurd (stands (ap v2.phases (eqb-true c m.x e) ∙ m.phase_x)))
+            (λ e. let ne = eqb-false c m.x e in m.gone_off c q ne ∙ k.none_gone c (λ gone. stands (m.phases_off c q ne ∙ gone))));
       }

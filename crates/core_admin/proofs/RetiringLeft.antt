@@ -1,9 +1,9 @@
 -- What is left of control where a gate is retired: its cells are to be given back, which is less than was left of its job.
 use Rattle.std.proofs.Common.{◌≡◌, ◌≢◌, ℕ, ◌+◌, ◌*◌, ◌<◌, ◌≤◌, Bool, true, false, cond, eqb, [], length, Option, Some, None, refl, sym, ap, ◌∙◌, inl, inr, arith}
-use Rattle.std.proofs.lemmas.Bool.{cases_lt}
+use Rattle.std.proofs.lemmas.Bool.{cases_lt, eqb-true, eqb-false, ne_eqb}
 use Rattle.shard_store.specs.declared.gate.Phase.{Phase}
-use Rattle.tree_shape.specs.Counts.{times}
-use Rattle.tree_shape.proofs.Walks.{on_bool, eqb-eq, eqb-ne, eqb-self, eqb-no}
+use Rattle.list_words.specs.Counts.{times}
+use Rattle.list_words.proofs.Truth.{on_bool, eqb-self}
 use Rattle.volap_cell.specs.Falls.{control_of, gone_left, job_left, left, of_work, plenty, stage_left}
 use Rattle.volap_cell.specs.Ghost.{AGate, Ghost, InTree, NotOfStock}
 use Rattle.volap_cell.specs.Invariant.{InvWith}
@@ -24,10 +24,10 @@ sum-one-more : (m : ℕ) (f f2 : ℕ → ℕ) (x k : ℕ) → ((z : ℕ) → z �
 sum-one-more m f f2 x k others here =
     let more : ℕ → ℕ = λ z. cond (eqb z x) (f x + k) (f z) in
     let at : more x ≡ f x + k = rw (eqb-self x) refl in
-    let off : (z : ℕ) → z ≢ x → more z ≡ f z = λ z ne. (rw (eqb-no z x ne) refl) in
+    let off : (z : ℕ) → z ≢ x → more z ≡ f z = λ z ne. (rw (ne_eqb z x ne) refl) in
     let le = sum-no-more m more f2 (λ z lt. on_bool (eqb z x)
-    (λ q. let is = eqb-eq z x q in let a : f2 z ≡ f2 x = ap f2 is in let b : more z ≡ f x + k = ap more is ∙ at in omega (arith, a, b, here))
-    (λ q. let ne = eqb-ne z x q in let a = others z ne in let b = off z ne in omega (arith, a, b))) in
+    (λ q. let is = eqb-true z x q in let a : f2 z ≡ f2 x = ap f2 is in let b : more z ≡ f x + k = ap more is ∙ at in omega (arith, a, b, here))
+    (λ q. let ne = eqb-false z x q in let a = others z ne in let b = off z ne in omega (arith, a, b))) in
     elim (cases_lt x m) [
       | inl lt ↦ (let changed = sum-changed m f more x off lt in omega (arith, le, changed, at))
       | inr ge ↦ (let beyond = sum-beyond m f more x off ge in omega (arith, le, beyond))
@@ -46,8 +46,8 @@ module _ (s : Setting) (w w2 : World) (v2 : View) (g g2 : Ghost) (n : ℕ) (i : 
       let k = m.read_x y in
       let in_tree = is-inside ((g.shape m.x).inside y) (eqb y m.x) (times y (v2.gone m.x)) k some in
       (i.stocking.within y (λ e. on_bool (eqb y m.x)
-      (λ q. let no : AGate ≡ NotOfStock = sym (ap g.owner (eqb-eq y m.x q) ∙ i.stocking.gate m.x (old-whole s v v2 g g2 n i m).0) ∙ e in cc)
-      (λ q. let own = (i.stocking.tree m.x y (old-whole s v v2 g g2 n i m) in_tree (eqb-ne y m.x q)).0 in let no : InTree m.x ≡ NotOfStock = sym own ∙ e in cc))).1)
+      (λ q. let no : AGate ≡ NotOfStock = sym (ap g.owner (eqb-true y m.x q) ∙ i.stocking.gate m.x (old-whole s v v2 g g2 n i m).0) ∙ e in cc)
+      (λ q. let own = (i.stocking.tree m.x y (old-whole s v v2 g g2 n i m) in_tree (eqb-false y m.x q)).0 in let no : InTree m.x ≡ NotOfStock = sym own ∙ e in cc))).1)
     where
       at-most : (a b : Bool) (k : ℕ) → k ≡ cond a (cond b 0 1) 0 → k ≤ 1
       at-most true true k e = omega (arith, e)

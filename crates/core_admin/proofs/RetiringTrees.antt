@@ -1,6 +1,6 @@
 -- The same of trees, of their queues, of who is in them, and of stamps.
 use Rattle.std.proofs.Common.{◌≡◌, ◌≢◌, ℕ, ◌+◌, ◌*◌, ◌<◌, ◌≤◌, true, false, eqb, List, [], ◌++◌, length, Option, Some, None, IsSome, refl, sym, ap, ◌∙◌, subst, ◌⊎◌, inl, inr, arith, append-nil}
-use Rattle.std.proofs.lemmas.Bool.{false≢true}
+use Rattle.std.proofs.lemmas.Bool.{false≢true, eqb-true, eqb-false}
 use Rattle.cell_stock.specs.declared.purse.Spare.{Spare}
 use Rattle.dim_hierarchy.specs.declared.row.Row.{Row}
 use Rattle.dc_node.specs.declared.block.Block.{Block}
@@ -10,15 +10,14 @@ use Rattle.row_ledger.specs.declared.event.Event.{Event}
 use Rattle.shard_store.specs.Gate.{IsQueueOf}
 use Rattle.shard_store.specs.declared.gate.Phase.TheVariants.{Frozen, Gone, Open}
 use Rattle.shard_store.specs.declared.queue.Queue.{Queue}
-use Rattle.tree_shape.specs.Counts.{Among, Each}
+use Rattle.list_words.specs.Counts.{Among, Each}
+use Rattle.list_words.proofs.Each.{each-both, each-map, each-append, each-here, each-left, each-right, each-among}
+use Rattle.list_words.proofs.Truth.{on_bool, eqb-self}
 use Rattle.tree_shape.specs.Laws.{OtherLaw}
 use Rattle.tree_shape.specs.Queries.{NoneWaits}
 use Rattle.tree_shape.specs.Shape.{Shape, nodes}
 use Rattle.tree_shape.specs.Steps.{AreApart, AreSpares, IsSpare}
 use Rattle.tree_shape.specs.Trees.{IsTree}
-use Rattle.tree_shape.proofs.Divisions.{each-both, each-map}
-use Rattle.tree_shape.proofs.Parts.{each-append, each-here, each-left, each-right}
-use Rattle.tree_shape.proofs.Walks.{on_bool, eqb-eq, eqb-ne, eqb-self}
 use Rattle.volap_cell.specs.Errands.{AtBlock, InLeaf, RowWay, Taken, has_passed, taken_by, taken_of, way_of}
 use Rattle.volap_cell.specs.Ghost.{Ghost, InJob, InPurse, InTree, Owner}
 use Rattle.volap_cell.specs.Growing.{Growing, IsUnder, Queueing, Resting, table_of}
@@ -32,7 +31,6 @@ use Rattle.volap_cell.specs.View.{View, view}
 use Rattle.volap_cell.specs.World.{World}
 use Rattle.volap_cell.specs.declared.role.Role.TheVariants.{Admin}
 use Rattle.volap_cell.proofs.Blanks.{spent-owner}
-use Rattle.volap_cell.proofs.Frames.{each-among}
 use Rattle.volap_cell.proofs.Persons.{has-taken}
 use Rattle.volap_cell.proofs.Spares.{among-cells}
 use Rattle.volap_cell.proofs.Sums.{sum-some}
@@ -79,18 +77,18 @@ module _ (s : Setting) (w : World) (v2 : View) (g g2 : Ghost) (n : ℕ) (i : Inv
     queue = λ c is. on_bool (m.new c)
         (m.valid_new c)
         (λ q. on_bool (eqb c m.x)
-        (λ e. subst (λ (z : ℕ). IsQueueOf s.hierarchy (v2.queues z)) (sym (eqb-eq c m.x e)) m.valid_x)
-        (λ e. subst (IsQueueOf s.hierarchy) (sym (m.queues_off c q (eqb-ne c m.x e))) (i.queueing.queue c (subst IsSome (m.gates_off c q) is))));
+        (λ e. subst (λ (z : ℕ). IsQueueOf s.hierarchy (v2.queues z)) (sym (eqb-true c m.x e)) m.valid_x)
+        (λ e. subst (IsQueueOf s.hierarchy) (sym (m.queues_off c q (eqb-false c m.x e))) (i.queueing.queue c (subst IsSome (m.gates_off c q) is))));
     named = λ c is. on_bool (m.new c)
         (m.named_new c)
         (λ q. on_bool (eqb c m.x)
-        (λ e. subst (λ (rows : List Row). Each (λ r. v.row r.no ≡ r) rows) (sym (ap (λ (z : ℕ). (v2.queues z).rows) (eqb-eq c m.x e) ∙ m.queue_x)) tt)
-        (λ e. subst (λ (z : Queue). Each (λ r. v.row r.no ≡ r) z.rows) (sym (m.queues_off c q (eqb-ne c m.x e))) (i.queueing.named c (subst IsSome (m.gates_off c q) is))));
+        (λ e. subst (λ (rows : List Row). Each (λ r. v.row r.no ≡ r) rows) (sym (ap (λ (z : ℕ). (v2.queues z).rows) (eqb-true c m.x e) ∙ m.queue_x)) tt)
+        (λ e. subst (λ (z : Queue). Each (λ r. v.row r.no ≡ r) z.rows) (sym (m.queues_off c q (eqb-false c m.x e))) (i.queueing.named c (subst IsSome (m.gates_off c q) is))));
     upto = λ c k is. on_bool (m.new c)
         (λ q. let no : Some Open ≡ Some (Frozen k) = sym (m.phase_new c q) ∙ is in cc)
         (λ q. on_bool (eqb c m.x)
-        (λ e. let no : Some Gone ≡ Some (Frozen k) = sym (ap v2.phases (eqb-eq c m.x e) ∙ m.phase_x) ∙ is in cc)
-        (λ e. let ne = eqb-ne c m.x e in subst (λ (z : Queue). k ≤ length z.rows) (sym (m.queues_off c q ne)) (i.queueing.upto c k (sym (m.phases_off c q ne) ∙ is))));
+        (λ e. let no : Some Gone ≡ Some (Frozen k) = sym (ap v2.phases (eqb-true c m.x e) ∙ m.phase_x) ∙ is in cc)
+        (λ e. let ne = eqb-false c m.x e in subst (λ (z : Queue). k ≤ length z.rows) (sym (m.queues_off c q ne)) (i.queueing.upto c k (sym (m.phases_off c q ne) ∙ is))));
   }
 
   -- Inserts in trees: nobody is in that of the old gate, and nobody in those of the new ones.
@@ -164,8 +162,8 @@ module _ (s : Setting) (w : World) (v2 : View) (g g2 : Ghost) (n : ℕ) (i : Inv
     where
       was-there : (c : ℕ) → m.new c ≡ false → v2.phases c ≢ None → v.phases c ≢ None
       was-there c q there none = on_bool (eqb c m.x)
-          (λ e. let no : Some (Frozen m.upto) ≡ None = sym m.frozen ∙ ap v.phases (sym (eqb-eq c m.x e)) ∙ none in cc)
-          (λ e. there (m.phases_off c q (eqb-ne c m.x e) ∙ none))
+          (λ e. let no : Some (Frozen m.upto) ≡ None = sym m.frozen ∙ ap v.phases (sym (eqb-true c m.x e)) ∙ none in cc)
+          (λ e. there (m.phases_off c q (eqb-false c m.x e) ∙ none))
 
   pub retired-pinning : Pinning s v2.gates v2.pins v.reads
   retired-pinning = record {
@@ -185,29 +183,29 @@ module _ (s : Setting) (w : World) (v2 : View) (g g2 : Ghost) (n : ℕ) (i : Inv
         let carried : (g.shape c).carried r ≡ false → (g2.shape c).carried r ≡ false = subst (λ (z : Shape). z.carried r ≡ false) (sym (m.shape_off c q)) in
         on_bool (eqb c m.x)
         (λ e.
-        let at = eqb-eq c m.x e in
+        let at = eqb-true c m.x e in
         let both : Some m.shard ≡ Some z = sym m.is_gate ∙ ap v.gates (sym at) ∙ was in
         let same : m.shard ≡ z = cc in
         let here : (g.shape m.x).placed r ≡ true = subst (λ (y : ℕ). (g.shape y).placed r ≡ true) at there in
         (carried (subst (λ (y : ℕ). (g.shape y).carried r ≡ false) (sym at) (at-rest r here)), subst (λ (y : ℕ). IsUnder history g.placed g2.home y r) same (mine r here)))
-        (λ e. let ne = eqb-ne c m.x e in let o = i.resting.rests c z r was (sym (m.phases_off c q ne) ∙ gone) there in (carried o.0, others c z r was o.1)));
+        (λ e. let ne = eqb-false c m.x e in let o = i.resting.rests c z r was (sym (m.phases_off c q ne) ∙ gone) there in (carried o.0, others c z r was o.1)));
   }
 
   -- Stamps.
 
   spares-of : (P : ℕ → List Spare → Type 0) → P n [] → ((a : ℕ) → a ≢ n → P a (all_spares v.purses v.jobs a)) → (a : ℕ) → P a (all_spares v2.purses v2.jobs a)
   spares-of P none old a = on_bool (eqb a n)
-      (λ q. subst (λ (z : ℕ). P z (all_spares v2.purses v2.jobs z)) (sym (eqb-eq a n q)) (subst (P n) (sym (ap (λ (ss : List Spare). ss ++ spent_of (v2.jobs n)) m.purse ∙ m.spent)) none))
-      (λ q. let ne = eqb-ne a n q in
+      (λ q. subst (λ (z : ℕ). P z (all_spares v2.purses v2.jobs z)) (sym (eqb-true a n q)) (subst (P n) (sym (ap (λ (ss : List Spare). ss ++ spent_of (v2.jobs n)) m.purse ∙ m.spent)) none))
+      (λ q. let ne = eqb-false a n q in
       subst (λ (ss : List Spare). P a (ss ++ spent_of (v2.jobs a))) (sym (m.purses_off a ne)) (subst (λ (j : Option JobValue). P a (v.purses a ++ spent_of j)) (sym (m.jobs_off a ne)) (old a ne)))
 
   items-left : (stamp b : ℕ) → NoneWaits stamp (all_items v.reads v.jobs b) → NoneWaits stamp (all_items v.reads v2.jobs b)
   items-left stamp b none = on_bool (eqb b n)
-      (λ q. let e = eqb-eq b n q in
+      (λ q. let e = eqb-true b n q in
       let now_is : all_items v.reads v2.jobs b ≡ items_of_read (v.reads b) =
       ap (λ (j : Option JobValue). items_of_read (v.reads b) ++ items_of_job j) (ap v2.jobs e) ∙ ap (λ (xs : List Item). items_of_read (v.reads b) ++ xs) m.items ∙ append-nil (items_of_read (v.reads b)) in
       subst (NoneWaits stamp) (sym now_is) (each-left (λ (z : Item). z.stamp ≢ stamp) (items_of_read (v.reads b)) (items_of_job (v.jobs b)) none))
-      (λ q. subst (λ (j : Option JobValue). NoneWaits stamp (items_of_read (v.reads b) ++ items_of_job j)) (sym (m.jobs_off b (eqb-ne b n q))) none)
+      (λ q. subst (λ (j : Option JobValue). NoneWaits stamp (items_of_read (v.reads b) ++ items_of_job j)) (sym (m.jobs_off b (eqb-false b n q))) none)
 
   -- what another actor has isn't of the job
   abbrev IsOfOther : ℕ → Owner → Type 0
@@ -221,9 +219,9 @@ module _ (s : Setting) (w : World) (v2 : View) (g g2 : Ghost) (n : ℕ) (i : Inv
   outside : (a c y : ℕ) → a ≢ n → m.new c ≡ true → IsOfOther a (g.owner y) → (g2.shape c).inside y ≡ false
   outside a c y ne new of = on_bool ((g2.shape c).inside y)
       (λ q. absurd (on_bool (eqb y c)
-      (λ e. let own : g.owner y ≡ InPurse n = ap g.owner (eqb-eq y c e) ∙ m.purse_cell c new in
+      (λ e. let own : g.owner y ≡ InPurse n = ap g.owner (eqb-true y c e) ∙ m.purse_cell c new in
       elim of [ inl p ↦ (let no : InPurse n ≡ InPurse a = sym own ∙ p in ne cc) | inr j ↦ (let no : InPurse n ≡ InJob a = sym own ∙ j in cc) ])
-      (λ e. let own = (m.inside_new c y new q (eqb-ne y c e)).0 in
+      (λ e. let own = (m.inside_new c y new q (eqb-false y c e)).0 in
       elim of [ inl p ↦ (let no : InJob n ≡ InPurse a = sym own ∙ p in cc) | inr j ↦ (let no : InJob n ≡ InJob a = sym own ∙ j in ne cc) ])))
       (λ q. q)
 

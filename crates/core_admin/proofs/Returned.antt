@@ -3,14 +3,14 @@ use Rattle.std.proofs.Common.{◌≡◌, ◌≢◌, ℕ, ◌+◌, ◌^◌, ◌<�
 use Rattle.cell_stock.specs.Stock.{IsStock, PurseValue, StockValue, Gives, cells_of}
 use Rattle.cell_stock.specs.declared.purse.Spare.{Spare}
 use Rattle.dc_node.specs.declared.todo.Item.{Item}
-use Rattle.tree_shape.specs.Counts.{Each, times}
+use Rattle.list_words.specs.Counts.{Each, times}
+use Rattle.list_words.proofs.Each.{each-map, each-left}
+use Rattle.list_words.proofs.Times.{times-append, all-times, distinct-times}
+use Rattle.list_words.proofs.Truth.{on_bool}
+use Rattle.std.proofs.lemmas.Bool.{eqb-true, eqb-false, ne_eqb}
 use Rattle.tree_shape.specs.Queries.{NoneWaits}
 use Rattle.tree_shape.specs.Shape.{nodes}
 use Rattle.tree_shape.specs.Steps.{AreApart, AreSpares}
-use Rattle.tree_shape.proofs.Divisions.{each-map}
-use Rattle.tree_shape.proofs.Parts.{each-left}
-use Rattle.tree_shape.proofs.Visits.{times-append}
-use Rattle.tree_shape.proofs.Walks.{on_bool, eqb-eq, eqb-ne, eqb-no}
 use Rattle.volap_cell.specs.Ghost.{AGate, Ghost, InJob, InPurse, InTree, NotOfStock, Owner, Unused, is_in_job, is_in_purse, is_in_tree, is_unused}
 use Rattle.volap_cell.specs.Invariant.{InvWith}
 use Rattle.volap_cell.specs.Setting.{Setting}
@@ -18,7 +18,6 @@ use Rattle.volap_cell.specs.Stocking.{LeavesStamp, Stamping, Stocking, all_items
 use Rattle.volap_cell.specs.Values.{JobValue}
 use Rattle.volap_cell.specs.View.{View}
 use Rattle.core_tree.proofs.Spares.{other-purse}
-use Rattle.core_tree.proofs.Tallies.{all-times, distinct-times}
 
 -- the cells of these spares are free again
 pub record Returns (before now : StockValue) (spares : List Spare) : Type 0 where
@@ -81,10 +80,10 @@ other-now n f u p j Unused = refl
 other-now n f u p j AGate = refl
 other-now n f u p j (InTree c) = refl
 other-now n f u p j (InPurse a) = on_bool (eqb a n)
-    (λ q. ap (λ (b : Bool). f (cond b Unused (InPurse a))) q ∙ u ∙ sym (ap (λ (z : ℕ). f (InPurse z)) (eqb-eq a n q) ∙ p))
+    (λ q. ap (λ (b : Bool). f (cond b Unused (InPurse a))) q ∙ u ∙ sym (ap (λ (z : ℕ). f (InPurse z)) (eqb-true a n q) ∙ p))
     (λ q. ap (λ (b : Bool). f (cond b Unused (InPurse a))) q)
 other-now n f u p j (InJob a) = on_bool (eqb a n)
-    (λ q. ap (λ (b : Bool). f (cond b Unused (InJob a))) q ∙ u ∙ sym (ap (λ (z : ℕ). f (InJob z)) (eqb-eq a n q) ∙ j))
+    (λ q. ap (λ (b : Bool). f (cond b Unused (InJob a))) q ∙ u ∙ sym (ap (λ (z : ℕ). f (InJob z)) (eqb-true a n q) ∙ j))
     (λ q. ap (λ (b : Bool). f (cond b Unused (InJob a))) q)
 
 none-in-purse : (n : ℕ) (o : Owner) → is_in_purse n (returned n o) ≡ false
@@ -154,15 +153,15 @@ module _ (s : Setting) (v : View) (g : Ghost) (i : InvWith s v g) (n : ℕ) (now
         every = λ y high low no. k.every y high low (was-so n (g.owner y) NotOfStock (λ e. cc) no);
         unused = uses;
         purse = λ a y. on_bool (eqb a n)
-            (λ q. let e = eqb-eq a n q in
+            (λ q. let e = eqb-true a n q in
             subst (λ (z : ℕ). times y (cells_of (purses_now z)) ≡ one (is_in_purse z (owner_now y))) (sym e) (ap (λ (ss : List Spare). times y (cells_of ss)) mine ∙ sym (ap one (none-in-purse n (g.owner y)))))
-            (λ q. let ne = eqb-ne a n q in
+            (λ q. let ne = eqb-false a n q in
             ap (λ (ss : List Spare). times y (cells_of ss)) (off a ne) ∙ k.purse a y ∙ sym (ap one (other-now n (is_in_purse a) refl (other-purse a n ne) refl (g.owner y))));
         job = λ a y. on_bool (eqb a n)
-            (λ q. let e = eqb-eq a n q in
+            (λ q. let e = eqb-true a n q in
             subst (λ (z : ℕ). times y (cells_of (spent_of (jobs_now z))) ≡ one (is_in_job z (owner_now y))) (sym e) (ap (λ (ss : List Spare). times y (cells_of ss)) spent ∙ sym (ap one (none-in-job n (g.owner y)))))
-            (λ q. let ne = eqb-ne a n q in
-            ap (λ (j : Option JobValue). times y (cells_of (spent_of j))) (jobs_off a ne) ∙ k.job a y ∙ sym (ap one (other-now n (is_in_job a) refl refl (eqb-no n a (λ e. ne (sym e))) (g.owner y))));
+            (λ q. let ne = eqb-false a n q in
+            ap (λ (j : Option JobValue). times y (cells_of (spent_of j))) (jobs_off a ne) ∙ k.job a y ∙ sym (ap one (other-now n (is_in_job a) refl refl (ne_eqb n a (λ e. ne (sym e))) (g.owner y))));
         gate = λ c is. ap (returned n) (k.gate c is);
         gate_back = λ c own. k.gate_back c (was-so n (g.owner c) AGate (λ e. cc) own);
         tree = λ c y whole yi yc. let o = k.tree c y whole yi yc in (ap (returned n) o.0, o.1);
@@ -175,18 +174,18 @@ module _ (s : Setting) (v : View) (g : Ghost) (i : InvWith s v g) (n : ℕ) (now
 
   spares-of : (P : ℕ → List Spare → Type 0) → P n [] → ((a : ℕ) → a ≢ n → P a (all_spares v.purses v.jobs a)) → (a : ℕ) → P a (all_spares purses_now jobs_now a)
   spares-of P none old a = on_bool (eqb a n)
-      (λ q. let e = eqb-eq a n q in
+      (λ q. let e = eqb-true a n q in
       subst (λ (z : ℕ). P z (all_spares purses_now jobs_now z)) (sym e) (subst (P n) (sym (ap (λ (ss : List Spare). ss ++ spent_of (jobs_now n)) mine ∙ spent)) none))
-      (λ q. let ne = eqb-ne a n q in
+      (λ q. let ne = eqb-false a n q in
       subst (λ (ss : List Spare). P a (ss ++ spent_of (jobs_now a))) (sym (off a ne)) (subst (λ (j : Option JobValue). P a (v.purses a ++ spent_of j)) (sym (jobs_off a ne)) (old a ne)))
 
   -- of all that was noted a part is left
   items-left : (stamp b : ℕ) → NoneWaits stamp (all_items v.reads v.jobs b) → NoneWaits stamp (all_items v.reads jobs_now b)
   items-left stamp b none = on_bool (eqb b n)
-      (λ q. let e = eqb-eq b n q in
+      (λ q. let e = eqb-true b n q in
       let now_is : all_items v.reads jobs_now b ≡ items_of_read (v.reads b) = ap (λ (j : Option JobValue). items_of_read (v.reads b) ++ items_of_job j) (ap jobs_now e) ∙ ap (λ (xs : List Item). items_of_read (v.reads b) ++ xs) noted ∙ append-nil (items_of_read (v.reads b)) in
       subst (NoneWaits stamp) (sym now_is) (each-left (λ (z : Item). z.stamp ≢ stamp) (items_of_read (v.reads b)) (items_of_job (v.jobs b)) none))
-      (λ q. subst (λ (j : Option JobValue). NoneWaits stamp (items_of_read (v.reads b) ++ items_of_job j)) (sym (jobs_off b (eqb-ne b n q))) none)
+      (λ q. subst (λ (j : Option JobValue). NoneWaits stamp (items_of_read (v.reads b) ++ items_of_job j)) (sym (jobs_off b (eqb-false b n q))) none)
 
   pub returned-stamping : Stamping now v.blocks v.made v.trees v.gates v.phases v.pins purses_now v.reads jobs_now g.shape
   returned-stamping =

@@ -23,13 +23,14 @@ use Rattle.row_ledger.specs.declared.event.Event.{Event}
 use Rattle.row_ledger.specs.declared.event.Event.TheVariants.{Begun}
 use Rattle.row_ledger.proofs.Answering.{All-acked_before}
 use Rattle.row_ledger.proofs.Descent.{comes_from-self, live-last, live-made}
-use Rattle.row_ledger.proofs.Elements.{Contains-filter, Contains-filtered, IsTrue-filtered, Contains-nil}
+use Rattle.list_words.proofs.Elements.{Contains-filter, Contains-filtered, IsTrue-filtered, Contains-nil}
 use Rattle.row_ledger.proofs.Older.{begun-older}
-use Rattle.tree_shape.specs.Counts.{Each, same, times}
+use Rattle.list_words.specs.Counts.{Each, same, times}
+use Rattle.list_words.proofs.Times.{times-append, same_is, same_not}
+use Rattle.list_words.proofs.Truth.{on_bool}
+use Rattle.std.proofs.lemmas.Bool.{eqb-true, eqb-false}
 use Rattle.tree_shape.specs.Laws.{GateLaw}
 use Rattle.tree_shape.specs.Shape.{numbers}
-use Rattle.tree_shape.proofs.Visits.{times-append}
-use Rattle.tree_shape.proofs.Walks.{on_bool, eqb-eq, eqb-ne, same_is, same_not}
 use Rattle.volap_cell.specs.Ghost.{Ghost}
 use Rattle.volap_cell.specs.Growing.{IsUnder, table_of}
 use Rattle.volap_cell.specs.Invariant.{InvWith}
@@ -70,8 +71,8 @@ numbers-of row (n ∷ ns) named =
 pub row-of : (rows : List Row) (n : ℕ) → 1 ≤ times n (numbers rows) → (r : Row) × Contains rows r × (r.no ≡ n)
 row-of [] n some = absurd (omega (arith, some))
 row-of (x ∷ rows) n some = on_bool (eqb n x.no)
-    (λ q. (x, (0, omega arith, refl), sym (eqb-eq n x.no q)))
-    (λ q. let none = same_not n x.no (eqb-ne n x.no q) in
+    (λ q. (x, (0, omega arith, refl), sym (eqb-true n x.no q)))
+    (λ q. let none = same_not n x.no (eqb-false n x.no q) in
     let later = row-of rows n (omega (arith, some, none)) in
     (later.0, Contains-append_right (x ∷ []) rows later.0 later.1, later.2))
 
@@ -102,7 +103,7 @@ begun-there (e ∷ past) p i is = on_bool (p == length past)
 -- a path that ends with a shard has it last
 last-there : (x : ℕ) (path : List ℕ) → IsTrue (ends_with x path) → last_of path ≡ x
 last-there x [] ends = absurd (let never : false ≡ true = ends in cc)
-last-there x (y ∷ []) ends = eqb-eq y x ends
+last-there x (y ∷ []) ends = eqb-true y x ends
 last-there x (y ∷ z ∷ path) ends = last-there x (z ∷ path) ends
 
 module _ (gates : GateLaw) (s : Setting) (w : World) (g : Ghost) (i : InvWith s (view s w) g) (shard worker : ℕ) (on : is_on s.workers (view s w).history shard worker ≡ true) where
@@ -170,8 +171,8 @@ module _ (gates : GateLaw) (s : Setting) (w : World) (g : Ghost) (i : InvWith s 
       on_bool (g.placed r)
       (λ q. let z : cond (g.placed r) (same (g.home r) shard) 0 ≡ same (g.home r) shard = ap (λ (b : Bool). cond b (same (g.home r) shard) 0) q in
       on_bool (eqb (g.home r) shard)
-      (λ e. let k = same_is (g.home r) shard (eqb-eq _ _ e) in omega (arith, one, z, k))
-      (λ e. let k = same_not (g.home r) shard (eqb-ne _ _ e) in omega (arith, one, z, k)))
+      (λ e. let k = same_is (g.home r) shard (eqb-true _ _ e) in omega (arith, one, z, k))
+      (λ e. let k = same_not (g.home r) shard (eqb-false _ _ e) in omega (arith, one, z, k)))
       (λ q. let z : ◌≡◌ {A = ℕ} (cond (g.placed r) (same (g.home r) shard) 0) 0 = ap (λ (b : Bool). cond b (same (g.home r) shard) 0) q in omega (arith, one, z))
 
   rows-placed : (r : ℕ) → 1 ≤ times r (numbers rows) → g.placed r ≡ true
@@ -240,7 +241,7 @@ module _ (gates : GateLaw) (s : Setting) (w : World) (g : Ghost) (i : InvWith s 
       let one = one-place r in
       let pl = rows-placed r some in
       let z : cond (g.placed r) (same (g.home r) shard) 0 ≡ same (g.home r) shard = ap (λ (b : Bool). cond b (same (g.home r) shard) 0) pl in
-      let home : g.home r ≡ shard = on_bool (eqb (g.home r) shard) (λ q. eqb-eq _ _ q) (λ q. let none = same_not (g.home r) shard (eqb-ne _ _ q) in absurd (omega (arith, one, z, some, none))) in
+      let home : g.home r ≡ shard = on_bool (eqb (g.home r) shard) (λ q. eqb-true _ _ q) (λ q. let none = same_not (g.home r) shard (eqb-false _ _ q) in absurd (omega (arith, one, z, some, none))) in
       record { is_placed = pl; comes = ap (comes_from h shard) home ∙ comes_from-self h shard }
 
   pub rows-under : All (λ (r : Row). IsUnder h g.placed g.home shard r.no) rows

@@ -9,12 +9,14 @@ use Rattle.dim_hierarchy.specs.declared.row.Row.{Row}
 use Rattle.describing_set.specs.declared.plane.Plane.{Plane}
 use Rattle.link_descent.specs.declared.entered.Fresh.{Fresh}
 use Rattle.shard_build.specs.Building.{UsesUp, spare_of}
-use Rattle.tree_shape.specs.Counts.{Among, Each, same, times, total}
+use Rattle.list_words.specs.Counts.{Among, Each, same, times, total}
+use Rattle.list_words.proofs.Each.{among-left, among-right, each-append, each-here, each-among, each-map}
+use Rattle.list_words.proofs.Totals.{total-append, total-map, total-one}
+use Rattle.std.proofs.lemmas.Bool.{eqb-true, eqb-false}
+use Rattle.list_words.proofs.Truth.{on_bool}
+use Rattle.list_words.proofs.Times.{same_is, same_not}
 use Rattle.tree_shape.specs.Shape.{Node, Shape}
 use Rattle.tree_shape.specs.Steps.{AreApart, AreSpares}
-use Rattle.tree_shape.proofs.Parts.{among-left, among-right, each-append, each-here, total-append, total-map, total-one}
-use Rattle.tree_shape.proofs.Divisions.{each-among, each-map}
-use Rattle.tree_shape.proofs.Walks.{eqb-eq, eqb-ne, on_bool, same_is, same_not}
 use Rattle.volap_cell.specs.AdminKinds.{IsBuiltOf, spent_by}
 use Rattle.volap_cell.specs.Values.{BuildingValue}
 
@@ -47,8 +49,8 @@ uses-spends blocks before now u = record {
 spends-both : (a b c x y : List Spare) → Spends a b x → Spends b c y → Spends a c (x ++ y)
 spends-both a b c x y d e = record {
   counts = λ f. let k = d.counts f in let l = e.counts f in let both = total-append f x y in omega (arith, k, l, both);
-  left = each-map (λ (z : Spare). Among z b) (λ (z : Spare). Among z a) c (λ z m. each-among (λ (z : Spare). Among z a) b z d.left m) e.left;
-  gone = each-append (λ (z : Spare). Among z a) x y d.gone (each-map (λ (z : Spare). Among z b) (λ (z : Spare). Among z a) y (λ z m. each-among (λ (z : Spare). Among z a) b z d.left m) e.gone);
+  left = each-map (λ (z : Spare). Among z b) (λ (z : Spare). Among z a) c (λ z m. each-among (λ (z : Spare). Among z a) z b d.left m) e.left;
+  gone = each-append (λ (z : Spare). Among z a) x y d.gone (each-map (λ (z : Spare). Among z b) (λ (z : Spare). Among z a) y (λ z m. each-among (λ (z : Spare). Among z a) z b d.left m) e.gone);
 }
 
 pub built-spends : (h : List Dimension) (plane : Option Plane) (rows : List Row) (purse purse_now : PurseValue) (b : BuildingValue) → IsBuiltOf h plane rows purse purse_now b → Spends purse.spares purse_now.spares b.spent
@@ -87,8 +89,8 @@ module _ (purse purse_now spent : List Spare) (d : Spends purse purse_now spent)
 pub stamps-once : (g : Shape) (look : ℕ → Node) (xs : List Spare) → AreSpares g look xs → (y : ℕ) → times y (stamps_of xs) ≤ 1
 stamps-once g look [] a y = omega arith
 stamps-once g look (x ∷ xs) a y = on_bool (eqb y x.stamp)
-    (λ q. let e = eqb-eq _ _ q in let one = same_is y x.stamp e in let none = ap (λ (z : ℕ). times z (stamps_of xs)) e ∙ none-there x xs a.1 in omega (arith, one, none))
-    (λ q. let none = same_not y x.stamp (eqb-ne _ _ q) in let rest = stamps-once g look xs a.2 y in omega (arith, none, rest))
+    (λ q. let e = eqb-true _ _ q in let one = same_is y x.stamp e in let none = ap (λ (z : ℕ). times z (stamps_of xs)) e ∙ none-there x xs a.1 in omega (arith, one, none))
+    (λ q. let none = same_not y x.stamp (eqb-false _ _ q) in let rest = stamps-once g look xs a.2 y in omega (arith, none, rest))
   where
     none-there : (x : Spare) (xs : List Spare) → Each (AreApart x) xs → times x.stamp (stamps_of xs) ≡ 0
     none-there x [] e = refl

@@ -12,13 +12,11 @@ use Rattle.dc_node.specs.Summary.{coords}
 use Rattle.describing_set.specs.DescSet.{IsSetOf}
 use Rattle.describing_set.specs.declared.set.DescSet.{DescSet}
 use Rattle.row_ledger.specs.Bounds.{may}
-use Rattle.tree_shape.specs.Counts.{Each, same, times}
+use Rattle.list_words.specs.Counts.{Each, same, times}
+use Rattle.list_words.proofs.Each.{each-both, all-each, each-append}
+use Rattle.list_words.proofs.Times.{times-append, same_is}
 use Rattle.tree_shape.specs.Laws.{GateLaw}
 use Rattle.tree_shape.specs.Shape.{numbers}
-use Rattle.tree_shape.proofs.Divisions.{each-both}
-use Rattle.tree_shape.proofs.Parts.{all-each, each-append}
-use Rattle.tree_shape.proofs.Visits.{times-append}
-use Rattle.tree_shape.proofs.Walks.{same_is}
 use Rattle.volap_cell.specs.AdminKinds.{IsTrueBox}
 use Rattle.volap_cell.specs.Ghost.{Ghost}
 use Rattle.volap_cell.specs.Invariant.{InvWith}

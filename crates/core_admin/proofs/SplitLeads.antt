@@ -19,22 +19,22 @@ use Rattle.server_image.specs.Registry.{RegistryValue}
 use Rattle.server_image.specs.Spots.{without}
 use Rattle.shard_store.specs.declared.gate.Gate.{Gate}
 use Rattle.tree_shape.specs.Laws.{CollectEndLaw, GateLaw}
-use Rattle.tree_shape.specs.Counts.{Each}
-use Rattle.tree_shape.proofs.Walks.{eqb-no, eqb-self}
+use Rattle.list_words.specs.Counts.{Each}
+use Rattle.std.proofs.lemmas.Bool.{ne_eqb}
+use Rattle.list_words.proofs.Truth.{eqb-self}
 use Rattle.volap_cell.specs.AdminKinds.{DoesFinishSplit, IsTrueBox, left_of, right_of}
 use Rattle.volap_cell.specs.Cells.{way_in}
 use Rattle.volap_cell.specs.Ghost.{Ghost}
 use Rattle.volap_cell.specs.Invariant.{InvWith}
 use Rattle.volap_cell.specs.Setting.{Setting, site_in}
-use Rattle.volap_cell.specs.Values.{ActorValue, JobValue, IsCalled}
+use Rattle.volap_cell.specs.Values.{ActorValue}
 use Rattle.volap_cell.specs.View.{View, view}
 use Rattle.volap_cell.specs.World.{Agrees, Change, World, after}
-use Rattle.volap_cell.specs.declared.command.Command.{Command}
 use Rattle.core_admin.proofs.FinishedJob.{front, frozen}
 use Rattle.core_admin.proofs.NewTree.{tree-set}
 use Rattle.core_admin.proofs.SplitBoxes.{child-box}
 use Rattle.core_admin.proofs.SplitCovers.{IsChildBox}
-use Rattle.core_admin.proofs.SplitRetires.{g2, is-new, new-l, new-r, retiring, shard-l, shard-r, v2}
+use Rattle.core_admin.proofs.SplitRetires.{g2, is-new, new-l, new-r, retiring, shard-l, shard-r}
 use Rattle.core_admin.proofs.SplitShards.{off-left, off-right, others, places-split, shard-made, spot-worker, spots-made, spots-split}
 use Rattle.core_admin.proofs.SplitTrees.{here, late-here, late_rows, left-all, left-are, left-tree, old_rows, right-all, right-are, right-tree, side}
 use Rattle.core_admin.proofs.SplitsLineage.{Splitting}
@@ -133,35 +133,34 @@ module _ (m x l r reg c led : Change) (b : ActorValue) (s : Setting) (w : World)
 
   -- Where the tables lead.
 
-  module _ (history : List Event) (command2 : Option Command) (job2 : Option JobValue) (is : b ≡ record (w.actors n) { purse = []; seen = b.seen; command = command2; job = job2 }) (called : (j : JobValue) → job2 ≡ Some j → j.stage ≡ IsCalled) where
-    abbrev pub splitting : Splitting s v (v2 m x l r reg c led b s w n g i ag d ends few history command2 job2 is called) g (g2 m x l r reg c led b s w n g i ag d ends few) n (retiring m x l r reg c led b s w n g i ag d ends few history command2 job2 is called)
-    splitting =
-        let tables = split-tables m x l r reg c led b s w n g i ag d off-l off-r in
-        let stock = stock-now m x l r reg c led b s w n g i ag d in
-        record {
-          of = d.of;
-          from = d.job.worker;
-          plane = d.plane;
-          left = left;
-          right = right;
-          yl = l.number;
-          yr = r.number;
-          was_on = was-on;
-          is_right = is_right;
-          is_plane = (frozen s w g i n d.job d.building d.has.is_job d.has.stage_is d.in_cells d.gate (here m x l r reg c led b s w n g i ag d) d.upto d.frozen).plane d.plane d.divided;
-          new_l = new-l m x l r reg c led b s w n g i ag d ends few;
-          new_r = new-r m x l r reg c led b s w n g i ag d ends few;
-          only = is-new m x l r reg c led b s w n g i ag d ends few;
-          shard_l = shard-l m x l r reg c led b s w n g i ag d ends few;
-          shard_r = shard-r m x l r reg c led b s w n g i ag d ends few;
-          at_shard = tables.at_shard;
-          at_left = tables.at_left;
-          at_right = tables.at_right;
-          at_other = tables.at_other;
-          other_worker = tables-off m x l r reg c led b s w n g i ag d;
-          gate_l = ap (λ (k : Bool). cond k l.number (cond (eqb left right) r.number (g.gate left))) (eqb-self left);
-          gate_r = ap (λ (k : Bool). cond k l.number (cond (eqb right right) r.number (g.gate right))) (eqb-no right left (λ same. absurd (omega (arith, same)))) ∙ ap (λ (k : Bool). cond k r.number (g.gate right)) (eqb-self right);
-          gate_other = λ z off_l off_r. ap (λ (k : Bool). cond k l.number (cond (eqb z right) r.number (g.gate z))) (eqb-no z left off_l) ∙ ap (λ (k : Bool). cond k r.number (g.gate z)) (eqb-no z right off_r);
-          ids = ap (λ (k : StockValue). k.ids) stock.1 ∙ ap (λ (k : StockValue). k.ids) d.ids ∙ sym (ap (λ (k : StockValue). k.ids + 2) stock.0);
-          places = places-now;
-        }
+  abbrev pub splitting : Splitting s v u g (g2 m x l r reg c led b s w n g i ag d ends few) n (retiring m x l r reg c led b s w n g i ag d ends few)
+  splitting =
+      let tables = split-tables m x l r reg c led b s w n g i ag d off-l off-r in
+      let stock = stock-now m x l r reg c led b s w n g i ag d in
+      record {
+        of = d.of;
+        from = d.job.worker;
+        plane = d.plane;
+        left = left;
+        right = right;
+        yl = l.number;
+        yr = r.number;
+        was_on = was-on;
+        is_right = is_right;
+        is_plane = (frozen s w g i n d.job d.building d.has.is_job d.has.stage_is d.in_cells d.gate (here m x l r reg c led b s w n g i ag d) d.upto d.frozen).plane d.plane d.divided;
+        new_l = new-l m x l r reg c led b s w n g i ag d ends few;
+        new_r = new-r m x l r reg c led b s w n g i ag d ends few;
+        only = is-new m x l r reg c led b s w n g i ag d ends few;
+        shard_l = shard-l m x l r reg c led b s w n g i ag d ends few;
+        shard_r = shard-r m x l r reg c led b s w n g i ag d ends few;
+        at_shard = tables.at_shard;
+        at_left = tables.at_left;
+        at_right = tables.at_right;
+        at_other = tables.at_other;
+        other_worker = tables-off m x l r reg c led b s w n g i ag d;
+        gate_l = ap (λ (k : Bool). cond k l.number (cond (eqb left right) r.number (g.gate left))) (eqb-self left);
+        gate_r = ap (λ (k : Bool). cond k l.number (cond (eqb right right) r.number (g.gate right))) (ne_eqb right left (λ same. absurd (omega (arith, same)))) ∙ ap (λ (k : Bool). cond k r.number (g.gate right)) (eqb-self right);
+        gate_other = λ z off_l off_r. ap (λ (k : Bool). cond k l.number (cond (eqb z right) r.number (g.gate z))) (ne_eqb z left off_l) ∙ ap (λ (k : Bool). cond k r.number (g.gate z)) (ne_eqb z right off_r);
+        ids = ap (λ (k : StockValue). k.ids) stock.1 ∙ ap (λ (k : StockValue). k.ids) d.ids ∙ sym (ap (λ (k : StockValue). k.ids + 2) stock.0);
+        places = places-now;
+      }

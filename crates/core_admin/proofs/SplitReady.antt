@@ -10,9 +10,9 @@ use Rattle.mapping_table.specs.declared.place.Where.{Where}
 use Rattle.row_ledger.specs.LedgerValue.{LedgerValue}
 use Rattle.server_image.specs.Registry.{RegistryValue, on_frontier}
 use Rattle.shard_store.specs.declared.gate.Gate.{Gate}
-use Rattle.tree_shape.specs.Counts.{Among}
+use Rattle.list_words.specs.Counts.{Among}
+use Rattle.list_words.proofs.Each.{among-right}
 use Rattle.tree_shape.specs.Laws.{CollectEndLaw, GateLaw}
-use Rattle.tree_shape.proofs.Parts.{among-right}
 use Rattle.volap_cell.specs.Cells.{CellValue, GateCell, LedgerCell, MapCell, RegistryCell, StockCell}
 use Rattle.volap_cell.specs.Ghost.{Ghost, InPurse}
 use Rattle.volap_cell.specs.Invariant.{InvWith}

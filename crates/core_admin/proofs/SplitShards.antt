@@ -17,8 +17,8 @@ use Rattle.row_ledger.specs.declared.event.Event.TheVariants.{Split}
 use Rattle.row_ledger.proofs.Ascent.{frontier-ascends}
 use Rattle.row_ledger.proofs.Descent.{live-made}
 use Rattle.server_image.specs.Spots.{place_of, with_spot, without}
-use Rattle.tree_shape.specs.Counts.{Each}
-use Rattle.tree_shape.proofs.Walks.{on_bool}
+use Rattle.list_words.specs.Counts.{Each}
+use Rattle.list_words.proofs.Truth.{on_bool}
 use Rattle.core_admin.proofs.MovedShards.{on, one-host}
 
 -- the places without a shard

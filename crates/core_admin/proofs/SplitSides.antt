@@ -19,14 +19,13 @@ use Rattle.shard_build.specs.Building.{spare_of}
 use Rattle.shard_build.specs.declared.builder.Built.{Built}
 use Rattle.shard_store.specs.declared.gate.Gate.{Gate}
 use Rattle.shard_store.specs.declared.gate.Phase.TheVariants.{Frozen}
-use Rattle.tree_shape.specs.Counts.{Among, Each, times}
+use Rattle.list_words.specs.Counts.{Among, Each, times}
+use Rattle.list_words.proofs.Each.{each-map, all-each, among-left, among-right, each-here, each-left, each-right, each-filter}
+use Rattle.list_words.proofs.Times.{times-append, same_not}
+use Rattle.list_words.proofs.Truth.{on_bool}
 use Rattle.tree_shape.specs.Forest.{AreInCells, AreRowsOf, filled_cells}
 use Rattle.tree_shape.specs.Laws.{CollectEndLaw, GateLaw}
 use Rattle.tree_shape.specs.Shape.{Table, numbers}
-use Rattle.tree_shape.proofs.Divisions.{each-map}
-use Rattle.tree_shape.proofs.Parts.{all-each, among-left, among-right, each-here, each-left, each-right}
-use Rattle.tree_shape.proofs.Visits.{times-append}
-use Rattle.tree_shape.proofs.Walks.{on_bool, same_not}
 use Rattle.volap_cell.specs.AdminKinds.{left_of, right_of, spent_by, tree_of}
 use Rattle.volap_cell.specs.Cells.{GateCell}
 use Rattle.volap_cell.specs.Ghost.{Ghost, InJob, InPurse, is_in_job}
@@ -43,8 +42,7 @@ use Rattle.volap_cell.proofs.Blanks.{spent-owner}
 use Rattle.volap_cell.proofs.Spares.{among-cells}
 use Rattle.core_admin.proofs.BuildsBlock.{among-spent}
 use Rattle.core_admin.proofs.FinishedJob.{is-job-cell, once, rows, rows-named, rows-valid, spent-is, was}
-use Rattle.core_admin.proofs.MovesShard.{cells-spent, contains-among}
-use Rattle.core_admin.proofs.NewTree.{new-tree, tree-set}
+use Rattle.core_admin.proofs.NewTree.{cells-spent, contains-among, new-tree, tree-set}
 
 -- Sides of lists.
 
@@ -64,10 +62,6 @@ side-times p side (x ∷ rows) e q =
     on_bool (p x)
     (λ k. let off = same_not q x.no (λ is. false≢true (sym t ∙ ap side is ∙ e.0 ∙ k)) in rw (k, t) (omega (arith, none, off)))
     (λ k. rw (k, t) (omega (arith, none))))
-
-pub each-filter : {A : Type 0} (P : A → Type 0) (p : A → Bool) (xs : List A) → Each P xs → Each P (filter p xs)
-each-filter P p [] e = tt
-each-filter P p (x ∷ xs) e = (let rest = each-filter P p xs e.1 in on_bool (p x) (λ q. rw q (e.0, rest)) (λ q. rw q rest))
 
 at-most : (b : Bool) (k : ℕ) → cond b k 0 ≤ k
 at-most true k = omega arith

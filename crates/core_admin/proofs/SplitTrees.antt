@@ -5,12 +5,11 @@ use Rattle.dim_hierarchy.specs.Rows.{IsRowOf}
 use Rattle.dim_hierarchy.specs.declared.row.Row.{Row}
 use Rattle.describing_set.specs.Plane.{goes_left}
 use Rattle.link_descent.specs.declared.entered.Fresh.{Fresh}
-use Rattle.tree_shape.specs.Counts.{Each, same, times}
+use Rattle.list_words.specs.Counts.{Each, same, times}
+use Rattle.list_words.proofs.Each.{each-both, each-left, each-right, each-filter}
 use Rattle.tree_shape.specs.Forest.{AreInCells, filled_cells}
 use Rattle.tree_shape.specs.Laws.{CollectEndLaw}
 use Rattle.tree_shape.specs.Shape.{numbers}
-use Rattle.tree_shape.proofs.Divisions.{each-both}
-use Rattle.tree_shape.proofs.Parts.{each-left, each-right}
 use Rattle.volap_cell.specs.AdminKinds.{DoesFinishSplit, left_of, right_of}
 use Rattle.volap_cell.specs.Cells.{GateCell, block_in, way_in}
 use Rattle.volap_cell.specs.Ghost.{Ghost, InJob, InPurse, is_in_job}
@@ -24,7 +23,7 @@ use Rattle.core_admin.proofs.FinishedJob.{all-rows, late, late-is, late-named, l
 use Rattle.core_admin.proofs.NewTree.{IsNewTree, leads-to, new-tree}
 use Rattle.core_admin.proofs.SplitBoxes.{AreShardRows}
 use Rattle.core_admin.proofs.SplitsShard.{at-x, kept, l-now, owner-l, owner-r, r-now}
-use Rattle.core_admin.proofs.SplitSides.{AreTwo, each-filter, job-cell as cell_of_job, left-rows, left-test, own-blocks, owner-filled as owner_of_filled, right-rows, right-test, side as side_of_row, side-times, spent-left, spent-right, two as two_of}
+use Rattle.core_admin.proofs.SplitSides.{AreTwo, job-cell as cell_of_job, left-rows, left-test, own-blocks, owner-filled as owner_of_filled, right-rows, right-test, side as side_of_row, side-times, spent-left, spent-right, two as two_of}
 
 -- Lists.
 

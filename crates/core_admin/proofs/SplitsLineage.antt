@@ -2,7 +2,7 @@
 use Rattle.std.proofs.Common.{◌≡◌, ◌≢◌, ℕ, ◌+◌, ◌<◌, List, [], ◌∷◌, true, eqb, Option, Some, None, IsSome, refl, sym, ap, ◌∙◌, subst, ◌⊎◌, inl, inr, arith, ◌==◌, ◌&&◌, ◌||◌, eq-eqb, filter_map}
 use Rattle.std.specs.Prelude.{IsTrue, Contains}
 use Rattle.std.specs.List.{list_any}
-use Rattle.std.proofs.lemmas.Bool.{or_cases, or_left, or_right}
+use Rattle.std.proofs.lemmas.Bool.{or_cases, or_left, or_right, eqb-true, eqb-false}
 use Rattle.std.proofs.lemmas.List.Elements.{All-weaker, Contains-append_right}
 use Rattle.describing_set.specs.Plane.{IsHierarchyPlane}
 use Rattle.describing_set.specs.declared.listing.Spot.{Spot}
@@ -22,7 +22,7 @@ use Rattle.row_ledger.proofs.Ascent.{frontier-ascends}
 use Rattle.row_ledger.proofs.Changes.{split-changes}
 use Rattle.row_ledger.proofs.Descent.{live-made}
 use Rattle.shard_store.specs.declared.gate.Phase.TheVariants.{Frozen, Gone, Open}
-use Rattle.tree_shape.proofs.Walks.{on_bool, eqb-eq, eqb-ne}
+use Rattle.list_words.proofs.Truth.{on_bool}
 use Rattle.volap_cell.specs.Ghost.{Ghost}
 use Rattle.volap_cell.specs.Invariant.{InvWith}
 use Rattle.volap_cell.specs.Lineage.{Leading, Lineage, was_on, went_to}
@@ -102,15 +102,15 @@ module _ (s : Setting) (v v2 : View) (g g2 : Ghost) (n : ℕ) (i : InvWith s v g
   by-entry : (P : ℕ → ℕ → Type 0) (w z : ℕ) → P t.from m.shard → P t.from t.left → P t.from t.right → (v2.maps w z ≡ v.maps w z → ((w ≡ t.from) → z ≢ m.shard) → P w z) → P w z
   by-entry P w z here left right other = on_bool (eqb w t.from)
       (λ q.
-      let is = eqb-eq w t.from q in
+      let is = eqb-true w t.from q in
       on_bool (eqb z m.shard)
-      (λ k. subst (λ (x : ℕ). P x z) (sym is) (subst (P t.from) (sym (eqb-eq z m.shard k)) here))
+      (λ k. subst (λ (x : ℕ). P x z) (sym is) (subst (P t.from) (sym (eqb-true z m.shard k)) here))
       (λ k. on_bool (eqb z t.left)
-      (λ a. subst (λ (x : ℕ). P x z) (sym is) (subst (P t.from) (sym (eqb-eq z t.left a)) left))
+      (λ a. subst (λ (x : ℕ). P x z) (sym is) (subst (P t.from) (sym (eqb-true z t.left a)) left))
       (λ a. on_bool (eqb z t.right)
-      (λ b. subst (λ (x : ℕ). P x z) (sym is) (subst (P t.from) (sym (eqb-eq z t.right b)) right))
-      (λ b. other (ap (λ (x : ℕ). v2.maps x z) is ∙ t.at_other z (eqb-ne z m.shard k) (eqb-ne z t.left a) (eqb-ne z t.right b) ∙ sym (ap (λ (x : ℕ). v.maps x z) is)) (λ same. eqb-ne z m.shard k)))))
-      (λ q. let ne = eqb-ne w t.from q in other (ap (λ (k : ℕ → Option Where). k z) (t.other_worker w ne)) (λ same. absurd (ne same)))
+      (λ b. subst (λ (x : ℕ). P x z) (sym is) (subst (P t.from) (sym (eqb-true z t.right b)) right))
+      (λ b. other (ap (λ (x : ℕ). v2.maps x z) is ∙ t.at_other z (eqb-false z m.shard k) (eqb-false z t.left a) (eqb-false z t.right b) ∙ sym (ap (λ (x : ℕ). v.maps x z) is)) (λ same. eqb-false z m.shard k)))))
+      (λ q. let ne = eqb-false w t.from q in other (ap (λ (k : ℕ → Option Where). k z) (t.other_worker w ne)) (λ same. absurd (ne same)))
 
   leads-still : (w z : ℕ) → IsSome (v.maps w z) → IsSome (v2.maps w z)
   leads-still w z is = by-entry (λ w z. IsSome (v2.maps w z)) w z (subst IsSome (sym t.at_shard) refl) (subst IsSome (sym t.at_left) refl) (subst IsSome (sym t.at_right) refl) (λ same off. subst IsSome (sym same) is)
@@ -139,8 +139,8 @@ module _ (s : Setting) (v v2 : View) (g g2 : Ghost) (n : ℕ) (i : InvWith s v g
 
   by-old : (w z : ℕ) → z ≢ m.shard → z < ids_made s.workers h → v2.maps w z ≡ v.maps w z
   by-old w z ne lt = on_bool (eqb w t.from)
-      (λ q. let is = eqb-eq w t.from q in ap (λ (x : ℕ). v2.maps x z) is ∙ t.at_other z ne (not-left z lt) (not-right z lt) ∙ sym (ap (λ (x : ℕ). v.maps x z) is))
-      (λ q. ap (λ (k : ℕ → Option Where). k z) (t.other_worker w (eqb-ne w t.from q)))
+      (λ q. let is = eqb-true w t.from q in ap (λ (x : ℕ). v2.maps x z) is ∙ t.at_other z ne (not-left z lt) (not-right z lt) ∙ sym (ap (λ (x : ℕ). v.maps x z) is))
+      (λ q. ap (λ (k : ℕ → Option Where). k z) (t.other_worker w (eqb-false w t.from q)))
 
   stands : (y : ℕ) → m.new y ≡ true → v2.phases y ≢ Some Gone
   stands y new gone = (let no : Some Open ≡ Some Gone = sym (m.phase_new y new) ∙ gone in cc)

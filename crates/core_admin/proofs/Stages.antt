@@ -1,7 +1,7 @@
 -- A step that changes nothing but the stage of an administrator's job: what is left to show is what the new stage says of the state.
 use Rattle.std.proofs.Common.{◌≡◌, ℕ, ◌<◌, ◌≤◌, List, Some, refl, sym, ap, ◌∙◌, subst, inl, arith}
 use Rattle.cell_stock.specs.declared.purse.Spare.{Spare}
-use Rattle.tree_shape.specs.Counts.{Each}
+use Rattle.list_words.specs.Counts.{Each}
 use Rattle.tree_shape.specs.Queries.{NoneWaits}
 use Rattle.volap_cell.specs.AdminKinds.{at_stage}
 use Rattle.volap_cell.specs.Falls.{GoesOn, gone_left, job_left, left, stage_left}

@@ -10,13 +10,13 @@ use Rattle.row_ledger.specs.declared.settings.Decline.{Decline}
 use Rattle.shard_store.specs.declared.gate.Gate.{Gate}
 use Rattle.shard_store.specs.declared.gate.Phase.{Phase}
 use Rattle.shard_store.specs.declared.queue.Queue.{Queue}
-use Rattle.tree_shape.specs.Counts.{Each, times}
+use Rattle.list_words.specs.Counts.{Each, times}
+use Rattle.list_words.proofs.Each.{each-both, each-append, each-left}
+use Rattle.list_words.proofs.Truth.{on_bool}
+use Rattle.std.proofs.lemmas.Bool.{eqb-true, eqb-false}
 use Rattle.tree_shape.specs.Queries.{NoneWaits}
 use Rattle.tree_shape.specs.Shape.{Shape, nodes}
 use Rattle.tree_shape.specs.Steps.{AreApart, AreSpares}
-use Rattle.tree_shape.proofs.Divisions.{each-both}
-use Rattle.tree_shape.proofs.Parts.{each-append, each-left}
-use Rattle.tree_shape.proofs.Walks.{on_bool, eqb-eq, eqb-ne}
 use Rattle.volap_cell.specs.Errands.{ReadPart}
 use Rattle.volap_cell.specs.Ghost.{Owner}
 use Rattle.volap_cell.specs.Numbering.{Numbering}
@@ -79,18 +79,18 @@ module _ (s : Setting) (v : View) (numbered : IsNumbered s v) (n : ℕ) (job : J
 
   some-same : (a : ℕ) → is_some (jobs a) ≡ is_some (v.jobs a)
   some-same a = on_bool (eqb a n)
-      (λ q. let e = eqb-eq a n q in
+      (λ q. let e = eqb-true a n q in
       ap (λ (x : ℕ). is_some (jobs x)) e ∙ ap (λ (o : Option JobValue). is_some o) new.is_there ∙ sym (ap (λ (o : Option JobValue). is_some o) new.was_there) ∙ sym (ap (λ (x : ℕ). is_some (v.jobs x)) e))
-      (λ q. ap (λ (o : Option JobValue). is_some o) (new.elsewhere a (eqb-ne a n q)))
+      (λ q. ap (λ (o : Option JobValue). is_some o) (new.elsewhere a (eqb-false a n q)))
 
   -- a job is the actor's
   its : (P : ℕ → JobValue → Type 0) → P n now → (a : ℕ) (j : JobValue) → jobs a ≡ Some j → P a j
   its P p a j is = on_bool (eqb a n)
-      (λ q. let e = eqb-eq a n q in
+      (λ q. let e = eqb-true a n q in
       let same : Some now ≡ Some j = sym new.is_there ∙ ap jobs (sym e) ∙ is in
       let j_is : now ≡ j = cc in
       subst (λ (x : ℕ). P x j) (sym e) (subst (P n) j_is p))
-      (λ q. let none = jobless a (eqb-ne a n q) in let no : None ≡ Some j = sym none ∙ is in absurd (cc))
+      (λ q. let none = jobless a (eqb-false a n q) in let no : None ≡ Some j = sym none ∙ is in absurd (cc))
 
   -- no other actor has another purse
   pub staged-numbering : (purses : ℕ → List Spare) → ((a : ℕ) → a ≢ n → purses a ≡ v.purses a) → Numbering s v.tags v.numbers v.roles v.settings v.counted_in purses v.commands v.taken jobs
@@ -108,8 +108,8 @@ module _ (s : Setting) (v : View) (numbered : IsNumbered s v) (n : ℕ) (job : J
     working = its (λ a j. v.roles a ≡ Admin) (numbered.working n job new.was_there);
     parts = numbered.parts;
     idle = λ a role none. on_bool (eqb a n)
-        (λ q. let never : ◌≡◌ {A = Option JobValue} (Some now) None = sym new.is_there ∙ ap jobs (sym (eqb-eq a n q)) ∙ none in absurd (cc))
-        (λ q. let ne = eqb-ne a n q in off a ne ∙ numbered.idle a role (sym (new.elsewhere a ne) ∙ none));
+        (λ q. let never : ◌≡◌ {A = Option JobValue} (Some now) None = sym new.is_there ∙ ap jobs (sym (eqb-true a n q)) ∙ none in absurd (cc))
+        (λ q. let ne = eqb-false a n q in off a ne ∙ numbered.idle a role (sym (new.elsewhere a ne) ∙ none));
   }
 
   pub staged-telling : (h : List Event) (placed : ℕ → Bool) → Telling s h v.commands v.jobs v.roles v.seen placed → Telling s h v.commands jobs v.roles v.seen placed
@@ -165,8 +165,8 @@ module _ (s : Setting) (v : View) (numbered : IsNumbered s v) (n : ℕ) (job : J
   module _ (spent : spent_of (Some now) ≡ spent_of (Some job)) where
     spent-same : (a : ℕ) → spent_of (jobs a) ≡ spent_of (v.jobs a)
     spent-same a = on_bool (eqb a n)
-        (λ q. let e = eqb-eq a n q in ap (λ (x : ℕ). spent_of (jobs x)) e ∙ ap spent_of new.is_there ∙ spent ∙ sym (ap (λ (x : ℕ). spent_of (v.jobs x)) e ∙ ap spent_of new.was_there))
-        (λ q. ap spent_of (new.elsewhere a (eqb-ne a n q)))
+        (λ q. let e = eqb-true a n q in ap (λ (x : ℕ). spent_of (jobs x)) e ∙ ap spent_of new.is_there ∙ spent ∙ sym (ap (λ (x : ℕ). spent_of (v.jobs x)) e ∙ ap spent_of new.was_there))
+        (λ q. ap spent_of (new.elsewhere a (eqb-false a n q)))
 
     pub staged-stocking : (stock : StockValue) (made : ℕ → Bool) (gates : ℕ → Option ℕ) (phases : ℕ → Option Phase) (pins : ℕ → ℕ) (gone : ℕ → List ℕ) (purses : ℕ → List Spare) (owner : ℕ → Owner) (shape : ℕ → Shape)
         → Stocking s stock made gates phases pins gone purses v.jobs owner shape → Stocking s stock made gates phases pins gone purses jobs owner shape
@@ -210,11 +210,11 @@ module _ (s : Setting) (v : View) (numbered : IsNumbered s v) (n : ℕ) (job : J
         -- what an actor has noted is what it had noted, but for the items of the job
         joined : (stamp b : ℕ) → NoneWaits stamp (all_items reads v.jobs b) → NoneWaits stamp (items_in stage) → NoneWaits stamp (all_items reads jobs b)
         joined stamp b old here = on_bool (eqb b n)
-            (λ q. let e = eqb-eq b n q in
+            (λ q. let e = eqb-true b n q in
             subst (λ (x : ℕ). NoneWaits stamp (items_of_read (reads b) ++ items_of_job (jobs x))) (sym e)
             (subst (λ (o : Option JobValue). NoneWaits stamp (items_of_read (reads b) ++ items_of_job o)) (sym new.is_there)
             (each-append (λ (x : Item). x.stamp ≢ stamp) (items_of_read (reads b)) (items_in stage) (each-left (λ (x : Item). x.stamp ≢ stamp) (items_of_read (reads b)) (items_of_job (v.jobs b)) old) here)))
-            (λ q. subst (λ (o : Option JobValue). NoneWaits stamp (items_of_read (reads b) ++ items_of_job o)) (sym (new.elsewhere b (eqb-ne b n q))) old)
+            (λ q. subst (λ (o : Option JobValue). NoneWaits stamp (items_of_read (reads b) ++ items_of_job o)) (sym (new.elsewhere b (eqb-false b n q))) old)
 
         waits-now : (a b : ℕ) → Each (λ (x : Spare). NoneWaits x.stamp (all_items reads jobs b)) (all_spares purses v.jobs a)
         waits-now a b = each-both (λ (x : Spare). NoneWaits x.stamp (all_items reads v.jobs b)) (λ (x : Spare). NoneWaits x.stamp (items_in stage)) (λ (x : Spare). NoneWaits x.stamp (all_items reads jobs b)) (all_spares purses v.jobs a)

@@ -6,9 +6,10 @@ use Rattle.std.specs.Ordering.{nat_cmp, is_eq}
 use Rattle.std.proofs.lemmas.Cmp.{nat_cmp_total}
 use Rattle.mapping_table.specs.declared.place.Where.{Where}
 use Rattle.mapping_table.specs.declared.place.Where.TheVariants as where_is
-use Rattle.tree_shape.proofs.Walks.{on_bool, eqb-eq, eqb-ne}
+use Rattle.list_words.proofs.Truth.{on_bool}
+use Rattle.std.proofs.lemmas.Bool.{eqb-true, eqb-false}
 use Rattle.core_admin.specs.SplitDue.{LeadNowhere, with_children}
-use Rattle.core_admin.proofs.MoveCells.{get-other, get-same}
+use Rattle.core_admin.proofs.EndedCells.{get-other, get-same}
 
 nat-tied : (x : ℕ) → is_eq (nat_cmp x x) ≡ true
 nat-tied x = grind arith
@@ -26,23 +27,23 @@ forgotten m x to none = map.same_map nat_cmp_total nat_cmp-IsAntisymmetric _ _ (
     by : (q : ℕ) → cond (is_eq (nat_cmp q x)) None (map.get (map.insert m x to) q) ≡ map.get m q
     by q = on_bool (eqb q x)
         (λ e.
-        let is = eqb-eq q x e in
+        let is = eqb-true q x e in
         let tied : is_eq (nat_cmp q x) ≡ true = subst (λ (z : ℕ). is_eq (nat_cmp z x) ≡ true) (sym is) (nat-tied x) in
         ap (λ (b : Bool). cond b None (map.get (map.insert m x to) q)) tied ∙ sym (ap (map.get m) is ∙ none))
-        (λ e. let ne = eqb-ne q x e in ap (λ (b : Bool). cond b None (map.get (map.insert m x to) q)) (nat-apart q x ne) ∙ get-other m x to q ne)
+        (λ e. let ne = eqb-false q x e in ap (λ (b : Bool). cond b None (map.get (map.insert m x to) q)) (nat-apart q x ne) ∙ get-other m x to q ne)
 
 -- two entries in either order
 swapped : (m : map.FinMap nat_cmp Where) (x y : ℕ) (to there : Where) → x ≢ y → map.insert (map.insert m x to) y there ≡ map.insert (map.insert m y there) x to
 swapped m x y to there ne = map.same_map nat_cmp_total nat_cmp-IsAntisymmetric _ _ (λ q. on_bool (eqb q x)
     (λ e.
-    let is = eqb-eq q x e in
+    let is = eqb-true q x e in
     get-other (map.insert m x to) y there q (λ same. ne (sym is ∙ same)) ∙ get-at m x to q is ∙ sym (get-at (map.insert m y there) x to q is))
     (λ e.
-    let off = eqb-ne q x e in
+    let off = eqb-false q x e in
     on_bool (eqb q y)
-    (λ k. let is = eqb-eq q y k in get-at (map.insert m x to) y there q is ∙ sym (get-other (map.insert m y there) x to q off ∙ get-at m y there q is))
+    (λ k. let is = eqb-true q y k in get-at (map.insert m x to) y there q is ∙ sym (get-other (map.insert m y there) x to q off ∙ get-at m y there q is))
     (λ k.
-    let far = eqb-ne q y k in
+    let far = eqb-false q y k in
     get-other (map.insert m x to) y there q far ∙ get-other m x to q off ∙ sym (get-other (map.insert m y there) x to q off ∙ get-other m y there q far))))
 
 -- The entries of the children of a shard.

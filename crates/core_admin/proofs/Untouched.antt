@@ -6,13 +6,14 @@ use Rattle.dc_node.specs.declared.entry.Entry.{Entry}
 use Rattle.row_ledger.specs.Past.{Query}
 use Rattle.shard_store.specs.Gate.{root_entry}
 use Rattle.shard_store.specs.declared.gate.Gate.{Gate}
-use Rattle.tree_shape.specs.Counts.{Each}
+use Rattle.list_words.specs.Counts.{Each}
+use Rattle.list_words.proofs.Each.{each-map}
+use Rattle.list_words.proofs.Truth.{on_bool}
+use Rattle.std.proofs.lemmas.Bool.{eqb-false}
 use Rattle.tree_shape.specs.Laws.{OtherLaw}
 use Rattle.tree_shape.specs.Queries.{fits}
 use Rattle.tree_shape.specs.Shape.{Node, gate_node, node_of, nodes}
 use Rattle.tree_shape.specs.Steps.{AfterOther, AreSpares, IsSpare, LeavesTree}
-use Rattle.tree_shape.proofs.Divisions.{each-map}
-use Rattle.tree_shape.proofs.Walks.{on_bool, eqb-ne}
 use Rattle.volap_cell.specs.Errands.{ReadPart}
 use Rattle.volap_cell.specs.Ghost.{Ghost, InTree}
 use Rattle.volap_cell.specs.Growing.{Growing, table_of}
@@ -41,7 +42,7 @@ module _ (s : Setting) (v : View) (g : Ghost) (other : OtherLaw) (i : InvWith s 
   node-same : (d y : ℕ) → Whole d → (g.shape d).inside y ≡ true → nodes (cells_at blocks_now trees_now d) y ≡ nodes (cells_at v.blocks v.trees d) y
   node-same d y w inside = on_bool (eqb y d)
       (λ q. rw q (ap gate_node (trees_off d w.0)))
-      (λ q. rw q (ap node_of (off y d (i.stocking.tree d y w inside (eqb-ne y d q)).0)))
+      (λ q. rw q (ap node_of (off y d (i.stocking.tree d y w inside (eqb-false y d q)).0)))
 
   pub growing-off : Growing s v.row blocks_now trees_now v.gates v.phases v.pins g.shape
   growing-off = record { tree = λ d w. (apart d w).tree }

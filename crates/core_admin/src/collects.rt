@@ -168,7 +168,7 @@ fn push_row(row: &Row, rows: &mut Vec<Row>)
     rows.push_reserved(Row {
         no: row.no,
         at: Coord { at: row.at.at },
-        measure: row.measure,
+        measures: row.measures,
     });
 }
 

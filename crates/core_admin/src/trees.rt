@@ -19,7 +19,7 @@ use crate::freezes::copy_of;
 use cell_stock::{Purse, Spare};
 use dc_node::Block;
 use describing_set::{Plane, goes_left};
-use dim_hierarchy::{ConceptId, Coord, Hierarchy, Items, Row};
+use dim_hierarchy::{ConceptId, Coord, Hierarchy, Items, Measures, Row};
 use link_descent::Fresh;
 use shard_build::{Built, build};
 use shard_codec::{CodecFault, decode, encode, text_laws};
@@ -320,10 +320,10 @@ fn passed_on(alloc: Global, h: &Hierarchy, rows: &[Row]) -> Result<Vec<Row>, All
 fn row_fits(row: &Row)
     ensures places { length row.now.at.at ≡ 8 }
     ensures number { row.now.no < 2 ^ 64 }
-    ensures measure { FitsSigned w64 row.now.measure }
+    ensures measures { FitsSigned w64 row.now.measures }
 {
     number_fits(row.no);
-    measure_fits(row.measure);
+    measures_fit(row.measures);
     places_fit(&row.at.at);
 }
 
@@ -335,10 +335,10 @@ fn number_fits(no: u64)
 }
 
 /// So does a measure.
-fn measure_fits(measure: i64)
-    ensures { FitsSigned w64 measure }
+fn measures_fit(measures: Measures)
+    ensures { FitsSigned w64 measures }
 {
-    let _ = measure;
+    let _ = measures;
 }
 
 /// So does a coordinate.
@@ -405,7 +405,7 @@ fn add_row(rows: &mut Vec<Row>, row: &Row) -> Result<(), AllocError>
     rows.push_reserved(Row {
         no: row.no,
         at: Coord { at: row.at.at },
-        measure: row.measure,
+        measures: row.measures,
     });
     Ok(())
 }

@@ -2,7 +2,7 @@
 use Rattle.std.proofs.Common.{◌≡◌, ◌≢◌, ℕ, ◌+◌, ◌<◌, List, [], ◌∷◌, Bool, true, false, eqb, length, Option, Some, None, option_and_then, refl, sym, ap, ◌∙◌, subst, arith, inl, inr, ◌==◌, ◌&&◌, All, Contains}
 use Rattle.std.specs.Option.{option_map_or}
 use Rattle.std.specs.Prelude.{sum_by}
-use Rattle.std.proofs.lemmas.Bool.{and_right, false≢true}
+use Rattle.std.proofs.lemmas.Bool.{and_right, false≢true, eqb-true, eqb-false, ne_eqb}
 use Rattle.std.proofs.lemmas.List.Elements.{All-head}
 use Rattle.dim_hierarchy.specs.Dimension.{Dimension}
 use Rattle.query_router.specs.Desk.{DeskValue, is_taken, state_is_taken}
@@ -18,7 +18,7 @@ use Rattle.row_ledger.specs.declared.event.Event.TheVariants.{Acked}
 use Rattle.row_ledger.proofs.Ended.{acked-ended}
 use Rattle.row_ledger.proofs.Fresh.{kind-within}
 use Rattle.server_image.specs.Image.{ImageValue}
-use Rattle.tree_shape.proofs.Walks.{on_bool, eqb-eq, eqb-ne, eqb-self, eqb-no}
+use Rattle.list_words.proofs.Truth.{on_bool, eqb-self}
 use Rattle.volap_cell.specs.Desking.{Desking}
 use Rattle.volap_cell.specs.Falls.{control_of, far, gates_of_errand, gates_of_part, gates_of_state, gates_of_work, gone_left, job_left, left, of_work, one_if_any, rows_of_errand, rows_of_part}
 use Rattle.volap_cell.specs.Ghost.{Ghost}
@@ -39,7 +39,7 @@ use Rattle.volap_cell.specs.declared.command.Work.TheVariants as work_is
 use Rattle.volap_cell.specs.declared.kind.Kind.TheVariants as kind
 use Rattle.volap_cell.specs.declared.role.Role.{Role}
 use Rattle.volap_cell.specs.declared.role.Role.TheVariants.{Admin, Session}
-use Rattle.volap_cell.proofs.AckedHistory.{ack-changes, placing-acked, inserting-acked, imaging-acked, covering-acked, desking-acked, querying-acked, working-acked, balancing-acked, telling-acked, few-acked, lineage-acked, growing-acked, queueing-acked, resting-acked, Contains-first}
+use Rattle.volap_cell.proofs.AckedHistory.{ack-changes, placing-acked, inserting-acked, imaging-acked, covering-acked, desking-acked, querying-acked, working-acked, balancing-acked, telling-acked, few-acked, lineage-acked, growing-acked, queueing-acked, resting-acked}
 use Rattle.volap_cell.proofs.BookViews.{by_ack, view-ack}
 use Rattle.volap_cell.proofs.Books.{desk-image-event}
 use Rattle.volap_cell.proofs.Ahead.{command-stays, errand-stays, job-stays, parts-stay}
@@ -52,6 +52,7 @@ use Rattle.volap_cell.proofs.Sums.{sum-changed, sum-kept, sum-same}
 use Rattle.core_image.proofs.Clears.{cleared-desking, cleared-inserting, cleared-leading, cleared-querying, ended-balancing, ended-inserting, ended-numbering, ended-working, still-has}
 use Rattle.core_image.proofs.Rows.{row-coords, may-coords, begun-of}
 use Rattle.core_image.proofs.Widens.{IsPlacedRow, covering-now, imaging-now, inserting-now, leading-now, noted-now, row-covered}
+use Rattle.list_words.proofs.Elements.{Contains-first}
 
 module _ (d im l : Change) (b : ActorValue) (s : Setting) (w : World) (n : ℕ) (g : Ghost) (i : InvWith s (view s w) g) (ag : Agrees w (d ∷ im ∷ l ∷ []) n (w.actors n)) (does : DoesAck s.hierarchy d im l (w.actors n) b) where
   abbrev cs : List Change
@@ -201,15 +202,15 @@ module _ (d im l : Change) (b : ActorValue) (s : Setting) (w : World) (n : ℕ) 
       let old = i.owing.image x lt in
       on_bool (eqb x server)
       (λ q.
-      let is = eqb-eq x server q in
+      let is = eqb-true x server q in
       let one : f n ≡ 1 = was ∙ ap (λ (y : ℕ). one_if ((server == y) && true)) is ∙ (rw (eqb-self server) refl) in
       let sums = sum-changed (actor_count s) f k n others few in
       let now : (v2.images x).owed ≡ does.image_now.owed = ap (λ (y : ImageValue). y.owed) (ap v2.images is ∙ image-turned.is_there) in
       let before : (v.images x).owed ≡ does.image.owed = ap (λ (y : ImageValue). y.owed) (ap v.images is ∙ image-turned.was_there) in
       let less = does.grows.owed in omega (arith, one, none, sums, now, before, less, old))
       (λ q.
-      let ne = eqb-ne x server q in
-      let zero_ : f n ≡ 0 = was ∙ ap (λ (y : Bool). one_if (y && true)) (eqb-no server x (λ z. ne (sym z))) in
+      let ne = eqb-false x server q in
+      let zero_ : f n ≡ 0 = was ∙ ap (λ (y : Bool). one_if (y && true)) (ne_eqb server x (λ z. ne (sym z))) in
       ap (λ (y : ImageValue). y.owed) (image-turned.elsewhere x ne) ∙ old ∙ sym (sum-kept (actor_count s) f k n others (none ∙ sym zero_)))
 
   owing-now : Owing s (e ∷ h) v2.promised v2.images v2.desks v.roles v2.commands v.counted_in
@@ -223,9 +224,9 @@ module _ (d im l : Change) (b : ActorValue) (s : Setting) (w : World) (n : ℕ) 
     few = few-acked h of way v.promised v2.promised pushed.promised_is i.owing.few;
     image = owed-image;
     sessions = λ x lt. on_bool (eqb x server)
-        (λ q. let is = eqb-eq x server q in
+        (λ q. let is = eqb-true x server q in
         ap (λ (y : DeskValue). y.sessions) (ap v2.desks is ∙ desk-turned.is_there) ∙ sym (ap (λ (y : DeskValue). y.sessions) (ap v.desks is ∙ desk-turned.was_there)) ∙ i.owing.sessions x lt)
-        (λ q. ap (λ (y : DeskValue). y.sessions) (desk-turned.elsewhere x (eqb-ne x server q)) ∙ i.owing.sessions x lt);
+        (λ q. ap (λ (y : DeskValue). y.sessions) (desk-turned.elsewhere x (eqb-false x server q)) ∙ i.owing.sessions x lt);
   }
 
   -- All parts.
@@ -287,8 +288,8 @@ module _ (d im l : Change) (b : ActorValue) (s : Setting) (w : World) (n : ℕ) 
   -- what an insert doesn't count for once its part was routed
   work-kept : (f : Work → ℕ) → f (work_is.Insert does.row true) ≡ 0 → (a : ℕ) → of_work f (w2.actors a).command ≡ of_work f (w.actors a).command
   work-kept f none a = on_bool (eqb a n)
-      (λ q. let is = eqb-eq a n q in ap (of_work f) (ap v2.commands is ∙ end.is_there) ∙ sym (ap (of_work f) (ap v.commands is ∙ does.command) ∙ none))
-      (λ q. ap (of_work f) (end.elsewhere a (eqb-ne a n q)))
+      (λ q. let is = eqb-true a n q in ap (of_work f) (ap v2.commands is ∙ end.is_there) ∙ sym (ap (of_work f) (ap v.commands is ∙ does.command) ∙ none))
+      (λ q. ap (of_work f) (end.elsewhere a (eqb-false a n q)))
 
   control-same : (left s w2 g).control ≡ (left s w g).control
   control-same =
@@ -303,11 +304,11 @@ module _ (d im l : Change) (b : ActorValue) (s : Setting) (w : World) (n : ℕ) 
   gates-desk : (x : ℕ) → sum_by (gates_of_part s (e ∷ h)) (v2.desks x).parts ≡ sum_by (gates_of_part s h) (v.desks x).parts
   gates-desk x = on_bool (eqb x server)
       (λ q.
-      let is = eqb-eq x server q in
+      let is = eqb-true x server q in
       let far_ = far s.workers h does.part.shard does.part.worker in
       ap (λ (y : DeskValue). sum_by (gates_of_part s (e ∷ h)) y.parts) (ap v2.desks is ∙ desk-turned.is_there)
       ∙ sym (ap (λ (y : DeskValue). sum_by (gates_of_part s h) y.parts) (ap v.desks is ∙ desk-turned.was_there) ∙ ap (sum_by (gates_of_part s h)) does.parts ∙ ap (λ (st : PartState). 0 + gates_of_state far_ does.part.path st) does.placed))
-      (λ q. ap (λ (y : DeskValue). sum_by (gates_of_part s (e ∷ h)) y.parts) (desk-turned.elsewhere x (eqb-ne x server q)) ∙ parts-stay s e h stay refl (v.desks x).parts)
+      (λ q. ap (λ (y : DeskValue). sum_by (gates_of_part s (e ∷ h)) y.parts) (desk-turned.elsewhere x (eqb-false x server q)) ∙ parts-stay s e h stay refl (v.desks x).parts)
 
   gates-same : (left s w2 g).gates ≡ (left s w g).gates
   gates-same =

@@ -1,6 +1,6 @@
 -- What the parts of a query have counted when all are done is together a list of rows that its answer may be: each row once, all that
 -- it must hold, and none but such as never fail and match its filter.
-use Rattle.std.proofs.Common.{◌≡◌, ◌≢◌, ℕ, ◌^◌, ◌<◌, ◌≤◌, List, [], ◌∷◌, ◌++◌, Bool, true, false, eqb, length, map, Some, None, refl, sym, ap, ◌∙◌, subst, arith, inl, inr, ◌==◌, ◌||◌, ◌⊎◌, All, Contains, IsTrue, eq-eqb}
+use Rattle.std.proofs.Common.{◌≡◌, ◌≢◌, ℕ, ◌^◌, ◌<◌, ◌≤◌, List, [], ◌∷◌, ◌++◌, Bool, true, false, length, map, Some, None, refl, sym, ap, ◌∙◌, subst, arith, inl, inr, ◌==◌, ◌||◌, ◌⊎◌, All, Contains, IsTrue, eq-eqb}
 use Rattle.std.specs.Prelude.{nat_eq, if◌then◌else◌}
 use Rattle.std.specs.List.{AllByRecursion, IsDistinct, list_any}
 use Rattle.std.proofs.lemmas.Bool.{cases_lt, false_from_ne_true, false≢true}
@@ -25,11 +25,10 @@ use Rattle.row_ledger.specs.Right.{EachEvent, Stands}
 use Rattle.row_ledger.specs.declared.event.Event.{Event}
 use Rattle.row_ledger.proofs.Answering.{All-acked_before}
 use Rattle.row_ledger.proofs.Descent.{comes_from-comparable, live-made}
-use Rattle.row_ledger.proofs.Elements.{Contains-map, Contains-nil}
-use Rattle.tree_shape.specs.Counts.{times}
+use Rattle.list_words.proofs.Elements.{Contains-map, Contains-nil, Contains-first}
+use Rattle.list_words.specs.Counts.{times}
+use Rattle.list_words.proofs.Times.{times-append, same_is, times-contains, contains-times}
 use Rattle.tree_shape.specs.Queries.{fits}
-use Rattle.tree_shape.proofs.Visits.{times-append}
-use Rattle.tree_shape.proofs.Walks.{on_bool, eqb-eq, eqb-ne, same_is, same_not}
 use Rattle.volap_cell.specs.Desking.{AreLinesApart, AreUnrelated}
 use Rattle.volap_cell.specs.Ghost.{Ghost}
 use Rattle.volap_cell.specs.Growing.{table_of}
@@ -38,7 +37,6 @@ use Rattle.volap_cell.specs.Querying.{HoldsOr, IsCounted, IsEndOfPart, must_hold
 use Rattle.volap_cell.specs.Setting.{Setting, site_in}
 use Rattle.volap_cell.specs.View.{View, view}
 use Rattle.volap_cell.specs.World.{World}
-use Rattle.volap_cell.proofs.AckedHistory.{Contains-first}
 use Rattle.volap_cell.proofs.GrowsKnown.{known-acked, older-rows}
 use Rattle.core_image.proofs.Valid.{acked-placed, placed-number, placed-usable}
 
@@ -97,19 +95,6 @@ from-part counted (x ∷ xs) p r has some =
       | inl here ↦ let first : 1 ≤ times r (counted x.shard) = subst (λ (y : Part). 1 ≤ times r (counted y.shard)) (sym here) some in omega (arith, both, first)
       | inr later ↦ let rest = from-part counted xs p r later some in omega (arith, both, rest)
     ]
-
-times-contains : (r : ℕ) (xs : List ℕ) → 1 ≤ times r xs → Contains xs r
-times-contains r [] some = absurd (omega (arith, some))
-times-contains r (x ∷ xs) some = on_bool (eqb r x)
-    (λ q. (0, omega arith, sym (eqb-eq r x q)))
-    (λ q. let none = same_not r x (eqb-ne r x q) in let later = times-contains r xs (omega (arith, some, none)) in Contains-append_right (x ∷ []) xs r later)
-
-contains-times : (r : ℕ) (xs : List ℕ) → Contains xs r → 1 ≤ times r xs
-contains-times r [] has = absurd (Contains-nil r has)
-contains-times r (x ∷ xs) has = elim (Contains-first x xs r has) [
-  | inl here ↦ let one = same_is r x (sym here) in omega (arith, one)
-  | inr later ↦ let rest = contains-times r xs later in omega (arith, rest)
-]
 
 -- numbers that are there once each differ
 

@@ -2,7 +2,7 @@
 use Rattle.std.proofs.Common.{◌≡◌, ◌≢◌, ℕ, ◌<◌, List, [], ◌∷◌, true, eqb, length, Option, Some, None, option_and_then, refl, sym, ap, ◌∙◌, subst, arith, inl, inr, ◌&&◌, Contains}
 use Rattle.std.specs.Prelude.{sum_by}
 use Rattle.std.specs.Option.{option_map_or}
-use Rattle.std.proofs.lemmas.Bool.{false≢true}
+use Rattle.std.proofs.lemmas.Bool.{false≢true, eqb-true, eqb-false}
 use Rattle.std.proofs.lemmas.List.Elements.{All-contains_itself, All-weaker}
 use Rattle.dim_hierarchy.specs.Dimension.{Dimension}
 use Rattle.measure_agg.specs.Aggregate.{Aggregate}
@@ -16,7 +16,7 @@ use Rattle.row_ledger.specs.Kept.{KeepsRight}
 use Rattle.row_ledger.specs.declared.event.Event.{Event}
 use Rattle.row_ledger.specs.declared.event.Event.TheVariants.{Answered}
 use Rattle.row_ledger.proofs.Growth.{KeepsRight-answered}
-use Rattle.tree_shape.proofs.Walks.{on_bool, eqb-eq, eqb-ne}
+use Rattle.list_words.proofs.Truth.{on_bool}
 use Rattle.volap_cell.specs.Falls.{control_of, far, gates_of_state, gates_of_work, left, of_work, queries_of_state, queries_of_work, rows_of_part}
 use Rattle.volap_cell.specs.Ghost.{Ghost}
 use Rattle.volap_cell.specs.ImageKinds.{DoesAnswer, cleared, doing}
@@ -169,9 +169,9 @@ module _ (d l : Change) (b : ActorValue) (s : Setting) (w : World) (n : ℕ) (g 
         (λ a ne. ap (λ (c : Option Command). one_if (serves x (v.roles a) && is_insert c)) (end.elsewhere a ne))
         (ap (λ (c : Option Command). one_if (serves x (v.roles n) && is_insert c)) end.is_there ∙ sym (ap (λ (c : Option Command). one_if (serves x (v.roles n) && is_insert c)) does.command)));
     sessions = λ x lt. on_bool (eqb x server)
-        (λ q. let is = eqb-eq x server q in
+        (λ q. let is = eqb-true x server q in
         ap (λ (y : DeskValue). y.sessions) (ap v2.desks is ∙ desk-turned.is_there) ∙ sym (ap (λ (y : DeskValue). y.sessions) (ap v.desks is ∙ desk-turned.was_there)) ∙ i.owing.sessions x lt)
-        (λ q. ap (λ (y : DeskValue). y.sessions) (desk-turned.elsewhere x (eqb-ne x server q)) ∙ i.owing.sessions x lt);
+        (λ q. ap (λ (y : DeskValue). y.sessions) (desk-turned.elsewhere x (eqb-false x server q)) ∙ i.owing.sessions x lt);
   }
 
   -- All parts.

@@ -1,7 +1,7 @@
 -- A query that begins keeps the invariant, and brings no more than its own work with it.
 use Rattle.std.proofs.Common.{◌≡◌, ◌≢◌, ℕ, ◌+◌, ◌^◌, ◌<◌, ◌≤◌, List, [], ◌∷◌, true, false, cond, eqb, length, map, Option, Some, None, refl, sym, ap, ◌∙◌, subst, arith, inl, inr, ◌&&◌, All, Any, Contains}
 use Rattle.std.specs.Prelude.{IsSome, sum_by}
-use Rattle.std.proofs.lemmas.Bool.{false≢true}
+use Rattle.std.proofs.lemmas.Bool.{false≢true, eqb-true, eqb-false, ne_eqb}
 use Rattle.std.proofs.lemmas.List.Elements.{All-contains, All-contains_itself, All-map, All-weaker}
 use Rattle.dim_hierarchy.specs.Filter.{IsFilterOf}
 use Rattle.describing_set.specs.Sets.{IsDescSetOf}
@@ -18,11 +18,11 @@ use Rattle.row_ledger.specs.declared.event.Event.{Event}
 use Rattle.row_ledger.specs.declared.event.Event.TheVariants.{Asked}
 use Rattle.row_ledger.specs.Bounds.{known}
 use Rattle.row_ledger.specs.Laws.{AscendFrom}
-use Rattle.row_ledger.proofs.Elements.{Contains-filter, Contains-filtered, Contains-map}
+use Rattle.list_words.proofs.Elements.{Contains-filter, Contains-filtered, Contains-map}
 use Rattle.row_ledger.proofs.Growth.{KeepsRight-asked}
 use Rattle.server_image.specs.Image.{ImageValue, planned}
 use Rattle.tree_shape.specs.Queries.{fits}
-use Rattle.tree_shape.proofs.Walks.{on_bool, eqb-eq, eqb-ne, eqb-no, eqb-self}
+use Rattle.list_words.proofs.Truth.{on_bool, eqb-self}
 use Rattle.volap_cell.specs.Desking.{IsQueryPart, IsQueryState, IsTaken, AreLinesApart, is_on_desk}
 use Rattle.volap_cell.specs.Errands.{ReadPart, Taken}
 use Rattle.volap_cell.specs.Falls.{control_of, gates_of_part, gates_of_work, left, of_work, rows_of_part}
@@ -190,9 +190,9 @@ module _ (d im l : Change) (b : ActorValue) (s : Setting) (w : World) (n : ℕ) 
         (λ a ne. ap (λ (c : Option Command). one_if (serves x (v.roles a) && is_insert c)) (begins.elsewhere a ne))
         (ap (λ (c : Option Command). one_if (serves x (v.roles n) && is_insert c)) begins.is_there ∙ sym (ap (λ (c : Option Command). one_if (serves x (v.roles n) && is_insert c)) begins.was_there)));
     sessions = λ x lt. on_bool (eqb x server)
-        (λ z. let is = eqb-eq x server z in
+        (λ z. let is = eqb-true x server z in
         ap (λ (y : DeskValue). y.sessions) (ap v2.desks is ∙ laid-there.is_there) ∙ sym (ap (λ (y : DeskValue). y.sessions) (ap v.desks is ∙ laid-there.was_there)) ∙ i.owing.sessions x lt)
-        (λ z. ap (λ (y : DeskValue). y.sessions) (laid-there.elsewhere x (eqb-ne x server z)) ∙ i.owing.sessions x lt);
+        (λ z. ap (λ (y : DeskValue). y.sessions) (laid-there.elsewhere x (eqb-false x server z)) ∙ i.owing.sessions x lt);
   }
 
   -- The parts.
@@ -277,7 +277,7 @@ module _ (d im l : Change) (b : ActorValue) (s : Setting) (w : World) (n : ℕ) 
         (of-parts (λ (p : Part). is_taken p ≡ true → IsTaken v.taken server p) (λ x has on. absurd (false≢true on))) told.desking;
     pinning = i.pinning;
     querying = laid-querying s server does.desk (length h) parts v.desks v2.desks laid-there does.empty (e ∷ h) (row_at (e ∷ h)) v.blocks v.trees v.taken v.reads g.shape g.placed g.home g.counted counted
-        (λ x ne. rw (eqb-no x server ne) refl) untaken
+        (λ x ne. rw (ne_eqb x server ne) refl) untaken
         (λ other is. subst (λ (c : ℕ → List ℕ). All (λ (p : Part). is_refused p ≡ false → IsCounted s (e ∷ h) (row_at (e ∷ h)) g.placed g.home other p.shard (c p.shard)) parts) (sym none-counted)
         (of-parts (λ (p : Part). is_refused p ≡ false → IsCounted s (e ∷ h) (row_at (e ∷ h)) g.placed g.home other p.shard [])
         (λ x has kept. record { once = λ r. omega arith; fitting = λ r some. absurd (omega (arith, some)); under = λ r some. absurd (omega (arith, some)) })))

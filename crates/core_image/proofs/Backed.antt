@@ -4,7 +4,7 @@ use Rattle.std.proofs.Common.{◌≡◌, ℕ, ◌<◌, ◌≤◌, Bool, true, Op
 use Rattle.query_router.specs.Desk.{DeskValue}
 use Rattle.row_ledger.specs.LedgerValue.{LedgerValue}
 use Rattle.server_image.specs.Image.{ImageValue}
-use Rattle.tree_shape.proofs.Walks.{eqb-self}
+use Rattle.list_words.proofs.Truth.{eqb-self}
 use Rattle.volap_cell.specs.Cells.{DeskCell, ImageCell, LedgerCell}
 use Rattle.volap_cell.specs.Commands.{owes}
 use Rattle.volap_cell.specs.Desking.{is_on_desk}

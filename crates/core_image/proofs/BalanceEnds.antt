@@ -19,7 +19,7 @@ use Rattle.row_ledger.specs.declared.settings.How.TheVariants as how_is
 use Rattle.row_ledger.proofs.Answering.{All-acked_before}
 use Rattle.row_ledger.proofs.Ascent.{frontier-ascends}
 use Rattle.row_ledger.proofs.Descent.{comes_from-comparable, comes_from-self, live-made}
-use Rattle.row_ledger.proofs.Elements.{Contains-nil}
+use Rattle.list_words.proofs.Elements.{Contains-nil}
 use Rattle.row_ledger.proofs.SettledAnswer.{EachEvent-before, EachEvent-past}
 use Rattle.shard_plan.specs.Balancing.{plan}
 use Rattle.shard_plan.specs.declared.action.Action.{Action}

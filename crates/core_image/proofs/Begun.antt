@@ -1,6 +1,6 @@
 -- An actor that has no command gets one, which stands on no desk: what the parts keep that read commands.
 use Rattle.std.proofs.Common.{◌≡◌, ◌≢◌, ℕ, ◌<◌, List, Bool, false, eqb, Option, Some, None, sym, ap, ◌∙◌, ◌⊎◌, inl, inr, arith}
-use Rattle.std.proofs.lemmas.Bool.{false≢true}
+use Rattle.std.proofs.lemmas.Bool.{false≢true, eqb-true, eqb-false}
 use Rattle.cell_stock.specs.declared.purse.Spare.{Spare}
 use Rattle.dc_node.specs.declared.block.Block.{Block}
 use Rattle.dim_hierarchy.specs.declared.row.Row.{Row}
@@ -11,7 +11,7 @@ use Rattle.shard_store.specs.declared.gate.Gate.{Gate}
 use Rattle.shard_store.specs.declared.gate.Phase.{Phase}
 use Rattle.shard_store.specs.declared.queue.Queue.{Queue}
 use Rattle.tree_shape.specs.Shape.{Shape}
-use Rattle.tree_shape.proofs.Walks.{on_bool, eqb-eq, eqb-ne}
+use Rattle.list_words.proofs.Truth.{on_bool}
 use Rattle.volap_cell.specs.Cells.{Tag}
 use Rattle.volap_cell.specs.Desking.{Desking, is_on_desk}
 use Rattle.volap_cell.specs.Errands.{RowWay, Taken}
@@ -37,8 +37,8 @@ module _ (n : ℕ) (its : Command) (commands commands_now : ℕ → Option Comma
   -- who has one had it, or is this actor
   pub had-or-its : (a : ℕ) (c : Command) → commands_now a ≡ Some c → (commands a ≡ Some c) ⊎ ((a ≡ n) × (c ≡ its))
   had-or-its a c is = on_bool (eqb a n)
-      (λ q. let e = eqb-eq a n q in let same : ◌≡◌ {A = Option Command} (Some its) (Some c) = sym begin.is_there ∙ ap commands_now (sym e) ∙ is in inr (e, cc))
-      (λ q. inl (sym (begin.elsewhere a (eqb-ne a n q)) ∙ is))
+      (λ q. let e = eqb-true a n q in let same : ◌≡◌ {A = Option Command} (Some its) (Some c) = sym begin.is_there ∙ ap commands_now (sym e) ∙ is in inr (e, cc))
+      (λ q. inl (sym (begin.elsewhere a (eqb-false a n q)) ∙ is))
 
   pub begun-numbering : (s : Setting) (tags : ℕ → Tag) (numbers : ℕ → ℕ) (roles : ℕ → Role) (settings : ℕ → Setting) (counted_in : ℕ → Bool) (purses : ℕ → List Spare) (taken : ℕ → Option Taken) (jobs : ℕ → Option JobValue)
       → n < actor_count s → Numbering s tags numbers roles settings counted_in purses commands taken jobs → Numbering s tags numbers roles settings counted_in purses commands_now taken jobs

@@ -1,7 +1,7 @@
 -- A server's desk is cleared and the command on it ends: what the parts keep that read desks and commands and no event.
 use Rattle.std.proofs.Common.{◌≡◌, ◌≢◌, ℕ, ◌<◌, List, [], ◌∷◌, Bool, true, false, eqb, Option, Some, None, sym, ap, subst, ◌∙◌, ◌==◌, ◌&&◌, All, Any, Contains}
 use Rattle.std.specs.Prelude.{IsSome}
-use Rattle.std.proofs.lemmas.Bool.{and_parts}
+use Rattle.std.proofs.lemmas.Bool.{and_parts, eqb-true, eqb-false}
 use Rattle.std.proofs.lemmas.List.Elements.{All-nil}
 use Rattle.dim_hierarchy.specs.declared.row.Row.{Row}
 use Rattle.dc_node.specs.declared.block.Block.{Block}
@@ -15,7 +15,7 @@ use Rattle.shard_store.specs.declared.gate.Gate.{Gate}
 use Rattle.shard_store.specs.declared.gate.Phase.{Phase}
 use Rattle.shard_store.specs.declared.queue.Queue.{Queue}
 use Rattle.tree_shape.specs.Shape.{Shape}
-use Rattle.tree_shape.proofs.Walks.{on_bool, eqb-eq, eqb-ne}
+use Rattle.list_words.proofs.Truth.{on_bool}
 use Rattle.volap_cell.specs.Cells.{Tag}
 use Rattle.volap_cell.specs.Desking.{Desking, IsInsertState, IsQueryPart, IsQueryState, IsTaken, AreLinesApart}
 use Rattle.volap_cell.specs.Errands.{ReadPart, RowWay, Taken}
@@ -56,7 +56,7 @@ module _ (n : ℕ) (its : Command) (commands commands_now : ℕ → Option Comma
     about = i.about;
     beyond = i.beyond;
     nobody = λ a le. let (counted, purse, none, takes, job) = i.nobody a le in
-        (counted, purse, on_bool (eqb a n) (λ q. ap commands_now (eqb-eq a n q) ∙ end.is_there) (λ q. end.elsewhere a (eqb-ne a n q) ∙ none), takes, job);
+        (counted, purse, on_bool (eqb a n) (λ q. ap commands_now (eqb-true a n q) ∙ end.is_there) (λ q. end.elsewhere a (eqb-false a n q) ∙ none), takes, job);
     working = i.working;
     parts = i.parts;
     idle = i.idle;
@@ -99,8 +99,8 @@ module _ (s : Setting) (server : ℕ) (desk : DeskValue) (desks desks_now : ℕ 
   -- what holds of all parts still does
   all-parts : (P : ℕ → Part → Type 0) → ((x : ℕ) → x < s.servers → All (P x) (desks x).parts) → (x : ℕ) → x < s.servers → All (P x) (desks_now x).parts
   all-parts P all x within = on_bool (eqb x server)
-      (λ q. subst (λ (d : DeskValue). All (P x) d.parts) (sym (ap desks_now (eqb-eq x server q) ∙ new.is_there)) (All-nil (P x)))
-      (λ q. subst (λ (d : DeskValue). All (P x) d.parts) (sym (new.elsewhere x (eqb-ne x server q))) (all x within))
+      (λ q. subst (λ (d : DeskValue). All (P x) d.parts) (sym (ap desks_now (eqb-true x server q) ∙ new.is_there)) (All-nil (P x)))
+      (λ q. subst (λ (d : DeskValue). All (P x) d.parts) (sym (new.elsewhere x (eqb-false x server q))) (all x within))
 
   pub cleared-leading : (maps : ℕ → ℕ → Option Where) (images : ℕ → ImageValue) → Leading s maps images desks → Leading s maps images desks_now
   cleared-leading maps images i = record { spots = i.spots; parts = all-parts (λ x p. is_open p ≡ true → (p.worker < s.workers) × IsSome (maps p.worker p.shard)) i.parts }
@@ -135,8 +135,8 @@ module _ (s : Setting) (server : ℕ) (desk : DeskValue) (desks desks_now : ℕ 
     pub cleared-desking : (h : List Event) (taken : ℕ → Option Taken) → Desking s h desks roles commands taken → Desking s h desks_now roles commands_now taken
     cleared-desking h taken i = record {
       empty = λ x within op. on_bool (eqb x server)
-          (λ q. ap (λ (d : DeskValue). d.parts) (ap desks_now (eqb-eq x server q) ∙ new.is_there))
-          (λ q. subst (λ (d : DeskValue). d.op ≡ None → d.parts ≡ []) (sym (new.elsewhere x (eqb-ne x server q))) (i.empty x within) op);
+          (λ q. ap (λ (d : DeskValue). d.parts) (ap desks_now (eqb-true x server q) ∙ new.is_there))
+          (λ q. subst (λ (d : DeskValue). d.op ≡ None → d.parts ≡ []) (sym (new.elsewhere x (eqb-false x server q))) (i.empty x within) op);
       whose = λ x of within op.
           let ne = off x of op in
           let old = i.whose x of within (sym (ap (λ (d : DeskValue). d.op) (new.elsewhere x ne)) ∙ op) in

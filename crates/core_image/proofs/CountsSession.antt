@@ -3,7 +3,8 @@ use Rattle.std.proofs.Common.{◌≡◌, ◌≢◌, ◌⊎◌, ℕ, ◌+◌, ◌
 use mathlib.Core.Path.{fun_ext}
 use Rattle.dim_hierarchy.specs.Dimension.{Dimension}
 use Rattle.query_router.specs.Desk.{DeskValue}
-use Rattle.tree_shape.proofs.Walks.{on_bool, eqb-eq, eqb-ne, eqb-self, eqb-no}
+use Rattle.list_words.proofs.Truth.{on_bool, eqb-self}
+use Rattle.std.proofs.lemmas.Bool.{eqb-true, eqb-false, ne_eqb}
 use Rattle.core_image.specs.NotesDue.{CanCount, Counts, MayCount}
 use Rattle.volap_cell.proofs.Helds.{held-desk}
 use Rattle.volap_cell.specs.Cells.{CellValue, DeskCell, DeskOf, desk_in, tag_of}
@@ -40,13 +41,13 @@ counted-only : (desks desks_now : ℕ → DeskValue) (server : ℕ) (desk desk_n
     → (x : ℕ) → desks_now x ≡ record (desks x) { sessions = (desks_now x).sessions }
 counted-only desks desks_now server desk desk_now new ops parts x = on_bool (eqb x server)
     (λ q.
-    let e = eqb-eq x server q in
+    let e = eqb-true x server q in
     let was : desks x ≡ desk = ap desks e ∙ new.was_there in
     let now : desks_now x ≡ desk_now = ap desks_now e ∙ new.is_there in
     let o = ap (λ (y : DeskValue). y.op) now ∙ ops ∙ sym (ap (λ (y : DeskValue). y.op) was) in
     let p = ap (λ (y : DeskValue). y.parts) now ∙ parts ∙ sym (ap (λ (y : DeskValue). y.parts) was) in
     λ k. record (desks_now x) { op = o k; parts = p k })
-    (λ q. let same = new.elsewhere x (eqb-ne x server q) in
+    (λ q. let same = new.elsewhere x (eqb-false x server q) in
     let o = ap (λ (y : DeskValue). y.op) same in
     let p = ap (λ (y : DeskValue). y.parts) same in
     λ k. record (desks_now x) { op = o k; parts = p k })
@@ -137,7 +138,7 @@ module _ (d : Change) (b : ActorValue) (s : Setting) (w : World) (n : ℕ) (g : 
       let old = i.owing.sessions x lt in
       on_bool (eqb x server)
       (λ q.
-      let e = eqb-eq x server q in
+      let e = eqb-true x server q in
       let self : (server == x) ≡ true = ap (λ (y : ℕ). server == y) e ∙ eqb-self server in
       let a : f n ≡ one_if (w.actors n).counted = was ∙ ap (λ (y : Bool). one_if (y && (w.actors n).counted)) self in
       let c : k n ≡ one_if b.counted = now ∙ ap (λ (y : Bool). one_if (y && b.counted)) self in
@@ -147,8 +148,8 @@ module _ (d : Change) (b : ActorValue) (s : Setting) (w : World) (n : ℕ) (g : 
       let by = counted-by _ _ _ _ does.counts in
       omega (arith, a, c, sums, before, after_, by, old))
       (λ q.
-      let ne = eqb-ne x server q in
-      let off : (server == x) ≡ false = eqb-no server x (λ z. ne (sym z)) in
+      let ne = eqb-false x server q in
+      let off : (server == x) ≡ false = ne_eqb server x (λ z. ne (sym z)) in
       let a : f n ≡ 0 = was ∙ ap (λ (y : Bool). one_if (y && (w.actors n).counted)) off in
       let c : k n ≡ 0 = now ∙ ap (λ (y : Bool). one_if (y && b.counted)) off in
       ap (λ (y : DeskValue). y.sessions) (books.1.elsewhere x ne) ∙ old ∙ sym (sum-kept (actor_count s) f k n others (c ∙ sym a)))

@@ -18,7 +18,7 @@ use Rattle.shard_plan.specs.declared.action.Action.TheVariants as action
 use Rattle.std.specs.Prelude.{if◌then◌else◌}
 use Rattle.std.proofs.lemmas.Bool.{false≢true}
 use Rattle.row_ledger.specs.Right.{IsRightEnd, MayEnd, shows}
-use Rattle.tree_shape.proofs.Walks.{on_bool}
+use Rattle.list_words.proofs.Truth.{on_bool}
 use Rattle.volap_cell.specs.declared.command.Work.TheVariants as work_is
 use Rattle.core_image.proofs.CallsEnd.{IsEnding}
 use Rattle.volap_cell.specs.declared.command.Balance.{Balance}

@@ -2,7 +2,7 @@
 use Rattle.std.proofs.Common.{◌≡◌, ◌≢◌, ℕ, List, ◌∷◌, Bool, true, false, Option, Some, None, sym, ap, ◌∙◌, inl, inr, ◌||◌, ◌&&◌, ◌<◌, [], eqb, is_some, option_and_then, refl, zero, suc, arith, Contains}
 use Rattle.std.specs.List.{list_any}
 use Rattle.std.specs.Option.{option_map_or}
-use Rattle.std.proofs.lemmas.Bool.{false≢true, or_left, or_right}
+use Rattle.std.proofs.lemmas.Bool.{false≢true, or_left, or_right, eqb-true, eqb-false}
 use Rattle.dim_hierarchy.specs.declared.row.Row.{Row}
 use Rattle.query_router.specs.Desk.{DeskValue, is_open, verdict_of}
 use Rattle.query_router.specs.declared.part.Part.{Part}
@@ -14,11 +14,11 @@ use Rattle.row_ledger.specs.Past.{Insert, Query, event_at, has_ended, insert_at,
 use Rattle.row_ledger.specs.Kept.{KeepsRight}
 use Rattle.row_ledger.specs.declared.event.Event.{Event}
 use Rattle.row_ledger.specs.declared.event.Event.TheVariants.{Failed}
-use Rattle.row_ledger.proofs.Elements.{Contains-nil}
+use Rattle.list_words.proofs.Elements.{Contains-nil}
 use Rattle.row_ledger.proofs.Growth.{KeepsRight-failed}
 use Rattle.shard_store.specs.declared.queue.Queue.{Queue}
 use Rattle.tree_shape.specs.Shape.{Shape}
-use Rattle.tree_shape.proofs.Walks.{on_bool, eqb-eq, eqb-ne}
+use Rattle.list_words.proofs.Truth.{on_bool}
 use Rattle.volap_cell.specs.Desking.{Desking, is_on_desk}
 use Rattle.volap_cell.specs.Errands.{RowWay, Taken}
 use Rattle.volap_cell.specs.ImageKinds.{cleared, doing}
@@ -121,6 +121,6 @@ pub cleared-sessions : (s : Setting) (server : ℕ) (desk : DeskValue) (desks de
     → ((x : ℕ) → x < s.servers → (desks x).sessions ≡ sum_below (actor_count s) (λ a. one_if (serves x (roles a) && counted_in a)))
     → (x : ℕ) → x < s.servers → (desks_now x).sessions ≡ sum_below (actor_count s) (λ a. one_if (serves x (roles a) && counted_in a))
 cleared-sessions s server desk desks desks_now new roles counted_in is x lt = on_bool (eqb x server)
-    (λ q. let e = eqb-eq x server q in
+    (λ q. let e = eqb-true x server q in
     ap (λ (y : DeskValue). y.sessions) (ap desks_now e ∙ new.is_there) ∙ sym (ap (λ (y : DeskValue). y.sessions) (ap desks e ∙ new.was_there)) ∙ is x lt)
-    (λ q. ap (λ (y : DeskValue). y.sessions) (new.elsewhere x (eqb-ne x server q)) ∙ is x lt)
+    (λ q. ap (λ (y : DeskValue). y.sessions) (new.elsewhere x (eqb-false x server q)) ∙ is x lt)

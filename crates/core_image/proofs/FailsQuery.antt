@@ -15,7 +15,7 @@ use Rattle.row_ledger.proofs.Changes.{quiet}
 use Rattle.volap_cell.specs.Falls.{control_of, gates_of_errand, gates_of_work, job_left, left, of_work, queries_of_errand, queries_of_work}
 use Rattle.volap_cell.specs.Sums.{sum_below}
 use Rattle.volap_cell.specs.declared.command.Work.{Work}
-use Rattle.tree_shape.proofs.Walks.{on_bool}
+use Rattle.list_words.proofs.Truth.{on_bool}
 use Rattle.volap_cell.proofs.Beginnings.{no-query}
 use Rattle.volap_cell.specs.Ghost.{Ghost}
 use Rattle.volap_cell.specs.ImageKinds.{DoesNoteWith, FailsQuery, OfQuery, cleared}

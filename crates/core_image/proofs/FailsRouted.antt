@@ -32,7 +32,6 @@ use Rattle.volap_cell.specs.declared.command.Command.{Command}
 use Rattle.volap_cell.specs.declared.command.Work.TheVariants as work_is
 use Rattle.volap_cell.specs.declared.kind.Kind.TheVariants as kind
 use Rattle.volap_cell.specs.declared.role.Role.TheVariants.{Admin, Session}
-use Rattle.volap_cell.proofs.AckedHistory.{Contains-first}
 use Rattle.volap_cell.proofs.BookViews.{by_ack, view-fail_routed}
 use Rattle.volap_cell.proofs.Books.{DeskNew, EventNew, ImageNew, desk-image-event}
 use Rattle.volap_cell.proofs.Fields.{IsNewAt}
@@ -47,6 +46,7 @@ use Rattle.core_image.proofs.Ends.{cleared-sessions, ended-placing, insert-fails
 use Rattle.core_image.proofs.Owed.{owed-covering, owed-imaging, owed-insert, owed-inserting, owed-leading, owed-only, promises-now, with_owed}
 use Rattle.core_image.proofs.Remains.{control-changed, gates-changed, gates_on}
 use Rattle.core_image.proofs.Rows.{begun-of}
+use Rattle.list_words.proofs.Elements.{Contains-first}
 
 -- a path that isn't empty has one at least
 some-path : (path : List ℕ) → path ≢ [] → one_if_any path ≡ 1

@@ -11,7 +11,7 @@ use Rattle.row_ledger.specs.Listings.{places_of}
 use Rattle.row_ledger.specs.Past.{Pull, pull_in}
 use Rattle.row_ledger.specs.Shards.{Place, frontier, is_live, is_of, place, was_listed}
 use Rattle.row_ledger.specs.declared.event.Event.{Event}
-use Rattle.row_ledger.proofs.Elements.{Contains-map, Contains-mapped, Contains-nil}
+use Rattle.list_words.proofs.Elements.{Contains-map, Contains-mapped, Contains-nil}
 use Rattle.volap_cell.specs.Imaging.{IsSpotOf}
 
 -- a shard is at a place of these exactly where a spot of it is

@@ -1,47 +1,17 @@
 -- No shard comes from one that stands, but that one itself.
-use Rattle.std.proofs.Common.{◌≡◌, ◌≢◌, ℕ, ◌+◌, ◌≤◌, ◌<◌, List, [], ◌∷◌, ◌++◌, map, Bool, true, false, refl, sym, ap, subst, arith, ◌==◌, ◌∙◌, ◌||◌, ◌⊎◌, inl, inr, Contains, eq-eqb, eqb-true}
-use Rattle.std.specs.Prelude.{Option, Some, None, if◌then◌else◌, filter, not}
-use Rattle.std.proofs.lemmas.Bool.{cases_lt, cond_both, false≢true, or_cases}
+use Rattle.std.proofs.Common.{◌≡◌, ◌≢◌, ℕ, ◌+◌, ◌≤◌, ◌<◌, List, [], ◌∷◌, map, Bool, true, false, refl, sym, ap, subst, arith, ◌==◌, ◌∙◌, ◌||◌, inl, inr, eq-eqb, eqb-true}
+use Rattle.std.specs.Prelude.{if◌then◌else◌}
+use Rattle.std.proofs.lemmas.Bool.{cases_lt, cond_both, or_cases}
 use Rattle.std.proofs.lemmas.Bool.Decides.{nat_tests}
-use Rattle.std.proofs.lemmas.List.Elements.{Contains-append_cases}
 use Rattle.std.proofs.lemmas.List.Folds.{Any-from_list_any, list_any-from_Any}
 use Rattle.row_ledger.specs.declared.event.Event.{Event}
 use Rattle.row_ledger.specs.declared.event.Event.TheVariants.{Split, Moved}
 use Rattle.row_ledger.specs.Right.{Site, EachEvent, Stands}
-use Rattle.row_ledger.specs.Shards.{Place, children, comes_from, frontier, ids_made, is_live, is_of, parent_in, place, worker_of}
-use Rattle.row_ledger.proofs.Descent.{comes_from-made, live-made}
-use Rattle.row_ledger.proofs.Elements.{Contains-filtered, Contains-mapped, Contains-nil, IsTrue-filtered}
-use Rattle.volap_cell.proofs.AckedHistory.{Contains-first}
+use Rattle.row_ledger.specs.Shards.{Place, comes_from, frontier, ids_made, is_live, is_of, parent_in, place}
+use Rattle.row_ledger.proofs.Descent.{comes_from-made, live-made, live-split}
+use Rattle.list_words.proofs.Elements.{Contains-mapped}
 
 -- What stands behind an event.
-
--- behind a split: a child of its, or what stood before and is another one
-live-split : (workers : ℕ) (past : List Event) (of shard left right x : ℕ) → is_live workers (Split of shard left right ∷ past) x ≡ true
-    → ((is_live workers past x ≡ true) × (x ≢ shard)) ⊎ ((x ≡ left) ⊎ (x ≡ right))
-live-split workers past of shard left right x live =
-    let places = frontier workers past in
-    let kept = filter (λ (p : Place). not (is_of shard p)) places in
-    let worker = worker_of places shard in
-    let found = Any-from_list_any (is_of x) (kept ++ children left right worker) live in
-    let p : Place = found.1 in
-    let its : p.shard ≡ x = eqb-true p.shard x found.4 in
-    elim (Contains-append_cases kept (children left right worker) p (found.0, found.2, found.3)) [
-      | inl old ↦
-          let was = Contains-filtered (λ (y : Place). not (is_of shard y)) places p old in
-          let other = IsTrue-filtered (λ (y : Place). not (is_of shard y)) places p old in
-          inl (list_any-from_Any (is_of x) places (was.0, p, was.1, was.2, found.4), λ e. false≢true (sym (ap not (eq-eqb p.shard shard (its ∙ e))) ∙ other))
-      | inr new ↦ inr (child worker p its new)
-    ]
-  where
-    child : (worker : Option ℕ) (p : Place) → p.shard ≡ x → Contains (children left right worker) p → (x ≡ left) ⊎ (x ≡ right)
-    child None p its has = absurd (Contains-nil p has)
-    child (Some worker) p its has = elim (Contains-first (place left worker) (place right worker ∷ []) p has) [
-      | inl here ↦ inl (sym its ∙ sym (ap (λ (y : Place). y.shard) here))
-      | inr later ↦ elim (Contains-first (place right worker) [] p later) [
-        | inl here ↦ inr (sym its ∙ sym (ap (λ (y : Place). y.shard) here))
-        | inr none ↦ absurd (Contains-nil p none)
-      ]
-    ]
 
 -- behind a move: what stood before
 live-moved : (workers : ℕ) (past : List Event) (of shard worker x : ℕ) → is_live workers (Moved of shard worker ∷ past) x ≡ true → is_live workers past x ≡ true

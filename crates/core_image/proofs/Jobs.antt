@@ -2,7 +2,7 @@
 use Rattle.std.proofs.Common.{◌≡◌, ◌≢◌, ℕ, ◌<◌, ◌++◌, List, [], Bool, true, false, eqb, Option, Some, None, refl, sym, ap, ◌∙◌, subst, ◌⊎◌, inl, inr, arith}
 use Rattle.cell_stock.specs.Stock.{StockValue, cells_of}
 use Rattle.cell_stock.specs.declared.purse.Spare.{Spare}
-use Rattle.std.proofs.lemmas.Bool.{false≢true}
+use Rattle.std.proofs.lemmas.Bool.{false≢true, eqb-true, eqb-false}
 use Rattle.dc_node.specs.declared.block.Block.{Block}
 use Rattle.dc_node.specs.declared.todo.Item.{Item}
 use Rattle.row_ledger.specs.Workers.{is_on}
@@ -11,11 +11,11 @@ use Rattle.row_ledger.specs.declared.event.Event.{Event}
 use Rattle.shard_store.specs.declared.gate.Gate.{Gate}
 use Rattle.shard_store.specs.declared.gate.Phase.{Phase}
 use Rattle.shard_store.specs.declared.queue.Queue.{Queue}
-use Rattle.tree_shape.specs.Counts.{Each, times}
+use Rattle.list_words.specs.Counts.{Each, times}
+use Rattle.list_words.proofs.Truth.{on_bool}
 use Rattle.tree_shape.specs.Queries.{NoneWaits}
 use Rattle.tree_shape.specs.Shape.{Shape, nodes}
 use Rattle.tree_shape.specs.Steps.{AreApart, AreSpares}
-use Rattle.tree_shape.proofs.Walks.{on_bool, eqb-eq, eqb-ne}
 use Rattle.volap_cell.specs.Cells.{Tag}
 use Rattle.volap_cell.specs.Errands.{ReadPart, Taken}
 use Rattle.volap_cell.specs.Ghost.{Owner}
@@ -106,8 +106,8 @@ module _ (n : ℕ) (its : Command) (commands commands_now : ℕ → Option Comma
   -- who has a job had it, or it is the new one
   had-job : (a : ℕ) (j : JobValue) → jobs_now a ≡ Some j → ((a ≢ n) × (jobs a ≡ Some j)) ⊎ ((a ≡ n) × (job ≡ Some j))
   had-job a j is = on_bool (eqb a n)
-      (λ q. let e = eqb-eq a n q in inr (e, sym new.is_there ∙ ap jobs_now (sym e) ∙ is))
-      (λ q. let ne = eqb-ne a n q in inl (ne, sym (new.elsewhere a ne) ∙ is))
+      (λ q. let e = eqb-true a n q in inr (e, sym new.is_there ∙ ap jobs_now (sym e) ∙ is))
+      (λ q. let ne = eqb-false a n q in inl (ne, sym (new.elsewhere a ne) ∙ is))
 
   called : (j : JobValue) → job ≡ Some j → j.stage ≡ IsCalled
   called j is = (fresh j is).called
@@ -127,21 +127,21 @@ module _ (n : ℕ) (its : Command) (commands commands_now : ℕ → Option Comma
     working = λ a j is. elim (had-job a j is) [ inl t ↦ i.working a j t.1 | inr t ↦ ap roles t.0 ∙ (fresh j t.1).admin ];
     parts = i.parts;
     idle = λ a role jobless. i.idle a role (on_bool (eqb a n)
-        (λ q. ap jobs (eqb-eq a n q) ∙ new.was_there)
-        (λ q. sym (new.elsewhere a (eqb-ne a n q)) ∙ jobless));
+        (λ q. ap jobs (eqb-true a n q) ∙ new.was_there)
+        (λ q. sym (new.elsewhere a (eqb-false a n q)) ∙ jobless));
   }
 
   -- Spares and notes.
 
   spent-same : (a : ℕ) → spent_of (jobs_now a) ≡ spent_of (jobs a)
   spent-same a = on_bool (eqb a n)
-      (λ q. let e = eqb-eq a n q in ap (λ (x : ℕ). spent_of (jobs_now x)) e ∙ ap spent_of new.is_there ∙ spent-new job called ∙ sym (ap (λ (x : ℕ). spent_of (jobs x)) e ∙ ap spent_of new.was_there))
-      (λ q. ap spent_of (new.elsewhere a (eqb-ne a n q)))
+      (λ q. let e = eqb-true a n q in ap (λ (x : ℕ). spent_of (jobs_now x)) e ∙ ap spent_of new.is_there ∙ spent-new job called ∙ sym (ap (λ (x : ℕ). spent_of (jobs x)) e ∙ ap spent_of new.was_there))
+      (λ q. ap spent_of (new.elsewhere a (eqb-false a n q)))
 
   items-same : (a : ℕ) → items_of_job (jobs_now a) ≡ items_of_job (jobs a)
   items-same a = on_bool (eqb a n)
-      (λ q. let e = eqb-eq a n q in ap (λ (x : ℕ). items_of_job (jobs_now x)) e ∙ ap items_of_job new.is_there ∙ items-new job called ∙ sym (ap (λ (x : ℕ). items_of_job (jobs x)) e ∙ ap items_of_job new.was_there))
-      (λ q. ap items_of_job (new.elsewhere a (eqb-ne a n q)))
+      (λ q. let e = eqb-true a n q in ap (λ (x : ℕ). items_of_job (jobs_now x)) e ∙ ap items_of_job new.is_there ∙ items-new job called ∙ sym (ap (λ (x : ℕ). items_of_job (jobs x)) e ∙ ap items_of_job new.was_there))
+      (λ q. ap items_of_job (new.elsewhere a (eqb-false a n q)))
 
   pub begun-stocking : (stock : StockValue) (made : ℕ → Bool) (gates : ℕ → Option ℕ) (phases : ℕ → Option Phase) (pins : ℕ → ℕ) (gone : ℕ → List ℕ) (owner : ℕ → Owner) (shape : ℕ → Shape)
       → Stocking s stock made gates phases pins gone purses jobs owner shape → Stocking s stock made gates phases pins gone purses jobs_now owner shape

@@ -8,7 +8,8 @@ use Rattle.shard_store.specs.declared.gate.Gate.{Gate}
 use Rattle.shard_store.specs.declared.gate.Phase.{Phase}
 use Rattle.shard_store.specs.declared.queue.Queue.{Queue}
 use Rattle.tree_shape.specs.Shape.{Shape}
-use Rattle.tree_shape.proofs.Walks.{on_bool, eqb-eq, eqb-ne}
+use Rattle.list_words.proofs.Truth.{on_bool}
+use Rattle.std.proofs.lemmas.Bool.{eqb-true, eqb-false}
 use Rattle.volap_cell.specs.Cells.{Tag}
 use Rattle.volap_cell.specs.Errands.{ReadPart, Taken}
 use Rattle.volap_cell.specs.Ghost.{Owner}
@@ -43,28 +44,28 @@ module _ (n : ℕ) (its : Command) (commands commands_now : ℕ → Option Comma
     nobody = λ a le. let (counted, purse, none, takes, jobless) = i.nobody a le in (
       counted,
       purse,
-      on_bool (eqb a n) (λ q. ap commands_now (eqb-eq a n q) ∙ end.is_there) (λ q. end.elsewhere a (eqb-ne a n q) ∙ none),
+      on_bool (eqb a n) (λ q. ap commands_now (eqb-true a n q) ∙ end.is_there) (λ q. end.elsewhere a (eqb-false a n q) ∙ none),
       takes,
-      on_bool (eqb a n) (λ q. ap jobs_now (eqb-eq a n q) ∙ gone.is_there) (λ q. gone.elsewhere a (eqb-ne a n q) ∙ jobless),
+      on_bool (eqb a n) (λ q. ap jobs_now (eqb-true a n q) ∙ gone.is_there) (λ q. gone.elsewhere a (eqb-false a n q) ∙ jobless),
     );
     working = λ a j is. i.working a j (had-it a j is).1;
     parts = i.parts;
     idle = λ a role none. on_bool (eqb a n)
-        (λ q. let e = eqb-eq a n q in ap purses e ∙ empty (ap roles (sym e) ∙ role))
-        (λ q. i.idle a role (sym (gone.elsewhere a (eqb-ne a n q)) ∙ none));
+        (λ q. let e = eqb-true a n q in ap purses e ∙ empty (ap roles (sym e) ∙ role))
+        (λ q. i.idle a role (sym (gone.elsewhere a (eqb-false a n q)) ∙ none));
   }
 
   -- nothing was spent for the job, and nothing noted
 
   spent-gone : spent_of job ≡ [] → (a : ℕ) → spent_of (jobs_now a) ≡ spent_of (jobs a)
   spent-gone nothing a = on_bool (eqb a n)
-      (λ q. let e = eqb-eq a n q in ap (λ (x : ℕ). spent_of (jobs_now x)) e ∙ ap spent_of gone.is_there ∙ sym (ap (λ (x : ℕ). spent_of (jobs x)) e ∙ ap spent_of gone.was_there ∙ nothing))
-      (λ q. ap spent_of (gone.elsewhere a (eqb-ne a n q)))
+      (λ q. let e = eqb-true a n q in ap (λ (x : ℕ). spent_of (jobs_now x)) e ∙ ap spent_of gone.is_there ∙ sym (ap (λ (x : ℕ). spent_of (jobs x)) e ∙ ap spent_of gone.was_there ∙ nothing))
+      (λ q. ap spent_of (gone.elsewhere a (eqb-false a n q)))
 
   items-gone : items_of_job job ≡ [] → (a : ℕ) → items_of_job (jobs_now a) ≡ items_of_job (jobs a)
   items-gone nothing a = on_bool (eqb a n)
-      (λ q. let e = eqb-eq a n q in ap (λ (x : ℕ). items_of_job (jobs_now x)) e ∙ ap items_of_job gone.is_there ∙ sym (ap (λ (x : ℕ). items_of_job (jobs x)) e ∙ ap items_of_job gone.was_there ∙ nothing))
-      (λ q. ap items_of_job (gone.elsewhere a (eqb-ne a n q)))
+      (λ q. let e = eqb-true a n q in ap (λ (x : ℕ). items_of_job (jobs_now x)) e ∙ ap items_of_job gone.is_there ∙ sym (ap (λ (x : ℕ). items_of_job (jobs x)) e ∙ ap items_of_job gone.was_there ∙ nothing))
+      (λ q. ap items_of_job (gone.elsewhere a (eqb-false a n q)))
 
   pub jobless-stocking : spent_of job ≡ [] → (s : Setting) (purses : ℕ → List Spare) (stock : StockValue) (made : ℕ → Bool) (gates : ℕ → Option ℕ) (phases : ℕ → Option Phase) (pins : ℕ → ℕ) (cells : ℕ → List ℕ) (owner : ℕ → Owner) (shape : ℕ → Shape)
       → Stocking s stock made gates phases pins cells purses jobs owner shape → Stocking s stock made gates phases pins cells purses jobs_now owner shape

@@ -2,7 +2,7 @@
 -- no event.
 use Rattle.std.proofs.Common.{◌≡◌, ◌≢◌, ℕ, ◌<◌, List, [], ◌∷◌, Bool, true, false, eqb, Option, Some, None, sym, ap, subst, ◌∙◌, All, Any}
 use Rattle.std.specs.Prelude.{IsSome}
-use Rattle.std.proofs.lemmas.Bool.{false≢true}
+use Rattle.std.proofs.lemmas.Bool.{false≢true, eqb-true, eqb-false}
 use Rattle.dim_hierarchy.specs.declared.row.Row.{Row}
 use Rattle.dc_node.specs.declared.block.Block.{Block}
 use Rattle.mapping_table.specs.declared.place.Where.{Where}
@@ -14,7 +14,7 @@ use Rattle.server_image.specs.Image.{ImageValue}
 use Rattle.shard_store.specs.declared.gate.Gate.{Gate}
 use Rattle.tree_shape.specs.Queries.{fits}
 use Rattle.tree_shape.specs.Shape.{Shape}
-use Rattle.tree_shape.proofs.Walks.{on_bool, eqb-eq, eqb-ne}
+use Rattle.list_words.proofs.Truth.{on_bool}
 use Rattle.volap_cell.specs.Desking.{Desking, IsInsertState, IsQueryPart, IsQueryState, IsTaken, AreLinesApart, is_on_desk}
 use Rattle.volap_cell.specs.Errands.{ReadPart, RowWay, Taken}
 use Rattle.volap_cell.specs.Growing.{IsUnder, table_of}
@@ -43,22 +43,22 @@ module _ (s : Setting) (server : ℕ) (desk : DeskValue) (of : ℕ) (parts : Lis
       → (x b : ℕ) → (desks_now x).op ≡ Some b → P b x (desks_now x)
   of-each P here off x b op = on_bool (eqb x server)
       (λ q.
-      let e = eqb-eq x server q in
+      let e = eqb-true x server q in
       let same : desks_now x ≡ laid desk of parts = ap desks_now e ∙ new.is_there in
       let both : ◌≡◌ {A = Option ℕ} (Some of) (Some b) = sym (ap (λ (d : DeskValue). d.op) same) ∙ op in
       let number : of ≡ b = cc in
       subst (λ (y : ℕ). P y x (desks_now x)) number (subst (λ (y : ℕ). P of y (desks_now x)) (sym e) (subst (P of server) (sym same) here)))
       (λ q.
-      let ne = eqb-ne x server q in
+      let ne = eqb-false x server q in
       let same = new.elsewhere x ne in
       subst (P b x) (sym same) (off x b ne (sym (ap (λ (d : DeskValue). d.op) same) ∙ op)))
 
   -- what is so of the new parts and of all others is so of all
   all-parts : (P : ℕ → Part → Type 0) → All (P server) parts → ((x : ℕ) → x < s.servers → All (P x) (desks x).parts) → (x : ℕ) → x < s.servers → All (P x) (desks_now x).parts
   all-parts P here all x within = on_bool (eqb x server)
-      (λ q. let e = eqb-eq x server q in
+      (λ q. let e = eqb-true x server q in
       subst (λ (d : DeskValue). All (P x) d.parts) (sym (ap desks_now e ∙ new.is_there)) (subst (λ (y : ℕ). All (P y) parts) (sym e) here))
-      (λ q. subst (λ (d : DeskValue). All (P x) d.parts) (sym (new.elsewhere x (eqb-ne x server q))) (all x within))
+      (λ q. subst (λ (d : DeskValue). All (P x) d.parts) (sym (new.elsewhere x (eqb-false x server q))) (all x within))
 
   pub laid-leading : (maps : ℕ → ℕ → Option Where) (images : ℕ → ImageValue) → All (λ (p : Part). is_open p ≡ true → (p.worker < s.workers) × IsSome (maps p.worker p.shard)) parts
       → Leading s maps images desks → Leading s maps images desks_now
@@ -79,8 +79,8 @@ module _ (s : Setting) (server : ℕ) (desk : DeskValue) (of : ℕ) (parts : Lis
         → Desking s h desks roles commands taken → Desking s h desks_now roles commands_now taken
     laid-desking h taken insert query untaken i = record {
       empty = λ x within op. on_bool (eqb x server)
-          (λ q. let never : ◌≡◌ {A = Option ℕ} (Some of) None = sym (ap (λ (d : DeskValue). d.op) (ap desks_now (eqb-eq x server q) ∙ new.is_there)) ∙ op in absurd (cc))
-          (λ q. subst (λ (d : DeskValue). d.op ≡ None → d.parts ≡ []) (sym (new.elsewhere x (eqb-ne x server q))) (i.empty x within) op);
+          (λ q. let never : ◌≡◌ {A = Option ℕ} (Some of) None = sym (ap (λ (d : DeskValue). d.op) (ap desks_now (eqb-true x server q) ∙ new.is_there)) ∙ op in absurd (cc))
+          (λ q. subst (λ (d : DeskValue). d.op ≡ None → d.parts ≡ []) (sym (new.elsewhere x (eqb-false x server q))) (i.empty x within) op);
       whose = λ x b within op. of-each (λ b x d. x < s.servers → (a : ℕ) × (c : Command) × (commands_now a ≡ Some c) × (c.of ≡ b) × (roles a ≡ Session x) × (is_on_desk c.work ≡ true))
           (λ lt. (n, its, begins.is_there, number, role, on))
           (λ x b ne op lt.
@@ -89,13 +89,13 @@ module _ (s : Setting) (server : ℕ) (desk : DeskValue) (of : ℕ) (parts : Lis
           (a, c, begins.elsewhere a other ∙ has, is, serves, stood)) x b op within;
       on_desk = λ a x c has serves stood. on_bool (eqb a n)
           (λ q.
-          let e = eqb-eq a n q in
+          let e = eqb-true a n q in
           let same : its ≡ c = its-own n old its commands commands_now begins c (ap commands_now (sym e) ∙ has) in
           let servers : Session x ≡ Session server = sym serves ∙ ap roles e ∙ role in
           let here : x ≡ server = cc in
           ap (λ (d : DeskValue). d.op) (ap desks_now here ∙ new.is_there) ∙ ap Some (sym number) ∙ ap (λ (d : Command). Some d.of) same)
           (λ q.
-          let was = i.on_desk a x c (other-had n old its commands commands_now begins a c (eqb-ne a n q) has) serves stood in
+          let was = i.on_desk a x c (other-had n old its commands commands_now begins a c (eqb-false a n q) has) serves stood in
           ap (λ (d : DeskValue). d.op) (new.elsewhere x (was-off x c.of was)) ∙ was);
       insert = λ x b insert_ within op is. of-each (λ b x d. x < s.servers → insert_at h b ≡ Some insert_ → (p : Part) × (d.parts ≡ p ∷ []) × IsInsertState insert_ p.state)
           (λ lt begun. insert insert_ begun) (λ x b ne was lt begun. i.insert x b insert_ lt was begun) x b op within is;

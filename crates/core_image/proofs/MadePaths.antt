@@ -12,7 +12,7 @@ use Rattle.row_ledger.specs.Site.{Site}
 use Rattle.row_ledger.specs.declared.event.Event.{Event}
 use Rattle.row_ledger.specs.declared.event.Event.TheVariants.{Acked, Synced}
 use Rattle.row_ledger.proofs.Descent.{comes_from-older, ids_made-older, live-made}
-use Rattle.row_ledger.proofs.Elements.{Contains-nil}
+use Rattle.list_words.proofs.Elements.{Contains-nil}
 use Rattle.core_image.proofs.Hosts.{has-place}
 use Rattle.core_image.proofs.Paths.{child-comes}
 

@@ -42,9 +42,6 @@ module _ (hs : List Dimension) (ledger_at : ℕ) (how : How) (ledger : CellValue
   its-work : command.work ≡ due.work
   its-work = ap (λ (o : Option Command). option_map_or (λ (c : Command). c.work) o command.work) (sym has ∙ due.command)
 
-  its-number : command.of ≡ due.of
-  its-number = ap (λ (o : Option Command). option_map_or (λ (c : Command). c.of) o 0) (sym has ∙ due.command)
-
   command-here : (here.world.actors here.number).command ≡ doing due.of due.work
   command-here = ap (λ (x : ActorValue). x.command) here.agrees.actor_is ∙ due.command
 

@@ -1,12 +1,11 @@
 -- A balance leaves the action that it is at: that keeps the invariant, and less is left.
 use Rattle.std.proofs.Common.{◌≡◌, ◌≢◌, ℕ, suc, ◌+◌, ◌-◌, ◌*◌, ◌<◌, ◌≤◌, List, [], ◌∷◌, Bool, true, false, eqb, length, Option, Some, None, refl, sym, ap, ◌∙◌, subst, arith, ◌⊎◌, inl, inr, le_of_lt, option_map, option_and_then, slice_get, suc-mul}
 use Rattle.std.specs.Option.{option_map_or}
-use Rattle.std.proofs.lemmas.Bool.{cases_lt, false≢true}
+use Rattle.std.proofs.lemmas.Bool.{cases_lt, false≢true, eqb-true, eqb-false}
 use Rattle.dim_hierarchy.specs.Dimension.{Dimension}
 use Rattle.dim_hierarchy.specs.declared.row.Row.{Row}
 use Rattle.query_router.specs.Desk.{DeskValue}
 use Rattle.row_ledger.specs.Changes.{ShardsStay}
-use Rattle.row_ledger.specs.Past.{call_at}
 use Rattle.row_ledger.specs.Belonging.{number_in}
 use Rattle.row_ledger.specs.Kept.{KeepsRight}
 use Rattle.row_ledger.specs.Right.{MayLeave}
@@ -24,7 +23,7 @@ use Rattle.server_image.specs.Image.{ImageValue}
 use Rattle.shard_plan.specs.declared.action.Action.{Action}
 use Rattle.shard_store.specs.declared.queue.Queue.{Queue}
 use Rattle.tree_shape.specs.Shape.{Shape}
-use Rattle.tree_shape.proofs.Walks.{on_bool, eqb-eq, eqb-ne}
+use Rattle.list_words.proofs.Truth.{on_bool}
 use Rattle.std.proofs.lemmas.Option.{slice_get_past}
 use Rattle.row_ledger.specs.Workers.{is_on}
 use Rattle.row_ledger.specs.LedgerValue.{LedgerValue}
@@ -292,20 +291,20 @@ module _ (l : Change) (b : ActorValue) (s : Setting) (w : World) (n : ℕ) (g : 
 
   spent-same : (a : ℕ) → spent_of (v2.jobs a) ≡ spent_of (v.jobs a)
   spent-same a = on_bool (eqb a n)
-      (λ q. let x = eqb-eq a n q in ap (λ (y : ℕ). spent_of (v2.jobs y)) x ∙ ap spent_of new.is_there ∙ spent-new (next_job next) (λ j is. (its-next j is).0)
+      (λ q. let x = eqb-true a n q in ap (λ (y : ℕ). spent_of (v2.jobs y)) x ∙ ap spent_of new.is_there ∙ spent-new (next_job next) (λ j is. (its-next j is).0)
       ∙ sym (ap (λ (y : ℕ). spent_of (v.jobs y)) x ∙ ap spent_of new.was_there ∙ bare.0))
-      (λ q. ap spent_of (new.elsewhere a (eqb-ne a n q)))
+      (λ q. ap spent_of (new.elsewhere a (eqb-false a n q)))
 
   items-same : (a : ℕ) → items_of_job (v2.jobs a) ≡ items_of_job (v.jobs a)
   items-same a = on_bool (eqb a n)
-      (λ q. let x = eqb-eq a n q in ap (λ (y : ℕ). items_of_job (v2.jobs y)) x ∙ ap items_of_job new.is_there ∙ items-new (next_job next) (λ j is. (its-next j is).0)
+      (λ q. let x = eqb-true a n q in ap (λ (y : ℕ). items_of_job (v2.jobs y)) x ∙ ap items_of_job new.is_there ∙ items-new (next_job next) (λ j is. (its-next j is).0)
       ∙ sym (ap (λ (y : ℕ). items_of_job (v.jobs y)) x ∙ ap items_of_job new.was_there ∙ bare.1))
-      (λ q. ap items_of_job (new.elsewhere a (eqb-ne a n q)))
+      (λ q. ap items_of_job (new.elsewhere a (eqb-false a n q)))
 
   had-job : (a : ℕ) (j : JobValue) → v2.jobs a ≡ Some j → ((a ≢ n) × (v.jobs a ≡ Some j)) ⊎ ((a ≡ n) × (next_job next ≡ Some j))
   had-job a j is = on_bool (eqb a n)
-      (λ q. let x = eqb-eq a n q in inr (x, sym new.is_there ∙ ap v2.jobs (sym x) ∙ is))
-      (λ q. let ne = eqb-ne a n q in inl (ne, sym (new.elsewhere a ne) ∙ is))
+      (λ q. let x = eqb-true a n q in inr (x, sym new.is_there ∙ ap v2.jobs (sym x) ∙ is))
+      (λ q. let ne = eqb-false a n q in inl (ne, sym (new.elsewhere a ne) ∙ is))
 
   not-called : {A : Type 0} (f : StageValue → Option A) (j : JobValue) (x : A) → f IsCalled ≡ None → next_job next ≡ Some j → f j.stage ≡ Some x → ⊥
   not-called {A} f j x none is has = (let never : ◌≡◌ {A = Option A} None (Some x) = sym none ∙ ap f (sym (its-next j is).0) ∙ has in cc)
@@ -336,7 +335,7 @@ module _ (l : Change) (b : ActorValue) (s : Setting) (w : World) (n : ℕ) (g : 
   balancing-now = record {
     balance = λ a p k is. on_bool (eqb a n)
         (λ q.
-        let x = eqb-eq a n q in
+        let x = eqb-true a n q in
         let both : ◌≡◌ {A = Option Command} (Some its_now) (Some (record { of = p; work = work_is.Balance k })) = sym turn.is_there ∙ ap v2.commands (sym x) ∙ is in
         let same_of : of ≡ p = ap (λ (o : Option Command). option_map_or (λ (c : Command). c.of) o 0) both in
         let works : work_is.Balance next ≡ work_is.Balance k = ap (λ (o : Option Command). option_map_or (λ (c : Command). c.work) o work_is.Query) both in
@@ -346,7 +345,7 @@ module _ (l : Change) (b : ActorValue) (s : Setting) (w : World) (n : ℕ) (g : 
         (subst (λ (y : Balance). IsBalancing s (e ∷ h) g.placed g.home (next_job next) of y) same_balance
         (balancing-next s h g.placed g.home of does.balance job does.left_as bal is-next does.leaves declined (began n its does.command)))))
         (λ q.
-        let ne = eqb-ne a n q in
+        let ne = eqb-false a n q in
         let was : v.commands a ≡ Some (record { of = p; work = work_is.Balance k }) = sym (turn.elsewhere a ne) ∙ is in
         let other : number_in e ≢ Some p = (λ r. let mine : of ≡ p = cc in ne (only-its s h v.commands v.jobs v.roles v.seen g.placed i.telling n its does.command a _ was (sym mine))) in
         subst (λ (j : Option JobValue). IsBalancing s (e ∷ h) g.placed g.home j p k) (sym (new.elsewhere a ne))
@@ -368,8 +367,8 @@ module _ (l : Change) (b : ActorValue) (s : Setting) (w : World) (n : ℕ) (g : 
       working = λ a j is. elim (had-job a j is) [ inl t ↦ i.numbering.working a j t.1 | inr t ↦ ap v.roles t.0 ∙ progress.1 ];
       parts = i.numbering.parts;
       idle = λ a role none. on_bool (eqb a n)
-          (λ q. ap v.purses (eqb-eq a n q) ∙ i.working.unspent n job does.job_is bare.2)
-          (λ q. i.numbering.idle a role (sym (new.elsewhere a (eqb-ne a n q)) ∙ none));
+          (λ q. ap v.purses (eqb-true a n q) ∙ i.working.unspent n job does.job_is bare.2)
+          (λ q. i.numbering.idle a role (sym (new.elsewhere a (eqb-false a n q)) ∙ none));
     };
     telling = telling-goes-on s e h n v.commands v2.commands v.jobs v2.jobs v.roles v.seen v2.seen g.placed
         (record {

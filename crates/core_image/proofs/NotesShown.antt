@@ -3,7 +3,7 @@ use Rattle.std.proofs.Common.{◌≡◌, ◌≢◌, ℕ, ◌+◌, ◌<◌, ◌�
 use Rattle.std.specs.Prelude.{if◌then◌else◌}
 use Rattle.std.specs.List.{list_all}
 use Rattle.std.specs.Option.{option_map_or}
-use Rattle.std.proofs.lemmas.Bool.{and_from, false≢true}
+use Rattle.std.proofs.lemmas.Bool.{and_from, false≢true, eqb-true, eqb-false}
 use Rattle.dim_hierarchy.specs.Dimension.{Dimension}
 use Rattle.dim_hierarchy.specs.declared.row.Row.{Row}
 use Rattle.row_ledger.specs.LedgerValue.{LedgerValue}
@@ -20,7 +20,7 @@ use Rattle.row_ledger.specs.declared.settings.Call.{Call}
 use Rattle.row_ledger.proofs.Fresh.{kind-within}
 use Rattle.row_ledger.proofs.Growth.{KeepsRight-shown}
 use Rattle.row_ledger.proofs.Positions.{before-here, before-older, event_at-older}
-use Rattle.tree_shape.proofs.Walks.{on_bool, eqb-eq, eqb-ne}
+use Rattle.list_words.proofs.Truth.{on_bool}
 use Rattle.volap_cell.specs.Cells.{CellValue, LedgerCell, ledger_in}
 use Rattle.volap_cell.specs.Commands.{once_shown, owes}
 use Rattle.volap_cell.specs.Desking.{is_on_desk}
@@ -225,8 +225,8 @@ module _ (shown : Page) (l : Change) (b : ActorValue) (s : Setting) (w : World) 
   -- nobody else has a command
   only-one : (a : ℕ) (c : Command) → v.commands a ≡ Some c → its ≡ c
   only-one a c has = on_bool (eqb a n)
-      (λ q. let both : ◌≡◌ {A = Option Command} (Some its) (Some c) = sym does.command ∙ ap v.commands (sym (eqb-eq a n q)) ∙ has in cc)
-      (λ q. let idle = sees.alone a (eqb-ne a n q) in let never : ◌≡◌ {A = Option Command} None (Some c) = sym idle.command ∙ has in absurd (cc))
+      (λ q. let both : ◌≡◌ {A = Option Command} (Some its) (Some c) = sym does.command ∙ ap v.commands (sym (eqb-true a n q)) ∙ has in cc)
+      (λ q. let idle = sees.alone a (eqb-false a n q) in let never : ◌≡◌ {A = Option Command} None (Some c) = sym idle.command ∙ has in absurd (cc))
 
   -- What is shown.
 

@@ -1,7 +1,7 @@
 -- What is owed, where one actor's command is another one afterwards; and images that owe another number of acknowledgements.
 use Rattle.std.proofs.Common.{◌≡◌, ◌≢◌, ℕ, ◌+◌, ◌<◌, ◌^◌, ◌∙◌, List, ◌∷◌, Bool, true, false, eqb, length, sym, ap, arith, ◌==◌, ◌&&◌}
 use Rattle.std.specs.Prelude.{Option}
-use Rattle.std.proofs.lemmas.Bool.{and_right}
+use Rattle.std.proofs.lemmas.Bool.{and_right, eqb-true, eqb-false, ne_eqb}
 use Rattle.std.proofs.lemmas.List.Elements.{All-weaker}
 use Rattle.dim_hierarchy.specs.declared.row.Row.{Row}
 use Rattle.mapping_table.specs.declared.place.Where.{Where}
@@ -12,7 +12,7 @@ use Rattle.query_router.specs.declared.part.PartState.TheVariants as state
 use Rattle.row_ledger.specs.declared.event.Event.{Event}
 use Rattle.server_image.specs.Image.{ImageValue}
 use Rattle.server_image.specs.Registry.{RegistryValue}
-use Rattle.tree_shape.proofs.Walks.{on_bool, eqb-eq, eqb-ne, eqb-self, eqb-no}
+use Rattle.list_words.proofs.Truth.{on_bool, eqb-self}
 use Rattle.volap_cell.specs.Errands.{RowWay}
 use Rattle.volap_cell.specs.ImageKinds.{Pushes}
 use Rattle.volap_cell.specs.Imaging.{Covering, Imaging}
@@ -65,7 +65,7 @@ module _ (m n : ℕ) (there : n < m) (commands commands_now : ℕ → Option Com
         ap (λ (r : Role). one_if (serves x r && is_insert (commands_now n))) role ∙ ap (λ (c : Option Command). one_if ((server == x) && is_insert c)) turned.is_there in
         on_bool (eqb x server)
         (λ q.
-        let e = eqb-eq x server q in
+        let e = eqb-true x server q in
         let self : (server == x) ≡ true = ap (λ (y : ℕ). server == y) e ∙ eqb-self server in
         let sums = sum-changed m (counts x commands) (counts x commands_now) n (others-count x) there in
         let a : counts x commands n ≡ one_if (is_insert old) = was ∙ ap (λ (y : Bool). one_if (y && is_insert old)) self in
@@ -74,8 +74,8 @@ module _ (m n : ℕ) (there : n < m) (commands commands_now : ℕ → Option Com
         let d : (images_now x).owed ≡ image_now.owed = ap (λ (y : ImageValue). y.owed) (ap images_now e ∙ new_image.is_there) in
         omega (arith, sums, a, b, c, d, owes, is))
         (λ q.
-        let ne = eqb-ne x server q in
-        let off : (server == x) ≡ false = eqb-no server x (λ z. ne (sym z)) in
+        let ne = eqb-false x server q in
+        let off : (server == x) ≡ false = ne_eqb server x (λ z. ne (sym z)) in
         let a : counts x commands n ≡ 0 = was ∙ ap (λ (y : Bool). one_if (y && is_insert old)) off in
         let b : counts x commands_now n ≡ 0 = now ∙ ap (λ (y : Bool). one_if (y && is_insert new)) off in
         ap (λ (y : ImageValue). y.owed) (new_image.elsewhere x ne) ∙ is ∙ sym (sum-kept m (counts x commands) (counts x commands_now) n (others-count x) (b ∙ sym a)))
@@ -87,13 +87,13 @@ pub owed-only : (images images_now : ℕ → ImageValue) (server : ℕ) (image i
     → (x : ℕ) → images_now x ≡ record (images x) { owed = (images_now x).owed }
 owed-only images images_now server image image_now new spots growths x = on_bool (eqb x server)
     (λ q.
-    let e = eqb-eq x server q in
+    let e = eqb-true x server q in
     let was : images x ≡ image = ap images e ∙ new.was_there in
     let now : images_now x ≡ image_now = ap images_now e ∙ new.is_there in
     let s = ap (λ (y : ImageValue). y.spots) now ∙ spots ∙ sym (ap (λ (y : ImageValue). y.spots) was) in
     let g = ap (λ (y : ImageValue). y.growths) now ∙ growths ∙ sym (ap (λ (y : ImageValue). y.growths) was) in
     λ k. record (images_now x) { spots = s k; growths = g k })
-    (λ q. let same = new.elsewhere x (eqb-ne x server q) in
+    (λ q. let same = new.elsewhere x (eqb-false x server q) in
     let s = ap (λ (y : ImageValue). y.spots) same in
     let g = ap (λ (y : ImageValue). y.growths) same in
     λ k. record (images_now x) { spots = s k; growths = g k })

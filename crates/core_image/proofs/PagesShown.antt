@@ -2,7 +2,7 @@
 use Rattle.std.proofs.Common.{◌≡◌, ◌≢◌, ℕ, ◌≤◌, List, [], ◌∷◌, ◌++◌, Bool, true, false, cond, eqb, length, map, refl, sym, ap, ◌∙◌, subst, arith, inl, inr, All, Contains, IsTrue, eqb-true}
 use Rattle.std.specs.Prelude.{nat_eq, IsPermutation, flat_map}
 use Rattle.std.specs.List.{AllByRecursion, AllZip, IsDistinct, filter, remove}
-use Rattle.std.proofs.lemmas.Bool.{cases_lt}
+use Rattle.std.proofs.lemmas.Bool.{cases_lt, eqb-false}
 use Rattle.std.proofs.lemmas.Bool.Decides.{nat_tests}
 use Rattle.std.proofs.lemmas.List.{length-map, length-append}
 use Rattle.std.proofs.lemmas.List.Elements.{All-contains, All-contains_itself, All-weaker, Contains-append_cases, Contains-append_right}
@@ -25,20 +25,19 @@ use Rattle.row_ledger.specs.declared.page.TreePage.{TreePage}
 use Rattle.row_ledger.specs.declared.settings.Call.{Call}
 use Rattle.row_ledger.specs.Site.{Site}
 use Rattle.row_ledger.proofs.Descent.{live-last, live-made}
-use Rattle.row_ledger.proofs.Elements.{Contains-filtered, Contains-map, Contains-mapped, Contains-nil, IsTrue-filtered}
+use Rattle.list_words.proofs.Elements.{Contains-filtered, Contains-map, Contains-mapped, Contains-nil, IsTrue-filtered, Contains-first}
 use Rattle.row_ledger.proofs.Ended.{acked-distinct}
-use Rattle.tree_shape.specs.Counts.{Each, same, times}
+use Rattle.list_words.specs.Counts.{Each, same, times}
+use Rattle.list_words.proofs.Times.{length-le, same_is, same_not}
+use Rattle.list_words.proofs.Truth.{on_bool}
 use Rattle.tree_shape.specs.Shape.{numbers}
 use Rattle.tree_shape.proofs.Parts.{total-permuted}
-use Rattle.tree_shape.proofs.Totals.{length-le}
-use Rattle.tree_shape.proofs.Walks.{on_bool, eqb-eq, eqb-ne, same_is, same_not}
 use Rattle.volap_cell.specs.Ghost.{Ghost}
 use Rattle.volap_cell.specs.Invariant.{InvWith}
 use Rattle.volap_cell.specs.Setting.{Setting, site_in}
 use Rattle.volap_cell.specs.Sights.{HasAll, HasRows, SeesAudit, SeesLine, SeesPage}
 use Rattle.volap_cell.specs.View.{View, view, row_at}
 use Rattle.volap_cell.specs.World.{World}
-use Rattle.volap_cell.proofs.AckedHistory.{Contains-first}
 use Rattle.core_image.proofs.Answered.{distinct-once}
 use Rattle.core_image.proofs.RowsDivided.{count-parts, count-rows, home-once, its-gate}
 use Rattle.core_image.proofs.Valid.{acked-placed}
@@ -62,8 +61,8 @@ row-counts (x ∷ rows) r has = elim (Contains-first x rows r has) [
 row-of : (rows : List Row) (n : ℕ) → 1 ≤ times n (numbers rows) → (r : Row) × Contains rows r × (r.no ≡ n)
 row-of [] n some = absurd (omega (arith, some))
 row-of (x ∷ rows) n some = on_bool (eqb n x.no)
-    (λ q. (x, (0, omega arith, refl), sym (eqb-eq n x.no q)))
-    (λ q. let none = same_not n x.no (eqb-ne n x.no q) in
+    (λ q. (x, (0, omega arith, refl), sym (eqb-true n x.no q)))
+    (λ q. let none = same_not n x.no (eqb-false n x.no q) in
     let later = row-of rows n (omega (arith, some, none)) in
     (later.0, Contains-append_right (x ∷ []) rows later.0 later.1, later.2))
 
@@ -108,10 +107,10 @@ distinct-few : (xs : List ℕ) → IsDistinct nat_eq xs → (n : ℕ) → times 
 unfolding IsDistinct
 distinct-few [] apart n = omega arith
 distinct-few (x ∷ xs) apart n = on_bool (eqb n x)
-    (λ q. let is = eqb-eq n x q in
+    (λ q. let is = eqb-true n x q in
     let none : times n xs ≡ 0 = ap (λ (y : ℕ). times y xs) is ∙ apart-none x xs apart.0 in
     let one = same_is n x is in omega (arith, none, one))
-    (λ q. let none = same_not n x (eqb-ne n x q) in let rest = distinct-few xs apart.1 n in omega (arith, none, rest))
+    (λ q. let none = same_not n x (eqb-false n x q) in let rest = distinct-few xs apart.1 n in omega (arith, none, rest))
 
 -- of those that are chosen there are no more
 chosen-few : (test : Ack → Bool) (acks : List Ack) (n : ℕ) → times n (numbers (map (λ (a : Ack). a.row) (filter test acks))) ≤ times n (numbers (map (λ (a : Ack). a.row) acks))
@@ -130,8 +129,8 @@ last-there x (y ∷ z ∷ path) ends = last-there x (z ∷ path) ends
 one-or-none : (b : Bool) (x y : ℕ) → cond b (same x y) 0 ≤ 1
 one-or-none false x y = omega arith
 one-or-none true x y = on_bool (eqb x y)
-    (λ q. let one = same_is x y (eqb-eq x y q) in omega (arith, one))
-    (λ q. let none = same_not x y (eqb-ne x y q) in omega (arith, none))
+    (λ q. let one = same_is x y (eqb-true x y q) in omega (arith, one))
+    (λ q. let none = same_not x y (eqb-false x y q) in omega (arith, none))
 
 -- The state.
 

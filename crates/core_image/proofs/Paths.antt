@@ -7,7 +7,7 @@ use Rattle.row_ledger.specs.Past.{last_of}
 use Rattle.row_ledger.specs.Shards.{comes_from, descends, ids_made, is_child, is_path, was_listed}
 use Rattle.row_ledger.specs.Right.{Site, EachEvent, Stands}
 use Rattle.row_ledger.proofs.Descent.{comes_from-self}
-use Rattle.row_ledger.proofs.Elements.{Contains-nil}
+use Rattle.list_words.proofs.Elements.{Contains-nil}
 pub use Rattle.volap_cell.proofs.Lines.{child-comes, comes_from-through}
 use Rattle.server_image.specs.Image.{last_shard}
 

@@ -25,7 +25,7 @@ use Rattle.row_ledger.specs.Listings.{places_of}
 use Rattle.row_ledger.specs.Past.{Ack, Query}
 use Rattle.row_ledger.specs.Shards.{comes_from}
 use Rattle.row_ledger.specs.declared.event.Event.{Event}
-use Rattle.row_ledger.proofs.Elements.{Contains-filtered, Contains-mapped, Contains-nil}
+use Rattle.list_words.proofs.Elements.{Contains-filtered, Contains-mapped, Contains-nil}
 use Rattle.row_ledger.proofs.Positions.{before-here}
 use Rattle.volap_cell.specs.Desking.{AreLinesApart, AreUnrelated}
 use Rattle.volap_cell.specs.ImageKinds.{query_part}

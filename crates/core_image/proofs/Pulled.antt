@@ -2,7 +2,7 @@
 use Rattle.std.proofs.Common.{◌≡◌, ◌≢◌, ℕ, ◌<◌, List, [], ◌∷◌, Bool, true, eqb, IsTrue, Option, Some, None, refl, sym, ap, subst, ◌∙◌, arith, ◌⊎◌, inl, inr, ◌==◌, ◌&&◌, All, Any, Contains, eq-eqb, eqb-true}
 use Rattle.std.specs.Prelude.{IsSome, option_map}
 use Rattle.std.specs.List.{AllZip, cons_option, list_any}
-use Rattle.std.proofs.lemmas.Bool.{and_from, and_parts, false≢true}
+use Rattle.std.proofs.lemmas.Bool.{and_from, and_parts, false≢true, eqb-false}
 use Rattle.std.proofs.lemmas.List.Elements.{All-contains_itself, All-nil, All-weaker, Contains-append_right}
 use Rattle.std.proofs.lemmas.List.Folds.{Any-from_list_any, list_any-from_Any}
 use Rattle.dim_hierarchy.specs.Dimension.{Dimension}
@@ -24,11 +24,11 @@ use Rattle.row_ledger.specs.Workers.{is_on}
 use Rattle.row_ledger.specs.declared.event.Event.{Event}
 use Rattle.row_ledger.specs.declared.event.Event.TheVariants.{Acked, Synced}
 use Rattle.row_ledger.proofs.Descent.{comes_from-made, comes_from-self, live-apart, live-made}
-use Rattle.row_ledger.proofs.Elements.{Contains-filtered, Contains-map, Contains-nil}
+use Rattle.list_words.proofs.Elements.{Contains-filtered, Contains-map, Contains-nil, Contains-first}
 use Rattle.row_ledger.proofs.Older.{is_path-older}
 use Rattle.server_image.specs.Image.{ImageValue, IsSynced}
 use Rattle.server_image.specs.Registry.{RegistryValue}
-use Rattle.tree_shape.proofs.Walks.{on_bool, eqb-eq, eqb-ne}
+use Rattle.list_words.proofs.Truth.{on_bool}
 use Rattle.volap_cell.specs.Cells.{CellValue, MapCell, where_in}
 use Rattle.volap_cell.specs.Errands.{RowWay}
 use Rattle.volap_cell.specs.Ghost.{Ghost}
@@ -40,7 +40,6 @@ use Rattle.volap_cell.specs.Setting.{Setting, map_cell, site_in}
 use Rattle.volap_cell.specs.View.{View, view, row_at}
 use Rattle.volap_cell.specs.World.{World}
 use Rattle.volap_cell.specs.declared.command.Command.{Command}
-use Rattle.volap_cell.proofs.AckedHistory.{Contains-first}
 use Rattle.volap_cell.proofs.Fields.{IsNewAt}
 use Rattle.volap_cell.proofs.Grows.{Any-weaker, box-older, comes-stays, live-stays}
 use Rattle.volap_cell.proofs.GrowsKnown.{All-inside, AreOlder, covered-grown, fits-grown, must-grown, older-rows, published-acked, unacked-grown}
@@ -141,10 +140,10 @@ module _ (s : Setting) (w : World) (g : Ghost) (i : InvWith s (view s w) g) (ser
   pub leading-now : (desks : ℕ → DeskValue) → Leading s v.maps v.images desks → Leading s v.maps images_now desks
   leading-now desks l = record {
     spots = λ x lt. on_bool (eqb x server)
-        (λ q. subst (λ (y : ImageValue). All (λ (z : Spot). (z.worker < s.workers) × IsSome (v.maps z.worker z.shard)) y.spots) (sym (ap images_now (eqb-eq x server q) ∙ new.is_there))
+        (λ q. subst (λ (y : ImageValue). All (λ (z : Spot). (z.worker < s.workers) × IsSome (v.maps z.worker z.shard)) y.spots) (sym (ap images_now (eqb-true x server q) ∙ new.is_there))
         (subst (All (λ (z : Spot). (z.worker < s.workers) × IsSome (v.maps z.worker z.shard))) (sym synced.spots)
         (All-weaker (Contains registry_now.frontier) (λ (z : Spot). (z.worker < s.workers) × IsSome (v.maps z.worker z.shard)) spot-leads registry_now.frontier (All-contains_itself registry_now.frontier))))
-        (λ q. subst (λ (y : ImageValue). All (λ (z : Spot). (z.worker < s.workers) × IsSome (v.maps z.worker z.shard)) y.spots) (sym (new.elsewhere x (eqb-ne x server q))) (l.spots x lt));
+        (λ q. subst (λ (y : ImageValue). All (λ (z : Spot). (z.worker < s.workers) × IsSome (v.maps z.worker z.shard)) y.spots) (sym (new.elsewhere x (eqb-false x server q))) (l.spots x lt));
     parts = l.parts;
   }
 
@@ -155,7 +154,7 @@ module _ (s : Setting) (w : World) (g : Ghost) (i : InvWith s (view s w) g) (ser
     is_path = l.is_path;
     last = l.last;
     listed = on_bool (eqb x server)
-        (λ q. subst (λ (y : ImageValue). All (λ (z : Spot). IsTrue (comes_from h z.shard shard) → Contains path z.shard) y.spots) (sym (ap images_now (eqb-eq x server q) ∙ new.is_there))
+        (λ q. subst (λ (y : ImageValue). All (λ (z : Spot). IsTrue (comes_from h z.shard shard) → Contains path z.shard) y.spots) (sym (ap images_now (eqb-true x server q) ∙ new.is_there))
         (subst (All (λ (z : Spot). IsTrue (comes_from h z.shard shard) → Contains path z.shard)) (sym synced.spots)
         (All-weaker (Contains registry_now.frontier) (λ (z : Spot). IsTrue (comes_from h z.shard shard) → Contains path z.shard)
         (λ z has comes.
@@ -163,7 +162,7 @@ module _ (s : Setting) (w : World) (g : Ghost) (i : InvWith s (view s w) g) (ser
         let same : shard ≡ z.shard = live-end (site_in s) g.placed h z.shard shard each live comes in
         subst (Contains path) (l.last ∙ same) (last-in path (path-some h x path l.is_path)))
         registry_now.frontier (All-contains_itself registry_now.frontier))))
-        (λ q. subst (λ (y : ImageValue). All (λ (z : Spot). IsTrue (comes_from h z.shard shard) → Contains path z.shard) y.spots) (sym (new.elsewhere x (eqb-ne x server q))) l.listed);
+        (λ q. subst (λ (y : ImageValue). All (λ (z : Spot). IsTrue (comes_from h z.shard shard) → Contains path z.shard) y.spots) (sym (new.elsewhere x (eqb-false x server q))) l.listed);
   }
 
   part-now : (ways : ℕ → Option RowWay) (x r : ℕ) (p : Part) (st : PartState) → IsRowPart h v.images ways g.placed g.path x r p st → IsRowPart h images_now ways g.placed g.path x r p st
@@ -201,8 +200,8 @@ module _ (s : Setting) (w : World) (g : Ghost) (i : InvWith s (view s w) g) (ser
   pub imaging-now : Imaging s (e ∷ h) (row_at (e ∷ h)) images_now g.placed
   imaging-now = record {
     image = λ x lt. on_bool (eqb x server)
-        (λ q. subst (λ (y : ℕ). IsImageOf s (e ∷ h) (row_at (e ∷ h)) g.placed y (images_now y)) (sym (eqb-eq x server q)) (subst (IsImageOf s (e ∷ h) (row_at (e ∷ h)) g.placed server) (sym new.is_there) image-now))
-        (λ q. let ne = eqb-ne x server q in
+        (λ q. subst (λ (y : ℕ). IsImageOf s (e ∷ h) (row_at (e ∷ h)) g.placed y (images_now y)) (sym (eqb-true x server q)) (subst (IsImageOf s (e ∷ h) (row_at (e ∷ h)) g.placed server) (sym new.is_there) image-now))
+        (λ q. let ne = eqb-false x server q in
         subst (IsImageOf s (e ∷ h) (row_at (e ∷ h)) g.placed x) (sym (new.elsewhere x ne)) (image-synced-other s h server pulled g.placed older x (v.images x) ne (i.imaging.image x lt)));
   }
 
@@ -266,32 +265,32 @@ module _ (s : Setting) (w : World) (g : Ghost) (i : InvWith s (view s w) g) (ser
         (λ (k : Ack). FitsThen k.row.no ⊎ Contains (images_now k.server).growths (record { shard = last_of k.path; at = k.row.at })) (acked h)
         (λ k has noted. let placed = acked-placed s w g i k has in
         on_bool (eqb k.server server)
-        (λ q. inl (then-fits k.row.no placed.0 (own-fits s w g i server within image image_now registry registry_now pulled image_there registry_there synced k has (eqb-eq k.server server q))))
+        (λ q. inl (then-fits k.row.no placed.0 (own-fits s w g i server within image image_now registry registry_now pulled image_there registry_there synced k has (eqb-true k.server server q))))
         (λ q. elim noted [
           | inl fits ↦ inl (still k.row.no placed.0 fits)
-          | inr growth ↦ inr (subst (λ (y : ImageValue). Contains y.growths (record { shard = last_of k.path; at = k.row.at })) (sym (new.elsewhere k.server (eqb-ne k.server server q))) growth)
+          | inr growth ↦ inr (subst (λ (y : ImageValue). Contains y.growths (record { shard = last_of k.path; at = k.row.at })) (sym (new.elsewhere k.server (eqb-false k.server server q))) growth)
         ]))
         i.covering.noted);
     must = λ x lt. on_bool (eqb x server)
-        (λ q. subst (λ (y : ℕ). All (λ (k : Ack). Covers y k.row.no) (known s.hierarchy (e ∷ h) y)) (sym (eqb-eq x server q))
+        (λ q. subst (λ (y : ℕ). All (λ (k : Ack). Covers y k.row.no) (known s.hierarchy (e ∷ h) y)) (sym (eqb-true x server q))
         (All-known-synced s h server pulled (λ (k : Ack). Covers server k.row.no)
         (All-weaker (λ (k : Ack). FitsThen k.row.no) (λ (k : Ack). Covers server k.row.no) (λ k. here-covers k.row.no) (own h server) owned)
         (All-weaker (λ (k : Ack). FitsThen k.row.no) (λ (k : Ack). Covers server k.row.no) (λ k. here-covers k.row.no) (published h) told)
         listed-covers))
-        (λ q. let ne = eqb-ne x server q in
+        (λ q. let ne = eqb-false x server q in
         subst (λ (y : ImageValue). All (λ (k : Ack). IsCovered s.hierarchy (e ∷ h) (row_at (e ∷ h)) g.home y.spots k.row.no) (known s.hierarchy (e ∷ h) x)) (sym (new.elsewhere x ne))
         (subst (All (λ (k : Ack). IsCovered s.hierarchy (e ∷ h) (row_at (e ∷ h)) g.home (v.images x).spots k.row.no)) (sym (known-synced-other s h server pulled x ne))
         (must-grown s e h stay g.placed older v.registry v.images g.home g.path i.covering x lt)));
     unacked = λ r insert p is none. on_bool (eqb insert.server server)
-        (λ q. let same = eqb-eq insert.server server q in
+        (λ q. let same = eqb-true insert.server server q in
         on_bool (eqb (g.home r) (last_of (g.path r)))
         (λ z. inl (subst (λ (y : ImageValue). Any (λ (spot : Spot). Contains (g.path r) spot.shard) y.spots) (sym (ap images_now same ∙ new.is_there))
         (subst (Any (λ (spot : Spot). Contains (g.path r) spot.shard)) (sym synced.spots)
         (Any-weaker (IsSpotOf (g.home r)) (λ (spot : Spot). Contains (g.path r) spot.shard)
-        (λ spot at. subst (Contains (g.path r)) (sym (eqb-eq (g.home r) (last_of (g.path r)) z) ∙ sym at) (last-in (g.path r) (i.placing.line r p).0)) registry_now.frontier
+        (λ spot at. subst (Contains (g.path r)) (sym (eqb-true (g.home r) (last_of (g.path r)) z) ∙ sym at) (last-in (g.path r) (i.placing.line r p).0)) registry_now.frontier
         (live-spot s.workers h registry_now.frontier front (g.home r) (i.placing.stands r p))))))
-        (λ z. inr (subst (λ (y : ℕ). Covers y r) (sym same) (here-covers r (still r p (i.covering.came r p (eqb-ne (g.home r) (last_of (g.path r)) z)))))))
-        (λ q. let ne = eqb-ne insert.server server q in
+        (λ z. inr (subst (λ (y : ℕ). Covers y r) (sym same) (here-covers r (still r p (i.covering.came r p (eqb-false (g.home r) (last_of (g.path r)) z)))))))
+        (λ q. let ne = eqb-false insert.server server q in
         subst (λ (y : ImageValue). Any (λ (spot : Spot). Contains (g.path r) spot.shard) y.spots ⊎ IsCovered s.hierarchy (e ∷ h) (row_at (e ∷ h)) g.home y.spots r) (sym (new.elsewhere insert.server ne))
         (unacked-grown s e h stay g.placed older v.registry v.images g.home g.path i.covering r insert p is none));
   }

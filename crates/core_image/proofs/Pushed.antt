@@ -2,7 +2,7 @@
 use Rattle.std.proofs.Common.{◌≡◌, ℕ, ◌<◌, List, [], ◌∷◌, map, true, eqb, IsTrue, refl, sym, ap, subst, ◌∙◌, ◌⊎◌, inl, inr, ◌==◌, ◌&&◌, All, Any, Contains, eq-eqb, eqb-true}
 use Rattle.std.specs.Prelude.{filter}
 use Rattle.std.specs.List.{AllZip}
-use Rattle.std.proofs.lemmas.Bool.{and_from, cond_both}
+use Rattle.std.proofs.lemmas.Bool.{and_from, cond_both, eqb-false}
 use Rattle.std.proofs.lemmas.List.Elements.{All-cons, All-contains, All-contains_itself, All-head, All-map, All-nil, All-tail, All-weaker}
 use Rattle.std.proofs.lemmas.List.Folds.{list_any-from_Any}
 use Rattle.dim_hierarchy.specs.Dimension.{Dimension}
@@ -16,12 +16,12 @@ use Rattle.row_ledger.specs.Listings.{IsBox, IsListing, is_covered, places_of}
 use Rattle.row_ledger.specs.Past.{Ack, acked, last_of}
 use Rattle.row_ledger.specs.Shards.{comes_from, frontier}
 use Rattle.row_ledger.specs.declared.event.Event.{Event}
-use Rattle.row_ledger.proofs.Elements.{Contains-filter, Contains-filtered, Contains-map, IsTrue-filtered}
+use Rattle.list_words.proofs.Elements.{Contains-filter, Contains-filtered, Contains-map, IsTrue-filtered}
 use Rattle.server_image.specs.Image.{ImageValue, IsSynced, noted}
 use Rattle.server_image.specs.Registry.{RegistryValue}
 use Rattle.server_image.specs.Spots.{IsGrown}
 use Rattle.server_image.specs.declared.image.Growth.{Growth}
-use Rattle.tree_shape.proofs.Walks.{on_bool, eqb-eq, eqb-ne}
+use Rattle.list_words.proofs.Truth.{on_bool}
 use Rattle.volap_cell.specs.Ghost.{Ghost}
 use Rattle.volap_cell.specs.Imaging.{Fits, HasGrown, IsGrowth, IsImageOf}
 use Rattle.volap_cell.specs.Invariant.{InvWith}
@@ -123,7 +123,7 @@ module _ (s : Setting) (w : World) (g : Ghost) (i : InvWith s (view s w) g) (ser
       let there = i.placing.acked_rows k has in
       on_bool (eqb (g.home r) (last_of (g.path r)))
       (λ q.
-      let home : g.home r ≡ last_of k.path = eqb-eq (g.home r) (last_of (g.path r)) q ∙ ap last_of there.1 in
+      let home : g.home r ≡ last_of k.path = eqb-true (g.home r) (last_of (g.path r)) q ∙ ap last_of there.1 in
       elim (All-contains (λ (x : Ack). Fits s.hierarchy v.row g.home v.registry.frontier x.row.no ⊎ Contains (v.images x.server).growths (record { shard = last_of x.path; at = x.row.at })) (acked h) k i.covering.noted has) [
         | inl fits ↦ fits-still r placed.0 fits
         | inr growth ↦
@@ -137,7 +137,7 @@ module _ (s : Setting) (w : World) (g : Ghost) (i : InvWith s (view s w) g) (ser
             registry.frontier registry_now.frontier all-pushed
             (subst (λ (x : RegistryValue). Any (λ (spot : Spot). spot.shard ≡ g.home r) x.frontier) registry_there (live-spot s.workers h v.registry.frontier i.lineage.front (g.home r) (i.placing.stands r placed.0)))
       ])
-      (λ q. fits-still r placed.0 (i.covering.came r placed.0 (eqb-ne (g.home r) (last_of (g.path r)) q)))
+      (λ q. fits-still r placed.0 (i.covering.came r placed.0 (eqb-false (g.home r) (last_of (g.path r)) q)))
 
   pub own-all : All (λ (k : Ack). FitsNow k.row.no) (own h server)
   own-all = All-weaker (Contains (own h server)) (λ (k : Ack). FitsNow k.row.no)

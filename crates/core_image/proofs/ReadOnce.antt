@@ -1,7 +1,7 @@
 -- What a balance has read: no row twice, and all rows that were acknowledged before it began.
 use Rattle.std.proofs.Common.{◌≡◌, ℕ, zero, suc, ◌+◌, ◌<◌, ◌≤◌, List, [], ◌∷◌, ◌++◌, Bool, true, false, eqb, map, refl, sym, ap, ◌∙◌, subst, arith, inl, inr, ◌==◌, All, Contains, eq-eqb, nat_eq}
 use Rattle.std.specs.List.{AllByRecursion, IsDistinct, list_any}
-use Rattle.std.proofs.lemmas.Bool.{cases_lt, or_left, or_right}
+use Rattle.std.proofs.lemmas.Bool.{cases_lt, or_left, or_right, eqb-true}
 use Rattle.std.proofs.lemmas.List.{map-append}
 use Rattle.std.proofs.lemmas.List.Elements.{All-append, All-contains_itself, All-head, All-nil, All-tail, All-weaker}
 use Rattle.dim_hierarchy.specs.declared.row.Row.{Row}
@@ -12,12 +12,12 @@ use Rattle.row_ledger.specs.Shards.{Place, comes_from, frontier, ids_made, is_li
 use Rattle.row_ledger.specs.Work.{Reading, rows_read}
 use Rattle.row_ledger.specs.declared.event.Event.{Event}
 use Rattle.row_ledger.proofs.Descent.{comes_from-comparable, live-last, live-made}
-use Rattle.row_ledger.proofs.Elements.{Contains-nil}
+use Rattle.list_words.proofs.Elements.{Contains-nil}
 use Rattle.row_ledger.proofs.SettledAnswer.{EachEvent-before}
-use Rattle.tree_shape.specs.Counts.{same, times}
+use Rattle.list_words.specs.Counts.{same, times}
+use Rattle.list_words.proofs.Times.{times-append}
+use Rattle.list_words.proofs.Truth.{on_bool, eqb-self}
 use Rattle.tree_shape.specs.Shape.{numbers}
-use Rattle.tree_shape.proofs.Visits.{times-append}
-use Rattle.tree_shape.proofs.Walks.{on_bool, eqb-eq, eqb-self}
 use Rattle.volap_cell.specs.Growing.{IsUnder}
 use Rattle.volap_cell.specs.Setting.{Setting, site_in}
 use Rattle.volap_cell.specs.Working.{IsReadLoad}
@@ -80,7 +80,7 @@ module _ (s : Setting) (h : List Event) (placed : ℕ → Bool) (home : ℕ → 
   under-of : (x : ℕ) (rows : List Row) (n : ℕ) → All (λ (r : Row). IsUnder h placed home x r.no) rows → 1 ≤ times n (numbers rows) → IsUnder h placed home x n
   under-of x [] n all some = absurd (omega (arith, some))
   under-of x (r ∷ rows) n all some = on_bool (eqb n r.no)
-      (λ q. subst (λ (k : ℕ). IsUnder h placed home x k) (sym (eqb-eq n r.no q)) (All-head (λ (y : Row). IsUnder h placed home x y.no) r rows all))
+      (λ q. subst (λ (k : ℕ). IsUnder h placed home x k) (sym (eqb-true n r.no q)) (All-head (λ (y : Row). IsUnder h placed home x y.no) r rows all))
       (λ q. let none : same n r.no ≡ 0 = rw q refl in under-of x rows n (All-tail (λ (y : Row). IsUnder h placed home x y.no) r rows all) (omega (arith, some, none)))
 
   module _ (stands : (n : ℕ) → placed n ≡ true → is_live s.workers h (home n) ≡ true) where

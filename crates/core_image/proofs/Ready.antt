@@ -17,7 +17,7 @@ use Rattle.row_ledger.specs.Shards.{is_path}
 use Rattle.row_ledger.specs.declared.event.Event.{Event}
 use Rattle.server_image.specs.Image.{ImageValue, AreGrowths}
 use Rattle.server_image.specs.Spots.{AreBoxes}
-use Rattle.tree_shape.proofs.Walks.{eqb-self}
+use Rattle.list_words.proofs.Truth.{eqb-self}
 use Rattle.volap_cell.specs.Cells.{CellValue, DeskCell, ImageCell, LedgerCell, DeskOf, ImageOf, tag_of, desk_in}
 use Rattle.volap_cell.specs.Ghost.{Ghost}
 use Rattle.volap_cell.specs.ImageKinds.{DoesAck, doing}

@@ -1,7 +1,7 @@
 -- An insert's routing keeps the invariant, and less is left.
 use Rattle.std.proofs.Common.{◌≡◌, ◌≢◌, ℕ, ◌+◌, ◌*◌, ◌<◌, ◌≤◌, List, [], ◌∷◌, true, false, eqb, Option, Some, refl, sym, ap, ◌∙◌, subst, arith, inl, inr, ◌&&◌, All, Any, Contains, IsTrue}
 use Rattle.std.specs.Prelude.{IsSome, sum_by, option_and_then}
-use Rattle.std.proofs.lemmas.Bool.{and_from, false≢true}
+use Rattle.std.proofs.lemmas.Bool.{and_from, false≢true, eqb-true, eqb-false}
 use Rattle.std.proofs.lemmas.Option.{slice_get_within, get_or_from_slice_get}
 use Rattle.std.proofs.lemmas.List.Elements.{All-cons, All-nil, All-contains, All-contains_itself, All-weaker}
 use Rattle.dim_hierarchy.specs.Dimension.{Dimension}
@@ -15,7 +15,7 @@ use Rattle.row_ledger.specs.Bounds.{listing_of}
 use Rattle.row_ledger.specs.Shards.{comes_from, is_of, is_path}
 use Rattle.row_ledger.specs.declared.event.Event.{Event}
 use Rattle.server_image.specs.Image.{ImageValue}
-use Rattle.tree_shape.proofs.Walks.{on_bool, eqb-eq, eqb-ne}
+use Rattle.list_words.proofs.Truth.{on_bool}
 use Rattle.volap_cell.specs.Desking.{IsTaken, is_on_desk}
 use Rattle.volap_cell.specs.Errands.{ReadPart, Taken}
 use Rattle.volap_cell.specs.Imaging.{IsImageOf}
@@ -172,9 +172,9 @@ module _ (d im : Change) (b : ActorValue) (s : Setting) (w : World) (n : ℕ) (g
         (λ a ne. ap (λ (c : Option Command). one_if (serves x (v.roles a) && is_insert c)) (goes.elsewhere a ne))
         (ap (λ (c : Option Command). one_if (serves x (v.roles n) && is_insert c)) goes.is_there ∙ sym (ap (λ (c : Option Command). one_if (serves x (v.roles n) && is_insert c)) does.command)));
     sessions = λ x lt. on_bool (eqb x server)
-        (λ q. let is = eqb-eq x server q in
+        (λ q. let is = eqb-true x server q in
         ap (λ (y : DeskValue). y.sessions) (ap v2.desks is ∙ laid-there.is_there) ∙ sym (ap (λ (y : DeskValue). y.sessions) (ap v.desks is ∙ laid-there.was_there)) ∙ i.owing.sessions x lt)
-        (λ q. ap (λ (y : DeskValue). y.sessions) (laid-there.elsewhere x (eqb-ne x server q)) ∙ i.owing.sessions x lt);
+        (λ q. ap (λ (y : DeskValue). y.sessions) (laid-there.elsewhere x (eqb-false x server q)) ∙ i.owing.sessions x lt);
   }
 
   -- The command is as open as it was.
@@ -183,9 +183,9 @@ module _ (d im : Change) (b : ActorValue) (s : Setting) (w : World) (n : ℕ) (g
   telling-now =
       let at : (P : ℕ → Command → Type 0) → (P n was → P n its) → ((a : ℕ) (c : Command) → v.commands a ≡ Some c → P a c) → (a : ℕ) (c : Command) → v2.commands a ≡ Some c → P a c =
       λ P step all a c is. on_bool (eqb a n)
-      (λ q. let e = eqb-eq a n q in
+      (λ q. let e = eqb-true a n q in
       subst (λ (x : ℕ). P x c) (sym e) (subst (P n) (its-own n (Some was) its v.commands v2.commands goes c (ap v2.commands (sym e) ∙ is)) (step (all n was does.command))))
-      (λ q. all a c (other-had n (Some was) its v.commands v2.commands goes a c (eqb-ne a n q) is)) in
+      (λ q. all a c (other-had n (Some was) its v.commands v2.commands goes a c (eqb-false a n q) is)) in
       record {
         right = i.telling.right;
         own = at (λ a c. option_and_then session_in (event_at h c.of) ≡ Some a) (λ x. x) i.telling.own;
@@ -198,9 +198,9 @@ module _ (d im : Change) (b : ActorValue) (s : Setting) (w : World) (n : ℕ) (g
         status = λ a p is. elim (i.telling.status a p is) [
           | inl ended ↦ inl ended
           | inr at ↦ on_bool (eqb at.0 n)
-              (λ q. let same : was ≡ at.1 = (let both : ◌≡◌ {A = Option Command} (Some was) (Some at.1) = sym does.command ∙ ap v.commands (sym (eqb-eq at.0 n q)) ∙ at.2 in cc) in
+              (λ q. let same : was ≡ at.1 = (let both : ◌≡◌ {A = Option Command} (Some was) (Some at.1) = sym does.command ∙ ap v.commands (sym (eqb-true at.0 n q)) ∙ at.2 in cc) in
               inr (n, its, goes.is_there, ap (λ (c : Command). c.of) same ∙ at.3))
-              (λ q. inr (at.0, at.1, goes.elsewhere at.0 (eqb-ne at.0 n q) ∙ at.2, at.3))
+              (λ q. inr (at.0, at.1, goes.elsewhere at.0 (eqb-false at.0 n q) ∙ at.2, at.3))
         ];
       }
 

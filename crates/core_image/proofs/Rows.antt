@@ -5,7 +5,7 @@ use Rattle.dim_hierarchy.specs.declared.row.Row.{Row}
 use Rattle.row_ledger.specs.Bounds.{may}
 use Rattle.row_ledger.specs.Past.{begun, insert_at, insert_in}
 use Rattle.row_ledger.specs.declared.event.Event.{Event}
-use Rattle.row_ledger.proofs.Elements.{Contains-filtered}
+use Rattle.list_words.proofs.Elements.{Contains-filtered}
 use Rattle.row_ledger.proofs.SettledAnswer.{begun-at}
 use Rattle.volap_cell.specs.Ghost.{Ghost}
 use Rattle.volap_cell.specs.ImageKinds.{doing}

@@ -2,7 +2,7 @@
 use Rattle.std.proofs.Common.{◌≡◌, ℕ, ◌+◌, ◌<◌, ◌≤◌, List, [], ◌∷◌, ◌++◌, Bool, true, false, cond, eqb, length, map, Option, Some, None, refl, sym, ap, ◌∙◌, subst, arith, inl, inr, ◌==◌, eqb-true}
 use Rattle.std.specs.Prelude.{flat_map, option_and_then}
 use Rattle.std.specs.List.{AllZip, list_any}
-use Rattle.std.proofs.lemmas.Bool.{or_cases}
+use Rattle.std.proofs.lemmas.Bool.{or_cases, eqb-false}
 use Rattle.std.proofs.lemmas.List.{length-map, map-append}
 use Rattle.dim_hierarchy.specs.declared.row.Row.{Row}
 use Rattle.describing_set.specs.declared.listing.Spot.{Spot}
@@ -14,10 +14,10 @@ use Rattle.row_ledger.specs.Shards.{Place, frontier, is_live, is_of}
 use Rattle.row_ledger.specs.declared.event.Event.{Event}
 use Rattle.row_ledger.proofs.Ascent.{frontier-ascends}
 use Rattle.row_ledger.proofs.Fresh.{event_at-within}
-use Rattle.tree_shape.specs.Counts.{same, times}
+use Rattle.list_words.specs.Counts.{same, times}
+use Rattle.list_words.proofs.Times.{times-append, same_is, same_not}
+use Rattle.list_words.proofs.Truth.{on_bool}
 use Rattle.tree_shape.specs.Shape.{numbers}
-use Rattle.tree_shape.proofs.Visits.{times-append}
-use Rattle.tree_shape.proofs.Walks.{on_bool, eqb-eq, eqb-ne, same_is, same_not}
 use Rattle.volap_cell.specs.Ghost.{Ghost}
 use Rattle.volap_cell.specs.Invariant.{InvWith}
 use Rattle.volap_cell.specs.Setting.{Setting, site_in}
@@ -49,8 +49,8 @@ above-none x from (p ∷ places) ascend less =
 ascend-few : (x from : ℕ) (places : List Place) → AscendFrom from places → times x (ids_of places) ≤ 1
 ascend-few x from [] ascend = omega arith
 ascend-few x from (p ∷ places) ascend = on_bool (eqb x p.shard)
-    (λ q. let is = eqb-eq x p.shard q in let one = same_is x p.shard is in let none = above-none x (p.shard + 1) places ascend.1 (omega (arith, is)) in omega (arith, one, none))
-    (λ q. let none = same_not x p.shard (eqb-ne x p.shard q) in let rest = ascend-few x (p.shard + 1) places ascend.1 in omega (arith, none, rest))
+    (λ q. let is = eqb-true x p.shard q in let one = same_is x p.shard is in let none = above-none x (p.shard + 1) places ascend.1 (omega (arith, is)) in omega (arith, one, none))
+    (λ q. let none = same_not x p.shard (eqb-false x p.shard q) in let rest = ascend-few x (p.shard + 1) places ascend.1 in omega (arith, none, rest))
 
 ids-same : (spots : List Spot) → ids_of (places_of spots) ≡ map (λ (spot : Spot). spot.shard) spots
 ids-same [] = refl

@@ -2,7 +2,7 @@
 use Rattle.std.proofs.Common.{◌≡◌, ℕ, ◌+◌, ◌^◌, ◌<◌, List, [], ◌∷◌, Bool, true, false, eqb, length, IsTrue, Option, Some, None, refl, sym, ap, ◌∙◌, subst, arith, ◌⊎◌, inl, inr, ◌==◌, ◌&&◌, eq-eqb}
 use Rattle.std.specs.Prelude.{nat_lt}
 use Rattle.std.specs.List.{list_any}
-use Rattle.std.proofs.lemmas.Bool.{cases_lt, false≢true, or_left}
+use Rattle.std.proofs.lemmas.Bool.{cases_lt, false≢true, or_left, eqb-true, eqb-false}
 use Rattle.std.proofs.lemmas.Bool.Decides.{nat_tests}
 use Rattle.dim_hierarchy.specs.Dimension.{Dimension}
 use Rattle.dim_hierarchy.specs.declared.row.Row.{Row}
@@ -17,7 +17,7 @@ use Rattle.row_ledger.specs.declared.settings.Call.{Call}
 use Rattle.row_ledger.proofs.Growth.{KeepsRight-synced}
 use Rattle.row_ledger.proofs.Positions.{since-inside}
 use Rattle.server_image.specs.Image.{ImageValue}
-use Rattle.tree_shape.proofs.Walks.{on_bool, eqb-eq, eqb-ne}
+use Rattle.list_words.proofs.Truth.{on_bool}
 use Rattle.volap_cell.specs.Commands.{due_pull, owes, pulled_once, settles_next}
 use Rattle.volap_cell.specs.Desking.{is_on_desk}
 use Rattle.volap_cell.specs.Falls.{control_of, gates_of_work, left, of_work}
@@ -259,9 +259,9 @@ module _ (im r l : Change) (b : ActorValue) (s : Setting) (w : World) (n : ℕ) 
         (ap (λ (c : Option Command). one_if (serves x (v.roles n) && is_insert c)) goes.is_there ∙ ap (λ (is : Bool). one_if (serves x (v.roles n) && is)) (pull.no_insert_now ∙ sym pull.no_insert)
         ∙ sym (ap (λ (c : Option Command). one_if (serves x (v.roles n) && is_insert c)) does.command)) in
         let owed : (v2.images x).owed ≡ (v.images x).owed = on_bool (eqb x server)
-        (λ q. let is = eqb-eq x server q in
+        (λ q. let is = eqb-true x server q in
         ap (λ (y : ImageValue). y.owed) (ap v2.images is ∙ turned.is_there) ∙ does.synced.owed ∙ sym (ap (λ (y : ImageValue). y.owed) (ap v.images is ∙ turned.was_there)))
-        (λ q. ap (λ (y : ImageValue). y.owed) (turned.elsewhere x (eqb-ne x server q))) in
+        (λ q. ap (λ (y : ImageValue). y.owed) (turned.elsewhere x (eqb-false x server q))) in
         owed ∙ i.owing.image x lt ∙ sym sums;
     sessions = i.owing.sessions;
   }

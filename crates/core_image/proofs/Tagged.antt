@@ -4,7 +4,7 @@ use Rattle.query_router.specs.declared.desk.Desk.{Desk}
 use Rattle.row_ledger.specs.declared.ledger.Ledger.{Ledger}
 use Rattle.server_image.specs.declared.image.Image.{Image}
 use Rattle.server_image.specs.declared.registry.Registry.{Registry}
-use Rattle.volap_cell.specs.Cells.{DeskOf, ImageOf, TheLedger, TheRegistry, cell_of, tag_of}
+use Rattle.volap_cell.specs.Cells.{DeskOf, ImageOf, TheLedger, cell_of, tag_of}
 use Rattle.volap_cell.specs.declared.cell.Cell.{Cell}
 use Rattle.volap_cell.specs.declared.cell.Cell.TheVariants as cell
 
@@ -40,14 +40,3 @@ ledger-boxed (cell.Desk t d) e f = cc
 ledger-boxed (cell.Map t m) e f = cc
 ledger-boxed (cell.Gate g) e f = cc
 ledger-boxed (cell.Block x) e f = cc
-
-pub registry-boxed : {P : Type 0} (c : Cell) → tag_of (cell_of c) ≡ TheRegistry → ((x : Box Registry Global) → c ≡ cell.Registry x → P) → P
-registry-boxed cell.Free e f = cc
-registry-boxed (cell.Ledger l) e f = cc
-registry-boxed (cell.Stock k) e f = cc
-registry-boxed (cell.Registry r) e f = f r refl
-registry-boxed (cell.Image t i) e f = cc
-registry-boxed (cell.Desk t d) e f = cc
-registry-boxed (cell.Map t m) e f = cc
-registry-boxed (cell.Gate g) e f = cc
-registry-boxed (cell.Block x) e f = cc

@@ -3,13 +3,12 @@ use Rattle.std.proofs.Common.{ℕ, ℤ, ◌≡◌, List, ◌∷◌, length, sym,
 use Rattle.dim_hierarchy.specs.Dimension.{Dimension}
 use Rattle.dim_hierarchy.specs.declared.filter.Pick.{Pick}
 use Rattle.dim_hierarchy.specs.declared.row.Coord.{Coord}
-use Rattle.dim_hierarchy.specs.declared.row.Row.{Row}
 use Rattle.query_router.specs.Desk.{DeskValue}
 use Rattle.row_ledger.specs.LedgerValue.{LedgerValue}
 use Rattle.row_ledger.specs.declared.event.Event.{Event}
 use Rattle.row_ledger.specs.declared.event.Event.TheVariants as event
 use Rattle.server_image.specs.Image.{ImageValue}
-use Rattle.volap_cell.specs.Cells.{CellValue, Tag, DeskCell, DeskOf, ImageCell, ImageOf, LedgerCell, tag_of}
+use Rattle.volap_cell.specs.Cells.{CellValue, DeskCell, DeskOf, ImageCell, ImageOf, LedgerCell, tag_of}
 use Rattle.volap_cell.specs.Values.{ActorValue}
 use Rattle.volap_cell.specs.declared.role.Role.TheVariants.{Session}
 use Rattle.core_image.specs.Asking.{Asks}
@@ -24,16 +23,16 @@ tells event_of a ledger lv lv2 e k = subst (λ (c : CellValue). Tells event_of a
 server-is : (a : ActorValue) (server due : ℕ) → a.role ≡ Session due → server ≡ due → server ≡ server_of a.role
 server-is a server due role e = e ∙ ap server_of (sym role)
 
-pub tells-begun : (at : Coord) (measure : ℤ) (a : ActorValue) (image ledger : CellValue) (due : ℕ) → a.role ≡ Session due → tag_of image ≡ ImageOf due
+pub tells-begun : (at : Coord) (measures : ℤ) (a : ActorValue) (image ledger : CellValue) (due : ℕ) → a.role ≡ Session due → tag_of image ≡ ImageOf due
     → (server : ℕ) (iv : ImageValue) → image ≡ ImageCell server iv → (lv : LedgerValue) → ledger ≡ LedgerCell lv → (place : ℕ) → place ≡ length lv.history
-    → (iv2 : ImageValue) (lv2 : LedgerValue) → Opens (event.Begun a.number server (record { no = place; at = at; measure = measure })) iv iv2 lv lv2
-    → Tells (begun_by at measure) a ledger (LedgerCell lv2)
-tells-begun at measure a image ledger due role tag server iv image_is lv ledger_is place e iv2 lv2 opens =
+    → (iv2 : ImageValue) (lv2 : LedgerValue) → Opens (event.Begun a.number server (record { no = place; at = at; measures = measures })) iv iv2 lv lv2
+    → Tells (begun_by at measures) a ledger (LedgerCell lv2)
+tells-begun at measures a image ledger due role tag server iv image_is lv ledger_is place e iv2 lv2 opens =
     let servers : server ≡ due = (let tags : ImageOf server ≡ ImageOf due = sym (ap tag_of image_is) ∙ tag in cc) in
-    tells (begun_by at measure) a ledger lv lv2 ledger_is
+    tells (begun_by at measures) a ledger lv lv2 ledger_is
     (opens.notes.history
-    ∙ ap (λ (s : ℕ). event.Begun a.number s (record { no = place; at = at; measure = measure }) ∷ lv.history) (server-is a server due role servers)
-    ∙ ap (λ (k : ℕ). event.Begun a.number (server_of a.role) (record { no = k; at = at; measure = measure }) ∷ lv.history) e)
+    ∙ ap (λ (s : ℕ). event.Begun a.number s (record { no = place; at = at; measures = measures }) ∷ lv.history) (server-is a server due role servers)
+    ∙ ap (λ (k : ℕ). event.Begun a.number (server_of a.role) (record { no = k; at = at; measures = measures }) ∷ lv.history) e)
 
 pub tells-asked : (h : List Dimension) (filter : List Pick) (a : ActorValue) (desk ledger : CellValue) (due : ℕ) → a.role ≡ Session due → tag_of desk ≡ DeskOf due
     → (server : ℕ) (dv : DeskValue) → desk ≡ DeskCell server dv → (iv : ImageValue) (lv : LedgerValue) → ledger ≡ LedgerCell lv

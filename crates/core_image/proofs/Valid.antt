@@ -9,8 +9,7 @@ use Rattle.describing_set.specs.declared.listing.Spot.{Spot}
 use Rattle.row_ledger.specs.Bounds.{may}
 use Rattle.row_ledger.specs.Listings.{IsBox}
 use Rattle.row_ledger.specs.Past.{Ack, acked, begun}
-use Rattle.row_ledger.proofs.Elements.{Contains-filter}
-use Rattle.volap_cell.proofs.Beginnings.{row-number}
+use Rattle.list_words.proofs.Elements.{Contains-filter}
 use Rattle.volap_cell.proofs.Knowing.{acked-begun}
 use Rattle.server_image.specs.Image.{AreGrowths}
 use Rattle.server_image.specs.Spots.{AreBoxes}
@@ -23,6 +22,7 @@ use Rattle.volap_cell.specs.View.{View, view, row_at, row_or}
 use Rattle.volap_cell.specs.World.{World}
 use Rattle.core_image.proofs.Rows.{row-coords, may-coords}
 use Rattle.core_image.proofs.Widens.{begun-there}
+use Rattle.row_ledger.proofs.Ended.{number_of}
 
 module _ (s : Setting) (w : World) (g : Ghost) (i : InvWith s (view s w) g) where
   abbrev v : View
@@ -54,7 +54,7 @@ module _ (s : Setting) (w : World) (g : Ghost) (i : InvWith s (view s w) g) wher
   pub placed-number : (r : ℕ) → g.placed r ≡ true → (row_at v.history r).no ≡ r
   placed-number r p =
       let b = i.placing.begun r p in
-      subst (λ (x : Row). x.no ≡ r) (sym (ap row_or b.1)) (row-number (site_in s) g.placed v.history r b.0 i.telling.right.right.each b.1)
+      subst (λ (x : Row). x.no ≡ r) (sym (ap row_or b.1)) (number_of (site_in s) g.placed v.history r b.0 i.telling.right.right.each b.1)
 
   pub placed-usable : (r : ℕ) → g.placed r ≡ true → Contains (may g.placed v.history) (row_at v.history r)
   placed-usable r p =

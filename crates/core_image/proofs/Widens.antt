@@ -2,7 +2,7 @@
 use Rattle.std.proofs.Common.{◌≡◌, ◌≢◌, ℕ, ◌<◌, List, [], ◌∷◌, ◌++◌, map, length, Bool, true, eqb, IsTrue, refl, sym, ap, subst, arith, ◌∙◌, ◌⊎◌, inl, inr, ◌==◌, ◌&&◌, All, Any, Contains, Option, Some, None}
 use Rattle.std.specs.List.{AllZip, cons_option, list_any}
 use Rattle.std.specs.Prelude.{IsSome, filter_map, option_and_then}
-use Rattle.std.proofs.lemmas.Bool.{and_parts, eqb-true, eq-eqb}
+use Rattle.std.proofs.lemmas.Bool.{and_parts, eqb-true, eq-eqb, eqb-false}
 use Rattle.std.proofs.lemmas.List.Elements.{All-push, All-weaker, Contains-append_left, Contains-push}
 use Rattle.std.proofs.lemmas.List.Folds.{Any-from_list_any, list_any_at}
 use Rattle.dim_hierarchy.specs.Dimension.{IsHierarchy}
@@ -23,13 +23,13 @@ use Rattle.row_ledger.specs.Kept.{KeepsRight}
 use Rattle.row_ledger.specs.Shards.{comes_from, ids_made, is_live, is_path}
 use Rattle.row_ledger.specs.declared.event.Event.{Event}
 use Rattle.row_ledger.proofs.Descent.{comes_from-made, live-made}
-use Rattle.row_ledger.proofs.Elements.{Contains-filter}
+use Rattle.list_words.proofs.Elements.{Contains-filter}
 use Rattle.row_ledger.proofs.Older.{begun-older}
 use Rattle.server_image.specs.Image.{ImageValue, IsAcked, last_shard}
 use Rattle.server_image.specs.Registry.{RegistryValue}
 use Rattle.server_image.specs.Spots.{along, is_among}
 use Rattle.server_image.specs.declared.image.Growth.{Growth}
-use Rattle.tree_shape.proofs.Walks.{on_bool, eqb-eq, eqb-ne}
+use Rattle.list_words.proofs.Truth.{on_bool}
 use Rattle.volap_cell.specs.Errands.{RowWay}
 use Rattle.volap_cell.specs.Imaging.{Covering, Fits, HasGrown, Imaging, IsCovered, IsGrowth, IsImageOf, IsSpotOf}
 use Rattle.volap_cell.specs.Lineage.{Leading}
@@ -125,11 +125,11 @@ module _ (s : Setting) (h : List Event) (placed : ℕ → Bool) (home : ℕ → 
 
     spots-now : (x : ℕ) → AllZip IsAsBefore (images x).spots (images_now x).spots
     spots-now x = on_bool (eqb x server)
-        (λ q. let e = eqb-eq x server q in
+        (λ q. let e = eqb-true x server q in
         subst (λ (y : ℕ). AllZip IsAsBefore (images y).spots (images_now y).spots) (sym e)
         (subst (λ (i : ImageValue). AllZip IsAsBefore i.spots (images_now server).spots) (sym new.was_there)
         (subst (λ (i : ImageValue). AllZip IsAsBefore image.spots i.spots) (sym new.is_there) (as-before image.spots image_now.spots wide))))
-        (λ q. subst (λ (i : ImageValue). AllZip IsAsBefore (images x).spots i.spots) (sym (new.elsewhere x (eqb-ne x server q))) (same (images x).spots))
+        (λ q. subst (λ (i : ImageValue). AllZip IsAsBefore (images x).spots i.spots) (sym (new.elsewhere x (eqb-false x server q))) (same (images x).spots))
 
     -- Images.
 
@@ -158,8 +158,8 @@ module _ (s : Setting) (h : List Event) (placed : ℕ → Bool) (home : ℕ → 
     pub imaging-now : Imaging s h (row_at h) images_now placed
     imaging-now = record {
       image = λ x lt. on_bool (eqb x server)
-          (λ q. subst (λ (y : ℕ). IsImageOf s h (row_at h) placed y (images_now y)) (sym (eqb-eq x server q)) (subst (IsImageOf s h (row_at h) placed server) (sym new.is_there) image-now))
-          (λ q. subst (IsImageOf s h (row_at h) placed x) (sym (new.elsewhere x (eqb-ne x server q))) (imaging.image x lt));
+          (λ q. subst (λ (y : ℕ). IsImageOf s h (row_at h) placed y (images_now y)) (sym (eqb-true x server q)) (subst (IsImageOf s h (row_at h) placed server) (sym new.is_there) image-now))
+          (λ q. subst (IsImageOf s h (row_at h) placed x) (sym (new.elsewhere x (eqb-false x server q))) (imaging.image x lt));
     }
 
     -- Ways.
@@ -205,10 +205,10 @@ module _ (s : Setting) (h : List Event) (placed : ℕ → Bool) (home : ℕ → 
 
     growths-stay : (x : ℕ) (g : Growth) → Contains (images x).growths g → Contains (images_now x).growths g
     growths-stay x g has = on_bool (eqb x server)
-        (λ q. let e = eqb-eq x server q in
+        (λ q. let e = eqb-true x server q in
         subst (λ (i : ImageValue). Contains i.growths g) (sym (ap images_now e ∙ new.is_there)) (subst (λ (gs : List Growth). Contains gs g) (sym grows.noted)
         (Contains-append_left image.growths (growth ∷ []) g (subst (λ (i : ImageValue). Contains i.growths g) (ap images e ∙ new.was_there) has))))
-        (λ q. subst (λ (i : ImageValue). Contains i.growths g) (sym (new.elsewhere x (eqb-ne x server q))) has)
+        (λ q. subst (λ (i : ImageValue). Contains i.growths g) (sym (new.elsewhere x (eqb-false x server q))) has)
 
     pub covering-now : (registry : RegistryValue) → Covering s h (row_at h) registry images placed home path → Covering s h (row_at h) registry images_now placed home path
     covering-now registry i = record {

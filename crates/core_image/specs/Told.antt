@@ -18,7 +18,7 @@ server_of role = 0
 -- What an actor's event is, at its place in the history.
 
 abbrev pub begun_by : Coord → ℤ → ActorValue → ℕ → Event
-begun_by at measure a place = event.Begun a.number (server_of a.role) (record { no = place; at = at; measure = measure })
+begun_by at measures a place = event.Begun a.number (server_of a.role) (record { no = place; at = at; measures = measures })
 
 abbrev pub asked_by : List Pick → ActorValue → ℕ → Event
 asked_by filter a place = event.Asked a.number (server_of a.role) filter

@@ -9,7 +9,7 @@ ghost use Rattle.volap_cell.specs.Values.{actor_of};
 ghost use Rattle.volap_cell.specs.World.{change, held};
 ghost use Rattle.volap_cell.specs.declared.kind.Kind.TheVariants.{BeginInsert};
 
-use dim_hierarchy::{Coord, Hierarchy, Row};
+use dim_hierarchy::{Coord, Hierarchy, Measures, Row};
 use row_ledger::{Event, Ledger};
 use server_image::Image;
 use std::alloc::{AllocError, Global};
@@ -27,14 +27,14 @@ pub fn begin_insert(
     ledger: &mut Cell,
     actor: &mut Actor,
     at: Coord,
-    measure: i64,
+    measures: Measures,
 ) -> Result<(), AllocError>
     requires here { IsHere h.now (held image_at (cell_of image.old) ∷ held ledger_at (cell_of ledger.old) ∷ []) (actor_of actor.old) }
     requires due { CanBeginInsert h.now at (cell_of image.old) (cell_of ledger.old) (actor_of actor.old) }
     ensures made { OnOk result (Makes h.now BeginInsert
         (change image_at (cell_of image.old) (cell_of image.new) ∷ change ledger_at (cell_of ledger.old) (cell_of ledger.new) ∷ [])
         (actor_of actor.old) (actor_of actor.new)) }
-    ensures told { OnOk result (Tells (begun_by at measure) (actor_of actor.old) (cell_of ledger.old) (cell_of ledger.new)) }
+    ensures told { OnOk result (Tells (begun_by at measures) (actor_of actor.old) (cell_of ledger.old) (cell_of ledger.new)) }
     ensures refused { OnErr result ((image.new ≡ image.old) × (ledger.new ≡ ledger.old) × (actor_of actor.new ≡ actor_of actor.old)) }
 {
     let _ = alloc;
@@ -48,7 +48,7 @@ pub fn begin_insert(
     let row = Row {
         no: ledger.len(),
         at,
-        measure,
+        measures,
     };
     open(image, ledger, actor.number, *server, &row)?;
     actor.command = Some(Command {

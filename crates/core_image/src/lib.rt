@@ -9,7 +9,6 @@ mod calls;
 mod counts;
 mod ended;
 mod fails;
-mod filters;
 mod left;
 mod notes;
 mod owing;

@@ -1,5 +1,5 @@
 //! The step that begins a query.
-ghost use Rattle.std.specs.Prelude.{◌≡◌, ◌+◌, ◌<◌, ◌≤◌, [], ◌∷◌, ◌++◌, length, map, vec_len, vec_capacity, IfOk, OnOk, OnErr};
+ghost use Rattle.std.specs.Prelude.{◌≡◌, ◌<◌, [], ◌∷◌, map, IfOk, OnOk, OnErr};
 ghost use Rattle.core_image.specs.Asking.{CanBeginQuery, CanAsk, Asks};
 ghost use Rattle.core_image.specs.Told.{Tells, asked_by};
 ghost use Rattle.volap_cell.specs.Cells.{cell_of};
@@ -9,9 +9,8 @@ ghost use Rattle.volap_cell.specs.Values.{actor_of};
 ghost use Rattle.volap_cell.specs.World.{change, held};
 ghost use Rattle.volap_cell.specs.declared.kind.Kind.TheVariants.{BeginQuery};
 
-use crate::filters::copy_filter;
 use describing_set::{Listing, Path, Spot};
-use dim_hierarchy::{Filter, Hierarchy};
+use dim_hierarchy::{Filter, Hierarchy, copy_filter};
 use query_router::{Desk, Part, PartState, Want};
 use row_ledger::{Event, Ledger};
 use server_image::Image;

@@ -87,7 +87,7 @@ fn copy(row: &Row) -> Row
     Row {
         no: row.no,
         at: Coord { at: row.at.at },
-        measure: row.measure,
+        measures: row.measures,
     }
 }
 

@@ -2,7 +2,7 @@
 ghost use Rattle.std.specs.Prelude.{◌≡◌, ◌<◌, ◌+◌, ◌^◌, [], ◌∷◌, Some, OnOk, OnErr};
 ghost use Rattle.core_image.specs.Pulling.{CanSync, CanPull, Pulls};
 ghost use Rattle.volap_cell.specs.Cells.{cell_of};
-ghost use Rattle.volap_cell.specs.Commands.{due_pull, pulled_once};
+ghost use Rattle.volap_cell.specs.Commands.{pulled_once};
 ghost use Rattle.volap_cell.specs.ImageKinds.{doing};
 ghost use Rattle.volap_cell.specs.Steps.{IsHere, Makes};
 ghost use Rattle.volap_cell.specs.Values.{actor_of};

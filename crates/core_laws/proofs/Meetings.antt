@@ -2,7 +2,7 @@
 use Rattle.std.proofs.Common.{◌≡◌, ◌∙◌, inl, inr, ◌⊎◌, ℕ, zero, suc, ◌+◌, ◌<◌, ◌≤◌, Bool, true, false, cond, eqb, leb, List, [], ◌∷◌, length, Option, Some, None, refl, sym, ap, subst, arith, map}
 use Rattle.std.specs.Prelude.{Any, Contains, IsTrue, not, slice_get}
 use Rattle.std.proofs.lemmas.List.{map-append}
-use Rattle.std.proofs.lemmas.Bool.{cases_lt, cond_both, false≢true}
+use Rattle.std.proofs.lemmas.Bool.{cases_lt, cond_both, false≢true, eqb-true, eqb-false}
 use Rattle.std.proofs.lemmas.List.Elements.{All-contains, Contains-append_right}
 use Rattle.std.proofs.lemmas.Option.{get_or_from_slice_get, same_Some, slice_get_read, slice_get_within}
 use Rattle.measure_agg.proofs.AggLaws.{agg-append}
@@ -20,9 +20,10 @@ use Rattle.row_ledger.proofs.Descent.{comes_from-comparable, live-made}
 use Rattle.row_ledger.specs.Past.{Query, insert_at, query_at}
 use Rattle.row_ledger.specs.Shards.{comes_from}
 use Rattle.row_ledger.specs.declared.event.Event.{Event}
-use Rattle.tree_shape.proofs.Parts.{total-append}
-use Rattle.tree_shape.proofs.Walks.{eqb-eq, eqb-ne, on_bool, same_is}
-use Rattle.tree_shape.specs.Counts.{same, times, total}
+use Rattle.list_words.proofs.Totals.{total-append}
+use Rattle.list_words.proofs.Truth.{on_bool}
+use Rattle.list_words.proofs.Times.{same_is}
+use Rattle.list_words.specs.Counts.{same, times, total}
 use Rattle.tree_shape.specs.Queries.{items_of}
 use Rattle.tree_shape.specs.Shape.{Node, Shape, nodes}
 use Rattle.tree_shape.specs.Walks.{AreNoted, IsNoted, IsTail, Noted, beneath, pending, reach}
@@ -288,8 +289,8 @@ module _ (s : Setting) (w : World) (g : Ghost) (i : InvWith s (view s w) g) (ser
   at-home r x one =
       let placed = is-placed s v g i x r one.stands (omega (arith, one.once)) in
       on_bool (eqb x (g.home r))
-      (λ same. (placed, eqb-eq x (g.home r) same))
-      (λ other. let none = (in-one s v g i r placed).others x one.stands (eqb-ne x (g.home r) other) in absurd (omega (arith, none, one.once)))
+      (λ same. (placed, eqb-true x (g.home r) same))
+      (λ other. let none = (in-one s v g i r placed).others x one.stands (eqb-false x (g.home r) other) in absurd (omega (arith, none, one.once)))
 
   ahead-under : (p : Part) (r : ℕ) → IsAheadOf s v (standing s v g i) p r → IsUnder v.history g.placed g.home p.shard r
   ahead-under p r ahead =

@@ -7,9 +7,9 @@ use Rattle.row_ledger.specs.declared.event.Event.{Event}
 use Rattle.row_ledger.specs.declared.event.Event.TheVariants as event
 use Rattle.row_ledger.specs.declared.settings.How.TheVariants as how
 use Rattle.shard_store.specs.declared.gate.Gate.{Gate}
-use Rattle.tree_shape.proofs.Parts.{each-append}
-use Rattle.tree_shape.proofs.Walks.{eqb-eq}
-use Rattle.tree_shape.specs.Counts.{Each}
+use Rattle.list_words.proofs.Each.{each-append}
+use Rattle.std.proofs.lemmas.Bool.{eqb-true}
+use Rattle.list_words.specs.Counts.{Each}
 use Rattle.volap_cell.proofs.Frames.{AreAt}
 use Rattle.volap_cell.proofs.Grows.{insert-same}
 use Rattle.volap_cell.specs.AdminKinds.{DoesFinishMove, DoesFinishSplit, Finishes, MovesIn, PushesBoth}
@@ -104,7 +104,7 @@ quiet-at [] cells at each y = quiet-none (ledger_in (cells y)).history
 quiet-at (c ∷ cs) cells at each y = go (quiet-at cs cells at.1 each.1 y) (eqb y c.number) refl
   where
     go : IsQuiet (ledger_in (cells y)).history (ledger_in (put cs cells y)).history → (b : Bool) → eqb y c.number ≡ b → IsQuiet (ledger_in (cells y)).history (ledger_in (cond b c.now (put cs cells y))).history
-    go rest true here = subst (λ (x : CellValue). IsQuiet (ledger_in x).history (ledger_in c.now).history) (sym (ap cells (eqb-eq y c.number here) ∙ at.0)) each.0
+    go rest true here = subst (λ (x : CellValue). IsQuiet (ledger_in x).history (ledger_in c.now).history) (sym (ap cells (eqb-true y c.number here) ∙ at.0)) each.0
     go rest false off = rest
 
 -- the cells of a split that is finished

@@ -4,7 +4,7 @@ use Rattle.std.proofs.lemmas.Bool.{false≢true}
 use Rattle.query_router.specs.Desk.{DeskValue}
 use Rattle.row_ledger.specs.Past.{Ack}
 use Rattle.std.specs.Prelude.{Contains, Option}
-use Rattle.tree_shape.proofs.Walks.{on_bool}
+use Rattle.list_words.proofs.Truth.{on_bool}
 use Rattle.volap_cell.proofs.AdminViews.{view-finish_move, view-finish_split}
 use Rattle.volap_cell.proofs.Spares.{move-blank, split-blank}
 use Rattle.volap_cell.proofs.Standings.{standing, in-none, in-one}

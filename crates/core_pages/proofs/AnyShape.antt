@@ -10,21 +10,24 @@ use Rattle.shard_store.specs.declared.gate.Gate.{Gate}
 use Rattle.tree_shape.specs.PageLines.{CellBlocks}
 use Rattle.tree_shape.specs.PageLines.{group, group_entries}
 use Rattle.tree_page.specs.Still.{cells_with, IsStill}
-use Rattle.tree_page.proofs.Bodies.{each-mapped, total-none}
+use Rattle.list_words.proofs.Each.{each-made, each-flat, each-both}
+use Rattle.list_words.proofs.Totals.{total-none, total-flat, total-same, total-map}
+use Rattle.list_words.proofs.Times.{each-times, split-at, times-split, same_is}
+use Rattle.list_words.specs.Counts.{Each, same, times, total}
+use Rattle.std.proofs.lemmas.List.{length-append}
+use Rattle.std.proofs.lemmas.Bool.{leb-false, leb-true}
+use Rattle.list_words.proofs.Truth.{on_bool}
 use Rattle.tree_page.proofs.Counts.{IsEntry, group-is, entries-ok, root-ok, rows-ok}
 use Rattle.tree_page.proofs.Listing.{leaf_rows, rows_at}
-use Rattle.tree_page.proofs.Numbers.{each-flat, each-times, split-at, times-flat, times-split, total-flat, total-same}
-use Rattle.tree_shape.specs.Counts.{Each, same, times, total}
+use Rattle.tree_page.proofs.Numbers.{times-flat}
 use Rattle.tree_shape.specs.Shape.{Table, Node, TreeCells, node_of, nodes, Shape, numbers}
 use Rattle.tree_shape.specs.Trees.{EntryOk, IsTree, lies}
 use Rattle.tree_shape.specs.Walks.{IsTail, noted_of}
 use Rattle.tree_shape.proofs.Assembled.{node-block, node-gate}
-use Rattle.tree_shape.proofs.Descends.{length-plus}
-use Rattle.tree_shape.proofs.Divisions.{each-both, sums-high, sums-low, sums-out}
-use Rattle.tree_shape.proofs.Parts.{total-map}
-use Rattle.tree_shape.proofs.Queries.{leb-gt, leb-le, reach-low}
+use Rattle.tree_shape.proofs.Divisions.{sums-high, sums-low, sums-out}
+use Rattle.tree_shape.proofs.Queries.{reach-low}
 use Rattle.tree_shape.proofs.Totals.{entry-counted, reach-root}
-use Rattle.tree_shape.proofs.Walks.{on_bool, same_is}
+use Rattle.tree_shape.proofs.Beneath.{total-le}
 
 -- walks along right links to one stamp are the same
 same-tail : (look : ℕ → Node) (stamp y : ℕ) (zs us : List ℕ) → IsTail look stamp y zs → IsTail look stamp y us → zs ≡ us
@@ -37,10 +40,6 @@ same-tail look stamp y (z ∷ zs) (u ∷ us) a b =
     let rest = same-tail look stamp z zs us a.2 (subst (λ (x : ℕ). IsTail look stamp x us) (sym e) b.2) in
     (λ k. e k ∷ rest k)
 
-total-le : {A : Type 0} (f h : A → ℕ) (xs : List A) → Each (λ x. f x ≤ h x) xs → total f xs ≤ total h xs
-total-le f h [] e = omega arith
-total-le f h (x ∷ xs) e = let a = e.0 in let b = total-le f h xs e.1 in omega arith
-
 -- lists of the same length, of which the one has no number oftener than the other, have each as often
 same-times : (xs ys : List ℕ) → ((r : ℕ) → times r xs ≤ times r ys) → length xs ≡ length ys → (r : ℕ) → times r xs ≡ times r ys
 same-times [] [] h e r = refl
@@ -50,8 +49,8 @@ same-times (x ∷ xs) ys h e r =
     let o = same_is x x refl in
     let w = split-at x ys (omega arith) in
     let l = ap length w.is in
-    let p = length-plus w.front (x ∷ w.back) in
-    let q = length-plus w.front w.back in
+    let p = length-append w.front (x ∷ w.back) in
+    let q = length-append w.front w.back in
     let ih = same-times xs (w.front ++ w.back) (λ n. let b = h n in let y = ap (times n) w.is in let z = times-split x n w.front w.back in omega arith) (omega arith) r in
     let y = ap (times r) w.is in
     let z = times-split x r w.front w.back in
@@ -118,7 +117,7 @@ module _ (table : Table) (home : ℕ) (gate : Gate) (blocks : CellBlocks) (g0 g 
   entries-here : (l k : ℕ) (e : Entry) → k ≡ l + 1 → k < gate.height → Ok0 k e → Ok k e → Each (Ok l) (group_entries blocks e)
   entries-here l k e up lt a ok = subst (λ bs. Each (Ok l) (flat_map (λ (b : Block). entries_in b.body) bs)) (sym (group-here k e lt a ok))
       (each-flat (Ok l) (λ (b : Block). entries_in b.body) (map (blocks.block) (g.group e.child))
-      (each-mapped (IsHere k) (λ (b : Block). Each (Ok l) (entries_in b.body)) (blocks.block) (g.group e.child)
+      (each-made (IsHere k) (λ (b : Block). Each (Ok l) (entries_in b.body)) (blocks.block) (g.group e.child)
       (λ y on. subst (λ (n : Node). Each (Ok l) n.entries) (node-is k y lt on) (t.tree.dirs y l on.0 (on.1 ∙ up)).entries) (on-level k e ok)))
 
   dir-le : (l k : ℕ) (e : Entry) → k ≡ l + 1 → k < gate.height → Ok0 k e → Ok k e → (r : ℕ) → total (λ x. times r (g.below x.child)) (group_entries blocks e) ≤ times r (g.below e.child)
@@ -137,7 +136,7 @@ module _ (table : Table) (home : ℕ) (gate : Gate) (blocks : CellBlocks) (g0 g 
       on_bool (g.placed r)
       (λ p. on_bool (leb (g.level (g.at r)) l)
       (λ q.
-      let low = leb-le _ _ q in
+      let low = leb-true _ _ q in
       let si = t.tree.shape.stands r p in
       let each : (y : ℕ) → IsHere k y → total w (look y).entries ≡ same (g.above (g.at r) k) y =
       λ y on. (let d = t.tree.dirs y l on.0 (on.1 ∙ up) in
@@ -150,7 +149,7 @@ module _ (table : Table) (home : ℕ) (gate : Gate) (blocks : CellBlocks) (g0 g 
       let reach = reach-low g (noted_of g k e) (g.at r) (omega arith) in
       let whole : times r (g.below e.child) ≡ times (g.above (g.at r) k) ws = ok.rows r ∙ (rw p reach) in
       omega arith)
-      (λ q. none (λ y on. sums-high g look table l r (look y).entries (t.tree.dirs y l on.0 (on.1 ∙ up)).entries p (leb-gt _ _ q))))
+      (λ q. none (λ y on. sums-high g look table l r (look y).entries (t.tree.dirs y l on.0 (on.1 ∙ up)).entries p (leb-false _ _ q))))
       (λ p. none (λ y on. sums-out g look table l r (look y).entries (t.tree.dirs y l on.0 (on.1 ∙ up)).entries p))
 
   -- rows beneath entries

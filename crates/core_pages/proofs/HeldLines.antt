@@ -19,8 +19,8 @@ use Rattle.row_ledger.specs.Workers.{is_on}
 use Rattle.row_ledger.specs.declared.page.ShardLine.{ShardLine}
 use Rattle.server_image.specs.Registry.{RegistryValue}
 use Rattle.shard_store.specs.declared.gate.Gate.{Gate}
-use Rattle.tree_shape.specs.Counts.{Among, Each}
-use Rattle.tree_shape.proofs.Parts.{all-each, each-here}
+use Rattle.list_words.specs.Counts.{Among, Each}
+use Rattle.list_words.proofs.Each.{all-each, each-here}
 use Rattle.volap_cell.specs.Cells.{CellValue, OfStock, TheLedger, TheStock, TheRegistry, ImageOf, DeskOf, MapOf, cell_of, gate_shard, registry_in, tag_of, where_in}
 use Rattle.volap_cell.specs.Ghost.{Ghost}
 use Rattle.volap_cell.specs.Invariant.{InvWith}

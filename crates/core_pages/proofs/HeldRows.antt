@@ -13,8 +13,8 @@ use Rattle.measure_agg.specs.Joining.{join}
 use Rattle.measure_agg.proofs.AggLaws.{agg-append, join_associative, join_empty_left, join_empty_right}
 use Rattle.row_ledger.specs.declared.page.AuditLine.{AuditLine}
 use Rattle.server_image.specs.Registry.{RegistryValue}
-use Rattle.tree_shape.specs.Counts.{Each}
-use Rattle.tree_shape.proofs.Parts.{all-each}
+use Rattle.list_words.specs.Counts.{Each}
+use Rattle.list_words.proofs.Each.{all-each}
 use Rattle.volap_cell.specs.Ghost.{Ghost}
 use Rattle.volap_cell.specs.Invariant.{InvWith}
 use Rattle.volap_cell.specs.Setting.{Setting, registry_cell}

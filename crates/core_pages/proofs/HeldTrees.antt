@@ -2,7 +2,7 @@
 -- gate's tree is at rest, so that a page made of it is what the state has.
 use Rattle.std.proofs.Common.{Result, Ok, Err, ℕ, ◌≡◌, ◌≢◌, ◌-◌, ◌<◌, true, false, cond, eqb, List, [], ◌∷◌, length, map, Option, Some, None, get_or, inl, inr, refl, sym, ap, ◌∙◌, subst, arith}
 use Rattle.std.specs.Prelude.{IfOk, IsSome}
-use Rattle.std.proofs.lemmas.Bool.{cases_lt}
+use Rattle.std.proofs.lemmas.Bool.{cases_lt, eqb-true, eqb-false}
 use Rattle.std.proofs.lemmas.List.{get_or_past}
 use Rattle.dim_hierarchy.specs.declared.row.Row.{Row}
 use Rattle.dc_node.specs.Summary.{IsSummaryOf}
@@ -13,15 +13,15 @@ use Rattle.shard_store.specs.declared.gate.Gate.{Gate}
 use Rattle.shard_store.specs.declared.gate.Phase.{Phase}
 use Rattle.tree_page.specs.Still.{cells_with, IsStill, CanShow}
 use Rattle.tree_page.proofs.AnyCount.{with_count, lines-same}
-use Rattle.tree_page.proofs.Bodies.{each-mapped}
+use Rattle.list_words.proofs.Each.{each-made}
+use Rattle.list_words.proofs.Times.{each-times}
+use Rattle.list_words.specs.Counts.{Each, times}
+use Rattle.list_words.proofs.Truth.{on_bool}
 use Rattle.tree_page.proofs.Counts.{root-times}
-use Rattle.tree_page.proofs.Numbers.{each-times}
-use Rattle.tree_shape.specs.Counts.{Each, times}
 use Rattle.tree_shape.specs.PageLines.{CellBlocks, lines}
 use Rattle.tree_shape.specs.Shape.{Shape, Table, TreeCells, numbers}
 use Rattle.tree_shape.specs.Trees.{IsTree}
 use Rattle.tree_shape.proofs.Totals.{gate-sum}
-use Rattle.tree_shape.proofs.Walks.{on_bool, eqb-eq, eqb-ne}
 use Rattle.volap_cell.specs.Cells.{CellValue, FreeCell, LedgerCell, StockCell, RegistryCell, ImageCell, DeskCell, MapCell, GateCell, BlockCell, block_in, cell_of, gate_shard, has_block, phase_of, queue_in, way_in, way_to_tree}
 use Rattle.volap_cell.specs.Errands.{RowWay, way_of}
 use Rattle.volap_cell.specs.Ghost.{Ghost, NotOfStock, AGate, InTree}
@@ -160,9 +160,9 @@ module _ (cells : List (Option Cell)) (actors : List (Option Actor)) (s : Settin
 
   in-use : (y : ℕ) → g0.inside y ≡ true → (ghost.owner y ≢ NotOfStock) × (w.cells y ≢ FreeCell)
   in-use y inside = on_bool (eqb y at)
-      (λ q. let e = eqb-eq _ _ q in subst (λ (z : ℕ). (ghost.owner z ≢ NotOfStock) × (w.cells z ≢ FreeCell)) (sym e)
+      (λ q. let e = eqb-true _ _ q in subst (λ (z : ℕ). (ghost.owner z ≢ NotOfStock) × (w.cells z ≢ FreeCell)) (sym e)
       (λ o. (let never : AGate ≡ NotOfStock = sym (inv.stocking.gate at can.gate) ∙ o in cc), taken))
-      (λ q. let ne = eqb-ne _ _ q in
+      (λ q. let ne = eqb-false _ _ q in
       let in_tree = inv.stocking.tree at y whole inside ne in (
         λ o. (let never : InTree at ≡ NotOfStock = sym in_tree.0 ∙ o in cc),
         λ free. (let never : false ≡ true = sym (ap has_block free) ∙ in_tree.1 in cc),
@@ -227,7 +227,7 @@ module _ (cells : List (Option Cell)) (actors : List (Option Actor)) (s : Settin
       is_gate = ap gate_shard gate_cell ∙ ap Some e;
       stands = can.stands;
       queue_is = ap (λ (c : CellValue). (queue_in c).rows) gate_cell;
-      named = each-mapped (λ n. (v.row n).no ≡ n) (λ (r : Row). v.row r.no ≡ r) v.row ns (λ n e. ap v.row e) all-numbered;
+      named = each-made (λ n. (v.row n).no ≡ n) (λ (r : Row). v.row r.no ≡ r) v.row ns (λ n e. ap v.row e) all-numbered;
       tree_is = λ g tree r. ap (times r) (numbers-back v.row ns all-numbered) ∙ same-placed table at gate blocks g0 g still (as-read g tree) r;
     }
 

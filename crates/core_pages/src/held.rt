@@ -3,9 +3,9 @@ ghost use Rattle.std.specs.Prelude.{◌≡◌, Some, get_or, None, IsSome};
 ghost use Rattle.core_pages.specs.Held.{blocks_of, gate_held};
 ghost use Rattle.tree_shape.specs.Trees.{leaf_without_rows};
 
-use block_cells::BlockCells;
 use dc_node::Block;
 use shard_store::Gate;
+use tree_page::BlockCells;
 use volap_cell::Cell;
 
 /// Cells, and an empty leaf, which is lent for each cell that has no block.

@@ -17,11 +17,12 @@ use Rattle.volap_cell.specs.Values.{ActorValue, ErrandValue, ReadingValue, TaskV
 use Rattle.volap_cell.specs.View.{View, view}
 use Rattle.volap_cell.specs.World.{World, Change, after}
 use Rattle.volap_cell.specs.declared.errand.RowErrand.{RowErrand}
-use Rattle.volap_cell.proofs.Beginnings.{no-query, row-number}
+use Rattle.volap_cell.proofs.Beginnings.{no-query}
 use Rattle.volap_cell.proofs.DeskParts.{TurnsParts, turned-parts}
 use Rattle.volap_cell.proofs.Fields.{IsNewAt}
 use Rattle.volap_cell.proofs.Frames.{actor-at, actor-off}
 use Rattle.volap_cell.proofs.PartLists.{found-at, place-set, place-splits}
+use Rattle.row_ledger.proofs.Ended.{number_of}
 
 -- The actor's fields: it has no part then.
 module _ (s : Setting) (w : World) (cs : List Change) (n : ℕ) (b : ActorValue) (e : ErrandValue) (had : (w.actors n).errand ≡ Some e) (none : b.errand ≡ None) where
@@ -87,7 +88,7 @@ module _ (s : Setting) (v : View) (g : Ghost) (i : InvWith s v g) (n : ℕ) (e :
   pub row-begun : (r : RowErrand) → e.task ≡ OfRow r → (x : Insert) × (insert_at v.history at.of ≡ Some x) × (x.row ≡ r.row) × (r.row.no ≡ at.of)
   row-begun r is =
       let (x, begun, row) = wants (OfRow r) is in
-      (x, begun, row, ap (λ (z : Row). z.no) (sym row) ∙ row-number (site_in s) g.placed v.history at.of x i.telling.right.right.each begun)
+      (x, begun, row, ap (λ (z : Row). z.no) (sym row) ∙ number_of (site_in s) g.placed v.history at.of x i.telling.right.right.each begun)
 
   pub row-no-query : (r : RowErrand) → e.task ≡ OfRow r → (q : Query) → query_at v.history at.of ≡ Some q → ⊥
   row-no-query r is q asked = (let (x, begun, row) = wants (OfRow r) is in no-query v.history at.of x q begun asked)

@@ -1,7 +1,7 @@
 -- What an actor's part becomes where its shard was split: a row's waits for the child on its side, and a query's for both.
 use Rattle.std.proofs.Common.{◌≡◌, ◌≢◌, ℕ, ◌<◌, List, [], ◌∷◌, ◌++◌, Bool, true, false, not, Option, Some, None, refl, sym, ap, subst, ◌∙◌, ◌⊎◌, inl, inr, arith, All, Any, Contains, ◌==◌, ◌&&◌, ◌||◌}
 use Rattle.std.specs.Prelude.{IsSome, IsTrue, if◌then◌else◌}
-use Rattle.std.proofs.lemmas.Bool.{false≢true}
+use Rattle.std.proofs.lemmas.Bool.{false≢true, ne_eqb}
 use Rattle.std.proofs.lemmas.List.Elements.{All-cons, All-contains, All-nil, All-weaker, Contains-append_left, Contains-append_right}
 use Rattle.describing_set.specs.declared.listing.Spot.{Spot}
 use Rattle.describing_set.specs.declared.plane.Plane.{Plane}
@@ -13,7 +13,7 @@ use Rattle.query_router.specs.declared.part.Want.TheVariants as want
 use Rattle.row_ledger.specs.Past.{Query, query_at}
 use Rattle.row_ledger.specs.Shards.{comes_from, ids_made, is_child}
 use Rattle.row_ledger.proofs.Descent.{WasSplit, comes_from-child, split-made}
-use Rattle.tree_shape.proofs.Walks.{eqb-no, eqb-self}
+use Rattle.list_words.proofs.Truth.{eqb-self}
 use Rattle.volap_cell.specs.Desking.{AreUnrelated, IsQueryPart, IsQueryState}
 use Rattle.volap_cell.specs.Errands.{Outside, RowWay, has_passed, place_of, read_in_task, taken_by, way_in_task}
 use Rattle.volap_cell.specs.Ghost.{Ghost}
@@ -166,10 +166,10 @@ module _ (s : Setting) (v : View) (g : Ghost) (i : InvWith s v g) (n : ℕ) (e :
         let lines = unrelated s v g i n e takes before behind old was with q asked p has in
         let not_left : p.shard ≢ left = (λ same. false≢true (sym lines.0 ∙ ap (comes_from v.history e.shard) same ∙ children.from_left)) in
         let not_right : p.shard ≢ right = (λ same. false≢true (sym lines.0 ∙ ap (comes_from v.history e.shard) same ∙ children.from_right)) in
-        rw (eqb-self e.server, eqb-no p.shard left not_left, eqb-no p.shard right not_right) refl
+        rw (eqb-self e.server, ne_eqb p.shard left not_left, ne_eqb p.shard right not_right) refl
 
     off-same : (x : ℕ) → x ≢ e.server → (y : ℕ) → now x y ≡ g.counted x y
-    off-same x ne y = rw (eqb-no x e.server ne) refl
+    off-same x ne y = rw (ne_eqb x e.server ne) refl
 
     -- its query, as the part is one of a query
     its-query : (q : Query) × (query_at v.history of ≡ Some q)

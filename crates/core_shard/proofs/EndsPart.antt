@@ -9,7 +9,7 @@ use Rattle.query_router.specs.declared.part.PartState.{PartState}
 use Rattle.row_ledger.specs.Past.{Insert, Query, insert_at, last_of, query_at}
 use Rattle.row_ledger.specs.Shards.{is_path}
 use Rattle.row_ledger.specs.declared.event.Event.{Event}
-use Rattle.tree_shape.specs.Counts.{times}
+use Rattle.list_words.specs.Counts.{times}
 use Rattle.tree_shape.specs.Queries.{IsUnfinished, fits}
 use Rattle.tree_shape.specs.Shape.{nodes}
 use Rattle.tree_shape.proofs.Rows.{after-all}

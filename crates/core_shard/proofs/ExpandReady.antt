@@ -14,7 +14,7 @@ use Rattle.query_router.specs.Desk.{DeskValue, is_with}
 use Rattle.query_router.specs.declared.part.Part.{Part}
 use Rattle.query_router.specs.declared.part.Want.{Want}
 use Rattle.query_router.specs.declared.part.Want.TheVariants as want
-use Rattle.row_ledger.proofs.Elements.{Some-same}
+use Rattle.list_words.proofs.Elements.{Some-same}
 use Rattle.volap_cell.specs.Cells.{CellValue, DeskCell, MapCell, where_in}
 use Rattle.volap_cell.specs.Errands.{taken_by, taken_of}
 use Rattle.volap_cell.specs.ShardKinds.{DoesExpand, IsOutside, PutsChildren, TurnsDesk, child_for, waiting}

@@ -7,7 +7,7 @@ use Rattle.row_ledger.specs.Workers.{left_at}
 use Rattle.row_ledger.specs.declared.event.Event.{Event}
 use Rattle.row_ledger.specs.declared.event.Event.TheVariants.{Moved, Split}
 use Rattle.row_ledger.proofs.Descent.{WasSplit, comes_from-comparable, comes_from-self, split-made}
-use Rattle.row_ledger.proofs.Elements.{Contains-nil}
+use Rattle.list_words.proofs.Elements.{Contains-nil}
 use Rattle.row_ledger.specs.Right.{EachEvent, Site, Stands}
 use Rattle.volap_cell.specs.Falls.{count_events, departure, far, is_from, moves_ahead, splits_under}
 use Rattle.volap_cell.specs.Lineage.{went_to}

@@ -9,8 +9,8 @@ use Rattle.query_router.specs.Desk.{DeskValue, is_with}
 use Rattle.query_router.specs.declared.part.Part.{Part}
 use Rattle.query_router.specs.declared.part.PartState.TheVariants as state
 use Rattle.shard_store.specs.declared.gate.Gate.{Gate}
-use Rattle.tree_shape.proofs.Parts.{each-right}
-use Rattle.tree_shape.proofs.Walks.{eqb-self}
+use Rattle.list_words.proofs.Each.{each-right}
+use Rattle.list_words.proofs.Truth.{eqb-self}
 use Rattle.volap_cell.specs.Cells.{CellValue, DeskCell, DeskOf, GateCell, gate_shard, pins_in, tag_of}
 use Rattle.volap_cell.specs.Desking.{IsAtPart}
 use Rattle.volap_cell.specs.Errands.{ReadPart, read_in_task, read_of, taken_by, taken_of}

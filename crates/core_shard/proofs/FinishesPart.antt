@@ -9,7 +9,8 @@ use Rattle.query_router.specs.declared.part.PartState.{PartState}
 use Rattle.query_router.specs.declared.part.PartState.TheVariants as state
 use Rattle.row_ledger.specs.declared.event.Event.{Event}
 use Rattle.shard_store.specs.declared.gate.Gate.{Gate}
-use Rattle.tree_shape.proofs.Walks.{on_bool, eqb-eq, eqb-ne, eqb-no, eqb-self}
+use Rattle.list_words.proofs.Truth.{on_bool, eqb-self}
+use Rattle.std.proofs.lemmas.Bool.{eqb-true, eqb-false, ne_eqb}
 use Rattle.volap_cell.specs.Errands.{Outside, RowWay, gate_entered, place_of, row_way, way_in_task}
 use Rattle.volap_cell.specs.Falls.{GoesOn, far, gates_of_errand, gates_of_part, gates_of_state, gates_of_task, gates_of_way, left, one_if_any, per_query, queries_of_errand, queries_of_state, queries_of_task, rows_of_errand, rows_of_part, rows_of_task, rows_of_way}
 use Rattle.volap_cell.specs.Ghost.{Ghost}
@@ -247,16 +248,16 @@ module _ (d : Change) (b : ActorValue) (s : Setting) (w : World) (n : ℕ) (g : 
           let pins : (y : ℕ) → now.pins y + one_pin y (pin_of does.e.task) ≡ (view s w).pins y =
           λ y. on_bool (eqb y p.number)
           (λ q.
-          let here = eqb-eq y p.number q in
+          let here = eqb-true y p.number q in
           let one : one_pin y (pin_of does.e.task) ≡ 1 = ap (one_pin y) is ∙ ap (λ (z : ℕ). one_pin z (Some c)) (here ∙ number) ∙ rw (eqb-self c) refl in
           let was : (view s w).pins y ≡ gate.pins = ap (view s w).pins here ∙ books.2.was_there in
           let after_it : now.pins y ≡ gate_now.pins = ap now.pins here ∙ books.2.is_there in
           let fewer : gate.pins ≡ gate_now.pins + 1 = ap (λ (x : Gate). x.pins) less in
           omega (arith, one, was, after_it, fewer))
           (λ q.
-          let ne = eqb-ne y p.number q in
+          let ne = eqb-false y p.number q in
           let other : c ≢ y = (λ z. ne (sym z ∙ sym number)) in
-          let zero : one_pin y (pin_of does.e.task) ≡ 0 = ap (one_pin y) is ∙ rw (eqb-no c y other) refl in
+          let zero : one_pin y (pin_of does.e.task) ≡ 0 = ap (one_pin y) is ∙ rw (ne_eqb c y other) refl in
           let same = books.2.elsewhere y ne in
           omega (arith, zero, same)) in
           let same = finish-same (p ∷ []) d b s w n g i ag does new pins in

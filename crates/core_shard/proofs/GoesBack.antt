@@ -1,16 +1,15 @@
 -- A part that an actor took goes back to its desk, as it is then, or as others in its place: what the invariant keeps.
 use Rattle.std.proofs.Common.{◌≡◌, ◌≢◌, ℕ, ◌+◌, ◌<◌, List, [], ◌∷◌, ◌++◌, true, false, eqb, Option, Some, None, refl, sym, ap, subst, ◌∙◌, ◌⊎◌, inl, inr, arith, All, Any, Contains}
 use Rattle.std.specs.Prelude.{IsSome}
-use Rattle.std.proofs.lemmas.Bool.{false≢true}
+use Rattle.std.proofs.lemmas.Bool.{false≢true, eqb-true, eqb-false}
 use Rattle.std.proofs.lemmas.List.Elements.{All-weaker, All-cons, All-nil}
 use Rattle.query_router.specs.Desk.{DeskValue, is_open, is_refused, is_taken, is_with}
 use Rattle.query_router.specs.declared.part.Part.{Part}
 use Rattle.query_router.specs.declared.part.PartState.{PartState}
 use Rattle.query_router.specs.declared.part.PartState.TheVariants as state
 use Rattle.row_ledger.specs.Past.{Insert, Query, insert_at, query_at}
-use Rattle.tree_shape.proofs.Divisions.{each-map}
-use Rattle.tree_shape.proofs.Parts.{each-right}
-use Rattle.tree_shape.proofs.Walks.{on_bool, eqb-eq, eqb-ne}
+use Rattle.list_words.proofs.Each.{each-map, each-right}
+use Rattle.list_words.proofs.Truth.{on_bool}
 use Rattle.tree_shape.specs.Queries.{NoneWaits, fits}
 use Rattle.volap_cell.specs.Desking.{AreLinesApart, AreUnrelated, Desking, IsAtPart, IsInsertState, IsQueryPart, IsQueryState, IsTaken}
 use Rattle.volap_cell.specs.Errands.{AtBlock, InLeaf, ReadPart, RowPlace, RowWay, Taken, gate_entered, read_in_task, taken_by, way_in_task}
@@ -197,10 +196,10 @@ module _ (s : Setting) (v : View) (g : Ghost) (i : InvWith s v g) (readers : Rea
   items-less : (stamp b : ℕ) → NoneWaits stamp (items_of_read (v.reads b) ++ items_of_job (v.jobs b)) → NoneWaits stamp (items_of_read (reads_now b) ++ items_of_job (v.jobs b))
   items-less stamp b none = on_bool (eqb b n)
       (λ q.
-      let is : b ≡ n = eqb-eq b n q in
+      let is : b ≡ n = eqb-true b n q in
       subst (λ (o : Option ReadPart). NoneWaits stamp (items_of_read o ++ items_of_job (v.jobs b))) (sym (ap reads_now is ∙ k.reads.is_there))
       (each-right (λ x. x.stamp ≢ stamp) (items_of_read (v.reads b)) (items_of_job (v.jobs b)) none))
-      (λ q. subst (λ (o : Option ReadPart). NoneWaits stamp (items_of_read o ++ items_of_job (v.jobs b))) (sym (k.reads.elsewhere b (eqb-ne b n q))) none)
+      (λ q. subst (λ (o : Option ReadPart). NoneWaits stamp (items_of_read o ++ items_of_job (v.jobs b))) (sym (k.reads.elsewhere b (eqb-false b n q))) none)
 
   pub back-stamping : Stamping v.stock v.blocks v.made v.trees v.gates v.phases pins_now v.purses reads_now v.jobs g.shape
   back-stamping = (let m = i.stamping in record {
@@ -333,13 +332,13 @@ module _ (s : Setting) (v : View) (g : Ghost) (i : InvWith s v g) (readers : Rea
     counted-still : (a : ℕ) (t : Taken) → taken_now a ≡ Some t → counted_now t.server t.shard ≡ g.counted t.server t.shard
     counted-still a t is = on_bool (eqb t.server e.server)
         (λ q.
-        let same = eqb-eq t.server e.server q in
+        let same = eqb-true t.server e.server q in
         let (ne, has) = took a t is in
         let (p, rest, with) = other-part a t ne has same in
         let shard = (with-parts t.shard t.worker p with).0 in
         let here : counted_now e.server t.shard ≡ g.counted e.server t.shard = subst (λ (y : ℕ). counted_now e.server y ≡ g.counted e.server y) shard (parts.same p rest) in
         subst (λ (y : ℕ). counted_now y t.shard ≡ g.counted y t.shard) (sym same) here)
-        (λ q. parts.off t.server (eqb-ne t.server e.server q) t.shard)
+        (λ q. parts.off t.server (eqb-false t.server e.server q) t.shard)
 
     pub back-querying : Querying s v.history v.row v.blocks v.trees desks_now taken_now reads_now g.shape g.placed g.home counted_now
     back-querying = (let m = i.querying in record {

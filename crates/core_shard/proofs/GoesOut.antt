@@ -1,7 +1,7 @@
 -- A part that waited is taken from its desk by an actor that has none: what the invariant keeps.
 use Rattle.std.proofs.Common.{◌≡◌, ◌≢◌, ℕ, ◌<◌, List, [], ◌∷◌, ◌++◌, true, false, eqb, Option, Some, None, refl, sym, ap, subst, ◌∙◌, ◌⊎◌, inl, inr, arith, All, Any, Contains, option_and_then, ◌||◌}
 use Rattle.std.specs.Prelude.{IsSome}
-use Rattle.std.proofs.lemmas.Bool.{eq-eqb, false≢true}
+use Rattle.std.proofs.lemmas.Bool.{eq-eqb, false≢true, eqb-true, eqb-false}
 use Rattle.std.proofs.lemmas.List.Elements.{All-contains, All-weaker, All-cons, All-nil}
 use Rattle.dim_hierarchy.specs.declared.row.Row.{Row}
 use Rattle.dim_hierarchy.specs.declared.filter.Pick.{Pick}
@@ -12,8 +12,8 @@ use Rattle.query_router.specs.declared.part.PartState.TheVariants as state
 use Rattle.query_router.specs.declared.part.Want.{Want}
 use Rattle.query_router.specs.declared.part.Want.TheVariants as want
 use Rattle.row_ledger.specs.Past.{event_at, insert_at, query_at, session_in}
-use Rattle.row_ledger.proofs.Elements.{Contains-nil}
-use Rattle.tree_shape.proofs.Walks.{on_bool, eqb-eq, eqb-ne}
+use Rattle.list_words.proofs.Elements.{Contains-nil}
+use Rattle.list_words.proofs.Truth.{on_bool}
 use Rattle.volap_cell.specs.Desking.{AreLinesApart, Desking, IsAtPart, IsInsertState, IsQueryPart, IsQueryState, IsTaken, IsWantOf, AreUnrelated, is_on_desk}
 use Rattle.volap_cell.specs.Errands.{Outside, RowPlace, RowWay, Taken, gate_entered, taken_by, way_in_task}
 use Rattle.volap_cell.specs.Ghost.{Ghost}
@@ -102,13 +102,13 @@ module _ (s : Setting) (v : View) (g : Ghost) (i : InvWith s v g) (n server : �
   -- who has a part now had it, or it is the actor's
   took : (a : ℕ) (t : Taken) → taken_now a ≡ Some t → ((a ≡ n) × (t ≡ taken_by e)) ⊎ ((a ≢ n) × (v.taken a ≡ Some t))
   took a t is = on_bool (eqb a n)
-      (λ q. let same = eqb-eq a n q in let both : Some t ≡ Some (taken_by e) = sym is ∙ ap taken_now same ∙ k.taken.is_there in inl (same, cc))
-      (λ q. let ne = eqb-ne a n q in inr (ne, sym (k.taken.elsewhere a ne) ∙ is))
+      (λ q. let same = eqb-true a n q in let both : Some t ≡ Some (taken_by e) = sym is ∙ ap taken_now same ∙ k.taken.is_there in inl (same, cc))
+      (λ q. let ne = eqb-false a n q in inr (ne, sym (k.taken.elsewhere a ne) ∙ is))
 
   went : (a : ℕ) (w : RowWay) → ways_now a ≡ Some w → ((a ≡ n) × (way_in_task e e.task ≡ Some w)) ⊎ ((a ≢ n) × (v.ways a ≡ Some w))
   went a w is = on_bool (eqb a n)
-      (λ q. let same = eqb-eq a n q in inl (same, sym k.ways.is_there ∙ ap ways_now (sym same) ∙ is))
-      (λ q. let ne = eqb-ne a n q in inr (ne, sym (k.ways.elsewhere a ne) ∙ is))
+      (λ q. let same = eqb-true a n q in inl (same, sym k.ways.is_there ∙ ap ways_now (sym same) ∙ is))
+      (λ q. let ne = eqb-false a n q in inr (ne, sym (k.ways.elsewhere a ne) ∙ is))
 
   still-taken : (a : ℕ) (t : Taken) → v.taken a ≡ Some t → (a ≢ n) × (taken_now a ≡ Some t)
   still-taken a t is =

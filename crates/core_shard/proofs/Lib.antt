@@ -17,4 +17,3 @@ pub mod ChildrenWait
 pub mod ExpandsPart
 pub mod ExpandReady
 pub mod NotesHeights
-pub mod Plans

@@ -7,7 +7,7 @@ use Rattle.dim_hierarchy.specs.Dimension.{Dimension}
 use Rattle.mapping_table.specs.declared.place.Where.{Where}
 use Rattle.mapping_table.specs.declared.place.Where.TheVariants as where_is
 use Rattle.row_ledger.specs.declared.event.Event.{Event}
-use Rattle.row_ledger.proofs.Elements.{Some-same}
+use Rattle.list_words.proofs.Elements.{Some-same}
 use Rattle.shard_store.specs.declared.gate.Gate.{Gate}
 use Rattle.volap_cell.specs.Cells.{CellValue, GateCell, MapCell, MapOf, gate_shard, tag_of, where_in}
 use Rattle.volap_cell.specs.Errands.{taken_by, taken_of}

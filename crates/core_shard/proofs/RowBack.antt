@@ -1,7 +1,7 @@
 -- The row of a part that goes back to its desk: how far it has come, and that no actor is at it then.
 use Rattle.std.proofs.Common.{◌≡◌, ℕ, Option, Some, None, sym, ap, ◌∙◌}
 use Rattle.row_ledger.specs.Past.{Insert, insert_at}
-use Rattle.row_ledger.proofs.Elements.{Some-same}
+use Rattle.list_words.proofs.Elements.{Some-same}
 use Rattle.query_router.specs.declared.part.Want.TheVariants as want
 use Rattle.volap_cell.specs.Errands.{RowWay, has_passed, place_of, row_way, taken_by, way_in_task}
 use Rattle.volap_cell.specs.Ghost.{Ghost}

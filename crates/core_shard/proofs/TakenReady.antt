@@ -12,18 +12,9 @@ use Rattle.volap_cell.specs.ShardKinds.{DoesTakePart, IsDeskFor, errand_for, may
 use Rattle.volap_cell.specs.Steps.{Makes}
 use Rattle.volap_cell.specs.Values.{ActorValue}
 use Rattle.volap_cell.specs.World.{change}
-use Rattle.volap_cell.specs.declared.command.Command.{Command}
 use Rattle.volap_cell.specs.declared.kind.Kind.TheVariants.{TakePart}
-use Rattle.volap_cell.specs.declared.role.Role.{Role}
-use Rattle.volap_cell.specs.declared.role.Role.TheVariants.{Hand, Session}
-use Rattle.core_shard.specs.Due.{CanTakePart, IsTaker, IsWaiting}
+use Rattle.core_shard.specs.Due.{CanTakePart, IsWaiting}
 use Rattle.core_shard.proofs.TakesPart.{take-keeps}
-
--- who has a desk takes parts
-pub is-taker : (r : Role) (server : ℕ) (desk : DeskValue) (command : Option Command) → IsDeskFor r server desk command → IsTaker r
-is-taker (Session x) server desk command its = tt
-is-taker (Hand x) server desk command its = tt
-is-taker _ server desk command its = absurd its
 
 waits-in : (st : PartState) → state_waits st ≡ true → (wanted : Want) × (st ≡ state.Waiting wanted)
 waits-in (state.Waiting wanted) is = (wanted, refl)

@@ -1,5 +1,5 @@
 //! A part whose shard was split goes on to the children.
-ghost use Rattle.std.specs.Prelude.{◌≡◌, ◌++◌, [], ◌∷◌, None, Some, IfOk, OnErr, OnOk, option_map};
+ghost use Rattle.std.specs.Prelude.{◌≡◌, ◌++◌, [], ◌∷◌, None, Some, IfOk, OnErr, OnOk};
 ghost use Rattle.core_shard.specs.Due.{CanDivide, CanExpand, CanGoDown, Divides, HasFilter, IsRowOn, AreBothOn};
 ghost use Rattle.query_router.specs.Desk.{IsAt, is_taken};
 ghost use Rattle.query_router.specs.declared.part.Want.TheVariants.{Filter as OfFilter};
@@ -15,9 +15,9 @@ ghost use Rattle.volap_cell.specs.declared.kind.Kind.TheVariants.{Expand};
 
 use crate::errands::{leave, waiting};
 use describing_set::{Path, Plane, goes_left};
-use dim_hierarchy::{Filter, Hierarchy};
+use dim_hierarchy::{Filter, Hierarchy, copy_filter};
 use mapping_table::{MapTable, Where};
-use query_router::{Desk, Part, PartState, Want, copy_filter};
+use query_router::{Desk, Part, PartState, Want};
 use std::alloc::{AllocError, Global};
 use volap_cell::{Actor, Cell, Errand, Task};
 

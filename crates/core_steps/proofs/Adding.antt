@@ -1,18 +1,18 @@
 -- What a step has put in the ledger's cell is there when the cells are back at their places.
 use Rattle.std.proofs.Common.{◌≡◌, ◌≢◌, ℕ, zero, suc, ◌<◌, true, cond, eqb, List, [], ◌∷◌, Option, Some, None, get_or, set, length, slice_get, inl, inr, refl, sym, ap, ◌∙◌, subst}
-use Rattle.std.proofs.lemmas.Bool.{cases_lt}
+use Rattle.std.proofs.lemmas.Bool.{cases_lt, ne_eqb, eqb-false}
 use Rattle.core_image.specs.Told.{Tells}
 use Rattle.core_steps.specs.Added.{Adds, AddsQuiet, EndsIn, Spares}
 use Rattle.row_ledger.specs.declared.event.Event.{Event}
-use Rattle.tree_shape.proofs.Walks.{eqb-no, on_bool, eqb-ne}
-use Rattle.tree_shape.specs.Counts.{Each}
+use Rattle.list_words.proofs.Truth.{on_bool}
+use Rattle.list_words.specs.Counts.{Each}
 use Rattle.volap_cell.specs.Cells.{CellValue, cell_of}
 use Rattle.volap_cell.specs.State.{AreDifferent, Exchange, IsWorldOf, MayHold, Stand, cells_before, cells_now, changes_of, given, numbers_of, taken}
 use Rattle.volap_cell.specs.Values.{ActorValue, actor_of}
 use Rattle.volap_cell.specs.World.{World, after, put}
 use Rattle.volap_cell.specs.declared.actor.Actor.{Actor}
 use Rattle.volap_cell.specs.declared.cell.Cell.{Cell}
-use Rattle.volap_cell.proofs.States.{length-given, length-taken, of-it, same-actor, stand-world, stands, within, world-after}
+use Rattle.volap_cell.proofs.States.{of-it, same-actor, stand-world, stands, within, world-after}
 
 -- what holds of the numbers of all holds of that of one
 number-of : (P : ℕ → Type 0) (xs : List Exchange) (k : ℕ) (x : Exchange) → slice_get xs k ≡ Some x → Each P (numbers_of xs) → P x.number
@@ -27,7 +27,7 @@ was-at cells (y ∷ ys) zero x e each = (let s : y ≡ x = cc in subst (λ (z : 
 was-at cells (y ∷ ys) (suc k) x e each = was-at cells ys k x e each.1
 
 same-number : (n : ℕ) → eqb n n ≡ true
-same-number n = on_bool (eqb n n) (λ q. q) (λ q. absurd (eqb-ne _ _ q refl))
+same-number n = on_bool (eqb n n) (λ q. q) (λ q. absurd (eqb-false _ _ q refl))
 
 put-at : (cells : ℕ → CellValue) (xs : List Exchange) (k : ℕ) (x : Exchange) → slice_get xs k ≡ Some x → AreDifferent (numbers_of xs) → put (changes_of xs) cells x.number ≡ cell_of x.now
 put-at cells [] k x e apart = (let e2 : None ≡ Some x = e in absurd (cc))
@@ -36,7 +36,7 @@ put-at cells (y ∷ ys) zero x e apart =
     subst (λ (z : Exchange). cond (eqb z.number y.number) (cell_of y.now) (put (changes_of ys) cells z.number) ≡ cell_of z.now) s (rw (same-number y.number) refl)
 put-at cells (y ∷ ys) (suc k) x e apart =
     let ne : x.number ≢ y.number = number-of (λ (z : ℕ). z ≢ y.number) ys k x e apart.0 in
-    rw (eqb-no x.number y.number ne) (put-at cells ys k x e apart.1)
+    rw (ne_eqb x.number y.number ne) (put-at cells ys k x e apart.1)
 
 -- a cell that the vectors have is the same in whatever state they are
 pub same-cell : (cells : List (Option Cell)) (actors : List (Option Actor)) (w v : World) (y : ℕ) → IsWorldOf cells actors w → IsWorldOf cells actors v → y < length cells → v.cells y ≡ w.cells y
@@ -51,7 +51,7 @@ places-within cells (x ∷ xs) st = (within cells x.number x.before st.0, places
 -- any other place stays
 put-off : (cells : ℕ → CellValue) (xs : List Exchange) (y : ℕ) → Each (λ z. y ≢ z) (numbers_of xs) → put (changes_of xs) cells y ≡ cells y
 put-off cells [] y off = refl
-put-off cells (x ∷ xs) y off = rw (eqb-no y x.number off.0) (put-off cells xs y off.1)
+put-off cells (x ∷ xs) y off = rw (ne_eqb y x.number off.0) (put-off cells xs y off.1)
 
 -- The state that vectors are after a driver's step, at the places of cells.
 module _ (cells cells_out cells_back : List (Option Cell)) (actors actors_out actors_back : List (Option Actor)) (xs : List Exchange) (n : ℕ) (a now : Actor)
@@ -65,9 +65,6 @@ module _ (cells cells_out cells_back : List (Option Cell)) (actors actors_out ac
 
   lts : Each (λ x. x.number < length cells) xs
   lts = places-within cells xs may.stand
-
-  many : length cells_back ≡ length cells
-  many = ap (λ (zs : List (Option Cell)). length zs) to ∙ length-given (cells_now xs) (taken (numbers_of xs) cells) ∙ length-taken (numbers_of xs) cells
 
   is-after : (w : World) → IsWorldOf cells actors w → IsWorldOf cells_back actors_back (after w (changes_of xs) n (actor_of now))
   is-after w is =

@@ -5,8 +5,8 @@ use Rattle.std.proofs.lemmas.List.{map-append}
 use Rattle.std.proofs.Common.{append_assoc}
 use Rattle.std.specs.Prelude.{option_map}
 use Rattle.dim_hierarchy.specs.Dimension.{Dimension}
-use Rattle.tree_shape.proofs.Parts.{each-append, each-left, each-right}
-use Rattle.tree_shape.specs.Counts.{Each}
+use Rattle.list_words.proofs.Each.{each-append, each-left, each-right}
+use Rattle.list_words.specs.Counts.{Each}
 use Rattle.volap_cell.specs.Cells.{CellValue, cell_of}
 use Rattle.volap_cell.specs.State.{AreDifferent, HasInv, MayHold, Stand, cell_if, given, number_if, still, taken}
 use Rattle.volap_cell.specs.Steps.{IsHere}

@@ -2,7 +2,7 @@
 use Rattle.std.proofs.Common.{◌≡◌, ◌≢◌, ◌∙◌, ℕ, ◌<◌, List, [], ◌∷◌, map, length, Option, Some, None, get_or, set, refl, subst, sym}
 use Rattle.std.proofs.lemmas.List.{get_or_default, set-set}
 use Rattle.dim_hierarchy.specs.Dimension.{Dimension}
-use Rattle.tree_shape.specs.Counts.{Each}
+use Rattle.list_words.specs.Counts.{Each}
 use Rattle.volap_cell.specs.Cells.{CellValue, cell_of}
 use Rattle.std.specs.Prelude.{⊤}
 use Rattle.volap_cell.specs.State.{CanLift, Has, HasInv, IsUnkept, MayHold, Stand, still}
@@ -56,13 +56,6 @@ module _ (h : List Dimension) (cells : List (Option Cell)) (actors : List (Optio
   -- the cells can be moved out, and so can the actor
   pub can-lift : (numbers : List ℕ) → MayStep cells actors numbers n Can → CanLift cells numbers
   can-lift numbers may = record { there = places-there numbers may.within; apart = may.apart }
-
-  pub can-lift-actor : (numbers : List ℕ) → MayStep cells actors numbers n Can → Has (get_or actors n None) (λ (x : Actor). ⊤)
-  can-lift-actor numbers may = (let k = stands (get_or actors n None) (λ x. actor_of x ≡ w.actors n) (has.is.actor n may.actor) in is-some (get_or actors n None) (λ (x : Actor). ⊤) k.0 k.1 tt)
-
-  -- an actor stands there
-  pub never-out : (numbers : List ℕ) → MayStep cells actors numbers n Can → (o : Option Actor) → o ≡ get_or actors n o → ((x : Actor) → o ≡ Some x → ⊥) → ⊥
-  never-out numbers may o is not = (let k = stands (get_or actors n None) (λ x. actor_of x ≡ w.actors n) (has.is.actor n may.actor) in not k.0 (is ∙ get_or_default actors n o None may.actor ∙ k.1))
 
   unkept-by : (y : ℕ) → ((a : ℕ) → a ≢ n → MustKeep (w.actors a) y → ⊥) → IsUnkept actors n y
   unkept-by y not a ne lt = has-not (get_or actors a None) (w.actors a) y (has.is.actor a lt) (not a ne)

@@ -1,8 +1,9 @@
 -- Where a kind finds no memory, its cells and its actor are put back as they were, and the vectors are the same state.
 use Rattle.std.proofs.Common.{ℕ, ◌≡◌, ◌<◌, cond, eqb, List, [], ◌∷◌, Option, Some, None, get_or, set, length, refl, sym, ap, ◌∙◌, subst}
 use Rattle.std.proofs.lemmas.List.{length-set}
-use Rattle.tree_shape.proofs.Walks.{eqb-eq, on_bool}
-use Rattle.tree_shape.specs.Counts.{Each}
+use Rattle.std.proofs.lemmas.Bool.{eqb-true}
+use Rattle.list_words.proofs.Truth.{on_bool}
+use Rattle.list_words.specs.Counts.{Each}
 use Rattle.volap_cell.specs.Cells.{CellValue, cell_of}
 use Rattle.volap_cell.specs.Opening.{IsFresh}
 use Rattle.volap_cell.specs.State.{Exchange, Has, IsWorldOf, MayHold, Stand, cells_before, cells_now, changes_of, given, numbers_of, taken}
@@ -24,7 +25,7 @@ places-within cells (x ∷ xs) st = (within cells x.number x.before st.0, places
 put-same : (cells : ℕ → CellValue) (xs : List Exchange) → Each (λ (t : ℕ × Cell). cells t.0 ≡ cell_of t.1) (cells_before xs) → Each IsAsBefore xs → (y : ℕ) → put (changes_of xs) cells y ≡ cells y
 put-same cells [] stood same y = refl
 put-same cells (x ∷ xs) stood same y = on_bool (eqb y x.number)
-    (λ q. rw q (ap cell_of same.0 ∙ sym stood.0 ∙ ap cells (sym (eqb-eq _ _ q))))
+    (λ q. rw q (ap cell_of same.0 ∙ sym stood.0 ∙ ap cells (sym (eqb-true _ _ q))))
     (λ q. rw q (put-same cells xs stood.1 same.1 y))
 
 -- a state whose cells and actors are those of another one
@@ -39,7 +40,7 @@ same-world cells actors w v same equal is = record {
 
 same-but : (w : World) (n : ℕ) (v : ActorValue) → w.actors n ≡ v → (a : ℕ) → cond (eqb a n) v (w.actors a) ≡ w.actors a
 same-but w n v e a = on_bool (eqb a n)
-    (λ q. rw q (sym e ∙ ap w.actors (sym (eqb-eq _ _ q))))
+    (λ q. rw q (sym e ∙ ap w.actors (sym (eqb-true _ _ q))))
     (λ q. rw q refl)
 
 -- A driver whose kind changed nothing: with the cells and the actor moved out and put back, the vectors are the state that they were.

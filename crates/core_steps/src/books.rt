@@ -8,7 +8,7 @@ ghost use Rattle.core_steps.specs.Ready.{MayStep, Stays};
 ghost use Rattle.volap_cell.specs.State.{HasInv, Stepped};
 ghost use Rattle.volap_cell.specs.declared.kind.Kind.TheVariants.{Ack, Answer, BeginInsert, BeginQuery, Route, Sync};
 
-use dim_hierarchy::{Coord, Filter, Hierarchy};
+use dim_hierarchy::{Coord, Filter, Hierarchy, Measures};
 use std::alloc::{AllocError, Global};
 use volap_cell::{State, lift_three, lift_two, put_three, put_two};
 
@@ -54,12 +54,12 @@ pub fn begin_insert(
     image_at: u32,
     ledger_at: u32,
     at: Coord,
-    measure: i64,
+    measures: Measures,
 ) -> Result<(), AllocError>
     requires state { HasInv h.now state.old.cells.items state.old.actors.items }
     requires ready { MayStep state.old.cells.items state.old.actors.items (image_at ∷ ledger_at ∷ []) number (BeginsInsert h.now at) }
     ensures stepped { OnOk result (Stepped h.now BeginInsert number state.old.cells.items state.old.actors.items state.new.cells.items state.new.actors.items) }
-    ensures told { OnOk result (Adds (begun_by at measure) number ledger_at state.old.cells.items state.old.actors.items state.new.cells.items state.new.actors.items) }
+    ensures told { OnOk result (Adds (begun_by at measures) number ledger_at state.old.cells.items state.old.actors.items state.new.cells.items state.new.actors.items) }
     ensures stays { OnErr result (Stays state.old.cells.items state.old.actors.items state.new.cells.items state.new.actors.items) }
 {
     let (cells, actors) = (&mut state.cells, &mut state.actors);
@@ -76,7 +76,7 @@ pub fn begin_insert(
         &mut ledger,
         actor,
         at,
-        measure,
+        measures,
     );
     put_two(cells, image_at, image, ledger_at, ledger);
     made

@@ -1,7 +1,7 @@
 //! Cells that a driver moves out at times only, by twos.
 ghost use Rattle.std.specs.Prelude.{◌≡◌, ◌<◌, ◌++◌, length, is_some};
 ghost use Rattle.core_steps.specs.HeldIf.{number_of};
-ghost use Rattle.tree_shape.specs.Counts.{Each};
+ghost use Rattle.list_words.specs.Counts.{Each};
 ghost use Rattle.volap_cell.specs.State.{CanLift, Stand, cell_if, given, taken};
 
 use volap_cell::{Cell, lift_if, put_if};

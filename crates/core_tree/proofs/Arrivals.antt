@@ -8,7 +8,7 @@ use Rattle.row_ledger.specs.Past.{Insert, insert_at}
 use Rattle.row_ledger.specs.Shards.{Place, frontier, is_live, is_of}
 use Rattle.row_ledger.specs.declared.event.Event.{Event}
 use Rattle.shard_store.specs.declared.gate.Phase.TheVariants.{Gone}
-use Rattle.tree_shape.proofs.Walks.{on_bool}
+use Rattle.list_words.proofs.Truth.{on_bool}
 use Rattle.volap_cell.specs.Desking.{is_on_desk}
 use Rattle.volap_cell.specs.Errands.{Outside, RowWay, has_passed, is_filled, place_of, row_way, way_of}
 use Rattle.volap_cell.specs.Ghost.{Ghost}
@@ -29,8 +29,9 @@ use Rattle.volap_cell.specs.declared.errand.Way.{Way}
 use Rattle.volap_cell.specs.declared.errand.Way.TheVariants as way_is
 use Rattle.volap_cell.specs.declared.role.Role.{Role}
 use Rattle.volap_cell.proofs.Actors.{row-at, taken-is}
-use Rattle.volap_cell.proofs.Beginnings.{no-query, row-number}
+use Rattle.volap_cell.proofs.Beginnings.{no-query}
 use Rattle.volap_cell.proofs.Persons.{has-taken}
+use Rattle.row_ledger.proofs.Ended.{number_of}
 
 -- an actor has one errand and one row
 pub same-row : {a : ActorValue} {e f : ErrandValue} {r q : RowErrand} → HasRow a e r → HasRow a f q → (e ≡ f) × (r ≡ q)
@@ -99,7 +100,7 @@ arrives s w g i n gate e r has outside leads =
     let on_way = i.inserting.on_way n (row_way e r) was in
     let at = i.desking.at_parts n _ taken in
     let (insert, began, same) = at.wants in
-    let number : r.row.no ≡ at.of = ap (λ (x : Row). x.no) (sym same) ∙ row-number (site_in s) g.placed v.history at.of insert i.telling.right.right.each began in
+    let number : r.row.no ≡ at.of = ap (λ (x : Row). x.no) (sym same) ∙ number_of (site_in s) g.placed v.history at.of insert i.telling.right.right.each began in
     let (a, c, its, its_of, role, on) = i.desking.whose e.server at.of at.within at.op in
     let begun_there : insert_at v.history c.of ≡ Some insert = ap (insert_at v.history) its_of ∙ began in
     let work = routed-work s v.history c.of insert c.work (v.jobs a) (v.roles a) begun_there on (i.telling.progress a c its) in

@@ -1,5 +1,5 @@
 -- A purse is filled for the row of an actor, or given back: all rows are as far as they were.
-use Rattle.std.proofs.Common.{◌≡◌, ◌≢◌, ℕ, ◌+◌, ◌*◌, ◌≤◌, Bool, true, false, eqb, List, length, Option, Some, None, All, refl, sym, ap, ◌∙◌, subst}
+use Rattle.std.proofs.Common.{◌≡◌, ◌≢◌, ℕ, ◌+◌, ◌*◌, ◌≤◌, Bool, true, false, eqb, List, length, Option, Some, None, refl, sym, ap, ◌∙◌, subst}
 use Rattle.std.specs.Prelude.{option_map}
 use Rattle.std.proofs.lemmas.List.Elements.{All-weaker}
 use Rattle.cell_stock.specs.declared.purse.Spare.{Spare}
@@ -12,11 +12,11 @@ use Rattle.server_image.specs.Image.{ImageValue}
 use Rattle.shard_store.specs.declared.gate.Phase.{Phase}
 use Rattle.shard_store.specs.declared.queue.Queue.{Queue}
 use Rattle.tree_shape.specs.Shape.{Shape}
-use Rattle.tree_shape.proofs.Walks.{eqb-eq, eqb-ne, on_bool}
+use Rattle.std.proofs.lemmas.Bool.{eqb-true, eqb-false}
+use Rattle.list_words.proofs.Truth.{on_bool}
 use Rattle.volap_cell.specs.Errands.{AtBlock, RowWay}
 use Rattle.volap_cell.specs.Placing.{Inserting, IsOnWay, IsRowPart, NobodyAt, Placing}
 use Rattle.volap_cell.specs.Setting.{Setting, actor_count}
-use Rattle.volap_cell.specs.Sums.{sum_below}
 use Rattle.volap_cell.specs.Turning.{IsIn, Turning, inside_of}
 use Rattle.volap_cell.specs.declared.command.Command.{Command}
 use Rattle.volap_cell.proofs.Sums.{sum-same}
@@ -115,9 +115,9 @@ module _ (ways ways_now : ℕ → Option RowWay) (still : (a : ℕ) → option_m
           let ne : a ≢ n = carrier a c y w is at in
           rw (purses_off a ne, boxes_off a ne) (i.enough a c y w (sym (off a ne) ∙ is) at);
       boxed = λ a w is filled. on_bool (eqb a n)
-          (λ q. let e = eqb-eq a n q in
+          (λ q. let e = eqb-true a n q in
           subst (λ (z : ℕ). 2 * length (purses_now z) + 1 ≤ boxes_now z) (sym e) (enough w (ap ways_now (sym e) ∙ is) filled))
-          (λ q. let ne = eqb-ne a n q in rw (purses_off a ne, boxes_off a ne) (i.boxed a w (sym (off a ne) ∙ is) filled));
+          (λ q. let ne = eqb-false a n q in rw (purses_off a ne, boxes_off a ne) (i.boxed a w (sym (off a ne) ∙ is) filled));
       counts = λ c. i.counts c ∙ sum-same (actor_count s) (λ a. inside_of c (ways_now a)) (λ a. inside_of c (ways a)) (λ a lt. inside a c);
     }
       where

@@ -10,7 +10,7 @@ use Rattle.cell_stock.specs.declared.purse.Spare.{Spare}
 use Rattle.link_descent.specs.Descend.{StepsDown}
 use Rattle.link_descent.specs.declared.entered.Entered.{Entered}
 use Rattle.link_descent.specs.declared.entered.Fresh.{Fresh}
-use Rattle.tree_shape.specs.Counts.{Each}
+use Rattle.list_words.specs.Counts.{Each}
 use Rattle.volap_cell.specs.Cells.{CellValue, BlockCell, block_in}
 use Rattle.volap_cell.specs.NewBlocks.{HaveNew}
 use Rattle.volap_cell.specs.TreeKinds.{AreFilled, AreBehind, IsTailIf, IsTailOf, blocks_of, most_behind}

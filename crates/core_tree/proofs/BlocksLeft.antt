@@ -2,14 +2,16 @@
 use Rattle.std.proofs.Common.{◌≡◌, ◌≢◌, ℕ, zero, suc, ◌+◌, ◌<◌, ◌≤◌, true, cond, leb, List, [], ◌∷◌, length, map, Some, refl, sym, ap, ◌∙◌, subst, arith}
 use Rattle.dc_node.specs.declared.block.Block.{Block}
 use Rattle.dc_node.specs.declared.todo.Item.{Item}
-use Rattle.tree_shape.specs.Counts.{Each, same, times}
+use Rattle.list_words.specs.Counts.{Each, same, times}
+use Rattle.list_words.proofs.Truth.{on_bool}
+use Rattle.std.proofs.lemmas.Bool.{eq-eqb, ne_eqb}
+use Rattle.list_words.proofs.Times.{same_is}
 use Rattle.tree_shape.specs.Queries.{items_of}
 use Rattle.tree_shape.specs.Shape.{Table, TreeCells, Node, node_of, nodes, Shape}
 use Rattle.tree_shape.specs.Trees.{IsTree}
 use Rattle.tree_shape.specs.Walks.{Noted, IsNoted, AreNoted, IsTail, reach, pending}
 use Rattle.tree_shape.proofs.Assembled.{node-block}
 use Rattle.tree_shape.proofs.Noted.{noted-cell, reach-walk}
-use Rattle.tree_shape.proofs.Walks.{on_bool, eqb-yes, eqb-no, same_is}
 use Rattle.volap_cell.specs.Falls.{chain, noted_at, blocks_left}
 use Rattle.volap_cell.specs.Sums.{sum_below}
 use Rattle.volap_cell.proofs.Counting.{length-few, sum-ones}
@@ -23,14 +25,14 @@ chain-walk blocks look (suc n) y stamp [] alike few tail =
     let o = same_is y y refl in
     let is = alike y (omega arith) in
     let ends : (blocks y).stamp ≡ stamp = sym (ap (λ (x : Node). x.stamp) is) ∙ tail in
-    rw (eqb-yes _ _ ends) refl
+    rw (eq-eqb _ _ ends) refl
 chain-walk blocks look (suc n) y stamp (z ∷ zs) alike few tail =
     let o = same_is y y refl in
     let is = alike y (omega arith) in
     let goes_on : (blocks y).stamp ≢ stamp = (λ e. tail.0 (ap (λ (x : Node). x.stamp) is ∙ e)) in
     let right : (blocks y).right ≡ Some z = sym (ap (λ (x : Node). x.right) is) ∙ tail.1 in
     let rest = chain-walk blocks look n z stamp zs (λ x on. alike x (omega arith)) (omega arith) tail.2 in
-    rw (eqb-no _ _ goes_on) (rw right (ap (λ (ys : List ℕ). y ∷ ys) rest))
+    rw (ne_eqb _ _ goes_on) (rw right (ap (λ (ys : List ℕ). y ∷ ys) rest))
 
 module _ (table : Table) (cells : TreeCells) (g : Shape) (n : ℕ) (tree : IsTree table cells g) (known : (y : ℕ) → g.inside y ≡ true → y ≢ cells.gate_cell → y < n) where
   -- no block of a walk is the gate where its first one isn't

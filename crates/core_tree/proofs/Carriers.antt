@@ -5,9 +5,9 @@ use Rattle.cell_stock.specs.Stock.{cells_of}
 use Rattle.cell_stock.specs.declared.purse.Spare.{Spare}
 use Rattle.dim_hierarchy.specs.declared.row.Row.{Row}
 use Rattle.row_ledger.specs.Shards.{is_of, Place, frontier}
-use Rattle.tree_shape.specs.Counts.{Each, times}
+use Rattle.list_words.specs.Counts.{Each, times}
+use Rattle.list_words.proofs.Truth.{on_bool, eqb-self}
 use Rattle.tree_shape.specs.Trees.{IsTree}
-use Rattle.tree_shape.proofs.Walks.{on_bool, eqb-self}
 use Rattle.volap_cell.specs.Errands.{RowWay, AtBlock, IsCarried, block_at, has_passed, place_of, way_in_task, way_of}
 use Rattle.volap_cell.specs.Ghost.{Ghost, InPurse, InTree, is_in_purse}
 use Rattle.volap_cell.specs.Growing.{table_of}

@@ -1,15 +1,16 @@
 -- A commit by which a row comes in at an open gate, which isn't in any shard before: it keeps the whole invariant, and less is left.
 use Rattle.std.proofs.Common.{◌≡◌, ◌≢◌, ℕ, ◌+◌, ◌<◌, ◌≤◌, Bool, true, false, cond, eqb, List, [], ◌∷◌, ◌++◌, length, Some, None, IsSome, refl, sym, ap, ◌∙◌, subst, inl, inr, arith}
 use Rattle.std.specs.Prelude.{if◌then◌else◌, ◌==◌}
-use Rattle.std.proofs.lemmas.Bool.{cases_lt}
+use Rattle.std.proofs.lemmas.Bool.{cases_lt, eqb-true, eqb-false, ne_eqb}
 use Rattle.cell_stock.specs.declared.purse.Spare.{Spare}
 use Rattle.row_ledger.specs.Past.{Query, query_at}
 use Rattle.row_ledger.specs.Shards.{frontier, is_live}
 use Rattle.shard_store.specs.declared.gate.Phase.TheVariants.{Open, Frozen}
-use Rattle.tree_shape.specs.Counts.{Each, same as one_same, times}
+use Rattle.list_words.specs.Counts.{Each, same as one_same, times}
+use Rattle.list_words.proofs.Truth.{on_bool, eqb-self}
+use Rattle.list_words.proofs.Times.{same_is, same_not}
 use Rattle.tree_shape.specs.Laws.{OtherLaw, CollectOtherLaw}
 use Rattle.tree_shape.specs.Shape.{Shape}
-use Rattle.tree_shape.proofs.Walks.{on_bool, eqb-eq, eqb-ne, eqb-self, eqb-no, same_is, same_not}
 use Rattle.volap_cell.specs.Cells.{CellValue, has_block}
 use Rattle.volap_cell.specs.Errands.{RowWay, Outside, AtBlock, ReadPart, way_of, row_way, place_of}
 use Rattle.volap_cell.specs.Falls.{left, far, gates_of_errand, gates_of_task, gates_of_way}
@@ -55,7 +56,7 @@ use Rattle.core_tree.proofs.TreeSteps.{IsOwn, block-off, with_shape}
 pub still-has : (cs : List Change) (cells : ℕ → CellValue) (y : ℕ) → AreAt cells cs → Each (λ c. has_block c.before ≡ true → has_block c.now ≡ true) cs → has_block (cells y) ≡ true → has_block (put cs cells y) ≡ true
 still-has [] cells y at f e = e
 still-has (c ∷ cs) cells y at f e = on_bool (eqb y c.number)
-    (λ q. ap (λ (b : Bool). has_block (cond b c.now (put cs cells y))) q ∙ f.0 (ap has_block (sym at.0) ∙ ap (λ (z : ℕ). has_block (cells z)) (sym (eqb-eq _ _ q)) ∙ e))
+    (λ q. ap (λ (b : Bool). has_block (cond b c.now (put cs cells y))) q ∙ f.0 (ap has_block (sym at.0) ∙ ap (λ (z : ℕ). has_block (cells z)) (sym (eqb-true _ _ q)) ∙ e))
     (λ q. ap (λ (b : Bool). has_block (cond b c.now (put cs cells y))) q ∙ still-has cs cells y at.1 f.1 e)
 
 -- What a kind of this sort shows of its own.
@@ -141,7 +142,7 @@ module _ (s : Setting) (w : World) (n : ℕ) (cs : List Change) (b : ActorValue)
   shape-at = rw (eqb-self t.gate) refl
 
   shape-off : (d : ℕ) → d ≢ t.gate → g2.shape d ≡ g.shape d
-  shape-off d ne = rw (eqb-no d t.gate ne) refl
+  shape-off d ne = rw (ne_eqb d t.gate ne) refl
 
   moves : TreeMoves s v v2 g g2 n t.gate
   moves = record {
@@ -181,12 +182,12 @@ module _ (s : Setting) (w : World) (n : ℕ) (cs : List Change) (b : ActorValue)
       let one : inside_of y (v2.ways n) ≡ (if t.gate == y then 1 else 0) = ap (inside_of y) go.is in
       let old = i.turning.counts y in
       on_bool (eqb y t.gate)
-      (λ q. let e = eqb-eq _ _ q in
+      (λ q. let e = eqb-true _ _ q in
       let now : v2.active y ≡ t.active_of + 1 = ap v2.active e ∙ t.active_is in
       let was : v.active y ≡ t.active_of = ap v.active e ∙ t.active_was in
       let is : ◌≡◌ {A = ℕ} (if t.gate == y then 1 else 0) 1 = ap (λ (z : ℕ). if t.gate == z then 1 else 0) e ∙ (rw (eqb-self t.gate) refl) in omega arith)
-      (λ q. let ne = eqb-ne _ _ q in
-      let is : ◌≡◌ {A = ℕ} (if t.gate == y then 1 else 0) 0 = rw (eqb-no t.gate y (λ e. ne (sym e))) refl in
+      (λ q. let ne = eqb-false _ _ q in
+      let is : ◌≡◌ {A = ℕ} (if t.gate == y then 1 else 0) 0 = rw (ne_eqb t.gate y (λ e. ne (sym e))) refl in
       let k = t.active_off y ne in omega arith)
 
   -- The shard has the row, and every other shard has what it had.
@@ -200,22 +201,22 @@ module _ (s : Setting) (w : World) (n : ℕ) (cs : List Change) (b : ActorValue)
 
   at-gate : (q : ℕ) → cond ((g2.shape t.gate).placed q) 1 0 ≡ cond ((g.shape t.gate).placed q) 1 0 + cond (eqb q r) 1 0
   at-gate q = on_bool (eqb q r)
-      (λ e. let is = eqb-eq _ _ e in
+      (λ e. let is = eqb-true _ _ e in
       let now : ◌≡◌ {A = ℕ} (cond ((g2.shape t.gate).placed q) 1 0) 1 = ap (λ (x : Bool). cond x 1 0) (ap (λ (z : Shape). z.placed q) shape-at ∙ ap t.shape.placed is ∙ t.moved.here) in
       let was : ◌≡◌ {A = ℕ} (cond ((g.shape t.gate).placed q) 1 0) 0 = ap (λ (x : Bool). cond x 1 0) (ap (g.shape t.gate).placed is ∙ t.new) in
       let one : ◌≡◌ {A = ℕ} (cond (eqb q r) 1 0) 1 = ap (λ (x : Bool). cond x 1 0) e in omega arith)
-      (λ e. let ne = eqb-ne _ _ e in
+      (λ e. let ne = eqb-false _ _ e in
       let now : ◌≡◌ {A = ℕ} (cond ((g2.shape t.gate).placed q) 1 0) (cond ((g.shape t.gate).placed q) 1 0) = ap (λ (x : Bool). cond x 1 0) (ap (λ (z : Shape). z.placed q) shape-at ∙ t.moved.placed q ne) in
       let one : ◌≡◌ {A = ℕ} (cond (eqb q r) 1 0) 0 = ap (λ (x : Bool). cond x 1 0) e in omega arith)
 
   more : HaveOneMore s v.history g.gate g.shape g2.shape v.queues v.queues r way.shard
   more y q live = on_bool (eqb y way.shard)
-      (λ e. let is = eqb-eq _ _ e in
+      (λ e. let is = eqb-true _ _ e in
       let gate : g.gate y ≡ t.gate = ap g.gate is ∙ t.arr.gate_is in
       let tree : cond ((g2.shape (g.gate y)).placed q) 1 0 ≡ cond ((g.shape (g.gate y)).placed q) 1 0 + cond (eqb q r) 1 0 =
       subst (λ (z : ℕ). cond ((g2.shape z).placed q) 1 0 ≡ cond ((g.shape z).placed q) 1 0 + cond (eqb q r) 1 0) (sym gate) (at-gate q) in
       let one : ◌≡◌ {A = ℕ} (cond (eqb q r) (one_same way.shard y) 0) (cond (eqb q r) 1 0) = ap (λ (z : ℕ). cond (eqb q r) z 0) (same_is way.shard y (sym is)) in omega arith)
-      (λ e. let ne = eqb-ne _ _ e in
+      (λ e. let ne = eqb-false _ _ e in
       let tree : ◌≡◌ {A = ℕ} (cond ((g2.shape (g.gate y)).placed q) 1 0) (cond ((g.shape (g.gate y)).placed q) 1 0) = ap (λ (z : Shape). cond (z.placed q) 1 0) (shape-off (g.gate y) (λ z. ne (own-gate y live z))) in
       let none : ◌≡◌ {A = ℕ} (cond (eqb q r) (one_same way.shard y) 0) 0 = ap (λ (z : ℕ). cond (eqb q r) z 0) (same_not way.shard y (λ z. ne (sym z))) ∙ on_bool (eqb q r) (λ k. rw k refl) (λ k. rw k refl) in omega arith)
 

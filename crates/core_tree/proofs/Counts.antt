@@ -8,10 +8,10 @@ use Rattle.describing_set.specs.Sets.{IsDescSetOf}
 use Rattle.measure_agg.specs.Aggregate.{Aggregate}
 use Rattle.shard_store.specs.declared.gate.Phase.{Phase}
 use Rattle.shard_store.specs.declared.gate.Phase.TheVariants as phase
-use Rattle.tree_shape.specs.Counts.{same}
+use Rattle.list_words.specs.Counts.{same}
+use Rattle.list_words.proofs.Truth.{on_bool}
 use Rattle.tree_shape.specs.Laws.{GateLaw}
 use Rattle.tree_shape.proofs.Sums.{coords-valid}
-use Rattle.tree_shape.proofs.Walks.{on_bool}
 use Rattle.volap_cell.specs.Errands.{RowPlace, RowWay, Outside, AtBlock, InLeaf, AtRest}
 use Rattle.volap_cell.specs.Ghost.{Ghost, InPurse, NotOfStock, is_in_purse}
 use Rattle.volap_cell.specs.Growing.{table_of}

@@ -11,14 +11,14 @@ use Rattle.cell_stock.specs.declared.purse.Spare.{Spare}
 use Rattle.link_descent.specs.Descend.{StepsDown}
 use Rattle.link_descent.specs.declared.entered.Entered.{Entered}
 use Rattle.link_descent.specs.declared.entered.Fresh.{Fresh}
-use Rattle.tree_shape.specs.Counts.{Each}
+use Rattle.list_words.specs.Counts.{Each}
+use Rattle.list_words.proofs.Each.{each-map, each-both, each-append, each-left, each-right}
+use Rattle.list_words.proofs.Truth.{on_bool, eqb-self}
+use Rattle.std.proofs.lemmas.Bool.{eqb-true, eqb-false, ne_eqb}
 use Rattle.tree_shape.specs.Laws.{OtherLaw, CollectOtherLaw, DownLaw, ChildLaw, BehindLaw}
 use Rattle.tree_shape.specs.Shape.{Shape, nodes}
 use Rattle.tree_shape.specs.Steps.{AreSpares, IsIdle, AfterStep}
 use Rattle.tree_shape.specs.Trees.{IsBelow, HasBehind, IsBehind, cells_behind}
-use Rattle.tree_shape.proofs.Divisions.{each-map, each-both}
-use Rattle.tree_shape.proofs.Parts.{each-append, each-left, each-right}
-use Rattle.tree_shape.proofs.Walks.{on_bool, eqb-eq, eqb-ne, eqb-self, eqb-no}
 use Rattle.volap_cell.specs.Cells.{CellValue, FreeCell, LedgerCell, StockCell, RegistryCell, ImageCell, DeskCell, MapCell, GateCell, BlockCell, block_in, has_block, gate_shard, phase_of, tag_of}
 use Rattle.volap_cell.specs.Errands.{RowWay, AtBlock, row_way, place_of, block_at, IsCarried}
 use Rattle.volap_cell.specs.Ghost.{Ghost, NotOfStock, AGate, InTree, InPurse}
@@ -125,7 +125,7 @@ tail-numbers blocks expected zero y block (c ∷ cs) is at b = absurd (let (left
 tail-numbers blocks expected (suc n) y block (c ∷ cs) is at b =
     let (left, more, off, right, read, behind) = b in
     let same : left ≡ n = omega arith in
-    let q : eqb (blocks y).stamp expected ≡ false = ap (λ (k : Block). eqb k.stamp expected) is ∙ eqb-no block.stamp expected off in
+    let q : eqb (blocks y).stamp expected ≡ false = ap (λ (k : Block). eqb k.stamp expected) is ∙ ne_eqb block.stamp expected off in
     let next : (blocks y).right ≡ Some c.number = ap (λ (k : Block). k.right) is ∙ right in
     let ih = tail-numbers blocks expected n c.number (block_in c.before) cs at.0 at.1 (subst (λ m. AreBehind expected m (block_in c.before) cs) same behind) in
     ap (λ (ns : List ℕ). c.number ∷ ns) ih
@@ -225,11 +225,11 @@ module _ (downs : DownLaw) (childs : ChildLaw) (behinds : BehindLaw) (p c : Chan
       let there : k.1 ≡ c.number = sym o.2 ∙ ap shape.at k.4 ∙ at in
       let place : block_at k.2.place ≡ Some c.number = ap block_at k.5 ∙ ap Some there in
       on_bool (eqb k.0 n)
-      (λ e. let same : Some k.2 ≡ Some (row_way d.e d.r) = sym k.3 ∙ ap v.ways (eqb-eq _ _ e) ∙ was in
+      (λ e. let same : Some k.2 ≡ Some (row_way d.e d.r) = sym k.3 ∙ ap v.ways (eqb-true _ _ e) ∙ was in
       let mine : k.2 ≡ row_way d.e d.r = cc in
       let z : AtBlock gate k.1 ≡ AtBlock gate p.number = sym k.5 ∙ ap (λ (u : RowWay). u.place) mine ∙ at-block in
       two (sym there ∙ (let y : k.1 ≡ p.number = cc in y)))
-      (λ e. (ag.free k.0 (eqb-ne _ _ e)).1.0 (subst (λ (u : Option RowWay). IsCarried u c.number) (sym k.3) place))
+      (λ e. (ag.free k.0 (eqb-false _ _ e)).1.0 (subst (λ (u : Option RowWay). IsCarried u c.number) (sym k.3) place))
 
   -- the new blocks
 
@@ -309,12 +309,12 @@ module _ (downs : DownLaw) (childs : ChildLaw) (behinds : BehindLaw) (p c : Chan
   -- blocks but the head and the new ones keep their stamps
   keeps-stamp : (y : ℕ) → y ≢ c.number → Each (λ (x : Spare). y ≢ x.cell) uses.used → (view s w2).made y ≡ true → KeepsStamp v.made v.blocks (view s w2).blocks y
   keeps-stamp y nc nf made = on_bool (eqb y p.number)
-      (λ q. let e = eqb-eq y p.number q in record {
+      (λ q. let e = eqb-true y p.number q in record {
         made_before = ap v.made e ∙ ap has_block (ag.cells.0 ∙ d.turns_parent.was);
         same = ap (λ (z : ℕ). ((view s w2).blocks z).stamp) e ∙ ap (λ (x : Block). x.stamp) p-now ∙ uses.parent_stamp ∙ ap (λ (x : Block). x.stamp) (sym p-was) ∙ ap (λ (z : ℕ). (v.blocks z).stamp) (sym e);
       })
       (λ q.
-      let np = eqb-ne y p.number q in
+      let np = eqb-false y p.number q in
       let off = in-fresh (λ z. y ≢ z) uses.used d.entered.fresh.items uses.are_in nf in
       let other : y ≢ d.entry.child = (λ e. nc (e ∙ d.child)) in
       record { made_before = sym (others-off has_block y np other off) ∙ made; same = ap (λ (x : Block). x.stamp) (others-off block_in y np other off) })

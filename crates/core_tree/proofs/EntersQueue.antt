@@ -12,12 +12,12 @@ use Rattle.shard_store.specs.Gate.{Enqueues, IsQueueOf}
 use Rattle.shard_store.specs.declared.gate.Gate.{Gate}
 use Rattle.shard_store.specs.declared.gate.Phase.TheVariants.{Frozen}
 use Rattle.shard_store.specs.declared.queue.Queue.{Queue}
-use Rattle.tree_shape.specs.Counts.{Each, times}
-use Rattle.tree_shape.specs.Counts.{same as same_number}
+use Rattle.list_words.specs.Counts.{Each, times, same as same_number}
+use Rattle.list_words.proofs.Each.{each-append}
+use Rattle.list_words.proofs.Times.{times-append, same_is, same_not, all-times, distinct-times}
+use Rattle.std.proofs.lemmas.Bool.{eqb-true, eqb-false}
+use Rattle.list_words.proofs.Truth.{on_bool}
 use Rattle.tree_shape.specs.Shape.{numbers}
-use Rattle.tree_shape.proofs.Parts.{each-append}
-use Rattle.tree_shape.proofs.Visits.{times-append}
-use Rattle.tree_shape.proofs.Walks.{eqb-eq, eqb-ne, on_bool, same_is, same_not}
 use Rattle.volap_cell.specs.AdminKinds.{IsBuiltOf}
 use Rattle.volap_cell.specs.Cells.{CellValue, GateCell, MapCell, queue_in, tag_of}
 use Rattle.volap_cell.specs.Errands.{AtBlock, AtRest, Outside, RowWay, place_of, row_way, way_of}
@@ -50,7 +50,6 @@ use Rattle.volap_cell.proofs.Sums.{sum-kept}
 use Rattle.volap_cell.proofs.TreeViews.{by_enter_queue, view-enter_queue}
 use Rattle.core_tree.specs.DueAtGates.{CanEnterQueue}
 use Rattle.core_tree.proofs.Arrivals.{Arrives, arrives, same-row}
-use Rattle.core_tree.proofs.Tallies.{all-times, distinct-times}
 use Rattle.std.specs.FinMap as map
 use Rattle.core_tree.proofs.FillsPurse.{far-some}
 use Rattle.core_tree.proofs.Places.{HaveOneMore, Passes, covering-placed, imaging-placed, inserting-placed, nobody-placed, placing-placed, resting-placed, telling-placed, with_one, off-one}
@@ -133,8 +132,8 @@ module _ (m c : Change) (b : ActorValue) (s : Setting) (w : World) (n : ℕ) (g 
   -- at the gate, or at another one
   by-gate : (P : ℕ → Queue → Type 0) → P c.number d.queue → ((y : ℕ) → P y (v.queues y)) → (y : ℕ) → P y (v2.queues y)
   by-gate P new old y = on_bool (eqb y c.number)
-      (λ q. subst (λ (z : ℕ). P z (v2.queues z)) (sym (eqb-eq _ _ q)) (subst (P c.number) (sym queue-now.is_there) new))
-      (λ q. subst (P y) (sym (queue-now.elsewhere y (eqb-ne _ _ q))) (old y))
+      (λ q. subst (λ (z : ℕ). P z (v2.queues z)) (sym (eqb-true _ _ q)) (subst (P c.number) (sym queue-now.is_there) new))
+      (λ q. subst (P y) (sym (queue-now.elsewhere y (eqb-false _ _ q))) (old y))
 
   queueing-now : Queueing s v.row v.gates v.phases v2.queues
   queueing-now =
@@ -154,20 +153,20 @@ module _ (m c : Change) (b : ActorValue) (s : Setting) (w : World) (n : ℕ) (g 
   -- what stood in front still does
   front-same : (y k : ℕ) → k ≤ length (v.queues y).rows → take k (v2.queues y).rows ≡ take k (v.queues y).rows
   front-same y k le = on_bool (eqb y c.number)
-      (λ q. let e = eqb-eq _ _ q in
+      (λ q. let e = eqb-true _ _ q in
       ap (λ (z : ℕ). take k (v2.queues z).rows) e ∙ ap (take k) rows-now ∙ ap (λ (z : ℕ). take k ((v.queues z).rows ++ way.row ∷ [])) (sym e) ∙ take-append-le k (v.queues y).rows (way.row ∷ []) le)
-      (λ q. ap (λ (z : Queue). take k z.rows) (queue-now.elsewhere y (eqb-ne _ _ q)))
+      (λ q. ap (λ (z : Queue). take k z.rows) (queue-now.elsewhere y (eqb-false _ _ q)))
 
   -- each shard that stands has the rows that it had, and the part's shard has this one too
   more : HaveOneMore s h g.gate g.shape g.shape v.queues v2.queues r way.shard
   more y q live = on_bool (eqb way.shard y)
-      (λ k. let e = eqb-eq _ _ k in
+      (λ k. let e = eqb-true _ _ k in
       let at : g.gate y ≡ c.number = ap g.gate (sym e) ∙ arrival.gate_is in
       let rows = ap (λ (z : ℕ). times q (numbers (v2.queues z).rows)) at ∙ ap (λ (rs : List Row). times q (numbers rs)) rows-now ∙ numbers-last q (v.queues c.number).rows way.row in
       let was = ap (λ (z : ℕ). times q (numbers (v.queues z).rows)) at in
       let added : cond (eqb q r) (same_number way.shard y) 0 ≡ same_number q r = ap (λ (z : ℕ). cond (eqb q r) z 0) (same_is way.shard y e) in
       omega arith)
-      (λ k. let ne = eqb-ne _ _ k in
+      (λ k. let ne = eqb-false _ _ k in
       let (worker, on) = live-on s v y live in
       let there = (i.lineage.gate_of y worker on).1 in
       let off : g.gate y ≢ c.number = (λ e. ne (let both : ◌≡◌ {A = Option ℕ} (Some y) (Some way.shard) = sym there ∙ ap v.gates e ∙ arrival.is_gate in cc)) in
@@ -350,7 +349,7 @@ module _ (h : List Dimension) (map_at : ℕ) (map_cell : CellValue) (gate_at : �
       (its.placing.one due.e.shard q comes.live)
 
   same-most : (x y : ℕ) → same_number x y ≤ 1
-  same-most x y = on_bool (eqb x y) (λ e. let z = same_is x y (eqb-eq _ _ e) in omega arith) (λ e. let z = same_not x y (eqb-ne _ _ e) in omega arith)
+  same-most x y = on_bool (eqb x y) (λ e. let z = same_is x y (eqb-true _ _ e) in omega arith) (λ e. let z = same_not x y (eqb-false _ _ e) in omega arith)
 
   once : (q : ℕ) → times q (numbers (state.queues gate_at).rows) ≤ 1
   once q = on_bool (k.inv.ghost_of.placed q)

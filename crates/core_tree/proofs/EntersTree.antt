@@ -14,14 +14,14 @@ use Rattle.link_descent.specs.declared.entered.Fresh.{Fresh}
 use Rattle.mapping_table.specs.declared.place.Where.TheVariants as where_is
 use Rattle.shard_store.specs.Gate.{root_entry}
 use Rattle.shard_store.specs.declared.gate.Gate.{Gate}
-use Rattle.tree_shape.specs.Counts.{Each}
+use Rattle.list_words.specs.Counts.{Each}
+use Rattle.list_words.proofs.Each.{each-map, each-both, each-append, each-left, each-right}
+use Rattle.list_words.proofs.Truth.{on_bool}
+use Rattle.std.proofs.lemmas.Bool.{eqb-true, eqb-false}
 use Rattle.tree_shape.specs.Laws.{OtherLaw, CollectOtherLaw, InLaw, RootLaw, RootBehindLaw}
 use Rattle.tree_shape.specs.Shape.{Shape, Table, TreeCells, nodes}
 use Rattle.tree_shape.specs.Steps.{AreSpares, IsIdle, AfterStep}
 use Rattle.tree_shape.specs.Trees.{IsTree, IsBelow, HasBehind, IsBehind, cells_behind}
-use Rattle.tree_shape.proofs.Divisions.{each-map, each-both}
-use Rattle.tree_shape.proofs.Parts.{each-append, each-left, each-right}
-use Rattle.tree_shape.proofs.Walks.{on_bool, eqb-eq, eqb-ne}
 use Rattle.volap_cell.specs.Cells.{CellValue, OfStock, MapOf, GateCell, BlockCell, block_in, has_block, phase_of, tag_of, way_in, way_to_tree, active_in}
 use Rattle.volap_cell.specs.Errands.{RowWay, Outside, AtBlock, place_of, row_way, block_at, IsCarried}
 use Rattle.volap_cell.specs.Ghost.{Ghost, NotOfStock, AGate, InTree, InPurse}
@@ -266,10 +266,10 @@ module _ (ins : InLaw) (roots : RootLaw) (behinds : RootBehindLaw) (m gt root : 
       let there : k.1 ≡ root.number = sym o.2 ∙ ap shape.at k.4 ∙ at in
       let place : block_at k.2.place ≡ Some root.number = ap block_at k.5 ∙ ap Some there in
       on_bool (eqb k.0 n)
-      (λ e. let same : Some k.2 ≡ Some way = sym k.3 ∙ ap v.ways (eqb-eq _ _ e) ∙ arr.was in
+      (λ e. let same : Some k.2 ≡ Some way = sym k.3 ∙ ap v.ways (eqb-true _ _ e) ∙ arr.was in
       let mine : k.2 ≡ way = cc in
       let z : AtBlock c k.1 ≡ Outside = sym k.5 ∙ ap (λ (u : RowWay). u.place) mine ∙ outside in cc)
-      (λ e. (ag.free k.0 (eqb-ne _ _ e)).1.1.0 (subst (λ (u : Option RowWay). IsCarried u root.number) (sym k.3) place))
+      (λ e. (ag.free k.0 (eqb-false _ _ e)).1.1.0 (subst (λ (u : Option RowWay). IsCarried u root.number) (sym k.3) place))
 
   -- the new blocks
 

@@ -3,15 +3,14 @@
 use Rattle.std.proofs.Common.{◌≡◌, ◌≢◌, ℕ, ◌+◌, ◌^◌, ◌<◌, ◌≤◌, Bool, false, cond, eqb, leb, List, [], ◌∷◌, ◌++◌, Option, Some, None, refl, sym, ap, ◌∙◌, subst, ◌⊎◌, inl, inr, arith, append-nil}
 use Rattle.cell_stock.specs.Stock.{AreOut, IsStock, StockValue, cells_of, stamps_of}
 use Rattle.cell_stock.specs.declared.purse.Spare.{Spare}
-use Rattle.tree_shape.specs.Counts.{Each, times}
+use Rattle.list_words.specs.Counts.{Each, times}
+use Rattle.list_words.proofs.Each.{each-both, each-map, each-append, each-here}
+use Rattle.list_words.proofs.Times.{times-append, same_is, all-times, distinct-times, each-differs}
+use Rattle.std.proofs.lemmas.Bool.{eqb-true, eqb-false, leb-false, leb-true}
+use Rattle.list_words.proofs.Truth.{on_bool}
 use Rattle.tree_shape.specs.Queries.{NoneWaits}
 use Rattle.tree_shape.specs.Shape.{nodes}
 use Rattle.tree_shape.specs.Steps.{AreApart, AreSpares, IsSpare}
-use Rattle.tree_shape.proofs.Divisions.{each-both, each-map}
-use Rattle.tree_shape.proofs.Parts.{each-append, each-here}
-use Rattle.tree_shape.proofs.Visits.{times-append}
-use Rattle.tree_shape.proofs.Walks.{eqb-eq, eqb-ne, on_bool, same_is}
-use Rattle.tree_shape.proofs.Queries.{leb-gt, leb-le}
 use Rattle.volap_cell.specs.Ghost.{AGate, Ghost, InJob, InPurse, InTree, NotOfStock, Owner, Unused, is_in_job, is_in_purse, is_in_tree, is_unused}
 use Rattle.volap_cell.specs.Invariant.{InvWith}
 use Rattle.volap_cell.specs.Lineage.{Lineage}
@@ -28,7 +27,6 @@ use Rattle.volap_cell.proofs.Blanks.{spent-owner}
 use Rattle.volap_cell.proofs.Spares.{among-cells}
 use Rattle.core_tree.proofs.Carriers.{purse-owned}
 use Rattle.core_tree.proofs.Spares.{AreDistinct, each-cell, in-own, other-purse, owner-purse, spares-from}
-use Rattle.core_tree.proofs.Tallies.{all-times, distinct-times, each-differs}
 
 -- between a stock and a purse
 pub record Exchanges (before now : StockValue) (purse purse_now : List Spare) : Type 0 where
@@ -71,7 +69,7 @@ WasSpare n o = (o ≡ Unused) ⊎ (o ≡ InPurse n)
 was-spare : (n : ℕ) (o : Owner) → 1 ≤ one_if (is_unused o) + one_if (is_in_purse n o) → WasSpare n o
 was-spare n NotOfStock le = absurd (omega arith)
 was-spare n Unused le = inl refl
-was-spare n (InPurse a) le = on_bool (eqb a n) (λ q. inr (ap InPurse (eqb-eq _ _ q))) (λ q. let z : one_if (is_in_purse n (InPurse a)) ≡ 0 = ap one_if q in absurd (omega arith))
+was-spare n (InPurse a) le = on_bool (eqb a n) (λ q. inr (ap InPurse (eqb-true _ _ q))) (λ q. let z : one_if (is_in_purse n (InPurse a)) ≡ 0 = ap one_if q in absurd (omega arith))
 was-spare n AGate le = absurd (omega arith)
 was-spare n (InTree c) le = absurd (omega arith)
 was-spare n (InJob a) le = absurd (omega arith)
@@ -95,8 +93,8 @@ module _ (s : Setting) (w : World) (g : Ghost) (i : InvWith s (view s w) g) (n :
       → (times y (cells_of purse) ≡ 0 → is_in_purse n (g.owner y) ≡ false → P (g.owner y)) → P (owner_now y)
   on-owner P y new free else_ = on_bool (leb 1 (times y (cells_of purse)))
       (λ q. subst (λ (b : Bool). P (cond b (InPurse n) (cond (is_in_purse n (g.owner y)) Unused (g.owner y)))) (sym q)
-      (let le = leb-le 1 (times y (cells_of purse)) q in let k = uses y in new le (was-spare n (g.owner y) (omega arith))))
-      (λ q. let gt = leb-gt 1 (times y (cells_of purse)) q in
+      (let le = leb-true 1 (times y (cells_of purse)) q in let k = uses y in new le (was-spare n (g.owner y) (omega arith))))
+      (λ q. let gt = leb-false 1 (times y (cells_of purse)) q in
       let none : times y (cells_of purse) ≡ 0 = omega arith in
       subst (λ (b : Bool). P (cond b (InPurse n) (cond (is_in_purse n (g.owner y)) Unused (g.owner y)))) (sym q)
       (on_bool (is_in_purse n (g.owner y))
@@ -170,9 +168,9 @@ module _ (s : Setting) (w : World) (g : Ghost) (i : InvWith s (view s w) g) (n :
           every = λ y high low no. k.every y high low (owner-was y NotOfStock (λ e. cc) (λ e. cc) no);
           unused = free-now;
           purse = λ a y. on_bool (eqb a n)
-              (λ q. let e = eqb-eq _ _ q in
+              (λ q. let e = eqb-true _ _ q in
               subst (λ (z : ℕ). times y (cells_of (purses_now z)) ≡ cond (is_in_purse z (owner_now y)) 1 0) (sym e) (ap (λ (ss : List Spare). times y (cells_of ss)) mine ∙ purse-now y))
-              (λ q. let ne = eqb-ne _ _ q in
+              (λ q. let ne = eqb-false _ _ q in
               ap (λ (ss : List Spare). times y (cells_of ss)) (off a ne) ∙ k.purse a y ∙ ap one_if (sym (as-before (is_in_purse a) refl (other-purse a n ne) y)));
           job = λ a y. k.job a y ∙ ap one_if (sym (as-before (is_in_job a) refl refl y));
           gate = λ c is. owner-kept c AGate (λ e. cc) (λ e. cc) (k.gate c is);
@@ -188,9 +186,9 @@ module _ (s : Setting) (w : World) (g : Ghost) (i : InvWith s (view s w) g) (n :
     -- the spares of the actor, which has no job, and those of others
     spares-of : (P : ℕ → List Spare → Type 0) → P n purse → ((a : ℕ) → a ≢ n → P a (all_spares v.purses v.jobs a)) → (a : ℕ) → P a (all_spares purses_now v.jobs a)
     spares-of P new old a = on_bool (eqb a n)
-        (λ q. subst (λ (z : ℕ). P z (all_spares purses_now v.jobs z)) (sym (eqb-eq _ _ q))
+        (λ q. subst (λ (z : ℕ). P z (all_spares purses_now v.jobs z)) (sym (eqb-true _ _ q))
         (subst (λ (ss : List Spare). P n (ss ++ spent_of (v.jobs n))) (sym mine) (subst (λ (job : Option JobValue). P n (purse ++ spent_of job)) (sym jobless) (subst (P n) (sym (append-nil purse)) new))))
-        (λ q. let ne = eqb-ne _ _ q in subst (λ (ss : List Spare). P a (ss ++ spent_of (v.jobs a))) (sym (off a ne)) (old a ne))
+        (λ q. let ne = eqb-false _ _ q in subst (λ (ss : List Spare). P a (ss ++ spent_of (v.jobs a))) (sym (off a ne)) (old a ne))
 
     distinct-now : AreDistinct purse
     distinct-now = distinct-spares purse (λ y. let k = one y in omega arith) x.once
@@ -232,9 +230,9 @@ module _ (s : Setting) (w : World) (g : Ghost) (i : InvWith s (view s w) g) (n :
     outside : (c y : ℕ) → IsWhole v.gates v.phases v.pins c → WasSpare n (g.owner y) → (g.shape c).inside y ≡ false
     outside c y whole was = on_bool ((g.shape c).inside y)
         (λ q. absurd (on_bool (eqb y c)
-        (λ e. let own : g.owner y ≡ AGate = ap g.owner (eqb-eq _ _ e) ∙ i.stocking.gate c whole.0 in
+        (λ e. let own : g.owner y ≡ AGate = ap g.owner (eqb-true _ _ e) ∙ i.stocking.gate c whole.0 in
         elim was [ inl u ↦ (let no : Unused ≡ AGate = sym u ∙ own in cc) | inr p ↦ (let no : InPurse n ≡ AGate = sym p ∙ own in cc) ])
-        (λ e. let own = (i.stocking.tree c y whole q (eqb-ne _ _ e)).0 in
+        (λ e. let own = (i.stocking.tree c y whole q (eqb-false _ _ e)).0 in
         elim was [ inl u ↦ (let no : Unused ≡ InTree c = sym u ∙ own in cc) | inr p ↦ (let no : InPurse n ≡ InTree c = sym p ∙ own in cc) ])))
         (λ q. q)
 
@@ -283,8 +281,8 @@ module _ (s : Setting) (w : World) (g : Ghost) (i : InvWith s (view s w) g) (n :
           working = k.working;
           parts = k.parts;
           idle = λ a role none. on_bool (eqb a n)
-              (λ q. let e = eqb-eq a n q in ap purses_now e ∙ mine ∙ admin (ap v.roles (sym e) ∙ role))
-              (λ q. off a (eqb-ne a n q) ∙ k.idle a role none);
+              (λ q. let e = eqb-true a n q in ap purses_now e ∙ mine ∙ admin (ap v.roles (sym e) ∙ role))
+              (λ q. off a (eqb-false a n q) ∙ k.idle a role none);
         }
 
     pub exchanged-lineage : Lineage s v.history now v.registry v.maps v.gates v.phases g.gate

@@ -8,10 +8,10 @@ use Rattle.cell_stock.specs.declared.purse.Spare.{Spare}
 use Rattle.cell_stock.proofs.Cells.{IsDistinct-range, Takes-AreFresh}
 use Rattle.dim_hierarchy.specs.Dimension.{Dimension}
 use Rattle.row_ledger.specs.declared.event.Event.{Event}
-use Rattle.tree_shape.specs.Counts.{Each, times}
-use Rattle.tree_shape.proofs.Queries.{leb-gt, leb-le}
-use Rattle.tree_shape.proofs.Visits.{times-append}
-use Rattle.tree_shape.proofs.Walks.{eqb-eq, eqb-ne, on_bool}
+use Rattle.list_words.specs.Counts.{Each, times}
+use Rattle.std.proofs.lemmas.Bool.{leb-false, leb-true, eqb-true, eqb-false}
+use Rattle.list_words.proofs.Times.{times-append, times-distinct}
+use Rattle.list_words.proofs.Truth.{on_bool}
 use Rattle.volap_cell.specs.Cells.{CellValue, StockCell}
 use Rattle.volap_cell.specs.Errands.{AtBlock, IsCarried, Outside, RowWay, block_at, height_of, is_filled, place_of, row_way, way_of}
 use Rattle.volap_cell.specs.Falls.{far, gates_of_errand, gates_of_task, gates_of_way, left, one_if_any, per_gate, rows_of_errand}
@@ -41,7 +41,6 @@ use Rattle.volap_cell.proofs.TreeViews.{by_refill, view-refill}
 use Rattle.core_tree.proofs.AsFar.{as_far, inserting-still, placing-still, turning-still}
 use Rattle.core_tree.proofs.Exchanges.{Exchanges, are-out, exchanged-lineage, exchanged-numbering, exchanged-stamping, exchanged-stocking, exchanged-working, exchanged_owner, stock-valid}
 use Rattle.core_tree.proofs.Remains.{IsStepOf, control-same, gates-changed, rows-changed}
-use Rattle.core_tree.proofs.Tallies.{times-distinct}
 
 -- Between the stock and the purse.
 
@@ -141,7 +140,7 @@ module _ (c : Change) (b : ActorValue) (s : Setting) (w : World) (n : ℕ) (g : 
   few : n < actor_count s
   few = elim d.does [
     | inl filled ↦ has-taken s v i.numbering n _ (taken-is filled.1.has.errand filled.1.has.row)
-    | inr e ↦ on_bool (leb (actor_count s) n) (λ q. absurd (e.some (i.numbering.nobody n (leb-le _ _ q)).1)) (λ q. leb-gt _ _ q)
+    | inr e ↦ on_bool (leb (actor_count s) n) (λ q. absurd (e.some (i.numbering.nobody n (leb-true _ _ q)).1)) (λ q. leb-false _ _ q)
   ]
 
   free : (x y : ℕ) (way : RowWay) → v.ways n ≡ Some way → way.place ≢ AtBlock x y
@@ -169,9 +168,9 @@ module _ (c : Change) (b : ActorValue) (s : Setting) (w : World) (n : ℕ) (g : 
   -- its row is where it was
   still : (a : ℕ) → option_map as_far (u.ways a) ≡ option_map as_far (v.ways a)
   still a = on_bool (eqb a n)
-      (λ q. let is = eqb-eq a n q in
+      (λ q. let is = eqb-true a n q in
       ap (λ (z : ℕ). option_map as_far (u.ways z)) is ∙ ap (λ (z : ActorValue). option_map as_far (way_of z.errand)) (actor-at w.actors n b) ∙ here ∙ sym (ap (λ (z : ℕ). option_map as_far (v.ways z)) is))
-      (λ q. ap (option_map as_far) (ways-off a (eqb-ne a n q)))
+      (λ q. ap (option_map as_far) (ways-off a (eqb-false a n q)))
     where
       here : option_map as_far (way_of b.errand) ≡ option_map as_far (v.ways n)
       here = elim d.does [

@@ -12,11 +12,12 @@ use Rattle.dc_node.specs.Summary.{coords}
 use Rattle.row_ledger.specs.Past.{Query, query_at}
 use Rattle.shard_store.specs.Gate.{IsQueueOf}
 use Rattle.shard_store.specs.declared.gate.Gate.{Gate}
-use Rattle.tree_shape.specs.Counts.{times}
+use Rattle.list_words.specs.Counts.{times}
+use Rattle.list_words.proofs.Truth.{on_bool}
+use Rattle.std.proofs.lemmas.Bool.{eqb-true}
 use Rattle.tree_shape.specs.Laws.{BeginLaw, GateLaw, OtherLaw, RootLaw}
 use Rattle.tree_shape.specs.Shape.{numbers}
 use Rattle.tree_shape.proofs.Sums.{coords-valid}
-use Rattle.tree_shape.proofs.Walks.{on_bool, eqb-eq}
 use Rattle.volap_cell.specs.Cells.{CellValue, FreeCell, LedgerCell, StockCell, RegistryCell, ImageCell, DeskCell, MapCell, GateCell, BlockCell, cell_of, gate_shard, pins_in, queue_in, way_in}
 use Rattle.volap_cell.specs.Errands.{ReadPart, Taken, taken_by, taken_of, read_of, read_in_task, want_of}
 use Rattle.volap_cell.specs.Ghost.{Ghost}
@@ -62,7 +63,7 @@ pins-most y (Some p) = one-most y p.reading.pin
 
 pin-counted : (y : ℕ) (pin : Option ℕ) → 1 ≤ one_pin y pin → pin ≡ Some y
 pin-counted y None k = absurd (omega arith)
-pin-counted y (Some c) k = on_bool (eqb c y) (λ q. ap Some (eqb-eq _ _ q)) (λ q. let none : one_pin y (Some c) ≡ 0 = rw q refl in absurd (omega arith))
+pin-counted y (Some c) k = on_bool (eqb c y) (λ q. ap Some (eqb-true _ _ q)) (λ q. let none : one_pin y (Some c) ≡ 0 = rw q refl in absurd (omega arith))
 
 counted-pinned : (y : ℕ) (o : Option ReadPart) → 1 ≤ pins_of y o → (p : ReadPart) × (o ≡ Some p) × (p.reading.pin ≡ Some y)
 counted-pinned y None k = absurd (omega arith)

@@ -15,13 +15,12 @@ use Rattle.dc_node.specs.declared.entry.Entry.{Entry}
 use Rattle.link_descent.specs.Divide.{together}
 use Rattle.link_descent.specs.Descend.{StepsDown}
 use Rattle.link_descent.specs.Pick.{IsPick}
-use Rattle.tree_shape.specs.Counts.{Each}
+use Rattle.list_words.specs.Counts.{Each}
+use Rattle.list_words.proofs.Each.{each-map, each-left}
+use Rattle.list_words.proofs.Truth.{on_bool}
 use Rattle.tree_shape.specs.Laws.{OtherLaw, CollectOtherLaw, DownLaw, GateLaw, BlockLaw, ChildLaw, BehindLaw, BehindFitsLaw}
 use Rattle.tree_shape.specs.Shape.{Table, TreeCells, Shape}
 use Rattle.tree_shape.specs.Trees.{IsBelow, BlockFits, BehindFits, cells_behind}
-use Rattle.tree_shape.proofs.Divisions.{each-map}
-use Rattle.tree_shape.proofs.Parts.{each-left}
-use Rattle.tree_shape.proofs.Walks.{on_bool}
 use Rattle.volap_cell.specs.Cells.{CellValue, BlockCell, block_in, has_block}
 use Rattle.volap_cell.specs.Errands.{row_way, way_of, place_of}
 use Rattle.volap_cell.specs.Ghost.{Ghost}

@@ -18,13 +18,12 @@ use Rattle.link_descent.specs.declared.entered.Fresh.{Fresh}
 use Rattle.mapping_table.specs.declared.place.Where.TheVariants as where_is
 use Rattle.shard_store.specs.Gate.{root_entry}
 use Rattle.shard_store.specs.declared.gate.Gate.{Gate}
-use Rattle.tree_shape.specs.Counts.{Each}
+use Rattle.list_words.specs.Counts.{Each}
+use Rattle.list_words.proofs.Each.{each-map, each-left}
+use Rattle.list_words.proofs.Truth.{on_bool}
 use Rattle.tree_shape.specs.Laws.{OtherLaw, CollectOtherLaw, InLaw, GateLaw, BlockLaw, RootLaw, RootBehindLaw, RootBehindFitsLaw}
 use Rattle.tree_shape.specs.Shape.{Table, TreeCells, Shape}
 use Rattle.tree_shape.specs.Trees.{IsTree, IsBelow, BlockFits, BehindFits, cells_behind}
-use Rattle.tree_shape.proofs.Divisions.{each-map}
-use Rattle.tree_shape.proofs.Parts.{each-left}
-use Rattle.tree_shape.proofs.Walks.{on_bool}
 use Rattle.volap_cell.specs.Cells.{CellValue, BlockCell, GateCell, block_in, has_block, way_in, way_to_tree, active_in}
 use Rattle.volap_cell.specs.Errands.{RowWay, is_filled, row_way}
 use Rattle.volap_cell.specs.Ghost.{Ghost}

@@ -9,7 +9,8 @@ use Rattle.query_router.specs.declared.part.Part.{Part}
 use Rattle.query_router.specs.declared.part.PartState.{PartState}
 use Rattle.query_router.specs.declared.part.PartState.TheVariants as state
 use Rattle.shard_store.specs.declared.gate.Gate.{Gate}
-use Rattle.tree_shape.proofs.Walks.{on_bool, eqb-eq, eqb-ne, eqb-no, eqb-self}
+use Rattle.list_words.proofs.Truth.{on_bool, eqb-self}
+use Rattle.std.proofs.lemmas.Bool.{eqb-true, eqb-false, ne_eqb}
 use Rattle.volap_cell.specs.Cells.{active_in, CellValue, gate_shard, GateCell}
 use Rattle.volap_cell.specs.Errands.{AtBlock, AtRest, InLeaf, RowWay, has_passed, place_of, row_way, way_of, taken_of}
 use Rattle.volap_cell.specs.Falls.{far, gates_of_errand, gates_of_task, gates_of_way, left, rows_of_errand, rows_of_task, rows_of_way, one_if_any}
@@ -85,10 +86,10 @@ module _ (c : Change) (b : ActorValue) (s : Setting) (w : World) (n : ℕ) (g : 
 
   fewer : (y : ℕ) → v2.active y ≤ v.active y
   fewer y = on_bool (eqb y c.number)
-      (λ q. let e = eqb-eq _ _ q in
+      (λ q. let e = eqb-true _ _ q in
       let now : v2.active y ≡ d.gate_now.active = ap v2.active e ∙ active-now.is_there in
       let was : v.active y ≡ d.gate.active = ap v.active e ∙ active-now.was_there in let k = less in omega arith)
-      (λ q. let k = active-now.elsewhere y (eqb-ne _ _ q) in omega arith)
+      (λ q. let k = active-now.elsewhere y (eqb-false _ _ q) in omega arith)
 
   counts : (y : ℕ) → v2.active y ≡ sum_below (actor_count s) (λ a. inside_of y (v2.ways a))
   counts y =
@@ -97,13 +98,13 @@ module _ (c : Change) (b : ActorValue) (s : Setting) (w : World) (n : ℕ) (g : 
       let one : inside_of y (v.ways n) ≡ (if c.number == y then 1 else 0) = ap (inside_of y) go.was ∙ ap (is_inside y) in-leaf in
       let old = i.turning.counts y in
       on_bool (eqb y c.number)
-      (λ q. let e = eqb-eq _ _ q in
+      (λ q. let e = eqb-true _ _ q in
       let now : v2.active y ≡ d.gate_now.active = ap v2.active e ∙ active-now.is_there in
       let was : v.active y ≡ d.gate.active = ap v.active e ∙ active-now.was_there in
       let is : ◌≡◌ {A = ℕ} (if c.number == y then 1 else 0) 1 = ap (λ (z : ℕ). if c.number == z then 1 else 0) e ∙ (rw (eqb-self c.number) refl) in
       let k = less in omega arith)
-      (λ q. let ne = eqb-ne _ _ q in
-      let is : ◌≡◌ {A = ℕ} (if c.number == y then 1 else 0) 0 = rw (eqb-no c.number y (λ e. ne (sym e))) refl in
+      (λ q. let ne = eqb-false _ _ q in
+      let is : ◌≡◌ {A = ℕ} (if c.number == y then 1 else 0) 0 = rw (ne_eqb c.number y (λ e. ne (sym e))) refl in
       let k = active-now.elsewhere y ne in omega arith)
 
   -- Rows: the one that leaves was in its place.
@@ -136,11 +137,11 @@ module _ (c : Change) (b : ActorValue) (s : Setting) (w : World) (n : ℕ) (g : 
         parts = λ server q x within op is. All-weaker (λ (p : Part). IsRowPart v.history v.images v.ways g.placed g.path server q p p.state) (λ (p : Part). IsRowPart v.history v.images v2.ways g.placed g.path server q p p.state)
             (λ p. part-now server q p p.state) (v.desks server).parts (k.parts server q x within op is);
         on_way = λ a x is. on_bool (eqb a n)
-            (λ q. let both : ◌≡◌ {A = Option RowWay} (Some (record way { place = AtRest; filled = false })) (Some x) = sym go.is ∙ ap v2.ways (sym (eqb-eq _ _ q)) ∙ is in
+            (λ q. let both : ◌≡◌ {A = Option RowWay} (Some (record way { place = AtRest; filled = false })) (Some x) = sym go.is ∙ ap v2.ways (sym (eqb-true _ _ q)) ∙ is in
             let x_is : record way { place = AtRest; filled = false } ≡ x = cc in
             let o = k.on_way n way go.was in
             subst (IsOnWay v.history v.images g.placed g.path) x_is (record { known = o.known; lead = o.lead; passed = o.passed ∙ ap has_passed in-leaf; came = λ e. o.came (ap has_passed in-leaf) }))
-            (λ q. k.on_way a x (sym (go.off a (eqb-ne _ _ q)) ∙ is));
+            (λ q. k.on_way a x (sym (go.off a (eqb-false _ _ q)) ∙ is));
       }
 
   working-now : Working s v.history v.blocks v.made v.trees v.phases v2.active v.queues v.purses v.commands v.jobs g.gate g.shape g.placed

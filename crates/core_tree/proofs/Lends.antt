@@ -5,12 +5,14 @@ use Rattle.std.specs.Option.{option_map_or}
 use Rattle.dc_node.specs.Block.{entries_in}
 use Rattle.dc_node.specs.declared.entry.Entry.{Entry}
 use Rattle.shard_store.specs.Gate.{root_entry}
-use Rattle.tree_shape.specs.Counts.{Each, times}
+use Rattle.list_words.specs.Counts.{Each, times}
+use Rattle.list_words.proofs.Truth.{eqb-self}
+use Rattle.std.proofs.lemmas.Bool.{ne_eqb}
+use Rattle.list_words.proofs.Times.{same_is}
 use Rattle.tree_shape.specs.Laws.{ChildLaw, RootLaw}
 use Rattle.tree_shape.specs.Shape.{Node, Shape, Table, TreeCells, nodes, node_of, gate_node}
 use Rattle.tree_shape.specs.Trees.{EntryOk, IsTree, IsBehind, cells_behind}
 use Rattle.tree_shape.specs.Walks.{IsTail}
-use Rattle.tree_shape.proofs.Walks.{eqb-self, eqb-no, same_is}
 use Rattle.volap_cell.specs.Cells.{CellValue, FreeCell, LedgerCell, StockCell, RegistryCell, ImageCell, DeskCell, MapCell, GateCell, BlockCell, block_in, has_block}
 use Rattle.volap_cell.specs.Errands.{row_way, place_of}
 use Rattle.volap_cell.specs.Ghost.{Ghost, InPurse, InTree}
@@ -56,7 +58,7 @@ walked cells look expected (suc n) y (z ∷ zs) there t =
     let block = is-block (cells z) (there z (let o = same_is z z refl in omega arith)).1 in
     let ih = walked cells look expected n z zs (λ x k. there x (omega arith)) t.2 in
     subst (λ (ys : List ℕ). AreBehind expected (suc n) (block_in (cells y)) (lent_as cells ys))
-    (sym (ap (λ (b : Bool). cond b [] (option_map_or (λ x. x ∷ cells_behind (λ x. block_in (cells x)) expected n x) (block_in (cells y)).right [])) (eqb-no (block_in (cells y)).stamp expected off)
+    (sym (ap (λ (b : Bool). cond b [] (option_map_or (λ x. x ∷ cells_behind (λ x. block_in (cells x)) expected n x) (block_in (cells y)).right [])) (ne_eqb (block_in (cells y)).stamp expected off)
     ∙ ap (λ (o : Option ℕ). option_map_or (λ x. x ∷ cells_behind (λ x. block_in (cells x)) expected n x) o []) to))
     (n, (omega arith), off, to, record { was = block; same = refl }, ih)
 
@@ -111,7 +113,7 @@ module _ (s : Setting) (w : World) (g : Ghost) (i : InvWith s (view s w) g) wher
         let level = inside.1 in
         let top = tree.level in
         let off : z ≢ c = (λ e. let x = ap shape.level e in absurd (omega arith)) in
-        (ap (λ (b : Bool). cond b (gate_node (v.trees c)) (node_of (v.blocks z))) (eqb-no z c off), (i.stocking.tree c z whole inside.0 off).1))
+        (ap (λ (b : Bool). cond b (gate_node (v.trees c)) (node_of (v.blocks z))) (ne_eqb z c off), (i.stocking.tree c z whole inside.0 off).1))
         t
 
     -- of an entry of a directory, and of the root
@@ -123,7 +125,7 @@ module _ (s : Setting) (w : World) (g : Ghost) (i : InvWith s (view s w) g) wher
         let height = tree.height in
         let high = tree.tree.shape.below b inside in
         let low : shape.level b ≢ (v.trees c).height = (λ k. off (tree.only b inside k)) in
-        let entries : (nodes cells b).entries ≡ entries_in (v.blocks b).body = ap (λ (x : Bool). (cond x (gate_node (v.trees c)) (node_of (v.blocks b))).entries) (eqb-no b c off) in
+        let entries : (nodes cells b).entries ≡ entries_in (v.blocks b).body = ap (λ (x : Bool). (cond x (gate_node (v.trees c)) (node_of (v.blocks b))).entries) (ne_eqb b c off) in
         lends (shape.level e.child) e (omega arith)
         (each-place (EntryOk shape (nodes cells) table (shape.level e.child)) (nodes cells b).entries place e (ap (λ (es : List Entry). slice_get es place) entries ∙ at) (tree.tree.dirs b (shape.level e.child) inside (sym below)).entries)
 

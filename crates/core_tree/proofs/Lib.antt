@@ -21,7 +21,6 @@ pub mod BlocksLeft
 pub mod QuerySteps
 pub mod Walkers
 pub mod VisitsBlock
-pub mod Tallies
 pub mod Exchanges
 pub mod AsFar
 pub mod ReadsGate

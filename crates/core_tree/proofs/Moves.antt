@@ -2,7 +2,7 @@
 -- invariant that speak of trees. One proof for every kind by which a row comes in, goes down or is put in its leaf.
 use Rattle.std.proofs.Common.{◌≡◌, ◌≢◌, ℕ, ◌+◌, ◌*◌, ◌<◌, ◌≤◌, Bool, true, false, cond, eqb, List, [], ◌∷◌, ◌++◌, length, Some, None, IsSome, refl, sym, ap, ◌∙◌, subst, inl, arith}
 use mathlib.Core.Path.{fun_ext}
-use Rattle.std.proofs.lemmas.Bool.{false≢true}
+use Rattle.std.proofs.lemmas.Bool.{false≢true, eqb-true, eqb-false}
 use Rattle.cell_stock.specs.Stock.{cells_of}
 use Rattle.cell_stock.specs.declared.purse.Spare.{Spare}
 use Rattle.dim_hierarchy.specs.declared.row.Row.{Row}
@@ -10,15 +10,14 @@ use Rattle.dc_node.specs.declared.todo.Item.{Item}
 use Rattle.shard_store.specs.Gate.{root_entry}
 use Rattle.shard_store.specs.declared.gate.Gate.{Gate}
 use Rattle.shard_store.specs.declared.gate.Phase.TheVariants.{Gone}
-use Rattle.tree_shape.specs.Counts.{Each, same, times}
+use Rattle.list_words.specs.Counts.{Each, same, times}
+use Rattle.list_words.proofs.Each.{each-map, each-both, each-here, each-left, each-right, each-among}
+use Rattle.list_words.proofs.Truth.{on_bool}
 use Rattle.tree_shape.specs.Laws.{OtherLaw}
 use Rattle.tree_shape.specs.Queries.{IsUnfinished, NoneWaits}
 use Rattle.tree_shape.specs.Shape.{Table, TreeCells, nodes, Shape}
 use Rattle.tree_shape.specs.Steps.{IsSpare, AreSpares, AreApart, LeavesTree, AfterOther}
 use Rattle.tree_shape.specs.Trees.{IsTree}
-use Rattle.tree_shape.proofs.Divisions.{each-map, each-both}
-use Rattle.tree_shape.proofs.Parts.{each-here, each-left, each-right}
-use Rattle.tree_shape.proofs.Walks.{on_bool, eqb-eq, eqb-ne}
 use Rattle.volap_cell.specs.Errands.{RowWay, RowPlace, Outside, AtBlock, InLeaf, AtRest}
 use Rattle.volap_cell.specs.Ghost.{Ghost, Owner, InPurse, InTree, NotOfStock, AGate, is_unused, is_in_purse, is_in_tree, is_in_job}
 use Rattle.volap_cell.specs.Growing.{table_of, Growing}
@@ -29,7 +28,6 @@ use Rattle.volap_cell.specs.Stocking.{cells_at, IsWhole, LeavesStamp, Stocking, 
 use Rattle.volap_cell.specs.Sums.{sum_below}
 use Rattle.volap_cell.specs.Turning.{Turning, IsIn, is_inside, inside_of}
 use Rattle.volap_cell.specs.View.{View}
-use Rattle.volap_cell.proofs.Frames.{each-among}
 use Rattle.core_tree.proofs.Carriers.{purse-owned}
 use Rattle.core_tree.proofs.Stamps.{Restamps, restamped-apart, restamped-each}
 use Rattle.core_tree.proofs.Spares.{spares-each, spares-distinct, spares-from, AreDistinct, each-drop, distinct-drop, distinct-right, spares-left, used-apart, moved_owner, on_used, each-times, times-off, times-cells, in-own, other-purse, other-tree}
@@ -103,14 +101,14 @@ module _ (s : Setting) (v v2 : View) (g g2 : Ghost) (n c : ℕ) (other : OtherLa
   -- at the gate, or at another one
   pub by_gate : (P : ℕ → Shape → Type 0) → P c (g2.shape c) → ((d : ℕ) → d ≢ c → P d (g.shape d)) → (d : ℕ) → P d (g2.shape d)
   by_gate P at els d = on_bool (eqb d c)
-      (λ q. subst (λ (z : ℕ). P z (g2.shape z)) (sym (eqb-eq _ _ q)) at)
-      (λ q. let ne = eqb-ne _ _ q in subst (P d) (sym (m.shape_off d ne)) (els d ne))
+      (λ q. subst (λ (z : ℕ). P z (g2.shape z)) (sym (eqb-true _ _ q)) at)
+      (λ q. let ne = eqb-false _ _ q in subst (P d) (sym (m.shape_off d ne)) (els d ne))
 
   -- of the actor, or of another one
   pub by_actor : {A : Type 0} (f f2 : ℕ → A) (P : ℕ → A → Type 0) → ((a : ℕ) → a ≢ n → f2 a ≡ f a) → P n (f2 n) → ((a : ℕ) → a ≢ n → P a (f a)) → (a : ℕ) → P a (f2 a)
   by_actor f f2 P same at els a = on_bool (eqb a n)
-      (λ q. subst (λ (z : ℕ). P z (f2 z)) (sym (eqb-eq _ _ q)) at)
-      (λ q. let ne = eqb-ne _ _ q in subst (P a) (sym (same a ne)) (els a ne))
+      (λ q. subst (λ (z : ℕ). P z (f2 z)) (sym (eqb-true _ _ q)) at)
+      (λ q. let ne = eqb-false _ _ q in subst (P a) (sym (same a ne)) (els a ne))
 
   pub whole : IsWhole v.gates v.phases v.pins c
   whole = (m.is_gate, inl m.stands)
@@ -174,8 +172,8 @@ module _ (s : Setting) (v v2 : View) (g g2 : Ghost) (n c : ℕ) (other : OtherLa
   -- the row of an actor is the one it had
   pub row-before : (a : ℕ) (w : RowWay) → v2.ways a ≡ Some w → (u : RowWay) × (v.ways a ≡ Some u) × (u.row ≡ w.row)
   row-before a w is = on_bool (eqb a n)
-      (λ q. let e = eqb-eq _ _ q in (m.way, ap v.ways e ∙ m.was, ap (λ (u : RowWay). u.row) (sym (mine-now w (ap v2.ways (sym e) ∙ is)))))
-      (λ q. (w, sym (m.ways_off a (eqb-ne _ _ q)) ∙ is, refl))
+      (λ q. let e = eqb-true _ _ q in (m.way, ap v.ways e ∙ m.was, ap (λ (u : RowWay). u.row) (sym (mine-now w (ap v2.ways (sym e) ∙ is)))))
+      (λ q. (w, sym (m.ways_off a (eqb-false _ _ q)) ∙ is, refl))
 
   is-in : (a d : ℕ) (w : RowWay) → a ≢ n → v.ways a ≡ Some w → IsIn v.phases g.gate g.shape g.home w d → IsIn v.phases g2.gate g2.shape g2.home w d
   is-in a d w ne is o =
@@ -246,10 +244,10 @@ module _ (s : Setting) (v v2 : View) (g g2 : Ghost) (n c : ℕ) (other : OtherLa
     carried = λ d q some pl ca. by_gate
         (λ d z. v.phases d ≢ None → z.placed q ≡ true → z.carried q ≡ true → (a : ℕ) × (y : ℕ) × (w : RowWay) × (v2.ways a ≡ Some w) × (w.row.no ≡ q) × (w.place ≡ AtBlock d y))
         (λ some pl ca. on_bool (eqb q r)
-        (λ e. let is = eqb-eq _ _ e in
+        (λ e. let is = eqb-true _ _ e in
         let k = still-carried m.place m.went (subst (λ (z : ℕ). (g2.shape c).carried z ≡ true) is ca) in
         (n, k.0, now, m.is, sym is, k.1))
-        (λ e. let nm = eqb-ne _ _ e in
+        (λ e. let nm = eqb-false _ _ e in
         let k = i.turning.carried c q some (sym (m.moved.placed q nm) ∙ pl) (sym (m.moved.carried q nm) ∙ ca) in
         let na : k.0 ≢ n = (λ z. nm (sym k.4 ∙ ap (λ (w : RowWay). w.row.no) (mine k.2 (ap v.ways (sym z) ∙ k.3)))) in
         (k.0, k.1, k.2, m.ways_off k.0 na ∙ k.3, k.4, k.5)))
@@ -259,17 +257,17 @@ module _ (s : Setting) (v v2 : View) (g g2 : Ghost) (n c : ℕ) (other : OtherLa
         (k.0, k.1, k.2, m.ways_off k.0 na ∙ k.3, k.4, k.5))
         d some pl ca;
     enough = λ a d y w is p. on_bool (eqb a n)
-        (λ q. let e = eqb-eq _ _ q in
+        (λ q. let e = eqb-true _ _ q in
         let k = went-on d y (ap (λ (u : RowWay). u.place) (sym (mine-now w (ap v2.ways (sym e) ∙ is))) ∙ p) in
         subst (λ (z : ℕ). ((g2.shape d).level y ≤ length (v2.purses z)) × (2 * length (v2.purses z) + 1 ≤ v2.boxes z)) (sym e)
         (subst (λ (z : ℕ). (g2.shape z).level y ≤ length (v2.purses n)) (sym k.gate) k.level, k.boxed))
-        (λ q. let ne = eqb-ne _ _ q in
+        (λ q. let ne = eqb-false _ _ q in
         let old : v.ways a ≡ Some w = sym (m.ways_off a ne) ∙ is in
         let o = i.turning.enough a d y w old p in
         rw (m.purses_off a ne, m.boxes_off a ne, level-kept a d y w old p) o);
     boxed = λ a w is filled. on_bool (eqb a n)
-        (λ q. absurd (false≢true (ap (λ (u : RowWay). u.filled) (sym (mine-now w (ap v2.ways (sym (eqb-eq _ _ q)) ∙ is))) ∙ filled)))
-        (λ q. let ne = eqb-ne _ _ q in rw (m.purses_off a ne, m.boxes_off a ne) (i.turning.boxed a w (sym (m.ways_off a ne) ∙ is) filled));
+        (λ q. absurd (false≢true (ap (λ (u : RowWay). u.filled) (sym (mine-now w (ap v2.ways (sym (eqb-true _ _ q)) ∙ is))) ∙ filled)))
+        (λ q. let ne = eqb-false _ _ q in rw (m.purses_off a ne, m.boxes_off a ne) (i.turning.boxed a w (sym (m.ways_off a ne) ∙ is) filled));
     counts = counts;
   }
 
@@ -320,8 +318,8 @@ module _ (s : Setting) (v v2 : View) (g g2 : Ghost) (n c : ℕ) (other : OtherLa
         every = λ y high low no. on y (λ p t u. let z : InTree c ≡ NotOfStock = sym t ∙ no in cc) (λ o t. k.every y high low (sym t ∙ no));
         unused = λ y. k.unused y ∙ as-before is_unused refl refl y;
         purse = λ a y. on_bool (eqb a n)
-            (λ q. subst (λ (z : ℕ). times y (cells_of (v2.purses z)) ≡ cond (is_in_purse z (g2.owner y)) 1 0) (sym (eqb-eq _ _ q)) (my-purse y))
-            (λ q. let ne = eqb-ne _ _ q in
+            (λ q. subst (λ (z : ℕ). times y (cells_of (v2.purses z)) ≡ cond (is_in_purse z (g2.owner y)) 1 0) (sym (eqb-true _ _ q)) (my-purse y))
+            (λ q. let ne = eqb-false _ _ q in
             ap (λ (ss : List Spare). times y (cells_of ss)) (m.purses_off a ne) ∙ k.purse a y ∙ as-before (is_in_purse a) (other-purse a n ne) refl y);
         job = λ a y. k.job a y ∙ as-before (is_in_job a) refl refl y;
         gate = λ d isg. on d (λ p t u. let z : InPurse n ≡ AGate = sym p ∙ k.gate d isg in cc) (λ o t. t ∙ k.gate d isg);
@@ -356,10 +354,10 @@ module _ (s : Setting) (v v2 : View) (g g2 : Ghost) (n c : ℕ) (other : OtherLa
   -- the spares of an actor are fewer than before, or as before
   fewer : (P : Spare → Type 0) (a : ℕ) → Each P (all_spares v.purses v.jobs a) → Each P (all_spares v2.purses v.jobs a)
   fewer P a e = on_bool (eqb a n)
-      (λ q. let is = eqb-eq _ _ q in
+      (λ q. let is = eqb-true _ _ q in
       subst (λ (z : ℕ). Each P (all_spares v2.purses v.jobs z)) (sym is)
       (each-drop P (v2.purses n) used (spent_of (v.jobs n)) (subst (λ (ss : List Spare). Each P (ss ++ spent_of (v.jobs n))) m.purse (subst (λ (z : ℕ). Each P (all_spares v.purses v.jobs z)) is e))))
-      (λ q. subst (λ (ss : List Spare). Each P (ss ++ spent_of (v.jobs a))) (sym (m.purses_off a (eqb-ne _ _ q))) e)
+      (λ q. subst (λ (ss : List Spare). Each P (ss ++ spent_of (v.jobs a))) (sym (m.purses_off a (eqb-false _ _ q))) e)
 
   -- they are apart from each other
   distinct : (a : ℕ) → AreDistinct (all_spares v.purses v.jobs a)
@@ -387,9 +385,9 @@ module _ (s : Setting) (v v2 : View) (g g2 : Ghost) (n c : ℕ) (other : OtherLa
   outside : (d : ℕ) → IsWhole v.gates v.phases v.pins d → (g.shape d).inside 0 ≡ false
   outside d w = on_bool ((g.shape d).inside 0)
       (λ q. on_bool (eqb 0 d)
-      (λ e. let own : g.owner 0 ≡ AGate = ap g.owner (eqb-eq _ _ e) ∙ i.stocking.gate d w.0 in
+      (λ e. let own : g.owner 0 ≡ AGate = ap g.owner (eqb-true _ _ e) ∙ i.stocking.gate d w.0 in
       absurd (not-first (λ z. let k : AGate ≡ NotOfStock = sym own ∙ z in cc)))
-      (λ e. let own = (i.stocking.tree d 0 w q (eqb-ne _ _ e)).0 in
+      (λ e. let own = (i.stocking.tree d 0 w q (eqb-false _ _ e)).0 in
       absurd (not-first (λ z. let k : InTree d ≡ NotOfStock = sym own ∙ z in cc))))
       (λ q. q)
     where

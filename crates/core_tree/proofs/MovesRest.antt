@@ -12,13 +12,13 @@ use Rattle.row_ledger.specs.Past.{Query, query_at}
 use Rattle.shard_store.specs.declared.gate.Gate.{Gate}
 use Rattle.shard_store.specs.declared.gate.Phase.TheVariants.{Frozen, Gone}
 use Rattle.tree_shape.specs.Collecting.{IsCollecting}
-use Rattle.tree_shape.specs.Counts.{Each, times}
+use Rattle.list_words.specs.Counts.{Each, times}
+use Rattle.list_words.proofs.Each.{each-map, each-both, each-left}
+use Rattle.list_words.proofs.Truth.{on_bool, eqb-self}
+use Rattle.std.proofs.lemmas.Bool.{eqb-true, eqb-false}
 use Rattle.tree_shape.specs.Laws.{OtherLaw, CollectOtherLaw}
 use Rattle.tree_shape.specs.Queries.{IsUnfinished, NoneWaits, fits}
 use Rattle.tree_shape.specs.Shape.{nodes, Shape, numbers}
-use Rattle.tree_shape.proofs.Divisions.{each-map, each-both}
-use Rattle.tree_shape.proofs.Parts.{each-left}
-use Rattle.tree_shape.proofs.Walks.{on_bool, eqb-eq, eqb-ne, eqb-self}
 use Rattle.volap_cell.specs.AdminKinds.{spent_in, spent_by}
 use Rattle.volap_cell.specs.Errands.{RowWay, ReadPart, has_passed}
 use Rattle.volap_cell.specs.Ghost.{Ghost, Owner, NotOfStock, Unused, InPurse, AGate, InTree, InJob, is_in_job}
@@ -55,8 +55,8 @@ module _ (s : Setting) (v v2 : View) (g g2 : Ghost) (n c : ℕ) (other : OtherLa
   pub placed-same : (g.shape c).placed r ≡ true → (d q : ℕ) → (g2.shape d).placed q ≡ (g.shape d).placed q
   placed-same was d q = by_gate (λ d z. z.placed q ≡ (g.shape d).placed q)
       (on_bool (eqb q r)
-      (λ e. let is = eqb-eq _ _ e in ap (g2.shape c).placed is ∙ m.moved.here ∙ sym was ∙ ap (g.shape c).placed (sym is))
-      (λ e. m.moved.placed q (eqb-ne _ _ e)))
+      (λ e. let is = eqb-true _ _ e in ap (g2.shape c).placed is ∙ m.moved.here ∙ sym was ∙ ap (g.shape c).placed (sym is))
+      (λ e. m.moved.placed q (eqb-false _ _ e)))
       (λ d nd. refl) d
 
   pub nobody : (q : ℕ) → NobodyAt v.ways q → NobodyAt v2.ways q
@@ -122,7 +122,7 @@ module _ (s : Setting) (v v2 : View) (g g2 : Ghost) (n c : ℕ) (other : OtherLa
 
   placed-on : (d q : ℕ) → (g.shape d).placed q ≡ true → (g2.shape d).placed q ≡ true
   placed-on d q = by_gate (λ d z. (g.shape d).placed q ≡ true → z.placed q ≡ true)
-      (λ p. on_bool (eqb q r) (λ e. ap (g2.shape c).placed (eqb-eq _ _ e) ∙ m.moved.here) (λ e. m.moved.placed q (eqb-ne _ _ e) ∙ p)) (λ d nd p. p) d
+      (λ p. on_bool (eqb q r) (λ e. ap (g2.shape c).placed (eqb-true _ _ e) ∙ m.moved.here) (λ e. m.moved.placed q (eqb-false _ _ e) ∙ p)) (λ d nd p. p) d
 
   in-tree : (pin : Option ℕ) (q : ℕ) → IsInTreeOf g.shape pin q → IsInTreeOf g2.shape pin q
   in-tree None q e = e
@@ -150,7 +150,7 @@ module _ (s : Setting) (v v2 : View) (g g2 : Ghost) (n c : ℕ) (other : OtherLa
   -- Jobs.
 
   owner-job : (a : ℕ) (o : Owner) → is_in_job a o ≡ true → o ≡ InJob a
-  owner-job a (InJob b) e = ap InJob (eqb-eq b a e)
+  owner-job a (InJob b) e = ap InJob (eqb-true b a e)
   owner-job a NotOfStock e = cc
   owner-job a Unused e = cc
   owner-job a AGate e = cc

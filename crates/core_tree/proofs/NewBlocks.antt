@@ -2,10 +2,11 @@
 use Rattle.std.proofs.Common.{◌≡◌, ◌≢◌, ℕ, Bool, true, cond, eqb, List, [], ◌∷◌, ◌++◌, length, refl, sym, ap, ◌∙◌, subst, ◌⊎◌, inl, inr, arith}
 use Rattle.cell_stock.specs.declared.purse.Spare.{Spare}
 use Rattle.link_descent.specs.declared.entered.Fresh.{Fresh}
-use Rattle.tree_shape.specs.Counts.{Each}
+use Rattle.list_words.specs.Counts.{Each}
+use Rattle.list_words.proofs.Each.{each-map, each-both}
+use Rattle.list_words.proofs.Truth.{on_bool}
+use Rattle.std.proofs.lemmas.Bool.{eqb-true, ne_eqb}
 use Rattle.tree_shape.specs.Steps.{AreApart}
-use Rattle.tree_shape.proofs.Divisions.{each-map, each-both}
-use Rattle.tree_shape.proofs.Walks.{on_bool, eqb-eq, eqb-no}
 use Rattle.volap_cell.specs.Cells.{CellValue, BlockCell, has_block}
 use Rattle.volap_cell.specs.TreeKinds.{AreFilled}
 use Rattle.volap_cell.specs.World.{Change, put}
@@ -65,7 +66,7 @@ in-spares P (s ∷ ss) (x ∷ fs) i e = (subst P i.0 e.0, in-spares P ss fs i.1 
 -- Cells in a row of changes.
 
 pub put-skip : (x : Change) (cs : List Change) (cells : ℕ → CellValue) (y : ℕ) → y ≢ x.number → put (x ∷ cs) cells y ≡ put cs cells y
-put-skip x cs cells y ne = rw (eqb-no y x.number ne) refl
+put-skip x cs cells y ne = rw (ne_eqb y x.number ne) refl
 
 pub put-behind : (xs cs : List Change) (cells : ℕ → CellValue) (y : ℕ) → Each (λ x. y ≢ x.number) xs → put (xs ++ cs) cells y ≡ put cs cells y
 put-behind [] cs cells y e = refl
@@ -78,8 +79,8 @@ seen-stays f (x ∷ cs) cells y at e =
     let ih = seen-stays f cs cells y at.1 e.1 in
     on_bool (eqb y x.number)
     (λ q. elim e.0 [
-      | inl ne ↦ absurd (ne (eqb-eq _ _ q))
-      | inr same ↦ (let is = eqb-eq _ _ q in ap (λ (b : Bool). f (cond b x.now (put cs cells y))) q ∙ same ∙ ap f (sym at.0) ∙ ap (λ (z : ℕ). f (cells z)) (sym is))
+      | inl ne ↦ absurd (ne (eqb-true _ _ q))
+      | inr same ↦ (let is = eqb-true _ _ q in ap (λ (b : Bool). f (cond b x.now (put cs cells y))) q ∙ same ∙ ap f (sym at.0) ∙ ap (λ (z : ℕ). f (cells z)) (sym is))
     ])
     (λ q. ap (λ (b : Bool). f (cond b x.now (put cs cells y))) q ∙ ih)
 

@@ -10,7 +10,7 @@ use Rattle.dim_hierarchy.specs.Filter.{IsFilterOf}
 use Rattle.dim_hierarchy.specs.Meaning.{IsPicked}
 use Rattle.dim_hierarchy.specs.declared.filter.Pick.{Pick}
 use Rattle.measure_agg.proofs.AggLaws.{join_empty_right}
-use Rattle.tree_shape.proofs.Walks.{on_bool}
+use Rattle.list_words.proofs.Truth.{on_bool}
 use Rattle.core_tree.specs.ReadDue.{IsOfAll, OfAllLaw}
 
 all-inside : (h : List Dimension) (f : List Pick) (set : DescSet) → IsFilterOf h f → IsDescSetOf h set → IsOfAll h f → is_inside h set f ≡ true

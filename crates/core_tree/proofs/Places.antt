@@ -23,9 +23,10 @@ use Rattle.server_image.specs.Image.{ImageValue}
 use Rattle.server_image.specs.Registry.{RegistryValue}
 use Rattle.shard_store.specs.declared.gate.Phase.{Phase}
 use Rattle.shard_store.specs.declared.queue.Queue.{Queue}
-use Rattle.tree_shape.specs.Counts.{same, times}
+use Rattle.list_words.specs.Counts.{same, times}
+use Rattle.list_words.proofs.Truth.{on_bool, eqb-self}
+use Rattle.std.proofs.lemmas.Bool.{eqb-true, eqb-false, ne_eqb}
 use Rattle.tree_shape.specs.Shape.{Shape, numbers}
-use Rattle.tree_shape.proofs.Walks.{on_bool, eqb-eq, eqb-ne, eqb-no, eqb-self}
 use Rattle.volap_cell.specs.Errands.{RowWay, RowPlace, has_passed}
 use Rattle.volap_cell.specs.Growing.{IsUnder, Resting}
 use Rattle.volap_cell.specs.Imaging.{Covering, Fits, Imaging, IsCovered, IsGrowth}
@@ -47,7 +48,7 @@ pub at-one : {A : Type 0} (f : ℕ → A) (r : ℕ) (x : A) → with_one f r x r
 at-one f r x = rw (eqb-self r) refl
 
 pub off-one : {A : Type 0} (f : ℕ → A) (r : ℕ) (x : A) (q : ℕ) → q ≢ r → with_one f r x q ≡ f q
-off-one f r x q ne = rw (eqb-no q r ne) refl
+off-one f r x q ne = rw (ne_eqb q r ne) refl
 
 -- an actor's row goes on to a place past its gate
 pub record Passes (ways ways_now : ℕ → Option RowWay) (n : ℕ) (way : RowWay) (place : RowPlace) : Type 0 where
@@ -106,9 +107,9 @@ module _ (h : List Event) (placed : ℕ → Bool) (home : ℕ → ℕ) (path : �
   -- what is so of the row that passes its gate, and of those that did before
   by-row : (P : ℕ → ℕ → List ℕ → Type 0) → P r way.shard way.path → ((q : ℕ) → placed q ≡ true → P q (home q) (path q)) → (q : ℕ) → placed_now q ≡ true → P q (home_now q) (path_now q)
   by-row P new old q now = on_bool (eqb q r)
-      (λ e. subst (λ (z : ℕ). P z (home_now z) (path_now z)) (sym (eqb-eq _ _ e))
+      (λ e. subst (λ (z : ℕ). P z (home_now z) (path_now z)) (sym (eqb-true _ _ e))
       (subst (λ (z : ℕ). P r z (path_now r)) (sym (at-one home r way.shard)) (subst (P r way.shard) (sym (at-one path r way.path)) new)))
-      (λ e. let ne = eqb-ne _ _ e in
+      (λ e. let ne = eqb-false _ _ e in
       subst (λ (z : ℕ). P q z (path_now q)) (sym (off-one home r way.shard q ne)) (subst (P q (home q)) (sym (off-one path r way.path q ne)) (old q (was-placed q ne now))))
 
   pub under-placed : (y q : ℕ) → IsUnder h placed home y q → IsUnder h placed_now home_now y q
@@ -127,8 +128,8 @@ module _ (h : List Event) (placed : ℕ → Bool) (home : ℕ → ℕ) (path : �
   telling-placed s commands jobs roles seen (a, row, is) i = record {
     right = KeepsRight-place (site_in s) placed placed_now h i.right placed-within
         (λ q now. on_bool (eqb q r)
-        (λ e. subst (λ (z : ℕ). is_kept h z ≡ true) (sym (eqb-eq _ _ e)) (is_kept-open h r (i.is_open a _ is)))
-        (λ e. i.right.kept q (was-placed q (eqb-ne _ _ e) now)));
+        (λ e. subst (λ (z : ℕ). is_kept h z ≡ true) (sym (eqb-true _ _ e)) (is_kept-open h r (i.is_open a _ is)))
+        (λ e. i.right.kept q (was-placed q (eqb-false _ _ e) now)));
     own = i.own;
     is_open = i.is_open;
     progress = i.progress;
@@ -147,13 +148,13 @@ module _ (h : List Event) (placed : ℕ → Bool) (home : ℕ → ℕ) (path : �
       → Placing s h commands ways queues gate shape placed home path → Placing s h commands ways_now queues_now gate shape_now placed_now home_now path_now
   placing-placed s commands images ways ways_now queues queues_now gate shape shape_now insert began live lead routed nobody more i = record {
     one = λ y q stands. on_bool (eqb q r)
-        (λ e. subst (λ (z : ℕ). times_at (shape_now (gate y)) (queues_now (gate y)) z ≡ cond (placed_now z) (same (home_now z) y) 0) (sym (eqb-eq _ _ e))
+        (λ e. subst (λ (z : ℕ). times_at (shape_now (gate y)) (queues_now (gate y)) z ≡ cond (placed_now z) (same (home_now z) y) 0) (sym (eqb-true _ _ e))
         (let now = more y r stands in
         let was : times_at (shape (gate y)) (queues (gate y)) r ≡ 0 = i.one y r stands ∙ ap (λ (b : Bool). cond b (same (home r) y) 0) out in
         let added : cond (eqb r r) (same way.shard y) 0 ≡ same way.shard y = ap (λ (b : Bool). cond b (same way.shard y) 0) (eqb-self r) in
         let there : cond (placed_now r) (same (home_now r) y) 0 ≡ same way.shard y = ap (λ (b : Bool). cond b (same (home_now r) y) 0) (at-one placed r true) ∙ ap (λ (z : ℕ). same z y) (at-one home r way.shard) in
         omega (arith, now, was, added, there)))
-        (λ e. let ne = eqb-ne _ _ e in
+        (λ e. let ne = eqb-false _ _ e in
         let now = more y q stands in
         let was = i.one y q stands in
         let added : cond (eqb q r) (same way.shard y) 0 ≡ 0 = ap (λ (b : Bool). cond b (same way.shard y) 0) e in
@@ -175,9 +176,9 @@ module _ (h : List Event) (placed : ℕ → Bool) (home : ℕ → ℕ) (path : �
     -- actors have the rows that they had
     pub nobody-placed : (q : ℕ) → NobodyAt ways q → NobodyAt ways_now q
     nobody-placed q none a w is e = on_bool (eqb a n)
-        (λ k. let its : ◌≡◌ {A = Option RowWay} (Some (record way { place = place; filled = false })) (Some w) = sym go.is ∙ ap ways_now (sym (eqb-eq _ _ k)) ∙ is in
+        (λ k. let its : ◌≡◌ {A = Option RowWay} (Some (record way { place = place; filled = false })) (Some w) = sym go.is ∙ ap ways_now (sym (eqb-true _ _ k)) ∙ is in
         let row : way.row.no ≡ w.row.no = cc in none n way go.was (row ∙ e))
-        (λ k. none a w (sym (go.off a (eqb-ne _ _ k)) ∙ is) e)
+        (λ k. none a w (sym (go.off a (eqb-false _ _ k)) ∙ is) e)
 
     -- a row that nobody is at is another one
     nobody-off : (q : ℕ) → NobodyAt ways q → q ≢ r
@@ -197,11 +198,11 @@ module _ (h : List Event) (placed : ℕ → Bool) (home : ℕ → ℕ) (path : �
       parts = λ server q insert within op is. All-weaker (λ (p : Part). IsRowPart h images ways placed path server q p p.state) (λ (p : Part). IsRowPart h images ways_now placed_now path_now server q p p.state)
           (λ p. part-placed images server q p p.state) (desks server).parts (i.parts server q insert within op is);
       on_way = λ a w is. on_bool (eqb a n)
-          (λ k. let its : ◌≡◌ {A = Option RowWay} (Some (record way { place = place; filled = false })) (Some w) = sym go.is ∙ ap ways_now (sym (eqb-eq _ _ k)) ∙ is in
+          (λ k. let its : ◌≡◌ {A = Option RowWay} (Some (record way { place = place; filled = false })) (Some w) = sym go.is ∙ ap ways_now (sym (eqb-true _ _ k)) ∙ is in
           let w_is : record way { place = place; filled = false } ≡ w = cc in
           let o = i.on_way n way go.was in
           subst (IsOnWay h images placed_now path_now) w_is (record { known = o.known; lead = o.lead; passed = at-one placed r true ∙ sym go.passed; came = λ e. at-one path r way.path }))
-          (λ k. let ne = eqb-ne _ _ k in
+          (λ k. let ne = eqb-false _ _ k in
           let was = sym (go.off a ne) ∙ is in
           let off : w.row.no ≢ r = (λ e. ne (one a w was e)) in
           let o = i.on_way a w was in

@@ -8,7 +8,8 @@ use Rattle.dc_node.specs.declared.block.Body.TheVariants.{Rows}
 use Rattle.tree_shape.specs.Laws.{OtherLaw, PutLaw, CollectOtherLaw}
 use Rattle.tree_shape.specs.Shape.{Shape}
 use Rattle.tree_shape.specs.Steps.{AfterPut}
-use Rattle.tree_shape.proofs.Walks.{on_bool, eqb-eq, eqb-ne}
+use Rattle.list_words.proofs.Truth.{on_bool}
+use Rattle.std.proofs.lemmas.Bool.{eqb-true, eqb-false}
 use Rattle.volap_cell.specs.Cells.{CellValue, BlockCell, block_in, has_block}
 use Rattle.volap_cell.specs.Errands.{AtBlock, row_way, way_of, place_of}
 use Rattle.volap_cell.specs.Ghost.{Ghost}
@@ -89,11 +90,11 @@ module _ (puts : PutLaw) (c : Change) (b : ActorValue) (s : Setting) (w : World)
     purse = sym (append-nil b.purse ∙ ap (λ (a : ActorValue). a.purse) d.actor_is);
     fresh = tt;
     stamps = inl (λ y made. on_bool (eqb y c.number)
-        (λ q. let e = eqb-eq y c.number q in record {
+        (λ q. let e = eqb-true y c.number q in record {
           made_before = ap v.made e ∙ ap has_block (ag.cells.0 ∙ d.last.was);
           same = ap (λ (z : ℕ). ((view s (after w (c ∷ []) n b)).blocks z).stamp) e ∙ ap (λ (x : Block). x.stamp) is ∙ ap (λ (x : Block). x.stamp) (sym was) ∙ ap (λ (z : ℕ). (v.blocks z).stamp) (sym e);
         })
-        (λ q. let off = elsewhere (c ∷ []) w.cells y (eqb-ne y c.number q, tt) in record { made_before = ap has_block (sym off) ∙ made; same = ap (λ x. (block_in x).stamp) off }));
+        (λ q. let off = elsewhere (c ∷ []) w.cells y (eqb-false y c.number q, tt) in record { made_before = ap has_block (sym off) ∙ made; same = ap (λ x. (block_in x).stamp) off }));
     moved = record {
       tree = law.tree;
       here = law.placed r ∙ here.in_tree.placed;

@@ -16,9 +16,9 @@ use Rattle.row_ledger.specs.declared.event.Event.{Event}
 use Rattle.tree_shape.specs.Queries.{NoneWaits}
 use Rattle.tree_shape.specs.Shape.{Shape, nodes}
 use Rattle.tree_shape.specs.Steps.{IsSpare}
-use Rattle.tree_shape.proofs.Divisions.{each-both}
-use Rattle.tree_shape.proofs.Parts.{each-append, each-right, each-left}
-use Rattle.tree_shape.proofs.Walks.{on_bool, eqb-eq, eqb-ne, eqb-self}
+use Rattle.list_words.proofs.Each.{each-both, each-append, each-right, each-left}
+use Rattle.list_words.proofs.Truth.{on_bool, eqb-self}
+use Rattle.std.proofs.lemmas.Bool.{eqb-true, eqb-false}
 use Rattle.volap_cell.specs.Errands.{ReadPart, Taken, taken_by, taken_of, read_of, want_of, way_in_task}
 use Rattle.volap_cell.specs.Falls.{left, far, rows_of_task, rows_of_errand, gates_of_task, gates_of_errand, gates_of_work, gates_of_part, control_of, of_work, job_left, gone_left, one_if_any, rows_of_part, queries_of_task, queries_of_errand, queries_of_work, queries_of_state, blocks_left}
 use Rattle.volap_cell.specs.Ghost.{Ghost}
@@ -159,17 +159,17 @@ module _ (s : Setting) (w : World) (n : ℕ) (cs : List Change) (b : ActorValue)
 
   counted-off : (x y : ℕ) → ¬ ((x ≡ server) × (y ≡ shard)) → counted x y ≡ g.counted x y
   counted-off x y off = on_bool (eqb x server)
-      (λ p. on_bool (eqb y shard) (λ q. absurd (off (eqb-eq _ _ p, eqb-eq _ _ q))) (λ q. rw (p, q) refl))
+      (λ p. on_bool (eqb y shard) (λ q. absurd (off (eqb-true _ _ p, eqb-true _ _ q))) (λ q. rw (p, q) refl))
       (λ p. rw p refl)
 
   by_part : (P : ℕ → ℕ → List ℕ → Type 0) → P server shard d.now → ((x y : ℕ) → ¬ ((x ≡ server) × (y ≡ shard)) → P x y (g.counted x y)) → (x y : ℕ) → P x y (counted x y)
   by_part P at els x y = on_bool (eqb x server)
       (λ p. on_bool (eqb y shard)
-      (λ q. let ex = eqb-eq _ _ p in
-      let ey = eqb-eq _ _ q in
+      (λ q. let ex = eqb-true _ _ p in
+      let ey = eqb-true _ _ q in
       subst (λ (z : ℕ). P z y (counted z y)) (sym ex) (subst (λ (z : ℕ). P server z (counted server z)) (sym ey) (subst (P server shard) (sym counted-here) at)))
-      (λ q. let off : ¬ ((x ≡ server) × (y ≡ shard)) = (λ k. eqb-ne _ _ q k.1) in subst (P x y) (sym (counted-off x y off)) (els x y off)))
-      (λ p. let off : ¬ ((x ≡ server) × (y ≡ shard)) = (λ k. eqb-ne _ _ p k.0) in subst (P x y) (sym (counted-off x y off)) (els x y off))
+      (λ q. let off : ¬ ((x ≡ server) × (y ≡ shard)) = (λ k. eqb-false _ _ q k.1) in subst (P x y) (sym (counted-off x y off)) (els x y off)))
+      (λ p. let off : ¬ ((x ≡ server) × (y ≡ shard)) = (λ k. eqb-false _ _ p k.0) in subst (P x y) (sym (counted-off x y off)) (els x y off))
 
   -- the command on the desk is the part's
   its-of : (x of : ℕ) → x ≡ server → (v.desks x).op ≡ Some of → of ≡ d.part.of
@@ -224,14 +224,14 @@ module _ (s : Setting) (w : World) (n : ℕ) (cs : List Change) (b : ActorValue)
 
   reading-now : (a : ℕ) (p : ReadPart) → v2.reads a ≡ Some p → AreRead p
   reading-now a p is = on_bool (eqb a n)
-      (λ q. let one : Some mine ≡ Some p = sym reads-me ∙ ap v2.reads (sym (eqb-eq _ _ q)) ∙ is in
+      (λ q. let one : Some mine ≡ Some p = sym reads-me ∙ ap v2.reads (sym (eqb-true _ _ q)) ∙ is in
       let same_part : mine ≡ p = cc in subst AreRead same_part reads-mine)
-      (λ q. let ne = eqb-ne _ _ q in reads-others a p ne (sym (reads-off a ne) ∙ is))
+      (λ q. let ne = eqb-false _ _ q in reads-others a p ne (sym (reads-off a ne) ∙ is))
 
   unread-now : (a : ℕ) (t : Taken) (f : List Pick) → v.taken a ≡ Some t → t.want ≡ want.Filter f → v2.reads a ≡ None → counted t.server t.shard ≡ []
   unread-now a t f took asks none = on_bool (eqb a n)
-      (λ q. let z : Some mine ≡ None = sym reads-me ∙ ap v2.reads (sym (eqb-eq _ _ q)) ∙ none in absurd cc)
-      (λ q. let ne = eqb-ne _ _ q in counted-off t.server t.shard (off-part a t ne took) ∙ i.querying.unread a t f took asks (sym (reads-off a ne) ∙ none))
+      (λ q. let z : Some mine ≡ None = sym reads-me ∙ ap v2.reads (sym (eqb-true _ _ q)) ∙ none in absurd cc)
+      (λ q. let ne = eqb-false _ _ q in counted-off t.server t.shard (off-part a t ne took) ∙ i.querying.unread a t f took asks (sym (reads-off a ne) ∙ none))
 
   querying : Querying s v.history v.row v.blocks v.trees v.desks v.taken v2.reads g.shape g.placed g.home counted
   querying = record {
@@ -272,9 +272,9 @@ module _ (s : Setting) (w : World) (n : ℕ) (cs : List Change) (b : ActorValue)
 
   items-now : (stamp a : ℕ) → NoneExpects (g.shape d.gate) (cells_at v.blocks v.trees d.gate) stamp → NoneWaits stamp (all_items v.reads v.jobs a) → NoneWaits stamp (all_items v2.reads v.jobs a)
   items-now stamp a unexpected none = on_bool (eqb a n)
-      (λ q. let is = eqb-eq _ _ q in
+      (λ q. let is = eqb-true _ _ q in
       subst (λ (z : ℕ). NoneWaits stamp (all_items v2.reads v.jobs z)) (sym is) (items-me stamp unexpected (subst (λ (z : ℕ). NoneWaits stamp (all_items v.reads v.jobs z)) is none)))
-      (λ q. subst (λ (o : Option ReadPart). NoneWaits stamp (items_of_read o ++ items_of_job (v.jobs a))) (sym (reads-off a (eqb-ne _ _ q))) none)
+      (λ q. subst (λ (o : Option ReadPart). NoneWaits stamp (items_of_read o ++ items_of_job (v.jobs a))) (sym (reads-off a (eqb-false _ _ q))) none)
 
   stamping : Stamping v.stock v.blocks v.made v.trees v.gates v.phases v2.pins v.purses v2.reads v.jobs g.shape
   stamping =

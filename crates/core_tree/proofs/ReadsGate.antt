@@ -24,7 +24,9 @@ use Rattle.shard_store.specs.Gate.{IsQueueOf, root_entry}
 use Rattle.shard_store.specs.declared.gate.Gate.{Gate}
 use Rattle.shard_store.specs.declared.gate.Phase.TheVariants.{Gone}
 use Rattle.shard_store.specs.declared.queue.Queue.{Queue}
-use Rattle.tree_shape.specs.Counts.{Each, same, times}
+use Rattle.list_words.specs.Counts.{Each, same, times}
+use Rattle.list_words.proofs.Truth.{on_bool, eqb-self}
+use Rattle.std.proofs.lemmas.Bool.{eqb-true, eqb-false, ne_eqb}
 use Rattle.tree_shape.specs.Laws.{BeginLaw, RootLaw, OtherLaw}
 use Rattle.tree_shape.specs.Queries.{IsUnfinished, fits, items_of}
 use Rattle.tree_shape.specs.Shape.{Node, TreeCells, nodes, Shape, numbers}
@@ -32,7 +34,6 @@ use Rattle.tree_shape.specs.Steps.{AfterBegin, LeavesTree}
 use Rattle.tree_shape.specs.Trees.{IsTree}
 use Rattle.tree_shape.specs.Walks.{Noted, pending}
 use Rattle.tree_shape.proofs.Assembled.{node-gate}
-use Rattle.tree_shape.proofs.Walks.{on_bool, eqb-eq, eqb-ne, eqb-self, eqb-no}
 use Rattle.volap_cell.specs.Cells.{CellValue, MapCell, pins_in, queue_in, tag_of, way_in, way_to_tree, where_in}
 use Rattle.volap_cell.specs.Errands.{ReadPart, taken_by, taken_of, read_of, want_of}
 use Rattle.volap_cell.specs.Falls.{far, per_query, queries_of_task, blocks_left}
@@ -303,7 +304,7 @@ module _ (begins : BeginLaw) (roots : RootLaw) (other : OtherLaw) (m gc : Change
 
   pin-off : (y : ℕ) → y ≢ c → (xs : List Item) → one_pin y (pin_if c xs) ≡ 0
   pin-off y ne [] = refl
-  pin-off y ne (z ∷ xs) = rw (eqb-no c y (λ e. ne (sym e))) refl
+  pin-off y ne (z ∷ xs) = rw (ne_eqb c y (λ e. ne (sym e))) refl
 
   pin-is : (y : ℕ) (xs : List Item) → pin_if c xs ≡ Some y → y ≡ c
   pin-is y [] e = cc
@@ -316,28 +317,28 @@ module _ (begins : BeginLaw) (roots : RootLaw) (other : OtherLaw) (m gc : Change
       let new : pins_of y ((view s w2).reads n) ≡ one_pin y (pin_if c items) = ap (pins_of y) reads-me in
       let before = i.pinning.counts y in
       on_bool (eqb y c)
-      (λ q. let is = eqb-eq _ _ q in
+      (λ q. let is = eqb-true _ _ q in
       let one : one_pin y (pin_if c items) ≡ one_if_some items = ap (λ (z : ℕ). one_pin z (pin_if c items)) is ∙ pin-here items in
       let was : v.pins y ≡ d.gate.pins = ap v.pins is ∙ pins-new.was_there in
       let now : (view s w2).pins y ≡ d.gate.pins + one_if_some items = ap (view s w2).pins is ∙ pins-new.is_there in
       omega arith)
-      (λ q. let ne = eqb-ne _ _ q in
+      (λ q. let ne = eqb-false _ _ q in
       let none = pin-off y ne items in
       let stays = pins-new.elsewhere y ne in omega arith)
 
   pinned-shard : (a y : ℕ) (p : ReadPart) → (view s w2).reads a ≡ Some p → p.reading.pin ≡ Some y → v.gates y ≡ Some p.shard
   pinned-shard a y p is pin = on_bool (eqb a n)
-      (λ q. let e = eqb-eq _ _ q in
+      (λ q. let e = eqb-true _ _ q in
       let one : Some mine ≡ Some p = sym reads-me ∙ ap (view s w2).reads (sym e) ∙ is in
       let same_part : mine ≡ p = cc in
       let at = pin-is y items (ap (λ (z : ReadPart). z.reading.pin) same_part ∙ pin) in
       ap v.gates at ∙ gate.of_shard ∙ ap (λ (z : ReadPart). Some z.shard) same_part)
-      (λ q. i.pinning.shard a y p (sym (reads-off a (eqb-ne _ _ q)) ∙ is) pin)
+      (λ q. i.pinning.shard a y p (sym (reads-off a (eqb-false _ _ q)) ∙ is) pin)
 
   whole-before : (y : ℕ) → IsWhole v.gates v.phases (view s w2).pins y → IsWhole v.gates v.phases v.pins y
   whole-before y whole = on_bool (eqb y c)
-      (λ q. subst (IsWhole v.gates v.phases v.pins) (sym (eqb-eq _ _ q)) gate.whole)
-      (λ q. subst (λ (z : ℕ). IsSome (v.gates y) × ((v.phases y ≢ Some Gone) ⊎ (1 ≤ z))) (pins-new.elsewhere y (eqb-ne _ _ q)) whole)
+      (λ q. subst (IsWhole v.gates v.phases v.pins) (sym (eqb-true _ _ q)) gate.whole)
+      (λ q. subst (λ (z : ℕ). IsSome (v.gates y) × ((v.phases y ≢ Some Gone) ⊎ (1 ≤ z))) (pins-new.elsewhere y (eqb-false _ _ q)) whole)
 
   read-step : ReadsStep s w n (m ∷ gc ∷ []) b g
   read-step = record {

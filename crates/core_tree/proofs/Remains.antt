@@ -5,7 +5,8 @@ use Rattle.std.specs.Prelude.{sum_by}
 use Rattle.query_router.specs.declared.part.Part.{Part}
 use Rattle.row_ledger.specs.declared.event.Event.{Event}
 use Rattle.tree_shape.specs.Shape.{Shape}
-use Rattle.tree_shape.proofs.Walks.{on_bool, eqb-eq, eqb-ne}
+use Rattle.list_words.proofs.Truth.{on_bool}
+use Rattle.std.proofs.lemmas.Bool.{eqb-true, eqb-false}
 use Rattle.volap_cell.specs.Falls.{control_of, gates_of_errand, gates_of_part, gates_of_work, gone_left, job_left, left, of_work, one_if_any, rows_of_errand, rows_of_part}
 use Rattle.volap_cell.specs.Ghost.{Ghost}
 use Rattle.volap_cell.specs.Setting.{Setting, actor_count, cell_count}
@@ -39,8 +40,8 @@ module _ (s : Setting) (w w2 : World) (g g2 : Ghost) (n : ℕ) (b : ActorValue) 
   -- what the step leaves of the actor it leaves of all
   actor-same : {A : Type 0} (f : ActorValue → A) → f b ≡ f (w.actors n) → (a : ℕ) → f (w2.actors a) ≡ f (w.actors a)
   actor-same f is a = on_bool (eqb a n)
-      (λ q. let e = eqb-eq _ _ q in ap (λ (z : ℕ). f (w2.actors z)) e ∙ ap f i.at ∙ is ∙ ap (λ (z : ℕ). f (w.actors z)) (sym e))
-      (λ q. ap f (i.off a (eqb-ne _ _ q)))
+      (λ q. let e = eqb-true _ _ q in ap (λ (z : ℕ). f (w2.actors z)) e ∙ ap f i.at ∙ is ∙ ap (λ (z : ℕ). f (w.actors z)) (sym e))
+      (λ q. ap f (i.off a (eqb-false _ _ q)))
 
   pub control-same : (left s w2 g2).control ≡ (left s w g).control
   control-same =

@@ -1,12 +1,12 @@
 -- A row that isn't carried comes to rest: all rows that are carried stay so, at their blocks and by their actors.
 use Rattle.std.proofs.Common.{◌≡◌, ◌≢◌, ℕ, false, eqb, Option, Some, refl, sym, ap, ◌∙◌}
-use Rattle.std.proofs.lemmas.Bool.{false≢true}
+use Rattle.std.proofs.lemmas.Bool.{false≢true, eqb-true, eqb-false}
 use Rattle.cell_stock.specs.declared.purse.Spare.{Spare}
 use Rattle.dim_hierarchy.specs.declared.row.Row.{Row}
 use Rattle.shard_store.specs.declared.gate.Phase.{Phase}
 use Rattle.std.specs.Prelude.{List}
 use Rattle.tree_shape.specs.Shape.{Shape}
-use Rattle.tree_shape.proofs.Walks.{on_bool, eqb-eq, eqb-ne}
+use Rattle.list_words.proofs.Truth.{on_bool}
 use Rattle.volap_cell.specs.Errands.{AtBlock, AtRest, InLeaf, RowWay}
 use Rattle.volap_cell.specs.Setting.{Setting, actor_count}
 use Rattle.volap_cell.specs.Sums.{sum_below}
@@ -27,14 +27,14 @@ module _ (s : Setting) (ways ways_now : ℕ → Option RowWay) (n : ℕ) (way : 
   -- an actor's row is the one that it had
   pub row-was : (a : ℕ) (w : RowWay) → ways_now a ≡ Some w → (u : RowWay) × (ways a ≡ Some u) × (u.row ≡ w.row)
   row-was a w is = on_bool (eqb a n)
-      (λ q. let e = eqb-eq _ _ q in (way, ap ways e ∙ go.was, ap (λ (u : RowWay). u.row) (mine-now w (ap ways_now (sym e) ∙ is))))
-      (λ q. (w, sym (go.off a (eqb-ne _ _ q)) ∙ is, refl))
+      (λ q. let e = eqb-true _ _ q in (way, ap ways e ∙ go.was, ap (λ (u : RowWay). u.row) (mine-now w (ap ways_now (sym e) ∙ is))))
+      (λ q. (w, sym (go.off a (eqb-false _ _ q)) ∙ is, refl))
 
   -- who isn't at rest is another one, whose row is another one
   still-on : {P : Type 0} (a : ℕ) (w : RowWay) → ways_now a ≡ Some w → w.place ≢ AtRest → (a ≢ n → ways a ≡ Some w → w.row.no ≢ way.row.no → P) → P
   still-on a w is on f = on_bool (eqb a n)
-      (λ q. absurd (on (ap (λ (u : RowWay). u.place) (sym (mine-now w (ap ways_now (sym (eqb-eq _ _ q)) ∙ is))))))
-      (λ q. let ne = eqb-ne _ _ q in let was = sym (go.off a ne) ∙ is in f ne was (λ e. ne (i.one a n w way was go.was e)))
+      (λ q. absurd (on (ap (λ (u : RowWay). u.place) (sym (mine-now w (ap ways_now (sym (eqb-true _ _ q)) ∙ is))))))
+      (λ q. let ne = eqb-false _ _ q in let was = sym (go.off a ne) ∙ is in f ne was (λ e. ne (i.one a n w way was go.was e)))
 
   -- others than the carriers may be counted anew, and the row may have a home now
   pub turning-rested : (active_now : ℕ → ℕ) (home_now : ℕ → ℕ) → ((c y : ℕ) → way.place ≢ AtBlock c y) → ((q : ℕ) → q ≢ way.row.no → home_now q ≡ home q)
@@ -55,8 +55,8 @@ module _ (s : Setting) (ways ways_now : ℕ → Option RowWay) (n : ℕ) (way : 
         (k.0, k.1, k.2, go.off k.0 ne ∙ k.3, k.4, k.5);
     enough = λ a c y w is p. still-on a w is (λ e. let no : AtBlock c y ≡ AtRest = sym p ∙ e in cc) (λ ne was off. i.enough a c y w was p);
     boxed = λ a w is filled. on_bool (eqb a n)
-        (λ q. absurd (false≢true (ap (λ (u : RowWay). u.filled) (mine-now w (ap ways_now (sym (eqb-eq _ _ q)) ∙ is)) ∙ filled)))
-        (λ q. i.boxed a w (sym (go.off a (eqb-ne _ _ q)) ∙ is) filled);
+        (λ q. absurd (false≢true (ap (λ (u : RowWay). u.filled) (mine-now w (ap ways_now (sym (eqb-true _ _ q)) ∙ is)) ∙ filled)))
+        (λ q. i.boxed a w (sym (go.off a (eqb-false _ _ q)) ∙ is) filled);
     counts = counts;
   }
     where

@@ -2,12 +2,13 @@
 use Rattle.std.proofs.Common.{◌≡◌, ◌≢◌, ℕ, ◌+◌, ◌≤◌, arith, inl, inr, Bool, true, false, cond, eqb, List, [], ◌∷◌, ◌++◌, refl, sym, ap, subst, ◌∙◌}
 use Rattle.cell_stock.specs.Stock.{cells_of}
 use Rattle.cell_stock.specs.declared.purse.Spare.{Spare}
-use Rattle.tree_shape.specs.Counts.{Each, Among, times}
+use Rattle.list_words.specs.Counts.{Each, Among, times}
+use Rattle.list_words.proofs.Each.{each-both, each-append, each-here, each-left, each-right}
+use Rattle.list_words.proofs.Truth.{on_bool, eqb-self}
+use Rattle.std.proofs.lemmas.Bool.{eqb-true, eqb-false, ne_eqb}
+use Rattle.list_words.proofs.Times.{same_is, same_not}
 use Rattle.tree_shape.specs.Shape.{Shape, Node}
 use Rattle.tree_shape.specs.Steps.{IsSpare, AreSpares, AreApart}
-use Rattle.tree_shape.proofs.Divisions.{each-both}
-use Rattle.tree_shape.proofs.Parts.{each-append, each-here, each-left, each-right}
-use Rattle.tree_shape.proofs.Walks.{on_bool, eqb-eq, eqb-ne, eqb-no, eqb-self, same_is, same_not}
 use Rattle.volap_cell.specs.Ghost.{Owner, NotOfStock, Unused, InPurse, AGate, InTree, InJob, is_in_purse, is_in_tree}
 
 pub apart-sym : (x y : Spare) → AreApart x y → AreApart y x
@@ -70,8 +71,8 @@ on_used [] c n owner y e f g = g tt refl
 on_used (s ∷ ss) c n owner y e f g =
     let ih = on_used ss c n owner y e.1 in
     on_bool (eqb y s.cell)
-    (λ q. let is = eqb-eq _ _ q in f (ap owner is ∙ e.0) (ap (λ (b : Bool). cond b (InTree c) (moved_owner ss c owner y)) q) (λ Q all. subst Q (sym is) all.0))
-    (λ q. let ne = eqb-ne _ _ q in
+    (λ q. let is = eqb-true _ _ q in f (ap owner is ∙ e.0) (ap (λ (b : Bool). cond b (InTree c) (moved_owner ss c owner y)) q) (λ Q all. subst Q (sym is) all.0))
+    (λ q. let ne = eqb-false _ _ q in
     let same : moved_owner (s ∷ ss) c owner y ≡ moved_owner ss c owner y = ap (λ (b : Bool). cond b (InTree c) (moved_owner ss c owner y)) q in
     ih (λ p t k. f p (same ∙ t) (λ Q all. k Q all.1)) (λ off t. g (ne, off) (same ∙ t)))
 
@@ -102,7 +103,7 @@ times-cells y (x ∷ xs) ys = (let k = times-cells y xs ys in omega arith)
 -- Owners.
 
 pub owner-purse : (n : ℕ) (o : Owner) → is_in_purse n o ≡ true → o ≡ InPurse n
-owner-purse n (InPurse b) e = ap InPurse (eqb-eq b n e)
+owner-purse n (InPurse b) e = ap InPurse (eqb-true b n e)
 owner-purse n NotOfStock e = cc
 owner-purse n Unused e = cc
 owner-purse n AGate e = cc
@@ -113,7 +114,7 @@ pub in-own : (n : ℕ) → ◌≡◌ {A = ℕ} (cond (is_in_purse n (InPurse n))
 in-own n = rw (eqb-self n) refl
 
 pub other-purse : (a n : ℕ) → a ≢ n → is_in_purse a (InPurse n) ≡ false
-other-purse a n ne = eqb-no n a (λ e. ne (sym e))
+other-purse a n ne = ne_eqb n a (λ e. ne (sym e))
 
 pub other-tree : (c d : ℕ) → d ≢ c → is_in_tree d (InTree c) ≡ false
-other-tree c d ne = eqb-no c d (λ e. ne (sym e))
+other-tree c d ne = ne_eqb c d (λ e. ne (sym e))

@@ -8,11 +8,12 @@ use Rattle.dc_node.specs.declared.entry.Entry.{Entry}
 use Rattle.dim_hierarchy.specs.Dimension.{Dimension}
 use Rattle.link_descent.specs.Descend.{Cuts}
 use Rattle.link_descent.specs.declared.entered.Fresh.{Fresh}
-use Rattle.tree_shape.specs.Counts.{Among, Each}
+use Rattle.list_words.specs.Counts.{Among, Each}
+use Rattle.list_words.proofs.Truth.{on_bool}
+use Rattle.std.proofs.lemmas.Bool.{eqb-true, eqb-false}
+use Rattle.list_words.proofs.Each.{each-among}
 use Rattle.tree_shape.specs.Steps.{AreApart}
-use Rattle.tree_shape.proofs.Walks.{on_bool, eqb-eq, eqb-ne}
 use Rattle.volap_cell.specs.Stocking.{LeavesStamp}
-use Rattle.volap_cell.proofs.Frames.{each-among}
 use Rattle.core_tree.proofs.Spares.{AreDistinct}
 
 -- of distinct spares two in different cells have different stamps
@@ -33,8 +34,8 @@ distinct-stamps (y ∷ ys) x z d mx mz ne e = elim mx [
 spare-at : (y : ℕ) (xs : List Spare) → ((x : Spare) × Among x xs × (y ≡ x.cell)) ⊎ Each (λ x. y ≢ x.cell) xs
 spare-at y [] = inr tt
 spare-at y (x ∷ xs) = on_bool (eqb y x.cell)
-    (λ q. inl (x, inl refl, eqb-eq y x.cell q))
-    (λ q. elim (spare-at y xs) [ inl found ↦ inl (found.0, inr found.1, found.2) | inr off ↦ inr (eqb-ne y x.cell q, off) ])
+    (λ q. inl (x, inl refl, eqb-true y x.cell q))
+    (λ q. elim (spare-at y xs) [ inl found ↦ inl (found.0, inr found.1, found.2) | inr off ↦ inr (eqb-false y x.cell q, off) ])
 
 -- no two blocks have one stamp
 abbrev pub AreStampsApart : (made : ℕ → Bool) (blocks : ℕ → Block) → Type 0
@@ -75,13 +76,13 @@ data From (made : ℕ → Bool) (blocks now : ℕ → Block) (used : List Spare)
 module _ (inside made made_now : ℕ → Bool) (blocks now : ℕ → Block) (used : List Spare) where
   from : (d : Divides inside made made_now blocks now used) (y : ℕ) → made_now y ≡ true → From made blocks now used d.head d.spare y
   from d y is = on_bool (eqb y d.head)
-      (λ q. let e = eqb-eq y d.head q in IsHead e (ap (λ (z : ℕ). (now z).stamp) e ∙ d.head_now))
+      (λ q. let e = eqb-true y d.head q in IsHead e (ap (λ (z : ℕ). (now z).stamp) e ∙ d.head_now))
       (λ q. elim (spare-at y used) [
         | inl found ↦ elim (each-among (IsPlaced now d.spare) found.0 used d.placed found.1) [
           | inl same ↦ (let e : y ≡ d.spare.cell = found.2 ∙ ap (λ (x : Spare). x.cell) same in IsNew e (ap (λ (z : ℕ). (now z).stamp) e ∙ d.new_now))
           | inr top ↦ IsTop found.0 found.1 found.2 top.0 (ap (λ (z : ℕ). (now z).stamp) found.2 ∙ top.1)
         ]
-        | inr off ↦ (let ne = eqb-ne y d.head q in IsOld ne off (d.others y ne off is))
+        | inr off ↦ (let ne = eqb-false y d.head q in IsOld ne off (d.others y ne off is))
       ])
 
   -- What is so of each stamp where it was, of the head's stamp in another cell, and of the stamps of used spares in any, is so now.
@@ -166,8 +167,8 @@ pub restamps : (inside made made_now : ℕ → Bool) (blocks now : ℕ → Block
     → Restamps inside made made_now blocks now used
 restamps inside made made_now blocks now used items head stamps there stood off distinct filled others = elim stamps [
   | inl none ↦ inl (λ y is. on_bool (eqb y head)
-      (λ q. let e = eqb-eq y head q in record { made_before = ap made e ∙ stood; same = ap (λ (z : ℕ). (now z).stamp) e ∙ none.1 ∙ ap (λ (z : ℕ). (blocks z).stamp) (sym e) })
-      (λ q. others y (eqb-ne y head q) (subst (Each (λ (x : Spare). y ≢ x.cell)) (sym none.0) tt) is))
+      (λ q. let e = eqb-true y head q in record { made_before = ap made e ∙ stood; same = ap (λ (z : ℕ). (now z).stamp) e ∙ none.1 ∙ ap (λ (z : ℕ). (blocks z).stamp) (sym e) })
+      (λ q. others y (eqb-false y head q) (subst (Each (λ (x : Spare). y ≢ x.cell)) (sym none.0) tt) is))
   | inr d ↦ (let places = d.placed now distinct filled in inr (record {
     head = head;
     spare = d.spare;

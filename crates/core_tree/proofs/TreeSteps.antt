@@ -3,13 +3,13 @@ use Rattle.std.proofs.Common.{◌≡◌, ◌≢◌, ℕ, ◌+◌, ◌<◌, ◌�
 use Rattle.cell_stock.specs.declared.purse.Spare.{Spare}
 use Rattle.query_router.specs.declared.part.Part.{Part}
 use Rattle.std.specs.Prelude.{sum_by}
-use Rattle.tree_shape.specs.Counts.{Each}
+use Rattle.list_words.specs.Counts.{Each}
+use Rattle.std.proofs.lemmas.Bool.{leb-true, leb-false, eqb-true, ne_eqb}
+use Rattle.list_words.proofs.Truth.{on_bool, eqb-self}
 use Rattle.tree_shape.specs.Laws.{OtherLaw, CollectOtherLaw}
 use Rattle.tree_shape.specs.Shape.{Shape}
-use Rattle.tree_shape.proofs.Queries.{leb-le, leb-gt}
-use Rattle.tree_shape.proofs.Walks.{on_bool, eqb-eq, eqb-self, eqb-no}
 use Rattle.volap_cell.specs.Cells.{CellValue, block_in, has_block}
-use Rattle.volap_cell.specs.Errands.{RowWay, AtBlock, ReadPart, way_of, taken_of, read_of, place_of, row_way, has_passed, is_filled}
+use Rattle.volap_cell.specs.Errands.{RowWay, AtBlock, ReadPart, way_of, taken_of, place_of, row_way, has_passed, is_filled}
 use Rattle.volap_cell.specs.Falls.{left, far, rows_of_way, rows_of_task, rows_of_errand, gates_of_way, gates_of_task, gates_of_errand, gates_of_work, gates_of_part, control_of, of_work, job_left, gone_left, one_if_any, rows_of_part}
 use Rattle.volap_cell.specs.Ghost.{Ghost, Owner, InTree, InPurse}
 use Rattle.volap_cell.specs.Growing.{table_of}
@@ -40,6 +40,7 @@ use Rattle.core_tree.proofs.Moves.{Moved, Went, TreeMoves, moved-growing, moved-
 use Rattle.core_tree.proofs.MovesRest.{moved-resting, moved-placing, moved-inserting, moved-querying, moved-working}
 use Rattle.core_tree.proofs.Spares.{moved_owner}
 use Rattle.core_tree.proofs.Stamps.{Restamps}
+use Rattle.volap_cell.proofs.Promised.{reads-taken}
 
 -- what such a commit touches
 abbrev pub of_steps : Touched
@@ -55,7 +56,7 @@ block-off [] cells owner c n y at own nt np = refl
 block-off (x ∷ cs) cells owner c n y at own nt np =
     let ih = block-off cs cells owner c n y at.1 own.1 nt np in
     on_bool (eqb y x.number)
-    (λ q. let e = eqb-eq _ _ q in
+    (λ q. let e = eqb-true _ _ q in
     ap (λ (b : Bool). block_in (cond b x.now (put cs cells y))) q
     ∙ elim own.0 [
       | inl t ↦ absurd (nt (ap owner e ∙ t))
@@ -108,10 +109,6 @@ none-of : {A : Type 0} (o : Option A) → ((x : A) → o ≡ Some x → ⊥) →
 none-of None f = refl
 none-of (Some x) f = absurd (f x refl)
 
-read-taken : (errand : Option ErrandValue) (p : ReadPart) → read_of errand ≡ Some p → taken_of errand ≡ None → ⊥
-read-taken None p e t = cc
-read-taken (Some x) p e t = cc
-
 module _ (s : Setting) (w : World) (n : ℕ) (cs : List Change) (b : ActorValue) (g : Ghost) (other : OtherLaw) (collects : CollectOtherLaw) (i : InvWith s (view s w) g)
     (ag : Agrees w cs n (w.actors n)) (t : TreeStep s w n cs b g) where
   abbrev v : View
@@ -142,10 +139,10 @@ module _ (s : Setting) (w : World) (n : ℕ) (cs : List Change) (b : ActorValue)
   taken e = (let k = taken-is t.has.errand t.has.row in let z = sym k ∙ e in cc)
 
   few : n < actor_count s
-  few = on_bool (leb (actor_count s) n) (λ q. absurd (taken (i.numbering.nobody n (leb-le _ _ q)).3)) (λ q. leb-gt _ _ q)
+  few = on_bool (leb (actor_count s) n) (λ q. absurd (taken (i.numbering.nobody n (leb-true _ _ q)).3)) (λ q. leb-false _ _ q)
 
   readers : (a : ℕ) (p : ReadPart) → v.reads a ≡ Some p → a < actor_count s
-  readers a p is = on_bool (leb (actor_count s) a) (λ q. absurd (read-taken (w.actors a).errand p is (i.numbering.nobody a (leb-le _ _ q)).3)) (λ q. leb-gt _ _ q)
+  readers a p is = on_bool (leb (actor_count s) a) (λ q. absurd (reads-taken (w.actors a).errand p is (i.numbering.nobody a (leb-true _ _ q)).3)) (λ q. leb-false _ _ q)
 
   jobless : v.jobs n ≡ None
   jobless = none-of (v.jobs n) (λ j is. i.numbering.parts n _ (taken-is t.has.errand t.has.row) (i.numbering.working n j is))
@@ -183,7 +180,7 @@ module _ (s : Setting) (w : World) (n : ℕ) (cs : List Change) (b : ActorValue)
     purses_off = λ a ne. ap (λ (z : ActorValue). z.purse) (actor-off w.actors n b a ne);
     boxes_off = λ a ne. ap (λ (z : ActorValue). z.boxes) (actor-off w.actors n b a ne);
     trees_off = λ d ne. refl;
-    shape_off = λ d ne. rw (eqb-no d t.gate ne) refl;
+    shape_off = λ d ne. rw (ne_eqb d t.gate ne) refl;
     owner = λ y. refl;
     gate_same = λ x. refl;
     home_off = λ q ne. refl;

@@ -15,7 +15,10 @@ use Rattle.dc_node.specs.declared.entry.Entry.{Entry}
 use Rattle.dc_node.specs.declared.todo.Item.{Item}
 use Rattle.link_descent.specs.Visit.{is_noted, noted, noted_in, noted_right, counted as block_part}
 use Rattle.shard_store.specs.declared.gate.Phase.TheVariants.{Gone}
-use Rattle.tree_shape.specs.Counts.{Each, same}
+use Rattle.list_words.specs.Counts.{Each, same}
+use Rattle.list_words.proofs.Each.{each-append, each-left, each-right}
+use Rattle.list_words.proofs.Truth.{on_bool}
+use Rattle.std.proofs.lemmas.Bool.{eqb-true, eqb-false}
 use Rattle.tree_shape.specs.Laws.{VisitLaw, GateLaw, BlockLaw}
 use Rattle.tree_shape.specs.Queries.{IsUnfinished, NoneWaits, fits}
 use Rattle.tree_shape.specs.Shape.{Table, Node, TreeCells, nodes, Shape}
@@ -24,9 +27,7 @@ use Rattle.tree_shape.specs.Trees.{IsTree}
 use Rattle.tree_shape.specs.Walks.{pending}
 use Rattle.tree_shape.proofs.Assembled.{node-block}
 use Rattle.tree_shape.proofs.Noted.{none-above, none-noted}
-use Rattle.tree_shape.proofs.Parts.{each-append, each-left, each-right}
 use Rattle.tree_shape.proofs.Totals.{links-on}
-use Rattle.tree_shape.proofs.Walks.{on_bool, eqb-eq, eqb-ne}
 use Rattle.volap_cell.specs.Cells.{CellValue, BlockCell, block_in, has_block, pins_in}
 use Rattle.volap_cell.specs.Errands.{ReadPart, RowWay, AtBlock, IsCarried, block_at, read_of}
 use Rattle.volap_cell.specs.Falls.{far, queries_of_task, blocks_left}
@@ -119,8 +120,8 @@ module _ (visits : VisitLaw) (c : Change) (b : ActorValue) (s : Setting) (w : Wo
       let (a, y, way, is, row, there) = i.turning.carried k.gate r (gate-phase (w.cells k.gate) k.whole.0) placed carried in
       let here : y ≡ c.number = sym (at-row a y way is there) ∙ ap shape.at row ∙ at ∙ d.here in
       on_bool (eqb a n)
-      (λ q. let z : None ≡ Some way = sym (way-is d.errand d.reading) ∙ ap v.ways (sym (eqb-eq _ _ q)) ∙ is in cc)
-      (λ q. (ag.free a (eqb-ne _ _ q)).0 (subst (λ (o : Option RowWay). IsCarried o c.number) (sym is) (ap block_at there ∙ ap Some here)))
+      (λ q. let z : None ≡ Some way = sym (way-is d.errand d.reading) ∙ ap v.ways (sym (eqb-true _ _ q)) ∙ is in cc)
+      (λ q. (ag.free a (eqb-false _ _ q)).0 (subst (λ (o : Option RowWay). IsCarried o c.number) (sym is) (ap block_at there ∙ ap Some here)))
     where
       at-row : (a y : ℕ) (way : RowWay) → v.ways a ≡ Some way → way.place ≡ AtBlock k.gate y → shape.at way.row.no ≡ y
       at-row a y way is there = (i.turning.carrying a k.gate y way is there).2
@@ -226,17 +227,17 @@ module _ (visits : VisitLaw) (c : Change) (b : ActorValue) (s : Setting) (w : Wo
 
   pins-of : (y a : ℕ) → pins_of y ((view s w2).reads a) ≡ pins_of y (v.reads a)
   pins-of y a = on_bool (eqb a n)
-      (λ q. let is = eqb-eq _ _ q in
+      (λ q. let is = eqb-true _ _ q in
       ap (λ (z : ℕ). pins_of y ((view s w2).reads z)) is ∙ ap (λ (x : ActorValue). pins_of y (read_of x.errand)) (actor-at w.actors n b ∙ d.actor_is) ∙ sym (ap (pins_of y) read-before) ∙ ap (λ (z : ℕ). pins_of y (v.reads z)) (sym is))
-      (λ q. ap (λ (x : ActorValue). pins_of y (read_of x.errand)) (actor-off w.actors n b a (eqb-ne _ _ q)))
+      (λ q. ap (λ (x : ActorValue). pins_of y (read_of x.errand)) (actor-off w.actors n b a (eqb-false _ _ q)))
 
   pinned-shard : (a y : ℕ) (p : ReadPart) → (view s w2).reads a ≡ Some p → p.reading.pin ≡ Some y → v.gates y ≡ Some p.shard
   pinned-shard a y p is pin = on_bool (eqb a n)
-      (λ q. let e = eqb-eq _ _ q in
+      (λ q. let e = eqb-true _ _ q in
       let one : Some (record { server = d.e.server; shard = d.e.shard; reading = r2 }) ≡ Some p = sym (ap (λ (x : ActorValue). read_of x.errand) (actor-at w.actors n b ∙ d.actor_is)) ∙ ap (view s w2).reads (sym e) ∙ is in
       let same_part : record { server = d.e.server; shard = d.e.shard; reading = r2 } ≡ p = cc in
       i.pinning.shard n y (record { server = d.e.server; shard = d.e.shard; reading = d.r }) read-before (ap (λ (x : ReadPart). x.reading.pin) same_part ∙ pin) ∙ ap (λ (x : ReadPart). Some x.shard) same_part)
-      (λ q. i.pinning.shard a y p (sym (ap (λ (x : ActorValue). read_of x.errand) (actor-off w.actors n b a (eqb-ne _ _ q))) ∙ is) pin)
+      (λ q. i.pinning.shard a y p (sym (ap (λ (x : ActorValue). read_of x.errand) (actor-off w.actors n b a (eqb-false _ _ q))) ∙ is) pin)
 
   pinning-now : Pinning s v.gates (view s w2).pins (view s w2).reads
   pinning-now = record {

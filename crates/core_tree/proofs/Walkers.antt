@@ -12,13 +12,14 @@ use Rattle.row_ledger.specs.Shards.{comes_from, is_live}
 use Rattle.row_ledger.proofs.Descent.{comes_from-self}
 use Rattle.shard_store.specs.declared.gate.Phase.{Phase}
 use Rattle.shard_store.specs.declared.gate.Phase.TheVariants.{Open, Frozen, Gone}
-use Rattle.tree_shape.specs.Counts.{Each, same, times}
+use Rattle.list_words.specs.Counts.{Each, same, times}
+use Rattle.list_words.proofs.Truth.{on_bool}
+use Rattle.std.proofs.lemmas.Bool.{eqb-true}
 use Rattle.tree_shape.specs.Laws.{GateLaw}
 use Rattle.tree_shape.specs.Queries.{IsUnfinished, fits}
 use Rattle.tree_shape.specs.Shape.{nodes, numbers}
 use Rattle.tree_shape.specs.Steps.{IsAsked}
 use Rattle.tree_shape.specs.Trees.{IsTree}
-use Rattle.tree_shape.proofs.Walks.{on_bool, eqb-eq}
 use Rattle.volap_cell.specs.Errands.{ReadPart, taken_by, taken_of, want_of}
 use Rattle.volap_cell.specs.Ghost.{Ghost}
 use Rattle.volap_cell.specs.Growing.{IsUnder, table_of}
@@ -52,7 +53,7 @@ module _ (s : Setting) (w : World) (g : Ghost) (i : InvWith s (view s w) g) wher
       let one = i.placing.one x r live in
       on_bool (g.placed r)
       (λ p. on_bool (eqb (g.home r) x)
-      (λ q. (p, eqb-eq _ _ q))
+      (λ q. (p, eqb-true _ _ q))
       (λ q. let none : cond (g.placed r) (same (g.home r) x) 0 ≡ 0 = rw (p, q) refl in absurd (omega arith)))
       (λ p. let none : cond (g.placed r) (same (g.home r) x) 0 ≡ 0 = rw p refl in absurd (omega arith))
 

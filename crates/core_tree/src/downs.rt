@@ -1,5 +1,5 @@
 //! The step of a row from a directory down to a child.
-ghost use Rattle.std.specs.Prelude.{◌≡◌, ◌+◌, ◌<◌, [], ◌∷◌, ◌++◌, Some, length, map, option_map, is_some, slice_get};
+ghost use Rattle.std.specs.Prelude.{◌≡◌, ◌+◌, ◌<◌, ◌∷◌, ◌++◌, Some, length, map, option_map, is_some, slice_get};
 ghost use Rattle.dc_node.specs.Block.{entries_in};
 ghost use Rattle.dc_node.specs.declared.entry.Entry.{Entry};
 ghost use Rattle.core_tree.specs.Descent.{CanDown, CanStep, block_if, blocks_if, two_if};

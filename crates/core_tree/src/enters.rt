@@ -1,5 +1,5 @@
 //! The step of a row in at a gate.
-ghost use Rattle.std.specs.Prelude.{◌≡◌, [], ◌∷◌, ◌++◌, option_map, is_some};
+ghost use Rattle.std.specs.Prelude.{◌≡◌, ◌∷◌, ◌++◌, option_map, is_some};
 ghost use Rattle.core_tree.specs.Descent.{CanEnterTree, CanComeIn, CameIn, blocks_if, two_if};
 ghost use Rattle.volap_cell.specs.Cells.{cell_of};
 ghost use Rattle.volap_cell.specs.Steps.{IsHere, Makes};

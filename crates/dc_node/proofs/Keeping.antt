@@ -16,7 +16,7 @@ use Rattle.dim_hierarchy.proofs.Matching.{picked-step, picked-end}
 use Rattle.measure_agg.specs.Aggregate.{Aggregate, agg}
 use Rattle.measure_agg.specs.Joining.{join}
 use Rattle.dc_node.specs.declared.columns.Columns.{Columns}
-use Rattle.dc_node.specs.Columns.{id_at, coord_at, row_at, rows_of}
+use Rattle.dc_node.specs.Columns.{id_at, coord_at, row_at, rows_in_columns}
 use Rattle.dc_node.proofs.Rows.{row_fact}
 
 -- Filters of lists.
@@ -91,7 +91,7 @@ Keeping-more h f c count dim column places new few long lt read e k = record {
         (ap (is_picked (tree h dim) (pick_at f dim)) (ap (λ l. get_or l place 0) read ∙ sym (concept-column c.concepts place dim (omega (arith, lt, few)))))
 
 -- the column has leaf concepts at these places
-pub leaves : (h : List Dimension) (c : Columns) (count dim : ℕ) (column places : List ℕ) → All (IsRowOf h) (rows_of c count) → length h ≤ 8 → dim < length h
+pub leaves : (h : List Dimension) (c : Columns) (count dim : ℕ) (column places : List ℕ) → All (IsRowOf h) (rows_in_columns c count) → length h ≤ 8 → dim < length h
     → column ≡ get_or c.concepts dim [] → All (λ place. place < count) places → All (λ place. IsLeaf (tree h dim) (get_or column place 0)) places
 leaves h c count dim column places valid few lt read within = λ k d less.
     let place = get_or places k d in
@@ -101,7 +101,7 @@ leaves h c count dim column places valid few lt read within = λ k d less.
 
 -- after all dimensions
 pub Keeping-all : (h : List Dimension) (f : List Pick) (c : Columns) (count dim : ℕ) (places : List ℕ) → length f ≡ length h → length h ≤ dim → Keeping h f c count dim places
-    → agg (filter (λ r. matches h f r.at) (rows_of c count)) ≡ agg (map (row_at c) places)
+    → agg (filter (λ r. matches h f r.at) (rows_in_columns c count)) ≡ agg (map (row_at c) places)
 Keeping-all h f c count dim places long le k =
     ap agg (filter-map (λ r. matches h f r.at) (row_at c) (range_with_len 0 count)
     ∙ ap (map (row_at c)) (k.same ∙ filter_agree (rest h f c.concepts dim) (λ _. true) (λ place. picked-end h f (coord_at c.concepts place).at dim le long) places ∙ filter-whole places))

@@ -9,20 +9,20 @@ use Rattle.dim_hierarchy.specs.Row.{concept_at}
 use Rattle.dim_hierarchy.specs.declared.row.Row.{Row}
 use Rattle.dim_hierarchy.specs.declared.row.Coord.{Coord}
 use Rattle.dc_node.specs.declared.columns.Columns.{Columns}
-use Rattle.dc_node.specs.Columns.{id_at, coord_at, row_at, rows_of, IsPut}
+use Rattle.dc_node.specs.Columns.{id_at, coord_at, row_at, rows_in_columns, IsPut}
 
-pub length_rows : (c : Columns) (k : ℕ) → length (rows_of c k) ≡ k
+pub length_rows : (c : Columns) (k : ℕ) → length (rows_in_columns c k) ≡ k
 length_rows c k = length-map-range_with_len (row_at c) 0 k
 
-pub read_row : (c : Columns) (k i : ℕ) (d : Row) → i < k → get_or (rows_of c k) i d ≡ row_at c i
+pub read_row : (c : Columns) (k i : ℕ) (d : Row) → i < k → get_or (rows_in_columns c k) i d ≡ row_at c i
 read_row c k i d lt = get_or-map-range_with_len (row_at c) 0 k i i d lt (omega arith)
 
-pub row_of_rows : (c : Columns) (k i : ℕ) → i < k → slice_get (rows_of c k) i ≡ Some (row_at c i)
+pub row_of_rows : (c : Columns) (k i : ℕ) → i < k → slice_get (rows_in_columns c k) i ≡ Some (row_at c i)
 row_of_rows c k i lt =
-    slice_get-get_or (rows_of c k) i (row_at c i) (let n = length_rows c k in omega (arith, n, lt)) ∙ ap Some (read_row c k i (row_at c i) lt)
+    slice_get-get_or (rows_in_columns c k) i (row_at c i) (let n = length_rows c k in omega (arith, n, lt)) ∙ ap Some (read_row c k i (row_at c i) lt)
 
 -- a fact of all rows holds of one
-pub row_fact : (P : Row → Type 0) (c : Columns) (k i : ℕ) → All P (rows_of c k) → i < k → P (row_at c i)
+pub row_fact : (P : Row → Type 0) (c : Columns) (k i : ℕ) → All P (rows_in_columns c k) → i < k → P (row_at c i)
 row_fact P c k i all lt =
     let n = length_rows c k in
     subst P (read_row c k i (row_at c i) lt) (all i (row_at c i) (omega (arith, n, lt)))
@@ -33,7 +33,7 @@ map_below f g a zero e = refl
 map_below f g a (suc n) e = rw (e a (omega arith)) (ap (λ l. g a ∷ l) (map_below f g (a + 1) n (λ i lt. e i (omega (arith, lt)))))
 
 -- a row of its parts
-same_row : (n : ℕ) (at : Coord) (m : ℤ) (row : Row) → n ≡ row.no → at ≡ row.at → m ≡ row.measure → record { no = n; at = at; measure = m } ≡ row
+same_row : (n : ℕ) (at : Coord) (m : ℤ) (row : Row) → n ≡ row.no → at ≡ row.at → m ≡ row.measures → record { no = n; at = at; measures = m } ≡ row
 same_row n at m row e f g = rw (e, f, g) refl
 
 eight : (xs : List ℕ) → length xs ≡ 8 → get_or xs 0 0 ∷ get_or xs 1 0 ∷ get_or xs 2 0 ∷ get_or xs 3 0 ∷ get_or xs 4 0 ∷ get_or xs 5 0 ∷ get_or xs 6 0 ∷ get_or xs 7 0 ∷ [] ≡ xs
@@ -46,9 +46,9 @@ same_coord cs k at n e =
     (ap (λ l. record { at = l }) (eight at.at n))
 
 -- a row is written behind the others
-pub push_rows : (ns : List ℕ) (ms : List ℤ) (cs new : List (List ℕ)) (k : ℕ) (row : Row) (m : ℤ) → m ≡ row.measure → k < length ns → k < length ms
+pub push_rows : (ns : List ℕ) (ms : List ℤ) (cs new : List (List ℕ)) (k : ℕ) (row : Row) (m : ℤ) → m ≡ row.measures → k < length ns → k < length ms
     → IsPut cs new k row.at.at
-    → rows_of (record { concepts = new; measures = set ms k m; numbers = set ns k row.no }) (k + 1) ≡ rows_of (record { concepts = cs; measures = ms; numbers = ns }) k ++ row ∷ []
+    → rows_in_columns (record { concepts = new; measures = set ms k m; numbers = set ns k row.no }) (k + 1) ≡ rows_in_columns (record { concepts = cs; measures = ms; numbers = ns }) k ++ row ∷ []
 push_rows ns ms cs new k row m em ln lm p =
     let f = row_at (record { concepts = new; measures = set ms k m; numbers = set ns k row.no }) in
     let g = row_at (record { concepts = cs; measures = ms; numbers = ns }) in

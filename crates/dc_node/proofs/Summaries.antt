@@ -2,7 +2,6 @@
 use Rattle.std.proofs.Common.{◌≡◌, ℕ, ◌+◌, ◌<◌, ◌≤◌, List, [], ◌∷◌, ◌++◌, length, map, take, drop, get_or, refl, sym, ap, subst, ◌∙◌, arith, append-nil}
 use Rattle.std.specs.Prelude.{All, IsPermutation}
 use Rattle.std.specs.List.{AllZip, flat_map}
-use Rattle.std.proofs.lemmas.Int.{ints}
 use Rattle.std.proofs.lemmas.List.{take_more, map_push, map-append, take-append-drop}
 use Rattle.std.proofs.lemmas.List.Concat.{flat_map-append}
 use Rattle.std.proofs.lemmas.List.Elements.{All-nil, All-append, All-map, All-take, All-push}
@@ -12,6 +11,7 @@ use Rattle.dim_hierarchy.specs.declared.row.Coord.{Coord}
 use Rattle.dim_hierarchy.specs.Dimension.{Dimension}
 use Rattle.dim_hierarchy.specs.Row.{IsCoordOf}
 use Rattle.dim_hierarchy.specs.Rows.{IsRowOf}
+use Rattle.measure_agg.proofs.AggLaws.{agg-one}
 use Rattle.measure_agg.specs.Aggregate.{Aggregate, agg}
 use Rattle.measure_agg.specs.Joining.{one, join}
 use Rattle.describing_set.specs.DescSet.{IsSetOf}
@@ -31,9 +31,6 @@ pub record JoinLaws : Type 0 where
   pub empty_left : (a : Aggregate) → join (agg []) a ≡ a
   pub empty_right : (a : Aggregate) → join a (agg []) ≡ a
 
-same_aggs : (a b : Aggregate) → a.count ≡ b.count → a.sum ≡ b.sum → a.least ≡ b.least → a.greatest ≡ b.greatest → a ≡ b
-same_aggs a b count sum least greatest = λ i. record { count = count i; sum = sum i; least = least i; greatest = greatest i }
-
 -- the set of the same coordinates in another order
 pub moved_set : (h : List Dimension) (same : SameLaw h) (xs ys : List Coord) (set : DescSet) → IsPermutation xs ys → IsSetOf h xs set → IsSetOf h ys set
 moved_set h same xs ys set p s =
@@ -41,9 +38,6 @@ moved_set h same xs ys set p s =
 
 pub valid_coords : (h : List Dimension) (rows : List Row) → All (IsRowOf h) rows → All (IsCoordOf h) (coords rows)
 valid_coords h rows valid = All-map (IsCoordOf h) (λ r. r.at) rows valid
-
-agg-one : (row : Row) → agg (row ∷ []) ≡ one row.measure
-agg-one row = same_aggs (agg (row ∷ [])) (one row.measure) refl (omega (arith, ints)) refl refl
 
 -- one row more
 pub grown_rows : (h : List Dimension) (same : SameLaw h) (rows : List Row) (row : Row) (set grown : DescSet)
@@ -187,10 +181,10 @@ moved_summary h same order rows others total set p s = record {
 }
 
 pub pushed_summary : (h : List Dimension) (same : SameLaw h) → JoinLaws → (rows : List Row) (row : Row) (total : Aggregate) (set grown : DescSet)
-    → IsRowOf h row → GrowsBy h row.at set grown → IsSummaryOf h rows total set → IsSummaryOf h (rows ++ row ∷ []) (join total (one row.measure)) grown
+    → IsRowOf h row → GrowsBy h row.at set grown → IsSummaryOf h rows total set → IsSummaryOf h (rows ++ row ∷ []) (join total (one row.measures)) grown
 pushed_summary h same laws rows row total set grown valid grows s = record {
   valid = All-push (IsRowOf h) rows row s.valid valid;
-  agg = ap (λ a. join a (one row.measure)) s.agg ∙ sym (laws.append rows (row ∷ []) ∙ ap (join (agg rows)) (agg-one row));
+  agg = ap (λ a. join a (one row.measures)) s.agg ∙ sym (laws.append rows (row ∷ []) ∙ ap (join (agg rows)) (agg-one row));
   set_of = grown_rows h same rows row set grown s.valid grows s.set_of;
 }
 

@@ -17,11 +17,11 @@ coord_at columns place = record {
 }
 
 abbrev pub row_at : Columns → ℕ → Row
-row_at c place = record { no = slice_index c.numbers place; at = coord_at c.concepts place; measure = slice_index_or c.measures place (pos 0) }
+row_at c place = record { no = slice_index c.numbers place; at = coord_at c.concepts place; measures = slice_index_or c.measures place (pos 0) }
 
 -- the rows at the first so many places
-abbrev pub rows_of : Columns → ℕ → List Row
-rows_of c count = map (row_at c) (range_with_len 0 count)
+abbrev pub rows_in_columns : Columns → ℕ → List Row
+rows_in_columns c count = map (row_at c) (range_with_len 0 count)
 
 -- a coordinate was written at a place
 pub record IsPut (old new : List (List ℕ)) (place : ℕ) (ids : List ℕ) : Type 0 where

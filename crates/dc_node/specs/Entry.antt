@@ -10,7 +10,7 @@ use Rattle.dc_node.specs.declared.entry.Entry.{Entry}
 pub record IsWithRow (h : List Dimension) (row : Row) (before now : Entry) : Type 0 where
   pub child : now.child ≡ before.child
   pub stamp : now.stamp ≡ before.stamp
-  pub agg : now.agg ≡ join before.agg (one row.measure)
+  pub agg : now.agg ≡ join before.agg (one row.measures)
   pub grown : GrowsBy h row.at before.set now.set
   pub valid : IsDescSetOf h now.set
 

@@ -31,11 +31,11 @@ impl Model for RowBox {
     ghost use Rattle.arrayvec.specs.ArrayVec.{ArrayVec as Items};
     ghost use Rattle.dim_hierarchy.specs.declared.row.Row.{Row};
     ghost use Rattle.dc_node.specs.Limits.{most_of_leaf};
-    ghost use Rattle.dc_node.specs.Columns.{rows_of};
+    ghost use Rattle.dc_node.specs.Columns.{rows_in_columns};
 
     ghost Value = { Items Row };
 
-    ghost view = { λ b. record { items = rows_of b.columns.value b.count } };
+    ghost view = { λ b. record { items = rows_in_columns b.columns.value b.count } };
 
     ghost invariant = { λ b. b.count ≤ most_of_leaf };
 }

@@ -2,7 +2,6 @@
 //! measures. A query reads the columns of the dimensions that it asks for, and the measures of the
 //! rows that match.
 ghost use Rattle.std.specs.Prelude.{◌≡◌, ◌+◌, ◌<◌, ◌≤◌, ◌^◌, ◌∷◌, ◌++◌, [], All, filter, length, map};
-ghost use Rattle.std.specs.List.{slice_index_or};
 ghost use Rattle.dim_hierarchy.specs.Filter.{matches};
 ghost use Rattle.dim_hierarchy.specs.Rows.{IsRowOf};
 ghost use Rattle.measure_agg.specs.Aggregate.{agg};
@@ -11,11 +10,11 @@ ghost use Rattle.describing_set.specs.DescSet.{IsSetOf};
 ghost use Rattle.describing_set.specs.Sets.{IsDescSetOf};
 ghost use Rattle.dc_node.specs.Limits.{most_of_leaf};
 ghost use Rattle.dc_node.specs.Summary.{coords};
-ghost use Rattle.dc_node.specs.Columns.{coord_at, row_at, rows_of, IsPut};
+ghost use Rattle.dc_node.specs.Columns.{coord_at, row_at, rows_in_columns, IsPut};
 
 use describing_set::DescSet;
 use dim_hierarchy::{
-    COLUMN_PLACES, Column, CompiledFilter, ConceptId, Coord, Hierarchy, Row, RowPlaces,
+    COLUMN_PLACES, Column, CompiledFilter, ConceptId, Coord, Hierarchy, Measures, Row, RowPlaces,
 };
 use measure_agg::Agg;
 
@@ -24,7 +23,7 @@ use measure_agg::Agg;
 #[derive(Drop)]
 pub struct Columns {
     concepts: [Column; 8],
-    measures: [i64; COLUMN_PLACES],
+    measures: [Measures; COLUMN_PLACES],
     numbers: [u64; COLUMN_PLACES],
 }
 
@@ -41,10 +40,10 @@ impl Columns {
     /// Puts a row behind the first `count`.
     pub fn put(&mut self, count: usize, row: &Row)
         requires { count < most_of_leaf }
-        ensures { rows_of self.new (count + 1) ≡ rows_of self.old count ++ row.now ∷ [] }
+        ensures { rows_in_columns self.new (count + 1) ≡ rows_in_columns self.old count ++ row.now ∷ [] }
     {
         self.numbers[count] = row.no;
-        self.measures[count] = row.measure;
+        self.measures[count] = row.measures;
         put(&mut self.concepts, count, &row.at.at);
     }
 
@@ -56,7 +55,7 @@ impl Columns {
         Row {
             no: self.numbers[place],
             at: coord(&self.concepts, place),
-            measure: self.measures[place],
+            measures: self.measures[place],
         }
     }
 
@@ -64,7 +63,7 @@ impl Columns {
     pub fn copy_row(&self, place: usize, other: &mut Columns, count: usize)
         requires place { place < most_of_leaf }
         requires room { count < most_of_leaf }
-        ensures { rows_of other.new (count + 1) ≡ rows_of other.old count ++ row_at self.now place ∷ [] }
+        ensures { rows_in_columns other.new (count + 1) ≡ rows_in_columns other.old count ++ row_at self.now place ∷ [] }
     {
         other.put(count, &self.row(place));
     }
@@ -82,8 +81,8 @@ impl Columns {
     /// The describing set of the first `count` rows.
     pub fn set(&self, count: usize, h: &Hierarchy) -> DescSet
         requires count { count ≤ most_of_leaf }
-        requires rows { All (IsRowOf h.now) (rows_of self.now count) }
-        ensures set { IsSetOf h.now (coords (rows_of self.now count)) result }
+        requires rows { All (IsRowOf h.now) (rows_in_columns self.now count) }
+        ensures set { IsSetOf h.now (coords (rows_in_columns self.now count)) result }
         ensures valid { IsDescSetOf h.now result }
     {
         DescSet::laws(h);
@@ -97,7 +96,7 @@ impl Columns {
     /// The aggregate of the first `count` rows.
     pub fn total(&self, count: usize) -> Agg
         requires { count ≤ most_of_leaf }
-        ensures { result ≡ agg (rows_of self.now count) }
+        ensures { result ≡ agg (rows_in_columns self.now count) }
     {
         let places = RowPlaces::first(count);
         self.total_at(places.as_slice())
@@ -106,8 +105,8 @@ impl Columns {
     /// The aggregate of those of the first `count` rows that a filter matches.
     pub fn matching(&self, count: usize, wanted: &CompiledFilter) -> Agg
         requires count { count ≤ most_of_leaf }
-        requires rows { All (IsRowOf wanted.now.hierarchy) (rows_of self.now count) }
-        ensures { result ≡ agg (filter (λ r. matches wanted.now.hierarchy wanted.now.picks r.at) (rows_of self.now count)) }
+        requires rows { All (IsRowOf wanted.now.hierarchy) (rows_in_columns self.now count) }
+        ensures { result ≡ agg (filter (λ r. matches wanted.now.hierarchy wanted.now.picks r.at) (rows_in_columns self.now count)) }
     {
         let mut places = RowPlaces::first(count);
         for dim in 0..wanted.dims() {

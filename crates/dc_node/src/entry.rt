@@ -39,7 +39,7 @@ impl Entry {
         requires few { self.old.agg.count + 1 < 2 ^ 63 }
         ensures { IsWithRow h.now row.now self.old self.new }
     {
-        self.agg = self.agg.join(&Agg::one(row.measure));
+        self.agg = self.agg.join(&Agg::one(row.measures));
         self.set.grow(h, &row.at);
     }
 }

@@ -5,10 +5,9 @@ ghost use Rattle.dim_hierarchy.specs.declared.row.Row.{Row};
 ghost use Rattle.dim_hierarchy.specs.Rows.{IsRowOf};
 ghost use Rattle.measure_agg.specs.Aggregate.{Aggregate, agg};
 ghost use Rattle.measure_agg.specs.Joining.{one, join};
-ghost use Rattle.describing_set.specs.DescSet.{IsSetOf};
 ghost use Rattle.describing_set.specs.Sets.{IsDescSetOf, GrowsBy, JoinsTo};
 ghost use Rattle.describing_set.specs.declared.set.DescSet.{DescSet};
-ghost use Rattle.dc_node.specs.Summary.{coords, aggs, joined, IsSummaryOf, IsUnionOf, IsSummary};
+ghost use Rattle.dc_node.specs.Summary.{aggs, joined, IsSummaryOf, IsUnionOf, IsSummary};
 ghost use Rattle.dc_node.specs.declared.block.Body.TheVariants.{Rows, Entries};
 ghost use Rattle.dc_node.specs.declared.entry.Entry.{Entry};
 
@@ -64,7 +63,7 @@ pub fn laws(h: &Hierarchy)
     ensures push { (rows : List Row) (row : Row) (total : Aggregate) (set grown : DescSet)
         → IsRowOf h.now row → GrowsBy h.now row.at set grown
         → IsSummaryOf h.now rows total set
-        → IsSummaryOf h.now (rows ++ row ∷ []) (join total (one row.measure)) grown }
+        → IsSummaryOf h.now (rows ++ row ∷ []) (join total (one row.measures)) grown }
     ensures append { (xs ys : List Row) (a b : Aggregate) (s t both : DescSet)
         → JoinsTo h.now s t both
         → IsSummaryOf h.now xs a s → IsSummaryOf h.now ys b t

@@ -26,6 +26,7 @@ use Rattle.describing_set.specs.Filter.{IsInside, is_part_inside, is_inside, Are
 use Rattle.describing_set.proofs.Covering.{test_at, in_each-from, in_each-at, in_each-fails, IsSetOf-Covers}
 use Rattle.describing_set.proofs.Sets.{part_at-IsPart, IsPart-concepts}
 use Rattle.describing_set.proofs.Laws.{IsSetOf-Describes}
+use Rattle.dim_hierarchy.proofs.Marking.{any_or}
 
 -- Inside.
 
@@ -158,16 +159,6 @@ matched_overlaps h set f at lt c m = record {
 }
 
 -- The test of one concept at a time.
-
-any_or : (p q : ℕ → Bool) (xs : List ℕ) → list_any (λ x. p x || q x) xs ≡ (list_any p xs || list_any q xs)
-any_or p q [] = refl
-any_or p q (x ∷ xs) = rw (any_or p q xs) (swap (p x) (q x) (list_any p xs) (list_any q xs))
-  where
-    swap : (a b c d : Bool) → ((a || b) || (c || d)) ≡ ((a || c) || (b || d))
-    swap true b c d = refl
-    swap false true true d = refl
-    swap false true false d = refl
-    swap false false c d = refl
 
 pub related_met : (t : Tree) (p : Pick) (part : Part) → list_any (is_related t p) part.ids.items ≡ is_part_met t part p
 related_met t All part = whole part.ids.items

@@ -2,7 +2,7 @@
 ghost use Rattle.std.specs.Prelude.{◌≡◌, ◌<◌, ◌≤◌, ◌↔◌, [], ◌∷◌, length, IsTrue, List, All, Contains, IfSome, IfNone};
 ghost use Rattle.std.specs.Bool.{OnFalse, OnTrue};
 ghost use Rattle.dim_hierarchy.specs.Tree.{IsConcept, leaf_level};
-ghost use Rattle.dim_hierarchy.specs.Dimension.{tree, IsHierarchy};
+ghost use Rattle.dim_hierarchy.specs.Dimension.{tree};
 ghost use Rattle.dim_hierarchy.specs.Row.{IsCoordOf};
 ghost use Rattle.dim_hierarchy.specs.Filter.{IsFilterOf, pick_at, in_each};
 ghost use Rattle.dim_hierarchy.specs.Meaning.{Matches};

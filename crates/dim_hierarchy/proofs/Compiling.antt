@@ -12,7 +12,7 @@ use Rattle.dim_hierarchy.specs.Filter.{IsFilterOf, is_picked, pick_at}
 use Rattle.dim_hierarchy.specs.declared.filter.Pick.{Pick}
 use Rattle.dim_hierarchy.specs.declared.filter.Pick.TheVariants.{All}
 use Rattle.dim_hierarchy.specs.Column.{is_marked}
-use Rattle.dim_hierarchy.specs.Marks.{mark, mark_at, AreMarksOf}
+use Rattle.dim_hierarchy.specs.Marks.{AreMarksOf}
 use Rattle.dim_hierarchy.specs.Compiled.{AreDimMarks, AreFilterMarks, AreOfLevel, is_related}
 use Rattle.dim_hierarchy.proofs.Marking.{mark_under, mark_some}
 
@@ -40,13 +40,6 @@ AreFilterMarks-all h f n marks v e u = record {
   count = u.count ∙ e;
   each = λ dim lt. u.each dim (omega (arith, e, lt));
 }
-
--- What is read at a concept.
-
-pub record IsRead (t : Tree) (p : Pick) (id : ℕ) (marks : List (List ℕ)) : Type 0 where
-  pub level : level_of id < length marks
-  pub number : number_of id < length (get_or marks (level_of id) [])
-  pub is : mark_at marks id ≡ mark t p id
 
 -- What is read at concepts of a level.
 

@@ -1,17 +1,19 @@
 -- Trees, dimensions and hierarchies as they are made and grow.
 use Rattle.std.proofs.Common.{ℕ, zero, suc, ◌≡◌, ◌≢◌, ◌+◌, ◌-◌, ◌*◌, ◌<◌, ◌≤◌, ◌^◌, List, [], ◌∷◌, ◌++◌, length, get_or, set, drop, refl, sym, ap, subst, ◌∙◌, arith, inl, inr, ◌⊎◌, lit<, length-append, length-drop, add-one, false}
-use Rattle.std.specs.Prelude.{None, Some, replicate, sum_by}
+use Rattle.std.specs.Prelude.{None, Some, Contains, replicate, sum_by}
 use Rattle.std.specs.Str.{bytes_eq}
 use Rattle.std.specs.FinMap as map
 use Rattle.std.specs.Ordering.{nat_cmp}
 use Rattle.std.specs.Cmp.Lexicographic.{slice_cmp}
 use Rattle.std.proofs.lemmas.Bool.{cases_lt, false≢true}
 use Rattle.std.proofs.lemmas.List.{get_or_past, get_or_append_left, get_or_push, get_or-replicate, get_or-set_same, get_or-set_other, get_or-drop, length-set, length-replicate}
+use Rattle.std.proofs.lemmas.List.Elements.{All-nil, All-push, All-weaker, Contains-append_left, Contains-push}
+use Rattle.std.proofs.lemmas.List.Quantifiers.{all_pairs_push}
 use Rattle.std.proofs.lemmas.List.Sums.{get_or-le-sum_by, sum_by-set, sum_by-append}
 use Rattle.std.proofs.lemmas.Slice.Eq.{bytes_eq-Decides}
 use Rattle.dim_hierarchy.specs.Concept.{level_of, number_of}
 use Rattle.dim_hierarchy.specs.Tree.{Tree, IsConcept, IsTree, parents_at, parent, new_tree, next_under, with_child}
-use Rattle.dim_hierarchy.specs.Dimension.{Dimension, IsDimension, IsHierarchy, dimension, no_dimension, tree, find_dim, new_dimension, with_concept}
+use Rattle.dim_hierarchy.specs.Dimension.{Dimension, IsDimension, IsHierarchy, IsOrderOf, dimension, no_dimension, tree, find_dim, new_dimension, with_concept}
 use Rattle.dim_hierarchy.specs.Counted.{IsCounted, concept_count}
 use Rattle.dim_hierarchy.proofs.Names.{same_name, get-insert_same, get-insert_other}
 use Rattle.dim_hierarchy.proofs.Places.{position-None}
@@ -53,11 +55,20 @@ IsTree-new_tree n low high =
       parent_level = λ id c. let a = ap level_of (zero_parent id c) in let b = concept_of_new n id c in omega (arith, a, b);
     }
 
+IsOrderOf-new_tree : (n : ℕ) → IsOrderOf (new_tree n) []
+unfolding IsOrderOf
+IsOrderOf-new_tree n = (
+  All-nil (λ id. IsConcept (new_tree n) id × (0 < level_of id)),
+  λ id c h. let z = concept_of_new n id c in absurd (omega arith),
+  λ i j d lt within. absurd (omega arith),
+)
+
 pub IsDimension-new_dimension : (name : List ℕ) (n : ℕ) → 1 ≤ n → n ≤ 8 → IsDimension (new_dimension name n)
 IsDimension-new_dimension name n low high =
     let none = map.get-empty {X = ℕ} (slice_cmp nat_cmp) in
     record {
       tree = IsTree-new_tree n low high;
+      order = IsOrderOf-new_tree n;
       named = λ q id e. let z = none q in absurd cc;
       once = λ q other id e f. let z = none q in absurd cc;
       all_named = λ id c h. let z = concept_of_new n id c in absurd (omega arith);
@@ -194,6 +205,24 @@ pub record CanGrow (d : Dimension) (name : List ℕ) (p : ℕ) : Type 0 where
   pub room : length (parents_at d.tree (level_of p + 1)) < 2 ^ 28
   pub new : map.get d.names name ≡ None
 
+-- the new concept joins the order as its last
+IsOrderOf-with_child : (t : Tree) (order : List ℕ) → IsOrderOf t order → (p : ℕ) → level_of p + 1 < length t → length (parents_at t (level_of p + 1)) < 2 ^ 28 → IsOrderOf (with_child t p) (order ++ next_under t p ∷ [])
+unfolding IsOrderOf
+IsOrderOf-with_child t order (concepts, whole, once) p lt room =
+    let new = next_under t p in
+    let l = level_of-next_under t p room in
+    let grown = λ (id : ℕ). IsConcept (with_child t p) id × (0 < level_of id) in (
+      All-push grown order new
+          (All-weaker (λ id. IsConcept t id × (0 < level_of id)) grown (λ id c. (IsConcept-with_child t p id lt c.0, c.1)) order concepts)
+          (next_under-IsConcept t p lt room, omega (arith, l)),
+      λ id c h. elim (concept_cases t p id lt c) [
+        | inl o ↦ Contains-append_left order (new ∷ []) id (whole id o.concept h)
+        | inr n ↦ subst (Contains (order ++ new ∷ [])) (sym (IsNew-next_under t p id n)) (Contains-push order new)
+      ],
+      all_pairs_push (λ id later. id ≢ later) order new once
+          (λ k d less same. next_under-fresh t p room (subst (IsConcept t) same (concepts k d less).0)),
+    )
+
 pub IsDimension-with_concept : (d : Dimension) → IsDimension d → (name : List ℕ) (p : ℕ) → CanGrow d name p → IsDimension (with_concept d name p)
 IsDimension-with_concept d w name p g =
     let t = d.tree in
@@ -204,6 +233,7 @@ IsDimension-with_concept d w name p g =
     let fresh : (q : List ℕ) → map.get d.names q ≡ Some new → ⊥ = λ q e. next_under-fresh t p g.room (w.named q new e).0 in
     record {
       tree = IsTree-with_child t w.tree p g.concept g.level;
+      order = IsOrderOf-with_child t d.order w.order p g.level g.room;
       named = λ q id e. elim (same_name q name) [
         | inl same ↦
             let is : id ≡ new = let z = ap (map.get (map.insert d.names name new)) same in cc in

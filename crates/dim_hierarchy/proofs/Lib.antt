@@ -9,6 +9,8 @@ pub mod Lineages
 pub mod Marking
 pub mod Matching
 pub mod NameBytes
+pub mod NameMaps
+pub mod NameStops
 pub mod Named
 pub mod Names
 pub mod Places

@@ -166,7 +166,7 @@ Notes-again t level x number marks a deep nz = record {
 
 -- What a concept has of its parent.
 
-any_or : (p q : ℕ → Bool) (xs : List ℕ) → list_any (λ x. p x || q x) xs ≡ (list_any p xs || list_any q xs)
+pub any_or : (p q : ℕ → Bool) (xs : List ℕ) → list_any (λ x. p x || q x) xs ≡ (list_any p xs || list_any q xs)
 any_or p q [] = refl
 any_or p q (x ∷ xs) = rw (any_or p q xs) (swap (p x) (q x) (list_any p xs) (list_any q xs))
   where

@@ -1,5 +1,5 @@
 -- A filter with a mark for each concept of its hierarchy.
-use Rattle.std.specs.Prelude.{ℕ, ◌≡◌, ◌<◌, Bool, ◌||◌, Option, Some, None, refl, List, [], length, All as Each}
+use Rattle.std.specs.Prelude.{ℕ, ◌≡◌, ◌<◌, Bool, ◌||◌, Option, Some, None, refl, List, length, All as Each}
 use Rattle.std.specs.List.{slice_index_or}
 use Rattle.std.specs.Coded.{Coded, code_by, coded×, coded_ℕ, coded_list, coded_option}
 use Rattle.dim_hierarchy.specs.Concept.{level_of}

@@ -1,5 +1,5 @@
 -- Dimensions and hierarchies: what contracts see of them, and how they grow.
-use Rattle.std.specs.Prelude.{ℕ, ◌≡◌, ◌<◌, ◌≤◌, ◌==◌, not, ◌||◌, nat_lt, nat_le, Option, Some, None, is_some, if◌then◌else◌, List, [], length, position, slice_index_or, bytes_eq}
+use Rattle.std.specs.Prelude.{ℕ, ◌≡◌, ◌≢◌, ◌<◌, ◌≤◌, ◌==◌, not, ◌||◌, nat_lt, nat_le, Option, Some, None, is_some, if◌then◌else◌, List, [], ◌∷◌, ◌++◌, length, position, slice_index_or, bytes_eq, All, Contains, AllPairs}
 use Rattle.std.specs.Ordering.{nat_cmp}
 use Rattle.std.specs.Cmp.Lexicographic.{slice_cmp}
 use Rattle.std.specs.FinMap as map
@@ -14,16 +14,17 @@ use Rattle.dim_hierarchy.specs.declared.hierarchy.ConceptFault.TheVariants as co
 abbrev pub NameMap : Type 0
 NameMap = map.FinMap (slice_cmp nat_cmp) ℕ
 
--- a dimension: its name, its concepts as a tree, and the concepts below ALL by name
+-- a dimension: its name, its concepts as a tree, and the concepts below ALL in the order in which they were added and by name
 pub record Dimension : Type 0 where
   pub name : List ℕ
   pub tree : Tree
+  pub order : List ℕ
   pub names : NameMap
 
 -- Dimensions by number. Past the last one there is no name and no concept.
 
 abbrev pub no_dimension : Dimension
-no_dimension = record { name = []; tree = []; names = map.empty }
+no_dimension = record { name = []; tree = []; order = []; names = map.empty }
 
 abbrev pub dimension : List Dimension → ℕ → Dimension
 dimension h dim = slice_index_or h dim no_dimension
@@ -41,9 +42,17 @@ find_dim h name = position (λ d. bytes_eq d.name name) h
 
 -- What always holds.
 
--- the names of a dimension are those of its concepts below ALL, one for each
+-- the ids of a list are those of a tree's concepts below ALL, each once
+unfoldable pub IsOrderOf : Tree → List ℕ → Type 0
+IsOrderOf t order =
+    All (λ id. IsConcept t id × (0 < level_of id)) order
+    × ((id : ℕ) → IsConcept t id → 0 < level_of id → Contains order id)
+    × AllPairs (λ id later. id ≢ later) order
+
+-- the concepts of a dimension below ALL have an order and a name each
 pub record IsDimension (d : Dimension) : Type 0 where
   pub tree : IsTree d.tree
+  pub order : IsOrderOf d.tree d.order
   pub named : (name : List ℕ) (id : ℕ) → map.get d.names name ≡ Some id → IsConcept d.tree id × (0 < level_of id)
   pub once : (name other : List ℕ) (id : ℕ) → map.get d.names name ≡ Some id → map.get d.names other ≡ Some id → name ≡ other
   pub all_named : (id : ℕ) → IsConcept d.tree id → 0 < level_of id → (name : List ℕ) × (map.get d.names name ≡ Some id)
@@ -58,7 +67,7 @@ pub record IsHierarchy (h : List Dimension) : Type 0 where
 
 -- a dimension with so many levels below ALL and no concept on them
 abbrev pub new_dimension : List ℕ → ℕ → Dimension
-new_dimension name levels = record { name = name; tree = new_tree levels; names = map.empty }
+new_dimension name levels = record { name = name; tree = new_tree levels; order = []; names = map.empty }
 
 abbrev pub dim_fault : List Dimension → List ℕ → ℕ → Option DimFault
 dim_fault h name levels =
@@ -67,10 +76,15 @@ dim_fault h name levels =
     else if nat_lt levels 1 || nat_lt 8 levels then Some dim.BadLevels
     else None
 
--- a dimension with one concept more, of this name, under a parent
+-- a dimension with one concept more, of this name, under a parent; it is the last in order
 abbrev pub with_concept : Dimension → List ℕ → ℕ → Dimension
 with_concept d name parent =
-    record { name = d.name; tree = with_child d.tree parent; names = map.insert d.names name (next_under d.tree parent) }
+    record {
+      name = d.name;
+      tree = with_child d.tree parent;
+      order = d.order ++ next_under d.tree parent ∷ [];
+      names = map.insert d.names name (next_under d.tree parent);
+    }
 
 abbrev pub concept_fault : List Dimension → ℕ → List ℕ → ℕ → Option ConceptFault
 concept_fault h dim name parent =

@@ -8,6 +8,7 @@ pub mod Stored
 pub mod Row
 pub mod Rows
 pub mod RowNames
+pub mod NameNodes
 pub mod Column
 pub mod CoordLineages
 pub mod Filter

@@ -1,5 +1,5 @@
 //! Filters made ready for many questions.
-ghost use Rattle.std.specs.Prelude.{◌≡◌, ◌<◌, ◌↔◌, [], All, filter, length, option_map, slice_index, IsTrue, IfOk};
+ghost use Rattle.std.specs.Prelude.{◌≡◌, ◌<◌, ◌↔◌, All, filter, length, option_map, slice_index, IsTrue, IfOk};
 ghost use Rattle.dim_hierarchy.specs.Tree.{IsConcept, IsLeaf};
 ghost use Rattle.std.specs.List.{list_all, list_any};
 ghost use Rattle.dim_hierarchy.specs.Dimension.{tree};

@@ -1,6 +1,6 @@
 //! A coordinate with the ancestors of its concepts.
 ghost use Rattle.std.specs.Prelude.{◌≡◌, ◌<◌, ◌≤◌, length};
-ghost use Rattle.dim_hierarchy.specs.Tree.{IsConcept, leaf_level, up};
+ghost use Rattle.dim_hierarchy.specs.Tree.{leaf_level, up};
 ghost use Rattle.dim_hierarchy.specs.Dimension.{tree};
 ghost use Rattle.dim_hierarchy.specs.Row.{IsCoordOf, concept_at};
 

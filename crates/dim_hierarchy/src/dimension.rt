@@ -41,7 +41,8 @@ impl Model for LevelLineages {
     ghost view = { λ l. l.all.items };
 }
 
-/// A dimension. Contracts see its name, its tree of concepts and the concepts by name.
+/// A dimension. Contracts see its name, its tree of concepts, and the concepts in order of addition
+/// and by name.
 ///
 /// The tree is the parents in `levels`. The lineages have them too, but read off there a tree would
 /// be a map over lineages in each contract; so both are kept, and any ancestor is one read.
@@ -50,6 +51,7 @@ pub struct DimensionTable {
     name: Name,
     levels: Vec<Level>,
     lineages: Vec<LevelLineages>,
+    order: Vec<ConceptId>,
     names: NameTable,
 }
 
@@ -62,7 +64,7 @@ impl Model for DimensionTable {
 
     ghost coded = { dimension_code };
 
-    ghost view = { λ d. record { name = d.name; tree = d.levels.items; names = d.names } };
+    ghost view = { λ d. record { name = d.name; tree = d.levels.items; order = d.order.items; names = d.names } };
 
     ghost invariant = { λ d. AreLineagesOf d.levels.items d.lineages.items };
 }
@@ -94,6 +96,7 @@ impl DimensionTable {
             name: Name::from_bytes(alloc, name.as_slice())?,
             levels: all,
             lineages,
+            order: Vec::new(alloc),
             names: NameTable::new(alloc),
         })
     }
@@ -113,7 +116,8 @@ impl DimensionTable {
         ensures ok { OnOk result (self.new ≡ with_concept self.old name.now parent) }
         ensures err { OnErr result (self.new ≡ self.old) }
     {
-        // What can fail comes first: the key, room for the parent and the lineage, and the name.
+        // What can fail comes first: the key, room for the parent, the lineage and the id, and
+        // the name.
         let key = Name::from_bytes(alloc, name.as_slice())?;
         let below = parent.level() + 1;
         let mut own = self.lineage(parent);
@@ -123,9 +127,11 @@ impl DimensionTable {
         let lineages = &mut self.lineages[usize::from(below)];
         level.parents.reserve(1)?;
         lineages.all.reserve(1)?;
+        self.order.reserve(1)?;
         self.names.add(key, id)?;
         level.parents.push(parent)?;
         lineages.all.push(own)?;
+        self.order.push(id)?;
         Ok(id)
     }
 

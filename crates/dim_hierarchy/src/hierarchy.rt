@@ -1,5 +1,5 @@
 //! The dimensions together, and what rows and filters say over them.
-ghost use Rattle.std.specs.Prelude.{◌≡◌, ◌+◌, ◌<◌, ◌≤◌, ◌^◌, ◌↔◌, List, [], ℕ, ◌∷◌, ◌++◌, length, unwrap_or, position, is_none, All, Any, IsTrue, IsOk, IsSome, IfOk, IfSome, IfNone, OnErr, IsOkUnless};
+ghost use Rattle.std.specs.Prelude.{◌≡◌, ◌+◌, ◌<◌, ◌≤◌, ◌↔◌, List, [], ℕ, ◌∷◌, ◌++◌, length, unwrap_or, position, is_none, All, Any, IsTrue, IsOk, IsSome, IfOk, IfSome, IfNone, OnErr, IsOkUnless};
 ghost use Rattle.dim_hierarchy.specs.Concept.{level_of};
 ghost use Rattle.dim_hierarchy.specs.Tree.{IsConcept, is_concept, IsLeaf, leaf_level, up, is_under, next_under};
 ghost use Rattle.dim_hierarchy.specs.Meaning.{IsUnder, IsPicked, Matches};
@@ -56,8 +56,19 @@ pub enum FilterFault {
     NoMemory,
 }
 
+impl From<AllocError> for FilterFault {
+    ghost use Rattle.std.specs.Prelude.{◌≡◌};
+    ghost use Rattle.dim_hierarchy.specs.declared.hierarchy.FilterFault.TheVariants.{NoMemory};
+
+    ghost from_gives = { λ _ e. e ≡ NoMemory };
+
+    fn from(_: AllocError) -> Self {
+        FilterFault::NoMemory
+    }
+}
+
 /// The dimensions and their concepts. Contracts see the list of dimensions, each with its name, its
-/// tree of concepts and the concepts by name.
+/// tree of concepts, and the concepts in order of addition and by name.
 #[derive(Drop)]
 pub struct Hierarchy {
     dims: Vec<DimensionTable>,
@@ -352,10 +363,7 @@ impl Hierarchy {
         if let Some(dim) = self.first_unknown(names) {
             return Err(FilterFault::Unknown { dim });
         }
-        match self.picks(alloc, names) {
-            Ok(filter) => Ok(filter),
-            Err(_) => Err(FilterFault::NoMemory),
-        }
+        Ok(self.picks(alloc, names)?)
     }
 
     /// The first dimension with a name that is not that of a concept. Takes no memory.

@@ -21,11 +21,14 @@ impl Coord {
     }
 }
 
-/// A row: its number, which is the place of its beginning in the history, its coordinate and its
-/// measure.
+/// What a row measures: one whole number. Only aggregates and the printed line look into it.
+pub type Measures = i64;
+
+/// A row: its number, which is the place of its beginning in the history, its coordinate and what it
+/// measures.
 #[derive(Clone, Copy, Debug, Default, PartialEq, Eq)]
 pub struct Row {
     pub no: u64,
     pub at: Coord,
-    pub measure: i64,
+    pub measures: Measures,
 }

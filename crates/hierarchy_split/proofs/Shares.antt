@@ -6,10 +6,11 @@ use Rattle.std.proofs.lemmas.Bool.{cases_order, false≢true}
 use Rattle.std.proofs.lemmas.List.{at_drop_more}
 use Rattle.std.proofs.lemmas.List.Sums.{sum_by-cons}
 use Rattle.describing_set.specs.Ascending.{with_id, ascending}
-use Rattle.describing_set.specs.Sorted.{In, Ascends}
-use Rattle.describing_set.proofs.Sorted.{with_id-before, with_id-here, with_id-after, Below-In, Ascends-ascending, In-ascending, In-from_ascending, In-from_Contains, Contains-from_In}
+use Rattle.describing_set.specs.Sorted.{In}
+use Rattle.describing_set.proofs.Sorted.{with_id-before, with_id-after, Ascends-ascending, In-ascending, In-from_ascending, In-from_Contains, Contains-from_In}
 use Rattle.describing_set.proofs.Covering.{has-Contains}
 use Rattle.hierarchy_split.specs.Order.{shared_count}
+use Rattle.describing_set.proofs.Membership.{with_id-member}
 
 -- A number that is new to the list, and one that is not.
 
@@ -27,13 +28,6 @@ count_by-with_id p x (y ∷ ys) new = elim (cases_order x y) [
   ]
 ]
 
-with_id-known : (x : ℕ) (ys : List ℕ) → Ascends ys → In x ys → with_id x ys ≡ ys
-with_id-known x [] a i = absurd i
-with_id-known x (y ∷ ys) a i = elim i [
-  | inl q ↦ with_id-here x y ys q
-  | inr r ↦ with_id-after x y ys (Below-In y x ys a.0 r) ∙ ap (λ l. y ∷ l) (with_id-known x ys a.1 r)
-]
-
 -- One number more at the front.
 
 In-from_has : (xs : List ℕ) (x : ℕ) → list_any (λ y. eqb y x) xs ≡ true → In x xs
@@ -46,7 +40,7 @@ not_In-from_has xs x h i = false≢true (sym h ∙ (has-Contains xs x).1 (Contai
 pub shared_count-again : (x : ℕ) (xs ys : List ℕ) → list_any (λ y. eqb y x) xs ≡ true → shared_count (x ∷ xs) ys ≡ shared_count xs ys
 shared_count-again x xs ys h =
     ap (λ l. count_by (λ v. list_any (λ y. eqb y v) ys) l)
-    (with_id-known x (ascending xs) (Ascends-ascending xs) (In-ascending x xs (In-from_has xs x h)))
+    (with_id-member x (ascending xs) (Ascends-ascending xs) (In-ascending x xs (In-from_has xs x h)))
 
 -- else it counts here, if the other list has it
 pub shared_count-last : (x : ℕ) (xs ys : List ℕ) (b : Bool) → list_any (λ y. eqb y x) xs ≡ false → list_any (λ y. eqb y x) ys ≡ b → shared_count (x ∷ xs) ys ≡ cond b 1 0 + shared_count xs ys

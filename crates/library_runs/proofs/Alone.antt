@@ -8,7 +8,7 @@ use Rattle.dim_hierarchy.specs.Dimension.{Dimension}
 use Rattle.dim_hierarchy.specs.declared.row.Row.{Row}
 use Rattle.measure_agg.specs.Aggregate.{Aggregate}
 use Rattle.row_ledger.proofs.Before.{at-later, at-older, before-at, before-later, begins-query, BeginsQuery, ended-before, insert-at-later, no-insert, none-since, over-ended}
-use Rattle.row_ledger.proofs.Elements.{Contains-filter, Contains-map, Contains-mapped, Some-same}
+use Rattle.list_words.proofs.Elements.{Contains-filter, Contains-map, Contains-mapped, Some-same}
 use Rattle.row_ledger.proofs.Fresh.{event_at-within, kind-within}
 use Rattle.row_ledger.proofs.Positions.{before-older}
 use Rattle.row_ledger.proofs.SettledAnswer.{EachEvent-before, EachEvent-later, begun-at, settled-is_all}

@@ -1,9 +1,9 @@
 -- What is known of an index.
-use Rattle.std.proofs.Common.{◌≡◌, ◌∙◌, ℕ, ◌<◌, ◌≤◌, ◌-◌, ◌^◌, Bool, true, List, [], ◌∷◌, ◌++◌, zero, suc, get_or, length, take, drop, refl, reverse, sym, ap, subst, arith}
+use Rattle.std.proofs.Common.{◌≡◌, ◌∙◌, ℕ, ◌<◌, ◌-◌, Bool, true, List, [], ◌∷◌, ◌++◌, zero, suc, get_or, length, take, drop, refl, reverse, sym, ap, subst, arith}
 use Rattle.std.specs.Prelude.{Some, slice_get}
 use Rattle.std.proofs.lemmas.List.{reverse-append, take-append-drop, take-append-le, take_all}
 use Rattle.std.proofs.lemmas.Option.{slice_get-get_or}
-use Rattle.dim_hierarchy.specs.Dimension.{Dimension, IsHierarchy}
+use Rattle.dim_hierarchy.specs.Dimension.{Dimension}
 use Rattle.measure_agg.specs.Aggregate.{Aggregate}
 use Rattle.row_ledger.proofs.Growth.{IsRight-kept}
 use Rattle.row_ledger.specs.Right.{EachEvent, IsRight, Stands}
@@ -19,22 +19,12 @@ use Rattle.script_run.specs.Places.{places}
 use Rattle.script_run.specs.Runs.{BeginsAt}
 use Rattle.seeded_run.specs.Kept.{IsBetween}
 use Rattle.seeded_run.specs.Phase.{IsCoreHeld, MayAllRun, MayRun, about, held}
-use Rattle.seeded_run.specs.Roles.{CanOpen}
 use Rattle.volap_cell.specs.declared.state.State.{State}
 use Rattle.olap_top.proofs.Handing.{held-inv}
 use Rattle.olap_top.proofs.InsertsEnd.{inserts-over}
 use Rattle.library_runs.specs.Index.{AnswersLast, IsHeld, IsRightIndex, alone, history_of}
 use Rattle.library_runs.specs.declared.index.Index.{Index}
 use Rattle.library_runs.proofs.Alone.{AreOfOne, answers-of-all, last-begun}
-
-pub can-open : (h : List Dimension) (cells : ℕ) → IsHierarchy h → 2 ≤ cells → cells < 2 ^ 31 → CanOpen h (alone cells)
-can-open h cells hierarchy enough few = record {
-  hierarchy = hierarchy;
-  servers = omega arith;
-  workers = omega arith;
-  enough = omega (arith, enough);
-  few = omega (arith, few);
-}
 
 -- Commands.
 

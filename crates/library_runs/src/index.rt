@@ -10,7 +10,7 @@ ghost use Rattle.volap_cell.specs.Steps.{history_in};
 ghost use Rattle.library_runs.specs.Index.{AnswersLast, AnswersNothing, HasDone, IsHeld, IsNew, IsRightIndex, alone, history_of};
 
 use crate::names::first_unknown;
-use dim_hierarchy::{Hierarchy, NameFilter, RowNames};
+use dim_hierarchy::{Hierarchy, Measures, NameFilter, RowNames};
 use measure_agg::Agg;
 use row_ledger::{Event, Use};
 use script_form::{Command, Commands, NewRow, Question};
@@ -108,12 +108,12 @@ impl Index {
         self,
         alloc: Global,
         names: RowNames,
-        measure: i64,
+        measures: Measures,
     ) -> Result<(Index, Option<u8>), AllocError>
         requires held { IsHeld self }
         requires names { length names ≡ length self.hierarchy }
         ensures held { IfOk result (λ next. IsHeld next.0) }
-        ensures done { IfOk result (λ next. HasDone self (command.Insert (record { server = 0; measure = measure; names = names })) next.0) }
+        ensures done { IfOk result (λ next. HasDone self (command.Insert (record { server = 0; measures = measures; names = names })) next.0) }
         ensures unknown { IfOk result (λ next. next.1 ≡ position is_none (leaves self.hierarchy names)) }
     {
         let unknown = first_unknown(&self.hierarchy, &names);
@@ -121,7 +121,7 @@ impl Index {
             alloc,
             Command::Insert(NewRow {
                 server: 0,
-                measure,
+                measures,
                 names,
             }),
         )?;

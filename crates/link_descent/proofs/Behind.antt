@@ -40,19 +40,19 @@ AreValid h tail = All (λ b. IsBodyOf h b.body) tail
 
 -- the rows, and the entries, of some blocks
 
-abbrev rows_of : List Block → List Row
-rows_of blocks = flat_map (λ b. rows_in b.body) blocks
+abbrev rows_in_blocks : List Block → List Row
+rows_in_blocks blocks = flat_map (λ b. rows_in b.body) blocks
 
 abbrev entries_of : List Block → List Entry
 entries_of blocks = flat_map (λ b. entries_in b.body) blocks
 
-valid_rows : (h : List Dimension) (blocks : List Block) → AreValid h blocks → All (IsRowOf h) (rows_of blocks)
+valid_rows : (h : List Dimension) (blocks : List Block) → AreValid h blocks → All (IsRowOf h) (rows_in_blocks blocks)
 valid_rows h [] all = All-nil (IsRowOf h)
 valid_rows h (b ∷ blocks) all =
-    All-append (IsRowOf h) (rows_in b.body) (rows_of blocks) (All-rows h b.body (all 0 b (omega arith))) (valid_rows h blocks (All-tail (λ x. IsBodyOf h x.body) b blocks all))
+    All-append (IsRowOf h) (rows_in b.body) (rows_in_blocks blocks) (All-rows h b.body (all 0 b (omega arith))) (valid_rows h blocks (All-tail (λ x. IsBodyOf h x.body) b blocks all))
 
-rows-more : (rows : List Row) (xs ys : List Block) → rows ++ rows_of (xs ++ ys) ≡ (rows ++ rows_of xs) ++ rows_of ys
-rows-more rows xs ys = ap (λ l. rows ++ l) (flat_map-append (λ (b : Block). rows_in b.body) xs ys) ∙ sym (append_assoc rows (rows_of xs) (rows_of ys))
+rows-more : (rows : List Row) (xs ys : List Block) → rows ++ rows_in_blocks (xs ++ ys) ≡ (rows ++ rows_in_blocks xs) ++ rows_in_blocks ys
+rows-more rows xs ys = ap (λ l. rows ++ l) (flat_map-append (λ (b : Block). rows_in b.body) xs ys) ∙ sym (append_assoc rows (rows_in_blocks xs) (rows_in_blocks ys))
 
 entries-more : (entries : List Entry) (xs ys : List Block) → entries ++ entries_of (xs ++ ys) ≡ (entries ++ entries_of xs) ++ entries_of ys
 entries-more entries xs ys = ap (λ l. entries ++ l) (flat_map-append (λ (b : Block). entries_in b.body) xs ys) ∙ sym (append_assoc entries (entries_of xs) (entries_of ys))
@@ -61,10 +61,10 @@ entries-more entries xs ys = ap (λ l. entries ++ l) (flat_map-append (λ (b : B
 pub summary-more : (h : List Dimension) (body : Body) (tail more : List Block) (a b : Aggregate) (s t both : DescSet) → AggAppend → JoinedAppend → JoinsTo h s t both → IsBodyOf h body → AreValid h tail → AreValid h more
     → IsSummary h (together body tail) a s → IsSummary h (together (front body 0) more) b t → IsSummary h (together body (tail ++ more)) (join a b) both
 summary-more h (Rows rows) tail more a b s t both append joins_append joins valid valid_tail valid_more p q =
-    let xs = rows.items ++ rows_of tail in
-    let ys = rows_of more in
+    let xs = rows.items ++ rows_in_blocks tail in
+    let ys = rows_in_blocks more in
     let e = rows-more rows.items tail more in
-    let one : All (IsRowOf h) xs = All-append (IsRowOf h) rows.items (rows_of tail) valid (valid_rows h tail valid_tail) in
+    let one : All (IsRowOf h) xs = All-append (IsRowOf h) rows.items (rows_in_blocks tail) valid (valid_rows h tail valid_tail) in
     let here = joins.joined (coords xs) (coords ys) (valid_coords h xs one) (valid_coords h ys (valid_rows h more valid_more)) p.1 q.1 in (
       ap (λ x. join x b) p.0 ∙ ap (join (agg xs)) q.0 ∙ sym (append xs ys) ∙ ap agg (sym e),
       subst (λ l. IsSetOf h l both) (sym (map-append (λ (r : Row). r.at) xs ys) ∙ ap coords (sym e)) here,
@@ -95,7 +95,7 @@ count-alone body = ap row_count (together-none body)
 pub count-more : (body : Body) (tail more : List Block) → row_count (together body (tail ++ more)) ≡ row_count (together body tail) + row_count (together (front body 0) more)
 count-more (Rows rows) tail more =
     let e = ap length (rows-more rows.items tail more) in
-    let l = length-append (rows.items ++ rows_of tail) (rows_of more) in
+    let l = length-append (rows.items ++ rows_in_blocks tail) (rows_in_blocks more) in
     omega (arith, e, l)
 count-more (Entries entries) tail more =
     let e = ap (sum_by weigh) (entries-more entries.items tail more) in

@@ -77,7 +77,7 @@ AllZip-more R xs ys i x y lt read all r = rw (take_more xs i x lt, ← read) (Al
 -- A row of a list, of which a call says something where it is there.
 
 pub no_row : Row
-no_row = record { no = 0; at = record { at = [] }; measure = pos 0 }
+no_row = record { no = 0; at = record { at = [] }; measures = pos 0 }
 
 pub row_there : (P : Row → Type 0) (rows : List Row) (place : ℕ) → place < length rows → IfSome (slice_get rows place) P → P (get_or rows place no_row)
 row_there P rows place lt f = subst (λ o. IfSome o P) (slice_get-get_or rows place no_row lt) f

@@ -126,7 +126,7 @@ cut_parts h b some more full valid p few less =
       rows = row_count-body_at b some more p;
     }
 
-AreItemSets-length : (h : List Dimension) (b : Body) (sets : List DescSet) → AreItemSets h b sets → length sets ≡ size b
+pub AreItemSets-length : (h : List Dimension) (b : Body) (sets : List DescSet) → AreItemSets h b sets → length sets ≡ size b
 AreItemSets-length h (Rows rows) sets all = AllZip-long _ rows.items sets all
 AreItemSets-length h (Entries entries) sets e = ap length e ∙ length-map entries.items (λ e. e.set)
 

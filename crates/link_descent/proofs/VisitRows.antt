@@ -1,17 +1,11 @@
 -- The rows that a visit adds.
-use Rattle.std.proofs.Common.{◌≡◌, ℕ, ◌+◌, ◌<◌, Bool, true, false, List, [], ◌∷◌, ◌++◌, length, take, get_or, refl, sym, ap, ◌∙◌, arith, append-nil}
+use Rattle.std.proofs.Common.{◌≡◌, ℕ, ◌+◌, ◌<◌, Bool, true, false, List, [], ◌∷◌, ◌++◌, length, take, get_or, refl, sym, ap, ◌∙◌, append-nil}
 use Rattle.std.specs.Prelude.{filter}
-use Rattle.std.proofs.lemmas.Int.{ints}
 use Rattle.std.proofs.lemmas.List.Elements.{filter_more}
 use Rattle.dim_hierarchy.specs.declared.row.Row.{Row}
+use Rattle.measure_agg.proofs.AggLaws.{agg-one}
 use Rattle.measure_agg.specs.Aggregate.{Aggregate, agg}
 use Rattle.measure_agg.specs.Joining.{one, join}
-
-same_aggs : (a b : Aggregate) → a.count ≡ b.count → a.sum ≡ b.sum → a.least ≡ b.least → a.greatest ≡ b.greatest → a ≡ b
-same_aggs a b count sum least greatest = λ i. record { count = count i; sum = sum i; least = least i; greatest = greatest i }
-
-agg-one : (row : Row) → agg (row ∷ []) ≡ one row.measure
-agg-one row = same_aggs (agg (row ∷ [])) (one row.measure) refl (omega (arith, ints)) refl refl
 
 abbrev pub AppendLaw : Type 0
 AppendLaw = (xs ys : List Row) → agg (xs ++ ys) ≡ join (agg xs) (agg ys)
@@ -32,10 +26,10 @@ filter-failed test rows i row within read failed =
 
 pub rows_more : AppendLaw → AssociativeLaw → (test : Row → Bool) (rows : List Row) (i : ℕ) (row : Row) (start total : Aggregate)
     → i < length rows → row ≡ get_or rows i row → test row ≡ true → total ≡ join start (agg (filter test (take i rows)))
-    → join total (one row.measure) ≡ join start (agg (filter test (take (i + 1) rows)))
+    → join total (one row.measures) ≡ join start (agg (filter test (take (i + 1) rows)))
 rows_more append associative test rows i row start total within read passed so_far =
-    ap (λ a. join a (one row.measure)) so_far
-    ∙ associative start (agg (filter test (take i rows))) (one row.measure)
+    ap (λ a. join a (one row.measures)) so_far
+    ∙ associative start (agg (filter test (take i rows))) (one row.measures)
     ∙ ap (join start)
     (sym (ap agg (filter-passed test rows i row within read passed)
     ∙ append (filter test (take i rows)) (row ∷ [])

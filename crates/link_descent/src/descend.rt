@@ -10,7 +10,6 @@ ghost use Rattle.shard_store.specs.declared.gate.Phase.TheVariants.{Open};
 ghost use Rattle.dc_node.specs.declared.block.Body.TheVariants.{Entries};
 ghost use Rattle.dc_node.specs.Limits.{most_of_directory};
 ghost use Rattle.link_descent.specs.Pick.{IsPick};
-ghost use Rattle.dc_node.specs.Entry.{IsWithRow};
 ghost use Rattle.link_descent.specs.Descend.{IsEntryOf, IsShared, StepsDown, Enters};
 ghost use Rattle.link_descent.specs.Pass.{PassesDown, PassesIn};
 ghost use Rattle.link_descent.specs.Divide.{together};
@@ -305,7 +304,7 @@ pub fn pass_root(gate: &mut Gate, h: &Hierarchy, row: &Row)
     ensures set { IsDescSetOf h.now gate.new.set }
     ensures height { gate.new.height ≡ gate.old.height }
 {
-    gate.agg = gate.agg.join(&Agg::one(row.measure));
+    gate.agg = gate.agg.join(&Agg::one(row.measures));
     gate.set.grow(h, &row.at);
 }
 

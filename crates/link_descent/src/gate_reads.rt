@@ -57,7 +57,7 @@ fn visit_rows(rows: &[Row], wanted: &CompiledFilter, total: &mut Agg)
     for row in rows {
         let matched = wanted.matches(&row.at);
         if matched {
-            *total = total.join(&Agg::one(row.measure));
+            *total = total.join(&Agg::one(row.measures));
         }
     }
 }

@@ -1,5 +1,4 @@
 //! Where the id of a shard leads.
-ghost use Rattle.std.specs.Prelude.{◌≡◌};
 
 use describing_set::Plane;
 
@@ -10,21 +9,4 @@ pub enum Where {
     Gate(u32),
     Split { plane: Plane, left: u32, right: u32 },
     Moved(u8),
-}
-
-impl Where {
-    /// The same place, without taking memory.
-    pub fn copy(&self) -> Where
-        ensures { result ≡ self.now }
-    {
-        match self {
-            Where::Gate(cell) => Where::Gate(*cell),
-            Where::Split { plane, left, right } => Where::Split {
-                plane: plane.copy(),
-                left: *left,
-                right: *right,
-            },
-            Where::Moved(worker) => Where::Moved(*worker),
-        }
-    }
 }

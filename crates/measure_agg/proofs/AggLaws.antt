@@ -59,33 +59,36 @@ join_empty_right a = join_commutative a (agg []) ∙ join_empty_left a
 
 -- rows that are added
 
-agg-cons : (r : Row) (rows : List Row) → agg (r ∷ rows) ≡ join (one r.measure) (agg rows)
+agg-cons : (r : Row) (rows : List Row) → agg (r ∷ rows) ≡ join (one r.measures) (agg rows)
 agg-cons r rows = same _ _ (omega arith) refl refl refl
 
 pub agg-append : (xs ys : List Row) → agg (xs ++ ys) ≡ join (agg xs) (agg ys)
 agg-append [] ys = sym (join_empty_left (agg ys))
 agg-append (r ∷ xs) ys =
     agg-cons r (xs ++ ys)
-    ∙ ap (join (one r.measure)) (agg-append xs ys)
-    ∙ sym (join_associative (one r.measure) (agg xs) (agg ys))
+    ∙ ap (join (one r.measures)) (agg-append xs ys)
+    ∙ sym (join_associative (one r.measures) (agg xs) (agg ys))
     ∙ ap (λ a. join a (agg ys)) (sym (agg-cons r xs))
 
--- one row more
-pub agg-push : (rows : List Row) (r : Row) → agg (rows ++ r ∷ []) ≡ join (agg rows) (one r.measure)
-agg-push rows r = agg-append rows (r ∷ []) ∙ ap (join (agg rows)) (agg-cons r [] ∙ join_empty_right (one r.measure))
+pub agg-one : (r : Row) → agg (r ∷ []) ≡ one r.measures
+agg-one r = agg-cons r [] ∙ join_empty_right (one r.measures)
 
-agg-push_if : (keep : Bool) (rows : List Row) (row : Row) → agg (rows ++ cond keep (row ∷ []) []) ≡ cond keep (join (agg rows) (one row.measure)) (agg rows)
+-- one row more
+pub agg-push : (rows : List Row) (r : Row) → agg (rows ++ r ∷ []) ≡ join (agg rows) (one r.measures)
+agg-push rows r = agg-append rows (r ∷ []) ∙ ap (join (agg rows)) (agg-one r)
+
+agg-push_if : (keep : Bool) (rows : List Row) (row : Row) → agg (rows ++ cond keep (row ∷ []) []) ≡ cond keep (join (agg rows) (one row.measures)) (agg rows)
 agg-push_if true rows row = agg-push rows row
 agg-push_if false rows row = ap agg (append-nil rows)
 
 -- the step of a loop that reads the row at i, and of one that joins the rows that pass a test
 
 pub agg-take_more : (rows : List Row) (i : ℕ) (row : Row) → i < length rows → row ≡ get_or rows i row
-    → agg (take (i + 1) rows) ≡ join (agg (take i rows)) (one row.measure)
+    → agg (take (i + 1) rows) ≡ join (agg (take i rows)) (one row.measures)
 agg-take_more rows i row within read = rw (take_more rows i row within, ← read) (agg-push (take i rows) row)
 
 pub agg-filter_more : (test : Row → Bool) (rows : List Row) (i : ℕ) (row : Row) → i < length rows → row ≡ get_or rows i row
-    → agg (filter test (take (i + 1) rows)) ≡ cond (test row) (join (agg (filter test (take i rows))) (one row.measure)) (agg (filter test (take i rows)))
+    → agg (filter test (take (i + 1) rows)) ≡ cond (test row) (join (agg (filter test (take i rows))) (one row.measures)) (agg (filter test (take i rows)))
 agg-filter_more test rows i row within read =
     rw (filter_more test rows i row within, ← read) (agg-push_if (test row) (filter test (take i rows)) row)
 
@@ -154,7 +157,7 @@ total-IsPermutation xs ys moved =
 
 pub agg-IsPermutation : (xs ys : List Row) → IsPermutation xs ys → agg xs ≡ agg ys
 agg-IsPermutation xs ys moved =
-    let numbers = IsPermutation-map (λ r. r.measure) xs ys moved in
+    let numbers = IsPermutation-map (λ r. r.measures) xs ys moved in
     same _ _
     (sym (length_permutation xs ys moved))
     (total-IsPermutation (measures xs) (measures ys) numbers)

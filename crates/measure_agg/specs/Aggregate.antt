@@ -38,7 +38,7 @@ greatest_of (x ∷ xs) = greater (Some x) (greatest_of xs)
 -- of a list of rows
 
 abbrev pub measures : List Row → List ℤ
-measures rows = map (λ r. r.measure) rows
+measures rows = map (λ r. r.measures) rows
 
 abbrev pub agg : List Row → Aggregate
 agg rows = record {

@@ -4,7 +4,7 @@ use Rattle.measure_agg.specs.Aggregate.{Aggregate, lesser, greater}
 
 -- of one row with this measure
 abbrev pub one : ℤ → Aggregate
-one measure = record { count = 1; sum = measure; least = Some measure; greatest = Some measure }
+one measures = record { count = 1; sum = measures; least = Some measures; greatest = Some measures }
 
 -- of the rows of both
 abbrev pub join : Aggregate → Aggregate → Aggregate

@@ -3,7 +3,7 @@ ghost use Rattle.std.specs.Prelude.{◌≡◌, ◌+◌, ◌^◌, ◌<◌, ℤ, �
 ghost use Rattle.measure_agg.specs.Aggregate.{Aggregate, agg, lesser, greater, least_of, greatest_of};
 ghost use Rattle.measure_agg.specs.Joining.{one, join};
 
-use dim_hierarchy::Row;
+use dim_hierarchy::{Measures, Row};
 use std::marker::Model;
 
 /// How many rows there are, the sum of their measures, and the least and the greatest of them, which
@@ -40,14 +40,14 @@ impl Agg {
     };
 
     /// The aggregate of one row.
-    pub fn one(measure: i64) -> Agg
-        ensures { result ≡ one measure }
+    pub fn one(measures: Measures) -> Agg
+        ensures { result ≡ one measures }
     {
         Agg {
             count: 1,
-            sum: i128::from(measure),
-            least: Some(measure),
-            greatest: Some(measure),
+            sum: i128::from(measures),
+            least: Some(measures),
+            greatest: Some(measures),
         }
     }
 
@@ -57,7 +57,7 @@ impl Agg {
     {
         let mut all = Agg::EMPTY;
         for row in rows {
-            all = all.join(&Agg::one(row.measure));
+            all = all.join(&Agg::one(row.measures));
         }
         all
     }

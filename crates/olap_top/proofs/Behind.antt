@@ -9,7 +9,7 @@ use Rattle.dim_hierarchy.specs.Filter.{matches}
 use Rattle.dim_hierarchy.specs.declared.row.Row.{Row}
 use Rattle.measure_agg.specs.Aggregate.{Aggregate, agg}
 use Rattle.row_ledger.proofs.Before.{acks-stay, at-later, at-older, before-at, before-behind, before-later, before-rest, begins-query, ended-before, insert-at-later, none-since, over-ended}
-use Rattle.row_ledger.proofs.Elements.{Contains-mapped}
+use Rattle.list_words.proofs.Elements.{Contains-mapped}
 use Rattle.row_ledger.proofs.Ended.{insert_at-is}
 use Rattle.row_ledger.proofs.Fresh.{kind-within}
 use Rattle.row_ledger.proofs.Positions.{before-older, event_at-here, event_at-older}

@@ -1,6 +1,6 @@
 -- A good script on which no fault rises is run to its end, unless memory runs out.
-use Rattle.std.proofs.Common.{◌≡◌, ◌∙◌, ◌+◌, ◌^◌, ◌⊎◌, inl, inr, ℕ, List, [], ◌++◌, length, append-nil, refl, sym, ap, arith}
-use Rattle.std.specs.Prelude.{Option, Some, None, Ok, Err}
+use Rattle.std.proofs.Common.{◌≡◌, ◌∙◌, ◌+◌, ◌^◌, ◌⊎◌, inl, inr, ℕ, List, ◌++◌, length, append-nil, refl, sym, ap, arith}
+use Rattle.std.specs.Prelude.{Option, Some, None, Err}
 use Rattle.std.proofs.lemmas.List.{length-append}
 use Rattle.script_form.specs.Scripts.{records_of, script}
 use Rattle.script_form.specs.declared.script.Cause.{Cause}

@@ -1,5 +1,5 @@
 -- The history of a core goes on with each turn, and each state that turns lead to meets the invariant.
-use Rattle.std.proofs.Common.{◌≡◌, ◌∙◌, ℕ, Bool, List, [], ◌∷◌, ◌++◌, refl, sym, ap, subst, append_assoc}
+use Rattle.std.proofs.Common.{◌∙◌, ℕ, Bool, List, [], ◌∷◌, ◌++◌, refl, sym, ap, subst, append_assoc}
 use Rattle.row_ledger.specs.declared.event.Event.{Event}
 use Rattle.seeded_run.proofs.Told.{told-law}
 use Rattle.seeded_run.specs.Can.{able_in}

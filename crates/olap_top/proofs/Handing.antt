@@ -1,5 +1,5 @@
 -- The ledger in its cell, of a core that one thread holds.
-use Rattle.std.proofs.Common.{◌≡◌, ◌∙◌, ℕ, zero, suc, ◌<◌, true, false, eqb, List, [], ◌∷◌, length, get_or, set, Option, Some, None, refl, sym, ap, subst, arith}
+use Rattle.std.proofs.Common.{◌≡◌, ◌∙◌, ℕ, zero, suc, true, false, eqb, List, [], ◌∷◌, length, get_or, set, Option, Some, None, refl, sym, ap, subst, arith}
 use Rattle.std.specs.Prelude.{All, is_some}
 use Rattle.std.specs.Option.{option_map_or}
 use Rattle.std.proofs.lemmas.Bool.{ne_eqb}
@@ -10,8 +10,7 @@ use Rattle.row_ledger.specs.LedgerValue.{LedgerValue}
 use Rattle.row_ledger.specs.declared.settings.Use.{Use}
 use Rattle.seeded_run.proofs.Worlds.{only-world, one-setting}
 use Rattle.seeded_run.specs.Phase.{IsCoreHeld, about, held}
-use Rattle.volap_cell.proofs.States.{stands}
-use Rattle.volap_cell.specs.Cells.{CellValue, FreeCell, LedgerCell, TheLedger, cell_of, ledger_in, tag_of}
+use Rattle.volap_cell.specs.Cells.{FreeCell, LedgerCell, cell_of}
 use Rattle.volap_cell.specs.Setting.{actor_count, cell_count, ledger_cell}
 use Rattle.volap_cell.specs.State.{Has}
 use Rattle.volap_cell.specs.Steps.{Inv}
@@ -30,19 +29,6 @@ held-inv h with x core =
     let setting = one-setting h with x.cells.items x.actors.items core.0.setting core.0.world c in
     let world = only-world h with x.cells.items x.actors.items core.0.setting core.0.world c in
     subst (λ s. Inv s (held h with x)) setting (subst (Inv core.0.setting) world c.inv)
-
--- its ledger's cell stands, with the ledger
-pub record HasLedger (x : State) : Type 0 where
-  pub cell_is : Cell
-  pub stands : get_or x.cells.items 0 None ≡ Some cell_is
-  pub tag : tag_of (cell_of cell_is) ≡ TheLedger
-
-pub has-ledger : (h : List Dimension) (with : Use) (x : State) → IsCoreHeld h with x → HasLedger x
-has-ledger h with x core =
-    let c = core.0.is_core in
-    let some : 0 < length x.cells.items = omega (arith, c.places) in
-    let at = stands (get_or x.cells.items 0 None) (λ b. cell_of b ≡ core.0.world.cells 0) (c.is.cell 0 some) in
-    record { cell_is = at.0; stands = at.1; tag = ap tag_of at.2 ∙ c.inv.holds.numbering.tag 0 }
 
 -- The cells once the ledger was moved out of its cell and back.
 pub cells-back : (xs : List (Option Cell)) (b : Cell) (l : LedgerValue) → get_or xs 0 None ≡ Some b → cell_of b ≡ LedgerCell l → (y : ℕ)

@@ -1,6 +1,6 @@
 -- In a right history an insert that is over was acknowledged, or ended for want of memory.
-use Rattle.std.proofs.Common.{◌≡◌, ◌∙◌, ◌<◌, ◌≤◌, ◌⊎◌, inl, inr, ℕ, Bool, true, false, List, [], ◌∷◌, ◌++◌, length, refl, sym, ap, subst, arith, IsTrue, ◌==◌}
-use Rattle.std.specs.Prelude.{Option, Some, None, ◌||◌, find, is_none, option_and_then, position, if◌then◌else◌}
+use Rattle.std.proofs.Common.{◌≡◌, ◌∙◌, ◌⊎◌, inl, inr, ℕ, Bool, true, false, List, [], ◌∷◌, length, refl, sym, ap, IsTrue}
+use Rattle.std.specs.Prelude.{Option, Some, None, ◌||◌, find, is_none, position, if◌then◌else◌}
 use Rattle.std.specs.List.{AllZip}
 use Rattle.std.specs.Option.{option_map_or}
 use Rattle.std.proofs.lemmas.Bool.{and_parts, cases_lt, eqb-true, false≢true}
@@ -9,7 +9,7 @@ use Rattle.dim_hierarchy.specs.Row.{leaves}
 use Rattle.dim_hierarchy.specs.declared.row.Row.{Row}
 use Rattle.row_ledger.proofs.Fresh.{fresh-newest}
 use Rattle.row_ledger.proofs.Positions.{event_at-older}
-use Rattle.row_ledger.specs.Past.{call_at, call_in, end_in, ends_itself, event_at, has_ended, insert_in, is_end_of, is_over, query_at, query_in}
+use Rattle.row_ledger.specs.Past.{call_at, ends_itself, event_at, has_ended, is_end_of, is_over, query_at}
 use Rattle.row_ledger.specs.Right.{EachEvent, Stands}
 use Rattle.row_ledger.specs.Site.{Site}
 use Rattle.row_ledger.specs.declared.event.Event.{Event}
@@ -17,7 +17,6 @@ use Rattle.row_ledger.specs.declared.event.Event.TheVariants as event
 use Rattle.row_ledger.specs.declared.settings.Use.{Use}
 use Rattle.script_form.specs.declared.script.Command.{Command}
 use Rattle.script_form.specs.declared.script.Command.TheVariants.{Control, Insert, Query}
-use Rattle.script_run.proofs.Grow.{within}
 use Rattle.script_run.specs.Places.{are_over, end_of, is_over_at}
 use Rattle.script_run.specs.Runs.{Begins, BeginsAt, InsertEnds}
 use Rattle.olap_top.proofs.Zips.{AllZip-weaker}

@@ -1,12 +1,12 @@
 -- What is told of commands that are over stays as the history goes on.
-use Rattle.std.proofs.Common.{◌≡◌, ◌∙◌, ◌+◌, ◌<◌, ◌≤◌, ℕ, Bool, true, false, List, [], ◌∷◌, ◌++◌, length, map, refl, sym, ap, subst, arith, IsTrue, append-nil, append_assoc, ◌==◌}
+use Rattle.std.proofs.Common.{◌≡◌, ◌∙◌, ◌+◌, ◌<◌, ℕ, Bool, true, false, List, [], ◌∷◌, ◌++◌, length, map, refl, sym, ap, arith, IsTrue, append-nil, append_assoc, ◌==◌}
 use Rattle.std.specs.Prelude.{Option, Some, None, is_some, ◌||◌, find, option_and_then, if◌then◌else◌}
 use Rattle.std.specs.List.{AllByRecursion, AllZip}
 use Rattle.std.specs.Option.{option_map_or, option_or}
 use Rattle.std.proofs.lemmas.Bool.{and_parts, false≢true, ne_eqb}
 use Rattle.dim_hierarchy.specs.Dimension.{Dimension}
 use Rattle.answer_text.proofs.TextFacts.{IsSameAt, lines-kept}
-use Rattle.answer_text.specs.Printed.{lines, split_for, split_of}
+use Rattle.answer_text.specs.Printed.{lines, split_for}
 use Rattle.row_ledger.proofs.Older.{is_over-older}
 use Rattle.row_ledger.proofs.Positions.{event_at-older}
 use Rattle.row_ledger.specs.Past.{call_in, end_in, ends_itself, event_at, has_ended, insert_at, insert_in, is_end_of, is_over, page_in, page_of, query_at, query_in}
@@ -21,7 +21,7 @@ use Rattle.script_run.proofs.Grow.{within}
 use Rattle.script_run.proofs.PlaceFacts.{GoesOn, HaveBegun, begins_of-here, begins_of-other, places_behind-kept}
 use Rattle.script_run.specs.Between.{IsThrough}
 use Rattle.script_run.proofs.Between.{through-law}
-use Rattle.script_run.specs.Places.{are_over, begins_in, begins_of, end_of, is_over_at, places}
+use Rattle.script_run.specs.Places.{are_over, begins_in, begins_of, places}
 use Rattle.script_run.specs.Runs.{BeginsAt}
 
 -- the lines of commands that are done

@@ -1,13 +1,10 @@
 -- What a run leaves.
-use Rattle.std.proofs.Common.{◌≡◌, ◌∙◌, ◌+◌, ◌<◌, ◌≤◌, ◌^◌, ℕ, List, length, refl, sym, ap, subst, arith}
-use Rattle.dim_hierarchy.specs.Dimension.{IsHierarchy}
+use Rattle.std.proofs.Common.{◌≡◌, ◌∙◌, List, length, sym, ap, subst, arith}
 use Rattle.row_ledger.specs.Site.{site_of}
 use Rattle.row_ledger.specs.declared.event.Event.{Event}
 use Rattle.script_form.specs.Fits.{AreSettings}
 use Rattle.script_form.specs.declared.script.Script.{Script}
-use Rattle.seeded_run.specs.Phase.{held}
 use Rattle.seeded_run.specs.Order.{is_order}
-use Rattle.seeded_run.specs.Roles.{CanOpen}
 use Rattle.volap_cell.proofs.Promised.{place-law, rows-law}
 use Rattle.volap_cell.specs.Opening.{IsOpening}
 use Rattle.volap_cell.specs.Setting.{Setting}
@@ -15,9 +12,9 @@ use Rattle.volap_cell.specs.Steps.{Inv, history_in}
 use Rattle.volap_cell.specs.World.{World}
 use Rattle.olap_top.specs.Left.{IsHandedOut, LeavesRun}
 use Rattle.olap_top.specs.Outcomes.{RunsInOrder, schedule_of}
-use Rattle.olap_top.specs.OneRun.{EndsAs, GoesTo, IsRunUpTo, IsWhole, setting_of, with_ledger}
+use Rattle.olap_top.specs.OneRun.{EndsAs, GoesTo, IsRunUpTo, IsWhole, setting_of}
 use Rattle.olap_top.specs.RowsKept.{AreRowsKept}
-use Rattle.olap_top.specs.RunSoFar.{HasLeft, history_of, moment_of, world_of}
+use Rattle.olap_top.specs.RunSoFar.{HasLeft, history_of, world_of}
 use Rattle.olap_top.specs.Settles.{IsSettling}
 use Rattle.olap_top.specs.declared.outcome.Outcome.{Outcome}
 use Rattle.olap_top.specs.declared.run.Run.{Run}
@@ -26,16 +23,6 @@ use Rattle.olap_top.proofs.Behind.{of-all-behind}
 use Rattle.olap_top.proofs.Handing.{held-inv}
 use Rattle.olap_top.proofs.PhaseSteps.{held-right}
 use Rattle.olap_top.proofs.Settled.{settled-all, settles-tell}
-
--- With the settings of a script a core can open.
-pub can-open : (s : Script) → AreSettings s.with → IsHierarchy s.hierarchy → CanOpen s.hierarchy s.with
-can-open s settings hierarchy = record {
-  hierarchy = hierarchy;
-  servers = omega (arith, settings.servers.0);
-  workers = omega (arith, settings.workers.0);
-  enough = omega (arith, settings.workers.1, settings.cells.0);
-  few = omega (arith, settings.servers.1, settings.workers.1, settings.cells.1);
-}
 
 -- What is held keeps each row.
 rows-kept : (s : Setting) (w : World) → Inv s w → AreRowsKept s w

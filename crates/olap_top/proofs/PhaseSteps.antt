@@ -2,7 +2,6 @@
 use Rattle.std.proofs.Common.{◌≡◌, ◌∙◌, ◌⊎◌, ℕ, zero, suc, ◌+◌, ◌-◌, ◌≤◌, ◌<◌, inl, inr, Bool, true, false, IsTrue, List, [], ◌∷◌, ◌++◌, length, take, drop, refl, sym, ap, subst, arith, append_assoc, append-nil, length-append}
 use Rattle.std.specs.Prelude.{All, Option, Some, None, ◌&&◌, if◌then◌else◌, get_or, slice_get}
 use Rattle.std.specs.Io.KnownBytes.{Appends}
-use Rattle.std.specs.List.{AllZip}
 use Rattle.std.proofs.Math.Seq.{take-append_seam, take-append-add}
 use Rattle.std.proofs.lemmas.Bool.{and_parts, cases_lt, false≢true}
 use Rattle.std.proofs.lemmas.List.{drop-drop, drop-take, drop_all, length-take-le, take-append-drop, take-take, take_all}
@@ -25,24 +24,23 @@ use Rattle.script_form.specs.declared.script.Command.TheVariants as command
 use Rattle.script_form.specs.declared.script.Script.{Script}
 use Rattle.script_run.proofs.Between.{order-start-law, through-law}
 use Rattle.script_run.proofs.PhaseEnds.{start_law}
-use Rattle.script_run.proofs.PhaseFacts.{all_of-append, all_of-phases, phases-nil, phases-some}
+use Rattle.script_run.proofs.PhaseFacts.{all_of-append, phases-nil, phases-some}
 use Rattle.script_run.proofs.PlaceFacts.{NoneMore, places_behind-append, places_behind-length}
 use Rattle.script_run.proofs.Whole.{part_law, serial_law}
 use Rattle.script_run.specs.Between.{IsThrough}
 use Rattle.script_run.specs.Phases.{all_of, closes, phases, phases_to}
 use Rattle.script_run.specs.Streams.{NoneCloses}
 use Rattle.script_run.specs.Places.{are_over, begins_of, count_of, is_over_at, places, places_behind}
-use Rattle.script_run.specs.Runs.{IsRunOf, IsRunSoFar, IsSerial}
-use Rattle.seeded_run.specs.Kept.{IsBetween}
+use Rattle.script_run.specs.Runs.{IsRunSoFar, IsSerial}
 use Rattle.seeded_run.specs.Phase.{ClosesLast, MayAllRun, MayRun}
 use Rattle.seeded_run.specs.Order.{is_order}
 use Rattle.seeded_turns.specs.Drawn.{Moment}
 use Rattle.seeded_turns.specs.declared.schedule.Schedule.{Schedule}
-use Rattle.volap_cell.specs.Steps.{Inv, history_in}
+use Rattle.volap_cell.specs.Steps.{Inv}
 use Rattle.volap_cell.specs.World.{World}
-use Rattle.olap_top.specs.OneRun.{EndsAs, GoesTo, RunPhases, RunsPhase, RunsWhole, phase_of, setting_of}
+use Rattle.olap_top.specs.OneRun.{EndsAs, GoesTo, RunPhases, RunsPhase, RunsWhole, phase_of}
 use Rattle.olap_top.specs.Outcomes.{HasRun, RanInto, RanToPhase, TookPart, asked_text_to}
-use Rattle.olap_top.specs.RunSoFar.{tells_phases, HasGone, HasGrown, HasLeft, HasStopped, IsBehind, IsHeld, history_of, moment_of, tells, world_of}
+use Rattle.olap_top.specs.RunSoFar.{tells_phases, HasGone, HasLeft, HasStopped, IsBehind, IsHeld, history_of, moment_of, tells, world_of}
 use Rattle.olap_top.specs.declared.outcome.Status.{Status}
 use Rattle.olap_top.specs.declared.outcome.Status.TheVariants as status_is
 use Rattle.olap_top.specs.declared.run.Run.{Run}
@@ -72,9 +70,6 @@ held-right s run is =
     let inv = subst (λ t. Inv t (world_of s run)) is.about_is (held-inv s.hierarchy s.with run.state is.core) in
     let placed = inv.ghost_of.placed in
     (placed, inv.holds.telling.right.right.each, IsRight-kept (site_of s.with s.hierarchy) placed (history_of s run) inv.holds.telling.right)
-
-pub right-held : (s : Script) (run : Run) → IsHeld s run → IsRight (site_of s.with s.hierarchy) (history_of s run)
-right-held s run is = (held-right s run is).2
 
 -- Runs of phases.
 
@@ -178,7 +173,7 @@ next-is s n k split =
     }
 
 -- it closes with its last command alone
-not-closing : (cs : List Command) (i : ℕ) (c : Command) → NoneCloses cs → slice_get cs i ≡ Some c → closes c ≡ true → ⊥
+pub not-closing : (cs : List Command) (i : ℕ) (c : Command) → NoneCloses cs → slice_get cs i ≡ Some c → closes c ≡ true → ⊥
 not-closing [] i c none at closing = cc
 not-closing (d ∷ cs) zero c none at closing =
     let same : d ≡ c = cc in

@@ -1,6 +1,6 @@
 -- A phase of a run, by what the core's run says of it.
-use Rattle.std.proofs.Common.{◌≡◌, ◌∙◌, ◌≤◌, ℕ, Bool, true, IsTrue, List, [], ◌∷◌, ◌++◌, refl, sym, ap, subst, arith, length, take, drop, reverse, append-nil, append_assoc}
-use Rattle.std.specs.Prelude.{◌&&◌, if◌then◌else◌, IfSome, is_some, Option, Some, None}
+use Rattle.std.proofs.Common.{◌≡◌, ◌∙◌, ◌≤◌, ℕ, Bool, IsTrue, List, [], ◌++◌, refl, sym, ap, subst, arith, length, take, drop, reverse, append-nil, append_assoc}
+use Rattle.std.specs.Prelude.{if◌then◌else◌, IfSome, is_some, Option, Some, None}
 use Rattle.std.proofs.lemmas.Bool.{and_parts}
 use Rattle.std.proofs.lemmas.List.{length-take-le, reverse-append, take-append-drop}
 use Rattle.std.proofs.lemmas.List.Folds.{list_all-append}

@@ -8,7 +8,7 @@ use Rattle.std.proofs.lemmas.List.{take-append-drop}
 use Rattle.std.proofs.lemmas.Bool.Decides.{nat_tests}
 use Rattle.std.proofs.lemmas.Slice.Eq.{bytes_eq-Decides}
 use Rattle.script_form.specs.Fields.{number_of}
-use Rattle.olap_top.specs.Wanted.{AreFewRows, Given, at_end, behind, below_2_64, first_word, from_1_to_most, given, given_alone, given_both, load_by, load_of, rows_of, seed_of, step_of, wanted}
+use Rattle.olap_top.specs.Wanted.{AreFewRows, Given, at_end, behind, below_2_64, first_word, from_1_to_most, given, given_alone, given_both, load_by, load_of, row_count_of, seed_of, step_of, wanted}
 use Rattle.olap_top.specs.Words.{GiveBoth, GiveOption, SpellsRows, SpellsSeed, Want, most_rows}
 use Rattle.olap_top.specs.declared.wanted.Wanted.{Wanted}
 use Rattle.olap_top.specs.declared.wanted.Wanted.TheVariants.{Step, Seeded, Load}
@@ -59,10 +59,10 @@ few_rows (Some n) rows is =
     let same : n ≡ rows = same_some n rows kept.1 in
     (kept.1, rw (← same) (grind (arith, nat_tests)), rw (← same) (grind (arith, nat_tests)))
 
-spells_rows : (text : List ℕ) (rows : ℕ) → rows_of text ≡ Some rows → SpellsRows text rows
+spells_rows : (text : List ℕ) (rows : ℕ) → row_count_of text ≡ Some rows → SpellsRows text rows
 spells_rows text rows is = few_rows (number_of text) rows is
 
-spelled_rows : (text : List ℕ) (rows : ℕ) → SpellsRows text rows → rows_of text ≡ Some rows
+spelled_rows : (text : List ℕ) (rows : ℕ) → SpellsRows text rows → row_count_of text ≡ Some rows
 spelled_rows text rows spelt =
     let least : 1 ≤ rows = spelt.1 in
     let most : rows ≤ most_rows = spelt.2 in
@@ -152,7 +152,7 @@ record LoadBy (rows seed : List ℕ) (w : Wanted) : Type 0 where
 
 load_by_is : (rows seed : List ℕ) (w : Wanted) → load_by rows seed ≡ Some w → LoadBy rows seed w
 load_by_is rows seed w is =
-    let n = then_some (λ n. option_map (Load n) (seed_of seed)) (rows_of rows) w is in
+    let n = then_some (λ n. option_map (Load n) (seed_of seed)) (row_count_of rows) w is in
     let k = map_some (Load n.0) (seed_of seed) w n.2 in
     record { row_count = n.0; seed_is = k.0; spells_rows = spells_rows rows n.0 n.1; spells_seed = spells seed k.0 k.1; load = k.2 }
 

@@ -21,8 +21,8 @@ seed_of text = option_and_then below_2_64 (number_of text)
 abbrev pub from_1_to_most : ℕ → Option ℕ
 from_1_to_most n = if nat_le 1 n && nat_le n most_rows then Some n else None
 
-abbrev pub rows_of : List ℕ → Option ℕ
-rows_of text = option_and_then from_1_to_most (number_of text)
+abbrev pub row_count_of : List ℕ → Option ℕ
+row_count_of text = option_and_then from_1_to_most (number_of text)
 
 -- what stands in a word behind these bytes at its front
 abbrev pub behind : List ℕ → List ℕ → Option (List ℕ)
@@ -61,7 +61,7 @@ step_of [] = Some Step
 step_of (option ∷ more) = option_and_then (λ text. option_map Seeded (seed_of text)) (given_alone (codes "--seed") (option ∷ more))
 
 abbrev pub load_by : List ℕ → List ℕ → Option Wanted
-load_by rows seed = option_and_then (λ n. option_map (Load n) (seed_of seed)) (rows_of rows)
+load_by rows seed = option_and_then (λ n. option_map (Load n) (seed_of seed)) (row_count_of rows)
 
 -- `load` with these options
 abbrev pub load_of : List (List ℕ) → Option Wanted

@@ -2,7 +2,7 @@
 //! the generated one.
 ghost use Rattle.std.specs.Prelude.{◌≡◌, codes, map, option_and_then, option_map, string_bytes};
 ghost use Rattle.std.specs.Str.{bytes_eq};
-ghost use Rattle.olap_top.specs.Wanted.{behind, given, given_alone, given_both, load_by, load_of, rows_of, seed_of, step_of, wanted};
+ghost use Rattle.olap_top.specs.Wanted.{behind, given, given_alone, given_both, load_by, load_of, row_count_of, seed_of, step_of, wanted};
 
 use script_form::field::number;
 
@@ -42,8 +42,8 @@ fn seed_of(word: &[u8]) -> Option<u64>
 }
 
 /// How many rows a word spells: a number from 1 to 200000, in at most 20 digits.
-fn rows_of(word: &[u8]) -> Option<u64>
-    ensures { result ≡ rows_of word.now }
+fn row_count_of(word: &[u8]) -> Option<u64>
+    ensures { result ≡ row_count_of word.now }
 {
     let value = number(word)?;
     if 1 <= value && value <= MOST_ROWS {
@@ -106,7 +106,7 @@ fn step_of(options: &[String]) -> Option<Wanted>
 fn load_by(rows: &[u8], seed: &[u8]) -> Option<Wanted>
     ensures { result ≡ load_by rows.now seed.now }
 {
-    let rows = rows_of(rows)?;
+    let rows = row_count_of(rows)?;
     let seed = seed_of(seed)?;
     Some(Wanted::Load { rows, seed })
 }

@@ -1,5 +1,5 @@
 //! The desk of a server.
-ghost use Rattle.std.specs.Prelude.{◌≡◌, ◌+◌, ◌<◌, ◌^◌, [], drop, position, slice_get, slice_set, option_map, IsSome, IsNone, IfSome, OnOk, OnErr, false};
+ghost use Rattle.std.specs.Prelude.{◌≡◌, ◌+◌, ◌<◌, ◌^◌, [], position, slice_get, slice_set, option_map, IsSome, IsNone, IfSome, OnOk, OnErr, false};
 ghost use Rattle.std.specs.List.{list_any};
 
 use crate::part::{Part, PartState, Verdict};
@@ -231,7 +231,7 @@ impl Desk {
     }
 }
 
-ghost use Rattle.std.specs.Prelude.{◌≤◌, count_by, length};
+ghost use Rattle.std.specs.Prelude.{count_by};
 ghost use Rattle.query_router.specs.Desk.{is_open, is_placed, is_refused, is_taken, is_waiting, is_with, sum_of, waits_for, IsAt};
 ghost use Rattle.query_router.specs.Progress.{HasEnded};
 

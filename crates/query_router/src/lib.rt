@@ -2,10 +2,8 @@
 //! to worker.
 #![tactic(auto)]
 
-mod copy;
 mod desk;
 mod part;
 
-pub use copy::copy_filter;
 pub use desk::Desk;
 pub use part::{Part, PartState, Verdict, Want};

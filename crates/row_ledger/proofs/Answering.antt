@@ -18,7 +18,7 @@ use Rattle.row_ledger.specs.Shards.{is_path}
 use Rattle.row_ledger.specs.Bounds.{own, published, passed, listing_of, is_listed, listed, known, must, may, numbers, IsAllowed}
 use Rattle.row_ledger.specs.Kept.{CanAnswer, KeepsRight}
 use Rattle.row_ledger.specs.Right.{Site, EachEvent, Stands, IsRightAnswer}
-use Rattle.row_ledger.proofs.Elements.{All-cons_option, Contains-filter, Contains-filtered}
+use Rattle.list_words.proofs.Elements.{All-cons_option, Contains-filter, Contains-filtered}
 use Rattle.row_ledger.proofs.Positions.{event_at-here}
 use Rattle.row_ledger.proofs.Older.{may-older, is_path-older}
 use Rattle.row_ledger.proofs.Growth.{KeepsRight-begun, KeepsRight-acked, KeepsRight-asked, KeepsRight-answered}

@@ -5,7 +5,7 @@ use Rattle.std.specs.List.{cons_option}
 use Rattle.std.specs.Option.{option_map_or}
 use Rattle.std.proofs.lemmas.Bool.{cases_lt, false≢true}
 use Rattle.std.proofs.lemmas.Bool.Decides.{nat_tests}
-use Rattle.row_ledger.proofs.Elements.{Some-same}
+use Rattle.list_words.proofs.Elements.{Some-same}
 use Rattle.row_ledger.proofs.Fresh.{event_at-within, kind-within}
 use Rattle.row_ledger.proofs.Older.{has_ended-older}
 use Rattle.row_ledger.proofs.Positions.{before-older, event_at-here, event_at-older, since-inside, since-outside}

@@ -8,7 +8,7 @@ use Rattle.row_ledger.specs.declared.event.Event.{Event}
 use Rattle.row_ledger.specs.declared.event.Event.TheVariants.{Split, Moved}
 use Rattle.row_ledger.specs.Shards.{Place, place, is_of, worker_of, children, frontier, is_live, ids_made, parent_in, comes_from}
 use Rattle.row_ledger.specs.Right.{Site, EachEvent, Stands, IsRightSplit}
-use Rattle.row_ledger.proofs.Elements.{Contains-nil}
+use Rattle.list_words.proofs.Elements.{Contains-nil}
 
 -- a shard is its own line
 pub comes_from-self : (past : List Event) (x : ℕ) → comes_from past x x ≡ true
@@ -73,7 +73,7 @@ first-made from (suc n) y is = elim (or_cases (from == y) _ is) [
 ]
 
 -- what stands behind a split is a child of its, or stood before and is another one
-live-split : (workers : ℕ) (past : List Event) (of shard left right y : ℕ) → is_live workers (Split of shard left right ∷ past) y ≡ true
+pub live-split : (workers : ℕ) (past : List Event) (of shard left right y : ℕ) → is_live workers (Split of shard left right ∷ past) y ≡ true
     → ((is_live workers past y ≡ true) × (y ≢ shard)) ⊎ ((y ≡ left) ⊎ (y ≡ right))
 live-split workers past of shard left right y is =
     elim (has-append (filter (λ (p : Place). not (is_of shard p)) (frontier workers past)) _ y is) [
@@ -113,7 +113,7 @@ parent_in-older site usable past (Split of shard left right) y stands made =
 parent_in-older site usable past _ y stands made = refl
 
 -- the shard from which one is made, or that one itself, had its id before
-parent_in-made : (site : Site) (usable : ℕ → Bool) (past : List Event) (e : Event) (y : ℕ)
+pub parent_in-made : (site : Site) (usable : ℕ → Bool) (past : List Event) (e : Event) (y : ℕ)
     → EachEvent (Stands site usable) past → Stands site usable past e → y < ids_made site.workers (e ∷ past) → parent_in e y < ids_made site.workers past
 parent_in-made site usable past (Split of shard left right) y each stands made =
     let next : left ≡ ids_made site.workers past = stands.next in

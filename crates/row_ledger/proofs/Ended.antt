@@ -11,7 +11,7 @@ use Rattle.row_ledger.specs.declared.event.Event.TheVariants.{Begun, Acked, Answ
 use Rattle.row_ledger.specs.Past.{Ack, Insert, ack_in, ack_of, acked, acked_rows, insert_in, insert_at, query_at, call_at, event_at, failed, failed_in, end_in, has_ended}
 use Rattle.row_ledger.specs.Bounds.{numbers}
 use Rattle.row_ledger.specs.Right.{Site, EachEvent, Stands, IsRightAck, IsRightAnswer, IsRightEnd}
-use Rattle.row_ledger.proofs.Elements.{Contains-nil, Contains-cons_option}
+use Rattle.list_words.proofs.Elements.{Contains-nil, Contains-cons_option}
 use Rattle.row_ledger.proofs.Positions.{event_at-here, event_at-older, event_at-past}
 use Rattle.row_ledger.proofs.Older.{has_ended-older}
 use Rattle.row_ledger.proofs.Fresh.{fresh-newest}
@@ -37,7 +37,7 @@ number_at site usable (e ∷ past) o n s r w q = elim (cases_lt o (length past))
   ]
 ]
 
-number_of : (site : Site) (usable : ℕ → Bool) (past : List Event) (o : ℕ) (i : Insert) → EachEvent (Stands site usable) past → insert_at past o ≡ Some i → i.row.no ≡ o
+pub number_of : (site : Site) (usable : ℕ → Bool) (past : List Event) (o : ℕ) (i : Insert) → EachEvent (Stands site usable) past → insert_at past o ≡ Some i → i.row.no ≡ o
 number_of site usable past o i w q = let f = insert_at-is (event_at past o) i q in number_at site usable past o f.0 i.server i.row w f.1
 
 -- an acknowledged row's insert has ended

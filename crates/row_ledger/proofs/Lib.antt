@@ -1,4 +1,3 @@
-pub mod Elements
 pub mod Positions
 pub mod Older
 pub mod Within
@@ -15,5 +14,4 @@ pub mod Changes
 pub mod Descent
 pub mod PulledRight
 pub mod SplitRight
-pub mod Commands
 pub mod Ascent

@@ -11,7 +11,7 @@ use Rattle.row_ledger.specs.declared.event.Event.TheVariants.{Begun}
 use Rattle.row_ledger.specs.Past.{Ack, ack_in, pull_in, split_in, ends_itself, is_end_of, has_ended, is_over, begun, acked}
 use Rattle.row_ledger.specs.Shards.{was_listed, is_child, descends, is_path}
 use Rattle.row_ledger.specs.Bounds.{own, published, passed, may}
-use Rattle.row_ledger.proofs.Elements.{Contains-cons_option, Contains-filter, Contains-filtered, IsTrue-filtered}
+use Rattle.list_words.proofs.Elements.{Contains-cons_option, Contains-filter, Contains-filtered, IsTrue-filtered}
 use Rattle.row_ledger.proofs.Positions.{event_at-older, event_at-past}
 
 pub has_ended-older : (e : Event) (past : List Event) (p : ℕ) → has_ended past p ≡ true → has_ended (e ∷ past) p ≡ true

@@ -10,7 +10,7 @@ use Rattle.measure_agg.specs.Aggregate.{Aggregate, agg}
 use Rattle.measure_agg.specs.Joining.{join}
 use Rattle.measure_agg.proofs.AggLaws.{join_associative, join_commutative, agg-append}
 use Rattle.row_ledger.specs.Bounds.{numbers}
-use Rattle.row_ledger.proofs.Elements.{Contains-nil, Contains-filter, Contains-filtered}
+use Rattle.list_words.proofs.Elements.{Contains-nil, Contains-filter, Contains-filtered}
 use Rattle.row_ledger.proofs.Answering.{IsDistinct-filter}
 
 abbrev pub is_other : ℕ → Row → Bool

@@ -13,7 +13,7 @@ use Rattle.row_ledger.specs.Past.{Insert, Query, acked_rows, begun, insert_in, i
 use Rattle.row_ledger.specs.Bounds.{must, may, numbers, IsAllowed}
 use Rattle.row_ledger.specs.Right.{Site, EachEvent, Stands, IsRight}
 use Rattle.row_ledger.specs.Settled.{IsSettled}
-use Rattle.row_ledger.proofs.Elements.{Contains-nil, Contains-cons_option, Contains-filter, Contains-filtered, IsTrue-filtered}
+use Rattle.list_words.proofs.Elements.{Contains-nil, Contains-cons_option, Contains-filter, Contains-filtered, IsTrue-filtered}
 use Rattle.row_ledger.proofs.Positions.{event_at-here, event_at-older, before-older, before-all, since-inside}
 use Rattle.row_ledger.proofs.Fresh.{event_at-within, kind-within}
 use Rattle.row_ledger.proofs.Answering.{IsDistinct-filter, IsAllowed-right}

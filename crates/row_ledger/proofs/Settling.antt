@@ -12,7 +12,7 @@ use Rattle.row_ledger.specs.Past.{Ack, Pull, acked, pull_in, before, since}
 use Rattle.row_ledger.specs.Bounds.{own, published, passed, listed, known, must}
 use Rattle.row_ledger.specs.Settled.{settle_pulls, pulls_since}
 use Rattle.row_ledger.proofs.Positions.{before-older, since-inside, since-outside}
-use Rattle.row_ledger.proofs.Elements.{Contains-nil, Contains-filter, Contains-map}
+use Rattle.list_words.proofs.Elements.{Contains-nil, Contains-filter, Contains-map}
 use Rattle.row_ledger.proofs.Older.{own-older}
 
 -- the servers of the pulls, the newest first
@@ -85,18 +85,25 @@ Contains-reverse (y ∷ xs) x (zero, within, here) =
 Contains-reverse (y ∷ xs) x (suc k, within, here) =
     rw (reverse-append (y ∷ []) xs) (Contains-append_left (reverse xs) (y ∷ []) x (Contains-reverse xs x (k, omega arith, here)))
 
--- each server must know what was acknowledged before a settle that pulled for each server twice
-pub must-settled : (h : List Dimension) (past : List Event) (of servers server : ℕ) (a : Ack)
-    → pulls_since past of ≡ settle_pulls servers → server < servers → a.server < servers
-    → Contains (acked (before past of)) a → Contains (must h past server) a.row
-must-settled h past of servers server a pulled small through has =
+-- each server was passed what another one acknowledged before a settle that pulled for each server twice
+pub passed-settled : (past : List Event) (of servers server : ℕ) (a : Ack) → pulls_since past of ≡ settle_pulls servers → server < servers → a.server < servers
+    → Contains (acked (before past of)) a → Contains (passed past server) a
+passed-settled past of servers server a pulled small through has =
     let once : List ℕ = range_with_len 0 servers in
     let turned : pulls (since past of) ≡ reverse once ++ reverse once =
     sym (reverse-reverse (pulls (since past of))) ∙ ap reverse pulled ∙ reverse-append once once in
     let mine : Contains (own (before past of) a.server) a = Contains-filter (λ (b : Ack). b.server == a.server) (acked (before past of)) a has (eq-eqb a.server a.server refl) in
-    let told : Contains (passed past server) a =
     passed-since past of server a.server a (reverse once) (reverse once) turned
     (Contains-reverse once server (Contains-range 0 servers server (omega arith) (omega arith)))
-    (Contains-reverse once a.server (Contains-range 0 servers a.server (omega arith) (omega arith))) mine in
+    (Contains-reverse once a.server (Contains-range 0 servers a.server (omega arith) (omega arith))) mine
+
+-- what a server was passed it must know
+pub must-passed : (h : List Dimension) (past : List Event) (server : ℕ) (a : Ack) → Contains (passed past server) a → Contains (must h past server) a.row
+must-passed h past server a told =
     Contains-map (λ (b : Ack). b.row) (known h past server) a
     (Contains-append_left (own past server ++ passed past server) (listed h past server) a (Contains-append_right (own past server) (passed past server) a told))
+
+-- so each server must know what was acknowledged before such a settle
+pub must-settled : (h : List Dimension) (past : List Event) (of servers server : ℕ) (a : Ack) → pulls_since past of ≡ settle_pulls servers → server < servers → a.server < servers
+    → Contains (acked (before past of)) a → Contains (must h past server) a.row
+must-settled h past of servers server a pulled small through has = must-passed h past server a (passed-settled past of servers server a pulled small through has)

@@ -1,7 +1,7 @@
 -- The worked splits and pages are right.
 use Rattle.std.proofs.Common.{[], ◌∷◌, refl}
 use Rattle.dim_hierarchy.specs.Tree.{is_under, way_up}
-use Rattle.row_ledger.specs.declared.event.Event.TheVariants.{Asked, Called, Answered, Ended}
+use Rattle.row_ledger.specs.declared.event.Event.TheVariants.{Asked, Called, Ended}
 use Rattle.row_ledger.specs.declared.event.Event.TheVariants as event
 use Rattle.row_ledger.specs.declared.settings.Call.TheVariants.{Split}
 use Rattle.row_ledger.specs.declared.settings.How.TheVariants.{Fine}

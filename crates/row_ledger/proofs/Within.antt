@@ -23,7 +23,7 @@ use Rattle.row_ledger.specs.Listings.{IsBox, IsListing}
 use Rattle.row_ledger.specs.Work.{IsRightDecline, MayEndAction, Settles, IsRightBalance, rows_read}
 use Rattle.row_ledger.specs.Classes.{class_of}
 use Rattle.row_ledger.specs.Right.{Site, EachEvent, IsRightAnswer, IsLaterPull, MayEnd, IsRightEnd, Stands, StandsRight}
-use Rattle.row_ledger.proofs.Elements.{Contains-filter, Contains-filtered, IsTrue-filtered}
+use Rattle.list_words.proofs.Elements.{Contains-filter, Contains-filtered, IsTrue-filtered}
 
 -- each number that the first has the second has
 abbrev pub Within : (ℕ → Bool) → (ℕ → Bool) → Type 0

@@ -33,6 +33,7 @@ abbrev pub geo : Dimension
 geo = record {
   name = codes "geo";
   tree = (0 ∷ []) ∷ (0 ∷ []) ∷ (de ∷ de ∷ []) ∷ [];
+  order = de ∷ berlin ∷ munich ∷ [];
   names = map.insert (map.insert (map.insert map.empty (codes "de") de) (codes "berlin") berlin) (codes "munich") munich;
 }
 
@@ -59,7 +60,7 @@ abbrev pub in_city : ℕ → Coord
 in_city city = record { at = city ∷ 0 ∷ 0 ∷ 0 ∷ 0 ∷ 0 ∷ 0 ∷ 0 ∷ [] }
 
 abbrev pub row : Row
-row = record { no = 2; at = in_city berlin; measure = pos 5 }
+row = record { no = 2; at = in_city berlin; measures = pos 5 }
 
 abbrev pub for_de : List Pick
 for_de = Ids (de ∷ []) ∷ []

@@ -12,7 +12,7 @@ use Rattle.row_ledger.specs.Worked.{berlin, in_city, opened}
 -- so many rows at berlin begin
 
 abbrev pub crowd_row : ℕ → Row
-crowd_row n = record { no = n + 2; at = in_city berlin; measure = pos 1 }
+crowd_row n = record { no = n + 2; at = in_city berlin; measures = pos 1 }
 
 abbrev pub crowd : ℕ → List Event
 crowd zero = opened

@@ -32,7 +32,7 @@ asked_elsewhere answer = Answered 10 answer ∷ Asked 1 1 for_de ∷ told
 -- a second row at berlin, through server 0, behind both pulls, and the aggregate of both rows
 
 abbrev pub second : Row
-second = record { no = 10; at = in_city berlin; measure = pos 7 }
+second = record { no = 10; at = in_city berlin; measures = pos 7 }
 
 abbrev pub both : Aggregate
 both = record { count = 2; sum = pos 12; least = Some (pos 5); greatest = Some (pos 7) }

@@ -20,7 +20,7 @@ use Rattle.row_ledger.specs.WorkedPulls.{inserted, both}
 
 -- a row of 7 at munich comes to the same shard
 abbrev pub other : Row
-other = record { no = 4; at = in_city munich; measure = pos 7 }
+other = record { no = 4; at = in_city munich; measures = pos 7 }
 
 abbrev pub two_cities : List Event
 two_cities = Acked 4 (0 ∷ []) ∷ Begun 0 0 other ∷ inserted
@@ -50,7 +50,7 @@ split_twice = event.Split 7 1 4 5 ∷ event.Split 7 0 2 3 ∷ to_split
 -- a third row, with this path, begins and is acknowledged behind the split
 
 abbrev pub third : Row
-third = record { no = 11; at = in_city munich; measure = pos 7 }
+third = record { no = 11; at = in_city munich; measures = pos 7 }
 
 abbrev pub with_path : List ℕ → List Event
 with_path path = Acked 11 path ∷ Begun 0 0 third ∷ across_split once

@@ -6,7 +6,6 @@ ghost use Rattle.row_ledger.specs.declared.page.Page.{Page};
 ghost use Rattle.row_ledger.specs.declared.settings.Decline.TheVariants.{OnePlace, NoCell};
 ghost use Rattle.row_ledger.specs.Right.{IsRight};
 ghost use Rattle.row_ledger.specs.Worked.{site, once, twice};
-ghost use Rattle.row_ledger.specs.WorkedPulls.{both};
 ghost use Rattle.row_ledger.specs.WorkedShards.{across_split, split_declined, split_twice, with_path, shards_shown, lines_without, audit_shown, tree_shown, tree_of_two, shown_amid, moved};
 
 /// A query that began before a split and is answered behind it counts the row once.

@@ -1,17 +1,13 @@
 -- Commands of which each may run, and the first ones of them.
-use Rattle.std.proofs.Common.{◌≡◌, ◌∙◌, ◌+◌, ◌-◌, ◌<◌, ◌≤◌, ℕ, zero, suc, inl, inr, true, List, [], ◌∷◌, ◌++◌, length, take, drop, get_or, sym, ap, subst, arith}
+use Rattle.std.proofs.Common.{◌≡◌, ◌∙◌, ◌+◌, ◌-◌, ◌<◌, ◌≤◌, ℕ, zero, suc, List, [], ◌∷◌, ◌++◌, length, take, drop, get_or, sym, ap, subst, arith}
 use Rattle.std.specs.Prelude.{All, Result, Ok, Err, OnOk, Some, slice_get}
-use Rattle.std.proofs.lemmas.Bool.{cases_lt, false≢true}
-use Rattle.std.proofs.lemmas.List.{drop-take, length-drop, length-take-le, take-append-drop, take_more}
-use Rattle.std.proofs.lemmas.List.Elements.{All-head, All-push, All-tail}
-use Rattle.std.proofs.lemmas.Option.{slice_get_within}
+use Rattle.std.proofs.lemmas.List.{length-drop, take-append-drop, take_more}
+use Rattle.std.proofs.lemmas.List.Elements.{All-push}
 use Rattle.dim_hierarchy.specs.Dimension.{Dimension, IsHierarchy}
 use Rattle.row_ledger.specs.declared.settings.Use.{Use}
 use Rattle.script_form.specs.Fits.{AreSettings}
 use Rattle.script_form.specs.declared.script.Command.{Command}
-use Rattle.script_run.specs.Phases.{closes}
-use Rattle.script_run.specs.Streams.{NoneCloses}
-use Rattle.seeded_run.specs.Phase.{ClosesLast, MayAllRun, MayRun}
+use Rattle.seeded_run.specs.Phase.{MayAllRun}
 use Rattle.seeded_run.specs.Roles.{CanOpen}
 
 -- Lists of which each item is so.
@@ -33,12 +29,6 @@ can-open h with settings hierarchy = record {
   few = omega (arith, settings.servers.1, settings.workers.1, settings.cells.1);
 }
 
--- Each of some commands may run.
-pub may-all : (h : List Dimension) (with : Use) (cs : List Command) → All (MayRun h with) cs → MayAllRun h with cs
-may-all h with [] all i c at = cc
-may-all h with (d ∷ cs) all zero c at = let same : d ≡ c = cc in subst (MayRun h with) same (All-head (MayRun h with) d cs all)
-may-all h with (d ∷ cs) all (suc i) c at = may-all h with cs (All-tail (MayRun h with) d cs all) i c at
-
 -- the first of them too
 
 get-take : (k : ℕ) (cs : List Command) (i : ℕ) (c : Command) → slice_get (take k cs) i ≡ Some c → slice_get cs i ≡ Some c
@@ -59,32 +49,6 @@ pub may-front : (h : List Dimension) (with : Use) (front back : List Command) �
 may-front h with front back may = λ i c at. may i c (get-front front back i c at)
 
 -- A phase's last command alone may close it.
-
-not-closing : (cs : List Command) (i : ℕ) (c : Command) → NoneCloses cs → slice_get cs i ≡ Some c → closes c ≡ true → ⊥
-not-closing [] i c none at closing = cc
-not-closing (d ∷ cs) zero c none at closing =
-    let same : c ≡ d = cc in
-    false≢true (sym none.0 ∙ ap closes (sym same) ∙ closing)
-not-closing (d ∷ cs) (suc i) c none at closing = not-closing cs i c none.1 at closing
-
-low-take : (k : ℕ) (cs : List Command) (i : ℕ) (c : Command) → slice_get cs i ≡ Some c → i < k → slice_get (take k cs) i ≡ Some c
-low-take zero cs i c at low = absurd (omega (arith, low))
-low-take (suc k) [] i c at low = cc
-low-take (suc k) (d ∷ cs) zero c at low = at
-low-take (suc k) (d ∷ cs) (suc i) c at low = low-take k cs i c at (omega (arith, low))
-
-pub closes-last : (cs : List Command) (k : ℕ) → 0 < k → k ≤ length cs → NoneCloses (take (k - 1) cs) → ClosesLast (take k cs)
-closes-last cs k some within none = λ i c at closing.
-    let low : i < length (take k cs) = slice_get_within (take k cs) i c at in
-    let count : length (take k cs) ≡ k = length-take-le k cs within in
-    elim (cases_lt i (k - 1)) [
-      | inl early ↦ absurd (not-closing (take (k - 1) cs) i c none (low-take (k - 1) cs i c (get-take k cs i c at) early) closing)
-      | inr late ↦ omega (arith, low, count, late, some)
-    ]
-
--- and that of a phase behind others
-pub closes-behind : (cs : List Command) (n k : ℕ) → 0 < k → k ≤ length (drop n cs) → NoneCloses (take (k - 1) (drop n cs)) → ClosesLast (drop n (take (n + k) cs))
-closes-behind cs n k some within none = subst ClosesLast (sym (drop-take n k cs)) (closes-last (drop n cs) k some within none)
 
 -- How far such a phase goes, and what may run of it.
 

@@ -128,7 +128,7 @@ fn insert(flat: &mut FlatRows, script: &Script, no: u64, new: &NewRow) -> Result
             flat.insert(&Row {
                 no,
                 at,
-                measure: new.measure,
+                measures: new.measures,
             })?;
             Ok(Answer::Ok)
         }

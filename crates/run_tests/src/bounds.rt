@@ -55,7 +55,7 @@ fn first(all: &[Event], many: usize) -> &[Event] {
 
 /// A row alone.
 fn rows_of(row: &Row) -> u64 {
-    u64::try_from(row.measure).unwrap_or(0)
+    u64::try_from(row.measures).unwrap_or(0)
 }
 
 /// The row that began at a place, if it is one of this server's.

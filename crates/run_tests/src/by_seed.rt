@@ -29,7 +29,7 @@ impl Known {
     /// A server acknowledged the row of the insert that began at a place.
     fn acknowledge(&mut self, events: &[Event], of: u64) {
         if let Some(Event::Begun { server, row, .. }) = events.get(of as usize) {
-            self.own[usize::from(*server % 2)] |= row.measure.unsigned_abs();
+            self.own[usize::from(*server % 2)] |= row.measures.unsigned_abs();
         }
     }
 
@@ -43,7 +43,7 @@ impl Known {
     /// An event happened.
     fn see(&mut self, events: &[Event], event: &Event) {
         match event {
-            Event::Begun { row, .. } => self.begun |= row.measure.unsigned_abs(),
+            Event::Begun { row, .. } => self.begun |= row.measures.unsigned_abs(),
             Event::Acked { of, .. } => self.acknowledge(events, *of),
             Event::Synced { server, .. } => self.pull(*server),
             _ => {}

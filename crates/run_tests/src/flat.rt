@@ -17,7 +17,7 @@ fn of_rows(rows: &[Row], wanted: &Filter, h: &Hierarchy) -> Agg
     let mut total = Agg::EMPTY;
     for row in rows {
         if h.matches(wanted, &row.at) {
-            total = total.join(&Agg::one(row.measure));
+            total = total.join(&Agg::one(row.measures));
         }
     }
     total

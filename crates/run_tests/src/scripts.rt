@@ -33,13 +33,13 @@ fn pick(alloc: Global, picked: &[&str]) -> Result<NamePick, AllocError> {
 }
 
 /// The insert of a row, of whose name the first 255 bytes count.
-fn insert(alloc: Global, server: u8, measure: i64, name: &str) -> Result<Command, AllocError> {
+fn insert(alloc: Global, server: u8, measures: i64, name: &str) -> Result<Command, AllocError> {
     let bytes = name.as_bytes();
     let mut names = RowNames::new(alloc);
     names.push(&bytes[..bytes.len().min(255)])?;
     Ok(Command::Insert(NewRow {
         server,
-        measure,
+        measures,
         names,
     }))
 }
@@ -54,7 +54,7 @@ fn query(alloc: Global, server: u8, picked: &[&str]) -> Result<Command, AllocErr
 /// The command of a line.
 fn command(alloc: Global, line: Line) -> Result<Command, AllocError> {
     match line {
-        Line::Insert(server, measure, name) => insert(alloc, server, measure, name),
+        Line::Insert(server, measures, name) => insert(alloc, server, measures, name),
         Line::Query(server, picked) => query(alloc, server, picked),
         Line::Call(call) => Ok(Command::Control(call)),
     }

@@ -1,5 +1,5 @@
 //! The describing set of two sales.
-ghost use Rattle.std.specs.Prelude.{◌≡◌, [], ◌∷◌};
+ghost use Rattle.std.specs.Prelude.{[], ◌∷◌};
 ghost use Rattle.dim_hierarchy.specs.Row.{IsCoordOf};
 ghost use Rattle.describing_set.specs.DescSet.{IsSetOf};
 

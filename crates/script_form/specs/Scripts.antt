@@ -78,7 +78,7 @@ call_by _ r = None
 -- the command that a record of a kind is, if it is one
 abbrev pub command_by : Option Kind → Record → Option Command
 command_by (Some kind.Insert) r =
-    Some (command.Insert (record { server = value_of (field r 1); measure = unwrap_or (measure_of (field r 2)) (pos 0); names = drop 3 r }))
+    Some (command.Insert (record { server = value_of (field r 1); measures = unwrap_or (measure_of (field r 2)) (pos 0); names = drop 3 r }))
 command_by (Some kind.Query) r = Some (command.Query (record { server = value_of (field r 1); filter = map pick_of (drop 2 r) }))
 command_by (Some k) r = option_map (λ c. command.Control c) (call_by k r)
 command_by None r = None

@@ -189,7 +189,7 @@ fn new_row(alloc: Global, row: &ByteRecord) -> Result<NewRow, AllocError>
 {
     Ok(NewRow {
         server: value_u8(field(row, 1)),
-        measure: measure(field(row, 2)).unwrap_or(0),
+        measures: measure(field(row, 2)).unwrap_or(0),
         names: names(alloc, row, 3)?,
     })
 }

@@ -1,5 +1,5 @@
 //! Scripts, and why a text is none.
-use dim_hierarchy::{Hierarchy, Items, NameFilter, RowNames};
+use dim_hierarchy::{Hierarchy, Items, Measures, NameFilter, RowNames};
 use row_ledger::{Call, Use};
 
 /// Why a record is bad, in the order in which causes count.
@@ -44,7 +44,7 @@ pub enum ScriptFault {
 #[derive(Drop)]
 pub struct NewRow {
     pub server: u8,
-    pub measure: i64,
+    pub measures: Measures,
     pub names: RowNames,
 }
 

@@ -1,5 +1,5 @@
 -- The places of commands when one of them begins.
-use Rattle.std.proofs.Common.{◌≡◌, ◌∙◌, ℕ, zero, suc, ◌<◌, ◌≤◌, ◌⊎◌, inl, inr, Bool, true, false, List, [], ◌∷◌, ◌++◌, length, refl, sym, ap, subst, arith, append_assoc, length-append}
+use Rattle.std.proofs.Common.{◌≡◌, ◌∙◌, ℕ, ◌<◌, ◌≤◌, ◌⊎◌, inl, inr, Bool, true, false, List, [], ◌∷◌, ◌++◌, length, refl, sym, ap, subst, arith, append_assoc, length-append}
 use Rattle.std.specs.Prelude.{Some, None, slice_get, ◌==◌}
 use Rattle.std.specs.Option.{option_map_or}
 use Rattle.std.proofs.lemmas.Bool.{eq-eqb, eqb-true}
@@ -9,7 +9,7 @@ use Rattle.row_ledger.specs.declared.settings.Use.{Use}
 use Rattle.row_ledger.specs.Past.{session_in}
 use Rattle.script_form.specs.declared.script.Command.{Command}
 use Rattle.script_run.specs.Places.{session_of, count_of, begins_in, begins_of, place_behind, places_behind, places}
-use Rattle.script_run.proofs.PlaceFacts.{begins_of-here, begins_of-other, count_of-append, places_behind-append}
+use Rattle.script_run.proofs.PlaceFacts.{begins_of-here, begins_of-other, count_of-append, places_behind-append, own_count, slice_get-left}
 
 -- An event that begins nothing moves no place.
 pub begins-none : (session : ℕ) (e : Event) → session_in e ≡ None → begins_in session e ≡ false
@@ -36,16 +36,6 @@ begins-same s t e is begins = let b : (s == t) ≡ true = subst (λ o. option_ma
 pub begins-own : (s : ℕ) (e : Event) → session_in e ≡ Some s → begins_in s e ≡ true
 begins-own s e is = rw is (eq-eqb s s refl)
 
-own-count : (with : Use) (c : Command) (cs : List Command) → 1 ≤ count_of with (session_of with c) (c ∷ cs)
-own-count with c cs =
-    let one : count_of with (session_of with c) (c ∷ []) ≡ 1 = rw (eq-eqb (session_of with c) (session_of with c) refl) refl in
-    omega (arith, one, count_of-append with (session_of with c) (c ∷ []) cs)
-
-get-left : (xs ys : List ℕ) (i : ℕ) → i < length xs → slice_get (xs ++ ys) i ≡ slice_get xs i
-get-left [] ys i h = absurd (omega arith)
-get-left (x ∷ xs) ys zero h = refl
-get-left (x ∷ xs) ys (suc i) h = get-left xs ys i (omega arith)
-
 get-last : (xs : List ℕ) (x i : ℕ) → i ≡ length xs → slice_get (xs ++ x ∷ []) i ≡ Some x
 get-last xs x i is = subst (λ n. slice_get (xs ++ x ∷ []) n ≡ Some x) (sym is) (go xs)
   where
@@ -69,7 +59,7 @@ place-kept with before c e history s is apart =
           let len : length (begins_of history t) ≡ length (begins_of history s) = ap (λ x. length (begins_of history x)) same in
           let num : k ≡ count_of with s before = ap (λ x. count_of with x before) same in
           elim counts [
-            | inl below ↦ more ∙ get-left (begins_of history t) (length history ∷ []) k (omega (arith, len, num, below))
+            | inl below ↦ more ∙ slice_get-left (begins_of history t) (length history ∷ []) k (omega (arith, len, num, below))
             | inr above ↦ more ∙ slice_get_past (begins_of history t ++ length history ∷ []) k (omega (arith, len, num, above, length-append (begins_of history t) (length history ∷ [])))
                 ∙ sym (slice_get_past (begins_of history t) k (omega (arith, len, num, above)))
           ]
@@ -81,7 +71,7 @@ unfolding places_behind
 places-front with before [] e history s is few = refl
 places-front with before (c ∷ cs) e history s is few =
     let below : session_of with c ≡ s → count_of with s before < length (begins_of history s) =
-    λ same. (let own : 1 ≤ count_of with s (c ∷ cs) = subst (λ x. 1 ≤ count_of with x (c ∷ cs)) same (own-count with c cs) in
+    λ same. (let own : 1 ≤ count_of with s (c ∷ cs) = subst (λ x. 1 ≤ count_of with x (c ∷ cs)) same (own_count with c cs) in
     omega (arith, own, few, count_of-append with s before (c ∷ cs))) in
     ap (λ p. p ∷ places_behind with (before ++ c ∷ []) cs (e ∷ history)) (place-kept with before c e history s is (λ same. inl (below same)))
     ∙ ap (λ ps. place_behind with before c history ∷ ps)
@@ -107,7 +97,7 @@ unfolding places_behind
 places-begin with front c back e history is count =
     let s = session_of with c in
     let split = λ (h : List Event). places_behind-append with [] front (c ∷ back) h in
-    let one : 1 ≤ count_of with s (c ∷ []) = own-count with c [] in
+    let one : 1 ≤ count_of with s (c ∷ []) = own_count with c [] in
     let here : place_behind with front c (e ∷ history) ≡ Some (length history) =
     ap (λ ps. slice_get ps (count_of with s front)) (begins_of-here e history s (begins-own s e is)) ∙ get-last (begins_of history s) (length history) (count_of with s front) count in
     let none : place_behind with front c history ≡ None = slice_get_past (begins_of history s) (count_of with s front) (omega arith) in

@@ -37,12 +37,12 @@ pub record HaveBegun (with : Use) (commands : List Command) (history : List Even
 pub record NoneMore (with : Use) (commands : List Command) (history : List Event) : Type 0 where
   pub counts : (session : ℕ) → length (begins_of history session) ≤ count_of with session commands
 
-slice_get-left : (xs ys : List ℕ) (i : ℕ) → i < length xs → slice_get (xs ++ ys) i ≡ slice_get xs i
+pub slice_get-left : (xs ys : List ℕ) (i : ℕ) → i < length xs → slice_get (xs ++ ys) i ≡ slice_get xs i
 slice_get-left xs ys i within =
     slice_get-get_or (xs ++ ys) i 0 (omega (arith, length-append xs ys)) ∙ ap Some (get_or-append xs ys 0 i within) ∙ sym (slice_get-get_or xs i 0 within)
 
 -- the command itself is one of its session
-own_count : (with : Use) (c : Command) (cs : List Command) → 1 ≤ count_of with (session_of with c) (c ∷ cs)
+pub own_count : (with : Use) (c : Command) (cs : List Command) → 1 ≤ count_of with (session_of with c) (c ∷ cs)
 own_count with c cs =
     let one : count_of with (session_of with c) (c ∷ []) ≡ 1 = rw (eq-eqb (session_of with c) (session_of with c) refl) refl in
     omega (arith, one, count_of-append with (session_of with c) (c ∷ []) cs)

@@ -1,6 +1,6 @@
 -- A history is a run of a script's commands, whole or in part.
-use Rattle.std.specs.Prelude.{ℕ, ◌≡◌, ◌+◌, ◌<◌, ◌⊎◌, ⊤, Bool, true, false, IsTrue, Option, Some, None, is_none, List, zip, position, AllPairs, Contains, IfSome, [], ◌∷◌, ◌++◌, length, map, reverse, take, filter_map}
-use Rattle.std.specs.List.{AllZip, range_with_len}
+use Rattle.std.specs.Prelude.{ℕ, ◌≡◌, ◌+◌, ◌<◌, ◌⊎◌, ⊤, Bool, true, false, IsTrue, Option, Some, None, is_none, List, zip, position, AllPairs, Contains, IfSome, [], ◌∷◌, length, take}
+use Rattle.std.specs.List.{AllZip}
 use Rattle.dim_hierarchy.specs.Dimension.{Dimension}
 use Rattle.dim_hierarchy.specs.Row.{IsCoordNamed, leaves}
 use Rattle.dim_hierarchy.specs.Filter.{IsFilterNamed, picks}
@@ -10,8 +10,9 @@ use Rattle.row_ledger.specs.declared.class.Class.TheVariants.{Sync, Settle, Bare
 use Rattle.row_ledger.specs.declared.event.Event.{Event}
 use Rattle.row_ledger.specs.declared.event.Event.TheVariants.{Begun, Acked, Asked, Unknown, Failed, Refused, Called, Ended}
 use Rattle.row_ledger.specs.declared.settings.Use.{Use}
-use Rattle.row_ledger.specs.Past.{event_at, before, is_over, is_beginning, Pull, call_at, pull_in, since}
+use Rattle.row_ledger.specs.Past.{event_at, before, is_over, is_beginning, call_at}
 use Rattle.row_ledger.specs.Right.{EachEvent}
+use Rattle.row_ledger.specs.Settled.{pulls_since, settle_pulls}
 use Rattle.row_ledger.specs.declared.settings.How.{How}
 use Rattle.row_ledger.specs.declared.settings.How.TheVariants.{Fine, NoMemory}
 use Rattle.script_form.specs.declared.script.Command.{Command}
@@ -31,7 +32,7 @@ can_be_refused class = true
 -- for a barrier, it is refused.
 abbrev pub Begins : Use → List Dimension → Command → Event → Type 0
 Begins with h (Insert new) (Begun session server row) =
-    (session ≡ new.server) × (server ≡ new.server) × (row.measure ≡ new.measure) × IsCoordNamed h new.names row.at
+    (session ≡ new.server) × (server ≡ new.server) × (row.measures ≡ new.measures) × IsCoordNamed h new.names row.at
 Begins with h (Insert new) (Unknown session server dim) =
     (session ≡ new.server) × (server ≡ new.server) × (position is_none (leaves h new.names) ≡ Some dim)
 Begins with h (Insert new) (Refused session) = session ≡ new.server
@@ -57,26 +58,18 @@ EndsBefore history (Some p) (Some q) = (p < q) × IsTrue (is_over (before histor
 
 -- Which servers a command pulled for, by how it ended.
 
--- the servers of the pulls behind a position, the oldest first
-abbrev pub pulled_since : List Event → ℕ → List ℕ
-pulled_since past p = reverse (map (λ (pull : Pull). pull.server) (filter_map pull_in (since past p)))
-
--- all servers in the order of their numbers, and then once more
-abbrev pub each_twice : ℕ → List ℕ
-each_twice servers = range_with_len 0 servers ++ range_with_len 0 servers
-
 -- A sync that is fine pulled once, for its server, and one that found no memory not at all. A settle that is fine pulled
 -- for each server, and for each once more; one that found no memory got less far.
 abbrev pub ArePulls : ℕ → Class → How → List ℕ → Type 0
 ArePulls servers (Sync server) Fine pulled = pulled ≡ server ∷ []
 ArePulls servers (Sync server) NoMemory pulled = pulled ≡ []
-ArePulls servers Settle Fine pulled = pulled ≡ each_twice servers
-ArePulls servers Settle NoMemory pulled = (n : ℕ) × (n < length (each_twice servers)) × (pulled ≡ take n (each_twice servers))
+ArePulls servers Settle Fine pulled = pulled ≡ settle_pulls servers
+ArePulls servers Settle NoMemory pulled = (n : ℕ) × (n < length (settle_pulls servers)) × (pulled ≡ take n (settle_pulls servers))
 ArePulls servers class how pulled = ⊤
 
 -- where an event ends a called command, what was pulled since it began
 abbrev pub HasPulls : Use → List Event → Event → Type 0
-HasPulls with past (Ended of how) = IfSome (call_at past of) (λ called. ArePulls with.servers (class_of called) how (pulled_since past of))
+HasPulls with past (Ended of how) = IfSome (call_at past of) (λ called. ArePulls with.servers (class_of called) how (pulls_since past of))
 HasPulls with past e = ⊤
 
 -- Runs.

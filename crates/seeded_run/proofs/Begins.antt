@@ -4,7 +4,9 @@ use Rattle.std.specs.Prelude.{◌==◌, ◌||◌, IsTrue, slice_get}
 use Rattle.std.specs.List.{slice_index_or}
 use Rattle.std.specs.Option.{option_map_or}
 use Rattle.std.proofs.lemmas.Bool.{eq-eqb, ne_eqb}
+use Rattle.std.proofs.lemmas.List.{length-take-le}
 use Rattle.std.proofs.lemmas.Option.{slice_get_within}
+use Rattle.volap_cell.proofs.PartLists.{splits-at}
 use Rattle.dim_hierarchy.specs.Dimension.{Dimension}
 use Rattle.row_ledger.specs.Classes.{class_of}
 use Rattle.row_ledger.specs.declared.settings.Call.{Call}
@@ -27,7 +29,8 @@ use Rattle.script_run.specs.Parts.{place_in}
 use Rattle.script_run.specs.Phases.{closes, is_closing, ranks}
 use Rattle.script_run.specs.Streams.{NoneCloses, IsInPhase, IsReady, StepsOn}
 use Rattle.script_run.specs.Places.{begins_of, count_of, is_over_at, session_of}
-use Rattle.script_run.specs.Runs.{pulled_since, Begins}
+use Rattle.row_ledger.specs.Settled.{pulls_since}
+use Rattle.script_run.specs.Runs.{Begins}
 use Rattle.volap_cell.specs.Ghost.{Ghost}
 use Rattle.volap_cell.specs.ImageKinds.{doing}
 use Rattle.volap_cell.specs.Invariant.{InvWith}
@@ -44,7 +47,7 @@ use Rattle.seeded_run.proofs.Cursors.{first-law, is-one}
 use Rattle.seeded_run.proofs.Firsts.{IsFirst, first-at, first-fails, first-pass, first-some, over-at, over-place, over-still, over_in, place-behind, place-now, place_since}
 use Rattle.seeded_run.proofs.Keeps.{Own, OwnPulls, behind-by, can-first, doing-is, idle-from, is-at-command, kept-by, none-some, one-more, opened-other}
 use Rattle.seeded_run.proofs.PhaseRuns.{is-actor, low-or-high, opened-none, past-over, rest-past}
-use Rattle.seeded_run.proofs.Pulled.{begin-pulls-none, deed-session, end-session, pulled-none}
+use Rattle.seeded_run.proofs.Pulled.{begin-pulls-none, deed-session, pulled-none}
 use Rattle.seeded_run.proofs.Scripts.{hand-behind}
 use Rattle.seeded_run.proofs.Told.{told-law}
 use Rattle.seeded_run.specs.Cursors.{HasCursors}
@@ -53,13 +56,12 @@ use Rattle.seeded_run.specs.Kept.{IsTurn, KeepsBeginningLaw, MovesOn, QuietLaw}
 use Rattle.seeded_run.specs.Rests.{PhaseRun, first_open, rest_of, stream_of}
 use Rattle.seeded_run.specs.Running.{HasPulled, IsRunning, RunsBehind, behind, is_closing_work, opened_in}
 use Rattle.seeded_run.specs.Told.{OfBeginning, OfDeed, OfEnd, OfNothing, OfPage, OfPull, Opens, OpensNone, OpensOne, TellsBeginning, Told, begins_closing, is_of_part}
+use Rattle.volap_cell.proofs.NotedCommands.{end-begins-none}
 
 -- Lists of commands.
 
-split-at : (cs : List Command) (k : ℕ) (c : Command) → slice_get cs k ≡ Some c → (cs ≡ take k cs ++ c ∷ drop (suc k) cs) × (length (take k cs) ≡ k)
-split-at [] k c at = cc
-split-at (d ∷ cs) zero c at = let same : d ≡ c = cc in (ap (λ x. x ∷ cs) same, refl)
-split-at (d ∷ cs) (suc k) c at = let more = split-at cs k c at in (ap (λ l. d ∷ l) more.0, ap suc more.1)
+parts-at : (cs : List Command) (k : ℕ) (c : Command) → slice_get cs k ≡ Some c → (cs ≡ take k cs ++ c ∷ drop (suc k) cs) × (length (take k cs) ≡ k)
+parts-at cs k c at = (splits-at cs k c at, length-take-le k cs (let low = slice_get_within cs k c at in omega arith))
 
 -- with the command at a place, and none of its session behind, there is one more
 count-gap : (with : Use) (s : ℕ) (cs : List Command) (m n : ℕ) (c : Command) → slice_get cs m ≡ Some c → session_of with c ≡ s → m < n
@@ -97,7 +99,7 @@ begin-phase : (with : Use) (h : List Dimension) (done cs : List Command) (k : �
 begin-phase with h done cs k c e history next now_next opened now_opened at phase is none ready session begins on =
     let front = done ++ take k cs in
     let back = drop (suc k) cs in
-    let split = split-at cs k c at in
+    let split = parts-at cs k c at in
     let all : done ++ cs ≡ front ++ c ∷ back = ap (λ l. done ++ l) split.0 ∙ sym (append_assoc done (take k cs) (c ∷ back)) in
     let far : length done + k ≡ length front = omega (arith, split.1, length-append done (take k cs)) in
     subst (λ l. IsInPhase with h l (length done) (e ∷ history) now_next now_opened) (sym all)
@@ -114,7 +116,7 @@ begin-order : (with : Use) (h : List Dimension) (done cs : List Command) (k : �
 begin-order with h done cs k c e history at before count session begins order =
     let front = done ++ take k cs in
     let back = drop (suc k) cs in
-    let split = split-at cs k c at in
+    let split = parts-at cs k c at in
     let all : done ++ cs ≡ front ++ c ∷ back = ap (λ l. done ++ l) split.0 ∙ sym (append_assoc done (take k cs) (c ∷ back)) in
     let far : length done + k ≡ length front = omega (arith, split.1, length-append done (take k cs)) in
     let first : take (length done + k) (done ++ cs) ≡ front = ap (take (length done + k)) all ∙ ap (λ m. take m (front ++ c ∷ back)) far ∙ take-front front (c ∷ back) in
@@ -293,7 +295,7 @@ module _ (in_order : Bool) (s : Setting) (p : PhaseRun) (w now : World) (g g_now
       where
         by : (b : Bool) → closes c ≡ b → (j < length done) ⊎ ((j < behind done next (session_of p.with d)) × (opened_in w (session_of p.with d) ≡ None))
         by false open_ =
-            let split = split-at p.commands (next n) c at in
+            let split = parts-at p.commands (next n) c at in
             let all = ap (λ l. done ++ l) split.0 in
             inl (rank_law done (take (next n) p.commands) c (drop (suc (next n)) p.commands) j
             (none-closes (take (next n) p.commands) (λ m x found. not-closing m x (take-get p.commands (next n) m x found) (closes x) refl)) open_
@@ -366,7 +368,7 @@ module _ (in_order : Bool) (s : Setting) (p : PhaseRun) (w now : World) (g g_now
     pulls-beginning : OwnPulls in_order s p w now g g_now next n i i_now turn r done b
     pulls-beginning = by t.opens
       where
-        pulls : (a : ℕ) (x : OpenCommand) → a ≢ n → (w.actors a).command ≡ Some x → HasPulled s.servers x.work (pulled_since (history_in now) x.of)
+        pulls : (a : ℕ) (x : OpenCommand) → a ≢ n → (w.actors a).command ≡ Some x → HasPulled s.servers x.work (pulls_since (history_in now) x.of)
         pulls a x differs there = one-more in_order s p w now g g_now next n i i_now turn r done b t.begins t.history (begin-pulls-none t.begins n t.session) a x there
 
         by : Opens s t.begins n w now → OwnPulls in_order s p w now g g_now next n i i_now turn r done b
@@ -374,7 +376,7 @@ module _ (in_order : Bool) (s : Setting) (p : PhaseRun) (w now : World) (g g_now
         by (OpensOne work itself command pulled closing_is) = record {
           pulled = λ x there.
               let same = doing-is (now.actors n).command x (length (history_in w)) work there command in
-              let none : pulled_since (history_in now) x.of ≡ [] = ap (λ y. pulled_since y x.of) t.history ∙ ap (pulled_since (t.begins ∷ history_in w)) same.0 ∙ pulled-none t.begins (history_in w) in
+              let none : pulls_since (history_in now) x.of ≡ [] = ap (λ y. pulls_since y x.of) t.history ∙ ap (pulls_since (t.begins ∷ history_in w)) same.0 ∙ pulled-none t.begins (history_in w) in
               subst (HasPulled s.servers x.work) (sym none) (subst (λ y. HasPulled s.servers y []) (sym same.1) pulled);
           pulled_others = pulls;
         }
@@ -416,7 +418,7 @@ beginning-of s k n w now e is session (OfNothing t) = absurd (longer e (history_
 beginning-of s k n w now e is session (OfDeed t) = session-clash (session_in e) n (ap session_in (heads e t.deed _ _ (sym is ∙ t.history)) ∙ deed-session t.deed t.is_that) session
 beginning-of s k n w now e is session (OfPull t) = session-clash (session_in e) n (ap session_in (heads e (event.Synced t.server t.listing) _ _ (sym is ∙ t.history))) session
 beginning-of s k n w now e is session (OfPage t) = session-clash (session_in e) n (ap session_in (heads e (event.Shown t.of t.page) _ _ (sym is ∙ t.history))) session
-beginning-of s k n w now e is session (OfEnd t) = session-clash (session_in e) n (ap session_in (heads e t.end_is _ _ (sym is ∙ t.history)) ∙ end-session t.end_is t.of t.ends.0) session
+beginning-of s k n w now e is session (OfEnd t) = session-clash (session_in e) n (ap session_in (heads e t.end_is _ _ (sym is ∙ t.history)) ∙ end-begins-none t.end_is t.of t.ends.0) session
 beginning-of s k n w now e is session (OfBeginning t) = (t, heads e t.begins _ _ (sym is ∙ t.history))
 
 pub keeps-beginning-law : KeepsBeginningLaw
@@ -437,5 +439,5 @@ quiet-law s k n w now g g_now i i_now step busy e is = by (told-law s k n w now 
     by (OfDeed t) = ap session_in (heads e t.deed _ _ (sym is ∙ t.history)) ∙ deed-session t.deed t.is_that
     by (OfPull t) = ap session_in (heads e (event.Synced t.server t.listing) _ _ (sym is ∙ t.history))
     by (OfPage t) = ap session_in (heads e (event.Shown t.of t.page) _ _ (sym is ∙ t.history))
-    by (OfEnd t) = ap session_in (heads e t.end_is _ _ (sym is ∙ t.history)) ∙ end-session t.end_is t.of t.ends.0
+    by (OfEnd t) = ap session_in (heads e t.end_is _ _ (sym is ∙ t.history)) ∙ end-begins-none t.end_is t.of t.ends.0
     by (OfBeginning t) = apart (is_of_part k) (busy t.free.command) t.of_command

@@ -165,10 +165,10 @@ module _ (h : List Dimension) (with : Use) (cells : List (Option Cell)) (actors 
           grows = here v now i j;
         }
 
-    pub begun-insert : (new : NewRow) → c ≡ script.Insert new → (at : Coord) (measure : ℤ) → IsCoordNamed h new.names at → measure ≡ new.measure → Adds (begun_by at measure) n ledger cells actors cells_now actors_now
+    pub begun-insert : (new : NewRow) → c ≡ script.Insert new → (at : Coord) (measures : ℤ) → IsCoordNamed h new.names at → measures ≡ new.measures → Adds (begun_by at measures) n ledger cells actors cells_now actors_now
         → GoesBy with h c cells actors cells_now actors_now
-    begun-insert new is at measure named same adds = begun (begun_by at measure) adds (λ a place number role.
-        subst (λ (x : Command). Begins with h x (begun_by at measure a place)) (sym is) (number ∙ ap (session_of with) is, ap server_of (role ∙ ap role_for is), same, named))
+    begun-insert new is at measures named same adds = begun (begun_by at measures) adds (λ a place number role.
+        subst (λ (x : Command). Begins with h x (begun_by at measures a place)) (sym is) (number ∙ ap (session_of with) is, ap server_of (role ∙ ap role_for is), same, named))
 
     pub begun-query : (question : Question) → c ≡ script.Query question → (filter : List Pick) → IsFilterNamed h question.filter filter → Adds (asked_by filter) n ledger cells actors cells_now actors_now
         → GoesBy with h c cells actors cells_now actors_now

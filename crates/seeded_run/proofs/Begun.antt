@@ -1,7 +1,6 @@
 -- What is due for an actor whose command may begin, or that can step at all.
 use Rattle.std.proofs.Common.{◌≡◌, ◌≢◌, ◌∙◌, ◌<◌, ◌&&◌, inl, inr, ℕ, Bool, true, false, not, ◌==◌, List, [], ◌∷◌, Option, Some, None, is_none, length, get_or, refl, sym, ap, subst}
 use Rattle.std.specs.Prelude.{if◌then◌else◌, slice_get}
-use Rattle.std.specs.Option.{option_map_or}
 use Rattle.dim_hierarchy.specs.Dimension.{Dimension}
 use Rattle.query_router.specs.Desk.{DeskValue}
 use Rattle.script_form.specs.declared.script.Command.{Command}
@@ -19,11 +18,11 @@ use Rattle.volap_cell.specs.declared.role.Role.TheVariants as role
 use Rattle.volap_cell.proofs.States.{stands}
 use Rattle.std.proofs.lemmas.Bool.{eq-eqb}
 use Rattle.volap_cell.specs.Errands.{way_of}
-use Rattle.seeded_run.specs.Can.{can, can_step, is_carried_at, meets}
+use Rattle.seeded_run.specs.Can.{can, is_carried_at}
 use Rattle.seeded_run.specs.Commands.{may_begin}
 use Rattle.seeded_run.specs.Due.{command_kind, due, desk_of, free_kind, is_alone, next_kind}
 use Rattle.seeded_run.specs.Look.{HasNextNames}
-use Rattle.seeded_run.specs.Machine.{BeginsNow, HasLeftOver, HasTurned, IsDueNow, IsDueStep, IsPhaseHeld, IsPhaseKept, TakesTurn, about_in, can_in, next_at, phase_of, world_of}
+use Rattle.seeded_run.specs.Machine.{BeginsNow, HasLeftOver, HasTurned, IsDueNow, IsDueStep, IsPhaseHeld, IsPhaseKept, TakesTurn, about_in, next_at, phase_of, world_of}
 use Rattle.seeded_run.specs.Rests.{first_open, rest_of}
 use Rattle.seeded_run.specs.Steps.{begins_by, begins_of_one, is_for_part}
 use Rattle.seeded_run.specs.Takes.{AsksHere, carries_at, free_by}
@@ -47,21 +46,6 @@ may-of actors n k = by (get_or actors n None)
 -- a kind by which a command may begin is of no part
 pub no-part : (actors : List (Option Actor)) (n : ℕ) (errand : Option ErrandValue) (due_kind k : Kind) → begins_by actors n due_kind ≡ true → is_for_part errand due_kind ≡ true → is_of_part k ≡ true
 no-part actors n errand due_kind k begins part = apart (is_for_part errand due_kind) part (off-part errand due_kind (begins-apart due_kind (may-of actors n due_kind begins)))
-
-some-due : (o : Option Kind) (test : Kind → Bool) → option_map_or test o false ≡ true → (k : Kind) × (o ≡ Some k)
-some-due None test e = cc
-some-due (Some k) test e = (k, refl)
-
-can-any : (b : Bool) (m : Running) (n : ℕ) → can_step b (about_in m) (phase_of m) (world_of m) n ≡ true → can (about_in m) (phase_of m) (world_of m) n ≡ true
-can-any false m n e = e
-can-any true m n e = (both-parts (option_map_or (λ first. first == n) (first_open (phase_of m) (history_in (world_of m))) false) (can (about_in m) (phase_of m) (world_of m) n) e).1
-
--- for who can step something is due
-pub due-some : (m : Running) (n : ℕ) → can_in m n ≡ true → (k : Kind) × (due (about_in m) (phase_of m) (world_of m) n ≡ Some k)
-due-some m n e = some-due (due (about_in m) (phase_of m) (world_of m) n) (meets (about_in m) (world_of m) n) (can-any m.in_order m n e)
-
-pub none-some : {X : Type 0} (k : Kind) → ◌≡◌ {A = Option Kind} None (Some k) → X
-none-some k e = cc
 
 none-next : (h : List Dimension) (alone : Bool) (desk : Option DeskValue) (rest : List Command) (k : Kind) {X : Type 0} → rest ≡ [] → next_kind h alone desk rest ≡ Some k → X
 none-next h alone desk [] k none e = cc

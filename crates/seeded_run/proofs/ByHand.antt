@@ -1,15 +1,15 @@
 -- Later moments of a phase, and the moves between them.
-use Rattle.std.proofs.Common.{rules, not, ◌≡◌, ◌≢◌, ◌∙◌, ◌<◌, ◌+◌, inl, ℕ, suc, Bool, true, false, Option, Some, None, is_none, List, [], ◌∷◌, ◌++◌, length, take, slice_get, refl, sym, ap, subst, arith}
+use Rattle.std.proofs.Common.{rules, not, ◌≡◌, ◌≢◌, ◌∙◌, ◌+◌, inl, ℕ, suc, Bool, true, false, Option, Some, None, is_none, List, [], ◌∷◌, ◌++◌, length, take, slice_get, refl, sym, ap, subst, arith}
 use Rattle.core_image.proofs.NextAction.{inside, take-more}
 use Rattle.std.specs.Prelude.{IfOk, OnErr, Result, Ok, Err}
 use Rattle.std.specs.Option.{option_eq}
-use Rattle.volap_cell.specs.Setting.{Setting, actor_count}
+use Rattle.volap_cell.specs.Setting.{Setting}
 use Rattle.volap_cell.specs.Values.{actor_of}
 use Rattle.volap_cell.specs.World.{World}
 use Rattle.volap_cell.specs.declared.actor.Actor.{Actor}
 use Rattle.volap_cell.specs.contracts.kind.KindPartialEq.TheImpl as test_of
 use Rattle.volap_cell.specs.declared.kind.Kind.{Kind}
-use Rattle.seeded_run.specs.ByHand.{AreMoves, CannotMove, CannotMoveAt, HasMoved, HasMovedTo, IsLater, Moves, MovesTo, StopsAmong, StopsAmongAt}
+use Rattle.seeded_run.specs.ByHand.{AreMoves, CannotMoveAt, HasMoved, HasMovedTo, IsLater, Moves, MovesTo, StopsAmong, StopsAmongAt}
 use Rattle.seeded_run.specs.Commands.{may_begin}
 use Rattle.seeded_run.specs.Due.{due}
 use Rattle.seeded_run.specs.Machine.{HasTurned, TakesTurn, about_in, can_in, phase_of, world_of}
@@ -77,16 +77,6 @@ same-told (Some a) None e = no-way e
 same-told (Some a) (Some b) e = ap Some (same-kind a b (not-false _ e))
 
 module _ (m : Running) (n : ℕ) where
-  -- who can make no step is told none,
-  pub rests-as-told : (n < actor_count (about_in m) → can_in m n ≡ false) → (told : Option Kind) → is_none told ≡ true → MovesTo m n told m
-  rests-as-told stuck None none = (stuck, refl)
-  rests-as-told stuck (Some k) none = no-way none
-
-  -- and can't move where it is told another;
-  pub cannot-as-told : (n < actor_count (about_in m) → can_in m n ≡ false) → (told : Option Kind) → is_none told ≡ false → CannotMoveAt m n told × (world_of m ≡ world_of m)
-  cannot-as-told stuck (Some k) some = (λ other is can low. no-way (sym (stuck low) ∙ can), refl)
-  cannot-as-told stuck None some = no-way (sym some)
-
   -- nor can who is told another kind than the one that is due;
   pub cannot-another : (told : Option Kind) → due (about_in m) (phase_of m) (world_of m) n ≢ told → can_in m n ≡ true → CannotMoveAt m n told × (world_of m ≡ world_of m)
   cannot-another (Some k) other can = (λ named is able low. other is, refl)
@@ -116,20 +106,6 @@ module _ (m x now : Running) (later : IsLater m x) (moves : List (ℕ × Option 
       let on : suc i ≡ i + 1 = omega arith in
       subst (λ k. AreMade k now) on (subst (λ ms. AreMoves m.in_order (about_in m) (phase_of m) (world_of m) ms (world_of now)) (sym (take-more i moves move at))
       (one-more m.in_order (about_in m) (phase_of m) (world_of m) (world_of x) (world_of now) (take i moves) move made as_first))
-
-  -- the next one can't be made, and nothing changed
-  pub made-up-to : (move : ℕ × Option Kind) → slice_get moves i ≡ Some move → AreMade i x → IsLater m now → world_of now ≡ world_of x → CannotMoveAt now move.0 move.1 → HasMovedTo m moves i now
-  made-up-to move at made later_now same cannot =
-      let cannot_here = as-before (λ b s p. CannotMove b s p (world_of now) move.0 move.1) m now later_now.same later_now.about cannot in
-      let low = inside i moves move at in
-      record {
-        within = omega (arith, low);
-        made = subst (AreMoves m.in_order (about_in m) (phase_of m) (world_of m) (take i moves)) (sym same) made;
-        next = λ other there. subst (λ (o : ℕ × Option Kind). CannotMove m.in_order (about_in m) (phase_of m) (world_of now) o.0 o.1) (one-value move other (sym at ∙ there)) cannot_here;
-      }
-    where
-      one-value : (a b : ℕ × Option Kind) → ◌≡◌ {A = Option (ℕ × Option Kind)} (Some a) (Some b) → a ≡ b
-      one-value a b is = cc
 
   -- all were made
   pub made-all : i ≡ length moves → AreMade i x → HasMovedTo m moves (length moves) x

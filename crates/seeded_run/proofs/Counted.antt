@@ -3,7 +3,8 @@
 use Rattle.std.proofs.Common.{◌≡◌, ◌∙◌, ◌⊎◌, inl, inr, ℕ, Bool, cond, eqb, List, [], ◌∷◌, refl, sym, ap, subst}
 use Rattle.dim_hierarchy.specs.Dimension.{Dimension}
 use Rattle.row_ledger.specs.declared.event.Event.{Event}
-use Rattle.tree_shape.proofs.Walks.{on_bool, eqb-eq, eqb-self}
+use Rattle.list_words.proofs.Truth.{on_bool, eqb-self}
+use Rattle.std.proofs.lemmas.Bool.{eqb-true}
 use Rattle.volap_cell.specs.AdminKinds.{Finishes, GivesUp}
 use Rattle.volap_cell.specs.Cells.{CellValue, ledger_in}
 use Rattle.volap_cell.specs.ImageKinds.{CountsSession, DoesNote, DoesNoteWith, OfUnknown, OfRefused, OfCalled, OfLeft, OfShown, OfEnded, OfCount, OfCalledAsking, OfUnrouted, OfQuery}
@@ -107,7 +108,7 @@ by-kind h _ _ a b d = absurd d
 -- a count leaves the history, as it holds a desk alone
 still : (w : World) (n : ℕ) (c : Change) (a b : ActorValue) → Agrees w (c ∷ []) n a → CountsSession c a b → history_in (after w (c ∷ []) n b) ≡ history_in w
 still w n c a b agrees d = on_bool (eqb ledger_cell c.number)
-    (λ q. let here : w.cells ledger_cell ≡ c.before = ap w.cells (eqb-eq _ _ q) ∙ agrees.cells.0 in
+    (λ q. let here : w.cells ledger_cell ≡ c.before = ap w.cells (eqb-true _ _ q) ∙ agrees.cells.0 in
     let was : history_in w ≡ [] = ap (λ (z : CellValue). (ledger_in z).history) (here ∙ d.turns.was) in
     let is : history_in (after w (c ∷ []) n b) ≡ [] = ap (λ (v : Bool). (ledger_in (cond v c.now (w.cells ledger_cell))).history) q ∙ ap (λ (z : CellValue). (ledger_in z).history) d.turns.is in
     is ∙ sym was)

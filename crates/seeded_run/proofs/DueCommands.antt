@@ -169,18 +169,6 @@ by-work s w rest n k due off = at (w.actors n).command refl due.by
 
 -- Desks.
 
--- a session whose server has this desk
-pub record IsAtDesk (s : Setting) (w : World) (r : Role) (desk : DeskValue) : Type 0 where
-  pub server : ℕ
-  pub role : r ≡ Session server
-  pub desk_is : desk_in (w.cells (desk_cell s server)) ≡ desk
-
-at-desk : (s : Setting) (w : World) (r : Role) (desk : DeskValue) → desk_of s w r ≡ Some desk → IsAtDesk s w r desk
-at-desk s w (Session server) desk e = record { server = server; role = refl; desk_is = (let same : desk_in (w.cells (desk_cell s server)) ≡ desk = cc in same) }
-at-desk s w (Hand worker) desk e = (let none : None ≡ Some desk = e in absurd (cc))
-at-desk s w Puller desk e = (let none : None ≡ Some desk = e in absurd (cc))
-at-desk s w Admin desk e = (let none : None ≡ Some desk = e in absurd (cc))
-
 -- a session whose server's desk is empty
 pub record IsAtEmpty (s : Setting) (w : World) (r : Role) : Type 0 where
   pub server : ℕ

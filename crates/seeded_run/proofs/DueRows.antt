@@ -25,14 +25,14 @@ use Rattle.link_descent.proofs.Picks.{IsBefore, IsBestOf, IsBestOf-keeps, IsBest
 use Rattle.shard_store.specs.declared.gate.Gate.{Gate}
 use Rattle.shard_store.specs.declared.gate.Phase.{Phase}
 use Rattle.shard_store.specs.declared.gate.Phase.TheVariants.{Open, Frozen, Gone}
-use Rattle.tree_shape.specs.Counts.{Each, times}
+use Rattle.list_words.specs.Counts.{Each, times}
+use Rattle.list_words.proofs.Each.{each-map, each-append, each-right}
+use Rattle.list_words.proofs.Truth.{on_bool}
+use Rattle.list_words.proofs.Times.{same_is}
 use Rattle.tree_shape.specs.Shape.{Shape, Table, TreeCells, nodes}
 use Rattle.tree_shape.specs.Trees.{IsBehind, IsTree, cells_behind}
-use Rattle.tree_shape.proofs.Divisions.{each-map}
-use Rattle.tree_shape.proofs.Parts.{each-append, each-right}
 use Rattle.tree_shape.proofs.Tails.{behind-head}
 use Rattle.tree_shape.proofs.Totals.{LeadsTo, has-behind}
-use Rattle.tree_shape.proofs.Walks.{on_bool, same_is}
 use Rattle.volap_cell.specs.Cells.{CellValue, FreeCell, LedgerCell, StockCell, RegistryCell, ImageCell, DeskCell, MapCell, GateCell, BlockCell, block_in, gate_shard}
 use Rattle.volap_cell.specs.Errands.{is_filled}
 use Rattle.volap_cell.specs.State.{AreDifferent, number_if}

@@ -1,11 +1,8 @@
 -- What an actor does on its turn, and the kind of step that is due for it.
-use Rattle.std.proofs.Common.{◌∙◌, ◌≡◌, ◌≢◌, ◌&&◌, ◌||◌, ℕ, Bool, true, false, cond, not, is_none, is_some, IfSome, List, [], Option, None, Some, option_map, ap, refl, sym}
+use Rattle.std.proofs.Common.{◌∙◌, ◌≡◌, ◌&&◌, ℕ, Bool, true, false, cond, not, is_none, is_some, IfSome, List, Option, None, Some, option_map, ap, refl, sym}
 use Rattle.std.specs.Option.{option_map_or}
-use Rattle.dim_hierarchy.specs.Dimension.{Dimension}
-use Rattle.query_router.specs.Desk.{DeskValue}
 use Rattle.script_form.specs.declared.script.Command.{Command}
 use Rattle.script_form.specs.declared.script.Command.TheVariants as script
-use Rattle.script_run.specs.Phases.{closes}
 use Rattle.volap_cell.specs.Setting.{Setting}
 use Rattle.volap_cell.specs.Values.{ActorValue, ErrandValue}
 use Rattle.volap_cell.specs.World.{World}
@@ -16,11 +13,9 @@ use Rattle.volap_cell.specs.declared.role.Role.TheVariants as role
 use Rattle.seeded_run.specs.Can.{can, can_step, meets}
 use Rattle.seeded_run.specs.Commands.{may_begin}
 use Rattle.volap_cell.specs.declared.command.Command.{Command as OpenCommand}
-use Rattle.seeded_run.specs.Due.{are_known, command_kind, desk_of, due, errand_kind, first_kind, free_kind, is_empty, is_empty_desk, led_to, next_kind, purse_kind}
+use Rattle.seeded_run.specs.Due.{command_kind, due, errand_kind, free_kind, is_empty, led_to, purse_kind}
 use Rattle.seeded_run.specs.DueSteps.{due_step, kind_if, step_by, step_of}
-use Rattle.seeded_run.specs.Look.{ahead, setting_for}
 use Rattle.seeded_run.specs.Rests.{PhaseRun}
-use Rattle.seeded_run.specs.Takes.{HasDeskFor, may_next}
 use Rattle.seeded_run.specs.Told.{is_of_part}
 use Rattle.seeded_run.specs.declared.due_step.DueStep.{DueStep}
 use Rattle.seeded_run.specs.declared.due_step.DueStep.TheVariants.{Begins, GoesOn}
@@ -66,10 +61,6 @@ errand-goes s w a e test = if-goes (is_none a.command) test (errand_kind s w a e
 
 -- Tests.
 
-pub all-pass : (o : Option Kind) → kind_if (λ k. true) o ≡ o
-all-pass None = refl
-all-pass (Some k) = refl
-
 and-true : (b : Bool) → (b && true) ≡ b
 and-true true = refl
 and-true false = refl
@@ -93,48 +84,6 @@ once (Some k) test = refl
 none-pass : (o : Option Kind) → kind_if (λ k. false) o ≡ None
 none-pass None = refl
 none-pass (Some k) = refl
-
--- every block that a step might want is free
-pub all-free : (test : ℕ → Bool) → ((y : ℕ) → test y ≡ true) → (o : Option ℕ) → option_map_or test o true ≡ true
-all-free test free None = refl
-all-free test free (Some y) = free y
-
--- Commands begin.
-
-known-begins : (desk : Option DeskValue) (new : _) (known : Bool) → option_map (step_by true) (first_kind desk (script.Insert new) known) ≡ Some Begins
-known-begins desk new true = refl
-known-begins desk new false = refl
-
-asked-begins : (desk : Option DeskValue) (question : _) (known : Bool) → is_empty_desk desk ≡ true → option_map (step_by true) (first_kind desk (script.Query question) known) ≡ Some Begins
-asked-begins desk question true empty = by (is_empty_desk desk) empty
-  where
-    by : (b : Bool) → b ≡ true → option_map (step_by true) (cond b (Some kind.BeginQuery) None) ≡ Some Begins
-    by true e = refl
-    by false e = cc
-asked-begins desk question false empty = refl
-
-first-begins : (desk : Option DeskValue) (c : Command) (known : Bool) → HasDeskFor desk (Some c) → option_map (step_by true) (first_kind desk c known) ≡ Some Begins
-first-begins desk (script.Insert new) known has = known-begins desk new known
-first-begins desk (script.Query question) known has = asked-begins desk question known has
-first-begins desk (script.Control call) known has = refl
-
--- a next command begins, by whichever kind, where it closes nothing or finds everyone else idle
-next-begins : (h : List Dimension) (alone : Bool) (desk : Option DeskValue) (next : Option Command) → HasDeskFor desk next
-    → option_map (step_by true) (next_kind h alone desk (ahead next)) ≡ cond (may_next next alone) (Some Begins) None
-next-begins h alone desk None has = refl
-next-begins h alone desk (Some c) has = by (closes c) alone
-  where
-    by : (b a : Bool) → option_map (step_by true) (cond (b && not a) None (first_kind desk c (are_known h c))) ≡ cond (not b || a) (Some Begins) None
-    by true true = first-begins desk c (are_known h c) has
-    by true false = refl
-    by false a = first-begins desk c (are_known h c) has
-
-pub free-begins : (h : List Dimension) (servers : ℕ) (w : World) (alone : Bool) (next : Option Command) (r : Role) → ((worker : ℕ) → r ≢ role.Hand worker)
-    → HasDeskFor (desk_of (setting_for [] servers) w r) next → option_map (step_by true) (free_kind (setting_for h servers) w alone (ahead next) r) ≡ cond (may_next next alone) (Some Begins) None
-free-begins h servers w alone next (role.Hand worker) other e = absurd (other worker refl)
-free-begins h servers w alone next (role.Session server) other e = next-begins h alone (desk_of (setting_for h servers) w (role.Session server)) next e
-free-begins h servers w alone next role.Puller other e = next-begins h alone None next e
-free-begins h servers w alone next role.Admin other e = next-begins h alone None next e
 
 -- In order.
 

@@ -12,7 +12,7 @@ use Rattle.measure_agg.specs.Aggregate.{Aggregate}
 use Rattle.row_ledger.specs.declared.settings.Use.{Use}
 use Rattle.shard_store.specs.declared.gate.Phase.TheVariants as phase
 use Rattle.tree_shape.specs.Collecting.{AfterCollecting}
-use Rattle.tree_shape.specs.Counts.{Among}
+use Rattle.list_words.specs.Counts.{Among}
 use Rattle.tree_shape.specs.Laws.{CollectEndLaw}
 use Rattle.tree_shape.specs.Shape.{numbers}
 use Rattle.volap_cell.proofs.Blanks.{spare-owner}

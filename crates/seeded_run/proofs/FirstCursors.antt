@@ -1,5 +1,5 @@
 -- The first commands of sessions in a phase, and a phase that found no memory before its first turn.
-use Rattle.std.proofs.Common.{◌≡◌, ◌≢◌, ◌∙◌, ◌+◌, ◌<◌, ◌⊎◌, inl, inr, ℕ, zero, suc, Bool, true, false, ◌==◌, List, [], ◌∷◌, ◌++◌, length, get_or, Some, refl, sym, ap, subst, arith}
+use Rattle.std.proofs.Common.{◌≡◌, ◌≢◌, ◌∙◌, ◌<◌, ℕ, zero, suc, Bool, true, false, ◌==◌, List, [], ◌∷◌, length, Some, refl, sym, ap, subst, arith}
 use Rattle.std.specs.Prelude.{if◌then◌else◌, slice_get}
 use Rattle.std.proofs.lemmas.Bool.{eq-eqb, eqb-true}
 use Rattle.dim_hierarchy.specs.Dimension.{Dimension}
@@ -50,40 +50,7 @@ stopped-first h with phase x in_order done between =
     (behind-begins-law in_order (about h with x) p done (held h with x) next between refl
     (record { first = λ s i c at low. (first-at with s phase).none i c at low; own = λ s c at. (first-at with s phase).own c at }))
 
--- Cursors, one after the other.
-
-get-more : (xs : List ℕ) (v d i : ℕ) → i < length xs → get_or (xs ++ v ∷ []) i d ≡ get_or xs i d
-get-more [] v d i low = absurd (omega arith)
-get-more (x ∷ xs) v d zero low = refl
-get-more (x ∷ xs) v d (suc i) low = get-more xs v d i (omega arith)
-
-get-last : (xs : List ℕ) (v d : ℕ) → get_or (xs ++ v ∷ []) (length xs) d ≡ v
-get-last [] v d = refl
-get-last (x ∷ xs) v d = get-last xs v d
-
-below-or-at : (i n : ℕ) → i < n + 1 → (i < n) ⊎ (i ≡ n)
-below-or-at i n h = grind arith
-
-length-more : (xs : List ℕ) (v : ℕ) → length (xs ++ v ∷ []) ≡ length xs + 1
-length-more [] v = refl
-length-more (x ∷ xs) v = let more = length-more xs v in omega (arith, more)
-
-pub one-more : (with : Use) (phase : List Command) (session : ℕ) (next : List ℕ) (v : ℕ) → AreFirstCursors with phase session next → IsFirstAt with phase session v
-    → AreFirstCursors with phase (session + 1) (next ++ v ∷ [])
-one-more with phase session next v (count, each) here = (
-  omega (arith, count, length-more next v),
-  λ s low. elim (below-or-at s session low) [
-    | inl before ↦ subst (IsFirstAt with phase s) (sym (get-more next v (length phase) s (omega (arith, before, count)))) (each s before)
-    | inr at ↦
-        let last : get_or (next ++ v ∷ []) s (length phase) ≡ v = ap (λ k. get_or (next ++ v ∷ []) k (length phase)) (at ∙ sym count) ∙ get-last next v (length phase) in
-        subst (IsFirstAt with phase s) (sym last) (subst (λ k. IsFirstAt with phase k v) (sym at) here)
-  ],
-)
-
-pub none-yet : (with : Use) (phase : List Command) → AreFirstCursors with phase 0 []
-none-yet with phase = (refl, λ s low. absurd (omega arith))
-
--- Where a phase begins so.
+-- where a phase begins so
 pub first-moment : (m : Running) (x : State) → m.state ≡ x → IsCoreHeld m.h.now m.with x → MayAllRun m.h.now m.with m.phase.now → ClosesLast m.phase.now
     → AreIdle (held m.h.now m.with x) → m.before.value ≡ x → AreFirstCursors m.with m.phase.now (length x.actors.items) m.next.items
     → m.left ≡ streams_open (length m.phase.now) m.next.items → m.begun ≡ 0 → IsFirstMoment m

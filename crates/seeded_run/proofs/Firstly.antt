@@ -1,7 +1,6 @@
 -- Whose the first command is that isn't over, where the commands go in order; and what moving a cursor on does.
-use Rattle.std.proofs.Common.{◌≡◌, ◌≢◌, ◌∙◌, ◌+◌, ◌<◌, ◌≤◌, ◌⊎◌, inl, inr, ℕ, zero, suc, Bool, true, false, cond, List, [], ◌∷◌, length, get_or, set, Option, Some, None, refl, sym, ap, arith, nat_lt}
-use Rattle.std.specs.Prelude.{count_by, option_map, slice_get}
-use Rattle.std.proofs.lemmas.List.Recursion.{is_count_by}
+use Rattle.std.proofs.Common.{◌≡◌, ◌≢◌, ◌∙◌, ◌+◌, ◌<◌, ◌≤◌, ◌⊎◌, inl, inr, ℕ, zero, suc, true, false, List, [], ◌∷◌, length, get_or, Option, Some, None, refl, sym, ap, arith}
+use Rattle.std.specs.Prelude.{option_map, slice_get}
 use Rattle.script_form.specs.declared.script.Command.{Command}
 use Rattle.script_run.proofs.Whole.{get-some}
 use Rattle.script_run.specs.Places.{session_of}
@@ -91,52 +90,6 @@ all-rest m kept n within alone order here a = elim (same-or-not a n) [
   | inl same ↦ ap (λ x. does_nothing ((world_of m).actors x)) same ∙ sym (rests-so m kept n within) ∙ here
   | inr differs ↦ alone order a differs
 ]
-
--- Cursors.
-
-bits : (ℕ → Bool) → List ℕ → ℕ
-bits test [] = 0
-bits test (x ∷ xs) = cond (test x) (1 + bits test xs) (bits test xs)
-
-bits-count : (test : ℕ → Bool) (xs : List ℕ) → bits test xs ≡ count_by test xs
-unfolding bits
-bits-count test xs = is_count_by (bits test) test refl (λ x ys. refl) xs
-
-bit : Bool → ℕ
-bit true = 1
-bit false = 0
-
-bits-first : (b : Bool) (k : ℕ) → cond b (1 + k) k ≡ bit b + k
-unfolding bit
-bits-first true k = refl
-bits-first false k = omega arith
-
-bits-set : (test : ℕ → Bool) (xs : List ℕ) (i y d : ℕ) → i < length xs → bits test (set xs i y) + bit (test (get_or xs i d)) ≡ bits test xs + bit (test y)
-unfolding bits
-bits-set test [] i y d low = absurd (omega arith)
-bits-set test (x ∷ xs) zero y d low = omega (arith, bits-first (test y) (bits test xs), bits-first (test x) (bits test xs))
-bits-set test (x ∷ xs) (suc i) y d low =
-    let more = bits-set test xs i y d (omega arith) in
-    omega (arith, more, bits-first (test x) (bits test (set xs i y)), bits-first (test x) (bits test xs))
-
-bit-true : (a b : ℕ) → a < b → bit (nat_lt a b) ≡ 1
-unfolding bit
-bit-true a b low = (let e : nat_lt a b ≡ true = grind arith in ap bit e)
-
-bit-false : (a b : ℕ) → b ≤ a → bit (nat_lt a b) ≡ 0
-unfolding bit
-bit-false a b high = (let e : nat_lt a b ≡ false = grind arith in ap bit e)
-
--- as many streams are open when a cursor moves on to another command, and one fewer when it moves past the last one
-pub open-still : (many : ℕ) (xs : List ℕ) (i y d : ℕ) → i < length xs → get_or xs i d < many → y < many → count_by (λ k. nat_lt k many) (set xs i y) ≡ count_by (λ k. nat_lt k many) xs
-open-still many xs i y d within was is =
-    let more = bits-set (λ k. nat_lt k many) xs i y d within in
-    omega (arith, more, bit-true (get_or xs i d) many was, bit-true y many is, bits-count (λ k. nat_lt k many) xs, bits-count (λ k. nat_lt k many) (set xs i y))
-
-pub open-less : (many : ℕ) (xs : List ℕ) (i y d : ℕ) → i < length xs → get_or xs i d < many → many ≤ y → count_by (λ k. nat_lt k many) (set xs i y) + 1 ≡ count_by (λ k. nat_lt k many) xs
-open-less many xs i y d within was is =
-    let more = bits-set (λ k. nat_lt k many) xs i y d within in
-    omega (arith, more, bit-true (get_or xs i d) many was, bit-false y many is, bits-count (λ k. nat_lt k many) xs, bits-count (λ k. nat_lt k many) (set xs i y))
 
 -- Reading the vector of cursors.
 

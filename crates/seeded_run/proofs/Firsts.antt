@@ -18,7 +18,7 @@ use Rattle.script_run.specs.Parts.{place_in}
 use Rattle.script_run.specs.Places.{begins_in, begins_of, count_of, is_over_at, place_behind, places_behind, session_of}
 use Rattle.seeded_run.proofs.Cursors.{is-one}
 use Rattle.seeded_run.specs.Cursors.{HasCursors}
-use Rattle.seeded_run.specs.Rests.{PhaseRun, first_behind, first_open, is_over_behind}
+use Rattle.seeded_run.specs.Rests.{PhaseRun, first_open_behind, first_open, is_over_behind}
 
 -- Where a command begins.
 
@@ -212,7 +212,7 @@ module _ (p : PhaseRun) (history : List Event) where
       let taken : take (length front) p.commands ≡ front = ap (take (length front)) is ∙ take-front front (c ∷ cs) in
       sym (ap (λ o. option_map_or (λ d. is_over_behind p history (take (length front) p.commands) d) o false) at ∙ ap (λ f. is_over_behind p history f c) taken)
 
-  is-firsts : (front cs : List Command) → p.commands ≡ front ++ cs → first_behind p history front cs ≡ firsts (over_in p history) (session_of p.with) (length front) cs
+  is-firsts : (front cs : List Command) → p.commands ≡ front ++ cs → first_open_behind p history front cs ≡ firsts (over_in p history) (session_of p.with) (length front) cs
   unfolding firsts
   is-firsts front [] is = refl
   is-firsts front (c ∷ cs) is =

@@ -7,7 +7,7 @@ use Rattle.core_steps.proofs.Adding.{same-cell}
 use Rattle.core_steps.specs.Ready.{MayStep}
 use Rattle.dim_hierarchy.specs.Dimension.{Dimension}
 use Rattle.row_ledger.specs.declared.settings.Use.{Use}
-use Rattle.tree_shape.specs.Counts.{Each}
+use Rattle.list_words.specs.Counts.{Each}
 use Rattle.volap_cell.specs.Cells.{BlockCell, CellValue, DeskCell, DeskOf, FreeCell, GateCell, ImageCell, ImageOf, LedgerCell, MapCell, OfStock, RegistryCell, StockCell, TheLedger, TheRegistry, has_block, tag_of}
 use Rattle.volap_cell.specs.Numbering.{IsRoleOf, tag_at}
 use Rattle.volap_cell.specs.Setting.{Setting, desk_cell, image_cell, ledger_cell, registry_cell}

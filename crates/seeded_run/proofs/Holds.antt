@@ -6,7 +6,7 @@ use Rattle.dim_hierarchy.specs.Dimension.{Dimension}
 use Rattle.query_router.specs.Desk.{is_open, is_taken, is_waiting}
 use Rattle.query_router.specs.declared.part.Part.{Part}
 use Rattle.row_ledger.specs.declared.settings.Use.{Use}
-use Rattle.tree_shape.specs.Counts.{Each}
+use Rattle.list_words.specs.Counts.{Each}
 use Rattle.volap_cell.proofs.Actors.{row-at}
 use Rattle.volap_cell.proofs.Holding.{has-place, keeps-block, one-keeps}
 use Rattle.volap_cell.proofs.Persons.{has-taken}

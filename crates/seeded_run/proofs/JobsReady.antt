@@ -2,7 +2,7 @@
 use Rattle.std.proofs.Common.{◌≡◌, ◌≢◌, ◌∙◌, ℕ, ◌+◌, ◌^◌, ◌-◌, ◌<◌, ◌≤◌, Bool, true, false, is_some, List, [], ◌∷◌, ◌++◌, length, Option, Some, None, get_or, slice_get, refl, sym, ap, subst, inl, inr, arith, eq-eqb, if◌then◌else◌, ◌⊎◌}
 use Rattle.std.specs.Prelude.{◌==◌, IsSome, option_map, option_and_then}
 use Rattle.std.specs.Option.{option_map_or}
-use Rattle.std.proofs.lemmas.Bool.{and_parts, cases_lt}
+use Rattle.std.proofs.lemmas.Bool.{and_parts, cases_lt, eqb-true}
 use Rattle.std.proofs.lemmas.Option.{slice_get_cases}
 use Rattle.core_admin.proofs.FrozenGates.{IsGateOf, frozen-gate, phase-gate}
 use Rattle.core_admin.specs.FinishDue.{CanPostpone}
@@ -24,8 +24,7 @@ use Rattle.row_ledger.specs.declared.settings.Use.{Use}
 use Rattle.shard_plan.specs.declared.action.Action.{Action}
 use Rattle.shard_store.specs.declared.gate.Phase.TheVariants as phase
 use Rattle.cell_stock.specs.declared.purse.Spare.{Spare}
-use Rattle.tree_shape.specs.Counts.{Among}
-use Rattle.tree_shape.proofs.Walks.{eqb-eq}
+use Rattle.list_words.specs.Counts.{Among}
 use Rattle.tree_shape.specs.Collecting.{IsCollecting}
 use Rattle.tree_shape.specs.Laws.{ReadableLaw}
 use Rattle.tree_shape.specs.Shape.{numbers}
@@ -65,7 +64,7 @@ use Rattle.volap_cell.specs.declared.kind.Kind.TheVariants as kind
 use Rattle.seeded_run.specs.Can.{gate_awaited, is_drained, last_noted}
 use Rattle.seeded_run.specs.Core.{HasCore, IsCore, IsDue}
 use Rattle.seeded_run.specs.Due.{command_kind, is_alone}
-use Rattle.seeded_run.specs.Jobs.{CanGiveUp, CanGiveUpBy, CanLeave, CanLeaveBy, IsAtFirst, IsAtFirstBy, cell_at_stage, cell_of_one, cell_unbuilt, end_of_balance, frozen_gate, gate_found, gate_to_freeze, has_more, job_by, job_of_one, most_of, next_at, next_by, next_of, worker_of_job}
+use Rattle.seeded_run.specs.Jobs.{CanGiveUp, CanGiveUpBy, CanLeave, CanLeaveBy, IsAtFirst, IsAtFirstBy, cell_at_stage, cell_of_one, cell_unbuilt, end_of_balance, frozen_gate, gate_found, gate_to_freeze, has_more, job_by, job_of_one, most_of, next_of_stage, next_by, next_of, worker_of_job}
 use Rattle.seeded_run.specs.Led.{gate_there}
 use Rattle.seeded_run.specs.Look.{cell_at, setting_by, setting_for, world_by}
 use Rattle.seeded_run.specs.Works.{command_by, is_balance, is_balance_work}
@@ -416,7 +415,7 @@ module _ (h : List Dimension) (with : Use) (cells : List (Option Cell)) (actors 
       let gate = frozen-stands s w is.inv.ghost_of is.inv.holds n t.job t.is_job k.0 on in
       let waits : is_drained w (w.actors n).job ≡ (active_in (w.cells (k.0).gate) == 0) =
       ap (is_drained w) t.is_job ∙ ap (λ (st : StageValue). option_map_or (λ y. active_in (w.cells y) == 0) (gate_awaited st) true) k.1 in
-      let drained : active_in (w.cells (k.0).gate) ≡ 0 = eqb-eq _ _ (sym waits ∙ (and_parts _ _ d.meets_it).1) in
+      let drained : active_in (w.cells (k.0).gate) ≡ 0 = eqb-true _ _ (sym waits ∙ (and_parts _ _ d.meets_it).1) in
       subst (λ (z : ℕ). MayStep cells actors (z ∷ []) n (SeesDrained z)) (gate-seen t.job k.0 t.is_job on y seen)
       (steps-with h with cells actors s w is ((k.0).gate ∷ []) n (SeesDrained (k.0).gate) (hold-gate h with cells actors s w is n (k.0).gate gate, tt) (tt, tt) lt
       (record { job = t.job; frozen = k.0; has = record { is_job = t.is_job; stage_is = k.1 }; here = refl; drained = drained }))
@@ -433,7 +432,7 @@ module _ (h : List Dimension) (with : Use) (cells : List (Option Cell)) (actors 
   next-seen : (job : JobValue) (c : CollectingValue) (x : Next) → (w.actors n).job ≡ Some job → job.stage ≡ Collects c → next_of (world_by cells) (job_by actors n) ≡ x → next_by (last_noted c.items) (has_more c.queued (phase_of (w.cells c.frozen.gate))) ≡ x
   next-seen job c x is_job stage_is seen =
       ap (λ (z : CellValue). next_by (last_noted c.items) (has_more c.queued (phase_of z))) (cell-seen cells actors w is.is c.frozen.gate)
-      ∙ sym (ap (next_of (world_by cells)) (job-seen job is_job) ∙ ap (next_at (world_by cells)) stage_is) ∙ seen
+      ∙ sym (ap (next_of (world_by cells)) (job-seen job is_job) ∙ ap (next_of_stage (world_by cells)) stage_is) ∙ seen
 
   pub collect_block-ready : ReadableLaw → (y : ℕ) → next_of (world_by cells) (job_by actors n) ≡ next.Block y → IsDue h with cells actors n kind.Collect → MayStep cells actors (y ∷ []) n (ReadsNoted y)
   collect_block-ready readable y seen due =

@@ -21,7 +21,8 @@ use Rattle.script_run.proofs.InPhase.{phase_other_law}
 use Rattle.script_run.proofs.PlaceFacts.{begins_of-other}
 use Rattle.script_run.specs.Between.{IsInOrder}
 use Rattle.script_run.specs.Places.{begins_of, count_of, session_of, session_of_call}
-use Rattle.script_run.specs.Runs.{ArePulls, HasPulls, pulled_since, Begins, BeginsAt}
+use Rattle.row_ledger.specs.Settled.{pulls_since}
+use Rattle.script_run.specs.Runs.{ArePulls, HasPulls, Begins, BeginsAt}
 use Rattle.script_run.specs.Streams.{IsInPhase}
 use Rattle.volap_cell.specs.Commands.{MayNoteEnd, due_pull, once_shown, pulled_once}
 use Rattle.volap_cell.specs.Ghost.{Ghost}
@@ -38,16 +39,17 @@ use Rattle.volap_cell.specs.declared.command.Command.{Command as OpenCommand}
 use Rattle.volap_cell.specs.declared.command.Work.{Work}
 use Rattle.volap_cell.specs.declared.command.Work.TheVariants as work_is
 use Rattle.seeded_run.proofs.LeftAlone.{IsAtCommand, alone-from, alone-parts, apart, at-command, both-parts, closing-off, does-nothing, page-closing, plain-open, same-or-not, stuck, true-or, within-of}
-use Rattle.seeded_run.proofs.Pulled.{deed-ends, deed-pulls, deed-right, deed-session, end-pulls-none, end-right, end-session, plain-pulled, pull-next, pulled-more, pulled-same, right-if}
+use Rattle.seeded_run.proofs.Pulled.{deed-ends, deed-pulls, deed-right, deed-session, end-pulls-none, end-right, plain-pulled, pull-next, pulled-more, pulled-same, right-if}
 use Rattle.seeded_run.proofs.Told.{others-law, told-law}
 use Rattle.seeded_run.specs.Can.{can, can_step}
 use Rattle.seeded_run.specs.Cursors.{HasCursors}
 use Rattle.seeded_run.specs.Due.{does_nothing, is_alone}
 use Rattle.seeded_run.specs.Kept.{IsTurn, KeepsOtherLaw}
-use Rattle.seeded_run.specs.Rests.{PhaseRun, first_behind, first_open, is_over_behind, rest_of, stream_of}
+use Rattle.seeded_run.specs.Rests.{PhaseRun, first_open_behind, first_open, is_over_behind, rest_of, stream_of}
 use Rattle.seeded_run.specs.Running.{AreAtOwn, AreOthersIdle, HasPulled, IsRunning, RunsBehind, behind, is_closing_work, opened_in}
 use Rattle.seeded_run.specs.Steps.{is_for_part}
 use Rattle.seeded_run.specs.Told.{GoesFurther, OfBeginning, OfDeed, OfEnd, OfNothing, OfPage, OfPull, TellsDeed, TellsEnd, TellsNothing, TellsPage, TellsPull, Told, is_of_part, is_plain}
+use Rattle.volap_cell.proofs.NotedCommands.{end-begins-none}
 
 -- Events that neither begin nor end a command.
 
@@ -84,10 +86,6 @@ over-end e past of end =
     true-or (is_end_of of e || has_ended past of) (option_map_or ends_itself (event_at (e ∷ past) of) false)
     (true-or (is_end_of of e) (has_ended past of) (ap (λ o. option_map_or (λ x. x == of) o false) end ∙ eq-eqb of of refl))
 
-pub rest-none : (p : PhaseRun) (e : Event) (past : List Event) (t : ℕ) → session_in e ≡ None → rest_of p (e ∷ past) t ≡ rest_of p past t
-rest-none p e past t none =
-    ap (λ n. drop (n - length (begins_of p.before t)) (stream_of p.with p.commands t)) (ap length (begins_of-other e past t (begins-none t e none)))
-
 over-or : (o : Option ℕ) (x y : List Event) → ((q : ℕ) → is_over x q ≡ is_over y q) → option_map_or (is_over x) o false ≡ option_map_or (is_over y) o false
 over-or None x y same = refl
 over-or (Some q) x y same = same q
@@ -99,10 +97,10 @@ behind-same p e past front c none ends =
     ap (λ l. option_map_or (is_over (e ∷ past)) (slice_get l k) false) (begins_of-other e past s (begins-none s e none))
     ∙ over-or (slice_get (begins_of past s) k) (e ∷ past) past (λ q. over-same e past q ends (ends-itself-none e none))
 
-first-behind-same : (p : PhaseRun) (e : Event) (past : List Event) (front cs : List Command) → session_in e ≡ None → end_in e ≡ None → first_behind p (e ∷ past) front cs ≡ first_behind p past front cs
+first-behind-same : (p : PhaseRun) (e : Event) (past : List Event) (front cs : List Command) → session_in e ≡ None → end_in e ≡ None → first_open_behind p (e ∷ past) front cs ≡ first_open_behind p past front cs
 first-behind-same p e past front [] none ends = refl
 first-behind-same p e past front (c ∷ cs) none ends =
-    ap (λ b. if b then first_behind p (e ∷ past) (front ++ c ∷ []) cs else Some (session_of p.with c)) (behind-same p e past front c none ends)
+    ap (λ b. if b then first_open_behind p (e ∷ past) (front ++ c ∷ []) cs else Some (session_of p.with c)) (behind-same p e past front c none ends)
     ∙ ap (λ o. if is_over_behind p past front c then o else Some (session_of p.with c)) (first-behind-same p e past (front ++ c ∷ []) cs none ends)
 
 pub first-same : (p : PhaseRun) (e : Event) (past : List Event) → session_in e ≡ None → end_in e ≡ None → first_open p (e ∷ past) ≡ first_open p past
@@ -293,8 +291,8 @@ module _ (in_order : Bool) (s : Setting) (p : PhaseRun) (w now : World) (g g_now
 
   none-with-end : TellsEnd s turn.made n w now → BeginsNone
   none-with-end t = elim t.are_deeds [
-    | inl none ↦ one-event t.end_is (t.history ∙ ap (λ ds. t.end_is ∷ ds ++ history_in w) none) (end-session t.end_is t.of t.ends.0)
-    | inr (deed, is, that) ↦ two-events t.end_is deed (t.history ∙ ap (λ ds. t.end_is ∷ ds ++ history_in w) is) (end-session t.end_is t.of t.ends.0) (deed-session deed that)
+    | inl none ↦ one-event t.end_is (t.history ∙ ap (λ ds. t.end_is ∷ ds ++ history_in w) none) (end-begins-none t.end_is t.of t.ends.0)
+    | inr (deed, is, that) ↦ two-events t.end_is deed (t.history ∙ ap (λ ds. t.end_is ∷ ds ++ history_in w) is) (end-begins-none t.end_is t.of t.ends.0) (deed-session deed that)
   ]
 
   rest-so : BeginsNone → (t : ℕ) → rest_of p (history_in now) t ≡ rest_of p (history_in w) t
@@ -397,26 +395,26 @@ module _ (in_order : Bool) (s : Setting) (p : PhaseRun) (w now : World) (g g_now
 
     -- what is told of the pulls since the actor's own command began, and since those of others did
     pub record OwnPulls : Type 0 where
-      pub pulled : (c : OpenCommand) → (now.actors n).command ≡ Some c → HasPulled s.servers c.work (pulled_since (history_in now) c.of)
-      pub pulled_others : (a : ℕ) (c : OpenCommand) → a ≢ n → (w.actors a).command ≡ Some c → HasPulled s.servers c.work (pulled_since (history_in now) c.of)
+      pub pulled : (c : OpenCommand) → (now.actors n).command ≡ Some c → HasPulled s.servers c.work (pulls_since (history_in now) c.of)
+      pub pulled_others : (a : ℕ) (c : OpenCommand) → a ≢ n → (w.actors a).command ≡ Some c → HasPulled s.servers c.work (pulls_since (history_in now) c.of)
 
     -- no pull was made
     no-pull : (e : Event) (past : List Event) → pull_in e ≡ None → (a : ℕ) (c : OpenCommand) → (w.actors a).command ≡ Some c → length (history_in w) ≤ length past
-        → HasPulled s.servers c.work (pulled_since past c.of) → HasPulled s.servers c.work (pulled_since (e ∷ past) c.of)
+        → HasPulled s.servers c.work (pulls_since past c.of) → HasPulled s.servers c.work (pulls_since (e ∷ past) c.of)
     no-pull e past none a c at long has =
         let low = of-within a c at in
         subst (HasPulled s.servers c.work) (sym (pulled-same e past c.of none (omega (arith, low, long)))) has
 
-    pub one-more : (e : Event) → history_in now ≡ e ∷ history_in w → pull_in e ≡ None → (a : ℕ) (c : OpenCommand) → (w.actors a).command ≡ Some c → HasPulled s.servers c.work (pulled_since (history_in now) c.of)
+    pub one-more : (e : Event) → history_in now ≡ e ∷ history_in w → pull_in e ≡ None → (a : ℕ) (c : OpenCommand) → (w.actors a).command ≡ Some c → HasPulled s.servers c.work (pulls_since (history_in now) c.of)
     one-more e is none a c at =
-        subst (λ x. HasPulled s.servers c.work (pulled_since x c.of)) (sym is) (no-pull e (history_in w) none a c at (omega arith) (b.pulled a c at))
+        subst (λ x. HasPulled s.servers c.work (pulls_since x c.of)) (sym is) (no-pull e (history_in w) none a c at (omega arith) (b.pulled a c at))
 
-    same-pulls : history_in now ≡ history_in w → (a : ℕ) (c : OpenCommand) → (w.actors a).command ≡ Some c → HasPulled s.servers c.work (pulled_since (history_in now) c.of)
-    same-pulls is a c at = subst (λ x. HasPulled s.servers c.work (pulled_since x c.of)) (sym is) (b.pulled a c at)
+    same-pulls : history_in now ≡ history_in w → (a : ℕ) (c : OpenCommand) → (w.actors a).command ≡ Some c → HasPulled s.servers c.work (pulls_since (history_in now) c.of)
+    same-pulls is a c at = subst (λ x. HasPulled s.servers c.work (pulls_since x c.of)) (sym is) (b.pulled a c at)
 
-    pulls-further : (f : GoesFurther (w.actors n).command (now.actors n).command) → ((a : ℕ) (c : OpenCommand) → (w.actors a).command ≡ Some c → HasPulled s.servers c.work (pulled_since (history_in now) c.of)) → OwnPulls
+    pulls-further : (f : GoesFurther (w.actors n).command (now.actors n).command) → ((a : ℕ) (c : OpenCommand) → (w.actors a).command ≡ Some c → HasPulled s.servers c.work (pulls_since (history_in now) c.of)) → OwnPulls
     pulls-further f pulls = record {
-      pulled = λ c at. plain-pulled s.servers c.work (pulled_since (history_in now) c.of) (ap is_plain (doing-is (now.actors n).command c f.of f.work_now at f.is).1 ∙ f.plain_now);
+      pulled = λ c at. plain-pulled s.servers c.work (pulls_since (history_in now) c.of) (ap is_plain (doing-is (now.actors n).command c f.of f.work_now at f.is).1 ∙ f.plain_now);
       pulled_others = λ a c differs at. pulls a c at;
     }
 
@@ -428,8 +426,8 @@ module _ (in_order : Bool) (s : Setting) (p : PhaseRun) (w now : World) (g g_now
 
     pulls-page : TellsPage n w now → OwnPulls
     pulls-page t = record {
-      pulled = λ c at. subst (λ x. HasPulled s.servers x (pulled_since (history_in now) c.of)) (sym (doing-is (now.actors n).command c t.of t.work_now at t.is).1)
-          (shown-pulled s.servers t.work t.work_now (pulled_since (history_in now) c.of) t.once);
+      pulled = λ c at. subst (λ x. HasPulled s.servers x (pulls_since (history_in now) c.of)) (sym (doing-is (now.actors n).command c t.of t.work_now at t.is).1)
+          (shown-pulled s.servers t.work t.work_now (pulls_since (history_in now) c.of) t.once);
       pulled_others = λ a c differs at. one-more (event.Shown t.of t.page) t.history refl a c at;
     }
 
@@ -459,20 +457,20 @@ module _ (in_order : Bool) (s : Setting) (p : PhaseRun) (w now : World) (g g_now
       pulled = λ c at.
           let is = doing-is (now.actors n).command c t.of (pulled_once t.work) at t.is in
           let old : OpenCommand = record { of = t.of; work = t.work } in
-          let more : pulled_since (history_in now) t.of ≡ pulled_since (history_in w) t.of ++ t.server ∷ [] = ap (λ x. pulled_since x t.of) t.history ∙ pulled-more t.server t.listing (history_in w) t.of (of-within n old t.was) in
-          let has : HasPulled s.servers (pulled_once t.work) (pulled_since (history_in now) t.of) = subst (HasPulled s.servers (pulled_once t.work)) (sym more) (pull-next s.servers t.server t.work (pulled_since (history_in w) t.of) t.due (b.pulled n old t.was)) in
-          subst (λ x. HasPulled s.servers x (pulled_since (history_in now) c.of)) (sym is.1) (subst (λ x. HasPulled s.servers (pulled_once t.work) (pulled_since (history_in now) x)) (sym is.0) has);
-      pulled_others = λ a c differs at. let alone = pull-alone t a c differs at in pulled-if s.servers c.work (pulled_since (history_in now) c.of) alone.0 alone.1;
+          let more : pulls_since (history_in now) t.of ≡ pulls_since (history_in w) t.of ++ t.server ∷ [] = ap (λ x. pulls_since x t.of) t.history ∙ pulled-more t.server t.listing (history_in w) t.of (of-within n old t.was) in
+          let has : HasPulled s.servers (pulled_once t.work) (pulls_since (history_in now) t.of) = subst (HasPulled s.servers (pulled_once t.work)) (sym more) (pull-next s.servers t.server t.work (pulls_since (history_in w) t.of) t.due (b.pulled n old t.was)) in
+          subst (λ x. HasPulled s.servers x (pulls_since (history_in now) c.of)) (sym is.1) (subst (λ x. HasPulled s.servers (pulled_once t.work) (pulls_since (history_in now) x)) (sym is.0) has);
+      pulled_others = λ a c differs at. let alone = pull-alone t a c differs at in pulled-if s.servers c.work (pulls_since (history_in now) c.of) alone.0 alone.1;
     }
 
     pulls-end : TellsEnd s turn.made n w now → OwnPulls
     pulls-end t = record {
       pulled = λ c at. none-some (now.actors n).command c t.command at;
-      pulled_others = λ a c differs at. subst (λ x. HasPulled s.servers c.work (pulled_since x c.of)) (sym t.history)
+      pulled_others = λ a c differs at. subst (λ x. HasPulled s.servers c.work (pulls_since x c.of)) (sym t.history)
           (elim t.are_deeds [
-            | inl none ↦ subst (λ ds. HasPulled s.servers c.work (pulled_since (t.end_is ∷ ds ++ history_in w) c.of)) (sym none)
+            | inl none ↦ subst (λ ds. HasPulled s.servers c.work (pulls_since (t.end_is ∷ ds ++ history_in w) c.of)) (sym none)
                 (no-pull t.end_is (history_in w) (end-pulls-none t.end_is t.of t.ends.0) a c at (omega arith) (b.pulled a c at))
-            | inr (deed, is, that) ↦ subst (λ ds. HasPulled s.servers c.work (pulled_since (t.end_is ∷ ds ++ history_in w) c.of)) (sym is)
+            | inr (deed, is, that) ↦ subst (λ ds. HasPulled s.servers c.work (pulls_since (t.end_is ∷ ds ++ history_in w) c.of)) (sym is)
                 (no-pull t.end_is (deed ∷ history_in w) (end-pulls-none t.end_is t.of t.ends.0) a c at (omega arith)
                 (no-pull deed (history_in w) (deed-pulls deed that) a c at (omega arith) (b.pulled a c at)))
           ]);
@@ -565,7 +563,7 @@ module _ (in_order : Bool) (s : Setting) (p : PhaseRun) (w now : World) (g g_now
             inl (over-end t.end_is past q (t.ends.0 ∙ ap Some of_is))
       ]
 
-      right : (past : List Event) → call_at past t.of ≡ call_at (history_in w) t.of → pulled_since past t.of ≡ pulled_since (history_in w) t.of → HasPulls p.with past t.end_is
+      right : (past : List Event) → call_at past t.of ≡ call_at (history_in w) t.of → pulls_since past t.of ≡ pulls_since (history_in w) t.of → HasPulls p.with past t.end_is
       right past calls pulls = right-if p.with past t.end_is (λ of h is.
           let of_is : of ≡ t.of = same-open (end_in t.end_is) of t.of (ap end_in is) t.ends.0 in
           let may : (is_plain t.work ≡ true) ⊎ MayNoteEnd s.servers t.work (w.actors n).job h = elim t.ends.1 [
@@ -573,17 +571,17 @@ module _ (in_order : Bool) (s : Setting) (p : PhaseRun) (w now : World) (g g_now
             | inr (how, as_is, may) ↦ inr (subst (MayNoteEnd s.servers t.work (w.actors n).job) (same-how t.end_is of t.of h how is as_is) may)
           ] in
           let there = end-right s (history_in w) past t.of (w.actors n).job (w.actors n).role h calls pulls t.work (i.telling.progress n (record { of = t.of; work = t.work }) t.was) (b.pulled n (record { of = t.of; work = t.work }) t.was) may in
-          subst (λ x. HasPulls p.with past (event.Ended x h)) (sym of_is) (subst (λ m. IfSome (call_at past t.of) (λ called. ArePulls m (class_of called) h (pulled_since past t.of))) (sym r.phase.servers) there))
+          subst (λ x. HasPulls p.with past (event.Ended x h)) (sym of_is) (subst (λ m. IfSome (call_at past t.of) (λ called. ArePulls m (class_of called) h (pulls_since past t.of))) (sym r.phase.servers) there))
         where
           same-how : (e : Event) (of of_now : ℕ) (h how : How) → e ≡ event.Ended of h → e ≡ event.Ended of_now how → how ≡ h
           same-how e of of_now h how x y = cc
 
       quiet-end : GoesQuietly
       quiet-end = elim t.are_deeds [
-        | inl none ↦ quiet-one t.end_is (t.history ∙ ap (λ ds. t.end_is ∷ ds ++ history_in w) none) (end-session t.end_is t.of t.ends.0) (right (history_in w) refl refl) (ended (history_in w))
+        | inl none ↦ quiet-one t.end_is (t.history ∙ ap (λ ds. t.end_is ∷ ds ++ history_in w) none) (end-begins-none t.end_is t.of t.ends.0) (right (history_in w) refl refl) (ended (history_in w))
         | inr (deed, is, that) ↦
             let low = of-within n (record { of = t.of; work = t.work }) t.was in
-            quiet-two t.end_is deed (t.history ∙ ap (λ ds. t.end_is ∷ ds ++ history_in w) is) (end-session t.end_is t.of t.ends.0) (deed-session deed that) (deed-right p.with (history_in w) deed that)
+            quiet-two t.end_is deed (t.history ∙ ap (λ ds. t.end_is ∷ ds ++ history_in w) is) (end-begins-none t.end_is t.of t.ends.0) (deed-session deed that) (deed-right p.with (history_in w) deed that)
             (right (deed ∷ history_in w) (ap (option_and_then call_in) (event_at-older deed (history_in w) t.of low)) (pulled-same deed (history_in w) t.of (deed-pulls deed that) low))
             (ended (deed ∷ history_in w))
       ]

@@ -1,5 +1,5 @@
 -- The last two spares of a purse, and the cell of the last but one.
-use Rattle.std.proofs.Common.{◌≡◌, ◌∙◌, ◌+◌, ◌<◌, ◌≤◌, false, List, [], ◌∷◌, ◌++◌, length, refl, ap, arith}
+use Rattle.std.proofs.Common.{◌≡◌, ◌∙◌, ◌+◌, ◌≤◌, false, List, [], ◌∷◌, ◌++◌, length, refl, ap, arith}
 use Rattle.std.proofs.lemmas.List.{append_assoc, length-append, reverse-append}
 use Rattle.cell_stock.specs.declared.purse.Spare.{Spare}
 use Rattle.seeded_run.specs.Due.{is_empty}
@@ -20,9 +20,3 @@ last-two xs some =
 -- the last but one is found
 pub second-last : (rest : List Spare) (right left : Spare) → last_but_one (rest ++ right ∷ left ∷ []) ≡ right.cell
 second-last rest right left = ap second_cell (reverse-append rest (right ∷ left ∷ []))
-
--- where there are not two, zero
-pub too-few : (xs : List Spare) → length xs < 2 → last_but_one xs ≡ 0
-too-few [] few = refl
-too-few (x ∷ []) few = refl
-too-few (x ∷ y ∷ xs) few = absurd (omega (arith, few))

@@ -2,7 +2,7 @@
 use Rattle.std.proofs.Common.{◌≡◌, ◌≢◌, ◌∙◌, ℕ, zero, suc, ◌+◌, ◌*◌, ◌<◌, ◌≤◌, inl, inr, Bool, true, false, cond, leb, eqb, List, [], ◌∷◌, length, Option, Some, None, All, Contains, refl, sym, ap, subst, arith, ◌||◌}
 use Rattle.std.specs.Prelude.{sum_by, IsSome}
 use Rattle.std.specs.Option.{option_map_or}
-use Rattle.std.proofs.lemmas.Bool.{false≢true}
+use Rattle.std.proofs.lemmas.Bool.{false≢true, leb-true, leb-false, eqb-true, eqb-false}
 use Rattle.std.proofs.lemmas.List.{length-map}
 use Rattle.std.proofs.lemmas.List.Elements.{All-contains}
 use Rattle.std.proofs.lemmas.List.Sums.{sum_by-cons}
@@ -19,9 +19,9 @@ use Rattle.row_ledger.specs.Shards.{comes_from, ids_made}
 use Rattle.row_ledger.specs.declared.event.Event.{Event}
 use Rattle.row_ledger.specs.declared.event.Event.TheVariants.{Split}
 use Rattle.row_ledger.proofs.Descent.{comes_from-self}
-use Rattle.tree_shape.specs.Counts.{same, times}
-use Rattle.tree_shape.proofs.Queries.{leb-le, leb-gt}
-use Rattle.tree_shape.proofs.Walks.{on_bool, eqb-eq, eqb-ne, same_is, same_not}
+use Rattle.list_words.specs.Counts.{same, times}
+use Rattle.list_words.proofs.Truth.{on_bool}
+use Rattle.list_words.proofs.Times.{same_is, same_not}
 use Rattle.volap_cell.specs.Desking.{AreLinesApart, AreUnrelated, IsQueryPart, IsQueryState}
 use Rattle.volap_cell.specs.Errands.{ReadPart, place_of, row_way, taken_by, taken_of, want_of}
 use Rattle.volap_cell.specs.Falls.{left, far, farthest, count_events, is_split_or_move, of_work, gates_of_work, gates_of_way, gates_of_task, gates_of_errand, gates_of_state, gates_of_part, one_if_any, rows_of_way, rows_of_task, rows_of_errand, rows_of_part, per_gate, per_query, blocks_left, queries_of_work, queries_of_task, queries_of_errand, queries_of_state}
@@ -98,8 +98,8 @@ found : (parts : List Part) (x : ℕ) → 1 ≤ times x (waiting_shards parts) �
 found [] x some = absurd (omega arith)
 found (p ∷ parts) x some = on_bool (is_waiting p)
     (λ t. on_bool (eqb x p.shard)
-    (λ e. (p, (0, omega arith, refl), t, sym (eqb-eq _ _ e)))
-    (λ e. let o = same_not x p.shard (eqb-ne _ _ e) in
+    (λ e. (p, (0, omega arith, refl), t, sym (eqb-true _ _ e)))
+    (λ e. let o = same_not x p.shard (eqb-false _ _ e) in
     let more : 1 ≤ same x p.shard + times x (waiting_shards parts) = rw t at some in
     let (q, has, waits, is) = found parts x (omega arith) in (q, later p parts q has, waits, is)))
     (λ t. let more : 1 ≤ times x (waiting_shards parts) = rw t at some in
@@ -113,11 +113,11 @@ once h (p ∷ parts) apart x =
     on_bool (is_waiting p)
     (λ t. rw t (on_bool (eqb x p.shard)
     (λ e. on_bool (leb 1 (times x (waiting_shards parts)))
-    (λ k. let (q, has, waits, is) = found parts x (leb-le _ _ k) in
+    (λ k. let (q, has, waits, is) = found parts x (leb-true _ _ k) in
     let unrelated = All-contains (AreUnrelated h p) parts q apart.0 has in
-    absurd (false≢true (sym unrelated.0 ∙ ap (comes_from h p.shard) (is ∙ eqb-eq _ _ e) ∙ comes_from-self h p.shard)))
-    (λ k. let none = leb-gt _ _ k in let o = same_is x p.shard (eqb-eq _ _ e) in omega arith))
-    (λ e. let o = same_not x p.shard (eqb-ne _ _ e) in omega arith)))
+    absurd (false≢true (sym unrelated.0 ∙ ap (comes_from h p.shard) (is ∙ eqb-true _ _ e) ∙ comes_from-self h p.shard)))
+    (λ k. let none = leb-false _ _ k in let o = same_is x p.shard (eqb-true _ _ e) in omega arith))
+    (λ e. let o = same_not x p.shard (eqb-false _ _ e) in omega arith)))
     (λ t. rw t rest)
 
 -- where all others count nothing, they make as much as they are

@@ -6,7 +6,6 @@ use Rattle.row_ledger.specs.declared.settings.Use.{Use}
 use Rattle.script_form.specs.declared.script.Command.{Command}
 use Rattle.volap_cell.proofs.States.{same-actor}
 use Rattle.volap_cell.specs.Setting.{Setting}
-use Rattle.volap_cell.specs.State.{Has}
 use Rattle.volap_cell.specs.Values.{ActorValue, actor_of}
 use Rattle.volap_cell.specs.World.{World}
 use Rattle.volap_cell.specs.declared.actor.Actor.{Actor}
@@ -17,15 +16,7 @@ use Rattle.seeded_run.specs.Look.{IsTold, ahead, alone_by, cell_at, setting_by, 
 use Rattle.seeded_run.proofs.Others.{alone-seen}
 use Rattle.seeded_run.proofs.Seen.{cell-seen, kind-seen}
 
-no-gap : (o : Option Actor) (v : ActorValue) → Has o (λ x. actor_of x ≡ v) → o ≡ None → ⊥
-no-gap None v has none = has
-no-gap (Some a) v has none = cc
-
 module _ (h : List Dimension) (with : Use) (cells : List (Option Cell)) (actors : List (Option Actor)) (s : Setting) (w : World) (n : ℕ) (core : IsCore h with cells actors s w) (low : n < length actors) where
-  -- an actor stands at each place
-  pub someone : get_or actors n None ≡ None → ⊥
-  someone none = no-gap (get_or actors n None) (w.actors n) (core.is.actor n low) none
-
   pub due-seen : (rest : ℕ → List Command) (next : Option Command) (left : ℕ) (a : Actor) → IsTold s rest n next left → get_or actors n None ≡ Some a
       → due_by s w rest n ≡ actor_kind (setting_by h with) (world_by cells) (alone_by actors n next left) (ahead next) (actor_of a) (actor_of a).errand
   due-seen rest next left a told at =

@@ -1,12 +1,12 @@
 -- With each step of a phase fewer are left.
 use Rattle.std.proofs.Common.{◌≡◌, ◌∙◌, ℕ, ◌+◌, ◌<◌, ◌≤◌, Bool, true, List, [], ◌∷◌, ◌++◌, length, Option, Some, None, refl, sym, ap, subst, arith, length-append}
 use Rattle.std.specs.Prelude.{is_some, if◌then◌else◌}
-use Rattle.std.proofs.lemmas.Bool.{false≢true}
+use Rattle.std.proofs.lemmas.Bool.{false≢true, ne_eqb}
 use Rattle.row_ledger.specs.Past.{is_beginning, session_in}
 use Rattle.row_ledger.specs.declared.event.Event.{Event}
 use Rattle.script_run.specs.Places.{begins_in, begins_of}
 use Rattle.script_run.proofs.PlaceFacts.{begins_of-here, begins_of-other}
-use Rattle.tree_shape.proofs.Walks.{on_bool, eqb-no}
+use Rattle.list_words.proofs.Truth.{on_bool}
 use Rattle.volap_cell.specs.Falls.{left}
 use Rattle.volap_cell.specs.Ghost.{Ghost}
 use Rattle.volap_cell.specs.Setting.{Setting, actor_count}
@@ -56,7 +56,7 @@ waits-less s p e history history_now turn is grown =
 -- as many actors are counted at desks, where one is as it was
 counted-same : (s : Setting) (k : Kind) (n : ℕ) (w now : World) (g g2 : Ghost) → Step s k n w now → (now.actors n).counted ≡ (w.actors n).counted → (left s now g2).counted ≡ (left s w g).counted
 counted-same s k n w now g g2 step same = sum-kept (actor_count s) (λ a. if (w.actors a).counted then 1 else 0) (λ a. if (now.actors a).counted then 1 else 0) n
-    (λ a ne. ap (λ (b : Bool). if b then 1 else 0) (ap (λ (z : World). (z.actors a).counted) step.now_is ∙ rw (eqb-no a n ne) refl))
+    (λ a ne. ap (λ (b : Bool). if b then 1 else 0) (ap (λ (z : World). (z.actors a).counted) step.now_is ∙ rw (ne_eqb a n ne) refl))
     (ap (λ (b : Bool). if b then 1 else 0) same)
 
 pub steps-left-law : StepsLeftLaw

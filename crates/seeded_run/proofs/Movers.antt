@@ -8,7 +8,7 @@ use Rattle.dc_node.specs.declared.entry.Entry.{Entry}
 use Rattle.tree_shape.proofs.Deepest.{some-law}
 use Rattle.tree_shape.proofs.Totals.{leads-down}
 use Rattle.tree_shape.specs.Carrying.{AreCarriers, Carriers, IsIdleIf, WantsChild}
-use Rattle.tree_shape.specs.Counts.{Among}
+use Rattle.list_words.specs.Counts.{Among}
 use Rattle.tree_shape.specs.Steps.{IsIdle}
 use Rattle.tree_shape.specs.Trees.{IsTree}
 use Rattle.script_form.specs.declared.script.Command.{Command}

@@ -10,7 +10,7 @@ use Rattle.dim_hierarchy.specs.Dimension.{Dimension}
 use Rattle.link_descent.specs.declared.entered.Fresh.{Fresh}
 use Rattle.row_ledger.specs.declared.settings.Use.{Use}
 use Rattle.shard_plan.specs.Building.{cells_for}
-use Rattle.tree_shape.specs.Counts.{Among}
+use Rattle.list_words.specs.Counts.{Among}
 use Rattle.tree_shape.specs.Laws.{CollectEndLaw}
 use Rattle.volap_cell.specs.AdminKinds.{HasFrozen, cells_needed, spent_by, spent_in}
 use Rattle.volap_cell.specs.Cells.{MapOf}
@@ -24,7 +24,8 @@ use Rattle.volap_cell.specs.declared.kind.Kind.TheVariants as kind
 use Rattle.seeded_run.specs.Core.{HasCore, IsCore, IsDue}
 use Rattle.seeded_run.specs.Due.{is_empty}
 use Rattle.seeded_run.specs.Jobs.{frozen_gate, gate_found, job_by, most_of, worker_of_job}
-use Rattle.seeded_run.specs.Moves.{cell_of_spare, goes_to, last_spare, purse_by, purse_of_one, worker_to}
+use Rattle.seeded_run.specs.Moves.{cell_of_spare, goes_to, last_spare, worker_to}
+use Rattle.seeded_run.specs.Rows.{purse_by, purse_of_one}
 use Rattle.seeded_run.specs.Works.{command_by}
 use Rattle.seeded_run.proofs.DueJobs.{IsAtStage, at-stage, last-at, stage-case}
 use Rattle.seeded_run.proofs.DueReads.{ends-in}

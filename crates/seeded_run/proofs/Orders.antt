@@ -18,7 +18,7 @@ use Rattle.volap_cell.specs.View.{view}
 use Rattle.volap_cell.specs.World.{World}
 use Rattle.volap_cell.specs.declared.kind.Kind.{Kind}
 use Rattle.seeded_run.proofs.Dues.{at-part-law}
-use Rattle.seeded_run.proofs.Ends.{nobody}
+use Rattle.seeded_run.proofs.Ends.{no-actor}
 use Rattle.seeded_run.proofs.Movers.{all-from, clash, free-or-none, meets-both, no-job, undrained}
 use Rattle.seeded_run.proofs.Progress.{due-or-blocked, led-known}
 use Rattle.seeded_run.specs.Can.{can, can_in_order, is_block_free, is_carried_at, is_drained, meets, wanted}
@@ -104,5 +104,5 @@ order-end-law s p w g i run order none = by (first_open p (history_in w)) refl
     by : (o : Option ℕ) → first_open p (history_in w) ≡ o → first_open p (history_in w) ≡ None
     by None is = is
     by (Some n) is =
-        nobody (able (can_in_order s p w) (actor_count s)) (length (able (can_in_order s p w) n)) n none
+        no-actor (able (can_in_order s p w) (actor_count s)) (length (able (can_in_order s p w) n)) n none
         (able_place (can_in_order s p w) (actor_count s) n (order.here n is).0 (first-can s p w g i run order n is))

@@ -82,10 +82,6 @@ all-fails (suc n) test a low is = elim (here a n low) [
 abbrev fails : (ℕ → Bool) → ℕ → ℕ
 fails g a = if g a then 0 else 1
 
-one-or-none : (b : Bool) → (if b then 0 else 1) ≤ 1
-one-or-none true = omega arith
-one-or-none false = omega arith
-
 fails-some : (n : ℕ) (g : ℕ → Bool) (a : ℕ) → a < n → g a ≡ false → 0 < sum_below n (fails g)
 fails-some zero g a low is = absurd (omega arith)
 fails-some (suc n) g a low is = elim (here a n low) [

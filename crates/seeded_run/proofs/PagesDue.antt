@@ -1,7 +1,7 @@
 -- Where a page is due for an open command, the actor is at no part, everyone else is idle, and the newest event is the command's beginning.
 use Rattle.std.proofs.Common.{ℕ, ◌≡◌, ◌≢◌, ◌+◌, ◌==◌, ◌&&◌, ◌||◌, Bool, true, false, eqb, length, Option, Some, None, inl, inr, refl, sym, ap, ◌∙◌, if◌then◌else◌}
-use Rattle.std.proofs.lemmas.Bool.{and_parts, cases_lt, ne_eqb}
-use Rattle.tree_shape.proofs.Walks.{on_bool, eqb-eq, eqb-ne}
+use Rattle.std.proofs.lemmas.Bool.{and_parts, cases_lt, ne_eqb, eqb-true, eqb-false}
+use Rattle.list_words.proofs.Truth.{on_bool}
 use Rattle.volap_cell.specs.Errands.{taken_of}
 use Rattle.volap_cell.specs.Ghost.{Ghost}
 use Rattle.volap_cell.specs.ImageKinds.{doing}
@@ -51,7 +51,7 @@ module _ (s : Setting) (w : World) (ghost : Ghost) (i : InvWith s (view s w) gho
       both-so alone (length (history_in w) == of + 1) due
 
   pub next : length (history_in w) ≡ of + 1
-  next = eqb-eq _ _ two.1
+  next = eqb-true _ _ two.1
 
   pub idle : (a : ℕ) → a ≢ n → IsIdle (w.actors a)
   idle a ne = elim (cases_lt a (actor_count s)) [
@@ -65,5 +65,5 @@ module _ (s : Setting) (w : World) (ghost : Ghost) (i : InvWith s (view s w) gho
 
   pub quiet : (a : ℕ) → (w.actors a).errand ≡ None
   quiet a = on_bool (eqb a n)
-      (λ q. ap (λ (b : ℕ). (w.actors b).errand) (eqb-eq _ _ q) ∙ by-its.errand)
-      (λ q. (idle a (eqb-ne _ _ q)).errand)
+      (λ q. ap (λ (b : ℕ). (w.actors b).errand) (eqb-true _ _ q) ∙ by-its.errand)
+      (λ q. (idle a (eqb-false _ _ q)).errand)

@@ -9,6 +9,7 @@ use Rattle.core_steps.specs.Ready.{MayStep}
 use Rattle.core_steps.specs.declared.held.HeldIf.{HeldIf}
 use Rattle.dim_hierarchy.specs.Dimension.{Dimension}
 use Rattle.row_ledger.specs.declared.settings.Use.{Use}
+use Rattle.std.proofs.lemmas.List.{get_or_past}
 use Rattle.std.proofs.lemmas.Bool.{cases_lt}
 use Rattle.volap_cell.proofs.Numbers.{tag-desk, tag-map, tag-stock}
 use Rattle.volap_cell.proofs.States.{same-actor, stands, within}
@@ -30,7 +31,6 @@ use Rattle.seeded_run.specs.Core.{HasCore, IsCore, IsDue}
 use Rattle.seeded_run.specs.Due.{is_alone, is_empty, led_to}
 use Rattle.seeded_run.proofs.DueParts.{IsAtOwnPart, IsAtRest, IsReading, IsRowAt, at-part, at-part-or, gives-back, part-case}
 use Rattle.seeded_run.proofs.Fallbacks.{ends-by}
-use Rattle.seeded_run.proofs.Worlds.{past-end}
 use Rattle.seeded_run.proofs.Holds.{CanHold, at-part-there, gate-tag, hold-fixed, hold-gate, hold-own, left-gate, part-places, pinned-gate, steps-with}
 
 pub map-fixed : (c : CellValue) (worker : ℕ) → tag_of c ≡ MapOf worker → tag_of c ≢ OfStock
@@ -96,7 +96,7 @@ module _ (h : List Dimension) (with : Use) (cells : List (Option Cell)) (actors 
     | inl lt ↦
         let k = stands (get_or actors n None) (λ x. actor_of x ≡ w.actors n) (is.is.actor n lt) in
         ap errand_of_one k.1 ∙ ap (λ (a : ActorValue). a.errand) k.2
-    | inr ge ↦ ap errand_of_one (past-end actors n ge) ∙ sym (is.is.no_actor n ge).errand
+    | inr ge ↦ ap errand_of_one (get_or_past actors n None ge) ∙ sym (is.is.no_actor n ge).errand
   ]
 
   pub errand-seen : (e : ErrandValue) → (w.actors n).errand ≡ Some e → errand_by actors n ≡ Some e

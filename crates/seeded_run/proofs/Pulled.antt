@@ -15,7 +15,8 @@ use Rattle.row_ledger.specs.declared.class.Class.TheVariants as class_is
 use Rattle.row_ledger.specs.declared.settings.How.{How}
 use Rattle.row_ledger.specs.declared.settings.How.TheVariants as how
 use Rattle.row_ledger.specs.declared.settings.Use.{Use}
-use Rattle.script_run.specs.Runs.{ArePulls, HasPulls, each_twice, pulled_since}
+use Rattle.row_ledger.specs.Settled.{pulls_since, settle_pulls}
+use Rattle.script_run.specs.Runs.{ArePulls, HasPulls}
 use Rattle.volap_cell.specs.Commands.{MayNoteEnd, due_pull, pulled_once, settles_next}
 use Rattle.volap_cell.specs.Setting.{Setting}
 use Rattle.volap_cell.specs.Telling.{IsCalledAs, IsProgress}
@@ -92,22 +93,6 @@ deed-right with past (event.Called session call) d = tt
 deed-right with past (event.Shown of page) d = tt
 deed-right with past (event.Ended of how) d = cc
 
-pub end-session : (e : Event) (of : ℕ) → end_in e ≡ Some of → session_in e ≡ None
-end-session (event.Acked of path) o d = refl
-end-session (event.Answered of agg) o d = refl
-end-session (event.Failed of) o d = refl
-end-session (event.Ended of how) o d = refl
-end-session (event.Split of shard left right) o d = cc
-end-session (event.Moved of shard worker) o d = cc
-end-session (event.Left of shard how) o d = cc
-end-session (event.Synced server listing) o d = cc
-end-session (event.Begun session server row) o d = cc
-end-session (event.Asked session server filter) o d = cc
-end-session (event.Unknown session server dim) o d = cc
-end-session (event.Refused session) o d = cc
-end-session (event.Called session call) o d = cc
-end-session (event.Shown of page) o d = cc
-
 pub end-pulls-none : (e : Event) (of : ℕ) → end_in e ≡ Some of → pull_in e ≡ None
 end-pulls-none (event.Acked of path) o d = refl
 end-pulls-none (event.Answered of agg) o d = refl
@@ -142,17 +127,17 @@ begin-pulls-none (event.Shown of page) n d = cc
 
 -- Pulls since a position.
 
-pub pulled-same : (e : Event) (past : List Event) (p : ℕ) → pull_in e ≡ None → p < length past → pulled_since (e ∷ past) p ≡ pulled_since past p
+pub pulled-same : (e : Event) (past : List Event) (p : ℕ) → pull_in e ≡ None → p < length past → pulls_since (e ∷ past) p ≡ pulls_since past p
 pulled-same e past p none low =
     ap (λ es. reverse (map (λ (pull : Pull). pull.server) (filter_map pull_in es))) (since-inside e past p low)
     ∙ rw none refl
 
-pub pulled-more : (server : ℕ) (listing : _) (past : List Event) (p : ℕ) → p < length past → pulled_since (event.Synced server listing ∷ past) p ≡ pulled_since past p ++ server ∷ []
+pub pulled-more : (server : ℕ) (listing : _) (past : List Event) (p : ℕ) → p < length past → pulls_since (event.Synced server listing ∷ past) p ≡ pulls_since past p ++ server ∷ []
 pulled-more server listing past p low =
     ap (λ es. reverse (map (λ (pull : Pull). pull.server) (filter_map pull_in es))) (since-inside (event.Synced server listing) past p low)
     ∙ reverse-cons server (map (λ (pull : Pull). pull.server) (filter_map pull_in (since past p)))
 
-pub pulled-none : (e : Event) (past : List Event) → pulled_since (e ∷ past) (length past) ≡ []
+pub pulled-none : (e : Event) (past : List Event) → pulls_since (e ∷ past) (length past) ≡ []
 pulled-none e past = ap (λ es. reverse (map (λ (pull : Pull). pull.server) (filter_map pull_in es))) (since-outside e past (length past) (omega arith))
 
 -- All servers.
@@ -164,7 +149,7 @@ each_server n = range_with_len 0 n
 servers-length : (n : ℕ) → length (each_server n) ≡ n
 servers-length n = length-range_with_len 0 n
 
-pub twice-length : (n : ℕ) → length (each_twice n) ≡ n + n
+pub twice-length : (n : ℕ) → length (settle_pulls n) ≡ n + n
 twice-length n = omega (arith, servers-length n, length-append (each_server n) (each_server n))
 
 take-next : (xs ys : List ℕ) (x : ℕ) (k : ℕ) → k ≡ length xs → take (suc k) (xs ++ x ∷ ys) ≡ take k (xs ++ x ∷ ys) ++ x ∷ []
@@ -195,22 +180,22 @@ not-less-of a b h = grind arith
 some-same : (a b : ℕ) → Some a ≡ Some b → a ≡ b
 some-same a b e = cc
 
-pub settle-next : (servers pulls server : ℕ) → settles_next servers pulls ≡ Some server → take (pulls + 1) (each_twice servers) ≡ take pulls (each_twice servers) ++ server ∷ []
+pub settle-next : (servers pulls server : ℕ) → settles_next servers pulls ≡ Some server → take (pulls + 1) (settle_pulls servers) ≡ take pulls (settle_pulls servers) ++ server ∷ []
 settle-next servers pulls server is = by (nat_lt pulls servers) refl is
   where
     one : pulls + 1 ≡ suc pulls
     one = omega arith
 
-    second : (d : ℕ) → d < servers → pulls ≡ servers + d → take (pulls + 1) (each_twice servers) ≡ take pulls (each_twice servers) ++ d ∷ []
+    second : (d : ℕ) → d < servers → pulls ≡ servers + d → take (pulls + 1) (settle_pulls servers) ≡ take pulls (settle_pulls servers) ++ d ∷ []
     second d low at =
         let split = server-split servers d low in
-        let all : each_twice servers ≡ (each_server servers ++ each_server d) ++ d ∷ split.0 = ap (λ l. each_server servers ++ l) split.1 ∙ sym (append_assoc (each_server servers) (each_server d) (d ∷ split.0)) in
-        ap (λ m. take m (each_twice servers)) one ∙ ap (take (suc pulls)) all
+        let all : settle_pulls servers ≡ (each_server servers ++ each_server d) ++ d ∷ split.0 = ap (λ l. each_server servers ++ l) split.1 ∙ sym (append_assoc (each_server servers) (each_server d) (d ∷ split.0)) in
+        ap (λ m. take m (settle_pulls servers)) one ∙ ap (take (suc pulls)) all
         ∙ take-next (each_server servers ++ each_server d) split.0 d pulls (omega (arith, at, servers-length servers, servers-length d, length-append (each_server servers) (each_server d)))
         ∙ ap (λ l. take pulls l ++ d ∷ []) (sym all)
 
     by-second : (b : Bool) → nat_lt pulls servers ≡ false → nat_lt pulls (servers + servers) ≡ b → (if b then Some (pulls - servers) else None) ≡ Some server
-        → take (pulls + 1) (each_twice servers) ≡ take pulls (each_twice servers) ++ server ∷ []
+        → take (pulls + 1) (settle_pulls servers) ≡ take pulls (settle_pulls servers) ++ server ∷ []
     by-second false past end e = cc
     by-second true past low e =
         let d : pulls - servers ≡ server = some-same (pulls - servers) server e in
@@ -219,15 +204,15 @@ settle-next servers pulls server is = by (nat_lt pulls servers) refl is
         second server (omega (arith, d, high, below)) (omega (arith, d, high, below))
 
     by : (b : Bool) → nat_lt pulls servers ≡ b → (if b then Some pulls else if nat_lt pulls (servers + servers) then Some (pulls - servers) else None) ≡ Some server
-        → take (pulls + 1) (each_twice servers) ≡ take pulls (each_twice servers) ++ server ∷ []
+        → take (pulls + 1) (settle_pulls servers) ≡ take pulls (settle_pulls servers) ++ server ∷ []
     by true low e =
         let at : pulls ≡ server = some-same pulls server e in
         let split = server-split servers pulls (less-of pulls servers low) in
-        let all : each_twice servers ≡ each_server pulls ++ pulls ∷ (split.0 ++ each_server servers) = ap (λ l. l ++ each_server servers) split.1 ∙ append_assoc (each_server pulls) (pulls ∷ split.0) (each_server servers) in
-        ap (λ m. take m (each_twice servers)) one ∙ ap (take (suc pulls)) all
+        let all : settle_pulls servers ≡ each_server pulls ++ pulls ∷ (split.0 ++ each_server servers) = ap (λ l. l ++ each_server servers) split.1 ∙ append_assoc (each_server pulls) (pulls ∷ split.0) (each_server servers) in
+        ap (λ m. take m (settle_pulls servers)) one ∙ ap (take (suc pulls)) all
         ∙ take-next (each_server pulls) (split.0 ++ each_server servers) pulls pulls (sym (servers-length pulls))
         ∙ ap (λ l. take pulls l ++ pulls ∷ []) (sym all)
-        ∙ ap (λ x. take pulls (each_twice servers) ++ x ∷ []) at
+        ∙ ap (λ x. take pulls (settle_pulls servers) ++ x ∷ []) at
     by false past e = by-second (nat_lt pulls (servers + servers)) past refl e
 
 -- A pull that is due, and the work after it.
@@ -319,30 +304,30 @@ sync-ends servers server did job how.Postponed pulled has may = tt
 settle-ends : (servers pulls : ℕ) (job : Option JobValue) (h : How) (pulled : List ℕ) → HasPulled servers (work_is.Settle pulls) pulled → MayNoteEnd servers (work_is.Settle pulls) job h
     → ArePulls servers class_is.Settle h pulled
 settle-ends servers pulls job how.Fine pulled has may =
-    has ∙ ap (λ n. take n (each_twice servers)) (may ∙ sym (twice-length servers)) ∙ take-length (each_twice servers)
+    has ∙ ap (λ n. take n (settle_pulls servers)) (may ∙ sym (twice-length servers)) ∙ take-length (settle_pulls servers)
 settle-ends servers pulls job how.NoMemory pulled has may = (pulls, omega (arith, may, twice-length servers), has)
 settle-ends servers pulls job (how.Balanced done planned) pulled has may = tt
 settle-ends servers pulls job (how.Declined why) pulled has may = tt
 settle-ends servers pulls job how.Postponed pulled has may = tt
 
 -- the pulls of a command that ends
-module _ (s : Setting) (h past : List Event) (of : ℕ) (job : Option JobValue) (role : Role) (ends_as : How) (calls : call_at past of ≡ call_at h of) (pulls_are : pulled_since past of ≡ pulled_since h of) where
-  if-none : call_at h of ≡ None → IfSome (call_at past of) (λ called. ArePulls s.servers (class_of called) ends_as (pulled_since past of))
-  if-none is = subst (λ o. IfSome o (λ called. ArePulls s.servers (class_of called) ends_as (pulled_since past of))) (sym (calls ∙ is)) tt
+module _ (s : Setting) (h past : List Event) (of : ℕ) (job : Option JobValue) (role : Role) (ends_as : How) (calls : call_at past of ≡ call_at h of) (pulls_are : pulls_since past of ≡ pulls_since h of) where
+  if-none : call_at h of ≡ None → IfSome (call_at past of) (λ called. ArePulls s.servers (class_of called) ends_as (pulls_since past of))
+  if-none is = subst (λ o. IfSome o (λ called. ArePulls s.servers (class_of called) ends_as (pulls_since past of))) (sym (calls ∙ is)) tt
 
-  if-some : (class : Class) → IsCalledAs h of class → ArePulls s.servers class ends_as (pulled_since h of) → IfSome (call_at past of) (λ called. ArePulls s.servers (class_of called) ends_as (pulled_since past of))
-  if-some class is right = subst (λ o. IfSome o (λ called. ArePulls s.servers (class_of called) ends_as (pulled_since past of))) (sym (calls ∙ is.1))
-      (subst (λ c. ArePulls s.servers c ends_as (pulled_since past of)) (sym is.2) (subst (ArePulls s.servers class ends_as) (sym pulls_are) right))
+  if-some : (class : Class) → IsCalledAs h of class → ArePulls s.servers class ends_as (pulls_since h of) → IfSome (call_at past of) (λ called. ArePulls s.servers (class_of called) ends_as (pulls_since past of))
+  if-some class is right = subst (λ o. IfSome o (λ called. ArePulls s.servers (class_of called) ends_as (pulls_since past of))) (sym (calls ∙ is.1))
+      (subst (λ c. ArePulls s.servers c ends_as (pulls_since past of)) (sym is.2) (subst (ArePulls s.servers class ends_as) (sym pulls_are) right))
 
-  pub end-right : (work : Work) → IsProgress s h of work job role → HasPulled s.servers work (pulled_since h of) → (is_plain work ≡ true) ⊎ MayNoteEnd s.servers work job ends_as
-      → IfSome (call_at past of) (λ called. ArePulls s.servers (class_of called) ends_as (pulled_since past of))
+  pub end-right : (work : Work) → IsProgress s h of work job role → HasPulled s.servers work (pulls_since h of) → (is_plain work ≡ true) ⊎ MayNoteEnd s.servers work job ends_as
+      → IfSome (call_at past of) (λ called. ArePulls s.servers (class_of called) ends_as (pulls_since past of))
   end-right (work_is.Insert row routed) p has may = if-none (insert-no-call (event_at h of) _ p.2)
   end-right work_is.Query p has may = if-none (query-no-call (event_at h of) _ p.2)
   end-right (work_is.Sync server pulled) p has (inl plain) = cc
-  end-right (work_is.Sync server pulled) p has (inr may) = if-some (class_is.Sync server) p.0 (sync-ends s.servers server pulled job ends_as (pulled_since h of) has may)
+  end-right (work_is.Sync server pulled) p has (inr may) = if-some (class_is.Sync server) p.0 (sync-ends s.servers server pulled job ends_as (pulls_since h of) has may)
   end-right work_is.Bare p has may = if-some class_is.Bare p tt
   end-right (work_is.Settle pulls) p has (inl plain) = cc
-  end-right (work_is.Settle pulls) p has (inr may) = if-some class_is.Settle p.0 (settle-ends s.servers pulls job ends_as (pulled_since h of) has may)
+  end-right (work_is.Settle pulls) p has (inr may) = if-some class_is.Settle p.0 (settle-ends s.servers pulls job ends_as (pulls_since h of) has may)
   end-right (work_is.Page subject there shown) p has may = if-some (class_is.Page subject) p.0 tt
   end-right (work_is.Action act) p has may = if-some (class_is.Action act) p.0 tt
   end-right (work_is.Balance b) p has may = if-some (class_is.Balance b.most) p.0 tt

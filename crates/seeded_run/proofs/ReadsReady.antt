@@ -10,7 +10,7 @@ use Rattle.dc_node.specs.declared.todo.Item.{Item}
 use Rattle.dim_hierarchy.specs.Dimension.{Dimension}
 use Rattle.mapping_table.specs.declared.place.Where.TheVariants as where_is
 use Rattle.row_ledger.specs.declared.settings.Use.{Use}
-use Rattle.tree_shape.proofs.Parts.{each-right}
+use Rattle.list_words.proofs.Each.{each-right}
 use Rattle.tree_shape.proofs.Totals.{links-on}
 use Rattle.tree_shape.specs.Queries.{fits}
 use Rattle.volap_cell.proofs.Numbers.{tag-map}

@@ -3,7 +3,7 @@ use Rattle.std.proofs.Common.{◌≡◌, ◌≢◌, ◌∙◌, ℕ, ◌<◌, ◌
 use Rattle.std.specs.Prelude.{option_and_then, option_map}
 use Rattle.std.specs.Option.{option_map_or}
 use mathlib.Core.Path.{fun_ext}
-use Rattle.std.proofs.lemmas.Bool.{and_parts}
+use Rattle.std.proofs.lemmas.Bool.{and_parts, eqb-false}
 use Rattle.std.proofs.lemmas.List.{length-map}
 use Rattle.std.proofs.lemmas.Option.{slice_get_cases}
 use Rattle.cell_stock.specs.declared.purse.Spare.{Spare}
@@ -26,13 +26,11 @@ use Rattle.row_ledger.specs.declared.settings.Use.{Use}
 use Rattle.shard_store.specs.Gate.{root_entry}
 use Rattle.shard_store.specs.declared.gate.Gate.{Gate}
 use Rattle.shard_store.specs.declared.gate.Phase.TheVariants.{Open, Gone}
-use Rattle.tree_shape.specs.Counts.{Each}
+use Rattle.list_words.specs.Counts.{Each}
+use Rattle.list_words.proofs.Each.{each-map, each-append}
 use Rattle.tree_shape.specs.Shape.{Shape, Table, TreeCells, nodes}
 use Rattle.tree_shape.specs.Trees.{IsBehind, IsBelow, IsTree}
-use Rattle.tree_shape.proofs.Divisions.{each-map}
-use Rattle.tree_shape.proofs.Parts.{each-append}
 use Rattle.tree_shape.proofs.Totals.{block-fits, entry-leads, leads-down, leads-root, root-leads}
-use Rattle.tree_shape.proofs.Walks.{eqb-ne}
 use Rattle.volap_cell.proofs.Actors.{row-at}
 use Rattle.volap_cell.proofs.Holding.{has-place}
 use Rattle.volap_cell.proofs.Numbers.{tag-map, tag-rest}
@@ -196,7 +194,7 @@ module _ (h : List Dimension) (with : Use) (cells : List (Option Cell)) (actors 
     some-entries : 1 ≤ length entries
     some-entries =
         let fits = here.tree.blocks block here.inside here.apart in
-        let ne = eqb-ne (shape.level block) 0 (sym fits.kind ∙ dir) in
+        let ne = eqb-false (shape.level block) 0 (sym fits.kind ∙ dir) in
         entries-some (block_in (w.cells block)).body dir (fits.some (omega arith))
 
     picked : (place : ℕ) × IsPick h r.row.at sets place × (pick_place h r.row.at sets ≡ Some place)

@@ -8,7 +8,6 @@ use Rattle.mapping_table.specs.declared.place.Where.{Where}
 use Rattle.query_router.specs.Desk.{DeskValue}
 use Rattle.row_ledger.specs.declared.event.Event.{Event}
 use Rattle.script_form.specs.declared.script.Command.{Command}
-use Rattle.script_run.specs.Phases.{closes}
 use Rattle.dim_hierarchy.specs.Dimension.{Dimension}
 use Rattle.volap_cell.specs.Cells.{CellValue, cell_of, ledger_in}
 use Rattle.volap_cell.specs.Setting.{Setting, ledger_cell}
@@ -25,12 +24,13 @@ use Rattle.volap_cell.specs.declared.errand.Way.TheVariants as way
 use Rattle.volap_cell.specs.declared.kind.Kind.TheVariants as kind
 use Rattle.volap_cell.specs.declared.role.Role.{Role}
 use Rattle.volap_cell.specs.declared.role.Role.TheVariants as role
-use Rattle.seeded_run.specs.Due.{actor_kind, are_known, command_kind, desk_of, first_kind, free_kind, is_empty, led_to, next_kind, row_kind, task_kind, work_kind}
-use Rattle.seeded_run.specs.Look.{ahead, cell_at, cell_in, cells_only, closes_by, setting_for, waits_for_others}
+use Rattle.seeded_run.specs.Due.{actor_kind, command_kind, desk_of, free_kind, is_empty, led_to, next_kind, row_kind, task_kind, work_kind}
+use Rattle.seeded_run.specs.Look.{ahead, cell_at, cells_only, setting_for}
+use Rattle.volap_cell.specs.Filling.{cell_or}
 
 -- Cells.
 
-seen-in : (o : Option Cell) (v : CellValue) → Has o (λ c. cell_of c ≡ v) → v ≡ cell_in o
+seen-in : (o : Option Cell) (v : CellValue) → Has o (λ c. cell_of c ≡ v) → v ≡ cell_or o
 seen-in None v has = absurd has
 seen-in (Some c) v has = sym has
 
@@ -38,7 +38,7 @@ seen-in (Some c) v has = sym has
 pub cell-seen : (cells : List (Option Cell)) (actors : List (Option Actor)) (w : World) → IsWorldOf cells actors w → (y : ℕ) → w.cells y ≡ cell_at cells y
 cell-seen cells actors w is y = elim (cases_lt y (length cells)) [
   | inl low ↦ seen-in (get_or cells y None) (w.cells y) (is.cell y low)
-  | inr past ↦ is.no_cell y past ∙ ap cell_in (sym (get_or_past cells y None past))
+  | inr past ↦ is.no_cell y past ∙ ap cell_or (sym (get_or_past cells y None past))
 ]
 
 -- The definitions at what is seen.
@@ -110,33 +110,3 @@ kind-seen h servers s w cells alone rest a o same_h same_servers same =
     ∙ ap (λ (g : List Dimension). actor_kind (setting_for g s.servers) (cells_only w.cells) alone (ahead (slice_get rest 0)) a o) same_h
     ∙ ap (λ n. actor_kind (setting_for h n) (cells_only w.cells) alone (ahead (slice_get rest 0)) a o) same_servers
     ∙ ap (λ (f : ℕ → CellValue). actor_kind (setting_for h servers) (cells_only f) alone (ahead (slice_get rest 0)) a o) (fun_ext same)
-
--- Whether others are idle is asked only where it matters.
-
-both-closes : (x y : Bool) → (x && not (x && y)) ≡ (x && not y)
-both-closes true y = refl
-both-closes false y = refl
-
-next-closes : (h : List Dimension) (alone : Bool) (desk : Option DeskValue) (next : Option Command) → next_kind h (closes_by next alone) desk (ahead next) ≡ next_kind h alone desk (ahead next)
-next-closes h alone desk None = refl
-next-closes h alone desk (Some c) = ap (λ b. if b then None else first_kind desk c (are_known h c)) (both-closes (closes c) alone)
-
-pub free-closes : (s : Setting) (w : World) (alone : Bool) (next : Option Command) (r : Role) → free_kind s w (closes_by next alone) (ahead next) r ≡ free_kind s w alone (ahead next) r
-free-closes s w alone next (role.Hand worker) = refl
-free-closes s w alone next (role.Session server) = next-closes s.hierarchy alone (desk_of s w (role.Session server)) next
-free-closes s w alone next role.Puller = next-closes s.hierarchy alone None next
-free-closes s w alone next role.Admin = next-closes s.hierarchy alone None next
-
-pub work-waits : (s : Setting) (history : List Event) (alone : Bool) (desk : Option DeskValue) (a : ActorValue) (of : ℕ) (work : Work)
-    → work_kind s history (waits_for_others work && alone) desk a of work ≡ work_kind s history alone desk a of work
-work-waits s history alone desk a of (work_is.Insert row false) = refl
-work-waits s history alone desk a of (work_is.Insert row true) = refl
-work-waits s history alone desk a of work_is.Query = refl
-work-waits s history alone desk a of (work_is.Sync server pulled) = refl
-work-waits s history alone desk a of work_is.Bare = refl
-work-waits s history alone desk a of (work_is.Settle pulls) = refl
-work-waits s history alone desk a of (work_is.Action act) = refl
-work-waits s history alone desk a of (work_is.Balance b) = refl
-work-waits s history alone desk a of (work_is.Page subject true true) = refl
-work-waits s history alone desk a of (work_is.Page subject true false) = refl
-work-waits s history alone desk a of (work_is.Page subject false shown) = refl

@@ -15,8 +15,8 @@ use Rattle.dim_hierarchy.specs.Dimension.{Dimension}
 use Rattle.link_descent.specs.declared.entered.Fresh.{Fresh}
 use Rattle.row_ledger.specs.declared.settings.Use.{Use}
 use Rattle.shard_plan.specs.Building.{cells_for, split_need}
-use Rattle.tree_shape.proofs.Visits.{times-append}
-use Rattle.tree_shape.specs.Counts.{Among, times}
+use Rattle.list_words.proofs.Times.{times-append}
+use Rattle.list_words.specs.Counts.{Among, times}
 use Rattle.tree_shape.specs.Laws.{CollectEndLaw}
 use Rattle.volap_cell.specs.AdminKinds.{HasFrozen, cells_needed, left_of, right_of, spent_by, spent_in, tree_of}
 use Rattle.volap_cell.specs.Ghost.{is_in_purse}
@@ -31,7 +31,8 @@ use Rattle.volap_cell.specs.declared.kind.Kind.TheVariants as kind
 use Rattle.seeded_run.specs.Core.{HasCore, IsCore, IsDue}
 use Rattle.seeded_run.specs.Due.{is_empty}
 use Rattle.seeded_run.specs.Jobs.{frozen_gate, gate_found, job_by, most_of, worker_of_job}
-use Rattle.seeded_run.specs.Moves.{cell_of_spare, last_spare, purse_by, purse_of_one}
+use Rattle.seeded_run.specs.Moves.{cell_of_spare, last_spare}
+use Rattle.seeded_run.specs.Rows.{purse_by, purse_of_one}
 use Rattle.seeded_run.specs.Splits.{last_but_one}
 use Rattle.seeded_run.specs.Works.{command_by}
 use Rattle.seeded_run.proofs.DueJobs.{IsAtStage, at-stage, last-at, stage-case}

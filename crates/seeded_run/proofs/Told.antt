@@ -1,7 +1,7 @@
 -- What each kind of step tells the history.
 use Rattle.std.proofs.Common.{◌≡◌, ◌≢◌, ◌∙◌, ℕ, ◌⊎◌, inl, inr, Bool, true, false, cond, eqb, List, [], ◌∷◌, ◌++◌, Option, Some, None, length, refl, sym, ap, subst, arith, ◌<◌}
 use Rattle.std.specs.Prelude.{slice_get, option_map, option_and_then}
-use Rattle.std.proofs.lemmas.Bool.{eq-eqb}
+use Rattle.std.proofs.lemmas.Bool.{eq-eqb, eqb-true}
 use Rattle.std.proofs.lemmas.Option.{slice_get_within}
 use Rattle.dim_hierarchy.specs.Dimension.{Dimension}
 use Rattle.dc_node.specs.declared.block.Block.{Block}
@@ -13,7 +13,6 @@ use Rattle.row_ledger.specs.Classes.{class_of}
 use Rattle.row_ledger.specs.Past.{end_in, ends_itself, session_in}
 use Rattle.row_ledger.specs.declared.event.Event.{Event}
 use Rattle.row_ledger.specs.declared.event.Event.TheVariants as event
-use Rattle.row_ledger.specs.declared.settings.Call.{Call}
 use Rattle.row_ledger.specs.declared.class.Class.{Class}
 use Rattle.row_ledger.specs.declared.class.Class.TheVariants as class_is
 use Rattle.row_ledger.specs.declared.settings.How.{How}
@@ -21,8 +20,8 @@ use Rattle.row_ledger.specs.declared.settings.How.TheVariants as how
 use Rattle.script_run.specs.Phases.{is_closing}
 use Rattle.server_image.specs.Registry.{RegistryValue}
 use Rattle.shard_plan.specs.declared.action.Action.{Action}
-use Rattle.tree_shape.specs.Counts.{Each}
-use Rattle.tree_shape.proofs.Walks.{on_bool, eqb-eq}
+use Rattle.list_words.specs.Counts.{Each}
+use Rattle.list_words.proofs.Truth.{on_bool}
 use Rattle.volap_cell.proofs.Frames.{AreAt, actor-at, actor-off}
 use Rattle.volap_cell.proofs.Numbers.{at-ledger}
 use Rattle.volap_cell.specs.AdminKinds.{DoesFreeze, Finishes, GivesUp, MovesIn, PushesBoth}
@@ -95,7 +94,7 @@ quiet (c ∷ cs) cells y at off tag = on_bool (eqb y c.number)
     let here = ap (λ (b : Bool). cond b c.now (put cs cells y)) q in
     elim off.0 [
       | inl apart ↦ absurd (apart (ap tag_of (sym here) ∙ tag))
-      | inr same ↦ here ∙ same ∙ sym at.0 ∙ ap cells (sym (eqb-eq _ _ q))
+      | inr same ↦ here ∙ same ∙ sym at.0 ∙ ap cells (sym (eqb-true _ _ q))
     ])
     (λ q.
     let there = ap (λ (b : Bool). cond b c.now (put cs cells y)) q in

@@ -12,7 +12,7 @@ use Rattle.dim_hierarchy.specs.Dimension.{Dimension}
 use Rattle.dim_hierarchy.specs.declared.row.Row.{Row}
 use Rattle.query_router.specs.Desk.{verdict_of}
 use Rattle.query_router.specs.declared.part.Verdict.TheVariants as verdict
-use Rattle.row_ledger.proofs.Elements.{Some-same}
+use Rattle.list_words.proofs.Elements.{Some-same}
 use Rattle.row_ledger.specs.declared.event.Event.{Event}
 use Rattle.row_ledger.specs.declared.settings.How.{How}
 use Rattle.row_ledger.specs.declared.settings.How.TheVariants.{NoMemory}

@@ -2,9 +2,11 @@
 use Rattle.std.proofs.Common.{◌≡◌, inl, inr, ℕ, zero, suc, ◌<◌, ◌≤◌, List, [], ◌∷◌, length, Option, Some, None, get_or, slice_get, refl, sym, ap, ◌∙◌, subst, arith}
 use Rattle.std.specs.Option.{option_map_or}
 use Rattle.std.proofs.lemmas.Bool.{cases_lt}
+use Rattle.std.proofs.lemmas.List.{get_or_past}
 use Rattle.dim_hierarchy.specs.Dimension.{Dimension}
 use Rattle.row_ledger.specs.declared.settings.Use.{Use}
-use Rattle.volap_cell.specs.Cells.{FreeCell, cell_of}
+use Rattle.volap_cell.specs.Cells.{cell_of}
+use Rattle.volap_cell.specs.Filling.{actor_or, cell_or, fresh, world_of}
 use Rattle.volap_cell.specs.Opening.{IsFresh}
 use Rattle.volap_cell.specs.Setting.{Setting, actor_count}
 use Rattle.volap_cell.specs.Values.{ActorValue, actor_of}
@@ -14,13 +16,7 @@ use Rattle.volap_cell.specs.declared.cell.Cell.{Cell}
 use Rattle.volap_cell.specs.declared.role.Role.TheVariants.{Hand}
 use Rattle.volap_cell.proofs.States.{stands}
 use Rattle.seeded_run.specs.Core.{IsCore}
-use Rattle.seeded_run.specs.Worlds.{nobody, roles_in, setting_in, world_in, world_of}
-
--- nothing stands past the end of a vector
-pub past-end : {A : Type 0} (xs : List (Option A)) (y : ℕ) → length xs ≤ y → get_or xs y None ≡ None
-past-end [] y le = refl
-past-end (x ∷ xs) zero le = absurd (omega arith)
-past-end (x ∷ xs) (suc y) le = past-end xs y (omega arith)
+use Rattle.seeded_run.specs.Worlds.{roles_in, setting_in, world_in}
 
 -- lists of the same length with the same items are the same
 same-items : {A : Type 0} (xs ys : List A) → length xs ≡ length ys → ((i : ℕ) → i < length xs → slice_get xs i ≡ slice_get ys i) → xs ≡ ys
@@ -34,20 +30,20 @@ same-items {A} (x ∷ xs) (y ∷ ys) many each =
     (λ k. head k ∷ tail k)
 
 -- who has done nothing and stands past the last actor is the one
-is-nobody : (s : Setting) (a : ℕ) (x : ActorValue) → actor_count s ≤ a → x.setting ≡ s → IsFresh x.setting a x → x ≡ nobody s a
-is-nobody s a x past same fresh =
-    let role : x.role ≡ Hand s.workers = fresh.beyond (subst (λ (t : Setting). actor_count t ≤ a) (sym same) past) ∙ ap (λ (t : Setting). Hand t.workers) same in
+is-fresh : (s : Setting) (a : ℕ) (x : ActorValue) → actor_count s ≤ a → x.setting ≡ s → IsFresh x.setting a x → x ≡ fresh s a
+is-fresh s a x past same is_fresh =
+    let role : x.role ≡ Hand s.workers = is_fresh.beyond (subst (λ (t : Setting). actor_count t ≤ a) (sym same) past) ∙ ap (λ (t : Setting). Hand t.workers) same in
     (λ k. record {
-      number = fresh.number k;
+      number = is_fresh.number k;
       role = role k;
       setting = same k;
-      seen = fresh.seen k;
-      counted = fresh.counted k;
-      purse = fresh.purse k;
-      boxes = fresh.boxes k;
-      command = fresh.command k;
-      errand = fresh.errand k;
-      job = fresh.job k;
+      seen = is_fresh.seen k;
+      counted = is_fresh.counted k;
+      purse = is_fresh.purse k;
+      boxes = is_fresh.boxes k;
+      command = is_fresh.command k;
+      errand = is_fresh.errand k;
+      job = is_fresh.job k;
     })
 
 module _ (h : List Dimension) (with : Use) (cells : List (Option Cell)) (actors : List (Option Actor)) (s : Setting) (w : World) (core : IsCore h with cells actors s w) where
@@ -55,8 +51,8 @@ module _ (h : List Dimension) (with : Use) (cells : List (Option Cell)) (actors 
   cell-is y = elim (cases_lt y (length cells)) [
     | inl lt ↦
         let k = stands (get_or cells y None) (λ c. cell_of c ≡ w.cells y) (core.is.cell y lt) in
-        sym k.2 ∙ ap (λ (o : Option Cell). option_map_or cell_of o FreeCell) (sym k.1)
-    | inr ge ↦ core.is.no_cell y ge ∙ ap (λ (o : Option Cell). option_map_or cell_of o FreeCell) (sym (past-end cells y ge))
+        sym k.2 ∙ ap cell_or (sym k.1)
+    | inr ge ↦ core.is.no_cell y ge ∙ ap cell_or (sym (get_or_past cells y None ge))
   ]
 
   about : (a : ℕ) → (w.actors a).setting ≡ s
@@ -66,10 +62,10 @@ module _ (h : List Dimension) (with : Use) (cells : List (Option Cell)) (actors 
   actor-is a = elim (cases_lt a (length actors)) [
     | inl lt ↦
         let k = stands (get_or actors a None) (λ x. actor_of x ≡ w.actors a) (core.is.actor a lt) in
-        sym k.2 ∙ ap (λ (o : Option Actor). option_map_or actor_of o (nobody s a)) (sym k.1)
+        sym k.2 ∙ ap (actor_or s a) (sym k.1)
     | inr ge ↦
         let past : actor_count s ≤ a = (let n = core.count in omega arith) in
-        is-nobody s a (w.actors a) past (about a) (core.is.no_actor a ge) ∙ ap (λ (o : Option Actor). option_map_or actor_of o (nobody s a)) (sym (past-end actors a ge))
+        is-fresh s a (w.actors a) past (about a) (core.is.no_actor a ge) ∙ ap (actor_or s a) (sym (get_or_past actors a None ge))
   ]
 
   pub one-world : w ≡ world_of s cells actors

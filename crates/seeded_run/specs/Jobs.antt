@@ -74,13 +74,13 @@ next_by (Some block) more = next.Block block
 next_by None true = next.Row
 next_by None false = next.Trees
 
-abbrev pub next_at : World → StageValue → Next
-next_at w (Collects c) = next_by (last_noted c.items) (has_more c.queued (phase_of (w.cells c.frozen.gate)))
-next_at w _ = next.Trees
+abbrev pub next_of_stage : World → StageValue → Next
+next_of_stage w (Collects c) = next_by (last_noted c.items) (has_more c.queued (phase_of (w.cells c.frozen.gate)))
+next_of_stage w _ = next.Trees
 
 abbrev pub next_of : World → Option JobValue → Next
 next_of w None = next.Trees
-next_of w (Some job) = next_at w job.stage
+next_of w (Some job) = next_of_stage w job.stage
 
 -- Building.
 

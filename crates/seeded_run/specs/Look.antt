@@ -6,7 +6,8 @@ use Rattle.row_ledger.specs.declared.settings.Use.{Use}
 use Rattle.script_form.specs.declared.script.Command.{Command}
 use Rattle.script_form.specs.declared.script.Command.TheVariants as script
 use Rattle.script_run.specs.Phases.{closes}
-use Rattle.volap_cell.specs.Cells.{CellValue, FreeCell, cell_of, ledger_in}
+use Rattle.volap_cell.specs.Cells.{CellValue, ledger_in}
+use Rattle.volap_cell.specs.Filling.{cell_or}
 use Rattle.volap_cell.specs.Setting.{Setting, actor_count, ledger_cell}
 use Rattle.volap_cell.specs.Sums.{sum_below}
 use Rattle.volap_cell.specs.Values.{ActorValue, actor_of}
@@ -20,13 +21,8 @@ use Rattle.seeded_run.specs.Due.{all_below, does_nothing, is_empty}
 
 -- What is seen.
 
--- a place without a cell counts as free
-abbrev pub cell_in : Option Cell → CellValue
-cell_in None = FreeCell
-cell_in (Some c) = cell_of c
-
 abbrev pub cell_at : List (Option Cell) → ℕ → CellValue
-cell_at cells y = cell_in (get_or cells y None)
+cell_at cells y = cell_or (get_or cells y None)
 
 -- a setting of which the dimensions alone and the number of servers are known
 abbrev pub setting_for : List Dimension → ℕ → Setting
@@ -35,12 +31,13 @@ setting_for h servers = record { hierarchy = h; servers = servers; workers = 0; 
 abbrev pub setting_by : List Dimension → Use → Setting
 setting_by h with = setting_for h with.servers
 
-abbrev pub nobody : ActorValue
-nobody = record { number = 0; role = Admin; setting = setting_for [] 0; seen = 0; counted = false; purse = []; boxes = 0; command = None; errand = None; job = None }
+-- an actor of whom nothing is known
+abbrev pub unseen : ActorValue
+unseen = record { number = 0; role = Admin; setting = setting_for [] 0; seen = 0; counted = false; purse = []; boxes = 0; command = None; errand = None; job = None }
 
 -- a state of which the cells alone are known
 abbrev pub cells_only : (ℕ → CellValue) → World
-cells_only cells = record { cells = cells; actors = λ a. nobody }
+cells_only cells = record { cells = cells; actors = λ a. unseen }
 
 abbrev pub world_by : List (Option Cell) → World
 world_by cells = cells_only (cell_at cells)

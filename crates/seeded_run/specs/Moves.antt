@@ -1,8 +1,7 @@
 -- What the end of a move reads of the administrator's actor: to which worker its job goes, and the last spare of its purse.
-use Rattle.std.specs.Prelude.{ℕ, ◌-◌, List, [], Option, Some, None, get_or, slice_get, length}
+use Rattle.std.specs.Prelude.{ℕ, ◌-◌, List, Option, Some, None, slice_get, length}
 use Rattle.cell_stock.specs.declared.purse.Spare.{Spare}
-use Rattle.volap_cell.specs.Values.{JobValue, actor_of}
-use Rattle.volap_cell.specs.declared.actor.Actor.{Actor}
+use Rattle.volap_cell.specs.Values.{JobValue}
 
 -- the worker to which it goes, the first one where it goes to none
 
@@ -22,10 +21,3 @@ cell_of_spare (Some x) = x.cell
 
 abbrev pub last_spare : List Spare → ℕ
 last_spare spares = cell_of_spare (slice_get spares (length spares - 1))
-
-abbrev pub purse_of_one : Option Actor → List Spare
-purse_of_one None = []
-purse_of_one (Some a) = (actor_of a).purse
-
-abbrev pub purse_by : List (Option Actor) → ℕ → List Spare
-purse_by actors n = purse_of_one (get_or actors n None)

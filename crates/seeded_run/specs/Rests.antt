@@ -34,9 +34,9 @@ is_over_behind p history front c =
 
 -- the session of the first command that isn't over, of those behind some others, and of all
 
-abbrev pub first_behind : PhaseRun → List Event → List Command → List Command → Option ℕ
-first_behind p history front [] = None
-first_behind p history front (c ∷ cs) = if is_over_behind p history front c then first_behind p history (front ++ c ∷ []) cs else Some (session_of p.with c)
+abbrev pub first_open_behind : PhaseRun → List Event → List Command → List Command → Option ℕ
+first_open_behind p history front [] = None
+first_open_behind p history front (c ∷ cs) = if is_over_behind p history front c then first_open_behind p history (front ++ c ∷ []) cs else Some (session_of p.with c)
 
 abbrev pub first_open : PhaseRun → List Event → Option ℕ
-first_open p history = first_behind p history [] p.commands
+first_open p history = first_open_behind p history [] p.commands

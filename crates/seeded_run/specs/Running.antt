@@ -3,7 +3,7 @@ use Rattle.std.specs.Prelude.{ℕ, ◌≡◌, ◌≢◌, ◌+◌, ⊤, Bool, tru
 use Rattle.script_form.specs.declared.script.Command.{Command}
 use Rattle.script_run.specs.Between.{IsInOrder}
 use Rattle.script_run.specs.Places.{begins_of, count_of, session_of}
-use Rattle.script_run.specs.Runs.{each_twice, pulled_since}
+use Rattle.row_ledger.specs.Settled.{pulls_since, settle_pulls}
 use Rattle.script_run.specs.Streams.{IsInPhase}
 use Rattle.volap_cell.specs.Setting.{Setting}
 use Rattle.volap_cell.specs.Steps.{history_in}
@@ -43,12 +43,12 @@ AreClosingAlone s w rest = (a : ℕ) (c : OpenCommand) → (w.actors a).command 
 abbrev pub HasPulled : ℕ → Work → List ℕ → Type 0
 HasPulled servers (work_is.Sync server false) pulled = pulled ≡ []
 HasPulled servers (work_is.Sync server true) pulled = pulled ≡ server ∷ []
-HasPulled servers (work_is.Settle pulls) pulled = pulled ≡ take pulls (each_twice servers)
+HasPulled servers (work_is.Settle pulls) pulled = pulled ≡ take pulls (settle_pulls servers)
 HasPulled servers work pulled = ⊤
 
 -- each open command has pulled as far as its actor says, and nobody else pulled meanwhile
 abbrev pub ArePulling : Setting → World → Type 0
-ArePulling s w = (a : ℕ) (c : OpenCommand) → (w.actors a).command ≡ Some c → HasPulled s.servers c.work (pulled_since (history_in w) c.of)
+ArePulling s w = (a : ℕ) (c : OpenCommand) → (w.actors a).command ≡ Some c → HasPulled s.servers c.work (pulls_since (history_in w) c.of)
 
 -- The phase.
 

@@ -1,11 +1,10 @@
 -- The one state that vectors of cells and actors are, and what it is about.
-use Rattle.std.specs.Prelude.{ℕ, false, List, [], map, get_or, Option, None}
+use Rattle.std.specs.Prelude.{List, map, Option}
 use Rattle.std.specs.Option.{option_map_or}
 use Rattle.dim_hierarchy.specs.Dimension.{Dimension}
 use Rattle.row_ledger.specs.declared.settings.Use.{Use}
-use Rattle.volap_cell.specs.Cells.{FreeCell, cell_of}
+use Rattle.volap_cell.specs.Filling.{world_of}
 use Rattle.volap_cell.specs.Setting.{Setting}
-use Rattle.volap_cell.specs.Values.{ActorValue, actor_of}
 use Rattle.volap_cell.specs.World.{World}
 use Rattle.volap_cell.specs.declared.actor.Actor.{Actor}
 use Rattle.volap_cell.specs.declared.cell.Cell.{Cell}
@@ -20,16 +19,6 @@ roles_in actors = map (λ (o : Option Actor). option_map_or (λ (a : Actor). a.r
 abbrev pub setting_in : List Dimension → Use → List (Option Actor) → Setting
 setting_in h with actors = record { hierarchy = h; servers = with.servers; workers = with.workers; stock_cells = with.cells; roles = roles_in actors }
 
--- who stands past the last actor
-abbrev pub nobody : Setting → ℕ → ActorValue
-nobody s a = record { number = a; role = Hand s.workers; setting = s; seen = 0; counted = false; purse = []; boxes = 0; command = None; errand = None; job = None }
-
 -- what stands in each cell, and who each actor is
-abbrev pub world_of : Setting → List (Option Cell) → List (Option Actor) → World
-world_of s cells actors = record {
-  cells = λ y. option_map_or cell_of (get_or cells y None) FreeCell;
-  actors = λ a. option_map_or actor_of (get_or actors a None) (nobody s a);
-}
-
 abbrev pub world_in : List Dimension → Use → List (Option Cell) → List (Option Actor) → World
 world_in h with cells actors = world_of (setting_in h with actors) cells actors

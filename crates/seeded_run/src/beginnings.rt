@@ -35,7 +35,16 @@ fn begin_insert(
     let image = image_place(new.server);
     let ledger = ledger_place();
     match h.coord(&new.names) {
-        Ok(at) => core_steps::begin_insert(alloc, h, state, number, image, ledger, at, new.measure),
+        Ok(at) => core_steps::begin_insert(
+            alloc,
+            h,
+            state,
+            number,
+            image,
+            ledger,
+            at,
+            new.measures,
+        ),
         Err(dim) => core_steps::note_unknown(h, state, number, ledger, dim),
     }
 }

@@ -3,7 +3,7 @@ ghost use Rattle.std.specs.Prelude.{◌≡◌, [], option_copied};
 ghost use Rattle.seeded_run.specs.Due.{carry_kind, errand_kind, gate_kind, is_empty, kind_by, led_to, may_enter, placed_kind, read_kind, row_kind};
 ghost use Rattle.seeded_run.specs.Look.{cell_at, setting_by, world_by};
 ghost use Rattle.volap_cell.specs.Cells.{GateCell, block_in};
-ghost use Rattle.volap_cell.specs.Values.{actor_of, errand_of, task_of};
+ghost use Rattle.volap_cell.specs.Values.{actor_of, errand_of};
 ghost use Rattle.volap_cell.specs.declared.kind.Kind.TheVariants as kind;
 
 use crate::places::map_place;

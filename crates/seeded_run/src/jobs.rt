@@ -3,7 +3,7 @@
 ghost use Rattle.std.specs.Prelude.{◌≡◌, ◌^◌, ◌<◌, [], length, true, false, is_some, option_copied};
 ghost use Rattle.seeded_run.specs.Arms.{GoesOnWithCommand};
 ghost use Rattle.seeded_run.specs.Core.{HasCore, IsDue};
-ghost use Rattle.seeded_run.specs.Jobs.{CanGiveUp, CanGiveUpBy, CanLeaveBy, IsAtFirstBy, cell_at_stage, cell_unbuilt, end_in_balance, end_of_balance, frozen_gate, gate_found, gate_to_freeze, has_more, job_by, led_for, most_in, most_of, next_at, next_of, worker_of_job};
+ghost use Rattle.seeded_run.specs.Jobs.{CanGiveUp, CanGiveUpBy, CanLeaveBy, IsAtFirstBy, cell_at_stage, cell_unbuilt, end_in_balance, end_of_balance, frozen_gate, gate_found, gate_to_freeze, has_more, job_by, led_for, most_in, most_of, next_of_stage, next_of, worker_of_job};
 ghost use Rattle.seeded_run.specs.Look.{cell_at, setting_by, world_by};
 ghost use Rattle.seeded_run.specs.Works.{command_by, is_balance};
 ghost use Rattle.seeded_run.specs.declared.jobs.Next.TheVariants.{Block, Row, Trees};
@@ -161,7 +161,7 @@ fn has_more(cells: &[Option<Cell>], gate: u32, queued: u64) -> bool
 
 /// What is collected next.
 fn next_in(cells: &[Option<Cell>], collecting: &Collecting) -> Next
-    ensures { result ≡ next_at (world_by cells.now) (Collects (collecting_of collecting.now)) }
+    ensures { result ≡ next_of_stage (world_by cells.now) (Collects (collecting_of collecting.now)) }
 {
     match last_noted(&collecting.todo) {
         Some(block) => Next::Block(block),
@@ -176,8 +176,8 @@ fn next_in(cells: &[Option<Cell>], collecting: &Collecting) -> Next
 }
 
 /// What a job at this stage collects next.
-fn next_at(cells: &[Option<Cell>], stage: &Stage) -> Next
-    ensures { result ≡ next_at (world_by cells.now) (stage_of stage.now) }
+fn next_of_stage(cells: &[Option<Cell>], stage: &Stage) -> Next
+    ensures { result ≡ next_of_stage (world_by cells.now) (stage_of stage.now) }
 {
     match stage {
         Stage::Collecting(collecting) => next_in(cells, collecting),
@@ -190,7 +190,7 @@ fn next_of(cells: &[Option<Cell>], actor: &Actor) -> Next
     ensures { result ≡ next_of (world_by cells.now) (actor_of actor.now).job }
 {
     match &actor.job {
-        Some(job) => next_at(cells, &job.stage),
+        Some(job) => next_of_stage(cells, &job.stage),
         None => Next::Trees,
     }
 }

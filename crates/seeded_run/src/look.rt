@@ -1,5 +1,5 @@
 //! Which kind of step is due for an actor, and whether it can be made, in a core that one thread holds.
-ghost use Rattle.std.specs.Prelude.{◌≡◌, ℕ, List, Some, [], ◌<◌, option_copied, get_or, length};
+ghost use Rattle.std.specs.Prelude.{◌≡◌, ℕ, List, Some, ◌<◌, option_copied, length};
 ghost use Rattle.script_form.specs.declared.script.Command as script;
 ghost use Rattle.seeded_run.specs.Core.{IsCore};
 ghost use Rattle.seeded_run.specs.Due.{actor_kind, command_kind, due_by, purse_kind};

@@ -1,8 +1,8 @@
 //! The turns of a phase: what an actor does whose turn it is.
-ghost use Rattle.std.specs.Prelude.{◌≡◌, ◌<◌, ◌+◌, ℕ, length, get_or, slice_get, option_copied, OnOk, OnErr, Some, None, true};
+ghost use Rattle.std.specs.Prelude.{◌≡◌, ◌<◌, ◌+◌, length, slice_get, option_copied, OnOk, OnErr, Some, None};
 ghost use Rattle.std.specs.Prelude.{false, option_map};
 ghost use Rattle.script_run.specs.Places.{session_of};
-ghost use Rattle.seeded_run.specs.Machine.{AloneInOrder, BeginsNow, HasBegunTo, HasLeftOver, HasMovedOn, HasTurned, HoldsNow, IsDueNow, IsDueStep, IsPhaseHeld, IsPhaseKept, LeavesAtMost, RestsAsIs, TakesTurn, WaitsAt, can_in, next_at, streams_open};
+ghost use Rattle.seeded_run.specs.Machine.{AloneInOrder, BeginsNow, HasBegunTo, HasMovedOn, HasTurned, HoldsNow, IsDueNow, IsDueStep, IsPhaseHeld, IsPhaseKept, LeavesAtMost, RestsAsIs, TakesTurn, WaitsAt, can_in, next_at, streams_open};
 ghost use Rattle.seeded_run.specs.Steps.{begins_by};
 
 use crate::alone::rests;

@@ -3,7 +3,8 @@ ghost use Rattle.std.specs.Prelude.{◌≡◌, ◌≢◌, ◌<◌, length};
 ghost use Rattle.seeded_run.specs.Arms.{GoesOnWithCommand};
 ghost use Rattle.seeded_run.specs.Core.{HasCore, IsDue};
 ghost use Rattle.seeded_run.specs.Jobs.{job_by, worker_of_job};
-ghost use Rattle.seeded_run.specs.Moves.{goes_to, last_spare, purse_by, worker_to};
+ghost use Rattle.seeded_run.specs.Moves.{goes_to, last_spare, worker_to};
+ghost use Rattle.seeded_run.specs.Rows.{purse_by};
 ghost use Rattle.volap_cell.specs.Values.{actor_of, job_of};
 ghost use Rattle.volap_cell.specs.declared.kind.Kind.TheVariants.{FinishMove};
 

@@ -1,5 +1,5 @@
 //! Whether the names of a command that is to begin are known.
-ghost use Rattle.std.specs.Prelude.{◌≡◌, length};
+ghost use Rattle.std.specs.Prelude.{◌≡◌};
 ghost use Rattle.seeded_run.specs.Due.{are_known};
 ghost use Rattle.seeded_run.specs.Look.{HasNames};
 

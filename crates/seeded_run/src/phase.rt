@@ -1,9 +1,9 @@
 //! A phase of a script, run to its end.
-ghost use Rattle.std.specs.Prelude.{◌≡◌, ◌++◌, ◌<◌, ◌≤◌, ℕ, [], length, OnOk, OnErr, IfOk};
+ghost use Rattle.std.specs.Prelude.{◌≡◌, ◌++◌, ◌<◌, [], length, OnOk, OnErr, IfOk};
 ghost use Rattle.seeded_turns.specs.Drawn.{Reaches, Stops, able};
 ghost use Rattle.seeded_run.specs.declared.machine.Running.{Running};
 ghost use Rattle.seeded_run.specs.Kept.{AreIdle, HasBegunAll, IsBetween, IsStopped};
-ghost use Rattle.seeded_run.specs.Machine.{AreFirstCursors, HasComeToRest, HasEndedBehindAny, HasLeftOver, HasRunTo, HasStoppedAt, HasStoppedBehindAny, HoldsNow, IsFirstMoment, IsPhaseHeld, IsSamePhase, LeavesAtMost, RestsAsIs, TakesTurn, about_in, can_in, most_steps, phase_of, streams_open, world_of};
+ghost use Rattle.seeded_run.specs.Machine.{AreFirstCursors, HasComeToRest, HasEndedBehindAny, HasRunTo, HasStoppedAt, HasStoppedBehindAny, HoldsNow, IsFirstMoment, IsPhaseHeld, IsSamePhase, LeavesAtMost, RestsAsIs, TakesTurn, about_in, can_in, most_steps, phase_of, streams_open, world_of};
 ghost use Rattle.seeded_run.specs.Phase.{ClosesLast, EndsBehindAny, IsCoreHeld, MayAllRun, NobodyCanStep, RunsTo, StopsAt, StopsBehindAny, about, held, most_actors, phase_from};
 ghost use Rattle.seeded_run.specs.Order.{is_order};
 

@@ -5,7 +5,7 @@ ghost use Rattle.seeded_run.specs.Core.{HasCore, IsDue};
 ghost use Rattle.seeded_run.specs.Led.{block_noted, cell_or_zero, gate_led, gate_there};
 ghost use Rattle.seeded_run.specs.Look.{setting_by, world_by};
 ghost use Rattle.volap_cell.specs.State.{Stepped};
-ghost use Rattle.volap_cell.specs.Values.{ErrandValue, actor_of, errand_of};
+ghost use Rattle.volap_cell.specs.Values.{ErrandValue, actor_of};
 ghost use Rattle.volap_cell.specs.declared.kind.Kind.TheVariants.{BlockVisit, FinishPart, GateRead, LookUp};
 
 use crate::errands::{end_part, worker_by};

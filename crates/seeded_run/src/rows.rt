@@ -1,5 +1,5 @@
 //! The steps of rows at a gate and in its tree, where they are due.
-ghost use Rattle.std.specs.Prelude.{ℕ, ◌≡◌, ◌⊎◌, ◌<◌, ⊤, Some, None, length, get_or};
+ghost use Rattle.std.specs.Prelude.{◌≡◌, ◌⊎◌, ◌<◌, Some, None, length, get_or};
 ghost use Rattle.dc_node.specs.Block.{IsBodyOf, is_full};
 ghost use Rattle.dim_hierarchy.specs.Rows.{IsRowOf};
 ghost use Rattle.seeded_run.specs.AtWork.{errand_by, held_pin};
@@ -9,7 +9,7 @@ ghost use Rattle.seeded_run.specs.Rows.{IsBeforeLast, IsOfLast, first_behind, le
 ghost use Rattle.seeded_run.specs.Takes.{CanPick};
 ghost use Rattle.volap_cell.specs.Cells.{block_in, way_in};
 ghost use Rattle.volap_cell.specs.State.{Has, Stepped};
-ghost use Rattle.volap_cell.specs.Values.{ErrandValue, actor_of, errand_of, task_of};
+ghost use Rattle.volap_cell.specs.Values.{ErrandValue, actor_of, errand_of};
 ghost use Rattle.volap_cell.specs.declared.kind.Kind.TheVariants.{Down, EnterQueue, EnterTree, FinishPart};
 
 use crate::errands::{block_on, end_part, way_by, worker_by};

@@ -2,7 +2,8 @@
 ghost use Rattle.std.specs.Prelude.{◌≡◌, option_copied, length};
 ghost use Rattle.dc_node.specs.Block.{is_leaf};
 ghost use Rattle.row_ledger.specs.declared.settings.Use as settings;
-ghost use Rattle.seeded_run.specs.Look.{cell_at, cell_in};
+ghost use Rattle.seeded_run.specs.Look.{cell_at};
+ghost use Rattle.volap_cell.specs.Filling.{cell_or};
 ghost use Rattle.volap_cell.specs.Cells.{block_in, ledger_in, where_in};
 ghost use Rattle.volap_cell.specs.Setting.{ledger_cell};
 
@@ -12,7 +13,7 @@ use volap_cell::Cell;
 
 /// The cell with this number, none where it is out or isn't there.
 pub(crate) fn cell_at(cells: &[Option<Cell>], at: u32) -> Option<&Cell>
-    ensures { cell_in (option_copied result) ≡ cell_at cells.now at }
+    ensures { cell_or (option_copied result) ≡ cell_at cells.now at }
 {
     match cells.get(at as usize) {
         Some(Some(cell)) => Some(cell),

@@ -2,7 +2,7 @@
 ghost use Rattle.std.specs.Prelude.{◌≡◌, ◌<◌, length};
 ghost use Rattle.seeded_run.specs.Arms.{GoesOnWithCommand};
 ghost use Rattle.seeded_run.specs.Core.{HasCore, IsDue};
-ghost use Rattle.seeded_run.specs.Moves.{purse_by};
+ghost use Rattle.seeded_run.specs.Rows.{purse_by};
 ghost use Rattle.seeded_run.specs.Splits.{last_but_one};
 ghost use Rattle.volap_cell.specs.Values.{actor_of};
 ghost use Rattle.volap_cell.specs.declared.kind.Kind.TheVariants.{FinishSplit};

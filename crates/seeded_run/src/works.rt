@@ -2,7 +2,7 @@
 ghost use Rattle.std.specs.Prelude.{◌≡◌, ◌<◌, ◌^◌, length, true};
 ghost use Rattle.seeded_run.specs.Arms.{GoesOnWithCommand};
 ghost use Rattle.seeded_run.specs.Core.{HasCore, IsDue};
-ghost use Rattle.seeded_run.specs.Works.{command_by, decline_at, decline_by, ending_by, ending_for, ending_of, has_own_note, is_balance, is_balance_work, is_page_due, own_end, pull_of, server_or_first};
+ghost use Rattle.seeded_run.specs.Works.{command_by, decline_at, decline_by, ending_by, ending_for, ending_of, has_own_note, is_balance, is_page_due, own_end, pull_of, server_or_first};
 ghost use Rattle.seeded_run.specs.declared.works.Ending.TheVariants.{Called, Insert, Query};
 ghost use Rattle.volap_cell.specs.Commands.{due_pull, settles_next};
 ghost use Rattle.volap_cell.specs.Values.{actor_of, stage_of};

@@ -1,5 +1,5 @@
 -- Facts on the actors that can step.
-use Rattle.std.proofs.Common.{◌≡◌, ℕ, zero, suc, ◌+◌, ◌<◌, ◌≤◌, ◌⊎◌, inl, inr, Bool, true, false, cond, List, [], ◌∷◌, ◌++◌, length, Option, None, Some, IfSome, refl, ◌∙◌, subst, arith, length-append}
+use Rattle.std.proofs.Common.{◌≡◌, ℕ, zero, suc, ◌+◌, ◌<◌, ◌≤◌, ◌⊎◌, inl, inr, Bool, true, false, cond, List, [], ◌∷◌, ◌++◌, length, Option, None, Some, IfSome, refl, subst, arith, length-append}
 use Rattle.std.specs.List.{slice_get}
 use Rattle.seeded_turns.specs.Drawn.{able}
 
@@ -40,12 +40,6 @@ able_place can (suc n) i h e =
       | inr at ↦ subst (λ m. slice_get (able can (suc m)) (length (able can i)) ≡ Some i) at
           (rw (taken (can i) (able can i ++ i ∷ []) (able can i) e) (get_behind (able can i) i))
     ]
-
-last_of : (xs : List ℕ) (n k i : ℕ) → slice_get (xs ++ n ∷ []) k ≡ Some i → (slice_get xs k ≡ Some i) ⊎ (i ≡ n)
-last_of [] n zero i e = inr (cc)
-last_of [] n (suc k) i e = cc
-last_of (x ∷ xs) n zero i e = inl e
-last_of (x ∷ xs) n (suc k) i e = last_of xs n k i e
 
 -- what is found so is so in other words
 pub some_so : {A : Type 0} (o : Option A) (P Q : A → Type 0) → ((x : A) → P x → Q x) → IfSome o P → IfSome o Q

@@ -1,7 +1,7 @@
 -- What each step keeps a whole run keeps; runs behind one another, and runs of what states stand for.
 use Rattle.std.proofs.Common.{◌≡◌, ℕ, List, [], ◌∷◌, Some, sym, ap, subst}
 use Rattle.seeded_turns.specs.declared.schedule.Schedule.{Schedule}
-use Rattle.seeded_turns.specs.Drawn.{chosen, Moment, AreTurns, Reaches, Stops}
+use Rattle.seeded_turns.specs.Drawn.{chosen, Moment, AreTurns, Reaches}
 
 -- a run keeps what each of its steps keeps
 turns_keep : (S : Type 0) (able_in : S → List ℕ) (makes : S → ℕ → S → Type 0) (P : S → Type 0) → ((s t : S) (i : ℕ) → makes s i t → P s → P t)
@@ -44,19 +44,3 @@ module _ (S T : Type 0) (of : S → T) (able_in : S → List ℕ) (makes : S →
       → Reaches T able_of makes_of (record { state = of from.state; schedule = from.schedule }) (of to) schedule
   unfolding moment moments
   run_map from to schedule r p = record { turns = moments r.turns; are = turns_map from (record { state = to; schedule = schedule }) r.turns r.are p }
-
-  -- and where it was stopped, it was stopped there
-  pub stop_map : (stays : S → S → Type 0) (stays_of : T → T → Type 0) → ((s t : S) → stays s t → P s → stays_of (of s) (of t))
-      → (from : Moment S) (to : S) (schedule : Schedule) → Stops S able_in makes stays from to schedule → P from.state
-      → Stops T able_of makes_of stays_of (record { state = of from.state; schedule = from.schedule }) (of to) schedule
-  unfolding moment
-  stop_map stays stays_of stayed from to schedule r p =
-      let here = run_keeps S able_in makes P kept from r.last.state r.last.schedule r.reached p in
-      record {
-        last = moment r.last;
-        reached = run_map from r.last.state r.last.schedule r.reached p;
-        actor = r.actor;
-        is_chosen = subst (λ l. chosen r.last.schedule l ≡ Some r.actor) (same r.last.state here) r.is_chosen;
-        stayed = stayed r.last.state to r.stayed here;
-        word = r.word;
-      }

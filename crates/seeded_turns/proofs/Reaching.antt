@@ -1,5 +1,5 @@
 -- A run goes on by a turn.
-use Rattle.std.proofs.Common.{◌≡◌, ℕ, ◌%◌, List, ◌∷◌, Some, ◌∙◌}
+use Rattle.std.proofs.Common.{◌≡◌, ℕ, List, ◌∷◌, Some}
 use Rattle.seeded_turns.specs.Drawn.{chosen, next_schedule, Moment, Reaches}
 use Rattle.seeded_turns.specs.declared.schedule.Schedule.{Schedule}
 

@@ -1,5 +1,5 @@
 //! Whose turn it is.
-ghost use Rattle.std.specs.Prelude.{◌≡◌, ◌<◌, length, Some, None, true, is_some, slice_get, IfSome, List, ℕ, []};
+ghost use Rattle.std.specs.Prelude.{◌≡◌, ◌<◌, length, Some, None, true, is_some, slice_get, IfSome, []};
 ghost use Rattle.rand_pcg.specs.Pcg.{pcg32};
 ghost use Rattle.seeded_turns.specs.Drawn.{able, chosen, drawn, next_schedule};
 

@@ -1,6 +1,6 @@
 //! A run to its end.
 ghost use Rattle.std.specs.Prelude.{◌≡◌, ◌<◌, [], OnOk, OnErr, ℕ};
-ghost use Rattle.seeded_turns.specs.Drawn.{able, Moment, Reaches, Stops};
+ghost use Rattle.seeded_turns.specs.Drawn.{able, Reaches, Stops};
 
 use crate::choice::choose;
 use crate::machine::Machine;

@@ -95,6 +95,10 @@ impl Image {
         requires at { IsCoordOf h.now at.now }
         ensures { IsRoute h.now at.now self.now.spots result }
     {
+        // A shard that is alone comes first, whatever its box.
+        if self.spots.len() == 1 {
+            return 0;
+        }
         first_for(&self.spots, &h.lineages(at), h)
     }
 

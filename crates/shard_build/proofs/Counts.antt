@@ -51,13 +51,6 @@ module _ (root : RootLaw) (parents : ParentsLaw) where
   pub many : (level k n : ℕ) → k + length (levels_from level) ≡ levels_for n + 1 → k < levels_for n → 1 < level
   many level k n levels lt = elim (cases_lt 1 level) [ inl m ↦ m | inr one ↦ absurd (omega (arith, count-one level one)) ]
 
-  -- there are boxes for the next level
-  pub boxes-left : (blocks from boxes k n : ℕ) → from < blocks → blocks + sum (levels_from (blocks - from)) ≡ cells_for n + (blocks - from)
-      → k + length (levels_from (blocks - from)) ≡ levels_for n + 1 → k < levels_for n → blocks + boxes ≡ cells_for n → blocks ≤ from + parent_nodes * boxes
-  boxes-left blocks from boxes k n lt cells levels more left =
-      let m = many (blocks - from) k n levels more in
-      omega (arith, cells-many (blocks - from) m, cells-some (div_ceil (blocks - from) parent_nodes))
-
   -- the next level's blocks
   pub parents-count : (blocks from made : ℕ) → from < blocks → blocks ≡ min (from + parent_nodes * made) blocks → from + parent_nodes * made < blocks + parent_nodes
       → made ≡ div_ceil (blocks - from) parent_nodes

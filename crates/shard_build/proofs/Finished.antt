@@ -10,10 +10,10 @@ use Rattle.dc_node.specs.declared.entry.Entry.{Entry}
 use Rattle.shard_store.specs.Gate.{root_entry}
 use Rattle.link_descent.specs.Descend.{IsEntryOf}
 use Rattle.link_descent.specs.declared.entered.Fresh.{Fresh}
-use Rattle.tree_shape.specs.Counts.{same, times}
+use Rattle.list_words.specs.Counts.{same, times}
+use Rattle.list_words.proofs.Times.{same_is}
 use Rattle.tree_shape.specs.Shape.{Table, TreeCells, numbers}
 use Rattle.tree_shape.specs.Forest.{AfterBuilding, AreInCells, AreRowsOf, IsForest, TreeLaw, filled_cells}
-use Rattle.tree_shape.proofs.Walks.{same_is}
 use Rattle.shard_build.specs.Building.{IsEntryTo, IsGrown}
 use Rattle.shard_build.specs.Built.{IsInCells, root_of}
 use Rattle.shard_build.specs.declared.builder.Built.{Built}

@@ -16,13 +16,12 @@ use Rattle.dc_node.specs.declared.block.Block.{Block}
 use Rattle.dc_node.specs.declared.entry.Entry.{Entry}
 use Rattle.link_descent.specs.Descend.{IsEntryOf}
 use Rattle.link_descent.specs.declared.entered.Fresh.{Fresh}
-use Rattle.tree_shape.specs.Counts.{Each, times}
+use Rattle.list_words.specs.Counts.{Each, times}
+use Rattle.list_words.proofs.Each.{each-all, each-left, each-right}
+use Rattle.list_words.proofs.Times.{times-append}
 use Rattle.tree_shape.specs.Shape.{numbers}
 use Rattle.tree_shape.specs.Trees.{limit}
 use Rattle.tree_shape.specs.Forest.{AreInCells, AreRowsOf, DirectoriesLaw, IsForest, LeavesLaw, all_entries, all_rows, filled_cells}
-use Rattle.tree_shape.proofs.Forests.{each-all}
-use Rattle.tree_shape.proofs.Parts.{each-left, each-right}
-use Rattle.tree_shape.proofs.Visits.{times-append}
 use Rattle.shard_build.specs.Building.{AreLeavesOf, AreParentsOf, AreSmall, IsEntryTo, IsGrown, most, rows_under}
 use Rattle.shard_build.proofs.Led.{leaves-led, level-led}
 use Rattle.shard_build.proofs.Summed.{leaves-beneath, leaves-countable, parents-beneath, parents-countable, parents-rows}

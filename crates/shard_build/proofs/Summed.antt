@@ -7,11 +7,9 @@ use Rattle.std.proofs.lemmas.List.Elements.{All-nil, All-cons, All-head, All-tai
 use Rattle.dim_hierarchy.specs.declared.row.Row.{Row}
 use Rattle.dim_hierarchy.specs.Rows.{IsRowOf}
 use Rattle.dim_hierarchy.specs.Dimension.{Dimension}
-use Rattle.measure_agg.specs.Aggregate.{Aggregate}
 use Rattle.describing_set.specs.Sets.{IsDescSetOf}
-use Rattle.describing_set.specs.declared.set.DescSet.{DescSet}
 use Rattle.dc_node.specs.Block.{rows_in, entries_in, is_leaf, size, IsBodyOf}
-use Rattle.dc_node.specs.Summary.{IsSummary, aggs, joined, row_count}
+use Rattle.dc_node.specs.Summary.{aggs, joined, row_count}
 use Rattle.dc_node.specs.declared.block.Body.{Body}
 use Rattle.dc_node.specs.declared.block.Body.TheVariants.{Rows, Entries}
 use Rattle.dc_node.specs.declared.entry.Entry.{Entry}
@@ -20,6 +18,7 @@ use Rattle.shard_plan.specs.Building.{leaf_rows}
 use Rattle.tree_shape.specs.Forest.{all_entries, all_rows}
 use Rattle.tree_shape.proofs.Assembled.{no-rows}
 use Rattle.shard_build.specs.Building.{AreSmall, IsCountable, IsEntryTo, most, rows_under}
+use Rattle.link_descent.proofs.Parts.{IsSummary-count}
 
 abbrev pub entry_count : Entry → ℕ
 entry_count e = e.agg.count
@@ -79,16 +78,12 @@ directory-body : (h : List Dimension) (body : Body) → is_leaf body ≡ false �
 directory-body h (Rows rows) k v = cc
 directory-body h (Entries entries) k v = v
 
-summary-count : (h : List Dimension) (body : Body) (total : Aggregate) (set : DescSet) → IsSummary h body total set → total.count ≡ row_count body
-summary-count h (Rows rows) total set s = ap (λ (a : Aggregate). a.count) s.0
-summary-count h (Entries entries) total set s = ap (λ (a : Aggregate). a.count) s.0
-
 entries-beneath : (h : List Dimension) (fs : List Fresh) (es : List Entry) → AllZip (IsEntryTo h) fs es → sum_by entry_count es ≡ sum_by rows_under fs
 entries-beneath h [] [] z = refl
 entries-beneath h [] (e ∷ es) z = absurd z
 entries-beneath h (f ∷ fs) [] z = absurd z
 entries-beneath h (f ∷ fs) (e ∷ es) z =
-    let a = summary-count h f.block.body e.agg e.set z.0.summary in
+    let a = IsSummary-count h f.block.body e.agg e.set z.0.summary in
     let ih = entries-beneath h fs es z.1 in
     omega (arith, sum_by-cons entry_count e es, sum_by-cons rows_under f fs)
 

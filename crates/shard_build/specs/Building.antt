@@ -16,7 +16,7 @@ use Rattle.cell_stock.specs.declared.purse.Spare.{Spare}
 use Rattle.link_descent.specs.Descend.{IsEntryOf}
 use Rattle.link_descent.specs.declared.entered.Fresh.{Fresh}
 use Rattle.shard_plan.specs.Building.{leaf_rows, parent_nodes}
-use Rattle.tree_shape.specs.Counts.{times}
+use Rattle.list_words.specs.Counts.{times}
 use Rattle.tree_shape.specs.Shape.{Table, numbers}
 use Rattle.tree_shape.specs.Forest.{AreInCells, AreRowsOf, IsForest, all_entries, all_rows, filled_cells}
 use Rattle.shard_build.specs.Sizes.{put_by, sizes_of}

@@ -9,7 +9,7 @@ use Rattle.cell_stock.specs.Stock.{PurseValue}
 use Rattle.link_descent.specs.declared.entered.Fresh.{Fresh}
 use Rattle.shard_store.specs.Gate.{root_entry}
 use Rattle.shard_plan.specs.Building.{cells_for, leaves_for, levels_for, levels_of}
-use Rattle.tree_shape.specs.Counts.{times}
+use Rattle.list_words.specs.Counts.{times}
 use Rattle.tree_shape.specs.Shape.{Table, TreeCells, numbers}
 use Rattle.tree_shape.specs.Forest.{AfterBuilding, AreInCells, AreRowsOf, all_entries, all_rows, filled_cells}
 use Rattle.shard_build.specs.Building.{AreAlone, AreLeavesFirst, AreLed, AreSmall, IsEntryTo, UsesUp, comes_before, spare_of, spare_to}

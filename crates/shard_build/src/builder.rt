@@ -1,5 +1,5 @@
 //! A tree level by level: the leaves, then directories over each level until there is one block.
-ghost use Rattle.std.specs.Prelude.{◌≡◌, ◌+◌, ◌*◌, ◌<◌, ◌≤◌, ◌^◌, [], ◌∷◌, length, take, drop, All, IfOk, OnErr};
+ghost use Rattle.std.specs.Prelude.{◌≡◌, ◌+◌, ◌*◌, ◌<◌, ◌≤◌, ◌^◌, [], ◌∷◌, length, drop, All, IfOk, OnErr};
 ghost use Rattle.dim_hierarchy.specs.Rows.{IsRowOf};
 ghost use Rattle.link_descent.specs.declared.entered.Fresh as declared;
 ghost use Rattle.shard_plan.specs.Building.{leaves_for, cells_for, parent_nodes};

@@ -1,5 +1,5 @@
 //! The blocks of a tree that is being built, with the memory for those that it has not yet.
-ghost use Rattle.std.specs.Prelude.{◌≡◌, ◌+◌, ◌<◌, ◌≤◌, ◌-◌, ◌^◌, [], ◌∷◌, ◌++◌, length, take, drop, All, IfOk};
+ghost use Rattle.std.specs.Prelude.{◌≡◌, ◌+◌, ◌<◌, ◌≤◌, ◌-◌, [], ◌∷◌, ◌++◌, length, take, drop, All, IfOk};
 ghost use Rattle.std.specs.List.{AllZip};
 ghost use Rattle.dc_node.specs.Limits.{most_of_leaf, most_of_directory};
 ghost use Rattle.shard_build.specs.Building.{leaf_in, IsEntryTo, AddsDirectory, IsCountable};

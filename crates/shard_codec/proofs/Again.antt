@@ -77,14 +77,14 @@ unfolding row_at row_wire
 row-again h len row rest spelled =
     let are = ArePlaces-of h row.at spelled.valid spelled.places in
     let ids = take (length h) row.at.at in
-    let measure = to_be_bytes w64 (cast_unsigned w64 row.measure) in
-    let after = ids_wire ids ++ (measure ++ rest) in
+    let measures = to_be_bytes w64 (cast_unsigned w64 row.measures) in
+    let after = ids_wire ids ++ (measures ++ rest) in
     let regrouped : row_wire (length h) row ++ rest ≡ to_be_bytes w64 row.no ++ after =
-    append_assoc (to_be_bytes w64 row.no) (ids_wire ids ++ measure) rest ∙ ap (λ t. to_be_bytes w64 row.no ++ t) (append_assoc (ids_wire ids) measure rest) in
-    let places : coord_at h len (length h) 0 all_at_top after ≡ Ok (row.at.at, measure ++ rest) =
-    coords-again h len ids (measure ++ rest) spelled.valid.hierarchy.few are.count are.leaves ∙ ap (λ at. Ok (at, measure ++ rest)) (sym are.rest) in
+    append_assoc (to_be_bytes w64 row.no) (ids_wire ids ++ measures) rest ∙ ap (λ t. to_be_bytes w64 row.no ++ t) (append_assoc (ids_wire ids) measures rest) in
+    let places : coord_at h len (length h) 0 all_at_top after ≡ Ok (row.at.at, measures ++ rest) =
+    coords-again h len ids (measures ++ rest) spelled.valid.hierarchy.few are.count are.leaves ∙ ap (λ at. Ok (at, measures ++ rest)) (sym are.rest) in
     ap (row_at h len) regrouped
-    ∙ rw (u64-again len row.no after spelled.number, places, u64-again len (cast_unsigned w64 row.measure) rest (of_z-bound row.measure spelled.measure), to_z-of_z w64 row.measure spelled.measure) refl
+    ∙ rw (u64-again len row.no after spelled.number, places, u64-again len (cast_unsigned w64 row.measures) rest (of_z-bound row.measures spelled.measures), to_z-of_z w64 row.measures spelled.measures) refl
 
 rows-again : (h : List Dimension) (len : ℕ) (front rows : List Row) (rest : List ℕ) → AllByRecursion (IsSpelled h) rows
     → rows_at h len (length rows) front (flat_map (row_wire (length h)) rows ++ rest) ≡ Ok (front ++ rows, rest)

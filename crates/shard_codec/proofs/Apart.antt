@@ -33,7 +33,7 @@ row-of-format h row w =
           (All-append (λ (id : ℕ). id < 2 ^ 32) ids rest (leaves-fit h 0 ids are.leaves) (All-replicate (λ (id : ℕ). id < 2 ^ 32) (8 - length h) 0 (omega arith)));
       rest = ap (drop (length h)) are.rest ∙ drop_at ids rest (length h) are.count;
       number = w.number;
-      measure = w.measure;
+      measures = w.measures;
     }
 
 pub of-format : (h : List Dimension) (rows : List Row) → AreSpelled h rows → AreOfFormat (length h) rows
@@ -75,34 +75,34 @@ ids-same (x ∷ xs) (y ∷ ys) a b count fit fit2 same =
 
 -- Rows.
 
-row-same : (x y : Row) → x.no ≡ y.no → x.at.at ≡ y.at.at → x.measure ≡ y.measure → x ≡ y
-row-same x y number at measure =
-    let first : x ≡ record { no = y.no; at = x.at; measure = x.measure } = ap (λ (n : ℕ). record { no = n; at = x.at; measure = x.measure }) number in
-    let second : record { no = y.no; at = x.at; measure = x.measure } ≡ record { no = y.no; at = y.at; measure = x.measure } =
-    ap (λ (ids : List ℕ). record { no = y.no; at = record { at = ids }; measure = x.measure }) at in
-    let third : record { no = y.no; at = y.at; measure = x.measure } ≡ y = ap (λ (z : ℤ). record { no = y.no; at = y.at; measure = z }) measure in
+row-same : (x y : Row) → x.no ≡ y.no → x.at.at ≡ y.at.at → x.measures ≡ y.measures → x ≡ y
+row-same x y number at measures =
+    let first : x ≡ record { no = y.no; at = x.at; measures = x.measures } = ap (λ (n : ℕ). record { no = n; at = x.at; measures = x.measures }) number in
+    let second : record { no = y.no; at = x.at; measures = x.measures } ≡ record { no = y.no; at = y.at; measures = x.measures } =
+    ap (λ (ids : List ℕ). record { no = y.no; at = record { at = ids }; measures = x.measures }) at in
+    let third : record { no = y.no; at = y.at; measures = x.measures } ≡ y = ap (λ (z : ℤ). record { no = y.no; at = y.at; measures = z }) measures in
     first ∙ second ∙ third
 
-fields : (number ids measure rest : List ℕ) → (number ++ (ids ++ measure)) ++ rest ≡ number ++ (ids ++ (measure ++ rest))
-fields number ids measure rest = append_assoc number (ids ++ measure) rest ∙ ap (λ t. number ++ t) (append_assoc ids measure rest)
+fields : (number ids measures rest : List ℕ) → (number ++ (ids ++ measures)) ++ rest ≡ number ++ (ids ++ (measures ++ rest))
+fields number ids measures rest = append_assoc number (ids ++ measures) rest ∙ ap (λ t. number ++ t) (append_assoc ids measures rest)
 
 rows-begin : (dims : ℕ) (x y : Row) (a b : List ℕ) → IsOfFormat dims x → IsOfFormat dims y → row_wire dims x ++ a ≡ row_wire dims y ++ b → (x ≡ y) × (a ≡ b)
 unfolding row_wire
 rows-begin dims x y a b fits fits2 same =
-    let measure = to_be_bytes w64 (cast_unsigned w64 x.measure) in
-    let measure2 = to_be_bytes w64 (cast_unsigned w64 y.measure) in
+    let measures = to_be_bytes w64 (cast_unsigned w64 x.measures) in
+    let measure2 = to_be_bytes w64 (cast_unsigned w64 y.measures) in
     let ids = take dims x.at.at in
     let ids2 = take dims y.at.at in
-    let number = u64-same x.no y.no (ids_wire ids ++ (measure ++ a)) (ids_wire ids2 ++ (measure2 ++ b)) fits.number fits2.number
-    (sym (fields (to_be_bytes w64 x.no) (ids_wire ids) measure a) ∙ same ∙ fields (to_be_bytes w64 y.no) (ids_wire ids2) measure2 b) in
+    let number = u64-same x.no y.no (ids_wire ids ++ (measures ++ a)) (ids_wire ids2 ++ (measure2 ++ b)) fits.number fits2.number
+    (sym (fields (to_be_bytes w64 x.no) (ids_wire ids) measures a) ∙ same ∙ fields (to_be_bytes w64 y.no) (ids_wire ids2) measure2 b) in
     let count : length ids ≡ length ids2 = omega (arith, length-take dims x.at.at, length-take dims y.at.at, fits.places, fits2.places) in
-    let places = ids-same ids ids2 (measure ++ a) (measure2 ++ b) count (All-take (λ (id : ℕ). id < 2 ^ 32) dims x.at.at fits.ids)
+    let places = ids-same ids ids2 (measures ++ a) (measure2 ++ b) count (All-take (λ (id : ℕ). id < 2 ^ 32) dims x.at.at fits.ids)
     (All-take (λ (id : ℕ). id < 2 ^ 32) dims y.at.at fits2.ids) number.1 in
-    let last = u64-same (cast_unsigned w64 x.measure) (cast_unsigned w64 y.measure) a b (of_z-bound x.measure fits.measure) (of_z-bound y.measure fits2.measure) places.1 in
+    let last = u64-same (cast_unsigned w64 x.measures) (cast_unsigned w64 y.measures) a b (of_z-bound x.measures fits.measures) (of_z-bound y.measures fits2.measures) places.1 in
     let at : x.at.at ≡ y.at.at =
     sym (take-append-drop dims x.at.at) ∙ ap (λ t. t ++ drop dims x.at.at) places.0 ∙ ap (λ t. ids2 ++ t) (fits.rest ∙ sym fits2.rest) ∙ take-append-drop dims y.at.at in
-    let amount : x.measure ≡ y.measure =
-    sym (to_z-of_z w64 x.measure fits.measure) ∙ ap (cast_signed w64) last.0 ∙ to_z-of_z w64 y.measure fits2.measure in
+    let amount : x.measures ≡ y.measures =
+    sym (to_z-of_z w64 x.measures fits.measures) ∙ ap (cast_signed w64) last.0 ∙ to_z-of_z w64 y.measures fits2.measures in
     (row-same x y number.0 at amount, last.1)
 
 rows-same : (dims : ℕ) (xs ys : List Row) (a b : List ℕ) → length xs ≡ length ys → AllByRecursion (IsOfFormat dims) xs → AllByRecursion (IsOfFormat dims) ys

@@ -184,49 +184,49 @@ record IsRowRead (h : List Dimension) (bytes : List ℕ) (read : Row × List ℕ
   pub row : IsSpelled h read.0
 
 -- a row of three fields that are read one after the other
-row_of_fields : (h : List Dimension) (bytes : List ℕ) (number : ℕ × List ℕ) (at : List ℕ × List ℕ) (measure : ℕ × List ℕ) (read : Row × List ℕ) → IsHierarchy h
-    → IsNumberRead w64 (2 ^ 64) bytes number → AreLeavesRead h 0 (length h) [] (replicate (8 - length h) 0) number.1 at → IsNumberRead w64 (2 ^ 64) at.1 measure
-    → done (record { no = number.0; at = record { at = at.0 }; measure = cast_signed w64 measure.0 }, measure.1) ≡ Ok read → IsRowRead h bytes read
+row_of_fields : (h : List Dimension) (bytes : List ℕ) (number : ℕ × List ℕ) (at : List ℕ × List ℕ) (measures : ℕ × List ℕ) (read : Row × List ℕ) → IsHierarchy h
+    → IsNumberRead w64 (2 ^ 64) bytes number → AreLeavesRead h 0 (length h) [] (replicate (8 - length h) 0) number.1 at → IsNumberRead w64 (2 ^ 64) at.1 measures
+    → done (record { no = number.0; at = record { at = at.0 }; measures = cast_signed w64 measures.0 }, measures.1) ≡ Ok read → IsRowRead h bytes read
 unfolding row_wire
-row_of_fields h bytes number at measure read w first places last e =
+row_of_fields h bytes number at measures read w first places last e =
     let n = length h in
     let few = w.few in
     let count = places.count in
-    let row : Row = record { no = number.0; at = record { at = at.0 }; measure = cast_signed w64 measure.0 } in
+    let row : Row = record { no = number.0; at = record { at = at.0 }; measures = cast_signed w64 measures.0 } in
     let ids : take n at.0 ≡ places.ids = ap (take n) places.at ∙ take_at places.ids (replicate (8 - n) 0) n count in
-    let bits : cast_unsigned w64 (cast_signed w64 measure.0) ≡ measure.0 = of_z-to_z w64 measure.0 last.fits in
-    let same : row_wire n row ≡ to_be_bytes w64 number.0 ++ (ids_wire places.ids ++ to_be_bytes w64 measure.0) =
-    ap (λ t. to_be_bytes w64 number.0 ++ (ids_wire t ++ to_be_bytes w64 (cast_unsigned w64 (cast_signed w64 measure.0)))) ids
+    let bits : cast_unsigned w64 (cast_signed w64 measures.0) ≡ measures.0 = of_z-to_z w64 measures.0 last.fits in
+    let same : row_wire n row ≡ to_be_bytes w64 number.0 ++ (ids_wire places.ids ++ to_be_bytes w64 measures.0) =
+    ap (λ t. to_be_bytes w64 number.0 ++ (ids_wire t ++ to_be_bytes w64 (cast_unsigned w64 (cast_signed w64 measures.0)))) ids
     ∙ ap (λ m. to_be_bytes w64 number.0 ++ (ids_wire places.ids ++ to_be_bytes w64 m)) bits in
-    let behind = Begins-then number.1 (ids_wire places.ids) at.1 (to_be_bytes w64 measure.0) measure.1 places.text last.text in
-    let parts = Begins-then bytes (to_be_bytes w64 number.0) number.1 (ids_wire places.ids ++ to_be_bytes w64 measure.0) measure.1 first.text behind in
+    let behind = Begins-then number.1 (ids_wire places.ids) at.1 (to_be_bytes w64 measures.0) measures.1 places.text last.text in
+    let parts = Begins-then bytes (to_be_bytes w64 number.0) number.1 (ids_wire places.ids ++ to_be_bytes w64 measures.0) measures.1 first.text behind in
     let are : ArePlaces h at.0 = record {
       count = ap length ids ∙ count;
       leaves = subst (AreLeaves h 0) (sym ids) places.leaves;
       rest = places.at ∙ ap (λ t. t ++ replicate (8 - n) 0) (sym ids);
     } in
-    subst (IsRowRead h bytes) (ok_is (row, measure.1) read e)
+    subst (IsRowRead h bytes) (ok_is (row, measures.1) read e)
     record {
-      text = subst (λ t. Begins bytes t measure.1) (sym same) parts;
+      text = subst (λ t. Begins bytes t measures.1) (sym same) parts;
       row = record {
         valid = ArePlaces-found h row.at w are;
         places = omega (arith, ap length places.at, length-append places.ids (replicate (8 - n) 0), length-replicate {A = ℕ} (8 - n) 0);
         number = first.fits;
-        measure = sfits_to_z {w = w64} {n = measure.0} (Fits-of_lt {w = w64} {n = measure.0} last.fits);
+        measures = sfits_to_z {w = w64} {n = measures.0} (Fits-of_lt {w = w64} {n = measures.0} last.fits);
       };
     }
 
 row-found : (h : List Dimension) (len : ℕ) (bytes : List ℕ) (read : Row × List ℕ) → IsHierarchy h → IsBytes bytes → row_at h len bytes ≡ Ok read → IsRowRead h bytes read
 unfolding row_at
 row-found h len bytes read w small e =
-    let made = λ (number : ℕ × List ℕ) (at : List ℕ × List ℕ) (measure : ℕ × List ℕ). done (record { no = number.0; at = record { at = at.0 }; measure = cast_signed w64 measure.0 }, measure.1) in
-    let number = bind_ok (number_at w64 len bytes) (λ number. coord_at h len (length h) 0 all_at_top number.1 >>= λ at. number_at w64 len at.1 >>= λ measure. made number at measure) read e in
-    let at = bind_ok (coord_at h len (length h) 0 all_at_top number.0.1) (λ at. number_at w64 len at.1 >>= λ measure. made number.0 at measure) read number.2 in
-    let measure = bind_ok (number_at w64 len at.0.1) (λ measure. made number.0 at.0 measure) read at.2 in
+    let made = λ (number : ℕ × List ℕ) (at : List ℕ × List ℕ) (measures : ℕ × List ℕ). done (record { no = number.0; at = record { at = at.0 }; measures = cast_signed w64 measures.0 }, measures.1) in
+    let number = bind_ok (number_at w64 len bytes) (λ number. coord_at h len (length h) 0 all_at_top number.1 >>= λ at. number_at w64 len at.1 >>= λ measures. made number at measures) read e in
+    let at = bind_ok (coord_at h len (length h) 0 all_at_top number.0.1) (λ at. number_at w64 len at.1 >>= λ measures. made number.0 at measures) read number.2 in
+    let measures = bind_ok (number_at w64 len at.0.1) (λ measures. made number.0 at.0 measures) read at.2 in
     let first = number-found w64 (2 ^ 64) wide64 len bytes number.0 small number.1 in
     let places = coords-found h len number.0.1 at.0 w.few first.text.small at.1 in
-    let last = number-found w64 (2 ^ 64) wide64 len at.0.1 measure.0 places.text.small measure.1 in
-    row_of_fields h bytes number.0 at.0 measure.0 read w first places last measure.2
+    let last = number-found w64 (2 ^ 64) wide64 len at.0.1 measures.0 places.text.small measures.1 in
+    row_of_fields h bytes number.0 at.0 measures.0 read w first places last measures.2
 
 record AreRowsRead (h : List Dimension) (n : ℕ) (front : List Row) (bytes : List ℕ) (read : List Row × List ℕ) : Type 0 where
   pub rows : List Row

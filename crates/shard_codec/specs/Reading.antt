@@ -72,8 +72,8 @@ unfoldable pub row_at : List Dimension → ℕ → List ℕ → Result (Row × L
 row_at h len bytes = do
   number ← number_at w64 len bytes
   at ← coord_at h len (length h) 0 all_at_top number.1
-  measure ← number_at w64 len at.1
-  Ok (record { no = number.0; at = record { at = at.0 }; measure = cast_signed w64 measure.0 }, measure.1)
+  measures ← number_at w64 len at.1
+  Ok (record { no = number.0; at = record { at = at.0 }; measures = cast_signed w64 measures.0 }, measures.1)
 
 -- n rows behind others
 unfoldable pub rows_at : List Dimension → ℕ → ℕ → List Row → List ℕ → Result (List Row × List ℕ) CodecFault

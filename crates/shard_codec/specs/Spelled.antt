@@ -10,7 +10,7 @@ pub record IsSpelled (h : List Dimension) (row : Row) : Type 0 where
   pub valid : IsRowOf h row
   pub places : length row.at.at ≡ 8
   pub number : row.no < 2 ^ 64
-  pub measure : FitsSigned w64 row.measure
+  pub measures : FitsSigned w64 row.measures
 
 -- such rows, fewer than 2^64
 pub record AreSpelled (h : List Dimension) (rows : List Row) : Type 0 where
@@ -23,7 +23,7 @@ pub record IsOfFormat (dims : ℕ) (row : Row) : Type 0 where
   pub ids : All (λ id. id < 2 ^ 32) row.at.at
   pub rest : drop dims row.at.at ≡ replicate (8 - dims) 0
   pub number : row.no < 2 ^ 64
-  pub measure : FitsSigned w64 row.measure
+  pub measures : FitsSigned w64 row.measures
 
 -- such rows, fewer than 2^64
 pub record AreOfFormat (dims : ℕ) (rows : List Row) : Type 0 where

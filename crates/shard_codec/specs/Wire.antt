@@ -22,7 +22,7 @@ ids_wire ids = flat_map id_wire ids
 
 -- a row: its number, a concept for each dimension, and its measure in two's complement
 unfoldable pub row_wire : ℕ → Row → List ℕ
-row_wire dims row = to_be_bytes w64 row.no ++ (ids_wire (take dims row.at.at) ++ to_be_bytes w64 (cast_unsigned w64 row.measure))
+row_wire dims row = to_be_bytes w64 row.no ++ (ids_wire (take dims row.at.at) ++ to_be_bytes w64 (cast_unsigned w64 row.measures))
 
 -- rows over so many dimensions
 abbrev pub wire : ℕ → List Row → List ℕ

@@ -91,9 +91,9 @@ fn row_at<'a>(h: &Hierarchy, len: u64, bytes: &'a [u8]) -> Result<(Row, &'a [u8]
     let (no, rest) = u64_at(len, bytes)?;
     match coord_at(h, len, rest) {
         Ok((at, rest)) => {
-            let (measure, rest) = u64_at(len, rest)?;
-            let measure = measure.cast_signed();
-            Ok((Row { no, at, measure }, rest))
+            let (measures, rest) = u64_at(len, rest)?;
+            let measures = measures.cast_signed();
+            Ok((Row { no, at, measures }, rest))
         }
         Err(fault) => Err(fault),
     }

@@ -40,7 +40,7 @@ fn push_row(bytes: &mut Vec<u8>, dims: u8, row: &Row) -> Result<(), AllocError>
 {
     bytes.extend_from_slice(&row.no.to_be_bytes())?;
     push_ids(bytes, &row.at.at[..usize::from(dims)])?;
-    bytes.extend_from_slice(&row.measure.cast_unsigned().to_be_bytes())?;
+    bytes.extend_from_slice(&row.measures.cast_unsigned().to_be_bytes())?;
     Ok(())
 }
 

@@ -102,15 +102,9 @@ pub cells-more : (n level cells : ℕ) → 1 < level → cells + sum (levels_fro
     → (cells + parents level) + sum (levels_from (parents level)) ≡ cells_for n + parents level
 cells-more n level cells many before = omega (arith, cells-many level many)
 
-pub cells-all : (n level cells : ℕ) → level ≤ 1 → cells + sum (levels_from level) ≡ cells_for n + level → cells ≡ cells_for n
-cells-all n level cells one before = omega (arith, cells-one level one)
-
 pub count-more : (n level levels : ℕ) → 1 < level → levels + length (levels_from level) ≡ levels_for n + 1
     → (levels + 1) + length (levels_from (parents level)) ≡ levels_for n + 1
 count-more n level levels many before = omega (arith, count-many level many)
-
-pub count-all : (n level levels : ℕ) → level ≤ 1 → levels + length (levels_from level) ≡ levels_for n + 1 → levels ≡ levels_for n
-count-all n level levels one before = omega (arith, count-one level one)
 
 -- how many levels a tree can have
 pub levels_for-bound : (n : ℕ) → n < 2 ^ 40 → levels_for n ≤ 41

@@ -89,37 +89,12 @@ impl Gate {
         self.queue.push(h, row)
     }
 
-    /// Counts an inserter that enters the tree.
-    pub fn enter(&mut self)
-        requires open { self.old.phase ≡ Phase.Open }
-        requires room { self.old.active + 1 < 2 ^ 64 }
-        ensures { self.new ≡ record self.old { active = self.old.active + 1 } }
-    {
-        self.active += 1;
-    }
-
     /// Counts an inserter that leaves the tree.
     pub fn leave(&mut self)
         requires { 0 < self.old.active }
         ensures { self.old ≡ record self.new { active = self.new.active + 1 } }
     {
         self.active -= 1;
-    }
-
-    /// Counts a query that noted the root.
-    pub fn pin(&mut self)
-        requires { self.old.pins + 1 < 2 ^ 64 }
-        ensures { self.new ≡ record self.old { pins = self.old.pins + 1 } }
-    {
-        self.pins += 1;
-    }
-
-    /// Counts a query that noted the root and is at an end.
-    pub fn unpin(&mut self)
-        requires { 0 < self.old.pins }
-        ensures { self.old ≡ record self.new { pins = self.new.pins + 1 } }
-    {
-        self.pins -= 1;
     }
 
     /// Lets inserts go to the queue from now on. A gate that is frozen is frozen anew, at the length

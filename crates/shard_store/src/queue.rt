@@ -46,7 +46,7 @@ impl Queue {
         ensures err { OnErr result (self.new ≡ self.old) }
     {
         self.rows.push(*row)?;
-        self.agg = self.agg.join(&Agg::one(row.measure));
+        self.agg = self.agg.join(&Agg::one(row.measures));
         self.set.grow(h, &row.at);
         laws(h);
         Ok(())

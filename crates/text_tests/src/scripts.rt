@@ -79,7 +79,7 @@ fn expect_head<R: Abort>(rt: &R, script: &Script) {
 
 /// Compares an insert.
 fn expect_insert<R: Abort>(rt: &R, row: &NewRow) {
-    assert_eq!(rt; (row.server, row.measure), (2, -5));
+    assert_eq!(rt; (row.server, row.measures), (2, -5));
     if row.names.len() != 2 {
         panic!(rt; "another row");
     }

@@ -6,10 +6,10 @@ use Rattle.dc_node.specs.declared.block.Block.{Block}
 use Rattle.dc_node.specs.declared.entry.Entry.{Entry}
 use Rattle.shard_store.specs.Gate.{root_entry}
 use Rattle.shard_store.specs.declared.gate.Gate.{Gate}
-use Rattle.tree_shape.specs.Counts.{Each}
+use Rattle.list_words.specs.Counts.{Each}
+use Rattle.list_words.proofs.Each.{each-map}
 use Rattle.tree_shape.specs.PageLines.{CellBlocks, group, group_entries, line, lines}
 use Rattle.tree_shape.specs.Shape.{Table, Shape}
-use Rattle.tree_shape.proofs.Divisions.{each-map}
 use Rattle.tree_page.specs.Still.{IsStill}
 use Rattle.tree_page.proofs.Counts.{IsEntry, group-is, entries-ok, root-ok}
 

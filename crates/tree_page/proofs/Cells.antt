@@ -1,9 +1,9 @@
 -- The blocks of a walk by their cells.
 use Rattle.std.proofs.Common.{ℕ, zero, suc, ◌≡◌, ◌≢◌, ◌<◌, Some, None, List, [], ◌∷◌, length, map, refl, sym, ap, ◌∙◌, arith}
-use Rattle.tree_shape.specs.Counts.{Each}
+use Rattle.list_words.specs.Counts.{Each}
+use Rattle.std.proofs.lemmas.Bool.{eq-eqb, ne_eqb}
 use Rattle.tree_shape.specs.Shape.{Node, node_of}
 use Rattle.tree_shape.specs.Walks.{IsTail}
-use Rattle.tree_shape.proofs.Walks.{eqb-yes, eqb-no}
 use Rattle.tree_shape.specs.PageLines.{linked, after, walk}
 use Rattle.tree_shape.specs.PageLines.{CellBlocks}
 use Rattle.tree_page.proofs.Walks.{walk-none}
@@ -17,13 +17,13 @@ module _ (blocks : CellBlocks) (look : ℕ → Node) (stamp : ℕ) where
   after-last : (y : ℕ) → IsSeen blocks look y → (look y).stamp ≡ stamp → after blocks stamp (blocks.block y) ≡ None
   after-last y s e =
       let t : (blocks.block y).stamp ≡ stamp = sym (ap (λ (n : Node). n.stamp) s.is) ∙ e in
-      rw (eqb-yes _ _ t) refl
+      rw (eq-eqb _ _ t) refl
 
   after-link : (y z : ℕ) → IsSeen blocks look y → (look y).stamp ≢ stamp → (look y).right ≡ Some z → after blocks stamp (blocks.block y) ≡ Some (blocks.block z)
   after-link y z s ne e =
       let t : (blocks.block y).stamp ≢ stamp = λ q. ne (ap (λ (n : Node). n.stamp) s.is ∙ q) in
       let r : (blocks.block y).right ≡ Some z = sym (ap (λ (n : Node). n.right) s.is) ∙ e in
-      rw (eqb-no _ _ t) (ap (linked blocks) r)
+      rw (ne_eqb _ _ t) (ap (linked blocks) r)
 
   -- the walk from a cell to the stamp
   pub walk-cells : (n y : ℕ) (zs : List ℕ) → Each (IsSeen blocks look) (y ∷ zs) → IsTail look stamp y zs → length zs < n

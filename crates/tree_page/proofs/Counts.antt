@@ -7,20 +7,21 @@ use Rattle.dc_node.specs.declared.block.Block.{Block}
 use Rattle.dc_node.specs.declared.entry.Entry.{Entry}
 use Rattle.shard_store.specs.Gate.{root_entry}
 use Rattle.shard_store.specs.declared.gate.Gate.{Gate}
-use Rattle.tree_shape.specs.Counts.{Each, same, times, total}
+use Rattle.list_words.specs.Counts.{Each, same, times, total}
+use Rattle.list_words.proofs.Each.{each-map, each-flat, each-made}
+use Rattle.list_words.proofs.Totals.{total-map, total-flat, total-same, total-none}
+use Rattle.list_words.proofs.Truth.{on_bool}
+use Rattle.list_words.proofs.Times.{same_is, length-few, each-times}
 use Rattle.tree_shape.specs.Shape.{Table, Node, TreeCells, nodes, Shape, numbers}
 use Rattle.tree_shape.specs.Trees.{EntryOk, BlockOk, lies}
 use Rattle.tree_shape.specs.Walks.{noted_of}
 use Rattle.tree_shape.proofs.Assembled.{node-block, node-gate}
-use Rattle.tree_shape.proofs.Divisions.{each-map, sums-low, sums-out}
-use Rattle.tree_shape.proofs.Parts.{total-map}
+use Rattle.tree_shape.proofs.Divisions.{sums-low, sums-out}
 use Rattle.tree_shape.proofs.Queries.{reach-low}
-use Rattle.tree_shape.proofs.Walks.{on_bool, same_is}
 use Rattle.tree_page.specs.Still.{cells_with, IsStill}
 use Rattle.tree_shape.specs.PageLines.{CellBlocks}
 use Rattle.tree_shape.specs.PageLines.{group, group_entries}
-use Rattle.tree_page.proofs.Numbers.{length-few, each-times, times-flat, each-flat, total-flat, total-same}
-use Rattle.tree_page.proofs.Bodies.{each-mapped, total-none}
+use Rattle.tree_page.proofs.Numbers.{times-flat}
 use Rattle.tree_page.proofs.Cells.{IsSeen, walk-cells}
 use Rattle.tree_page.proofs.Listing.{leaf_rows, rows_at}
 
@@ -115,7 +116,7 @@ module _ (table : Table) (home : ℕ) (gate : Gate) (blocks : CellBlocks) (g : S
   pub entries-ok : (l k : ℕ) (e : Entry) → k ≡ l + 1 → k < gate.height → IsEntry k e → Each (IsEntry l) (group_entries blocks e)
   entries-ok l k e up lt ok = subst (λ bs. Each (IsEntry l) (flat_map (λ (b : Block). entries_in b.body) bs)) (sym (group-is k e lt ok))
       (each-flat (IsEntry l) (λ (b : Block). entries_in b.body) (map (blocks.block) (g.group e.child))
-      (each-mapped (IsOn k) (λ (b : Block). Each (IsEntry l) (entries_in b.body)) (blocks.block) (g.group e.child)
+      (each-made (IsOn k) (λ (b : Block). Each (IsEntry l) (entries_in b.body)) (blocks.block) (g.group e.child)
       (λ y on. subst (λ (n : Node). Each (IsEntry l) n.entries) (seen k y lt on).is (still.tree.tree.dirs y l on.0 (on.1 ∙ up)).entries) (on-level k e ok)))
 
   pub dir-times : (l k : ℕ) (e : Entry) → k ≡ l + 1 → k < gate.height → IsEntry k e → (r : ℕ) → total (λ x. times r (g.below x.child)) (group_entries blocks e) ≡ times r (g.below e.child)
@@ -183,6 +184,6 @@ module _ (table : Table) (home : ℕ) (gate : Gate) (blocks : CellBlocks) (g : S
   pub named-ok : (l : ℕ) (e : Entry) → l < gate.height → IsEntry l e → Each (λ r. table.row r.no ≡ r) (rows_at blocks l e)
   named-ok zero e lt ok = subst (λ bs. Each (λ r. table.row r.no ≡ r) (flat_map (λ (b : Block). rows_in b.body) bs)) (sym (group-is 0 e lt ok))
       (each-flat (λ (r : Row). table.row r.no ≡ r) (λ (b : Block). rows_in b.body) (map (blocks.block) (g.group e.child))
-      (each-mapped (IsOn 0) (λ (b : Block). Each (λ r. table.row r.no ≡ r) (rows_in b.body)) (blocks.block) (g.group e.child) (λ y on. (block-ok 0 y lt on).rows) (on-level 0 e ok)))
+      (each-made (IsOn 0) (λ (b : Block). Each (λ r. table.row r.no ≡ r) (rows_in b.body)) (blocks.block) (g.group e.child) (λ y on. (block-ok 0 y lt on).rows) (on-level 0 e ok)))
   named-ok (suc l) e lt ok = each-flat (λ (r : Row). table.row r.no ≡ r) (λ x. rows_at blocks l x) (group_entries blocks e)
       (each-map (IsEntry l) (λ x. Each (λ r. table.row r.no ≡ r) (rows_at blocks l x)) (group_entries blocks e) (λ x o. named-ok l x (omega arith) o) (entries-ok l (suc l) e (omega arith) lt ok))

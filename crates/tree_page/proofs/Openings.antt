@@ -7,13 +7,14 @@ use Rattle.shard_store.specs.declared.gate.Gate.{Gate}
 use Rattle.tree_shape.specs.Shape.{Table}
 use Rattle.tree_shape.specs.Laws.{OpeningLaw}
 use Rattle.tree_shape.specs.Steps.{OpensOver, AfterOpening}
-use Rattle.tree_shape.proofs.Walks.{on_bool, eqb-eq, eqb-ne}
+use Rattle.list_words.proofs.Truth.{on_bool}
+use Rattle.std.proofs.lemmas.Bool.{eqb-true, eqb-false}
 use Rattle.tree_shape.specs.PageLines.{CellBlocks}
 use Rattle.tree_page.specs.Still.{cells_with, CanShow}
 
 -- any rows will do
 abbrev pub no_table : List Dimension → Table
-no_table h = record { hierarchy = h; row = λ _. record { no = 0; at = record { at = [] }; measure = pos 0 } }
+no_table h = record { hierarchy = h; row = λ _. record { no = 0; at = record { at = [] }; measures = pos 0 } }
 
 pub opened-can_show : (h : List Dimension) (home : ℕ) (gate : Gate) (blocks : CellBlocks) (leaf : Block) → OpeningLaw leaf → OpensOver (no_table h) (cells_with home gate blocks) leaf
     → home < blocks.count → gate.root < blocks.count → CanShow gate blocks
@@ -27,9 +28,9 @@ opened-can_show h home gate blocks leaf law opens home_in root_in =
         tree = after.tree;
         settled = λ r p. (let bad : true ≡ false = sym p ∙ after.empty r in cc);
         known = λ y i. on_bool (eqb y home)
-            (λ p. let e = eqb-eq _ _ p in omega arith)
+            (λ p. let e = eqb-true _ _ p in omega arith)
             (λ p. on_bool (eqb y gate.root)
-            (λ q. let e = eqb-eq _ _ q in omega arith)
-            (λ q. let bad : true ≡ false = sym i ∙ after.others y (eqb-ne _ _ p) (eqb-ne _ _ q) in cc));
+            (λ q. let e = eqb-true _ _ q in omega arith)
+            (λ q. let bad : true ≡ false = sym i ∙ after.others y (eqb-false _ _ p) (eqb-false _ _ q) in cc));
       };
     }

@@ -12,16 +12,18 @@ use Rattle.shard_store.specs.Gate.{root_entry}
 use Rattle.shard_store.specs.declared.gate.Gate.{Gate}
 use Rattle.row_ledger.specs.declared.page.NodeLine.{NodeLine}
 use Rattle.row_ledger.specs.Pages.{Groups, none, IsLeafGroup, IsDirectoryGroup, AreGroups, IsPageOf}
-use Rattle.tree_shape.specs.Counts.{Each, times}
+use Rattle.list_words.specs.Counts.{Each, times}
+use Rattle.std.proofs.lemmas.Bool.{ne_eqb}
+use Rattle.list_words.proofs.Totals.{length-flat, total-same, total-few, total-some}
+use Rattle.list_words.proofs.Each.{each-made}
 use Rattle.tree_shape.specs.Shape.{Table, Shape, numbers}
 use Rattle.tree_shape.specs.Laws.{OrderLaw, GateLaw}
 use Rattle.tree_shape.proofs.Sums.{rows-named}
-use Rattle.tree_shape.proofs.Walks.{eqb-no}
 use Rattle.tree_page.specs.Still.{cells_with, IsStill}
 use Rattle.tree_shape.specs.PageLines.{CellBlocks}
 use Rattle.tree_shape.specs.PageLines.{group, group_entries, line, lines}
-use Rattle.tree_page.proofs.Numbers.{perm-rows, length-flat, total-same}
-use Rattle.tree_page.proofs.Bodies.{leaf-size, leaf-limit, directory-size, directory-limit, each-mapped, total-few, total-some}
+use Rattle.tree_page.proofs.Numbers.{perm-rows}
+use Rattle.tree_page.proofs.Bodies.{leaf-size, leaf-limit, directory-size, directory-limit}
 use Rattle.tree_page.proofs.Listing.{leaf_rows, rows_at, all_groups, grouped, listing-one, rows-one, rows-beneath, tops-one, tops-all}
 use Rattle.tree_page.proofs.Counts.{IsOn, IsEntry, block-ok, on-level, group-some, group-is, entries-ok, root-ok, root-times, rows-ok, named-ok}
 
@@ -44,7 +46,7 @@ module _ (table : Table) (home : ℕ) (gate : Gate) (blocks : CellBlocks) (g : S
 
   leaf-blocks : (e : Entry) → 0 < gate.height → Entry_ok 0 e → Each IsLeafBlock (group blocks e)
   leaf-blocks e lt ok = subst (Each IsLeafBlock) (sym (group-is table home gate blocks g still 0 e lt ok))
-      (each-mapped (IsOn table home gate blocks g still 0) IsLeafBlock (blocks.block) (g.group e.child)
+      (each-made (IsOn table home gate blocks g still 0) IsLeafBlock (blocks.block) (g.group e.child)
       (λ y on.
       let b = block-ok table home gate blocks g still 0 y lt on in
       let kind : is_leaf (blocks.block y).body ≡ true = b.kind ∙ ap (λ l. eqb l 0) on.1 in
@@ -55,10 +57,10 @@ module _ (table : Table) (home : ℕ) (gate : Gate) (blocks : CellBlocks) (g : S
 
   directory-blocks : (l : ℕ) (e : Entry) → suc l < gate.height → Entry_ok (suc l) e → Each IsDirectoryBlock (group blocks e)
   directory-blocks l e lt ok = subst (Each IsDirectoryBlock) (sym (group-is table home gate blocks g still (suc l) e lt ok))
-      (each-mapped (IsOn table home gate blocks g still (suc l)) IsDirectoryBlock (blocks.block) (g.group e.child)
+      (each-made (IsOn table home gate blocks g still (suc l)) IsDirectoryBlock (blocks.block) (g.group e.child)
       (λ y on.
       let b = block-ok table home gate blocks g still (suc l) y lt on in
-      let kind : is_leaf (blocks.block y).body ≡ false = b.kind ∙ ap (λ k. eqb k 0) on.1 ∙ eqb-no (suc l) 0 (λ q. absurd (omega arith)) in
+      let kind : is_leaf (blocks.block y).body ≡ false = b.kind ∙ ap (λ k. eqb k 0) on.1 ∙ ne_eqb (suc l) 0 (λ q. absurd (omega arith)) in
       let few = b.few in
       let room = directory-limit (blocks.block y).body kind in
       let high = on.1 in

@@ -2,10 +2,10 @@
 ghost use Rattle.std.specs.Prelude.{◌≡◌, ◌<◌, ◌^◌, length};
 ghost use Rattle.std.specs.Option.{option_copied};
 ghost use Rattle.dc_node.specs.Block.{size};
-ghost use Rattle.tree_shape.specs.Counts.{total};
+ghost use Rattle.list_words.specs.Counts.{total};
 ghost use Rattle.tree_shape.specs.PageLines.{after, group};
 
-use block_cells::BlockCells;
+use crate::block_cells::BlockCells;
 use dc_node::{Block, Body, Entry};
 
 /// The block that follows in a group; none behind the one with the stamp that ends the group.

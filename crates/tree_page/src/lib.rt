@@ -2,7 +2,9 @@
 //! each followed by those beneath it.
 #![tactic(auto)]
 
+mod block_cells;
 mod group;
 mod page;
 
+pub use block_cells::BlockCells;
 pub use page::tree_page;

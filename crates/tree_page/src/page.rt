@@ -4,13 +4,13 @@ ghost use Rattle.std.specs.List.{flat_map};
 ghost use Rattle.dc_node.specs.Block.{entries_in};
 ghost use Rattle.row_ledger.specs.Pages.{IsPageOf};
 ghost use Rattle.shard_store.specs.Gate.{root_entry};
-ghost use Rattle.tree_shape.specs.Counts.{times};
+ghost use Rattle.list_words.specs.Counts.{times};
 ghost use Rattle.tree_shape.specs.Shape.{Table, Shape};
 ghost use Rattle.tree_page.specs.Still.{IsStill, CanShow};
 ghost use Rattle.tree_shape.specs.PageLines.{lines, group_entries};
 
+use crate::block_cells::BlockCells;
 use crate::group::{after, extent};
-use block_cells::BlockCells;
 use dc_node::{Block, Entry};
 use row_ledger::{NodeLine, NodeList, TreePage};
 use shard_store::Gate;

@@ -9,26 +9,26 @@ use Rattle.cell_stock.specs.declared.purse.Spare.{Spare}
 use Rattle.dc_node.specs.declared.block.Block.{Block}
 use Rattle.dc_node.specs.declared.entry.Entry.{Entry}
 use Rattle.dc_node.specs.declared.todo.Item.{Item}
-use Rattle.tree_shape.specs.Counts.{Among, Each}
+use Rattle.list_words.specs.Counts.{Among, Each}
+use Rattle.list_words.proofs.Each.{each-left, each-right, each-of}
+use Rattle.list_words.proofs.Truth.{on_bool}
+use Rattle.std.proofs.lemmas.Bool.{eqb-true, eqb-false, ne_eqb, eq-eqb}
 use Rattle.tree_shape.specs.Queries.{NoneWaits, items_of}
 use Rattle.tree_shape.specs.Shape.{Node, Shape, Table, TreeCells, gate_node, node_of, nodes}
 use Rattle.tree_shape.specs.Steps.{AreApart, AreSpares, IsSpare}
 use Rattle.tree_shape.specs.Trees.{BlockOk, IsTree, TreeOk, limit}
 use Rattle.tree_shape.specs.Walks.{Noted}
 use Rattle.tree_shape.proofs.Relations.{Grew, NoneExpects, all_grown}
-use Rattle.tree_shape.proofs.Parts.{each-left, each-right}
 use Rattle.shard_store.specs.Gate.{root_entry}
-use Rattle.tree_shape.proofs.Divisions.{each-of}
 use Rattle.tree_shape.proofs.Onto.{child_in}
-use Rattle.tree_shape.proofs.Walks.{on_bool, eqb-eq, eqb-ne, eqb-no, eqb-yes}
 
 -- Nodes.
 
 pub node-block : (cells : TreeCells) (y : ℕ) → y ≢ cells.gate_cell → nodes cells y ≡ node_of (cells.block y)
-node-block cells y h = rw (eqb-no y cells.gate_cell h) refl
+node-block cells y h = rw (ne_eqb y cells.gate_cell h) refl
 
 pub node-gate : (cells : TreeCells) → nodes cells cells.gate_cell ≡ gate_node cells.gate
-node-gate cells = rw (eqb-yes cells.gate_cell cells.gate_cell refl) refl
+node-gate cells = rw (eq-eqb cells.gate_cell cells.gate_cell refl) refl
 
 pub no-rows : (body : Body) → is_leaf body ≡ false → rows_in body ≡ []
 no-rows (Rows rows) h = cc
@@ -90,14 +90,14 @@ assemble table now gate_cell top_level g g3 fresh j k r x n tree w lower_j low g
           let at_level : g3.level (g3.at q) ≡ top_level = ap g3.level e1 ∙ lv in
           on_bool (g3.carried q)
           (λ c. on_bool (eqb q r)
-          (λ z. let xl = w.x_level in let a : g3.level (g3.at q) ≡ k = ap (λ y. g3.level (g3.at y)) (eqb-eq _ _ z) ∙ ap g3.level w.at_r ∙ w.x_level in absurd (omega arith))
-          (λ z. let ne = eqb-ne _ _ z in
+          (λ z. let xl = w.x_level in let a : g3.level (g3.at q) ≡ k = ap (λ y. g3.level (g3.at y)) (eqb-true _ _ z) ∙ ap g3.level w.at_r ∙ w.x_level in absurd (omega arith))
+          (λ z. let ne = eqb-false _ _ z in
           let p1 = sym (w.placed q) ∙ p in
           n.entered q ne p1 (sym (w.at q ne p1 (sym (w.carried q) ∙ c)) ∙ e1)))
           (λ c. let s = tree.shape.settled q p c in absurd (omega arith));
       heads = λ q p c. on_bool (eqb q r)
-          (λ z. rw (eqb-eq _ _ z, w.at_r) w.x_head)
-          (λ z. let ne = eqb-ne _ _ z in
+          (λ z. rw (eqb-true _ _ z, w.at_r) w.x_head)
+          (λ z. let ne = eqb-false _ _ z in
           let p1 = sym (w.placed q) ∙ p in
           let c1 = sym (w.carried q) ∙ c in
           rw (w.at q ne p1 c1) (w.head (g.at q) (old (g.at q) (n.stands q p1)) (n.heads q ne p1 c1)));
@@ -107,12 +107,12 @@ assemble table now gate_cell top_level g g3 fresh j k r x n tree w lower_j low g
           let p3 = sym (w.placed s) ∙ p2 in
           let c3 = sym (w.carried s) ∙ c2 in
           on_bool (eqb q r)
-          (λ z. let qr = eqb-eq _ _ z in on_bool (eqb s r)
-          (λ z2. qr ∙ sym (eqb-eq _ _ z2))
-          (λ z2. let ne = eqb-ne _ _ z2 in absurd (idle s ne p3 c3 (sym (w.at s ne p3 c3) ∙ sym e ∙ ap g3.at qr ∙ w.at_r))))
-          (λ z. let ne = eqb-ne _ _ z in on_bool (eqb s r)
-          (λ z2. let sr = eqb-eq _ _ z2 in absurd (idle q ne p1 c1 (sym (w.at q ne p1 c1) ∙ e ∙ ap g3.at sr ∙ w.at_r)))
-          (λ z2. let ne2 = eqb-ne _ _ z2 in n.alone q s ne ne2 p1 c1 p3 c3 (sym (w.at q ne p1 c1) ∙ e ∙ w.at s ne2 p3 c3)));
+          (λ z. let qr = eqb-true _ _ z in on_bool (eqb s r)
+          (λ z2. qr ∙ sym (eqb-true _ _ z2))
+          (λ z2. let ne = eqb-false _ _ z2 in absurd (idle s ne p3 c3 (sym (w.at s ne p3 c3) ∙ sym e ∙ ap g3.at qr ∙ w.at_r))))
+          (λ z. let ne = eqb-false _ _ z in on_bool (eqb s r)
+          (λ z2. let sr = eqb-true _ _ z2 in absurd (idle q ne p1 c1 (sym (w.at q ne p1 c1) ∙ e ∙ ap g3.at sr ∙ w.at_r)))
+          (λ z2. let ne2 = eqb-false _ _ z2 in n.alone q s ne ne2 p1 c1 p3 c3 (sym (w.at q ne p1 c1) ∙ e ∙ w.at s ne2 p3 c3)));
       numbered = λ q p. n.numbered q (sym (w.placed q) ∙ p);
       blocks = λ b i h. blocks b i (λ e. h (e ∙ sym gc));
     }
@@ -170,7 +170,7 @@ block-part table g g3 c y old now ok kind some few among room lv = record {
 pub block-entries : (table : Table) (g g3 : Shape) (b : ℕ) (old now : Block) (es : List Entry) → 1 ≤ g.level b → now ≡ with_entries old es → 1 ≤ length es → length es ≤ 16 → g3.level b ≡ g.level b
     → ((q : ℕ) → g3.placed q ≡ true → g3.carried q ≡ true → g3.at q ≢ b) → BlockOk table g3 b now
 block-entries table g g3 b old now es up is some few lv none = subst (BlockOk table g3 b) (sym is) (record {
-  kind = sym (eqb-no (g3.level b) 0 (omega (arith, lv)));
+  kind = sym (ne_eqb (g3.level b) 0 (omega (arith, lv)));
   some = λ h. some;
   few = few;
   rows = tt;

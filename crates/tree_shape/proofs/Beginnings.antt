@@ -12,7 +12,10 @@ use Rattle.shard_store.specs.Gate.{root_entry}
 use Rattle.link_descent.specs.Visit.{matching, taken, noted}
 use Rattle.dc_node.specs.declared.entry.Entry.{Entry}
 use Rattle.dim_hierarchy.specs.declared.row.Row.{Row}
-use Rattle.tree_shape.specs.Counts.{Each, times}
+use Rattle.list_words.specs.Counts.{Each, times}
+use Rattle.list_words.proofs.Truth.{on_bool}
+use Rattle.std.proofs.lemmas.Bool.{eqb-true, eqb-false, leb-true, leb-false}
+use Rattle.list_words.proofs.Times.{same_is, same_not, times-append}
 use Rattle.tree_shape.specs.Queries.{QueryOk, fits, items_of}
 use Rattle.tree_shape.specs.Shape.{Node, Shape, Table, TreeCells, nodes, numbers}
 use Rattle.tree_shape.specs.Steps.{AfterBegin, BeginsQuery}
@@ -20,11 +23,9 @@ use Rattle.link_descent.specs.GateRead.{queue_part}
 use Rattle.tree_shape.specs.Trees.{DirOk, IsTree}
 use Rattle.tree_shape.specs.Walks.{IsNoted, Noted}
 use Rattle.tree_shape.proofs.Relations.{IsSumOf, Verdict, fitting, notes, takes}
-use Rattle.tree_shape.proofs.Walks.{on_bool, eqb-eq, eqb-ne, same_is, same_not}
 use Rattle.tree_shape.proofs.Sums.{rows-named}
-use Rattle.tree_shape.proofs.Queries.{leb-le, leb-gt}
 use Rattle.tree_shape.proofs.Rows.{query-begins}
-use Rattle.tree_shape.proofs.Visits.{unplaced, query-visit_dir, times-append, times-fitting, times-unfitting}
+use Rattle.tree_shape.proofs.Visits.{unplaced, query-visit_dir, times-fitting, times-unfitting}
 use Rattle.tree_shape.proofs.Assembled.{node-gate}
 use Rattle.tree_shape.proofs.Readings.{judge, judged-all, notes-are, takes-are, fitting-are, inside-fits, apart-unfit, items-append, agg-both, fitting-few}
 
@@ -88,7 +89,7 @@ module _ (table : Table) (cells : TreeCells) (g : Shape) (must : ℕ → Bool) (
   way_in = record { cell = cells.gate_cell; stamp = 0; level = cells.gate.height; walk = cells.gate_cell ∷ [] }
 
   on-way : (y : ℕ) → 1 ≤ times y (gate ∷ []) → y ≡ gate
-  on-way y h = on_bool (eqb y gate) (λ q. eqb-eq _ _ q) (λ q. let z = same_not y gate (eqb-ne _ _ q) in absurd (omega arith))
+  on-way y h = on_bool (eqb y gate) (λ q. eqb-true _ _ q) (λ q. let z = same_not y gate (eqb-false _ _ q) in absurd (omega arith))
 
   way-noted : IsNoted g look way_in
   way-noted = record {
@@ -102,8 +103,8 @@ module _ (table : Table) (cells : TreeCells) (g : Shape) (must : ℕ → Bool) (
       (λ y i l. let e = tree.only y i l in let o = same_is y gate e in omega arith)
       (λ r. let a = fitting-few fit r (numbers rows) in let b = d.once r in let c = times-append r queued counted in omega arith)
       (λ r h. on_bool (leb 1 (times r queued))
-      (λ q. fits-there fit r (numbers rows) (leb-le _ _ q))
-      (λ q. let z = leb-gt _ _ q in let c = times-append r queued counted in d.fitting r (omega arith)))
+      (λ q. fits-there fit r (numbers rows) (leb-true _ _ q))
+      (λ q. let z = leb-false _ _ q in let c = times-append r queued counted in d.fitting r (omega arith)))
       (λ r p. let a = fitting-few fit r (numbers rows) in let b = d.apart r p in let c = times-append r queued counted in omega arith)
 
   abbrev l : ℕ

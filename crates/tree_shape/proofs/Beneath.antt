@@ -11,25 +11,26 @@ use Rattle.dc_node.specs.declared.block.Block.{Block}
 use Rattle.dc_node.specs.declared.entry.Entry.{Entry}
 use Rattle.shard_store.specs.Gate.{root_entry}
 use Rattle.link_descent.specs.Divide.{together}
-use Rattle.tree_shape.specs.Counts.{Each, same, times, total}
+use Rattle.list_words.specs.Counts.{Each, same, times, total}
+use Rattle.list_words.proofs.Truth.{on_bool}
+use Rattle.std.proofs.lemmas.Bool.{eqb-true, eqb-false, leb-true, leb-false}
+use Rattle.list_words.proofs.Times.{same_is, each-times, length-le}
+use Rattle.list_words.proofs.Each.{each-map, all-each, each-mapped}
+use Rattle.list_words.proofs.Totals.{total-append}
 use Rattle.tree_shape.specs.Shape.{Node, Shape, Table, TreeCells, node_of, nodes, numbers}
 use Rattle.tree_shape.specs.Trees.{BehindFits, EntryOk, IsBehind, IsTree, TreeOk, cells_behind, lies}
-use Rattle.tree_shape.proofs.Relations.{all_below, group_rows, part_rows, rows_of}
-use Rattle.tree_shape.proofs.Walks.{on_bool, eqb-eq, eqb-ne, same_is}
-use Rattle.tree_shape.proofs.Queries.{leb-le, leb-gt}
-use Rattle.tree_shape.proofs.Divisions.{beneath-each, each-map, sums-low, sums-high, sums-out}
-use Rattle.tree_shape.proofs.Parts.{all-each, total-append}
-use Rattle.tree_shape.proofs.Groups.{each-entry, each-mapped, group_rows-times, leaf-together, rows-together}
-use Rattle.tree_shape.proofs.Tails.{each-cell}
+use Rattle.tree_shape.proofs.Relations.{all_below, group_rows, part_rows, block_rows}
+use Rattle.tree_shape.proofs.Divisions.{beneath-each, sums-low, sums-high, sums-out}
+use Rattle.tree_shape.proofs.Groups.{each-entry, group_rows-times, leaf-together, rows-together}
 use Rattle.tree_shape.proofs.Assembled.{node-block}
-use Rattle.tree_shape.proofs.Totals.{IsCounted, block-fits, entry-counted, entry-leads, has-behind, joined-below, length-le, root-leads}
+use Rattle.tree_shape.proofs.Totals.{IsCounted, block-fits, entry-counted, entry-leads, has-behind, joined-below, root-leads}
 
 -- how often a row of the tree is at a block of the level k, or hangs under it
 abbrev hangs : Shape → ℕ → ℕ → ℕ → ℕ
 hangs g k r y = cond (g.placed r) (cond (leb (g.level (g.at r)) k) (times (g.above (g.at r) k) (y ∷ [])) 0) 0
 
 le-leb : (a b : ℕ) → a ≤ b → leb a b ≡ true
-le-leb a b h = on_bool (leb a b) (λ q. q) (λ q. let gt = leb-gt _ _ q in absurd (omega arith))
+le-leb a b h = on_bool (leb a b) (λ q. q) (λ q. let gt = leb-false _ _ q in absurd (omega arith))
 
 -- the rows of a leaf, and those beneath the entries of a directory, hang under it
 module _ (g : Shape) (look : ℕ → Node) (table : Table) (tree : TreeOk g look table) (k y r : ℕ) (yi : g.inside y ≡ true) (yl : g.level y ≡ k) where
@@ -54,7 +55,7 @@ module _ (g : Shape) (look : ℕ → Node) (table : Table) (tree : TreeOk g look
       on_bool (g.placed r)
       (λ p. on_bool (leb (g.level (g.at r)) l)
       (λ q.
-      let low = leb-le _ _ q in
+      let low = leb-true _ _ q in
       let si = tree.shape.stands r p in
       let top = tree.shape.below y yi in
       let u = tree.shape.higher (g.at r) l si low (omega arith) in
@@ -65,22 +66,22 @@ module _ (g : Shape) (look : ℕ → Node) (table : Table) (tree : TreeOk g look
       let le : leb (g.level (g.at r)) k ≡ true = le-leb (g.level (g.at r)) k (omega arith) in
       let h : hangs g k r y ≡ same (g.above (g.at r) k) y + 0 = rw (p, le) refl in
       omega arith)
-      (λ q. let a = sums-high g look table l r (look y).entries d.entries p (leb-gt _ _ q) in omega arith))
+      (λ q. let a = sums-high g look table l r (look y).entries d.entries p (leb-false _ _ q) in omega arith))
       (λ p. let a = sums-out g look table l r (look y).entries d.entries p in omega arith)
 
   part-hangs : part_rows g (look y) k r ≤ hangs g k r y
   part-hangs = on_bool (eqb k 0)
       (λ q.
       let e : part_rows g (look y) k r ≡ times r (look y).rows = rw q refl in
-      let h = leaf-hangs (eqb-eq _ _ q) in
+      let h = leaf-hangs (eqb-true _ _ q) in
       omega arith)
       (λ q.
-      let n = eqb-ne _ _ q in
+      let n = eqb-false _ _ q in
       let e : part_rows g (look y) k r ≡ total (λ e. times r (g.below e.child)) (look y).entries = rw q refl in
       let h = dir-hangs (k - 1) (omega arith) in
       omega arith)
 
-total-le : {A : Type 0} (f h : A → ℕ) (xs : List A) → Each (λ x. f x ≤ h x) xs → total f xs ≤ total h xs
+pub total-le : {A : Type 0} (f h : A → ℕ) (xs : List A) → Each (λ x. f x ≤ h x) xs → total f xs ≤ total h xs
 total-le f h [] e = omega arith
 total-le f h (x ∷ xs) e = let a = e.0 in let b = total-le f h xs e.1 in omega arith
 
@@ -89,7 +90,7 @@ group-beneath : (g : Shape) (look : ℕ → Node) (table : Table) (k : ℕ) (e :
     → times r (group_rows g look k front) ≤ times r (g.below e.child)
 group-beneath g look table k e front back r tree ok is =
     let parts = group_rows-times g look k r front in
-    let few = total-le (λ y. part_rows g (look y) k r) (hangs g k r) front (each-cell (λ y. part_rows g (look y) k r ≤ hangs g k r y) front (λ y h.
+    let few = total-le (λ y. part_rows g (look y) k r) (hangs g k r) front (each-times (λ y. part_rows g (look y) k r ≤ hangs g k r y) front (λ y h.
     let on = ap (times y) is in
     let w = ok.group.cells y (omega (arith, total-append (same y) front back)) in
     part-hangs g look table tree k y r w.0 w.1)) in
@@ -120,7 +121,7 @@ module _ (table : Table) (cells : TreeCells) (g : Shape) (t : IsTree table cells
   counted y yi yl = on_bool (eqb (g.level y) 0)
       (λ q. leaf (cells.block y).body ((t.blocks y yi (off-gate y yl)).kind ∙ q))
       (λ q.
-      let n = eqb-ne _ _ q in
+      let n = eqb-false _ _ q in
       let d = t.tree.dirs y (k - 1) yi (omega arith) in
       subst (λ (b : Node). Each (IsCounted g) b.entries) (is y yl) (each-map (EntryOk g (nodes cells) table (k - 1)) (IsCounted g) (nodes cells y).entries (entry-counted g (nodes cells) table (k - 1)) d.entries))
     where
@@ -141,9 +142,9 @@ module _ (table : Table) (cells : TreeCells) (g : Shape) (t : IsTree table cells
       let count = body-count g all k (leaf-together head (map cells.block front) ∙ kind)
       (each-entry (IsCounted g) head (map cells.block front) (counted e.child c.0 c.1)
       (each-mapped (λ (b : Block). Each (IsCounted g) (entries_in b.body)) cells.block front
-      (each-cell (λ y. Each (IsCounted g) (entries_in (cells.block y).body)) front (λ y h. let w = behind y h in counted y w.0 w.1)))) in
-      let rows = rows-together g (nodes cells) k cells.block head front kind (each-cell (λ y. nodes cells y ≡ node_of (cells.block y)) front (λ y h. is y (behind y h).1)) in
-      let mine : rows_of g (nodes cells e.child) k ≡ cond (eqb k 0) (numbers (rows_in head)) (all_below g (entries_in head)) = ap (λ (b : Node). rows_of g b k) (is e.child c.1) in
+      (each-times (λ y. Each (IsCounted g) (entries_in (cells.block y).body)) front (λ y h. let w = behind y h in counted y w.0 w.1)))) in
+      let rows = rows-together g (nodes cells) k cells.block head front kind (each-times (λ y. nodes cells y ≡ node_of (cells.block y)) front (λ y h. is y (behind y h).1)) in
+      let mine : block_rows g (nodes cells e.child) k ≡ cond (eqb k 0) (numbers (rows_in head)) (all_below g (entries_in head)) = ap (λ (b : Node). block_rows g b k) (is e.child c.1) in
       let whole : group_rows g (nodes cells) k (e.child ∷ front) ≡ cond (eqb k 0) (numbers (rows_in all)) (all_below g (entries_in all)) =
       ap (λ (ns : List ℕ). ns ++ group_rows g (nodes cells) k front) mine ∙ sym rows in
       let few = length-le (group_rows g (nodes cells) k (e.child ∷ front)) (g.below e.child) (λ r. group-beneath g (nodes cells) table k e (e.child ∷ front) back r t.tree ok split) in

@@ -18,7 +18,9 @@ use Rattle.link_descent.specs.Descend.{Cuts, CutsRoot}
 use Rattle.link_descent.specs.GateRead.{root_items}
 use Rattle.link_descent.specs.Visit.{is_noted}
 use Rattle.link_descent.specs.declared.entered.Entered.{Entered}
-use Rattle.tree_shape.specs.Counts.{Each, times}
+use Rattle.list_words.specs.Counts.{Each, times}
+use Rattle.list_words.proofs.Truth.{on_bool}
+use Rattle.std.proofs.lemmas.Bool.{eqb-true, eqb-false, ne_eqb, leb-true, leb-false}
 use Rattle.tree_shape.specs.Shape.{Shape, TreeCells, nodes, numbers}
 use Rattle.tree_shape.specs.Trees.{IsTree}
 use Rattle.tree_shape.specs.Queries.{IsUnfinished, NoneWaits, fits}
@@ -26,8 +28,6 @@ use Rattle.tree_shape.specs.Steps.{AfterBegin, AfterPut, AfterStep, AfterVisit, 
 use Rattle.tree_shape.specs.Collecting.{AfterRead}
 use Rattle.tree_shape.specs.Example.{HoldsFirst, IsAnswered, IsSample, gate_after}
 use Rattle.tree_shape.specs.Cities.{CitiesLaw, CitiesWork, IsHalvedExample, berlin, cities, coord_of, cut_cells, earlier, for_munich, full, gate_now, later, left_entry, left_rows, left_with, munich, must_hold, right_entry, rows_from, sample, set_of, settled, table_with, top}
-use Rattle.tree_shape.proofs.Walks.{on_bool, eqb-eq, eqb-ne, eqb-no}
-use Rattle.tree_shape.proofs.Queries.{leb-le, leb-gt}
 use Rattle.tree_shape.proofs.ComesIn.{goes-in}
 use Rattle.tree_shape.proofs.Descends.{goes-down}
 use Rattle.tree_shape.proofs.Puts.{after-put}
@@ -48,8 +48,8 @@ berlin-grown = grown-set 16 some16 few16 1
 
 -- What the query asks for.
 
-asked : (turn : ℕ) (measure : ℤ) → IsAsked (table_with turn measure) for_munich
-asked turn measure = record {
+asked : (turn : ℕ) (measures : ℤ) → IsAsked (table_with turn measures) for_munich
+asked turn measures = record {
   filter = record {
     hierarchy = hierarchy-valid;
     count = refl;
@@ -154,7 +154,7 @@ module _ (f : Filled earlier (sample 16) real_sample 32) where
 
   -- row 32 begins
   same-row : (r : ℕ) → r < 32 → later.row r ≡ earlier.row r
-  same-row r lt = rw (eqb-no r 32 (omega arith)) refl
+  same-row r lt = rw (ne_eqb r 32 (omega arith)) refl
 
   begun : IsTree later full g
   begun = tree-alike earlier later g (record { hierarchy = refl; row = λ r p. same-row r (f.holds.known r p) }) full f.holds.tree
@@ -176,12 +176,12 @@ module _ (f : Filled earlier (sample 16) real_sample 32) where
     step = record { step = inr (inr (cuts-root (map full.block (take 2 (drop 1 (g.group 1)))))) };
     idle = idle-before 1;
     spares = (
-      spare-ok earlier (sample 16) real_sample 32 f top (eqb-ne 3 0 refl) (eqb-ne 3 1 refl) (eqb-ne 0 2 refl),
-      ((eqb-ne 3 2 refl, eqb-ne 2 1 refl), tt),
-      (spare-ok earlier (sample 16) real_sample 32 f (sample 16).spare (eqb-ne 2 0 refl) (eqb-ne 2 1 refl) (eqb-ne 0 1 refl), tt, tt),
+      spare-ok earlier (sample 16) real_sample 32 f top (eqb-false 3 0 refl) (eqb-false 3 1 refl) (eqb-false 0 2 refl),
+      ((eqb-false 3 2 refl, eqb-false 2 1 refl), tt),
+      (spare-ok earlier (sample 16) real_sample 32 f (sample 16).spare (eqb-false 2 0 refl) (eqb-false 2 1 refl) (eqb-false 0 1 refl), tt, tt),
     );
     filled = (refl, (refl, tt));
-    other = λ y y1 fr. rw (eqb-no y 1 y1, eqb-no y 2 fr.0, eqb-no y 3 fr.1.0) refl;
+    other = λ y y1 fr. rw (ne_eqb y 1 y1, ne_eqb y 2 fr.0, ne_eqb y 3 fr.1.0) refl;
     gate_cell = refl;
     gate = record { root = refl; height = refl };
   })
@@ -218,11 +218,11 @@ module _ (f : Filled earlier (sample 16) real_sample 32) where
       );
     };
     idle = λ q p ca e. on_bool (eqb q 32)
-        (λ z. let a : came.shape.at q ≡ 3 = ap came.shape.at (eqb-eq _ _ z) ∙ came.row.at in eqb-ne 1 3 refl (sym e ∙ a))
-        (λ z. let bad : true ≡ false = sym ca ∙ still q p (eqb-ne _ _ z) in cc);
+        (λ z. let a : came.shape.at q ≡ 3 = ap came.shape.at (eqb-true _ _ z) ∙ came.row.at in eqb-false 1 3 refl (sym e ∙ a))
+        (λ z. let bad : true ≡ false = sym ca ∙ still q p (eqb-false _ _ z) in cc);
     spares = tt;
     filled = tt;
-    other = λ y y3 y1 fr. rw (eqb-no y 1 y1, eqb-no y 3 y3) refl;
+    other = λ y y3 y1 fr. rw (ne_eqb y 1 y1, ne_eqb y 3 y3) refl;
     gate_cell = refl;
     gate = record { root = refl; height = refl };
   })
@@ -237,7 +237,7 @@ module _ (f : Filled earlier (sample 16) real_sample 32) where
     stamp = refl;
     right = refl;
     body = refl;
-    other = λ y y1. rw (eqb-no y 1 y1) refl;
+    other = λ y y1. rw (ne_eqb y 1 y1) refl;
     gate_cell = refl;
     gate = record { root = refl; height = refl };
   })
@@ -247,18 +247,18 @@ module _ (f : Filled earlier (sample 16) real_sample 32) where
 
   all-there : (q : ℕ) → q < 33 → put-in.shape.placed q ≡ true
   all-there q lt = on_bool (eqb q 32)
-      (λ z. put-in.placed q ∙ ap went.shape.placed (eqb-eq _ _ z) ∙ went.row.placed)
-      (λ z. let ne = eqb-ne _ _ z in placed-as q ne ∙ f.holds.there q (omega arith))
+      (λ z. put-in.placed q ∙ ap went.shape.placed (eqb-true _ _ z) ∙ went.row.placed)
+      (λ z. let ne = eqb-false _ _ z in placed-as q ne ∙ f.holds.there q (omega arith))
 
   all-settled : (q : ℕ) → put-in.shape.placed q ≡ true → put-in.shape.carried q ≡ false
   all-settled q p = on_bool (eqb q 32)
-      (λ z. ap put-in.shape.carried (eqb-eq _ _ z) ∙ put-in.settled)
-      (λ z. let ne = eqb-ne _ _ z in put-in.carried q ne ∙ went.row.others_carried q ne ∙ still q (sym (went.row.others_placed q ne) ∙ sym (put-in.placed q) ∙ p) ne)
+      (λ z. ap put-in.shape.carried (eqb-true _ _ z) ∙ put-in.settled)
+      (λ z. let ne = eqb-false _ _ z in put-in.carried q ne ∙ went.row.others_carried q ne ∙ still q (sym (went.row.others_placed q ne) ∙ sym (put-in.placed q) ∙ p) ne)
 
   all-known : (q : ℕ) → put-in.shape.placed q ≡ true → q < 33
   all-known q p = on_bool (eqb q 32)
-      (λ z. let e = eqb-eq _ _ z in omega arith)
-      (λ z. let k = f.holds.known q (sym (placed-as q (eqb-ne _ _ z)) ∙ p) in omega arith)
+      (λ z. let e = eqb-true _ _ z in omega arith)
+      (λ z. let k = f.holds.known q (sym (placed-as q (eqb-false _ _ z)) ∙ p) in omega arith)
 
   idle-after : (c : ℕ) → IsIdle put-in.shape c
   idle-after c q p ca e = let z : true ≡ false = sym ca ∙ all-settled q p in cc
@@ -298,23 +298,23 @@ module _ (f : Filled earlier (sample 16) real_sample 32) where
         hierarchy = refl;
         row = λ r h. same-row r (f.holds.known r (elim h [ inl p ↦ p | inr c ↦ in-tree r c ]));
       }) asks-first in
-      let waits : Each (λ (s : Spare). NoneWaits s.stamp (first ∷ [])) (top ∷ (sample 16).spare ∷ []) = ((eqb-ne 0 2 refl, tt), ((eqb-ne 0 1 refl, tt), tt)) in
+      let waits : Each (λ (s : Spare). NoneWaits s.stamp (first ∷ [])) (top ∷ (sample 16).spare ∷ []) = ((eqb-false 0 2 refl, tt), ((eqb-false 0 1 refl, tt), tt)) in
       let unseen : times 32 asks.now ≡ 0 = on_bool (leb 1 (times 32 asks.now))
-      (λ q. let k = f.holds.known 32 (in-tree 32 (leb-le _ _ q)) in absurd (omega arith))
-      (λ q. let k = leb-gt _ _ q in omega arith) in
+      (λ q. let k = f.holds.known 32 (in-tree 32 (leb-true _ _ q)) in absurd (omega arith))
+      (λ q. let k = leb-false _ _ q in omega arith) in
       let u = came.queries must_hold (fits later for_munich) (first ∷ []) asks.now (subst (Each (λ (s : Spare). NoneWaits s.stamp (first ∷ []))) came.purse_is waits) (λ z. (unseen, refl)) t.unfinished in
       let none : went.used ≡ [] = sym went.purse_is in
       put-in.queries must_hold (fits later for_munich) (first ∷ []) asks.now
       (went.queries must_hold (fits later for_munich) (first ∷ []) asks.now (subst (Each (λ (s : Spare). NoneWaits s.stamp (first ∷ []))) (sym none) tt) (λ z. (let bad : true ≡ false = sym came.row.placed ∙ z in cc)) u)
 
   here : AfterVisit later settled put-in.shape must_hold for_munich [] first asks.now still-right.noted
-  here = after-visit later settled put-in.shape must_hold for_munich [] first asks.now put-in.tree (record { asked = asked 16 (pos 7); unfinished = still-right; block = eqb-ne 1 0 refl; idle = idle-after 1 })
+  here = after-visit later settled put-in.shape must_hold for_munich [] first asks.now put-in.tree (record { asked = asked 16 (pos 7); unfinished = still-right; block = eqb-false 1 0 refl; idle = idle-after 1 })
 
   right : IsUnfinished put-in.shape (nodes settled) must_hold (fits later for_munich) (second ∷ []) here.now
   right = here.unfinished
 
   there : AfterVisit later settled put-in.shape must_hold for_munich [] second here.now right.noted
-  there = after-visit later settled put-in.shape must_hold for_munich [] second here.now put-in.tree (record { asked = asked 16 (pos 7); unfinished = right; block = eqb-ne 2 0 refl; idle = idle-after 2 })
+  there = after-visit later settled put-in.shape must_hold for_munich [] second here.now put-in.tree (record { asked = asked 16 (pos 7); unfinished = right; block = eqb-false 2 0 refl; idle = idle-after 2 })
 
   answered : IsAnswered later 32 must_hold for_munich
   answered =

@@ -5,7 +5,7 @@ use Rattle.std.specs.List.{AllZip, range_with_len}
 use Rattle.std.specs.FinMap as fin
 use Rattle.std.specs.Ordering.{nat_cmp}
 use Rattle.std.specs.Cmp.Lexicographic.{slice_cmp}
-use Rattle.std.proofs.lemmas.Bool.{cases_lt}
+use Rattle.std.proofs.lemmas.Bool.{cases_lt, lt-leb, le-leb, eqb-true, eqb-false, ne_eqb, leb-false, leb-true}
 use Rattle.std.proofs.lemmas.List.{get_or-map, get_or-replicate, get_or_past, length-map}
 use Rattle.std.proofs.lemmas.List.FromFn.{length-range_with_len, get_or-range_with_len, get_or-map-range_with_len}
 use Rattle.std.proofs.lemmas.List.Elements.{All-nil, All-cons}
@@ -33,12 +33,11 @@ use Rattle.hierarchy_split.proofs.Cuts.{IsCutLevel-unique, IsDimCut-unique}
 use Rattle.hierarchy_split.proofs.Lifts.{leasts_at_top}
 use Rattle.hierarchy_split.proofs.Orders.{IsOrder-unique}
 use Rattle.dc_node.specs.Summary.{coords}
-use Rattle.tree_shape.specs.Counts.{Each}
+use Rattle.list_words.specs.Counts.{Each}
+use Rattle.list_words.proofs.Each.{all-each}
+use Rattle.list_words.proofs.Truth.{on_bool}
 use Rattle.tree_shape.specs.Cities.{berlin, cities, cities_of, city, coord_of, munich, sample, set_of, table_with}
 use Rattle.tree_shape.specs.Example.{IsSample, IsUncut}
-use Rattle.tree_shape.proofs.Parts.{all-each}
-use Rattle.tree_shape.proofs.Queries.{leb-false, leb-gt, leb-le, leb-true}
-use Rattle.tree_shape.proofs.Walks.{eqb-eq, eqb-ne, eqb-no, on_bool}
 
 at-range : (i : ℕ) → i < 32 → get_or (range_with_len 0 32) i 0 ≡ i
 at-range i lt = let z : 0 + i ≡ i = omega arith in get_or-range_with_len 0 32 i 0 lt ∙ z
@@ -58,7 +57,7 @@ no-names : (name : List ℕ) → fin.get none_named.names name ≡ None
 no-names name = fin.get-empty {X = ℕ} (slice_cmp nat_cmp) name
 
 second-new : fin.get one_named.names (109 ∷ []) ≡ None
-second-new = get-insert_other none_named.names (98 ∷ []) berlin (109 ∷ []) (λ e. eqb-ne 109 98 refl (ap (λ (xs : List ℕ). get_or xs 0 0) e)) ∙ no-names (109 ∷ [])
+second-new = get-insert_other none_named.names (98 ∷ []) berlin (109 ∷ []) (λ e. eqb-false 109 98 refl (ap (λ (xs : List ℕ). get_or xs 0 0) e)) ∙ no-names (109 ∷ [])
 
 dimension-valid : IsDimension (with_concept one_named (109 ∷ []) 0)
 dimension-valid =
@@ -142,10 +141,10 @@ numbers_of turn = leasts cities (cut_sets turn) 0 1
 -- Rows of Berlin below one number, and of Munich from it on and below 32.
 module _ (turn : ℕ) (some : 1 ≤ turn) (few : turn < 32) where
   pub first-city : (r : ℕ) → r < turn → city turn r ≡ berlin
-  first-city r lt = rw (leb-false turn r lt) refl
+  first-city r lt = rw (lt-leb turn r lt) refl
 
   pub second-city : (r : ℕ) → turn ≤ r → r < 32 → city turn r ≡ munich
-  second-city r le lt = rw (leb-true turn r le, leb-false 32 r lt) refl
+  second-city r le lt = rw (le-leb turn r le, lt-leb 32 r lt) refl
 
   by-city : (P : ℕ → Type 0) → P berlin → P munich → (r : ℕ) → P (city turn r)
   by-city P b m r = on_bool (leb turn r)
@@ -174,38 +173,38 @@ module _ (turn : ℕ) (some : 1 ≤ turn) (few : turn < 32) where
   -- the sets of the first rows
   pub grown-set : (n : ℕ) → GrowsBy cities (coord_of (city turn n)) (set_of (cities_of turn n)) (set_of (cities_of turn (n + 1)))
   grown-set n = on_bool (leb turn n)
-      (λ q. let le = leb-le _ _ q in
-      rw (eqb-no n 0 (omega arith), eqb-no (n + 1) 0 (omega arith), leb-false (n + 1) turn (omega arith)) (on_bool (leb n turn)
-      (λ q2. let e : city turn n ≡ munich = second-city n le (let z = leb-le _ _ q2 in omega arith) in rw (q2, e) (grow-set munich (berlin ∷ []) (berlin ∷ munich ∷ []) refl refl (omega arith)))
+      (λ q. let le = leb-true _ _ q in
+      rw (ne_eqb n 0 (omega arith), ne_eqb (n + 1) 0 (omega arith), lt-leb (n + 1) turn (omega arith)) (on_bool (leb n turn)
+      (λ q2. let e : city turn n ≡ munich = second-city n le (let z = leb-true _ _ q2 in omega arith) in rw (q2, e) (grow-set munich (berlin ∷ []) (berlin ∷ munich ∷ []) refl refl (omega arith)))
       (λ q2. rw q2 (by-city (λ id. GrowsBy cities (coord_of id) (set_of (berlin ∷ munich ∷ [])) (set_of (berlin ∷ munich ∷ [])))
       (grow-set berlin (berlin ∷ munich ∷ []) (berlin ∷ munich ∷ []) refl refl (omega arith))
       (grow-set munich (berlin ∷ munich ∷ []) (berlin ∷ munich ∷ []) refl refl (omega arith)) n))))
-      (λ q. let lt = leb-gt _ _ q in
+      (λ q. let lt = leb-false _ _ q in
       let e = first-city n lt in
-      rw (e, eqb-no (n + 1) 0 (omega arith), leb-true (n + 1) turn (omega arith)) (on_bool (eqb n 0)
+      rw (e, ne_eqb (n + 1) 0 (omega arith), le-leb (n + 1) turn (omega arith)) (on_bool (eqb n 0)
       (λ q2. rw q2 (grow-set berlin [] (berlin ∷ []) refl refl (omega arith)))
-      (λ q2. rw (q2, leb-true n turn (omega arith)) (grow-set berlin (berlin ∷ []) (berlin ∷ []) refl refl (omega arith)))))
+      (λ q2. rw (q2, le-leb n turn (omega arith)) (grow-set berlin (berlin ∷ []) (berlin ∷ []) refl refl (omega arith)))))
 
   pub valid-set : (n : ℕ) → IsDescSetOf cities (set_of (cities_of turn n))
   valid-set zero = IsDescSetOf-empty cities (set_of []) hierarchy-valid empty-set
   valid-set (suc n) = subst (λ (m : ℕ). IsDescSetOf cities (set_of (cities_of turn m))) (let e : n + 1 ≡ suc n = omega arith in e)
       (IsDescSetOf-grown cities (coord_of (city turn n)) (set_of (cities_of turn n)) (set_of (cities_of turn (n + 1))) (valid-set n) (place-valid n) (grown-set n))
 
-  pub is-sample : (measure : ℤ) → IsSample (table_with turn measure) (sample turn)
-  is-sample measure = record {
+  pub is-sample : (measures : ℤ) → IsSample (table_with turn measures) (sample turn)
+  is-sample measures = record {
     numbered = λ r. (refl, refl, place-valid r);
     empty = empty-set;
     grown = grown-set;
     valid = valid-set;
-    root = eqb-ne 1 0 refl;
-    spare_gate = eqb-ne 2 0 refl;
-    spare_root = eqb-ne 2 1 refl;
-    spare_stamp = eqb-ne 0 1 refl;
+    root = eqb-false 1 0 refl;
+    spare_gate = eqb-false 2 0 refl;
+    spare_root = eqb-false 2 1 refl;
+    spare_stamp = eqb-false 0 1 refl;
   }
 
-  pub are-row_sets : (measure : ℤ) (ns : List ℕ) → AllZip (λ r s. IsSetOf cities (r.at ∷ []) s) (map (table_with turn measure).row ns) (row_sets turn ns)
-  are-row_sets measure [] = tt
-  are-row_sets measure (n ∷ ns) = (one-set n, are-row_sets measure ns)
+  pub are-row_sets : (measures : ℤ) (ns : List ℕ) → AllZip (λ r s. IsSetOf cities (r.at ∷ []) s) (map (table_with turn measures).row ns) (row_sets turn ns)
+  are-row_sets measures [] = tt
+  are-row_sets measures (n ∷ ns) = (one-set n, are-row_sets measures ns)
 
   pub least-at : (i : ℕ) → i < 32 → (d : ℕ) → get_or (numbers_of turn) i d ≡ city turn i
   least-at i lt d =
@@ -231,7 +230,7 @@ module _ (turn : ℕ) (some : 1 ≤ turn) (few : turn < 32) where
     differ = λ eq.
         let a : get_or (numbers_of turn) turn 0 ≡ get_or (numbers_of turn) 0 0 = eq turn 0 (let l = length-numbers in omega arith) in
         let z : munich ≡ berlin = sym (least-at turn few 0 ∙ second-city turn (omega arith) few) ∙ a ∙ least-at 0 (omega arith) 0 ∙ first-city 0 some in
-        eqb-ne munich berlin refl z;
+        eqb-false munich berlin refl z;
     first = λ lower lt. (let z : lower ≡ 0 = omega arith in subst (λ l. AreEqual (leasts cities (cut_sets turn) 0 l)) (sym z) (leasts_at_top cities (cut_sets turn) 0 (lit< tt) (all-set (IsDescSetOf cities) one-valid)));
   }
 
@@ -240,12 +239,12 @@ module _ (turn : ℕ) (some : 1 ≤ turn) (few : turn < 32) where
       let a = least-at i (omega arith) 0 in
       let b = least-at j top 0 in
       on_bool (leb turn i)
-      (λ q. let e = second-city i (leb-le _ _ q) (omega arith) in
-      let f = second-city j (let z = leb-le _ _ q in omega arith) top in
+      (λ q. let e = second-city i (leb-true _ _ q) (omega arith) in
+      let f = second-city j (let z = leb-true _ _ q in omega arith) top in
       inr (a ∙ e ∙ sym (b ∙ f), lt))
-      (λ q. let e = first-city i (leb-gt _ _ q) in on_bool (leb turn j)
-      (λ q2. let f = second-city j (leb-le _ _ q2) top in inl (omega (arith, a, b, e, f)))
-      (λ q2. let f = first-city j (leb-gt _ _ q2) in inr (a ∙ e ∙ sym (b ∙ f), lt)))
+      (λ q. let e = first-city i (leb-false _ _ q) in on_bool (leb turn j)
+      (λ q2. let f = second-city j (leb-true _ _ q2) top in inl (omega (arith, a, b, e, f)))
+      (λ q2. let f = first-city j (leb-false _ _ q2) in inr (a ∙ e ∙ sym (b ∙ f), lt)))
 
   pub cut-order : IsOrder (numbers_of turn) (range_with_len 0 32)
   cut-order = record {
@@ -292,11 +291,11 @@ cut-place = record {
     below = lit< tt;
     differ = λ e.
         let z : munich ≡ berlin = sym (least-at 16 some16 few16 16 few16 0) ∙ sym e ∙ least-at 16 some16 few16 15 (omega arith) 0 in
-        eqb-ne munich berlin refl z;
+        eqb-false munich berlin refl z;
   };
   nearest = λ other b. on_bool (eqb other 16)
-      (λ q. let e = eqb-eq _ _ q in inr (ap (distance 32) (sym e), omega arith))
-      (λ q. inl (nearer other (eqb-ne _ _ q)));
+      (λ q. let e = eqb-true _ _ q in inr (ap (distance 32) (sym e), omega arith))
+      (λ q. inl (nearer other (eqb-false _ _ q)));
 }
   where
     nearer : (other : ℕ) → other ≢ 16 → distance 32 16 < distance 32 other
@@ -318,8 +317,8 @@ is-good = record {
       let s = IsDimCut-unique cities (cut_sets 16) good_cut other dim-cut c (sym z) in
       let o = no-overlap in
       on_bool (leb 1 (overlap cities (cut_sets 16) other))
-      (λ q. let k = leb-le _ _ q in inl (omega arith))
-      (λ q. let k = leb-gt _ _ q in inr (omega arith, inr (s.level, omega arith)));
+      (λ q. let k = leb-true _ _ q in inl (omega arith))
+      (λ q. let k = leb-false _ _ q in inr (omega arith, inr (s.level, omega arith)));
 }
 
 -- One row of Munich behind 31 of Berlin: the one cut that there is isn't good.
@@ -336,8 +335,8 @@ last-alone k b =
     let len = length-range_with_len 0 32 in
     let down : k < 32 = (let d = b.below in omega arith) in
     on_bool (leb 31 k)
-    (λ q. let le = leb-le _ _ q in omega arith)
-    (λ q. let lt = leb-gt _ _ q in
+    (λ q. let le = leb-true _ _ q in omega arith)
+    (λ q. let lt = leb-false _ _ q in
     let x : get_or (numbers_of 31) (get_or (range_with_len 0 32) (k - 1) 0) 0 ≡ berlin = ap (λ i. get_or (numbers_of 31) i 0) (at-range (k - 1) (omega arith)) ∙ least-at 31 some31 few31 (k - 1) (omega arith) 0 ∙ first-city 31 some31 few31 (k - 1) (omega arith) in
     let y : get_or (numbers_of 31) (get_or (range_with_len 0 32) k 0) 0 ≡ berlin = ap (λ i. get_or (numbers_of 31) i 0) (at-range k down) ∙ least-at 31 some31 few31 k down 0 ∙ first-city 31 some31 few31 k lt in
     absurd (b.differ (x ∙ sym y)))

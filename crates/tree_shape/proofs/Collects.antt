@@ -6,7 +6,10 @@ use Rattle.dc_node.specs.declared.entry.Entry.{Entry}
 use Rattle.dc_node.specs.declared.todo.Item.{Item}
 use Rattle.shard_store.specs.Gate.{root_entry}
 use Rattle.link_descent.specs.Visit.{noted_right}
-use Rattle.tree_shape.specs.Counts.{same, times}
+use Rattle.list_words.specs.Counts.{same, times}
+use Rattle.list_words.proofs.Truth.{on_bool}
+use Rattle.std.proofs.lemmas.Bool.{eqb-true, eqb-false, ne_eqb, eq-eqb, leb-true, leb-false}
+use Rattle.list_words.proofs.Times.{same_is, same_not, times-append}
 use Rattle.tree_shape.specs.Queries.{items_of}
 use Rattle.tree_shape.specs.Shape.{Node, Shape, ShapeOk, Table, TreeCells, node_of, nodes, numbers}
 use Rattle.tree_shape.specs.Steps.{LeavesTree}
@@ -14,9 +17,8 @@ use Rattle.tree_shape.specs.Collecting.{AfterCollecting, AfterRead, IsCollecting
 use Rattle.tree_shape.specs.Trees.{BlockOk, DirOk, IsTree}
 use Rattle.tree_shape.specs.Walks.{AreNoted, IsNoted, IsTail, Noted, noted_of, pending, reach}
 use Rattle.tree_shape.proofs.Relations.{Note, left_over, notes}
-use Rattle.tree_shape.proofs.Walks.{on_bool, eqb-eq, eqb-ne, eqb-no, eqb-yes, same_is, same_not}
-use Rattle.tree_shape.proofs.Queries.{leb-le, leb-gt, reach-low, reach-high}
-use Rattle.tree_shape.proofs.Visits.{spans, pending-append, times-append, all_noted-append, left-low, left-high, left_are, none_noted, notes_are, leaf-split}
+use Rattle.tree_shape.proofs.Queries.{reach-low, reach-high}
+use Rattle.tree_shape.proofs.Visits.{spans, pending-append, all_noted-append, left-low, left-high, left_are, none_noted, notes_are, leaf-split}
 use Rattle.tree_shape.proofs.Readings.{IsLast, last-noted, noted-left, noted-right, left-are, items-append}
 use Rattle.tree_shape.proofs.Assembled.{node-block, no-rows}
 use Rattle.tree_shape.proofs.Puts.{leaf-entries}
@@ -47,7 +49,7 @@ collect-dir g look table b l p zs ps ok dir bi bl at_b pl y yi =
     let d : times (g.above y p.level) p.walk ≡ same (g.above y p.level) b + times (g.above y p.level) zs = rw at_b refl in
     let at : same (g.above y p.level) b ≡ same (g.above y (l + 1)) b = ap (λ (w : ℕ). same (g.above y w) b) pl in
     on_bool (leb (g.level y) l)
-    (λ c. let le = leb-le _ _ c in
+    (λ c. let le = leb-true _ _ c in
     let n = notes-all g l es y le in
     let h = ok.higher y l yi le (omega arith) in
     let s : spans g (g.above y l) es ≡ same (g.above y (l + 1)) b = dir.each (g.above y l) h.0 h.1 ∙ ap (λ (w : ℕ). same w b) (ok.coherent y l (l + 1) yi le (omega arith) (omega arith)) in
@@ -56,17 +58,17 @@ collect-dir g look table b l p zs ps ok dir bi bl at_b pl y yi =
     let ne : y ≢ b = (λ w. let k : g.level y ≡ l + 1 = ap g.level w ∙ bl in absurd (omega arith)) in
     let o = same_not y b ne in
     omega arith)
-    (λ c. let gt = leb-gt _ _ c in
+    (λ c. let gt = leb-false _ _ c in
     let n = none_noted g look table (λ r. true) (λ e. Note) b l es y gt in
     on_bool (leb (g.level y) (l + 1))
-    (λ c2. let le2 = leb-le _ _ c2 in
+    (λ c2. let le2 = leb-true _ _ c2 in
     let lev : g.level y ≡ l + 1 = omega arith in
     let self : g.above y (l + 1) ≡ y = ap (g.above y) (sym lev) ∙ ok.itself y yi in
     let s : same (g.above y (l + 1)) b ≡ same y b = ap (λ (w : ℕ). same w b) self in
     let r = reach-low g p y (omega arith) in
     let z = left-low g p.stamp p.level zs y (omega arith) in
     omega arith)
-    (λ c2. let gt2 = leb-gt _ _ c2 in
+    (λ c2. let gt2 = leb-false _ _ c2 in
     let r = reach-high g p y (omega arith) in
     let z = left-high g p.stamp p.level zs y (omega arith) in
     let ne : y ≢ b = (λ w. let k : g.level y ≡ l + 1 = ap g.level w ∙ bl in absurd (omega arith)) in
@@ -79,12 +81,12 @@ collect-begins table cells g tree = record {
   are = refl;
   walks = (root-noted table cells g tree, tt);
   blocks = λ y yi. on_bool (eqb y cells.gate_cell)
-      (λ q. let lv = ap g.level (eqb-eq _ _ q) in
+      (λ q. let lv = ap g.level (eqb-true _ _ q) in
       let top = tree.level in
       let s = tree.some in
       let h = reach-high g root y (omega arith) in
       rw q (omega arith))
-      (λ q. let h = reach-root table cells g tree y yi (eqb-ne _ _ q) in rw q (omega arith));
+      (λ q. let h = reach-root table cells g tree y yi (eqb-false _ _ q) in rw q (omega arith));
   inside = λ y h. absurd (omega arith);
   rows = λ r. on_bool (g.placed r) (λ p. rw p refl) (λ p. rw p refl);
 }
@@ -143,7 +145,7 @@ module _ (table : Table) (cells : TreeCells) (g : Shape) (items : List Item) (it
   not_gate : b ≢ cells.gate_cell
   not_gate e =
       let h = c.blocks b b_in.0 in
-      let k : times b read + pending g c.noted b ≡ 0 = rw (eqb-yes b cells.gate_cell e) at h in
+      let k : times b read + pending g c.noted b ≡ 0 = rw (eq-eqb b cells.gate_cell e) at h in
       let k2 = was b in
       let k3 = reached in
       absurd (omega arith)
@@ -165,7 +167,7 @@ module _ (table : Table) (cells : TreeCells) (g : Shape) (items : List Item) (it
     -- the block has the rows that are at it
     own : (r : ℕ) → times r (numbers (rows_in block.body)) ≡ cond (g.placed r) (same (g.at r) b) 0
     own r = on_bool (eqb (g.level b) 0)
-        (λ z. let t = sym (ap (λ (x : Node). times r x.rows) is) ∙ tree.tree.leaves b b_in.0 (eqb-eq _ _ z) r in
+        (λ z. let t = sym (ap (λ (x : Node). times r x.rows) is) ∙ tree.tree.leaves b b_in.0 (eqb-true _ _ z) r in
         t ∙ on_bool (g.placed r)
         (λ pr. on_bool (g.carried r)
         (λ ca. let n = same_not (g.at r) b (idle r pr ca) in rw (pr, ca) (sym n))
@@ -175,7 +177,7 @@ module _ (table : Table) (cells : TreeCells) (g : Shape) (items : List Item) (it
         none ∙ on_bool (g.placed r)
         (λ pr. let n = same_not (g.at r) b (λ e. on_bool (g.carried r)
         (λ ca. idle r pr ca e)
-        (λ ca. eqb-ne _ _ z (sym (ap g.level e) ∙ tree.tree.shape.settled r pr ca))) in rw pr (sym n))
+        (λ ca. eqb-false _ _ z (sym (ap g.level e) ∙ tree.tree.shape.settled r pr ca))) in rw pr (sym n))
         (λ pr. rw pr refl))
 
     -- where these are noted of its entries
@@ -189,8 +191,8 @@ module _ (table : Table) (cells : TreeCells) (g : Shape) (items : List Item) (it
         walks = all_noted-append g look (ps ++ ns) lo (all_noted-append g look ps ns (noted-left g look ps (p ∷ []) all-noted) walks) (left_are g look p b p-noted.walks.0 p-noted at_b);
         blocks = λ y yi. omega (arith, times-append y read (b ∷ []), exactly y yi, c.blocks y yi);
         inside = λ y h. on_bool (eqb y b)
-            (λ q. rw (eqb-eq _ _ q) b_in.0)
-            (λ q. let n = same_not y b (eqb-ne _ _ q) in let t = times-append y read (b ∷ []) in c.inside y (omega arith));
+            (λ q. rw (eqb-true _ _ q) b_in.0)
+            (λ q. let n = same_not y b (eqb-false _ _ q) in let t = times-append y read (b ∷ []) in c.inside y (omega arith));
         rows = λ r.
             let t = times-append r collected (numbers (rows_in block.body)) in
             let o = own r in
@@ -227,7 +229,7 @@ module _ (table : Table) (cells : TreeCells) (g : Shape) (items : List Item) (it
     read-leaf : p.level ≡ 0 → AfterRead cells g items item read collected c.noted
     read-leaf z =
         let bl : g.level b ≡ 0 = b_in.1 ∙ z in
-        let none = leaf-entries block.body (ok.kind ∙ eqb-yes (g.level b) 0 bl) in
+        let none = leaf-entries block.body (ok.kind ∙ eq-eqb (g.level b) 0 bl) in
         build [] (sym (ap (λ (es : List Entry). map (λ e. record { cell = e.child; stamp = e.stamp }) es) none)) tt
         (λ y yi. omega (arith, leaf-split g b p p-noted.walks.0 ps tree.tree.shape bl at_b z y yi))
 
@@ -244,7 +246,7 @@ module _ (table : Table) (cells : TreeCells) (g : Shape) (items : List Item) (it
         (collect-dir g look table b l p p-noted.walks.0 ps tree.tree.shape dir b_in.0 bl at_b pl)
 
     pub read-one : AfterRead cells g items item read collected c.noted
-    read-one = on_bool (eqb p.level 0) (λ z. read-leaf (eqb-eq _ _ z)) (λ z. read-directory (eqb-ne _ _ z))
+    read-one = on_bool (eqb p.level 0) (λ z. read-leaf (eqb-true _ _ z)) (λ z. read-directory (eqb-false _ _ z))
 
 pub after-read : (table : Table) (cells : TreeCells) (g : Shape) (items : List Item) (item : Item) (read collected : List ℕ) → IsTree table cells g
     → (d : Reads cells g items item read collected) → AfterRead cells g items item read collected d.collecting.noted
@@ -267,8 +269,8 @@ collect-ends table cells g read collected tree c = record {
   blocks = λ y. on_bool (g.inside y)
       (λ q. rw q (left y q))
       (λ q. on_bool (leb 1 (times y read))
-      (λ k. let bad : true ≡ false = sym (c.inside y (leb-le _ _ k)) ∙ q in cc)
-      (λ k. let z = leb-gt _ _ k in rw q (omega arith)));
+      (λ k. let bad : true ≡ false = sym (c.inside y (leb-true _ _ k)) ∙ q in cc)
+      (λ k. let z = leb-false _ _ k in rw q (omega arith)));
   rows = rows;
   summary = gate-sum table cells g tree collected rows;
 }
@@ -284,5 +286,5 @@ collect-ends table cells g read collected tree c = record {
 
     rows : (r : ℕ) → times r collected ≡ cond (g.placed r) 1 0
     rows r = c.rows r ∙ on_bool (g.placed r)
-        (λ p. rw p (left (g.at r) (tree.tree.shape.stands r p) ∙ (rw (eqb-no (g.at r) cells.gate_cell (tree.entered r p)) refl)))
+        (λ p. rw p (left (g.at r) (tree.tree.shape.stands r p) ∙ (rw (ne_eqb (g.at r) cells.gate_cell (tree.entered r p)) refl)))
         (λ p. rw p refl)

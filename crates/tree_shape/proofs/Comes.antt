@@ -1,12 +1,13 @@
 -- The tree stays one where a row comes in at the gate
 use Rattle.std.proofs.Common.{◌≡◌, ℕ, ◌+◌, ◌<◌, true, false, cond, eqb, List, [], ◌∷◌, refl, sym, ap, ◌∙◌, subst, arith}
 use Rattle.dc_node.specs.declared.entry.Entry.{Entry}
-use Rattle.tree_shape.specs.Counts.{Each, same}
+use Rattle.list_words.specs.Counts.{Each, same}
+use Rattle.list_words.proofs.Truth.{on_bool}
+use Rattle.std.proofs.lemmas.Bool.{eqb-true, eqb-false}
 use Rattle.tree_shape.specs.Shape.{Node, Shape, ShapeOk, Table}
 use Rattle.tree_shape.specs.Trees.{EntryOk, TreeOk}
 use Rattle.tree_shape.specs.Walks.{IsNoted, beneath, noted_of, reach}
 use Rattle.tree_shape.proofs.Relations.{CameTree, IsSumOf}
-use Rattle.tree_shape.proofs.Walks.{on_bool, eqb-eq, eqb-ne}
 use Rattle.tree_shape.proofs.Queries.{reach-high, noted-same, reach-same}
 use Rattle.tree_shape.proofs.Trees.{spans-same}
 
@@ -25,11 +26,11 @@ module _ (g g2 : Shape) (look look2 : ℕ → Node) (table : Table) (r gate : �
         coherent = λ y l m i le lm lt. let e = s.level y in
             s.above (g2.above y l) m ∙ ap (λ (w : ℕ). g.above w m) (s.above y l) ∙ ok.coherent y l m (sym (s.inside y) ∙ i) (omega arith) lm (omega arith) ∙ sym (s.above y m);
         stands = λ q p. on_bool (eqb q r)
-            (λ b. rw (eqb-eq _ _ b, u.now_at) (s.inside gate ∙ u.c_inside))
-            (λ b. let ne = eqb-ne _ _ b in rw (u.at q ne) (s.inside _ ∙ ok.stands q (sym (u.placed q ne) ∙ p)));
+            (λ b. rw (eqb-true _ _ b, u.now_at) (s.inside gate ∙ u.c_inside))
+            (λ b. let ne = eqb-false _ _ b in rw (u.at q ne) (s.inside _ ∙ ok.stands q (sym (u.placed q ne) ∙ p)));
         settled = λ q p n. on_bool (eqb q r)
-            (λ b. let bad : true ≡ false = sym d.now_carried ∙ ap g2.carried (sym (eqb-eq _ _ b)) ∙ n in cc)
-            (λ b. let ne = eqb-ne _ _ b in rw (u.at q ne) (s.level _ ∙ ok.settled q (sym (u.placed q ne) ∙ p) (sym (u.carried q ne) ∙ n)));
+            (λ b. let bad : true ≡ false = sym d.now_carried ∙ ap g2.carried (sym (eqb-true _ _ b)) ∙ n in cc)
+            (λ b. let ne = eqb-false _ _ b in rw (u.at q ne) (s.level _ ∙ ok.settled q (sym (u.placed q ne) ∙ p) (sym (u.carried q ne) ∙ n)));
       }
 
   entry-came : (b l : ℕ) (e : Entry) → l + 1 < g.height → EntryOk g look table l e → EntryOk g2 look2 table l e
@@ -41,11 +42,11 @@ module _ (g g2 : Shape) (look look2 : ℕ → Node) (table : Table) (r gate : �
         group = rw (d.group e.child) th;
         members = λ y i lv. rw (d.group e.child, d.head y) (k.members y (sym (u.tree.inside y) ∙ i) (sym (u.tree.level y) ∙ lv));
         rows = λ q. rw (d.below e.child, d.group e.child) (k.rows q ∙ on_bool (eqb q r)
-            (λ w. let e1 = eqb-eq _ _ w in
+            (λ w. let e1 = eqb-true _ _ w in
             let z : beneath g (noted_of g l e) r ≡ 0 = rw u.before refl in
             let y : reach g2 (noted_of g l e) (g2.at r) ≡ 0 = rw u.now_at (reach-same g g2 (noted_of g l e) gate u.tree ∙ reach-high g (noted_of g l e) gate (omega arith)) in
             rw e1 (z ∙ sym (rw d.now_placed y)))
-            (λ w. let ne = eqb-ne _ _ w in
+            (λ w. let ne = eqb-false _ _ w in
             rw (u.placed q ne, u.at q ne) (ap (λ (v : ℕ). cond (g.placed q) v 0) (sym (reach-same g g2 (noted_of g l e) (g.at q) u.tree)))));
         summary = subst (λ (ns : List ℕ). IsSumOf table ns e) (sym (d.below e.child)) k.summary;
       }
@@ -63,8 +64,8 @@ module _ (g g2 : Shape) (look look2 : ℕ → Node) (table : Table) (r gate : �
         leaves = λ b i lv q.
             let old = t.leaves b (sym (u.tree.inside b) ∙ i) (sym (u.tree.level b) ∙ lv) q in
             rw (d.rows b) (old ∙ on_bool (eqb q r)
-            (λ w. let e = eqb-eq _ _ w in rw (e, u.before, d.now_placed, d.now_carried) refl)
-            (λ w. let ne = eqb-ne _ _ w in rw (u.placed q ne, u.carried q ne, u.at q ne) refl));
+            (λ w. let e = eqb-true _ _ w in rw (e, u.before, d.now_placed, d.now_carried) refl)
+            (λ w. let ne = eqb-false _ _ w in rw (u.placed q ne, u.carried q ne, u.at q ne) refl));
         dirs = λ b l i lv.
             let i1 = sym (u.tree.inside b) ∙ i in
             let l1 = sym (u.tree.level b) ∙ lv in

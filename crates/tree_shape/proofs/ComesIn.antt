@@ -6,11 +6,12 @@ use Rattle.shard_store.specs.declared.gate.Gate.{Gate}
 use Rattle.link_descent.specs.Descend.{KeepsRoot, Passes, Halves}
 use Rattle.link_descent.specs.declared.entered.Entered.{Entered}
 use Rattle.dc_node.specs.declared.entry.Entry.{Entry}
-use Rattle.tree_shape.specs.Counts.{Each}
+use Rattle.list_words.specs.Counts.{Each}
+use Rattle.list_words.proofs.Truth.{on_bool}
+use Rattle.std.proofs.lemmas.Bool.{eqb-true, eqb-false}
 use Rattle.tree_shape.specs.Shape.{Shape, Table, TreeCells}
 use Rattle.tree_shape.specs.Steps.{AfterStep, GoesIn}
 use Rattle.tree_shape.specs.Trees.{IsTree}
-use Rattle.tree_shape.proofs.Walks.{on_bool, eqb-eq, eqb-ne}
 use Rattle.tree_shape.proofs.Enters.{root-entry-now, enters-pass, enters-half}
 use Rattle.tree_shape.proofs.RootCuts.{after-root}
 
@@ -32,8 +33,8 @@ module _ (table : Table) (g : Shape) (r : ℕ) (before now : TreeCells) (purse p
       (subst (λ l. AfterStep table g r root l before now purse.spares purse_now.spares) (top e2 k) (enters-pass table g r before now purse.spares purse_now.spares tree d.new d.numbered d.valid d.gate_cell (height e2 k) e2 s.entry_is (d.gate.root ∙ ap root_entry k.gate_is ∙ root-entry-now table r before.gate e2 s.entry_is) d.idle d.spares
       (ap (λ (x : PurseValue). x.spares) s.purse_is) s.room
       (λ y yg. on_bool (eqb y root)
-      (λ q. let e = eqb-eq _ _ q in rw e s.head_is)
-      (λ q. d.other y (eqb-ne _ _ q) (rw s.fresh tt)))))
+      (λ q. let e = eqb-true _ _ q in rw e s.head_is)
+      (λ q. d.other y (eqb-false _ _ q) (rw s.fresh tt)))))
 
   halved : (e2 : Entry) → KeepsRoot e2 before.gate d.gate_now → Halves table.hierarchy (table.row r) (map before.block d.tail) (root_entry before.gate) e2 (before.block root) (now.block root) purse purse_now entered
       → AfterStep table g r entered.at now.gate.height before now purse.spares purse_now.spares

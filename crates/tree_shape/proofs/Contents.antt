@@ -2,15 +2,14 @@
 use Rattle.std.proofs.Common.{◌≡◌, ℕ, ◌+◌, ◌-◌, ◌*◌, ◌<◌, ◌≤◌, Bool, true, false, cond, List, [], ◌∷◌, length, take, drop, refl, sym, ap, ◌∙◌, arith}
 use Rattle.std.specs.Prelude.{IsPermutation, Option, Some, None, slice_get, filter, not}
 use Rattle.std.specs.Option.{option_map_or}
-use Rattle.std.specs.List.{range_with_len, AllZip}
-use Rattle.std.proofs.lemmas.List.{length-take, length-drop, length-map}
+use Rattle.std.specs.List.{range_with_len}
+use Rattle.std.proofs.lemmas.List.{length-take, length-drop}
 use Rattle.std.proofs.lemmas.List.FromFn.{length-range_with_len}
 use Rattle.hierarchy_split.specs.Cut.{IsGoodCut}
 use Rattle.hierarchy_split.specs.Head.{GroupItems, is_kept, kept_items, is_kept_at, kept_places, parted_places, IsGoodHeadCut}
 use Rattle.hierarchy_split.specs.declared.cut.Cut.{Cut}
 use Rattle.hierarchy_split.specs.declared.head_cut.HeadCut.{HeadCut}
 use Rattle.hierarchy_split.proofs.Orders.{places_length}
-use Rattle.describing_set.specs.DescSet.{IsSetOf}
 use Rattle.describing_set.specs.declared.set.DescSet.{DescSet}
 use Rattle.dim_hierarchy.specs.Dimension.{Dimension}
 use Rattle.dc_node.specs.Block.{rows_in, entries_in, is_leaf, is_full, size}
@@ -19,11 +18,15 @@ use Rattle.dc_node.specs.declared.block.Body.TheVariants.{Rows, Entries}
 use Rattle.link_descent.specs.Divide.{items_at, body_at, front, rest, half, AreItemSets}
 use Rattle.dc_node.specs.declared.entry.Entry.{Entry}
 use Rattle.dim_hierarchy.specs.declared.row.Row.{Row}
-use Rattle.tree_shape.specs.Counts.{Among, Each, same, times, total}
+use Rattle.list_words.specs.Counts.{Among, Each, same, times, total}
+use Rattle.list_words.proofs.Truth.{on_bool}
+use Rattle.std.proofs.lemmas.Bool.{eqb-true, ne_eqb}
+use Rattle.list_words.proofs.Totals.{total-map, total-one, total-halves, total-same}
+use Rattle.list_words.proofs.Each.{each-here, take-among, drop-among}
 use Rattle.tree_shape.specs.Shape.{numbers}
 use Rattle.tree_shape.specs.Trees.{limit}
-use Rattle.tree_shape.proofs.Walks.{on_bool, eqb-eq, eqb-no}
-use Rattle.tree_shape.proofs.Parts.{total-map, total-order, total-one, total-halves, total-same, total-items, total-range, or_zero, each-here, length-items, items-among, take-among, drop-among}
+use Rattle.tree_shape.proofs.Parts.{total-order, total-items, total-range, or_zero, length-items, items-among}
+use Rattle.link_descent.proofs.Parts.{AreItemSets-length}
 
 -- two bodies that have the items of a full one
 pub record ArePartsOf (body left right : Body) : Type 0 where
@@ -56,7 +59,7 @@ half-sizes xs n m e h =
 
 pub halves : (body : Body) → is_full body ≡ true → ArePartsOf body (rest body (half body)) (front body (half body))
 halves (Rows rows) full =
-    let e : length rows.items ≡ 32 = eqb-eq _ _ full in
+    let e : length rows.items ≡ 32 = eqb-true _ _ full in
     let z = half-sizes rows.items 16 32 e refl in
     let a = z.0 in
     let b = z.1 in
@@ -73,11 +76,11 @@ halves (Rows rows) full =
       right_some = omega arith;
       left_few = omega arith;
       right_few = omega arith;
-      left_room = eqb-no _ _ (omega arith);
-      right_room = eqb-no _ _ (omega arith);
+      left_room = ne_eqb _ _ (omega arith);
+      right_room = ne_eqb _ _ (omega arith);
     }
 halves (Entries entries) full =
-    let e : length entries.items ≡ 16 = eqb-eq _ _ full in
+    let e : length entries.items ≡ 16 = eqb-true _ _ full in
     let z = half-sizes entries.items 8 16 e refl in
     let a = z.0 in
     let b = z.1 in
@@ -94,8 +97,8 @@ halves (Entries entries) full =
       right_some = omega arith;
       left_few = omega arith;
       right_few = omega arith;
-      left_room = eqb-no _ _ (omega arith);
-      right_room = eqb-no _ _ (omega arith);
+      left_room = ne_eqb _ _ (omega arith);
+      right_room = ne_eqb _ _ (omega arith);
     }
 
 -- a cut with a third of the items at least on each side
@@ -119,7 +122,7 @@ at-places : (body : Body) (ps qs : List ℕ) → is_full body ≡ true
     → ((f : Entry → ℕ) → total f (entries_in body) ≡ total f (entries_in (body_at body ps)) + total f (entries_in (body_at body qs)))
     → 1 ≤ size (body_at body ps) → 1 ≤ size (body_at body qs) → ArePartsOf body (body_at body ps) (body_at body qs)
 at-places (Rows rows) ps qs full tr te sl sr =
-    let e : length rows.items ≡ 32 = eqb-eq _ _ full in
+    let e : length rows.items ≡ 32 = eqb-true _ _ full in
     let z = tr (λ _. 1) in
     let a = total-one rows.items in
     let b = total-one (items_at rows.items ps) in
@@ -137,11 +140,11 @@ at-places (Rows rows) ps qs full tr te sl sr =
       right_some = sr;
       left_few = omega arith;
       right_few = omega arith;
-      left_room = eqb-no _ _ (omega arith);
-      right_room = eqb-no _ _ (omega arith);
+      left_room = ne_eqb _ _ (omega arith);
+      right_room = ne_eqb _ _ (omega arith);
     }
 at-places (Entries entries) ps qs full tr te sl sr =
-    let e : length entries.items ≡ 16 = eqb-eq _ _ full in
+    let e : length entries.items ≡ 16 = eqb-true _ _ full in
     let z = te (λ _. 1) in
     let a = total-one entries.items in
     let b = total-one (items_at entries.items ps) in
@@ -159,40 +162,29 @@ at-places (Entries entries) ps qs full tr te sl sr =
       right_some = sr;
       left_few = omega arith;
       right_few = omega arith;
-      left_room = eqb-no _ _ (omega arith);
-      right_room = eqb-no _ _ (omega arith);
+      left_room = ne_eqb _ _ (omega arith);
+      right_room = ne_eqb _ _ (omega arith);
     }
 
 pub cuts : (body : Body) (places : List ℕ) (k : ℕ) → is_full body ≡ true → IsPermutation (range_with_len 0 (size body)) places → size body ≤ 3 * k → size body ≤ 3 * (size body - k)
     → ArePartsOf body (body_at body (take k places)) (body_at body (drop k places))
 cuts (Rows rows) places k full p l r =
-    let e : length rows.items ≡ 32 = eqb-eq _ _ full in
+    let e : length rows.items ≡ 32 = eqb-true _ _ full in
     let z = cut-sizes rows.items places k (length rows.items) p refl (omega arith) l r in
     let a = z.0 in
     let b = z.1 in
     at-places (Rows rows) (take k places) (drop k places) full (λ f. total-order f rows.items places k p) (λ f. refl) (omega arith) (omega arith)
 cuts (Entries entries) places k full p l r =
-    let e : length entries.items ≡ 16 = eqb-eq _ _ full in
+    let e : length entries.items ≡ 16 = eqb-true _ _ full in
     let z = cut-sizes entries.items places k (length entries.items) p refl (omega arith) l r in
     let a = z.0 in
     let b = z.1 in
     at-places (Entries entries) (take k places) (drop k places) full (λ f. refl) (λ f. total-order f entries.items places k p) (omega arith) (omega arith)
 
--- as many describing sets as items
-sets-count : (h : List Dimension) (body : Body) (sets : List DescSet) → AreItemSets h body sets → length sets ≡ size body
-sets-count h (Rows rows) sets a = go rows.items sets a
-  where
-    go : (rs : List Row) (ss : List DescSet) → AllZip (λ r s. IsSetOf h (r.at ∷ []) s) rs ss → length ss ≡ length rs
-    go [] [] z = refl
-    go [] (s ∷ ss) z = absurd z
-    go (r ∷ rs) [] z = absurd z
-    go (r ∷ rs) (s ∷ ss) z = omega (arith, go rs ss z.1)
-sets-count h (Entries entries) sets a = ap length a ∙ length-map entries.items (λ e. e.set)
-
 pub cut-parts : (h : List Dimension) (body : Body) (sets : List DescSet) (cut : Cut) → is_full body ≡ true → AreItemSets h body sets → IsGoodCut h sets cut → IsPermutation (range_with_len 0 (size body)) cut.order.items
     → ArePartsOf body (body_at body (take cut.left cut.order.items)) (body_at body (drop cut.left cut.order.items))
 cut-parts h body sets cut full a good p =
-    let n = sets-count h body sets a in
+    let n = AreItemSets-length h body sets a in
     let l = good.good.left in
     let r = good.good.right in
     cuts body cut.order.items cut.left full p (omega arith) (omega arith)
@@ -233,7 +225,7 @@ kept-count h cut sets =
     let places = range_with_len 0 (length sets) in
     let one : DescSet → ℕ = λ s. cond (is_kept h cut s) 1 0 in
     total-tested (is_kept_at h sets cut) places
-    ∙ total-same (λ p. cond (is_kept_at h sets cut p) 1 0) (λ p. or_zero one (slice_get sets p)) places (each-here (λ p. cond (is_kept_at h sets cut p) 1 0 ≡ or_zero one (slice_get sets p)) places (λ p _. at (slice_get sets p)))
+    ∙ total-same (λ p. cond (is_kept_at h sets cut p) 1 0 ≡ or_zero one (slice_get sets p)) (λ p. cond (is_kept_at h sets cut p) 1 0) (λ p. or_zero one (slice_get sets p)) places (λ p e. e) (each-here (λ p. cond (is_kept_at h sets cut p) 1 0 ≡ or_zero one (slice_get sets p)) places (λ p _. at (slice_get sets p)))
     ∙ total-range one sets
     ∙ sym (total-tested (is_kept h cut) sets)
   where
@@ -263,16 +255,16 @@ kept-sizes h xs sets cut n some third part =
 pub head-parts : (h : List Dimension) (body : Body) (items : GroupItems) (cut : HeadCut) → is_full body ≡ true → AreItemSets h body items.head → IsGoodHeadCut h items cut
     → ArePartsOf body (body_at body (kept_places h items.head cut)) (body_at body (parted_places h items.head cut))
 head-parts h (Rows rows) items cut full a good =
-    let n = sets-count h (Rows rows) items.head a in
-    let e : length rows.items ≡ 32 = eqb-eq _ _ full in
+    let n = AreItemSets-length h (Rows rows) items.head a in
+    let e : length rows.items ≡ 32 = eqb-true _ _ full in
     let k = good.head_cut.kept in
     let t = good.good.third in
     let m = good.good.part in
     let z = kept-sizes h rows.items items.head cut n (omega arith) (omega arith) (omega arith) in
     at-places (Rows rows) (kept_places h items.head cut) (parted_places h items.head cut) full (λ f. tested-items f rows.items (is_kept_at h items.head cut) (length items.head) n) (λ f. refl) z.0 z.1
 head-parts h (Entries entries) items cut full a good =
-    let n = sets-count h (Entries entries) items.head a in
-    let e : length entries.items ≡ 16 = eqb-eq _ _ full in
+    let n = AreItemSets-length h (Entries entries) items.head a in
+    let e : length entries.items ≡ 16 = eqb-true _ _ full in
     let k = good.head_cut.kept in
     let t = good.good.third in
     let m = good.good.part in

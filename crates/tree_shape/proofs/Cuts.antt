@@ -1,17 +1,19 @@
 -- A head is cut: some shape fits the cells after it
 use Rattle.std.proofs.Common.{◌≡◌, ◌≢◌, ℕ, ◌+◌, ◌≤◌, inl, inr, Bool, true, false, cond, eqb, leb, List, [], ◌∷◌, refl, sym, ap, ◌∙◌, subst, arith}
 use Rattle.dc_node.specs.declared.entry.Entry.{Entry}
-use Rattle.tree_shape.specs.Counts.{Each, times}
+use Rattle.list_words.specs.Counts.{Each, times}
+use Rattle.list_words.proofs.Truth.{on_bool, eqb-self}
+use Rattle.std.proofs.lemmas.Bool.{eqb-true, eqb-false, ne_eqb, le-leb, lt-leb, leb-true}
+use Rattle.list_words.proofs.Each.{each-of}
 use Rattle.tree_shape.specs.Queries.{QueryOk, fits}
 use Rattle.tree_shape.specs.Shape.{Node, Shape, Table}
 use Rattle.tree_shape.specs.Trees.{TreeOk}
 use Rattle.tree_shape.specs.Walks.{Noted}
-use Rattle.tree_shape.proofs.Relations.{CutUnder, Divided, DividedItems, Grew, IsSumOf, NoneExpects, NoneHas, Parted, all_grown, group_rows, heads_parted, made, parted, rows_of, settles}
-use Rattle.tree_shape.proofs.Walks.{on_bool, eqb-eq, eqb-ne, eqb-no, eqb-self}
-use Rattle.tree_shape.proofs.Queries.{apart, leb-le, leb-gt, leb-true, leb-false, query-divided}
+use Rattle.tree_shape.proofs.Relations.{CutUnder, Divided, DividedItems, Grew, IsSumOf, NoneExpects, NoneHas, Parted, all_grown, group_rows, heads_parted, made, parted, block_rows, settles}
+use Rattle.tree_shape.proofs.Queries.{apart, query-divided}
 use Rattle.tree_shape.proofs.Tails.{IsInTail, behind-head}
-use Rattle.tree_shape.proofs.Groups.{rows_of-times, group_rows-times}
-use Rattle.tree_shape.proofs.Divisions.{tree-parted, each-of, parted-at, parted-past}
+use Rattle.tree_shape.proofs.Groups.{block_rows-times, group_rows-times}
+use Rattle.tree_shape.proofs.Divisions.{tree-parted, parted-at, parted-past}
 use Rattle.tree_shape.proofs.Made.{divided-made, at_right-made, above_right-made}
 
 -- two entries that stand in place of one, of which the right one has its stamp
@@ -32,7 +34,7 @@ module _ (g : Shape) (look look2 : ℕ → Node) (table : Table) (k c n t p : �
   groups h = cond (eqb h c) (c ∷ []) (cond (eqb h n) (n ∷ tail) (g.group h))
 
   abbrev belows : ℕ → List ℕ
-  belows h = cond (eqb h c) (rows_of g (look2 c) k) (cond (eqb h n) (group_rows g look2 k (n ∷ tail)) (g.below h))
+  belows h = cond (eqb h c) (block_rows g (look2 c) k) (cond (eqb h n) (group_rows g look2 k (n ∷ tail)) (g.below h))
 
   abbrev pub cut-shape : Shape
   cut-shape = made g k c n (look2 n) (heads_parted g n tail) groups belows
@@ -49,19 +51,16 @@ module _ (g : Shape) (look look2 : ℕ → Node) (table : Table) (k c n t p : �
   on-tail : (y : ℕ) → 1 ≤ times y tail → IsInTail g k c tail y
   on-tail = behind-head g look table k c tail old d.old_ok d.old_child d.group
 
-  tail-off : (y : ℕ) → leb 1 (times y tail) ≡ false → times y tail ≡ 0
-  tail-off y q = let gt = leb-gt _ _ q in omega arith
-
   head-tail : (y : ℕ) → y ≢ n → leb 1 (times y tail) ≡ true → cut-shape.head y ≡ n
-  head-tail y h q = rw (eqb-no y n h, q) refl
+  head-tail y h q = rw (ne_eqb y n h, q) refl
 
   head-other : (y : ℕ) → y ≢ n → leb 1 (times y tail) ≡ false → cut-shape.head y ≡ g.head y
-  head-other y h q = rw (eqb-no y n h, q) refl
+  head-other y h q = rw (ne_eqb y n h, q) refl
 
   -- a head stays one
   pub head-kept : (y : ℕ) → y ≢ n → g.head y ≡ y → cut-shape.head y ≡ y
   head-kept y h e = on_bool (leb 1 (times y tail))
-      (λ q. let o = on-tail y (leb-le _ _ q) in absurd (o.apart (sym e ∙ o.head)))
+      (λ q. let o = on-tail y (leb-true _ _ q) in absurd (o.apart (sym e ∙ o.head)))
       (λ q. head-other y h q ∙ e)
 
   items : DividedItems g cut-shape look look2 k c n t
@@ -72,7 +71,7 @@ module _ (g : Shape) (look look2 : ℕ → Node) (table : Table) (k c n t p : �
     free = d.free;
     c_head = d.c_head;
     head = λ y h. on_bool (leb 1 (times y tail))
-        (λ q. let o = on-tail y (leb-le _ _ q) in inr (o.level, o.head, head-tail y h q))
+        (λ q. let o = on-tail y (leb-true _ _ q) in inr (o.level, o.head, head-tail y h q))
         (λ q. inl (head-other y h q));
     rows = d.rows;
     entries = d.entries;
@@ -87,13 +86,13 @@ module _ (g : Shape) (look look2 : ℕ → Node) (table : Table) (k c n t p : �
   g2_group_c = rw (eqb-self c) refl
 
   g2_group_n : cut-shape.group n ≡ n ∷ tail
-  g2_group_n = rw (eqb-no n c n_c, eqb-self n) refl
+  g2_group_n = rw (ne_eqb n c n_c, eqb-self n) refl
 
-  g2_below_c : cut-shape.below c ≡ rows_of g (look2 c) k
+  g2_below_c : cut-shape.below c ≡ block_rows g (look2 c) k
   g2_below_c = rw (eqb-self c) refl
 
   g2_below_n : cut-shape.below n ≡ group_rows g look2 k (n ∷ tail)
-  g2_below_n = rw (eqb-no n c n_c, eqb-self n) refl
+  g2_below_n = rw (ne_eqb n c n_c, eqb-self n) refl
 
   parts : Parted g cut-shape look look2 table k c n t p tail a b old
   parts = record {
@@ -102,15 +101,15 @@ module _ (g : Shape) (look look2 : ℕ → Node) (table : Table) (k c n t p : �
     old_ok = d.old_ok;
     old_child = d.old_child;
     old_stamp = d.old_stamp;
-    tail_head = λ y h. let o = on-tail y h in head-tail y (apart g y n o.inside d.fresh) (leb-true _ _ h);
-    other_head = λ y h z. head-other y h (leb-false _ _ (omega (arith, z)));
+    tail_head = λ y h. let o = on-tail y h in head-tail y (apart g y n o.inside d.fresh) (le-leb _ _ h);
+    other_head = λ y h z. head-other y h (lt-leb _ _ (omega (arith, z)));
     free_tail = d.free_tail;
     group_was = d.group;
     group_c = g2_group_c;
     group_n = g2_group_n;
-    group = λ h hc hn. rw (eqb-no h c hc, eqb-no h n hn) refl;
-    below = λ h hc hn. rw (eqb-no h c hc, eqb-no h n hn) refl;
-    below_c = λ q. ap (times q) g2_below_c ∙ rows_of-times g (look2 c) k q;
+    group = λ h hc hn. rw (ne_eqb h c hc, ne_eqb h n hn) refl;
+    below = λ h hc hn. rw (ne_eqb h c hc, ne_eqb h n hn) refl;
+    below_c = λ q. ap (times q) g2_below_c ∙ block_rows-times g (look2 c) k q;
     below_n = λ q. ap (times q) g2_below_n ∙ group_rows-times g look2 k q (n ∷ tail);
     a_child = d.a_child;
     a_stamp = d.a_stamp;
@@ -141,7 +140,7 @@ module _ (g : Shape) (look look2 : ℕ → Node) (table : Table) (k c n t p : �
         inside = λ y f. divided.inside y (off y f);
         level = λ y f. divided.level y (off y f);
         head = λ y f e. head-kept y (off y f) e;
-        new = λ y f. let e = eqb-eq _ _ f in rw e (d.fresh, divided.new_inside, divided.new_level);
+        new = λ y f. let e = eqb-true _ _ f in rw e (d.fresh, divided.new_inside, divided.new_level);
         placed = λ q. refl;
         carried = λ q. refl;
         at_r = stays r pr cr ∙ ar;
@@ -153,19 +152,19 @@ module _ (g : Shape) (look look2 : ℕ → Node) (table : Table) (k c n t p : �
 
   pub stamps-cut : (u : ℕ) → u ≢ t → u ≢ old.stamp → NoneHas g look u → NoneHas cut-shape look2 u
   stamps-cut u ut uo h y l i e = on_bool (eqb y n)
-      (λ q. let yn = eqb-eq _ _ q in
+      (λ q. let yn = eqb-true _ _ q in
       let kl : k ≡ l + 1 = sym divided.new_level ∙ ap cut-shape.level (sym yn) ∙ e in
       rw yn (each-of (λ (v : Entry). v.stamp ≢ u) (look c).entries (look2 n).entries (h c l d.c_inside (d.c_level ∙ kl)) d.right))
-      (λ q. let yn = eqb-ne _ _ q in
+      (λ q. let yn = eqb-false _ _ q in
       let i1 = sym (divided.inside y yn) ∙ i in
       let e1 = sym (divided.level y yn) ∙ e in
       let o = h y l i1 e1 in
       on_bool (eqb y c)
-      (λ q2. let yc = eqb-eq _ _ q2 in
+      (λ q2. let yc = eqb-true _ _ q2 in
       let o2 = rw yc at o in
       rw yc (each-of (λ (v : Entry). v.stamp ≢ u) (look c).entries (look2 c).entries o2 d.left))
-      (λ q2. let yc = eqb-ne _ _ q2 in on_bool (eqb y p)
-      (λ q3. let yt = eqb-eq _ _ q3 in
+      (λ q2. let yc = eqb-false _ _ q2 in on_bool (eqb y p)
+      (λ q3. let yt = eqb-true _ _ q3 in
       let o2 = rw yt at o in
       rw (yt, d.top) (stamps-parted c t u a b old (look p).entries d.a_stamp d.b_stamp ut uo o2))
-      (λ q3. rw (d.other y yc yn (eqb-ne _ _ q3)) o)))
+      (λ q3. rw (d.other y yc yn (eqb-false _ _ q3)) o)))

@@ -1,6 +1,6 @@
 -- The carrier of the deepest row can go on, and of some actors there is one that can.
 use Rattle.std.proofs.Common.{◌≡◌, ℕ, ◌+◌, ◌≤◌, ◌⊎◌, inl, inr, true, Option, Some, None, List, [], ◌∷◌, refl, ap, sym, subst, arith}
-use Rattle.tree_shape.specs.Counts.{Among, Each}
+use Rattle.list_words.specs.Counts.{Among, Each}
 use Rattle.tree_shape.specs.Shape.{Table, TreeCells, Shape}
 use Rattle.tree_shape.specs.Trees.{IsTree, IsBelow}
 use Rattle.tree_shape.specs.Steps.{IsIdle}

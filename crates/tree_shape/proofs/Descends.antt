@@ -11,26 +11,25 @@ use Rattle.link_descent.specs.Divide.{IsHalved}
 use Rattle.link_descent.specs.declared.entered.Entered.{Entered}
 use Rattle.dc_node.specs.declared.block.Block.{Block}
 use Rattle.dc_node.specs.declared.entry.Entry.{Entry}
-use Rattle.tree_shape.specs.Counts.{Each, times}
+use Rattle.list_words.specs.Counts.{Each, times}
+use Rattle.list_words.proofs.Truth.{on_bool}
+use Rattle.std.proofs.lemmas.Bool.{eqb-true, eqb-false}
 use Rattle.tree_shape.specs.Shape.{Node, Shape, Table, TreeCells, gate_node, node_of, nodes, numbers}
 use Rattle.tree_shape.specs.Steps.{AfterStep, AreSpares, GoesDown}
 use Rattle.tree_shape.specs.Trees.{BlockOk, EntryOk, IsTree, limit}
 use Rattle.tree_shape.specs.Walks.{IsTail}
 use Rattle.tree_shape.proofs.Relations.{Touch}
-use Rattle.tree_shape.proofs.Walks.{on_bool, eqb-eq, eqb-ne}
 use Rattle.tree_shape.proofs.Queries.{apart}
-use Rattle.tree_shape.proofs.Parts.{IsAround, around, total-append, total-one}
+use Rattle.tree_shape.proofs.Parts.{IsAround, around}
 use Rattle.tree_shape.proofs.Contents.{ArePartsOf, halves, cut-parts, head-parts}
 use Rattle.tree_shape.proofs.Tails.{IsCutOf, behind-head, behind-cut}
 use Rattle.tree_shape.proofs.Onto.{touch-row, touch-same, child_in, entry_ok}
 use Rattle.tree_shape.proofs.Assembled.{node-block, no-rows, has-entries, near-tree, block-entries, used-spares}
 use Rattle.tree_shape.proofs.Settles.{after-pass, after-half, after-cut}
+use Rattle.std.proofs.lemmas.List.{length-append}
 
 some-eq : {A : Type 0} (x y : A) → Some x ≡ Some y → x ≡ y
 some-eq x y h = cc
-
-pub length-plus : {A : Type 0} (xs ys : List A) → length (xs ++ ys) ≡ length xs + length ys
-length-plus xs ys = omega (arith, total-append (λ _. 1) xs ys, total-one (xs ++ ys), total-one xs, total-one ys)
 
 -- the parts of a halved block
 pub half-parts : (old head new : Block) (n t : ℕ) → is_full old.body ≡ true → IsHalved old n t head new → ArePartsOf old.body head.body new.body
@@ -63,13 +62,9 @@ are-cut table expected tail old head new n t behind full h = elim h [
   }))
 ]
 
-directory-size : (body : Body) → is_leaf body ≡ false → size body ≡ length (entries_in body)
-directory-size (Rows rows) h = cc
-directory-size (Entries entries) h = refl
-
 directory-room : (body : Body) → is_leaf body ≡ false → size body ≤ limit body → is_full body ≡ false → length (entries_in body) ≤ 15
 directory-room (Rows rows) h few room = cc
-directory-room (Entries entries) h few room = let ne = eqb-ne _ _ room in omega arith
+directory-room (Entries entries) h few room = let ne = eqb-false _ _ room in omega arith
 
 module _ (table : Table) (g : Shape) (r : ℕ) (before now : TreeCells) (purse purse_now : PurseValue) (entered : Entered)
     (tree : IsTree table before g) (d : GoesDown table g r before now purse purse_now entered) where
@@ -98,15 +93,15 @@ module _ (table : Table) (g : Shape) (r : ℕ) (before now : TreeCells) (purse p
   w = around (entries_in body) d.place d.entry d.entry_at
 
   p_up : g.level p ≡ (g.level p - 1) + 1
-  p_up = let ne = eqb-ne (g.level p) 0 (sym p_ok.kind ∙ p_dir) in omega arith
+  p_up = let ne = eqb-false (g.level p) 0 (sym p_ok.kind ∙ p_dir) in omega arith
 
   p_below : g.level p < before.gate.height
   p_below =
       let b = tree.tree.shape.below p p_in in
       let h = tree.height in
       on_bool (eqb (g.level p) before.gate.height)
-      (λ q. absurd (p_gate (tree.only p p_in (eqb-eq _ _ q))))
-      (λ q. let ne = eqb-ne _ _ q in omega arith)
+      (λ q. absurd (p_gate (tree.only p p_in (eqb-true _ _ q))))
+      (λ q. let ne = eqb-false _ _ q in omega arith)
 
   look_p : nodes before p ≡ node_of (before.block p)
   look_p = node-block before p p_gate
@@ -156,7 +151,7 @@ module _ (table : Table) (g : Shape) (r : ℕ) (before now : TreeCells) (purse p
   alone_p q ne pq cq aq = ne (tree.alone q r pq cq d.placed d.carried (aq ∙ sym d.at))
 
   length_p : length (entries_in body) ≡ length w.front + (1 + length w.back)
-  length_p = let a = ap length w.is in let b = length-plus w.front (d.entry ∷ w.back) in omega arith
+  length_p = let a = ap length w.is in let b = length-append w.front (d.entry ∷ w.back) in omega arith
 
   some_room : length (entries_in body) ≤ 15
   some_room = directory-room body p_dir p_ok.few (p_ok.room r d.placed d.carried d.at)
@@ -182,7 +177,7 @@ module _ (table : Table) (g : Shape) (r : ℕ) (before now : TreeCells) (purse p
     top_right = ap (λ (x : Node). x.right) (look3_p ∙ ap node_of is3) ∙ sym (ap (λ (x : Node). x.right) look_p)
 
     long : length ((w.front ++ others) ++ w.back) ≡ length w.front + length others + length w.back
-    long = omega (arith, length-plus (w.front ++ others) w.back, length-plus w.front others)
+    long = omega (arith, length-append (w.front ++ others) w.back, length-append w.front others)
 
     parent_ok : p ≢ before.gate_cell → (g3 : Shape) → g3.level p ≡ g.level p → ((q : ℕ) → g3.placed q ≡ true → g3.carried q ≡ true → g3.at q ≢ p) → BlockOk table g3 p (now.block p)
     parent_ok h g3 lv none = block-entries table g g3 p (before.block p) (now.block p) ((w.front ++ others) ++ w.back) (let u = p_up in omega arith) is3 (let l = long in omega arith) (let l = long in let o = length_p in let s = some_room in omega arith) lv none
@@ -193,8 +188,8 @@ module _ (table : Table) (g : Shape) (r : ℕ) (before now : TreeCells) (purse p
       let some : 1 ≤ 1 = omega arith in
       let few : 1 ≤ 2 = omega arith in
       let other : (y : ℕ) → y ≢ p → now.block y ≡ before.block y = λ y yp. on_bool (eqb y c)
-      (λ q. let z = eqb-eq _ _ q in rw z s.head_is)
-      (λ q. d.other y yp (eqb-ne _ _ q) (rw s.fresh tt)) in
+      (λ q. let z = eqb-true _ _ q in rw z s.head_is)
+      (λ q. d.other y yp (eqb-false _ _ q) (rw s.fresh tt)) in
       subst (λ x. AfterStep table g r x ((g.level p - 1) + 1) before now purse.spares purse_now.spares) (sym s.at)
       (after-pass table before now g r p (g.level p - 1) before.gate.height purse.spares (near-tree table before g r tree) tree.tree d.placed d.carried d.at numbered p_up (let b = p_below in omega arith) d.entry w.front w.back is
       (top_rows (e2 ∷ []) some few k.parent_is) (top_stamp (e2 ∷ []) some few k.parent_is) (top_right (e2 ∷ []) some few k.parent_is)

@@ -1,16 +1,20 @@
 -- The tree stays one where a head is divided
 use Rattle.std.proofs.Common.{◌≡◌, ◌≢◌, ℕ, ◌+◌, ◌-◌, ◌<◌, ◌≤◌, ◌⊎◌, inl, inr, Bool, true, false, cond, eqb, leb, List, [], ◌∷◌, refl, sym, ap, ◌∙◌, subst, arith}
 use Rattle.dc_node.specs.declared.entry.Entry.{Entry}
-use Rattle.tree_shape.specs.Counts.{Among, Each, same, times, total}
+use Rattle.list_words.specs.Counts.{Among, Each, same, times, total}
+use Rattle.list_words.proofs.Truth.{on_bool, eqb-self}
+use Rattle.std.proofs.lemmas.Bool.{eqb-true, eqb-false, leb-true, leb-false}
+use Rattle.list_words.proofs.Times.{same_is, same_not, each-times}
+use Rattle.list_words.proofs.Totals.{total-same}
 use Rattle.tree_shape.specs.Shape.{Node, Shape, ShapeOk, Table}
 use Rattle.tree_shape.specs.Trees.{DirOk, EntryOk, TreeOk, lies}
 use Rattle.tree_shape.specs.Walks.{IsNoted, IsWalk, Noted, beneath, noted_of, reach}
 use Rattle.tree_shape.proofs.Relations.{Divided, DividedItems, IsSumOf, Joined, Parted, grown, part_rows, parted, put_behind}
-use Rattle.tree_shape.proofs.Walks.{on_bool, eqb-eq, eqb-ne, eqb-self, same_is, same_not, put_behind-at, times-put_behind_other, times-put_behind_new}
-use Rattle.tree_shape.proofs.Queries.{leb-le, leb-gt, reach-low, reach-high, not_on, apart, noted-divided, reach-at}
-use Rattle.tree_shape.proofs.Parts.{total-same}
-use Rattle.tree_shape.proofs.Tails.{IsInTail, group-noted, group-members, head-off, behind-head, each-cell, walk-behind}
+use Rattle.tree_shape.proofs.Walks.{put_behind-at, times-put_behind_other, times-put_behind_new}
+use Rattle.tree_shape.proofs.Queries.{reach-low, reach-high, not_on, apart, noted-divided, reach-at}
+use Rattle.tree_shape.proofs.Tails.{IsInTail, group-noted, group-members, head-off, behind-head, walk-behind}
 use Rattle.tree_shape.proofs.Visits.{spans}
+use Rattle.list_words.proofs.Each.{each-both, each-of}
 
 module _ (g g2 : Shape) (k c n : ℕ) (ok : ShapeOk g) (d : Divided g g2 k c n) where
   old-apart : (y : ℕ) → g.inside y ≡ true → y ≢ n
@@ -19,16 +23,13 @@ module _ (g g2 : Shape) (k c n : ℕ) (ok : ShapeOk g) (d : Divided g g2 k c n) 
   before : (y : ℕ) → y ≢ n → g2.inside y ≡ true → g.inside y ≡ true
   before y yn i = sym (d.inside y yn) ∙ i
 
-  c_apart : c ≢ n
-  c_apart = old-apart c d.c_inside
-
   below_k : k < g.height
   below_k = let b = ok.below c d.c_inside in let e = d.c_level in omega arith
 
   new-higher : (l : ℕ) → k ≤ l → l < g.height → (g2.inside (g2.above n l) ≡ true) × (g2.level (g2.above n l) ≡ l)
   new-higher l le lt = on_bool (eqb l k)
-      (λ q. let e = eqb-eq _ _ q in rw (e, d.new_itself) (d.new_inside, d.new_level))
-      (λ q. let ne = eqb-ne _ _ q in
+      (λ q. let e = eqb-true _ _ q in rw (e, d.new_itself) (d.new_inside, d.new_level))
+      (λ q. let ne = eqb-false _ _ q in
       let cl = d.c_level in
       let h = ok.higher c l d.c_inside (omega arith) lt in
       let zn = old-apart (g.above c l) h.0 in
@@ -52,8 +53,8 @@ module _ (g g2 : Shape) (k c n : ℕ) (ok : ShapeOk g) (d : Divided g g2 k c n) 
 
   new-coherent : (l m : ℕ) → k ≤ l → l ≤ m → m < g.height → g2.above (g2.above n l) m ≡ g2.above n m
   new-coherent l m kl lm lt = on_bool (eqb l k)
-      (λ q. let e = eqb-eq _ _ q in rw (e, d.new_itself) refl)
-      (λ q. let ne = eqb-ne _ _ q in
+      (λ q. let e = eqb-true _ _ q in rw (e, d.new_itself) refl)
+      (λ q. let ne = eqb-false _ _ q in
       let cl = d.c_level in
       let h = ok.higher c l d.c_inside (omega arith) (omega arith) in
       let hl = h.1 in
@@ -67,17 +68,17 @@ module _ (g g2 : Shape) (k c n : ℕ) (ok : ShapeOk g) (d : Divided g g2 k c n) 
       let cl = d.c_level in
       elim (d.above y l i le) [
         | inr w ↦ (let lk = w.0 in rw w.2 (on_bool (eqb m k)
-            (λ q. let e = eqb-eq _ _ q in rw e (d.new_itself ∙ sym w.2 ∙ ap (g2.above y) lk))
-            (λ q. let ne = eqb-ne _ _ q in
+            (λ q. let e = eqb-true _ _ q in rw e (d.new_itself ∙ sym w.2 ∙ ap (g2.above y) lk))
+            (λ q. let ne = eqb-false _ _ q in
             d.new_above m (omega arith) ∙ ap (λ (x : ℕ). g.above x m) (sym w.1) ∙ ok.coherent y l m i le lm lt ∙ sym (above-not_k y m i (omega arith) ne))))
         | inl e ↦ rw e (on_bool (eqb m k)
-            (λ q. let mk = eqb-eq _ _ q in on_bool (eqb l k)
-            (λ q2. let lk = eqb-eq _ _ q2 in
+            (λ q. let mk = eqb-true _ _ q in on_bool (eqb l k)
+            (λ q2. let lk = eqb-true _ _ q2 in
             let ml : m ≡ l = omega arith in
             let self : g.above (g.above y l) m ≡ g.above y l = ap (g.above (g.above y l)) (ml ∙ sym h.1) ∙ ok.itself (g.above y l) h.0 in
             above-high (g.above y l) m h.0 (omega arith) (omega arith) ∙ self ∙ sym e ∙ ap (g2.above y) (sym ml))
-            (λ q2. let lk = eqb-ne _ _ q2 in rw mk (d.together y l i le (omega arith))))
-            (λ q. let ne = eqb-ne _ _ q in
+            (λ q2. let lk = eqb-false _ _ q2 in rw mk (d.together y l i le (omega arith))))
+            (λ q. let ne = eqb-false _ _ q in
             above-not_k (g.above y l) m h.0 (omega arith) ne ∙ ok.coherent y l m i le lm lt ∙ sym (above-not_k y m i (omega arith) ne)))
       ]
 
@@ -87,21 +88,21 @@ module _ (g g2 : Shape) (k c n : ℕ) (ok : ShapeOk g) (d : Divided g g2 k c n) 
       let nl = d.new_level in
       record {
         itself = λ y i. on_bool (eqb y n)
-            (λ q. let e = eqb-eq _ _ q in rw (e, d.new_level) d.new_itself)
-            (λ q. let ne = eqb-ne _ _ q in let i1 = before y ne i in
+            (λ q. let e = eqb-true _ _ q in rw (e, d.new_level) d.new_itself)
+            (λ q. let ne = eqb-false _ _ q in let i1 = before y ne i in
             rw (d.level y ne) (elim (d.above y (g.level y) i1 (omega arith)) [
               | inl e ↦ e ∙ ok.itself y i1
               | inr w ↦ (let a = w.3 in absurd (omega arith))
             ]));
         below = λ y i. on_bool (eqb y n)
-            (λ q. let e = eqb-eq _ _ q in let b = below_k in rw e (omega arith))
-            (λ q. let ne = eqb-ne _ _ q in let b = ok.below y (before y ne i) in let e = d.level y ne in omega arith);
+            (λ q. let e = eqb-true _ _ q in let b = below_k in rw e (omega arith))
+            (λ q. let ne = eqb-false _ _ q in let b = ok.below y (before y ne i) in let e = d.level y ne in omega arith);
         higher = λ y l i le lt. on_bool (eqb y n)
-            (λ q. let e = eqb-eq _ _ q in let le2 : g2.level n ≤ l = rw e at le in rw e (new-higher l (omega arith) (omega arith)))
-            (λ q. let ne = eqb-ne _ _ q in let e = d.level y ne in old-higher y l (before y ne i) (omega arith) (omega arith));
+            (λ q. let e = eqb-true _ _ q in let le2 : g2.level n ≤ l = rw e at le in rw e (new-higher l (omega arith) (omega arith)))
+            (λ q. let ne = eqb-false _ _ q in let e = d.level y ne in old-higher y l (before y ne i) (omega arith) (omega arith));
         coherent = λ y l m i le lm lt. on_bool (eqb y n)
-            (λ q. let e = eqb-eq _ _ q in let le2 : g2.level n ≤ l = rw e at le in rw e (new-coherent l m (omega arith) lm (omega arith)))
-            (λ q. let ne = eqb-ne _ _ q in let e = d.level y ne in old-coherent y l m (before y ne i) (omega arith) lm (omega arith));
+            (λ q. let e = eqb-true _ _ q in let le2 : g2.level n ≤ l = rw e at le in rw e (new-coherent l m (omega arith) lm (omega arith)))
+            (λ q. let ne = eqb-false _ _ q in let e = d.level y ne in old-coherent y l m (before y ne i) (omega arith) lm (omega arith));
         stands = λ r p. let p1 = sym (d.placed r) ∙ p in let s = ok.stands r p1 in
             elim (d.at r p1) [
               | inl e ↦ rw e (d.inside _ (old-apart _ s) ∙ s)
@@ -113,23 +114,6 @@ module _ (g g2 : Shape) (k c n : ℕ) (ok : ShapeOk g) (d : Divided g g2 k c n) 
               | inr w ↦ rw w.3 (d.new_level ∙ w.0)
             ];
       }
-
--- what holds of each item holds of one, and of those that stand among them
-pub each-among : {A : Type 0} (P : A → Type 0) (xs : List A) (x : A) → Each P xs → Among x xs → P x
-each-among P [] x h a = absurd a
-each-among P (y ∷ ys) x h a = elim a [ inl e ↦ subst P (sym e) h.0 | inr w ↦ each-among P ys x h.1 w ]
-
-pub each-of : {A : Type 0} (P : A → Type 0) (xs ys : List A) → Each P xs → Each (λ y. Among y xs) ys → Each P ys
-each-of P xs [] h w = tt
-each-of P xs (y ∷ ys) h w = (each-among P xs y h w.0, each-of P xs ys h w.1)
-
-pub each-map : {A : Type 0} (P Q : A → Type 0) (xs : List A) → ((x : A) → P x → Q x) → Each P xs → Each Q xs
-each-map P Q [] f h = tt
-each-map P Q (x ∷ xs) f h = (f x h.0, each-map P Q xs f h.1)
-
-pub each-both : {A : Type 0} (P Q R : A → Type 0) (xs : List A) → ((x : A) → P x → Q x → R x) → Each P xs → Each Q xs → Each R xs
-each-both P Q R [] f h k = tt
-each-both P Q R (x ∷ xs) f h k = (f x h.0 k.0, each-both P Q R xs f h.1 k.1)
 
 module _ (g g2 : Shape) (look look2 : ℕ → Node) (table : Table) (k c n t : ℕ) (ok : ShapeOk g) (tree : TreeOk g look table) (d : DividedItems g g2 look look2 k c n t) where
   -- an entry elsewhere: its group has n behind c
@@ -144,18 +128,18 @@ module _ (g g2 : Shape) (look look2 : ℕ → Node) (table : Table) (k c n t : �
       record {
         group = rw gr th;
         members = λ y i lv. rw gr (on_bool (eqb y n)
-            (λ q. let yn = eqb-eq _ _ q in
+            (λ q. let yn = eqb-true _ _ q in
             let lk : l ≡ k = sym lv ∙ ap g2.level yn ∙ v.new_level in
             let a = times-put_behind_new c n (g.group e.child) cn in
             let z = not_on g look p n w.group v.fresh in
             let m : times c (g.group e.child) ≡ same c e.child = w.members c v.c_inside (v.c_level ∙ sym lk) ∙ ap (λ (x : ℕ). same x e.child) d.c_head in
             let h = hd lk in
             rw yn (omega arith))
-            (λ q. let yn = eqb-ne _ _ q in
+            (λ q. let yn = eqb-false _ _ q in
             let yl : g.level y ≡ l = sym (v.level y yn) ∙ lv in
             let heads : same (g2.head y) e.child ≡ same (g.head y) e.child = on_bool (eqb l k)
-            (λ z. hs (eqb-eq _ _ z) y yn)
-            (λ z. elim (d.head y yn) [ inl u ↦ ap (λ (x : ℕ). same x e.child) u | inr u ↦ absurd (eqb-ne _ _ z (sym yl ∙ u.0)) ]) in
+            (λ z. hs (eqb-true _ _ z) y yn)
+            (λ z. elim (d.head y yn) [ inl u ↦ ap (λ (x : ℕ). same x e.child) u | inr u ↦ absurd (eqb-false _ _ z (sym yl ∙ u.0)) ]) in
             times-put_behind_other c n y (g.group e.child) yn ∙ w.members y (before g g2 k c n ok v y yn i) yl ∙ sym heads));
         rows = λ r. rw (be, gr) (w.rows r ∙ on_bool (g.placed r)
             (λ pr. rw (v.placed r, pr) (sym (reach-at g g2 look k c n ok v p r w.group pr)))
@@ -207,7 +191,7 @@ module _ (g g2 : Shape) (look look2 : ℕ → Node) (table : Table) (k c n t : �
       let yk : g.level y ≤ k = omega arith in
       let bk = below_k g g2 k c n ok v in
       on_bool (eqb (g.above y k) c)
-      (λ q. let e = eqb-eq _ _ q in
+      (λ q. let e = eqb-true _ _ q in
       let one = same_is (g.above y k) c e in
       let self : g.above y l ≡ y = ap (g.above y) (sym lv) ∙ ok.itself y i in
       let r0 = d.above_right y l i kl (omega arith) e in
@@ -222,7 +206,7 @@ module _ (g g2 : Shape) (look look2 : ℕ → Node) (table : Table) (k c n t : �
             let s2 : same (g2.above y k) c ≡ 0 = ap (λ (w : ℕ). same w c) x ∙ same_not n c nc in
             (omega arith, omega arith))
       ])
-      (λ q. let ne = eqb-ne _ _ q in
+      (λ q. let ne = eqb-false _ _ q in
       let none = same_not (g.above y k) c ne in
       elim (v.above y k i yk) [
         | inl e2 ↦ (let zi = (ok.higher y k i yk bk).0 in
@@ -253,7 +237,7 @@ module _ (g g2 : Shape) (look look2 : ℕ → Node) (table : Table) (k c n t : �
       let nc : n ≢ c = (λ w. cn (sym w)) in
       let sum = rows-c kz r ∙ lies-settled g c r p f in
       on_bool (eqb (g.at r) c)
-      (λ q. let e = eqb-eq _ _ q in
+      (λ q. let e = eqb-true _ _ q in
       let one = same_is (g.at r) c e in
       let rt = d.at_right r p e f in
       elim (v.at r p) [
@@ -266,7 +250,7 @@ module _ (g g2 : Shape) (look look2 : ℕ → Node) (table : Table) (k c n t : �
             let s2 : same (g2.at r) c ≡ 0 = ap (λ (w : ℕ). same w c) x ∙ same_not n c nc in
             (omega arith, omega arith))
       ])
-      (λ q. let ne = eqb-ne _ _ q in
+      (λ q. let ne = eqb-false _ _ q in
       let none = same_not (g.at r) c ne in
       elim (v.at r p) [
         | inl e2 ↦ (let s1 : same (g2.at r) c ≡ 0 = ap (λ (w : ℕ). same w c) e2 ∙ none in
@@ -290,17 +274,17 @@ module _ (g g2 : Shape) (look look2 : ℕ → Node) (table : Table) (k c n t : �
       let v = d.div in
       let parts = d.rows r in
       on_bool (eqb b n)
-      (λ q. let e = eqb-eq _ _ q in
+      (λ q. let e = eqb-true _ _ q in
       let kz : k ≡ 0 = sym v.new_level ∙ ap g2.level (sym e) ∙ lv in
       rw e (lies-at_two n r kz (omega arith) (λ p f. (at-cases r kz p f).1)))
-      (λ q. let bn = eqb-ne _ _ q in
+      (λ q. let bn = eqb-false _ _ q in
       let i1 = before g g2 k c n ok v b bn i in
       let lv1 : g.level b ≡ 0 = sym (v.level b bn) ∙ lv in
       on_bool (eqb b c)
-      (λ q2. let e = eqb-eq _ _ q2 in
+      (λ q2. let e = eqb-true _ _ q2 in
       let kz : k ≡ 0 = sym v.c_level ∙ ap g.level (sym e) ∙ lv1 in
       rw e (lies-at_two c r kz (omega arith) (λ p f. (at-cases r kz p f).0)))
-      (λ q2. let bc = eqb-ne _ _ q2 in
+      (λ q2. let bc = eqb-false _ _ q2 in
       let old = tree.leaves b i1 lv1 r in
       rw (d.other_rows b bc bn) (old ∙ on_bool (g.placed r)
       (λ p. on_bool (g.carried r)
@@ -318,8 +302,8 @@ module _ (g g2 : Shape) (look look2 : ℕ → Node) (table : Table) (k c n t : �
   heads-divided nh y i =
       let v = d.div in
       on_bool (eqb y n)
-      (λ q. let e = eqb-eq _ _ q in rw e nh)
-      (λ q. let yn = eqb-ne _ _ q in
+      (λ q. let e = eqb-true _ _ q in rw e nh)
+      (λ q. let yn = eqb-false _ _ q in
       let h = tree.heads y (before g g2 k c n ok v y yn i) in
       elim (d.head y yn) [
         | inl e ↦ rw e (v.inside _ (old-apart g g2 k c n ok v _ h) ∙ h)
@@ -383,12 +367,12 @@ module _ (g g2 : Shape) (look look2 : ℕ → Node) (table : Table) (k c n t : �
       record {
         entries = rw is w;
         each = λ y i lv. rw is (on_bool (eqb y n)
-            (λ q. let yn = eqb-eq _ _ q in
+            (λ q. let yn = eqb-true _ _ q in
             let lk : l ≡ k = sym lv ∙ ap g2.level yn ∙ v.new_level in
             let s = spans-new g g2 look look2 table k c n t ok tree j.items b l (look b).entries dir.entries (grows (look b).entries) in
             let x = dir.each c v.c_inside (v.c_level ∙ sym lk) in
             rw yn (s ∙ x ∙ ap (λ (w : ℕ). same w b) (sym (v.new_above (l + 1) (omega arith)))))
-            (λ q. let yn = eqb-ne _ _ q in
+            (λ q. let yn = eqb-false _ _ q in
             let yi = before g g2 k c n ok v y yn i in
             let yl : g.level y ≡ l = sym (v.level y yn) ∙ lv in
             spans-grown g g2 look look2 table k c n t ok tree j.items y (look b).entries yn (grows (look b).entries)
@@ -409,17 +393,17 @@ module _ (g g2 : Shape) (look look2 : ℕ → Node) (table : Table) (k c n t : �
         heads = heads-divided g g2 look look2 table k c n t ok tree j.items (rw j.new_head (v.inside c (old-apart g g2 k c n ok v c v.c_inside) ∙ v.c_inside));
         leaves = lies-divided g g2 look look2 table k c n t ok tree j.items;
         dirs = λ b l i lv. on_bool (eqb b n)
-            (λ q. let e = eqb-eq _ _ q in
+            (λ q. let e = eqb-true _ _ q in
             let kl : k ≡ l + 1 = sym v.new_level ∙ ap g2.level (sym e) ∙ lv in
             rw e (part-dir n l (look2 n).entries kl j.items.right refl (λ y yi yl. (sides g g2 look look2 table k c n t ok tree j.items y l kl yi yl).1)))
-            (λ q. let bn = eqb-ne _ _ q in
+            (λ q. let bn = eqb-false _ _ q in
             let bi = before g g2 k c n ok v b bn i in
             let bl : g.level b ≡ l + 1 = sym (v.level b bn) ∙ lv in
             on_bool (eqb b c)
-            (λ q2. let e = eqb-eq _ _ q2 in
+            (λ q2. let e = eqb-true _ _ q2 in
             let kl : k ≡ l + 1 = sym v.c_level ∙ ap g.level (sym e) ∙ bl in
             rw e (part-dir c l (look2 c).entries kl j.items.left refl (λ y yi yl. (sides g g2 look look2 table k c n t ok tree j.items y l kl yi yl).0)))
-            (λ q2. other-dir b l (eqb-ne _ _ q2) bn bi bl));
+            (λ q2. other-dir b l (eqb-false _ _ q2) bn bi bl));
       }
 
 pub put_behind-none : (c n : ℕ) (ws : List ℕ) → times c ws ≡ 0 → put_behind c n ws ≡ ws
@@ -427,7 +411,7 @@ put_behind-none c n [] h = refl
 put_behind-none c n (y ∷ ys) h =
     let ih = put_behind-none c n ys (omega arith) in
     on_bool (eqb y c)
-    (λ q. let e = same_is c y (sym (eqb-eq _ _ q)) in absurd (omega arith))
+    (λ q. let e = same_is c y (sym (eqb-true _ _ q)) in absurd (omega arith))
     (λ q. rw q (ap (λ (w : List ℕ). y ∷ w) ih))
 
 pub parted-at : (c : ℕ) (a b e : Entry) (es : List Entry) → eqb e.child c ≡ true → parted c a b (e ∷ es) ≡ a ∷ b ∷ parted c a b es
@@ -480,10 +464,10 @@ module _ (g g2 : Shape) (look look2 : ℕ → Node) (table : Table) (k c n t top
       let v = j.items.div in
       let en = old-apart g g2 k c n ok v e.child (child-in x l e w).0 in
       let none : times c (g.group e.child) ≡ 0 = on_bool (eqb (g.level c) l)
-      (λ q. let lv = eqb-eq _ _ q in w.members c v.c_inside lv ∙ ap (λ (y : ℕ). same y e.child) j.items.c_head ∙ same_not c e.child (λ h. ne (sym h)))
-      (λ q. let lv = eqb-ne _ _ q in on_bool (leb 1 (times c (g.group e.child)))
-      (λ z. absurd (lv (w.group.cells c (leb-le _ _ z)).1))
-      (λ z. let y = leb-gt _ _ z in omega arith)) in
+      (λ q. let lv = eqb-true _ _ q in w.members c v.c_inside lv ∙ ap (λ (y : ℕ). same y e.child) j.items.c_head ∙ same_not c e.child (λ h. ne (sym h)))
+      (λ q. let lv = eqb-false _ _ q in on_bool (leb 1 (times c (g.group e.child)))
+      (λ z. absurd (lv (w.group.cells c (leb-true _ _ z)).1))
+      (λ z. let y = leb-false _ _ z in omega arith)) in
       j.group e.child ne en ∙ sym (put_behind-none c n (g.group e.child) none)
 
   entry-other : (x l : ℕ) (e : Entry) → EntryOk g look table l e → e.stamp ≢ t → e.child ≢ c → EntryOk g2 look2 table l e
@@ -540,8 +524,8 @@ module _ (g g2 : Shape) (look look2 : ℕ → Node) (table : Table) (k c n t top
       (λ f.
       let z = lies-carried g g2 look look2 table k c n t ok tree j.items g2 x r p f in
       let zero : reach g2 (one x) (g2.at r) ≡ 0 = on_bool (leb (g2.level (g2.at r)) 0)
-      (λ q. self (let y = leb-le _ _ q in omega arith) ∙ same_not (g2.at r) x (free r p f))
-      (λ q. let y = leb-gt _ _ q in reach-high g2 (one x) (g2.at r) (omega arith)) in
+      (λ q. self (let y = leb-true _ _ q in omega arith) ∙ same_not (g2.at r) x (free r p f))
+      (λ q. let y = leb-false _ _ q in reach-high g2 (one x) (g2.at r) (omega arith)) in
       lie ∙ z ∙ sym zero ∙ sym (beneath-in x r p))
       (λ f. lie ∙ lies-settled g g2 look look2 table k c n t ok tree j.items g2 x r p f ∙ sym (self (ok2.settled r p f)) ∙ sym (beneath-in x r p)))
       (λ p. lie ∙ lies-out g g2 look look2 table k c n t ok tree j.items g2 x r p ∙ sym (beneath-out x r p))
@@ -563,20 +547,20 @@ module _ (g g2 : Shape) (look look2 : ℕ → Node) (table : Table) (k c n t top
       let p2 : g2.placed r ≡ true = v.placed r ∙ p in
       let start : beneath g2 (one x) r ≡ reach g2 (one x) (g.at r) = beneath-in x r p2 ∙ ap (reach g2 (one x)) at2 in
       on_bool (leb (g.level (g.at r)) l)
-      (λ q. let le = leb-le _ _ q in
+      (λ q. let le = leb-true _ _ q in
       let h = ok.higher (g.at r) l si le (omega arith) in
       let s = side (g.above (g.at r) l) h.0 h.1 in
       let up = v.together (g.at r) l si le (omega arith) in
       sums-low g look table l r (look2 x).entries w p le ∙ s ∙ ap (λ (y : ℕ). same y x) up ∙ sym (one-low x (g.at r) (omega arith)) ∙ sym start)
-      (λ q. let gt = leb-gt _ _ q in
+      (λ q. let gt = leb-false _ _ q in
       let ca : g.carried r ≡ true = on_bool (g.carried r) (λ f. f) (λ f. let z = ok.settled r p f in absurd (omega arith)) in
       let ne : g.at r ≢ x = (λ e. free r p2 (v.carried r ∙ ca) (at2 ∙ e)) in
       let zero : reach g2 (one x) (g.at r) ≡ 0 = on_bool (leb (g.level (g.at r)) k)
-      (λ z. let le = leb-le _ _ z in
+      (λ z. let le = leb-true _ _ z in
       let lk : k ≡ g.level (g.at r) = omega arith in
       let self : g2.above (g.at r) k ≡ g.at r = above-high g g2 k c n ok v (g.at r) k si le (omega arith) ∙ ap (g.above (g.at r)) lk ∙ ok.itself (g.at r) si in
       one-low x (g.at r) (omega arith) ∙ ap (λ (y : ℕ). same y x) self ∙ same_not (g.at r) x ne)
-      (λ z. let y = leb-gt _ _ z in reach-high g2 (one x) (g.at r) (omega arith)) in
+      (λ z. let y = leb-false _ _ z in reach-high g2 (one x) (g.at r) (omega arith)) in
       sums-high g look table l r (look2 x).entries w p gt ∙ sym zero ∙ sym start))
       (λ p. sums-out g look table l r (look2 x).entries w p ∙ sym (beneath-out x r (v.placed r ∙ p)))
 
@@ -588,8 +572,8 @@ module _ (g g2 : Shape) (look look2 : ℕ → Node) (table : Table) (k c n t top
       → part_rows g (look2 x) k r ≡ beneath g2 (one x) r
   one-rows x r xi xl side free all =
       on_bool (eqb k 0)
-      (λ q. let kz = eqb-eq _ _ q in rw q (rows-zero x r kz xi xl free))
-      (λ q. let kn = eqb-ne _ _ q in rw q (rows-up x r (k - 1) (omega arith) xi xl (λ y i lv. side y (k - 1) (omega arith) i lv) free (all (k - 1) (omega arith))))
+      (λ q. let kz = eqb-true _ _ q in rw q (rows-zero x r kz xi xl free))
+      (λ q. let kn = eqb-false _ _ q in rw q (rows-up x r (k - 1) (omega arith) xi xl (λ y i lv. side y (k - 1) (omega arith) i lv) free (all (k - 1) (omega arith))))
 
   -- the entries of c or n, which c had
   part-entries : (x l : ℕ) → k ≡ l + 1 → Each (λ e. Among e (look c).entries) (look2 x).entries → Each (EntryOk g look table l) (look2 x).entries
@@ -659,8 +643,8 @@ module _ (g g2 : Shape) (look look2 : ℕ → Node) (table : Table) (k c n t top
         walks = ([], refl, j.items.relinked.head_stamp);
         low = omega arith;
         cells = λ y on. on_bool (eqb y c)
-            (λ q. let e = eqb-eq _ _ q in rw e (v.inside c cn ∙ v.c_inside, v.level c cn ∙ v.c_level))
-            (λ q. let z = same_not y c (eqb-ne _ _ q) in absurd (omega arith));
+            (λ q. let e = eqb-true _ _ q in rw e (v.inside c cn ∙ v.c_inside, v.level c cn ∙ v.c_level))
+            (λ q. let z = same_not y c (eqb-false _ _ q) in absurd (omega arith));
       }
 
   walk-n : IsNoted g2 look2 (record { cell = n; stamp = old.stamp; level = k; walk = n ∷ tail })
@@ -680,13 +664,13 @@ module _ (g g2 : Shape) (look look2 : ℕ → Node) (table : Table) (k c n t top
       record {
         group = rw (j.a_child, j.a_stamp, j.group_c) walk-c;
         members = λ y i lv. rw (j.a_child, j.group_c) (on_bool (eqb y n)
-            (λ q. let e = eqb-eq _ _ q in rw (e, j.new_head) (omega arith))
-            (λ q. let yn = eqb-ne _ _ q in on_bool (leb 1 (times y tail))
-            (λ z. let h = leb-le _ _ z in
+            (λ q. let e = eqb-true _ _ q in rw (e, j.new_head) (omega arith))
+            (λ q. let yn = eqb-false _ _ q in on_bool (leb 1 (times y tail))
+            (λ z. let h = leb-true _ _ z in
             let s1 = same_not y c (on-tail y h).apart in
             let s2 : same (g2.head y) c ≡ 0 = ap (λ (w : ℕ). same w c) (j.tail_head y h) ∙ same_not n c (λ e. cn (sym e)) in
             omega arith)
-            (λ z. let gt = leb-gt _ _ z in
+            (λ z. let gt = leb-false _ _ z in
             let zero : times y tail ≡ 0 = omega arith in
             let m = members-was y (before g g2 k c n ok v y yn i) (sym (v.level y yn) ∙ lv) in
             rw (j.other_head y yn zero) (omega arith))));
@@ -700,21 +684,21 @@ module _ (g g2 : Shape) (look look2 : ℕ → Node) (table : Table) (k c n t top
       record {
         group = rw (j.b_child, j.b_stamp, j.group_n) walk-n;
         members = λ y i lv. rw (j.b_child, j.group_n) (on_bool (eqb y n)
-            (λ q. let e = eqb-eq _ _ q in let z : times y tail ≡ 0 = ap (λ (w : ℕ). times w tail) e ∙ n-off in rw (e, j.new_head) (omega arith))
-            (λ q. let yn = eqb-ne _ _ q in
+            (λ q. let e = eqb-true _ _ q in let z : times y tail ≡ 0 = ap (λ (w : ℕ). times w tail) e ∙ n-off in rw (e, j.new_head) (omega arith))
+            (λ q. let yn = eqb-false _ _ q in
             let z1 = same_not y n yn in
             on_bool (leb 1 (times y tail))
-            (λ z. let h = leb-le _ _ z in
+            (λ z. let h = leb-true _ _ z in
             let once = (on-tail y h).once in
             let s : same (g2.head y) n ≡ 1 = same_is _ _ (j.tail_head y h) in
             omega arith)
-            (λ z. let gt = leb-gt _ _ z in
+            (λ z. let gt = leb-false _ _ z in
             let zero : times y tail ≡ 0 = omega arith in
             let hn : g.head y ≢ n = old-apart g g2 k c n ok v _ (tree.heads y (before g g2 k c n ok v y yn i)) in
             let z2 = same_not (g.head y) n hn in
             rw (j.other_head y yn zero) (omega arith))));
         rows = λ r. rw (j.b_child, j.group_n) (j.below_n r
-            ∙ total-same (λ y. part_rows g (look2 y) k r) (λ y. beneath g2 (one y) r) (n ∷ tail) (n-rows r, each-cell (λ y. part_rows g (look2 y) k r ≡ beneath g2 (one y) r) tail (λ y h. tail-rows y r h))
+            ∙ total-same (λ y. part_rows g (look2 y) k r ≡ beneath g2 (one y) r) (λ y. part_rows g (look2 y) k r) (λ y. beneath g2 (one y) r) (n ∷ tail) (λ y e. e) (n-rows r, each-times (λ y. part_rows g (look2 y) k r ≡ beneath g2 (one y) r) tail (λ y h. tail-rows y r h))
             ∙ beneath-each (g2.placed r) (leb (g2.level (g2.at r)) k) (g2.above (g2.at r) k) (n ∷ tail));
         summary = subst (λ (y : ℕ). IsSumOf table (g2.below y) b) (sym j.b_child) j.b_sum;
       }
@@ -725,7 +709,7 @@ module _ (g g2 : Shape) (look look2 : ℕ → Node) (table : Table) (k c n t top
       let ih = entries-parted l es lk w.1 st.1 in
       on_bool (eqb e.child c)
       (λ q. let ea : EntryOk g2 look2 table l a = rw lk entry-a in let eb : EntryOk g2 look2 table l b = rw lk entry-b in rw (parted-at c a b e es q) (ea, (eb, ih)))
-      (λ q. rw (parted-past c a b e es q) (entry-other top l e w.0 st.0 (eqb-ne _ _ q), ih))
+      (λ q. rw (parted-past c a b e es q) (entry-other top l e w.0 st.0 (eqb-false _ _ q), ih))
 
   -- an old block is in the groups as often as before, and n as often as c was
   spans-parted : (y l : ℕ) (es : List Entry) → y ≢ n → Each (EntryOk g look table l) es → spans g2 y (parted c a b es) ≡ spans g y es
@@ -733,13 +717,13 @@ module _ (g g2 : Shape) (look look2 : ℕ → Node) (table : Table) (k c n t top
   spans-parted y l (e ∷ es) yn w =
       let ih = spans-parted y l es yn w.1 in
       on_bool (eqb e.child c)
-      (λ q. let e1 = eqb-eq _ _ q in
+      (λ q. let e1 = eqb-true _ _ q in
       let z = same_not y n yn in
       let ga : times y (g2.group a.child) ≡ same y c + 0 = rw (j.a_child, j.group_c) refl in
       let gb : times y (g2.group b.child) ≡ same y n + times y tail = rw (j.b_child, j.group_n) refl in
       let ge : times y (g.group e.child) ≡ same y c + times y tail = rw (e1, j.group_was) refl in
       rw (parted-at c a b e es q) (omega arith))
-      (λ q. let gr = grows-other top l e w.0 (eqb-ne _ _ q) in
+      (λ q. let gr = grows-other top l e w.0 (eqb-false _ _ q) in
       let s : times y (g2.group e.child) ≡ times y (g.group e.child) = ap (times y) gr ∙ times-put_behind_other c n y (g.group e.child) yn in
       rw (parted-past c a b e es q) (omega arith))
 
@@ -750,7 +734,7 @@ module _ (g g2 : Shape) (look look2 : ℕ → Node) (table : Table) (k c n t top
       let ih = spans-parted_new l es w.1 in
       let cn = c-not-n in
       on_bool (eqb e.child c)
-      (λ q. let e1 = eqb-eq _ _ q in
+      (λ q. let e1 = eqb-true _ _ q in
       let z = same_not n c (λ h. cn (sym h)) in
       let o = same_is n n refl in
       let o2 = same_is c c refl in
@@ -760,7 +744,7 @@ module _ (g g2 : Shape) (look look2 : ℕ → Node) (table : Table) (k c n t top
       let zc = c-off in
       let zn = n-off in
       rw (parted-at c a b e es q) (omega arith))
-      (λ q. let gr = grows-other top l e w.0 (eqb-ne _ _ q) in
+      (λ q. let gr = grows-other top l e w.0 (eqb-false _ _ q) in
       let none = not_on g look (noted_of g l e) n w.0.group v.fresh in
       let s : times n (g2.group e.child) ≡ times c (g.group e.child) + times n (g.group e.child) = ap (times n) gr ∙ times-put_behind_new c n (g.group e.child) cn in
       rw (parted-past c a b e es q) (omega arith))
@@ -773,10 +757,10 @@ module _ (g g2 : Shape) (look look2 : ℕ → Node) (table : Table) (k c n t top
       record {
         entries = rw j.entries (entries-parted l (look top).entries lk dir.entries (j.items.waits top l j.top_in tl));
         each = λ y i lv. rw j.entries (on_bool (eqb y n)
-            (λ q. let yn = eqb-eq _ _ q in
+            (λ q. let yn = eqb-true _ _ q in
             let x = dir.each c v.c_inside (v.c_level ∙ sym lk) in
             rw yn (spans-parted_new l (look top).entries dir.entries ∙ x ∙ ap (λ (w : ℕ). same w top) (sym (v.new_above (l + 1) (omega arith)))))
-            (λ q. let yn = eqb-ne _ _ q in
+            (λ q. let yn = eqb-false _ _ q in
             let yi = before g g2 k c n ok v y yn i in
             let yl : g.level y ≡ l = sym (v.level y yn) ∙ lv in
             spans-parted y l (look top).entries yn dir.entries ∙ dir.each y yi yl ∙ hangs top y l tc tn yi yl));
@@ -805,12 +789,12 @@ module _ (g g2 : Shape) (look look2 : ℕ → Node) (table : Table) (k c n t top
       record {
         entries = rw is w;
         each = λ y i lv. rw is (on_bool (eqb y n)
-            (λ q. let yn = eqb-eq _ _ q in
+            (λ q. let yn = eqb-true _ _ q in
             let lk : l ≡ k = sym lv ∙ ap g2.level yn ∙ v.new_level in
             let s = spans-new g g2 look look2 table k c n t ok tree j.items x l (look x).entries dir.entries gr in
             let u = dir.each c v.c_inside (v.c_level ∙ sym lk) in
             rw yn (s ∙ u ∙ ap (λ (w : ℕ). same w x) (sym (v.new_above (l + 1) (omega arith)))))
-            (λ q. let yn = eqb-ne _ _ q in
+            (λ q. let yn = eqb-false _ _ q in
             let yi = before g g2 k c n ok v y yn i in
             let yl : g.level y ≡ l = sym (v.level y yn) ∙ lv in
             spans-grown g g2 look look2 table k c n t ok tree j.items y (look x).entries yn gr ∙ dir.each y yi yl ∙ hangs x y l xc xn yi yl));
@@ -846,19 +830,19 @@ module _ (g g2 : Shape) (look look2 : ℕ → Node) (table : Table) (k c n t top
         heads = heads-divided g g2 look look2 table k c n t ok tree j.items (rw j.new_head v.new_inside);
         leaves = lies-divided g g2 look look2 table k c n t ok tree j.items;
         dirs = λ x l i lv. on_bool (eqb x n)
-            (λ q. let e = eqb-eq _ _ q in
+            (λ q. let e = eqb-true _ _ q in
             let kl : k ≡ l + 1 = sym v.new_level ∙ ap g2.level (sym e) ∙ lv in
             rw e (part-parted n l kl j.items.right (λ y yi yl. (sides g g2 look look2 table k c n t ok tree j.items y l kl yi yl).1)))
-            (λ q. let xn = eqb-ne _ _ q in
+            (λ q. let xn = eqb-false _ _ q in
             let xi = before g g2 k c n ok v x xn i in
             let xl : g.level x ≡ l + 1 = sym (v.level x xn) ∙ lv in
             on_bool (eqb x c)
-            (λ q2. let e = eqb-eq _ _ q2 in
+            (λ q2. let e = eqb-true _ _ q2 in
             let kl : k ≡ l + 1 = sym v.c_level ∙ ap g.level (sym e) ∙ xl in
             rw e (part-parted c l kl j.items.left (λ y yi yl. (sides g g2 look look2 table k c n t ok tree j.items y l kl yi yl).0)))
-            (λ q2. let xc = eqb-ne _ _ q2 in on_bool (eqb x top)
-            (λ q3. let e = eqb-eq _ _ q3 in
+            (λ q2. let xc = eqb-false _ _ q2 in on_bool (eqb x top)
+            (λ q3. let e = eqb-true _ _ q3 in
             let u : g.level top ≡ l + 1 = ap g.level (sym e) ∙ xl in
             rw e (top-dir l (omega arith) top_c top_n))
-            (λ q3. other-parted x l xc xn (eqb-ne _ _ q3) xi xl)));
+            (λ q3. other-parted x l xc xn (eqb-false _ _ q3) xi xl)));
       }

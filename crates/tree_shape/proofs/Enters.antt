@@ -13,7 +13,8 @@ use Rattle.tree_shape.specs.Shape.{Node, Shape, Table, TreeCells, gate_node, nod
 use Rattle.tree_shape.specs.Steps.{AfterStep, AreSpares, IsIdle, IsSpare}
 use Rattle.tree_shape.specs.Trees.{BlockOk, IsTree, TreeOk}
 use Rattle.tree_shape.proofs.Relations.{Came, SameLinks, come}
-use Rattle.tree_shape.proofs.Walks.{on_bool, eqb-eq, eqb-ne, eqb-no, eqb-yes}
+use Rattle.list_words.proofs.Truth.{on_bool}
+use Rattle.std.proofs.lemmas.Bool.{eqb-true, eqb-false, ne_eqb, eq-eqb}
 use Rattle.tree_shape.proofs.Rows.{query-came}
 use Rattle.tree_shape.proofs.Comes.{tree-came}
 use Rattle.tree_shape.proofs.Onto.{child_in}
@@ -41,10 +42,10 @@ module _ (table : Table) (g : Shape) (r : ℕ) (before now : TreeCells) (purse p
   come-shape = come g r before.gate_cell
 
   off : {A : Type 0} (q : ℕ) (x y : A) → q ≢ r → cond (eqb q r) x y ≡ y
-  off q x y h = rw (eqb-no q r h) refl
+  off q x y h = rw (ne_eqb q r h) refl
 
   on : {A : Type 0} (x y : A) → cond (eqb r r) x y ≡ x
-  on x y = rw (eqb-yes r r refl) refl
+  on x y = rw (eq-eqb r r refl) refl
 
   came : Came g come-shape r gate
   came = record {
@@ -74,9 +75,6 @@ module _ (table : Table) (g : Shape) (r : ℕ) (before now : TreeCells) (purse p
     entries = λ y. refl;
   })
 
-  not-r : (q : ℕ) → g.placed q ≡ true → q ≢ r
-  not-r q p e = let bad : true ≡ false = sym p ∙ ap g.placed e ∙ new in cc
-
   near : NearTree table gate before.gate.height come-shape r
   near = record {
     top = tree.top;
@@ -89,8 +87,8 @@ module _ (table : Table) (g : Shape) (r : ℕ) (before now : TreeCells) (purse p
     heads = λ q h p c. rw (came.at q h) (tree.heads q (sym (came.placed q h) ∙ p) (sym (came.carried q h) ∙ c));
     alone = λ q s h h2 p c p2 c2 e. tree.alone q s (sym (came.placed q h) ∙ p) (sym (came.carried q h) ∙ c) (sym (came.placed s h2) ∙ p2) (sym (came.carried s h2) ∙ c2) (sym (came.at q h) ∙ e ∙ came.at s h2);
     numbered = λ q p. on_bool (eqb q r)
-        (λ z. let e = eqb-eq _ _ z in subst (λ y. ((table.row y).no ≡ y) × IsRowOf table.hierarchy (table.row y)) (sym e) (number, valid))
-        (λ z. tree.numbered q (sym (came.placed q (eqb-ne _ _ z)) ∙ p));
+        (λ z. let e = eqb-true _ _ z in subst (λ y. ((table.row y).no ≡ y) × IsRowOf table.hierarchy (table.row y)) (sym e) (number, valid))
+        (λ z. tree.numbered q (sym (came.placed q (eqb-false _ _ z)) ∙ p));
   }
 
   pub come-spare : (s : Spare) → IsSpare g (nodes before) s → IsSpare come-shape (nodes before) s
@@ -159,14 +157,14 @@ module _ (table : Table) (g : Shape) (r : ℕ) (before now : TreeCells) (purse p
     old_blocks b bi bg =
         let ok = tree.blocks b bi bg in
         block-kept table g come-shape b (before.block b) (before.block b) ok refl refl (λ q p c e. on_bool (eqb q r)
-        (λ z. absurd (bg (sym e ∙ ap come-shape.at (eqb-eq _ _ z) ∙ came.now_at)))
-        (λ z. let h = eqb-ne _ _ z in ok.room q (sym (came.placed q h) ∙ p) (sym (came.carried q h) ∙ c) (sym (came.at q h) ∙ e)))
+        (λ z. absurd (bg (sym e ∙ ap come-shape.at (eqb-true _ _ z) ∙ came.now_at)))
+        (λ z. let h = eqb-false _ _ z in ok.room q (sym (came.placed q h) ∙ p) (sym (came.carried q h) ∙ c) (sym (came.at q h) ∙ e)))
 
     come-idle : IsIdle come-shape before.gate.root
     come-idle q p c e = on_bool (eqb q r)
-        (λ z. let at_root : gate ≡ before.gate.root = sym came.now_at ∙ ap come-shape.at (sym (eqb-eq _ _ z)) ∙ e in
+        (λ z. let at_root : gate ≡ before.gate.root = sym came.now_at ∙ ap come-shape.at (sym (eqb-true _ _ z)) ∙ e in
         let l1 = ap g.level at_root in let l2 = root_in.1 in let l3 = gate_up in absurd (omega arith))
-        (λ z. let h = eqb-ne _ _ z in idle q (sym (came.placed q h) ∙ p) (sym (came.carried q h) ∙ c) (sym (came.at q h) ∙ e))
+        (λ z. let h = eqb-false _ _ z in idle q (sym (came.placed q h) ∙ p) (sym (came.carried q h) ∙ c) (sym (came.at q h) ∙ e))
 
     low : before.gate.height - 1 < before.gate.height
     low = let b = tree.some in omega arith

@@ -15,19 +15,17 @@ use Rattle.dc_node.specs.declared.block.Body.{Body}
 use Rattle.dc_node.specs.declared.block.Body.TheVariants.{Rows, Entries}
 use Rattle.dc_node.specs.declared.block.Block.{Block}
 use Rattle.link_descent.specs.declared.entered.Fresh.{Fresh}
-use Rattle.tree_shape.specs.Counts.{Each, same, times, total}
+use Rattle.list_words.specs.Counts.{Each, same, times, total}
+use Rattle.list_words.proofs.Truth.{on_bool}
+use Rattle.std.proofs.lemmas.Bool.{eqb-true, eqb-false, leb-true, leb-false}
+use Rattle.list_words.proofs.Times.{same_not}
+use Rattle.list_words.proofs.Each.{each-left, each-right}
+use Rattle.list_words.proofs.Totals.{total-append, total-map}
 use Rattle.tree_shape.specs.Shape.{Table, numbers}
 use Rattle.tree_shape.specs.Forest.{AreInCells, all_rows, filled_cells}
-use Rattle.tree_shape.proofs.Walks.{on_bool, eqb-eq, eqb-ne, same_not}
-use Rattle.tree_shape.proofs.Queries.{leb-le, leb-gt}
-use Rattle.tree_shape.proofs.Parts.{each-left, each-right, total-append, total-map}
 
 pub unit : (n : ℕ) → n ≤ 1 → n ≡ cond (leb 1 n) 1 0
-unit n le = on_bool (leb 1 n) (λ q. let a = leb-le _ _ q in rw q (omega arith)) (λ q. let a = leb-gt _ _ q in rw q (omega arith))
-
-pub each-all : {A : Type 0} (P : A → Type 0) (xs : List A) → All P xs → Each P xs
-each-all P [] h = tt
-each-all P (x ∷ xs) h = (All-head P x xs h, each-all P xs (All-tail P x xs h))
+unit n le = on_bool (leb 1 n) (λ q. let a = leb-true _ _ q in rw q (omega arith)) (λ q. let a = leb-false _ _ q in rw q (omega arith))
 
 -- What stands in cells.
 
@@ -35,8 +33,8 @@ each-all P (x ∷ xs) h = (All-head P x xs h, each-all P xs (All-tail P x xs h))
 pub at-cell : (P : Block → Type 0) (block : ℕ → Block) (fs : List Fresh) (c : ℕ) → AreInCells block fs → Each (λ f. P f.block) fs → 1 ≤ times c (filled_cells fs) → P (block c)
 at-cell P block [] c s h n = absurd (omega arith)
 at-cell P block (f ∷ fs) c s h n = on_bool (eqb c f.cell)
-    (λ q. subst P (sym (ap block (eqb-eq _ _ q) ∙ s.0)) h.0)
-    (λ q. let z = same_not c f.cell (eqb-ne _ _ q) in at-cell P block fs c s.1 h.1 (omega arith))
+    (λ q. subst P (sym (ap block (eqb-true _ _ q) ∙ s.0)) h.0)
+    (λ q. let z = same_not c f.cell (eqb-false _ _ q) in at-cell P block fs c s.1 h.1 (omega arith))
 
 -- the items of the blocks, one by one
 pub total-cells : {A : Type 0} (k : A → ℕ) (items : Block → List A) (block : ℕ → Block) (fs : List Fresh) → AreInCells block fs
@@ -68,10 +66,10 @@ pub row-known : (table : Table) (rows : List Row) (r : ℕ) → All (λ x. table
     → ((table.row r).no ≡ r) × IsRowOf table.hierarchy (table.row r)
 row-known table [] r named valid n = absurd (omega arith)
 row-known table (x ∷ xs) r named valid n = on_bool (eqb r x.no)
-    (λ q. let e = eqb-eq _ _ q in
+    (λ q. let e = eqb-true _ _ q in
     let is : table.row r ≡ x = ap table.row e ∙ All-head (λ y. table.row y.no ≡ y) x xs named in
     (ap (λ (y : Row). y.no) is ∙ sym e, subst (IsRowOf table.hierarchy) (sym is) (All-head (IsRowOf table.hierarchy) x xs valid)))
-    (λ q. let z = same_not r x.no (eqb-ne _ _ q) in
+    (λ q. let z = same_not r x.no (eqb-false _ _ q) in
     row-known table xs r (All-tail (λ y. table.row y.no ≡ y) x xs named) (All-tail (IsRowOf table.hierarchy) x xs valid) (omega arith))
 
 -- what the summary of a block of either kind says

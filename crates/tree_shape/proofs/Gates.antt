@@ -2,11 +2,13 @@
 use Rattle.std.proofs.Common.{◌≡◌, ◌≢◌, ℕ, ◌+◌, ◌≤◌, true, false, eqb, List, [], ◌∷◌, refl, sym, ap, ◌∙◌, arith}
 use Rattle.dc_node.specs.declared.entry.Entry.{Entry}
 use Rattle.shard_store.specs.Gate.{root_entry}
-use Rattle.tree_shape.specs.Counts.{same, times, total}
+use Rattle.list_words.specs.Counts.{same, times, total}
+use Rattle.list_words.proofs.Truth.{on_bool}
+use Rattle.std.proofs.lemmas.Bool.{eqb-true, eqb-false}
+use Rattle.list_words.proofs.Times.{same_is, same_not}
 use Rattle.tree_shape.specs.Shape.{Node, Shape, Table, TreeCells, node_of, nodes}
 use Rattle.tree_shape.specs.Trees.{EntryOk}
 use Rattle.tree_shape.specs.Forest.{AfterBuilding, IsForest, IsGateOver, TreeLaw}
-use Rattle.tree_shape.proofs.Walks.{on_bool, eqb-eq, eqb-ne, same_is, same_not}
 use Rattle.tree_shape.proofs.Assembled.{block-kept, node-block, node-gate}
 use Rattle.tree_shape.proofs.Storeys.{IsUnder, inside-new, leads, level-new, level-old, low, sorts, storey, tree-storey}
 
@@ -22,7 +24,7 @@ module _ (table : Table) (cells : TreeCells) (l : ℕ) (others rows : List ℕ) 
   up = cells.gate_cell ∷ []
 
   is-gate : (y : ℕ) → 1 ≤ times y up → y ≡ cells.gate_cell
-  is-gate y n = on_bool (eqb y cells.gate_cell) (λ q. eqb-eq _ _ q) (λ q. let z = same_not y cells.gate_cell (eqb-ne _ _ q) in absurd (omega arith))
+  is-gate y n = on_bool (eqb y cells.gate_cell) (λ q. eqb-true _ _ q) (λ q. let z = same_not y cells.gate_cell (eqb-false _ _ q) in absurd (omega arith))
 
   outside : g.inside cells.gate_cell ≡ false
   outside = let a = d.apart in on_bool (g.inside cells.gate_cell)
@@ -91,7 +93,7 @@ module _ (table : Table) (cells : TreeCells) (l : ℕ) (others rows : List ℕ) 
     inside = λ y.
         let c = f.inside y in
         on_bool (eqb y cells.gate_cell)
-        (λ q. let k : times y others ≡ 0 = ap (λ z. times z others) (eqb-eq _ _ q) ∙ d.apart in rw q (omega arith))
+        (λ q. let k : times y others ≡ 0 = ap (λ z. times z others) (eqb-true _ _ q) ∙ d.apart in rw q (omega arith))
         (λ q. rw q (omega arith));
   }
 

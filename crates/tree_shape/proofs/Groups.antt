@@ -12,41 +12,33 @@ use Rattle.dc_node.specs.declared.block.Body.TheVariants.{Rows, Entries}
 use Rattle.dc_node.specs.declared.block.Block.{Block}
 use Rattle.dc_node.specs.declared.entry.Entry.{Entry}
 use Rattle.link_descent.specs.Divide.{together}
-use Rattle.tree_shape.specs.Counts.{Each, times, total}
+use Rattle.list_words.specs.Counts.{Each, times, total}
+use Rattle.list_words.proofs.Truth.{on_bool}
+use Rattle.list_words.proofs.Each.{each-append, each-flat, each-mapped}
+use Rattle.list_words.proofs.Times.{times-append}
 use Rattle.tree_shape.specs.Shape.{Node, Shape, Table, node_of, numbers}
-use Rattle.tree_shape.proofs.Relations.{IsSumOf, all_below, group_rows, part_rows, rows_of}
-use Rattle.tree_shape.proofs.Walks.{on_bool}
-use Rattle.tree_shape.proofs.Parts.{each-append}
-use Rattle.tree_shape.proofs.Visits.{times-append}
+use Rattle.tree_shape.proofs.Relations.{IsSumOf, all_below, group_rows, part_rows, block_rows}
 use Rattle.tree_shape.proofs.Sums.{sum-block}
 
 pub times-all_below : (g : Shape) (r : ℕ) (es : List Entry) → times r (all_below g es) ≡ total (λ e. times r (g.below e.child)) es
 times-all_below g r [] = refl
 times-all_below g r (e ∷ es) = omega (arith, times-append r (g.below e.child) (all_below g es), times-all_below g r es)
 
-pub rows_of-times : (g : Shape) (b : Node) (k r : ℕ) → times r (rows_of g b k) ≡ part_rows g b k r
-rows_of-times g b k r = on_bool (eqb k 0) (λ q. rw q refl) (λ q. rw q (times-all_below g r b.entries))
+pub block_rows-times : (g : Shape) (b : Node) (k r : ℕ) → times r (block_rows g b k) ≡ part_rows g b k r
+block_rows-times g b k r = on_bool (eqb k 0) (λ q. rw q refl) (λ q. rw q (times-all_below g r b.entries))
 
 pub group_rows-times : (g : Shape) (look : ℕ → Node) (k r : ℕ) (ws : List ℕ) → times r (group_rows g look k ws) ≡ total (λ y. part_rows g (look y) k r) ws
 group_rows-times g look k r [] = refl
-group_rows-times g look k r (y ∷ ys) = omega (arith, times-append r (rows_of g (look y) k) (group_rows g look k ys), rows_of-times g (look y) k r, group_rows-times g look k r ys)
+group_rows-times g look k r (y ∷ ys) = omega (arith, times-append r (block_rows g (look y) k) (group_rows g look k ys), block_rows-times g (look y) k r, group_rows-times g look k r ys)
 
 pub group_rows-same : (g : Shape) (look other : ℕ → Node) (k : ℕ) (ws : List ℕ) → Each (λ y. other y ≡ look y) ws → group_rows g other k ws ≡ group_rows g look k ws
 group_rows-same g look other k [] h = refl
 group_rows-same g look other k (y ∷ ys) h =
-    ap (λ (b : Node). rows_of g b k ++ group_rows g other k ys) h.0 ∙ ap (λ (ns : List ℕ). rows_of g (look y) k ++ ns) (group_rows-same g look other k ys h.1)
+    ap (λ (b : Node). block_rows g b k ++ group_rows g other k ys) h.0 ∙ ap (λ (ns : List ℕ). block_rows g (look y) k ++ ns) (group_rows-same g look other k ys h.1)
 
 all_below-append : (g : Shape) (es fs : List Entry) → all_below g (es ++ fs) ≡ all_below g es ++ all_below g fs
 all_below-append g [] fs = refl
 all_below-append g (e ∷ es) fs = ap (λ (ns : List ℕ). g.below e.child ++ ns) (all_below-append g es fs) ∙ sym (append_assoc (g.below e.child) (all_below g es) (all_below g fs))
-
-each-flat : {A B : Type 0} (P : B → Type 0) (f : A → List B) (xs : List A) → Each (λ x. Each P (f x)) xs → Each P (flat_map f xs)
-each-flat P f [] h = tt
-each-flat P f (x ∷ xs) h = each-append P (f x) (flat_map f xs) h.0 (each-flat P f xs h.1)
-
-pub each-mapped : {A B : Type 0} (P : B → Type 0) (f : A → B) (xs : List A) → Each (λ x. P (f x)) xs → Each P (map f xs)
-each-mapped P f [] h = tt
-each-mapped P f (x ∷ xs) h = (h.0, each-mapped P f xs h.1)
 
 -- The items of a head and of the blocks behind it.
 
@@ -66,7 +58,7 @@ module _ (g : Shape) (look : ℕ → Node) (k : ℕ) (block : ℕ → Block) whe
   leaf-rows : (ws : List ℕ) → eqb k 0 ≡ true → Each (λ y. look y ≡ node_of (block y)) ws → numbers (flat_map (λ b. rows_in b.body) (map block ws)) ≡ group_rows g look k ws
   leaf-rows [] q h = refl
   leaf-rows (y ∷ ys) q h =
-      let e : rows_of g (look y) k ≡ numbers (rows_in (block y).body) = rw (h.0, q) refl in
+      let e : block_rows g (look y) k ≡ numbers (rows_in (block y).body) = rw (h.0, q) refl in
       map-append (λ (r : Row). r.no) (rows_in (block y).body) (flat_map (λ b. rows_in b.body) (map block ys))
       ∙ ap (λ (ns : List ℕ). numbers (rows_in (block y).body) ++ ns) (leaf-rows ys q h.1)
       ∙ ap (λ (ns : List ℕ). ns ++ group_rows g look k ys) (sym e)
@@ -74,7 +66,7 @@ module _ (g : Shape) (look : ℕ → Node) (k : ℕ) (block : ℕ → Block) whe
   dir-rows : (ws : List ℕ) → eqb k 0 ≡ false → Each (λ y. look y ≡ node_of (block y)) ws → all_below g (flat_map (λ b. entries_in b.body) (map block ws)) ≡ group_rows g look k ws
   dir-rows [] q h = refl
   dir-rows (y ∷ ys) q h =
-      let e : rows_of g (look y) k ≡ all_below g (entries_in (block y).body) = rw (h.0, q) refl in
+      let e : block_rows g (look y) k ≡ all_below g (entries_in (block y).body) = rw (h.0, q) refl in
       all_below-append g (entries_in (block y).body) (flat_map (λ b. entries_in b.body) (map block ys))
       ∙ ap (λ (ns : List ℕ). all_below g (entries_in (block y).body) ++ ns) (dir-rows ys q h.1)
       ∙ ap (λ (ns : List ℕ). ns ++ group_rows g look k ys) (sym e)
@@ -101,8 +93,8 @@ pub sum-group : (g : Shape) (look : ℕ → Node) (table : Table) (k n : ℕ) (n
 sum-group g look table k n new block ws e is kind stand named nameds valid valids sums sumss s =
     let bs : List Block = map block ws in
     let all : Block = record { stamp = 0; right = None; body = together new.body bs } in
-    let w : IsSumOf table (rows_of g (node_of all) k) e = sum-block g table k all e (leaf-together new.body bs ∙ kind)
+    let w : IsSumOf table (block_rows g (node_of all) k) e = sum-block g table k all e (leaf-together new.body bs ∙ kind)
     (each-row (λ r. table.row r.no ≡ r) new.body bs named (each-mapped (λ (b : Block). Each (λ r. table.row r.no ≡ r) (rows_in b.body)) block ws nameds))
     (λ z. each-row (IsRowOf table.hierarchy) new.body bs (valid z) (each-mapped (λ (b : Block). Each (IsRowOf table.hierarchy) (rows_in b.body)) block ws (valids z)))
     (each-entry (λ x. IsSumOf table (g.below x.child) x) new.body bs sums (each-mapped (λ (b : Block). Each (λ x. IsSumOf table (g.below x.child) x) (entries_in b.body)) block ws sumss)) s in
-    subst (λ (ns : List ℕ). IsSumOf table ns e) (rows-together g look k block new.body ws kind stand ∙ ap (λ (b : Node). rows_of g b k ++ group_rows g look k ws) (sym is)) w
+    subst (λ (ns : List ℕ). IsSumOf table ns e) (rows-together g look k block new.body ws kind stand ∙ ap (λ (b : Node). block_rows g b k ++ group_rows g look k ws) (sym is)) w

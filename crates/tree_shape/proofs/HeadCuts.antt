@@ -17,7 +17,11 @@ use Rattle.link_descent.specs.Descend.{Cuts, CutsRoot}
 use Rattle.link_descent.specs.Divide.{IsCutByHead}
 use Rattle.link_descent.specs.GateRead.{root_items}
 use Rattle.link_descent.specs.declared.entered.Entered.{Entered}
-use Rattle.tree_shape.specs.Counts.{Each, times}
+use Rattle.list_words.specs.Counts.{Each, times}
+use Rattle.list_words.proofs.Truth.{on_bool}
+use Rattle.std.proofs.lemmas.Bool.{eqb-true, eqb-false, ne_eqb, leb-true, leb-false}
+use Rattle.std.proofs.lemmas.List.{length-append}
+use Rattle.list_words.proofs.Each.{each-append}
 use Rattle.tree_shape.specs.Shape.{Shape, TreeCells, nodes}
 use Rattle.tree_shape.specs.Queries.{IsUnfinished, NoneWaits, fits}
 use Rattle.tree_shape.specs.Steps.{AfterBegin, AfterStep, AfterVisit, IsAsked, IsIdle, IsSpare}
@@ -25,10 +29,6 @@ use Rattle.tree_shape.specs.Trees.{HasBehind}
 use Rattle.tree_shape.specs.Example.{HoldsFirst, IsAnswered, IsUncut, gate_after}
 use Rattle.tree_shape.specs.Cities.{berlin, cities, coord_of, munich}
 use Rattle.tree_shape.specs.HeadCuts.{HeadCutWork, before_last, berlin_entry, cut_group, for_berlin, munich_entry, new_spare, top_spare, town_rows, town_sample, towns, two_blocks}
-use Rattle.tree_shape.proofs.Walks.{on_bool, eqb-eq, eqb-ne, eqb-no}
-use Rattle.tree_shape.proofs.Queries.{leb-le, leb-gt}
-use Rattle.tree_shape.proofs.Descends.{length-plus}
-use Rattle.tree_shape.proofs.Parts.{each-append}
 use Rattle.tree_shape.proofs.ComesIn.{goes-in}
 use Rattle.tree_shape.proofs.Beginnings.{after-begin}
 use Rattle.tree_shape.proofs.Readings.{after-visit}
@@ -68,8 +68,8 @@ head_after (suc k) n head = head_after k (suc n) (head ++ towns.row n ∷ [])
 more : (k n : ℕ) (head : List Row) → length head + k ≤ 32 → HasGroup n head → HasGroup (number_after k n) (head_after k n head)
 more zero n head few b = b
 more (suc k) n head few b =
-    let w = next-row towns town_sample real_towns n (two_blocks n head).block (two_blocks (suc n) (head ++ towns.row n ∷ [])).block b.holds refl (eqb-no _ _ (omega arith)) refl refl refl (λ y y1. rw (eqb-no y 1 y1) refl) in
-    let l = length-plus head (towns.row n ∷ []) in
+    let w = next-row towns town_sample real_towns n (two_blocks n head).block (two_blocks (suc n) (head ++ towns.row n ∷ [])).block b.holds refl (ne_eqb _ _ (omega arith)) refl refl refl (λ y y1. rw (ne_eqb y 1 y1) refl) in
+    let l = length-append head (towns.row n ∷ []) in
     more k (suc n) (head ++ towns.row n ∷ []) (omega arith) (record { holds = w.holds; spares = λ s c t. w.spares s (b.spares s c t) })
 
 full-group : HasGroup 48 (town_rows 16 32)
@@ -118,7 +118,7 @@ cuts = record {
   full = refl;
   purse_is = refl;
   behind = tail;
-  cut = inr (eqb-ne 1 0 refl, refl, by-head, refl);
+  cut = inr (eqb-false 1 0 refl, refl, by-head, refl);
   left_is = record {
     child = refl;
     stamp = refl;
@@ -170,9 +170,9 @@ module _ (f : HasGroup 48 (town_rows 16 32)) where
     behind = λ full. sym found.found;
     step = record { step = inr (inr cuts-root) };
     idle = λ q p c e. (let z : true ≡ false = sym c ∙ f.holds.settled q p in cc);
-    spares = (f.spares top_spare (lit≤ tt) (lit≤ tt), ((eqb-ne 4 3 refl, eqb-ne 3 2 refl), tt), (f.spares new_spare (lit≤ tt) (lit≤ tt), tt, tt));
+    spares = (f.spares top_spare (lit≤ tt) (lit≤ tt), ((eqb-false 4 3 refl, eqb-false 3 2 refl), tt), (f.spares new_spare (lit≤ tt) (lit≤ tt), tt, tt));
     filled = (refl, (refl, tt));
-    other = λ y y1 fr. rw (eqb-no y 1 y1, eqb-no y 3 fr.0, eqb-no y 4 fr.1.0) refl;
+    other = λ y y1 fr. rw (ne_eqb y 1 y1, ne_eqb y 3 fr.0, ne_eqb y 4 fr.1.0) refl;
     gate_cell = refl;
     gate = record { root = refl; height = refl };
   })
@@ -180,8 +180,8 @@ module _ (f : HasGroup 48 (town_rows 16 32)) where
   -- nobody carries a row but at the new root
   idle : (c : ℕ) → c ≢ 4 → IsIdle came.shape c
   idle c ne q p ca e = on_bool (eqb q 48)
-      (λ z. ne (sym e ∙ ap came.shape.at (eqb-eq _ _ z) ∙ came.row.at))
-      (λ z. let n = eqb-ne _ _ z in let bad : true ≡ false = sym ca ∙ came.row.others_carried q n ∙ f.holds.settled q (sym (came.row.others_placed q n) ∙ p) in cc)
+      (λ z. ne (sym e ∙ ap came.shape.at (eqb-true _ _ z) ∙ came.row.at))
+      (λ z. let n = eqb-false _ _ z in let bad : true ≡ false = sym ca ∙ came.row.others_carried q n ∙ f.holds.settled q (sym (came.row.others_placed q n) ∙ p) in cc)
 
   -- A query for Berlin that noted the root before.
 
@@ -223,29 +223,29 @@ module _ (f : HasGroup 48 (town_rows 16 32)) where
 
   unseen : times 48 begun.now ≡ 0
   unseen = on_bool (leb 1 (times 48 begun.now))
-      (λ q. elim (begun.known 48 (leb-le _ _ q)) [ inl z ↦ absurd (omega arith) | inr z ↦ (let y = f.holds.known 48 z in absurd (omega arith)) ])
-      (λ q. let y = leb-gt _ _ q in omega arith)
+      (λ q. elim (begun.known 48 (leb-true _ _ q)) [ inl z ↦ absurd (omega arith) | inr z ↦ (let y = f.holds.known 48 z in absurd (omega arith)) ])
+      (λ q. let y = leb-false _ _ q in omega arith)
 
   still-right : IsUnfinished came.shape (nodes cut_group) before_last (fits towns for_berlin) (first ∷ []) begun.now
   still-right =
-      let waits : Each (λ (s : Spare). NoneWaits s.stamp (first ∷ [])) (top_spare ∷ new_spare ∷ []) = ((eqb-ne 0 3 refl, tt), ((eqb-ne 0 2 refl, tt), tt)) in
+      let waits : Each (λ (s : Spare). NoneWaits s.stamp (first ∷ [])) (top_spare ∷ new_spare ∷ []) = ((eqb-false 0 3 refl, tt), ((eqb-false 0 2 refl, tt), tt)) in
       came.queries before_last (fits towns for_berlin) (first ∷ []) begun.now (subst (Each (λ (s : Spare). NoneWaits s.stamp (first ∷ []))) came.purse_is waits) (λ z. (unseen, refl))
       (subst (λ items. IsUnfinished g (nodes before) before_last (fits towns for_berlin) items begun.now) notes-root begun.unfinished)
 
   at-head : AfterVisit towns cut_group came.shape before_last for_berlin [] first begun.now still-right.noted
-  at-head = after-visit towns cut_group came.shape before_last for_berlin [] first begun.now came.tree (record { asked = asked; unfinished = still-right; block = eqb-ne 1 0 refl; idle = idle 1 (eqb-ne 1 4 refl) })
+  at-head = after-visit towns cut_group came.shape before_last for_berlin [] first begun.now came.tree (record { asked = asked; unfinished = still-right; block = eqb-false 1 0 refl; idle = idle 1 (eqb-false 1 4 refl) })
 
   to-new : IsUnfinished came.shape (nodes cut_group) before_last (fits towns for_berlin) (second ∷ []) at-head.now
   to-new = at-head.unfinished
 
   at-new : AfterVisit towns cut_group came.shape before_last for_berlin [] second at-head.now to-new.noted
-  at-new = after-visit towns cut_group came.shape before_last for_berlin [] second at-head.now came.tree (record { asked = asked; unfinished = to-new; block = eqb-ne 3 0 refl; idle = idle 3 (eqb-ne 3 4 refl) })
+  at-new = after-visit towns cut_group came.shape before_last for_berlin [] second at-head.now came.tree (record { asked = asked; unfinished = to-new; block = eqb-false 3 0 refl; idle = idle 3 (eqb-false 3 4 refl) })
 
   to-last : IsUnfinished came.shape (nodes cut_group) before_last (fits towns for_berlin) (third ∷ []) at-new.now
   to-last = at-new.unfinished
 
   at-last : AfterVisit towns cut_group came.shape before_last for_berlin [] third at-new.now to-last.noted
-  at-last = after-visit towns cut_group came.shape before_last for_berlin [] third at-new.now came.tree (record { asked = asked; unfinished = to-last; block = eqb-ne 2 0 refl; idle = idle 2 (eqb-ne 2 4 refl) })
+  at-last = after-visit towns cut_group came.shape before_last for_berlin [] third at-new.now came.tree (record { asked = asked; unfinished = to-last; block = eqb-false 2 0 refl; idle = idle 2 (eqb-false 2 4 refl) })
 
   answered : IsAnswered towns 48 before_last for_berlin
   answered =

@@ -17,22 +17,22 @@ use Rattle.hierarchy_split.specs.Head.{GroupItems, IsBetterHead, IsGoodHead, IsG
 use Rattle.hierarchy_split.specs.declared.head_cut.HeadCut.{HeadCut}
 use Rattle.hierarchy_split.proofs.Cuts.{IsCutLevel-unique}
 use Rattle.hierarchy_split.proofs.Lifts.{leasts_at_top}
-use Rattle.tree_shape.specs.Counts.{Each}
+use Rattle.list_words.specs.Counts.{Each}
+use Rattle.list_words.proofs.Each.{all-each}
+use Rattle.std.proofs.lemmas.Bool.{lt-leb, le-leb, eqb-true, eqb-false, ne_eqb, leb-false, leb-true}
+use Rattle.list_words.proofs.Truth.{on_bool}
 use Rattle.tree_shape.specs.Cities.{berlin, cities, cities_of, coord_of, munich, set_of}
 use Rattle.tree_shape.specs.Example.{IsSample}
 use Rattle.tree_shape.specs.HeadCuts.{town, town_sample, towns}
 use Rattle.tree_shape.proofs.CityFacts.{berlin-valid, empty-set, few16, grow-set, munich-valid, one-dim, one-valid, some16, valid-set}
-use Rattle.tree_shape.proofs.Parts.{all-each}
-use Rattle.tree_shape.proofs.Queries.{leb-false, leb-gt, leb-le, leb-true}
-use Rattle.tree_shape.proofs.Walks.{eqb-eq, eqb-ne, eqb-no, on_bool}
 
 -- Rows.
 
 pub in-berlin : (r : ℕ) → r < 33 → town r ≡ berlin
-in-berlin r lt = rw (leb-false 33 r lt) refl
+in-berlin r lt = rw (lt-leb 33 r lt) refl
 
 pub in-munich : (r : ℕ) → 33 ≤ r → town r ≡ munich
-in-munich r le = rw (leb-true 33 r le) refl
+in-munich r le = rw (le-leb 33 r le) refl
 
 by-town : (P : ℕ → Type 0) → P berlin → P munich → (r : ℕ) → P (town r)
 by-town P b m r = on_bool (leb 33 r) (λ q. rw q m) (λ q. rw q b)
@@ -50,14 +50,14 @@ munich-set = one-valid 16 some16 few16 16
 
 pub town-grown : (n : ℕ) → GrowsBy cities (coord_of (town n)) (set_of (cities_of 33 n)) (set_of (cities_of 33 (n + 1)))
 town-grown n = on_bool (leb 33 n)
-    (λ q. let le = leb-le _ _ q in
-    rw (in-munich n le, eqb-no n 0 (omega arith), eqb-no (n + 1) 0 (omega arith), leb-false (n + 1) 33 (omega arith)) (on_bool (leb n 33)
+    (λ q. let le = leb-true _ _ q in
+    rw (in-munich n le, ne_eqb n 0 (omega arith), ne_eqb (n + 1) 0 (omega arith), lt-leb (n + 1) 33 (omega arith)) (on_bool (leb n 33)
     (λ q2. rw q2 (grow-set munich (berlin ∷ []) (berlin ∷ munich ∷ []) refl refl (omega arith)))
     (λ q2. rw q2 (grow-set munich (berlin ∷ munich ∷ []) (berlin ∷ munich ∷ []) refl refl (omega arith)))))
-    (λ q. let lt = leb-gt _ _ q in
-    rw (in-berlin n lt, eqb-no (n + 1) 0 (omega arith), leb-true (n + 1) 33 (omega arith)) (on_bool (eqb n 0)
+    (λ q. let lt = leb-false _ _ q in
+    rw (in-berlin n lt, ne_eqb (n + 1) 0 (omega arith), le-leb (n + 1) 33 (omega arith)) (on_bool (eqb n 0)
     (λ q2. rw q2 (grow-set berlin [] (berlin ∷ []) refl refl (omega arith)))
-    (λ q2. rw (q2, leb-true n 33 (omega arith)) (grow-set berlin (berlin ∷ []) (berlin ∷ []) refl refl (omega arith)))))
+    (λ q2. rw (q2, le-leb n 33 (omega arith)) (grow-set berlin (berlin ∷ []) (berlin ∷ []) refl refl (omega arith)))))
 
 pub town-sets : (n : ℕ) → IsDescSetOf cities (set_of (cities_of 33 n))
 town-sets n = on_bool (eqb n 0)
@@ -72,10 +72,10 @@ real_towns = record {
   empty = empty-set;
   grown = town-grown;
   valid = town-sets;
-  root = eqb-ne 1 0 refl;
-  spare_gate = eqb-ne 2 0 refl;
-  spare_root = eqb-ne 2 1 refl;
-  spare_stamp = eqb-ne 0 1 refl;
+  root = eqb-false 1 0 refl;
+  spare_gate = eqb-false 2 0 refl;
+  spare_root = eqb-false 2 1 refl;
+  spare_stamp = eqb-false 0 1 refl;
 }
 
 -- The group: a head with 17 rows of Berlin and 15 of Munich, and 16 rows of Berlin behind it.
@@ -99,7 +99,7 @@ all-sets P b m ns = all-each P (sets_of ns) (each-set P b m ns)
 
 heads-differ : ¬ AreEqual (leasts cities town_group.head 0 1)
 unfolding up climb
-heads-differ eq = eqb-ne munich berlin refl (eq 17 0 (lit< tt))
+heads-differ eq = eqb-false munich berlin refl (eq 17 0 (lit< tt))
 
 heads-level : IsCutLevel cities town_group.head 0 1
 heads-level = record {
@@ -126,7 +126,7 @@ unfolding up climb
 parted-berlin k = refl
 
 not-berlin : ¬ Contains (berlin ∷ []) munich
-not-berlin (zero, lt, e) = eqb-ne berlin munich refl e
+not-berlin (zero, lt, e) = eqb-false berlin munich refl e
 not-berlin (suc k, lt, e) = absurd (omega arith)
 
 apart-cities : All (λ id. ¬ Contains (lifted cities 0 1 (set_of (berlin ∷ []))) id) (lifted cities 0 1 (set_of (munich ∷ [])))
@@ -157,7 +157,7 @@ unfolding up climb
 berlin-behind k g = g.apart 0 (set_of []) (lit< tt) 15 (set_of []) (lit< tt) 0 0 (lit< tt) (0, lit< tt, refl)
 
 not-of : (concept k id : ℕ) → level_of id ≡ 1 → id ≢ concept → is_kept cities (cut_of concept k) (set_of (id ∷ [])) ≡ false
-not-of concept k id lv ne = ap (λ u. eqb u concept) (up-self (tree cities 0) id 1 (sym lv)) ∙ eqb-no id concept ne
+not-of concept k id lv ne = ap (λ u. eqb u concept) (up-self (tree cities 0) id 1 (sym lv)) ∙ ne_eqb id concept ne
 
 none-kept : (concept k : ℕ) → concept ≢ berlin → concept ≢ munich → (ns : List ℕ) → filter (is_kept cities (cut_of concept k)) (sets_of ns) ≡ []
 none-kept concept k b m [] = refl
@@ -167,12 +167,12 @@ none-kept concept k b m (n ∷ ns) =
 
 comes-first : (concept k : ℕ) → IsHeadCut cities town_group (cut_of concept k) → IsGoodHead cities town_group (cut_of concept k) → IsBetterHead town_cut (cut_of concept k)
 comes-first concept k w g = on_bool (eqb concept munich)
-    (λ q. let e = eqb-eq _ _ q in
+    (λ q. let e = eqb-true _ _ q in
     let n : k ≡ 15 = w.kept ∙ ap (λ c. length (kept_items cities town_group.head (cut_of c k))) e ∙ ap length (kept-munich k) in
     inr (sym n, inr (refl, inr (refl, omega (arith, e)))))
     (λ q. on_bool (eqb concept berlin)
-    (λ q2. absurd (berlin-behind k (subst (λ c. IsGoodHead cities town_group (cut_of c k)) (eqb-eq _ _ q2) g)))
-    (λ q2. let n : k ≡ 0 = w.kept ∙ ap length (none-kept concept k (eqb-ne _ _ q2) (eqb-ne _ _ q) (range_with_len 16 32)) in
+    (λ q2. absurd (berlin-behind k (subst (λ c. IsGoodHead cities town_group (cut_of c k)) (eqb-true _ _ q2) g)))
+    (λ q2. let n : k ≡ 0 = w.kept ∙ ap length (none-kept concept k (eqb-false _ _ q2) (eqb-false _ _ q) (range_with_len 16 32)) in
     let t : 32 ≤ 3 * k = g.third in
     absurd (omega arith)))
 

@@ -1,6 +1,6 @@
 -- A row comes down from a directory onto the head of an entry's group: the words of the calls' contracts, put as relations
 -- of nodes
-use Rattle.std.proofs.Common.{◌≡◌, ◌≢◌, ℕ, ◌+◌, ◌-◌, ◌≤◌, ◌⊎◌, true, false, eqb, leb, List, [], ◌∷◌, ◌++◌, map, refl, sym, ap, ◌∙◌, subst, arith}
+use Rattle.std.proofs.Common.{◌≡◌, ◌≢◌, inl, ℕ, ◌+◌, ◌-◌, ◌≤◌, ◌⊎◌, true, false, eqb, leb, List, [], ◌∷◌, ◌++◌, map, refl, sym, ap, ◌∙◌, subst, arith}
 use Rattle.std.specs.Prelude.{Some}
 use Rattle.dim_hierarchy.specs.Rows.{IsRowOf}
 use Rattle.dc_node.specs.Block.{rows_in, entries_in, is_leaf}
@@ -13,18 +13,19 @@ use Rattle.link_descent.specs.Descend.{IsEntryOf, IsGroupEntry}
 use Rattle.dc_node.specs.declared.block.Block.{Block}
 use Rattle.dc_node.specs.declared.entry.Entry.{Entry}
 use Rattle.dim_hierarchy.specs.declared.row.Row.{Row}
-use Rattle.tree_shape.specs.Counts.{Among, Each, times, total}
+use Rattle.list_words.specs.Counts.{Among, Each, times, total}
+use Rattle.list_words.proofs.Truth.{on_bool}
+use Rattle.std.proofs.lemmas.Bool.{eqb-true, eqb-false, leb-true, leb-false}
+use Rattle.list_words.proofs.Times.{same_is, each-times}
+use Rattle.list_words.proofs.Each.{each-right, each-of, each-map}
 use Rattle.tree_shape.specs.Shape.{Node, Shape, Table, node_of, numbers}
 use Rattle.tree_shape.specs.Trees.{BlockOk, EntryOk, TreeOk, lies}
-use Rattle.tree_shape.proofs.Relations.{CutUnder, DownJoined, DownParted, DownPassed, IsSumOf, NoneHas, Relinked, Touch, Touched, group_rows, parted, rows_of}
-use Rattle.tree_shape.proofs.Walks.{on_bool, eqb-eq, eqb-ne, same_is}
-use Rattle.tree_shape.proofs.Queries.{apart, leb-le, leb-gt}
-use Rattle.tree_shape.proofs.Parts.{each-right}
+use Rattle.tree_shape.proofs.Relations.{CutUnder, DownJoined, DownParted, DownPassed, IsSumOf, NoneHas, Relinked, Touch, Touched, group_rows, parted, block_rows}
+use Rattle.tree_shape.proofs.Queries.{apart}
 use Rattle.tree_shape.proofs.Sums.{sum-block}
-use Rattle.tree_shape.proofs.Tails.{IsInTail, behind-head, each-cell}
+use Rattle.tree_shape.proofs.Tails.{IsInTail, behind-head}
 use Rattle.tree_shape.proofs.Groups.{sum-group}
 use Rattle.tree_shape.proofs.Contents.{ArePartsOf}
-use Rattle.tree_shape.proofs.Divisions.{each-of, each-map}
 use Rattle.tree_shape.proofs.Onto.{child_in, child_head, child_above, entry_ok, touched-one, touched-two}
 
 -- the rows of a leaf of the tree are valid
@@ -49,7 +50,7 @@ pub entry-sums : (g : Shape) (look : ℕ → Node) (table : Table) (y k : ℕ) (
     → Each (λ x. IsSumOf table (g.below x.child) x) (entries_in block.body)
 entry-sums g look table y k block tree yi yl is kind = on_bool (eqb k 0)
     (λ q. none block.body (kind ∙ q))
-    (λ q. let z = eqb-ne _ _ q in
+    (λ q. let z = eqb-false _ _ q in
     let lv : g.level y ≡ (k - 1) + 1 = omega arith in
     subst (λ (x : Node). Each (λ x. IsSumOf table (g.below x.child) x) x.entries) is
     (each-map (EntryOk g look table (k - 1)) (λ x. IsSumOf table (g.below x.child) x) (look y).entries (λ x w. w.summary) (tree.dirs y (k - 1) yi lv).entries))
@@ -115,11 +116,11 @@ module _ (g : Shape) (look look3 : ℕ → Node) (table : Table) (tree : TreeOk 
       new_stamp = ap (λ (x : Node). x.stamp) new_is ∙ new_stamp ∙ sym (ap (λ (x : Node). x.stamp) old_is);
       new_right = ap (λ (x : Node). x.right) new_is ∙ new_right ∙ sym (ap (λ (x : Node). x.right) old_is);
       other_stamp = λ y yc yn. on_bool (eqb y p)
-          (λ q. let z = eqb-eq _ _ q in rw z top_stamp)
-          (λ q. ap (λ (x : Node). x.stamp) (other y yc yn (eqb-ne _ _ q)));
+          (λ q. let z = eqb-true _ _ q in rw z top_stamp)
+          (λ q. ap (λ (x : Node). x.stamp) (other y yc yn (eqb-false _ _ q)));
       other_right = λ y yc yn. on_bool (eqb y p)
-          (λ q. let z = eqb-eq _ _ q in rw z top_right)
-          (λ q. ap (λ (x : Node). x.right) (other y yc yn (eqb-ne _ _ q)));
+          (λ q. let z = eqb-true _ _ q in rw z top_right)
+          (λ q. ap (λ (x : Node). x.right) (other y yc yn (eqb-false _ _ q)));
     }
 
     pub part-rows : (q : ℕ) → times q (look c).rows ≡ times q (look3 c).rows + times q (look3 n).rows
@@ -151,6 +152,7 @@ module _ (g : Shape) (look look3 : ℕ → Node) (table : Table) (tree : TreeOk 
       entries = part-entries;
       left = part-left;
       right = part-right;
+      chosen = inl refl;
       top = one-touched e2 w i;
       numbered = numbered;
       top_rows = rw at top_rows;
@@ -177,7 +179,7 @@ module _ (g : Shape) (look look3 : ℕ → Node) (table : Table) (tree : TreeOk 
       part-sums : (body : Body) (y : ℕ) → (look3 y).entries ≡ entries_in body → Each (λ x. Among x (look c).entries) (look3 y).entries → Each (λ x. IsSumOf table (g.below x.child) x) (entries_in body)
       part-sums body y bi h = subst (Each (λ (x : Entry). IsSumOf table (g.below x.child) x)) bi (each-of (λ x. IsSumOf table (g.below x.child) x) (look c).entries (look3 y).entries old-sums h)
 
-      head-sum : (a : Entry) → IsSummary table.hierarchy head.body a.agg a.set → IsSumOf table (rows_of g (look3 c) k) a
+      head-sum : (a : Entry) → IsSummary table.hierarchy head.body a.agg a.set → IsSumOf table (block_rows g (look3 c) k) a
       head-sum a s = rw head_is
           (sum-block g table k head a (parts.left_kind ∙ kind) (part-named (rows_in head.body) parts.left_rows) (part-valid (rows_in head.body) parts.left_rows)
           (part-sums head.body c (ap (λ (x : Node). x.entries) head_is) part-left) s)
@@ -205,17 +207,17 @@ module _ (g : Shape) (look look3 : ℕ → Node) (table : Table) (tree : TreeOk 
 
       new-sum : (b : Entry) → IsSummary table.hierarchy (together new.body (map block tail)) b.agg b.set → IsSumOf table (group_rows g look3 k (n ∷ tail)) b
       new-sum b s = sum-group g look3 table k n new block tail b new_is (parts.right_kind ∙ kind)
-          (each-cell (λ y. look3 y ≡ node_of (block y)) tail tail_look)
-          (part-named (rows_in new.body) parts.right_rows) (each-cell (λ y. Each (λ r. table.row r.no ≡ r) (rows_in (block y).body)) tail (λ y h. (tail_ok y h).rows))
-          (part-valid (rows_in new.body) parts.right_rows) (λ z. each-cell (λ y. Each (IsRowOf table.hierarchy) (rows_in (block y).body)) tail (λ y h. tail_valid y h z))
-          (part-sums new.body n (ap (λ (x : Node). x.entries) new_is) part-right) (each-cell (λ y. Each (λ x. IsSumOf table (g.below x.child) x) (entries_in (block y).body)) tail tail_sums) s
+          (each-times (λ y. look3 y ≡ node_of (block y)) tail tail_look)
+          (part-named (rows_in new.body) parts.right_rows) (each-times (λ y. Each (λ r. table.row r.no ≡ r) (rows_in (block y).body)) tail (λ y h. (tail_ok y h).rows))
+          (part-valid (rows_in new.body) parts.right_rows) (λ z. each-times (λ y. Each (IsRowOf table.hierarchy) (rows_in (block y).body)) tail (λ y h. tail_valid y h z))
+          (part-sums new.body n (ap (λ (x : Node). x.entries) new_is) part-right) (each-times (λ y. Each (λ x. IsSumOf table (g.below x.child) x) (entries_in (block y).body)) tail tail_sums) s
 
       tail_free : (q : ℕ) → g.placed q ≡ true → g.carried q ≡ true → times (g.at q) tail ≡ 0
       tail_free q pq cq = on_bool (leb 1 (times (g.at q) tail))
-          (λ z. let o = on-tail (g.at q) (leb-le _ _ z) in on_bool (eqb q r)
-          (λ u. let l : g.level (g.at q) ≡ g.level p = ap g.level (ap g.at (eqb-eq _ _ u) ∙ at) in let v = o.level in absurd (omega arith))
-          (λ u. absurd (o.apart (sym (heads q (eqb-ne _ _ u) pq cq) ∙ o.head))))
-          (λ z. let gt = leb-gt _ _ z in omega arith)
+          (λ z. let o = on-tail (g.at q) (leb-true _ _ z) in on_bool (eqb q r)
+          (λ u. let l : g.level (g.at q) ≡ g.level p = ap g.level (ap g.at (eqb-true _ _ u) ∙ at) in let v = o.level in absurd (omega arith))
+          (λ u. absurd (o.apart (sym (heads q (eqb-false _ _ u) pq cq) ∙ o.head))))
+          (λ z. let gt = leb-false _ _ z in omega arith)
 
       unexpected : e.stamp ≢ t
       unexpected = (each-right (λ (x : Entry). x.stamp ≢ t) before (e ∷ behind) (subst (Each (λ (x : Entry). x.stamp ≢ t)) is (unused p k p_in pl))).0
@@ -223,21 +225,28 @@ module _ (g : Shape) (look look3 : ℕ → Node) (table : Table) (tree : TreeOk 
       pub splits : (x : ℕ) (a b a2 b2 : Entry) → IsEntryOf table.hierarchy c head a → IsGroupEntry table.hierarchy n e.stamp new (map block tail) b
           → Touch table r x a a2 → Touch table r x b b2 → (x ≡ c) ⊎ (x ≡ n) → (look3 p).entries ≡ (before ++ a2 ∷ b2 ∷ []) ++ behind → DownParted g look look3 table k c n t r x a b e
       splits x a b a2 b2 ea eb ta tb which i = record {
-        r_placed = placed;
-        r_carried = carried;
-        c_inside = c_in.0;
-        c_level = c_in.1;
-        next = next;
-        c_above = c_above;
-        c_head = c_head;
-        fresh = fresh;
-        free = idle;
-        waits = unused;
-        relinked = relinked;
-        rows = part-rows;
-        entries = part-entries;
-        left = part-left;
-        right = part-right;
+        down = record {
+          r_placed = placed;
+          r_carried = carried;
+          c_inside = c_in.0;
+          c_level = c_in.1;
+          next = next;
+          c_above = c_above;
+          c_head = c_head;
+          fresh = fresh;
+          free = idle;
+          waits = unused;
+          relinked = relinked;
+          rows = part-rows;
+          entries = part-entries;
+          left = part-left;
+          right = part-right;
+          chosen = which;
+          top = subst (λ y. Touched table r x (parted c a b (look y).entries) (look3 y).entries) (sym at) (rw i (touched-two g look table tree p k p_in pl e before behind is r n x a b a2 b2 fresh ta tb which));
+          numbered = numbered;
+          top_rows = rw at top_rows;
+          other = λ y yc yn yt. other y yc yn (λ q. yt (q ∙ sym at));
+        };
         old_ok = entry_ok g look table tree p k p_in pl e before behind is;
         old_child = refl;
         old_stamp = unexpected;
@@ -250,11 +259,6 @@ module _ (g : Shape) (look look3 : ℕ → Node) (table : Table) (tree : TreeOk 
         b_child = eb.child;
         b_stamp = eb.stamp;
         b_sum = new-sum b eb.summary;
-        chosen = which;
-        top = subst (λ y. Touched table r x (parted c a b (look y).entries) (look3 y).entries) (sym at) (rw i (touched-two g look table tree p k p_in pl e before behind is r n x a b a2 b2 fresh ta tb which));
-        numbered = numbered;
-        top_rows = rw at top_rows;
-        other = λ y yc yn yt. other y yc yn (λ q. yt (q ∙ sym at));
       }
 
       -- the same, where no row moves
@@ -288,7 +292,7 @@ module _ (g : Shape) (look look3 : ℕ → Node) (table : Table) (tree : TreeOk 
         b_sum = new-sum b eb.summary;
         top = i;
         other_rows = λ y yc yn. on_bool (eqb y p)
-            (λ q. let z = eqb-eq _ _ q in rw z top_rows)
-            (λ q. ap (λ (x : Node). x.rows) (other y yc yn (eqb-ne _ _ q)));
+            (λ q. let z = eqb-true _ _ q in rw z top_rows)
+            (λ q. ap (λ (x : Node). x.rows) (other y yc yn (eqb-false _ _ q)));
         other = λ y yc yn yp. ap (λ (x : Node). x.entries) (other y yc yn yp);
       }

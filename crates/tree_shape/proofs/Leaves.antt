@@ -6,15 +6,18 @@ use Rattle.dc_node.specs.declared.block.Block.{Block}
 use Rattle.dc_node.specs.declared.entry.Entry.{Entry}
 use Rattle.link_descent.specs.Descend.{IsEntryOf}
 use Rattle.link_descent.specs.declared.entered.Fresh.{Fresh}
-use Rattle.tree_shape.specs.Counts.{Each, same, times, total}
+use Rattle.list_words.specs.Counts.{Each, same, times, total}
+use Rattle.list_words.proofs.Truth.{on_bool}
+use Rattle.std.proofs.lemmas.Bool.{eqb-true, eqb-false, leb-false, le-leb, leb-true}
+use Rattle.list_words.proofs.Times.{same_not}
+use Rattle.list_words.proofs.Totals.{total-has}
+use Rattle.list_words.proofs.Each.{each-all}
 use Rattle.tree_shape.specs.Shape.{Shape, ShapeOk, Table, node_of, numbers}
 use Rattle.tree_shape.specs.Trees.{BlockOk, EntryOk, limit}
 use Rattle.tree_shape.specs.Forest.{AreLeafBlocks, IsForest, LeavesLaw, all_rows, filled_cells}
-use Rattle.tree_shape.proofs.Walks.{on_bool, eqb-eq, eqb-ne, same_not}
-use Rattle.tree_shape.proofs.Queries.{leb-le, leb-gt, leb-true}
 use Rattle.tree_shape.proofs.Sums.{sum-leaf}
-use Rattle.tree_shape.proofs.Storeys.{pick, pick-in, pick-is, total-has}
-use Rattle.tree_shape.proofs.Forests.{unit, each-all, at-cell, rows-cells, each-items, row-known, leaf-summary}
+use Rattle.tree_shape.proofs.Storeys.{pick, pick-in, pick-is}
+use Rattle.tree_shape.proofs.Forests.{unit, at-cell, rows-cells, each-items, row-known, leaf-summary}
 
 module _ (table : Table) (block : ℕ → Block) (leaves : List Fresh) (d : AreLeafBlocks table block leaves) where
   abbrev cs : List ℕ
@@ -46,8 +49,8 @@ module _ (table : Table) (block : ℕ → Block) (leaves : List Fresh) (d : AreL
   -- how often a row is in the leaf in a cell
   lies-in : (r b : ℕ) → 1 ≤ times b cs → holds r b ≡ cond (leb 1 (times r ns)) (same (pick (holds r) cs) b) 0
   lies-in r b n = on_bool (leb 1 (times r ns))
-      (λ p. rw p (pick-is (holds r) cs b (held r (leb-le _ _ p)) d.apart n))
-      (λ p. let z = leb-gt _ _ p in
+      (λ p. rw p (pick-is (holds r) cs b (held r (leb-true _ _ p)) d.apart n))
+      (λ p. let z = leb-false _ _ p in
       let a = rows-cells block leaves r d.stand in
       let m = total-has (holds r) b cs n in
       rw p (omega arith))
@@ -58,7 +61,7 @@ module _ (table : Table) (block : ℕ → Block) (leaves : List Fresh) (d : AreL
     below = λ y i. omega arith;
     higher = λ y m i le lt. (i, omega arith);
     coherent = λ y m n i le mn lt. refl;
-    stands = λ r p. let h = held r (leb-le _ _ p) in leb-true _ _ (pick-in (holds r) cs (omega arith));
+    stands = λ r p. let h = held r (leb-true _ _ p) in le-leb _ _ (pick-in (holds r) cs (omega arith));
     settled = λ r p f. refl;
   }
 
@@ -90,8 +93,8 @@ module _ (table : Table) (block : ℕ → Block) (leaves : List Fresh) (d : AreL
           walks = ([], refl, sym w.stamp);
           low = omega arith;
           cells = λ y on. on_bool (eqb y e.child)
-              (λ q. let is = eqb-eq _ _ q in rw is (leb-true _ _ n, refl))
-              (λ q. let o = same_not y e.child (eqb-ne _ _ q) in absurd (omega arith));
+              (λ q. let is = eqb-true _ _ q in rw is (le-leb _ _ n, refl))
+              (λ q. let o = same_not y e.child (eqb-false _ _ q) in absurd (omega arith));
         };
         members = λ y i lv. omega arith;
         rows = λ r. lies-in r e.child n ∙ on_bool (leb 1 (times r ns)) (λ p. rw p (omega arith)) (λ p. rw p refl);
@@ -105,17 +108,17 @@ module _ (table : Table) (block : ℕ → Block) (leaves : List Fresh) (d : AreL
     tree = record {
       shape = shape-leaves;
       heads = λ y i. i;
-      leaves = λ b i lv r. lies-in r b (leb-le _ _ i);
+      leaves = λ b i lv r. lies-in r b (leb-true _ _ i);
       dirs = λ b m i lv. absurd (omega arith);
     };
-    blocks = λ b i. leaf-block b (leb-le _ _ i);
+    blocks = λ b i. leaf-block b (leb-true _ _ i);
     inside = λ y. unit (times y cs) (d.apart y);
     at_top = λ y. unit (times y cs) (d.apart y);
     heads = λ y. refl;
     groups = λ y. refl;
     placed = λ r. unit (times r ns) (d.rows.once r);
     settled = λ r. refl;
-    numbered = λ r p. row-known table (all_rows leaves) r d.rows.named d.rows.valid (leb-le _ _ p);
+    numbered = λ r p. row-known table (all_rows leaves) r d.rows.named d.rows.valid (leb-true _ _ p);
     entries = leaf-entry;
   }
 

@@ -5,16 +5,16 @@ use Rattle.dc_node.specs.declared.block.Block.{Block}
 use Rattle.dc_node.specs.declared.entry.Entry.{Entry}
 use Rattle.link_descent.specs.Descend.{IsEntryOf}
 use Rattle.link_descent.specs.declared.entered.Fresh.{Fresh}
-use Rattle.tree_shape.specs.Counts.{Among, Each, same, times, total}
+use Rattle.list_words.specs.Counts.{Among, Each, same, times, total}
+use Rattle.list_words.proofs.Truth.{on_bool}
+use Rattle.std.proofs.lemmas.Bool.{eqb-true, eqb-false, ne_eqb, leb-true, leb-false}
+use Rattle.list_words.proofs.Times.{same_is, same_not, times-append}
+use Rattle.list_words.proofs.Each.{each-here, each-both, each-map}
+use Rattle.list_words.proofs.Totals.{total-map}
 use Rattle.tree_shape.specs.Shape.{Node, Shape, Table, node_of}
 use Rattle.tree_shape.specs.Trees.{BlockOk, EntryOk, limit}
 use Rattle.tree_shape.specs.Forest.{AreOver, DirectoriesLaw, IsForest, all_entries, filled_cells}
 use Rattle.tree_shape.proofs.Relations.{IsSumOf}
-use Rattle.tree_shape.proofs.Walks.{on_bool, eqb-eq, eqb-ne, eqb-no, same_is, same_not}
-use Rattle.tree_shape.proofs.Queries.{leb-le, leb-gt}
-use Rattle.tree_shape.proofs.Visits.{times-append}
-use Rattle.tree_shape.proofs.Parts.{each-here, total-map}
-use Rattle.tree_shape.proofs.Divisions.{each-both, each-map}
 use Rattle.tree_shape.proofs.Sums.{sum-below}
 use Rattle.tree_shape.proofs.Assembled.{block-kept, no-rows}
 use Rattle.tree_shape.proofs.Storeys.{IsUnder, beneath-new, below-new, inside-new, leads, level-new, level-old, low, sorts, storey, tree-storey}
@@ -88,7 +88,7 @@ module _ (table : Table) (block : ℕ → Block) (l : ℕ) (roots cells rows : L
   directory-block b n =
       let lv = level-new g look look table l up under b n in
       record {
-        kind = directory-at b n ∙ sym (eqb-no (g2.level b) 0 (omega arith));
+        kind = directory-at b n ∙ sym (ne_eqb (g2.level b) 0 (omega arith));
         some = λ h. at-cell (λ x. 1 ≤ size x.body) block directories b d.stand d.some n;
         few = at-cell (λ x. size x.body ≤ limit x.body) block directories b d.stand d.few n;
         rows = rw (no-rows (block b).body (directory-at b n)) tt;
@@ -104,8 +104,8 @@ module _ (table : Table) (block : ℕ → Block) (l : ℕ) (roots cells rows : L
           walks = ([], refl, sym w.stamp);
           low = omega arith;
           cells = λ y on. on_bool (eqb y e.child)
-              (λ q. let is = eqb-eq _ _ q in rw is (inside-new g look look table l up under e.child n, level-new g look look table l up under e.child n))
-              (λ q. let o = same_not y e.child (eqb-ne _ _ q) in absurd (omega arith));
+              (λ q. let is = eqb-true _ _ q in rw is (inside-new g look look table l up under e.child n, level-new g look look table l up under e.child n))
+              (λ q. let o = same_not y e.child (eqb-false _ _ q) in absurd (omega arith));
         };
         members = λ y i lv. omega arith;
         rows = λ r. beneath-new g look look table l up under e r n;
@@ -126,13 +126,13 @@ module _ (table : Table) (block : ℕ → Block) (l : ℕ) (roots cells rows : L
         let b = d.apart y in
         let c = f.inside y in
         on_bool (leb 1 (times y up))
-        (λ q. let n = leb-le _ _ q in let z = fresh-up y n in let k : times y cells ≡ 0 = c ∙ (rw z refl) in rw q (omega arith))
-        (λ q. let n = leb-gt _ _ q in rw q (omega arith));
+        (λ q. let n = leb-true _ _ q in let z = fresh-up y n in let k : times y cells ≡ 0 = c ∙ (rw z refl) in rw q (omega arith))
+        (λ q. let n = leb-false _ _ q in rw q (omega arith));
     at_top = λ y.
         let o = once-up y in
         on_bool (leb 1 (times y up))
-        (λ q. let n = leb-le _ _ q in let s = same_is (l + 1) (l + 1) refl in rw q (omega arith))
-        (λ q. let n = leb-gt _ _ q in on_bool (g.inside y)
+        (λ q. let n = leb-true _ _ q in let s = same_is (l + 1) (l + 1) refl in rw q (omega arith))
+        (λ q. let n = leb-false _ _ q in on_bool (g.inside y)
         (λ i. let b = low g look look table l up under y i in let s = same_not (g.level y) (l + 1) (λ e. absurd (omega arith)) in rw (q, i) (omega arith))
         (λ i. rw (q, i) (omega arith)));
     heads = λ y. refl;

@@ -14,6 +14,7 @@ pub mod Divisions
 pub mod Made
 pub mod Raises
 pub mod Passes
+pub mod Onward
 pub mod Downs
 pub mod Onto
 pub mod Cuts

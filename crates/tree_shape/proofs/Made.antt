@@ -1,12 +1,14 @@
 -- A division of any block into two parts has a shape
 use Rattle.std.proofs.Common.{◌≡◌, ◌≢◌, ℕ, ◌+◌, ◌-◌, ◌<◌, ◌≤◌, ◌⊎◌, inl, inr, Bool, true, false, cond, eqb, leb, List, refl, sym, ap, ◌∙◌, arith}
 use Rattle.dc_node.specs.declared.entry.Entry.{Entry}
-use Rattle.tree_shape.specs.Counts.{same, times, total}
+use Rattle.list_words.specs.Counts.{same, times, total}
+use Rattle.list_words.proofs.Truth.{on_bool, eqb-self}
+use Rattle.std.proofs.lemmas.Bool.{eqb-true, eqb-false, ne_eqb, eq-eqb, leb-true, lt-leb, leb-false}
+use Rattle.list_words.proofs.Times.{same_is, same_not}
 use Rattle.tree_shape.specs.Shape.{Node, Shape, Table}
 use Rattle.tree_shape.specs.Trees.{TreeOk}
 use Rattle.tree_shape.proofs.Relations.{Divided, goes, made, settles}
-use Rattle.tree_shape.proofs.Walks.{on_bool, eqb-eq, eqb-ne, same_is, same_not, eqb-no, eqb-self, eqb-yes}
-use Rattle.tree_shape.proofs.Queries.{leb-le, leb-gt, leb-false, apart}
+use Rattle.tree_shape.proofs.Queries.{apart}
 use Rattle.tree_shape.proofs.Visits.{spans}
 
 and_then : (a b : Bool) → cond a b false ≡ true → (a ≡ true) × (b ≡ true)
@@ -28,16 +30,16 @@ module _ (g : Shape) (look look2 : ℕ → Node) (table : Table) (k c n : ℕ) (
   not-n y i = apart g y n i fresh
 
   inside-old : (y : ℕ) → y ≢ n → g2.inside y ≡ g.inside y
-  inside-old y h = rw (eqb-no y n h) refl
+  inside-old y h = rw (ne_eqb y n h) refl
 
   level-old : (y : ℕ) → y ≢ n → g2.level y ≡ g.level y
-  level-old y h = rw (eqb-no y n h) refl
+  level-old y h = rw (ne_eqb y n h) refl
 
   above-off : (y l : ℕ) → y ≢ n → l ≢ k → g2.above y l ≡ g.above y l
-  above-off y l h lk = rw (eqb-no y n h, eqb-no l k lk) refl
+  above-off y l h lk = rw (ne_eqb y n h, ne_eqb l k lk) refl
 
   above-on : (y : ℕ) → y ≢ n → g2.above y k ≡ cond (goes g k c (look2 n).entries y) n (g.above y k)
-  above-on y h = rw (eqb-no y n h, eqb-self k) refl
+  above-on y h = rw (ne_eqb y n h, eqb-self k) refl
 
   above-goes : (y : ℕ) → y ≢ n → goes g k c (look2 n).entries y ≡ true → g2.above y k ≡ n
   above-goes y h w = above-on y h ∙ (rw w refl)
@@ -49,13 +51,13 @@ module _ (g : Shape) (look look2 : ℕ → Node) (table : Table) (k c n : ℕ) (
   goes-low y w =
       let a = and_then _ _ w in
       let b = unless_then _ _ a.1 in
-      (leb-gt _ _ b.0, eqb-eq _ _ (and_then _ _ b.1).0)
+      (leb-false _ _ b.0, eqb-true _ _ (and_then _ _ b.1).0)
 
   goes-is : (y : ℕ) → g.inside y ≡ true → g.level y < k → g.above y k ≡ c → goes g k c (look2 n).entries y ≡ leb 1 (spans g (g.above y (k - 1)) (look2 n).entries)
-  goes-is y i lt up = rw (i, leb-false k (g.level y) lt, eqb-yes _ _ up) refl
+  goes-is y i lt up = rw (i, lt-leb k (g.level y) lt, eq-eqb _ _ up) refl
 
   goes-not : (y : ℕ) → g.inside y ≡ true → g.level y < k → g.above y k ≢ c → goes g k c (look2 n).entries y ≡ false
-  goes-not y i lt up = rw (i, leb-false k (g.level y) lt, eqb-no _ _ up) refl
+  goes-not y i lt up = rw (i, lt-leb k (g.level y) lt, ne_eqb _ _ up) refl
 
   k-below : k < g.height
   k-below = let b = tree.shape.below c ci in omega arith
@@ -68,9 +70,9 @@ module _ (g : Shape) (look look2 : ℕ → Node) (table : Table) (k c n : ℕ) (
       let up = tree.shape.coherent y l k i le (omega arith) kb in
       let up1 = tree.shape.coherent y l (k - 1) i le (omega arith) (omega arith) in
       on_bool (eqb (g.above y k) c)
-      (λ q. let e = eqb-eq _ _ q in
+      (λ q. let e = eqb-true _ _ q in
       goes-is (g.above y l) h.0 (omega arith) (up ∙ e) ∙ ap (λ (w : ℕ). leb 1 (spans g w (look2 n).entries)) up1 ∙ sym (goes-is y i (omega arith) e))
-      (λ q. let e = eqb-ne _ _ q in
+      (λ q. let e = eqb-false _ _ q in
       goes-not (g.above y l) h.0 (omega arith) (λ w. e (sym up ∙ w)) ∙ sym (goes-not y i (omega arith) e))
 
   at-cases : (r : ℕ) → g.placed r ≡ true → (g2.at r ≡ g.at r) ⊎ ((k ≡ 0) × (g.at r ≡ c) × (g.carried r ≡ false) × (g2.at r ≡ n))
@@ -78,7 +80,7 @@ module _ (g : Shape) (look look2 : ℕ → Node) (table : Table) (k c n : ℕ) (
       (λ q.
       let a = and_then _ _ q in
       let b = unless_then _ _ a.1 in
-      let e = eqb-eq _ _ (and_then _ _ b.1).0 in
+      let e = eqb-true _ _ (and_then _ _ b.1).0 in
       let z = tree.shape.settled r p b.0 in
       inr (sym cl ∙ ap g.level (sym e) ∙ z, e, b.0, rw q refl))
       (λ q. inl (rw q refl))
@@ -91,16 +93,16 @@ module _ (g : Shape) (look look2 : ℕ → Node) (table : Table) (k c n : ℕ) (
     new_inside = rw (eqb-self n) refl;
     new_level = rw (eqb-self n) refl;
     new_itself = rw (eqb-self n, eqb-self k) refl;
-    new_above = λ l lt. let ne : l ≢ k = (λ w. absurd (omega arith)) in rw (eqb-self n, eqb-no l k ne) refl;
+    new_above = λ l lt. let ne : l ≢ k = (λ w. absurd (omega arith)) in rw (eqb-self n, ne_eqb l k ne) refl;
     height = refl;
     inside = inside-old;
     level = level-old;
     above = λ y l i le. on_bool (eqb l k)
-        (λ q. let lk = eqb-eq _ _ q in
+        (λ q. let lk = eqb-true _ _ q in
         on_bool (goes g k c (look2 n).entries y)
         (λ w. let gl = goes-low y w in inr (lk, ap (g.above y) lk ∙ gl.1, ap (g2.above y) lk ∙ above-goes y (not-n y i) w, (let a = gl.0 in omega arith)))
         (λ w. inl (ap (g2.above y) lk ∙ above-stays y (not-n y i) w ∙ ap (g.above y) (sym lk))))
-        (λ q. inl (above-off y l (not-n y i) (eqb-ne _ _ q)));
+        (λ q. inl (above-off y l (not-n y i) (eqb-false _ _ q)));
     together = λ y l i le lt.
         let h = tree.shape.higher y l i le (let b = k-below in omega arith) in
         let t = goes-together y l i le lt in
@@ -120,13 +122,13 @@ module _ (g : Shape) (look look2 : ℕ → Node) (table : Table) (k c n : ℕ) (
       let lies1 : times r (look c).rows ≡ same (g.at r) c = tree.leaves c ci z r ∙ (rw (p, f) refl) in
       let one = same_is (g.at r) c e in
       let sum = rows r in
-      let is : settles g c (look2 n).rows r ≡ leb 1 (times r (look2 n).rows) = rw (p, f, eqb-yes _ _ e) refl in
+      let is : settles g c (look2 n).rows r ≡ leb 1 (times r (look2 n).rows) = rw (p, f, eq-eqb _ _ e) refl in
       on_bool (leb 1 (times r (look2 n).rows))
-      (λ q. let le = leb-le _ _ q in
+      (λ q. let le = leb-true _ _ q in
       let at2 : g2.at r ≡ n = rw (is, q) refl in
       let s = same_is (g2.at r) n at2 in
       omega arith)
-      (λ q. let gt = leb-gt _ _ q in
+      (λ q. let gt = leb-false _ _ q in
       let at2 : g2.at r ≡ c = (rw (is, q) e) in
       let s : same (g2.at r) n ≡ 0 = ap (λ (w : ℕ). same w n) at2 ∙ same_not c n cn in
       omega arith)
@@ -145,9 +147,9 @@ module _ (g : Shape) (look look2 : ℕ → Node) (table : Table) (k c n : ℕ) (
       let kj1 : k - 1 ≡ j = omega arith in
       let is : goes g k c (look2 n).entries y ≡ leb 1 (spans g (g.above y j) (look2 n).entries) = is0 ∙ ap (λ (w : ℕ). leb 1 (spans g (g.above y w) (look2 n).entries)) kj1 in
       on_bool (leb 1 (spans g (g.above y j) (look2 n).entries))
-      (λ q. let lq = leb-le _ _ q in
+      (λ q. let lq = leb-true _ _ q in
       let s = same_is (g2.above y k) n (above-goes y (not-n y i) (is ∙ q)) in
       omega arith)
-      (λ q. let gt = leb-gt _ _ q in
+      (λ q. let gt = leb-false _ _ q in
       let s : same (g2.above y k) n ≡ 0 = ap (λ (w : ℕ). same w n) (above-stays y (not-n y i) (is ∙ q) ∙ up) ∙ same_not c n cn in
       omega arith)

@@ -7,14 +7,15 @@ use Rattle.shard_store.specs.Gate.{root_entry}
 use Rattle.dc_node.specs.declared.block.Block.{Block}
 use Rattle.dc_node.specs.declared.entry.Entry.{Entry}
 use Rattle.dc_node.specs.declared.todo.Item.{Item}
-use Rattle.tree_shape.specs.Counts.{Each}
+use Rattle.list_words.specs.Counts.{Each}
+use Rattle.list_words.proofs.Truth.{on_bool}
+use Rattle.std.proofs.lemmas.Bool.{eqb-true, eqb-false, ne_eqb, eq-eqb}
 use Rattle.tree_shape.specs.Queries.{IsUnfinished, fits, items_of}
 use Rattle.tree_shape.specs.Shape.{Node, Shape, Table, TreeCells, gate_node, node_of, nodes}
 use Rattle.tree_shape.specs.Steps.{IsSpare}
 use Rattle.tree_shape.specs.Trees.{BlockOk, IsTree}
 use Rattle.tree_shape.specs.Walks.{Noted}
 use Rattle.tree_shape.proofs.Relations.{Raised, raise}
-use Rattle.tree_shape.proofs.Walks.{on_bool, eqb-eq, eqb-ne, eqb-no, eqb-yes}
 use Rattle.tree_shape.proofs.Queries.{apart}
 use Rattle.tree_shape.proofs.Raises.{tree-raised, query-raised, all_lifted}
 use Rattle.tree_shape.proofs.Assembled.{node-block, node-gate, block-kept}
@@ -55,10 +56,10 @@ module _ (table : Table) (g : Shape) (before : TreeCells) (tree : IsTree table b
   m_gate e = gate_m (sym e)
 
   off : {A : Type 0} (a b : ℕ) (x y : A) → a ≢ b → cond (eqb a b) x y ≡ y
-  off a b x y q = rw (eqb-no a b q) refl
+  off a b x y q = rw (ne_eqb a b q) refl
 
   on : {A : Type 0} (a : ℕ) (x y : A) → cond (eqb a a) x y ≡ x
-  on a x y = rw (eqb-yes a a refl) refl
+  on a x y = rw (eq-eqb a a refl) refl
 
   block-m : raised_cells.block m ≡ root_block
   block-m = on m root_block (before.block m)
@@ -75,11 +76,11 @@ module _ (table : Table) (g : Shape) (before : TreeCells) (tree : IsTree table b
 
   kept : {A : Type 0} (f : Node → A) → f (gate_node raised_cells.gate) ≡ f (gate_node before.gate) → (y : ℕ) → y ≢ m → f (look2 y) ≡ f (look y)
   kept f e y ym = on_bool (eqb y gate)
-      (λ q. let z = eqb-eq _ _ q in
+      (λ q. let z = eqb-true _ _ q in
       let a : look2 y ≡ gate_node raised_cells.gate = ap look2 z ∙ node-gate raised_cells in
       let b : look y ≡ gate_node before.gate = ap look z ∙ node-gate before in
       ap f a ∙ e ∙ sym (ap f b))
-      (λ q. ap f (look2-off y ym (eqb-ne _ _ q)))
+      (λ q. ap f (look2-off y ym (eqb-false _ _ q)))
 
   level-gate : raised_shape.level gate ≡ h + 1
   level-gate = off gate m h (cond (eqb gate gate) (h + 1) (g.level gate)) gate_m ∙ on gate (h + 1) (g.level gate)
@@ -141,10 +142,10 @@ module _ (table : Table) (g : Shape) (before : TreeCells) (tree : IsTree table b
     height = omega arith;
     level = level-gate;
     only = λ y i l. on_bool (eqb y m)
-        (λ q. let e = ap raised_shape.level (eqb-eq _ _ q) in let z = raised.m_level in absurd (omega arith))
-        (λ q. let ym = eqb-ne _ _ q in on_bool (eqb y gate)
-        (λ q2. eqb-eq _ _ q2)
-        (λ q2. let yg = eqb-ne _ _ q2 in
+        (λ q. let e = ap raised_shape.level (eqb-true _ _ q) in let z = raised.m_level in absurd (omega arith))
+        (λ q. let ym = eqb-false _ _ q in on_bool (eqb y gate)
+        (λ q2. eqb-true _ _ q2)
+        (λ q2. let yg = eqb-false _ _ q2 in
         let e = level-off y ym yg in
         let b = tree.tree.shape.below y (sym (raised.inside y ym) ∙ i) in
         let hh = tree.height in
@@ -154,17 +155,17 @@ module _ (table : Table) (g : Shape) (before : TreeCells) (tree : IsTree table b
     alone = tree.alone;
     numbered = tree.numbered;
     blocks = λ b i bg. on_bool (eqb b m)
-        (λ q. let e = eqb-eq _ _ q in
+        (λ q. let e = eqb-true _ _ q in
         let lv : raised_shape.level b ≡ h = ap raised_shape.level e ∙ raised.m_level in
         let hs = tree.some in
         subst (BlockOk table raised_shape b) (sym (ap raised_cells.block e ∙ block-m)) (record {
-          kind = sym (eqb-no (raised_shape.level b) 0 (omega arith));
+          kind = sym (ne_eqb (raised_shape.level b) 0 (omega arith));
           some = λ u. omega arith;
           few = omega arith;
           rows = tt;
           room = λ q2 p c a. refl;
         }))
-        (λ q. let bm = eqb-ne _ _ q in
+        (λ q. let bm = eqb-false _ _ q in
         let i1 = sym (raised.inside b bm) ∙ i in
         let ok = tree.blocks b i1 bg in
         block-kept table g raised_shape b (before.block b) (raised_cells.block b) ok (block-off b bm) (level-off b bm bg) ok.room);
@@ -189,10 +190,10 @@ module _ (table : Table) (g : Shape) (before : TreeCells) (tree : IsTree table b
     cell = raised.inside x.cell xm ∙ u.cell;
     unexpected = λ b l i e. on_bool (eqb b m)
         (λ q. let w : Each (λ (v : Entry). v.stamp ≢ x.stamp) (root ∷ []) = subst (Each (λ (v : Entry). v.stamp ≢ x.stamp)) raised.gate_was (u.unexpected gate (h - 1) tree.top gate_up) in
-        subst (Each (λ (v : Entry). v.stamp ≢ x.stamp)) (sym (ap (λ (y : ℕ). (look2 y).entries) (eqb-eq _ _ q) ∙ raised.m_is)) w)
-        (λ q. let bm = eqb-ne _ _ q in on_bool (eqb b gate)
+        subst (Each (λ (v : Entry). v.stamp ≢ x.stamp)) (sym (ap (λ (y : ℕ). (look2 y).entries) (eqb-true _ _ q) ∙ raised.m_is)) w)
+        (λ q. let bm = eqb-false _ _ q in on_bool (eqb b gate)
         (λ q2. let w : Each (λ (v : Entry). v.stamp ≢ x.stamp) (root_entry raised_cells.gate ∷ []) = ((λ z. xs (sym z)), tt) in
-        subst (Each (λ (v : Entry). v.stamp ≢ x.stamp)) (sym (ap (λ (y : ℕ). (look2 y).entries) (eqb-eq _ _ q2) ∙ raised.gate_is)) w)
-        (λ q2. let bg = eqb-ne _ _ q2 in
+        subst (Each (λ (v : Entry). v.stamp ≢ x.stamp)) (sym (ap (λ (y : ℕ). (look2 y).entries) (eqb-true _ _ q2) ∙ raised.gate_is)) w)
+        (λ q2. let bg = eqb-false _ _ q2 in
         subst (Each (λ (v : Entry). v.stamp ≢ x.stamp)) (sym (raised.entries b bm bg)) (u.unexpected b l (sym (raised.inside b bm) ∙ i) (sym (level-off b bm bg) ∙ e))));
   }

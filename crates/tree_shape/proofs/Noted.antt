@@ -1,12 +1,13 @@
 -- What is noted is in the tree and is reached; and no gate is noted where none is reached.
 use Rattle.std.proofs.Common.{◌≡◌, ◌≢◌, ℕ, ◌≤◌, true, leb, List, [], ◌∷◌, refl, sym, ap, ◌∙◌, arith}
-use Rattle.tree_shape.specs.Counts.{Each, times}
+use Rattle.list_words.specs.Counts.{Each, times}
+use Rattle.list_words.proofs.Truth.{on_bool}
+use Rattle.list_words.proofs.Times.{same_is}
 use Rattle.tree_shape.specs.Queries.{items_of}
 use Rattle.tree_shape.specs.Shape.{Table, TreeCells, Node, nodes, Shape, ShapeOk}
 use Rattle.tree_shape.specs.Trees.{IsTree}
 use Rattle.tree_shape.specs.Walks.{Noted, IsNoted, AreNoted, reach, pending}
 use Rattle.tree_shape.proofs.Queries.{reach-low}
-use Rattle.tree_shape.proofs.Walks.{on_bool, same_is}
 
 -- a noted block is in the tree, on its level
 pub noted-cell : (g : Shape) (look : ℕ → Node) (p : Noted) → IsNoted g look p → (g.inside p.cell ≡ true) × (g.level p.cell ≡ p.level)

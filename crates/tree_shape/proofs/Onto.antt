@@ -2,13 +2,16 @@
 use Rattle.std.proofs.Common.{◌≡◌, ◌≢◌, ℕ, ◌+◌, ◌≤◌, ◌⊎◌, inl, inr, true, false, eqb, List, [], ◌∷◌, ◌++◌, refl, sym, ap, ◌∙◌, subst, arith, append_assoc}
 use Rattle.dc_node.specs.declared.entry.Entry.{Entry}
 use Rattle.dc_node.specs.Entry.{IsWithRow}
-use Rattle.tree_shape.specs.Counts.{Each, same, times}
+use Rattle.list_words.specs.Counts.{Each, same, times}
+use Rattle.list_words.proofs.Truth.{on_bool}
+use Rattle.std.proofs.lemmas.Bool.{eqb-true, eqb-false, ne_eqb, eq-eqb}
+use Rattle.list_words.proofs.Times.{same_is, same_not, same-le}
+use Rattle.list_words.proofs.Totals.{total-append}
+use Rattle.list_words.proofs.Each.{each-left, each-right}
 use Rattle.tree_shape.specs.Shape.{Node, Shape, Table}
 use Rattle.tree_shape.specs.Trees.{DirOk, EntryOk, TreeOk}
 use Rattle.tree_shape.proofs.Relations.{Touch, Touched, parted}
-use Rattle.tree_shape.proofs.Walks.{on_bool, eqb-eq, eqb-ne, same_is, same_not, same-le, eqb-no, eqb-yes}
 use Rattle.tree_shape.proofs.Visits.{spans}
-use Rattle.tree_shape.proofs.Parts.{total-append, each-left, each-right}
 
 pub touched-none : (table : Table) (r c : ℕ) (es : List Entry) → Each (λ e. e.child ≢ c) es → Touched table r c es es
 touched-none table r c [] h = tt
@@ -28,7 +31,7 @@ touch-same table r c e h = record { child = refl; stamp = refl; here = λ q. abs
 
 pub parted-none : (c : ℕ) (a b : Entry) (es : List Entry) → Each (λ e. e.child ≢ c) es → parted c a b es ≡ es
 parted-none c a b [] h = refl
-parted-none c a b (e ∷ es) h = rw (eqb-no e.child c h.0) (ap (λ xs. e ∷ xs) (parted-none c a b es h.1))
+parted-none c a b (e ∷ es) h = rw (ne_eqb e.child c h.0) (ap (λ xs. e ∷ xs) (parted-none c a b es h.1))
 
 pub parted-append : (c : ℕ) (a b : Entry) (xs ys : List Entry) → parted c a b (xs ++ ys) ≡ parted c a b xs ++ parted c a b ys
 parted-append c a b [] ys = refl
@@ -60,8 +63,8 @@ module _ (g : Shape) (look : ℕ → Node) (table : Table) (tree : TreeOk g look
       let m = entry_ok.members e.child child_in.0 child_in.1 in
       let o = self_once e entry_ok in
       on_bool (eqb (g.head e.child) e.child)
-      (λ q. eqb-eq _ _ q)
-      (λ q. let z = same_not (g.head e.child) e.child (eqb-ne _ _ q) in absurd (omega arith))
+      (λ q. eqb-true _ _ q)
+      (λ q. let z = same_not (g.head e.child) e.child (eqb-false _ _ q) in absurd (omega arith))
 
   spread : spans g e.child before + (times e.child (g.group e.child) + spans g e.child behind) ≡ same (g.above e.child (k + 1)) p
   spread = sym (total-append (λ x. times e.child (g.group x.child)) before (e ∷ behind)) ∙ ap (spans g e.child) (sym is) ∙ dir.each e.child child_in.0 child_in.1
@@ -71,8 +74,8 @@ module _ (g : Shape) (look : ℕ → Node) (table : Table) (tree : TreeOk g look
       let s = spread in
       let o = self_once e entry_ok in
       on_bool (eqb (g.above e.child (k + 1)) p)
-      (λ q. eqb-eq _ _ q)
-      (λ q. let z = same_not _ _ (eqb-ne _ _ q) in absurd (omega arith))
+      (λ q. eqb-true _ _ q)
+      (λ q. let z = same_not _ _ (eqb-false _ _ q) in absurd (omega arith))
 
   none-child : (es : List Entry) → Each (EntryOk g look table k) es → spans g e.child es ≡ 0 → Each (λ x. x.child ≢ e.child) es
   none-child [] w z = tt
@@ -113,7 +116,7 @@ module _ (g : Shape) (look : ℕ → Node) (table : Table) (tree : TreeOk g look
       ap (parted e.child a b) is
       ∙ parted-append e.child a b before (e ∷ behind)
       ∙ ap (λ xs. xs ++ parted e.child a b (e ∷ behind)) (parted-none e.child a b before none-before)
-      ∙ ap (λ xs. before ++ xs) ((rw (eqb-yes e.child e.child refl) refl) ∙ ap (λ xs. a ∷ b ∷ xs) (parted-none e.child a b behind none-behind))
+      ∙ ap (λ xs. before ++ xs) ((rw (eq-eqb e.child e.child refl) refl) ∙ ap (λ xs. a ∷ b ∷ xs) (parted-none e.child a b behind none-behind))
 
   -- or one of the two that stand in its place
   pub touched-two : (r n x : ℕ) (a b a2 b2 : Entry) → g.inside n ≡ false → Touch table r x a a2 → Touch table r x b b2 → (x ≡ e.child) ⊎ (x ≡ n)

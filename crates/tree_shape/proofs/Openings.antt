@@ -6,12 +6,14 @@ use Rattle.dim_hierarchy.specs.Rows.{IsRowOf}
 use Rattle.dc_node.specs.declared.block.Body.TheVariants.{Rows}
 use Rattle.shard_store.specs.Gate.{root_entry}
 use Rattle.dim_hierarchy.specs.declared.row.Row.{Row}
-use Rattle.tree_shape.specs.Counts.{times}
+use Rattle.list_words.specs.Counts.{times}
+use Rattle.list_words.proofs.Truth.{on_bool}
+use Rattle.std.proofs.lemmas.Bool.{eqb-true, eqb-false, ne_eqb, eq-eqb}
+use Rattle.list_words.proofs.Times.{same_is, same_not}
 use Rattle.tree_shape.specs.Laws.{OpeningLaw}
 use Rattle.tree_shape.specs.Shape.{Node, Shape, ShapeOk, Table, TreeCells, gate_node, node_of, nodes}
 use Rattle.tree_shape.specs.Steps.{AfterOpening, OpensOver}
 use Rattle.tree_shape.specs.Trees.{BlockOk, EntryOk}
-use Rattle.tree_shape.proofs.Walks.{on_bool, eqb-eq, eqb-ne, same_is, same_not, eqb-no, eqb-yes}
 use Rattle.tree_shape.proofs.Assembled.{node-block, node-gate}
 
 abbrev pub opening_shape : ℕ → ℕ → Shape
@@ -42,22 +44,22 @@ module _ (table : Table) (cells : TreeCells) (s : ℕ) (d : OpensOver table cell
   look = nodes cells
 
   level-gate : g.level gate ≡ 1
-  level-gate = rw (eqb-yes gate gate refl) refl
+  level-gate = rw (eq-eqb gate gate refl) refl
 
   level-root : g.level root ≡ 0
-  level-root = rw (eqb-no root gate d.apart) refl
+  level-root = rw (ne_eqb root gate d.apart) refl
 
   in-gate : g.inside gate ≡ true
-  in-gate = rw (eqb-yes gate gate refl) refl
+  in-gate = rw (eq-eqb gate gate refl) refl
 
   in-root : g.inside root ≡ true
-  in-root = rw (eqb-no root gate d.apart, eqb-yes root root refl) refl
+  in-root = rw (ne_eqb root gate d.apart, eq-eqb root root refl) refl
 
   sorts : {P : Type 0} → (y : ℕ) → g.inside y ≡ true → (y ≡ gate → P) → (y ≡ root → P) → P
-  sorts y i a b = on_bool (eqb y gate) (λ q. a (eqb-eq _ _ q)) (λ q. b (eqb-eq _ _ (rw q at i)))
+  sorts y i a b = on_bool (eqb y gate) (λ q. a (eqb-true _ _ q)) (λ q. b (eqb-true _ _ (rw q at i)))
 
   levels : {P : Type 0} → (l : ℕ) → l < 2 → (l ≡ 0 → P) → (l ≡ 1 → P) → P
-  levels l lt a b = on_bool (eqb l 0) (λ q. a (eqb-eq _ _ q)) (λ q. let ne = eqb-ne _ _ q in b (omega arith))
+  levels l lt a b = on_bool (eqb l 0) (λ q. a (eqb-true _ _ q)) (λ q. let ne = eqb-false _ _ q in b (omega arith))
 
   shape_ok : ShapeOk g
   shape_ok = record {
@@ -87,8 +89,8 @@ module _ (table : Table) (cells : TreeCells) (s : ℕ) (d : OpensOver table cell
       walks = ([], refl, ap (λ (x : Node). x.stamp) look_root ∙ sym d.stamp);
       low = omega arith;
       cells = λ y on. on_bool (eqb y root)
-          (λ q. let e = eqb-eq _ _ q in rw e (in-root, level-root))
-          (λ q. let o = same_not y root (eqb-ne _ _ q) in absurd (omega arith));
+          (λ q. let e = eqb-true _ _ q in rw e (in-root, level-root))
+          (λ q. let o = same_not y root (eqb-false _ _ q) in absurd (omega arith));
     };
     members = λ y i lv. omega arith;
     rows = λ r. refl;
@@ -130,7 +132,7 @@ module _ (table : Table) (cells : TreeCells) (s : ℕ) (d : OpensOver table cell
           (λ e. absurd (bg e))
           (λ e. let lv : g.level b ≡ 0 = ap g.level e ∙ level-root in
           subst (BlockOk table g b) (sym (ap cells.block e ∙ d.root)) (record {
-            kind = sym (eqb-yes (g.level b) 0 lv);
+            kind = sym (eq-eqb (g.level b) 0 lv);
             some = λ up. absurd (omega arith);
             few = omega arith;
             rows = tt;
@@ -138,7 +140,7 @@ module _ (table : Table) (cells : TreeCells) (s : ℕ) (d : OpensOver table cell
           }));
     };
     empty = λ r. refl;
-    others = λ y yg yr. rw (eqb-no y gate yg) (eqb-no y root yr);
+    others = λ y yg yr. rw (ne_eqb y gate yg) (ne_eqb y root yr);
   }
 
 pub opening-law : (s : ℕ) (items : List Row) → items ≡ [] → OpeningLaw (record { stamp = s; right = None; body = Rows (record { items = items }) })

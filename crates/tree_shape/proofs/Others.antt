@@ -2,13 +2,15 @@
 use Rattle.std.proofs.Common.{◌≡◌, ◌≢◌, ℕ, ◌≤◌, Bool, true, eqb, List, [], ◌∷◌, refl, sym, ap, ◌∙◌, subst, arith}
 use Rattle.std.specs.Prelude.{None}
 use Rattle.dc_node.specs.declared.entry.Entry.{Entry}
-use Rattle.tree_shape.specs.Counts.{Each, times}
+use Rattle.list_words.specs.Counts.{Each, times}
+use Rattle.list_words.proofs.Truth.{on_bool}
+use Rattle.std.proofs.lemmas.Bool.{eqb-true, eqb-false}
+use Rattle.list_words.proofs.Times.{same_is}
 use Rattle.tree_shape.specs.Queries.{QueryOk, fits}
 use Rattle.tree_shape.specs.Shape.{Node, Shape, Table, TreeCells, gate_node, node_of, nodes}
 use Rattle.tree_shape.specs.Steps.{AfterOther, LeavesTree}
 use Rattle.tree_shape.specs.Trees.{BlockOk, EntryOk, IsTree, TreeOk}
 use Rattle.tree_shape.specs.Walks.{AreNoted, IsNoted, IsTail, Noted, noted_of}
-use Rattle.tree_shape.proofs.Walks.{on_bool, eqb-eq, eqb-ne, same_is}
 use Rattle.tree_shape.proofs.Assembled.{node-block, node-gate}
 
 -- where the nodes of the tree's cells are the same
@@ -68,11 +70,11 @@ module _ (g : Shape) (look look2 : ℕ → Node) (table : Table) (same_node : (y
 module _ (table : Table) (g : Shape) (before now : TreeCells) (tree : IsTree table before g) (d : LeavesTree g before now) where
   pub same-node : (y : ℕ) → g.inside y ≡ true → nodes now y ≡ nodes before y
   same-node y i = on_bool (eqb y before.gate_cell)
-      (λ q. let z = eqb-eq _ _ q in
+      (λ q. let z = eqb-true _ _ q in
       let a : nodes now y ≡ gate_node now.gate = ap (nodes now) (z ∙ sym d.gate_cell) ∙ node-gate now in
       let b : nodes before y ≡ gate_node before.gate = ap (nodes before) z ∙ node-gate before in
       a ∙ ap (λ (x : Entry). record { stamp = 0; right = None; rows = []; entries = x ∷ [] }) d.gate.root ∙ sym b)
-      (λ q. let ne = eqb-ne _ _ q in
+      (λ q. let ne = eqb-false _ _ q in
       node-block now y (λ w. ne (w ∙ d.gate_cell)) ∙ ap node_of (d.block y i ne) ∙ sym (node-block before y ne))
 
   pub after-other : AfterOther table g before now

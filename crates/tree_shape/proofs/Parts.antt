@@ -1,53 +1,13 @@
 -- Parts of lists: an entry at its place, the items at some places, and halves.
-use Rattle.std.proofs.Common.{◌≡◌, ℕ, zero, suc, ◌+◌, ◌≤◌, inl, inr, List, [], ◌∷◌, ◌++◌, length, map, take, drop, refl, sym, ap, ◌∙◌, subst, arith, add-one}
-use Rattle.std.specs.Prelude.{All, Option, Some, None, slice_get, sum_by, IsPermutation}
+use Rattle.std.proofs.Common.{◌≡◌, ℕ, zero, suc, ◌+◌, ◌≤◌, inl, inr, List, [], ◌∷◌, ◌++◌, length, take, drop, refl, sym, ap, ◌∙◌, arith, add-one}
+use Rattle.std.specs.Prelude.{Option, Some, None, slice_get, sum_by, IsPermutation}
 use Rattle.std.specs.List.{range_with_len}
 use Rattle.std.proofs.lemmas.List.Sorted.{sum_by-IsPermutation}
 use Rattle.std.proofs.lemmas.List.Sums.{sum_by-cons}
-use Rattle.std.proofs.lemmas.List.Elements.{All-nil, All-cons}
 use Rattle.std.proofs.lemmas.List.{take-append-drop}
 use Rattle.link_descent.specs.Divide.{items_at}
-use Rattle.tree_shape.specs.Counts.{Among, Each, total}
-
-pub total-append : {A : Type 0} (f : A → ℕ) (xs ys : List A) → total f (xs ++ ys) ≡ total f xs + total f ys
-total-append f [] ys = omega arith
-total-append f (x ∷ xs) ys = omega (arith, total-append f xs ys)
-
-pub total-one : {A : Type 0} (xs : List A) → total (λ _. 1) xs ≡ length xs
-total-one [] = refl
-total-one (x ∷ xs) = omega (arith, total-one xs)
-
-pub total-map : {A B : Type 0} (f : B → ℕ) (g : A → B) (xs : List A) → total f (map g xs) ≡ total (λ x. f (g x)) xs
-total-map f g [] = refl
-total-map f g (x ∷ xs) = ap (λ n. f (g x) + n) (total-map f g xs)
-
-pub total-same : {A : Type 0} (f h : A → ℕ) (xs : List A) → Each (λ x. f x ≡ h x) xs → total f xs ≡ total h xs
-total-same f h [] e = refl
-total-same f h (x ∷ xs) e = omega (arith, e.0, total-same f h xs e.1)
-
-pub among-left : {A : Type 0} (xs ys : List A) (x : A) → Among x xs → Among x (xs ++ ys)
-among-left [] ys x h = absurd h
-among-left (z ∷ xs) ys x h = elim h [ inl e ↦ inl e | inr w ↦ inr (among-left xs ys x w) ]
-
-pub among-right : {A : Type 0} (xs ys : List A) (x : A) → Among x ys → Among x (xs ++ ys)
-among-right [] ys x h = h
-among-right (z ∷ xs) ys x h = inr (among-right xs ys x h)
-
-pub each-here : {A : Type 0} (P : A → Type 0) (xs : List A) → ((x : A) → Among x xs → P x) → Each P xs
-each-here P [] f = tt
-each-here P (x ∷ xs) f = (f x (inl refl), each-here P xs (λ y h. f y (inr h)))
-
-pub each-append : {A : Type 0} (P : A → Type 0) (xs ys : List A) → Each P xs → Each P ys → Each P (xs ++ ys)
-each-append P [] ys h k = k
-each-append P (x ∷ xs) ys h k = (h.0, each-append P xs ys h.1 k)
-
-pub each-left : {A : Type 0} (P : A → Type 0) (xs ys : List A) → Each P (xs ++ ys) → Each P xs
-each-left P [] ys h = tt
-each-left P (x ∷ xs) ys h = (h.0, each-left P xs ys h.1)
-
-pub each-right : {A : Type 0} (P : A → Type 0) (xs ys : List A) → Each P (xs ++ ys) → Each P ys
-each-right P [] ys h = h
-each-right P (x ∷ xs) ys h = each-right P xs ys h.1
+use Rattle.list_words.specs.Counts.{Among, Each, total}
+use Rattle.list_words.proofs.Totals.{total-append}
 
 -- a list around one of its items
 pub record IsAround {A : Type 0} (xs : List A) (place : ℕ) (x : A) : Type 0 where
@@ -132,21 +92,3 @@ items-among xs (p ∷ ps) =
     on-option (slice_get xs p)
     (λ e. rw e ih)
     (λ x e. rw e (get-among xs p x e, ih))
-
--- Halves.
-
-pub total-halves : {A : Type 0} (f : A → ℕ) (xs : List A) (n : ℕ) → total f xs ≡ total f (drop n xs) + total f (take n xs)
-total-halves f xs n =
-    let s = total-append f (take n xs) (drop n xs) in
-    let e : total f (take n xs ++ drop n xs) ≡ total f xs = ap (total f) (take-append-drop n xs) in
-    omega arith
-
-pub take-among : {A : Type 0} (xs : List A) (n : ℕ) → Each (λ x. Among x xs) (take n xs)
-take-among xs n = each-here (λ x. Among x xs) (take n xs) (λ x h. subst (λ ys. Among x ys) (take-append-drop n xs) (among-left (take n xs) (drop n xs) x h))
-
-pub drop-among : {A : Type 0} (xs : List A) (n : ℕ) → Each (λ x. Among x xs) (drop n xs)
-drop-among xs n = each-here (λ x. Among x xs) (drop n xs) (λ x h. subst (λ ys. Among x ys) (take-append-drop n xs) (among-right (take n xs) (drop n xs) x h))
-
-pub all-each : {A : Type 0} (P : A → Type 0) (xs : List A) → Each P xs → All P xs
-all-each P [] h = All-nil P
-all-each P (x ∷ xs) h = All-cons P x xs h.0 (all-each P xs h.1)

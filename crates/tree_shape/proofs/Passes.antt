@@ -1,13 +1,14 @@
 -- Down onto a head that isn't divided
 use Rattle.std.proofs.Common.{◌≢◌, ℕ, Bool, false, eqb, List, [], ◌∷◌, refl, sym, ap, ◌∙◌, subst, arith}
 use Rattle.dc_node.specs.declared.entry.Entry.{Entry}
-use Rattle.tree_shape.specs.Counts.{Each}
+use Rattle.list_words.specs.Counts.{Each}
+use Rattle.list_words.proofs.Truth.{on_bool, eqb-self}
+use Rattle.std.proofs.lemmas.Bool.{eqb-true, eqb-false, ne_eqb}
 use Rattle.tree_shape.specs.Queries.{QueryOk, fits}
 use Rattle.tree_shape.specs.Shape.{Node, Shape, Table}
 use Rattle.tree_shape.specs.Trees.{TreeOk}
 use Rattle.tree_shape.specs.Walks.{Noted}
 use Rattle.tree_shape.proofs.Relations.{DownPassed, Grew, Lowered, LoweredTree, NoneHas, SameLinks, Touched, lower}
-use Rattle.tree_shape.proofs.Walks.{on_bool, eqb-eq, eqb-ne, eqb-no, eqb-self}
 use Rattle.tree_shape.proofs.Queries.{query-lowered}
 use Rattle.tree_shape.proofs.Trees.{tree-lowered}
 
@@ -33,13 +34,13 @@ module _ (g : Shape) (look look3 : ℕ → Node) (table : Table) (k c r : ℕ) (
     placed = λ q. refl;
     carried = λ q. refl;
     now = rw (eqb-self r) refl;
-    at = λ q h. rw (eqb-no q r h) refl;
+    at = λ q h. rw (ne_eqb q r h) refl;
   }
 
   links : SameLinks look look3
   links = record {
-    stamp = λ y. on_bool (eqb y (g.at r)) (λ q. let e = eqb-eq _ _ q in rw e d.top_stamp) (λ q. ap (λ (b : Node). b.stamp) (d.other y (eqb-ne _ _ q)));
-    right = λ y. on_bool (eqb y (g.at r)) (λ q. let e = eqb-eq _ _ q in rw e d.top_right) (λ q. ap (λ (b : Node). b.right) (d.other y (eqb-ne _ _ q)));
+    stamp = λ y. on_bool (eqb y (g.at r)) (λ q. let e = eqb-true _ _ q in rw e d.top_stamp) (λ q. ap (λ (b : Node). b.stamp) (d.other y (eqb-false _ _ q)));
+    right = λ y. on_bool (eqb y (g.at r)) (λ q. let e = eqb-true _ _ q in rw e d.top_right) (λ q. ap (λ (b : Node). b.right) (d.other y (eqb-false _ _ q)));
   }
 
   lowered : LoweredTree g pass-shape look look3 table r c
@@ -50,9 +51,9 @@ module _ (g : Shape) (look look3 : ℕ → Node) (table : Table) (k c r : ℕ) (
     group = λ h. refl;
     head = λ y. refl;
     below_c = rw (eqb-self c) refl;
-    below = λ h ne. rw (eqb-no h c ne) refl;
+    below = λ h ne. rw (ne_eqb h c ne) refl;
     links = links;
-    rows = λ y. on_bool (eqb y (g.at r)) (λ q. let e = eqb-eq _ _ q in rw e d.top_rows) (λ q. ap (λ (b : Node). b.rows) (d.other y (eqb-ne _ _ q)));
+    rows = λ y. on_bool (eqb y (g.at r)) (λ q. let e = eqb-true _ _ q in rw e d.top_rows) (λ q. ap (λ (b : Node). b.rows) (d.other y (eqb-false _ _ q)));
     entries = d.top;
     numbered = d.numbered;
     other = λ y ne. ap (λ (b : Node). b.entries) (d.other y ne);
@@ -74,7 +75,7 @@ module _ (g : Shape) (look look3 : ℕ → Node) (table : Table) (k c r : ℕ) (
     placed = λ q. refl;
     carried = λ q. refl;
     at_r = rw (eqb-self r) refl;
-    at = λ q ne p f. rw (eqb-no q r ne) refl;
+    at = λ q ne p f. rw (ne_eqb q r ne) refl;
     x_in = d.c_inside;
     x_level = d.c_level;
     x_head = d.c_head;
@@ -82,7 +83,7 @@ module _ (g : Shape) (look look3 : ℕ → Node) (table : Table) (k c r : ℕ) (
 
   pub stamps-passed : (u : ℕ) → NoneHas g look u → NoneHas pass-shape look3 u
   stamps-passed u h b l i e = on_bool (eqb b (g.at r))
-      (λ q. let z = eqb-eq _ _ q in
+      (λ q. let z = eqb-true _ _ q in
       let o : Each (λ x. x.stamp ≢ u) (look (g.at r)).entries = subst (λ y. Each (λ x. x.stamp ≢ u) (look y).entries) z (h b l i e) in
       rw z (stamps-touched table r c u (look (g.at r)).entries (look3 (g.at r)).entries d.top o))
-      (λ q. rw (d.other b (eqb-ne _ _ q)) (h b l i e))
+      (λ q. rw (d.other b (eqb-false _ _ q)) (h b l i e))

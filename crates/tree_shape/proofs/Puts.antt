@@ -4,20 +4,21 @@ use Rattle.std.specs.Prelude.{None}
 use Rattle.dc_node.specs.Block.{rows_in, entries_in, is_leaf, is_full, size}
 use Rattle.dc_node.specs.declared.block.Body.{Body}
 use Rattle.dc_node.specs.declared.block.Body.TheVariants.{Rows, Entries}
-use Rattle.std.proofs.lemmas.List.{map-append}
+use Rattle.std.proofs.lemmas.List.{map-append, length-append}
 use Rattle.dc_node.specs.declared.block.Block.{Block}
 use Rattle.dc_node.specs.declared.entry.Entry.{Entry}
 use Rattle.dim_hierarchy.specs.declared.row.Row.{Row}
-use Rattle.tree_shape.specs.Counts.{Each, same, times}
+use Rattle.list_words.specs.Counts.{Each, same, times}
+use Rattle.list_words.proofs.Truth.{on_bool}
+use Rattle.std.proofs.lemmas.Bool.{eqb-true, eqb-false, ne_eqb, eq-eqb}
+use Rattle.list_words.proofs.Totals.{total-append}
+use Rattle.list_words.proofs.Each.{each-append}
 use Rattle.tree_shape.specs.Shape.{Node, Shape, Table, TreeCells, gate_node, node_of, nodes, numbers}
 use Rattle.tree_shape.specs.Steps.{AfterPut, IsPut}
 use Rattle.tree_shape.specs.Trees.{BlockOk, IsTree, limit}
 use Rattle.tree_shape.proofs.Relations.{SameLinks, Settled, SettledTree, put}
-use Rattle.tree_shape.proofs.Walks.{on_bool, eqb-eq, eqb-ne, eqb-no, eqb-yes}
-use Rattle.tree_shape.proofs.Parts.{total-append, each-append}
 use Rattle.tree_shape.proofs.Trees.{tree-settled}
 use Rattle.tree_shape.proofs.Rows.{query-settled}
-use Rattle.tree_shape.proofs.Descends.{length-plus}
 use Rattle.tree_shape.proofs.Assembled.{node-block, node-gate, block-kept}
 
 pub leaf-entries : (body : Body) → is_leaf body ≡ true → entries_in body ≡ []
@@ -25,7 +26,7 @@ leaf-entries (Rows rows) h = refl
 leaf-entries (Entries entries) h = cc
 
 leaf-room : (body : Body) → is_leaf body ≡ true → size body ≤ limit body → is_full body ≡ false → length (rows_in body) ≤ 31
-leaf-room (Rows rows) h few room = let ne = eqb-ne _ _ room in omega arith
+leaf-room (Rows rows) h few room = let ne = eqb-false _ _ room in omega arith
 leaf-room (Entries entries) h few room = cc
 
 module _ (table : Table) (g : Shape) (r : ℕ) (before now : TreeCells) (tree : IsTree table before g) (d : IsPut table g r before now) where
@@ -51,7 +52,7 @@ module _ (table : Table) (g : Shape) (r : ℕ) (before now : TreeCells) (tree : 
   leaf_ok = tree.blocks leaf leaf_in leaf_gate
 
   leaf_level : g.level leaf ≡ 0
-  leaf_level = eqb-eq _ _ (sym leaf_ok.kind ∙ d.kind)
+  leaf_level = eqb-true _ _ (sym leaf_ok.kind ∙ d.kind)
 
   look_leaf : look leaf ≡ node_of (before.block leaf)
   look_leaf = node-block before leaf leaf_gate
@@ -61,18 +62,18 @@ module _ (table : Table) (g : Shape) (r : ℕ) (before now : TreeCells) (tree : 
 
   look-off : (y : ℕ) → y ≢ leaf → look2 y ≡ look y
   look-off y yl = on_bool (eqb y before.gate_cell)
-      (λ q. let z = eqb-eq _ _ q in
+      (λ q. let z = eqb-true _ _ q in
       let a : look2 y ≡ gate_node now.gate = ap look2 (z ∙ sym d.gate_cell) ∙ node-gate now in
       let b : look y ≡ gate_node before.gate = ap look z ∙ node-gate before in
       a ∙ ap (λ (x : Entry). record { stamp = 0; right = None; rows = []; entries = x ∷ [] }) d.gate.root ∙ sym b)
-      (λ q. let ne = eqb-ne _ _ q in
+      (λ q. let ne = eqb-false _ _ q in
       node-block now y (λ w. ne (w ∙ d.gate_cell)) ∙ ap node_of (d.other y yl) ∙ sym (node-block before y ne))
 
   off : (q : ℕ) → q ≢ r → g2.carried q ≡ g.carried q
-  off q h = rw (eqb-no q r h) refl
+  off q h = rw (ne_eqb q r h) refl
 
   on : g2.carried r ≡ false
-  on = rw (eqb-yes r r refl) refl
+  on = rw (eq-eqb r r refl) refl
 
   settled : Settled g g2 r
   settled = record {
@@ -91,8 +92,8 @@ module _ (table : Table) (g : Shape) (r : ℕ) (before now : TreeCells) (tree : 
 
   links : SameLinks look look2
   links = record {
-    stamp = λ y. on_bool (eqb y leaf) (λ q. let z = eqb-eq _ _ q in rw z leaf_stamp) (λ q. ap (λ (x : Node). x.stamp) (look-off y (eqb-ne _ _ q)));
-    right = λ y. on_bool (eqb y leaf) (λ q. let z = eqb-eq _ _ q in rw z leaf_right) (λ q. ap (λ (x : Node). x.right) (look-off y (eqb-ne _ _ q)));
+    stamp = λ y. on_bool (eqb y leaf) (λ q. let z = eqb-true _ _ q in rw z leaf_stamp) (λ q. ap (λ (x : Node). x.stamp) (look-off y (eqb-false _ _ q)));
+    right = λ y. on_bool (eqb y leaf) (λ q. let z = eqb-true _ _ q in rw z leaf_right) (λ q. ap (λ (x : Node). x.right) (look-off y (eqb-false _ _ q)));
   }
 
   number : (table.row r).no ≡ r
@@ -109,11 +110,11 @@ module _ (table : Table) (g : Shape) (r : ℕ) (before now : TreeCells) (tree : 
 
   entries-now : (y : ℕ) → (look2 y).entries ≡ (look y).entries
   entries-now y = on_bool (eqb y leaf)
-      (λ q. let z = eqb-eq _ _ q in
+      (λ q. let z = eqb-true _ _ q in
       let a : (look2 leaf).entries ≡ [] = ap (λ (x : Node). x.entries) look2_leaf ∙ ap entries_in d.body in
       let b : (look leaf).entries ≡ [] = ap (λ (x : Node). x.entries) look_leaf ∙ leaf-entries (before.block leaf).body d.kind in
       rw z (a ∙ sym b))
-      (λ q. ap (λ (x : Node). x.entries) (look-off y (eqb-ne _ _ q)))
+      (λ q. ap (λ (x : Node). x.entries) (look-off y (eqb-false _ _ q)))
 
   put-tree : SettledTree g g2 look look2 r
   put-tree = record {
@@ -133,19 +134,19 @@ module _ (table : Table) (g : Shape) (r : ℕ) (before now : TreeCells) (tree : 
   -- what is still carried was carried
   was : (q : ℕ) → g2.carried q ≡ true → (q ≢ r) × (g.carried q ≡ true)
   was q ca = on_bool (eqb q r)
-      (λ z. let bad : true ≡ false = sym ca ∙ ap g2.carried (eqb-eq _ _ z) ∙ on in cc)
-      (λ z. let ne = eqb-ne _ _ z in (ne, sym (off q ne) ∙ ca))
+      (λ z. let bad : true ≡ false = sym ca ∙ ap g2.carried (eqb-true _ _ z) ∙ on in cc)
+      (λ z. let ne = eqb-false _ _ z in (ne, sym (off q ne) ∙ ca))
 
   blocks : (b : ℕ) → g.inside b ≡ true → b ≢ before.gate_cell → BlockOk table g2 b (now.block b)
   blocks b bi bg = on_bool (eqb b leaf)
-      (λ q. let e = eqb-eq _ _ q in
+      (λ q. let e = eqb-true _ _ q in
       let lr = leaf-room (before.block leaf).body d.kind leaf_ok.few (leaf_ok.room r d.placed d.carried d.at) in
-      let lp = length-plus (rows_in (before.block leaf).body) (table.row r ∷ []) in
+      let lp = length-append (rows_in (before.block leaf).body) (table.row r ∷ []) in
       let z : g.level b ≡ 0 = ap g.level e ∙ leaf_level in
       let all : Each (λ x. table.row x.no ≡ x) (rows_in (before.block leaf).body ++ table.row r ∷ []) = each-append (λ x. table.row x.no ≡ x) (rows_in (before.block leaf).body) (table.row r ∷ []) leaf_ok.rows (ap table.row number, tt) in
       let nobody : (s : ℕ) → g.placed s ≡ true → g2.carried s ≡ true → g.at s ≢ b = (λ s p ca a. let w = was s ca in w.0 (tree.alone s r p w.1 d.placed d.carried (a ∙ e ∙ sym d.at))) in
       leaf-block (now.block b) (ap (λ (y : ℕ). (now.block y).body) e ∙ d.body) z all (omega arith) nobody)
-      (λ q. let ne = eqb-ne _ _ q in
+      (λ q. let ne = eqb-false _ _ q in
       let ok = tree.blocks b bi bg in
       block-kept table g g2 b (before.block b) (now.block b) ok (d.other b ne) refl (λ s p ca a. ok.room s p (was s ca).1 a))
     where
@@ -153,7 +154,7 @@ module _ (table : Table) (g : Shape) (r : ℕ) (before now : TreeCells) (tree : 
           → Each (λ x. table.row x.no ≡ x) (rows_in (before.block leaf).body ++ table.row r ∷ []) → length (rows_in (before.block leaf).body ++ table.row r ∷ []) ≤ 32
           → ((s : ℕ) → g.placed s ≡ true → g2.carried s ≡ true → g.at s ≢ b) → BlockOk table g2 b block
       leaf-block block is z all few nobody = record {
-        kind = ap is_leaf is ∙ sym (eqb-yes (g.level b) 0 z);
+        kind = ap is_leaf is ∙ sym (eq-eqb (g.level b) 0 z);
         some = λ up. absurd (omega arith);
         few = rw is few;
         rows = rw is all;

@@ -1,36 +1,26 @@
 -- What a division and a way down keep of an unfinished query
 use Rattle.std.proofs.Common.{◌≡◌, ◌≢◌, ℕ, ◌<◌, ◌≤◌, inl, inr, Bool, true, false, eqb, leb, List, [], ◌∷◌, refl, sym, ap, ◌∙◌, arith}
-use Rattle.tree_shape.specs.Counts.{times}
+use Rattle.list_words.specs.Counts.{times}
+use Rattle.list_words.proofs.Truth.{on_bool}
+use Rattle.std.proofs.lemmas.Bool.{eqb-true, eqb-false, le-leb, leb-false, leb-true, lt-leb}
 use Rattle.tree_shape.specs.Queries.{QueryOk, fits}
 use Rattle.tree_shape.specs.Shape.{Node, Shape, ShapeOk}
 use Rattle.tree_shape.specs.Walks.{AreNoted, IsNoted, IsTail, Noted, pending, reach}
 use Rattle.tree_shape.proofs.Relations.{Divided, Lowered, NoneExpects, Relinked, SameLinks, SameTree, all_grown, grown, put_behind}
-use Rattle.tree_shape.proofs.Walks.{on_bool, eqb-eq, eqb-ne, times-put_behind_other, times-put_behind_new, walk-put_behind}
-
-pub leb-le : (a b : ℕ) → leb a b ≡ true → a ≤ b
-leb-le a b h = grind arith
-
-pub leb-gt : (a b : ℕ) → leb a b ≡ false → b < a
-leb-gt a b h = grind arith
-
-pub leb-true : (a b : ℕ) → a ≤ b → leb a b ≡ true
-leb-true a b h = grind arith
-
-pub leb-false : (a b : ℕ) → b < a → leb a b ≡ false
-leb-false a b h = grind arith
+use Rattle.tree_shape.proofs.Walks.{times-put_behind_other, times-put_behind_new, walk-put_behind}
 
 -- where a block stands at or below a noted one's level, and where it doesn't
 pub reach-low : (g : Shape) (p : Noted) (y : ℕ) → g.level y ≤ p.level → reach g p y ≡ times (g.above y p.level) p.walk
-reach-low g p y h = let e = leb-true _ _ h in rw e refl
+reach-low g p y h = let e = le-leb _ _ h in rw e refl
 
 pub reach-high : (g : Shape) (p : Noted) (y : ℕ) → p.level < g.level y → reach g p y ≡ 0
-reach-high g p y h = let e = leb-false _ _ h in rw e refl
+reach-high g p y h = let e = lt-leb _ _ h in rw e refl
 
 -- n is on no walk
 pub not_on : (g : Shape) (look : ℕ → Node) (p : Noted) (n : ℕ) → IsNoted g look p → g.inside n ≡ false → times n p.walk ≡ 0
 not_on g look p n t f = on_bool (leb 1 (times n p.walk))
-    (λ b. let i = (t.cells n (leb-le _ _ b)).0 in absurd (let w : true ≡ false = sym i ∙ f in cc))
-    (λ b. let i = leb-gt _ _ b in omega arith)
+    (λ b. let i = (t.cells n (leb-true _ _ b)).0 in absurd (let w : true ≡ false = sym i ∙ f in cc))
+    (λ b. let i = leb-false _ _ b in omega arith)
 
 pub apart : (g : Shape) (y n : ℕ) → g.inside y ≡ true → g.inside n ≡ false → y ≢ n
 apart g y n a b e = let w : true ≡ false = sym a ∙ ap g.inside e ∙ b in cc
@@ -45,7 +35,7 @@ module _ (g g2 : Shape) (look : ℕ → Node) (k c n : ℕ) (ok : ShapeOk g) (d 
       let e = d.level y yn in
       on_bool (leb (g.level y) p.level)
       (λ b.
-      let le = leb-le _ _ b in
+      let le = leb-true _ _ b in
       let le2 : g2.level y ≤ p.level = omega (arith, e) in
       let zi = (ok.higher y p.level i le t.low).0 in
       let zn = apart g (g.above y p.level) n zi d.fresh in
@@ -56,7 +46,7 @@ module _ (g g2 : Shape) (look : ℕ → Node) (k c n : ℕ) (ok : ShapeOk g) (d 
       ])
       ∙ sym (reach-low g p y le))
       (λ b.
-      let gt = leb-gt _ _ b in
+      let gt = leb-false _ _ b in
       let gt2 : p.level < g2.level y = omega (arith, e) in
       reach-high g2 (grown c n p) y gt2 ∙ sym (reach-high g p y gt))
 
@@ -64,25 +54,25 @@ module _ (g g2 : Shape) (look : ℕ → Node) (k c n : ℕ) (ok : ShapeOk g) (d 
   reach-new p t =
       on_bool (leb (g.level c) p.level)
       (λ b.
-      let le = leb-le _ _ b in
+      let le = leb-true _ _ b in
       let ce = d.c_level in
       let ne = d.new_level in
       let le2 : g2.level n ≤ p.level = omega arith in
       let o = not_on g look p n t d.fresh in
       reach-low g2 (grown c n p) n le2
       ∙ on_bool (eqb k p.level)
-      (λ q. let kp = eqb-eq _ _ q in
+      (λ q. let kp = eqb-true _ _ q in
       let itself : g.above c p.level ≡ c = ap (g.above c) (sym kp ∙ sym ce) ∙ ok.itself c d.c_inside in
       let itself2 : g2.above n p.level ≡ n = ap (g2.above n) (sym kp) ∙ d.new_itself in
       rw (itself, itself2) (let r = times-put_behind_new c n p.walk c_not_n in omega arith))
-      (λ q. let kp = eqb-ne _ _ q in
+      (λ q. let kp = eqb-false _ _ q in
       let lt : k < p.level = omega arith in
       let zi = (ok.higher c p.level d.c_inside le t.low).0 in
       let zn = apart g (g.above c p.level) n zi d.fresh in
       rw (d.new_above p.level lt) (times-put_behind_other c n (g.above c p.level) p.walk zn))
       ∙ sym (reach-low g p c le))
       (λ b.
-      let gt = leb-gt _ _ b in
+      let gt = leb-false _ _ b in
       let ce = d.c_level in
       let ne = d.new_level in
       let gt2 : p.level < g2.level n = omega arith in
@@ -108,12 +98,12 @@ module _ (g g2 : Shape) (look : ℕ → Node) (k c n : ℕ) (ok : ShapeOk g) (d 
         walks = walk-put_behind look look2 c n t p.stamp p.cell p.walk x fresh o h.walks;
         low = omega arith;
         cells = λ y on. on_bool (eqb y n)
-            (λ b. let yn = eqb-eq _ _ b in
+            (λ b. let yn = eqb-true _ _ b in
             let q = times-put_behind_new c n p.walk c_not_n in
             let on2 : 1 ≤ times n (put_behind c n p.walk) = rw yn at on in
             let cw = h.cells c (omega arith) in
             rw yn (d.new_inside, d.new_level ∙ sym d.c_level ∙ cw.1))
-            (λ b. let yn = eqb-ne _ _ b in
+            (λ b. let yn = eqb-false _ _ b in
             let q = times-put_behind_other c n y p.walk yn in
             let w = h.cells y (omega arith) in
             (d.inside y yn ∙ w.0, d.level y yn ∙ w.1));
@@ -141,11 +131,11 @@ module _ (g g2 : Shape) (look : ℕ → Node) (k c n : ℕ) (ok : ShapeOk g) (d 
   query-divided look2 t must fits ps counted x fresh q = record {
     noted = all_noted-divided look2 t ps x fresh q.noted;
     blocks = λ y i. on_bool (eqb y n)
-        (λ b. let yn = eqb-eq _ _ b in
+        (λ b. let yn = eqb-true _ _ b in
         let e = pending-new ps q.noted in
         let old = q.blocks c d.c_inside in
         rw yn (omega arith))
-        (λ b. let i1 = inside_before y (eqb-ne _ _ b) i in
+        (λ b. let i1 = inside_before y (eqb-false _ _ b) i in
         let e = pending-divided ps y q.noted i1 in
         let old = q.blocks y i1 in
         omega arith);
@@ -161,19 +151,19 @@ module _ (g g2 : Shape) (look : ℕ → Node) (k c n : ℕ) (ok : ShapeOk g) (d 
         let same_at : g2.at r ≡ g.at r = elim (d.at r i1) [ inl e ↦ e | inr w ↦ (let z : true ≡ false = sym ca1 ∙ w.2 in cc) ] in
         let lv : g2.level (g2.at r) ≡ g.level (g.at r) = ap g2.level same_at ∙ d.level (g.at r) an in
         on_bool (eqb y n)
-        (λ b. let yn = eqb-eq _ _ b in
+        (λ b. let yn = eqb-true _ _ b in
         let ab2 : g2.above n (g.level (g.at r)) ≡ g.at r = rw (yn, lv, same_at) at ab in
         let le2 : g2.level n ≤ g.level (g.at r) = rw (yn, lv) at le in
         let nl = d.new_level in
         on_bool (eqb k (g.level (g.at r)))
-        (λ b2. let ke = eqb-eq _ _ b2 in
+        (λ b2. let ke = eqb-true _ _ b2 in
         let bad : g.at r ≡ n = sym ab2 ∙ ap (g2.above n) (sym ke) ∙ d.new_itself in
         absurd (an bad))
-        (λ b2. let ke = eqb-ne _ _ b2 in
+        (λ b2. let ke = eqb-false _ _ b2 in
         let lt : k < g.level (g.at r) = omega arith in
         let cl = d.c_level in
         rw (yn, pending-new ps q.noted) (q.passed r i1 ca1 seen c d.c_inside (omega arith) (sym (d.new_above _ lt) ∙ ab2))))
-        (λ b. let yn = eqb-ne _ _ b in
+        (λ b. let yn = eqb-false _ _ b in
         let yi1 = inside_before y yn yi in
         let yl = d.level y yn in
         let ab2 : g2.above y (g.level (g.at r)) ≡ g.at r = rw (lv, same_at) at ab in
@@ -215,12 +205,12 @@ all_noted-same g g2 look look2 (p ∷ ps) s x h = (noted-same g g2 look look2 p 
 reach-beneath : (g : Shape) (look : ℕ → Node) (p : Noted) (c : ℕ) → ShapeOk g → IsNoted g look p → (b : ℕ) → g.inside c ≡ true → g.inside b ≡ true → g.level c ≤ g.level b → g.above c (g.level b) ≡ b → reach g p b ≤ reach g p c
 reach-beneath g look p c ok t b ci bi le ab = on_bool (leb (g.level b) p.level)
     (λ q.
-    let lb = leb-le _ _ q in
+    let lb = leb-true _ _ q in
     let lc : g.level c ≤ p.level = omega arith in
     let same_up : g.above b p.level ≡ g.above c p.level = ap (λ (w : ℕ). g.above w p.level) (sym ab) ∙ ok.coherent c (g.level b) p.level ci le lb t.low in
     let e : reach g p b ≡ reach g p c = reach-low g p b lb ∙ ap (λ (w : ℕ). times w p.walk) same_up ∙ sym (reach-low g p c lc) in
     omega arith)
-    (λ q. let e = reach-high g p b (leb-gt _ _ q) in omega arith)
+    (λ q. let e = reach-high g p b (leb-false _ _ q) in omega arith)
 
 pub pending-beneath : (g : Shape) (look : ℕ → Node) (ps : List Noted) (c : ℕ) → ShapeOk g → AreNoted g look ps → (b : ℕ) → g.inside c ≡ true → g.inside b ≡ true → g.level c ≤ g.level b → g.above c (g.level b) ≡ b → pending g ps b ≤ pending g ps c
 pending-beneath g look [] c ok t b ci bi le ab = omega arith
@@ -242,20 +232,20 @@ query-lowered g g2 look look2 r c must fits ps counted ok d x q =
       distinct = q.distinct;
       fitting = q.fitting;
       once = λ s i. on_bool (eqb s r)
-          (λ b. let e = eqb-eq _ _ b in rw (e, d.now, same_pend c) (on_bool (leb 1 (times r counted))
-          (λ w. let z = clear (leb-le _ _ w) in omega arith)
-          (λ w. let z = leb-gt _ _ w in omega arith)))
-          (λ b. rw (d.at s (eqb-ne _ _ b), same_pend (g.at s)) (q.once s (sym (d.placed s) ∙ i)));
+          (λ b. let e = eqb-true _ _ b in rw (e, d.now, same_pend c) (on_bool (leb 1 (times r counted))
+          (λ w. let z = clear (leb-true _ _ w) in omega arith)
+          (λ w. let z = leb-false _ _ w in omega arith)))
+          (λ b. rw (d.at s (eqb-false _ _ b), same_pend (g.at s)) (q.once s (sym (d.placed s) ∙ i)));
       whole = λ s i m f. let old = q.whole s (sym (d.placed s) ∙ i) m f in on_bool (eqb s r)
-          (λ b. let e = eqb-eq _ _ b in let o2 = rw e at old in rw (e, d.now, same_pend c) (omega arith))
-          (λ b. rw (d.at s (eqb-ne _ _ b), same_pend (g.at s)) old);
+          (λ b. let e = eqb-true _ _ b in let o2 = rw e at old in rw (e, d.now, same_pend c) (omega arith))
+          (λ b. rw (d.at s (eqb-false _ _ b), same_pend (g.at s)) old);
       passed = λ s i ca seen y yi le ab.
           let yi1 = sym (d.tree.inside y) ∙ yi in
           let lv = λ (w : ℕ). d.tree.level w in
           rw (same_pend y) (on_bool (eqb s r)
           (λ b.
-          let e : g2.at s ≡ c = ap g2.at (eqb-eq _ _ b) ∙ d.now in
-          let seen1 : 1 ≤ times r counted = rw (eqb-eq _ _ b) at seen in
+          let e : g2.at s ≡ c = ap g2.at (eqb-true _ _ b) ∙ d.now in
+          let seen1 : 1 ≤ times r counted = rw (eqb-true _ _ b) at seen in
           let ly = lv y in
           let lc : g2.level (g2.at s) ≡ g.level c = ap g2.level e ∙ lv c in
           let up1 : g.above y (g.level c) ≡ c = sym (d.tree.above y (g.level c)) ∙ ap (g2.above y) (sym lc) ∙ ab ∙ e in
@@ -263,7 +253,7 @@ query-lowered g g2 look look2 r c must fits ps counted ok d x q =
           sym (ok.coherent y (g.level c) (g.level (g.at r)) yi1 (omega arith) (omega arith) (ok.below (g.at r) ai)) ∙ ap (λ (w : ℕ). g.above w (g.level (g.at r))) up1 ∙ d.c_above in
           q.passed r d.r_placed d.r_carried seen1 y yi1 (omega arith) up2)
           (λ b.
-          let e : g2.at s ≡ g.at s = d.at s (eqb-ne _ _ b) in
+          let e : g2.at s ≡ g.at s = d.at s (eqb-false _ _ b) in
           let ly = lv y in
           let lc : g2.level (g2.at s) ≡ g.level (g.at s) = ap g2.level e ∙ lv (g.at s) in
           let up1 : g.above y (g.level (g.at s)) ≡ g.at s = sym (d.tree.above y (g.level (g.at s))) ∙ ap (g2.above y) (sym lc) ∙ ab ∙ e in

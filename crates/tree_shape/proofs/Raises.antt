@@ -1,14 +1,16 @@
 -- A new root
 use Rattle.std.proofs.Common.{◌≡◌, ◌≢◌, ℕ, ◌+◌, ◌-◌, ◌<◌, ◌≤◌, Bool, true, false, cond, eqb, leb, List, [], ◌∷◌, refl, sym, ap, ◌∙◌, subst, arith}
 use Rattle.dc_node.specs.declared.entry.Entry.{Entry}
-use Rattle.tree_shape.specs.Counts.{Each, same, times}
+use Rattle.list_words.specs.Counts.{Each, same, times}
+use Rattle.list_words.proofs.Truth.{on_bool}
+use Rattle.std.proofs.lemmas.Bool.{eqb-true, eqb-false, leb-true, leb-false}
+use Rattle.list_words.proofs.Times.{same_is, same_not}
 use Rattle.tree_shape.specs.Queries.{QueryOk, fits}
 use Rattle.tree_shape.specs.Shape.{Node, Shape, ShapeOk, Table}
 use Rattle.tree_shape.specs.Trees.{DirOk, EntryOk, TreeOk}
 use Rattle.tree_shape.specs.Walks.{AreNoted, IsNoted, IsTail, Noted, beneath, noted_of, pending, reach}
 use Rattle.tree_shape.proofs.Relations.{IsSumOf, Raised}
-use Rattle.tree_shape.proofs.Walks.{on_bool, eqb-eq, eqb-ne, same_is, same_not}
-use Rattle.tree_shape.proofs.Queries.{leb-le, leb-gt, reach-low, reach-high, not_on, apart}
+use Rattle.tree_shape.proofs.Queries.{reach-low, reach-high, not_on, apart}
 use Rattle.tree_shape.proofs.Sums.{sum-same}
 use Rattle.tree_shape.proofs.Visits.{spans}
 
@@ -32,8 +34,8 @@ module _ (g g2 : Shape) (look look2 : ℕ → Node) (table : Table) (h gate m : 
   low : (y : ℕ) → g.inside y ≡ true → y ≢ gate → g.level y < h
   low y i ne = let b = t.shape.below y i in let hh = d.height in
       on_bool (eqb (g.level y) h)
-      (λ q. absurd (ne (d.only y i (eqb-eq _ _ q))))
-      (λ q. let n = eqb-ne _ _ q in omega arith)
+      (λ q. absurd (ne (d.only y i (eqb-true _ _ q))))
+      (λ q. let n = eqb-false _ _ q in omega arith)
 
   not-gate : (y : ℕ) → g.level y < h → y ≢ gate
   not-gate y lt e = let a : g.level y ≡ g.level gate = ap g.level e in let b = d.gate_level in absurd (omega arith)
@@ -41,18 +43,18 @@ module _ (g g2 : Shape) (look look2 : ℕ → Node) (table : Table) (h gate m : 
   -- the three sorts of blocks
   sorts : {P : Type 0} → (y : ℕ) → g2.inside y ≡ true → (y ≡ m → P) → (y ≡ gate → P) → (g.inside y ≡ true → g.level y < h → y ≢ m → y ≢ gate → P) → P
   sorts y i a b c = on_bool (eqb y m)
-      (λ q. a (eqb-eq _ _ q))
-      (λ q. let ne = eqb-ne _ _ q in on_bool (eqb y gate)
-      (λ q2. b (eqb-eq _ _ q2))
-      (λ q2. let ng = eqb-ne _ _ q2 in let i1 = was y ne i in c i1 (low y i1 ng) ne ng))
+      (λ q. a (eqb-true _ _ q))
+      (λ q. let ne = eqb-false _ _ q in on_bool (eqb y gate)
+      (λ q2. b (eqb-true _ _ q2))
+      (λ q2. let ng = eqb-false _ _ q2 in let i1 = was y ne i in c i1 (low y i1 ng) ne ng))
 
   -- the three sorts of levels
   levels : {P : Type 0} → (l : ℕ) → l < g2.height → (l < h → P) → (l ≡ h → P) → (l ≡ h + 1 → P) → P
   levels l lt a b c = let hh = d.height2 in on_bool (leb (l + 1) h)
-      (λ q. let z = leb-le _ _ q in a (omega arith))
-      (λ q. let z = leb-gt _ _ q in on_bool (eqb l h)
-      (λ q2. b (eqb-eq _ _ q2))
-      (λ q2. let ne = eqb-ne _ _ q2 in c (omega arith)))
+      (λ q. let z = leb-true _ _ q in a (omega arith))
+      (λ q. let z = leb-false _ _ q in on_bool (eqb l h)
+      (λ q2. b (eqb-true _ _ q2))
+      (λ q2. let ne = eqb-false _ _ q2 in c (omega arith)))
 
   up-low : (y l : ℕ) → g.inside y ≡ true → g.level y ≤ l → l < h → (g.inside (g.above y l) ≡ true) × (g.level (g.above y l) ≡ l)
   up-low y l i le lt = let hh = d.height in t.shape.higher y l i le (omega arith)
@@ -119,8 +121,8 @@ module _ (g g2 : Shape) (look look2 : ℕ → Node) (table : Table) (h gate m : 
       let ne = old y i in
       let e = d.level y ne ng in
       on_bool (leb (g.level y) p.level)
-      (λ q. let le = leb-le _ _ q in reach-low g2 p y (omega arith) ∙ ap (λ (w : ℕ). times w p.walk) (d.above y p.level ne lt) ∙ sym (reach-low g p y le))
-      (λ q. let gt = leb-gt _ _ q in reach-high g2 p y (omega arith) ∙ sym (reach-high g p y gt))
+      (λ q. let le = leb-true _ _ q in reach-low g2 p y (omega arith) ∙ ap (λ (w : ℕ). times w p.walk) (d.above y p.level ne lt) ∙ sym (reach-low g p y le))
+      (λ q. let gt = leb-false _ _ q in reach-high g2 p y (omega arith) ∙ sym (reach-high g p y gt))
 
   noted-raised : (p : Noted) → p.level < h → IsNoted g look p → IsNoted g2 look2 p
   noted-raised p lt w =
@@ -195,8 +197,8 @@ module _ (g g2 : Shape) (look look2 : ℕ → Node) (table : Table) (h gate m : 
           walks = ([], refl, refl);
           low = omega arith;
           cells = λ y z. on_bool (eqb y m)
-              (λ q. let e = eqb-eq _ _ q in rw e (d.m_in, d.m_level))
-              (λ q. let o = same_not y m (eqb-ne _ _ q) in absurd (omega arith));
+              (λ q. let e = eqb-true _ _ q in rw e (d.m_in, d.m_level))
+              (λ q. let o = same_not y m (eqb-false _ _ q) in absurd (omega arith));
         });
         members = λ y i lv. sorts y i
             (λ q. rw (q, d.new_child, d.group_m, d.head_m) (omega arith))
@@ -297,7 +299,7 @@ module _ (g g2 : Shape) (look look2 : ℕ → Node) (table : Table) (h gate m : 
   lifted-top p q = rw q refl
 
   not-above : (p : Noted) → IsNoted g look p → eqb p.level h ≡ false → p.level < h
-  not-above p w q = let l = w.low in let hh = d.height in let ne = eqb-ne _ _ q in omega arith
+  not-above p w q = let l = w.low in let hh = d.height in let ne = eqb-false _ _ q in omega arith
 
   -- on the gate's level the gate alone is reached
   reach-top : (p : Noted) (y : ℕ) → g.inside y ≡ true → p.level ≡ h → reach g p y ≡ times gate p.walk
@@ -315,18 +317,18 @@ module _ (g g2 : Shape) (look look2 : ℕ → Node) (table : Table) (h gate m : 
       on_bool (eqb p.level h)
       (λ q.
       let le : g2.level y ≤ h + 1 = on_bool (eqb y gate)
-      (λ z. let e = ap g2.level (eqb-eq _ _ z) in omega arith)
-      (λ z. let e = d.level y (old y i) (eqb-ne _ _ z) in omega arith) in
+      (λ z. let e = ap g2.level (eqb-true _ _ z) in omega arith)
+      (λ z. let e = d.level y (old y i) (eqb-false _ _ z) in omega arith) in
       ap (λ (x : Noted). reach g2 x y) (lifted-top p q) ∙ (reach-low g2 (record { cell = p.cell; stamp = p.stamp; level = h + 1; walk = p.walk }) y le ∙ ap (λ (x : ℕ). times x p.walk) (d.above_top y))
-      ∙ sym (reach-top p y i (eqb-eq _ _ q)))
+      ∙ sym (reach-top p y i (eqb-true _ _ q)))
       (λ q. let lt = not-above p w q in
       ap (λ (x : Noted). reach g2 x y) (lifted-low p q) ∙ (on_bool (eqb y gate)
-      (λ z. let e = eqb-eq _ _ z in
+      (λ z. let e = eqb-true _ _ z in
       let e1 = ap g2.level e in
       let e2 = ap g.level e in
       let gl1 = d.gate_level in
       reach-high g2 p y (omega arith) ∙ sym (reach-high g p y (omega arith)))
-      (λ z. reach-raised p y lt i (eqb-ne _ _ z))))
+      (λ z. reach-raised p y lt i (eqb-false _ _ z))))
 
   reach-m : (p : Noted) → IsNoted g look p → reach g2 (lifted p) m ≡ reach g p gate
   reach-m p w =
@@ -335,7 +337,7 @@ module _ (g g2 : Shape) (look look2 : ℕ → Node) (table : Table) (h gate m : 
       on_bool (eqb p.level h)
       (λ q.
       ap (λ (x : Noted). reach g2 x m) (lifted-top p q) ∙ (reach-low g2 (record { cell = p.cell; stamp = p.stamp; level = h + 1; walk = p.walk }) m (omega arith) ∙ ap (λ (x : ℕ). times x p.walk) (d.above_top m))
-      ∙ sym (reach-top p gate d.gate_in (eqb-eq _ _ q)))
+      ∙ sym (reach-top p gate d.gate_in (eqb-true _ _ q)))
       (λ q. let lt = not-above p w q in
       ap (λ (x : Noted). reach g2 x m) (lifted-low p q) ∙ (reach-high g2 p m (omega arith) ∙ sym (reach-high g p gate (omega arith))))
 
@@ -352,7 +354,7 @@ module _ (g g2 : Shape) (look look2 : ℕ → Node) (table : Table) (h gate m : 
         walks = (zs, w.walks.1, tail-off look look2 m p.stamp p.cell zs d.stamp d.right cm on w.walks.2);
         low = omega arith;
         cells = λ y z. let c = w.cells y z in
-            let e : y ≡ gate = d.only y c.0 (c.1 ∙ eqb-eq _ _ q) in
+            let e : y ≡ gate = d.only y c.0 (c.1 ∙ eqb-true _ _ q) in
             rw e (d.inside gate gm ∙ d.gate_in, d.gate_level2);
       }))
       (λ q. rw (lifted-low p q) (noted-raised p (not-above p w q) w))

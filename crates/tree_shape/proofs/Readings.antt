@@ -24,16 +24,18 @@ use Rattle.dc_node.specs.declared.block.Block.{Block}
 use Rattle.dc_node.specs.declared.entry.Entry.{Entry}
 use Rattle.dc_node.specs.declared.todo.Item.{Item}
 use Rattle.dim_hierarchy.specs.declared.row.Row.{Row}
-use Rattle.tree_shape.specs.Counts.{Each, same, times}
+use Rattle.list_words.specs.Counts.{Each, same, times}
+use Rattle.list_words.proofs.Truth.{on_bool}
+use Rattle.std.proofs.lemmas.Bool.{eqb-true, eqb-false, ne_eqb, eq-eqb}
+use Rattle.list_words.proofs.Times.{times-append}
 use Rattle.tree_shape.specs.Queries.{IsUnfinished, QueryOk, fits, items_of}
 use Rattle.tree_shape.specs.Shape.{Node, Shape, Table, TreeCells, node_of, nodes, numbers}
 use Rattle.tree_shape.specs.Steps.{AfterVisit, CountsElsewhere, IsAsked, Visits}
 use Rattle.tree_shape.specs.Trees.{BlockOk, EntryOk, IsTree, lies}
 use Rattle.tree_shape.specs.Walks.{AreNoted, IsNoted, IsTail, Noted, pending}
 use Rattle.tree_shape.proofs.Relations.{IsSumOf, Note, Skip, Take, Verdict, VerdictOk, fitting, left_over, notes, takes}
-use Rattle.tree_shape.proofs.Walks.{on_bool, eqb-eq, eqb-ne, eqb-no, eqb-yes}
 use Rattle.tree_shape.proofs.Sums.{coords-valid}
-use Rattle.tree_shape.proofs.Visits.{unplaced, times-fitting, times-unfitting, query-visit_dir, query-visit_leaf, leaf-split, pending-fewer, pending-append, all_noted-append, times-append}
+use Rattle.tree_shape.proofs.Visits.{unplaced, times-fitting, times-unfitting, query-visit_dir, query-visit_leaf, leaf-split, pending-fewer, pending-append, all_noted-append}
 use Rattle.tree_shape.proofs.Assembled.{node-block}
 
 -- The order of noted blocks and of counted rows doesn't matter.
@@ -99,7 +101,7 @@ last-noted (p ∷ ps) (i ∷ items) item e =
 pub contains-row : (table : Table) (r : ℕ) (ns : List ℕ) → 1 ≤ times r ns → Contains (coords (map table.row ns)) (table.row r).at
 contains-row table r [] h = absurd (omega arith)
 contains-row table r (n ∷ ns) h = on_bool (eqb r n)
-    (λ q. let e = eqb-eq _ _ q in (0, omega arith, ap (λ y. (table.row y).at) (sym e)))
+    (λ q. let e = eqb-true _ _ q in (0, omega arith, ap (λ y. (table.row y).at) (sym e)))
     (λ q. let k = rw q at h in let c = contains-row table r ns (omega arith) in (suc c.0, (let j = c.1 in omega (arith, j)), c.2))
 
 module _ (table : Table) (f : List Pick) (asked : IsAsked table f) (e : Entry) (below : List ℕ) (s : IsSumOf table below e) where
@@ -188,11 +190,11 @@ fitting-are table f (r ∷ rows) h =
 pub left-are : (look : ℕ → Node) (s l b : ℕ) (zs : List ℕ) (block : Block) → look b ≡ node_of block → IsTail look s b zs → items_of (left_over s l zs) ≡ noted_right block s
 left-are look s l b [] block is h =
     let e : block.stamp ≡ s = sym (ap (λ (x : Node). x.stamp) is) ∙ h in
-    rw (eqb-yes block.stamp s e) refl
+    rw (eq-eqb block.stamp s e) refl
 left-are look s l b (z ∷ zs) block is h =
     let ne : block.stamp ≢ s = λ q. h.0 (ap (λ (x : Node). x.stamp) is ∙ q) in
     let r : block.right ≡ Some z = sym (ap (λ (x : Node). x.right) is) ∙ h.1 in
-    rw (eqb-no block.stamp s ne, r) refl
+    rw (ne_eqb block.stamp s ne, r) refl
 
 -- no row fits oftener than it stands there
 pub fitting-few : (fit : ℕ → Bool) (r : ℕ) (ns : List ℕ) → times r (fitting fit ns) ≤ times r ns
@@ -261,16 +263,13 @@ module _ (table : Table) (cells : TreeCells) (g : Shape) (must : ℕ → Bool) (
   tail = subst (λ c. IsTail look p.stamp c p-noted.walks.0) w.cell p-noted.walks.2
 
   b_in : (g.inside b ≡ true) × (g.level b ≡ p.level)
-  b_in = p-noted.cells b (rw at_b (let o : same b b ≡ 1 = rw (eqb-yes b b refl) refl in omega arith))
+  b_in = p-noted.cells b (rw at_b (let o : same b b ≡ 1 = rw (eq-eqb b b refl) refl in omega arith))
 
   is : look b ≡ node_of block
   is = node-block cells b d.block
 
   ok : BlockOk table g b block
   ok = tree.blocks b b_in.0 d.block
-
-  left : List Noted
-  left = left_over p.stamp p.level p-noted.walks.0
 
   left_is : items_of (left_over p.stamp p.level p-noted.walks.0) ≡ noted_right block item.stamp
   left_is = left-are look p.stamp p.level b p-noted.walks.0 block is tail ∙ ap (noted_right block) w.stamp
@@ -284,7 +283,7 @@ module _ (table : Table) (cells : TreeCells) (g : Shape) (must : ℕ → Bool) (
   at-leaf : p.level ≡ 0 → AfterVisit table cells g must f items item counted d.unfinished.noted
   at-leaf z =
       let bl : g.level b ≡ 0 = b_in.1 ∙ z in
-      let kind : is_leaf block.body ≡ true = ok.kind ∙ eqb-yes (g.level b) 0 bl in
+      let kind : is_leaf block.body ≡ true = ok.kind ∙ eq-eqb (g.level b) 0 bl in
       let lo : List Noted = left_over p.stamp p.level p-noted.walks.0 in
       let part = leaf-part table.hierarchy f block.body kind in
       let after = query-visit_leaf g look must fit b p p-noted.walks.0 ps counted tree.tree.shape (tree.tree.leaves b b_in.0 bl) b_in.0 bl d.idle at_b z q in
@@ -319,7 +318,7 @@ module _ (table : Table) (cells : TreeCells) (g : Shape) (must : ℕ → Bool) (
       let pl : p.level ≡ l + 1 = omega arith in
       let bl : g.level b ≡ l + 1 = b_in.1 ∙ pl in
       let up : g.level b ≢ 0 = (λ e. let e2 = b_in.1 in absurd (omega arith)) in
-      let kind : is_leaf block.body ≡ false = ok.kind ∙ eqb-no (g.level b) 0 up in
+      let kind : is_leaf block.body ≡ false = ok.kind ∙ ne_eqb (g.level b) 0 up in
       let lo : List Noted = left_over p.stamp p.level p-noted.walks.0 in
       let v : Entry → Verdict = judge table.hierarchy f in
       let dir = tree.tree.dirs b l b_in.0 bl in
@@ -353,4 +352,4 @@ module _ (table : Table) (cells : TreeCells) (g : Shape) (must : ℕ → Bool) (
       }
 
   pub after-visit : AfterVisit table cells g must f items item counted d.unfinished.noted
-  after-visit = on_bool (eqb p.level 0) (λ z. at-leaf (eqb-eq _ _ z)) (λ z. at-directory (eqb-ne _ _ z))
+  after-visit = on_bool (eqb p.level 0) (λ z. at-leaf (eqb-true _ _ z)) (λ z. at-directory (eqb-false _ _ z))

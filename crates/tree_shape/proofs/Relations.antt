@@ -4,7 +4,7 @@ use Rattle.dc_node.specs.Summary.{IsSummaryOf}
 use Rattle.dim_hierarchy.specs.Rows.{IsRowOf}
 use Rattle.dc_node.specs.Entry.{IsWithRow}
 use Rattle.dc_node.specs.declared.entry.Entry.{Entry}
-use Rattle.tree_shape.specs.Counts.{Among, Each, same, times, total}
+use Rattle.list_words.specs.Counts.{Among, Each, same, times, total}
 use Rattle.tree_shape.specs.Queries.{fits}
 use Rattle.tree_shape.specs.Shape.{Node, Shape, Table}
 use Rattle.tree_shape.specs.Trees.{EntryOk}
@@ -320,8 +320,9 @@ pub record Raised (g g2 : Shape) (look look2 : ℕ → Node) (h gate m : ℕ) (r
   pub new_agg : new.agg ≡ root.agg
   pub new_set : new.set ≡ root.set
 
--- down onto a head c that was halved, as the cells have it: r was carried at the parent
-pub record DownJoined (g : Shape) (look look3 : ℕ → Node) (table : Table) (k c n t r : ℕ) : Type 0 where
+-- Down onto a head c that was divided, as the cells have it: r was carried at the parent, which has the entries es after the
+-- division, and is carried at x, which is c or n.
+pub record DownDivided (g : Shape) (look look3 : ℕ → Node) (table : Table) (k c n t r x : ℕ) (es : List Entry) : Type 0 where
   pub r_placed : g.placed r ≡ true
   pub r_carried : g.carried r ≡ true
   pub c_inside : g.inside c ≡ true
@@ -337,10 +338,15 @@ pub record DownJoined (g : Shape) (look look3 : ℕ → Node) (table : Table) (k
   pub entries : (f : Entry → ℕ) → total f (look c).entries ≡ total f (look3 c).entries + total f (look3 n).entries
   pub left : Each (λ e. Among e (look c).entries) (look3 c).entries
   pub right : Each (λ e. Among e (look c).entries) (look3 n).entries
-  pub top : Touched table r c (look (g.at r)).entries (look3 (g.at r)).entries
+  pub chosen : (x ≡ c) ⊎ (x ≡ n)
+  pub top : Touched table r x es (look3 (g.at r)).entries
   pub numbered : IsRowOf table.hierarchy (table.row r)
   pub top_rows : (look3 (g.at r)).rows ≡ (look (g.at r)).rows
   pub other : (y : ℕ) → y ≢ c → y ≢ n → y ≢ g.at r → look3 y ≡ look y
+
+-- where the head was halved, the parent has its entries still
+abbrev pub DownJoined : Shape → (ℕ → Node) → (ℕ → Node) → Table → ℕ → ℕ → ℕ → ℕ → ℕ → Type 0
+DownJoined g look look3 table k c n t r = DownDivided g look look3 table k c n t r c (look (g.at r)).entries
 
 -- the shape after a row went down to c
 abbrev pub lower : Shape → ℕ → ℕ → Shape
@@ -364,31 +370,17 @@ all_below g [] = []
 all_below g (e ∷ es) = g.below e.child ++ all_below g es
 
 -- the rows of a block on level k, or beneath its entries
-abbrev pub rows_of : Shape → Node → ℕ → List ℕ
-rows_of g b k = cond (eqb k 0) b.rows (all_below g b.entries)
+abbrev pub block_rows : Shape → Node → ℕ → List ℕ
+block_rows g b k = cond (eqb k 0) b.rows (all_below g b.entries)
 
 -- and those of several blocks
 abbrev pub group_rows : Shape → (ℕ → Node) → ℕ → List ℕ → List ℕ
 group_rows g look k [] = []
-group_rows g look k (y ∷ ys) = rows_of g (look y) k ++ group_rows g look k ys
+group_rows g look k (y ∷ ys) = block_rows g (look y) k ++ group_rows g look k ys
 
--- down onto a head c that was cut: r is carried at x, which is c or n
+-- where it was cut, the parent has an entry for each part
 pub record DownParted (g : Shape) (look look3 : ℕ → Node) (table : Table) (k c n t r x : ℕ) (a b old : Entry) : Type 0 where
-  pub r_placed : g.placed r ≡ true
-  pub r_carried : g.carried r ≡ true
-  pub c_inside : g.inside c ≡ true
-  pub c_level : g.level c ≡ k
-  pub next : g.level (g.at r) ≡ k + 1
-  pub c_above : g.above c (k + 1) ≡ g.at r
-  pub c_head : g.head c ≡ c
-  pub fresh : g.inside n ≡ false
-  pub free : (q : ℕ) → g.placed q ≡ true → g.carried q ≡ true → g.at q ≢ c
-  pub waits : (b l : ℕ) → g.inside b ≡ true → g.level b ≡ l + 1 → Each (λ e. e.stamp ≢ t) (look b).entries
-  pub relinked : Relinked look look3 c n t
-  pub rows : (q : ℕ) → times q (look c).rows ≡ times q (look3 c).rows + times q (look3 n).rows
-  pub entries : (f : Entry → ℕ) → total f (look c).entries ≡ total f (look3 c).entries + total f (look3 n).entries
-  pub left : Each (λ e. Among e (look c).entries) (look3 c).entries
-  pub right : Each (λ e. Among e (look c).entries) (look3 n).entries
+  pub down : DownDivided g look look3 table k c n t r x (parted c a b (look (g.at r)).entries)
   pub old_ok : EntryOk g look table k old
   pub old_child : old.child ≡ c
   pub old_stamp : old.stamp ≢ t
@@ -397,15 +389,10 @@ pub record DownParted (g : Shape) (look look3 : ℕ → Node) (table : Table) (k
   pub free_tail : (q : ℕ) → g.placed q ≡ true → g.carried q ≡ true → times (g.at q) tail ≡ 0
   pub a_child : a.child ≡ c
   pub a_stamp : a.stamp ≡ t
-  pub a_sum : IsSumOf table (rows_of g (look3 c) k) a
+  pub a_sum : IsSumOf table (block_rows g (look3 c) k) a
   pub b_child : b.child ≡ n
   pub b_stamp : b.stamp ≡ old.stamp
   pub b_sum : IsSumOf table (group_rows g look3 k (n ∷ tail)) b
-  pub chosen : (x ≡ c) ⊎ (x ≡ n)
-  pub top : Touched table r x (parted c a b (look (g.at r)).entries) (look3 (g.at r)).entries
-  pub numbered : IsRowOf table.hierarchy (table.row r)
-  pub top_rows : (look3 (g.at r)).rows ≡ (look (g.at r)).rows
-  pub other : (y : ℕ) → y ≢ c → y ≢ n → y ≢ g.at r → look3 y ≡ look y
 
 -- a head c under the block p was cut, and p has two entries in place of one; no row moved but with its leaf
 pub record CutUnder (g : Shape) (look look2 : ℕ → Node) (table : Table) (k c n t p : ℕ) (a b old : Entry) : Type 0 where
@@ -431,7 +418,7 @@ pub record CutUnder (g : Shape) (look look2 : ℕ → Node) (table : Table) (k c
   pub free_tail : (q : ℕ) → g.placed q ≡ true → g.carried q ≡ true → times (g.at q) tail ≡ 0
   pub a_child : a.child ≡ c
   pub a_stamp : a.stamp ≡ t
-  pub a_sum : IsSumOf table (rows_of g (look2 c) k) a
+  pub a_sum : IsSumOf table (block_rows g (look2 c) k) a
   pub b_child : b.child ≡ n
   pub b_stamp : b.stamp ≡ old.stamp
   pub b_sum : IsSumOf table (group_rows g look2 k (n ∷ tail)) b

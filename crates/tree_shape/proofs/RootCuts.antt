@@ -13,13 +13,15 @@ use Rattle.link_descent.specs.declared.entered.Entered.{Entered}
 use Rattle.link_descent.specs.declared.entered.Fresh.{Fresh}
 use Rattle.dc_node.specs.declared.block.Block.{Block}
 use Rattle.dc_node.specs.declared.entry.Entry.{Entry}
-use Rattle.tree_shape.specs.Counts.{Each, times}
+use Rattle.list_words.specs.Counts.{Each, times}
+use Rattle.list_words.proofs.Truth.{on_bool}
+use Rattle.std.proofs.lemmas.Bool.{eqb-true, eqb-false, ne_eqb, eq-eqb}
+use Rattle.list_words.proofs.Times.{same_is}
 use Rattle.tree_shape.specs.Queries.{NoneWaits}
 use Rattle.tree_shape.specs.Shape.{Node, Shape, Table, TreeCells, gate_node, node_of, nodes}
 use Rattle.tree_shape.specs.Steps.{AfterStep, AreApart, AreSpares, GoesIn, IsIdle, IsSpare}
 use Rattle.tree_shape.specs.Trees.{BlockOk, EntryOk, IsTree}
 use Rattle.tree_shape.proofs.Relations.{CutUnder, Grew, all_grown, parted}
-use Rattle.tree_shape.proofs.Walks.{on_bool, eqb-eq, eqb-ne, eqb-no, eqb-yes, same_is}
 use Rattle.tree_shape.proofs.Queries.{apart}
 use Rattle.tree_shape.proofs.Contents.{ArePartsOf}
 use Rattle.tree_shape.proofs.Cuts.{cut-shape, tree-cut, query-cut, grew-cut, stamps-cut}
@@ -91,10 +93,10 @@ module _ (table : Table) (g : Shape) (r : ℕ) (before now : TreeCells) (purse p
   height2 = d.gate.height ∙ ap (λ (x : Gate). x.height) s.gate_is
 
   block-m : cells1.block m ≡ record { stamp = s.top.stamp; right = None; body = Entries (record { items = root_entry before.gate ∷ [] }) }
-  block-m = rw (eqb-yes m m refl) refl
+  block-m = rw (eq-eqb m m refl) refl
 
   block-off : (y : ℕ) → y ≢ m → cells1.block y ≡ before.block y
-  block-off y q = rw (eqb-no y m q) refl
+  block-off y q = rw (ne_eqb y m q) refl
 
   idle1 : IsIdle g1 m
   idle1 q p ca = apart g (g.at q) m (tree.tree.shape.stands q p) m_fresh
@@ -177,16 +179,16 @@ module _ (table : Table) (g : Shape) (r : ℕ) (before now : TreeCells) (purse p
 
   other : (y : ℕ) → y ≢ c → y ≢ n → y ≢ m → nodes now y ≡ nodes cells2 y
   other y yc yn ym = on_bool (eqb y gate)
-      (λ q. let e = eqb-eq _ _ q in
+      (λ q. let e = eqb-true _ _ q in
       let a : nodes now y ≡ gate_node now.gate = ap (nodes now) (e ∙ sym d.gate_cell) ∙ node-gate now in
       let b : nodes cells2 y ≡ gate_node now.gate = ap (nodes cells2) e ∙ node-gate cells2 in
       a ∙ sym b)
-      (λ q. let yg = eqb-ne _ _ q in now-block y yg ∙ ap node_of (same_block y yc yn ym) ∙ sym (node-block cells2 y yg))
+      (λ q. let yg = eqb-false _ _ q in now-block y yg ∙ ap node_of (same_block y yc yn ym) ∙ sym (node-block cells2 y yg))
 
   idle2 : IsIdle g2 c
   idle2 q p ca at_c = on_bool (eqb q r)
-      (λ z. c_m (sym at_c ∙ ap g2.at (eqb-eq _ _ z) ∙ came_in.row.at))
-      (λ z. let ne = eqb-ne _ _ z in
+      (λ z. c_m (sym at_c ∙ ap g2.at (eqb-true _ _ z) ∙ came_in.row.at))
+      (λ z. let ne = eqb-false _ _ z in
       let p1 = sym (came_in.row.others_placed q ne) ∙ p in
       let ca1 = sym (came_in.row.others_carried q ne) ∙ ca in
       d.idle q p1 ca1 (sym (came_in.row.others_at q ne p1 ca1) ∙ at_c))
@@ -201,7 +203,7 @@ module _ (table : Table) (g : Shape) (r : ℕ) (before now : TreeCells) (purse p
   c_ok = subst (BlockOk table g2 c) (block-off c c_m) (tree2.blocks c c_at.0 c_gate)
 
   entries3 : (nodes now m).entries ≡ parted c s.left s.right (nodes cells2 m).entries
-  entries3 = ap (λ (x : Node). x.entries) look3_m ∙ sym (ap (parted c s.left s.right) is ∙ (rw (eqb-yes c c refl) refl))
+  entries3 = ap (λ (x : Node). x.entries) look3_m ∙ sym (ap (parted c s.left s.right) is ∙ (rw (eq-eqb c c refl) refl))
 
   -- The blocks behind the root's head are the same in the tree before the step and in the one with the new root.
 
@@ -239,7 +241,7 @@ module _ (table : Table) (g : Shape) (r : ℕ) (before now : TreeCells) (purse p
       let o = old-behind y k in
       let ym = apart g y m o.inside m_fresh in
       let yg : y ≢ gate = (λ e. let a = ap g.level e in let b = tree.level in let u = tree.some in let v = o.level in absurd (omega arith)) in
-      subst (BlockOk table g2 y) (block-off y ym) (tree2.blocks y (inside2 y ∙ (rw (eqb-no y m ym) o.inside)) yg)
+      subst (BlockOk table g2 y) (block-off y ym) (tree2.blocks y (inside2 y ∙ (rw (ne_eqb y m ym) o.inside)) yg)
 
   behind_is : s.cuts.behind ≡ map before.block old_tail
   behind_is =
@@ -273,26 +275,26 @@ module _ (table : Table) (g : Shape) (r : ℕ) (before now : TreeCells) (purse p
 
   blocks : (b : ℕ) → g3.inside b ≡ true → b ≢ gate → BlockOk table g3 b (now.block b)
   blocks b bi bg = on_bool (eqb b n)
-      (λ q. subst (BlockOk table g3 b) (sym (ap now.block (eqb-eq _ _ q) ∙ fills.0))
+      (λ q. subst (BlockOk table g3 b) (sym (ap now.block (eqb-true _ _ q) ∙ fills.0))
       (block-part table g2 g3 c b (before.block c) s.new c_ok parts.right_kind parts.right_some parts.right_few parts.right_rows parts.right_room ((grew.new b q).2 ∙ sym c_at.1)))
       (λ q. let i1 = sym (grew.inside b q) ∙ bi in on_bool (eqb b c)
-      (λ q2. let bc = eqb-eq _ _ q2 in
+      (λ q2. let bc = eqb-true _ _ q2 in
       subst (λ y. BlockOk table g3 b (now.block y)) (sym bc)
       (block-part table g2 g3 c b (before.block c) (now.block c) c_ok parts.left_kind parts.left_some parts.left_few parts.left_rows parts.left_room (grew.level b q ∙ ap g2.level bc)))
-      (λ q2. let bc = eqb-ne _ _ q2 in on_bool (eqb b m)
-      (λ q3. let bm = eqb-eq _ _ q3 in
+      (λ q2. let bc = eqb-false _ _ q2 in on_bool (eqb b m)
+      (λ q3. let bm = eqb-true _ _ q3 in
       let lv : g3.level b ≡ h = ap g3.level bm ∙ grew.x_level in
       let u = tree.some in
       subst (BlockOk table g3 b) (sym (ap now.block bm ∙ fills.1.0)) (record {
-        kind = sym (eqb-no (g3.level b) 0 (omega arith));
+        kind = sym (ne_eqb (g3.level b) 0 (omega arith));
         some = λ z. omega arith;
         few = omega arith;
         rows = tt;
         room = λ q4 p ca e. refl;
       }))
-      (λ q3. let bm = eqb-ne _ _ q3 in
+      (λ q3. let bm = eqb-false _ _ q3 in
       let ok = tree2.blocks b i1 bg in
-      block-kept table g2 g3 b (cells2.block b) (now.block b) ok (same_block b bc (eqb-ne _ _ q) bm) (grew.level b q) (λ q4 p ca e. let w = still q4 b p ca e bm in ok.room q4 w.1 w.2 w.3))))
+      block-kept table g2 g3 b (cells2.block b) (now.block b) ok (same_block b bc (eqb-false _ _ q) bm) (grew.level b q) (λ q4 p ca e. let w = still q4 b p ca e bm in ok.room q4 w.1 w.2 w.3))))
 
   tree3 : IsTree table now g3
   tree3 = assemble table now gate now.gate.height g2 g3 (λ y. eqb y n) (h - 1) h r m (near-tree table cells2 g2 r tree2)
@@ -305,7 +307,7 @@ module _ (table : Table) (g : Shape) (r : ℕ) (before now : TreeCells) (purse p
       let v = spare2 x apart_x.0.0 apart_x.0.1 u in
       let roots : Each (λ (e : Entry). e.stamp ≢ x.stamp) (root_entry before.gate ∷ []) = subst (Each (λ (e : Entry). e.stamp ≢ x.stamp)) (ap (λ (y : Node). y.entries) (node-gate before)) (u.unexpected gate (h - 1) tree.top gate_up) in
       record {
-        cell = grew.inside x.cell (eqb-no x.cell n apart_x.1.0.0) ∙ v.cell;
+        cell = grew.inside x.cell (ne_eqb x.cell n apart_x.1.0.0) ∙ v.cell;
         unexpected = stamps-cut g2 (nodes cells2) (nodes now) table (h - 1) c n t m s.left s.right (root_entry before.gate) tree2.tree cut x.stamp apart_x.1.0.1 (λ e. roots.0 (sym e)) v.unexpected;
       }
 
@@ -324,13 +326,13 @@ module _ (table : Table) (g : Shape) (r : ℕ) (before now : TreeCells) (purse p
     level = (let a = grew.x_level in let b = height2 in omega arith);
     levels = λ y i yg.
         let ym = apart g y m i m_fresh in
-        let i1 : g1.inside y ≡ true = rw (eqb-no y m ym) i in
+        let i1 : g1.inside y ≡ true = rw (ne_eqb y m ym) i in
         let yn = apart g2 y n (inside2 y ∙ i1) mine.cell in
-        grew.level y (eqb-no y n yn) ∙ came_in.levels y i1 yg ∙ (rw (eqb-no y m ym, eqb-no y gate yg) refl);
+        grew.level y (ne_eqb y n yn) ∙ came_in.levels y i1 yg ∙ (rw (ne_eqb y m ym, ne_eqb y gate yg) refl);
     used = s.top ∷ s.spare ∷ [];
     purse_is = purse_is;
-    inside = λ y u. grew.inside y (eqb-no y n u.1.0) ∙ inside2 y ∙ (rw (eqb-no y m u.0) refl);
-    filled = (grew.x_in, ((grew.new n (eqb-yes n n refl)).1, tt));
+    inside = λ y u. grew.inside y (ne_eqb y n u.1.0) ∙ inside2 y ∙ (rw (ne_eqb y m u.0) refl);
+    filled = (grew.x_in, ((grew.new n (eq-eqb n n refl)).1, tt));
     spares = keep;
     own = own-spares g g3 (nodes before) (nodes now) (s.top ∷ s.spare ∷ []) purse_now.spares keep (subst (AreSpares g (nodes before)) purse_is d.spares);
     queries = λ must fits items counted u fresh q.

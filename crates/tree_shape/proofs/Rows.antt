@@ -1,12 +1,13 @@
 -- A row that is put in its leaf, and one that comes in; a query that begins and one that ends
 use Rattle.std.proofs.Common.{◌≡◌, ◌≢◌, ℕ, ◌+◌, ◌≤◌, Bool, true, false, eqb, List, [], ◌∷◌, sym, ap, ◌∙◌, subst, refl, arith}
-use Rattle.tree_shape.specs.Counts.{times}
+use Rattle.list_words.specs.Counts.{times}
+use Rattle.list_words.proofs.Truth.{on_bool}
+use Rattle.std.proofs.lemmas.Bool.{eqb-true, eqb-false}
 use Rattle.tree_shape.specs.Queries.{IsUnfinished, QueryOk, fits, items_of}
 use Rattle.tree_shape.specs.Shape.{Node, Shape, ShapeOk}
 use Rattle.tree_shape.specs.Steps.{AfterAll}
 use Rattle.tree_shape.specs.Walks.{IsNoted, Noted, pending}
 use Rattle.tree_shape.proofs.Relations.{Came, SameLinks, Settled}
-use Rattle.tree_shape.proofs.Walks.{on_bool, eqb-eq, eqb-ne}
 use Rattle.tree_shape.proofs.Queries.{reach-low, pending-same, all_noted-same}
 
 pub query-settled : (g g2 : Shape) (look look2 : ℕ → Node) (r : ℕ) (must fits : ℕ → Bool) (ps : List Noted) (counted : List ℕ) → Settled g g2 r → SameLinks look look2 → QueryOk g look must fits ps counted → QueryOk g2 look2 must fits ps counted
@@ -25,8 +26,8 @@ query-settled g g2 look look2 r must fits ps counted d x q =
           let ly = d.tree.level y in
           let up : g.above y (g.level (g.at s)) ≡ g.at s = sym (d.tree.above y (g.level (g.at s))) ∙ ap (g2.above y) (sym lv) ∙ ab ∙ d.at s in
           rw (same_pend y) (on_bool (eqb s r)
-          (λ b. let bad : true ≡ false = sym ca ∙ ap g2.carried (eqb-eq _ _ b) ∙ d.now in cc)
-          (λ b. q.passed s (sym (d.placed s) ∙ i) (sym (d.carried s (eqb-ne _ _ b)) ∙ ca) seen y (sym (d.tree.inside y) ∙ yi) (omega arith) up));
+          (λ b. let bad : true ≡ false = sym ca ∙ ap g2.carried (eqb-true _ _ b) ∙ d.now in cc)
+          (λ b. q.passed s (sym (d.placed s) ∙ i) (sym (d.carried s (eqb-false _ _ b)) ∙ ca) seen y (sym (d.tree.inside y) ∙ yi) (omega arith) up));
     }
 
 pub query-came : (g g2 : Shape) (look look2 : ℕ → Node) (r c : ℕ) (must fits : ℕ → Bool) (ps : List Noted) (counted : List ℕ) → Came g g2 r c → SameLinks look look2 → times r counted ≡ 0 → must r ≡ false → QueryOk g look must fits ps counted → QueryOk g2 look2 must fits ps counted
@@ -40,14 +41,14 @@ query-came g g2 look look2 r c must fits ps counted d x unseen unmust q =
       distinct = q.distinct;
       fitting = q.fitting;
       once = λ s i. on_bool (eqb s r)
-          (λ b. let e = eqb-eq _ _ b in rw (e, d.now_at, same_pend c, unseen) (omega arith))
-          (λ b. let n = eqb-ne _ _ b in rw (same_at s n) (q.once s (sym (d.placed s n) ∙ i)));
+          (λ b. let e = eqb-true _ _ b in rw (e, d.now_at, same_pend c, unseen) (omega arith))
+          (λ b. let n = eqb-false _ _ b in rw (same_at s n) (q.once s (sym (d.placed s n) ∙ i)));
       whole = λ s i m f. on_bool (eqb s r)
-          (λ b. let bad : true ≡ false = sym m ∙ ap must (eqb-eq _ _ b) ∙ unmust in cc)
-          (λ b. let n = eqb-ne _ _ b in rw (same_at s n) (q.whole s (sym (d.placed s n) ∙ i) m f));
+          (λ b. let bad : true ≡ false = sym m ∙ ap must (eqb-true _ _ b) ∙ unmust in cc)
+          (λ b. let n = eqb-false _ _ b in rw (same_at s n) (q.whole s (sym (d.placed s n) ∙ i) m f));
       passed = λ s i ca seen y yi le ab. on_bool (eqb s r)
-          (λ b. let w : 1 ≤ times r counted = rw (eqb-eq _ _ b) at seen in absurd (omega arith))
-          (λ b. let n = eqb-ne _ _ b in
+          (λ b. let w : 1 ≤ times r counted = rw (eqb-true _ _ b) at seen in absurd (omega arith))
+          (λ b. let n = eqb-false _ _ b in
           let lv : g2.level (g2.at s) ≡ g.level (g.at s) = ap g2.level (d.at s n) ∙ d.tree.level (g.at s) in
           let ly = d.tree.level y in
           let up : g.above y (g.level (g.at s)) ≡ g.at s = sym (d.tree.above y (g.level (g.at s))) ∙ ap (g2.above y) (sym lv) ∙ ab ∙ d.at s n in

@@ -7,16 +7,17 @@ use Rattle.dc_node.specs.Entry.{IsWithRow}
 use Rattle.link_descent.specs.Descend.{IsEntryOf, IsGroupEntry}
 use Rattle.dc_node.specs.declared.block.Block.{Block}
 use Rattle.dc_node.specs.declared.entry.Entry.{Entry}
-use Rattle.tree_shape.specs.Counts.{Each, times}
+use Rattle.list_words.specs.Counts.{Each, times}
+use Rattle.list_words.proofs.Truth.{on_bool}
+use Rattle.std.proofs.lemmas.Bool.{eqb-true, eqb-false, ne_eqb, eq-eqb}
+use Rattle.list_words.proofs.Each.{each-right}
 use Rattle.tree_shape.specs.Shape.{Node, Shape, Table, TreeCells, gate_node, node_of, nodes}
 use Rattle.tree_shape.specs.Steps.{AfterStep, AreApart, AreSpares, IsCarriedAt, IsIdle, IsSpare}
 use Rattle.tree_shape.specs.Trees.{BlockOk, TreeOk}
 use Rattle.tree_shape.proofs.Relations.{Grew, NoneHas, Touch, all_grown}
-use Rattle.tree_shape.proofs.Walks.{on_bool, eqb-eq, eqb-ne, eqb-no, eqb-yes}
 use Rattle.std.specs.Prelude.{Some}
 use Rattle.std.proofs.lemmas.List.{append-nil}
 use Rattle.tree_shape.proofs.Queries.{apart}
-use Rattle.tree_shape.proofs.Parts.{each-right}
 use Rattle.tree_shape.proofs.Contents.{ArePartsOf}
 use Rattle.tree_shape.proofs.Passes.{tree-passed, query-passed, grew-passed, stamps-passed, pass-shape}
 use Rattle.tree_shape.proofs.Downs as J
@@ -69,11 +70,11 @@ module _ (table : Table) (before now : TreeCells) (g : Shape) (r p k top_level :
   -- a cell whose block is as before, but for the parent's
   look-same : (y : ℕ) → y ≢ p → (y ≢ before.gate_cell → now.block y ≡ before.block y) → look3 y ≡ look y
   look-same y yp h = on_bool (eqb y before.gate_cell)
-      (λ q. let z = eqb-eq _ _ q in
+      (λ q. let z = eqb-true _ _ q in
       let a : look3 y ≡ gate_node now.gate = ap look3 (z ∙ sym gate_cell) ∙ node-gate now in
       let b : look y ≡ gate_node before.gate = ap look z ∙ node-gate before in
       a ∙ gate_same (λ w. yp (z ∙ sym w)) ∙ sym b)
-      (λ q. let ne = eqb-ne _ _ q in
+      (λ q. let ne = eqb-false _ _ q in
       node-block now y (λ w. ne (w ∙ gate_cell)) ∙ ap node_of (h ne) ∙ sym (node-block before y ne))
 
   p_in : g.inside p ≡ true
@@ -105,8 +106,8 @@ module _ (table : Table) (before now : TreeCells) (g : Shape) (r p k top_level :
   -- where the row q is after the step
   now_at : (g3 : Shape) (fresh : ℕ → Bool) (x q b : ℕ) → Grew g g3 fresh k k r x → g3.placed q ≡ true → g3.carried q ≡ true → g3.at q ≡ b → ((q ≡ r) × (x ≡ b)) ⊎ ((q ≢ r) × (g.placed q ≡ true) × (g.carried q ≡ true) × (g.at q ≡ b))
   now_at g3 fresh x q b w pq cq aq = on_bool (eqb q r)
-      (λ z. let qr = eqb-eq _ _ z in inl (qr, sym w.at_r ∙ ap g3.at (sym qr) ∙ aq))
-      (λ z. let ne = eqb-ne _ _ z in
+      (λ z. let qr = eqb-true _ _ z in inl (qr, sym w.at_r ∙ ap g3.at (sym qr) ∙ aq))
+      (λ z. let ne = eqb-false _ _ z in
       let p1 = sym (w.placed q) ∙ pq in
       let c1 = sym (w.carried q) ∙ cq in
       inr (ne, p1, c1, sym (w.at q ne p1 c1) ∙ aq))
@@ -138,9 +139,9 @@ module _ (table : Table) (before now : TreeCells) (g : Shape) (r p k top_level :
         shape = g3;
         tree = assemble table now before.gate_cell top_level g g3 (λ y. false) k k r c near (tree-passed g look look3 table k c r tree d) grew low low gate_cell gate_height (λ q ne pq cq. idle q pq cq)
             (λ b bi bg. on_bool (eqb b p)
-            (λ q. let bp = eqb-eq _ _ q in
+            (λ q. let bp = eqb-true _ _ q in
             subst (λ y. BlockOk table g3 y (now.block y)) (sym bp) (parent_ok (λ z. bg (bp ∙ z)) g3 refl (none-at_p g3 (λ y. false) c c_p grew)))
-            (λ q. untouched g3 (λ y. false) c b grew bi bg refl (other b (eqb-ne _ _ q)) (λ z. subst (λ y. is_full (before.block y).body ≡ false) z room)));
+            (λ q. untouched g3 (λ y. false) c b grew bi bg refl (other b (eqb-false _ _ q)) (λ z. subst (λ y. is_full (before.block y).body ≡ false) z room)));
         row = carried-at g g3 (λ y. false) k k r c placed carried grew;
         level = ap (λ l. l + 1) grew.x_level;
         levels = λ y i yg. grew.level y refl;
@@ -185,18 +186,18 @@ module _ (table : Table) (before now : TreeCells) (g : Shape) (r p k top_level :
     -- the blocks, where the row is at x, which is the head or the new block
     blocks : (g3 : Shape) (x : ℕ) → Grew g g3 (λ y. eqb y n) k k r x → (x ≡ c) ⊎ (x ≡ n) → (b : ℕ) → g3.inside b ≡ true → b ≢ before.gate_cell → BlockOk table g3 b (now.block b)
     blocks g3 x w which b bi bg = on_bool (eqb b n)
-        (λ q. let bn = eqb-eq _ _ q in
+        (λ q. let bn = eqb-true _ _ q in
         subst (BlockOk table g3 b) (sym (ap now.block bn ∙ filled))
         (block-part table g g3 c b (before.block c) new c_ok parts.right_kind parts.right_some parts.right_few parts.right_rows parts.right_room ((w.new b q).2 ∙ sym c_at.1)))
         (λ q. let i1 = sym (w.inside b q) ∙ bi in on_bool (eqb b c)
-        (λ q2. let bc = eqb-eq _ _ q2 in
+        (λ q2. let bc = eqb-true _ _ q2 in
         subst (λ y. BlockOk table g3 b (now.block y)) (sym bc)
         (block-part table g g3 c b (before.block c) (now.block c) c_ok parts.left_kind parts.left_some parts.left_few parts.left_rows parts.left_room (w.level b q ∙ ap g.level bc)))
-        (λ q2. let bc = eqb-ne _ _ q2 in on_bool (eqb b p)
-        (λ q3. let bp = eqb-eq _ _ q3 in
-        let xp : x ≢ p = (λ z. elim which [ inl u ↦ c_p (sym u ∙ z) | inr u ↦ eqb-ne b n q (bp ∙ sym z ∙ u) ]) in
+        (λ q2. let bc = eqb-false _ _ q2 in on_bool (eqb b p)
+        (λ q3. let bp = eqb-true _ _ q3 in
+        let xp : x ≢ p = (λ z. elim which [ inl u ↦ c_p (sym u ∙ z) | inr u ↦ eqb-false b n q (bp ∙ sym z ∙ u) ]) in
         subst (λ y. BlockOk table g3 y (now.block y)) (sym bp) (parent_ok (λ z. bg (bp ∙ z)) g3 (subst (λ y. g3.level y ≡ g.level y) bp (w.level b q)) (none-at_p g3 (λ y. eqb y n) x xp w)))
-        (λ q3. untouched g3 (λ y. eqb y n) x b w i1 bg q (other b (eqb-ne _ _ q3) bc (eqb-ne _ _ q)) (λ z. absurd (elim which [ inl u ↦ bc (sym z ∙ u) | inr u ↦ eqb-ne b n q (sym z ∙ u) ])))))
+        (λ q3. untouched g3 (λ y. eqb y n) x b w i1 bg q (other b (eqb-false _ _ q3) bc (eqb-false _ _ q)) (λ z. absurd (elim which [ inl u ↦ bc (sym z ∙ u) | inr u ↦ eqb-false b n q (sym z ∙ u) ])))))
 
     idle-x : (x : ℕ) → (x ≡ c) ⊎ (x ≡ n) → (q : ℕ) → q ≢ r → g.placed q ≡ true → g.carried q ≡ true → g.at q ≢ x
     idle-x x which q ne pq cq aq = elim which [
@@ -205,7 +206,7 @@ module _ (table : Table) (before now : TreeCells) (g : Shape) (r p k top_level :
     ]
 
     inside-off : (g3 : Shape) (x : ℕ) → Grew g g3 (λ y. eqb y n) k k r x → (y : ℕ) → Each (λ (s : Spare). y ≢ s.cell) (spare ∷ []) → g3.inside y ≡ g.inside y
-    inside-off g3 x w y u = w.inside y (eqb-no y n u.0)
+    inside-off g3 x w y u = w.inside y (ne_eqb y n u.0)
 
     keeps : (g3 : Shape) (x : ℕ) → Grew g g3 (λ y. eqb y n) k k r x → ((u : ℕ) → u ≢ t → NoneHas g look u → NoneHas g3 look3 u) → (s : Spare) → Each (AreApart s) (spare ∷ []) → IsSpare g look s → IsSpare g3 look3 s
     keeps g3 x w stamps s u h = record { cell = inside-off g3 x w s.cell (u.0.0, tt) ∙ h.cell; unexpected = stamps s.stamp u.0.1 h.unexpected }
@@ -222,11 +223,11 @@ module _ (table : Table) (before now : TreeCells) (g : Shape) (r p k top_level :
           tree = assemble table now before.gate_cell top_level g g3 (λ y. eqb y n) k k r c near (J.tree-down g look look3 table k c n t r tree d) grew low low gate_cell gate_height (idle-x c (inl refl)) (blocks g3 c grew (inl refl));
           row = carried-at g g3 (λ y. eqb y n) k k r c placed carried grew;
           level = ap (λ l. l + 1) grew.x_level;
-          levels = λ y i yg. grew.level y (eqb-no y n (apart g y n i mine.cell));
+          levels = λ y i yg. grew.level y (ne_eqb y n (apart g y n i mine.cell));
           used = spare ∷ [];
           purse_is = purse_is;
           inside = inside-off g3 c grew;
-          filled = ((grew.new n (eqb-yes n n refl)).1, tt);
+          filled = ((grew.new n (eq-eqb n n refl)).1, tt);
           spares = keep;
           own = own-spares g g3 look look3 (spare ∷ []) purse_now keep (subst (AreSpares g look) purse_is spares);
           queries = λ must fits items counted u fresh h. record {
@@ -253,11 +254,11 @@ module _ (table : Table) (before now : TreeCells) (g : Shape) (r p k top_level :
           tree = assemble table now before.gate_cell top_level g g3 (λ y. eqb y n) k k r x near (S.tree-split g look look3 table k c n t r x a b e tree d) grew low low gate_cell gate_height (idle-x x which) (blocks g3 x grew which);
           row = carried-at g g3 (λ y. eqb y n) k k r x placed carried grew;
           level = ap (λ l. l + 1) grew.x_level;
-          levels = λ y i yg. grew.level y (eqb-no y n (apart g y n i mine.cell));
+          levels = λ y i yg. grew.level y (ne_eqb y n (apart g y n i mine.cell));
           used = spare ∷ [];
           purse_is = purse_is;
           inside = inside-off g3 x grew;
-          filled = ((grew.new n (eqb-yes n n refl)).1, tt);
+          filled = ((grew.new n (eq-eqb n n refl)).1, tt);
           spares = keep;
           own = own-spares g g3 look look3 (spare ∷ []) purse_now keep (subst (AreSpares g look) purse_is spares);
           queries = λ must fits items counted u fresh h. record {

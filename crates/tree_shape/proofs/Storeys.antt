@@ -1,27 +1,25 @@
 -- A level more over a shape whose blocks are each alone in its group
 use Rattle.std.proofs.Common.{◌≡◌, ◌≢◌, ℕ, ◌+◌, ◌<◌, ◌≤◌, true, false, cond, eqb, leb, List, [], ◌∷◌, refl, sym, ap, ◌∙◌, subst, arith}
 use Rattle.dc_node.specs.declared.entry.Entry.{Entry}
-use Rattle.tree_shape.specs.Counts.{Each, same, times, total}
+use Rattle.list_words.specs.Counts.{Each, same, times, total}
+use Rattle.list_words.proofs.Truth.{on_bool, eqb-self}
+use Rattle.std.proofs.lemmas.Bool.{eqb-true, eqb-false, ne_eqb, leb-false, le-leb, leb-true}
+use Rattle.list_words.proofs.Times.{same_is, same_not}
+use Rattle.list_words.proofs.Each.{each-map}
 use Rattle.tree_shape.specs.Shape.{Node, Shape, ShapeOk, Table}
 use Rattle.tree_shape.specs.Trees.{EntryOk, TreeOk}
 use Rattle.tree_shape.specs.Walks.{IsTail, beneath, noted_of}
 use Rattle.tree_shape.proofs.Relations.{all_below}
-use Rattle.tree_shape.proofs.Walks.{on_bool, eqb-eq, eqb-ne, eqb-no, eqb-self, same_is, same_not}
-use Rattle.tree_shape.proofs.Queries.{leb-le, leb-gt, leb-true, reach-low}
-use Rattle.tree_shape.proofs.Divisions.{each-map, sums-low, sums-out}
+use Rattle.tree_shape.proofs.Queries.{reach-low}
+use Rattle.tree_shape.proofs.Divisions.{sums-low, sums-out}
 use Rattle.tree_shape.proofs.Groups.{times-all_below}
 use Rattle.tree_shape.proofs.Trees.{spans-same}
+use Rattle.list_words.proofs.Totals.{total-has}
 
 -- the first of the list at which k is not 0
 abbrev pub pick : (ℕ → ℕ) → List ℕ → ℕ
 pick k [] = 0
 pick k (x ∷ xs) = cond (leb 1 (k x)) x (pick k xs)
-
-pub total-has : (k : ℕ → ℕ) (b : ℕ) (xs : List ℕ) → 1 ≤ times b xs → k b ≤ total k xs
-total-has k b [] h = absurd (omega arith)
-total-has k b (x ∷ xs) h = on_bool (eqb b x)
-    (λ q. let e = ap k (eqb-eq _ _ q) in omega arith)
-    (λ q. let z = same_not b x (eqb-ne _ _ q) in let ih = total-has k b xs (omega arith) in omega arith)
 
 pick-here : (k : ℕ → ℕ) (x : ℕ) (xs : List ℕ) → leb 1 (k x) ≡ true → pick k (x ∷ xs) ≡ x
 pick-here k x xs q = rw q refl
@@ -33,30 +31,30 @@ pub pick-in : (k : ℕ → ℕ) (xs : List ℕ) → 1 ≤ total k xs → 1 ≤ t
 pick-in k [] h = absurd (omega arith)
 pick-in k (x ∷ xs) h = on_bool (leb 1 (k x))
     (λ q. let o = same_is x x refl in subst (λ (w : ℕ). 1 ≤ times w (x ∷ xs)) (sym (pick-here k x xs q)) (omega arith))
-    (λ q. let z = leb-gt _ _ q in let ih = pick-in k xs (omega arith) in subst (λ (w : ℕ). 1 ≤ times w (x ∷ xs)) (sym (pick-past k x xs q)) (omega arith))
+    (λ q. let z = leb-false _ _ q in let ih = pick-in k xs (omega arith) in subst (λ (w : ℕ). 1 ≤ times w (x ∷ xs)) (sym (pick-past k x xs q)) (omega arith))
 
 -- where it is not 0 once in all, it is the one of the list at which it is 1
 pub pick-is : (k : ℕ → ℕ) (xs : List ℕ) (b : ℕ) → total k xs ≡ 1 → ((y : ℕ) → times y xs ≤ 1) → 1 ≤ times b xs → k b ≡ same (pick k xs) b
 pick-is k [] b one once h = absurd (omega arith)
 pick-is k (x ∷ xs) b one once h = on_bool (leb 1 (k x))
-    (λ q. let le = leb-le _ _ q in rw (pick-here k x xs q) (on_bool (eqb b x)
-    (λ w. let e = eqb-eq _ _ w in let s = same_is x b (sym e) in let kb = ap k e in omega arith)
-    (λ w. let ne = eqb-ne _ _ w in
+    (λ q. let le = leb-true _ _ q in rw (pick-here k x xs q) (on_bool (eqb b x)
+    (λ w. let e = eqb-true _ _ w in let s = same_is x b (sym e) in let kb = ap k e in omega arith)
+    (λ w. let ne = eqb-false _ _ w in
     let s = same_not x b (λ z. ne (sym z)) in
     let z = same_not b x ne in
     let t = total-has k b xs (omega arith) in
     omega arith)))
-    (λ q. let gt = leb-gt _ _ q in
+    (λ q. let gt = leb-false _ _ q in
     let i = pick-in k xs (omega arith) in
     rw (pick-past k x xs q) (on_bool (eqb b x)
-    (λ w. let e = eqb-eq _ _ w in
+    (λ w. let e = eqb-true _ _ w in
     let kb = ap k e in
     let o = once x in
     let xx = same_is x x refl in
     let ne : pick k xs ≢ b = (λ z. let a : times (pick k xs) xs ≡ times x xs = ap (λ y. times y xs) (z ∙ e) in absurd (omega arith)) in
     let s = same_not (pick k xs) b ne in
     omega arith)
-    (λ w. let z = same_not b x (eqb-ne _ _ w) in pick-is k xs b (omega arith) (λ y. let o = once y in omega arith) (omega arith))))
+    (λ w. let z = same_not b x (eqb-false _ _ w) in pick-is k xs b (omega arith) (λ y. let o = once y in omega arith) (omega arith))))
 
 -- how many entries of a block lead to a cell
 abbrev pub leads : (ℕ → Node) → ℕ → ℕ → ℕ
@@ -97,13 +95,13 @@ module _ (g : Shape) (look look2 : ℕ → Node) (table : Table) (l : ℕ) (up :
   g2 = storey g look2 l up
 
   is-new : (y : ℕ) → 1 ≤ times y up → leb 1 (times y up) ≡ true
-  is-new y n = leb-true _ _ n
+  is-new y n = le-leb _ _ n
 
   not-new : (y : ℕ) → g.inside y ≡ true → leb 1 (times y up) ≡ false
-  not-new y i = on_bool (leb 1 (times y up)) (λ q. let z : true ≡ false = sym i ∙ d.fresh y (leb-le _ _ q) in cc) (λ q. q)
+  not-new y i = on_bool (leb 1 (times y up)) (λ q. let z : true ≡ false = sym i ∙ d.fresh y (leb-true _ _ q) in cc) (λ q. q)
 
   pub sorts : {P : Type 0} → (y : ℕ) → g2.inside y ≡ true → (1 ≤ times y up → P) → (g.inside y ≡ true → P) → P
-  sorts y i a b = on_bool (leb 1 (times y up)) (λ q. a (leb-le _ _ q)) (λ q. b (rw q at i))
+  sorts y i a b = on_bool (leb 1 (times y up)) (λ q. a (leb-true _ _ q)) (λ q. b (rw q at i))
 
   pub inside-new : (y : ℕ) → 1 ≤ times y up → g2.inside y ≡ true
   inside-new y n = rw (is-new y n) refl
@@ -127,7 +125,7 @@ module _ (g : Shape) (look look2 : ℕ → Node) (table : Table) (l : ℕ) (up :
   below-old y i = rw (not-new y i) refl
 
   above-low : (y m : ℕ) → g.inside y ≡ true → m ≤ l → g2.above y m ≡ g.above y m
-  above-low y m i le = rw (not-new y i, eqb-no m (l + 1) (omega arith)) refl
+  above-low y m i le = rw (not-new y i, ne_eqb m (l + 1) (omega arith)) refl
 
   above-top : (y : ℕ) → g.inside y ≡ true → g2.above y (l + 1) ≡ pick (leads look2 (g.above y l)) up
   above-top y i = rw (not-new y i, eqb-self (l + 1)) refl
@@ -148,11 +146,11 @@ module _ (g : Shape) (look look2 : ℕ → Node) (table : Table) (l : ℕ) (up :
       let e : m ≡ l + 1 = omega arith in
       (ap g2.inside (above-new y m n) ∙ inside-new y n, ap g2.level (above-new y m n) ∙ a ∙ sym e))
       (λ o. let a = level-old y o in on_bool (eqb m (l + 1))
-      (λ q. let e = eqb-eq _ _ q in
+      (λ q. let e = eqb-true _ _ q in
       let p = parent-in y o in
       let u : g2.above y m ≡ pick (leads look2 (g.above y l)) up = ap (g2.above y) e ∙ above-top y o in
       (ap g2.inside u ∙ inside-new _ p, ap g2.level u ∙ level-new _ p ∙ sym e))
-      (λ q. let ne = eqb-ne _ _ q in
+      (λ q. let ne = eqb-false _ _ q in
       let hh = d.height in
       let h = d.tree.shape.higher y m o (omega arith) (omega arith) in
       let u = above-low y m o (omega arith) in
@@ -162,21 +160,21 @@ module _ (g : Shape) (look look2 : ℕ → Node) (table : Table) (l : ℕ) (up :
   coherent y m n i le mn lt = sorts y i
       (λ w. ap (λ (z : ℕ). g2.above z n) (above-new y m w))
       (λ o. let a = level-old y o in on_bool (eqb m (l + 1))
-      (λ q. let e = eqb-eq _ _ q in
+      (λ q. let e = eqb-true _ _ q in
       let en : n ≡ m = omega arith in
       let p = parent-in y o in
       let u : g2.above y m ≡ pick (leads look2 (g.above y l)) up = ap (g2.above y) e ∙ above-top y o in
       ap (λ (z : ℕ). g2.above z n) u ∙ above-new _ n p ∙ sym u ∙ ap (g2.above y) (sym en))
-      (λ q. let ne = eqb-ne _ _ q in
+      (λ q. let ne = eqb-false _ _ q in
       let hh = d.height in
       let ml : m ≤ l = omega arith in
       let h = d.tree.shape.higher y m o (omega arith) (omega arith) in
       ap (λ (z : ℕ). g2.above z n) (above-low y m o ml) ∙ on_bool (eqb n (l + 1))
-      (λ z. let e = eqb-eq _ _ z in
+      (λ z. let e = eqb-true _ _ z in
       ap (g2.above (g.above y m)) e ∙ above-top _ h.0
       ∙ ap (λ (w : ℕ). pick (leads look2 w) up) (d.tree.shape.coherent y m l o (omega arith) ml (omega arith))
       ∙ sym (above-top y o) ∙ ap (g2.above y) (sym e))
-      (λ z. let nz = eqb-ne _ _ z in
+      (λ z. let nz = eqb-false _ _ z in
       above-low _ n h.0 (omega arith) ∙ d.tree.shape.coherent y m n o (omega arith) mn (omega arith) ∙ sym (above-low y n o (omega arith)))))
 
   shape-storey : ShapeOk g2
@@ -219,8 +217,8 @@ module _ (g : Shape) (look look2 : ℕ → Node) (table : Table) (l : ℕ) (up :
           walks = ([], refl, ap (λ (x : Node). x.stamp) (d.kept e.child c.0) ∙ stamp-of k e w);
           low = omega arith;
           cells = λ y on. on_bool (eqb y e.child)
-              (λ q. let is = eqb-eq _ _ q in rw is (inside-old e.child c.0, level-old e.child c.0 ∙ c.1))
-              (λ q. let o = same_not y e.child (eqb-ne _ _ q) in absurd (omega arith));
+              (λ q. let is = eqb-true _ _ q in rw is (inside-old e.child c.0, level-old e.child c.0 ∙ c.1))
+              (λ q. let o = same_not y e.child (eqb-false _ _ q) in absurd (omega arith));
         };
         members = λ y i lv. omega arith;
         rows = λ r. ap (times r) (below-old e.child c.0) ∙ w.rows r ∙ sym (beneath-old k e r le);

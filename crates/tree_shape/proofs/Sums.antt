@@ -11,11 +11,11 @@ use Rattle.dc_node.specs.Entry.{IsWithRow}
 use Rattle.dc_node.specs.declared.block.Block.{Block}
 use Rattle.dc_node.specs.declared.entry.Entry.{Entry}
 use Rattle.dim_hierarchy.specs.declared.row.Row.{Row}
-use Rattle.tree_shape.specs.Counts.{Each}
+use Rattle.list_words.specs.Counts.{Each}
+use Rattle.std.proofs.lemmas.Bool.{eqb-true}
+use Rattle.list_words.proofs.Each.{all-each}
 use Rattle.tree_shape.specs.Shape.{Shape, Table, node_of, numbers}
-use Rattle.tree_shape.proofs.Relations.{IsSumOf, all_below, rows_of}
-use Rattle.tree_shape.proofs.Walks.{eqb-eq}
-use Rattle.tree_shape.proofs.Parts.{all-each}
+use Rattle.tree_shape.proofs.Relations.{IsSumOf, all_below, block_rows}
 use Rattle.std.specs.List.{AllZip, flat_map}
 use Rattle.std.proofs.lemmas.List.{map-append}
 use Rattle.describing_set.specs.DescSet.{IsSetOf}
@@ -45,7 +45,7 @@ coords-valid table (n ∷ ns) v =
 pub sum-row : (table : Table) (r : ℕ) (ns : List ℕ) (e f : Entry) → IsRowOf table.hierarchy (table.row r) → IsWithRow table.hierarchy (table.row r) e f → IsSumOf table ns e → IsSumOf table (r ∷ ns) f
 sum-row table r ns e f v w s = record {
   valid = All-cons (IsRowOf table.hierarchy) (table.row r) (map table.row ns) v s.valid;
-  agg = w.agg ∙ ap (λ a. join a (one (table.row r).measure)) s.agg ∙ join_commutative (agg (map table.row ns)) (one (table.row r).measure) ∙ sym (agg-append (table.row r ∷ []) (map table.row ns) ∙ ap (λ a. join a (agg (map table.row ns))) (join_empty_right (one (table.row r).measure)));
+  agg = w.agg ∙ ap (λ a. join a (one (table.row r).measures)) s.agg ∙ join_commutative (agg (map table.row ns)) (one (table.row r).measures) ∙ sym (agg-append (table.row r ∷ []) (map table.row ns) ∙ ap (λ a. join a (agg (map table.row ns))) (join_empty_right (one (table.row r).measures)));
   set_of = w.grown.grown (coords (map table.row ns)) (coords-valid table ns s.valid) s.set_of;
 }
 
@@ -107,10 +107,10 @@ sum-below g table es e w a u = record {
 -- the items of a block on level k
 pub sum-block : (g : Shape) (table : Table) (k : ℕ) (block : Block) (e : Entry) → is_leaf block.body ≡ eqb k 0
     → Each (λ r. table.row r.no ≡ r) (rows_in block.body) → (k ≡ 0 → Each (IsRowOf table.hierarchy) (rows_in block.body)) → Each (λ x. IsSumOf table (g.below x.child) x) (entries_in block.body)
-    → IsSummary table.hierarchy block.body e.agg e.set → IsSumOf table (rows_of g (node_of block) k) e
+    → IsSummary table.hierarchy block.body e.agg e.set → IsSumOf table (block_rows g (node_of block) k) e
 sum-block g table k block e kind named valid sums s = go block.body kind named valid sums s
   where
     go : (body : Body) → is_leaf body ≡ eqb k 0 → Each (λ r. table.row r.no ≡ r) (rows_in body) → (k ≡ 0 → Each (IsRowOf table.hierarchy) (rows_in body)) → Each (λ x. IsSumOf table (g.below x.child) x) (entries_in body)
         → IsSummary table.hierarchy body e.agg e.set → IsSumOf table (cond (eqb k 0) (numbers (rows_in body)) (all_below g (entries_in body))) e
-    go (Rows rows) kind named valid sums s = rw (sym kind) (sum-leaf table rows.items e named (valid (eqb-eq k 0 (sym kind))) s.0 s.1)
+    go (Rows rows) kind named valid sums s = rw (sym kind) (sum-leaf table rows.items e named (valid (eqb-true k 0 (sym kind))) s.0 s.1)
     go (Entries entries) kind named valid sums s = rw (sym kind) (sum-below g table entries.items e sums s.0 s.1)

@@ -6,13 +6,15 @@ use Rattle.measure_agg.specs.Aggregate.{agg}
 use Rattle.dc_node.specs.Block.{rows_in}
 use Rattle.dc_node.specs.declared.entry.Entry.{Entry}
 use Rattle.dc_node.specs.declared.todo.Item.{Item}
-use Rattle.tree_shape.specs.Counts.{Each, times}
+use Rattle.list_words.specs.Counts.{Each, times}
+use Rattle.list_words.proofs.Truth.{on_bool}
+use Rattle.std.proofs.lemmas.Bool.{eqb-true}
+use Rattle.list_words.proofs.Times.{same_is}
 use Rattle.tree_shape.specs.Queries.{IsUnfinished, fits}
 use Rattle.tree_shape.specs.Shape.{Node, Shape, Table, TreeCells, nodes, numbers}
 use Rattle.tree_shape.specs.Tables.{AfterTable, AreAlike, IsThere, IsThereOrCounted}
 use Rattle.tree_shape.specs.Trees.{BlockOk, EntryOk, IsTree, lies}
 use Rattle.tree_shape.specs.Walks.{beneath, noted_of}
-use Rattle.tree_shape.proofs.Walks.{on_bool, eqb-eq, same_is}
 use Rattle.tree_shape.proofs.Assembled.{no-rows, node-block}
 
 rows-alike : (of : ℕ → Type 0) (table other : Table) → AreAlike of table other → (ns : List ℕ) → ((r : ℕ) → 1 ≤ times r ns → of r) → map other.row ns ≡ map table.row ns
@@ -54,7 +56,7 @@ module _ (table other : Table) (g : Shape) (a : AreAlike (IsThere g) table other
         some = ok.some;
         few = ok.few;
         rows = on_bool (eqb (g.level b) 0)
-            (λ z. named-alike (rows_in (cells.block b).body) (λ q k. there q (let t = tree.tree.leaves b bi (eqb-eq _ _ z) q in let s = ap (λ (x : Node). times q x.rows) (node-block cells b bg) in omega arith)) ok.rows)
+            (λ z. named-alike (rows_in (cells.block b).body) (λ q k. there q (let t = tree.tree.leaves b bi (eqb-true _ _ z) q in let s = ap (λ (x : Node). times q x.rows) (node-block cells b bg) in omega arith)) ok.rows)
             (λ z. let none : rows_in (cells.block b).body ≡ [] = no-rows (cells.block b).body (ok.kind ∙ z) in subst (Each (λ r. other.row r.no ≡ r)) (sym none) tt);
         room = ok.room;
       }

@@ -5,11 +5,13 @@ use Rattle.dim_hierarchy.specs.Dimension.{Dimension}
 use Rattle.dc_node.specs.declared.block.Block.{Block}
 use Rattle.dc_node.specs.declared.entry.Entry.{Entry}
 use Rattle.link_descent.specs.Divide.{ends_with, IsCutInTwo, IsCutByHead}
-use Rattle.tree_shape.specs.Counts.{Each, same, times}
+use Rattle.list_words.specs.Counts.{same, times}
+use Rattle.list_words.proofs.Truth.{on_bool}
+use Rattle.std.proofs.lemmas.Bool.{eqb-true, eqb-false, ne_eqb, eq-eqb}
+use Rattle.list_words.proofs.Times.{same_is, same_not, same-le}
 use Rattle.tree_shape.specs.Shape.{Node, Shape, Table, node_of}
 use Rattle.tree_shape.specs.Trees.{EntryOk, cells_behind}
 use Rattle.tree_shape.specs.Walks.{IsNoted, IsTail, IsWalk}
-use Rattle.tree_shape.proofs.Walks.{on_bool, eqb-eq, eqb-ne, eqb-no, eqb-yes, same_is, same_not, same-le}
 
 -- a block of the tail of the head c
 pub record IsInTail (g : Shape) (k c : ℕ) (tail : List ℕ) (y : ℕ) : Type 0 where
@@ -57,15 +59,8 @@ module _ (g : Shape) (look : ℕ → Node) (table : Table) (k c : ℕ) (tail : L
         level = w.1;
         apart = yc;
         once = omega arith;
-        head = on_bool (eqb (g.head y) c) (λ q. eqb-eq _ _ q) (λ q. let n = same_not (g.head y) c (eqb-ne _ _ q) in absurd (omega arith));
+        head = on_bool (eqb (g.head y) c) (λ q. eqb-true _ _ q) (λ q. let n = same_not (g.head y) c (eqb-false _ _ q) in absurd (omega arith));
       }
-
--- what holds of each cell of a list
-pub each-cell : (P : ℕ → Type 0) (ws : List ℕ) → ((y : ℕ) → 1 ≤ times y ws → P y) → Each P ws
-each-cell P [] f = tt
-each-cell P (y ∷ ys) f =
-    let o = same_is y y refl in
-    (f y (omega arith), each-cell P ys (λ z h. f z (omega arith)))
 
 -- what is left of a walk behind its first block
 pub walk-behind : (look : ℕ → Node) (c n s : ℕ) (ws : List ℕ) → IsWalk look c s (c ∷ n ∷ ws) → IsTail look s n ws
@@ -101,7 +96,7 @@ tail-whole look block s y (a ∷ []) f h e = refl
 tail-whole look block s y (a ∷ b ∷ []) f h e = refl
 tail-whole look block s y (a ∷ b ∷ c ∷ more) f h e =
     let o = same_is b b refl in
-    let last : (block b).stamp ≡ s = eqb-eq _ _ e in
+    let last : (block b).stamp ≡ s = eqb-true _ _ e in
     absurd (h.2.2.0 (f b (omega arith) ∙ last))
 
 -- the blocks that a cut leaves behind the new one are the head's tail
@@ -118,9 +113,9 @@ behind-cut h look block s c cells zs head now new cell stamp behind e f w is cut
 pub tail-found : (look : ℕ → Node) (block : ℕ → Block) (s n y : ℕ) (zs : List ℕ) → look y ≡ node_of (block y) → ((z : ℕ) → 1 ≤ times z zs → look z ≡ node_of (block z)) → IsTail look s y zs
     → take n zs ≡ cells_behind block s n y
 tail-found look block s zero y zs e f h = refl
-tail-found look block s (suc n) y [] e f h = rw (eqb-yes (block y).stamp s (sym (ap (λ (b : Node). b.stamp) e) ∙ h)) refl
+tail-found look block s (suc n) y [] e f h = rw (eq-eqb (block y).stamp s (sym (ap (λ (b : Node). b.stamp) e) ∙ h)) refl
 tail-found look block s (suc n) y (z ∷ zs) e f h =
     let o = same_is z z refl in
     let right : (block y).right ≡ Some z = sym (ap (λ (b : Node). b.right) e) ∙ h.1 in
     let stamp : (block y).stamp ≢ s = λ q. h.0 (ap (λ (b : Node). b.stamp) e ∙ q) in
-    rw (eqb-no (block y).stamp s stamp, right) (ap (λ (ws : List ℕ). z ∷ ws) (tail-found look block s n z zs (f z (omega arith)) (λ x i. f x (omega arith)) h.2))
+    rw (ne_eqb (block y).stamp s stamp, right) (ap (λ (ws : List ℕ). z ∷ ws) (tail-found look block s n z zs (f z (omega arith)) (λ x i. f x (omega arith)) h.2))

@@ -3,7 +3,7 @@ use Rattle.std.proofs.Common.{◌≡◌, ◌≢◌, ℕ, zero, suc, ◌+◌, ◌
 use Rattle.std.specs.Prelude.{All, Contains, IsSome, Some, slice_get}
 use Rattle.std.proofs.lemmas.List.Elements.{All-nil, All-cons}
 use Rattle.std.proofs.lemmas.List.Sorted.{IsPermutation-middle}
-use Rattle.std.proofs.lemmas.List.{map-append, length-map, take-append-drop}
+use Rattle.std.proofs.lemmas.List.{map-append, length-map, take-append-drop, length-append}
 use Rattle.dim_hierarchy.specs.Dimension.{IsHierarchy}
 use Rattle.dim_hierarchy.specs.Rows.{IsRowOf}
 use Rattle.dim_hierarchy.specs.declared.row.Coord.{Coord}
@@ -21,55 +21,27 @@ use Rattle.dc_node.specs.declared.block.Body.TheVariants.{Rows, Entries}
 use Rattle.shard_store.specs.Gate.{root_entry}
 use Rattle.dc_node.specs.declared.entry.Entry.{Entry}
 use Rattle.dc_node.specs.declared.todo.Item.{Item}
-use Rattle.tree_shape.specs.Counts.{Each, same, times, total}
+use Rattle.list_words.specs.Counts.{Each, times, total}
+use Rattle.list_words.proofs.Truth.{on_bool}
+use Rattle.std.proofs.lemmas.Bool.{eqb-true, eqb-false, leb-true, leb-false}
+use Rattle.list_words.proofs.Times.{same_is, same-le, each-times, length-le, split-at, times-split}
+use Rattle.list_words.proofs.Each.{each-map, all-each, each-left}
 use Rattle.tree_shape.specs.Queries.{IsUnfinished}
 use Rattle.tree_shape.specs.Shape.{Node, Shape, Table, TreeCells, node_of, nodes, numbers}
 use Rattle.tree_shape.specs.Trees.{BlockFits, BlockOk, DirOk, EntryOk, HasBehind, IsBehind, IsBelow, IsTree, cells_behind, lies}
 use Rattle.tree_shape.specs.Walks.{AreNoted, IsNoted, IsTail, noted_of, reach}
 use Rattle.tree_shape.proofs.Relations.{all_below}
-use Rattle.tree_shape.proofs.Walks.{on_bool, eqb-eq, eqb-ne, same_is, same_not, same-le}
 use Rattle.tree_shape.proofs.Sums.{coords-valid}
-use Rattle.tree_shape.proofs.Queries.{reach-low, leb-le, leb-gt}
-use Rattle.tree_shape.proofs.Visits.{times-append, spans}
+use Rattle.tree_shape.proofs.Queries.{reach-low}
+use Rattle.tree_shape.proofs.Visits.{spans}
 use Rattle.tree_shape.proofs.Lands.{leaf-valid}
 use Rattle.tree_shape.proofs.Onto.{child_in, child_head, entry_ok}
-use Rattle.tree_shape.proofs.Tails.{IsInTail, behind-head, each-cell, tail-found}
+use Rattle.tree_shape.proofs.Tails.{IsInTail, behind-head, tail-found}
 use Rattle.tree_shape.proofs.Readings.{contains-row, last-noted, noted-right}
-use Rattle.tree_shape.proofs.Divisions.{each-map, sums-low, sums-high, sums-out}
+use Rattle.tree_shape.proofs.Divisions.{sums-low, sums-high, sums-out}
 use Rattle.tree_shape.proofs.Groups.{times-all_below}
-use Rattle.tree_shape.proofs.Parts.{all-each, around, each-left}
-use Rattle.tree_shape.proofs.Descends.{length-plus}
+use Rattle.tree_shape.proofs.Parts.{around}
 use Rattle.tree_shape.proofs.Assembled.{node-block, node-gate, has-entries, root-at}
-
--- a list around one of its numbers
-record IsSplit (n : ℕ) (ms : List ℕ) : Type 0 where
-  front : List ℕ
-  back : List ℕ
-  is : ms ≡ front ++ n ∷ back
-
-split-at : (n : ℕ) (ms : List ℕ) → 1 ≤ times n ms → IsSplit n ms
-split-at n [] h = absurd (omega arith)
-split-at n (m ∷ ms) h = on_bool (eqb n m)
-    (λ q. let e = eqb-eq _ _ q in record { front = []; back = ms; is = ap (λ x. x ∷ ms) (sym e) })
-    (λ q. let z = same_not n m (eqb-ne _ _ q) in
-    let w = split-at n ms (omega arith) in
-    record { front = m ∷ w.front; back = w.back; is = ap (λ xs. m ∷ xs) w.is })
-
-times-split : (n r : ℕ) (front back : List ℕ) → times r (front ++ n ∷ back) ≡ same r n + times r (front ++ back)
-times-split n r front back = omega (arith, times-append r front (n ∷ back), times-append r front back)
-
--- a list that has no number oftener than another one isn't longer
-pub length-le : (xs ys : List ℕ) → ((r : ℕ) → times r xs ≤ times r ys) → length xs ≤ length ys
-length-le [] ys h = omega arith
-length-le (x ∷ xs) ys h =
-    let a = h x in
-    let o = same_is x x refl in
-    let w = split-at x ys (omega arith) in
-    let ih = length-le xs (w.front ++ w.back) (λ r. let b = h r in let y = ap (times r) w.is in let z = times-split x r w.front w.back in omega arith) in
-    let e = ap length w.is in
-    let p = length-plus w.front (x ∷ w.back) in
-    let q = length-plus w.front w.back in
-    omega arith
 
 pub agg-times : (table : Table) (ns ms : List ℕ) → ((r : ℕ) → times r ns ≡ times r ms) → agg (map table.row ns) ≡ agg (map table.row ms)
 agg-times table [] [] h = refl
@@ -128,7 +100,7 @@ joined-below g [] h = refl
 joined-below g (e ∷ es) h =
     let one = h.0 in
     let rest = joined-below g es h.1 in
-    let both = length-plus (g.below e.child) (all_below g es) in
+    let both = length-append (g.below e.child) (all_below g es) in
     omega arith
 
 module _ (table : Table) (cells : TreeCells) (g : Shape) (tree : IsTree table cells g) where
@@ -238,7 +210,7 @@ module _ (table : Table) (cells : TreeCells) (g : Shape) (tree : IsTree table ce
         let dr = tree.tree.dirs b k bi bl in
         on_bool (g.placed r)
         (λ p. rw p (on_bool (leb (g.level (g.at r)) k)
-        (λ q. let le = leb-le _ _ q in
+        (λ q. let le = leb-true _ _ q in
         let si = tree.tree.shape.stands r p in
         let top = tree.tree.shape.below b bi in
         let u = tree.tree.shape.higher (g.at r) k si le (omega arith) in
@@ -246,7 +218,7 @@ module _ (table : Table) (cells : TreeCells) (g : Shape) (tree : IsTree table ce
         let e = dr.each (g.above (g.at r) k) u.0 u.1 in
         let s = same-le (g.above (g.above (g.at r) k) (k + 1)) b in
         omega arith)
-        (λ q. let a = sums-high g (nodes cells) table k r (nodes cells b).entries dr.entries p (leb-gt _ _ q) in omega arith)))
+        (λ q. let a = sums-high g (nodes cells) table k r (nodes cells b).entries dr.entries p (leb-false _ _ q) in omega arith)))
         (λ p. rw p (let a = sums-out g (nodes cells) table k r (nodes cells b).entries dr.entries p in omega arith))
 
     dir-fits : (k : ℕ) → g.level b ≡ k + 1 → (body : Body) → (cells.block b).body ≡ body → is_leaf body ≡ false → IsBodyOf table.hierarchy body × (row_count body ≤ cells.gate.agg.count) × All (λ e. e.agg.count ≤ cells.gate.agg.count) (entries_in body)
@@ -263,8 +235,8 @@ module _ (table : Table) (cells : TreeCells) (g : Shape) (tree : IsTree table ce
     block-fits =
         let all : IsBodyOf table.hierarchy (cells.block b).body × (row_count (cells.block b).body ≤ cells.gate.agg.count) × All (λ e. e.agg.count ≤ cells.gate.agg.count) (entries_in (cells.block b).body) =
         on_bool (eqb (g.level b) 0)
-        (λ q. leaf-fits (eqb-eq _ _ q) (cells.block b).body refl (ok.kind ∙ q))
-        (λ q. let ne = eqb-ne _ _ q in dir-fits (g.level b - 1) (omega arith) (cells.block b).body refl (ok.kind ∙ q)) in
+        (λ q. leaf-fits (eqb-true _ _ q) (cells.block b).body refl (ok.kind ∙ q))
+        (λ q. let ne = eqb-false _ _ q in dir-fits (g.level b - 1) (omega arith) (cells.block b).body refl (ok.kind ∙ q)) in
         record { body = all.0; count = all.1; entries = all.2 }
 
 -- a block links on where its walk goes on
@@ -292,7 +264,7 @@ pub leads-down : (table : Table) (cells : TreeCells) (g : Shape) (b place : ℕ)
     → slice_get (entries_in (cells.block b).body) place ≡ Some e → IsBelow cells g e.child (g.level b)
 leads-down table cells g b place e t bi bg at =
     let w = around (entries_in (cells.block b).body) place e at in
-    let ne = eqb-ne (g.level b) 0 (sym (t.blocks b bi bg).kind ∙ has-entries (cells.block b).body place e at) in
+    let ne = eqb-false (g.level b) 0 (sym (t.blocks b bi bg).kind ∙ has-entries (cells.block b).body place e at) in
     let up : g.level b ≡ (g.level b - 1) + 1 = omega arith in
     let is : (nodes cells b).entries ≡ w.front ++ e ∷ w.back = ap (λ (x : Node). x.entries) (node-block cells b bg) ∙ w.is in
     let c = child_in g (nodes cells) table t.tree b (g.level b - 1) bi up e w.front w.back is in
@@ -341,7 +313,7 @@ module _ (table : Table) (cells : TreeCells) (g : Shape) (t : IsTree table cells
       record {
         found = ap (λ (ws : List ℕ). take n (drop 1 ws)) ok.group.walks.1 ∙ is;
         behind = subst (Each (IsBehind cells g e.child)) is (each-left (IsBehind cells g e.child) (take n tail) (drop n tail)
-            (subst (Each (IsBehind cells g e.child)) (sym (take-append-drop n tail)) (each-cell (IsBehind cells g e.child) tail (λ y h.
+            (subst (Each (IsBehind cells g e.child)) (sym (take-append-drop n tail)) (each-times (IsBehind cells g e.child) tail (λ y h.
             let o = in-tail y h in
             record { inside = o.inside; block = off-gate y o.level; apart = o.apart; level = o.level ∙ sym at-head.1; head = o.head }))));
       }
@@ -356,7 +328,7 @@ pub entry-leads : (table : Table) (cells : TreeCells) (g : Shape) (b place : ℕ
     → slice_get (entries_in (cells.block b).body) place ≡ Some e → LeadsTo table cells g e
 entry-leads table cells g b place e t bi bg at =
     let w = around (entries_in (cells.block b).body) place e at in
-    let ne = eqb-ne (g.level b) 0 (sym (t.blocks b bi bg).kind ∙ has-entries (cells.block b).body place e at) in
+    let ne = eqb-false (g.level b) 0 (sym (t.blocks b bi bg).kind ∙ has-entries (cells.block b).body place e at) in
     let up : g.level b ≡ (g.level b - 1) + 1 = omega arith in
     let is : (nodes cells b).entries ≡ w.front ++ e ∷ w.back = ap (λ (x : Node). x.entries) (node-block cells b bg) ∙ w.is in
     let bb = t.tree.shape.below b bi in

@@ -1,18 +1,16 @@
 -- A query visits a block
 use Rattle.std.proofs.Common.{◌≡◌, ◌≢◌, ℕ, ◌+◌, ◌<◌, ◌≤◌, Bool, true, false, leb, eqb, List, [], ◌∷◌, ◌++◌, refl, sym, ap, ◌∙◌, arith}
 use Rattle.dc_node.specs.declared.entry.Entry.{Entry}
-use Rattle.tree_shape.specs.Counts.{Each, same, times, total}
+use Rattle.list_words.specs.Counts.{Each, same, times, total}
+use Rattle.list_words.proofs.Truth.{on_bool}
+use Rattle.list_words.proofs.Times.{same_not, times-append}
+use Rattle.std.proofs.lemmas.Bool.{eqb-true, eqb-false, leb-true, leb-false}
 use Rattle.tree_shape.specs.Queries.{QueryOk, fits}
 use Rattle.tree_shape.specs.Shape.{Node, Shape, ShapeOk, Table}
 use Rattle.tree_shape.specs.Trees.{DirOk, EntryOk, lies}
 use Rattle.tree_shape.specs.Walks.{AreNoted, IsNoted, IsTail, Noted, noted_of, pending, reach}
 use Rattle.tree_shape.proofs.Relations.{Note, Skip, Take, Verdict, VerdictOk, fitting, left_over, notes, takes}
-use Rattle.tree_shape.proofs.Walks.{on_bool, same_not, eqb-eq, eqb-ne}
-use Rattle.tree_shape.proofs.Queries.{leb-le, leb-gt, reach-low, reach-high}
-
-pub times-append : (r : ℕ) (xs ys : List ℕ) → times r (xs ++ ys) ≡ times r xs + times r ys
-times-append r [] ys = omega arith
-times-append r (x ∷ xs) ys = omega (arith, times-append r xs ys)
+use Rattle.tree_shape.proofs.Queries.{reach-low, reach-high}
 
 pub pending-append : (g : Shape) (ps qs : List Noted) (y : ℕ) → pending g (ps ++ qs) y ≡ pending g ps y + pending g qs y
 pending-append g [] qs y = omega arith
@@ -113,8 +111,8 @@ module _ (g : Shape) (look : ℕ → Node) (table : Table) (fits : ℕ → Bool)
       (λ w. let k : 1 ≤ times r (g.below e.child ++ takes g v es) = rw w at h in
       let s = times-append r (g.below e.child) (takes g v es) in
       on_bool (leb 1 (times r (g.below e.child)))
-      (λ q. ok.0.take w r (leb-le _ _ q))
-      (λ q. let z = leb-gt _ _ q in takes_fit es ok.1 r (omega arith)))
+      (λ q. ok.0.take w r (leb-true _ _ q))
+      (λ q. let z = leb-false _ _ q in takes_fit es ok.1 r (omega arith)))
 
   pub skips_dont : (es : List Entry) → Each (VerdictOk g fits v) es → (r : ℕ) → fits r ≡ true → times r (skips g v es) ≡ 0
   skips_dont [] ok r f = refl
@@ -124,8 +122,8 @@ module _ (g : Shape) (look : ℕ → Node) (table : Table) (fits : ℕ → Bool)
       (λ w.
       let s = times-append r (g.below e.child) (skips g v es) in
       let none : times r (g.below e.child) ≡ 0 = on_bool (leb 1 (times r (g.below e.child)))
-      (λ q. let bad : true ≡ false = sym f ∙ ok.0.skip w r (leb-le _ _ q) in cc)
-      (λ q. let z = leb-gt _ _ q in omega arith) in
+      (λ q. let bad : true ≡ false = sym f ∙ ok.0.skip w r (leb-true _ _ q) in cc)
+      (λ q. let z = leb-false _ _ q in omega arith) in
       rw w (omega arith))
       (λ w. rw w ih)
       (λ w. rw w ih)
@@ -191,16 +189,16 @@ module _ (g : Shape) (look : ℕ → Node) (table : Table) (must fits : ℕ → 
   pending-no_more y yi =
       let a = pending-after y in
       on_bool (leb (g.level y) l)
-      (λ c. let le = leb-le _ _ c in
+      (λ c. let le = leb-true _ _ c in
       let n = noted-le g look table fits v b l (look b).entries y le in
       let s = spans-is y yi le in
       let r = reach-split y (omega arith) in
       omega arith)
-      (λ c. let gt = leb-gt _ _ c in
+      (λ c. let gt = leb-false _ _ c in
       let n = none_noted g look table fits v b l (look b).entries y gt in
       on_bool (leb (g.level y) (l + 1))
-      (λ c2. let r = reach-split y (leb-le _ _ c2) in omega arith)
-      (λ c2. let gt2 : p.level < g.level y = (let w = leb-gt _ _ c2 in omega arith) in
+      (λ c2. let r = reach-split y (leb-true _ _ c2) in omega arith)
+      (λ c2. let gt2 : p.level < g.level y = (let w = leb-false _ _ c2 in omega arith) in
       let z = left-high g p.stamp p.level zs y gt2 in
       omega arith))
 
@@ -209,14 +207,14 @@ module _ (g : Shape) (look : ℕ → Node) (table : Table) (must fits : ℕ → 
   pending-fewer y yi =
       let more = pending-no_more y yi in
       on_bool (eqb (g.level y) (l + 1))
-      (λ c. let lev : g.level y ≡ l + 1 = eqb-eq _ _ c in
+      (λ c. let lev : g.level y ≡ l + 1 = eqb-true _ _ c in
       let self : g.above y (l + 1) ≡ y = ap (g.above y) (sym lev) ∙ ok.itself y yi in
       let a = pending-after y in
       let n = none_noted g look table fits v b l (look b).entries y (omega arith) in
       let r = reach-split y (omega arith) in
       let s : same (g.above y (l + 1)) b ≡ same y b = ap (λ (w : ℕ). same w b) self in
       omega arith)
-      (λ c. let ne : g.level y ≢ l + 1 = eqb-ne _ _ c in
+      (λ c. let ne : g.level y ≢ l + 1 = eqb-false _ _ c in
       let s = same_not y b (λ e. ne (ap g.level e ∙ bl)) in
       omega arith)
 
@@ -241,13 +239,13 @@ module _ (g : Shape) (look : ℕ → Node) (table : Table) (must fits : ℕ → 
       let not_b = free r pr up in (
         t,
         on_bool (leb (g.level (g.at r)) (l + 1))
-            (λ c. let le = leb-le _ _ c in
+            (λ c. let le = leb-true _ _ c in
             let e = reach-split (g.at r) le in
             let lev : g.level (g.at r) ≡ l + 1 = omega arith in
             let self : g.above (g.at r) (l + 1) ≡ g.at r = ap (g.above (g.at r)) (sym lev) ∙ ok.itself (g.at r) ri in
             let none : same (g.above (g.at r) (l + 1)) b ≡ 0 = ap (λ (w : ℕ). same w b) self ∙ same_not (g.at r) b not_b in
             omega arith)
-            (λ c. let gt2 : p.level < g.level (g.at r) = (let w = leb-gt _ _ c in omega arith) in
+            (λ c. let gt2 : p.level < g.level (g.at r) = (let w = leb-false _ _ c in omega arith) in
             let z = left-high g p.stamp p.level zs (g.at r) gt2 in
             let z2 = reach-high g p (g.at r) gt2 in
             omega arith),
@@ -258,7 +256,7 @@ module _ (g : Shape) (look : ℕ → Node) (table : Table) (must fits : ℕ → 
   passed_now r pr k y yi le up =
       on_bool (leb (g.level (g.at r)) l)
       (λ c.
-      let al = leb-le _ _ c in
+      let al = leb-true _ _ c in
       let top = ok.below b bi in
       let same_up = λ (m : ℕ) (h : g.level (g.at r) ≤ m) (h2 : m < g.height). sym (ok.coherent y (g.level (g.at r)) m yi le h h2) ∙ ap (λ (w : ℕ). g.above w m) up in
       let yl : g.level y ≤ l = omega arith in
@@ -277,7 +275,7 @@ module _ (g : Shape) (look : ℕ → Node) (table : Table) (must fits : ℕ → 
       let e1 = reach-split y (omega arith) in
       let e2 = reach-split (g.at r) (omega arith) in
       omega arith)
-      (λ c. let w = sum_high r pr (leb-gt _ _ c) in absurd (omega arith))
+      (λ c. let w = sum_high r pr (leb-false _ _ c) in absurd (omega arith))
 
   pub query-visit_dir : QueryOk g look must fits after_visit (takes g v (look b).entries ++ counted)
   query-visit_dir = record {
@@ -286,27 +284,27 @@ module _ (g : Shape) (look : ℕ → Node) (table : Table) (must fits : ℕ → 
     distinct = λ r. let s = times-append r (takes g v (look b).entries) counted in
         on_bool (g.placed r)
         (λ pr. let o = q.once r pr in on_bool (leb (g.level (g.at r)) l)
-        (λ c. let w = sum_low r pr (leb-le _ _ c) in omega arith)
-        (λ c. let w = sum_high r pr (leb-gt _ _ c) in let d = q.distinct r in omega arith))
+        (λ c. let w = sum_low r pr (leb-true _ _ c) in omega arith)
+        (λ c. let w = sum_high r pr (leb-false _ _ c) in let d = q.distinct r in omega arith))
         (λ pr. let w = unplaced g look table fits v b l (look b).entries r dir.entries pr in let d = q.distinct r in omega arith);
     fitting = λ r h. let s = times-append r (takes g v (look b).entries) counted in
         on_bool (leb 1 (times r (takes g v (look b).entries)))
-        (λ c. takes_fit g look table fits v b l (look b).entries judged r (leb-le _ _ c))
-        (λ c. let w = leb-gt _ _ c in q.fitting r (omega arith));
+        (λ c. takes_fit g look table fits v b l (look b).entries judged r (leb-true _ _ c))
+        (λ c. let w = leb-false _ _ c in q.fitting r (omega arith));
     once = λ r pr. let s = times-append r (takes g v (look b).entries) counted in
         let o = q.once r pr in
         on_bool (leb (g.level (g.at r)) l)
-        (λ c. let w = sum_low r pr (leb-le _ _ c) in omega arith)
-        (λ c. let w = sum_high r pr (leb-gt _ _ c) in omega arith);
+        (λ c. let w = sum_low r pr (leb-true _ _ c) in omega arith)
+        (λ c. let w = sum_high r pr (leb-false _ _ c) in omega arith);
     whole = λ r pr m f. let s = times-append r (takes g v (look b).entries) counted in
         let o = q.whole r pr m f in
         on_bool (leb (g.level (g.at r)) l)
-        (λ c. let w = sum_low r pr (leb-le _ _ c) in let n = skips_dont g look table fits v b l (look b).entries judged r f in omega arith)
-        (λ c. let w = sum_high r pr (leb-gt _ _ c) in omega arith);
+        (λ c. let w = sum_low r pr (leb-true _ _ c) in let n = skips_dont g look table fits v b l (look b).entries judged r f in omega arith)
+        (λ c. let w = sum_high r pr (leb-false _ _ c) in omega arith);
     passed = λ r pr ca seen y yi le up. let s = times-append r (takes g v (look b).entries) counted in
         on_bool (leb 1 (times r counted))
-        (λ c. let o = q.passed r pr ca (leb-le _ _ c) y yi le up in let m = pending-no_more y yi in omega arith)
-        (λ c. let w = leb-gt _ _ c in passed_now r pr (omega arith) y yi le up);
+        (λ c. let o = q.passed r pr ca (leb-true _ _ c) y yi le up in let m = pending-no_more y yi in omega arith)
+        (λ c. let w = leb-false _ _ c in passed_now r pr (omega arith) y yi le up);
   }
 
 -- a leaf: its rows that fit are counted
@@ -332,7 +330,7 @@ pub leaf-split : (g : Shape) (b : ℕ) (p : Noted) (zs : List ℕ) (ps : List No
 leaf-split g b p zs ps ok bl at_b pl y yi =
     let a = pending-append g (left_over p.stamp p.level zs) ps y in
     on_bool (leb (g.level y) 0)
-    (λ c. let le = leb-le _ _ c in
+    (λ c. let le = leb-true _ _ c in
     let le2 : g.level y ≤ p.level = omega arith in
     let lev : p.level ≡ g.level y = omega arith in
     let self : g.above y p.level ≡ y = ap (g.above y) lev ∙ ok.itself y yi in
@@ -341,7 +339,7 @@ leaf-split g b p zs ps ok bl at_b pl y yi =
     let d : times (g.above y p.level) p.walk ≡ same (g.above y p.level) b + times (g.above y p.level) zs = rw at_b refl in
     let s : same (g.above y p.level) b ≡ same y b = ap (λ (w : ℕ). same w b) self in
     omega arith)
-    (λ c. let gt = leb-gt _ _ c in
+    (λ c. let gt = leb-false _ _ c in
     let gt2 : p.level < g.level y = omega arith in
     let e = reach-high g p y gt2 in
     let z = left-high g p.stamp p.level zs y gt2 in

@@ -1,9 +1,9 @@
 -- A query's visits come to an end.
 use Rattle.std.proofs.Common.{◌≡◌, ℕ, zero, suc, ◌+◌, ◌<◌, ◌≤◌, ◌⊎◌, inl, inr, Bool, true, false, cond, List, refl, ap, subst, arith}
-use Rattle.tree_shape.specs.Counts.{same}
+use Rattle.list_words.specs.Counts.{same}
+use Rattle.list_words.proofs.Truth.{eqb-self}
 use Rattle.tree_shape.specs.Shape.{Shape}
 use Rattle.tree_shape.specs.Walks.{Noted, pending}
-use Rattle.tree_shape.proofs.Walks.{eqb-self}
 use Rattle.tree_shape.specs.Visiting.{visits_left, FewLaw, VisitFallsLaw}
 
 few-at : (b : Bool) (k m n : ℕ) → (b ≡ true → k ≤ 1) → m ≤ n → cond b k 0 + m ≤ suc n

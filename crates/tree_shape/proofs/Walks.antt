@@ -1,37 +1,12 @@
 -- A division in the middle of a walk
-use Rattle.std.proofs.Common.{◌≡◌, ◌≢◌, ℕ, ◌+◌, ◌≤◌, Bool, true, false, cond, eqb, List, [], ◌∷◌, refl, sym, ◌∙◌, arith}
-use Rattle.tree_shape.specs.Counts.{same, times}
+use Rattle.std.proofs.Common.{◌≡◌, ◌≢◌, ℕ, ◌+◌, true, false, cond, eqb, List, [], ◌∷◌, refl, sym, ◌∙◌, arith}
+use Rattle.list_words.specs.Counts.{same, times}
 use Rattle.tree_shape.specs.Shape.{Node}
 use Rattle.tree_shape.specs.Walks.{IsTail, IsWalk}
 use Rattle.tree_shape.proofs.Relations.{Relinked, put_behind}
-
-pub on_bool : {P : Type 0} → (b : Bool) → (b ≡ true → P) → (b ≡ false → P) → P
-on_bool true f g = f refl
-on_bool false f g = g refl
-
-pub eqb-eq : (a b : ℕ) → eqb a b ≡ true → a ≡ b
-eqb-eq a b h = grind arith
-
-pub eqb-ne : (a b : ℕ) → eqb a b ≡ false → a ≢ b
-eqb-ne a b h = grind arith
-
-pub eqb-yes : (a b : ℕ) → a ≡ b → eqb a b ≡ true
-eqb-yes a b h = grind arith
-
-pub eqb-no : (a b : ℕ) → a ≢ b → eqb a b ≡ false
-eqb-no a b h = grind arith
-
-pub eqb-self : (a : ℕ) → eqb a a ≡ true
-eqb-self a = grind arith
-
-pub same_is : (a b : ℕ) → a ≡ b → same a b ≡ 1
-same_is a b e = grind arith
-
-pub same_not : (a b : ℕ) → a ≢ b → same a b ≡ 0
-same_not a b e = grind arith
-
-pub same-le : (a b : ℕ) → same a b ≤ 1
-same-le a b = on_bool (eqb a b) (λ q. rw q (omega arith)) (λ q. rw q (omega arith))
+use Rattle.list_words.proofs.Times.{same_is, same_not}
+use Rattle.list_words.proofs.Truth.{on_bool}
+use Rattle.std.proofs.lemmas.Bool.{eqb-false, eqb-true}
 
 -- the step where the head is c, and where it is not
 pub put_behind-at : (c n y : ℕ) (ys : List ℕ) → eqb y c ≡ true → put_behind c n (y ∷ ys) ≡ y ∷ n ∷ put_behind c n ys
@@ -53,9 +28,9 @@ times-put_behind_new c n [] e = refl
 times-put_behind_new c n (y ∷ ys) e =
     let ih = times-put_behind_new c n ys e in
     on_bool (eqb y c)
-    (λ h. let k : y ≡ c = eqb-eq y c h in let j : c ≡ y = sym k in
+    (λ h. let k : y ≡ c = eqb-true y c h in let j : c ≡ y = sym k in
     rw (put_behind-at c n y ys h) (omega (arith, same_is n n refl, same_is c y j, ih)))
-    (λ h. let k : y ≢ c = eqb-ne y c h in let j : c ≢ y = (λ w. k (sym w)) in
+    (λ h. let k : y ≢ c = eqb-false y c h in let j : c ≢ y = (λ w. k (sym w)) in
     rw (put_behind-past c n y ys h) (omega (arith, same_not c y j, ih)))
 
 -- what stands behind y, where y may be c
@@ -72,17 +47,17 @@ tail_at look look2 c n t s w x e h = ((λ q. e (sym q ∙ x.head_stamp)), x.head
 pub tail-put_behind : (look look2 : ℕ → Node) (c n t s y : ℕ) (zs : List ℕ) → Relinked look look2 c n t → s ≢ t → y ≢ n → times n zs ≡ 0 → IsTail look s y zs → IsTail look2 s y (rest c n y zs)
 tail-put_behind look look2 c n t s y [] x e a o h =
     on_bool (eqb y c)
-    (λ b. let k : y ≡ c = eqb-eq y c b in rw (b, k) (tail_at look look2 c n t s [] x e (x.new_stamp ∙ (rw k at h))))
-    (λ b. rw b (x.other_stamp y (eqb-ne y c b) a ∙ h))
+    (λ b. let k : y ≡ c = eqb-true y c b in rw (b, k) (tail_at look look2 c n t s [] x e (x.new_stamp ∙ (rw k at h))))
+    (λ b. rw b (x.other_stamp y (eqb-false y c b) a ∙ h))
 tail-put_behind look look2 c n t s y (z ∷ zs) x e a o h =
     let zn : z ≢ n = λ q. absurd (let m : same n z ≡ 1 = same_is n z (sym q) in omega arith) in
     let on : times n zs ≡ 0 = omega arith in
     let ih = tail-put_behind look look2 c n t s z zs x e zn on h.2 in
     on_bool (eqb y c)
-    (λ b. let k : y ≡ c = eqb-eq y c b in
+    (λ b. let k : y ≡ c = eqb-true y c b in
     let hc = rw k at h in
     rw (b, k, put_behind-head c n z zs) (tail_at look look2 c n t s (z ∷ rest c n z zs) x e ((λ q. hc.0 (sym x.new_stamp ∙ q)), x.new_right ∙ hc.1, ih)))
-    (λ b. let yc = eqb-ne y c b in
+    (λ b. let yc = eqb-false y c b in
     rw (b, put_behind-head c n z zs) ((λ q. h.0 (sym (x.other_stamp y yc a) ∙ q)), x.other_right y yc a ∙ h.1, ih))
 
 pub walk-put_behind : (look look2 : ℕ → Node) (c n t s y : ℕ) (ws : List ℕ) → Relinked look look2 c n t → s ≢ t → times n ws ≡ 0 → IsWalk look y s ws → IsWalk look2 y s (put_behind c n ws)

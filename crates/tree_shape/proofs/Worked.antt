@@ -23,21 +23,21 @@ use Rattle.dc_node.specs.declared.block.Block.{Block}
 use Rattle.dc_node.specs.declared.entry.Entry.{Entry}
 use Rattle.dc_node.specs.declared.todo.Item.{Item}
 use Rattle.dim_hierarchy.specs.declared.row.Row.{Row}
-use Rattle.tree_shape.specs.Counts.{Each, times}
+use Rattle.list_words.specs.Counts.{Each, times}
+use Rattle.list_words.proofs.Truth.{on_bool}
+use Rattle.std.proofs.lemmas.Bool.{eqb-true, eqb-false, ne_eqb, eq-eqb, leb-true, leb-false}
+use Rattle.std.proofs.lemmas.List.{length-append}
+use Rattle.list_words.proofs.Each.{each-append}
 use Rattle.tree_shape.specs.Example.{AsksFor, HoldsFirst, IsAnswered, IsSample, IsUncut, Sample, Works, cells_at, first_rows, gate_after, halved_cells, leaf_of}
 use Rattle.tree_shape.specs.Queries.{IsUnfinished, NoneWaits, fits}
 use Rattle.tree_shape.specs.Shape.{Node, Shape, Table, TreeCells, nodes, numbers}
 use Rattle.tree_shape.specs.Steps.{AfterBegin, AfterPut, AfterStep, AfterVisit, AreApart, IsIdle, IsSpare}
 use Rattle.link_descent.specs.GateRead.{root_items}
-use Rattle.tree_shape.proofs.Walks.{on_bool, eqb-eq, eqb-ne, eqb-no, eqb-yes}
-use Rattle.tree_shape.proofs.Descends.{length-plus}
-use Rattle.tree_shape.proofs.Parts.{each-append}
 use Rattle.tree_shape.proofs.Assembled.{node-gate, root-at}
 use Rattle.tree_shape.proofs.ComesIn.{goes-in}
 use Rattle.tree_shape.proofs.Puts.{after-put}
 use Rattle.dim_hierarchy.specs.declared.filter.Pick.{Pick}
 use Rattle.link_descent.specs.Visit.{noted_in, noted_right}
-use Rattle.tree_shape.proofs.Queries.{leb-le, leb-gt}
 use Rattle.tree_shape.proofs.Rows.{after-all}
 use Rattle.tree_shape.proofs.Beginnings.{after-begin}
 use Rattle.tree_shape.proofs.Readings.{after-visit}
@@ -45,7 +45,7 @@ use Rattle.tree_shape.proofs.Openings.{after-opening}
 
 length-first : (table : Table) (n : ℕ) → length (first_rows table n) ≡ n
 length-first table zero = refl
-length-first table (suc n) = let a = length-plus (first_rows table n) (table.row n ∷ []) in let b = length-first table n in omega arith
+length-first table (suc n) = let a = length-append (first_rows table n) (table.row n ∷ []) in let b = length-first table n in omega arith
 
 -- rows of one place have no cut
 
@@ -59,10 +59,10 @@ const-equal h one dim level (r ∷ rows) = all-same h one dim level (r ∷ rows)
 
 module _ (table : Table) (x : Sample) (d : IsSample table x) where
   off : {A : Type 0} (a b : ℕ) (u v : A) → a ≢ b → cond (eqb a b) u v ≡ v
-  off a b u v q = rw (eqb-no a b q) refl
+  off a b u v q = rw (ne_eqb a b q) refl
 
   on : {A : Type 0} (a : ℕ) (u v : A) → cond (eqb a a) u v ≡ u
-  on a u v = rw (eqb-yes a a refl) refl
+  on a u v = rw (eq-eqb a a refl) refl
 
   -- one row more at the gate
   pub with-row : (n : ℕ) → IsWithRow table.hierarchy (table.row n) (root_entry (gate_after table x n)) (root_entry (gate_after table x (suc n)))
@@ -166,14 +166,14 @@ module _ (table : Table) (x : Sample) (d : IsSample table x) where
         shape = row-put.shape;
         tree = row-put.tree;
         known = λ r pr. on_bool (eqb r n)
-            (λ z. let e = eqb-eq _ _ z in omega arith)
-            (λ z. let k = b.known r (sym (row-in.row.others_placed r (eqb-ne _ _ z)) ∙ sym (row-put.placed r) ∙ pr) in omega arith);
+            (λ z. let e = eqb-true _ _ z in omega arith)
+            (λ z. let k = b.known r (sym (row-in.row.others_placed r (eqb-false _ _ z)) ∙ sym (row-put.placed r) ∙ pr) in omega arith);
         there = λ r lr. on_bool (eqb r n)
-            (λ z. row-put.placed r ∙ ap row-in.shape.placed (eqb-eq _ _ z) ∙ row-in.row.placed)
-            (λ z. let ne = eqb-ne _ _ z in row-put.placed r ∙ row-in.row.others_placed r ne ∙ b.there r (omega arith));
+            (λ z. row-put.placed r ∙ ap row-in.shape.placed (eqb-true _ _ z) ∙ row-in.row.placed)
+            (λ z. let ne = eqb-false _ _ z in row-put.placed r ∙ row-in.row.others_placed r ne ∙ b.there r (omega arith));
         settled = λ r pr. on_bool (eqb r n)
-            (λ z. ap row-put.shape.carried (eqb-eq _ _ z) ∙ row-put.settled)
-            (λ z. let ne = eqb-ne _ _ z in row-put.carried r ne ∙ row-in.row.others_carried r ne ∙ b.settled r (sym (row-in.row.others_placed r ne) ∙ sym (row-put.placed r) ∙ pr));
+            (λ z. ap row-put.shape.carried (eqb-true _ _ z) ∙ row-put.settled)
+            (λ z. let ne = eqb-false _ _ z in row-put.carried r ne ∙ row-in.row.others_carried r ne ∙ b.settled r (sym (row-in.row.others_placed r ne) ∙ sym (row-put.placed r) ∙ pr));
       };
       inside = λ y. row-put.inside y ∙ row-in.inside y (subst (Each (λ (s : Spare). y ≢ s.cell)) (sym unused) tt);
       spares = λ s u. row-put.spares s (row-in.spares s (subst (Each (AreApart s)) (sym unused) tt) u);
@@ -182,7 +182,7 @@ module _ (table : Table) (x : Sample) (d : IsSample table x) where
   next : (n : ℕ) → n < 32 → Filled n → Filled (suc n)
   next n lt f =
       let w = next-row n (cells_at table x n n).block (cells_at table x (suc n) (suc n)).block f.holds
-      (ap (λ (z : Block). is_leaf z.body) (root-block n n)) (rw (root-block n n) (let z = length-first table n in eqb-no _ _ (omega arith)))
+      (ap (λ (z : Block). is_leaf z.body) (root-block n n)) (rw (root-block n n) (let z = length-first table n in ne_eqb _ _ (omega arith)))
       (ap (λ (z : Block). z.stamp) (root-block (suc n) (suc n)) ∙ sym (ap (λ (z : Block). z.stamp) (root-block n n)))
       (ap (λ (z : Block). z.right) (root-block (suc n) (suc n)) ∙ sym (ap (λ (z : Block). z.right) (root-block n n)))
       (ap (λ (z : Block). z.body) (root-block (suc n) (suc n)) ∙ ap (λ (z : Block). let rows : List Row = rows_in z.body ++ table.row n ∷ [] in Rows (record { items = rows })) (sym (root-block n n)))
@@ -215,11 +215,11 @@ module _ (table : Table) (x : Sample) (d : IsSample table x) where
   spare-ok n f s sg sr st = record {
     cell = f.only s.cell sg sr;
     unexpected = λ y l i e. on_bool (eqb y x.gate_cell)
-        (λ q. let z = eqb-eq _ _ q in
+        (λ q. let z = eqb-true _ _ q in
         subst (Each (λ (v : Entry). v.stamp ≢ s.stamp)) (sym (ap (λ (u : ℕ). (nodes cells u).entries) z ∙ ap (λ (w : Node). w.entries) (node-gate cells))) (st, tt))
-        (λ q. let yg = eqb-ne _ _ q in on_bool (eqb y x.root)
-        (λ q2. let u = ap f.holds.shape.level (eqb-eq _ _ q2) in let v = (root-at table cells f.holds.shape f.holds.tree).1 in absurd (omega arith))
-        (λ q2. let bad : true ≡ false = sym i ∙ f.only y yg (eqb-ne _ _ q2) in cc));
+        (λ q. let yg = eqb-false _ _ q in on_bool (eqb y x.root)
+        (λ q2. let u = ap f.holds.shape.level (eqb-true _ _ q2) in let v = (root-at table cells f.holds.shape f.holds.tree).1 in absurd (omega arith))
+        (λ q2. let bad : true ≡ false = sym i ∙ f.only y yg (eqb-false _ _ q2) in cc));
   }
     where
       cells : TreeCells
@@ -277,7 +277,7 @@ module _ (table : Table) (x : Sample) (d : IsSample table x) where
 
     halves : Halves table.hierarchy (table.row m) (map before.block tail) (root_entry (gate_after table x m)) (root_entry (gate_after table x (suc m))) old (head_of (drop 16 (first_rows table m))) one_spare empty_purse divided
     halves = record {
-      full = (let z = length-first table m in eqb-yes _ _ (omega arith));
+      full = (let z = length-first table m in eq-eqb _ _ (omega arith));
       why = inl (refl, uncut);
       spare = x.spare;
       purse_is = refl;
@@ -321,29 +321,29 @@ module _ (table : Table) (x : Sample) (d : IsSample table x) where
       right = ap (λ (z : Block). z.right) (head-block (drop 16 (first_rows table m) ++ table.row m ∷ [])) ∙ sym (ap (λ (z : Block). z.right) (head-block (drop 16 (first_rows table m))));
       body = ap (λ (z : Block). z.body) (head-block (drop 16 (first_rows table m) ++ table.row m ∷ [])) ∙ ap (λ (z : Block). let rows : List Row = rows_in z.body ++ table.row m ∷ [] in Rows (record { items = rows })) (sym (head-block (drop 16 (first_rows table m))));
       other = λ y q. on_bool (eqb y n)
-          (λ z. let e = eqb-eq _ _ z in rw e (new-block (drop 16 (first_rows table m) ++ table.row m ∷ []) ∙ sym (new-block (drop 16 (first_rows table m)))))
-          (λ z. let yn = eqb-ne _ _ z in far-block (drop 16 (first_rows table m) ++ table.row m ∷ []) y q yn ∙ sym (far-block (drop 16 (first_rows table m)) y q yn));
+          (λ z. let e = eqb-true _ _ z in rw e (new-block (drop 16 (first_rows table m) ++ table.row m ∷ []) ∙ sym (new-block (drop 16 (first_rows table m)))))
+          (λ z. let yn = eqb-false _ _ z in far-block (drop 16 (first_rows table m) ++ table.row m ∷ []) y q yn ∙ sym (far-block (drop 16 (first_rows table m)) y q yn));
       gate_cell = refl;
       gate = record { root = refl; height = refl };
     })
 
     all-there : (r : ℕ) → r < suc m → put-in.shape.placed r ≡ true
     all-there r lr = on_bool (eqb r m)
-        (λ z. put-in.placed r ∙ ap came.shape.placed (eqb-eq _ _ z) ∙ came.row.placed)
-        (λ z. let ne = eqb-ne _ _ z in put-in.placed r ∙ came.row.others_placed r ne ∙ b.there r (omega arith))
+        (λ z. put-in.placed r ∙ ap came.shape.placed (eqb-true _ _ z) ∙ came.row.placed)
+        (λ z. let ne = eqb-false _ _ z in put-in.placed r ∙ came.row.others_placed r ne ∙ b.there r (omega arith))
 
     all-settled : (r : ℕ) → put-in.shape.placed r ≡ true → put-in.shape.carried r ≡ false
     all-settled r pr = on_bool (eqb r m)
-        (λ z. ap put-in.shape.carried (eqb-eq _ _ z) ∙ put-in.settled)
-        (λ z. let ne = eqb-ne _ _ z in put-in.carried r ne ∙ came.row.others_carried r ne ∙ b.settled r (sym (came.row.others_placed r ne) ∙ sym (put-in.placed r) ∙ pr))
+        (λ z. ap put-in.shape.carried (eqb-true _ _ z) ∙ put-in.settled)
+        (λ z. let ne = eqb-false _ _ z in put-in.carried r ne ∙ came.row.others_carried r ne ∙ b.settled r (sym (came.row.others_placed r ne) ∙ sym (put-in.placed r) ∙ pr))
 
     pub halved : HoldsFirst table after (suc m)
     halved = record {
       shape = put-in.shape;
       tree = put-in.tree;
       known = λ r pr. on_bool (eqb r m)
-          (λ z. let e = eqb-eq _ _ z in omega arith)
-          (λ z. let k = b.known r (sym (came.row.others_placed r (eqb-ne _ _ z)) ∙ sym (put-in.placed r) ∙ pr) in omega arith);
+          (λ z. let e = eqb-true _ _ z in omega arith)
+          (λ z. let k = b.known r (sym (came.row.others_placed r (eqb-false _ _ z)) ∙ sym (put-in.placed r) ∙ pr) in omega arith);
       there = all-there;
       settled = all-settled;
     }
@@ -383,11 +383,11 @@ module _ (table : Table) (x : Sample) (d : IsSample table x) where
 
       unseen : times m begun.now ≡ 0
       unseen = on_bool (leb 1 (times m begun.now))
-          (λ q. elim (begun.known m (leb-le _ _ q)) [
+          (λ q. elim (begun.known m (leb-true _ _ q)) [
             | inl z ↦ (let y = no-rows_queued m in absurd (omega arith))
             | inr z ↦ (let y = b.known m z in absurd (omega arith))
           ])
-          (λ q. let y = leb-gt _ _ q in omega arith)
+          (λ q. let y = leb-false _ _ q in omega arith)
 
       used-one : came.used ≡ x.spare ∷ []
       used-one = sym came.purse_is
@@ -407,7 +407,7 @@ module _ (table : Table) (x : Sample) (d : IsSample table x) where
 
       to-right : [] ++ noted_in table.hierarchy f2 (after.block x.root).body ++ noted_right (after.block x.root) x.stamp ≡ [] ++ second ∷ []
       to-right = ap (λ (u : Block). [] ++ noted_in table.hierarchy f2 u.body ++ noted_right u x.stamp) (head-block (drop 16 (first_rows table m) ++ table.row m ∷ []))
-          ∙ (rw (eqb-no x.spare.stamp x.stamp (λ e. d.spare_stamp (sym e))) refl)
+          ∙ (rw (ne_eqb x.spare.stamp x.stamp (λ e. d.spare_stamp (sym e))) refl)
 
       waiting-right : IsUnfinished put-in.shape (nodes after) must fit ([] ++ second ∷ []) here.now
       waiting-right = subst (λ items. IsUnfinished put-in.shape (nodes after) must fit items here.now) to-right here.unfinished
@@ -422,7 +422,7 @@ module _ (table : Table) (x : Sample) (d : IsSample table x) where
 
       to-end : [] ++ noted_in table.hierarchy f2 (after.block n).body ++ noted_right (after.block n) x.stamp ≡ []
       to-end = ap (λ (u : Block). [] ++ noted_in table.hierarchy f2 u.body ++ noted_right u x.stamp) (new-block (drop 16 (first_rows table m) ++ table.row m ∷ []))
-          ∙ (rw (eqb-yes x.stamp x.stamp refl) refl)
+          ∙ (rw (eq-eqb x.stamp x.stamp refl) refl)
 
       pub answered : IsAnswered table m must f2
       answered =

@@ -2,7 +2,7 @@
 use Rattle.std.specs.Prelude.{ℕ, ◌≡◌, ◌≤◌, true, Option, Some, None, List, slice_get}
 use Rattle.dc_node.specs.Block.{entries_in}
 use Rattle.dc_node.specs.declared.entry.Entry.{Entry}
-use Rattle.tree_shape.specs.Counts.{Among}
+use Rattle.list_words.specs.Counts.{Among}
 use Rattle.tree_shape.specs.Shape.{Table, TreeCells, Shape}
 use Rattle.tree_shape.specs.Steps.{IsIdle}
 use Rattle.tree_shape.specs.Trees.{IsTree}

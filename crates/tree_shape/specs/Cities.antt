@@ -49,7 +49,7 @@ abbrev pub cities_of : ℕ → ℕ → List ℕ
 cities_of turn n = cond (eqb n 0) [] (cond (leb n turn) (berlin ∷ []) (berlin ∷ munich ∷ []))
 
 abbrev pub table_with : ℕ → ℤ → Table
-table_with turn measure = record { hierarchy = cities; row = λ r. record { no = r; at = coord_of (city turn r); measure = cond (eqb r 32) measure (pos 1) } }
+table_with turn measures = record { hierarchy = cities; row = λ r. record { no = r; at = coord_of (city turn r); measures = cond (eqb r 32) measures (pos 1) } }
 
 abbrev pub sample : ℕ → Sample
 sample turn = record {
@@ -112,7 +112,7 @@ abbrev pub left_entry : Entry
 left_entry = record { child = 1; stamp = 1; agg = agg (rows_from 0 16); set = set_of (berlin ∷ []) }
 
 abbrev pub left_with : Entry
-left_with = record left_entry { agg = join (agg (rows_from 0 16)) (one (later.row 32).measure) }
+left_with = record left_entry { agg = join (agg (rows_from 0 16)) (one (later.row 32).measures) }
 
 abbrev pub right_entry : Entry
 right_entry = record { child = 2; stamp = 0; agg = agg (rows_from 16 16); set = set_of (munich ∷ []) }
@@ -122,7 +122,7 @@ gate_now = record (gate_after earlier (sample 16) 32) {
   root = 3;
   stamp = 2;
   height = 2;
-  agg = join (first_agg earlier 32) (one (later.row 32).measure);
+  agg = join (first_agg earlier 32) (one (later.row 32).measures);
   set = set_of (cities_of 16 33);
 }
 

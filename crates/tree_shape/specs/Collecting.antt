@@ -7,7 +7,7 @@ use Rattle.dc_node.specs.declared.block.Body.{Body}
 use Rattle.dc_node.specs.declared.todo.Item.{Item}
 use Rattle.shard_store.specs.declared.gate.Gate.{Gate}
 use Rattle.link_descent.specs.Visit.{noted_right}
-use Rattle.tree_shape.specs.Counts.{same, times}
+use Rattle.list_words.specs.Counts.{same, times}
 use Rattle.tree_shape.specs.Shape.{Table, TreeCells, nodes, Shape, numbers}
 use Rattle.tree_shape.specs.Walks.{Noted, AreNoted, pending}
 use Rattle.tree_shape.specs.Queries.{items_of}

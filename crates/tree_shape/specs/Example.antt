@@ -14,7 +14,7 @@ use Rattle.dim_hierarchy.specs.declared.filter.Pick.{Pick}
 use Rattle.shard_store.specs.Gate.{root_entry, IsQueueOf}
 use Rattle.link_descent.specs.Visit.{is_noted}
 use Rattle.link_descent.specs.Divide.{HasNoCut}
-use Rattle.tree_shape.specs.Counts.{times}
+use Rattle.list_words.specs.Counts.{times}
 use Rattle.tree_shape.specs.Queries.{fits}
 use Rattle.tree_shape.specs.Steps.{IsAsked}
 use Rattle.dc_node.specs.declared.block.Body.TheVariants.{Rows}
@@ -54,7 +54,7 @@ first_rows table (suc n) = first_rows table n ++ table.row n ∷ []
 
 abbrev pub first_agg : Table → ℕ → Aggregate
 first_agg table zero = agg []
-first_agg table (suc n) = join (first_agg table n) (one (table.row n).measure)
+first_agg table (suc n) = join (first_agg table n) (one (table.row n).measures)
 
 abbrev pub leaf_of : ℕ → List Row → Block
 leaf_of stamp rows = record { stamp = stamp; right = None; body = Rows (record { items = rows }) }

@@ -10,7 +10,7 @@ use Rattle.dc_node.specs.declared.entry.Entry.{Entry}
 use Rattle.shard_store.specs.Gate.{root_entry}
 use Rattle.link_descent.specs.Descend.{IsEntryOf}
 use Rattle.link_descent.specs.declared.entered.Fresh.{Fresh}
-use Rattle.tree_shape.specs.Counts.{Each, same, times}
+use Rattle.list_words.specs.Counts.{Each, same, times}
 use Rattle.tree_shape.specs.Shape.{Table, TreeCells, node_of, Shape, numbers}
 use Rattle.tree_shape.specs.Trees.{TreeOk, EntryOk, BlockOk, IsTree, limit}
 

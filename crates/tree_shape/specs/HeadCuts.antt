@@ -20,7 +20,7 @@ abbrev pub town : ℕ → ℕ
 town r = cond (leb 33 r) munich berlin
 
 abbrev pub towns : Table
-towns = record { hierarchy = cities; row = λ r. record { no = r; at = coord_of (town r); measure = pos 1 } }
+towns = record { hierarchy = cities; row = λ r. record { no = r; at = coord_of (town r); measures = pos 1 } }
 
 abbrev pub town_sample : Sample
 town_sample = record (sample 33) { place = λ r. coord_of (town r) }

@@ -1,4 +1,3 @@
-pub mod Counts
 pub mod Shape
 pub mod Walks
 pub mod Trees

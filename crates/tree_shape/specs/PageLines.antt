@@ -6,7 +6,7 @@ use Rattle.dc_node.specs.Block.{entries_in, size}
 use Rattle.dc_node.specs.declared.block.Block.{Block}
 use Rattle.dc_node.specs.declared.entry.Entry.{Entry}
 use Rattle.row_ledger.specs.declared.page.NodeLine.{NodeLine}
-use Rattle.tree_shape.specs.Counts.{total}
+use Rattle.list_words.specs.Counts.{total}
 
 -- how many cells there are, and the block in each
 pub record CellBlocks : Type 0 where

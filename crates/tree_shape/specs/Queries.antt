@@ -3,7 +3,7 @@ use Rattle.std.specs.Prelude.{ℕ, ◌≡◌, ◌≢◌, ◌+◌, ◌≤◌, Boo
 use Rattle.dim_hierarchy.specs.declared.filter.Pick.{Pick}
 use Rattle.dim_hierarchy.specs.Filter.{matches}
 use Rattle.dc_node.specs.declared.todo.Item.{Item}
-use Rattle.tree_shape.specs.Counts.{Each, times}
+use Rattle.list_words.specs.Counts.{Each, times}
 use Rattle.tree_shape.specs.Shape.{Table, Node, Shape}
 use Rattle.tree_shape.specs.Walks.{Noted, AreNoted, pending}
 

@@ -19,7 +19,7 @@ use Rattle.link_descent.specs.Visit.{noted_in, noted_right, counted as block_par
 use Rattle.link_descent.specs.Descend.{StepsDown, Enters}
 use Rattle.link_descent.specs.GateRead.{queue_part, tree_part, root_items}
 use Rattle.link_descent.specs.declared.entered.Entered.{Entered}
-use Rattle.tree_shape.specs.Counts.{Each, same, times}
+use Rattle.list_words.specs.Counts.{Each, same, times}
 use Rattle.tree_shape.specs.Shape.{Table, Node, TreeCells, nodes, Shape, numbers}
 use Rattle.tree_shape.specs.Trees.{IsTree}
 use Rattle.tree_shape.specs.Walks.{Noted, pending}

@@ -3,7 +3,7 @@ use Rattle.std.specs.Prelude.{ℕ, ◌≡◌, ◌≤◌, ◌⊎◌, Bool, true, 
 use Rattle.dim_hierarchy.specs.declared.filter.Pick.{Pick}
 use Rattle.measure_agg.specs.Aggregate.{agg}
 use Rattle.dc_node.specs.declared.todo.Item.{Item}
-use Rattle.tree_shape.specs.Counts.{times}
+use Rattle.list_words.specs.Counts.{times}
 use Rattle.tree_shape.specs.Shape.{Table, Node, Shape}
 use Rattle.tree_shape.specs.Queries.{IsUnfinished, fits}
 

@@ -10,7 +10,7 @@ use Rattle.dc_node.specs.declared.block.Body.TheVariants.{Rows, Entries}
 use Rattle.dc_node.specs.declared.block.Block.{Block}
 use Rattle.dc_node.specs.declared.entry.Entry.{Entry}
 use Rattle.link_descent.specs.Divide.{together}
-use Rattle.tree_shape.specs.Counts.{total, Each, same, times}
+use Rattle.list_words.specs.Counts.{total, Each, same, times}
 use Rattle.tree_shape.specs.Shape.{Table, Node, TreeCells, nodes, Shape, ShapeOk}
 use Rattle.tree_shape.specs.Walks.{IsNoted, noted_of, beneath}
 

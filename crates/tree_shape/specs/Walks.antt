@@ -1,7 +1,7 @@
 -- Walks along right links, and what is beneath a noted block.
 use Rattle.std.specs.Prelude.{ℕ, ◌≡◌, ◌≢◌, ◌<◌, ◌≤◌, true, cond, leb, List, [], ◌∷◌, Some}
 use Rattle.dc_node.specs.declared.entry.Entry.{Entry}
-use Rattle.tree_shape.specs.Counts.{total, times}
+use Rattle.list_words.specs.Counts.{total, times}
 use Rattle.tree_shape.specs.Shape.{Node, Shape}
 
 -- the cells from y along right links, y first, end at the first one with the stamp s

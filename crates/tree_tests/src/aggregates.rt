@@ -3,9 +3,9 @@ use dim_hierarchy::{Coord, Row};
 use measure_agg::Agg;
 
 /// A row with this measure.
-fn row(no: u64, measure: i64) -> Row {
+fn row(no: u64, measures: i64) -> Row {
     let at = Coord::default();
-    Row { no, at, measure }
+    Row { no, at, measures }
 }
 
 #[test]

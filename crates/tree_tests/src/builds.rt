@@ -51,7 +51,7 @@ fn add_row(alloc: Global, h: &Hierarchy, no: u64, rows: &mut Vec<Row>) -> Result
     let row = Row {
         no,
         at: Coord { at: at.at },
-        measure: 7,
+        measures: 7,
     };
     add(rows, &row)?;
     Ok(())

@@ -18,13 +18,13 @@ const BYTES: [u8; 37] = [
 ];
 
 /// A row at a concept of the only dimension.
-fn row_at(no: u64, id: u32, measure: i64) -> Row {
+fn row_at(no: u64, id: u32, measures: i64) -> Row {
     let mut at = [ConceptId::ALL; 8];
     at[0] = ConceptId(id);
     Row {
         no,
         at: Coord { at },
-        measure,
+        measures,
     }
 }
 

@@ -1,7 +1,6 @@
 //! What is tested of `hierarchy_split`.
 ghost use Rattle.std.specs.Prelude.{◌≡◌, ◌≤◌, length, All, IfOk, OnOk};
 ghost use Rattle.describing_set.specs.Sets.{IsDescSetOf};
-ghost use Rattle.hierarchy_split.specs.Flags.{AreHeadCuts};
 
 use crate::fixtures::{Dim, coord, hierarchy};
 use describing_set::DescSet;

@@ -155,10 +155,10 @@ pub fn one_set(alloc: Global, h: &Hierarchy, texts: &[&str]) -> Result<DescSet, 
 }
 
 /// The row of a number at a leaf concept, where there is one dimension.
-pub fn row(alloc: Global, h: &Hierarchy, no: u64, name: &str, measure: i64) -> Result<Row, Fail>
+pub fn row(alloc: Global, h: &Hierarchy, no: u64, name: &str, measures: i64) -> Result<Row, Fail>
     requires { length h.now ≡ 1 }
     ensures { IfOk result (IsRowOf h.now) }
 {
     let at = coord(alloc, h, &[name])?;
-    Ok(Row { no, at, measure })
+    Ok(Row { no, at, measures })
 }

@@ -62,13 +62,11 @@ fn keeps_rows_in_the_queue(rt: HostRuntime) -> Result<(), Fail> {
 }
 
 #[test]
-fn counts_inserters(rt: HostRuntime) {
+fn an_inserter_leaves(rt: HostRuntime) {
     let alloc = rt.alloc();
     let h = Hierarchy::new(alloc);
     let mut gate = Gate::new(alloc, &h, 0, 0, 0, 1, Agg::EMPTY, DescSet::empty(&h));
-    gate.enter();
-    gate.enter();
-    assert_eq!(rt; gate.active, 2);
+    gate.active = 2;
     gate.leave();
     assert_eq!(rt; gate.active, 1);
 }
@@ -85,7 +83,7 @@ fn freezes<R: Abort>(rt: &R, h: &Hierarchy, gate: &mut Gate, row: &Row) -> Resul
     ensures idle { OnOk result (gate.new.active ≡ 0) }
     ensures pins { OnOk result (gate.new.pins ≡ gate.old.pins) }
 {
-    gate.enter();
+    gate.active += 1;
     gate.freeze();
     assert_eq!(rt; gate.phase, Phase::Frozen { upto: 0 });
     assert_eq!(rt; gate.drained(), Err(NotYet { active: 1 }));
@@ -104,7 +102,7 @@ fn a_frozen_gate_is_frozen_anew_and_retired(rt: HostRuntime) -> Result<(), Fail>
     let row = row(alloc, &h, 0, "a", 5)?;
     let mut gate = Gate::new(alloc, &h, 7, 3, 9, 2, Agg::one(1), DescSet::empty(&h));
     freezes(&rt, &h, &mut gate, &row)?;
-    gate.pin();
+    gate.pins = 1;
     let queue = gate.retire(alloc, &h);
     assert_eq!(rt; queue.rows.as_slice(), [row].as_slice());
     assert_eq!(rt; gate.phase, Phase::Gone);
@@ -114,7 +112,5 @@ fn a_frozen_gate_is_frozen_anew_and_retired(rt: HostRuntime) -> Result<(), Fail>
         (3, 9, 2, 1)
     );
     assert_eq!(rt; gate.agg, Agg::one(1));
-    gate.unpin();
-    assert_eq!(rt; gate.pins, 0);
     Ok(())
 }

@@ -8,8 +8,6 @@ mod blocks;
 #[cfg(test)]
 mod builds;
 #[cfg(test)]
-mod cells;
-#[cfg(test)]
 mod codec;
 #[cfg(test)]
 mod cuts;

@@ -1,6 +1,7 @@
 //! What is tested of `tree_page`.
+ghost use Rattle.std.specs.Prelude.{◌≡◌};
+
 use crate::fixtures::{PLACES, hierarchy};
-use block_cells::Blocks;
 use dc_node::Block;
 use describing_set::DescSet;
 use dim_hierarchy::Hierarchy;
@@ -10,16 +11,38 @@ use shard_store::Gate;
 use std::alloc::Global;
 use std::process::Abort;
 use std::test::Fail;
-use tree_page::tree_page;
+use tree_page::{BlockCells, tree_page};
 use tree_shape::opening_law;
+
+/// Two cells with the same leaf.
+#[derive(Drop)]
+struct TwoCells {
+    leaf: Block,
+}
+
+impl BlockCells for TwoCells {
+    ghost blocks = { λ b. record { count = 2; block = λ y. b.leaf } };
+
+    fn cells(&self) -> u32
+        ensures { result ≡ 2 }
+    {
+        2
+    }
+
+    fn block(&self, cell: u32) -> &Block
+        ensures { result.now ≡ self.now.leaf }
+    {
+        &self.leaf
+    }
+}
 
 /// The page of a gate whose root is an empty leaf.
 fn page_of(alloc: Global, h: &Hierarchy) -> Result<TreePage, Fail> {
     opening_law();
     let gate = Gate::new(alloc, h, 7, 1, 9, 1, Agg::EMPTY, DescSet::empty(h));
-    let mut cells = Blocks::new(alloc, 2);
-    cells.make(0)?;
-    cells.put(1, Block::leaf(9));
+    let cells = TwoCells {
+        leaf: Block::leaf(9),
+    };
     Ok(tree_page(alloc, &gate, &cells)?)
 }
 

@@ -15,6 +15,15 @@ fn plane() -> Plane {
     }
 }
 
+/// A shard that was split by this plane.
+fn split() -> Where {
+    Where::Split {
+        plane: plane(),
+        left: 2,
+        right: 3,
+    }
+}
+
 #[test]
 fn an_id_leads_where_it_was_last_set(rt: HostRuntime) -> Result<(), Fail> {
     let mut table = MapTable::new(rt.alloc());
@@ -22,14 +31,9 @@ fn an_id_leads_where_it_was_last_set(rt: HostRuntime) -> Result<(), Fail> {
     table.set(0, Where::Moved(1))?;
     assert_eq!(rt; table.look(0), Some(&Where::Moved(1)));
 
-    let split = Where::Split {
-        plane: plane(),
-        left: 2,
-        right: 3,
-    };
-    table.set(0, split.copy())?;
+    table.set(0, split())?;
     table.set(2, Where::Gate(17))?;
     let found = [table.look(0), table.look(1), table.look(2)];
-    assert_eq!(rt; found, [Some(&split), None, Some(&Where::Gate(17))]);
+    assert_eq!(rt; found, [Some(&split()), None, Some(&Where::Gate(17))]);
     Ok(())
 }

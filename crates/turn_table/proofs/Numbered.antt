@@ -43,9 +43,6 @@ module _ {A : Type 0} where
       (λ (same : k ≡ j). inl (same, some-injective x y (sym (find_here ps k x) ∙ (ap (value_of ((k, x) ∷ ps)) same ∙ e))))
       (λ (ne : k ≢ j). inr (ne, sym (find_else ps k j x ne) ∙ e))
 
-  pub found_is : (ps : List (ℕ × A)) (k : ℕ) (x y : A) → value_of ps k ≡ some x → value_of ps k ≡ some y → x ≡ y
-  found_is ps k x y e h = some-injective x y (sym e ∙ h)
-
   pub some_or_none : (o : Option A) → ((x : A) × (o ≡ some x)) ⊎ (o ≡ none)
   some_or_none none = inr refl
   some_or_none (some x) = inl (x, refl)

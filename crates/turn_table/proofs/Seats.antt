@@ -36,10 +36,6 @@ module _ {A : Type 0} where
   numbers_remove (p ∷ ps) zero = refl
   numbers_remove (p ∷ ps) (suc i) = ap (λ (ns : List ℕ). p.0 ∷ ns) (numbers_remove ps i)
 
-  pub remove_first : (ps : List (ℕ × A)) → remove ps 0 ≡ after_first ps
-  remove_first [] = refl
-  remove_first (p ∷ ps) = refl
-
   pub first_number : (ps : List (ℕ × A)) (p : ℕ × A) → p ≡ get_or ps 0 p → p.0 ≡ get_or (numbers_of ps) 0 p.0
   first_number [] p e = refl
   first_number (q ∷ ps) p e = ap (λ (z : ℕ × A). z.0) e
@@ -353,9 +349,6 @@ number_at (p ∷ ps) zero = refl
 number_at (p ∷ ps) (suc i) = number_at ps i
 
 module _ {A : Type 0} where
-  pub front_rest : (xs ys : List (ℕ × A)) (y : ℕ × A) → xs ≡ y ∷ ys → xs ≡ y ∷ rest xs
-  front_rest xs ys y e = e ∙ ap (λ (zs : List (ℕ × A)). y ∷ zs) (sym (ap rest e))
-
   split_here : (ps : List (ℕ × A)) (i : ℕ) → i < length ps → (p : ℕ × A) × (drop i ps ≡ p ∷ drop (suc i) ps) × (take (suc i) ps ≡ take i ps ++ p ∷ []) × (get_or (numbers_of ps) i 0 ≡ p.0)
   split_here [] i h = absurd (omega arith)
   split_here (p ∷ ps) zero h = (p, refl, refl, refl)

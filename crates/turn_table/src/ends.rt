@@ -1,7 +1,7 @@
 //! The start and the end of a table.
 ghost use mathlib.Core.Option.{some};
 ghost use lib.ListN.{get_elem?};
-ghost use Rattle.std.specs.Prelude.{ℕ, ◌≡◌, ◌≢◌, ◌<◌, ◌≤◌, ◌^◌, ◌-◌, [], false, length, map, replicate, IfOk, Some, vec_len, vec_capacity};
+ghost use Rattle.std.specs.Prelude.{ℕ, ◌≡◌, ◌<◌, ◌≤◌, ◌^◌, ◌-◌, [], false, length, map, replicate, IfOk, Some, vec_len, vec_capacity};
 ghost use Rattle.std.specs.Slots.{IsFull, slots_len, slots_items};
 ghost use Rattle.turn_table.specs.Views.{first_view, HasAll};
 ghost use Rattle.turn_table.specs.Law.{IsClosed, IsPossible};

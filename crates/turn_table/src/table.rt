@@ -1,5 +1,5 @@
 //! The table, and its steps on a cell's word.
-ghost use Rattle.std.specs.Prelude.{◌≡◌, ◌≢◌, ℕ, ◌+◌, ◌<◌, List, [], ◌∷◌, Some, ◌≤◌, length, vec_len, vec_capacity};
+ghost use Rattle.std.specs.Prelude.{◌≡◌, ◌≢◌, ◌+◌, ◌<◌, [], ◌∷◌, Some, ◌≤◌, vec_len, vec_capacity};
 ghost use Rattle.atomic_table.specs.Table.{rest};
 ghost use mathlib.Core.Option.{some, none};
 ghost use Rattle.turn_table.specs.Numbered.{value_of, Extends};

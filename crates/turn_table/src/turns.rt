@@ -1,5 +1,5 @@
 //! The calls on a seat. None of them takes memory.
-ghost use Rattle.std.specs.Prelude.{◌≡◌, ◌≢◌, ℕ, ◌+◌, ◌<◌, ◌≤◌, List, [], ◌∷◌, ◌++◌, length, true, false, Some, None, OnOk, IfOk, IfErr, OnErr};
+ghost use Rattle.std.specs.Prelude.{◌≡◌, ◌≢◌, ℕ, ◌+◌, ◌<◌, ◌≤◌, [], ◌∷◌, ◌++◌, length, true, false, Some, None, OnOk, IfErr};
 ghost use mathlib.Core.Option.{none, some};
 ghost use Rattle.turn_table.specs.Numbered.{value_of, HaveOwnNumbers, numbers_of, without, after_first, replace, Extends};
 ghost use Rattle.turn_table.specs.Views.{HasAll, after_take, after_refusal, with_note, after_commit, after_split, split_view, joined_view, after_release};

@@ -3,9 +3,9 @@
 -- Where rows are: `placing-acked`, with the new row's place; how far inserts are: `inserting-acked`. What is known: `imaging-acked`,
 -- `covering-acked`, with the new row covered where it must be. Desks and queries: `desking-acked`, `querying-acked`. Jobs and balances:
 -- `working-acked`, `balancing-acked`. Commands: `telling-acked`, with the insert ended; and `few-acked` of what is owed.
-use Rattle.std.proofs.Common.{◌≡◌, ◌≢◌, ℕ, ◌<◌, ◌∙◌, List, [], ◌∷◌, ◌++◌, Bool, true, IsTrue, length, refl, sym, ap, subst, arith, ◌⊎◌, inl, inr, All, Contains, ◌==◌, ◌+◌, le_of_lt, suc}
-use Rattle.std.specs.Prelude.{Option, Some, None, ◌^◌, zero, slice_index_or}
-use Rattle.std.proofs.lemmas.Bool.{cond_both, eqb-true}
+use Rattle.std.proofs.Common.{◌≡◌, ◌≢◌, ℕ, ◌<◌, ◌∙◌, List, [], ◌∷◌, ◌++◌, Bool, true, IsTrue, length, refl, sym, ap, subst, arith, ◌⊎◌, inl, inr, All, Contains, ◌==◌, ◌+◌, le_of_lt}
+use Rattle.std.specs.Prelude.{Option, Some, None, ◌^◌}
+use Rattle.std.proofs.lemmas.Bool.{cond_both, eqb-true, eqb-false}
 use Rattle.std.proofs.lemmas.List.Elements.{All-weaker, All-cons, All-append, All-contains, All-contains_itself, Contains-append_left, Contains-append_right}
 use Rattle.dim_hierarchy.specs.declared.row.Row.{Row}
 use Rattle.cell_stock.specs.Stock.{StockValue}
@@ -27,10 +27,10 @@ use Rattle.shard_store.specs.declared.gate.Gate.{Gate}
 use Rattle.shard_store.specs.declared.gate.Phase.{Phase}
 use Rattle.shard_store.specs.declared.queue.Queue.{Queue}
 use Rattle.tree_shape.specs.Shape.{Shape}
-use Rattle.tree_shape.proofs.Walks.{on_bool, eqb-ne}
+use Rattle.list_words.proofs.Truth.{on_bool}
 use Rattle.volap_cell.specs.Desking.{Desking}
 use Rattle.volap_cell.specs.Errands.{ReadPart, RowWay, Taken}
-use Rattle.volap_cell.specs.Growing.{IsUnder, Growing, Queueing, Resting}
+use Rattle.volap_cell.specs.Growing.{Growing, Queueing, Resting}
 use Rattle.volap_cell.specs.ImageKinds.{doing}
 use Rattle.volap_cell.specs.Imaging.{IsCovered, Fits, Covering, Imaging}
 use Rattle.volap_cell.specs.Lineage.{Lineage}
@@ -45,20 +45,13 @@ use Rattle.volap_cell.specs.declared.command.Command.{Command}
 use Rattle.volap_cell.specs.declared.command.Work.TheVariants as work_is
 use Rattle.volap_cell.specs.declared.role.Role.{Role}
 use Rattle.volap_cell.proofs.Grows.{insert-same, query-same, rows-same, live-stays, comes-stays, insert-kept}
-use Rattle.volap_cell.proofs.GrowsRows.{under-grown, resting-grown, lineage-grown, inserting-grown}
+use Rattle.volap_cell.proofs.GrowsRows.{resting-grown, lineage-grown, inserting-grown}
 use Rattle.volap_cell.proofs.GrowsDesks.{desking-grown, querying-grown}
 use Rattle.volap_cell.proofs.GrowsWork.{working-grown, balancing-grown}
 use Rattle.volap_cell.proofs.GrowsTold.{few-pushed}
 use Rattle.volap_cell.proofs.NotedCommands.{telling-ends}
 use Rattle.volap_cell.proofs.GrowsKnown.{AreOlder, fits-grown, covered-grown, imaging-grown, boxes-grown, came-grown, pushed-grown, noted-grown, must-grown, unacked-grown}
-
--- an element of a longer list is the first one or one of the others
-pub Contains-first : {X : Type 0} (y : X) (ys : List X) (x : X) → Contains (y ∷ ys) x → (y ≡ x) ⊎ Contains ys x
-Contains-first y ys x has = at has.0 has.1 has.2
-  where
-    at : (k : ℕ) → k < length (y ∷ ys) → slice_index_or (y ∷ ys) k x ≡ x → (y ≡ x) ⊎ Contains ys x
-    at zero within here = inl here
-    at (suc k) within here = inr (k, omega arith, here)
+use Rattle.list_words.proofs.Elements.{Contains-first}
 
 module _ (s : Setting) (h : List Event) (of : ℕ) (way : List ℕ) (insert : Insert) (begun : insert_at h of ≡ Some insert) where
   pub ack-changes : AckChanges s.hierarchy s.workers of way insert h
@@ -68,9 +61,6 @@ module _ (s : Setting) (h : List Event) (of : ℕ) (way : List ℕ) (insert : In
   ack-stays = ack-changes.shards
 
   -- Where shards are.
-
-  pub under-acked : (placed : ℕ → Bool) (home : ℕ → ℕ) (x r : ℕ) → IsUnder h placed home x r → IsUnder (Acked of way ∷ h) placed home x r
-  under-acked placed home x r u = under-grown s (Acked of way) h ack-stays placed home x r u
 
   pub resting-acked : (gates : ℕ → Option ℕ) (phases : ℕ → Option Phase) (shape : ℕ → Shape) (placed : ℕ → Bool) (home : ℕ → ℕ)
       → Resting h gates phases shape placed home → Resting (Acked of way ∷ h) gates phases shape placed home
@@ -114,7 +104,7 @@ module _ (s : Setting) (h : List Event) (of : ℕ) (way : List ℕ) (insert : In
         inl (ack_of way insert, subst (λ (ks : List Ack). Contains ks (ack_of way insert)) (sym ack-changes.acked) (0, omega arith, refl), number ∙ sym is))
         (λ off. elim (i.others r p) [
           | inl old ↦ inl (old.0, subst (λ (ks : List Ack). Contains ks old.0) (sym ack-changes.acked) (Contains-append_right (ack_of way insert ∷ []) (acked h) old.0 old.1), old.2)
-          | inr routed ↦ inr (routed.0, routed.1, stay_open routed.0 r routed.1 (eqb-ne r of off) routed.2)
+          | inr routed ↦ inr (routed.0, routed.1, stay_open routed.0 r routed.1 (eqb-false r of off) routed.2)
         ]);
   }
 

@@ -1,5 +1,5 @@
 -- The view after the steps of splits and moves: the fields that each touches, and no other.
-use Rattle.std.proofs.Common.{◌≡◌, ℕ, true, false, List, [], ◌∷◌, ◌++◌, Option, None, inl, inr, refl, ap, ◌∙◌}
+use Rattle.std.proofs.Common.{◌≡◌, ℕ, true, false, List, [], ◌∷◌, ◌++◌, Option, None, refl, ap, ◌∙◌}
 use Rattle.dim_hierarchy.specs.Dimension.{Dimension}
 use Rattle.cell_stock.specs.Stock.{StockValue}
 use Rattle.describing_set.specs.declared.plane.Plane.{Plane}
@@ -7,14 +7,13 @@ use Rattle.row_ledger.specs.declared.settings.Decline.{Decline}
 use Rattle.row_ledger.specs.declared.event.Event.{Event}
 use Rattle.row_ledger.specs.LedgerValue.{LedgerValue}
 use Rattle.shard_store.specs.declared.gate.Gate.{Gate}
-use Rattle.tree_shape.proofs.Parts.{each-append}
-use Rattle.volap_cell.specs.AdminKinds.{DoesDrained, CollectsBlock, CollectsQueued, CollectsAll, DoesBuildBlock, DoesFinishSplit, DoesFinishMove, DoesPostpone, DoesReuse, Declines, Freezes, Finishes, GivesUp, MovesIn, PushesBoth, Frees}
+use Rattle.list_words.proofs.Each.{each-append}
+use Rattle.volap_cell.specs.AdminKinds.{DoesDrained, CollectsBlock, CollectsQueued, CollectsAll, DoesBuildBlock, DoesFinishSplit, DoesFinishMove, DoesPostpone, Declines, Freezes, Finishes, GivesUp, MovesIn, PushesBoth}
 use Rattle.volap_cell.specs.Cells.{CellValue, FreeCell, LedgerCell, StockCell, RegistryCell, ImageCell, DeskCell, MapCell, GateCell, BlockCell, OfStock, tag_of}
 use Rattle.volap_cell.specs.Commands.{after_action}
 use Rattle.volap_cell.specs.ImageKinds.{Pushes, doing}
 use Rattle.volap_cell.specs.Planning.{next_job}
 use Rattle.volap_cell.specs.Setting.{Setting}
-use Rattle.volap_cell.specs.TreeKinds.{TurnsGate}
 use Rattle.volap_cell.specs.Values.{ActorValue, JobValue}
 use Rattle.volap_cell.specs.View.{view}
 use Rattle.volap_cell.specs.World.{World, Change, Agrees, after}
@@ -227,29 +226,3 @@ view-postpone s w n c led a b agrees d =
     let t = by_postpone in
     let ends = gives-up-ends d.of d.work d.job led a b d.gives_up in
     view-step t s w (c ∷ led ∷ []) n a b agrees (turned-stock t refl d.turns, (ends-ledger t refl ends, tt)) (ap (actor_beside t) ends.actor_is)
-
--- Using cells again.
-
-abbrev pub by_reuse : Touched
-by_reuse = record nothing { gates = true; phases = true; trees = true; active = true; pins = true; queues = true; gone = true; stock = true }
-
--- whether a cell of the tree is freed or the gate's own
-pub view-reuse : (s : Setting) (w : World) (n : ℕ) (g c : Change) (a b : ActorValue) → Agrees w (g ∷ c ∷ []) n a → DoesReuse g c a b
-    → view s (after w (g ∷ c ∷ []) n b) ≡ renewed by_reuse (view s (after w (g ∷ c ∷ []) n b)) (view s w)
-view-reuse s w n g c a b agrees d =
-    let t = by_reuse in
-    elim d.frees [
-      | inl one ↦ (let (cells, cell, list, turns, free) = one in
-          view-step t s w (g ∷ c ∷ []) n a b agrees (turned (beside t) g _ _ turns.was turns.is refl, (turned (beside t) c _ _ free.was free.is refl, tt)) (ap (actor_beside t) d.actor_is))
-      | inr own ↦ (let (empty, was, is, free) = own in
-          view-step t s w (g ∷ c ∷ []) n a b agrees (turned (beside t) g _ _ was is refl, (turned (beside t) c _ _ free.was free.is refl, tt)) (ap (actor_beside t) d.actor_is))
-    ]
-
--- where a cell of the tree is freed, of the gate only its list is touched
-abbrev pub by_free : Touched
-by_free = record nothing { gone = true; stock = true }
-
-pub view-free : (s : Setting) (w : World) (n : ℕ) (g c : Change) (a b : ActorValue) → Agrees w (g ∷ c ∷ []) n a → b ≡ a → (gate : Gate) (cells : List ℕ) (cell : ℕ) → TurnsGate gate (record gate { gone = cells }) g → Frees cell c
-    → view s (after w (g ∷ c ∷ []) n b) ≡ renewed by_free (view s (after w (g ∷ c ∷ []) n b)) (view s w)
-view-free s w n g c a b agrees same gate cells cell turns free =
-    let t = by_free in view-step t s w (g ∷ c ∷ []) n a b agrees (turned (beside t) g _ _ turns.was turns.is refl, (turned (beside t) c _ _ free.was free.is refl, tt)) (ap (actor_beside t) same)

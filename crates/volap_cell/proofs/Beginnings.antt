@@ -10,8 +10,8 @@ use Rattle.row_ledger.specs.Right.{Site, EachEvent, Stands}
 use Rattle.row_ledger.specs.declared.event.Event.{Event}
 use Rattle.row_ledger.specs.declared.event.Event.TheVariants.{Begun}
 use Rattle.row_ledger.specs.declared.settings.Call.{Call}
-use Rattle.row_ledger.proofs.Elements.{Contains-nil}
-use Rattle.row_ledger.proofs.Ended.{ended-cases, number_at}
+use Rattle.list_words.proofs.Elements.{Contains-nil}
+use Rattle.row_ledger.proofs.Ended.{ended-cases, number_of, insert_at-is}
 use Rattle.dim_hierarchy.specs.declared.row.Row.{Row}
 
 -- an insert is no query and no call
@@ -34,11 +34,6 @@ no-call h p i c a b = insert-call (event_at h p) i c a b
 
 -- the event that began an insert
 
-begun-event : (e : Option Event) (i : Insert) → option_and_then insert_in e ≡ Some i → (n : ℕ) × (e ≡ Some (Begun n i.server i.row))
-begun-event None i q = cc
-begun-event (Some (Begun n s r)) i q = let j : record { server = s; row = r } ≡ i = cc in (n, ap (λ (i : Insert). Some (Begun n i.server i.row)) j)
-begun-event (Some _) i q = cc
-
 -- an insert is somebody's, and has its end only where it has ended
 
 insert-begins : (e : Option Event) (i : Insert) → option_and_then insert_in e ≡ Some i → ((n : ℕ) × (option_and_then session_in e ≡ Some n)) × (option_map_or ends_itself e false ≡ false)
@@ -55,10 +50,6 @@ insert-ended h p i begun over = elim (or_cases (has_ended h p) (option_map_or en
   | inr itself ↦ absurd (false≢true (sym (insert-begins (event_at h p) i begun).1 ∙ itself))
 ]
 
--- a row's number is the position of its beginning
-pub row-number : (site : Site) (usable : ℕ → Bool) (h : List Event) (p : ℕ) (i : Insert) → EachEvent (Stands site usable) h → insert_at h p ≡ Some i → i.row.no ≡ p
-row-number site usable h p i each begun = let e = begun-event (event_at h p) i begun in number_at site usable h p e.0 i.server i.row each e.1
-
 among : (xs : List ℕ) (n : ℕ) → Contains xs n → list_any (λ x. x == n) xs ≡ true
 among [] n c = absurd (Contains-nil n c)
 among (x ∷ xs) n (zero, k, is) = rw (eq-eqb x n is) refl
@@ -74,8 +65,8 @@ ack-of (k ∷ ks) r (suc j, l, is) = let more = ack-of ks r (j, omega arith, is)
 pub acked-of : (site : Site) (usable : ℕ → Bool) (h : List Event) (p : ℕ) (i : Insert) → EachEvent (Stands site usable) h → insert_at h p ≡ Some i → has_ended h p ≡ true → IsTrue (is_kept h p)
     → (k : Ack) × Contains (acked h) k × (k.row.no ≡ p)
 acked-of site usable h p i each begun ended kept =
-    let e = begun-event (event_at h p) i begun in
+    let e = insert_at-is (event_at h p) i begun in
     elim (ended-cases site usable h p e.0 i.server i.row each e.1 ended) [
-      | inl c ↦ let k = ack-of (acked h) i.row c in (k.0, k.1, ap (λ (r : Row). r.no) k.2 ∙ row-number site usable h p i each begun)
+      | inl c ↦ let k = ack-of (acked h) i.row c in (k.0, k.1, ap (λ (r : Row). r.no) k.2 ∙ number_of site usable h p i each begun)
       | inr f ↦ absurd (false≢true (sym (ap not (among (failed h) p f)) ∙ kept))
     ]

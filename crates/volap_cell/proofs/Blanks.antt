@@ -1,9 +1,9 @@
 -- Which cells are blank: those of an actor's spares, and those that its job has spent on blocks.
-use Rattle.std.proofs.Common.{◌≡◌, ◌≢◌, ℕ, ◌≤◌, cond, List, [], ◌∷◌, Option, Some, None, IsSome, inl, inr, refl, sym, ap, ◌∙◌, subst, arith}
+use Rattle.std.proofs.Common.{◌≡◌, ◌≢◌, ℕ, ◌≤◌, cond, List, [], ◌∷◌, Option, Some, None, IsSome, refl, sym, ap, ◌∙◌, subst, arith}
 use Rattle.cell_stock.specs.Stock.{cells_of}
 use Rattle.link_descent.specs.declared.entered.Fresh.{Fresh}
-use Rattle.tree_shape.specs.Counts.{Each, times, Among}
-use Rattle.tree_shape.proofs.Walks.{same_is}
+use Rattle.list_words.specs.Counts.{Each, Among}
+use Rattle.list_words.proofs.Times.{among-times}
 use Rattle.volap_cell.specs.Cells.{gate_shard}
 use Rattle.volap_cell.specs.Ghost.{Ghost, Owner, NotOfStock, Unused, InPurse, AGate, InTree, InJob, is_in_purse, is_in_job}
 use Rattle.volap_cell.specs.Invariant.{InvWith}
@@ -46,14 +46,6 @@ in-job a Unused le = absurd (omega arith)
 in-job a AGate le = absurd (omega arith)
 in-job a (InTree c) le = absurd (omega arith)
 in-job a (InPurse c) le = absurd (omega arith)
-
--- what stands in a list stands there once at least
-pub among-times : (y : ℕ) (ys : List ℕ) → Among y ys → 1 ≤ times y ys
-among-times y [] m = absurd m
-among-times y (x ∷ ys) m = elim m [
-  | inl is ↦ (let one = same_is y x is in omega arith)
-  | inr more ↦ (let some = among-times y ys more in omega arith)
-]
 
 pub spare-owner : (s : Setting) (w : World) (g : Ghost) → InvWith s (view s w) g → (a y : ℕ) → Among y (cells_of (w.actors a).purse) → g.owner y ≡ InPurse a
 spare-owner s w g inv a y among =

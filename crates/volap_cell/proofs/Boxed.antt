@@ -1,11 +1,10 @@
 -- What a cell has it holds in a box.
-use Rattle.std.proofs.Common.{◌≡◌, ◌∙◌, ℕ, true, Box, Global, refl, ap}
+use Rattle.std.proofs.Common.{◌≡◌, ◌∙◌, true, Box, Global, refl, ap}
 use Rattle.std.specs.Prelude.{IsSome}
 use Rattle.cell_stock.specs.declared.stock.Stock.{Stock}
 use Rattle.dc_node.specs.declared.block.Block.{Block}
-use Rattle.mapping_table.specs.declared.map_table.MapTable.{MapTable}
 use Rattle.shard_store.specs.declared.gate.Gate.{Gate}
-use Rattle.volap_cell.specs.Cells.{TheStock, MapOf, cell_of, gate_shard, has_block, tag_of}
+use Rattle.volap_cell.specs.Cells.{cell_of, gate_shard, has_block}
 use Rattle.volap_cell.specs.declared.cell.Cell.{Cell}
 use Rattle.volap_cell.specs.declared.cell.Cell.TheVariants as cell
 
@@ -36,27 +35,3 @@ gated (cell.Image s i) e f = cc
 gated (cell.Desk s d) e f = cc
 gated (cell.Map w m) e f = cc
 gated (cell.Block b) e f = cc
-
--- the stock
-pub stocked : {P : Type 0} (c : Cell) → tag_of (cell_of c) ≡ TheStock → ((x : Box Stock Global) → c ≡ cell.Stock x → P) → P
-stocked (cell.Stock x) e f = f x refl
-stocked cell.Free e f = cc
-stocked (cell.Ledger l) e f = cc
-stocked (cell.Registry r) e f = cc
-stocked (cell.Image s i) e f = cc
-stocked (cell.Desk s d) e f = cc
-stocked (cell.Map w m) e f = cc
-stocked (cell.Gate g) e f = cc
-stocked (cell.Block b) e f = cc
-
--- a worker's table
-pub mapped : {P : Type 0} (c : Cell) (worker : ℕ) → tag_of (cell_of c) ≡ MapOf worker → ((x : Box MapTable Global) → c ≡ cell.Map worker x → P) → P
-mapped (cell.Map w x) worker e f = let same : w ≡ worker = cc in f x (ap (λ (z : ℕ). cell.Map z x) same)
-mapped cell.Free worker e f = cc
-mapped (cell.Ledger l) worker e f = cc
-mapped (cell.Stock s) worker e f = cc
-mapped (cell.Registry r) worker e f = cc
-mapped (cell.Image s i) worker e f = cc
-mapped (cell.Desk s d) worker e f = cc
-mapped (cell.Gate g) worker e f = cc
-mapped (cell.Block b) worker e f = cc

@@ -1,8 +1,9 @@
 -- How many numbers there can be that differ and are below one, in a list or as the keys of things that are counted.
 use Rattle.std.proofs.Common.{◌≡◌, ℕ, zero, suc, ◌+◌, ◌<◌, ◌≤◌, Bool, true, cond, eqb, leb, List, [], ◌∷◌, length, refl, sym, ap, ◌∙◌, subst, arith}
-use Rattle.tree_shape.specs.Counts.{same, times}
-use Rattle.tree_shape.proofs.Queries.{leb-le, leb-gt}
-use Rattle.tree_shape.proofs.Walks.{on_bool, eqb-eq, eqb-ne, same_is, same_not}
+use Rattle.list_words.specs.Counts.{same, times}
+use Rattle.std.proofs.lemmas.Bool.{leb-true, leb-false, eqb-true, eqb-false}
+use Rattle.list_words.proofs.Truth.{on_bool}
+use Rattle.list_words.proofs.Times.{same_is, same_not}
 use Rattle.volap_cell.specs.Sums.{sum_below}
 use Rattle.volap_cell.proofs.Sums.{sum-add, sum-no-more, sum-zero}
 
@@ -14,10 +15,10 @@ sum-ones (suc n) = let ih = sum-ones n in omega arith
 one-there : (n x : ℕ) → x < n → sum_below n (λ r. same r x) ≡ 1
 one-there zero x lt = absurd (omega arith)
 one-there (suc n) x lt = on_bool (eqb n x)
-    (λ q. let e = eqb-eq _ _ q in
+    (λ q. let e = eqb-true _ _ q in
     let o = same_is n x e in
     let none = sum-zero n (λ r. same r x) (λ r below. same_not r x (λ z. absurd (omega (arith, z, e)))) in omega arith)
-    (λ q. let ne = eqb-ne _ _ q in
+    (λ q. let ne = eqb-false _ _ q in
     let o = same_not n x ne in
     let ih = one-there n x (omega arith) in omega arith)
 
@@ -52,20 +53,20 @@ passing-beyond test (suc n) r le =
 -- each that passes is there once, where none beyond passes
 pub passing-once : (test : ℕ → Bool) (n : ℕ) → ((r : ℕ) → test r ≡ true → r < n) → (r : ℕ) → times r (passing test n) ≡ cond (test r) 1 0
 passing-once test n below r = on_bool (leb n r)
-    (λ q. let le = leb-le _ _ q in
+    (λ q. let le = leb-true _ _ q in
     let none = passing-beyond test n r le in
     on_bool (test r) (λ t. let lt = below r t in absurd (omega arith)) (λ t. none ∙ sym (rw t refl)))
-    (λ q. let lt = leb-gt _ _ q in inside n r lt)
+    (λ q. let lt = leb-false _ _ q in inside n r lt)
   where
     inside : (n r : ℕ) → r < n → times r (passing test n) ≡ cond (test r) 1 0
     inside zero r lt = absurd (omega arith)
     inside (suc n) r lt = on_bool (eqb r n)
-        (λ q. let e = eqb-eq _ _ q in
+        (λ q. let e = eqb-true _ _ q in
         let o = same_is r n e in
         let past = passing-beyond test n r (omega arith) in
         let t : test r ≡ test n = ap test e in
         on_bool (test n) (λ p. rw (p, t ∙ p) (omega arith)) (λ p. rw (p, t ∙ p) (omega arith)))
-        (λ q. let ne = eqb-ne _ _ q in
+        (λ q. let ne = eqb-false _ _ q in
         let o = same_not r n ne in
         let ih = inside n r (omega arith) in
         on_bool (test n) (λ p. rw p (omega arith)) (λ p. rw p ih))
@@ -82,11 +83,11 @@ module _ (f key : ℕ → ℕ) (few : (a : ℕ) → f a ≤ 1) where
   keyed zero x k = absurd (omega arith)
   keyed (suc m) x k = on_bool (eqb (f m) 0)
       (λ q. let (a, lt, some, is) = keyed m x (rw q at k) in (a, omega arith, some, is))
-      (λ q. let some = eqb-ne _ _ q in
+      (λ q. let some = eqb-false _ _ q in
       let more : 1 ≤ same x (key m) + times x (keys f key m) = rw q at k in
       on_bool (eqb x (key m))
-      (λ p. (m, omega arith, omega arith, sym (eqb-eq _ _ p)))
-      (λ p. let o = same_not x (key m) (eqb-ne _ _ p) in
+      (λ p. (m, omega arith, omega arith, sym (eqb-true _ _ p)))
+      (λ p. let o = same_not x (key m) (eqb-false _ _ p) in
       let (a, lt, some, is) = keyed m x (omega arith) in (a, omega arith, some, is)))
 
   keys-many : (m : ℕ) → sum_below m f ≤ length (keys f key m)
@@ -95,7 +96,7 @@ module _ (f key : ℕ → ℕ) (few : (a : ℕ) → f a ≤ 1) where
       let ih = keys-many m in
       let one = few m in
       on_bool (eqb (f m) 0)
-      (λ q. let none = eqb-eq _ _ q in rw q (omega arith))
+      (λ q. let none = eqb-true _ _ q in rw q (omega arith))
       (λ q. rw q (omega arith))
 
   -- of different keys below one there are at most as many
@@ -110,10 +111,10 @@ module _ (f key : ℕ → ℕ) (few : (a : ℕ) → f a ≤ 1) where
           let ih = once m (λ a b la lb. apart a b (omega arith) (omega arith)) x in
           on_bool (eqb (f m) 0)
           (λ q. rw q ih)
-          (λ q. let some = eqb-ne _ _ q in
+          (λ q. let some = eqb-false _ _ q in
           rw q (on_bool (eqb x (key m))
           (λ p. on_bool (leb 1 (times x (keys f key m)))
-          (λ t. let (a, lt, counted, is) = keyed m x (leb-le _ _ t) in
-          let same_one : a ≡ m = apart a m (omega arith) (omega arith) counted (omega arith) (is ∙ eqb-eq _ _ p) in absurd (omega arith))
-          (λ t. let none = leb-gt _ _ t in let o = same_is x (key m) (eqb-eq _ _ p) in omega arith))
-          (λ p. let o = same_not x (key m) (eqb-ne _ _ p) in omega arith)))
+          (λ t. let (a, lt, counted, is) = keyed m x (leb-true _ _ t) in
+          let same_one : a ≡ m = apart a m (omega arith) (omega arith) counted (omega arith) (is ∙ eqb-true _ _ p) in absurd (omega arith))
+          (λ t. let none = leb-false _ _ t in let o = same_is x (key m) (eqb-true _ _ p) in omega arith))
+          (λ p. let o = same_not x (key m) (eqb-false _ _ p) in omega arith)))

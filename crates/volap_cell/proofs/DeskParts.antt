@@ -1,12 +1,13 @@
 -- A part of one desk gives way to others: what all desks keep, and what the parts of the invariant keep that read desks and no actor's part.
-use Rattle.std.proofs.Common.{◌≡◌, ◌≢◌, ℕ, ◌<◌, List, ◌∷◌, ◌++◌, Bool, true, eqb, refl, sym, ap, subst, ◌∙◌, Option, Some, All, Contains}
-use Rattle.std.specs.Prelude.{IsSome, sum_by, take, drop, ◌+◌}
+use Rattle.std.proofs.Common.{◌≡◌, ◌≢◌, ℕ, ◌<◌, List, ◌∷◌, ◌++◌, Bool, true, eqb, refl, sym, ap, subst, ◌∙◌, Option, All, Contains}
+use Rattle.std.specs.Prelude.{IsSome, ◌+◌}
 use Rattle.mapping_table.specs.declared.place.Where.{Where}
 use Rattle.query_router.specs.Desk.{DeskValue, is_open}
 use Rattle.query_router.specs.declared.part.Part.{Part}
 use Rattle.row_ledger.specs.declared.event.Event.{Event}
 use Rattle.server_image.specs.Image.{ImageValue}
-use Rattle.tree_shape.proofs.Walks.{on_bool, eqb-eq, eqb-ne}
+use Rattle.list_words.proofs.Truth.{on_bool}
+use Rattle.std.proofs.lemmas.Bool.{eqb-true, eqb-false}
 use Rattle.volap_cell.specs.Lineage.{Leading}
 use Rattle.volap_cell.specs.Owing.{Owing}
 use Rattle.volap_cell.specs.Setting.{Setting}
@@ -34,8 +35,8 @@ module _ (desks desks_now : ℕ → DeskValue) (server : ℕ) (before : List Par
   -- what holds of the desk, and of each other one
   pub by-desk : (Q : ℕ → DeskValue → Type 0) (x : ℕ) → (x ≢ server → Q x (desks x)) → Q server (record (desks server) { parts = before ++ (new ++ behind) }) → Q x (desks_now x)
   by-desk Q x off here = on_bool (eqb x server)
-      (λ q. subst (λ (y : ℕ). Q y (desks_now y)) (sym (eqb-eq x server q)) (subst (Q server) (sym turn.is) here))
-      (λ q. subst (Q x) (sym (turn.elsewhere x (eqb-ne x server q))) (off (eqb-ne x server q)))
+      (λ q. subst (λ (y : ℕ). Q y (desks_now y)) (sym (eqb-true x server q)) (subst (Q server) (sym turn.is) here))
+      (λ q. subst (Q x) (sym (turn.elsewhere x (eqb-false x server q))) (off (eqb-false x server q)))
 
   pub op-same : (x : ℕ) → (desks_now x).op ≡ (desks x).op
   op-same x = by-desk (λ y d. d.op ≡ (desks y).op) x (λ ne. refl) refl

@@ -1,26 +1,22 @@
 -- Fields of the view of which a commit changes one place: what it was there, what it is, and that it is as before elsewhere.
-use Rattle.std.proofs.Common.{◌≡◌, ◌≢◌, ◌⊎◌, ℕ, ◌+◌, cond, eqb, List, [], ◌∷◌, length, refl, sym, ap, ◌∙◌, arith, ◌<◌}
+use Rattle.std.proofs.Common.{◌≡◌, ◌≢◌, ◌⊎◌, ℕ, ◌+◌, cond, eqb, List, [], ◌∷◌, length, refl, sym, ap, ◌∙◌, arith}
 use Rattle.std.specs.FinMap as map
-use Rattle.std.specs.Ordering.{nat_cmp}
-use Rattle.cell_stock.specs.Stock.{StockValue}
-use Rattle.mapping_table.specs.declared.place.Where.{Where}
 use Rattle.query_router.specs.Desk.{DeskValue}
 use Rattle.row_ledger.specs.LedgerValue.{LedgerValue}
 use Rattle.row_ledger.specs.declared.event.Event.{Event}
 use Rattle.server_image.specs.Image.{ImageValue}
 use Rattle.server_image.specs.Registry.{RegistryValue}
-use Rattle.tree_shape.specs.Counts.{Each, Among}
-use Rattle.volap_cell.specs.Cells.{CellValue, Tag, LedgerCell, StockCell, RegistryCell, MapCell, tag_of, desk_in, image_in, where_in, ledger_in, stock_in, registry_in}
+use Rattle.list_words.specs.Counts.{Each, Among}
+use Rattle.list_words.proofs.Each.{each-among}
+use Rattle.volap_cell.specs.Cells.{CellValue, Tag, LedgerCell, RegistryCell, tag_of, desk_in, image_in, ledger_in, registry_in}
 use Rattle.volap_cell.specs.ImageKinds.{Pushes, TurnsImage}
 use Rattle.volap_cell.specs.Numbering.{tag_at}
-use Rattle.volap_cell.specs.Setting.{Setting, ledger_cell, stock_cell, registry_cell, image_cell, desk_cell, map_cell}
+use Rattle.volap_cell.specs.Setting.{Setting, ledger_cell, registry_cell, image_cell, desk_cell}
 use Rattle.volap_cell.specs.ShardKinds.{TurnsDesk}
-use Rattle.volap_cell.specs.Sums.{sum_below}
 use Rattle.volap_cell.specs.Values.{ActorValue}
 use Rattle.volap_cell.specs.World.{Change, put}
-use Rattle.volap_cell.proofs.Frames.{AreAt, AreApartCells, kept-but, put-at, each-among, actor-at, actor-off}
-use Rattle.volap_cell.proofs.Numbers.{at-ledger, at-stock, at-registry, at-desk, at-image, at-map}
-use Rattle.volap_cell.proofs.Sums.{sum-changed}
+use Rattle.volap_cell.proofs.Frames.{AreAt, AreApartCells, kept-but, put-at, actor-at, actor-off}
+use Rattle.volap_cell.proofs.Numbers.{at-ledger, at-registry, at-desk, at-image}
 
 -- a field by number that one place changes
 pub record IsNewAt {A : Type 0} (now was : ℕ → A) (place : ℕ) (old new : A) : Type 0 where
@@ -102,14 +98,6 @@ image-new s cells cs tag at apart c among server old new turns only =
     let (number, lt) = at-image s cells tag c.number server old (here ∙ turns.was) in
     told (place-new image_in image_cell (λ x y e. omega arith) cells cs at apart c among server number only) (ap image_in turns.was) (ap image_in turns.is)
 
-pub table-new : (s : Setting) (cells : ℕ → CellValue) (cs : List Change) → ((y : ℕ) → tag_of (cells y) ≡ tag_at s y) → AreAt cells cs → AreApartCells cs
-    → (c : Change) → Among c cs → (worker : ℕ) (old new : map.FinMap nat_cmp Where) → c.before ≡ MapCell worker old → c.now ≡ MapCell worker new → OnlyAt where_in c.number cs
-    → IsNewAt (λ x. where_in (put cs cells (map_cell s x))) (λ x. where_in (cells (map_cell s x))) worker (map.get old) (map.get new)
-table-new s cells cs tag at apart c among worker old new was is only =
-    let here = each-among (λ (d : Change). cells d.number ≡ d.before) c cs at among in
-    let (number, lt) = at-map s cells tag c.number worker old (here ∙ was) in
-    told (place-new where_in (map_cell s) (λ x y e. omega arith) cells cs at apart c among worker number only) (ap where_in was) (ap where_in is)
-
 -- The ledger, the stock, the registry.
 
 -- what one thing was, and what it is
@@ -129,12 +117,6 @@ pub ledger-new : (s : Setting) (cells : ℕ → CellValue) (cs : List Change) �
 ledger-new s cells cs tag at apart c among old new was is =
     let here = each-among (λ (d : Change). cells d.number ≡ d.before) c cs at among in
     one-new ledger_in cells cs at apart c among ledger_cell (at-ledger s cells tag c.number old (here ∙ was)) old new (ap ledger_in was) (ap ledger_in is)
-
-pub stock-new : (s : Setting) (cells : ℕ → CellValue) (cs : List Change) → ((y : ℕ) → tag_of (cells y) ≡ tag_at s y) → AreAt cells cs → AreApartCells cs
-    → (c : Change) → Among c cs → (old new : StockValue) → c.before ≡ StockCell old → c.now ≡ StockCell new → IsNew (stock_in (put cs cells stock_cell)) (stock_in (cells stock_cell)) old new
-stock-new s cells cs tag at apart c among old new was is =
-    let here = each-among (λ (d : Change). cells d.number ≡ d.before) c cs at among in
-    one-new stock_in cells cs at apart c among stock_cell (at-stock s cells tag c.number old (here ∙ was)) old new (ap stock_in was) (ap stock_in is)
 
 pub registry-new : (s : Setting) (cells : ℕ → CellValue) (cs : List Change) → ((y : ℕ) → tag_of (cells y) ≡ tag_at s y) → AreAt cells cs → AreApartCells cs
     → (c : Change) → Among c cs → (old new : RegistryValue) → c.before ≡ RegistryCell old → c.now ≡ RegistryCell new → IsNew (registry_in (put cs cells registry_cell)) (registry_in (cells registry_cell)) old new
@@ -168,9 +150,3 @@ actor-new f actors n now = record {
   is_there = ap f (actor-at actors n now);
   elsewhere = (λ a ne. ap f (actor-off actors n now a ne));
 }
-
--- a sum over a field of which one place is new
-pub sum-new : {A : Type 0} {now was : ℕ → A} {n : ℕ} {old new : A} (f : ℕ → A → ℕ) (m : ℕ) → IsNewAt now was n old new → n < m → sum_below m (λ a. f a (now a)) + f n old ≡ sum_below m (λ a. f a (was a)) + f n new
-sum-new {now} {was} {n} {old} {new} f m at lt =
-    let changed = sum-changed m (λ a. f a (was a)) (λ a. f a (now a)) n (λ a ne. ap (f a) (at.elsewhere a ne)) lt in
-    let o = ap (f n) at.was_there in let i = ap (f n) at.is_there in omega arith

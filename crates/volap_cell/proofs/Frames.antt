@@ -1,11 +1,13 @@
 -- What a commit leaves: one lemma for any number of cells, any projection of a cell, and any projection of an actor.
 use Rattle.std.proofs.Common.{◌≡◌, ◌≢◌, ℕ, Bool, true, cond, eqb, List, [], ◌∷◌, refl, sym, ap, ◌∙◌, subst, ◌⊎◌, inl, inr}
 use mathlib.Core.Path.{fun_ext}
-use Rattle.tree_shape.specs.Counts.{Each, Among}
-use Rattle.tree_shape.proofs.Walks.{on_bool, eqb-eq, eqb-self, eqb-no}
+use Rattle.list_words.specs.Counts.{Each, Among}
+use Rattle.list_words.proofs.Truth.{on_bool, eqb-self}
+use Rattle.std.proofs.lemmas.Bool.{eqb-true, ne_eqb}
 use Rattle.volap_cell.specs.Cells.{CellValue}
 use Rattle.volap_cell.specs.Values.{ActorValue}
 use Rattle.volap_cell.specs.World.{Change, put}
+use Rattle.list_words.proofs.Each.{each-among}
 
 -- the changed cells are those of the state
 abbrev pub AreAt : (ℕ → CellValue) → List Change → Type 0
@@ -18,7 +20,7 @@ Same f cs = Each (λ c. f c.now ≡ f c.before) cs
 -- a changed cell that is seen as before
 at-change : {A : Type 0} (f : CellValue → A) (c : Change) (cs : List Change) (cells : ℕ → CellValue) → cells c.number ≡ c.before → f c.now ≡ f c.before → (y : ℕ) → eqb y c.number ≡ true → f (put (c ∷ cs) cells y) ≡ f (cells y)
 at-change f c cs cells at same y q =
-    let e = eqb-eq _ _ q in
+    let e = eqb-true _ _ q in
     ap (λ (b : Bool). f (cond b c.now (put cs cells y))) q ∙ same ∙ ap f (sym at) ∙ ap (λ (z : ℕ). f (cells z)) (sym e)
 
 -- a projection that each change leaves, at one place and everywhere
@@ -31,9 +33,6 @@ kept-one f (c ∷ cs) cells at same y =
     (at-change f c cs cells at.0 same.0 y)
     (λ q. ap (λ (b : Bool). f (cond b c.now (put cs cells y))) q ∙ ih)
 
-pub kept : {A : Type 0} (f : CellValue → A) (cs : List Change) (cells : ℕ → CellValue) → AreAt cells cs → Same f cs → ◌≡◌ {A = ℕ → A} (λ y. f (put cs cells y)) (λ y. f (cells y))
-kept f cs cells at same = fun_ext (kept-one f cs cells at same)
-
 -- a projection that only one cell changes
 pub kept-but : {A : Type 0} (f : CellValue → A) (i : ℕ) (cs : List Change) (cells : ℕ → CellValue) → AreAt cells cs → Each (λ c. (c.number ≡ i) ⊎ (f c.now ≡ f c.before)) cs → (y : ℕ) → y ≢ i → f (put cs cells y) ≡ f (cells y)
 kept-but f i [] cells at same y ne = refl
@@ -41,7 +40,7 @@ kept-but f i (c ∷ cs) cells at same y ne =
     let ih = kept-but f i cs cells at.1 same.1 y ne in
     on_bool (eqb y c.number)
     (λ q. elim same.0 [
-      | inl is ↦ absurd (ne (eqb-eq _ _ q ∙ is))
+      | inl is ↦ absurd (ne (eqb-true _ _ q ∙ is))
       | inr s ↦ at-change f c cs cells at.0 s y q
     ])
     (λ q. ap (λ (b : Bool). f (cond b c.now (put cs cells y))) q ∙ ih)
@@ -59,7 +58,7 @@ holds-still P (c ∷ cs) cells now y p =
 
 pub unmoved-one : {A : Type 0} (f : ActorValue → A) (actors : ℕ → ActorValue) (n : ℕ) (now : ActorValue) → f now ≡ f (actors n) → (a : ℕ) → f (cond (eqb a n) now (actors a)) ≡ f (actors a)
 unmoved-one f actors n now same a = on_bool (eqb a n)
-    (λ q. let e = eqb-eq _ _ q in ap (λ (b : Bool). f (cond b now (actors a))) q ∙ same ∙ ap (λ (z : ℕ). f (actors z)) (sym e))
+    (λ q. let e = eqb-true _ _ q in ap (λ (b : Bool). f (cond b now (actors a))) q ∙ same ∙ ap (λ (z : ℕ). f (actors z)) (sym e))
     (λ q. ap (λ (b : Bool). f (cond b now (actors a))) q)
 
 pub unmoved : {A : Type 0} (f : ActorValue → A) (actors : ℕ → ActorValue) (n : ℕ) (now : ActorValue) → f now ≡ f (actors n) → ◌≡◌ {A = ℕ → A} (λ a. f (cond (eqb a n) now (actors a))) (λ a. f (actors a))
@@ -71,14 +70,14 @@ pub actor-at : (actors : ℕ → ActorValue) (n : ℕ) (now : ActorValue) → co
 actor-at actors n now = rw (eqb-self n) refl
 
 pub actor-off : (actors : ℕ → ActorValue) (n : ℕ) (now : ActorValue) (a : ℕ) → a ≢ n → cond (eqb a n) now (actors a) ≡ actors a
-actor-off actors n now a off = rw (eqb-no a n off) refl
+actor-off actors n now a off = rw (ne_eqb a n off) refl
 
 -- Cells.
 
 -- a cell that isn't changed
 pub elsewhere : (cs : List Change) (cells : ℕ → CellValue) (y : ℕ) → Each (λ c. y ≢ c.number) cs → put cs cells y ≡ cells y
 elsewhere [] cells y off = refl
-elsewhere (c ∷ cs) cells y off = rw (eqb-no y c.number off.0) (elsewhere cs cells y off.1)
+elsewhere (c ∷ cs) cells y off = rw (ne_eqb y c.number off.0) (elsewhere cs cells y off.1)
 
 -- the first cell that is changed, the second and the third
 
@@ -86,26 +85,21 @@ pub first : (c : Change) (cs : List Change) (cells : ℕ → CellValue) → put 
 first c cs cells = rw (eqb-self c.number) refl
 
 pub second : (c d : Change) (cs : List Change) (cells : ℕ → CellValue) → d.number ≢ c.number → put (c ∷ d ∷ cs) cells d.number ≡ d.now
-second c d cs cells off = rw (eqb-no d.number c.number off, eqb-self d.number) refl
+second c d cs cells off = rw (ne_eqb d.number c.number off, eqb-self d.number) refl
 
 pub third : (c d e : Change) (cs : List Change) (cells : ℕ → CellValue) → e.number ≢ c.number → e.number ≢ d.number → put (c ∷ d ∷ e ∷ cs) cells e.number ≡ e.now
-third c d e cs cells off off2 = rw (eqb-no e.number c.number off, eqb-no e.number d.number off2, eqb-self e.number) refl
+third c d e cs cells off off2 = rw (ne_eqb e.number c.number off, ne_eqb e.number d.number off2, eqb-self e.number) refl
 
 -- for more than three cells: the numbers differ, and a changed cell has its new value
 abbrev pub AreApartCells : List Change → Type 0
 AreApartCells [] = Unit {0}
 AreApartCells (c ∷ cs) = Each (λ d. d.number ≢ c.number) cs × AreApartCells cs
 
--- what holds of each holds of one of them
-pub each-among : {A : Type 0} (P : A → Type 0) (c : A) (cs : List A) → Each P cs → Among c cs → P c
-each-among P c [] e m = absurd m
-each-among P c (d ∷ cs) e m = elim m [ inl is ↦ subst P (sym is) e.0 | inr more ↦ each-among P c cs e.1 more ]
-
 pub put-at : (cs : List Change) (cells : ℕ → CellValue) (c : Change) → AreApartCells cs → Among c cs → put cs cells c.number ≡ c.now
 put-at [] cells c a m = absurd m
 put-at (d ∷ cs) cells c a m = elim m [
   | inl is ↦ subst (λ (x : Change). put (d ∷ cs) cells x.number ≡ x.now) (sym is) (first d cs cells)
-  | inr more ↦ (let ne = each-among (λ (x : Change). x.number ≢ d.number) c cs a.0 more in rw (eqb-no c.number d.number ne) (put-at cs cells c a.1 more))
+  | inr more ↦ (let ne = each-among (λ (x : Change). x.number ≢ d.number) c cs a.0 more in rw (ne_eqb c.number d.number ne) (put-at cs cells c a.1 more))
 ]
 
 -- cells that differ in what is seen of them are two

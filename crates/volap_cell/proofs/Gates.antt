@@ -1,9 +1,8 @@
 -- A gate's fields after the steps that change it: new at its cell and as before at every other.
 use Rattle.std.proofs.Common.{◌≡◌, ◌≢◌, ℕ, List, [], ◌∷◌, inl, inr, refl, sym, ap, ◌∙◌}
-use Rattle.dc_node.specs.declared.block.Block.{Block}
 use Rattle.shard_store.specs.declared.gate.Gate.{Gate}
-use Rattle.volap_cell.specs.Cells.{CellValue, MapOf, OfStock, GateCell, BlockCell, tag_of}
-use Rattle.volap_cell.specs.TreeKinds.{TurnsGate, TurnsBlock}
+use Rattle.volap_cell.specs.Cells.{CellValue, MapOf, OfStock, GateCell, tag_of}
+use Rattle.volap_cell.specs.TreeKinds.{TurnsGate}
 use Rattle.volap_cell.specs.World.{Change, put}
 use Rattle.volap_cell.proofs.Fields.{IsNewAt, OnlyAt}
 use Rattle.volap_cell.proofs.Frames.{AreAt, Same, kept-but, first, second, differ}
@@ -41,8 +40,3 @@ pub gate-behind : {A : Type 0} (f : CellValue → A) (cells : ℕ → CellValue)
     → IsNewAt (λ y. f (put (m ∷ g ∷ cs) cells y)) (λ y. f (cells y)) g.number (f (GateCell old)) (f (GateCell new))
 gate-behind f cells m g cs at worker tag read turns same =
     second-new f cells m g cs at (λ e. let no : OfStock ≡ MapOf worker = ap tag_of (sym turns.was) ∙ e ∙ tag in cc) (ap f read) _ _ (ap f turns.was) (ap f turns.is) same
-
--- a block alone
-pub block-alone : {A : Type 0} (f : CellValue → A) (cells : ℕ → CellValue) (c : Change) → AreAt cells (c ∷ []) → {old new : Block} → TurnsBlock old new c
-    → IsNewAt (λ y. f (put (c ∷ []) cells y)) (λ y. f (cells y)) c.number (f (BlockCell old)) (f (BlockCell new))
-block-alone f cells c at turns = first-new f cells c [] at _ _ (ap f turns.was) (ap f turns.is) tt

@@ -19,7 +19,7 @@ use Rattle.row_ledger.proofs.Positions.{event_at-older, event_at-past}
 use Rattle.row_ledger.proofs.Descent.{comes_from-self}
 use Rattle.row_ledger.proofs.Fresh.{kind-within}
 use Rattle.row_ledger.proofs.Older.{may-older}
-use Rattle.tree_shape.proofs.Walks.{on_bool}
+use Rattle.list_words.proofs.Truth.{on_bool}
 use Rattle.volap_cell.specs.Lineage.{was_on}
 use Rattle.volap_cell.specs.View.{row_at, row_or}
 

@@ -21,14 +21,14 @@ use Rattle.row_ledger.specs.Past.{Ack, Query, insert_at, query_at, before, acked
 use Rattle.row_ledger.specs.Bounds.{must, known}
 use Rattle.row_ledger.specs.Changes.{ShardsStay}
 use Rattle.row_ledger.proofs.Answering.{All-acked_before}
-use Rattle.row_ledger.proofs.Elements.{Contains-mapped}
+use Rattle.list_words.proofs.Elements.{Contains-mapped}
 use Rattle.row_ledger.proofs.Positions.{before-older}
 use Rattle.shard_store.specs.declared.gate.Gate.{Gate}
-use Rattle.tree_shape.specs.Counts.{times}
+use Rattle.list_words.specs.Counts.{times}
+use Rattle.list_words.proofs.Times.{same_is}
 use Rattle.tree_shape.specs.Queries.{IsUnfinished, fits}
 use Rattle.tree_shape.specs.Shape.{Shape, nodes}
 use Rattle.tree_shape.specs.Tables.{AreAlike, IsThereOrCounted}
-use Rattle.tree_shape.proofs.Walks.{same_is}
 use Rattle.tree_shape.proofs.Tables.{query-alike}
 use Rattle.volap_cell.specs.Desking.{AreUnrelated, AreLinesApart, IsQueryPart, IsWantOf, Desking}
 use Rattle.volap_cell.specs.Errands.{Taken, ReadPart}

@@ -56,9 +56,6 @@ module _ (s : Setting) (e : Event) (h : List Event) (stay : ShardsStay s.workers
   placed-row : (r : ℕ) → placed r ≡ true → row_at (e ∷ h) r ≡ row_at h r
   placed-row r p = row-older e h r (older.placed_rows r p)
 
-  acked-row : (k : Ack) → Contains (acked h) k → row_at (e ∷ h) k.row.no ≡ row_at h k.row.no
-  acked-row k has = placed-row k.row.no (older.acked_rows k has)
-
   -- Images.
 
   pub growth-grown : (g : Growth) → IsGrowth s h (row_at h) placed g → IsGrowth s (e ∷ h) (row_at (e ∷ h)) placed g

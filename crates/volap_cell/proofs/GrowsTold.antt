@@ -3,7 +3,7 @@ use Rattle.std.proofs.Common.{◌≡◌, ◌≢◌, ℕ, ◌+◌, ◌<◌, ◌�
 use Rattle.std.specs.Prelude.{Option, Some, None, option_and_then}
 use Rattle.std.specs.List.{list_any}
 use Rattle.std.specs.Option.{option_map_or}
-use Rattle.std.proofs.lemmas.Bool.{or_left, or_right}
+use Rattle.std.proofs.lemmas.Bool.{or_left, or_right, eqb-false, ne_eqb}
 use Rattle.dim_hierarchy.specs.Filter.{IsFilterOf}
 use Rattle.dim_hierarchy.specs.Rows.{IsRowOf}
 use Rattle.row_ledger.specs.Classes.{is_there}
@@ -18,7 +18,7 @@ use Rattle.row_ledger.specs.Work.{is_known}
 use Rattle.row_ledger.proofs.Fresh.{kind-within}
 use Rattle.row_ledger.proofs.Older.{is_over-older}
 use Rattle.row_ledger.proofs.Positions.{before-older, event_at-here, since-inside}
-use Rattle.tree_shape.proofs.Walks.{on_bool, eqb-eq, eqb-ne, eqb-no}
+use Rattle.list_words.proofs.Truth.{on_bool}
 use Rattle.volap_cell.specs.Setting.{Setting, site_in}
 use Rattle.volap_cell.specs.Telling.{IsCalledAs, IsProgress, IsOverOrOpen, Telling}
 use Rattle.volap_cell.specs.Values.{JobValue}
@@ -32,20 +32,20 @@ use Rattle.volap_cell.proofs.GrowsWork.{work-same}
 -- Other commands. An event that belongs to another command is no end, no work and no page of this one.
 
 pub no-end : (e : Event) (p : ℕ) → number_in e ≢ Some p → is_end_of p e ≡ false
-no-end (Acked of path) p other = eqb-no of p (λ q. other (ap Some q))
-no-end (Answered of agg) p other = eqb-no of p (λ q. other (ap Some q))
-no-end (Failed of) p other = eqb-no of p (λ q. other (ap Some q))
-no-end (Ended of how) p other = eqb-no of p (λ q. other (ap Some q))
+no-end (Acked of path) p other = ne_eqb of p (λ q. other (ap Some q))
+no-end (Answered of agg) p other = ne_eqb of p (λ q. other (ap Some q))
+no-end (Failed of) p other = ne_eqb of p (λ q. other (ap Some q))
+no-end (Ended of how) p other = ne_eqb of p (λ q. other (ap Some q))
 no-end _ p other = refl
 
 pub no-work : (e : Event) (p : ℕ) → number_in e ≢ Some p → is_work_of p e ≡ false
-no-work (Split of shard left right) p other = eqb-no of p (λ q. other (ap Some q))
-no-work (Moved of shard worker) p other = eqb-no of p (λ q. other (ap Some q))
-no-work (Left of shard how) p other = eqb-no of p (λ q. other (ap Some q))
+no-work (Split of shard left right) p other = ne_eqb of p (λ q. other (ap Some q))
+no-work (Moved of shard worker) p other = ne_eqb of p (λ q. other (ap Some q))
+no-work (Left of shard how) p other = ne_eqb of p (λ q. other (ap Some q))
 no-work _ p other = refl
 
 pub no-page : (e : Event) (p : ℕ) → number_in e ≢ Some p → page_in p e ≡ None
-no-page (Shown of page) p other = rw (eqb-no of p (λ q. other (ap Some q))) refl
+no-page (Shown of page) p other = rw (ne_eqb of p (λ q. other (ap Some q))) refl
 no-page _ p other = refl
 
 pub ended-same : (e : Event) (h : List Event) (p : ℕ) → number_in e ≢ Some p → has_ended (e ∷ h) p ≡ has_ended h p
@@ -121,8 +121,8 @@ module _ (s : Setting) (e : Event) (h : List Event) (n : ℕ) (commands commands
 
   command-now : (a : ℕ) (c : Command) → commands_now a ≡ Some c → IsOwn (e ∷ h) c.of a × (has_ended (e ∷ h) c.of ≡ false) × IsProgress s (e ∷ h) c.of c.work (jobs_now a) (roles a)
   command-now a c is = on_bool (a == n)
-      (λ q. subst (λ (b : ℕ). commands_now b ≡ Some c → IsOwn (e ∷ h) c.of b × (has_ended (e ∷ h) c.of ≡ false) × IsProgress s (e ∷ h) c.of c.work (jobs_now b) (roles b)) (sym (eqb-eq a n q)) (noted.mine c) is)
-      (λ q. let off : a ≢ n = eqb-ne a n q in
+      (λ q. subst (λ (b : ℕ). commands_now b ≡ Some c → IsOwn (e ∷ h) c.of b × (has_ended (e ∷ h) c.of ≡ false) × IsProgress s (e ∷ h) c.of c.work (jobs_now b) (roles b)) (sym (eqb-true a n q)) (noted.mine c) is)
+      (λ q. let off : a ≢ n = eqb-false a n q in
       let o = noted.others a off in
       let was : commands a ≡ Some c = sym o.0 ∙ is in
       let own : IsOwn h c.of a = i.own a c was in
@@ -135,9 +135,9 @@ module _ (s : Setting) (e : Event) (h : List Event) (n : ℕ) (commands commands
 
   last-now : (a p : ℕ) → IsOwn (e ∷ h) p a → p < seen_now a
   last-now a p own = on_bool (a == n)
-      (λ q. let all : seen_now a ≡ length (e ∷ h) = ap seen_now (eqb-eq a n q) ∙ noted.all_seen in
+      (λ q. let all : seen_now a ≡ length (e ∷ h) = ap seen_now (eqb-true a n q) ∙ noted.all_seen in
       let below : p < length (e ∷ h) = kind-within session_in (e ∷ h) p a own in omega arith)
-      (λ q. let off : a ≢ n = eqb-ne a n q in
+      (λ q. let off : a ≢ n = eqb-false a n q in
       let o = noted.others a off in
       elim (kind-cases session_in e h p a own) [
         | inl old ↦ subst (λ (m : ℕ). p < m) (sym o.2) (i.last a p old)
@@ -146,20 +146,20 @@ module _ (s : Setting) (e : Event) (h : List Event) (n : ℕ) (commands commands
 
   within-now : (a : ℕ) → seen_now a ≤ length (e ∷ h)
   within-now a = on_bool (a == n)
-      (λ q. le_of_eq (ap seen_now (eqb-eq a n q) ∙ noted.all_seen))
-      (λ q. let o = noted.others a (eqb-ne a n q) in let same : seen_now a ≡ seen a = o.2 in let below : seen a ≤ length h = i.within a in omega arith)
+      (λ q. le_of_eq (ap seen_now (eqb-true a n q) ∙ noted.all_seen))
+      (λ q. let o = noted.others a (eqb-false a n q) in let same : seen_now a ≡ seen a = o.2 in let below : seen a ≤ length h = i.within a in omega arith)
 
   status-now : (a p : ℕ) → IsOwn (e ∷ h) p a → IsOverOrOpen (e ∷ h) commands_now p
   status-now a p own = elim (kind-cases session_in e h p a own) [
     | inl old ↦ elim (i.status a p old) [
       | inl over ↦ inl (is_over-older e h p over)
       | inr at ↦ on_bool (at.0 == n)
-          (λ q. let mine : commands n ≡ Some at.1 = sym (ap commands (eqb-eq at.0 n q)) ∙ at.2 in
+          (λ q. let mine : commands n ≡ Some at.1 = sym (ap commands (eqb-true at.0 n q)) ∙ at.2 in
           elim (noted.goes_on at.1 mine) [
             | inl ended ↦ inl (or_left (has_ended (e ∷ h) p) _ (ap (has_ended (e ∷ h)) (sym at.3) ∙ ended))
             | inr goes ↦ inr (n, goes.0, goes.1, goes.2 ∙ at.3)
           ])
-          (λ q. let o = noted.others at.0 (eqb-ne at.0 n q) in inr (at.0, at.1, o.0 ∙ at.2, at.3))
+          (λ q. let o = noted.others at.0 (eqb-false at.0 n q) in inr (at.0, at.1, o.0 ∙ at.2, at.3))
     ]
     | inr new ↦ elim (noted.begins a new.1) [
       | inl itself ↦ inl (or_right (has_ended (e ∷ h) p) _ (ap (λ (o : Option Event). option_map_or ends_itself o false) (ap (event_at (e ∷ h)) new.0 ∙ event_at-here e h) ∙ itself))

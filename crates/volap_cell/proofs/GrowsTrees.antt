@@ -10,7 +10,7 @@ use Rattle.row_ledger.proofs.Positions.{event_at-past}
 use Rattle.shard_store.specs.declared.gate.Gate.{Gate}
 use Rattle.shard_store.specs.declared.gate.Phase.{Phase}
 use Rattle.shard_store.specs.declared.queue.Queue.{Queue}
-use Rattle.tree_shape.specs.Counts.{Each}
+use Rattle.list_words.specs.Counts.{Each}
 use Rattle.tree_shape.specs.Shape.{Shape}
 use Rattle.tree_shape.specs.Tables.{AreAlike, IsThere}
 use Rattle.tree_shape.proofs.Tables.{tree-alike}

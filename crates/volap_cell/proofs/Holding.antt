@@ -1,25 +1,22 @@
 -- What a step may hold: no other actor must keep a cell that is no block, nor the block at which an actor carries a row itself; and
 -- each cell that isn't free has its place.
-use Rattle.std.proofs.Common.{◌≡◌, ◌≢◌, ℕ, ◌<◌, true, false, List, Option, Some, None, length, get_or, refl, sym, ap, ◌∙◌, subst, inl, inr}
-use Rattle.std.specs.Prelude.{⊤}
+use Rattle.std.proofs.Common.{◌≡◌, ◌≢◌, ℕ, ◌<◌, true, List, Option, Some, None, length, refl, sym, ap, ◌∙◌, subst, inl, inr}
 use Rattle.std.proofs.lemmas.Bool.{cases_lt}
-use Rattle.dim_hierarchy.specs.Dimension.{Dimension}
 use Rattle.tree_shape.specs.Trees.{IsTree}
-use Rattle.volap_cell.specs.Cells.{FreeCell, OfStock, cell_of, has_block, tag_of}
+use Rattle.volap_cell.specs.Cells.{FreeCell, OfStock, has_block, tag_of}
 use Rattle.volap_cell.specs.Errands.{RowWay, RowPlace, Outside, AtBlock, InLeaf, AtRest, IsCarried, block_at, has_passed}
 use Rattle.volap_cell.specs.Ghost.{Ghost, InTree}
 use Rattle.volap_cell.specs.Growing.{table_of}
 use Rattle.volap_cell.specs.Invariant.{InvWith}
 use Rattle.volap_cell.specs.Setting.{Setting}
-use Rattle.volap_cell.specs.State.{Has, HasInv, IsUnkept, IsWorldOf}
+use Rattle.volap_cell.specs.State.{IsWorldOf}
 use Rattle.volap_cell.specs.Stocking.{IsWhole, cells_at}
-use Rattle.volap_cell.specs.Values.{ActorValue, actor_of}
 use Rattle.volap_cell.specs.View.{View, view}
 use Rattle.volap_cell.specs.World.{World, MustKeep}
 use Rattle.volap_cell.specs.declared.actor.Actor.{Actor}
 use Rattle.volap_cell.specs.declared.cell.Cell.{Cell}
 use Rattle.volap_cell.proofs.Standings.{live-on}
-use Rattle.volap_cell.proofs.States.{stands, of-it, is-some, same-actor, within}
+use Rattle.volap_cell.proofs.States.{stands}
 
 -- Who must keep a block.
 
@@ -89,30 +86,6 @@ one-keeps s w g inv a b y keeps keeps_too =
     let at : (g.shape c.gate).at d.way.row.no ≡ y = subst (λ (z : ℕ). (g.shape z).at d.way.row.no ≡ y) (sym gate) d.at in
     inv.turning.one a b c.way d.way c.is_way d.is_way (c.tree.alone c.way.row.no d.way.row.no c.placed c.carried placed carried (c.at ∙ sym at))
 
--- The same of the vectors.
-
-unkept-where : (cells : List (Option Cell)) (actors : List (Option Actor)) (w : World) (n y : ℕ) → IsWorldOf cells actors w → ((a : ℕ) → a ≢ n → ¬ MustKeep (w.actors a) y) → IsUnkept actors n y
-unkept-where cells actors w n y is none a ne lt = of-both (get_or actors a None) (w.actors a) (is.actor a lt) (none a ne)
-  where
-    of-both : (o : Option Actor) (v : ActorValue) → Has o (λ x. actor_of x ≡ v) → ¬ MustKeep v y → Has o (λ x. ¬ MustKeep (actor_of x) y)
-    of-both None v e k = absurd e
-    of-both (Some x) v e k = subst (λ (z : ActorValue). ¬ MustKeep z y) (sym e) k
-
--- no other actor must keep a cell that is no block
-pub unkept-other : (h : List Dimension) (cells : List (Option Cell)) (actors : List (Option Actor)) (n y : ℕ) (c : Cell) → HasInv h cells actors → get_or cells y None ≡ Some c → has_block (cell_of c) ≡ false → IsUnkept actors n y
-unkept-other h cells actors n y c has at none =
-    unkept-where cells actors has.world n y has.is (λ a ne keeps.
-    let same : cell_of c ≡ has.world.cells y = of-it (get_or cells y None) (λ x. cell_of x ≡ has.world.cells y) c (has.is.cell y (within cells y c at)) at in
-    let block : has_block (cell_of c) ≡ true = ap has_block same ∙ keeps-block has.setting has.world has.inv.ghost_of has.inv.holds a y keeps in
-    let no : true ≡ false = sym block ∙ none in absurd (cc))
-
--- no other actor must keep the block that an actor must keep itself
-pub unkept-own : (h : List Dimension) (cells : List (Option Cell)) (actors : List (Option Actor)) (n y : ℕ) (a : Actor) → HasInv h cells actors → get_or actors n None ≡ Some a → MustKeep (actor_of a) y → IsUnkept actors n y
-unkept-own h cells actors n y a has at keeps =
-    unkept-where cells actors has.world n y has.is (λ b ne keeps_too.
-    let own : MustKeep (has.world.actors n) y = subst (λ (z : ActorValue). MustKeep z y) (sym (same-actor cells actors has.world n a has.is at)) keeps in
-    ne (one-keeps has.setting has.world has.inv.ghost_of has.inv.holds b n y keeps_too own))
-
 -- Places.
 
 -- a cell that isn't free has its place
@@ -125,10 +98,3 @@ has-place cells actors w y is taken = elim (cases_lt y (length cells)) [
 -- and so has each of those that aren't the stock's
 pub has-own-place : (cells : List (Option Cell)) (actors : List (Option Actor)) (w : World) (y : ℕ) → IsWorldOf cells actors w → tag_of (w.cells y) ≢ OfStock → y < length cells
 has-own-place cells actors w y is other = has-place cells actors w y is (λ free. other (ap tag_of free))
-
--- something stands there
-pub has-cell : (cells : List (Option Cell)) (actors : List (Option Actor)) (w : World) (y : ℕ) → IsWorldOf cells actors w → y < length cells → Has (get_or cells y None) (λ (x : Cell). ⊤)
-has-cell cells actors w y is lt = (let at = stands (get_or cells y None) (λ c. cell_of c ≡ w.cells y) (is.cell y lt) in is-some (get_or cells y None) (λ (x : Cell). ⊤) at.0 at.1 tt)
-
-pub has-actor : (cells : List (Option Cell)) (actors : List (Option Actor)) (w : World) (a : ℕ) → IsWorldOf cells actors w → a < length actors → Has (get_or actors a None) (λ (x : Actor). ⊤)
-has-actor cells actors w a is lt = (let at = stands (get_or actors a None) (λ x. actor_of x ≡ w.actors a) (is.actor a lt) in is-some (get_or actors a None) (λ (x : Actor). ⊤) at.0 at.1 tt)

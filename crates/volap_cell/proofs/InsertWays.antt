@@ -4,7 +4,7 @@ use Rattle.dim_hierarchy.specs.declared.filter.Pick.{Pick}
 use Rattle.dim_hierarchy.specs.declared.row.Row.{Row}
 use Rattle.query_router.specs.declared.part.Want.TheVariants as want
 use Rattle.row_ledger.specs.Past.{Insert, insert_at, query_at}
-use Rattle.volap_cell.proofs.Beginnings.{no-query, row-number}
+use Rattle.volap_cell.proofs.Beginnings.{no-query}
 use Rattle.volap_cell.specs.Desking.{IsAtPart, IsWantOf}
 use Rattle.volap_cell.specs.Errands.{RowWay, Taken, row_way, taken_by, taken_of, want_of, way_in_task, way_of}
 use Rattle.volap_cell.specs.Ghost.{Ghost}
@@ -13,6 +13,7 @@ use Rattle.volap_cell.specs.Setting.{Setting}
 use Rattle.volap_cell.specs.Values.{ErrandValue, TaskValue, OfRow, Unread, Read}
 use Rattle.volap_cell.specs.View.{view}
 use Rattle.volap_cell.specs.World.{World}
+use Rattle.row_ledger.proofs.Ended.{number_of}
 
 -- an actor has the row with this number, for a part on the desk of this server
 pub record HasTheRow (s : Setting) (w : World) (r server a : ℕ) : Type 0 where
@@ -46,7 +47,7 @@ taken-way s w g inv r i a t begun op takes = by-errand (w.actors a).errand refl 
           way = row_way e x;
           at = ap way_of errand ∙ ap (way_in_task e) is;
           server_is = ap (λ (u : Taken). u.server) same;
-          number = ap (λ (y : Row). y.no) (sym its.2) ∙ row-number _ _ (view s w).history r its.0 inv.telling.right.right.each there;
+          number = ap (λ (y : Row). y.no) (sym its.2) ∙ number_of _ _ (view s w).history r its.0 inv.telling.right.right.each there;
         }
     by-task e (Unread f) errand is same = absurd (no-filter f (ap (λ (u : Taken). u.want) (sym same) ∙ ap want_of is))
     by-task e (Read x) errand is same = absurd (no-filter x.wanted.picks (ap (λ (u : Taken). u.want) (sym same) ∙ ap want_of is))

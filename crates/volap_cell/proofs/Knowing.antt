@@ -10,11 +10,11 @@ use Rattle.row_ledger.specs.Past.{Ack, Insert, Pull, ack_of, acked, insert_at, i
 use Rattle.row_ledger.specs.Right.{Site, EachEvent, Stands, IsRightAck}
 use Rattle.row_ledger.specs.declared.event.Event.{Event}
 use Rattle.row_ledger.specs.declared.event.Event.TheVariants.{Acked}
-use Rattle.row_ledger.proofs.Elements.{Contains-filtered, Contains-nil}
+use Rattle.list_words.proofs.Elements.{Contains-filtered, Contains-nil}
 use Rattle.row_ledger.proofs.Fresh.{kind-within}
 use Rattle.row_ledger.proofs.Older.{acked-older}
 use Rattle.row_ledger.proofs.Positions.{event_at-older}
-use Rattle.volap_cell.proofs.Beginnings.{row-number}
+use Rattle.row_ledger.proofs.Ended.{number_of}
 
 -- what a server acknowledged itself
 
@@ -68,7 +68,7 @@ acked-begun site usable [] k each c = absurd (Contains-nil k c)
 acked-begun site usable (Acked of path ∷ past) k each c =
     let a : IsRightAck past of path = each.0 in
     let is : option_map (ack_of path) (insert_at past of) ≡ Some (ack_of path a.insert) = rw a.begun refl in
-    go a.insert (row-number site usable past of a.insert each.1 a.begun) a.begun (subst (λ (o : Option Ack). Contains (cons_option o (acked past)) k) is c) (acked-begun site usable past k each.1)
+    go a.insert (number_of site usable past of a.insert each.1 a.begun) a.begun (subst (λ (o : Option Ack). Contains (cons_option o (acked past)) k) is c) (acked-begun site usable past k each.1)
   where
     go : (i : Insert) → i.row.no ≡ of → insert_at past of ≡ Some i → Contains (ack_of path i ∷ acked past) k → (Contains (acked past) k → insert_at past k.row.no ≡ Some (record { server = k.server; row = k.row }))
         → insert_at (Acked of path ∷ past) k.row.no ≡ Some (record { server = k.server; row = k.row })

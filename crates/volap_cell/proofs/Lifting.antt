@@ -1,10 +1,10 @@
 -- Cells that are moved out one after the other, some of them at times only: those that are still to come can be moved out when the
 -- first ones are, and all of them stood at their places before.
-use Rattle.std.proofs.Common.{◌≡◌, ◌≢◌, ℕ, Bool, true, List, [], ◌∷◌, ◌++◌, Option, Some, None, is_some, length, ◌<◌, get_or, set, arith, refl, sym, ap, ◌∙◌, subst}
+use Rattle.std.proofs.Common.{◌≡◌, ◌≢◌, ℕ, Bool, List, [], ◌∷◌, ◌++◌, Option, Some, None, is_some, length, ◌<◌, get_or, set, arith, refl, sym, ap, ◌∙◌, subst}
 use Rattle.std.specs.Prelude.{⊤, option_map}
 use Rattle.std.proofs.lemmas.List.{get_or-set_other}
 use Rattle.dim_hierarchy.specs.Dimension.{Dimension}
-use Rattle.tree_shape.specs.Counts.{Each}
+use Rattle.list_words.specs.Counts.{Each}
 use Rattle.volap_cell.specs.Cells.{cell_of}
 use Rattle.volap_cell.specs.Setting.{Setting}
 use Rattle.volap_cell.specs.State.{Has, IsWorldOf, AreDifferent, CanLift, Stand, taken, given, cell_if, number_if, Exchange, exchange_if, numbers_of, cells_before, cells_now, changes_of, still, MayHold, Stepped}
@@ -86,28 +86,6 @@ if-changes y (Some c) (Some d) = refl
 pub if-still : (y : ℕ) (cell : Option Cell) → still (cell_if y cell) ≡ held_if y (option_map cell_of cell)
 if-still y None = refl
 if-still y (Some c) = refl
-
--- what holds of its number holds where it was moved out
-pub if-each : (P : ℕ → Type 0) (y : ℕ) (wanted : Bool) (cell : Option Cell) → is_some cell ≡ wanted → Each P (number_if y wanted) → Each (λ t. P t.0) (cell_if y cell)
-if-each P y wanted None is e = tt
-if-each P y wanted (Some c) is e = (let all : Each P (number_if y true) = subst (λ (v : Bool). Each P (number_if y v)) (sym is) e in (all.0, tt))
-
-apart-of : (ys zs : List ℕ) → AreDifferent (ys ++ zs) → Each (λ z. Each (λ y. z ≢ y) ys) zs
-apart-of [] zs d = none zs
-  where
-    none : (zs : List ℕ) → Each (λ z. Each (λ y. z ≢ y) []) zs
-    none [] = tt
-    none (z ∷ zs) = (tt, none zs)
-apart-of (y ∷ ys) zs d = both zs (back (λ z. z ≢ y) ys zs d.0) (apart-of ys zs d.1)
-  where
-    both : (zs : List ℕ) → Each (λ z. z ≢ y) zs → Each (λ z. Each (λ y. z ≢ y) ys) zs → Each (λ z. Each (λ y. z ≢ y) (y ∷ ys)) zs
-    both [] p q = tt
-    both (z ∷ zs) p q = ((p.0, q.0), both zs p.1 q.1)
-
--- it stood at its place before the others were out
-pub if-stand : (xs out : List (Option Cell)) (ys : List ℕ) (y : ℕ) (wanted : Bool) (cell : Option Cell) → out ≡ taken ys xs → AreDifferent (ys ++ number_if y wanted) → is_some cell ≡ wanted
-    → Stand out (cell_if y cell) → Stand xs (cell_if y cell)
-if-stand xs out ys y wanted cell e d is st = stand-others xs out ys (cell_if y cell) e (if-each (λ z. Each (λ y. z ≢ y) ys) y wanted cell is (apart-of ys (number_if y wanted) d)) st
 
 -- its place is there still
 pub if-within : (xs out : List (Option Cell)) (y : ℕ) (before now : Option Cell) → length out ≡ length xs → is_some now ≡ is_some before → Stand xs (cell_if y before) → Each (λ t. t.0 < length out) (cell_if y now)

@@ -1,6 +1,6 @@
 -- Lines of shards: what comes from a shard comes from all from which that comes, and what the children of a split are to it and to one another.
-use Rattle.std.proofs.Common.{◌≡◌, ◌≢◌, ℕ, zero, suc, ◌+◌, ◌<◌, ◌≤◌, List, [], ◌∷◌, ◌++◌, Bool, true, false, not, refl, sym, ap, subst, arith, ◌==◌, ◌∙◌, ◌||◌, ◌&&◌, ◌⊎◌, inl, inr}
-use Rattle.std.specs.Prelude.{Contains, IsTrue, if◌then◌else◌, filter_map}
+use Rattle.std.proofs.Common.{◌≡◌, ◌≢◌, ℕ, zero, suc, ◌+◌, ◌<◌, ◌≤◌, List, [], ◌∷◌, ◌++◌, Bool, true, false, refl, sym, ap, subst, arith, ◌==◌, ◌∙◌, ◌||◌, ◌&&◌, ◌⊎◌, inl, inr}
+use Rattle.std.specs.Prelude.{IsTrue, if◌then◌else◌, filter_map}
 use Rattle.std.specs.List.{list_any}
 use Rattle.std.proofs.lemmas.Bool.{and_parts, eqb-true, eq-eqb, false≢true, or_cases, or_right}
 use Rattle.std.proofs.lemmas.Bool.Decides.{nat_tests}
@@ -9,25 +9,8 @@ use Rattle.row_ledger.specs.Right.{EachEvent, IsRightSplit, Site, Stands}
 use Rattle.row_ledger.specs.Shards.{comes_from, descends, ids_made, is_child, is_path, parent_in, was_listed}
 use Rattle.row_ledger.specs.declared.event.Event.{Event}
 use Rattle.row_ledger.specs.declared.event.Event.TheVariants.{Split}
-use Rattle.row_ledger.proofs.Descent.{WasSplit, comes_from-comparable, comes_from-made, comes_from-older, comes_from-self, live-made, split-made}
-use Rattle.row_ledger.proofs.Elements.{Contains-nil}
-
--- the shard from which one is made, or that one itself, had its id before
-parent-made : (site : Site) (usable : ℕ → Bool) (past : List Event) (e : Event) (y : ℕ)
-    → EachEvent (Stands site usable) past → Stands site usable past e → y < ids_made site.workers (e ∷ past) → parent_in e y < ids_made site.workers past
-parent-made site usable past (Split of shard left right) y each stands made =
-    let next : left ≡ ids_made site.workers past = stands.next in
-    let after : right ≡ ids_made site.workers past + 1 = stands.after in
-    let parent : shard < ids_made site.workers past = live-made site usable past shard each stands.done.live in
-    at (y == left) refl (y == right) refl next after parent made
-  where
-    at : (v : Bool) → (y == left) ≡ v → (w : Bool) → (y == right) ≡ w → left ≡ ids_made site.workers past → right ≡ ids_made site.workers past + 1
-        → shard < ids_made site.workers past → y < ids_made site.workers (Split of shard left right ∷ past)
-        → (if v || w then shard else y) < ids_made site.workers past
-    at true is w is_w next after parent made = parent
-    at false is true is_w next after parent made = parent
-    at false is false is_w next after parent made = let below : y < ids_made site.workers past + 2 = omega arith in grind (arith, nat_tests)
-parent-made site usable past _ y each stands made = made
+use Rattle.row_ledger.proofs.Descent.{WasSplit, comes_from-made, comes_from-older, comes_from-self, live-made, parent_in-made, split-made}
+use Rattle.list_words.proofs.Elements.{Contains-nil}
 
 -- what comes from a shard comes from all from which that comes
 pub comes_from-through : (site : Site) (usable : ℕ → Bool) (past : List Event) (x y z : ℕ)
@@ -36,7 +19,7 @@ comes_from-through site usable [] x y z each made upper lower = subst (λ t. com
 comes_from-through site usable (e ∷ past) x y z each made upper lower = elim (or_cases (z == y) (comes_from past y (parent_in e z)) lower) [
   | inl same ↦ subst (λ t. comes_from (e ∷ past) x t ≡ true) (sym (eqb-true z y same)) upper
   | inr older ↦
-      let parent = parent-made site usable past e z each.1 each.0 made in
+      let parent = parent_in-made site usable past e z each.1 each.0 made in
       let was_made : y < ids_made site.workers past = comes_from-made site usable past y (parent_in e z) each.1 parent older in
       let was : comes_from past x y ≡ true = sym (comes_from-older site usable past e x y each.0 was_made) ∙ upper in
       or_right (z == x) (comes_from past x (parent_in e z)) (comes_from-through site usable past x y (parent_in e z) each.1 parent was older)
@@ -165,8 +148,6 @@ are-children site usable (e ∷ past) x l r each (of, (suc k, within, here)) =
       left_back = at_x l ∙ c.left_back;
       right_back = at_x r ∙ c.right_back;
     }
-
--- Paths.
 
 -- a path goes on to a child of its last shard
 

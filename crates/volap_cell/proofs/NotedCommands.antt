@@ -49,7 +49,7 @@ end-number (Failed of) p is = is
 end-number (Ended of how) p is = is
 end-number _ p is = (let never : ◌≡◌ {A = Option ℕ} None (Some p) = is in cc)
 
-end-begins-none : (e : Event) (p : ℕ) → end_in e ≡ Some p → session_in e ≡ None
+pub end-begins-none : (e : Event) (p : ℕ) → end_in e ≡ Some p → session_in e ≡ None
 end-begins-none (Acked of path) p is = refl
 end-begins-none (Answered of agg) p is = refl
 end-begins-none (Failed of) p is = refl

@@ -55,9 +55,6 @@ is-desk s y server e = grind arith
 pub is-map : (s : Setting) (y worker : ℕ) → tag_at s y ≡ MapOf worker → (y ≡ map_cell s worker) × (worker < s.workers)
 is-map s y worker e = grind arith
 
-pub is-rest : (s : Setting) (y : ℕ) → tag_at s y ≡ OfStock → first_stock_cell s ≤ y
-is-rest s y e = grind arith
-
 -- Cells of a state in which each cell holds what is its place's.
 
 -- the tag of the place where a cell stands that is as this one

@@ -1,10 +1,7 @@
 -- The cells of an opening: each is one of the fixed cells, a gate, a root or free.
-use Rattle.std.proofs.Common.{◌≡◌, ◌≢◌, ◌∙◌, ℕ, zero, suc, ◌<◌, ◌≤◌, ◌⊎◌, inl, inr, true, List, [], ◌∷◌, refl, sym, ap, arith}
-use Rattle.std.specs.Prelude.{None, All, nat_lt, ◌==◌, if◌then◌else◌}
+use Rattle.std.proofs.Common.{◌≡◌, ◌≢◌, ◌∙◌, ℕ, zero, suc, ◌<◌, ◌≤◌, ◌⊎◌, inl, inr, true, [], refl, sym, ap, arith}
+use Rattle.std.specs.Prelude.{None, nat_lt, ◌==◌, if◌then◌else◌}
 use Rattle.std.proofs.lemmas.Bool.{cases_Bool, cases_lt, eqb-true, eqb-false, false≢true}
-use Rattle.std.proofs.lemmas.List.Elements.{All-head, All-tail}
-use Rattle.tree_shape.specs.Counts.{times}
-use Rattle.tree_shape.proofs.Walks.{same_not}
 use Rattle.volap_cell.specs.Cells.{CellValue, FreeCell, LedgerCell, StockCell, RegistryCell, ImageCell, DeskCell, MapCell, GateCell, BlockCell, OfStock, has_block, tag_of, gate_shard, phase_of, active_in, pins_in, queue_in, gone_in, no_queue}
 use Rattle.volap_cell.specs.Ghost.{Owner, NotOfStock, Unused, AGate, InTree}
 use Rattle.volap_cell.specs.Setting.{Setting, cell_count, first_stock_cell}
@@ -45,14 +42,6 @@ is-there f (suc n) y = elim (cases_Bool (f n == y)) [
     ])
   ]
 ]
-
--- what isn't below a bound isn't among numbers below it
-pub times-above : (n y : ℕ) (xs : List ℕ) → All (λ x. x < n) xs → n ≤ y → times y xs ≡ 0
-times-above n y [] all high = refl
-times-above n y (x ∷ xs) all high =
-    let low : x < n = All-head (λ x. x < n) x xs all in
-    let rest = times-above n y xs (All-tail (λ x. x < n) x xs all) high in
-    let off = same_not y x (λ e. absurd (omega arith)) in omega arith
 
 -- Cells by what they hold.
 

@@ -2,14 +2,15 @@
 use Rattle.std.proofs.Common.{◌≡◌, ◌≢◌, ◌∙◌, ℕ, ◌+◌, ◌-◌, ◌<◌, ◌≤◌, inl, inr, refl, sym, ap, subst, arith}
 use Rattle.std.specs.Prelude.{nat_lt, ◌==◌}
 use Rattle.std.proofs.lemmas.Bool.{cases_Bool, cases_lt, eqb-true, eqb-false, ne_eqb, lt-ltb, le-ltb, ltb-true, ltb-false}
-use Rattle.tree_shape.specs.Counts.{times}
+use Rattle.list_words.specs.Counts.{times}
+use Rattle.list_words.proofs.Times.{times-above}
 use Rattle.volap_cell.specs.Cells.{CellValue, FreeCell, GateCell, Tag, OfStock, tag_of, gate_shard}
 use Rattle.volap_cell.specs.Ghost.{Owner, InTree}
 use Rattle.volap_cell.specs.Numbering.{IsSetting, tag_at}
 use Rattle.volap_cell.specs.Opening.{IsOpening}
 use Rattle.volap_cell.specs.Setting.{Setting, cell_count, first_stock_cell, ledger_cell, stock_cell, registry_cell}
 use Rattle.volap_cell.specs.World.{World}
-use Rattle.volap_cell.proofs.OpeningCells.{Found, IsOther, IsSpare, IsGateOf, IsRootOf, NoGate, is-there, no-gate, not-of-stock, not-owned, owner_in, seek, seek-found, seek-within, times-above}
+use Rattle.volap_cell.proofs.OpeningCells.{Found, IsOther, IsSpare, IsGateOf, IsRootOf, NoGate, is-there, no-gate, not-of-stock, not-owned, owner_in, seek, seek-found, seek-within}
 
 -- a tag that isn't the stock's
 record IsTagged (c : CellValue) (tag : Tag) : Type 0 where

@@ -4,9 +4,9 @@ use Rattle.std.specs.Prelude.{Some, Contains, option_and_then}
 use Rattle.std.proofs.lemmas.Bool.{and_right, false≢true}
 use Rattle.query_router.specs.Desk.{DeskValue, is_taken}
 use Rattle.row_ledger.specs.Past.{Ack, Insert, Query, acked, event_at, insert_at, query_at, session_in}
-use Rattle.row_ledger.proofs.Elements.{Contains-nil}
+use Rattle.list_words.proofs.Elements.{Contains-nil}
 use Rattle.row_ledger.proofs.Growth.{KeepsRight-opened}
-use Rattle.tree_shape.specs.Counts.{same, times}
+use Rattle.list_words.specs.Counts.{same, times}
 use Rattle.tree_shape.specs.Shape.{numbers}
 use Rattle.volap_cell.specs.Desking.{Desking, IsTaken}
 use Rattle.volap_cell.specs.Ghost.{Ghost}

@@ -20,9 +20,9 @@ use Rattle.row_ledger.specs.declared.event.Event.{Event}
 use Rattle.row_ledger.specs.declared.event.Event.TheVariants.{Synced}
 use Rattle.row_ledger.proofs.Growth.{IsOpeningHistory-nil, IsOpeningHistory-pull}
 use Rattle.server_image.specs.Registry.{RegistryValue, IsNewRegistry}
-use Rattle.tree_shape.specs.Counts.{times}
+use Rattle.list_words.specs.Counts.{times}
+use Rattle.list_words.proofs.Times.{same_is, same_not}
 use Rattle.tree_shape.specs.Trees.{leaf_without_rows}
-use Rattle.tree_shape.proofs.Walks.{same_is, same_not}
 use Rattle.volap_cell.specs.Cells.{CellValue, FreeCell, LedgerCell, StockCell, RegistryCell, ImageCell, DeskCell, MapCell, BlockCell, cell_of}
 use Rattle.volap_cell.specs.Filling.{Adds, HasPulled, IsActor, IsDesk, IsFirstStock, IsFreeCell, IsGate, IsImage, IsMap, IsOpened, IsRoot, Stands, cell_or, actor_or, world_of, pulls_of}
 use Rattle.volap_cell.specs.Numbering.{IsSetting}

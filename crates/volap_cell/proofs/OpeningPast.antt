@@ -130,13 +130,6 @@ first-is from (suc n) x w is = elim (or_cases ((from == x) && (from == w)) _ is)
   | inr more ↦ (let rest = first-is (from + 1) n x w more in (rest.0, let l = rest.1 in omega arith, let l = rest.2 in omega arith))
 ]
 
-pub first-live : (from n x : ℕ) → list_any (is_of x) (places_from from n) ≡ true → (from ≤ x) × (x < from + n)
-first-live from zero x is = absurd (false≢true is)
-first-live from (suc n) x is = elim (or_cases (from == x) _ is) [
-  | inl here ↦ (let a = eqb-true from x here in (omega arith, omega arith))
-  | inr more ↦ (let rest = first-live (from + 1) n x more in (let l = rest.0 in omega arith, let l = rest.1 in omega arith))
-]
-
 pub first-there : (from n x : ℕ) → from ≤ x → x < from + n → list_any (is_of x) (places_from from n) ≡ true
 first-there from zero x low high = absurd (omega arith)
 first-there from (suc n) x low high = elim (cases_Bool (from == x)) [

@@ -1,15 +1,15 @@
 -- What the invariant gives of a part on a desk: the command that it is of, and that no other part there is of its shard.
-use Rattle.std.proofs.Common.{◌≡◌, ◌≢◌, ℕ, ◌<◌, List, [], ◌∷◌, ◌++◌, Bool, true, false, Option, Some, None, option_and_then, refl, sym, ap, subst, ◌∙◌, ◌⊎◌, inl, inr, ◌==◌, ◌&&◌, Any, Contains, eqb-true}
+use Rattle.std.proofs.Common.{◌≡◌, ◌≢◌, ℕ, ◌<◌, List, ◌∷◌, ◌++◌, true, false, Some, refl, sym, ap, subst, ◌∙◌, ◌⊎◌, inl, inr, ◌==◌, ◌&&◌, Contains, eqb-true}
 use Rattle.std.proofs.lemmas.Bool.{and_parts, false≢true}
-use Rattle.query_router.specs.Desk.{DeskValue, is_taken, is_with}
+use Rattle.query_router.specs.Desk.{is_taken, is_with}
 use Rattle.query_router.specs.declared.part.Part.{Part}
 use Rattle.query_router.specs.declared.part.Want.{Want}
 use Rattle.query_router.specs.declared.part.Want.TheVariants as want
-use Rattle.row_ledger.specs.Past.{Insert, Query, event_at, insert_at, query_at, session_in}
+use Rattle.row_ledger.specs.Past.{Insert, Query, insert_at, query_at}
 use Rattle.row_ledger.specs.Shards.{comes_from}
 use Rattle.row_ledger.proofs.Descent.{comes_from-self}
-use Rattle.row_ledger.proofs.Elements.{Contains-nil}
-use Rattle.volap_cell.specs.Desking.{AreLinesApart, IsAtPart, IsWantOf, is_on_desk}
+use Rattle.list_words.proofs.Elements.{Contains-nil}
+use Rattle.volap_cell.specs.Desking.{AreLinesApart, IsAtPart, is_on_desk}
 use Rattle.volap_cell.specs.Errands.{Taken}
 use Rattle.volap_cell.specs.Ghost.{Ghost}
 use Rattle.volap_cell.specs.Invariant.{InvWith}

@@ -1,13 +1,14 @@
 -- A part of a desk in the list of its parts: those before it and those behind it, and what all parts keep when others stand in its place.
-use Rattle.std.proofs.Common.{◌≡◌, ℕ, zero, suc, ◌+◌, ◌<◌, List, [], ◌∷◌, ◌++◌, length, take, drop, Bool, true, false, refl, sym, ap, subst, arith, ◌∙◌, ◌⊎◌, inl, inr, All, Any, Contains, Option, Some, None}
+use Rattle.std.proofs.Common.{◌≡◌, ℕ, zero, suc, ◌+◌, ◌<◌, List, [], ◌∷◌, ◌++◌, length, take, drop, Bool, true, refl, sym, ap, subst, arith, ◌∙◌, ◌⊎◌, inl, inr, All, Any, Contains, Some}
 use Rattle.std.specs.Prelude.{position, slice_get, slice_set, slice_index_or, sum_by}
 use Rattle.std.proofs.lemmas.List.{set_split}
-use Rattle.std.proofs.lemmas.List.Elements.{All-cons, All-contains, All-contains_itself, All-head, All-tail, All-weaker, Contains-append_cases, Contains-append_left, Contains-append_right}
+use Rattle.std.proofs.lemmas.Option.{slice_get_within}
+use Rattle.std.proofs.lemmas.List.Elements.{All-contains, All-contains_itself, All-weaker, Contains-append_cases, Contains-append_left, Contains-append_right}
 use Rattle.std.proofs.lemmas.List.Quantifiers.{position-Some}
 use Rattle.std.proofs.lemmas.List.Sums.{sum_by-append, sum_by-cons}
 use Rattle.query_router.specs.declared.part.Part.{Part}
 use Rattle.row_ledger.specs.declared.event.Event.{Event}
-use Rattle.row_ledger.proofs.Elements.{Contains-nil}
+use Rattle.list_words.proofs.Elements.{Contains-nil, Contains-first}
 use Rattle.volap_cell.specs.Desking.{AreLinesApart, AreUnrelated}
 
 -- Elements.
@@ -22,35 +23,24 @@ any-of P xs x (k, lt, here) p = (k, x, lt, here, p)
 pub some-of : {X : Type 0} (P : X → Type 0) (xs : List X) → Any P xs → (x : X) × Contains xs x × P x
 some-of P xs (k, x, lt, here, p) = (x, (k, lt, here), p)
 
-Contains-cons : {X : Type 0} (y : X) (xs : List X) (x : X) → Contains (y ∷ xs) x → (y ≡ x) ⊎ Contains xs x
-Contains-cons y xs x (zero, lt, here) = inl here
-Contains-cons y xs x (suc k, lt, here) = inr (k, omega (arith, lt), here)
-
 pub Contains-head : {X : Type 0} (x : X) (xs : List X) → Contains (x ∷ xs) x
 Contains-head x xs = (0, omega arith, refl)
 
 pub Contains-one : {X : Type 0} (x y : X) → Contains (x ∷ []) y → x ≡ y
-Contains-one x y has = elim (Contains-cons x [] y has) [
+Contains-one x y has = elim (Contains-first x [] y has) [
   | inl is ↦ is
   | inr none ↦ absurd (Contains-nil y none)
 ]
 
--- One among others.
-
 -- what stands at a place stands between those before it and those behind it
 
-splits-at : {X : Type 0} (xs : List X) (i : ℕ) (x : X) → slice_get xs i ≡ Some x → xs ≡ take i xs ++ x ∷ drop (suc i) xs
+pub splits-at : {X : Type 0} (xs : List X) (i : ℕ) (x : X) → slice_get xs i ≡ Some x → xs ≡ take i xs ++ x ∷ drop (suc i) xs
 splits-at [] i x is = cc
 splits-at (y ∷ ys) zero x is = (let same : y ≡ x = cc in ap (λ z. z ∷ ys) same)
 splits-at (y ∷ ys) (suc i) x is = ap (λ zs. y ∷ zs) (splits-at ys i x is)
 
 pub place-splits : {X : Type 0} (xs : List X) (i : ℕ) (x : X) → slice_get xs i ≡ Some x → xs ≡ take i xs ++ x ∷ drop (i + 1) xs
 place-splits xs i x is = (let next : suc i ≡ i + 1 = omega arith in splits-at xs i x is ∙ ap (λ (k : ℕ). take i xs ++ x ∷ drop k xs) next)
-
-place-within : {X : Type 0} (xs : List X) (i : ℕ) (x : X) → slice_get xs i ≡ Some x → i < length xs
-place-within [] i x is = cc
-place-within (y ∷ ys) zero x is = omega arith
-place-within (y ∷ ys) (suc i) x is = (let lt = place-within ys i x is in omega (arith, lt))
 
 place-index : {X : Type 0} (xs : List X) (i : ℕ) (x d : X) → slice_get xs i ≡ Some x → slice_index_or xs i d ≡ x
 place-index [] i x d is = cc
@@ -59,7 +49,7 @@ place-index (y ∷ ys) (suc i) x d is = place-index ys i x d is
 
 -- one that is written there stands between them
 pub place-set : {X : Type 0} (xs : List X) (i : ℕ) (x y : X) → slice_get xs i ≡ Some x → slice_set xs i y ≡ take i xs ++ y ∷ drop (i + 1) xs
-place-set xs i x y is = (let next : suc i ≡ i + 1 = omega arith in set_split xs i y (place-within xs i x is) ∙ ap (λ (k : ℕ). take i xs ++ y ∷ drop k xs) next)
+place-set xs i x y is = (let next : suc i ≡ i + 1 = omega arith in set_split xs i y (slice_get_within xs i x is) ∙ ap (λ (k : ℕ). take i xs ++ y ∷ drop k xs) next)
 
 some-at : {X : Type 0} (xs : List X) (i : ℕ) → i < length xs → (x : X) × (slice_get xs i ≡ Some x)
 some-at [] i lt = absurd (omega (arith, lt))
@@ -81,7 +71,7 @@ found-at p xs i is =
 pub was-cases : {X : Type 0} (before behind : List X) (old x : X) → Contains (before ++ old ∷ behind) x → (old ≡ x) ⊎ Contains (before ++ behind) x
 was-cases before behind old x has = elim (Contains-append_cases before (old ∷ behind) x has) [
   | inl in_front ↦ inr (Contains-append_left before behind x in_front)
-  | inr rest ↦ elim (Contains-cons old behind x rest) [
+  | inr rest ↦ elim (Contains-first old behind x rest) [
     | inl is ↦ inl is
     | inr in_back ↦ inr (Contains-append_right before behind x in_back)
   ]
@@ -158,7 +148,7 @@ apart-back h (x ∷ xs) ys a = apart-back h xs ys a.1
 
 apart-between : (h : List Event) (xs ys : List Part) → AreLinesApart h (xs ++ ys) → (p q : Part) → Contains xs p → Contains ys q → AreUnrelated h p q
 apart-between h [] ys a p q has other = absurd (Contains-nil p has)
-apart-between h (x ∷ xs) ys a p q has other = elim (Contains-cons x xs p has) [
+apart-between h (x ∷ xs) ys a p q has other = elim (Contains-first x xs p has) [
   | inl is ↦ subst (λ z. AreUnrelated h z q) is (All-contains (AreUnrelated h x) (xs ++ ys) q a.0 (Contains-append_right xs ys q other))
   | inr more ↦ apart-between h xs ys a.1 p q more other
 ]

@@ -4,7 +4,7 @@ use Rattle.dim_hierarchy.specs.Dimension.{Dimension}
 use Rattle.describing_set.specs.declared.plane.Plane.{Plane}
 use Rattle.query_router.specs.declared.part.Part.{Part}
 use Rattle.shard_store.specs.declared.gate.Gate.{Gate}
-use Rattle.tree_shape.proofs.Parts.{each-append}
+use Rattle.list_words.proofs.Each.{each-append}
 use Rattle.volap_cell.specs.Cells.{GateCell}
 use Rattle.volap_cell.specs.Errands.{is_filled, place_of}
 use Rattle.volap_cell.specs.Setting.{Setting}

@@ -1,12 +1,13 @@
 -- The promises of the invariant: the one place of each row, and what images and queries have.
 use Rattle.std.proofs.Common.{◌≡◌, ◌≢◌, ℕ, zero, suc, ◌<◌, ◌≤◌, List, [], ◌∷◌, true, false, eqb, get_or, refl, sym, ap, subst, arith, ◌∙◌, ◌⊎◌, inl, inr}
 use Rattle.std.specs.Prelude.{All, Option, Some, None, Contains, IsTrue, Any, option_and_then}
-use Rattle.std.proofs.lemmas.Bool.{cases_lt, eq-eqb, false≢true}
+use Rattle.std.proofs.lemmas.Bool.{cases_lt, eq-eqb, false≢true, eqb-true, eqb-false}
 use Rattle.std.proofs.lemmas.List.Elements.{All-contains, All-contains_itself, All-head, Contains-append_cases}
 use Rattle.row_ledger.proofs.Descent.{comes_from-comparable, live-made}
-use Rattle.tree_shape.specs.Counts.{times}
+use Rattle.list_words.specs.Counts.{times}
+use Rattle.list_words.proofs.Truth.{on_bool}
 use Rattle.tree_shape.specs.Queries.{fits}
-use Rattle.row_ledger.proofs.Elements.{Contains-nil}
+use Rattle.list_words.proofs.Elements.{Contains-nil}
 use Rattle.describing_set.specs.DescSet.{covers}
 use Rattle.describing_set.specs.declared.listing.Spot.{Spot}
 use Rattle.row_ledger.specs.Bounds.{known}
@@ -39,7 +40,6 @@ use Rattle.volap_cell.specs.declared.command.Command.{Command}
 use Rattle.volap_cell.specs.declared.command.Work.{Work}
 use Rattle.volap_cell.specs.declared.command.Work.TheVariants as work_is
 use Rattle.volap_cell.specs.declared.role.Role.TheVariants.{Session}
-use Rattle.tree_shape.proofs.Walks.{on_bool, eqb-eq, eqb-ne}
 use Rattle.volap_cell.proofs.Beginnings.{acked-of, insert-ended, insert-session, no-query, no-call}
 use Rattle.volap_cell.proofs.InsertWays.{taken-way}
 use Rattle.volap_cell.proofs.Knowing.{acked-begun, known-acked}
@@ -153,7 +153,7 @@ place-law s w inv = (standing s (view s w) inv.ghost_of inv.holds, λ r i begun 
 -- The rows of the shards that stand.
 
 eqb-cases : (x y : ℕ) → (x ≡ y) ⊎ (x ≢ y)
-eqb-cases x y = on_bool (eqb x y) (λ q. inl (eqb-eq x y q)) (λ q. inr (eqb-ne x y q))
+eqb-cases x y = on_bool (eqb x y) (λ q. inl (eqb-true x y q)) (λ q. inr (eqb-false x y q))
 
 -- a row that a shard has has passed a gate
 pub is-placed : (s : Setting) (v : View) (g : Ghost) (i : InvWith s v g) (x r : ℕ) → is_live s.workers v.history x ≡ true → 1 ≤ times_in v (standing s v g i).gate (standing s v g i).shape x r → g.placed r ≡ true
@@ -231,7 +231,7 @@ one-of (suc n) a f lt = elim (eqb-cases a n) [
 ]
 
 -- who has read something has taken a part
-reads-taken : (errand : Option ErrandValue) (p : ReadPart) → read_of errand ≡ Some p → taken_of errand ≡ None → ⊥
+pub reads-taken : (errand : Option ErrandValue) (p : ReadPart) → read_of errand ≡ Some p → taken_of errand ≡ None → ⊥
 reads-taken None p is none = cc
 reads-taken (Some e) p is none = cc
 

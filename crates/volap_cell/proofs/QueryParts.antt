@@ -10,7 +10,7 @@ use Rattle.row_ledger.specs.Past.{Query, query_at}
 use Rattle.row_ledger.specs.Shards.{comes_from}
 use Rattle.row_ledger.specs.declared.event.Event.{Event}
 use Rattle.row_ledger.proofs.Descent.{comes_from-self}
-use Rattle.row_ledger.proofs.Elements.{Contains-nil}
+use Rattle.list_words.proofs.Elements.{Contains-nil}
 use Rattle.volap_cell.specs.Desking.{Desking, AreLinesApart, AreUnrelated, IsWantOf}
 use Rattle.volap_cell.specs.Errands.{Taken}
 use Rattle.volap_cell.specs.Setting.{Setting}

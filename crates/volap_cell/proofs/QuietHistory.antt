@@ -24,9 +24,9 @@ use Rattle.server_image.specs.Registry.{RegistryValue}
 use Rattle.shard_store.specs.declared.gate.Gate.{Gate}
 use Rattle.shard_store.specs.declared.gate.Phase.{Phase}
 use Rattle.shard_store.specs.declared.queue.Queue.{Queue}
-use Rattle.tree_shape.specs.Counts.{times}
+use Rattle.list_words.specs.Counts.{times}
+use Rattle.list_words.proofs.Truth.{on_bool}
 use Rattle.tree_shape.specs.Shape.{Shape}
-use Rattle.tree_shape.proofs.Walks.{on_bool}
 use Rattle.volap_cell.specs.Desking.{Desking}
 use Rattle.volap_cell.specs.Errands.{ReadPart, RowWay, Taken}
 use Rattle.volap_cell.specs.Ghost.{Ghost}

@@ -1,6 +1,6 @@
 -- What is seen of a cell and of an actor, in one record each; and which fields of the view a commit touches. A change that leaves
 -- what is seen beside these leaves every other field.
-use Rattle.std.proofs.Common.{ℕ, Bool, true, false, cond, List, [], Option, None}
+use Rattle.std.proofs.Common.{ℕ, Bool, false, cond, List, [], Option, None}
 use Rattle.dc_node.specs.declared.block.Block.{Block}
 use Rattle.shard_store.specs.declared.gate.Gate.{Gate}
 use Rattle.shard_store.specs.declared.gate.Phase.{Phase}
@@ -79,22 +79,6 @@ pub record ActorSeen : Type 0 where
   pub way : Option RowWay
   pub reading : Option ReadPart
   pub job : Option JobValue
-
-abbrev pub actor_seen : ActorValue → ActorSeen
-actor_seen a = record {
-  number = a.number;
-  role = a.role;
-  setting = a.setting;
-  seen = a.seen;
-  counted = a.counted;
-  purse = a.purse;
-  boxes = a.boxes;
-  command = a.command;
-  taken = taken_of a.errand;
-  way = way_of a.errand;
-  reading = read_of a.errand;
-  job = a.job;
-}
 
 -- Fields.
 
@@ -225,43 +209,3 @@ renewed t now v = record {
   reads = cond t.reads now.reads v.reads;
   jobs = cond t.jobs now.jobs v.jobs;
 }
-
--- The groups of kinds.
-
--- blocks
-abbrev pub of_blocks : Touched
-of_blocks = record nothing { blocks = true; purses = true; boxes = true; taken = true; ways = true; reads = true; jobs = true }
-
--- desks, images and the ledger
-abbrev pub of_books : Touched
-of_books = record nothing { desks = true; images = true; ledger = true; seen = true; counted_in = true; commands = true; taken = true; ways = true; reads = true; jobs = true }
-
--- gates, beside desks, blocks and the stock
-abbrev pub of_gates : Touched
-of_gates = record nothing {
-  gates = true;
-  phases = true;
-  trees = true;
-  active = true;
-  pins = true;
-  queues = true;
-  gone = true;
-  desks = true;
-  blocks = true;
-  stock = true;
-  purses = true;
-  boxes = true;
-  commands = true;
-  taken = true;
-  ways = true;
-  reads = true;
-  jobs = true;
-}
-
--- the stock, and what an actor gives it or gets from it
-abbrev pub of_stock : Touched
-of_stock = record nothing { stock = true; purses = true; boxes = true; ways = true }
-
--- images, the registry and the ledger
-abbrev pub of_pulls : Touched
-of_pulls = record nothing { images = true; registry = true; ledger = true; seen = true; commands = true; jobs = true }

@@ -6,18 +6,18 @@ use Rattle.dim_hierarchy.specs.declared.row.Row.{Row}
 use Rattle.dc_node.specs.declared.block.Block.{Block}
 use Rattle.cell_stock.specs.Stock.{PurseValue, cells_of}
 use Rattle.cell_stock.specs.declared.purse.Spare.{Spare}
-use Rattle.link_descent.specs.Descend.{Enters, StepsDown, IsTakenFrom}
+use Rattle.link_descent.specs.Descend.{Enters, IsTakenFrom}
 use Rattle.link_descent.specs.declared.entered.Entered.{Entered}
 use Rattle.link_descent.specs.declared.entered.Fresh.{Fresh}
 use Rattle.shard_store.specs.declared.gate.Gate.{Gate}
-use Rattle.tree_shape.specs.Counts.{Each, Among}
-use Rattle.tree_shape.proofs.Parts.{among-left, among-right, each-left, each-right}
+use Rattle.list_words.specs.Counts.{Each, Among}
+use Rattle.list_words.proofs.Each.{among-left, among-right, each-left, each-right}
 use Rattle.volap_cell.specs.AdminKinds.{DoesBuildBlock, DoesFinishSplit, DoesFinishMove, spent_by, spent_in}
 use Rattle.volap_cell.specs.Ghost.{Ghost}
 use Rattle.volap_cell.specs.Invariant.{InvWith}
 use Rattle.volap_cell.specs.Setting.{Setting}
 use Rattle.volap_cell.specs.Stocking.{spent_of}
-use Rattle.volap_cell.specs.TreeKinds.{DoesEnterTree, DoesDown, blocks_of}
+use Rattle.volap_cell.specs.TreeKinds.{DoesEnterTree, blocks_of}
 use Rattle.volap_cell.specs.Values.{ActorValue}
 use Rattle.volap_cell.specs.View.{view}
 use Rattle.volap_cell.specs.World.{World, Change, Agrees}
@@ -42,16 +42,6 @@ left-among before now spare x t m = among-cells x before.spares (subst (Among x)
 abbrev AreOf : List Spare → List Fresh → Type 0
 AreOf purse fresh = Each (λ f. Among f.cell (cells_of purse)) fresh
 
-pub down-of : (h : List Dimension) (row : Row) (place : ℕ) (tail : List Block) (parent parent_now head head_now : Block) (purse purse_now : PurseValue) (entered : Entered) → StepsDown h row place tail parent parent_now head head_now purse purse_now entered
-    → Each (λ f. Among f.cell (cells_of purse.spares)) entered.fresh.items
-down-of h row place tail parent parent_now head head_now purse purse_now entered d = elim d.step [
-  | inl passed ↦ (let (e, keeps, passes) = passed in subst (AreOf purse.spares) (sym passes.fresh) tt)
-  | inr more ↦ elim more [
-    | inl halved ↦ (let (e, keeps, halves) = halved in subst (AreOf purse.spares) (sym halves.fresh) (taken-among purse purse_now halves.spare halves.purse_is, tt))
-    | inr cut ↦ subst (AreOf purse.spares) (sym cut.fresh) (taken-among purse purse_now cut.spare cut.cuts.purse_is, tt)
-  ]
-]
-
 pub enter-of : (h : List Dimension) (row : Row) (tail : List Block) (gate gate_now : Gate) (root root_now : Block) (purse purse_now : PurseValue) (entered : Entered) → Enters h row tail gate gate_now root root_now purse purse_now entered
     → Each (λ f. Among f.cell (cells_of purse.spares)) entered.fresh.items
 enter-of h row tail gate gate_now root root_now purse purse_now entered d = elim d.step [
@@ -64,14 +54,6 @@ enter-of h row tail gate gate_now root root_now purse purse_now entered d = elim
 ]
 
 -- The cells before.
-
-pub down-blank : (s : Setting) (w : World) (g : Ghost) → InvWith s (view s w) g → (n : ℕ) (h : List Dimension) (p c : Change) (others : List Change) (a b : ActorValue) → Agrees w (p ∷ c ∷ others) n a → (d : DoesDown h p c others a b)
-    → Each (λ x. IsBlank x.before) d.fresh
-down-blank s w g inv n h p c others a b agrees d =
-    let at : AreAt w.cells d.fresh = each-right (λ (x : Change). w.cells x.number ≡ x.before) d.tail d.fresh (subst (AreAt w.cells) d.others_are agrees.cells.1.1) in
-    let purse : d.purse.spares ≡ (w.actors n).purse = d.purse_was ∙ ap (λ (x : ActorValue). x.purse) (sym agrees.actor_is) in
-    let of = down-of h d.r.row d.place (blocks_of d.tail) d.parent d.parent_now d.head d.head_now d.purse d.purse_now d.entered d.step in
-    filled-blank s w g inv n d.entered.fresh.items d.fresh at d.are_filled (subst (λ (xs : List Spare). AreOf xs d.entered.fresh.items) purse of)
 
 pub enter-blank : (s : Setting) (w : World) (k : Ghost) → InvWith s (view s w) k → (n : ℕ) (h : List Dimension) (m g root : Change) (others : List Change) (a b : ActorValue) → Agrees w (m ∷ g ∷ root ∷ others) n a → (d : DoesEnterTree h m g root others a b)
     → Each (λ x. IsBlank x.before) d.fresh

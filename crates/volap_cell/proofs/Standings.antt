@@ -1,8 +1,8 @@
 -- What the invariant gives of rows and of the shards that stand.
 use Rattle.std.proofs.Common.{◌≡◌, ℕ, List, [], ◌∷◌, Bool, true, false, refl, sym, ◌==◌, ◌∙◌, ◌&&◌, ◌||◌, inl}
 use Rattle.std.specs.List.{list_any}
-use Rattle.std.proofs.lemmas.Bool.{eq-eqb}
-use Rattle.tree_shape.proofs.Walks.{eqb-self, eqb-no}
+use Rattle.std.proofs.lemmas.Bool.{eq-eqb, ne_eqb}
+use Rattle.list_words.proofs.Truth.{eqb-self}
 use Rattle.row_ledger.specs.Shards.{Place, frontier, is_live, is_of}
 use Rattle.row_ledger.specs.Workers.{is_on}
 use Rattle.volap_cell.specs.Ghost.{Ghost}
@@ -39,7 +39,7 @@ unfolding standing
 in-one s v g i r placed = record {
   stands = i.placing.stands r placed;
   once = i.placing.one (g.home r) r (i.placing.stands r placed) ∙ rw placed (rw (eqb-self (g.home r)) refl);
-  others = λ y live other. i.placing.one y r live ∙ rw placed (rw (eqb-no (g.home r) y (λ e. other (sym e))) refl);
+  others = λ y live other. i.placing.one y r live ∙ rw placed (rw (ne_eqb (g.home r) y (λ e. other (sym e))) refl);
 }
 
 -- any other row is in none

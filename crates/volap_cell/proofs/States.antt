@@ -1,12 +1,11 @@
 -- Cells that are moved out of a vector, changed by a kind and put back: what a kind asks is there, and the vectors are the state
 -- after its step. One lemma for any number of cells.
 use Rattle.std.proofs.Common.{◌≡◌, ◌≢◌, ℕ, zero, suc, ◌<◌, ◌≤◌, cond, eqb, List, [], ◌∷◌, map, length, Option, Some, None, get_or, set, refl, sym, ap, ◌∙◌, subst, inl, inr, arith}
-use Rattle.std.specs.Prelude.{⊤}
-use Rattle.std.proofs.lemmas.Bool.{cases_lt}
+use Rattle.std.proofs.lemmas.Bool.{cases_lt, eqb-true, eqb-false, ne_eqb}
 use Rattle.std.proofs.lemmas.List.{length-set, get_or-set_same, get_or-set_other}
 use Rattle.dim_hierarchy.specs.Dimension.{Dimension}
-use Rattle.tree_shape.specs.Counts.{Each}
-use Rattle.tree_shape.proofs.Walks.{on_bool, eqb-eq, eqb-ne, eqb-no}
+use Rattle.list_words.specs.Counts.{Each}
+use Rattle.list_words.proofs.Truth.{on_bool}
 use Rattle.volap_cell.specs.Cells.{CellValue, cell_of}
 use Rattle.volap_cell.specs.Errands.{IsCarried, way_of}
 use Rattle.volap_cell.specs.Ghost.{Ghost}
@@ -42,10 +41,6 @@ of-it (Some y) P x p e = (let s : y ≡ x = cc in subst P s p)
 pub is-some : {A : Type 0} (o : Option A) (P : A → Type 0) (x : A) → o ≡ Some x → P x → Has o P
 is-some {A} o P x e p = subst (λ (z : Option A). Has z P) (sym e) p
 
--- something stands at a place, whatever it is
-pub there : {A : Type 0} (xs : List (Option A)) (y : ℕ) (x : A) → get_or xs y None ≡ Some x → Has (get_or xs y None) (λ (x : A). ⊤)
-there {A} xs y x e = is-some (get_or xs y None) (λ (x : A). ⊤) x e tt
-
 -- Taking out and putting in.
 
 pub length-taken : {A : Type 0} (ys : List ℕ) (xs : List (Option A)) → length (taken ys xs) ≡ length xs
@@ -64,8 +59,8 @@ taken-off (z ∷ zs) xs y off = taken-off zs (set xs z None) y off.1 ∙ get_or-
 -- what is put in a place is there, and every other place is as it was
 get-set : {A : Type 0} (xs : List A) (i : ℕ) (v d : A) → i < length xs → (j : ℕ) → get_or (set xs i v) j d ≡ cond (eqb j i) v (get_or xs j d)
 get-set xs i v d h j = on_bool (eqb j i)
-    (λ q. let e = eqb-eq _ _ q in rw q (ap (λ (k : ℕ). get_or (set xs i v) k d) e ∙ get_or-set_same xs i v d h))
-    (λ q. let ne = eqb-ne _ _ q in rw q (get_or-set_other xs i j v d ne))
+    (λ q. let e = eqb-true _ _ q in rw q (ap (λ (k : ℕ). get_or (set xs i v) k d) e ∙ get_or-set_same xs i v d h))
+    (λ q. let ne = eqb-false _ _ q in rw q (get_or-set_other xs i j v d ne))
 
 -- a cell that is one of those put back, or that wasn't taken
 given-at : (xs : List Exchange) (base : List (Option Cell)) (cells : ℕ → CellValue) (y : ℕ) → Each (λ x. x.number < length base) xs
@@ -75,10 +70,10 @@ given-at [] base cells y lt f = f tt
 given-at (x ∷ xs) base cells y lt f =
     let here : x.number < length (given (cells_now xs) base) = (let l = length-given (cells_now xs) base in let m = lt.0 in omega arith) in
     on_bool (eqb y x.number)
-    (λ q. let e = eqb-eq _ _ q in
+    (λ q. let e = eqb-true _ _ q in
     let got : get_or (set (given (cells_now xs) base) x.number (Some x.now)) y None ≡ Some x.now = get-set (given (cells_now xs) base) x.number (Some x.now) None here y ∙ (rw q refl) in
     is-some (get_or (set (given (cells_now xs) base) x.number (Some x.now)) y None) (λ c. cell_of c ≡ cond (eqb y x.number) (cell_of x.now) (put (changes_of xs) cells y)) x.now got (rw q refl))
-    (λ q. let ne = eqb-ne _ _ q in
+    (λ q. let ne = eqb-false _ _ q in
     let got : get_or (set (given (cells_now xs) base) x.number (Some x.now)) y None ≡ get_or (given (cells_now xs) base) y None = get_or-set_other (given (cells_now xs) base) x.number y (Some x.now) None ne in
     let old : Has (get_or (given (cells_now xs) base) y None) (λ c. cell_of c ≡ cond (eqb y x.number) (cell_of x.now) (put (changes_of xs) cells y)) = rw q (given-at xs base cells y lt.1 (λ off. f (ne, off))) in
     subst (λ (o : Option Cell). Has o (λ c. cell_of c ≡ cond (eqb y x.number) (cell_of x.now) (put (changes_of xs) cells y))) (sym got) old)
@@ -89,7 +84,7 @@ stand-within cells (x ∷ xs) st = (within cells x.number x.before st.0, stand-w
 
 past : (xs : List Exchange) (cells : ℕ → CellValue) (y k : ℕ) → Each (λ x. x.number < k) xs → k ≤ y → put (changes_of xs) cells y ≡ cells y
 past [] cells y k lt le = refl
-past (x ∷ xs) cells y k lt le = (let l = lt.0 in let ne : y ≢ x.number = (λ e. absurd (omega arith)) in rw (eqb-no y x.number ne) (past xs cells y k lt.1 le))
+past (x ∷ xs) cells y k lt le = (let l = lt.0 in let ne : y ≢ x.number = (λ e. absurd (omega arith)) in rw (ne_eqb y x.number ne) (past xs cells y k lt.1 le))
 
 -- the state after the commit
 pub world-after : (cells : List (Option Cell)) (actors : List (Option Actor)) (w : World) (xs : List Exchange) (n : ℕ) (now : Actor)
@@ -108,13 +103,13 @@ world-after cells actors w xs n now is lt ln =
           on_bool (eqb a n)
           (λ q. let got : get_or (set (set actors n None) n (Some now)) a None ≡ Some now = get-set (set actors n None) n (Some now) None ln2 a ∙ (rw q refl) in
           is-some (get_or (set (set actors n None) n (Some now)) a None) (λ x. actor_of x ≡ cond (eqb a n) (actor_of now) (w.actors a)) now got (rw q refl))
-          (λ q. let ne = eqb-ne _ _ q in
+          (λ q. let ne = eqb-false _ _ q in
           let got : get_or (set (set actors n None) n (Some now)) a None ≡ get_or actors a None = get-set (set actors n None) n (Some now) None ln2 a ∙ (rw q (get_or-set_other actors n a None None ne)) in
           let old : Has (get_or actors a None) (λ x. actor_of x ≡ cond (eqb a n) (actor_of now) (w.actors a)) = rw q (is.actor a la2) in
           subst (λ (o : Option Actor). Has o (λ x. actor_of x ≡ cond (eqb a n) (actor_of now) (w.actors a))) (sym got) old));
       no_actor = λ a la. (let la2 : length actors ≤ a = omega arith in
           let ne : a ≢ n = (λ e. absurd (omega arith)) in
-          subst (λ (x : ActorValue). IsFresh x.setting a x) (sym (rw (eqb-no a n ne) refl)) (is.no_actor a la2));
+          subst (λ (x : ActorValue). IsFresh x.setting a x) (sym (rw (ne_eqb a n ne) refl)) (is.no_actor a la2));
     }
 
 -- What a kind asks.
@@ -217,19 +212,6 @@ has-stepped h kind cells actors xs n a now may makes sight = record {
         reached = reached-on s kind n w (after w (changes_of xs) n (actor_of now)) reached kept.step;
       });
 }
-
--- so they meet the invariant again
-pub inv-stepped : (h : List Dimension) (kind : Kind) (n : ℕ) (cells cells_now : List (Option Cell)) (actors actors_now : List (Option Actor))
-    → HasInv h cells actors → Stepped h kind n cells actors cells_now actors_now → HasInv h cells_now actors_now
-inv-stepped h kind n cells cells_now actors actors_now has stepped =
-    let after = stepped.step has.setting has.world has.inv.ghost_of has.hierarchy has.is has.inv.holds has.inv.reached in
-    record {
-      setting = has.setting;
-      hierarchy = has.hierarchy;
-      world = after.now;
-      is = after.is;
-      inv = record { ghost_of = after.kept.ghost_now; holds = after.kept.holds; reached = after.reached };
-    }
 
 -- the same of vectors that are known by equations
 pub stepped-to : (h : List Dimension) (kind : Kind) (n : ℕ) (cells xs ys : List (Option Cell)) (actors zs us : List (Option Actor)) → ys ≡ xs → us ≡ zs → Stepped h kind n cells actors xs zs → Stepped h kind n cells actors ys us

@@ -1,6 +1,7 @@
 -- Sums over the actors, of which one changes.
 use Rattle.std.proofs.Common.{◌≡◌, ◌≢◌, ℕ, zero, suc, ◌+◌, ◌<◌, ◌≤◌, eqb, refl, sym, ap, ◌∙◌, arith}
-use Rattle.tree_shape.proofs.Walks.{on_bool, eqb-eq, eqb-ne}
+use Rattle.list_words.proofs.Truth.{on_bool}
+use Rattle.std.proofs.lemmas.Bool.{eqb-true, eqb-false}
 use Rattle.volap_cell.specs.Sums.{sum_below}
 
 -- the same numbers have the same sum
@@ -18,35 +19,24 @@ sum-beyond m f g n same le = sum-same m f g (λ a lt. same a (λ e. absurd (omeg
 pub sum-changed : (m : ℕ) (f g : ℕ → ℕ) (n : ℕ) → ((a : ℕ) → a ≢ n → g a ≡ f a) → n < m → sum_below m g + f n ≡ sum_below m f + g n
 sum-changed zero f g n same lt = absurd (omega arith)
 sum-changed (suc m) f g n same lt = on_bool (eqb m n)
-    (λ q. let e = eqb-eq _ _ q in
+    (λ q. let e = eqb-true _ _ q in
     let s = sum-beyond m f g n same (omega arith) in
     let a : g m ≡ g n = ap g e in let b : f m ≡ f n = ap f e in omega arith)
-    (λ q. let ne = eqb-ne _ _ q in let s = same m ne in
+    (λ q. let ne = eqb-false _ _ q in let s = same m ne in
     let ih = sum-changed m f g n same (omega arith) in omega arith)
 
 -- one that keeps its number keeps the sum
 pub sum-kept : (m : ℕ) (f g : ℕ → ℕ) (n : ℕ) → ((a : ℕ) → a ≢ n → g a ≡ f a) → g n ≡ f n → sum_below m g ≡ sum_below m f
 sum-kept m f g n same at = sum-same m f g (λ a lt. on_bool (eqb a n)
-    (λ q. let e = eqb-eq _ _ q in ap g e ∙ at ∙ sym (ap f e))
-    (λ q. same a (eqb-ne _ _ q)))
+    (λ q. let e = eqb-true _ _ q in ap g e ∙ at ∙ sym (ap f e))
+    (λ q. same a (eqb-false _ _ q)))
 
 -- one of them is no more than the sum
 pub sum-some : (m : ℕ) (f : ℕ → ℕ) (n : ℕ) → n < m → f n ≤ sum_below m f
 sum-some zero f n lt = absurd (omega arith)
 sum-some (suc m) f n lt = on_bool (eqb m n)
-    (λ q. let e = ap f (eqb-eq _ _ q) in omega arith)
-    (λ q. let ne = eqb-ne _ _ q in let ih = sum-some m f n (omega arith) in omega arith)
-
--- two of them are no more than the sum
-pub sum-two : (m : ℕ) (f : ℕ → ℕ) (n k : ℕ) → n < m → k < m → n ≢ k → f n + f k ≤ sum_below m f
-sum-two zero f n k ln lk ne = absurd (omega arith)
-sum-two (suc m) f n k ln lk ne = on_bool (eqb m n)
-    (λ q. let e = eqb-eq _ _ q in let a : f m ≡ f n = ap f e in
-    let other = sum-some m f k (let off : k ≢ m = (λ w. ne (sym (w ∙ e))) in omega arith) in omega arith)
-    (λ q. let ne_n = eqb-ne _ _ q in on_bool (eqb m k)
-    (λ p. let e = eqb-eq _ _ p in let a : f m ≡ f k = ap f e in
-    let other = sum-some m f n (omega arith) in omega arith)
-    (λ p. let ne_k = eqb-ne _ _ p in let ih = sum-two m f n k (omega arith) (omega arith) ne in omega arith))
+    (λ q. let e = ap f (eqb-true _ _ q) in omega arith)
+    (λ q. let ne = eqb-false _ _ q in let ih = sum-some m f n (omega arith) in omega arith)
 
 -- of nothing but zeros it is zero
 pub sum-zero : (m : ℕ) (f : ℕ → ℕ) → ((a : ℕ) → a < m → f a ≡ 0) → sum_below m f ≡ 0
@@ -54,17 +44,6 @@ sum-zero zero f none = refl
 sum-zero (suc m) f none =
     let s = none m (omega arith) in
     let ih = sum-zero m f (λ a lt. none a (omega arith)) in omega arith
-
--- where it is zero, each of them is
-pub sum-none : (m : ℕ) (f : ℕ → ℕ) (n : ℕ) → n < m → sum_below m f ≡ 0 → f n ≡ 0
-sum-none m f n lt is = let some = sum-some m f n lt in omega arith
-
--- where it isn't, one of them isn't
-pub sum-where : (m : ℕ) (f : ℕ → ℕ) → 1 ≤ sum_below m f → (n : ℕ) × (n < m) × (1 ≤ f n)
-sum-where zero f le = absurd (omega arith)
-sum-where (suc m) f le = on_bool (eqb (f m) 0)
-    (λ q. let none = eqb-eq _ _ q in let (n, lt, some) = sum-where m f (omega arith) in (n, omega arith, some))
-    (λ q. let some = eqb-ne _ _ q in (m, omega arith, omega arith))
 
 -- sums are added number by number
 pub sum-add : (m : ℕ) (f g : ℕ → ℕ) → sum_below m (λ a. f a + g a) ≡ sum_below m f + sum_below m g
@@ -80,8 +59,8 @@ sum-no-more (suc m) f g le = (let k = le m (omega arith) in let ih = sum-no-more
 pub sum-less : (m : ℕ) (f g : ℕ → ℕ) (n : ℕ) → n < m → g n < f n → ((a : ℕ) → a ≢ n → g a ≤ f a) → sum_below m g < sum_below m f
 sum-less zero f g n lt less le = absurd (omega arith)
 sum-less (suc m) f g n lt less le = on_bool (eqb m n)
-    (λ q. let e = eqb-eq _ _ q in
+    (λ q. let e = eqb-true _ _ q in
     let a : g m ≡ g n = ap g e in let b : f m ≡ f n = ap f e in
     let others = sum-no-more m f g (λ a lt. le a (λ z. absurd (omega arith))) in omega arith)
-    (λ q. let ne = eqb-ne _ _ q in
+    (λ q. let ne = eqb-false _ _ q in
     let k = le m ne in let ih = sum-less m f g n (omega arith) less le in omega arith)

@@ -6,7 +6,7 @@
 use Rattle.std.proofs.Common.{◌≡◌, ◌≢◌, ℕ, ◌<◌, List, ◌∷◌, ◌++◌, Bool, true, IsTrue, length, refl, sym, ap, subst, inl, inr, All, Contains, le_of_lt, ◌==◌}
 use Rattle.std.specs.Prelude.{Option, Some, None, [], filter, if◌then◌else◌}
 use Rattle.std.specs.Option.{option_map_or}
-use Rattle.std.proofs.lemmas.Bool.{cond_both}
+use Rattle.std.proofs.lemmas.Bool.{cond_both, ne_eqb}
 use Rattle.std.proofs.lemmas.List.Elements.{All-nil, Contains-append_cases, All-append, All-contains, All-weaker, All-contains_itself}
 use Rattle.dim_hierarchy.specs.declared.row.Row.{Row}
 use Rattle.describing_set.specs.DescSet.{covers}
@@ -25,14 +25,14 @@ use Rattle.row_ledger.specs.Shards.{comes_from}
 use Rattle.row_ledger.proofs.Changes.{synced-changes}
 use Rattle.row_ledger.proofs.Descent.{comes_from-self}
 use Rattle.row_ledger.proofs.Older.{published-older}
-use Rattle.row_ledger.proofs.Elements.{Contains-nil, Contains-filtered, IsTrue-filtered}
+use Rattle.list_words.proofs.Elements.{Contains-nil, Contains-filtered, IsTrue-filtered}
 use Rattle.server_image.specs.Image.{ImageValue}
 use Rattle.server_image.specs.Registry.{RegistryValue}
 use Rattle.shard_store.specs.declared.gate.Gate.{Gate}
 use Rattle.shard_store.specs.declared.gate.Phase.{Phase}
 use Rattle.shard_store.specs.declared.queue.Queue.{Queue}
 use Rattle.tree_shape.specs.Shape.{Shape}
-use Rattle.tree_shape.proofs.Walks.{eqb-no, eqb-self}
+use Rattle.list_words.proofs.Truth.{eqb-self}
 use Rattle.volap_cell.specs.Desking.{Desking}
 use Rattle.volap_cell.specs.Errands.{ReadPart, RowWay, Taken}
 use Rattle.volap_cell.specs.Growing.{Resting}
@@ -129,7 +129,7 @@ module _ (s : Setting) (h : List Event) (server : ℕ) (listing : List Spot) whe
   listing-own = rw (eqb-self server) refl
 
   pub listing-other : (t : ℕ) → t ≢ server → listing_of (Synced server listing ∷ h) t ≡ listing_of h t
-  listing-other t off = rw (eqb-no server t (λ q. off (sym q))) refl
+  listing-other t off = rw (ne_eqb server t (λ q. off (sym q))) refl
 
   -- the image of another server
   pub image-synced-other : (placed : ℕ → Bool) → AreOlder h placed → (t : ℕ) (image : ImageValue) → t ≢ server → IsImageOf s h (row_at h) placed t image → IsImageOf s (Synced server listing ∷ h) (row_at (Synced server listing ∷ h)) placed t image
@@ -139,7 +139,7 @@ module _ (s : Setting) (h : List Event) (server : ℕ) (listing : List Spot) whe
   All-published-synced P owned told = subst (All P) (sym pull-changes.publishes) (All-append P (own h server) (published h) owned told)
 
   pub known-synced-other : (t : ℕ) → t ≢ server → known s.hierarchy (Synced server listing ∷ h) t ≡ known s.hierarchy h t
-  known-synced-other t off = (let no = eqb-no server t (λ q. off (sym q)) in rw no refl)
+  known-synced-other t off = (let no = ne_eqb server t (λ q. off (sym q)) in rw no refl)
 
   -- what holds of all that is the server's own or published, and of what the new listing covers, holds of all that it must know
   pub All-known-synced : (P : Ack → Type 0) → All P (own h server) → All P (published h)

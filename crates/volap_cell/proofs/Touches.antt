@@ -8,9 +8,9 @@ use Rattle.query_router.specs.Desk.{DeskValue}
 use Rattle.row_ledger.specs.declared.event.Event.{Event}
 use Rattle.server_image.specs.Image.{ImageValue}
 use Rattle.cell_stock.specs.Stock.{StockValue}
-use Rattle.tree_shape.specs.Counts.{Each}
-use Rattle.tree_shape.proofs.Parts.{each-append}
-use Rattle.volap_cell.specs.AdminKinds.{TurnsStock, PushesBoth}
+use Rattle.list_words.specs.Counts.{Each}
+use Rattle.list_words.proofs.Each.{each-append}
+use Rattle.volap_cell.specs.AdminKinds.{TurnsStock}
 use Rattle.volap_cell.specs.Cells.{CellValue, FreeCell, LedgerCell, StockCell, RegistryCell, ImageCell, DeskCell, MapCell, GateCell, BlockCell, OfStock, tag_of, gate_shard, block_in}
 use Rattle.volap_cell.specs.ImageKinds.{Pushes, TurnsImage}
 use Rattle.volap_cell.specs.ShardKinds.{TurnsDesk}
@@ -110,12 +110,6 @@ turned-image t on {server} {old} {new} {c} d =
 -- the ledger gets an event
 pub pushed : (t : Touched) → t.ledger ≡ true → {e : Event} {more used : ℕ} {c : Change} {seen : ℕ} → Pushes e more used c seen → beside t c.now ≡ beside t c.before
 pushed t on {c} p =
-    let ledger = hidden t.ledger bare.ledger p.ledger_now p.ledger on in
-    turned (beside t) c (LedgerCell p.ledger) (LedgerCell p.ledger_now) p.was p.is (λ k. record (beside t (LedgerCell p.ledger)) { ledger = ledger k })
-
--- or two events
-pub pushed-both : (t : Touched) → t.ledger ≡ true → {e f : Event} {c : Change} {seen : ℕ} → PushesBoth e f c seen → beside t c.now ≡ beside t c.before
-pushed-both t on {c} p =
     let ledger = hidden t.ledger bare.ledger p.ledger_now p.ledger on in
     turned (beside t) c (LedgerCell p.ledger) (LedgerCell p.ledger_now) p.was p.is (λ k. record (beside t (LedgerCell p.ledger)) { ledger = ledger k })
 

@@ -7,41 +7,24 @@ use Rattle.cell_stock.specs.Stock.{PurseValue}
 use Rattle.link_descent.specs.Descend.{Enters}
 use Rattle.link_descent.specs.declared.entered.Entered.{Entered}
 use Rattle.shard_store.specs.declared.gate.Gate.{Gate}
-use Rattle.tree_shape.specs.Counts.{Each}
+use Rattle.list_words.specs.Counts.{Each}
+use Rattle.list_words.proofs.Each.{each-append}
 use Rattle.volap_cell.specs.Cells.{GateCell, StockCell}
 use Rattle.volap_cell.specs.Setting.{Setting}
-use Rattle.volap_cell.specs.TreeKinds.{DoesGateRead, DoesBlockVisit, DoesEnterTree, DoesEnterQueue, DoesDown, DoesPutInLeaf, DoesLeaveTree, DoesRefill, blocks_of}
+use Rattle.volap_cell.specs.TreeKinds.{DoesEnterTree, DoesEnterQueue, DoesLeaveTree, DoesRefill, blocks_of}
 use Rattle.volap_cell.specs.Values.{ActorValue}
 use Rattle.volap_cell.specs.View.{view}
 use Rattle.volap_cell.specs.World.{World, Change, Agrees, after}
 use Rattle.volap_cell.proofs.Frames.{Same}
 use Rattle.volap_cell.proofs.Seen.{Touched, nothing, beside, actor_beside, renewed}
-use Rattle.tree_shape.proofs.Parts.{each-append}
 use Rattle.volap_cell.proofs.Touches.{IsBlank, turned, turned-block, tail-read, all-read, others-blocks}
-use Rattle.volap_cell.proofs.Actors.{row-moved, query-read}
+use Rattle.volap_cell.proofs.Actors.{row-moved}
 use Rattle.volap_cell.proofs.Views.{view-step}
 
 -- Queries.
 
 abbrev pub by_gate_read : Touched
 by_gate_read = record nothing { pins = true; reads = true }
-
-pub view-gate_read : (s : Setting) (w : World) (n : ℕ) (h : List Dimension) (m g : Change) (a b : ActorValue) → Agrees w (m ∷ g ∷ []) n a → DoesGateRead h m g a b
-    → view s (after w (m ∷ g ∷ []) n b) ≡ renewed by_gate_read (view s (after w (m ∷ g ∷ []) n b)) (view s w)
-view-gate_read s w n h m g a b agrees d =
-    view-step by_gate_read s w (m ∷ g ∷ []) n a b agrees
-    (ap (beside by_gate_read) d.leads.same, (turned (beside by_gate_read) g _ _ d.pinned.was d.pinned.is refl, tt))
-    (query-read by_gate_read d.actor_is d.errand d.unread refl refl refl)
-
-abbrev pub by_block_visit : Touched
-by_block_visit = record nothing { reads = true }
-
-pub view-block_visit : (s : Setting) (w : World) (n : ℕ) (h : List Dimension) (c : Change) (a b : ActorValue) → Agrees w (c ∷ []) n a → DoesBlockVisit h c a b
-    → view s (after w (c ∷ []) n b) ≡ renewed by_block_visit (view s (after w (c ∷ []) n b)) (view s w)
-view-block_visit s w n h c a b agrees d =
-    view-step by_block_visit s w (c ∷ []) n a b agrees
-    (ap (beside by_block_visit) d.read.same, tt)
-    (query-read by_block_visit d.actor_is d.errand d.reading refl refl refl)
 
 -- Rows.
 
@@ -83,30 +66,6 @@ view-enter_queue s w n h m g a b agrees d =
     view-step by_enter_queue s w (m ∷ g ∷ []) n a b agrees
     (ap (beside by_enter_queue) d.leads.same, (turned (beside by_enter_queue) g _ _ d.queued.was d.queued.is refl, tt))
     (row-moved by_enter_queue d.actor_is d.has refl refl refl)
-
-abbrev pub by_down : Touched
-by_down = record nothing { blocks = true; purses = true; boxes = true; ways = true }
-
--- the cells that are filled are blank before
-pub view-down : (s : Setting) (w : World) (n : ℕ) (h : List Dimension) (p c : Change) (others : List Change) (a b : ActorValue) → Agrees w (p ∷ c ∷ others) n a
-    → (d : DoesDown h p c others a b) → Each (λ x. IsBlank x.before) d.fresh
-    → view s (after w (p ∷ c ∷ others) n b) ≡ renewed by_down (view s (after w (p ∷ c ∷ others) n b)) (view s w)
-view-down s w n h p c others a b agrees d blank =
-    let t = by_down in
-    let rest = subst (Same (beside t)) (sym d.others_are) (others-blocks t refl d.entered.fresh.items d.tail d.fresh (tail-read d.entry.stamp d.head d.tail d.behind) d.are_filled blank) in
-    view-step t s w (p ∷ c ∷ others) n a b agrees
-    (turned-block t refl d.turns_parent, (turned-block t refl d.turns_head, rest))
-    (row-moved t d.actor_is d.has refl refl refl)
-
-abbrev pub by_put_in_leaf : Touched
-by_put_in_leaf = record nothing { blocks = true; boxes = true; ways = true }
-
-pub view-put_in_leaf : (s : Setting) (w : World) (n : ℕ) (c : Change) (a b : ActorValue) → Agrees w (c ∷ []) n a → DoesPutInLeaf c a b
-    → view s (after w (c ∷ []) n b) ≡ renewed by_put_in_leaf (view s (after w (c ∷ []) n b)) (view s w)
-view-put_in_leaf s w n c a b agrees d =
-    view-step by_put_in_leaf s w (c ∷ []) n a b agrees
-    (turned-block by_put_in_leaf refl d.last, tt)
-    (row-moved by_put_in_leaf d.actor_is d.has refl refl refl)
 
 abbrev pub by_leave_tree : Touched
 by_leave_tree = record nothing { active = true; ways = true }

@@ -11,7 +11,7 @@ use Rattle.volap_cell.specs.Values.{ActorValue}
 use Rattle.volap_cell.specs.View.{view, row_at}
 use Rattle.volap_cell.specs.World.{World, Change, Agrees, put, after}
 use Rattle.volap_cell.proofs.Frames.{AreAt, Same, kept-one, unmoved-one}
-use Rattle.volap_cell.proofs.Seen.{CellSeen, ActorSeen, Touched, bare, beside, actor_beside, renewed, of_blocks, of_books, of_gates, of_stock, of_pulls}
+use Rattle.volap_cell.proofs.Seen.{CellSeen, ActorSeen, Touched, bare, beside, actor_beside, renewed}
 
 -- a field by number that isn't touched is the one before
 untouched : {A : Type 0} (t : Bool) (none : A) (now was : ℕ → A) → ((i : ℕ) → cond t none (now i) ≡ cond t none (was i)) → now ≡ cond t now was
@@ -98,85 +98,3 @@ view-after t s w cs n now at same actor =
 pub view-step : (t : Touched) (s : Setting) (w : World) (cs : List Change) (n : ℕ) (a b : ActorValue) → Agrees w cs n a → Same (beside t) cs → actor_beside t b ≡ actor_beside t a
     → view s (after w cs n b) ≡ renewed t (view s (after w cs n b)) (view s w)
 view-step t s w cs n a b agrees same actor = view-after t s w cs n b agrees.cells same (actor ∙ sym (ap (actor_beside t) agrees.actor_is))
-
--- The groups of kinds.
-
--- put_in_leaf, down, block_visit, collect of blocks, build_block
-pub view-blocks : (s : Setting) (w : World) (cs : List Change) (n : ℕ) (now : ActorValue) → AreAt w.cells cs → Same (beside of_blocks) cs → actor_beside of_blocks now ≡ actor_beside of_blocks (w.actors n)
-    → view s (after w cs n now) ≡ record (view s w) {
-      blocks = (view s (after w cs n now)).blocks;
-      made = (view s (after w cs n now)).made;
-      purses = (view s (after w cs n now)).purses;
-      boxes = (view s (after w cs n now)).boxes;
-      taken = (view s (after w cs n now)).taken;
-      ways = (view s (after w cs n now)).ways;
-      reads = (view s (after w cs n now)).reads;
-      jobs = (view s (after w cs n now)).jobs;
-    }
-view-blocks = view-after of_blocks
-
--- route, ack, begin_insert, begin_query, answer, note, take_part, forward, expand
-pub view-books : (s : Setting) (w : World) (cs : List Change) (n : ℕ) (now : ActorValue) → AreAt w.cells cs → Same (beside of_books) cs → actor_beside of_books now ≡ actor_beside of_books (w.actors n)
-    → view s (after w cs n now) ≡ record (view s w) {
-      history = (view s (after w cs n now)).history;
-      promised = (view s (after w cs n now)).promised;
-      row = (view s (after w cs n now)).row;
-      images = (view s (after w cs n now)).images;
-      desks = (view s (after w cs n now)).desks;
-      seen = (view s (after w cs n now)).seen;
-      counted_in = (view s (after w cs n now)).counted_in;
-      commands = (view s (after w cs n now)).commands;
-      taken = (view s (after w cs n now)).taken;
-      ways = (view s (after w cs n now)).ways;
-      reads = (view s (after w cs n now)).reads;
-      jobs = (view s (after w cs n now)).jobs;
-    }
-view-books = view-after of_books
-
--- gate_read, enter_queue, enter_tree, leave_tree, finish_part, look_up, freeze, drained, collect of queue rows
-pub view-gates : (s : Setting) (w : World) (cs : List Change) (n : ℕ) (now : ActorValue) → AreAt w.cells cs → Same (beside of_gates) cs → actor_beside of_gates now ≡ actor_beside of_gates (w.actors n)
-    → view s (after w cs n now) ≡ record (view s w) {
-      blocks = (view s (after w cs n now)).blocks;
-      made = (view s (after w cs n now)).made;
-      gates = (view s (after w cs n now)).gates;
-      phases = (view s (after w cs n now)).phases;
-      trees = (view s (after w cs n now)).trees;
-      active = (view s (after w cs n now)).active;
-      pins = (view s (after w cs n now)).pins;
-      queues = (view s (after w cs n now)).queues;
-      gone = (view s (after w cs n now)).gone;
-      stock = (view s (after w cs n now)).stock;
-      desks = (view s (after w cs n now)).desks;
-      purses = (view s (after w cs n now)).purses;
-      boxes = (view s (after w cs n now)).boxes;
-      commands = (view s (after w cs n now)).commands;
-      taken = (view s (after w cs n now)).taken;
-      ways = (view s (after w cs n now)).ways;
-      reads = (view s (after w cs n now)).reads;
-      jobs = (view s (after w cs n now)).jobs;
-    }
-view-gates = view-after of_gates
-
--- refill
-pub view-stock : (s : Setting) (w : World) (cs : List Change) (n : ℕ) (now : ActorValue) → AreAt w.cells cs → Same (beside of_stock) cs → actor_beside of_stock now ≡ actor_beside of_stock (w.actors n)
-    → view s (after w cs n now) ≡ record (view s w) {
-      stock = (view s (after w cs n now)).stock;
-      purses = (view s (after w cs n now)).purses;
-      boxes = (view s (after w cs n now)).boxes;
-      ways = (view s (after w cs n now)).ways;
-    }
-view-stock = view-after of_stock
-
--- sync, and note where it asks the registry
-pub view-pulls : (s : Setting) (w : World) (cs : List Change) (n : ℕ) (now : ActorValue) → AreAt w.cells cs → Same (beside of_pulls) cs → actor_beside of_pulls now ≡ actor_beside of_pulls (w.actors n)
-    → view s (after w cs n now) ≡ record (view s w) {
-      history = (view s (after w cs n now)).history;
-      promised = (view s (after w cs n now)).promised;
-      row = (view s (after w cs n now)).row;
-      registry = (view s (after w cs n now)).registry;
-      images = (view s (after w cs n now)).images;
-      seen = (view s (after w cs n now)).seen;
-      commands = (view s (after w cs n now)).commands;
-      jobs = (view s (after w cs n now)).jobs;
-    }
-view-pulls = view-after of_pulls

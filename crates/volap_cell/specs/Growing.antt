@@ -9,7 +9,7 @@ use Rattle.shard_store.specs.declared.gate.Gate.{Gate}
 use Rattle.shard_store.specs.declared.gate.Phase.{Phase}
 use Rattle.shard_store.specs.declared.gate.Phase.TheVariants.{Frozen, Gone}
 use Rattle.shard_store.specs.declared.queue.Queue.{Queue}
-use Rattle.tree_shape.specs.Counts.{Each}
+use Rattle.list_words.specs.Counts.{Each}
 use Rattle.tree_shape.specs.Shape.{Table, Shape}
 use Rattle.tree_shape.specs.Trees.{IsTree}
 use Rattle.volap_cell.specs.Setting.{Setting}

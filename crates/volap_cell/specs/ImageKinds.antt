@@ -52,10 +52,6 @@ pub record Pushes (e : Event) (promised_more used : ℕ) (l : Change) (seen : �
   pub promised : ledger.promised + promised_more ≡ ledger_now.promised + used
   pub all_seen : seen ≡ length ledger_now.history
 
--- the position of the event that is pushed
-abbrev pub position_in : {e : Event} {m u : ℕ} {l : Change} {seen : ℕ} → Pushes e m u l seen → ℕ
-position_in p = length p.ledger.history
-
 -- an image becomes another one
 pub record TurnsImage (server : ℕ) (image image_now : ImageValue) (i : Change) : Type 0 where
   pub was : i.before ≡ ImageCell server image

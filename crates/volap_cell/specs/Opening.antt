@@ -14,7 +14,7 @@ use Rattle.row_ledger.specs.Kept.{IsOpeningHistory}
 use Rattle.server_image.specs.Registry.{RegistryValue, IsNewRegistry}
 use Rattle.shard_store.specs.Gate.{IsNewGate}
 use Rattle.shard_store.specs.declared.gate.Gate.{Gate}
-use Rattle.tree_shape.specs.Counts.{times}
+use Rattle.list_words.specs.Counts.{times}
 use Rattle.tree_shape.specs.Trees.{leaf_without_rows}
 use Rattle.volap_cell.specs.Cells.{FreeCell, LedgerCell, StockCell, RegistryCell, ImageCell, DeskCell, MapCell, GateCell, BlockCell}
 use Rattle.volap_cell.specs.Setting.{Setting, site_in, actor_count, cell_count, first_stock_cell, ledger_cell, stock_cell, registry_cell, image_cell, desk_cell, map_cell}

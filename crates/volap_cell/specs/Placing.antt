@@ -11,7 +11,7 @@ use Rattle.row_ledger.specs.Shards.{comes_from, is_live, is_path}
 use Rattle.row_ledger.specs.declared.event.Event.{Event}
 use Rattle.server_image.specs.Image.{ImageValue}
 use Rattle.shard_store.specs.declared.queue.Queue.{Queue}
-use Rattle.tree_shape.specs.Counts.{same, times}
+use Rattle.list_words.specs.Counts.{same, times}
 use Rattle.tree_shape.specs.Shape.{Shape, numbers}
 use Rattle.volap_cell.specs.Errands.{RowWay, has_passed}
 use Rattle.volap_cell.specs.ImageKinds.{doing}

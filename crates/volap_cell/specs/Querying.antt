@@ -16,7 +16,7 @@ use Rattle.row_ledger.specs.Bounds.{must}
 use Rattle.row_ledger.specs.Past.{Query, before, query_at}
 use Rattle.row_ledger.specs.declared.event.Event.{Event}
 use Rattle.shard_store.specs.declared.gate.Gate.{Gate}
-use Rattle.tree_shape.specs.Counts.{Each, times}
+use Rattle.list_words.specs.Counts.{Each, times}
 use Rattle.tree_shape.specs.Queries.{IsUnfinished, fits}
 use Rattle.tree_shape.specs.Shape.{Shape, nodes}
 use Rattle.volap_cell.specs.Errands.{ReadPart, Taken}

@@ -14,7 +14,7 @@ use Rattle.row_ledger.specs.declared.page.ShardLine.{ShardLine}
 use Rattle.row_ledger.specs.declared.page.TreePage.{TreePage}
 use Rattle.shard_store.specs.Gate.{root_entry}
 use Rattle.shard_store.specs.declared.gate.Phase.TheVariants.{Gone}
-use Rattle.tree_shape.specs.Counts.{Each, times}
+use Rattle.list_words.specs.Counts.{Each, times}
 use Rattle.tree_shape.specs.PageLines.{CellBlocks, lines}
 use Rattle.tree_shape.specs.Shape.{Shape, numbers}
 use Rattle.tree_shape.specs.Trees.{IsTree}

@@ -2,7 +2,7 @@
 -- moved out, changed by a kind, and put back.
 use Rattle.std.specs.Prelude.{ℕ, ◌≡◌, ◌≢◌, ◌<◌, ◌≤◌, ⊤, Bool, if◌then◌else◌, List, [], ◌∷◌, map, length, get_or, set, Option, Some, None}
 use Rattle.dim_hierarchy.specs.Dimension.{Dimension}
-use Rattle.tree_shape.specs.Counts.{Each}
+use Rattle.list_words.specs.Counts.{Each}
 use Rattle.volap_cell.specs.Cells.{FreeCell, cell_of}
 use Rattle.volap_cell.specs.Ghost.{Ghost}
 use Rattle.volap_cell.specs.Invariant.{InvWith}

@@ -24,7 +24,7 @@ use Rattle.link_descent.specs.declared.entered.Entered.{Entered}
 use Rattle.link_descent.specs.declared.entered.Fresh.{Fresh}
 use Rattle.mapping_table.specs.declared.place.Where.{Where}
 use Rattle.mapping_table.specs.declared.place.Where.TheVariants as where_is
-use Rattle.tree_shape.specs.Counts.{Each}
+use Rattle.list_words.specs.Counts.{Each}
 use Rattle.volap_cell.specs.Cells.{MapCell, GateCell, BlockCell, StockCell, block_in}
 use Rattle.volap_cell.specs.Errands.{place_of, Outside, height_of, height_to_fill, is_filled}
 use Rattle.volap_cell.specs.Values.{ActorValue, ErrandValue, ReadingValue, OfRow, Unread, Read}

@@ -24,7 +24,7 @@ use Rattle.volap_cell.specs.declared.role.Role.{Role}
 
 -- the row of the insert that began at a position
 abbrev pub no_row : Row
-no_row = record { no = 0; at = record { at = [] }; measure = pos 0 }
+no_row = record { no = 0; at = record { at = [] }; measures = pos 0 }
 
 abbrev pub row_or : Option Insert → Row
 row_or (Some i) = i.row

@@ -24,7 +24,7 @@ use Rattle.shard_store.specs.declared.gate.Phase.{Phase}
 use Rattle.shard_store.specs.declared.gate.Phase.TheVariants as phase
 use Rattle.shard_store.specs.declared.queue.Queue.{Queue}
 use Rattle.tree_shape.specs.Collecting.{IsCollecting}
-use Rattle.tree_shape.specs.Counts.{Each, times}
+use Rattle.list_words.specs.Counts.{Each, times}
 use Rattle.tree_shape.specs.Shape.{Shape, numbers}
 use Rattle.volap_cell.specs.AdminKinds.{IsBuiltOf, cells_needed, spent_in}
 use Rattle.volap_cell.specs.Growing.{IsUnder}

@@ -1,6 +1,6 @@
 -- States: cells by number and actors by number; and a commit, which replaces some cells and one actor.
 use Rattle.std.specs.Prelude.{ℕ, ◌≡◌, ◌≢◌, cond, eqb, List, [], ◌∷◌, Option, Some}
-use Rattle.tree_shape.specs.Counts.{Each}
+use Rattle.list_words.specs.Counts.{Each}
 use Rattle.volap_cell.specs.Errands.{IsCarried, way_of}
 use Rattle.volap_cell.specs.Values.{ActorValue}
 use Rattle.volap_cell.specs.Cells.{CellValue}

@@ -1,6 +1,6 @@
 //! All cells and actors, and how cells are moved out and put back.
 ghost use Rattle.std.specs.Prelude.{◌≡◌, ◌<◌, [], ◌∷◌, length, is_some};
-ghost use Rattle.tree_shape.specs.Counts.{Each};
+ghost use Rattle.list_words.specs.Counts.{Each};
 ghost use Rattle.volap_cell.specs.State.{CanLift, Stand, taken, given, cell_if, number_if};
 
 use crate::actor::Actor;

@@ -8,7 +8,7 @@ use Rattle.csv.specs.Records.{field_at}
 use Rattle.script_form.specs.Fields.{is_below, is_name, measure_of}
 use Rattle.script_form.proofs.Standing.{is_command}
 use Rattle.volap_gen.proofs.Lines.{is_plain, is_unquoted}
-use Rattle.volap_gen.specs.Generated.{closing, concept_records, day_at, insert_record, item_at, leaf_records, measure_at, middle_records, opening, pulls, row_records, rows_of}
+use Rattle.volap_gen.specs.Generated.{closing, concept_records, day_at, insert_record, item_at, leaf_records, measure_at, middle_records, opening, pulls, row_records, generated_rows}
 use Rattle.script_form.specs.Fields.{Record}
 use Rattle.volap_gen.specs.Names.{leaf_at, leaf_name, middle_name, top_name}
 use Rattle.volap_gen.specs.declared.names.Dim.TheVariants.{Date, Store, Product}
@@ -131,12 +131,12 @@ rows_good : (rows seed i : ℕ) → list_all is_good (row_records rows seed i) �
 rows_good rows seed i = rw (row_good seed i) (good_or_none ((i + 1) % 1000 == 0 || i + 1 == rows))
 
 -- the records of rows and of what is done beside them, and of the queries
-pub good_rest : (rows seed : ℕ) → list_all is_good (rows_of rows seed ++ closing) ≡ true
-unfolding rows_of
-good_rest rows seed = all_append is_good (rows_of rows seed) closing (all_mapped is_good (row_records rows seed) (range_with_len 0 rows) (rows_good rows seed)) good_closing
+pub good_rest : (rows seed : ℕ) → list_all is_good (generated_rows rows seed ++ closing) ≡ true
+unfolding generated_rows
+good_rest rows seed = all_append is_good (generated_rows rows seed) closing (all_mapped is_good (row_records rows seed) (range_with_len 0 rows) (rows_good rows seed)) good_closing
 
-pub plain_rest : (rows seed : ℕ) → list_all is_plain (rows_of rows seed ++ closing) ≡ true
-plain_rest rows seed = firsts is_plain (is_command 4 3) (rows_of rows seed ++ closing) (good_rest rows seed)
+pub plain_rest : (rows seed : ℕ) → list_all is_plain (generated_rows rows seed ++ closing) ≡ true
+plain_rest rows seed = firsts is_plain (is_command 4 3) (generated_rows rows seed ++ closing) (good_rest rows seed)
 
-pub commands_rest : (rows seed : ℕ) → list_all (is_command 4 3) (rows_of rows seed ++ closing) ≡ true
-commands_rest rows seed = seconds is_plain (is_command 4 3) (rows_of rows seed ++ closing) (good_rest rows seed)
+pub commands_rest : (rows seed : ℕ) → list_all (is_command 4 3) (generated_rows rows seed ++ closing) ≡ true
+commands_rest rows seed = seconds is_plain (is_command 4 3) (generated_rows rows seed ++ closing) (good_rest rows seed)

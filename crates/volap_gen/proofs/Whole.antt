@@ -14,7 +14,7 @@ use Rattle.row_ledger.specs.declared.settings.Use.{Use}
 use Rattle.script_form.specs.Fields.{Record, is_name}
 use Rattle.script_form.specs.Scripts.{records_of, script, script_of}
 use Rattle.script_form.proofs.Standing.{Fine, afters, commands_fine, fine_append, fine_script}
-use Rattle.volap_gen.specs.Generated.{closing, concept_records, generated, leaf_records, middle_records, opening, rows_of, text_of}
+use Rattle.volap_gen.specs.Generated.{closing, concept_records, generated, leaf_records, middle_records, opening, generated_rows, text_of}
 use Rattle.volap_gen.specs.declared.names.Dim.TheVariants.{Date, Store, Product}
 use Rattle.volap_gen.proofs.Growing.{IsFilled, StandsAt}
 use Rattle.volap_gen.proofs.Lines.{is_plain, lines_fit, lines_read}
@@ -108,13 +108,13 @@ on : (place : Dimension → List Dimension) (of : List ℕ) (nth : ℕ) (d : Dim
     → Fine (nth + length rs) (at_work settings (place walk.grown_to)) later → Fine nth (at_work settings (place d)) (rs ++ later)
 on place of nth d rs later walk fine = fine_append nth (at_work settings (place d)) rs later walk.fine (rw walk.then_is fine)
 
-rest_fine : (rows seed nth : ℕ) (a b c : Dimension) → 0 < nth → Fine nth (at_work settings (a ∷ b ∷ c ∷ [])) (rows_of rows seed ++ closing)
+rest_fine : (rows seed nth : ℕ) (a b c : Dimension) → 0 < nth → Fine nth (at_work settings (a ∷ b ∷ c ∷ [])) (generated_rows rows seed ++ closing)
 unfolding settings
 rest_fine rows seed nth a b c behind =
-    commands_fine 4 3 (rows_of rows seed ++ closing) nth (at_work settings (a ∷ b ∷ c ∷ [])) (commands_rest rows seed) behind (omega arith) (record { servers_are = refl; dims_are = refl })
+    commands_fine 4 3 (generated_rows rows seed ++ closing) nth (at_work settings (a ∷ b ∷ c ∷ [])) (commands_rest rows seed) behind (omega arith) (record { servers_are = refl; dims_are = refl })
 
 concepts_fine : (rows seed nth : ℕ) → 0 < nth → Fine nth (at_work settings (bare (codes "date") ∷ bare (codes "store") ∷ bare (codes "product") ∷ []))
-    (concept_records Date ++ (concept_records Store ++ (concept_records Product ++ (rows_of rows seed ++ closing))))
+    (concept_records Date ++ (concept_records Store ++ (concept_records Product ++ (generated_rows rows seed ++ closing))))
 concepts_fine rows seed nth behind =
     let n1 = nth + length (concept_records Date) in
     let n2 = n1 + length (concept_records Store) in
@@ -135,7 +135,7 @@ some_opening = omega arith
 
 all_fine : (rows seed : ℕ) → Fine 0 (script_of []) (generated rows seed)
 all_fine rows seed =
-    fine_append 0 (script_of []) opening (concept_records Date ++ (concept_records Store ++ (concept_records Product ++ (rows_of rows seed ++ closing)))) opening_fine
+    fine_append 0 (script_of []) opening (concept_records Date ++ (concept_records Store ++ (concept_records Product ++ (generated_rows rows seed ++ closing)))) opening_fine
     (rw opening_after (concepts_fine rows seed (0 + length opening) some_opening))
 
 some : (rows seed : ℕ) → 0 < length (generated rows seed)

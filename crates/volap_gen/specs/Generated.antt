@@ -98,8 +98,8 @@ stage = 1000
 abbrev pub row_records : ℕ → ℕ → ℕ → List Record
 row_records rows seed i = insert_record seed i ∷ (if (i + 1) % stage == 0 || i + 1 == rows then pulls else [])
 
-unfoldable pub rows_of : ℕ → ℕ → List Record
-rows_of rows seed = flat_map (row_records rows seed) (range_with_len 0 rows)
+unfoldable pub generated_rows : ℕ → ℕ → List Record
+generated_rows rows seed = flat_map (row_records rows seed) (range_with_len 0 rows)
 
 -- The queries: of everything, of a year, of two countries and of a group of products.
 
@@ -120,4 +120,4 @@ closing =
 
 -- the script of so many rows by a seed
 abbrev pub generated : ℕ → ℕ → List Record
-generated rows seed = opening ++ (concept_records Date ++ (concept_records Store ++ (concept_records Product ++ (rows_of rows seed ++ closing))))
+generated rows seed = opening ++ (concept_records Date ++ (concept_records Store ++ (concept_records Product ++ (generated_rows rows seed ++ closing))))

@@ -10,4 +10,4 @@ abbrev pub leaf_text : Leaf → List ℕ
 leaf_text c = leaf_name c.above.above.dim c.above.above.number c.above.number c.number
 
 abbrev pub row_fields : NewRow → Record
-row_fields row = codes "insert" ∷ decimal row.server ∷ signed_decimal row.measure ∷ leaf_text row.day ∷ leaf_text row.shop ∷ leaf_text row.item ∷ []
+row_fields row = codes "insert" ∷ decimal row.server ∷ signed_decimal row.measures ∷ leaf_text row.day ∷ leaf_text row.shop ∷ leaf_text row.item ∷ []

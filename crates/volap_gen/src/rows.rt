@@ -1,9 +1,10 @@
 //! The records of the rows, and of what is done after each thousand of them.
 ghost use Rattle.std.specs.Prelude.{◌≡◌, ◌++◌, ◌<◌, ◌≤◌, OnOk, string_bytes};
 ghost use Rattle.volap_gen.specs.Printed.{row_fields};
-ghost use Rattle.volap_gen.specs.Generated.{text_of, record_line, insert_record, measure_at, day_at, item_at, pulls, row_records, rows_of};
+ghost use Rattle.volap_gen.specs.Generated.{text_of, record_line, insert_record, measure_at, day_at, item_at, pulls, row_records, generated_rows};
 
 use crate::names::{Dim, Leaf};
+use dim_hierarchy::Measures;
 use std::alloc::AllocError;
 use std::fmt::Write;
 
@@ -25,7 +26,7 @@ const MEASURES: u64 = 201;
 /// Adds the records of the rows and of what is done after them.
 pub fn push_rows(text: &mut String, rows: u64, seed: u64) -> Result<(), AllocError>
     requires { rows ≤ 200000 }
-    ensures { OnOk result (string_bytes text.new ≡ string_bytes text.old ++ text_of (rows_of rows seed)) }
+    ensures { OnOk result (string_bytes text.new ≡ string_bytes text.old ++ text_of (generated_rows rows seed)) }
 {
     for i in 0..rows {
         push_row(text, rows, seed, i)?;
@@ -49,7 +50,7 @@ fn push_row(text: &mut String, rows: u64, seed: u64, i: u64) -> Result<(), Alloc
 #[derive(Clone, Copy)]
 pub struct NewRow {
     pub server: u64,
-    pub measure: i64,
+    pub measures: Measures,
     pub day: Leaf,
     pub shop: Leaf,
     pub item: Leaf,
@@ -63,7 +64,7 @@ fn row_at(seed: u64, i: u64) -> NewRow
 {
     NewRow {
         server: i % SERVERS,
-        measure: measure_at(seed, i),
+        measures: measure_at(seed, i),
         day: Leaf::at(Dim::Date, day_at(seed, i)),
         shop: Leaf::at(Dim::Store, i % SHOPS),
         item: Leaf::at(Dim::Product, item_at(i)),
@@ -75,11 +76,11 @@ fn push_insert(text: &mut String, row: &NewRow) -> Result<(), AllocError>
     ensures { OnOk result (string_bytes text.new ≡ string_bytes text.old ++ record_line (row_fields row.now)) }
 {
     let server = row.server;
-    let measure = row.measure;
+    let measures = row.measures;
     let day = &row.day;
     let shop = &row.shop;
     let item = &row.item;
-    writeln!(text, "insert,{server},{measure},{day},{shop},{item}")
+    writeln!(text, "insert,{server},{measures},{day},{shop},{item}")
 }
 
 /// Each server pulls, and the load is balanced, before the next rows begin.
@@ -91,7 +92,7 @@ fn push_pulls(text: &mut String) -> Result<(), AllocError>
 }
 
 /// The measure of a row.
-fn measure_at(seed: u64, i: u64) -> i64
+fn measure_at(seed: u64, i: u64) -> Measures
     requires { i < 200000 }
     ensures { result ≡ measure_at seed i }
 {

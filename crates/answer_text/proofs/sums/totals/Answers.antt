@@ -1,4 +1,4 @@
-use Rattle.std.proofs.Common.{◌+◌, ◌≡◌, ◌∙◌, ◌∷◌, ◌++◌, [], reverse, ap, sym}
+use Rattle.std.proofs.Common.{◌+◌, ◌∙◌, ◌∷◌, ◌++◌, [], reverse, ap, sym}
 use Rattle.std.specs.Prelude.{zip}
 use Rattle.answer_text.specs.Summary as sum
 use Rattle.answer_text.proofs.SummaryFacts.{behind, total_no, total_yes}

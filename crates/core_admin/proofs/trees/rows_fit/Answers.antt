@@ -11,7 +11,7 @@ loop-row-preserved c = record {
     valid = subst (IsRowOf c.args.h.now) (sym c.row-item.is) (c.requires.rows c.loop-row.row-index c.row-item.result c.loop-row-test.true);
     places = c.row_fits.ensures.places;
     number = c.row_fits.ensures.number;
-    measure = c.row_fits.ensures.measure;
+    measures = c.row_fits.ensures.measures;
   });
 }
 

@@ -24,13 +24,13 @@ returns-clause-made c =
 
 pub returns-clause-told : goal.returns-clause-told
 returns-clause-told c =
-    let measured : to_z w64 (of_z w64 c.args.measure) ≡ c.args.measure = to_z-of_z w64 c.args.measure (search rules) in
-    tells-begun c.args.at c.args.measure (actor_of c.args.actor.now) (cell_of c.args.image.now) (cell_of c.args.ledger.now) c.requires.due.server c.requires.due.role c.requires.due.image_is
+    let measured : to_z w64 (of_z w64 c.args.measures) ≡ c.args.measures = to_z-of_z w64 c.args.measures (search rules) in
+    tells-begun c.args.at c.args.measures (actor_of c.args.actor.now) (cell_of c.args.image.now) (cell_of c.args.ledger.now) c.requires.due.server c.requires.due.role c.requires.due.image_is
     c.in-Image.server c.deref_mut.result.now (ap cell_of c.in-Image.is ∙ ap (ImageCell c.in-Image.server) (sym c.deref_mut.ensures.value))
     c.deref_mut-2.result.now (ap cell_of c.in-Ledger.is ∙ ap LedgerCell (sym c.deref_mut-2.ensures.value))
     _ (c.len.ensures.value ∙ ap (λ (l : LedgerValue). length l.history) (c.deref.ensures ∙ sym c.deref_mut-2.ensures.value))
     c.open.new.image c.open.new.ledger
-    (subst (λ (m : ℤ). Opens (Begun (actor_of c.args.actor.now).number c.in-Image.server (record { no = c.len.result; at = c.args.at; measure = m })) c.deref_mut.result.now c.open.new.image c.deref_mut-2.result.now c.open.new.ledger)
+    (subst (λ (m : ℤ). Opens (Begun (actor_of c.args.actor.now).number c.in-Image.server (record { no = c.len.result; at = c.args.at; measures = m })) c.deref_mut.result.now c.open.new.image c.deref_mut-2.result.now c.open.new.ledger)
     measured c.in_ok-open.ensures.ok)
 
 pub returns-in_err-open-clause-refused : goal.returns-in_err-open-clause-refused

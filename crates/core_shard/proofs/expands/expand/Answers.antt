@@ -1,5 +1,5 @@
 use Rattle.std.proofs.Common.{option_map, sym, ap, ◌∙◌, subst, refl}
-use Rattle.row_ledger.proofs.Elements.{Some-same}
+use Rattle.list_words.proofs.Elements.{Some-same}
 use Rattle.volap_cell.specs.Cells.{DeskCell, MapCell, cell_of}
 use Rattle.volap_cell.specs.Values.{ErrandValue, actor_of, errand_of}
 use Rattle.volap_cell.specs.declared.cell.Cell.TheVariants as cell

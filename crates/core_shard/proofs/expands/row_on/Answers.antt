@@ -1,6 +1,6 @@
 use Rattle.std.proofs.Common.{Option, sym, ◌∙◌, subst, refl}
 use Rattle.std.specs.Prelude.{IsSome}
-use Rattle.row_ledger.proofs.Elements.{Some-same}
+use Rattle.list_words.proofs.Elements.{Some-same}
 use Rattle.volap_cell.specs.declared.errand.Errand.{Errand}
 use Rattle.core_shard.proofs.ExpandReady.{down-out, gone_down, row-on}
 use Rattle.core_shard.proofs.expands.row_on.Goals as goal

@@ -1,6 +1,6 @@
 use Rattle.std.proofs.Common.{◌<◌, subst, sym, ℕ}
-use Rattle.tree_shape.proofs.Parts.{each-left, each-right}
-use Rattle.tree_shape.specs.Counts.{Each}
+use Rattle.list_words.proofs.Each.{each-left, each-right}
+use Rattle.list_words.specs.Counts.{Each}
 use Rattle.volap_cell.proofs.Lifting.{long-back}
 use Rattle.volap_cell.specs.State.{cell_if}
 use Rattle.volap_cell.specs.declared.cell.Cell.{Cell}

@@ -3,7 +3,7 @@ use Rattle.std.specs.Prelude.{option_map}
 use Rattle.core_steps.specs.AskedParts.{EntersTree}
 use Rattle.core_steps.specs.HeldIf.{first_if, number_of, rest_if}
 use Rattle.core_tree.specs.Descent.{CanEnterTree, two_if}
-use Rattle.tree_shape.specs.Counts.{Each}
+use Rattle.list_words.specs.Counts.{Each}
 use Rattle.volap_cell.specs.Cells.{CellValue, cell_of}
 use Rattle.volap_cell.specs.State.{Exchange, cell_if, exchange, exchange_if}
 use Rattle.volap_cell.specs.Values.{actor_of}

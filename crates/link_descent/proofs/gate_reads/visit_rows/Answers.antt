@@ -18,7 +18,7 @@ loop-row-preserved c =
     let f = c.args.wanted.now.picks in
     elim c.if-matched.branch [
       | then-matched w ↦
-          let kept : to_z w64 (of_z w64 c.row-item.result.measure) ≡ c.row-item.result.measure = to_z-of_z w64 c.row-item.result.measure (search rules) in (
+          let kept : to_z w64 (of_z w64 c.row-item.result.measures) ≡ c.row-item.result.measures = to_z-of_z w64 c.row-item.result.measures (search rules) in (
             w.total-is
                 ∙ w.join.ensures
                 ∙ ap (join c.loop-row.total) (w.one.ensures ∙ ap one kept)

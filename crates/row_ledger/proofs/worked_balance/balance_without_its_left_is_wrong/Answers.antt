@@ -11,7 +11,7 @@ use Rattle.row_ledger.specs.Work.{IsRightBalance, loads}
 use Rattle.row_ledger.specs.Classes.{class_of}
 use Rattle.row_ledger.specs.Right.{MayEnd}
 use Rattle.row_ledger.specs.Worked.{site}
-use Rattle.row_ledger.proofs.Elements.{Some-same, length-AllZip}
+use Rattle.list_words.proofs.Elements.{Some-same, length-AllZip}
 use Rattle.row_ledger.specs.WorkedBalance.{to_balance, balanced_without}
 use Rattle.row_ledger.proofs.worked_balance.balance_without_its_left_is_wrong.Goals as goal
 

@@ -6,7 +6,7 @@ use Rattle.measure_agg.specs.Aggregate.{Aggregate}
 use Rattle.dim_hierarchy.specs.declared.row.Row.{Row}
 use Rattle.row_ledger.specs.Worked.{site, row, for_de, once}
 use Rattle.row_ledger.specs.WorkedPulls.{second}
-use Rattle.row_ledger.proofs.Elements.{only}
+use Rattle.list_words.proofs.Elements.{only}
 use Rattle.row_ledger.proofs.Answering.{IsAllowed-right}
 use Rattle.row_ledger.proofs.worked_pulls.row_under_a_box_left_out_is_wrong.Goals as goal
 

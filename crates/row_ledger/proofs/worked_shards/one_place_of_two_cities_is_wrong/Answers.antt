@@ -17,7 +17,7 @@ use Rattle.row_ledger.specs.Classes.{class_of}
 use Rattle.row_ledger.specs.Right.{MayEnd}
 use Rattle.row_ledger.specs.Worked.{site, berlin, munich, in_city, row, box}
 use Rattle.row_ledger.specs.WorkedShards.{other, to_split, split_declined}
-use Rattle.row_ledger.proofs.Elements.{Contains-map, Contains-mapped}
+use Rattle.list_words.proofs.Elements.{Contains-map, Contains-mapped}
 use Rattle.row_ledger.proofs.Opened.{both_box}
 use Rattle.row_ledger.proofs.worked_shards.one_place_of_two_cities_is_wrong.Goals as goal
 

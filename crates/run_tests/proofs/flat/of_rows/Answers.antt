@@ -20,8 +20,8 @@ loop-row-preserved c =
     let before = c.loop-row.invariant in
     elim c.if-matches.branch [
       | then-matches w ↦
-          let kept : to_z w64 (of_z w64 c.row-item.result.measure) ≡ c.row-item.result.measure = to_z-of_z w64 c.row-item.result.measure (search rules) in
-          let joined = w.join-total.ensures ∙ ap (λ a. join c.loop-row.total a) (w.one.ensures ∙ ap one kept) ∙ ap (λ a. join a (one c.row-item.result.measure)) before.total_is in
+          let kept : to_z w64 (of_z w64 c.row-item.result.measures) ≡ c.row-item.result.measures = to_z-of_z w64 c.row-item.result.measures (search rules) in
+          let joined = w.join-total.ensures ∙ ap (λ a. join c.loop-row.total a) (w.one.ensures ∙ ap one kept) ∙ ap (λ a. join a (one c.row-item.result.measures)) before.total_is in
           record {
             total_is = w.total-is ∙ joined ∙ sym (rw (here ∙ w.if-matches.true) at more);
             few = omega (arith, ap (λ a. a.count) w.total-is, ap (λ a. a.count) w.join-total.ensures, ap (λ a. a.count) w.one.ensures, before.few);

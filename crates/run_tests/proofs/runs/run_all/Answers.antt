@@ -5,8 +5,9 @@ use Rattle.script_run.specs.Streams.{NoneCloses}
 use Rattle.seeded_run.specs.Kept.{IsBetween}
 use Rattle.seeded_run.specs.Phase.{about, held}
 use Rattle.seeded_run.specs.Order.{is_order}
-use Rattle.run_tests.proofs.MayRun.{can-open, closes-behind, ends-within, may-take}
+use Rattle.run_tests.proofs.MayRun.{can-open, ends-within, may-take}
 use Rattle.run_tests.proofs.runs.run_all.Goals as goal
+use Rattle.olap_top.proofs.PhaseSteps.{closes-of}
 
 pub open_core-requires : goal.open_core-requires
 open_core-requires c = can-open c.args.script.now.hierarchy c.args.script.now.with c.requires.settings c.dims-dims.ensures.valid
@@ -17,7 +18,7 @@ run_next-requires-clause-may_run c = may-take c.args.script.now.hierarchy c.args
 pub run_next-requires-clause-closes : goal.run_next-requires-clause-closes
 run_next-requires-clause-closes c =
     let back = c.split_at.ensures.back in
-    closes-behind c.args.commands.now c.loop-done.done c.phase_len.result c.phase_len.ensures.some
+    closes-of c.args.commands.now c.loop-done.done c.phase_len.result c.phase_len.ensures.some
     (subst (λ (l : List Command). c.phase_len.result ≤ length l) back c.phase_len.ensures.within)
     (subst (λ (l : List Command). NoneCloses (take (c.phase_len.result - 1) l)) back c.phase_len.ensures.closing)
 

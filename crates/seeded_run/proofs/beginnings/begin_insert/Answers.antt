@@ -38,7 +38,7 @@ returns-in-Err-clause-made c =
 pub returns-in-Ok-clause-begun : goal.returns-in-Ok-clause-begun
 returns-in-Ok-clause-begun c =
     let new = c.args.new.now in
-    let measured : to_z w64 (of_z w64 new.measure) ≡ new.measure = to_z-of_z w64 new.measure (search rules) in
+    let measured : to_z w64 (of_z w64 new.measures) ≡ new.measures = to_z-of_z w64 new.measures (search rules) in
     on-ok c.begin_insert.result c.begin_insert.ensures.told (λ told.
     begun-insert c.args.h.now c.args.with.now c.args.state.now.cells.items c.args.state.now.actors.items c.requires.core c.args.number (Insert new) c.requires.begins c.begin_insert.new.state.cells.items c.begin_insert.new.state.actors.items
     c.ledger_place-ledger.result c.ledger_place-ledger.ensures new refl c.in-Ok.at _ c.in-Ok.ensures.ok measured told)

@@ -2,7 +2,8 @@ use Rattle.std.proofs.Common.{◌∙◌, ap, length, refl, subst}
 use Rattle.std.specs.Prelude.{OnErr, OnOk}
 use Rattle.volap_cell.specs.declared.state.State.{State}
 use Rattle.seeded_run.specs.Machine.{streams_open}
-use Rattle.seeded_run.specs.Kept.{HasBegunAll}
+use Rattle.row_ledger.specs.declared.settings.Use.{Use}
+use Rattle.seeded_run.specs.Kept.{AreIdle, HasBegunAll}
 use Rattle.seeded_run.specs.Phase.{EndsBehindAny, StopsBehindAny, held, phase_from}
 use Rattle.seeded_run.specs.Order.{is_order}
 use Rattle.seeded_run.proofs.FirstCursors.{first-moment}
@@ -12,6 +13,13 @@ pub run_whole-ran-requires-clause-first : goal.run_whole-ran-requires-clause-fir
 run_whole-ran-requires-clause-first c =
     first-moment _ c.args.state.now c.replace.ensures.value c.requires.core c.requires.may_run c.requires.closes c.requires.idle
     c.of-before.ensures c.requires.first (c.streams_open-left.ensures ∙ ap (streams_open (length c.args.phase.now)) c.deref.ensures.value) refl
+
+pub returns-clause-idle : goal.returns-clause-idle
+returns-clause-idle c =
+    let r = c.run_whole-ran.new.running in
+    let same = c.run_whole-ran.ensures.same in
+    subst (λ (w : Use). OnOk c.run_whole-ran.result (AreIdle (held c.args.h.now w r.state))) same.with
+    (subst (λ g. OnOk c.run_whole-ran.result (AreIdle (held g.now r.with r.state))) same.h c.run_whole-ran.ensures.idle)
 
 pub returns-clause-begun : goal.returns-clause-begun
 returns-clause-begun c =

@@ -1,7 +1,7 @@
 use Rattle.std.proofs.Common.{◌≡◌, ◌+◌, ◌-◌, ◌*◌, ◌≤◌, length}
 use Rattle.std.specs.Option.{option_copied}
 use Rattle.dc_node.specs.Block.{size}
-use Rattle.tree_shape.specs.Counts.{total}
+use Rattle.list_words.specs.Counts.{total}
 use Rattle.tree_shape.specs.PageLines.{walk, group}
 use Rattle.tree_page.proofs.group.extent.Given as goal
 

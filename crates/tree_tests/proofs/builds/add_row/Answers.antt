@@ -9,5 +9,5 @@ pub returns-clause-rows : goal.returns-clause-rows
 returns-clause-rows c =
     let h = c.args.h.now in
     let rows = c.args.rows.now.items in
-    let row : Row = record { no = c.args.no; at = c.in_ok-at.field-0; measure = pos 7 } in
+    let row : Row = record { no = c.args.no; at = c.in_ok-at.field-0; measures = pos 7 } in
     All-same (IsRowOf h) c.add.new.items.items (rows ++ row ∷ []) c.in_ok-add.ensures (All-push (IsRowOf h) rows row c.requires.rows c.in_ok-at.ensures)

@@ -4,11 +4,11 @@ use Rattle.arrayvec.specs.ArrayVec.{ArrayVec as Items}
 use Rattle.dim_hierarchy.specs.declared.row.Row.{Row}
 use Rattle.dim_hierarchy.specs.Rows.{IsRowOf}
 use Rattle.dc_node.specs.declared.columns.Columns.{Columns}
-use Rattle.dc_node.specs.Columns.{rows_of}
+use Rattle.dc_node.specs.Columns.{rows_in_columns}
 use Rattle.dc_node.proofs.boxed.RowBox.matching.Goals as goal
 
 pub matching-requires-clause-rows : goal.matching-requires-clause-rows
 matching-requires-clause-rows c =
     let box = c.deref.result.now in
-    All-same (IsRowOf c.args.wanted.now.hierarchy) (rows_of box c.self.inside.count) c.args.self.now.items
-    (ap (λ (b : Columns). rows_of b c.self.inside.count) c.deref.ensures ∙ ap (λ (v : Items Row). v.items) c.self.view_is) c.requires
+    All-same (IsRowOf c.args.wanted.now.hierarchy) (rows_in_columns box c.self.inside.count) c.args.self.now.items
+    (ap (λ (b : Columns). rows_in_columns b c.self.inside.count) c.deref.ensures ∙ ap (λ (v : Items Row). v.items) c.self.view_is) c.requires

@@ -7,7 +7,7 @@ use Rattle.dim_hierarchy.specs.declared.row.Row.{Row}
 use Rattle.describing_set.specs.DescSet.{IsSetOf}
 use Rattle.describing_set.specs.Sets.{GrowsBy}
 use Rattle.dc_node.specs.Summary.{coords}
-use Rattle.dc_node.specs.Columns.{row_at, rows_of}
+use Rattle.dc_node.specs.Columns.{row_at, rows_in_columns}
 use Rattle.dc_node.proofs.Rows.{length_rows, read_row, row_fact}
 use Rattle.dc_node.proofs.Summaries.{grown_more}
 use Rattle.dc_node.proofs.columns.Columns.set.Goals as goal
@@ -24,7 +24,7 @@ loop-place-preserved c =
     let i = c.loop-place.place in
     let n = length_rows rows c.args.count in
     let grows = subst (λ (at : Coord). GrowsBy h at c.loop-place.set c.grow.new.self) c.coord.ensures c.grow.ensures.grown in (
-      grown_more h c.laws.ensures.same (rows_of rows c.args.count) i (row_at rows i) c.loop-place.set c.grow.new.self (omega (arith, n, c.loop-place-test.true)) (sym (read_row rows c.args.count i (row_at rows i) c.loop-place-test.true))
+      grown_more h c.laws.ensures.same (rows_in_columns rows c.args.count) i (row_at rows i) c.loop-place.set c.grow.new.self (omega (arith, n, c.loop-place-test.true)) (sym (read_row rows c.args.count i (row_at rows i) c.loop-place-test.true))
           c.requires.rows grows c.loop-place.invariant.0,
       c.grow.ensures.valid,
     )
@@ -33,5 +33,5 @@ pub returns-clause-set : goal.returns-clause-set
 returns-clause-set c =
     let rows = c.args.self.now in
     let n = length_rows rows c.args.count in
-    let all : length (rows_of rows c.args.count) ≤ c.loop-place.place = omega (arith, n, c.loop-place-test.false) in
-    subst (λ (xs : List Row). IsSetOf c.args.h.now (coords xs) c.loop-place.set) (take_all c.loop-place.place (rows_of rows c.args.count) all) c.loop-place.invariant.0
+    let all : length (rows_in_columns rows c.args.count) ≤ c.loop-place.place = omega (arith, n, c.loop-place-test.false) in
+    subst (λ (xs : List Row). IsSetOf c.args.h.now (coords xs) c.loop-place.set) (take_all c.loop-place.place (rows_in_columns rows c.args.count) all) c.loop-place.invariant.0

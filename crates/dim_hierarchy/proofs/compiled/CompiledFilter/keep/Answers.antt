@@ -1,4 +1,4 @@
-use Rattle.std.proofs.Common.{◌≡◌, ◌<◌, ◌∙◌, ap, sym, subst, get_or, length, filter}
+use Rattle.std.proofs.Common.{◌<◌, ◌∙◌, ap, sym, subst, get_or, length, filter}
 use Rattle.std.specs.Prelude.{All}
 use Rattle.dim_hierarchy.specs.Concept.{number_of}
 use Rattle.dim_hierarchy.specs.Dimension.{tree}

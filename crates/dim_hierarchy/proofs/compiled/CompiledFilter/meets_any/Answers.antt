@@ -1,6 +1,6 @@
-use Rattle.std.proofs.Common.{◌≡◌, ◌<◌, ◌∙◌, ap, sym, subst, get_or, length}
-use Rattle.std.specs.Prelude.{All, ◌==◌, nat_lt, not}
-use Rattle.std.specs.List.{list_all, list_any}
+use Rattle.std.proofs.Common.{◌<◌, ◌∙◌, ap, sym, subst, get_or, length}
+use Rattle.std.specs.Prelude.{All, nat_lt, not}
+use Rattle.std.specs.List.{list_any}
 use Rattle.dim_hierarchy.specs.Concept.{number_of}
 use Rattle.dim_hierarchy.specs.Dimension.{tree}
 use Rattle.dim_hierarchy.specs.Filter.{pick_at}

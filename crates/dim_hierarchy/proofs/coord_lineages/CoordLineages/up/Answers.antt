@@ -1,4 +1,4 @@
-use Rattle.std.proofs.Common.{List, ◌<◌, ◌≤◌, ◌∙◌, length, ap, subst, sym}
+use Rattle.std.proofs.Common.{◌<◌, ◌≤◌, ◌∙◌, length, ap, subst, sym}
 use Rattle.dim_hierarchy.specs.Tree.{up, leaf_level}
 use Rattle.dim_hierarchy.specs.Dimension.{tree}
 use Rattle.dim_hierarchy.specs.Row.{concept_at}

@@ -1,5 +1,5 @@
-use Rattle.std.proofs.Common.{◌≡◌, ◌∙◌, arith, refl, sym, subst, ap, get_or, [], ◌+◌}
-use Rattle.dim_hierarchy.proofs.NameBytes.{IsBehind, IsBehind-start, IsBehind-first}
+use Rattle.std.proofs.Common.{◌≡◌, ◌∙◌, arith, sym, ap, get_or, []}
+use Rattle.dim_hierarchy.proofs.NameBytes.{IsBehind-start, IsBehind-first}
 use Rattle.dim_hierarchy.proofs.row_names.RowNames.get.Goals as goal
 
 pub loop-before-init : goal.loop-before-init

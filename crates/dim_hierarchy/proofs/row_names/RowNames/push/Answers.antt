@@ -1,5 +1,4 @@
-use Rattle.std.proofs.Common.{◌≡◌, ◌+◌, suc, [], ◌∷◌, ◌++◌, length, arith, sym, ap, subst, ◌∙◌, append_assoc}
-use Rattle.dim_hierarchy.specs.RowNames.{names_in, AreNames}
+use Rattle.std.proofs.Common.{◌≡◌, ◌+◌, suc, [], ◌∷◌, ◌++◌, length, arith, sym, ap, ◌∙◌, append_assoc}
 use Rattle.dim_hierarchy.proofs.NameBytes.{AreNames-few, AreNames-push, names_in-push}
 use Rattle.dim_hierarchy.proofs.row_names.RowNames.push.Goals as goal
 

@@ -1,0 +1,5 @@
+pub mod Truth
+pub mod Elements
+pub mod Each
+pub mod Times
+pub mod Totals
