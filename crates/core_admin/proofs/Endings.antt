@@ -1,8 +1,7 @@
 -- A job comes to its end, whose gate retires: that keeps the invariant, and less is left.
-use Rattle.std.proofs.Common.{◌≡◌, ◌≢◌, ℕ, suc, ◌+◌, ◌-◌, ◌*◌, ◌<◌, ◌≤◌, true, false, eqb, List, [], ◌∷◌, ◌++◌, length, Option, Some, None, IsSome, slice_get, refl, sym, ap, ◌∙◌, subst, ◌⊎◌, inl, inr, arith, le_of_lt, option_map, option_and_then, suc-mul, ◌==◌, ◌||◌}
+use Rattle.std.proofs.Common.{◌≡◌, ◌≢◌, ℕ, ◌+◌, ◌-◌, ◌*◌, ◌<◌, ◌≤◌, true, false, eqb, List, [], ◌∷◌, ◌++◌, length, Option, Some, None, IsSome, refl, sym, ap, ◌∙◌, subst, ◌⊎◌, inl, inr, arith, le_of_lt, ◌==◌, ◌||◌}
 use Rattle.std.specs.Option.{option_map_or}
-use Rattle.std.proofs.lemmas.Bool.{cases_lt, eqb-true, eqb-false}
-use Rattle.std.proofs.lemmas.Option.{slice_get_past}
+use Rattle.std.proofs.lemmas.Bool.{eqb-true, eqb-false}
 use Rattle.row_ledger.specs.LedgerValue.{LedgerValue}
 use Rattle.list_words.specs.Counts.{same}
 use Rattle.list_words.proofs.Truth.{on_bool}
@@ -25,14 +24,14 @@ use Rattle.tree_shape.specs.Shape.{Shape, numbers}
 use Rattle.volap_cell.specs.AdminKinds.{Finishes, PushesBoth, HasJob}
 use Rattle.volap_cell.specs.Cells.{LedgerCell, ledger_in}
 use Rattle.volap_cell.specs.Commands.{after_action, owes}
-use Rattle.volap_cell.specs.Falls.{actions_left, control_of, job_left, left, of_work, plenty}
+use Rattle.volap_cell.specs.Falls.{control_of, job_left, left, of_work, plenty}
 use Rattle.volap_cell.specs.Errands.{ReadPart}
 use Rattle.volap_cell.specs.Ghost.{Ghost, InPurse, InTree, Owner}
 use Rattle.volap_cell.specs.Growing.{Growing, Queueing, Resting}
 use Rattle.volap_cell.specs.ImageKinds.{Pushes, doing}
 use Rattle.volap_cell.specs.Invariant.{InvWith}
 use Rattle.volap_cell.specs.Imaging.{Covering, Imaging}
-use Rattle.volap_cell.specs.Lineage.{Leading, Lineage}
+use Rattle.volap_cell.specs.Lineage.{Lineage}
 use Rattle.volap_cell.specs.Placing.{Inserting, Placing}
 use Rattle.volap_cell.specs.Desking.{Desking}
 use Rattle.volap_cell.specs.Owing.{Owing, owed_by}
@@ -65,13 +64,14 @@ use Rattle.volap_cell.proofs.Seen.{renewed}
 use Rattle.core_admin.proofs.BalanceDone.{balancing-done, next-is, within, IsDoneBy}
 use Rattle.core_image.proofs.NextAction.{next-action}
 use Rattle.core_admin.proofs.FinishedCommands.{telling-finished}
-use Rattle.core_admin.proofs.NextJobs.{IsNextOf, job-few, numbering-next, off-desk, working-next}
+use Rattle.core_admin.proofs.NextJobs.{IsNextOf, numbering-next, off-desk, working-next, balancing-one, control-next}
 use Rattle.core_admin.proofs.TurnedCommands.{IsOffDesk, turned-desking, turned-inserting, turned-placing}
 use Rattle.core_admin.proofs.Returned.{one}
 use Rattle.core_admin.proofs.Retiring.{Retiring, gate-old, not-new, retired-stocking}
 use Rattle.core_admin.proofs.RetiringLeft.{control-retired}
 use Rattle.core_admin.proofs.RetiringTrees.{retired-growing, retired-pinning, retired-queueing, retired-stamping}
 use Rattle.core_admin.proofs.Untouched.{querying-off}
+use Rattle.core_admin.proofs.SharedLineage.{LeadsOn, leading-shared, lineage-shared}
 use Rattle.core_admin.proofs.SharedRows.{SharesRows, placing-shared, resting-shared, shared_ghost, turning-shared}
 use Rattle.core_admin.proofs.ShardLines.{KeepsBoxes, KeepsLines, covering-kept, desking-kept, imaging-kept, inserting-kept, querying-kept, rows}
 use Rattle.row_ledger.specs.declared.settings.Call.{Call}
@@ -184,8 +184,7 @@ pub record Ending (s : Setting) (w w2 : World) (n : ℕ) (g : Ghost) (owner : �
   pub lines : KeepsLines s (view s w) g home e
   pub boxes : KeepsBoxes s (view s w) g home (view s w2).registry
   pub shares : SharesRows s (view s w) (view s w2) g (shared_ghost g owner gate shape home) n retiring e
-  pub lineage : Lineage s (e ∷ (view s w).history) (view s w2).stock (view s w2).registry (view s w2).maps (view s w2).gates (view s w2).phases gate
-  pub leading : Leading s (view s w2).maps (view s w).images (view s w).desks
+  pub leads : LeadsOn s (view s w) (view s w2) g (shared_ghost g owner gate shape home) n retiring e
 
 module _ (s : Setting) (w w2 : World) (n : ℕ) (g : Ghost) (owner : ℕ → Owner) (gate : ℕ → ℕ) (shape : ℕ → Shape) (home : ℕ → ℕ) (i : InvWith s (view s w) g) (d : Ending s w w2 n g owner gate shape home) (other : OtherLaw) where
   abbrev v : View
@@ -246,6 +245,9 @@ module _ (s : Setting) (w w2 : World) (n : ℕ) (g : Ghost) (owner : ℕ → Own
 
   queueing-1 : Queueing s (row_at (e ∷ h)) u.gates u.phases u.queues
   queueing-1 = subst (λ (row : ℕ → Row). Queueing s row u.gates u.phases u.queues) (sym rows-same) (retired-queueing s w u g g2 n i d.retiring admin)
+
+  lineage-1 : Lineage s (e ∷ h) u.stock u.registry u.maps u.gates u.phases gate
+  lineage-1 = lineage-shared s v u g g2 n i d.retiring e d.shares d.leads
 
   resting-1 : Resting (e ∷ h) u.gates u.phases shape g.placed home
   resting-1 = resting-shared s w u g owner gate shape home n i d.retiring e d.lines d.shares admin
@@ -320,7 +322,7 @@ module _ (s : Setting) (w w2 : World) (n : ℕ) (g : Ghost) (owner : ℕ → Own
             stocking = retired-stocking s v u g g2 n i d.retiring;
             stamping = retired-stamping s w u g g2 n i d.retiring admin other;
             lineage = lineage;
-            leading = d.leading;
+            leading = leading-shared s v u g g2 n i d.retiring e d.shares d.leads;
             growing = growing;
             queueing = queueing;
             resting = resting;
@@ -401,7 +403,7 @@ module _ (s : Setting) (w w2 : World) (n : ℕ) (g : Ghost) (owner : ℕ → Own
         (telling-finished s h v.commands u.commands v.jobs u.jobs v.roles v.seen u.seen g.placed i.telling n its e how_is.Fine turned (new None None is).elsewhere seen-off d.number d.no_session d.lines.no_insert d.lines.no_query d.no_end right
         (ap (λ (a : ActorValue). a.seen) d.actor_is ∙ p.all_seen ∙ ap length p.history ∙ sym (ap length (ap (λ (l : LedgerValue). f ∷ e ∷ l.history) news.was_that))))
         owing
-        (lineage-quiet s f (e ∷ h) refl u.stock u.registry u.maps u.gates u.phases gate d.lineage)
+        (lineage-quiet s f (e ∷ h) refl u.stock u.registry u.maps u.gates u.phases gate lineage-1)
         (growing-grown s f (e ∷ h) some u.blocks u.trees u.gates u.phases u.pins shape growing-1)
         (queueing-grown s f (e ∷ h) some u.gates u.phases u.queues queueing-1)
         (resting-quiet s f (e ∷ h) refl u.gates u.phases shape g.placed home resting-1)
@@ -480,42 +482,13 @@ module _ (s : Setting) (w w2 : World) (n : ℕ) (g : Ghost) (owner : ℕ → Own
           }
 
       balancing : Balancing s (e ∷ h) u.commands u.jobs g.placed home
-      balancing = record {
-        balance = λ a r k has. on_bool (eqb a n)
-            (λ q.
-            let here = eqb-true a n q in
-            let both : ◌≡◌ {A = Option Command} (Some its_now) (Some (record { of = r; work = work_is.Balance k })) = sym command-on.is_there ∙ ap u.commands (sym here) ∙ has in
-            let same_of : d.of ≡ r = ap (λ (z : Option Command). option_map_or (λ (t : Command). t.of) z 0) both in
-            let same_work : work_is.Balance next ≡ work_is.Balance k = ap (λ (z : Option Command). option_map_or (λ (t : Command). t.work) z work_is.Query) both in
-            let same_balance : next ≡ k = cc in
-            subst (λ (j : Option JobValue). IsBalancing s (e ∷ h) g.placed home j r k) (sym (ap u.jobs here ∙ job-on.is_there))
-            (subst (λ (z : ℕ). IsBalancing s (e ∷ h) g.placed home (next_job next) z k) same_of
-            (subst (λ (z : Balance). IsBalancing s (e ∷ h) g.placed home (next_job next) d.of z) same_balance done)))
-            (λ q. let ne = eqb-false a n q in absurd (ne (only-balance a r k (sym (command-on.elsewhere a ne) ∙ has))));
-      }
+      balancing = balancing-one s (e ∷ h) g.placed home n d.of next (Some its) v.commands u.commands command-on u.jobs (next_job next) job-on.is_there done (λ a r k ne was. absurd (ne (only-balance a r k was)))
 
       falls : control_of s (work_is.Balance next) + job_left s u (next_job next) + (1 + cell_count s) < control_of s d.work + (2 * plenty s + 1)
       falls =
-          let unit = 8 * plenty s in
-          let len = length over.0 in
-          let at = balance.over in
-          let was : control_of s d.work ≡ 1 + (len - (at + 1)) * unit = ap (control_of s) works ∙ ap (λ (z : Option (List Action)). 1 + actions_left s balance z) over.1 in
-          let now : control_of s (work_is.Balance next) ≡ 1 + (len - (at + 1 + 1)) * unit = ap (λ (z : Option (List Action)). 1 + actions_left s next z) over.1 in
-          let few = job-few s u (next_job next) (next-called next) in
-          elim (cases_lt (at + 1) len) [
-            | inl more ↦
-                let step : len - (at + 1) ≡ suc (len - (at + 1 + 1)) = omega (arith, more) in
-                let sum : (len - (at + 1)) * unit ≡ (len - (at + 1 + 1)) * unit + unit = ap (λ (z : ℕ). z * unit) step ∙ suc-mul (len - (at + 1 + 1)) unit in
-                omega (arith, was, now, sum, few)
-            | inr last ↦
-                let step : len - (at + 1) ≡ len - (at + 1 + 1) = omega (arith, last) in
-                let same_left : (len - (at + 1)) * unit ≡ (len - (at + 1 + 1)) * unit = ap (λ (z : ℕ). z * unit) step in
-                let nothing : next_job next ≡ None =
-                ap (λ (z : Option (List Action)). option_map (job_for next.standing) (option_and_then (λ (xs : List Action). slice_get xs next.over) z)) over.1
-                ∙ ap (option_map (job_for next.standing)) (slice_get_past over.0 (at + 1) last) in
-                let none : job_left s u (next_job next) ≡ 0 = ap (job_left s u) nothing in
-                omega (arith, was, now, same_left, none)
-          ]
+          let was = ap (control_of s) works in
+          let less = control-next s u true d.job balance over.0 over.1 over.2 (next-called next) in
+          omega (arith, was, less)
 
       goes-on : IsFinished s w w2 g
       goes-on = together (Some its_now) (next_job next) is (e ∷ h) (e ∷ []) pushed.history_is refl
@@ -525,7 +498,7 @@ module _ (s : Setting) (w w2 : World) (n : ℕ) (g : Ghost) (owner : ℕ → Own
             all_seen = ap (λ (a : ActorValue). a.seen) d.actor_is ∙ pushed.all_seen ∙ ap length pushed.history_is;
           })
           d.right i.telling its its_now d.no_session d.no_end (λ r has. let both : Some d.of ≡ Some r = sym d.number ∙ has in let it : d.of ≡ r = cc in sym it) d.command command-on.is_there refl (called-kept e h d.of _ calls.0, calls.1))
-          owing-on d.lineage growing-1 queueing-1 resting-1 placing-1 inserting-1 imaging-1 covering-1 desking-1 querying-1 balancing
+          owing-on lineage-1 growing-1 queueing-1 resting-1 placing-1 inserting-1 imaging-1 covering-1 desking-1 querying-1 balancing
           (λ j has. let k = nexts j has in record { called = k.0; whose = (its_now, refl, has ∙ (λ z. Some (record j { stage = k.0 z }))); front = k.1; to = k.2 })
           (λ k has. let it : its_now ≡ k = cc in subst (λ (z : Command). IsOffDesk z.work) it (record { no_insert = refl; off = refl }))
           falls

@@ -1,5 +1,5 @@
 -- A move comes to its end: that keeps the invariant, and less is left.
-use Rattle.std.proofs.Common.{◌≡◌, ◌≢◌, ℕ, zero, suc, ◌+◌, ◌-◌, ◌<◌, ◌≤◌, ◌^◌, Bool, true, cond, eqb, List, [], ◌∷◌, ◌++◌, map, Option, Some, slice_get, slice_set, refl, sym, ap, ◌∙◌, subst, inl, inr, arith, eq-eqb}
+use Rattle.std.proofs.Common.{◌≡◌, ◌≢◌, ℕ, zero, suc, ◌+◌, ◌-◌, ◌<◌, ◌≤◌, ◌^◌, Bool, true, cond, eqb, List, [], ◌∷◌, ◌++◌, map, Option, Some, slice_get, slice_set, refl, sym, ap, ◌∙◌, subst, inl, inr, arith, eq-eqb, drop, None, Contains}
 use Rattle.std.specs.List.{AllZip}
 use Rattle.std.proofs.lemmas.Bool.{eqb-true, eqb-false, ne_eqb}
 use Rattle.cell_stock.specs.Stock.{StockValue, cells_of}
@@ -10,8 +10,8 @@ use Rattle.mapping_table.specs.declared.place.Where.{Where}
 use Rattle.std.specs.FinMap.{FinMap}
 use Rattle.std.specs.Ordering.{nat_cmp}
 use Rattle.row_ledger.specs.LedgerValue.{LedgerValue}
-use Rattle.tree_shape.specs.Forest.{filled_cells}
-use Rattle.list_words.proofs.Each.{each-right, each-among}
+use Rattle.tree_shape.specs.Forest.{filled_cells, AreInCells, AreRowsOf}
+use Rattle.list_words.proofs.Each.{each-right, each-among, each-both, all-each, among-right, each-here}
 use Rattle.list_words.specs.Counts.{Among, Each, same, times}
 use Rattle.list_words.proofs.Times.{times-append}
 use Rattle.list_words.proofs.Truth.{on_bool, eqb-self}
@@ -35,10 +35,10 @@ use Rattle.shard_store.specs.declared.gate.Gate.{Gate}
 use Rattle.tree_shape.specs.Laws.{CollectEndLaw, OtherLaw}
 use Rattle.tree_shape.specs.Shape.{Shape, nodes, numbers}
 use Rattle.tree_shape.specs.Trees.{IsTree}
-use Rattle.volap_cell.specs.AdminKinds.{DoesFinishMove}
+use Rattle.volap_cell.specs.AdminKinds.{DoesFinishMove, spent_by, tree_of}
 use Rattle.volap_cell.specs.Cells.{CellValue, GateCell, LedgerCell, MapCell, RegistryCell, StockCell, active_in, block_in, gate_shard, gone_in, has_block, phase_of, pins_in, queue_in, way_in, way_to_tree}
 use Rattle.volap_cell.specs.Falls.{left}
-use Rattle.volap_cell.specs.Ghost.{AGate, Ghost, InJob, Owner, is_in_job}
+use Rattle.volap_cell.specs.Ghost.{AGate, Ghost, InJob, Owner, is_in_job, InPurse}
 use Rattle.volap_cell.specs.Growing.{table_of}
 use Rattle.volap_cell.specs.Invariant.{InvWith}
 use Rattle.volap_cell.specs.Setting.{Setting, site_in}
@@ -46,30 +46,37 @@ use Rattle.volap_cell.specs.Steps.{IsKept}
 use Rattle.volap_cell.specs.Stocking.{cells_at, items_of_job, spent_of}
 use Rattle.volap_cell.specs.Values.{ActorValue, JobValue, IsCalled}
 use Rattle.volap_cell.specs.View.{View, view}
-use Rattle.volap_cell.specs.Working.{action_of, action_to}
+use Rattle.volap_cell.specs.Working.{action_of, action_to, IsBuilding}
 use Rattle.volap_cell.specs.World.{Agrees, Change, World, after}
 use Rattle.volap_cell.specs.declared.kind.Kind.TheVariants as kind
 use Rattle.volap_cell.proofs.AdminViews.{view-finish_move}
 use Rattle.volap_cell.proofs.Frames.{actor-at, actor-off}
-use Rattle.volap_cell.proofs.Spares.{move-blank}
+use Rattle.volap_cell.proofs.Spares.{move-blank, among-cells}
 use Rattle.core_image.proofs.Jobs.{items-new, spent-new}
-use Rattle.core_admin.proofs.MoveTree.{all-rows, built, here, job-cell, filled-inside, front, inside-filled, is-gate, late, late-is, late-named, law, leads, old, owner-filled, owner-gc, phase-here, read, was}
 use Rattle.core_admin.proofs.BalanceDone.{IsDoneBy}
 use Rattle.core_admin.proofs.MovedKnown.{IsSameBox, comes, moved-boxes, moved-lines}
-use Rattle.core_admin.proofs.ShardLines.{rows}
 use Rattle.core_admin.proofs.MovedShards.{moved_place, rehosted}
-use Rattle.core_admin.proofs.MovesLineage.{Moving, live-same, moved-leading, moved-lineage}
+use Rattle.core_admin.proofs.MovesLineage.{Moving, live-same, moved-leads}
 use Rattle.core_admin.proofs.SharedRows.{SharesRows, shared_ghost}
 use Rattle.core_admin.proofs.Endings.{Ending, IsFinished, closes, finished, job-asked, right-action}
 use Rattle.core_admin.proofs.PlansAhead.{moved-ahead}
-use Rattle.core_admin.proofs.MovesShard.{gc-now, ledger-now, kept, moved-tables, registry-now, stock-now, x-now}
+use Rattle.core_admin.proofs.MovesShard.{gc-now, ledger-now, kept, moved-tables, registry-now, stock-now, x-now, at-x}
 use Rattle.core_admin.proofs.EndedCells.{blank-counts}
-use Rattle.core_admin.proofs.NewTree.{fresh-at}
+use Rattle.core_admin.proofs.NewTree.{fresh-at, cells-spent, contains-among, IsNewTree, leads-to, new-tree}
 use Rattle.core_admin.proofs.Returned.{cells-append, one}
 use Rattle.core_admin.proofs.Retiring.{Retiring, given_to}
-use Rattle.core_admin.proofs.FinishedJob.{live as live-here}
+use Rattle.core_admin.proofs.FinishedJob.{live as live-here, all-rows as job-rows, front as job-front, frozen, is-gate as job-gate, is-job-cell, late as job-late, late-is as job-late-is, late-named as job-late-named, once, phase-here as job-phase, read as job-read, rows as rows_built, rows-named, rows-valid, spent-is, was as job-was}
 use Rattle.row_ledger.specs.Work.{Did, Settles, shard_of}
 use Rattle.row_ledger.specs.Right.{IsRightAction}
+use Rattle.dim_hierarchy.specs.Rows.{IsRowOf}
+use Rattle.row_ledger.specs.Workers.{is_on}
+use Rattle.shard_build.specs.Built.{IsBuilt}
+use Rattle.shard_build.specs.Building.{spare_of}
+use Rattle.shard_build.specs.declared.builder.Built.{Built}
+use Rattle.shard_store.specs.declared.gate.Phase.TheVariants.{Frozen}
+use Rattle.tree_shape.specs.Collecting.{AfterCollecting}
+use Rattle.volap_cell.proofs.Blanks.{spare-owner, spent-owner}
+use Rattle.core_admin.proofs.BuildsBlock.{among-spent}
 
 -- the registry's boxes stay
 same-boxes : (to k : ℕ) (spots : List Spot) (spot : Spot) → slice_get spots k ≡ Some spot → AllZip IsSameBox spots (slice_set spots k (record spot { worker = to }))
@@ -81,8 +88,7 @@ same-boxes to zero (z ∷ zs) spot is = (let both : ◌≡◌ {A = Option Spot} 
     all-same (z ∷ zs) = ((refl, refl), all-same zs)
 same-boxes to (suc k) (z ∷ zs) spot is = ((refl, refl), same-boxes to k zs spot is)
 
-module _ (maps : List Change) (x gc reg c led : Change) (b : ActorValue) (s : Setting) (w : World) (n : ℕ) (g : Ghost) (i : InvWith s (view s w) g) (ag : Agrees w (maps ++ x ∷ gc ∷ reg ∷ c ∷ led ∷ []) n (w.actors n)) (d : DoesFinishMove s.hierarchy maps x gc reg c led (w.actors n) b)
-    (other : OtherLaw) (ends : CollectEndLaw) where
+module _ (maps : List Change) (x gc reg c led : Change) (b : ActorValue) (s : Setting) (w : World) (n : ℕ) (g : Ghost) (i : InvWith s (view s w) g) (ag : Agrees w (maps ++ x ∷ gc ∷ reg ∷ c ∷ led ∷ []) n (w.actors n)) (d : DoesFinishMove s.hierarchy maps x gc reg c led (w.actors n) b) where
   abbrev v : View
   v = view s w
 
@@ -95,260 +101,370 @@ module _ (maps : List Change) (x gc reg c led : Change) (b : ActorValue) (s : Se
   abbrev u : View
   u = view s w2
 
-  abbrev y : ℕ
-  y = gc.number
-
   abbrev shard : ℕ
   shard = d.job.shard
 
-  abbrev o : ℕ
-  o = old maps x gc reg c led b s w n g i ag d
+  -- the cell of the old gate
+  abbrev old : ℕ
+  old = d.building.frozen.gate
 
-  abbrev e : Event
-  e = Moved d.of shard d.to
+  here : w.cells old ≡ GateCell d.gate
+  here = ap w.cells d.here ∙ at-x maps x gc reg c led b s w n g i ag d
 
-  abbrev its-shape : Shape
-  its-shape = (law maps x gc reg c led b s w n g i ag d ends).shape
+  abbrev was : IsBuilding s v.history v.blocks v.made v.trees v.queues v.phases v.active g.shape (v.purses n) d.building
+  was = job-was s w g i n d.job d.building d.has.is_job d.has.stage_is d.in_cells d.gate here d.upto d.frozen
 
-  abbrev owner2 : ℕ → Owner
-  owner2 z = cond (eqb z y) AGate (given_to n y (g.owner z))
+  front : is_on s.workers v.history d.job.shard d.job.worker ≡ true
+  front = job-front s w g i n d.job d.building d.has.is_job d.has.stage_is d.in_cells d.gate here d.upto d.frozen
 
-  abbrev gate2 : ℕ → ℕ
-  gate2 z = cond (eqb z shard) y (g.gate z)
+  is-gate : v.gates old ≡ Some d.job.shard
+  is-gate = job-gate s w g i n d.job d.building d.has.is_job d.has.stage_is d.in_cells d.gate here d.upto d.frozen
 
-  abbrev shape2 : ℕ → Shape
-  shape2 z = cond (eqb z y) its-shape (g.shape z)
+  phase-here : v.phases old ≡ Some (Frozen was.upto)
+  phase-here = job-phase s w g i n d.job d.building d.has.is_job d.has.stage_is d.in_cells d.gate here d.upto d.frozen
 
-  abbrev g2 : Ghost
-  g2 = shared_ghost g owner2 gate2 shape2 g.home
+  abbrev rows : List Row
+  rows = rows_built s w g i n d.job d.building d.has.is_job d.has.stage_is d.in_cells d.gate here d.upto d.frozen
 
-  gate-now : w2.cells y ≡ GateCell d.new_gate
-  gate-now = gc-now maps x gc reg c led b s w n g i ag d
+  abbrev late : List Row
+  late = job-late s w g i n d.job d.building d.has.is_job d.has.stage_is d.in_cells d.gate here d.upto d.frozen
 
-  old-now : w2.cells o ≡ GateCell d.gate_now
-  old-now = ap w2.cells d.here ∙ x-now maps x gc reg c led b s w n g i ag d
+  late-is : drop d.upto d.gate.queue.rows ≡ late
+  late-is = job-late-is s w g i n d.job d.building d.has.is_job d.has.stage_is d.in_cells d.gate here d.upto d.frozen
 
-  stays : {A : Type 0} (f : CellValue → A) → ((worker : ℕ) (t t2 : FinMap nat_cmp Where) → f (MapCell worker t) ≡ f (MapCell worker t2)) → ((r r2 : RegistryValue) → f (RegistryCell r) ≡ f (RegistryCell r2)) → ((k k2 : StockValue) → f (StockCell k) ≡ f (StockCell k2))
-      → ((l l2 : LedgerValue) → f (LedgerCell l) ≡ f (LedgerCell l2)) → (z : ℕ) → (z ≡ x.number → f (GateCell d.gate_now) ≡ f (GateCell d.gate)) → z ≢ gc.number → f (w2.cells z) ≡ f (w.cells z)
-  stays = kept maps x gc reg c led b s w n g i ag d
+  -- What was built: one tree, as a move has no plane.
 
-  blank : IsBlank gc.before
-  blank = move-blank s w g i n s.hierarchy maps x gc reg c led (w.actors n) b ag d
+  built : (tree : Built) × IsBuilt s.hierarchy rows was.purse_was was.purse_now tree × (d.building.left ≡ tree_of tree) × (was.built ≡ tree.blocks.items)
+  built =
+      let all : d.building.unbuilt ++ was.built ≡ was.built = ap (λ (fs : List Fresh). fs ++ was.built) d.in_cells in
+      elim was.trees_are.built [
+        | inl t ↦ (t.1.0, t.1.1, t.1.2, sym all ∙ t.1.4)
+        | inr t ↦ (let no : None ≡ Some t.0 = sym ((frozen s w g i n d.job d.building d.has.is_job d.has.stage_is d.in_cells d.gate here d.upto d.frozen).move d.to d.to_is) ∙ t.1 in cc)
+      ]
 
-  at-gc : w.cells y ≡ gc.before
-  at-gc = (each-right (λ (k : Change). w.cells k.number ≡ k.before) maps (x ∷ gc ∷ reg ∷ c ∷ led ∷ []) ag.cells).1.0
+  abbrev tree : Built
+  tree = built.0
 
-  ids-same : u.stock.ids ≡ v.stock.ids
-  ids-same = ap (λ (k : StockValue). k.ids) (stock-now maps x gc reg c led b s w n g i ag d).1 ∙ d.gives.ids ∙ sym (ap (λ (k : StockValue). k.ids) (stock-now maps x gc reg c led b s w n g i ag d).0)
+  spent-here : spent_of (v.jobs n) ≡ spent_by was.built
+  spent-here = spent-is s w g i n d.job d.building d.has.is_job d.has.stage_is d.in_cells d.gate here d.upto d.frozen
 
-  counts-now : (z : ℕ) → times z u.stock.free + one (eqb z y) ≡ times z v.stock.free + times z (cells_of (v.purses n))
-  counts-now z =
-      let now : times z u.stock.free ≡ times z d.stock.free + times z (cells_of d.purse.spares) = ap (λ (k : StockValue). times z k.free) (stock-now maps x gc reg c led b s w n g i ag d).1 ∙ ap (times z) d.gives.cells ∙ times-append z d.stock.free (cells_of d.purse.spares) in
-      let was_free : times z v.stock.free ≡ times z d.stock.free = ap (λ (k : StockValue). times z k.free) (stock-now maps x gc reg c led b s w n g i ag d).0 in
-      let rest : times z (cells_of d.purse.spares) ≡ times z (cells_of d.rest) = ap (λ (k : List Spare). times z (cells_of k)) d.purse_was in
-      let all : times z (cells_of (v.purses n)) ≡ times z (cells_of d.rest) + times z (cells_of (d.spare ∷ [])) = ap (λ (k : List Spare). times z (cells_of k)) d.spares ∙ cells-append z d.rest (d.spare ∷ []) in
-      let mine : one (eqb z y) ≡ same z d.spare.cell = ap (λ (k : ℕ). one (eqb z k)) d.cell in
-      omega (arith, now, was_free, rest, all, mine)
+  owner-gc : g.owner gc.number ≡ InPurse n
+  owner-gc =
+      let mine : Among d.spare (w.actors n).purse = subst (Among d.spare) (sym d.spares) (among-right d.rest (d.spare ∷ []) d.spare (inl refl)) in
+      ap g.owner d.cell ∙ spare-owner s w g i n d.spare.cell (among-cells d.spare (w.actors n).purse mine)
 
-  -- the cells of the new blocks have blocks
-  made-filled : (z : ℕ) → g.owner z ≡ InJob n → v.made z ≡ true
-  made-filled z own =
-      let k = was maps x gc reg c led b s w n g i ag d in
-      let t = built maps x gc reg c led b s w n g i ag d in
-      let some : 1 ≤ times z (filled_cells k.built) = (let l = job-cell maps x gc reg c led b s w n g i ag d z in
-      let mine : ◌≡◌ {A = ℕ} (cond (is_in_job n (g.owner z)) 1 0) 1 = ap (λ (p : Owner). cond (is_in_job n p) 1 0) own ∙ ap (λ (p : Bool). cond p 1 0) (eqb-self n) in
-      let same_cells : times z (filled_cells k.built) ≡ times z (filled_cells t.0.blocks.items) = ap (λ (p : List Fresh). times z (filled_cells p)) t.3 in
-      omega (arith, l, mine, same_cells)) in
-      let f = fresh-at z k.built some in
-      ap v.made (sym f.2) ∙ (each-among (λ (p : Fresh). (v.blocks p.cell ≡ p.block) × (v.made p.cell ≡ true)) f.0 k.built k.in_cells f.1).1
+  -- the cells of the new blocks are the job's
+  job-cell : (y : ℕ) → times y (filled_cells tree.blocks.items) ≡ cond (is_in_job n (g.owner y)) 1 0
+  job-cell y = ap (times y) (sym (ap cells_of spent-here ∙ cells-spent was.built ∙ ap filled_cells built.3)) ∙ i.stocking.job n y
 
-  -- What becomes of the actor.
+  owner-filled : (y : ℕ) → 1 ≤ times y (filled_cells tree.blocks.items) → g.owner y ≡ InJob n
+  owner-filled y some = (let k = job-cell y in is-job-cell n (g.owner y) (omega (arith, some, k)))
 
-  closed : (b.purse ≡ []) × ((j : JobValue) → b.job ≡ Some j → j.stage ≡ IsCalled)
-  closed = closes d.of d.work d.job e led (w.actors n) b (job-asked s w n g i d.of d.work d.command d.job d.has.is_job) d.finishes
+  not-gc : (y : ℕ) → g.owner y ≡ InJob n → y ≢ gc.number
+  not-gc y own e = (let no : InJob n ≡ InPurse n = sym own ∙ ap g.owner e ∙ owner-gc in cc)
 
-  actor-now : w2.actors n ≡ b
-  actor-now = actor-at w.actors n b
+  block-kept : (y : ℕ) → y ≢ gc.number → u.blocks y ≡ v.blocks y
+  block-kept y ne = kept maps x gc reg c led b s w n g i ag d block_in (λ k t t2. refl) (λ r r2. refl) (λ k k2. refl) (λ l l2. refl) y (λ e. refl) ne
 
-  its-job : u.jobs n ≡ b.job
-  its-job = ap (λ (a : ActorValue). a.job) actor-now
+  stand : AreInCells u.blocks tree.blocks.items
+  stand = subst (AreInCells u.blocks) built.3 (each-both (λ (f : Fresh). g.owner f.cell ≡ InJob n) (λ (f : Fresh). (v.blocks f.cell ≡ f.block) × (v.made f.cell ≡ true)) (λ (f : Fresh). u.blocks f.cell ≡ f.block) was.built
+      (λ f own in_cell. block-kept f.cell (not-gc f.cell own) ∙ in_cell.0)
+      (each-here (λ (f : Fresh). g.owner f.cell ≡ InJob n) was.built (λ f m.
+      let spare : Spare = record { cell = f.cell; stamp = f.block.stamp } in
+      spent-owner s w g i n f.cell (among-cells spare (spent_of (v.jobs n)) (subst (Among spare) (sym spent-here) (among-spent f was.built m)))))
+      was.in_cells)
 
-  abbrev retiring : Retiring s v u g g2 n
-  retiring = record {
-    new = λ z. eqb z y;
-    shard_of = λ z. shard;
-    built = λ z. y;
-    x = o;
-    shard = shard;
-    upto = (was maps x gc reg c led b s w n g i ag d).upto;
-    is_gate = is-gate maps x gc reg c led b s w n g i ag d;
-    frozen = phase-here maps x gc reg c led b s w n g i ag d;
-    drained = (was maps x gc reg c led b s w n g i ag d).drained;
-    phase_x = ap phase_of old-now ∙ ap (λ (k : Gate). Some k.phase) d.retires.now;
-    queue_x = ap (λ (k : CellValue). (queue_in k).rows) old-now ∙ d.retires.empty;
-    valid_x = subst (IsQueueOf s.hierarchy) (sym (ap queue_in old-now)) d.retires.valid;
-    read_x = λ z. ap (times z) (ap gone_in old-now ∙ ap (λ (k : Gate). k.gone) d.retires.now) ∙ (read maps x gc reg c led b s w n g i ag d ends).blocks z;
-    purse_cell = λ z q. ap g.owner (eqb-true z y q) ∙ owner-gc maps x gc reg c led b s w n g i ag d;
-    gate_new = λ z q. ap u.gates (eqb-true z y q) ∙ ap gate_shard gate-now ∙ ap Some d.new_is.shard_is;
-    phase_new = λ z q. ap u.phases (eqb-true z y q) ∙ ap phase_of gate-now ∙ ap Some d.new_is.phase_is;
-    active_new = λ z q. ap u.active (eqb-true z y q) ∙ ap active_in gate-now ∙ d.new_is.active;
-    pins_new = λ z q. ap u.pins (eqb-true z y q) ∙ ap pins_in gate-now ∙ d.new_is.pins;
-    gone_new = λ z q. ap u.gone (eqb-true z y q) ∙ ap gone_in gate-now ∙ d.new_is.gone;
-    unmade = λ z q. ap u.made (eqb-true z y q) ∙ ap has_block gate-now;
-    valid_new = λ z q. subst (IsQueueOf s.hierarchy) (sym (ap u.queues (eqb-true z y q) ∙ ap queue_in gate-now)) d.new_is.valid;
-    named_new = λ z q. subst (λ (rows : List Row). Each (λ (r : Row). v.row r.no ≡ r) rows)
-        (sym (ap (λ (k : ℕ). (u.queues k).rows) (eqb-true z y q) ∙ ap (λ (k : CellValue). (queue_in k).rows) gate-now ∙ d.new_is.queue ∙ late-is maps x gc reg c led b s w n g i ag d)) (late-named maps x gc reg c led b s w n g i ag d ends);
-    blank = λ z q.
-        let k = blank-counts gc.before blank.tag blank.no_gate in
-        (ap v.active (eqb-true z y q) ∙ ap active_in at-gc ∙ k.0, ap v.pins (eqb-true z y q) ∙ ap pins_in at-gc ∙ k.1);
-    tree_new = λ z q. subst (λ (k : ℕ). IsTree (table_of s v.row) (cells_at u.blocks u.trees k) (shape2 k)) (sym (eqb-true z y q)) (rw (eqb-self y) (law maps x gc reg c led b s w n g i ag d ends).tree);
-    settled = λ z r q. rw q ((law maps x gc reg c led b s w n g i ag d ends).settled r);
-    inside_new = λ z r q inside ne.
-        let there : its-shape.inside r ≡ true = subst (λ (k : Bool). (cond k its-shape (g.shape z)).inside r ≡ true) q inside in
-        let off : r ≢ y = (λ k. ne (k ∙ sym (eqb-true z y q))) in
-        let own = owner-filled maps x gc reg c led b s w n g i ag d r (filled-inside maps x gc reg c led b s w n g i ag d ends r there off) in
-        (own, sym (eqb-true z y q), stays has_block (λ k t t2. refl) (λ r r2. refl) (λ k k2. refl) (λ l l2. refl) r (λ k. refl) off ∙ made-filled r own);
-    leads = λ z r l q inside level.
-        subst (λ (k : ℕ). Each (λ (f : Entry). (p : Spare) × Among p (spent_of (v.jobs n)) × (f.stamp ≡ p.stamp)) (nodes (cells_at u.blocks u.trees k) r).entries) (sym (eqb-true z y q))
-        (leads maps x gc reg c led b s w n g i ag d ends r (subst (λ (k : Bool). (cond k its-shape (g.shape z)).inside r ≡ true) q inside));
-    built_new = λ z own. (eqb-self y, rw (eqb-self y) (inside-filled maps x gc reg c led b s w n g i ag d ends z own));
-    gates_off = λ z q. stays gate_shard (λ k t t2. refl) (λ r r2. refl) (λ k k2. refl) (λ l l2. refl) z (λ k. ap (λ (p : Gate). Some p.shard) d.retires.now) (eqb-false z y q);
-    phases_off = λ z q ne. stays phase_of (λ k t t2. refl) (λ r r2. refl) (λ k k2. refl) (λ l l2. refl) z (λ k. absurd (ne (k ∙ sym d.here))) (eqb-false z y q);
-    queues_off = λ z q ne. stays queue_in (λ k t t2. refl) (λ r r2. refl) (λ k k2. refl) (λ l l2. refl) z (λ k. absurd (ne (k ∙ sym d.here))) (eqb-false z y q);
-    gone_off = λ z q ne. stays gone_in (λ k t t2. refl) (λ r r2. refl) (λ k k2. refl) (λ l l2. refl) z (λ k. absurd (ne (k ∙ sym d.here))) (eqb-false z y q);
-    trees_off = λ z q. stays way_in (λ k t t2. refl) (λ r r2. refl) (λ k k2. refl) (λ l l2. refl) z (λ k. ap way_to_tree d.retires.now) (eqb-false z y q);
-    active_off = λ z q. stays active_in (λ k t t2. refl) (λ r r2. refl) (λ k k2. refl) (λ l l2. refl) z (λ k. ap (λ (p : Gate). p.active) d.retires.now) (eqb-false z y q);
-    pins_off = λ z q. stays pins_in (λ k t t2. refl) (λ r r2. refl) (λ k k2. refl) (λ l l2. refl) z (λ k. ap (λ (p : Gate). p.pins) d.retires.now) (eqb-false z y q);
-    blocks_off = λ z q. stays block_in (λ k t t2. refl) (λ r r2. refl) (λ k k2. refl) (λ l l2. refl) z (λ k. refl) (eqb-false z y q);
-    made_off = λ z q. stays has_block (λ k t t2. refl) (λ r r2. refl) (λ k k2. refl) (λ l l2. refl) z (λ k. refl) (eqb-false z y q);
-    shape_off = λ z q. rw q refl;
-    owner = λ z. refl;
-    counts = counts-now;
-    stamps = ap (λ (k : StockValue). k.stamps) (stock-now maps x gc reg c led b s w n g i ag d).1 ∙ d.gives.stamps ∙ sym (ap (λ (k : StockValue). k.stamps) (stock-now maps x gc reg c led b s w n g i ag d).0);
-    ids_few = subst (λ (k : ℕ). k < 2 ^ 32) (sym ids-same) i.stocking.valid.ids;
-    all = ap (λ (k : StockValue). k.cells) (stock-now maps x gc reg c led b s w n g i ag d).1 ∙ d.gives.all ∙ sym (ap (λ (k : StockValue). k.cells) (stock-now maps x gc reg c led b s w n g i ag d).0);
-    purse = ap (λ (a : ActorValue). a.purse) actor-now ∙ closed.0;
-    spent = ap spent_of its-job ∙ spent-new b.job closed.1;
-    items = ap items_of_job its-job ∙ items-new b.job closed.1;
-    purses_off = λ a ne. ap (λ (k : ActorValue). k.purse) (actor-off w.actors n b a ne);
-    jobs_off = λ a ne. ap (λ (k : ActorValue). k.job) (actor-off w.actors n b a ne);
-  }
+  spent-among : (z : Spare) → Contains (map spare_of tree.blocks.items) z → Among z (spent_of (v.jobs n))
+  spent-among z has = subst (Among z) (sym (spent-here ∙ ap spent_by built.3)) (contains-among z tree.blocks.items has)
 
-  ascend : AscendFrom 0 (places_of d.registry.frontier)
-  ascend = subst (λ (r : RegistryValue). AscendFrom 0 (places_of r.frontier)) (registry-now maps x gc reg c led b s w n g i ag d).0
-      (subst (AscendFrom 0) (sym i.lineage.front) (frontier-ascends (site_in s) g.placed h i.telling.right.right.each))
+  -- The new tree and the new queue.
 
-  places-now : places_of u.registry.frontier ≡ map (moved_place shard d.to) (places_of v.registry.frontier)
-  places-now =
-      let r = registry-now maps x gc reg c led b s w n g i ag d in
-      ap (λ (k : RegistryValue). places_of k.frontier) r.1 ∙ ap places_of d.rehosted.frontier ∙ rehosted shard d.to 0 d.registry.frontier d.rehosted.spot ascend d.rehosted.was
-      ∙ sym (ap (λ (k : RegistryValue). map (moved_place shard d.to) (places_of k.frontier)) r.0)
+  module _ (ends : CollectEndLaw) where
+    read : AfterCollecting (table_of s v.row) (cells_at v.blocks v.trees old) (g.shape old) d.building.read (numbers was.at_blocks)
+    read = job-read s w g i n d.job d.building d.has.is_job d.has.stage_is d.in_cells d.gate here d.upto d.frozen ends
 
-  boxes-now : AllZip IsSameBox v.registry.frontier u.registry.frontier
-  boxes-now =
-      let r = registry-now maps x gc reg c led b s w n g i ag d in
-      subst (λ (k : RegistryValue). AllZip IsSameBox k.frontier u.registry.frontier) (sym r.0)
-      (subst (λ (k : RegistryValue). AllZip IsSameBox d.registry.frontier k.frontier) (sym r.1)
-      (subst (AllZip IsSameBox d.registry.frontier) (sym d.rehosted.frontier) (same-boxes d.to (place_of shard d.registry.frontier) d.registry.frontier d.rehosted.spot d.rehosted.was)))
+    -- all rows, in the new tree and the new queue
+    all-rows : (r : ℕ) → times r (numbers rows) + times r (numbers late) ≡ cond (g.placed r) (same (g.home r) d.job.shard) 0
+    all-rows = job-rows s w g i n d.job d.building d.has.is_job d.has.stage_is d.in_cells d.gate here d.upto d.frozen ends
 
-  abbrev moving : Moving s v u g g2 n retiring
-  moving =
-      let tables = moved-tables maps x gc reg c led b s w n g i ag d in record {
-        of = d.of;
-        from = d.job.worker;
-        to = d.to;
-        y = y;
-        within = i.working.to n d.to d.job d.has.is_job d.to_is;
-        was_on = front maps x gc reg c led b s w n g i ag d;
-        new_y = eqb-self y;
-        only_y = λ z q. eqb-true z y q;
-        shard_y = refl;
-        to_gate = tables.to_gate;
-        leads_on = tables.leads_on;
-        other_worker = tables.other_worker;
-        other_shard = tables.other_shard;
-        gate_there = rw (eqb-self shard) refl;
-        gate_other = λ z ne. (rw (ne_eqb z shard ne) refl);
-        ids = ids-same;
-        places = places-now;
-      }
+    late-named : Each (λ (r : Row). v.row r.no ≡ r) late
+    late-named = job-late-named s w g i n d.job d.building d.has.is_job d.has.stage_is d.in_cells d.gate here d.upto d.frozen ends
 
-  queue-now : (u.queues y).rows ≡ late maps x gc reg c led b s w n g i ag d
-  queue-now = ap (λ (k : CellValue). (queue_in k).rows) gate-now ∙ d.new_is.queue ∙ late-is maps x gc reg c led b s w n g i ag d
+    are-rows : AreRowsOf (table_of s v.row) rows
+    are-rows = record {
+      named = all-each (λ (r : Row). v.row r.no ≡ r) rows (rows-named s w g i n d.job d.building d.has.is_job d.has.stage_is d.in_cells d.gate here d.upto d.frozen ends);
+      valid = all-each (IsRowOf s.hierarchy) rows (rows-valid s w g i n d.job d.building d.has.is_job d.has.stage_is d.in_cells d.gate here d.upto d.frozen ends);
+      once = once s w g i n d.job d.building d.has.is_job d.has.stage_is d.in_cells d.gate here d.upto d.frozen ends;
+    }
 
-  rows-now : (r : ℕ) → cond ((shape2 y).placed r) 1 0 + times r (numbers (u.queues y).rows) ≡ cond (g.placed r) (same (g.home r) shard) 0
-  rows-now r =
-      let all = all-rows maps x gc reg c led b s w n g i ag d ends r in
-      let tree = (law maps x gc reg c led b s w n g i ag d ends).placed r in
-      let queue : times r (numbers (u.queues y).rows) ≡ times r (numbers (late maps x gc reg c led b s w n g i ag d)) = ap (λ (k : List Row). times r (numbers k)) queue-now in
-      let there : ◌≡◌ {A = ℕ} (cond ((shape2 y).placed r) 1 0) (cond (its-shape.placed r) 1 0) = rw (eqb-self y) refl in
-      omega (arith, all, tree, queue, there)
+    -- The new tree in its cells.
 
-  -- The shard stands, and its rows are in its new gate.
+    law : IsNewTree s v n u.blocks u.trees gc.number (filled_cells tree.blocks.items) (numbers rows)
+    law =
+        let leads = leads-to s.hierarchy d.job.shard d.building.left tree (drop d.upto d.gate.queue.rows) d.new_gate (u.trees gc.number) (ap way_in (gc-now maps x gc reg c led b s w n g i ag d)) d.new_is built.2 in
+        new-tree s v g n u.blocks u.trees gc.number tree rows was.purse_was was.purse_now built.1 owner-gc (λ z. let k = job-cell z in omega (arith, k)) spent-among stand leads.0 leads.1 are-rows
 
-  live : is_live s.workers h shard ≡ true
-  live = live-here s w g i n d.job d.building d.has.is_job d.has.stage_is d.in_cells d.gate (here maps x gc reg c led b s w n g i ag d) d.upto d.frozen
+    -- a cell of the new tree is the gate's, or one of the blocks'
+    filled-inside : (y : ℕ) → law.shape.inside y ≡ true → y ≢ gc.number → 1 ≤ times y (filled_cells tree.blocks.items)
+    filled-inside = law.filled_in
 
-  its-action : action_of d.job ≡ action.Move shard d.to
-  its-action = ap (action_to shard) d.to_is
+    inside-filled : (y : ℕ) → g.owner y ≡ InJob n → law.shape.inside y ≡ true
+    inside-filled y own =
+        let k = job-cell y in
+        let mine : ◌≡◌ {A = ℕ} (cond (is_in_job n (g.owner y)) 1 0) 1 = ap (λ (o : Owner). cond (is_in_job n o) 1 0) own ∙ ap (λ (z : Bool). cond z 1 0) (eqb-self n) in
+        law.in_filled y (omega (arith, k, mine))
 
-  same-live : (z : ℕ) → is_live s.workers (e ∷ h) z ≡ is_live s.workers h z
-  same-live = live-same s v u g g2 n i retiring moving
+    -- each entry has the stamp of a spare that was spent
+    leads : (y : ℕ) → law.shape.inside y ≡ true → Each (λ (e : Entry). (z : Spare) × Among z (spent_of (v.jobs n)) × (e.stamp ≡ z.stamp)) (nodes (cells_at u.blocks u.trees gc.number) y).entries
+    leads = law.leads
 
-  shares : SharesRows s v u g g2 n retiring e
-  shares = record {
-    still = λ z stood ne. same-live z ∙ stood;
-    stood = λ z stands. on_bool (eqb z shard) (λ q. inr (y, eqb-self y, sym (eqb-true z shard q))) (λ q. inl (sym (same-live z) ∙ stands, eqb-false z shard q));
-    gate_new = λ k q. moving.gate_there ∙ sym (eqb-true k y q);
-    gate_off = λ z made ne. moving.gate_other z ne;
-    home_new = λ q is. ap (is_live s.workers (e ∷ h)) is ∙ same-live shard ∙ live;
-    home_away = λ q z is stands ne at. ne (sym at ∙ is);
-    home_off = λ q ne. refl;
-    rows = λ k q is. subst (λ (z : ℕ). cond ((shape2 z).placed q) 1 0 + times q (numbers (u.queues z).rows) ≡ cond (g.placed q) (same (g.home q) shard) 0) (sym (eqb-true k y is)) (rows-now q);
-  }
+    abbrev y : ℕ
+    y = gc.number
 
-  done : IsDoneBy s h g.placed d.of d.job e
-  done = record {
-    worked = rw (eq-eqb d.of d.of refl) refl;
-    done = refl;
-    settles = subst (λ (a : Action). Settles (site_in s) g.placed d.of a h e) (sym its-action) (refl, refl);
-    ahead = moved-ahead s h g.placed d.of d.to d.job d.to_is live;
-  }
+    abbrev e : Event
+    e = Moved d.of shard d.to
 
-  ending : Ending s w w2 n g owner2 gate2 shape2 g.home
-  ending = record {
-    of = d.of;
-    work = d.work;
-    command = d.command;
-    job = d.job;
-    building = d.building;
-    has = d.has;
-    in_cells = d.in_cells;
-    e = e;
-    number = refl;
-    no_session = refl;
-    no_end = refl;
-    page = refl;
-    did = subst (λ (a : Action). Did a e) (sym its-action) (refl, refl);
-    done = done;
-    right = KeepsRight-moved (site_in s) g.placed h d.of shard d.to i.telling.right (subst (IsRightAction (site_in s) h d.of) its-action (right-action s w n g i d.of d.work d.command d.job d.has.is_job (ap (λ (a : Action). is_live s.workers h (shard_of a)) its-action ∙ live)));
-    led = led;
-    actor = b;
-    actor_is = actor-now;
-    others = actor-off w.actors n b;
-    finishes = d.finishes;
-    ledger = ledger-now maps x gc reg c led b s w n g i ag d;
-    view_is = view-finish_move s w n s.hierarchy maps x gc reg c led (w.actors n) b ag d blank.tag;
-    retiring = retiring;
-    lines = moved-lines s w g i d.of shard d.to;
-    boxes = moved-boxes s w g i d.of shard d.to u.registry boxes-now;
-    shares = shares;
-    lineage = moved-lineage s v u g g2 n i retiring moving;
-    leading = moved-leading s v u g g2 n i retiring moving;
-  }
+    abbrev its-shape : Shape
+    its-shape = law.shape
 
-  pub finish-move : IsFinished s w w2 g
-  finish-move = finished s w w2 n g owner2 gate2 shape2 g.home i ending other
+    abbrev owner2 : ℕ → Owner
+    owner2 z = cond (eqb z y) AGate (given_to n y (g.owner z))
+
+    abbrev gate2 : ℕ → ℕ
+    gate2 z = cond (eqb z shard) y (g.gate z)
+
+    abbrev shape2 : ℕ → Shape
+    shape2 z = cond (eqb z y) its-shape (g.shape z)
+
+    abbrev g2 : Ghost
+    g2 = shared_ghost g owner2 gate2 shape2 g.home
+
+    gate-now : w2.cells y ≡ GateCell d.new_gate
+    gate-now = gc-now maps x gc reg c led b s w n g i ag d
+
+    old-now : w2.cells old ≡ GateCell d.gate_now
+    old-now = ap w2.cells d.here ∙ x-now maps x gc reg c led b s w n g i ag d
+
+    stays : {A : Type 0} (f : CellValue → A) → ((worker : ℕ) (t t2 : FinMap nat_cmp Where) → f (MapCell worker t) ≡ f (MapCell worker t2)) → ((r r2 : RegistryValue) → f (RegistryCell r) ≡ f (RegistryCell r2)) → ((k k2 : StockValue) → f (StockCell k) ≡ f (StockCell k2))
+        → ((l l2 : LedgerValue) → f (LedgerCell l) ≡ f (LedgerCell l2)) → (z : ℕ) → (z ≡ x.number → f (GateCell d.gate_now) ≡ f (GateCell d.gate)) → z ≢ gc.number → f (w2.cells z) ≡ f (w.cells z)
+    stays = kept maps x gc reg c led b s w n g i ag d
+
+    blank : IsBlank gc.before
+    blank = move-blank s w g i n s.hierarchy maps x gc reg c led (w.actors n) b ag d
+
+    at-gc : w.cells y ≡ gc.before
+    at-gc = (each-right (λ (k : Change). w.cells k.number ≡ k.before) maps (x ∷ gc ∷ reg ∷ c ∷ led ∷ []) ag.cells).1.0
+
+    ids-same : u.stock.ids ≡ v.stock.ids
+    ids-same = ap (λ (k : StockValue). k.ids) (stock-now maps x gc reg c led b s w n g i ag d).1 ∙ d.gives.ids ∙ sym (ap (λ (k : StockValue). k.ids) (stock-now maps x gc reg c led b s w n g i ag d).0)
+
+    counts-now : (z : ℕ) → times z u.stock.free + one (eqb z y) ≡ times z v.stock.free + times z (cells_of (v.purses n))
+    counts-now z =
+        let now : times z u.stock.free ≡ times z d.stock.free + times z (cells_of d.purse.spares) = ap (λ (k : StockValue). times z k.free) (stock-now maps x gc reg c led b s w n g i ag d).1 ∙ ap (times z) d.gives.cells ∙ times-append z d.stock.free (cells_of d.purse.spares) in
+        let was_free : times z v.stock.free ≡ times z d.stock.free = ap (λ (k : StockValue). times z k.free) (stock-now maps x gc reg c led b s w n g i ag d).0 in
+        let rest : times z (cells_of d.purse.spares) ≡ times z (cells_of d.rest) = ap (λ (k : List Spare). times z (cells_of k)) d.purse_was in
+        let all : times z (cells_of (v.purses n)) ≡ times z (cells_of d.rest) + times z (cells_of (d.spare ∷ [])) = ap (λ (k : List Spare). times z (cells_of k)) d.spares ∙ cells-append z d.rest (d.spare ∷ []) in
+        let mine : one (eqb z y) ≡ same z d.spare.cell = ap (λ (k : ℕ). one (eqb z k)) d.cell in
+        omega (arith, now, was_free, rest, all, mine)
+
+    -- the cells of the new blocks have blocks
+    made-filled : (z : ℕ) → g.owner z ≡ InJob n → v.made z ≡ true
+    made-filled z own =
+        let k = was in
+        let t = built in
+        let some : 1 ≤ times z (filled_cells k.built) = (let l = job-cell z in
+        let mine : ◌≡◌ {A = ℕ} (cond (is_in_job n (g.owner z)) 1 0) 1 = ap (λ (p : Owner). cond (is_in_job n p) 1 0) own ∙ ap (λ (p : Bool). cond p 1 0) (eqb-self n) in
+        let same_cells : times z (filled_cells k.built) ≡ times z (filled_cells t.0.blocks.items) = ap (λ (p : List Fresh). times z (filled_cells p)) t.3 in
+        omega (arith, l, mine, same_cells)) in
+        let f = fresh-at z k.built some in
+        ap v.made (sym f.2) ∙ (each-among (λ (p : Fresh). (v.blocks p.cell ≡ p.block) × (v.made p.cell ≡ true)) f.0 k.built k.in_cells f.1).1
+
+    -- What becomes of the actor.
+
+    closed : (b.purse ≡ []) × ((j : JobValue) → b.job ≡ Some j → j.stage ≡ IsCalled)
+    closed = closes d.of d.work d.job e led (w.actors n) b (job-asked s w n g i d.of d.work d.command d.job d.has.is_job) d.finishes
+
+    actor-now : w2.actors n ≡ b
+    actor-now = actor-at w.actors n b
+
+    its-job : u.jobs n ≡ b.job
+    its-job = ap (λ (a : ActorValue). a.job) actor-now
+
+    abbrev retiring : Retiring s v u g g2 n
+    retiring = record {
+      new = λ z. eqb z y;
+      shard_of = λ z. shard;
+      built = λ z. y;
+      x = old;
+      shard = shard;
+      upto = was.upto;
+      is_gate = is-gate;
+      frozen = phase-here;
+      drained = was.drained;
+      phase_x = ap phase_of old-now ∙ ap (λ (k : Gate). Some k.phase) d.retires.now;
+      queue_x = ap (λ (k : CellValue). (queue_in k).rows) old-now ∙ d.retires.empty;
+      valid_x = subst (IsQueueOf s.hierarchy) (sym (ap queue_in old-now)) d.retires.valid;
+      read_x = λ z. ap (times z) (ap gone_in old-now ∙ ap (λ (k : Gate). k.gone) d.retires.now) ∙ read.blocks z;
+      purse_cell = λ z q. ap g.owner (eqb-true z y q) ∙ owner-gc;
+      gate_new = λ z q. ap u.gates (eqb-true z y q) ∙ ap gate_shard gate-now ∙ ap Some d.new_is.shard_is;
+      phase_new = λ z q. ap u.phases (eqb-true z y q) ∙ ap phase_of gate-now ∙ ap Some d.new_is.phase_is;
+      active_new = λ z q. ap u.active (eqb-true z y q) ∙ ap active_in gate-now ∙ d.new_is.active;
+      pins_new = λ z q. ap u.pins (eqb-true z y q) ∙ ap pins_in gate-now ∙ d.new_is.pins;
+      gone_new = λ z q. ap u.gone (eqb-true z y q) ∙ ap gone_in gate-now ∙ d.new_is.gone;
+      unmade = λ z q. ap u.made (eqb-true z y q) ∙ ap has_block gate-now;
+      valid_new = λ z q. subst (IsQueueOf s.hierarchy) (sym (ap u.queues (eqb-true z y q) ∙ ap queue_in gate-now)) d.new_is.valid;
+      named_new = λ z q. subst (λ (rows : List Row). Each (λ (r : Row). v.row r.no ≡ r) rows)
+          (sym (ap (λ (k : ℕ). (u.queues k).rows) (eqb-true z y q) ∙ ap (λ (k : CellValue). (queue_in k).rows) gate-now ∙ d.new_is.queue ∙ late-is)) (late-named);
+      blank = λ z q.
+          let k = blank-counts gc.before blank.tag blank.no_gate in
+          (ap v.active (eqb-true z y q) ∙ ap active_in at-gc ∙ k.0, ap v.pins (eqb-true z y q) ∙ ap pins_in at-gc ∙ k.1);
+      tree_new = λ z q. subst (λ (k : ℕ). IsTree (table_of s v.row) (cells_at u.blocks u.trees k) (shape2 k)) (sym (eqb-true z y q)) (rw (eqb-self y) law.tree);
+      settled = λ z r q. rw q (law.settled r);
+      inside_new = λ z r q inside ne.
+          let there : its-shape.inside r ≡ true = subst (λ (k : Bool). (cond k its-shape (g.shape z)).inside r ≡ true) q inside in
+          let off : r ≢ y = (λ k. ne (k ∙ sym (eqb-true z y q))) in
+          let own = owner-filled r (filled-inside r there off) in
+          (own, sym (eqb-true z y q), stays has_block (λ k t t2. refl) (λ r r2. refl) (λ k k2. refl) (λ l l2. refl) r (λ k. refl) off ∙ made-filled r own);
+      leads = λ z r l q inside level.
+          subst (λ (k : ℕ). Each (λ (f : Entry). (p : Spare) × Among p (spent_of (v.jobs n)) × (f.stamp ≡ p.stamp)) (nodes (cells_at u.blocks u.trees k) r).entries) (sym (eqb-true z y q))
+          (leads r (subst (λ (k : Bool). (cond k its-shape (g.shape z)).inside r ≡ true) q inside));
+      built_new = λ z own. (eqb-self y, rw (eqb-self y) (inside-filled z own));
+      gates_off = λ z q. stays gate_shard (λ k t t2. refl) (λ r r2. refl) (λ k k2. refl) (λ l l2. refl) z (λ k. ap (λ (p : Gate). Some p.shard) d.retires.now) (eqb-false z y q);
+      phases_off = λ z q ne. stays phase_of (λ k t t2. refl) (λ r r2. refl) (λ k k2. refl) (λ l l2. refl) z (λ k. absurd (ne (k ∙ sym d.here))) (eqb-false z y q);
+      queues_off = λ z q ne. stays queue_in (λ k t t2. refl) (λ r r2. refl) (λ k k2. refl) (λ l l2. refl) z (λ k. absurd (ne (k ∙ sym d.here))) (eqb-false z y q);
+      gone_off = λ z q ne. stays gone_in (λ k t t2. refl) (λ r r2. refl) (λ k k2. refl) (λ l l2. refl) z (λ k. absurd (ne (k ∙ sym d.here))) (eqb-false z y q);
+      trees_off = λ z q. stays way_in (λ k t t2. refl) (λ r r2. refl) (λ k k2. refl) (λ l l2. refl) z (λ k. ap way_to_tree d.retires.now) (eqb-false z y q);
+      active_off = λ z q. stays active_in (λ k t t2. refl) (λ r r2. refl) (λ k k2. refl) (λ l l2. refl) z (λ k. ap (λ (p : Gate). p.active) d.retires.now) (eqb-false z y q);
+      pins_off = λ z q. stays pins_in (λ k t t2. refl) (λ r r2. refl) (λ k k2. refl) (λ l l2. refl) z (λ k. ap (λ (p : Gate). p.pins) d.retires.now) (eqb-false z y q);
+      blocks_off = λ z q. stays block_in (λ k t t2. refl) (λ r r2. refl) (λ k k2. refl) (λ l l2. refl) z (λ k. refl) (eqb-false z y q);
+      made_off = λ z q. stays has_block (λ k t t2. refl) (λ r r2. refl) (λ k k2. refl) (λ l l2. refl) z (λ k. refl) (eqb-false z y q);
+      shape_off = λ z q. rw q refl;
+      owner = λ z. refl;
+      counts = counts-now;
+      stamps = ap (λ (k : StockValue). k.stamps) (stock-now maps x gc reg c led b s w n g i ag d).1 ∙ d.gives.stamps ∙ sym (ap (λ (k : StockValue). k.stamps) (stock-now maps x gc reg c led b s w n g i ag d).0);
+      ids_few = subst (λ (k : ℕ). k < 2 ^ 32) (sym ids-same) i.stocking.valid.ids;
+      all = ap (λ (k : StockValue). k.cells) (stock-now maps x gc reg c led b s w n g i ag d).1 ∙ d.gives.all ∙ sym (ap (λ (k : StockValue). k.cells) (stock-now maps x gc reg c led b s w n g i ag d).0);
+      purse = ap (λ (a : ActorValue). a.purse) actor-now ∙ closed.0;
+      spent = ap spent_of its-job ∙ spent-new b.job closed.1;
+      items = ap items_of_job its-job ∙ items-new b.job closed.1;
+      purses_off = λ a ne. ap (λ (k : ActorValue). k.purse) (actor-off w.actors n b a ne);
+      jobs_off = λ a ne. ap (λ (k : ActorValue). k.job) (actor-off w.actors n b a ne);
+    }
+
+    ascend : AscendFrom 0 (places_of d.registry.frontier)
+    ascend = subst (λ (r : RegistryValue). AscendFrom 0 (places_of r.frontier)) (registry-now maps x gc reg c led b s w n g i ag d).0
+        (subst (AscendFrom 0) (sym i.lineage.front) (frontier-ascends (site_in s) g.placed h i.telling.right.right.each))
+
+    places-now : places_of u.registry.frontier ≡ map (moved_place shard d.to) (places_of v.registry.frontier)
+    places-now =
+        let r = registry-now maps x gc reg c led b s w n g i ag d in
+        ap (λ (k : RegistryValue). places_of k.frontier) r.1 ∙ ap places_of d.rehosted.frontier ∙ rehosted shard d.to 0 d.registry.frontier d.rehosted.spot ascend d.rehosted.was
+        ∙ sym (ap (λ (k : RegistryValue). map (moved_place shard d.to) (places_of k.frontier)) r.0)
+
+    boxes-now : AllZip IsSameBox v.registry.frontier u.registry.frontier
+    boxes-now =
+        let r = registry-now maps x gc reg c led b s w n g i ag d in
+        subst (λ (k : RegistryValue). AllZip IsSameBox k.frontier u.registry.frontier) (sym r.0)
+        (subst (λ (k : RegistryValue). AllZip IsSameBox d.registry.frontier k.frontier) (sym r.1)
+        (subst (AllZip IsSameBox d.registry.frontier) (sym d.rehosted.frontier) (same-boxes d.to (place_of shard d.registry.frontier) d.registry.frontier d.rehosted.spot d.rehosted.was)))
+
+    abbrev moving : Moving s v u g g2 n retiring
+    moving =
+        let tables = moved-tables maps x gc reg c led b s w n g i ag d in record {
+          of = d.of;
+          from = d.job.worker;
+          to = d.to;
+          y = y;
+          within = i.working.to n d.to d.job d.has.is_job d.to_is;
+          was_on = front;
+          new_y = eqb-self y;
+          only_y = λ z q. eqb-true z y q;
+          shard_y = refl;
+          to_gate = tables.to_gate;
+          leads_on = tables.leads_on;
+          other_worker = tables.other_worker;
+          other_shard = tables.other_shard;
+          gate_there = rw (eqb-self shard) refl;
+          gate_other = λ z ne. (rw (ne_eqb z shard ne) refl);
+          ids = ids-same;
+          places = places-now;
+        }
+
+    queue-now : (u.queues y).rows ≡ late
+    queue-now = ap (λ (k : CellValue). (queue_in k).rows) gate-now ∙ d.new_is.queue ∙ late-is
+
+    rows-now : (r : ℕ) → cond ((shape2 y).placed r) 1 0 + times r (numbers (u.queues y).rows) ≡ cond (g.placed r) (same (g.home r) shard) 0
+    rows-now r =
+        let all = all-rows r in
+        let tree = law.placed r in
+        let queue : times r (numbers (u.queues y).rows) ≡ times r (numbers (late)) = ap (λ (k : List Row). times r (numbers k)) queue-now in
+        let there : ◌≡◌ {A = ℕ} (cond ((shape2 y).placed r) 1 0) (cond (its-shape.placed r) 1 0) = rw (eqb-self y) refl in
+        omega (arith, all, tree, queue, there)
+
+    -- The shard stands, and its rows are in its new gate.
+
+    live : is_live s.workers h shard ≡ true
+    live = live-here s w g i n d.job d.building d.has.is_job d.has.stage_is d.in_cells d.gate (here) d.upto d.frozen
+
+    its-action : action_of d.job ≡ action.Move shard d.to
+    its-action = ap (action_to shard) d.to_is
+
+    same-live : (z : ℕ) → is_live s.workers (e ∷ h) z ≡ is_live s.workers h z
+    same-live = live-same s v u g g2 n i retiring moving
+
+    shares : SharesRows s v u g g2 n retiring e
+    shares = record {
+      still = λ z stood ne. same-live z ∙ stood;
+      stood = λ z stands. on_bool (eqb z shard) (λ q. inr (y, eqb-self y, sym (eqb-true z shard q))) (λ q. inl (sym (same-live z) ∙ stands, eqb-false z shard q));
+      gate_new = λ k q. moving.gate_there ∙ sym (eqb-true k y q);
+      gate_off = λ z made ne. moving.gate_other z ne;
+      home_new = λ q is. ap (is_live s.workers (e ∷ h)) is ∙ same-live shard ∙ live;
+      home_away = λ q z is stands ne at. ne (sym at ∙ is);
+      home_off = λ q ne. refl;
+      rows = λ k q is. subst (λ (z : ℕ). cond ((shape2 z).placed q) 1 0 + times q (numbers (u.queues z).rows) ≡ cond (g.placed q) (same (g.home q) shard) 0) (sym (eqb-true k y is)) (rows-now q);
+    }
+
+    done : IsDoneBy s h g.placed d.of d.job e
+    done = record {
+      worked = rw (eq-eqb d.of d.of refl) refl;
+      done = refl;
+      settles = subst (λ (a : Action). Settles (site_in s) g.placed d.of a h e) (sym its-action) (refl, refl);
+      ahead = moved-ahead s h g.placed d.of d.to d.job d.to_is live;
+    }
+
+    ending : Ending s w w2 n g owner2 gate2 shape2 g.home
+    ending = record {
+      of = d.of;
+      work = d.work;
+      command = d.command;
+      job = d.job;
+      building = d.building;
+      has = d.has;
+      in_cells = d.in_cells;
+      e = e;
+      number = refl;
+      no_session = refl;
+      no_end = refl;
+      page = refl;
+      did = subst (λ (a : Action). Did a e) (sym its-action) (refl, refl);
+      done = done;
+      right = KeepsRight-moved (site_in s) g.placed h d.of shard d.to i.telling.right (subst (IsRightAction (site_in s) h d.of) its-action (right-action s w n g i d.of d.work d.command d.job d.has.is_job (ap (λ (a : Action). is_live s.workers h (shard_of a)) its-action ∙ live)));
+      led = led;
+      actor = b;
+      actor_is = actor-now;
+      others = actor-off w.actors n b;
+      finishes = d.finishes;
+      ledger = ledger-now maps x gc reg c led b s w n g i ag d;
+      view_is = view-finish_move s w n s.hierarchy maps x gc reg c led (w.actors n) b ag d blank.tag;
+      retiring = retiring;
+      lines = moved-lines s w g i d.of shard d.to;
+      boxes = moved-boxes s w g i d.of shard d.to u.registry boxes-now;
+      shares = shares;
+      leads = moved-leads s v u g g2 n i retiring moving;
+    }
+
+    pub finish-move : OtherLaw → IsFinished s w w2 g
+    finish-move = finished s w w2 n g owner2 gate2 shape2 g.home i ending
 
 -- The step, with one table where both workers are the same, and with two else.
 

@@ -35,13 +35,13 @@ mod ShardLines
 mod MovesLineage
 mod MovedKnown
 mod SharedRows
+mod SharedLineage
 mod Endings
 mod FinishedCommands
 mod BalanceDone
 mod RetiringLeft
 mod EndedCells
 mod MovesShard
-mod MoveTree
 mod FinishesMove
 mod NextJobs
 mod SplitKnown
@@ -56,14 +56,10 @@ mod SplitsShard
 mod NewTree
 mod FinishedJob
 mod SplitSides
-mod SplitTrees
 mod SplitShards
 mod SplitsLineage
-mod SplitCovers
 mod PlansAhead
 mod SplitBoxes
-mod SplitRetires
-mod SplitLeads
 mod FinishesSplit
 mod KnownIds
 pub mod TableSteps

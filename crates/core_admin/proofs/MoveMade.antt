@@ -150,14 +150,14 @@ two-keep other ends h m k x gc reg c led a b d s w n g about i ag sight =
     let own : Agrees w (m ∷ k ∷ x ∷ gc ∷ reg ∷ c ∷ led ∷ []) n (w.actors n) = record { cells = ag.cells; actor_is = refl; free = λ y ne. ag.free y ne } in
     let its : DoesFinishMove s.hierarchy (m ∷ k ∷ []) x gc reg c led (w.actors n) b =
     subst (λ (z : List Dimension). DoesFinishMove z (m ∷ k ∷ []) x gc reg c led (w.actors n) b) (sym about) (subst (λ (z : ActorValue). DoesFinishMove h (m ∷ k ∷ []) x gc reg c led z b) (sym ag.actor_is) d) in
-    two-tables-kept x gc reg c led b s w n g i m k own its (finish-move (m ∷ k ∷ []) x gc reg c led b s w n g i own its other ends)
+    two-tables-kept x gc reg c led b s w n g i m k own its (finish-move (m ∷ k ∷ []) x gc reg c led b s w n g i own its ends other)
 
 one-keeps : OtherLaw → CollectEndLaw → (h : List Dimension) (m x gc reg c led : Change) (a b : ActorValue) (d : DoesFinishMove h (m ∷ []) x gc reg c led a b) → Keeps h kind.FinishMove (m ∷ x ∷ gc ∷ reg ∷ c ∷ led ∷ []) a b d
 one-keeps other ends h m x gc reg c led a b d s w n g about i ag sight =
     let own : Agrees w (m ∷ x ∷ gc ∷ reg ∷ c ∷ led ∷ []) n (w.actors n) = record { cells = ag.cells; actor_is = refl; free = λ y ne. ag.free y ne } in
     let its : DoesFinishMove s.hierarchy (m ∷ []) x gc reg c led (w.actors n) b =
     subst (λ (z : List Dimension). DoesFinishMove z (m ∷ []) x gc reg c led (w.actors n) b) (sym about) (subst (λ (z : ActorValue). DoesFinishMove h (m ∷ []) x gc reg c led z b) (sym ag.actor_is) d) in
-    one-table-kept x gc reg c led b s w n g i m own its (finish-move (m ∷ []) x gc reg c led b s w n g i own its other ends)
+    one-table-kept x gc reg c led b s w n g i m own its (finish-move (m ∷ []) x gc reg c led b s w n g i own its ends other)
 
 -- To another worker.
 module _ (other : OtherLaw) (ends : CollectEndLaw) (hs : List Dimension) (from_at : ℕ) (from : CellValue) (to_at : ℕ) (to : CellValue) (gate_at new_at registry_at stock_at ledger_at : ℕ) (gate new registry stock ledger : CellValue) (a : ActorValue)

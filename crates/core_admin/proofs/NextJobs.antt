@@ -1,5 +1,5 @@
 -- The command of a job, and the job that comes next, if one does: at its beginning, for the command as it is then.
-use Rattle.std.proofs.Common.{◌≡◌, ◌≢◌, ℕ, ◌*◌, ◌<◌, ◌≤◌, List, [], Bool, true, false, eqb, Option, Some, None, refl, sym, ap, ◌∙◌, subst, arith}
+use Rattle.std.proofs.Common.{◌≡◌, ◌≢◌, ℕ, ◌*◌, ◌<◌, ◌≤◌, List, [], Bool, true, false, eqb, Option, Some, None, refl, sym, ap, ◌∙◌, subst, arith, ◌+◌, ◌-◌, suc, length, option_map, option_and_then, slice_get, inl, inr, suc-mul}
 use Rattle.cell_stock.specs.declared.purse.Spare.{Spare}
 use Rattle.dc_node.specs.declared.block.Block.{Block}
 use Rattle.row_ledger.specs.Workers.{is_on}
@@ -9,8 +9,8 @@ use Rattle.shard_store.specs.declared.gate.Phase.{Phase}
 use Rattle.shard_store.specs.declared.queue.Queue.{Queue}
 use Rattle.tree_shape.specs.Shape.{Shape}
 use Rattle.list_words.proofs.Truth.{on_bool}
-use Rattle.std.proofs.lemmas.Bool.{eqb-true, eqb-false}
-use Rattle.volap_cell.specs.Falls.{job_left, plenty, stage_left}
+use Rattle.std.proofs.lemmas.Bool.{eqb-true, eqb-false, cases_lt}
+use Rattle.volap_cell.specs.Falls.{job_left, plenty, stage_left, actions_left, control_of}
 use Rattle.volap_cell.specs.Ghost.{Ghost}
 use Rattle.volap_cell.specs.Invariant.{InvWith}
 use Rattle.volap_cell.specs.Numbering.{Numbering}
@@ -18,7 +18,7 @@ use Rattle.volap_cell.specs.Owing.{is_insert, is_insert_work}
 use Rattle.volap_cell.specs.Setting.{Setting}
 use Rattle.volap_cell.specs.Values.{JobValue, IsCalled, IsDeclined, Collects, Builds}
 use Rattle.volap_cell.specs.View.{View}
-use Rattle.volap_cell.specs.Working.{IsBuilding, IsCollected, IsDeclinedFor, IsFrozenFor, IsJobOf, Working, frozen_in}
+use Rattle.volap_cell.specs.Working.{IsBuilding, IsCollected, IsDeclinedFor, IsFrozenFor, IsJobOf, Working, frozen_in, Balancing, IsBalancing}
 use Rattle.volap_cell.specs.declared.command.Command.{Command}
 use Rattle.volap_cell.specs.declared.command.Work.{Work}
 use Rattle.volap_cell.specs.declared.command.Work.TheVariants as work_is
@@ -27,6 +27,12 @@ use Rattle.volap_cell.proofs.Fields.{IsNewAt}
 use Rattle.volap_cell.proofs.Persons.{has-job}
 use Rattle.core_admin.proofs.JobsGoOn.{only-one}
 use Rattle.core_admin.proofs.TurnedCommands.{IsOffDesk}
+use Rattle.std.specs.Option.{option_map_or}
+use Rattle.std.proofs.lemmas.Option.{slice_get_past}
+use Rattle.shard_plan.specs.declared.action.Action.{Action}
+use Rattle.volap_cell.specs.Commands.{after_action}
+use Rattle.volap_cell.specs.Planning.{job_for, next_job}
+use Rattle.volap_cell.specs.declared.command.Balance.{Balance}
 
 -- the command asks for a job: it is a split, a move or a balance
 pub off-desk : (work : Work) (job : JobValue) → IsJobOf work job → IsOffDesk work
@@ -47,6 +53,49 @@ none-insert (Some k) none = none k refl
 pub job-few : (s : Setting) (v : View) (job : Option JobValue) → ((j : JobValue) → job ≡ Some j → j.stage ≡ IsCalled) → job_left s v job ≤ 6 * plenty s
 job-few s v None called = omega arith
 job-few s v (Some j) called = (let at : job_left s v (Some j) ≡ 6 * plenty s = ap (stage_left s v) (called j refl) in omega (arith, at))
+
+-- with the next action, a balance and its job have no more to do than the balance had alone
+pub control-next : (s : Setting) (v : View) (done : Bool) (job : JobValue) (b : Balance) (actions : List Action) → b.plan ≡ Some actions → b.over < length actions → ((j : JobValue) → next_job (after_action done job b) ≡ Some j → j.stage ≡ IsCalled)
+    → control_of s (work_is.Balance (after_action done job b)) + job_left s v (next_job (after_action done job b)) ≤ control_of s (work_is.Balance b)
+control-next s v done job b actions plan inside called =
+    let next = after_action done job b in
+    let unit = 8 * plenty s in
+    let len = length actions in
+    let at = b.over in
+    let was : control_of s (work_is.Balance b) ≡ 1 + (len - (at + 1)) * unit = ap (λ (z : Option (List Action)). 1 + actions_left s b z) plan in
+    let now : control_of s (work_is.Balance next) ≡ 1 + (len - (at + 1 + 1)) * unit = ap (λ (z : Option (List Action)). 1 + actions_left s next z) plan in
+    let few = job-few s v (next_job next) called in
+    elim (cases_lt (at + 1) len) [
+      | inl more ↦
+          let step : len - (at + 1) ≡ suc (len - (at + 1 + 1)) = omega (arith, more) in
+          let sum : (len - (at + 1)) * unit ≡ (len - (at + 1 + 1)) * unit + unit = ap (λ (z : ℕ). z * unit) step ∙ suc-mul (len - (at + 1 + 1)) unit in
+          omega (arith, was, now, sum, few)
+      | inr last ↦
+          let step : len - (at + 1) ≡ len - (at + 1 + 1) = omega (arith, last) in
+          let same_left : (len - (at + 1)) * unit ≡ (len - (at + 1 + 1)) * unit = ap (λ (z : ℕ). z * unit) step in
+          let nothing : next_job next ≡ None =
+          ap (λ (z : Option (List Action)). option_map (job_for next.standing) (option_and_then (λ (xs : List Action). slice_get xs next.over) z)) plan
+          ∙ ap (option_map (job_for next.standing)) (slice_get_past actions (at + 1) last) in
+          let none : job_left s v (next_job next) ≡ 0 = ap (job_left s v) nothing in
+          omega (arith, was, now, same_left, none)
+    ]
+
+-- one balance is another one now
+pub balancing-one : (s : Setting) (h : List Event) (placed : ℕ → Bool) (home : ℕ → ℕ) (n of : ℕ) (b : Balance) (its : Option Command) (commands commands_now : ℕ → Option Command)
+    → IsNewAt commands_now commands n its (Some (record { of = of; work = work_is.Balance b })) → (jobs_now : ℕ → Option JobValue) (job : Option JobValue) → jobs_now n ≡ job → IsBalancing s h placed home job of b
+    → ((a r : ℕ) (k : Balance) → a ≢ n → commands a ≡ Some (record { of = r; work = work_is.Balance k }) → IsBalancing s h placed home (jobs_now a) r k) → Balancing s h commands_now jobs_now placed home
+balancing-one s h placed home n of b its commands commands_now turn jobs_now job job_is now others = record {
+  balance = λ a r k has. on_bool (eqb a n)
+      (λ q.
+      let here = eqb-true a n q in
+      let both : ◌≡◌ {A = Option Command} (Some (record { of = of; work = work_is.Balance b })) (Some (record { of = r; work = work_is.Balance k })) = sym turn.is_there ∙ ap commands_now (sym here) ∙ has in
+      let same_of : of ≡ r = ap (λ (z : Option Command). option_map_or (λ (t : Command). t.of) z 0) both in
+      let same_work : work_is.Balance b ≡ work_is.Balance k = ap (λ (z : Option Command). option_map_or (λ (t : Command). t.work) z work_is.Query) both in
+      let same_balance : b ≡ k = cc in
+      subst (λ (j : Option JobValue). IsBalancing s h placed home j r k) (sym (ap jobs_now here ∙ job_is))
+      (subst (λ (z : ℕ). IsBalancing s h placed home job z k) same_of (subst (λ (z : Balance). IsBalancing s h placed home job of z) same_balance now)))
+      (λ q. let ne = eqb-false a n q in others a r k ne (sym (turn.elsewhere a ne) ∙ has));
+}
 
 -- The job that is there afterwards, if there is one, is at its beginning.
 pub record IsNextOf (s : Setting) (h : List Event) (command : Option Command) (j : JobValue) : Type 0 where

@@ -1,8 +1,6 @@
 -- A job is given up: that keeps the invariant, and less is left.
-use Rattle.std.proofs.Common.{◌≡◌, ◌≢◌, ℕ, suc, ◌+◌, ◌-◌, ◌*◌, ◌<◌, ◌≤◌, List, [], ◌∷◌, ◌++◌, true, false, eqb, length, Option, Some, None, is_some, refl, sym, ap, ◌∙◌, subst, arith, inl, inr, le_of_lt, option_map, option_and_then, slice_get, suc-mul}
+use Rattle.std.proofs.Common.{◌≡◌, ◌≢◌, ℕ, ◌+◌, ◌-◌, ◌*◌, ◌<◌, ◌≤◌, List, [], ◌∷◌, ◌++◌, true, false, length, Option, Some, None, is_some, refl, sym, ap, ◌∙◌, subst, arith, inl, le_of_lt}
 use Rattle.std.specs.Option.{option_map_or}
-use Rattle.std.proofs.lemmas.Bool.{cases_lt, eqb-true, eqb-false}
-use Rattle.std.proofs.lemmas.Option.{slice_get_past}
 use Rattle.cell_stock.specs.Stock.{StockValue}
 use Rattle.cell_stock.specs.declared.purse.Spare.{Spare}
 use Rattle.dim_hierarchy.specs.Dimension.{Dimension}
@@ -18,18 +16,17 @@ use Rattle.row_ledger.specs.declared.settings.How.TheVariants as how_is
 use Rattle.row_ledger.proofs.Changes.{quiet}
 use Rattle.row_ledger.proofs.Growth.{KeepsRight-ended, KeepsRight-left}
 use Rattle.shard_plan.specs.declared.action.Action.{Action}
-use Rattle.list_words.proofs.Truth.{on_bool}
 use Rattle.volap_cell.specs.AdminKinds.{DoesPostpone, GivesUp, HasFrozen}
 use Rattle.volap_cell.specs.Cells.{TheLedger, TheStock, tag_of}
 use Rattle.volap_cell.specs.Commands.{after_action, owes}
 use Rattle.volap_cell.specs.Errands.{RowWay, Taken, taken_by, taken_of, way_of}
-use Rattle.volap_cell.specs.Falls.{actions_left, control_of, job_left, left, of_work, plenty, stage_left}
+use Rattle.volap_cell.specs.Falls.{control_of, job_left, left, of_work, stage_left}
 use Rattle.volap_cell.specs.Ghost.{Ghost}
 use Rattle.volap_cell.specs.ImageKinds.{Pushes, doing}
 use Rattle.volap_cell.specs.Invariant.{InvWith}
 use Rattle.volap_cell.specs.Lineage.{Lineage}
 use Rattle.volap_cell.specs.Owing.{Owing, owed_by}
-use Rattle.volap_cell.specs.Planning.{job_for, next_job}
+use Rattle.volap_cell.specs.Planning.{next_job}
 use Rattle.volap_cell.specs.Setting.{Setting, actor_count, site_in}
 use Rattle.volap_cell.specs.Steps.{IsKept, Keeps}
 use Rattle.volap_cell.specs.Stocking.{items_of_job, spent_of}
@@ -67,7 +64,7 @@ use Rattle.core_image.proofs.NextAction.{balancing-next, next-is, within}
 use Rattle.core_image.proofs.Owed.{owed-others, promises-now}
 use Rattle.core_image.proofs.Pageless.{asks_page}
 use Rattle.core_image.proofs.Remains.{control_at, control-changed}
-use Rattle.core_admin.proofs.NextJobs.{IsNextOf, job-few, none-insert, numbering-next, off-desk, working-next}
+use Rattle.core_admin.proofs.NextJobs.{IsNextOf, none-insert, numbering-next, off-desk, working-next, balancing-one, control-next}
 use Rattle.core_admin.proofs.Returned.{Returns, gives-returns, returned, returned-stamping, returned-stocking}
 use Rattle.core_admin.proofs.TurnedCommands.{IsOffDesk, turned-desking, turned-inserting, turned-placing}
 
@@ -357,51 +354,20 @@ module _ (c led : Change) (b : ActorValue) (s : Setting) (w : World) (n : ℕ) (
         let turned = turn e 1 (Some its_now) (next_job next) refl p is in
         let news = new e 1 (Some its_now) (next_job next) refl p is in
         let stays = stay e 1 (Some its_now) (next_job next) refl p is in
-        record {
-          balance = λ a r k has. on_bool (eqb a n)
-              (λ q.
-              let x = eqb-true a n q in
-              let both : ◌≡◌ {A = Option Command} (Some its_now) (Some (record { of = r; work = work_is.Balance k })) = sym turned.is_there ∙ ap u.commands (sym x) ∙ has in
-              let same_of : d.of ≡ r = ap (λ (o : Option Command). option_map_or (λ (c : Command). c.of) o 0) both in
-              let same_work : work_is.Balance next ≡ work_is.Balance k = ap (λ (o : Option Command). option_map_or (λ (c : Command). c.work) o work_is.Query) both in
-              let same_balance : next ≡ k = cc in
-              subst (λ (j : Option JobValue). IsBalancing s (e ∷ h) g.placed g.home j r k) (sym (ap u.jobs x ∙ news.is_there))
-              (subst (λ (y : ℕ). IsBalancing s (e ∷ h) g.placed g.home (next_job next) y k) same_of
-              (subst (λ (y : Balance). IsBalancing s (e ∷ h) g.placed g.home (next_job next) d.of y) same_balance
-              (balancing-next s h g.placed g.home d.of balance (begun job) how_is.Postponed bal is-next refl undeclined began-here))))
-              (λ q.
-              let ne = eqb-false a n q in
-              let was : v.commands a ≡ Some (record { of = r; work = work_is.Balance k }) = sym (turned.elsewhere a ne) ∙ has in
-              let other : number_in e ≢ Some r = (λ z. let mine : d.of ≡ r = cc in ne (only-its s h v.commands v.jobs v.roles v.seen g.placed i.telling n its d.command a _ was (sym mine))) in
-              subst (λ (j : Option JobValue). IsBalancing s (e ∷ h) g.placed g.home j r k) (sym (news.elsewhere a ne))
-              (one-balance-grown s e h stays g.placed g.home (v.jobs a) r k (le_of_lt (began a _ was)) (no-work e r other) (i.balancing.balance a r k was)));
-        }
+        balancing-one s (e ∷ h) g.placed g.home n d.of next (Some its) v.commands u.commands turned u.jobs (next_job next) news.is_there
+        (balancing-next s h g.placed g.home d.of balance (begun job) how_is.Postponed bal is-next refl undeclined began-here) (λ a r k ne was.
+        let other : number_in e ≢ Some r = (λ z. let mine : d.of ≡ r = cc in ne (only-its s h v.commands v.jobs v.roles v.seen g.placed i.telling n its d.command a _ was (sym mine))) in
+        subst (λ (j : Option JobValue). IsBalancing s (e ∷ h) g.placed g.home j r k) (sym (news.elsewhere a ne))
+        (one-balance-grown s e h stays g.placed g.home (v.jobs a) r k (le_of_lt (began a _ was)) (no-work e r other) (i.balancing.balance a r k was)))
 
     control-falls : of_work (control_of s) (Some its_now) + job_left s v (next_job next) < of_work (control_of s) (Some its) + job_left s v (Some job)
     control-falls =
         let over = within s h g.placed g.home d.of balance (begun job) how_is.Postponed bal is-next refl undeclined began-here in
         let nexts = next-is s h g.placed g.home d.of balance (begun job) how_is.Postponed bal is-next refl undeclined began-here in
-        let unit = 8 * plenty s in
-        let len = length over.0 in
-        let at = balance.over in
-        let was : control_of s d.work ≡ 1 + (len - (at + 1)) * unit = ap (control_of s) works ∙ ap (λ (p : Option (List Action)). 1 + actions_left s balance p) over.1 in
-        let now : control_of s (work_is.Balance next) ≡ 1 + (len - (at + 1 + 1)) * unit = ap (λ (p : Option (List Action)). 1 + actions_left s next p) over.1 in
+        let was = ap (control_of s) works in
         let some_left = frozen-left in
-        let few = job-few s v (next_job next) (λ j is. (nexts j is).0) in
-        elim (cases_lt (at + 1) len) [
-          | inl more ↦
-              let one : len - (at + 1) ≡ suc (len - (at + 1 + 1)) = omega (arith, more) in
-              let sum : (len - (at + 1)) * unit ≡ (len - (at + 1 + 1)) * unit + unit = ap (λ (x : ℕ). x * unit) one ∙ suc-mul (len - (at + 1 + 1)) unit in
-              omega (arith, was, now, sum, few)
-          | inr last ↦
-              let one : len - (at + 1) ≡ len - (at + 1 + 1) = omega (arith, last) in
-              let same_left : (len - (at + 1)) * unit ≡ (len - (at + 1 + 1)) * unit = ap (λ (x : ℕ). x * unit) one in
-              let nothing : next_job next ≡ None =
-              ap (λ (p : Option (List Action)). option_map (job_for next.standing) (option_and_then (λ (xs : List Action). slice_get xs next.over) p)) over.1
-              ∙ ap (option_map (job_for next.standing)) (slice_get_past over.0 (at + 1) last) in
-              let none : job_left s v (next_job next) ≡ 0 = ap (job_left s v) nothing in
-              omega (arith, was, now, same_left, none, some_left)
-        ]
+        let less = control-next s v false job balance over.0 over.1 over.2 (λ j is. (nexts j is).0) in
+        omega (arith, was, less, some_left)
 
     goes-on : Pushes left_as 0 1 led b.seen → b ≡ record (w.actors n) { purse = []; seen = b.seen; command = Some its_now; job = next_job next } → IsKept s kind.Postpone n w w2 g
     goes-on p is =

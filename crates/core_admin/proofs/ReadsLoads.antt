@@ -51,7 +51,7 @@ use Rattle.core_image.proofs.Owed.{owed-others, promises-now}
 use Rattle.core_image.proofs.Remains.{control_at, control-changed}
 use Rattle.core_admin.specs.LoadDue.{after_load, loads_read}
 use Rattle.core_admin.proofs.LoadsRead.{balancing-read, first-is, is-planned, jobless, over-none, unplanned, within}
-use Rattle.core_admin.proofs.NextJobs.{job-few}
+use Rattle.core_admin.proofs.NextJobs.{job-few, balancing-one}
 use Rattle.core_admin.proofs.ShardRows.{rows as rows-of, rows-allowed, rows-count, rows-once, rows-own, rows-under}
 use Rattle.core_admin.proofs.TurnedCommands.{IsOffDesk, turned-desking, turned-inserting, turned-placing}
 
@@ -291,20 +291,9 @@ module _ (gates : GateLaw) (s : Setting) (w : World) (n : ℕ) (g : Ghost) (i : 
       }
 
   balancing-now : Balancing s h v2.commands v2.jobs g.placed g.home
-  balancing-now = record {
-    balance = λ a p k is. by-command (λ x c. (q : ℕ) (y : Balance) → c ≡ record { of = q; work = work_is.Balance y } → IsBalancing s h g.placed g.home (v2.jobs x) q y)
-        (λ q y mine.
-        let same_of : d.of ≡ q = ap (λ (c : Command). c.of) mine in
-        let works : work_is.Balance next ≡ work_is.Balance y = ap (λ (c : Command). c.work) mine in
-        let same_balance : next ≡ y = cc in
-        subst (λ (j : Option JobValue). IsBalancing s h g.placed g.home j q y) (sym new.is_there)
-        (subst (λ (z : ℕ). IsBalancing s h g.placed g.home (next_job next) z y) same_of
-        (subst (λ (z : Balance). IsBalancing s h g.placed g.home (next_job next) d.of z) same_balance
-        (balancing-read s h g.placed g.home d.of d.balance (v.jobs n) bal d.load d.load_at (rows_at d.gate) reading refl is-read i.numbering.setting.workers))))
-        (λ x c ne has q y mine.
-        subst (λ (j : Option JobValue). IsBalancing s h g.placed g.home j q y) (sym (new.elsewhere x ne)) (i.balancing.balance x q y (has ∙ ap Some mine)))
-        a (record { of = p; work = work_is.Balance k }) is p k refl;
-  }
+  balancing-now = balancing-one s h g.placed g.home n d.of next (Some its) v.commands v2.commands turn v2.jobs (next_job next) new.is_there
+      (balancing-read s h g.placed g.home d.of d.balance (v.jobs n) bal d.load d.load_at (rows_at d.gate) reading refl is-read i.numbering.setting.workers)
+      (λ a q y ne was. subst (λ (j : Option JobValue). IsBalancing s h g.placed g.home j q y) (sym (new.elsewhere a ne)) (i.balancing.balance a q y was))
 
   holds : InvWith s v2 g
   holds = record {

@@ -25,7 +25,7 @@ use Rattle.volap_cell.specs.Values.{JobValue}
 use Rattle.volap_cell.specs.View.{View, view}
 use Rattle.volap_cell.specs.World.{World}
 use Rattle.core_admin.proofs.ShardRows.{is-allowed, row-of}
-use Rattle.core_admin.proofs.SplitCovers.{IsChildBox}
+use Rattle.core_admin.proofs.SplitKnown.{IsChildBox}
 
 coords-valid : (h : List Dimension) (rows : List Row) → Each (IsRowOf h) rows → All (IsCoordOf h) (coords rows)
 coords-valid h rows valid = All-map (IsCoordOf h) (λ (x : Row). x.at) rows (all-each (IsRowOf h) rows valid)

@@ -105,9 +105,6 @@ module _ (site : Site) (usable : ℕ → Bool) (h : List Event) (each : EachEven
   pub on-live : (x w : ℕ) → is_on site.workers (e ∷ h) x w ≡ true → is_live site.workers (e ∷ h) x ≡ true
   on-live x w is = live-of x w (frontier site.workers (e ∷ h)) is
 
-  pub was-live : (x w : ℕ) → is_on site.workers h x w ≡ true → is_live site.workers h x ≡ true
-  was-live x w is = live-of x w places is
-
   pub left-live : is_live site.workers (e ∷ h) left ≡ true
   left-live = on-live left from left-on
 
