@@ -4,8 +4,6 @@ use Rattle.std.specs.Fmt.{decimal}
 use Rattle.answer_text.specs.Printed.{decline_text, pair_text, total_text}
 use Rattle.answer_text.specs.declared.answer.Answer.{Answer}
 use Rattle.answer_text.specs.declared.answer.Answer.TheVariants as answer
-use Rattle.answer_text.specs.declared.line.Word.{Word}
-use Rattle.answer_text.specs.declared.line.Word.TheVariants as word
 
 abbrev pub said : Answer → List ℕ
 said answer.Ok = codes "ok"
@@ -16,16 +14,3 @@ said (answer.Declined why) = codes "declined " ++ decline_text why
 said answer.Postponed = codes "postponed"
 said answer.NoMemory = codes "nomem"
 said (answer.Total total) = total_text total
-
-abbrev pub spelled : Word → List ℕ
-spelled word.Insert = codes "insert"
-spelled word.Query = codes "query"
-spelled word.Sync = codes "sync"
-spelled word.Split = codes "split"
-spelled word.Move = codes "move"
-spelled word.Balance = codes "balance"
-spelled word.Barrier = codes "barrier"
-spelled word.Settle = codes "settle"
-spelled word.Shards = codes "shards"
-spelled word.Tree = codes "tree"
-spelled word.Audit = codes "audit"

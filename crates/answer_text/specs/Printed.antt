@@ -23,32 +23,15 @@ use Rattle.row_ledger.specs.declared.settings.How.{How}
 use Rattle.row_ledger.specs.declared.settings.How.TheVariants.{Fine, Balanced, Declined, Postponed, NoMemory}
 use Rattle.row_ledger.specs.declared.settings.Use.{Use}
 use Rattle.row_ledger.specs.Past.{event_at, page_of}
+use Rattle.script_form.specs.Table.{word_of}
 use Rattle.script_form.specs.declared.script.Cause.{Cause}
 use Rattle.script_form.specs.declared.script.Cause.TheVariants as cause
 use Rattle.script_form.specs.declared.script.Command.{Command}
-use Rattle.script_form.specs.declared.script.Command.TheVariants.{Insert, Query, Control}
+use Rattle.script_form.specs.declared.script.Command.TheVariants.{Control}
 use Rattle.script_run.specs.Phases.{phases}
 use Rattle.script_run.specs.Places.{places_behind, are_over, end_of}
 
 -- The line of a command.
-
--- the word of its kind
-
-abbrev pub call_word : Call → List ℕ
-call_word (call.Sync server) = codes "sync"
-call_word (call.Split shard) = codes "split"
-call_word (call.Move shard worker) = codes "move"
-call_word (call.Balance most) = codes "balance"
-call_word call.Barrier = codes "barrier"
-call_word call.Settle = codes "settle"
-call_word call.Shards = codes "shards"
-call_word (call.Tree shard) = codes "tree"
-call_word call.Audit = codes "audit"
-
-abbrev pub word_of : Command → List ℕ
-word_of (Insert new) = codes "insert"
-word_of (Query question) = codes "query"
-word_of (Control called) = call_word called
 
 -- a number, or a dash for none
 abbrev pub or_dash : Option ℤ → List ℕ

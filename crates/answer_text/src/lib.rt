@@ -14,7 +14,7 @@ mod text;
 
 pub use answer::Answer;
 pub use bad::BadLine;
-pub use line::{Line, Word, push_line};
+pub use line::{Line, push_line};
 pub use pages::push_page;
 pub use sums::summary;
 pub use text::{Teller, phase, told};

@@ -8,7 +8,7 @@ ghost use Rattle.answer_text.specs.Told.{phase_text};
 ghost use Rattle.answer_text.specs.Marks.{Counts, IsPosition, RefersBack};
 
 use crate::index::Index;
-use crate::line::{Line, Word, push_line};
+use crate::line::{Line, push_line};
 use crate::notes::Notes;
 use crate::pages::push_page;
 use row_ledger::{Event, History, Use};
@@ -67,7 +67,7 @@ fn push_text(
     match index.page_at(place) {
         Some(page) => push_page(text, number, page),
         None => {
-            let word = Word::of(command);
+            let word = command.word();
             let answer = index.answer_at(command, place);
             push_line(
                 text,

@@ -481,14 +481,7 @@ may-one : (s : Script) (c : Command) → Fits s c → 0 < length s.hierarchy →
 may-one s (command.Insert new) fits dims = record { names = fits.1; allowed = fits.0 }
 may-one s (command.Query question) fits dims = record { names = fits.1; allowed = (fits.0, dims, fits.2) }
 may-one s (command.Control (call.Sync server)) fits dims = record { names = tt; allowed = fits }
-may-one s (command.Control (call.Split shard)) fits dims = record { names = tt; allowed = tt }
-may-one s (command.Control (call.Move shard worker)) fits dims = record { names = tt; allowed = tt }
-may-one s (command.Control (call.Balance most)) fits dims = record { names = tt; allowed = tt }
-may-one s (command.Control call.Barrier) fits dims = record { names = tt; allowed = tt }
-may-one s (command.Control call.Settle) fits dims = record { names = tt; allowed = tt }
-may-one s (command.Control call.Shards) fits dims = record { names = tt; allowed = tt }
-may-one s (command.Control (call.Tree shard)) fits dims = record { names = tt; allowed = tt }
-may-one s (command.Control call.Audit) fits dims = record { names = tt; allowed = tt }
+may-one s (command.Control _) fits dims = record { names = tt; allowed = tt }
 
 of-get : {A : Type 0} (P : A → Type 0) (xs : List A) (i : ℕ) (x : A) → All P xs → slice_get xs i ≡ Some x → P x
 of-get P [] i x all at = cc

@@ -7,7 +7,7 @@ ghost use Rattle.script_form.specs.declared.script.Command.TheVariants as comman
 use crate::chance::Dice;
 use crate::flat::FlatRows;
 use crate::top::run_top;
-use answer_text::{Answer, Line, Word, push_line};
+use answer_text::{Answer, Line, push_line};
 use dim_hierarchy::{FilterFault, Row};
 use olap_top::Status;
 use script_form::{Command, NewRow, Question, Script, read_script};
@@ -182,7 +182,7 @@ fn plain(alloc: Global, script: &Script) -> Result<String, Fail>
         let number = i as u64 + 1;
         let line = Line {
             number,
-            word: Word::of(next),
+            word: next.word(),
             answer: answer(alloc, &mut flat, script, number, next)?,
         };
         push_line(&mut text, &line)?;

@@ -1,17 +1,22 @@
 -- The values of numbers in a range.
-use Rattle.std.proofs.Common.{◌≡◌, ◌≤◌, ◌<◌, ℕ, List, Bool, true, false, ◌&&◌, Option, Some, None, arith, refl}
+use Rattle.std.proofs.Common.{◌≡◌, ◌≤◌, ◌<◌, ◌+◌, ℕ, List, [], ◌∷◌, Bool, true, false, ◌&&◌, Option, Some, None, ap, arith, refl}
 use Rattle.script_form.specs.Limits.{most_servers, most_workers, most_threads, fewest_cells, most_cells, shard_ids, worker_ids, most_actions}
 use Rattle.std.specs.Prelude.{nat_le, nat_lt, not, is_some, unwrap_or}
 use Rattle.std.specs.Option.{option_map_or}
 use Rattle.std.proofs.lemmas.Bool.{and_parts}
 use Rattle.std.proofs.lemmas.Bool.Decides.{nat_tests}
 use Rattle.row_ledger.specs.declared.settings.Use.{Use}
-use Rattle.script_form.specs.Causes.{wrong_number}
+use Rattle.row_ledger.specs.declared.settings.Call.{Call}
+use Rattle.row_ledger.specs.declared.settings.Call.TheVariants as call
+use Rattle.script_form.specs.Causes.{are_fields, is_number, wrong_number}
 use Rattle.script_form.specs.Fields.{Record, field, in_range, is_below, measure_of, number_of, value_of}
-use Rattle.script_form.specs.Fits.{AreSettings}
-use Rattle.script_form.specs.Scripts.{settings_with}
-use Rattle.script_form.specs.declared.kind.Kind.{Kind}
-use Rattle.script_form.specs.declared.kind.Kind.TheVariants as kind
+use Rattle.script_form.specs.Fits.{AreSettings, IsInRange}
+use Rattle.script_form.specs.Scripts.{filled, settings_with}
+use Rattle.script_form.specs.Table.{form_of}
+use Rattle.script_form.specs.declared.table.Field.{Field}
+use Rattle.script_form.specs.declared.table.Field.TheVariants as must
+use Rattle.script_form.specs.declared.table.Kind.{Kind}
+use Rattle.script_form.specs.declared.table.Kind.TheVariants as kind
 
 below : (o : Option ℕ) (limit : ℕ) → option_map_or (λ value. nat_lt value limit) o false ≡ true → unwrap_or o 0 < limit
 below None limit is = cc
@@ -31,42 +36,61 @@ not_wrong : (b : Bool) → not b ≡ false → b ≡ true
 not_wrong true is = refl
 not_wrong false is = cc
 
+both : (a b : Bool) → a ≡ true → b ≡ true → (a && b) ≡ true
+both a b x y = rw (x, y) refl
+
 -- a command's server is one of so many
 
 pub insert_server : (servers : ℕ) (r : Record) → wrong_number servers kind.Insert r ≡ false → is_below (field r 1) servers ≡ true
-insert_server servers r fine = (and_parts (is_below (field r 1) servers) (is_some (measure_of (field r 2))) (not_wrong _ fine)).0
+insert_server servers r fine = (and_parts (is_below (field r 1) servers) (is_some (measure_of (field r 2)) && true) (not_wrong _ fine)).0
 
 pub query_server : (servers : ℕ) (r : Record) → wrong_number servers kind.Query r ≡ false → is_below (field r 1) servers ≡ true
-query_server servers r fine = not_wrong _ fine
+query_server servers r fine = (and_parts (is_below (field r 1) servers) true (not_wrong _ fine)).0
 
-pub sync_server : (servers : ℕ) (r : Record) → wrong_number servers kind.Sync r ≡ false → is_below (field r 1) servers ≡ true
-sync_server servers r fine = not_wrong _ fine
+-- the numbers of a call are in their ranges
+pub filled_in_range : (servers : ℕ) (called : Call) (r : Record) → wrong_number servers (kind.Called called) r ≡ false → IsInRange servers (filled called r)
+filled_in_range servers (call.Sync server) r fine = value_below (field r 1) servers (and_parts (is_below (field r 1) servers) true (not_wrong _ fine)).0
+filled_in_range servers (call.Split shard) r fine = value_below (field r 1) shard_ids (and_parts (is_below (field r 1) shard_ids) true (not_wrong _ fine)).0
+filled_in_range servers (call.Move shard worker) r fine =
+    let first = and_parts (is_below (field r 1) shard_ids) (is_below (field r 2) worker_ids && true) (not_wrong _ fine) in
+    (value_below (field r 1) shard_ids first.0, value_below (field r 2) worker_ids (and_parts (is_below (field r 2) worker_ids) true first.1).0)
+filled_in_range servers (call.Balance most) r fine = value_within (field r 1) 1 most_actions (and_parts (in_range (field r 1) 1 most_actions) true (not_wrong _ fine)).0
+filled_in_range servers (call.Tree shard) r fine = value_below (field r 1) shard_ids (and_parts (is_below (field r 1) shard_ids) true (not_wrong _ fine)).0
+filled_in_range servers _ r fine = tt
 
--- and so are its other numbers
+-- what is a number where there are so many servers is one where there are more
 
-pub split_shard : (servers : ℕ) (r : Record) → wrong_number servers kind.Split r ≡ false → is_below (field r 1) shard_ids ≡ true
-split_shard servers r fine = not_wrong _ fine
+below_more : (o : Option ℕ) (a b : ℕ) → a ≤ b → option_map_or (λ value. nat_lt value a) o false ≡ true → option_map_or (λ value. nat_lt value b) o false ≡ true
+below_more None a b few is = cc
+below_more (Some value) a b few is = grind (arith, nat_tests)
 
-pub tree_shard : (servers : ℕ) (r : Record) → wrong_number servers kind.Tree r ≡ false → is_below (field r 1) shard_ids ≡ true
-tree_shard servers r fine = not_wrong _ fine
+number_more : (a b : ℕ) (f : Field) (text : List ℕ) → a ≤ b → is_number a f text ≡ true → is_number b f text ≡ true
+number_more a b must.Server text few is = below_more (number_of text) a b few is
+number_more a b _ text few is = is
 
-pub move_numbers : (servers : ℕ) (r : Record) → wrong_number servers kind.Move r ≡ false → (is_below (field r 1) shard_ids ≡ true) × (is_below (field r 2) worker_ids ≡ true)
-move_numbers servers r fine = and_parts (is_below (field r 1) shard_ids) (is_below (field r 2) worker_ids) (not_wrong _ fine)
+fields_more : (a b : ℕ) (fs : List Field) (i : ℕ) (r : Record) → a ≤ b → are_fields (is_number a) fs i r ≡ true → are_fields (is_number b) fs i r ≡ true
+fields_more a b [] i r few are = refl
+fields_more a b (f ∷ fs) i r few are =
+    let parts = and_parts (is_number a f (field r i)) (are_fields (is_number a) fs (i + 1) r) are in
+    both (is_number b f (field r i)) (are_fields (is_number b) fs (i + 1) r) (number_more a b f (field r i) few parts.0) (fields_more a b fs (i + 1) r few parts.1)
 
-pub balance_most : (servers : ℕ) (r : Record) → wrong_number servers kind.Balance r ≡ false → (1 ≤ value_of (field r 1)) × (value_of (field r 1) ≤ most_actions)
-balance_most servers r fine = value_within (field r 1) 1 most_actions (not_wrong _ fine)
+pub numbers_more : (servers : ℕ) (k : Kind) (r : Record) → servers < 256 → wrong_number servers k r ≡ false → wrong_number 256 k r ≡ false
+numbers_more servers k r few fine =
+    ap not (fields_more servers 256 (form_of k).fields 1 r (omega arith) (not_wrong (are_fields (is_number servers) (form_of k).fields 1 r) fine))
 
 -- settings stay in their ranges
 pub settings_more : (servers : ℕ) (with : Use) (k : Kind) (r : Record) → wrong_number servers k r ≡ false → AreSettings with → AreSettings (settings_with (Some k) with r)
 settings_more servers with kind.Use r fine settings =
-    let all = not_wrong (in_range (field r 1) 1 most_servers && in_range (field r 2) 1 most_workers && in_range (field r 3) 1 most_threads && in_range (field r 4) fewest_cells most_cells) fine in
-    let three = and_parts (in_range (field r 1) 1 most_servers && in_range (field r 2) 1 most_workers && in_range (field r 3) 1 most_threads) (in_range (field r 4) fewest_cells most_cells) all in
-    let two = and_parts (in_range (field r 1) 1 most_servers && in_range (field r 2) 1 most_workers) (in_range (field r 3) 1 most_threads) three.0 in
-    let one = and_parts (in_range (field r 1) 1 most_servers) (in_range (field r 2) 1 most_workers) two.0 in
+    let workers = in_range (field r 2) 1 most_workers in
+    let threads = in_range (field r 3) 1 most_threads in
+    let cells = in_range (field r 4) fewest_cells most_cells in
+    let one = and_parts (in_range (field r 1) 1 most_servers) (workers && (threads && (cells && true))) (not_wrong _ fine) in
+    let two = and_parts workers (threads && (cells && true)) one.1 in
+    let three = and_parts threads (cells && true) two.1 in
     record {
       servers = value_within (field r 1) 1 most_servers one.0;
-      workers = value_within (field r 2) 1 most_workers one.1;
-      threads = value_within (field r 3) 1 most_threads two.1;
-      cells = value_within (field r 4) fewest_cells most_cells three.1;
+      workers = value_within (field r 2) 1 most_workers two.0;
+      threads = value_within (field r 3) 1 most_threads three.0;
+      cells = value_within (field r 4) fewest_cells most_cells (and_parts cells true three.1).0;
     }
 settings_more servers with _ r fine settings = settings

@@ -1,6 +1,5 @@
 -- The script of the records read so far.
 use Rattle.std.proofs.Common.{◌≡◌, ◌≢◌, ◌≤◌, ◌<◌, ◌+◌, ◌++◌, ℕ, List, get_or, [], ◌∷◌, length, map, drop, Bool, true, false, Option, Some, None, Ok, Err, arith, refl, sym, ◌∙◌, ap, All, ◌&&◌, length-append, length-drop}
-use Rattle.script_form.specs.Limits.{shard_ids, worker_ids}
 use Rattle.std.specs.Prelude.{codes, not, ◌==◌}
 use Rattle.std.specs.List.{cons_option}
 use Rattle.std.specs.Option.{option_to_list}
@@ -16,18 +15,18 @@ use Rattle.dim_hierarchy.specs.Names.{IsNamePick}
 use Rattle.script_form.specs.Reading.{MayStand, IsTaken, after}
 use Rattle.script_form.specs.Causes.{cause_at, is_version}
 use Rattle.script_form.specs.Fields.{Record, field, is_bar, is_star, value_of}
-use Rattle.script_form.specs.Kinds.{kind_of}
+use Rattle.script_form.specs.Table.{kind_of}
 use Rattle.script_form.specs.Fits.{AreSettings, Fits}
 use Rattle.script_form.specs.Scripts.{command_by, command_of, default_settings, first_cause, first_fault, hierarchy_with, pick_of, script, script_of, settings_with}
-use Rattle.script_form.specs.declared.kind.Kind.{Kind}
-use Rattle.script_form.specs.declared.kind.Kind.TheVariants as kind
+use Rattle.script_form.specs.declared.table.Kind.{Kind}
+use Rattle.script_form.specs.declared.table.Kind.TheVariants as kind
 use Rattle.script_form.specs.declared.script.Cause.{Cause}
 use Rattle.script_form.specs.declared.script.Cause.TheVariants as cause
 use Rattle.script_form.specs.declared.script.Command.{Command}
 use Rattle.script_form.specs.declared.script.Script.{Script}
 use Rattle.script_form.specs.declared.script.ScriptFault.{ScriptFault}
 use Rattle.script_form.specs.declared.script.ScriptFault.TheVariants as fault
-use Rattle.script_form.proofs.NumberFacts.{balance_most, insert_server, move_numbers, query_server, split_shard, sync_server, tree_shard, settings_more, value_below}
+use Rattle.script_form.proofs.NumberFacts.{filled_in_range, insert_server, query_server, settings_more, value_below}
 
 -- of the records so far none has a cause, and this is their script
 pub record SoFar (rows : List Record) (at : ℕ) (s : Script) : Type 0 where
@@ -118,21 +117,8 @@ fits_more place s kind.Query r stands begun fits =
       omega (arith, stands.form.fields, length-drop 2 r, length-map (drop 2 r) pick_of),
       picks_list (drop 2 r),
     )
-fits_more place s kind.Sync r stands begun fits =
-    All-push (Fits s) s.commands _ fits (value_below (field r 1) s.with.servers (sync_server s.with.servers r stands.form.number))
-fits_more place s kind.Split r stands begun fits =
-    All-push (Fits s) s.commands _ fits (value_below (field r 1) shard_ids (split_shard s.with.servers r stands.form.number))
-fits_more place s kind.Move r stands begun fits =
-    let both = move_numbers s.with.servers r stands.form.number in
-    All-push (Fits s) s.commands _ fits (value_below (field r 1) shard_ids both.0, value_below (field r 2) worker_ids both.1)
-fits_more place s kind.Balance r stands begun fits =
-    All-push (Fits s) s.commands _ fits (balance_most s.with.servers r stands.form.number)
-fits_more place s kind.Barrier r stands begun fits = All-push (Fits s) s.commands _ fits tt
-fits_more place s kind.Settle r stands begun fits = All-push (Fits s) s.commands _ fits tt
-fits_more place s kind.Shards r stands begun fits = All-push (Fits s) s.commands _ fits tt
-fits_more place s kind.Tree r stands begun fits =
-    All-push (Fits s) s.commands _ fits (value_below (field r 1) shard_ids (tree_shard s.with.servers r stands.form.number))
-fits_more place s kind.Audit r stands begun fits = All-push (Fits s) s.commands _ fits tt
+fits_more place s (kind.Called called) r stands begun fits =
+    All-push (Fits s) s.commands _ fits (filled_in_range s.with.servers called r stands.form.number)
 
 -- A command stands behind a dimension, and no record takes a dimension away.
 

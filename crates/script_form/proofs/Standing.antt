@@ -10,11 +10,11 @@ use Rattle.dim_hierarchy.specs.Dimension.{Dimension, concept_fault, find_dim}
 use Rattle.row_ledger.specs.declared.settings.Use.{Use}
 use Rattle.script_form.specs.Causes.{cause_at, cause_by_kind, cause_in, cause_under, concept_cause, hierarchy_cause, is_version, parent_of, wrong_name, wrong_number, wrong_order}
 use Rattle.script_form.specs.Fields.{Record, field, is_name, is_star}
-use Rattle.script_form.specs.Kinds.{kind_of, width}
+use Rattle.script_form.specs.Table.{kind_of, width}
 use Rattle.script_form.specs.Reading.{after}
 use Rattle.script_form.specs.Scripts.{concept_added, first_cause, first_fault, hierarchy_with, script, script_of, settings_with, with_named}
-use Rattle.script_form.specs.declared.kind.Kind.{Kind}
-use Rattle.script_form.specs.declared.kind.Kind.TheVariants as kind
+use Rattle.script_form.specs.declared.table.Kind.{Kind}
+use Rattle.script_form.specs.declared.table.Kind.TheVariants as kind
 use Rattle.script_form.specs.declared.script.Cause.{Cause}
 use Rattle.script_form.specs.declared.script.Cause.TheVariants as cause
 use Rattle.script_form.specs.declared.script.Script.{Script}

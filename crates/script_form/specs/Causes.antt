@@ -1,6 +1,5 @@
 -- The causes for which a record is bad, given the script of the records before it.
-use Rattle.script_form.specs.Limits.{most_servers, most_workers, most_threads, fewest_cells, most_cells, most_levels, shard_ids, worker_ids, most_actions}
-use Rattle.std.specs.Prelude.{ℕ, ◌==◌, ◌&&◌, ◌||◌, not, Bool, false, Option, Some, None, is_some, option_and_then, if◌then◌else◌, List, length, drop, bytes_eq, codes}
+use Rattle.std.specs.Prelude.{ℕ, ◌+◌, ◌==◌, ◌&&◌, ◌||◌, not, Bool, true, Option, Some, None, is_some, option_and_then, if◌then◌else◌, List, [], ◌∷◌, length, drop, bytes_eq, codes}
 use Rattle.std.specs.List.{list_all}
 use Rattle.dim_hierarchy.specs.Dimension.{Dimension, concept_fault, dim_fault, find, find_dim}
 use Rattle.dim_hierarchy.specs.declared.hierarchy.DimFault.{DimFault}
@@ -8,12 +7,16 @@ use Rattle.dim_hierarchy.specs.declared.hierarchy.DimFault.TheVariants as dim
 use Rattle.dim_hierarchy.specs.declared.hierarchy.ConceptFault.{ConceptFault}
 use Rattle.dim_hierarchy.specs.declared.hierarchy.ConceptFault.TheVariants as concept
 use Rattle.script_form.specs.Fields.{Record, field, in_range, is_below, is_name, is_pick, is_star, measure_of, value_of}
-use Rattle.script_form.specs.Kinds.{kind_of, width}
-use Rattle.script_form.specs.declared.kind.Kind.{Kind}
-use Rattle.script_form.specs.declared.kind.Kind.TheVariants as kind
+use Rattle.script_form.specs.Table.{form_of, kind_of, width}
 use Rattle.script_form.specs.declared.script.Cause.{Cause}
 use Rattle.script_form.specs.declared.script.Cause.TheVariants as cause
 use Rattle.script_form.specs.declared.script.Script.{Script}
+use Rattle.script_form.specs.declared.table.Each.{Each}
+use Rattle.script_form.specs.declared.table.Each.TheVariants as each
+use Rattle.script_form.specs.declared.table.Field.{Field}
+use Rattle.script_form.specs.declared.table.Field.TheVariants as must
+use Rattle.script_form.specs.declared.table.Kind.{Kind}
+use Rattle.script_form.specs.declared.table.Kind.TheVariants as kind
 
 abbrev pub is_version : Record → Bool
 is_version r = (length r == 2) && bytes_eq (field r 0) (codes "volap") && bytes_eq (field r 1) (codes "1")
@@ -26,26 +29,37 @@ wrong_order place before kind.Dim = not (length before.commands == 0)
 wrong_order place before kind.Concept = not (length before.commands == 0)
 wrong_order place before _ = length before.hierarchy == 0
 
--- a number field is no number in its range
-abbrev pub wrong_number : ℕ → Kind → Record → Bool
-wrong_number servers kind.Use r = not (in_range (field r 1) 1 most_servers && in_range (field r 2) 1 most_workers && in_range (field r 3) 1 most_threads && in_range (field r 4) fewest_cells most_cells)
-wrong_number servers kind.Dim r = not (in_range (field r 2) 1 most_levels)
-wrong_number servers kind.Insert r = not (is_below (field r 1) servers && is_some (measure_of (field r 2)))
-wrong_number servers kind.Query r = not (is_below (field r 1) servers)
-wrong_number servers kind.Sync r = not (is_below (field r 1) servers)
-wrong_number servers kind.Split r = not (is_below (field r 1) shard_ids)
-wrong_number servers kind.Move r = not (is_below (field r 1) shard_ids && is_below (field r 2) worker_ids)
-wrong_number servers kind.Balance r = not (in_range (field r 1) 1 most_actions)
-wrong_number servers kind.Tree r = not (is_below (field r 1) shard_ids)
-wrong_number servers _ r = false
+-- a field that must be a number is none in its range, where there are so many servers
 
--- a name field, or a piece of a filter, is no name
+abbrev pub is_number : ℕ → Field → List ℕ → Bool
+is_number servers must.Server text = is_below text servers
+is_number servers (must.Below limit) text = is_below text limit
+is_number servers (must.Range low high) text = in_range text low high
+is_number servers must.Measure text = is_some (measure_of text)
+is_number servers _ text = true
+
+-- the fields from a place on are as these must be
+abbrev pub are_fields : (Field → List ℕ → Bool) → List Field → ℕ → Record → Bool
+are_fields fits [] i r = true
+are_fields fits (f ∷ fs) i r = fits f (field r i) && are_fields fits fs (i + 1) r
+
+abbrev pub wrong_number : ℕ → Kind → Record → Bool
+wrong_number servers k r = not (are_fields (is_number servers) (form_of k).fields 1 r)
+
+-- a field that must be a name, or a piece of a filter, is none
+
+abbrev pub is_named : Field → List ℕ → Bool
+is_named must.Name text = is_name text
+is_named must.Parent text = is_star text || is_name text
+is_named _ text = true
+
+abbrev pub are_each : Each → Record → Bool
+are_each each.Nothing texts = true
+are_each each.Name texts = list_all is_name texts
+are_each each.Pick texts = list_all is_pick texts
+
 abbrev pub wrong_name : Kind → Record → Bool
-wrong_name kind.Dim r = not (is_name (field r 1))
-wrong_name kind.Concept r = not (is_name (field r 1) && is_name (field r 2) && (is_star (field r 3) || is_name (field r 3)))
-wrong_name kind.Insert r = not (list_all is_name (drop 3 r))
-wrong_name kind.Query r = not (list_all is_pick (drop 2 r))
-wrong_name _ r = false
+wrong_name k r = not (are_fields is_named (form_of k).fields 1 r && are_each (form_of k).each (drop (1 + length (form_of k).fields) r))
 
 -- What the hierarchy says against a dimension or a concept.
 

@@ -1,6 +1,6 @@
 pub mod Limits
 pub mod Fields
-pub mod Kinds
+pub mod Table
 pub mod Causes
 pub mod Scripts
 pub mod Fits

@@ -2,10 +2,10 @@
 use Rattle.std.specs.Prelude.{ℕ, ◌≡◌, ◌<◌, true, false, ⊤, Option, Some, None, length, ◌++◌}
 use Rattle.std.specs.Option.{option_to_list}
 use Rattle.script_form.specs.Fields.{Record, field}
-use Rattle.script_form.specs.Kinds.{kind_of, width}
-use Rattle.script_form.specs.declared.kind.Kind.{Kind}
+use Rattle.script_form.specs.Table.{kind_of, width}
 use Rattle.script_form.specs.declared.script.Cause.{Cause}
 use Rattle.script_form.specs.declared.script.Script.{Script}
+use Rattle.script_form.specs.declared.table.Kind.{Kind}
 use Rattle.script_form.specs.declared.record.RecordFault.{RecordFault}
 use Rattle.script_form.specs.declared.record.RecordFault.TheVariants as fault
 use Rattle.script_form.specs.Causes.{is_version, wrong_order, wrong_number, wrong_name, hierarchy_cause, cause_at}

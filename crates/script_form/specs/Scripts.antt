@@ -9,10 +9,8 @@ use Rattle.row_ledger.specs.declared.settings.Use.{Use}
 use Rattle.row_ledger.specs.declared.settings.Call.{Call}
 use Rattle.row_ledger.specs.declared.settings.Call.TheVariants as call
 use Rattle.script_form.specs.Fields.{Record, field, is_star, measure_of, pieces, value_of}
-use Rattle.script_form.specs.Kinds.{kind_of}
+use Rattle.script_form.specs.Table.{kind_of}
 use Rattle.script_form.specs.Causes.{cause_at, parent_of}
-use Rattle.script_form.specs.declared.kind.Kind.{Kind}
-use Rattle.script_form.specs.declared.kind.Kind.TheVariants as kind
 use Rattle.script_form.specs.declared.script.Cause.{Cause}
 use Rattle.script_form.specs.declared.script.Cause.TheVariants as cause
 use Rattle.script_form.specs.declared.script.Command.{Command}
@@ -20,6 +18,8 @@ use Rattle.script_form.specs.declared.script.Command.TheVariants as command
 use Rattle.script_form.specs.declared.script.Script.{Script}
 use Rattle.script_form.specs.declared.script.ScriptFault.{ScriptFault}
 use Rattle.script_form.specs.declared.script.ScriptFault.TheVariants as fault
+use Rattle.script_form.specs.declared.table.Kind.{Kind}
+use Rattle.script_form.specs.declared.table.Kind.TheVariants as kind
 
 -- the records of a text: comma, double quotes, any number of fields, one leading byte order mark dropped
 abbrev pub records_of : List ℕ → List Record
@@ -62,26 +62,22 @@ hierarchy_of rs = fold (λ h r. hierarchy_with (kind_of (field r 0)) h r) [] rs
 abbrev pub pick_of : List ℕ → NamePick
 pick_of text = if is_star text then pick.All else pick.Any (pieces text)
 
--- the call that a record of a kind makes, if it makes one
-abbrev pub call_by : Kind → Record → Option Call
-call_by kind.Sync r = Some (call.Sync (value_of (field r 1)))
-call_by kind.Split r = Some (call.Split (value_of (field r 1)))
-call_by kind.Move r = Some (call.Move (value_of (field r 1)) (value_of (field r 2)))
-call_by kind.Balance r = Some (call.Balance (value_of (field r 1)))
-call_by kind.Barrier r = Some call.Barrier
-call_by kind.Settle r = Some call.Settle
-call_by kind.Shards r = Some call.Shards
-call_by kind.Tree r = Some (call.Tree (value_of (field r 1)))
-call_by kind.Audit r = Some call.Audit
-call_by _ r = None
+-- a call with the numbers of a record in place of its own
+abbrev pub filled : Call → Record → Call
+filled (call.Sync server) r = call.Sync (value_of (field r 1))
+filled (call.Split shard) r = call.Split (value_of (field r 1))
+filled (call.Move shard worker) r = call.Move (value_of (field r 1)) (value_of (field r 2))
+filled (call.Balance most) r = call.Balance (value_of (field r 1))
+filled (call.Tree shard) r = call.Tree (value_of (field r 1))
+filled other r = other
 
 -- the command that a record of a kind is, if it is one
 abbrev pub command_by : Option Kind → Record → Option Command
 command_by (Some kind.Insert) r =
     Some (command.Insert (record { server = value_of (field r 1); measures = unwrap_or (measure_of (field r 2)) (pos 0); names = drop 3 r }))
 command_by (Some kind.Query) r = Some (command.Query (record { server = value_of (field r 1); filter = map pick_of (drop 2 r) }))
-command_by (Some k) r = option_map (λ c. command.Control c) (call_by k r)
-command_by None r = None
+command_by (Some (kind.Called call)) r = Some (command.Control (filled call r))
+command_by _ r = None
 
 abbrev pub command_of : Record → Option Command
 command_of r = command_by (kind_of (field r 0)) r

@@ -1,17 +1,13 @@
 //! Whether a record may stand where it does, by its fields alone.
-ghost use Rattle.std.specs.Prelude.{◌≡◌, IfOk, IfErr};
+ghost use Rattle.std.specs.Prelude.{◌≡◌, drop, IfOk, IfErr};
 ghost use Rattle.csv.specs.Records.{fields_of};
 ghost use Rattle.script_form.specs.Reading.{MayStand};
-ghost use Rattle.script_form.specs.Causes.{cause_at, is_version, wrong_name, wrong_number, wrong_order};
+ghost use Rattle.script_form.specs.Causes.{are_each, cause_at, is_named, is_number, is_version, wrong_name, wrong_number, wrong_order};
 
 use crate::field::{field, in_range, is_below, is_name, is_star, measure};
-use crate::kind::{Kind, kind_of, width};
-use crate::limits::{
-    FEWEST_CELLS, MOST_ACTIONS, MOST_CELLS, MOST_LEVELS, MOST_SERVERS, MOST_THREADS, MOST_WORKERS,
-    SHARD_IDS, WORKER_IDS,
-};
 use crate::names::{are_names, are_picks};
 use crate::script::{Cause, Script};
+use crate::table::{Each, Field, Kind, form_of, kind_of, width};
 use csv::ByteRecord;
 
 /// The kind of a record that may stand behind so many records, of which this is the script; else
@@ -60,45 +56,62 @@ fn is_wrong_order(at: u64, script: &Script, kind: Kind) -> bool
     }
 }
 
-/// Whether a number field is no number in its range.
+/// Whether a field that must be a number is none in its range.
 fn is_wrong_number(servers: u8, kind: Kind, row: &ByteRecord) -> bool
     ensures { result ≡ wrong_number servers kind (fields_of row.now) }
 {
-    match kind {
-        Kind::Volap | Kind::Concept | Kind::Barrier | Kind::Settle | Kind::Shards | Kind::Audit =>
-            false,
-        Kind::Use => {
-            !(in_range(field(row, 1), 1, MOST_SERVERS)
-                && in_range(field(row, 2), 1, MOST_WORKERS)
-                && in_range(field(row, 3), 1, MOST_THREADS)
-                && in_range(field(row, 4), FEWEST_CELLS, MOST_CELLS))
+    for (i, must) in form_of(kind).fields.iter().enumerate() {
+        if !is_number(servers, *must, field(row, i + 1)) {
+            return true;
         }
-        Kind::Dim => !in_range(field(row, 2), 1, MOST_LEVELS),
-        Kind::Insert => {
-            !(is_below(field(row, 1), u128::from(servers)) && measure(field(row, 2)).is_some())
-        }
-        Kind::Query | Kind::Sync => !is_below(field(row, 1), u128::from(servers)),
-        Kind::Split | Kind::Tree => !is_below(field(row, 1), SHARD_IDS),
-        Kind::Move => {
-            !(is_below(field(row, 1), SHARD_IDS) && is_below(field(row, 2), WORKER_IDS))
-        }
-        Kind::Balance => !in_range(field(row, 1), 1, MOST_ACTIONS),
+    }
+    false
+}
+
+/// Whether a field is in its range if it must be a number.
+fn is_number(servers: u8, must: Field, text: &[u8]) -> bool
+    ensures { result ≡ is_number servers must text.now }
+{
+    match must {
+        Field::Server => is_below(text, u128::from(servers)),
+        Field::Below(limit) => is_below(text, limit),
+        Field::Range(low, high) => in_range(text, low, high),
+        Field::Measure => measure(text).is_some(),
+        Field::Any | Field::Name | Field::Parent => true,
     }
 }
 
-/// Whether a name field, or a piece of a filter, is no name.
+/// Whether a field that must be a name, or a piece of a filter, is none.
 fn is_wrong_name(kind: Kind, row: &ByteRecord) -> bool
     ensures { result ≡ wrong_name kind (fields_of row.now) }
 {
-    match kind {
-        Kind::Dim => !is_name(field(row, 1)),
-        Kind::Concept => {
-            !(is_name(field(row, 1))
-                && is_name(field(row, 2))
-                && (is_star(field(row, 3)) || is_name(field(row, 3))))
+    let form = form_of(kind);
+    for (i, must) in form.fields.iter().enumerate() {
+        if !is_named(*must, field(row, i + 1)) {
+            return true;
         }
-        Kind::Insert => !are_names(row, 3),
-        Kind::Query => !are_picks(row, 2),
-        _ => false,
+    }
+    !are_each(form.each, row, 1 + form.fields.len())
+}
+
+/// Whether a field is a name if it must be one.
+fn is_named(must: Field, text: &[u8]) -> bool
+    ensures { result ≡ is_named must text.now }
+{
+    match must {
+        Field::Name => is_name(text),
+        Field::Parent => is_star(text) || is_name(text),
+        Field::Any | Field::Server | Field::Below(_) | Field::Range(_, _) | Field::Measure => true,
+    }
+}
+
+/// Whether the fields from a place on are as those for each dimension must be.
+fn are_each(each: Each, row: &ByteRecord, from: usize) -> bool
+    ensures { result ≡ are_each each (drop from (fields_of row.now)) }
+{
+    match each {
+        Each::Nothing => true,
+        Each::Name => are_names(row, from),
+        Each::Pick => are_picks(row, from),
     }
 }

@@ -3,13 +3,13 @@
 
 pub mod field;
 mod form;
-mod kind;
 mod laws;
 mod limits;
 mod names;
 mod reader;
 mod record;
 mod script;
+mod table;
 
 pub use laws::script_laws;
 pub use reader::read_script;

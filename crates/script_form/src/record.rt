@@ -1,19 +1,19 @@
 //! What a record adds to the script of those before it.
-ghost use Rattle.std.specs.Prelude.{◌≡◌, ◌≤◌, true, false, is_some, IsTrue, Some, length, drop, IfOk, IfErr, OnErr, OnOk};
+ghost use Rattle.std.specs.Prelude.{◌≡◌, ◌≤◌, true, false, Some, length, drop, IfOk, IfErr, OnErr, OnOk};
 ghost use Rattle.std.specs.List.{list_all};
 ghost use Rattle.csv.specs.Records.{fields_of};
 ghost use Rattle.script_form.specs.Limits.{most_levels};
 ghost use Rattle.script_form.specs.Fields.{field, in_range, is_below, is_name};
 ghost use Rattle.script_form.specs.Reading.{HasForm, TellsCause, IsTaken, after};
 ghost use Rattle.script_form.specs.Causes.{cause_at, hierarchy_cause, parent_of, wrong_number};
-ghost use Rattle.script_form.specs.Scripts.{call_by, command_by, hierarchy_with, settings_in};
-ghost use Rattle.script_form.specs.declared.kind.Kind.TheVariants as kind;
+ghost use Rattle.script_form.specs.Scripts.{command_by, filled, hierarchy_with, settings_in};
+ghost use Rattle.script_form.specs.declared.table.Kind.TheVariants as kind;
 
 use crate::field::{field, is_star, measure, value_u8, value_u32};
 use crate::form::kind_at;
-use crate::kind::Kind;
 use crate::names::{filter, names};
 use crate::script::{Cause, Command, NewRow, Question, Script};
+use crate::table::Kind;
 use csv::ByteRecord;
 use dim_hierarchy::{ConceptFault, ConceptId, DimFault, Hierarchy, Name};
 use row_ledger::{Call, Use};
@@ -54,6 +54,7 @@ pub(crate) fn take_record(
 }
 
 /// Adds what a record of this kind says.
+#[tactic(auto, using(crate::proofs::NumberFacts::numbers_more))]
 fn add_record(
     alloc: Global,
     script: &mut Script,
@@ -82,30 +83,25 @@ fn add_record(
             script.commands.push(Command::Query(question(alloc, row)?))?;
             Ok(())
         }
-        _ => {
-            script.commands.push(Command::Control(call(kind, row)))?;
+        Kind::Called(call) => {
+            script.commands.push(Command::Control(filled(call, row)))?;
             Ok(())
         }
     }
 }
 
-/// The call of a record of a kind that makes one.
-fn call(kind: Kind, row: &ByteRecord) -> Call
-    requires makes { IsTrue (is_some (call_by kind (fields_of row.now))) }
-    requires number { wrong_number 256 kind (fields_of row.now) ≡ false }
-    ensures { call_by kind (fields_of row.now) ≡ Some result }
+/// A call with the numbers of a record in place of its own.
+fn filled(call: Call, row: &ByteRecord) -> Call
+    requires { wrong_number 256 (kind.Called call) (fields_of row.now) ≡ false }
+    ensures { result ≡ filled call (fields_of row.now) }
 {
-    match kind {
-        Kind::Sync => Call::Sync(value_u8(field(row, 1))),
-        Kind::Split => Call::Split(value_u32(field(row, 1))),
-        Kind::Move => Call::Move(value_u32(field(row, 1)), value_u8(field(row, 2))),
-        Kind::Balance => Call::Balance(value_u8(field(row, 1))),
-        Kind::Barrier => Call::Barrier,
-        Kind::Settle => Call::Settle,
-        Kind::Shards => Call::Shards,
-        Kind::Tree => Call::Tree(value_u32(field(row, 1))),
-        Kind::Audit => Call::Audit,
-        _ => unreachable!(),
+    match call {
+        Call::Sync(_) => Call::Sync(value_u8(field(row, 1))),
+        Call::Split(_) => Call::Split(value_u32(field(row, 1))),
+        Call::Move(_, _) => Call::Move(value_u32(field(row, 1)), value_u8(field(row, 2))),
+        Call::Balance(_) => Call::Balance(value_u8(field(row, 1))),
+        Call::Tree(_) => Call::Tree(value_u32(field(row, 1))),
+        other => other,
     }
 }
 
