@@ -18,8 +18,8 @@ use std::alloc::{AllocError, Global};
 use volap_cell::{Actor, Cell, Command, Work};
 
 /// Pulls for the server of the image: what its boxes have grown by goes to the registry, and it lists the
-/// shards that stand. What the image owes stays, with its room. Takes memory for two listings and an event,
-/// before anything changes.
+/// shards that stand. What the image owes stays, with its room. Takes memory for the image's spots, for an
+/// event and, where what stands isn't listed yet, for a listing, before anything changes.
 pub fn sync(
     alloc: Global,
     h: &Hierarchy,

@@ -93,7 +93,7 @@ pub IsDescSetOf-one : (h : List Dimension) (at : Coord) (set : DescSet) → IsCo
 IsDescSetOf-one h at set a s = record { hierarchy = a.hierarchy; rows = at ∷ []; valid = All-cons (IsCoordOf h) at [] a (All-nil (IsCoordOf h)); set_of = s }
 
 -- parts that grew make a set that grew
-grown_set : (h : List Dimension) (at : Coord) (old new : DescSet) → length new.parts.items ≡ length old.parts.items → ((dim : ℕ) → dim < length h → GrowsPart (tree h dim) (concept_at at dim) (part_at old dim) (part_at new dim)) → GrowsBy h at old new
+pub grown_set : (h : List Dimension) (at : Coord) (old new : DescSet) → length new.parts.items ≡ length old.parts.items → ((dim : ℕ) → dim < length h → GrowsPart (tree h dim) (concept_at at dim) (part_at old dim) (part_at new dim)) → GrowsBy h at old new
 grown_set h at old new len g = record {
   grown = λ rows all s. record {
     count = len ∙ s.count;

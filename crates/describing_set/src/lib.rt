@@ -13,7 +13,7 @@ mod set;
 
 pub use bearing::Bearing;
 pub use few::{FewConcepts, MOST_OF_SET};
-pub use listing::{Listing, Spot};
+pub use listing::{Listing, SharedListing, Spot};
 pub use part::Part;
 pub use part_list::PartList;
 pub use path::Path;

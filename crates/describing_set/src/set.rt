@@ -93,6 +93,20 @@ impl DescSet {
         }
     }
 
+    /// Whether the set stays as it is when a coordinate is added, which it covers then.
+    pub fn keeps(&self, h: &Hierarchy, at: &Coord) -> bool
+        requires set { IsDescSetOf h.now self.now }
+        requires at { IsCoordOf h.now at.now }
+        ensures { OnTrue result (GrowsBy h.now at.now self.now self.now) }
+    {
+        for dim in 0..h.dims() {
+            if !self.part(h, dim).has_ancestor(h, dim, at.concept(dim)) {
+                return false;
+            }
+        }
+        true
+    }
+
     /// The set of the coordinates of both sets.
     pub fn join(&self, h: &Hierarchy, other: &DescSet) -> DescSet
         requires set { IsDescSetOf h.now self.now }

@@ -1,7 +1,7 @@
 //! What a history tells of.
 use crate::page::Page;
 use crate::settings::{Call, How};
-use describing_set::{Listing, Path};
+use describing_set::{Path, SharedListing};
 use dim_hierarchy::{Filter, Row};
 use measure_agg::Agg;
 
@@ -11,7 +11,7 @@ pub enum Event {
     /// The server knows these shards from here on; one for each server stands first.
     Synced {
         server: u8,
-        listing: Listing,
+        listing: SharedListing,
     },
     /// An insert of known leaf concepts begins; `row.no` is the place of this event.
     Begun {

@@ -1,7 +1,7 @@
 //! What an answer must and may count, read off the events one by one. A row's measure is a power of two of its own,
 //! so that rows are the sum of their measures, and an answer's sum tells which it counted.
 
-use describing_set::{DescSet, Listing};
+use describing_set::{DescSet, SharedListing};
 use dim_hierarchy::{ConceptId, Filter, Pick, Row};
 use measure_agg::Agg;
 use row_ledger::Event;
@@ -128,7 +128,7 @@ fn covers(set: &DescSet, row: &Row) -> bool {
 }
 
 /// The row that began at a place, if a box that is listed for a shard of its path covers it.
-fn boxed(all: &[Event], listing: &Listing, of: u64, path: &[u32]) -> u64 {
+fn boxed(all: &[Event], listing: &SharedListing, of: u64, path: &[u32]) -> u64 {
     let Some(Event::Begun { row, .. }) = all.get(of as usize) else {
         return 0;
     };
@@ -141,7 +141,7 @@ fn boxed(all: &[Event], listing: &Listing, of: u64, path: &[u32]) -> u64 {
 }
 
 /// What a server pulled last before a place.
-fn newest(all: &[Event], place: usize, server: u8) -> Option<&Listing> {
+fn newest(all: &[Event], place: usize, server: u8) -> Option<&SharedListing> {
     let mut last = None;
     for event in first(all, place) {
         if let Event::Synced {

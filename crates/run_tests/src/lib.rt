@@ -26,6 +26,8 @@ mod scripts;
 #[cfg(test)]
 mod shard_stories;
 #[cfg(test)]
+mod shared;
+#[cfg(test)]
 mod stories;
 #[cfg(test)]
 mod top;

@@ -2,10 +2,10 @@
 use Rattle.std.proofs.Common.{ℕ, zero, suc, ◌≡◌, ◌+◌, ◌<◌, List, [], ◌∷◌, ◌++◌, length, get_or, set, take, drop, refl, sym, ap, ◌∙◌, subst, arith, All, add-zero}
 use Rattle.std.specs.Prelude.{◌==◌}
 use Rattle.std.specs.List.{AllZip, range_with_len}
-use Rattle.std.proofs.lemmas.List.{append-nil, append_assoc, take_more_set, drop-set-lt, length-set, get_or-drop, drop-drop}
+use Rattle.std.proofs.lemmas.List.{append-nil, append_assoc, take_more, take_more_set, drop-set-lt, length-set, get_or-drop, drop-drop}
 use Rattle.std.proofs.lemmas.List.{map-id}
 use Rattle.std.proofs.lemmas.List.FromFn.{map-range_with_len_more}
-use Rattle.std.proofs.lemmas.List.Elements.{All-append, All-cons, All-nil, All-set, all_zip_more}
+use Rattle.std.proofs.lemmas.List.Elements.{All-append, All-cons, All-nil, All-set, All-take, all_zip_more}
 use Rattle.std.proofs.lemmas.List.Sorted.{IsPermutation-sym, IsPermutation-to_front, Contains-permutation}
 use Rattle.dim_hierarchy.specs.Dimension.{Dimension}
 use Rattle.dim_hierarchy.specs.Row.{IsCoordOf}
@@ -117,6 +117,13 @@ Grows-more h gs g (x ∷ xs) (y ∷ ys) (z ∷ zs) valid first second = (
       (subst (λ id. IsGrown h (along (g.shard ∷ []) g.at id) y z) first.0.shard second.0)),
   Grows-more h gs g xs ys zs valid first.1 second.1,
 )
+
+-- the growths up to a place, and then the one there
+pub noted-next : (h : List Dimension) (gs : List Growth) (i : ℕ) (g : Growth) (xs ys zs : List Spot) → i < length gs → g ≡ get_or gs i g → AreGrowths h gs
+    → Grows h (noted (take i gs)) xs ys → Grows h (along (g.shard ∷ []) g.at) ys zs → Grows h (noted (take (i + 1) gs)) xs zs
+noted-next h gs i g xs ys zs lt is valid first second =
+    subst (λ l. Grows h (noted l) xs zs) (sym (take_more gs i g lt ∙ ap (λ (x : Growth). take i gs ++ x ∷ []) (sym is)))
+    (Grows-more h (take i gs) g xs ys zs (All-take (λ (x : Growth). IsCoordOf h x.at) i gs valid) first second)
 
 -- The first shards.
 

@@ -6,8 +6,8 @@ ghost use Rattle.server_image.specs.Spots.{AreBoxes};
 
 use crate::rank::first_for;
 use crate::registry::Registry;
-use crate::spots::grow_spots;
-use describing_set::{Listing, Path, Spot};
+use crate::spots::{copy_spots, grow_spots};
+use describing_set::{Listing, Path, SharedListing, Spot};
 use dim_hierarchy::{Coord, Filter, Hierarchy};
 use std::alloc::{AllocError, Global};
 use std::marker::Model;
@@ -145,7 +145,7 @@ impl Image {
         alloc: Global,
         registry: &mut Registry,
         h: &Hierarchy,
-    ) -> Result<Listing, AllocError>
+    ) -> Result<SharedListing, AllocError>
         requires boxes { AreBoxes h.now registry.old.frontier }
         requires growths { AreGrowths h.now self.old.growths }
         ensures ok { IfOk result (IsSynced h.now self.old self.new registry.old registry.new) }
@@ -154,13 +154,11 @@ impl Image {
         ensures registry_err { OnErr result (registry.new ≡ registry.old) }
     {
         let mut spots = Vec::with_capacity(alloc, registry.len())?;
-        let mut listing = Vec::with_capacity(alloc, registry.len())?;
-        registry.push(&self.growths, h);
-        registry.copy_to(&mut spots);
-        registry.copy_to(&mut listing);
+        let listing = registry.pull(alloc, &self.growths, h)?;
+        copy_spots(listing.as_slice(), &mut spots);
         self.spots = spots;
         self.growths.clear();
-        Ok(Listing::from_vec(listing))
+        Ok(listing)
     }
 }
 

@@ -1,32 +1,37 @@
 //! All shards that were ever made.
-ghost use Rattle.std.specs.Prelude.{◌≡◌, ◌≢◌, ◌+◌, ◌<◌, ◌≤◌, ◌∷◌, ◌++◌, [], length, vec_len, vec_capacity, IsTrue, false, IfOk, OnOk, OnErr};
-ghost use Rattle.dim_hierarchy.specs.Row.{IsCoordOf};
-ghost use Rattle.server_image.specs.Spots.{AreBoxes, Grows, along};
+ghost use Rattle.std.specs.Prelude.{◌≡◌, ◌≢◌, ◌<◌, ◌≤◌, length, take, IsTrue, false, IfOk, OnOk, OnErr};
+ghost use Rattle.server_image.specs.Spots.{AreBoxes, Grows, spot_ids};
 ghost use Rattle.server_image.specs.Image.{noted, AreGrowths};
 
 use crate::image::Growth;
-use crate::spots::{copy_spots, grow_spots, has_spot, place_of, put_spot, worker_in};
-use describing_set::{DescSet, Listing, Spot};
-use dim_hierarchy::{Coord, Hierarchy};
+use crate::spots::{
+    copied, copy_spots, grow_spots, has_spot, keep_spots, place_of, put_spot, worker_in,
+};
+use describing_set::{DescSet, Listing, SharedListing, Spot};
+use dim_hierarchy::Hierarchy;
 use std::alloc::{AllocError, Global};
 use std::marker::Model;
 
 /// All shards that were ever made: those without successors, each with its worker and its box, and
-/// those that have successors.
+/// those that have successors. The listing that was handed out last is kept until the frontier changes,
+/// so that pulls between which nothing changes have one listing among them.
 #[derive(Drop)]
 pub struct Registry {
     frontier: Vec<Spot>,
+    listed: Option<SharedListing>,
     retired: Vec<Spot>,
 }
 
 impl Model for Registry {
+    ghost use Rattle.std.specs.Prelude.{◌≡◌, IfSome};
     ghost use Rattle.server_image.specs.Registry.{RegistryValue, IsRegistry};
 
     ghost Value = { RegistryValue };
 
     ghost view = { λ r. record { frontier = r.frontier.items; retired = r.retired.items } };
 
-    ghost invariant = { λ r. IsRegistry (record { frontier = r.frontier.items; retired = r.retired.items }) };
+    ghost invariant = { λ r. IsRegistry (record { frontier = r.frontier.items; retired = r.retired.items })
+        × IfSome r.listed (λ listing. listing ≡ r.frontier.items) };
 }
 
 impl Registry {
@@ -48,6 +53,7 @@ impl Registry {
         }
         Ok(Registry {
             frontier,
+            listed: None,
             retired: Vec::new(alloc),
         })
     }
@@ -73,17 +79,7 @@ impl Registry {
         ensures value { IfOk result (λ listing. listing ≡ self.now.frontier) }
         ensures valid { IsRegistry self.now }
     {
-        let mut spots = Vec::with_capacity(alloc, self.frontier.len())?;
-        copy_spots(&self.frontier, &mut spots);
-        Ok(Listing::from_vec(spots))
-    }
-
-    /// Adds copies of the frontier's spots at the end. Takes no memory: there is room.
-    pub(crate) fn copy_to(&self, spots: &mut Vec<Spot>)
-        requires { vec_len spots.old + length self.now.frontier ≤ vec_capacity spots.old }
-        ensures { spots.new.items ≡ spots.old.items ++ self.now.frontier }
-    {
-        copy_spots(&self.frontier, spots);
+        Ok(Listing::from_vec(copied(alloc, &self.frontier)?))
     }
 
     /// Whether a shard stands and has no successor.
@@ -100,31 +96,58 @@ impl Registry {
         worker_in(id, &self.frontier).or(worker_in(id, &self.retired))
     }
 
-    /// Grows the box of a shard of the frontier by a coordinate; for another id nothing changes. Takes
-    /// no memory.
-    fn grow(&mut self, id: u32, at: &Coord, h: &Hierarchy)
-        requires boxes { AreBoxes h.now self.old.frontier }
-        requires at { IsCoordOf h.now at.now }
-        ensures grown { Grows h.now (along (id ∷ []) at.now) self.old.frontier self.new.frontier }
-        ensures boxes { AreBoxes h.now self.new.frontier }
-        ensures retired { self.new.retired ≡ self.old.retired }
-    {
-        grow_spots(&mut self.frontier, &[id], at, h);
-    }
-
-    /// Grows the boxes of shards of the frontier by what was noted; other shards' growths are
-    /// dropped, as the boxes of their successors have them. Takes no memory.
-    pub(crate) fn push(&mut self, growths: &[Growth], h: &Hierarchy)
+    /// Grows the boxes of shards of the frontier by what was noted, and lists what stands then; other
+    /// shards' growths are dropped, as the boxes of their successors have them. Where no box changes, the
+    /// listing is the one of the pull before, unless the frontier has changed since.
+    pub(crate) fn pull(
+        &mut self,
+        alloc: Global,
+        growths: &[Growth],
+        h: &Hierarchy,
+    ) -> Result<SharedListing, AllocError>
         requires boxes { AreBoxes h.now self.old.frontier }
         requires growths { AreGrowths h.now growths.now }
-        ensures pushed { Grows h.now (noted growths.now) self.old.frontier self.new.frontier }
-        ensures boxes { AreBoxes h.now self.new.frontier }
+        ensures pushed { OnOk result (Grows h.now (noted growths.now) self.old.frontier self.new.frontier) }
+        ensures boxes { OnOk result (AreBoxes h.now self.new.frontier) }
+        ensures listing { IfOk result (λ listing. listing ≡ self.new.frontier) }
         ensures retired { self.new.retired ≡ self.old.retired }
         ensures len { length self.new.frontier ≡ length self.old.frontier }
+        ensures err { OnErr result (self.new ≡ self.old) }
     {
-        for growth in growths {
-            self.grow(growth.shard, &growth.at, h);
+        let known = known_of(&self.frontier, growths, h);
+        if known == growths.len() {
+            return self.listing(alloc);
         }
+        let mut grown = copied(alloc, &self.frontier)?;
+        grow_from(&mut grown, growths, known, h);
+        let listing = SharedListing::new(alloc, Listing::from_vec(grown))?;
+        let kept = listing.share()?;
+        self.put(kept);
+        Ok(listing)
+    }
+
+    /// What stands, as it was listed last; where it has changed since it is listed anew.
+    fn listing(&mut self, alloc: Global) -> Result<SharedListing, AllocError>
+        ensures value { IfOk result (λ listing. listing ≡ self.old.frontier) }
+        ensures unchanged { self.new ≡ self.old }
+    {
+        if let Some(listing) = &self.listed {
+            return listing.share();
+        }
+        let listing = SharedListing::new(alloc, self.frontier(alloc)?)?;
+        self.listed = Some(listing.share()?);
+        Ok(listing)
+    }
+
+    /// The spots of a listing of the same shards become the frontier's. Takes no memory.
+    fn put(&mut self, listing: SharedListing)
+        requires { spot_ids listing ≡ spot_ids self.old.frontier }
+        ensures frontier { self.new.frontier ≡ listing }
+        ensures retired { self.new.retired ≡ self.old.retired }
+    {
+        self.frontier.clear();
+        copy_spots(listing.as_slice(), &mut self.frontier);
+        self.listed = Some(listing);
     }
 
     /// Retires a shard of the frontier, in whose place stand two new ones of its worker, with these
@@ -146,6 +169,7 @@ impl Registry {
     {
         self.frontier.reserve(2)?;
         self.retired.reserve(1)?;
+        self.listed = None;
         let spot = self.frontier.remove(place_of(id, &self.frontier));
         let worker = spot.worker;
         self.retired.push_reserved(spot);
@@ -176,5 +200,37 @@ impl Registry {
         let place = place_of(id, &self.frontier);
         let spot = &mut self.frontier[place];
         spot.worker = worker;
+        self.listed = None;
+    }
+}
+
+/// How many growths come before the first one that changes a box.
+fn known_of(spots: &[Spot], growths: &[Growth], h: &Hierarchy) -> usize
+    requires boxes { AreBoxes h.now spots.now }
+    requires growths { AreGrowths h.now growths.now }
+    ensures few { result ≤ length growths.now }
+    ensures known { Grows h.now (noted (take result growths.now)) spots.now spots.now }
+{
+    for place in 0..growths.len() {
+        let growth = &growths[place];
+        if !keep_spots(spots, &[growth.shard], &growth.at, h) {
+            return place;
+        }
+    }
+    growths.len()
+}
+
+/// Grows the boxes of spots by what was noted from a place on; what comes before changes none.
+fn grow_from(spots: &mut Vec<Spot>, growths: &[Growth], from: usize, h: &Hierarchy)
+    requires boxes { AreBoxes h.now spots.old.items }
+    requires growths { AreGrowths h.now growths.now }
+    requires few { from ≤ length growths.now }
+    requires known { Grows h.now (noted (take from growths.now)) spots.old.items spots.old.items }
+    ensures grown { Grows h.now (noted growths.now) spots.old.items spots.new.items }
+    ensures boxes { AreBoxes h.now spots.new.items }
+{
+    for place in from..growths.len() {
+        let growth = &growths[place];
+        grow_spots(spots, &[growth.shard], &growth.at, h);
     }
 }

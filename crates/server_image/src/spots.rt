@@ -1,5 +1,6 @@
 //! Lists of spots in the order of their ids.
-ghost use Rattle.std.specs.Prelude.{◌≡◌, ◌==◌, ◌+◌, ◌<◌, ◌≤◌, ◌++◌, nat_lt, length, vec_len, vec_capacity};
+ghost use Rattle.std.specs.Prelude.{◌≡◌, ◌==◌, ◌+◌, ◌<◌, ◌≤◌, ◌++◌, nat_lt, length, vec_len, vec_capacity, IfOk};
+ghost use Rattle.std.specs.Bool.{OnTrue};
 ghost use Rattle.std.specs.List.{position_or_len, position};
 ghost use Rattle.dim_hierarchy.specs.Row.{IsCoordOf};
 ghost use Rattle.describing_set.specs.Sets.{IsDescSetOf};
@@ -7,6 +8,7 @@ ghost use Rattle.server_image.specs.Spots.{AreBoxes, is_among, has_spot, place_o
 
 use describing_set::{DescSet, Spot};
 use dim_hierarchy::{Coord, Hierarchy};
+use std::alloc::{AllocError, Global};
 
 /// Whether a spot has this id.
 pub fn has_spot(id: u32, spots: &[Spot]) -> bool
@@ -79,6 +81,15 @@ pub fn copy_spots(spots: &[Spot], into: &mut Vec<Spot>)
     }
 }
 
+/// Copies of these spots.
+pub fn copied(alloc: Global, spots: &[Spot]) -> Result<Vec<Spot>, AllocError>
+    ensures { IfOk result (λ copies. copies.items ≡ spots.now) }
+{
+    let mut copies = Vec::with_capacity(alloc, spots.len())?;
+    copy_spots(spots, &mut copies);
+    Ok(copies)
+}
+
 /// Whether the id is one of these.
 fn is_among(ids: &[u32], id: u32) -> bool
     ensures { result ≡ is_among ids.now id }
@@ -110,4 +121,31 @@ pub fn grow_spots(spots: &mut Vec<Spot>, ids: &[u32], at: &Coord, h: &Hierarchy)
     for place in 0..spots.len() {
         grow_spot(&mut spots[place], ids, at, h);
     }
+}
+
+/// Whether a spot has none of these ids, or its box stays as it is when the coordinate is added.
+fn keeps_spot(spot: &Spot, ids: &[u32], at: &Coord, h: &Hierarchy) -> bool
+    requires box_of { IsDescSetOf h.now spot.now.set }
+    requires at { IsCoordOf h.now at.now }
+    ensures { OnTrue result (IsGrown h.now (along ids.now at.now spot.now.shard) spot.now spot.now) }
+{
+    if is_among(ids, spot.shard) {
+        DescSet::laws(h);
+        return spot.set.keeps(h, at);
+    }
+    true
+}
+
+/// Whether the box of each spot of these ids stays as it is when the coordinate is added.
+pub fn keep_spots(spots: &[Spot], ids: &[u32], at: &Coord, h: &Hierarchy) -> bool
+    requires boxes { AreBoxes h.now spots.now }
+    requires at { IsCoordOf h.now at.now }
+    ensures { OnTrue result (Grows h.now (along ids.now at.now) spots.now spots.now) }
+{
+    for place in 0..spots.len() {
+        if !keeps_spot(&spots[place], ids, at, h) {
+            return false;
+        }
+    }
+    true
 }

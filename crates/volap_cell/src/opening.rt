@@ -10,7 +10,7 @@ use crate::role::RoleList;
 use crate::state::{State, put_three};
 use cell_stock::{Purse, Stock};
 use dc_node::Block;
-use describing_set::DescSet;
+use describing_set::{DescSet, SharedListing};
 use dim_hierarchy::Hierarchy;
 use mapping_table::{MapTable, Where};
 use measure_agg::Agg;
@@ -35,8 +35,9 @@ fn first_pulls(alloc: Global, servers: u8, registry: &Registry) -> Result<Ledger
 {
     let mut ledger = Ledger::new(alloc);
     ledger.reserve(u64::from(servers))?;
+    let first = SharedListing::new(alloc, registry.frontier(alloc)?)?;
     for server in 0..servers {
-        let listing = registry.frontier(alloc)?;
+        let listing = first.share()?;
         ledger.push(Event::Synced { server, listing });
     }
     Ok(ledger)

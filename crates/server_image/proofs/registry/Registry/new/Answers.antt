@@ -30,8 +30,10 @@ invariant_of-result c =
     let ids = first-ids c.args.h.now (range_with_len 0 w) xs c.loop-worker.invariant.0 in
     let n = ap length ids in
     let m = length-map xs (λ (s : Spot). s.shard) in
-    let r = length-range_with_len 0 w in
-    record {
-      some = omega (arith, n, m, r, c.requires, c.loop-worker-test.false);
-      ascending = subst Ascends (sym ids) (range-Ascends 0 w);
-    }
+    let r = length-range_with_len 0 w in (
+      record {
+        some = omega (arith, n, m, r, c.requires, c.loop-worker-test.false);
+        ascending = subst Ascends (sym ids) (range-Ascends 0 w);
+      },
+      tt,
+    )

@@ -24,13 +24,15 @@ invariant_of-self c =
     let place = c.place_of-place.result in
     let spot = c.index_mut-spot.result.now in
     let new : Spot = record { shard = spot.shard; worker = c.args.worker; set = spot.set } in
-    let some = c.self.invariant.some in
+    let some = c.self.invariant.0.some in
     let n = length-set xs place new in
-    let same = map-set_same (λ (s : Spot). s.shard) xs place new spot (ap (λ (s : Spot). s.shard) c.index_mut-spot.ensures.value) in
-    record {
-      some = omega (arith, n, some);
-      ascending = subst Ascends (sym same) c.self.invariant.ascending;
-    }
+    let same = map-set_same (λ (s : Spot). s.shard) xs place new spot (ap (λ (s : Spot). s.shard) c.index_mut-spot.ensures.value) in (
+      record {
+        some = omega (arith, n, some);
+        ascending = subst Ascends (sym same) c.self.invariant.0.ascending;
+      },
+      tt,
+    )
 
 pub returns : goal.returns
 returns c =

@@ -30,9 +30,11 @@ invariant_of-self-2 c =
     c.put_spot-2.ensures.spots ∙ ap (with_spot right) (c.put_spot.ensures.spots ∙ ap (with_spot left) out) in
     let new_left = subst (λ (v : RegistryValue). on_frontier c.args.left v ≡ false) (sym c.self.view_is) c.requires.left in
     let new_right = subst (λ (v : RegistryValue). on_frontier c.args.right v ≡ false) (sym c.self.view_is) c.requires.right in
-    let old = c.self.inside.retired.items in
-    subst (λ (l : List Spot). IsRegistry (record { frontier = l; retired = c.push_reserved.new.self.items })) (sym all)
-    (IsRegistry-split id left right xs old c.push_reserved.new.self.items c.self.invariant (not_in c.args.left xs new_left) (not_in c.args.right xs new_right) c.requires.apart)
+    let old = c.self.inside.retired.items in (
+      subst (λ (l : List Spot). IsRegistry (record { frontier = l; retired = c.push_reserved.new.self.items })) (sym all)
+          (IsRegistry-split id left right xs old c.push_reserved.new.self.items c.self.invariant.0 (not_in c.args.left xs new_left) (not_in c.args.right xs new_right) c.requires.apart),
+      tt,
+    )
 
 pub returns-clause-ok : goal.returns-clause-ok
 returns-clause-ok c =

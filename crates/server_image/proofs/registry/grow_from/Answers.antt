@@ -1,0 +1,27 @@
+use Rattle.std.proofs.Common.{subst, sym, arith}
+use Rattle.std.proofs.lemmas.List.{take_all}
+use Rattle.dim_hierarchy.specs.Row.{IsCoordOf}
+use Rattle.server_image.specs.declared.image.Growth.{Growth}
+use Rattle.server_image.specs.Spots.{Grows}
+use Rattle.server_image.specs.Image.{noted}
+use Rattle.server_image.proofs.Boxes.{noted-next}
+use Rattle.server_image.proofs.registry.grow_from.Goals as goal
+
+pub loop-place-init : goal.loop-place-init
+loop-place-init c = (c.requires.known, c.requires.boxes)
+
+pub grow_spots-requires-clause-at : goal.grow_spots-requires-clause-at
+grow_spots-requires-clause-at c =
+    subst (λ (g : Growth). IsCoordOf c.args.h.now g.at) (sym c.index-growths-place.is) (c.requires.growths c.loop-place.place c.index-growths-place.result c.loop-place-test.true)
+
+pub loop-place-preserved : goal.loop-place-preserved
+loop-place-preserved c = (
+  noted-next c.args.h.now c.args.growths.now c.loop-place.place c.index-growths-place.result c.args.spots.now.items c.loop-place.spots.items c.grow_spots.new.spots.items
+      c.loop-place-test.true c.index-growths-place.is c.requires.growths c.loop-place.invariant.0 c.grow_spots.ensures.grown,
+  c.grow_spots.ensures.boxes,
+)
+
+pub returns-clause-grown : goal.returns-clause-grown
+returns-clause-grown c =
+    subst (λ l. Grows c.args.h.now (noted l) c.args.spots.now.items c.loop-place.spots.items)
+    (take_all c.loop-place.place c.args.growths.now (omega (arith, c.loop-place-test.false))) c.loop-place.invariant.0
