@@ -11,6 +11,7 @@ use Rattle.row_ledger.specs.declared.event.Event.TheVariants.{Refused, Unknown}
 use Rattle.row_ledger.proofs.Changes.{quiet}
 use Rattle.row_ledger.proofs.Growth.{KeepsRight-refused, KeepsRight-unknown}
 use Rattle.volap_cell.specs.Cells.{CellValue, LedgerCell}
+use Rattle.volap_cell.specs.Commands.{server_of}
 use Rattle.volap_cell.specs.Falls.{Begins, is_split_or_move, left}
 use Rattle.volap_cell.specs.Ghost.{Ghost}
 use Rattle.volap_cell.specs.ImageKinds.{DoesNote, NotesRefused, NotesUnknown, OfRefused, OfUnknown, Pushes}
@@ -24,7 +25,6 @@ use Rattle.volap_cell.specs.View.{View, view, row_at}
 use Rattle.volap_cell.specs.World.{World, Change, Agrees, after, change}
 use Rattle.volap_cell.specs.declared.command.Command.{Command}
 use Rattle.volap_cell.specs.declared.kind.Kind.TheVariants as kind
-use Rattle.volap_cell.specs.declared.role.Role.TheVariants.{Session}
 use Rattle.volap_cell.proofs.BookViews.{by_refusal, view-note_refused, view-note_unknown}
 use Rattle.volap_cell.proofs.Books.{EventNew, one-event}
 use Rattle.volap_cell.proofs.Frames.{actor-at, actor-off}
@@ -173,10 +173,10 @@ unknown-keeps hierarchy l a b d few s w n g i_same i ag sight =
     let here : (x : NotesUnknown l (w.actors n) b) × IsFew x.pushed = subst (λ (z : ActorValue). (x : NotesUnknown l z b) × IsFew x.pushed) (sym ag.actor_is) (d, few) in
     let agrees : Agrees w (l ∷ []) n (w.actors n) = record { cells = ag.cells; actor_is = refl; free = λ x ne. ag.free x ne } in
     let x = here.0 in
-    refusal-kept (Unknown (w.actors n).number x.server x.dim) l b s w n g i agrees
+    refusal-kept (Unknown (w.actors n).number (server_of (w.actors n).role) x.dim) l b s w n g i agrees
     (record { is_quiet_one = refl; begins = refl; over = refl; by = refl; no_insert = refl; no_query = refl; no_work = λ of. refl; no_shard = refl })
     x.free.command x.pushed here.1 x.actor_is (view-note_unknown s w n l (w.actors n) b agrees x)
-    (KeepsRight-unknown (site_in s) g.placed (view s w).history (w.actors n).number x.server x.dim i.telling.right) (OfUnknown x) tt
+    (KeepsRight-unknown (site_in s) g.placed (view s w).history (w.actors n).number (server_of (w.actors n).role) x.dim i.telling.right) (OfUnknown x) tt
 
 pub refused-keeps : (hierarchy : List Dimension) (l : Change) (a b : ActorValue) (d : NotesRefused l a b) → IsFew d.pushed → Keeps hierarchy kind.Note (l ∷ []) a b (OfRefused d)
 refused-keeps hierarchy l a b d few s w n g i_same i ag sight =
@@ -190,15 +190,13 @@ refused-keeps hierarchy l a b d few s w n g i_same i ag sight =
 
 -- The kind was done.
 
-pub unknown-makes : (hs : List Dimension) (ledger_at : ℕ) (ledger : CellValue) (a : ActorValue) → CanNoteUnknown ledger a → (dim : ℕ) (lv : LedgerValue) → ledger ≡ LedgerCell lv → (lv2 : LedgerValue) → (server : ℕ) → a.role ≡ Session server
+pub unknown-makes : (hs : List Dimension) (ledger_at : ℕ) (ledger : CellValue) (a : ActorValue) → CanNoteUnknown ledger a → (dim : ℕ) (lv : LedgerValue) → ledger ≡ LedgerCell lv → (lv2 : LedgerValue) → (server : ℕ) → server ≡ server_of a.role
     → Notes (Unknown a.number server dim) 1 1 lv lv2 → (seen : ℕ) → seen ≡ length lv2.history → Makes hs kind.Note (change ledger_at ledger (LedgerCell lv2) ∷ []) a (record a { seen = seen })
-unknown-makes hs ledger_at ledger a due dim lv ledger_is lv2 server role notes seen all_seen =
+unknown-makes hs ledger_at ledger a due dim lv ledger_is lv2 server is notes seen all_seen =
     let d : NotesUnknown (change ledger_at ledger (LedgerCell lv2)) a (record a { seen = seen }) = record {
       free = due.free;
-      server = server;
-      role = role;
       dim = dim;
-      pushed = record { ledger = lv; ledger_now = lv2; was = ledger_is; is = refl; history = notes.history; promised = notes.promised; all_seen = all_seen };
+      pushed = record { ledger = lv; ledger_now = lv2; was = ledger_is; is = refl; history = notes.history ∙ ap (λ (s : ℕ). Unknown a.number s dim ∷ lv.history) is; promised = notes.promised; all_seen = all_seen };
       actor_is = refl;
     } in
     record { does = OfUnknown d; keeps = unknown-keeps hs _ a _ d notes.few }

@@ -9,11 +9,12 @@ use Rattle.row_ledger.specs.declared.event.Event.{Event}
 use Rattle.row_ledger.specs.declared.event.Event.TheVariants as event
 use Rattle.server_image.specs.Image.{ImageValue}
 use Rattle.volap_cell.specs.Cells.{CellValue, DeskCell, DeskOf, ImageCell, ImageOf, LedgerCell, tag_of}
+use Rattle.volap_cell.specs.Commands.{server_of}
 use Rattle.volap_cell.specs.Values.{ActorValue}
 use Rattle.volap_cell.specs.declared.role.Role.TheVariants.{Session}
 use Rattle.core_image.specs.Asking.{Asks}
 use Rattle.core_image.specs.NotesDue.{Notes, Opens}
-use Rattle.core_image.specs.Told.{Tells, asked_by, begun_by, server_of, unknown_by}
+use Rattle.core_image.specs.Told.{Tells, asked_by, begun_by, unknown_by}
 
 pub tells : (event_of : ActorValue → ℕ → Event) (a : ActorValue) (ledger : CellValue) (lv lv2 : LedgerValue) → ledger ≡ LedgerCell lv → lv2.history ≡ event_of a (length lv.history) ∷ lv.history
     → Tells event_of a ledger (LedgerCell lv2)
@@ -43,7 +44,7 @@ tells-asked h filter a desk ledger due role tag server dv desk_is iv lv ledger_i
     tells (asked_by filter) a ledger lv lv2 ledger_is
     (asks.history ∙ ap (λ (s : ℕ). event.Asked a.number s filter ∷ lv.history) (server-is a server due role servers))
 
-pub tells-unknown : (dim : ℕ) (a : ActorValue) (ledger : CellValue) (lv lv2 : LedgerValue) → ledger ≡ LedgerCell lv → (server : ℕ) → a.role ≡ Session server
+pub tells-unknown : (dim : ℕ) (a : ActorValue) (ledger : CellValue) (lv lv2 : LedgerValue) → ledger ≡ LedgerCell lv → (server : ℕ) → server ≡ server_of a.role
     → Notes (event.Unknown a.number server dim) 1 1 lv lv2 → Tells (unknown_by dim) a ledger (LedgerCell lv2)
-tells-unknown dim a ledger lv lv2 ledger_is server role notes =
-    tells (unknown_by dim) a ledger lv lv2 ledger_is (notes.history ∙ ap (λ (s : ℕ). event.Unknown a.number s dim ∷ lv.history) (ap server_of (sym role)))
+tells-unknown dim a ledger lv lv2 ledger_is server is notes =
+    tells (unknown_by dim) a ledger lv lv2 ledger_is (notes.history ∙ ap (λ (s : ℕ). event.Unknown a.number s dim ∷ lv.history) is)

@@ -51,11 +51,9 @@ pub record Opens (e : Event) (image image_now : ImageValue) (ledger ledger_now :
   pub owes : image_now ≡ record image { owed = image.owed + 1 }
   pub notes : Notes e 2 1 ledger ledger_now
 
--- a session that does nothing notes a command that names what isn't known
+-- whoever does nothing notes a command that names what isn't known
 pub record CanNoteUnknown (ledger : CellValue) (a : ActorValue) : Type 0 where
   pub free : IsFree a
-  pub server : ℕ
-  pub role : a.role ≡ Session server
   pub ledger_is : tag_of ledger ≡ TheLedger
 
 -- whoever does nothing notes a command for which there was no memory

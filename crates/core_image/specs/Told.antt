@@ -6,14 +6,8 @@ use Rattle.row_ledger.specs.declared.event.Event.{Event}
 use Rattle.row_ledger.specs.declared.event.Event.TheVariants as event
 use Rattle.row_ledger.specs.declared.settings.Call.{Call}
 use Rattle.volap_cell.specs.Cells.{CellValue, ledger_in}
+use Rattle.volap_cell.specs.Commands.{server_of}
 use Rattle.volap_cell.specs.Values.{ActorValue}
-use Rattle.volap_cell.specs.declared.role.Role.{Role}
-use Rattle.volap_cell.specs.declared.role.Role.TheVariants.{Session}
-
--- the server of a session
-abbrev pub server_of : Role → ℕ
-server_of (Session server) = server
-server_of role = 0
 
 -- What an actor's event is, at its place in the history.
 

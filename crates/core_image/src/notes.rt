@@ -4,6 +4,7 @@ ghost use Rattle.core_image.specs.NotesDue.{CanNoteRefused, CanNoteUnknown, Note
 ghost use Rattle.row_ledger.specs.declared.event.Event.TheVariants.{Refused, Unknown};
 ghost use Rattle.core_image.specs.Told.{Tells, refused_by, unknown_by};
 ghost use Rattle.volap_cell.specs.Cells.{cell_of};
+ghost use Rattle.volap_cell.specs.Commands.{server_of};
 ghost use Rattle.volap_cell.specs.Steps.{IsHere, Makes};
 ghost use Rattle.volap_cell.specs.Values.{actor_of};
 ghost use Rattle.volap_cell.specs.World.{change, held};
@@ -14,7 +15,7 @@ use row_ledger::{Event, Ledger};
 use std::alloc::AllocError;
 use volap_cell::{Actor, Cell, Role};
 
-/// Notes that an insert or a query of the actor's names what is not known, first in this dimension.
+/// Notes that a command of the actor's names what is not known, first in this dimension.
 /// It ends with that. Takes memory for the one event, of the ledger's allocator.
 pub fn note_unknown(
     h: &Hierarchy,
@@ -33,10 +34,7 @@ pub fn note_unknown(
     let Cell::Ledger(ledger) = ledger else {
         unreachable!()
     };
-    let Role::Session { server } = actor.role else {
-        unreachable!()
-    };
-    push_unknown(ledger, actor.number, server, dim)?;
+    push_unknown(ledger, actor.number, server_of(actor.role), dim)?;
     actor.seen = ledger.len();
     Ok(())
 }
@@ -62,6 +60,17 @@ pub fn note_refused(
     push_refused(ledger, actor.number)?;
     actor.seen = ledger.len();
     Ok(())
+}
+
+/// The server in the events of an actor's commands: a session's own; a called command has none, for
+/// which 0 stands.
+fn server_of(role: Role) -> u8
+    ensures { result ≡ server_of role }
+{
+    match role {
+        Role::Session { server } => server,
+        _ => 0,
+    }
 }
 
 /// Notes a command that names what is not known, where the ledger has or finds room.

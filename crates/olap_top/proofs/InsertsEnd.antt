@@ -1,15 +1,14 @@
 -- In a right history an insert that is over was acknowledged, or ended for want of memory.
 use Rattle.std.proofs.Common.{◌≡◌, ◌∙◌, ◌⊎◌, inl, inr, ℕ, Bool, true, false, List, [], ◌∷◌, length, refl, sym, ap, IsTrue}
-use Rattle.std.specs.Prelude.{Option, Some, None, ◌||◌, find, is_none, position, if◌then◌else◌}
+use Rattle.std.specs.Prelude.{Option, Some, None, ◌||◌, find, if◌then◌else◌}
 use Rattle.std.specs.List.{AllZip}
 use Rattle.std.specs.Option.{option_map_or}
 use Rattle.std.proofs.lemmas.Bool.{and_parts, cases_lt, eqb-true, false≢true}
 use Rattle.dim_hierarchy.specs.Dimension.{Dimension}
-use Rattle.dim_hierarchy.specs.Row.{leaves}
 use Rattle.dim_hierarchy.specs.declared.row.Row.{Row}
 use Rattle.row_ledger.proofs.Fresh.{fresh-newest}
 use Rattle.row_ledger.proofs.Positions.{event_at-older}
-use Rattle.row_ledger.specs.Past.{call_at, ends_itself, event_at, has_ended, is_end_of, is_over, query_at}
+use Rattle.row_ledger.specs.Past.{before, call_at, ends_itself, event_at, has_ended, is_end_of, is_over, query_at}
 use Rattle.row_ledger.specs.Right.{EachEvent, Stands}
 use Rattle.row_ledger.specs.Site.{Site}
 use Rattle.row_ledger.specs.declared.event.Event.{Event}
@@ -18,7 +17,7 @@ use Rattle.row_ledger.specs.declared.settings.Use.{Use}
 use Rattle.script_form.specs.declared.script.Command.{Command}
 use Rattle.script_form.specs.declared.script.Command.TheVariants.{Control, Insert, Query}
 use Rattle.script_run.specs.Places.{are_over, end_of, is_over_at}
-use Rattle.script_run.specs.Runs.{Begins, BeginsAt, InsertEnds}
+use Rattle.script_run.specs.Runs.{Begins, BeginsAt, InsertEnds, first_unknown}
 use Rattle.olap_top.proofs.Zips.{AllZip-weaker}
 
 -- how an insert may have ended
@@ -86,7 +85,7 @@ insert-ends site usable with h history each (Insert new) (Some p) begins over = 
     as-end (inl acked) = inl acked
     as-end (inr failed) = inr (inl failed)
 
-    by : position is_none (leaves h new.names) ≡ None → (e : Event) → event_at history p ≡ Some e → Begins with h (Insert new) e
+    by : first_unknown h (Insert new) ≡ None → (e : Event) → event_at history p ≡ Some e → Begins with h (before history p) (Insert new) e
         → ((path : List ℕ) × (end_of history p ≡ Some (event.Acked p path))) ⊎ (end_of history p ≡ Some (event.Failed p)) ⊎ (event_at history p ≡ Some (event.Refused new.server))
     by known (event.Begun session server row) at is = as-end (has-end site usable history p session server row each at (begun-over history p session server row at over))
     by known (event.Unknown session server dim) at is = absurd (let never : ◌≡◌ {A = Option ℕ} None (Some dim) = sym known ∙ is.2 in cc)

@@ -35,7 +35,7 @@ pub enum Event {
         of: u64,
         agg: Agg,
     },
-    /// An insert or a query names what is not known, first in this dimension. It ends with this.
+    /// A command names what is not known, first in this dimension. It ends with this.
     Unknown {
         session: u16,
         server: u8,

@@ -9,7 +9,7 @@ use Rattle.row_ledger.specs.declared.event.Event.{Event}
 use Rattle.row_ledger.specs.declared.event.Event.TheVariants.{Called}
 use Rattle.row_ledger.specs.declared.settings.Call.{Call}
 use Rattle.row_ledger.specs.declared.settings.Use.{Use}
-use Rattle.row_ledger.specs.Past.{event_at}
+use Rattle.row_ledger.specs.Past.{before, event_at}
 use Rattle.script_form.specs.declared.script.Command.{Command}
 use Rattle.script_form.specs.declared.script.Command.TheVariants.{Insert, Query, Control}
 use Rattle.script_run.proofs.Begin.{bool-or}
@@ -71,16 +71,16 @@ all-zip-at R (x ∷ xs) (y ∷ ys) zero d all h = (x, refl, all.0)
 all-zip-at R (x ∷ xs) (y ∷ ys) (suc i) d all h = all-zip-at R xs ys i d all.1 (omega arith)
 
 -- the command that is called by an event closes its phase where the call does
-calls-closing : (with : Use) (h : List Dimension) (session : ℕ) (call : Call) (c : Command) → Begins with h c (Called session call) → is_closing (class_of call) ≡ true → closes c ≡ true
-calls-closing with h session call (Insert new) begins is = absurd begins
-calls-closing with h session call (Query question) begins is = absurd begins
-calls-closing with h session call (Control called) begins is = ap (λ (x : Call). is_closing (class_of x)) (sym begins.1) ∙ is
+calls-closing : (with : Use) (h : List Dimension) (past : List Event) (session : ℕ) (call : Call) (c : Command) → Begins with h past c (Called session call) → is_closing (class_of call) ≡ true → closes c ≡ true
+calls-closing with h past session call (Insert new) begins is = absurd begins
+calls-closing with h past session call (Query question) begins is = absurd begins
+calls-closing with h past session call (Control called) begins is = ap (λ (x : Call). is_closing (class_of x)) (sym begins.1) ∙ is
 
 begun-closing : (with : Use) (h : List Dimension) (history : List Event) (session : ℕ) (call : Call) (c : Command) (of : ℕ) → BeginsAt with h history c (Some of)
     → event_at history of ≡ Some (Called session call) → is_closing (class_of call) ≡ true → closes c ≡ true
 begun-closing with h history session call c of begun at is =
     let same : begun.0 ≡ Called session call = (let first = begun.1 in cc) in
-    calls-closing with h session call c (subst (Begins with h c) same begun.2) is
+    calls-closing with h (before history of) session call c (subst (Begins with h (before history of) c) same begun.2) is
 
 -- where two commands have their places, the one of the lower rank ends before the other begins
 ends-by-rank : (with : Use) (h : List Dimension) (commands : List Command) (history : List Event) → IsRunSoFar with h commands history → (i j p q : ℕ) → i < j → j < length commands

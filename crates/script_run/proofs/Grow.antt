@@ -31,7 +31,9 @@ within history p e at =
 
 begins-older : (with : Use) (h : List Dimension) (e : Event) (history : List Event) (c : Command) (o : Option ℕ) → BeginsAt with h history c o → BeginsAt with h (e ∷ history) c o
 begins-older with h e history c None b = tt
-begins-older with h e history c (Some p) (b, at, begins) = (b, event_at-older e history p (within history p b at) ∙ at, begins)
+begins-older with h e history c (Some p) (b, at, begins) =
+    let low = within history p b at in
+    (b, event_at-older e history p low ∙ at, subst (λ past. Begins with h past c b) (sym (before-older e history p (omega arith))) begins)
 
 -- a place of a command that has begun is in the history
 place-within : (with : Use) (h : List Dimension) (history : List Event) (c : Command) (o : Option ℕ) → BeginsAt with h history c o → (q : ℕ) → o ≡ Some q → q < length history
@@ -77,7 +79,7 @@ other with h commands waits e history place none pulls part = record {
 }
 
 -- a beginning pulls nothing
-begins-pulls : (with : Use) (h : List Dimension) (c : Command) (e : Event) (history : List Event) → Begins with h c e → HasPulls with history e
+begins-pulls : (with : Use) (h : List Dimension) (c : Command) (e : Event) (history : List Event) → Begins with h history c e → HasPulls with history e
 begins-pulls with h (Insert new) (Ended of how) history begins = absurd begins
 begins-pulls with h (Query question) (Ended of how) history begins = absurd begins
 begins-pulls with h (Control called) (Ended of how) history begins = absurd begins
@@ -104,7 +106,7 @@ begin with h commands waits e history place now k next has part = record {
   begun = λ i c at. elim (same-or i k) [
     | inl is ↦ subst (λ o. BeginsAt with h (e ∷ history) c o) (sym (ap now is ∙ has.here))
         (subst (λ (x : Command). BeginsAt with h (e ∷ history) x (Some (length history))) (same-command commands k next.command c next.at (subst (λ n. slice_get commands n ≡ Some c) is at))
-        (e, event_at-here e history, next.begins))
+        (e, event_at-here e history, subst (λ past. Begins with h past next.command e) (sym (before-here e history)) next.begins))
     | inr not ↦ subst (λ o. BeginsAt with h (e ∷ history) c o) (sym (has.others i not)) (begins-older with h e history c (place i) (part.begun i c at))
   ];
   only = λ p b at beginning. elim (below-or p (length history)) [

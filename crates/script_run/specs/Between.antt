@@ -66,7 +66,7 @@ abbrev pub OrderBeginLaw : Type 0
 OrderBeginLaw = (with : Use) (h : List Dimension) (front : List Command) (c : Command) (back : List Command) (e : Event) (history : List Event)
     → ((i : ℕ) → i < length front → (p : ℕ) × (place_in with (front ++ c ∷ back) history i ≡ Some p) × IsTrue (is_over history p))
     → count_of with (session_of with c) front ≡ length (begins_of history (session_of with c))
-    → session_in e ≡ Some (session_of with c) → Begins with h c e
+    → session_in e ≡ Some (session_of with c) → Begins with h history c e
     → IsInOrder with h (front ++ c ∷ back) history → IsInOrder with h (front ++ c ∷ back) (e ∷ history)
 
 -- Closing commands.

@@ -24,7 +24,7 @@ pub record IsNext (with : Use) (h : List Dimension) (commands : List Command) (w
   pub command : Command
   pub at : slice_get commands k ≡ Some command
   pub none : place k ≡ None
-  pub begins : Begins with h command e
+  pub begins : Begins with h history command e
   pub waited : (i : ℕ) (c : Command) → slice_get commands i ≡ Some c → waits i k → (p : ℕ) × (place i ≡ Some p) × IsTrue (is_over history p)
   pub itself : waits k k → ⊥
 

@@ -23,6 +23,12 @@ session_of with (Insert new) = new.server
 session_of with (Query question) = question.server
 session_of with (Control called) = session_of_call with (class_of called)
 
+-- the server of a command; a called one has none, for which its events have 0
+abbrev pub server_for : Command → ℕ
+server_for (Insert new) = new.server
+server_for (Query question) = question.server
+server_for (Control called) = 0
+
 -- how many commands are of a session
 abbrev pub count_of : Use → ℕ → List Command → ℕ
 count_of with session commands = count_by (λ c. session_of with c == session) commands

@@ -13,12 +13,13 @@ use Rattle.row_ledger.specs.declared.settings.Use.{Use}
 use Rattle.row_ledger.specs.Past.{event_at, before, is_over, is_beginning, call_at}
 use Rattle.row_ledger.specs.Right.{EachEvent}
 use Rattle.row_ledger.specs.Settled.{pulls_since, settle_pulls}
+use Rattle.row_ledger.specs.Site.{known}
 use Rattle.row_ledger.specs.declared.settings.How.{How}
 use Rattle.row_ledger.specs.declared.settings.How.TheVariants.{Fine, NoMemory}
 use Rattle.script_form.specs.declared.script.Command.{Command}
 use Rattle.script_form.specs.declared.script.Command.TheVariants.{Insert, Query, Control}
 use Rattle.script_run.specs.Phases.{phases_to, ranks}
-use Rattle.script_run.specs.Places.{session_of, session_of_call, places, are_over, end_of}
+use Rattle.script_run.specs.Places.{session_of, session_of_call, server_for, places, are_over, end_of}
 
 -- How a command begins, and that one ends before another begins.
 
@@ -27,28 +28,33 @@ abbrev pub can_be_refused : Class → Bool
 can_be_refused Bare = false
 can_be_refused class = true
 
--- An event begins a command, with the command's session: an insert or a query with its server and what its names
--- stand for, or with the first dimension in which one is not known; a command of another kind as that call; or, but
--- for a barrier, it is refused.
-abbrev pub Begins : Use → List Dimension → Command → Event → Type 0
-Begins with h (Insert new) (Begun session server row) =
-    (session ≡ new.server) × (server ≡ new.server) × (row.measures ≡ new.measures) × IsCoordNamed h new.names row.at
-Begins with h (Insert new) (Unknown session server dim) =
-    (session ≡ new.server) × (server ≡ new.server) × (position is_none (leaves h new.names) ≡ Some dim)
-Begins with h (Insert new) (Refused session) = session ≡ new.server
-Begins with h (Query question) (Asked session server filter) =
-    (session ≡ question.server) × (server ≡ question.server) × IsFilterNamed h question.filter filter
-Begins with h (Query question) (Unknown session server dim) =
-    (session ≡ question.server) × (server ≡ question.server) × (position is_none (picks h question.filter) ≡ Some dim)
-Begins with h (Query question) (Refused session) = session ≡ question.server
-Begins with h (Control called) (Refused session) = (session ≡ session_of_call with (class_of called)) × IsTrue (can_be_refused (class_of called))
-Begins with h (Control called) (Called session call) = (session ≡ session_of_call with (class_of called)) × (call ≡ called)
-Begins with h _ _ = ⊥
+-- The first dimension in which a command's name is not known: an insert's is that of no leaf concept, a query's of none.
+-- A called command has no names.
+abbrev pub first_unknown : List Dimension → Command → Option ℕ
+first_unknown h (Insert new) = position is_none (leaves h new.names)
+first_unknown h (Query question) = position is_none (picks h question.filter)
+first_unknown h (Control called) = None
+
+-- An event behind a past begins a command, with the command's session: an insert or a query with its server and what its
+-- names stand for; a command of another kind as that call; any with the first dimension in which a name of its is not
+-- known there; or, but for a barrier, it is refused.
+abbrev pub Begins : Use → List Dimension → List Event → Command → Event → Type 0
+Begins with h past (Insert new) (Begun session server row) =
+    (session ≡ new.server) × (server ≡ new.server) × (row.measures ≡ new.measures) × IsCoordNamed (known h past) new.names row.at
+Begins with h past (Insert new) (Refused session) = session ≡ new.server
+Begins with h past (Query question) (Asked session server filter) =
+    (session ≡ question.server) × (server ≡ question.server) × IsFilterNamed (known h past) question.filter filter
+Begins with h past (Query question) (Refused session) = session ≡ question.server
+Begins with h past (Control called) (Refused session) = (session ≡ session_of_call with (class_of called)) × IsTrue (can_be_refused (class_of called))
+Begins with h past (Control called) (Called session call) = (session ≡ session_of_call with (class_of called)) × (call ≡ called)
+Begins with h past c (Unknown session server dim) =
+    (session ≡ session_of with c) × (server ≡ server_for c) × (first_unknown (known h past) c ≡ Some dim)
+Begins with h past _ _ = ⊥
 
 -- a command begins at its place, where it has one
 abbrev pub BeginsAt : Use → List Dimension → List Event → Command → Option ℕ → Type 0
 BeginsAt with h history c None = ⊤
-BeginsAt with h history c (Some p) = (e : Event) × (event_at history p ≡ Some e) × Begins with h c e
+BeginsAt with h history c (Some p) = (e : Event) × (event_at history p ≡ Some e) × Begins with h (before history p) c e
 
 -- where the second command has begun, the first one had begun and ended before
 abbrev pub EndsBefore : List Event → Option ℕ → Option ℕ → Type 0
@@ -98,10 +104,10 @@ pub record IsRunInto (k : ℕ) (with : Use) (h : List Dimension) (commands : Lis
 abbrev pub IsSerial : Use → List Command → List Event → Type 0
 IsSerial with commands history = AllPairs (EndsBefore history) (places with commands history)
 
--- an insert of known leaf concepts is acknowledged, or ends for want of memory: refused before it began, or failed after
+-- an insert whose names all are known as it begins is acknowledged, or ends for want of memory: refused before it began, or failed after
 abbrev pub InsertEnds : List Dimension → List Event → Command → Option ℕ → Type 0
 InsertEnds h history (Insert new) (Some p) =
-    position is_none (leaves h new.names) ≡ None
+    first_unknown (known h (before history p)) (Insert new) ≡ None
     → ((path : List ℕ) × (end_of history p ≡ Some (Acked p path)))
     ⊎ (end_of history p ≡ Some (Failed p))
     ⊎ (event_at history p ≡ Some (Refused new.server))

@@ -36,7 +36,7 @@ AreBehind with commands history k =
 abbrev pub NextLaw : Type 0
 NextLaw = (with : Use) (h : List Dimension) (front : List Command) (c : Command) (back : List Command) (e : Event) (history : List Event) (next : ℕ → ℕ) (opened : ℕ → Option ℕ)
     → AreStreams with (front ++ c ∷ back) history next opened → next (session_of with c) ≡ length front → opened (session_of with c) ≡ None
-    → AreBehind with (front ++ c ∷ back) history (length front) → session_in e ≡ Some (session_of with c) → Begins with h c e
+    → AreBehind with (front ++ c ∷ back) history (length front) → session_in e ≡ Some (session_of with c) → Begins with h history c e
     → IsNext with h (front ++ c ∷ back) (Waits with (front ++ c ∷ back)) history (place_in with (front ++ c ∷ back) history) (length front) e
     × HasPlace (length front) (length history) (place_in with (front ++ c ∷ back) history) (place_in with (front ++ c ∷ back) (e ∷ history))
 
@@ -103,7 +103,7 @@ abbrev pub PhaseBeginLaw : Type 0
 PhaseBeginLaw = (with : Use) (h : List Dimension) (front : List Command) (c : Command) (back : List Command) (n : ℕ) (e : Event) (history : List Event) (next now_next : ℕ → ℕ) (opened now_opened : ℕ → Option ℕ)
     → IsInPhase with h (front ++ c ∷ back) n history next opened → n ≤ length front
     → next (session_of with c) ≡ length front → opened (session_of with c) ≡ None → IsReady with (front ++ c ∷ back) n next opened (length front)
-    → session_in e ≡ Some (session_of with c) → Begins with h c e
+    → session_in e ≡ Some (session_of with c) → Begins with h history c e
     → StepsOn with (front ++ c ∷ back) e history (session_of with c) (length front) next now_next opened now_opened
     → IsInPhase with h (front ++ c ∷ back) n (e ∷ history) now_next now_opened
 

@@ -93,7 +93,7 @@ none-closes (c ∷ cs) each = (each 0 c refl, none-closes cs (λ i d at. each (s
 begin-phase : (with : Use) (h : List Dimension) (done cs : List Command) (k : ℕ) (c : Command) (e : Event) (history : List Event) (next now_next : ℕ → ℕ) (opened now_opened : ℕ → Option ℕ)
     → slice_get cs k ≡ Some c → IsInPhase with h (done ++ cs) (length done) history next opened
     → next (session_of with c) ≡ length done + k → opened (session_of with c) ≡ None → IsReady with (done ++ cs) (length done) next opened (length done + k)
-    → session_in e ≡ Some (session_of with c) → Begins with h c e
+    → session_in e ≡ Some (session_of with c) → Begins with h history c e
     → StepsOn with (done ++ cs) e history (session_of with c) (length done + k) next now_next opened now_opened
     → IsInPhase with h (done ++ cs) (length done) (e ∷ history) now_next now_opened
 begin-phase with h done cs k c e history next now_next opened now_opened at phase is none ready session begins on =
@@ -112,7 +112,7 @@ begin-phase with h done cs k c e history next now_next opened now_opened at phas
 begin-order : (with : Use) (h : List Dimension) (done cs : List Command) (k : ℕ) (c : Command) (e : Event) (history : List Event)
     → slice_get cs k ≡ Some c → ((j : ℕ) → j < length done + k → (q : ℕ) × (place_in with (done ++ cs) history j ≡ Some q) × IsTrue (is_over history q))
     → count_of with (session_of with c) (take (length done + k) (done ++ cs)) ≡ length (begins_of history (session_of with c))
-    → session_in e ≡ Some (session_of with c) → Begins with h c e → IsInOrder with h (done ++ cs) history → IsInOrder with h (done ++ cs) (e ∷ history)
+    → session_in e ≡ Some (session_of with c) → Begins with h history c e → IsInOrder with h (done ++ cs) history → IsInOrder with h (done ++ cs) (e ∷ history)
 begin-order with h done cs k c e history at before count session begins order =
     let front = done ++ take k cs in
     let back = drop (suc k) cs in
@@ -128,23 +128,23 @@ begin-order with h done cs k c e history at before count session begins order =
 
 -- Events that begin commands.
 
-begins-closes : (with : Use) (h : List Dimension) (c : Command) (e : Event) → Begins with h c e → begins_closing e ≡ true → closes c ≡ true
-begins-closes with h (script.Insert new) (event.Called session call) b closing = absurd b
-begins-closes with h (script.Query question) (event.Called session call) b closing = absurd b
-begins-closes with h (script.Control called) (event.Called session call) b closing = ap (λ (x : Call). is_closing (class_of x)) (sym b.1) ∙ closing
-begins-closes with h c (event.Begun session server row) b closing = cc
-begins-closes with h c (event.Asked session server filter) b closing = cc
-begins-closes with h c (event.Unknown session server dim) b closing = cc
-begins-closes with h c (event.Refused session) b closing = cc
-begins-closes with h c (event.Acked of path) b closing = cc
-begins-closes with h c (event.Answered of agg) b closing = cc
-begins-closes with h c (event.Failed of) b closing = cc
-begins-closes with h c (event.Ended of how) b closing = cc
-begins-closes with h c (event.Split of shard left right) b closing = cc
-begins-closes with h c (event.Moved of shard worker) b closing = cc
-begins-closes with h c (event.Left of shard how) b closing = cc
-begins-closes with h c (event.Synced server listing) b closing = cc
-begins-closes with h c (event.Shown of page) b closing = cc
+begins-closes : (with : Use) (h : List Dimension) (past : List Event) (c : Command) (e : Event) → Begins with h past c e → begins_closing e ≡ true → closes c ≡ true
+begins-closes with h past (script.Insert new) (event.Called session call) b closing = absurd b
+begins-closes with h past (script.Query question) (event.Called session call) b closing = absurd b
+begins-closes with h past (script.Control called) (event.Called session call) b closing = ap (λ (x : Call). is_closing (class_of x)) (sym b.1) ∙ closing
+begins-closes with h past c (event.Begun session server row) b closing = cc
+begins-closes with h past c (event.Asked session server filter) b closing = cc
+begins-closes with h past c (event.Unknown session server dim) b closing = cc
+begins-closes with h past c (event.Refused session) b closing = cc
+begins-closes with h past c (event.Acked of path) b closing = cc
+begins-closes with h past c (event.Answered of agg) b closing = cc
+begins-closes with h past c (event.Failed of) b closing = cc
+begins-closes with h past c (event.Ended of how) b closing = cc
+begins-closes with h past c (event.Split of shard left right) b closing = cc
+begins-closes with h past c (event.Moved of shard worker) b closing = cc
+begins-closes with h past c (event.Left of shard how) b closing = cc
+begins-closes with h past c (event.Synced server listing) b closing = cc
+begins-closes with h past c (event.Shown of page) b closing = cc
 
 longer : (e : Event) (h : List Event) → h ≡ e ∷ h → ⊥
 longer e h is = let len : length h ≡ suc (length h) = ap length is in omega arith
@@ -152,7 +152,7 @@ longer e h is = let len : length h ≡ suc (length h) = ap length is in omega ar
 module _ (in_order : Bool) (s : Setting) (p : PhaseRun) (w now : World) (g g_now : Ghost) (next : ℕ → ℕ) (n : ℕ)
     (i : InvWith s (view s w) g) (i_now : InvWith s (view s now) g_now) (turn : IsTurn in_order s p w n now) (r : IsRunning in_order s p w next)
     (t : TellsBeginning s turn.made n w now) (next_now : ℕ → ℕ) (c : Command) (at : slice_get p.commands (next n) ≡ Some c)
-    (begins : Begins p.with s.hierarchy c t.begins) (moves : MovesOn p n next next_now) where
+    (begins : Begins p.with s.hierarchy (history_in w) c t.begins) (moves : MovesOn p n next next_now) where
   own-session : session_of p.with c ≡ n
   own-session = r.own n c at
 
@@ -215,7 +215,7 @@ module _ (in_order : Bool) (s : Setting) (p : PhaseRun) (w now : World) (g g_now
       by (OpensOne work itself command pulled closing_is) = record {
         closing = λ x there closing.
             let same = doing-is (now.actors n).command x (length (history_in w)) work there command in
-            alone (begins-closes p.with s.hierarchy c t.begins begins (sym closing_is ∙ ap is_closing_work (sym same.1) ∙ closing));
+            alone (begins-closes p.with s.hierarchy (history_in w) c t.begins begins (sym closing_is ∙ ap is_closing_work (sym same.1) ∙ closing));
         pages = λ x there page.
             let same = doing-is (now.actors n).command x (length (history_in w)) work there command in
             omega (arith, ap length t.history, same.0);
@@ -424,7 +424,7 @@ beginning-of s k n w now e is session (OfBeginning t) = (t, heads e t.begins _ _
 pub keeps-beginning-law : KeepsBeginningLaw
 keeps-beginning-law in_order s p w now g g_now next next_now n c e i i_now turn at history session begins moves r =
     let found = beginning-of s turn.made n w now e history session (told-law s turn.made n w now g g_now i i_now turn.step) in
-    let told = subst (Begins p.with s.hierarchy c) found.1 begins in (
+    let told = subst (Begins p.with s.hierarchy (history_in w) c) found.1 begins in (
       keeps-beginning in_order s p w now g g_now next n i i_now turn r found.0 next_now c at told moves,
       λ done b. beginning-behind in_order s p w now g g_now next n i i_now turn r found.0 next_now c at told moves done b,
     )

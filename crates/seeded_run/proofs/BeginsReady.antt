@@ -3,14 +3,14 @@ use Rattle.std.proofs.Common.{ℕ, ℤ, ◌≡◌, ◌<◌, true, false, List, [
 use Rattle.std.specs.Prelude.{is_none}
 use Rattle.core_image.specs.Asking.{CanBeginQuery}
 use Rattle.core_image.specs.NotesDue.{CanBeginInsert, CanNoteAsking, CanNoteCalled, CanNoteRefused, CanNoteUnknown}
-use Rattle.core_image.specs.Told.{asked_by, begun_by, called_by, refused_by, server_of, unknown_by}
+use Rattle.core_image.specs.Told.{asked_by, begun_by, called_by, refused_by, unknown_by}
 use Rattle.core_steps.specs.Added.{Adds}
 use Rattle.core_steps.specs.AskedBooks.{BeginsInsert, BeginsQuery}
 use Rattle.core_steps.specs.AskedNotes.{NotesAsking, NotesCalled, NotesRefused, NotesUnknown}
 use Rattle.core_steps.specs.Ready.{MayStep, Stays}
 use Rattle.dim_hierarchy.specs.Dimension.{Dimension}
 use Rattle.dim_hierarchy.specs.Filter.{IsFilterNamed, picks}
-use Rattle.dim_hierarchy.specs.Row.{IsCoordNamed, leaves}
+use Rattle.dim_hierarchy.specs.Row.{IsCoordNamed}
 use Rattle.dim_hierarchy.specs.declared.filter.Pick.{Pick}
 use Rattle.dim_hierarchy.specs.declared.row.Coord.{Coord}
 use Rattle.row_ledger.specs.Classes.{class_of}
@@ -22,8 +22,8 @@ use Rattle.script_form.specs.declared.script.Command.TheVariants as script
 use Rattle.script_form.specs.declared.script.NewRow.{NewRow}
 use Rattle.script_form.specs.declared.script.Question.{Question}
 use Rattle.script_run.specs.Places.{session_of}
-use Rattle.script_run.specs.Runs.{Begins}
-use Rattle.volap_cell.specs.Commands.{MayCall}
+use Rattle.script_run.specs.Runs.{Begins, first_unknown}
+use Rattle.volap_cell.specs.Commands.{MayCall, server_of}
 use Rattle.volap_cell.specs.ImageKinds.{asks_registry}
 use Rattle.volap_cell.specs.Setting.{Setting, desk_cell, image_cell, ledger_cell, registry_cell}
 use Rattle.volap_cell.specs.Steps.{history_in}
@@ -31,7 +31,6 @@ use Rattle.volap_cell.specs.Values.{ActorValue, actor_of}
 use Rattle.volap_cell.specs.World.{World}
 use Rattle.volap_cell.specs.declared.actor.Actor.{Actor}
 use Rattle.volap_cell.specs.declared.cell.Cell.{Cell}
-use Rattle.volap_cell.specs.declared.role.Role.TheVariants.{Session}
 use Rattle.volap_cell.proofs.Numbers.{tag-desk, tag-image}
 use Rattle.volap_cell.proofs.States.{is-some, of-it, stands}
 use Rattle.seeded_run.specs.Commands.{GoesBy, IsAllowedCall, IsNextAt, IsToBegin, may_be_refused}
@@ -39,7 +38,7 @@ use Rattle.seeded_run.specs.Core.{HasCore, IsCore}
 use Rattle.seeded_run.specs.Due.{are_known}
 use Rattle.seeded_run.proofs.Afterwards.{core-stays}
 use Rattle.seeded_run.proofs.CommandsHeld.{IsDeskPlace}
-use Rattle.seeded_run.proofs.DueBegins.{IsAtNext, at-next, may-call, role_for}
+use Rattle.seeded_run.proofs.DueBegins.{IsAtNext, at-next, may-call, no-server, role_for}
 use Rattle.seeded_run.proofs.FixedCells.{desk-fixed, image-fixed, ledger-fixed, may-step, registry-fixed, server-within, tag-is}
 use Rattle.seeded_run.proofs.Worlds.{one-setting, only-world}
 
@@ -103,15 +102,9 @@ module _ (h : List Dimension) (with : Use) (cells : List (Option Cell)) (actors 
       subst (λ (l : ℕ). MayStep cells actors (l ∷ []) n Can) (sym ledger_is)
       (may-step h with cells actors s w core.is_core (ledger_cell ∷ []) n Can (ledger-fixed s, tt) (tt, tt) lt can)
 
-  pub unknown-ready : (c : Command) → IsToBegin h with cells actors n c → (server : ℕ) → role_for c ≡ Session server → (ledger : ℕ) → ledger ≡ ledger_cell → MayStep cells actors (ledger ∷ []) n NotesUnknown
-  unknown-ready c b server role ledger ledger_is =
-      let x = next-at c b in
-      let can : CanNoteUnknown (w.cells ledger_cell) (w.actors n) = record {
-        free = x.free;
-        server = server;
-        role = x.role ∙ role;
-        ledger_is = tag-is h with cells actors s w core.is_core ledger_cell;
-      } in
+  pub unknown-ready : (c : Command) → IsToBegin h with cells actors n c → (ledger : ℕ) → ledger ≡ ledger_cell → MayStep cells actors (ledger ∷ []) n NotesUnknown
+  unknown-ready c b ledger ledger_is =
+      let can : CanNoteUnknown (w.cells ledger_cell) (w.actors n) = record { free = (next-at c b).free; ledger_is = tag-is h with cells actors s w core.is_core ledger_cell } in
       with-ledger b.within NotesUnknown ledger ledger_is can
 
   pub refused-ready : (c : Command) → IsToBegin h with cells actors n c → (ledger : ℕ) → ledger ≡ ledger_cell → MayStep cells actors (ledger ∷ []) n NotesRefused
@@ -154,48 +147,46 @@ module _ (h : List Dimension) (with : Use) (cells : List (Option Cell)) (actors 
   -- an event of the actor, with its number and its role, is the command's beginning
   module _ (c : Command) (b : IsToBegin h with cells actors n c) (cells_now : List (Option Cell)) (actors_now : List (Option Actor)) (ledger : ℕ) (ledger_is : ledger ≡ ledger_cell) where
     begun : (event_of : ActorValue → ℕ → Event) → Adds event_of n ledger cells actors cells_now actors_now
-        → ((a : ActorValue) (place : ℕ) → a.number ≡ session_of with c → a.role ≡ role_for c → Begins with h c (event_of a place)) → GoesBy with h c cells actors cells_now actors_now
+        → ((past : List Event) (a : ActorValue) (place : ℕ) → a.number ≡ session_of with c → a.role ≡ role_for c → Begins with h past c (event_of a place)) → GoesBy with h c cells actors cells_now actors_now
     begun event_of adds begins v now i j =
         let here : Adds event_of n ledger_cell cells actors cells_now actors_now = subst (λ (y : ℕ). Adds event_of n y cells actors cells_now actors_now) ledger_is adds in
         let k = stands (get_or actors n None) (λ x. actor_of x ≡ w.actors n) (core.is_core.is.actor n b.within) in
         let same : v.actors n ≡ w.actors n = sym (of-it (get_or actors n None) (λ x. actor_of x ≡ v.actors n) k.0 (i.actor n b.within) k.1) ∙ k.2 in
         record {
           event = event_of (v.actors n) (length (history_in v));
-          begins = begins (v.actors n) (length (history_in v)) (ap (λ (a : ActorValue). a.number) same ∙ core.is_core.inv.holds.numbering.number n ∙ sym b.own) (ap (λ (a : ActorValue). a.role) same ∙ (next-at c b).role);
+          begins = begins (history_in v) (v.actors n) (length (history_in v)) (ap (λ (a : ActorValue). a.number) same ∙ core.is_core.inv.holds.numbering.number n ∙ sym b.own) (ap (λ (a : ActorValue). a.role) same ∙ (next-at c b).role);
           grows = here v now i j;
         }
 
     pub begun-insert : (new : NewRow) → c ≡ script.Insert new → (at : Coord) (measures : ℤ) → IsCoordNamed h new.names at → measures ≡ new.measures → Adds (begun_by at measures) n ledger cells actors cells_now actors_now
         → GoesBy with h c cells actors cells_now actors_now
-    begun-insert new is at measures named same adds = begun (begun_by at measures) adds (λ a place number role.
-        subst (λ (x : Command). Begins with h x (begun_by at measures a place)) (sym is) (number ∙ ap (session_of with) is, ap server_of (role ∙ ap role_for is), same, named))
+    begun-insert new is at measures named same adds = begun (begun_by at measures) adds (λ past a place number role.
+        subst (λ (x : Command). Begins with h past x (begun_by at measures a place)) (sym is) (number ∙ ap (session_of with) is, ap server_of (role ∙ ap role_for is), same, named))
 
     pub begun-query : (question : Question) → c ≡ script.Query question → (filter : List Pick) → IsFilterNamed h question.filter filter → Adds (asked_by filter) n ledger cells actors cells_now actors_now
         → GoesBy with h c cells actors cells_now actors_now
-    begun-query question is filter named adds = begun (asked_by filter) adds (λ a place number role.
-        subst (λ (x : Command). Begins with h x (asked_by filter a place)) (sym is) (number ∙ ap (session_of with) is, ap server_of (role ∙ ap role_for is), named))
+    begun-query question is filter named adds = begun (asked_by filter) adds (λ past a place number role.
+        subst (λ (x : Command). Begins with h past x (asked_by filter a place)) (sym is) (number ∙ ap (session_of with) is, ap server_of (role ∙ ap role_for is), named))
 
-    pub unknown-insert : (new : NewRow) → c ≡ script.Insert new → (dim : ℕ) → position is_none (leaves h new.names) ≡ Some dim → Adds (unknown_by dim) n ledger cells actors cells_now actors_now
-        → GoesBy with h c cells actors cells_now actors_now
-    unknown-insert new is dim first adds = begun (unknown_by dim) adds (λ a place number role.
-        subst (λ (x : Command). Begins with h x (unknown_by dim a place)) (sym is) (number ∙ ap (session_of with) is, ap server_of (role ∙ ap role_for is), first))
-
-    pub unknown-query : (question : Question) → c ≡ script.Query question → (dim : ℕ) → position is_none (picks h question.filter) ≡ Some dim → Adds (unknown_by dim) n ledger cells actors cells_now actors_now
-        → GoesBy with h c cells actors cells_now actors_now
-    unknown-query question is dim first adds = begun (unknown_by dim) adds (λ a place number role.
-        subst (λ (x : Command). Begins with h x (unknown_by dim a place)) (sym is) (number ∙ ap (session_of with) is, ap server_of (role ∙ ap role_for is), first))
+    pub begun-unknown : (dim : ℕ) → first_unknown h c ≡ Some dim → Adds (unknown_by dim) n ledger cells actors cells_now actors_now → GoesBy with h c cells actors cells_now actors_now
+    begun-unknown dim first adds = begun (unknown_by dim) adds (λ past a place number role. by c first past a place number role)
+      where
+        by : (x : Command) → first_unknown h x ≡ Some dim → (past : List Event) (a : ActorValue) (place : ℕ) → a.number ≡ session_of with x → a.role ≡ role_for x → Begins with h past x (unknown_by dim a place)
+        by (script.Insert new) first past a place number role = (number, ap server_of role, first)
+        by (script.Query question) first past a place number role = (number, ap server_of role, first)
+        by (script.Control called) first past a place number role = (number, ap server_of role ∙ no-server (class_of called), first)
 
     pub begun-call : (called : Call) → c ≡ script.Control called → Adds (called_by called) n ledger cells actors cells_now actors_now → GoesBy with h c cells actors cells_now actors_now
-    begun-call called is adds = begun (called_by called) adds (λ a place number role.
-        subst (λ (x : Command). Begins with h x (called_by called a place)) (sym is) (number ∙ ap (session_of with) is, refl))
+    begun-call called is adds = begun (called_by called) adds (λ past a place number role.
+        subst (λ (x : Command). Begins with h past x (called_by called a place)) (sym is) (number ∙ ap (session_of with) is, refl))
 
     pub begun-refused : may_be_refused c ≡ true → Adds refused_by n ledger cells actors cells_now actors_now → GoesBy with h c cells actors cells_now actors_now
-    begun-refused may adds = begun refused_by adds (λ a place number role. by c may a place number)
+    begun-refused may adds = begun refused_by adds (λ past a place number role. by c may past a place number)
       where
-        by : (x : Command) → may_be_refused x ≡ true → (a : ActorValue) (place : ℕ) → a.number ≡ session_of with x → Begins with h x (refused_by a place)
-        by (script.Insert new) may a place number = number
-        by (script.Query question) may a place number = number
-        by (script.Control called) may a place number = (number, may)
+        by : (x : Command) → may_be_refused x ≡ true → (past : List Event) (a : ActorValue) (place : ℕ) → a.number ≡ session_of with x → Begins with h past x (refused_by a place)
+        by (script.Insert new) may past a place number = number
+        by (script.Query question) may past a place number = number
+        by (script.Control called) may past a place number = (number, may)
 
 -- Where the state stayed as it was.
 module _ (h : List Dimension) (with : Use) (cells cells_now : List (Option Cell)) (actors actors_now : List (Option Actor)) (core : HasCore h with cells actors) (stays : Stays cells actors cells_now actors_now) (n : ℕ) (c : Command) where

@@ -18,7 +18,7 @@ use Rattle.script_form.specs.declared.script.Question.{Question}
 use Rattle.script_run.specs.Phases.{closes}
 use Rattle.script_run.specs.Places.{session_of, session_of_call}
 use Rattle.volap_cell.specs.Cells.{desk_in}
-use Rattle.volap_cell.specs.Commands.{MayCall, MayCallAs}
+use Rattle.volap_cell.specs.Commands.{MayCall, MayCallAs, server_of}
 use Rattle.volap_cell.specs.Ghost.{Ghost}
 use Rattle.volap_cell.specs.ImageKinds.{IsFree}
 use Rattle.volap_cell.specs.Invariant.{InvWith}
@@ -79,6 +79,14 @@ may-call-as (class_is.Balance most) = tt
 pub may-call : (called : Call) → MayCall (role_for (script.Control called)) called
 may-call called = may-call-as (class_of called)
 
+pub no-server : (class : Class) → server_of (role_of_class class) ≡ 0
+no-server (class_is.Sync server) = refl
+no-server class_is.Settle = refl
+no-server class_is.Bare = refl
+no-server (class_is.Page subject) = refl
+no-server (class_is.Action act) = refl
+no-server (class_is.Balance most) = refl
+
 no-hand : (class : Class) (worker : ℕ) → role_of_class class ≡ Hand worker → ⊥
 no-hand (class_is.Sync server) worker e = cc
 no-hand class_is.Settle worker e = cc
@@ -117,6 +125,12 @@ first-due h alone desk c more k e = by (closes c && not alone) e
 
 kind-same : (k x : Kind) → ◌≡◌ {A = Option Kind} (Some k) (Some x) → k ≡ x
 kind-same k x e = cc
+
+-- a command that names what isn't known ends with a note
+pub ends-noted : (c : Command) → beginning_if c false ≡ kind.Note
+ends-noted (script.Insert new) = refl
+ends-noted (script.Query question) = refl
+ends-noted (script.Control called) = refl
 
 first-as : (desk : Option DeskValue) (c : Command) (known : Bool) (k : Kind) → first_kind desk c known ≡ Some k → k ≡ beginning_if c known
 first-as desk (script.Insert new) true k e = sym (kind-same kind.BeginInsert k e)

@@ -6,7 +6,7 @@ use Rattle.std.proofs.lemmas.Bool.{eq-eqb, eqb-true}
 use Rattle.dim_hierarchy.specs.Dimension.{Dimension}
 use Rattle.row_ledger.proofs.Positions.{event_at-older, event_at-past}
 use Rattle.row_ledger.specs.Classes.{class_of}
-use Rattle.row_ledger.specs.Past.{call_at, call_in, end_in, ends_itself, event_at, has_ended, is_end_of, is_over, pull_in, session_in}
+use Rattle.row_ledger.specs.Past.{before, call_at, call_in, end_in, ends_itself, event_at, has_ended, is_end_of, is_over, pull_in, session_in}
 use Rattle.row_ledger.specs.declared.event.Event.{Event}
 use Rattle.row_ledger.specs.declared.event.Event.TheVariants as event
 use Rattle.row_ledger.specs.declared.settings.Call.{Call}
@@ -175,10 +175,10 @@ none-some o c x y = cc
 pub same-open : (o : Option ℕ) (a b : ℕ) → o ≡ Some a → o ≡ Some b → a ≡ b
 same-open o a b x y = cc
 
-begins-called : (with : Use) (h : List Dimension) (c : Command) (session server : ℕ) (call : Call) → class_of call ≡ class_is.Sync server → Begins with h c (event.Called session call) → session ≡ with.servers
-begins-called with h (script.Insert new) session server call class b = absurd b
-begins-called with h (script.Query question) session server call class b = absurd b
-begins-called with h (script.Control called) session server call class b = b.0 ∙ ap (λ (c : Call). session_of_call with (class_of c)) (sym b.1) ∙ ap (session_of_call with) class
+begins-called : (with : Use) (h : List Dimension) (past : List Event) (c : Command) (session server : ℕ) (call : Call) → class_of call ≡ class_is.Sync server → Begins with h past c (event.Called session call) → session ≡ with.servers
+begins-called with h past (script.Insert new) session server call class b = absurd b
+begins-called with h past (script.Query question) session server call class b = absurd b
+begins-called with h past (script.Control called) session server call class b = b.0 ∙ ap (λ (c : Call). session_of_call with (class_of c)) (sym b.1) ∙ ap (session_of_call with) class
 
 module _ (in_order : Bool) (s : Setting) (p : PhaseRun) (w now : World) (g g_now : Ghost) (next : ℕ → ℕ) (n : ℕ)
     (i : InvWith s (view s w) g) (i_now : InvWith s (view s now) g_now) (turn : IsTurn in_order s p w n now) (r : IsRunning in_order s p w next) where
@@ -367,7 +367,7 @@ module _ (in_order : Bool) (s : Setting) (p : PhaseRun) (w now : World) (g g_now
         called call class session here =
             let found = b.in_phase.part.only c.of (event.Called session call) here refl in
             let begins = subst (BeginsAt p.with s.hierarchy (history_in w) found.1) found.3 (b.in_phase.part.begun found.0 found.1 found.2) in
-            begins-called p.with s.hierarchy found.1 session server call class (subst (Begins p.with s.hierarchy found.1) (same-event (event_at (history_in w) c.of) begins.0 (event.Called session call) begins.1 here) begins.2)
+            begins-called p.with s.hierarchy (before (history_in w) c.of) found.1 session server call class (subst (Begins p.with s.hierarchy (before (history_in w) c.of) found.1) (same-event (event_at (history_in w) c.of) begins.0 (event.Called session call) begins.1 here) begins.2)
             ∙ r.phase.servers
           where
             same-event : (o : Option Event) (x y : Event) → o ≡ Some x → o ≡ Some y → x ≡ y

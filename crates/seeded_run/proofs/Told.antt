@@ -26,7 +26,7 @@ use Rattle.volap_cell.proofs.Frames.{AreAt, actor-at, actor-off}
 use Rattle.volap_cell.proofs.Numbers.{at-ledger}
 use Rattle.volap_cell.specs.AdminKinds.{DoesFreeze, Finishes, GivesUp, MovesIn, PushesBoth}
 use Rattle.volap_cell.specs.Cells.{CellValue, Tag, TheLedger, FreeCell, LedgerCell, StockCell, RegistryCell, ImageCell, DeskCell, MapCell, GateCell, BlockCell, tag_of, ledger_in}
-use Rattle.volap_cell.specs.Commands.{EndsBalance, EndsStage, MayNoteEnd, due_pull}
+use Rattle.volap_cell.specs.Commands.{EndsBalance, EndsStage, MayNoteEnd, due_pull, server_of}
 use Rattle.volap_cell.specs.Ghost.{Ghost}
 use Rattle.volap_cell.specs.ImageKinds.{DoesNote, DoesNoteWith, IsBegun, IsFree, NotesCalled, NotesEnded, OfCalled, OfCalledAsking, OfCount, OfEnded, OfLeft, OfQuery, OfRefused, OfShown, OfUnknown, OfUnrouted, Pushes, doing}
 use Rattle.volap_cell.specs.Invariant.{InvWith}
@@ -434,7 +434,7 @@ module _ (s : Setting) (n : ℕ) (w : World) (g : Ghost) (i : InvWith s (view s 
   ]
 
   note : (c : Change) (b : ActorValue) → IsMade (c ∷ []) b → DoesNote c (w.actors n) b → Told s kind.Note n w (after w (c ∷ []) n b)
-  note c b made (OfUnknown d) = begins kind.Note [] c b (event.Unknown (w.actors n).number d.server d.dim) _ _ d.pushed made tt refl refl d.free
+  note c b made (OfUnknown d) = begins kind.Note [] c b (event.Unknown (w.actors n).number (server_of (w.actors n).role) d.dim) _ _ d.pushed made tt refl refl d.free
       (OpensNone refl (field-at (λ x. x.command) (c ∷ []) b ∙ ap (λ (x : ActorValue). x.command) d.actor_is ∙ d.free.command))
       (λ e. ap (λ (x : ActorValue). x.job) d.actor_is ∙ d.free.job) (ap (λ (x : ActorValue). x.errand) d.actor_is) (ap (λ (x : ActorValue). x.purse) d.actor_is)
   note c b made (OfRefused d) = begins kind.Note [] c b (event.Refused (w.actors n).number) _ _ d.pushed made tt refl refl d.free

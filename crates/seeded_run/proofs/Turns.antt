@@ -73,49 +73,49 @@ core-then h with cells cells_now actors actors_now s w k n core stepped =
     )
 
 -- an event that begins a command is of its session
-begins-session : (with : Use) (h : List Dimension) (c : Command) (e : Event) → Begins with h c e → session_in e ≡ Some (session_of with c)
-begins-session with h (script.Insert new) (event.Synced server listing) b = absurd b
-begins-session with h (script.Insert new) (event.Begun session server row) b = ap Some b.0
-begins-session with h (script.Insert new) (event.Acked of path) b = absurd b
-begins-session with h (script.Insert new) (event.Asked session server filter) b = absurd b
-begins-session with h (script.Insert new) (event.Answered of agg) b = absurd b
-begins-session with h (script.Insert new) (event.Unknown session server dim) b = ap Some b.0
-begins-session with h (script.Insert new) (event.Failed of) b = absurd b
-begins-session with h (script.Insert new) (event.Refused session) b = ap Some b
-begins-session with h (script.Insert new) (event.Called session call) b = absurd b
-begins-session with h (script.Insert new) (event.Split of shard left right) b = absurd b
-begins-session with h (script.Insert new) (event.Moved of shard worker) b = absurd b
-begins-session with h (script.Insert new) (event.Left of shard how) b = absurd b
-begins-session with h (script.Insert new) (event.Shown of page) b = absurd b
-begins-session with h (script.Insert new) (event.Ended of how) b = absurd b
-begins-session with h (script.Query question) (event.Synced server listing) b = absurd b
-begins-session with h (script.Query question) (event.Begun session server row) b = absurd b
-begins-session with h (script.Query question) (event.Acked of path) b = absurd b
-begins-session with h (script.Query question) (event.Asked session server filter) b = ap Some b.0
-begins-session with h (script.Query question) (event.Answered of agg) b = absurd b
-begins-session with h (script.Query question) (event.Unknown session server dim) b = ap Some b.0
-begins-session with h (script.Query question) (event.Failed of) b = absurd b
-begins-session with h (script.Query question) (event.Refused session) b = ap Some b
-begins-session with h (script.Query question) (event.Called session call) b = absurd b
-begins-session with h (script.Query question) (event.Split of shard left right) b = absurd b
-begins-session with h (script.Query question) (event.Moved of shard worker) b = absurd b
-begins-session with h (script.Query question) (event.Left of shard how) b = absurd b
-begins-session with h (script.Query question) (event.Shown of page) b = absurd b
-begins-session with h (script.Query question) (event.Ended of how) b = absurd b
-begins-session with h (script.Control called) (event.Synced server listing) b = absurd b
-begins-session with h (script.Control called) (event.Begun session server row) b = absurd b
-begins-session with h (script.Control called) (event.Acked of path) b = absurd b
-begins-session with h (script.Control called) (event.Asked session server filter) b = absurd b
-begins-session with h (script.Control called) (event.Answered of agg) b = absurd b
-begins-session with h (script.Control called) (event.Unknown session server dim) b = absurd b
-begins-session with h (script.Control called) (event.Failed of) b = absurd b
-begins-session with h (script.Control called) (event.Refused session) b = ap Some b.0
-begins-session with h (script.Control called) (event.Called session call) b = ap Some b.0
-begins-session with h (script.Control called) (event.Split of shard left right) b = absurd b
-begins-session with h (script.Control called) (event.Moved of shard worker) b = absurd b
-begins-session with h (script.Control called) (event.Left of shard how) b = absurd b
-begins-session with h (script.Control called) (event.Shown of page) b = absurd b
-begins-session with h (script.Control called) (event.Ended of how) b = absurd b
+begins-session : (with : Use) (h : List Dimension) (past : List Event) (c : Command) (e : Event) → Begins with h past c e → session_in e ≡ Some (session_of with c)
+begins-session with h past (script.Insert new) (event.Synced server listing) b = absurd b
+begins-session with h past (script.Insert new) (event.Begun session server row) b = ap Some b.0
+begins-session with h past (script.Insert new) (event.Acked of path) b = absurd b
+begins-session with h past (script.Insert new) (event.Asked session server filter) b = absurd b
+begins-session with h past (script.Insert new) (event.Answered of agg) b = absurd b
+begins-session with h past (script.Insert new) (event.Unknown session server dim) b = ap Some b.0
+begins-session with h past (script.Insert new) (event.Failed of) b = absurd b
+begins-session with h past (script.Insert new) (event.Refused session) b = ap Some b
+begins-session with h past (script.Insert new) (event.Called session call) b = absurd b
+begins-session with h past (script.Insert new) (event.Split of shard left right) b = absurd b
+begins-session with h past (script.Insert new) (event.Moved of shard worker) b = absurd b
+begins-session with h past (script.Insert new) (event.Left of shard how) b = absurd b
+begins-session with h past (script.Insert new) (event.Shown of page) b = absurd b
+begins-session with h past (script.Insert new) (event.Ended of how) b = absurd b
+begins-session with h past (script.Query question) (event.Synced server listing) b = absurd b
+begins-session with h past (script.Query question) (event.Begun session server row) b = absurd b
+begins-session with h past (script.Query question) (event.Acked of path) b = absurd b
+begins-session with h past (script.Query question) (event.Asked session server filter) b = ap Some b.0
+begins-session with h past (script.Query question) (event.Answered of agg) b = absurd b
+begins-session with h past (script.Query question) (event.Unknown session server dim) b = ap Some b.0
+begins-session with h past (script.Query question) (event.Failed of) b = absurd b
+begins-session with h past (script.Query question) (event.Refused session) b = ap Some b
+begins-session with h past (script.Query question) (event.Called session call) b = absurd b
+begins-session with h past (script.Query question) (event.Split of shard left right) b = absurd b
+begins-session with h past (script.Query question) (event.Moved of shard worker) b = absurd b
+begins-session with h past (script.Query question) (event.Left of shard how) b = absurd b
+begins-session with h past (script.Query question) (event.Shown of page) b = absurd b
+begins-session with h past (script.Query question) (event.Ended of how) b = absurd b
+begins-session with h past (script.Control called) (event.Synced server listing) b = absurd b
+begins-session with h past (script.Control called) (event.Begun session server row) b = absurd b
+begins-session with h past (script.Control called) (event.Acked of path) b = absurd b
+begins-session with h past (script.Control called) (event.Asked session server filter) b = absurd b
+begins-session with h past (script.Control called) (event.Answered of agg) b = absurd b
+begins-session with h past (script.Control called) (event.Unknown session server dim) b = ap Some b.0
+begins-session with h past (script.Control called) (event.Failed of) b = absurd b
+begins-session with h past (script.Control called) (event.Refused session) b = ap Some b.0
+begins-session with h past (script.Control called) (event.Called session call) b = ap Some b.0
+begins-session with h past (script.Control called) (event.Split of shard left right) b = absurd b
+begins-session with h past (script.Control called) (event.Moved of shard worker) b = absurd b
+begins-session with h past (script.Control called) (event.Left of shard how) b = absurd b
+begins-session with h past (script.Control called) (event.Shown of page) b = absurd b
+begins-session with h past (script.Control called) (event.Ended of how) b = absurd b
 
 -- an actor's command, as it stands in the vector
 pub command-seen : (cells : List (Option Cell)) (actors : List (Option Actor)) (w : World) (n : ℕ) → IsWorldOf cells actors w → n < length actors → command_by actors n ≡ (w.actors n).command
@@ -302,7 +302,7 @@ module _ (m : Running) (kept : IsPhaseKept m) (n : ℕ) (due_kind : Kind) (now_d
       own = kept.is_running.own n c at
 
       session : session_in grown.event ≡ Some n
-      session = begins-session m.with m.h.now c grown.event grown.begins ∙ ap Some own
+      session = begins-session m.with m.h.now (history_in w) c grown.event grown.begins ∙ ap Some own
 
       longer : (e : Event) (past : List Event) → e ∷ past ≡ past → ⊥
       longer e past is = let len : suc (length past) ≡ length past = ap length is in omega arith

@@ -41,7 +41,7 @@ IsNext h with cells actors n c k = (s : Setting) (w : World) → IsCore h with c
 -- the history has one event more, by which this command begins
 pub record IsBegunBy (with : Use) (h : List Dimension) (c : Command) (before now : List Event) : Type 0 where
   pub event : Event
-  pub begins : Begins with h c event
+  pub begins : Begins with h before c event
   pub grows : now ≡ event ∷ before
 
 abbrev pub GoesBy : Use → List Dimension → Command → (cells : List (Option Cell)) (actors : List (Option Actor)) (cells_now : List (Option Cell)) (actors_now : List (Option Actor)) → Type 0

@@ -1,11 +1,9 @@
 -- Which kind of step is due for an actor: a function of its fields, of what the streams of the phase still have, and of the cells.
 -- An actor first goes on with the part that it is at, then empties its purse, then goes on with its command, and at last begins the
 -- next one. Where it waits for others none is due, but where it waits for a block, or for a gate's inserts: of that see `can`.
-use Rattle.std.specs.Prelude.{ℕ, zero, suc, ◌+◌, ◌==◌, ◌&&◌, ◌||◌, Bool, true, false, not, nat_le, Option, Some, None, is_some, is_none, if◌then◌else◌, List, [], ◌∷◌, length, position}
+use Rattle.std.specs.Prelude.{ℕ, zero, suc, ◌+◌, ◌==◌, ◌&&◌, ◌||◌, Bool, true, false, not, nat_le, Option, Some, None, is_some, is_none, if◌then◌else◌, List, [], ◌∷◌, length}
 use Rattle.std.specs.List.{list_any}
 use Rattle.dim_hierarchy.specs.Dimension.{Dimension}
-use Rattle.dim_hierarchy.specs.Filter.{picks}
-use Rattle.dim_hierarchy.specs.Row.{leaves}
 use Rattle.dc_node.specs.Block.{is_leaf}
 use Rattle.dc_node.specs.declared.block.Block.{Block}
 use Rattle.dc_node.specs.declared.todo.Item.{Item}
@@ -19,6 +17,7 @@ use Rattle.row_ledger.specs.declared.event.Event.{Event}
 use Rattle.script_form.specs.declared.script.Command.{Command}
 use Rattle.script_form.specs.declared.script.Command.TheVariants as script
 use Rattle.script_run.specs.Phases.{closes}
+use Rattle.script_run.specs.Runs.{first_unknown}
 use Rattle.shard_store.specs.declared.gate.Phase.{Phase}
 use Rattle.shard_store.specs.declared.gate.Phase.TheVariants.{Open}
 use Rattle.volap_cell.specs.Cells.{CellValue, block_in, desk_in, ledger_in, phase_of, way_in, where_in}
@@ -169,9 +168,7 @@ work_kind s history alone desk a of (work_is.Balance b) = Some (job_kind a.job (
 
 -- no name is unknown
 abbrev pub are_known : List Dimension → Command → Bool
-are_known h (script.Insert new) = is_none (position is_none (leaves h new.names))
-are_known h (script.Query question) = is_none (position is_none (picks h question.filter))
-are_known h (script.Control call) = true
+are_known h c = is_none (first_unknown h c)
 
 -- what begins a command, of whose names all are known or one isn't
 abbrev pub first_kind : Option DeskValue → Command → Bool → Option Kind

@@ -119,7 +119,7 @@ pub record MovesOn (p : PhaseRun) (session : ℕ) (next now : ℕ → ℕ) : Typ
 abbrev pub KeepsBeginningLaw : Type 0
 KeepsBeginningLaw = (in_order : Bool) (s : Setting) (p : PhaseRun) (w now : World) (g g_now : Ghost) (next next_now : ℕ → ℕ) (n : ℕ) (c : Command) (e : Event)
     → InvWith s (view s w) g → InvWith s (view s now) g_now → IsTurn in_order s p w n now
-    → slice_get p.commands (next n) ≡ Some c → history_in now ≡ e ∷ history_in w → session_in e ≡ Some n → Begins p.with s.hierarchy c e
+    → slice_get p.commands (next n) ≡ Some c → history_in now ≡ e ∷ history_in w → session_in e ≡ Some n → Begins p.with s.hierarchy (history_in w) c e
     → MovesOn p n next next_now → IsRunning in_order s p w next
     → IsRunning in_order s p now next_now × ((done : List Command) → RunsBehind in_order s p done w next → RunsBehind in_order s p done now next_now)
 

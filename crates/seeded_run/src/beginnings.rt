@@ -1,7 +1,9 @@
 //! The steps by which an actor begins its next command.
-ghost use Rattle.std.specs.Prelude.{◌≡◌, true, OnErr, OnOk};
+ghost use Rattle.std.specs.Prelude.{ℕ, ◌≡◌, true, Err, OnErr, OnOk, Some};
 ghost use Rattle.core_steps.specs.Ready.{Stays};
+ghost use Rattle.dim_hierarchy.specs.declared.hierarchy.FilterFault.TheVariants.{Unknown};
 ghost use Rattle.script_form.specs.declared.script.Command.TheVariants.{Control, Insert, Query};
+ghost use Rattle.script_run.specs.Runs.{first_unknown};
 ghost use Rattle.seeded_run.specs.Commands.{GoesBy, IsToBegin, beginning, may_be_refused};
 ghost use Rattle.seeded_run.specs.Core.{HasCore, StepsOn};
 ghost use Rattle.volap_cell.specs.ImageKinds.{asks_registry};
@@ -15,8 +17,8 @@ use script_form::{Command, NewRow, Question};
 use std::alloc::{AllocError, Global};
 use volap_cell::State;
 
-/// The actor begins its insert at the image of its server, or notes the first dimension in which a name is
-/// not that of a leaf concept. Where memory is wanting for that, the state stays as it was.
+/// The actor begins its insert at the image of its server. Where a name is not that of a leaf concept, or
+/// memory is wanting, the state stays as it was.
 fn begin_insert(
     alloc: Global,
     h: &Hierarchy,
@@ -24,10 +26,11 @@ fn begin_insert(
     state: &mut State,
     number: usize,
     new: &NewRow,
-) -> Result<(), AllocError>
+) -> Result<(), FilterFault>
     requires core { HasCore h.now with.now state.old.cells.items state.old.actors.items }
     requires begins { IsToBegin h.now with.now state.old.cells.items state.old.actors.items number (Insert new.now) }
     ensures made { OnOk result (Stepped h.now (beginning h.now (Insert new.now)) number state.old.cells.items state.old.actors.items state.new.cells.items state.new.actors.items) }
+    ensures unknown { (dim : ℕ) → result ≡ Err (Unknown dim) → first_unknown h.now (Insert new.now) ≡ Some dim }
     ensures begun { OnOk result (GoesBy with.now h.now (Insert new.now) state.old.cells.items state.old.actors.items state.new.cells.items state.new.actors.items) }
     ensures stays { OnErr result (Stays state.old.cells.items state.old.actors.items state.new.cells.items state.new.actors.items) }
 {
@@ -35,22 +38,16 @@ fn begin_insert(
     let image = image_place(new.server);
     let ledger = ledger_place();
     match h.coord(&new.names) {
-        Ok(at) => core_steps::begin_insert(
-            alloc,
-            h,
-            state,
-            number,
-            image,
-            ledger,
-            at,
-            new.measures,
-        ),
-        Err(dim) => core_steps::note_unknown(h, state, number, ledger, dim),
+        Ok(at) => {
+            core_steps::begin_insert(alloc, h, state, number, image, ledger, at, new.measures)?;
+            Ok(())
+        }
+        Err(dim) => Err(FilterFault::Unknown { dim }),
     }
 }
 
-/// The actor begins its query at the empty desk of its server, or notes the first dimension in which a name
-/// is not that of a concept. Where memory is wanting for that, the state stays as it was.
+/// The actor begins its query at the empty desk of its server. Where a name is not that of a concept, or
+/// memory is wanting, the state stays as it was.
 fn begin_query(
     alloc: Global,
     h: &Hierarchy,
@@ -58,23 +55,20 @@ fn begin_query(
     state: &mut State,
     number: usize,
     question: &Question,
-) -> Result<(), AllocError>
+) -> Result<(), FilterFault>
     requires core { HasCore h.now with.now state.old.cells.items state.old.actors.items }
     requires begins { IsToBegin h.now with.now state.old.cells.items state.old.actors.items number (Query question.now) }
     ensures made { OnOk result (Stepped h.now (beginning h.now (Query question.now)) number state.old.cells.items state.old.actors.items state.new.cells.items state.new.actors.items) }
+    ensures unknown { (dim : ℕ) → result ≡ Err (Unknown dim) → first_unknown h.now (Query question.now) ≡ Some dim }
     ensures begun { OnOk result (GoesBy with.now h.now (Query question.now) state.old.cells.items state.old.actors.items state.new.cells.items state.new.actors.items) }
     ensures stays { OnErr result (Stays state.old.cells.items state.old.actors.items state.new.cells.items state.new.actors.items) }
 {
     let desk = desk_place(with, question.server);
     let image = image_place(question.server);
     let ledger = ledger_place();
-    match h.filter(alloc, &question.filter) {
-        Ok(filter) => core_steps::begin_query(alloc, h, state, number, desk, image, ledger, filter),
-        Err(FilterFault::Unknown { dim }) => {
-            core_steps::note_unknown(h, state, number, ledger, dim)
-        }
-        Err(FilterFault::NoMemory) => Err(AllocError),
-    }
+    let filter = h.filter(alloc, &question.filter)?;
+    core_steps::begin_query(alloc, h, state, number, desk, image, ledger, filter)?;
+    Ok(())
 }
 
 /// Whether the call asks the registry what stands.
@@ -121,6 +115,55 @@ fn begin_call(
     }
 }
 
+/// The actor begins its next command. Where that names what is not known, or memory is wanting, the state
+/// stays as it was.
+fn begin_known(
+    alloc: Global,
+    h: &Hierarchy,
+    with: &Use,
+    state: &mut State,
+    number: usize,
+    command: &Command,
+) -> Result<(), FilterFault>
+    requires core { HasCore h.now with.now state.old.cells.items state.old.actors.items }
+    requires begins { IsToBegin h.now with.now state.old.cells.items state.old.actors.items number command.now }
+    ensures made { OnOk result (Stepped h.now (beginning h.now command.now) number state.old.cells.items state.old.actors.items state.new.cells.items state.new.actors.items) }
+    ensures unknown { (dim : ℕ) → result ≡ Err (Unknown dim) → first_unknown h.now command.now ≡ Some dim }
+    ensures begun { OnOk result (GoesBy with.now h.now command.now state.old.cells.items state.old.actors.items state.new.cells.items state.new.actors.items) }
+    ensures stays { OnErr result (Stays state.old.cells.items state.old.actors.items state.new.cells.items state.new.actors.items) }
+{
+    match command {
+        Command::Insert(new) => begin_insert(alloc, h, with, state, number, new),
+        Command::Query(question) => begin_query(alloc, h, with, state, number, question),
+        Command::Control(called) => {
+            begin_call(alloc, h, with, state, number, *called)?;
+            Ok(())
+        }
+    }
+}
+
+/// The actor's next command names what is not known, first in this dimension, and ends with that. Where
+/// memory is wanting for it, the state stays as it was.
+fn end_unknown(
+    h: &Hierarchy,
+    with: &Use,
+    state: &mut State,
+    number: usize,
+    command: &Command,
+    dim: u8,
+) -> Result<(), AllocError>
+    requires core { HasCore h.now with.now state.old.cells.items state.old.actors.items }
+    requires begins { IsToBegin h.now with.now state.old.cells.items state.old.actors.items number command.now }
+    requires unknown { first_unknown h.now command.now ≡ Some dim }
+    ensures made { OnOk result (Stepped h.now Note number state.old.cells.items state.old.actors.items state.new.cells.items state.new.actors.items) }
+    ensures begun { OnOk result (GoesBy with.now h.now command.now state.old.cells.items state.old.actors.items state.new.cells.items state.new.actors.items) }
+    ensures stays { OnErr result (Stays state.old.cells.items state.old.actors.items state.new.cells.items state.new.actors.items) }
+{
+    let _ = with;
+    let _ = command;
+    core_steps::note_unknown(h, state, number, ledger_place(), dim)
+}
+
 /// The actor begins its next command, or ends it where it names what is not known. Where memory is wanting
 /// for that, the state stays as it was.
 fn try_to_begin(
@@ -137,10 +180,10 @@ fn try_to_begin(
     ensures begun { OnOk result (GoesBy with.now h.now command.now state.old.cells.items state.old.actors.items state.new.cells.items state.new.actors.items) }
     ensures stays { OnErr result (Stays state.old.cells.items state.old.actors.items state.new.cells.items state.new.actors.items) }
 {
-    match command {
-        Command::Insert(new) => begin_insert(alloc, h, with, state, number, new),
-        Command::Query(question) => begin_query(alloc, h, with, state, number, question),
-        Command::Control(called) => begin_call(alloc, h, with, state, number, *called),
+    match begin_known(alloc, h, with, state, number, command) {
+        Ok(()) => Ok(()),
+        Err(FilterFault::Unknown { dim }) => end_unknown(h, with, state, number, command, dim),
+        Err(FilterFault::NoMemory) => Err(AllocError),
     }
 }
 

@@ -31,6 +31,11 @@ MayCallAs role c = ⊥
 abbrev pub MayCall : Role → Call → Type 0
 MayCall role c = MayCallAs role (class_of c)
 
+-- the server in the events of an actor's commands: a session's own; a called command has none, for which 0 stands
+abbrev pub server_of : Role → ℕ
+server_of (Session server) = server
+server_of role = 0
+
 -- How many pushes a command may still need: its end, and before it the one event of a split or a move, that of each action which
 -- a balance may still make, or a page. A pull promises its own push when it is made.
 abbrev pub owes : Work → ℕ

@@ -30,7 +30,7 @@ use Rattle.shard_plan.specs.declared.action.Action.{Action}
 use Rattle.shard_plan.specs.declared.action.Action.TheVariants as action
 use Rattle.shard_plan.specs.declared.action.Load.{Load}
 use Rattle.volap_cell.specs.Cells.{LedgerCell, RegistryCell, ImageCell}
-use Rattle.volap_cell.specs.Commands.{MayCall, owes, due_pull, pulled_once, once_shown, after_action, MayNoteEnd}
+use Rattle.volap_cell.specs.Commands.{MayCall, server_of, owes, due_pull, pulled_once, once_shown, after_action, MayNoteEnd}
 use Rattle.volap_cell.specs.Planning.{next_job}
 use Rattle.volap_cell.specs.ShardKinds.{TurnsDesk, waiting}
 use Rattle.volap_cell.specs.Values.{ActorValue, JobValue, StageValue, IsCalled, IsDeclined}
@@ -189,13 +189,11 @@ pub record DoesSync (h : List Dimension) (i r l : Change) (a b : ActorValue) : T
 
 -- Notes.
 
--- an insert or a query that names what isn't known
+-- a command names what isn't known
 pub record NotesUnknown (l : Change) (a b : ActorValue) : Type 0 where
   pub free : IsFree a
-  pub server : ℕ
-  pub role : a.role ≡ Session server
   pub dim : ℕ
-  pub pushed : Pushes (event.Unknown a.number server dim) 1 1 l b.seen
+  pub pushed : Pushes (event.Unknown a.number (server_of a.role) dim) 1 1 l b.seen
   pub actor_is : b ≡ record a { seen = b.seen }
 
 -- a command finds no memory before it begins

@@ -13,12 +13,12 @@ pub returns-clause-made : goal.returns-clause-made
 returns-clause-made c =
     unknown-makes c.args.h.now c.args.ledger_at (cell_of c.args.ledger.now) (actor_of c.args.actor.now) c.requires.due c.args.dim
     c.deref_mut.result.now (ap cell_of c.in-Ledger.is ∙ ap LedgerCell (sym c.deref_mut.ensures.value)) c.push_unknown.new.ledger
-    c.in-Session.server c.in-Session.is c.in_ok-push_unknown.ensures.ok _ (c.len-actor.ensures.value ∙ ap (λ (l : LedgerValue). length l.history) c.deref.ensures)
+    c.server_of.result c.server_of.ensures c.in_ok-push_unknown.ensures.ok _ (c.len-actor.ensures.value ∙ ap (λ (l : LedgerValue). length l.history) c.deref.ensures)
 
 pub returns-clause-told : goal.returns-clause-told
 returns-clause-told c =
     tells-unknown c.args.dim (actor_of c.args.actor.now) (cell_of c.args.ledger.now) c.deref_mut.result.now c.push_unknown.new.ledger
-    (ap cell_of c.in-Ledger.is ∙ ap LedgerCell (sym c.deref_mut.ensures.value)) c.in-Session.server c.in-Session.is c.in_ok-push_unknown.ensures.ok
+    (ap cell_of c.in-Ledger.is ∙ ap LedgerCell (sym c.deref_mut.ensures.value)) c.server_of.result c.server_of.ensures c.in_ok-push_unknown.ensures.ok
 
 pub returns-in_err-push_unknown-clause-refused : goal.returns-in_err-push_unknown-clause-refused
 returns-in_err-push_unknown-clause-refused c =

@@ -1,12 +1,11 @@
-use Rattle.std.proofs.Common.{◌≡◌, true, false, is_none, refl, sym, ap, subst, to_z, of_z, w64, rules}
+use Rattle.std.proofs.Common.{◌≡◌, true, is_none, refl, sym, ap, subst, to_z, of_z, w64, rules}
 use Rattle.std.proofs.lemmas.Int.{to_z-of_z}
 use Rattle.script_form.specs.declared.script.Command.TheVariants.{Insert}
-use Rattle.volap_cell.proofs.Outcomes.{on-ok}
 use Rattle.volap_cell.specs.State.{Stepped}
 use Rattle.volap_cell.specs.declared.kind.Kind.{Kind}
 use Rattle.seeded_run.specs.Commands.{beginning_if}
 use Rattle.seeded_run.specs.Due.{are_known}
-use Rattle.seeded_run.proofs.BeginsReady.{begun-insert, insert-ready, unknown-insert, unknown-ready}
+use Rattle.seeded_run.proofs.BeginsReady.{begun-insert, insert-ready}
 use Rattle.seeded_run.proofs.DueBegins.{known-names, unknown-name}
 use Rattle.seeded_run.proofs.beginnings.begin_insert.Goals as goal
 
@@ -15,37 +14,21 @@ begin_insert-requires-clause-ready c =
     insert-ready c.args.h.now c.args.with.now c.args.state.now.cells.items c.args.state.now.actors.items c.requires.core c.args.number c.args.new.now c.requires.begins c.in-Ok.at c.in-Ok.ensures.ok
     c.image_place-image.result c.ledger_place-ledger.result c.image_place-image.ensures c.ledger_place-ledger.ensures
 
-pub note_unknown-requires-clause-ready : goal.note_unknown-requires-clause-ready
-note_unknown-requires-clause-ready c =
-    unknown-ready c.args.h.now c.args.with.now c.args.state.now.cells.items c.args.state.now.actors.items c.requires.core c.args.number (Insert c.args.new.now) c.requires.begins c.args.new.now.server refl
-    c.ledger_place-ledger.result c.ledger_place-ledger.ensures
-
 pub returns-in-Ok-clause-made : goal.returns-in-Ok-clause-made
 returns-in-Ok-clause-made c =
     let new = c.args.new.now in
     let known : are_known c.args.h.now (Insert new) ≡ true = ap is_none (known-names _ c.in-Ok.at c.coord.result c.in-Ok.is c.coord.ensures.unknown) in
-    on-ok c.begin_insert.result c.begin_insert.ensures.stepped (λ made.
-    subst (λ (k : Kind). Stepped c.args.h.now k c.args.number c.args.state.now.cells.items c.args.state.now.actors.items c.begin_insert.new.state.cells.items c.begin_insert.new.state.actors.items) (sym (ap (beginning_if (Insert new)) known)) made)
-
-pub returns-in-Err-clause-made : goal.returns-in-Err-clause-made
-returns-in-Err-clause-made c =
-    let new = c.args.new.now in
-    let first = unknown-name _ c.in-Err.dim c.coord.result c.in-Err.is c.coord.ensures.unknown c.coord.ensures.known in
-    let unknown : are_known c.args.h.now (Insert new) ≡ false = ap is_none first in
-    on-ok c.note_unknown.result c.note_unknown.ensures.stepped (λ made.
-    subst (λ (k : Kind). Stepped c.args.h.now k c.args.number c.args.state.now.cells.items c.args.state.now.actors.items c.note_unknown.new.state.cells.items c.note_unknown.new.state.actors.items) (sym (ap (beginning_if (Insert new)) unknown)) made)
+    subst (λ (k : Kind). Stepped c.args.h.now k c.args.number c.args.state.now.cells.items c.args.state.now.actors.items c.begin_insert.new.state.cells.items c.begin_insert.new.state.actors.items) (sym (ap (beginning_if (Insert new)) known)) c.in_ok-begin_insert.ensures.stepped
 
 pub returns-in-Ok-clause-begun : goal.returns-in-Ok-clause-begun
 returns-in-Ok-clause-begun c =
     let new = c.args.new.now in
     let measured : to_z w64 (of_z w64 new.measures) ≡ new.measures = to_z-of_z w64 new.measures (search rules) in
-    on-ok c.begin_insert.result c.begin_insert.ensures.told (λ told.
     begun-insert c.args.h.now c.args.with.now c.args.state.now.cells.items c.args.state.now.actors.items c.requires.core c.args.number (Insert new) c.requires.begins c.begin_insert.new.state.cells.items c.begin_insert.new.state.actors.items
-    c.ledger_place-ledger.result c.ledger_place-ledger.ensures new refl c.in-Ok.at _ c.in-Ok.ensures.ok measured told)
+    c.ledger_place-ledger.result c.ledger_place-ledger.ensures new refl c.in-Ok.at _ c.in-Ok.ensures.ok measured c.in_ok-begin_insert.ensures.told
 
-pub returns-in-Err-clause-begun : goal.returns-in-Err-clause-begun
-returns-in-Err-clause-begun c =
+pub returns-in-Err-clause-unknown : goal.returns-in-Err-clause-unknown
+returns-in-Err-clause-unknown c = λ dim is.
     let first = unknown-name _ c.in-Err.dim c.coord.result c.in-Err.is c.coord.ensures.unknown c.coord.ensures.known in
-    on-ok c.note_unknown.result c.note_unknown.ensures.told (λ told.
-    unknown-insert c.args.h.now c.args.with.now c.args.state.now.cells.items c.args.state.now.actors.items c.requires.core c.args.number (Insert c.args.new.now) c.requires.begins c.note_unknown.new.state.cells.items c.note_unknown.new.state.actors.items
-    c.ledger_place-ledger.result c.ledger_place-ledger.ensures c.args.new.now refl c.in-Err.dim first told)
+    let same : c.in-Err.dim ≡ dim = cc in
+    cc
