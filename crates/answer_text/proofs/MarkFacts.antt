@@ -1,23 +1,9 @@
 -- What is noted of a history, one event more at a time.
-use Rattle.std.proofs.Common.{◌≡◌, ◌∙◌, ℕ, zero, suc, ◌+◌, ◌<◌, ◌≤◌, ◌⊎◌, List, [], ◌∷◌, ◌==◌, Option, Some, None, length, get_or, take, reverse, refl, ap, sym, subst, inl, inr, arith}
-use Rattle.std.specs.Prelude.{IfSome, false, find, is_some, option_and_then, true, All}
-use Rattle.std.specs.Option.{option_or}
-use Rattle.std.proofs.lemmas.Bool.{cases_Bool, eqb-true}
-use Rattle.std.proofs.lemmas.Bool.Decides.{nat_tests}
-use Rattle.std.proofs.lemmas.Option.{same_Some}
-use Rattle.std.proofs.lemmas.List.{take_more, reverse-append, length-reverse, length-take-le}
-use Rattle.std.proofs.lemmas.List.Elements.{All-nil, All-push, All-weaker}
-use Rattle.row_ledger.specs.declared.event.Event.{Event}
-use Rattle.row_ledger.specs.declared.event.Event.TheVariants.{Acked, Answered, Failed, Split, Shown, Ended}
-use Rattle.row_ledger.specs.declared.page.Page.{Page}
-use Rattle.row_ledger.specs.Past.{end_in, event_at, has_ended, is_end_of, page_in, page_of, session_in}
-use Rattle.row_ledger.specs.Belonging.{number_in}
-use Rattle.script_run.specs.Places.{begins_in, begins_of}
-use Rattle.script_run.specs.Streams.{sessions}
-use Rattle.answer_text.specs.Printed.{split_for}
-use Rattle.answer_text.specs.Marks.{HasBegin, HasMark, IsPosition, IsQuiet, KnowsBegins, KnowsNewest, RefersBack, is_at, newest, shown, shown_for}
-use Rattle.answer_text.specs.Notes.{KnowsMarks}
-use Rattle.answer_text.specs.declared.notes.Notes.{Notes}
+use Rattle.std.proofs.{Common.{◌≡◌, ◌∙◌, ℕ, zero, suc, ◌+◌, ◌<◌, ◌≤◌, ◌⊎◌, List, [], ◌∷◌, ◌==◌, Option, Some, None, length, get_or, take, reverse, refl, ap, sym, subst, inl, inr, arith}, lemmas.Bool.{cases_Bool, eqb-true}, lemmas.Bool.Decides.nat_tests, lemmas.List.{take_more, reverse-append, length-reverse, length-take-le}, lemmas.List.Elements.{All-nil, All-push, All-weaker}, lemmas.Option.same_Some}
+use Rattle.std.specs.{Option.option_or, Prelude.{IfSome, false, find, is_some, option_and_then, true, All}}
+use Rattle.row_ledger.specs.{Belonging.number_in, Past.{end_in, event_at, has_ended, is_end_of, page_in, page_of, session_in}, declared.event.Event.Event, declared.event.Event.TheVariants.{Acked, Answered, Failed, Split, Shown, Ended}, declared.page.Page.Page}
+use Rattle.script_run.specs.{Places.{begins_in, begins_of}, Streams.sessions}
+use Rattle.answer_text.specs.{Marks.{HasBegin, HasMark, IsPosition, IsQuiet, KnowsBegins, KnowsNewest, RefersBack, is_at, newest, shown, shown_for}, Notes.KnowsMarks, Printed.split_for, declared.notes.Notes.Notes}
 
 -- a loop over events, the newest first
 pub past_more : (events : List Event) (i : ℕ) (e : Event) → i < length events → e ≡ get_or events i e → reverse (take (i + 1) events) ≡ e ∷ reverse (take i events)

@@ -1,13 +1,8 @@
 -- In a right history each event that belongs to a command stands behind its beginning.
-use Rattle.std.proofs.Common.{◌<◌, ℕ, Bool, List, [], ◌∷◌, length}
+use Rattle.std.proofs.{Common.{◌<◌, ℕ, Bool, List, [], ◌∷◌, length}, lemmas.Bool.{false≢true}}
 use Rattle.std.specs.Prelude.{IfSome}
-use Rattle.std.proofs.lemmas.Bool.{false≢true}
-use Rattle.row_ledger.specs.declared.event.Event.{Event}
+use Rattle.row_ledger.specs.{Belonging.number_in, Past.{call_in, insert_in, query_in}, Right.{EachEvent, Stands, StandsRight}, Site.Site, declared.event.Event.Event}
 use Rattle.row_ledger.specs.declared.event.Event.TheVariants as event
-use Rattle.row_ledger.specs.Past.{call_in, insert_in, query_in}
-use Rattle.row_ledger.specs.Belonging.{number_in}
-use Rattle.row_ledger.specs.Right.{EachEvent, Stands, StandsRight}
-use Rattle.row_ledger.specs.Site.{Site}
 use Rattle.row_ledger.proofs.Fresh.{event_at-within, kind-within}
 use Rattle.answer_text.specs.Marks.{RefersBack}
 

@@ -1,8 +1,6 @@
 -- What a summary tells, one command more at a time.
-use Rattle.std.proofs.Common.{◌≡◌, ◌∙◌, ℕ, ◌+◌, ◌<◌, ◌≤◌, List, [], ◌∷◌, ◌++◌, true, false, inl, inr, ◌⊎◌, Option, None, length, get_or, drop, append-nil, refl, ap, sym, arith}
-use Rattle.std.specs.Prelude.{zip}
-use Rattle.std.specs.List.{flat_map}
-use Rattle.std.proofs.lemmas.List.{append_assoc, drop_more, drop_all}
+use Rattle.std.proofs.{Common.{◌≡◌, ◌∙◌, ℕ, ◌+◌, ◌<◌, ◌≤◌, List, [], ◌∷◌, ◌++◌, true, false, inl, inr, ◌⊎◌, Option, None, length, get_or, drop, append-nil, refl, ap, sym, arith}, lemmas.List.{append_assoc, drop_more, drop_all}}
+use Rattle.std.specs.{List.flat_map, Prelude.zip}
 use Rattle.measure_agg.specs.Aggregate.{Aggregate}
 use Rattle.row_ledger.specs.declared.event.Event.{Event}
 use Rattle.script_form.specs.declared.script.Command.{Command}

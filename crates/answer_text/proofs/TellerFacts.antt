@@ -1,15 +1,10 @@
 -- A teller goes on from phase to phase.
-use Rattle.std.proofs.Common.{◌≡◌, ◌∙◌, ℕ, ◌+◌, ◌-◌, ◌<◌, ◌≤◌, List, [], ◌∷◌, ◌++◌, length, take, drop, reverse, get_or, refl, sym, ap, subst, arith, length-append}
+use Rattle.std.proofs.{Common.{◌≡◌, ◌∙◌, ℕ, ◌+◌, ◌-◌, ◌<◌, ◌≤◌, List, [], ◌∷◌, ◌++◌, length, take, drop, reverse, get_or, refl, sym, ap, subst, arith, length-append}, Math.Seq.take-append_seam, lemmas.List.{take-take, drop-take, length-take-le, length-reverse, reverse-append, reverse-reverse}}
 use Rattle.std.specs.List.{flat_map}
-use Rattle.std.proofs.Math.Seq.{take-append_seam}
-use Rattle.std.proofs.lemmas.List.{take-take, drop-take, length-take-le, length-reverse, reverse-append, reverse-reverse}
-use Rattle.row_ledger.specs.declared.event.Event.{Event}
-use Rattle.row_ledger.specs.declared.settings.Use.{Use}
+use Rattle.row_ledger.specs.{declared.event.Event.Event, declared.settings.Use.Use}
 use Rattle.script_form.specs.declared.script.Command.{Command}
 use Rattle.script_run.specs.Phases.{phases}
-use Rattle.answer_text.specs.Printed.{phase_behind, texts_behind}
-use Rattle.answer_text.specs.Told.{HasTold, NewTellerLaw, TellerLaw, seen_of}
-use Rattle.answer_text.specs.declared.text.Teller.{Teller}
+use Rattle.answer_text.specs.{Printed.{phase_behind, texts_behind}, Told.{HasTold, NewTellerLaw, TellerLaw, seen_of}, declared.text.Teller.Teller}
 use Rattle.answer_text.proofs.ToldLines.{phase_here, phase_next, texts_pushed}
 
 -- it has told the commands up to the end of a phase

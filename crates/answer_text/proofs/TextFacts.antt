@@ -1,21 +1,11 @@
 -- The text of commands and of phases, as the history goes on.
-use Rattle.std.proofs.Common.{◌≡◌, ◌∙◌, ℕ, suc, ◌+◌, true, IsTrue, List, [], ◌∷◌, ◌++◌, length, map, take, refl, sym, ap, arith, append_assoc, append-nil, length-append}
-use Rattle.std.specs.Prelude.{Option, Some, ◌&&◌}
-use Rattle.std.specs.List.{AllByRecursion, flat_map}
-use Rattle.std.proofs.lemmas.Grind.{flat_map-append}
-use Rattle.std.proofs.Math.Seq.{take-append_seam}
-use Rattle.std.proofs.lemmas.Bool.{and_parts}
-use Rattle.std.proofs.lemmas.List.Folds.{list_all-append}
-use Rattle.row_ledger.specs.declared.event.Event.{Event}
-use Rattle.row_ledger.specs.declared.settings.Use.{Use}
-use Rattle.row_ledger.specs.Past.{event_at, page_of}
+use Rattle.std.proofs.{Common.{◌≡◌, ◌∙◌, ℕ, suc, ◌+◌, true, IsTrue, List, [], ◌∷◌, ◌++◌, length, map, take, refl, sym, ap, arith, append_assoc, append-nil, length-append}, Math.Seq.take-append_seam, lemmas.Bool.and_parts, lemmas.Grind.flat_map-append, lemmas.List.Folds.list_all-append}
+use Rattle.std.specs.{List.{AllByRecursion, flat_map}, Prelude.{Option, Some, ◌&&◌}}
+use Rattle.row_ledger.specs.{Past.{event_at, page_of}, declared.event.Event.Event, declared.settings.Use.Use}
 use Rattle.script_form.specs.declared.script.Command.{Command}
-use Rattle.script_run.specs.Phases.{phases, all_of}
-use Rattle.script_run.specs.Places.{places_behind, places, are_over, is_over_at}
+use Rattle.script_run.specs.{Phases.{phases, all_of}, Places.{places_behind, places, are_over, is_over_at, end_of}}
 use Rattle.answer_text.specs.Printed.{split_of, lines, phase_behind, texts_behind, texts, text_at, told, told_to}
-use Rattle.script_run.specs.Places.{end_of}
-use Rattle.script_run.proofs.PlaceFacts.{NoneMore, places_behind-append, places_behind-length, places_behind-none, count_of-append}
-use Rattle.script_run.proofs.PhaseFacts.{IsSome}
+use Rattle.script_run.proofs.{PhaseFacts.IsSome, PlaceFacts.{NoneMore, places_behind-append, places_behind-length, places_behind-none, count_of-append}}
 
 -- Lines.
 

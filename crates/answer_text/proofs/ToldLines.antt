@@ -1,13 +1,9 @@
 -- Lines, one command more at a time, and the texts of phases.
-use Rattle.std.proofs.Common.{◌≡◌, ◌∙◌, ℕ, ◌+◌, ◌-◌, ◌<◌, ◌≤◌, List, [], ◌∷◌, ◌++◌, Option, None, length, get_or, take, drop, take-add, append-nil, refl, ap, sym, arith}
+use Rattle.std.proofs.{Common.{◌≡◌, ◌∙◌, ℕ, ◌+◌, ◌-◌, ◌<◌, ◌≤◌, List, [], ◌∷◌, ◌++◌, Option, None, length, get_or, take, drop, take-add, append-nil, refl, ap, sym, arith}, lemmas.Grind.get_or_tail, lemmas.List.{append_assoc, drop_more, drop_all, drop-drop}}
 use Rattle.std.specs.List.{flat_map}
-use Rattle.std.proofs.lemmas.Grind.{get_or_tail}
-use Rattle.std.proofs.lemmas.List.{append_assoc, drop_more, drop_all, drop-drop}
-use Rattle.row_ledger.specs.declared.event.Event.{Event}
-use Rattle.row_ledger.specs.declared.settings.Use.{Use}
+use Rattle.row_ledger.specs.{declared.event.Event.Event, declared.settings.Use.Use}
 use Rattle.script_form.specs.declared.script.Command.{Command}
-use Rattle.script_run.specs.Phases.{phases}
-use Rattle.script_run.specs.Places.{places_behind}
+use Rattle.script_run.specs.{Phases.phases, Places.places_behind}
 use Rattle.answer_text.specs.Printed.{lines, phase_behind, phase_lines, text_at, texts_behind}
 use Rattle.script_run.proofs.PhaseFacts.{phases-nil}
 

@@ -1,16 +1,9 @@
 -- Where commands begin, one command more at a time.
-use Rattle.std.proofs.Common.{◌≡◌, ◌∙◌, ℕ, ◌+◌, ◌<◌, ◌≤◌, List, [], ◌∷◌, ◌++◌, true, false, Option, Some, None, length, get_or, set, take, drop, append-nil, refl, ap, sym, inl, inr, arith}
+use Rattle.std.proofs.{Common.{◌≡◌, ◌∙◌, ℕ, ◌+◌, ◌<◌, ◌≤◌, List, [], ◌∷◌, ◌++◌, true, false, Option, Some, None, length, get_or, set, take, drop, append-nil, refl, ap, sym, inl, inr, arith}, lemmas.Bool.{cases_Bool, eqb-true, eqb-false, eq-eqb}, lemmas.List.{append_assoc, drop_more, drop_all, take_more, length-take, length-set, get_or-set_same, get_or-set_other, get_or_read}, lemmas.List.Elements.{All-nil, All-cons, All-get_or}, lemmas.List.Sums.{count_by_more_yes, count_by_more_no, count_by-le-length}, lemmas.Option.{slice_get_within, get_or_from_slice_get}}
 use Rattle.std.specs.Prelude.{All, slice_get, ◌==◌}
-use Rattle.std.proofs.lemmas.Bool.{cases_Bool, eqb-true, eqb-false, eq-eqb}
-use Rattle.std.proofs.lemmas.Option.{slice_get_within, get_or_from_slice_get}
-use Rattle.std.proofs.lemmas.List.{append_assoc, drop_more, drop_all, take_more, length-take, length-set, get_or-set_same, get_or-set_other, get_or_read}
-use Rattle.std.proofs.lemmas.List.Elements.{All-nil, All-cons, All-get_or}
-use Rattle.std.proofs.lemmas.List.Sums.{count_by_more_yes, count_by_more_no, count_by-le-length}
-use Rattle.row_ledger.specs.declared.event.Event.{Event}
-use Rattle.row_ledger.specs.declared.settings.Use.{Use}
+use Rattle.row_ledger.specs.{declared.event.Event.Event, declared.settings.Use.Use}
 use Rattle.script_form.specs.declared.script.Command.{Command}
-use Rattle.script_run.specs.Places.{begins_of, count_of, place_behind, places_behind, session_of}
-use Rattle.script_run.specs.Streams.{sessions}
+use Rattle.script_run.specs.{Places.{begins_of, count_of, place_behind, places_behind, session_of}, Streams.sessions}
 use Rattle.answer_text.specs.Marks.{Counts, IsPosition}
 use Rattle.answer_text.proofs.MarkFacts.{begins_of-below}
 

@@ -1,8 +1,6 @@
 -- The texts of what is said of a command.
-use Rattle.std.specs.Prelude.{ℕ, List, ◌++◌, codes}
-use Rattle.std.specs.Fmt.{decimal}
-use Rattle.answer_text.specs.Printed.{decline_text, pair_text, total_text}
-use Rattle.answer_text.specs.declared.answer.Answer.{Answer}
+use Rattle.std.specs.{Fmt.decimal, Prelude.{ℕ, List, ◌++◌, codes}}
+use Rattle.answer_text.specs.{Printed.{decline_text, pair_text, total_text}, declared.answer.Answer.Answer}
 use Rattle.answer_text.specs.declared.answer.Answer.TheVariants as answer
 
 abbrev pub said : Answer → List ℕ

@@ -1,16 +1,8 @@
 -- What is noted of a history: beginnings, and the newest events that end commands, show pages or split shards for them.
-use Rattle.std.specs.Prelude.{ℕ, ◌≡◌, ◌<◌, ◌≤◌, ◌==◌, Bool, false, Option, Some, None, IfSome, if◌then◌else◌, List, [], ◌∷◌, ◌++◌, length, ⊤}
-use Rattle.std.specs.List.{slice_index_or}
-use Rattle.std.specs.Option.{MatchOption, option_map_or}
-use Rattle.row_ledger.specs.declared.event.Event.{Event}
-use Rattle.row_ledger.specs.declared.event.Event.TheVariants.{Shown}
-use Rattle.row_ledger.specs.declared.page.Page.{Page}
-use Rattle.row_ledger.specs.declared.settings.Use.{Use}
-use Rattle.row_ledger.specs.Belonging.{number_in}
-use Rattle.row_ledger.specs.Right.{EachEvent}
+use Rattle.std.specs.{List.slice_index_or, Option.{MatchOption, option_map_or}, Prelude.{ℕ, ◌≡◌, ◌<◌, ◌≤◌, ◌==◌, Bool, false, Option, Some, None, IfSome, if◌then◌else◌, List, [], ◌∷◌, ◌++◌, length, ⊤}}
+use Rattle.row_ledger.specs.{Belonging.number_in, Right.EachEvent, declared.event.Event.Event, declared.event.Event.TheVariants.Shown, declared.page.Page.Page, declared.settings.Use.Use}
 use Rattle.script_form.specs.declared.script.Command.{Command}
-use Rattle.script_run.specs.Places.{begins_of, count_of}
-use Rattle.script_run.specs.Streams.{sessions}
+use Rattle.script_run.specs.{Places.{begins_of, count_of}, Streams.sessions}
 
 -- the position of the command for which an event shows a page
 abbrev pub shown_for : Event → Option ℕ

@@ -1,10 +1,7 @@
 -- What notes know of a history.
 use Rattle.std.specs.Prelude.{ℕ, ◌≡◌, List, length}
-use Rattle.row_ledger.specs.declared.event.Event.{Event}
-use Rattle.row_ledger.specs.Past.{end_in}
-use Rattle.answer_text.specs.Printed.{split_for}
-use Rattle.answer_text.specs.declared.notes.Notes.{Notes}
-use Rattle.answer_text.specs.Marks.{KnowsBegins, KnowsNewest, shown_for}
+use Rattle.row_ledger.specs.{Past.end_in, declared.event.Event.Event}
+use Rattle.answer_text.specs.{Marks.{KnowsBegins, KnowsNewest, shown_for}, Printed.split_for, declared.notes.Notes.Notes}
 
 -- the beginnings of this past, and the marks of the commands at the first n positions
 pub record KnowsMarks (n : ℕ) (notes : Notes) (past : List Event) : Type 0 where

@@ -1,35 +1,15 @@
 -- The text that a history tells of a script: a line or a page for each command, in the order of the script, phase by phase.
-use Rattle.std.specs.Prelude.{ℕ, ◌+◌, ℤ, ◌==◌, Bool, false, Option, Some, None, option_and_then, if◌then◌else◌, List, [], ◌∷◌, ◌++◌, length, take, find, codes}
-use Rattle.std.specs.List.{flat_map, join_by}
-use Rattle.std.specs.Option.{option_map_or}
-use Rattle.std.specs.Fmt.{decimal, signed_decimal}
+use Rattle.std.specs.{Fmt.{decimal, signed_decimal}, List.{flat_map, join_by}, Option.option_map_or, Prelude.{ℕ, ◌+◌, ℤ, ◌==◌, Bool, false, Option, Some, None, option_and_then, if◌then◌else◌, List, [], ◌∷◌, ◌++◌, length, take, find, codes}}
 use Rattle.dim_hierarchy.specs.Concept.{number_of}
 use Rattle.measure_agg.specs.Aggregate.{Aggregate}
-use Rattle.describing_set.specs.declared.part.Part.{Part}
-use Rattle.describing_set.specs.declared.set.DescSet.{DescSet}
-use Rattle.row_ledger.specs.declared.event.Event.{Event}
-use Rattle.row_ledger.specs.declared.event.Event.TheVariants.{Acked, Answered, Unknown, Split, Ended}
-use Rattle.row_ledger.specs.declared.page.AuditLine.{AuditLine}
-use Rattle.row_ledger.specs.declared.page.NodeLine.{NodeLine}
-use Rattle.row_ledger.specs.declared.page.Page.{Page}
+use Rattle.describing_set.specs.{declared.part.Part.Part, declared.set.DescSet.DescSet}
+use Rattle.row_ledger.specs.{Past.{event_at, page_of}, declared.event.Event.Event, declared.event.Event.TheVariants.{Acked, Answered, Unknown, Split, Ended}, declared.page.AuditLine.AuditLine, declared.page.NodeLine.NodeLine, declared.page.Page.Page, declared.page.ShardLine.ShardLine, declared.page.TreePage.TreePage, declared.settings.Call.Call, declared.settings.Decline.Decline, declared.settings.How.How, declared.settings.How.TheVariants.{Fine, Balanced, Declined, Postponed, NoMemory}, declared.settings.Use.Use}
 use Rattle.row_ledger.specs.declared.page.Page.TheVariants as page
-use Rattle.row_ledger.specs.declared.page.ShardLine.{ShardLine}
-use Rattle.row_ledger.specs.declared.page.TreePage.{TreePage}
-use Rattle.row_ledger.specs.declared.settings.Call.{Call}
 use Rattle.row_ledger.specs.declared.settings.Call.TheVariants as call
-use Rattle.row_ledger.specs.declared.settings.Decline.{Decline}
 use Rattle.row_ledger.specs.declared.settings.Decline.TheVariants as decline
-use Rattle.row_ledger.specs.declared.settings.How.{How}
-use Rattle.row_ledger.specs.declared.settings.How.TheVariants.{Fine, Balanced, Declined, Postponed, NoMemory}
-use Rattle.row_ledger.specs.declared.settings.Use.{Use}
-use Rattle.row_ledger.specs.Past.{event_at, page_of}
-use Rattle.script_form.specs.Table.{word_of}
-use Rattle.script_form.specs.declared.script.Cause.{Cause}
+use Rattle.script_form.specs.{Table.word_of, declared.script.Cause.Cause, declared.script.Command.Command, declared.script.Command.TheVariants.Control}
 use Rattle.script_form.specs.declared.script.Cause.TheVariants as cause
-use Rattle.script_form.specs.declared.script.Command.{Command}
-use Rattle.script_form.specs.declared.script.Command.TheVariants.{Control}
-use Rattle.script_run.specs.Phases.{phases}
-use Rattle.script_run.specs.Places.{places_behind, are_over, end_of}
+use Rattle.script_run.specs.{Phases.phases, Places.{places_behind, are_over, end_of}}
 
 -- The line of a command.
 

@@ -2,15 +2,10 @@
 -- and of the audit.
 use Rattle.std.specs.Prelude.{ℕ, Bool, true, false, ◌||◌, Option, Some, None, option_and_then, List, [], ◌∷◌, ◌++◌, map, flat_map, filter, count_by, zip, codes, decimal}
 use Rattle.measure_agg.specs.Aggregate.{Aggregate}
-use Rattle.row_ledger.specs.declared.event.Event.{Event}
-use Rattle.row_ledger.specs.declared.event.Event.TheVariants.{Answered, Failed, Refused}
-use Rattle.row_ledger.specs.declared.page.Page.{Page}
+use Rattle.row_ledger.specs.{Past.{event_at, page_of}, declared.event.Event.Event, declared.event.Event.TheVariants.{Answered, Failed, Refused}, declared.page.Page.Page, declared.settings.Use.Use}
 use Rattle.row_ledger.specs.declared.page.Page.TheVariants as page
 use Rattle.row_ledger.specs.declared.settings.Call.TheVariants as call
-use Rattle.row_ledger.specs.declared.settings.Use.{Use}
-use Rattle.row_ledger.specs.Past.{event_at, page_of}
-use Rattle.script_form.specs.declared.script.Command.{Command}
-use Rattle.script_form.specs.declared.script.Command.TheVariants.{Insert, Query, Control}
+use Rattle.script_form.specs.{declared.script.Command.Command, declared.script.Command.TheVariants.{Insert, Query, Control}}
 use Rattle.script_run.specs.Places.{end_of, places}
 use Rattle.answer_text.specs.Printed.{total_text}
 

@@ -1,13 +1,8 @@
 -- What a teller has told of a run, and read of its history.
-use Rattle.std.specs.Prelude.{ℕ, ◌≡◌, ◌≤◌, ◌++◌, List, [], length, reverse, take}
-use Rattle.std.specs.List.{slice_index_or}
-use Rattle.row_ledger.specs.declared.event.Event.{Event}
-use Rattle.row_ledger.specs.declared.settings.Use.{Use}
+use Rattle.std.specs.{List.slice_index_or, Prelude.{ℕ, ◌≡◌, ◌≤◌, ◌++◌, List, [], length, reverse, take}}
+use Rattle.row_ledger.specs.{declared.event.Event.Event, declared.settings.Use.Use}
 use Rattle.script_form.specs.declared.script.Command.{Command}
-use Rattle.answer_text.specs.declared.text.Teller.{Teller}
-use Rattle.answer_text.specs.Marks.{Counts}
-use Rattle.answer_text.specs.Notes.{Knows}
-use Rattle.answer_text.specs.Printed.{texts}
+use Rattle.answer_text.specs.{Marks.Counts, Notes.Knows, Printed.texts, declared.text.Teller.Teller}
 
 -- how many events it has read
 abbrev pub seen_of : Teller → ℕ

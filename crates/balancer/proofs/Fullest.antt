@@ -1,9 +1,6 @@
 -- The fullest and the emptiest worker.
-use Rattle.std.proofs.Common.{◌≡◌, ℕ, zero, suc, ◌+◌, ◌<◌, ◌≤◌, Bool, true, false, ◌&&◌, ◌||◌, cond, nat_lt, List, Some, None, unwrap_or, add-one, refl, sym, ap, ◌∙◌, arith}
-use Rattle.std.proofs.lemmas.Bool.{lt-ltb, le-ltb}
-use Rattle.std.proofs.lemmas.List.Sums.{fold_push}
-use Rattle.shard_plan.specs.declared.action.Load.{Load}
-use Rattle.shard_plan.specs.Balancing.{earlier, first_by, numbers_below, rows_on, has_more, has_fewer, fullest, emptiest}
+use Rattle.std.proofs.{Common.{◌≡◌, ℕ, zero, suc, ◌+◌, ◌<◌, ◌≤◌, Bool, true, false, ◌&&◌, ◌||◌, cond, nat_lt, List, Some, None, unwrap_or, add-one, refl, sym, ap, ◌∙◌, arith}, lemmas.Bool.{lt-ltb, le-ltb}, lemmas.List.Sums.fold_push}
+use Rattle.shard_plan.specs.{Balancing.{earlier, first_by, numbers_below, rows_on, has_more, has_fewer, fullest, emptiest}, declared.action.Load.Load}
 
 -- the first of the numbers below n by an order, or 0 where there is none
 abbrev found_below : (ℕ → ℕ → Bool) → ℕ → ℕ

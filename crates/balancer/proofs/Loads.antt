@@ -1,12 +1,6 @@
 -- Loops over loads.
-use Rattle.std.proofs.Common.{◌≡◌, ℕ, ◌+◌, ◌<◌, ◌≤◌, Bool, true, false, not, cond, List, [], ◌∷◌, ◌++◌, length, take, drop, get_or, set, sum_by, filter, ◌==◌, refl, sym, ap, ◌∙◌, arith}
-use Rattle.std.proofs.lemmas.Bool.{eq-eqb, ne_eqb}
-use Rattle.std.proofs.lemmas.List.{get_or_default}
-use Rattle.std.proofs.lemmas.List.Edits.{map_over_more}
-use Rattle.std.proofs.lemmas.List.Filters.{sum_by-filter_both}
-use Rattle.std.proofs.lemmas.List.Sums.{sum_by-cons, sum_by_more_le}
-use Rattle.shard_plan.specs.declared.action.Load.{Load}
-use Rattle.shard_plan.specs.Balancing.{after_move}
+use Rattle.std.proofs.{Common.{◌≡◌, ℕ, ◌+◌, ◌<◌, ◌≤◌, Bool, true, false, not, cond, List, [], ◌∷◌, ◌++◌, length, take, drop, get_or, set, sum_by, filter, ◌==◌, refl, sym, ap, ◌∙◌, arith}, lemmas.Bool.{eq-eqb, ne_eqb}, lemmas.List.get_or_default, lemmas.List.Edits.map_over_more, lemmas.List.Filters.sum_by-filter_both, lemmas.List.Sums.{sum_by-cons, sum_by_more_le}}
+use Rattle.shard_plan.specs.{Balancing.after_move, declared.action.Load.Load}
 use Rattle.balancer.specs.Turn.{rows_of_all}
 
 -- what passes a test is gone over: one more item is looked at

@@ -1,11 +1,7 @@
 -- A plan turn by turn.
-use Rattle.std.proofs.Common.{◌≡◌, ℕ, suc, ◌+◌, ◌-◌, ◌<◌, filter, ◌==◌, sym, ap, ◌∙◌, arith, append-nil, append_assoc, Bool, true, false, cond, nat_le, List, [], ◌∷◌, ◌++◌, Option, Some, None, refl}
+use Rattle.std.proofs.{Common.{◌≡◌, ℕ, suc, ◌+◌, ◌-◌, ◌<◌, filter, ◌==◌, sym, ap, ◌∙◌, arith, append-nil, append_assoc, Bool, true, false, cond, nat_le, List, [], ◌∷◌, ◌++◌, Option, Some, None, refl}, lemmas.Bool.lt-leb}
 use Rattle.std.specs.Option.{option_map_or}
-use Rattle.std.proofs.lemmas.Bool.{lt-leb}
-use Rattle.shard_plan.specs.declared.action.Load.{Load}
-use Rattle.shard_plan.specs.declared.action.Action.{Action}
-use Rattle.shard_plan.specs.declared.action.Action.TheVariants.{Move, Split}
-use Rattle.shard_plan.specs.Balancing.{even_gap, split_rows, rows_on, fullest, emptiest, gap, largest, to_move, to_look_at, plan, plan_of_split, after_move}
+use Rattle.shard_plan.specs.{Balancing.{even_gap, split_rows, rows_on, fullest, emptiest, gap, largest, to_move, to_look_at, plan, plan_of_split, after_move}, declared.action.Action.Action, declared.action.Action.TheVariants.{Move, Split}, declared.action.Load.Load}
 use Rattle.balancer.specs.Turn.{fits_gap, split_of, next_action}
 
 -- a plan that begins with this action, or ends

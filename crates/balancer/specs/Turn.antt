@@ -1,10 +1,6 @@
 -- One turn of a plan.
-use Rattle.std.specs.Prelude.{ℕ, ◌*◌, List, Bool, ◌&&◌, ◌==◌, nat_lt, nat_le, sum_by, Option, Some, None, if◌then◌else◌}
-use Rattle.std.specs.Option.{option_map_or}
-use Rattle.shard_plan.specs.declared.action.Load.{Load}
-use Rattle.shard_plan.specs.declared.action.Action.{Action}
-use Rattle.shard_plan.specs.declared.action.Action.TheVariants.{Move, Split}
-use Rattle.shard_plan.specs.Balancing.{even_gap, split_rows, emptiest, gap, to_move, to_look_at}
+use Rattle.std.specs.{Option.option_map_or, Prelude.{ℕ, ◌*◌, List, Bool, ◌&&◌, ◌==◌, nat_lt, nat_le, sum_by, Option, Some, None, if◌then◌else◌}}
+use Rattle.shard_plan.specs.{Balancing.{even_gap, split_rows, emptiest, gap, to_move, to_look_at}, declared.action.Action.Action, declared.action.Action.TheVariants.{Move, Split}, declared.action.Load.Load}
 
 -- the rows of all loads together
 abbrev pub rows_of_all : List Load → ℕ

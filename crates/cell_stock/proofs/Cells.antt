@@ -1,17 +1,7 @@
 -- Numbers of cells that differ.
-use Rattle.std.proofs.Common.{ℕ, ◌≡◌, ◌+◌, ◌-◌, ◌<◌, ◌≤◌, eqb, List, [], ◌∷◌, ◌++◌, length, get_or, refl, sym, ap, ◌∙◌, subst, arith, lit<, take, drop, ◌^◌, All, Contains, IsPermutation}
-use Rattle.std.proofs.lemmas.List.{length-append, get_or_append_left, get_or-append-add, get_or_default, take-append-drop, length_push, map-id, map_push, map-append, append_assoc, append-nil, length-map}
-use Rattle.std.proofs.lemmas.List.Sorted.{All-permutation, IsPermutation-append_comm, IsPermutation-append_left, IsPermutation-append_right}
+use Rattle.std.proofs.{Common.{ℕ, ◌≡◌, ◌+◌, ◌-◌, ◌<◌, ◌≤◌, eqb, List, [], ◌∷◌, ◌++◌, length, get_or, refl, sym, ap, ◌∙◌, subst, arith, lit<, take, drop, ◌^◌, All, Contains, IsPermutation}, lemmas.Bool.{ne_eqb, eqb-true, eqb-false}, lemmas.Bool.Decides.{same_from_decides, Decides-eqb, Decides-like}, lemmas.List.{length-append, get_or_append_left, get_or-append-add, get_or_default, take-append-drop, length_push, map-id, map_push, map-append, append_assoc, append-nil, length-map}, lemmas.List.Elements.{All-from_get_or, All-append, All-take, All-nil, All-contains_itself, Contains-append_right}, lemmas.List.Folds.Any-from_list_any, lemmas.List.FromFn.{map-range_with_len_more, length-range_with_len, get_or-range_with_len}, lemmas.List.Sorted.{All-permutation, IsPermutation-append_comm, IsPermutation-append_left, IsPermutation-append_right}, lemmas.Map.Keys.{IsDistinct-from_apart, apart_from_distinct, IsDistinct-IsPermutation}, lemmas.Map.Steps.length-le_from_distinct_below}
 use Rattle.std.specs.List.{IsDistinct, range_with_len}
-use Rattle.cell_stock.specs.Stock.{StockValue, PurseValue, IsStock, AreOut, Takes, Gives, AreFresh, Fills, cells_of}
-use Rattle.cell_stock.specs.declared.purse.Spare.{Spare}
-use Rattle.std.proofs.lemmas.Bool.Decides.{same_from_decides, Decides-eqb, Decides-like}
-use Rattle.std.proofs.lemmas.Bool.{ne_eqb, eqb-true, eqb-false}
-use Rattle.std.proofs.lemmas.List.FromFn.{map-range_with_len_more, length-range_with_len, get_or-range_with_len}
-use Rattle.std.proofs.lemmas.List.Elements.{All-from_get_or, All-append, All-take, All-nil, All-contains_itself, Contains-append_right}
-use Rattle.std.proofs.lemmas.List.Folds.{Any-from_list_any}
-use Rattle.std.proofs.lemmas.Map.Keys.{IsDistinct-from_apart, apart_from_distinct, IsDistinct-IsPermutation}
-use Rattle.std.proofs.lemmas.Map.Steps.{length-le_from_distinct_below}
+use Rattle.cell_stock.specs.{Stock.{StockValue, PurseValue, IsStock, AreOut, Takes, Gives, AreFresh, Fills, cells_of}, declared.purse.Spare.Spare}
 
 pub IsDistinct-range : (first n : ℕ) → IsDistinct eqb (range_with_len first n)
 IsDistinct-range first n = IsDistinct-from_apart eqb (range_with_len first n)

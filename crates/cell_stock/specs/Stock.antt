@@ -1,6 +1,5 @@
 -- What contracts see of a stock and of a purse, and how spares go from one to the other.
-use Rattle.std.specs.Prelude.{ℕ, ◌≡◌, ◌+◌, ◌<◌, ◌≤◌, ◌^◌, nat_eq, List, [], ◌++◌, length, map, All, Contains}
-use Rattle.std.specs.List.{IsDistinct, range_with_len}
+use Rattle.std.specs.{List.{IsDistinct, range_with_len}, Prelude.{ℕ, ◌≡◌, ◌+◌, ◌<◌, ◌≤◌, ◌^◌, nat_eq, List, [], ◌++◌, length, map, All, Contains}}
 use Rattle.cell_stock.specs.declared.purse.Spare.{Spare}
 
 -- how many cells there are, the numbers of the free ones, and how many stamps and shard ids were given out, which are

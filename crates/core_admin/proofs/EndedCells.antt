@@ -1,34 +1,18 @@
 -- The cells that a job's end changes, as the view sees them: tables of workers, the old gate, the new ones, the registry, the stock and
 -- the ledger.
-use Rattle.std.proofs.Common.{◌≡◌, ◌≢◌, ℕ, Bool, true, false, cond, eqb, List, [], ◌∷◌, ◌++◌, Some, None, refl, sym, ap, ◌∙◌, inl, inr, arith}
+use Rattle.std.proofs.{Common.{◌≡◌, ◌≢◌, ℕ, Bool, true, false, cond, eqb, List, [], ◌∷◌, ◌++◌, Some, None, refl, sym, ap, ◌∙◌, inl, inr, arith}, lemmas.Bool.eqb-true, lemmas.Cmp.nat_cmp_total}
 use Rattle.std.specs.FinMap as map
 use Rattle.std.specs.Ordering.{nat_cmp, is_eq}
-use Rattle.std.proofs.lemmas.Cmp.{nat_cmp_total}
-use Rattle.std.proofs.lemmas.Bool.{eqb-true}
 use Rattle.cell_stock.specs.Stock.{StockValue}
 use Rattle.list_words.specs.Counts.{Among, Each}
-use Rattle.list_words.proofs.Each.{among-left, among-right, each-both, each-append, each-left, each-map, each-right}
-use Rattle.list_words.proofs.Truth.{on_bool}
+use Rattle.list_words.proofs.{Each.{among-left, among-right, each-both, each-append, each-left, each-map, each-right}, Truth.on_bool}
 use Rattle.mapping_table.specs.declared.place.Where.{Where}
-use Rattle.row_ledger.specs.LedgerValue.{LedgerValue}
-use Rattle.row_ledger.specs.declared.event.Event.{Event}
+use Rattle.row_ledger.specs.{LedgerValue.LedgerValue, declared.event.Event.Event}
 use Rattle.server_image.specs.Registry.{RegistryValue}
 use Rattle.shard_store.specs.declared.gate.Gate.{Gate}
-use Rattle.volap_cell.specs.AdminKinds.{Finishes, TurnsStock}
-use Rattle.volap_cell.specs.TreeKinds.{TurnsGate}
-use Rattle.volap_cell.specs.Cells.{BlockCell, CellValue, DeskCell, FreeCell, GateCell, ImageCell, LedgerCell, MapCell, MapOf, OfStock, RegistryCell, StockCell, Tag, TheLedger, TheRegistry, TheStock, active_in, gate_shard, ledger_in, pins_in, registry_in, stock_in, tag_of, where_in}
-use Rattle.volap_cell.specs.Ghost.{Ghost}
-use Rattle.volap_cell.specs.Invariant.{InvWith}
-use Rattle.volap_cell.specs.Setting.{Setting, ledger_cell, map_cell}
-use Rattle.volap_cell.specs.Values.{ActorValue, JobValue}
-use Rattle.volap_cell.specs.View.{View, view}
-use Rattle.volap_cell.specs.World.{Agrees, Change, World, after, put}
-use Rattle.volap_cell.specs.declared.command.Work.{Work}
+use Rattle.volap_cell.specs.{AdminKinds.{Finishes, TurnsStock}, Cells.{BlockCell, CellValue, DeskCell, FreeCell, GateCell, ImageCell, LedgerCell, MapCell, MapOf, OfStock, RegistryCell, StockCell, Tag, TheLedger, TheRegistry, TheStock, active_in, gate_shard, ledger_in, pins_in, registry_in, stock_in, tag_of, where_in}, Ghost.Ghost, Invariant.InvWith, Setting.{Setting, ledger_cell, map_cell}, TreeKinds.TurnsGate, Values.{ActorValue, JobValue}, View.{View, view}, World.{Agrees, Change, World, after, put}, declared.command.Work.Work}
 use Rattle.volap_cell.specs.declared.command.Work.TheVariants as work_is
-use Rattle.volap_cell.proofs.Fields.{IsNew}
-use Rattle.volap_cell.proofs.Frames.{AreApartCells, AreAt, put-at}
-use Rattle.volap_cell.proofs.Numbers.{at-ledger, at-map, at-registry, at-stock}
-use Rattle.volap_cell.proofs.Touches.{IsBlank, turned}
+use Rattle.volap_cell.proofs.{Cells.Numbers.{at-ledger, at-map, at-registry, at-stock}, Views.Fields.IsNew, Views.Frames.{AreApartCells, AreAt, put-at}, Views.Touches.{IsBlank, turned}}
 
 -- each change is of another cell, or leaves what f tells
 put-keeps : {A : Type 0} (f : CellValue → A) (cs : List Change) (cells : ℕ → CellValue) (y : ℕ) → AreAt cells cs → Each (λ d. d.number ≡ y → f d.now ≡ f d.before) cs → f (put cs cells y) ≡ f (cells y)

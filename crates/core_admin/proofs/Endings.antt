@@ -1,87 +1,21 @@
 -- A job comes to its end, whose gate retires: that keeps the invariant, and less is left.
-use Rattle.std.proofs.Common.{◌≡◌, ◌≢◌, ℕ, ◌+◌, ◌-◌, ◌*◌, ◌<◌, ◌≤◌, true, false, eqb, List, [], ◌∷◌, ◌++◌, length, Option, Some, None, IsSome, refl, sym, ap, ◌∙◌, subst, ◌⊎◌, inl, inr, arith, le_of_lt, ◌==◌, ◌||◌}
+use Rattle.std.proofs.{Common.{◌≡◌, ◌≢◌, ℕ, ◌+◌, ◌-◌, ◌*◌, ◌<◌, ◌≤◌, true, false, eqb, List, [], ◌∷◌, ◌++◌, length, Option, Some, None, IsSome, refl, sym, ap, ◌∙◌, subst, ◌⊎◌, inl, inr, arith, le_of_lt, ◌==◌, ◌||◌}, lemmas.Bool.{eqb-true, eqb-false}}
 use Rattle.std.specs.Option.{option_map_or}
-use Rattle.std.proofs.lemmas.Bool.{eqb-true, eqb-false}
-use Rattle.row_ledger.specs.LedgerValue.{LedgerValue}
+use Rattle.row_ledger.specs.{Belonging.number_in, Classes.class_of, Kept.KeepsRight, LedgerValue.LedgerValue, Past.{Step, before, work, call_at, end_in, has_ended, has_page, session_in}, Right.{AsksFor, IsRightAction, MayEnd, shows}, Shards.is_live, Work.{Did, DidOnly, is_known, shard_of}, Workers.is_on, declared.class.Class.Class, declared.event.Event.Event, declared.event.Event.TheVariants.Ended, declared.settings.Call.Call}
 use Rattle.list_words.specs.Counts.{same}
 use Rattle.list_words.proofs.Truth.{on_bool}
 use Rattle.dim_hierarchy.specs.declared.row.Row.{Row}
-use Rattle.row_ledger.specs.Past.{Step, before, work, call_at, end_in, has_ended, has_page, session_in}
-use Rattle.row_ledger.specs.Kept.{KeepsRight}
-use Rattle.row_ledger.specs.Shards.{is_live}
-use Rattle.row_ledger.specs.Workers.{is_on}
-use Rattle.row_ledger.specs.Work.{Did, DidOnly, is_known, shard_of}
-use Rattle.row_ledger.specs.declared.event.Event.{Event}
-use Rattle.row_ledger.specs.declared.event.Event.TheVariants.{Ended}
-use Rattle.row_ledger.specs.declared.class.Class.{Class}
-use Rattle.row_ledger.specs.Right.{AsksFor, IsRightAction, MayEnd, shows}
-use Rattle.row_ledger.proofs.Growth.{KeepsRight-ended}
-use Rattle.row_ledger.proofs.Positions.{before-older}
-use Rattle.shard_plan.specs.declared.action.Action.{Action}
-use Rattle.shard_plan.specs.declared.action.Load.{Load}
-use Rattle.tree_shape.specs.Laws.{OtherLaw}
-use Rattle.tree_shape.specs.Shape.{Shape, numbers}
-use Rattle.volap_cell.specs.AdminKinds.{Finishes, PushesBoth, HasJob}
-use Rattle.volap_cell.specs.Cells.{LedgerCell, ledger_in}
-use Rattle.volap_cell.specs.Commands.{after_action, owes}
-use Rattle.volap_cell.specs.Falls.{control_of, job_left, left, of_work, plenty}
-use Rattle.volap_cell.specs.Errands.{ReadPart}
-use Rattle.volap_cell.specs.Ghost.{Ghost, InPurse, InTree, Owner}
-use Rattle.volap_cell.specs.Growing.{Growing, Queueing, Resting}
-use Rattle.volap_cell.specs.ImageKinds.{Pushes, doing}
-use Rattle.volap_cell.specs.Invariant.{InvWith}
-use Rattle.volap_cell.specs.Imaging.{Covering, Imaging}
-use Rattle.volap_cell.specs.Lineage.{Lineage}
-use Rattle.volap_cell.specs.Placing.{Inserting, Placing}
-use Rattle.volap_cell.specs.Desking.{Desking}
-use Rattle.volap_cell.specs.Owing.{Owing, owed_by}
-use Rattle.volap_cell.specs.Telling.{IsCalledAs, IsProgress, Telling}
-use Rattle.volap_cell.specs.Planning.{job_for, next_job}
-use Rattle.volap_cell.specs.Querying.{IsInTreeOf, Querying}
-use Rattle.volap_cell.specs.Setting.{Setting, actor_count, cell_count, ledger_cell, site_in}
-use Rattle.volap_cell.specs.Steps.{history_in}
-use Rattle.volap_cell.specs.Values.{ActorValue, JobValue, IsCalled, BuildingValue, Builds}
-use Rattle.volap_cell.specs.View.{View, row_at, view}
-use Rattle.volap_cell.specs.Working.{Balancing, IsBalancing, IsJobOf, action_of, begun}
-use Rattle.volap_cell.specs.World.{Change, World}
-use Rattle.volap_cell.specs.declared.command.Balance.{Balance}
-use Rattle.volap_cell.specs.declared.command.Command.{Command}
-use Rattle.volap_cell.specs.declared.command.Work.{Work}
-use Rattle.volap_cell.specs.declared.role.Role.TheVariants.{Admin}
-use Rattle.volap_cell.proofs.AdminViews.{by_finish}
-use Rattle.volap_cell.proofs.Fields.{IsNew, IsNewAt, IsPushed, pushed-new}
-use Rattle.volap_cell.proofs.GrowsReads.{ReadersTake, pinned-whole, readers-take, reading-rows-older}
-use Rattle.volap_cell.proofs.Persons.{has-command}
-use Rattle.volap_cell.proofs.Grows.{call-kept, query-same}
-use Rattle.volap_cell.proofs.GrowsKnown.{AreOlder, older-rows}
-use Rattle.volap_cell.proofs.GrowsTold.{called-kept, commands-older}
-use Rattle.volap_cell.proofs.GrowsTrees.{growing-grown, past-there, queueing-grown}
-use Rattle.volap_cell.proofs.NotedCommands.{telling-goes-on}
-use Rattle.volap_cell.proofs.QuietHistory.{covering-quiet, desking-quiet, desks-older, imaging-quiet, inserting-quiet, lineage-quiet, placing-quiet, querying-quiet, readers-older, resting-quiet}
-use Rattle.core_image.proofs.Endings.{unasked}
-use Rattle.core_image.proofs.Owed.{owed-others, promises-now}
-use Rattle.volap_cell.proofs.Seen.{renewed}
-use Rattle.core_admin.proofs.BalanceDone.{balancing-done, next-is, within, IsDoneBy}
-use Rattle.core_image.proofs.NextAction.{next-action}
-use Rattle.core_admin.proofs.FinishedCommands.{telling-finished}
-use Rattle.core_admin.proofs.NextJobs.{IsNextOf, numbering-next, off-desk, working-next, balancing-one, control-next}
-use Rattle.core_admin.proofs.TurnedCommands.{IsOffDesk, turned-desking, turned-inserting, turned-placing}
-use Rattle.core_admin.proofs.Returned.{one}
-use Rattle.core_admin.proofs.Retiring.{Retiring, gate-old, not-new, retired-stocking}
-use Rattle.core_admin.proofs.RetiringLeft.{control-retired}
-use Rattle.core_admin.proofs.RetiringTrees.{retired-growing, retired-pinning, retired-queueing, retired-stamping}
-use Rattle.core_admin.proofs.Untouched.{querying-off}
-use Rattle.core_admin.proofs.SharedLineage.{LeadsOn, leading-shared, lineage-shared}
-use Rattle.core_admin.proofs.SharedRows.{SharesRows, placing-shared, resting-shared, shared_ghost, turning-shared}
-use Rattle.core_admin.proofs.ShardLines.{KeepsBoxes, KeepsLines, covering-kept, desking-kept, imaging-kept, inserting-kept, querying-kept, rows}
-use Rattle.row_ledger.specs.declared.settings.Call.{Call}
-use Rattle.volap_cell.specs.declared.role.Role.{Role}
+use Rattle.row_ledger.proofs.{Growth.KeepsRight-ended, Positions.before-older}
+use Rattle.shard_plan.specs.{declared.action.Action.Action, declared.action.Load.Load}
+use Rattle.tree_shape.specs.{Laws.OtherLaw, Shape.{Shape, numbers}}
+use Rattle.volap_cell.specs.{AdminKinds.{Finishes, PushesBoth, HasJob}, Cells.{LedgerCell, ledger_in}, Commands.{after_action, owes}, Desking.Desking, Errands.ReadPart, Falls.{control_of, job_left, left, of_work, plenty}, Ghost.{Ghost, InPurse, InTree, Owner}, Growing.{Growing, Queueing, Resting}, ImageKinds.{Pushes, doing}, Imaging.{Covering, Imaging}, Invariant.InvWith, Lineage.Lineage, Owing.{Owing, owed_by}, Placing.{Inserting, Placing}, Planning.{job_for, next_job}, Querying.{IsInTreeOf, Querying}, Setting.{Setting, actor_count, cell_count, ledger_cell, site_in}, Steps.history_in, Telling.{IsCalledAs, IsProgress, Telling}, Values.{ActorValue, JobValue, IsCalled, BuildingValue, Builds}, View.{View, row_at, view}, Working.{Balancing, IsBalancing, IsJobOf, action_of, begun}, World.{Change, World}, declared.command.Balance.Balance, declared.command.Command.Command, declared.command.Work.Work, declared.role.Role.Role, declared.role.Role.TheVariants.Admin}
+use Rattle.volap_cell.proofs.{OneEvent.Known.{AreOlder, older-rows}, OneEvent.Noted.telling-goes-on, OneEvent.Older.{call-kept, query-same}, OneEvent.Quiet.{covering-quiet, desking-quiet, desks-older, imaging-quiet, inserting-quiet, lineage-quiet, placing-quiet, querying-quiet, readers-older, resting-quiet}, OneEvent.Reads.{ReadersTake, pinned-whole, readers-take, reading-rows-older}, OneEvent.Told.{called-kept, commands-older}, OneEvent.Trees.{growing-grown, past-there, queueing-grown}, Persons.has-command, Views.Admin.by_finish, Views.Fields.{IsNew, IsNewAt, IsPushed, pushed-new}, Views.Seen.renewed}
+use Rattle.core_image.proofs.{Commands.Endings.unasked, Commands.NextAction.next-action, Commands.Owed.{owed-others, promises-now}}
+use Rattle.core_admin.proofs.{Jobs.FinishedCommands.telling-finished, Jobs.NextJobs.{IsNextOf, numbering-next, off-desk, working-next, balancing-one, control-next}, Jobs.TurnedCommands.{IsOffDesk, turned-desking, turned-inserting, turned-placing}, Moving.BalanceDone.{balancing-done, next-is, within, IsDoneBy}, Postponing.Returned.one, Retiring.Gates.{Retiring, gate-old, not-new, retired-stocking}, Retiring.Left.control-retired, Retiring.Trees.{retired-growing, retired-pinning, retired-queueing, retired-stamping}, ShardLines.{KeepsBoxes, KeepsLines, covering-kept, desking-kept, imaging-kept, inserting-kept, querying-kept, rows}, SharedLineage.{LeadsOn, leading-shared, lineage-shared}, SharedRows.{SharesRows, placing-shared, resting-shared, shared_ghost, turning-shared}, Untouched.querying-off}
 use Rattle.row_ledger.specs.declared.class.Class.TheVariants as class_is
 use Rattle.row_ledger.specs.declared.settings.How.TheVariants as how_is
 use Rattle.shard_plan.specs.declared.action.Action.TheVariants as action
 use Rattle.volap_cell.specs.declared.command.Work.TheVariants as work_is
-use Rattle.row_ledger.specs.Classes.{class_of}
-use Rattle.row_ledger.specs.Belonging.{number_in}
 
 -- what a job's end leaves
 pub record IsFinished (s : Setting) (w w2 : World) (g : Ghost) : Type 0 where

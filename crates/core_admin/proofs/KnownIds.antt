@@ -2,19 +2,13 @@
 use Rattle.std.proofs.Common.{◌≡◌, ℕ, ◌<◌, ◌≤◌, false, Option, Some, None, IsSome, refl, sym, ◌∙◌, arith}
 use Rattle.mapping_table.specs.declared.place.Where.{Where}
 use Rattle.mapping_table.specs.declared.place.Where.TheVariants as where_is
-use Rattle.row_ledger.specs.Listings.{places_of}
-use Rattle.row_ledger.specs.Right.{EachEvent, Stands}
-use Rattle.row_ledger.specs.Shards.{frontier, ids_made}
-use Rattle.row_ledger.specs.Workers.{left_at}
+use Rattle.row_ledger.specs.{Listings.places_of, Right.{EachEvent, Stands}, Shards.{frontier, ids_made}, Workers.left_at}
 use Rattle.row_ledger.proofs.Descent.{live-made, split-made}
 use Rattle.server_image.specs.Registry.{RegistryValue, on_frontier}
 use Rattle.list_words.proofs.Truth.{on_bool}
-use Rattle.volap_cell.specs.Ghost.{Ghost}
-use Rattle.volap_cell.specs.Invariant.{InvWith}
-use Rattle.volap_cell.specs.Setting.{Setting, site_in}
-use Rattle.volap_cell.specs.View.{View}
-use Rattle.core_image.proofs.Hosts.{stands-live}
-use Rattle.volap_cell.proofs.Departures.{left-moves, moves-made}
+use Rattle.volap_cell.specs.{Ghost.Ghost, Invariant.InvWith, Setting.{Setting, site_in}, View.View}
+use Rattle.core_image.proofs.Images.Hosts.{stands-live}
+use Rattle.volap_cell.proofs.Histories.Departures.{left-moves, moves-made}
 
 module _ (s : Setting) (v : View) (g : Ghost) (i : InvWith s v g) where
   each : EachEvent (Stands (site_in s) g.placed) v.history

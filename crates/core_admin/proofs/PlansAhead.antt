@@ -1,27 +1,13 @@
 -- What is ahead of a balance, behind a move and behind a split.
-use Rattle.std.proofs.Common.{◌≡◌, ◌≢◌, ℕ, suc, ◌+◌, ◌≤◌, List, [], ◌∷◌, Bool, true, false, length, drop, slice_get, eqb, Option, Some, None, refl, sym, ap, ◌∙◌, subst, arith, All, ◌==◌, ◌||◌, eqb-true, zero, nat_le}
-use Rattle.std.specs.List.{list_any}
-use Rattle.std.specs.Prelude.{if◌then◌else◌}
-use Rattle.std.proofs.lemmas.Bool.{false≢true, eqb-false, ne_eqb}
-use Rattle.std.proofs.lemmas.List.Elements.{All-head, All-tail, All-weaker, All-nil}
-use Rattle.row_ledger.specs.Shards.{is_live, frontier}
-use Rattle.row_ledger.specs.Workers.{is_on}
-use Rattle.row_ledger.specs.declared.event.Event.{Event}
-use Rattle.row_ledger.specs.declared.event.Event.TheVariants.{Moved, Split}
-use Rattle.shard_plan.specs.Balancing.{after_move, emptiest, even_gap, gap, plan, plan_of_split, split_rows, to_look_at, to_move}
-use Rattle.shard_plan.specs.declared.action.Action.{Action}
-use Rattle.shard_plan.specs.declared.action.Load.{Load}
+use Rattle.std.proofs.{Common.{◌≡◌, ◌≢◌, ℕ, suc, ◌+◌, ◌≤◌, List, [], ◌∷◌, Bool, true, false, length, drop, slice_get, eqb, Option, Some, None, refl, sym, ap, ◌∙◌, subst, arith, All, ◌==◌, ◌||◌, eqb-true, zero, nat_le}, lemmas.Bool.{false≢true, eqb-false, ne_eqb}, lemmas.List.Elements.{All-head, All-tail, All-weaker, All-nil}}
+use Rattle.std.specs.{List.list_any, Option.option_map_or, Prelude.{if◌then◌else◌}}
+use Rattle.row_ledger.specs.{Shards.{is_live, frontier}, Workers.is_on, declared.event.Event.Event, declared.event.Event.TheVariants.{Moved, Split}}
+use Rattle.shard_plan.specs.{Balancing.{after_move, emptiest, even_gap, gap, plan, plan_of_split, split_rows, to_look_at, to_move}, declared.action.Action.Action, declared.action.Load.Load}
 use Rattle.list_words.proofs.Truth.{on_bool}
-use Rattle.volap_cell.specs.Commands.{after_action, stands_after}
-use Rattle.volap_cell.specs.Planning.{has_load, worker_among}
-use Rattle.volap_cell.specs.Setting.{Setting}
-use Rattle.volap_cell.specs.Values.{JobValue}
-use Rattle.volap_cell.specs.Working.{IsAhead, IsPlanned, StandsBy, action_of, action_to}
-use Rattle.volap_cell.specs.declared.command.Balance.{Balance}
-use Rattle.core_image.proofs.NextAction.{drop-at}
-use Rattle.std.specs.Option.{option_map_or}
+use Rattle.volap_cell.specs.{Commands.{after_action, stands_after}, Planning.{has_load, worker_among}, Setting.Setting, Values.JobValue, Working.{IsAhead, IsPlanned, StandsBy, action_of, action_to}, declared.command.Balance.Balance}
+use Rattle.core_image.proofs.Commands.NextAction.{drop-at}
 use Rattle.shard_plan.specs.declared.action.Action.TheVariants as action
-use Rattle.core_admin.proofs.MovedShards.{on-here, on-other}
+use Rattle.core_admin.proofs.Moving.MovedShards.{on-here, on-other}
 
 -- Where the loads stand behind a move: the shard on its new worker, and all others where they were.
 

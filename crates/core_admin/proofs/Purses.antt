@@ -1,35 +1,16 @@
 -- An administrator's cells: some go between the stock, its purse and what its job has spent, each cell being in one of these as often as
 -- before; a spare has a stamp that it had, or one that wasn't given out. That keeps what the invariant says of cells and stamps.
-use Rattle.std.proofs.Common.{◌≡◌, ◌≢◌, ℕ, ◌+◌, ◌^◌, ◌<◌, ◌≤◌, Bool, true, false, cond, eqb, leb, List, [], ◌∷◌, ◌++◌, Option, Some, refl, sym, ap, ◌∙◌, subst, ◌⊎◌, inl, inr, arith, map, All, ◌||◌}
+use Rattle.std.proofs.{Common.{◌≡◌, ◌≢◌, ℕ, ◌+◌, ◌^◌, ◌<◌, ◌≤◌, Bool, true, false, cond, eqb, leb, List, [], ◌∷◌, ◌++◌, Option, Some, refl, sym, ap, ◌∙◌, subst, ◌⊎◌, inl, inr, arith, map, All, ◌||◌}, lemmas.Bool.{leb-false, leb-true, eqb-true, eqb-false, ne_eqb}, lemmas.List.map-append, lemmas.List.Elements.{All-cons, All-nil}}
 use Rattle.std.specs.List.{AllByRecursion, IsDistinct}
-use Rattle.std.proofs.lemmas.List.Elements.{All-cons, All-nil}
-use Rattle.std.proofs.lemmas.List.{map-append}
-use Rattle.cell_stock.specs.Stock.{IsStock, StockValue, cells_of, stamps_of}
-use Rattle.cell_stock.specs.declared.purse.Spare.{Spare}
-use Rattle.dc_node.specs.declared.entry.Entry.{Entry}
-use Rattle.dc_node.specs.declared.todo.Item.{Item}
-use Rattle.shard_store.specs.declared.gate.Phase.{Phase}
-use Rattle.shard_store.specs.declared.gate.Phase.TheVariants.{Gone}
+use Rattle.cell_stock.specs.{Stock.{IsStock, StockValue, cells_of, stamps_of}, declared.purse.Spare.Spare}
+use Rattle.dc_node.specs.{declared.entry.Entry.Entry, declared.todo.Item.Item}
+use Rattle.shard_store.specs.{declared.gate.Phase.Phase, declared.gate.Phase.TheVariants.Gone}
 use Rattle.list_words.specs.Counts.{Among, Each, times}
-use Rattle.list_words.proofs.Each.{each-among, each-both, each-map, each-append, each-here}
-use Rattle.std.proofs.lemmas.Bool.{leb-false, leb-true, eqb-true, eqb-false, ne_eqb}
-use Rattle.list_words.proofs.Times.{times-append, same_is}
-use Rattle.list_words.proofs.Truth.{eqb-self, on_bool}
-use Rattle.tree_shape.specs.Queries.{NoneWaits}
-use Rattle.tree_shape.specs.Shape.{Node, Shape, nodes}
-use Rattle.tree_shape.specs.Steps.{AreApart, AreSpares, IsSpare}
-use Rattle.volap_cell.specs.Ghost.{AGate, Ghost, InJob, InPurse, InTree, NotOfStock, Owner, Unused, is_in_job, is_in_purse, is_in_tree, is_unused}
-use Rattle.volap_cell.specs.Invariant.{InvWith}
-use Rattle.volap_cell.specs.Owing.{one_if}
-use Rattle.volap_cell.specs.Setting.{Setting, cell_count, first_stock_cell}
-use Rattle.volap_cell.specs.Stocking.{IsWhole, LeavesStamp, Stamping, Stocking, all_items, all_spares, cells_at, items_in, items_of_job, items_of_read, spent_of}
-use Rattle.volap_cell.specs.Values.{JobValue, StageValue}
-use Rattle.volap_cell.specs.View.{View, view}
-use Rattle.volap_cell.specs.World.{World}
-use Rattle.volap_cell.proofs.Blanks.{spare-owner, spent-owner}
-use Rattle.volap_cell.proofs.Fields.{IsNewAt}
-use Rattle.volap_cell.proofs.Spares.{among-cells}
-use Rattle.core_admin.proofs.FrozenGates.{spares-each}
+use Rattle.list_words.proofs.{Each.{each-among, each-both, each-map, each-append, each-here}, Times.{times-append, same_is}, Truth.{eqb-self, on_bool}}
+use Rattle.tree_shape.specs.{Queries.NoneWaits, Shape.{Node, Shape, nodes}, Steps.{AreApart, AreSpares, IsSpare}}
+use Rattle.volap_cell.specs.{Ghost.{AGate, Ghost, InJob, InPurse, InTree, NotOfStock, Owner, Unused, is_in_job, is_in_purse, is_in_tree, is_unused}, Invariant.InvWith, Owing.one_if, Setting.{Setting, cell_count, first_stock_cell}, Stocking.{IsWhole, LeavesStamp, Stamping, Stocking, all_items, all_spares, cells_at, items_in, items_of_job, items_of_read, spent_of}, Values.{JobValue, StageValue}, View.{View, view}, World.World}
+use Rattle.volap_cell.proofs.{Cells.Blanks.{spare-owner, spent-owner}, Cells.Spares.among-cells, Views.Fields.IsNewAt}
+use Rattle.core_admin.proofs.Collecting.FrozenGates.{spares-each}
 
 -- Lists of spares.
 

@@ -1,52 +1,22 @@
 -- The rows of a shard go to other shards, or to another worker: among shards that were made before, nothing comes from others than
 -- before, and no row leaves the line of such a shard or comes to it. What that leaves of desks, inserts, queries, images and boxes,
 -- where each part of a query is of a shard that was made.
-use Rattle.std.proofs.Common.{◌≡◌, ◌≢◌, ℕ, List, [], ◌∷◌, Bool, true, false, Option, Some, None, refl, sym, ap, ◌∙◌, subst, ◌⊎◌, inl, inr, Contains, ◌==◌, get_or, le_of_lt, ◌<◌, All}
-use Rattle.std.specs.Prelude.{IsTrue}
-use Rattle.std.specs.List.{AllZip, list_any}
-use Rattle.std.proofs.lemmas.List.Elements.{All-contains, All-head, All-tail, All-weaker}
+use Rattle.std.proofs.{Common.{◌≡◌, ◌≢◌, ℕ, List, [], ◌∷◌, Bool, true, false, Option, Some, None, refl, sym, ap, ◌∙◌, subst, ◌⊎◌, inl, inr, Contains, ◌==◌, get_or, le_of_lt, ◌<◌, All}, lemmas.List.Elements.{All-contains, All-head, All-tail, All-weaker}}
+use Rattle.std.specs.{List.{AllZip, list_any}, Prelude.IsTrue}
 use Rattle.dim_hierarchy.specs.declared.row.Row.{Row}
-use Rattle.describing_set.specs.DescSet.{covers}
-use Rattle.describing_set.specs.declared.listing.Spot.{Spot}
+use Rattle.describing_set.specs.{DescSet.covers, declared.listing.Spot.Spot}
 use Rattle.dc_node.specs.declared.block.Block.{Block}
-use Rattle.query_router.specs.Desk.{is_refused}
-use Rattle.query_router.specs.declared.part.Part.{Part}
-use Rattle.query_router.specs.declared.part.PartState.{PartState}
+use Rattle.query_router.specs.{Desk.is_refused, declared.part.Part.Part, declared.part.PartState.PartState, declared.part.Want.Want}
 use Rattle.query_router.specs.declared.part.PartState.TheVariants as state
-use Rattle.query_router.specs.declared.part.Want.{Want}
 use Rattle.query_router.specs.declared.part.Want.TheVariants as want_is
-use Rattle.row_ledger.specs.Bounds.{known, listing_of, may, must, published}
-use Rattle.row_ledger.specs.Changes.{AcksStay, KnowledgeStays, PullsStay}
-use Rattle.row_ledger.specs.Listings.{IsBox, places_of}
-use Rattle.row_ledger.specs.Past.{Ack, Query, acked, insert_at, insert_in, last_of, query_at, query_in}
-use Rattle.row_ledger.specs.Shards.{comes_from, ids_made, is_live, is_of}
-use Rattle.row_ledger.specs.declared.event.Event.{Event}
-use Rattle.row_ledger.proofs.Older.{is_path-older}
-use Rattle.row_ledger.proofs.Positions.{before-older}
+use Rattle.row_ledger.specs.{Bounds.{known, listing_of, may, must, published}, Changes.{AcksStay, KnowledgeStays, PullsStay}, Listings.{IsBox, places_of}, Past.{Ack, Query, acked, insert_at, insert_in, last_of, query_at, query_in}, Shards.{comes_from, ids_made, is_live, is_of}, declared.event.Event.Event}
+use Rattle.row_ledger.proofs.{Older.is_path-older, Positions.before-older}
 use Rattle.server_image.specs.Registry.{RegistryValue}
 use Rattle.shard_store.specs.declared.gate.Gate.{Gate}
-use Rattle.tree_shape.specs.Queries.{IsUnfinished, fits}
-use Rattle.tree_shape.specs.Shape.{Shape, nodes}
-use Rattle.volap_cell.specs.Desking.{AreLinesApart, AreUnrelated, Desking, IsQueryPart, IsWantOf}
-use Rattle.volap_cell.specs.Errands.{ReadPart}
-use Rattle.volap_cell.specs.Ghost.{Ghost}
-use Rattle.volap_cell.specs.Growing.{IsUnder, table_of}
-use Rattle.volap_cell.specs.Imaging.{Covering, Fits, HasGrown, Imaging, IsCovered, IsGrowth}
-use Rattle.volap_cell.specs.Invariant.{InvWith}
-use Rattle.volap_cell.specs.Placing.{Inserting, IsLead, IsRowPart}
-use Rattle.volap_cell.specs.Querying.{HoldsOr, IsCounted, IsEndOfPart, IsInTreeOf, IsWalk, Querying, must_hold}
-use Rattle.volap_cell.specs.Setting.{Setting, site_in}
-use Rattle.volap_cell.specs.Stocking.{cells_at}
-use Rattle.volap_cell.specs.Values.{ReadingValue}
-use Rattle.volap_cell.specs.View.{View, row_at, view}
-use Rattle.volap_cell.specs.World.{World}
-use Rattle.volap_cell.proofs.Departures.{older-made}
-use Rattle.volap_cell.proofs.Grows.{Any-weaker, box-older, insert-kept, insert-same, query-same, query-within, rows-same}
-use Rattle.volap_cell.proofs.GrowsKnown.{All-inside, known-acked, published-acked}
-use Rattle.volap_cell.proofs.GrowsReads.{readers-take}
-use Rattle.volap_cell.proofs.PartFacts.{with-parts}
-use Rattle.core_image.proofs.Frontiers.{listed-was, place-there, spot-there}
-use Rattle.core_image.proofs.MadePaths.{listed-made, path-made}
+use Rattle.tree_shape.specs.{Queries.{IsUnfinished, fits}, Shape.{Shape, nodes}}
+use Rattle.volap_cell.specs.{Desking.{AreLinesApart, AreUnrelated, Desking, IsQueryPart, IsWantOf}, Errands.ReadPart, Ghost.Ghost, Growing.{IsUnder, table_of}, Imaging.{Covering, Fits, HasGrown, Imaging, IsCovered, IsGrowth}, Invariant.InvWith, Placing.{Inserting, IsLead, IsRowPart}, Querying.{HoldsOr, IsCounted, IsEndOfPart, IsInTreeOf, IsWalk, Querying, must_hold}, Setting.{Setting, site_in}, Stocking.cells_at, Values.ReadingValue, View.{View, row_at, view}, World.World}
+use Rattle.volap_cell.proofs.{Desks.Facts.with-parts, Histories.Departures.older-made, OneEvent.Known.{All-inside, known-acked, published-acked}, OneEvent.Older.{Any-weaker, box-older, insert-kept, insert-same, query-same, query-within, rows-same}, OneEvent.Reads.readers-take}
+use Rattle.core_image.proofs.{Images.Frontiers.{listed-was, place-there, spot-there}, Images.MadePaths.{listed-made, path-made}}
 
 -- the event that tells of it, and the shards of the rows behind it
 pub record KeepsLines (s : Setting) (v : View) (g : Ghost) (home : ℕ → ℕ) (e : Event) : Type 0 where

@@ -1,34 +1,17 @@
 -- A gate retires, and new gates take its rows: where the tables of workers lead then, and what the registry has.
-use Rattle.std.proofs.Common.{◌≡◌, ◌≢◌, ℕ, ◌<◌, List, ◌∷◌, [], length, true, false, Option, Some, None, IsSome, refl, sym, ap, ◌∙◌, subst, ◌⊎◌, inl, inr, arith}
+use Rattle.std.proofs.{Common.{◌≡◌, ◌≢◌, ℕ, ◌<◌, List, ◌∷◌, [], length, true, false, Option, Some, None, IsSome, refl, sym, ap, ◌∙◌, subst, ◌⊎◌, inl, inr, arith}, lemmas.Bool.or_cases, lemmas.List.Elements.{All-weaker, Contains-append_right}}
 use Rattle.std.specs.Prelude.{IsTrue, Contains}
-use Rattle.std.proofs.lemmas.Bool.{or_cases}
-use Rattle.std.proofs.lemmas.List.Elements.{All-weaker, Contains-append_right}
-use Rattle.describing_set.specs.Plane.{IsHierarchyPlane}
-use Rattle.describing_set.specs.declared.listing.Spot.{Spot}
-use Rattle.describing_set.specs.declared.plane.Plane.{Plane}
+use Rattle.describing_set.specs.{Plane.IsHierarchyPlane, declared.listing.Spot.Spot, declared.plane.Plane.Plane}
 use Rattle.mapping_table.specs.declared.place.Where.{Where}
 use Rattle.mapping_table.specs.declared.place.Where.TheVariants as where_is
-use Rattle.query_router.specs.Desk.{is_open}
-use Rattle.query_router.specs.declared.part.Part.{Part}
-use Rattle.row_ledger.specs.Listings.{places_of}
-use Rattle.row_ledger.specs.Right.{EachEvent, Stands}
-use Rattle.row_ledger.specs.Shards.{frontier, ids_made, is_child, is_live}
-use Rattle.row_ledger.specs.Workers.{is_on, left_at}
-use Rattle.row_ledger.specs.declared.event.Event.{Event}
-use Rattle.row_ledger.specs.declared.event.Event.TheVariants.{Split}
-use Rattle.row_ledger.proofs.Ascent.{frontier-ascends}
-use Rattle.row_ledger.proofs.Descent.{live-made}
+use Rattle.query_router.specs.{Desk.is_open, declared.part.Part.Part}
+use Rattle.row_ledger.specs.{Listings.places_of, Right.{EachEvent, Stands}, Shards.{frontier, ids_made, is_child, is_live}, Workers.{is_on, left_at}, declared.event.Event.Event, declared.event.Event.TheVariants.Split}
+use Rattle.row_ledger.proofs.{Ascent.frontier-ascends, Descent.live-made}
 use Rattle.shard_store.specs.declared.gate.Phase.TheVariants.{Frozen, Gone, Open}
 use Rattle.list_words.proofs.Truth.{on_bool}
-use Rattle.volap_cell.specs.Ghost.{Ghost}
-use Rattle.volap_cell.specs.Invariant.{InvWith}
-use Rattle.volap_cell.specs.Lineage.{Leading, Lineage, was_on, went_to}
-use Rattle.volap_cell.specs.Setting.{Setting, site_in}
-use Rattle.volap_cell.specs.View.{View}
-use Rattle.volap_cell.proofs.Departures.{older-made}
-use Rattle.core_admin.proofs.MovedShards.{left-within, one-host}
-use Rattle.core_admin.proofs.Retiring.{Retiring, gate-old}
-use Rattle.core_admin.proofs.SharedRows.{SharesRows}
+use Rattle.volap_cell.specs.{Ghost.Ghost, Invariant.InvWith, Lineage.{Leading, Lineage, was_on, went_to}, Setting.{Setting, site_in}, View.View}
+use Rattle.volap_cell.proofs.Histories.Departures.{older-made}
+use Rattle.core_admin.proofs.{Moving.MovedShards.{left-within, one-host}, Retiring.Gates.{Retiring, gate-old}, SharedRows.SharesRows}
 
 -- an entry of a table is as it was, and none of the worker that had the shard for it
 abbrev pub IsKeptEntry : (v v2 : View) → ℕ → ℕ → ℕ → ℕ → Type 0

@@ -1,31 +1,15 @@
 -- A gate retires, and new gates take its rows: each row of its shard goes to the shard of one of them, and is once there, in its new
 -- tree or its new queue. A split has two new gates, and a move one, of the same shard.
-use Rattle.std.proofs.Common.{◌≡◌, ◌≢◌, ℕ, ◌+◌, ◌<◌, ◌≤◌, List, ◌∷◌, Bool, true, false, cond, eqb, Some, IsSome, Contains, refl, sym, ap, ◌∙◌, subst, ◌⊎◌, inl, inr, arith}
-use Rattle.row_ledger.specs.Past.{Ack, acked, last_of}
-use Rattle.row_ledger.specs.Shards.{comes_from, ids_made, is_live}
-use Rattle.row_ledger.specs.declared.event.Event.{Event}
+use Rattle.std.proofs.{Common.{◌≡◌, ◌≢◌, ℕ, ◌+◌, ◌<◌, ◌≤◌, List, ◌∷◌, Bool, true, false, cond, eqb, Some, IsSome, Contains, refl, sym, ap, ◌∙◌, subst, ◌⊎◌, inl, inr, arith}, lemmas.Bool.{eqb-true, eqb-false}}
+use Rattle.row_ledger.specs.{Past.{Ack, acked, last_of}, Shards.{comes_from, ids_made, is_live}, declared.event.Event.Event}
 use Rattle.row_ledger.proofs.Descent.{comes_from-self, live-made}
-use Rattle.shard_store.specs.declared.gate.Phase.TheVariants.{Frozen, Gone}
-use Rattle.shard_store.specs.declared.queue.Queue.{Queue}
+use Rattle.shard_store.specs.{declared.gate.Phase.TheVariants.{Frozen, Gone}, declared.queue.Queue.Queue}
 use Rattle.list_words.specs.Counts.{same, times}
-use Rattle.list_words.proofs.Truth.{on_bool}
-use Rattle.list_words.proofs.Times.{same_not}
-use Rattle.std.proofs.lemmas.Bool.{eqb-true, eqb-false}
+use Rattle.list_words.proofs.{Times.same_not, Truth.on_bool}
 use Rattle.tree_shape.specs.Shape.{Shape, numbers}
-use Rattle.volap_cell.specs.Ghost.{Ghost, Owner}
-use Rattle.volap_cell.specs.Growing.{IsUnder, Resting}
-use Rattle.volap_cell.specs.Invariant.{InvWith}
-use Rattle.volap_cell.specs.Placing.{NobodyAt, Placing}
-use Rattle.volap_cell.specs.Setting.{Setting, site_in}
-use Rattle.volap_cell.specs.Turning.{Turning}
-use Rattle.volap_cell.specs.View.{View, view}
-use Rattle.volap_cell.specs.World.{World}
-use Rattle.volap_cell.specs.declared.role.Role.TheVariants.{Admin}
-use Rattle.volap_cell.proofs.Grows.{insert-kept}
-use Rattle.volap_cell.proofs.Standings.{live-on}
-use Rattle.core_admin.proofs.Retiring.{Retiring, gate-old}
-use Rattle.core_admin.proofs.RetiringTrees.{retired-resting, retired-turning}
-use Rattle.core_admin.proofs.ShardLines.{KeepsLines}
+use Rattle.volap_cell.specs.{Ghost.{Ghost, Owner}, Growing.{IsUnder, Resting}, Invariant.InvWith, Placing.{NobodyAt, Placing}, Setting.{Setting, site_in}, Turning.Turning, View.{View, view}, World.World, declared.role.Role.TheVariants.Admin}
+use Rattle.volap_cell.proofs.{Histories.Standings.live-on, OneEvent.Older.insert-kept}
+use Rattle.core_admin.proofs.{Retiring.Gates.{Retiring, gate-old}, Retiring.Trees.{retired-resting, retired-turning}, ShardLines.KeepsLines}
 
 -- the ghost afterwards: rows are in the shards of the new gates
 abbrev pub shared_ghost : Ghost → (ℕ → Owner) → (ℕ → ℕ) → (ℕ → Shape) → (ℕ → ℕ) → Ghost

@@ -1,29 +1,14 @@
 -- A step that changes cells of no tree leaves every tree as it is, and every query that is pinned to one.
-use Rattle.std.proofs.Common.{◌≡◌, ◌≢◌, ℕ, true, eqb, Option, Some, None, IsSome, List, refl, sym, ap, subst}
+use Rattle.std.proofs.{Common.{◌≡◌, ◌≢◌, ℕ, true, eqb, Option, Some, None, IsSome, List, refl, sym, ap, subst}, lemmas.Bool.eqb-false}
 use Rattle.cell_stock.specs.declared.purse.Spare.{Spare}
-use Rattle.dc_node.specs.declared.block.Block.{Block}
-use Rattle.dc_node.specs.declared.entry.Entry.{Entry}
+use Rattle.dc_node.specs.{declared.block.Block.Block, declared.entry.Entry.Entry}
 use Rattle.row_ledger.specs.Past.{Query}
-use Rattle.shard_store.specs.Gate.{root_entry}
-use Rattle.shard_store.specs.declared.gate.Gate.{Gate}
+use Rattle.shard_store.specs.{Gate.root_entry, declared.gate.Gate.Gate}
 use Rattle.list_words.specs.Counts.{Each}
-use Rattle.list_words.proofs.Each.{each-map}
-use Rattle.list_words.proofs.Truth.{on_bool}
-use Rattle.std.proofs.lemmas.Bool.{eqb-false}
-use Rattle.tree_shape.specs.Laws.{OtherLaw}
-use Rattle.tree_shape.specs.Queries.{fits}
-use Rattle.tree_shape.specs.Shape.{Node, gate_node, node_of, nodes}
-use Rattle.tree_shape.specs.Steps.{AfterOther, AreSpares, IsSpare, LeavesTree}
-use Rattle.volap_cell.specs.Errands.{ReadPart}
-use Rattle.volap_cell.specs.Ghost.{Ghost, InTree}
-use Rattle.volap_cell.specs.Growing.{Growing, table_of}
-use Rattle.volap_cell.specs.Invariant.{InvWith}
-use Rattle.volap_cell.specs.Querying.{IsWalk, Querying, must_hold}
-use Rattle.volap_cell.specs.Setting.{Setting}
-use Rattle.volap_cell.specs.Stocking.{IsWhole, NoneExpects, cells_at}
-use Rattle.volap_cell.specs.Values.{ReadingValue}
-use Rattle.volap_cell.specs.View.{View}
-use Rattle.core_tree.proofs.Spares.{spares-distinct, spares-each, spares-from}
+use Rattle.list_words.proofs.{Each.each-map, Truth.on_bool}
+use Rattle.tree_shape.specs.{Laws.OtherLaw, Queries.fits, Shape.{Node, gate_node, node_of, nodes}, Steps.{AfterOther, AreSpares, IsSpare, LeavesTree}}
+use Rattle.volap_cell.specs.{Errands.ReadPart, Ghost.{Ghost, InTree}, Growing.{Growing, table_of}, Invariant.InvWith, Querying.{IsWalk, Querying, must_hold}, Setting.Setting, Stocking.{IsWhole, NoneExpects, cells_at}, Values.ReadingValue, View.View}
+use Rattle.core_tree.proofs.Stocks.Spares.{spares-distinct, spares-each, spares-from}
 
 module _ (s : Setting) (v : View) (g : Ghost) (other : OtherLaw) (i : InvWith s v g) (blocks_now : ℕ → Block) (trees_now : ℕ → Gate) (off : (y c : ℕ) → g.owner y ≡ InTree c → blocks_now y ≡ v.blocks y) (trees_off : (c : ℕ) → IsSome (v.gates c) → trees_now c ≡ v.trees c) where
   abbrev Whole : ℕ → Type 0

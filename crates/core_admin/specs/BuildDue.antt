@@ -1,21 +1,13 @@
 -- What the step that makes the new trees asks of the gate and of its actor, and what its calls do.
 use Rattle.std.specs.Prelude.{ℕ, ◌≡◌, ◌+◌, ◌^◌, ◌<◌, ◌≤◌, List, [], Some, None, length, map, filter, All, Bool, true, false, not}
-use Rattle.cell_stock.specs.Stock.{PurseValue}
-use Rattle.cell_stock.specs.declared.purse.Spare.{Spare}
-use Rattle.describing_set.specs.Plane.{IsHierarchyPlane, goes_left}
-use Rattle.describing_set.specs.declared.plane.Plane.{Plane}
-use Rattle.dim_hierarchy.specs.Dimension.{Dimension}
-use Rattle.dim_hierarchy.specs.Rows.{IsRowOf}
-use Rattle.dim_hierarchy.specs.declared.row.Row.{Row}
+use Rattle.cell_stock.specs.{Stock.PurseValue, declared.purse.Spare.Spare}
+use Rattle.describing_set.specs.{Plane.{IsHierarchyPlane, goes_left}, declared.plane.Plane.Plane}
+use Rattle.dim_hierarchy.specs.{Dimension.Dimension, Rows.IsRowOf, declared.row.Row.Row}
 use Rattle.link_descent.specs.declared.entered.Fresh.{Fresh}
-use Rattle.shard_build.specs.Built.{IsBuilt}
-use Rattle.shard_build.specs.declared.builder.Built.{Built}
+use Rattle.shard_build.specs.{Built.IsBuilt, declared.builder.Built.Built}
 use Rattle.shard_plan.specs.Building.{cells_for}
 use Rattle.shard_store.specs.declared.gate.Phase.TheVariants as phase
-use Rattle.volap_cell.specs.AdminKinds.{HasJob, IsBuiltOf, left_of, right_of}
-use Rattle.volap_cell.specs.Cells.{CellValue, phase_of}
-use Rattle.volap_cell.specs.Values.{ActorValue, BuildingValue, CollectingValue, JobValue, Builds, Collects}
-use Rattle.volap_cell.specs.declared.job.Unbuilt.{Unbuilt}
+use Rattle.volap_cell.specs.{AdminKinds.{HasJob, IsBuiltOf, left_of, right_of}, Cells.{CellValue, phase_of}, Values.{ActorValue, BuildingValue, CollectingValue, JobValue, Builds, Collects}, declared.job.Unbuilt.Unbuilt}
 
 -- nothing is noted for the actor's job any more, and the queue as it was when the shard was frozen is collected
 pub record CanBuildTrees (gate_at : ℕ) (gate : CellValue) (a : ActorValue) : Type 0 where

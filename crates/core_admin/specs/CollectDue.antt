@@ -1,16 +1,12 @@
 -- What the steps that collect a frozen shard's rows ask of the cell that they are given and of their actor, and what their calls do.
 use Rattle.std.specs.Prelude.{ℕ, ◌≡◌, ◌≢◌, ◌+◌, ◌<◌, List, [], ◌∷◌, ◌++◌, Some, length, slice_get}
-use Rattle.dc_node.specs.Block.{rows_in}
-use Rattle.dc_node.specs.declared.block.Block.{Block}
-use Rattle.dc_node.specs.declared.todo.Item.{Item}
+use Rattle.dc_node.specs.{Block.rows_in, declared.block.Block.Block, declared.todo.Item.Item}
 use Rattle.dim_hierarchy.specs.declared.row.Row.{Row}
 use Rattle.link_descent.specs.Visit.{noted_right}
 use Rattle.shard_store.specs.declared.gate.Gate.{Gate}
 use Rattle.shard_store.specs.declared.gate.Phase.TheVariants as phase
 use Rattle.tree_shape.specs.Collecting.{entry_items}
-use Rattle.volap_cell.specs.AdminKinds.{HasJob}
-use Rattle.volap_cell.specs.Cells.{CellValue, phase_of}
-use Rattle.volap_cell.specs.Values.{ActorValue, CollectingValue, JobValue, Collects}
+use Rattle.volap_cell.specs.{AdminKinds.HasJob, Cells.{CellValue, phase_of}, Values.{ActorValue, CollectingValue, JobValue, Collects}}
 
 -- Blocks.
 

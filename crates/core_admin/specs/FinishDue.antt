@@ -1,37 +1,20 @@
 -- What the kinds ask that fill a cell with a block and that end a job, beyond that their cells and their actor are those of a state; and
 -- what their inner functions ask and do.
-use Rattle.std.specs.Prelude.{ℕ, ◌≡◌, ◌≢◌, ◌+◌, ◌^◌, ◌<◌, ◌≤◌, ⊤, Bool, true, false, IsTrue, IsSome, List, [], ◌∷◌, ◌++◌, Option, Some, None, All, drop, length}
+use Rattle.std.specs.{Ordering.nat_cmp, Prelude.{ℕ, ◌≡◌, ◌≢◌, ◌+◌, ◌^◌, ◌<◌, ◌≤◌, ⊤, Bool, true, false, IsTrue, IsSome, List, [], ◌∷◌, ◌++◌, Option, Some, None, All, drop, length}}
 use Rattle.std.specs.FinMap as map
-use Rattle.std.specs.Ordering.{nat_cmp}
-use Rattle.dim_hierarchy.specs.Dimension.{Dimension}
-use Rattle.dim_hierarchy.specs.Rows.{IsRowOf}
-use Rattle.dim_hierarchy.specs.declared.row.Row.{Row}
-use Rattle.cell_stock.specs.Stock.{AreOut, Gives, PurseValue, StockValue}
-use Rattle.cell_stock.specs.declared.purse.Spare.{Spare}
+use Rattle.dim_hierarchy.specs.{Dimension.Dimension, Rows.IsRowOf, declared.row.Row.Row}
+use Rattle.cell_stock.specs.{Stock.{AreOut, Gives, PurseValue, StockValue}, declared.purse.Spare.Spare}
 use Rattle.link_descent.specs.declared.entered.Fresh.{Fresh}
 use Rattle.mapping_table.specs.declared.place.Where.{Where}
 use Rattle.mapping_table.specs.declared.place.Where.TheVariants as where_is
-use Rattle.row_ledger.specs.LedgerValue.{LedgerValue}
-use Rattle.row_ledger.specs.declared.event.Event.{Event}
+use Rattle.row_ledger.specs.{LedgerValue.LedgerValue, declared.event.Event.Event}
 use Rattle.row_ledger.specs.declared.event.Event.TheVariants as event
 use Rattle.row_ledger.specs.declared.settings.How.TheVariants as how
 use Rattle.server_image.specs.Registry.{RegistryValue, IsRehosted, on_frontier}
-use Rattle.shard_store.specs.Gate.{IsQueueOf}
-use Rattle.shard_store.specs.declared.gate.Gate.{Gate}
-use Rattle.volap_cell.specs.AdminKinds.{HasFrozen, HasJob, IsGateFor, IsUpTo, Retires}
-use Rattle.volap_cell.specs.Cells.{CellValue, BlockCell, MapOf, TheLedger, TheRegistry, TheStock, tag_of}
-use Rattle.volap_cell.specs.Commands.{stands_after}
-use Rattle.volap_cell.specs.ImageKinds.{doing}
-use Rattle.volap_cell.specs.Planning.{next_job}
-use Rattle.volap_cell.specs.Values.{ActorValue, JobValue, BuildingValue, Builds}
-use Rattle.volap_cell.specs.declared.command.Balance.{Balance}
-use Rattle.volap_cell.specs.declared.command.Command.{Command}
-use Rattle.volap_cell.specs.declared.command.Work.{Work}
+use Rattle.shard_store.specs.{Gate.IsQueueOf, declared.gate.Gate.Gate}
+use Rattle.volap_cell.specs.{AdminKinds.{HasFrozen, HasJob, IsGateFor, IsUpTo, Retires}, Cells.{CellValue, BlockCell, MapOf, TheLedger, TheRegistry, TheStock, tag_of}, Commands.stands_after, ImageKinds.doing, Planning.next_job, Values.{ActorValue, JobValue, BuildingValue, Builds}, declared.command.Balance.Balance, declared.command.Command.Command, declared.command.Work.Work, declared.job.Building.Building, declared.job.Job.Job, declared.job.Unbuilt.Unbuilt}
 use Rattle.volap_cell.specs.declared.command.Work.TheVariants as work_is
-use Rattle.volap_cell.specs.declared.job.Building.{Building}
-use Rattle.volap_cell.specs.declared.job.Job.{Job}
 use Rattle.volap_cell.specs.declared.job.Stage.TheVariants as stage_is
-use Rattle.volap_cell.specs.declared.job.Unbuilt.{Unbuilt}
 use Rattle.core_image.specs.NotesDue.{GoesOn, MayGoOn}
 
 -- Building.

@@ -2,22 +2,14 @@
 -- are those of a state; and what their calls do.
 use Rattle.std.specs.Prelude.{ℕ, ◌≡◌, ◌≢◌, ◌^◌, ◌<◌, ◌≤◌, ◌⊎◌, List, [], ◌∷◌, Option, length}
 use Rattle.dim_hierarchy.specs.Dimension.{Dimension}
-use Rattle.describing_set.specs.Sets.{IsDescSetOf, JoinsTo}
-use Rattle.describing_set.specs.declared.plane.Plane.{Plane}
-use Rattle.describing_set.specs.declared.set.DescSet.{DescSet}
+use Rattle.describing_set.specs.{Sets.{IsDescSetOf, JoinsTo}, declared.plane.Plane.Plane, declared.set.DescSet.DescSet}
 use Rattle.cell_stock.specs.Stock.{PurseValue, StockValue, Takes}
 use Rattle.mapping_table.specs.declared.place.Where.TheVariants as where_is
-use Rattle.row_ledger.specs.declared.settings.Decline.{Decline}
-use Rattle.row_ledger.specs.declared.settings.Decline.TheVariants.{OnePlace, NoCell}
+use Rattle.row_ledger.specs.{declared.settings.Decline.Decline, declared.settings.Decline.TheVariants.{OnePlace, NoCell}}
 use Rattle.shard_store.specs.declared.gate.Gate.{Gate}
 use Rattle.shard_store.specs.declared.gate.Phase.TheVariants as phase
 use Rattle.tree_shape.specs.Collecting.{root_item}
-use Rattle.volap_cell.specs.AdminKinds.{HasJob, HasOnePlace, IsDivided, cells_needed, rows_at}
-use Rattle.volap_cell.specs.Cells.{CellValue, TheStock, active_in, tag_of}
-use Rattle.volap_cell.specs.TreeKinds.{Leads}
-use Rattle.volap_cell.specs.Values.{ActorValue, JobValue, IsCalled, IsDeclined, IsFrozen, Collects}
-use Rattle.volap_cell.specs.World.{held}
-use Rattle.volap_cell.specs.declared.job.Frozen.{Frozen}
+use Rattle.volap_cell.specs.{AdminKinds.{HasJob, HasOnePlace, IsDivided, cells_needed, rows_at}, Cells.{CellValue, TheStock, active_in, tag_of}, TreeKinds.Leads, Values.{ActorValue, JobValue, IsCalled, IsDeclined, IsFrozen, Collects}, World.held, declared.job.Frozen.Frozen}
 
 -- Freezing.
 

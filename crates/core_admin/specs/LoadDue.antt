@@ -3,17 +3,9 @@
 use Rattle.std.specs.Prelude.{ℕ, ◌≡◌, ◌+◌, ◌^◌, ◌<◌, ◌==◌, List, Option, Some, None, length, slice_get, slice_set, if◌then◌else◌}
 use Rattle.balancer.specs.Turn.{rows_of_all}
 use Rattle.mapping_table.specs.declared.place.Where.TheVariants as where_is
-use Rattle.shard_plan.specs.Balancing.{plan}
-use Rattle.shard_plan.specs.declared.action.Action.{Action}
-use Rattle.shard_plan.specs.declared.action.Load.{Load}
+use Rattle.shard_plan.specs.{Balancing.plan, declared.action.Action.Action, declared.action.Load.Load}
 use Rattle.shard_store.specs.declared.gate.Gate.{Gate}
-use Rattle.volap_cell.specs.AdminKinds.{rows_at}
-use Rattle.volap_cell.specs.Cells.{CellValue, GateCell, MapOf, tag_of, where_in}
-use Rattle.volap_cell.specs.ImageKinds.{doing}
-use Rattle.volap_cell.specs.Planning.{next_job}
-use Rattle.volap_cell.specs.Values.{ActorValue, JobValue}
-use Rattle.volap_cell.specs.declared.command.Balance.{Balance}
-use Rattle.volap_cell.specs.declared.command.Command.{Command}
+use Rattle.volap_cell.specs.{AdminKinds.rows_at, Cells.{CellValue, GateCell, MapOf, tag_of, where_in}, ImageKinds.doing, Planning.next_job, Values.{ActorValue, JobValue}, declared.command.Balance.Balance, declared.command.Command.Command}
 use Rattle.volap_cell.specs.declared.command.Work.TheVariants as work_is
 
 -- the actor is at a balance that has a load to read, and its worker's table leads to the gate that is held; so many workers there are

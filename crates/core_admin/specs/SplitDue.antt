@@ -1,13 +1,8 @@
 -- What the step asks that ends a split, beyond that its cells and its actor are those of a state; and what its inner functions ask and do.
-use Rattle.std.specs.Prelude.{ℕ, ◌≡◌, ◌+◌, ◌^◌, ◌<◌, ◌≤◌, Bool, true, false, IsTrue, IsSome, List, [], ◌∷◌, ◌++◌, Some, None, drop, length}
+use Rattle.std.specs.{Ordering.nat_cmp, Prelude.{ℕ, ◌≡◌, ◌+◌, ◌^◌, ◌<◌, ◌≤◌, Bool, true, false, IsTrue, IsSome, List, [], ◌∷◌, ◌++◌, Some, None, drop, length}}
 use Rattle.std.specs.FinMap as map
-use Rattle.std.specs.Ordering.{nat_cmp}
-use Rattle.cell_stock.specs.Stock.{AreOut, Gives, PurseValue, StockValue}
-use Rattle.cell_stock.specs.declared.purse.Spare.{Spare}
-use Rattle.describing_set.specs.Sets.{IsDescSetOf}
-use Rattle.describing_set.specs.Plane.{IsHierarchyPlane}
-use Rattle.describing_set.specs.declared.plane.Plane.{Plane}
-use Rattle.describing_set.specs.declared.set.DescSet.{DescSet}
+use Rattle.cell_stock.specs.{Stock.{AreOut, Gives, PurseValue, StockValue}, declared.purse.Spare.Spare}
+use Rattle.describing_set.specs.{Plane.IsHierarchyPlane, Sets.IsDescSetOf, declared.plane.Plane.Plane, declared.set.DescSet.DescSet}
 use Rattle.dim_hierarchy.specs.Dimension.{Dimension}
 use Rattle.mapping_table.specs.declared.place.Where.{Where}
 use Rattle.mapping_table.specs.declared.place.Where.TheVariants as where_is
@@ -15,14 +10,8 @@ use Rattle.row_ledger.specs.LedgerValue.{LedgerValue}
 use Rattle.row_ledger.specs.declared.event.Event.TheVariants as event
 use Rattle.server_image.specs.Registry.{RegistryValue, IsSplit, on_frontier}
 use Rattle.shard_store.specs.declared.gate.Gate.{Gate}
-use Rattle.volap_cell.specs.AdminKinds.{HasJob, IsGateFor, IsTrueBox, IsUpTo, Retires}
-use Rattle.volap_cell.specs.Cells.{CellValue, MapOf, tag_of}
-use Rattle.volap_cell.specs.ImageKinds.{doing}
-use Rattle.volap_cell.specs.Values.{ActorValue, JobValue, BuildingValue, Builds}
-use Rattle.volap_cell.specs.declared.command.Work.{Work}
-use Rattle.volap_cell.specs.declared.job.BuiltTree.{BuiltTree}
-use Rattle.core_admin.specs.BuildDue.{side_of}
-use Rattle.core_admin.specs.FinishDue.{ClosesDone, IsBuiltUp, IsLate, MayCloseDone, NotesDone, gone_by, plans}
+use Rattle.volap_cell.specs.{AdminKinds.{HasJob, IsGateFor, IsTrueBox, IsUpTo, Retires}, Cells.{CellValue, MapOf, tag_of}, ImageKinds.doing, Values.{ActorValue, JobValue, BuildingValue, Builds}, declared.command.Work.Work, declared.job.BuiltTree.BuiltTree}
+use Rattle.core_admin.specs.{BuildDue.side_of, FinishDue.{ClosesDone, IsBuiltUp, IsLate, MayCloseDone, NotesDone, gone_by, plans}}
 
 -- The job has built two trees. The last two spares are for the gates of the children, the left one's first; the table is that
 -- of the worker that has the shard.

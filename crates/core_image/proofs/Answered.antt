@@ -1,44 +1,22 @@
 -- What the parts of a query have counted when all are done is together a list of rows that its answer may be: each row once, all that
 -- it must hold, and none but such as never fail and match its filter.
-use Rattle.std.proofs.Common.{◌≡◌, ◌≢◌, ℕ, ◌^◌, ◌<◌, ◌≤◌, List, [], ◌∷◌, ◌++◌, Bool, true, false, length, map, Some, None, refl, sym, ap, ◌∙◌, subst, arith, inl, inr, ◌==◌, ◌||◌, ◌⊎◌, All, Contains, IsTrue, eq-eqb}
-use Rattle.std.specs.Prelude.{nat_eq, if◌then◌else◌}
-use Rattle.std.specs.List.{AllByRecursion, IsDistinct, list_any}
-use Rattle.std.proofs.lemmas.Bool.{cases_lt, false_from_ne_true, false≢true}
-use Rattle.std.proofs.lemmas.Bool.Decides.{nat_tests}
-use Rattle.std.proofs.lemmas.List.{length-map, map-append}
-use Rattle.std.proofs.lemmas.List.Elements.{All-contains, All-contains_itself, All-map, All-weaker, Contains-append_right}
-use Rattle.std.proofs.lemmas.List.Folds.{list_any-from_Any}
+use Rattle.std.proofs.{Common.{◌≡◌, ◌≢◌, ℕ, ◌^◌, ◌<◌, ◌≤◌, List, [], ◌∷◌, ◌++◌, Bool, true, false, length, map, Some, None, refl, sym, ap, ◌∙◌, subst, arith, inl, inr, ◌==◌, ◌||◌, ◌⊎◌, All, Contains, IsTrue, eq-eqb}, lemmas.Bool.{cases_lt, false_from_ne_true, false≢true}, lemmas.Bool.Decides.nat_tests, lemmas.List.{length-map, map-append}, lemmas.List.Elements.{All-contains, All-contains_itself, All-map, All-weaker, Contains-append_right}, lemmas.List.Folds.list_any-from_Any}
+use Rattle.std.specs.{List.{AllByRecursion, IsDistinct, list_any}, Prelude.{nat_eq, if◌then◌else◌}}
 use Rattle.cell_stock.proofs.Cells.{length-le_from_distinct}
-use Rattle.dim_hierarchy.specs.Filter.{matches}
-use Rattle.dim_hierarchy.specs.declared.row.Row.{Row}
-use Rattle.measure_agg.specs.Aggregate.{Aggregate, agg}
-use Rattle.measure_agg.specs.Joining.{join}
+use Rattle.dim_hierarchy.specs.{Filter.matches, declared.row.Row.Row}
+use Rattle.measure_agg.specs.{Aggregate.{Aggregate, agg}, Joining.join}
 use Rattle.measure_agg.proofs.AggLaws.{agg-append}
-use Rattle.query_router.specs.Desk.{done_of, is_open, is_placed, is_refused, state_is_placed, state_is_refused, state_is_taken, state_waits, sum_of, verdict_of}
-use Rattle.query_router.specs.declared.part.Part.{Part}
-use Rattle.query_router.specs.declared.part.PartState.{PartState}
+use Rattle.query_router.specs.{Desk.{done_of, is_open, is_placed, is_refused, state_is_placed, state_is_refused, state_is_taken, state_waits, sum_of, verdict_of}, declared.part.Part.Part, declared.part.PartState.PartState}
 use Rattle.query_router.specs.declared.part.PartState.TheVariants as state
 use Rattle.query_router.specs.declared.part.Verdict.TheVariants as verdict
-use Rattle.row_ledger.specs.Bounds.{IsAllowed, known, may, must, numbers}
-use Rattle.row_ledger.specs.Past.{Ack, Query, acked, before, query_at}
-use Rattle.row_ledger.specs.Right.{EachEvent, Stands}
-use Rattle.row_ledger.specs.declared.event.Event.{Event}
-use Rattle.row_ledger.proofs.Answering.{All-acked_before}
-use Rattle.row_ledger.proofs.Descent.{comes_from-comparable, live-made}
-use Rattle.list_words.proofs.Elements.{Contains-map, Contains-nil, Contains-first}
+use Rattle.row_ledger.specs.{Bounds.{IsAllowed, known, may, must, numbers}, Past.{Ack, Query, acked, before, query_at}, Right.{EachEvent, Stands}, declared.event.Event.Event}
+use Rattle.row_ledger.proofs.{Answering.All-acked_before, Descent.{comes_from-comparable, live-made}}
+use Rattle.list_words.proofs.{Elements.{Contains-map, Contains-nil, Contains-first}, Times.{times-append, same_is, times-contains, contains-times}}
 use Rattle.list_words.specs.Counts.{times}
-use Rattle.list_words.proofs.Times.{times-append, same_is, times-contains, contains-times}
 use Rattle.tree_shape.specs.Queries.{fits}
-use Rattle.volap_cell.specs.Desking.{AreLinesApart, AreUnrelated}
-use Rattle.volap_cell.specs.Ghost.{Ghost}
-use Rattle.volap_cell.specs.Growing.{table_of}
-use Rattle.volap_cell.specs.Invariant.{InvWith}
-use Rattle.volap_cell.specs.Querying.{HoldsOr, IsCounted, IsEndOfPart, must_hold}
-use Rattle.volap_cell.specs.Setting.{Setting, site_in}
-use Rattle.volap_cell.specs.View.{View, view}
-use Rattle.volap_cell.specs.World.{World}
-use Rattle.volap_cell.proofs.GrowsKnown.{known-acked, older-rows}
-use Rattle.core_image.proofs.Valid.{acked-placed, placed-number, placed-usable}
+use Rattle.volap_cell.specs.{Desking.{AreLinesApart, AreUnrelated}, Ghost.Ghost, Growing.table_of, Invariant.InvWith, Querying.{HoldsOr, IsCounted, IsEndOfPart, must_hold}, Setting.{Setting, site_in}, View.{View, view}, World.World}
+use Rattle.volap_cell.proofs.OneEvent.Known.{known-acked, older-rows}
+use Rattle.core_image.proofs.Images.Valid.{acked-placed, placed-number, placed-usable}
 
 -- Verdicts.
 

@@ -1,27 +1,14 @@
 -- What a balance has read: no row twice, and all rows that were acknowledged before it began.
-use Rattle.std.proofs.Common.{◌≡◌, ℕ, zero, suc, ◌+◌, ◌<◌, ◌≤◌, List, [], ◌∷◌, ◌++◌, Bool, true, false, eqb, map, refl, sym, ap, ◌∙◌, subst, arith, inl, inr, ◌==◌, All, Contains, eq-eqb, nat_eq}
+use Rattle.std.proofs.{Common.{◌≡◌, ℕ, zero, suc, ◌+◌, ◌<◌, ◌≤◌, List, [], ◌∷◌, ◌++◌, Bool, true, false, eqb, map, refl, sym, ap, ◌∙◌, subst, arith, inl, inr, ◌==◌, All, Contains, eq-eqb, nat_eq}, lemmas.Bool.{cases_lt, or_left, or_right, eqb-true}, lemmas.List.map-append, lemmas.List.Elements.{All-append, All-contains_itself, All-head, All-nil, All-tail, All-weaker}}
 use Rattle.std.specs.List.{AllByRecursion, IsDistinct, list_any}
-use Rattle.std.proofs.lemmas.Bool.{cases_lt, or_left, or_right, eqb-true}
-use Rattle.std.proofs.lemmas.List.{map-append}
-use Rattle.std.proofs.lemmas.List.Elements.{All-append, All-contains_itself, All-head, All-nil, All-tail, All-weaker}
 use Rattle.dim_hierarchy.specs.declared.row.Row.{Row}
-use Rattle.row_ledger.specs.Laws.{AscendFrom}
-use Rattle.row_ledger.specs.Past.{before}
-use Rattle.row_ledger.specs.Right.{EachEvent, Stands}
-use Rattle.row_ledger.specs.Shards.{Place, comes_from, frontier, ids_made, is_live, is_of, place}
-use Rattle.row_ledger.specs.Work.{Reading, rows_read}
-use Rattle.row_ledger.specs.declared.event.Event.{Event}
-use Rattle.row_ledger.proofs.Descent.{comes_from-comparable, live-last, live-made}
-use Rattle.list_words.proofs.Elements.{Contains-nil}
-use Rattle.row_ledger.proofs.SettledAnswer.{EachEvent-before}
+use Rattle.row_ledger.specs.{Laws.AscendFrom, Past.before, Right.{EachEvent, Stands}, Shards.{Place, comes_from, frontier, ids_made, is_live, is_of, place}, Work.{Reading, rows_read}, declared.event.Event.Event}
+use Rattle.row_ledger.proofs.{Descent.{comes_from-comparable, live-last, live-made}, SettledAnswer.EachEvent-before}
+use Rattle.list_words.proofs.{Elements.Contains-nil, Times.times-append, Truth.{on_bool, eqb-self}}
 use Rattle.list_words.specs.Counts.{same, times}
-use Rattle.list_words.proofs.Times.{times-append}
-use Rattle.list_words.proofs.Truth.{on_bool, eqb-self}
 use Rattle.tree_shape.specs.Shape.{numbers}
-use Rattle.volap_cell.specs.Growing.{IsUnder}
-use Rattle.volap_cell.specs.Setting.{Setting, site_in}
-use Rattle.volap_cell.specs.Working.{IsReadLoad}
-use Rattle.core_image.proofs.MadePaths.{comes-before}
+use Rattle.volap_cell.specs.{Growing.IsUnder, Setting.{Setting, site_in}, Working.IsReadLoad}
+use Rattle.core_image.proofs.Images.MadePaths.{comes-before}
 
 -- Numbers that stand in a list once at most differ.
 

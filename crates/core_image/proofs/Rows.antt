@@ -1,20 +1,10 @@
 -- Rows of a state: those that have passed a gate have coordinates of the hierarchy, and an insert's row began with it.
 use Rattle.std.proofs.Common.{◌≡◌, ℕ, Bool, true, Option, Some, option_and_then, sym, ap, ◌∙◌, subst, Contains}
-use Rattle.dim_hierarchy.specs.Row.{IsCoordOf}
-use Rattle.dim_hierarchy.specs.declared.row.Row.{Row}
-use Rattle.row_ledger.specs.Bounds.{may}
-use Rattle.row_ledger.specs.Past.{begun, insert_at, insert_in}
-use Rattle.row_ledger.specs.declared.event.Event.{Event}
+use Rattle.dim_hierarchy.specs.{Row.IsCoordOf, declared.row.Row.Row}
+use Rattle.row_ledger.specs.{Bounds.may, Past.{begun, insert_at, insert_in}, declared.event.Event.Event}
 use Rattle.list_words.proofs.Elements.{Contains-filtered}
 use Rattle.row_ledger.proofs.SettledAnswer.{begun-at}
-use Rattle.volap_cell.specs.Ghost.{Ghost}
-use Rattle.volap_cell.specs.ImageKinds.{doing}
-use Rattle.volap_cell.specs.Invariant.{InvWith}
-use Rattle.volap_cell.specs.Setting.{Setting, site_in}
-use Rattle.volap_cell.specs.View.{View, view, row_at, row_or}
-use Rattle.volap_cell.specs.World.{World}
-use Rattle.volap_cell.specs.declared.command.Work.TheVariants.{Insert}
-use Rattle.volap_cell.specs.declared.role.Role.TheVariants.{Session}
+use Rattle.volap_cell.specs.{Ghost.Ghost, ImageKinds.doing, Invariant.InvWith, Setting.{Setting, site_in}, View.{View, view, row_at, row_or}, World.World, declared.command.Work.TheVariants.Insert, declared.role.Role.TheVariants.Session}
 
 module _ (s : Setting) (w : World) (g : Ghost) (i : InvWith s (view s w) g) where
   abbrev v : View

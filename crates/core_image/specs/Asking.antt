@@ -1,22 +1,13 @@
 -- What a query that begins and one that is answered ask of the cells that they are given and of their actor; and what their inner
 -- functions ask and do.
 use Rattle.std.specs.Prelude.{ℕ, ◌≡◌, ◌+◌, ◌^◌, ◌<◌, List, ◌∷◌, length, map, IsSome, Option, Some, None}
-use Rattle.dim_hierarchy.specs.Dimension.{Dimension}
-use Rattle.dim_hierarchy.specs.Filter.{IsFilterOf}
-use Rattle.dim_hierarchy.specs.declared.filter.Pick.{Pick}
+use Rattle.dim_hierarchy.specs.{Dimension.Dimension, Filter.IsFilterOf, declared.filter.Pick.Pick}
 use Rattle.measure_agg.specs.Aggregate.{Aggregate}
-use Rattle.query_router.specs.Desk.{DeskValue, sum_of, verdict_of}
-use Rattle.query_router.specs.declared.part.Verdict.{Verdict}
-use Rattle.query_router.specs.declared.part.Verdict.TheVariants.{Sum}
+use Rattle.query_router.specs.{Desk.{DeskValue, sum_of, verdict_of}, declared.part.Verdict.Verdict, declared.part.Verdict.TheVariants.Sum}
 use Rattle.row_ledger.specs.LedgerValue.{LedgerValue}
 use Rattle.row_ledger.specs.declared.event.Event.TheVariants as event
-use Rattle.server_image.specs.Image.{ImageValue, planned}
-use Rattle.server_image.specs.Spots.{AreBoxes}
-use Rattle.volap_cell.specs.Cells.{CellValue, DeskOf, ImageOf, TheLedger, tag_of, desk_in}
-use Rattle.volap_cell.specs.ImageKinds.{IsFree, cleared, doing, query_part}
-use Rattle.volap_cell.specs.Values.{ActorValue}
-use Rattle.volap_cell.specs.declared.command.Work.TheVariants.{Query}
-use Rattle.volap_cell.specs.declared.role.Role.TheVariants.{Session}
+use Rattle.server_image.specs.{Image.{ImageValue, planned}, Spots.AreBoxes}
+use Rattle.volap_cell.specs.{Cells.{CellValue, DeskOf, ImageOf, TheLedger, tag_of, desk_in}, ImageKinds.{IsFree, cleared, doing, query_part}, Values.ActorValue, declared.command.Work.TheVariants.Query, declared.role.Role.TheVariants.Session}
 
 -- the actor has nothing to do, its server's desk is empty, and the filter is one of the hierarchy; the image is the server's
 pub record CanBeginQuery (h : List Dimension) (desk image ledger : CellValue) (a : ActorValue) (filter : List Pick) : Type 0 where

@@ -1,23 +1,14 @@
 -- What a kind asks of the cells that it is given and of its actor, beyond that they are those of a state; and what its inner
 -- functions ask and do.
 use Rattle.std.specs.Prelude.{ℕ, ◌≡◌, ◌+◌, ◌<◌, true, List, [], ◌∷◌, length, Some, None}
-use Rattle.dim_hierarchy.specs.Dimension.{Dimension}
-use Rattle.dim_hierarchy.specs.Row.{IsCoordOf}
-use Rattle.dim_hierarchy.specs.declared.row.Coord.{Coord}
-use Rattle.dim_hierarchy.specs.declared.row.Row.{Row}
-use Rattle.query_router.specs.Desk.{DeskValue, verdict_of}
-use Rattle.query_router.specs.declared.part.Part.{Part}
+use Rattle.dim_hierarchy.specs.{Dimension.Dimension, Row.IsCoordOf, declared.row.Coord.Coord, declared.row.Row.Row}
+use Rattle.query_router.specs.{Desk.{DeskValue, verdict_of}, declared.part.Part.Part}
 use Rattle.query_router.specs.declared.part.PartState.TheVariants as state
 use Rattle.query_router.specs.declared.part.Verdict.TheVariants as verdict
 use Rattle.row_ledger.specs.LedgerValue.{LedgerValue}
 use Rattle.row_ledger.specs.declared.event.Event.TheVariants as event
-use Rattle.server_image.specs.Image.{ImageValue, AreGrowths, IsAcked}
-use Rattle.server_image.specs.Spots.{AreBoxes}
-use Rattle.volap_cell.specs.Cells.{CellValue, DeskOf, ImageOf, TheLedger, tag_of, desk_in}
-use Rattle.volap_cell.specs.ImageKinds.{cleared, doing}
-use Rattle.volap_cell.specs.Values.{ActorValue}
-use Rattle.volap_cell.specs.declared.command.Work.TheVariants.{Insert}
-use Rattle.volap_cell.specs.declared.role.Role.TheVariants.{Session}
+use Rattle.server_image.specs.{Image.{ImageValue, AreGrowths, IsAcked}, Spots.AreBoxes}
+use Rattle.volap_cell.specs.{Cells.{CellValue, DeskOf, ImageOf, TheLedger, tag_of, desk_in}, ImageKinds.{cleared, doing}, Values.ActorValue, declared.command.Work.TheVariants.Insert, declared.role.Role.TheVariants.Session}
 
 -- the actor's insert was routed, and the part on its server's desk is placed; the image is the server's
 pub record CanAck (desk image ledger : CellValue) (a : ActorValue) : Type 0 where

@@ -1,35 +1,14 @@
 -- What the kinds ask that note an event which acknowledges and pulls nothing, beyond that their cells and their actor are those of a
 -- state; and what their inner functions do.
 use Rattle.std.specs.Prelude.{ℕ, ◌≡◌, ◌+◌, ◌<◌, ◌^◌, Bool, true, false, not, List, [], ◌∷◌, length, Option, Some, None, is_some}
-use Rattle.dim_hierarchy.specs.Dimension.{Dimension}
-use Rattle.dim_hierarchy.specs.Row.{IsCoordOf}
-use Rattle.dim_hierarchy.specs.declared.row.Coord.{Coord}
-use Rattle.dim_hierarchy.specs.declared.row.Row.{Row}
+use Rattle.dim_hierarchy.specs.{Dimension.Dimension, Row.IsCoordOf, declared.row.Coord.Coord, declared.row.Row.Row}
 use Rattle.query_router.specs.Desk.{DeskValue, verdict_of}
 use Rattle.query_router.specs.declared.part.Verdict.TheVariants as verdict
-use Rattle.row_ledger.specs.Classes.{class_of}
-use Rattle.row_ledger.specs.LedgerValue.{LedgerValue}
-use Rattle.row_ledger.specs.Right.{Asks}
-use Rattle.row_ledger.specs.declared.class.Class.{Class}
+use Rattle.row_ledger.specs.{Classes.class_of, LedgerValue.LedgerValue, Right.Asks, declared.class.Class.Class, declared.event.Event.Event, declared.event.Event.TheVariants.Ended, declared.page.Page.Page, declared.settings.Call.Call, declared.settings.How.How}
 use Rattle.row_ledger.specs.declared.class.Class.TheVariants as class
-use Rattle.row_ledger.specs.declared.event.Event.{Event}
-use Rattle.row_ledger.specs.declared.event.Event.TheVariants.{Ended}
-use Rattle.row_ledger.specs.declared.page.Page.{Page}
-use Rattle.row_ledger.specs.declared.settings.Call.{Call}
-use Rattle.row_ledger.specs.declared.settings.How.{How}
-use Rattle.server_image.specs.Image.{ImageValue}
-use Rattle.server_image.specs.Registry.{RegistryValue}
-use Rattle.volap_cell.specs.Cells.{CellValue, DeskOf, ImageOf, TheLedger, TheRegistry, desk_in, ledger_in, tag_of}
-use Rattle.volap_cell.specs.Commands.{MayCall, MayNoteEnd, once_shown}
-use Rattle.volap_cell.specs.ImageKinds.{IsBegun, IsFree, asks_registry, doing}
-use Rattle.volap_cell.specs.Planning.{next_job}
-use Rattle.volap_cell.specs.Values.{ActorValue, JobValue, StageValue, IsCalled, IsDeclined}
-use Rattle.volap_cell.specs.declared.command.Balance.{Balance}
-use Rattle.volap_cell.specs.declared.command.Command.{Command}
-use Rattle.volap_cell.specs.declared.command.Work.{Work}
+use Rattle.server_image.specs.{Image.ImageValue, Registry.RegistryValue}
+use Rattle.volap_cell.specs.{Cells.{CellValue, DeskOf, ImageOf, TheLedger, TheRegistry, desk_in, ledger_in, tag_of}, Commands.{MayCall, MayNoteEnd, once_shown}, ImageKinds.{IsBegun, IsFree, asks_registry, doing}, Planning.next_job, Values.{ActorValue, JobValue, StageValue, IsCalled, IsDeclined}, declared.command.Balance.Balance, declared.command.Command.Command, declared.command.Work.Work, declared.command.Work.TheVariants.{Insert, Query}, declared.role.Role.TheVariants.Session}
 use Rattle.volap_cell.specs.declared.command.Work.TheVariants as work_is
-use Rattle.volap_cell.specs.declared.command.Work.TheVariants.{Insert, Query}
-use Rattle.volap_cell.specs.declared.role.Role.TheVariants.{Session}
 
 -- a ledger gets an event, with so many promises more or less, and holds no more than it may
 pub record Notes (e : Event) (more used : ℕ) (ledger ledger_now : LedgerValue) : Type 0 where

@@ -4,14 +4,8 @@ use Rattle.dim_hierarchy.specs.Dimension.{Dimension}
 use Rattle.describing_set.specs.declared.listing.Spot.{Spot}
 use Rattle.row_ledger.specs.LedgerValue.{LedgerValue}
 use Rattle.row_ledger.specs.declared.event.Event.TheVariants as event
-use Rattle.server_image.specs.Image.{ImageValue, AreGrowths, IsSynced}
-use Rattle.server_image.specs.Registry.{RegistryValue}
-use Rattle.server_image.specs.Spots.{AreBoxes}
-use Rattle.volap_cell.specs.Cells.{CellValue, ImageOf, TheLedger, TheRegistry, tag_of}
-use Rattle.volap_cell.specs.Commands.{due_pull}
-use Rattle.volap_cell.specs.ImageKinds.{doing}
-use Rattle.volap_cell.specs.Values.{ActorValue}
-use Rattle.volap_cell.specs.declared.command.Work.{Work}
+use Rattle.server_image.specs.{Image.{ImageValue, AreGrowths, IsSynced}, Registry.RegistryValue, Spots.AreBoxes}
+use Rattle.volap_cell.specs.{Cells.{CellValue, ImageOf, TheLedger, TheRegistry, tag_of}, Commands.due_pull, ImageKinds.doing, Values.ActorValue, declared.command.Work.Work}
 
 -- a pull for the server of the image is due for the actor's command; servers have numbers of one byte
 pub record CanSync (image registry ledger : CellValue) (a : ActorValue) : Type 0 where

@@ -1,18 +1,10 @@
 -- What the routing of an insert asks of the cells that it is given and of its actor; and what its inner function asks and does.
 use Rattle.std.specs.Prelude.{ℕ, ◌≡◌, false, List, [], ◌∷◌, Some, None, slice_get}
-use Rattle.dim_hierarchy.specs.Dimension.{Dimension}
-use Rattle.dim_hierarchy.specs.Row.{IsCoordOf}
-use Rattle.dim_hierarchy.specs.declared.row.Coord.{Coord}
-use Rattle.dim_hierarchy.specs.declared.row.Row.{Row}
+use Rattle.dim_hierarchy.specs.{Dimension.Dimension, Row.IsCoordOf, declared.row.Coord.Coord, declared.row.Row.Row}
 use Rattle.describing_set.specs.declared.listing.Spot.{Spot}
 use Rattle.query_router.specs.Desk.{DeskValue}
-use Rattle.server_image.specs.Image.{ImageValue, IsRoute}
-use Rattle.server_image.specs.Spots.{AreBoxes}
-use Rattle.volap_cell.specs.Cells.{CellValue, DeskOf, ImageOf, tag_of, desk_in}
-use Rattle.volap_cell.specs.ImageKinds.{doing, part_for}
-use Rattle.volap_cell.specs.Values.{ActorValue}
-use Rattle.volap_cell.specs.declared.command.Work.TheVariants.{Insert}
-use Rattle.volap_cell.specs.declared.role.Role.TheVariants.{Session}
+use Rattle.server_image.specs.{Image.{ImageValue, IsRoute}, Spots.AreBoxes}
+use Rattle.volap_cell.specs.{Cells.{CellValue, DeskOf, ImageOf, tag_of, desk_in}, ImageKinds.{doing, part_for}, Values.ActorValue, declared.command.Work.TheVariants.Insert, declared.role.Role.TheVariants.Session}
 
 -- no part for the actor's insert was routed yet, and its server's desk is empty; the image is the server's
 pub record CanRoute (desk image : CellValue) (a : ActorValue) : Type 0 where

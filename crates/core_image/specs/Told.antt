@@ -1,13 +1,9 @@
 -- Which event a step puts in the history by which a command begins.
 use Rattle.std.specs.Prelude.{ℕ, ℤ, ◌≡◌, List, ◌∷◌, length}
-use Rattle.dim_hierarchy.specs.declared.filter.Pick.{Pick}
-use Rattle.dim_hierarchy.specs.declared.row.Coord.{Coord}
-use Rattle.row_ledger.specs.declared.event.Event.{Event}
+use Rattle.dim_hierarchy.specs.{declared.filter.Pick.Pick, declared.row.Coord.Coord}
+use Rattle.row_ledger.specs.{declared.event.Event.Event, declared.settings.Call.Call}
 use Rattle.row_ledger.specs.declared.event.Event.TheVariants as event
-use Rattle.row_ledger.specs.declared.settings.Call.{Call}
-use Rattle.volap_cell.specs.Cells.{CellValue, ledger_in}
-use Rattle.volap_cell.specs.Commands.{server_of}
-use Rattle.volap_cell.specs.Values.{ActorValue}
+use Rattle.volap_cell.specs.{Cells.{CellValue, ledger_in}, Commands.server_of, Values.ActorValue}
 
 -- What an actor's event is, at its place in the history.
 

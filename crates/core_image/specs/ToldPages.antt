@@ -1,10 +1,7 @@
 -- Which event a step puts in the history by which a page is shown.
 use Rattle.std.specs.Prelude.{ℕ, Option, Some, None}
-use Rattle.row_ledger.specs.declared.event.Event.{Event}
-use Rattle.row_ledger.specs.declared.event.Event.TheVariants.{Shown}
-use Rattle.row_ledger.specs.declared.page.Page.{Page}
-use Rattle.volap_cell.specs.Values.{ActorValue}
-use Rattle.volap_cell.specs.declared.command.Command.{Command}
+use Rattle.row_ledger.specs.{declared.event.Event.Event, declared.event.Event.TheVariants.Shown, declared.page.Page.Page}
+use Rattle.volap_cell.specs.{Values.ActorValue, declared.command.Command.Command}
 
 -- where the actor's command began
 abbrev pub began_at : Option Command → ℕ

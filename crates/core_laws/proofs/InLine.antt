@@ -1,9 +1,8 @@
 -- An acknowledged row is in the line of the last shard of its path.
 use Rattle.std.proofs.Common.{ℕ, List, subst}
 use Rattle.std.specs.Prelude.{IsTrue}
-use Rattle.row_ledger.specs.Past.{last_of}
-use Rattle.row_ledger.specs.Shards.{comes_from}
-use Rattle.volap_cell.proofs.Standings.{standing, in-one}
+use Rattle.row_ledger.specs.{Past.last_of, Shards.comes_from}
+use Rattle.volap_cell.proofs.Histories.Standings.{standing, in-one}
 use Rattle.volap_cell.specs.View.{view}
 use Rattle.core_laws.specs.Lines.{LineLaw}
 

@@ -1,50 +1,21 @@
 -- Open queries: what their parts have read adds up to what is counted for them, and no row is met twice.
-use Rattle.std.proofs.Common.{◌≡◌, ◌∙◌, inl, inr, ◌⊎◌, ℕ, zero, suc, ◌+◌, ◌<◌, ◌≤◌, Bool, true, false, cond, eqb, leb, List, [], ◌∷◌, length, Option, Some, None, refl, sym, ap, subst, arith, map}
+use Rattle.std.proofs.{Common.{◌≡◌, ◌∙◌, inl, inr, ◌⊎◌, ℕ, zero, suc, ◌+◌, ◌<◌, ◌≤◌, Bool, true, false, cond, eqb, leb, List, [], ◌∷◌, length, Option, Some, None, refl, sym, ap, subst, arith, map}, lemmas.Bool.{cases_lt, cond_both, false≢true, eqb-true, eqb-false}, lemmas.List.map-append, lemmas.List.Elements.{All-contains, Contains-append_right}, lemmas.Option.{get_or_from_slice_get, same_Some, slice_get_read, slice_get_within}}
 use Rattle.std.specs.Prelude.{Any, Contains, IsTrue, not, slice_get}
-use Rattle.std.proofs.lemmas.List.{map-append}
-use Rattle.std.proofs.lemmas.Bool.{cases_lt, cond_both, false≢true, eqb-true, eqb-false}
-use Rattle.std.proofs.lemmas.List.Elements.{All-contains, Contains-append_right}
-use Rattle.std.proofs.lemmas.Option.{get_or_from_slice_get, same_Some, slice_get_read, slice_get_within}
 use Rattle.measure_agg.proofs.AggLaws.{agg-append}
-use Rattle.measure_agg.specs.Aggregate.{Aggregate, agg}
-use Rattle.measure_agg.specs.Joining.{join}
+use Rattle.measure_agg.specs.{Aggregate.{Aggregate, agg}, Joining.join}
 use Rattle.dim_hierarchy.specs.declared.filter.Pick.{Pick}
 use Rattle.dc_node.specs.declared.todo.Item.{Item}
-use Rattle.query_router.specs.Desk.{is_refused, is_taken, state_is_refused, state_is_taken, state_waits}
-use Rattle.query_router.specs.declared.part.Part.{Part}
-use Rattle.query_router.specs.declared.part.PartState.{PartState}
+use Rattle.query_router.specs.{Desk.{is_refused, is_taken, state_is_refused, state_is_taken, state_waits, is_with}, declared.part.Part.Part, declared.part.PartState.PartState, declared.part.Want.Want}
 use Rattle.query_router.specs.declared.part.PartState.TheVariants as state
-use Rattle.query_router.specs.declared.part.Want.{Want}
 use Rattle.query_router.specs.declared.part.Want.TheVariants as want
 use Rattle.row_ledger.proofs.Descent.{comes_from-comparable, live-made}
-use Rattle.row_ledger.specs.Past.{Query, insert_at, query_at}
-use Rattle.row_ledger.specs.Shards.{comes_from}
-use Rattle.row_ledger.specs.declared.event.Event.{Event}
-use Rattle.list_words.proofs.Totals.{total-append}
-use Rattle.list_words.proofs.Truth.{on_bool}
-use Rattle.list_words.proofs.Times.{same_is}
+use Rattle.row_ledger.specs.{Past.{Query, insert_at, query_at}, Shards.comes_from, declared.event.Event.Event}
+use Rattle.list_words.proofs.{Times.same_is, Totals.total-append, Truth.on_bool}
 use Rattle.list_words.specs.Counts.{same, times, total}
-use Rattle.tree_shape.specs.Queries.{items_of}
-use Rattle.tree_shape.specs.Shape.{Node, Shape, nodes}
-use Rattle.tree_shape.specs.Walks.{AreNoted, IsNoted, IsTail, Noted, beneath, pending, reach}
-use Rattle.volap_cell.proofs.Beginnings.{no-query}
-use Rattle.volap_cell.proofs.GrowsReads.{readers-take, taken-kept}
-use Rattle.volap_cell.proofs.PartFacts.{with-parts}
-use Rattle.volap_cell.proofs.Promised.{has-counted, is-placed, pinned-whole, reads-same}
-use Rattle.volap_cell.proofs.Standings.{in-one, standing}
-use Rattle.volap_cell.specs.Desking.{AreLinesApart, AreUnrelated, IsAtPart, IsQueryState, IsTaken, IsWantOf}
-use Rattle.query_router.specs.Desk.{is_with}
-use Rattle.volap_cell.specs.Errands.{ReadPart, Taken}
-use Rattle.volap_cell.specs.Ghost.{Ghost}
-use Rattle.volap_cell.specs.Growing.{IsUnder}
-use Rattle.volap_cell.specs.Invariant.{InvWith}
-use Rattle.volap_cell.specs.Promises.{HasNotRead, IsAheadOf, IsInOne}
-use Rattle.volap_cell.specs.Querying.{IsCounted, IsEndOfPart, IsReading, IsWalk}
-use Rattle.volap_cell.specs.Setting.{Setting, site_in}
-use Rattle.volap_cell.specs.Stocking.{cells_at}
-use Rattle.volap_cell.specs.View.{View, view}
-use Rattle.volap_cell.specs.World.{World}
-use Rattle.core_tree.proofs.Walkers.{rows-under}
+use Rattle.tree_shape.specs.{Queries.items_of, Shape.{Node, Shape, nodes}, Walks.{AreNoted, IsNoted, IsTail, Noted, beneath, pending, reach}}
+use Rattle.volap_cell.proofs.{Desks.Facts.with-parts, Histories.Beginnings.no-query, Histories.Standings.{in-one, standing}, OneEvent.Reads.{readers-take, taken-kept}, Promised.{has-counted, is-placed, pinned-whole, reads-same}}
+use Rattle.volap_cell.specs.{Desking.{AreLinesApart, AreUnrelated, IsAtPart, IsQueryState, IsTaken, IsWantOf}, Errands.{ReadPart, Taken}, Ghost.Ghost, Growing.IsUnder, Invariant.InvWith, Promises.{HasNotRead, IsAheadOf, IsInOne}, Querying.{IsCounted, IsEndOfPart, IsReading, IsWalk}, Setting.{Setting, site_in}, Stocking.cells_at, View.{View, view}, World.World}
+use Rattle.core_tree.proofs.Queries.Walkers.{rows-under}
 use Rattle.core_laws.specs.Meeting.{AddUp, HasRead, HasReadBy, IsBeneathPending, IsNotedAt, MeetLaw, MeetsOnce, NotedBlock, Pending, WholePart, agg_read, counted_for, heard}
 
 -- Places in lists.

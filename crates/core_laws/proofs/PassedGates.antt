@@ -1,23 +1,11 @@
 -- Whether a row has passed a gate is seen: it was acknowledged, or its insert's part is placed, or an actor has it past its gate.
-use Rattle.std.proofs.Common.{◌≡◌, ◌∙◌, ◌⊎◌, ◌<◌, inl, inr, ℕ, true, List, [], ◌∷◌, Some, refl, sym, ap, subst}
+use Rattle.std.proofs.{Common.{◌≡◌, ◌∙◌, ◌⊎◌, ◌<◌, inl, inr, ℕ, true, List, [], ◌∷◌, Some, refl, sym, ap, subst}, lemmas.Bool.{false≢true}, lemmas.List.Elements.All-head}
 use Rattle.std.specs.Prelude.{All, Contains}
-use Rattle.std.proofs.lemmas.Bool.{false≢true}
-use Rattle.std.proofs.lemmas.List.Elements.{All-head}
-use Rattle.query_router.specs.Desk.{is_taken}
-use Rattle.query_router.specs.declared.part.Part.{Part}
-use Rattle.query_router.specs.declared.part.PartState.{PartState}
+use Rattle.query_router.specs.{Desk.is_taken, declared.part.Part.Part, declared.part.PartState.PartState}
 use Rattle.query_router.specs.declared.part.PartState.TheVariants as state
 use Rattle.row_ledger.specs.Past.{Ack, Insert, acked, insert_at}
-use Rattle.volap_cell.proofs.InsertWays.{taken-way}
-use Rattle.volap_cell.specs.Desking.{IsInsertState, IsTaken}
-use Rattle.volap_cell.specs.Errands.{RowWay, Taken, has_passed}
-use Rattle.volap_cell.specs.Ghost.{Ghost}
-use Rattle.volap_cell.specs.Invariant.{InvWith}
-use Rattle.volap_cell.specs.Placing.{IsRouted, IsRowPart}
-use Rattle.volap_cell.specs.Setting.{Setting}
-use Rattle.volap_cell.specs.View.{view}
-use Rattle.volap_cell.specs.World.{World}
-use Rattle.volap_cell.specs.declared.command.Command.{Command}
+use Rattle.volap_cell.proofs.Desks.Inserts.{taken-way}
+use Rattle.volap_cell.specs.{Desking.{IsInsertState, IsTaken}, Errands.{RowWay, Taken, has_passed}, Ghost.Ghost, Invariant.InvWith, Placing.{IsRouted, IsRowPart}, Setting.Setting, View.view, World.World, declared.command.Command.Command}
 use Rattle.volap_cell.specs.declared.command.Work.TheVariants as work_is
 
 -- the insert's part is placed on its desk

@@ -1,23 +1,14 @@
 -- The end of a split or a move begins no insert and acknowledges none, and leaves desks and errands alone.
-use Rattle.std.proofs.Common.{◌≡◌, ◌∙◌, ℕ, ◌+◌, Bool, true, false, cond, eqb, List, [], ◌∷◌, ◌++◌, None, refl, sym, ap, subst}
+use Rattle.std.proofs.{Common.{◌≡◌, ◌∙◌, ℕ, ◌+◌, Bool, true, false, cond, eqb, List, [], ◌∷◌, ◌++◌, None, refl, sym, ap, subst}, lemmas.Bool.eqb-true}
 use Rattle.dim_hierarchy.specs.Dimension.{Dimension}
-use Rattle.row_ledger.specs.LedgerValue.{LedgerValue}
-use Rattle.row_ledger.specs.Past.{acked, insert_at, insert_in}
-use Rattle.row_ledger.specs.declared.event.Event.{Event}
+use Rattle.row_ledger.specs.{LedgerValue.LedgerValue, Past.{acked, insert_at, insert_in}, declared.event.Event.Event}
 use Rattle.row_ledger.specs.declared.event.Event.TheVariants as event
 use Rattle.row_ledger.specs.declared.settings.How.TheVariants as how
 use Rattle.shard_store.specs.declared.gate.Gate.{Gate}
 use Rattle.list_words.proofs.Each.{each-append}
-use Rattle.std.proofs.lemmas.Bool.{eqb-true}
 use Rattle.list_words.specs.Counts.{Each}
-use Rattle.volap_cell.proofs.Frames.{AreAt}
-use Rattle.volap_cell.proofs.Grows.{insert-same}
-use Rattle.volap_cell.specs.AdminKinds.{DoesFinishMove, DoesFinishSplit, Finishes, MovesIn, PushesBoth}
-use Rattle.volap_cell.specs.Cells.{CellValue, FreeCell, LedgerCell, StockCell, RegistryCell, ImageCell, DeskCell, MapCell, GateCell, BlockCell, OfStock, ledger_in, tag_of}
-use Rattle.volap_cell.specs.ImageKinds.{Pushes}
-use Rattle.volap_cell.specs.Values.{ActorValue, JobValue}
-use Rattle.volap_cell.specs.World.{Change, put}
-use Rattle.volap_cell.specs.declared.command.Work.{Work}
+use Rattle.volap_cell.proofs.{OneEvent.Older.insert-same, Views.Frames.AreAt}
+use Rattle.volap_cell.specs.{AdminKinds.{DoesFinishMove, DoesFinishSplit, Finishes, MovesIn, PushesBoth}, Cells.{CellValue, FreeCell, LedgerCell, StockCell, RegistryCell, ImageCell, DeskCell, MapCell, GateCell, BlockCell, OfStock, ledger_in, tag_of}, ImageKinds.Pushes, Values.{ActorValue, JobValue}, World.{Change, put}, declared.command.Work.Work}
 use Rattle.volap_cell.specs.declared.command.Work.TheVariants as work_is
 
 -- no insert has begun, and no row was acknowledged

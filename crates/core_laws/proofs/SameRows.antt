@@ -1,27 +1,13 @@
 -- Where a split or a move is finished the shards that stand keep their rows.
-use Rattle.std.proofs.Common.{◌≡◌, ◌∙◌, inl, inr, ℕ, true, false, List, [], ◌∷◌, ◌++◌, sym, ap, subst}
-use Rattle.std.proofs.lemmas.Bool.{false≢true}
+use Rattle.std.proofs.{Common.{◌≡◌, ◌∙◌, inl, inr, ℕ, true, false, List, [], ◌∷◌, ◌++◌, sym, ap, subst}, lemmas.Bool.{false≢true}}
 use Rattle.query_router.specs.Desk.{DeskValue}
 use Rattle.row_ledger.specs.Past.{Ack}
 use Rattle.std.specs.Prelude.{Contains, Option}
 use Rattle.list_words.proofs.Truth.{on_bool}
-use Rattle.volap_cell.proofs.AdminViews.{view-finish_move, view-finish_split}
-use Rattle.volap_cell.proofs.Spares.{move-blank, split-blank}
-use Rattle.volap_cell.proofs.Standings.{standing, in-none, in-one}
-use Rattle.volap_cell.specs.AdminKinds.{DoesFinishMove, DoesFinishSplit}
-use Rattle.volap_cell.specs.Errands.{RowWay}
-use Rattle.volap_cell.specs.Ghost.{Ghost}
-use Rattle.volap_cell.specs.Invariant.{InvWith}
-use Rattle.volap_cell.specs.Kinds.{Does}
-use Rattle.volap_cell.specs.Setting.{Setting, ledger_cell}
-use Rattle.volap_cell.specs.Steps.{Inv, Step}
-use Rattle.volap_cell.specs.Values.{ActorValue}
-use Rattle.volap_cell.specs.View.{View, row_or, view}
-use Rattle.volap_cell.specs.World.{Agrees, Change, World, after}
-use Rattle.volap_cell.specs.declared.kind.Kind.{Kind}
+use Rattle.volap_cell.proofs.{Cells.Spares.{move-blank, split-blank}, Histories.Standings.{standing, in-none, in-one}, Views.Admin.{view-finish_move, view-finish_split}}
+use Rattle.volap_cell.specs.{AdminKinds.{DoesFinishMove, DoesFinishSplit}, Errands.RowWay, Ghost.Ghost, Invariant.InvWith, Kinds.Does, Setting.{Setting, ledger_cell}, Steps.{Inv, Step}, Values.ActorValue, View.{View, row_or, view}, World.{Agrees, Change, World, after}, declared.kind.Kind.Kind}
 use Rattle.volap_cell.specs.declared.kind.Kind.TheVariants as kind
-use Rattle.core_laws.proofs.PassedGates.{HasPassed, has-passed, is-seen}
-use Rattle.core_laws.proofs.QuietLedger.{IsQuiet, move-cells, quiet-at, split-cells}
+use Rattle.core_laws.proofs.{PassedGates.{HasPassed, has-passed, is-seen}, QuietLedger.{IsQuiet, move-cells, quiet-at, split-cells}}
 use Rattle.core_laws.specs.Finishing.{FinishLaw, HaveSameRows, IsFinish}
 
 -- Desks and errands are as they were, no insert has begun, and no row was acknowledged.

@@ -1,11 +1,6 @@
 -- What a split or a move that is finished leaves as it was.
 use Rattle.std.specs.Prelude.{ℕ, ◌≡◌, ◌⊎◌}
-use Rattle.volap_cell.specs.Promises.{IsInNone, IsInOne, Standing}
-use Rattle.volap_cell.specs.Setting.{Setting}
-use Rattle.volap_cell.specs.Steps.{Inv, Step}
-use Rattle.volap_cell.specs.View.{View, view}
-use Rattle.volap_cell.specs.World.{World}
-use Rattle.volap_cell.specs.declared.kind.Kind.{Kind}
+use Rattle.volap_cell.specs.{Promises.{IsInNone, IsInOne, Standing}, Setting.Setting, Steps.{Inv, Step}, View.{View, view}, World.World, declared.kind.Kind.Kind}
 use Rattle.volap_cell.specs.declared.kind.Kind.TheVariants as kind
 
 -- the kinds that finish a split or a move

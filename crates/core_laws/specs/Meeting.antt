@@ -1,26 +1,13 @@
 -- Open queries: what their parts have read adds up to what is counted for them, and no row is met twice.
-use Rattle.std.specs.Prelude.{ℕ, ◌≡◌, ◌<◌, ◌≤◌, not, List, [], Option, Some, None, map, filter, slice_get}
-use Rattle.std.specs.List.{AllZip, flat_map}
-use Rattle.dc_node.specs.Summary.{joined}
-use Rattle.dc_node.specs.declared.todo.Item.{Item}
+use Rattle.std.specs.{List.{AllZip, flat_map}, Prelude.{ℕ, ◌≡◌, ◌<◌, ◌≤◌, not, List, [], Option, Some, None, map, filter, slice_get}}
+use Rattle.dc_node.specs.{Summary.joined, declared.todo.Item.Item}
 use Rattle.measure_agg.specs.Aggregate.{Aggregate, agg}
-use Rattle.query_router.specs.Desk.{is_refused}
-use Rattle.query_router.specs.declared.part.Part.{Part}
-use Rattle.query_router.specs.declared.part.PartState.{PartState}
+use Rattle.query_router.specs.{Desk.is_refused, declared.part.Part.Part, declared.part.PartState.PartState}
 use Rattle.query_router.specs.declared.part.PartState.TheVariants as state
 use Rattle.row_ledger.specs.Past.{Query, query_at}
 use Rattle.list_words.specs.Counts.{times}
-use Rattle.tree_shape.specs.Shape.{nodes}
-use Rattle.tree_shape.specs.Trees.{IsTree}
-use Rattle.tree_shape.specs.Walks.{IsNoted, Noted, beneath}
-use Rattle.volap_cell.specs.Errands.{ReadPart, Taken}
-use Rattle.volap_cell.specs.Growing.{table_of}
-use Rattle.volap_cell.specs.Promises.{HasCounted, HasNotRead, IsAheadOf, Standing}
-use Rattle.volap_cell.specs.Setting.{Setting}
-use Rattle.volap_cell.specs.Steps.{Inv}
-use Rattle.volap_cell.specs.Stocking.{cells_at}
-use Rattle.volap_cell.specs.View.{View, view}
-use Rattle.volap_cell.specs.World.{World}
+use Rattle.tree_shape.specs.{Shape.nodes, Trees.IsTree, Walks.{IsNoted, Noted, beneath}}
+use Rattle.volap_cell.specs.{Errands.{ReadPart, Taken}, Growing.table_of, Promises.{HasCounted, HasNotRead, IsAheadOf, Standing}, Setting.Setting, Steps.Inv, Stocking.cells_at, View.{View, view}, World.World}
 
 -- What was read.
 

@@ -1,33 +1,15 @@
 -- Two shapes of one tree place the same rows, where through the one of them no row is on its way: its leaves have no row that the other
 -- one doesn't place, and the gate counts as many rows by both.
-use Rattle.std.proofs.Common.{ℕ, zero, suc, ◌≡◌, ◌+◌, ◌-◌, ◌<◌, ◌≤◌, Option, Some, true, cond, leb, List, [], ◌∷◌, ◌++◌, length, map, refl, sym, ap, ◌∙◌, subst, arith}
+use Rattle.std.proofs.{Common.{ℕ, zero, suc, ◌≡◌, ◌+◌, ◌-◌, ◌<◌, ◌≤◌, Option, Some, true, cond, leb, List, [], ◌∷◌, ◌++◌, length, map, refl, sym, ap, ◌∙◌, subst, arith}, lemmas.Bool.{leb-false, leb-true}, lemmas.List.length-append}
 use Rattle.std.specs.List.{flat_map}
-use Rattle.dc_node.specs.Block.{rows_in, entries_in}
-use Rattle.dc_node.specs.declared.block.Block.{Block}
-use Rattle.dc_node.specs.declared.entry.Entry.{Entry}
-use Rattle.shard_store.specs.Gate.{root_entry}
-use Rattle.shard_store.specs.declared.gate.Gate.{Gate}
-use Rattle.tree_shape.specs.PageLines.{CellBlocks}
-use Rattle.tree_shape.specs.PageLines.{group, group_entries}
+use Rattle.dc_node.specs.{Block.{rows_in, entries_in}, declared.block.Block.Block, declared.entry.Entry.Entry}
+use Rattle.shard_store.specs.{Gate.root_entry, declared.gate.Gate.Gate}
+use Rattle.tree_shape.specs.{PageLines.{CellBlocks, group, group_entries}, Shape.{Table, Node, TreeCells, node_of, nodes, Shape, numbers}, Trees.{EntryOk, IsTree, lies}, Walks.{IsTail, noted_of}}
 use Rattle.tree_page.specs.Still.{cells_with, IsStill}
-use Rattle.list_words.proofs.Each.{each-made, each-flat, each-both}
-use Rattle.list_words.proofs.Totals.{total-none, total-flat, total-same, total-map}
-use Rattle.list_words.proofs.Times.{each-times, split-at, times-split, same_is}
+use Rattle.list_words.proofs.{Each.{each-made, each-flat, each-both}, Times.{each-times, split-at, times-split, same_is}, Totals.{total-none, total-flat, total-same, total-map}, Truth.on_bool}
 use Rattle.list_words.specs.Counts.{Each, same, times, total}
-use Rattle.std.proofs.lemmas.List.{length-append}
-use Rattle.std.proofs.lemmas.Bool.{leb-false, leb-true}
-use Rattle.list_words.proofs.Truth.{on_bool}
-use Rattle.tree_page.proofs.Counts.{IsEntry, group-is, entries-ok, root-ok, rows-ok}
-use Rattle.tree_page.proofs.Listing.{leaf_rows, rows_at}
-use Rattle.tree_page.proofs.Numbers.{times-flat}
-use Rattle.tree_shape.specs.Shape.{Table, Node, TreeCells, node_of, nodes, Shape, numbers}
-use Rattle.tree_shape.specs.Trees.{EntryOk, IsTree, lies}
-use Rattle.tree_shape.specs.Walks.{IsTail, noted_of}
-use Rattle.tree_shape.proofs.Assembled.{node-block, node-gate}
-use Rattle.tree_shape.proofs.Divisions.{sums-high, sums-low, sums-out}
-use Rattle.tree_shape.proofs.Queries.{reach-low}
-use Rattle.tree_shape.proofs.Totals.{entry-counted, reach-root}
-use Rattle.tree_shape.proofs.Beneath.{total-le}
+use Rattle.tree_page.proofs.{Counts.{IsEntry, group-is, entries-ok, root-ok, rows-ok}, Listing.{leaf_rows, rows_at}, Numbers.times-flat}
+use Rattle.tree_shape.proofs.{Cutting.Divisions.{sums-high, sums-low, sums-out}, Reading.Queries.reach-low, Whole.Assembled.{node-block, node-gate}, Whole.Beneath.total-le, Whole.Totals.{entry-counted, reach-root}}
 
 -- walks along right links to one stamp are the same
 same-tail : (look : ℕ → Node) (stamp y : ℕ) (zs us : List ℕ) → IsTail look stamp y zs → IsTail look stamp y us → zs ≡ us

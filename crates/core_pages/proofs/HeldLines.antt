@@ -1,44 +1,22 @@
 -- The lines of the shards that stand: the registry and the tables are those of the state, and lead to the gates of these shards.
-use Rattle.std.proofs.Common.{ℕ, ◌≡◌, ◌==◌, ◌&&◌, ◌||◌, true, false, List, [], ◌∷◌, ◌++◌, length, All, Option, Some, None, get_or, inl, inr, refl, sym, ap, ◌∙◌, subst}
-use Rattle.std.specs.Prelude.{IsSome, option_and_then}
-use Rattle.std.specs.List.{AllZip, list_any}
-use Rattle.std.proofs.lemmas.Bool.{cases_lt, eq-eqb, or_right}
-use Rattle.std.proofs.lemmas.List.{get_or_past, map-append}
+use Rattle.std.proofs.{Common.{ℕ, ◌≡◌, ◌==◌, ◌&&◌, ◌||◌, true, false, List, [], ◌∷◌, ◌++◌, length, All, Option, Some, None, get_or, inl, inr, refl, sym, ap, ◌∙◌, subst}, lemmas.Bool.{cases_lt, eq-eqb, or_right}, lemmas.List.{get_or_past, map-append}}
+use Rattle.std.specs.{List.{AllZip, list_any}, Prelude.{IsSome, option_and_then}}
 use Rattle.dc_node.specs.Summary.{coords}
 use Rattle.dc_node.proofs.Summaries.{valid_coords}
 use Rattle.describing_set.specs.declared.listing.Spot.{Spot}
-use Rattle.dim_hierarchy.specs.Dimension.{Dimension}
-use Rattle.dim_hierarchy.specs.declared.row.Row.{Row}
+use Rattle.dim_hierarchy.specs.{Dimension.Dimension, declared.row.Row.Row}
 use Rattle.mapping_table.specs.declared.place.Where.{Where}
-use Rattle.measure_agg.specs.Aggregate.{Aggregate, agg}
-use Rattle.measure_agg.specs.Joining.{join}
+use Rattle.measure_agg.specs.{Aggregate.{Aggregate, agg}, Joining.join}
 use Rattle.measure_agg.proofs.AggLaws.{agg-append}
-use Rattle.row_ledger.specs.Listings.{places_of}
-use Rattle.row_ledger.specs.Shards.{Place, is_of}
-use Rattle.row_ledger.specs.Workers.{is_on}
-use Rattle.row_ledger.specs.declared.page.ShardLine.{ShardLine}
+use Rattle.row_ledger.specs.{Listings.places_of, Shards.{Place, is_of}, Workers.is_on, declared.page.ShardLine.ShardLine}
 use Rattle.server_image.specs.Registry.{RegistryValue}
 use Rattle.shard_store.specs.declared.gate.Gate.{Gate}
 use Rattle.list_words.specs.Counts.{Among, Each}
 use Rattle.list_words.proofs.Each.{all-each, each-here}
-use Rattle.volap_cell.specs.Cells.{CellValue, OfStock, TheLedger, TheStock, TheRegistry, ImageOf, DeskOf, MapOf, cell_of, gate_shard, registry_in, tag_of, where_in}
-use Rattle.volap_cell.specs.Ghost.{Ghost}
-use Rattle.volap_cell.specs.Invariant.{InvWith}
-use Rattle.volap_cell.specs.Setting.{Setting, map_cell, registry_cell}
-use Rattle.volap_cell.specs.Sights.{HasAll, HasRows, SeesLine}
-use Rattle.volap_cell.specs.State.{HasInv, IsWorldOf}
-use Rattle.volap_cell.specs.Steps.{Inv}
-use Rattle.volap_cell.specs.View.{View, view}
-use Rattle.volap_cell.specs.World.{World}
-use Rattle.volap_cell.specs.declared.actor.Actor.{Actor}
-use Rattle.volap_cell.specs.declared.cell.Cell.{Cell}
+use Rattle.volap_cell.specs.{Cells.{CellValue, OfStock, TheLedger, TheStock, TheRegistry, ImageOf, DeskOf, MapOf, cell_of, gate_shard, registry_in, tag_of, where_in}, Ghost.Ghost, Invariant.InvWith, Setting.{Setting, map_cell, registry_cell}, Sights.{HasAll, HasRows, SeesLine}, State.{HasInv, IsWorldOf}, Steps.Inv, View.{View, view}, World.World, declared.actor.Actor.Actor, declared.cell.Cell.Cell}
 use Rattle.volap_cell.specs.declared.cell.Cell.TheVariants as cell
-use Rattle.volap_cell.proofs.Holding.{has-own-place}
-use Rattle.volap_cell.proofs.States.{stands}
-use Rattle.core_pages.specs.Held.{gate_held}
-use Rattle.core_pages.specs.HeldLines.{HasGate, HasLine, IsLineOf, LeadsToGate, gate_by_table, gate_cell_of, registry_held, where_held}
-use Rattle.core_pages.specs.HeldRows.{agg_at, agg_of_one}
-use Rattle.core_pages.specs.Seen.{AreSeenIn, CanSee, IsQuietIn}
+use Rattle.volap_cell.proofs.{Cells.Holding.has-own-place, Cells.States.stands}
+use Rattle.core_pages.specs.{Held.gate_held, HeldLines.{HasGate, HasLine, IsLineOf, LeadsToGate, gate_by_table, gate_cell_of, registry_held, where_held}, HeldRows.{agg_at, agg_of_one}, Seen.{AreSeenIn, CanSee, IsQuietIn}}
 use Rattle.core_pages.proofs.HeldTrees.{gate-cell, gate-there, has-rows, queue-is, tree-sums, tree_rows}
 
 -- the cell with the registry's tag has the registry

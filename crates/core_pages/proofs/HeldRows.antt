@@ -1,34 +1,19 @@
 -- All rows of the shards that stand: the gates to which the tables lead have their aggregate, and they are no more than the events.
-use Rattle.std.proofs.Common.{ℕ, ◌≡◌, ◌+◌, ◌^◌, ◌<◌, ◌≤◌, List, [], ◌∷◌, length, map, take, drop, All, Option, Some, None, get_or, refl, sym, ap, ◌∙◌, subst, arith}
-use Rattle.std.specs.Prelude.{flat_map}
-use Rattle.std.specs.List.{AllZip}
-use Rattle.std.proofs.lemmas.List.{take_more, map_push, map-append, take-append-drop}
+use Rattle.std.proofs.{Common.{ℕ, ◌≡◌, ◌+◌, ◌^◌, ◌<◌, ◌≤◌, List, [], ◌∷◌, length, map, take, drop, All, Option, Some, None, get_or, refl, sym, ap, ◌∙◌, subst, arith}, lemmas.List.{take_more, map_push, map-append, take-append-drop}}
+use Rattle.std.specs.{List.AllZip, Prelude.flat_map}
 use Rattle.dc_node.specs.Summary.{joined}
 use Rattle.dc_node.proofs.Summaries.{JoinLaws, joined-append}
 use Rattle.describing_set.specs.declared.listing.Spot.{Spot}
-use Rattle.dim_hierarchy.specs.Dimension.{Dimension}
-use Rattle.dim_hierarchy.specs.declared.row.Row.{Row}
-use Rattle.measure_agg.specs.Aggregate.{Aggregate, agg}
-use Rattle.measure_agg.specs.Joining.{join}
+use Rattle.dim_hierarchy.specs.{Dimension.Dimension, declared.row.Row.Row}
+use Rattle.measure_agg.specs.{Aggregate.{Aggregate, agg}, Joining.join}
 use Rattle.measure_agg.proofs.AggLaws.{agg-append, join_associative, join_empty_left, join_empty_right}
 use Rattle.row_ledger.specs.declared.page.AuditLine.{AuditLine}
 use Rattle.server_image.specs.Registry.{RegistryValue}
 use Rattle.list_words.specs.Counts.{Each}
 use Rattle.list_words.proofs.Each.{all-each}
-use Rattle.volap_cell.specs.Ghost.{Ghost}
-use Rattle.volap_cell.specs.Invariant.{InvWith}
-use Rattle.volap_cell.specs.Setting.{Setting, registry_cell}
-use Rattle.volap_cell.specs.Sights.{HasAll, SeesAudit}
-use Rattle.volap_cell.specs.State.{HasInv, IsWorldOf}
-use Rattle.volap_cell.specs.Steps.{Inv}
-use Rattle.volap_cell.specs.View.{View, view}
-use Rattle.volap_cell.specs.World.{World}
-use Rattle.volap_cell.specs.declared.actor.Actor.{Actor}
-use Rattle.volap_cell.specs.declared.cell.Cell.{Cell}
-use Rattle.core_image.proofs.RowsDivided.{few-rows}
-use Rattle.core_pages.specs.HeldLines.{LeadsToGate, registry_held}
-use Rattle.core_pages.specs.HeldRows.{agg_at, agg_of_spots}
-use Rattle.core_pages.specs.Seen.{IsAuditedIn, IsQuietIn}
+use Rattle.volap_cell.specs.{Ghost.Ghost, Invariant.InvWith, Setting.{Setting, registry_cell}, Sights.{HasAll, SeesAudit}, State.{HasInv, IsWorldOf}, Steps.Inv, View.{View, view}, World.World, declared.actor.Actor.Actor, declared.cell.Cell.Cell}
+use Rattle.core_image.proofs.Pages.RowsDivided.{few-rows}
+use Rattle.core_pages.specs.{HeldLines.{LeadsToGate, registry_held}, HeldRows.{agg_at, agg_of_spots}, Seen.{IsAuditedIn, IsQuietIn}}
 use Rattle.core_pages.proofs.HeldLines.{IsThere, all-spots, all-there, its-part}
 
 -- Aggregates of several spots.

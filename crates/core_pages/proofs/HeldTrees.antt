@@ -1,45 +1,21 @@
 -- What the cells of a state have that one thread holds: the blocks and the gate are those of the state, and where nobody is at a part the
 -- gate's tree is at rest, so that a page made of it is what the state has.
-use Rattle.std.proofs.Common.{Result, Ok, Err, ℕ, ◌≡◌, ◌≢◌, ◌-◌, ◌<◌, true, false, cond, eqb, List, [], ◌∷◌, length, map, Option, Some, None, get_or, inl, inr, refl, sym, ap, ◌∙◌, subst, arith}
+use Rattle.std.proofs.{Common.{Result, Ok, Err, ℕ, ◌≡◌, ◌≢◌, ◌-◌, ◌<◌, true, false, cond, eqb, List, [], ◌∷◌, length, map, Option, Some, None, get_or, inl, inr, refl, sym, ap, ◌∙◌, subst, arith}, lemmas.Bool.{cases_lt, eqb-true, eqb-false}, lemmas.List.get_or_past}
 use Rattle.std.specs.Prelude.{IfOk, IsSome}
-use Rattle.std.proofs.lemmas.Bool.{cases_lt, eqb-true, eqb-false}
-use Rattle.std.proofs.lemmas.List.{get_or_past}
 use Rattle.dim_hierarchy.specs.declared.row.Row.{Row}
 use Rattle.dc_node.specs.Summary.{IsSummaryOf}
-use Rattle.row_ledger.specs.Pages.{IsPageOf}
-use Rattle.row_ledger.specs.declared.page.TreePage.{TreePage}
-use Rattle.shard_store.specs.Gate.{IsQueueOf, root_entry}
-use Rattle.shard_store.specs.declared.gate.Gate.{Gate}
-use Rattle.shard_store.specs.declared.gate.Phase.{Phase}
+use Rattle.row_ledger.specs.{Pages.IsPageOf, declared.page.TreePage.TreePage}
+use Rattle.shard_store.specs.{Gate.{IsQueueOf, root_entry}, declared.gate.Gate.Gate, declared.gate.Phase.Phase}
 use Rattle.tree_page.specs.Still.{cells_with, IsStill, CanShow}
-use Rattle.tree_page.proofs.AnyCount.{with_count, lines-same}
-use Rattle.list_words.proofs.Each.{each-made}
-use Rattle.list_words.proofs.Times.{each-times}
+use Rattle.tree_page.proofs.{AnyCount.{with_count, lines-same}, Counts.root-times}
+use Rattle.list_words.proofs.{Each.each-made, Times.each-times, Truth.on_bool}
 use Rattle.list_words.specs.Counts.{Each, times}
-use Rattle.list_words.proofs.Truth.{on_bool}
-use Rattle.tree_page.proofs.Counts.{root-times}
-use Rattle.tree_shape.specs.PageLines.{CellBlocks, lines}
-use Rattle.tree_shape.specs.Shape.{Shape, Table, TreeCells, numbers}
-use Rattle.tree_shape.specs.Trees.{IsTree}
-use Rattle.tree_shape.proofs.Totals.{gate-sum}
-use Rattle.volap_cell.specs.Cells.{CellValue, FreeCell, LedgerCell, StockCell, RegistryCell, ImageCell, DeskCell, MapCell, GateCell, BlockCell, block_in, cell_of, gate_shard, has_block, phase_of, queue_in, way_in, way_to_tree}
-use Rattle.volap_cell.specs.Errands.{RowWay, way_of}
-use Rattle.volap_cell.specs.Ghost.{Ghost, NotOfStock, AGate, InTree}
-use Rattle.volap_cell.specs.Growing.{table_of}
-use Rattle.volap_cell.specs.Invariant.{InvWith}
-use Rattle.volap_cell.specs.Setting.{Setting, cell_count}
-use Rattle.volap_cell.specs.Sights.{HasRows, SeesTree, blocks_seen}
-use Rattle.volap_cell.specs.State.{IsWorldOf}
-use Rattle.volap_cell.specs.Stocking.{IsWhole, cells_at}
-use Rattle.volap_cell.specs.View.{View, view}
-use Rattle.volap_cell.specs.World.{World}
-use Rattle.volap_cell.specs.declared.actor.Actor.{Actor}
-use Rattle.volap_cell.specs.declared.cell.Cell.{Cell}
+use Rattle.tree_shape.specs.{PageLines.{CellBlocks, lines}, Shape.{Shape, Table, TreeCells, numbers}, Trees.IsTree}
+use Rattle.tree_shape.proofs.Whole.Totals.{gate-sum}
+use Rattle.volap_cell.specs.{Cells.{CellValue, FreeCell, LedgerCell, StockCell, RegistryCell, ImageCell, DeskCell, MapCell, GateCell, BlockCell, block_in, cell_of, gate_shard, has_block, phase_of, queue_in, way_in, way_to_tree}, Errands.{RowWay, way_of}, Ghost.{Ghost, NotOfStock, AGate, InTree}, Growing.table_of, Invariant.InvWith, Setting.{Setting, cell_count}, Sights.{HasRows, SeesTree, blocks_seen}, State.IsWorldOf, Stocking.{IsWhole, cells_at}, View.{View, view}, World.World, declared.actor.Actor.Actor, declared.cell.Cell.Cell}
 use Rattle.volap_cell.specs.declared.cell.Cell.TheVariants as cell
-use Rattle.volap_cell.proofs.Holding.{has-place}
-use Rattle.volap_cell.proofs.States.{of-it, stands, within}
-use Rattle.core_pages.specs.Held.{block_held, blocks_of, gate_held}
-use Rattle.core_pages.specs.Seen.{CanSee, CanSeeIn, IsOfGate, IsSeenIn}
+use Rattle.volap_cell.proofs.{Cells.Holding.has-place, Cells.States.{of-it, stands, within}}
+use Rattle.core_pages.specs.{Held.{block_held, blocks_of, gate_held}, Seen.{CanSee, CanSeeIn, IsOfGate, IsSeenIn}}
 use Rattle.core_pages.proofs.AnyShape.{same-placed}
 
 -- what the page's maker says of a page, over a gate and blocks

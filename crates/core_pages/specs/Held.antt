@@ -1,11 +1,9 @@
 -- What a page reads of the cells that one thread holds: the blocks there, and a gate.
 use Rattle.std.specs.Prelude.{ℕ, ◌-◌, ◌^◌, min, List, length, get_or, Option, Some, None}
-use Rattle.tree_shape.specs.PageLines.{CellBlocks}
+use Rattle.tree_shape.specs.{PageLines.CellBlocks, Trees.leaf_without_rows}
 use Rattle.dc_node.specs.declared.block.Block.{Block}
 use Rattle.shard_store.specs.declared.gate.Gate.{Gate}
-use Rattle.tree_shape.specs.Trees.{leaf_without_rows}
-use Rattle.volap_cell.specs.Cells.{block_in, cell_of}
-use Rattle.volap_cell.specs.declared.cell.Cell.{Cell}
+use Rattle.volap_cell.specs.{Cells.{block_in, cell_of}, declared.cell.Cell.Cell}
 use Rattle.volap_cell.specs.declared.cell.Cell.TheVariants as cell
 
 -- the block of a cell; a leaf without rows where the cell is out or has none

@@ -1,15 +1,13 @@
 -- What a page of all shards reads of the cells that one thread holds: for each spot the gate to which its worker's table leads.
 use Rattle.std.specs.Prelude.{ℕ, ◌≡◌, ◌+◌, List, length, get_or, Option, Some, None, IsSome, option_and_then}
-use Rattle.describing_set.specs.Sets.{IsDescSetOf, JoinsTo}
-use Rattle.describing_set.specs.declared.listing.Spot.{Spot}
+use Rattle.describing_set.specs.{Sets.{IsDescSetOf, JoinsTo}, declared.listing.Spot.Spot}
 use Rattle.dim_hierarchy.specs.Dimension.{Dimension}
 use Rattle.mapping_table.specs.declared.place.Where.{Where}
 use Rattle.mapping_table.specs.declared.place.Where.TheVariants as where_is
 use Rattle.row_ledger.specs.declared.page.ShardLine.{ShardLine}
 use Rattle.server_image.specs.Registry.{RegistryValue}
 use Rattle.shard_store.specs.declared.gate.Gate.{Gate}
-use Rattle.volap_cell.specs.Cells.{cell_of, where_in}
-use Rattle.volap_cell.specs.declared.cell.Cell.{Cell}
+use Rattle.volap_cell.specs.{Cells.{cell_of, where_in}, declared.cell.Cell.Cell}
 use Rattle.volap_cell.specs.declared.cell.Cell.TheVariants as cell
 use Rattle.core_pages.specs.Held.{gate_held}
 

@@ -2,8 +2,7 @@
 use Rattle.std.specs.Prelude.{ℕ, List, [], map, Option, Some, None}
 use Rattle.dc_node.specs.Summary.{joined}
 use Rattle.describing_set.specs.declared.listing.Spot.{Spot}
-use Rattle.measure_agg.specs.Aggregate.{Aggregate, agg}
-use Rattle.measure_agg.specs.Joining.{join}
+use Rattle.measure_agg.specs.{Aggregate.{Aggregate, agg}, Joining.join}
 use Rattle.shard_store.specs.declared.gate.Gate.{Gate}
 use Rattle.volap_cell.specs.declared.cell.Cell.{Cell}
 use Rattle.core_pages.specs.HeldLines.{gate_by_table, table_place}

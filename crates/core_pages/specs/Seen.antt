@@ -1,20 +1,10 @@
 -- When a page can be read off the cells that one thread holds, and that it is what the state has.
 use Rattle.std.specs.Prelude.{ℕ, ◌≡◌, ◌≢◌, List, Option, Some, None, IsSome}
 use Rattle.dim_hierarchy.specs.Dimension.{Dimension}
-use Rattle.row_ledger.specs.declared.page.AuditLine.{AuditLine}
+use Rattle.row_ledger.specs.{declared.page.AuditLine.AuditLine, declared.page.ShardLine.ShardLine, declared.page.TreePage.TreePage}
 use Rattle.row_ledger.specs.declared.page.Page.TheVariants as page
-use Rattle.row_ledger.specs.declared.page.ShardLine.{ShardLine}
-use Rattle.row_ledger.specs.declared.page.TreePage.{TreePage}
 use Rattle.shard_store.specs.declared.gate.Phase.TheVariants.{Gone}
-use Rattle.volap_cell.specs.Cells.{gate_shard, phase_of}
-use Rattle.volap_cell.specs.Setting.{Setting}
-use Rattle.volap_cell.specs.Sights.{SeesPage, SeesTree}
-use Rattle.volap_cell.specs.State.{IsWorldOf}
-use Rattle.volap_cell.specs.Steps.{Inv}
-use Rattle.volap_cell.specs.View.{view}
-use Rattle.volap_cell.specs.World.{World}
-use Rattle.volap_cell.specs.declared.actor.Actor.{Actor}
-use Rattle.volap_cell.specs.declared.cell.Cell.{Cell}
+use Rattle.volap_cell.specs.{Cells.{gate_shard, phase_of}, Setting.Setting, Sights.{SeesPage, SeesTree}, State.IsWorldOf, Steps.Inv, View.view, World.World, declared.actor.Actor.Actor, declared.cell.Cell.Cell}
 
 -- the cell has the gate of a shard that stands, and nobody is at a part
 pub record CanSee (w : World) (gate_at : ℕ) : Type 0 where

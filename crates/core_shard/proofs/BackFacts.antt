@@ -1,27 +1,11 @@
 -- A part of an actor that goes back to its desk: the fields of the view that change with it, and what the invariant says of the part.
 use Rattle.std.proofs.Common.{◌≡◌, ℕ, ◌+◌, List, [], ◌∷◌, true, take, drop, Some, None, refl, sym, ap, subst, ◌∙◌}
 use Rattle.std.specs.Prelude.{position, slice_get, slice_set}
-use Rattle.dim_hierarchy.specs.declared.filter.Pick.{Pick}
-use Rattle.dim_hierarchy.specs.declared.row.Row.{Row}
-use Rattle.query_router.specs.Desk.{DeskValue, is_with}
-use Rattle.query_router.specs.declared.part.Part.{Part}
+use Rattle.dim_hierarchy.specs.{declared.filter.Pick.Pick, declared.row.Row.Row}
+use Rattle.query_router.specs.{Desk.{DeskValue, is_with}, declared.part.Part.Part}
 use Rattle.row_ledger.specs.Past.{Insert, Query, insert_at, query_at}
-use Rattle.volap_cell.specs.Desking.{IsAtPart, IsWantOf}
-use Rattle.volap_cell.specs.Errands.{read_in_task, read_of, taken_by, taken_of, want_of, way_in_task, way_of}
-use Rattle.volap_cell.specs.Ghost.{Ghost}
-use Rattle.volap_cell.specs.Invariant.{InvWith}
-use Rattle.volap_cell.specs.Querying.{one_pin, pins_of}
-use Rattle.volap_cell.specs.Setting.{Setting, site_in}
-use Rattle.volap_cell.specs.ShardKinds.{pin_of}
-use Rattle.volap_cell.specs.Values.{ActorValue, ErrandValue, ReadingValue, TaskValue, OfRow, Unread, Read}
-use Rattle.volap_cell.specs.View.{View, view}
-use Rattle.volap_cell.specs.World.{World, Change, after}
-use Rattle.volap_cell.specs.declared.errand.RowErrand.{RowErrand}
-use Rattle.volap_cell.proofs.Beginnings.{no-query}
-use Rattle.volap_cell.proofs.DeskParts.{TurnsParts, turned-parts}
-use Rattle.volap_cell.proofs.Fields.{IsNewAt}
-use Rattle.volap_cell.proofs.Frames.{actor-at, actor-off}
-use Rattle.volap_cell.proofs.PartLists.{found-at, place-set, place-splits}
+use Rattle.volap_cell.specs.{Desking.{IsAtPart, IsWantOf}, Errands.{read_in_task, read_of, taken_by, taken_of, want_of, way_in_task, way_of}, Ghost.Ghost, Invariant.InvWith, Querying.{one_pin, pins_of}, Setting.{Setting, site_in}, ShardKinds.pin_of, Values.{ActorValue, ErrandValue, ReadingValue, TaskValue, OfRow, Unread, Read}, View.{View, view}, World.{World, Change, after}, declared.errand.RowErrand.RowErrand}
+use Rattle.volap_cell.proofs.{Desks.Lists.{found-at, place-set, place-splits}, Desks.Shared.{TurnsParts, turned-parts}, Histories.Beginnings.no-query, Views.Fields.IsNewAt, Views.Frames.{actor-at, actor-off}}
 use Rattle.row_ledger.proofs.Ended.{number_of}
 
 -- The actor's fields: it has no part then.

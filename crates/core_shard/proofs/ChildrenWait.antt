@@ -1,38 +1,17 @@
 -- What an actor's part becomes where its shard was split: a row's waits for the child on its side, and a query's for both.
-use Rattle.std.proofs.Common.{◌≡◌, ◌≢◌, ℕ, ◌<◌, List, [], ◌∷◌, ◌++◌, Bool, true, false, not, Option, Some, None, refl, sym, ap, subst, ◌∙◌, ◌⊎◌, inl, inr, arith, All, Any, Contains, ◌==◌, ◌&&◌, ◌||◌}
+use Rattle.std.proofs.{Common.{◌≡◌, ◌≢◌, ℕ, ◌<◌, List, [], ◌∷◌, ◌++◌, Bool, true, false, not, Option, Some, None, refl, sym, ap, subst, ◌∙◌, ◌⊎◌, inl, inr, arith, All, Any, Contains, ◌==◌, ◌&&◌, ◌||◌}, lemmas.Bool.{false≢true, ne_eqb}, lemmas.List.Elements.{All-cons, All-contains, All-nil, All-weaker, Contains-append_left, Contains-append_right}}
 use Rattle.std.specs.Prelude.{IsSome, IsTrue, if◌then◌else◌}
-use Rattle.std.proofs.lemmas.Bool.{false≢true, ne_eqb}
-use Rattle.std.proofs.lemmas.List.Elements.{All-cons, All-contains, All-nil, All-weaker, Contains-append_left, Contains-append_right}
-use Rattle.describing_set.specs.declared.listing.Spot.{Spot}
-use Rattle.describing_set.specs.declared.plane.Plane.{Plane}
+use Rattle.describing_set.specs.{declared.listing.Spot.Spot, declared.plane.Plane.Plane}
 use Rattle.dim_hierarchy.specs.declared.filter.Pick.{Pick}
 use Rattle.mapping_table.specs.declared.place.Where.TheVariants as where_is
-use Rattle.query_router.specs.Desk.{is_open, is_refused, is_taken, is_with}
-use Rattle.query_router.specs.declared.part.Part.{Part}
+use Rattle.query_router.specs.{Desk.{is_open, is_refused, is_taken, is_with}, declared.part.Part.Part}
 use Rattle.query_router.specs.declared.part.Want.TheVariants as want
-use Rattle.row_ledger.specs.Past.{Query, query_at}
-use Rattle.row_ledger.specs.Shards.{comes_from, ids_made, is_child}
+use Rattle.row_ledger.specs.{Past.{Query, query_at}, Shards.{comes_from, ids_made, is_child}}
 use Rattle.row_ledger.proofs.Descent.{WasSplit, comes_from-child, split-made}
 use Rattle.list_words.proofs.Truth.{eqb-self}
-use Rattle.volap_cell.specs.Desking.{AreUnrelated, IsQueryPart, IsQueryState}
-use Rattle.volap_cell.specs.Errands.{Outside, RowWay, has_passed, place_of, read_in_task, taken_by, way_in_task}
-use Rattle.volap_cell.specs.Ghost.{Ghost}
-use Rattle.volap_cell.specs.Growing.{IsUnder}
-use Rattle.volap_cell.specs.Invariant.{InvWith}
-use Rattle.volap_cell.specs.Placing.{IsLead}
-use Rattle.volap_cell.specs.Querying.{IsCounted, IsEndOfPart}
-use Rattle.volap_cell.specs.Setting.{Setting, site_in}
-use Rattle.volap_cell.specs.ShardKinds.{waiting}
-use Rattle.volap_cell.specs.Values.{ErrandValue, OfRow, Unread}
-use Rattle.volap_cell.specs.View.{View}
-use Rattle.volap_cell.specs.declared.errand.RowErrand.{RowErrand}
-use Rattle.volap_cell.proofs.Fields.{IsNewAt}
-use Rattle.volap_cell.proofs.Lines.{AreChildren, are-children, comes-made, comes_from-through, last-on, path-on}
-use Rattle.volap_cell.proofs.PartLists.{Contains-head, any-of}
-use Rattle.core_shard.proofs.BackFacts.{row-no-query, unread-filter, unread-no-insert, wants}
-use Rattle.core_shard.proofs.GoesBack.{AreParts}
-use Rattle.core_shard.proofs.OnePart.{all-one, its-shard, unrelated}
-use Rattle.core_shard.proofs.RowBack.{row-nobody, row-on, row-passed, row-want}
+use Rattle.volap_cell.specs.{Desking.{AreUnrelated, IsQueryPart, IsQueryState}, Errands.{Outside, RowWay, has_passed, place_of, read_in_task, taken_by, way_in_task}, Ghost.Ghost, Growing.IsUnder, Invariant.InvWith, Placing.IsLead, Querying.{IsCounted, IsEndOfPart}, Setting.{Setting, site_in}, ShardKinds.waiting, Values.{ErrandValue, OfRow, Unread}, View.View, declared.errand.RowErrand.RowErrand}
+use Rattle.volap_cell.proofs.{Desks.Lists.{Contains-head, any-of}, Histories.Lines.{AreChildren, are-children, comes-made, comes_from-through, last-on, path-on}, Views.Fields.IsNewAt}
+use Rattle.core_shard.proofs.{BackFacts.{row-no-query, unread-filter, unread-no-insert, wants}, GoesBack.AreParts, OnePart.{all-one, its-shard, unrelated}, RowBack.{row-nobody, row-on, row-passed, row-want}}
 
 -- what the parts of the children have counted, which is nothing
 abbrev pub nothing_yet : (ℕ → ℕ → List ℕ) → (server left right : ℕ) → ℕ → ℕ → List ℕ

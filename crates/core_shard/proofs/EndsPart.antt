@@ -1,37 +1,16 @@
 -- What an actor's part is at its end: an insert's is placed, with its path, or its row has passed no gate; a query's has counted all that it must.
-use Rattle.std.proofs.Common.{◌≡◌, ◌≢◌, ℕ, ◌<◌, ◌≤◌, List, [], ◌∷◌, ◌++◌, true, false, Option, Some, None, refl, sym, ap, subst, ◌∙◌, inl, inr, arith, All, ◌||◌}
+use Rattle.std.proofs.{Common.{◌≡◌, ◌≢◌, ℕ, ◌<◌, ◌≤◌, List, [], ◌∷◌, ◌++◌, true, false, Option, Some, None, refl, sym, ap, subst, ◌∙◌, inl, inr, arith, All, ◌||◌}, lemmas.Bool.{false≢true}}
 use Rattle.std.specs.Prelude.{IsSome, IsTrue}
-use Rattle.std.proofs.lemmas.Bool.{false≢true}
 use Rattle.dc_node.specs.declared.todo.Item.{Item}
-use Rattle.query_router.specs.Desk.{is_open, is_taken, is_with, state_is_taken, state_waits}
-use Rattle.query_router.specs.declared.part.Part.{Part}
-use Rattle.query_router.specs.declared.part.PartState.{PartState}
-use Rattle.row_ledger.specs.Past.{Insert, Query, insert_at, last_of, query_at}
-use Rattle.row_ledger.specs.Shards.{is_path}
-use Rattle.row_ledger.specs.declared.event.Event.{Event}
+use Rattle.query_router.specs.{Desk.{is_open, is_taken, is_with, state_is_taken, state_waits}, declared.part.Part.Part, declared.part.PartState.PartState}
+use Rattle.row_ledger.specs.{Past.{Insert, Query, insert_at, last_of, query_at}, Shards.is_path, declared.event.Event.Event}
 use Rattle.list_words.specs.Counts.{times}
-use Rattle.tree_shape.specs.Queries.{IsUnfinished, fits}
-use Rattle.tree_shape.specs.Shape.{nodes}
-use Rattle.tree_shape.proofs.Rows.{after-all}
-use Rattle.volap_cell.specs.Desking.{IsInsertState, IsQueryPart, IsQueryState}
-use Rattle.volap_cell.specs.Errands.{Outside, ReadPart, RowWay, has_passed, place_of, read_in_task, taken_by, way_in_task}
-use Rattle.volap_cell.specs.Ghost.{Ghost}
-use Rattle.volap_cell.specs.Growing.{table_of}
-use Rattle.volap_cell.specs.Invariant.{InvWith}
-use Rattle.volap_cell.specs.Placing.{IsLead, IsRowPart}
-use Rattle.volap_cell.specs.Querying.{IsEndOfPart, IsInTreeOf, IsReading, IsWalk, must_hold}
-use Rattle.volap_cell.specs.Setting.{Setting}
-use Rattle.volap_cell.specs.ShardKinds.{IsOutcome, path_in, path_left}
-use Rattle.volap_cell.specs.Stocking.{cells_at}
-use Rattle.volap_cell.specs.Values.{ErrandValue, OfRow, Read, ReadingValue, TaskValue, Unread}
-use Rattle.volap_cell.specs.View.{View}
-use Rattle.volap_cell.specs.declared.errand.Way.{Way}
+use Rattle.tree_shape.specs.{Queries.{IsUnfinished, fits}, Shape.nodes}
+use Rattle.tree_shape.proofs.Down.Rows.{after-all}
+use Rattle.volap_cell.specs.{Desking.{IsInsertState, IsQueryPart, IsQueryState}, Errands.{Outside, ReadPart, RowWay, has_passed, place_of, read_in_task, taken_by, way_in_task}, Ghost.Ghost, Growing.table_of, Invariant.InvWith, Placing.{IsLead, IsRowPart}, Querying.{IsEndOfPart, IsInTreeOf, IsReading, IsWalk, must_hold}, Setting.Setting, ShardKinds.{IsOutcome, path_in, path_left}, Stocking.cells_at, Values.{ErrandValue, OfRow, Read, ReadingValue, TaskValue, Unread}, View.View, declared.errand.Way.Way}
 use Rattle.volap_cell.specs.declared.errand.Way.TheVariants as way
-use Rattle.volap_cell.proofs.Fields.{IsNewAt}
-use Rattle.core_shard.proofs.BackFacts.{read-no-insert, row-no-query, unread-no-insert}
-use Rattle.core_shard.proofs.GoesBack.{AreParts}
-use Rattle.core_shard.proofs.RowBack.{row-nobody, row-number, row-on, row-passed}
-use Rattle.core_shard.proofs.OnePart.{all-one, its-made, one-apart, one-counted, one-under, op}
+use Rattle.volap_cell.proofs.Views.Fields.{IsNewAt}
+use Rattle.core_shard.proofs.{BackFacts.{read-no-insert, row-no-query, unread-no-insert}, GoesBack.AreParts, OnePart.{all-one, its-made, one-apart, one-counted, one-under, op}, RowBack.{row-nobody, row-number, row-on, row-passed}}
 
 -- at its end a part neither waits nor is taken
 closed : (task : TaskValue) (outcome : PartState) → IsOutcome task outcome → (state_waits outcome ≡ false) × (state_is_taken outcome ≡ false)

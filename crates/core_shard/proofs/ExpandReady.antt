@@ -1,37 +1,19 @@
 -- The call that expands a part: what its inner functions ask, and what it did.
 use Rattle.std.proofs.Common.{◌≡◌, ℕ, List, [], ◌∷◌, ◌++◌, Option, Some, None, option_map, refl, sym, ap, subst, ◌∙◌}
 use Rattle.std.specs.FinMap as map
-use Rattle.std.specs.Ordering.{nat_cmp}
-use Rattle.std.specs.Prelude.{Err, IsSome, Ok, OnOk, Result, position, slice_set}
-use Rattle.describing_set.specs.Plane.{IsHierarchyPlane}
-use Rattle.describing_set.specs.declared.plane.Plane.{Plane}
-use Rattle.dim_hierarchy.specs.Dimension.{Dimension}
-use Rattle.dim_hierarchy.specs.Row.{IsCoordOf}
-use Rattle.dim_hierarchy.specs.declared.row.Row.{Row}
+use Rattle.std.specs.{Ordering.nat_cmp, Prelude.{Err, IsSome, Ok, OnOk, Result, position, slice_set}}
+use Rattle.describing_set.specs.{Plane.IsHierarchyPlane, declared.plane.Plane.Plane}
+use Rattle.dim_hierarchy.specs.{Dimension.Dimension, Row.IsCoordOf, declared.row.Row.Row}
 use Rattle.mapping_table.specs.declared.place.Where.{Where}
 use Rattle.mapping_table.specs.declared.place.Where.TheVariants as where_is
-use Rattle.query_router.specs.Desk.{DeskValue, is_with}
-use Rattle.query_router.specs.declared.part.Part.{Part}
-use Rattle.query_router.specs.declared.part.Want.{Want}
+use Rattle.query_router.specs.{Desk.{DeskValue, is_with}, declared.part.Part.Part, declared.part.Want.Want}
 use Rattle.query_router.specs.declared.part.Want.TheVariants as want
 use Rattle.list_words.proofs.Elements.{Some-same}
-use Rattle.volap_cell.specs.Cells.{CellValue, DeskCell, MapCell, where_in}
-use Rattle.volap_cell.specs.Errands.{taken_by, taken_of}
-use Rattle.volap_cell.specs.ShardKinds.{DoesExpand, IsOutside, PutsChildren, TurnsDesk, child_for, waiting}
-use Rattle.volap_cell.specs.Steps.{IsHere, Makes}
-use Rattle.volap_cell.specs.Values.{ActorValue, ErrandValue, OfRow, Read, TaskValue, Unread, errand_of, task_of}
-use Rattle.volap_cell.specs.View.{View, view}
-use Rattle.volap_cell.specs.World.{change, held}
-use Rattle.volap_cell.specs.declared.errand.Errand.{Errand}
-use Rattle.volap_cell.specs.declared.errand.RowErrand.{RowErrand}
-use Rattle.volap_cell.specs.declared.errand.Task.{Task}
+use Rattle.volap_cell.specs.{Cells.{CellValue, DeskCell, MapCell, where_in}, Errands.{taken_by, taken_of}, ShardKinds.{DoesExpand, IsOutside, PutsChildren, TurnsDesk, child_for, waiting}, Steps.{IsHere, Makes}, Values.{ActorValue, ErrandValue, OfRow, Read, TaskValue, Unread, errand_of, task_of}, View.{View, view}, World.{change, held}, declared.errand.Errand.Errand, declared.errand.RowErrand.RowErrand, declared.errand.Task.Task, declared.kind.Kind.TheVariants.Expand}
 use Rattle.volap_cell.specs.declared.errand.Task.TheVariants as task_is
-use Rattle.volap_cell.specs.declared.kind.Kind.TheVariants.{Expand}
-use Rattle.volap_cell.proofs.Helds.{held-leads}
+use Rattle.volap_cell.proofs.Views.Shown.{held-leads}
 use Rattle.core_shard.specs.Due.{CanDivide, CanExpand, CanGoDown, Divides, HasCoord, IsOut, IsRowOn, PutsOn, WaitsFor}
-use Rattle.core_shard.proofs.BackFacts.{row-begun}
-use Rattle.core_shard.proofs.ExpandsPart.{expand-keeps}
-use Rattle.core_shard.proofs.ForwardReady.{its-desk, its-map, its-place}
+use Rattle.core_shard.proofs.{BackFacts.row-begun, ExpandsPart.expand-keeps, ForwardReady.{its-desk, its-map, its-place}}
 
 -- what two clauses say of an Ok
 pub on-both : {T E : Type 0} {P Q R : Type 0} (r : Result T E) → (P → Q → R) → OnOk r P → OnOk r Q → OnOk r R

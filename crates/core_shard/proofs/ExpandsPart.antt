@@ -1,45 +1,16 @@
 -- A part goes on to the children of its shard: the invariant holds still, and less is left.
-use Rattle.std.proofs.Common.{◌≡◌, ℕ, ◌+◌, ◌*◌, ◌-◌, ◌<◌, ◌≤◌, List, [], ◌∷◌, ◌++◌, Bool, true, false, take, drop, Some, None, refl, sym, ap, subst, ◌⊎◌, inl, inr, arith}
+use Rattle.std.proofs.{Common.{◌≡◌, ℕ, ◌+◌, ◌*◌, ◌-◌, ◌<◌, ◌≤◌, List, [], ◌∷◌, ◌++◌, Bool, true, false, take, drop, Some, None, refl, sym, ap, subst, ◌⊎◌, inl, inr, arith}, Math.Nat.mul-add, lemmas.Nat.mul-le}
 use Rattle.std.specs.Prelude.{if◌then◌else◌, slice_set, sum_by}
-use Rattle.std.proofs.Math.Nat.{mul-add}
-use Rattle.std.proofs.lemmas.Nat.{mul-le}
 use Rattle.describing_set.specs.Plane.{goes_left}
-use Rattle.dim_hierarchy.specs.Dimension.{Dimension}
-use Rattle.dim_hierarchy.specs.declared.filter.Pick.{Pick}
+use Rattle.dim_hierarchy.specs.{Dimension.Dimension, declared.filter.Pick.Pick}
 use Rattle.mapping_table.specs.declared.place.Where.TheVariants as where_is
-use Rattle.query_router.specs.Desk.{DeskValue, expanded}
-use Rattle.query_router.specs.declared.part.Part.{Part}
+use Rattle.query_router.specs.{Desk.{DeskValue, expanded}, declared.part.Part.Part}
 use Rattle.query_router.specs.declared.part.PartState.TheVariants as state
 use Rattle.query_router.specs.declared.part.Want.TheVariants as want
 use Rattle.row_ledger.specs.declared.event.Event.{Event}
-use Rattle.volap_cell.specs.Cells.{tag_of}
-use Rattle.volap_cell.specs.Errands.{Outside, place_of, taken_by}
-use Rattle.volap_cell.specs.Falls.{GoesOn, far, gates_of_errand, gates_of_part, gates_of_state, gates_of_task, gates_of_way, left, per_query, queries_of_errand, queries_of_state, queries_of_task, rows_of_errand, rows_of_part, rows_of_task}
-use Rattle.volap_cell.specs.Ghost.{Ghost}
-use Rattle.volap_cell.specs.Invariant.{InvWith}
-use Rattle.volap_cell.specs.Setting.{Setting, actor_count, site_in}
-use Rattle.volap_cell.specs.ShardKinds.{DoesExpand, IsOutside, PutsChildren, child_for, waiting}
-use Rattle.volap_cell.specs.Steps.{IsKept, Keeps}
-use Rattle.volap_cell.specs.Values.{ActorValue, ErrandValue, OfRow, Read, TaskValue, Unread}
-use Rattle.volap_cell.specs.View.{View, view}
-use Rattle.volap_cell.specs.World.{Agrees, Change, World, after}
-use Rattle.volap_cell.specs.declared.errand.RowErrand.{RowErrand}
-use Rattle.volap_cell.specs.declared.kind.Kind.TheVariants.{Expand}
-use Rattle.volap_cell.proofs.Books.{DeskNew, table-desk}
-use Rattle.volap_cell.proofs.DeskParts.{TurnsParts, turned-parts}
-use Rattle.volap_cell.proofs.GrowsReads.{readers-take}
-use Rattle.volap_cell.proofs.Helds.{held-leads}
-use Rattle.volap_cell.proofs.PartFacts.{with-parts}
-use Rattle.volap_cell.proofs.PartLists.{place-splits}
-use Rattle.volap_cell.proofs.PartViews.{view-expand}
-use Rattle.volap_cell.proofs.Persons.{has-taken}
-use Rattle.core_shard.proofs.BackFacts.{IsInPlace, back-reads, back-taken, back-ways, in-place, one-turned}
-use Rattle.core_shard.proofs.ChildrenWait.{nothing_yet, row-child, two-children}
-use Rattle.core_shard.proofs.FarLess.{far-split}
-use Rattle.core_shard.proofs.FinishesPart.{gates-outside, taken-state}
-use Rattle.core_shard.proofs.ForwardsPart.{outside-pins, outside-tree}
-use Rattle.core_shard.proofs.GoesBack.{AreParts, GoesBack, back-holds}
-use Rattle.core_shard.proofs.LeftOver.{control-same, gates-turn, queries-turn, queries_of_part, rows-turn, with_parts}
+use Rattle.volap_cell.specs.{Cells.tag_of, Errands.{Outside, place_of, taken_by}, Falls.{GoesOn, far, gates_of_errand, gates_of_part, gates_of_state, gates_of_task, gates_of_way, left, per_query, queries_of_errand, queries_of_state, queries_of_task, rows_of_errand, rows_of_part, rows_of_task}, Ghost.Ghost, Invariant.InvWith, Setting.{Setting, actor_count, site_in}, ShardKinds.{DoesExpand, IsOutside, PutsChildren, child_for, waiting}, Steps.{IsKept, Keeps}, Values.{ActorValue, ErrandValue, OfRow, Read, TaskValue, Unread}, View.{View, view}, World.{Agrees, Change, World, after}, declared.errand.RowErrand.RowErrand, declared.kind.Kind.TheVariants.Expand}
+use Rattle.volap_cell.proofs.{Desks.Facts.with-parts, Desks.Lists.place-splits, Desks.Shared.{TurnsParts, turned-parts}, Histories.Books.{DeskNew, table-desk}, OneEvent.Reads.readers-take, Persons.has-taken, Views.Parts.view-expand, Views.Shown.held-leads}
+use Rattle.core_shard.proofs.{BackFacts.{IsInPlace, back-reads, back-taken, back-ways, in-place, one-turned}, ChildrenWait.{nothing_yet, row-child, two-children}, FarLess.far-split, FinishesPart.{gates-outside, taken-state}, ForwardsPart.{outside-pins, outside-tree}, GoesBack.{AreParts, GoesBack, back-holds}, LeftOver.{control-same, gates-turn, queries-turn, queries_of_part, rows-turn, with_parts}}
 
 module _ (m d : Change) (b : ActorValue) (s : Setting) (w : World) (n : ℕ) (g : Ghost) (i : InvWith s (view s w) g) (ag : Agrees w (m ∷ d ∷ []) n (w.actors n)) (does : DoesExpand s.hierarchy m d (w.actors n) b) where
   abbrev cs : List Change

@@ -1,18 +1,11 @@
 -- How far a part may still go falls where it goes on: to the worker of a move, or to the children of a split.
-use Rattle.std.proofs.Common.{◌≡◌, ℕ, ◌<◌, ◌≤◌, List, [], ◌∷◌, length, Bool, true, false, Option, Some, None, refl, sym, ap, subst, ◌∙◌, ◌⊎◌, inl, inr, arith, ◌==◌, zero, suc, Contains, ◌+◌}
+use Rattle.std.proofs.{Common.{◌≡◌, ℕ, ◌<◌, ◌≤◌, List, [], ◌∷◌, length, Bool, true, false, Option, Some, None, refl, sym, ap, subst, ◌∙◌, ◌⊎◌, inl, inr, arith, ◌==◌, zero, suc, Contains, ◌+◌}, lemmas.Bool.{eq-eqb, eqb-true, false≢true, le-leb, leb-true, lt-leb}}
 use Rattle.std.specs.Prelude.{if◌then◌else◌, nat_le}
-use Rattle.std.proofs.lemmas.Bool.{eq-eqb, eqb-true, false≢true, le-leb, leb-true, lt-leb}
-use Rattle.row_ledger.specs.Shards.{comes_from, ids_made}
-use Rattle.row_ledger.specs.Workers.{left_at}
-use Rattle.row_ledger.specs.declared.event.Event.{Event}
-use Rattle.row_ledger.specs.declared.event.Event.TheVariants.{Moved, Split}
+use Rattle.row_ledger.specs.{Right.{EachEvent, Site, Stands}, Shards.{comes_from, ids_made}, Workers.left_at, declared.event.Event.Event, declared.event.Event.TheVariants.{Moved, Split}}
 use Rattle.row_ledger.proofs.Descent.{WasSplit, comes_from-comparable, comes_from-self, split-made}
 use Rattle.list_words.proofs.Elements.{Contains-nil}
-use Rattle.row_ledger.specs.Right.{EachEvent, Site, Stands}
-use Rattle.volap_cell.specs.Falls.{count_events, departure, far, is_from, moves_ahead, splits_under}
-use Rattle.volap_cell.specs.Lineage.{went_to}
-use Rattle.volap_cell.proofs.Lines.{AreChildren, are-children, comes-made, comes_from-through}
-use Rattle.volap_cell.proofs.Departures.{MovesAt, StaysAt, left-moves}
+use Rattle.volap_cell.specs.{Falls.{count_events, departure, far, is_from, moves_ahead, splits_under}, Lineage.went_to}
+use Rattle.volap_cell.proofs.{Histories.Departures.{MovesAt, StaysAt, left-moves}, Histories.Lines.{AreChildren, are-children, comes-made, comes_from-through}}
 
 -- 1 where a test passes
 abbrev pub once : Bool → ℕ

@@ -1,33 +1,14 @@
 -- The call that finishes a part: what its inner functions ask, and what it did.
-use Rattle.std.proofs.Common.{◌≡◌, ℕ, ◌<◌, List, [], ◌∷◌, ◌++◌, Bool, true, length, Option, Some, None, refl, sym, ap, subst, ◌∙◌, inl, inr, arith, Any, not}
-use Rattle.std.specs.Prelude.{IsSome, position, slice_set, slice_index_or}
-use Rattle.std.specs.List.{position_or_len}
-use Rattle.std.proofs.lemmas.Bool.{cases_lt, false≢true, lt-ltb}
-use Rattle.std.proofs.lemmas.List.Sums.{prefix_len_passes}
+use Rattle.std.proofs.{Common.{◌≡◌, ℕ, ◌<◌, List, [], ◌∷◌, ◌++◌, Bool, true, length, Option, Some, None, refl, sym, ap, subst, ◌∙◌, inl, inr, arith, Any, not}, lemmas.Bool.{cases_lt, false≢true, lt-ltb}, lemmas.List.Sums.prefix_len_passes}
+use Rattle.std.specs.{List.position_or_len, Prelude.{IsSome, position, slice_set, slice_index_or}}
 use Rattle.dim_hierarchy.specs.Dimension.{Dimension}
-use Rattle.query_router.specs.Desk.{DeskValue, is_with}
-use Rattle.query_router.specs.declared.part.Part.{Part}
+use Rattle.query_router.specs.{Desk.{DeskValue, is_with}, declared.part.Part.Part}
 use Rattle.query_router.specs.declared.part.PartState.TheVariants as state
 use Rattle.shard_store.specs.declared.gate.Gate.{Gate}
-use Rattle.list_words.proofs.Each.{each-right}
-use Rattle.list_words.proofs.Truth.{eqb-self}
-use Rattle.volap_cell.specs.Cells.{CellValue, DeskCell, DeskOf, GateCell, gate_shard, pins_in, tag_of}
-use Rattle.volap_cell.specs.Desking.{IsAtPart}
-use Rattle.volap_cell.specs.Errands.{ReadPart, read_in_task, read_of, taken_by, taken_of}
-use Rattle.volap_cell.specs.Querying.{one_pin, pins_of}
-use Rattle.volap_cell.specs.Setting.{Setting, actor_count}
-use Rattle.volap_cell.specs.ShardKinds.{DoesFinishPart, Unpins, path_left, pin_of}
-use Rattle.volap_cell.specs.Steps.{IsHere, Makes}
-use Rattle.volap_cell.specs.Values.{ActorValue, OfRow, Read, TaskValue, Unread}
-use Rattle.volap_cell.specs.View.{View, view}
-use Rattle.volap_cell.specs.World.{Agrees, Change, World, change, change_if, held, held_if}
-use Rattle.volap_cell.specs.declared.errand.RowErrand.{RowErrand}
-use Rattle.volap_cell.specs.declared.errand.Way.{Way}
+use Rattle.list_words.proofs.{Each.each-right, Truth.eqb-self}
+use Rattle.volap_cell.specs.{Cells.{CellValue, DeskCell, DeskOf, GateCell, gate_shard, pins_in, tag_of}, Desking.IsAtPart, Errands.{ReadPart, read_in_task, read_of, taken_by, taken_of}, Querying.{one_pin, pins_of}, Setting.{Setting, actor_count}, ShardKinds.{DoesFinishPart, Unpins, path_left, pin_of}, Steps.{IsHere, Makes}, Values.{ActorValue, OfRow, Read, TaskValue, Unread}, View.{View, view}, World.{Agrees, Change, World, change, change_if, held, held_if}, declared.errand.RowErrand.RowErrand, declared.errand.Way.Way, declared.kind.Kind.TheVariants.FinishPart}
 use Rattle.volap_cell.specs.declared.errand.Way.TheVariants as way
-use Rattle.volap_cell.specs.declared.kind.Kind.TheVariants.{FinishPart}
-use Rattle.volap_cell.proofs.Helds.{held-desk}
-use Rattle.volap_cell.proofs.Persons.{has-taken}
-use Rattle.volap_cell.proofs.Sums.{sum-some}
+use Rattle.volap_cell.proofs.{Persons.has-taken, Sums.sum-some, Views.Shown.held-desk}
 use Rattle.core_shard.specs.Due.{CanEnd, CanFinishPart, Ends, IsEnded, IsGateOf, IsPinned, IsPinnedGate, LosesPinIf}
 use Rattle.core_shard.proofs.FinishesPart.{finish-keeps, finish-keeps-pinned}
 

@@ -1,40 +1,16 @@
 -- A part is finished: the invariant holds still, and less is left.
-use Rattle.std.proofs.Common.{◌≡◌, ◌≢◌, ℕ, ◌+◌, ◌*◌, ◌-◌, ◌<◌, ◌≤◌, List, [], ◌∷◌, ◌++◌, true, false, eqb, take, drop, Option, Some, None, refl, sym, ap, subst, ◌∙◌, inl, inr, arith}
+use Rattle.std.proofs.{Common.{◌≡◌, ◌≢◌, ℕ, ◌+◌, ◌*◌, ◌-◌, ◌<◌, ◌≤◌, List, [], ◌∷◌, ◌++◌, true, false, eqb, take, drop, Option, Some, None, refl, sym, ap, subst, ◌∙◌, inl, inr, arith}, lemmas.Bool.{eqb-true, eqb-false, ne_eqb}, lemmas.Nat.mul-le}
 use Rattle.std.specs.Prelude.{slice_set}
-use Rattle.std.proofs.lemmas.Nat.{mul-le}
 use Rattle.dim_hierarchy.specs.Dimension.{Dimension}
-use Rattle.query_router.specs.Desk.{DeskValue, state_is_taken}
-use Rattle.query_router.specs.declared.part.Part.{Part}
-use Rattle.query_router.specs.declared.part.PartState.{PartState}
+use Rattle.query_router.specs.{Desk.{DeskValue, state_is_taken}, declared.part.Part.Part, declared.part.PartState.PartState}
 use Rattle.query_router.specs.declared.part.PartState.TheVariants as state
 use Rattle.row_ledger.specs.declared.event.Event.{Event}
 use Rattle.shard_store.specs.declared.gate.Gate.{Gate}
 use Rattle.list_words.proofs.Truth.{on_bool, eqb-self}
-use Rattle.std.proofs.lemmas.Bool.{eqb-true, eqb-false, ne_eqb}
-use Rattle.volap_cell.specs.Errands.{Outside, RowWay, gate_entered, place_of, row_way, way_in_task}
-use Rattle.volap_cell.specs.Falls.{GoesOn, far, gates_of_errand, gates_of_part, gates_of_state, gates_of_task, gates_of_way, left, one_if_any, per_query, queries_of_errand, queries_of_state, queries_of_task, rows_of_errand, rows_of_part, rows_of_task, rows_of_way}
-use Rattle.volap_cell.specs.Ghost.{Ghost}
-use Rattle.volap_cell.specs.Invariant.{InvWith}
-use Rattle.volap_cell.specs.Querying.{one_pin}
-use Rattle.volap_cell.specs.Setting.{Setting, actor_count}
-use Rattle.volap_cell.specs.ShardKinds.{DoesFinishPart, IsOutcome, Unpins, path_in, pin_of}
-use Rattle.volap_cell.specs.Steps.{IsKept, Keeps}
-use Rattle.volap_cell.specs.Values.{ActorValue, ErrandValue, OfRow, Read, TaskValue, Unread}
-use Rattle.volap_cell.specs.View.{View, view}
-use Rattle.volap_cell.specs.World.{World, Change, Agrees, after}
-use Rattle.volap_cell.specs.declared.errand.Way.{Way}
+use Rattle.volap_cell.specs.{Errands.{Outside, RowWay, gate_entered, place_of, row_way, way_in_task}, Falls.{GoesOn, far, gates_of_errand, gates_of_part, gates_of_state, gates_of_task, gates_of_way, left, one_if_any, per_query, queries_of_errand, queries_of_state, queries_of_task, rows_of_errand, rows_of_part, rows_of_task, rows_of_way}, Ghost.Ghost, Invariant.InvWith, Querying.one_pin, Setting.{Setting, actor_count}, ShardKinds.{DoesFinishPart, IsOutcome, Unpins, path_in, pin_of}, Steps.{IsKept, Keeps}, Values.{ActorValue, ErrandValue, OfRow, Read, TaskValue, Unread}, View.{View, view}, World.{World, Change, Agrees, after}, declared.errand.Way.Way, declared.kind.Kind.TheVariants.FinishPart}
 use Rattle.volap_cell.specs.declared.errand.Way.TheVariants as way
-use Rattle.volap_cell.specs.declared.kind.Kind.TheVariants.{FinishPart}
-use Rattle.volap_cell.proofs.Books.{DeskNew, gate-desk, one-desk}
-use Rattle.volap_cell.proofs.DeskParts.{TurnsParts}
-use Rattle.volap_cell.proofs.PartFacts.{with-parts}
-use Rattle.volap_cell.proofs.PartViews.{view-finish_part, view-finish_unpinned}
-use Rattle.volap_cell.proofs.Persons.{has-taken}
-use Rattle.volap_cell.proofs.GrowsReads.{readers-take}
-use Rattle.core_shard.proofs.BackFacts.{IsInPlace, back-reads, back-taken, back-ways, in-place, one-turned, pin-read}
-use Rattle.core_shard.proofs.EndsPart.{ended-parts}
-use Rattle.core_shard.proofs.GoesBack.{GoesBack, back-holds}
-use Rattle.core_shard.proofs.LeftOver.{control-same, gates-turn, queries-turn, queries_of_part, rows-turn, with_parts}
+use Rattle.volap_cell.proofs.{Desks.Facts.with-parts, Desks.Shared.TurnsParts, Histories.Books.{DeskNew, gate-desk, one-desk}, OneEvent.Reads.readers-take, Persons.has-taken, Views.Parts.{view-finish_part, view-finish_unpinned}}
+use Rattle.core_shard.proofs.{BackFacts.{IsInPlace, back-reads, back-taken, back-ways, in-place, one-turned, pin-read}, EndsPart.ended-parts, GoesBack.{GoesBack, back-holds}, LeftOver.{control-same, gates-turn, queries-turn, queries_of_part, rows-turn, with_parts}}
 
 -- a part that is taken is nothing else
 pub taken-state : (st : PartState) → state_is_taken st ≡ true → st ≡ state.Taken

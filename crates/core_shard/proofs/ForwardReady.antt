@@ -1,24 +1,14 @@
 -- The call that sends a part on: what its inner functions ask, and what it did.
 use Rattle.std.proofs.Common.{◌≡◌, ℕ, List, [], ◌∷◌, true, Some, None, sym, ap, subst, ◌∙◌, Any}
 use Rattle.std.specs.FinMap as map
-use Rattle.std.specs.Ordering.{nat_cmp}
-use Rattle.std.specs.Prelude.{IsSome, position, slice_set}
+use Rattle.std.specs.{Ordering.nat_cmp, Prelude.{IsSome, position, slice_set}}
 use Rattle.dim_hierarchy.specs.Dimension.{Dimension}
 use Rattle.mapping_table.specs.declared.place.Where.{Where}
-use Rattle.query_router.specs.Desk.{DeskValue, is_with}
-use Rattle.query_router.specs.declared.part.Part.{Part}
-use Rattle.volap_cell.specs.Cells.{CellValue, DeskCell, DeskOf, MapCell, MapOf, tag_of, where_in}
-use Rattle.volap_cell.specs.Errands.{taken_by, taken_of}
-use Rattle.volap_cell.specs.ShardKinds.{DoesForward}
-use Rattle.volap_cell.specs.Steps.{IsHere, Makes}
-use Rattle.volap_cell.specs.Values.{ActorValue, ErrandValue}
-use Rattle.volap_cell.specs.View.{view}
-use Rattle.volap_cell.specs.World.{change, held}
-use Rattle.volap_cell.specs.declared.kind.Kind.TheVariants.{Forward}
-use Rattle.volap_cell.proofs.Helds.{held-desk}
+use Rattle.query_router.specs.{Desk.{DeskValue, is_with}, declared.part.Part.Part}
+use Rattle.volap_cell.specs.{Cells.{CellValue, DeskCell, DeskOf, MapCell, MapOf, tag_of, where_in}, Errands.{taken_by, taken_of}, ShardKinds.DoesForward, Steps.{IsHere, Makes}, Values.{ActorValue, ErrandValue}, View.view, World.{change, held}, declared.kind.Kind.TheVariants.Forward}
+use Rattle.volap_cell.proofs.Views.Shown.{held-desk}
 use Rattle.core_shard.specs.Due.{CanForward, CanSend, Sends}
-use Rattle.core_shard.proofs.FinishReady.{first-place}
-use Rattle.core_shard.proofs.ForwardsPart.{forward-keeps}
+use Rattle.core_shard.proofs.{FinishReady.first-place, ForwardsPart.forward-keeps}
 
 -- the part of an actor has its place on the desk that it holds, beside one other cell
 pub its-place : (hs : List Dimension) (at : ℕ) (cell : CellValue) (desk_at : ℕ) (desk : CellValue) (a : ActorValue) → IsHere hs (held at cell ∷ held desk_at desk ∷ []) a → (e : ErrandValue) → a.errand ≡ Some e → (dv : DeskValue) → desk ≡ DeskCell e.server dv

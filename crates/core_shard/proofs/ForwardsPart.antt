@@ -1,44 +1,15 @@
 -- A part goes on to the worker to which its shard has moved: the invariant holds still, and less is left.
-use Rattle.std.proofs.Common.{◌≡◌, ℕ, ◌+◌, ◌*◌, ◌-◌, ◌<◌, ◌≤◌, List, [], ◌∷◌, take, drop, Option, Some, None, refl, sym, ap, subst, ◌∙◌, ◌⊎◌, inl, inr, arith}
+use Rattle.std.proofs.{Common.{◌≡◌, ℕ, ◌+◌, ◌*◌, ◌-◌, ◌<◌, ◌≤◌, List, [], ◌∷◌, take, drop, Option, Some, None, refl, sym, ap, subst, ◌∙◌, ◌⊎◌, inl, inr, arith}, Math.Nat.mul-add, lemmas.Nat.mul-le}
 use Rattle.std.specs.Prelude.{IsSome, slice_set}
-use Rattle.std.proofs.Math.Nat.{mul-add}
-use Rattle.std.proofs.lemmas.Nat.{mul-le}
 use Rattle.dim_hierarchy.specs.Dimension.{Dimension}
 use Rattle.mapping_table.specs.declared.place.Where.{Where}
 use Rattle.mapping_table.specs.declared.place.Where.TheVariants as where_is
-use Rattle.query_router.specs.Desk.{DeskValue}
-use Rattle.query_router.specs.declared.part.Part.{Part}
+use Rattle.query_router.specs.{Desk.DeskValue, declared.part.Part.Part, declared.part.Want.Want}
 use Rattle.query_router.specs.declared.part.PartState.TheVariants as state
-use Rattle.query_router.specs.declared.part.Want.{Want}
-use Rattle.row_ledger.specs.Workers.{left_at}
-use Rattle.row_ledger.specs.declared.event.Event.{Event}
-use Rattle.volap_cell.specs.Cells.{tag_of}
-use Rattle.volap_cell.specs.Errands.{RowWay, gate_entered, read_in_task, row_way, way_in_task}
-use Rattle.volap_cell.specs.Falls.{GoesOn, far, gates_of_errand, gates_of_part, gates_of_state, gates_of_task, gates_of_way, left, per_query, queries_of_errand, queries_of_state, queries_of_task, rows_of_errand, rows_of_part, rows_of_task}
-use Rattle.volap_cell.specs.Ghost.{Ghost}
-use Rattle.volap_cell.specs.Invariant.{InvWith}
-use Rattle.volap_cell.specs.Querying.{pins_of}
-use Rattle.volap_cell.specs.Setting.{Setting, actor_count, site_in}
-use Rattle.volap_cell.specs.ShardKinds.{DoesForward, IsOutside, waiting}
-use Rattle.volap_cell.specs.Steps.{IsKept, Keeps}
-use Rattle.volap_cell.specs.Values.{ActorValue, ErrandValue, OfRow, Read, TaskValue, Unread}
-use Rattle.volap_cell.specs.View.{View, view}
-use Rattle.volap_cell.specs.World.{Agrees, Change, World, after}
-use Rattle.volap_cell.specs.declared.kind.Kind.TheVariants.{Forward}
-use Rattle.volap_cell.proofs.Books.{DeskNew, table-desk}
-use Rattle.volap_cell.proofs.Departures.{StaysAt, on-stays-at}
-use Rattle.volap_cell.proofs.DeskParts.{TurnsParts}
-use Rattle.volap_cell.proofs.GrowsReads.{readers-take}
-use Rattle.volap_cell.proofs.Helds.{held-leads}
-use Rattle.volap_cell.proofs.PartFacts.{with-parts}
-use Rattle.volap_cell.proofs.PartViews.{view-forward}
-use Rattle.volap_cell.proofs.Persons.{has-taken}
-use Rattle.core_shard.proofs.BackFacts.{IsInPlace, back-reads, back-taken, back-ways, in-place, one-turned}
-use Rattle.core_shard.proofs.FarLess.{far-moved}
-use Rattle.core_shard.proofs.FinishesPart.{gates-outside, taken-state}
-use Rattle.core_shard.proofs.GoesBack.{GoesBack, back-holds}
-use Rattle.core_shard.proofs.LeftOver.{control-same, gates-turn, queries-turn, queries_of_part, rows-turn, with_parts}
-use Rattle.core_shard.proofs.WaitsAgain.{waiting-parts}
+use Rattle.row_ledger.specs.{Workers.left_at, declared.event.Event.Event}
+use Rattle.volap_cell.specs.{Cells.tag_of, Errands.{RowWay, gate_entered, read_in_task, row_way, way_in_task}, Falls.{GoesOn, far, gates_of_errand, gates_of_part, gates_of_state, gates_of_task, gates_of_way, left, per_query, queries_of_errand, queries_of_state, queries_of_task, rows_of_errand, rows_of_part, rows_of_task}, Ghost.Ghost, Invariant.InvWith, Querying.pins_of, Setting.{Setting, actor_count, site_in}, ShardKinds.{DoesForward, IsOutside, waiting}, Steps.{IsKept, Keeps}, Values.{ActorValue, ErrandValue, OfRow, Read, TaskValue, Unread}, View.{View, view}, World.{Agrees, Change, World, after}, declared.kind.Kind.TheVariants.Forward}
+use Rattle.volap_cell.proofs.{Desks.Facts.with-parts, Desks.Shared.TurnsParts, Histories.Books.{DeskNew, table-desk}, Histories.Departures.{StaysAt, on-stays-at}, OneEvent.Reads.readers-take, Persons.has-taken, Views.Parts.view-forward, Views.Shown.held-leads}
+use Rattle.core_shard.proofs.{BackFacts.{IsInPlace, back-reads, back-taken, back-ways, in-place, one-turned}, FarLess.far-moved, FinishesPart.{gates-outside, taken-state}, GoesBack.{GoesBack, back-holds}, LeftOver.{control-same, gates-turn, queries-turn, queries_of_part, rows-turn, with_parts}, WaitsAgain.waiting-parts}
 
 -- a row before its gate is in no tree, and nothing was read for a part before its gate
 

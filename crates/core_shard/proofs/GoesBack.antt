@@ -1,38 +1,13 @@
 -- A part that an actor took goes back to its desk, as it is then, or as others in its place: what the invariant keeps.
-use Rattle.std.proofs.Common.{◌≡◌, ◌≢◌, ℕ, ◌+◌, ◌<◌, List, [], ◌∷◌, ◌++◌, true, false, eqb, Option, Some, None, refl, sym, ap, subst, ◌∙◌, ◌⊎◌, inl, inr, arith, All, Any, Contains}
+use Rattle.std.proofs.{Common.{◌≡◌, ◌≢◌, ℕ, ◌+◌, ◌<◌, List, [], ◌∷◌, ◌++◌, true, false, eqb, Option, Some, None, refl, sym, ap, subst, ◌∙◌, ◌⊎◌, inl, inr, arith, All, Any, Contains}, lemmas.Bool.{false≢true, eqb-true, eqb-false}, lemmas.List.Elements.{All-weaker, All-cons, All-nil}}
 use Rattle.std.specs.Prelude.{IsSome}
-use Rattle.std.proofs.lemmas.Bool.{false≢true, eqb-true, eqb-false}
-use Rattle.std.proofs.lemmas.List.Elements.{All-weaker, All-cons, All-nil}
-use Rattle.query_router.specs.Desk.{DeskValue, is_open, is_refused, is_taken, is_with}
-use Rattle.query_router.specs.declared.part.Part.{Part}
-use Rattle.query_router.specs.declared.part.PartState.{PartState}
+use Rattle.query_router.specs.{Desk.{DeskValue, is_open, is_refused, is_taken, is_with}, declared.part.Part.Part, declared.part.PartState.PartState}
 use Rattle.query_router.specs.declared.part.PartState.TheVariants as state
 use Rattle.row_ledger.specs.Past.{Insert, Query, insert_at, query_at}
-use Rattle.list_words.proofs.Each.{each-map, each-right}
-use Rattle.list_words.proofs.Truth.{on_bool}
+use Rattle.list_words.proofs.{Each.{each-map, each-right}, Truth.on_bool}
 use Rattle.tree_shape.specs.Queries.{NoneWaits, fits}
-use Rattle.volap_cell.specs.Desking.{AreLinesApart, AreUnrelated, Desking, IsAtPart, IsInsertState, IsQueryPart, IsQueryState, IsTaken}
-use Rattle.volap_cell.specs.Errands.{AtBlock, InLeaf, ReadPart, RowPlace, RowWay, Taken, gate_entered, read_in_task, taken_by, way_in_task}
-use Rattle.volap_cell.specs.Ghost.{Ghost}
-use Rattle.volap_cell.specs.Growing.{Growing, IsUnder, table_of}
-use Rattle.volap_cell.specs.Invariant.{InvWith}
-use Rattle.volap_cell.specs.Lineage.{Leading}
-use Rattle.volap_cell.specs.Numbering.{Numbering}
-use Rattle.volap_cell.specs.Owing.{Owing}
-use Rattle.volap_cell.specs.Placing.{Inserting, IsRowPart, NobodyAt, Placing}
-use Rattle.volap_cell.specs.Querying.{IsCounted, IsEndOfPart, IsReading, Pinning, Querying, must_hold, pins_of}
-use Rattle.volap_cell.specs.Setting.{Setting, actor_count}
-use Rattle.volap_cell.specs.Stocking.{IsWhole, Stamping, Stocking, all_items, all_spares, items_of_job, items_of_read}
-use Rattle.volap_cell.specs.Turning.{Turning, inside_of, is_inside}
-use Rattle.volap_cell.specs.Values.{ErrandValue}
-use Rattle.volap_cell.specs.View.{View}
-use Rattle.volap_cell.proofs.DeskParts.{TurnsParts, by-desk, leading-turned, op-same, owing-turned, parts-turned}
-use Rattle.volap_cell.proofs.Fields.{IsNewAt}
-use Rattle.volap_cell.proofs.GrowsReads.{ReadersTake}
-use Rattle.volap_cell.proofs.PartFacts.{others-apart, others-part, with-parts}
-use Rattle.volap_cell.proofs.PartLists.{alone, any-of, apart-exchanged, new-now, others-now, some-of, was-cases}
-use Rattle.volap_cell.proofs.Persons.{has-taken}
-use Rattle.volap_cell.proofs.Sums.{sum-changed, sum-kept}
+use Rattle.volap_cell.specs.{Desking.{AreLinesApart, AreUnrelated, Desking, IsAtPart, IsInsertState, IsQueryPart, IsQueryState, IsTaken}, Errands.{AtBlock, InLeaf, ReadPart, RowPlace, RowWay, Taken, gate_entered, read_in_task, taken_by, way_in_task}, Ghost.Ghost, Growing.{Growing, IsUnder, table_of}, Invariant.InvWith, Lineage.Leading, Numbering.Numbering, Owing.Owing, Placing.{Inserting, IsRowPart, NobodyAt, Placing}, Querying.{IsCounted, IsEndOfPart, IsReading, Pinning, Querying, must_hold, pins_of}, Setting.{Setting, actor_count}, Stocking.{IsWhole, Stamping, Stocking, all_items, all_spares, items_of_job, items_of_read}, Turning.{Turning, inside_of, is_inside}, Values.ErrandValue, View.View}
+use Rattle.volap_cell.proofs.{Desks.Facts.{others-apart, others-part, with-parts}, Desks.Lists.{alone, any-of, apart-exchanged, new-now, others-now, some-of, was-cases}, Desks.Shared.{TurnsParts, by-desk, leading-turned, op-same, owing-turned, parts-turned}, OneEvent.Reads.ReadersTake, Persons.has-taken, Sums.{sum-changed, sum-kept}, Views.Fields.IsNewAt}
 
 -- A field that an actor alone had is empty there, and is as it was for the others.
 

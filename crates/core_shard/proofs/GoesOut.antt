@@ -1,44 +1,15 @@
 -- A part that waited is taken from its desk by an actor that has none: what the invariant keeps.
-use Rattle.std.proofs.Common.{◌≡◌, ◌≢◌, ℕ, ◌<◌, List, [], ◌∷◌, ◌++◌, true, false, eqb, Option, Some, None, refl, sym, ap, subst, ◌∙◌, ◌⊎◌, inl, inr, arith, All, Any, Contains, option_and_then, ◌||◌}
+use Rattle.std.proofs.{Common.{◌≡◌, ◌≢◌, ℕ, ◌<◌, List, [], ◌∷◌, ◌++◌, true, false, eqb, Option, Some, None, refl, sym, ap, subst, ◌∙◌, ◌⊎◌, inl, inr, arith, All, Any, Contains, option_and_then, ◌||◌}, lemmas.Bool.{eq-eqb, false≢true, eqb-true, eqb-false}, lemmas.List.Elements.{All-contains, All-weaker, All-cons, All-nil}}
 use Rattle.std.specs.Prelude.{IsSome}
-use Rattle.std.proofs.lemmas.Bool.{eq-eqb, false≢true, eqb-true, eqb-false}
-use Rattle.std.proofs.lemmas.List.Elements.{All-contains, All-weaker, All-cons, All-nil}
-use Rattle.dim_hierarchy.specs.declared.row.Row.{Row}
-use Rattle.dim_hierarchy.specs.declared.filter.Pick.{Pick}
-use Rattle.query_router.specs.Desk.{DeskValue, is_open, is_refused, is_taken, is_waiting, is_with, state_is_refused, state_is_taken, state_waits, taken_from}
-use Rattle.query_router.specs.declared.part.Part.{Part}
-use Rattle.query_router.specs.declared.part.PartState.{PartState}
+use Rattle.dim_hierarchy.specs.{declared.filter.Pick.Pick, declared.row.Row.Row}
+use Rattle.query_router.specs.{Desk.{DeskValue, is_open, is_refused, is_taken, is_waiting, is_with, state_is_refused, state_is_taken, state_waits, taken_from}, declared.part.Part.Part, declared.part.PartState.PartState, declared.part.Want.Want}
 use Rattle.query_router.specs.declared.part.PartState.TheVariants as state
-use Rattle.query_router.specs.declared.part.Want.{Want}
 use Rattle.query_router.specs.declared.part.Want.TheVariants as want
 use Rattle.row_ledger.specs.Past.{event_at, insert_at, query_at, session_in}
-use Rattle.list_words.proofs.Elements.{Contains-nil}
-use Rattle.list_words.proofs.Truth.{on_bool}
-use Rattle.volap_cell.specs.Desking.{AreLinesApart, Desking, IsAtPart, IsInsertState, IsQueryPart, IsQueryState, IsTaken, IsWantOf, AreUnrelated, is_on_desk}
-use Rattle.volap_cell.specs.Errands.{Outside, RowPlace, RowWay, Taken, gate_entered, taken_by, way_in_task}
-use Rattle.volap_cell.specs.Ghost.{Ghost}
-use Rattle.volap_cell.specs.Growing.{IsUnder}
-use Rattle.volap_cell.specs.ImageKinds.{doing}
-use Rattle.volap_cell.specs.Invariant.{InvWith}
-use Rattle.volap_cell.specs.Lineage.{Leading}
-use Rattle.volap_cell.specs.Numbering.{Numbering}
-use Rattle.volap_cell.specs.Owing.{Owing}
-use Rattle.volap_cell.specs.Placing.{Inserting, IsOnWay, IsRowPart, NobodyAt, Placing}
-use Rattle.volap_cell.specs.Querying.{IsCounted, IsEndOfPart, Querying}
-use Rattle.volap_cell.specs.Setting.{Setting, actor_count}
-use Rattle.volap_cell.specs.ShardKinds.{errand_for, task_for}
-use Rattle.volap_cell.specs.Turning.{Turning, inside_of}
-use Rattle.volap_cell.specs.Values.{ErrandValue}
-use Rattle.volap_cell.specs.View.{View}
-use Rattle.volap_cell.specs.declared.command.Command.{Command}
+use Rattle.list_words.proofs.{Elements.Contains-nil, Truth.on_bool}
+use Rattle.volap_cell.specs.{Desking.{AreLinesApart, Desking, IsAtPart, IsInsertState, IsQueryPart, IsQueryState, IsTaken, IsWantOf, AreUnrelated, is_on_desk}, Errands.{Outside, RowPlace, RowWay, Taken, gate_entered, taken_by, way_in_task}, Ghost.Ghost, Growing.IsUnder, ImageKinds.doing, Invariant.InvWith, Lineage.Leading, Numbering.Numbering, Owing.Owing, Placing.{Inserting, IsOnWay, IsRowPart, NobodyAt, Placing}, Querying.{IsCounted, IsEndOfPart, Querying}, Setting.{Setting, actor_count}, ShardKinds.{errand_for, task_for}, Turning.{Turning, inside_of}, Values.ErrandValue, View.View, declared.command.Command.Command, declared.role.Role.TheVariants.Admin}
 use Rattle.volap_cell.specs.declared.command.Work.TheVariants as work_is
-use Rattle.volap_cell.specs.declared.role.Role.TheVariants.{Admin}
-use Rattle.volap_cell.proofs.Beginnings.{no-query}
-use Rattle.volap_cell.proofs.DeskParts.{TurnsParts, by-desk, leading-turned, op-same, owing-turned, parts-turned}
-use Rattle.volap_cell.proofs.Fields.{IsNewAt}
-use Rattle.volap_cell.proofs.PartFacts.{insert-server, on-desk, others-apart, others-part, with-parts}
-use Rattle.volap_cell.proofs.PartLists.{Contains-one, apart-others, alone, any-of, apart-exchanged, old-was, others-now, some-of, was-cases}
-use Rattle.volap_cell.proofs.Sums.{sum-kept}
+use Rattle.volap_cell.proofs.{Desks.Facts.{insert-server, on-desk, others-apart, others-part, with-parts}, Desks.Lists.{Contains-one, apart-others, alone, any-of, apart-exchanged, old-was, others-now, some-of, was-cases}, Desks.Shared.{TurnsParts, by-desk, leading-turned, op-same, owing-turned, parts-turned}, Histories.Beginnings.no-query, Sums.sum-kept, Views.Fields.IsNewAt}
 
 -- The step, without the cells: of an actor that is there, and isn't the administrator.
 pub record GoesOut (s : Setting) (v : View) (n server : ℕ) (before : List Part) (part : Part) (behind : List Part) (wanted : Want) (desks_now : ℕ → DeskValue) (taken_now : ℕ → Option Taken) (ways_now : ℕ → Option RowWay) : Type 0 where

@@ -1,22 +1,10 @@
 -- What is left after a step by which an actor's errand changes, and a part of a desk gives way to others: each of the four numbers.
 use Rattle.std.proofs.Common.{◌≡◌, ℕ, ◌+◌, ◌<◌, List, ◌∷◌, ◌++◌, Option, Some, None, refl, ap, arith}
 use Rattle.std.specs.Prelude.{sum_by}
-use Rattle.query_router.specs.Desk.{DeskValue}
-use Rattle.query_router.specs.declared.part.Part.{Part}
+use Rattle.query_router.specs.{Desk.DeskValue, declared.part.Part.Part}
 use Rattle.row_ledger.specs.declared.event.Event.{Event}
-use Rattle.volap_cell.specs.Errands.{ReadPart, RowWay, Taken}
-use Rattle.volap_cell.specs.Falls.{control_of, far, gates_of_errand, gates_of_part, gates_of_work, gone_left, job_left, left, of_work, one_if_any, queries_of_errand, queries_of_state, queries_of_task, queries_of_work, rows_of_errand, rows_of_part}
-use Rattle.volap_cell.specs.Ghost.{Ghost}
-use Rattle.volap_cell.specs.Setting.{Setting, actor_count, cell_count}
-use Rattle.volap_cell.specs.Sums.{sum_below}
-use Rattle.volap_cell.specs.Values.{ActorValue, ErrandValue, TaskValue, OfRow, Unread, Read}
-use Rattle.volap_cell.specs.View.{View, view}
-use Rattle.volap_cell.specs.World.{World, Change, after}
-use Rattle.volap_cell.proofs.Ahead.{job-stays}
-use Rattle.volap_cell.proofs.DeskParts.{TurnsParts}
-use Rattle.volap_cell.proofs.Frames.{actor-at, actor-off}
-use Rattle.volap_cell.proofs.PartLists.{sum-exchanged}
-use Rattle.volap_cell.proofs.Sums.{sum-changed, sum-same}
+use Rattle.volap_cell.specs.{Errands.{ReadPart, RowWay, Taken}, Falls.{control_of, far, gates_of_errand, gates_of_part, gates_of_work, gone_left, job_left, left, of_work, one_if_any, queries_of_errand, queries_of_state, queries_of_task, queries_of_work, rows_of_errand, rows_of_part}, Ghost.Ghost, Setting.{Setting, actor_count, cell_count}, Sums.sum_below, Values.{ActorValue, ErrandValue, TaskValue, OfRow, Unread, Read}, View.{View, view}, World.{World, Change, after}}
+use Rattle.volap_cell.proofs.{Desks.Lists.sum-exchanged, Desks.Shared.TurnsParts, OneEvent.Ahead.job-stays, Sums.{sum-changed, sum-same}, Views.Frames.{actor-at, actor-off}}
 
 -- what is left of a query's part on a desk
 abbrev pub queries_of_part : Setting → List Event → Part → ℕ

@@ -1,37 +1,16 @@
 -- A height is noted: nothing is seen of it, and less is left.
 use Rattle.std.proofs.Common.{◌≡◌, ℕ, ◌+◌, ◌<◌, ◌≤◌, List, [], ◌∷◌, Bool, true, false, Option, Some, None, refl, sym, ap, subst, ◌∙◌, inl, inr, arith}
 use Rattle.std.specs.FinMap as map
-use Rattle.std.specs.Ordering.{nat_cmp}
-use Rattle.std.specs.Prelude.{sum_by}
+use Rattle.std.specs.{Ordering.nat_cmp, Prelude.sum_by}
 use Rattle.dim_hierarchy.specs.Dimension.{Dimension}
 use Rattle.mapping_table.specs.declared.place.Where.{Where}
 use Rattle.mapping_table.specs.declared.place.Where.TheVariants as where_is
 use Rattle.row_ledger.specs.declared.event.Event.{Event}
 use Rattle.list_words.proofs.Elements.{Some-same}
 use Rattle.shard_store.specs.declared.gate.Gate.{Gate}
-use Rattle.volap_cell.specs.Cells.{CellValue, GateCell, MapCell, MapOf, gate_shard, tag_of, where_in}
-use Rattle.volap_cell.specs.Errands.{taken_by, taken_of}
-use Rattle.volap_cell.specs.Falls.{control_of, far, gates_of_errand, gates_of_part, gates_of_task, gates_of_way, gates_of_work, gone_left, job_left, left, of_work}
-use Rattle.volap_cell.specs.Ghost.{Ghost}
-use Rattle.volap_cell.specs.Invariant.{InvWith}
-use Rattle.volap_cell.specs.Setting.{Setting, actor_count, cell_count}
-use Rattle.volap_cell.specs.ShardKinds.{NotesHeight}
-use Rattle.volap_cell.specs.Steps.{IsHere, IsKept, Keeps, Makes}
-use Rattle.volap_cell.specs.Sums.{sum_below}
-use Rattle.volap_cell.specs.TreeKinds.{on_way}
-use Rattle.volap_cell.specs.Values.{ActorValue, ErrandValue, OfRow, errand_of, task_of}
-use Rattle.volap_cell.specs.View.{View, view}
-use Rattle.volap_cell.specs.World.{Agrees, Change, World, after, change, held}
-use Rattle.volap_cell.specs.declared.errand.Errand.{Errand}
-use Rattle.volap_cell.specs.declared.errand.RowErrand.{RowErrand}
+use Rattle.volap_cell.specs.{Cells.{CellValue, GateCell, MapCell, MapOf, gate_shard, tag_of, where_in}, Errands.{taken_by, taken_of}, Falls.{control_of, far, gates_of_errand, gates_of_part, gates_of_task, gates_of_way, gates_of_work, gone_left, job_left, left, of_work}, Ghost.Ghost, Invariant.InvWith, Setting.{Setting, actor_count, cell_count}, ShardKinds.NotesHeight, Steps.{IsHere, IsKept, Keeps, Makes}, Sums.sum_below, TreeKinds.on_way, Values.{ActorValue, ErrandValue, OfRow, errand_of, task_of}, View.{View, view}, World.{Agrees, Change, World, after, change, held}, declared.errand.Errand.Errand, declared.errand.RowErrand.RowErrand, declared.errand.Way.TheVariants.Before, declared.kind.Kind.TheVariants.LookUp}
 use Rattle.volap_cell.specs.declared.errand.Task.TheVariants as task_is
-use Rattle.volap_cell.specs.declared.errand.Way.TheVariants.{Before}
-use Rattle.volap_cell.specs.declared.kind.Kind.TheVariants.{LookUp}
-use Rattle.volap_cell.proofs.Frames.{actor-at, actor-off, unmoved-one}
-use Rattle.volap_cell.proofs.Helds.{held-leads}
-use Rattle.volap_cell.proofs.PartViews.{view-note_height}
-use Rattle.volap_cell.proofs.Persons.{has-taken}
-use Rattle.volap_cell.proofs.Sums.{sum-changed, sum-same}
+use Rattle.volap_cell.proofs.{Persons.has-taken, Sums.{sum-changed, sum-same}, Views.Frames.{actor-at, actor-off, unmoved-one}, Views.Parts.view-note_height, Views.Shown.held-leads}
 use Rattle.core_shard.specs.Due.{CanLookUp}
 use Rattle.core_shard.proofs.FinishReady.{is-gate}
 

@@ -1,23 +1,10 @@
 -- A part that stands again on its desk with the shard that it had: it is apart from the others, and has counted what it had.
-use Rattle.std.proofs.Common.{◌≡◌, ℕ, ◌<◌, List, [], ◌∷◌, ◌++◌, true, false, Some, refl, sym, ap, subst, ◌∙◌, All, Any, Contains}
-use Rattle.std.proofs.lemmas.List.Elements.{All-contains, All-cons, All-nil}
-use Rattle.query_router.specs.Desk.{is_refused, is_with, state_is_refused, state_is_taken}
-use Rattle.query_router.specs.declared.part.Part.{Part}
-use Rattle.query_router.specs.declared.part.PartState.{PartState}
+use Rattle.std.proofs.{Common.{◌≡◌, ℕ, ◌<◌, List, [], ◌∷◌, ◌++◌, true, false, Some, refl, sym, ap, subst, ◌∙◌, All, Any, Contains}, lemmas.List.Elements.{All-contains, All-cons, All-nil}}
+use Rattle.query_router.specs.{Desk.{is_refused, is_with, state_is_refused, state_is_taken}, declared.part.Part.Part, declared.part.PartState.PartState}
 use Rattle.query_router.specs.declared.part.PartState.TheVariants as state
-use Rattle.row_ledger.specs.Past.{Query, query_at}
-use Rattle.row_ledger.specs.Shards.{comes_from, ids_made}
-use Rattle.volap_cell.specs.Desking.{AreLinesApart, AreUnrelated, IsQueryPart}
-use Rattle.volap_cell.specs.Errands.{taken_by}
-use Rattle.volap_cell.specs.Ghost.{Ghost}
-use Rattle.volap_cell.specs.Growing.{IsUnder}
-use Rattle.volap_cell.specs.Invariant.{InvWith}
-use Rattle.volap_cell.specs.Querying.{IsCounted}
-use Rattle.volap_cell.specs.Setting.{Setting}
-use Rattle.volap_cell.specs.Values.{ErrandValue}
-use Rattle.volap_cell.specs.View.{View}
-use Rattle.volap_cell.proofs.PartFacts.{with-parts}
-use Rattle.volap_cell.proofs.PartLists.{Contains-head, Contains-one, any-of, apart-others, old-was}
+use Rattle.row_ledger.specs.{Past.{Query, query_at}, Shards.{comes_from, ids_made}}
+use Rattle.volap_cell.specs.{Desking.{AreLinesApart, AreUnrelated, IsQueryPart}, Errands.taken_by, Ghost.Ghost, Growing.IsUnder, Invariant.InvWith, Querying.IsCounted, Setting.Setting, Values.ErrandValue, View.View}
+use Rattle.volap_cell.proofs.{Desks.Facts.with-parts, Desks.Lists.{Contains-head, Contains-one, any-of, apart-others, old-was}}
 
 -- one that is taken wasn't refused
 not-refused : (st : PartState) → state_is_taken st ≡ true → state_is_refused st ≡ false

@@ -3,17 +3,9 @@ use Rattle.std.proofs.Common.{◌≡◌, ℕ, Option, Some, None, sym, ap, ◌�
 use Rattle.row_ledger.specs.Past.{Insert, insert_at}
 use Rattle.list_words.proofs.Elements.{Some-same}
 use Rattle.query_router.specs.declared.part.Want.TheVariants as want
-use Rattle.volap_cell.specs.Errands.{RowWay, has_passed, place_of, row_way, taken_by, way_in_task}
-use Rattle.volap_cell.specs.Ghost.{Ghost}
-use Rattle.volap_cell.specs.Invariant.{InvWith}
-use Rattle.volap_cell.specs.Placing.{IsOnWay, NobodyAt}
-use Rattle.volap_cell.specs.Setting.{Setting}
-use Rattle.volap_cell.specs.Values.{ErrandValue, OfRow}
-use Rattle.volap_cell.specs.View.{View}
-use Rattle.volap_cell.specs.declared.errand.RowErrand.{RowErrand}
-use Rattle.volap_cell.proofs.Fields.{IsNewAt}
-use Rattle.core_shard.proofs.BackFacts.{row-begun}
-use Rattle.core_shard.proofs.GoesBack.{others-had}
+use Rattle.volap_cell.specs.{Errands.{RowWay, has_passed, place_of, row_way, taken_by, way_in_task}, Ghost.Ghost, Invariant.InvWith, Placing.{IsOnWay, NobodyAt}, Setting.Setting, Values.{ErrandValue, OfRow}, View.View, declared.errand.RowErrand.RowErrand}
+use Rattle.volap_cell.proofs.Views.Fields.{IsNewAt}
+use Rattle.core_shard.proofs.{BackFacts.row-begun, GoesBack.others-had}
 
 module _ (s : Setting) (v : View) (g : Ghost) (i : InvWith s v g) (n : ℕ) (e : ErrandValue) (takes : v.taken n ≡ Some (taken_by e)) (goes : v.ways n ≡ way_in_task e e.task) (r : RowErrand) (same : e.task ≡ OfRow r) where
   abbrev of : ℕ

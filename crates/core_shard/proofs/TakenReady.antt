@@ -2,17 +2,9 @@
 use Rattle.std.proofs.Common.{◌≡◌, ℕ, List, [], ◌∷◌, true, Option, Some, refl, sym, ap, subst, ◌∙◌}
 use Rattle.std.specs.Prelude.{IfSome, IsTrue, position, slice_get, slice_set}
 use Rattle.dim_hierarchy.specs.Dimension.{Dimension}
-use Rattle.query_router.specs.Desk.{DeskValue, IsAt, is_waiting, state_waits, taken_from}
-use Rattle.query_router.specs.declared.part.Part.{Part}
-use Rattle.query_router.specs.declared.part.PartState.{PartState}
+use Rattle.query_router.specs.{Desk.{DeskValue, IsAt, is_waiting, state_waits, taken_from}, declared.part.Part.Part, declared.part.PartState.PartState, declared.part.Want.Want}
 use Rattle.query_router.specs.declared.part.PartState.TheVariants as state
-use Rattle.query_router.specs.declared.part.Want.{Want}
-use Rattle.volap_cell.specs.Cells.{CellValue, DeskCell, DeskOf, desk_in, tag_of}
-use Rattle.volap_cell.specs.ShardKinds.{DoesTakePart, IsDeskFor, errand_for, may_take}
-use Rattle.volap_cell.specs.Steps.{Makes}
-use Rattle.volap_cell.specs.Values.{ActorValue}
-use Rattle.volap_cell.specs.World.{change}
-use Rattle.volap_cell.specs.declared.kind.Kind.TheVariants.{TakePart}
+use Rattle.volap_cell.specs.{Cells.{CellValue, DeskCell, DeskOf, desk_in, tag_of}, ShardKinds.{DoesTakePart, IsDeskFor, errand_for, may_take}, Steps.Makes, Values.ActorValue, World.change, declared.kind.Kind.TheVariants.TakePart}
 use Rattle.core_shard.specs.Due.{CanTakePart, IsWaiting}
 use Rattle.core_shard.proofs.TakesPart.{take-keeps}
 

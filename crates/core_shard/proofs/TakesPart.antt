@@ -1,39 +1,14 @@
 -- A part is taken: the invariant holds still, and less is left.
-use Rattle.std.proofs.Common.{◌≡◌, ◌≢◌, ℕ, ◌+◌, ◌*◌, ◌-◌, ◌<◌, ◌≤◌, List, [], ◌∷◌, true, take, drop, Option, Some, None, refl, sym, ap, subst, ◌∙◌, inl, inr, arith, ◌==◌, ◌||◌, Contains, eqb-true}
+use Rattle.std.proofs.{Common.{◌≡◌, ◌≢◌, ℕ, ◌+◌, ◌*◌, ◌-◌, ◌<◌, ◌≤◌, List, [], ◌∷◌, true, take, drop, Option, Some, None, refl, sym, ap, subst, ◌∙◌, inl, inr, arith, ◌==◌, ◌||◌, Contains, eqb-true}, lemmas.Bool.and_parts, lemmas.List.Elements.All-contains, lemmas.Nat.mul-le}
 use Rattle.std.specs.Prelude.{IsSome, slice_set}
-use Rattle.std.proofs.lemmas.Bool.{and_parts}
-use Rattle.std.proofs.lemmas.List.Elements.{All-contains}
-use Rattle.std.proofs.lemmas.Nat.{mul-le}
 use Rattle.dim_hierarchy.specs.Dimension.{Dimension}
-use Rattle.query_router.specs.Desk.{DeskValue, is_open, is_taken, is_waiting, state_waits, taken_from}
-use Rattle.query_router.specs.declared.part.Part.{Part}
-use Rattle.query_router.specs.declared.part.PartState.{PartState}
+use Rattle.query_router.specs.{Desk.{DeskValue, is_open, is_taken, is_waiting, state_waits, taken_from}, declared.part.Part.Part, declared.part.PartState.PartState, declared.part.Want.Want}
 use Rattle.query_router.specs.declared.part.PartState.TheVariants as state
-use Rattle.query_router.specs.declared.part.Want.{Want}
 use Rattle.query_router.specs.declared.part.Want.TheVariants as want
 use Rattle.row_ledger.specs.declared.event.Event.{Event}
-use Rattle.volap_cell.specs.Errands.{read_in_task, read_of, taken_of, way_of}
-use Rattle.volap_cell.specs.Falls.{GoesOn, far, gates_of_errand, gates_of_part, gates_of_state, left, per_query, queries_of_errand, queries_of_state, rows_of_errand, rows_of_part}
-use Rattle.volap_cell.specs.Ghost.{Ghost}
-use Rattle.volap_cell.specs.Invariant.{InvWith}
-use Rattle.volap_cell.specs.Setting.{Setting, actor_count}
-use Rattle.volap_cell.specs.ShardKinds.{DoesTakePart, IsDeskFor, errand_for, may_take, task_for}
-use Rattle.volap_cell.specs.Steps.{IsKept, Keeps}
-use Rattle.volap_cell.specs.Values.{ActorValue, ErrandValue}
-use Rattle.volap_cell.specs.View.{View, view}
-use Rattle.volap_cell.specs.World.{World, Change, Agrees, after}
-use Rattle.volap_cell.specs.declared.command.Command.{Command}
-use Rattle.volap_cell.specs.declared.kind.Kind.TheVariants.{TakePart}
-use Rattle.volap_cell.specs.declared.role.Role.{Role}
-use Rattle.volap_cell.specs.declared.role.Role.TheVariants.{Admin, Hand, Session}
-use Rattle.volap_cell.proofs.Books.{DeskNew, one-desk}
-use Rattle.volap_cell.proofs.DeskParts.{TurnsParts, turned-parts}
-use Rattle.volap_cell.proofs.Frames.{actor-at, actor-off, unmoved}
-use Rattle.volap_cell.proofs.PartLists.{found-at, old-was, place-set, place-splits}
-use Rattle.volap_cell.proofs.PartViews.{view-take_part}
-use Rattle.volap_cell.proofs.Persons.{has-role}
-use Rattle.core_shard.proofs.GoesOut.{GoesOut, out-holds}
-use Rattle.core_shard.proofs.LeftOver.{control-same, gates-turn, queries-turn, queries_of_part, rows-turn, with_parts}
+use Rattle.volap_cell.specs.{Errands.{read_in_task, read_of, taken_of, way_of}, Falls.{GoesOn, far, gates_of_errand, gates_of_part, gates_of_state, left, per_query, queries_of_errand, queries_of_state, rows_of_errand, rows_of_part}, Ghost.Ghost, Invariant.InvWith, Setting.{Setting, actor_count}, ShardKinds.{DoesTakePart, IsDeskFor, errand_for, may_take, task_for}, Steps.{IsKept, Keeps}, Values.{ActorValue, ErrandValue}, View.{View, view}, World.{World, Change, Agrees, after}, declared.command.Command.Command, declared.kind.Kind.TheVariants.TakePart, declared.role.Role.Role, declared.role.Role.TheVariants.{Admin, Hand, Session}}
+use Rattle.volap_cell.proofs.{Desks.Lists.{found-at, old-was, place-set, place-splits}, Desks.Shared.{TurnsParts, turned-parts}, Histories.Books.{DeskNew, one-desk}, Persons.has-role, Views.Frames.{actor-at, actor-off, unmoved}, Views.Parts.view-take_part}
+use Rattle.core_shard.proofs.{GoesOut.{GoesOut, out-holds}, LeftOver.{control-same, gates-turn, queries-turn, queries_of_part, rows-turn, with_parts}}
 
 -- who takes parts is no administrator
 no-admin : (r : Role) (server : ℕ) (desk : DeskValue) (command : Option Command) → IsDeskFor r server desk command → r ≢ Admin

@@ -1,26 +1,12 @@
 -- What an actor's part is where it waits again for the shard that it had, at another worker.
 use Rattle.std.proofs.Common.{◌≡◌, ℕ, ◌<◌, List, [], ◌∷◌, ◌++◌, true, false, Option, Some, None, refl, sym, ap, subst, ◌∙◌}
 use Rattle.std.specs.Prelude.{IsSome}
-use Rattle.query_router.specs.Desk.{is_open, is_taken, is_with}
-use Rattle.query_router.specs.declared.part.Part.{Part}
-use Rattle.query_router.specs.declared.part.Want.{Want}
+use Rattle.query_router.specs.{Desk.{is_open, is_taken, is_with}, declared.part.Part.Part, declared.part.Want.Want}
 use Rattle.query_router.specs.declared.part.Want.TheVariants as want
 use Rattle.row_ledger.specs.Past.{Insert, Query, insert_at, query_at}
-use Rattle.volap_cell.specs.Desking.{IsInsertState, IsQueryPart, IsQueryState}
-use Rattle.volap_cell.specs.Errands.{RowWay, has_passed, read_in_task, taken_by, want_of, way_in_task}
-use Rattle.volap_cell.specs.Ghost.{Ghost}
-use Rattle.volap_cell.specs.Invariant.{InvWith}
-use Rattle.volap_cell.specs.Placing.{IsLead, IsRowPart}
-use Rattle.volap_cell.specs.Querying.{IsEndOfPart}
-use Rattle.volap_cell.specs.Setting.{Setting}
-use Rattle.volap_cell.specs.ShardKinds.{IsOutside, waiting}
-use Rattle.volap_cell.specs.Values.{ErrandValue, OfRow, Read, TaskValue, Unread}
-use Rattle.volap_cell.specs.View.{View}
-use Rattle.volap_cell.proofs.Fields.{IsNewAt}
-use Rattle.core_shard.proofs.BackFacts.{row-no-query, unread-filter, unread-no-insert}
-use Rattle.core_shard.proofs.GoesBack.{AreParts}
-use Rattle.core_shard.proofs.OnePart.{all-one, its-made, one-apart, one-counted, one-under}
-use Rattle.core_shard.proofs.RowBack.{row-nobody, row-on, row-passed, row-want}
+use Rattle.volap_cell.specs.{Desking.{IsInsertState, IsQueryPart, IsQueryState}, Errands.{RowWay, has_passed, read_in_task, taken_by, want_of, way_in_task}, Ghost.Ghost, Invariant.InvWith, Placing.{IsLead, IsRowPart}, Querying.IsEndOfPart, Setting.Setting, ShardKinds.{IsOutside, waiting}, Values.{ErrandValue, OfRow, Read, TaskValue, Unread}, View.View}
+use Rattle.volap_cell.proofs.Views.Fields.{IsNewAt}
+use Rattle.core_shard.proofs.{BackFacts.{row-no-query, unread-filter, unread-no-insert}, GoesBack.AreParts, OnePart.{all-one, its-made, one-apart, one-counted, one-under}, RowBack.{row-nobody, row-on, row-passed, row-want}}
 
 module _ (s : Setting) (v : View) (g : Ghost) (i : InvWith s v g) (n : ℕ) (e : ErrandValue) (takes : v.taken n ≡ Some (taken_by e)) (goes : v.ways n ≡ way_in_task e e.task) (reads : v.reads n ≡ read_in_task e e.task)
     (wanted : Want) (path : List ℕ) (is : IsOutside e.task wanted path) (before behind : List Part) (old : Part) (was : (v.desks e.server).parts ≡ before ++ old ∷ behind) (with : is_with e.shard e.worker old ≡ true)

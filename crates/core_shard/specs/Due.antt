@@ -1,34 +1,17 @@
 -- What a kind asks of the cells that it is given and of its actor, beyond that they are those of a state; and what its inner
 -- functions ask.
-use Rattle.std.specs.Prelude.{ℕ, ◌≡◌, ◌+◌, ◌<◌, ◌⊎◌, List, Option, Some, None, IsSome, position, slice_set, [], ◌∷◌, ◌++◌, Bool}
+use Rattle.std.specs.{Ordering.nat_cmp, Prelude.{ℕ, ◌≡◌, ◌+◌, ◌<◌, ◌⊎◌, List, Option, Some, None, IsSome, position, slice_set, [], ◌∷◌, ◌++◌, Bool}}
 use Rattle.std.specs.FinMap as map
-use Rattle.std.specs.Ordering.{nat_cmp}
 use Rattle.mapping_table.specs.declared.place.Where.{Where}
 use Rattle.mapping_table.specs.declared.place.Where.TheVariants as where_is
-use Rattle.query_router.specs.Desk.{DeskValue, is_with, expanded}
-use Rattle.query_router.specs.declared.part.Part.{Part}
+use Rattle.query_router.specs.{Desk.{DeskValue, is_with, expanded}, declared.part.Part.Part, declared.part.PartState.PartState, declared.part.Want.Want}
 use Rattle.query_router.specs.declared.part.PartState.TheVariants as state
-use Rattle.query_router.specs.declared.part.Want.{Want}
-use Rattle.query_router.specs.declared.part.PartState.{PartState}
 use Rattle.shard_store.specs.declared.gate.Gate.{Gate}
-use Rattle.dim_hierarchy.specs.Dimension.{Dimension}
-use Rattle.dim_hierarchy.specs.Row.{IsCoordOf}
-use Rattle.dim_hierarchy.specs.declared.filter.Pick.{Pick}
-use Rattle.describing_set.specs.Plane.{IsHierarchyPlane}
-use Rattle.describing_set.specs.declared.plane.Plane.{Plane}
-use Rattle.volap_cell.specs.TreeKinds.{HasRow}
-use Rattle.volap_cell.specs.declared.errand.RowErrand.{RowErrand}
-use Rattle.volap_cell.specs.declared.errand.Errand.{Errand}
+use Rattle.dim_hierarchy.specs.{Dimension.Dimension, Row.IsCoordOf, declared.filter.Pick.Pick}
+use Rattle.describing_set.specs.{Plane.IsHierarchyPlane, declared.plane.Plane.Plane}
+use Rattle.volap_cell.specs.{Cells.{CellValue, DeskOf, GateCell, MapOf, desk_in, tag_of, where_in}, Errands.{Outside, place_of}, ShardKinds.{IsDeskFor, IsOutcome, IsOutside, may_take, path_in, pin_of, waiting, child_for}, TreeKinds.HasRow, Values.{ActorValue, ErrandValue, OfRow, Read, TaskValue, Unread, task_of}, declared.errand.Errand.Errand, declared.errand.RowErrand.RowErrand, declared.errand.Way.Way, declared.errand.Way.TheVariants.{Placed, Before}, declared.role.Role.Role, declared.role.Role.TheVariants.{Session, Hand}}
 use Rattle.volap_cell.specs.declared.errand.Task.TheVariants as task_is
 use Rattle.query_router.specs.declared.part.Want.TheVariants as want
-use Rattle.volap_cell.specs.Cells.{CellValue, DeskOf, GateCell, MapOf, desk_in, tag_of, where_in}
-use Rattle.volap_cell.specs.Errands.{Outside, place_of}
-use Rattle.volap_cell.specs.ShardKinds.{IsDeskFor, IsOutcome, IsOutside, may_take, path_in, pin_of, waiting, child_for}
-use Rattle.volap_cell.specs.Values.{ActorValue, ErrandValue, OfRow, Read, TaskValue, Unread, task_of}
-use Rattle.volap_cell.specs.declared.errand.Way.{Way}
-use Rattle.volap_cell.specs.declared.errand.Way.TheVariants.{Placed, Before}
-use Rattle.volap_cell.specs.declared.role.Role.{Role}
-use Rattle.volap_cell.specs.declared.role.Role.TheVariants.{Session, Hand}
 
 -- Taking.
 

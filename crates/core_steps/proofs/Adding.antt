@@ -1,18 +1,12 @@
 -- What a step has put in the ledger's cell is there when the cells are back at their places.
-use Rattle.std.proofs.Common.{◌≡◌, ◌≢◌, ℕ, zero, suc, ◌<◌, true, cond, eqb, List, [], ◌∷◌, Option, Some, None, get_or, set, length, slice_get, inl, inr, refl, sym, ap, ◌∙◌, subst}
-use Rattle.std.proofs.lemmas.Bool.{cases_lt, ne_eqb, eqb-false}
+use Rattle.std.proofs.{Common.{◌≡◌, ◌≢◌, ℕ, zero, suc, ◌<◌, true, cond, eqb, List, [], ◌∷◌, Option, Some, None, get_or, set, length, slice_get, inl, inr, refl, sym, ap, ◌∙◌, subst}, lemmas.Bool.{cases_lt, ne_eqb, eqb-false}}
 use Rattle.core_image.specs.Told.{Tells}
 use Rattle.core_steps.specs.Added.{Adds, AddsQuiet, EndsIn, Spares}
 use Rattle.row_ledger.specs.declared.event.Event.{Event}
 use Rattle.list_words.proofs.Truth.{on_bool}
 use Rattle.list_words.specs.Counts.{Each}
-use Rattle.volap_cell.specs.Cells.{CellValue, cell_of}
-use Rattle.volap_cell.specs.State.{AreDifferent, Exchange, IsWorldOf, MayHold, Stand, cells_before, cells_now, changes_of, given, numbers_of, taken}
-use Rattle.volap_cell.specs.Values.{ActorValue, actor_of}
-use Rattle.volap_cell.specs.World.{World, after, put}
-use Rattle.volap_cell.specs.declared.actor.Actor.{Actor}
-use Rattle.volap_cell.specs.declared.cell.Cell.{Cell}
-use Rattle.volap_cell.proofs.States.{of-it, same-actor, stand-world, stands, within, world-after}
+use Rattle.volap_cell.specs.{Cells.{CellValue, cell_of}, State.{AreDifferent, Exchange, IsWorldOf, MayHold, Stand, cells_before, cells_now, changes_of, given, numbers_of, taken}, Values.{ActorValue, actor_of}, World.{World, after, put}, declared.actor.Actor.Actor, declared.cell.Cell.Cell}
+use Rattle.volap_cell.proofs.Cells.States.{of-it, same-actor, stand-world, stands, within, world-after}
 
 -- what holds of the numbers of all holds of that of one
 number-of : (P : ℕ → Type 0) (xs : List Exchange) (k : ℕ) (x : Exchange) → slice_get xs k ≡ Some x → Each P (numbers_of xs) → P x.number

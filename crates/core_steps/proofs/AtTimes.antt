@@ -1,24 +1,14 @@
 -- Drivers of kinds that hold some of their cells at times only: what is moved out and put back in two parts is moved out and put back
 -- in one, and what their kind asks of such cells it asks of those that are there.
-use Rattle.std.proofs.Common.{◌≡◌, ◌≢◌, ℕ, ◌<◌, Bool, List, [], ◌∷◌, ◌++◌, map, length, Option, Some, None, get_or, is_some, set, refl, sym, ap, ◌∙◌, subst}
-use Rattle.std.proofs.lemmas.List.{map-append}
-use Rattle.std.proofs.Common.{append_assoc}
+use Rattle.std.proofs.{Common.{◌≡◌, ◌≢◌, ℕ, ◌<◌, Bool, List, [], ◌∷◌, ◌++◌, map, length, Option, Some, None, get_or, is_some, set, refl, sym, ap, ◌∙◌, subst, append_assoc}, lemmas.List.map-append}
 use Rattle.std.specs.Prelude.{option_map}
 use Rattle.dim_hierarchy.specs.Dimension.{Dimension}
 use Rattle.list_words.proofs.Each.{each-append, each-left, each-right}
 use Rattle.list_words.specs.Counts.{Each}
-use Rattle.volap_cell.specs.Cells.{CellValue, cell_of}
-use Rattle.volap_cell.specs.State.{AreDifferent, HasInv, MayHold, Stand, cell_if, given, number_if, still, taken}
-use Rattle.volap_cell.specs.Steps.{IsHere}
-use Rattle.volap_cell.specs.Values.{ActorValue, actor_of}
-use Rattle.volap_cell.specs.World.{Change}
-use Rattle.volap_cell.specs.declared.actor.Actor.{Actor}
-use Rattle.volap_cell.specs.declared.cell.Cell.{Cell}
-use Rattle.volap_cell.proofs.Lifting.{if-within, stand-others}
+use Rattle.volap_cell.specs.{Cells.{CellValue, cell_of}, State.{AreDifferent, HasInv, MayHold, Stand, cell_if, given, number_if, still, taken}, Steps.IsHere, Values.{ActorValue, actor_of}, World.Change, declared.actor.Actor.Actor, declared.cell.Cell.Cell}
+use Rattle.volap_cell.proofs.Cells.Lifting.{if-within, stand-others}
 use Rattle.core_steps.proofs.Ready.{can-step, may-hold, numbers_in, step-here, values_in}
-use Rattle.core_steps.specs.HeldIf.{first_if, number_of, rest_if}
-use Rattle.core_steps.specs.declared.held.HeldIf.{HeldIf}
-use Rattle.core_steps.specs.Ready.{MayStep}
+use Rattle.core_steps.specs.{HeldIf.{first_if, number_of, rest_if}, Ready.MayStep, declared.held.HeldIf.HeldIf}
 
 -- Two parts.
 

@@ -2,23 +2,12 @@
 -- its step, or the same state where it changed nothing.
 use Rattle.std.proofs.Common.{ℕ, ◌≡◌, List, [], ◌∷◌, Option, Some, None, get_or, set, refl}
 use Rattle.core_image.specs.Told.{Tells}
-use Rattle.core_steps.specs.Added.{Adds, AddsQuiet, EndsIn}
-use Rattle.core_steps.specs.Ready.{MayStep, Stays}
+use Rattle.core_steps.specs.{Added.{Adds, AddsQuiet, EndsIn}, Ready.{MayStep, Stays}}
 use Rattle.dim_hierarchy.specs.Dimension.{Dimension}
 use Rattle.row_ledger.specs.declared.event.Event.{Event}
-use Rattle.volap_cell.specs.Cells.{CellValue, cell_of}
-use Rattle.volap_cell.specs.Setting.{Setting}
-use Rattle.volap_cell.specs.State.{Exchange, HasInv, IsWorldOf, MayHold, Stand, Stepped, exchange, still}
-use Rattle.volap_cell.specs.Steps.{HasSight, Inv, IsHere, Makes}
-use Rattle.volap_cell.specs.Values.{ActorValue, actor_of}
-use Rattle.volap_cell.specs.World.{World, change}
-use Rattle.volap_cell.specs.declared.actor.Actor.{Actor}
-use Rattle.volap_cell.specs.declared.cell.Cell.{Cell}
-use Rattle.volap_cell.specs.declared.kind.Kind.{Kind}
-use Rattle.volap_cell.proofs.States.{drives}
-use Rattle.core_steps.proofs.Adding.{adds, adds-quiet}
-use Rattle.core_steps.proofs.Ready.{can-step, lent-is, may-hold, put-over, step-here}
-use Rattle.core_steps.proofs.Staying.{stays-so}
+use Rattle.volap_cell.specs.{Cells.{CellValue, cell_of}, Setting.Setting, State.{Exchange, HasInv, IsWorldOf, MayHold, Stand, Stepped, exchange, still}, Steps.{HasSight, Inv, IsHere, Makes}, Values.{ActorValue, actor_of}, World.{World, change}, declared.actor.Actor.Actor, declared.cell.Cell.Cell, declared.kind.Kind.Kind}
+use Rattle.volap_cell.proofs.Cells.States.{drives}
+use Rattle.core_steps.proofs.{Adding.{adds, adds-quiet}, Ready.{can-step, lent-is, may-hold, put-over, step-here}, Staying.stays-so}
 
 -- The cell and the actor that stand where they are lent, in a state in which a step may hold them.
 pub record Lent (h : List Dimension) (cells : List (Option Cell)) (actors : List (Option Actor)) (n at : ℕ) (Can : List CellValue → ActorValue → Type 0) (x : Cell) (a : Actor) : Type 0 where

@@ -1,16 +1,8 @@
 -- A note that tells a page asks of the state what this page shows.
 use Rattle.std.proofs.Common.{ℕ, ◌≡◌, ◌∷◌, sym, ap, ◌∙◌, subst}
-use Rattle.core_image.specs.Told.{Tells}
-use Rattle.core_image.specs.ToldPages.{began_at, shown_by}
-use Rattle.row_ledger.specs.declared.event.Event.TheVariants.{Shown}
-use Rattle.row_ledger.specs.declared.page.Page.{Page}
-use Rattle.volap_cell.specs.Cells.{CellValue, ledger_in}
-use Rattle.volap_cell.specs.ImageKinds.{DoesNote, OfCalled, OfCount, OfEnded, OfLeft, OfRefused, OfShown, OfUnknown}
-use Rattle.volap_cell.specs.Setting.{Setting}
-use Rattle.volap_cell.specs.Sights.{Sees}
-use Rattle.volap_cell.specs.Steps.{SeesNote}
-use Rattle.volap_cell.specs.Values.{ActorValue}
-use Rattle.volap_cell.specs.World.{Change, World}
+use Rattle.core_image.specs.{Told.Tells, ToldPages.{began_at, shown_by}}
+use Rattle.row_ledger.specs.{declared.event.Event.TheVariants.Shown, declared.page.Page.Page}
+use Rattle.volap_cell.specs.{Cells.{CellValue, ledger_in}, ImageKinds.{DoesNote, OfCalled, OfCount, OfEnded, OfLeft, OfRefused, OfShown, OfUnknown}, Setting.Setting, Sights.Sees, Steps.SeesNote, Values.ActorValue, World.{Change, World}}
 
 pub shown-sight : (s : Setting) (w : World) (n : ℕ) (page : Page) (c : Change) (a b : ActorValue) → Tells (shown_by page) a c.before c.now → Sees s w n page → (does : DoesNote c a b) → SeesNote s w n c a b does
 shown-sight s w n page c a b told sees (OfUnknown k) = tt

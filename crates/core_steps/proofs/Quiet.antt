@@ -3,14 +3,9 @@ use Rattle.std.proofs.Common.{ℕ, ◌≡◌, List, ◌∷◌, false, Some, refl
 use Rattle.core_steps.specs.Added.{EndsIn}
 use Rattle.core_steps.proofs.Sights.{one-or-none}
 use Rattle.dim_hierarchy.specs.Dimension.{Dimension}
-use Rattle.row_ledger.specs.Past.{is_beginning}
-use Rattle.row_ledger.specs.declared.event.Event.{Event}
+use Rattle.row_ledger.specs.{Past.is_beginning, declared.event.Event.Event}
 use Rattle.row_ledger.specs.declared.event.Event.TheVariants as event
-use Rattle.volap_cell.specs.Cells.{CellValue, DeskOf, TheLedger, ledger_in, tag_of}
-use Rattle.volap_cell.specs.ImageKinds.{DoesAck, DoesAnswer, DoesNote, DoesNoteWith, DoesSync, FailsRouted, OfCalled, OfCalledAsking, OfCount, OfEnded, OfLeft, OfQuery, OfRefused, OfShown, OfUnknown, OfUnrouted, Pushes}
-use Rattle.volap_cell.specs.Values.{ActorValue}
-use Rattle.volap_cell.specs.World.{Change}
-use Rattle.volap_cell.specs.declared.command.Command.{Command}
+use Rattle.volap_cell.specs.{Cells.{CellValue, DeskOf, TheLedger, ledger_in, tag_of}, ImageKinds.{DoesAck, DoesAnswer, DoesNote, DoesNoteWith, DoesSync, FailsRouted, OfCalled, OfCalledAsking, OfCount, OfEnded, OfLeft, OfQuery, OfRefused, OfShown, OfUnknown, OfUnrouted, Pushes}, Values.ActorValue, World.Change, declared.command.Command.Command}
 
 pushed : (e : Event) (more used : ℕ) (l : Change) (seen : ℕ) → is_beginning e ≡ false → Pushes e more used l seen → EndsIn l.before l.now
 pushed e more used l seen quiet p = (

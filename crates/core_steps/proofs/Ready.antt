@@ -1,17 +1,10 @@
 -- What a driver takes out of the vectors is what its kind of step asks for; and the vectors are the same state where the step changed nothing.
-use Rattle.std.proofs.Common.{◌≡◌, ◌≢◌, ◌∙◌, ℕ, ◌<◌, List, [], ◌∷◌, map, length, Option, Some, None, get_or, set, refl, subst, sym}
-use Rattle.std.proofs.lemmas.List.{get_or_default, set-set}
+use Rattle.std.proofs.{Common.{◌≡◌, ◌≢◌, ◌∙◌, ℕ, ◌<◌, List, [], ◌∷◌, map, length, Option, Some, None, get_or, set, refl, subst, sym}, lemmas.List.{get_or_default, set-set}}
 use Rattle.dim_hierarchy.specs.Dimension.{Dimension}
 use Rattle.list_words.specs.Counts.{Each}
-use Rattle.volap_cell.specs.Cells.{CellValue, cell_of}
+use Rattle.volap_cell.specs.{Cells.{CellValue, cell_of}, State.{CanLift, Has, HasInv, IsUnkept, MayHold, Stand, still}, Steps.IsHere, Values.{ActorValue, actor_of}, World.{MustKeep, World}, declared.actor.Actor.Actor, declared.cell.Cell.Cell}
 use Rattle.std.specs.Prelude.{⊤}
-use Rattle.volap_cell.specs.State.{CanLift, Has, HasInv, IsUnkept, MayHold, Stand, still}
-use Rattle.volap_cell.specs.Steps.{IsHere}
-use Rattle.volap_cell.specs.Values.{ActorValue, actor_of}
-use Rattle.volap_cell.specs.World.{MustKeep, World}
-use Rattle.volap_cell.specs.declared.actor.Actor.{Actor}
-use Rattle.volap_cell.specs.declared.cell.Cell.{Cell}
-use Rattle.volap_cell.proofs.States.{is-here, is-some, same-actor, stand-world, stands}
+use Rattle.volap_cell.proofs.Cells.States.{is-here, is-some, same-actor, stand-world, stands}
 use Rattle.core_steps.specs.Ready.{MayStep}
 
 -- the numbers of things that stand at their places

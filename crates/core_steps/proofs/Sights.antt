@@ -1,14 +1,6 @@
 -- A note of the ledger alone that is no page asks for nothing more of the state.
 use Rattle.std.proofs.Common.{ℕ, ◌≡◌, Option, Some, None, sym, ap, ◌∙◌}
-use Rattle.volap_cell.specs.Commands.{once_shown}
-use Rattle.volap_cell.specs.ImageKinds.{DoesNote, IsFree, OfCalled, OfCount, OfEnded, OfLeft, OfRefused, OfShown, OfUnknown, doing}
-use Rattle.volap_cell.specs.Setting.{Setting}
-use Rattle.volap_cell.specs.Steps.{SeesNote}
-use Rattle.volap_cell.specs.Values.{ActorValue}
-use Rattle.volap_cell.specs.World.{Change, World}
-use Rattle.volap_cell.specs.declared.command.Balance.{Balance}
-use Rattle.volap_cell.specs.declared.command.Command.{Command}
-use Rattle.volap_cell.specs.declared.command.Work.{Work}
+use Rattle.volap_cell.specs.{Commands.once_shown, ImageKinds.{DoesNote, IsFree, OfCalled, OfCount, OfEnded, OfLeft, OfRefused, OfShown, OfUnknown, doing}, Setting.Setting, Steps.SeesNote, Values.ActorValue, World.{Change, World}, declared.command.Balance.Balance, declared.command.Command.Command, declared.command.Work.Work}
 use Rattle.volap_cell.specs.declared.command.Work.TheVariants as work_is
 
 pub one-or-none : {P : Type 0} {o : Option Command} {c : Command} → o ≡ None → o ≡ Some c → P

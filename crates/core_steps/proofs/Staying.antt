@@ -1,17 +1,9 @@
 -- Where a kind finds no memory, its cells and its actor are put back as they were, and the vectors are the same state.
-use Rattle.std.proofs.Common.{ℕ, ◌≡◌, ◌<◌, cond, eqb, List, [], ◌∷◌, Option, Some, None, get_or, set, length, refl, sym, ap, ◌∙◌, subst}
-use Rattle.std.proofs.lemmas.List.{length-set}
-use Rattle.std.proofs.lemmas.Bool.{eqb-true}
+use Rattle.std.proofs.{Common.{ℕ, ◌≡◌, ◌<◌, cond, eqb, List, [], ◌∷◌, Option, Some, None, get_or, set, length, refl, sym, ap, ◌∙◌, subst}, lemmas.Bool.eqb-true, lemmas.List.length-set}
 use Rattle.list_words.proofs.Truth.{on_bool}
 use Rattle.list_words.specs.Counts.{Each}
-use Rattle.volap_cell.specs.Cells.{CellValue, cell_of}
-use Rattle.volap_cell.specs.Opening.{IsFresh}
-use Rattle.volap_cell.specs.State.{Exchange, Has, IsWorldOf, MayHold, Stand, cells_before, cells_now, changes_of, given, numbers_of, taken}
-use Rattle.volap_cell.specs.Values.{ActorValue, actor_of}
-use Rattle.volap_cell.specs.World.{World, after, put}
-use Rattle.volap_cell.specs.declared.actor.Actor.{Actor}
-use Rattle.volap_cell.specs.declared.cell.Cell.{Cell}
-use Rattle.volap_cell.proofs.States.{length-given, length-taken, same-actor, stand-world, within, world-after}
+use Rattle.volap_cell.specs.{Cells.{CellValue, cell_of}, Opening.IsFresh, State.{Exchange, Has, IsWorldOf, MayHold, Stand, cells_before, cells_now, changes_of, given, numbers_of, taken}, Values.{ActorValue, actor_of}, World.{World, after, put}, declared.actor.Actor.Actor, declared.cell.Cell.Cell}
+use Rattle.volap_cell.proofs.Cells.States.{length-given, length-taken, same-actor, stand-world, within, world-after}
 use Rattle.core_steps.specs.Ready.{Stays}
 
 -- a cell that is put back as it was

@@ -1,15 +1,9 @@
 -- Which event a step has put in the history.
 use Rattle.std.specs.Prelude.{ℕ, ◌≡◌, ◌≢◌, false, List, ◌∷◌, Option}
 use Rattle.core_image.specs.Told.{Tells}
-use Rattle.row_ledger.specs.Past.{is_beginning}
-use Rattle.row_ledger.specs.declared.event.Event.{Event}
+use Rattle.row_ledger.specs.{Past.is_beginning, declared.event.Event.Event}
 use Rattle.list_words.specs.Counts.{Each}
-use Rattle.volap_cell.specs.Cells.{CellValue, ledger_in}
-use Rattle.volap_cell.specs.State.{IsWorldOf}
-use Rattle.volap_cell.specs.Values.{ActorValue}
-use Rattle.volap_cell.specs.World.{World}
-use Rattle.volap_cell.specs.declared.actor.Actor.{Actor}
-use Rattle.volap_cell.specs.declared.cell.Cell.{Cell}
+use Rattle.volap_cell.specs.{Cells.{CellValue, ledger_in}, State.IsWorldOf, Values.ActorValue, World.World, declared.actor.Actor.Actor, declared.cell.Cell.Cell}
 
 -- Whatever states the vectors were and are, the ledger in this cell has this event of the actor more.
 abbrev pub Adds : (event_of : ActorValue → ℕ → Event) (n ledger_at : ℕ) (cells : List (Option Cell)) (actors : List (Option Actor)) (cells_now : List (Option Cell)) (actors_now : List (Option Actor)) → Type 0

@@ -2,8 +2,7 @@
 use Rattle.std.specs.Prelude.{ℕ, List, [], ◌∷◌}
 use Rattle.core_image.specs.Due.{CanAck}
 use Rattle.core_tree.specs.Due.{CanPutInLeaf}
-use Rattle.volap_cell.specs.Cells.{CellValue}
-use Rattle.volap_cell.specs.Values.{ActorValue}
+use Rattle.volap_cell.specs.{Cells.CellValue, Values.ActorValue}
 
 abbrev pub PutsInLeaf : ℕ → List CellValue → ActorValue → Type 0
 PutsInLeaf at (leaf ∷ []) a = CanPutInLeaf at leaf a

@@ -1,14 +1,8 @@
 -- What the steps of inserts, queries and pulls ask at desks and images, of their cells as a list.
 use Rattle.std.specs.Prelude.{List, [], ◌∷◌}
-use Rattle.core_image.specs.Asking.{CanAnswer, CanBeginQuery}
-use Rattle.core_image.specs.NotesDue.{CanBeginInsert}
-use Rattle.core_image.specs.Pulling.{CanSync}
-use Rattle.core_image.specs.Routing.{CanRoute}
-use Rattle.dim_hierarchy.specs.Dimension.{Dimension}
-use Rattle.dim_hierarchy.specs.declared.filter.Pick.{Pick}
-use Rattle.dim_hierarchy.specs.declared.row.Coord.{Coord}
-use Rattle.volap_cell.specs.Cells.{CellValue}
-use Rattle.volap_cell.specs.Values.{ActorValue}
+use Rattle.core_image.specs.{Asking.{CanAnswer, CanBeginQuery}, NotesDue.CanBeginInsert, Pulling.CanSync, Routing.CanRoute}
+use Rattle.dim_hierarchy.specs.{Dimension.Dimension, declared.filter.Pick.Pick, declared.row.Coord.Coord}
+use Rattle.volap_cell.specs.{Cells.CellValue, Values.ActorValue}
 
 abbrev pub BeginsInsert : List Dimension → Coord → List CellValue → ActorValue → Type 0
 BeginsInsert h at (image ∷ ledger ∷ []) a = CanBeginInsert h at image ledger a

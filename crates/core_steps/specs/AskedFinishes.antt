@@ -1,9 +1,7 @@
 -- What the steps ask that end a split and a move, of their cells as a list.
 use Rattle.std.specs.Prelude.{ℕ, List, [], ◌∷◌}
-use Rattle.core_admin.specs.FinishDue.{CanFinishHere, CanFinishMove}
-use Rattle.core_admin.specs.SplitDue.{CanFinishSplit}
-use Rattle.volap_cell.specs.Cells.{CellValue}
-use Rattle.volap_cell.specs.Values.{ActorValue}
+use Rattle.core_admin.specs.{FinishDue.{CanFinishHere, CanFinishMove}, SplitDue.CanFinishSplit}
+use Rattle.volap_cell.specs.{Cells.CellValue, Values.ActorValue}
 
 -- two tables, the two gates, the registry, the stock and the ledger
 abbrev pub EndsMove : ℕ → ℕ → List CellValue → ActorValue → Type 0

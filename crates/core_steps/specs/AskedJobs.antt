@@ -1,11 +1,7 @@
 -- What the steps ask that the administrator makes for a split or a move, of their cells as a list.
 use Rattle.std.specs.Prelude.{ℕ, List, [], ◌∷◌}
-use Rattle.core_admin.specs.BuildDue.{CanBuildTrees}
-use Rattle.core_admin.specs.CollectDue.{CanCollectBlock, CanCollectRow}
-use Rattle.core_admin.specs.FinishDue.{CanBuildBlock, CanPostpone}
-use Rattle.core_admin.specs.FreezeDue.{CanDrain, CanFreeze}
-use Rattle.volap_cell.specs.Cells.{CellValue}
-use Rattle.volap_cell.specs.Values.{ActorValue}
+use Rattle.core_admin.specs.{BuildDue.CanBuildTrees, CollectDue.{CanCollectBlock, CanCollectRow}, FinishDue.{CanBuildBlock, CanPostpone}, FreezeDue.{CanDrain, CanFreeze}}
+use Rattle.volap_cell.specs.{Cells.CellValue, Values.ActorValue}
 
 -- Freezing.
 

@@ -1,10 +1,8 @@
 -- What the steps ask that note a command's beginning or its end, of their cells as a list.
 use Rattle.std.specs.Prelude.{ℕ, List, [], ◌∷◌}
 use Rattle.core_image.specs.NotesDue.{CanFailQuery, CanFailRouted, CanFailUnrouted, CanNoteAsking, CanNoteCalled, CanNoteEnded, CanNoteLeft, CanNoteRefused, CanNoteUnknown}
-use Rattle.row_ledger.specs.declared.settings.Call.{Call}
-use Rattle.row_ledger.specs.declared.settings.How.{How}
-use Rattle.volap_cell.specs.Cells.{CellValue}
-use Rattle.volap_cell.specs.Values.{ActorValue}
+use Rattle.row_ledger.specs.{declared.settings.Call.Call, declared.settings.How.How}
+use Rattle.volap_cell.specs.{Cells.CellValue, Values.ActorValue}
 
 -- Beginnings.
 

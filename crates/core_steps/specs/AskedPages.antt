@@ -2,8 +2,7 @@
 use Rattle.std.specs.Prelude.{List, [], ◌∷◌}
 use Rattle.core_image.specs.NotesDue.{CanNoteShown}
 use Rattle.row_ledger.specs.declared.page.Page.{Page}
-use Rattle.volap_cell.specs.Cells.{CellValue}
-use Rattle.volap_cell.specs.Values.{ActorValue}
+use Rattle.volap_cell.specs.{Cells.CellValue, Values.ActorValue}
 
 abbrev pub NotesShown : Page → List CellValue → ActorValue → Type 0
 NotesShown page (ledger ∷ []) a = CanNoteShown page ledger a

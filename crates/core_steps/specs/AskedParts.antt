@@ -1,15 +1,10 @@
 -- What each kind of step of rows, queries and their parts asks, of its cells as a list.
 use Rattle.std.specs.Prelude.{ℕ, List, [], ◌∷◌, Option}
 use Rattle.core_shard.specs.Due.{CanExpand, CanFinishPart, CanForward, CanLookUp, CanTakePart}
-use Rattle.core_tree.specs.Descent.{CanDown, CanEnterTree, two_if}
-use Rattle.core_tree.specs.DueAtGates.{CanEnterQueue, CanGiveBack, CanLeaveTree, CanRefill}
-use Rattle.core_tree.specs.ReadDue.{CanBlockVisit, CanGateRead}
-use Rattle.core_steps.specs.HeldIf.{first_if, rest_if}
-use Rattle.core_steps.specs.declared.held.HeldIf.{HeldIf}
+use Rattle.core_tree.specs.{Descent.{CanDown, CanEnterTree, two_if}, DueAtGates.{CanEnterQueue, CanGiveBack, CanLeaveTree, CanRefill}, ReadDue.{CanBlockVisit, CanGateRead}}
+use Rattle.core_steps.specs.{HeldIf.{first_if, rest_if}, declared.held.HeldIf.HeldIf}
 use Rattle.dim_hierarchy.specs.Dimension.{Dimension}
-use Rattle.volap_cell.specs.Cells.{CellValue}
-use Rattle.volap_cell.specs.Values.{ActorValue}
-use Rattle.volap_cell.specs.World.{held_if}
+use Rattle.volap_cell.specs.{Cells.CellValue, Values.ActorValue, World.held_if}
 
 -- One cell.
 

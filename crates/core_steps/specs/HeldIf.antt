@@ -1,8 +1,7 @@
 -- Cells that a driver moves out at times only.
 use Rattle.std.specs.Prelude.{ℕ, Bool, true, false, List, [], ◌∷◌, Option, Some, None}
 use Rattle.core_steps.specs.declared.held.HeldIf.{HeldIf}
-use Rattle.volap_cell.specs.Cells.{CellValue}
-use Rattle.volap_cell.specs.State.{number_if}
+use Rattle.volap_cell.specs.{Cells.CellValue, State.number_if}
 
 -- its number, if it is wanted
 abbrev pub number_of : HeldIf → List ℕ

@@ -2,13 +2,7 @@
 use Rattle.std.specs.Prelude.{ℕ, ◌≡◌, List, Option}
 use Rattle.dim_hierarchy.specs.Dimension.{Dimension}
 use Rattle.row_ledger.specs.declared.page.Page.{Page}
-use Rattle.volap_cell.specs.Setting.{Setting}
-use Rattle.volap_cell.specs.Sights.{Sees}
-use Rattle.volap_cell.specs.State.{IsWorldOf}
-use Rattle.volap_cell.specs.Steps.{Inv}
-use Rattle.volap_cell.specs.World.{World}
-use Rattle.volap_cell.specs.declared.actor.Actor.{Actor}
-use Rattle.volap_cell.specs.declared.cell.Cell.{Cell}
+use Rattle.volap_cell.specs.{Setting.Setting, Sights.Sees, State.IsWorldOf, Steps.Inv, World.World, declared.actor.Actor.Actor, declared.cell.Cell.Cell}
 
 -- Whatever state the vectors are, if it meets the invariant over these dimensions, everyone but the actor is idle in it and the page
 -- is what it has.

@@ -1,26 +1,12 @@
 -- What the steps of a row onto a head ask for of the cells that they are given and of their actor, beyond that they are those of a state.
 use Rattle.std.specs.Prelude.{ℕ, ◌≡◌, ◌+◌, ◌^◌, ◌<◌, ◌≤◌, Bool, true, false, List, [], ◌∷◌, ◌++◌, Option, Some, slice_get, length, map as each, All}
-use Rattle.dim_hierarchy.specs.Dimension.{Dimension}
-use Rattle.dim_hierarchy.specs.Rows.{IsRowOf}
-use Rattle.dim_hierarchy.specs.declared.row.Row.{Row}
-use Rattle.cell_stock.specs.Stock.{PurseValue}
-use Rattle.cell_stock.specs.declared.purse.Spare.{Spare}
-use Rattle.dc_node.specs.Block.{is_full, entries_in, IsBodyOf}
-use Rattle.dc_node.specs.Summary.{row_count}
-use Rattle.dc_node.specs.declared.block.Block.{Block}
-use Rattle.dc_node.specs.declared.entry.Entry.{Entry}
-use Rattle.link_descent.specs.Divide.{together}
-use Rattle.link_descent.specs.Pick.{IsPick}
+use Rattle.dim_hierarchy.specs.{Dimension.Dimension, Rows.IsRowOf, declared.row.Row.Row}
+use Rattle.cell_stock.specs.{Stock.PurseValue, declared.purse.Spare.Spare}
+use Rattle.dc_node.specs.{Block.{is_full, entries_in, IsBodyOf}, Summary.row_count, declared.block.Block.Block, declared.entry.Entry.Entry}
+use Rattle.link_descent.specs.{Divide.together, Pick.IsPick}
 use Rattle.mapping_table.specs.declared.place.Where.TheVariants as where_is
-use Rattle.shard_store.specs.declared.gate.Gate.{Gate}
-use Rattle.shard_store.specs.declared.gate.Phase.TheVariants.{Open}
-use Rattle.volap_cell.specs.Cells.{CellValue, BlockCell, GateCell, block_in}
-use Rattle.volap_cell.specs.Errands.{is_filled}
-use Rattle.volap_cell.specs.NewBlocks.{FitsIn, WentIn}
-use Rattle.volap_cell.specs.TreeKinds.{HasRow, IsTailOf, Leads}
-use Rattle.volap_cell.specs.Values.{ActorValue, ErrandValue}
-use Rattle.volap_cell.specs.World.{Change, MustKeep, held, held_if}
-use Rattle.volap_cell.specs.declared.errand.RowErrand.{RowErrand}
+use Rattle.shard_store.specs.{declared.gate.Gate.Gate, declared.gate.Phase.TheVariants.Open}
+use Rattle.volap_cell.specs.{Cells.{CellValue, BlockCell, GateCell, block_in}, Errands.is_filled, NewBlocks.{FitsIn, WentIn}, TreeKinds.{HasRow, IsTailOf, Leads}, Values.{ActorValue, ErrandValue}, World.{Change, MustKeep, held, held_if}, declared.errand.RowErrand.RowErrand}
 
 -- The blocks behind a head, which are held at times and stay as they are.
 

@@ -1,31 +1,16 @@
 -- What the steps of a query's part ask of the cells that they are given and of their actor, beyond that they are those of a
 -- state; and what their inner functions ask and do.
-use Rattle.std.specs.Prelude.{ℕ, ◌≡◌, ◌≢◌, ◌+◌, ◌<◌, ◌^◌, List, [], ◌∷◌, ◌++◌, Option, Some, None, IsSome, length}
+use Rattle.std.specs.{Ordering.nat_cmp, Prelude.{ℕ, ◌≡◌, ◌≢◌, ◌+◌, ◌<◌, ◌^◌, List, [], ◌∷◌, ◌++◌, Option, Some, None, IsSome, length}}
 use Rattle.std.specs.FinMap as map
-use Rattle.std.specs.Ordering.{nat_cmp}
-use Rattle.dim_hierarchy.specs.Compiled.{compiled}
-use Rattle.dim_hierarchy.specs.Dimension.{Dimension}
-use Rattle.dim_hierarchy.specs.Filter.{IsFilterOf, pick_at}
-use Rattle.dim_hierarchy.specs.declared.filter.Pick.{Pick}
-use Rattle.dim_hierarchy.specs.declared.filter.Pick.TheVariants.{All}
+use Rattle.dim_hierarchy.specs.{Compiled.compiled, Dimension.Dimension, Filter.{IsFilterOf, pick_at}, declared.filter.Pick.Pick, declared.filter.Pick.TheVariants.All}
 use Rattle.describing_set.specs.Sets.{IsDescSetOf}
-use Rattle.dc_node.specs.Block.{IsBodyOf}
-use Rattle.dc_node.specs.Summary.{row_count}
-use Rattle.dc_node.specs.declared.block.Block.{Block}
-use Rattle.dc_node.specs.declared.todo.Item.{Item}
-use Rattle.link_descent.specs.GateRead.{queue_part, tree_part, root_items}
-use Rattle.link_descent.specs.Visit.{noted_in, noted_right, counted}
+use Rattle.dc_node.specs.{Block.IsBodyOf, Summary.row_count, declared.block.Block.Block, declared.todo.Item.Item}
+use Rattle.link_descent.specs.{GateRead.{queue_part, tree_part, root_items}, Visit.{noted_in, noted_right, counted}}
 use Rattle.mapping_table.specs.declared.place.Where.{Where}
 use Rattle.mapping_table.specs.declared.place.Where.TheVariants as where_is
 use Rattle.measure_agg.specs.Joining.{join}
-use Rattle.shard_store.specs.Gate.{IsQueueOf}
-use Rattle.shard_store.specs.declared.gate.Gate.{Gate}
-use Rattle.volap_cell.specs.Cells.{CellValue, MapCell}
-use Rattle.volap_cell.specs.TreeKinds.{one_if_some, pin_if}
-use Rattle.volap_cell.specs.Values.{ActorValue, ErrandValue, ReadingValue, Unread, Read}
-use Rattle.volap_cell.specs.declared.actor.Actor.{Actor}
-use Rattle.volap_cell.specs.declared.errand.Errand.{Errand}
-use Rattle.volap_cell.specs.declared.errand.Task.{Task}
+use Rattle.shard_store.specs.{Gate.IsQueueOf, declared.gate.Gate.Gate}
+use Rattle.volap_cell.specs.{Cells.{CellValue, MapCell}, TreeKinds.{one_if_some, pin_if}, Values.{ActorValue, ErrandValue, ReadingValue, Unread, Read}, declared.actor.Actor.Actor, declared.errand.Errand.Errand, declared.errand.Task.Task}
 use Rattle.volap_cell.specs.declared.errand.Task.TheVariants as task
 
 -- Visits.

@@ -1,11 +1,9 @@
 -- Counters whose sum stays.
-use Rattle.std.specs.Prelude.{◌≡◌, ℕ, List, []}
-use Rattle.std.specs.List.{sum}
+use Rattle.std.specs.{List.sum, Prelude.{◌≡◌, ℕ, List, []}}
 use mathlib.Core.Path.{◌∙◌, refl}
 use mathlib.Core.Option.{some}
 use lib.ListN.{get_elem?}
-use Rattle.turn_table.specs.Numbered.{value_of, HaveOwnNumbers, write_all}
-use Rattle.turn_table.specs.Law.{IsLawful}
+use Rattle.turn_table.specs.{Law.IsLawful, Numbered.{value_of, HaveOwnNumbers, write_all}}
 
 -- the sum of all counters
 abbrev pub whole : ℕ

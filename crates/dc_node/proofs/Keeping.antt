@@ -1,22 +1,10 @@
 -- The places of the rows that a filter matches, found dimension by dimension.
-use Rattle.std.proofs.Common.{ℕ, zero, suc, ◌≡◌, ◌+◌, ◌<◌, ◌≤◌, Bool, true, false, cond, List, [], ◌∷◌, ◌++◌, map, length, get_or, take, drop, refl, sym, ap, subst, ◌∙◌, arith}
-use Rattle.std.specs.Prelude.{All, filter, ◌&&◌}
-use Rattle.std.specs.List.{range_with_len}
-use Rattle.std.proofs.lemmas.List.{take_more, map_push}
-use Rattle.std.proofs.lemmas.List.FromFn.{length-range_with_len, get_or-range_with_len}
-use Rattle.std.proofs.lemmas.List.Elements.{filter_agree, All-filter}
-use Rattle.dim_hierarchy.specs.declared.row.Row.{Row}
-use Rattle.dim_hierarchy.specs.declared.filter.Pick.{Pick}
-use Rattle.dim_hierarchy.specs.Tree.{IsLeaf}
-use Rattle.dim_hierarchy.specs.Dimension.{Dimension, tree}
-use Rattle.dim_hierarchy.specs.Row.{concept_at}
-use Rattle.dim_hierarchy.specs.Rows.{IsRowOf}
-use Rattle.dim_hierarchy.specs.Filter.{in_each, is_picked, matches, pick_at}
+use Rattle.std.proofs.{Common.{ℕ, zero, suc, ◌≡◌, ◌+◌, ◌<◌, ◌≤◌, Bool, true, false, cond, List, [], ◌∷◌, ◌++◌, map, length, get_or, take, drop, refl, sym, ap, subst, ◌∙◌, arith}, lemmas.List.{take_more, map_push}, lemmas.List.Elements.{filter_agree, All-filter}, lemmas.List.FromFn.{length-range_with_len, get_or-range_with_len}}
+use Rattle.std.specs.{List.range_with_len, Prelude.{All, filter, ◌&&◌}}
+use Rattle.dim_hierarchy.specs.{Dimension.{Dimension, tree}, Filter.{in_each, is_picked, matches, pick_at}, Row.concept_at, Rows.IsRowOf, Tree.IsLeaf, declared.filter.Pick.Pick, declared.row.Row.Row}
 use Rattle.dim_hierarchy.proofs.Matching.{picked-step, picked-end}
-use Rattle.measure_agg.specs.Aggregate.{Aggregate, agg}
-use Rattle.measure_agg.specs.Joining.{join}
-use Rattle.dc_node.specs.declared.columns.Columns.{Columns}
-use Rattle.dc_node.specs.Columns.{id_at, coord_at, row_at, rows_in_columns}
+use Rattle.measure_agg.specs.{Aggregate.{Aggregate, agg}, Joining.join}
+use Rattle.dc_node.specs.{Columns.{id_at, coord_at, row_at, rows_in_columns}, declared.columns.Columns.Columns}
 use Rattle.dc_node.proofs.Rows.{row_fact}
 
 -- Filters of lists.

@@ -1,10 +1,7 @@
 -- An entry put in place of another.
-use Rattle.std.proofs.Common.{◌≡◌, ℕ, ◌+◌, ◌<◌, List, [], ◌∷◌, ◌++◌, length, take, drop, sym, ap, ◌∙◌, add-one, append_assoc}
-use Rattle.std.specs.List.{refill}
-use Rattle.std.specs.Prelude.{slice_set}
-use Rattle.std.proofs.lemmas.List.{take_at, length-set, set_split}
-use Rattle.dc_node.specs.Block.{replaced}
-use Rattle.dc_node.specs.declared.entry.Entry.{Entry}
+use Rattle.std.proofs.{Common.{◌≡◌, ℕ, ◌+◌, ◌<◌, List, [], ◌∷◌, ◌++◌, length, take, drop, sym, ap, ◌∙◌, add-one, append_assoc}, lemmas.List.{take_at, length-set, set_split}}
+use Rattle.std.specs.{List.refill, Prelude.slice_set}
+use Rattle.dc_node.specs.{Block.replaced, declared.entry.Entry.Entry}
 
 -- a write of one entry
 pub set-entry : (xs : List Entry) (place : ℕ) (e : Entry) → place < length xs → slice_set xs place e ≡ replaced xs place (e ∷ [])

@@ -1,15 +1,8 @@
 -- Rows by columns as a list.
-use Rattle.std.proofs.Common.{ℕ, zero, suc, ◌≡◌, ◌≢◌, ◌+◌, ◌<◌, ℤ, pos, List, [], ◌∷◌, ◌++◌, Some, map, length, get_or, set, refl, ap, subst, ◌∙◌, arith}
-use Rattle.std.specs.Prelude.{All, slice_get}
-use Rattle.std.specs.List.{range_with_len}
-use Rattle.std.proofs.lemmas.List.{get_or-set_same, get_or-set_other}
-use Rattle.std.proofs.lemmas.List.FromFn.{length-map-range_with_len, get_or-map-range_with_len, map-range_with_len_more}
-use Rattle.std.proofs.lemmas.Option.{slice_get-get_or}
-use Rattle.dim_hierarchy.specs.Row.{concept_at}
-use Rattle.dim_hierarchy.specs.declared.row.Row.{Row}
-use Rattle.dim_hierarchy.specs.declared.row.Coord.{Coord}
-use Rattle.dc_node.specs.declared.columns.Columns.{Columns}
-use Rattle.dc_node.specs.Columns.{id_at, coord_at, row_at, rows_in_columns, IsPut}
+use Rattle.std.proofs.{Common.{ℕ, zero, suc, ◌≡◌, ◌≢◌, ◌+◌, ◌<◌, ℤ, pos, List, [], ◌∷◌, ◌++◌, Some, map, length, get_or, set, refl, ap, subst, ◌∙◌, arith}, lemmas.List.{get_or-set_same, get_or-set_other}, lemmas.List.FromFn.{length-map-range_with_len, get_or-map-range_with_len, map-range_with_len_more}, lemmas.Option.slice_get-get_or}
+use Rattle.std.specs.{List.range_with_len, Prelude.{All, slice_get}}
+use Rattle.dim_hierarchy.specs.{Row.concept_at, declared.row.Coord.Coord, declared.row.Row.Row}
+use Rattle.dc_node.specs.{Columns.{id_at, coord_at, row_at, rows_in_columns, IsPut}, declared.columns.Columns.Columns}
 
 pub length_rows : (c : Columns) (k : ℕ) → length (rows_in_columns c k) ≡ k
 length_rows c k = length-map-range_with_len (row_at c) 0 k

@@ -1,24 +1,11 @@
 -- The aggregate and the set of several lists of rows together.
-use Rattle.std.proofs.Common.{◌≡◌, ℕ, ◌+◌, ◌<◌, ◌≤◌, List, [], ◌∷◌, ◌++◌, length, map, take, drop, get_or, refl, sym, ap, subst, ◌∙◌, arith, append-nil}
-use Rattle.std.specs.Prelude.{All, IsPermutation}
-use Rattle.std.specs.List.{AllZip, flat_map}
-use Rattle.std.proofs.lemmas.List.{take_more, map_push, map-append, take-append-drop}
-use Rattle.std.proofs.lemmas.List.Concat.{flat_map-append}
-use Rattle.std.proofs.lemmas.List.Elements.{All-nil, All-append, All-map, All-take, All-push}
-use Rattle.std.proofs.lemmas.List.Sorted.{All-permutation, IsPermutation-map, IsPermutation-sym, IsPermutation-to_front, Contains-permutation}
-use Rattle.dim_hierarchy.specs.declared.row.Row.{Row}
-use Rattle.dim_hierarchy.specs.declared.row.Coord.{Coord}
-use Rattle.dim_hierarchy.specs.Dimension.{Dimension}
-use Rattle.dim_hierarchy.specs.Row.{IsCoordOf}
-use Rattle.dim_hierarchy.specs.Rows.{IsRowOf}
+use Rattle.std.proofs.{Common.{◌≡◌, ℕ, ◌+◌, ◌<◌, ◌≤◌, List, [], ◌∷◌, ◌++◌, length, map, take, drop, get_or, refl, sym, ap, subst, ◌∙◌, arith, append-nil}, lemmas.List.{take_more, map_push, map-append, take-append-drop}, lemmas.List.Concat.flat_map-append, lemmas.List.Elements.{All-nil, All-append, All-map, All-take, All-push}, lemmas.List.Sorted.{All-permutation, IsPermutation-map, IsPermutation-sym, IsPermutation-to_front, Contains-permutation}}
+use Rattle.std.specs.{List.{AllZip, flat_map}, Prelude.{All, IsPermutation}}
+use Rattle.dim_hierarchy.specs.{Dimension.Dimension, Row.IsCoordOf, Rows.IsRowOf, declared.row.Coord.Coord, declared.row.Row.Row}
 use Rattle.measure_agg.proofs.AggLaws.{agg-one}
-use Rattle.measure_agg.specs.Aggregate.{Aggregate, agg}
-use Rattle.measure_agg.specs.Joining.{one, join}
-use Rattle.describing_set.specs.DescSet.{IsSetOf}
-use Rattle.describing_set.specs.Sets.{GrowsBy, JoinsTo, AreAmong}
-use Rattle.describing_set.specs.declared.set.DescSet.{DescSet}
-use Rattle.dc_node.specs.Summary.{coords, aggs, joined, IsSummaryOf, IsUnionOf}
-use Rattle.dc_node.specs.declared.entry.Entry.{Entry}
+use Rattle.measure_agg.specs.{Aggregate.{Aggregate, agg}, Joining.{one, join}}
+use Rattle.describing_set.specs.{DescSet.IsSetOf, Sets.{GrowsBy, JoinsTo, AreAmong}, declared.set.DescSet.DescSet}
+use Rattle.dc_node.specs.{Summary.{coords, aggs, joined, IsSummaryOf, IsUnionOf}, declared.entry.Entry.Entry}
 
 -- The laws of sets and of aggregates, as the calls that state them say them.
 

@@ -1,8 +1,6 @@
 -- Rows that are kept by columns.
-use Rattle.std.specs.Prelude.{ℕ, ◌≡◌, ◌≢◌, ◌<◌, pos, List, [], ◌∷◌, map, length, slice_index}
-use Rattle.std.specs.List.{slice_index_or, range_with_len}
-use Rattle.dim_hierarchy.specs.declared.row.Row.{Row}
-use Rattle.dim_hierarchy.specs.declared.row.Coord.{Coord}
+use Rattle.std.specs.{List.{slice_index_or, range_with_len}, Prelude.{ℕ, ◌≡◌, ◌≢◌, ◌<◌, pos, List, [], ◌∷◌, map, length, slice_index}}
+use Rattle.dim_hierarchy.specs.{declared.row.Coord.Coord, declared.row.Row.Row}
 use Rattle.dc_node.specs.declared.columns.Columns.{Columns}
 
 -- the concept at a place of the column of a dimension

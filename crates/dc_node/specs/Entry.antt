@@ -1,7 +1,6 @@
 -- An entry that counts one row more.
 use Rattle.std.specs.Prelude.{ℕ, ◌≡◌, List, slice_get, slice_set, Some}
-use Rattle.dim_hierarchy.specs.declared.row.Row.{Row}
-use Rattle.dim_hierarchy.specs.Dimension.{Dimension}
+use Rattle.dim_hierarchy.specs.{Dimension.Dimension, declared.row.Row.Row}
 use Rattle.measure_agg.specs.Joining.{join, one}
 use Rattle.describing_set.specs.Sets.{GrowsBy, IsDescSetOf}
 use Rattle.dc_node.specs.declared.entry.Entry.{Entry}

@@ -1,18 +1,9 @@
 -- The aggregate and the describing set of the rows of several items.
-use Rattle.std.specs.Prelude.{ℕ, ◌≡◌, List, [], ◌∷◌, map, All}
-use Rattle.std.specs.List.{AllZip, flat_map}
-use Rattle.dim_hierarchy.specs.declared.row.Row.{Row}
-use Rattle.dim_hierarchy.specs.declared.row.Coord.{Coord}
-use Rattle.dim_hierarchy.specs.Dimension.{Dimension}
-use Rattle.dim_hierarchy.specs.Row.{IsCoordOf}
-use Rattle.dim_hierarchy.specs.Rows.{IsRowOf}
-use Rattle.measure_agg.specs.Aggregate.{Aggregate, agg}
-use Rattle.measure_agg.specs.Joining.{join}
-use Rattle.describing_set.specs.DescSet.{IsSetOf}
-use Rattle.describing_set.specs.declared.set.DescSet.{DescSet}
-use Rattle.dc_node.specs.declared.block.Body.{Body}
-use Rattle.dc_node.specs.declared.block.Body.TheVariants.{Rows, Entries}
-use Rattle.dc_node.specs.declared.entry.Entry.{Entry}
+use Rattle.std.specs.{List.{AllZip, flat_map}, Prelude.{ℕ, ◌≡◌, List, [], ◌∷◌, map, All}}
+use Rattle.dim_hierarchy.specs.{Dimension.Dimension, Row.IsCoordOf, Rows.IsRowOf, declared.row.Coord.Coord, declared.row.Row.Row}
+use Rattle.measure_agg.specs.{Aggregate.{Aggregate, agg}, Joining.join}
+use Rattle.describing_set.specs.{DescSet.IsSetOf, declared.set.DescSet.DescSet}
+use Rattle.dc_node.specs.{declared.block.Body.Body, declared.block.Body.TheVariants.{Rows, Entries}, declared.entry.Entry.Entry}
 
 -- the coordinates of rows
 abbrev pub coords : List Row → List Coord

@@ -1,24 +1,10 @@
 -- Tests along the dimensions, and what a set covers.
-use Rattle.std.proofs.Common.{ℕ, zero, suc, ◌≡◌, ◌+◌, ◌<◌, ◌≤◌, Bool, if◌then◌else◌, true, false, eqb, List, [], ◌∷◌, length, map, get_or, refl, sym, ap, subst, ◌∙◌, arith, inl, inr, Contains, eq-eqb, sum}
-use Rattle.std.specs.Prelude.{◌↔◌, IsTrue}
-use Rattle.std.specs.List.{list_any, range_with_len}
-use Rattle.std.proofs.lemmas.Bool.{and_parts, and_from, cases_lt, eqb-true, false≢true}
-use Rattle.std.proofs.lemmas.List.Folds.{Any-from_list_any, list_any_at}
-use Rattle.std.proofs.lemmas.List.FromFn.{sum_by-map-range_with_len_more}
-use Rattle.dim_hierarchy.specs.Tree.{Tree, up, leaf_level}
-use Rattle.dim_hierarchy.specs.Dimension.{Dimension, tree}
-use Rattle.dim_hierarchy.specs.Row.{IsCoordOf, concept_at}
-use Rattle.dim_hierarchy.specs.Filter.{in_each}
-use Rattle.dim_hierarchy.specs.declared.row.Coord.{Coord}
+use Rattle.std.proofs.{Common.{ℕ, zero, suc, ◌≡◌, ◌+◌, ◌<◌, ◌≤◌, Bool, if◌then◌else◌, true, false, eqb, List, [], ◌∷◌, length, map, get_or, refl, sym, ap, subst, ◌∙◌, arith, inl, inr, Contains, eq-eqb, sum}, lemmas.Bool.{and_parts, and_from, cases_lt, eqb-true, false≢true}, lemmas.List.Folds.{Any-from_list_any, list_any_at}, lemmas.List.FromFn.sum_by-map-range_with_len_more}
+use Rattle.std.specs.{List.{list_any, range_with_len}, Prelude.{◌↔◌, IsTrue}}
+use Rattle.dim_hierarchy.specs.{Dimension.{Dimension, tree}, Filter.in_each, Row.{IsCoordOf, concept_at}, Tree.{Tree, up, leaf_level}, declared.row.Coord.Coord}
 use Rattle.dim_hierarchy.proofs.Matching.{IsCoordOf-length}
-use Rattle.describing_set.specs.Sorted.{In}
-use Rattle.describing_set.specs.declared.part.Part.{Part}
-use Rattle.describing_set.specs.declared.set.DescSet.{DescSet}
-use Rattle.describing_set.specs.Part.{part, ancestors, has_ancestor}
-use Rattle.describing_set.specs.DescSet.{part_at, column, IsSetOf, covers}
-use Rattle.describing_set.specs.Sets.{Covers, growth_at}
-use Rattle.describing_set.proofs.Sorted.{Contains-from_In}
-use Rattle.describing_set.proofs.Parts.{deepest, In-ancestors}
+use Rattle.describing_set.specs.{DescSet.{part_at, column, IsSetOf, covers}, Part.{part, ancestors, has_ancestor}, Sets.{Covers, growth_at}, Sorted.In, declared.part.Part.Part, declared.set.DescSet.DescSet}
+use Rattle.describing_set.proofs.{Parts.{deepest, In-ancestors}, Sorted.Contains-from_In}
 
 -- Tests along the dimensions.
 

@@ -1,8 +1,6 @@
 -- Places of which the first few are used, with one more used, or one of these changed.
-use Rattle.std.proofs.Common.{ℕ, suc, ◌≡◌, ◌+◌, ◌-◌, ◌<◌, List, [], ◌∷◌, ◌++◌, length, take, set, get_or, refl, sym, ap, subst, ◌∙◌, arith, length-append, append_assoc}
+use Rattle.std.proofs.{Common.{ℕ, suc, ◌≡◌, ◌+◌, ◌-◌, ◌<◌, List, [], ◌∷◌, ◌++◌, length, take, set, get_or, refl, sym, ap, subst, ◌∙◌, arith, length-append, append_assoc}, Math.Seq.take-set-lt, lemmas.List.{length-set, set-append_left, take_more_set, get_or_default}}
 use Rattle.std.specs.Prelude.{replicate}
-use Rattle.std.proofs.lemmas.List.{length-set, set-append_left, take_more_set, get_or_default}
-use Rattle.std.proofs.Math.Seq.{take-set-lt}
 use Rattle.describing_set.specs.Places.{AreFilled}
 
 -- One place more is used.

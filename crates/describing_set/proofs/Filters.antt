@@ -1,32 +1,11 @@
 -- What the tests of a set against a filter say of the coordinates that the set covers.
-use Rattle.std.proofs.Common.{ℕ, ◌≡◌, ◌≢◌, ◌+◌, ◌-◌, ◌<◌, ◌≤◌, Bool, true, false, nat_lt, List, [], ◌∷◌, length, get_or, refl, sym, ap, subst, ◌∙◌, arith, inl, inr, Contains, ◌||◌, ◌⊎◌}
-use Rattle.std.specs.Prelude.{All as Each, Any, ◌↔◌, IsTrue, ◌&&◌, if◌then◌else◌}
-use Rattle.std.specs.List.{list_any, list_all}
-use Rattle.std.proofs.lemmas.Bool.{and_parts, and_from, cases_lt, false≢true, lt-ltb, ltb-true}
-use Rattle.std.proofs.lemmas.List.Folds.{Any-from_list_any, list_any-from_Any}
-use Rattle.std.proofs.lemmas.List.Elements.{All-contains, All-head, All-tail, All-cons, All-nil}
-use Rattle.dim_hierarchy.specs.Tree.{Tree, IsConcept, IsTree, is_under, up, climb}
-use Rattle.dim_hierarchy.specs.Meaning.{IsUnder, IsPicked, Matches}
-use Rattle.dim_hierarchy.specs.Dimension.{Dimension, tree}
-use Rattle.dim_hierarchy.specs.Row.{concept_at}
-use Rattle.dim_hierarchy.specs.Filter.{in_each, pick_at, is_picked, IsPickOf, IsFilterOf}
-use Rattle.dim_hierarchy.specs.declared.row.Coord.{Coord}
-use Rattle.dim_hierarchy.specs.declared.filter.Pick.{Pick}
-use Rattle.dim_hierarchy.specs.declared.filter.Pick.TheVariants.{All, Ids}
-use Rattle.dim_hierarchy.proofs.Ancestors.{climb-climb, IsUnder-trans, under_up, is_under-IsUnder}
-use Rattle.dim_hierarchy.proofs.Matching.{is_picked-IsPicked}
-use Rattle.describing_set.specs.declared.part.Part.{Part}
-use Rattle.describing_set.specs.declared.set.DescSet.{DescSet}
-use Rattle.describing_set.specs.declared.bearing.Bearing.{Bearing}
+use Rattle.std.proofs.{Common.{ℕ, ◌≡◌, ◌≢◌, ◌+◌, ◌-◌, ◌<◌, ◌≤◌, Bool, true, false, nat_lt, List, [], ◌∷◌, length, get_or, refl, sym, ap, subst, ◌∙◌, arith, inl, inr, Contains, ◌||◌, ◌⊎◌}, lemmas.Bool.{and_parts, and_from, cases_lt, false≢true, lt-ltb, ltb-true}, lemmas.List.Elements.{All-contains, All-head, All-tail, All-cons, All-nil}, lemmas.List.Folds.{Any-from_list_any, list_any-from_Any}}
+use Rattle.std.specs.{List.{list_any, list_all}, Prelude.{All as Each, Any, ◌↔◌, IsTrue, ◌&&◌, if◌then◌else◌}}
+use Rattle.dim_hierarchy.specs.{Compiled.is_related, Dimension.{Dimension, tree}, Filter.{in_each, pick_at, is_picked, IsPickOf, IsFilterOf}, Meaning.{IsUnder, IsPicked, Matches}, Row.concept_at, Tree.{Tree, IsConcept, IsTree, is_under, up, climb}, declared.filter.Pick.Pick, declared.filter.Pick.TheVariants.{All, Ids}, declared.row.Coord.Coord}
+use Rattle.dim_hierarchy.proofs.{Ancestors.{climb-climb, IsUnder-trans, under_up, is_under-IsUnder}, Marking.any_or, Matching.is_picked-IsPicked}
+use Rattle.describing_set.specs.{DescSet.part_at, Filter.{IsInside, is_part_inside, is_inside, AreRelated, are_related, IsMet, is_met, is_part_met, Overlaps, overlaps, IsMetFrom, IsBearing, bearing}, Sets.{IsDescSetOf, Covers}, declared.bearing.Bearing.Bearing, declared.part.Part.Part, declared.set.DescSet.DescSet}
 use Rattle.describing_set.specs.declared.bearing.Bearing.TheVariants as it
-use Rattle.describing_set.specs.DescSet.{part_at}
-use Rattle.describing_set.specs.Sets.{IsDescSetOf, Covers}
-use Rattle.dim_hierarchy.specs.Compiled.{is_related}
-use Rattle.describing_set.specs.Filter.{IsInside, is_part_inside, is_inside, AreRelated, are_related, IsMet, is_met, is_part_met, Overlaps, overlaps, IsMetFrom, IsBearing, bearing}
-use Rattle.describing_set.proofs.Covering.{test_at, in_each-from, in_each-at, in_each-fails, IsSetOf-Covers}
-use Rattle.describing_set.proofs.Sets.{part_at-IsPart, IsPart-concepts}
-use Rattle.describing_set.proofs.Laws.{IsSetOf-Describes}
-use Rattle.dim_hierarchy.proofs.Marking.{any_or}
+use Rattle.describing_set.proofs.{Covering.{test_at, in_each-from, in_each-at, in_each-fails, IsSetOf-Covers}, Laws.IsSetOf-Describes, Sets.{part_at-IsPart, IsPart-concepts}}
 
 -- Inside.
 

@@ -1,24 +1,10 @@
 -- A set depends on which coordinates occur alone, there is one such set, and more coordinates have a wider one.
-use Rattle.std.proofs.Common.{ℕ, suc, ◌≡◌, ◌<◌, ◌≤◌, List, [], ◌∷◌, length, get_or, refl, sym, ap, subst, ◌∙◌, arith, inl, inr, Contains}
+use Rattle.std.proofs.{Common.{ℕ, suc, ◌≡◌, ◌<◌, ◌≤◌, List, [], ◌∷◌, length, get_or, refl, sym, ap, subst, ◌∙◌, arith, inl, inr, Contains}, lemmas.Bool.cases_lt, lemmas.List.Elements.All-contains_itself}
 use Rattle.std.specs.Prelude.{All as Each}
-use Rattle.std.proofs.lemmas.Bool.{cases_lt}
-use Rattle.std.proofs.lemmas.List.Elements.{All-contains_itself}
-use Rattle.dim_hierarchy.specs.Concept.{level_of}
-use Rattle.dim_hierarchy.specs.Tree.{leaf_level, up}
-use Rattle.dim_hierarchy.specs.Dimension.{Dimension, IsHierarchy, tree}
-use Rattle.dim_hierarchy.specs.Row.{IsCoordOf, concept_at}
-use Rattle.dim_hierarchy.specs.declared.row.Coord.{Coord}
+use Rattle.dim_hierarchy.specs.{Concept.level_of, Dimension.{Dimension, IsHierarchy, tree}, Row.{IsCoordOf, concept_at}, Tree.{leaf_level, up}, declared.row.Coord.Coord}
 use Rattle.dim_hierarchy.proofs.Ancestors.{up-up}
-use Rattle.describing_set.specs.Sorted.{In}
-use Rattle.describing_set.specs.declared.part.Part.{Part}
-use Rattle.describing_set.specs.declared.set.DescSet.{DescSet}
-use Rattle.describing_set.specs.Part.{part, ancestors}
-use Rattle.describing_set.specs.DescSet.{part_at, column, IsSetOf}
-use Rattle.describing_set.specs.Sets.{IsDescSetOf, Covers, Describes, AreAmong}
-use Rattle.describing_set.proofs.Sorted.{Contains-from_In, In-from_Contains, Ascends-IsStrictlyIncreasing}
-use Rattle.describing_set.proofs.Parts.{IsDeepest, deepest, part_from-same, ancestors-source, In-ancestors, AreBeside-within, length-ancestors-within}
-use Rattle.describing_set.proofs.Sets.{part_at-IsPart, part_at-level, column-AreConcepts}
-use Rattle.describing_set.proofs.Covering.{column-In, IsSetOf-Covers}
+use Rattle.describing_set.specs.{DescSet.{part_at, column, IsSetOf}, Part.{part, ancestors}, Sets.{IsDescSetOf, Covers, Describes, AreAmong}, Sorted.In, declared.part.Part.Part, declared.set.DescSet.DescSet}
+use Rattle.describing_set.proofs.{Covering.{column-In, IsSetOf-Covers}, Parts.{IsDeepest, deepest, part_from-same, ancestors-source, In-ancestors, AreBeside-within, length-ancestors-within}, Sets.{part_at-IsPart, part_at-level, column-AreConcepts}, Sorted.{Contains-from_In, In-from_Contains, Ascends-IsStrictlyIncreasing}}
 
 -- a coordinate with this concept
 record RowAt (rows : List Coord) (dim id : ℕ) : Type 0 where

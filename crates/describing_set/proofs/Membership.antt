@@ -1,13 +1,8 @@
 -- Membership in six places, read without a count.
-use Rattle.std.proofs.Common.{ℕ, zero, suc, ◌≡◌, ◌≢◌, ◌-◌, ◌<◌, List, [], ◌∷◌, ◌++◌, length, take, Bool, true, false, eqb, refl, sym, ap, ◌∙◌, arith, get_or, inl, inr}
-use Rattle.std.specs.Prelude.{◌||◌, replicate}
-use Rattle.std.specs.List.{list_any}
-use Rattle.std.proofs.lemmas.Bool.{eqb-true}
-use Rattle.std.proofs.lemmas.List.{get_or_default}
+use Rattle.std.proofs.{Common.{ℕ, zero, suc, ◌≡◌, ◌≢◌, ◌-◌, ◌<◌, List, [], ◌∷◌, ◌++◌, length, take, Bool, true, false, eqb, refl, sym, ap, ◌∙◌, arith, get_or, inl, inr}, lemmas.Bool.eqb-true, lemmas.List.get_or_default}
+use Rattle.std.specs.{List.list_any, Prelude.{◌||◌, replicate}}
 use Rattle.dim_hierarchy.specs.Tree.{Tree, IsConcept, IsTree}
-use Rattle.describing_set.specs.Ascending.{with_id}
-use Rattle.describing_set.specs.Sorted.{In, Ascends}
-use Rattle.describing_set.specs.Places.{no_concept, AreFew}
+use Rattle.describing_set.specs.{Ascending.with_id, Places.{no_concept, AreFew}, Sorted.{In, Ascends}}
 use Rattle.describing_set.proofs.Sorted.{with_id-here, with_id-after, Below-In}
 
 -- no concept of a tree has the number of none

@@ -1,19 +1,9 @@
 -- The part of a list of concepts: that it is the deepest with at most six, and how it grows.
-use Rattle.std.proofs.Common.{ℕ, zero, suc, ◌≡◌, ◌+◌, ◌-◌, ◌<◌, ◌≤◌, true, false, nat_le, List, [], ◌∷◌, ◌++◌, length, map, take, get_or, refl, sym, ap, subst, ◌∙◌, arith, inl, inr, ◌⊎◌}
-use Rattle.std.proofs.lemmas.Bool.Decides.{nat_tests}
-use Rattle.std.proofs.lemmas.List.{length-map, take_more, take_all}
-use Rattle.std.proofs.lemmas.Bool.{cases_lt}
-use Rattle.std.proofs.Math.Nat.{eq-or-lt_of_le}
-use Rattle.dim_hierarchy.specs.Concept.{level_of}
-use Rattle.dim_hierarchy.specs.Tree.{Tree, IsConcept, IsTree, up}
+use Rattle.std.proofs.{Common.{ℕ, zero, suc, ◌≡◌, ◌+◌, ◌-◌, ◌<◌, ◌≤◌, true, false, nat_le, List, [], ◌∷◌, ◌++◌, length, map, take, get_or, refl, sym, ap, subst, ◌∙◌, arith, inl, inr, ◌⊎◌}, Math.Nat.eq-or-lt_of_le, lemmas.Bool.cases_lt, lemmas.Bool.Decides.nat_tests, lemmas.List.{length-map, take_more, take_all}}
+use Rattle.dim_hierarchy.specs.{Concept.level_of, Tree.{Tree, IsConcept, IsTree, up}}
 use Rattle.dim_hierarchy.proofs.Ancestors.{up-up, up-IsConcept, level_of-up, concept_at_top}
-use Rattle.describing_set.specs.Ascending.{with_id}
-use Rattle.describing_set.specs.Sorted.{In, Ascends}
-use Rattle.describing_set.specs.declared.part.Part.{Part}
-use Rattle.describing_set.specs.Part.{part, part_from, ancestors}
-use Rattle.describing_set.specs.Parts.{AreConcepts, IsPart, GrowsPart, JoinsParts}
-use Rattle.describing_set.proofs.Membership.{with_id-member}
-use Rattle.describing_set.proofs.Sorted.{length-ascending-within, In-take, In-append_left, In-append_right, In-append_cases, In-map, In-map-source, Source, In-ascending, In-from_ascending, In-with_id-cases, ascending-same, Ascends-ascending, Ascends-with_id, length-ascending, length-with_id-ge, length-with_id-le}
+use Rattle.describing_set.specs.{Ascending.with_id, Part.{part, part_from, ancestors}, Parts.{AreConcepts, IsPart, GrowsPart, JoinsParts}, Sorted.{In, Ascends}, declared.part.Part.Part}
+use Rattle.describing_set.proofs.{Membership.with_id-member, Sorted.{length-ascending-within, In-take, In-append_left, In-append_right, In-append_cases, In-map, In-map-source, Source, In-ascending, In-from_ascending, In-with_id-cases, ascending-same, Ascends-ascending, Ascends-with_id, length-ascending, length-with_id-ge, length-with_id-le}}
 
 -- Ancestors.
 

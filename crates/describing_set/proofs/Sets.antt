@@ -1,25 +1,10 @@
 -- The set of a list of coordinates.
-use Rattle.std.proofs.Common.{ℕ, ◌≡◌, ◌≢◌, ◌+◌, ◌<◌, ◌≤◌, List, [], ◌∷◌, ◌++◌, length, map, get_or, set, refl, sym, ap, subst, ◌∙◌, arith, inl, inr}
+use Rattle.std.proofs.{Common.{ℕ, ◌≡◌, ◌≢◌, ◌+◌, ◌<◌, ◌≤◌, List, [], ◌∷◌, ◌++◌, length, map, get_or, set, refl, sym, ap, subst, ◌∙◌, arith, inl, inr}, lemmas.Bool.cases_lt, lemmas.List.{get_or_default, get_or-set_same, get_or-set_other, length-set}, lemmas.List.Elements.{All-head, All-tail, All-cons, All-nil, All-append}}
 use Rattle.std.specs.Prelude.{All as Each}
-use Rattle.std.proofs.lemmas.List.{get_or_default, get_or-set_same, get_or-set_other, length-set}
-use Rattle.std.proofs.lemmas.List.Elements.{All-head, All-tail, All-cons, All-nil, All-append}
-use Rattle.std.proofs.lemmas.Bool.{cases_lt}
-use Rattle.dim_hierarchy.specs.Concept.{level_of}
-use Rattle.dim_hierarchy.specs.Tree.{Tree, IsConcept, IsLeaf, leaf_level, up}
-use Rattle.dim_hierarchy.specs.Dimension.{Dimension, tree, IsHierarchy}
-use Rattle.dim_hierarchy.specs.Row.{IsCoordOf, concept_at}
-use Rattle.dim_hierarchy.specs.Compiled.{AreOfLevel}
-use Rattle.dim_hierarchy.specs.declared.row.Coord.{Coord}
+use Rattle.dim_hierarchy.specs.{Compiled.AreOfLevel, Concept.level_of, Dimension.{Dimension, tree, IsHierarchy}, Row.{IsCoordOf, concept_at}, Tree.{Tree, IsConcept, IsLeaf, leaf_level, up}, declared.row.Coord.Coord}
 use Rattle.dim_hierarchy.proofs.Ancestors.{up-self}
-use Rattle.describing_set.specs.Sorted.{In}
-use Rattle.describing_set.specs.declared.part.Part.{Part}
-use Rattle.describing_set.specs.declared.set.DescSet.{DescSet}
-use Rattle.describing_set.specs.Part.{part, part_of}
-use Rattle.describing_set.specs.Parts.{AreConcepts, IsPart, GrowsPart, PartGrows, JoinsParts}
-use Rattle.describing_set.specs.DescSet.{part_at, column, IsSetOf}
-use Rattle.describing_set.specs.Sets.{IsDescSetOf, GrowsBy, JoinsTo}
-use Rattle.describing_set.proofs.Sorted.{All-from_In}
-use Rattle.describing_set.proofs.Parts.{deepest, part_from-few, part_from-IsPart}
+use Rattle.describing_set.specs.{DescSet.{part_at, column, IsSetOf}, Part.{part, part_of}, Parts.{AreConcepts, IsPart, GrowsPart, PartGrows, JoinsParts}, Sets.{IsDescSetOf, GrowsBy, JoinsTo}, Sorted.In, declared.part.Part.Part, declared.set.DescSet.DescSet}
+use Rattle.describing_set.proofs.{Parts.{deepest, part_from-few, part_from-IsPart}, Sorted.All-from_In}
 
 -- Coordinates by dimension.
 

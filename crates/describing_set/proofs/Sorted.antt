@@ -1,12 +1,7 @@
 -- Ascending lists of numbers as sets.
-use Rattle.std.proofs.Common.{Bool, ℕ, zero, suc, ◌≡◌, ◌+◌, ◌<◌, ◌≤◌, true, false, nat_lt, nat_eq, List, [], ◌∷◌, ◌++◌, length, map, refl, sym, ap, subst, ◌∙◌, arith, inl, inr, ◌⊎◌, take, get_or}
-use Rattle.std.specs.Prelude.{Contains, All as Each}
-use Rattle.std.specs.Bool.{OnTrue, OnFalse}
-use Rattle.std.specs.List.Sorted.{IsStrictlyIncreasing}
-use Rattle.std.proofs.lemmas.List.{take_more}
-use Rattle.std.proofs.lemmas.Bool.Decides.{nat_tests}
-use Rattle.describing_set.specs.Ascending.{with_id, ascending}
-use Rattle.describing_set.specs.Sorted.{In, Below, Ascends}
+use Rattle.std.proofs.{Common.{Bool, ℕ, zero, suc, ◌≡◌, ◌+◌, ◌<◌, ◌≤◌, true, false, nat_lt, nat_eq, List, [], ◌∷◌, ◌++◌, length, map, refl, sym, ap, subst, ◌∙◌, arith, inl, inr, ◌⊎◌, take, get_or}, lemmas.Bool.Decides.nat_tests, lemmas.List.take_more}
+use Rattle.std.specs.{Bool.{OnTrue, OnFalse}, List.Sorted.IsStrictlyIncreasing, Prelude.{Contains, All as Each}}
+use Rattle.describing_set.specs.{Ascending.{with_id, ascending}, Sorted.{In, Below, Ascends}}
 
 -- One number more: where it goes.
 

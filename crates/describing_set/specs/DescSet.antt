@@ -1,12 +1,7 @@
 -- The describing set of a list of coordinates, and what it covers.
 use Rattle.std.specs.Prelude.{ℕ, ◌≡◌, ◌<◌, List, [], length, map, slice_index_or, Bool}
-use Rattle.dim_hierarchy.specs.Dimension.{Dimension, tree}
-use Rattle.dim_hierarchy.specs.Row.{concept_at}
-use Rattle.dim_hierarchy.specs.Filter.{in_each}
-use Rattle.dim_hierarchy.specs.declared.row.Coord.{Coord}
-use Rattle.describing_set.specs.Part.{part, part_of, has_ancestor}
-use Rattle.describing_set.specs.declared.part.Part.{Part}
-use Rattle.describing_set.specs.declared.set.DescSet.{DescSet}
+use Rattle.dim_hierarchy.specs.{Dimension.{Dimension, tree}, Filter.in_each, Row.concept_at, declared.row.Coord.Coord}
+use Rattle.describing_set.specs.{Part.{part, part_of, has_ancestor}, declared.part.Part.Part, declared.set.DescSet.DescSet}
 
 -- the concepts of coordinates in a dimension
 abbrev pub column : List Coord → ℕ → List ℕ

@@ -1,16 +1,7 @@
 -- How a filter lies to a describing set.
-use Rattle.std.specs.Prelude.{ℕ, ◌≡◌, ◌≢◌, ◌<◌, ◌≤◌, ◌⊎◌, List, [], length, All as Each, Any, Bool, true, ◌&&◌, ◌||◌, nat_lt, if◌then◌else◌}
-use Rattle.std.specs.List.{list_any, list_all}
-use Rattle.dim_hierarchy.specs.Tree.{Tree, is_under}
-use Rattle.dim_hierarchy.specs.Meaning.{IsUnder, IsPicked}
-use Rattle.dim_hierarchy.specs.Dimension.{Dimension, tree}
-use Rattle.dim_hierarchy.specs.Filter.{in_each, is_picked, pick_at}
-use Rattle.dim_hierarchy.specs.declared.filter.Pick.{Pick}
-use Rattle.dim_hierarchy.specs.declared.filter.Pick.TheVariants.{All, Ids}
-use Rattle.describing_set.specs.DescSet.{part_at}
-use Rattle.describing_set.specs.declared.part.Part.{Part}
-use Rattle.describing_set.specs.declared.set.DescSet.{DescSet}
-use Rattle.describing_set.specs.declared.bearing.Bearing.{Bearing}
+use Rattle.std.specs.{List.{list_any, list_all}, Prelude.{ℕ, ◌≡◌, ◌≢◌, ◌<◌, ◌≤◌, ◌⊎◌, List, [], length, All as Each, Any, Bool, true, ◌&&◌, ◌||◌, nat_lt, if◌then◌else◌}}
+use Rattle.dim_hierarchy.specs.{Dimension.{Dimension, tree}, Filter.{in_each, is_picked, pick_at}, Meaning.{IsUnder, IsPicked}, Tree.{Tree, is_under}, declared.filter.Pick.Pick, declared.filter.Pick.TheVariants.{All, Ids}}
+use Rattle.describing_set.specs.{DescSet.part_at, declared.bearing.Bearing.Bearing, declared.part.Part.Part, declared.set.DescSet.DescSet}
 use Rattle.describing_set.specs.declared.bearing.Bearing.TheVariants as it
 
 -- Inside: the filter matches each coordinate that the set covers.

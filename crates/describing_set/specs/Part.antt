@@ -1,9 +1,7 @@
 -- One dimension of a describing set: the part of a list of concepts.
-use Rattle.std.specs.Prelude.{ℕ, zero, suc, ◌==◌, List, length, map, Bool, nat_le, if◌then◌else◌}
-use Rattle.std.specs.List.{list_any}
+use Rattle.std.specs.{List.list_any, Prelude.{ℕ, zero, suc, ◌==◌, List, length, map, Bool, nat_le, if◌then◌else◌}}
 use Rattle.dim_hierarchy.specs.Tree.{Tree, up, leaf_level}
-use Rattle.describing_set.specs.Ascending.{ascending, most_of_set}
-use Rattle.describing_set.specs.declared.part.Part.{Part}
+use Rattle.describing_set.specs.{Ascending.{ascending, most_of_set}, declared.part.Part.Part}
 
 -- a level and concepts of it
 abbrev pub part : ℕ → List ℕ → Part

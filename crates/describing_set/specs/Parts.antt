@@ -1,13 +1,7 @@
 -- What the steps keep that make one dimension of a describing set, the part of a list of concepts.
-use Rattle.std.specs.Prelude.{ℕ, ◌≡◌, ◌≤◌, List, [], ◌∷◌, ◌++◌, length, slice_set}
-use Rattle.std.specs.List.{slice_index_or}
-use Rattle.dim_hierarchy.specs.Concept.{level_of}
-use Rattle.dim_hierarchy.specs.Tree.{Tree, IsConcept}
-use Rattle.describing_set.specs.Sorted.{In, Ascends}
-use Rattle.describing_set.specs.Places.{AreFilled}
-use Rattle.describing_set.specs.Ascending.{most_of_set}
-use Rattle.describing_set.specs.declared.part.Part.{Part}
-use Rattle.describing_set.specs.Part.{part, part_from}
+use Rattle.std.specs.{List.slice_index_or, Prelude.{ℕ, ◌≡◌, ◌≤◌, List, [], ◌∷◌, ◌++◌, length, slice_set}}
+use Rattle.dim_hierarchy.specs.{Concept.level_of, Tree.{Tree, IsConcept}}
+use Rattle.describing_set.specs.{Ascending.most_of_set, Part.{part, part_from}, Places.AreFilled, Sorted.{In, Ascends}, declared.part.Part.Part}
 
 -- eight places, of which the first `count` are used and the others hold no concept of level 0
 abbrev pub AreParts : ℕ → List Part → Type 0

@@ -1,14 +1,7 @@
 -- The plane of a set, by which its rows are divided.
-use Rattle.std.specs.Prelude.{ℕ, ◌≡◌, ◌==◌, ◌<◌, ◌≤◌, ◌/◌, ◌⊎◌, List, length, take, Contains, Bool}
-use Rattle.std.specs.List.{list_any}
-use Rattle.dim_hierarchy.specs.Tree.{up}
-use Rattle.dim_hierarchy.specs.Dimension.{Dimension, tree}
-use Rattle.dim_hierarchy.specs.Row.{concept_at}
-use Rattle.dim_hierarchy.specs.declared.row.Coord.{Coord}
-use Rattle.describing_set.specs.declared.set.DescSet.{DescSet}
-use Rattle.describing_set.specs.declared.plane.Plane.{Plane}
-use Rattle.describing_set.specs.DescSet.{part_at}
-use Rattle.describing_set.specs.Sets.{IsDescSetOf}
+use Rattle.std.specs.{List.list_any, Prelude.{ℕ, ◌≡◌, ◌==◌, ◌<◌, ◌≤◌, ◌/◌, ◌⊎◌, List, length, take, Contains, Bool}}
+use Rattle.dim_hierarchy.specs.{Dimension.{Dimension, tree}, Row.concept_at, Tree.up, declared.row.Coord.Coord}
+use Rattle.describing_set.specs.{DescSet.part_at, Sets.IsDescSetOf, declared.plane.Plane.Plane, declared.set.DescSet.DescSet}
 
 -- how many concepts a set has in a dimension
 abbrev pub count_at : DescSet → ℕ → ℕ

@@ -1,15 +1,7 @@
 -- Sets of a hierarchy: how they grow and join, what they cover, how large they are, and what they say in other words.
-use Rattle.std.specs.Prelude.{ℕ, ◌≡◌, ◌-◌, ◌+◌, ◌*◌, ◌<◌, ◌≤◌, List, ◌∷◌, ◌++◌, length, map, sum, if◌then◌else◌, All, Any, Contains}
-use Rattle.std.specs.List.{range_with_len}
-use Rattle.std.specs.List.Sorted.{IsStrictlyIncreasing}
-use Rattle.dim_hierarchy.specs.Tree.{up, leaf_level}
-use Rattle.dim_hierarchy.specs.Dimension.{Dimension, tree, IsHierarchy}
-use Rattle.dim_hierarchy.specs.Row.{concept_at, IsCoordOf}
-use Rattle.dim_hierarchy.specs.declared.row.Coord.{Coord}
-use Rattle.describing_set.specs.Part.{ancestors, has_ancestor}
-use Rattle.describing_set.specs.Ascending.{most_of_set}
-use Rattle.describing_set.specs.declared.set.DescSet.{DescSet}
-use Rattle.describing_set.specs.DescSet.{column, part_at, IsSetOf}
+use Rattle.std.specs.{List.range_with_len, List.Sorted.IsStrictlyIncreasing, Prelude.{ℕ, ◌≡◌, ◌-◌, ◌+◌, ◌*◌, ◌<◌, ◌≤◌, List, ◌∷◌, ◌++◌, length, map, sum, if◌then◌else◌, All, Any, Contains}}
+use Rattle.dim_hierarchy.specs.{Dimension.{Dimension, tree, IsHierarchy}, Row.{concept_at, IsCoordOf}, Tree.{up, leaf_level}, declared.row.Coord.Coord}
+use Rattle.describing_set.specs.{Ascending.most_of_set, DescSet.{column, part_at, IsSetOf}, Part.{ancestors, has_ancestor}, declared.set.DescSet.DescSet}
 
 -- a set of this hierarchy: that of some of its coordinates
 pub record IsDescSetOf (h : List Dimension) (set : DescSet) : Type 0 where

@@ -1,11 +1,7 @@
 -- The way up in a tree.
-use Rattle.std.proofs.Common.{ℕ, zero, suc, ◌≡◌, ◌+◌, ◌-◌, ◌<◌, ◌≤◌, length, get_or, Bool, true, false, eqb, refl, sym, ap, ◌∙◌, arith, inl, inr, eq-eqb}
-use Rattle.std.specs.Prelude.{◌↔◌, IsTrue, ◌||◌}
-use Rattle.std.specs.List.{list_any}
-use Rattle.std.proofs.lemmas.Bool.{cases_lt, eqb-true}
-use Rattle.dim_hierarchy.specs.Concept.{level_of}
-use Rattle.dim_hierarchy.specs.Tree.{Tree, IsConcept, IsTree, parents_at, parent, climb, up, way_up, is_under}
-use Rattle.dim_hierarchy.specs.Meaning.{IsUnder}
+use Rattle.std.proofs.{Common.{ℕ, zero, suc, ◌≡◌, ◌+◌, ◌-◌, ◌<◌, ◌≤◌, length, get_or, Bool, true, false, eqb, refl, sym, ap, ◌∙◌, arith, inl, inr, eq-eqb}, lemmas.Bool.{cases_lt, eqb-true}}
+use Rattle.std.specs.{List.list_any, Prelude.{◌↔◌, IsTrue, ◌||◌}}
+use Rattle.dim_hierarchy.specs.{Concept.level_of, Meaning.IsUnder, Tree.{Tree, IsConcept, IsTree, parents_at, parent, climb, up, way_up, is_under}}
 
 -- a concept of level 0 is ALL
 pub concept_at_top : (t : Tree) → IsTree t → (id : ℕ) → IsConcept t id → level_of id ≡ 0 → id ≡ 0

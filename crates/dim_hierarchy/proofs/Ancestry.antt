@@ -1,13 +1,6 @@
 -- The lineages of a coordinate's concepts, made dimension by dimension and read.
-use Rattle.std.proofs.Common.{ℕ, ◌≡◌, ◌≢◌, ◌+◌, ◌<◌, ◌≤◌, List, [], length, get_or, set, sym, ap, subst, ◌∙◌, arith, inl, inr}
-use Rattle.std.proofs.lemmas.Bool.{cases_lt}
-use Rattle.std.proofs.lemmas.List.{get_or_default, get_or-set_same, get_or-set_other, length-set}
-use Rattle.dim_hierarchy.specs.Concept.{level_of}
-use Rattle.dim_hierarchy.specs.Tree.{Tree, up, leaf_level}
-use Rattle.dim_hierarchy.specs.Dimension.{Dimension, dimension, tree}
-use Rattle.dim_hierarchy.specs.Row.{concept_at, IsCoordOf}
-use Rattle.dim_hierarchy.specs.declared.row.Coord.{Coord}
-use Rattle.dim_hierarchy.specs.CoordLineages.{AreLineagesAt}
+use Rattle.std.proofs.{Common.{ℕ, ◌≡◌, ◌≢◌, ◌+◌, ◌<◌, ◌≤◌, List, [], length, get_or, set, sym, ap, subst, ◌∙◌, arith, inl, inr}, lemmas.Bool.cases_lt, lemmas.List.{get_or_default, get_or-set_same, get_or-set_other, length-set}}
+use Rattle.dim_hierarchy.specs.{Concept.level_of, CoordLineages.AreLineagesAt, Dimension.{Dimension, dimension, tree}, Row.{concept_at, IsCoordOf}, Tree.{Tree, up, leaf_level}, declared.row.Coord.Coord}
 
 -- the ancestors of a concept by their level, down to a level
 pub record IsLineageTo (t : Tree) (deepest id : ℕ) (lineage : List ℕ) : Type 0 where

@@ -1,19 +1,7 @@
 -- The marks of a filter, made and read.
-use Rattle.std.proofs.Common.{ℕ, ◌≡◌, ◌+◌, ◌-◌, ◌<◌, ◌≤◌, Bool, true, false, eqb, List, [], ◌∷◌, ◌++◌, Option, None, length, get_or, refl, sym, ap, subst, ◌∙◌, arith, inl, inr, length-append}
-use Rattle.std.specs.Prelude.{All as Each, ◌==◌, filter, nat_lt, not}
-use Rattle.std.specs.List.{list_all, list_any}
-use Rattle.std.proofs.lemmas.Bool.{cases_lt, eqb-true}
-use Rattle.std.proofs.lemmas.List.{get_or_append_left, get_or_push}
-use Rattle.std.proofs.lemmas.List.Elements.{All-head, All-tail}
-use Rattle.dim_hierarchy.specs.Concept.{level_of, number_of}
-use Rattle.dim_hierarchy.specs.Tree.{Tree, IsConcept, IsLeaf, leaf_level, parents_at}
-use Rattle.dim_hierarchy.specs.Dimension.{Dimension, tree}
-use Rattle.dim_hierarchy.specs.Filter.{IsFilterOf, is_picked, pick_at}
-use Rattle.dim_hierarchy.specs.declared.filter.Pick.{Pick}
-use Rattle.dim_hierarchy.specs.declared.filter.Pick.TheVariants.{All}
-use Rattle.dim_hierarchy.specs.Column.{is_marked}
-use Rattle.dim_hierarchy.specs.Marks.{AreMarksOf}
-use Rattle.dim_hierarchy.specs.Compiled.{AreDimMarks, AreFilterMarks, AreOfLevel, is_related}
+use Rattle.std.proofs.{Common.{ℕ, ◌≡◌, ◌+◌, ◌-◌, ◌<◌, ◌≤◌, Bool, true, false, eqb, List, [], ◌∷◌, ◌++◌, Option, None, length, get_or, refl, sym, ap, subst, ◌∙◌, arith, inl, inr, length-append}, lemmas.Bool.{cases_lt, eqb-true}, lemmas.List.{get_or_append_left, get_or_push}, lemmas.List.Elements.{All-head, All-tail}}
+use Rattle.std.specs.{List.{list_all, list_any}, Prelude.{All as Each, ◌==◌, filter, nat_lt, not}}
+use Rattle.dim_hierarchy.specs.{Column.is_marked, Compiled.{AreDimMarks, AreFilterMarks, AreOfLevel, is_related}, Concept.{level_of, number_of}, Dimension.{Dimension, tree}, Filter.{IsFilterOf, is_picked, pick_at}, Marks.AreMarksOf, Tree.{Tree, IsConcept, IsLeaf, leaf_level, parents_at}, declared.filter.Pick.Pick, declared.filter.Pick.TheVariants.All}
 use Rattle.dim_hierarchy.proofs.Marking.{mark_under, mark_some}
 
 -- the marks of the first dimensions

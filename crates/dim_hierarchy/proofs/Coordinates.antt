@@ -1,19 +1,8 @@
 -- Coordinates and filters by name as they are made, dimension by dimension.
-use Rattle.std.proofs.Common.{ℕ, ◌≡◌, ◌≢◌, ◌+◌, ◌<◌, ◌≤◌, List, [], ◌∷◌, ◌++◌, length, get_or, set, take, map, refl, sym, ap, ◌∙◌, arith, inl, inr, true, false, cond, eqb}
+use Rattle.std.proofs.{Common.{ℕ, ◌≡◌, ◌≢◌, ◌+◌, ◌<◌, ◌≤◌, List, [], ◌∷◌, ◌++◌, length, get_or, set, take, map, refl, sym, ap, ◌∙◌, arith, inl, inr, true, false, cond, eqb}, lemmas.Bool.{cases_lt, eqb-true}, lemmas.List.{get_or-set_same, get_or-set_other, get_or-take, get_or_append_left, get_or_push, get_or_past, get_or-replicate, length-set, length-take, length-append, length-map, get_or-map}}
 use Rattle.std.specs.Prelude.{Option, Some, None, option_and_then, replicate, All as Each}
 use Rattle.std.specs.FinMap as fin
-use Rattle.std.proofs.lemmas.Bool.{cases_lt, eqb-true}
-use Rattle.std.proofs.lemmas.List.{get_or-set_same, get_or-set_other, get_or-take, get_or_append_left, get_or_push, get_or_past, get_or-replicate, length-set, length-take, length-append, length-map, get_or-map}
-use Rattle.dim_hierarchy.specs.Concept.{level_of}
-use Rattle.dim_hierarchy.specs.Tree.{IsLeaf, leaf_level}
-use Rattle.dim_hierarchy.specs.Dimension.{Dimension, IsDimension, IsHierarchy, dimension, no_dimension}
-use Rattle.dim_hierarchy.specs.Row.{IsCoordNamed, leaf_named, leaves}
-use Rattle.dim_hierarchy.specs.Filter.{IsFilterNamed, pick_at, pick_named, picks}
-use Rattle.dim_hierarchy.specs.Names.{IsNamePick}
-use Rattle.dim_hierarchy.specs.declared.row.Coord.{Coord}
-use Rattle.dim_hierarchy.specs.declared.filter.Pick.{Pick}
-use Rattle.dim_hierarchy.specs.declared.filter.Pick.TheVariants.{All}
-use Rattle.dim_hierarchy.specs.declared.filter.NamePick.{NamePick}
+use Rattle.dim_hierarchy.specs.{Concept.level_of, Dimension.{Dimension, IsDimension, IsHierarchy, dimension, no_dimension}, Filter.{IsFilterNamed, pick_at, pick_named, picks}, Names.IsNamePick, Row.{IsCoordNamed, leaf_named, leaves}, Tree.{IsLeaf, leaf_level}, declared.filter.NamePick.NamePick, declared.filter.Pick.Pick, declared.filter.Pick.TheVariants.All, declared.row.Coord.Coord}
 use Rattle.dim_hierarchy.specs.declared.filter.NamePick.TheVariants as by_name
 use Rattle.dim_hierarchy.proofs.Named.{all_Some, get_or-paired, length-paired, pick_named-IsPickOf}
 

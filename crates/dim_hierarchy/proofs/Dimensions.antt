@@ -1,13 +1,8 @@
 -- Dimensions by number, and what their names stand for.
-use Rattle.std.proofs.Common.{ℕ, ◌≡◌, ◌≢◌, ◌<◌, ◌≤◌, List, length, get_or, refl, ap, ◌∙◌}
-use Rattle.std.specs.Prelude.{Option, Some, None, IfNone, IsSome}
+use Rattle.std.proofs.{Common.{ℕ, ◌≡◌, ◌≢◌, ◌<◌, ◌≤◌, List, length, get_or, refl, ap, ◌∙◌}, lemmas.List.{get_or_default, get_or_past}}
+use Rattle.std.specs.{Cmp.Lexicographic.slice_cmp, Ordering.nat_cmp, Prelude.{Option, Some, None, IfNone, IsSome}}
 use Rattle.std.specs.FinMap as map
-use Rattle.std.specs.Ordering.{nat_cmp}
-use Rattle.std.specs.Cmp.Lexicographic.{slice_cmp}
-use Rattle.std.proofs.lemmas.List.{get_or_default, get_or_past}
-use Rattle.dim_hierarchy.specs.Concept.{level_of}
-use Rattle.dim_hierarchy.specs.Tree.{IsConcept}
-use Rattle.dim_hierarchy.specs.Dimension.{Dimension, IsDimension, dimension, no_dimension, find}
+use Rattle.dim_hierarchy.specs.{Concept.level_of, Dimension.{Dimension, IsDimension, dimension, no_dimension, find}, Tree.IsConcept}
 
 -- past the last dimension there is no name
 pub find-past : (h : List Dimension) (dim : ℕ) (name : List ℕ) → length h ≤ dim → find h dim name ≡ None

@@ -1,11 +1,7 @@
 -- What holds where nothing stands against a growth.
-use Rattle.std.proofs.Common.{ℕ, ◌≡◌, ◌≢◌, ◌+◌, ◌<◌, ◌≤◌, ◌^◌, List, length, Bool, true, false, cond, not, leb, ltb, eqb, refl, arith}
+use Rattle.std.proofs.{Common.{ℕ, ◌≡◌, ◌≢◌, ◌+◌, ◌<◌, ◌≤◌, ◌^◌, List, length, Bool, true, false, cond, not, leb, ltb, eqb, refl, arith}, lemmas.Bool.{leb-false, ltb-false, ltb-true, eqb-false}}
 use Rattle.std.specs.Prelude.{Option, Some, None, is_some, ◌||◌, ◌&&◌}
-use Rattle.std.proofs.lemmas.Bool.{leb-false, ltb-false, ltb-true, eqb-false}
-use Rattle.dim_hierarchy.specs.Concept.{level_of, number_of}
-use Rattle.dim_hierarchy.specs.Tree.{IsConcept, is_concept, leaf_level, parents_at}
-use Rattle.dim_hierarchy.specs.Dimension.{Dimension, dimension, tree, find, find_dim, dim_fault, concept_fault}
-use Rattle.dim_hierarchy.specs.Counted.{concept_count}
+use Rattle.dim_hierarchy.specs.{Concept.{level_of, number_of}, Counted.concept_count, Dimension.{Dimension, dimension, tree, find, find_dim, dim_fault, concept_fault}, Tree.{IsConcept, is_concept, leaf_level, parents_at}}
 use Rattle.dim_hierarchy.proofs.Growth.{CanGrow, length-parents_at-le}
 
 cond_None : {X : Type 0} (b : Bool) (x : X) (o : Option X) → cond b (Some x) o ≡ None → (b ≡ false) × (o ≡ None)

@@ -1,22 +1,9 @@
 -- Trees, dimensions and hierarchies as they are made and grow.
-use Rattle.std.proofs.Common.{ℕ, zero, suc, ◌≡◌, ◌≢◌, ◌+◌, ◌-◌, ◌*◌, ◌<◌, ◌≤◌, ◌^◌, List, [], ◌∷◌, ◌++◌, length, get_or, set, drop, refl, sym, ap, subst, ◌∙◌, arith, inl, inr, ◌⊎◌, lit<, length-append, length-drop, add-one, false}
-use Rattle.std.specs.Prelude.{None, Some, Contains, replicate, sum_by}
-use Rattle.std.specs.Str.{bytes_eq}
+use Rattle.std.proofs.{Common.{ℕ, zero, suc, ◌≡◌, ◌≢◌, ◌+◌, ◌-◌, ◌*◌, ◌<◌, ◌≤◌, ◌^◌, List, [], ◌∷◌, ◌++◌, length, get_or, set, drop, refl, sym, ap, subst, ◌∙◌, arith, inl, inr, ◌⊎◌, lit<, length-append, length-drop, add-one, false}, lemmas.Bool.{cases_lt, false≢true}, lemmas.List.{get_or_past, get_or_append_left, get_or_push, get_or-replicate, get_or-set_same, get_or-set_other, get_or-drop, length-set, length-replicate}, lemmas.List.Elements.{All-nil, All-push, All-weaker, Contains-append_left, Contains-push}, lemmas.List.Quantifiers.all_pairs_push, lemmas.List.Sums.{get_or-le-sum_by, sum_by-set, sum_by-append}, lemmas.Slice.Eq.bytes_eq-Decides}
+use Rattle.std.specs.{Cmp.Lexicographic.slice_cmp, Ordering.nat_cmp, Prelude.{None, Some, Contains, replicate, sum_by}, Str.bytes_eq}
 use Rattle.std.specs.FinMap as map
-use Rattle.std.specs.Ordering.{nat_cmp}
-use Rattle.std.specs.Cmp.Lexicographic.{slice_cmp}
-use Rattle.std.proofs.lemmas.Bool.{cases_lt, false≢true}
-use Rattle.std.proofs.lemmas.List.{get_or_past, get_or_append_left, get_or_push, get_or-replicate, get_or-set_same, get_or-set_other, get_or-drop, length-set, length-replicate}
-use Rattle.std.proofs.lemmas.List.Elements.{All-nil, All-push, All-weaker, Contains-append_left, Contains-push}
-use Rattle.std.proofs.lemmas.List.Quantifiers.{all_pairs_push}
-use Rattle.std.proofs.lemmas.List.Sums.{get_or-le-sum_by, sum_by-set, sum_by-append}
-use Rattle.std.proofs.lemmas.Slice.Eq.{bytes_eq-Decides}
-use Rattle.dim_hierarchy.specs.Concept.{level_of, number_of}
-use Rattle.dim_hierarchy.specs.Tree.{Tree, IsConcept, IsTree, parents_at, parent, new_tree, next_under, with_child}
-use Rattle.dim_hierarchy.specs.Dimension.{Dimension, IsDimension, IsHierarchy, IsOrderOf, dimension, no_dimension, tree, find_dim, new_dimension, with_concept}
-use Rattle.dim_hierarchy.specs.Counted.{IsCounted, concept_count}
-use Rattle.dim_hierarchy.proofs.Names.{same_name, get-insert_same, get-insert_other}
-use Rattle.dim_hierarchy.proofs.Places.{position-None}
+use Rattle.dim_hierarchy.specs.{Concept.{level_of, number_of}, Counted.{IsCounted, concept_count}, Dimension.{Dimension, IsDimension, IsHierarchy, IsOrderOf, dimension, no_dimension, tree, find_dim, new_dimension, with_concept}, Tree.{Tree, IsConcept, IsTree, parents_at, parent, new_tree, next_under, with_child}}
+use Rattle.dim_hierarchy.proofs.{Names.{same_name, get-insert_same, get-insert_other}, Places.position-None}
 
 pub same_or_not : (a b : ℕ) → (a ≡ b) ⊎ (a ≢ b)
 same_or_not a b = grind arith

@@ -1,13 +1,8 @@
 -- The lineages of ancestors of a tree that is made and grows.
-use Rattle.std.proofs.Common.{ℕ, zero, suc, ◌≡◌, ◌≢◌, ◌+◌, ◌-◌, ◌*◌, ◌<◌, ◌≤◌, ◌^◌, List, [], ◌∷◌, ◌++◌, length, get_or, set, refl, sym, ap, subst, ◌∙◌, arith, inl, inr, length-append}
+use Rattle.std.proofs.{Common.{ℕ, zero, suc, ◌≡◌, ◌≢◌, ◌+◌, ◌-◌, ◌*◌, ◌<◌, ◌≤◌, ◌^◌, List, [], ◌∷◌, ◌++◌, length, get_or, set, refl, sym, ap, subst, ◌∙◌, arith, inl, inr, length-append}, lemmas.Bool.cases_lt, lemmas.List.{get_or_past, get_or_append_left, get_or_push, get_or-replicate, get_or-set_same, get_or-set_other, length-set, length-replicate}}
 use Rattle.std.specs.Prelude.{replicate}
-use Rattle.std.proofs.lemmas.Bool.{cases_lt}
-use Rattle.std.proofs.lemmas.List.{get_or_past, get_or_append_left, get_or_push, get_or-replicate, get_or-set_same, get_or-set_other, length-set, length-replicate}
-use Rattle.dim_hierarchy.specs.Concept.{level_of, number_of}
-use Rattle.dim_hierarchy.specs.Tree.{Tree, IsConcept, IsTree, parents_at, parent, climb, up, new_tree, next_under, with_child}
-use Rattle.dim_hierarchy.specs.Lineage.{Lineages, lineages_at, lineage_of, AreLineagesOf}
-use Rattle.dim_hierarchy.proofs.Ancestors.{up-self, up-parent}
-use Rattle.dim_hierarchy.proofs.Growth.{same_or_not, none_deeper, concept_of_new, parents_same, parents_other, IsConcept-with_child, concept_cases, IsTree-with_child}
+use Rattle.dim_hierarchy.specs.{Concept.{level_of, number_of}, Lineage.{Lineages, lineages_at, lineage_of, AreLineagesOf}, Tree.{Tree, IsConcept, IsTree, parents_at, parent, climb, up, new_tree, next_under, with_child}}
+use Rattle.dim_hierarchy.proofs.{Ancestors.{up-self, up-parent}, Growth.{same_or_not, none_deeper, concept_of_new, parents_same, parents_other, IsConcept-with_child, concept_cases, IsTree-with_child}}
 
 no_lineages : (n k : ℕ) → get_or (replicate n (let e : List (List ℕ) = [] in e)) k [] ≡ []
 no_lineages n k = elim (cases_lt k n) [

@@ -1,16 +1,7 @@
 -- Marks, and the pick that they stand for.
-use Rattle.std.proofs.Common.{ℕ, zero, suc, ◌≡◌, ◌≢◌, ◌+◌, ◌-◌, ◌*◌, ◌<◌, ◌≤◌, List, [], ◌∷◌, ◌++◌, length, get_or, set, take, refl, sym, ap, subst, ◌∙◌, arith, Bool, true, false, eqb, inl, inr, eq-eqb, ◌⊎◌}
-use Rattle.std.specs.Prelude.{◌||◌, ◌==◌, nat_lt, if◌then◌else◌}
-use Rattle.std.specs.List.{list_any}
-use Rattle.std.proofs.lemmas.Bool.{cases_lt, eqb-true}
-use Rattle.std.proofs.lemmas.List.{get_or-set_same, get_or-set_other, get_or_append_left, get_or_push, take_more, length-append}
-use Rattle.std.proofs.lemmas.List.Folds.{list_any-append}
-use Rattle.dim_hierarchy.specs.Concept.{level_of, number_of, id_of}
-use Rattle.dim_hierarchy.specs.Tree.{Tree, IsConcept, IsTree, is_under, way_up, parent, parents_at, up}
-use Rattle.dim_hierarchy.specs.Filter.{is_picked}
-use Rattle.dim_hierarchy.specs.declared.filter.Pick.{Pick}
-use Rattle.dim_hierarchy.specs.declared.filter.Pick.TheVariants.{Ids}
-use Rattle.dim_hierarchy.specs.Marks.{is_above, mark_of, mark, AreLevelMarks, AreUpperMarks, listed_mark, AreListed, mark_more, noted, Notes, raised, inherited, Inherits}
+use Rattle.std.proofs.{Common.{ℕ, zero, suc, ◌≡◌, ◌≢◌, ◌+◌, ◌-◌, ◌*◌, ◌<◌, ◌≤◌, List, [], ◌∷◌, ◌++◌, length, get_or, set, take, refl, sym, ap, subst, ◌∙◌, arith, Bool, true, false, eqb, inl, inr, eq-eqb, ◌⊎◌}, lemmas.Bool.{cases_lt, eqb-true}, lemmas.List.{get_or-set_same, get_or-set_other, get_or_append_left, get_or_push, take_more, length-append}, lemmas.List.Folds.list_any-append}
+use Rattle.std.specs.{List.list_any, Prelude.{◌||◌, ◌==◌, nat_lt, if◌then◌else◌}}
+use Rattle.dim_hierarchy.specs.{Concept.{level_of, number_of, id_of}, Filter.is_picked, Marks.{is_above, mark_of, mark, AreLevelMarks, AreUpperMarks, listed_mark, AreListed, mark_more, noted, Notes, raised, inherited, Inherits}, Tree.{Tree, IsConcept, IsTree, is_under, way_up, parent, parents_at, up}, declared.filter.Pick.Pick, declared.filter.Pick.TheVariants.Ids}
 use Rattle.dim_hierarchy.proofs.Ancestors.{up-IsConcept, level_of-up, up-self, is_under-at, is_under-below}
 
 -- What a mark says.

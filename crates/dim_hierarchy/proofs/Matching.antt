@@ -1,18 +1,7 @@
 -- The tests of picks and filters, and what they mean.
-use Rattle.std.proofs.Common.{ℕ, zero, suc, ◌≡◌, ◌+◌, ◌-◌, ◌<◌, ◌≤◌, List, [], ◌∷◌, ◌++◌, length, get_or, drop, Bool, true, false, refl, sym, ap, subst, ◌∙◌, arith, inl, inr, add-one}
+use Rattle.std.proofs.{Common.{ℕ, zero, suc, ◌≡◌, ◌+◌, ◌-◌, ◌<◌, ◌≤◌, List, [], ◌∷◌, ◌++◌, length, get_or, drop, Bool, true, false, refl, sym, ap, subst, ◌∙◌, arith, inl, inr, add-one}, lemmas.Bool.cases_lt, lemmas.List.{drop_all, get_or_default, get_or_past, get_or_append_left, get_or-append-add, length-append}, lemmas.List.Folds.{Any-from_list_any, list_any-from_Any}}
 use Rattle.std.specs.Prelude.{◌↔◌, ◌&&◌, IsTrue, All as Each, Any}
-use Rattle.std.proofs.lemmas.Bool.{cases_lt}
-use Rattle.std.proofs.lemmas.List.{drop_all, get_or_default, get_or_past, get_or_append_left, get_or-append-add, length-append}
-use Rattle.std.proofs.lemmas.List.Folds.{Any-from_list_any, list_any-from_Any}
-use Rattle.dim_hierarchy.specs.Concept.{level_of}
-use Rattle.dim_hierarchy.specs.Tree.{Tree, IsConcept, IsTree, is_under, leaf_level}
-use Rattle.dim_hierarchy.specs.Meaning.{IsUnder, IsPicked, Matches}
-use Rattle.dim_hierarchy.specs.Dimension.{Dimension, dimension, tree}
-use Rattle.dim_hierarchy.specs.Row.{IsCoordOf, concept_at}
-use Rattle.dim_hierarchy.specs.Filter.{IsFilterOf, is_picked, in_each, matches, pick_at}
-use Rattle.dim_hierarchy.specs.declared.row.Coord.{Coord}
-use Rattle.dim_hierarchy.specs.declared.filter.Pick.{Pick}
-use Rattle.dim_hierarchy.specs.declared.filter.Pick.TheVariants.{All, Ids}
+use Rattle.dim_hierarchy.specs.{Concept.level_of, Dimension.{Dimension, dimension, tree}, Filter.{IsFilterOf, is_picked, in_each, matches, pick_at}, Meaning.{IsUnder, IsPicked, Matches}, Row.{IsCoordOf, concept_at}, Tree.{Tree, IsConcept, IsTree, is_under, leaf_level}, declared.filter.Pick.Pick, declared.filter.Pick.TheVariants.{All, Ids}, declared.row.Coord.Coord}
 use Rattle.dim_hierarchy.proofs.Ancestors.{is_under-IsUnder, IsUnder-trans}
 
 -- Picks.

@@ -1,7 +1,5 @@
 -- What is at the front of a buffer of names, and one more at its end.
-use Rattle.std.proofs.Common.{ℕ, zero, suc, ◌≡◌, ◌+◌, ◌<◌, ◌≤◌, List, [], ◌∷◌, ◌++◌, length, take, drop, get_or, refl, sym, ap, subst, ◌∙◌, arith}
-use Rattle.std.proofs.Math.Seq.{drop-length, take-length}
-use Rattle.std.proofs.lemmas.List.{take-append-le, drop-append-le, length-append, length-drop, drop_more}
+use Rattle.std.proofs.{Common.{ℕ, zero, suc, ◌≡◌, ◌+◌, ◌<◌, ◌≤◌, List, [], ◌∷◌, ◌++◌, length, take, drop, get_or, refl, sym, ap, subst, ◌∙◌, arith}, Math.Seq.{drop-length, take-length}, lemmas.List.{take-append-le, drop-append-le, length-append, length-drop, drop_more}}
 use Rattle.dim_hierarchy.specs.RowNames.{names_in, AreNames}
 
 pub length-names_in : (count : ℕ) (bytes : List ℕ) → length (names_in count bytes) ≡ count

@@ -1,23 +1,9 @@
 -- The map that nodes and the names behind them stand for.
-use Rattle.std.proofs.Common.{ℕ, zero, suc, ◌≡◌, ◌≢◌, ◌<◌, ◌+◌, ◌⊎◌, inl, inr, List, [], ◌∷◌, ◌++◌, length, map, set, Vec, Global, refl, sym, ap, subst, ◌∙◌, cond, Bool, true, false, nat_eq, get_or, eq-eqb, arith}
-use Rattle.std.specs.Prelude.{Option, Some, None}
-use Rattle.std.specs.Option.{option_map}
-use Rattle.std.specs.List.{flat_map, slice_get, slice_index}
-use Rattle.std.specs.Ordering.{is_eq}
-use Rattle.std.specs.Cmp.Lexicographic.{nat_list_cmp_total}
+use Rattle.std.proofs.{Common.{ℕ, zero, suc, ◌≡◌, ◌≢◌, ◌<◌, ◌+◌, ◌⊎◌, inl, inr, List, [], ◌∷◌, ◌++◌, length, map, set, Vec, Global, refl, sym, ap, subst, ◌∙◌, cond, Bool, true, false, nat_eq, get_or, eq-eqb, arith}, lemmas.Bool.{eqb-true, false≢true}, lemmas.List.length-append, lemmas.Option.{slice_get_read, slice_get_within, get_or_from_slice_get}}
+use Rattle.std.specs.{BTreeMap.is_at, Cmp.Lexicographic.nat_list_cmp_total, FinMap.{slice_cmp-IsAntisymmetric, nat_cmp-IsAntisymmetric}, List.{flat_map, slice_get, slice_index}, Map.KeepsOthers, Option.option_map, Ordering.is_eq, Prelude.{Option, Some, None}}
 use Rattle.std.specs.FinMap as fin
-use Rattle.std.specs.FinMap.{slice_cmp-IsAntisymmetric, nat_cmp-IsAntisymmetric}
-use Rattle.std.specs.Map.{KeepsOthers}
-use Rattle.std.specs.BTreeMap.{is_at}
-use Rattle.std.proofs.lemmas.Bool.{eqb-true, false≢true}
-use Rattle.std.proofs.lemmas.List.{length-append}
-use Rattle.std.proofs.lemmas.Option.{slice_get_read, slice_get_within, get_or_from_slice_get}
-use Rattle.dim_hierarchy.proofs.Names.{by_byte, by_byte-is_eq, by_byte-itself}
-use Rattle.dim_hierarchy.proofs.NameStops.{HasName, GrowsBehind, Alike, Alike-itself, here-of, alike-of, kept-of, come-of, first-of, get-set_here, get-set_other, get-before, leading, grown-behind, grown-first, free-of}
-use Rattle.dim_hierarchy.specs.declared.name_nodes.NameNode.{NameNode}
-use Rattle.dim_hierarchy.specs.declared.name_nodes.Stop.{Stop}
-use Rattle.dim_hierarchy.specs.declared.name_nodes.Stop.TheVariants.{Here, Free, Full}
-use Rattle.dim_hierarchy.specs.NameNodes.{HaveDigits, IsStop, hash_of, stop_of, found_among, told_at, named_in, entry_of, names_of, name_map}
+use Rattle.dim_hierarchy.proofs.{NameStops.{HasName, GrowsBehind, Alike, Alike-itself, here-of, alike-of, kept-of, come-of, first-of, get-set_here, get-set_other, get-before, leading, grown-behind, grown-first, free-of}, Names.{by_byte, by_byte-is_eq, by_byte-itself}}
+use Rattle.dim_hierarchy.specs.{NameNodes.{HaveDigits, IsStop, hash_of, stop_of, found_among, told_at, named_in, entry_of, names_of, name_map}, declared.name_nodes.NameNode.NameNode, declared.name_nodes.Stop.Stop, declared.name_nodes.Stop.TheVariants.{Here, Free, Full}}
 
 -- a name is among these
 abbrev pub IsNamed : List (List ℕ) → List ℕ → Type 0

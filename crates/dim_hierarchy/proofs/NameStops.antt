@@ -1,17 +1,8 @@
 -- Where the ways of names end, before and after a name comes.
-use Rattle.std.proofs.Common.{ℕ, zero, suc, ◌≡◌, ◌≢◌, ◌<◌, ◌≤◌, ◌+◌, ◌-◌, ◌/◌, ◌%◌, ◌⊎◌, inl, inr, List, [], ◌∷◌, ◌++◌, length, set, Vec, Global, refl, sym, ap, ◌∙◌, cond, Bool, true, false, ◌&&◌, nat_eq, nat_lt, get_or, eq-eqb, arith}
-use Rattle.std.specs.Prelude.{Option, Some, None, replicate}
-use Rattle.std.specs.Option.{option_map}
-use Rattle.std.specs.List.{slice_get, slice_index}
-use Rattle.std.specs.Str.{bytes_eq}
-use Rattle.std.proofs.lemmas.Bool.{eqb-true, ltb-true, false≢true}
-use Rattle.std.proofs.lemmas.List.{length-set, length-append, get_or-set_same, get_or-set_other}
-use Rattle.std.proofs.lemmas.Option.{same_Some, slice_get_read, slice_get_past, slice_get_within}
+use Rattle.std.proofs.{Common.{ℕ, zero, suc, ◌≡◌, ◌≢◌, ◌<◌, ◌≤◌, ◌+◌, ◌-◌, ◌/◌, ◌%◌, ◌⊎◌, inl, inr, List, [], ◌∷◌, ◌++◌, length, set, Vec, Global, refl, sym, ap, ◌∙◌, cond, Bool, true, false, ◌&&◌, nat_eq, nat_lt, get_or, eq-eqb, arith}, lemmas.Bool.{eqb-true, ltb-true, false≢true}, lemmas.List.{length-set, length-append, get_or-set_same, get_or-set_other}, lemmas.Option.{same_Some, slice_get_read, slice_get_past, slice_get_within}}
+use Rattle.std.specs.{List.{slice_get, slice_index}, Option.option_map, Prelude.{Option, Some, None, replicate}, Str.bytes_eq}
 use Rattle.dim_hierarchy.proofs.Names.{bytes_eq-is, bytes_eq-itself}
-use Rattle.dim_hierarchy.specs.declared.name_nodes.NameNode.{NameNode}
-use Rattle.dim_hierarchy.specs.declared.name_nodes.Stop.{Stop}
-use Rattle.dim_hierarchy.specs.declared.name_nodes.Stop.TheVariants.{Here, Free, Full}
-use Rattle.dim_hierarchy.specs.NameNodes.{new_node, hash_of, stop_at, stop_behind, stop_of, found_among, told_at}
+use Rattle.dim_hierarchy.specs.{NameNodes.{new_node, hash_of, stop_at, stop_behind, stop_of, found_among, told_at}, declared.name_nodes.NameNode.NameNode, declared.name_nodes.Stop.Stop, declared.name_nodes.Stop.TheVariants.{Here, Free, Full}}
 
 -- where a way goes on behind a node
 abbrev pub onward : (nodes : List NameNode) (q : List ℕ) (hash left at d : ℕ) → NameNode → Stop

@@ -1,15 +1,8 @@
 -- Concepts, coordinates and filters that names stand for.
-use Rattle.std.proofs.Common.{ℕ, zero, suc, ◌≡◌, ◌+◌, ◌<◌, ◌≤◌, List, [], ◌∷◌, ◌++◌, length, get_or, drop, map, refl, sym, ap, subst, ◌∙◌, arith, append_assoc}
+use Rattle.std.proofs.{Common.{ℕ, zero, suc, ◌≡◌, ◌+◌, ◌<◌, ◌≤◌, List, [], ◌∷◌, ◌++◌, length, get_or, drop, map, refl, sym, ap, subst, ◌∙◌, arith, append_assoc}, lemmas.List.{at_drop_more, drop_all, append-nil, get_or_read}}
 use Rattle.std.specs.Prelude.{Option, Some, None, option_map, option_and_then, IsSome, is_some, zip, ◌&&◌, All as Each}
 use Rattle.std.specs.FinMap as fin
-use Rattle.std.proofs.lemmas.List.{at_drop_more, drop_all, append-nil, get_or_read}
-use Rattle.dim_hierarchy.specs.Tree.{IsConcept}
-use Rattle.dim_hierarchy.specs.Dimension.{Dimension, IsDimension}
-use Rattle.dim_hierarchy.specs.Filter.{ids_named, pick_named, IsPickOf}
-use Rattle.dim_hierarchy.specs.Names.{IsNamePick}
-use Rattle.dim_hierarchy.specs.declared.filter.Pick.{Pick}
-use Rattle.dim_hierarchy.specs.declared.filter.Pick.TheVariants.{All, Ids}
-use Rattle.dim_hierarchy.specs.declared.filter.NamePick.{NamePick}
+use Rattle.dim_hierarchy.specs.{Dimension.{Dimension, IsDimension}, Filter.{ids_named, pick_named, IsPickOf}, Names.IsNamePick, Tree.IsConcept, declared.filter.NamePick.NamePick, declared.filter.Pick.Pick, declared.filter.Pick.TheVariants.{All, Ids}}
 use Rattle.dim_hierarchy.specs.declared.filter.NamePick.TheVariants as by_name
 
 -- What a function makes of the elements of two lists, place by place.

@@ -1,9 +1,6 @@
 -- The first place in a list at which a test passes.
-use Rattle.std.proofs.Common.{ℕ, ◌≡◌, ◌<◌, List, length, get_or, Bool, true, false, cond, ap, arith, inl, inr}
-use Rattle.std.specs.Prelude.{Some, None, position}
-use Rattle.std.specs.List.{position_or_len}
-use Rattle.std.proofs.lemmas.List.Sums.{position_or_len_is, fails_before_first}
-use Rattle.std.proofs.lemmas.Bool.{cases_lt, lt-ltb, le-ltb}
+use Rattle.std.proofs.{Common.{ℕ, ◌≡◌, ◌<◌, List, length, get_or, Bool, true, false, cond, ap, arith, inl, inr}, lemmas.Bool.{cases_lt, lt-ltb, le-ltb}, lemmas.List.Sums.{position_or_len_is, fails_before_first}}
+use Rattle.std.specs.{List.position_or_len, Prelude.{Some, None, position}}
 
 -- the test passes here and at no place before
 pub position-first : {X : Type 0} (p : X → Bool) (xs : List X) (i : ℕ) (d : X) → i < length xs → ((k : ℕ) → k < i → p (get_or xs k d) ≡ false) → p (get_or xs i d) ≡ true → position p xs ≡ Some i

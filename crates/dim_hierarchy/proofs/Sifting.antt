@@ -1,8 +1,6 @@
 -- The places that pass a test, moved to the front one by one.
-use Rattle.std.proofs.Common.{ℕ, zero, suc, ◌≡◌, ◌+◌, ◌<◌, ◌≤◌, Bool, List, ◌∷◌, length, get_or, take, refl, sym, ap, subst, arith}
-use Rattle.std.specs.Prelude.{All as Each, filter}
-use Rattle.std.specs.List.{range_with_len}
-use Rattle.std.proofs.lemmas.List.FromFn.{length-range_with_len, get_or-range_with_len}
+use Rattle.std.proofs.{Common.{ℕ, zero, suc, ◌≡◌, ◌+◌, ◌<◌, ◌≤◌, Bool, List, ◌∷◌, length, get_or, take, refl, sym, ap, subst, arith}, lemmas.List.FromFn.{length-range_with_len, get_or-range_with_len}}
+use Rattle.std.specs.{List.range_with_len, Prelude.{All as Each, filter}}
 use Rattle.dim_hierarchy.specs.Column.{ArePlaces}
 
 -- of the first so many places those that pass stand in front, and the further ones stand where they did

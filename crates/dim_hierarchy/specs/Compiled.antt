@@ -1,15 +1,6 @@
 -- A filter with a mark for each concept of its hierarchy.
-use Rattle.std.specs.Prelude.{ℕ, ◌≡◌, ◌<◌, Bool, ◌||◌, Option, Some, None, refl, List, length, All as Each}
-use Rattle.std.specs.List.{slice_index_or}
-use Rattle.std.specs.Coded.{Coded, code_by, coded×, coded_ℕ, coded_list, coded_option}
-use Rattle.dim_hierarchy.specs.Concept.{level_of}
-use Rattle.dim_hierarchy.specs.Tree.{Tree, IsConcept}
-use Rattle.dim_hierarchy.specs.Dimension.{Dimension, tree}
-use Rattle.dim_hierarchy.specs.Stored.{dimension_code}
-use Rattle.dim_hierarchy.specs.Filter.{IsFilterOf, is_picked, pick_at}
-use Rattle.dim_hierarchy.specs.Marks.{is_above, AreMarksOf}
-use Rattle.dim_hierarchy.specs.declared.filter.Pick.{Pick}
-use Rattle.dim_hierarchy.specs.declared.filter.Pick.TheVariants.{All, Ids}
+use Rattle.std.specs.{Coded.{Coded, code_by, coded×, coded_ℕ, coded_list, coded_option}, List.slice_index_or, Prelude.{ℕ, ◌≡◌, ◌<◌, Bool, ◌||◌, Option, Some, None, refl, List, length, All as Each}}
+use Rattle.dim_hierarchy.specs.{Concept.level_of, Dimension.{Dimension, tree}, Filter.{IsFilterOf, is_picked, pick_at}, Marks.{is_above, AreMarksOf}, Stored.dimension_code, Tree.{Tree, IsConcept}, declared.filter.Pick.Pick, declared.filter.Pick.TheVariants.{All, Ids}}
 
 -- a hierarchy, and the picks of a filter of it
 pub record Compiled : Type 0 where

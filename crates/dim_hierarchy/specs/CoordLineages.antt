@@ -1,12 +1,6 @@
 -- A coordinate with the lineages of its concepts.
-use Rattle.std.specs.Prelude.{ℕ, ◌≡◌, ◌<◌, ◌≤◌, refl, List, [], length}
-use Rattle.std.specs.List.{slice_index_or}
-use Rattle.std.specs.Coded.{Coded, code_by, coded×, coded_ℕ, coded_list}
-use Rattle.dim_hierarchy.specs.Tree.{leaf_level, up}
-use Rattle.dim_hierarchy.specs.Dimension.{Dimension, tree}
-use Rattle.dim_hierarchy.specs.Stored.{dimension_code}
-use Rattle.dim_hierarchy.specs.Row.{concept_at, IsCoordOf}
-use Rattle.dim_hierarchy.specs.declared.row.Coord.{Coord}
+use Rattle.std.specs.{Coded.{Coded, code_by, coded×, coded_ℕ, coded_list}, List.slice_index_or, Prelude.{ℕ, ◌≡◌, ◌<◌, ◌≤◌, refl, List, [], length}}
+use Rattle.dim_hierarchy.specs.{Dimension.{Dimension, tree}, Row.{concept_at, IsCoordOf}, Stored.dimension_code, Tree.{leaf_level, up}, declared.row.Coord.Coord}
 
 -- a coordinate, and its hierarchy
 pub record CoordOf : Type 0 where

@@ -1,13 +1,8 @@
 -- Dimensions and hierarchies: what contracts see of them, and how they grow.
-use Rattle.std.specs.Prelude.{ℕ, ◌≡◌, ◌≢◌, ◌<◌, ◌≤◌, ◌==◌, not, ◌||◌, nat_lt, nat_le, Option, Some, None, is_some, if◌then◌else◌, List, [], ◌∷◌, ◌++◌, length, position, slice_index_or, bytes_eq, All, Contains, AllPairs}
-use Rattle.std.specs.Ordering.{nat_cmp}
-use Rattle.std.specs.Cmp.Lexicographic.{slice_cmp}
+use Rattle.std.specs.{Cmp.Lexicographic.slice_cmp, Ordering.nat_cmp, Prelude.{ℕ, ◌≡◌, ◌≢◌, ◌<◌, ◌≤◌, ◌==◌, not, ◌||◌, nat_lt, nat_le, Option, Some, None, is_some, if◌then◌else◌, List, [], ◌∷◌, ◌++◌, length, position, slice_index_or, bytes_eq, All, Contains, AllPairs}}
 use Rattle.std.specs.FinMap as map
-use Rattle.dim_hierarchy.specs.Concept.{level_of}
-use Rattle.dim_hierarchy.specs.Tree.{Tree, IsConcept, is_concept, IsTree, leaf_level, new_tree, next_under, with_child}
-use Rattle.dim_hierarchy.specs.declared.hierarchy.DimFault.{DimFault}
+use Rattle.dim_hierarchy.specs.{Concept.level_of, Tree.{Tree, IsConcept, is_concept, IsTree, leaf_level, new_tree, next_under, with_child}, declared.hierarchy.ConceptFault.ConceptFault, declared.hierarchy.DimFault.DimFault}
 use Rattle.dim_hierarchy.specs.declared.hierarchy.DimFault.TheVariants as dim
-use Rattle.dim_hierarchy.specs.declared.hierarchy.ConceptFault.{ConceptFault}
 use Rattle.dim_hierarchy.specs.declared.hierarchy.ConceptFault.TheVariants as concept
 
 -- what byte strings stand for, each for one concept

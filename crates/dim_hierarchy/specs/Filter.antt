@@ -1,13 +1,7 @@
 -- Filters of a hierarchy, those that names stand for, and which coordinates a filter matches.
-use Rattle.std.specs.Prelude.{ℕ, ◌≡◌, ◌≢◌, ◌<◌, Bool, true, false, ◌&&◌, Option, Some, option_map, option_and_then, List, [], ◌∷◌, length, map as each, zip, All as Each}
-use Rattle.std.specs.List.{slice_index_or, list_any}
+use Rattle.std.specs.{List.{slice_index_or, list_any}, Prelude.{ℕ, ◌≡◌, ◌≢◌, ◌<◌, Bool, true, false, ◌&&◌, Option, Some, option_map, option_and_then, List, [], ◌∷◌, length, map as each, zip, All as Each}}
 use Rattle.std.specs.FinMap as map
-use Rattle.dim_hierarchy.specs.Tree.{Tree, IsConcept, is_under}
-use Rattle.dim_hierarchy.specs.Dimension.{Dimension, tree, IsHierarchy}
-use Rattle.dim_hierarchy.specs.declared.row.Coord.{Coord}
-use Rattle.dim_hierarchy.specs.declared.filter.Pick.{Pick}
-use Rattle.dim_hierarchy.specs.declared.filter.Pick.TheVariants.{All, Ids}
-use Rattle.dim_hierarchy.specs.declared.filter.NamePick.{NamePick}
+use Rattle.dim_hierarchy.specs.{Dimension.{Dimension, tree, IsHierarchy}, Tree.{Tree, IsConcept, is_under}, declared.filter.NamePick.NamePick, declared.filter.Pick.Pick, declared.filter.Pick.TheVariants.{All, Ids}, declared.row.Coord.Coord}
 use Rattle.dim_hierarchy.specs.declared.filter.NamePick.TheVariants as by_name
 
 -- the pick of a filter in a dimension

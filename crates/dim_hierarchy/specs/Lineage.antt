@@ -1,8 +1,6 @@
 -- The ancestors of the concepts of a tree, kept by level.
-use Rattle.std.specs.Prelude.{ℕ, ◌≡◌, ◌≤◌, List, [], length}
-use Rattle.std.specs.List.{slice_index_or}
-use Rattle.dim_hierarchy.specs.Concept.{level_of, number_of}
-use Rattle.dim_hierarchy.specs.Tree.{Tree, IsConcept, parents_at, up}
+use Rattle.std.specs.{List.slice_index_or, Prelude.{ℕ, ◌≡◌, ◌≤◌, List, [], length}}
+use Rattle.dim_hierarchy.specs.{Concept.{level_of, number_of}, Tree.{Tree, IsConcept, parents_at, up}}
 
 -- for each level, the lineages of its concepts by number; a lineage has the concept's ancestors by their level
 abbrev pub Lineages : Type 0

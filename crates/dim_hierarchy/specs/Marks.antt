@@ -1,11 +1,6 @@
 -- The marks of the concepts of a dimension by a pick.
-use Rattle.std.specs.Prelude.{ℕ, ◌≡◌, ◌<◌, ◌==◌, Bool, false, if◌then◌else◌, List, [], length}
-use Rattle.std.specs.List.{slice_index_or, list_any}
-use Rattle.dim_hierarchy.specs.Concept.{level_of, number_of}
-use Rattle.dim_hierarchy.specs.Tree.{Tree, IsConcept, is_under, parent, parents_at}
-use Rattle.dim_hierarchy.specs.Filter.{is_picked}
-use Rattle.dim_hierarchy.specs.declared.filter.Pick.{Pick}
-use Rattle.dim_hierarchy.specs.declared.filter.Pick.TheVariants.{All, Ids}
+use Rattle.std.specs.{List.{slice_index_or, list_any}, Prelude.{ℕ, ◌≡◌, ◌<◌, ◌==◌, Bool, false, if◌then◌else◌, List, [], length}}
+use Rattle.dim_hierarchy.specs.{Concept.{level_of, number_of}, Filter.is_picked, Tree.{Tree, IsConcept, is_under, parent, parents_at}, declared.filter.Pick.Pick, declared.filter.Pick.TheVariants.{All, Ids}}
 
 -- the pick lists a concept that is under this one
 abbrev pub is_above : Tree → Pick → ℕ → Bool

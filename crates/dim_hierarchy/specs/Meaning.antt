@@ -1,12 +1,6 @@
 -- What the tests of concepts and filters mean.
 use Rattle.std.specs.Prelude.{ℕ, ◌≡◌, ◌<◌, List, length, Any}
-use Rattle.dim_hierarchy.specs.Tree.{Tree, climb}
-use Rattle.dim_hierarchy.specs.Dimension.{Dimension, tree}
-use Rattle.dim_hierarchy.specs.Row.{concept_at}
-use Rattle.dim_hierarchy.specs.Filter.{pick_at}
-use Rattle.dim_hierarchy.specs.declared.row.Coord.{Coord}
-use Rattle.dim_hierarchy.specs.declared.filter.Pick.{Pick}
-use Rattle.dim_hierarchy.specs.declared.filter.Pick.TheVariants.{All, Ids}
+use Rattle.dim_hierarchy.specs.{Dimension.{Dimension, tree}, Filter.pick_at, Row.concept_at, Tree.{Tree, climb}, declared.filter.Pick.Pick, declared.filter.Pick.TheVariants.{All, Ids}, declared.row.Coord.Coord}
 
 -- the first concept is the second, or is reached from it by parents
 pub record IsUnder (t : Tree) (id top : ℕ) : Type 0 where

@@ -1,19 +1,9 @@
 -- How a name is found by its hash.
-use Rattle.std.specs.Prelude.{ℕ, zero, suc, ◌≡◌, ◌<◌, ◌%◌, ◌/◌, ◌++◌, cond, List, [], ◌∷◌, map, length, replicate, nat_eq, Vec, Option, Some, None, All}
-use Rattle.std.specs.Global.{Global}
-use Rattle.std.specs.List.{flat_map, fold, slice_get, slice_index}
-use Rattle.std.specs.Option.{option_map}
-use Rattle.std.specs.Ordering.{nat_cmp}
-use Rattle.std.specs.Cmp.Lexicographic.{slice_cmp}
-use Rattle.std.specs.Str.{bytes_eq}
-use Rattle.std.specs.Map.{lookup}
-use Rattle.std.specs.BTreeMap.{is_at}
+use Rattle.std.specs.{BTreeMap.is_at, Cmp.Lexicographic.slice_cmp, Global.Global, List.{flat_map, fold, slice_get, slice_index}, Map.lookup, Option.option_map, Ordering.nat_cmp, Prelude.{ℕ, zero, suc, ◌≡◌, ◌<◌, ◌%◌, ◌/◌, ◌++◌, cond, List, [], ◌∷◌, map, length, replicate, nat_eq, Vec, Option, Some, None, All}, Str.bytes_eq}
 use Rattle.std.specs.FinMap as fin
 use Rattle.std.specs.Hash as fed
 use Rattle.std.specs.Hash.FoldHasher as folding
-use Rattle.dim_hierarchy.specs.declared.name_nodes.NameNode.{NameNode}
-use Rattle.dim_hierarchy.specs.declared.name_nodes.Stop.{Stop}
-use Rattle.dim_hierarchy.specs.declared.name_nodes.Stop.TheVariants.{Here, Free, Full}
+use Rattle.dim_hierarchy.specs.{declared.name_nodes.NameNode.NameNode, declared.name_nodes.Stop.Stop, declared.name_nodes.Stop.TheVariants.{Here, Free, Full}}
 
 -- each node has a place for each digit
 abbrev pub HaveDigits : List NameNode → Type 0

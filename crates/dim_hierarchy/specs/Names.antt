@@ -1,7 +1,6 @@
 -- The name of a concept, and picks that list names.
 use Rattle.std.specs.Prelude.{ℕ, ◌≡◌, ◌≢◌, Some, List, []}
-use Rattle.dim_hierarchy.specs.Dimension.{Dimension, find}
-use Rattle.dim_hierarchy.specs.declared.filter.NamePick.{NamePick}
+use Rattle.dim_hierarchy.specs.{Dimension.{Dimension, find}, declared.filter.NamePick.NamePick}
 use Rattle.dim_hierarchy.specs.declared.filter.NamePick.TheVariants as by_name
 
 -- the name of a concept in a dimension: it stands for the concept, and no other name does

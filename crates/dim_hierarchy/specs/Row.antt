@@ -1,10 +1,7 @@
 -- Coordinates of a hierarchy, and those that names stand for.
 use Rattle.std.specs.Prelude.{ℕ, ◌≡◌, ◌<◌, ◌≤◌, ◌==◌, Option, Some, None, option_and_then, if◌then◌else◌, List, length, slice_index, map as each, zip, take}
 use Rattle.std.specs.FinMap as map
-use Rattle.dim_hierarchy.specs.Concept.{level_of}
-use Rattle.dim_hierarchy.specs.Tree.{IsLeaf, leaf_level}
-use Rattle.dim_hierarchy.specs.Dimension.{Dimension, tree, IsHierarchy}
-use Rattle.dim_hierarchy.specs.declared.row.Coord.{Coord}
+use Rattle.dim_hierarchy.specs.{Concept.level_of, Dimension.{Dimension, tree, IsHierarchy}, Tree.{IsLeaf, leaf_level}, declared.row.Coord.Coord}
 
 -- the concept of a coordinate in a dimension
 abbrev pub concept_at : Coord → ℕ → ℕ

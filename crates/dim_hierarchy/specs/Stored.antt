@@ -1,6 +1,5 @@
 -- How a dimension is stored.
-use Rattle.std.specs.Prelude.{ℕ, List, refl}
-use Rattle.std.specs.Coded.{Coded, code_by, coded×, coded_ℕ, coded_list}
+use Rattle.std.specs.{Coded.{Coded, code_by, coded×, coded_ℕ, coded_list}, Prelude.{ℕ, List, refl}}
 use Rattle.std.specs.FinMap as map
 use Rattle.dim_hierarchy.specs.Dimension.{Dimension, NameMap}
 

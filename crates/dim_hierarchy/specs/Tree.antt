@@ -1,6 +1,5 @@
 -- The concepts of one dimension as a tree, and the way up in it.
-use Rattle.std.specs.Prelude.{ℕ, zero, suc, ◌≡◌, ◌+◌, ◌-◌, ◌<◌, ◌≤◌, List, [], ◌∷◌, ◌++◌, Bool, ◌&&◌, ◌==◌, nat_lt, length, slice_index, slice_set, replicate}
-use Rattle.std.specs.List.{slice_index_or, list_any}
+use Rattle.std.specs.{List.{slice_index_or, list_any}, Prelude.{ℕ, zero, suc, ◌≡◌, ◌+◌, ◌-◌, ◌<◌, ◌≤◌, List, [], ◌∷◌, ◌++◌, Bool, ◌&&◌, ◌==◌, nat_lt, length, slice_index, slice_set, replicate}}
 use Rattle.dim_hierarchy.specs.Concept.{level_of, number_of, id_of}
 
 -- For each level, the parents of its concepts by number. Level 0 has ALL alone, which is its own parent.

@@ -1,22 +1,9 @@
 -- What it says that an item of a head is crossed.
-use Rattle.std.proofs.Common.{ℕ, ◌≡◌, ◌+◌, ◌<◌, Bool, true, false, not, ◌&&◌, cond, eqb, zero, suc, List, [], ◌∷◌, ◌++◌, length, map, get_or, refl, sym, ap, subst, ◌∙◌, arith}
-use Rattle.std.specs.Prelude.{All, Contains}
-use Rattle.std.specs.List.{list_any, filter, count_by}
-use Rattle.std.proofs.lemmas.Bool.{false≢true, or_from, or_parts, eq-eqb, eqb-true}
-use Rattle.std.proofs.lemmas.List.{length-map, get_or-map, get_or_default, get_or_append_left, get_or-append-add, length-append}
-use Rattle.std.proofs.lemmas.List.Elements.{All-head, All-tail, All-append, All-filter, filter_passes}
-use Rattle.std.proofs.lemmas.List.Folds.{list_any_at, list_any_none}
-use Rattle.std.proofs.lemmas.List.Sums.{sum_by-cons}
-use Rattle.dim_hierarchy.specs.Tree.{up}
-use Rattle.dim_hierarchy.specs.Dimension.{Dimension, tree}
-use Rattle.describing_set.specs.DescSet.{part_at}
-use Rattle.describing_set.specs.declared.set.DescSet.{DescSet}
-use Rattle.hierarchy_split.specs.Order.{least}
-use Rattle.hierarchy_split.specs.Cut.{lifted, leasts}
-use Rattle.hierarchy_split.specs.Crossing.{has_lifted, crosses, is_crossed_in_head, is_crossed_in_others, is_crossed}
-use Rattle.hierarchy_split.specs.Head.{GroupItems, is_kept, kept_items, parted_items}
-use Rattle.hierarchy_split.specs.Best.{IsUncrossed}
-use Rattle.hierarchy_split.specs.declared.head_cut.HeadCut.{HeadCut}
+use Rattle.std.proofs.{Common.{ℕ, ◌≡◌, ◌+◌, ◌<◌, Bool, true, false, not, ◌&&◌, cond, eqb, zero, suc, List, [], ◌∷◌, ◌++◌, length, map, get_or, refl, sym, ap, subst, ◌∙◌, arith}, lemmas.Bool.{false≢true, or_from, or_parts, eq-eqb, eqb-true}, lemmas.List.{length-map, get_or-map, get_or_default, get_or_append_left, get_or-append-add, length-append}, lemmas.List.Elements.{All-head, All-tail, All-append, All-filter, filter_passes}, lemmas.List.Folds.{list_any_at, list_any_none}, lemmas.List.Sums.sum_by-cons}
+use Rattle.std.specs.{List.{list_any, filter, count_by}, Prelude.{All, Contains}}
+use Rattle.dim_hierarchy.specs.{Dimension.{Dimension, tree}, Tree.up}
+use Rattle.describing_set.specs.{DescSet.part_at, declared.set.DescSet.DescSet}
+use Rattle.hierarchy_split.specs.{Best.IsUncrossed, Crossing.{has_lifted, crosses, is_crossed_in_head, is_crossed_in_others, is_crossed}, Cut.{lifted, leasts}, Head.{GroupItems, is_kept, kept_items, parted_items}, Order.least, declared.head_cut.HeadCut.HeadCut}
 
 -- Tests.
 

@@ -1,15 +1,9 @@
 -- Cuts of dimensions: there is one at most in each, and how the best of them is found.
-use Rattle.std.proofs.Common.{ℕ, ◌≡◌, ◌+◌, ◌-◌, ◌<◌, ◌⊎◌, true, false, Option, Some, None, List, length, take, drop, refl, sym, ap, subst, ◌∙◌, arith, inl, inr}
-use Rattle.std.specs.Prelude.{All, MatchOption, IfSome, IfNone, IsTrue, ◌↔◌, IsPermutation}
-use Rattle.std.specs.List.{range_with_len}
-use Rattle.std.proofs.lemmas.Bool.{cases_lt, false≢true}
-use Rattle.std.proofs.lemmas.List.{length-map, take_rest}
+use Rattle.std.proofs.{Common.{ℕ, ◌≡◌, ◌+◌, ◌-◌, ◌<◌, ◌⊎◌, true, false, Option, Some, None, List, length, take, drop, refl, sym, ap, subst, ◌∙◌, arith, inl, inr}, lemmas.Bool.{cases_lt, false≢true}, lemmas.List.{length-map, take_rest}}
+use Rattle.std.specs.{List.range_with_len, Prelude.{All, MatchOption, IfSome, IfNone, IsTrue, ◌↔◌, IsPermutation}}
 use Rattle.dim_hierarchy.specs.Dimension.{Dimension}
 use Rattle.describing_set.specs.declared.set.DescSet.{DescSet}
-use Rattle.hierarchy_split.specs.Order.{least, IsOrder, IsBetween, IsPlace, shared_count}
-use Rattle.hierarchy_split.specs.Cut.{lifted, leasts, IsCutLevel, IsDimCut, concepts_of, overlap, IsGood, IsBetterCut, IsGoodCut}
-use Rattle.hierarchy_split.specs.declared.cut.Cut.{Cut}
-use Rattle.hierarchy_split.specs.declared.cut.Candidate.{Candidate}
+use Rattle.hierarchy_split.specs.{Cut.{lifted, leasts, IsCutLevel, IsDimCut, concepts_of, overlap, IsGood, IsBetterCut, IsGoodCut}, Order.{least, IsOrder, IsBetween, IsPlace, shared_count}, declared.cut.Candidate.Candidate, declared.cut.Cut.Cut}
 use Rattle.hierarchy_split.proofs.Orders.{places_length, places_below, IsOrder-unique, IsPlace-unique}
 
 pub IfNone-from : {T : Type 0} {P : Type 0} (o : Option T) → P → IfNone o P

@@ -1,27 +1,10 @@
 -- What is kept of a group's head cuts, and what it says of them.
-use Rattle.std.proofs.Common.{ℕ, ◌≡◌, ◌+◌, ◌<◌, ◌≤◌, Bool, Option, Some, None, List, [], ◌∷◌, ◌++◌, length, map, get_or, refl, sym, ap, subst, ◌∙◌, arith, inl, inr}
-use Rattle.std.specs.Prelude.{IfSome, IfNone, ◌==◌}
-use Rattle.std.specs.List.{count_by}
-use Rattle.std.specs.Option.{unwrap_or}
-use Rattle.std.proofs.Math.Seq.{get_or-append_seam}
-use Rattle.std.proofs.lemmas.Bool.{cases_lt}
-use Rattle.std.proofs.lemmas.List.{length-map, get_or_append_left}
-use Rattle.std.proofs.lemmas.List.Sums.{length-filter}
+use Rattle.std.proofs.{Common.{ℕ, ◌≡◌, ◌+◌, ◌<◌, ◌≤◌, Bool, Option, Some, None, List, [], ◌∷◌, ◌++◌, length, map, get_or, refl, sym, ap, subst, ◌∙◌, arith, inl, inr}, Math.Seq.get_or-append_seam, lemmas.Bool.cases_lt, lemmas.List.{length-map, get_or_append_left}, lemmas.List.Sums.length-filter}
+use Rattle.std.specs.{List.count_by, Option.unwrap_or, Prelude.{IfSome, IfNone, ◌==◌}}
 use Rattle.dim_hierarchy.specs.Dimension.{Dimension}
-use Rattle.describing_set.specs.DescSet.{part_at}
-use Rattle.describing_set.specs.declared.set.DescSet.{DescSet}
-use Rattle.hierarchy_split.specs.Order.{least}
-use Rattle.hierarchy_split.specs.Cut.{lifted, leasts}
-use Rattle.hierarchy_split.specs.Crossing.{is_crossed}
-use Rattle.hierarchy_split.specs.Head.{GroupItems, with_other, IsHeadLevel, is_kept, kept_items, IsHeadCut, IsGoodHead, IsGoodHeadCut}
-use Rattle.hierarchy_split.specs.Best.{IsBestWith, IsBetterOf, IsFlaggedGood, IsFlaggedAt}
-use Rattle.hierarchy_split.specs.Flags.{AreDimCutsOf, cuts_at, AreHeadCutsOf, IsFlaggedIn, IsFlagged}
-use Rattle.hierarchy_split.specs.declared.head_cut.HeadCut.{HeadCut}
-use Rattle.hierarchy_split.specs.declared.head.DimCuts.{DimCuts}
-use Rattle.hierarchy_split.specs.declared.head.HeadCuts.{HeadCuts}
-use Rattle.hierarchy_split.proofs.Cuts.{IsCutLevel-unique}
-use Rattle.hierarchy_split.proofs.Heads.{IsBestWith-both}
-use Rattle.hierarchy_split.proofs.Crossings.{all_left, count_by-map, apart_from_uncrossed, uncrossed_from_apart}
+use Rattle.describing_set.specs.{DescSet.part_at, declared.set.DescSet.DescSet}
+use Rattle.hierarchy_split.specs.{Best.{IsBestWith, IsBetterOf, IsFlaggedGood, IsFlaggedAt}, Crossing.is_crossed, Cut.{lifted, leasts}, Flags.{AreDimCutsOf, cuts_at, AreHeadCutsOf, IsFlaggedIn, IsFlagged}, Head.{GroupItems, with_other, IsHeadLevel, is_kept, kept_items, IsHeadCut, IsGoodHead, IsGoodHeadCut}, Order.least, declared.head.DimCuts.DimCuts, declared.head.HeadCuts.HeadCuts, declared.head_cut.HeadCut.HeadCut}
+use Rattle.hierarchy_split.proofs.{Crossings.{all_left, count_by-map, apart_from_uncrossed, uncrossed_from_apart}, Cuts.IsCutLevel-unique, Heads.IsBestWith-both}
 
 -- Head levels.
 

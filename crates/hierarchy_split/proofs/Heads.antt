@@ -1,13 +1,8 @@
 -- Head cuts of which one comes first, and how the first of several is found.
-use Rattle.std.proofs.Common.{ℕ, ◌≡◌, ◌+◌, ◌<◌, ◌≤◌, ◌⊎◌, true, false, Bool, cond, eqb, suc, [], ◌∷◌, Option, Some, None, List, length, get_or, refl, sym, ap, subst, ◌∙◌, arith, inl, inr}
-use Rattle.std.specs.Prelude.{IfSome, IfNone, ◌==◌}
-use Rattle.std.specs.List.{count_by}
-use Rattle.std.proofs.lemmas.Bool.{cases_lt, eqb-true}
-use Rattle.std.proofs.lemmas.List.Sums.{sum_by-cons}
+use Rattle.std.proofs.{Common.{ℕ, ◌≡◌, ◌+◌, ◌<◌, ◌≤◌, ◌⊎◌, true, false, Bool, cond, eqb, suc, [], ◌∷◌, Option, Some, None, List, length, get_or, refl, sym, ap, subst, ◌∙◌, arith, inl, inr}, lemmas.Bool.{cases_lt, eqb-true}, lemmas.List.Sums.sum_by-cons}
+use Rattle.std.specs.{List.count_by, Prelude.{IfSome, IfNone, ◌==◌}}
 use Rattle.dim_hierarchy.specs.Dimension.{Dimension}
-use Rattle.hierarchy_split.specs.Head.{GroupItems, IsBetterHead, IsGoodHeadCut}
-use Rattle.hierarchy_split.specs.Best.{IsBestWith, IsAtLeast, IsBetterOf, IsFlaggedAt}
-use Rattle.hierarchy_split.specs.declared.head_cut.HeadCut.{HeadCut}
+use Rattle.hierarchy_split.specs.{Best.{IsBestWith, IsAtLeast, IsBetterOf, IsFlaggedAt}, Head.{GroupItems, IsBetterHead, IsGoodHeadCut}, declared.head_cut.HeadCut.HeadCut}
 
 IsBetterHead-trans : (a b c : HeadCut) → IsBetterHead a b → IsBetterHead b c → IsBetterHead a c
 IsBetterHead-trans a b c p q = elim p [

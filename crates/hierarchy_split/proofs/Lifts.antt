@@ -1,22 +1,11 @@
 -- The least lifted concepts.
-use Rattle.std.proofs.Common.{Bool, true, false, ℕ, ◌≡◌, ◌+◌, ◌-◌, ◌<◌, min, List, [], ◌∷◌, ◌++◌, length, map, get_or, take, drop, refl, sym, ap, subst, ◌∙◌, arith, inl, inr, ◌⊎◌, add-one}
-use Rattle.std.specs.Prelude.{All, fold}
-use Rattle.std.specs.Ordering.{is_lt, nat_cmp}
-use Rattle.std.proofs.lemmas.Bool.Decides.{nat_tests}
-use Rattle.std.proofs.lemmas.Map.Keys.{ge_from_not_lt}
-use Rattle.std.proofs.lemmas.Grind.{fold-append}
-use Rattle.std.proofs.lemmas.List.{take_more, map_push, take_all, length-take, length-map, get_or_default}
-use Rattle.std.proofs.lemmas.List.Elements.{All-head, All-map}
-use Rattle.dim_hierarchy.specs.Tree.{Tree, IsConcept, IsTree, up}
-use Rattle.dim_hierarchy.specs.Dimension.{Dimension, tree}
+use Rattle.std.proofs.{Common.{Bool, true, false, ℕ, ◌≡◌, ◌+◌, ◌-◌, ◌<◌, min, List, [], ◌∷◌, ◌++◌, length, map, get_or, take, drop, refl, sym, ap, subst, ◌∙◌, arith, inl, inr, ◌⊎◌, add-one}, lemmas.Bool.Decides.nat_tests, lemmas.Grind.fold-append, lemmas.List.{take_more, map_push, take_all, length-take, length-map, get_or_default}, lemmas.List.Elements.{All-head, All-map}, lemmas.Map.Keys.ge_from_not_lt}
+use Rattle.std.specs.{Ordering.{is_lt, nat_cmp}, Prelude.{All, fold}}
+use Rattle.dim_hierarchy.specs.{Dimension.{Dimension, tree}, Tree.{Tree, IsConcept, IsTree, up}}
 use Rattle.dim_hierarchy.proofs.Ancestors.{concept_at_top, up-IsConcept, level_of-up}
-use Rattle.describing_set.specs.Sorted.{In}
-use Rattle.describing_set.specs.DescSet.{part_at}
-use Rattle.describing_set.specs.Sets.{IsDescSetOf}
-use Rattle.describing_set.specs.declared.set.DescSet.{DescSet}
+use Rattle.describing_set.specs.{DescSet.part_at, Sets.IsDescSetOf, Sorted.In, declared.set.DescSet.DescSet}
 use Rattle.describing_set.proofs.Sets.{part_at-IsPart}
-use Rattle.hierarchy_split.specs.Order.{least, AreEqual}
-use Rattle.hierarchy_split.specs.Cut.{lifted, leasts}
+use Rattle.hierarchy_split.specs.{Cut.{lifted, leasts}, Order.{least, AreEqual}}
 
 -- The least of a list, from its front on.
 

@@ -1,13 +1,6 @@
 -- The order of items by a number each: how it grows, and that there is only one.
-use Rattle.std.proofs.Common.{ℕ, zero, suc, true, false, Option, Some, None, ◌≡◌, ◌+◌, ◌-◌, ◌<◌, ◌≤◌, ◌⊎◌, List, [], ◌∷◌, ◌++◌, length, get_or, refl, sym, ap, subst, ◌∙◌, arith, inl, inr}
-use Rattle.std.specs.Prelude.{All, Contains, IsPermutation, insert, MatchOption, IfSome, IfNone, IsTrue, ◌↔◌}
-use Rattle.std.specs.List.{range_with_len}
-use Rattle.std.proofs.lemmas.Bool.{cases_lt, false≢true}
-use Rattle.std.proofs.lemmas.List.{map-id, get_or_default}
-use Rattle.std.proofs.lemmas.List.Edits.{length-insert, get_or-insert_below, get_or-insert_at, get_or-insert_above}
-use Rattle.std.proofs.lemmas.List.Elements.{All-from_get_or}
-use Rattle.std.proofs.lemmas.List.FromFn.{length-range_with_len, get_or-range_with_len, map-range_with_len_more}
-use Rattle.std.proofs.lemmas.List.Sorted.{IsPermutation-trans, IsPermutation-sym, IsPermutation-cons, IsPermutation-to_front, IsPermutation-insert, length_permutation, All-permutation, Contains-permutation}
+use Rattle.std.proofs.{Common.{ℕ, zero, suc, true, false, Option, Some, None, ◌≡◌, ◌+◌, ◌-◌, ◌<◌, ◌≤◌, ◌⊎◌, List, [], ◌∷◌, ◌++◌, length, get_or, refl, sym, ap, subst, ◌∙◌, arith, inl, inr}, lemmas.Bool.{cases_lt, false≢true}, lemmas.List.{map-id, get_or_default}, lemmas.List.Edits.{length-insert, get_or-insert_below, get_or-insert_at, get_or-insert_above}, lemmas.List.Elements.All-from_get_or, lemmas.List.FromFn.{length-range_with_len, get_or-range_with_len, map-range_with_len_more}, lemmas.List.Sorted.{IsPermutation-trans, IsPermutation-sym, IsPermutation-cons, IsPermutation-to_front, IsPermutation-insert, length_permutation, All-permutation, Contains-permutation}}
+use Rattle.std.specs.{List.range_with_len, Prelude.{All, Contains, IsPermutation, insert, MatchOption, IfSome, IfNone, IsTrue, ◌↔◌}}
 use Rattle.hierarchy_split.specs.Order.{ComesBefore, IsOrder, IsBetween, distance, IsNearer, IsPlace}
 
 -- each place comes before the later ones

@@ -1,17 +1,9 @@
 -- The items of a head in two parts, as far as they are looked at.
-use Rattle.std.proofs.Common.{ℕ, zero, suc, ◌≡◌, ◌+◌, ◌<◌, ◌≤◌, Bool, true, false, not, cond, List, [], ◌∷◌, ◌++◌, length, take, get_or, filter, refl, sym, ap, subst, ◌∙◌, arith}
-use Rattle.std.specs.Prelude.{IsPermutation}
-use Rattle.std.specs.Option.{option_map_or}
-use Rattle.std.specs.List.{range_with_len}
-use Rattle.std.proofs.lemmas.List.{append-nil, length-append, take_all, get_or_default}
-use Rattle.std.proofs.lemmas.List.Elements.{filter-append}
-use Rattle.std.proofs.lemmas.List.Filters.{length-filter_more}
-use Rattle.std.proofs.lemmas.List.Sorted.{IsPermutation-filter_both}
-use Rattle.std.proofs.lemmas.Option.{slice_get_read}
+use Rattle.std.proofs.{Common.{ℕ, zero, suc, ◌≡◌, ◌+◌, ◌<◌, ◌≤◌, Bool, true, false, not, cond, List, [], ◌∷◌, ◌++◌, length, take, get_or, filter, refl, sym, ap, subst, ◌∙◌, arith}, lemmas.List.{append-nil, length-append, take_all, get_or_default}, lemmas.List.Elements.filter-append, lemmas.List.Filters.length-filter_more, lemmas.List.Sorted.IsPermutation-filter_both, lemmas.Option.slice_get_read}
+use Rattle.std.specs.{List.range_with_len, Option.option_map_or, Prelude.IsPermutation}
 use Rattle.dim_hierarchy.specs.Dimension.{Dimension}
 use Rattle.describing_set.specs.declared.set.DescSet.{DescSet}
-use Rattle.hierarchy_split.specs.Head.{is_kept, is_kept_at, kept_items, kept_places, parted_places}
-use Rattle.hierarchy_split.specs.declared.head_cut.HeadCut.{HeadCut}
+use Rattle.hierarchy_split.specs.{Head.{is_kept, is_kept_at, kept_items, kept_places, parted_places}, declared.head_cut.HeadCut.HeadCut}
 use Rattle.hierarchy_split.proofs.Orders.{range_more}
 
 -- the first n items, those that are kept and the others

@@ -1,16 +1,9 @@
 -- How many different numbers of a list another has too, from the list's end on.
-use Rattle.std.proofs.Common.{ℕ, ◌≡◌, ◌+◌, ◌<◌, true, false, cond, Bool, eqb, List, [], ◌∷◌, length, get_or, drop, refl, sym, ap, ◌∙◌, arith, inl, inr}
-use Rattle.std.specs.Prelude.{count_by}
-use Rattle.std.specs.List.{list_any}
-use Rattle.std.proofs.lemmas.Bool.{cases_order, false≢true}
-use Rattle.std.proofs.lemmas.List.{at_drop_more}
-use Rattle.std.proofs.lemmas.List.Sums.{sum_by-cons}
-use Rattle.describing_set.specs.Ascending.{with_id, ascending}
-use Rattle.describing_set.specs.Sorted.{In}
-use Rattle.describing_set.proofs.Sorted.{with_id-before, with_id-after, Ascends-ascending, In-ascending, In-from_ascending, In-from_Contains, Contains-from_In}
-use Rattle.describing_set.proofs.Covering.{has-Contains}
+use Rattle.std.proofs.{Common.{ℕ, ◌≡◌, ◌+◌, ◌<◌, true, false, cond, Bool, eqb, List, [], ◌∷◌, length, get_or, drop, refl, sym, ap, ◌∙◌, arith, inl, inr}, lemmas.Bool.{cases_order, false≢true}, lemmas.List.at_drop_more, lemmas.List.Sums.sum_by-cons}
+use Rattle.std.specs.{List.list_any, Prelude.count_by}
+use Rattle.describing_set.specs.{Ascending.{with_id, ascending}, Sorted.In}
+use Rattle.describing_set.proofs.{Covering.has-Contains, Membership.with_id-member, Sorted.{with_id-before, with_id-after, Ascends-ascending, In-ascending, In-from_ascending, In-from_Contains, Contains-from_In}}
 use Rattle.hierarchy_split.specs.Order.{shared_count}
-use Rattle.describing_set.proofs.Membership.{with_id-member}
 
 -- A number that is new to the list, and one that is not.
 

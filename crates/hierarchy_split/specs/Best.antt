@@ -1,8 +1,6 @@
 -- The first of the head cuts that have a property, and the better one of two.
-use Rattle.std.specs.Prelude.{ℕ, ◌≡◌, ◌*◌, ◌<◌, ◌≤◌, ◌⊎◌, ◌==◌, List, length, slice_index, Bool, true, false, Option, MatchOption, IfSome}
-use Rattle.std.specs.List.{count_by, slice_index_or}
-use Rattle.hierarchy_split.specs.Head.{IsBetterHead}
-use Rattle.hierarchy_split.specs.declared.head_cut.HeadCut.{HeadCut}
+use Rattle.std.specs.{List.{count_by, slice_index_or}, Prelude.{ℕ, ◌≡◌, ◌*◌, ◌<◌, ◌≤◌, ◌⊎◌, ◌==◌, List, length, slice_index, Bool, true, false, Option, MatchOption, IfSome}}
+use Rattle.hierarchy_split.specs.{Head.IsBetterHead, declared.head_cut.HeadCut.HeadCut}
 
 -- no cut with the property comes before this one
 pub record IsFirstOf (P : HeadCut → Type 0) (cut : HeadCut) : Type 0 where

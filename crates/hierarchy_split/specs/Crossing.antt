@@ -1,12 +1,8 @@
 -- Which items of a head have a lifted concept in common with an item that no head cut keeps beside them.
-use Rattle.std.specs.Prelude.{ℕ, ◌==◌, List, Bool, not, ◌&&◌, ◌||◌}
-use Rattle.std.specs.List.{list_any}
-use Rattle.dim_hierarchy.specs.Tree.{up}
-use Rattle.dim_hierarchy.specs.Dimension.{Dimension, tree}
-use Rattle.describing_set.specs.DescSet.{part_at}
-use Rattle.describing_set.specs.declared.set.DescSet.{DescSet}
-use Rattle.hierarchy_split.specs.Order.{least}
-use Rattle.hierarchy_split.specs.Cut.{lifted}
+use Rattle.std.specs.{List.list_any, Prelude.{ℕ, ◌==◌, List, Bool, not, ◌&&◌, ◌||◌}}
+use Rattle.dim_hierarchy.specs.{Dimension.{Dimension, tree}, Tree.up}
+use Rattle.describing_set.specs.{DescSet.part_at, declared.set.DescSet.DescSet}
+use Rattle.hierarchy_split.specs.{Cut.lifted, Order.least}
 
 -- one of an item's lifted concepts is among these
 abbrev pub has_lifted : List Dimension → ℕ → ℕ → DescSet → List ℕ → Bool

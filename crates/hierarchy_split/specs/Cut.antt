@@ -1,12 +1,8 @@
 -- Cuts of items with describing sets, and the good one.
-use Rattle.std.specs.Prelude.{ℕ, ◌≡◌, ◌-◌, ◌*◌, ◌<◌, ◌≤◌, ◌⊎◌, List, [], length, map, take, drop, All}
-use Rattle.std.specs.List.{slice_index_or, flat_map}
-use Rattle.dim_hierarchy.specs.Tree.{up}
-use Rattle.dim_hierarchy.specs.Dimension.{Dimension, tree}
-use Rattle.describing_set.specs.DescSet.{part_at}
-use Rattle.describing_set.specs.declared.set.DescSet.{DescSet}
-use Rattle.hierarchy_split.specs.Order.{least, AreEqual, IsOrder, IsPlace, shared_count}
-use Rattle.hierarchy_split.specs.declared.cut.Cut.{Cut}
+use Rattle.std.specs.{List.{slice_index_or, flat_map}, Prelude.{ℕ, ◌≡◌, ◌-◌, ◌*◌, ◌<◌, ◌≤◌, ◌⊎◌, List, [], length, map, take, drop, All}}
+use Rattle.dim_hierarchy.specs.{Dimension.{Dimension, tree}, Tree.up}
+use Rattle.describing_set.specs.{DescSet.part_at, declared.set.DescSet.DescSet}
+use Rattle.hierarchy_split.specs.{Order.{least, AreEqual, IsOrder, IsPlace, shared_count}, declared.cut.Cut.Cut}
 
 -- a set's concepts in a dimension, each lifted to a level
 abbrev pub lifted : List Dimension → ℕ → ℕ → DescSet → List ℕ

@@ -1,17 +1,8 @@
 -- What is kept of a group's head cuts: in each dimension the level, and which items of the head are crossed.
-use Rattle.std.specs.Prelude.{ℕ, ◌≡◌, ◌<◌, ◌≤◌, List, [], length, map, All, None, Some, IfSome, IfNone}
-use Rattle.std.specs.List.{slice_index_or}
+use Rattle.std.specs.{List.slice_index_or, Prelude.{ℕ, ◌≡◌, ◌<◌, ◌≤◌, List, [], length, map, All, None, Some, IfSome, IfNone}}
 use Rattle.dim_hierarchy.specs.Dimension.{Dimension}
-use Rattle.describing_set.specs.Sets.{IsDescSetOf}
-use Rattle.describing_set.specs.declared.set.DescSet.{DescSet}
-use Rattle.hierarchy_split.specs.Limits.{most_items}
-use Rattle.hierarchy_split.specs.Cut.{leasts}
-use Rattle.hierarchy_split.specs.Crossing.{is_crossed}
-use Rattle.hierarchy_split.specs.Head.{GroupItems, IsHeadLevel}
-use Rattle.hierarchy_split.specs.Best.{IsFlaggedGood}
-use Rattle.hierarchy_split.specs.declared.head_cut.HeadCut.{HeadCut}
-use Rattle.hierarchy_split.specs.declared.head.DimCuts.{DimCuts}
-use Rattle.hierarchy_split.specs.declared.head.HeadCuts.{HeadCuts}
+use Rattle.describing_set.specs.{Sets.IsDescSetOf, declared.set.DescSet.DescSet}
+use Rattle.hierarchy_split.specs.{Best.IsFlaggedGood, Crossing.is_crossed, Cut.leasts, Head.{GroupItems, IsHeadLevel}, Limits.most_items, declared.head.DimCuts.DimCuts, declared.head.HeadCuts.HeadCuts, declared.head_cut.HeadCut.HeadCut}
 
 -- what is kept for a dimension is that of these items
 pub record AreDimCutsOf (h : List Dimension) (items : GroupItems) (dim : ℕ) (cuts : DimCuts) : Type 0 where

@@ -1,12 +1,8 @@
 -- Head cuts: which items stay in the first block of a group that has more blocks, and the good one.
-use Rattle.std.specs.Prelude.{ℕ, ◌≡◌, ◌*◌, ◌<◌, ◌≤◌, ◌⊎◌, ◌==◌, List, [], ◌∷◌, ◌++◌, length, slice_get, All, Contains, Bool, false, not}
-use Rattle.std.specs.Option.{option_map_or}
-use Rattle.std.specs.List.{filter, range_with_len}
+use Rattle.std.specs.{List.{filter, range_with_len}, Option.option_map_or, Prelude.{ℕ, ◌≡◌, ◌*◌, ◌<◌, ◌≤◌, ◌⊎◌, ◌==◌, List, [], ◌∷◌, ◌++◌, length, slice_get, All, Contains, Bool, false, not}}
 use Rattle.dim_hierarchy.specs.Dimension.{Dimension}
 use Rattle.describing_set.specs.declared.set.DescSet.{DescSet}
-use Rattle.hierarchy_split.specs.Order.{least}
-use Rattle.hierarchy_split.specs.Cut.{lifted, IsAbove, IsCutLevel}
-use Rattle.hierarchy_split.specs.declared.head_cut.HeadCut.{HeadCut}
+use Rattle.hierarchy_split.specs.{Cut.{lifted, IsAbove, IsCutLevel}, Order.least, declared.head_cut.HeadCut.HeadCut}
 
 -- a group's items: those of its first block, the head, and those of its other blocks
 pub record GroupItems : Type 0 where

@@ -1,6 +1,5 @@
 -- The order of items by a number each, where a cut may lie in it, and what lists on its two sides share.
-use Rattle.std.specs.Prelude.{ℕ, ◌≡◌, ◌≢◌, ◌+◌, ◌-◌, ◌*◌, ◌<◌, ◌≤◌, ◌⊎◌, ◌==◌, List, [], ◌∷◌, length, min, slice_index, fold, All, count_by, IsPermutation}
-use Rattle.std.specs.List.{list_any, range_with_len}
+use Rattle.std.specs.{List.{list_any, range_with_len}, Prelude.{ℕ, ◌≡◌, ◌≢◌, ◌+◌, ◌-◌, ◌*◌, ◌<◌, ◌≤◌, ◌⊎◌, ◌==◌, List, [], ◌∷◌, length, min, slice_index, fold, All, count_by, IsPermutation}}
 use Rattle.describing_set.specs.Ascending.{ascending}
 
 -- the least of a list's numbers; 0 where there is none

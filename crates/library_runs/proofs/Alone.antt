@@ -1,30 +1,14 @@
 -- In a right history in which the commands of one server go one after the other, each answer is of all.
-use Rattle.std.proofs.Common.{◌≡◌, ◌∙◌, ℕ, ◌<◌, ◌≤◌, inl, inr, Bool, true, IsTrue, List, [], ◌∷◌, ◌++◌, length, length-append, refl, sym, ap, subst, arith, ◌==◌}
+use Rattle.std.proofs.{Common.{◌≡◌, ◌∙◌, ℕ, ◌<◌, ◌≤◌, inl, inr, Bool, true, IsTrue, List, [], ◌∷◌, ◌++◌, length, length-append, refl, sym, ap, subst, arith, ◌==◌}, lemmas.Bool.{cases_lt, eq-eqb, false≢true}, lemmas.List.Elements.{All-contains_itself, All-weaker, Contains-append_left}, lemmas.Option.slice_get_within}
 use Rattle.std.specs.Prelude.{Option, Some, Contains, option_and_then, slice_get}
-use Rattle.std.proofs.lemmas.Bool.{cases_lt, eq-eqb, false≢true}
-use Rattle.std.proofs.lemmas.Option.{slice_get_within}
-use Rattle.std.proofs.lemmas.List.Elements.{All-contains_itself, All-weaker, Contains-append_left}
-use Rattle.dim_hierarchy.specs.Dimension.{Dimension}
-use Rattle.dim_hierarchy.specs.declared.row.Row.{Row}
+use Rattle.dim_hierarchy.specs.{Dimension.Dimension, declared.row.Row.Row}
 use Rattle.measure_agg.specs.Aggregate.{Aggregate}
-use Rattle.row_ledger.proofs.Before.{at-later, at-older, before-at, before-later, begins-query, BeginsQuery, ended-before, insert-at-later, no-insert, none-since, over-ended}
+use Rattle.row_ledger.proofs.{Before.{at-later, at-older, before-at, before-later, begins-query, BeginsQuery, ended-before, insert-at-later, no-insert, none-since, over-ended}, Fresh.{event_at-within, kind-within}, Positions.before-older, SettledAnswer.{EachEvent-before, EachEvent-later, begun-at, settled-is_all}}
 use Rattle.list_words.proofs.Elements.{Contains-filter, Contains-map, Contains-mapped, Some-same}
-use Rattle.row_ledger.proofs.Fresh.{event_at-within, kind-within}
-use Rattle.row_ledger.proofs.Positions.{before-older}
-use Rattle.row_ledger.proofs.SettledAnswer.{EachEvent-before, EachEvent-later, begun-at, settled-is_all}
-use Rattle.row_ledger.specs.Bounds.{known, listed, must, own, passed}
-use Rattle.row_ledger.specs.Past.{Ack, Insert, Query, acked, acked_rows, before, begun, event_at, has_ended, insert_at, is_beginning, is_over, query_at, query_in}
-use Rattle.row_ledger.specs.Right.{EachEvent, IsRight, Stands}
-use Rattle.row_ledger.specs.Settled.{IsSettled}
-use Rattle.row_ledger.specs.Site.{site_of}
-use Rattle.row_ledger.specs.declared.event.Event.{Event}
-use Rattle.row_ledger.specs.declared.event.Event.TheVariants.{Answered, Begun}
-use Rattle.row_ledger.specs.declared.settings.Use.{Use}
+use Rattle.row_ledger.specs.{Bounds.{known, listed, must, own, passed}, Past.{Ack, Insert, Query, acked, acked_rows, before, begun, event_at, has_ended, insert_at, is_beginning, is_over, query_at, query_in}, Right.{EachEvent, IsRight, Stands}, Settled.IsSettled, Site.site_of, declared.event.Event.Event, declared.event.Event.TheVariants.{Answered, Begun}, declared.settings.Use.Use}
 use Rattle.script_form.specs.declared.script.Command.{Command}
-use Rattle.script_run.specs.Between.{IsInOrder, IsThrough}
-use Rattle.script_run.specs.Parts.{place_in}
-use Rattle.script_run.specs.Runs.{BeginsAt, EndsBefore}
-use Rattle.volap_cell.proofs.Knowing.{acked-begun}
+use Rattle.script_run.specs.{Between.{IsInOrder, IsThrough}, Parts.place_in, Runs.{BeginsAt, EndsBefore}}
+use Rattle.volap_cell.proofs.Histories.Knowing.{acked-begun}
 use Rattle.library_runs.specs.Index.{AnswersAreOfAll}
 
 -- Beginnings and ends.

@@ -1,29 +1,17 @@
 -- What is known of an index.
-use Rattle.std.proofs.Common.{◌≡◌, ◌∙◌, ℕ, ◌<◌, ◌-◌, Bool, true, List, [], ◌∷◌, ◌++◌, zero, suc, get_or, length, take, drop, refl, reverse, sym, ap, subst, arith}
+use Rattle.std.proofs.{Common.{◌≡◌, ◌∙◌, ℕ, ◌<◌, ◌-◌, Bool, true, List, [], ◌∷◌, ◌++◌, zero, suc, get_or, length, take, drop, refl, reverse, sym, ap, subst, arith}, lemmas.List.{reverse-append, take-append-drop, take-append-le, take_all}, lemmas.Option.slice_get-get_or}
 use Rattle.std.specs.Prelude.{Some, slice_get}
-use Rattle.std.proofs.lemmas.List.{reverse-append, take-append-drop, take-append-le, take_all}
-use Rattle.std.proofs.lemmas.Option.{slice_get-get_or}
 use Rattle.dim_hierarchy.specs.Dimension.{Dimension}
 use Rattle.measure_agg.specs.Aggregate.{Aggregate}
 use Rattle.row_ledger.proofs.Growth.{IsRight-kept}
-use Rattle.row_ledger.specs.Right.{EachEvent, IsRight, Stands}
-use Rattle.row_ledger.specs.Site.{site_of}
-use Rattle.row_ledger.specs.declared.event.Event.{Event}
-use Rattle.row_ledger.specs.declared.event.Event.TheVariants.{Answered}
-use Rattle.row_ledger.specs.declared.settings.Use.{Use}
+use Rattle.row_ledger.specs.{Right.{EachEvent, IsRight, Stands}, Site.site_of, declared.event.Event.Event, declared.event.Event.TheVariants.Answered, declared.settings.Use.Use}
 use Rattle.script_form.specs.declared.script.Command.{Command}
-use Rattle.script_run.proofs.Between.{through-law}
-use Rattle.script_run.proofs.Whole.{serial_law}
-use Rattle.script_run.specs.Between.{IsInOrder, IsThrough}
-use Rattle.script_run.specs.Places.{places}
-use Rattle.script_run.specs.Runs.{BeginsAt}
-use Rattle.seeded_run.specs.Kept.{IsBetween}
-use Rattle.seeded_run.specs.Phase.{IsCoreHeld, MayAllRun, MayRun, about, held}
+use Rattle.script_run.proofs.{Between.through-law, Whole.serial_law}
+use Rattle.script_run.specs.{Between.{IsInOrder, IsThrough}, Places.places, Runs.BeginsAt}
+use Rattle.seeded_run.specs.{Kept.IsBetween, Phase.{IsCoreHeld, MayAllRun, MayRun, about, held}}
 use Rattle.volap_cell.specs.declared.state.State.{State}
-use Rattle.olap_top.proofs.Handing.{held-inv}
-use Rattle.olap_top.proofs.InsertsEnd.{inserts-over}
-use Rattle.library_runs.specs.Index.{AnswersLast, IsHeld, IsRightIndex, alone, history_of}
-use Rattle.library_runs.specs.declared.index.Index.{Index}
+use Rattle.olap_top.proofs.{Handing.held-inv, InsertsEnd.inserts-over}
+use Rattle.library_runs.specs.{Index.{AnswersLast, IsHeld, IsRightIndex, alone, history_of}, declared.index.Index.Index}
 use Rattle.library_runs.proofs.Alone.{AreOfOne, answers-of-all, last-begun}
 
 -- Commands.

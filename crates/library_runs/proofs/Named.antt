@@ -1,8 +1,6 @@
 -- What the search for a row's coordinate tells of its names.
-use Rattle.std.proofs.Common.{ℕ, ◌≡◌, ◌∙◌, refl, sym, subst, true}
-use Rattle.std.proofs.lemmas.Bool.{false≢true}
-use Rattle.std.specs.Prelude.{Option, Some, None, Ok, Err, IfSome, IfNone, IsOk, is_ok}
-use Rattle.std.specs.declared.result.Result.{Result}
+use Rattle.std.proofs.{Common.{ℕ, ◌≡◌, ◌∙◌, refl, sym, subst, true}, lemmas.Bool.{false≢true}}
+use Rattle.std.specs.{Prelude.{Option, Some, None, Ok, Err, IfSome, IfNone, IsOk, is_ok}, declared.result.Result.Result}
 
 -- where there is a coordinate, all names are known
 pub all-known : {X : Type 0} (first : Option ℕ) (found : Result X ℕ) (at : X) → found ≡ Ok at → IfSome first (λ dim. found ≡ Err dim) → None ≡ first

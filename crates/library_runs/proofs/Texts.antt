@@ -1,17 +1,12 @@
 -- What the answers of the top call say of bytes in memory.
 use Rattle.std.proofs.Common.{◌≡◌, ◌∙◌, ℕ, ◌+◌, ◌<◌, ◌^◌, List, [], ◌∷◌, ◌++◌, append-nil, length, length-append, sym, ap, subst, arith}
-use Rattle.std.specs.Prelude.{Ok, Err, Some, Option, String, codes, map, string_bytes}
-use Rattle.std.specs.declared.alloc.Global.{Global}
+use Rattle.std.specs.{Prelude.{Ok, Err, Some, Option, String, codes, map, string_bytes}, declared.alloc.Global.Global}
 use Rattle.volap_io.specs.Causes.{Gave}
 use Rattle.list_words.proofs.Elements.{Some-same}
 use Rattle.row_ledger.specs.declared.event.Event.{Event}
-use Rattle.script_form.specs.Scripts.{records_of, script}
-use Rattle.script_form.specs.declared.script.ScriptFault.TheVariants.{Bad}
+use Rattle.script_form.specs.{Scripts.{records_of, script}, declared.script.ScriptFault.TheVariants.Bad}
 use Rattle.olap_top.proofs.WantedFacts.{is_wanted}
-use Rattle.olap_top.specs.Outcomes.{IsDone, IsNoScript, IsReadWhole}
-use Rattle.olap_top.specs.Words.{Want, ForSomeWanted}
-use Rattle.olap_top.specs.declared.wanted.Wanted.{Wanted}
-use Rattle.olap_top.specs.declared.wanted.Wanted.TheVariants.{Step}
+use Rattle.olap_top.specs.{Outcomes.{IsDone, IsNoScript, IsReadWhole}, Words.{Want, ForSomeWanted}, declared.wanted.Wanted.Wanted, declared.wanted.Wanted.TheVariants.Step}
 use Rattle.library_runs.specs.Text.{IsAnswer, IsBadText}
 
 -- what was read to the end is all

@@ -1,17 +1,11 @@
 -- What an index for one thread is, and what its history says.
 use Rattle.std.specs.Prelude.{ℕ, ◌≡◌, ◌≢◌, true, List, [], ◌∷◌, ◌++◌, Some, filter}
-use Rattle.dim_hierarchy.specs.Dimension.{Dimension}
-use Rattle.dim_hierarchy.specs.Filter.{matches}
-use Rattle.dim_hierarchy.specs.declared.row.Row.{Row}
+use Rattle.dim_hierarchy.specs.{Dimension.Dimension, Filter.matches, declared.row.Row.Row}
 use Rattle.measure_agg.specs.Aggregate.{Aggregate, agg}
-use Rattle.row_ledger.specs.Past.{Query, acked_rows, before, query_at}
-use Rattle.row_ledger.specs.declared.event.Event.{Event}
-use Rattle.row_ledger.specs.declared.event.Event.TheVariants.{Answered}
-use Rattle.row_ledger.specs.declared.settings.Use.{Use}
+use Rattle.row_ledger.specs.{Past.{Query, acked_rows, before, query_at}, declared.event.Event.Event, declared.event.Event.TheVariants.Answered, declared.settings.Use.Use}
 use Rattle.script_form.specs.declared.script.Command.{Command}
 use Rattle.script_run.specs.Runs.{BeginsAt, IsSerial}
-use Rattle.seeded_run.specs.Kept.{IsBetween}
-use Rattle.seeded_run.specs.Phase.{IsCoreHeld, MayAllRun, about, held}
+use Rattle.seeded_run.specs.{Kept.IsBetween, Phase.{IsCoreHeld, MayAllRun, about, held}}
 use Rattle.volap_cell.specs.Steps.{history_in}
 use Rattle.olap_top.specs.Outcomes.{HasRun}
 use Rattle.library_runs.specs.declared.index.Index.{Index}

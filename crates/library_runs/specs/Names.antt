@@ -1,8 +1,6 @@
 -- What names ask for, and which can be those of a row.
-use Rattle.std.specs.Prelude.{ℕ, ◌≤◌, List, [], ◌∷◌, All as Each, length}
-use Rattle.std.specs.Borrow.{Bor}
-use Rattle.dim_hierarchy.specs.declared.filter.NamePick.{NamePick}
-use Rattle.dim_hierarchy.specs.declared.filter.NamePick.TheVariants.{All, Any}
+use Rattle.std.specs.{Borrow.Bor, Prelude.{ℕ, ◌≤◌, List, [], ◌∷◌, All as Each, length}}
+use Rattle.dim_hierarchy.specs.{declared.filter.NamePick.NamePick, declared.filter.NamePick.TheVariants.{All, Any}}
 
 -- each has at most 255 bytes, as a row's name has
 abbrev pub AreShort : List (Bor (List ℕ)) → Type 0

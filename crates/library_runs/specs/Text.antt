@@ -2,10 +2,7 @@
 use Rattle.std.specs.Prelude.{ℕ, ◌≡◌, Ok, Err, List}
 use Rattle.answer_text.specs.Printed.{told}
 use Rattle.row_ledger.specs.declared.event.Event.{Event}
-use Rattle.script_form.specs.Scripts.{records_of, script}
-use Rattle.script_form.specs.declared.script.Cause.{Cause}
-use Rattle.script_form.specs.declared.script.Script.{Script}
-use Rattle.script_form.specs.declared.script.ScriptFault.TheVariants.{Bad}
+use Rattle.script_form.specs.{Scripts.{records_of, script}, declared.script.Cause.Cause, declared.script.Script.Script, declared.script.ScriptFault.TheVariants.Bad}
 use Rattle.olap_top.specs.Outcomes.{HasRun}
 
 -- the bytes are a script, the history is right and a run of exactly its commands, and the text is what that history tells

@@ -1,32 +1,13 @@
 -- The items of the blocks of a group together.
-use Rattle.std.proofs.Common.{ℕ, ◌≡◌, ◌+◌, Bool, true, false, not, Option, Some, None, List, [], ◌∷◌, ◌++◌, length, map, refl, sym, ap, subst, ◌∙◌, arith}
-use Rattle.std.specs.Prelude.{All, IfSome, sum_by}
-use Rattle.std.specs.Option.{option_to_list}
-use Rattle.std.specs.List.{flat_map}
-use Rattle.std.proofs.Math.Bool.{beq}
-use Rattle.std.proofs.lemmas.Bool.{false≢true}
-use Rattle.std.proofs.lemmas.List.{append-nil, append_assoc, map-append, length-append}
-use Rattle.std.proofs.lemmas.List.Sums.{sum_by-append}
-use Rattle.std.proofs.lemmas.List.Concat.{flat_map-append}
-use Rattle.std.proofs.lemmas.List.Elements.{All-nil, All-append, All-tail}
-use Rattle.dim_hierarchy.specs.Dimension.{Dimension}
-use Rattle.dim_hierarchy.specs.Rows.{IsRowOf}
-use Rattle.dim_hierarchy.specs.declared.row.Row.{Row}
-use Rattle.measure_agg.specs.Aggregate.{Aggregate, agg}
-use Rattle.measure_agg.specs.Joining.{join}
-use Rattle.describing_set.specs.DescSet.{IsSetOf}
-use Rattle.describing_set.specs.Sets.{JoinsTo}
-use Rattle.describing_set.specs.declared.set.DescSet.{DescSet}
-use Rattle.dc_node.specs.Block.{rows_in, entries_in, is_leaf, IsBodyOf}
-use Rattle.dc_node.specs.Summary.{coords, aggs, joined, row_count, IsSummary, IsUnionOf}
-use Rattle.dc_node.specs.declared.block.Body.{Body}
-use Rattle.dc_node.specs.declared.block.Body.TheVariants.{Rows, Entries}
-use Rattle.dc_node.specs.declared.block.Block.{Block}
-use Rattle.dc_node.specs.declared.entry.Entry.{Entry}
+use Rattle.std.proofs.{Common.{ℕ, ◌≡◌, ◌+◌, Bool, true, false, not, Option, Some, None, List, [], ◌∷◌, ◌++◌, length, map, refl, sym, ap, subst, ◌∙◌, arith}, Math.Bool.beq, lemmas.Bool.{false≢true}, lemmas.List.{append-nil, append_assoc, map-append, length-append}, lemmas.List.Concat.flat_map-append, lemmas.List.Elements.{All-nil, All-append, All-tail}, lemmas.List.Sums.sum_by-append}
+use Rattle.std.specs.{List.flat_map, Option.option_to_list, Prelude.{All, IfSome, sum_by}}
+use Rattle.dim_hierarchy.specs.{Dimension.Dimension, Rows.IsRowOf, declared.row.Row.Row}
+use Rattle.measure_agg.specs.{Aggregate.{Aggregate, agg}, Joining.join}
+use Rattle.describing_set.specs.{DescSet.IsSetOf, Sets.JoinsTo, declared.set.DescSet.DescSet}
+use Rattle.dc_node.specs.{Block.{rows_in, entries_in, is_leaf, IsBodyOf}, Summary.{coords, aggs, joined, row_count, IsSummary, IsUnionOf}, declared.block.Block.Block, declared.block.Body.Body, declared.block.Body.TheVariants.{Rows, Entries}, declared.entry.Entry.Entry}
 use Rattle.dc_node.proofs.Summaries.{IsUnionOf-none, IsUnionOf-append, valid_coords}
 use Rattle.link_descent.specs.Divide.{front, together}
-use Rattle.link_descent.proofs.Entries.{All-rows}
-use Rattle.link_descent.proofs.Parts.{weigh, joined-count}
+use Rattle.link_descent.proofs.{Entries.All-rows, Parts.{weigh, joined-count}}
 
 -- the laws that calls of the crates below state
 abbrev pub AggAppend : Type 0

@@ -1,21 +1,12 @@
 -- What the code knows of the good cut of a head, and of the good head cut of a group.
 use Rattle.std.proofs.Common.{ℕ, ◌≡◌, Option, Some, None, List, ◌++◌, length, subst, arith}
-use Rattle.std.specs.Prelude.{IfSome, IfNone, IsPermutation}
-use Rattle.std.specs.List.{range_with_len}
+use Rattle.std.specs.{List.range_with_len, Prelude.{IfSome, IfNone, IsPermutation}}
 use Rattle.dim_hierarchy.specs.Dimension.{Dimension}
 use Rattle.describing_set.specs.declared.set.DescSet.{DescSet}
-use Rattle.hierarchy_split.specs.Cut.{IsDimCut, IsGood, IsGoodCut}
-use Rattle.hierarchy_split.specs.Head.{GroupItems, head_items, kept_places, parted_places, IsHeadCut, IsGoodHead, IsGoodHeadCut}
-use Rattle.hierarchy_split.specs.Flags.{AreHeadCutsOf}
-use Rattle.hierarchy_split.specs.declared.cut.Cut.{Cut}
-use Rattle.hierarchy_split.specs.declared.head_cut.HeadCut.{HeadCut}
-use Rattle.hierarchy_split.specs.declared.head.HeadCuts.{HeadCuts}
+use Rattle.hierarchy_split.specs.{Cut.{IsDimCut, IsGood, IsGoodCut}, Flags.AreHeadCutsOf, Head.{GroupItems, head_items, kept_places, parted_places, IsHeadCut, IsGoodHead, IsGoodHeadCut}, declared.cut.Cut.Cut, declared.head.HeadCuts.HeadCuts, declared.head_cut.HeadCut.HeadCut}
 use Rattle.hierarchy_split.proofs.Cuts.{cut_length}
-use Rattle.dc_node.specs.Block.{size}
-use Rattle.dc_node.specs.declared.block.Body.{Body}
-use Rattle.dc_node.specs.declared.block.Block.{Block}
-use Rattle.link_descent.specs.Divide.{front, together, AreItemSets, AreGroupSets, HasNoCut, HasNoHeadCut}
-use Rattle.link_descent.specs.Room.{IsTheCut, AreTheParts, Strikes}
+use Rattle.dc_node.specs.{Block.size, declared.block.Block.Block, declared.block.Body.Body}
+use Rattle.link_descent.specs.{Divide.{front, together, AreItemSets, AreGroupSets, HasNoCut, HasNoHeadCut}, Room.{IsTheCut, AreTheParts, Strikes}}
 use Rattle.link_descent.proofs.Strikes.{Strikes-both}
 
 pub the_cut : (h : List Dimension) (body : Body) (sets : List DescSet) (r : Option Cut) → AreItemSets h body sets → length sets ≡ size body → IfSome r (IsGoodCut h sets) → IfSome r (λ cut. IsPermutation (range_with_len 0 (length sets)) cut.order.items) → IfSome r (IsTheCut h body)

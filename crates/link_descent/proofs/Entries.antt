@@ -1,14 +1,9 @@
 -- The items of a body of a hierarchy, one by one.
-use Rattle.std.proofs.Common.{List}
+use Rattle.std.proofs.{Common.List, lemmas.List.Elements.All-nil}
 use Rattle.std.specs.Prelude.{All}
-use Rattle.std.proofs.lemmas.List.Elements.{All-nil}
-use Rattle.dim_hierarchy.specs.Dimension.{Dimension}
-use Rattle.dim_hierarchy.specs.Rows.{IsRowOf}
+use Rattle.dim_hierarchy.specs.{Dimension.Dimension, Rows.IsRowOf}
 use Rattle.describing_set.specs.Sets.{IsDescSetOf}
-use Rattle.dc_node.specs.Block.{rows_in, entries_in, IsBodyOf}
-use Rattle.dc_node.specs.declared.block.Body.{Body}
-use Rattle.dc_node.specs.declared.block.Body.TheVariants.{Rows, Entries}
-use Rattle.dc_node.specs.declared.entry.Entry.{Entry}
+use Rattle.dc_node.specs.{Block.{rows_in, entries_in, IsBodyOf}, declared.block.Body.Body, declared.block.Body.TheVariants.{Rows, Entries}, declared.entry.Entry.Entry}
 
 abbrev pub HasSet : List Dimension → Entry → Type 0
 HasSet h e = IsDescSetOf h e.set

@@ -1,12 +1,6 @@
 -- The items of a list at some places.
-use Rattle.std.proofs.Common.{ℕ, ◌≡◌, ◌+◌, ◌<◌, List, [], ◌∷◌, ◌++◌, length, map, take, get_or, pos, Some, refl, sym, ap, subst, ◌∙◌, arith}
-use Rattle.std.specs.Prelude.{slice_get, All, IfSome, IsPermutation}
-use Rattle.std.specs.List.{AllZip, cons_option, range_with_len}
-use Rattle.std.proofs.lemmas.List.{take_more, length-map, nil_from_length, get_or_default}
-use Rattle.std.proofs.lemmas.List.Elements.{filter_map-append, All-nil, All-tail, All-same, All-map}
-use Rattle.std.proofs.lemmas.List.FromFn.{fill_by_all}
-use Rattle.std.proofs.lemmas.List.Sorted.{IsPermutation-refl, IsPermutation-map}
-use Rattle.std.proofs.lemmas.Option.{slice_get_read, slice_get-get_or}
+use Rattle.std.proofs.{Common.{ℕ, ◌≡◌, ◌+◌, ◌<◌, List, [], ◌∷◌, ◌++◌, length, map, take, get_or, pos, Some, refl, sym, ap, subst, ◌∙◌, arith}, lemmas.List.{take_more, length-map, nil_from_length, get_or_default}, lemmas.List.Elements.{filter_map-append, All-nil, All-tail, All-same, All-map}, lemmas.List.FromFn.fill_by_all, lemmas.List.Sorted.{IsPermutation-refl, IsPermutation-map}, lemmas.Option.{slice_get_read, slice_get-get_or}}
+use Rattle.std.specs.{List.{AllZip, cons_option, range_with_len}, Prelude.{slice_get, All, IfSome, IsPermutation}}
 use Rattle.dim_hierarchy.specs.declared.row.Row.{Row}
 use Rattle.hierarchy_split.proofs.Orders.{places_length, places_below}
 use Rattle.link_descent.specs.Divide.{items_at}

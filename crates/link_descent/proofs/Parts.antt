@@ -1,31 +1,12 @@
 -- The parts of a divided body: they are of the same hierarchy, they have room, and they share the rows beneath.
-use Rattle.std.proofs.Common.{ℕ, ◌≡◌, ◌+◌, ◌<◌, true, false, List, [], ◌∷◌, ◌++◌, length, take, drop, refl, sym, ap, subst, ◌∙◌, arith}
-use Rattle.std.specs.Prelude.{◌==◌, sum_by, All, IsPermutation}
-use Rattle.std.specs.List.{range_with_len}
-use Rattle.std.proofs.lemmas.Bool.{eqb-true}
-use Rattle.std.proofs.lemmas.Slice.Zip.{AllZip-long}
-use Rattle.std.proofs.lemmas.Bool.Decides.{nat_tests}
-use Rattle.std.proofs.lemmas.List.{length-append, length-take, length-drop, length-map, take-append-drop}
-use Rattle.std.proofs.lemmas.List.Elements.{All-take, All-drop}
-use Rattle.std.proofs.lemmas.List.Sums.{sum_by-append, sum_by-cons}
-use Rattle.std.proofs.lemmas.List.Sorted.{sum_by-IsPermutation, length_permutation}
-use Rattle.dim_hierarchy.specs.Dimension.{Dimension}
-use Rattle.dim_hierarchy.specs.Rows.{IsRowOf}
-use Rattle.dim_hierarchy.specs.declared.row.Row.{Row}
+use Rattle.std.proofs.{Common.{ℕ, ◌≡◌, ◌+◌, ◌<◌, true, false, List, [], ◌∷◌, ◌++◌, length, take, drop, refl, sym, ap, subst, ◌∙◌, arith}, lemmas.Bool.eqb-true, lemmas.Bool.Decides.nat_tests, lemmas.List.{length-append, length-take, length-drop, length-map, take-append-drop}, lemmas.List.Elements.{All-take, All-drop}, lemmas.List.Sorted.{sum_by-IsPermutation, length_permutation}, lemmas.List.Sums.{sum_by-append, sum_by-cons}, lemmas.Slice.Zip.AllZip-long}
+use Rattle.std.specs.{List.range_with_len, Prelude.{◌==◌, sum_by, All, IsPermutation}}
+use Rattle.dim_hierarchy.specs.{Dimension.Dimension, Rows.IsRowOf, declared.row.Row.Row}
 use Rattle.measure_agg.specs.Aggregate.{Aggregate, agg}
-use Rattle.describing_set.specs.Sets.{IsDescSetOf}
-use Rattle.describing_set.specs.declared.set.DescSet.{DescSet}
-use Rattle.hierarchy_split.proofs.Orders.{places_length, places_below}
+use Rattle.describing_set.specs.{Sets.IsDescSetOf, declared.set.DescSet.DescSet}
+use Rattle.hierarchy_split.proofs.{Crossings.{all_left, all_right}, Cuts.cut_length, Orders.{places_length, places_below}, Partings.{kept_count, parts-order}}
 use Rattle.hierarchy_split.specs.Head.{kept_places, parted_places}
-use Rattle.hierarchy_split.proofs.Cuts.{cut_length}
-use Rattle.hierarchy_split.proofs.Crossings.{all_left, all_right}
-use Rattle.hierarchy_split.proofs.Partings.{kept_count, parts-order}
-use Rattle.dc_node.specs.Block.{size, is_full, IsBodyOf}
-use Rattle.dc_node.specs.Summary.{joined, aggs, row_count, IsSummary}
-use Rattle.dc_node.specs.declared.block.Body.{Body}
-use Rattle.dc_node.specs.declared.block.Body.TheVariants.{Rows, Entries}
-use Rattle.dc_node.specs.declared.block.Block.{Block}
-use Rattle.dc_node.specs.declared.entry.Entry.{Entry}
+use Rattle.dc_node.specs.{Block.{size, is_full, IsBodyOf}, Summary.{joined, aggs, row_count, IsSummary}, declared.block.Block.Block, declared.block.Body.Body, declared.block.Body.TheVariants.{Rows, Entries}, declared.entry.Entry.Entry}
 use Rattle.link_descent.specs.Divide.{items_at, body_at, front, rest, half, AreItemSets, IsCutInTwo, IsCutByHead, IsHalved}
 use Rattle.link_descent.proofs.Items.{length-items_at, All-items_at, items_at-parts}
 

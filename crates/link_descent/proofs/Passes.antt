@@ -1,15 +1,10 @@
 -- Steps at which nothing is divided.
 use Rattle.std.proofs.Common.{ℕ, ◌≡◌, ◌<◌, inl, List, length, refl, sym, ap, ◌∙◌}
 use Rattle.std.specs.Prelude.{slice_get, slice_set, Some}
-use Rattle.dim_hierarchy.specs.declared.row.Row.{Row}
-use Rattle.dim_hierarchy.specs.Dimension.{Dimension}
-use Rattle.dc_node.specs.Block.{entries_in, with_entries}
-use Rattle.dc_node.specs.declared.block.Block.{Block}
-use Rattle.dc_node.specs.declared.entry.Entry.{Entry}
+use Rattle.dim_hierarchy.specs.{Dimension.Dimension, declared.row.Row.Row}
+use Rattle.dc_node.specs.{Block.{entries_in, with_entries}, Entry.{IsWithRow, HasRowMore}, declared.block.Block.Block, declared.entry.Entry.Entry}
 use Rattle.dc_node.proofs.Places.{set-entry}
-use Rattle.shard_store.specs.Gate.{root_entry}
-use Rattle.shard_store.specs.declared.gate.Gate.{Gate}
-use Rattle.dc_node.specs.Entry.{IsWithRow, HasRowMore}
+use Rattle.shard_store.specs.{Gate.root_entry, declared.gate.Gate.Gate}
 use Rattle.link_descent.specs.Pass.{PassesDown, PassesIn}
 
 -- the entry was changed where it stands

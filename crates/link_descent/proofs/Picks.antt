@@ -1,15 +1,8 @@
 -- The pick of a directory's first entries, and how it grows.
-use Rattle.std.proofs.Common.{ℕ, ◌≡◌, ◌+◌, ◌<◌, ◌≤◌, ◌⊎◌, List, [], ◌∷◌, length, get_or, map, true, false, cond, ltb, not, Some, None, refl, sym, ap, subst, ◌∙◌, arith, inl, inr}
-use Rattle.std.specs.Prelude.{slice_get, option_map}
-use Rattle.std.specs.List.{list_any}
-use Rattle.std.proofs.lemmas.Bool.{and_from, and_parts, cases_lt, eq-eqb, eqb-true, false_from_ne_true, lt-ltb, ltb-true, not_from_false, not_from_true, or_cases, or_left, or_right}
-use Rattle.std.proofs.lemmas.List.Folds.{list_any_at, list_any_none}
-use Rattle.std.proofs.lemmas.List.Sums.{position_or_len_is}
-use Rattle.std.proofs.lemmas.Option.{get_or_from_slice_get, slice_get_cases, slice_get-map, same_Some, slice_get_within, slice_get-get_or}
-use Rattle.dim_hierarchy.specs.Dimension.{Dimension}
-use Rattle.dim_hierarchy.specs.declared.row.Coord.{Coord}
-use Rattle.describing_set.specs.Sets.{growth_of, size_of}
-use Rattle.describing_set.specs.declared.set.DescSet.{DescSet}
+use Rattle.std.proofs.{Common.{ℕ, ◌≡◌, ◌+◌, ◌<◌, ◌≤◌, ◌⊎◌, List, [], ◌∷◌, length, get_or, map, true, false, cond, ltb, not, Some, None, refl, sym, ap, subst, ◌∙◌, arith, inl, inr}, lemmas.Bool.{and_from, and_parts, cases_lt, eq-eqb, eqb-true, false_from_ne_true, lt-ltb, ltb-true, not_from_false, not_from_true, or_cases, or_left, or_right}, lemmas.List.Folds.{list_any_at, list_any_none}, lemmas.List.Sums.position_or_len_is, lemmas.Option.{get_or_from_slice_get, slice_get_cases, slice_get-map, same_Some, slice_get_within, slice_get-get_or}}
+use Rattle.std.specs.{List.list_any, Prelude.{slice_get, option_map}}
+use Rattle.dim_hierarchy.specs.{Dimension.Dimension, declared.row.Coord.Coord}
+use Rattle.describing_set.specs.{Sets.{growth_of, size_of}, declared.set.DescSet.DescSet}
 use Rattle.dc_node.specs.declared.entry.Entry.{Entry}
 use Rattle.link_descent.specs.Pick.{IsPickedBefore, IsPick, is_before, pick_place}
 

@@ -1,11 +1,8 @@
 -- The best of a directory's first entries with its rank.
-use Rattle.std.proofs.Common.{ℕ, ◌≡◌, ◌+◌, ◌<◌, List, arith, ap, refl, sym, ◌∙◌, Some, inl, inr}
+use Rattle.std.proofs.{Common.{ℕ, ◌≡◌, ◌+◌, ◌<◌, List, arith, ap, refl, sym, ◌∙◌, Some, inl, inr}, lemmas.Option.same_Some}
 use Rattle.std.specs.Prelude.{slice_get}
-use Rattle.std.proofs.lemmas.Option.{same_Some}
-use Rattle.dim_hierarchy.specs.Dimension.{Dimension}
-use Rattle.dim_hierarchy.specs.declared.row.Coord.{Coord}
-use Rattle.describing_set.specs.Sets.{growth_of, size_of}
-use Rattle.describing_set.specs.declared.set.DescSet.{DescSet}
+use Rattle.dim_hierarchy.specs.{Dimension.Dimension, declared.row.Coord.Coord}
+use Rattle.describing_set.specs.{Sets.{growth_of, size_of}, declared.set.DescSet.DescSet}
 use Rattle.link_descent.proofs.Picks.{Before, IsBestOf, IsBestOf-one, IsBestOf-keeps, IsBestOf-takes}
 
 -- the set at a place comes first of the first n, and grows so much

@@ -1,21 +1,10 @@
 -- Room at a head that is cut, and what is new then.
 use Rattle.std.proofs.Common.{ℕ, ◌≡◌, ◌+◌, ◌≤◌, true, List, [], refl, ap, ◌∙◌, arith, inl, inr}
 use Rattle.dim_hierarchy.specs.Dimension.{Dimension}
-use Rattle.dc_node.specs.Block.{is_full, IsBodyOf}
-use Rattle.dc_node.specs.Summary.{row_count}
-use Rattle.dc_node.specs.declared.block.Body.{Body}
-use Rattle.dc_node.specs.declared.block.Body.TheVariants.{Rows, Entries}
-use Rattle.dc_node.specs.declared.block.Block.{Block}
-use Rattle.dc_node.specs.declared.entry.Entry.{Entry}
-use Rattle.cell_stock.specs.Stock.{PurseValue}
-use Rattle.cell_stock.specs.declared.purse.Spare.{Spare}
-use Rattle.link_descent.specs.Divide.{body_at, front, together, ends_with, IsCutInTwo, IsCutByHead}
-use Rattle.link_descent.specs.Descend.{IsAlone, IsTakenFrom}
-use Rattle.link_descent.specs.Room.{AreTwoGroups, MakesRoom, AreNew}
-use Rattle.link_descent.specs.declared.descend.Room.{Room}
-use Rattle.link_descent.specs.declared.descend.Room.TheVariants.{Had, Half, Two}
-use Rattle.link_descent.proofs.Parts.{ArePartsOf, IsCutInTwo-parts, IsCutByHead-parts, IsSummary-count}
-use Rattle.link_descent.proofs.Behind.{count-alone, count-behind, count-parted}
+use Rattle.dc_node.specs.{Block.{is_full, IsBodyOf}, Summary.row_count, declared.block.Block.Block, declared.block.Body.Body, declared.block.Body.TheVariants.{Rows, Entries}, declared.entry.Entry.Entry}
+use Rattle.cell_stock.specs.{Stock.PurseValue, declared.purse.Spare.Spare}
+use Rattle.link_descent.specs.{Descend.{IsAlone, IsTakenFrom}, Divide.{body_at, front, together, ends_with, IsCutInTwo, IsCutByHead}, Room.{AreTwoGroups, MakesRoom, AreNew}, declared.descend.Room.Room, declared.descend.Room.TheVariants.{Had, Half, Two}}
+use Rattle.link_descent.proofs.{Behind.{count-alone, count-behind, count-parted}, Parts.{ArePartsOf, IsCutInTwo-parts, IsCutByHead-parts, IsSummary-count}}
 
 -- a head in two parts, of which the right one has some blocks behind it
 pub record AreDivided (h : List Dimension) (old head new : Body) (behind : List Block) (most : ℕ) : Type 0 where

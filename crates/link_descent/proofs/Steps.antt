@@ -1,28 +1,13 @@
 -- The steps, put together from what the code tells of them.
-use Rattle.std.proofs.Common.{ℕ, ◌≡◌, ◌+◌, ◌<◌, ◌≤◌, false, List, [], ◌∷◌, ◌++◌, length, take, drop, get_or, Some, None, refl, sym, ap, subst, ◌∙◌, arith, inl, inr}
+use Rattle.std.proofs.{Common.{ℕ, ◌≡◌, ◌+◌, ◌<◌, ◌≤◌, false, List, [], ◌∷◌, ◌++◌, length, take, drop, get_or, Some, None, refl, sym, ap, subst, ◌∙◌, arith, inl, inr}, lemmas.Bool.Decides.nat_tests, lemmas.List.{length-append, length-take, length-drop}, lemmas.List.Elements.{All-nil, All-cons, All-push, All-append, All-take, All-drop}, lemmas.Option.slice_get_read}
 use Rattle.std.specs.Prelude.{◌==◌, slice_get, All}
-use Rattle.std.proofs.lemmas.Bool.Decides.{nat_tests}
-use Rattle.std.proofs.lemmas.List.{length-append, length-take, length-drop}
-use Rattle.std.proofs.lemmas.List.Elements.{All-nil, All-cons, All-push, All-append, All-take, All-drop}
-use Rattle.std.proofs.lemmas.Option.{slice_get_read}
-use Rattle.dim_hierarchy.specs.Dimension.{Dimension}
-use Rattle.dim_hierarchy.specs.Rows.{IsRowOf}
-use Rattle.dim_hierarchy.specs.declared.row.Row.{Row}
+use Rattle.dim_hierarchy.specs.{Dimension.Dimension, Rows.IsRowOf, declared.row.Row.Row}
 use Rattle.describing_set.specs.Sets.{IsDescSetOf}
-use Rattle.dc_node.specs.Block.{is_full, rows_in, entries_in, with_rows, IsBodyOf, with_entries, replaced}
-use Rattle.dc_node.specs.declared.block.Body.{Body}
-use Rattle.dc_node.specs.declared.block.Body.TheVariants.{Rows, Entries}
-use Rattle.dc_node.specs.declared.block.Block.{Block}
-use Rattle.dc_node.specs.declared.entry.Entry.{Entry}
+use Rattle.dc_node.specs.{Block.{is_full, rows_in, entries_in, with_rows, IsBodyOf, with_entries, replaced}, Entry.IsWithRow, declared.block.Block.Block, declared.block.Body.Body, declared.block.Body.TheVariants.{Rows, Entries}, declared.entry.Entry.Entry}
 use Rattle.cell_stock.specs.Stock.{PurseValue}
-use Rattle.shard_store.specs.Gate.{root_entry}
-use Rattle.shard_store.specs.declared.gate.Gate.{Gate}
-use Rattle.dc_node.specs.Entry.{IsWithRow}
+use Rattle.shard_store.specs.{Gate.root_entry, declared.gate.Gate.Gate}
 use Rattle.link_descent.proofs.Entries.{HasSet, All-entries, All-rows}
-use Rattle.link_descent.specs.Descend.{IsShared, Halves, Cuts, StepsDown, Enters}
-use Rattle.link_descent.specs.Room.{HalvesHead, CutsHead, HasRoom, IsRaised}
-use Rattle.link_descent.specs.declared.entered.Entered.{Entered}
-use Rattle.link_descent.specs.declared.entered.Fresh.{Fresh}
+use Rattle.link_descent.specs.{Descend.{IsShared, Halves, Cuts, StepsDown, Enters}, Room.{HalvesHead, CutsHead, HasRoom, IsRaised}, declared.entered.Entered.Entered, declared.entered.Fresh.Fresh}
 
 -- The parent's entries.
 

@@ -1,23 +1,11 @@
 -- Head cuts that are told of the items of other blocks.
-use Rattle.std.proofs.Common.{ℕ, ◌≡◌, ◌+◌, ◌<◌, List, [], ◌∷◌, ◌++◌, length, take, map, get_or, sym, ap, subst, ◌∙◌}
-use Rattle.std.specs.Prelude.{IfSome, slice_get}
-use Rattle.std.specs.List.{AllZip, flat_map}
-use Rattle.std.proofs.lemmas.List.{append-nil, append_assoc, take_more, map-append}
-use Rattle.std.proofs.lemmas.List.Concat.{flat_map-append}
-use Rattle.dim_hierarchy.specs.Dimension.{Dimension}
-use Rattle.dim_hierarchy.specs.declared.row.Row.{Row}
-use Rattle.describing_set.specs.DescSet.{IsSetOf}
-use Rattle.describing_set.specs.declared.set.DescSet.{DescSet}
-use Rattle.hierarchy_split.specs.Head.{GroupItems, with_other}
-use Rattle.hierarchy_split.specs.Flags.{AreHeadCutsOf}
-use Rattle.hierarchy_split.specs.declared.head.HeadCuts.{HeadCuts}
-use Rattle.dc_node.specs.Block.{rows_in, entries_in}
-use Rattle.dc_node.specs.declared.block.Body.{Body}
-use Rattle.dc_node.specs.declared.block.Body.TheVariants.{Rows, Entries}
-use Rattle.dc_node.specs.declared.block.Block.{Block}
-use Rattle.dc_node.specs.declared.entry.Entry.{Entry}
-use Rattle.link_descent.specs.Divide.{front, together, AreItemSets}
-use Rattle.link_descent.specs.Room.{Strikes}
+use Rattle.std.proofs.{Common.{ℕ, ◌≡◌, ◌+◌, ◌<◌, List, [], ◌∷◌, ◌++◌, length, take, map, get_or, sym, ap, subst, ◌∙◌}, lemmas.List.{append-nil, append_assoc, take_more, map-append}, lemmas.List.Concat.flat_map-append}
+use Rattle.std.specs.{List.{AllZip, flat_map}, Prelude.{IfSome, slice_get}}
+use Rattle.dim_hierarchy.specs.{Dimension.Dimension, declared.row.Row.Row}
+use Rattle.describing_set.specs.{DescSet.IsSetOf, declared.set.DescSet.DescSet}
+use Rattle.hierarchy_split.specs.{Flags.AreHeadCutsOf, Head.{GroupItems, with_other}, declared.head.HeadCuts.HeadCuts}
+use Rattle.dc_node.specs.{Block.{rows_in, entries_in}, declared.block.Block.Block, declared.block.Body.Body, declared.block.Body.TheVariants.{Rows, Entries}, declared.entry.Entry.Entry}
+use Rattle.link_descent.specs.{Divide.{front, together, AreItemSets}, Room.Strikes}
 use Rattle.link_descent.proofs.Items.{AllZip-more, no_row, row_there, row_read}
 
 -- items with some others more

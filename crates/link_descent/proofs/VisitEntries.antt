@@ -1,15 +1,9 @@
 -- The entries that a visit adds, and those whose children it notes.
-use Rattle.std.proofs.Common.{◌≡◌, ℕ, ◌+◌, ◌<◌, ◌≤◌, Bool, true, false, cond, if◌then◌else◌, List, [], ◌∷◌, ◌++◌, length, take, drop, get_or, refl, sym, ap, ◌∙◌, arith, append-nil, append_assoc}
+use Rattle.std.proofs.{Common.{◌≡◌, ℕ, ◌+◌, ◌<◌, ◌≤◌, Bool, true, false, cond, if◌then◌else◌, List, [], ◌∷◌, ◌++◌, length, take, drop, get_or, refl, sym, ap, ◌∙◌, arith, append-nil, append_assoc}, lemmas.List.{take_more, map-append, take-append-drop}, lemmas.List.Elements.{filter_more, filter-append}}
 use Rattle.std.specs.Prelude.{filter}
-use Rattle.std.proofs.lemmas.List.{take_more, map-append, take-append-drop}
-use Rattle.std.proofs.lemmas.List.Elements.{filter_more, filter-append}
-use Rattle.dim_hierarchy.specs.declared.filter.Pick.{Pick}
-use Rattle.dim_hierarchy.specs.Dimension.{Dimension}
-use Rattle.measure_agg.specs.Aggregate.{Aggregate, agg}
-use Rattle.measure_agg.specs.Joining.{join}
-use Rattle.dc_node.specs.Summary.{joined, aggs}
-use Rattle.dc_node.specs.declared.entry.Entry.{Entry}
-use Rattle.dc_node.specs.declared.todo.Item.{Item}
+use Rattle.dim_hierarchy.specs.{Dimension.Dimension, declared.filter.Pick.Pick}
+use Rattle.measure_agg.specs.{Aggregate.{Aggregate, agg}, Joining.join}
+use Rattle.dc_node.specs.{Summary.{joined, aggs}, declared.entry.Entry.Entry, declared.todo.Item.Item}
 use Rattle.link_descent.specs.Visit.{noted}
 
 abbrev pub JoinedLaw : Type 0

@@ -1,11 +1,9 @@
 -- The rows that a visit adds.
-use Rattle.std.proofs.Common.{◌≡◌, ℕ, ◌+◌, ◌<◌, Bool, true, false, List, [], ◌∷◌, ◌++◌, length, take, get_or, refl, sym, ap, ◌∙◌, append-nil}
+use Rattle.std.proofs.{Common.{◌≡◌, ℕ, ◌+◌, ◌<◌, Bool, true, false, List, [], ◌∷◌, ◌++◌, length, take, get_or, refl, sym, ap, ◌∙◌, append-nil}, lemmas.List.Elements.filter_more}
 use Rattle.std.specs.Prelude.{filter}
-use Rattle.std.proofs.lemmas.List.Elements.{filter_more}
 use Rattle.dim_hierarchy.specs.declared.row.Row.{Row}
 use Rattle.measure_agg.proofs.AggLaws.{agg-one}
-use Rattle.measure_agg.specs.Aggregate.{Aggregate, agg}
-use Rattle.measure_agg.specs.Joining.{one, join}
+use Rattle.measure_agg.specs.{Aggregate.{Aggregate, agg}, Joining.{one, join}}
 
 abbrev pub AppendLaw : Type 0
 AppendLaw = (xs ys : List Row) → agg (xs ++ ys) ≡ join (agg xs) (agg ys)

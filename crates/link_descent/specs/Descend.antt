@@ -1,21 +1,11 @@
 -- The steps of a row down a tree.
 use Rattle.std.specs.Prelude.{ℕ, ◌≡◌, ◌+◌, ◌⊎◌, false, true, List, [], ◌∷◌, ◌++◌, slice_get, Some, None}
-use Rattle.dim_hierarchy.specs.declared.row.Row.{Row}
-use Rattle.dim_hierarchy.specs.Dimension.{Dimension}
+use Rattle.dim_hierarchy.specs.{Dimension.Dimension, declared.row.Row.Row}
 use Rattle.describing_set.specs.Sets.{IsDescSetOf}
-use Rattle.dc_node.specs.Block.{is_full, entries_in, with_entries, replaced}
-use Rattle.dc_node.specs.Summary.{IsSummary}
-use Rattle.dc_node.specs.Entry.{IsWithRow}
-use Rattle.dc_node.specs.declared.block.Body.TheVariants.{Entries}
-use Rattle.dc_node.specs.declared.block.Block.{Block}
-use Rattle.dc_node.specs.declared.entry.Entry.{Entry}
-use Rattle.cell_stock.specs.Stock.{PurseValue}
-use Rattle.cell_stock.specs.declared.purse.Spare.{Spare}
-use Rattle.shard_store.specs.Gate.{root_entry}
-use Rattle.shard_store.specs.declared.gate.Gate.{Gate}
-use Rattle.link_descent.specs.Pick.{IsPick}
-use Rattle.link_descent.specs.Divide.{together, ends_with, WhyHalved, IsCutInTwo, IsCutByHead, IsHalved}
-use Rattle.link_descent.specs.declared.entered.Entered.{Entered}
+use Rattle.dc_node.specs.{Block.{is_full, entries_in, with_entries, replaced}, Entry.IsWithRow, Summary.IsSummary, declared.block.Block.Block, declared.block.Body.TheVariants.Entries, declared.entry.Entry.Entry}
+use Rattle.cell_stock.specs.{Stock.PurseValue, declared.purse.Spare.Spare}
+use Rattle.shard_store.specs.{Gate.root_entry, declared.gate.Gate.Gate}
+use Rattle.link_descent.specs.{Divide.{together, ends_with, WhyHalved, IsCutInTwo, IsCutByHead, IsHalved}, Pick.IsPick, declared.entered.Entered.Entered}
 
 -- the entry of one block: its cell, its stamp, and the aggregate and the set of its items
 pub record IsEntryOf (h : List Dimension) (cell : ℕ) (block : Block) (e : Entry) : Type 0 where

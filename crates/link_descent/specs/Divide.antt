@@ -1,17 +1,9 @@
 -- How a full head is divided in two.
-use Rattle.std.specs.Prelude.{ℕ, ◌≡◌, ◌⊎◌, ◌==◌, Bool, false, Some, List, [], ◌∷◌, ◌++◌, map, take, drop, slice_get, IsPermutation}
-use Rattle.std.specs.List.{AllZip, range_with_len, filter_map, flat_map}
+use Rattle.std.specs.{List.{AllZip, range_with_len, filter_map, flat_map}, Prelude.{ℕ, ◌≡◌, ◌⊎◌, ◌==◌, Bool, false, Some, List, [], ◌∷◌, ◌++◌, map, take, drop, slice_get, IsPermutation}}
 use Rattle.dim_hierarchy.specs.Dimension.{Dimension}
-use Rattle.describing_set.specs.DescSet.{IsSetOf}
-use Rattle.describing_set.specs.declared.set.DescSet.{DescSet}
-use Rattle.hierarchy_split.specs.Cut.{IsDimCut, IsGood, IsGoodCut}
-use Rattle.hierarchy_split.specs.Head.{GroupItems, kept_places, parted_places, IsHeadCut, IsGoodHead, IsGoodHeadCut}
-use Rattle.hierarchy_split.specs.declared.cut.Cut.{Cut}
-use Rattle.hierarchy_split.specs.declared.head_cut.HeadCut.{HeadCut}
-use Rattle.dc_node.specs.Block.{rows_in, entries_in, size}
-use Rattle.dc_node.specs.declared.block.Body.{Body}
-use Rattle.dc_node.specs.declared.block.Body.TheVariants.{Rows, Entries}
-use Rattle.dc_node.specs.declared.block.Block.{Block}
+use Rattle.describing_set.specs.{DescSet.IsSetOf, declared.set.DescSet.DescSet}
+use Rattle.hierarchy_split.specs.{Cut.{IsDimCut, IsGood, IsGoodCut}, Head.{GroupItems, kept_places, parted_places, IsHeadCut, IsGoodHead, IsGoodHeadCut}, declared.cut.Cut.Cut, declared.head_cut.HeadCut.HeadCut}
+use Rattle.dc_node.specs.{Block.{rows_in, entries_in, size}, declared.block.Block.Block, declared.block.Body.Body, declared.block.Body.TheVariants.{Rows, Entries}}
 
 -- Parts of a body: the items at some places, in their order; the first ones; and the rest.
 

@@ -1,15 +1,11 @@
 -- What a query takes at a gate, of the queue and of the tree: an aggregate where the set is inside the filter; where it
 -- overlaps else, the matching rows one by one, or the root noted.
 use Rattle.std.specs.Prelude.{if◌then◌else◌, List, [], ◌∷◌}
-use Rattle.dim_hierarchy.specs.declared.filter.Pick.{Pick}
-use Rattle.dim_hierarchy.specs.Dimension.{Dimension}
+use Rattle.dim_hierarchy.specs.{Dimension.Dimension, declared.filter.Pick.Pick}
 use Rattle.measure_agg.specs.Aggregate.{Aggregate, agg}
 use Rattle.describing_set.specs.Filter.{is_inside, overlaps}
-use Rattle.dc_node.specs.Summary.{joined, aggs}
-use Rattle.dc_node.specs.declared.todo.Item.{Item}
-use Rattle.shard_store.specs.Gate.{root_entry}
-use Rattle.shard_store.specs.declared.queue.Queue.{Queue}
-use Rattle.shard_store.specs.declared.gate.Gate.{Gate}
+use Rattle.dc_node.specs.{Summary.{joined, aggs}, declared.todo.Item.Item}
+use Rattle.shard_store.specs.{Gate.root_entry, declared.gate.Gate.Gate, declared.queue.Queue.Queue}
 use Rattle.link_descent.specs.Visit.{matching, taken, noted}
 
 -- what it takes of the queue

@@ -1,10 +1,7 @@
 -- Lists of the describing sets of a block's items.
 use Rattle.std.specs.Prelude.{◌≡◌, List, [], ◌∷◌, ◌++◌}
-use Rattle.dim_hierarchy.specs.Dimension.{Dimension}
-use Rattle.dim_hierarchy.specs.declared.row.Coord.{Coord}
-use Rattle.describing_set.specs.DescSet.{IsSetOf}
-use Rattle.describing_set.specs.Sets.{IsDescSetOf}
-use Rattle.describing_set.specs.declared.set.DescSet.{DescSet}
+use Rattle.dim_hierarchy.specs.{Dimension.Dimension, declared.row.Coord.Coord}
+use Rattle.describing_set.specs.{DescSet.IsSetOf, Sets.IsDescSetOf, declared.set.DescSet.DescSet}
 
 -- of two lists of sets the second has one more at its end, that of a coordinate
 pub record HasSetMore (h : List Dimension) (at : Coord) (before now : List DescSet) : Type 0 where

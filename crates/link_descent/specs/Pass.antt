@@ -1,14 +1,10 @@
 -- Steps at which the block that a row comes to has room, so that nothing is divided.
 use Rattle.std.specs.Prelude.{ℕ, ◌≡◌, false, List, [], slice_get, Some}
-use Rattle.dim_hierarchy.specs.declared.row.Row.{Row}
-use Rattle.dim_hierarchy.specs.Dimension.{Dimension}
-use Rattle.dc_node.specs.Block.{is_full, entries_in}
-use Rattle.dc_node.specs.declared.block.Block.{Block}
-use Rattle.dc_node.specs.declared.entry.Entry.{Entry}
+use Rattle.dim_hierarchy.specs.{Dimension.Dimension, declared.row.Row.Row}
+use Rattle.dc_node.specs.{Block.{is_full, entries_in}, declared.block.Block.Block, declared.entry.Entry.Entry}
 use Rattle.cell_stock.specs.Stock.{PurseValue}
 use Rattle.shard_store.specs.declared.gate.Gate.{Gate}
-use Rattle.link_descent.specs.Descend.{StepsDown, Enters}
-use Rattle.link_descent.specs.declared.entered.Entered.{Entered}
+use Rattle.link_descent.specs.{Descend.{StepsDown, Enters}, declared.entered.Entered.Entered}
 
 -- a step that made no block, with the cell at which the row is carried
 abbrev pub passed : ℕ → Entered

@@ -1,10 +1,7 @@
 -- Which entry of a directory a row goes down by.
-use Rattle.std.specs.Prelude.{ℕ, ◌≡◌, ◌<◌, ◌≤◌, ◌⊎◌, List, length, slice_get, Option, Some, Bool, not, ◌&&◌, ◌||◌, ◌==◌, nat_lt, position}
-use Rattle.std.specs.List.{list_any}
-use Rattle.dim_hierarchy.specs.declared.row.Coord.{Coord}
-use Rattle.dim_hierarchy.specs.Dimension.{Dimension}
-use Rattle.describing_set.specs.Sets.{growth_of, size_of}
-use Rattle.describing_set.specs.declared.set.DescSet.{DescSet}
+use Rattle.std.specs.{List.list_any, Prelude.{ℕ, ◌≡◌, ◌<◌, ◌≤◌, ◌⊎◌, List, length, slice_get, Option, Some, Bool, not, ◌&&◌, ◌||◌, ◌==◌, nat_lt, position}}
+use Rattle.dim_hierarchy.specs.{Dimension.Dimension, declared.row.Coord.Coord}
+use Rattle.describing_set.specs.{Sets.{growth_of, size_of}, declared.set.DescSet.DescSet}
 
 -- the first set is grown less by the coordinate; or as much, and it is smaller; or as large, and it stands at no later place
 abbrev pub IsPickedBefore : List Dimension → Coord → DescSet → ℕ → DescSet → ℕ → Type 0

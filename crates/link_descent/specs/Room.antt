@@ -1,31 +1,12 @@
 -- How room is made at the head of an entry's group: the cases of a step, each beside what the code tells of it.
-use Rattle.std.specs.Prelude.{ℕ, ◌≡◌, ◌+◌, ◌≤◌, true, false, None, List, [], ◌∷◌, ◌++◌, IsPermutation}
-use Rattle.std.specs.List.{range_with_len}
+use Rattle.std.specs.{List.range_with_len, Prelude.{ℕ, ◌≡◌, ◌+◌, ◌≤◌, true, false, None, List, [], ◌∷◌, ◌++◌, IsPermutation}}
 use Rattle.dim_hierarchy.specs.Dimension.{Dimension}
-use Rattle.describing_set.specs.Sets.{IsDescSetOf}
-use Rattle.describing_set.specs.declared.set.DescSet.{DescSet}
-use Rattle.hierarchy_split.specs.Cut.{IsGoodCut}
-use Rattle.hierarchy_split.specs.Head.{GroupItems, kept_places, parted_places, IsGoodHeadCut}
-use Rattle.hierarchy_split.specs.Flags.{AreHeadCutsOf}
-use Rattle.hierarchy_split.specs.declared.cut.Cut.{Cut}
-use Rattle.hierarchy_split.specs.declared.head_cut.HeadCut.{HeadCut}
-use Rattle.hierarchy_split.specs.declared.head.HeadCuts.{HeadCuts}
-use Rattle.cell_stock.specs.declared.purse.Spare.{Spare}
-use Rattle.cell_stock.specs.Stock.{PurseValue}
-use Rattle.dc_node.specs.Block.{size, is_full, IsBodyOf}
-use Rattle.dc_node.specs.declared.block.Body.{Body}
-use Rattle.dc_node.specs.declared.block.Body.TheVariants.{Entries}
-use Rattle.dc_node.specs.declared.block.Block.{Block}
-use Rattle.dc_node.specs.declared.entry.Entry.{Entry}
-use Rattle.link_descent.specs.Divide.{body_at, AreItemSets, left_block, right_block, ends_with, AreGroupSets, WhyHalved, IsCutInTwo, HasNoCut, IsCutByHead, HasNoHeadCut, IsHalved}
-use Rattle.link_descent.specs.Descend.{IsEntryOf, IsGroupEntry, IsTakenFrom, Cuts}
-use Rattle.link_descent.specs.declared.divide.Division.{Division}
-use Rattle.link_descent.specs.declared.divide.Division.TheVariants.{Halved, Cut as CutBy, HeadCut as HeadCutBy}
+use Rattle.describing_set.specs.{Sets.IsDescSetOf, declared.set.DescSet.DescSet}
+use Rattle.hierarchy_split.specs.{Cut.IsGoodCut, Flags.AreHeadCutsOf, Head.{GroupItems, kept_places, parted_places, IsGoodHeadCut}, declared.cut.Cut.Cut, declared.head.HeadCuts.HeadCuts, declared.head_cut.HeadCut.HeadCut}
+use Rattle.cell_stock.specs.{Stock.PurseValue, declared.purse.Spare.Spare}
+use Rattle.dc_node.specs.{Block.{size, is_full, IsBodyOf}, declared.block.Block.Block, declared.block.Body.Body, declared.block.Body.TheVariants.Entries, declared.entry.Entry.Entry}
+use Rattle.link_descent.specs.{Descend.{IsEntryOf, IsGroupEntry, IsTakenFrom, Cuts}, Divide.{body_at, AreItemSets, left_block, right_block, ends_with, AreGroupSets, WhyHalved, IsCutInTwo, HasNoCut, IsCutByHead, HasNoHeadCut, IsHalved}, declared.descend.Room.Room, declared.descend.Room.TheVariants.{Had, Half, Two}, declared.divide.Division.Division, declared.divide.Division.TheVariants.{Halved, Cut as CutBy, HeadCut as HeadCutBy}, declared.entered.Entered.Entered, declared.entered.Fresh.Fresh}
 use Rattle.shard_store.specs.declared.gate.Gate.{Gate}
-use Rattle.link_descent.specs.declared.entered.Entered.{Entered}
-use Rattle.link_descent.specs.declared.entered.Fresh.{Fresh}
-use Rattle.link_descent.specs.declared.descend.Room.{Room}
-use Rattle.link_descent.specs.declared.descend.Room.TheVariants.{Had, Half, Two}
 
 -- the good cut of a head
 pub record IsTheCut (h : List Dimension) (body : Body) (cut : Cut) : Type 0 where

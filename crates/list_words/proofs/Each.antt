@@ -1,9 +1,6 @@
 -- What holds of each item of a list, and items that stand among others.
-use Rattle.std.proofs.Common.{ℕ, inl, inr, Bool, List, [], ◌∷◌, ◌++◌, map, filter, take, drop, refl, sym, subst}
-use Rattle.std.specs.Prelude.{All}
-use Rattle.std.specs.List.{flat_map}
-use Rattle.std.proofs.lemmas.List.{take-append-drop}
-use Rattle.std.proofs.lemmas.List.Elements.{All-nil, All-cons, All-head, All-tail}
+use Rattle.std.proofs.{Common.{ℕ, inl, inr, Bool, List, [], ◌∷◌, ◌++◌, map, filter, take, drop, refl, sym, subst}, lemmas.List.take-append-drop, lemmas.List.Elements.{All-nil, All-cons, All-head, All-tail}}
+use Rattle.std.specs.{List.flat_map, Prelude.All}
 use Rattle.list_words.specs.Counts.{Among, Each}
 use Rattle.list_words.proofs.Truth.{on_bool}
 

@@ -1,9 +1,6 @@
 -- What a list contains: with an optional head, filtered, mapped, behind its head.
-use Rattle.std.proofs.Common.{ℕ, ◌⊎◌, inl, inr, ◌≡◌, ◌<◌, zero, suc, refl, sym, map, length, List, [], ◌∷◌, Bool, true, IsTrue, ap, ◌∙◌, arith}
-use Rattle.std.specs.Prelude.{slice_index_or, Option, Some, None, All, Contains, filter}
-use Rattle.std.specs.List.{cons_option, AllZip}
-use Rattle.std.proofs.lemmas.Bool.{cond_both}
-use Rattle.std.proofs.lemmas.List.Elements.{All-contains, All-contains_itself, All-filter, All-tail, Contains-append_right, filter_passes}
+use Rattle.std.proofs.{Common.{ℕ, ◌⊎◌, inl, inr, ◌≡◌, ◌<◌, zero, suc, refl, sym, map, length, List, [], ◌∷◌, Bool, true, IsTrue, ap, ◌∙◌, arith}, lemmas.Bool.cond_both, lemmas.List.Elements.{All-contains, All-contains_itself, All-filter, All-tail, Contains-append_right, filter_passes}}
+use Rattle.std.specs.{List.{cons_option, AllZip}, Prelude.{slice_index_or, Option, Some, None, All, Contains, filter}}
 
 pub Contains-cons_option : {X : Type 0} (o : Option X) (xs : List X) (x : X) → Contains xs x → Contains (cons_option o xs) x
 Contains-cons_option None xs x has = has

@@ -1,13 +1,8 @@
 -- How often a number stands in a list.
-use Rattle.std.proofs.Common.{◌≡◌, ◌≢◌, ℕ, zero, suc, ◌+◌, ◌<◌, ◌≤◌, inl, inr, false, eqb, List, [], ◌∷◌, ◌++◌, length, map, refl, sym, ap, ◌∙◌, arith}
-use Rattle.std.specs.Prelude.{Contains, All}
-use Rattle.std.specs.List.{AllByRecursion, IsDistinct}
-use Rattle.std.proofs.lemmas.List.Elements.{Contains-append_right, All-cons, All-head, All-nil, All-tail}
-use Rattle.list_words.proofs.Elements.{Contains-first, Contains-nil}
-use Rattle.list_words.proofs.Truth.{on_bool}
+use Rattle.std.proofs.{Common.{◌≡◌, ◌≢◌, ℕ, zero, suc, ◌+◌, ◌<◌, ◌≤◌, inl, inr, false, eqb, List, [], ◌∷◌, ◌++◌, length, map, refl, sym, ap, ◌∙◌, arith}, lemmas.Bool.{eqb-false, eqb-true}, lemmas.List.length-append, lemmas.List.Elements.{Contains-append_right, All-cons, All-head, All-nil, All-tail}}
+use Rattle.std.specs.{List.{AllByRecursion, IsDistinct}, Prelude.{Contains, All}}
+use Rattle.list_words.proofs.{Elements.{Contains-first, Contains-nil}, Truth.on_bool}
 use Rattle.list_words.specs.Counts.{Among, Each, same, times}
-use Rattle.std.proofs.lemmas.Bool.{eqb-false, eqb-true}
-use Rattle.std.proofs.lemmas.List.{length-append}
 
 pub same_is : (a b : ℕ) → a ≡ b → same a b ≡ 1
 same_is a b e = grind arith

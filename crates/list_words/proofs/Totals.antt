@@ -1,12 +1,8 @@
 -- Sums over the items of a list.
-use Rattle.std.proofs.Common.{◌≡◌, ℕ, ◌+◌, ◌*◌, ◌≤◌, eqb, List, [], ◌∷◌, ◌++◌, length, map, take, drop, refl, ap, ◌∙◌, arith}
+use Rattle.std.proofs.{Common.{◌≡◌, ℕ, ◌+◌, ◌*◌, ◌≤◌, eqb, List, [], ◌∷◌, ◌++◌, length, map, take, drop, refl, ap, ◌∙◌, arith}, lemmas.Bool.{eqb-false, eqb-true}, lemmas.List.{take-append-drop, length-append}}
 use Rattle.std.specs.List.{flat_map}
-use Rattle.std.proofs.lemmas.List.{take-append-drop}
-use Rattle.list_words.proofs.Times.{same_not}
-use Rattle.list_words.proofs.Truth.{on_bool}
+use Rattle.list_words.proofs.{Times.same_not, Truth.on_bool}
 use Rattle.list_words.specs.Counts.{Each, times, total}
-use Rattle.std.proofs.lemmas.Bool.{eqb-false, eqb-true}
-use Rattle.std.proofs.lemmas.List.{length-append}
 
 pub total-append : {A : Type 0} (f : A → ℕ) (xs ys : List A) → total f (xs ++ ys) ≡ total f xs + total f ys
 total-append f [] ys = omega arith

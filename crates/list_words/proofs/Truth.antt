@@ -1,6 +1,5 @@
 -- Truth values, and tests of numbers.
-use Rattle.std.proofs.Common.{◌≡◌, ℕ, Bool, true, false, eqb, refl}
-use Rattle.std.proofs.lemmas.Bool.{eq-eqb}
+use Rattle.std.proofs.{Common.{◌≡◌, ℕ, Bool, true, false, eqb, refl}, lemmas.Bool.eq-eqb}
 
 -- by cases of a truth value, where the case is known as an equation
 pub on_bool : {P : Type 0} → (b : Bool) → (b ≡ true → P) → (b ≡ false → P) → P

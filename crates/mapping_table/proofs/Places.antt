@@ -1,15 +1,7 @@
 -- The map from ids that a `BTreeMap` with numbers as keys stands for.
-use Rattle.std.proofs.Common.{ℕ, ◌≡◌, List, [], ◌∷◌, None, Some, Bool, true, false, cond, subst, refl, sym, ap, ◌∙◌}
-use Rattle.std.specs.Ordering.{nat_cmp, is_eq}
-use Rattle.std.specs.Map.{lookup}
-use Rattle.std.specs.BTreeMap.{BTreeMap, Updates, is_at}
+use Rattle.std.proofs.{Common.{ℕ, ◌≡◌, List, [], ◌∷◌, None, Some, Bool, true, false, cond, subst, refl, sym, ap, ◌∙◌}, lemmas.Bool.{false≢true}, lemmas.Cmp.nat_cmp_total}
+use Rattle.std.specs.{BTreeMap.{BTreeMap, Updates, is_at}, Cmp.tied_itself, FinMap.nat_cmp-IsAntisymmetric, Map.lookup, Ordering.{nat_cmp, is_eq}, declared.cmp.Ordering.Ordering, declared.cmp.Ordering.TheVariants.{Less, Equal, Greater}}
 use Rattle.std.specs.FinMap as map
-use Rattle.std.specs.FinMap.{nat_cmp-IsAntisymmetric}
-use Rattle.std.proofs.lemmas.Cmp.{nat_cmp_total}
-use Rattle.std.proofs.lemmas.Bool.{false≢true}
-use Rattle.std.specs.Cmp.{tied_itself}
-use Rattle.std.specs.declared.cmp.Ordering.{Ordering}
-use Rattle.std.specs.declared.cmp.Ordering.TheVariants.{Less, Equal, Greater}
 
 -- a tie is one from either side
 

@@ -1,16 +1,9 @@
 -- The laws of aggregates.
-use Rattle.std.proofs.Common.{◌≡◌, ◌⊎◌, ℕ, ◌+◌, ◌<◌, Bool, true, false, cond, List, [], ◌∷◌, ◌++◌, length, take, get_or, append-nil, refl, sym, ap, ◌∙◌, inl, inr, arith}
-use Rattle.std.specs.Prelude.{ℤ, pos, ◌+ℤ◌, ◌≤ℤ◌, Option, Some, None, MatchOption, fold, filter, sum_by, All, Contains, IsPermutation}
-use Rattle.std.specs.Int.{int_min, int_max}
-use Rattle.std.proofs.lemmas.Int.{ints, clamps, fold-int_min_bounds, fold-int_min_reached, fold-int_max_bounds, fold-int_max_reached}
-use Rattle.std.proofs.lemmas.List.{take_more}
-use Rattle.std.proofs.lemmas.List.Elements.{All-cons, All-contains, Contains-append_right, filter_more}
-use Rattle.std.proofs.lemmas.List.Sorted.{IsPermutation-map, IsPermutation-sym, length_permutation, sum_by-IsPermutation, Contains-permutation}
-use Rattle.std.proofs.lemmas.List.Sums.{sum_by-cons}
+use Rattle.std.proofs.{Common.{◌≡◌, ◌⊎◌, ℕ, ◌+◌, ◌<◌, Bool, true, false, cond, List, [], ◌∷◌, ◌++◌, length, take, get_or, append-nil, refl, sym, ap, ◌∙◌, inl, inr, arith}, lemmas.Int.{ints, clamps, fold-int_min_bounds, fold-int_min_reached, fold-int_max_bounds, fold-int_max_reached}, lemmas.List.take_more, lemmas.List.Elements.{All-cons, All-contains, Contains-append_right, filter_more}, lemmas.List.Sorted.{IsPermutation-map, IsPermutation-sym, length_permutation, sum_by-IsPermutation, Contains-permutation}, lemmas.List.Sums.sum_by-cons}
+use Rattle.std.specs.{Int.{int_min, int_max}, Prelude.{ℤ, pos, ◌+ℤ◌, ◌≤ℤ◌, Option, Some, None, MatchOption, fold, filter, sum_by, All, Contains, IsPermutation}}
 use borrow.Author.Differences.{up, down}
 use Rattle.dim_hierarchy.specs.declared.row.Row.{Row}
-use Rattle.measure_agg.specs.Aggregate.{Aggregate, agg, lesser, greater, total, least_of, greatest_of, measures}
-use Rattle.measure_agg.specs.Joining.{one, join}
+use Rattle.measure_agg.specs.{Aggregate.{Aggregate, agg, lesser, greater, total, least_of, greatest_of, measures}, Joining.{one, join}}
 
 same : (a b : Aggregate) → a.count ≡ b.count → a.sum ≡ b.sum → a.least ≡ b.least → a.greatest ≡ b.greatest → a ≡ b
 same a b count sum least greatest = λ i. record { count = count i; sum = sum i; least = least i; greatest = greatest i }

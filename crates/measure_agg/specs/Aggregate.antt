@@ -1,6 +1,5 @@
 -- Aggregates of rows.
-use Rattle.std.specs.Prelude.{ℕ, ℤ, pos, ◌+ℤ◌, List, [], ◌∷◌, length, map, Option, Some, None}
-use Rattle.std.specs.Int.{int_min, int_max}
+use Rattle.std.specs.{Int.{int_min, int_max}, Prelude.{ℕ, ℤ, pos, ◌+ℤ◌, List, [], ◌∷◌, length, map, Option, Some, None}}
 use Rattle.dim_hierarchy.specs.declared.row.Row.{Row}
 
 -- how many rows there are, the sum of their measures, the least and the greatest of them

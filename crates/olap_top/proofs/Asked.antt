@@ -1,20 +1,12 @@
 -- What is asked to be written, as phases are told or not.
-use Rattle.std.proofs.Common.{◌≡◌, ◌∙◌, ◌≤◌, ◌^◌, ◌⊎◌, inl, inr, ℕ, true, List, [], Vec, Global, refl, sym, ap, subst, arith}
-use Rattle.std.specs.Prelude.{Option, Result, Ok, Err, IfOk, vec_len, if◌then◌else◌}
-use Rattle.std.specs.Io.KnownBytes.{Consumes, IsAtEnd}
-use Rattle.std.proofs.lemmas.Bool.{false≢true}
+use Rattle.std.proofs.{Common.{◌≡◌, ◌∙◌, ◌≤◌, ◌^◌, ◌⊎◌, inl, inr, ℕ, true, List, [], Vec, Global, refl, sym, ap, subst, arith}, lemmas.Bool.{false≢true}}
+use Rattle.std.specs.{Io.KnownBytes.{Consumes, IsAtEnd}, Prelude.{Option, Result, Ok, Err, IfOk, vec_len, if◌then◌else◌}}
 use Rattle.answer_text.specs.Printed.{told, told_to}
 use Rattle.row_ledger.specs.declared.event.Event.{Event}
-use Rattle.script_form.specs.Scripts.{records_of, script}
-use Rattle.script_form.specs.declared.script.Cause.{Cause}
-use Rattle.script_form.specs.declared.script.Script.{Script}
-use Rattle.script_form.specs.declared.script.ScriptFault.TheVariants.{Bad}
+use Rattle.script_form.specs.{Scripts.{records_of, script}, declared.script.Cause.Cause, declared.script.Script.Script, declared.script.ScriptFault.TheVariants.Bad}
 use Rattle.volap_gen.specs.Law.{GoodScriptLaw}
 use Rattle.volap_io.specs.declared.source.ReadEnd.{ReadEnd}
-use Rattle.olap_top.specs.Outcomes.{AreAsked, IsReadWhole, RanTo, RanToPhase, asked_text, asked_text_to}
-use Rattle.olap_top.specs.RunSoFar.{tells_phases}
-use Rattle.olap_top.specs.declared.wanted.Wanted.{Wanted}
-use Rattle.olap_top.specs.declared.wanted.Wanted.TheVariants.{Step, Seeded, Load}
+use Rattle.olap_top.specs.{Outcomes.{AreAsked, IsReadWhole, RanTo, RanToPhase, asked_text, asked_text_to}, RunSoFar.tells_phases, declared.wanted.Wanted.Wanted, declared.wanted.Wanted.TheVariants.{Step, Seeded, Load}}
 
 pub asked-to : (wanted : Wanted) (k : ℕ) (s : Script) (history : List Event) → asked_text_to k wanted s history ≡ (if tells_phases wanted then told_to k s.with s.commands history else [])
 asked-to Step k s history = refl

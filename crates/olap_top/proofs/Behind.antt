@@ -1,35 +1,15 @@
 -- Behind a settle that was fine, while no insert has begun since, each answer is of all that was acknowledged.
-use Rattle.std.proofs.Common.{◌≡◌, ◌≢◌, ◌∙◌, ℕ, suc, ◌+◌, ◌<◌, ◌≤◌, ◌⊎◌, inl, inr, Bool, true, false, IsTrue, List, [], ◌∷◌, ◌++◌, length, length-append, refl, sym, ap, subst, arith, append_assoc}
-use Rattle.std.specs.Prelude.{Contains, Option, Some, None, filter, filter_map, map, option_and_then}
-use Rattle.std.specs.List.{cons_option}
-use Rattle.std.proofs.lemmas.Bool.{cases_lt, false≢true}
-use Rattle.std.proofs.lemmas.List.Elements.{All-contains_itself, All-weaker}
-use Rattle.dim_hierarchy.specs.Dimension.{Dimension}
-use Rattle.dim_hierarchy.specs.Filter.{matches}
-use Rattle.dim_hierarchy.specs.declared.row.Row.{Row}
+use Rattle.std.proofs.{Common.{◌≡◌, ◌≢◌, ◌∙◌, ℕ, suc, ◌+◌, ◌<◌, ◌≤◌, ◌⊎◌, inl, inr, Bool, true, false, IsTrue, List, [], ◌∷◌, ◌++◌, length, length-append, refl, sym, ap, subst, arith, append_assoc}, lemmas.Bool.{cases_lt, false≢true}, lemmas.List.Elements.{All-contains_itself, All-weaker}}
+use Rattle.std.specs.{List.cons_option, Prelude.{Contains, Option, Some, None, filter, filter_map, map, option_and_then}}
+use Rattle.dim_hierarchy.specs.{Dimension.Dimension, Filter.matches, declared.row.Row.Row}
 use Rattle.measure_agg.specs.Aggregate.{Aggregate, agg}
-use Rattle.row_ledger.proofs.Before.{acks-stay, at-later, at-older, before-at, before-behind, before-later, before-rest, begins-query, ended-before, insert-at-later, none-since, over-ended}
+use Rattle.row_ledger.proofs.{Before.{acks-stay, at-later, at-older, before-at, before-behind, before-later, before-rest, begins-query, ended-before, insert-at-later, none-since, over-ended}, Ended.insert_at-is, Fresh.kind-within, Positions.{before-older, event_at-here, event_at-older}, SettledAnswer.{EachEvent-before, EachEvent-later, begun-at, settled-is_all}}
 use Rattle.list_words.proofs.Elements.{Contains-mapped}
-use Rattle.row_ledger.proofs.Ended.{insert_at-is}
-use Rattle.row_ledger.proofs.Fresh.{kind-within}
-use Rattle.row_ledger.proofs.Positions.{before-older, event_at-here, event_at-older}
-use Rattle.row_ledger.proofs.SettledAnswer.{EachEvent-before, EachEvent-later, begun-at, settled-is_all}
-use Rattle.row_ledger.specs.Bounds.{must}
-use Rattle.row_ledger.specs.Past.{Ack, Insert, Query, acked, acked_rows, before, begun, call_at, call_in, ends_itself, event_at, has_ended, insert_at, insert_in, is_beginning, is_kept, query_at, query_in, since}
-use Rattle.row_ledger.specs.Right.{EachEvent, IsRight, IsRightEnd, Stands}
-use Rattle.row_ledger.specs.Settled.{IsSettled}
-use Rattle.row_ledger.specs.Site.{Site, site_of}
-use Rattle.row_ledger.specs.declared.event.Event.{Event}
-use Rattle.row_ledger.specs.declared.event.Event.TheVariants.{Answered, Begun, Called, Ended}
-use Rattle.row_ledger.specs.declared.settings.Call.{Call}
-use Rattle.row_ledger.specs.declared.settings.Call.TheVariants.{Settle}
-use Rattle.row_ledger.specs.declared.settings.How.TheVariants.{Fine}
-use Rattle.row_ledger.specs.declared.settings.Use.{Use}
+use Rattle.row_ledger.specs.{Bounds.must, Past.{Ack, Insert, Query, acked, acked_rows, before, begun, call_at, call_in, ends_itself, event_at, has_ended, insert_at, insert_in, is_beginning, is_kept, query_at, query_in, since}, Right.{EachEvent, IsRight, IsRightEnd, Stands}, Settled.IsSettled, Site.{Site, site_of}, declared.event.Event.Event, declared.event.Event.TheVariants.{Answered, Begun, Called, Ended}, declared.settings.Call.Call, declared.settings.Call.TheVariants.Settle, declared.settings.How.TheVariants.Fine, declared.settings.Use.Use}
 use Rattle.script_form.specs.declared.script.Command.{Command}
 use Rattle.script_run.proofs.Closing.{closing-law}
 use Rattle.script_run.specs.Runs.{IsRunSoFar}
-use Rattle.olap_top.specs.Outcomes.{AreOfAllBehindSettles}
-use Rattle.olap_top.specs.Settles.{SettlesTell}
+use Rattle.olap_top.specs.{Outcomes.AreOfAllBehindSettles, Settles.SettlesTell}
 
 -- Kinds of events.
 

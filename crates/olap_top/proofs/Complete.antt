@@ -1,16 +1,10 @@
 -- A good script on which no fault rises is run to its end, unless memory runs out.
-use Rattle.std.proofs.Common.{◌≡◌, ◌∙◌, ◌+◌, ◌^◌, ◌⊎◌, inl, inr, ℕ, List, ◌++◌, length, append-nil, refl, sym, ap, arith}
+use Rattle.std.proofs.{Common.{◌≡◌, ◌∙◌, ◌+◌, ◌^◌, ◌⊎◌, inl, inr, ℕ, List, ◌++◌, length, append-nil, refl, sym, ap, arith}, lemmas.List.length-append}
 use Rattle.std.specs.Prelude.{Option, Some, None, Err}
-use Rattle.std.proofs.lemmas.List.{length-append}
-use Rattle.script_form.specs.Scripts.{records_of, script}
-use Rattle.script_form.specs.declared.script.Cause.{Cause}
-use Rattle.script_form.specs.declared.script.ScriptFault.TheVariants.{Bad}
+use Rattle.script_form.specs.{Scripts.{records_of, script}, declared.script.Cause.Cause, declared.script.ScriptFault.TheVariants.Bad}
 use Rattle.volap_io.specs.Causes.{Gave}
-use Rattle.olap_top.specs.Outcomes.{HasGoodScript, IsGoodScript, IsNoScript, IsReadWhole}
-use Rattle.olap_top.specs.declared.outcome.Status.{Status}
+use Rattle.olap_top.specs.{Outcomes.{HasGoodScript, IsGoodScript, IsNoScript, IsReadWhole}, declared.outcome.Status.Status, declared.wanted.Wanted.Wanted, declared.wanted.Wanted.TheVariants.{Step, Seeded, Load}}
 use Rattle.olap_top.specs.declared.outcome.Status.TheVariants as status_is
-use Rattle.olap_top.specs.declared.wanted.Wanted.{Wanted}
-use Rattle.olap_top.specs.declared.wanted.Wanted.TheVariants.{Step, Seeded, Load}
 
 -- a source that tells few bytes gives no more
 few-given : (left now : Option (List ℕ)) → IsGoodScript left → Gave left now (λ count. count ≡ 2 ^ 26 + 1) → ⊥

@@ -2,15 +2,9 @@
 use Rattle.std.proofs.Common.{◌∙◌, ℕ, Bool, List, [], ◌∷◌, ◌++◌, refl, sym, ap, subst, append_assoc}
 use Rattle.row_ledger.specs.declared.event.Event.{Event}
 use Rattle.seeded_run.proofs.Told.{told-law}
-use Rattle.seeded_run.specs.Can.{able_in}
-use Rattle.seeded_run.specs.Phase.{IsKeptTurn}
-use Rattle.seeded_run.specs.Rests.{PhaseRun}
-use Rattle.seeded_run.specs.Told.{OfBeginning, OfDeed, OfEnd, OfNothing, OfPage, OfPull, Told}
+use Rattle.seeded_run.specs.{Can.able_in, Phase.IsKeptTurn, Rests.PhaseRun, Told.{OfBeginning, OfDeed, OfEnd, OfNothing, OfPage, OfPull, Told}}
 use Rattle.seeded_turns.specs.Drawn.{AreTurns, Moment}
-use Rattle.volap_cell.specs.Setting.{Setting}
-use Rattle.volap_cell.specs.Steps.{Inv, Step, history_in}
-use Rattle.volap_cell.specs.World.{World}
-use Rattle.volap_cell.specs.declared.kind.Kind.{Kind}
+use Rattle.volap_cell.specs.{Setting.Setting, Steps.{Inv, Step, history_in}, World.World, declared.kind.Kind.Kind}
 use Rattle.olap_top.specs.RunSoFar.{HasGrown}
 
 pub grown-none : (h : List Event) → HasGrown h h

@@ -1,25 +1,12 @@
 -- The ledger in its cell, of a core that one thread holds.
-use Rattle.std.proofs.Common.{◌≡◌, ◌∙◌, ℕ, zero, suc, true, false, eqb, List, [], ◌∷◌, length, get_or, set, Option, Some, None, refl, sym, ap, subst, arith}
-use Rattle.std.specs.Prelude.{All, is_some}
-use Rattle.std.specs.Option.{option_map_or}
-use Rattle.std.proofs.lemmas.Bool.{ne_eqb}
-use Rattle.std.proofs.lemmas.List.{length-set}
-use Rattle.std.proofs.lemmas.List.Elements.{All-cons, All-from_get_or, All-tail}
+use Rattle.std.proofs.{Common.{◌≡◌, ◌∙◌, ℕ, zero, suc, true, false, eqb, List, [], ◌∷◌, length, get_or, set, Option, Some, None, refl, sym, ap, subst, arith}, lemmas.Bool.ne_eqb, lemmas.List.length-set, lemmas.List.Elements.{All-cons, All-from_get_or, All-tail}}
+use Rattle.std.specs.{Option.option_map_or, Prelude.{All, is_some}}
 use Rattle.dim_hierarchy.specs.Dimension.{Dimension}
-use Rattle.row_ledger.specs.LedgerValue.{LedgerValue}
-use Rattle.row_ledger.specs.declared.settings.Use.{Use}
+use Rattle.row_ledger.specs.{LedgerValue.LedgerValue, declared.settings.Use.Use}
 use Rattle.seeded_run.proofs.Worlds.{only-world, one-setting}
 use Rattle.seeded_run.specs.Phase.{IsCoreHeld, about, held}
-use Rattle.volap_cell.specs.Cells.{FreeCell, LedgerCell, cell_of}
-use Rattle.volap_cell.specs.Setting.{actor_count, cell_count, ledger_cell}
-use Rattle.volap_cell.specs.State.{Has}
-use Rattle.volap_cell.specs.Steps.{Inv}
-use Rattle.volap_cell.specs.World.{change, put}
-use Rattle.volap_cell.specs.Values.{actor_of}
-use Rattle.volap_cell.specs.declared.actor.Actor.{Actor}
-use Rattle.volap_cell.specs.declared.cell.Cell.{Cell}
+use Rattle.volap_cell.specs.{Cells.{FreeCell, LedgerCell, cell_of}, Setting.{actor_count, cell_count, ledger_cell}, State.Has, Steps.Inv, Values.actor_of, World.{change, put}, declared.actor.Actor.Actor, declared.cell.Cell.Cell, declared.state.State.State}
 use Rattle.volap_cell.specs.declared.cell.Cell.TheVariants as cell
-use Rattle.volap_cell.specs.declared.state.State.{State}
 use Rattle.olap_top.specs.OneRun.{IsWhole}
 
 -- the core that is held meets the invariant

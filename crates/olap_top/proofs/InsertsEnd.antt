@@ -1,23 +1,12 @@
 -- In a right history an insert that is over was acknowledged, or ended for want of memory.
-use Rattle.std.proofs.Common.{◌≡◌, ◌∙◌, ◌⊎◌, inl, inr, ℕ, Bool, true, false, List, [], ◌∷◌, length, refl, sym, ap, IsTrue}
-use Rattle.std.specs.Prelude.{Option, Some, None, ◌||◌, find, if◌then◌else◌}
-use Rattle.std.specs.List.{AllZip}
-use Rattle.std.specs.Option.{option_map_or}
-use Rattle.std.proofs.lemmas.Bool.{and_parts, cases_lt, eqb-true, false≢true}
-use Rattle.dim_hierarchy.specs.Dimension.{Dimension}
-use Rattle.dim_hierarchy.specs.declared.row.Row.{Row}
-use Rattle.row_ledger.proofs.Fresh.{fresh-newest}
-use Rattle.row_ledger.proofs.Positions.{event_at-older}
-use Rattle.row_ledger.specs.Past.{before, call_at, ends_itself, event_at, has_ended, is_end_of, is_over, query_at}
-use Rattle.row_ledger.specs.Right.{EachEvent, Stands}
-use Rattle.row_ledger.specs.Site.{Site}
-use Rattle.row_ledger.specs.declared.event.Event.{Event}
+use Rattle.std.proofs.{Common.{◌≡◌, ◌∙◌, ◌⊎◌, inl, inr, ℕ, Bool, true, false, List, [], ◌∷◌, length, refl, sym, ap, IsTrue}, lemmas.Bool.{and_parts, cases_lt, eqb-true, false≢true}}
+use Rattle.std.specs.{List.AllZip, Option.option_map_or, Prelude.{Option, Some, None, ◌||◌, find, if◌then◌else◌}}
+use Rattle.dim_hierarchy.specs.{Dimension.Dimension, declared.row.Row.Row}
+use Rattle.row_ledger.proofs.{Fresh.fresh-newest, Positions.event_at-older}
+use Rattle.row_ledger.specs.{Past.{before, call_at, ends_itself, event_at, has_ended, is_end_of, is_over, query_at}, Right.{EachEvent, Stands}, Site.Site, declared.event.Event.Event, declared.settings.Use.Use}
 use Rattle.row_ledger.specs.declared.event.Event.TheVariants as event
-use Rattle.row_ledger.specs.declared.settings.Use.{Use}
-use Rattle.script_form.specs.declared.script.Command.{Command}
-use Rattle.script_form.specs.declared.script.Command.TheVariants.{Control, Insert, Query}
-use Rattle.script_run.specs.Places.{are_over, end_of, is_over_at}
-use Rattle.script_run.specs.Runs.{Begins, BeginsAt, InsertEnds, first_unknown}
+use Rattle.script_form.specs.{declared.script.Command.Command, declared.script.Command.TheVariants.{Control, Insert, Query}}
+use Rattle.script_run.specs.{Places.{are_over, end_of, is_over_at}, Runs.{Begins, BeginsAt, InsertEnds, first_unknown}}
 use Rattle.olap_top.proofs.Zips.{AllZip-weaker}
 
 -- how an insert may have ended

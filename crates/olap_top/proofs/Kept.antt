@@ -1,28 +1,15 @@
 -- What is told of commands that are over stays as the history goes on.
-use Rattle.std.proofs.Common.{◌≡◌, ◌∙◌, ◌+◌, ◌<◌, ℕ, Bool, true, false, List, [], ◌∷◌, ◌++◌, length, map, refl, sym, ap, arith, IsTrue, append-nil, append_assoc, ◌==◌}
-use Rattle.std.specs.Prelude.{Option, Some, None, is_some, ◌||◌, find, option_and_then, if◌then◌else◌}
-use Rattle.std.specs.List.{AllByRecursion, AllZip}
-use Rattle.std.specs.Option.{option_map_or, option_or}
-use Rattle.std.proofs.lemmas.Bool.{and_parts, false≢true, ne_eqb}
+use Rattle.std.proofs.{Common.{◌≡◌, ◌∙◌, ◌+◌, ◌<◌, ℕ, Bool, true, false, List, [], ◌∷◌, ◌++◌, length, map, refl, sym, ap, arith, IsTrue, append-nil, append_assoc, ◌==◌}, lemmas.Bool.{and_parts, false≢true, ne_eqb}}
+use Rattle.std.specs.{List.{AllByRecursion, AllZip}, Option.{option_map_or, option_or}, Prelude.{Option, Some, None, is_some, ◌||◌, find, option_and_then, if◌then◌else◌}}
 use Rattle.dim_hierarchy.specs.Dimension.{Dimension}
 use Rattle.answer_text.proofs.TextFacts.{IsSameAt, lines-kept}
 use Rattle.answer_text.specs.Printed.{lines, split_for}
-use Rattle.row_ledger.proofs.Older.{is_over-older}
-use Rattle.row_ledger.proofs.Positions.{event_at-older}
-use Rattle.row_ledger.specs.Past.{call_in, end_in, ends_itself, event_at, has_ended, insert_at, insert_in, is_end_of, is_over, page_in, page_of, query_at, query_in}
-use Rattle.row_ledger.specs.Belonging.{number_in}
-use Rattle.row_ledger.specs.Right.{EachEvent, Stands}
-use Rattle.row_ledger.specs.Site.{Site}
-use Rattle.row_ledger.specs.declared.event.Event.{Event}
+use Rattle.row_ledger.proofs.{Older.is_over-older, Positions.event_at-older}
+use Rattle.row_ledger.specs.{Belonging.number_in, Past.{call_in, end_in, ends_itself, event_at, has_ended, insert_at, insert_in, is_end_of, is_over, page_in, page_of, query_at, query_in}, Right.{EachEvent, Stands}, Site.Site, declared.event.Event.Event, declared.settings.Use.Use}
 use Rattle.row_ledger.specs.declared.event.Event.TheVariants as event
-use Rattle.row_ledger.specs.declared.settings.Use.{Use}
 use Rattle.script_form.specs.declared.script.Command.{Command}
-use Rattle.script_run.proofs.Grow.{within}
-use Rattle.script_run.proofs.PlaceFacts.{GoesOn, HaveBegun, begins_of-here, begins_of-other, places_behind-kept}
-use Rattle.script_run.specs.Between.{IsThrough}
-use Rattle.script_run.proofs.Between.{through-law}
-use Rattle.script_run.specs.Places.{are_over, begins_in, begins_of, places}
-use Rattle.script_run.specs.Runs.{BeginsAt}
+use Rattle.script_run.proofs.{Between.through-law, Grow.within, PlaceFacts.{GoesOn, HaveBegun, begins_of-here, begins_of-other, places_behind-kept}}
+use Rattle.script_run.specs.{Between.IsThrough, Places.{are_over, begins_in, begins_of, places}, Runs.BeginsAt}
 
 -- the lines of commands that are done
 abbrev pub lines_of : Use → List Command → List Event → List ℕ

@@ -1,28 +1,12 @@
 -- What a run leaves.
 use Rattle.std.proofs.Common.{◌≡◌, ◌∙◌, List, length, sym, ap, subst, arith}
-use Rattle.row_ledger.specs.Site.{site_of}
-use Rattle.row_ledger.specs.declared.event.Event.{Event}
-use Rattle.script_form.specs.Fits.{AreSettings}
-use Rattle.script_form.specs.declared.script.Script.{Script}
+use Rattle.row_ledger.specs.{Site.site_of, declared.event.Event.Event}
+use Rattle.script_form.specs.{Fits.AreSettings, declared.script.Script.Script}
 use Rattle.seeded_run.specs.Order.{is_order}
 use Rattle.volap_cell.proofs.Promised.{place-law, rows-law}
-use Rattle.volap_cell.specs.Opening.{IsOpening}
-use Rattle.volap_cell.specs.Setting.{Setting}
-use Rattle.volap_cell.specs.Steps.{Inv, history_in}
-use Rattle.volap_cell.specs.World.{World}
-use Rattle.olap_top.specs.Left.{IsHandedOut, LeavesRun}
-use Rattle.olap_top.specs.Outcomes.{RunsInOrder, schedule_of}
-use Rattle.olap_top.specs.OneRun.{EndsAs, GoesTo, IsRunUpTo, IsWhole, setting_of}
-use Rattle.olap_top.specs.RowsKept.{AreRowsKept}
-use Rattle.olap_top.specs.RunSoFar.{HasLeft, history_of, world_of}
-use Rattle.olap_top.specs.Settles.{IsSettling}
-use Rattle.olap_top.specs.declared.outcome.Outcome.{Outcome}
-use Rattle.olap_top.specs.declared.run.Run.{Run}
-use Rattle.olap_top.specs.declared.wanted.Wanted.{Wanted}
-use Rattle.olap_top.proofs.Behind.{of-all-behind}
-use Rattle.olap_top.proofs.Handing.{held-inv}
-use Rattle.olap_top.proofs.PhaseSteps.{held-right}
-use Rattle.olap_top.proofs.Settled.{settled-all, settles-tell}
+use Rattle.volap_cell.specs.{Opening.IsOpening, Setting.Setting, Steps.{Inv, history_in}, World.World}
+use Rattle.olap_top.specs.{Left.{IsHandedOut, LeavesRun}, OneRun.{EndsAs, GoesTo, IsRunUpTo, IsWhole, setting_of}, Outcomes.{RunsInOrder, schedule_of}, RowsKept.AreRowsKept, RunSoFar.{HasLeft, history_of, world_of}, Settles.IsSettling, declared.outcome.Outcome.Outcome, declared.run.Run.Run, declared.wanted.Wanted.Wanted}
+use Rattle.olap_top.proofs.{Behind.of-all-behind, Handing.held-inv, PhaseSteps.held-right, Settled.{settled-all, settles-tell}}
 
 -- What is held keeps each row.
 rows-kept : (s : Setting) (w : World) → Inv s w → AreRowsKept s w

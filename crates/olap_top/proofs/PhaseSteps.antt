@@ -1,55 +1,22 @@
 -- A run between two phases, and how it goes on from there.
-use Rattle.std.proofs.Common.{◌≡◌, ◌∙◌, ◌⊎◌, ℕ, zero, suc, ◌+◌, ◌-◌, ◌≤◌, ◌<◌, inl, inr, Bool, true, false, IsTrue, List, [], ◌∷◌, ◌++◌, length, take, drop, refl, sym, ap, subst, arith, append_assoc, append-nil, length-append}
-use Rattle.std.specs.Prelude.{All, Option, Some, None, ◌&&◌, if◌then◌else◌, get_or, slice_get}
-use Rattle.std.specs.Io.KnownBytes.{Appends}
-use Rattle.std.proofs.Math.Seq.{take-append_seam, take-append-add}
-use Rattle.std.proofs.lemmas.Bool.{and_parts, cases_lt, false≢true}
-use Rattle.std.proofs.lemmas.List.{drop-drop, drop-take, drop_all, length-take-le, take-append-drop, take-take, take_all}
-use Rattle.std.proofs.lemmas.List.Elements.{All-head, All-tail}
-use Rattle.std.proofs.lemmas.Option.{slice_get_within}
-use Rattle.std.proofs.lemmas.List.Folds.{list_all-append}
+use Rattle.std.proofs.{Common.{◌≡◌, ◌∙◌, ◌⊎◌, ℕ, zero, suc, ◌+◌, ◌-◌, ◌≤◌, ◌<◌, inl, inr, Bool, true, false, IsTrue, List, [], ◌∷◌, ◌++◌, length, take, drop, refl, sym, ap, subst, arith, append_assoc, append-nil, length-append}, Math.Seq.{take-append_seam, take-append-add}, lemmas.Bool.{and_parts, cases_lt, false≢true}, lemmas.List.{drop-drop, drop-take, drop_all, length-take-le, take-append-drop, take-take, take_all}, lemmas.List.Elements.{All-head, All-tail}, lemmas.List.Folds.list_all-append, lemmas.Option.slice_get_within}
+use Rattle.std.specs.{Io.KnownBytes.Appends, Prelude.{All, Option, Some, None, ◌&&◌, if◌then◌else◌, get_or, slice_get}}
 use Rattle.dim_hierarchy.specs.Dimension.{Dimension}
-use Rattle.answer_text.proofs.TextFacts.{AreFirst, lines-append, told-first, told_to-first}
-use Rattle.answer_text.proofs.ToldLines.{phase_behind-is}
+use Rattle.answer_text.proofs.{TextFacts.{AreFirst, lines-append, told-first, told_to-first}, ToldLines.phase_behind-is}
 use Rattle.answer_text.specs.Printed.{lines, phase_behind, told, told_to}
 use Rattle.row_ledger.proofs.Growth.{IsRight-kept}
-use Rattle.row_ledger.specs.Right.{EachEvent, IsRight, Stands}
-use Rattle.row_ledger.specs.Site.{site_of}
-use Rattle.row_ledger.specs.declared.event.Event.{Event}
-use Rattle.row_ledger.specs.declared.settings.Use.{Use}
+use Rattle.row_ledger.specs.{Right.{EachEvent, IsRight, Stands}, Site.site_of, declared.event.Event.Event, declared.settings.Use.Use}
 use Rattle.row_ledger.specs.declared.settings.Call.TheVariants as call
-use Rattle.script_form.specs.Fits.{Fits}
-use Rattle.script_form.specs.declared.script.Command.{Command}
+use Rattle.script_form.specs.{Fits.Fits, declared.script.Command.Command, declared.script.Script.Script}
 use Rattle.script_form.specs.declared.script.Command.TheVariants as command
-use Rattle.script_form.specs.declared.script.Script.{Script}
-use Rattle.script_run.proofs.Between.{order-start-law, through-law}
-use Rattle.script_run.proofs.PhaseEnds.{start_law}
-use Rattle.script_run.proofs.PhaseFacts.{all_of-append, phases-nil, phases-some}
-use Rattle.script_run.proofs.PlaceFacts.{NoneMore, places_behind-append, places_behind-length}
-use Rattle.script_run.proofs.Whole.{part_law, serial_law}
-use Rattle.script_run.specs.Between.{IsThrough}
-use Rattle.script_run.specs.Phases.{all_of, closes, phases, phases_to}
-use Rattle.script_run.specs.Streams.{NoneCloses}
-use Rattle.script_run.specs.Places.{are_over, begins_of, count_of, is_over_at, places, places_behind}
-use Rattle.script_run.specs.Runs.{IsRunSoFar, IsSerial}
-use Rattle.seeded_run.specs.Phase.{ClosesLast, MayAllRun, MayRun}
-use Rattle.seeded_run.specs.Order.{is_order}
-use Rattle.seeded_turns.specs.Drawn.{Moment}
-use Rattle.seeded_turns.specs.declared.schedule.Schedule.{Schedule}
-use Rattle.volap_cell.specs.Steps.{Inv}
-use Rattle.volap_cell.specs.World.{World}
-use Rattle.olap_top.specs.OneRun.{EndsAs, GoesTo, RunPhases, RunsPhase, RunsWhole, phase_of}
-use Rattle.olap_top.specs.Outcomes.{HasRun, RanInto, RanToPhase, TookPart, asked_text_to}
-use Rattle.olap_top.specs.RunSoFar.{tells_phases, HasGone, HasLeft, HasStopped, IsBehind, IsHeld, history_of, moment_of, tells, world_of}
-use Rattle.olap_top.specs.declared.outcome.Status.{Status}
+use Rattle.script_run.proofs.{Between.{order-start-law, through-law}, PhaseEnds.start_law, PhaseFacts.{all_of-append, phases-nil, phases-some}, PlaceFacts.{NoneMore, places_behind-append, places_behind-length}, Whole.{part_law, serial_law}}
+use Rattle.script_run.specs.{Between.IsThrough, Phases.{all_of, closes, phases, phases_to}, Places.{are_over, begins_of, count_of, is_over_at, places, places_behind}, Runs.{IsRunSoFar, IsSerial}, Streams.NoneCloses}
+use Rattle.seeded_run.specs.{Order.is_order, Phase.{ClosesLast, MayAllRun, MayRun}}
+use Rattle.seeded_turns.specs.{Drawn.Moment, declared.schedule.Schedule.Schedule}
+use Rattle.volap_cell.specs.{Steps.Inv, World.World}
+use Rattle.olap_top.specs.{OneRun.{EndsAs, GoesTo, RunPhases, RunsPhase, RunsWhole, phase_of}, Outcomes.{HasRun, RanInto, RanToPhase, TookPart, asked_text_to}, RunSoFar.{tells_phases, HasGone, HasLeft, HasStopped, IsBehind, IsHeld, history_of, moment_of, tells, world_of}, declared.outcome.Status.Status, declared.run.Run.Run, declared.wanted.Wanted.Wanted}
 use Rattle.olap_top.specs.declared.outcome.Status.TheVariants as status_is
-use Rattle.olap_top.specs.declared.run.Run.{Run}
-use Rattle.olap_top.specs.declared.wanted.Wanted.{Wanted}
-use Rattle.olap_top.proofs.Handing.{held-inv}
-use Rattle.olap_top.proofs.InsertsEnd.{inserts-end, inserts-over}
-use Rattle.olap_top.proofs.Kept.{lines-grown, lines_of}
-use Rattle.olap_top.proofs.PhaseTurns.{first-over}
-use Rattle.olap_top.proofs.Asked.{asked-to}
+use Rattle.olap_top.proofs.{Asked.asked-to, Handing.held-inv, InsertsEnd.{inserts-end, inserts-over}, Kept.{lines-grown, lines_of}, PhaseTurns.first-over}
 
 -- What a sink took.
 

@@ -1,40 +1,19 @@
 -- A phase of a run, by what the core's run says of it.
-use Rattle.std.proofs.Common.{◌≡◌, ◌∙◌, ◌≤◌, ℕ, Bool, IsTrue, List, [], ◌++◌, refl, sym, ap, subst, arith, length, take, drop, reverse, append-nil, append_assoc}
+use Rattle.std.proofs.{Common.{◌≡◌, ◌∙◌, ◌≤◌, ℕ, Bool, IsTrue, List, [], ◌++◌, refl, sym, ap, subst, arith, length, take, drop, reverse, append-nil, append_assoc}, lemmas.Bool.and_parts, lemmas.List.{length-take-le, reverse-append, take-append-drop}, lemmas.List.Folds.list_all-append}
 use Rattle.std.specs.Prelude.{if◌then◌else◌, IfSome, is_some, Option, Some, None}
-use Rattle.std.proofs.lemmas.Bool.{and_parts}
-use Rattle.std.proofs.lemmas.List.{length-take-le, reverse-append, take-append-drop}
-use Rattle.std.proofs.lemmas.List.Folds.{list_all-append}
 use Rattle.dim_hierarchy.specs.Dimension.{Dimension}
-use Rattle.answer_text.proofs.Referring.{refers-back}
-use Rattle.answer_text.proofs.TellerFacts.{teller_law}
-use Rattle.answer_text.specs.Marks.{RefersBack}
+use Rattle.answer_text.proofs.{Referring.refers-back, TellerFacts.teller_law}
+use Rattle.answer_text.specs.{Marks.RefersBack, Printed.phase_behind, Told.{HasTold, IsTeller, IsToldOf, seen_of}, declared.text.Teller.Teller}
 use Rattle.row_ledger.proofs.SettledAnswer.{EachEvent-later}
-use Rattle.answer_text.specs.Printed.{phase_behind}
-use Rattle.answer_text.specs.Told.{HasTold, IsTeller, IsToldOf, seen_of}
-use Rattle.answer_text.specs.declared.text.Teller.{Teller}
-use Rattle.row_ledger.specs.declared.event.Event.{Event}
-use Rattle.row_ledger.specs.declared.settings.Use.{Use}
-use Rattle.script_form.specs.declared.script.Command.{Command}
-use Rattle.script_form.specs.declared.script.Script.{Script}
-use Rattle.script_run.proofs.Between.{through-law}
-use Rattle.script_run.proofs.PlaceFacts.{places_behind-append}
+use Rattle.row_ledger.specs.{declared.event.Event.Event, declared.settings.Use.Use}
+use Rattle.script_form.specs.{declared.script.Command.Command, declared.script.Script.Script}
+use Rattle.script_run.proofs.{Between.through-law, PlaceFacts.places_behind-append}
 use Rattle.script_run.specs.Places.{are_over, is_over_at, places, places_behind}
-use Rattle.seeded_run.specs.Can.{able_in}
-use Rattle.seeded_run.specs.Kept.{IsBetween, IsStopped}
-use Rattle.seeded_run.specs.Phase.{IsCoreHeld, IsKeptTurn, NobodyCanStep, RunsTo, about, held, phase_from}
-use Rattle.seeded_run.specs.Order.{is_order}
-use Rattle.seeded_run.specs.Rests.{PhaseRun}
-use Rattle.seeded_turns.specs.Drawn.{Reaches}
-use Rattle.seeded_turns.specs.declared.schedule.Schedule.{Schedule}
-use Rattle.volap_cell.specs.Setting.{Setting, site_in}
-use Rattle.volap_cell.specs.Steps.{Inv, history_in}
-use Rattle.volap_cell.specs.World.{World}
-use Rattle.volap_cell.specs.declared.state.State.{State}
-use Rattle.olap_top.specs.OneRun.{RunsPhase, phase_at, setting_of}
-use Rattle.olap_top.specs.RunSoFar.{HasGone, HasGrown, HasStopped, HasToldSo, IsBehind, IsHeld, history_of, moment_of, tells, untold_text, world_of}
-use Rattle.olap_top.specs.declared.run.Run.{Run}
-use Rattle.olap_top.proofs.Grown.{turns-come}
-use Rattle.olap_top.proofs.Handing.{held-inv}
+use Rattle.seeded_run.specs.{Can.able_in, Kept.{IsBetween, IsStopped}, Order.is_order, Phase.{IsCoreHeld, IsKeptTurn, NobodyCanStep, RunsTo, about, held, phase_from}, Rests.PhaseRun}
+use Rattle.seeded_turns.specs.{Drawn.Reaches, declared.schedule.Schedule.Schedule}
+use Rattle.volap_cell.specs.{Setting.{Setting, site_in}, Steps.{Inv, history_in}, World.World, declared.state.State.State}
+use Rattle.olap_top.specs.{OneRun.{RunsPhase, phase_at, setting_of}, RunSoFar.{HasGone, HasGrown, HasStopped, HasToldSo, IsBehind, IsHeld, history_of, moment_of, tells, untold_text, world_of}, declared.run.Run.Run}
+use Rattle.olap_top.proofs.{Grown.turns-come, Handing.held-inv}
 
 -- Stopping.
 

@@ -2,21 +2,9 @@
 use Rattle.std.proofs.Common.{◌≡◌, ◌∙◌, ◌+◌, ◌<◌, ℕ, Bool, true, false, List, [], ◌∷◌, ◌++◌, length, sym, subst, append_assoc}
 use Rattle.std.specs.Prelude.{Contains, IfSome, Some, if◌then◌else◌, nat_lt}
 use Rattle.dim_hierarchy.specs.Dimension.{Dimension}
-use Rattle.row_ledger.proofs.Older.{acked-older, passed-older}
-use Rattle.row_ledger.proofs.SettledAnswer.{EachEvent-later, settled-is_all}
-use Rattle.row_ledger.proofs.Settling.{must-passed, passed-settled}
-use Rattle.volap_cell.proofs.Knowing.{acked-begun}
-use Rattle.row_ledger.specs.Bounds.{passed}
-use Rattle.row_ledger.specs.Classes.{class_of}
-use Rattle.row_ledger.specs.Past.{Ack, Insert, acked, before, call_at, insert_at}
-use Rattle.row_ledger.specs.Right.{EachEvent, IsRight, Stands}
-use Rattle.row_ledger.specs.Site.{Site, site_of}
-use Rattle.row_ledger.specs.declared.event.Event.{Event}
-use Rattle.row_ledger.specs.declared.event.Event.TheVariants.{Ended}
-use Rattle.row_ledger.specs.declared.settings.Call.TheVariants.{Settle}
-use Rattle.row_ledger.specs.declared.settings.How.TheVariants.{Fine}
-use Rattle.row_ledger.specs.declared.settings.Use.{Use}
-use Rattle.row_ledger.specs.Settled.{pulls_since, settle_pulls}
+use Rattle.row_ledger.proofs.{Older.{acked-older, passed-older}, SettledAnswer.{EachEvent-later, settled-is_all}, Settling.{must-passed, passed-settled}}
+use Rattle.volap_cell.proofs.Histories.Knowing.{acked-begun}
+use Rattle.row_ledger.specs.{Bounds.passed, Classes.class_of, Past.{Ack, Insert, acked, before, call_at, insert_at}, Right.{EachEvent, IsRight, Stands}, Settled.{pulls_since, settle_pulls}, Site.{Site, site_of}, declared.event.Event.Event, declared.event.Event.TheVariants.Ended, declared.settings.Call.TheVariants.Settle, declared.settings.How.TheVariants.Fine, declared.settings.Use.Use}
 use Rattle.script_run.specs.Runs.{ArePulls, HasPulls}
 use Rattle.olap_top.specs.Settles.{SettledAreAll, SettlesTell}
 

@@ -1,23 +1,13 @@
 -- A run of which a summary is written when all its phases have ended.
-use Rattle.std.proofs.Common.{◌≡◌, ◌∙◌, ◌+◌, ◌≤◌, ℕ, Bool, true, List, [], length, take, sym, ap, subst, arith}
-use Rattle.std.specs.Prelude.{IsTrue, Option, if◌then◌else◌}
-use Rattle.std.specs.Io.KnownBytes.{Appends}
-use Rattle.std.proofs.lemmas.List.{take_all}
+use Rattle.std.proofs.{Common.{◌≡◌, ◌∙◌, ◌+◌, ◌≤◌, ℕ, Bool, true, List, [], length, take, sym, ap, subst, arith}, lemmas.List.take_all}
+use Rattle.std.specs.{Io.KnownBytes.Appends, Prelude.{IsTrue, Option, if◌then◌else◌}}
 use Rattle.answer_text.specs.Printed.{told}
 use Rattle.row_ledger.specs.declared.event.Event.{Event}
-use Rattle.script_form.specs.declared.script.Command.{Command}
-use Rattle.script_form.specs.declared.script.Script.{Script}
+use Rattle.script_form.specs.{declared.script.Command.Command, declared.script.Script.Script}
 use Rattle.script_run.proofs.PhaseFacts.{all_of-phases}
-use Rattle.script_run.specs.Phases.{all_of, phases, phases_to}
-use Rattle.script_run.specs.Places.{are_over, is_over_at, places}
-use Rattle.script_run.specs.Runs.{InsertEnds, IsRunSoFar}
-use Rattle.olap_top.specs.Outcomes.{HasRun, RanInto, TookPart, asked_text}
-use Rattle.olap_top.specs.RunSoFar.{tells_phases}
-use Rattle.olap_top.specs.declared.wanted.Wanted.{Wanted}
-use Rattle.olap_top.specs.declared.wanted.Wanted.TheVariants.{Load}
-use Rattle.olap_top.proofs.Asked.{asked-told}
-use Rattle.olap_top.proofs.PhaseSteps.{Appends-more}
-use Rattle.olap_top.proofs.Zips.{AllZip-weaker}
+use Rattle.script_run.specs.{Phases.{all_of, phases, phases_to}, Places.{are_over, is_over_at, places}, Runs.{InsertEnds, IsRunSoFar}}
+use Rattle.olap_top.specs.{Outcomes.{HasRun, RanInto, TookPart, asked_text}, RunSoFar.tells_phases, declared.wanted.Wanted.Wanted, declared.wanted.Wanted.TheVariants.Load}
+use Rattle.olap_top.proofs.{Asked.asked-told, PhaseSteps.Appends-more, Zips.AllZip-weaker}
 
 -- What phases wrote: all that is asked for, or nothing.
 

@@ -1,17 +1,8 @@
 -- What words want, computed and meant.
-use Rattle.std.proofs.Common.{◌≡◌, ◌<◌, ◌≤◌, ◌∙◌, ◌^◌, ℕ, List, [], ◌∷◌, ◌++◌, length, take, drop, Bool, true, false, ◌&&◌, Option, Some, None, ap, sym, subst, refl, arith, inl, inr, append-nil}
-use Rattle.std.specs.Prelude.{IfSome, nat_lt, nat_le, option_and_then, option_map, ◌⊎◌, codes, if◌then◌else◌}
-use Rattle.std.specs.Option.{option_map_or}
-use Rattle.std.specs.Str.{bytes_eq}
-use Rattle.std.proofs.lemmas.Bool.{and_parts}
-use Rattle.std.proofs.lemmas.List.{take-append-drop}
-use Rattle.std.proofs.lemmas.Bool.Decides.{nat_tests}
-use Rattle.std.proofs.lemmas.Slice.Eq.{bytes_eq-Decides}
+use Rattle.std.proofs.{Common.{◌≡◌, ◌<◌, ◌≤◌, ◌∙◌, ◌^◌, ℕ, List, [], ◌∷◌, ◌++◌, length, take, drop, Bool, true, false, ◌&&◌, Option, Some, None, ap, sym, subst, refl, arith, inl, inr, append-nil}, lemmas.Bool.and_parts, lemmas.Bool.Decides.nat_tests, lemmas.List.take-append-drop, lemmas.Slice.Eq.bytes_eq-Decides}
+use Rattle.std.specs.{Option.option_map_or, Prelude.{IfSome, nat_lt, nat_le, option_and_then, option_map, ◌⊎◌, codes, if◌then◌else◌}, Str.bytes_eq}
 use Rattle.script_form.specs.Fields.{number_of}
-use Rattle.olap_top.specs.Wanted.{AreFewRows, Given, at_end, behind, below_2_64, first_word, from_1_to_most, given, given_alone, given_both, load_by, load_of, row_count_of, seed_of, step_of, wanted}
-use Rattle.olap_top.specs.Words.{GiveBoth, GiveOption, SpellsRows, SpellsSeed, Want, most_rows}
-use Rattle.olap_top.specs.declared.wanted.Wanted.{Wanted}
-use Rattle.olap_top.specs.declared.wanted.Wanted.TheVariants.{Step, Seeded, Load}
+use Rattle.olap_top.specs.{Wanted.{AreFewRows, Given, at_end, behind, below_2_64, first_word, from_1_to_most, given, given_alone, given_both, load_by, load_of, row_count_of, seed_of, step_of, wanted}, Words.{GiveBoth, GiveOption, SpellsRows, SpellsSeed, Want, most_rows}, declared.wanted.Wanted.Wanted, declared.wanted.Wanted.TheVariants.{Step, Seeded, Load}}
 
 -- What gives a value.
 

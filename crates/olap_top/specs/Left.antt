@@ -1,19 +1,12 @@
 -- What the top call leaves besides the bytes: the history, and the state of the core.
 use Rattle.std.specs.Prelude.{ℕ, ◌≡◌, ◌<◌, true, Option, Some, None, List, get_or, length}
 use Rattle.dim_hierarchy.specs.Dimension.{Dimension}
-use Rattle.row_ledger.specs.Site.{site_of}
-use Rattle.row_ledger.specs.declared.settings.Use.{Use}
+use Rattle.row_ledger.specs.{Site.site_of, declared.settings.Use.Use}
 use Rattle.script_form.specs.declared.script.Script.{Script}
 use Rattle.seeded_run.specs.Phase.{about, held}
-use Rattle.volap_cell.specs.Setting.{ledger_cell}
+use Rattle.volap_cell.specs.{Setting.ledger_cell, declared.state.State.State}
 use Rattle.volap_cell.specs.declared.cell.Cell.TheVariants as cell
-use Rattle.volap_cell.specs.declared.state.State.{State}
-use Rattle.olap_top.specs.OneRun.{IsRestOf, IsWhole, setting_of, with_ledger}
-use Rattle.olap_top.specs.Outcomes.{goes_in_order, IsAskedScript, RunsInOrder}
-use Rattle.olap_top.specs.RowsKept.{AreRowsKept}
-use Rattle.olap_top.specs.Settles.{IsSettling}
-use Rattle.olap_top.specs.declared.outcome.Outcome.{Outcome}
-use Rattle.olap_top.specs.declared.wanted.Wanted.{Wanted}
+use Rattle.olap_top.specs.{OneRun.{IsRestOf, IsWhole, setting_of, with_ledger}, Outcomes.{goes_in_order, IsAskedScript, RunsInOrder}, RowsKept.AreRowsKept, Settles.IsSettling, declared.outcome.Outcome.Outcome, declared.wanted.Wanted.Wanted}
 
 -- The state was handed out, with the ledger moved out of its cell.
 pub record IsHandedOut (h : List Dimension) (with : Use) (state : State) (o : Outcome) : Type 0 where

@@ -1,28 +1,14 @@
 -- The one run of the core by which a script's history came about, and the state that is left of it.
-use Rattle.std.specs.Prelude.{ℕ, ◌≡◌, ⊤, Bool, true, Some, None, is_some, List, [], ◌∷◌, All, get_or, length, take}
-use Rattle.std.specs.List.{slice_index_or}
+use Rattle.std.specs.{List.slice_index_or, Prelude.{ℕ, ◌≡◌, ⊤, Bool, true, Some, None, is_some, List, [], ◌∷◌, All, get_or, length, take}}
 use Rattle.row_ledger.specs.LedgerValue.{LedgerValue}
-use Rattle.script_form.specs.declared.script.Command.{Command}
-use Rattle.script_form.specs.declared.script.Script.{Script}
+use Rattle.script_form.specs.{declared.script.Command.Command, declared.script.Script.Script}
 use Rattle.script_run.specs.Phases.{phases}
-use Rattle.seeded_run.specs.Can.{able_in}
-use Rattle.seeded_run.specs.Phase.{IsKeptTurn, about, held}
-use Rattle.seeded_run.specs.Rests.{PhaseRun}
-use Rattle.seeded_run.specs.Roles.{roles_of}
-use Rattle.seeded_turns.specs.Drawn.{Moment, Reaches}
-use Rattle.seeded_turns.specs.declared.schedule.Schedule.{Schedule}
-use Rattle.volap_cell.specs.Cells.{FreeCell, LedgerCell}
-use Rattle.volap_cell.specs.Filling.{setting_for}
-use Rattle.volap_cell.specs.Opening.{IsOpening}
-use Rattle.volap_cell.specs.Setting.{Setting, actor_count, cell_count, ledger_cell}
-use Rattle.volap_cell.specs.Steps.{history_in}
-use Rattle.volap_cell.specs.World.{World, change, put}
+use Rattle.seeded_run.specs.{Can.able_in, Phase.{IsKeptTurn, about, held}, Rests.PhaseRun, Roles.roles_of}
+use Rattle.seeded_turns.specs.{Drawn.{Moment, Reaches}, declared.schedule.Schedule.Schedule}
+use Rattle.volap_cell.specs.{Cells.{FreeCell, LedgerCell}, Filling.setting_for, Opening.IsOpening, Setting.{Setting, actor_count, cell_count, ledger_cell}, Steps.history_in, World.{World, change, put}, declared.state.State.State}
 use Rattle.volap_cell.specs.declared.cell.Cell.TheVariants as cell
-use Rattle.volap_cell.specs.declared.state.State.{State}
-use Rattle.olap_top.specs.declared.outcome.Status.{Status}
+use Rattle.olap_top.specs.{Outcomes.{schedule_of, goes_in_order}, declared.outcome.Status.Status, declared.wanted.Wanted.Wanted}
 use Rattle.olap_top.specs.declared.outcome.Status.TheVariants as status_is
-use Rattle.olap_top.specs.declared.wanted.Wanted.{Wanted}
-use Rattle.olap_top.specs.Outcomes.{schedule_of, goes_in_order}
 
 -- what the core of a script's run is about
 abbrev pub setting_of : Script → Setting

@@ -1,41 +1,21 @@
 -- What each answer of the top call says of the source, the sink and the history.
 --
 -- `before` and `now` are what a source has left, or a sink has taken, before the call and after it, where it tells that.
-use Rattle.std.specs.Prelude.{ℕ, ◌≡◌, ◌+◌, ◌<◌, ◌≤◌, ◌^◌, ◌⊎◌, ⊤, Bool, IsTrue, Option, Some, Ok, Err, List, [], ◌∷◌, ◌++◌, filter, length, take, None}
-use Rattle.std.specs.List.{AllZip}
-use Rattle.std.specs.Io.KnownBytes.{Appends, Consumes, IsAtEnd}
+use Rattle.std.specs.{Io.KnownBytes.{Appends, Consumes, IsAtEnd}, List.AllZip, Prelude.{ℕ, ◌≡◌, ◌+◌, ◌<◌, ◌≤◌, ◌^◌, ◌⊎◌, ⊤, Bool, IsTrue, Option, Some, Ok, Err, List, [], ◌∷◌, ◌++◌, filter, length, take, None}}
 use Rattle.volap_io.specs.Causes.{Rose}
 use Rattle.rand_core.specs.Pcg32Seed.{pcg32_seed}
 use Rattle.rand_pcg.specs.Pcg.{pcg32_of_seed}
-use Rattle.dim_hierarchy.specs.Dimension.{Dimension}
-use Rattle.dim_hierarchy.specs.Filter.{matches}
-use Rattle.dim_hierarchy.specs.declared.row.Row.{Row}
+use Rattle.dim_hierarchy.specs.{Dimension.Dimension, Filter.matches, declared.row.Row.Row}
 use Rattle.measure_agg.specs.Aggregate.{Aggregate, agg}
-use Rattle.row_ledger.specs.Past.{Query, acked_rows, begun, call_at, query_at}
-use Rattle.row_ledger.specs.declared.event.Event.{Event}
-use Rattle.row_ledger.specs.declared.event.Event.TheVariants.{Answered, Ended}
-use Rattle.row_ledger.specs.declared.settings.Call.TheVariants.{Settle}
-use Rattle.row_ledger.specs.declared.settings.How.TheVariants.{Fine}
-use Rattle.row_ledger.specs.declared.settings.Use.{Use}
-use Rattle.row_ledger.specs.Right.{IsRight}
-use Rattle.script_form.specs.declared.script.Cause.{Cause}
-use Rattle.script_form.specs.declared.script.Command.{Command}
-use Rattle.script_form.specs.declared.script.Script.{Script}
-use Rattle.script_form.specs.declared.script.ScriptFault.TheVariants.{Bad}
-use Rattle.script_form.specs.Scripts.{records_of, script}
-use Rattle.script_run.specs.Phases.{phases_to}
-use Rattle.script_run.specs.Places.{places, is_over_at}
-use Rattle.answer_text.specs.Printed.{told, told_to, bad_line}
-use Rattle.answer_text.specs.Summary.{summary}
+use Rattle.row_ledger.specs.{Past.{Query, acked_rows, begun, call_at, query_at}, Right.IsRight, Site.site_of, declared.event.Event.Event, declared.event.Event.TheVariants.{Answered, Ended}, declared.settings.Call.TheVariants.Settle, declared.settings.How.TheVariants.Fine, declared.settings.Use.Use}
+use Rattle.script_form.specs.{Scripts.{records_of, script}, declared.script.Cause.Cause, declared.script.Command.Command, declared.script.Script.Script, declared.script.ScriptFault.TheVariants.Bad}
+use Rattle.script_run.specs.{Phases.phases_to, Places.{places, is_over_at}, Runs.{IsRunSoFar, IsRunOf, IsRunInto, IsSerial, InsertEnds}}
+use Rattle.answer_text.specs.{Printed.{told, told_to, bad_line}, Summary.summary}
 use Rattle.volap_gen.specs.Generated.{generated, text_of}
 use Rattle.seeded_turns.specs.declared.schedule.Schedule.{Schedule}
 use Rattle.seeded_turns.specs.declared.schedule.Schedule.TheVariants as schedule_is
-use Rattle.row_ledger.specs.Site.{site_of}
-use Rattle.script_run.specs.Runs.{IsRunSoFar, IsRunOf, IsRunInto, IsSerial, InsertEnds}
 use Rattle.seeded_run.specs.Order.{is_order}
-use Rattle.olap_top.specs.declared.wanted.Wanted.{Wanted}
-use Rattle.olap_top.specs.declared.wanted.Wanted.TheVariants.{Step, Seeded, Load}
-use Rattle.olap_top.specs.declared.outcome.Outcome.{Outcome}
+use Rattle.olap_top.specs.{declared.outcome.Outcome.Outcome, declared.wanted.Wanted.Wanted, declared.wanted.Wanted.TheVariants.{Step, Seeded, Load}}
 
 -- What was read.
 

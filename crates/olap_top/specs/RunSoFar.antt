@@ -1,25 +1,13 @@
 -- What a run has made so far, and what a phase of it makes.
 use Rattle.std.specs.Prelude.{ℕ, ◌≡◌, ◌++◌, Bool, true, if◌then◌else◌, Option, Some, None, IfSome, is_some, List, [], take, drop, false}
-use Rattle.answer_text.specs.Printed.{phase_behind}
-use Rattle.answer_text.specs.Told.{HasTold}
-use Rattle.answer_text.specs.declared.text.Teller.{Teller}
-use Rattle.row_ledger.specs.declared.event.Event.{Event}
-use Rattle.row_ledger.specs.declared.settings.Use.{Use}
-use Rattle.script_form.specs.declared.script.Command.{Command}
-use Rattle.script_form.specs.declared.script.Script.{Script}
+use Rattle.answer_text.specs.{Printed.phase_behind, Told.HasTold, declared.text.Teller.Teller}
+use Rattle.row_ledger.specs.{declared.event.Event.Event, declared.settings.Use.Use}
+use Rattle.script_form.specs.{declared.script.Command.Command, declared.script.Script.Script}
 use Rattle.script_run.specs.Runs.{IsRunSoFar, IsSerial}
-use Rattle.seeded_run.specs.Kept.{IsBetween, IsStopped}
-use Rattle.seeded_run.specs.Phase.{IsCoreHeld, about, held}
-use Rattle.seeded_turns.specs.Drawn.{Moment}
-use Rattle.seeded_turns.specs.declared.schedule.Schedule.{Schedule}
-use Rattle.volap_cell.specs.Steps.{history_in}
-use Rattle.volap_cell.specs.World.{World}
-use Rattle.seeded_run.specs.Order.{is_order}
-use Rattle.olap_top.specs.OneRun.{EndsAs, GoesTo, RunsPhase, RunsWhole, phase_at, setting_of}
-use Rattle.olap_top.specs.declared.outcome.Status.{Status}
-use Rattle.olap_top.specs.declared.run.Run.{Run}
-use Rattle.olap_top.specs.declared.wanted.Wanted.{Wanted}
-use Rattle.olap_top.specs.declared.wanted.Wanted.TheVariants.{Load}
+use Rattle.seeded_run.specs.{Kept.{IsBetween, IsStopped}, Order.is_order, Phase.{IsCoreHeld, about, held}}
+use Rattle.seeded_turns.specs.{Drawn.Moment, declared.schedule.Schedule.Schedule}
+use Rattle.volap_cell.specs.{Steps.history_in, World.World}
+use Rattle.olap_top.specs.{OneRun.{EndsAs, GoesTo, RunsPhase, RunsWhole, phase_at, setting_of}, declared.outcome.Status.Status, declared.run.Run.Run, declared.wanted.Wanted.Wanted, declared.wanted.Wanted.TheVariants.Load}
 
 abbrev pub world_of : Script → Run → World
 world_of s run = held s.hierarchy s.with run.state

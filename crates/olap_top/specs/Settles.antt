@@ -1,16 +1,8 @@
 -- What a history says of queries and settles when nothing is left open.
 use Rattle.std.specs.Prelude.{ℕ, ◌≡◌, ◌<◌, Some, List, ◌∷◌, ◌++◌, filter, Contains}
-use Rattle.dim_hierarchy.specs.Filter.{matches}
-use Rattle.dim_hierarchy.specs.declared.row.Row.{Row}
+use Rattle.dim_hierarchy.specs.{Filter.matches, declared.row.Row.Row}
 use Rattle.measure_agg.specs.Aggregate.{Aggregate, agg}
-use Rattle.row_ledger.specs.Bounds.{must}
-use Rattle.row_ledger.specs.Past.{Ack, Query, acked, acked_rows, before, call_at, query_at}
-use Rattle.row_ledger.specs.Settled.{IsSettled}
-use Rattle.row_ledger.specs.Site.{Site}
-use Rattle.row_ledger.specs.declared.event.Event.{Event}
-use Rattle.row_ledger.specs.declared.event.Event.TheVariants.{Answered, Ended}
-use Rattle.row_ledger.specs.declared.settings.Call.TheVariants.{Settle}
-use Rattle.row_ledger.specs.declared.settings.How.TheVariants.{Fine}
+use Rattle.row_ledger.specs.{Bounds.must, Past.{Ack, Query, acked, acked_rows, before, call_at, query_at}, Settled.IsSettled, Site.Site, declared.event.Event.Event, declared.event.Event.TheVariants.{Answered, Ended}, declared.settings.Call.TheVariants.Settle, declared.settings.How.TheVariants.Fine}
 use Rattle.olap_top.specs.Outcomes.{AreOfAllBehindSettles}
 
 -- The answer to a query that is settled is the aggregate of all matching rows that were acknowledged when it began.

@@ -1,7 +1,6 @@
 -- The numbers of the statuses, with which the program exits.
 use Rattle.std.specs.Prelude.{ℕ}
-use Rattle.olap_top.specs.declared.outcome.Status.{Status}
-use Rattle.olap_top.specs.declared.outcome.Status.TheVariants.{Done, ReadFault, BadWords, BadScript, WriteFault, NoMemory, TooLarge}
+use Rattle.olap_top.specs.{declared.outcome.Status.Status, declared.outcome.Status.TheVariants.{Done, ReadFault, BadWords, BadScript, WriteFault, NoMemory, TooLarge}}
 
 abbrev pub code_of : Status → ℕ
 code_of Done = 0

@@ -1,11 +1,7 @@
 -- How it is found in the words of a command line what they want to run.
-use Rattle.std.specs.Prelude.{ℕ, ⊤, ◌≤◌, ◌^◌, ◌&&◌, nat_lt, nat_le, Option, Some, None, option_and_then, option_map, if◌then◌else◌, List, [], ◌∷◌, length, take, drop, codes}
-use Rattle.std.specs.Option.{option_map_or}
-use Rattle.std.specs.Str.{bytes_eq}
+use Rattle.std.specs.{Option.option_map_or, Prelude.{ℕ, ⊤, ◌≤◌, ◌^◌, ◌&&◌, nat_lt, nat_le, Option, Some, None, option_and_then, option_map, if◌then◌else◌, List, [], ◌∷◌, length, take, drop, codes}, Str.bytes_eq}
 use Rattle.script_form.specs.Fields.{number_of}
-use Rattle.olap_top.specs.declared.wanted.Wanted.{Wanted}
-use Rattle.olap_top.specs.declared.wanted.Wanted.TheVariants.{Step, Seeded, Load}
-use Rattle.olap_top.specs.Words.{most_rows}
+use Rattle.olap_top.specs.{Words.most_rows, declared.wanted.Wanted.Wanted, declared.wanted.Wanted.TheVariants.{Step, Seeded, Load}}
 
 -- a load is of no more rows than can be generated
 abbrev pub AreFewRows : Wanted → Type 0

@@ -1,9 +1,7 @@
 -- What the words of a command line ask for: a script from the source, with a seed or without, or the generated one.
-use Rattle.std.specs.Prelude.{List, map, string_bytes, String, ℕ, ◌≡◌, ◌⊎◌, ◌<◌, ◌≤◌, ◌^◌, Some, [], ◌∷◌, ◌++◌, codes}
-use Rattle.std.specs.declared.alloc.Global.{Global}
+use Rattle.std.specs.{Prelude.{List, map, string_bytes, String, ℕ, ◌≡◌, ◌⊎◌, ◌<◌, ◌≤◌, ◌^◌, Some, [], ◌∷◌, ◌++◌, codes}, declared.alloc.Global.Global}
 use Rattle.script_form.specs.Fields.{number_of}
-use Rattle.olap_top.specs.declared.wanted.Wanted.{Wanted}
-use Rattle.olap_top.specs.declared.wanted.Wanted.TheVariants.{Step, Seeded, Load}
+use Rattle.olap_top.specs.{declared.wanted.Wanted.Wanted, declared.wanted.Wanted.TheVariants.{Step, Seeded, Load}}
 
 -- Of words without the program's name: `step`, `step --seed N`, and `load --rows N --seed K` with its options in
 -- either order. Behind the name of an option there may be an equals sign in place of the space.

@@ -1,18 +1,7 @@
 -- What is known of a list of parts by where the open ones begin, and by how many there are.
-use Rattle.std.proofs.Common.{◌≡◌, ℕ, zero, suc, ◌+◌, ◌-◌, ◌<◌, ◌≤◌, Bool, true, false, cond, if◌then◌else◌, nat_lt, List, [], ◌∷◌, Option, Some, None, ◌&&◌, ◌||◌, ◌==◌, option_map, length, take, drop, set, get_or, position, count_by, insert, slice_get, All, IfSome, IsTrue, refl, sym, ◌∙◌, ap, subst, arith, inl, inr}
-use Rattle.std.specs.Int.{from_bool}
-use Rattle.std.specs.List.{list_any, position_from}
-use Rattle.std.proofs.lemmas.Bool.{cases_lt, false≢true}
-use Rattle.std.proofs.lemmas.Iterator.Adapters.{position_from-zero}
-use Rattle.std.proofs.lemmas.List.{get_or-take, length-drop, length-set, length-take-le, take-append-drop, take-append-le, take-set-le, take-take, take_all}
-use Rattle.std.proofs.lemmas.List.Folds.{list_any-append, list_any_none}
-use Rattle.std.proofs.lemmas.List.Elements.{All-head, All-more, All-tail}
-use Rattle.std.proofs.lemmas.List.Sums.{get_or-le-sum_by, sum_by-cons, sum_by-insert, sum_by-set}
-use Rattle.std.proofs.lemmas.List.Edits.{length-insert}
-use Rattle.std.proofs.lemmas.Option.{slice_get-get_or}
-use Rattle.query_router.specs.Desk.{is_open, is_taken, is_waiting, is_with, waits_for, IsAt}
-use Rattle.query_router.specs.Progress.{HasEnded, IsProgress}
-use Rattle.query_router.specs.declared.part.Part.{Part}
+use Rattle.std.proofs.{Common.{◌≡◌, ℕ, zero, suc, ◌+◌, ◌-◌, ◌<◌, ◌≤◌, Bool, true, false, cond, if◌then◌else◌, nat_lt, List, [], ◌∷◌, Option, Some, None, ◌&&◌, ◌||◌, ◌==◌, option_map, length, take, drop, set, get_or, position, count_by, insert, slice_get, All, IfSome, IsTrue, refl, sym, ◌∙◌, ap, subst, arith, inl, inr}, lemmas.Bool.{cases_lt, false≢true}, lemmas.Iterator.Adapters.position_from-zero, lemmas.List.{get_or-take, length-drop, length-set, length-take-le, take-append-drop, take-append-le, take-set-le, take-take, take_all}, lemmas.List.Edits.length-insert, lemmas.List.Elements.{All-head, All-more, All-tail}, lemmas.List.Folds.{list_any-append, list_any_none}, lemmas.List.Sums.{get_or-le-sum_by, sum_by-cons, sum_by-insert, sum_by-set}, lemmas.Option.slice_get-get_or}
+use Rattle.std.specs.{Int.from_bool, List.{list_any, position_from}}
+use Rattle.query_router.specs.{Desk.{is_open, is_taken, is_waiting, is_with, waits_for, IsAt}, Progress.{HasEnded, IsProgress}, declared.part.Part.Part}
 
 by_test : {P : Type 0} → (b : Bool) → (b ≡ true → P) → (b ≡ false → P) → P
 by_test true f g = f refl

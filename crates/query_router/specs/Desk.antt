@@ -1,12 +1,8 @@
 -- What contracts see of a desk, and what its parts come to.
-use Rattle.std.specs.Prelude.{ℕ, ◌+◌, ◌==◌, ◌<◌, ◌&&◌, ◌||◌, Bool, true, false, if◌then◌else◌, Option, Some, None, List, [], ◌∷◌, ◌++◌, take, drop, length, slice_get, IfSome, IsTrue}
-use Rattle.std.specs.List.{list_any}
-use Rattle.measure_agg.specs.Aggregate.{Aggregate, agg}
-use Rattle.measure_agg.specs.Joining.{join}
-use Rattle.query_router.specs.declared.part.Part.{Part}
-use Rattle.query_router.specs.declared.part.PartState.{PartState}
+use Rattle.std.specs.{List.list_any, Prelude.{ℕ, ◌+◌, ◌==◌, ◌<◌, ◌&&◌, ◌||◌, Bool, true, false, if◌then◌else◌, Option, Some, None, List, [], ◌∷◌, ◌++◌, take, drop, length, slice_get, IfSome, IsTrue}}
+use Rattle.measure_agg.specs.{Aggregate.{Aggregate, agg}, Joining.join}
+use Rattle.query_router.specs.{declared.part.Part.Part, declared.part.PartState.PartState, declared.part.Verdict.Verdict}
 use Rattle.query_router.specs.declared.part.PartState.TheVariants as state
-use Rattle.query_router.specs.declared.part.Verdict.{Verdict}
 use Rattle.query_router.specs.declared.part.Verdict.TheVariants as verdict
 
 -- the number of the command, its parts in order, and how many sessions are counted in

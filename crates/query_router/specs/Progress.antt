@@ -1,7 +1,6 @@
 -- What a desk keeps of how far its parts have come.
 use Rattle.std.specs.Prelude.{ℕ, ◌≡◌, ◌≤◌, false, List, All, take, length, count_by}
-use Rattle.query_router.specs.Desk.{is_open}
-use Rattle.query_router.specs.declared.part.Part.{Part}
+use Rattle.query_router.specs.{Desk.is_open, declared.part.Part.Part}
 
 -- the parts before a place are at an end
 pub record HasEnded (parts : List Part) (ended : ℕ) : Type 0 where

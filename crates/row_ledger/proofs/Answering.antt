@@ -1,28 +1,11 @@
 -- A flat list of rows answers rightly, and is kept by whole commands.
-use Rattle.std.proofs.Common.{◌≡◌, ℕ, ◌<◌, List, [], ◌∷◌, ◌++◌, Bool, false, IsTrue, length, refl, subst, arith, ◌==◌}
-use Rattle.std.specs.Prelude.{Option, Some, None, if◌then◌else◌, nat_lt, nat_eq, All, Contains, filter}
-use Rattle.std.specs.List.{IsDistinct, AllByRecursion}
-use Rattle.std.specs.Option.{option_map_or}
-use Rattle.std.proofs.lemmas.Bool.Decides.{nat_tests}
-use Rattle.std.proofs.lemmas.Bool.{cond_both}
-use Rattle.std.proofs.lemmas.List.Elements.{All-nil, All-cons, All-append, All-contains_itself, Contains-append_right, All-head, All-tail, All-filter, All-map, All-weaker, filter_passes}
-use Rattle.dim_hierarchy.specs.declared.row.Row.{Row}
-use Rattle.dim_hierarchy.specs.declared.filter.Pick.{Pick}
-use Rattle.dim_hierarchy.specs.Dimension.{Dimension}
-use Rattle.dim_hierarchy.specs.Filter.{matches}
+use Rattle.std.proofs.{Common.{◌≡◌, ℕ, ◌<◌, List, [], ◌∷◌, ◌++◌, Bool, false, IsTrue, length, refl, subst, arith, ◌==◌}, lemmas.Bool.cond_both, lemmas.Bool.Decides.nat_tests, lemmas.List.Elements.{All-nil, All-cons, All-append, All-contains_itself, Contains-append_right, All-head, All-tail, All-filter, All-map, All-weaker, filter_passes}}
+use Rattle.std.specs.{List.{IsDistinct, AllByRecursion}, Option.option_map_or, Prelude.{Option, Some, None, if◌then◌else◌, nat_lt, nat_eq, All, Contains, filter}}
+use Rattle.dim_hierarchy.specs.{Dimension.Dimension, Filter.matches, declared.filter.Pick.Pick, declared.row.Row.Row}
 use Rattle.measure_agg.specs.Aggregate.{Aggregate, agg}
-use Rattle.row_ledger.specs.declared.event.Event.{Event}
-use Rattle.row_ledger.specs.declared.event.Event.TheVariants.{Begun, Acked, Asked, Answered}
-use Rattle.row_ledger.specs.Past.{Ack, Query, Pull, begun, before, query_at, ack_in, pull_in, acked, has_ended}
-use Rattle.row_ledger.specs.Shards.{is_path}
-use Rattle.row_ledger.specs.Bounds.{own, published, passed, listing_of, is_listed, listed, known, must, may, numbers, IsAllowed}
-use Rattle.row_ledger.specs.Kept.{CanAnswer, KeepsRight}
-use Rattle.row_ledger.specs.Right.{Site, EachEvent, Stands, IsRightAnswer}
+use Rattle.row_ledger.specs.{Bounds.{own, published, passed, listing_of, is_listed, listed, known, must, may, numbers, IsAllowed}, Kept.{CanAnswer, KeepsRight}, Past.{Ack, Query, Pull, begun, before, query_at, ack_in, pull_in, acked, has_ended}, Right.{Site, EachEvent, Stands, IsRightAnswer}, Shards.is_path, declared.event.Event.Event, declared.event.Event.TheVariants.{Begun, Acked, Asked, Answered}}
 use Rattle.list_words.proofs.Elements.{All-cons_option, Contains-filter, Contains-filtered}
-use Rattle.row_ledger.proofs.Positions.{event_at-here}
-use Rattle.row_ledger.proofs.Older.{may-older, is_path-older}
-use Rattle.row_ledger.proofs.Growth.{KeepsRight-begun, KeepsRight-acked, KeepsRight-asked, KeepsRight-answered}
-use Rattle.row_ledger.proofs.Fresh.{fresh, begun-within}
+use Rattle.row_ledger.proofs.{Fresh.{fresh, begun-within}, Growth.{KeepsRight-begun, KeepsRight-acked, KeepsRight-asked, KeepsRight-answered}, Older.{may-older, is_path-older}, Positions.event_at-here}
 
 apart-filter : (number : ℕ) (test : Row → Bool) (rows : List Row)
     → AllByRecursion (λ other. nat_eq number other ≡ false) (numbers rows)

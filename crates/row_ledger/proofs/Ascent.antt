@@ -1,13 +1,7 @@
 -- The shards that stand are in the order of their ids.
-use Rattle.std.proofs.Common.{◌≡◌, ℕ, zero, suc, ◌+◌, ◌≤◌, ◌<◌, List, [], ◌∷◌, ◌++◌, Bool, true, false, not, refl, arith, ◌==◌, ◌||◌, map}
-use Rattle.std.specs.Prelude.{Option, Some, None, filter, if◌then◌else◌}
-use Rattle.std.specs.List.{list_any, range_with_len}
-use Rattle.std.proofs.lemmas.Bool.{cond_both, eq-eqb, eqb-true, or_left, or_right}
-use Rattle.row_ledger.specs.declared.event.Event.{Event}
-use Rattle.row_ledger.specs.declared.event.Event.TheVariants.{Split, Moved}
-use Rattle.row_ledger.specs.Shards.{Place, place, is_of, children, worker_of, frontier, ids_made}
-use Rattle.row_ledger.specs.Laws.{AscendFrom}
-use Rattle.row_ledger.specs.Right.{Site, EachEvent, Stands}
+use Rattle.std.proofs.{Common.{◌≡◌, ℕ, zero, suc, ◌+◌, ◌≤◌, ◌<◌, List, [], ◌∷◌, ◌++◌, Bool, true, false, not, refl, arith, ◌==◌, ◌||◌, map}, lemmas.Bool.{cond_both, eq-eqb, eqb-true, or_left, or_right}}
+use Rattle.std.specs.{List.{list_any, range_with_len}, Prelude.{Option, Some, None, filter, if◌then◌else◌}}
+use Rattle.row_ledger.specs.{Laws.AscendFrom, Right.{Site, EachEvent, Stands}, Shards.{Place, place, is_of, children, worker_of, frontier, ids_made}, declared.event.Event.Event, declared.event.Event.TheVariants.{Split, Moved}}
 use Rattle.row_ledger.proofs.Descent.{live-made}
 
 AscendFrom-lower : (low high : ℕ) (places : List Place) → low ≤ high → AscendFrom high places → AscendFrom low places

@@ -1,19 +1,9 @@
 -- What stands before a position of a history, and what has ended there.
-use Rattle.std.proofs.Common.{◌≡◌, ◌∙◌, ℕ, ◌<◌, ◌≤◌, ◌||◌, inl, inr, Bool, true, false, IsTrue, List, [], ◌∷◌, ◌++◌, length, length-append, refl, sym, ap, subst, arith}
-use Rattle.std.specs.Prelude.{Option, Some, None, filter_map, option_and_then}
-use Rattle.std.specs.List.{cons_option}
-use Rattle.std.specs.Option.{option_map_or}
-use Rattle.std.proofs.lemmas.Bool.{cases_lt, false≢true}
-use Rattle.std.proofs.lemmas.Bool.Decides.{nat_tests}
+use Rattle.std.proofs.{Common.{◌≡◌, ◌∙◌, ℕ, ◌<◌, ◌≤◌, ◌||◌, inl, inr, Bool, true, false, IsTrue, List, [], ◌∷◌, ◌++◌, length, length-append, refl, sym, ap, subst, arith}, lemmas.Bool.{cases_lt, false≢true}, lemmas.Bool.Decides.nat_tests}
+use Rattle.std.specs.{List.cons_option, Option.option_map_or, Prelude.{Option, Some, None, filter_map, option_and_then}}
 use Rattle.list_words.proofs.Elements.{Some-same}
-use Rattle.row_ledger.proofs.Fresh.{event_at-within, kind-within}
-use Rattle.row_ledger.proofs.Older.{has_ended-older}
-use Rattle.row_ledger.proofs.Positions.{before-older, event_at-here, event_at-older, since-inside, since-outside}
-use Rattle.row_ledger.specs.Past.{Insert, Query, acked, before, ends_itself, event_at, has_ended, insert_at, insert_in, is_beginning, is_over, query_in, since}
-use Rattle.row_ledger.specs.Right.{EachEvent, Stands}
-use Rattle.row_ledger.specs.Site.{Site}
-use Rattle.row_ledger.specs.declared.event.Event.{Event}
-use Rattle.row_ledger.specs.declared.event.Event.TheVariants.{Acked, Asked, Begun}
+use Rattle.row_ledger.proofs.{Fresh.{event_at-within, kind-within}, Older.has_ended-older, Positions.{before-older, event_at-here, event_at-older, since-inside, since-outside}}
+use Rattle.row_ledger.specs.{Past.{Insert, Query, acked, before, ends_itself, event_at, has_ended, insert_at, insert_in, is_beginning, is_over, query_in, since}, Right.{EachEvent, Stands}, Site.Site, declared.event.Event.Event, declared.event.Event.TheVariants.{Acked, Asked, Begun}}
 
 -- Positions.
 

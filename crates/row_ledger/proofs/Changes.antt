@@ -3,10 +3,7 @@ use Rattle.std.proofs.Common.{◌≡◌, ℕ, List, true, refl, arith}
 use Rattle.std.specs.Prelude.{Some}
 use Rattle.dim_hierarchy.specs.Dimension.{Dimension}
 use Rattle.describing_set.specs.declared.listing.Spot.{Spot}
-use Rattle.row_ledger.specs.declared.event.Event.{Event}
-use Rattle.row_ledger.specs.declared.event.Event.TheVariants.{Synced, Acked, Split, Moved}
-use Rattle.row_ledger.specs.Past.{Insert, insert_at}
-use Rattle.row_ledger.specs.Changes.{is_quiet, AllStays, AckChanges, PullChanges, SplitChanges, MoveChanges}
+use Rattle.row_ledger.specs.{Changes.{is_quiet, AllStays, AckChanges, PullChanges, SplitChanges, MoveChanges}, Past.{Insert, insert_at}, declared.event.Event.Event, declared.event.Event.TheVariants.{Synced, Acked, Split, Moved}}
 
 pub quiet : (h : List Dimension) (workers : ℕ) (e : Event) (past : List Event) → is_quiet e ≡ true → AllStays h workers e past
 quiet h workers (Synced server listing) past is = cc

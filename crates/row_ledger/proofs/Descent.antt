@@ -1,13 +1,7 @@
 -- Which shard comes from which: laws of right histories.
-use Rattle.std.proofs.Common.{◌≡◌, ◌≢◌, ℕ, zero, suc, ◌+◌, ◌≤◌, ◌<◌, List, [], ◌∷◌, ◌++◌, Bool, true, false, not, refl, sym, ap, subst, arith, ◌==◌, ◌∙◌, ◌||◌, ◌⊎◌, inl, inr, map}
-use Rattle.std.specs.Prelude.{Option, Some, None, Contains, filter, if◌then◌else◌}
-use Rattle.std.specs.List.{list_any, range_with_len}
-use Rattle.std.proofs.lemmas.Bool.{eq-eqb, eqb-true, false≢true, or_cases, or_right}
-use Rattle.std.proofs.lemmas.Bool.Decides.{nat_tests}
-use Rattle.row_ledger.specs.declared.event.Event.{Event}
-use Rattle.row_ledger.specs.declared.event.Event.TheVariants.{Split, Moved}
-use Rattle.row_ledger.specs.Shards.{Place, place, is_of, worker_of, children, frontier, is_live, ids_made, parent_in, comes_from}
-use Rattle.row_ledger.specs.Right.{Site, EachEvent, Stands, IsRightSplit}
+use Rattle.std.proofs.{Common.{◌≡◌, ◌≢◌, ℕ, zero, suc, ◌+◌, ◌≤◌, ◌<◌, List, [], ◌∷◌, ◌++◌, Bool, true, false, not, refl, sym, ap, subst, arith, ◌==◌, ◌∙◌, ◌||◌, ◌⊎◌, inl, inr, map}, lemmas.Bool.{eq-eqb, eqb-true, false≢true, or_cases, or_right}, lemmas.Bool.Decides.nat_tests}
+use Rattle.std.specs.{List.{list_any, range_with_len}, Prelude.{Option, Some, None, Contains, filter, if◌then◌else◌}}
+use Rattle.row_ledger.specs.{Right.{Site, EachEvent, Stands, IsRightSplit}, Shards.{Place, place, is_of, worker_of, children, frontier, is_live, ids_made, parent_in, comes_from}, declared.event.Event.Event, declared.event.Event.TheVariants.{Split, Moved}}
 use Rattle.list_words.proofs.Elements.{Contains-nil}
 
 -- a shard is its own line

@@ -1,20 +1,10 @@
 -- In a right history each insert that ended was acknowledged or failed, and no row is acknowledged twice.
-use Rattle.std.proofs.Common.{◌≡◌, ℕ, zero, suc, List, [], ◌∷◌, Bool, true, false, length, refl, sym, ap, subst, arith, ◌==◌, ◌∙◌, ◌||◌, ◌⊎◌, inl, inr, map}
-use Rattle.std.specs.Prelude.{Option, Some, None, nat_eq, Contains, option_map, option_and_then}
-use Rattle.std.specs.List.{IsDistinct, AllByRecursion, cons_option}
-use Rattle.std.specs.Option.{option_map_or}
-use Rattle.std.proofs.lemmas.Bool.{cases_lt, eq-eqb, eqb-true, false≢true}
-use Rattle.std.proofs.lemmas.List.Elements.{Contains-append_right}
+use Rattle.std.proofs.{Common.{◌≡◌, ℕ, zero, suc, List, [], ◌∷◌, Bool, true, false, length, refl, sym, ap, subst, arith, ◌==◌, ◌∙◌, ◌||◌, ◌⊎◌, inl, inr, map}, lemmas.Bool.{cases_lt, eq-eqb, eqb-true, false≢true}, lemmas.List.Elements.Contains-append_right}
+use Rattle.std.specs.{List.{IsDistinct, AllByRecursion, cons_option}, Option.option_map_or, Prelude.{Option, Some, None, nat_eq, Contains, option_map, option_and_then}}
 use Rattle.dim_hierarchy.specs.declared.row.Row.{Row}
-use Rattle.row_ledger.specs.declared.event.Event.{Event}
-use Rattle.row_ledger.specs.declared.event.Event.TheVariants.{Begun, Acked, Answered, Failed, Ended}
-use Rattle.row_ledger.specs.Past.{Ack, Insert, ack_in, ack_of, acked, acked_rows, insert_in, insert_at, query_at, call_at, event_at, failed, failed_in, end_in, has_ended}
-use Rattle.row_ledger.specs.Bounds.{numbers}
-use Rattle.row_ledger.specs.Right.{Site, EachEvent, Stands, IsRightAck, IsRightAnswer, IsRightEnd}
+use Rattle.row_ledger.specs.{Bounds.numbers, Past.{Ack, Insert, ack_in, ack_of, acked, acked_rows, insert_in, insert_at, query_at, call_at, event_at, failed, failed_in, end_in, has_ended}, Right.{Site, EachEvent, Stands, IsRightAck, IsRightAnswer, IsRightEnd}, declared.event.Event.Event, declared.event.Event.TheVariants.{Begun, Acked, Answered, Failed, Ended}}
 use Rattle.list_words.proofs.Elements.{Contains-nil, Contains-cons_option}
-use Rattle.row_ledger.proofs.Positions.{event_at-here, event_at-older, event_at-past}
-use Rattle.row_ledger.proofs.Older.{has_ended-older}
-use Rattle.row_ledger.proofs.Fresh.{fresh-newest}
+use Rattle.row_ledger.proofs.{Fresh.fresh-newest, Older.has_ended-older, Positions.{event_at-here, event_at-older, event_at-past}}
 
 pub insert_at-is : (e : Option Event) (i : Insert) → option_and_then insert_in e ≡ Some i → (n : ℕ) × (e ≡ Some (Begun n i.server i.row))
 insert_at-is None i q = cc

@@ -1,14 +1,9 @@
 -- No event names a command that begins behind it.
-use Rattle.std.proofs.Common.{◌≡◌, ◌≢◌, ℕ, zero, suc, ◌≤◌, ◌<◌, List, [], ◌∷◌, Bool, true, false, length, refl, ap, arith, ◌==◌, inl, inr}
+use Rattle.std.proofs.{Common.{◌≡◌, ◌≢◌, ℕ, zero, suc, ◌≤◌, ◌<◌, List, [], ◌∷◌, Bool, true, false, length, refl, ap, arith, ◌==◌, inl, inr}, lemmas.Bool.{cases_lt, false≢true, or_parts, or_from}, lemmas.Bool.Decides.nat_tests}
 use Rattle.std.specs.Prelude.{Option, Some, None, Contains, option_and_then}
-use Rattle.std.proofs.lemmas.Bool.{cases_lt, false≢true, or_parts, or_from}
-use Rattle.std.proofs.lemmas.Bool.Decides.{nat_tests}
 use Rattle.dim_hierarchy.specs.declared.row.Row.{Row}
 use Rattle.measure_agg.specs.Aggregate.{Aggregate}
-use Rattle.row_ledger.specs.declared.event.Event.{Event}
-use Rattle.row_ledger.specs.declared.event.Event.TheVariants.{Begun, Acked, Answered, Failed, Split, Moved, Left, Shown, Ended}
-use Rattle.row_ledger.specs.Past.{insert_in, query_in, call_in, event_at, is_end_of, has_ended, is_work_of, work, page_in, page_of, begun, is_kept}
-use Rattle.row_ledger.specs.Right.{Site, EachEvent, IsRightAck, IsRightAnswer, IsRightFailure, Stands}
+use Rattle.row_ledger.specs.{Past.{insert_in, query_in, call_in, event_at, is_end_of, has_ended, is_work_of, work, page_in, page_of, begun, is_kept}, Right.{Site, EachEvent, IsRightAck, IsRightAnswer, IsRightFailure, Stands}, declared.event.Event.Event, declared.event.Event.TheVariants.{Begun, Acked, Answered, Failed, Split, Moved, Left, Shown, Ended}}
 use Rattle.row_ledger.proofs.Positions.{event_at-past}
 
 -- where an event stands is within the past

@@ -1,22 +1,11 @@
 -- How a history that is kept right grows: one lemma for each kind of event.
-use Rattle.std.proofs.Common.{◌≡◌, ℕ, ◌≤◌, ◌<◌, List, [], ◌∷◌, Bool, false, IsTrue, length, refl, arith}
-use Rattle.std.proofs.lemmas.Bool.Decides.{nat_tests}
-use Rattle.std.proofs.lemmas.Grind.{common_steps}
-use Rattle.dim_hierarchy.specs.declared.row.Row.{Row}
-use Rattle.dim_hierarchy.specs.declared.filter.Pick.{Pick}
+use Rattle.std.proofs.{Common.{◌≡◌, ℕ, ◌≤◌, ◌<◌, List, [], ◌∷◌, Bool, false, IsTrue, length, refl, arith}, lemmas.Bool.Decides.nat_tests, lemmas.Grind.common_steps}
+use Rattle.dim_hierarchy.specs.{declared.filter.Pick.Pick, declared.row.Row.Row}
 use Rattle.measure_agg.specs.Aggregate.{Aggregate}
 use Rattle.describing_set.specs.declared.listing.Spot.{Spot}
 use Rattle.shard_plan.specs.declared.action.Action.TheVariants as action
-use Rattle.row_ledger.specs.declared.event.Event.{Event}
-use Rattle.row_ledger.specs.declared.event.Event.TheVariants.{Synced, Begun, Acked, Asked, Answered, Unknown, Failed, Refused, Called, Split, Moved, Left, Shown, Ended}
-use Rattle.row_ledger.specs.declared.page.Page.{Page}
-use Rattle.row_ledger.specs.declared.settings.Call.{Call}
-use Rattle.row_ledger.specs.declared.settings.How.{How}
-use Rattle.row_ledger.specs.Past.{failed, is_kept}
-use Rattle.row_ledger.specs.Listings.{IsFirstListing}
+use Rattle.row_ledger.specs.{Kept.KeepsRight, Listings.IsFirstListing, Past.{failed, is_kept}, Right.{Site, EachEvent, IsFirstPull, Opens, IsRightAck, IsRightAnswer, IsRightFailure, IsLaterPull, IsRightAction, IsRightSplit, IsRightLeft, IsRightPage, IsRightEnd, Stands, StandsRight, IsRight}, declared.event.Event.Event, declared.event.Event.TheVariants.{Synced, Begun, Acked, Asked, Answered, Unknown, Failed, Refused, Called, Split, Moved, Left, Shown, Ended}, declared.page.Page.Page, declared.settings.Call.Call, declared.settings.How.How}
 pub use Rattle.row_ledger.specs.Kept.{IsOpeningHistory}
-use Rattle.row_ledger.specs.Right.{Site, EachEvent, IsFirstPull, Opens, IsRightAck, IsRightAnswer, IsRightFailure, IsLaterPull, IsRightAction, IsRightSplit, IsRightLeft, IsRightPage, IsRightEnd, Stands, StandsRight, IsRight}
-use Rattle.row_ledger.specs.Kept.{KeepsRight}
 use Rattle.row_ledger.proofs.Within.{Within, StandsRight-within}
 
 -- The opening.

@@ -1,16 +1,8 @@
 -- What an event adds to what is ended, acknowledged, begun and may be counted.
-use Rattle.std.proofs.Common.{◌≡◌, ℕ, List, [], ◌∷◌, Bool, true, false, IsTrue, length, refl, ap, sym, ◌∙◌, ◌==◌, inl, inr}
-use Rattle.std.specs.Prelude.{Option, Some, None, Contains, filter_map}
-use Rattle.std.specs.List.{list_any, cons_option}
-use Rattle.std.specs.Option.{option_map_or}
-use Rattle.std.proofs.lemmas.Bool.{cases_lt, false≢true, or_right, or_left, or_cases, and_parts, and_from}
-use Rattle.std.proofs.lemmas.List.Elements.{Contains-append_right}
+use Rattle.std.proofs.{Common.{◌≡◌, ℕ, List, [], ◌∷◌, Bool, true, false, IsTrue, length, refl, ap, sym, ◌∙◌, ◌==◌, inl, inr}, lemmas.Bool.{cases_lt, false≢true, or_right, or_left, or_cases, and_parts, and_from}, lemmas.List.Elements.Contains-append_right}
+use Rattle.std.specs.{List.{list_any, cons_option}, Option.option_map_or, Prelude.{Option, Some, None, Contains, filter_map}}
 use Rattle.dim_hierarchy.specs.declared.row.Row.{Row}
-use Rattle.row_ledger.specs.declared.event.Event.{Event}
-use Rattle.row_ledger.specs.declared.event.Event.TheVariants.{Begun}
-use Rattle.row_ledger.specs.Past.{Ack, ack_in, pull_in, split_in, ends_itself, is_end_of, has_ended, is_over, begun, acked}
-use Rattle.row_ledger.specs.Shards.{was_listed, is_child, descends, is_path}
-use Rattle.row_ledger.specs.Bounds.{own, published, passed, may}
+use Rattle.row_ledger.specs.{Bounds.{own, published, passed, may}, Past.{Ack, ack_in, pull_in, split_in, ends_itself, is_end_of, has_ended, is_over, begun, acked}, Shards.{was_listed, is_child, descends, is_path}, declared.event.Event.Event, declared.event.Event.TheVariants.Begun}
 use Rattle.list_words.proofs.Elements.{Contains-cons_option, Contains-filter, Contains-filtered, IsTrue-filtered}
 use Rattle.row_ledger.proofs.Positions.{event_at-older, event_at-past}
 

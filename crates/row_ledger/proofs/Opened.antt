@@ -1,17 +1,10 @@
 -- The opening of the worked histories, and the sets in their boxes.
-use Rattle.std.proofs.Common.{◌≡◌, ◌<◌, ℕ, zero, suc, Bool, [], ◌∷◌, refl, arith}
-use Rattle.std.proofs.lemmas.List.Elements.{All-from_recursion}
+use Rattle.std.proofs.{Common.{◌≡◌, ◌<◌, ℕ, zero, suc, Bool, [], ◌∷◌, refl, arith}, lemmas.List.Elements.All-from_recursion}
 use Rattle.dim_hierarchy.specs.Dimension.{tree}
 use Rattle.dim_hierarchy.specs.Tree as way
-use Rattle.describing_set.specs.declared.listing.Spot.{Spot}
-use Rattle.describing_set.specs.Part.{part_of, part_from}
-use Rattle.describing_set.specs.DescSet.{part_at, column, IsSetOf}
-use Rattle.row_ledger.specs.declared.event.Event.TheVariants.{Synced}
-use Rattle.row_ledger.specs.Kept.{CanAnswer, KeepsRight}
-use Rattle.row_ledger.specs.Listings.{IsFirstListing}
-use Rattle.row_ledger.specs.Worked.{site, berlin, munich, in_city, box, first_listing, opened}
-use Rattle.row_ledger.proofs.Answering.{CanAnswer-nil, CanAnswer-older}
-use Rattle.row_ledger.proofs.Growth.{IsOpeningHistory-nil, IsOpeningHistory-pull, KeepsRight-opened}
+use Rattle.describing_set.specs.{DescSet.{part_at, column, IsSetOf}, Part.{part_of, part_from}, declared.listing.Spot.Spot}
+use Rattle.row_ledger.specs.{Kept.{CanAnswer, KeepsRight}, Listings.IsFirstListing, Worked.{site, berlin, munich, in_city, box, first_listing, opened}, declared.event.Event.TheVariants.Synced}
+use Rattle.row_ledger.proofs.{Answering.{CanAnswer-nil, CanAnswer-older}, Growth.{IsOpeningHistory-nil, IsOpeningHistory-pull, KeepsRight-opened}}
 
 -- no rows have an empty box
 pub empty_box : IsSetOf site.hierarchy [] (box [])

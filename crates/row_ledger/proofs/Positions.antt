@@ -1,12 +1,7 @@
 -- Positions of a history, the newest event first.
-use Rattle.std.proofs.Common.{◌≡◌, ◌∙◌, ℕ, ◌≤◌, ◌<◌, List, [], ◌∷◌, ◌++◌, length, reverse, refl, ap, arith}
+use Rattle.std.proofs.{Common.{◌≡◌, ◌∙◌, ℕ, ◌≤◌, ◌<◌, List, [], ◌∷◌, ◌++◌, length, reverse, refl, ap, arith}, lemmas.Bool.Decides.nat_tests, lemmas.Grind.common_steps, lemmas.List.{reverse-append, reverse-reverse}, lemmas.Option.gets}
 use Rattle.std.specs.Prelude.{Some, None, slice_get}
-use Rattle.std.proofs.lemmas.Grind.{common_steps}
-use Rattle.std.proofs.lemmas.List.{reverse-append, reverse-reverse}
-use Rattle.std.proofs.lemmas.Option.{gets}
-use Rattle.std.proofs.lemmas.Bool.Decides.{nat_tests}
-use Rattle.row_ledger.specs.declared.event.Event.{Event}
-use Rattle.row_ledger.specs.Past.{event_at, before, since}
+use Rattle.row_ledger.specs.{Past.{event_at, before, since}, declared.event.Event.Event}
 
 -- the newest event stands at the length of its past
 pub event_at-here : (e : Event) (past : List Event) → event_at (e ∷ past) (length past) ≡ Some e

@@ -1,23 +1,11 @@
 -- The worked pulls are right.
-use Rattle.std.proofs.Common.{ℕ, Bool, true, IsTrue, List, [], ◌∷◌, refl, arith}
+use Rattle.std.proofs.{Common.{ℕ, Bool, true, IsTrue, List, [], ◌∷◌, refl, arith}, lemmas.List.Elements.All-from_recursion}
 use Rattle.std.specs.Prelude.{Contains}
-use Rattle.std.proofs.lemmas.List.Elements.{All-from_recursion}
 use Rattle.dim_hierarchy.specs.declared.row.Row.{Row}
 use Rattle.dim_hierarchy.specs.Tree as way
 use Rattle.describing_set.specs.declared.listing.Spot.{Spot}
-use Rattle.row_ledger.specs.declared.event.Event.{Event}
-use Rattle.row_ledger.specs.declared.event.Event.TheVariants.{Synced, Called, Ended}
-use Rattle.row_ledger.specs.declared.settings.Call.TheVariants.{Sync}
-use Rattle.row_ledger.specs.declared.settings.How.TheVariants.{Fine}
-use Rattle.row_ledger.specs.Past.{Ack}
-use Rattle.row_ledger.specs.Bounds.{may, own, published}
-use Rattle.row_ledger.specs.Kept.{CanAnswer, KeepsRight}
-use Rattle.row_ledger.specs.Listings.{IsBox, IsListing, is_covered}
-use Rattle.row_ledger.specs.Worked.{site, berlin, row, box, opened}
-use Rattle.row_ledger.specs.WorkedPulls.{inserted, with_berlin, pulled, told}
-use Rattle.row_ledger.proofs.Growth.{KeepsRight-called, KeepsRight-synced, KeepsRight-ended}
-use Rattle.row_ledger.proofs.Answering.{CanAnswer-older, CanAnswer-insert, KeepsRight-insert}
-use Rattle.row_ledger.proofs.Opened.{empty_box, berlin_box, opened_right, opened_answer}
+use Rattle.row_ledger.specs.{Bounds.{may, own, published}, Kept.{CanAnswer, KeepsRight}, Listings.{IsBox, IsListing, is_covered}, Past.Ack, Worked.{site, berlin, row, box, opened}, WorkedPulls.{inserted, with_berlin, pulled, told}, declared.event.Event.Event, declared.event.Event.TheVariants.{Synced, Called, Ended}, declared.settings.Call.TheVariants.Sync, declared.settings.How.TheVariants.Fine}
+use Rattle.row_ledger.proofs.{Answering.{CanAnswer-older, CanAnswer-insert, KeepsRight-insert}, Growth.{KeepsRight-called, KeepsRight-synced, KeepsRight-ended}, Opened.{empty_box, berlin_box, opened_right, opened_answer}}
 
 abbrev pub all : ℕ → Bool
 all number = true

@@ -1,13 +1,8 @@
 -- Two lists of the same rows, each once, have one aggregate.
-use Rattle.std.proofs.Common.{◌≡◌, ℕ, zero, suc, List, [], ◌∷◌, Bool, true, false, not, refl, sym, ap, subst, arith, ◌==◌, ◌∙◌}
-use Rattle.std.specs.Prelude.{nat_eq, Contains, filter}
-use Rattle.std.specs.List.{IsDistinct, AllByRecursion}
-use Rattle.std.proofs.lemmas.Bool.{eq-eqb}
-use Rattle.std.proofs.lemmas.List.Elements.{All-contains, filter_passes}
-use Rattle.std.proofs.lemmas.Bool.Decides.{nat_tests}
+use Rattle.std.proofs.{Common.{◌≡◌, ℕ, zero, suc, List, [], ◌∷◌, Bool, true, false, not, refl, sym, ap, subst, arith, ◌==◌, ◌∙◌}, lemmas.Bool.eq-eqb, lemmas.Bool.Decides.nat_tests, lemmas.List.Elements.{All-contains, filter_passes}}
+use Rattle.std.specs.{List.{IsDistinct, AllByRecursion}, Prelude.{nat_eq, Contains, filter}}
 use Rattle.dim_hierarchy.specs.declared.row.Row.{Row}
-use Rattle.measure_agg.specs.Aggregate.{Aggregate, agg}
-use Rattle.measure_agg.specs.Joining.{join}
+use Rattle.measure_agg.specs.{Aggregate.{Aggregate, agg}, Joining.join}
 use Rattle.measure_agg.proofs.AggLaws.{join_associative, join_commutative, agg-append}
 use Rattle.row_ledger.specs.Bounds.{numbers}
 use Rattle.list_words.proofs.Elements.{Contains-nil, Contains-filter, Contains-filtered}

@@ -1,24 +1,11 @@
 -- A settled answer is the aggregate of all matching rows that were acknowledged.
-use Rattle.std.proofs.Common.{◌≡◌, ℕ, zero, suc, ◌<◌, List, [], ◌∷◌, ◌++◌, Bool, true, false, not, IsTrue, length, refl, sym, ap, subst, arith, ◌==◌, ◌∙◌, inl, inr, map}
-use Rattle.std.specs.Prelude.{Option, Some, None, nat_eq, nat_lt, Contains, filter, filter_map, if◌then◌else◌, option_and_then}
-use Rattle.std.specs.List.{IsDistinct, cons_option, list_any}
-use Rattle.std.proofs.lemmas.Bool.{cases_lt, cond_both, eq-eqb, false≢true, or_right}
-use Rattle.std.proofs.lemmas.List.Elements.{All-contains}
-use Rattle.dim_hierarchy.specs.declared.row.Row.{Row}
-use Rattle.dim_hierarchy.specs.Filter.{matches}
+use Rattle.std.proofs.{Common.{◌≡◌, ℕ, zero, suc, ◌<◌, List, [], ◌∷◌, ◌++◌, Bool, true, false, not, IsTrue, length, refl, sym, ap, subst, arith, ◌==◌, ◌∙◌, inl, inr, map}, lemmas.Bool.{cases_lt, cond_both, eq-eqb, false≢true, or_right}, lemmas.List.Elements.All-contains}
+use Rattle.std.specs.{List.{IsDistinct, cons_option, list_any}, Prelude.{Option, Some, None, nat_eq, nat_lt, Contains, filter, filter_map, if◌then◌else◌, option_and_then}}
+use Rattle.dim_hierarchy.specs.{Filter.matches, declared.row.Row.Row}
 use Rattle.measure_agg.specs.Aggregate.{Aggregate, agg}
-use Rattle.row_ledger.specs.declared.event.Event.{Event}
-use Rattle.row_ledger.specs.declared.event.Event.TheVariants.{Begun, Answered}
-use Rattle.row_ledger.specs.Past.{Insert, Query, acked_rows, begun, insert_in, insert_at, query_in, query_at, event_at, before, since, failed, failed_in, has_ended, is_kept}
-use Rattle.row_ledger.specs.Bounds.{must, may, numbers, IsAllowed}
-use Rattle.row_ledger.specs.Right.{Site, EachEvent, Stands, IsRight}
-use Rattle.row_ledger.specs.Settled.{IsSettled}
+use Rattle.row_ledger.specs.{Bounds.{must, may, numbers, IsAllowed}, Past.{Insert, Query, acked_rows, begun, insert_in, insert_at, query_in, query_at, event_at, before, since, failed, failed_in, has_ended, is_kept}, Right.{Site, EachEvent, Stands, IsRight}, Settled.IsSettled, declared.event.Event.Event, declared.event.Event.TheVariants.{Begun, Answered}}
 use Rattle.list_words.proofs.Elements.{Contains-nil, Contains-cons_option, Contains-filter, Contains-filtered, IsTrue-filtered}
-use Rattle.row_ledger.proofs.Positions.{event_at-here, event_at-older, before-older, before-all, since-inside}
-use Rattle.row_ledger.proofs.Fresh.{event_at-within, kind-within}
-use Rattle.row_ledger.proofs.Answering.{IsDistinct-filter, IsAllowed-right}
-use Rattle.row_ledger.proofs.SameRows.{agg-same}
-use Rattle.row_ledger.proofs.Ended.{AckedOrFailed, acked-distinct, ended-cases}
+use Rattle.row_ledger.proofs.{Answering.{IsDistinct-filter, IsAllowed-right}, Ended.{AckedOrFailed, acked-distinct, ended-cases}, Fresh.{event_at-within, kind-within}, Positions.{event_at-here, event_at-older, before-older, before-all, since-inside}, SameRows.agg-same}
 
 -- Rows that have begun.
 

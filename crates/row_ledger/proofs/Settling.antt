@@ -1,19 +1,10 @@
 -- After the pulls of a settle every server must know each row that was acknowledged before it.
-use Rattle.std.proofs.Common.{◌≡◌, ℕ, zero, suc, ◌+◌, ◌≤◌, ◌<◌, List, [], ◌∷◌, ◌++◌, Bool, true, false, length, refl, sym, ap, subst, arith, ◌==◌, ◌∙◌, inl, inr, map}
-use Rattle.std.specs.Prelude.{Option, Some, None, nat_lt, Contains, filter_map, reverse, if◌then◌else◌}
-use Rattle.std.specs.List.{cons_option, range_with_len}
-use Rattle.std.specs.Option.{option_map_or}
-use Rattle.std.proofs.lemmas.List.Elements.{Contains-append_left, Contains-append_right}
-use Rattle.std.proofs.lemmas.Bool.{cases_lt, eq-eqb}
-use Rattle.std.proofs.lemmas.List.{reverse-append, reverse-reverse}
+use Rattle.std.proofs.{Common.{◌≡◌, ℕ, zero, suc, ◌+◌, ◌≤◌, ◌<◌, List, [], ◌∷◌, ◌++◌, Bool, true, false, length, refl, sym, ap, subst, arith, ◌==◌, ◌∙◌, inl, inr, map}, lemmas.Bool.{cases_lt, eq-eqb}, lemmas.List.{reverse-append, reverse-reverse}, lemmas.List.Elements.{Contains-append_left, Contains-append_right}}
+use Rattle.std.specs.{List.{cons_option, range_with_len}, Option.option_map_or, Prelude.{Option, Some, None, nat_lt, Contains, filter_map, reverse, if◌then◌else◌}}
 use Rattle.dim_hierarchy.specs.Dimension.{Dimension}
-use Rattle.row_ledger.specs.declared.event.Event.{Event}
-use Rattle.row_ledger.specs.Past.{Ack, Pull, acked, pull_in, before, since}
-use Rattle.row_ledger.specs.Bounds.{own, published, passed, listed, known, must}
-use Rattle.row_ledger.specs.Settled.{settle_pulls, pulls_since}
-use Rattle.row_ledger.proofs.Positions.{before-older, since-inside, since-outside}
+use Rattle.row_ledger.specs.{Bounds.{own, published, passed, listed, known, must}, Past.{Ack, Pull, acked, pull_in, before, since}, Settled.{settle_pulls, pulls_since}, declared.event.Event.Event}
+use Rattle.row_ledger.proofs.{Older.own-older, Positions.{before-older, since-inside, since-outside}}
 use Rattle.list_words.proofs.Elements.{Contains-nil, Contains-filter, Contains-map}
-use Rattle.row_ledger.proofs.Older.{own-older}
 
 -- the servers of the pulls, the newest first
 abbrev pulls : List Event → List ℕ

@@ -1,17 +1,9 @@
 -- The worked splits and pages are right.
 use Rattle.std.proofs.Common.{[], ◌∷◌, refl}
 use Rattle.dim_hierarchy.specs.Tree.{is_under, way_up}
-use Rattle.row_ledger.specs.declared.event.Event.TheVariants.{Asked, Called, Ended}
+use Rattle.row_ledger.specs.{Kept.{CanAnswer, KeepsRight}, Worked.{site, row, once}, WorkedPulls.inserted, WorkedShards.{other, two_cities, for_berlin, to_split, split, across_split}, declared.event.Event.TheVariants.{Asked, Called, Ended}, declared.settings.Call.TheVariants.Split, declared.settings.How.TheVariants.Fine}
 use Rattle.row_ledger.specs.declared.event.Event.TheVariants as event
-use Rattle.row_ledger.specs.declared.settings.Call.TheVariants.{Split}
-use Rattle.row_ledger.specs.declared.settings.How.TheVariants.{Fine}
-use Rattle.row_ledger.specs.Kept.{CanAnswer, KeepsRight}
-use Rattle.row_ledger.specs.Worked.{site, row, once}
-use Rattle.row_ledger.specs.WorkedPulls.{inserted}
-use Rattle.row_ledger.specs.WorkedShards.{other, two_cities, for_berlin, to_split, split, across_split}
-use Rattle.row_ledger.proofs.Growth.{KeepsRight-asked, KeepsRight-called, KeepsRight-split, KeepsRight-ended, KeepsRight-answered}
-use Rattle.row_ledger.proofs.Answering.{CanAnswer-older, CanAnswer-insert, KeepsRight-insert, IsRightAnswer-flat}
-use Rattle.row_ledger.proofs.PulledRight.{all, inserted_right, inserted_answer}
+use Rattle.row_ledger.proofs.{Answering.{CanAnswer-older, CanAnswer-insert, KeepsRight-insert, IsRightAnswer-flat}, Growth.{KeepsRight-asked, KeepsRight-called, KeepsRight-split, KeepsRight-ended, KeepsRight-answered}, PulledRight.{all, inserted_right, inserted_answer}}
 
 two_cities_right : KeepsRight site all two_cities
 two_cities_right = KeepsRight-insert site all inserted 0 0 other (0 ∷ []) inserted_right refl refl

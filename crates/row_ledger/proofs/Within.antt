@@ -1,28 +1,14 @@
 -- What stands rightly over some usable rows does so over more.
-use Rattle.std.proofs.Common.{ℕ, List, [], ◌∷◌, Bool, IsTrue}
-use Rattle.std.specs.Prelude.{All, Contains}
-use Rattle.std.specs.List.{AllZip}
-use Rattle.std.proofs.lemmas.List.Elements.{All-weaker}
-use Rattle.dim_hierarchy.specs.declared.row.Row.{Row}
-use Rattle.dim_hierarchy.specs.Dimension.{Dimension}
+use Rattle.std.proofs.{Common.{ℕ, List, [], ◌∷◌, Bool, IsTrue}, lemmas.List.Elements.All-weaker}
+use Rattle.std.specs.{List.AllZip, Prelude.{All, Contains}}
+use Rattle.dim_hierarchy.specs.{Dimension.Dimension, declared.row.Row.Row}
 use Rattle.measure_agg.specs.Aggregate.{Aggregate}
-use Rattle.describing_set.specs.declared.listing.Spot.{Spot}
-use Rattle.describing_set.specs.declared.set.DescSet.{DescSet}
+use Rattle.describing_set.specs.{declared.listing.Spot.Spot, declared.set.DescSet.DescSet}
 use Rattle.shard_plan.specs.declared.action.Action.{Action}
-use Rattle.row_ledger.specs.declared.event.Event.{Event}
+use Rattle.row_ledger.specs.{Bounds.may, Classes.class_of, Listings.{IsBox, IsListing}, Past.{Step, begun}, Right.{Site, EachEvent, IsRightAnswer, IsLaterPull, MayEnd, IsRightEnd, Stands, StandsRight}, Work.{IsRightDecline, MayEndAction, Settles, IsRightBalance, rows_read}, declared.class.Class.Class, declared.event.Event.Event, declared.settings.Decline.Decline, declared.settings.How.How, declared.settings.How.TheVariants.{Balanced, Declined}}
 use Rattle.row_ledger.specs.declared.event.Event.TheVariants as event
-use Rattle.row_ledger.specs.declared.class.Class.{Class}
 use Rattle.row_ledger.specs.declared.class.Class.TheVariants as class_is
-use Rattle.row_ledger.specs.declared.settings.Decline.{Decline}
 use Rattle.row_ledger.specs.declared.settings.Decline.TheVariants as decline
-use Rattle.row_ledger.specs.declared.settings.How.{How}
-use Rattle.row_ledger.specs.declared.settings.How.TheVariants.{Balanced, Declined}
-use Rattle.row_ledger.specs.Past.{Step, begun}
-use Rattle.row_ledger.specs.Bounds.{may}
-use Rattle.row_ledger.specs.Listings.{IsBox, IsListing}
-use Rattle.row_ledger.specs.Work.{IsRightDecline, MayEndAction, Settles, IsRightBalance, rows_read}
-use Rattle.row_ledger.specs.Classes.{class_of}
-use Rattle.row_ledger.specs.Right.{Site, EachEvent, IsRightAnswer, IsLaterPull, MayEnd, IsRightEnd, Stands, StandsRight}
 use Rattle.list_words.proofs.Elements.{Contains-filter, Contains-filtered, IsTrue-filtered}
 
 -- each number that the first has the second has

@@ -1,7 +1,6 @@
 -- Which command an event belongs to.
 use Rattle.std.specs.Prelude.{ℕ, Option, Some, None}
-use Rattle.row_ledger.specs.declared.event.Event.{Event}
-use Rattle.row_ledger.specs.declared.event.Event.TheVariants.{Acked, Answered, Failed, Split, Moved, Left, Shown, Ended}
+use Rattle.row_ledger.specs.{declared.event.Event.Event, declared.event.Event.TheVariants.{Acked, Answered, Failed, Split, Moved, Left, Shown, Ended}}
 
 -- the position of the command that an event belongs to and doesn't begin
 abbrev pub number_in : Event → Option ℕ

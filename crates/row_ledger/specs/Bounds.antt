@@ -1,16 +1,9 @@
 -- What an answer must and may count, and when it is allowed.
-use Rattle.std.specs.Prelude.{ℕ, ◌≡◌, ◌==◌, nat_eq, Bool, ◌&&◌, IsTrue, if◌then◌else◌, List, [], ◌∷◌, ◌++◌, map, filter, All, Contains}
-use Rattle.std.specs.List.{list_any, IsDistinct}
-use Rattle.std.specs.Option.{option_map_or}
-use Rattle.dim_hierarchy.specs.declared.row.Row.{Row}
-use Rattle.dim_hierarchy.specs.declared.filter.Pick.{Pick}
-use Rattle.dim_hierarchy.specs.Dimension.{Dimension}
-use Rattle.dim_hierarchy.specs.Filter.{matches}
+use Rattle.std.specs.{List.{list_any, IsDistinct}, Option.option_map_or, Prelude.{ℕ, ◌≡◌, ◌==◌, nat_eq, Bool, ◌&&◌, IsTrue, if◌then◌else◌, List, [], ◌∷◌, ◌++◌, map, filter, All, Contains}}
+use Rattle.dim_hierarchy.specs.{Dimension.Dimension, Filter.matches, declared.filter.Pick.Pick, declared.row.Row.Row}
 use Rattle.measure_agg.specs.Aggregate.{Aggregate, agg}
-use Rattle.describing_set.specs.declared.listing.Spot.{Spot}
-use Rattle.describing_set.specs.DescSet.{covers}
-use Rattle.row_ledger.specs.declared.event.Event.{Event}
-use Rattle.row_ledger.specs.Past.{Ack, Pull, pull_in, acked, begun}
+use Rattle.describing_set.specs.{DescSet.covers, declared.listing.Spot.Spot}
+use Rattle.row_ledger.specs.{Past.{Ack, Pull, pull_in, acked, begun}, declared.event.Event.Event}
 
 -- what was acknowledged through a server
 abbrev pub own : List Event → ℕ → List Ack

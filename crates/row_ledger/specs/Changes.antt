@@ -2,12 +2,7 @@
 use Rattle.std.specs.Prelude.{ℕ, ◌≡◌, ◌+◌, ◌==◌, ◌&&◌, ◌||◌, Bool, true, false, not, if◌then◌else◌, Some, List, [], ◌∷◌, ◌++◌, length, map, filter}
 use Rattle.dim_hierarchy.specs.Dimension.{Dimension}
 use Rattle.describing_set.specs.declared.listing.Spot.{Spot}
-use Rattle.row_ledger.specs.declared.event.Event.{Event}
-use Rattle.row_ledger.specs.declared.event.Event.TheVariants.{Synced, Acked, Split, Moved}
-use Rattle.row_ledger.specs.Past.{Insert, ack_of, acked}
-use Rattle.row_ledger.specs.Shards.{Place, place, is_of, children, worker_of, frontier, comes_from, ids_made}
-use Rattle.row_ledger.specs.Workers.{is_on, left_at}
-use Rattle.row_ledger.specs.Bounds.{own, published, passed, listing_of, is_listed, listed, must}
+use Rattle.row_ledger.specs.{Bounds.{own, published, passed, listing_of, is_listed, listed, must}, Past.{Insert, ack_of, acked}, Shards.{Place, place, is_of, children, worker_of, frontier, comes_from, ids_made}, Workers.{is_on, left_at}, declared.event.Event.Event, declared.event.Event.TheVariants.{Synced, Acked, Split, Moved}}
 
 -- whether an event changes nothing of it: all but acknowledgements, pulls, splits and moves
 abbrev pub is_quiet : Event → Bool

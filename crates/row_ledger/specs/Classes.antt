@@ -1,14 +1,9 @@
 -- Called commands by class: those of one class begin, go on and end alike.
 use Rattle.std.specs.Prelude.{ℕ, Bool, true, List}
 use Rattle.shard_plan.specs.declared.action.Action.TheVariants as action
-use Rattle.row_ledger.specs.declared.class.Class.{Class}
+use Rattle.row_ledger.specs.{Shards.is_live, declared.class.Class.Class, declared.class.Subject.Subject, declared.event.Event.Event, declared.settings.Call.Call, declared.settings.Call.TheVariants.{Sync, Split, Move, Balance, Barrier, Settle, Shards, Tree, Audit}}
 use Rattle.row_ledger.specs.declared.class.Class.TheVariants as class
-use Rattle.row_ledger.specs.declared.class.Subject.{Subject}
 use Rattle.row_ledger.specs.declared.class.Subject.TheVariants as subject
-use Rattle.row_ledger.specs.declared.event.Event.{Event}
-use Rattle.row_ledger.specs.declared.settings.Call.{Call}
-use Rattle.row_ledger.specs.declared.settings.Call.TheVariants.{Sync, Split, Move, Balance, Barrier, Settle, Shards, Tree, Audit}
-use Rattle.row_ledger.specs.Shards.{is_live}
 
 abbrev pub class_of : Call → Class
 class_of (Sync server) = class.Sync server

@@ -1,12 +1,7 @@
 -- What is kept of a history while it goes on.
-use Rattle.std.specs.Prelude.{ℕ, ◌≤◌, Bool, IsTrue, List, length, nat_eq, All, Contains}
-use Rattle.std.specs.List.{IsDistinct}
+use Rattle.std.specs.{List.IsDistinct, Prelude.{ℕ, ◌≤◌, Bool, IsTrue, List, length, nat_eq, All, Contains}}
 use Rattle.dim_hierarchy.specs.declared.row.Row.{Row}
-use Rattle.row_ledger.specs.declared.event.Event.{Event}
-use Rattle.row_ledger.specs.Past.{is_kept, Ack, acked}
-use Rattle.row_ledger.specs.Site.{Site}
-use Rattle.row_ledger.specs.Bounds.{may, numbers}
-use Rattle.row_ledger.specs.Right.{EachEvent, IsFirstPull, StandsRight}
+use Rattle.row_ledger.specs.{Bounds.{may, numbers}, Past.{is_kept, Ack, acked}, Right.{EachEvent, IsFirstPull, StandsRight}, Site.Site, declared.event.Event.Event}
 
 -- an opening so far: only first pulls
 pub record IsOpeningHistory (site : Site) (h : List Event) : Type 0 where

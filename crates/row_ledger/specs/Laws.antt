@@ -2,13 +2,7 @@
 use Rattle.std.specs.Prelude.{ℕ, ◌≡◌, ◌<◌, ◌≤◌, ◌+◌, Bool, true, not, Some, List, [], ◌∷◌, Contains, ⊤}
 use Rattle.dim_hierarchy.specs.Dimension.{Dimension}
 use Rattle.describing_set.specs.declared.listing.Spot.{Spot}
-use Rattle.row_ledger.specs.declared.event.Event.{Event}
-use Rattle.row_ledger.specs.declared.event.Event.TheVariants.{Split}
-use Rattle.row_ledger.specs.Past.{Insert, insert_at}
-use Rattle.row_ledger.specs.Shards.{Place, frontier, is_live, ids_made, comes_from}
-use Rattle.row_ledger.specs.Changes.{is_quiet, AllStays, AckChanges, PullChanges, SplitChanges, MoveChanges}
-use Rattle.row_ledger.specs.Right.{Site, StandsRight, IsRight}
-use Rattle.row_ledger.specs.Kept.{KeepsRight}
+use Rattle.row_ledger.specs.{Changes.{is_quiet, AllStays, AckChanges, PullChanges, SplitChanges, MoveChanges}, Kept.KeepsRight, Past.{Insert, insert_at}, Right.{Site, StandsRight, IsRight}, Shards.{Place, frontier, is_live, ids_made, comes_from}, declared.event.Event.Event, declared.event.Event.TheVariants.Split}
 
 -- what a run keeps is a right history
 abbrev pub KeptIsRight : Type 0

@@ -1,16 +1,8 @@
 -- What a server pulls: which shards stand, and boxes that cover what the servers told of.
-use Rattle.std.specs.Prelude.{ℕ, ◌≡◌, Bool, ◌&&◌, IsTrue, List, [], map, All, Contains}
-use Rattle.std.specs.List.{list_any}
-use Rattle.dim_hierarchy.specs.declared.row.Row.{Row}
-use Rattle.dim_hierarchy.specs.Dimension.{Dimension}
-use Rattle.describing_set.specs.declared.listing.Spot.{Spot}
-use Rattle.describing_set.specs.declared.set.DescSet.{DescSet}
-use Rattle.describing_set.specs.DescSet.{IsSetOf, covers}
-use Rattle.row_ledger.specs.declared.event.Event.{Event}
-use Rattle.row_ledger.specs.Past.{Ack, last_of}
-use Rattle.row_ledger.specs.Shards.{Place, place, first_places, frontier, comes_from}
-use Rattle.row_ledger.specs.Bounds.{own, published, may}
-use Rattle.row_ledger.specs.Site.{Site}
+use Rattle.std.specs.{List.list_any, Prelude.{ℕ, ◌≡◌, Bool, ◌&&◌, IsTrue, List, [], map, All, Contains}}
+use Rattle.dim_hierarchy.specs.{Dimension.Dimension, declared.row.Row.Row}
+use Rattle.describing_set.specs.{DescSet.{IsSetOf, covers}, declared.listing.Spot.Spot, declared.set.DescSet.DescSet}
+use Rattle.row_ledger.specs.{Bounds.{own, published, may}, Past.{Ack, last_of}, Shards.{Place, place, first_places, frontier, comes_from}, Site.Site, declared.event.Event.Event}
 
 -- the shards of a listing and their workers
 abbrev pub places_of : List Spot → List Place

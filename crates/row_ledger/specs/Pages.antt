@@ -1,21 +1,10 @@
 -- What pages tell: of the tree of a shard, of the shards that stand, and of all rows.
-use Rattle.std.specs.Prelude.{ℕ, ◌≡◌, ◌+◌, ◌*◌, ◌<◌, ◌≤◌, true, false, ⊤, List, [], ◌∷◌, ◌++◌, length, map, All, Contains, IsPermutation, nat_eq}
-use Rattle.std.specs.List.{IsDistinct, AllZip, flat_map}
-use Rattle.dim_hierarchy.specs.declared.row.Row.{Row}
-use Rattle.dim_hierarchy.specs.Dimension.{Dimension}
+use Rattle.std.specs.{List.{IsDistinct, AllZip, flat_map}, Prelude.{ℕ, ◌≡◌, ◌+◌, ◌*◌, ◌<◌, ◌≤◌, true, false, ⊤, List, [], ◌∷◌, ◌++◌, length, map, All, Contains, IsPermutation, nat_eq}}
+use Rattle.dim_hierarchy.specs.{Dimension.Dimension, declared.row.Row.Row}
 use Rattle.measure_agg.specs.Aggregate.{agg}
 use Rattle.describing_set.specs.DescSet.{IsSetOf}
-use Rattle.row_ledger.specs.declared.event.Event.{Event}
-use Rattle.row_ledger.specs.declared.page.AuditLine.{AuditLine}
-use Rattle.row_ledger.specs.declared.page.NodeLine.{NodeLine}
-use Rattle.row_ledger.specs.declared.page.Page.{Page}
+use Rattle.row_ledger.specs.{Bounds.numbers, Past.{Ack, acked, acked_rows, acked_into}, Shards.{Place, place, frontier}, Site.Site, declared.event.Event.Event, declared.page.AuditLine.AuditLine, declared.page.NodeLine.NodeLine, declared.page.Page.Page, declared.page.ShardLine.ShardLine, declared.page.TreePage.TreePage}
 use Rattle.row_ledger.specs.declared.page.Page.TheVariants as page
-use Rattle.row_ledger.specs.declared.page.ShardLine.{ShardLine}
-use Rattle.row_ledger.specs.declared.page.TreePage.{TreePage}
-use Rattle.row_ledger.specs.Past.{Ack, acked, acked_rows, acked_into}
-use Rattle.row_ledger.specs.Bounds.{numbers}
-use Rattle.row_ledger.specs.Shards.{Place, place, frontier}
-use Rattle.row_ledger.specs.Site.{Site}
 
 -- Trees.
 

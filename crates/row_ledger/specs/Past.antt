@@ -1,16 +1,10 @@
 -- A history is a list of events, the newest first. What stands behind an event in the list is its past,
 -- and the length of its past is its position. So every notion "before a position" is a function of a past
 -- alone, and nothing that is said of an earlier event changes when the history grows.
-use Rattle.std.specs.Prelude.{ℕ, ◌==◌, Bool, true, false, not, ◌||◌, nat_lt, Option, Some, None, is_some, option_map, option_and_then, if◌then◌else◌, List, [], ◌∷◌, length, map, filter, filter_map}
-use Rattle.std.specs.List.{list_any, list_all, cons_option}
-use Rattle.std.specs.Option.{option_map_or, option_or}
-use Rattle.dim_hierarchy.specs.declared.row.Row.{Row}
-use Rattle.dim_hierarchy.specs.declared.filter.Pick.{Pick}
+use Rattle.std.specs.{List.{list_any, list_all, cons_option}, Option.{option_map_or, option_or}, Prelude.{ℕ, ◌==◌, Bool, true, false, not, ◌||◌, nat_lt, Option, Some, None, is_some, option_map, option_and_then, if◌then◌else◌, List, [], ◌∷◌, length, map, filter, filter_map}}
+use Rattle.dim_hierarchy.specs.{declared.filter.Pick.Pick, declared.row.Row.Row}
 use Rattle.describing_set.specs.declared.listing.Spot.{Spot}
-use Rattle.row_ledger.specs.declared.event.Event.{Event}
-use Rattle.row_ledger.specs.declared.event.Event.TheVariants.{Synced, Begun, Acked, Asked, Answered, Unknown, Failed, Refused, Called, Split, Moved, Left, Shown, Ended}
-use Rattle.row_ledger.specs.declared.page.Page.{Page}
-use Rattle.row_ledger.specs.declared.settings.Call.{Call}
+use Rattle.row_ledger.specs.{declared.event.Event.Event, declared.event.Event.TheVariants.{Synced, Begun, Acked, Asked, Answered, Unknown, Failed, Refused, Called, Split, Moved, Left, Shown, Ended}, declared.page.Page.Page, declared.settings.Call.Call}
 
 -- Positions.
 

@@ -1,29 +1,17 @@
 -- When a history is right: one fact for each kind of event, over the past behind it.
-use Rattle.std.specs.Prelude.{ℕ, ◌≡◌, ◌==◌, ◌+◌, ◌<◌, ◌≤◌, Bool, true, false, IsTrue, Some, is_some, ◌||◌, List, [], ◌∷◌, length, ⊤}
-use Rattle.std.specs.List.{list_any}
+use Rattle.std.specs.{List.list_any, Prelude.{ℕ, ◌≡◌, ◌==◌, ◌+◌, ◌<◌, ◌≤◌, Bool, true, false, IsTrue, Some, is_some, ◌||◌, List, [], ◌∷◌, length, ⊤}}
 use Rattle.measure_agg.specs.Aggregate.{Aggregate}
 use Rattle.describing_set.specs.declared.listing.Spot.{Spot}
 use Rattle.shard_plan.specs.declared.action.Action.{Action}
 use Rattle.shard_plan.specs.declared.action.Action.TheVariants as action
-use Rattle.row_ledger.specs.declared.class.Class.{Class}
+use Rattle.row_ledger.specs.{Bounds.{must, may, IsAllowed}, Classes.{class_of, is_there}, Listings.{IsFirstListing, IsListing}, Past.{Insert, Query, before, since, insert_at, query_at, call_at, has_ended, is_idle, has_page, is_kept, is_pull_of, work}, Shards.{is_live, ids_made, is_path}, Work.{shard_of, MayEndAction, IsRightBalance}, declared.class.Class.Class, declared.event.Event.Event, declared.page.Page.Page, declared.settings.Call.Call, declared.settings.How.How, declared.settings.How.TheVariants.{Fine, Balanced, Declined, Postponed, NoMemory}}
 use Rattle.row_ledger.specs.declared.class.Class.TheVariants as class
 use Rattle.row_ledger.specs.declared.class.Subject.TheVariants as subject
-use Rattle.row_ledger.specs.declared.event.Event.{Event}
 use Rattle.row_ledger.specs.declared.event.Event.TheVariants as event
-use Rattle.row_ledger.specs.declared.page.Page.{Page}
 use Rattle.row_ledger.specs.declared.page.Page.TheVariants as page
-use Rattle.row_ledger.specs.declared.settings.Call.{Call}
 use Rattle.row_ledger.specs.declared.settings.Decline.TheVariants as decline
-use Rattle.row_ledger.specs.declared.settings.How.{How}
-use Rattle.row_ledger.specs.declared.settings.How.TheVariants.{Fine, Balanced, Declined, Postponed, NoMemory}
-use Rattle.row_ledger.specs.Past.{Insert, Query, before, since, insert_at, query_at, call_at, has_ended, is_idle, has_page, is_kept, is_pull_of, work}
 pub use Rattle.row_ledger.specs.Site.{Site}
-use Rattle.row_ledger.specs.Classes.{class_of, is_there}
-use Rattle.row_ledger.specs.Shards.{is_live, ids_made, is_path}
-use Rattle.row_ledger.specs.Bounds.{must, may, IsAllowed}
-use Rattle.row_ledger.specs.Listings.{IsFirstListing, IsListing}
 pub use Rattle.row_ledger.specs.Pages.{IsShown}
-use Rattle.row_ledger.specs.Work.{shard_of, MayEndAction, IsRightBalance}
 
 -- P holds of each event, with the past behind it
 abbrev pub EachEvent : (List Event → Event → Type 0) → List Event → Type 0

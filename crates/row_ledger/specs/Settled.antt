@@ -1,16 +1,8 @@
 -- When an answer is of all that was acknowledged.
-use Rattle.std.specs.Prelude.{ℕ, ◌≡◌, ◌<◌, IsTrue, Some, List, [], ◌∷◌, ◌++◌, map, filter, filter_map, reverse, All, Contains}
-use Rattle.std.specs.List.{range_with_len}
-use Rattle.dim_hierarchy.specs.declared.row.Row.{Row}
-use Rattle.dim_hierarchy.specs.Dimension.{Dimension}
-use Rattle.dim_hierarchy.specs.Filter.{matches}
+use Rattle.std.specs.{List.range_with_len, Prelude.{ℕ, ◌≡◌, ◌<◌, IsTrue, Some, List, [], ◌∷◌, ◌++◌, map, filter, filter_map, reverse, All, Contains}}
+use Rattle.dim_hierarchy.specs.{Dimension.Dimension, Filter.matches, declared.row.Row.Row}
 use Rattle.measure_agg.specs.Aggregate.{Aggregate, agg}
-use Rattle.row_ledger.specs.declared.event.Event.{Event}
-use Rattle.row_ledger.specs.declared.event.Event.TheVariants.{Answered}
-use Rattle.row_ledger.specs.Past.{Ack, Pull, Query, before, since, insert_in, pull_in, query_at, has_ended, begun, acked, acked_rows}
-use Rattle.row_ledger.specs.Site.{Site}
-use Rattle.row_ledger.specs.Bounds.{must}
-use Rattle.row_ledger.specs.Right.{IsRight}
+use Rattle.row_ledger.specs.{Bounds.must, Past.{Ack, Pull, Query, before, since, insert_in, pull_in, query_at, has_ended, begun, acked, acked_rows}, Right.IsRight, Site.Site, declared.event.Event.Event, declared.event.Event.TheVariants.Answered}
 
 -- The query that began at `of` is settled behind this past: no insert was open when it began, none has begun since, and
 -- its server had to know each row that was acknowledged before it.

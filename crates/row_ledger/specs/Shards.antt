@@ -1,9 +1,6 @@
 -- The shards that stand behind a past, and which shard came from which.
-use Rattle.std.specs.Prelude.{ℕ, ◌+◌, ◌*◌, ◌==◌, Bool, true, false, not, ◌&&◌, ◌||◌, Option, Some, None, option_map, if◌then◌else◌, List, [], ◌∷◌, ◌++◌, length, map, filter, filter_map, find}
-use Rattle.std.specs.List.{list_any, range_with_len}
-use Rattle.row_ledger.specs.declared.event.Event.{Event}
-use Rattle.row_ledger.specs.declared.event.Event.TheVariants.{Split, Moved}
-use Rattle.row_ledger.specs.Past.{Children, Pull, split_in, pull_in}
+use Rattle.std.specs.{List.{list_any, range_with_len}, Prelude.{ℕ, ◌+◌, ◌*◌, ◌==◌, Bool, true, false, not, ◌&&◌, ◌||◌, Option, Some, None, option_map, if◌then◌else◌, List, [], ◌∷◌, ◌++◌, length, map, filter, filter_map, find}}
+use Rattle.row_ledger.specs.{Past.{Children, Pull, split_in, pull_in}, declared.event.Event.Event, declared.event.Event.TheVariants.{Split, Moved}}
 
 -- a shard and the worker that has it
 pub record Place : Type 0 where

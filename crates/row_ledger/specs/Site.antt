@@ -1,8 +1,7 @@
 -- What a history is about.
 use Rattle.std.specs.Prelude.{ℕ, List}
 use Rattle.dim_hierarchy.specs.Dimension.{Dimension}
-use Rattle.row_ledger.specs.declared.event.Event.{Event}
-use Rattle.row_ledger.specs.declared.settings.Use.{Use}
+use Rattle.row_ledger.specs.{declared.event.Event.Event, declared.settings.Use.Use}
 
 -- the hierarchy, and how many servers and workers there are
 pub record Site : Type 0 where

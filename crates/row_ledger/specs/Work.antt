@@ -1,26 +1,11 @@
 -- Splits, moves and balances: what they leave in a history, and why they decline.
-use Rattle.std.specs.Prelude.{ℕ, ◌≡◌, ◌+◌, ◌<◌, ◌&&◌, Bool, true, false, nat_lt, nat_eq, IsTrue, List, [], ◌∷◌, length, map, reverse, flat_map, count_by, All, Any, Contains}
-use Rattle.std.specs.List.{IsDistinct, AllZip}
-use Rattle.dim_hierarchy.specs.declared.row.Row.{Row}
-use Rattle.dim_hierarchy.specs.Dimension.{Dimension}
-use Rattle.describing_set.specs.declared.part.Part.{Part}
-use Rattle.describing_set.specs.declared.set.DescSet.{DescSet}
-use Rattle.describing_set.specs.DescSet.{IsSetOf}
-use Rattle.shard_plan.specs.declared.action.Load.{Load}
-use Rattle.shard_plan.specs.declared.action.Action.{Action}
+use Rattle.std.specs.{List.{IsDistinct, AllZip}, Prelude.{ℕ, ◌≡◌, ◌+◌, ◌<◌, ◌&&◌, Bool, true, false, nat_lt, nat_eq, IsTrue, List, [], ◌∷◌, length, map, reverse, flat_map, count_by, All, Any, Contains}}
+use Rattle.dim_hierarchy.specs.{Dimension.Dimension, declared.row.Row.Row}
+use Rattle.describing_set.specs.{DescSet.IsSetOf, declared.part.Part.Part, declared.set.DescSet.DescSet}
+use Rattle.shard_plan.specs.{Balancing.plan, Building.{cells_for, split_need}, declared.action.Action.Action, declared.action.Load.Load}
 use Rattle.shard_plan.specs.declared.action.Action.TheVariants as action
-use Rattle.shard_plan.specs.Balancing.{plan}
-use Rattle.shard_plan.specs.Building.{cells_for, split_need}
-use Rattle.row_ledger.specs.declared.event.Event.{Event}
-use Rattle.row_ledger.specs.declared.event.Event.TheVariants.{Split, Moved, Left}
-use Rattle.row_ledger.specs.declared.settings.Decline.{Decline}
+use Rattle.row_ledger.specs.{Bounds.{may, numbers}, Past.{Ack, Step, last_of, before, acked, acked_into, work}, Shards.{place, frontier, is_live, comes_from}, Site.Site, declared.event.Event.Event, declared.event.Event.TheVariants.{Split, Moved, Left}, declared.settings.Decline.Decline, declared.settings.How.How, declared.settings.How.TheVariants.{Fine, Declined, Postponed, NoMemory}}
 use Rattle.row_ledger.specs.declared.settings.Decline.TheVariants as decline
-use Rattle.row_ledger.specs.declared.settings.How.{How}
-use Rattle.row_ledger.specs.declared.settings.How.TheVariants.{Fine, Declined, Postponed, NoMemory}
-use Rattle.row_ledger.specs.Past.{Ack, Step, last_of, before, acked, acked_into, work}
-use Rattle.row_ledger.specs.Shards.{place, frontier, is_live, comes_from}
-use Rattle.row_ledger.specs.Bounds.{may, numbers}
-use Rattle.row_ledger.specs.Site.{Site}
 
 -- Actions: the split of a shard, or its move to a worker.
 

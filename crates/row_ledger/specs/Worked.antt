@@ -2,23 +2,11 @@
 -- workers; an insert of 5 at berlin, and a query for de through the same server.
 use Rattle.std.specs.Prelude.{ℕ, pos, true, Some, None, List, [], ◌∷◌, codes}
 use Rattle.std.specs.FinMap as map
-use Rattle.dim_hierarchy.specs.declared.row.Coord.{Coord}
-use Rattle.dim_hierarchy.specs.declared.row.Row.{Row}
-use Rattle.dim_hierarchy.specs.declared.filter.Pick.{Pick}
-use Rattle.dim_hierarchy.specs.declared.filter.Pick.TheVariants.{Ids}
-use Rattle.dim_hierarchy.specs.Dimension.{Dimension}
+use Rattle.dim_hierarchy.specs.{Dimension.Dimension, declared.filter.Pick.Pick, declared.filter.Pick.TheVariants.Ids, declared.row.Coord.Coord, declared.row.Row.Row}
 use Rattle.measure_agg.specs.Aggregate.{Aggregate}
-use Rattle.describing_set.specs.Part.{part}
-use Rattle.describing_set.specs.declared.listing.Spot.{Spot}
-use Rattle.describing_set.specs.declared.set.DescSet.{DescSet}
-use Rattle.row_ledger.specs.declared.event.Event.{Event}
-use Rattle.row_ledger.specs.declared.event.Event.TheVariants.{Synced, Begun, Acked, Asked, Answered, Failed, Called, Shown, Ended}
-use Rattle.row_ledger.specs.declared.page.NodeLine.{NodeLine}
-use Rattle.row_ledger.specs.declared.page.TreePage.{TreePage}
+use Rattle.describing_set.specs.{Part.part, declared.listing.Spot.Spot, declared.set.DescSet.DescSet}
+use Rattle.row_ledger.specs.{Site.Site, declared.event.Event.Event, declared.event.Event.TheVariants.{Synced, Begun, Acked, Asked, Answered, Failed, Called, Shown, Ended}, declared.page.NodeLine.NodeLine, declared.page.TreePage.TreePage, declared.settings.Call.TheVariants.Tree, declared.settings.How.TheVariants.Fine}
 use Rattle.row_ledger.specs.declared.page.Page.TheVariants as page
-use Rattle.row_ledger.specs.declared.settings.Call.TheVariants.{Tree}
-use Rattle.row_ledger.specs.declared.settings.How.TheVariants.{Fine}
-use Rattle.row_ledger.specs.Site.{Site}
 
 abbrev pub de : ℕ
 de = 0x10000000

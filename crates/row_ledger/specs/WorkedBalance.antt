@@ -2,12 +2,8 @@
 -- the second one is left.
 use Rattle.std.specs.Prelude.{ℕ, zero, suc, ◌+◌, pos, List, ◌∷◌}
 use Rattle.dim_hierarchy.specs.declared.row.Row.{Row}
-use Rattle.row_ledger.specs.declared.event.Event.{Event}
-use Rattle.row_ledger.specs.declared.event.Event.TheVariants.{Begun, Called, Moved, Left, Ended}
+use Rattle.row_ledger.specs.{Worked.{berlin, in_city, opened}, declared.event.Event.Event, declared.event.Event.TheVariants.{Begun, Called, Moved, Left, Ended}, declared.settings.Call.TheVariants.{Split, Move, Balance}, declared.settings.How.TheVariants.{Fine, Balanced, Postponed}}
 use Rattle.row_ledger.specs.declared.event.Event.TheVariants as event
-use Rattle.row_ledger.specs.declared.settings.Call.TheVariants.{Split, Move, Balance}
-use Rattle.row_ledger.specs.declared.settings.How.TheVariants.{Fine, Balanced, Postponed}
-use Rattle.row_ledger.specs.Worked.{berlin, in_city, opened}
 
 -- so many rows at berlin begin
 

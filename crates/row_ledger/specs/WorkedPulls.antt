@@ -3,11 +3,7 @@ use Rattle.std.specs.Prelude.{pos, Some, List, [], ◌∷◌}
 use Rattle.dim_hierarchy.specs.declared.row.Row.{Row}
 use Rattle.measure_agg.specs.Aggregate.{Aggregate}
 use Rattle.describing_set.specs.declared.listing.Spot.{Spot}
-use Rattle.row_ledger.specs.declared.event.Event.{Event}
-use Rattle.row_ledger.specs.declared.event.Event.TheVariants.{Synced, Begun, Acked, Asked, Answered, Called, Ended}
-use Rattle.row_ledger.specs.declared.settings.Call.TheVariants.{Sync}
-use Rattle.row_ledger.specs.declared.settings.How.TheVariants.{Fine}
-use Rattle.row_ledger.specs.Worked.{berlin, in_city, row, spot, opened, for_de}
+use Rattle.row_ledger.specs.{Worked.{berlin, in_city, row, spot, opened, for_de}, declared.event.Event.Event, declared.event.Event.TheVariants.{Synced, Begun, Acked, Asked, Answered, Called, Ended}, declared.settings.Call.TheVariants.Sync, declared.settings.How.TheVariants.Fine}
 
 -- the row is acknowledged through server 0
 abbrev pub inserted : List Event

@@ -2,12 +2,7 @@
 -- names a city that there is none of, and a barrier ends it.
 use Rattle.std.specs.Prelude.{List, [], ◌∷◌}
 use Rattle.measure_agg.specs.Aggregate.{Aggregate}
-use Rattle.row_ledger.specs.declared.event.Event.{Event}
-use Rattle.row_ledger.specs.declared.event.Event.TheVariants.{Synced, Begun, Acked, Asked, Answered, Unknown, Called, Ended}
-use Rattle.row_ledger.specs.declared.settings.Call.TheVariants.{Sync, Barrier}
-use Rattle.row_ledger.specs.declared.settings.How.TheVariants.{Fine}
-use Rattle.row_ledger.specs.Worked.{row, for_de, first_listing}
-use Rattle.row_ledger.specs.WorkedPulls.{with_berlin}
+use Rattle.row_ledger.specs.{Worked.{row, for_de, first_listing}, WorkedPulls.with_berlin, declared.event.Event.Event, declared.event.Event.TheVariants.{Synced, Begun, Acked, Asked, Answered, Unknown, Called, Ended}, declared.settings.Call.TheVariants.{Sync, Barrier}, declared.settings.How.TheVariants.Fine}
 
 -- the newest event first, with this answer to the query
 abbrev pub whole_history : Aggregate → List Event

@@ -1,22 +1,10 @@
 -- Worked splits and moves: two rows in two cities, a split of their shard with a query across it, and pages behind it.
 use Rattle.std.specs.Prelude.{ℕ, pos, List, [], ◌∷◌}
-use Rattle.dim_hierarchy.specs.declared.row.Row.{Row}
-use Rattle.dim_hierarchy.specs.declared.filter.Pick.{Pick}
-use Rattle.dim_hierarchy.specs.declared.filter.Pick.TheVariants.{Ids}
+use Rattle.dim_hierarchy.specs.{declared.filter.Pick.Pick, declared.filter.Pick.TheVariants.Ids, declared.row.Row.Row}
 use Rattle.measure_agg.specs.Aggregate.{Aggregate}
-use Rattle.row_ledger.specs.declared.event.Event.{Event}
-use Rattle.row_ledger.specs.declared.event.Event.TheVariants.{Begun, Acked, Asked, Answered, Called, Moved, Shown, Ended}
+use Rattle.row_ledger.specs.{Worked.{berlin, munich, in_city, box, once, one_leaf}, WorkedPulls.{inserted, both}, declared.event.Event.Event, declared.event.Event.TheVariants.{Begun, Acked, Asked, Answered, Called, Moved, Shown, Ended}, declared.page.Page.Page, declared.page.ShardLine.ShardLine, declared.page.TreePage.TreePage, declared.settings.Call.TheVariants.{Split, Move, Shards, Tree, Audit}, declared.settings.Decline.Decline, declared.settings.Decline.TheVariants.Unknown, declared.settings.How.TheVariants.{Fine, Declined}}
 use Rattle.row_ledger.specs.declared.event.Event.TheVariants as event
-use Rattle.row_ledger.specs.declared.page.ShardLine.{ShardLine}
-use Rattle.row_ledger.specs.declared.page.TreePage.{TreePage}
-use Rattle.row_ledger.specs.declared.page.Page.{Page}
 use Rattle.row_ledger.specs.declared.page.Page.TheVariants as page
-use Rattle.row_ledger.specs.declared.settings.Call.TheVariants.{Split, Move, Shards, Tree, Audit}
-use Rattle.row_ledger.specs.declared.settings.Decline.{Decline}
-use Rattle.row_ledger.specs.declared.settings.Decline.TheVariants.{Unknown}
-use Rattle.row_ledger.specs.declared.settings.How.TheVariants.{Fine, Declined}
-use Rattle.row_ledger.specs.Worked.{berlin, munich, in_city, box, once, one_leaf}
-use Rattle.row_ledger.specs.WorkedPulls.{inserted, both}
 
 -- a row of 7 at munich comes to the same shard
 abbrev pub other : Row

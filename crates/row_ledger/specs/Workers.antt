@@ -1,9 +1,6 @@
 -- Whether a shard stands on a worker, and when it left one.
-use Rattle.std.specs.Prelude.{ℕ, ◌==◌, Bool, not, ◌&&◌, Option, Some, None, if◌then◌else◌, List, [], ◌∷◌, length}
-use Rattle.std.specs.List.{list_any}
-use Rattle.row_ledger.specs.declared.event.Event.{Event}
-use Rattle.row_ledger.specs.declared.event.Event.TheVariants.{Moved}
-use Rattle.row_ledger.specs.Shards.{Place, is_of, frontier}
+use Rattle.std.specs.{List.list_any, Prelude.{ℕ, ◌==◌, Bool, not, ◌&&◌, Option, Some, None, if◌then◌else◌, List, [], ◌∷◌, length}}
+use Rattle.row_ledger.specs.{Shards.{Place, is_of, frontier}, declared.event.Event.Event, declared.event.Event.TheVariants.Moved}
 
 -- a shard stands on a worker
 abbrev pub is_on : ℕ → List Event → ℕ → ℕ → Bool

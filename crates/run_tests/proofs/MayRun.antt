@@ -1,14 +1,10 @@
 -- Commands of which each may run, and the first ones of them.
-use Rattle.std.proofs.Common.{◌≡◌, ◌∙◌, ◌+◌, ◌-◌, ◌<◌, ◌≤◌, ℕ, zero, suc, List, [], ◌∷◌, ◌++◌, length, take, drop, get_or, sym, ap, subst, arith}
+use Rattle.std.proofs.{Common.{◌≡◌, ◌∙◌, ◌+◌, ◌-◌, ◌<◌, ◌≤◌, ℕ, zero, suc, List, [], ◌∷◌, ◌++◌, length, take, drop, get_or, sym, ap, subst, arith}, lemmas.List.{length-drop, take-append-drop, take_more}, lemmas.List.Elements.All-push}
 use Rattle.std.specs.Prelude.{All, Result, Ok, Err, OnOk, Some, slice_get}
-use Rattle.std.proofs.lemmas.List.{length-drop, take-append-drop, take_more}
-use Rattle.std.proofs.lemmas.List.Elements.{All-push}
 use Rattle.dim_hierarchy.specs.Dimension.{Dimension, IsHierarchy}
 use Rattle.row_ledger.specs.declared.settings.Use.{Use}
-use Rattle.script_form.specs.Fits.{AreSettings}
-use Rattle.script_form.specs.declared.script.Command.{Command}
-use Rattle.seeded_run.specs.Phase.{MayAllRun}
-use Rattle.seeded_run.specs.Roles.{CanOpen}
+use Rattle.script_form.specs.{Fits.AreSettings, declared.script.Command.Command}
+use Rattle.seeded_run.specs.{Phase.MayAllRun, Roles.CanOpen}
 
 -- Lists of which each item is so.
 

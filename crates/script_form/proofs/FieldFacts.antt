@@ -1,14 +1,9 @@
 -- The fields of a record from a place on.
-use Rattle.std.proofs.Common.{◌≡◌, ◌<◌, ◌≤◌, ◌+◌, ◌++◌, ◌&&◌, ℕ, zero, suc, List, [], ◌∷◌, true, length, drop, map, arith, refl, sym, ap, add-one, ◌∙◌}
-use Rattle.std.specs.Prelude.{nat_le, not}
-use Rattle.std.specs.List.{list_all, list_any}
-use Rattle.std.proofs.lemmas.Bool.{and_parts, leb-true}
-use Rattle.std.proofs.lemmas.List.{append_assoc}
+use Rattle.std.proofs.{Common.{◌≡◌, ◌<◌, ◌≤◌, ◌+◌, ◌++◌, ◌&&◌, ℕ, zero, suc, List, [], ◌∷◌, true, length, drop, map, arith, refl, sym, ap, add-one, ◌∙◌}, lemmas.Bool.{and_parts, leb-true}, lemmas.List.append_assoc}
+use Rattle.std.specs.{List.{list_all, list_any}, Prelude.{nat_le, not}}
 use Rattle.csv.specs.Records.{field_at}
 use Rattle.dim_hierarchy.specs.declared.filter.NamePick.{NamePick}
-use Rattle.script_form.specs.Fields.{Record, field, is_bar, is_name, is_star}
-use Rattle.script_form.specs.Limits.{most_bytes}
-use Rattle.script_form.specs.Scripts.{pick_of}
+use Rattle.script_form.specs.{Fields.{Record, field, is_bar, is_name, is_star}, Limits.most_bytes, Scripts.pick_of}
 
 -- the fields from a place on are the field there and those behind it
 pub drop_field : (r : Record) (i : ℕ) → i < length r → drop i r ≡ field r i ∷ drop (i + 1) r

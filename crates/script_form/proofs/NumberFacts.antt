@@ -1,21 +1,10 @@
 -- The values of numbers in a range.
-use Rattle.std.proofs.Common.{◌≡◌, ◌≤◌, ◌<◌, ◌+◌, ℕ, List, [], ◌∷◌, Bool, true, false, ◌&&◌, Option, Some, None, ap, arith, refl}
-use Rattle.script_form.specs.Limits.{most_servers, most_workers, most_threads, fewest_cells, most_cells, shard_ids, worker_ids, most_actions}
-use Rattle.std.specs.Prelude.{nat_le, nat_lt, not, is_some, unwrap_or}
-use Rattle.std.specs.Option.{option_map_or}
-use Rattle.std.proofs.lemmas.Bool.{and_parts}
-use Rattle.std.proofs.lemmas.Bool.Decides.{nat_tests}
-use Rattle.row_ledger.specs.declared.settings.Use.{Use}
-use Rattle.row_ledger.specs.declared.settings.Call.{Call}
+use Rattle.std.proofs.{Common.{◌≡◌, ◌≤◌, ◌<◌, ◌+◌, ℕ, List, [], ◌∷◌, Bool, true, false, ◌&&◌, Option, Some, None, ap, arith, refl}, lemmas.Bool.and_parts, lemmas.Bool.Decides.nat_tests}
+use Rattle.script_form.specs.{Causes.{are_fields, is_number, wrong_number}, Fields.{Record, field, in_range, is_below, measure_of, number_of, value_of}, Fits.{AreSettings, IsInRange}, Limits.{most_servers, most_workers, most_threads, fewest_cells, most_cells, shard_ids, worker_ids, most_actions}, Scripts.{filled, settings_with}, Table.form_of, declared.table.Field.Field, declared.table.Kind.Kind}
+use Rattle.std.specs.{Option.option_map_or, Prelude.{nat_le, nat_lt, not, is_some, unwrap_or}}
+use Rattle.row_ledger.specs.{declared.settings.Call.Call, declared.settings.Use.Use}
 use Rattle.row_ledger.specs.declared.settings.Call.TheVariants as call
-use Rattle.script_form.specs.Causes.{are_fields, is_number, wrong_number}
-use Rattle.script_form.specs.Fields.{Record, field, in_range, is_below, measure_of, number_of, value_of}
-use Rattle.script_form.specs.Fits.{AreSettings, IsInRange}
-use Rattle.script_form.specs.Scripts.{filled, settings_with}
-use Rattle.script_form.specs.Table.{form_of}
-use Rattle.script_form.specs.declared.table.Field.{Field}
 use Rattle.script_form.specs.declared.table.Field.TheVariants as must
-use Rattle.script_form.specs.declared.table.Kind.{Kind}
 use Rattle.script_form.specs.declared.table.Kind.TheVariants as kind
 
 below : (o : Option ℕ) (limit : ℕ) → option_map_or (λ value. nat_lt value limit) o false ≡ true → unwrap_or o 0 < limit

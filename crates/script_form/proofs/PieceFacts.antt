@@ -1,10 +1,6 @@
 -- The pieces of a field, one after the other.
-use Rattle.std.proofs.Common.{◌≡◌, ◌≤◌, ◌<◌, ◌+◌, ◌-◌, ◌++◌, ℕ, List, [], ◌∷◌, length, drop, take, arith, refl, Bool, true, false, Some, None, inl, inr, nat_lt}
+use Rattle.std.proofs.{Common.{◌≡◌, ◌≤◌, ◌<◌, ◌+◌, ◌-◌, ◌++◌, ℕ, List, [], ◌∷◌, length, drop, take, arith, refl, Bool, true, false, Some, None, inl, inr, nat_lt}, lemmas.Bool.cases_Bool, lemmas.Bool.Decides.nat_tests, lemmas.List.{append_assoc, length-drop, take_all}, lemmas.List.Splits.{slice_split-cons_no, slice_split_first}}
 use Rattle.std.specs.List.{list_all, position, position_or_len, slice_split}
-use Rattle.std.proofs.lemmas.Bool.{cases_Bool}
-use Rattle.std.proofs.lemmas.Bool.Decides.{nat_tests}
-use Rattle.std.proofs.lemmas.List.{append_assoc, length-drop, take_all}
-use Rattle.std.proofs.lemmas.List.Splits.{slice_split-cons_no, slice_split_first}
 use Rattle.script_form.specs.Fields.{is_bar, is_name, is_pick, is_star, pieces}
 
 -- where no item passes, the list is the one part

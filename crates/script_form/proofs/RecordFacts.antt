@@ -1,17 +1,10 @@
 -- The records of a text are those that a reader gives until it stops, and each takes a byte at least.
-use Rattle.std.proofs.Common.{◌≡◌, ◌≤◌, ◌<◌, ◌+◌, ◌++◌, ℕ, suc, zero, List, [], ◌∷◌, length, arith, refl, ◌∙◌, Bor, true, false, Option, Some, None, inl, inr, length-append}
-use Rattle.std.proofs.lemmas.Bool.{cases_Bool}
-use Rattle.std.proofs.lemmas.Bool.Decides.{nat_tests}
-use Rattle.std.proofs.lemmas.List.{append_assoc, append-nil}
+use Rattle.std.proofs.{Common.{◌≡◌, ◌≤◌, ◌<◌, ◌+◌, ◌++◌, ℕ, suc, zero, List, [], ◌∷◌, length, arith, refl, ◌∙◌, Bor, true, false, Option, Some, None, inl, inr, length-append}, lemmas.Bool.cases_Bool, lemmas.Bool.Decides.nat_tests, lemmas.List.{append_assoc, append-nil}}
 use Rattle.csv.proofs.ReadFacts.{rows-end}
-use Rattle.csv.specs.Machine.{Read, ends_at_end, field_after, fields_after, in_field, is_end, next_record, start_field, start_record, step}
-use Rattle.csv.specs.Reading.{NextIs, ReadRecord, Ready, ReadsNext, default_config, pending_of, records_from, source_of, strip_bom}
-use Rattle.csv.specs.declared.parser.State.{State}
+use Rattle.csv.specs.{Machine.{Read, ends_at_end, field_after, fields_after, in_field, is_end, next_record, start_field, start_record, step}, Reading.{NextIs, ReadRecord, Ready, ReadsNext, default_config, pending_of, records_from, source_of, strip_bom}, declared.parser.State.State, declared.reader.Reader.Reader}
 use Rattle.csv.specs.declared.parser.State.TheVariants as st
-use Rattle.csv.specs.declared.reader.Reader.{Reader}
 use Rattle.csv.specs.declared.reader.Trim.TheVariants as trim
-use Rattle.script_form.specs.Fields.{Record}
-use Rattle.script_form.specs.Scripts.{records_of}
+use Rattle.script_form.specs.{Fields.Record, Scripts.records_of}
 
 -- Behind a byte that ends a record, no record is open.
 

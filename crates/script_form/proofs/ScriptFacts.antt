@@ -1,30 +1,10 @@
 -- The script of the records read so far.
-use Rattle.std.proofs.Common.{◌≡◌, ◌≢◌, ◌≤◌, ◌<◌, ◌+◌, ◌++◌, ℕ, List, get_or, [], ◌∷◌, length, map, drop, Bool, true, false, Option, Some, None, Ok, Err, arith, refl, sym, ◌∙◌, ap, All, ◌&&◌, length-append, length-drop}
-use Rattle.std.specs.Prelude.{codes, not, ◌==◌}
-use Rattle.std.specs.List.{cons_option}
-use Rattle.std.specs.Option.{option_to_list}
-use Rattle.std.specs.Str.{bytes_eq}
-use Rattle.std.proofs.lemmas.Bool.{and_parts}
-use Rattle.std.proofs.lemmas.Bool.Decides.{nat_tests}
-use Rattle.std.proofs.lemmas.List.{append_assoc, append-nil, length-map, length-set, nil_from_length}
-use Rattle.std.proofs.lemmas.List.Elements.{All-map, All-push, filter_map-append}
-use Rattle.std.proofs.lemmas.List.Splits.{length-slice_split}
-use Rattle.std.proofs.lemmas.List.Sums.{fold-append}
-use Rattle.dim_hierarchy.specs.Dimension.{Dimension, new_dimension}
-use Rattle.dim_hierarchy.specs.Names.{IsNamePick}
-use Rattle.script_form.specs.Reading.{MayStand, IsTaken, after}
-use Rattle.script_form.specs.Causes.{cause_at, is_version}
-use Rattle.script_form.specs.Fields.{Record, field, is_bar, is_star, value_of}
-use Rattle.script_form.specs.Table.{kind_of}
-use Rattle.script_form.specs.Fits.{AreSettings, Fits}
-use Rattle.script_form.specs.Scripts.{command_by, command_of, default_settings, first_cause, first_fault, hierarchy_with, pick_of, script, script_of, settings_with}
-use Rattle.script_form.specs.declared.table.Kind.{Kind}
+use Rattle.std.proofs.{Common.{◌≡◌, ◌≢◌, ◌≤◌, ◌<◌, ◌+◌, ◌++◌, ℕ, List, get_or, [], ◌∷◌, length, map, drop, Bool, true, false, Option, Some, None, Ok, Err, arith, refl, sym, ◌∙◌, ap, All, ◌&&◌, length-append, length-drop}, lemmas.Bool.and_parts, lemmas.Bool.Decides.nat_tests, lemmas.List.{append_assoc, append-nil, length-map, length-set, nil_from_length}, lemmas.List.Elements.{All-map, All-push, filter_map-append}, lemmas.List.Splits.length-slice_split, lemmas.List.Sums.fold-append}
+use Rattle.std.specs.{List.cons_option, Option.option_to_list, Prelude.{codes, not, ◌==◌}, Str.bytes_eq}
+use Rattle.dim_hierarchy.specs.{Dimension.{Dimension, new_dimension}, Names.IsNamePick}
+use Rattle.script_form.specs.{Causes.{cause_at, is_version}, Fields.{Record, field, is_bar, is_star, value_of}, Fits.{AreSettings, Fits}, Reading.{MayStand, IsTaken, after}, Scripts.{command_by, command_of, default_settings, first_cause, first_fault, hierarchy_with, pick_of, script, script_of, settings_with}, Table.kind_of, declared.script.Cause.Cause, declared.script.Command.Command, declared.script.Script.Script, declared.script.ScriptFault.ScriptFault, declared.table.Kind.Kind}
 use Rattle.script_form.specs.declared.table.Kind.TheVariants as kind
-use Rattle.script_form.specs.declared.script.Cause.{Cause}
 use Rattle.script_form.specs.declared.script.Cause.TheVariants as cause
-use Rattle.script_form.specs.declared.script.Command.{Command}
-use Rattle.script_form.specs.declared.script.Script.{Script}
-use Rattle.script_form.specs.declared.script.ScriptFault.{ScriptFault}
 use Rattle.script_form.specs.declared.script.ScriptFault.TheVariants as fault
 use Rattle.script_form.proofs.NumberFacts.{filled_in_range, insert_server, query_server, settings_more, value_below}
 

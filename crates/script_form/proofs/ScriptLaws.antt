@@ -1,15 +1,7 @@
 -- Where a list of records is a script, and where it is bad.
-use Rattle.std.proofs.Common.{◌≡◌, ◌<◌, ◌+◌, ◌++◌, ◌⊎◌, ℕ, List, [], ◌∷◌, length, Option, Some, None, Ok, Err, arith, refl, sym, ◌∙◌, ap, inl, inr, length-append}
-use Rattle.std.specs.Prelude.{option_map}
-use Rattle.std.specs.Option.{option_or}
-use Rattle.std.proofs.lemmas.List.{append_assoc, append-nil}
-use Rattle.script_form.specs.Fields.{Record}
-use Rattle.script_form.specs.Faults.{AreFine, IsFirstFault}
-use Rattle.script_form.specs.Scripts.{first_cause, first_fault, script, script_of, unless}
-use Rattle.script_form.specs.declared.script.Cause.{Cause}
-use Rattle.script_form.specs.declared.script.Script.{Script}
-use Rattle.script_form.specs.declared.script.ScriptFault.{ScriptFault}
-use Rattle.script_form.specs.declared.script.ScriptFault.TheVariants.{Bad}
+use Rattle.std.proofs.{Common.{◌≡◌, ◌<◌, ◌+◌, ◌++◌, ◌⊎◌, ℕ, List, [], ◌∷◌, length, Option, Some, None, Ok, Err, arith, refl, sym, ◌∙◌, ap, inl, inr, length-append}, lemmas.List.{append_assoc, append-nil}}
+use Rattle.std.specs.{Option.option_or, Prelude.option_map}
+use Rattle.script_form.specs.{Faults.{AreFine, IsFirstFault}, Fields.Record, Scripts.{first_cause, first_fault, script, script_of, unless}, declared.script.Cause.Cause, declared.script.Script.Script, declared.script.ScriptFault.ScriptFault, declared.script.ScriptFault.TheVariants.Bad}
 
 -- none of the records has a cause, each behind the first list and those before it
 abbrev FineBehind : List Record → List Record → Type 0

@@ -1,23 +1,12 @@
 -- Records against which nothing stands, one after the other: any at all, commands, and concepts.
-use Rattle.std.proofs.Common.{◌≡◌, ◌<◌, ◌∙◌, ◌+◌, ◌++◌, ℕ, List, [], ◌∷◌, length, Bool, true, false, ◌&&◌, Option, Some, None, Ok, ap, refl, arith, append-nil, length-append}
-use Rattle.std.specs.Prelude.{⊤, not, ◌==◌, ◌||◌, codes, unwrap_or, option_and_then, if◌then◌else◌}
-use Rattle.std.specs.List.{list_all}
-use Rattle.std.specs.Option.{option_map_or}
-use Rattle.std.proofs.lemmas.Bool.{and_parts}
-use Rattle.std.proofs.lemmas.Bool.Decides.{nat_tests}
+use Rattle.std.proofs.{Common.{◌≡◌, ◌<◌, ◌∙◌, ◌+◌, ◌++◌, ℕ, List, [], ◌∷◌, length, Bool, true, false, ◌&&◌, Option, Some, None, Ok, ap, refl, arith, append-nil, length-append}, lemmas.Bool.and_parts, lemmas.Bool.Decides.nat_tests}
+use Rattle.std.specs.{List.list_all, Option.option_map_or, Prelude.{⊤, not, ◌==◌, ◌||◌, codes, unwrap_or, option_and_then, if◌then◌else◌}}
 use Rattle.csv.specs.Records.{field_at}
 use Rattle.dim_hierarchy.specs.Dimension.{Dimension, concept_fault, find_dim}
 use Rattle.row_ledger.specs.declared.settings.Use.{Use}
-use Rattle.script_form.specs.Causes.{cause_at, cause_by_kind, cause_in, cause_under, concept_cause, hierarchy_cause, is_version, parent_of, wrong_name, wrong_number, wrong_order}
-use Rattle.script_form.specs.Fields.{Record, field, is_name, is_star}
-use Rattle.script_form.specs.Table.{kind_of, width}
-use Rattle.script_form.specs.Reading.{after}
-use Rattle.script_form.specs.Scripts.{concept_added, first_cause, first_fault, hierarchy_with, script, script_of, settings_with, with_named}
-use Rattle.script_form.specs.declared.table.Kind.{Kind}
+use Rattle.script_form.specs.{Causes.{cause_at, cause_by_kind, cause_in, cause_under, concept_cause, hierarchy_cause, is_version, parent_of, wrong_name, wrong_number, wrong_order}, Fields.{Record, field, is_name, is_star}, Reading.after, Scripts.{concept_added, first_cause, first_fault, hierarchy_with, script, script_of, settings_with, with_named}, Table.{kind_of, width}, declared.script.Cause.Cause, declared.script.Script.Script, declared.table.Kind.Kind}
 use Rattle.script_form.specs.declared.table.Kind.TheVariants as kind
-use Rattle.script_form.specs.declared.script.Cause.{Cause}
 use Rattle.script_form.specs.declared.script.Cause.TheVariants as cause
-use Rattle.script_form.specs.declared.script.Script.{Script}
 use Rattle.script_form.proofs.ScriptFacts.{script_fine, script_of-push}
 
 -- Records of which none has a cause, each behind the script of those before it.

@@ -1,21 +1,12 @@
 -- The causes for which a record is bad, given the script of the records before it.
-use Rattle.std.specs.Prelude.{ℕ, ◌+◌, ◌==◌, ◌&&◌, ◌||◌, not, Bool, true, Option, Some, None, is_some, option_and_then, if◌then◌else◌, List, [], ◌∷◌, length, drop, bytes_eq, codes}
-use Rattle.std.specs.List.{list_all}
-use Rattle.dim_hierarchy.specs.Dimension.{Dimension, concept_fault, dim_fault, find, find_dim}
-use Rattle.dim_hierarchy.specs.declared.hierarchy.DimFault.{DimFault}
+use Rattle.std.specs.{List.list_all, Prelude.{ℕ, ◌+◌, ◌==◌, ◌&&◌, ◌||◌, not, Bool, true, Option, Some, None, is_some, option_and_then, if◌then◌else◌, List, [], ◌∷◌, length, drop, bytes_eq, codes}}
+use Rattle.dim_hierarchy.specs.{Dimension.{Dimension, concept_fault, dim_fault, find, find_dim}, declared.hierarchy.ConceptFault.ConceptFault, declared.hierarchy.DimFault.DimFault}
 use Rattle.dim_hierarchy.specs.declared.hierarchy.DimFault.TheVariants as dim
-use Rattle.dim_hierarchy.specs.declared.hierarchy.ConceptFault.{ConceptFault}
 use Rattle.dim_hierarchy.specs.declared.hierarchy.ConceptFault.TheVariants as concept
-use Rattle.script_form.specs.Fields.{Record, field, in_range, is_below, is_name, is_pick, is_star, measure_of, value_of}
-use Rattle.script_form.specs.Table.{form_of, kind_of, width}
-use Rattle.script_form.specs.declared.script.Cause.{Cause}
+use Rattle.script_form.specs.{Fields.{Record, field, in_range, is_below, is_name, is_pick, is_star, measure_of, value_of}, Table.{form_of, kind_of, width}, declared.script.Cause.Cause, declared.script.Script.Script, declared.table.Each.Each, declared.table.Field.Field, declared.table.Kind.Kind}
 use Rattle.script_form.specs.declared.script.Cause.TheVariants as cause
-use Rattle.script_form.specs.declared.script.Script.{Script}
-use Rattle.script_form.specs.declared.table.Each.{Each}
 use Rattle.script_form.specs.declared.table.Each.TheVariants as each
-use Rattle.script_form.specs.declared.table.Field.{Field}
 use Rattle.script_form.specs.declared.table.Field.TheVariants as must
-use Rattle.script_form.specs.declared.table.Kind.{Kind}
 use Rattle.script_form.specs.declared.table.Kind.TheVariants as kind
 
 abbrev pub is_version : Record → Bool

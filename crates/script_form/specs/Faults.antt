@@ -1,11 +1,7 @@
 -- What contracts say of records that are a script, or have a first fault.
 use Rattle.std.specs.Prelude.{ℕ, ◌≡◌, ◌+◌, Some, None, Result, Ok, Err, ⊤, List, ◌∷◌, ◌++◌, length}
-use Rattle.script_form.specs.Fields.{Record}
-use Rattle.script_form.specs.declared.script.Cause.{Cause}
-use Rattle.script_form.specs.declared.script.Script.{Script}
-use Rattle.script_form.specs.declared.script.ScriptFault.{ScriptFault}
+use Rattle.script_form.specs.{Fields.Record, Scripts.first_cause, declared.script.Cause.Cause, declared.script.Script.Script, declared.script.ScriptFault.ScriptFault}
 use Rattle.script_form.specs.declared.script.ScriptFault.TheVariants as fault
-use Rattle.script_form.specs.Scripts.{first_cause}
 
 -- want of memory, or this answer
 abbrev pub IsAnswer : Result Script ScriptFault → Result Script ScriptFault → Type 0

@@ -1,8 +1,6 @@
 -- Numbers, measures, names and filters as the fields of a record spell them.
 use Rattle.script_form.specs.Limits.{most_bytes}
-use Rattle.std.specs.Prelude.{ℕ, ◌+◌, ◌-◌, ◌*◌, ◌==◌, ◌&&◌, ◌||◌, nat_lt, nat_le, not, Bool, false, ℤ, pos, neg_ℤ, Option, Some, None, unwrap_or, option_and_then, if◌then◌else◌, List, [], ◌∷◌, length, fold, bytes_eq, codes}
-use Rattle.std.specs.List.{list_any, list_all, slice_split}
-use Rattle.std.specs.Option.{option_map_or}
+use Rattle.std.specs.{List.{list_any, list_all, slice_split}, Option.option_map_or, Prelude.{ℕ, ◌+◌, ◌-◌, ◌*◌, ◌==◌, ◌&&◌, ◌||◌, nat_lt, nat_le, not, Bool, false, ℤ, pos, neg_ℤ, Option, Some, None, unwrap_or, option_and_then, if◌then◌else◌, List, [], ◌∷◌, length, fold, bytes_eq, codes}}
 use Rattle.csv.specs.Records.{field_at}
 
 -- a record: its fields in order, each a list of bytes

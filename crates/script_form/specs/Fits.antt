@@ -1,13 +1,10 @@
 -- Settings in their ranges, and commands that fit their script.
 use Rattle.std.specs.Prelude.{ℕ, ◌≡◌, ◌<◌, ◌≤◌, ⊤, length, All}
 use Rattle.dim_hierarchy.specs.Names.{IsNamePick}
-use Rattle.row_ledger.specs.declared.settings.Use.{Use}
-use Rattle.row_ledger.specs.declared.settings.Call.{Call}
+use Rattle.row_ledger.specs.{declared.settings.Call.Call, declared.settings.Use.Use}
 use Rattle.row_ledger.specs.declared.settings.Call.TheVariants as call
-use Rattle.script_form.specs.Limits.{most_servers, most_workers, most_threads, fewest_cells, most_cells, shard_ids, worker_ids, most_actions}
-use Rattle.script_form.specs.declared.script.Command.{Command}
+use Rattle.script_form.specs.{Limits.{most_servers, most_workers, most_threads, fewest_cells, most_cells, shard_ids, worker_ids, most_actions}, declared.script.Command.Command, declared.script.Script.Script}
 use Rattle.script_form.specs.declared.script.Command.TheVariants as command
-use Rattle.script_form.specs.declared.script.Script.{Script}
 
 -- settings in their ranges
 pub record AreSettings (with : Use) : Type 0 where

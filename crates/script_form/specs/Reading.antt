@@ -1,15 +1,7 @@
 -- What contracts say of a record that is read behind others.
-use Rattle.std.specs.Prelude.{ℕ, ◌≡◌, ◌<◌, true, false, ⊤, Option, Some, None, length, ◌++◌}
-use Rattle.std.specs.Option.{option_to_list}
-use Rattle.script_form.specs.Fields.{Record, field}
-use Rattle.script_form.specs.Table.{kind_of, width}
-use Rattle.script_form.specs.declared.script.Cause.{Cause}
-use Rattle.script_form.specs.declared.script.Script.{Script}
-use Rattle.script_form.specs.declared.table.Kind.{Kind}
-use Rattle.script_form.specs.declared.record.RecordFault.{RecordFault}
+use Rattle.std.specs.{Option.option_to_list, Prelude.{ℕ, ◌≡◌, ◌<◌, true, false, ⊤, Option, Some, None, length, ◌++◌}}
+use Rattle.script_form.specs.{Causes.{is_version, wrong_order, wrong_number, wrong_name, hierarchy_cause, cause_at}, Fields.{Record, field}, Scripts.{settings_with, hierarchy_with, command_of}, Table.{kind_of, width}, declared.record.RecordFault.RecordFault, declared.script.Cause.Cause, declared.script.Script.Script, declared.table.Kind.Kind}
 use Rattle.script_form.specs.declared.record.RecordFault.TheVariants as fault
-use Rattle.script_form.specs.Causes.{is_version, wrong_order, wrong_number, wrong_name, hierarchy_cause, cause_at}
-use Rattle.script_form.specs.Scripts.{settings_with, hierarchy_with, command_of}
 
 -- a record of this kind has the fields of its kind
 pub record HasForm (before : Script) (k : Kind) (r : Record) : Type 0 where

@@ -1,24 +1,14 @@
 -- The script that a list of records is, or where and why it is bad.
-use Rattle.std.specs.Prelude.{ℕ, pos, ◌+◌, Option, Some, None, option_map, unwrap_or, Result, Ok, Err, if◌then◌else◌, List, [], ◌∷◌, ◌++◌, length, drop, map, filter_map, fold, slice_set}
-use Rattle.std.specs.Option.{option_or}
+use Rattle.std.specs.{Option.option_or, Prelude.{ℕ, pos, ◌+◌, Option, Some, None, option_map, unwrap_or, Result, Ok, Err, if◌then◌else◌, List, [], ◌∷◌, ◌++◌, length, drop, map, filter_map, fold, slice_set}}
 use Rattle.csv.specs.Reading.{default_config, records, strip_bom}
-use Rattle.dim_hierarchy.specs.Dimension.{Dimension, dimension, find_dim, new_dimension, with_concept}
-use Rattle.dim_hierarchy.specs.declared.filter.NamePick.{NamePick}
+use Rattle.dim_hierarchy.specs.{Dimension.{Dimension, dimension, find_dim, new_dimension, with_concept}, declared.filter.NamePick.NamePick}
 use Rattle.dim_hierarchy.specs.declared.filter.NamePick.TheVariants as pick
-use Rattle.row_ledger.specs.declared.settings.Use.{Use}
-use Rattle.row_ledger.specs.declared.settings.Call.{Call}
+use Rattle.row_ledger.specs.{declared.settings.Call.Call, declared.settings.Use.Use}
 use Rattle.row_ledger.specs.declared.settings.Call.TheVariants as call
-use Rattle.script_form.specs.Fields.{Record, field, is_star, measure_of, pieces, value_of}
-use Rattle.script_form.specs.Table.{kind_of}
-use Rattle.script_form.specs.Causes.{cause_at, parent_of}
-use Rattle.script_form.specs.declared.script.Cause.{Cause}
+use Rattle.script_form.specs.{Causes.{cause_at, parent_of}, Fields.{Record, field, is_star, measure_of, pieces, value_of}, Table.kind_of, declared.script.Cause.Cause, declared.script.Command.Command, declared.script.Script.Script, declared.script.ScriptFault.ScriptFault, declared.table.Kind.Kind}
 use Rattle.script_form.specs.declared.script.Cause.TheVariants as cause
-use Rattle.script_form.specs.declared.script.Command.{Command}
 use Rattle.script_form.specs.declared.script.Command.TheVariants as command
-use Rattle.script_form.specs.declared.script.Script.{Script}
-use Rattle.script_form.specs.declared.script.ScriptFault.{ScriptFault}
 use Rattle.script_form.specs.declared.script.ScriptFault.TheVariants as fault
-use Rattle.script_form.specs.declared.table.Kind.{Kind}
 use Rattle.script_form.specs.declared.table.Kind.TheVariants as kind
 
 -- the records of a text: comma, double quotes, any number of fields, one leading byte order mark dropped

@@ -1,14 +1,10 @@
 -- The table of the records: for each kind its word, the fields behind it, and what follows for each dimension.
 use Rattle.std.specs.Prelude.{ℕ, ◌+◌, List, [], ◌∷◌, length, find, Option, bytes_eq, codes}
 use Rattle.row_ledger.specs.declared.settings.Call.TheVariants as call
-use Rattle.script_form.specs.Limits.{most_servers, most_workers, most_threads, fewest_cells, most_cells, most_levels, shard_ids, worker_ids, most_actions}
-use Rattle.script_form.specs.declared.script.Command.{Command}
+use Rattle.script_form.specs.{Limits.{most_servers, most_workers, most_threads, fewest_cells, most_cells, most_levels, shard_ids, worker_ids, most_actions}, declared.script.Command.Command, declared.table.Each.Each, declared.table.Field.Field, declared.table.Kind.Kind}
 use Rattle.script_form.specs.declared.script.Command.TheVariants as command
-use Rattle.script_form.specs.declared.table.Each.{Each}
 use Rattle.script_form.specs.declared.table.Each.TheVariants as each
-use Rattle.script_form.specs.declared.table.Field.{Field}
 use Rattle.script_form.specs.declared.table.Field.TheVariants as must
-use Rattle.script_form.specs.declared.table.Kind.{Kind}
 use Rattle.script_form.specs.declared.table.Kind.TheVariants as kind
 
 -- a row

@@ -1,12 +1,7 @@
 -- The places of commands when one of them begins.
-use Rattle.std.proofs.Common.{◌≡◌, ◌∙◌, ℕ, ◌<◌, ◌≤◌, ◌⊎◌, inl, inr, Bool, true, false, List, [], ◌∷◌, ◌++◌, length, refl, sym, ap, subst, arith, append_assoc, length-append}
-use Rattle.std.specs.Prelude.{Some, None, slice_get, ◌==◌}
-use Rattle.std.specs.Option.{option_map_or}
-use Rattle.std.proofs.lemmas.Bool.{eq-eqb, eqb-true}
-use Rattle.std.proofs.lemmas.Option.{slice_get_past}
-use Rattle.row_ledger.specs.declared.event.Event.{Event}
-use Rattle.row_ledger.specs.declared.settings.Use.{Use}
-use Rattle.row_ledger.specs.Past.{session_in}
+use Rattle.std.proofs.{Common.{◌≡◌, ◌∙◌, ℕ, ◌<◌, ◌≤◌, ◌⊎◌, inl, inr, Bool, true, false, List, [], ◌∷◌, ◌++◌, length, refl, sym, ap, subst, arith, append_assoc, length-append}, lemmas.Bool.{eq-eqb, eqb-true}, lemmas.Option.slice_get_past}
+use Rattle.std.specs.{Option.option_map_or, Prelude.{Some, None, slice_get, ◌==◌}}
+use Rattle.row_ledger.specs.{Past.session_in, declared.event.Event.Event, declared.settings.Use.Use}
 use Rattle.script_form.specs.declared.script.Command.{Command}
 use Rattle.script_run.specs.Places.{session_of, count_of, begins_in, begins_of, place_behind, places_behind, places}
 use Rattle.script_run.proofs.PlaceFacts.{begins_of-here, begins_of-other, count_of-append, places_behind-append, own_count, slice_get-left}

@@ -1,21 +1,11 @@
 -- Between phases: where one begins and where it ends.
-use Rattle.std.proofs.Common.{◌≡◌, ◌≢◌, ◌∙◌, ℕ, zero, suc, ◌+◌, ◌<◌, ◌≤◌, inl, inr, Bool, true, false, List, [], ◌∷◌, ◌++◌, length, get_or, take, refl, sym, ap, subst, arith}
+use Rattle.std.proofs.{Common.{◌≡◌, ◌≢◌, ◌∙◌, ℕ, zero, suc, ◌+◌, ◌<◌, ◌≤◌, inl, inr, Bool, true, false, List, [], ◌∷◌, ◌++◌, length, get_or, take, refl, sym, ap, subst, arith}, lemmas.Bool.ne_eqb, lemmas.Option.slice_get_within}
 use Rattle.std.specs.Prelude.{Option, Some, None, slice_get, IsTrue, is_some}
-use Rattle.std.proofs.lemmas.Bool.{ne_eqb}
-use Rattle.std.proofs.lemmas.Option.{slice_get_within}
 use Rattle.row_ledger.proofs.Positions.{event_at-here, event_at-older}
-use Rattle.row_ledger.specs.Past.{event_at, is_beginning, is_over, session_in}
-use Rattle.row_ledger.specs.declared.event.Event.{Event}
-use Rattle.row_ledger.specs.declared.settings.Use.{Use}
+use Rattle.row_ledger.specs.{Past.{event_at, is_beginning, is_over, session_in}, declared.event.Event.Event, declared.settings.Use.Use}
 use Rattle.script_form.specs.declared.script.Command.{Command}
-use Rattle.script_run.proofs.Begin.{begins-none, places-other}
-use Rattle.script_run.proofs.Grow.{begin, below-or, other, within}
-use Rattle.script_run.proofs.NextCommand.{get-middle, has-place, next-none, over-now}
-use Rattle.script_run.proofs.PhaseEnds.{finish_law, first-place, get-first, start-any, start_law}
-use Rattle.script_run.proofs.PlaceFacts.{begins_of-other, count_of-append}
-use Rattle.script_run.specs.Between.{NoneBegunLaw, OrderBeginLaw, OrderOtherLaw, OrderStartLaw, PhaseEndLaw, PhaseStartLaw, ThroughLaw}
-use Rattle.script_run.specs.Parts.{IsPartAt, place_in}
-use Rattle.script_run.specs.Places.{begins_of, count_of, session_of}
+use Rattle.script_run.proofs.{Begin.{begins-none, places-other}, Grow.{begin, below-or, other, within}, NextCommand.{get-middle, has-place, next-none, over-now}, PhaseEnds.{finish_law, first-place, get-first, start-any, start_law}, PlaceFacts.{begins_of-other, count_of-append}}
+use Rattle.script_run.specs.{Between.{NoneBegunLaw, OrderBeginLaw, OrderOtherLaw, OrderStartLaw, PhaseEndLaw, PhaseStartLaw, ThroughLaw}, Parts.{IsPartAt, place_in}, Places.{begins_of, count_of, session_of}}
 
 -- How many commands of a session stand in a list.
 

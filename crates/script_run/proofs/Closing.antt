@@ -1,25 +1,11 @@
 -- A command that closes its phase stands alone.
-use Rattle.std.proofs.Common.{◌≡◌, ◌∙◌, ℕ, zero, suc, ◌+◌, ◌*◌, ◌<◌, ◌≤◌, inl, inr, true, List, [], ◌∷◌, length, get_or, refl, sym, ap, subst, arith}
-use Rattle.std.specs.Prelude.{Option, Some, None, Contains, slice_get, zip}
-use Rattle.std.specs.List.{AllZip}
-use Rattle.std.proofs.lemmas.Bool.{cases_lt}
+use Rattle.std.proofs.{Common.{◌≡◌, ◌∙◌, ℕ, zero, suc, ◌+◌, ◌*◌, ◌<◌, ◌≤◌, inl, inr, true, List, [], ◌∷◌, length, get_or, refl, sym, ap, subst, arith}, lemmas.Bool.cases_lt}
+use Rattle.std.specs.{List.AllZip, Prelude.{Option, Some, None, Contains, slice_get, zip}}
 use Rattle.dim_hierarchy.specs.Dimension.{Dimension}
-use Rattle.row_ledger.specs.Classes.{class_of}
-use Rattle.row_ledger.specs.declared.event.Event.{Event}
-use Rattle.row_ledger.specs.declared.event.Event.TheVariants.{Called}
-use Rattle.row_ledger.specs.declared.settings.Call.{Call}
-use Rattle.row_ledger.specs.declared.settings.Use.{Use}
-use Rattle.row_ledger.specs.Past.{before, event_at}
-use Rattle.script_form.specs.declared.script.Command.{Command}
-use Rattle.script_form.specs.declared.script.Command.TheVariants.{Insert, Query, Control}
-use Rattle.script_run.proofs.Begin.{bool-or}
-use Rattle.script_run.proofs.Ranks.{least, ranks-closing, ranks-open}
-use Rattle.script_run.proofs.Whole.{places-length, ranks-length, same-default, second}
-use Rattle.script_run.specs.Between.{ClosingLaw}
-use Rattle.script_run.specs.Parts.{place_in}
-use Rattle.script_run.specs.Phases.{closes, is_closing, ranks, ranks_from}
-use Rattle.script_run.specs.Places.{places}
-use Rattle.script_run.specs.Runs.{Begins, BeginsAt, EndsBefore, IsRunSoFar}
+use Rattle.row_ledger.specs.{Classes.class_of, Past.{before, event_at}, declared.event.Event.Event, declared.event.Event.TheVariants.Called, declared.settings.Call.Call, declared.settings.Use.Use}
+use Rattle.script_form.specs.{declared.script.Command.Command, declared.script.Command.TheVariants.{Insert, Query, Control}}
+use Rattle.script_run.proofs.{Begin.bool-or, Ranks.{least, ranks-closing, ranks-open}, Whole.{places-length, ranks-length, same-default, second}}
+use Rattle.script_run.specs.{Between.ClosingLaw, Parts.place_in, Phases.{closes, is_closing, ranks, ranks_from}, Places.places, Runs.{Begins, BeginsAt, EndsBefore, IsRunSoFar}}
 
 -- Ranks.
 

@@ -2,15 +2,10 @@
 use Rattle.std.proofs.Common.{◌≡◌, ◌≢◌, ◌∙◌, ℕ, ◌<◌, ◌≤◌, ◌⊎◌, inl, inr, false, List, ◌∷◌, length, refl, sym, ap, subst, arith}
 use Rattle.std.specs.Prelude.{Option, Some, None, slice_get, IsTrue}
 use Rattle.dim_hierarchy.specs.Dimension.{Dimension}
-use Rattle.row_ledger.specs.declared.event.Event.{Event}
-use Rattle.row_ledger.specs.declared.event.Event.TheVariants.{Ended}
-use Rattle.row_ledger.specs.declared.settings.Use.{Use}
-use Rattle.row_ledger.specs.Past.{event_at, is_over, is_beginning}
+use Rattle.row_ledger.specs.{Past.{event_at, is_over, is_beginning}, declared.event.Event.Event, declared.event.Event.TheVariants.Ended, declared.settings.Use.Use}
 use Rattle.row_ledger.proofs.Positions.{event_at-here, event_at-older, event_at-past, before-older, before-here}
-use Rattle.script_form.specs.declared.script.Command.{Command}
-use Rattle.script_form.specs.declared.script.Command.TheVariants.{Insert, Query, Control}
-use Rattle.script_run.specs.Runs.{HasPulls, Begins, BeginsAt, EndsBefore}
-use Rattle.script_run.specs.Parts.{IsPartAt, IsNext, HasPlace}
+use Rattle.script_form.specs.{declared.script.Command.Command, declared.script.Command.TheVariants.{Insert, Query, Control}}
+use Rattle.script_run.specs.{Parts.{IsPartAt, IsNext, HasPlace}, Runs.{HasPulls, Begins, BeginsAt, EndsBefore}}
 
 pub below-or : (a b : ℕ) → (a < b) ⊎ (b ≤ a)
 below-or a b = grind arith

@@ -1,16 +1,9 @@
 -- A phase goes on, event by event.
 use Rattle.std.proofs.Common.{◌≡◌, ◌∙◌, inl, inr, false, [], ◌∷◌, ◌++◌, length, get_or, sym, ap, subst, arith}
 use Rattle.std.specs.Prelude.{None, is_some}
-use Rattle.row_ledger.specs.declared.event.Event.{Event}
-use Rattle.row_ledger.specs.Past.{session_in, is_beginning}
-use Rattle.script_run.specs.Places.{session_of}
-use Rattle.script_run.specs.Parts.{IsPartAt, Waits, place_in}
-use Rattle.script_run.specs.Streams.{AreBehind, PhaseBeginLaw, PhaseOtherLaw, RankLaw}
-use Rattle.script_run.proofs.Grow.{begin, other}
-use Rattle.script_run.proofs.Begin.{places-other}
-use Rattle.script_run.proofs.NextCommand.{next_law, over-now}
-use Rattle.script_run.proofs.StreamSteps.{begin_law, other_law, over-older}
-use Rattle.script_run.proofs.Ranks.{law-from}
+use Rattle.row_ledger.specs.{Past.{session_in, is_beginning}, declared.event.Event.Event}
+use Rattle.script_run.specs.{Parts.{IsPartAt, Waits, place_in}, Places.session_of, Streams.{AreBehind, PhaseBeginLaw, PhaseOtherLaw, RankLaw}}
+use Rattle.script_run.proofs.{Begin.places-other, Grow.{begin, other}, NextCommand.{next_law, over-now}, Ranks.law-from, StreamSteps.{begin_law, other_law, over-older}}
 
 no-beginning : (e : Event) → session_in e ≡ None → is_beginning e ≡ false
 no-beginning e none = ap is_some none

@@ -1,15 +1,10 @@
 -- The next command of a stream begins.
 use Rattle.std.proofs.Common.{◌≡◌, ◌≢◌, ◌∙◌, ℕ, zero, suc, ◌<◌, ◌⊎◌, inl, inr, List, [], ◌∷◌, ◌++◌, length, get_or, take, refl, sym, ap, subst, arith}
 use Rattle.std.specs.Prelude.{Option, Some, None, slice_get, IsTrue}
-use Rattle.row_ledger.specs.declared.event.Event.{Event}
-use Rattle.row_ledger.specs.declared.settings.Use.{Use}
-use Rattle.row_ledger.specs.Past.{is_over, session_in}
+use Rattle.row_ledger.specs.{Past.{is_over, session_in}, declared.event.Event.Event, declared.settings.Use.Use}
 use Rattle.script_form.specs.declared.script.Command.{Command}
-use Rattle.script_run.specs.Places.{session_of, count_of, begins_of, places, places_behind}
-use Rattle.script_run.proofs.PlaceFacts.{places_behind-length}
-use Rattle.script_run.specs.Parts.{HasPlace, place_in}
-use Rattle.script_run.specs.Streams.{NextLaw}
-use Rattle.script_run.proofs.Begin.{places-begin}
+use Rattle.script_run.specs.{Parts.{HasPlace, place_in}, Places.{session_of, count_of, begins_of, places, places_behind}, Streams.NextLaw}
+use Rattle.script_run.proofs.{Begin.places-begin, PlaceFacts.places_behind-length}
 
 pub take-front : {A : Type 0} → (xs ys : List A) → take (length xs) (xs ++ ys) ≡ xs
 take-front [] ys = refl

@@ -1,23 +1,11 @@
 -- A phase begins and ends.
-use Rattle.std.proofs.Common.{◌≡◌, ◌∙◌, ℕ, zero, suc, ◌+◌, ◌*◌, ◌<◌, ◌≤◌, inl, inr, Bool, true, false, List, [], ◌∷◌, ◌++◌, length, map, get_or, refl, sym, ap, subst, arith}
-use Rattle.std.specs.Prelude.{Option, Some, None, slice_get, IsTrue, ◌&&◌, if◌then◌else◌}
-use Rattle.std.specs.List.{list_all}
-use Rattle.std.proofs.lemmas.Option.{slice_get_within}
-use Rattle.std.proofs.Math.ListN.{get_or-append}
+use Rattle.std.proofs.{Common.{◌≡◌, ◌∙◌, ℕ, zero, suc, ◌+◌, ◌*◌, ◌<◌, ◌≤◌, inl, inr, Bool, true, false, List, [], ◌∷◌, ◌++◌, length, map, get_or, refl, sym, ap, subst, arith}, Math.ListN.get_or-append, lemmas.Option.slice_get_within}
+use Rattle.std.specs.{List.list_all, Prelude.{Option, Some, None, slice_get, IsTrue, ◌&&◌, if◌then◌else◌}}
 use Rattle.dim_hierarchy.specs.Dimension.{Dimension}
-use Rattle.row_ledger.specs.declared.event.Event.{Event}
-use Rattle.row_ledger.specs.declared.settings.Use.{Use}
-use Rattle.row_ledger.specs.Past.{is_over}
+use Rattle.row_ledger.specs.{Past.is_over, declared.event.Event.Event, declared.settings.Use.Use}
 use Rattle.script_form.specs.declared.script.Command.{Command}
-use Rattle.script_run.specs.Phases.{ranks_from, closes}
-use Rattle.script_run.specs.Places.{session_of, count_of, begins_of, places, places_behind, is_over_at, are_over}
-use Rattle.script_run.proofs.PlaceFacts.{places_behind-append, places_behind-none}
-use Rattle.script_run.specs.Runs.{BeginsAt, EndsBefore}
-use Rattle.script_run.specs.Parts.{IsPartAt, Waits, place_in}
-use Rattle.script_run.specs.Streams.{FinishLaw, StartLaw}
-use Rattle.script_run.proofs.Grow.{below-or, ends-none}
-use Rattle.script_run.proofs.NextCommand.{over-now}
-use Rattle.script_run.proofs.Whole.{part_law, get-some, places-length}
+use Rattle.script_run.specs.{Parts.{IsPartAt, Waits, place_in}, Phases.{ranks_from, closes}, Places.{session_of, count_of, begins_of, places, places_behind, is_over_at, are_over}, Runs.{BeginsAt, EndsBefore}, Streams.{FinishLaw, StartLaw}}
+use Rattle.script_run.proofs.{Grow.{below-or, ends-none}, NextCommand.over-now, PlaceFacts.{places_behind-append, places_behind-none}, Whole.{part_law, get-some, places-length}}
 
 -- what holds of each place of a list holds of all
 pub all-over : (history : List Event) (ps : List (Option ℕ)) → ((i : ℕ) → i < length ps → (p : ℕ) × (get_or ps i None ≡ Some p) × IsTrue (is_over history p)) → IsTrue (are_over history ps)

@@ -1,12 +1,8 @@
 -- Phases: how a list of commands falls into them.
-use Rattle.std.proofs.Common.{◌≡◌, ◌∙◌, ℕ, zero, suc, ◌<◌, ◌≤◌, true, false, List, [], ◌∷◌, ◌++◌, length, take, drop, refl, sym, ap, arith, subst, get_or, inl, inr}
+use Rattle.std.proofs.{Common.{◌≡◌, ◌∙◌, ℕ, zero, suc, ◌<◌, ◌≤◌, true, false, List, [], ◌∷◌, ◌++◌, length, take, drop, refl, sym, ap, arith, subst, get_or, inl, inr}, Math.Seq.{take-length, drop-length}, lemmas.Bool.cases_Bool, lemmas.Grind.flat_map-append}
 use Rattle.std.specs.List.{AllByRecursion}
-use Rattle.std.proofs.lemmas.Bool.{cases_Bool}
-use Rattle.std.proofs.lemmas.Grind.{flat_map-append}
-use Rattle.std.proofs.Math.Seq.{take-length, drop-length}
 use Rattle.script_form.specs.declared.script.Command.{Command}
-use Rattle.script_run.specs.Phases.{closes, with_first, phases, all_of}
-use Rattle.script_run.specs.Streams.{NoneCloses}
+use Rattle.script_run.specs.{Phases.{closes, with_first, phases, all_of}, Streams.NoneCloses}
 
 -- commands up to the first that closes are a phase
 

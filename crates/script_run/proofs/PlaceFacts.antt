@@ -1,12 +1,7 @@
 -- Where commands begin, as the history and the list of commands grow.
-use Rattle.std.proofs.Common.{◌≡◌, ◌∙◌, ℕ, suc, ◌+◌, ◌<◌, ◌≤◌, true, false, List, [], ◌∷◌, ◌++◌, length, map, refl, sym, ap, arith, append_assoc, append-nil, length-append}
+use Rattle.std.proofs.{Common.{◌≡◌, ◌∙◌, ℕ, suc, ◌+◌, ◌<◌, ◌≤◌, true, false, List, [], ◌∷◌, ◌++◌, length, map, refl, sym, ap, arith, append_assoc, append-nil, length-append}, Math.ListN.get_or-append, lemmas.Bool.eq-eqb, lemmas.List.Sums.sum_by-append, lemmas.Option.{slice_get_past, slice_get-get_or}}
 use Rattle.std.specs.Prelude.{Some, None, slice_get}
-use Rattle.std.proofs.lemmas.List.Sums.{sum_by-append}
-use Rattle.std.proofs.lemmas.Option.{slice_get_past, slice_get-get_or}
-use Rattle.std.proofs.lemmas.Bool.{eq-eqb}
-use Rattle.std.proofs.Math.ListN.{get_or-append}
-use Rattle.row_ledger.specs.declared.event.Event.{Event}
-use Rattle.row_ledger.specs.declared.settings.Use.{Use}
+use Rattle.row_ledger.specs.{declared.event.Event.Event, declared.settings.Use.Use}
 use Rattle.script_form.specs.declared.script.Command.{Command}
 use Rattle.script_run.specs.Places.{session_of, count_of, begins_in, begins_of, place_behind, places_behind}
 

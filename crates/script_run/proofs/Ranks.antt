@@ -2,8 +2,7 @@
 use Rattle.std.proofs.Common.{◌≡◌, ◌∙◌, ℕ, zero, suc, ◌+◌, ◌*◌, ◌<◌, ◌≤◌, inl, inr, Bool, true, false, List, [], ◌∷◌, ◌++◌, length, get_or, refl, sym, ap, subst, arith}
 use Rattle.std.specs.Prelude.{if◌then◌else◌}
 use Rattle.script_form.specs.declared.script.Command.{Command}
-use Rattle.script_run.specs.Phases.{ranks_from, closes}
-use Rattle.script_run.specs.Streams.{NoneCloses}
+use Rattle.script_run.specs.{Phases.{ranks_from, closes}, Streams.NoneCloses}
 use Rattle.script_run.proofs.Begin.{bool-or}
 
 yes-of : (b : Bool) → b ≡ true → (xs ys : List ℕ) → (if b then xs else ys) ≡ xs

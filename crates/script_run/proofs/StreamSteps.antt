@@ -1,19 +1,11 @@
 -- Streams stay streams as the history grows.
 use Rattle.std.proofs.Common.{◌≡◌, ◌≢◌, ◌∙◌, ℕ, ◌+◌, ◌<◌, inl, inr, Bool, true, false, List, [], ◌∷◌, ◌++◌, length, get_or, take, refl, sym, ap, subst, arith, length-append}
-use Rattle.std.specs.Prelude.{Option, Some, None, slice_get, IsTrue, ◌||◌}
-use Rattle.std.specs.Option.{option_map_or}
-use Rattle.row_ledger.specs.declared.event.Event.{Event}
-use Rattle.row_ledger.specs.Past.{is_over, has_ended, event_at, ends_itself}
-use Rattle.row_ledger.proofs.Positions.{event_at-older}
-use Rattle.row_ledger.proofs.Older.{has_ended-older}
+use Rattle.std.specs.{Option.option_map_or, Prelude.{Option, Some, None, slice_get, IsTrue, ◌||◌}}
+use Rattle.row_ledger.specs.{Past.{is_over, has_ended, event_at, ends_itself}, declared.event.Event.Event}
+use Rattle.row_ledger.proofs.{Older.has_ended-older, Positions.event_at-older}
 use Rattle.script_form.specs.declared.script.Command.{Command}
-use Rattle.script_run.specs.Places.{session_of, count_of, begins_in, begins_of}
-use Rattle.script_run.proofs.PlaceFacts.{begins_of-here, begins_of-other}
-use Rattle.script_run.specs.Parts.{place_in}
-use Rattle.script_run.specs.Streams.{StreamBeginLaw, StreamOtherLaw}
-use Rattle.script_run.proofs.Grow.{within, same-or, below-or}
-use Rattle.script_run.proofs.Begin.{begins-none, begins-own, begins-same, bool-or, places-other}
-use Rattle.script_run.proofs.NextCommand.{take-front, get-middle, some-eq, over-now, has-place}
+use Rattle.script_run.specs.{Parts.place_in, Places.{session_of, count_of, begins_in, begins_of}, Streams.{StreamBeginLaw, StreamOtherLaw}}
+use Rattle.script_run.proofs.{Begin.{begins-none, begins-own, begins-same, bool-or, places-other}, Grow.{within, same-or, below-or}, NextCommand.{take-front, get-middle, some-eq, over-now, has-place}, PlaceFacts.{begins_of-here, begins_of-other}}
 
 or-more : (a b c d : Bool) → (a ≡ true → c ≡ true) → (b ≡ true → d ≡ true) → (a || b) ≡ true → (c || d) ≡ true
 or-more true b c d h k t = subst (λ x. (x || d) ≡ true) (sym (h refl)) refl

@@ -1,18 +1,11 @@
 -- A part by places is a part of a run.
-use Rattle.std.proofs.Common.{◌≡◌, ◌∙◌, ℕ, zero, suc, true, false, ◌+◌, ◌*◌, ◌<◌, ◌≤◌, inl, inr, List, [], ◌∷◌, length, get_or, refl, sym, ap, subst, arith}
-use Rattle.std.specs.Prelude.{Option, Some, None, slice_get, zip, if◌then◌else◌}
-use Rattle.std.specs.List.{AllZip}
-use Rattle.std.proofs.lemmas.Option.{slice_get-get_or, slice_get_within}
-use Rattle.std.proofs.lemmas.Slice.Zip.{get_or-zip}
+use Rattle.std.proofs.{Common.{◌≡◌, ◌∙◌, ℕ, zero, suc, true, false, ◌+◌, ◌*◌, ◌<◌, ◌≤◌, inl, inr, List, [], ◌∷◌, length, get_or, refl, sym, ap, subst, arith}, lemmas.Option.{slice_get-get_or, slice_get_within}, lemmas.Slice.Zip.get_or-zip}
+use Rattle.std.specs.{List.AllZip, Prelude.{Option, Some, None, slice_get, zip, if◌then◌else◌}}
 use Rattle.dim_hierarchy.specs.Dimension.{Dimension}
-use Rattle.row_ledger.specs.declared.event.Event.{Event}
-use Rattle.row_ledger.specs.declared.settings.Use.{Use}
+use Rattle.row_ledger.specs.{declared.event.Event.Event, declared.settings.Use.Use}
 use Rattle.script_form.specs.declared.script.Command.{Command}
-use Rattle.script_run.specs.Phases.{ranks, ranks_from, closes}
-use Rattle.script_run.specs.Places.{session_of, places}
+use Rattle.script_run.specs.{Parts.{IsPartAt, Waits, place_in, PartLaw, SerialLaw}, Phases.{ranks, ranks_from, closes}, Places.{session_of, places}, Runs.{BeginsAt, EndsBefore}}
 use Rattle.script_run.proofs.PlaceFacts.{places_behind-length}
-use Rattle.script_run.specs.Runs.{BeginsAt, EndsBefore}
-use Rattle.script_run.specs.Parts.{IsPartAt, Waits, place_in, PartLaw, SerialLaw}
 
 all-zip : {A B : Type 0} → (R : A → B → Type 0) (xs : List A) (ys : List B) (d : B) → length ys ≡ length xs
     → ((i : ℕ) (x : A) → slice_get xs i ≡ Some x → R x (get_or ys i d)) → AllZip R xs ys

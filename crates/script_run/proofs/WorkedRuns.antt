@@ -3,15 +3,9 @@ use Rattle.std.proofs.Common.{◌≡◌, ℕ, zero, suc, IsTrue, List, [], ◌�
 use Rattle.std.specs.Prelude.{Option, Some, None}
 use Rattle.describing_set.specs.declared.listing.Spot.{Spot}
 use Rattle.dim_hierarchy.specs.Dimension.{Dimension}
-use Rattle.row_ledger.specs.declared.event.Event.{Event}
-use Rattle.row_ledger.specs.declared.event.Event.TheVariants.{Called}
-use Rattle.row_ledger.specs.declared.settings.Call.TheVariants.{Settle}
-use Rattle.row_ledger.specs.Past.{event_at, is_beginning}
+use Rattle.row_ledger.specs.{Past.{event_at, is_beginning}, declared.event.Event.Event, declared.event.Event.TheVariants.Called, declared.settings.Call.TheVariants.Settle}
 use Rattle.row_ledger.proofs.Positions.{event_at-past}
-use Rattle.script_run.specs.Phases.{ranks, ranks_from}
-use Rattle.script_run.specs.Places.{begins_of, places, places_behind}
-use Rattle.script_run.specs.Runs.{IsRunOf}
-use Rattle.script_run.specs.Worked.{settle, settled, two}
+use Rattle.script_run.specs.{Phases.{ranks, ranks_from}, Places.{begins_of, places, places_behind}, Runs.IsRunOf, Worked.{settle, settled, two}}
 
 place : (l : List Spot) → places two settle (settled l) ≡ Some 2 ∷ []
 unfolding places_behind begins_of

@@ -2,19 +2,9 @@
 -- other.
 use Rattle.std.specs.Prelude.{ℕ, true, false, ◌≡◌, ◌≢◌, ◌<◌, ◌≤◌, ◌⊎◌, IsTrue, Option, Some, None, List, [], ◌∷◌, ◌++◌, length, slice_get}
 use Rattle.dim_hierarchy.specs.Dimension.{Dimension}
-use Rattle.row_ledger.specs.Classes.{class_of}
-use Rattle.row_ledger.specs.Past.{event_at, is_beginning, is_over, session_in}
-use Rattle.row_ledger.specs.Right.{EachEvent}
-use Rattle.row_ledger.specs.declared.event.Event.{Event}
-use Rattle.row_ledger.specs.declared.event.Event.TheVariants.{Called}
-use Rattle.row_ledger.specs.declared.settings.Call.{Call}
-use Rattle.row_ledger.specs.declared.settings.Use.{Use}
+use Rattle.row_ledger.specs.{Classes.class_of, Past.{event_at, is_beginning, is_over, session_in}, Right.EachEvent, declared.event.Event.Event, declared.event.Event.TheVariants.Called, declared.settings.Call.Call, declared.settings.Use.Use}
 use Rattle.script_form.specs.declared.script.Command.{Command}
-use Rattle.script_run.specs.Parts.{IsPartAt, Waits, place_in}
-use Rattle.script_run.specs.Phases.{is_closing}
-use Rattle.script_run.specs.Places.{begins_of, count_of, session_of}
-use Rattle.script_run.specs.Runs.{HasPulls, Begins, EndsBefore, IsRunOf, IsRunSoFar}
-use Rattle.script_run.specs.Streams.{AreFinished, IsInPhase}
+use Rattle.script_run.specs.{Parts.{IsPartAt, Waits, place_in}, Phases.is_closing, Places.{begins_of, count_of, session_of}, Runs.{HasPulls, Begins, EndsBefore, IsRunOf, IsRunSoFar}, Streams.{AreFinished, IsInPhase}}
 
 -- Between phases.
 

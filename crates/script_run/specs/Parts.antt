@@ -1,15 +1,9 @@
 -- A part of a run, by the places of the commands.
-use Rattle.std.specs.Prelude.{ℕ, ◌≡◌, ◌≢◌, ◌<◌, ◌⊎◌, IsTrue, Option, Some, None, List, slice_get}
+use Rattle.std.specs.{List.slice_index_or, Prelude.{ℕ, ◌≡◌, ◌≢◌, ◌<◌, ◌⊎◌, IsTrue, Option, Some, None, List, slice_get}}
 use Rattle.dim_hierarchy.specs.Dimension.{Dimension}
-use Rattle.row_ledger.specs.declared.event.Event.{Event}
-use Rattle.row_ledger.specs.declared.settings.Use.{Use}
-use Rattle.row_ledger.specs.Past.{event_at, is_over, is_beginning}
-use Rattle.row_ledger.specs.Right.{EachEvent}
+use Rattle.row_ledger.specs.{Past.{event_at, is_over, is_beginning}, Right.EachEvent, declared.event.Event.Event, declared.settings.Use.Use}
 use Rattle.script_form.specs.declared.script.Command.{Command}
-use Rattle.script_run.specs.Places.{session_of, places}
-use Rattle.script_run.specs.Runs.{HasPulls, Begins, BeginsAt, EndsBefore, IsRunSoFar, IsSerial}
-use Rattle.script_run.specs.Phases.{ranks}
-use Rattle.std.specs.List.{slice_index_or}
+use Rattle.script_run.specs.{Phases.ranks, Places.{session_of, places}, Runs.{HasPulls, Begins, BeginsAt, EndsBefore, IsRunSoFar, IsSerial}}
 
 -- Of commands that begin at these places: each that has begun begins as it is to, nothing else begins, and each ends before
 -- one begins that has to wait for it.

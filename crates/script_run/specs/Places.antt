@@ -1,16 +1,8 @@
 -- Where the commands of a script begin in a history: the first command of a session with the session's first beginning,
 -- the second with the second, and so on.
-use Rattle.std.specs.Prelude.{ℕ, ◌+◌, ◌==◌, Bool, false, Option, if◌then◌else◌, List, [], ◌∷◌, ◌++◌, length, count_by, find, slice_get}
-use Rattle.std.specs.List.{list_all}
-use Rattle.std.specs.Option.{option_map_or}
-use Rattle.row_ledger.specs.declared.event.Event.{Event}
-use Rattle.row_ledger.specs.Classes.{class_of}
-use Rattle.row_ledger.specs.declared.class.Class.{Class}
-use Rattle.row_ledger.specs.declared.class.Class.TheVariants.{Sync}
-use Rattle.row_ledger.specs.declared.settings.Use.{Use}
-use Rattle.row_ledger.specs.Past.{session_in, is_end_of, is_over}
-use Rattle.script_form.specs.declared.script.Command.{Command}
-use Rattle.script_form.specs.declared.script.Command.TheVariants.{Insert, Query, Control}
+use Rattle.std.specs.{List.list_all, Option.option_map_or, Prelude.{ℕ, ◌+◌, ◌==◌, Bool, false, Option, if◌then◌else◌, List, [], ◌∷◌, ◌++◌, length, count_by, find, slice_get}}
+use Rattle.row_ledger.specs.{Classes.class_of, Past.{session_in, is_end_of, is_over}, declared.class.Class.Class, declared.class.Class.TheVariants.Sync, declared.event.Event.Event, declared.settings.Use.Use}
+use Rattle.script_form.specs.{declared.script.Command.Command, declared.script.Command.TheVariants.{Insert, Query, Control}}
 
 -- the session of a called command: a sync's is the pulling one, any other's the controlling one
 abbrev pub session_of_call : Use → Class → ℕ

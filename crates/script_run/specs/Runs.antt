@@ -1,25 +1,9 @@
 -- A history is a run of a script's commands, whole or in part.
-use Rattle.std.specs.Prelude.{ℕ, ◌≡◌, ◌+◌, ◌<◌, ◌⊎◌, ⊤, Bool, true, false, IsTrue, Option, Some, None, is_none, List, zip, position, AllPairs, Contains, IfSome, [], ◌∷◌, length, take}
-use Rattle.std.specs.List.{AllZip}
-use Rattle.dim_hierarchy.specs.Dimension.{Dimension}
-use Rattle.dim_hierarchy.specs.Row.{IsCoordNamed, leaves}
-use Rattle.dim_hierarchy.specs.Filter.{IsFilterNamed, picks}
-use Rattle.row_ledger.specs.Classes.{class_of}
-use Rattle.row_ledger.specs.declared.class.Class.{Class}
-use Rattle.row_ledger.specs.declared.class.Class.TheVariants.{Sync, Settle, Bare}
-use Rattle.row_ledger.specs.declared.event.Event.{Event}
-use Rattle.row_ledger.specs.declared.event.Event.TheVariants.{Begun, Acked, Asked, Unknown, Failed, Refused, Called, Ended}
-use Rattle.row_ledger.specs.declared.settings.Use.{Use}
-use Rattle.row_ledger.specs.Past.{event_at, before, is_over, is_beginning, call_at}
-use Rattle.row_ledger.specs.Right.{EachEvent}
-use Rattle.row_ledger.specs.Settled.{pulls_since, settle_pulls}
-use Rattle.row_ledger.specs.Site.{known}
-use Rattle.row_ledger.specs.declared.settings.How.{How}
-use Rattle.row_ledger.specs.declared.settings.How.TheVariants.{Fine, NoMemory}
-use Rattle.script_form.specs.declared.script.Command.{Command}
-use Rattle.script_form.specs.declared.script.Command.TheVariants.{Insert, Query, Control}
-use Rattle.script_run.specs.Phases.{phases_to, ranks}
-use Rattle.script_run.specs.Places.{session_of, session_of_call, server_for, places, are_over, end_of}
+use Rattle.std.specs.{List.AllZip, Prelude.{ℕ, ◌≡◌, ◌+◌, ◌<◌, ◌⊎◌, ⊤, Bool, true, false, IsTrue, Option, Some, None, is_none, List, zip, position, AllPairs, Contains, IfSome, [], ◌∷◌, length, take}}
+use Rattle.dim_hierarchy.specs.{Dimension.Dimension, Filter.{IsFilterNamed, picks}, Row.{IsCoordNamed, leaves}}
+use Rattle.row_ledger.specs.{Classes.class_of, Past.{event_at, before, is_over, is_beginning, call_at}, Right.EachEvent, Settled.{pulls_since, settle_pulls}, Site.known, declared.class.Class.Class, declared.class.Class.TheVariants.{Sync, Settle, Bare}, declared.event.Event.Event, declared.event.Event.TheVariants.{Begun, Acked, Asked, Unknown, Failed, Refused, Called, Ended}, declared.settings.How.How, declared.settings.How.TheVariants.{Fine, NoMemory}, declared.settings.Use.Use}
+use Rattle.script_form.specs.{declared.script.Command.Command, declared.script.Command.TheVariants.{Insert, Query, Control}}
+use Rattle.script_run.specs.{Phases.{phases_to, ranks}, Places.{session_of, session_of_call, server_for, places, are_over, end_of}}
 
 -- How a command begins, and that one ends before another begins.
 

@@ -1,15 +1,9 @@
 -- What a run keeps of its streams while a phase goes on.
-use Rattle.std.specs.Prelude.{ℕ, false, ◌≡◌, ◌≢◌, ◌+◌, ◌<◌, ◌≤◌, ◌⊎◌, IsTrue, Option, Some, None, List, ◌∷◌, ◌++◌, length, take, slice_get}
-use Rattle.std.specs.List.{AllByRecursion, slice_index_or}
+use Rattle.std.specs.{List.{AllByRecursion, slice_index_or}, Prelude.{ℕ, false, ◌≡◌, ◌≢◌, ◌+◌, ◌<◌, ◌≤◌, ◌⊎◌, IsTrue, Option, Some, None, List, ◌∷◌, ◌++◌, length, take, slice_get}}
 use Rattle.dim_hierarchy.specs.Dimension.{Dimension}
-use Rattle.row_ledger.specs.declared.event.Event.{Event}
-use Rattle.row_ledger.specs.declared.settings.Use.{Use}
-use Rattle.row_ledger.specs.Past.{is_over, session_in}
+use Rattle.row_ledger.specs.{Past.{is_over, session_in}, declared.event.Event.Event, declared.settings.Use.Use}
 use Rattle.script_form.specs.declared.script.Command.{Command}
-use Rattle.script_run.specs.Phases.{ranks, closes}
-use Rattle.script_run.specs.Places.{session_of, count_of, begins_of}
-use Rattle.script_run.specs.Runs.{HasPulls, Begins, IsRunOf}
-use Rattle.script_run.specs.Parts.{IsPartAt, IsNext, HasPlace, Waits, place_in}
+use Rattle.script_run.specs.{Parts.{IsPartAt, IsNext, HasPlace, Waits, place_in}, Phases.{ranks, closes}, Places.{session_of, count_of, begins_of}, Runs.{HasPulls, Begins, IsRunOf}}
 
 -- the session of every command is below this
 abbrev pub sessions : ℕ

@@ -1,13 +1,8 @@
 -- A worked run: two servers, and a script of the one command settle.
 use Rattle.std.specs.Prelude.{List, [], ◌∷◌}
 use Rattle.describing_set.specs.declared.listing.Spot.{Spot}
-use Rattle.row_ledger.specs.declared.event.Event.{Event}
-use Rattle.row_ledger.specs.declared.event.Event.TheVariants.{Synced, Called, Ended}
-use Rattle.row_ledger.specs.declared.settings.Call.TheVariants.{Settle}
-use Rattle.row_ledger.specs.declared.settings.How.TheVariants.{Fine}
-use Rattle.row_ledger.specs.declared.settings.Use.{Use}
-use Rattle.script_form.specs.declared.script.Command.{Command}
-use Rattle.script_form.specs.declared.script.Command.TheVariants.{Control}
+use Rattle.row_ledger.specs.{declared.event.Event.Event, declared.event.Event.TheVariants.{Synced, Called, Ended}, declared.settings.Call.TheVariants.Settle, declared.settings.How.TheVariants.Fine, declared.settings.Use.Use}
+use Rattle.script_form.specs.{declared.script.Command.Command, declared.script.Command.TheVariants.Control}
 
 abbrev pub two : Use
 two = record { servers = 2; workers = 1; threads = 1; cells = 64 }

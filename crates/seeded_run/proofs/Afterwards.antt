@@ -1,21 +1,10 @@
 -- What becomes of a core by a step: what was due in it, where the state stayed as it was, and its history.
 use Rattle.std.proofs.Common.{ℕ, suc, ◌≡◌, ◌≢◌, Bool, true, false, List, ◌∷◌, length, Option, Some, None, inl, inr, refl, sym, ap, ◌∙◌, subst, arith}
-use Rattle.core_steps.specs.Added.{AddsQuiet}
-use Rattle.core_steps.specs.Ready.{Stays}
+use Rattle.core_steps.specs.{Added.AddsQuiet, Ready.Stays}
 use Rattle.dim_hierarchy.specs.Dimension.{Dimension}
-use Rattle.row_ledger.specs.declared.event.Event.{Event}
-use Rattle.row_ledger.specs.declared.settings.Use.{Use}
-use Rattle.volap_cell.specs.Setting.{Setting, ledger_cell}
-use Rattle.volap_cell.specs.State.{Stepped}
-use Rattle.volap_cell.specs.Steps.{history_in}
-use Rattle.volap_cell.specs.World.{World}
-use Rattle.volap_cell.specs.declared.actor.Actor.{Actor}
-use Rattle.volap_cell.specs.declared.cell.Cell.{Cell}
-use Rattle.volap_cell.specs.declared.kind.Kind.{Kind}
-use Rattle.volap_cell.specs.declared.kind.Kind.TheVariants.{Note}
-use Rattle.seeded_run.specs.Arms.{GoesOnWithCommand, TellsIfNote}
-use Rattle.seeded_run.specs.Core.{IsCore}
-use Rattle.seeded_run.specs.Instead.{in_place_of}
+use Rattle.row_ledger.specs.{declared.event.Event.Event, declared.settings.Use.Use}
+use Rattle.volap_cell.specs.{Setting.{Setting, ledger_cell}, State.Stepped, Steps.history_in, World.World, declared.actor.Actor.Actor, declared.cell.Cell.Cell, declared.kind.Kind.Kind, declared.kind.Kind.TheVariants.Note}
+use Rattle.seeded_run.specs.{Arms.{GoesOnWithCommand, TellsIfNote}, Core.IsCore, Instead.in_place_of}
 use Rattle.seeded_run.proofs.Instead.{falls-to}
 
 -- a history isn't one that has an event more

@@ -1,62 +1,18 @@
 -- A step that begins the next command of its session keeps what holds between the steps of a phase.
-use Rattle.std.proofs.Common.{◌≡◌, ◌≢◌, ◌∙◌, ℕ, zero, suc, ◌+◌, ◌-◌, ◌<◌, ◌≤◌, ◌⊎◌, inl, inr, Bool, true, false, List, [], ◌∷◌, ◌++◌, length, take, drop, Option, Some, None, refl, sym, ap, subst, arith, append_assoc, length-append}
-use Rattle.std.specs.Prelude.{◌==◌, ◌||◌, IsTrue, slice_get}
-use Rattle.std.specs.List.{slice_index_or}
-use Rattle.std.specs.Option.{option_map_or}
-use Rattle.std.proofs.lemmas.Bool.{eq-eqb, ne_eqb}
-use Rattle.std.proofs.lemmas.List.{length-take-le}
-use Rattle.std.proofs.lemmas.Option.{slice_get_within}
-use Rattle.volap_cell.proofs.PartLists.{splits-at}
+use Rattle.std.proofs.{Common.{◌≡◌, ◌≢◌, ◌∙◌, ℕ, zero, suc, ◌+◌, ◌-◌, ◌<◌, ◌≤◌, ◌⊎◌, inl, inr, Bool, true, false, List, [], ◌∷◌, ◌++◌, length, take, drop, Option, Some, None, refl, sym, ap, subst, arith, append_assoc, length-append}, lemmas.Bool.{eq-eqb, ne_eqb}, lemmas.List.length-take-le, lemmas.Option.slice_get_within}
+use Rattle.std.specs.{List.slice_index_or, Option.option_map_or, Prelude.{◌==◌, ◌||◌, IsTrue, slice_get}}
+use Rattle.volap_cell.proofs.{Desks.Lists.splits-at, OneEvent.Noted.end-begins-none}
 use Rattle.dim_hierarchy.specs.Dimension.{Dimension}
-use Rattle.row_ledger.specs.Classes.{class_of}
-use Rattle.row_ledger.specs.declared.settings.Call.{Call}
+use Rattle.row_ledger.specs.{Classes.class_of, Past.{ends_itself, event_at, has_ended, is_over, session_in}, Settled.pulls_since, declared.event.Event.Event, declared.settings.Call.Call, declared.settings.Use.Use}
 use Rattle.row_ledger.proofs.Positions.{event_at-here}
-use Rattle.row_ledger.specs.Past.{ends_itself, event_at, has_ended, is_over, session_in}
-use Rattle.row_ledger.specs.declared.event.Event.{Event}
 use Rattle.row_ledger.specs.declared.event.Event.TheVariants as event
-use Rattle.row_ledger.specs.declared.settings.Use.{Use}
 use Rattle.script_form.specs.declared.script.Command.{Command}
 use Rattle.script_form.specs.declared.script.Command.TheVariants as script
-use Rattle.script_run.proofs.Begin.{begins-own}
-use Rattle.script_run.proofs.Between.{get-behind, none-count, order-begin-law}
-use Rattle.script_run.proofs.InPhase.{phase_begin_law, rank_law}
-use Rattle.script_run.proofs.NextCommand.{take-front}
-use Rattle.script_run.proofs.PhaseEnds.{get-first}
-use Rattle.script_run.proofs.PlaceFacts.{begins_of-here, begins_of-other, count_of-append}
-use Rattle.script_run.proofs.Whole.{get-some}
-use Rattle.script_run.specs.Between.{IsInOrder}
-use Rattle.script_run.specs.Parts.{place_in}
-use Rattle.script_run.specs.Phases.{closes, is_closing, ranks}
-use Rattle.script_run.specs.Streams.{NoneCloses, IsInPhase, IsReady, StepsOn}
-use Rattle.script_run.specs.Places.{begins_of, count_of, is_over_at, session_of}
-use Rattle.row_ledger.specs.Settled.{pulls_since}
-use Rattle.script_run.specs.Runs.{Begins}
-use Rattle.volap_cell.specs.Ghost.{Ghost}
-use Rattle.volap_cell.specs.ImageKinds.{doing}
-use Rattle.volap_cell.specs.Invariant.{InvWith}
-use Rattle.volap_cell.specs.Setting.{Setting}
-use Rattle.volap_cell.specs.Steps.{history_in}
-use Rattle.volap_cell.specs.View.{view}
-use Rattle.volap_cell.specs.World.{World}
-use Rattle.volap_cell.specs.declared.command.Command.{Command as OpenCommand}
-use Rattle.volap_cell.specs.declared.command.Work.{Work}
-use Rattle.volap_cell.specs.declared.role.Role.TheVariants.{Hand}
-use Rattle.seeded_run.proofs.LeftAlone.{IsAtCommand, alone-parts, apart, closing-alone, does-nothing, next-due, same-or-not}
-use Rattle.seeded_run.proofs.Counted.{counted-law}
-use Rattle.seeded_run.proofs.Cursors.{first-law, is-one}
-use Rattle.seeded_run.proofs.Firsts.{IsFirst, first-at, first-fails, first-pass, first-some, over-at, over-place, over-still, over_in, place-behind, place-now, place_since}
-use Rattle.seeded_run.proofs.Keeps.{Own, OwnPulls, behind-by, can-first, doing-is, idle-from, is-at-command, kept-by, none-some, one-more, opened-other}
-use Rattle.seeded_run.proofs.PhaseRuns.{is-actor, low-or-high, opened-none, past-over, rest-past}
-use Rattle.seeded_run.proofs.Pulled.{begin-pulls-none, deed-session, pulled-none}
-use Rattle.seeded_run.proofs.Scripts.{hand-behind}
-use Rattle.seeded_run.proofs.Told.{told-law}
-use Rattle.seeded_run.specs.Cursors.{HasCursors}
-use Rattle.seeded_run.specs.Due.{desk_of, does_nothing, is_alone}
-use Rattle.seeded_run.specs.Kept.{IsTurn, KeepsBeginningLaw, MovesOn, QuietLaw}
-use Rattle.seeded_run.specs.Rests.{PhaseRun, first_open, rest_of, stream_of}
-use Rattle.seeded_run.specs.Running.{HasPulled, IsRunning, RunsBehind, behind, is_closing_work, opened_in}
-use Rattle.seeded_run.specs.Told.{OfBeginning, OfDeed, OfEnd, OfNothing, OfPage, OfPull, Opens, OpensNone, OpensOne, TellsBeginning, Told, begins_closing, is_of_part}
-use Rattle.volap_cell.proofs.NotedCommands.{end-begins-none}
+use Rattle.script_run.proofs.{Begin.begins-own, Between.{get-behind, none-count, order-begin-law}, InPhase.{phase_begin_law, rank_law}, NextCommand.take-front, PhaseEnds.get-first, PlaceFacts.{begins_of-here, begins_of-other, count_of-append}, Whole.get-some}
+use Rattle.script_run.specs.{Between.IsInOrder, Parts.place_in, Phases.{closes, is_closing, ranks}, Places.{begins_of, count_of, is_over_at, session_of}, Runs.Begins, Streams.{NoneCloses, IsInPhase, IsReady, StepsOn}}
+use Rattle.volap_cell.specs.{Ghost.Ghost, ImageKinds.doing, Invariant.InvWith, Setting.Setting, Steps.history_in, View.view, World.World, declared.command.Command.Command as OpenCommand, declared.command.Work.Work, declared.role.Role.TheVariants.Hand}
+use Rattle.seeded_run.proofs.{Counted.counted-law, Cursors.Cursors.{first-law, is-one}, Cursors.Firsts.{IsFirst, first-at, first-fails, first-pass, first-some, over-at, over-place, over-still, over_in, place-behind, place-now, place_since}, Holding.LeftAlone.{IsAtCommand, alone-parts, apart, closing-alone, does-nothing, next-due, same-or-not}, Phases.Keeps.{Own, OwnPulls, behind-by, can-first, doing-is, idle-from, is-at-command, kept-by, none-some, one-more, opened-other}, Phases.PhaseRuns.{is-actor, low-or-high, opened-none, past-over, rest-past}, Phases.Pulled.{begin-pulls-none, deed-session, pulled-none}, Scripts.hand-behind, Told.told-law}
+use Rattle.seeded_run.specs.{Cursors.HasCursors, Due.{desk_of, does_nothing, is_alone}, Kept.{IsTurn, KeepsBeginningLaw, MovesOn, QuietLaw}, Rests.{PhaseRun, first_open, rest_of, stream_of}, Running.{HasPulled, IsRunning, RunsBehind, behind, is_closing_work, opened_in}, Told.{OfBeginning, OfDeed, OfEnd, OfNothing, OfPage, OfPull, Opens, OpensNone, OpensOne, TellsBeginning, Told, begins_closing, is_of_part}}
 
 -- Lists of commands.
 

@@ -1,40 +1,16 @@
 -- What is due for an actor whose command may begin, or that can step at all.
-use Rattle.std.proofs.Common.{◌≡◌, ◌≢◌, ◌∙◌, ◌<◌, ◌&&◌, inl, inr, ℕ, Bool, true, false, not, ◌==◌, List, [], ◌∷◌, Option, Some, None, is_none, length, get_or, refl, sym, ap, subst}
+use Rattle.std.proofs.{Common.{◌≡◌, ◌≢◌, ◌∙◌, ◌<◌, ◌&&◌, inl, inr, ℕ, Bool, true, false, not, ◌==◌, List, [], ◌∷◌, Option, Some, None, is_none, length, get_or, refl, sym, ap, subst}, lemmas.Bool.eq-eqb}
 use Rattle.std.specs.Prelude.{if◌then◌else◌, slice_get}
 use Rattle.dim_hierarchy.specs.Dimension.{Dimension}
 use Rattle.query_router.specs.Desk.{DeskValue}
 use Rattle.script_form.specs.declared.script.Command.{Command}
 use Rattle.script_form.specs.declared.script.Command.TheVariants as script
-use Rattle.volap_cell.specs.Setting.{Setting}
-use Rattle.volap_cell.specs.Steps.{history_in}
-use Rattle.volap_cell.specs.Values.{ActorValue, ErrandValue, actor_of}
-use Rattle.volap_cell.specs.World.{World}
-use Rattle.volap_cell.specs.declared.actor.Actor.{Actor}
-use Rattle.volap_cell.specs.declared.command.Command.{Command as OpenCommand}
-use Rattle.volap_cell.specs.declared.kind.Kind.{Kind}
+use Rattle.volap_cell.specs.{Errands.way_of, Setting.Setting, Steps.history_in, Values.{ActorValue, ErrandValue, actor_of}, World.World, declared.actor.Actor.Actor, declared.command.Command.Command as OpenCommand, declared.kind.Kind.Kind, declared.role.Role.Role}
 use Rattle.volap_cell.specs.declared.kind.Kind.TheVariants as kind
-use Rattle.volap_cell.specs.declared.role.Role.{Role}
 use Rattle.volap_cell.specs.declared.role.Role.TheVariants as role
-use Rattle.volap_cell.proofs.States.{stands}
-use Rattle.std.proofs.lemmas.Bool.{eq-eqb}
-use Rattle.volap_cell.specs.Errands.{way_of}
-use Rattle.seeded_run.specs.Can.{can, is_carried_at}
-use Rattle.seeded_run.specs.Commands.{may_begin}
-use Rattle.seeded_run.specs.Due.{command_kind, due, desk_of, free_kind, is_alone, next_kind}
-use Rattle.seeded_run.specs.Look.{HasNextNames}
-use Rattle.seeded_run.specs.Machine.{BeginsNow, HasLeftOver, HasTurned, IsDueNow, IsDueStep, IsPhaseHeld, IsPhaseKept, TakesTurn, about_in, next_at, phase_of, world_of}
-use Rattle.seeded_run.specs.Rests.{first_open, rest_of}
-use Rattle.seeded_run.specs.Steps.{begins_by, begins_of_one, is_for_part}
-use Rattle.seeded_run.specs.Takes.{AsksHere, carries_at, free_by}
-use Rattle.seeded_run.specs.Told.{is_of_part}
-use Rattle.seeded_run.specs.declared.due_step.DueStep.TheVariants.{Begins, GoesOn}
-use Rattle.seeded_run.specs.declared.machine.Running.{Running}
-use Rattle.seeded_run.proofs.DueSteps.{begins-apart, begins-by-none, goes-by-one, kind-of}
-use Rattle.seeded_run.proofs.Held.{none-past, rest-none, rest-some}
-use Rattle.seeded_run.proofs.LeftAlone.{apart, at-command, both-parts, is-idle, off-part, or-true, same-or-not, true-or}
-use Rattle.seeded_run.proofs.Movers.{all-from}
-use Rattle.seeded_run.proofs.PhaseRuns.{script}
-use Rattle.seeded_run.proofs.StepsReady.{some-if}
+use Rattle.volap_cell.proofs.Cells.States.{stands}
+use Rattle.seeded_run.specs.{Can.{can, is_carried_at}, Commands.may_begin, Due.{command_kind, due, desk_of, free_kind, is_alone, next_kind}, Look.HasNextNames, Machine.{BeginsNow, HasLeftOver, HasTurned, IsDueNow, IsDueStep, IsPhaseHeld, IsPhaseKept, TakesTurn, about_in, next_at, phase_of, world_of}, Rests.{first_open, rest_of}, Steps.{begins_by, begins_of_one, is_for_part}, Takes.{AsksHere, carries_at, free_by}, Told.is_of_part, declared.due_step.DueStep.TheVariants.{Begins, GoesOn}, declared.machine.Running.Running}
+use Rattle.seeded_run.proofs.{Cursors.Held.{none-past, rest-none, rest-some}, Due.DueSteps.{begins-apart, begins-by-none, goes-by-one, kind-of}, Holding.LeftAlone.{apart, at-command, both-parts, is-idle, off-part, or-true, same-or-not, true-or}, Phases.Movers.all-from, Phases.PhaseRuns.script, Ready.StepsReady.some-if}
 
 may-of : (actors : List (Option Actor)) (n : ℕ) (k : Kind) → begins_by actors n k ≡ true → may_begin k ≡ true
 may-of actors n k = by (get_or actors n None)

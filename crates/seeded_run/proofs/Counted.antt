@@ -1,21 +1,11 @@
 -- A step that is no note leaves its actor counted at its desk as it was, and so does one that changes the history or its actor's
 -- command.
-use Rattle.std.proofs.Common.{◌≡◌, ◌∙◌, ◌⊎◌, inl, inr, ℕ, Bool, cond, eqb, List, [], ◌∷◌, refl, sym, ap, subst}
+use Rattle.std.proofs.{Common.{◌≡◌, ◌∙◌, ◌⊎◌, inl, inr, ℕ, Bool, cond, eqb, List, [], ◌∷◌, refl, sym, ap, subst}, lemmas.Bool.eqb-true}
 use Rattle.dim_hierarchy.specs.Dimension.{Dimension}
 use Rattle.row_ledger.specs.declared.event.Event.{Event}
 use Rattle.list_words.proofs.Truth.{on_bool, eqb-self}
-use Rattle.std.proofs.lemmas.Bool.{eqb-true}
-use Rattle.volap_cell.specs.AdminKinds.{Finishes, GivesUp}
-use Rattle.volap_cell.specs.Cells.{CellValue, ledger_in}
-use Rattle.volap_cell.specs.ImageKinds.{CountsSession, DoesNote, DoesNoteWith, OfUnknown, OfRefused, OfCalled, OfLeft, OfShown, OfEnded, OfCount, OfCalledAsking, OfUnrouted, OfQuery}
-use Rattle.volap_cell.specs.Kinds.{Does}
-use Rattle.volap_cell.specs.Setting.{ledger_cell}
-use Rattle.volap_cell.specs.Steps.{history_in}
-use Rattle.volap_cell.specs.Values.{ActorValue, JobValue}
-use Rattle.volap_cell.specs.World.{Agrees, Change, World, after}
-use Rattle.volap_cell.specs.declared.command.Work.{Work}
+use Rattle.volap_cell.specs.{AdminKinds.{Finishes, GivesUp}, Cells.{CellValue, ledger_in}, ImageKinds.{CountsSession, DoesNote, DoesNoteWith, OfUnknown, OfRefused, OfCalled, OfLeft, OfShown, OfEnded, OfCount, OfCalledAsking, OfUnrouted, OfQuery}, Kinds.Does, Setting.ledger_cell, Steps.history_in, Values.{ActorValue, JobValue}, World.{Agrees, Change, World, after}, declared.command.Work.Work, declared.kind.Kind.Kind}
 use Rattle.volap_cell.specs.declared.command.Work.TheVariants as work_is
-use Rattle.volap_cell.specs.declared.kind.Kind.{Kind}
 use Rattle.volap_cell.specs.declared.kind.Kind.TheVariants as kind
 use Rattle.seeded_run.specs.Measure.{CountedLaw}
 

@@ -4,17 +4,10 @@ use Rattle.core_shard.specs.Due.{HasEnd}
 use Rattle.core_steps.specs.Ready.{Stays}
 use Rattle.dim_hierarchy.specs.Dimension.{Dimension}
 use Rattle.row_ledger.specs.declared.settings.Use.{Use}
-use Rattle.volap_cell.proofs.States.{is-some, stands}
-use Rattle.volap_cell.specs.Setting.{Setting}
-use Rattle.volap_cell.specs.State.{Stepped}
-use Rattle.volap_cell.specs.Values.{ActorValue, ErrandValue, actor_of}
-use Rattle.volap_cell.specs.World.{World}
-use Rattle.volap_cell.specs.declared.actor.Actor.{Actor}
-use Rattle.volap_cell.specs.declared.cell.Cell.{Cell}
-use Rattle.volap_cell.specs.declared.kind.Kind.{Kind}
-use Rattle.seeded_run.specs.AtWork.{CanEndBy, CanEndPart}
-use Rattle.seeded_run.specs.Core.{HasCore, IsCore}
-use Rattle.seeded_run.proofs.Holds.{at-part-there}
+use Rattle.volap_cell.proofs.Cells.States.{is-some, stands}
+use Rattle.volap_cell.specs.{Setting.Setting, State.Stepped, Values.{ActorValue, ErrandValue, actor_of}, World.World, declared.actor.Actor.Actor, declared.cell.Cell.Cell, declared.kind.Kind.Kind}
+use Rattle.seeded_run.specs.{AtWork.{CanEndBy, CanEndPart}, Core.{HasCore, IsCore}}
+use Rattle.seeded_run.proofs.Holding.Holds.{at-part-there}
 
 -- they are the core still
 pub still-is : (h : List Dimension) (with : Use) (cells cells_now : List (Option Cell)) (actors actors_now : List (Option Actor)) (s : Setting) (w : World) → IsCore h with cells actors s w → Stays cells actors cells_now actors_now → IsCore h with cells_now actors_now s w

@@ -1,20 +1,9 @@
 -- A step that goes on with no part, and by which no command begins, goes on with an open command.
 use Rattle.std.proofs.Common.{◌≡◌, ◌∙◌, ◌<◌, ℕ, Bool, true, false, ◌&&◌, Option, Some, None, is_none, is_some, length, get_or, refl, sym, ap}
-use Rattle.volap_cell.specs.Values.{ActorValue, ErrandValue, actor_of}
-use Rattle.volap_cell.specs.declared.command.Command.{Command as OpenCommand}
-use Rattle.volap_cell.specs.declared.kind.Kind.{Kind}
-use Rattle.volap_cell.proofs.States.{stands}
-use Rattle.volap_cell.specs.Steps.{history_in}
-use Rattle.seeded_run.specs.AtWork.{errand_by, errand_of_one}
-use Rattle.seeded_run.specs.Commands.{may_begin}
-use Rattle.seeded_run.specs.Machine.{IsDueNow, IsPhaseKept, about_in, phase_of, world_of}
-use Rattle.seeded_run.specs.Rests.{rest_of}
-use Rattle.seeded_run.specs.Steps.{HasCommand, begins_by, begins_of_one, is_for_part, is_for_part_by}
-use Rattle.seeded_run.specs.Works.{command_by, command_of_one}
-use Rattle.seeded_run.specs.declared.machine.Running.{Running}
-use Rattle.seeded_run.proofs.LeftAlone.{apart}
-use Rattle.seeded_run.proofs.StepsReady.{first-due}
-use Rattle.seeded_run.proofs.Turns.{command-seen}
+use Rattle.volap_cell.specs.{Steps.history_in, Values.{ActorValue, ErrandValue, actor_of}, declared.command.Command.Command as OpenCommand, declared.kind.Kind.Kind}
+use Rattle.volap_cell.proofs.Cells.States.{stands}
+use Rattle.seeded_run.specs.{AtWork.{errand_by, errand_of_one}, Commands.may_begin, Machine.{IsDueNow, IsPhaseKept, about_in, phase_of, world_of}, Rests.rest_of, Steps.{HasCommand, begins_by, begins_of_one, is_for_part, is_for_part_by}, Works.{command_by, command_of_one}, declared.machine.Running.Running}
+use Rattle.seeded_run.proofs.{Holding.LeftAlone.apart, Phases.Turns.command-seen, Ready.StepsReady.first-due}
 
 -- an actor's part, as it stands in the vector
 errand-seen : (m : Running) → IsPhaseKept m → (n : ℕ) → n < length m.state.actors.items → errand_by m.state.actors.items n ≡ ((world_of m).actors n).errand

@@ -4,8 +4,7 @@ use Rattle.script_form.specs.declared.script.Command.{Command}
 use Rattle.script_form.specs.declared.script.Command.TheVariants as script
 use Rattle.volap_cell.specs.declared.kind.Kind.{Kind}
 use Rattle.volap_cell.specs.declared.kind.Kind.TheVariants as kind
-use Rattle.seeded_run.specs.Commands.{beginning_if}
-use Rattle.seeded_run.specs.Instead.{StandsFor, in_place_of}
+use Rattle.seeded_run.specs.{Commands.beginning_if, Instead.{StandsFor, in_place_of}}
 
 -- of a kind that takes no memory none other is made
 pub made-as-due : (due made : Kind) → in_place_of due ≡ None → StandsFor due made → made ≡ due

@@ -1,10 +1,8 @@
 -- The last two spares of a purse, and the cell of the last but one.
-use Rattle.std.proofs.Common.{◌≡◌, ◌∙◌, ◌+◌, ◌≤◌, false, List, [], ◌∷◌, ◌++◌, length, refl, ap, arith}
-use Rattle.std.proofs.lemmas.List.{append_assoc, length-append, reverse-append}
+use Rattle.std.proofs.{Common.{◌≡◌, ◌∙◌, ◌+◌, ◌≤◌, false, List, [], ◌∷◌, ◌++◌, length, refl, ap, arith}, lemmas.List.{append_assoc, length-append, reverse-append}}
 use Rattle.cell_stock.specs.declared.purse.Spare.{Spare}
-use Rattle.seeded_run.specs.Due.{is_empty}
-use Rattle.seeded_run.specs.Splits.{last_but_one, second_cell}
-use Rattle.seeded_run.proofs.DueReads.{ends-in}
+use Rattle.seeded_run.specs.{Due.is_empty, Splits.{last_but_one, second_cell}}
+use Rattle.seeded_run.proofs.Due.DueReads.{ends-in}
 
 not-empty : {A : Type 0} (xs : List A) → 1 ≤ length xs → is_empty xs ≡ false
 not-empty [] some = absurd (omega (arith, some))

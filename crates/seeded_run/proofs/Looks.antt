@@ -4,17 +4,10 @@ use Rattle.std.specs.Prelude.{slice_get}
 use Rattle.dim_hierarchy.specs.Dimension.{Dimension}
 use Rattle.row_ledger.specs.declared.settings.Use.{Use}
 use Rattle.script_form.specs.declared.script.Command.{Command}
-use Rattle.volap_cell.proofs.States.{same-actor}
-use Rattle.volap_cell.specs.Setting.{Setting}
-use Rattle.volap_cell.specs.Values.{ActorValue, actor_of}
-use Rattle.volap_cell.specs.World.{World}
-use Rattle.volap_cell.specs.declared.actor.Actor.{Actor}
-use Rattle.volap_cell.specs.declared.cell.Cell.{Cell}
-use Rattle.seeded_run.specs.Core.{IsCore}
-use Rattle.seeded_run.specs.Due.{actor_kind, due_by, is_alone}
-use Rattle.seeded_run.specs.Look.{IsTold, ahead, alone_by, cell_at, setting_by, world_by}
-use Rattle.seeded_run.proofs.Others.{alone-seen}
-use Rattle.seeded_run.proofs.Seen.{cell-seen, kind-seen}
+use Rattle.volap_cell.proofs.Cells.States.{same-actor}
+use Rattle.volap_cell.specs.{Setting.Setting, Values.{ActorValue, actor_of}, World.World, declared.actor.Actor.Actor, declared.cell.Cell.Cell}
+use Rattle.seeded_run.specs.{Core.IsCore, Due.{actor_kind, due_by, is_alone}, Look.{IsTold, ahead, alone_by, cell_at, setting_by, world_by}}
+use Rattle.seeded_run.proofs.{Holding.Others.alone-seen, Seen.{cell-seen, kind-seen}}
 
 module _ (h : List Dimension) (with : Use) (cells : List (Option Cell)) (actors : List (Option Actor)) (s : Setting) (w : World) (n : ℕ) (core : IsCore h with cells actors s w) (low : n < length actors) where
   pub due-seen : (rest : ℕ → List Command) (next : Option Command) (left : ℕ) (a : Actor) → IsTold s rest n next left → get_or actors n None ≡ Some a

@@ -1,35 +1,12 @@
 -- A script's core as it opens: who its actors are, and what it begins with.
-use Rattle.std.proofs.Common.{◌≡◌, ◌∙◌, ◌⊎◌, inl, inr, ℕ, zero, suc, ◌+◌, ◌-◌, ◌*◌, ◌<◌, ◌≤◌, List, [], ◌∷◌, ◌++◌, length, Bool, false, Option, Some, None, get_or, slice_get, refl, sym, ap, subst, arith}
+use Rattle.std.proofs.{Common.{◌≡◌, ◌∙◌, ◌⊎◌, inl, inr, ℕ, zero, suc, ◌+◌, ◌-◌, ◌*◌, ◌<◌, ◌≤◌, List, [], ◌∷◌, ◌++◌, length, Bool, false, Option, Some, None, get_or, slice_get, refl, sym, ap, subst, arith}, lemmas.Bool.{cases_Bool, cases_lt}, lemmas.List.{append_assoc, length-append}, lemmas.Option.slice_get-get_or}
 use Rattle.std.specs.Prelude.{◌==◌, cond}
-use Rattle.std.proofs.lemmas.Bool.{cases_Bool, cases_lt}
-use Rattle.std.proofs.lemmas.List.{append_assoc, length-append}
-use Rattle.std.proofs.lemmas.Option.{slice_get-get_or}
 use Rattle.dim_hierarchy.specs.Dimension.{Dimension}
-use Rattle.row_ledger.specs.Past.{event_at, is_beginning}
-use Rattle.row_ledger.specs.Right.{EachEvent, IsFirstPull}
-use Rattle.row_ledger.specs.Site.{Site}
-use Rattle.row_ledger.specs.declared.event.Event.{Event}
-use Rattle.row_ledger.specs.declared.event.Event.TheVariants.{Synced}
-use Rattle.row_ledger.specs.declared.settings.Use.{Use}
+use Rattle.row_ledger.specs.{Past.{event_at, is_beginning}, Right.{EachEvent, IsFirstPull}, Site.Site, declared.event.Event.Event, declared.event.Event.TheVariants.Synced, declared.settings.Use.Use}
 use Rattle.script_form.specs.declared.script.Command.{Command}
-use Rattle.script_run.specs.Between.{IsInOrder, IsThrough, NoneBegunLaw}
-use Rattle.script_run.specs.Runs.{HasPulls}
-use Rattle.volap_cell.specs.Cells.{CellValue, ledger_in}
-use Rattle.volap_cell.specs.Filling.{IsOpened, setting_for}
-use Rattle.volap_cell.specs.Numbering.{IsRoleOf, IsSetting}
-use Rattle.volap_cell.specs.Opening.{IsOpening}
-use Rattle.volap_cell.specs.Setting.{Setting, site_in}
-use Rattle.volap_cell.specs.Steps.{history_in}
-use Rattle.volap_cell.specs.declared.actor.Actor.{Actor}
-use Rattle.volap_cell.specs.declared.cell.Cell.{Cell}
-use Rattle.volap_cell.specs.declared.role.Role.{Role}
-use Rattle.volap_cell.specs.declared.role.Role.TheVariants.{Admin, Hand, Puller, Session}
-use Rattle.seeded_run.specs.Core.{HasCore, IsCore}
-use Rattle.seeded_run.specs.Kept.{IsBetween}
-use Rattle.seeded_run.specs.Phase.{most_actors}
-use Rattle.seeded_run.specs.Progress.{AreScriptRoles}
-use Rattle.seeded_run.specs.Roles.{CanOpen, hands_at, hands_of, roles_of, sessions_of}
-use Rattle.seeded_run.specs.Worlds.{setting_in, world_in}
+use Rattle.script_run.specs.{Between.{IsInOrder, IsThrough, NoneBegunLaw}, Runs.HasPulls}
+use Rattle.volap_cell.specs.{Cells.{CellValue, ledger_in}, Filling.{IsOpened, setting_for}, Numbering.{IsRoleOf, IsSetting}, Opening.IsOpening, Setting.{Setting, site_in}, Steps.history_in, declared.actor.Actor.Actor, declared.cell.Cell.Cell, declared.role.Role.Role, declared.role.Role.TheVariants.{Admin, Hand, Puller, Session}}
+use Rattle.seeded_run.specs.{Core.{HasCore, IsCore}, Kept.IsBetween, Phase.most_actors, Progress.AreScriptRoles, Roles.{CanOpen, hands_at, hands_of, roles_of, sessions_of}, Worlds.{setting_in, world_in}}
 use Rattle.seeded_run.proofs.Worlds.{one-setting, only-world}
 
 -- Who the actors are.

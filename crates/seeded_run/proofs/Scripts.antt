@@ -1,21 +1,10 @@
 -- What the actors and the phase of a script give.
-use Rattle.std.proofs.Common.{◌≡◌, ◌∙◌, ℕ, zero, suc, ◌+◌, ◌<◌, ◌≤◌, ◌⊎◌, inl, inr, Bool, true, false, List, [], ◌∷◌, drop, Option, Some, refl, sym, ap, subst, arith}
+use Rattle.std.proofs.{Common.{◌≡◌, ◌∙◌, ℕ, zero, suc, ◌+◌, ◌<◌, ◌≤◌, ◌⊎◌, inl, inr, Bool, true, false, List, [], ◌∷◌, drop, Option, Some, refl, sym, ap, subst, arith}, lemmas.Bool.eqb-true, lemmas.Option.slice_get_within}
 use Rattle.std.specs.Prelude.{◌==◌, filter, slice_get, if◌then◌else◌}
-use Rattle.std.proofs.lemmas.Bool.{eqb-true}
-use Rattle.std.proofs.lemmas.Option.{slice_get_within}
-use Rattle.script_form.specs.declared.script.Command.{Command}
-use Rattle.script_form.specs.declared.script.Command.TheVariants.{Query}
+use Rattle.script_form.specs.{declared.script.Command.Command, declared.script.Command.TheVariants.Query}
 use Rattle.script_run.specs.Places.{session_of}
-use Rattle.volap_cell.specs.Ghost.{Ghost}
-use Rattle.volap_cell.specs.Invariant.{InvWith}
-use Rattle.volap_cell.specs.Setting.{Setting, actor_count}
-use Rattle.volap_cell.specs.Steps.{history_in}
-use Rattle.volap_cell.specs.View.{view}
-use Rattle.volap_cell.specs.World.{World}
-use Rattle.volap_cell.specs.declared.role.Role.{Role}
-use Rattle.volap_cell.specs.declared.role.Role.TheVariants.{Admin, Hand, Puller, Session}
-use Rattle.seeded_run.specs.Progress.{AreScriptRoles, ScriptLaw}
-use Rattle.seeded_run.specs.Rests.{PhaseRun, begun_in, rest_of, stream_of}
+use Rattle.volap_cell.specs.{Ghost.Ghost, Invariant.InvWith, Setting.{Setting, actor_count}, Steps.history_in, View.view, World.World, declared.role.Role.Role, declared.role.Role.TheVariants.{Admin, Hand, Puller, Session}}
+use Rattle.seeded_run.specs.{Progress.{AreScriptRoles, ScriptLaw}, Rests.{PhaseRun, begun_in, rest_of, stream_of}}
 
 -- an item of a part of a list is one of the list
 

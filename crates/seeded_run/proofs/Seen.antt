@@ -1,32 +1,18 @@
 -- What is due for an actor is a function of what one thread sees that holds all cells and actors.
-use Rattle.std.proofs.Common.{◌≡◌, ◌∙◌, ℕ, inl, inr, Bool, true, false, List, [], ◌∷◌, length, get_or, Option, Some, None, refl, sym, ap, not}
+use Rattle.std.proofs.{Common.{◌≡◌, ◌∙◌, ℕ, inl, inr, Bool, true, false, List, [], ◌∷◌, length, get_or, Option, Some, None, refl, sym, ap, not}, lemmas.Bool.cases_lt, lemmas.List.get_or_past}
 use Rattle.std.specs.Prelude.{◌&&◌, is_none, if◌then◌else◌, slice_get}
-use Rattle.std.proofs.lemmas.Bool.{cases_lt}
-use Rattle.std.proofs.lemmas.List.{get_or_past}
 use mathlib.Core.Path.{fun_ext}
 use Rattle.mapping_table.specs.declared.place.Where.{Where}
 use Rattle.query_router.specs.Desk.{DeskValue}
 use Rattle.row_ledger.specs.declared.event.Event.{Event}
 use Rattle.script_form.specs.declared.script.Command.{Command}
 use Rattle.dim_hierarchy.specs.Dimension.{Dimension}
-use Rattle.volap_cell.specs.Cells.{CellValue, cell_of, ledger_in}
-use Rattle.volap_cell.specs.Setting.{Setting, ledger_cell}
-use Rattle.volap_cell.specs.State.{Has, IsWorldOf}
-use Rattle.volap_cell.specs.Values.{ActorValue, ErrandValue, TaskValue, OfRow, Unread, Read}
-use Rattle.volap_cell.specs.World.{World}
-use Rattle.volap_cell.specs.declared.actor.Actor.{Actor}
-use Rattle.volap_cell.specs.declared.cell.Cell.{Cell}
-use Rattle.volap_cell.specs.declared.command.Command.{Command as OpenCommand}
-use Rattle.volap_cell.specs.declared.command.Work.{Work}
+use Rattle.volap_cell.specs.{Cells.{CellValue, cell_of, ledger_in}, Filling.cell_or, Setting.{Setting, ledger_cell}, State.{Has, IsWorldOf}, Values.{ActorValue, ErrandValue, TaskValue, OfRow, Unread, Read}, World.World, declared.actor.Actor.Actor, declared.cell.Cell.Cell, declared.command.Command.Command as OpenCommand, declared.command.Work.Work, declared.errand.Way.Way, declared.role.Role.Role}
 use Rattle.volap_cell.specs.declared.command.Work.TheVariants as work_is
-use Rattle.volap_cell.specs.declared.errand.Way.{Way}
 use Rattle.volap_cell.specs.declared.errand.Way.TheVariants as way
 use Rattle.volap_cell.specs.declared.kind.Kind.TheVariants as kind
-use Rattle.volap_cell.specs.declared.role.Role.{Role}
 use Rattle.volap_cell.specs.declared.role.Role.TheVariants as role
-use Rattle.seeded_run.specs.Due.{actor_kind, command_kind, desk_of, free_kind, is_empty, led_to, next_kind, row_kind, task_kind, work_kind}
-use Rattle.seeded_run.specs.Look.{ahead, cell_at, cells_only, setting_for}
-use Rattle.volap_cell.specs.Filling.{cell_or}
+use Rattle.seeded_run.specs.{Due.{actor_kind, command_kind, desk_of, free_kind, is_empty, led_to, next_kind, row_kind, task_kind, work_kind}, Look.{ahead, cell_at, cells_only, setting_for}}
 
 -- Cells.
 

@@ -1,52 +1,23 @@
 -- What an actor does on its turn is told by what one thread sees that holds all cells and actors.
 use Rattle.std.proofs.Common.{◌≡◌, ◌∙◌, ℕ, ◌<◌, Bool, true, false, List, [], length, get_or, Option, Some, None, refl, sym, ap, subst, not, arith, ◌+◌, cond}
-use Rattle.std.specs.Prelude.{◌==◌, ◌&&◌, ◌||◌, if◌then◌else◌, is_none, option_and_then, option_map}
-use Rattle.std.specs.Option.{option_map_or}
+use Rattle.std.specs.{Option.option_map_or, Prelude.{◌==◌, ◌&&◌, ◌||◌, if◌then◌else◌, is_none, option_and_then, option_map}}
 use mathlib.Core.Path.{fun_ext}
-use Rattle.core_tree.proofs.Carriers.{Carries, carries}
+use Rattle.core_tree.proofs.Rows.Carriers.{Carries, carries}
 use Rattle.dc_node.specs.Block.{IsBodyOf}
-use Rattle.dim_hierarchy.specs.Dimension.{Dimension}
-use Rattle.dim_hierarchy.specs.Rows.{IsRowOf}
-use Rattle.dim_hierarchy.specs.declared.row.Row.{Row}
+use Rattle.dim_hierarchy.specs.{Dimension.Dimension, Rows.IsRowOf, declared.row.Row.Row}
 use Rattle.mapping_table.specs.declared.place.Where.{Where}
 use Rattle.mapping_table.specs.declared.place.Where.TheVariants as where_is
 use Rattle.row_ledger.specs.declared.settings.Use.{Use}
 use Rattle.script_form.specs.declared.script.Command.{Command}
 use Rattle.script_form.specs.declared.script.Command.TheVariants as script
 use Rattle.tree_shape.specs.Laws.{BlockLaw}
-use Rattle.volap_cell.proofs.Actors.{row-at}
-use Rattle.volap_cell.proofs.States.{same-actor}
-use Rattle.volap_cell.specs.Cells.{CellValue, block_in, desk_in}
-use Rattle.volap_cell.specs.Errands.{place_of, row_way, way_of}
-use Rattle.volap_cell.specs.Growing.{table_of}
-use Rattle.volap_cell.specs.Setting.{Setting, actor_count, desk_cell}
-use Rattle.volap_cell.specs.State.{Has}
-use Rattle.volap_cell.specs.Stocking.{cells_at}
-use Rattle.volap_cell.specs.TreeKinds.{HasRow}
-use Rattle.volap_cell.specs.Values.{ActorValue, ErrandValue, TaskValue, OfRow, Unread, Read, actor_of}
-use Rattle.volap_cell.specs.View.{view}
-use Rattle.volap_cell.specs.World.{World}
-use Rattle.volap_cell.specs.declared.actor.Actor.{Actor}
-use Rattle.volap_cell.specs.declared.cell.Cell.{Cell}
-use Rattle.volap_cell.specs.declared.errand.RowErrand.{RowErrand}
-use Rattle.volap_cell.specs.declared.errand.Way.{Way}
+use Rattle.volap_cell.proofs.{Actors.row-at, Cells.States.same-actor}
+use Rattle.volap_cell.specs.{Cells.{CellValue, block_in, desk_in}, Errands.{place_of, row_way, way_of}, Growing.table_of, Setting.{Setting, actor_count, desk_cell}, State.Has, Stocking.cells_at, TreeKinds.HasRow, Values.{ActorValue, ErrandValue, TaskValue, OfRow, Unread, Read, actor_of}, View.view, World.World, declared.actor.Actor.Actor, declared.cell.Cell.Cell, declared.errand.RowErrand.RowErrand, declared.errand.Way.Way, declared.kind.Kind.Kind}
 use Rattle.volap_cell.specs.declared.errand.Way.TheVariants as way
-use Rattle.volap_cell.specs.declared.kind.Kind.{Kind}
 use Rattle.volap_cell.specs.declared.kind.Kind.TheVariants as kind
 use Rattle.volap_cell.specs.declared.role.Role.TheVariants as role
-use Rattle.seeded_run.proofs.DueSteps.{if-out}
-use Rattle.seeded_run.proofs.Looks.{due-seen}
-use Rattle.seeded_run.proofs.Others.{all-same}
-use Rattle.seeded_run.proofs.Progress.{session-within}
-use Rattle.seeded_run.proofs.Scripts.{session-is}
-use Rattle.seeded_run.proofs.Seen.{cell-seen}
-use Rattle.seeded_run.specs.Can.{child_wanted, is_block_free, is_carried_at, is_drained, meets, root_at, wanted_down, wanted_of}
-use Rattle.seeded_run.specs.Core.{IsCore}
-use Rattle.seeded_run.specs.DueSteps.{kind_if, step_of}
-use Rattle.seeded_run.specs.declared.due_step.DueStep.{DueStep}
-use Rattle.seeded_run.specs.Due.{actor_kind, all_below, desk_of, due_by, is_empty_desk, led_to}
-use Rattle.seeded_run.specs.Look.{IsTold, ahead, alone_by, cell_at, cells_only, setting_by, setting_for, world_by}
-use Rattle.seeded_run.specs.Takes.{AsksHere, CanPick, HasDeskFor, carries_at, free_by, is_free_by}
+use Rattle.seeded_run.proofs.{Due.DueSteps.if-out, Holding.Others.all-same, Looks.due-seen, Phases.Progress.session-within, Scripts.session-is, Seen.cell-seen}
+use Rattle.seeded_run.specs.{Can.{child_wanted, is_block_free, is_carried_at, is_drained, meets, root_at, wanted_down, wanted_of}, Core.IsCore, Due.{actor_kind, all_below, desk_of, due_by, is_empty_desk, led_to}, DueSteps.{kind_if, step_of}, Look.{IsTold, ahead, alone_by, cell_at, cells_only, setting_by, setting_for, world_by}, Takes.{AsksHere, CanPick, HasDeskFor, carries_at, free_by, is_free_by}, declared.due_step.DueStep.DueStep}
 
 -- The block that is wanted.
 

@@ -1,55 +1,25 @@
 -- What each kind of step tells the history.
-use Rattle.std.proofs.Common.{◌≡◌, ◌≢◌, ◌∙◌, ℕ, ◌⊎◌, inl, inr, Bool, true, false, cond, eqb, List, [], ◌∷◌, ◌++◌, Option, Some, None, length, refl, sym, ap, subst, arith, ◌<◌}
+use Rattle.std.proofs.{Common.{◌≡◌, ◌≢◌, ◌∙◌, ℕ, ◌⊎◌, inl, inr, Bool, true, false, cond, eqb, List, [], ◌∷◌, ◌++◌, Option, Some, None, length, refl, sym, ap, subst, arith, ◌<◌}, lemmas.Bool.{eq-eqb, eqb-true}, lemmas.Option.slice_get_within}
 use Rattle.std.specs.Prelude.{slice_get, option_map, option_and_then}
-use Rattle.std.proofs.lemmas.Bool.{eq-eqb, eqb-true}
-use Rattle.std.proofs.lemmas.Option.{slice_get_within}
 use Rattle.dim_hierarchy.specs.Dimension.{Dimension}
 use Rattle.dc_node.specs.declared.block.Block.{Block}
 use Rattle.link_descent.specs.declared.entered.Fresh.{Fresh}
 use Rattle.cell_stock.specs.declared.purse.Spare.{Spare}
 use Rattle.describing_set.specs.declared.plane.Plane.{Plane}
-use Rattle.row_ledger.specs.LedgerValue.{LedgerValue}
-use Rattle.row_ledger.specs.Classes.{class_of}
-use Rattle.row_ledger.specs.Past.{end_in, ends_itself, session_in}
-use Rattle.row_ledger.specs.declared.event.Event.{Event}
+use Rattle.row_ledger.specs.{Classes.class_of, LedgerValue.LedgerValue, Past.{end_in, ends_itself, session_in}, declared.class.Class.Class, declared.event.Event.Event, declared.settings.How.How}
 use Rattle.row_ledger.specs.declared.event.Event.TheVariants as event
-use Rattle.row_ledger.specs.declared.class.Class.{Class}
 use Rattle.row_ledger.specs.declared.class.Class.TheVariants as class_is
-use Rattle.row_ledger.specs.declared.settings.How.{How}
 use Rattle.row_ledger.specs.declared.settings.How.TheVariants as how
 use Rattle.script_run.specs.Phases.{is_closing}
 use Rattle.server_image.specs.Registry.{RegistryValue}
 use Rattle.shard_plan.specs.declared.action.Action.{Action}
 use Rattle.list_words.specs.Counts.{Each}
 use Rattle.list_words.proofs.Truth.{on_bool}
-use Rattle.volap_cell.proofs.Frames.{AreAt, actor-at, actor-off}
-use Rattle.volap_cell.proofs.Numbers.{at-ledger}
-use Rattle.volap_cell.specs.AdminKinds.{DoesFreeze, Finishes, GivesUp, MovesIn, PushesBoth}
-use Rattle.volap_cell.specs.Cells.{CellValue, Tag, TheLedger, FreeCell, LedgerCell, StockCell, RegistryCell, ImageCell, DeskCell, MapCell, GateCell, BlockCell, tag_of, ledger_in}
-use Rattle.volap_cell.specs.Commands.{EndsBalance, EndsStage, MayNoteEnd, due_pull, server_of}
-use Rattle.volap_cell.specs.Ghost.{Ghost}
-use Rattle.volap_cell.specs.ImageKinds.{DoesNote, DoesNoteWith, IsBegun, IsFree, NotesCalled, NotesEnded, OfCalled, OfCalledAsking, OfCount, OfEnded, OfLeft, OfQuery, OfRefused, OfShown, OfUnknown, OfUnrouted, Pushes, doing}
-use Rattle.volap_cell.specs.Invariant.{InvWith}
-use Rattle.volap_cell.specs.Kinds.{Does}
-use Rattle.volap_cell.specs.Planning.{job_for, next_job}
-use Rattle.volap_cell.specs.Setting.{Setting, ledger_cell}
-use Rattle.volap_cell.specs.ShardKinds.{PutsChildren, Unpins}
-use Rattle.volap_cell.specs.Steps.{history_in}
-use Rattle.volap_cell.specs.TreeKinds.{AreBehind, AreFilled, IsTailIf, most_behind}
-use Rattle.volap_cell.specs.Values.{ActorValue, ErrandValue, TaskValue, OfRow, Unread, Read, JobValue, StageValue, IsCalled, IsDeclined, IsFrozen, Collects, Builds}
-use Rattle.volap_cell.specs.View.{view}
-use Rattle.volap_cell.specs.Working.{IsJobOf, begun, frozen_in}
-use Rattle.volap_cell.specs.World.{World, Change, Agrees, after, put}
-use Rattle.volap_cell.specs.declared.command.Balance.{Balance}
-use Rattle.volap_cell.specs.declared.command.Command.{Command as OpenCommand}
-use Rattle.volap_cell.specs.declared.command.Work.{Work}
+use Rattle.volap_cell.proofs.{Cells.Numbers.at-ledger, Views.Frames.{AreAt, actor-at, actor-off}}
+use Rattle.volap_cell.specs.{AdminKinds.{DoesFreeze, Finishes, GivesUp, MovesIn, PushesBoth}, Cells.{CellValue, Tag, TheLedger, FreeCell, LedgerCell, StockCell, RegistryCell, ImageCell, DeskCell, MapCell, GateCell, BlockCell, tag_of, ledger_in}, Commands.{EndsBalance, EndsStage, MayNoteEnd, due_pull, server_of}, Ghost.Ghost, ImageKinds.{DoesNote, DoesNoteWith, IsBegun, IsFree, NotesCalled, NotesEnded, OfCalled, OfCalledAsking, OfCount, OfEnded, OfLeft, OfQuery, OfRefused, OfShown, OfUnknown, OfUnrouted, Pushes, doing}, Invariant.InvWith, Kinds.Does, Planning.{job_for, next_job}, Setting.{Setting, ledger_cell}, ShardKinds.{PutsChildren, Unpins}, Steps.history_in, TreeKinds.{AreBehind, AreFilled, IsTailIf, most_behind}, Values.{ActorValue, ErrandValue, TaskValue, OfRow, Unread, Read, JobValue, StageValue, IsCalled, IsDeclined, IsFrozen, Collects, Builds}, View.view, Working.{IsJobOf, begun, frozen_in}, World.{World, Change, Agrees, after, put}, declared.command.Balance.Balance, declared.command.Command.Command as OpenCommand, declared.command.Work.Work, declared.kind.Kind.Kind, declared.role.Role.Role, declared.role.Role.TheVariants.{Admin, Session}}
 use Rattle.volap_cell.specs.declared.command.Work.TheVariants as work_is
-use Rattle.volap_cell.specs.declared.kind.Kind.{Kind}
 use Rattle.volap_cell.specs.declared.kind.Kind.TheVariants as kind
-use Rattle.volap_cell.specs.declared.role.Role.{Role}
-use Rattle.volap_cell.specs.declared.role.Role.TheVariants.{Admin, Session}
-use Rattle.seeded_run.specs.Running.{HasPulled, is_closing_work}
-use Rattle.seeded_run.specs.Told.{GoesFurther, IsEnd, OfBeginning, OfDeed, OfEnd, OfNothing, OfPage, OfPull, Opens, OpensNone, OpensOne, OthersLaw, Told, ToldLaw, is_deed, is_of_part, is_plain}
+use Rattle.seeded_run.specs.{Running.{HasPulled, is_closing_work}, Told.{GoesFurther, IsEnd, OfBeginning, OfDeed, OfEnd, OfNothing, OfPage, OfPull, Opens, OpensNone, OpensOne, OthersLaw, Told, ToldLaw, is_deed, is_of_part, is_plain}}
 
 -- The ledger's cell.
 

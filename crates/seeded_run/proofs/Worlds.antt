@@ -1,22 +1,11 @@
 -- The vectors of a core are one state, about one setting.
-use Rattle.std.proofs.Common.{◌≡◌, inl, inr, ℕ, zero, suc, ◌<◌, ◌≤◌, List, [], ◌∷◌, length, Option, Some, None, get_or, slice_get, refl, sym, ap, ◌∙◌, subst, arith}
+use Rattle.std.proofs.{Common.{◌≡◌, inl, inr, ℕ, zero, suc, ◌<◌, ◌≤◌, List, [], ◌∷◌, length, Option, Some, None, get_or, slice_get, refl, sym, ap, ◌∙◌, subst, arith}, lemmas.Bool.cases_lt, lemmas.List.get_or_past}
 use Rattle.std.specs.Option.{option_map_or}
-use Rattle.std.proofs.lemmas.Bool.{cases_lt}
-use Rattle.std.proofs.lemmas.List.{get_or_past}
 use Rattle.dim_hierarchy.specs.Dimension.{Dimension}
 use Rattle.row_ledger.specs.declared.settings.Use.{Use}
-use Rattle.volap_cell.specs.Cells.{cell_of}
-use Rattle.volap_cell.specs.Filling.{actor_or, cell_or, fresh, world_of}
-use Rattle.volap_cell.specs.Opening.{IsFresh}
-use Rattle.volap_cell.specs.Setting.{Setting, actor_count}
-use Rattle.volap_cell.specs.Values.{ActorValue, actor_of}
-use Rattle.volap_cell.specs.World.{World}
-use Rattle.volap_cell.specs.declared.actor.Actor.{Actor}
-use Rattle.volap_cell.specs.declared.cell.Cell.{Cell}
-use Rattle.volap_cell.specs.declared.role.Role.TheVariants.{Hand}
-use Rattle.volap_cell.proofs.States.{stands}
-use Rattle.seeded_run.specs.Core.{IsCore}
-use Rattle.seeded_run.specs.Worlds.{roles_in, setting_in, world_in}
+use Rattle.volap_cell.specs.{Cells.cell_of, Filling.{actor_or, cell_or, fresh, world_of}, Opening.IsFresh, Setting.{Setting, actor_count}, Values.{ActorValue, actor_of}, World.World, declared.actor.Actor.Actor, declared.cell.Cell.Cell, declared.role.Role.TheVariants.Hand}
+use Rattle.volap_cell.proofs.Cells.States.{stands}
+use Rattle.seeded_run.specs.{Core.IsCore, Worlds.{roles_in, setting_in, world_in}}
 
 -- lists of the same length with the same items are the same
 same-items : {A : Type 0} (xs ys : List A) → length xs ≡ length ys → ((i : ℕ) → i < length xs → slice_get xs i ≡ slice_get ys i) → xs ≡ ys

@@ -1,15 +1,8 @@
 -- What is told of a step that an actor has made because it was due.
 use Rattle.std.specs.Prelude.{◌≡◌, ◌≢◌, ◌⊎◌, ℕ, true, List, Option}
 use Rattle.dim_hierarchy.specs.Dimension.{Dimension}
-use Rattle.volap_cell.specs.State.{IsWorldOf, Stepped}
-use Rattle.volap_cell.specs.Steps.{history_in}
-use Rattle.volap_cell.specs.World.{World}
-use Rattle.volap_cell.specs.declared.actor.Actor.{Actor}
-use Rattle.volap_cell.specs.declared.cell.Cell.{Cell}
-use Rattle.volap_cell.specs.declared.kind.Kind.{Kind}
-use Rattle.volap_cell.specs.declared.kind.Kind.TheVariants.{Note}
-use Rattle.seeded_run.specs.Instead.{StandsFor}
-use Rattle.seeded_run.specs.Told.{is_of_part}
+use Rattle.volap_cell.specs.{State.{IsWorldOf, Stepped}, Steps.history_in, World.World, declared.actor.Actor.Actor, declared.cell.Cell.Cell, declared.kind.Kind.Kind, declared.kind.Kind.TheVariants.Note}
+use Rattle.seeded_run.specs.{Instead.StandsFor, Told.is_of_part}
 
 -- the actor has gone on with a part or with its purse, where a step of this kind was due
 abbrev pub GoesOnAtPart : (h : List Dimension) (due : Kind) (n : ℕ) (cells : List (Option Cell)) (actors : List (Option Actor)) (cells_now : List (Option Cell)) (actors_now : List (Option Actor)) → Type 0

@@ -2,11 +2,7 @@
 use Rattle.std.specs.Prelude.{ℕ, ◌≡◌, true, false, List, Option, Some, None, get_or}
 use Rattle.core_shard.specs.Due.{HasEnd}
 use Rattle.core_steps.specs.declared.held.HeldIf.{HeldIf}
-use Rattle.volap_cell.specs.ShardKinds.{pin_of}
-use Rattle.volap_cell.specs.State.{Has}
-use Rattle.volap_cell.specs.Values.{ActorValue, ErrandValue, TaskValue, OfRow, actor_of}
-use Rattle.volap_cell.specs.declared.actor.Actor.{Actor}
-use Rattle.volap_cell.specs.declared.errand.Way.{Way}
+use Rattle.volap_cell.specs.{ShardKinds.pin_of, State.Has, Values.{ActorValue, ErrandValue, TaskValue, OfRow, actor_of}, declared.actor.Actor.Actor, declared.errand.Way.Way}
 use Rattle.volap_cell.specs.declared.errand.Way.TheVariants as way
 
 -- its part

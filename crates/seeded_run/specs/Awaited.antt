@@ -1,17 +1,9 @@
 -- On which desk an actor finds a part to take, as one thread sees it that holds a core's cells and actors.
-use Rattle.std.specs.Prelude.{ℕ, ◌≡◌, ◌<◌, ⊤, true, false, List, [], Option, Some, None, get_or}
-use Rattle.std.specs.List.{list_any}
+use Rattle.std.specs.{List.list_any, Prelude.{ℕ, ◌≡◌, ◌<◌, ⊤, true, false, List, [], Option, Some, None, get_or}}
 use Rattle.query_router.specs.Desk.{waits_for}
 use Rattle.row_ledger.specs.declared.settings.Use.{Use}
-use Rattle.volap_cell.specs.Cells.{desk_in}
-use Rattle.volap_cell.specs.Setting.{desk_cell}
-use Rattle.volap_cell.specs.declared.actor.Actor.{Actor}
-use Rattle.volap_cell.specs.declared.cell.Cell.{Cell}
-use Rattle.volap_cell.specs.declared.kind.Kind.TheVariants.{TakePart}
-use Rattle.volap_cell.specs.declared.role.Role.{Role}
-use Rattle.volap_cell.specs.declared.role.Role.TheVariants.{Admin, Hand, Session}
-use Rattle.seeded_run.specs.Due.{any_below, hand_kind}
-use Rattle.seeded_run.specs.Look.{cell_at, setting_by, world_by}
+use Rattle.volap_cell.specs.{Cells.desk_in, Setting.desk_cell, declared.actor.Actor.Actor, declared.cell.Cell.Cell, declared.kind.Kind.TheVariants.TakePart, declared.role.Role.Role, declared.role.Role.TheVariants.{Admin, Hand, Session}}
+use Rattle.seeded_run.specs.{Due.{any_below, hand_kind}, Look.{cell_at, setting_by, world_by}}
 
 -- an actor's role, the administrator's where there is no actor
 

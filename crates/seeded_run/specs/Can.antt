@@ -1,28 +1,16 @@
 -- Whether an actor can make the step that is due for it: the block that it wants is free, the inserts have left the tree that it
 -- waits for, and where the commands go in order it is its turn.
-use Rattle.std.specs.Prelude.{ℕ, ◌==◌, ◌&&◌, ◌||◌, Bool, true, false, not, Option, Some, None, option_map, option_and_then, if◌then◌else◌, List, [], ◌∷◌, map, slice_get}
-use Rattle.std.specs.Option.{option_map_or}
-use Rattle.dim_hierarchy.specs.Dimension.{Dimension}
-use Rattle.dim_hierarchy.specs.declared.row.Row.{Row}
-use Rattle.dc_node.specs.Block.{entries_in}
-use Rattle.dc_node.specs.declared.block.Block.{Block}
-use Rattle.dc_node.specs.declared.entry.Entry.{Entry}
-use Rattle.dc_node.specs.declared.todo.Item.{Item}
+use Rattle.std.specs.{Option.option_map_or, Prelude.{ℕ, ◌==◌, ◌&&◌, ◌||◌, Bool, true, false, not, Option, Some, None, option_map, option_and_then, if◌then◌else◌, List, [], ◌∷◌, map, slice_get}}
+use Rattle.dim_hierarchy.specs.{Dimension.Dimension, declared.row.Row.Row}
+use Rattle.dc_node.specs.{Block.entries_in, declared.block.Block.Block, declared.entry.Entry.Entry, declared.todo.Item.Item}
 use Rattle.link_descent.specs.Pick.{pick_place}
 use Rattle.mapping_table.specs.declared.place.Where.{Where}
 use Rattle.mapping_table.specs.declared.place.Where.TheVariants as where_is
 use Rattle.seeded_turns.specs.Drawn.{able}
-use Rattle.volap_cell.specs.Cells.{active_in, block_in, ledger_in, way_in}
-use Rattle.volap_cell.specs.Errands.{RowWay, block_at, way_of}
-use Rattle.volap_cell.specs.Setting.{Setting, actor_count, ledger_cell}
-use Rattle.volap_cell.specs.Values.{ActorValue, ErrandValue, TaskValue, OfRow, Read, JobValue, StageValue, IsFrozen}
-use Rattle.volap_cell.specs.World.{World}
-use Rattle.volap_cell.specs.declared.errand.Way.{Way}
+use Rattle.volap_cell.specs.{Cells.{active_in, block_in, ledger_in, way_in}, Errands.{RowWay, block_at, way_of}, Setting.{Setting, actor_count, ledger_cell}, Values.{ActorValue, ErrandValue, TaskValue, OfRow, Read, JobValue, StageValue, IsFrozen}, World.World, declared.errand.Way.Way, declared.kind.Kind.Kind}
 use Rattle.volap_cell.specs.declared.errand.Way.TheVariants as way
-use Rattle.volap_cell.specs.declared.kind.Kind.{Kind}
 use Rattle.volap_cell.specs.declared.kind.Kind.TheVariants as kind
-use Rattle.seeded_run.specs.Due.{all_below, due, led_to}
-use Rattle.seeded_run.specs.Rests.{PhaseRun, first_open}
+use Rattle.seeded_run.specs.{Due.{all_below, due, led_to}, Rests.{PhaseRun, first_open}}
 
 -- Blocks that are wanted.
 

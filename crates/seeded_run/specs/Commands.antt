@@ -1,31 +1,14 @@
 -- What the steps of commands ask and tell in a script's core: which command is the next one and may begin, and what became of the
 -- history.
 use Rattle.std.specs.Prelude.{ℕ, ◌≡◌, ◌<◌, ⊤, Bool, true, false, All, List, ◌∷◌, get_or, length, Option, Some, None}
-use Rattle.dim_hierarchy.specs.Dimension.{Dimension}
-use Rattle.dim_hierarchy.specs.Names.{IsNamePick}
-use Rattle.row_ledger.specs.declared.event.Event.{Event}
-use Rattle.row_ledger.specs.declared.class.Class.{Class}
-use Rattle.row_ledger.specs.declared.class.Class.TheVariants.{Sync}
-use Rattle.row_ledger.specs.declared.settings.Use.{Use}
+use Rattle.dim_hierarchy.specs.{Dimension.Dimension, Names.IsNamePick}
+use Rattle.row_ledger.specs.{Classes.class_of, declared.class.Class.Class, declared.class.Class.TheVariants.Sync, declared.event.Event.Event, declared.settings.Use.Use}
 use Rattle.script_form.specs.declared.script.Command.{Command}
 use Rattle.script_form.specs.declared.script.Command.TheVariants as script
-use Rattle.script_run.specs.Places.{session_of}
-use Rattle.row_ledger.specs.Classes.{class_of}
-use Rattle.script_run.specs.Runs.{Begins, can_be_refused}
-use Rattle.volap_cell.specs.Setting.{Setting}
-use Rattle.volap_cell.specs.State.{Has, IsWorldOf}
-use Rattle.volap_cell.specs.Steps.{history_in}
-use Rattle.volap_cell.specs.Values.{actor_of}
-use Rattle.volap_cell.specs.World.{World}
-use Rattle.volap_cell.specs.declared.actor.Actor.{Actor}
-use Rattle.volap_cell.specs.declared.cell.Cell.{Cell}
-use Rattle.volap_cell.specs.declared.kind.Kind.{Kind}
+use Rattle.script_run.specs.{Places.session_of, Runs.{Begins, can_be_refused}}
+use Rattle.volap_cell.specs.{Setting.Setting, State.{Has, IsWorldOf}, Steps.history_in, Values.actor_of, World.World, declared.actor.Actor.Actor, declared.cell.Cell.Cell, declared.kind.Kind.Kind, declared.role.Role.TheVariants.Session}
 use Rattle.volap_cell.specs.declared.kind.Kind.TheVariants as kind
-use Rattle.volap_cell.specs.declared.role.Role.TheVariants.{Session}
-use Rattle.seeded_run.specs.Can.{meets}
-use Rattle.seeded_run.specs.Core.{IsCore}
-use Rattle.seeded_run.specs.Due.{are_known, due_by}
-use Rattle.seeded_run.specs.Look.{HasNames}
+use Rattle.seeded_run.specs.{Can.meets, Core.IsCore, Due.{are_known, due_by}, Look.HasNames}
 
 -- a step of this kind is due for the actor, and it can be made, where this command is the next one of its stream
 pub record IsNextAt (s : Setting) (w : World) (n : ℕ) (c : Command) (k : Kind) : Type 0 where

@@ -3,17 +3,8 @@ use Rattle.std.specs.Prelude.{ℕ, ◌≡◌, true, List, length, Option, Some}
 use Rattle.dim_hierarchy.specs.Dimension.{Dimension}
 use Rattle.row_ledger.specs.declared.settings.Use.{Use}
 use Rattle.script_form.specs.declared.script.Command.{Command}
-use Rattle.volap_cell.specs.Setting.{Setting, actor_count, cell_count}
-use Rattle.volap_cell.specs.State.{IsWorldOf, Stepped}
-use Rattle.volap_cell.specs.Steps.{Inv}
-use Rattle.volap_cell.specs.World.{World}
-use Rattle.volap_cell.specs.declared.actor.Actor.{Actor}
-use Rattle.volap_cell.specs.declared.cell.Cell.{Cell}
-use Rattle.volap_cell.specs.declared.kind.Kind.{Kind}
-use Rattle.seeded_run.specs.Can.{meets}
-use Rattle.seeded_run.specs.Due.{due_by}
-use Rattle.seeded_run.specs.Instead.{StandsFor}
-use Rattle.seeded_run.specs.Progress.{AreScriptRoles}
+use Rattle.volap_cell.specs.{Setting.{Setting, actor_count, cell_count}, State.{IsWorldOf, Stepped}, Steps.Inv, World.World, declared.actor.Actor.Actor, declared.cell.Cell.Cell, declared.kind.Kind.Kind}
+use Rattle.seeded_run.specs.{Can.meets, Due.due_by, Instead.StandsFor, Progress.AreScriptRoles}
 
 -- the vectors are this state, of a core for these dimensions and settings and for a script's actors, which meets the invariant
 pub record IsCore (h : List Dimension) (with : Use) (cells : List (Option Cell)) (actors : List (Option Actor)) (s : Setting) (w : World) : Type 0 where

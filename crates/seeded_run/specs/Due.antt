@@ -1,40 +1,23 @@
 -- Which kind of step is due for an actor: a function of its fields, of what the streams of the phase still have, and of the cells.
 -- An actor first goes on with the part that it is at, then empties its purse, then goes on with its command, and at last begins the
 -- next one. Where it waits for others none is due, but where it waits for a block, or for a gate's inserts: of that see `can`.
-use Rattle.std.specs.Prelude.{ℕ, zero, suc, ◌+◌, ◌==◌, ◌&&◌, ◌||◌, Bool, true, false, not, nat_le, Option, Some, None, is_some, is_none, if◌then◌else◌, List, [], ◌∷◌, length}
-use Rattle.std.specs.List.{list_any}
+use Rattle.std.specs.{List.list_any, Prelude.{ℕ, zero, suc, ◌+◌, ◌==◌, ◌&&◌, ◌||◌, Bool, true, false, not, nat_le, Option, Some, None, is_some, is_none, if◌then◌else◌, List, [], ◌∷◌, length}}
 use Rattle.dim_hierarchy.specs.Dimension.{Dimension}
-use Rattle.dc_node.specs.Block.{is_leaf}
-use Rattle.dc_node.specs.declared.block.Block.{Block}
-use Rattle.dc_node.specs.declared.todo.Item.{Item}
+use Rattle.dc_node.specs.{Block.is_leaf, declared.block.Block.Block, declared.todo.Item.Item}
 use Rattle.mapping_table.specs.declared.place.Where.{Where}
 use Rattle.mapping_table.specs.declared.place.Where.TheVariants as where_is
-use Rattle.query_router.specs.Desk.{DeskValue, is_waiting, waits_for, verdict_of}
-use Rattle.query_router.specs.declared.part.Part.{Part}
-use Rattle.query_router.specs.declared.part.Verdict.{Verdict}
+use Rattle.query_router.specs.{Desk.{DeskValue, is_waiting, waits_for, verdict_of}, declared.part.Part.Part, declared.part.Verdict.Verdict}
 use Rattle.query_router.specs.declared.part.Verdict.TheVariants as verdict
 use Rattle.row_ledger.specs.declared.event.Event.{Event}
 use Rattle.script_form.specs.declared.script.Command.{Command}
 use Rattle.script_form.specs.declared.script.Command.TheVariants as script
-use Rattle.script_run.specs.Phases.{closes}
-use Rattle.script_run.specs.Runs.{first_unknown}
-use Rattle.shard_store.specs.declared.gate.Phase.{Phase}
-use Rattle.shard_store.specs.declared.gate.Phase.TheVariants.{Open}
-use Rattle.volap_cell.specs.Cells.{CellValue, block_in, desk_in, ledger_in, phase_of, way_in, where_in}
-use Rattle.volap_cell.specs.Commands.{settles_next}
+use Rattle.script_run.specs.{Phases.closes, Runs.first_unknown}
+use Rattle.shard_store.specs.{declared.gate.Phase.Phase, declared.gate.Phase.TheVariants.Open}
+use Rattle.volap_cell.specs.{Cells.{CellValue, block_in, desk_in, ledger_in, phase_of, way_in, where_in}, Commands.settles_next, Setting.{Setting, actor_count, desk_cell, ledger_cell, map_cell}, Values.{ActorValue, ErrandValue, TaskValue, OfRow, Unread, Read, JobValue}, World.World, declared.command.Balance.Balance, declared.command.Command.Command as OpenCommand, declared.command.Work.Work, declared.errand.Way.Way, declared.kind.Kind.Kind, declared.role.Role.Role}
 pub use Rattle.volap_cell.specs.JobSteps.{finish_kind, is_empty, next_of_job, stage_kind}
-use Rattle.volap_cell.specs.Setting.{Setting, actor_count, desk_cell, ledger_cell, map_cell}
-use Rattle.volap_cell.specs.Values.{ActorValue, ErrandValue, TaskValue, OfRow, Unread, Read, JobValue}
-use Rattle.volap_cell.specs.World.{World}
-use Rattle.volap_cell.specs.declared.command.Balance.{Balance}
-use Rattle.volap_cell.specs.declared.command.Command.{Command as OpenCommand}
-use Rattle.volap_cell.specs.declared.command.Work.{Work}
 use Rattle.volap_cell.specs.declared.command.Work.TheVariants as work_is
-use Rattle.volap_cell.specs.declared.errand.Way.{Way}
 use Rattle.volap_cell.specs.declared.errand.Way.TheVariants as way
-use Rattle.volap_cell.specs.declared.kind.Kind.{Kind}
 use Rattle.volap_cell.specs.declared.kind.Kind.TheVariants as kind
-use Rattle.volap_cell.specs.declared.role.Role.{Role}
 use Rattle.volap_cell.specs.declared.role.Role.TheVariants as role
 use Rattle.seeded_run.specs.Rests.{PhaseRun, rest_of}
 

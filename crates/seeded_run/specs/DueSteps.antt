@@ -1,15 +1,7 @@
 -- What an actor does on its turn: it begins its next command, whichever kind of step that is, or goes on by the kind that is due.
 use Rattle.std.specs.Prelude.{ℕ, ◌&&◌, Bool, if◌then◌else◌, is_none, Option, Some, None, option_map}
-use Rattle.volap_cell.specs.Setting.{Setting}
-use Rattle.volap_cell.specs.Values.{ActorValue}
-use Rattle.volap_cell.specs.World.{World}
-use Rattle.volap_cell.specs.declared.kind.Kind.{Kind}
-use Rattle.seeded_run.specs.Can.{can_step}
-use Rattle.seeded_run.specs.Commands.{may_begin}
-use Rattle.seeded_run.specs.Due.{due}
-use Rattle.seeded_run.specs.Rests.{PhaseRun}
-use Rattle.seeded_run.specs.declared.due_step.DueStep.{DueStep}
-use Rattle.seeded_run.specs.declared.due_step.DueStep.TheVariants.{Begins, GoesOn}
+use Rattle.volap_cell.specs.{Setting.Setting, Values.ActorValue, World.World, declared.kind.Kind.Kind}
+use Rattle.seeded_run.specs.{Can.can_step, Commands.may_begin, Due.due, Rests.PhaseRun, declared.due_step.DueStep.DueStep, declared.due_step.DueStep.TheVariants.{Begins, GoesOn}}
 
 -- a step of this kind, as a turn takes it; it begins a command only where none is open
 abbrev pub step_by : Bool → Kind → DueStep

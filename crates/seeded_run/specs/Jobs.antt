@@ -8,21 +8,9 @@ use Rattle.row_ledger.specs.declared.settings.How.{How}
 use Rattle.row_ledger.specs.declared.settings.How.TheVariants as how
 use Rattle.shard_store.specs.declared.gate.Phase.{Phase}
 use Rattle.shard_store.specs.declared.gate.Phase.TheVariants as phase
-use Rattle.volap_cell.specs.AdminKinds.{HasFrozen}
-use Rattle.volap_cell.specs.Cells.{phase_of, where_in}
-use Rattle.volap_cell.specs.Setting.{Setting, map_cell}
-use Rattle.volap_cell.specs.State.{Has}
-use Rattle.volap_cell.specs.Values.{ActorValue, JobValue, StageValue, IsCalled, Collects, Builds, actor_of}
-use Rattle.volap_cell.specs.Working.{frozen_in}
-use Rattle.volap_cell.specs.World.{World}
-use Rattle.volap_cell.specs.declared.actor.Actor.{Actor}
-use Rattle.volap_cell.specs.declared.command.Command.{Command}
-use Rattle.volap_cell.specs.declared.command.Work.{Work}
+use Rattle.volap_cell.specs.{AdminKinds.HasFrozen, Cells.{phase_of, where_in}, Setting.{Setting, map_cell}, State.Has, Values.{ActorValue, JobValue, StageValue, IsCalled, Collects, Builds, actor_of}, Working.frozen_in, World.World, declared.actor.Actor.Actor, declared.command.Command.Command, declared.command.Work.Work, declared.job.Frozen.Frozen}
 use Rattle.volap_cell.specs.declared.command.Work.TheVariants as work_is
-use Rattle.volap_cell.specs.declared.job.Frozen.{Frozen}
-use Rattle.seeded_run.specs.Can.{last_noted}
-use Rattle.seeded_run.specs.Led.{gate_there}
-use Rattle.seeded_run.specs.declared.jobs.Next.{Next}
+use Rattle.seeded_run.specs.{Can.last_noted, Led.gate_there, declared.jobs.Next.Next}
 use Rattle.seeded_run.specs.declared.jobs.Next.TheVariants as next
 
 -- its job

@@ -1,29 +1,10 @@
 -- How a phase begins, goes on with each step, and ends.
 use Rattle.std.specs.Prelude.{ℕ, ◌≡◌, ◌≢◌, ◌+◌, ◌<◌, ◌≤◌, Bool, true, IsTrue, List, [], ◌∷◌, ◌++◌, Some, None, length, slice_get}
-use Rattle.row_ledger.specs.Past.{session_in}
-use Rattle.row_ledger.specs.declared.event.Event.{Event}
-use Rattle.row_ledger.specs.declared.settings.Use.{Use}
+use Rattle.row_ledger.specs.{Past.session_in, declared.event.Event.Event, declared.settings.Use.Use}
 use Rattle.script_form.specs.declared.script.Command.{Command}
-use Rattle.script_run.specs.Between.{IsInOrder, IsThrough}
-use Rattle.script_run.specs.Places.{are_over, begins_of, count_of, places, session_of}
-use Rattle.script_run.specs.Parts.{IsPartAt, Waits, place_in}
-use Rattle.script_run.specs.Runs.{Begins}
-use Rattle.volap_cell.specs.Ghost.{Ghost}
-use Rattle.volap_cell.specs.Invariant.{InvWith}
-use Rattle.volap_cell.specs.Setting.{Setting, actor_count}
-use Rattle.volap_cell.specs.Sights.{IsIdle}
-use Rattle.volap_cell.specs.Steps.{Step, history_in}
-use Rattle.volap_cell.specs.View.{view}
-use Rattle.volap_cell.specs.World.{World}
-use Rattle.volap_cell.specs.declared.kind.Kind.{Kind}
-use Rattle.seeded_run.specs.Can.{able_in, can_step}
-use Rattle.seeded_run.specs.Due.{due}
-use Rattle.seeded_run.specs.Instead.{StandsFor, in_place_of}
-use Rattle.seeded_run.specs.Progress.{AreScriptRoles, IsOrderedRun, IsPhaseOf, IsScriptRun}
-use Rattle.seeded_run.specs.Rests.{PhaseRun, rest_of}
-use Rattle.seeded_run.specs.Running.{AreAtOwn, IsRunning, RunsBehind}
-use Rattle.seeded_run.specs.Steps.{is_for_part}
-use Rattle.seeded_run.specs.Told.{is_of_part}
+use Rattle.script_run.specs.{Between.{IsInOrder, IsThrough}, Parts.{IsPartAt, Waits, place_in}, Places.{are_over, begins_of, count_of, places, session_of}, Runs.Begins}
+use Rattle.volap_cell.specs.{Ghost.Ghost, Invariant.InvWith, Setting.{Setting, actor_count}, Sights.IsIdle, Steps.{Step, history_in}, View.view, World.World, declared.kind.Kind.Kind}
+use Rattle.seeded_run.specs.{Can.{able_in, can_step}, Due.due, Instead.{StandsFor, in_place_of}, Progress.{AreScriptRoles, IsOrderedRun, IsPhaseOf, IsScriptRun}, Rests.{PhaseRun, rest_of}, Running.{AreAtOwn, IsRunning, RunsBehind}, Steps.is_for_part, Told.is_of_part}
 
 -- Between phases.
 

@@ -1,23 +1,11 @@
 -- What is said of rests and of what is due.
 use Rattle.std.specs.Prelude.{ℕ, ◌≡◌, ◌≢◌, ◌<◌, ◌≤◌, ◌⊎◌, true, if◌then◌else◌, List, [], ◌∷◌, length, drop, Some, None, slice_get, is_some}
-use Rattle.dc_node.specs.Block.{entries_in}
-use Rattle.dc_node.specs.declared.entry.Entry.{Entry}
+use Rattle.dc_node.specs.{Block.entries_in, declared.entry.Entry.Entry}
 use Rattle.row_ledger.specs.declared.event.Event.{Event}
 use Rattle.script_run.specs.Places.{begins_in, begins_of}
-use Rattle.volap_cell.specs.Cells.{block_in}
-use Rattle.volap_cell.specs.Setting.{Setting, actor_count}
-use Rattle.volap_cell.specs.Sights.{IsIdle}
-use Rattle.volap_cell.specs.Values.{ActorValue, ErrandValue, OfRow}
-use Rattle.volap_cell.specs.World.{World, MustKeep}
-use Rattle.volap_cell.specs.declared.errand.RowErrand.{RowErrand}
-use Rattle.volap_cell.specs.declared.errand.Way.TheVariants.{Carried}
-use Rattle.volap_cell.specs.declared.kind.Kind.{Kind}
-use Rattle.volap_cell.specs.declared.kind.Kind.TheVariants.{PutInLeaf, Down}
-use Rattle.volap_cell.specs.declared.role.Role.TheVariants.{Hand}
+use Rattle.volap_cell.specs.{Cells.block_in, Setting.{Setting, actor_count}, Sights.IsIdle, Values.{ActorValue, ErrandValue, OfRow}, World.{World, MustKeep}, declared.errand.RowErrand.RowErrand, declared.errand.Way.TheVariants.Carried, declared.kind.Kind.Kind, declared.kind.Kind.TheVariants.{PutInLeaf, Down}, declared.role.Role.TheVariants.Hand}
 use Rattle.script_form.specs.declared.script.Command.{Command}
-use Rattle.seeded_run.specs.Can.{can_in_order, is_block_free, wanted}
-use Rattle.seeded_run.specs.Due.{due_by, led_to}
-use Rattle.seeded_run.specs.Rests.{PhaseRun, rest_of, stream_of}
+use Rattle.seeded_run.specs.{Can.{can_in_order, is_block_free, wanted}, Due.{due_by, led_to}, Rests.{PhaseRun, rest_of, stream_of}}
 
 -- As a phase begins each session has its whole stream.
 abbrev pub WholeLaw : Type 0

@@ -2,11 +2,8 @@
 use Rattle.std.specs.Prelude.{ℕ, Option, Some, None}
 use Rattle.mapping_table.specs.declared.place.Where.{Where}
 use Rattle.mapping_table.specs.declared.place.Where.TheVariants as where_is
-use Rattle.volap_cell.specs.Setting.{Setting}
-use Rattle.volap_cell.specs.Values.{ErrandValue}
-use Rattle.volap_cell.specs.World.{World}
-use Rattle.seeded_run.specs.Can.{wanted_visit}
-use Rattle.seeded_run.specs.Due.{led_to}
+use Rattle.volap_cell.specs.{Setting.Setting, Values.ErrandValue, World.World}
+use Rattle.seeded_run.specs.{Can.wanted_visit, Due.led_to}
 
 -- a cell's number, zero where there is none
 abbrev pub cell_or_zero : Option ℕ → ℕ

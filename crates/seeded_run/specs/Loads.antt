@@ -1,8 +1,7 @@
 -- What the balance of an actor reads next, as one thread sees it that holds a core's actors.
 use Rattle.std.specs.Prelude.{Option, Some, None, slice_get}
 use Rattle.shard_plan.specs.declared.action.Load.{Load}
-use Rattle.volap_cell.specs.declared.command.Command.{Command}
-use Rattle.volap_cell.specs.declared.command.Work.{Work}
+use Rattle.volap_cell.specs.{declared.command.Command.Command, declared.command.Work.Work}
 use Rattle.volap_cell.specs.declared.command.Work.TheVariants as work_is
 
 -- the load that a balance reads next; any other work reads none

@@ -1,22 +1,12 @@
 -- What is due for an actor, as one thread sees it that holds a core's cells and actors: the definitions at what it has.
 use Rattle.std.specs.Prelude.{ℕ, ⊤, ◌≡◌, ◌==◌, ◌&&◌, ◌||◌, Bool, true, false, if◌then◌else◌, Option, Some, None, List, [], ◌∷◌, length, get_or, slice_get, not}
 use Rattle.dim_hierarchy.specs.Dimension.{Dimension}
-use Rattle.row_ledger.specs.declared.event.Event.{Event}
-use Rattle.row_ledger.specs.declared.settings.Use.{Use}
+use Rattle.row_ledger.specs.{declared.event.Event.Event, declared.settings.Use.Use}
 use Rattle.script_form.specs.declared.script.Command.{Command}
 use Rattle.script_form.specs.declared.script.Command.TheVariants as script
 use Rattle.script_run.specs.Phases.{closes}
-use Rattle.volap_cell.specs.Cells.{CellValue, ledger_in}
-use Rattle.volap_cell.specs.Filling.{cell_or}
-use Rattle.volap_cell.specs.Setting.{Setting, actor_count, ledger_cell}
-use Rattle.volap_cell.specs.Sums.{sum_below}
-use Rattle.volap_cell.specs.Values.{ActorValue, actor_of}
-use Rattle.volap_cell.specs.World.{World}
-use Rattle.volap_cell.specs.declared.actor.Actor.{Actor}
-use Rattle.volap_cell.specs.declared.cell.Cell.{Cell}
-use Rattle.volap_cell.specs.declared.command.Work.{Work}
+use Rattle.volap_cell.specs.{Cells.{CellValue, ledger_in}, Filling.cell_or, Setting.{Setting, actor_count, ledger_cell}, Sums.sum_below, Values.{ActorValue, actor_of}, World.World, declared.actor.Actor.Actor, declared.cell.Cell.Cell, declared.command.Work.Work, declared.role.Role.TheVariants.Admin}
 use Rattle.volap_cell.specs.declared.command.Work.TheVariants as work_is
-use Rattle.volap_cell.specs.declared.role.Role.TheVariants.{Admin}
 use Rattle.seeded_run.specs.Due.{all_below, does_nothing, is_empty}
 
 -- What is seen.

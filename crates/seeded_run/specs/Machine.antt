@@ -4,29 +4,10 @@ use Rattle.core_steps.specs.Ready.{Stays}
 use Rattle.script_form.specs.declared.script.Command.{Command}
 use Rattle.script_run.specs.Places.{session_of}
 use Rattle.tree_shape.specs.Shape.{Shape}
-use Rattle.volap_cell.specs.Falls.{left}
-use Rattle.volap_cell.specs.Ghost.{Ghost, NotOfStock}
-use Rattle.volap_cell.specs.Setting.{Setting}
-use Rattle.volap_cell.specs.State.{IsWorldOf}
-use Rattle.volap_cell.specs.Steps.{history_in}
-use Rattle.volap_cell.specs.World.{World}
-use Rattle.volap_cell.specs.declared.kind.Kind.{Kind}
-use Rattle.seeded_run.specs.Can.{can_step}
+use Rattle.volap_cell.specs.{Falls.left, Ghost.{Ghost, NotOfStock}, Setting.Setting, State.IsWorldOf, Steps.history_in, World.World, declared.kind.Kind.Kind}
+use Rattle.seeded_run.specs.{Can.can_step, Core.{HasCore, IsCore}, Due.{does_nothing, due}, DueSteps.due_step, Kept.{AreIdle, IsBetween}, Measure.{CoreHasLeft, limits_of}, Order.is_order, Phase.{ClosesLast, EndsBehindAny, IsKeptTurn, MayAllRun, NobodyCanStep, about, held, most_actors, phase_from, RunsTo, StopsAt, StopsBehindAny}, Ranks.{rank, commands_waiting, with_waiting}, Rests.{PhaseRun, first_open}, Running.{IsRunning, RunsBehind}, Steps.begins_by, declared.due_step.DueStep.DueStep, declared.machine.Running.Running}
 use Rattle.row_ledger.specs.declared.settings.Use.{Use}
-use Rattle.seeded_run.specs.Core.{HasCore, IsCore}
-use Rattle.seeded_run.specs.Due.{does_nothing, due}
-use Rattle.seeded_run.specs.DueSteps.{due_step}
-use Rattle.seeded_run.specs.Kept.{AreIdle, IsBetween}
-use Rattle.seeded_run.specs.Measure.{CoreHasLeft, limits_of}
-use Rattle.seeded_run.specs.Phase.{ClosesLast, EndsBehindAny, IsKeptTurn, MayAllRun, NobodyCanStep, about, held, most_actors, phase_from, RunsTo, StopsAt, StopsBehindAny}
-use Rattle.seeded_run.specs.Order.{is_order}
 use Rattle.seeded_turns.specs.declared.schedule.Schedule.{Schedule}
-use Rattle.seeded_run.specs.Ranks.{rank, commands_waiting, with_waiting}
-use Rattle.seeded_run.specs.Rests.{PhaseRun, first_open}
-use Rattle.seeded_run.specs.Running.{IsRunning, RunsBehind}
-use Rattle.seeded_run.specs.Steps.{begins_by}
-use Rattle.seeded_run.specs.declared.due_step.DueStep.{DueStep}
-use Rattle.seeded_run.specs.declared.machine.Running.{Running}
 
 -- what the core is about, the state that it is, and the phase
 abbrev pub about_in : Running → Setting

@@ -1,24 +1,10 @@
 -- At most so many steps are left of a phase: the limits that the size of a core gives, and the number that they make of what is left.
 use Rattle.std.specs.Prelude.{ℕ, ◌≡◌, ◌≢◌, ◌+◌, ◌*◌, ◌^◌, ◌<◌, ◌≤◌, ◌⊎◌, List, [], ◌∷◌, Option, Some, length}
 use Rattle.dim_hierarchy.specs.Dimension.{Dimension}
-use Rattle.row_ledger.specs.Past.{session_in}
-use Rattle.row_ledger.specs.declared.event.Event.{Event}
+use Rattle.row_ledger.specs.{Past.session_in, declared.event.Event.Event}
 use Rattle.script_run.specs.Places.{begins_of}
-use Rattle.volap_cell.specs.Falls.{left, per_gate, per_query}
-use Rattle.volap_cell.specs.Ghost.{Ghost}
-use Rattle.volap_cell.specs.Invariant.{InvWith}
-use Rattle.volap_cell.specs.Setting.{Setting, actor_count, cell_count}
-use Rattle.volap_cell.specs.State.{Stepped}
-use Rattle.volap_cell.specs.Steps.{IsKept, Step, history_in}
-use Rattle.volap_cell.specs.View.{view}
-use Rattle.volap_cell.specs.World.{World}
-use Rattle.volap_cell.specs.declared.actor.Actor.{Actor}
-use Rattle.volap_cell.specs.declared.cell.Cell.{Cell}
-use Rattle.volap_cell.specs.declared.kind.Kind.{Kind}
-use Rattle.volap_cell.specs.declared.kind.Kind.TheVariants.{Note}
-use Rattle.seeded_run.specs.Core.{HasCore, IsCore}
-use Rattle.seeded_run.specs.Ranks.{Limits, IsWithin, rank, commands_waiting, with_waiting}
-use Rattle.seeded_run.specs.Rests.{PhaseRun, rest_of}
+use Rattle.volap_cell.specs.{Falls.{left, per_gate, per_query}, Ghost.Ghost, Invariant.InvWith, Setting.{Setting, actor_count, cell_count}, State.Stepped, Steps.{IsKept, Step, history_in}, View.view, World.World, declared.actor.Actor.Actor, declared.cell.Cell.Cell, declared.kind.Kind.Kind, declared.kind.Kind.TheVariants.Note}
+use Rattle.seeded_run.specs.{Core.{HasCore, IsCore}, Ranks.{Limits, IsWithin, rank, commands_waiting, with_waiting}, Rests.{PhaseRun, rest_of}}
 
 -- Limits.
 

@@ -4,20 +4,9 @@ use Rattle.dim_hierarchy.specs.Dimension.{Dimension}
 use Rattle.row_ledger.specs.declared.settings.Use.{Use}
 use Rattle.script_form.specs.declared.script.Command.{Command}
 use Rattle.script_run.specs.Phases.{closes}
-use Rattle.seeded_turns.specs.Drawn.{Moment, Reaches, Turn}
-use Rattle.seeded_turns.specs.declared.schedule.Schedule.{Schedule}
-use Rattle.volap_cell.specs.Setting.{Setting}
-use Rattle.volap_cell.specs.Steps.{Inv, history_in}
-use Rattle.volap_cell.specs.World.{World}
-use Rattle.volap_cell.specs.declared.state.State.{State}
-use Rattle.seeded_run.specs.Can.{able_in}
-use Rattle.seeded_run.specs.Core.{HasCore}
-use Rattle.seeded_run.specs.Kept.{IsBetween, IsStopped, IsTurn}
-use Rattle.seeded_run.specs.Commands.{IsAllowed}
-use Rattle.seeded_run.specs.Look.{HasNames}
-use Rattle.seeded_run.specs.Rests.{PhaseRun}
-use Rattle.seeded_run.specs.Worlds.{setting_in, world_in}
-use Rattle.seeded_run.specs.Order.{is_order}
+use Rattle.seeded_turns.specs.{Drawn.{Moment, Reaches, Turn}, declared.schedule.Schedule.Schedule}
+use Rattle.volap_cell.specs.{Setting.Setting, Steps.{Inv, history_in}, World.World, declared.state.State.State}
+use Rattle.seeded_run.specs.{Can.able_in, Commands.IsAllowed, Core.HasCore, Kept.{IsBetween, IsStopped, IsTurn}, Look.HasNames, Order.is_order, Rests.PhaseRun, Worlds.{setting_in, world_in}}
 
 -- What may run.
 

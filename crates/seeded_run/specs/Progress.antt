@@ -1,24 +1,9 @@
 -- While an actor isn't idle, or a stream isn't at its end, somebody can make a step.
 use Rattle.std.specs.Prelude.{ℕ, ◌≡◌, ◌≢◌, ◌+◌, ◌<◌, ◌&&◌, Bool, true, false, List, [], ◌∷◌, Some, None, is_some, length, slice_get, ◌≤◌}
-use Rattle.script_form.specs.declared.script.Command.{Command}
-use Rattle.script_form.specs.declared.script.Command.TheVariants.{Query}
-use Rattle.script_form.specs.declared.script.Question.{Question}
-use Rattle.script_run.specs.Phases.{closes}
-use Rattle.script_run.specs.Places.{session_of}
-use Rattle.volap_cell.specs.Commands.{once_shown}
-use Rattle.volap_cell.specs.Ghost.{Ghost}
-use Rattle.volap_cell.specs.Invariant.{InvWith}
-use Rattle.volap_cell.specs.Setting.{Setting, actor_count}
-use Rattle.volap_cell.specs.Steps.{history_in}
-use Rattle.volap_cell.specs.View.{view}
-use Rattle.volap_cell.specs.World.{World}
-use Rattle.volap_cell.specs.declared.command.Command.{Command as OpenCommand}
-use Rattle.volap_cell.specs.declared.kind.Kind.{Kind}
-use Rattle.volap_cell.specs.declared.role.Role.{Role}
-use Rattle.volap_cell.specs.declared.role.Role.TheVariants.{Admin, Hand, Puller, Session}
-use Rattle.seeded_run.specs.Can.{able_in, meets}
-use Rattle.seeded_run.specs.Due.{does_nothing, due_by, is_alone, is_empty}
-use Rattle.seeded_run.specs.Rests.{PhaseRun, first_open, rest_of}
+use Rattle.script_form.specs.{declared.script.Command.Command, declared.script.Command.TheVariants.Query, declared.script.Question.Question}
+use Rattle.script_run.specs.{Phases.closes, Places.session_of}
+use Rattle.volap_cell.specs.{Commands.once_shown, Ghost.Ghost, Invariant.InvWith, Setting.{Setting, actor_count}, Steps.history_in, View.view, World.World, declared.command.Command.Command as OpenCommand, declared.kind.Kind.Kind, declared.role.Role.Role, declared.role.Role.TheVariants.{Admin, Hand, Puller, Session}}
+use Rattle.seeded_run.specs.{Can.{able_in, meets}, Due.{does_nothing, due_by, is_alone, is_empty}, Rests.{PhaseRun, first_open, rest_of}}
 
 -- a page that isn't shown is next in the history, with everyone else idle
 abbrev pub ArePagesNext : Setting → World → (ℕ → List Command) → Type 0

@@ -1,9 +1,6 @@
 -- What the streams of a phase still have: a function of its commands, and of what has begun since it began.
-use Rattle.std.specs.Prelude.{ℕ, ◌+◌, ◌-◌, ◌==◌, Bool, false, Option, Some, None, if◌then◌else◌, List, [], ◌∷◌, ◌++◌, length, drop, filter, slice_get}
-use Rattle.std.specs.Option.{option_map_or}
-use Rattle.row_ledger.specs.declared.event.Event.{Event}
-use Rattle.row_ledger.specs.declared.settings.Use.{Use}
-use Rattle.row_ledger.specs.Past.{is_over}
+use Rattle.std.specs.{Option.option_map_or, Prelude.{ℕ, ◌+◌, ◌-◌, ◌==◌, Bool, false, Option, Some, None, if◌then◌else◌, List, [], ◌∷◌, ◌++◌, length, drop, filter, slice_get}}
+use Rattle.row_ledger.specs.{Past.is_over, declared.event.Event.Event, declared.settings.Use.Use}
 use Rattle.script_form.specs.declared.script.Command.{Command}
 use Rattle.script_run.specs.Places.{session_of, count_of, begins_of}
 

@@ -1,20 +1,12 @@
 -- What a row's step in a tree holds, as one thread sees it that holds a core's cells and actors: where the row goes down, the blocks
 -- behind a full head, and the cells of the last spares.
-use Rattle.std.specs.Prelude.{ℕ, ◌≡◌, ◌==◌, if◌then◌else◌, List, [], ◌∷◌, ◌++◌, map, slice_get, get_or, Option, Some, None, option_and_then}
-use Rattle.std.specs.Option.{option_map_or}
+use Rattle.std.specs.{Option.option_map_or, Prelude.{ℕ, ◌≡◌, ◌==◌, if◌then◌else◌, List, [], ◌∷◌, ◌++◌, map, slice_get, get_or, Option, Some, None, option_and_then}}
 use Rattle.cell_stock.specs.declared.purse.Spare.{Spare}
-use Rattle.dc_node.specs.Block.{entries_in, is_full}
-use Rattle.dc_node.specs.declared.block.Block.{Block}
-use Rattle.dc_node.specs.declared.entry.Entry.{Entry}
-use Rattle.dim_hierarchy.specs.Dimension.{Dimension}
-use Rattle.dim_hierarchy.specs.declared.row.Row.{Row}
+use Rattle.dc_node.specs.{Block.{entries_in, is_full}, declared.block.Block.Block, declared.entry.Entry.Entry}
+use Rattle.dim_hierarchy.specs.{Dimension.Dimension, declared.row.Row.Row}
 use Rattle.link_descent.specs.Pick.{pick_place}
 use Rattle.shard_store.specs.declared.gate.Gate.{Gate}
-use Rattle.volap_cell.specs.Cells.{CellValue, block_in}
-use Rattle.volap_cell.specs.Values.{ErrandValue, TaskValue, OfRow, actor_of}
-use Rattle.volap_cell.specs.declared.actor.Actor.{Actor}
-use Rattle.volap_cell.specs.declared.errand.Way.{Way}
-use Rattle.volap_cell.specs.declared.errand.Way.TheVariants.{Carried}
+use Rattle.volap_cell.specs.{Cells.{CellValue, block_in}, Values.{ErrandValue, TaskValue, OfRow, actor_of}, declared.actor.Actor.Actor, declared.errand.Way.Way, declared.errand.Way.TheVariants.Carried}
 use Rattle.seeded_run.specs.declared.rows.Lead.{Lead}
 
 -- Where a row goes.

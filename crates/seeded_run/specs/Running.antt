@@ -1,20 +1,11 @@
 -- What holds between the steps of a phase.
 use Rattle.std.specs.Prelude.{ℕ, ◌≡◌, ◌≢◌, ◌+◌, ⊤, Bool, true, false, List, [], ◌∷◌, ◌++◌, Option, Some, option_map, length, take, slice_get}
 use Rattle.script_form.specs.declared.script.Command.{Command}
-use Rattle.script_run.specs.Between.{IsInOrder}
-use Rattle.script_run.specs.Places.{begins_of, count_of, session_of}
+use Rattle.script_run.specs.{Between.IsInOrder, Places.{begins_of, count_of, session_of}, Streams.IsInPhase}
 use Rattle.row_ledger.specs.Settled.{pulls_since, settle_pulls}
-use Rattle.script_run.specs.Streams.{IsInPhase}
-use Rattle.volap_cell.specs.Setting.{Setting}
-use Rattle.volap_cell.specs.Steps.{history_in}
-use Rattle.volap_cell.specs.World.{World}
-use Rattle.volap_cell.specs.declared.command.Command.{Command as OpenCommand}
-use Rattle.volap_cell.specs.declared.command.Work.{Work}
+use Rattle.volap_cell.specs.{Setting.Setting, Steps.history_in, World.World, declared.command.Command.Command as OpenCommand, declared.command.Work.Work}
 use Rattle.volap_cell.specs.declared.command.Work.TheVariants as work_is
-use Rattle.seeded_run.specs.Cursors.{HasCursors}
-use Rattle.seeded_run.specs.Due.{does_nothing, is_alone}
-use Rattle.seeded_run.specs.Progress.{ArePagesNext, AreScriptRoles, IsNobodyIn, IsPhaseOf}
-use Rattle.seeded_run.specs.Rests.{PhaseRun, first_open, rest_of}
+use Rattle.seeded_run.specs.{Cursors.HasCursors, Due.{does_nothing, is_alone}, Progress.{ArePagesNext, AreScriptRoles, IsNobodyIn, IsPhaseOf}, Rests.{PhaseRun, first_open, rest_of}}
 
 -- by session: where the command began that its actor has open
 abbrev pub opened_in : World → ℕ → Option ℕ

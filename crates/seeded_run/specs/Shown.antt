@@ -3,18 +3,9 @@ use Rattle.std.specs.Prelude.{ℕ, ◌≡◌, true, false, List, get_or, Option,
 use Rattle.row_ledger.specs.declared.class.Subject.{Subject}
 use Rattle.row_ledger.specs.declared.class.Subject.TheVariants as subject
 use Rattle.server_image.specs.Registry.{host_of}
-use Rattle.volap_cell.specs.Cells.{registry_in, where_in}
-use Rattle.volap_cell.specs.ImageKinds.{doing}
-use Rattle.volap_cell.specs.Setting.{Setting, map_cell, registry_cell}
-use Rattle.volap_cell.specs.State.{Has}
-use Rattle.volap_cell.specs.declared.actor.Actor.{Actor}
-use Rattle.volap_cell.specs.declared.cell.Cell.{Cell}
-use Rattle.volap_cell.specs.declared.command.Command.{Command}
-use Rattle.volap_cell.specs.declared.command.Work.{Work}
+use Rattle.volap_cell.specs.{Cells.{registry_in, where_in}, ImageKinds.doing, Setting.{Setting, map_cell, registry_cell}, State.Has, declared.actor.Actor.Actor, declared.cell.Cell.Cell, declared.command.Command.Command, declared.command.Work.Work}
 use Rattle.volap_cell.specs.declared.command.Work.TheVariants as work_is
-use Rattle.seeded_run.specs.Led.{gate_there}
-use Rattle.seeded_run.specs.Look.{cell_at}
-use Rattle.seeded_run.specs.Works.{command_by}
+use Rattle.seeded_run.specs.{Led.gate_there, Look.cell_at, Works.command_by}
 
 -- a command of this work, whose page is to be shown
 abbrev pub IsToShow : Work → Option Command → Type 0

@@ -1,13 +1,8 @@
 -- What the steps that are due go on with: a part or a purse, an open command, or the next command.
 use Rattle.std.specs.Prelude.{ℕ, ◌≡◌, ◌&&◌, Bool, is_none, is_some, true, false, List, Option, Some, None, get_or}
-use Rattle.volap_cell.specs.Values.{ErrandValue, actor_of}
-use Rattle.volap_cell.specs.declared.actor.Actor.{Actor}
-use Rattle.volap_cell.specs.declared.kind.Kind.{Kind}
+use Rattle.volap_cell.specs.{Values.{ErrandValue, actor_of}, declared.actor.Actor.Actor, declared.kind.Kind.Kind}
 use Rattle.volap_cell.specs.declared.kind.Kind.TheVariants as kind
-use Rattle.seeded_run.specs.AtWork.{errand_by}
-use Rattle.seeded_run.specs.Commands.{may_begin}
-use Rattle.seeded_run.specs.Told.{is_of_part}
-use Rattle.seeded_run.specs.Works.{command_by}
+use Rattle.seeded_run.specs.{AtWork.errand_by, Commands.may_begin, Told.is_of_part, Works.command_by}
 
 abbrev pub HasCommand : List (Option Actor) → ℕ → Type 0
 HasCommand actors n = is_some (command_by actors n) ≡ true

@@ -1,26 +1,14 @@
 -- Whether a step can be made, as one thread sees it that holds a core's cells and actors.
-use Rattle.std.specs.Prelude.{ℕ, ⊤, ◌≡◌, ◌==◌, ◌||◌, Bool, true, false, not, Option, Some, None, List, length, get_or, option_and_then}
+use Rattle.std.specs.{Option.option_map_or, Prelude.{ℕ, ⊤, ◌≡◌, ◌==◌, ◌||◌, Bool, true, false, not, Option, Some, None, List, length, get_or, option_and_then}}
 use Rattle.dc_node.specs.Block.{IsBodyOf}
-use Rattle.dim_hierarchy.specs.Dimension.{Dimension}
-use Rattle.dim_hierarchy.specs.Rows.{IsRowOf}
+use Rattle.dim_hierarchy.specs.{Dimension.Dimension, Rows.IsRowOf}
 use Rattle.query_router.specs.Desk.{DeskValue}
-use Rattle.std.specs.Option.{option_map_or}
 use Rattle.row_ledger.specs.declared.settings.Use.{Use}
 use Rattle.script_form.specs.declared.script.Command.{Command}
 use Rattle.script_form.specs.declared.script.Command.TheVariants as script
 use Rattle.script_run.specs.Phases.{closes}
-use Rattle.volap_cell.specs.Cells.{block_in}
-use Rattle.volap_cell.specs.Errands.{way_of}
-use Rattle.volap_cell.specs.Values.{ErrandValue, OfRow, actor_of}
-use Rattle.volap_cell.specs.declared.actor.Actor.{Actor}
-use Rattle.volap_cell.specs.declared.cell.Cell.{Cell}
-use Rattle.volap_cell.specs.declared.errand.RowErrand.{RowErrand}
-use Rattle.volap_cell.specs.declared.errand.Way.TheVariants.{Carried}
-use Rattle.volap_cell.specs.declared.kind.Kind.{Kind}
-use Rattle.volap_cell.specs.declared.role.Role.TheVariants.{Session}
-use Rattle.seeded_run.specs.Can.{is_carried_at, wanted_of}
-use Rattle.seeded_run.specs.Due.{all_below, is_empty_desk}
-use Rattle.seeded_run.specs.Look.{cell_at, setting_by, world_by}
+use Rattle.volap_cell.specs.{Cells.block_in, Errands.way_of, Values.{ErrandValue, OfRow, actor_of}, declared.actor.Actor.Actor, declared.cell.Cell.Cell, declared.errand.RowErrand.RowErrand, declared.errand.Way.TheVariants.Carried, declared.kind.Kind.Kind, declared.role.Role.TheVariants.Session}
+use Rattle.seeded_run.specs.{Can.{is_carried_at, wanted_of}, Due.{all_below, is_empty_desk}, Look.{cell_at, setting_by, world_by}}
 
 -- a row and the block at which it is carried are of the dimensions
 pub record CanPick (h : List Dimension) (cells : List (Option Cell)) (e : ErrandValue) : Type 0 where

@@ -1,25 +1,11 @@
 -- What one step tells the history, and what becomes of its actor's command.
 use Rattle.std.specs.Prelude.{ℕ, ◌≡◌, ◌++◌, ◌⊎◌, Bool, true, false, List, [], ◌∷◌, Option, Some, None, length}
 use Rattle.describing_set.specs.declared.listing.Spot.{Spot}
-use Rattle.row_ledger.specs.Classes.{class_of}
-use Rattle.row_ledger.specs.Past.{end_in, ends_itself, session_in}
-use Rattle.row_ledger.specs.declared.event.Event.{Event}
+use Rattle.row_ledger.specs.{Classes.class_of, Past.{end_in, ends_itself, session_in}, declared.event.Event.Event, declared.page.Page.Page, declared.settings.How.How}
 use Rattle.row_ledger.specs.declared.event.Event.TheVariants as event
-use Rattle.row_ledger.specs.declared.page.Page.{Page}
-use Rattle.row_ledger.specs.declared.settings.How.{How}
 use Rattle.script_run.specs.Phases.{is_closing}
-use Rattle.volap_cell.specs.Commands.{MayNoteEnd, due_pull, once_shown, pulled_once}
-use Rattle.volap_cell.specs.Ghost.{Ghost}
-use Rattle.volap_cell.specs.ImageKinds.{IsFree, doing}
-use Rattle.volap_cell.specs.Invariant.{InvWith}
-use Rattle.volap_cell.specs.Setting.{Setting}
-use Rattle.volap_cell.specs.Steps.{Step, history_in}
-use Rattle.volap_cell.specs.View.{view}
-use Rattle.volap_cell.specs.World.{World}
-use Rattle.volap_cell.specs.declared.command.Command.{Command as OpenCommand}
-use Rattle.volap_cell.specs.declared.command.Work.{Work}
+use Rattle.volap_cell.specs.{Commands.{MayNoteEnd, due_pull, once_shown, pulled_once}, Ghost.Ghost, ImageKinds.{IsFree, doing}, Invariant.InvWith, Setting.Setting, Steps.{Step, history_in}, View.view, World.World, declared.command.Command.Command as OpenCommand, declared.command.Work.Work, declared.kind.Kind.Kind}
 use Rattle.volap_cell.specs.declared.command.Work.TheVariants as work_is
-use Rattle.volap_cell.specs.declared.kind.Kind.{Kind}
 use Rattle.volap_cell.specs.declared.kind.Kind.TheVariants as kind
 use Rattle.seeded_run.specs.Running.{HasPulled, is_closing_work}
 

@@ -1,18 +1,11 @@
 -- What the open command of an actor is, as one thread sees it that holds a core's actors: whose pull is due for it, and how it ends by
 -- its own note.
 use Rattle.std.specs.Prelude.{ℕ, ◌&&◌, Bool, true, false, not, is_some, List, Option, Some, None, get_or}
-use Rattle.row_ledger.specs.declared.settings.Decline.{Decline}
-use Rattle.row_ledger.specs.declared.settings.Decline.TheVariants.{Unknown}
-use Rattle.row_ledger.specs.declared.settings.How.{How}
+use Rattle.row_ledger.specs.{declared.settings.Decline.Decline, declared.settings.Decline.TheVariants.Unknown, declared.settings.How.How}
 use Rattle.row_ledger.specs.declared.settings.How.TheVariants as how
-use Rattle.volap_cell.specs.Commands.{due_pull}
-use Rattle.volap_cell.specs.Values.{ActorValue, JobValue, StageValue, IsDeclined, actor_of}
-use Rattle.volap_cell.specs.declared.actor.Actor.{Actor}
-use Rattle.volap_cell.specs.declared.command.Command.{Command}
-use Rattle.volap_cell.specs.declared.command.Work.{Work}
+use Rattle.volap_cell.specs.{Commands.due_pull, Values.{ActorValue, JobValue, StageValue, IsDeclined, actor_of}, declared.actor.Actor.Actor, declared.command.Command.Command, declared.command.Work.Work}
 use Rattle.volap_cell.specs.declared.command.Work.TheVariants as work_is
-use Rattle.seeded_run.specs.Look.{waits_for_others}
-use Rattle.seeded_run.specs.declared.works.Ending.{Ending}
+use Rattle.seeded_run.specs.{Look.waits_for_others, declared.works.Ending.Ending}
 use Rattle.seeded_run.specs.declared.works.Ending.TheVariants as ending
 
 -- its open command

@@ -1,15 +1,8 @@
 -- The one state that vectors of cells and actors are, and what it is about.
-use Rattle.std.specs.Prelude.{List, map, Option}
-use Rattle.std.specs.Option.{option_map_or}
+use Rattle.std.specs.{Option.option_map_or, Prelude.{List, map, Option}}
 use Rattle.dim_hierarchy.specs.Dimension.{Dimension}
 use Rattle.row_ledger.specs.declared.settings.Use.{Use}
-use Rattle.volap_cell.specs.Filling.{world_of}
-use Rattle.volap_cell.specs.Setting.{Setting}
-use Rattle.volap_cell.specs.World.{World}
-use Rattle.volap_cell.specs.declared.actor.Actor.{Actor}
-use Rattle.volap_cell.specs.declared.cell.Cell.{Cell}
-use Rattle.volap_cell.specs.declared.role.Role.{Role}
-use Rattle.volap_cell.specs.declared.role.Role.TheVariants.{Hand}
+use Rattle.volap_cell.specs.{Filling.world_of, Setting.Setting, World.World, declared.actor.Actor.Actor, declared.cell.Cell.Cell, declared.role.Role.Role, declared.role.Role.TheVariants.Hand}
 
 -- what each actor is there for
 abbrev pub roles_in : List (Option Actor) → List Role

@@ -1,7 +1,6 @@
 -- What each step keeps a whole run keeps; runs behind one another, and runs of what states stand for.
 use Rattle.std.proofs.Common.{◌≡◌, ℕ, List, [], ◌∷◌, Some, sym, ap, subst}
-use Rattle.seeded_turns.specs.declared.schedule.Schedule.{Schedule}
-use Rattle.seeded_turns.specs.Drawn.{chosen, Moment, AreTurns, Reaches}
+use Rattle.seeded_turns.specs.{Drawn.{chosen, Moment, AreTurns, Reaches}, declared.schedule.Schedule.Schedule}
 
 -- a run keeps what each of its steps keeps
 turns_keep : (S : Type 0) (able_in : S → List ℕ) (makes : S → ℕ → S → Type 0) (P : S → Type 0) → ((s t : S) (i : ℕ) → makes s i t → P s → P t)

@@ -1,7 +1,6 @@
 -- A run goes on by a turn.
 use Rattle.std.proofs.Common.{◌≡◌, ℕ, List, ◌∷◌, Some}
-use Rattle.seeded_turns.specs.Drawn.{chosen, next_schedule, Moment, Reaches}
-use Rattle.seeded_turns.specs.declared.schedule.Schedule.{Schedule}
+use Rattle.seeded_turns.specs.{Drawn.{chosen, next_schedule, Moment, Reaches}, declared.schedule.Schedule.Schedule}
 
 pub reach_more : (S : Type 0) (able_in : S → List ℕ) (makes : S → ℕ → S → Type 0) (from : Moment S) (s t : S) (p q : Schedule) (i : ℕ)
     → Reaches S able_in makes from s p → q ≡ next_schedule p → chosen p (able_in s) ≡ Some i → makes s i t → Reaches S able_in makes from t q

@@ -1,9 +1,7 @@
 -- Whose turn it is, and runs in which each step is made by the actor whose turn it is.
 use Rattle.std.specs.Prelude.{ℕ, zero, suc, ◌≡◌, ◌%◌, Bool, Option, Some, if◌then◌else◌, List, [], ◌∷◌, ◌++◌, length, slice_get}
-use Rattle.rand_pcg.specs.Lcg.{Lcg}
-use Rattle.rand_pcg.specs.Pcg.{pcg32}
-use Rattle.seeded_turns.specs.declared.schedule.Schedule.{Schedule}
-use Rattle.seeded_turns.specs.declared.schedule.Schedule.TheVariants.{Order, Seed}
+use Rattle.rand_pcg.specs.{Lcg.Lcg, Pcg.pcg32}
+use Rattle.seeded_turns.specs.{declared.schedule.Schedule.Schedule, declared.schedule.Schedule.TheVariants.{Order, Seed}}
 
 -- the actors below a number that can step, in the order of their numbers
 abbrev pub able : (ℕ → Bool) → ℕ → List ℕ

@@ -1,24 +1,9 @@
 -- How the boxes of spots grow.
-use Rattle.std.proofs.Common.{ℕ, zero, suc, ◌≡◌, ◌+◌, ◌<◌, List, [], ◌∷◌, ◌++◌, length, get_or, set, take, drop, refl, sym, ap, ◌∙◌, subst, arith, All, add-zero}
-use Rattle.std.specs.Prelude.{◌==◌}
-use Rattle.std.specs.List.{AllZip, range_with_len}
-use Rattle.std.proofs.lemmas.List.{append-nil, append_assoc, take_more, take_more_set, drop-set-lt, length-set, get_or-drop, drop-drop}
-use Rattle.std.proofs.lemmas.List.{map-id}
-use Rattle.std.proofs.lemmas.List.FromFn.{map-range_with_len_more}
-use Rattle.std.proofs.lemmas.List.Elements.{All-append, All-cons, All-nil, All-set, All-take, all_zip_more}
-use Rattle.std.proofs.lemmas.List.Sorted.{IsPermutation-sym, IsPermutation-to_front, Contains-permutation}
-use Rattle.dim_hierarchy.specs.Dimension.{Dimension}
-use Rattle.dim_hierarchy.specs.Row.{IsCoordOf}
-use Rattle.dim_hierarchy.specs.declared.row.Coord.{Coord}
-use Rattle.describing_set.specs.Sorted.{Below, Ascends}
-use Rattle.describing_set.specs.DescSet.{IsSetOf}
-use Rattle.describing_set.specs.Sets.{IsDescSetOf, GrowsBy, AreAmong}
-use Rattle.describing_set.specs.declared.set.DescSet.{DescSet}
-use Rattle.describing_set.specs.declared.listing.Spot.{Spot}
-use Rattle.server_image.specs.declared.image.Growth.{Growth}
-use Rattle.server_image.specs.Spots.{spot_ids, IsGrown, Grows, AreBoxes, along}
-use Rattle.server_image.specs.Registry.{IsFirstSpot}
-use Rattle.server_image.specs.Image.{noted, AreGrowths}
+use Rattle.std.proofs.{Common.{ℕ, zero, suc, ◌≡◌, ◌+◌, ◌<◌, List, [], ◌∷◌, ◌++◌, length, get_or, set, take, drop, refl, sym, ap, ◌∙◌, subst, arith, All, add-zero}, lemmas.List.{append-nil, append_assoc, take_more, take_more_set, drop-set-lt, length-set, get_or-drop, drop-drop, map-id}, lemmas.List.Elements.{All-append, All-cons, All-nil, All-set, All-take, all_zip_more}, lemmas.List.FromFn.map-range_with_len_more, lemmas.List.Sorted.{IsPermutation-sym, IsPermutation-to_front, Contains-permutation}}
+use Rattle.std.specs.{List.{AllZip, range_with_len}, Prelude.{◌==◌}}
+use Rattle.dim_hierarchy.specs.{Dimension.Dimension, Row.IsCoordOf, declared.row.Coord.Coord}
+use Rattle.describing_set.specs.{DescSet.IsSetOf, Sets.{IsDescSetOf, GrowsBy, AreAmong}, Sorted.{Below, Ascends}, declared.listing.Spot.Spot, declared.set.DescSet.DescSet}
+use Rattle.server_image.specs.{Image.{noted, AreGrowths}, Registry.IsFirstSpot, Spots.{spot_ids, IsGrown, Grows, AreBoxes, along}, declared.image.Growth.Growth}
 use Rattle.server_image.proofs.Lists.{by_test}
 
 -- Lists place by place.

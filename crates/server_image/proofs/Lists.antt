@@ -1,12 +1,8 @@
 -- Lists of spots when one is found, taken out or put in.
-use Rattle.std.proofs.Common.{ℕ, suc, ◌≡◌, ◌+◌, ◌<◌, ◌≤◌, ◌⊎◌, inl, inr, Bool, true, false, List, [], ◌∷◌, length, refl, sym, ap, subst, arith}
-use Rattle.std.specs.Prelude.{◌==◌, nat_lt, position, unwrap_or}
-use Rattle.std.specs.List.{position_or_len, list_any, insert, remove}
-use Rattle.std.proofs.lemmas.Bool.{false≢true, eqb-false, ltb-true, ltb-false}
-use Rattle.describing_set.specs.Sorted.{Below, Ascends, In}
-use Rattle.describing_set.specs.declared.listing.Spot.{Spot}
-use Rattle.server_image.specs.Spots.{has_spot, spot_ids, place_of, without, with_spot}
-use Rattle.server_image.specs.Registry.{IsRegistry}
+use Rattle.std.proofs.{Common.{ℕ, suc, ◌≡◌, ◌+◌, ◌<◌, ◌≤◌, ◌⊎◌, inl, inr, Bool, true, false, List, [], ◌∷◌, length, refl, sym, ap, subst, arith}, lemmas.Bool.{false≢true, eqb-false, ltb-true, ltb-false}}
+use Rattle.std.specs.{List.{position_or_len, list_any, insert, remove}, Prelude.{◌==◌, nat_lt, position, unwrap_or}}
+use Rattle.describing_set.specs.{Sorted.{Below, Ascends, In}, declared.listing.Spot.Spot}
+use Rattle.server_image.specs.{Registry.IsRegistry, Spots.{has_spot, spot_ids, place_of, without, with_spot}}
 
 -- a test is true or false
 pub by_test : {P : Type 0} (b : Bool) → (b ≡ true → P) → (b ≡ false → P) → P

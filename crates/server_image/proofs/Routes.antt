@@ -1,15 +1,9 @@
 -- The spot before which no other comes.
-use Rattle.std.proofs.Common.{ℕ, ◌≡◌, ◌+◌, ◌<◌, ◌≤◌, ◌⊎◌, inl, inr, List, length, Some, refl, sym, ap, ◌∙◌, subst, arith}
+use Rattle.std.proofs.{Common.{ℕ, ◌≡◌, ◌+◌, ◌<◌, ◌≤◌, ◌⊎◌, inl, inr, List, length, Some, refl, sym, ap, ◌∙◌, subst, arith}, lemmas.Bool.cases_lt, lemmas.Option.{same_Some, slice_get_within}}
 use Rattle.std.specs.Prelude.{slice_get}
-use Rattle.std.proofs.lemmas.Bool.{cases_lt}
-use Rattle.std.proofs.lemmas.Option.{same_Some, slice_get_within}
-use Rattle.dim_hierarchy.specs.Dimension.{Dimension}
-use Rattle.dim_hierarchy.specs.declared.row.Coord.{Coord}
-use Rattle.describing_set.specs.Sets.{growth_of, size_of}
-use Rattle.describing_set.specs.declared.listing.Spot.{Spot}
-use Rattle.server_image.specs.declared.rank.Rank.{Rank}
-use Rattle.server_image.specs.Image.{RanksBefore, IsRoute}
-use Rattle.server_image.specs.Rank.{rank_of, IsLower, IsRouteAmong}
+use Rattle.dim_hierarchy.specs.{Dimension.Dimension, declared.row.Coord.Coord}
+use Rattle.describing_set.specs.{Sets.{growth_of, size_of}, declared.listing.Spot.Spot}
+use Rattle.server_image.specs.{Image.{RanksBefore, IsRoute}, Rank.{rank_of, IsLower, IsRouteAmong}, declared.rank.Rank.Rank}
 
 -- The order, over its numbers: growth, size and id.
 

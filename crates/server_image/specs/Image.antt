@@ -1,15 +1,8 @@
 -- What contracts see of an image, and what its calls do.
 use Rattle.std.specs.Prelude.{ℕ, ◌≡◌, ◌==◌, ◌+◌, ◌-◌, ◌<◌, ◌⊎◌, All, Some, List, [], ◌∷◌, ◌++◌, length, map, filter, slice_get, slice_index_or}
-use Rattle.dim_hierarchy.specs.declared.row.Coord.{Coord}
-use Rattle.dim_hierarchy.specs.declared.filter.Pick.{Pick}
-use Rattle.dim_hierarchy.specs.Dimension.{Dimension}
-use Rattle.dim_hierarchy.specs.Row.{IsCoordOf}
-use Rattle.describing_set.specs.Sets.{growth_of, size_of}
-use Rattle.describing_set.specs.Filter.{overlaps}
-use Rattle.describing_set.specs.declared.listing.Spot.{Spot}
-use Rattle.server_image.specs.declared.image.Growth.{Growth}
-use Rattle.server_image.specs.Spots.{along, Grows}
-use Rattle.server_image.specs.Registry.{RegistryValue}
+use Rattle.dim_hierarchy.specs.{Dimension.Dimension, Row.IsCoordOf, declared.filter.Pick.Pick, declared.row.Coord.Coord}
+use Rattle.describing_set.specs.{Filter.overlaps, Sets.{growth_of, size_of}, declared.listing.Spot.Spot}
+use Rattle.server_image.specs.{Registry.RegistryValue, Spots.{along, Grows}, declared.image.Growth.Growth}
 
 -- the shards that it lists, the growths that it has still to push, and how many acknowledgements are owed
 pub record ImageValue : Type 0 where

@@ -1,11 +1,8 @@
 -- What spots are ranked by, and the first of some spots.
 use Rattle.std.specs.Prelude.{ℕ, ◌≡◌, ◌<◌, ◌⊎◌, List, Some, slice_get}
-use Rattle.dim_hierarchy.specs.declared.row.Coord.{Coord}
-use Rattle.dim_hierarchy.specs.Dimension.{Dimension}
-use Rattle.describing_set.specs.Sets.{growth_of, size_of}
-use Rattle.describing_set.specs.declared.listing.Spot.{Spot}
-use Rattle.server_image.specs.declared.rank.Rank.{Rank}
-use Rattle.server_image.specs.Image.{RanksBefore}
+use Rattle.dim_hierarchy.specs.{Dimension.Dimension, declared.row.Coord.Coord}
+use Rattle.describing_set.specs.{Sets.{growth_of, size_of}, declared.listing.Spot.Spot}
+use Rattle.server_image.specs.{Image.RanksBefore, declared.rank.Rank.Rank}
 
 -- by how much the coordinate grows the spot's box, how large the box is, and the spot's id
 abbrev pub rank_of : List Dimension → Coord → Spot → Rank

@@ -1,12 +1,7 @@
 -- What contracts see of a registry, and how it changes.
-use Rattle.std.specs.Prelude.{ℕ, ◌≡◌, ◌<◌, Bool, Option, Some, List, [], ◌∷◌, ◌++◌, length, slice_get, slice_set}
-use Rattle.std.specs.Option.{option_or}
-use Rattle.std.specs.List.{AllZip, range_with_len}
-use Rattle.describing_set.specs.Sorted.{Ascends}
+use Rattle.std.specs.{List.{AllZip, range_with_len}, Option.option_or, Prelude.{ℕ, ◌≡◌, ◌<◌, Bool, Option, Some, List, [], ◌∷◌, ◌++◌, length, slice_get, slice_set}}
+use Rattle.describing_set.specs.{DescSet.IsSetOf, Sorted.Ascends, declared.listing.Spot.Spot, declared.set.DescSet.DescSet}
 use Rattle.dim_hierarchy.specs.Dimension.{Dimension}
-use Rattle.describing_set.specs.DescSet.{IsSetOf}
-use Rattle.describing_set.specs.declared.set.DescSet.{DescSet}
-use Rattle.describing_set.specs.declared.listing.Spot.{Spot}
 use Rattle.server_image.specs.Spots.{spot_ids, has_spot, place_of, worker_in, without, with_spot}
 
 -- the shards without successors, by ascending id, and those with successors, as they were when they got them

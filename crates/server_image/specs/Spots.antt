@@ -1,12 +1,7 @@
 -- Lists of spots: finding one, and how their boxes grow.
-use Rattle.std.specs.Prelude.{ℕ, ◌≡◌, ◌==◌, nat_lt, Bool, if◌then◌else◌, Option, Some, None, List, [], ◌∷◌, ◌++◌, map, All}
-use Rattle.std.specs.List.{AllZip, insert, remove, position_or_len, list_any}
-use Rattle.dim_hierarchy.specs.declared.row.Coord.{Coord}
-use Rattle.dim_hierarchy.specs.Dimension.{Dimension}
-use Rattle.dim_hierarchy.specs.Row.{IsCoordOf}
-use Rattle.describing_set.specs.DescSet.{IsSetOf}
-use Rattle.describing_set.specs.Sets.{IsDescSetOf}
-use Rattle.describing_set.specs.declared.listing.Spot.{Spot}
+use Rattle.std.specs.{List.{AllZip, insert, remove, position_or_len, list_any}, Prelude.{ℕ, ◌≡◌, ◌==◌, nat_lt, Bool, if◌then◌else◌, Option, Some, None, List, [], ◌∷◌, ◌++◌, map, All}}
+use Rattle.dim_hierarchy.specs.{Dimension.Dimension, Row.IsCoordOf, declared.row.Coord.Coord}
+use Rattle.describing_set.specs.{DescSet.IsSetOf, Sets.IsDescSetOf, declared.listing.Spot.Spot}
 
 -- the boxes are sets of this hierarchy
 abbrev pub AreBoxes : List Dimension → List Spot → Type 0

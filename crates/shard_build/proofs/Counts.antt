@@ -1,9 +1,6 @@
 -- How many blocks there are, level by level
-use Rattle.std.proofs.Common.{◌≡◌, ℕ, ◌+◌, ◌-◌, ◌*◌, ◌<◌, ◌≤◌, List, [], ◌∷◌, length, sum, ap, ◌∙◌, inl, inr, arith}
-use Rattle.std.specs.Prelude.{min}
-use Rattle.std.specs.Int.{div_ceil}
-use Rattle.std.proofs.lemmas.Bool.{cases_lt}
-use Rattle.std.proofs.lemmas.List.Sums.{sum_by-cons}
+use Rattle.std.proofs.{Common.{◌≡◌, ℕ, ◌+◌, ◌-◌, ◌*◌, ◌<◌, ◌≤◌, List, [], ◌∷◌, length, sum, ap, ◌∙◌, inl, inr, arith}, lemmas.Bool.cases_lt, lemmas.List.Sums.sum_by-cons}
+use Rattle.std.specs.{Int.div_ceil, Prelude.min}
 use Rattle.shard_plan.specs.Building.{leaves_for, levels_over, cells_for, levels_for, parent_nodes}
 
 -- the laws of levels

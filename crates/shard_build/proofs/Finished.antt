@@ -1,22 +1,14 @@
 -- Under a gate, one root is a tree of the rows, in whatever order they came
-use Rattle.std.proofs.Common.{◌≡◌, ℕ, ◌+◌, ◌≤◌, List, [], ◌∷◌, drop, refl, sym, ap, ◌∙◌, subst, arith}
+use Rattle.std.proofs.{Common.{◌≡◌, ℕ, ◌+◌, ◌≤◌, List, [], ◌∷◌, drop, refl, sym, ap, ◌∙◌, subst, arith}, lemmas.List.Sorted.{All-permutation, sum_by-IsPermutation}, lemmas.List.Sums.sum_by-cons}
 use Rattle.std.specs.Prelude.{sum_by, IsPermutation}
-use Rattle.std.proofs.lemmas.List.Sums.{sum_by-cons}
-use Rattle.std.proofs.lemmas.List.Sorted.{All-permutation, sum_by-IsPermutation}
-use Rattle.dim_hierarchy.specs.declared.row.Row.{Row}
-use Rattle.dim_hierarchy.specs.Dimension.{Dimension}
-use Rattle.dim_hierarchy.specs.Rows.{IsRowOf}
+use Rattle.dim_hierarchy.specs.{Dimension.Dimension, Rows.IsRowOf, declared.row.Row.Row}
 use Rattle.dc_node.specs.declared.entry.Entry.{Entry}
 use Rattle.shard_store.specs.Gate.{root_entry}
-use Rattle.link_descent.specs.Descend.{IsEntryOf}
-use Rattle.link_descent.specs.declared.entered.Fresh.{Fresh}
+use Rattle.link_descent.specs.{Descend.IsEntryOf, declared.entered.Fresh.Fresh}
 use Rattle.list_words.specs.Counts.{same, times}
 use Rattle.list_words.proofs.Times.{same_is}
-use Rattle.tree_shape.specs.Shape.{Table, TreeCells, numbers}
-use Rattle.tree_shape.specs.Forest.{AfterBuilding, AreInCells, AreRowsOf, IsForest, TreeLaw, filled_cells}
-use Rattle.shard_build.specs.Building.{IsEntryTo, IsGrown}
-use Rattle.shard_build.specs.Built.{IsInCells, root_of}
-use Rattle.shard_build.specs.declared.builder.Built.{Built}
+use Rattle.tree_shape.specs.{Forest.{AfterBuilding, AreInCells, AreRowsOf, IsForest, TreeLaw, filled_cells}, Shape.{Table, TreeCells, numbers}}
+use Rattle.shard_build.specs.{Building.{IsEntryTo, IsGrown}, Built.{IsInCells, root_of}, declared.builder.Built.Built}
 use Rattle.shard_build.proofs.Grown.{entry-in-cell, in-cells-from}
 
 times-sum : (r : ℕ) (rows : List Row) → times r (numbers rows) ≡ sum_by (λ (x : Row). same r x.no) rows

@@ -1,30 +1,14 @@
 -- Leaves are trees side by side, and so is each level
-use Rattle.std.proofs.Common.{◌≡◌, ℕ, ◌+◌, ◌^◌, ◌<◌, ◌≤◌, true, false, List, [], ◌∷◌, ◌++◌, length, map, take, drop, refl, sym, ap, ◌∙◌, subst, arith, length-append}
-use Rattle.std.specs.Prelude.{None, sum_by, All}
-use Rattle.std.specs.List.{AllZip}
-use Rattle.std.proofs.lemmas.Grind.{flat_map-append}
-use Rattle.std.proofs.lemmas.List.{append-nil, drop_at, map-append, take-append-drop}
-use Rattle.std.proofs.lemmas.List.Elements.{All-append, All-head, All-tail}
-use Rattle.dim_hierarchy.specs.declared.row.Row.{Row}
-use Rattle.dim_hierarchy.specs.Dimension.{Dimension}
-use Rattle.dim_hierarchy.specs.Rows.{IsRowOf}
-use Rattle.dc_node.specs.Block.{is_leaf, rows_in, size}
-use Rattle.dc_node.specs.Summary.{IsSummary}
-use Rattle.dc_node.specs.declared.block.Body.{Body}
-use Rattle.dc_node.specs.declared.block.Body.TheVariants.{Rows, Entries}
-use Rattle.dc_node.specs.declared.block.Block.{Block}
-use Rattle.dc_node.specs.declared.entry.Entry.{Entry}
-use Rattle.link_descent.specs.Descend.{IsEntryOf}
-use Rattle.link_descent.specs.declared.entered.Fresh.{Fresh}
+use Rattle.std.proofs.{Common.{◌≡◌, ℕ, ◌+◌, ◌^◌, ◌<◌, ◌≤◌, true, false, List, [], ◌∷◌, ◌++◌, length, map, take, drop, refl, sym, ap, ◌∙◌, subst, arith, length-append}, lemmas.Grind.flat_map-append, lemmas.List.{append-nil, drop_at, map-append, take-append-drop}, lemmas.List.Elements.{All-append, All-head, All-tail}}
+use Rattle.std.specs.{List.AllZip, Prelude.{None, sum_by, All}}
+use Rattle.dim_hierarchy.specs.{Dimension.Dimension, Rows.IsRowOf, declared.row.Row.Row}
+use Rattle.dc_node.specs.{Block.{is_leaf, rows_in, size}, Summary.IsSummary, declared.block.Block.Block, declared.block.Body.Body, declared.block.Body.TheVariants.{Rows, Entries}, declared.entry.Entry.Entry}
+use Rattle.link_descent.specs.{Descend.IsEntryOf, declared.entered.Fresh.Fresh}
 use Rattle.list_words.specs.Counts.{Each, times}
-use Rattle.list_words.proofs.Each.{each-all, each-left, each-right}
-use Rattle.list_words.proofs.Times.{times-append}
-use Rattle.tree_shape.specs.Shape.{numbers}
-use Rattle.tree_shape.specs.Trees.{limit}
-use Rattle.tree_shape.specs.Forest.{AreInCells, AreRowsOf, DirectoriesLaw, IsForest, LeavesLaw, all_entries, all_rows, filled_cells}
+use Rattle.list_words.proofs.{Each.{each-all, each-left, each-right}, Times.times-append}
+use Rattle.tree_shape.specs.{Forest.{AreInCells, AreRowsOf, DirectoriesLaw, IsForest, LeavesLaw, all_entries, all_rows, filled_cells}, Shape.numbers, Trees.limit}
 use Rattle.shard_build.specs.Building.{AreLeavesOf, AreParentsOf, AreSmall, IsEntryTo, IsGrown, most, rows_under}
-use Rattle.shard_build.proofs.Led.{leaves-led, level-led}
-use Rattle.shard_build.proofs.Summed.{leaves-beneath, leaves-countable, parents-beneath, parents-countable, parents-rows}
+use Rattle.shard_build.proofs.{Led.{leaves-led, level-led}, Summed.{leaves-beneath, leaves-countable, parents-beneath, parents-countable, parents-rows}}
 
 -- Leaves.
 

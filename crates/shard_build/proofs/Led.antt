@@ -1,13 +1,8 @@
 -- Each entry leads to one of the blocks
-use Rattle.std.proofs.Common.{◌≡◌, ℕ, true, List, [], ◌∷◌, ◌++◌, map, take, drop, refl, sym, subst, arith}
-use Rattle.std.specs.Prelude.{All, Contains}
-use Rattle.std.specs.List.{AllZip}
-use Rattle.std.proofs.lemmas.List.{map-append, take-append-drop}
-use Rattle.std.proofs.lemmas.List.Elements.{All-nil, All-cons, All-append, All-weaker, Contains-append_left, Contains-append_right}
-use Rattle.std.proofs.lemmas.Grind.{flat_map-append}
+use Rattle.std.proofs.{Common.{◌≡◌, ℕ, true, List, [], ◌∷◌, ◌++◌, map, take, drop, refl, sym, subst, arith}, lemmas.Grind.flat_map-append, lemmas.List.{map-append, take-append-drop}, lemmas.List.Elements.{All-nil, All-cons, All-append, All-weaker, Contains-append_left, Contains-append_right}}
+use Rattle.std.specs.{List.AllZip, Prelude.{All, Contains}}
 use Rattle.dim_hierarchy.specs.Dimension.{Dimension}
-use Rattle.dc_node.specs.Block.{entries_in, is_leaf}
-use Rattle.dc_node.specs.declared.entry.Entry.{Entry}
+use Rattle.dc_node.specs.{Block.{entries_in, is_leaf}, declared.entry.Entry.Entry}
 use Rattle.cell_stock.specs.declared.purse.Spare.{Spare}
 use Rattle.link_descent.specs.declared.entered.Fresh.{Fresh}
 use Rattle.tree_shape.specs.Forest.{all_entries}

@@ -1,15 +1,11 @@
 -- The entries of each level lead to the level below
-use Rattle.std.proofs.Common.{◌≡◌, ℕ, ◌-◌, ◌<◌, ◌≤◌, List, [], ◌∷◌, ◌++◌, length, take, drop, sym, ap, ◌∙◌, refl, subst, inl, inr, arith, length-append, length-drop, append_assoc}
-use Rattle.std.specs.Int.{div_ceil}
-use Rattle.std.specs.List.{AllZip}
-use Rattle.std.proofs.lemmas.Bool.{cases_lt}
-use Rattle.std.proofs.lemmas.List.{append-nil, take_at, drop_at}
+use Rattle.std.proofs.{Common.{◌≡◌, ℕ, ◌-◌, ◌<◌, ◌≤◌, List, [], ◌∷◌, ◌++◌, length, take, drop, sym, ap, ◌∙◌, refl, subst, inl, inr, arith, length-append, length-drop, append_assoc}, lemmas.Bool.cases_lt, lemmas.List.{append-nil, take_at, drop_at}}
+use Rattle.std.specs.{Int.div_ceil, List.AllZip}
 use Rattle.dim_hierarchy.specs.Dimension.{Dimension}
 use Rattle.link_descent.specs.declared.entered.Fresh.{Fresh}
 use Rattle.shard_plan.specs.Building.{leaves_for, levels_of, parent_nodes}
 use Rattle.tree_shape.specs.Forest.{all_entries}
-use Rattle.shard_build.specs.Building.{IsEntryTo}
-use Rattle.shard_build.specs.Built.{AreLevels}
+use Rattle.shard_build.specs.{Building.IsEntryTo, Built.AreLevels}
 use Rattle.shard_build.proofs.Counts.{ParentsLaw, RootLaw, levels_from}
 
 -- The blocks are levels of the tree of n rows as far as the one from a place on: with that one and whatever levels are put over

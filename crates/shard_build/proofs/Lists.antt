@@ -1,9 +1,6 @@
 -- Lists place by place, and parts of lists one after the other
-use Rattle.std.proofs.Common.{◌≡◌, ℕ, zero, suc, ◌+◌, ◌-◌, ◌<◌, ◌≤◌, List, [], ◌∷◌, ◌++◌, length, take, drop, get_or, sym, ap, ◌∙◌, refl, subst, arith}
-use Rattle.std.specs.Prelude.{All}
-use Rattle.std.specs.List.{AllZip}
-use Rattle.std.proofs.lemmas.List.{take-append-drop, take-take, drop-take, drop-drop, drop-append-le, take-append-le, drop_more, length-drop}
-use Rattle.std.proofs.lemmas.List.Elements.{All-take, All-drop, All-head}
+use Rattle.std.proofs.{Common.{◌≡◌, ℕ, zero, suc, ◌+◌, ◌-◌, ◌<◌, ◌≤◌, List, [], ◌∷◌, ◌++◌, length, take, drop, get_or, sym, ap, ◌∙◌, refl, subst, arith}, lemmas.List.{take-append-drop, take-take, drop-take, drop-drop, drop-append-le, take-append-le, drop_more, length-drop}, lemmas.List.Elements.{All-take, All-drop, All-head}}
+use Rattle.std.specs.{List.AllZip, Prelude.All}
 
 pub zip-append : {A B : Type 0} (R : A → B → Type 0) (xs us : List A) (ys vs : List B) → AllZip R xs ys → AllZip R us vs → AllZip R (xs ++ us) (ys ++ vs)
 zip-append R [] us [] vs h k = k

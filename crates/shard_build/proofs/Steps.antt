@@ -1,22 +1,14 @@
 -- A leaf more, and a directory more
-use Rattle.std.proofs.Common.{◌≡◌, ℕ, ◌+◌, ◌-◌, ◌*◌, ◌<◌, ◌≤◌, true, false, List, [], ◌∷◌, ◌++◌, length, map, take, drop, refl, sym, ap, ◌∙◌, subst, arith, length-append}
-use Rattle.std.specs.Prelude.{min, None, reverse}
-use Rattle.std.specs.List.{AllZip}
-use Rattle.std.proofs.lemmas.List.{append-nil, append_assoc, map-append, reverse-append, length-take, length-drop}
-use Rattle.std.proofs.lemmas.List.Elements.{All-push}
-use Rattle.std.proofs.lemmas.Grind.{flat_map-append}
-use Rattle.dim_hierarchy.specs.declared.row.Row.{Row}
-use Rattle.dim_hierarchy.specs.Dimension.{Dimension}
-use Rattle.dc_node.specs.Block.{rows_in, entries_in, is_leaf, size}
-use Rattle.dc_node.specs.declared.entry.Entry.{Entry}
-use Rattle.cell_stock.specs.Stock.{PurseValue}
-use Rattle.cell_stock.specs.declared.purse.Spare.{Spare}
+use Rattle.std.proofs.{Common.{◌≡◌, ℕ, ◌+◌, ◌-◌, ◌*◌, ◌<◌, ◌≤◌, true, false, List, [], ◌∷◌, ◌++◌, length, map, take, drop, refl, sym, ap, ◌∙◌, subst, arith, length-append}, lemmas.Grind.flat_map-append, lemmas.List.{append-nil, append_assoc, map-append, reverse-append, length-take, length-drop}, lemmas.List.Elements.All-push}
+use Rattle.std.specs.{List.AllZip, Prelude.{min, None, reverse}}
+use Rattle.dim_hierarchy.specs.{Dimension.Dimension, declared.row.Row.Row}
+use Rattle.dc_node.specs.{Block.{rows_in, entries_in, is_leaf, size}, declared.entry.Entry.Entry}
+use Rattle.cell_stock.specs.{Stock.PurseValue, declared.purse.Spare.Spare}
 use Rattle.link_descent.specs.declared.entered.Fresh.{Fresh}
 use Rattle.shard_plan.specs.Building.{leaf_rows, parent_nodes}
 use Rattle.tree_shape.specs.Forest.{all_entries}
 use Rattle.shard_build.specs.Building.{AddsDirectory, AddsLeaves, AddsLevel, AreLeavesOf, AreParentsOf, IsEntryTo, SiteValue, UsesUp, directory_in, leaf_in, most, spare_of}
-use Rattle.shard_build.proofs.Lists.{zip-append, zip-length, take-next, part-next, part-before}
-use Rattle.shard_build.proofs.Sizes.{sizes-more}
+use Rattle.shard_build.proofs.{Lists.{zip-append, zip-length, take-next, part-next, part-before}, Sizes.sizes-more}
 
 -- Spares.
 

@@ -1,22 +1,13 @@
 -- How many rows are beneath blocks and entries
-use Rattle.std.proofs.Common.{◌≡◌, ℕ, ◌+◌, ◌^◌, ◌<◌, ◌≤◌, true, false, List, [], ◌∷◌, ◌++◌, length, refl, sym, ap, ◌∙◌, arith, length-append}
-use Rattle.std.specs.Prelude.{sum_by, All}
-use Rattle.std.specs.List.{AllZip}
-use Rattle.std.proofs.lemmas.List.Sums.{sum_by-cons, sum_by-append}
-use Rattle.std.proofs.lemmas.List.Elements.{All-nil, All-cons, All-head, All-tail}
-use Rattle.dim_hierarchy.specs.declared.row.Row.{Row}
-use Rattle.dim_hierarchy.specs.Rows.{IsRowOf}
-use Rattle.dim_hierarchy.specs.Dimension.{Dimension}
+use Rattle.std.proofs.{Common.{◌≡◌, ℕ, ◌+◌, ◌^◌, ◌<◌, ◌≤◌, true, false, List, [], ◌∷◌, ◌++◌, length, refl, sym, ap, ◌∙◌, arith, length-append}, lemmas.List.Elements.{All-nil, All-cons, All-head, All-tail}, lemmas.List.Sums.{sum_by-cons, sum_by-append}}
+use Rattle.std.specs.{List.AllZip, Prelude.{sum_by, All}}
+use Rattle.dim_hierarchy.specs.{Dimension.Dimension, Rows.IsRowOf, declared.row.Row.Row}
 use Rattle.describing_set.specs.Sets.{IsDescSetOf}
-use Rattle.dc_node.specs.Block.{rows_in, entries_in, is_leaf, size, IsBodyOf}
-use Rattle.dc_node.specs.Summary.{aggs, joined, row_count}
-use Rattle.dc_node.specs.declared.block.Body.{Body}
-use Rattle.dc_node.specs.declared.block.Body.TheVariants.{Rows, Entries}
-use Rattle.dc_node.specs.declared.entry.Entry.{Entry}
+use Rattle.dc_node.specs.{Block.{rows_in, entries_in, is_leaf, size, IsBodyOf}, Summary.{aggs, joined, row_count}, declared.block.Body.Body, declared.block.Body.TheVariants.{Rows, Entries}, declared.entry.Entry.Entry}
 use Rattle.link_descent.specs.declared.entered.Fresh.{Fresh}
 use Rattle.shard_plan.specs.Building.{leaf_rows}
 use Rattle.tree_shape.specs.Forest.{all_entries, all_rows}
-use Rattle.tree_shape.proofs.Assembled.{no-rows}
+use Rattle.tree_shape.proofs.Whole.Assembled.{no-rows}
 use Rattle.shard_build.specs.Building.{AreSmall, IsCountable, IsEntryTo, most, rows_under}
 use Rattle.link_descent.proofs.Parts.{IsSummary-count}
 

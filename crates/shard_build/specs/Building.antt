@@ -1,24 +1,12 @@
 -- What the steps of building leave: leaves of rows, and directories over blocks, each in the cell of a spare.
-use Rattle.std.specs.Prelude.{ℕ, ◌≡◌, ◌+◌, ◌-◌, ◌*◌, ◌^◌, ◌<◌, ◌≤◌, Bool, true, false, min, None, List, [], ◌∷◌, ◌++◌, length, map, reverse, take, drop, sum_by, All, Contains}
-use Rattle.std.specs.List.{AllZip}
-use Rattle.std.specs.Ordering.{nat_cmp, ordering_then, is_lt}
-use Rattle.std.specs.Cmp.Lexicographic.{slice_cmp}
-use Rattle.dim_hierarchy.specs.declared.row.Row.{Row}
-use Rattle.dim_hierarchy.specs.Dimension.{Dimension}
-use Rattle.dc_node.specs.Block.{is_leaf, size, IsBodyOf}
-use Rattle.dc_node.specs.Summary.{row_count}
-use Rattle.dc_node.specs.declared.block.Body.{Body}
-use Rattle.dc_node.specs.declared.block.Body.TheVariants.{Rows, Entries}
-use Rattle.dc_node.specs.declared.block.Block.{Block}
-use Rattle.dc_node.specs.declared.entry.Entry.{Entry}
-use Rattle.cell_stock.specs.Stock.{PurseValue}
-use Rattle.cell_stock.specs.declared.purse.Spare.{Spare}
-use Rattle.link_descent.specs.Descend.{IsEntryOf}
-use Rattle.link_descent.specs.declared.entered.Fresh.{Fresh}
+use Rattle.std.specs.{Cmp.Lexicographic.slice_cmp, List.AllZip, Ordering.{nat_cmp, ordering_then, is_lt}, Prelude.{ℕ, ◌≡◌, ◌+◌, ◌-◌, ◌*◌, ◌^◌, ◌<◌, ◌≤◌, Bool, true, false, min, None, List, [], ◌∷◌, ◌++◌, length, map, reverse, take, drop, sum_by, All, Contains}}
+use Rattle.dim_hierarchy.specs.{Dimension.Dimension, declared.row.Row.Row}
+use Rattle.dc_node.specs.{Block.{is_leaf, size, IsBodyOf}, Summary.row_count, declared.block.Block.Block, declared.block.Body.Body, declared.block.Body.TheVariants.{Rows, Entries}, declared.entry.Entry.Entry}
+use Rattle.cell_stock.specs.{Stock.PurseValue, declared.purse.Spare.Spare}
+use Rattle.link_descent.specs.{Descend.IsEntryOf, declared.entered.Fresh.Fresh}
 use Rattle.shard_plan.specs.Building.{leaf_rows, parent_nodes}
 use Rattle.list_words.specs.Counts.{times}
-use Rattle.tree_shape.specs.Shape.{Table, numbers}
-use Rattle.tree_shape.specs.Forest.{AreInCells, AreRowsOf, IsForest, all_entries, all_rows, filled_cells}
+use Rattle.tree_shape.specs.{Forest.{AreInCells, AreRowsOf, IsForest, all_entries, all_rows, filled_cells}, Shape.{Table, numbers}}
 use Rattle.shard_build.specs.Sizes.{put_by, sizes_of}
 
 -- the blocks so far, and for how many leaves and directories there are boxes

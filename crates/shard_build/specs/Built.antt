@@ -1,20 +1,14 @@
 -- A built tree.
-use Rattle.std.specs.Prelude.{ℕ, ◌≡◌, ◌≤◌, List, [], ◌∷◌, length, map, take, drop, Contains, IsPermutation, ⊤}
-use Rattle.std.specs.List.{AllZip}
-use Rattle.std.specs.List.Sorted.{IsSortedBy}
-use Rattle.dim_hierarchy.specs.declared.row.Row.{Row}
-use Rattle.dim_hierarchy.specs.Dimension.{Dimension}
+use Rattle.std.specs.{List.AllZip, List.Sorted.IsSortedBy, Prelude.{ℕ, ◌≡◌, ◌≤◌, List, [], ◌∷◌, length, map, take, drop, Contains, IsPermutation, ⊤}}
+use Rattle.dim_hierarchy.specs.{Dimension.Dimension, declared.row.Row.Row}
 use Rattle.dc_node.specs.declared.entry.Entry.{Entry}
 use Rattle.cell_stock.specs.Stock.{PurseValue}
 use Rattle.link_descent.specs.declared.entered.Fresh.{Fresh}
 use Rattle.shard_store.specs.Gate.{root_entry}
 use Rattle.shard_plan.specs.Building.{cells_for, leaves_for, levels_for, levels_of}
 use Rattle.list_words.specs.Counts.{times}
-use Rattle.tree_shape.specs.Shape.{Table, TreeCells, numbers}
-use Rattle.tree_shape.specs.Forest.{AfterBuilding, AreInCells, AreRowsOf, all_entries, all_rows, filled_cells}
-use Rattle.shard_build.specs.Building.{AreAlone, AreLeavesFirst, AreLed, AreSmall, IsEntryTo, UsesUp, comes_before, spare_of, spare_to}
-use Rattle.shard_build.specs.Sizes.{built_sizes, sizes_of}
-use Rattle.shard_build.specs.declared.builder.Built.{Built}
+use Rattle.tree_shape.specs.{Forest.{AfterBuilding, AreInCells, AreRowsOf, all_entries, all_rows, filled_cells}, Shape.{Table, TreeCells, numbers}}
+use Rattle.shard_build.specs.{Building.{AreAlone, AreLeavesFirst, AreLed, AreSmall, IsEntryTo, UsesUp, comes_before, spare_of, spare_to}, Sizes.{built_sizes, sizes_of}, declared.builder.Built.Built}
 
 -- how a gate leads to the root
 abbrev pub root_of : Built → Entry

@@ -1,20 +1,8 @@
 -- What is written is read again, whatever follows.
-use Rattle.std.proofs.Common.{◌≡◌, ℕ, ◌-◌, ◌+◌, ◌^◌, ◌≤◌, ◌<◌, true, false, cond, ltb, List, [], ◌∷◌, ◌++◌, length, take, replicate, Result, Ok, Err, refl, sym, ap, ◌∙◌, append_assoc, append-nil, arith}
-use Rattle.std.specs.Prelude.{ℤ, FitsSigned, slice_set}
-use Rattle.std.specs.List.{AllByRecursion, flat_map}
-use Rattle.std.specs.Int.{Width, w32, w64, byte_len, to_be_bytes, from_be_bytes, cast_unsigned}
-use Rattle.std.proofs.lemmas.Bool.{le-ltb, eq-eqb}
-use Rattle.std.proofs.lemmas.Int.{ints, to_z-of_z}
-use Rattle.std.proofs.lemmas.List.{take_at, drop_at, set_at, length-append, length-replicate, replicate-append-replicate}
-use Rattle.std.proofs.lemmas.List.Elements.{recursion_from_All}
-use Rattle.std.proofs.lemmas.Nat.{from_be_bytes-to_be_bytes_4, from_be_bytes-to_be_bytes_8}
-use Rattle.dim_hierarchy.specs.Dimension.{Dimension}
-use Rattle.dim_hierarchy.specs.declared.row.Row.{Row}
-use Rattle.shard_codec.specs.declared.fault.CodecFault.{CodecFault}
-use Rattle.shard_codec.specs.declared.fault.CodecFault.TheVariants.{BadConcept}
-use Rattle.shard_codec.specs.Reading.{◌>>=◌, mark_at, byte_at, number_at, is_leaf_concept, leaf_at, coord_at, row_at, rows_at, head_at, all_at_top, ended, decoded}
-use Rattle.shard_codec.specs.Spelled.{IsSpelled, AreSpelled}
-use Rattle.shard_codec.specs.Wire.{mark, id_wire, ids_wire, row_wire, head_wire, wire}
+use Rattle.std.proofs.{Common.{◌≡◌, ℕ, ◌-◌, ◌+◌, ◌^◌, ◌≤◌, ◌<◌, true, false, cond, ltb, List, [], ◌∷◌, ◌++◌, length, take, replicate, Result, Ok, Err, refl, sym, ap, ◌∙◌, append_assoc, append-nil, arith}, lemmas.Bool.{le-ltb, eq-eqb}, lemmas.Int.{ints, to_z-of_z}, lemmas.List.{take_at, drop_at, set_at, length-append, length-replicate, replicate-append-replicate}, lemmas.List.Elements.recursion_from_All, lemmas.Nat.{from_be_bytes-to_be_bytes_4, from_be_bytes-to_be_bytes_8}}
+use Rattle.std.specs.{Int.{Width, w32, w64, byte_len, to_be_bytes, from_be_bytes, cast_unsigned}, List.{AllByRecursion, flat_map}, Prelude.{ℤ, FitsSigned, slice_set}}
+use Rattle.dim_hierarchy.specs.{Dimension.Dimension, declared.row.Row.Row}
+use Rattle.shard_codec.specs.{Reading.{◌>>=◌, mark_at, byte_at, number_at, is_leaf_concept, leaf_at, coord_at, row_at, rows_at, head_at, all_at_top, ended, decoded}, Spelled.{IsSpelled, AreSpelled}, Wire.{mark, id_wire, ids_wire, row_wire, head_wire, wire}, declared.fault.CodecFault.CodecFault, declared.fault.CodecFault.TheVariants.BadConcept}
 use Rattle.shard_codec.proofs.Leaves.{AreLeaves, ArePlaces-of}
 
 -- Numbers.

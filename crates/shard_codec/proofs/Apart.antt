@@ -1,20 +1,9 @@
 -- Rows of the format, of whatever hierarchy: a text is the text of one list of rows, and no first part of another text.
-use Rattle.std.proofs.Common.{◌≡◌, ℕ, ◌+◌, ◌-◌, ◌^◌, ◌<◌, List, [], ◌∷◌, ◌++◌, length, get_or, take, drop, replicate, Result, Ok, refl, sym, ap, subst, ◌∙◌, append_assoc, append-nil, arith}
-use Rattle.std.specs.Prelude.{ℤ, All}
-use Rattle.std.specs.List.{AllByRecursion, flat_map}
-use Rattle.std.specs.Int.{Width, w32, w64, to_be_bytes, cast_signed, cast_unsigned}
-use Rattle.std.proofs.lemmas.Int.{to_z-of_z}
-use Rattle.std.proofs.lemmas.List.{drop_at, length-take, take-append-drop}
-use Rattle.std.proofs.lemmas.List.Elements.{All-append, All-cons, All-head, All-nil, All-replicate, All-tail, All-take, All-weaker, recursion_from_All}
-use Rattle.std.proofs.lemmas.Nat.{from_be_bytes-to_be_bytes_4}
-use Rattle.dim_hierarchy.specs.Dimension.{Dimension}
-use Rattle.dim_hierarchy.specs.declared.row.Row.{Row}
-use Rattle.shard_codec.specs.declared.fault.CodecFault.{CodecFault}
-use Rattle.shard_codec.specs.Reading.{number_at}
-use Rattle.shard_codec.specs.Spelled.{AreOfFormat, AreSpelled, IsOfFormat, IsSpelled}
-use Rattle.shard_codec.specs.Wire.{id_wire, ids_wire, row_wire, head_wire, wire}
-use Rattle.shard_codec.proofs.Again.{number-again, of_z-bound, u64-again}
-use Rattle.shard_codec.proofs.Leaves.{AreLeaves, ArePlaces-of}
+use Rattle.std.proofs.{Common.{◌≡◌, ℕ, ◌+◌, ◌-◌, ◌^◌, ◌<◌, List, [], ◌∷◌, ◌++◌, length, get_or, take, drop, replicate, Result, Ok, refl, sym, ap, subst, ◌∙◌, append_assoc, append-nil, arith}, lemmas.Int.to_z-of_z, lemmas.List.{drop_at, length-take, take-append-drop}, lemmas.List.Elements.{All-append, All-cons, All-head, All-nil, All-replicate, All-tail, All-take, All-weaker, recursion_from_All}, lemmas.Nat.from_be_bytes-to_be_bytes_4}
+use Rattle.std.specs.{Int.{Width, w32, w64, to_be_bytes, cast_signed, cast_unsigned}, List.{AllByRecursion, flat_map}, Prelude.{ℤ, All}}
+use Rattle.dim_hierarchy.specs.{Dimension.Dimension, declared.row.Row.Row}
+use Rattle.shard_codec.specs.{Reading.number_at, Spelled.{AreOfFormat, AreSpelled, IsOfFormat, IsSpelled}, Wire.{id_wire, ids_wire, row_wire, head_wire, wire}, declared.fault.CodecFault.CodecFault}
+use Rattle.shard_codec.proofs.{Again.{number-again, of_z-bound, u64-again}, Leaves.{AreLeaves, ArePlaces-of}}
 
 -- Rows of a hierarchy.
 

@@ -1,27 +1,9 @@
 -- What is read is the text of what it gives, and what follows it.
-use Rattle.std.proofs.Common.{◌≡◌, ℕ, zero, suc, ◌-◌, ◌+◌, ◌^◌, ◌≤◌, ◌<◌, Bool, true, false, cond, ltb, eqb, List, [], ◌∷◌, ◌++◌, length, get_or, take, drop, replicate, Result, Ok, Err, refl, sym, ap, subst, ◌∙◌, append_assoc, append-nil, arith, inl, inr}
-use Rattle.std.specs.Prelude.{All, IfOk, slice_set}
-use Rattle.std.specs.Global.{Vec}
-use Rattle.std.specs.List.{AllByRecursion, flat_map}
-use Rattle.std.specs.Str.{bytes_eq}
-use Rattle.std.specs.Int.{Width, w32, w64, byte_len, to_be_bytes, from_be_bytes, cast_signed, cast_unsigned}
-use Rattle.std.proofs.Math.Facts.{Fits-of_lt, sfits_to_z}
-use Rattle.std.proofs.lemmas.Bool.{cases_lt, eqb-true, ltb-false}
-use Rattle.std.proofs.lemmas.Int.{of_z-to_z}
-use Rattle.std.proofs.lemmas.List.{take_at, set_at, length-append, length-replicate, length-take, get_or-drop, get_or-take, get_or_past, nil_from_length, take-append-drop}
-use Rattle.std.proofs.lemmas.List.Elements.{All-from_recursion}
-use Rattle.std.proofs.lemmas.Nat.{be_bytes_4, be_bytes_8}
-use Rattle.std.proofs.lemmas.Slice.Eq.{bytes_eq-Decides}
-use Rattle.dim_hierarchy.specs.Dimension.{Dimension, IsHierarchy}
-use Rattle.dim_hierarchy.specs.Rows.{IsRowOf}
-use Rattle.dim_hierarchy.specs.declared.row.Row.{Row}
-use Rattle.shard_codec.specs.declared.fault.CodecFault.{CodecFault}
-use Rattle.shard_codec.specs.declared.fault.CodecFault.TheVariants.{Short, BadMark, BadCount, BadConcept, Trailing}
-use Rattle.shard_codec.specs.Reading.{◌>>=◌, GivesUnlessFull, mark_at, byte_at, number_at, is_leaf_concept, leaf_at, coord_at, row_at, rows_at, head_at, all_at_top, ended, decoded}
-use Rattle.shard_codec.specs.Spelled.{IsSpelled, AreSpelled}
-use Rattle.shard_codec.specs.Wire.{mark, id_wire, ids_wire, row_wire, head_wire, wire}
-use Rattle.shard_codec.proofs.Again.{all_at_top-splits}
-use Rattle.shard_codec.proofs.Leaves.{AreLeaves, ArePlaces, ArePlaces-found}
+use Rattle.std.proofs.{Common.{◌≡◌, ℕ, zero, suc, ◌-◌, ◌+◌, ◌^◌, ◌≤◌, ◌<◌, Bool, true, false, cond, ltb, eqb, List, [], ◌∷◌, ◌++◌, length, get_or, take, drop, replicate, Result, Ok, Err, refl, sym, ap, subst, ◌∙◌, append_assoc, append-nil, arith, inl, inr}, Math.Facts.{Fits-of_lt, sfits_to_z}, lemmas.Bool.{cases_lt, eqb-true, ltb-false}, lemmas.Int.of_z-to_z, lemmas.List.{take_at, set_at, length-append, length-replicate, length-take, get_or-drop, get_or-take, get_or_past, nil_from_length, take-append-drop}, lemmas.List.Elements.All-from_recursion, lemmas.Nat.{be_bytes_4, be_bytes_8}, lemmas.Slice.Eq.bytes_eq-Decides}
+use Rattle.std.specs.{Global.Vec, Int.{Width, w32, w64, byte_len, to_be_bytes, from_be_bytes, cast_signed, cast_unsigned}, List.{AllByRecursion, flat_map}, Prelude.{All, IfOk, slice_set}, Str.bytes_eq}
+use Rattle.dim_hierarchy.specs.{Dimension.{Dimension, IsHierarchy}, Rows.IsRowOf, declared.row.Row.Row}
+use Rattle.shard_codec.specs.{Reading.{◌>>=◌, GivesUnlessFull, mark_at, byte_at, number_at, is_leaf_concept, leaf_at, coord_at, row_at, rows_at, head_at, all_at_top, ended, decoded}, Spelled.{IsSpelled, AreSpelled}, Wire.{mark, id_wire, ids_wire, row_wire, head_wire, wire}, declared.fault.CodecFault.CodecFault, declared.fault.CodecFault.TheVariants.{Short, BadMark, BadCount, BadConcept, Trailing}}
+use Rattle.shard_codec.proofs.{Again.all_at_top-splits, Leaves.{AreLeaves, ArePlaces, ArePlaces-found}}
 
 -- Bytes.
 

@@ -1,13 +1,7 @@
 -- The places of a coordinate, as leaf concepts one dimension after the other and ALL behind them.
-use Rattle.std.proofs.Common.{ℕ, zero, suc, ◌≡◌, ◌+◌, ◌-◌, ◌^◌, ◌<◌, ◌≤◌, true, ltb, eqb, List, [], ◌∷◌, ◌++◌, length, get_or, take, drop, replicate, sym, ap, subst, ◌∙◌, arith, inl, inr}
+use Rattle.std.proofs.{Common.{ℕ, zero, suc, ◌≡◌, ◌+◌, ◌-◌, ◌^◌, ◌<◌, ◌≤◌, true, ltb, eqb, List, [], ◌∷◌, ◌++◌, length, get_or, take, drop, replicate, sym, ap, subst, ◌∙◌, arith, inl, inr}, lemmas.Bool.{and_parts, and_from, cases_lt, eqb-true, eq-eqb, ltb-true, lt-ltb}, lemmas.List.{ext_get_or, get_or-append_right, get_or-drop, get_or-replicate, get_or-take, get_or_past, length-drop, length-replicate, length-take, take-append-drop}}
 use Rattle.std.specs.Prelude.{⊤}
-use Rattle.std.proofs.lemmas.Bool.{and_parts, and_from, cases_lt, eqb-true, eq-eqb, ltb-true, lt-ltb}
-use Rattle.std.proofs.lemmas.List.{ext_get_or, get_or-append_right, get_or-drop, get_or-replicate, get_or-take, get_or_past, length-drop, length-replicate, length-take, take-append-drop}
-use Rattle.dim_hierarchy.specs.Concept.{level_of, number_of}
-use Rattle.dim_hierarchy.specs.Tree.{IsLeaf, IsTree, Tree, is_concept, leaf_level, parents_at}
-use Rattle.dim_hierarchy.specs.Dimension.{Dimension, IsHierarchy, tree}
-use Rattle.dim_hierarchy.specs.Row.{IsCoordOf}
-use Rattle.dim_hierarchy.specs.declared.row.Coord.{Coord}
+use Rattle.dim_hierarchy.specs.{Concept.{level_of, number_of}, Dimension.{Dimension, IsHierarchy, tree}, Row.IsCoordOf, Tree.{IsLeaf, IsTree, Tree, is_concept, leaf_level, parents_at}, declared.row.Coord.Coord}
 use Rattle.shard_codec.specs.Reading.{is_leaf_concept}
 
 -- The test and the fact.

@@ -1,11 +1,8 @@
 -- Reading concepts and rows one after the other, as a loop does.
 use Rattle.std.proofs.Common.{◌≡◌, ℕ, suc, ◌-◌, ◌+◌, ◌≤◌, ◌<◌, List, [], ◌∷◌, ◌++◌, Result, Ok, Err, sym, ap, ◌∙◌, arith}
 use Rattle.std.specs.Prelude.{slice_set}
-use Rattle.dim_hierarchy.specs.Dimension.{Dimension}
-use Rattle.dim_hierarchy.specs.declared.row.Row.{Row}
-use Rattle.shard_codec.specs.declared.fault.CodecFault.{CodecFault}
-use Rattle.shard_codec.specs.declared.fault.CodecFault.TheVariants.{Short, BadMark, BadCount, BadConcept, Trailing, NoMemory}
-use Rattle.shard_codec.specs.Reading.{◌>>=◌, FailsUnlessFull, leaf_at, coord_at, row_at, rows_at}
+use Rattle.dim_hierarchy.specs.{Dimension.Dimension, declared.row.Row.Row}
+use Rattle.shard_codec.specs.{Reading.{◌>>=◌, FailsUnlessFull, leaf_at, coord_at, row_at, rows_at}, declared.fault.CodecFault.CodecFault, declared.fault.CodecFault.TheVariants.{Short, BadMark, BadCount, BadConcept, Trailing, NoMemory}}
 
 -- Concepts.
 

@@ -1,15 +1,8 @@
 -- Reading a transfer text from left to right, with the first fault that is met. `len` is the length of the whole text,
 -- and `bytes` is what is left of it.
-use Rattle.std.specs.Prelude.{ℕ, zero, suc, ◌≡◌, ◌+◌, ◌-◌, List, [], ◌∷◌, ◌++◌, length, take, drop, replicate, slice_set, Bool, ◌&&◌, ◌==◌, nat_lt, Result, Ok, Err, MatchResult, if◌then◌else◌, ⊤}
-use Rattle.std.specs.Str.{bytes_eq}
-use Rattle.std.specs.Int.{Width, w32, w64, byte_len, from_be_bytes, cast_signed}
-use Rattle.dim_hierarchy.specs.Concept.{level_of}
-use Rattle.dim_hierarchy.specs.Tree.{is_concept, leaf_level}
-use Rattle.dim_hierarchy.specs.Dimension.{Dimension, tree}
-use Rattle.dim_hierarchy.specs.declared.row.Row.{Row}
-use Rattle.shard_codec.specs.Wire.{mark}
-use Rattle.shard_codec.specs.declared.fault.CodecFault.{CodecFault}
-use Rattle.shard_codec.specs.declared.fault.CodecFault.TheVariants.{Short, BadMark, BadCount, BadConcept, Trailing, NoMemory}
+use Rattle.std.specs.{Int.{Width, w32, w64, byte_len, from_be_bytes, cast_signed}, Prelude.{ℕ, zero, suc, ◌≡◌, ◌+◌, ◌-◌, List, [], ◌∷◌, ◌++◌, length, take, drop, replicate, slice_set, Bool, ◌&&◌, ◌==◌, nat_lt, Result, Ok, Err, MatchResult, if◌then◌else◌, ⊤}, Str.bytes_eq}
+use Rattle.dim_hierarchy.specs.{Concept.level_of, Dimension.{Dimension, tree}, Tree.{is_concept, leaf_level}, declared.row.Row.Row}
+use Rattle.shard_codec.specs.{Wire.mark, declared.fault.CodecFault.CodecFault, declared.fault.CodecFault.TheVariants.{Short, BadMark, BadCount, BadConcept, Trailing, NoMemory}}
 
 -- the next field, or the fault
 infixl 10 ◌>>=◌

@@ -1,9 +1,6 @@
 -- Which rows have a transfer text, over a hierarchy and by the format alone.
-use Rattle.std.specs.Prelude.{ℕ, ◌≡◌, ◌-◌, ◌^◌, ◌<◌, List, length, drop, replicate, FitsSigned, All}
-use Rattle.std.specs.Int.{w64}
-use Rattle.dim_hierarchy.specs.Dimension.{Dimension}
-use Rattle.dim_hierarchy.specs.Rows.{IsRowOf}
-use Rattle.dim_hierarchy.specs.declared.row.Row.{Row}
+use Rattle.std.specs.{Int.w64, Prelude.{ℕ, ◌≡◌, ◌-◌, ◌^◌, ◌<◌, List, length, drop, replicate, FitsSigned, All}}
+use Rattle.dim_hierarchy.specs.{Dimension.Dimension, Rows.IsRowOf, declared.row.Row.Row}
 
 -- a row of the hierarchy, with eight places and numbers of their widths
 pub record IsSpelled (h : List Dimension) (row : Row) : Type 0 where

@@ -1,7 +1,5 @@
 -- The transfer text of a list of rows. A number has its highest byte first.
-use Rattle.std.specs.Prelude.{ℕ, List, ◌∷◌, ◌++◌, length, take, codes}
-use Rattle.std.specs.List.{flat_map}
-use Rattle.std.specs.Int.{w32, w64, to_be_bytes, cast_unsigned}
+use Rattle.std.specs.{Int.{w32, w64, to_be_bytes, cast_unsigned}, List.flat_map, Prelude.{ℕ, List, ◌∷◌, ◌++◌, length, take, codes}}
 use Rattle.dim_hierarchy.specs.declared.row.Row.{Row}
 
 -- what a text begins with

@@ -1,8 +1,6 @@
 -- The levels of a built tree.
-use Rattle.std.proofs.Common.{◌≡◌, ℕ, zero, suc, ◌+◌, ◌*◌, ◌^◌, ◌<◌, ◌≤◌, List, [], ◌∷◌, length, sum, refl, sym, ap, ◌∙◌, inl, inr, arith}
+use Rattle.std.proofs.{Common.{◌≡◌, ℕ, zero, suc, ◌+◌, ◌*◌, ◌^◌, ◌<◌, ◌≤◌, List, [], ◌∷◌, length, sum, refl, sym, ap, ◌∙◌, inl, inr, arith}, lemmas.Bool.{cases_lt, le-leb, lt-leb}, lemmas.List.Sums.sum_by-cons}
 use Rattle.std.specs.Int.{div_ceil}
-use Rattle.std.proofs.lemmas.Bool.{cases_lt, le-leb, lt-leb}
-use Rattle.std.proofs.lemmas.List.Sums.{sum_by-cons}
 use Rattle.shard_plan.specs.Building.{parent_nodes, leaves_for, levels_over, cells_for, levels_for, split_need}
 
 -- how many parents n nodes have

@@ -1,9 +1,6 @@
 -- The plan of a balance.
-use Rattle.std.specs.Prelude.{ℕ, zero, suc, ◌-◌, ◌*◌, List, [], ◌∷◌, ◌++◌, Bool, ◌&&◌, ◌||◌, ◌==◌, nat_lt, nat_le, sum_by, map, filter, fold, Option, Some, None, unwrap_or, if◌then◌else◌}
-use Rattle.std.specs.Option.{option_map_or}
-use Rattle.shard_plan.specs.declared.action.Load.{Load}
-use Rattle.shard_plan.specs.declared.action.Action.{Action}
-use Rattle.shard_plan.specs.declared.action.Action.TheVariants.{Move, Split}
+use Rattle.std.specs.{Option.option_map_or, Prelude.{ℕ, zero, suc, ◌-◌, ◌*◌, List, [], ◌∷◌, ◌++◌, Bool, ◌&&◌, ◌||◌, ◌==◌, nat_lt, nat_le, sum_by, map, filter, fold, Option, Some, None, unwrap_or, if◌then◌else◌}}
+use Rattle.shard_plan.specs.{declared.action.Action.Action, declared.action.Action.TheVariants.{Move, Split}, declared.action.Load.Load}
 
 -- the gap between the fullest and the emptiest worker that is left as it is, in rows
 abbrev pub even_gap : ℕ

@@ -1,6 +1,5 @@
 -- How large a tree is that is built of a list of rows, and how many cells a split needs.
-use Rattle.std.specs.Prelude.{ℕ, zero, suc, ◌+◌, ◌*◌, max, List, [], ◌∷◌, length, sum, nat_le, if◌then◌else◌}
-use Rattle.std.specs.Int.{div_ceil}
+use Rattle.std.specs.{Int.div_ceil, Prelude.{ℕ, zero, suc, ◌+◌, ◌*◌, max, List, [], ◌∷◌, length, sum, nat_le, if◌then◌else◌}}
 
 -- how many rows are put to a leaf, and how many nodes to a parent; the last of a level can have fewer
 

@@ -1,16 +1,10 @@
 -- Gates and queues.
 use Rattle.std.specs.Prelude.{ℕ, ◌≡◌, List, [], ◌∷◌, ◌++◌}
-use Rattle.dim_hierarchy.specs.declared.row.Row.{Row}
-use Rattle.dim_hierarchy.specs.Dimension.{Dimension}
-use Rattle.describing_set.specs.Sets.{IsDescSetOf}
+use Rattle.dim_hierarchy.specs.{Dimension.Dimension, declared.row.Row.Row}
+use Rattle.describing_set.specs.{Sets.IsDescSetOf, declared.set.DescSet.DescSet}
 use Rattle.measure_agg.specs.Aggregate.{Aggregate}
-use Rattle.describing_set.specs.declared.set.DescSet.{DescSet}
-use Rattle.dc_node.specs.Summary.{IsSummaryOf}
-use Rattle.dc_node.specs.declared.entry.Entry.{Entry}
-use Rattle.shard_store.specs.declared.queue.Queue.{Queue}
-use Rattle.shard_store.specs.declared.gate.Gate.{Gate}
-use Rattle.shard_store.specs.declared.gate.Phase.{Phase}
-use Rattle.shard_store.specs.declared.gate.Phase.TheVariants.{Open, Frozen, Gone}
+use Rattle.dc_node.specs.{Summary.IsSummaryOf, declared.entry.Entry.Entry}
+use Rattle.shard_store.specs.{declared.gate.Gate.Gate, declared.gate.Phase.Phase, declared.gate.Phase.TheVariants.{Open, Frozen, Gone}, declared.queue.Queue.Queue}
 
 -- the queue's aggregate and set are those of its rows, all of this hierarchy
 pub record IsQueueOf (h : List Dimension) (q : Queue) : Type 0 where

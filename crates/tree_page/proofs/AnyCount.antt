@@ -1,15 +1,11 @@
 -- The lines of a tree through which no row is on its way are the same however many cells there are, if those of the tree are among them.
 use Rattle.std.proofs.Common.{ℕ, zero, suc, ◌≡◌, ◌+◌, ◌-◌, ◌<◌, true, false, List, [], ◌∷◌, ◌++◌, refl, sym, ap, ◌∙◌, arith}
 use Rattle.std.specs.List.{flat_map}
-use Rattle.dc_node.specs.Block.{entries_in}
-use Rattle.dc_node.specs.declared.block.Block.{Block}
-use Rattle.dc_node.specs.declared.entry.Entry.{Entry}
-use Rattle.shard_store.specs.Gate.{root_entry}
-use Rattle.shard_store.specs.declared.gate.Gate.{Gate}
+use Rattle.dc_node.specs.{Block.entries_in, declared.block.Block.Block, declared.entry.Entry.Entry}
+use Rattle.shard_store.specs.{Gate.root_entry, declared.gate.Gate.Gate}
 use Rattle.list_words.specs.Counts.{Each}
 use Rattle.list_words.proofs.Each.{each-map}
-use Rattle.tree_shape.specs.PageLines.{CellBlocks, group, group_entries, line, lines}
-use Rattle.tree_shape.specs.Shape.{Table, Shape}
+use Rattle.tree_shape.specs.{PageLines.{CellBlocks, group, group_entries, line, lines}, Shape.{Table, Shape}}
 use Rattle.tree_page.specs.Still.{IsStill}
 use Rattle.tree_page.proofs.Counts.{IsEntry, group-is, entries-ok, root-ok}
 

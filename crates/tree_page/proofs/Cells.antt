@@ -1,11 +1,7 @@
 -- The blocks of a walk by their cells.
-use Rattle.std.proofs.Common.{ℕ, zero, suc, ◌≡◌, ◌≢◌, ◌<◌, Some, None, List, [], ◌∷◌, length, map, refl, sym, ap, ◌∙◌, arith}
+use Rattle.std.proofs.{Common.{ℕ, zero, suc, ◌≡◌, ◌≢◌, ◌<◌, Some, None, List, [], ◌∷◌, length, map, refl, sym, ap, ◌∙◌, arith}, lemmas.Bool.{eq-eqb, ne_eqb}}
 use Rattle.list_words.specs.Counts.{Each}
-use Rattle.std.proofs.lemmas.Bool.{eq-eqb, ne_eqb}
-use Rattle.tree_shape.specs.Shape.{Node, node_of}
-use Rattle.tree_shape.specs.Walks.{IsTail}
-use Rattle.tree_shape.specs.PageLines.{linked, after, walk}
-use Rattle.tree_shape.specs.PageLines.{CellBlocks}
+use Rattle.tree_shape.specs.{PageLines.{linked, after, walk, CellBlocks}, Shape.{Node, node_of}, Walks.IsTail}
 use Rattle.tree_page.proofs.Walks.{walk-none}
 
 -- a tree sees the block that is in the cell

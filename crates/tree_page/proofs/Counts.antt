@@ -2,28 +2,14 @@
 use Rattle.std.proofs.Common.{ℕ, zero, suc, ◌≡◌, ◌≢◌, ◌+◌, ◌-◌, ◌<◌, ◌≤◌, true, cond, eqb, [], ◌∷◌, length, map, refl, sym, ap, ◌∙◌, subst, arith}
 use Rattle.std.specs.List.{flat_map}
 use Rattle.dim_hierarchy.specs.declared.row.Row.{Row}
-use Rattle.dc_node.specs.Block.{rows_in, entries_in}
-use Rattle.dc_node.specs.declared.block.Block.{Block}
-use Rattle.dc_node.specs.declared.entry.Entry.{Entry}
-use Rattle.shard_store.specs.Gate.{root_entry}
-use Rattle.shard_store.specs.declared.gate.Gate.{Gate}
+use Rattle.dc_node.specs.{Block.{rows_in, entries_in}, declared.block.Block.Block, declared.entry.Entry.Entry}
+use Rattle.shard_store.specs.{Gate.root_entry, declared.gate.Gate.Gate}
 use Rattle.list_words.specs.Counts.{Each, same, times, total}
-use Rattle.list_words.proofs.Each.{each-map, each-flat, each-made}
-use Rattle.list_words.proofs.Totals.{total-map, total-flat, total-same, total-none}
-use Rattle.list_words.proofs.Truth.{on_bool}
-use Rattle.list_words.proofs.Times.{same_is, length-few, each-times}
-use Rattle.tree_shape.specs.Shape.{Table, Node, TreeCells, nodes, Shape, numbers}
-use Rattle.tree_shape.specs.Trees.{EntryOk, BlockOk, lies}
-use Rattle.tree_shape.specs.Walks.{noted_of}
-use Rattle.tree_shape.proofs.Assembled.{node-block, node-gate}
-use Rattle.tree_shape.proofs.Divisions.{sums-low, sums-out}
-use Rattle.tree_shape.proofs.Queries.{reach-low}
+use Rattle.list_words.proofs.{Each.{each-map, each-flat, each-made}, Times.{same_is, length-few, each-times}, Totals.{total-map, total-flat, total-same, total-none}, Truth.on_bool}
+use Rattle.tree_shape.specs.{PageLines.{CellBlocks, group, group_entries}, Shape.{Table, Node, TreeCells, nodes, Shape, numbers}, Trees.{EntryOk, BlockOk, lies}, Walks.noted_of}
+use Rattle.tree_shape.proofs.{Cutting.Divisions.{sums-low, sums-out}, Reading.Queries.reach-low, Whole.Assembled.{node-block, node-gate}}
 use Rattle.tree_page.specs.Still.{cells_with, IsStill}
-use Rattle.tree_shape.specs.PageLines.{CellBlocks}
-use Rattle.tree_shape.specs.PageLines.{group, group_entries}
-use Rattle.tree_page.proofs.Numbers.{times-flat}
-use Rattle.tree_page.proofs.Cells.{IsSeen, walk-cells}
-use Rattle.tree_page.proofs.Listing.{leaf_rows, rows_at}
+use Rattle.tree_page.proofs.{Cells.{IsSeen, walk-cells}, Listing.{leaf_rows, rows_at}, Numbers.times-flat}
 
 same-le : (a b : ℕ) → same a b ≤ 1
 same-le a b = on_bool (eqb a b) (λ q. rw q (omega arith)) (λ q. rw q (omega arith))

@@ -2,12 +2,9 @@
 use Rattle.std.proofs.Common.{ℕ, zero, suc, ◌≡◌, ◌+◌, true, false, List, [], ◌∷◌, ◌++◌, length, refl, ap, ◌∙◌}
 use Rattle.std.specs.List.{flat_map}
 use Rattle.dim_hierarchy.specs.declared.row.Row.{Row}
-use Rattle.dc_node.specs.Block.{rows_in}
-use Rattle.dc_node.specs.declared.entry.Entry.{Entry}
-use Rattle.row_ledger.specs.declared.page.NodeLine.{NodeLine}
-use Rattle.row_ledger.specs.Pages.{Groups, none, leaf, directory, tops, listing, rows_beneath}
-use Rattle.tree_shape.specs.PageLines.{CellBlocks}
-use Rattle.tree_shape.specs.PageLines.{group, group_entries, line, lines}
+use Rattle.dc_node.specs.{Block.rows_in, declared.entry.Entry.Entry}
+use Rattle.row_ledger.specs.{Pages.{Groups, none, leaf, directory, tops, listing, rows_beneath}, declared.page.NodeLine.NodeLine}
+use Rattle.tree_shape.specs.PageLines.{CellBlocks, group, group_entries, line, lines}
 
 -- the rows of a group's blocks
 abbrev pub leaf_rows : CellBlocks → Entry → List Row

@@ -1,14 +1,11 @@
 -- Numbers in lists, and rows by their numbers.
-use Rattle.std.proofs.Common.{ℕ, ◌≡◌, ◌+◌, List, [], ◌∷◌, ◌++◌, map, refl, sym, ap, ◌∙◌, subst, arith}
-use Rattle.std.specs.Prelude.{IsPermutation}
-use Rattle.std.specs.List.{flat_map}
-use Rattle.std.proofs.lemmas.List.{map-append}
-use Rattle.std.proofs.lemmas.List.Sorted.{IsPermutation-refl, IsPermutation-sym, IsPermutation-cons, IsPermutation-trans, IsPermutation-middle}
+use Rattle.std.proofs.{Common.{ℕ, ◌≡◌, ◌+◌, List, [], ◌∷◌, ◌++◌, map, refl, sym, ap, ◌∙◌, subst, arith}, lemmas.List.map-append, lemmas.List.Sorted.{IsPermutation-refl, IsPermutation-sym, IsPermutation-cons, IsPermutation-trans, IsPermutation-middle}}
+use Rattle.std.specs.{List.flat_map, Prelude.IsPermutation}
 use Rattle.dim_hierarchy.specs.declared.row.Row.{Row}
 use Rattle.list_words.specs.Counts.{Each, times, total}
 use Rattle.list_words.proofs.Times.{same_is, times-append, split-at, times-split}
 use Rattle.tree_shape.specs.Shape.{Table, numbers}
-use Rattle.tree_shape.proofs.Sums.{rows-named}
+use Rattle.tree_shape.proofs.Whole.Sums.{rows-named}
 
 pub perm-numbers : (find : ℕ → Row) (ns ms : List ℕ) → ((r : ℕ) → times r ns ≡ times r ms) → IsPermutation (map find ns) (map find ms)
 perm-numbers find [] [] h = IsPermutation-refl []

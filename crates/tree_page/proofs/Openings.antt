@@ -1,15 +1,11 @@
 -- A gate over an empty leaf has a page.
-use Rattle.std.proofs.Common.{ℕ, ◌≡◌, ◌<◌, true, false, eqb, List, [], sym, ◌∙◌, arith}
+use Rattle.std.proofs.{Common.{ℕ, ◌≡◌, ◌<◌, true, false, eqb, List, [], sym, ◌∙◌, arith}, lemmas.Bool.{eqb-true, eqb-false}}
 use Rattle.dim_hierarchy.specs.Dimension.{Dimension}
 use Rattle.std.specs.Prelude.{pos}
 use Rattle.dc_node.specs.declared.block.Block.{Block}
 use Rattle.shard_store.specs.declared.gate.Gate.{Gate}
-use Rattle.tree_shape.specs.Shape.{Table}
-use Rattle.tree_shape.specs.Laws.{OpeningLaw}
-use Rattle.tree_shape.specs.Steps.{OpensOver, AfterOpening}
+use Rattle.tree_shape.specs.{Laws.OpeningLaw, PageLines.CellBlocks, Shape.Table, Steps.{OpensOver, AfterOpening}}
 use Rattle.list_words.proofs.Truth.{on_bool}
-use Rattle.std.proofs.lemmas.Bool.{eqb-true, eqb-false}
-use Rattle.tree_shape.specs.PageLines.{CellBlocks}
 use Rattle.tree_page.specs.Still.{cells_with, CanShow}
 
 -- any rows will do

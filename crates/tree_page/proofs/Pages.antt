@@ -1,31 +1,17 @@
 -- The page of a tree.
-use Rattle.std.proofs.Common.{ℕ, zero, suc, ◌≡◌, ◌+◌, ◌-◌, ◌<◌, ◌≤◌, true, false, cond, eqb, List, [], ◌∷◌, length, map, refl, sym, ap, ◌∙◌, subst, arith, append-nil}
+use Rattle.std.proofs.{Common.{ℕ, zero, suc, ◌≡◌, ◌+◌, ◌-◌, ◌<◌, ◌≤◌, true, false, cond, eqb, List, [], ◌∷◌, length, map, refl, sym, ap, ◌∙◌, subst, arith, append-nil}, lemmas.Bool.ne_eqb, lemmas.List.length-map}
 use Rattle.std.specs.Prelude.{IsPermutation}
-use Rattle.std.proofs.lemmas.List.{length-map}
 use Rattle.measure_agg.specs.Aggregate.{Aggregate, agg}
 use Rattle.describing_set.specs.DescSet.{IsSetOf}
-use Rattle.dc_node.specs.Block.{rows_in, entries_in, is_leaf, size}
-use Rattle.dc_node.specs.Summary.{coords}
-use Rattle.dc_node.specs.declared.block.Block.{Block}
-use Rattle.dc_node.specs.declared.entry.Entry.{Entry}
-use Rattle.shard_store.specs.Gate.{root_entry}
-use Rattle.shard_store.specs.declared.gate.Gate.{Gate}
-use Rattle.row_ledger.specs.declared.page.NodeLine.{NodeLine}
-use Rattle.row_ledger.specs.Pages.{Groups, none, IsLeafGroup, IsDirectoryGroup, AreGroups, IsPageOf}
+use Rattle.dc_node.specs.{Block.{rows_in, entries_in, is_leaf, size}, Summary.coords, declared.block.Block.Block, declared.entry.Entry.Entry}
+use Rattle.shard_store.specs.{Gate.root_entry, declared.gate.Gate.Gate}
+use Rattle.row_ledger.specs.{Pages.{Groups, none, IsLeafGroup, IsDirectoryGroup, AreGroups, IsPageOf}, declared.page.NodeLine.NodeLine}
 use Rattle.list_words.specs.Counts.{Each, times}
-use Rattle.std.proofs.lemmas.Bool.{ne_eqb}
-use Rattle.list_words.proofs.Totals.{length-flat, total-same, total-few, total-some}
-use Rattle.list_words.proofs.Each.{each-made}
-use Rattle.tree_shape.specs.Shape.{Table, Shape, numbers}
-use Rattle.tree_shape.specs.Laws.{OrderLaw, GateLaw}
-use Rattle.tree_shape.proofs.Sums.{rows-named}
+use Rattle.list_words.proofs.{Each.each-made, Totals.{length-flat, total-same, total-few, total-some}}
+use Rattle.tree_shape.specs.{Laws.{OrderLaw, GateLaw}, PageLines.{CellBlocks, group, group_entries, line, lines}, Shape.{Table, Shape, numbers}}
+use Rattle.tree_shape.proofs.Whole.Sums.{rows-named}
 use Rattle.tree_page.specs.Still.{cells_with, IsStill}
-use Rattle.tree_shape.specs.PageLines.{CellBlocks}
-use Rattle.tree_shape.specs.PageLines.{group, group_entries, line, lines}
-use Rattle.tree_page.proofs.Numbers.{perm-rows}
-use Rattle.tree_page.proofs.Bodies.{leaf-size, leaf-limit, directory-size, directory-limit}
-use Rattle.tree_page.proofs.Listing.{leaf_rows, rows_at, all_groups, grouped, listing-one, rows-one, rows-beneath, tops-one, tops-all}
-use Rattle.tree_page.proofs.Counts.{IsOn, IsEntry, block-ok, on-level, group-some, group-is, entries-ok, root-ok, root-times, rows-ok, named-ok}
+use Rattle.tree_page.proofs.{Bodies.{leaf-size, leaf-limit, directory-size, directory-limit}, Counts.{IsOn, IsEntry, block-ok, on-level, group-some, group-is, entries-ok, root-ok, root-times, rows-ok, named-ok}, Listing.{leaf_rows, rows_at, all_groups, grouped, listing-one, rows-one, rows-beneath, tops-one, tops-all}, Numbers.perm-rows}
 
 -- what is known of a block of a leaf group, and of one of a directory group
 

@@ -1,14 +1,9 @@
 -- The blocks that are left of a walk.
-use Rattle.std.proofs.Common.{ℕ, zero, suc, ◌≡◌, ◌+◌, Option, Some, None, List, [], ◌∷◌, ◌++◌, refl, sym, ap, ◌∙◌, append_assoc, arith, false, eqb}
-use Rattle.std.proofs.Math.Dec.{eqb-suc-zero}
+use Rattle.std.proofs.{Common.{ℕ, zero, suc, ◌≡◌, ◌+◌, Option, Some, None, List, [], ◌∷◌, ◌++◌, refl, sym, ap, ◌∙◌, append_assoc, arith, false, eqb}, Math.Dec.eqb-suc-zero, lemmas.List.Concat.flat_map-append}
 use Rattle.std.specs.List.{flat_map}
-use Rattle.std.proofs.lemmas.List.Concat.{flat_map-append}
-use Rattle.dc_node.specs.Block.{entries_in}
-use Rattle.dc_node.specs.declared.block.Block.{Block}
-use Rattle.dc_node.specs.declared.entry.Entry.{Entry}
+use Rattle.dc_node.specs.{Block.entries_in, declared.block.Block.Block, declared.entry.Entry.Entry}
 use Rattle.row_ledger.specs.declared.page.NodeLine.{NodeLine}
-use Rattle.tree_shape.specs.PageLines.{CellBlocks}
-use Rattle.tree_shape.specs.PageLines.{after, walk, line, lines, group, group_entries}
+use Rattle.tree_shape.specs.PageLines.{CellBlocks, after, walk, line, lines, group, group_entries}
 
 pub walk-none : (blocks : CellBlocks) (stamp n : ℕ) → walk blocks stamp n None ≡ []
 walk-none blocks stamp zero = refl

@@ -1,9 +1,7 @@
 -- What a tree is that a page can show: no row is on its way through it.
 use Rattle.std.specs.Prelude.{ℕ, ◌≡◌, ◌<◌, true, false}
 use Rattle.shard_store.specs.declared.gate.Gate.{Gate}
-use Rattle.tree_shape.specs.Shape.{Table, TreeCells, Shape}
-use Rattle.tree_shape.specs.Trees.{IsTree}
-use Rattle.tree_shape.specs.PageLines.{CellBlocks}
+use Rattle.tree_shape.specs.{PageLines.CellBlocks, Shape.{Table, TreeCells, Shape}, Trees.IsTree}
 
 abbrev pub cells_with : ℕ → Gate → CellBlocks → TreeCells
 cells_with home gate blocks = record { gate_cell = home; gate = gate; block = blocks.block }

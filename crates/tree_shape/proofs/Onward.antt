@@ -1,18 +1,10 @@
 -- The row's way down onto a head that was divided, which is the same whether it was halved or cut.
-use Rattle.std.proofs.Common.{◌≡◌, ◌≢◌, ℕ, ◌+◌, inl, inr, true, false, cond, eqb, List, Bool, refl, sym, ap, ◌∙◌, subst, arith}
+use Rattle.std.proofs.{Common.{◌≡◌, ◌≢◌, ℕ, ◌+◌, inl, inr, true, false, cond, eqb, List, Bool, refl, sym, ap, ◌∙◌, subst, arith}, lemmas.Bool.{eqb-true, eqb-false, ne_eqb}}
 use Rattle.dc_node.specs.declared.entry.Entry.{Entry}
 use Rattle.list_words.specs.Counts.{Among, Each, times, total}
-use Rattle.list_words.proofs.Truth.{on_bool, eqb-self}
-use Rattle.std.proofs.lemmas.Bool.{eqb-true, eqb-false, ne_eqb}
-use Rattle.list_words.proofs.Each.{each-of}
-use Rattle.tree_shape.specs.Queries.{QueryOk}
-use Rattle.tree_shape.specs.Shape.{Node, Shape, Table}
-use Rattle.tree_shape.specs.Trees.{TreeOk}
-use Rattle.tree_shape.specs.Walks.{Noted}
-use Rattle.tree_shape.proofs.Relations.{Divided, DownDivided, Grew, Lowered, LoweredTree, NoneHas, Relinked, SameLinks, lower}
-use Rattle.tree_shape.proofs.Queries.{apart, query-lowered}
-use Rattle.tree_shape.proofs.Passes.{stamps-touched}
-use Rattle.tree_shape.proofs.Trees.{tree-lowered}
+use Rattle.list_words.proofs.{Each.each-of, Truth.{on_bool, eqb-self}}
+use Rattle.tree_shape.specs.{Queries.QueryOk, Shape.{Node, Shape, Table}, Trees.TreeOk, Walks.Noted}
+use Rattle.tree_shape.proofs.{Cutting.Relations.{Divided, DownDivided, Grew, Lowered, LoweredTree, NoneHas, Relinked, SameLinks, lower}, Down.Passes.stamps-touched, Reading.Queries.{apart, query-lowered}, Whole.Trees.tree-lowered}
 
 module _ (g : Shape) (look look3 : ℕ → Node) (table : Table) (k c n t r x : ℕ) (es : List Entry) (tree : TreeOk g look table) (d : DownDivided g look look3 table k c n t r x es) where
   abbrev top_block : Node

@@ -1,11 +1,8 @@
 -- Who can go on where rows are carried down a tree: the actor that carries its row deepest waits for nobody.
 use Rattle.std.specs.Prelude.{ℕ, ◌≡◌, ◌≤◌, true, Option, Some, None, List, slice_get}
-use Rattle.dc_node.specs.Block.{entries_in}
-use Rattle.dc_node.specs.declared.entry.Entry.{Entry}
+use Rattle.dc_node.specs.{Block.entries_in, declared.entry.Entry.Entry}
 use Rattle.list_words.specs.Counts.{Among}
-use Rattle.tree_shape.specs.Shape.{Table, TreeCells, Shape}
-use Rattle.tree_shape.specs.Steps.{IsIdle}
-use Rattle.tree_shape.specs.Trees.{IsTree}
+use Rattle.tree_shape.specs.{Shape.{Table, TreeCells, Shape}, Steps.IsIdle, Trees.IsTree}
 
 -- no row of the tree is carried at a lower level
 abbrev pub IsDeepest : Shape → ℕ → Type 0

@@ -1,27 +1,14 @@
 -- The worked example with real values: rows of Berlin and then of Munich fill the root, a leaf, and row 32, of Berlin,
 -- finds it full. With 31 of Berlin there is no good cut. With 16 of each there is one: row 32 comes in at a new root, goes
 -- down to the leaf of Berlin and is put there.
-use Rattle.std.specs.Prelude.{ℕ, ◌≡◌, Bool, true, cond, eqb, leb, ltb, replicate, ℤ, pos, Some, None, List, [], ◌∷◌, ◌++◌, map}
-use Rattle.std.specs.List.{range_with_len}
-use Rattle.dim_hierarchy.specs.Concept.{id_of}
-use Rattle.dim_hierarchy.specs.Dimension.{Dimension, new_dimension, with_concept}
-use Rattle.dim_hierarchy.specs.declared.row.Row.{Row}
-use Rattle.dim_hierarchy.specs.declared.row.Coord.{Coord}
-use Rattle.dim_hierarchy.specs.declared.filter.Pick.{Pick}
-use Rattle.dim_hierarchy.specs.declared.filter.Pick.TheVariants.{Ids}
-use Rattle.measure_agg.specs.Aggregate.{agg}
-use Rattle.measure_agg.specs.Joining.{join, one}
-use Rattle.describing_set.specs.Part.{part}
-use Rattle.describing_set.specs.declared.set.DescSet.{DescSet}
-use Rattle.dc_node.specs.declared.block.Body.TheVariants.{Rows, Entries}
-use Rattle.dc_node.specs.declared.entry.Entry.{Entry}
+use Rattle.std.specs.{List.range_with_len, Prelude.{ℕ, ◌≡◌, Bool, true, cond, eqb, leb, ltb, replicate, ℤ, pos, Some, None, List, [], ◌∷◌, ◌++◌, map}}
+use Rattle.dim_hierarchy.specs.{Concept.id_of, Dimension.{Dimension, new_dimension, with_concept}, declared.filter.Pick.Pick, declared.filter.Pick.TheVariants.Ids, declared.row.Coord.Coord, declared.row.Row.Row}
+use Rattle.measure_agg.specs.{Aggregate.agg, Joining.{join, one}}
+use Rattle.describing_set.specs.{Part.part, declared.set.DescSet.DescSet}
+use Rattle.dc_node.specs.{declared.block.Body.TheVariants.{Rows, Entries}, declared.entry.Entry.Entry}
 use Rattle.cell_stock.specs.declared.purse.Spare.{Spare}
-use Rattle.shard_store.specs.declared.gate.Gate.{Gate}
-use Rattle.shard_store.specs.declared.gate.Phase.TheVariants.{Open}
-use Rattle.tree_shape.specs.Shape.{Table, TreeCells, Shape, numbers}
-use Rattle.tree_shape.specs.Trees.{IsTree}
-use Rattle.tree_shape.specs.Collecting.{AfterCollecting}
-use Rattle.tree_shape.specs.Example.{Sample, IsSample, HoldsFirst, IsUncut, AsksFor, IsAnswered, cells_at, first_agg, gate_after, leaf_of}
+use Rattle.shard_store.specs.{declared.gate.Gate.Gate, declared.gate.Phase.TheVariants.Open}
+use Rattle.tree_shape.specs.{Collecting.AfterCollecting, Example.{Sample, IsSample, HoldsFirst, IsUncut, AsksFor, IsAnswered, cells_at, first_agg, gate_after, leaf_of}, Shape.{Table, TreeCells, Shape, numbers}, Trees.IsTree}
 
 -- a dimension with two places
 

@@ -1,17 +1,11 @@
 -- An administrator reads a tree's blocks one by one: at each it collects the rows, and notes the groups of all entries
 -- and what is left of the block's own group.
 use Rattle.std.specs.Prelude.{ℕ, ◌≡◌, ◌≢◌, ◌+◌, ◌≤◌, true, cond, eqb, IsSome, List, [], ◌∷◌, ◌++◌, map}
-use Rattle.dc_node.specs.Block.{rows_in, entries_in}
-use Rattle.dc_node.specs.Summary.{IsSummaryOf}
-use Rattle.dc_node.specs.declared.block.Body.{Body}
-use Rattle.dc_node.specs.declared.todo.Item.{Item}
+use Rattle.dc_node.specs.{Block.{rows_in, entries_in}, Summary.IsSummaryOf, declared.block.Body.Body, declared.todo.Item.Item}
 use Rattle.shard_store.specs.declared.gate.Gate.{Gate}
 use Rattle.link_descent.specs.Visit.{noted_right}
 use Rattle.list_words.specs.Counts.{same, times}
-use Rattle.tree_shape.specs.Shape.{Table, TreeCells, nodes, Shape, numbers}
-use Rattle.tree_shape.specs.Walks.{Noted, AreNoted, pending}
-use Rattle.tree_shape.specs.Queries.{items_of}
-use Rattle.tree_shape.specs.Steps.{IsIdle}
+use Rattle.tree_shape.specs.{Queries.items_of, Shape.{Table, TreeCells, nodes, Shape, numbers}, Steps.IsIdle, Walks.{Noted, AreNoted, pending}}
 
 -- the root's group, and the groups of all entries of a block
 

@@ -2,27 +2,15 @@
 -- has no good cut, as where all rows are of one place, the root's group has two blocks from then on, and a query that
 -- noted the root before is answered after it; HeadCuts goes on from there. Where it has a good cut, Cities goes on.
 use Rattle.std.specs.Prelude.{ℕ, zero, suc, ◌≡◌, ◌≢◌, ◌+◌, ◌<◌, ◌≤◌, Bool, true, false, cond, eqb, Some, None, List, [], ◌∷◌, ◌++◌, take, drop}
-use Rattle.dim_hierarchy.specs.declared.row.Row.{Row}
-use Rattle.dim_hierarchy.specs.declared.row.Coord.{Coord}
-use Rattle.dim_hierarchy.specs.Rows.{IsRowOf}
-use Rattle.measure_agg.specs.Aggregate.{Aggregate, agg}
-use Rattle.measure_agg.specs.Joining.{join, one}
-use Rattle.describing_set.specs.DescSet.{IsSetOf}
-use Rattle.describing_set.specs.Sets.{IsDescSetOf, GrowsBy}
-use Rattle.describing_set.specs.declared.set.DescSet.{DescSet}
-use Rattle.dim_hierarchy.specs.declared.filter.Pick.{Pick}
-use Rattle.shard_store.specs.Gate.{root_entry, IsQueueOf}
-use Rattle.link_descent.specs.Visit.{is_noted}
-use Rattle.link_descent.specs.Divide.{HasNoCut}
+use Rattle.dim_hierarchy.specs.{Rows.IsRowOf, declared.filter.Pick.Pick, declared.row.Coord.Coord, declared.row.Row.Row}
+use Rattle.measure_agg.specs.{Aggregate.{Aggregate, agg}, Joining.{join, one}}
+use Rattle.describing_set.specs.{DescSet.IsSetOf, Sets.{IsDescSetOf, GrowsBy}, declared.set.DescSet.DescSet}
+use Rattle.shard_store.specs.{Gate.{root_entry, IsQueueOf}, declared.gate.Gate.Gate}
+use Rattle.link_descent.specs.{Divide.HasNoCut, Visit.is_noted}
 use Rattle.list_words.specs.Counts.{times}
-use Rattle.tree_shape.specs.Queries.{fits}
-use Rattle.tree_shape.specs.Steps.{IsAsked}
-use Rattle.dc_node.specs.declared.block.Body.TheVariants.{Rows}
-use Rattle.dc_node.specs.declared.block.Block.{Block}
+use Rattle.tree_shape.specs.{Queries.fits, Shape.{Table, TreeCells, Shape}, Steps.IsAsked, Trees.IsTree}
+use Rattle.dc_node.specs.{declared.block.Block.Block, declared.block.Body.TheVariants.Rows}
 use Rattle.cell_stock.specs.declared.purse.Spare.{Spare}
-use Rattle.shard_store.specs.declared.gate.Gate.{Gate}
-use Rattle.tree_shape.specs.Shape.{Table, TreeCells, Shape}
-use Rattle.tree_shape.specs.Trees.{IsTree}
 
 -- a gate with its cell, the root's cell and stamp, a spare, the place of each row, and the set of the first rows for each
 -- number of them

@@ -1,18 +1,12 @@
 -- Trees side by side, as a tree is built: its leaves, then directories over them, level by level, and a gate at last. Each
 -- block is alone in its group.
-use Rattle.std.specs.Prelude.{ℕ, ◌≡◌, ◌+◌, ◌≤◌, true, false, cond, List, [], ◌∷◌, ◌++◌, map, All}
-use Rattle.std.specs.List.{flat_map}
-use Rattle.dim_hierarchy.specs.declared.row.Row.{Row}
-use Rattle.dim_hierarchy.specs.Rows.{IsRowOf}
-use Rattle.dc_node.specs.Block.{rows_in, entries_in, is_leaf, size}
-use Rattle.dc_node.specs.declared.block.Block.{Block}
-use Rattle.dc_node.specs.declared.entry.Entry.{Entry}
+use Rattle.std.specs.{List.flat_map, Prelude.{ℕ, ◌≡◌, ◌+◌, ◌≤◌, true, false, cond, List, [], ◌∷◌, ◌++◌, map, All}}
+use Rattle.dim_hierarchy.specs.{Rows.IsRowOf, declared.row.Row.Row}
+use Rattle.dc_node.specs.{Block.{rows_in, entries_in, is_leaf, size}, declared.block.Block.Block, declared.entry.Entry.Entry}
 use Rattle.shard_store.specs.Gate.{root_entry}
-use Rattle.link_descent.specs.Descend.{IsEntryOf}
-use Rattle.link_descent.specs.declared.entered.Fresh.{Fresh}
+use Rattle.link_descent.specs.{Descend.IsEntryOf, declared.entered.Fresh.Fresh}
 use Rattle.list_words.specs.Counts.{Each, same, times}
-use Rattle.tree_shape.specs.Shape.{Table, TreeCells, node_of, Shape, numbers}
-use Rattle.tree_shape.specs.Trees.{TreeOk, EntryOk, BlockOk, IsTree, limit}
+use Rattle.tree_shape.specs.{Shape.{Table, TreeCells, node_of, Shape, numbers}, Trees.{TreeOk, EntryOk, BlockOk, IsTree, limit}}
 
 -- the cells of blocks, and their rows and entries
 

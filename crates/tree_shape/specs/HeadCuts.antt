@@ -1,19 +1,12 @@
 -- The worked example of a head cut: 33 rows of Berlin fill the root, a leaf, and halve it, and rows of Munich fill its head
 -- again. Row 48 finds the head full and one block behind it. The rows of Munich stay in the head; those of Berlin go to a
 -- new block, which has that one behind it; and the row comes in at a new root.
-use Rattle.std.specs.Prelude.{ℕ, Bool, cond, eqb, leb, ltb, pos, Some, None, List, [], ◌∷◌, ◌++◌, map}
-use Rattle.std.specs.List.{range_with_len}
-use Rattle.dim_hierarchy.specs.declared.row.Row.{Row}
-use Rattle.dim_hierarchy.specs.declared.filter.Pick.{Pick}
-use Rattle.dim_hierarchy.specs.declared.filter.Pick.TheVariants.{Ids}
+use Rattle.std.specs.{List.range_with_len, Prelude.{ℕ, Bool, cond, eqb, leb, ltb, pos, Some, None, List, [], ◌∷◌, ◌++◌, map}}
+use Rattle.dim_hierarchy.specs.{declared.filter.Pick.Pick, declared.filter.Pick.TheVariants.Ids, declared.row.Row.Row}
 use Rattle.measure_agg.specs.Aggregate.{agg}
-use Rattle.dc_node.specs.declared.block.Body.TheVariants.{Rows, Entries}
-use Rattle.dc_node.specs.declared.entry.Entry.{Entry}
+use Rattle.dc_node.specs.{declared.block.Body.TheVariants.{Rows, Entries}, declared.entry.Entry.Entry}
 use Rattle.cell_stock.specs.declared.purse.Spare.{Spare}
-use Rattle.tree_shape.specs.Shape.{Table, TreeCells}
-use Rattle.tree_shape.specs.Steps.{AfterStep}
-use Rattle.tree_shape.specs.Example.{Sample, HoldsFirst, IsAnswered, gate_after, leaf_of}
-use Rattle.tree_shape.specs.Cities.{berlin, munich, cities, coord_of, set_of, sample}
+use Rattle.tree_shape.specs.{Cities.{berlin, munich, cities, coord_of, set_of, sample}, Example.{Sample, HoldsFirst, IsAnswered, gate_after, leaf_of}, Shape.{Table, TreeCells}, Steps.AfterStep}
 
 -- the city of each row: Munich from 33 on
 abbrev pub town : ℕ → ℕ

@@ -1,25 +1,14 @@
 -- The laws: each step keeps the tree, the places of its rows, and every unfinished query.
 use Rattle.std.specs.Prelude.{ℕ, ◌≡◌, ◌≢◌, Bool, true, cond, IsSome, Some, slice_get, List, [], ◌∷◌, ◌++◌, map}
-use Rattle.dim_hierarchy.specs.Dimension.{IsHierarchy}
+use Rattle.dim_hierarchy.specs.{Dimension.IsHierarchy, declared.filter.Pick.Pick}
 use Rattle.measure_agg.specs.Aggregate.{agg}
-use Rattle.describing_set.specs.DescSet.{IsSetOf}
-use Rattle.describing_set.specs.declared.set.DescSet.{DescSet}
-use Rattle.dc_node.specs.Block.{entries_in}
-use Rattle.dc_node.specs.declared.entry.Entry.{Entry}
-use Rattle.dc_node.specs.Summary.{IsSummaryOf, coords}
+use Rattle.describing_set.specs.{DescSet.IsSetOf, declared.set.DescSet.DescSet}
+use Rattle.dc_node.specs.{Block.entries_in, Summary.{IsSummaryOf, coords}, declared.block.Block.Block, declared.entry.Entry.Entry, declared.todo.Item.Item}
 use Rattle.list_words.specs.Counts.{times}
-use Rattle.dim_hierarchy.specs.declared.filter.Pick.{Pick}
-use Rattle.dc_node.specs.declared.block.Block.{Block}
-use Rattle.dc_node.specs.declared.todo.Item.{Item}
 use Rattle.cell_stock.specs.Stock.{PurseValue}
 use Rattle.shard_store.specs.Gate.{root_entry}
 use Rattle.link_descent.specs.declared.entered.Entered.{Entered}
-use Rattle.tree_shape.specs.Shape.{Table, Node, TreeCells, nodes, Shape}
-use Rattle.tree_shape.specs.Trees.{IsTree, BlockFits, IsBelow, HasBehind, BehindFits}
-use Rattle.tree_shape.specs.Queries.{IsUnfinished, fits}
-use Rattle.tree_shape.specs.Tables.{AreAlike, IsThere, IsThereOrCounted, AfterTable}
-use Rattle.tree_shape.specs.Collecting.{IsCollecting, IsReadable, Reads, AfterRead, AfterCollecting, root_item}
-use Rattle.tree_shape.specs.Steps.{OpensOver, AfterOpening, LeavesTree, AfterOther, GoesDown, GoesIn, AfterStep, IsPut, AfterPut, Visits, AfterVisit, BeginsQuery, AfterBegin, CountsElsewhere, AfterAll}
+use Rattle.tree_shape.specs.{Collecting.{IsCollecting, IsReadable, Reads, AfterRead, AfterCollecting, root_item}, Queries.{IsUnfinished, fits}, Shape.{Table, Node, TreeCells, nodes, Shape}, Steps.{OpensOver, AfterOpening, LeavesTree, AfterOther, GoesDown, GoesIn, AfterStep, IsPut, AfterPut, Visits, AfterVisit, BeginsQuery, AfterBegin, CountsElsewhere, AfterAll}, Tables.{AreAlike, IsThere, IsThereOrCounted, AfterTable}, Trees.{IsTree, BlockFits, IsBelow, HasBehind, BehindFits}}
 
 -- a leaf block is the root of a new tree
 abbrev pub OpeningLaw : Block → Type 0

@@ -1,10 +1,7 @@
 -- The lines of a page, read off blocks, whatever these may hold: a group ends at the stamp that the entry expects, or where
 -- no link leads on; it has no more blocks than there are cells.
-use Rattle.std.specs.Prelude.{ℕ, zero, suc, ◌+◌, Bool, true, false, cond, eqb, Option, Some, None, List, [], ◌∷◌, length}
-use Rattle.std.specs.List.{flat_map}
-use Rattle.dc_node.specs.Block.{entries_in, size}
-use Rattle.dc_node.specs.declared.block.Block.{Block}
-use Rattle.dc_node.specs.declared.entry.Entry.{Entry}
+use Rattle.std.specs.{List.flat_map, Prelude.{ℕ, zero, suc, ◌+◌, Bool, true, false, cond, eqb, Option, Some, None, List, [], ◌∷◌, length}}
+use Rattle.dc_node.specs.{Block.{entries_in, size}, declared.block.Block.Block, declared.entry.Entry.Entry}
 use Rattle.row_ledger.specs.declared.page.NodeLine.{NodeLine}
 use Rattle.list_words.specs.Counts.{total}
 

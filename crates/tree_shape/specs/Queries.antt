@@ -1,11 +1,9 @@
 -- What holds of an unfinished query between steps.
 use Rattle.std.specs.Prelude.{ℕ, ◌≡◌, ◌≢◌, ◌+◌, ◌≤◌, Bool, true, List, map}
-use Rattle.dim_hierarchy.specs.declared.filter.Pick.{Pick}
-use Rattle.dim_hierarchy.specs.Filter.{matches}
+use Rattle.dim_hierarchy.specs.{Filter.matches, declared.filter.Pick.Pick}
 use Rattle.dc_node.specs.declared.todo.Item.{Item}
 use Rattle.list_words.specs.Counts.{Each, times}
-use Rattle.tree_shape.specs.Shape.{Table, Node, Shape}
-use Rattle.tree_shape.specs.Walks.{Noted, AreNoted, pending}
+use Rattle.tree_shape.specs.{Shape.{Table, Node, Shape}, Walks.{Noted, AreNoted, pending}}
 
 -- Of a query that has counted some rows and noted some blocks of a tree. `must` tells which rows it has to hold, and
 -- `fits` which ones its filter matches. A row is counted or beneath one noted block, not both, and not neither where it

@@ -1,29 +1,14 @@
 -- What the steps of inserts and queries find in the cells and leave there, in the words of the calls' contracts.
 use Rattle.std.specs.Prelude.{ℕ, ◌≡◌, ◌≢◌, ◌+◌, ◌<◌, ◌≤◌, ◌⊎◌, Bool, true, false, Some, List, [], ◌∷◌, ◌++◌, map, take, drop, length, slice_get}
-use Rattle.dim_hierarchy.specs.declared.filter.Pick.{Pick}
-use Rattle.dim_hierarchy.specs.Rows.{IsRowOf}
-use Rattle.dim_hierarchy.specs.Filter.{IsFilterOf}
+use Rattle.dim_hierarchy.specs.{Filter.IsFilterOf, Rows.IsRowOf, declared.filter.Pick.Pick}
 use Rattle.describing_set.specs.DescSet.{IsSetOf}
-use Rattle.measure_agg.specs.Aggregate.{agg}
-use Rattle.measure_agg.specs.Joining.{join}
-use Rattle.dc_node.specs.Block.{rows_in, entries_in, is_leaf, is_full}
-use Rattle.dc_node.specs.declared.block.Body.TheVariants.{Rows}
-use Rattle.dc_node.specs.declared.block.Block.{Block}
-use Rattle.dc_node.specs.declared.entry.Entry.{Entry}
-use Rattle.dc_node.specs.declared.todo.Item.{Item}
-use Rattle.cell_stock.specs.Stock.{PurseValue}
-use Rattle.cell_stock.specs.declared.purse.Spare.{Spare}
-use Rattle.shard_store.specs.Gate.{root_entry, IsQueueOf}
-use Rattle.shard_store.specs.declared.gate.Gate.{Gate}
-use Rattle.link_descent.specs.Visit.{noted_in, noted_right, counted as block_part}
-use Rattle.link_descent.specs.Descend.{StepsDown, Enters}
-use Rattle.link_descent.specs.GateRead.{queue_part, tree_part, root_items}
-use Rattle.link_descent.specs.declared.entered.Entered.{Entered}
+use Rattle.measure_agg.specs.{Aggregate.agg, Joining.join}
+use Rattle.dc_node.specs.{Block.{rows_in, entries_in, is_leaf, is_full}, declared.block.Block.Block, declared.block.Body.TheVariants.Rows, declared.entry.Entry.Entry, declared.todo.Item.Item}
+use Rattle.cell_stock.specs.{Stock.PurseValue, declared.purse.Spare.Spare}
+use Rattle.shard_store.specs.{Gate.{root_entry, IsQueueOf}, declared.gate.Gate.Gate}
+use Rattle.link_descent.specs.{Descend.{StepsDown, Enters}, GateRead.{queue_part, tree_part, root_items}, Visit.{noted_in, noted_right, counted as block_part}, declared.entered.Entered.Entered}
 use Rattle.list_words.specs.Counts.{Each, same, times}
-use Rattle.tree_shape.specs.Shape.{Table, Node, TreeCells, nodes, Shape, numbers}
-use Rattle.tree_shape.specs.Trees.{IsTree}
-use Rattle.tree_shape.specs.Walks.{Noted, pending}
-use Rattle.tree_shape.specs.Queries.{IsUnfinished, NoneWaits, fits}
+use Rattle.tree_shape.specs.{Queries.{IsUnfinished, NoneWaits, fits}, Shape.{Table, Node, TreeCells, nodes, Shape, numbers}, Trees.IsTree, Walks.{Noted, pending}}
 
 -- Spares: the cell is of no block of the tree, and no entry of the tree expects the stamp.
 

@@ -4,8 +4,7 @@ use Rattle.dim_hierarchy.specs.declared.filter.Pick.{Pick}
 use Rattle.measure_agg.specs.Aggregate.{agg}
 use Rattle.dc_node.specs.declared.todo.Item.{Item}
 use Rattle.list_words.specs.Counts.{times}
-use Rattle.tree_shape.specs.Shape.{Table, Node, Shape}
-use Rattle.tree_shape.specs.Queries.{IsUnfinished, fits}
+use Rattle.tree_shape.specs.{Queries.{IsUnfinished, fits}, Shape.{Table, Node, Shape}}
 
 -- one hierarchy, and for some numbers the same row
 pub record AreAlike (of : ℕ → Type 0) (table other : Table) : Type 0 where

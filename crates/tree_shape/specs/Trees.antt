@@ -1,18 +1,10 @@
 -- What it means that cells hold a tree of blocks.
-use Rattle.std.specs.Prelude.{ℕ, zero, suc, ◌≡◌, ◌≢◌, ◌+◌, ◌≤◌, true, false, cond, eqb, None, List, [], ◌∷◌, map, take, drop, All}
-use Rattle.std.specs.Option.{option_map_or}
+use Rattle.std.specs.{Option.option_map_or, Prelude.{ℕ, zero, suc, ◌≡◌, ◌≢◌, ◌+◌, ◌≤◌, true, false, cond, eqb, None, List, [], ◌∷◌, map, take, drop, All}}
 use Rattle.dim_hierarchy.specs.Rows.{IsRowOf}
-use Rattle.dc_node.specs.Limits.{most_of_leaf, most_of_directory}
-use Rattle.dc_node.specs.Block.{rows_in, entries_in, is_leaf, size, is_full, IsBodyOf}
-use Rattle.dc_node.specs.Summary.{IsSummaryOf, row_count}
-use Rattle.dc_node.specs.declared.block.Body.{Body}
-use Rattle.dc_node.specs.declared.block.Body.TheVariants.{Rows, Entries}
-use Rattle.dc_node.specs.declared.block.Block.{Block}
-use Rattle.dc_node.specs.declared.entry.Entry.{Entry}
+use Rattle.dc_node.specs.{Block.{rows_in, entries_in, is_leaf, size, is_full, IsBodyOf}, Limits.{most_of_leaf, most_of_directory}, Summary.{IsSummaryOf, row_count}, declared.block.Block.Block, declared.block.Body.Body, declared.block.Body.TheVariants.{Rows, Entries}, declared.entry.Entry.Entry}
 use Rattle.link_descent.specs.Divide.{together}
 use Rattle.list_words.specs.Counts.{total, Each, same, times}
-use Rattle.tree_shape.specs.Shape.{Table, Node, TreeCells, nodes, Shape, ShapeOk}
-use Rattle.tree_shape.specs.Walks.{IsNoted, noted_of, beneath}
+use Rattle.tree_shape.specs.{Shape.{Table, Node, TreeCells, nodes, Shape, ShapeOk}, Walks.{IsNoted, noted_of, beneath}}
 
 -- An entry on the level above l: its group is a walk and has each block with that head once; the rows beneath it are
 -- known, and the entry's aggregate and set are those of these rows, carried ones among them.

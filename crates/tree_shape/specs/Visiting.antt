@@ -2,9 +2,7 @@
 use Rattle.std.specs.Prelude.{ℕ, zero, suc, ◌≡◌, ◌+◌, ◌<◌, ◌≤◌, Bool, true, cond, List}
 use Rattle.dim_hierarchy.specs.declared.filter.Pick.{Pick}
 use Rattle.dc_node.specs.declared.todo.Item.{Item}
-use Rattle.tree_shape.specs.Shape.{Table, TreeCells, Shape}
-use Rattle.tree_shape.specs.Steps.{Visits, AfterVisit}
-use Rattle.tree_shape.specs.Walks.{Noted, pending}
+use Rattle.tree_shape.specs.{Shape.{Table, TreeCells, Shape}, Steps.{Visits, AfterVisit}, Walks.{Noted, pending}}
 
 -- of the cells below a number
 abbrev pub visits_left : Shape → List Noted → ℕ → ℕ

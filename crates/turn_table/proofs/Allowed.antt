@@ -7,13 +7,8 @@ use lib.ListN.{get_elem?}
 use prog.Atomic.{either}
 use Rattle.atomic_table.specs.Table.{State, Me, step, takes as taking, gives as giving, keeps as staying, stepped, Allows, Splits, Joins, rest}
 use Rattle.atomic_table.proofs.Lists.{set_here, exchanged}
-use Rattle.turn_table.specs.declared.view.View.{View}
-use Rattle.turn_table.specs.Numbered.{value_of, HaveOwnNumbers, write_all, replace, Extends}
-use Rattle.turn_table.specs.Views.{HasAll, seen_of, after_take, after_commit, after_release, after_refusal, after_split, split_view, joined_view, spent_view}
-use Rattle.turn_table.specs.Rule.{Rests, IsHeld, IsUnderTurns}
-use Rattle.turn_table.specs.Law.{Sight, sight, AreSameCells, IsLawful, IsUnkept, IsPossible, Took, GaveBack, Looked, IsCommit, IsRelease}
-use Rattle.turn_table.proofs.Numbered.{below_length, there, length_write_all, write_all_here, write_all_else, starts_self, some_or_none, numbers_replace, replace_found, find_append_first, find_append_second, find_here, find_else, prefix_two, not_empty, without_else, back_in_front, apart_in_front}
-use Rattle.turn_table.proofs.Kept.{takes, gives, notes, splits, joins}
+use Rattle.turn_table.specs.{Law.{Sight, sight, AreSameCells, IsLawful, IsUnkept, IsPossible, Took, GaveBack, Looked, IsCommit, IsRelease}, Numbered.{value_of, HaveOwnNumbers, write_all, replace, Extends}, Rule.{Rests, IsHeld, IsUnderTurns}, Views.{HasAll, seen_of, after_take, after_commit, after_release, after_refusal, after_split, split_view, joined_view, spent_view}, declared.view.View.View}
+use Rattle.turn_table.proofs.{Kept.{takes, gives, notes, splits, joins}, Numbered.{below_length, there, length_write_all, write_all_here, write_all_else, starts_self, some_or_none, numbers_replace, replace_found, find_append_first, find_append_second, find_here, find_else, prefix_two, not_empty, without_else, back_in_front, apart_in_front}}
 
 module _ {Cell Actor Entry : Type 0} (invariant : List Cell → List Actor → Type 0) (log_at : ℕ) (log : Cell → List Entry) (needs : Actor → ℕ → Type 0) (count : ℕ) where
   abbrev V : Type 0

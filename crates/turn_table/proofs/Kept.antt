@@ -1,6 +1,5 @@
 -- Each step keeps the rule of the table.
-use Rattle.std.proofs.Common.{◌≡◌, ◌≢◌, ◌⊎◌, ℕ, ◌+◌, ◌<◌, ◌≤◌, nat_lt, Bool, true, false, cond, List, [], ◌∷◌, ◌++◌, length, get_or, set, sym, refl, ap, ◌∙◌, subst, ⊎_elim, inl, inr, arith, Option, Some, length-set, get_or-set_other, get_or-set_same, append_assoc, length-append}
-use Rattle.std.proofs.lemmas.Bool.{lt-ltb, le-ltb}
+use Rattle.std.proofs.{Common.{◌≡◌, ◌≢◌, ◌⊎◌, ℕ, ◌+◌, ◌<◌, ◌≤◌, nat_lt, Bool, true, false, cond, List, [], ◌∷◌, ◌++◌, length, get_or, set, sym, refl, ap, ◌∙◌, subst, ⊎_elim, inl, inr, arith, Option, Some, length-set, get_or-set_other, get_or-set_same, append_assoc, length-append}, lemmas.Bool.{lt-ltb, le-ltb}}
 use mathlib.Core.Logic.{dite}
 use mathlib.Core.Option.{none, some, some-ne-none, some-injective}
 use mathlib.Core.Option as maybe
@@ -9,10 +8,7 @@ use lib.ListN.{get_elem?}
 use lib.Seq.{set-get_or}
 use Rattle.atomic_table.specs.Table.{State}
 use Rattle.atomic_table.proofs.Lists.{at_set, set_here, set_else, at_longer, at_last}
-use Rattle.turn_table.specs.declared.view.View.{View}
-use Rattle.turn_table.specs.Numbered.{value_of, numbers_of, HaveOwnNumbers, Extends, longer, shorter}
-use Rattle.turn_table.specs.Views.{HasAll, lone, seen_of, after_take, after_split, split_view, joined_view, spent_view}
-use Rattle.turn_table.specs.Rule.{Agrees, IsPlaced, Rests, IsHeld, IsUnderTurns}
+use Rattle.turn_table.specs.{Numbered.{value_of, numbers_of, HaveOwnNumbers, Extends, longer, shorter}, Rule.{Agrees, IsPlaced, Rests, IsHeld, IsUnderTurns}, Views.{HasAll, lone, seen_of, after_take, after_split, split_view, joined_view, spent_view}, declared.view.View.View}
 use Rattle.turn_table.proofs.Numbered.{put, put_here, put_else, find_here, find_else, found, some_or_none, find_same, below_length, there, starts_self, starts_nil, without_here, without_else, at_end, find_append, find_append_first, find_append_second, whole_prefix, distinct_end}
 
 module _ {Cell Actor Entry : Type 0} (invariant : List Cell → List Actor → Type 0) (log_at : ℕ) (log : Cell → List Entry) (needs : Actor → ℕ → Type 0) (count : ℕ) where

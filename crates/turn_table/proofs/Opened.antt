@@ -5,14 +5,8 @@ use mathlib.Core.Option as maybe
 use lib.ListN.{get_elem?, length-map, length-replicate}
 use Rattle.atomic_table.specs.Table.{State, Me, opening, Final, Seen}
 use Rattle.atomic_table.proofs.Lists.{at_map}
-use Rattle.turn_table.specs.declared.view.View.{View}
-use Rattle.turn_table.specs.Numbered.{value_of, numbers_of, with_numbers, Extends}
-use Rattle.turn_table.specs.Views.{HasAll, seen_of, first_view}
-use Rattle.turn_table.specs.Rule.{Agrees, IsPlaced, Rests, IsHeld, IsUnderTurns}
-use Rattle.turn_table.specs.Law.{IsClosed}
-use Rattle.turn_table.specs.Seat.{IsSeated}
-use Rattle.turn_table.proofs.Allowed.{only_active, all_seen, possible}
-use Rattle.turn_table.proofs.Numbered.{find_here, find_else, found, there, starts_self, starts_nil}
+use Rattle.turn_table.specs.{Law.IsClosed, Numbered.{value_of, numbers_of, with_numbers, Extends}, Rule.{Agrees, IsPlaced, Rests, IsHeld, IsUnderTurns}, Seat.IsSeated, Views.{HasAll, seen_of, first_view}, declared.view.View.View}
+use Rattle.turn_table.proofs.{Allowed.{only_active, all_seen, possible}, Numbered.{find_here, find_else, found, there, starts_self, starts_nil}}
 
 module _ {A : Type 0} where
   numbered_at : (n : ℕ) (xs : List A) (i : ℕ) (a : A) → value_of (with_numbers n xs) i ≡ some a → (j : ℕ) × (i ≡ n + j) × (get_elem? xs j ≡ some a)

@@ -1,20 +1,13 @@
 -- A seat's row of numbers_of and its slots stay those of the cells in its view.
-use Rattle.std.proofs.Common.{◌≡◌, ◌≢◌, ℕ, zero, suc, ◌⊎◌, ⊎_elim, remove, ◌+◌, ◌<◌, ◌≤◌, nat_lt, Bool, true, false, cond, List, [], ◌∷◌, ◌++◌, length, sym, refl, ap, ◌∙◌, subst, arith, Option, Some, None, length-append, take, drop, get_or, append_assoc, set, get_or-set_same, get_or-set_other}
+use Rattle.std.proofs.{Common.{◌≡◌, ◌≢◌, ℕ, zero, suc, ◌⊎◌, ⊎_elim, remove, ◌+◌, ◌<◌, ◌≤◌, nat_lt, Bool, true, false, cond, List, [], ◌∷◌, ◌++◌, length, sym, refl, ap, ◌∙◌, subst, arith, Option, Some, None, length-append, take, drop, get_or, append_assoc, set, get_or-set_same, get_or-set_other, length-drop}, Math.Seq.drop-append_seam, lemmas.Bool.{lt-ltb, le-ltb}}
 use mathlib.Core.Option.{none, some, some-ne-none, some-injective}
 use lib.ListN.{get_elem?}
-use Rattle.std.proofs.Common.{length-drop}
-use Rattle.std.proofs.Math.Seq.{drop-append_seam}
 use Rattle.atomic_table.proofs.Lists.{drop_at}
 use mathlib.Core.Logic.{dite}
 use native.Mathlib.Decide.{ℕ_discrete, dec_lt}
-use Rattle.std.proofs.lemmas.Bool.{lt-ltb, le-ltb}
 use mathlib.Core.List.{head-eq_of_cons-eq}
 use Rattle.atomic_table.specs.Table.{Me, turned, rest}
-use Rattle.turn_table.specs.declared.view.View.{View}
-use Rattle.turn_table.specs.Numbered.{value_of, numbers_of, HaveOwnNumbers, replace, without, after_first, Extends, longer, shorter}
-use Rattle.turn_table.specs.Views.{HasAll, lone, after_take, after_commit, after_release, after_refusal, after_split, split_view, joined_view}
-use Rattle.turn_table.specs.Law.{Sight, sight, IsPossible, IsCommit, IsRelease}
-use Rattle.turn_table.specs.Seat.{IsSeated, slots_of, values_of}
+use Rattle.turn_table.specs.{Law.{Sight, sight, IsPossible, IsCommit, IsRelease}, Numbered.{value_of, numbers_of, HaveOwnNumbers, replace, without, after_first, Extends, longer, shorter}, Seat.{IsSeated, slots_of, values_of}, Views.{HasAll, lone, after_take, after_commit, after_release, after_refusal, after_split, split_view, joined_view}, declared.view.View.View}
 use Rattle.turn_table.proofs.Numbered.{distinct_end, found, find_append, find_same, none_same, distinct_same, find_here, find_else, numbers_replace, not_empty, without_here, without_else, find_append_first, starts_self, starts_nil, below_length, at_same, at_found, without_at, apart_in_front}
 
 module _ {A : Type 0} where

@@ -3,10 +3,7 @@ use Rattle.std.specs.Prelude.{◌≡◌, ◌≢◌, ℕ, ◌+◌, ◌<◌, List,
 use mathlib.Core.Option.{some, none}
 use lib.ListN.{get_elem?}
 use Rattle.atomic_table.specs.Table.{Me, Step, rest}
-use Rattle.turn_table.specs.declared.view.View.{View}
-use Rattle.turn_table.specs.Numbered.{value_of, HaveOwnNumbers, Extends, write_all, replace}
-use Rattle.turn_table.specs.Views.{HasAll, after_take, after_refusal, after_commit, after_release}
-use Rattle.turn_table.specs.Rule.{Agrees}
+use Rattle.turn_table.specs.{Numbered.{value_of, HaveOwnNumbers, Extends, write_all, replace}, Rule.Agrees, Views.{HasAll, after_take, after_refusal, after_commit, after_release}, declared.view.View.View}
 
 -- The law.
 

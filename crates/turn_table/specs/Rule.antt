@@ -3,9 +3,7 @@ use Rattle.std.specs.Prelude.{◌≡◌, ◌≢◌, ◌⊎◌, ℕ, ◌+◌, ◌
 use mathlib.Core.Option.{some}
 use lib.ListN.{get_elem?}
 use Rattle.atomic_table.specs.Table.{State}
-use Rattle.turn_table.specs.declared.view.View.{View}
-use Rattle.turn_table.specs.Numbered.{value_of, HaveOwnNumbers, Extends}
-use Rattle.turn_table.specs.Views.{HasAll}
+use Rattle.turn_table.specs.{Numbered.{value_of, HaveOwnNumbers, Extends}, Views.HasAll, declared.view.View.View}
 
 -- what a seat knows is so in this state
 pub record Agrees {Cell Actor Entry : Type 0} (log_at : ℕ) (log : Cell → List Entry) (cells : List Cell) (actors : List Actor) (v : View Cell Actor Entry) : Type 0 where

@@ -1,11 +1,8 @@
 -- What contracts see of a table and of a seat.
 use Rattle.std.specs.Prelude.{◌≡◌, ◌≢◌, ℕ, ◌<◌, ◌≤◌, Bool, cond, List, [], ◌∷◌, Option, Some, None}
 use mathlib.Core.Option.{some}
-use Rattle.atomic_table.specs.Table.{Me}
-use Rattle.atomic_table.specs.Seated.{TableId}
-use Rattle.turn_table.specs.declared.view.View.{View}
-use Rattle.turn_table.specs.Numbered.{value_of, numbers_of, HaveOwnNumbers}
-use Rattle.turn_table.specs.Law.{IsPossible}
+use Rattle.atomic_table.specs.{Seated.TableId, Table.Me}
+use Rattle.turn_table.specs.{Law.IsPossible, Numbered.{value_of, numbers_of, HaveOwnNumbers}, declared.view.View.View}
 
 -- how many cells a table has, which is one for each word
 abbrev pub cell_count : TableId → ℕ

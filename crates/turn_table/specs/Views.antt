@@ -3,8 +3,7 @@ use Rattle.std.specs.Prelude.{◌≡◌, ℕ, ◌+◌, ◌-◌, ◌<◌, List, [
 use mathlib.Core.Option.{some, none}
 use mathlib.Core.Option as maybe
 use lib.ListN.{get_elem?}
-use Rattle.turn_table.specs.declared.view.View.{View}
-use Rattle.turn_table.specs.Numbered.{value_of, replace, without, after_first, with_numbers, longer, shorter}
+use Rattle.turn_table.specs.{Numbered.{value_of, replace, without, after_first, with_numbers, longer, shorter}, declared.view.View.View}
 
 -- the seat has every actor
 abbrev pub HasAll : {Cell Actor Entry : Type 0} → ℕ → View Cell Actor Entry → Type 0

@@ -2,12 +2,8 @@
 use Rattle.std.proofs.Common.{◌≡◌, ℕ, cond, List, [], Option, Some, None, refl, sym, ap, ◌∙◌}
 use Rattle.cell_stock.specs.declared.purse.Spare.{Spare}
 use Rattle.query_router.specs.declared.part.Want.TheVariants as want
-use Rattle.volap_cell.specs.Errands.{taken_of, way_of, read_of, want_of, way_in_task, read_in_task, place_of, is_filled, row_way}
-use Rattle.volap_cell.specs.TreeKinds.{HasRow, on_way, with_reading}
-use Rattle.volap_cell.specs.Values.{ActorValue, ErrandValue, ReadingValue, TaskValue, OfRow, Read}
-use Rattle.volap_cell.specs.declared.errand.RowErrand.{RowErrand}
-use Rattle.volap_cell.specs.declared.errand.Way.{Way}
-use Rattle.volap_cell.proofs.Seen.{Touched, actor_beside}
+use Rattle.volap_cell.specs.{Errands.{taken_of, way_of, read_of, want_of, way_in_task, read_in_task, place_of, is_filled, row_way}, TreeKinds.{HasRow, on_way, with_reading}, Values.{ActorValue, ErrandValue, ReadingValue, TaskValue, OfRow, Read}, declared.errand.RowErrand.RowErrand, declared.errand.Way.Way}
+use Rattle.volap_cell.proofs.Views.Seen.{Touched, actor_beside}
 
 -- Errands.
 

@@ -1,9 +1,7 @@
 -- How many numbers there can be that differ and are below one, in a list or as the keys of things that are counted.
-use Rattle.std.proofs.Common.{◌≡◌, ℕ, zero, suc, ◌+◌, ◌<◌, ◌≤◌, Bool, true, cond, eqb, leb, List, [], ◌∷◌, length, refl, sym, ap, ◌∙◌, subst, arith}
+use Rattle.std.proofs.{Common.{◌≡◌, ℕ, zero, suc, ◌+◌, ◌<◌, ◌≤◌, Bool, true, cond, eqb, leb, List, [], ◌∷◌, length, refl, sym, ap, ◌∙◌, subst, arith}, lemmas.Bool.{leb-true, leb-false, eqb-true, eqb-false}}
 use Rattle.list_words.specs.Counts.{same, times}
-use Rattle.std.proofs.lemmas.Bool.{leb-true, leb-false, eqb-true, eqb-false}
-use Rattle.list_words.proofs.Truth.{on_bool}
-use Rattle.list_words.proofs.Times.{same_is, same_not}
+use Rattle.list_words.proofs.{Times.{same_is, same_not}, Truth.on_bool}
 use Rattle.volap_cell.specs.Sums.{sum_below}
 use Rattle.volap_cell.proofs.Sums.{sum-add, sum-no-more, sum-zero}
 

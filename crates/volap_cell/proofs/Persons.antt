@@ -1,12 +1,6 @@
 -- Who is who stays: a step of an actor that is there leaves its number, its role and what it is about.
 use Rattle.std.proofs.Common.{◌≡◌, ◌≢◌, ℕ, ◌<◌, ◌≤◌, true, false, Some, None, sym, ◌∙◌, arith}
-use Rattle.volap_cell.specs.Errands.{Taken}
-use Rattle.volap_cell.specs.Numbering.{Numbering}
-use Rattle.volap_cell.specs.Setting.{Setting, actor_count}
-use Rattle.volap_cell.specs.Values.{JobValue}
-use Rattle.volap_cell.specs.View.{View}
-use Rattle.volap_cell.specs.declared.command.Command.{Command}
-use Rattle.volap_cell.specs.declared.role.Role.TheVariants.{Hand}
+use Rattle.volap_cell.specs.{Errands.Taken, Numbering.Numbering, Setting.{Setting, actor_count}, Values.JobValue, View.View, declared.command.Command.Command, declared.role.Role.TheVariants.Hand}
 
 -- who is who in a view
 abbrev pub IsNumbered : Setting → View → Type 0

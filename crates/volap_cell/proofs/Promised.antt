@@ -1,49 +1,18 @@
 -- The promises of the invariant: the one place of each row, and what images and queries have.
-use Rattle.std.proofs.Common.{◌≡◌, ◌≢◌, ℕ, zero, suc, ◌<◌, ◌≤◌, List, [], ◌∷◌, true, false, eqb, get_or, refl, sym, ap, subst, arith, ◌∙◌, ◌⊎◌, inl, inr}
+use Rattle.std.proofs.{Common.{◌≡◌, ◌≢◌, ℕ, zero, suc, ◌<◌, ◌≤◌, List, [], ◌∷◌, true, false, eqb, get_or, refl, sym, ap, subst, arith, ◌∙◌, ◌⊎◌, inl, inr}, lemmas.Bool.{cases_lt, eq-eqb, false≢true, eqb-true, eqb-false}, lemmas.List.Elements.{All-contains, All-contains_itself, All-head, Contains-append_cases}}
 use Rattle.std.specs.Prelude.{All, Option, Some, None, Contains, IsTrue, Any, option_and_then}
-use Rattle.std.proofs.lemmas.Bool.{cases_lt, eq-eqb, false≢true, eqb-true, eqb-false}
-use Rattle.std.proofs.lemmas.List.Elements.{All-contains, All-contains_itself, All-head, Contains-append_cases}
 use Rattle.row_ledger.proofs.Descent.{comes_from-comparable, live-made}
 use Rattle.list_words.specs.Counts.{times}
-use Rattle.list_words.proofs.Truth.{on_bool}
+use Rattle.list_words.proofs.{Elements.Contains-nil, Truth.on_bool}
 use Rattle.tree_shape.specs.Queries.{fits}
-use Rattle.list_words.proofs.Elements.{Contains-nil}
-use Rattle.describing_set.specs.DescSet.{covers}
-use Rattle.describing_set.specs.declared.listing.Spot.{Spot}
-use Rattle.row_ledger.specs.Bounds.{known}
+use Rattle.describing_set.specs.{DescSet.covers, declared.listing.Spot.Spot}
+use Rattle.row_ledger.specs.{Bounds.known, Past.{Ack, Insert, Query, event_at, insert_at, is_kept, query_at, session_in}, Shards.{comes_from, is_live}, declared.event.Event.Event}
 use Rattle.dim_hierarchy.specs.declared.row.Row.{Row}
-use Rattle.query_router.specs.Desk.{is_refused, is_taken, is_waiting, state_is_refused, state_waits}
-use Rattle.query_router.specs.declared.part.Part.{Part}
-use Rattle.query_router.specs.declared.part.PartState.{PartState}
+use Rattle.query_router.specs.{Desk.{is_refused, is_taken, is_waiting, state_is_refused, state_waits}, declared.part.Part.Part, declared.part.PartState.PartState}
 use Rattle.query_router.specs.declared.part.PartState.TheVariants as state_is
-use Rattle.row_ledger.specs.Past.{Ack, Insert, Query, event_at, insert_at, is_kept, query_at, session_in}
-use Rattle.row_ledger.specs.Shards.{comes_from, is_live}
-use Rattle.row_ledger.specs.declared.event.Event.{Event}
-use Rattle.volap_cell.specs.Desking.{AreLinesApart, AreUnrelated, IsInsertState, IsQueryState, IsTaken, is_on_desk}
-use Rattle.volap_cell.specs.Errands.{ReadPart, Taken, read_in_task, read_of, taken_by, taken_of}
-use Rattle.volap_cell.specs.Ghost.{Ghost}
-use Rattle.volap_cell.specs.Growing.{IsUnder, table_of}
-use Rattle.volap_cell.specs.ImageKinds.{doing}
-use Rattle.volap_cell.specs.Imaging.{IsCovered}
-use Rattle.volap_cell.specs.Invariant.{InvWith}
-use Rattle.volap_cell.specs.Promises.{HasNotRead, IsAheadOf, IsBeneath, IsCoveredBy, HasItsPlace, IsOnDesk, HasNotPassed, IsUnrouted, IsInOne, times_in, HasCounted, PlaceLaw, RowsLaw, ImageLaw, QueryLaw}
-use Rattle.volap_cell.specs.Placing.{IsRowPart}
-use Rattle.volap_cell.specs.Querying.{IsCounted, IsEndOfPart, IsInTreeOf, IsReading, IsWalk, must_hold, pins_of}
-use Rattle.volap_cell.specs.Setting.{Setting, actor_count, site_in}
-use Rattle.volap_cell.specs.Stocking.{IsWhole}
-use Rattle.volap_cell.specs.Sums.{sum_below}
-use Rattle.volap_cell.specs.Telling.{IsProgress}
-use Rattle.volap_cell.specs.Values.{ErrandValue, JobValue, TaskValue, OfRow, Unread, Read}
-use Rattle.volap_cell.specs.View.{View, row_at, view}
-use Rattle.volap_cell.specs.World.{World}
-use Rattle.volap_cell.specs.declared.command.Command.{Command}
-use Rattle.volap_cell.specs.declared.command.Work.{Work}
+use Rattle.volap_cell.specs.{Desking.{AreLinesApart, AreUnrelated, IsInsertState, IsQueryState, IsTaken, is_on_desk}, Errands.{ReadPart, Taken, read_in_task, read_of, taken_by, taken_of}, Ghost.Ghost, Growing.{IsUnder, table_of}, ImageKinds.doing, Imaging.IsCovered, Invariant.InvWith, Placing.IsRowPart, Promises.{HasNotRead, IsAheadOf, IsBeneath, IsCoveredBy, HasItsPlace, IsOnDesk, HasNotPassed, IsUnrouted, IsInOne, times_in, HasCounted, PlaceLaw, RowsLaw, ImageLaw, QueryLaw}, Querying.{IsCounted, IsEndOfPart, IsInTreeOf, IsReading, IsWalk, must_hold, pins_of}, Setting.{Setting, actor_count, site_in}, Stocking.IsWhole, Sums.sum_below, Telling.IsProgress, Values.{ErrandValue, JobValue, TaskValue, OfRow, Unread, Read}, View.{View, row_at, view}, World.World, declared.command.Command.Command, declared.command.Work.Work, declared.role.Role.TheVariants.Session}
 use Rattle.volap_cell.specs.declared.command.Work.TheVariants as work_is
-use Rattle.volap_cell.specs.declared.role.Role.TheVariants.{Session}
-use Rattle.volap_cell.proofs.Beginnings.{acked-of, insert-ended, insert-session, no-query, no-call}
-use Rattle.volap_cell.proofs.InsertWays.{taken-way}
-use Rattle.volap_cell.proofs.Knowing.{acked-begun, known-acked}
-use Rattle.volap_cell.proofs.Standings.{standing, in-one, in-none}
+use Rattle.volap_cell.proofs.{Desks.Inserts.taken-way, Histories.Beginnings.{acked-of, insert-ended, insert-session, no-query, no-call}, Histories.Knowing.{acked-begun, known-acked}, Histories.Standings.{standing, in-one, in-none}}
 
 -- An insert that hasn't passed a gate stands on its server's desk, or isn't routed.
 

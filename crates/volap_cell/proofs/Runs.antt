@@ -1,9 +1,6 @@
 -- A step from a reached state leads to a reached one, and what a kind keeps is the invariant.
 use Rattle.std.proofs.Common.{ℕ, ◌∷◌, refl}
-use Rattle.volap_cell.specs.Setting.{Setting}
-use Rattle.volap_cell.specs.Steps.{IsReached, Step}
-use Rattle.volap_cell.specs.World.{World}
-use Rattle.volap_cell.specs.declared.kind.Kind.{Kind}
+use Rattle.volap_cell.specs.{Setting.Setting, Steps.{IsReached, Step}, World.World, declared.kind.Kind.Kind}
 
 -- a reached state and one step more
 pub reached-on : (s : Setting) (kind : Kind) (n : ℕ) (between to : World) → IsReached s between → Step s kind n between to → IsReached s to

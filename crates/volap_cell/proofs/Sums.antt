@@ -1,7 +1,6 @@
 -- Sums over the actors, of which one changes.
-use Rattle.std.proofs.Common.{◌≡◌, ◌≢◌, ℕ, zero, suc, ◌+◌, ◌<◌, ◌≤◌, eqb, refl, sym, ap, ◌∙◌, arith}
+use Rattle.std.proofs.{Common.{◌≡◌, ◌≢◌, ℕ, zero, suc, ◌+◌, ◌<◌, ◌≤◌, eqb, refl, sym, ap, ◌∙◌, arith}, lemmas.Bool.{eqb-true, eqb-false}}
 use Rattle.list_words.proofs.Truth.{on_bool}
-use Rattle.std.proofs.lemmas.Bool.{eqb-true, eqb-false}
 use Rattle.volap_cell.specs.Sums.{sum_below}
 
 -- the same numbers have the same sum

@@ -1,49 +1,24 @@
 -- What the steps of splits and moves do to the cells that they hold and to their actor, the one administrator.
-use Rattle.std.specs.Prelude.{ℕ, ◌≡◌, ◌≢◌, ◌+◌, ◌^◌, ◌<◌, ◌≤◌, ◌⊎◌, ⊤, true, false, not, List, [], ◌∷◌, ◌++◌, Option, Some, None, map as each, drop, filter, length, slice_get}
+use Rattle.std.specs.{Ordering.nat_cmp, Prelude.{ℕ, ◌≡◌, ◌≢◌, ◌+◌, ◌^◌, ◌<◌, ◌≤◌, ◌⊎◌, ⊤, true, false, not, List, [], ◌∷◌, ◌++◌, Option, Some, None, map as each, drop, filter, length, slice_get}}
 use Rattle.std.specs.FinMap as map
-use Rattle.std.specs.Ordering.{nat_cmp}
-use Rattle.dim_hierarchy.specs.Dimension.{Dimension}
-use Rattle.dim_hierarchy.specs.declared.row.Row.{Row}
-use Rattle.dc_node.specs.Block.{rows_in}
-use Rattle.dc_node.specs.Summary.{coords}
-use Rattle.dc_node.specs.declared.block.Block.{Block}
-use Rattle.dc_node.specs.declared.todo.Item.{Item}
-use Rattle.describing_set.specs.DescSet.{IsSetOf}
-use Rattle.describing_set.specs.Sets.{JoinsTo}
-use Rattle.describing_set.specs.Plane.{IsPlaneOf, goes_left}
-use Rattle.describing_set.specs.declared.plane.Plane.{Plane}
-use Rattle.describing_set.specs.declared.set.DescSet.{DescSet}
-use Rattle.cell_stock.specs.Stock.{PurseValue, StockValue, Takes, Gives}
-use Rattle.cell_stock.specs.declared.purse.Spare.{Spare}
-use Rattle.link_descent.specs.Visit.{noted_right}
-use Rattle.link_descent.specs.declared.entered.Fresh.{Fresh}
+use Rattle.dim_hierarchy.specs.{Dimension.Dimension, declared.row.Row.Row}
+use Rattle.dc_node.specs.{Block.rows_in, Summary.coords, declared.block.Block.Block, declared.todo.Item.Item}
+use Rattle.describing_set.specs.{DescSet.IsSetOf, Plane.{IsPlaneOf, goes_left}, Sets.JoinsTo, declared.plane.Plane.Plane, declared.set.DescSet.DescSet}
+use Rattle.cell_stock.specs.{Stock.{PurseValue, StockValue, Takes, Gives}, declared.purse.Spare.Spare}
+use Rattle.link_descent.specs.{Visit.noted_right, declared.entered.Fresh.Fresh}
 use Rattle.mapping_table.specs.declared.place.Where.{Where}
 use Rattle.mapping_table.specs.declared.place.Where.TheVariants as where_is
-use Rattle.row_ledger.specs.LedgerValue.{LedgerValue}
-use Rattle.row_ledger.specs.declared.event.Event.{Event}
+use Rattle.row_ledger.specs.{LedgerValue.LedgerValue, declared.event.Event.Event, declared.settings.Decline.Decline, declared.settings.Decline.TheVariants.{OnePlace, NoCell}}
 use Rattle.row_ledger.specs.declared.event.Event.TheVariants as event
-use Rattle.row_ledger.specs.declared.settings.Decline.{Decline}
-use Rattle.row_ledger.specs.declared.settings.Decline.TheVariants.{OnePlace, NoCell}
 use Rattle.row_ledger.specs.declared.settings.How.TheVariants as how
 use Rattle.server_image.specs.Registry.{RegistryValue, IsSplit, IsRehosted}
-use Rattle.shard_build.specs.Built.{IsBuilt}
-use Rattle.shard_build.specs.declared.builder.Built.{Built}
+use Rattle.shard_build.specs.{Built.IsBuilt, declared.builder.Built.Built}
 use Rattle.shard_plan.specs.Building.{cells_for, split_need}
-use Rattle.shard_store.specs.Gate.{IsQueueOf}
-use Rattle.shard_store.specs.declared.gate.Gate.{Gate}
+use Rattle.shard_store.specs.{Gate.IsQueueOf, declared.gate.Gate.Gate}
 use Rattle.shard_store.specs.declared.gate.Phase.TheVariants as phase
 use Rattle.tree_shape.specs.Collecting.{root_item, entry_items}
-use Rattle.volap_cell.specs.Cells.{FreeCell, LedgerCell, StockCell, RegistryCell, MapCell, GateCell, BlockCell}
-use Rattle.volap_cell.specs.Commands.{after_action}
-use Rattle.volap_cell.specs.ImageKinds.{Pushes, doing}
-use Rattle.volap_cell.specs.Planning.{next_job}
-use Rattle.volap_cell.specs.TreeKinds.{Leads, IsRead, TurnsGate}
-use Rattle.volap_cell.specs.Values.{ActorValue, JobValue, StageValue, IsCalled, IsDeclined, IsFrozen, Collects, Builds, CollectingValue, BuildingValue}
-use Rattle.volap_cell.specs.World.{Change}
-use Rattle.volap_cell.specs.declared.command.Work.{Work}
+use Rattle.volap_cell.specs.{Cells.{FreeCell, LedgerCell, StockCell, RegistryCell, MapCell, GateCell, BlockCell}, Commands.after_action, ImageKinds.{Pushes, doing}, Planning.next_job, TreeKinds.{Leads, IsRead, TurnsGate}, Values.{ActorValue, JobValue, StageValue, IsCalled, IsDeclined, IsFrozen, Collects, Builds, CollectingValue, BuildingValue}, World.Change, declared.command.Work.Work, declared.job.BuiltTree.BuiltTree, declared.job.Frozen.Frozen}
 use Rattle.volap_cell.specs.declared.command.Work.TheVariants as work_is
-use Rattle.volap_cell.specs.declared.job.BuiltTree.{BuiltTree}
-use Rattle.volap_cell.specs.declared.job.Frozen.{Frozen}
 
 -- The actor.
 

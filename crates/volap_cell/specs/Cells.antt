@@ -1,22 +1,17 @@
 -- What a cell is when pointers are left out, and what is seen of it. Each projection is a function of the cell alone, so that
 -- a step that leaves it as it was in each cell that it changes leaves it everywhere.
-use Rattle.std.specs.Prelude.{ℕ, Bool, true, false, Option, Some, None, List, []}
+use Rattle.std.specs.{Ordering.nat_cmp, Prelude.{ℕ, Bool, true, false, Option, Some, None, List, []}}
 use Rattle.std.specs.FinMap as map
-use Rattle.std.specs.Ordering.{nat_cmp}
 use Rattle.measure_agg.specs.Aggregate.{agg}
 use Rattle.describing_set.specs.declared.set.DescSet.{DescSet}
 use Rattle.dc_node.specs.declared.block.Block.{Block}
 use Rattle.tree_shape.specs.Trees.{leaf_without_rows}
-use Rattle.shard_store.specs.declared.gate.Gate.{Gate}
-use Rattle.shard_store.specs.declared.gate.Phase.{Phase}
-use Rattle.shard_store.specs.declared.gate.Phase.TheVariants.{Open}
-use Rattle.shard_store.specs.declared.queue.Queue.{Queue}
+use Rattle.shard_store.specs.{declared.gate.Gate.Gate, declared.gate.Phase.Phase, declared.gate.Phase.TheVariants.Open, declared.queue.Queue.Queue}
 use Rattle.cell_stock.specs.Stock.{StockValue}
 use Rattle.row_ledger.specs.LedgerValue.{LedgerValue}
 use Rattle.mapping_table.specs.declared.place.Where.{Where}
 use Rattle.query_router.specs.Desk.{DeskValue}
-use Rattle.server_image.specs.Image.{ImageValue}
-use Rattle.server_image.specs.Registry.{RegistryValue}
+use Rattle.server_image.specs.{Image.ImageValue, Registry.RegistryValue}
 use Rattle.volap_cell.specs.declared.cell.Cell.{Cell}
 use Rattle.volap_cell.specs.declared.cell.Cell.TheVariants as cell
 

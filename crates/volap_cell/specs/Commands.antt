@@ -1,21 +1,11 @@
 -- Commands: who may make which, what each still owes the history, which pull is next, and how each may end.
 use Rattle.std.specs.Prelude.{ℕ, ◌≡◌, ◌+◌, ◌-◌, ◌<◌, ⊤, Bool, true, false, nat_lt, List, Option, Some, None, length, if◌then◌else◌}
-use Rattle.shard_plan.specs.Balancing.{after_move}
-use Rattle.shard_plan.specs.declared.action.Action.{Action}
-use Rattle.shard_plan.specs.declared.action.Load.{Load}
-use Rattle.row_ledger.specs.Classes.{class_of}
-use Rattle.row_ledger.specs.declared.class.Class.{Class}
+use Rattle.shard_plan.specs.{Balancing.after_move, declared.action.Action.Action, declared.action.Load.Load}
+use Rattle.row_ledger.specs.{Classes.class_of, declared.class.Class.Class, declared.settings.Call.Call, declared.settings.Decline.TheVariants.Unknown, declared.settings.How.How}
 use Rattle.row_ledger.specs.declared.class.Class.TheVariants as class
-use Rattle.row_ledger.specs.declared.settings.Call.{Call}
-use Rattle.row_ledger.specs.declared.settings.Decline.TheVariants.{Unknown}
-use Rattle.row_ledger.specs.declared.settings.How.{How}
 use Rattle.row_ledger.specs.declared.settings.How.TheVariants as how
-use Rattle.volap_cell.specs.Values.{JobValue, StageValue, IsCalled, IsDeclined}
-use Rattle.volap_cell.specs.declared.command.Balance.{Balance}
-use Rattle.volap_cell.specs.declared.command.Work.{Work}
+use Rattle.volap_cell.specs.{Values.{JobValue, StageValue, IsCalled, IsDeclined}, declared.command.Balance.Balance, declared.command.Work.Work, declared.role.Role.Role, declared.role.Role.TheVariants.{Session, Puller, Admin}}
 use Rattle.volap_cell.specs.declared.command.Work.TheVariants as work_is
-use Rattle.volap_cell.specs.declared.role.Role.{Role}
-use Rattle.volap_cell.specs.declared.role.Role.TheVariants.{Session, Puller, Admin}
 
 -- a session pulls for its own server, a puller for each; the administrator makes all other calls
 abbrev pub MayCallAs : Role → Class → Type 0

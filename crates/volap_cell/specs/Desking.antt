@@ -1,21 +1,11 @@
 -- Desks: whose command stands on each, and who is at its parts.
 use Rattle.std.specs.Prelude.{ℕ, ◌≡◌, ◌<◌, ⊤, Bool, true, false, List, [], ◌∷◌, Option, Some, None, All, Any}
-use Rattle.query_router.specs.Desk.{DeskValue, is_taken, is_with}
-use Rattle.query_router.specs.declared.part.Part.{Part}
-use Rattle.query_router.specs.declared.part.PartState.{PartState}
+use Rattle.query_router.specs.{Desk.{DeskValue, is_taken, is_with}, declared.part.Part.Part, declared.part.PartState.PartState, declared.part.Want.Want}
 use Rattle.query_router.specs.declared.part.PartState.TheVariants as state
-use Rattle.query_router.specs.declared.part.Want.{Want}
 use Rattle.query_router.specs.declared.part.Want.TheVariants as want
-use Rattle.row_ledger.specs.Past.{Insert, Query, insert_at, query_at}
-use Rattle.row_ledger.specs.Shards.{comes_from, ids_made}
-use Rattle.row_ledger.specs.declared.event.Event.{Event}
-use Rattle.volap_cell.specs.Errands.{Taken}
-use Rattle.volap_cell.specs.Setting.{Setting}
-use Rattle.volap_cell.specs.declared.command.Command.{Command}
-use Rattle.volap_cell.specs.declared.command.Work.{Work}
+use Rattle.row_ledger.specs.{Past.{Insert, Query, insert_at, query_at}, Shards.{comes_from, ids_made}, declared.event.Event.Event}
+use Rattle.volap_cell.specs.{Errands.Taken, Setting.Setting, declared.command.Command.Command, declared.command.Work.Work, declared.role.Role.Role, declared.role.Role.TheVariants.Session}
 use Rattle.volap_cell.specs.declared.command.Work.TheVariants as work_is
-use Rattle.volap_cell.specs.declared.role.Role.{Role}
-use Rattle.volap_cell.specs.declared.role.Role.TheVariants.{Session}
 
 -- whether the command stands on its server's desk
 abbrev pub is_on_desk : Work → Bool

@@ -3,9 +3,7 @@ use Rattle.std.specs.Prelude.{ℕ, ◌≡◌, Bool, true, false, Option, Some, N
 use Rattle.dim_hierarchy.specs.declared.row.Row.{Row}
 use Rattle.query_router.specs.declared.part.Want.{Want}
 use Rattle.query_router.specs.declared.part.Want.TheVariants as want
-use Rattle.volap_cell.specs.Values.{ErrandValue, ReadingValue, TaskValue, OfRow, Unread, Read}
-use Rattle.volap_cell.specs.declared.errand.RowErrand.{RowErrand}
-use Rattle.volap_cell.specs.declared.errand.Way.{Way}
+use Rattle.volap_cell.specs.{Values.{ErrandValue, ReadingValue, TaskValue, OfRow, Unread, Read}, declared.errand.RowErrand.RowErrand, declared.errand.Way.Way}
 use Rattle.volap_cell.specs.declared.errand.Way.TheVariants as way
 
 -- The part that was taken: whose desk it is of, its shard and its worker, and what it asks for.

@@ -1,35 +1,18 @@
 -- What is left to do, as four numbers that are compared in their order. With each step the first of them that changes falls; but a
 -- command that begins brings its own work with it, and who is counted in at a desk is no work.
-use Rattle.std.specs.Prelude.{ℕ, zero, suc, ◌≡◌, ◌≢◌, ◌==◌, ◌+◌, ◌*◌, ◌-◌, ◌^◌, ◌<◌, ◌≤◌, ◌⊎◌, nat_le, Bool, true, false, cond, List, [], ◌∷◌, map, length, sum_by, Option, Some, None, if◌then◌else◌}
-use Rattle.std.specs.Option.{option_map_or}
-use Rattle.dc_node.specs.declared.block.Block.{Block}
-use Rattle.dc_node.specs.declared.todo.Item.{Item}
-use Rattle.query_router.specs.declared.part.Part.{Part}
-use Rattle.query_router.specs.declared.part.PartState.{PartState}
+use Rattle.std.specs.{Option.option_map_or, Prelude.{ℕ, zero, suc, ◌≡◌, ◌≢◌, ◌==◌, ◌+◌, ◌*◌, ◌-◌, ◌^◌, ◌<◌, ◌≤◌, ◌⊎◌, nat_le, Bool, true, false, cond, List, [], ◌∷◌, map, length, sum_by, Option, Some, None, if◌then◌else◌}}
+use Rattle.dc_node.specs.{declared.block.Block.Block, declared.todo.Item.Item}
+use Rattle.query_router.specs.{declared.part.Part.Part, declared.part.PartState.PartState}
 use Rattle.query_router.specs.declared.part.PartState.TheVariants as state
 use Rattle.query_router.specs.declared.part.Want.TheVariants as want
-use Rattle.row_ledger.specs.Past.{is_beginning}
-use Rattle.row_ledger.specs.Shards.{comes_from}
-use Rattle.row_ledger.specs.Workers.{left_at}
-use Rattle.row_ledger.specs.declared.event.Event.{Event}
+use Rattle.row_ledger.specs.{Past.is_beginning, Shards.comes_from, Workers.left_at, declared.event.Event.Event}
 use Rattle.row_ledger.specs.declared.event.Event.TheVariants as event
 use Rattle.shard_plan.specs.declared.action.Action.{Action}
 use Rattle.shard_store.specs.declared.gate.Phase.{Phase}
 use Rattle.shard_store.specs.declared.gate.Phase.TheVariants as phase
-use Rattle.tree_shape.specs.Shape.{Shape}
-use Rattle.tree_shape.specs.Walks.{Noted, pending}
-use Rattle.volap_cell.specs.Ghost.{Ghost}
-use Rattle.volap_cell.specs.Lineage.{went_to}
-use Rattle.volap_cell.specs.Setting.{Setting, actor_count, cell_count}
-use Rattle.volap_cell.specs.Sums.{sum_below}
-use Rattle.volap_cell.specs.Values.{ErrandValue, TaskValue, OfRow, Unread, Read, JobValue, StageValue, IsCalled, IsDeclined, IsFrozen, Collects, Builds}
-use Rattle.volap_cell.specs.View.{View, view}
-use Rattle.volap_cell.specs.World.{World}
-use Rattle.volap_cell.specs.declared.command.Balance.{Balance}
-use Rattle.volap_cell.specs.declared.command.Command.{Command}
-use Rattle.volap_cell.specs.declared.command.Work.{Work}
+use Rattle.tree_shape.specs.{Shape.Shape, Walks.{Noted, pending}}
+use Rattle.volap_cell.specs.{Ghost.Ghost, Lineage.went_to, Setting.{Setting, actor_count, cell_count}, Sums.sum_below, Values.{ErrandValue, TaskValue, OfRow, Unread, Read, JobValue, StageValue, IsCalled, IsDeclined, IsFrozen, Collects, Builds}, View.{View, view}, World.World, declared.command.Balance.Balance, declared.command.Command.Command, declared.command.Work.Work, declared.errand.Way.Way}
 use Rattle.volap_cell.specs.declared.command.Work.TheVariants as work_is
-use Rattle.volap_cell.specs.declared.errand.Way.{Way}
 use Rattle.volap_cell.specs.declared.errand.Way.TheVariants as way
 
 -- What the controlling stream still has; pulls, and inserts up to their gates; inserts past their gates; and queries. Beside them

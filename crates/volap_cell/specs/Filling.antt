@@ -1,32 +1,16 @@
 -- How the cells and actors of an opening are made, one behind another.
-use Rattle.std.specs.Prelude.{ℕ, zero, suc, ◌≡◌, ◌+◌, ◌-◌, ◌*◌, ◌<◌, false, List, [], ◌∷◌, length, get_or, Option, Some, None}
+use Rattle.std.specs.{List.range_with_len, Prelude.{ℕ, zero, suc, ◌≡◌, ◌+◌, ◌-◌, ◌*◌, ◌<◌, false, List, [], ◌∷◌, length, get_or, Option, Some, None}}
 use Rattle.std.specs.FinMap as map
-use Rattle.std.specs.List.{range_with_len}
 use Rattle.cell_stock.specs.Stock.{StockValue, IsStock}
-use Rattle.describing_set.specs.DescSet.{IsSetOf}
-use Rattle.describing_set.specs.declared.listing.Spot.{Spot}
-use Rattle.describing_set.specs.declared.set.DescSet.{DescSet}
+use Rattle.describing_set.specs.{DescSet.IsSetOf, declared.listing.Spot.Spot, declared.set.DescSet.DescSet}
 use Rattle.dim_hierarchy.specs.Dimension.{Dimension}
 use Rattle.measure_agg.specs.Aggregate.{agg}
 use Rattle.mapping_table.specs.declared.place.Where.TheVariants as where_is
-use Rattle.row_ledger.specs.LedgerValue.{LedgerValue}
-use Rattle.row_ledger.specs.declared.event.Event.{Event}
+use Rattle.row_ledger.specs.{LedgerValue.LedgerValue, declared.event.Event.Event, declared.settings.Use.Use}
 use Rattle.row_ledger.specs.declared.event.Event.TheVariants as event
-use Rattle.row_ledger.specs.declared.settings.Use.{Use}
-use Rattle.shard_store.specs.Gate.{IsNewGate}
-use Rattle.shard_store.specs.declared.gate.Gate.{Gate}
+use Rattle.shard_store.specs.{Gate.IsNewGate, declared.gate.Gate.Gate}
 use Rattle.tree_shape.specs.Trees.{leaf_without_rows}
-use Rattle.volap_cell.specs.Cells.{CellValue, FreeCell, ImageCell, DeskCell, MapCell, GateCell, BlockCell, cell_of}
-use Rattle.volap_cell.specs.Opening.{IsOpening, IsFresh}
-use Rattle.volap_cell.specs.Setting.{Setting, actor_count, cell_count}
-use Rattle.volap_cell.specs.State.{Has, IsWorldOf}
-use Rattle.volap_cell.specs.Steps.{Inv}
-use Rattle.volap_cell.specs.Values.{ActorValue, actor_of}
-use Rattle.volap_cell.specs.World.{World}
-use Rattle.volap_cell.specs.declared.actor.Actor.{Actor}
-use Rattle.volap_cell.specs.declared.cell.Cell.{Cell}
-use Rattle.volap_cell.specs.declared.role.Role.{Role}
-use Rattle.volap_cell.specs.declared.role.Role.TheVariants.{Hand}
+use Rattle.volap_cell.specs.{Cells.{CellValue, FreeCell, ImageCell, DeskCell, MapCell, GateCell, BlockCell, cell_of}, Opening.{IsOpening, IsFresh}, Setting.{Setting, actor_count, cell_count}, State.{Has, IsWorldOf}, Steps.Inv, Values.{ActorValue, actor_of}, World.World, declared.actor.Actor.Actor, declared.cell.Cell.Cell, declared.role.Role.Role, declared.role.Role.TheVariants.Hand}
 
 -- what a core with these dimensions, settings and roles is about
 abbrev pub setting_for : List Dimension → Use → List Role → Setting

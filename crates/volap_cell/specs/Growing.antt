@@ -2,18 +2,11 @@
 use Rattle.std.specs.Prelude.{ℕ, ◌≡◌, ◌≤◌, Bool, true, false, IsTrue, IsSome, List, length, Option, Some}
 use Rattle.dim_hierarchy.specs.declared.row.Row.{Row}
 use Rattle.dc_node.specs.declared.block.Block.{Block}
-use Rattle.row_ledger.specs.Shards.{comes_from}
-use Rattle.row_ledger.specs.declared.event.Event.{Event}
-use Rattle.shard_store.specs.Gate.{IsQueueOf}
-use Rattle.shard_store.specs.declared.gate.Gate.{Gate}
-use Rattle.shard_store.specs.declared.gate.Phase.{Phase}
-use Rattle.shard_store.specs.declared.gate.Phase.TheVariants.{Frozen, Gone}
-use Rattle.shard_store.specs.declared.queue.Queue.{Queue}
+use Rattle.row_ledger.specs.{Shards.comes_from, declared.event.Event.Event}
+use Rattle.shard_store.specs.{Gate.IsQueueOf, declared.gate.Gate.Gate, declared.gate.Phase.Phase, declared.gate.Phase.TheVariants.{Frozen, Gone}, declared.queue.Queue.Queue}
 use Rattle.list_words.specs.Counts.{Each}
-use Rattle.tree_shape.specs.Shape.{Table, Shape}
-use Rattle.tree_shape.specs.Trees.{IsTree}
-use Rattle.volap_cell.specs.Setting.{Setting}
-use Rattle.volap_cell.specs.Stocking.{cells_at, IsWhole}
+use Rattle.tree_shape.specs.{Shape.{Table, Shape}, Trees.IsTree}
+use Rattle.volap_cell.specs.{Setting.Setting, Stocking.{cells_at, IsWhole}}
 
 abbrev pub table_of : Setting → (ℕ → Row) → Table
 table_of s row = record { hierarchy = s.hierarchy; row = row }

@@ -1,45 +1,22 @@
 -- What the steps of commands at images, desks and the ledger do to the cells that they hold and to their actor.
 use Rattle.std.specs.Prelude.{ℕ, ◌≡◌, ◌&&◌, ◌+◌, ◌<◌, ◌⊎◌, Bool, true, false, nat_lt, List, [], ◌∷◌, Option, Some, None, option_map, map, length, slice_get, if◌then◌else◌}
-use Rattle.dim_hierarchy.specs.Dimension.{Dimension}
-use Rattle.dim_hierarchy.specs.Filter.{IsFilterOf}
-use Rattle.dim_hierarchy.specs.Rows.{IsRowOf}
-use Rattle.dim_hierarchy.specs.declared.filter.Pick.{Pick}
-use Rattle.dim_hierarchy.specs.declared.row.Row.{Row}
+use Rattle.dim_hierarchy.specs.{Dimension.Dimension, Filter.IsFilterOf, Rows.IsRowOf, declared.filter.Pick.Pick, declared.row.Row.Row}
 use Rattle.describing_set.specs.declared.listing.Spot.{Spot}
 use Rattle.measure_agg.specs.Aggregate.{Aggregate}
-use Rattle.query_router.specs.Desk.{DeskValue, verdict_of}
-use Rattle.query_router.specs.declared.part.Part.{Part}
+use Rattle.query_router.specs.{Desk.{DeskValue, verdict_of}, declared.part.Part.Part}
 use Rattle.query_router.specs.declared.part.PartState.TheVariants as state
 use Rattle.query_router.specs.declared.part.Verdict.TheVariants as verdict
 use Rattle.query_router.specs.declared.part.Want.TheVariants as want
-use Rattle.row_ledger.specs.Classes.{class_of}
-use Rattle.row_ledger.specs.LedgerValue.{LedgerValue}
-use Rattle.row_ledger.specs.declared.class.Class.{Class}
+use Rattle.row_ledger.specs.{Classes.class_of, LedgerValue.LedgerValue, declared.class.Class.Class, declared.class.Subject.Subject, declared.event.Event.Event, declared.page.Page.Page, declared.settings.Call.Call, declared.settings.How.How}
 use Rattle.row_ledger.specs.declared.class.Class.TheVariants as class
-use Rattle.row_ledger.specs.declared.class.Subject.{Subject}
 use Rattle.row_ledger.specs.declared.class.Subject.TheVariants as subject
-use Rattle.row_ledger.specs.declared.event.Event.{Event}
 use Rattle.row_ledger.specs.declared.event.Event.TheVariants as event
-use Rattle.row_ledger.specs.declared.page.Page.{Page}
-use Rattle.row_ledger.specs.declared.settings.Call.{Call}
-use Rattle.row_ledger.specs.declared.settings.How.{How}
 use Rattle.row_ledger.specs.declared.settings.How.TheVariants as how
-use Rattle.server_image.specs.Image.{ImageValue, IsRoute, IsAcked, IsSynced, planned}
-use Rattle.server_image.specs.Registry.{RegistryValue, host_of, on_frontier}
-use Rattle.shard_plan.specs.declared.action.Action.{Action}
+use Rattle.server_image.specs.{Image.{ImageValue, IsRoute, IsAcked, IsSynced, planned}, Registry.{RegistryValue, host_of, on_frontier}}
+use Rattle.shard_plan.specs.{declared.action.Action.Action, declared.action.Load.Load}
 use Rattle.shard_plan.specs.declared.action.Action.TheVariants as action
-use Rattle.shard_plan.specs.declared.action.Load.{Load}
-use Rattle.volap_cell.specs.Cells.{LedgerCell, RegistryCell, ImageCell}
-use Rattle.volap_cell.specs.Commands.{MayCall, server_of, owes, due_pull, pulled_once, once_shown, after_action, MayNoteEnd}
-use Rattle.volap_cell.specs.Planning.{next_job}
-use Rattle.volap_cell.specs.ShardKinds.{TurnsDesk, waiting}
-use Rattle.volap_cell.specs.Values.{ActorValue, JobValue, StageValue, IsCalled, IsDeclined}
-use Rattle.volap_cell.specs.World.{Change}
-use Rattle.volap_cell.specs.declared.command.Balance.{Balance}
-use Rattle.volap_cell.specs.declared.command.Command.{Command}
-use Rattle.volap_cell.specs.declared.command.Work.{Work}
+use Rattle.volap_cell.specs.{Cells.{LedgerCell, RegistryCell, ImageCell}, Commands.{MayCall, server_of, owes, due_pull, pulled_once, once_shown, after_action, MayNoteEnd}, Planning.next_job, ShardKinds.{TurnsDesk, waiting}, Values.{ActorValue, JobValue, StageValue, IsCalled, IsDeclined}, World.Change, declared.command.Balance.Balance, declared.command.Command.Command, declared.command.Work.Work, declared.role.Role.TheVariants.Session}
 use Rattle.volap_cell.specs.declared.command.Work.TheVariants as work_is
-use Rattle.volap_cell.specs.declared.role.Role.TheVariants.{Session}
 
 -- The ledger gets an event. So many promises more or less are left: those before and what is newly promised are those afterwards
 -- and what is used up or given back.

@@ -1,20 +1,9 @@
 -- What servers know: their images list shards that lead to all that stand, and cover what each server must know.
-use Rattle.std.specs.Prelude.{ℕ, ◌≡◌, ◌≢◌, ◌<◌, ◌⊎◌, Bool, true, IsTrue, List, Some, All, Any, Contains}
-use Rattle.std.specs.List.{AllZip}
-use Rattle.dim_hierarchy.specs.Dimension.{Dimension}
-use Rattle.dim_hierarchy.specs.Row.{IsCoordOf}
-use Rattle.dim_hierarchy.specs.declared.row.Coord.{Coord}
-use Rattle.dim_hierarchy.specs.declared.row.Row.{Row}
-use Rattle.describing_set.specs.DescSet.{covers}
-use Rattle.describing_set.specs.declared.listing.Spot.{Spot}
-use Rattle.row_ledger.specs.Bounds.{known, listing_of, may, published}
-use Rattle.row_ledger.specs.Listings.{IsBox, places_of}
-use Rattle.row_ledger.specs.Past.{Ack, Insert, acked, insert_at, last_of}
-use Rattle.row_ledger.specs.Shards.{comes_from, ids_made, is_live}
-use Rattle.row_ledger.specs.declared.event.Event.{Event}
-use Rattle.server_image.specs.Image.{ImageValue}
-use Rattle.server_image.specs.Registry.{RegistryValue}
-use Rattle.server_image.specs.declared.image.Growth.{Growth}
+use Rattle.std.specs.{List.AllZip, Prelude.{ℕ, ◌≡◌, ◌≢◌, ◌<◌, ◌⊎◌, Bool, true, IsTrue, List, Some, All, Any, Contains}}
+use Rattle.dim_hierarchy.specs.{Dimension.Dimension, Row.IsCoordOf, declared.row.Coord.Coord, declared.row.Row.Row}
+use Rattle.describing_set.specs.{DescSet.covers, declared.listing.Spot.Spot}
+use Rattle.row_ledger.specs.{Bounds.{known, listing_of, may, published}, Listings.{IsBox, places_of}, Past.{Ack, Insert, acked, insert_at, last_of}, Shards.{comes_from, ids_made, is_live}, declared.event.Event.Event}
+use Rattle.server_image.specs.{Image.ImageValue, Registry.RegistryValue, declared.image.Growth.Growth}
 use Rattle.volap_cell.specs.Setting.{Setting}
 
 -- whether a spot is that of the shard

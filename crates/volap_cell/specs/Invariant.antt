@@ -1,20 +1,6 @@
 -- What holds between steps. Its parts read fields of the view and of the ghost, and never the whole of either, so that a step keeps
 -- by its very statement each part whose fields it leaves as they are.
-use Rattle.volap_cell.specs.Desking.{Desking}
-use Rattle.volap_cell.specs.Ghost.{Ghost}
-use Rattle.volap_cell.specs.Growing.{Growing, Queueing, Resting}
-use Rattle.volap_cell.specs.Imaging.{Covering, Imaging}
-use Rattle.volap_cell.specs.Lineage.{Leading, Lineage}
-use Rattle.volap_cell.specs.Numbering.{Numbering}
-use Rattle.volap_cell.specs.Owing.{Owing}
-use Rattle.volap_cell.specs.Placing.{Inserting, Placing}
-use Rattle.volap_cell.specs.Querying.{Pinning, Querying}
-use Rattle.volap_cell.specs.Setting.{Setting}
-use Rattle.volap_cell.specs.Stocking.{Stamping, Stocking}
-use Rattle.volap_cell.specs.Telling.{Telling}
-use Rattle.volap_cell.specs.Turning.{Turning}
-use Rattle.volap_cell.specs.View.{View}
-use Rattle.volap_cell.specs.Working.{Balancing, Working}
+use Rattle.volap_cell.specs.{Desking.Desking, Ghost.Ghost, Growing.{Growing, Queueing, Resting}, Imaging.{Covering, Imaging}, Lineage.{Leading, Lineage}, Numbering.Numbering, Owing.Owing, Placing.{Inserting, Placing}, Querying.{Pinning, Querying}, Setting.Setting, Stocking.{Stamping, Stocking}, Telling.Telling, Turning.Turning, View.View, Working.{Balancing, Working}}
 
 pub record InvWith (s : Setting) (v : View) (g : Ghost) : Type 0 where
   pub numbering : Numbering s v.tags v.numbers v.roles v.settings v.counted_in v.purses v.commands v.taken v.jobs

@@ -1,7 +1,6 @@
 -- Which kind of step is due for a job, by how far it has come. Whether that step has to wait is told by what it asks of its cells.
 use Rattle.std.specs.Prelude.{ℕ, Bool, true, false, Option, Some, None, if◌then◌else◌, List, [], ◌∷◌}
-use Rattle.volap_cell.specs.Values.{JobValue, StageValue, IsCalled, IsDeclined, IsFrozen, Collects, Builds}
-use Rattle.volap_cell.specs.declared.kind.Kind.{Kind}
+use Rattle.volap_cell.specs.{Values.{JobValue, StageValue, IsCalled, IsDeclined, IsFrozen, Collects, Builds}, declared.kind.Kind.Kind}
 use Rattle.volap_cell.specs.declared.kind.Kind.TheVariants as kind
 
 -- no item is in a list

@@ -2,13 +2,7 @@
 -- code of a kind is proved to do, and what a step of the core is.
 use Rattle.std.specs.Prelude.{List, [], ◌∷◌}
 use Rattle.dim_hierarchy.specs.Dimension.{Dimension}
-use Rattle.volap_cell.specs.TreeKinds.{DoesGateRead, DoesBlockVisit, DoesEnterTree, DoesEnterQueue, DoesDown, DoesPutInLeaf, DoesLeaveTree, DoesRefill}
-use Rattle.volap_cell.specs.ShardKinds.{DoesTakePart, DoesLookUp, DoesForward, DoesExpand, DoesFinishPart}
-use Rattle.volap_cell.specs.ImageKinds.{DoesBeginInsert, DoesNote, DoesNoteWith, FailsRouted, DoesRoute, DoesAck, DoesBeginQuery, DoesAnswer, DoesSync}
-use Rattle.volap_cell.specs.AdminKinds.{DoesFreeze, DoesDrained, DoesCollect, DoesBuildBlock, DoesFinishSplit, DoesFinishMove, DoesPostpone, DoesReuse}
-use Rattle.volap_cell.specs.Values.{ActorValue}
-use Rattle.volap_cell.specs.World.{Change}
-use Rattle.volap_cell.specs.declared.kind.Kind.{Kind}
+use Rattle.volap_cell.specs.{AdminKinds.{DoesFreeze, DoesDrained, DoesCollect, DoesBuildBlock, DoesFinishSplit, DoesFinishMove, DoesPostpone, DoesReuse}, ImageKinds.{DoesBeginInsert, DoesNote, DoesNoteWith, FailsRouted, DoesRoute, DoesAck, DoesBeginQuery, DoesAnswer, DoesSync}, ShardKinds.{DoesTakePart, DoesLookUp, DoesForward, DoesExpand, DoesFinishPart}, TreeKinds.{DoesGateRead, DoesBlockVisit, DoesEnterTree, DoesEnterQueue, DoesDown, DoesPutInLeaf, DoesLeaveTree, DoesRefill}, Values.ActorValue, World.Change, declared.kind.Kind.Kind}
 use Rattle.volap_cell.specs.declared.kind.Kind.TheVariants as kind
 
 abbrev pub Does : List Dimension → Kind → List Change → ActorValue → ActorValue → Type 0

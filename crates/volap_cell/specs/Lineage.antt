@@ -1,23 +1,14 @@
 -- Where shards are: the registry has those that stand, and the workers' tables lead from each id that a server or a part may
 -- still have to a gate, or on to children or another worker.
 use Rattle.std.specs.Prelude.{ℕ, ◌≡◌, ◌≢◌, ◌==◌, ◌<◌, ◌⊎◌, ◌||◌, Bool, true, false, IsTrue, IsSome, List, [], ◌∷◌, Option, Some, None, All, Contains, if◌then◌else◌}
-use Rattle.describing_set.specs.Plane.{IsHierarchyPlane}
-use Rattle.describing_set.specs.declared.listing.Spot.{Spot}
+use Rattle.describing_set.specs.{Plane.IsHierarchyPlane, declared.listing.Spot.Spot, declared.plane.Plane.Plane}
 use Rattle.cell_stock.specs.Stock.{StockValue}
 use Rattle.mapping_table.specs.declared.place.Where.{Where}
 use Rattle.mapping_table.specs.declared.place.Where.TheVariants as where_is
-use Rattle.query_router.specs.Desk.{DeskValue, is_open}
-use Rattle.query_router.specs.declared.part.Part.{Part}
-use Rattle.row_ledger.specs.Listings.{places_of}
-use Rattle.row_ledger.specs.Shards.{frontier, ids_made, is_child, is_live}
-use Rattle.row_ledger.specs.Workers.{is_on, left_at}
-use Rattle.row_ledger.specs.declared.event.Event.{Event}
-use Rattle.row_ledger.specs.declared.event.Event.TheVariants.{Moved, Split}
-use Rattle.server_image.specs.Image.{ImageValue}
-use Rattle.server_image.specs.Registry.{RegistryValue}
-use Rattle.shard_store.specs.declared.gate.Phase.{Phase}
-use Rattle.shard_store.specs.declared.gate.Phase.TheVariants.{Gone}
-use Rattle.describing_set.specs.declared.plane.Plane.{Plane}
+use Rattle.query_router.specs.{Desk.{DeskValue, is_open}, declared.part.Part.Part}
+use Rattle.row_ledger.specs.{Listings.places_of, Shards.{frontier, ids_made, is_child, is_live}, Workers.{is_on, left_at}, declared.event.Event.Event, declared.event.Event.TheVariants.{Moved, Split}}
+use Rattle.server_image.specs.{Image.ImageValue, Registry.RegistryValue}
+use Rattle.shard_store.specs.{declared.gate.Phase.Phase, declared.gate.Phase.TheVariants.Gone}
 use Rattle.volap_cell.specs.Setting.{Setting}
 
 -- the last move of a shard brought it to the worker

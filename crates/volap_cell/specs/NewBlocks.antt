@@ -1,21 +1,11 @@
 -- What a step of a row onto a head asks for, and what it leaves in the cells that are held for new blocks.
 use Rattle.std.specs.Prelude.{ℕ, ◌≡◌, ◌+◌, ◌*◌, ◌^◌, ◌<◌, ◌≤◌, false, List, [], ◌∷◌, Option, Some, slice_get, length, map, All, IfSome}
-use Rattle.dim_hierarchy.specs.Dimension.{Dimension}
-use Rattle.dim_hierarchy.specs.Rows.{IsRowOf}
-use Rattle.dim_hierarchy.specs.declared.row.Row.{Row}
+use Rattle.dim_hierarchy.specs.{Dimension.Dimension, Rows.IsRowOf, declared.row.Row.Row}
 use Rattle.describing_set.specs.Sets.{IsDescSetOf}
-use Rattle.dc_node.specs.Block.{is_full, entries_in, IsBodyOf}
-use Rattle.dc_node.specs.Summary.{row_count}
-use Rattle.dc_node.specs.declared.block.Block.{Block}
-use Rattle.cell_stock.specs.Stock.{PurseValue}
-use Rattle.cell_stock.specs.declared.purse.Spare.{Spare}
-use Rattle.shard_store.specs.declared.gate.Gate.{Gate}
-use Rattle.shard_store.specs.declared.gate.Phase.TheVariants.{Open}
-use Rattle.link_descent.specs.Divide.{together}
-use Rattle.link_descent.specs.Descend.{StepsDown, Enters}
-use Rattle.link_descent.specs.Pick.{IsPick}
-use Rattle.link_descent.specs.declared.entered.Entered.{Entered}
-use Rattle.link_descent.specs.declared.entered.Fresh.{Fresh}
+use Rattle.dc_node.specs.{Block.{is_full, entries_in, IsBodyOf}, Summary.row_count, declared.block.Block.Block}
+use Rattle.cell_stock.specs.{Stock.PurseValue, declared.purse.Spare.Spare}
+use Rattle.shard_store.specs.{declared.gate.Gate.Gate, declared.gate.Phase.TheVariants.Open}
+use Rattle.link_descent.specs.{Descend.{StepsDown, Enters}, Divide.together, Pick.IsPick, declared.entered.Entered.Entered, declared.entered.Fresh.Fresh}
 use Rattle.volap_cell.specs.Cells.{CellValue, BlockCell}
 
 -- The cells that are held for new blocks: the first ones have them now, and what is behind these is as it was.

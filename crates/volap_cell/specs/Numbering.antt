@@ -2,13 +2,7 @@
 use Rattle.std.specs.Prelude.{ℕ, ◌≡◌, ◌≢◌, ◌==◌, ◌+◌, ◌-◌, ◌^◌, ◌<◌, ◌≤◌, ⊤, Bool, false, nat_lt, List, [], Option, Some, None, All, slice_get, if◌then◌else◌}
 use Rattle.dim_hierarchy.specs.Dimension.{IsHierarchy}
 use Rattle.cell_stock.specs.declared.purse.Spare.{Spare}
-use Rattle.volap_cell.specs.Cells.{Tag, OfStock, TheLedger, TheStock, TheRegistry, ImageOf, DeskOf, MapOf}
-use Rattle.volap_cell.specs.Errands.{Taken}
-use Rattle.volap_cell.specs.Setting.{Setting, actor_count, cell_count, first_stock_cell, ledger_cell, stock_cell, registry_cell}
-use Rattle.volap_cell.specs.Values.{JobValue}
-use Rattle.volap_cell.specs.declared.command.Command.{Command}
-use Rattle.volap_cell.specs.declared.role.Role.{Role}
-use Rattle.volap_cell.specs.declared.role.Role.TheVariants.{Session, Hand, Puller, Admin}
+use Rattle.volap_cell.specs.{Cells.{Tag, OfStock, TheLedger, TheStock, TheRegistry, ImageOf, DeskOf, MapOf}, Errands.Taken, Setting.{Setting, actor_count, cell_count, first_stock_cell, ledger_cell, stock_cell, registry_cell}, Values.JobValue, declared.command.Command.Command, declared.role.Role.Role, declared.role.Role.TheVariants.{Session, Hand, Puller, Admin}}
 
 -- a role's server or worker is there
 abbrev pub IsRoleOf : Setting → Role → Type 0

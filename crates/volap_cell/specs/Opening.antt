@@ -1,26 +1,17 @@
 -- The state with which a core begins: one empty shard on each worker, which each server lists, and nobody at work.
-use Rattle.std.specs.Prelude.{ℕ, ◌≡◌, ◌≢◌, ◌==◌, ◌<◌, ◌≤◌, false, [], length, Some, None, slice_get, if◌then◌else◌}
+use Rattle.std.specs.{Ordering.nat_cmp, Prelude.{ℕ, ◌≡◌, ◌≢◌, ◌==◌, ◌<◌, ◌≤◌, false, [], length, Some, None, slice_get, if◌then◌else◌}}
 use Rattle.std.specs.FinMap as map
-use Rattle.std.specs.Ordering.{nat_cmp}
-use Rattle.describing_set.specs.declared.set.DescSet.{DescSet}
-use Rattle.describing_set.specs.DescSet.{IsSetOf}
+use Rattle.describing_set.specs.{DescSet.IsSetOf, declared.set.DescSet.DescSet}
 use Rattle.measure_agg.specs.Aggregate.{agg}
 use Rattle.cell_stock.specs.Stock.{StockValue, IsStock}
 use Rattle.mapping_table.specs.declared.place.Where.{Where}
 use Rattle.mapping_table.specs.declared.place.Where.TheVariants as where_is
-use Rattle.row_ledger.specs.Bounds.{listing_of}
-use Rattle.row_ledger.specs.LedgerValue.{LedgerValue}
-use Rattle.row_ledger.specs.Kept.{IsOpeningHistory}
+use Rattle.row_ledger.specs.{Bounds.listing_of, Kept.IsOpeningHistory, LedgerValue.LedgerValue}
 use Rattle.server_image.specs.Registry.{RegistryValue, IsNewRegistry}
-use Rattle.shard_store.specs.Gate.{IsNewGate}
-use Rattle.shard_store.specs.declared.gate.Gate.{Gate}
+use Rattle.shard_store.specs.{Gate.IsNewGate, declared.gate.Gate.Gate}
 use Rattle.list_words.specs.Counts.{times}
 use Rattle.tree_shape.specs.Trees.{leaf_without_rows}
-use Rattle.volap_cell.specs.Cells.{FreeCell, LedgerCell, StockCell, RegistryCell, ImageCell, DeskCell, MapCell, GateCell, BlockCell}
-use Rattle.volap_cell.specs.Setting.{Setting, site_in, actor_count, cell_count, first_stock_cell, ledger_cell, stock_cell, registry_cell, image_cell, desk_cell, map_cell}
-use Rattle.volap_cell.specs.Values.{ActorValue}
-use Rattle.volap_cell.specs.World.{World}
-use Rattle.volap_cell.specs.declared.role.Role.TheVariants.{Hand}
+use Rattle.volap_cell.specs.{Cells.{FreeCell, LedgerCell, StockCell, RegistryCell, ImageCell, DeskCell, MapCell, GateCell, BlockCell}, Setting.{Setting, site_in, actor_count, cell_count, first_stock_cell, ledger_cell, stock_cell, registry_cell, image_cell, desk_cell, map_cell}, Values.ActorValue, World.World, declared.role.Role.TheVariants.Hand}
 
 -- the first shard of a worker: a gate over an empty leaf, whose stamp is the worker's number, in two cells of the stock
 pub record IsFirstShard (s : Setting) (w : World) (worker gate_cell root_cell : ℕ) : Type 0 where

@@ -3,14 +3,8 @@ use Rattle.std.specs.Prelude.{ℕ, ◌≡◌, ◌==◌, ◌&&◌, ◌+◌, ◌^�
 use Rattle.query_router.specs.Desk.{DeskValue}
 use Rattle.row_ledger.specs.declared.event.Event.{Event}
 use Rattle.server_image.specs.Image.{ImageValue}
-use Rattle.volap_cell.specs.Commands.{owes}
-use Rattle.volap_cell.specs.Setting.{Setting, actor_count}
-use Rattle.volap_cell.specs.Sums.{sum_below}
-use Rattle.volap_cell.specs.declared.command.Command.{Command}
-use Rattle.volap_cell.specs.declared.command.Work.{Work}
+use Rattle.volap_cell.specs.{Commands.owes, Setting.{Setting, actor_count}, Sums.sum_below, declared.command.Command.Command, declared.command.Work.Work, declared.role.Role.Role, declared.role.Role.TheVariants.Session}
 use Rattle.volap_cell.specs.declared.command.Work.TheVariants as work_is
-use Rattle.volap_cell.specs.declared.role.Role.{Role}
-use Rattle.volap_cell.specs.declared.role.Role.TheVariants.{Session}
 
 abbrev pub owed_by : Option Command → ℕ
 owed_by None = 0

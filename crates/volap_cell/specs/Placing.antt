@@ -2,21 +2,14 @@
 use Rattle.std.specs.Prelude.{ℕ, ◌≡◌, ◌≢◌, ◌+◌, ◌<◌, ◌⊎◌, ⊤, Bool, true, false, cond, IsTrue, List, [], Option, Some, All, Contains}
 use Rattle.dim_hierarchy.specs.declared.row.Row.{Row}
 use Rattle.describing_set.specs.declared.listing.Spot.{Spot}
-use Rattle.query_router.specs.Desk.{DeskValue}
-use Rattle.query_router.specs.declared.part.Part.{Part}
-use Rattle.query_router.specs.declared.part.PartState.{PartState}
+use Rattle.query_router.specs.{Desk.DeskValue, declared.part.Part.Part, declared.part.PartState.PartState}
 use Rattle.query_router.specs.declared.part.PartState.TheVariants as state
-use Rattle.row_ledger.specs.Past.{Ack, Insert, acked, insert_at, last_of}
-use Rattle.row_ledger.specs.Shards.{comes_from, is_live, is_path}
-use Rattle.row_ledger.specs.declared.event.Event.{Event}
+use Rattle.row_ledger.specs.{Past.{Ack, Insert, acked, insert_at, last_of}, Shards.{comes_from, is_live, is_path}, declared.event.Event.Event}
 use Rattle.server_image.specs.Image.{ImageValue}
 use Rattle.shard_store.specs.declared.queue.Queue.{Queue}
 use Rattle.list_words.specs.Counts.{same, times}
 use Rattle.tree_shape.specs.Shape.{Shape, numbers}
-use Rattle.volap_cell.specs.Errands.{RowWay, has_passed}
-use Rattle.volap_cell.specs.ImageKinds.{doing}
-use Rattle.volap_cell.specs.Setting.{Setting}
-use Rattle.volap_cell.specs.declared.command.Command.{Command}
+use Rattle.volap_cell.specs.{Errands.{RowWay, has_passed}, ImageKinds.doing, Setting.Setting, declared.command.Command.Command}
 use Rattle.volap_cell.specs.declared.command.Work.TheVariants as work_is
 
 -- no actor is at the row

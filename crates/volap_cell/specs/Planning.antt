@@ -1,11 +1,8 @@
 -- What a balance does next.
-use Rattle.std.specs.Prelude.{ℕ, ◌==◌, Bool, List, Option, Some, None, option_map, option_and_then, slice_get, find, unwrap_or}
-use Rattle.std.specs.List.{list_any}
-use Rattle.shard_plan.specs.declared.action.Action.{Action}
+use Rattle.std.specs.{List.list_any, Prelude.{ℕ, ◌==◌, Bool, List, Option, Some, None, option_map, option_and_then, slice_get, find, unwrap_or}}
+use Rattle.shard_plan.specs.{declared.action.Action.Action, declared.action.Load.Load}
 use Rattle.shard_plan.specs.declared.action.Action.TheVariants as action
-use Rattle.shard_plan.specs.declared.action.Load.{Load}
-use Rattle.volap_cell.specs.Values.{JobValue, IsCalled}
-use Rattle.volap_cell.specs.declared.command.Balance.{Balance}
+use Rattle.volap_cell.specs.{Values.{JobValue, IsCalled}, declared.command.Balance.Balance}
 
 -- the worker that has the shard
 abbrev pub worker_among : List Load → ℕ → ℕ

@@ -2,32 +2,13 @@
 -- images cover what their servers must know.
 use Rattle.std.specs.Prelude.{ℕ, ◌≡◌, ◌≢◌, ◌+◌, ◌<◌, ◌≤◌, ◌⊎◌, true, false, cond, IsTrue, List, [], ◌∷◌, Some, None, All, Any, Contains}
 use Rattle.dim_hierarchy.specs.declared.row.Row.{Row}
-use Rattle.describing_set.specs.DescSet.{covers}
-use Rattle.describing_set.specs.declared.listing.Spot.{Spot}
-use Rattle.query_router.specs.Desk.{is_refused, is_taken, is_waiting}
-use Rattle.query_router.specs.declared.part.Part.{Part}
-use Rattle.row_ledger.specs.Bounds.{known}
-use Rattle.row_ledger.specs.Past.{Ack, Insert, Query, acked, insert_at, is_kept, query_at}
-use Rattle.row_ledger.specs.Shards.{comes_from, is_live}
+use Rattle.describing_set.specs.{DescSet.covers, declared.listing.Spot.Spot}
+use Rattle.query_router.specs.{Desk.{is_refused, is_taken, is_waiting}, declared.part.Part.Part}
+use Rattle.row_ledger.specs.{Bounds.known, Past.{Ack, Insert, Query, acked, insert_at, is_kept, query_at}, Shards.{comes_from, is_live}}
 use Rattle.shard_store.specs.declared.gate.Phase.TheVariants.{Gone}
 use Rattle.list_words.specs.Counts.{times}
-use Rattle.tree_shape.specs.Queries.{fits, items_of}
-use Rattle.tree_shape.specs.Shape.{Shape, nodes, numbers}
-use Rattle.tree_shape.specs.Trees.{IsTree}
-use Rattle.tree_shape.specs.Walks.{Noted, AreNoted, pending}
-use Rattle.volap_cell.specs.Errands.{ReadPart, RowWay, Taken, has_passed}
-use Rattle.volap_cell.specs.Ghost.{Ghost}
-use Rattle.volap_cell.specs.Growing.{table_of}
-use Rattle.volap_cell.specs.ImageKinds.{doing}
-use Rattle.volap_cell.specs.Invariant.{InvWith}
-use Rattle.volap_cell.specs.Numbering.{IsSetting}
-use Rattle.volap_cell.specs.Opening.{IsOpening}
-use Rattle.volap_cell.specs.Querying.{must_hold}
-use Rattle.volap_cell.specs.Setting.{Setting}
-use Rattle.volap_cell.specs.Steps.{Inv}
-use Rattle.volap_cell.specs.Stocking.{cells_at}
-use Rattle.volap_cell.specs.View.{View, view}
-use Rattle.volap_cell.specs.World.{World}
+use Rattle.tree_shape.specs.{Queries.{fits, items_of}, Shape.{Shape, nodes, numbers}, Trees.IsTree, Walks.{Noted, AreNoted, pending}}
+use Rattle.volap_cell.specs.{Errands.{ReadPart, RowWay, Taken, has_passed}, Ghost.Ghost, Growing.table_of, ImageKinds.doing, Invariant.InvWith, Numbering.IsSetting, Opening.IsOpening, Querying.must_hold, Setting.Setting, Steps.Inv, Stocking.cells_at, View.{View, view}, World.World}
 use Rattle.volap_cell.specs.declared.command.Work.TheVariants as work_is
 
 -- beside an opening there is a ghost with which all parts of the invariant hold, and it is reached

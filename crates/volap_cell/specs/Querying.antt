@@ -1,30 +1,16 @@
 -- Queries: what each part of an open query has counted, and what is still beneath what it has noted.
-use Rattle.std.specs.Prelude.{ℕ, ◌≡◌, ◌≢◌, ◌==◌, ◌<◌, ◌≤◌, ◌⊎◌, ⊤, Bool, true, false, List, [], Option, Some, None, map, All, Any, if◌then◌else◌}
-use Rattle.std.specs.List.{list_any}
-use Rattle.dim_hierarchy.specs.Dimension.{Dimension}
-use Rattle.dim_hierarchy.specs.Compiled.{compiled}
-use Rattle.dim_hierarchy.specs.declared.filter.Pick.{Pick}
-use Rattle.dim_hierarchy.specs.declared.row.Row.{Row}
+use Rattle.std.specs.{List.list_any, Prelude.{ℕ, ◌≡◌, ◌≢◌, ◌==◌, ◌<◌, ◌≤◌, ◌⊎◌, ⊤, Bool, true, false, List, [], Option, Some, None, map, All, Any, if◌then◌else◌}}
+use Rattle.dim_hierarchy.specs.{Compiled.compiled, Dimension.Dimension, declared.filter.Pick.Pick, declared.row.Row.Row}
 use Rattle.measure_agg.specs.Aggregate.{agg}
 use Rattle.dc_node.specs.declared.block.Block.{Block}
-use Rattle.query_router.specs.Desk.{DeskValue, is_refused}
-use Rattle.query_router.specs.declared.part.Part.{Part}
-use Rattle.query_router.specs.declared.part.PartState.{PartState}
+use Rattle.query_router.specs.{Desk.{DeskValue, is_refused}, declared.part.Part.Part, declared.part.PartState.PartState}
 use Rattle.query_router.specs.declared.part.PartState.TheVariants as state
 use Rattle.query_router.specs.declared.part.Want.TheVariants as want
-use Rattle.row_ledger.specs.Bounds.{must}
-use Rattle.row_ledger.specs.Past.{Query, before, query_at}
-use Rattle.row_ledger.specs.declared.event.Event.{Event}
+use Rattle.row_ledger.specs.{Bounds.must, Past.{Query, before, query_at}, declared.event.Event.Event}
 use Rattle.shard_store.specs.declared.gate.Gate.{Gate}
 use Rattle.list_words.specs.Counts.{Each, times}
-use Rattle.tree_shape.specs.Queries.{IsUnfinished, fits}
-use Rattle.tree_shape.specs.Shape.{Shape, nodes}
-use Rattle.volap_cell.specs.Errands.{ReadPart, Taken}
-use Rattle.volap_cell.specs.Growing.{IsUnder, table_of}
-use Rattle.volap_cell.specs.Setting.{Setting, actor_count}
-use Rattle.volap_cell.specs.Stocking.{cells_at}
-use Rattle.volap_cell.specs.Sums.{sum_below}
-use Rattle.volap_cell.specs.Values.{ReadingValue}
+use Rattle.tree_shape.specs.{Queries.{IsUnfinished, fits}, Shape.{Shape, nodes}}
+use Rattle.volap_cell.specs.{Errands.{ReadPart, Taken}, Growing.{IsUnder, table_of}, Setting.{Setting, actor_count}, Stocking.cells_at, Sums.sum_below, Values.ReadingValue}
 
 -- Pins.
 

@@ -1,32 +1,15 @@
 -- What the steps of parts between desks, tables and gates do to the cells that they hold and to their actor.
 use Rattle.std.specs.Prelude.{ℕ, ◌≡◌, ◌≢◌, ◌==◌, ◌+◌, ◌⊎◌, Bool, false, List, [], ◌∷◌, ◌++◌, Option, Some, None, position, slice_get, slice_set, length, if◌then◌else◌}
 use Rattle.dim_hierarchy.specs.Dimension.{Dimension}
-use Rattle.describing_set.specs.Plane.{goes_left}
-use Rattle.describing_set.specs.declared.plane.Plane.{Plane}
+use Rattle.describing_set.specs.{Plane.goes_left, declared.plane.Plane.Plane}
 use Rattle.mapping_table.specs.declared.place.Where.TheVariants as where_is
-use Rattle.query_router.specs.Desk.{DeskValue, is_waiting, is_with, waits_for, taken_from, expanded}
-use Rattle.query_router.specs.declared.part.Part.{Part}
-use Rattle.query_router.specs.declared.part.PartState.{PartState}
+use Rattle.query_router.specs.{Desk.{DeskValue, is_waiting, is_with, waits_for, taken_from, expanded}, declared.part.Part.Part, declared.part.PartState.PartState, declared.part.Want.Want}
 use Rattle.query_router.specs.declared.part.PartState.TheVariants as state
-use Rattle.query_router.specs.declared.part.Want.{Want}
 use Rattle.query_router.specs.declared.part.Want.TheVariants as want
-use Rattle.shard_plan.specs.Balancing.{plan}
-use Rattle.shard_plan.specs.declared.action.Load.{Load}
+use Rattle.shard_plan.specs.{Balancing.plan, declared.action.Load.Load}
 use Rattle.shard_store.specs.declared.gate.Gate.{Gate}
-use Rattle.volap_cell.specs.Cells.{DeskCell}
-use Rattle.volap_cell.specs.Errands.{place_of, Outside}
-use Rattle.volap_cell.specs.Planning.{next_job}
-use Rattle.volap_cell.specs.TreeKinds.{Leads, TurnsGate, HasRow, on_way}
-use Rattle.volap_cell.specs.Values.{ActorValue, ErrandValue, TaskValue, OfRow, Unread, Read}
-use Rattle.volap_cell.specs.World.{Change}
-use Rattle.volap_cell.specs.declared.command.Balance.{Balance}
-use Rattle.volap_cell.specs.declared.command.Command.{Command}
+use Rattle.volap_cell.specs.{Cells.DeskCell, Errands.{place_of, Outside}, Planning.next_job, TreeKinds.{Leads, TurnsGate, HasRow, on_way}, Values.{ActorValue, ErrandValue, TaskValue, OfRow, Unread, Read}, World.Change, declared.command.Balance.Balance, declared.command.Command.Command, declared.errand.RowErrand.RowErrand, declared.errand.Way.Way, declared.errand.Way.TheVariants.{Before, Placed}, declared.role.Role.Role, declared.role.Role.TheVariants.{Session, Hand}}
 use Rattle.volap_cell.specs.declared.command.Work.TheVariants as work_is
-use Rattle.volap_cell.specs.declared.errand.RowErrand.{RowErrand}
-use Rattle.volap_cell.specs.declared.errand.Way.{Way}
-use Rattle.volap_cell.specs.declared.errand.Way.TheVariants.{Before, Placed}
-use Rattle.volap_cell.specs.declared.role.Role.{Role}
-use Rattle.volap_cell.specs.declared.role.Role.TheVariants.{Session, Hand}
 
 -- Desks.
 

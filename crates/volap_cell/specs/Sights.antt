@@ -1,29 +1,15 @@
 -- What a page must show: it is read off the whole state, by an actor beside which nobody is at work.
-use Rattle.std.specs.Prelude.{ℕ, ◌≡◌, ◌≢◌, ◌-◌, cond, false, List, [], ◌++◌, length, flat_map, Some, None}
-use Rattle.std.specs.List.{AllZip}
+use Rattle.std.specs.{List.AllZip, Prelude.{ℕ, ◌≡◌, ◌≢◌, ◌-◌, cond, false, List, [], ◌++◌, length, flat_map, Some, None}}
 use Rattle.dim_hierarchy.specs.declared.row.Row.{Row}
 use Rattle.dc_node.specs.Summary.{coords}
-use Rattle.describing_set.specs.DescSet.{IsSetOf}
-use Rattle.describing_set.specs.declared.listing.Spot.{Spot}
+use Rattle.describing_set.specs.{DescSet.IsSetOf, declared.listing.Spot.Spot}
 use Rattle.measure_agg.specs.Aggregate.{agg}
-use Rattle.row_ledger.specs.Pages.{IsPageOf}
-use Rattle.row_ledger.specs.declared.page.AuditLine.{AuditLine}
-use Rattle.row_ledger.specs.declared.page.Page.{Page}
+use Rattle.row_ledger.specs.{Pages.IsPageOf, declared.page.AuditLine.AuditLine, declared.page.Page.Page, declared.page.ShardLine.ShardLine, declared.page.TreePage.TreePage}
 use Rattle.row_ledger.specs.declared.page.Page.TheVariants as page
-use Rattle.row_ledger.specs.declared.page.ShardLine.{ShardLine}
-use Rattle.row_ledger.specs.declared.page.TreePage.{TreePage}
-use Rattle.shard_store.specs.Gate.{root_entry}
-use Rattle.shard_store.specs.declared.gate.Phase.TheVariants.{Gone}
+use Rattle.shard_store.specs.{Gate.root_entry, declared.gate.Phase.TheVariants.Gone}
 use Rattle.list_words.specs.Counts.{Each, times}
-use Rattle.tree_shape.specs.PageLines.{CellBlocks, lines}
-use Rattle.tree_shape.specs.Shape.{Shape, numbers}
-use Rattle.tree_shape.specs.Trees.{IsTree}
-use Rattle.volap_cell.specs.Growing.{table_of}
-use Rattle.volap_cell.specs.Setting.{Setting, cell_count}
-use Rattle.volap_cell.specs.Stocking.{cells_at}
-use Rattle.volap_cell.specs.Values.{ActorValue}
-use Rattle.volap_cell.specs.View.{View, view}
-use Rattle.volap_cell.specs.World.{World}
+use Rattle.tree_shape.specs.{PageLines.{CellBlocks, lines}, Shape.{Shape, numbers}, Trees.IsTree}
+use Rattle.volap_cell.specs.{Growing.table_of, Setting.{Setting, cell_count}, Stocking.cells_at, Values.ActorValue, View.{View, view}, World.World}
 
 -- an actor with nothing to do, and not counted in at its desk
 pub record IsIdle (a : ActorValue) : Type 0 where

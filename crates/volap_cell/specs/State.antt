@@ -3,18 +3,7 @@
 use Rattle.std.specs.Prelude.{ℕ, ◌≡◌, ◌≢◌, ◌<◌, ◌≤◌, ⊤, Bool, if◌then◌else◌, List, [], ◌∷◌, map, length, get_or, set, Option, Some, None}
 use Rattle.dim_hierarchy.specs.Dimension.{Dimension}
 use Rattle.list_words.specs.Counts.{Each}
-use Rattle.volap_cell.specs.Cells.{FreeCell, cell_of}
-use Rattle.volap_cell.specs.Ghost.{Ghost}
-use Rattle.volap_cell.specs.Invariant.{InvWith}
-use Rattle.volap_cell.specs.Opening.{IsFresh}
-use Rattle.volap_cell.specs.Setting.{Setting}
-use Rattle.volap_cell.specs.Steps.{Inv, IsKept, IsReached}
-use Rattle.volap_cell.specs.Values.{actor_of}
-use Rattle.volap_cell.specs.View.{view}
-use Rattle.volap_cell.specs.World.{World, Change, MustKeep, change}
-use Rattle.volap_cell.specs.declared.actor.Actor.{Actor}
-use Rattle.volap_cell.specs.declared.cell.Cell.{Cell}
-use Rattle.volap_cell.specs.declared.kind.Kind.{Kind}
+use Rattle.volap_cell.specs.{Cells.{FreeCell, cell_of}, Ghost.Ghost, Invariant.InvWith, Opening.IsFresh, Setting.Setting, Steps.{Inv, IsKept, IsReached}, Values.actor_of, View.view, World.{World, Change, MustKeep, change}, declared.actor.Actor.Actor, declared.cell.Cell.Cell, declared.kind.Kind.Kind}
 
 -- The state.
 

@@ -2,19 +2,7 @@
 use Rattle.std.specs.Prelude.{ℕ, ◌≡◌, ◌++◌, ⊤, List, [], ◌∷◌}
 use Rattle.dim_hierarchy.specs.Dimension.{Dimension}
 use Rattle.row_ledger.specs.declared.event.Event.{Event}
-use Rattle.volap_cell.specs.Cells.{ledger_in}
-use Rattle.volap_cell.specs.Falls.{GoesOn, left}
-use Rattle.volap_cell.specs.Ghost.{Ghost}
-use Rattle.volap_cell.specs.ImageKinds.{DoesNote, OfShown}
-use Rattle.volap_cell.specs.Invariant.{InvWith}
-use Rattle.volap_cell.specs.Kinds.{Does}
-use Rattle.volap_cell.specs.Opening.{IsOpening}
-use Rattle.volap_cell.specs.Setting.{Setting, ledger_cell}
-use Rattle.volap_cell.specs.Sights.{Sees}
-use Rattle.volap_cell.specs.Values.{ActorValue}
-use Rattle.volap_cell.specs.View.{view}
-use Rattle.volap_cell.specs.World.{World, Change, Agrees, after}
-use Rattle.volap_cell.specs.declared.kind.Kind.{Kind}
+use Rattle.volap_cell.specs.{Cells.ledger_in, Falls.{GoesOn, left}, Ghost.Ghost, ImageKinds.{DoesNote, OfShown}, Invariant.InvWith, Kinds.Does, Opening.IsOpening, Setting.{Setting, ledger_cell}, Sights.Sees, Values.ActorValue, View.view, World.{World, Change, Agrees, after}, declared.kind.Kind.Kind}
 use Rattle.volap_cell.specs.declared.kind.Kind.TheVariants as kind
 
 -- a page that is shown is what the state has; no other step asks for more than the cells that it holds

@@ -1,21 +1,11 @@
 -- Each cell of the stock has one use, and each stamp is given out once and is in one block at most.
 use Rattle.std.specs.Prelude.{ℕ, ◌≡◌, ◌≢◌, ◌+◌, ◌<◌, ◌≤◌, ◌⊎◌, Bool, true, cond, List, [], ◌++◌, Option, Some, None, IsSome}
-use Rattle.dc_node.specs.declared.block.Block.{Block}
-use Rattle.dc_node.specs.declared.todo.Item.{Item}
-use Rattle.cell_stock.specs.Stock.{StockValue, IsStock, cells_of}
-use Rattle.cell_stock.specs.declared.purse.Spare.{Spare}
-use Rattle.shard_store.specs.declared.gate.Gate.{Gate}
-use Rattle.shard_store.specs.declared.gate.Phase.{Phase}
-use Rattle.shard_store.specs.declared.gate.Phase.TheVariants.{Gone}
+use Rattle.dc_node.specs.{declared.block.Block.Block, declared.todo.Item.Item}
+use Rattle.cell_stock.specs.{Stock.{StockValue, IsStock, cells_of}, declared.purse.Spare.Spare}
+use Rattle.shard_store.specs.{declared.gate.Gate.Gate, declared.gate.Phase.Phase, declared.gate.Phase.TheVariants.Gone}
 use Rattle.list_words.specs.Counts.{Each, times}
-use Rattle.tree_shape.specs.Queries.{NoneWaits}
-use Rattle.tree_shape.specs.Shape.{Shape, TreeCells, nodes}
-use Rattle.tree_shape.specs.Steps.{AreApart, AreSpares}
-use Rattle.volap_cell.specs.AdminKinds.{spent_in}
-use Rattle.volap_cell.specs.Errands.{ReadPart}
-use Rattle.volap_cell.specs.Ghost.{Owner, NotOfStock, AGate, InTree, is_unused, is_in_purse, is_in_tree, is_in_job}
-use Rattle.volap_cell.specs.Setting.{Setting, first_stock_cell, cell_count}
-use Rattle.volap_cell.specs.Values.{JobValue, StageValue, Collects}
+use Rattle.tree_shape.specs.{Queries.NoneWaits, Shape.{Shape, TreeCells, nodes}, Steps.{AreApart, AreSpares}}
+use Rattle.volap_cell.specs.{AdminKinds.spent_in, Errands.ReadPart, Ghost.{Owner, NotOfStock, AGate, InTree, is_unused, is_in_purse, is_in_tree, is_in_job}, Setting.{Setting, first_stock_cell, cell_count}, Values.{JobValue, StageValue, Collects}}
 
 -- the cells of the tree of a gate
 abbrev pub cells_at : (ℕ → Block) → (ℕ → Gate) → ℕ → TreeCells

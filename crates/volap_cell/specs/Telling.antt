@@ -1,23 +1,10 @@
 -- The history: it is kept right, and each actor's command is in it, open, and as far as the actor says.
 use Rattle.std.specs.Prelude.{ℕ, ◌≡◌, ◌+◌, ◌<◌, ◌≤◌, ◌⊎◌, Bool, true, false, IsTrue, List, [], length, Option, Some, is_some, option_and_then}
-use Rattle.dim_hierarchy.specs.Filter.{IsFilterOf}
-use Rattle.dim_hierarchy.specs.Rows.{IsRowOf}
-use Rattle.row_ledger.specs.Classes.{class_of, is_there}
-use Rattle.row_ledger.specs.Past.{Insert, Query, before, event_at, insert_at, query_at, call_at, has_ended, has_page, is_over, session_in, work}
-use Rattle.row_ledger.specs.Kept.{KeepsRight}
-use Rattle.row_ledger.specs.Right.{has_pulled}
-use Rattle.row_ledger.specs.Work.{is_known}
-use Rattle.row_ledger.specs.declared.class.Class.{Class}
+use Rattle.dim_hierarchy.specs.{Filter.IsFilterOf, Rows.IsRowOf}
+use Rattle.row_ledger.specs.{Classes.{class_of, is_there}, Kept.KeepsRight, Past.{Insert, Query, before, event_at, insert_at, query_at, call_at, has_ended, has_page, is_over, session_in, work}, Right.has_pulled, Work.is_known, declared.class.Class.Class, declared.event.Event.Event, declared.settings.Call.Call}
 use Rattle.row_ledger.specs.declared.class.Class.TheVariants as class
-use Rattle.row_ledger.specs.declared.event.Event.{Event}
-use Rattle.row_ledger.specs.declared.settings.Call.{Call}
-use Rattle.volap_cell.specs.Setting.{Setting, site_in}
-use Rattle.volap_cell.specs.Values.{JobValue}
-use Rattle.volap_cell.specs.declared.command.Command.{Command}
-use Rattle.volap_cell.specs.declared.command.Work.{Work}
+use Rattle.volap_cell.specs.{Setting.{Setting, site_in}, Values.JobValue, declared.command.Command.Command, declared.command.Work.Work, declared.role.Role.Role, declared.role.Role.TheVariants.{Session, Admin}}
 use Rattle.volap_cell.specs.declared.command.Work.TheVariants as work_is
-use Rattle.volap_cell.specs.declared.role.Role.{Role}
-use Rattle.volap_cell.specs.declared.role.Role.TheVariants.{Session, Admin}
 
 -- a role is that of a session of this server
 abbrev pub IsSessionOf : ℕ → Role → Type 0

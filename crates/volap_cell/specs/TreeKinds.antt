@@ -1,37 +1,17 @@
 -- What the steps of rows and queries at gates and blocks do to the cells that they hold and to their actor. `a` is the actor
 -- before the step and `b` the actor after it.
-use Rattle.std.specs.Prelude.{ℕ, ◌≡◌, ◌≢◌, ◌+◌, ◌*◌, ◌^◌, ◌<◌, ◌≤◌, ◌⊎◌, true, false, List, [], ◌∷◌, ◌++◌, Option, Some, None, slice_get, map as each, length, Bool}
+use Rattle.std.specs.{Ordering.nat_cmp, Prelude.{ℕ, ◌≡◌, ◌≢◌, ◌+◌, ◌*◌, ◌^◌, ◌<◌, ◌≤◌, ◌⊎◌, true, false, List, [], ◌∷◌, ◌++◌, Option, Some, None, slice_get, map as each, length, Bool}}
 use Rattle.std.specs.FinMap as map
-use Rattle.std.specs.Ordering.{nat_cmp}
-use Rattle.dim_hierarchy.specs.Dimension.{Dimension}
-use Rattle.dim_hierarchy.specs.Compiled.{compiled}
-use Rattle.dim_hierarchy.specs.declared.filter.Pick.{Pick}
+use Rattle.dim_hierarchy.specs.{Compiled.compiled, Dimension.Dimension, declared.filter.Pick.Pick}
 use Rattle.measure_agg.specs.Joining.{join}
-use Rattle.dc_node.specs.Block.{rows_in, entries_in, is_leaf, is_full, with_rows}
-use Rattle.dc_node.specs.declared.block.Block.{Block}
-use Rattle.dc_node.specs.declared.entry.Entry.{Entry}
-use Rattle.dc_node.specs.declared.todo.Item.{Item}
+use Rattle.dc_node.specs.{Block.{rows_in, entries_in, is_leaf, is_full, with_rows}, declared.block.Block.Block, declared.entry.Entry.Entry, declared.todo.Item.Item}
 use Rattle.cell_stock.specs.Stock.{PurseValue, StockValue, Takes, Gives}
-use Rattle.shard_store.specs.Gate.{Enqueues}
-use Rattle.shard_store.specs.declared.gate.Gate.{Gate}
-use Rattle.shard_store.specs.declared.gate.Phase.TheVariants.{Open}
-use Rattle.shard_store.specs.declared.queue.Queue.{Queue}
-use Rattle.link_descent.specs.Descend.{StepsDown, Enters}
-use Rattle.link_descent.specs.GateRead.{queue_part, tree_part, root_items}
-use Rattle.link_descent.specs.Pick.{IsPick}
-use Rattle.link_descent.specs.Visit.{noted_in, noted_right, counted as block_part}
-use Rattle.link_descent.specs.declared.entered.Entered.{Entered}
-use Rattle.link_descent.specs.declared.entered.Fresh.{Fresh}
+use Rattle.shard_store.specs.{Gate.Enqueues, declared.gate.Gate.Gate, declared.gate.Phase.TheVariants.Open, declared.queue.Queue.Queue}
+use Rattle.link_descent.specs.{Descend.{StepsDown, Enters}, GateRead.{queue_part, tree_part, root_items}, Pick.IsPick, Visit.{noted_in, noted_right, counted as block_part}, declared.entered.Entered.Entered, declared.entered.Fresh.Fresh}
 use Rattle.mapping_table.specs.declared.place.Where.{Where}
 use Rattle.mapping_table.specs.declared.place.Where.TheVariants as where_is
 use Rattle.list_words.specs.Counts.{Each}
-use Rattle.volap_cell.specs.Cells.{MapCell, GateCell, BlockCell, StockCell, block_in}
-use Rattle.volap_cell.specs.Errands.{place_of, Outside, height_of, height_to_fill, is_filled}
-use Rattle.volap_cell.specs.Values.{ActorValue, ErrandValue, ReadingValue, OfRow, Unread, Read}
-use Rattle.volap_cell.specs.World.{Change, MustKeep}
-use Rattle.volap_cell.specs.declared.errand.RowErrand.{RowErrand}
-use Rattle.volap_cell.specs.declared.errand.Way.{Way}
-use Rattle.volap_cell.specs.declared.errand.Way.TheVariants.{Before, Carried, Put, Placed}
+use Rattle.volap_cell.specs.{Cells.{MapCell, GateCell, BlockCell, StockCell, block_in}, Errands.{place_of, Outside, height_of, height_to_fill, is_filled}, Values.{ActorValue, ErrandValue, ReadingValue, OfRow, Unread, Read}, World.{Change, MustKeep}, declared.errand.RowErrand.RowErrand, declared.errand.Way.Way, declared.errand.Way.TheVariants.{Before, Carried, Put, Placed}}
 
 -- Cells that are only read.
 

@@ -2,29 +2,13 @@
 use Rattle.std.specs.Prelude.{ℕ, Bool, Option, option_map, List, map}
 use Rattle.cell_stock.specs.declared.purse.Spare.{Spare}
 use Rattle.dc_node.specs.declared.todo.Item.{Item}
-use Rattle.dim_hierarchy.specs.Compiled.{Compiled}
-use Rattle.dim_hierarchy.specs.declared.filter.Pick.{Pick}
-use Rattle.dim_hierarchy.specs.declared.row.Row.{Row}
+use Rattle.dim_hierarchy.specs.{Compiled.Compiled, declared.filter.Pick.Pick, declared.row.Row.Row}
 use Rattle.link_descent.specs.declared.entered.Fresh.{Fresh}
 use Rattle.measure_agg.specs.Aggregate.{Aggregate}
 use Rattle.row_ledger.specs.declared.settings.Decline.{Decline}
-use Rattle.volap_cell.specs.Setting.{Setting}
-use Rattle.volap_cell.specs.declared.actor.About.{About}
-use Rattle.volap_cell.specs.declared.actor.Actor.{Actor}
-use Rattle.volap_cell.specs.declared.command.Command.{Command}
-use Rattle.volap_cell.specs.declared.errand.Errand.{Errand}
-use Rattle.volap_cell.specs.declared.errand.Reading.{Reading}
-use Rattle.volap_cell.specs.declared.errand.RowErrand.{RowErrand}
-use Rattle.volap_cell.specs.declared.errand.Task.{Task}
+use Rattle.volap_cell.specs.{Setting.Setting, declared.actor.About.About, declared.actor.Actor.Actor, declared.command.Command.Command, declared.errand.Errand.Errand, declared.errand.Reading.Reading, declared.errand.RowErrand.RowErrand, declared.errand.Task.Task, declared.job.Building.Building, declared.job.BuiltTree.BuiltTree, declared.job.Collecting.Collecting, declared.job.Frozen.Frozen, declared.job.Job.Job, declared.job.Stage.Stage, declared.role.Role.Role}
 use Rattle.volap_cell.specs.declared.errand.Task.TheVariants as task
-use Rattle.volap_cell.specs.declared.job.Building.{Building}
-use Rattle.volap_cell.specs.declared.job.BuiltTree.{BuiltTree}
-use Rattle.volap_cell.specs.declared.job.Collecting.{Collecting}
-use Rattle.volap_cell.specs.declared.job.Frozen.{Frozen}
-use Rattle.volap_cell.specs.declared.job.Job.{Job}
-use Rattle.volap_cell.specs.declared.job.Stage.{Stage}
 use Rattle.volap_cell.specs.declared.job.Stage.TheVariants as stage
-use Rattle.volap_cell.specs.declared.role.Role.{Role}
 
 -- Errands.
 

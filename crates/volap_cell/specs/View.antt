@@ -3,24 +3,13 @@
 use Rattle.std.specs.Prelude.{ℕ, Bool, Option, Some, None, List, [], pos}
 use Rattle.dim_hierarchy.specs.declared.row.Row.{Row}
 use Rattle.dc_node.specs.declared.block.Block.{Block}
-use Rattle.shard_store.specs.declared.gate.Gate.{Gate}
-use Rattle.shard_store.specs.declared.gate.Phase.{Phase}
-use Rattle.shard_store.specs.declared.queue.Queue.{Queue}
-use Rattle.cell_stock.specs.Stock.{StockValue}
-use Rattle.cell_stock.specs.declared.purse.Spare.{Spare}
-use Rattle.row_ledger.specs.Past.{Insert, insert_at}
-use Rattle.row_ledger.specs.declared.event.Event.{Event}
+use Rattle.shard_store.specs.{declared.gate.Gate.Gate, declared.gate.Phase.Phase, declared.queue.Queue.Queue}
+use Rattle.cell_stock.specs.{Stock.StockValue, declared.purse.Spare.Spare}
+use Rattle.row_ledger.specs.{Past.{Insert, insert_at}, declared.event.Event.Event}
 use Rattle.mapping_table.specs.declared.place.Where.{Where}
 use Rattle.query_router.specs.Desk.{DeskValue}
-use Rattle.server_image.specs.Image.{ImageValue}
-use Rattle.server_image.specs.Registry.{RegistryValue}
-use Rattle.volap_cell.specs.Cells.{Tag, tag_of, block_in, has_block, gate_shard, phase_of, way_in, active_in, pins_in, queue_in, gone_in, ledger_in, stock_in, registry_in, image_in, desk_in, where_in}
-use Rattle.volap_cell.specs.Errands.{Taken, RowWay, ReadPart, taken_of, way_of, read_of}
-use Rattle.volap_cell.specs.Setting.{Setting, ledger_cell, stock_cell, registry_cell, image_cell, desk_cell, map_cell}
-use Rattle.volap_cell.specs.Values.{JobValue}
-use Rattle.volap_cell.specs.World.{World}
-use Rattle.volap_cell.specs.declared.command.Command.{Command}
-use Rattle.volap_cell.specs.declared.role.Role.{Role}
+use Rattle.server_image.specs.{Image.ImageValue, Registry.RegistryValue}
+use Rattle.volap_cell.specs.{Cells.{Tag, tag_of, block_in, has_block, gate_shard, phase_of, way_in, active_in, pins_in, queue_in, gone_in, ledger_in, stock_in, registry_in, image_in, desk_in, where_in}, Errands.{Taken, RowWay, ReadPart, taken_of, way_of, read_of}, Setting.{Setting, ledger_cell, stock_cell, registry_cell, image_cell, desk_cell, map_cell}, Values.JobValue, World.World, declared.command.Command.Command, declared.role.Role.Role}
 
 -- the row of the insert that began at a position
 abbrev pub no_row : Row

@@ -1,42 +1,19 @@
 -- Splits, moves and balances: what a job and a balance have found, collected and built.
-use Rattle.std.specs.Prelude.{ℕ, ◌≡◌, ◌+◌, ◌<◌, ◌≤◌, Bool, true, IsTrue, List, [], ◌++◌, Option, Some, None, IsSome, is_some, map, take, drop, length, reverse, count_by, All, Any, Contains}
-use Rattle.std.specs.List.{AllZip}
+use Rattle.std.specs.{List.AllZip, Prelude.{ℕ, ◌≡◌, ◌+◌, ◌<◌, ◌≤◌, Bool, true, IsTrue, List, [], ◌++◌, Option, Some, None, IsSome, is_some, map, take, drop, length, reverse, count_by, All, Any, Contains}}
 use Rattle.dim_hierarchy.specs.declared.row.Row.{Row}
 use Rattle.dc_node.specs.declared.block.Block.{Block}
-use Rattle.describing_set.specs.Plane.{IsHierarchyPlane}
-use Rattle.describing_set.specs.declared.plane.Plane.{Plane}
-use Rattle.cell_stock.specs.Stock.{PurseValue}
-use Rattle.cell_stock.specs.declared.purse.Spare.{Spare}
+use Rattle.describing_set.specs.{Plane.IsHierarchyPlane, declared.plane.Plane.Plane}
+use Rattle.cell_stock.specs.{Stock.PurseValue, declared.purse.Spare.Spare}
 use Rattle.link_descent.specs.declared.entered.Fresh.{Fresh}
-use Rattle.row_ledger.specs.Past.{Ack, Insert, acked, before, insert_at, work, Step}
-use Rattle.row_ledger.specs.Bounds.{may}
-use Rattle.row_ledger.specs.Shards.{Place, comes_from, frontier, is_live, place}
-use Rattle.row_ledger.specs.Workers.{is_on}
-use Rattle.row_ledger.specs.Work.{AreReadOf, IsCause, Reading, Settles, loads as loads_of, is_done}
-use Rattle.row_ledger.specs.declared.event.Event.{Event}
-use Rattle.row_ledger.specs.declared.settings.Decline.{Decline}
-use Rattle.shard_plan.specs.Balancing.{plan}
-use Rattle.shard_plan.specs.declared.action.Action.{Action}
+use Rattle.row_ledger.specs.{Bounds.may, Past.{Ack, Insert, acked, before, insert_at, work, Step}, Shards.{Place, comes_from, frontier, is_live, place}, Work.{AreReadOf, IsCause, Reading, Settles, loads as loads_of, is_done}, Workers.is_on, declared.event.Event.Event, declared.settings.Decline.Decline}
+use Rattle.shard_plan.specs.{Balancing.plan, declared.action.Action.Action, declared.action.Load.Load}
 use Rattle.shard_plan.specs.declared.action.Action.TheVariants as action
-use Rattle.shard_plan.specs.declared.action.Load.{Load}
-use Rattle.shard_store.specs.declared.gate.Gate.{Gate}
-use Rattle.shard_store.specs.declared.gate.Phase.{Phase}
+use Rattle.shard_store.specs.{declared.gate.Gate.Gate, declared.gate.Phase.Phase, declared.queue.Queue.Queue}
 use Rattle.shard_store.specs.declared.gate.Phase.TheVariants as phase
-use Rattle.shard_store.specs.declared.queue.Queue.{Queue}
-use Rattle.tree_shape.specs.Collecting.{IsCollecting}
+use Rattle.tree_shape.specs.{Collecting.IsCollecting, Shape.{Shape, numbers}}
 use Rattle.list_words.specs.Counts.{Each, times}
-use Rattle.tree_shape.specs.Shape.{Shape, numbers}
-use Rattle.volap_cell.specs.AdminKinds.{IsBuiltOf, cells_needed, spent_in}
-use Rattle.volap_cell.specs.Growing.{IsUnder}
-use Rattle.volap_cell.specs.Planning.{has_load, next_job, worker_among}
-use Rattle.volap_cell.specs.Setting.{Setting, site_in}
-use Rattle.volap_cell.specs.Stocking.{cells_at}
-use Rattle.volap_cell.specs.Values.{JobValue, StageValue, IsCalled, IsDeclined, IsFrozen, Collects, Builds, CollectingValue, BuildingValue}
-use Rattle.volap_cell.specs.declared.command.Balance.{Balance}
-use Rattle.volap_cell.specs.declared.command.Command.{Command}
-use Rattle.volap_cell.specs.declared.command.Work.{Work}
+use Rattle.volap_cell.specs.{AdminKinds.{IsBuiltOf, cells_needed, spent_in}, Growing.IsUnder, Planning.{has_load, next_job, worker_among}, Setting.{Setting, site_in}, Stocking.cells_at, Values.{JobValue, StageValue, IsCalled, IsDeclined, IsFrozen, Collects, Builds, CollectingValue, BuildingValue}, declared.command.Balance.Balance, declared.command.Command.Command, declared.command.Work.Work, declared.job.Frozen.Frozen}
 use Rattle.volap_cell.specs.declared.command.Work.TheVariants as work_is
-use Rattle.volap_cell.specs.declared.job.Frozen.{Frozen}
 
 -- Whose job it is.
 

@@ -1,9 +1,7 @@
 -- States: cells by number and actors by number; and a commit, which replaces some cells and one actor.
 use Rattle.std.specs.Prelude.{ℕ, ◌≡◌, ◌≢◌, cond, eqb, List, [], ◌∷◌, Option, Some}
 use Rattle.list_words.specs.Counts.{Each}
-use Rattle.volap_cell.specs.Errands.{IsCarried, way_of}
-use Rattle.volap_cell.specs.Values.{ActorValue}
-use Rattle.volap_cell.specs.Cells.{CellValue}
+use Rattle.volap_cell.specs.{Cells.CellValue, Errands.{IsCarried, way_of}, Values.ActorValue}
 
 pub record World : Type 0 where
   pub cells : ℕ → CellValue

@@ -1,13 +1,8 @@
 -- A dimension of three levels while concepts are added whose keys grow.
-use Rattle.std.proofs.Common.{◌≡◌, ◌≢◌, ◌<◌, ◌≤◌, ◌^◌, ◌∙◌, ◌+◌, ◌++◌, ℕ, List, [], ◌∷◌, length, true, Option, Some, None, ap, sym, refl, arith, inl, inr, length-append}
+use Rattle.std.proofs.{Common.{◌≡◌, ◌≢◌, ◌<◌, ◌≤◌, ◌^◌, ◌∙◌, ◌+◌, ◌++◌, ℕ, List, [], ◌∷◌, length, true, Option, Some, None, ap, sym, refl, arith, inl, inr, length-append}, lemmas.Bool.Decides.nat_tests, lemmas.List.length-set}
 use Rattle.std.specs.FinMap as map
-use Rattle.std.proofs.lemmas.Bool.Decides.{nat_tests}
-use Rattle.std.proofs.lemmas.List.{length-set}
-use Rattle.dim_hierarchy.specs.Concept.{level_of}
-use Rattle.dim_hierarchy.specs.Dimension.{Dimension, with_concept}
-use Rattle.dim_hierarchy.specs.Tree.{IsConcept, Tree, is_concept, next_under, parents_at, with_child}
-use Rattle.dim_hierarchy.proofs.Growth.{IsConcept-with_child, level_of-next_under, next_under-IsConcept, parents_other, parents_same, same_or_not}
-use Rattle.dim_hierarchy.proofs.Names.{get-insert_other, get-insert_same, same_name}
+use Rattle.dim_hierarchy.specs.{Concept.level_of, Dimension.{Dimension, with_concept}, Tree.{IsConcept, Tree, is_concept, next_under, parents_at, with_child}}
+use Rattle.dim_hierarchy.proofs.{Growth.{IsConcept-with_child, level_of-next_under, next_under-IsConcept, parents_other, parents_same, same_or_not}, Names.{get-insert_other, get-insert_same, same_name}}
 use Rattle.volap_gen.proofs.Walks.{key}
 
 -- so many concepts at most are on a level, and no name's key is more than this

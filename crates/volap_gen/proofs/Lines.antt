@@ -1,12 +1,7 @@
 -- A text whose fields call for no quotes is read as the records that it was made of.
-use Rattle.std.proofs.Common.{◌≡◌, ◌≤◌, ◌∙◌, ◌++◌, ℕ, zero, suc, List, [], ◌∷◌, length, Bool, true, false, ◌&&◌, ap, sym, refl, arith, append-nil, length-append}
-use Rattle.std.specs.Prelude.{not, nat_lt, codes}
-use Rattle.std.specs.List.{join_with_byte, list_all, list_any}
-use Rattle.std.proofs.lemmas.Bool.{and_parts}
-use Rattle.std.proofs.lemmas.Bool.Decides.{nat_tests}
-use Rattle.csv.specs.Machine.{next_record}
-use Rattle.csv.specs.Reading.{default_config, records_from}
-use Rattle.csv.specs.Writing.{default_writer, field_text, fields_text, is_blank, needs_byte, row_text}
+use Rattle.std.proofs.{Common.{◌≡◌, ◌≤◌, ◌∙◌, ◌++◌, ℕ, zero, suc, List, [], ◌∷◌, length, Bool, true, false, ◌&&◌, ap, sym, refl, arith, append-nil, length-append}, lemmas.Bool.and_parts, lemmas.Bool.Decides.nat_tests}
+use Rattle.std.specs.{List.{join_with_byte, list_all, list_any}, Prelude.{not, nat_lt, codes}}
+use Rattle.csv.specs.{Machine.next_record, Reading.{default_config, records_from}, Writing.{default_writer, field_text, fields_text, is_blank, needs_byte, row_text}}
 use Rattle.csv.specs.declared.parser.State.TheVariants as st
 use Rattle.csv.proofs.RoundTrip.{read-write}
 use Rattle.volap_gen.specs.Generated.{record_line, text_of}

@@ -1,17 +1,11 @@
 -- The generated records call for no quotes, and those behind the concepts are commands.
-use Rattle.std.proofs.Common.{◌≡◌, ◌<◌, ◌∙◌, ◌+◌, ◌++◌, ℕ, zero, suc, List, [], ◌∷◌, Bool, true, false, ◌&&◌, ap, sym, refl, arith, pos, ◌%◌, ◌/◌}
-use Rattle.std.specs.Prelude.{codes, is_some, ◌==◌, ◌||◌, ◌-ℤ◌, if◌then◌else◌}
-use Rattle.std.specs.Fmt.{decimal, digits, signed_decimal}
-use Rattle.std.specs.List.{flat_map, list_all, range_with_len}
-use Rattle.std.proofs.lemmas.Bool.{and_parts}
+use Rattle.std.proofs.{Common.{◌≡◌, ◌<◌, ◌∙◌, ◌+◌, ◌++◌, ℕ, zero, suc, List, [], ◌∷◌, Bool, true, false, ◌&&◌, ap, sym, refl, arith, pos, ◌%◌, ◌/◌}, lemmas.Bool.and_parts}
+use Rattle.std.specs.{Fmt.{decimal, digits, signed_decimal}, List.{flat_map, list_all, range_with_len}, Prelude.{codes, is_some, ◌==◌, ◌||◌, ◌-ℤ◌, if◌then◌else◌}}
 use Rattle.csv.specs.Records.{field_at}
-use Rattle.script_form.specs.Fields.{is_below, is_name, measure_of}
+use Rattle.script_form.specs.Fields.{is_below, is_name, measure_of, Record}
 use Rattle.script_form.proofs.Standing.{is_command}
 use Rattle.volap_gen.proofs.Lines.{is_plain, is_unquoted}
-use Rattle.volap_gen.specs.Generated.{closing, concept_records, day_at, insert_record, item_at, leaf_records, measure_at, middle_records, opening, pulls, row_records, generated_rows}
-use Rattle.script_form.specs.Fields.{Record}
-use Rattle.volap_gen.specs.Names.{leaf_at, leaf_name, middle_name, top_name}
-use Rattle.volap_gen.specs.declared.names.Dim.TheVariants.{Date, Store, Product}
+use Rattle.volap_gen.specs.{Generated.{closing, concept_records, day_at, insert_record, item_at, leaf_records, measure_at, middle_records, opening, pulls, row_records, generated_rows}, Names.{leaf_at, leaf_name, middle_name, top_name}, declared.names.Dim.TheVariants.{Date, Store, Product}}
 
 -- What can be looked through.
 

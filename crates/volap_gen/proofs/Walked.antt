@@ -1,24 +1,13 @@
 -- Records of concepts that stand in order are fine, each behind those before it.
-use Rattle.std.proofs.Common.{◌≡◌, ◌<◌, ◌^◌, ◌∙◌, ◌+◌, ◌-◌, ℕ, List, [], ◌∷◌, length, Bool, true, false, ◌&&◌, Option, Some, None, ap, refl, arith, inl, inr}
-use Rattle.std.specs.Prelude.{not, nat_le, nat_lt, ◌==◌, ◌||◌, codes, is_some, slice_set, if◌then◌else◌}
+use Rattle.std.proofs.{Common.{◌≡◌, ◌<◌, ◌^◌, ◌∙◌, ◌+◌, ◌-◌, ℕ, List, [], ◌∷◌, length, Bool, true, false, ◌&&◌, Option, Some, None, ap, refl, arith, inl, inr}, lemmas.Bool.{and_parts, cases_Bool}, lemmas.Bool.Decides.nat_tests, lemmas.Slice.Eq.bytes_eq-Decides}
+use Rattle.std.specs.{Prelude.{not, nat_le, nat_lt, ◌==◌, ◌||◌, codes, is_some, slice_set, if◌then◌else◌}, Str.bytes_eq}
 use Rattle.std.specs.FinMap as map
-use Rattle.std.specs.Str.{bytes_eq}
-use Rattle.std.proofs.lemmas.Bool.{and_parts, cases_Bool}
-use Rattle.std.proofs.lemmas.Bool.Decides.{nat_tests}
-use Rattle.std.proofs.lemmas.Slice.Eq.{bytes_eq-Decides}
-use Rattle.dim_hierarchy.specs.Concept.{level_of}
-use Rattle.dim_hierarchy.specs.Dimension.{Dimension, concept_fault, dimension, find, find_dim, tree, with_concept}
-use Rattle.dim_hierarchy.specs.Tree.{IsConcept, is_concept, leaf_level}
+use Rattle.dim_hierarchy.specs.{Concept.level_of, Dimension.{Dimension, concept_fault, dimension, find, find_dim, tree, with_concept}, Tree.{IsConcept, is_concept, leaf_level}}
 use Rattle.dim_hierarchy.specs.declared.hierarchy.ConceptFault.TheVariants as concept
 use Rattle.row_ledger.specs.declared.settings.Use.{Use}
-use Rattle.script_form.specs.Causes.{cause_at, parent_of}
-use Rattle.script_form.specs.Fields.{Record, is_name, is_star}
-use Rattle.script_form.specs.Reading.{after}
-use Rattle.script_form.specs.Scripts.{with_named}
-use Rattle.script_form.specs.declared.script.Script.{Script}
+use Rattle.script_form.specs.{Causes.{cause_at, parent_of}, Fields.{Record, is_name, is_star}, Reading.after, Scripts.with_named, declared.script.Script.Script}
 use Rattle.script_form.proofs.Standing.{Fine, afters, concept_after, concept_fine}
-use Rattle.volap_gen.proofs.Growing.{IsFilled, StandsAt, concept_is, grown, is_new}
-use Rattle.volap_gen.proofs.Walks.{key, walk}
+use Rattle.volap_gen.proofs.{Growing.{IsFilled, StandsAt, concept_is, grown, is_new}, Walks.{key, walk}}
 
 -- a script without commands
 abbrev pub at_work : Use → List Dimension → Script

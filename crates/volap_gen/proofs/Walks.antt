@@ -1,12 +1,8 @@
 -- Records of concepts that stand in order: each under the one above it, and each of a greater key than all before.
 use Rattle.std.proofs.Common.{◌≡◌, ℕ, ◌+◌, ◌*◌, ◌-◌, List, [], ◌∷◌, ◌&&◌, Bool, true, false, refl}
-use Rattle.std.specs.Prelude.{codes, nat_le, nat_lt, ◌==◌, if◌then◌else◌}
-use Rattle.std.specs.Fmt.{digits}
-use Rattle.std.specs.Str.{bytes_eq}
+use Rattle.std.specs.{Fmt.digits, Prelude.{codes, nat_le, nat_lt, ◌==◌, if◌then◌else◌}, Str.bytes_eq}
 use Rattle.script_form.specs.Fields.{Record, is_name, is_star}
-use Rattle.volap_gen.specs.Generated.{concept_records, leaf_records, middle_records}
-use Rattle.volap_gen.specs.Names.{leaf_name, middle_name, top_name}
-use Rattle.volap_gen.specs.declared.names.Dim.TheVariants.{Date, Store, Product}
+use Rattle.volap_gen.specs.{Generated.{concept_records, leaf_records, middle_records}, Names.{leaf_name, middle_name, top_name}, declared.names.Dim.TheVariants.{Date, Store, Product}}
 
 -- the numbers of a name, each a letter and at most two digits, as one number; a name is below those under it
 unfoldable pub key_from : ℕ → ℕ → ℕ → List ℕ → ℕ

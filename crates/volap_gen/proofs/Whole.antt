@@ -1,26 +1,15 @@
 -- The generated text is a script.
 use Rattle.std.proofs.Common.{◌≡◌, ◌<◌, ◌≤◌, ◌∙◌, ◌+◌, ◌++◌, ℕ, zero, suc, List, [], ◌∷◌, length, true, Ok, ap, refl, arith, lit<}
-use Rattle.std.specs.Prelude.{codes}
+use Rattle.std.specs.{Cmp.Lexicographic.slice_cmp, List.list_all, Ordering.nat_cmp, Prelude.codes}
 use Rattle.std.specs.FinMap as map
-use Rattle.std.specs.List.{list_all}
-use Rattle.std.specs.Ordering.{nat_cmp}
-use Rattle.std.specs.Cmp.Lexicographic.{slice_cmp}
-use Rattle.csv.specs.Reading.{default_config, records_from, strip_bom}
-use Rattle.csv.specs.Records.{field_at}
+use Rattle.csv.specs.{Reading.{default_config, records_from, strip_bom}, Records.field_at}
 use Rattle.csv.specs.declared.parser.State.TheVariants as st
-use Rattle.dim_hierarchy.specs.Dimension.{Dimension, new_dimension}
-use Rattle.dim_hierarchy.specs.Tree.{new_tree, parents_at}
+use Rattle.dim_hierarchy.specs.{Dimension.{Dimension, new_dimension}, Tree.{new_tree, parents_at}}
 use Rattle.row_ledger.specs.declared.settings.Use.{Use}
-use Rattle.script_form.specs.Fields.{Record, is_name}
-use Rattle.script_form.specs.Scripts.{records_of, script, script_of}
+use Rattle.script_form.specs.{Fields.{Record, is_name}, Scripts.{records_of, script, script_of}}
 use Rattle.script_form.proofs.Standing.{Fine, afters, commands_fine, fine_append, fine_script}
-use Rattle.volap_gen.specs.Generated.{closing, concept_records, generated, leaf_records, middle_records, opening, generated_rows, text_of}
-use Rattle.volap_gen.specs.declared.names.Dim.TheVariants.{Date, Store, Product}
-use Rattle.volap_gen.proofs.Growing.{IsFilled, StandsAt}
-use Rattle.volap_gen.proofs.Lines.{is_plain, lines_fit, lines_read}
-use Rattle.volap_gen.proofs.Plain.{all_append, commands_rest, plain_date, plain_opening, plain_product, plain_rest, plain_store}
-use Rattle.volap_gen.proofs.Walked.{IsSlot, IsWalked, at_work, walked}
-use Rattle.volap_gen.proofs.Walks.{walk, walk_date, walk_product, walk_store}
+use Rattle.volap_gen.specs.{Generated.{closing, concept_records, generated, leaf_records, middle_records, opening, generated_rows, text_of}, declared.names.Dim.TheVariants.{Date, Store, Product}}
+use Rattle.volap_gen.proofs.{Growing.{IsFilled, StandsAt}, Lines.{is_plain, lines_fit, lines_read}, Plain.{all_append, commands_rest, plain_date, plain_opening, plain_product, plain_rest, plain_store}, Walked.{IsSlot, IsWalked, at_work, walked}, Walks.{walk, walk_date, walk_product, walk_store}}
 
 -- Read.
 

@@ -1,11 +1,7 @@
 -- The generated script, as a list of records, and its text.
-use Rattle.std.specs.Prelude.{ℕ, ◌+◌, ◌*◌, ◌/◌, ◌%◌, ℤ, pos, ◌-ℤ◌, List, [], ◌∷◌, ◌++◌, map, ◌==◌, ◌||◌, if◌then◌else◌, codes}
-use Rattle.std.specs.List.{flat_map, join_with_byte, range_with_len}
-use Rattle.std.specs.Fmt.{decimal, signed_decimal}
+use Rattle.std.specs.{Fmt.{decimal, signed_decimal}, List.{flat_map, join_with_byte, range_with_len}, Prelude.{ℕ, ◌+◌, ◌*◌, ◌/◌, ◌%◌, ℤ, pos, ◌-ℤ◌, List, [], ◌∷◌, ◌++◌, map, ◌==◌, ◌||◌, if◌then◌else◌, codes}}
 use Rattle.script_form.specs.Fields.{Record}
-use Rattle.volap_gen.specs.Names.{dim_name, top_count, middle_count, leaf_count, top_name, middle_name, leaf_name, leaf_at}
-use Rattle.volap_gen.specs.declared.names.Dim.{Dim}
-use Rattle.volap_gen.specs.declared.names.Dim.TheVariants.{Date, Store, Product}
+use Rattle.volap_gen.specs.{Names.{dim_name, top_count, middle_count, leaf_count, top_name, middle_name, leaf_name, leaf_at}, declared.names.Dim.Dim, declared.names.Dim.TheVariants.{Date, Store, Product}}
 
 -- a record's line: its fields with commas between them
 abbrev pub record_line : Record → List ℕ

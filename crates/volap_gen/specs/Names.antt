@@ -1,7 +1,6 @@
 -- The dimensions of the generated hierarchy, and the names of their concepts.
 use Rattle.std.specs.Prelude.{ℕ, ◌*◌, ◌/◌, ◌%◌, List, ◌++◌, codes, decimal}
-use Rattle.volap_gen.specs.declared.names.Dim.{Dim}
-use Rattle.volap_gen.specs.declared.names.Dim.TheVariants.{Date, Store, Product}
+use Rattle.volap_gen.specs.{declared.names.Dim.Dim, declared.names.Dim.TheVariants.{Date, Store, Product}}
 
 abbrev pub dim_name : Dim → List ℕ
 dim_name Date = codes "date"

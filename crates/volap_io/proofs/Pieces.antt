@@ -1,9 +1,5 @@
 -- What pieces of bytes, one after another, come to.
-use Rattle.std.proofs.Common.{◌≡◌, ◌+◌, ◌-◌, ◌≤◌, ◌++◌, ℕ, List, Option, length, take, drop, sym, arith, length-append, length-drop}
-use Rattle.std.proofs.KnownBytes.{Appends-trans, Consumes-trans}
-use Rattle.std.proofs.Math.Seq.{take-add}
-use Rattle.std.proofs.lemmas.Grind.{common_steps}
-use Rattle.std.proofs.lemmas.List.{take_all, drop-drop}
+use Rattle.std.proofs.{Common.{◌≡◌, ◌+◌, ◌-◌, ◌≤◌, ◌++◌, ℕ, List, Option, length, take, drop, sym, arith, length-append, length-drop}, KnownBytes.{Appends-trans, Consumes-trans}, Math.Seq.take-add, lemmas.Grind.common_steps, lemmas.List.{take_all, drop-drop}}
 use Rattle.std.specs.Io.KnownBytes.{Appends, Consumes}
 use Rattle.volap_io.specs.Causes.{Gave}
 

@@ -1,6 +1,5 @@
 -- When a count of faults rose, and what a source gave over many reads.
-use Rattle.std.specs.Prelude.{ℕ, ◌+◌, ◌-◌, ◌^◌, ◌≤◌, min, List, Option, length}
-use Rattle.std.specs.Io.KnownBytes.{Consumes}
+use Rattle.std.specs.{Io.KnownBytes.Consumes, Prelude.{ℕ, ◌+◌, ◌-◌, ◌^◌, ◌≤◌, min, List, Option, length}}
 
 -- one more, in a count of 64 bits that stays at its last value
 abbrev pub one_more : ℕ → ℕ

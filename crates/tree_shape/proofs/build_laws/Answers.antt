@@ -1,6 +1,4 @@
-use Rattle.tree_shape.proofs.Leaves.{leaves-law}
-use Rattle.tree_shape.proofs.Levels.{directories-law}
-use Rattle.tree_shape.proofs.Gates.{tree-law}
+use Rattle.tree_shape.proofs.{Building.Gates.tree-law, Building.Leaves.leaves-law, Building.Levels.directories-law}
 use Rattle.tree_shape.proofs.build_laws.Goals as goal
 
 pub returns : goal.returns

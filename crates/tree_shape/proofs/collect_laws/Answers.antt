@@ -1,4 +1,4 @@
-use Rattle.tree_shape.proofs.Collects.{collect-begins, readable, after-read, collect-other, collect-ends}
+use Rattle.tree_shape.proofs.Reading.Collects.{collect-begins, readable, after-read, collect-other, collect-ends}
 use Rattle.tree_shape.proofs.collect_laws.Goals as goal
 
 pub returns : goal.returns

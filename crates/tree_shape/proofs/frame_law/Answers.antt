@@ -1,4 +1,4 @@
-use Rattle.tree_shape.proofs.Others.{after-other}
+use Rattle.tree_shape.proofs.Whole.Others.{after-other}
 use Rattle.tree_shape.proofs.frame_law.Goals as goal
 
 pub returns : goal.returns

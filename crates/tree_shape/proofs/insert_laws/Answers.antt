@@ -1,6 +1,4 @@
-use Rattle.tree_shape.proofs.ComesIn.{goes-in}
-use Rattle.tree_shape.proofs.Descends.{goes-down}
-use Rattle.tree_shape.proofs.Puts.{after-put}
+use Rattle.tree_shape.proofs.{Down.ComesIn.goes-in, Down.Descends.goes-down, Down.Puts.after-put}
 use Rattle.tree_shape.proofs.insert_laws.Goals as goal
 
 pub returns : goal.returns

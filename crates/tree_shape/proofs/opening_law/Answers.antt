@@ -1,5 +1,5 @@
 use Rattle.std.proofs.Common.{[], refl}
-use Rattle.tree_shape.proofs.Openings.{opening-law}
+use Rattle.tree_shape.proofs.Building.Openings.{opening-law}
 use Rattle.tree_shape.proofs.opening_law.Goals as goal
 
 pub returns : goal.returns

@@ -1,6 +1,4 @@
-use Rattle.tree_shape.proofs.Readings.{after-visit, elsewhere}
-use Rattle.tree_shape.proofs.Beginnings.{after-begin}
-use Rattle.tree_shape.proofs.Rows.{after-all}
+use Rattle.tree_shape.proofs.{Down.Rows.after-all, Reading.Beginnings.after-begin, Reading.Readings.{after-visit, elsewhere}}
 use Rattle.tree_shape.proofs.query_laws.Goals as goal
 
 pub returns : goal.returns

@@ -1,4 +1,4 @@
-use Rattle.tree_shape.proofs.Tables.{tree-alike, query-alike}
+use Rattle.tree_shape.proofs.Whole.Tables.{tree-alike, query-alike}
 use Rattle.tree_shape.proofs.table_laws.Goals as goal
 
 pub returns : goal.returns

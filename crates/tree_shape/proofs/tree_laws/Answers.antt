@@ -1,5 +1,4 @@
-use Rattle.tree_shape.proofs.Totals.{agg-times, set-times, gate-sum, block-fits, links-on, leads-down, leads-root, entry-behind, root-behind}
-use Rattle.tree_shape.proofs.Beneath.{entry-behind-fits, root-behind-fits}
+use Rattle.tree_shape.proofs.{Whole.Beneath.{entry-behind-fits, root-behind-fits}, Whole.Totals.{agg-times, set-times, gate-sum, block-fits, links-on, leads-down, leads-root, entry-behind, root-behind}}
 use Rattle.tree_shape.proofs.tree_laws.Goals as goal
 
 pub returns : goal.returns

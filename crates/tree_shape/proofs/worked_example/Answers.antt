@@ -1,4 +1,4 @@
-use Rattle.tree_shape.proofs.Worked.{works}
+use Rattle.tree_shape.proofs.Examples.Steps.{works}
 use Rattle.tree_shape.proofs.worked_example.Goals as goal
 
 pub returns : goal.returns

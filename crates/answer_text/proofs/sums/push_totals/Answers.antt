@@ -1,6 +1,5 @@
-use Rattle.std.proofs.Common.{◌≤◌, ◌⊎◌, ◌++◌, length, inl, inr, arith}
+use Rattle.std.proofs.{Common.{◌≤◌, ◌⊎◌, ◌++◌, length, inl, inr, arith}, lemmas.Bool.cases_lt}
 use Rattle.std.specs.String.{string_bytes}
-use Rattle.std.proofs.lemmas.Bool.{cases_lt}
 use Rattle.answer_text.specs.Summary.{total_lines, total_words}
 use Rattle.answer_text.proofs.SummaryFacts.{line_pushed, lines_pushed}
 use Rattle.answer_text.proofs.sums.push_totals.Goals as goal

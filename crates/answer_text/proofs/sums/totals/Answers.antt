@@ -1,9 +1,8 @@
 use Rattle.std.proofs.Common.{◌+◌, ◌∙◌, ◌∷◌, ◌++◌, [], reverse, ap, sym}
 use Rattle.std.specs.Prelude.{zip}
 use Rattle.answer_text.specs.Summary as sum
-use Rattle.answer_text.proofs.SummaryFacts.{behind, total_no, total_yes}
+use Rattle.answer_text.proofs.{SummaryFacts.{behind, total_no, total_yes}, sums.totals.Goals.{then-asks_total+in_ok-push, else-asks_total}}
 use Rattle.answer_text.proofs.sums.totals.Goals as goal
-use Rattle.answer_text.proofs.sums.totals.Goals.{then-asks_total+in_ok-push, else-asks_total}
 
 pub loop-i-preserved : goal.loop-i-preserved
 loop-i-preserved c =

@@ -1,7 +1,5 @@
-use Rattle.std.proofs.Common.{◌<◌, reverse, arith}
-use Rattle.std.proofs.lemmas.Grind.{common_steps}
-use Rattle.answer_text.proofs.TellerFacts.{has-next, phase-found, phase-further, told-end}
-use Rattle.answer_text.proofs.ToldLines.{phase_past}
+use Rattle.std.proofs.{Common.{◌<◌, reverse, arith}, lemmas.Grind.common_steps}
+use Rattle.answer_text.proofs.{TellerFacts.{has-next, phase-found, phase-further, told-end}, ToldLines.phase_past}
 use Rattle.answer_text.proofs.text.phase.Goals as goal
 
 pub returns-then-left-eq0 : goal.returns-then-left-eq0

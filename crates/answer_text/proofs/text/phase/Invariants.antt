@@ -1,7 +1,6 @@
 use Rattle.std.proofs.Common.{◌≡◌, ◌-◌, ◌≤◌, [], length, take, drop, reverse, get_or}
 use Rattle.script_run.specs.Phases.{phases}
-use Rattle.answer_text.specs.Told.{phase_text, HasTold}
-use Rattle.answer_text.specs.Printed.{texts_behind}
+use Rattle.answer_text.specs.{Printed.texts_behind, Told.{phase_text, HasTold}}
 use Rattle.answer_text.proofs.text.phase.Given as goal
 
 abbrev pub invariant-loop-teller : goal.invariant-loop-teller

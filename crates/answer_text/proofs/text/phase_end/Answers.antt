@@ -1,5 +1,4 @@
-use Rattle.std.proofs.Math.Nat.{add-sub_cancel_left}
-use Rattle.std.proofs.lemmas.List.{take_rest}
+use Rattle.std.proofs.{Math.Nat.add-sub_cancel_left, lemmas.List.take_rest}
 use Rattle.answer_text.proofs.text.phase_end.Goals as goal
 
 pub returns-clause-phase : goal.returns-clause-phase

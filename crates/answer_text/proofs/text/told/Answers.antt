@@ -1,6 +1,5 @@
 use Rattle.std.proofs.Common.{reverse, arith}
-use Rattle.answer_text.proofs.TellerFacts.{has-next, told-end, text-next}
-use Rattle.answer_text.proofs.ToldLines.{texts_all}
+use Rattle.answer_text.proofs.{TellerFacts.{has-next, told-end, text-next}, ToldLines.texts_all}
 use Rattle.answer_text.proofs.text.told.Goals as goal
 
 pub loop-teller-preserved : goal.loop-teller-preserved

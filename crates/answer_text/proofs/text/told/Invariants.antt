@@ -1,9 +1,7 @@
 use Rattle.std.proofs.Common.{◌≡◌, ◌-◌, ◌≤◌, ◌++◌, length, take, drop, reverse}
-use Rattle.std.specs.List.{flat_map}
-use Rattle.std.specs.String.{string_bytes}
+use Rattle.std.specs.{List.flat_map, String.string_bytes}
 use Rattle.script_run.specs.Phases.{phases}
-use Rattle.answer_text.specs.Printed.{texts_behind, told}
-use Rattle.answer_text.specs.Told.{HasTold}
+use Rattle.answer_text.specs.{Printed.{texts_behind, told}, Told.HasTold}
 use Rattle.answer_text.proofs.text.told.Given as goal
 
 abbrev pub invariant-loop-teller : goal.invariant-loop-teller

@@ -1,8 +1,7 @@
 use Rattle.std.proofs.Common.{◌∙◌, arith}
 use Rattle.shard_plan.specs.declared.action.Load.{Load}
-use Rattle.balancer.proofs.Loads.{after_move-here, after_move-elsewhere}
+use Rattle.balancer.proofs.{Loads.{after_move-here, after_move-elsewhere}, balance.move_shard.Goals.{then-load-shard, else-load-shard}}
 use Rattle.balancer.proofs.balance.move_shard.Goals as goal
-use Rattle.balancer.proofs.balance.move_shard.Goals.{then-load-shard, else-load-shard}
 
 pub loop-load-preserved : goal.loop-load-preserved
 loop-load-preserved c =

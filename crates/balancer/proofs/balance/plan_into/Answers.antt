@@ -1,8 +1,7 @@
 use Rattle.std.proofs.Common.{◌≡◌, if◌then◌else◌, is_ok, true, ◌++◌, [], ◌∷◌, sym, ap, ◌∙◌, arith, Some, None}
 use Rattle.shard_plan.specs.declared.action.Action.TheVariants.{Move, Split}
 use Rattle.balancer.specs.Turn.{next_action, rows_of_all}
-use Rattle.balancer.proofs.Loads.{rows_of_all-move}
-use Rattle.balancer.proofs.Plans.{plan-ends, plan-splits, plan-moves}
+use Rattle.balancer.proofs.{Loads.rows_of_all-move, Plans.{plan-ends, plan-splits, plan-moves}}
 use Rattle.balancer.proofs.balance.plan_into.Goals as goal
 
 pub returns-in_default : goal.returns-in_default

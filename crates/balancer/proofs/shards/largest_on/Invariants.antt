@@ -1,6 +1,5 @@
 use Rattle.std.proofs.Common.{◌≡◌, ◌==◌, take, filter}
-use Rattle.shard_plan.specs.declared.action.Load.{Load}
-use Rattle.shard_plan.specs.Balancing.{largest}
+use Rattle.shard_plan.specs.{Balancing.largest, declared.action.Load.Load}
 use Rattle.balancer.proofs.shards.largest_on.Given as goal
 
 abbrev pub invariant-loop-load : goal.invariant-loop-load

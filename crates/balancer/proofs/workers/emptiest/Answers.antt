@@ -1,7 +1,6 @@
 use Rattle.std.proofs.Common.{◌∙◌}
-use Rattle.balancer.proofs.Fullest.{emptiest-takes, emptiest-stays}
+use Rattle.balancer.proofs.{Fullest.{emptiest-takes, emptiest-stays}, workers.emptiest.Goals.{then-rows_on, else-rows_on}}
 use Rattle.balancer.proofs.workers.emptiest.Goals as goal
-use Rattle.balancer.proofs.workers.emptiest.Goals.{then-rows_on, else-rows_on}
 
 pub loop-worker-preserved : goal.loop-worker-preserved
 loop-worker-preserved c =

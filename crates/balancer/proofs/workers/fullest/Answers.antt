@@ -1,7 +1,6 @@
 use Rattle.std.proofs.Common.{◌∙◌}
-use Rattle.balancer.proofs.Fullest.{fullest-takes, fullest-stays}
+use Rattle.balancer.proofs.{Fullest.{fullest-takes, fullest-stays}, workers.fullest.Goals.{then-rows_on, else-rows_on}}
 use Rattle.balancer.proofs.workers.fullest.Goals as goal
-use Rattle.balancer.proofs.workers.fullest.Goals.{then-rows_on, else-rows_on}
 
 pub loop-worker-preserved : goal.loop-worker-preserved
 loop-worker-preserved c =

@@ -1,5 +1,4 @@
-use Rattle.std.proofs.Common.{◌≡◌, ◌<◌, take, get_or, length, arith}
-use Rattle.std.proofs.lemmas.List.{take_more, length-take-le}
+use Rattle.std.proofs.{Common.{◌≡◌, ◌<◌, take, get_or, length, arith}, lemmas.List.{take_more, length-take-le}}
 use Rattle.cell_stock.proofs.Cells.{Fills-push}
 use Rattle.cell_stock.proofs.purse.fill.Goals as goal
 

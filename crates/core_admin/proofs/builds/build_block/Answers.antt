@@ -1,8 +1,6 @@
 use Rattle.std.proofs.Common.{Some, ap, option_map, sym, ◌∙◌}
-use Rattle.volap_cell.specs.Cells.{cell_of}
-use Rattle.volap_cell.specs.Values.{actor_of, job_of}
-use Rattle.volap_cell.specs.declared.job.Job.{Job}
-use Rattle.core_admin.proofs.BuildsBlock.{build-makes, is-unbuilt}
+use Rattle.volap_cell.specs.{Cells.cell_of, Values.{actor_of, job_of}, declared.job.Job.Job}
+use Rattle.core_admin.proofs.Building.BuildsBlock.{build-makes, is-unbuilt}
 use Rattle.core_admin.proofs.builds.build_block.Goals as goal
 
 pub build_next-requires : goal.build_next-requires

@@ -1,4 +1,4 @@
-use Rattle.core_admin.proofs.PostponeReady.{none-spent}
+use Rattle.core_admin.proofs.Postponing.PostponeReady.{none-spent}
 use Rattle.core_admin.proofs.builds.give_spent.Goals as goal
 
 pub returns-in_default : goal.returns-in_default

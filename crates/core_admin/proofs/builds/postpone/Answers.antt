@@ -1,12 +1,8 @@
 use Rattle.std.proofs.Common.{Bool, Option, true, ap, length, option_map, refl, subst, sym, ◌∙◌}
 use Rattle.row_ledger.specs.LedgerValue.{LedgerValue}
-use Rattle.volap_cell.specs.AdminKinds.{spent_in}
-use Rattle.volap_cell.specs.Cells.{LedgerCell, StockCell, cell_of}
-use Rattle.volap_cell.specs.Values.{actor_of, job_of, stage_of}
-use Rattle.volap_cell.specs.declared.command.Command.{Command}
-use Rattle.volap_cell.specs.declared.job.Job.{Job}
+use Rattle.volap_cell.specs.{AdminKinds.spent_in, Cells.{LedgerCell, StockCell, cell_of}, Values.{actor_of, job_of, stage_of}, declared.command.Command.Command, declared.job.Job.Job}
 use Rattle.core_admin.specs.FinishDue.{Closes, GivesAll, MayClose, MayGiveAll, NotesGivenUp, plans}
-use Rattle.core_admin.proofs.PostponeReady.{gone-promised, may-close, may-give, postpone-makes}
+use Rattle.core_admin.proofs.Postponing.PostponeReady.{gone-promised, may-close, may-give, postpone-makes}
 use Rattle.core_admin.proofs.builds.postpone.Goals as goal
 
 pub note_given_up-requires : goal.note_given_up-requires

@@ -1,10 +1,7 @@
 use Rattle.std.proofs.Common.{Box, Global, Some, ◌∙◌, option_map, refl, sym, ap}
-use Rattle.volap_cell.specs.Cells.{BlockCell, cell_of}
-use Rattle.volap_cell.specs.Values.{actor_of, job_of}
-use Rattle.volap_cell.specs.declared.job.Job.{Job}
-use Rattle.volap_cell.proofs.Boxed.{boxed}
-use Rattle.volap_cell.proofs.Outcomes.{on-ok}
-use Rattle.core_admin.proofs.CollectsHere.{block-makes, has-noted, is-block}
+use Rattle.volap_cell.specs.{Cells.{BlockCell, cell_of}, Values.{actor_of, job_of}, declared.job.Job.Job}
+use Rattle.volap_cell.proofs.{Cells.Boxed.boxed, Outcomes.on-ok}
+use Rattle.core_admin.proofs.Collecting.CollectsHere.{block-makes, has-noted, is-block}
 use Rattle.core_admin.proofs.collects.collect_block.Goals as goal
 
 pub unreachable-requires-in_default-cell : goal.unreachable-requires-in_default-cell

@@ -1,5 +1,5 @@
 use Rattle.std.proofs.Common.{◌∙◌, arith}
-use Rattle.core_admin.proofs.CollectsHere.{one-more}
+use Rattle.core_admin.proofs.Collecting.CollectsHere.{one-more}
 use Rattle.core_admin.proofs.collects.collect_leaf.Goals as goal
 
 pub loop-place-preserved : goal.loop-place-preserved

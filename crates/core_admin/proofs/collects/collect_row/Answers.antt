@@ -1,9 +1,7 @@
 use Rattle.std.proofs.Common.{Box, Global, Some, ◌∙◌, option_map, refl, sym, ap}
-use Rattle.volap_cell.specs.Cells.{GateCell, cell_of}
-use Rattle.volap_cell.specs.Values.{actor_of, job_of}
-use Rattle.volap_cell.specs.declared.job.Job.{Job}
+use Rattle.volap_cell.specs.{Cells.{GateCell, cell_of}, Values.{actor_of, job_of}, declared.job.Job.Job}
 use Rattle.volap_cell.proofs.Outcomes.{on-ok}
-use Rattle.core_admin.proofs.CollectsHere.{has-more, row-makes}
+use Rattle.core_admin.proofs.Collecting.CollectsHere.{has-more, row-makes}
 use Rattle.core_admin.proofs.collects.collect_row.Goals as goal
 
 pub take_row-requires : goal.take_row-requires

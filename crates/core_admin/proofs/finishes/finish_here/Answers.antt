@@ -1,16 +1,10 @@
 use Rattle.std.proofs.Common.{Box, Global, IsSome, Some, [], ap, option_map, refl, subst, sym, ◌∙◌, ◌∷◌}
 use Rattle.shard_store.specs.declared.gate.Gate.{Gate}
-use Rattle.volap_cell.specs.Cells.{GateCell, LedgerCell, MapCell, RegistryCell, StockCell, cell_of, gate_shard}
-use Rattle.volap_cell.specs.Values.{actor_of, job_of}
-use Rattle.volap_cell.specs.World.{held}
+use Rattle.volap_cell.specs.{Cells.{GateCell, LedgerCell, MapCell, RegistryCell, StockCell, cell_of, gate_shard}, Values.{actor_of, job_of}, World.held, declared.job.Job.Job}
 use Rattle.volap_cell.specs.declared.cell.Cell.TheVariants as cell
-use Rattle.volap_cell.specs.declared.job.Job.{Job}
-use Rattle.volap_cell.proofs.Boxed.{gated, same-box}
-use Rattle.volap_cell.proofs.Outcomes.{as-err}
+use Rattle.volap_cell.proofs.{Cells.Boxed.{gated, same-box}, Outcomes.as-err}
 use Rattle.core_admin.specs.FinishDue.{MakesWayHere}
-use Rattle.core_admin.proofs.BuiltUp.{gate-there, is-late}
-use Rattle.core_admin.proofs.FinishReady.{may-finish, moves-of}
-use Rattle.core_admin.proofs.MoveMade.{here-makes}
+use Rattle.core_admin.proofs.{Building.BuiltUp.{gate-there, is-late}, Moving.FinishReady.{may-finish, moves-of}, Moving.MoveMade.here-makes}
 use Rattle.core_admin.proofs.finishes.finish_here.Goals as goal
 
 pub unreachable-requires-in_default-gate : goal.unreachable-requires-in_default-gate

@@ -1,5 +1,4 @@
-use Rattle.std.proofs.Common.{◌≡◌, ◌∙◌, ap, length, subst, sym, arith}
-use Rattle.std.proofs.lemmas.List.{length-take-le}
+use Rattle.std.proofs.{Common.{◌≡◌, ◌∙◌, ap, length, subst, sym, arith}, lemmas.List.length-take-le}
 use Rattle.dim_hierarchy.specs.Rows.{IsRowOf}
 use Rattle.measure_agg.specs.Aggregate.{Aggregate}
 use Rattle.core_admin.proofs.finishes.queue_all.Goals as goal

@@ -1,11 +1,9 @@
 use Rattle.std.proofs.Common.{Box, Global, option_map, refl, sym, ap, subst, IsSome}
 use Rattle.shard_store.specs.declared.gate.Gate.{Gate}
-use Rattle.volap_cell.specs.Cells.{cell_of, gate_shard}
-use Rattle.volap_cell.specs.Values.{actor_of, job_of}
-use Rattle.volap_cell.specs.declared.job.Job.{Job}
-use Rattle.volap_cell.proofs.Boxed.{gated}
+use Rattle.volap_cell.specs.{Cells.{cell_of, gate_shard}, Values.{actor_of, job_of}, declared.job.Job.Job}
+use Rattle.volap_cell.proofs.Cells.Boxed.{gated}
 use Rattle.core_admin.specs.FreezeDue.{BeginsCollecting}
-use Rattle.core_admin.proofs.Drains.{drained-makes, is-gate}
+use Rattle.core_admin.proofs.Collecting.Drains.{drained-makes, is-gate}
 use Rattle.core_admin.proofs.freezes.drained.Goals as goal
 
 pub unreachable-requires-in_default-gate : goal.unreachable-requires-in_default-gate

@@ -1,11 +1,8 @@
 use Rattle.std.proofs.Common.{Box, Global, ◌∙◌, option_map, refl, sym, ap, subst, IsSome, Some}
-use Rattle.volap_cell.specs.Cells.{GateCell, StockCell, cell_of, gate_shard}
-use Rattle.volap_cell.specs.Values.{actor_of, job_of}
+use Rattle.volap_cell.specs.{Cells.{GateCell, StockCell, cell_of, gate_shard}, Values.{actor_of, job_of}, declared.job.Job.Job}
 use Rattle.volap_cell.specs.declared.cell.Cell.TheVariants as cell
-use Rattle.volap_cell.specs.declared.job.Job.{Job}
-use Rattle.volap_cell.proofs.Boxed.{gated, same-box}
-use Rattle.volap_cell.proofs.Outcomes.{on-ok, on-err}
-use Rattle.core_admin.proofs.FreezesHere.{freeze-gate, freeze-makes, is-freezable}
+use Rattle.volap_cell.proofs.{Cells.Boxed.{gated, same-box}, Outcomes.{on-ok, on-err}}
+use Rattle.core_admin.proofs.Collecting.FreezesHere.{freeze-gate, freeze-makes, is-freezable}
 use Rattle.core_admin.proofs.freezes.freeze.Goals as goal
 
 pub unreachable-requires-in_default-gate : goal.unreachable-requires-in_default-gate

@@ -1,6 +1,6 @@
 use Rattle.std.proofs.Common.{subst, sym, ◌∙◌}
 use Rattle.core_admin.specs.FinishDue.{CanQueue}
-use Rattle.core_admin.proofs.SideRows.{side-queue}
+use Rattle.core_admin.proofs.Collecting.SideRows.{side-queue}
 use Rattle.core_admin.proofs.splits.child_gate.Goals as goal
 
 pub rows_on-requires-clause-rows : goal.rows_on-requires-clause-rows

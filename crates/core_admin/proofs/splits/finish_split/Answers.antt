@@ -1,17 +1,11 @@
 use Rattle.std.proofs.Common.{Box, Global, IsSome, Some, [], ap, option_map, refl, subst, sym, ℕ, ◌+◌, ◌<◌, ◌^◌, ◌≡◌, ◌∙◌, ◌∷◌}
 use Rattle.cell_stock.specs.Stock.{StockValue}
 use Rattle.shard_store.specs.declared.gate.Gate.{Gate}
-use Rattle.volap_cell.specs.Cells.{GateCell, LedgerCell, MapCell, RegistryCell, StockCell, cell_of, gate_shard}
-use Rattle.volap_cell.specs.Values.{actor_of, job_of}
-use Rattle.volap_cell.specs.World.{held}
+use Rattle.volap_cell.specs.{Cells.{GateCell, LedgerCell, MapCell, RegistryCell, StockCell, cell_of, gate_shard}, Values.{actor_of, job_of}, World.held, declared.job.Job.Job}
 use Rattle.volap_cell.specs.declared.cell.Cell.TheVariants as cell
-use Rattle.volap_cell.specs.declared.job.Job.{Job}
-use Rattle.volap_cell.proofs.Boxed.{gated, same-box}
-use Rattle.volap_cell.proofs.Outcomes.{as-err}
+use Rattle.volap_cell.proofs.{Cells.Boxed.{gated, same-box}, Outcomes.as-err}
 use Rattle.core_admin.specs.SplitDue.{DividesShard, MayDivideShard}
-use Rattle.core_admin.proofs.BuiltUp.{gate-there}
-use Rattle.core_admin.proofs.SplitMade.{split-makes}
-use Rattle.core_admin.proofs.SplitReady.{ids-few, may-divide, may-finish-split}
+use Rattle.core_admin.proofs.{Building.BuiltUp.gate-there, Splitting.SplitMade.split-makes, Splitting.SplitReady.{ids-few, may-divide, may-finish-split}}
 use Rattle.core_admin.proofs.splits.finish_split.Goals as goal
 
 pub unreachable-requires-in_default-gate : goal.unreachable-requires-in_default-gate

@@ -1,9 +1,8 @@
 use Rattle.std.proofs.Common.{List, ◌∙◌, ◌++◌, ap, refl}
 use Rattle.std.specs.Prelude.{reverse}
-use Rattle.volap_cell.specs.Values.{collecting_of}
-use Rattle.volap_cell.specs.declared.job.Unbuilt.{Unbuilt}
+use Rattle.volap_cell.specs.{Values.collecting_of, declared.job.Unbuilt.Unbuilt}
 use Rattle.core_admin.specs.BuildDue.{blocks_of}
-use Rattle.core_admin.proofs.MadeTrees.{one-made}
+use Rattle.core_admin.proofs.Building.MadeTrees.{one-made}
 use Rattle.core_admin.proofs.trees.one_tree.Goals as goal
 
 pub returns-clause-made : goal.returns-clause-made

@@ -1,8 +1,7 @@
-use Rattle.std.proofs.Common.{All, arith, subst, sym}
-use Rattle.std.proofs.lemmas.List.{take_all}
+use Rattle.std.proofs.{Common.{All, arith, subst, sym}, lemmas.List.take_all}
 use Rattle.dim_hierarchy.specs.Rows.{IsRowOf}
 use Rattle.shard_codec.specs.Spelled.{IsSpelled}
-use Rattle.core_admin.proofs.RowLists.{all-more}
+use Rattle.core_admin.proofs.Collecting.RowLists.{all-more}
 use Rattle.core_admin.proofs.trees.rows_fit.Goals as goal
 
 pub loop-row-preserved : goal.loop-row-preserved

@@ -1,6 +1,5 @@
 use Rattle.std.proofs.Common.{subst, sym}
-use Rattle.dim_hierarchy.specs.Row.{IsCoordOf}
-use Rattle.dim_hierarchy.specs.declared.row.Row.{Row}
+use Rattle.dim_hierarchy.specs.{Row.IsCoordOf, declared.row.Row.Row}
 use Rattle.core_admin.proofs.trees.rows_on.Goals as goal
 
 pub is_on-requires-clause-at : goal.is_on-requires-clause-at

@@ -1,17 +1,13 @@
-use Rattle.std.proofs.Common.{List, Some, All, ◌≡◌, ◌∙◌, ◌++◌, length, ap, arith, not, subst, sym}
+use Rattle.std.proofs.{Common.{List, Some, All, ◌≡◌, ◌∙◌, ◌++◌, length, ap, arith, not, subst, sym}, lemmas.List.Elements.All-filter}
 use Rattle.std.specs.Prelude.{reverse}
-use Rattle.std.proofs.lemmas.List.Elements.{All-filter}
 use Rattle.describing_set.specs.Plane.{goes_left}
-use Rattle.dim_hierarchy.specs.Rows.{IsRowOf}
-use Rattle.dim_hierarchy.specs.declared.row.Row.{Row}
+use Rattle.dim_hierarchy.specs.{Rows.IsRowOf, declared.row.Row.Row}
 use Rattle.link_descent.specs.declared.entered.Fresh.{Fresh}
 use Rattle.shard_plan.specs.Building.{cells_for}
 use Rattle.shard_plan.proofs.Levels.{cells_for-bound}
-use Rattle.volap_cell.specs.AdminKinds.{left_of, right_of}
-use Rattle.volap_cell.specs.Values.{collecting_of}
-use Rattle.volap_cell.specs.declared.job.Unbuilt.{Unbuilt}
+use Rattle.volap_cell.specs.{AdminKinds.{left_of, right_of}, Values.collecting_of, declared.job.Unbuilt.Unbuilt}
 use Rattle.core_admin.specs.BuildDue.{blocks_of}
-use Rattle.core_admin.proofs.MadeTrees.{sides-count, two-made}
+use Rattle.core_admin.proofs.Building.MadeTrees.{sides-count, two-made}
 use Rattle.core_admin.proofs.trees.two_trees.Goals as goal
 
 pub cells_for-requires : goal.cells_for-requires

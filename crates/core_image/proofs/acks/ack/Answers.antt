@@ -2,9 +2,8 @@ use Rattle.std.proofs.Common.{ℕ, length, None, true, ◌∙◌, refl, ap, sym,
 use Rattle.dim_hierarchy.specs.declared.row.Row.{Row}
 use Rattle.row_ledger.specs.LedgerValue.{LedgerValue}
 use Rattle.core_image.specs.Due.{CanBook, Books}
-use Rattle.volap_cell.specs.Cells.{DeskCell, ImageCell, LedgerCell, cell_of}
-use Rattle.volap_cell.specs.Values.{actor_of}
-use Rattle.core_image.proofs.Ready.{at-command, can-book, has-acked}
+use Rattle.volap_cell.specs.{Cells.{DeskCell, ImageCell, LedgerCell, cell_of}, Values.actor_of}
+use Rattle.core_image.proofs.Here.Ready.{at-command, can-book, has-acked}
 use Rattle.core_image.proofs.acks.ack.Goals as goal
 
 -- src/acks.rt:52:5

@@ -1,9 +1,8 @@
 use Rattle.std.proofs.Common.{ℕ, length, None, ◌∙◌, refl, ap, sym, subst}
 use Rattle.row_ledger.specs.LedgerValue.{LedgerValue}
 use Rattle.core_image.specs.Asking.{Gives}
-use Rattle.volap_cell.specs.Cells.{DeskCell, LedgerCell, cell_of}
-use Rattle.volap_cell.specs.Values.{actor_of}
-use Rattle.core_image.proofs.AnsweredHere.{at-query, can-give, has-answered}
+use Rattle.volap_cell.specs.{Cells.{DeskCell, LedgerCell, cell_of}, Values.actor_of}
+use Rattle.core_image.proofs.Here.AnsweredHere.{at-query, can-give, has-answered}
 use Rattle.core_image.proofs.answers.answer.Goals as goal
 
 -- src/answers.rt:40:5

@@ -1,16 +1,11 @@
 use Rattle.std.proofs.Common.{length, ap, option_map, subst, sym, ◌∙◌, refl}
-use Rattle.row_ledger.specs.LedgerValue.{LedgerValue}
-use Rattle.row_ledger.specs.declared.class.Class.{Class}
-use Rattle.volap_cell.specs.Cells.{LedgerCell, RegistryCell, cell_of}
-use Rattle.volap_cell.specs.Values.{actor_of, job_of}
+use Rattle.row_ledger.specs.{LedgerValue.LedgerValue, declared.class.Class.Class}
+use Rattle.volap_cell.specs.{Cells.{LedgerCell, RegistryCell, cell_of}, Values.{actor_of, job_of}}
 use Rattle.volap_cell.specs.declared.cell.Cell.TheVariants as cell
-use Rattle.volap_cell.proofs.Boxed.{same-box}
-use Rattle.volap_cell.proofs.Outcomes.{as-err}
-use Rattle.core_image.proofs.NotesAsk.{asking-makes}
+use Rattle.volap_cell.proofs.{Cells.Boxed.same-box, Outcomes.as-err}
+use Rattle.core_image.proofs.{Here.Telling.tells, Kinds.NotesAsk.asking-makes}
 use Rattle.core_image.proofs.asks.note_asking.Goals as goal
-use Rattle.core_image.specs.NotesDue.{Begins}
-use Rattle.core_image.specs.Told.{called_by}
-use Rattle.core_image.proofs.Telling.{tells}
+use Rattle.core_image.specs.{NotesDue.Begins, Told.called_by}
 
 pub returns-clause-made : goal.returns-clause-made
 returns-clause-made c =

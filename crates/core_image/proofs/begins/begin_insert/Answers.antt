@@ -1,16 +1,11 @@
-use Rattle.std.proofs.Common.{ℤ, ◌≡◌, length, refl, ap, sym, subst, ◌∙◌, rules, to_z, of_z, w64}
-use Rattle.std.proofs.lemmas.Int.{to_z-of_z}
-use Rattle.row_ledger.specs.declared.event.Event.TheVariants.{Begun}
+use Rattle.std.proofs.{Common.{ℤ, ◌≡◌, length, refl, ap, sym, subst, ◌∙◌, rules, to_z, of_z, w64}, lemmas.Int.to_z-of_z}
+use Rattle.row_ledger.specs.{LedgerValue.LedgerValue, declared.event.Event.TheVariants.Begun}
 use Rattle.core_image.specs.NotesDue.{Opens}
-use Rattle.row_ledger.specs.LedgerValue.{LedgerValue}
-use Rattle.volap_cell.specs.Cells.{ImageCell, LedgerCell, cell_of}
-use Rattle.volap_cell.specs.Values.{actor_of}
+use Rattle.volap_cell.specs.{Cells.{ImageCell, LedgerCell, cell_of}, Values.actor_of}
 use Rattle.volap_cell.specs.declared.cell.Cell.TheVariants as cell
-use Rattle.volap_cell.proofs.Boxed.{same-box}
-use Rattle.volap_cell.proofs.Outcomes.{as-err}
-use Rattle.core_image.proofs.BeginsInsert.{begin-makes}
+use Rattle.volap_cell.proofs.{Cells.Boxed.same-box, Outcomes.as-err}
+use Rattle.core_image.proofs.{Here.Telling.tells-begun, Kinds.BeginsInsert.begin-makes}
 use Rattle.core_image.proofs.begins.begin_insert.Goals as goal
-use Rattle.core_image.proofs.Telling.{tells-begun}
 
 -- src/begins.rt:19:1
 pub returns-clause-made : goal.returns-clause-made

@@ -1,11 +1,7 @@
 use Rattle.std.proofs.Common.{◌∷◌, length, ap, sym, subst, ◌∙◌, option_map}
-use Rattle.row_ledger.specs.LedgerValue.{LedgerValue}
-use Rattle.volap_cell.specs.Cells.{LedgerCell, cell_of}
-use Rattle.row_ledger.specs.declared.event.Event.TheVariants.{Left}
-use Rattle.volap_cell.specs.ImageKinds.{LeavesAs}
-use Rattle.volap_cell.specs.Values.{actor_of, job_of, stage_of}
-use Rattle.volap_cell.specs.declared.job.Job.{Job}
-use Rattle.core_image.proofs.NotesLeft.{left-makes, left-promised}
+use Rattle.row_ledger.specs.{LedgerValue.LedgerValue, declared.event.Event.TheVariants.Left}
+use Rattle.volap_cell.specs.{Cells.{LedgerCell, cell_of}, ImageKinds.LeavesAs, Values.{actor_of, job_of, stage_of}, declared.job.Job.Job}
+use Rattle.core_image.proofs.Kinds.NotesLeft.{left-makes, left-promised}
 use Rattle.core_image.proofs.left.note_left.Goals as goal
 
 pub push-requires : goal.push-requires

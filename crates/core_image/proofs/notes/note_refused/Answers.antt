@@ -1,14 +1,11 @@
 use Rattle.std.proofs.Common.{length, ap, sym, ◌∙◌, refl}
 use Rattle.row_ledger.specs.LedgerValue.{LedgerValue}
-use Rattle.volap_cell.specs.Cells.{LedgerCell, cell_of}
-use Rattle.volap_cell.specs.Values.{actor_of}
+use Rattle.volap_cell.specs.{Cells.{LedgerCell, cell_of}, Values.actor_of}
 use Rattle.volap_cell.specs.declared.cell.Cell.TheVariants as cell
-use Rattle.volap_cell.proofs.Boxed.{same-box}
-use Rattle.volap_cell.proofs.Outcomes.{as-err}
-use Rattle.core_image.proofs.NotesRefusal.{refused-makes}
+use Rattle.volap_cell.proofs.{Cells.Boxed.same-box, Outcomes.as-err}
+use Rattle.core_image.proofs.{Here.Telling.tells, Kinds.NotesRefusal.refused-makes}
 use Rattle.core_image.proofs.notes.note_refused.Goals as goal
 use Rattle.core_image.specs.Told.{refused_by}
-use Rattle.core_image.proofs.Telling.{tells}
 
 pub returns-clause-made : goal.returns-clause-made
 returns-clause-made c =

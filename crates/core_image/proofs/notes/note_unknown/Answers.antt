@@ -1,13 +1,10 @@
 use Rattle.std.proofs.Common.{length, ap, sym, ◌∙◌, refl}
 use Rattle.row_ledger.specs.LedgerValue.{LedgerValue}
-use Rattle.volap_cell.specs.Cells.{LedgerCell, cell_of}
-use Rattle.volap_cell.specs.Values.{actor_of}
+use Rattle.volap_cell.specs.{Cells.{LedgerCell, cell_of}, Values.actor_of}
 use Rattle.volap_cell.specs.declared.cell.Cell.TheVariants as cell
-use Rattle.volap_cell.proofs.Boxed.{same-box}
-use Rattle.volap_cell.proofs.Outcomes.{as-err}
-use Rattle.core_image.proofs.NotesRefusal.{unknown-makes}
+use Rattle.volap_cell.proofs.{Cells.Boxed.same-box, Outcomes.as-err}
+use Rattle.core_image.proofs.{Here.Telling.tells-unknown, Kinds.NotesRefusal.unknown-makes}
 use Rattle.core_image.proofs.notes.note_unknown.Goals as goal
-use Rattle.core_image.proofs.Telling.{tells-unknown}
 
 pub returns-clause-made : goal.returns-clause-made
 returns-clause-made c =

@@ -1,16 +1,10 @@
 use Rattle.std.proofs.Common.{length, ◌∙◌, refl, ap, sym}
 use Rattle.row_ledger.specs.LedgerValue.{LedgerValue}
-use Rattle.volap_cell.specs.Cells.{DeskCell, ImageCell, LedgerCell, cell_of}
-use Rattle.volap_cell.specs.ImageKinds.{doing}
-use Rattle.volap_cell.specs.Values.{actor_of}
+use Rattle.volap_cell.specs.{Cells.{DeskCell, ImageCell, LedgerCell, cell_of}, ImageKinds.doing, Values.actor_of, declared.command.Work.TheVariants.Query}
 use Rattle.volap_cell.specs.declared.cell.Cell.TheVariants as cell
-use Rattle.volap_cell.specs.declared.command.Work.TheVariants.{Query}
-use Rattle.volap_cell.proofs.Boxed.{same-box}
-use Rattle.volap_cell.proofs.Outcomes.{as-err}
-use Rattle.core_image.proofs.AskedHere.{can-ask, has-asked}
-use Rattle.core_image.proofs.Tagged.{desk-boxed, image-boxed, ledger-boxed}
+use Rattle.volap_cell.proofs.{Cells.Boxed.same-box, Outcomes.as-err}
+use Rattle.core_image.proofs.{Here.AskedHere.{can-ask, has-asked}, Here.Tagged.{desk-boxed, image-boxed, ledger-boxed}, Here.Telling.tells-asked}
 use Rattle.core_image.proofs.queries.begin_query.Goals as goal
-use Rattle.core_image.proofs.Telling.{tells-asked}
 
 -- src/queries.rt:46:9
 pub unreachable-requires : goal.unreachable-requires

@@ -1,13 +1,10 @@
 use Rattle.std.proofs.Common.{ℕ, refl, sym, ap, ◌∙◌, subst, false}
 use Rattle.dim_hierarchy.specs.declared.row.Row.{Row}
 use Rattle.core_image.specs.Routing.{CanLay, Lays}
-use Rattle.volap_cell.specs.Cells.{DeskCell, ImageCell, cell_of}
-use Rattle.volap_cell.specs.Values.{actor_of}
+use Rattle.volap_cell.specs.{Cells.{DeskCell, ImageCell, cell_of}, Values.actor_of}
 use Rattle.volap_cell.specs.declared.cell.Cell.TheVariants as cell
-use Rattle.volap_cell.proofs.Boxed.{same-box}
-use Rattle.volap_cell.proofs.Outcomes.{as-err}
-use Rattle.core_image.proofs.Ready.{at-command}
-use Rattle.core_image.proofs.Routed.{can-lay, has-routed}
+use Rattle.volap_cell.proofs.{Cells.Boxed.same-box, Outcomes.as-err}
+use Rattle.core_image.proofs.{Here.Ready.at-command, Here.Routed.{can-lay, has-routed}}
 use Rattle.core_image.proofs.routes.route.Goals as goal
 
 -- src/routes.rt:49:5

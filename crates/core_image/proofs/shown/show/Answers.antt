@@ -1,8 +1,6 @@
 use Rattle.std.proofs.Common.{◌≡◌, ℕ, Option, ap, sym, ◌∙◌}
 use Rattle.std.specs.Option.{option_map_or}
-use Rattle.volap_cell.specs.declared.command.Command.{Command}
-use Rattle.volap_cell.specs.ImageKinds.{doing}
-use Rattle.volap_cell.specs.Commands.{once_shown}
+use Rattle.volap_cell.specs.{Commands.once_shown, ImageKinds.doing, declared.command.Command.Command}
 use Rattle.core_image.proofs.shown.show.Goals as goal
 
 pub mark-requires : goal.mark-requires

@@ -1,11 +1,9 @@
 use Rattle.std.proofs.Common.{length, ◌∙◌, refl, ap, sym}
 use Rattle.row_ledger.specs.LedgerValue.{LedgerValue}
-use Rattle.volap_cell.specs.Cells.{ImageCell, LedgerCell, RegistryCell, cell_of}
-use Rattle.volap_cell.specs.Values.{actor_of}
+use Rattle.volap_cell.specs.{Cells.{ImageCell, LedgerCell, RegistryCell, cell_of}, Values.actor_of}
 use Rattle.volap_cell.specs.declared.cell.Cell.TheVariants as cell
-use Rattle.volap_cell.proofs.Boxed.{same-box}
-use Rattle.volap_cell.proofs.Outcomes.{as-err}
-use Rattle.core_image.proofs.SyncedHere.{can-pull, few-pulls, has-synced}
+use Rattle.volap_cell.proofs.{Cells.Boxed.same-box, Outcomes.as-err}
+use Rattle.core_image.proofs.Here.SyncedHere.{can-pull, few-pulls, has-synced}
 use Rattle.core_image.proofs.syncs.sync.Goals as goal
 
 -- src/syncs.rt:53:5

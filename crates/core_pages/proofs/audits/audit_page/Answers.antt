@@ -1,10 +1,8 @@
 use Rattle.std.proofs.Common.{List, Option, None, get_or, length, refl, sym, ◌∙◌, ap, subst}
 use Rattle.std.specs.Prelude.{IsSome}
 use Rattle.core_pages.specs.HeldLines.{registry_held}
-use Rattle.core_pages.proofs.HeldLines.{registry-is}
-use Rattle.core_pages.proofs.HeldRows.{audited-in, few-in, leads-in}
-use Rattle.volap_cell.specs.Setting.{registry_cell}
-use Rattle.volap_cell.specs.declared.cell.Cell.{Cell}
+use Rattle.core_pages.proofs.{HeldLines.registry-is, HeldRows.{audited-in, few-in, leads-in}}
+use Rattle.volap_cell.specs.{Setting.registry_cell, declared.cell.Cell.Cell}
 use Rattle.core_pages.proofs.audits.audit_page.Goals as goal
 
 pub registry_of-requires : goal.registry_of-requires

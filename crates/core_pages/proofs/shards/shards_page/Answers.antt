@@ -1,12 +1,8 @@
-use Rattle.std.proofs.Common.{List, Option, None, get_or, sym, ◌∙◌, ap, subst, refl}
-use Rattle.std.specs.List.{AllZip}
-use Rattle.std.specs.Prelude.{IsSome}
-use Rattle.std.proofs.lemmas.Result.{IfOk-weaker}
-use Rattle.core_pages.specs.HeldLines.{HasLine, registry_held}
-use Rattle.core_pages.specs.Seen.{AreSeenIn}
+use Rattle.std.proofs.{Common.{List, Option, None, get_or, sym, ◌∙◌, ap, subst, refl}, lemmas.Result.IfOk-weaker}
+use Rattle.std.specs.{List.AllZip, Prelude.IsSome}
+use Rattle.core_pages.specs.{HeldLines.{HasLine, registry_held}, Seen.AreSeenIn}
 use Rattle.core_pages.proofs.HeldLines.{gates-in, lines-in, registry-is}
-use Rattle.volap_cell.specs.Setting.{registry_cell}
-use Rattle.volap_cell.specs.declared.cell.Cell.{Cell}
+use Rattle.volap_cell.specs.{Setting.registry_cell, declared.cell.Cell.Cell}
 use Rattle.core_pages.proofs.shards.shards_page.Goals as goal
 
 pub registry_of-registry-requires : goal.registry_of-registry-requires

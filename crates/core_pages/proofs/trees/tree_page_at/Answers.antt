@@ -1,11 +1,9 @@
-use Rattle.std.proofs.Common.{List, Option, Some, None, get_or, ◌≡◌, sym, ◌∙◌, subst}
+use Rattle.std.proofs.{Common.{List, Option, Some, None, get_or, ◌≡◌, sym, ◌∙◌, subst}, lemmas.Result.IfOk-weaker}
 use Rattle.std.specs.Prelude.{IsSome}
-use Rattle.std.proofs.lemmas.Result.{IfOk-weaker}
 use Rattle.row_ledger.specs.declared.page.TreePage.{TreePage}
 use Rattle.tree_page.specs.Still.{CanShow}
 use Rattle.volap_cell.specs.declared.cell.Cell.{Cell}
-use Rattle.core_pages.specs.Held.{blocks_of, gate_held}
-use Rattle.core_pages.specs.Seen.{IsOfGate, IsSeenIn}
+use Rattle.core_pages.specs.{Held.{blocks_of, gate_held}, Seen.{IsOfGate, IsSeenIn}}
 use Rattle.core_pages.proofs.HeldTrees.{ShowsTree, IsMade, can-show, gate-there, ok-both, ok-shows, of-gate, seen-in}
 use Rattle.core_pages.proofs.trees.tree_page_at.Goals as goal
 

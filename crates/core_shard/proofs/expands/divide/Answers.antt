@@ -1,6 +1,5 @@
-use Rattle.std.proofs.Common.{Some, sym, ap, ◌∙◌}
+use Rattle.std.proofs.{Common.{Some, sym, ap, ◌∙◌}, lemmas.Result.on_ok_weaker}
 use Rattle.std.specs.Prelude.{option_copied}
-use Rattle.std.proofs.lemmas.Result.{on_ok_weaker}
 use Rattle.core_shard.proofs.ExpandReady.{divided-row}
 use Rattle.core_shard.proofs.expands.divide.Goals as goal
 

@@ -1,10 +1,8 @@
 use Rattle.std.proofs.Common.{option_map, sym, ap, ◌∙◌, subst, refl}
 use Rattle.list_words.proofs.Elements.{Some-same}
-use Rattle.volap_cell.specs.Cells.{DeskCell, MapCell, cell_of}
-use Rattle.volap_cell.specs.Values.{ErrandValue, actor_of, errand_of}
+use Rattle.volap_cell.specs.{Cells.{DeskCell, MapCell, cell_of}, Values.{ErrandValue, actor_of, errand_of}}
 use Rattle.volap_cell.specs.declared.cell.Cell.TheVariants as cell
-use Rattle.volap_cell.proofs.Boxed.{same-box}
-use Rattle.volap_cell.proofs.Outcomes.{on-err}
+use Rattle.volap_cell.proofs.{Cells.Boxed.same-box, Outcomes.on-err}
 use Rattle.core_shard.specs.Due.{Divides}
 use Rattle.core_shard.proofs.ExpandReady.{can-divide, expand-makes, on-both}
 use Rattle.core_shard.proofs.expands.expand.Goals as goal

@@ -1,7 +1,6 @@
 use Rattle.std.proofs.Common.{option_map, sym, ap, ◌∙◌, subst, refl}
 use Rattle.list_words.proofs.Elements.{Some-same}
-use Rattle.volap_cell.specs.Cells.{DeskCell, cell_of}
-use Rattle.volap_cell.specs.Values.{ErrandValue, actor_of, errand_of}
+use Rattle.volap_cell.specs.{Cells.{DeskCell, cell_of}, Values.{ErrandValue, actor_of, errand_of}}
 use Rattle.core_shard.specs.Due.{CanEnd, Ends}
 use Rattle.core_shard.proofs.FinishReady.{can-end, finish-makes, gate-pinned}
 use Rattle.core_shard.proofs.finishes.finish_part.Goals as goal

@@ -1,7 +1,6 @@
 use Rattle.std.proofs.Common.{option_map, sym, ap, ◌∙◌, subst, refl}
 use Rattle.list_words.proofs.Elements.{Some-same}
-use Rattle.volap_cell.specs.Cells.{DeskCell, MapCell, cell_of}
-use Rattle.volap_cell.specs.Values.{ErrandValue, actor_of, errand_of}
+use Rattle.volap_cell.specs.{Cells.{DeskCell, MapCell, cell_of}, Values.{ErrandValue, actor_of, errand_of}}
 use Rattle.core_shard.specs.Due.{CanSend, Sends}
 use Rattle.core_shard.proofs.ForwardReady.{can-send, forward-makes}
 use Rattle.core_shard.proofs.forwards.forward.Goals as goal

@@ -1,6 +1,5 @@
 use Rattle.std.proofs.Common.{option_map, ap, ◌∙◌, refl}
-use Rattle.volap_cell.specs.Cells.{cell_of}
-use Rattle.volap_cell.specs.Values.{actor_of, errand_of}
+use Rattle.volap_cell.specs.{Cells.cell_of, Values.{actor_of, errand_of}}
 use Rattle.core_shard.proofs.NotesHeights.{height-noted, its-gate, look-makes}
 use Rattle.core_shard.proofs.looks.look_up.Goals as goal
 

@@ -1,9 +1,7 @@
 use Rattle.std.proofs.Common.{Some, option_map, sym, ap, ◌∙◌, subst, ◌≡◌}
 use Rattle.std.specs.Prelude.{position}
 use Rattle.query_router.specs.Desk.{DeskValue, IsAt, is_waiting}
-use Rattle.volap_cell.specs.Cells.{DeskCell, cell_of}
-use Rattle.volap_cell.specs.ShardKinds.{may_take}
-use Rattle.volap_cell.specs.Values.{actor_of, errand_of}
+use Rattle.volap_cell.specs.{Cells.{DeskCell, cell_of}, ShardKinds.may_take, Values.{actor_of, errand_of}}
 use Rattle.core_shard.proofs.TakenReady.{take-makes, waiting-at}
 use Rattle.core_shard.proofs.takes.take_part.Goals as goal
 

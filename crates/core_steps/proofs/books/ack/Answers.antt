@@ -1,11 +1,8 @@
 use Rattle.std.proofs.Common.{List, [], ◌∷◌, refl}
 use Rattle.core_steps.specs.Asked.{Acks}
-use Rattle.volap_cell.specs.State.{Exchange, exchange}
-use Rattle.volap_cell.specs.declared.kind.Kind.TheVariants.{Ack}
-use Rattle.volap_cell.proofs.States.{drives}
-use Rattle.core_steps.proofs.Ready.{can-lift, can-step, lent-is, may-hold, put-over, step-here}
-use Rattle.core_steps.proofs.Adding.{adds-quiet}
-use Rattle.core_steps.proofs.Quiet.{ack-ends}
+use Rattle.volap_cell.specs.{State.{Exchange, exchange}, declared.kind.Kind.TheVariants.Ack}
+use Rattle.volap_cell.proofs.Cells.States.{drives}
+use Rattle.core_steps.proofs.{Adding.adds-quiet, Quiet.ack-ends, Ready.{can-lift, can-step, lent-is, may-hold, put-over, step-here}}
 use Rattle.core_steps.proofs.books.ack.Goals as goal
 
 pub lift_three-desk-requires : goal.lift_three-desk-requires

@@ -1,15 +1,8 @@
-use Rattle.std.proofs.Common.{ℤ, ◌≡◌, List, [], ◌∷◌, refl, subst, rules, to_z, of_z, w64}
-use Rattle.std.proofs.lemmas.Int.{to_z-of_z}
-use Rattle.volap_cell.specs.Cells.{cell_of}
-use Rattle.volap_cell.specs.Values.{actor_of}
+use Rattle.std.proofs.{Common.{ℤ, ◌≡◌, List, [], ◌∷◌, refl, subst, rules, to_z, of_z, w64}, lemmas.Int.to_z-of_z}
+use Rattle.volap_cell.specs.{Cells.cell_of, State.{Exchange, exchange}, Values.actor_of, declared.kind.Kind.TheVariants.BeginInsert}
 use Rattle.core_steps.specs.AskedBooks.{BeginsInsert}
-use Rattle.volap_cell.specs.State.{Exchange, exchange}
-use Rattle.volap_cell.specs.declared.kind.Kind.TheVariants.{BeginInsert}
-use Rattle.volap_cell.proofs.States.{drives}
-use Rattle.volap_cell.proofs.Outcomes.{on-ok, on-err}
-use Rattle.core_steps.proofs.Ready.{can-lift, can-step, lent-is, may-hold, put-over, step-here}
-use Rattle.core_steps.proofs.Staying.{stays-so}
-use Rattle.core_steps.proofs.Adding.{adds}
+use Rattle.volap_cell.proofs.{Cells.States.drives, Outcomes.{on-ok, on-err}}
+use Rattle.core_steps.proofs.{Adding.adds, Ready.{can-lift, can-step, lent-is, may-hold, put-over, step-here}, Staying.stays-so}
 use Rattle.core_image.specs.Told.{Tells, begun_by}
 use Rattle.core_steps.proofs.books.begin_insert.Goals as goal
 

@@ -1,11 +1,8 @@
 use Rattle.std.proofs.Common.{List, [], ◌∷◌, refl}
 use Rattle.core_steps.specs.AskedNotes.{FailsQuery}
-use Rattle.volap_cell.specs.State.{Exchange, exchange}
-use Rattle.volap_cell.specs.declared.kind.Kind.TheVariants.{Note}
-use Rattle.volap_cell.proofs.States.{drives}
-use Rattle.core_steps.proofs.Ready.{can-lift, can-step, lent-is, may-hold, put-over, step-here}
-use Rattle.core_steps.proofs.Adding.{adds-quiet}
-use Rattle.core_steps.proofs.Quiet.{unrouted-ends}
+use Rattle.volap_cell.specs.{State.{Exchange, exchange}, declared.kind.Kind.TheVariants.Note}
+use Rattle.volap_cell.proofs.Cells.States.{drives}
+use Rattle.core_steps.proofs.{Adding.adds-quiet, Quiet.unrouted-ends, Ready.{can-lift, can-step, lent-is, may-hold, put-over, step-here}}
 use Rattle.core_steps.proofs.fails.fail_query.Goals as goal
 
 pub lift_two-desk-requires : goal.lift_two-desk-requires

@@ -1,5 +1,5 @@
 use Rattle.core_steps.specs.HeldIf.{number_of}
-use Rattle.volap_cell.proofs.Lifting.{lift-others, lift-some}
+use Rattle.volap_cell.proofs.Cells.Lifting.{lift-others, lift-some}
 use Rattle.volap_cell.specs.State.{cell_if}
 use Rattle.core_steps.proofs.AtTimes.{if-number, stand-both, taken-both}
 use Rattle.core_steps.proofs.held.lift_both.Goals as goal

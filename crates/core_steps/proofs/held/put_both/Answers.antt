@@ -1,9 +1,8 @@
 use Rattle.std.proofs.Common.{◌<◌, subst, sym, ℕ}
 use Rattle.list_words.proofs.Each.{each-left, each-right}
 use Rattle.list_words.specs.Counts.{Each}
-use Rattle.volap_cell.proofs.Lifting.{long-back}
-use Rattle.volap_cell.specs.State.{cell_if}
-use Rattle.volap_cell.specs.declared.cell.Cell.{Cell}
+use Rattle.volap_cell.proofs.Cells.Lifting.{long-back}
+use Rattle.volap_cell.specs.{State.cell_if, declared.cell.Cell.Cell}
 use Rattle.core_steps.proofs.AtTimes.{given-both}
 use Rattle.core_steps.proofs.held.put_both.Goals as goal
 

@@ -1,7 +1,5 @@
-use Rattle.core_steps.proofs.Sights.{over-sight}
+use Rattle.core_steps.proofs.{Lent.{can-lent, here-lent, lent, quiet-lent, steps-lent}, Quiet.noted-ends, Sights.over-sight}
 use Rattle.volap_cell.specs.Values.{actor_of}
-use Rattle.core_steps.proofs.Quiet.{noted-ends}
-use Rattle.core_steps.proofs.Lent.{can-lent, here-lent, lent, quiet-lent, steps-lent}
 use Rattle.core_steps.proofs.notes.note_ended.Goals as goal
 
 pub note_ended-requires-clause-here : goal.note_ended-requires-clause-here

@@ -1,7 +1,5 @@
-use Rattle.core_steps.proofs.Sights.{left-sight}
+use Rattle.core_steps.proofs.{Lent.{can-lent, here-lent, lent, quiet-lent, steps-lent}, Quiet.noted-ends, Sights.left-sight}
 use Rattle.volap_cell.specs.Values.{actor_of}
-use Rattle.core_steps.proofs.Quiet.{noted-ends}
-use Rattle.core_steps.proofs.Lent.{can-lent, here-lent, lent, quiet-lent, steps-lent}
 use Rattle.core_steps.proofs.notes.note_left.Goals as goal
 
 pub note_left-requires-clause-here : goal.note_left-requires-clause-here

@@ -1,8 +1,7 @@
-use Rattle.core_steps.proofs.Sights.{free-sight}
+use Rattle.core_steps.proofs.{Lent.{adds-lent, can-lent, here-lent, lent, stays-lent, steps-lent}, Sights.free-sight}
 use Rattle.volap_cell.specs.Values.{actor_of}
 use Rattle.core_image.specs.Told.{unknown_by}
 use Rattle.volap_cell.proofs.Outcomes.{on-err, on-ok}
-use Rattle.core_steps.proofs.Lent.{adds-lent, can-lent, here-lent, lent, stays-lent, steps-lent}
 use Rattle.core_steps.proofs.notes.note_unknown.Goals as goal
 
 pub note_unknown-requires-clause-here : goal.note_unknown-requires-clause-here

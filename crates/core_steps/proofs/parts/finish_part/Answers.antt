@@ -1,14 +1,8 @@
 use Rattle.std.proofs.Common.{◌∙◌, List, [], ◌∷◌, ◌++◌, Option, refl, subst}
-use Rattle.core_steps.specs.AskedParts.{EndsAt, FinishesPart}
-use Rattle.core_steps.specs.HeldIf.{first_if, number_of}
-use Rattle.volap_cell.specs.Cells.{CellValue, cell_of}
-use Rattle.volap_cell.specs.State.{Exchange, cell_if, exchange, exchange_if}
-use Rattle.volap_cell.specs.Values.{actor_of}
-use Rattle.volap_cell.specs.World.{change, held}
-use Rattle.volap_cell.specs.declared.kind.Kind.TheVariants.{FinishPart}
-use Rattle.volap_cell.proofs.Lifting.{drives-as, if-before, if-changes, if-now, if-numbers, if-still, if-within, long-back, long-out}
-use Rattle.core_steps.proofs.Ready.{lent-is, put-over, values_in}
-use Rattle.core_steps.proofs.AtTimes.{can-out, first-is, given-both, here-out, hold-out, joined, out-both, out-if}
+use Rattle.core_steps.specs.{AskedParts.{EndsAt, FinishesPart}, HeldIf.{first_if, number_of}}
+use Rattle.volap_cell.specs.{Cells.{CellValue, cell_of}, State.{Exchange, cell_if, exchange, exchange_if}, Values.actor_of, World.{change, held}, declared.kind.Kind.TheVariants.FinishPart}
+use Rattle.volap_cell.proofs.Cells.Lifting.{drives-as, if-before, if-changes, if-now, if-numbers, if-still, if-within, long-back, long-out}
+use Rattle.core_steps.proofs.{AtTimes.{can-out, first-is, given-both, here-out, hold-out, joined, out-both, out-if}, Ready.{lent-is, put-over, values_in}}
 use Rattle.core_steps.proofs.parts.finish_part.Goals as goal
 
 pub finish_part-requires-clause-here : goal.finish_part-requires-clause-here

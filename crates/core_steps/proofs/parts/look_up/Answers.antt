@@ -1,8 +1,7 @@
 use Rattle.std.proofs.Common.{List, [], ◌∷◌, refl}
 use Rattle.core_steps.specs.AskedParts.{LooksUp}
-use Rattle.volap_cell.specs.State.{Exchange, exchange}
-use Rattle.volap_cell.specs.declared.kind.Kind.TheVariants.{LookUp}
-use Rattle.volap_cell.proofs.States.{drives}
+use Rattle.volap_cell.specs.{State.{Exchange, exchange}, declared.kind.Kind.TheVariants.LookUp}
+use Rattle.volap_cell.proofs.Cells.States.{drives}
 use Rattle.core_steps.proofs.Ready.{can-lift, can-step, lent-is, may-hold, put-over, step-here}
 use Rattle.core_steps.proofs.parts.look_up.Goals as goal
 

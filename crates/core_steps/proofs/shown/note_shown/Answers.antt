@@ -1,7 +1,6 @@
-use Rattle.core_steps.proofs.PageSights.{shown-sight}
+use Rattle.core_steps.proofs.{Lent.{adds-lent, can-lent, here-lent, lent, steps-lent}, PageSights.shown-sight}
 use Rattle.volap_cell.specs.Values.{actor_of}
 use Rattle.core_image.specs.ToldPages.{shown_by}
-use Rattle.core_steps.proofs.Lent.{adds-lent, can-lent, here-lent, lent, steps-lent}
 use Rattle.core_steps.proofs.shown.note_shown.Goals as goal
 
 pub note_shown-requires-clause-here : goal.note_shown-requires-clause-here

@@ -1,18 +1,11 @@
 use Rattle.std.proofs.Common.{◌∙◌, ℕ, ◌<◌, List, [], ◌∷◌, ◌++◌, Option, ap, refl, subst, sym}
 use Rattle.std.specs.Prelude.{option_map}
-use Rattle.core_steps.specs.AskedParts.{GoesDown}
-use Rattle.core_steps.specs.HeldIf.{first_if, number_of, rest_if}
+use Rattle.core_steps.specs.{AskedParts.GoesDown, HeldIf.{first_if, number_of, rest_if}}
 use Rattle.core_tree.specs.Descent.{CanDown, two_if}
 use Rattle.list_words.specs.Counts.{Each}
-use Rattle.volap_cell.specs.Cells.{CellValue, cell_of}
-use Rattle.volap_cell.specs.State.{Exchange, cell_if, exchange, exchange_if}
-use Rattle.volap_cell.specs.Values.{actor_of}
-use Rattle.volap_cell.specs.World.{Change, change, held, held_if}
-use Rattle.volap_cell.specs.declared.cell.Cell.{Cell}
-use Rattle.volap_cell.specs.declared.kind.Kind.TheVariants.{Down}
-use Rattle.volap_cell.proofs.Lifting.{drives-as, if-before, if-changes, if-now, if-numbers, if-still, if-within, lift-others, lift-some, long-back, long-out}
-use Rattle.core_steps.proofs.Ready.{can-lift, lent-is, put-over, values_in}
-use Rattle.core_steps.proofs.AtTimes.{behind-two, can-out, first-of-two, given-both, here-out, hold-out, in-two, joined, only-is, out-both, out-if, out-two, second-of-two}
+use Rattle.volap_cell.specs.{Cells.{CellValue, cell_of}, State.{Exchange, cell_if, exchange, exchange_if}, Values.actor_of, World.{Change, change, held, held_if}, declared.cell.Cell.Cell, declared.kind.Kind.TheVariants.Down}
+use Rattle.volap_cell.proofs.Cells.Lifting.{drives-as, if-before, if-changes, if-now, if-numbers, if-still, if-within, lift-others, lift-some, long-back, long-out}
+use Rattle.core_steps.proofs.{AtTimes.{behind-two, can-out, first-of-two, given-both, here-out, hold-out, in-two, joined, only-is, out-both, out-if, out-two, second-of-two}, Ready.{can-lift, lent-is, put-over, values_in}}
 use Rattle.core_steps.proofs.trees.down.Goals as goal
 
 pub lift_two-parent-requires : goal.lift_two-parent-requires

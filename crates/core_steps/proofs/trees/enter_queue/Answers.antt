@@ -1,11 +1,8 @@
 use Rattle.std.proofs.Common.{List, [], ◌∷◌, refl}
 use Rattle.core_steps.specs.AskedParts.{EntersQueue}
-use Rattle.volap_cell.specs.State.{Exchange, exchange}
-use Rattle.volap_cell.specs.declared.kind.Kind.TheVariants.{EnterQueue}
-use Rattle.volap_cell.proofs.States.{drives}
-use Rattle.volap_cell.proofs.Outcomes.{on-ok, on-err}
-use Rattle.core_steps.proofs.Ready.{can-lift, can-step, lent-is, may-hold, put-over, step-here}
-use Rattle.core_steps.proofs.Staying.{stays-so}
+use Rattle.volap_cell.specs.{State.{Exchange, exchange}, declared.kind.Kind.TheVariants.EnterQueue}
+use Rattle.volap_cell.proofs.{Cells.States.drives, Outcomes.{on-ok, on-err}}
+use Rattle.core_steps.proofs.{Ready.{can-lift, can-step, lent-is, may-hold, put-over, step-here}, Staying.stays-so}
 use Rattle.core_steps.proofs.trees.enter_queue.Goals as goal
 
 pub lift_two-map-requires : goal.lift_two-map-requires

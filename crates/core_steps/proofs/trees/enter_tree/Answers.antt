@@ -1,18 +1,11 @@
 use Rattle.std.proofs.Common.{◌∙◌, ℕ, ◌<◌, List, [], ◌∷◌, ◌++◌, Option, ap, refl, subst, sym}
 use Rattle.std.specs.Prelude.{option_map}
-use Rattle.core_steps.specs.AskedParts.{EntersTree}
-use Rattle.core_steps.specs.HeldIf.{first_if, number_of, rest_if}
+use Rattle.core_steps.specs.{AskedParts.EntersTree, HeldIf.{first_if, number_of, rest_if}}
 use Rattle.core_tree.specs.Descent.{CanEnterTree, two_if}
 use Rattle.list_words.specs.Counts.{Each}
-use Rattle.volap_cell.specs.Cells.{CellValue, cell_of}
-use Rattle.volap_cell.specs.State.{Exchange, cell_if, exchange, exchange_if}
-use Rattle.volap_cell.specs.Values.{actor_of}
-use Rattle.volap_cell.specs.World.{Change, change, held}
-use Rattle.volap_cell.specs.declared.cell.Cell.{Cell}
-use Rattle.volap_cell.specs.declared.kind.Kind.TheVariants.{EnterTree}
-use Rattle.volap_cell.proofs.Lifting.{drives-as, if-before, if-changes, if-now, if-numbers, if-still, lift-others, lift-some, long-back, long-out}
-use Rattle.core_steps.proofs.Ready.{can-lift, lent-is, put-over, values_in}
-use Rattle.core_steps.proofs.AtTimes.{behind-two, can-out, first-is, first-of-two, given-both, here-out, hold-out, in-two, joined, only-is, out-both, out-two, second-of-two}
+use Rattle.volap_cell.specs.{Cells.{CellValue, cell_of}, State.{Exchange, cell_if, exchange, exchange_if}, Values.actor_of, World.{Change, change, held}, declared.cell.Cell.Cell, declared.kind.Kind.TheVariants.EnterTree}
+use Rattle.volap_cell.proofs.Cells.Lifting.{drives-as, if-before, if-changes, if-now, if-numbers, if-still, lift-others, lift-some, long-back, long-out}
+use Rattle.core_steps.proofs.{AtTimes.{behind-two, can-out, first-is, first-of-two, given-both, here-out, hold-out, in-two, joined, only-is, out-both, out-two, second-of-two}, Ready.{can-lift, lent-is, put-over, values_in}}
 use Rattle.core_steps.proofs.trees.enter_tree.Goals as goal
 
 pub lift_three-map-requires : goal.lift_three-map-requires

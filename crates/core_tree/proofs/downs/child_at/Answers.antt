@@ -1,5 +1,4 @@
-use Rattle.std.proofs.Common.{ℕ, ◌<◌, ◌≡◌, Some, slice_get, get_or, length, List, ap, subst, refl, arith}
-use Rattle.std.proofs.lemmas.Option.{slice_get-get_or}
+use Rattle.std.proofs.{Common.{ℕ, ◌<◌, ◌≡◌, Some, slice_get, get_or, length, List, ap, subst, refl, arith}, lemmas.Option.slice_get-get_or}
 use Rattle.dc_node.specs.declared.entry.Entry.{Entry}
 use Rattle.core_tree.proofs.downs.child_at.Goals as goal
 

@@ -1,20 +1,10 @@
 use Rattle.std.proofs.Common.{◌∙◌, ◌≡◌, List, map, option_map, refl, ap, sym, subst}
-use Rattle.dc_node.specs.Block.{entries_in, is_full}
-use Rattle.dc_node.specs.declared.block.Block.{Block}
-use Rattle.dc_node.specs.declared.entry.Entry.{Entry}
+use Rattle.dc_node.specs.{Block.{entries_in, is_full}, declared.block.Block.Block, declared.entry.Entry.Entry}
 use Rattle.link_descent.specs.Pick.{IsPick}
-use Rattle.volap_cell.specs.Cells.{cell_of, block_in}
-use Rattle.volap_cell.specs.NewBlocks.{WentDown}
-use Rattle.volap_cell.specs.TreeKinds.{HasRow, blocks_of}
-use Rattle.volap_cell.specs.Values.{actor_of, errand_of, task_of}
-use Rattle.volap_cell.specs.World.{held_if}
-use Rattle.volap_cell.specs.declared.cell.Cell.{Cell}
-use Rattle.volap_cell.specs.declared.errand.Way.TheVariants.{Carried}
-use Rattle.volap_cell.proofs.Boxed.{boxed}
+use Rattle.volap_cell.specs.{Cells.{cell_of, block_in}, NewBlocks.WentDown, TreeKinds.{HasRow, blocks_of}, Values.{actor_of, errand_of, task_of}, World.held_if, declared.cell.Cell.Cell, declared.errand.Way.TheVariants.Carried}
+use Rattle.volap_cell.proofs.Cells.Boxed.{boxed}
 use Rattle.core_tree.specs.Descent.{AreForNew, CanStep, blocks_if, two_if}
-use Rattle.core_tree.proofs.Behind.{tail-are, held-blocks, held-down, new-down, some-mapped}
-use Rattle.core_tree.proofs.Carriers.{carried-way, must-at}
-use Rattle.core_tree.proofs.GoesDown.{given-down, down-makes, picked-for}
+use Rattle.core_tree.proofs.{Calls.Behind.{tail-are, held-blocks, held-down, new-down, some-mapped}, Calls.GoesDown.{given-down, down-makes, picked-for}, Rows.Carriers.{carried-way, must-at}}
 use Rattle.core_tree.proofs.downs.down.Goals as goal
 
 pub unreachable-requires-in_default-child : goal.unreachable-requires-in_default-child

@@ -1,14 +1,9 @@
 use Rattle.std.proofs.Common.{◌≡◌, ◌+◌, ◌<◌, ◌^◌, ◌++◌, ◌∙◌, false, List, All, Some, option_map, refl, sym, ap, subst, arith}
-use Rattle.dc_node.specs.Block.{is_full, entries_in, IsBodyOf}
-use Rattle.dc_node.specs.Summary.{row_count}
-use Rattle.dc_node.specs.declared.block.Block.{Block}
-use Rattle.dc_node.specs.declared.entry.Entry.{Entry}
-use Rattle.link_descent.specs.Divide.{together}
-use Rattle.link_descent.specs.Pass.{passed}
-use Rattle.volap_cell.specs.Cells.{cell_of}
-use Rattle.volap_cell.specs.NewBlocks.{WentDown}
+use Rattle.dc_node.specs.{Block.{is_full, entries_in, IsBodyOf}, Summary.row_count, declared.block.Block.Block, declared.entry.Entry.Entry}
+use Rattle.link_descent.specs.{Divide.together, Pass.passed}
+use Rattle.volap_cell.specs.{Cells.cell_of, NewBlocks.WentDown}
 use Rattle.core_tree.specs.Descent.{block_if, blocks_if}
-use Rattle.core_tree.proofs.GoesDown.{if-at}
+use Rattle.core_tree.proofs.Calls.GoesDown.{if-at}
 use Rattle.core_tree.proofs.downs.step.Goals as goal
 
 pub returns-then-not-is_full : goal.returns-then-not-is_full

@@ -1,16 +1,10 @@
 use Rattle.std.proofs.Common.{◌∙◌, ◌≡◌, List, Some, option_map, refl, ap, sym, subst}
-use Rattle.dc_node.specs.Block.{is_full}
-use Rattle.dc_node.specs.declared.block.Block.{Block}
+use Rattle.dc_node.specs.{Block.is_full, declared.block.Block.Block}
 use Rattle.shard_store.specs.declared.gate.Gate.{Gate}
-use Rattle.volap_cell.specs.Cells.{GateCell, cell_of, block_in}
-use Rattle.volap_cell.specs.TreeKinds.{HasRow, blocks_of}
-use Rattle.volap_cell.specs.Values.{ErrandValue, OfRow, actor_of, errand_of, task_of}
-use Rattle.volap_cell.specs.declared.cell.Cell.{Cell}
-use Rattle.volap_cell.specs.declared.errand.RowErrand.{RowErrand}
-use Rattle.volap_cell.proofs.Boxed.{boxed}
+use Rattle.volap_cell.specs.{Cells.{GateCell, cell_of, block_in}, TreeKinds.{HasRow, blocks_of}, Values.{ErrandValue, OfRow, actor_of, errand_of, task_of}, declared.cell.Cell.Cell, declared.errand.RowErrand.RowErrand}
+use Rattle.volap_cell.proofs.Cells.Boxed.{boxed}
 use Rattle.core_tree.specs.Descent.{AreForNew, CanComeIn, CameIn, blocks_if, two_if}
-use Rattle.core_tree.proofs.Behind.{tail-are, held-blocks, some-mapped}
-use Rattle.core_tree.proofs.GoesIn.{given-in, enter-makes, new-in, held-in}
+use Rattle.core_tree.proofs.{Calls.Behind.{tail-are, held-blocks, some-mapped}, Calls.GoesIn.{given-in, enter-makes, new-in, held-in}}
 use Rattle.core_tree.proofs.enters.enter_tree.Goals as goal
 
 pub unreachable-requires-in_default-root : goal.unreachable-requires-in_default-root

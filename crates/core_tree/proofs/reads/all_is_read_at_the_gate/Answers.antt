@@ -1,4 +1,4 @@
-use Rattle.core_tree.proofs.OfAll.{of-all}
+use Rattle.core_tree.proofs.Queries.OfAll.{of-all}
 use Rattle.core_tree.proofs.reads.all_is_read_at_the_gate.Goals as goal
 
 pub returns : goal.returns

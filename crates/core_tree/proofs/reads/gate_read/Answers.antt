@@ -1,12 +1,10 @@
 use Rattle.std.proofs.Common.{◌≡◌, ◌∙◌, option_map, refl, sym, ap, subst, Some}
 use Rattle.shard_store.specs.declared.gate.Gate.{Gate}
-use Rattle.volap_cell.specs.Cells.{GateCell, cell_of}
-use Rattle.volap_cell.specs.Values.{actor_of, errand_of}
+use Rattle.volap_cell.specs.{Cells.{GateCell, cell_of}, Values.{actor_of, errand_of}}
 use Rattle.volap_cell.specs.declared.cell.Cell.TheVariants as cell
-use Rattle.volap_cell.proofs.Boxed.{same-box}
-use Rattle.volap_cell.proofs.Outcomes.{on-ok, on-err}
+use Rattle.volap_cell.proofs.{Cells.Boxed.same-box, Outcomes.{on-ok, on-err}}
 use Rattle.core_tree.specs.ReadDue.{IsAtGate, BeginsFor}
-use Rattle.core_tree.proofs.GateDue.{boxed-gate, is-at-gate, read-makes}
+use Rattle.core_tree.proofs.Calls.GateDue.{boxed-gate, is-at-gate, read-makes}
 use Rattle.core_tree.proofs.reads.gate_read.Goals as goal
 
 pub unreachable-requires-in_default-gate : goal.unreachable-requires-in_default-gate

@@ -1,12 +1,9 @@
 use Rattle.std.proofs.Common.{◌∙◌, ap, option_map, refl, subst, sym, ℕ, Option, ◌+◌}
-use Rattle.volap_cell.specs.Cells.{StockCell, cell_of}
-use Rattle.volap_cell.specs.Values.{actor_of, errand_of, task_of}
+use Rattle.volap_cell.specs.{Cells.{StockCell, cell_of}, Values.{actor_of, errand_of, task_of}, declared.errand.Way.TheVariants.Before}
 use Rattle.volap_cell.specs.declared.cell.Cell.TheVariants as cell
-use Rattle.volap_cell.specs.declared.errand.Way.TheVariants.{Before}
-use Rattle.volap_cell.proofs.Boxed.{same-box}
-use Rattle.volap_cell.proofs.Outcomes.{as-err}
+use Rattle.volap_cell.proofs.{Cells.Boxed.same-box, Outcomes.as-err}
 use Rattle.core_tree.specs.DueAtGates.{IsRefilled}
-use Rattle.core_tree.proofs.FillsPurse.{can-give, refill-makes}
+use Rattle.core_tree.proofs.Kinds.FillsPurse.{can-give, refill-makes}
 use Rattle.core_tree.proofs.refills.refill.Goals as goal
 
 pub exchange-requires-clause-out : goal.exchange-requires-clause-out

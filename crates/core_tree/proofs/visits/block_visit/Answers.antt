@@ -1,12 +1,9 @@
 use Rattle.std.proofs.Common.{◌≡◌, ◌∙◌, option_map, refl, sym, ap, subst}
 use Rattle.dc_node.specs.declared.block.Block.{Block}
-use Rattle.volap_cell.specs.Cells.{block_in, cell_of}
-use Rattle.volap_cell.specs.Values.{actor_of, errand_of}
-use Rattle.volap_cell.specs.declared.cell.Cell.{Cell}
-use Rattle.volap_cell.proofs.Boxed.{boxed}
+use Rattle.volap_cell.specs.{Cells.{block_in, cell_of}, Values.{actor_of, errand_of}, declared.cell.Cell.Cell}
+use Rattle.volap_cell.proofs.{Cells.Boxed.boxed, Outcomes.on-ok}
 use Rattle.core_tree.specs.ReadDue.{IsAtBlock, VisitsFor}
-use Rattle.volap_cell.proofs.Outcomes.{on-ok}
-use Rattle.core_tree.proofs.VisitsBlock.{is-at-block, visit-makes}
+use Rattle.core_tree.proofs.Kinds.VisitsBlock.{is-at-block, visit-makes}
 use Rattle.core_tree.proofs.visits.block_visit.Goals as goal
 
 pub unreachable-requires-in_default-cell : goal.unreachable-requires-in_default-cell

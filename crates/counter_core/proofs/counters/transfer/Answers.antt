@@ -1,6 +1,5 @@
 use Rattle.std.proofs.Common.{◌≡◌, ℕ, List, sym, ap, ◌∙◌, subst}
-use Rattle.turn_table.specs.Numbered.{value_of}
-use Rattle.turn_table.specs.Seat.{SeatValue}
+use Rattle.turn_table.specs.{Numbered.value_of, Seat.SeatValue}
 use Rattle.counter_core.specs.Counters.{KeepsSum}
 use Rattle.counter_core.proofs.Sums.{two, replace_same}
 use Rattle.counter_core.proofs.counters.transfer.Goals as goal

@@ -1,9 +1,7 @@
 use Rattle.std.proofs.Common.{◌<◌, length, arith}
-use Rattle.dim_hierarchy.specs.Dimension.{tree}
-use Rattle.dim_hierarchy.specs.Row.{concept_at}
+use Rattle.dim_hierarchy.specs.{Dimension.tree, Row.concept_at}
 use Rattle.dim_hierarchy.proofs.Ancestors.{up-IsConcept}
-use Rattle.describing_set.proofs.Membership.{concept_is_one}
-use Rattle.describing_set.proofs.Sets.{part_at-above}
+use Rattle.describing_set.proofs.{Membership.concept_is_one, Sets.part_at-above}
 use Rattle.describing_set.proofs.plane.goes_left.Goals as goal
 
 pub up-ancestor-requires-clause-level : goal.up-ancestor-requires-clause-level

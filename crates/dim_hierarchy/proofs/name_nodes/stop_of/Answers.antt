@@ -1,7 +1,5 @@
-use Rattle.std.proofs.Common.{◌≡◌, ◌∙◌, ap, sym, cond, true, false}
+use Rattle.std.proofs.{Common.{◌≡◌, ◌∙◌, ap, sym, cond, true, false}, lemmas.Bool.ltb-false, lemmas.Option.slice_get_past}
 use Rattle.std.specs.Str.{bytes_eq}
-use Rattle.std.proofs.lemmas.Bool.{ltb-false}
-use Rattle.std.proofs.lemmas.Option.{slice_get_past}
 use Rattle.dim_hierarchy.specs.declared.name_nodes.Stop.TheVariants.{Here, Full}
 use Rattle.dim_hierarchy.proofs.NameStops.{stop_of-is, stop-nowhere, stop-same_hash, stop-ended, stop-onward, onward-free, onward-on, read-some}
 use Rattle.dim_hierarchy.proofs.name_nodes.stop_of.Goals as goal

@@ -1,6 +1,5 @@
-use Rattle.hierarchy_split.proofs.Cuts.{IsCandidate, Choosing-skips, Choosing-keeps, Choosing-takes}
+use Rattle.hierarchy_split.proofs.{Cuts.{IsCandidate, Choosing-skips, Choosing-keeps, Choosing-takes}, cut.choose.Goals.{in-Some+then-is_better, in-Some+else-is_better, in_default}}
 use Rattle.hierarchy_split.proofs.cut.choose.Goals as goal
-use Rattle.hierarchy_split.proofs.cut.choose.Goals.{in-Some+then-is_better, in-Some+else-is_better, in_default}
 
 pub loop-dim-preserved : goal.loop-dim-preserved
 loop-dim-preserved c =

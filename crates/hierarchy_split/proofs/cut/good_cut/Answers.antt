@@ -1,8 +1,6 @@
-use Rattle.std.proofs.Common.{◌-◌, ◌<◌, length, drop, arith}
-use Rattle.std.proofs.lemmas.List.Elements.{All-take, All-drop, All-same}
-use Rattle.hierarchy_split.proofs.Cuts.{cut_length, cut_below, no_good_cut, overlap_read}
+use Rattle.std.proofs.{Common.{◌-◌, ◌<◌, length, drop, arith}, lemmas.List.Elements.{All-take, All-drop, All-same}}
+use Rattle.hierarchy_split.proofs.{Cuts.{cut_length, cut_below, no_good_cut, overlap_read}, cut.good_cut.Goals.{then-k-n-via-then-k-n, then-k-n-via-else-k-n+then-n-k}}
 use Rattle.hierarchy_split.proofs.cut.good_cut.Goals as goal
-use Rattle.hierarchy_split.proofs.cut.good_cut.Goals.{then-k-n-via-then-k-n, then-k-n-via-else-k-n+then-n-k}
 
 pub overflow_sub-n : goal.overflow_sub-n
 overflow_sub-n c =

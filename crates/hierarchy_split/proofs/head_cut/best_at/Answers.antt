@@ -1,5 +1,4 @@
-use Rattle.std.proofs.Common.{◌∙◌, arith}
-use Rattle.std.proofs.lemmas.List.{get_or_default}
+use Rattle.std.proofs.{Common.{◌∙◌, arith}, lemmas.List.get_or_default}
 use Rattle.hierarchy_split.proofs.Heads.{IsBestWith-concept, IsBestBelow-more, best_at_all}
 use Rattle.hierarchy_split.proofs.head_cut.best_at.Goals as goal
 

@@ -1,6 +1,5 @@
 use Rattle.std.proofs.Common.{◌≡◌, subst, sym, arith}
-use Rattle.hierarchy_split.specs.Order.{AreEqual}
-use Rattle.hierarchy_split.specs.Cut.{leasts}
+use Rattle.hierarchy_split.specs.{Cut.leasts, Order.AreEqual}
 use Rattle.hierarchy_split.proofs.Lifts.{leasts_at_top}
 use Rattle.hierarchy_split.proofs.leasts.cut_level.Goals as goal
 

@@ -1,6 +1,5 @@
 use Rattle.std.proofs.Common.{ℕ, ◌<◌}
-use Rattle.hierarchy_split.specs.Order.{AreEqual}
-use Rattle.hierarchy_split.specs.Cut.{leasts}
+use Rattle.hierarchy_split.specs.{Cut.leasts, Order.AreEqual}
 use Rattle.hierarchy_split.proofs.leasts.cut_level.Given as goal
 
 abbrev pub invariant-loop-level : goal.invariant-loop-level

@@ -1,6 +1,5 @@
 use Rattle.std.proofs.Common.{ℕ, ◌<◌, ◌≤◌, get_or}
-use Rattle.describing_set.specs.DescSet.{part_at}
-use Rattle.describing_set.specs.declared.set.DescSet.{DescSet}
+use Rattle.describing_set.specs.{DescSet.part_at, declared.set.DescSet.DescSet}
 use Rattle.hierarchy_split.specs.Cut.{IsAbove}
 use Rattle.hierarchy_split.proofs.leasts.highest_level.Given as goal
 

@@ -1,11 +1,8 @@
 use Rattle.std.proofs.Common.{ℕ, ◌+◌, ◌<◌, min, length, get_or, ap, subst, ◌∙◌, arith, inl, inr}
-use Rattle.dim_hierarchy.specs.Concept.{level_of}
-use Rattle.dim_hierarchy.specs.Tree.{up}
-use Rattle.dim_hierarchy.specs.Dimension.{tree}
+use Rattle.dim_hierarchy.specs.{Concept.level_of, Dimension.tree, Tree.up}
 use Rattle.describing_set.specs.DescSet.{part_at}
-use Rattle.hierarchy_split.proofs.Lifts.{rest_read, min_read, least_more}
+use Rattle.hierarchy_split.proofs.{Lifts.{rest_read, min_read, least_more}, leasts.least.Goals.{then-lt, else-lt}}
 use Rattle.hierarchy_split.proofs.leasts.least.Goals as goal
-use Rattle.hierarchy_split.proofs.leasts.least.Goals.{then-lt, else-lt}
 
 pub up-ancestor-requires-clause-level : goal.up-ancestor-requires-clause-level
 up-ancestor-requires-clause-level c =

@@ -1,6 +1,5 @@
 use Rattle.std.proofs.Common.{◌≡◌, ◌+◌, map, take}
-use Rattle.dim_hierarchy.specs.Tree.{up}
-use Rattle.dim_hierarchy.specs.Dimension.{tree}
+use Rattle.dim_hierarchy.specs.{Dimension.tree, Tree.up}
 use Rattle.describing_set.specs.DescSet.{part_at}
 use Rattle.hierarchy_split.specs.Order.{least}
 use Rattle.hierarchy_split.proofs.leasts.least.Given as goal

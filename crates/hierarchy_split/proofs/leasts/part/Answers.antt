@@ -1,9 +1,7 @@
 use Rattle.std.proofs.Common.{◌≡◌, ◌<◌, length, arith}
-use Rattle.dim_hierarchy.specs.Concept.{level_of}
-use Rattle.dim_hierarchy.specs.Dimension.{tree}
+use Rattle.dim_hierarchy.specs.{Concept.level_of, Dimension.tree}
 use Rattle.describing_set.specs.DescSet.{part_at}
-use Rattle.describing_set.proofs.Sorted.{All-from_In}
-use Rattle.describing_set.proofs.Sets.{part_at-IsPart, part_at-level, part_read, IsPart-concepts}
+use Rattle.describing_set.proofs.{Sets.{part_at-IsPart, part_at-level, part_read, IsPart-concepts}, Sorted.All-from_In}
 use Rattle.hierarchy_split.proofs.leasts.part.Goals as goal
 
 pub returns-clause-concepts : goal.returns-clause-concepts

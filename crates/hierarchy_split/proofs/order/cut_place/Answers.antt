@@ -1,8 +1,6 @@
-use Rattle.std.proofs.Common.{length, refl, arith}
-use Rattle.std.proofs.lemmas.Bool.{false≢true}
-use Rattle.hierarchy_split.proofs.Orders.{places_length, places_below, Placing-takes, Placing-keeps, Placing-skips}
+use Rattle.std.proofs.{Common.{length, refl, arith}, lemmas.Bool.{false≢true}}
+use Rattle.hierarchy_split.proofs.{Orders.{places_length, places_below, Placing-takes, Placing-keeps, Placing-skips}, order.cut_place.Goals.{then-is_between+then-is_nearer, else-is_between, else-is_between-via-then-is_between+else-is_nearer, else-is_between-via-else-is_between}}
 use Rattle.hierarchy_split.proofs.order.cut_place.Goals as goal
-use Rattle.hierarchy_split.proofs.order.cut_place.Goals.{then-is_between+then-is_nearer, else-is_between, else-is_between-via-then-is_between+else-is_nearer, else-is_between-via-else-is_between}
 
 pub overflow_cast-n : goal.overflow_cast-n
 overflow_cast-n c = let e = places_length (length c.args.leasts.now) c.args.order.now c.requires.order.places in omega (arith, e, c.requires.few)

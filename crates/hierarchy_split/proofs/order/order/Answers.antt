@@ -1,5 +1,4 @@
-use Rattle.std.proofs.Common.{◌<◌, length, ap, subst, arith}
-use Rattle.std.proofs.lemmas.List.Elements.{All-same, All-weaker}
+use Rattle.std.proofs.{Common.{◌<◌, length, ap, subst, arith}, lemmas.List.Elements.{All-same, All-weaker}}
 use Rattle.hierarchy_split.proofs.Orders.{places_length, places_below, GoesAt, Ordering-more}
 use Rattle.hierarchy_split.proofs.order.order.Goals as goal
 

@@ -1,6 +1,5 @@
 use Rattle.std.proofs.Common.{◌≡◌, ◌+◌, ◌++◌, length, map, take}
-use Rattle.dim_hierarchy.specs.Tree.{up}
-use Rattle.dim_hierarchy.specs.Dimension.{tree}
+use Rattle.dim_hierarchy.specs.{Dimension.tree, Tree.up}
 use Rattle.hierarchy_split.proofs.overlap.add_lifted.Given as goal
 
 abbrev pub invariant-loop-id : goal.invariant-loop-id

@@ -1,10 +1,8 @@
-use Rattle.std.proofs.Common.{ℕ, ◌≡◌, ◌+◌, ◌-◌, Bool, true, false, eqb, List, ◌∷◌, length, take, drop, ap, sym, ◌∙◌, arith}
+use Rattle.std.proofs.{Common.{ℕ, ◌≡◌, ◌+◌, ◌-◌, Bool, true, false, eqb, List, ◌∷◌, length, take, drop, ap, sym, ◌∙◌, arith}, lemmas.List.take_rest}
 use Rattle.std.specs.List.{list_any}
-use Rattle.std.proofs.lemmas.List.{take_rest}
 use Rattle.hierarchy_split.specs.Order.{shared_count}
-use Rattle.hierarchy_split.proofs.Shares.{shared_count-last, shared_count-again, shared_count-absent, shared_count-step}
+use Rattle.hierarchy_split.proofs.{Shares.{shared_count-last, shared_count-again, shared_count-absent, shared_count-step}, overlap.shared_count.Goals.{then-contains+then-not-contains, else-contains, else-contains-via-then-contains+else-not-contains, else-contains-via-else-contains}}
 use Rattle.hierarchy_split.proofs.overlap.shared_count.Goals as goal
-use Rattle.hierarchy_split.proofs.overlap.shared_count.Goals.{then-contains+then-not-contains, else-contains, else-contains-via-then-contains+else-not-contains, else-contains-via-else-contains}
 
 -- the test of the rest, as the code's slice has it
 rest_has : (xs : List ℕ) (i x : ℕ) (b : Bool) → b ≡ list_any (λ y. eqb y x) (take (length xs - i) (drop i xs)) → list_any (λ y. eqb y x) (drop i xs) ≡ b

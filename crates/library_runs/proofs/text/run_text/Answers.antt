@@ -1,8 +1,7 @@
 use Rattle.std.proofs.Common.{◌≡◌, ◌∙◌, ◌<◌, ◌^◌, [], length, map, sym, ap, subst, arith}
 use Rattle.std.specs.Prelude.{string_bytes}
 use Rattle.volap_io.specs.Memory.{Store, Supply}
-use Rattle.olap_top.specs.declared.outcome.Status.{Status}
-use Rattle.olap_top.specs.declared.wanted.Wanted.TheVariants.{Step}
+use Rattle.olap_top.specs.{declared.outcome.Status.Status, declared.wanted.Wanted.TheVariants.Step}
 use Rattle.library_runs.specs.Text.{IsAnswer, IsBadText}
 use Rattle.library_runs.proofs.Texts.{is-answer, is-bad, is-large}
 use Rattle.library_runs.proofs.text.run_text.Goals as goal

@@ -2,8 +2,7 @@ use Rattle.std.proofs.Common.{sym, subst}
 use Rattle.std.specs.Prelude.{List, All}
 use Rattle.describing_set.specs.Sets.{IsDescSetOf}
 use Rattle.dc_node.specs.declared.entry.Entry.{Entry}
-use Rattle.link_descent.proofs.Entries.{All-entries}
-use Rattle.link_descent.proofs.Picks.{IsPick-place, one_pick}
+use Rattle.link_descent.proofs.{Entries.All-entries, Picks.{IsPick-place, one_pick}}
 use Rattle.link_descent.proofs.choice.pick.Goals as goal
 
 pub place_of-requires-clause-sets : goal.place_of-requires-clause-sets

@@ -1,11 +1,7 @@
-use Rattle.std.proofs.Common.{ℕ, ◌≡◌, ◌<◌, length, get_or, map, refl, sym, arith, ◌∙◌}
-use Rattle.std.proofs.lemmas.List.{length-map}
-use Rattle.std.proofs.lemmas.Bool.{false≢true}
+use Rattle.std.proofs.{Common.{ℕ, ◌≡◌, ◌<◌, length, get_or, map, refl, sym, arith, ◌∙◌}, lemmas.Bool.{false≢true}, lemmas.List.length-map}
 use Rattle.dc_node.specs.declared.entry.Entry.{Entry}
-use Rattle.link_descent.proofs.Picks.{IsPick-from_best, set_at}
-use Rattle.link_descent.proofs.Ranks.{first-ranked, takes-ranked, keeps-ranked, keeps-beyond}
+use Rattle.link_descent.proofs.{Picks.{IsPick-from_best, set_at}, Ranks.{first-ranked, takes-ranked, keeps-ranked, keeps-beyond}, choice.place_of.Goals.{in-Some+then-comes_before, in-Some+else-comes_before, in_default}}
 use Rattle.link_descent.proofs.choice.place_of.Goals as goal
-use Rattle.link_descent.proofs.choice.place_of.Goals.{in-Some+then-comes_before, in-Some+else-comes_before, in_default}
 
 pub loop-place-init : goal.loop-place-init
 loop-place-init c =

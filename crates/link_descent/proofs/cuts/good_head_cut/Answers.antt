@@ -1,6 +1,5 @@
-use Rattle.std.proofs.Common.{subst, sym, ap, length, ◌∙◌}
+use Rattle.std.proofs.{Common.{subst, sym, ap, length, ◌∙◌}, lemmas.List.Elements.All-same}
 use Rattle.std.specs.Option.{option_copied, option_to_list}
-use Rattle.std.proofs.lemmas.List.Elements.{All-same}
 use Rattle.describing_set.specs.Sets.{IsDescSetOf}
 use Rattle.link_descent.specs.Divide.{AreItemSets}
 use Rattle.link_descent.proofs.Divisions.{group_cuts, the_parts, no_head_cut}

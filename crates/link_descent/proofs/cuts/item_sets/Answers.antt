@@ -1,5 +1,4 @@
-use Rattle.std.proofs.Common.{subst, ap, map, ◌∙◌}
-use Rattle.std.proofs.lemmas.List.Elements.{All-map, All-same}
+use Rattle.std.proofs.{Common.{subst, ap, map, ◌∙◌}, lemmas.List.Elements.{All-map, All-same}}
 use Rattle.describing_set.specs.Sets.{IsDescSetOf}
 use Rattle.dc_node.specs.Block.{IsBodyOf}
 use Rattle.link_descent.proofs.cuts.item_sets.Goals as goal

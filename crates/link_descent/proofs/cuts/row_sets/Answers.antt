@@ -1,15 +1,8 @@
-use Rattle.std.proofs.Common.{◌≡◌, ◌<◌, ◌+◌, ◌++◌, ◌∷◌, [], ◌∙◌, length, take, get_or, subst, sym, ap, arith}
-use Rattle.std.specs.Prelude.{IfSome}
-use Rattle.std.specs.List.{AllZip}
-use Rattle.std.proofs.lemmas.List.Elements.{All-push, All-same}
-use Rattle.std.proofs.lemmas.Option.{slice_get-get_or}
-use Rattle.dim_hierarchy.specs.Rows.{IsRowOf}
-use Rattle.dim_hierarchy.specs.declared.row.Row.{Row}
-use Rattle.describing_set.specs.DescSet.{IsSetOf}
-use Rattle.describing_set.specs.Sets.{IsDescSetOf}
-use Rattle.describing_set.specs.declared.set.DescSet.{DescSet}
-use Rattle.link_descent.proofs.Items.{AllZip-more, no_row, row_there, row_read}
-use Rattle.link_descent.proofs.cuts.row_sets.Goals.{in-Some, in_default}
+use Rattle.std.proofs.{Common.{◌≡◌, ◌<◌, ◌+◌, ◌++◌, ◌∷◌, [], ◌∙◌, length, take, get_or, subst, sym, ap, arith}, lemmas.List.Elements.{All-push, All-same}, lemmas.Option.slice_get-get_or}
+use Rattle.std.specs.{List.AllZip, Prelude.IfSome}
+use Rattle.dim_hierarchy.specs.{Rows.IsRowOf, declared.row.Row.Row}
+use Rattle.describing_set.specs.{DescSet.IsSetOf, Sets.IsDescSetOf, declared.set.DescSet.DescSet}
+use Rattle.link_descent.proofs.{Items.{AllZip-more, no_row, row_there, row_read}, cuts.row_sets.Goals.{in-Some, in_default}}
 use Rattle.link_descent.proofs.cuts.row_sets.Goals as goal
 
 pub push_coord-requires-clause-at : goal.push_coord-requires-clause-at

@@ -1,8 +1,6 @@
 use Rattle.std.proofs.Common.{◌≡◌, [], ◌∷◌, length, take}
-use Rattle.std.specs.Prelude.{All}
-use Rattle.std.specs.List.{AllZip}
-use Rattle.describing_set.specs.DescSet.{IsSetOf}
-use Rattle.describing_set.specs.Sets.{IsDescSetOf}
+use Rattle.std.specs.{List.AllZip, Prelude.All}
+use Rattle.describing_set.specs.{DescSet.IsSetOf, Sets.IsDescSetOf}
 use Rattle.link_descent.proofs.cuts.row_sets.Given as goal
 
 abbrev pub invariant-loop-place : goal.invariant-loop-place

@@ -1,11 +1,7 @@
-use Rattle.std.proofs.Common.{subst}
-use Rattle.std.specs.Prelude.{IfSome}
-use Rattle.std.specs.Option.{option_copied}
-use Rattle.std.proofs.lemmas.List.Elements.{All-same}
+use Rattle.std.proofs.{Common.subst, lemmas.List.Elements.All-same}
+use Rattle.std.specs.{Option.option_copied, Prelude.IfSome}
 use Rattle.describing_set.specs.Sets.{IsDescSetOf}
-use Rattle.dc_node.specs.Block.{entries_in, IsBodyOf}
-use Rattle.dc_node.specs.declared.block.Block.{Block}
-use Rattle.dc_node.specs.declared.entry.Entry.{Entry}
+use Rattle.dc_node.specs.{Block.{entries_in, IsBodyOf}, declared.block.Block.Block, declared.entry.Entry.Entry}
 use Rattle.link_descent.proofs.Entries.{All-entries}
 use Rattle.link_descent.proofs.cuts.strike_block.Goals as goal
 

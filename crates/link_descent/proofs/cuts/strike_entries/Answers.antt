@@ -1,5 +1,4 @@
-use Rattle.std.proofs.Common.{[], refl, subst}
-use Rattle.std.proofs.lemmas.List.{take_all}
+use Rattle.std.proofs.{Common.{[], refl, subst}, lemmas.List.take_all}
 use Rattle.dc_node.specs.declared.block.Body.TheVariants.{Entries}
 use Rattle.link_descent.specs.Room.{Strikes}
 use Rattle.link_descent.proofs.Strikes.{Strikes-none, Strikes-entry}

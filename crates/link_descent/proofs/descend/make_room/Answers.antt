@@ -1,10 +1,7 @@
 use Rattle.std.proofs.Common.{sym, ap, subst, ◌∙◌, List, [], arith}
-use Rattle.dc_node.specs.Summary.{row_count}
-use Rattle.dc_node.specs.declared.block.Block.{Block}
-use Rattle.link_descent.specs.Divide.{together}
-use Rattle.link_descent.specs.Room.{AreTwoGroups}
-use Rattle.link_descent.proofs.Parts.{IsHalved-parts}
-use Rattle.link_descent.proofs.Rooms.{divided-in-two, divided-by-head, groups-new, room-in-two, room-by-head}
+use Rattle.dc_node.specs.{Summary.row_count, declared.block.Block.Block}
+use Rattle.link_descent.specs.{Divide.together, Room.AreTwoGroups}
+use Rattle.link_descent.proofs.{Parts.IsHalved-parts, Rooms.{divided-in-two, divided-by-head, groups-new, room-in-two, room-by-head}}
 use Rattle.link_descent.proofs.descend.make_room.Goals as goal
 
 pub returns-in-Halved-clause-head : goal.returns-in-Halved-clause-head

@@ -1,6 +1,5 @@
 use Rattle.std.proofs.Common.{◌<◌, length, refl}
-use Rattle.dc_node.specs.declared.block.Block.{Block}
-use Rattle.dc_node.specs.declared.block.Body.TheVariants.{Entries}
+use Rattle.dc_node.specs.{declared.block.Block.Block, declared.block.Body.TheVariants.Entries}
 use Rattle.link_descent.proofs.Passes.{passes-down}
 use Rattle.link_descent.proofs.descend.pass_down.Goals as goal
 

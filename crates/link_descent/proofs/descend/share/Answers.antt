@@ -1,5 +1,4 @@
-use Rattle.std.proofs.Common.{refl, sym, ◌∙◌, inl, inr}
-use Rattle.std.proofs.lemmas.Bool.{false≢true}
+use Rattle.std.proofs.{Common.{refl, sym, ◌∙◌, inl, inr}, lemmas.Bool.{false≢true}}
 use Rattle.link_descent.proofs.Picks.{IsPick-left, IsPick-right}
 use Rattle.link_descent.proofs.descend.share.Goals as goal
 

@@ -1,5 +1,4 @@
-use Rattle.std.proofs.Common.{length, ap, ◌∙◌, arith}
-use Rattle.std.proofs.lemmas.List.{length-map}
+use Rattle.std.proofs.{Common.{length, ap, ◌∙◌, arith}, lemmas.List.length-map}
 use Rattle.dc_node.specs.Block.{entries_in}
 use Rattle.link_descent.proofs.Steps.{valid_with_one, valid_with_two, few_with_two, entry_here, StepsDown-halves, StepsDown-cuts}
 use Rattle.link_descent.proofs.descend.step_down.Goals as goal

@@ -1,5 +1,4 @@
-use Rattle.std.proofs.Common.{◌<◌, ◌≡◌, length, sym, ap, get_or, take, drop, ◌+◌, ◌∙◌, ◌++◌, ◌∷◌, [], arith}
-use Rattle.std.proofs.lemmas.List.{take_more, get_or-drop, length-drop}
+use Rattle.std.proofs.{Common.{◌<◌, ◌≡◌, length, sym, ap, get_or, take, drop, ◌+◌, ◌∙◌, ◌++◌, ◌∷◌, [], arith}, lemmas.List.{take_more, get_or-drop, length-drop}}
 use Rattle.dim_hierarchy.specs.declared.row.Row.{Row}
 use Rattle.link_descent.proofs.Items.{no_row, row_there}
 use Rattle.link_descent.proofs.divide.copy_rows.Goals as goal

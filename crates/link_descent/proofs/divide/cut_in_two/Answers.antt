@@ -1,8 +1,6 @@
-use Rattle.std.proofs.Common.{◌<◌, arith}
-use Rattle.std.proofs.lemmas.List.{length-append}
+use Rattle.std.proofs.{Common.{◌<◌, arith}, lemmas.List.length-append}
 use Rattle.dc_node.specs.Block.{size}
-use Rattle.hierarchy_split.proofs.Crossings.{all_left, all_right}
-use Rattle.hierarchy_split.proofs.Orders.{places_length, places_below}
+use Rattle.hierarchy_split.proofs.{Crossings.{all_left, all_right}, Orders.{places_length, places_below}}
 use Rattle.link_descent.proofs.divide.cut_in_two.Goals as goal
 
 pub body_at-stays-requires-clause-few : goal.body_at-stays-requires-clause-few

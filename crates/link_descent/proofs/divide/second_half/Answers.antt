@@ -1,9 +1,5 @@
-use Rattle.std.proofs.Common.{◌≡◌, ◌≤◌, ◌∙◌, true, length, drop, ap, sym, subst, arith}
-use Rattle.std.proofs.lemmas.Bool.{eqb-true}
-use Rattle.std.proofs.lemmas.List.{length-drop, take_all}
-use Rattle.dc_node.specs.Block.{is_full}
-use Rattle.dc_node.specs.declared.block.Body.{Body}
-use Rattle.dc_node.specs.declared.block.Body.TheVariants.{Rows}
+use Rattle.std.proofs.{Common.{◌≡◌, ◌≤◌, ◌∙◌, true, length, drop, ap, sym, subst, arith}, lemmas.Bool.eqb-true, lemmas.List.{length-drop, take_all}}
+use Rattle.dc_node.specs.{Block.is_full, declared.block.Body.Body, declared.block.Body.TheVariants.Rows}
 use Rattle.link_descent.specs.Divide.{rest, half}
 use Rattle.link_descent.proofs.divide.second_half.Goals as goal
 

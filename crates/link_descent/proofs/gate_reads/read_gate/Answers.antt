@@ -1,14 +1,10 @@
 use Rattle.std.proofs.Common.{◌≡◌, ◌∙◌, List, [], ◌∷◌, true, false, cond, sym, ap}
 use Rattle.std.specs.Prelude.{if◌then◌else◌}
-use Rattle.dim_hierarchy.specs.Dimension.{Dimension}
-use Rattle.dim_hierarchy.specs.declared.filter.Pick.{Pick}
-use Rattle.measure_agg.specs.Aggregate.{Aggregate, agg}
-use Rattle.measure_agg.specs.Joining.{join}
+use Rattle.dim_hierarchy.specs.{Dimension.Dimension, declared.filter.Pick.Pick}
+use Rattle.measure_agg.specs.{Aggregate.{Aggregate, agg}, Joining.join}
 use Rattle.describing_set.specs.Filter.{is_inside}
-use Rattle.dc_node.specs.Summary.{joined, aggs}
-use Rattle.dc_node.specs.declared.entry.Entry.{Entry}
-use Rattle.link_descent.specs.Visit.{taken}
-use Rattle.link_descent.specs.GateRead.{tree_part}
+use Rattle.dc_node.specs.{Summary.{joined, aggs}, declared.entry.Entry.Entry}
+use Rattle.link_descent.specs.{GateRead.tree_part, Visit.taken}
 use Rattle.shard_store.specs.Gate.{root_entry}
 use Rattle.link_descent.proofs.gate_reads.read_gate.Goals as goal
 

@@ -1,8 +1,6 @@
-use Rattle.std.proofs.Common.{length, ap, arith, refl}
+use Rattle.std.proofs.{Common.{length, ap, arith, refl}, lemmas.List.Filters.length-filter_both}
 use Rattle.std.specs.Prelude.{not}
-use Rattle.std.proofs.lemmas.List.Filters.{length-filter_both}
-use Rattle.dim_hierarchy.specs.declared.row.Row.{Row}
-use Rattle.dim_hierarchy.specs.Filter.{matches}
+use Rattle.dim_hierarchy.specs.{Filter.matches, declared.row.Row.Row}
 use Rattle.link_descent.proofs.gate_reads.visit_queue.Goals as goal
 
 pub returns-in-Overlaps-clause-few : goal.returns-in-Overlaps-clause-few

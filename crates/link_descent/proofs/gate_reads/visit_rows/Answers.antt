@@ -1,12 +1,8 @@
-use Rattle.std.proofs.Common.{◌≡◌, ◌∙◌, ap, arith, rules, subst, sym, to_z, of_z, w64}
-use Rattle.std.proofs.lemmas.Int.{to_z-of_z}
-use Rattle.dim_hierarchy.specs.declared.row.Row.{Row}
-use Rattle.dim_hierarchy.specs.Filter.{matches}
-use Rattle.dim_hierarchy.specs.Rows.{IsRowOf}
+use Rattle.std.proofs.{Common.{◌≡◌, ◌∙◌, ap, arith, rules, subst, sym, to_z, of_z, w64}, lemmas.Int.to_z-of_z}
+use Rattle.dim_hierarchy.specs.{Filter.matches, Rows.IsRowOf, declared.row.Row.Row}
 use Rattle.measure_agg.specs.Joining.{join, one}
-use Rattle.link_descent.proofs.VisitRows.{rows_more, rows_same}
+use Rattle.link_descent.proofs.{VisitRows.{rows_more, rows_same}, gate_reads.visit_rows.Goals.{then-matched, else-matched}}
 use Rattle.link_descent.proofs.gate_reads.visit_rows.Goals as goal
-use Rattle.link_descent.proofs.gate_reads.visit_rows.Goals.{then-matched, else-matched}
 
 pub matches-matched-requires : goal.matches-matched-requires
 matches-matched-requires c =

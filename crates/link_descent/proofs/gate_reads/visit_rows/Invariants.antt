@@ -1,6 +1,5 @@
 use Rattle.std.proofs.Common.{◌≡◌, ◌+◌, ◌≤◌, take}
-use Rattle.measure_agg.specs.Aggregate.{agg}
-use Rattle.measure_agg.specs.Joining.{join}
+use Rattle.measure_agg.specs.{Aggregate.agg, Joining.join}
 use Rattle.link_descent.specs.Visit.{matching}
 use Rattle.link_descent.proofs.gate_reads.visit_rows.Given as goal
 

@@ -1,10 +1,6 @@
-use Rattle.std.proofs.Common.{subst, sym, [], ◌∷◌, ◌++◌}
-use Rattle.std.specs.Prelude.{IfSome}
-use Rattle.std.specs.Option.{option_copied, option_to_list}
-use Rattle.std.proofs.lemmas.List.Elements.{All-nil, All-cons}
-use Rattle.dc_node.specs.Block.{IsBodyOf}
-use Rattle.dc_node.specs.Summary.{IsSummary}
-use Rattle.dc_node.specs.declared.block.Block.{Block}
+use Rattle.std.proofs.{Common.{subst, sym, [], ◌∷◌, ◌++◌}, lemmas.List.Elements.{All-nil, All-cons}}
+use Rattle.std.specs.{Option.{option_copied, option_to_list}, Prelude.IfSome}
+use Rattle.dc_node.specs.{Block.IsBodyOf, Summary.IsSummary, declared.block.Block.Block}
 use Rattle.link_descent.specs.Divide.{together}
 use Rattle.link_descent.proofs.Behind.{summary-more}
 use Rattle.link_descent.proofs.groups.add_behind.Goals as goal

@@ -1,13 +1,9 @@
-use Rattle.std.proofs.Common.{sym, subst, ◌∙◌, arith, []}
+use Rattle.std.proofs.{Common.{sym, subst, ◌∙◌, arith, []}, lemmas.List.Elements.All-nil}
 use Rattle.std.specs.Option.{option_copied, option_to_list}
-use Rattle.std.proofs.lemmas.List.Elements.{All-nil}
-use Rattle.dc_node.specs.Block.{IsBodyOf}
-use Rattle.dc_node.specs.Summary.{IsSummary}
-use Rattle.dc_node.specs.declared.block.Block.{Block}
+use Rattle.dc_node.specs.{Block.IsBodyOf, Summary.IsSummary, declared.block.Block.Block}
 use Rattle.hierarchy_split.proofs.Crossings.{all_left, all_right}
 use Rattle.link_descent.specs.Divide.{together}
-use Rattle.link_descent.proofs.Parts.{IsSummary-count}
-use Rattle.link_descent.proofs.Behind.{AreValid, summary-alone, count-behind, count-two, listed-left, listed-only}
+use Rattle.link_descent.proofs.{Behind.{AreValid, summary-alone, count-behind, count-two, listed-left, listed-only}, Parts.IsSummary-count}
 use Rattle.link_descent.proofs.groups.group_entry.Goals as goal
 
 pub summary-agg-requires-clause-few : goal.summary-agg-requires-clause-few

@@ -1,8 +1,6 @@
 use Rattle.std.proofs.Common.{◌≡◌, ◌∙◌, true, inl, inr, refl, sym, subst}
-use Rattle.olap_top.specs.Outcomes.{goes_in_order, HasGoodScript, IsSerialRun}
+use Rattle.olap_top.specs.{Outcomes.{goes_in_order, HasGoodScript, IsSerialRun}, declared.wanted.Wanted.Wanted, declared.wanted.Wanted.TheVariants.Load}
 use Rattle.olap_top.specs.declared.outcome.Status.TheVariants as status_is
-use Rattle.olap_top.specs.declared.wanted.Wanted.{Wanted}
-use Rattle.olap_top.specs.declared.wanted.Wanted.TheVariants.{Load}
 use Rattle.olap_top.proofs.Complete.{complete}
 use Rattle.olap_top.proofs.top.olap.Goals as goal
 

@@ -1,9 +1,7 @@
-use Rattle.std.proofs.Common.{◌≡◌, ◌+◌, ◌-◌, ◌≤◌, List, ◌∷◌, None, length, take, drop, ap, subst, arith}
-use Rattle.std.proofs.lemmas.List.{length-drop}
+use Rattle.std.proofs.{Common.{◌≡◌, ◌+◌, ◌-◌, ◌≤◌, List, ◌∷◌, None, length, take, drop, ap, subst, arith}, lemmas.List.length-drop}
 use Rattle.volap_io.specs.Causes.{Rose}
 use Rattle.script_form.specs.declared.script.Command.{Command}
-use Rattle.script_run.specs.Phases.{phases}
-use Rattle.script_run.specs.Streams.{NoneCloses}
+use Rattle.script_run.specs.{Phases.phases, Streams.NoneCloses}
 use Rattle.olap_top.specs.declared.outcome.Status.TheVariants as status_is
 use Rattle.olap_top.proofs.PhaseSteps.{at-done, at-fault, at-halt, at-next, at-start, closes-of, ends-done, ends-fault, gone-of, left-at, left-halt, may-run, next-of, stopped-of, unread}
 use Rattle.olap_top.proofs.top.run_phases.Goals as goal

@@ -1,8 +1,6 @@
 use Rattle.std.proofs.Common.{◌≡◌, ◌∙◌, ◌⊎◌, inl, inr, refl, sym, subst}
 use Rattle.std.specs.Io.KnownBytes.{Appends}
-use Rattle.olap_top.specs.Outcomes.{HasRun, RanInto, RanTo, asked_text}
-use Rattle.olap_top.specs.RunSoFar.{HasLeft}
-use Rattle.olap_top.specs.declared.outcome.Status.{Status}
+use Rattle.olap_top.specs.{Outcomes.{HasRun, RanInto, RanTo, asked_text}, RunSoFar.HasLeft, declared.outcome.Status.Status}
 use Rattle.olap_top.specs.declared.outcome.Status.TheVariants as status_is
 use Rattle.olap_top.proofs.Leaving.{leaves-run, of-history}
 use Rattle.olap_top.proofs.top.run_script.Goals as goal

@@ -1,10 +1,8 @@
 use Rattle.std.proofs.Common.{◌≡◌, ◌∙◌, Err, inl, inr, refl, sym, subst}
 use Rattle.volap_io.specs.declared.source.ReadEnd.TheVariants as end_is
-use Rattle.olap_top.specs.Outcomes.{AreAsked}
+use Rattle.olap_top.specs.{Outcomes.AreAsked, declared.wanted.Wanted.Wanted}
 use Rattle.olap_top.specs.declared.outcome.Status.TheVariants as status_is
-use Rattle.olap_top.specs.declared.wanted.Wanted.{Wanted}
-use Rattle.olap_top.proofs.Asked.{load-good, no-script}
-use Rattle.olap_top.proofs.Ends.{not-either}
+use Rattle.olap_top.proofs.{Asked.{load-good, no-script}, Ends.not-either}
 use Rattle.olap_top.proofs.top.run_source.Goals as goal
 
 pub wanted_bytes-requires : goal.wanted_bytes-requires

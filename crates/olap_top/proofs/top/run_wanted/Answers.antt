@@ -1,16 +1,9 @@
-use Rattle.std.proofs.Common.{◌∙◌, ◌≤◌, [], inl, refl, sym, ap, subst, arith}
+use Rattle.std.proofs.{Common.{◌∙◌, ◌≤◌, [], inl, refl, sym, ap, subst, arith}, lemmas.Bool.{false≢true}}
 use Rattle.std.specs.Io.KnownBytes.{Appends}
-use Rattle.std.proofs.lemmas.Bool.{false≢true}
 use Rattle.answer_text.specs.Summary.{summary}
 use Rattle.volap_io.specs.Causes.{Rose}
-use Rattle.olap_top.specs.Outcomes.{RanInto, RanTo, asked_text}
-use Rattle.olap_top.specs.RunSoFar.{tells_phases, HasLeft, history_of, tells}
-use Rattle.olap_top.specs.declared.outcome.Status.{Status}
-use Rattle.olap_top.specs.declared.wanted.Wanted.{Wanted}
-use Rattle.olap_top.proofs.Asked.{ran-to, tells-step}
-use Rattle.olap_top.proofs.Ends.{only-done}
-use Rattle.olap_top.proofs.PhaseSteps.{Appends-more, left-behind}
-use Rattle.olap_top.proofs.Summaries.{part-behind, ran-all, wrote-all, wrote-none}
+use Rattle.olap_top.specs.{Outcomes.{RanInto, RanTo, asked_text}, RunSoFar.{tells_phases, HasLeft, history_of, tells}, declared.outcome.Status.Status, declared.wanted.Wanted.Wanted}
+use Rattle.olap_top.proofs.{Asked.{ran-to, tells-step}, Ends.only-done, PhaseSteps.{Appends-more, left-behind}, Summaries.{part-behind, ran-all, wrote-all, wrote-none}}
 use Rattle.olap_top.proofs.top.run_wanted.Goals as goal
 
 pub run_phases-status-requires-clause-settings : goal.run_phases-status-requires-clause-settings

@@ -1,13 +1,7 @@
-use Rattle.std.proofs.Common.{◌≡◌, ◌∙◌, refl, sym, ap, subst}
-use Rattle.std.proofs.lemmas.Bool.{false≢true}
-use Rattle.std.proofs.lemmas.Result.{err_from_is_err_and}
+use Rattle.std.proofs.{Common.{◌≡◌, ◌∙◌, refl, sym, ap, subst}, lemmas.Bool.{false≢true}, lemmas.Result.err_from_is_err_and}
 use Rattle.volap_io.specs.declared.source.ReadEnd.TheVariants as end_is
-use Rattle.olap_top.specs.Outcomes.{AreAsked}
-use Rattle.olap_top.specs.RunSoFar.{tells_phases}
-use Rattle.olap_top.specs.Wanted.{AreFewRows}
-use Rattle.olap_top.specs.declared.wanted.Wanted.{Wanted}
-use Rattle.olap_top.proofs.Asked.{asked-read, tells-step}
-use Rattle.olap_top.proofs.Ends.{if_ok-none}
+use Rattle.olap_top.specs.{Outcomes.AreAsked, RunSoFar.tells_phases, Wanted.AreFewRows, declared.wanted.Wanted.Wanted}
+use Rattle.olap_top.proofs.{Asked.{asked-read, tells-step}, Ends.if_ok-none}
 use Rattle.olap_top.proofs.top.wanted_bytes.Goals as goal
 
 pub generate-requires : goal.generate-requires

@@ -1,9 +1,6 @@
 use Rattle.std.proofs.Common.{◌≡◌, ◌∙◌, List, [], ◌∷◌, Option, Some, None, get_or, set, refl, ap, sym, subst}
 use Rattle.std.specs.Option.{option_map_or}
-use Rattle.volap_cell.specs.Cells.{FreeCell, LedgerCell, cell_of}
-use Rattle.volap_cell.specs.Setting.{ledger_cell}
-use Rattle.volap_cell.specs.World.{change, put}
-use Rattle.volap_cell.specs.declared.cell.Cell.{Cell}
+use Rattle.volap_cell.specs.{Cells.{FreeCell, LedgerCell, cell_of}, Setting.ledger_cell, World.{change, put}, declared.cell.Cell.Cell}
 use Rattle.volap_cell.specs.declared.cell.Cell.TheVariants as cell
 use Rattle.seeded_run.specs.Phase.{held}
 use Rattle.olap_top.proofs.Handing.{cell-freed, cells-back, whole-left}

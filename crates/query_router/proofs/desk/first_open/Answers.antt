@@ -1,6 +1,5 @@
 use Rattle.std.proofs.Common.{◌≡◌, false, subst, sym, ◌∙◌}
-use Rattle.query_router.specs.Desk.{is_open}
-use Rattle.query_router.specs.declared.part.Part.{Part}
+use Rattle.query_router.specs.{Desk.is_open, declared.part.Part.Part}
 use Rattle.query_router.proofs.OpenParts.{one-more}
 use Rattle.query_router.proofs.desk.first_open.Goals as goal
 

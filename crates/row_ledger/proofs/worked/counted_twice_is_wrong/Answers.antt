@@ -1,13 +1,8 @@
-use Rattle.std.proofs.Common.{◌≡◌, ◌∙◌, ℕ, List, [], ◌∷◌, false, length, get_or, refl, ap, sym, arith}
+use Rattle.std.proofs.{Common.{◌≡◌, ◌∙◌, ℕ, List, [], ◌∷◌, false, length, get_or, refl, ap, sym, arith}, lemmas.Bool.{true≢false}, lemmas.List.length-map, lemmas.List.Elements.{All-contains, All-from_recursion, All-map, All-weaker}, lemmas.Map.Keys.apart_from_distinct}
 use Rattle.std.specs.Prelude.{nat_eq, All, Contains}
-use Rattle.std.proofs.lemmas.Bool.{true≢false}
-use Rattle.std.proofs.lemmas.List.{length-map}
-use Rattle.std.proofs.lemmas.List.Elements.{All-contains, All-from_recursion, All-map, All-weaker}
-use Rattle.std.proofs.lemmas.Map.Keys.{apart_from_distinct}
 use Rattle.dim_hierarchy.specs.declared.row.Row.{Row}
 use Rattle.measure_agg.specs.Aggregate.{Aggregate}
-use Rattle.row_ledger.specs.Bounds.{numbers}
-use Rattle.row_ledger.specs.Worked.{row}
+use Rattle.row_ledger.specs.{Bounds.numbers, Worked.row}
 use Rattle.row_ledger.proofs.worked.counted_twice_is_wrong.Goals as goal
 
 -- the row that was begun has number 2

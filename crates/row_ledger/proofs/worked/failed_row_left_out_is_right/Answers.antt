@@ -1,9 +1,6 @@
 use Rattle.std.proofs.Common.{ℕ, Bool, false, [], refl}
-use Rattle.row_ledger.specs.declared.event.Event.TheVariants.{Begun}
-use Rattle.row_ledger.specs.Worked.{site, row, for_de, nothing, opened, answered_and_failed}
-use Rattle.row_ledger.proofs.Growth.{KeepsRight-begun, KeepsRight-failed, IsRight-kept}
-use Rattle.row_ledger.proofs.Answering.{CanAnswer-older, KeepsRight-query}
-use Rattle.row_ledger.proofs.Opened.{opened_right, opened_answer}
+use Rattle.row_ledger.specs.{Worked.{site, row, for_de, nothing, opened, answered_and_failed}, declared.event.Event.TheVariants.Begun}
+use Rattle.row_ledger.proofs.{Answering.{CanAnswer-older, KeepsRight-query}, Growth.{KeepsRight-begun, KeepsRight-failed, IsRight-kept}, Opened.{opened_right, opened_answer}}
 use Rattle.row_ledger.proofs.worked.failed_row_left_out_is_right.Goals as goal
 
 abbrev none : ℕ → Bool

@@ -1,10 +1,6 @@
 use Rattle.std.proofs.Common.{◌≡◌, ℕ, arith, subst}
-use Rattle.row_ledger.specs.declared.settings.Call.{Call}
-use Rattle.row_ledger.specs.declared.settings.Call.TheVariants.{Tree}
+use Rattle.row_ledger.specs.{Classes.class_of, Right.Asks, Worked.{once, page_with}, declared.settings.Call.Call, declared.settings.Call.TheVariants.Tree}
 use Rattle.row_ledger.specs.declared.page.Page.TheVariants as page
-use Rattle.row_ledger.specs.Classes.{class_of}
-use Rattle.row_ledger.specs.Right.{Asks}
-use Rattle.row_ledger.specs.Worked.{once, page_with}
 use Rattle.row_ledger.proofs.worked.page_of_another_shard_is_wrong.Goals as goal
 
 pub returns : goal.returns

@@ -1,20 +1,8 @@
-use Rattle.std.proofs.Common.{ℕ, Bool, false, List, [], ◌∷◌, refl, arith}
-use Rattle.std.specs.Prelude.{nat_eq, Contains}
-use Rattle.std.specs.List.{IsDistinct}
-use Rattle.std.proofs.lemmas.List.Elements.{All-from_recursion}
-use Rattle.std.proofs.lemmas.List.Sorted.{IsPermutation-refl}
-use Rattle.row_ledger.specs.declared.event.Event.{Event}
-use Rattle.row_ledger.specs.declared.event.Event.TheVariants.{Begun, Acked}
+use Rattle.std.proofs.{Common.{ℕ, Bool, false, List, [], ◌∷◌, refl, arith}, lemmas.List.Elements.All-from_recursion, lemmas.List.Sorted.IsPermutation-refl}
+use Rattle.std.specs.{List.IsDistinct, Prelude.{nat_eq, Contains}}
+use Rattle.row_ledger.specs.{Bounds.numbers, Pages.{leaf, none, IsPageOf, IsShownTree}, Past.{Ack, acked_into}, Worked.{site, row, once, one_leaf, page_with, called, shown, opened}, declared.event.Event.Event, declared.event.Event.TheVariants.{Begun, Acked}, declared.settings.Call.TheVariants.Tree, declared.settings.How.TheVariants.Fine}
 use Rattle.row_ledger.specs.declared.page.Page.TheVariants as page
-use Rattle.row_ledger.specs.declared.settings.Call.TheVariants.{Tree}
-use Rattle.row_ledger.specs.declared.settings.How.TheVariants.{Fine}
-use Rattle.row_ledger.specs.Past.{Ack, acked_into}
-use Rattle.row_ledger.specs.Bounds.{numbers}
-use Rattle.row_ledger.specs.Pages.{leaf, none, IsPageOf, IsShownTree}
-use Rattle.row_ledger.specs.Worked.{site, row, once, one_leaf, page_with, called, shown, opened}
-use Rattle.row_ledger.proofs.Growth.{KeepsRight-called, KeepsRight-shown, KeepsRight-ended, IsRight-kept}
-use Rattle.row_ledger.proofs.Answering.{KeepsRight-insert}
-use Rattle.row_ledger.proofs.Opened.{opened_right, berlin_box}
+use Rattle.row_ledger.proofs.{Answering.KeepsRight-insert, Growth.{KeepsRight-called, KeepsRight-shown, KeepsRight-ended, IsRight-kept}, Opened.{opened_right, berlin_box}}
 use Rattle.row_ledger.proofs.worked.page_with_the_row_is_right.Goals as goal
 
 abbrev placeless : ℕ → Bool

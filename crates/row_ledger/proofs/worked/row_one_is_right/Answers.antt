@@ -1,9 +1,7 @@
 use Rattle.std.proofs.Common.{ℕ, Bool, true, [], ◌∷◌, refl}
 use Rattle.dim_hierarchy.specs.Tree.{is_under, way_up}
 use Rattle.row_ledger.specs.Worked.{site, row, for_de, once, opened, answered}
-use Rattle.row_ledger.proofs.Growth.{IsRight-kept}
-use Rattle.row_ledger.proofs.Answering.{CanAnswer-insert, KeepsRight-insert, KeepsRight-query}
-use Rattle.row_ledger.proofs.Opened.{opened_right, opened_answer}
+use Rattle.row_ledger.proofs.{Answering.{CanAnswer-insert, KeepsRight-insert, KeepsRight-query}, Growth.IsRight-kept, Opened.{opened_right, opened_answer}}
 use Rattle.row_ledger.proofs.worked.row_one_is_right.Goals as goal
 
 abbrev all : ℕ → Bool

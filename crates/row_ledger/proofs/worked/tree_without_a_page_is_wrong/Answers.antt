@@ -1,10 +1,5 @@
-use Rattle.std.proofs.Common.{◌≡◌, false, subst}
-use Rattle.std.proofs.lemmas.Bool.{false≢true}
-use Rattle.row_ledger.specs.declared.settings.Call.{Call}
-use Rattle.row_ledger.specs.declared.settings.Call.TheVariants.{Tree}
-use Rattle.row_ledger.specs.declared.settings.How.TheVariants.{Fine}
-use Rattle.row_ledger.specs.Classes.{class_of}
-use Rattle.row_ledger.specs.Right.{shows}
+use Rattle.std.proofs.{Common.{◌≡◌, false, subst}, lemmas.Bool.{false≢true}}
+use Rattle.row_ledger.specs.{Classes.class_of, Right.shows, declared.settings.Call.Call, declared.settings.Call.TheVariants.Tree, declared.settings.How.TheVariants.Fine}
 use Rattle.row_ledger.proofs.worked.tree_without_a_page_is_wrong.Goals as goal
 
 pub returns : goal.returns

@@ -1,19 +1,7 @@
-use Rattle.std.proofs.Common.{◌≡◌, ◌+◌, ℕ, zero, suc, List, [], ◌∷◌, refl, length, arith}
-use Rattle.std.proofs.lemmas.List.Elements.{All-from_recursion, All-contains_itself}
+use Rattle.std.proofs.{Common.{◌≡◌, ◌+◌, ℕ, zero, suc, List, [], ◌∷◌, refl, length, arith}, lemmas.List.Elements.{All-from_recursion, All-contains_itself}}
 use Rattle.dim_hierarchy.specs.declared.row.Row.{Row}
-use Rattle.row_ledger.specs.declared.event.Event.{Event}
-use Rattle.row_ledger.specs.declared.event.Event.TheVariants.{Called, Moved, Left, Ended}
-use Rattle.row_ledger.specs.declared.settings.Call.TheVariants.{Split, Move, Balance}
-use Rattle.row_ledger.specs.declared.settings.How.TheVariants.{Fine, Balanced, Postponed}
-use Rattle.row_ledger.specs.Past.{before, begun, acked}
-use Rattle.row_ledger.specs.Work.{Reading, IsRead, IsRightBalance}
-use Rattle.row_ledger.specs.Kept.{KeepsRight}
-use Rattle.row_ledger.specs.Worked.{site}
-use Rattle.row_ledger.specs.WorkedBalance.{crowd_row, crowd, to_balance, balanced}
-use Rattle.row_ledger.proofs.Growth.{KeepsRight-begun, KeepsRight-called, KeepsRight-split, KeepsRight-moved, KeepsRight-left, KeepsRight-ended, IsRight-kept}
-use Rattle.row_ledger.proofs.Answering.{begun-distinct}
-use Rattle.row_ledger.proofs.Opened.{opened_right}
-use Rattle.row_ledger.proofs.PulledRight.{all}
+use Rattle.row_ledger.specs.{Kept.KeepsRight, Past.{before, begun, acked}, Work.{Reading, IsRead, IsRightBalance}, Worked.site, WorkedBalance.{crowd_row, crowd, to_balance, balanced}, declared.event.Event.Event, declared.event.Event.TheVariants.{Called, Moved, Left, Ended}, declared.settings.Call.TheVariants.{Split, Move, Balance}, declared.settings.How.TheVariants.{Fine, Balanced, Postponed}}
+use Rattle.row_ledger.proofs.{Answering.begun-distinct, Growth.{KeepsRight-begun, KeepsRight-called, KeepsRight-split, KeepsRight-moved, KeepsRight-left, KeepsRight-ended, IsRight-kept}, Opened.opened_right, PulledRight.all}
 use Rattle.row_ledger.proofs.worked_balance.balance_with_one_left_is_right.Goals as goal
 
 crowd_length : (n : ℕ) → n + 2 ≡ length (crowd n)

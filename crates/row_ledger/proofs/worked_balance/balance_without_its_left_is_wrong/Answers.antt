@@ -1,18 +1,7 @@
 use Rattle.std.proofs.Common.{◌≡◌, ◌∙◌, ℕ, Bool, List, ◌∷◌, length, reverse, subst, arith}
 use Rattle.shard_plan.specs.Balancing.{plan}
-use Rattle.row_ledger.specs.declared.event.Event.{Event}
-use Rattle.row_ledger.specs.declared.event.Event.TheVariants.{Moved}
-use Rattle.row_ledger.specs.declared.settings.Call.{Call}
-use Rattle.row_ledger.specs.declared.settings.Call.TheVariants.{Balance}
-use Rattle.row_ledger.specs.declared.settings.How.TheVariants.{Balanced}
-use Rattle.row_ledger.specs.Past.{work, is_kept}
-use Rattle.row_ledger.specs.Site.{Site}
-use Rattle.row_ledger.specs.Work.{IsRightBalance, loads}
-use Rattle.row_ledger.specs.Classes.{class_of}
-use Rattle.row_ledger.specs.Right.{MayEnd}
-use Rattle.row_ledger.specs.Worked.{site}
+use Rattle.row_ledger.specs.{Classes.class_of, Past.{work, is_kept}, Right.MayEnd, Site.Site, Work.{IsRightBalance, loads}, Worked.site, WorkedBalance.{to_balance, balanced_without}, declared.event.Event.Event, declared.event.Event.TheVariants.Moved, declared.settings.Call.Call, declared.settings.Call.TheVariants.Balance, declared.settings.How.TheVariants.Balanced}
 use Rattle.list_words.proofs.Elements.{Some-same, length-AllZip}
-use Rattle.row_ledger.specs.WorkedBalance.{to_balance, balanced_without}
 use Rattle.row_ledger.proofs.worked_balance.balance_without_its_left_is_wrong.Goals as goal
 
 -- each planned action has an event

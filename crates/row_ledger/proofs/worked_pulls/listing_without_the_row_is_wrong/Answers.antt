@@ -1,5 +1,4 @@
-use Rattle.std.proofs.Common.{[], ◌∷◌, arith}
-use Rattle.std.proofs.lemmas.Bool.{false≢true}
+use Rattle.std.proofs.{Common.{[], ◌∷◌, arith}, lemmas.Bool.{false≢true}}
 use Rattle.dim_hierarchy.specs.Tree as way
 use Rattle.row_ledger.specs.Worked.{row}
 use Rattle.row_ledger.proofs.worked_pulls.listing_without_the_row_is_wrong.Goals as goal

@@ -1,10 +1,7 @@
 use Rattle.std.proofs.Common.{[], ◌∷◌, refl}
 use Rattle.dim_hierarchy.specs.Tree.{is_under, way_up}
-use Rattle.row_ledger.specs.Worked.{site, row, for_de}
-use Rattle.row_ledger.specs.WorkedPulls.{told, second, both, under_box}
-use Rattle.row_ledger.proofs.Growth.{IsRight-kept}
-use Rattle.row_ledger.proofs.Answering.{CanAnswer-insert, KeepsRight-insert, KeepsRight-query}
-use Rattle.row_ledger.proofs.PulledRight.{all, told_right, told_answer}
+use Rattle.row_ledger.specs.{Worked.{site, row, for_de}, WorkedPulls.{told, second, both, under_box}}
+use Rattle.row_ledger.proofs.{Answering.{CanAnswer-insert, KeepsRight-insert, KeepsRight-query}, Growth.IsRight-kept, PulledRight.{all, told_right, told_answer}}
 use Rattle.row_ledger.proofs.worked_pulls.row_known_by_its_box_is_right.Goals as goal
 
 pub returns : goal.returns

@@ -1,11 +1,9 @@
 use Rattle.std.proofs.Common.{◌≡◌, ℕ, length, refl, ap, arith}
 use Rattle.std.specs.Prelude.{Contains}
-use Rattle.dim_hierarchy.specs.Tree.{is_under, way_up}
+use Rattle.dim_hierarchy.specs.{Tree.{is_under, way_up}, declared.row.Row.Row}
 use Rattle.dim_hierarchy.specs.Tree as way
 use Rattle.measure_agg.specs.Aggregate.{Aggregate}
-use Rattle.dim_hierarchy.specs.declared.row.Row.{Row}
-use Rattle.row_ledger.specs.Worked.{site, row, for_de, once}
-use Rattle.row_ledger.specs.WorkedPulls.{second}
+use Rattle.row_ledger.specs.{Worked.{site, row, for_de, once}, WorkedPulls.second}
 use Rattle.list_words.proofs.Elements.{only}
 use Rattle.row_ledger.proofs.Answering.{IsAllowed-right}
 use Rattle.row_ledger.proofs.worked_pulls.row_under_a_box_left_out_is_wrong.Goals as goal

@@ -1,13 +1,7 @@
 use Rattle.std.proofs.Common.{[], ◌∷◌, refl}
 use Rattle.dim_hierarchy.specs.Tree.{is_under, way_up}
-use Rattle.row_ledger.specs.declared.settings.Call.TheVariants.{Barrier}
-use Rattle.row_ledger.specs.declared.settings.How.TheVariants.{Fine}
-use Rattle.row_ledger.specs.Worked.{site, row, for_de, once}
-use Rattle.row_ledger.specs.WorkedPulls.{told}
-use Rattle.row_ledger.specs.WorkedScript.{whole_history}
-use Rattle.row_ledger.proofs.Growth.{KeepsRight-unknown, KeepsRight-called, KeepsRight-ended, IsRight-kept}
-use Rattle.row_ledger.proofs.Answering.{KeepsRight-query}
-use Rattle.row_ledger.proofs.PulledRight.{all, told_right, told_answer}
+use Rattle.row_ledger.specs.{Worked.{site, row, for_de, once}, WorkedPulls.told, WorkedScript.whole_history, declared.settings.Call.TheVariants.Barrier, declared.settings.How.TheVariants.Fine}
+use Rattle.row_ledger.proofs.{Answering.KeepsRight-query, Growth.{KeepsRight-unknown, KeepsRight-called, KeepsRight-ended, IsRight-kept}, PulledRight.{all, told_right, told_answer}}
 use Rattle.row_ledger.proofs.worked_script.whole_history_is_right.Goals as goal
 
 pub returns : goal.returns

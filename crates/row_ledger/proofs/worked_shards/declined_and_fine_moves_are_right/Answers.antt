@@ -1,12 +1,6 @@
 use Rattle.std.proofs.Common.{refl}
-use Rattle.row_ledger.specs.declared.settings.Call.TheVariants.{Move}
-use Rattle.row_ledger.specs.declared.settings.Decline.TheVariants.{Unknown}
-use Rattle.row_ledger.specs.declared.settings.How.TheVariants.{Fine, Declined}
-use Rattle.row_ledger.specs.Worked.{site}
-use Rattle.row_ledger.specs.WorkedPulls.{inserted}
-use Rattle.row_ledger.specs.WorkedShards.{moved}
-use Rattle.row_ledger.proofs.Growth.{KeepsRight-called, KeepsRight-moved, KeepsRight-ended, IsRight-kept}
-use Rattle.row_ledger.proofs.PulledRight.{all, inserted_right}
+use Rattle.row_ledger.specs.{Worked.site, WorkedPulls.inserted, WorkedShards.moved, declared.settings.Call.TheVariants.Move, declared.settings.Decline.TheVariants.Unknown, declared.settings.How.TheVariants.{Fine, Declined}}
+use Rattle.row_ledger.proofs.{Growth.{KeepsRight-called, KeepsRight-moved, KeepsRight-ended, IsRight-kept}, PulledRight.{all, inserted_right}}
 use Rattle.row_ledger.proofs.worked_shards.declined_and_fine_moves_are_right.Goals as goal
 
 pub returns : goal.returns

@@ -1,22 +1,9 @@
-use Rattle.std.proofs.Common.{◌≡◌, ◌∙◌, ◌<◌, zero, suc, List, [], ◌∷◌, map, length, ap, sym, subst, arith}
+use Rattle.std.proofs.{Common.{◌≡◌, ◌∙◌, ◌<◌, zero, suc, List, [], ◌∷◌, map, length, ap, sym, subst, arith}, lemmas.List.Elements.All-contains}
 use Rattle.std.specs.Prelude.{All, Contains}
-use Rattle.std.proofs.lemmas.List.Elements.{All-contains}
-use Rattle.dim_hierarchy.specs.declared.row.Coord.{Coord}
-use Rattle.dim_hierarchy.specs.declared.row.Row.{Row}
-use Rattle.describing_set.specs.declared.part.Part.{Part}
-use Rattle.describing_set.specs.DescSet.{part_at, IsSetOf}
-use Rattle.describing_set.specs.Sets.{AreAmong}
+use Rattle.dim_hierarchy.specs.{declared.row.Coord.Coord, declared.row.Row.Row}
+use Rattle.describing_set.specs.{DescSet.{part_at, IsSetOf}, Sets.AreAmong, declared.part.Part.Part}
 use Rattle.describing_set.proofs.Laws.{IsSetOf-same}
-use Rattle.row_ledger.specs.declared.settings.Call.{Call}
-use Rattle.row_ledger.specs.declared.settings.Call.TheVariants.{Split}
-use Rattle.row_ledger.specs.declared.settings.Decline.TheVariants.{OnePlace}
-use Rattle.row_ledger.specs.declared.settings.How.TheVariants.{Declined}
-use Rattle.row_ledger.specs.Past.{is_kept}
-use Rattle.row_ledger.specs.Work.{AreOnePlace}
-use Rattle.row_ledger.specs.Classes.{class_of}
-use Rattle.row_ledger.specs.Right.{MayEnd}
-use Rattle.row_ledger.specs.Worked.{site, berlin, munich, in_city, row, box}
-use Rattle.row_ledger.specs.WorkedShards.{other, to_split, split_declined}
+use Rattle.row_ledger.specs.{Classes.class_of, Past.is_kept, Right.MayEnd, Work.AreOnePlace, Worked.{site, berlin, munich, in_city, row, box}, WorkedShards.{other, to_split, split_declined}, declared.settings.Call.Call, declared.settings.Call.TheVariants.Split, declared.settings.Decline.TheVariants.OnePlace, declared.settings.How.TheVariants.Declined}
 use Rattle.list_words.proofs.Elements.{Contains-map, Contains-mapped}
 use Rattle.row_ledger.proofs.Opened.{both_box}
 use Rattle.row_ledger.proofs.worked_shards.one_place_of_two_cities_is_wrong.Goals as goal

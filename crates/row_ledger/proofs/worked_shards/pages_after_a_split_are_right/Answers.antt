@@ -1,22 +1,8 @@
-use Rattle.std.proofs.Common.{[], ◌∷◌, refl, lit<, arith}
-use Rattle.std.specs.Prelude.{Contains, nat_eq}
-use Rattle.std.specs.List.{IsDistinct}
-use Rattle.std.proofs.lemmas.List.Elements.{All-from_recursion}
-use Rattle.std.proofs.lemmas.List.Sorted.{IsPermutation-refl}
+use Rattle.std.proofs.{Common.{[], ◌∷◌, refl, lit<, arith}, lemmas.List.Elements.All-from_recursion, lemmas.List.Sorted.IsPermutation-refl}
+use Rattle.std.specs.{List.IsDistinct, Prelude.{Contains, nat_eq}}
 use Rattle.row_ledger.specs.declared.page.Page.TheVariants as page
-use Rattle.row_ledger.specs.declared.settings.Call.TheVariants.{Shards, Tree, Audit}
-use Rattle.row_ledger.specs.declared.settings.How.TheVariants.{Fine}
-use Rattle.row_ledger.specs.Past.{Ack, acked_into, acked_rows}
-use Rattle.row_ledger.specs.Bounds.{numbers}
-use Rattle.row_ledger.specs.Pages.{leaf, none, IsPageOf, IsShownTree, AreShownShards}
-use Rattle.row_ledger.specs.Kept.{KeepsRight}
-use Rattle.row_ledger.specs.Worked.{site, row, once, one_leaf}
-use Rattle.row_ledger.specs.WorkedPulls.{both}
-use Rattle.row_ledger.specs.WorkedShards.{other, across_split, all_lines, shards_shown, audit_shown, tree_of_two, tree_shown}
-use Rattle.row_ledger.proofs.Growth.{KeepsRight-called, KeepsRight-shown, KeepsRight-ended, IsRight-kept}
-use Rattle.row_ledger.proofs.Opened.{empty_box, berlin_box, munich_box}
-use Rattle.row_ledger.proofs.PulledRight.{all}
-use Rattle.row_ledger.proofs.SplitRight.{across_right}
+use Rattle.row_ledger.specs.{Bounds.numbers, Kept.KeepsRight, Pages.{leaf, none, IsPageOf, IsShownTree, AreShownShards}, Past.{Ack, acked_into, acked_rows}, Worked.{site, row, once, one_leaf}, WorkedPulls.both, WorkedShards.{other, across_split, all_lines, shards_shown, audit_shown, tree_of_two, tree_shown}, declared.settings.Call.TheVariants.{Shards, Tree, Audit}, declared.settings.How.TheVariants.Fine}
+use Rattle.row_ledger.proofs.{Growth.{KeepsRight-called, KeepsRight-shown, KeepsRight-ended, IsRight-kept}, Opened.{empty_box, berlin_box, munich_box}, PulledRight.all, SplitRight.across_right}
 use Rattle.row_ledger.proofs.worked_shards.pages_after_a_split_are_right.Goals as goal
 
 shards_are : AreShownShards site (across_split once) all_lines

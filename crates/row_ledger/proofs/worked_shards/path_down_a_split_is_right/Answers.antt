@@ -1,10 +1,6 @@
 use Rattle.std.proofs.Common.{[], ◌∷◌, refl}
-use Rattle.row_ledger.specs.Worked.{site, once}
-use Rattle.row_ledger.specs.WorkedShards.{across_split, third, with_path}
-use Rattle.row_ledger.proofs.Growth.{IsRight-kept}
-use Rattle.row_ledger.proofs.Answering.{KeepsRight-insert}
-use Rattle.row_ledger.proofs.PulledRight.{all}
-use Rattle.row_ledger.proofs.SplitRight.{across_right}
+use Rattle.row_ledger.specs.{Worked.{site, once}, WorkedShards.{across_split, third, with_path}}
+use Rattle.row_ledger.proofs.{Answering.KeepsRight-insert, Growth.IsRight-kept, PulledRight.all, SplitRight.across_right}
 use Rattle.row_ledger.proofs.worked_shards.path_down_a_split_is_right.Goals as goal
 
 pub returns : goal.returns

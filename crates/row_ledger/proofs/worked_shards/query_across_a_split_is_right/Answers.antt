@@ -1,8 +1,5 @@
-use Rattle.row_ledger.specs.Worked.{site, once}
-use Rattle.row_ledger.specs.WorkedShards.{across_split}
-use Rattle.row_ledger.proofs.Growth.{IsRight-kept}
-use Rattle.row_ledger.proofs.PulledRight.{all}
-use Rattle.row_ledger.proofs.SplitRight.{across_right}
+use Rattle.row_ledger.specs.{Worked.{site, once}, WorkedShards.across_split}
+use Rattle.row_ledger.proofs.{Growth.IsRight-kept, PulledRight.all, SplitRight.across_right}
 use Rattle.row_ledger.proofs.worked_shards.query_across_a_split_is_right.Goals as goal
 
 pub returns : goal.returns

@@ -1,16 +1,8 @@
-use Rattle.std.proofs.Common.{◌≡◌, ◌∙◌, ℕ, zero, suc, List, [], ◌∷◌, false, IsTrue, length, get_or, refl, ap, sym, subst, arith}
+use Rattle.std.proofs.{Common.{◌≡◌, ◌∙◌, ℕ, zero, suc, List, [], ◌∷◌, false, IsTrue, length, get_or, refl, ap, sym, subst, arith}, lemmas.Bool.{true≢false, false≢true}, lemmas.List.length-map, lemmas.List.Elements.All-map, lemmas.Map.Keys.apart_from_distinct}
 use Rattle.std.specs.Prelude.{nat_eq, All, Contains}
-use Rattle.std.proofs.lemmas.Bool.{true≢false, false≢true}
-use Rattle.std.proofs.lemmas.List.{length-map}
-use Rattle.std.proofs.lemmas.List.Elements.{All-map}
-use Rattle.std.proofs.lemmas.Map.Keys.{apart_from_distinct}
-use Rattle.dim_hierarchy.specs.declared.row.Row.{Row}
-use Rattle.dim_hierarchy.specs.Filter.{matches}
-use Rattle.dim_hierarchy.specs.Tree.{is_under, way_up}
+use Rattle.dim_hierarchy.specs.{Filter.matches, Tree.{is_under, way_up}, declared.row.Row.Row}
 use Rattle.measure_agg.specs.Aggregate.{Aggregate}
-use Rattle.row_ledger.specs.Bounds.{numbers}
-use Rattle.row_ledger.specs.Worked.{site, row, twice}
-use Rattle.row_ledger.specs.WorkedShards.{other, for_berlin}
+use Rattle.row_ledger.specs.{Bounds.numbers, Worked.{site, row, twice}, WorkedShards.{other, for_berlin}}
 use Rattle.row_ledger.proofs.Answering.{IsAllowed-right}
 use Rattle.row_ledger.proofs.worked_shards.row_counted_twice_after_a_split_is_wrong.Goals as goal
 

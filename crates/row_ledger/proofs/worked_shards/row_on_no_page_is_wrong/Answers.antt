@@ -1,13 +1,7 @@
-use Rattle.std.proofs.Common.{◌≡◌, List, [], ◌∷◌, ◌++◌, length, arith}
-use Rattle.std.specs.Prelude.{flat_map}
-use Rattle.std.specs.List.{AllZip}
-use Rattle.std.proofs.lemmas.List.{length-append}
-use Rattle.std.proofs.lemmas.List.Sorted.{length_permutation}
+use Rattle.std.proofs.{Common.{◌≡◌, List, [], ◌∷◌, ◌++◌, length, arith}, lemmas.List.length-append, lemmas.List.Sorted.length_permutation}
+use Rattle.std.specs.{List.AllZip, Prelude.flat_map}
 use Rattle.dim_hierarchy.specs.declared.row.Row.{Row}
-use Rattle.row_ledger.specs.Past.{acked_rows}
-use Rattle.row_ledger.specs.Pages.{IsShardLine}
-use Rattle.row_ledger.specs.Worked.{site, once}
-use Rattle.row_ledger.specs.WorkedShards.{across_split, lines_without}
+use Rattle.row_ledger.specs.{Pages.IsShardLine, Past.acked_rows, Worked.{site, once}, WorkedShards.{across_split, lines_without}}
 use Rattle.row_ledger.proofs.worked_shards.row_on_no_page_is_wrong.Goals as goal
 
 -- the lines have one row together

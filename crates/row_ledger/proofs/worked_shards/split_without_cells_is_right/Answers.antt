@@ -1,17 +1,8 @@
-use Rattle.std.proofs.Common.{[], ◌∷◌, refl, arith}
+use Rattle.std.proofs.{Common.{[], ◌∷◌, refl, arith}, lemmas.List.Elements.All-from_recursion}
 use Rattle.std.specs.Prelude.{Contains}
-use Rattle.std.proofs.lemmas.List.Elements.{All-from_recursion}
 use Rattle.shard_plan.specs.declared.action.Action.TheVariants as action
-use Rattle.row_ledger.specs.declared.settings.Call.TheVariants.{Split}
-use Rattle.row_ledger.specs.declared.settings.Decline.TheVariants.{NoCell}
-use Rattle.row_ledger.specs.declared.settings.How.TheVariants.{Declined}
-use Rattle.row_ledger.specs.Past.{Ack, before, acked_into}
-use Rattle.row_ledger.specs.Work.{AreReadOf, IsRightDecline}
-use Rattle.row_ledger.specs.Worked.{site, row}
-use Rattle.row_ledger.specs.WorkedShards.{other, to_split, split_declined}
-use Rattle.row_ledger.proofs.Growth.{KeepsRight-ended, IsRight-kept}
-use Rattle.row_ledger.proofs.PulledRight.{all}
-use Rattle.row_ledger.proofs.SplitRight.{to_split_right, to_split_answer}
+use Rattle.row_ledger.specs.{Past.{Ack, before, acked_into}, Work.{AreReadOf, IsRightDecline}, Worked.{site, row}, WorkedShards.{other, to_split, split_declined}, declared.settings.Call.TheVariants.Split, declared.settings.Decline.TheVariants.NoCell, declared.settings.How.TheVariants.Declined}
+use Rattle.row_ledger.proofs.{Growth.{KeepsRight-ended, IsRight-kept}, PulledRight.all, SplitRight.{to_split_right, to_split_answer}}
 use Rattle.row_ledger.proofs.worked_shards.split_without_cells_is_right.Goals as goal
 
 read : AreReadOf all (before to_split 7) to_split 0 (other ∷ row ∷ [])

@@ -1,6 +1,5 @@
 use Rattle.std.proofs.lemmas.List.Elements.{All-push}
-use Rattle.dim_hierarchy.specs.declared.row.Row.{Row}
-use Rattle.dim_hierarchy.specs.Row.{IsCoordOf}
+use Rattle.dim_hierarchy.specs.{Row.IsCoordOf, declared.row.Row.Row}
 use Rattle.run_tests.proofs.against_flat.insert.Goals as goal
 
 pub returns-in_err-insert-in-Ok : goal.returns-in_err-insert-in-Ok

@@ -1,8 +1,5 @@
-use Rattle.std.proofs.Common.{◌≡◌, ◌∙◌, ap, arith, subst, sym, rules, to_z, of_z, w64}
-use Rattle.std.proofs.lemmas.Int.{to_z-of_z}
-use Rattle.dim_hierarchy.specs.declared.row.Row.{Row}
-use Rattle.dim_hierarchy.specs.Row.{IsCoordOf}
-use Rattle.dim_hierarchy.specs.Filter.{matches}
+use Rattle.std.proofs.{Common.{◌≡◌, ◌∙◌, ap, arith, subst, sym, rules, to_z, of_z, w64}, lemmas.Int.to_z-of_z}
+use Rattle.dim_hierarchy.specs.{Filter.matches, Row.IsCoordOf, declared.row.Row.Row}
 use Rattle.measure_agg.specs.Joining.{join, one}
 use Rattle.measure_agg.proofs.AggLaws.{agg-filter_more}
 use Rattle.run_tests.proofs.flat.of_rows.Goals as goal

@@ -1,10 +1,7 @@
-use Rattle.std.proofs.Common.{◌≡◌, ◌∙◌, ◌+◌, ◌-◌, ◌≤◌, List, length, take, sym, refl, subst, arith}
-use Rattle.std.proofs.lemmas.List.{length-take-le, take-take, take_all}
+use Rattle.std.proofs.{Common.{◌≡◌, ◌∙◌, ◌+◌, ◌-◌, ◌≤◌, List, length, take, sym, refl, subst, arith}, lemmas.List.{length-take-le, take-take, take_all}}
 use Rattle.script_form.specs.declared.script.Command.{Command}
 use Rattle.script_run.specs.Streams.{NoneCloses}
-use Rattle.seeded_run.specs.Kept.{IsBetween}
-use Rattle.seeded_run.specs.Phase.{about, held}
-use Rattle.seeded_run.specs.Order.{is_order}
+use Rattle.seeded_run.specs.{Kept.IsBetween, Order.is_order, Phase.{about, held}}
 use Rattle.run_tests.proofs.MayRun.{can-open, ends-within, may-take}
 use Rattle.run_tests.proofs.runs.run_all.Goals as goal
 use Rattle.olap_top.proofs.PhaseSteps.{closes-of}

@@ -1,5 +1,4 @@
-use Rattle.std.proofs.Common.{All, arith, subst}
-use Rattle.std.proofs.lemmas.List.{take_all}
+use Rattle.std.proofs.{Common.{All, arith, subst}, lemmas.List.take_all}
 use Rattle.dim_hierarchy.specs.Names.{IsNamePick}
 use Rattle.run_tests.proofs.MayRun.{all-more}
 use Rattle.run_tests.proofs.scripts.are_picks.Goals as goal

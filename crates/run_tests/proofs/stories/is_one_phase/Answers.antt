@@ -1,6 +1,4 @@
-use Rattle.std.proofs.Common.{◌≡◌, ◌≤◌, arith, length, subst}
-use Rattle.std.proofs.lemmas.Bool.{eqb-true}
-use Rattle.std.proofs.lemmas.List.{take_all}
+use Rattle.std.proofs.{Common.{◌≡◌, ◌≤◌, arith, length, subst}, lemmas.Bool.eqb-true, lemmas.List.take_all}
 use Rattle.seeded_run.specs.Phase.{ClosesLast}
 use Rattle.run_tests.proofs.stories.is_one_phase.Goals as goal
 use Rattle.olap_top.proofs.PhaseSteps.{closes-last}

@@ -1,5 +1,4 @@
-use Rattle.std.proofs.Common.{[], ◌∷◌}
-use Rattle.std.proofs.lemmas.List.Elements.{All-nil, All-cons}
+use Rattle.std.proofs.{Common.{[], ◌∷◌}, lemmas.List.Elements.{All-nil, All-cons}}
 use Rattle.dim_hierarchy.specs.Row.{IsCoordOf}
 use Rattle.sales.proofs.sets.set_of_both.Goals as goal
 

@@ -1,7 +1,6 @@
 use Rattle.std.proofs.Common.{◌≡◌, ◌+◌, drop}
 use Rattle.csv.specs.Records.{fields_of}
-use Rattle.script_form.specs.Causes.{are_fields, is_named}
-use Rattle.script_form.specs.Table.{form_of}
+use Rattle.script_form.specs.{Causes.{are_fields, is_named}, Table.form_of}
 use Rattle.script_form.proofs.form.is_wrong_name.Given as goal
 
 abbrev pub invariant-loop-i : goal.invariant-loop-i

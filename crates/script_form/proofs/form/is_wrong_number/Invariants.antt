@@ -1,7 +1,6 @@
 use Rattle.std.proofs.Common.{◌≡◌, ◌+◌, drop}
 use Rattle.csv.specs.Records.{fields_of}
-use Rattle.script_form.specs.Causes.{are_fields, is_number}
-use Rattle.script_form.specs.Table.{form_of}
+use Rattle.script_form.specs.{Causes.{are_fields, is_number}, Table.form_of}
 use Rattle.script_form.proofs.form.is_wrong_number.Given as goal
 
 abbrev pub invariant-loop-i : goal.invariant-loop-i

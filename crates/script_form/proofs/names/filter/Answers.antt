@@ -1,7 +1,6 @@
 use Rattle.std.proofs.Common.{◌≡◌, ◌++◌, ◌∷◌, [], rules, length, ◌<◌}
 use Rattle.csv.specs.Records.{fields_of}
-use Rattle.script_form.specs.Fields.{field}
-use Rattle.script_form.specs.Scripts.{pick_of}
+use Rattle.script_form.specs.{Fields.field, Scripts.pick_of}
 use Rattle.script_form.proofs.FieldFacts.{picks_more}
 use Rattle.script_form.proofs.names.filter.Goals as goal
 

@@ -1,8 +1,6 @@
 use Rattle.std.proofs.Common.{◌<◌, ◌∙◌, ◌++◌, ◌∷◌, [], inl, inr, rules}
-use Rattle.csv.specs.Reading.{default_config, records_from, strip_bom}
-use Rattle.csv.specs.Records.{fields_of}
-use Rattle.script_form.proofs.RecordFacts.{none_read, reading_more, reading_stops}
-use Rattle.script_form.proofs.ScriptFacts.{none_so_far, one_more, script_bad, script_empty, script_good}
+use Rattle.csv.specs.{Reading.{default_config, records_from, strip_bom}, Records.fields_of}
+use Rattle.script_form.proofs.{RecordFacts.{none_read, reading_more, reading_stops}, ScriptFacts.{none_so_far, one_more, script_bad, script_empty, script_good}}
 use Rattle.script_form.proofs.reader.read_script.Goals as goal
 
 pub loop-at-init : goal.loop-at-init

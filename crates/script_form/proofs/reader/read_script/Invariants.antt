@@ -1,6 +1,5 @@
 use Rattle.std.proofs.Common.{List}
-use Rattle.script_form.proofs.RecordFacts.{IsReading}
-use Rattle.script_form.proofs.ScriptFacts.{SoFar}
+use Rattle.script_form.proofs.{RecordFacts.IsReading, ScriptFacts.SoFar}
 use Rattle.script_form.specs.Fields.{Record}
 use Rattle.script_form.proofs.reader.read_script.Given as goal
 

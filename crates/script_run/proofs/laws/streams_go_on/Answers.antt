@@ -1,6 +1,4 @@
-use Rattle.script_run.proofs.NextCommand.{next_law}
-use Rattle.script_run.proofs.StreamSteps.{begin_law, other_law}
-use Rattle.script_run.proofs.PhaseEnds.{start_law, finish_law}
+use Rattle.script_run.proofs.{NextCommand.next_law, PhaseEnds.{start_law, finish_law}, StreamSteps.{begin_law, other_law}}
 use Rattle.script_run.proofs.laws.streams_go_on.Goals as goal
 
 pub returns-clause-next : goal.returns-clause-next

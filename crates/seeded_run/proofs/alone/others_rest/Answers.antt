@@ -1,8 +1,6 @@
-use Rattle.std.proofs.Common.{◌∙◌, ◌≡◌, None, ap, arith, false, get_or, length, sym}
+use Rattle.std.proofs.{Common.{◌∙◌, ◌≡◌, None, ap, arith, false, get_or, length, sym}, lemmas.Bool.ne_eqb, lemmas.List.get_or_read}
 use Rattle.std.specs.Prelude.{◌==◌, ◌||◌}
-use Rattle.std.proofs.lemmas.Bool.{ne_eqb}
-use Rattle.std.proofs.lemmas.List.{get_or_read}
-use Rattle.seeded_run.proofs.Others.{all-fails, both-fail}
+use Rattle.seeded_run.proofs.Holding.Others.{all-fails, both-fail}
 use Rattle.seeded_run.specs.Look.{rests}
 use Rattle.seeded_run.proofs.alone.others_rest.Goals as goal
 

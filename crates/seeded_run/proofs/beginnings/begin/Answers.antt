@@ -1,11 +1,8 @@
 use Rattle.std.proofs.Common.{inl, refl}
 use Rattle.volap_cell.proofs.Outcomes.{on-ok}
 use Rattle.volap_cell.specs.declared.kind.Kind.TheVariants.{Note}
-use Rattle.seeded_run.specs.Commands.{beginning}
-use Rattle.seeded_run.specs.Due.{are_known}
-use Rattle.seeded_run.proofs.Afterwards.{step-then}
-use Rattle.seeded_run.proofs.BeginsReady.{to-begin-stays}
-use Rattle.seeded_run.proofs.Instead.{note-stands}
+use Rattle.seeded_run.specs.{Commands.beginning, Due.are_known}
+use Rattle.seeded_run.proofs.{Afterwards.step-then, Instead.note-stands, Ready.BeginsReady.to-begin-stays}
 use Rattle.seeded_run.proofs.beginnings.begin.Goals as goal
 
 pub refuse-requires-clause-begins : goal.refuse-requires-clause-begins

@@ -2,7 +2,7 @@ use Rattle.std.proofs.Common.{◌∙◌, ap, refl, sym}
 use Rattle.script_form.specs.declared.script.Command.TheVariants.{Control}
 use Rattle.volap_cell.specs.ImageKinds.{asks_registry}
 use Rattle.volap_cell.proofs.Outcomes.{on-ok}
-use Rattle.seeded_run.proofs.BeginsReady.{asking-ready, begun-call, called-ready}
+use Rattle.seeded_run.proofs.Ready.BeginsReady.{asking-ready, begun-call, called-ready}
 use Rattle.seeded_run.proofs.beginnings.begin_call.Goals as goal
 
 pub note_asking-requires-clause-ready : goal.note_asking-requires-clause-ready

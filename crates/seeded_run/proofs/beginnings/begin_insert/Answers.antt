@@ -1,12 +1,8 @@
-use Rattle.std.proofs.Common.{◌≡◌, true, is_none, refl, sym, ap, subst, to_z, of_z, w64, rules}
-use Rattle.std.proofs.lemmas.Int.{to_z-of_z}
+use Rattle.std.proofs.{Common.{◌≡◌, true, is_none, refl, sym, ap, subst, to_z, of_z, w64, rules}, lemmas.Int.to_z-of_z}
 use Rattle.script_form.specs.declared.script.Command.TheVariants.{Insert}
-use Rattle.volap_cell.specs.State.{Stepped}
-use Rattle.volap_cell.specs.declared.kind.Kind.{Kind}
-use Rattle.seeded_run.specs.Commands.{beginning_if}
-use Rattle.seeded_run.specs.Due.{are_known}
-use Rattle.seeded_run.proofs.BeginsReady.{begun-insert, insert-ready}
-use Rattle.seeded_run.proofs.DueBegins.{known-names, unknown-name}
+use Rattle.volap_cell.specs.{State.Stepped, declared.kind.Kind.Kind}
+use Rattle.seeded_run.specs.{Commands.beginning_if, Due.are_known}
+use Rattle.seeded_run.proofs.{Due.DueBegins.{known-names, unknown-name}, Ready.BeginsReady.{begun-insert, insert-ready}}
 use Rattle.seeded_run.proofs.beginnings.begin_insert.Goals as goal
 
 pub begin_insert-requires-clause-ready : goal.begin_insert-requires-clause-ready

@@ -1,11 +1,8 @@
 use Rattle.std.proofs.Common.{◌≡◌, true, is_none, refl, sym, ap, subst}
 use Rattle.script_form.specs.declared.script.Command.TheVariants.{Query}
-use Rattle.volap_cell.specs.State.{Stepped}
-use Rattle.volap_cell.specs.declared.kind.Kind.{Kind}
-use Rattle.seeded_run.specs.Commands.{beginning_if}
-use Rattle.seeded_run.specs.Due.{are_known}
-use Rattle.seeded_run.proofs.BeginsReady.{begun-query, query-ready}
-use Rattle.seeded_run.proofs.DueBegins.{known-picks}
+use Rattle.volap_cell.specs.{State.Stepped, declared.kind.Kind.Kind}
+use Rattle.seeded_run.specs.{Commands.beginning_if, Due.are_known}
+use Rattle.seeded_run.proofs.{Due.DueBegins.known-picks, Ready.BeginsReady.{begun-query, query-ready}}
 use Rattle.seeded_run.proofs.beginnings.begin_query.Goals as goal
 
 pub begin_query-requires-clause-ready : goal.begin_query-requires-clause-ready

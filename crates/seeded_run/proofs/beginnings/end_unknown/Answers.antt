@@ -1,5 +1,5 @@
 use Rattle.volap_cell.proofs.Outcomes.{on-ok}
-use Rattle.seeded_run.proofs.BeginsReady.{begun-unknown, unknown-ready}
+use Rattle.seeded_run.proofs.Ready.BeginsReady.{begun-unknown, unknown-ready}
 use Rattle.seeded_run.proofs.beginnings.end_unknown.Goals as goal
 
 pub note_unknown-requires-clause-ready : goal.note_unknown-requires-clause-ready

@@ -1,5 +1,5 @@
 use Rattle.volap_cell.proofs.Outcomes.{on-ok}
-use Rattle.seeded_run.proofs.BeginsReady.{begun-refused, refused-ready}
+use Rattle.seeded_run.proofs.Ready.BeginsReady.{begun-refused, refused-ready}
 use Rattle.seeded_run.proofs.beginnings.refuse.Goals as goal
 
 pub note_refused-requires-clause-ready : goal.note_refused-requires-clause-ready

@@ -1,14 +1,9 @@
 use Rattle.std.proofs.Common.{◌≡◌, ◌∙◌, false, Err, Some, is_none, sym, ap, subst}
 use Rattle.script_run.specs.Runs.{first_unknown}
 use Rattle.volap_cell.proofs.Outcomes.{on-ok}
-use Rattle.volap_cell.specs.State.{Stepped}
-use Rattle.volap_cell.specs.declared.kind.Kind.{Kind}
-use Rattle.volap_cell.specs.declared.kind.Kind.TheVariants.{Note}
-use Rattle.seeded_run.specs.Commands.{beginning, beginning_if}
-use Rattle.seeded_run.specs.Due.{are_known}
-use Rattle.seeded_run.proofs.Afterwards.{step-then}
-use Rattle.seeded_run.proofs.BeginsReady.{to-begin-stays}
-use Rattle.seeded_run.proofs.DueBegins.{ends-noted}
+use Rattle.volap_cell.specs.{State.Stepped, declared.kind.Kind.Kind, declared.kind.Kind.TheVariants.Note}
+use Rattle.seeded_run.specs.{Commands.{beginning, beginning_if}, Due.are_known}
+use Rattle.seeded_run.proofs.{Afterwards.step-then, Due.DueBegins.ends-noted, Ready.BeginsReady.to-begin-stays}
 use Rattle.seeded_run.proofs.beginnings.try_to_begin.Goals as goal
 
 pub end_unknown-requires-clause-begins : goal.end_unknown-requires-clause-begins

@@ -1,10 +1,9 @@
 use Rattle.std.proofs.Common.{◌∙◌, ◌≡◌, ℕ, [], Bool, ap, arith, false, refl, sym}
 use Rattle.std.specs.List.{list_any}
 use Rattle.query_router.specs.Desk.{waits_for}
-use Rattle.seeded_run.proofs.Others.{any-next}
+use Rattle.seeded_run.proofs.Holding.Others.{any-next}
 use Rattle.seeded_run.specs.Look.{cell_at, setting_by}
-use Rattle.volap_cell.specs.Cells.{desk_in}
-use Rattle.volap_cell.specs.Setting.{desk_cell}
+use Rattle.volap_cell.specs.{Cells.desk_in, Setting.desk_cell}
 use Rattle.seeded_run.proofs.begins_due.awaiting.Goals as goal
 
 pub returns-then-is_awaited_at-clause-some : goal.returns-then-is_awaited_at-clause-some

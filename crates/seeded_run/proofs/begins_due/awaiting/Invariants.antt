@@ -1,10 +1,8 @@
 use Rattle.std.proofs.Common.{◌≡◌, false, []}
 use Rattle.std.specs.List.{list_any}
 use Rattle.query_router.specs.Desk.{waits_for}
-use Rattle.seeded_run.specs.Due.{any_below}
-use Rattle.seeded_run.specs.Look.{cell_at, setting_by}
-use Rattle.volap_cell.specs.Cells.{desk_in}
-use Rattle.volap_cell.specs.Setting.{desk_cell}
+use Rattle.seeded_run.specs.{Due.any_below, Look.{cell_at, setting_by}}
+use Rattle.volap_cell.specs.{Cells.desk_in, Setting.desk_cell}
 use Rattle.seeded_run.proofs.begins_due.awaiting.Given as goal
 
 abbrev pub invariant-loop-server : goal.invariant-loop-server

@@ -1,11 +1,9 @@
 use Rattle.std.proofs.Common.{ℕ, [], Bool, None, Some, ap, if◌then◌else◌, refl, sym}
 use Rattle.std.specs.List.{list_any}
 use Rattle.query_router.specs.Desk.{waits_for}
-use Rattle.seeded_run.proofs.Others.{any-at}
+use Rattle.seeded_run.proofs.Holding.Others.{any-at}
 use Rattle.seeded_run.specs.Look.{cell_at, setting_by}
-use Rattle.volap_cell.specs.Cells.{desk_in}
-use Rattle.volap_cell.specs.Setting.{desk_cell}
-use Rattle.volap_cell.specs.declared.kind.Kind.TheVariants.{TakePart}
+use Rattle.volap_cell.specs.{Cells.desk_in, Setting.desk_cell, declared.kind.Kind.TheVariants.TakePart}
 use Rattle.seeded_run.proofs.begins_due.hand_kind.Goals as goal
 
 pub returns-in-Some : goal.returns-in-Some

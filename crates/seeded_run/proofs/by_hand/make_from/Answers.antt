@@ -1,8 +1,7 @@
 use Rattle.std.proofs.Common.{◌∙◌, ap, false, length, refl, subst}
 use Rattle.volap_cell.specs.declared.state.State.{State}
-use Rattle.seeded_run.specs.Machine.{streams_open}
-use Rattle.seeded_run.specs.Phase.{StopsBehindAny}
-use Rattle.seeded_run.proofs.FirstCursors.{first-moment}
+use Rattle.seeded_run.specs.{Machine.streams_open, Phase.StopsBehindAny}
+use Rattle.seeded_run.proofs.Cursors.FirstCursors.{first-moment}
 use Rattle.seeded_run.proofs.by_hand.make_from.Goals as goal
 
 pub make_whole-made-requires : goal.make_whole-made-requires

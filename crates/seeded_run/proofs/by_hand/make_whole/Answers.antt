@@ -1,6 +1,5 @@
 use Rattle.seeded_run.specs.Machine.{HoldsNow}
-use Rattle.seeded_run.proofs.ByHand.{after-look, later-then, moved-from-first, stopped-from-first}
-use Rattle.seeded_run.proofs.WholePhases.{begins-alone, begins-kept, some-actor, stopped-behind}
+use Rattle.seeded_run.proofs.{Phases.ByHand.{after-look, later-then, moved-from-first, stopped-from-first}, Phases.WholePhases.{begins-alone, begins-kept, some-actor, stopped-behind}}
 use Rattle.seeded_run.proofs.by_hand.make_whole.Goals as goal
 
 pub look_first-requires-clause-kept : goal.look_first-requires-clause-kept

@@ -1,6 +1,5 @@
 use Rattle.std.proofs.Common.{false}
-use Rattle.seeded_run.proofs.FirstCursors.{stopped-first}
-use Rattle.seeded_run.proofs.WholePhases.{may-behind}
+use Rattle.seeded_run.proofs.{Cursors.FirstCursors.stopped-first, Phases.WholePhases.may-behind}
 use Rattle.seeded_run.proofs.by_hand.run_by_hand.Goals as goal
 
 pub make_from-requires-clause-may_run : goal.make_from-requires-clause-may_run

@@ -1,10 +1,7 @@
 use Rattle.std.proofs.Common.{◌∙◌, ap, Some, sym, option_copied, option_map}
 use Rattle.volap_cell.specs.Values.{actor_of, errand_of}
-use Rattle.seeded_run.specs.Due.{actor_kind}
-use Rattle.seeded_run.specs.DueSteps.{kind_if, step_of}
-use Rattle.seeded_run.specs.Look.{ahead, alone_by, setting_by, world_by}
-use Rattle.seeded_run.specs.Takes.{is_free_by}
-use Rattle.seeded_run.proofs.DueSteps.{errand-goes}
+use Rattle.seeded_run.specs.{Due.actor_kind, DueSteps.{kind_if, step_of}, Look.{ahead, alone_by, setting_by, world_by}, Takes.is_free_by}
+use Rattle.seeded_run.proofs.Due.DueSteps.{errand-goes}
 use Rattle.seeded_run.proofs.can.actor_step.Goals as goal
 
 pub returns-in-Some : goal.returns-in-Some

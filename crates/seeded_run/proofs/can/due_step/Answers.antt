@@ -1,10 +1,7 @@
 use Rattle.std.proofs.Common.{◌∙◌, ◌&&◌, ap, cond, None, option_map, sym}
 use Rattle.volap_cell.specs.Steps.{history_in}
-use Rattle.seeded_run.specs.Can.{can, meets}
-use Rattle.seeded_run.specs.Due.{due}
-use Rattle.seeded_run.specs.DueSteps.{kind_if, step_of}
-use Rattle.seeded_run.specs.Rests.{first_open, rest_of}
-use Rattle.seeded_run.proofs.DueSteps.{in-turn}
+use Rattle.seeded_run.specs.{Can.{can, meets}, Due.due, DueSteps.{kind_if, step_of}, Rests.{first_open, rest_of}}
+use Rattle.seeded_run.proofs.Due.DueSteps.{in-turn}
 use Rattle.seeded_run.proofs.Takings as seen
 use Rattle.seeded_run.proofs.can.due_step.Goals as goal
 

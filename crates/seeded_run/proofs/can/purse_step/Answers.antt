@@ -1,10 +1,8 @@
 use Rattle.std.proofs.Common.{rules, ◌∙◌, ◌≡◌, ◌&&◌, false, is_none, not, option_copied, sym}
 use Rattle.volap_cell.specs.Values.{actor_of}
-use Rattle.seeded_run.specs.Due.{is_empty}
-use Rattle.seeded_run.specs.Look.{ahead, alone_by, setting_by, world_by}
-use Rattle.seeded_run.proofs.DueSteps.{free-step, opened-step}
+use Rattle.seeded_run.specs.{Due.is_empty, Look.{ahead, alone_by, setting_by, world_by}}
+use Rattle.seeded_run.proofs.{Due.DueSteps.{free-step, opened-step}, can.purse_step.Goals.{else-is_none-via-then-is_none+else-not-is_spent, else-is_none-via-else-is_none}}
 use Rattle.seeded_run.proofs.can.purse_step.Goals as goal
-use Rattle.seeded_run.proofs.can.purse_step.Goals.{else-is_none-via-then-is_none+else-not-is_spent, else-is_none-via-else-is_none}
 
 pub returns-in-Some : goal.returns-in-Some
 returns-in-Some c = λ h.

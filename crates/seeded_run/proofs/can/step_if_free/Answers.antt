@@ -1,10 +1,6 @@
-use Rattle.std.proofs.Common.{◌∙◌, ◌≡◌, List, Option, None, Some, ap, get_or, option_copied, subst, sym}
-use Rattle.std.proofs.lemmas.List.{get_or_read}
-use Rattle.volap_cell.specs.Values.{actor_of}
-use Rattle.volap_cell.specs.declared.cell.Cell.{Cell}
-use Rattle.seeded_run.specs.Can.{is_drained}
-use Rattle.seeded_run.specs.Look.{world_by}
-use Rattle.seeded_run.specs.Takes.{AsksHere}
+use Rattle.std.proofs.{Common.{◌∙◌, ◌≡◌, List, Option, None, Some, ap, get_or, option_copied, subst, sym}, lemmas.List.get_or_read}
+use Rattle.volap_cell.specs.{Values.actor_of, declared.cell.Cell.Cell}
+use Rattle.seeded_run.specs.{Can.is_drained, Look.world_by, Takes.AsksHere}
 use Rattle.seeded_run.proofs.Takings.{can-pick, desk-empty, stays-so, steps-so}
 use Rattle.seeded_run.proofs.can.step_if_free.Goals as goal
 

@@ -1,7 +1,6 @@
 use Rattle.std.proofs.Common.{refl}
 use Rattle.volap_cell.specs.declared.kind.Kind.TheVariants.{Ack}
-use Rattle.seeded_run.proofs.Afterwards.{other-step}
-use Rattle.seeded_run.proofs.CommandsHeld.{ack-ready, ack-session}
+use Rattle.seeded_run.proofs.{Afterwards.other-step, Holding.CommandsHeld.{ack-ready, ack-session}}
 use Rattle.seeded_run.proofs.commands.ack.Goals as goal
 
 pub session_server-server-requires-clause-session : goal.session_server-server-requires-clause-session

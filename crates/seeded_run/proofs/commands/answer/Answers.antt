@@ -1,7 +1,6 @@
 use Rattle.std.proofs.Common.{refl}
 use Rattle.volap_cell.specs.declared.kind.Kind.TheVariants.{Answer}
-use Rattle.seeded_run.proofs.Afterwards.{other-step}
-use Rattle.seeded_run.proofs.CommandsHeld.{answer-ready, answer-session}
+use Rattle.seeded_run.proofs.{Afterwards.other-step, Holding.CommandsHeld.{answer-ready, answer-session}}
 use Rattle.seeded_run.proofs.commands.answer.Goals as goal
 
 pub session_server-server-requires-clause-session : goal.session_server-server-requires-clause-session

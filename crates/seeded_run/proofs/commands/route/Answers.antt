@@ -1,7 +1,6 @@
 use Rattle.std.proofs.Common.{refl}
 use Rattle.volap_cell.specs.declared.kind.Kind.TheVariants.{Note, Route}
-use Rattle.seeded_run.proofs.Afterwards.{goes-on-then, noted-step, other-step}
-use Rattle.seeded_run.proofs.CommandsHeld.{route-ready, route-session, unrouted-ready}
+use Rattle.seeded_run.proofs.{Afterwards.{goes-on-then, noted-step, other-step}, Holding.CommandsHeld.{route-ready, route-session, unrouted-ready}}
 use Rattle.seeded_run.proofs.commands.route.Goals as goal
 
 pub session_server-server-requires-clause-session : goal.session_server-server-requires-clause-session

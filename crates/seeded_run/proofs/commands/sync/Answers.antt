@@ -1,7 +1,6 @@
 use Rattle.std.proofs.Common.{refl}
 use Rattle.volap_cell.specs.declared.kind.Kind.TheVariants.{Note, Sync}
-use Rattle.seeded_run.proofs.Afterwards.{goes-on-then, noted-step, other-step}
-use Rattle.seeded_run.proofs.WorksReady.{sync-ready, unpulled-ready}
+use Rattle.seeded_run.proofs.{Afterwards.{goes-on-then, noted-step, other-step}, Ready.WorksReady.{sync-ready, unpulled-ready}}
 use Rattle.seeded_run.proofs.commands.sync.Goals as goal
 
 pub sync-requires-clause-ready : goal.sync-requires-clause-ready

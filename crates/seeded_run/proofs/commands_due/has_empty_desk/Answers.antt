@@ -1,6 +1,5 @@
 use Rattle.std.proofs.Common.{◌∙◌, [], ap, is_none, refl, sym}
-use Rattle.seeded_run.specs.Due.{desk_of, is_empty_desk}
-use Rattle.seeded_run.specs.Look.{cell_at, setting_by, world_by}
+use Rattle.seeded_run.specs.{Due.{desk_of, is_empty_desk}, Look.{cell_at, setting_by, world_by}}
 use Rattle.volap_cell.specs.Cells.{desk_in}
 use Rattle.seeded_run.proofs.commands_due.has_empty_desk.Goals as goal
 

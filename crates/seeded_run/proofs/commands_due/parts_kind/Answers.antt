@@ -1,6 +1,5 @@
 use Rattle.std.proofs.Common.{◌∙◌, [], Some, ap, refl, sym}
-use Rattle.seeded_run.specs.Due.{desk_of, parts_kind}
-use Rattle.seeded_run.specs.Look.{cell_at, setting_by, world_by}
+use Rattle.seeded_run.specs.{Due.{desk_of, parts_kind}, Look.{cell_at, setting_by, world_by}}
 use Rattle.volap_cell.specs.Cells.{desk_in}
 use Rattle.seeded_run.proofs.commands_due.parts_kind.Goals as goal
 

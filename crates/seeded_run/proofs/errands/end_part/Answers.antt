@@ -1,7 +1,6 @@
 use Rattle.std.proofs.Common.{◌∙◌, ap, ℕ}
 use Rattle.volap_cell.specs.Setting.{desk_cell}
-use Rattle.seeded_run.proofs.Holds.{inv-of}
-use Rattle.seeded_run.proofs.PartsReady.{finish-ready}
+use Rattle.seeded_run.proofs.{Holding.Holds.inv-of, Ready.PartsReady.finish-ready}
 use Rattle.seeded_run.proofs.errands.end_part.Goals as goal
 
 pub finish_part-requires-clause-state : goal.finish_part-requires-clause-state

@@ -1,9 +1,6 @@
 use Rattle.std.proofs.Common.{◌∙◌, ap, ℕ, inl, inr}
-use Rattle.volap_cell.specs.Setting.{desk_cell, map_cell}
-use Rattle.volap_cell.specs.declared.kind.Kind.TheVariants.{FinishPart}
-use Rattle.seeded_run.proofs.Fallbacks.{ends-by, stays-then, still-core, still-is}
-use Rattle.seeded_run.proofs.Holds.{inv-of}
-use Rattle.seeded_run.proofs.PartsReady.{expand-ends, expand-ready}
+use Rattle.volap_cell.specs.{Setting.{desk_cell, map_cell}, declared.kind.Kind.TheVariants.FinishPart}
+use Rattle.seeded_run.proofs.{Fallbacks.{ends-by, stays-then, still-core, still-is}, Holding.Holds.inv-of, Ready.PartsReady.{expand-ends, expand-ready}}
 use Rattle.seeded_run.proofs.errands.expand.Goals as goal
 
 pub expand-requires-clause-state : goal.expand-requires-clause-state

@@ -1,8 +1,6 @@
 use Rattle.std.proofs.Common.{inl, inr}
-use Rattle.seeded_run.proofs.Holds.{inv-of}
-use Rattle.seeded_run.proofs.Fallbacks.{ends-by, stays-then, still-core, still-is}
+use Rattle.seeded_run.proofs.{Fallbacks.{ends-by, stays-then, still-core, still-is}, Holding.Holds.inv-of, Ready.PartsReady.refill-ready}
 use Rattle.volap_cell.specs.declared.kind.Kind.TheVariants.{FinishPart}
-use Rattle.seeded_run.proofs.PartsReady.{refill-ready}
 use Rattle.seeded_run.proofs.errands.fill.Goals as goal
 
 pub refill-requires-clause-state : goal.refill-requires-clause-state

@@ -1,4 +1,4 @@
-use Rattle.seeded_run.proofs.PartsReady.{ends-due}
+use Rattle.seeded_run.proofs.Ready.PartsReady.{ends-due}
 use Rattle.seeded_run.proofs.errands.finish_part.Goals as goal
 
 pub end_part-requires-clause-ends : goal.end_part-requires-clause-ends

@@ -1,7 +1,6 @@
 use Rattle.std.proofs.Common.{◌∙◌, ap, ℕ}
 use Rattle.volap_cell.specs.Setting.{desk_cell, map_cell}
-use Rattle.seeded_run.proofs.Holds.{inv-of}
-use Rattle.seeded_run.proofs.PartsReady.{forward-ready}
+use Rattle.seeded_run.proofs.{Holding.Holds.inv-of, Ready.PartsReady.forward-ready}
 use Rattle.seeded_run.proofs.errands.forward.Goals as goal
 
 pub forward-requires-clause-state : goal.forward-requires-clause-state

@@ -1,7 +1,6 @@
 use Rattle.std.proofs.Common.{◌∙◌, ap}
 use Rattle.seeded_run.specs.AtWork.{gate_on}
-use Rattle.seeded_run.proofs.Holds.{inv-of}
-use Rattle.seeded_run.proofs.PartsReady.{leave_tree-ready}
+use Rattle.seeded_run.proofs.{Holding.Holds.inv-of, Ready.PartsReady.leave_tree-ready}
 use Rattle.seeded_run.proofs.errands.leave_tree.Goals as goal
 
 pub leave_tree-requires-clause-state : goal.leave_tree-requires-clause-state

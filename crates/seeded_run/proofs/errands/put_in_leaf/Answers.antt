@@ -1,7 +1,6 @@
 use Rattle.std.proofs.Common.{◌∙◌, ap}
 use Rattle.seeded_run.specs.AtWork.{block_on}
-use Rattle.seeded_run.proofs.Holds.{inv-of}
-use Rattle.seeded_run.proofs.PartsReady.{put_in_leaf-ready}
+use Rattle.seeded_run.proofs.{Holding.Holds.inv-of, Ready.PartsReady.put_in_leaf-ready}
 use Rattle.seeded_run.proofs.errands.put_in_leaf.Goals as goal
 
 pub put_in_leaf-requires-clause-state : goal.put_in_leaf-requires-clause-state

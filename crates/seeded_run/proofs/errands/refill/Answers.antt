@@ -1,7 +1,6 @@
 use Rattle.std.proofs.Common.{◌∙◌, ap, sym}
 use Rattle.volap_cell.specs.Errands.{place_of}
-use Rattle.seeded_run.proofs.Holds.{inv-of}
-use Rattle.seeded_run.proofs.PartsReady.{give-ready, outside-way}
+use Rattle.seeded_run.proofs.{Holding.Holds.inv-of, Ready.PartsReady.{give-ready, outside-way}}
 use Rattle.seeded_run.proofs.errands.refill.Goals as goal
 
 pub fill-requires-clause-outside : goal.fill-requires-clause-outside

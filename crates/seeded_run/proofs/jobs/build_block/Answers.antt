@@ -1,8 +1,6 @@
 use Rattle.std.proofs.Common.{refl}
 use Rattle.volap_cell.specs.declared.kind.Kind.TheVariants.{BuildBlock}
-use Rattle.seeded_run.proofs.Afterwards.{other-step}
-use Rattle.seeded_run.proofs.Holds.{inv-of}
-use Rattle.seeded_run.proofs.JobsReady.{build_block-ready}
+use Rattle.seeded_run.proofs.{Afterwards.other-step, Holding.Holds.inv-of, Ready.JobsReady.build_block-ready}
 use Rattle.seeded_run.proofs.jobs.build_block.Goals as goal
 
 pub build_block-requires-clause-state : goal.build_block-requires-clause-state

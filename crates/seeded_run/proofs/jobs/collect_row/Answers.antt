@@ -1,9 +1,6 @@
 use Rattle.std.proofs.Common.{refl}
 use Rattle.volap_cell.specs.declared.kind.Kind.TheVariants.{Collect, Postpone}
-use Rattle.seeded_run.proofs.Afterwards.{goes-on-then, other-step}
-use Rattle.seeded_run.proofs.Fallbacks.{still-core}
-use Rattle.seeded_run.proofs.Holds.{inv-of}
-use Rattle.seeded_run.proofs.JobsReady.{collect-frozen, collect_row-ready, gives-up-then, still-there}
+use Rattle.seeded_run.proofs.{Afterwards.{goes-on-then, other-step}, Fallbacks.still-core, Holding.Holds.inv-of, Ready.JobsReady.{collect-frozen, collect_row-ready, gives-up-then, still-there}}
 use Rattle.seeded_run.proofs.jobs.collect_row.Goals as goal
 
 pub collect_row-requires-clause-state : goal.collect_row-requires-clause-state

@@ -1,8 +1,6 @@
 use Rattle.std.proofs.Common.{refl}
 use Rattle.volap_cell.specs.declared.kind.Kind.TheVariants.{Drained}
-use Rattle.seeded_run.proofs.Afterwards.{other-step}
-use Rattle.seeded_run.proofs.Holds.{inv-of}
-use Rattle.seeded_run.proofs.JobsReady.{drained-ready}
+use Rattle.seeded_run.proofs.{Afterwards.other-step, Holding.Holds.inv-of, Ready.JobsReady.drained-ready}
 use Rattle.seeded_run.proofs.jobs.drained.Goals as goal
 
 pub drained-requires-clause-state : goal.drained-requires-clause-state

@@ -1,10 +1,7 @@
 use Rattle.std.proofs.Common.{[], ◌∷◌, subst, sym}
-use Rattle.core_steps.specs.AskedNotes.{NotesEnded}
-use Rattle.core_steps.specs.Ready.{MayStep}
+use Rattle.core_steps.specs.{AskedNotes.NotesEnded, Ready.MayStep}
 use Rattle.row_ledger.specs.declared.settings.How.{How}
-use Rattle.seeded_run.proofs.Afterwards.{noted-step}
-use Rattle.seeded_run.proofs.Holds.{inv-of}
-use Rattle.seeded_run.proofs.JobsReady.{through-ready}
+use Rattle.seeded_run.proofs.{Afterwards.noted-step, Holding.Holds.inv-of, Ready.JobsReady.through-ready}
 use Rattle.seeded_run.proofs.jobs.end_balance.Goals as goal
 
 pub note_ended-requires-clause-state : goal.note_ended-requires-clause-state

@@ -1,6 +1,4 @@
-use Rattle.seeded_run.proofs.Afterwards.{noted-step}
-use Rattle.seeded_run.proofs.Holds.{inv-of}
-use Rattle.seeded_run.proofs.JobsReady.{first-leaves, unfrozen-may}
+use Rattle.seeded_run.proofs.{Afterwards.noted-step, Holding.Holds.inv-of, Ready.JobsReady.{first-leaves, unfrozen-may}}
 use Rattle.std.proofs.Common.{sym, ◌∙◌}
 use Rattle.seeded_run.proofs.jobs.end_unfrozen.Goals as goal
 

@@ -1,10 +1,6 @@
 use Rattle.std.proofs.Common.{◌∙◌, ap, refl, ℕ}
-use Rattle.volap_cell.specs.Setting.{map_cell}
-use Rattle.volap_cell.specs.declared.kind.Kind.TheVariants.{Freeze, Note}
-use Rattle.seeded_run.proofs.Afterwards.{goes-on-then, other-step}
-use Rattle.seeded_run.proofs.Fallbacks.{still-core}
-use Rattle.seeded_run.proofs.Holds.{inv-of}
-use Rattle.seeded_run.proofs.JobsReady.{first-then, freeze-first, freeze-ready, still-there}
+use Rattle.volap_cell.specs.{Setting.map_cell, declared.kind.Kind.TheVariants.{Freeze, Note}}
+use Rattle.seeded_run.proofs.{Afterwards.{goes-on-then, other-step}, Fallbacks.still-core, Holding.Holds.inv-of, Ready.JobsReady.{first-then, freeze-first, freeze-ready, still-there}}
 use Rattle.seeded_run.proofs.jobs.freeze.Goals as goal
 
 pub freeze-requires-clause-state : goal.freeze-requires-clause-state

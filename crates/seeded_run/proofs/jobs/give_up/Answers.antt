@@ -1,8 +1,6 @@
 use Rattle.std.proofs.Common.{refl}
 use Rattle.volap_cell.specs.declared.kind.Kind.TheVariants.{Postpone}
-use Rattle.seeded_run.proofs.Afterwards.{other-step}
-use Rattle.seeded_run.proofs.Holds.{inv-of}
-use Rattle.seeded_run.proofs.JobsReady.{give_up-may}
+use Rattle.seeded_run.proofs.{Afterwards.other-step, Holding.Holds.inv-of, Ready.JobsReady.give_up-may}
 use Rattle.seeded_run.proofs.jobs.give_up.Goals as goal
 
 pub postpone-requires-clause-state : goal.postpone-requires-clause-state

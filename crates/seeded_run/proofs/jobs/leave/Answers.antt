@@ -1,6 +1,4 @@
-use Rattle.seeded_run.proofs.Afterwards.{noted-step}
-use Rattle.seeded_run.proofs.Holds.{inv-of}
-use Rattle.seeded_run.proofs.JobsReady.{leave-may}
+use Rattle.seeded_run.proofs.{Afterwards.noted-step, Holding.Holds.inv-of, Ready.JobsReady.leave-may}
 use Rattle.seeded_run.proofs.jobs.leave.Goals as goal
 
 pub note_left-requires-clause-state : goal.note_left-requires-clause-state

@@ -1,5 +1,5 @@
 use Rattle.std.proofs.Common.{sym, ◌∙◌}
-use Rattle.seeded_run.proofs.JobsReady.{declined-leaves}
+use Rattle.seeded_run.proofs.Ready.JobsReady.{declined-leaves}
 use Rattle.seeded_run.proofs.jobs.note_balance.Goals as goal
 
 pub leave-requires-clause-left : goal.leave-requires-clause-left

@@ -1,4 +1,4 @@
-use Rattle.seeded_run.proofs.Cursors.{cursor-law, first-law, last-law}
+use Rattle.seeded_run.proofs.Cursors.Cursors.{cursor-law, first-law, last-law}
 use Rattle.seeded_run.proofs.laws.cursors_tell_rests.Goals as goal
 
 pub returns-clause-cursor : goal.returns-clause-cursor

@@ -1,5 +1,4 @@
-use Rattle.seeded_run.proofs.Instead.{made-as-due}
-use Rattle.seeded_run.proofs.OneTurn.{one-turn}
+use Rattle.seeded_run.proofs.{Instead.made-as-due, Phases.OneTurn.one-turn}
 use Rattle.seeded_run.proofs.laws.due_steps_are_made.Goals as goal
 
 pub returns-clause-made : goal.returns-clause-made

@@ -1,5 +1,4 @@
-use Rattle.seeded_run.proofs.Ranks.{rank-falls, step-falls}
-use Rattle.seeded_run.proofs.Waiting.{waiting-law}
+use Rattle.seeded_run.proofs.{Phases.Ranks.{rank-falls, step-falls}, Phases.Waiting.waiting-law}
 use Rattle.seeded_run.proofs.laws.less_is_left.Goals as goal
 
 pub returns-clause-rank : goal.returns-clause-rank

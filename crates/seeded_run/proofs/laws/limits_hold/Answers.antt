@@ -1,4 +1,4 @@
-use Rattle.seeded_run.proofs.Limits.{limits-law}
+use Rattle.seeded_run.proofs.Phases.Limits.{limits-law}
 use Rattle.seeded_run.proofs.laws.limits_hold.Goals as goal
 
 pub returns : goal.returns

@@ -1,4 +1,4 @@
-use Rattle.seeded_run.proofs.Dues.{free-law, at-part-law}
+use Rattle.seeded_run.proofs.Due.Dues.{free-law, at-part-law}
 use Rattle.seeded_run.proofs.laws.parts_go_on.Goals as goal
 
 pub returns-clause-part : goal.returns-clause-part

@@ -1,4 +1,4 @@
-use Rattle.seeded_run.proofs.PhaseRuns.{phase-begins-law, phase-ends-law, runs-law}
+use Rattle.seeded_run.proofs.Phases.PhaseRuns.{phase-begins-law, phase-ends-law, runs-law}
 use Rattle.seeded_run.proofs.laws.phases_begin_and_end.Goals as goal
 
 pub returns-clause-begins : goal.returns-clause-begins

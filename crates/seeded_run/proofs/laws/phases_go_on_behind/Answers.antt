@@ -1,4 +1,4 @@
-use Rattle.seeded_run.proofs.PhaseRuns.{behind-begins-law, behind-ends-law, stops-law}
+use Rattle.seeded_run.proofs.Phases.PhaseRuns.{behind-begins-law, behind-ends-law, stops-law}
 use Rattle.seeded_run.proofs.laws.phases_go_on_behind.Goals as goal
 
 pub returns-clause-begins : goal.returns-clause-begins

@@ -1,7 +1,4 @@
-use Rattle.seeded_run.proofs.Ends.{end-law}
-use Rattle.seeded_run.proofs.Movers.{can-law}
-use Rattle.seeded_run.proofs.Orders.{order-end-law}
-use Rattle.seeded_run.proofs.Progress.{due-law}
+use Rattle.seeded_run.proofs.{Phases.Ends.end-law, Phases.Movers.can-law, Phases.Orders.order-end-law, Phases.Progress.due-law}
 use Rattle.seeded_run.proofs.laws.somebody_goes_on.Goals as goal
 
 pub returns-clause-due : goal.returns-clause-due

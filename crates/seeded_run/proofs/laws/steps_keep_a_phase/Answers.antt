@@ -1,5 +1,4 @@
-use Rattle.seeded_run.proofs.Begins.{keeps-beginning-law, quiet-law}
-use Rattle.seeded_run.proofs.Keeps.{keeps-other-law}
+use Rattle.seeded_run.proofs.{Begins.{keeps-beginning-law, quiet-law}, Phases.Keeps.keeps-other-law}
 use Rattle.seeded_run.proofs.laws.steps_keep_a_phase.Goals as goal
 
 pub returns-clause-other : goal.returns-clause-other

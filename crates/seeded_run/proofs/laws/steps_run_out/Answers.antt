@@ -1,5 +1,4 @@
-use Rattle.seeded_run.proofs.Counted.{counted-law}
-use Rattle.seeded_run.proofs.Measure.{fewer-law, most-law, steps-left-law}
+use Rattle.seeded_run.proofs.{Counted.counted-law, Phases.Measure.{fewer-law, most-law, steps-left-law}}
 use Rattle.seeded_run.proofs.laws.steps_run_out.Goals as goal
 
 pub returns-clause-step : goal.returns-clause-step

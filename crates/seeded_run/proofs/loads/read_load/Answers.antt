@@ -1,5 +1,5 @@
 use Rattle.std.proofs.Common.{sym, ◌∙◌}
-use Rattle.seeded_run.proofs.LoadsReady.{load-there}
+use Rattle.seeded_run.proofs.Ready.LoadsReady.{load-there}
 use Rattle.seeded_run.proofs.loads.read_load.Goals as goal
 
 pub unreachable-requires : goal.unreachable-requires

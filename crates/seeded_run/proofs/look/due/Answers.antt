@@ -1,5 +1,4 @@
-use Rattle.std.proofs.Common.{◌∙◌, ◌≡◌, None, Some, get_or, option_copied, sym}
-use Rattle.std.proofs.lemmas.List.{get_or_read}
+use Rattle.std.proofs.{Common.{◌∙◌, ◌≡◌, None, Some, get_or, option_copied, sym}, lemmas.List.get_or_read}
 use Rattle.seeded_run.proofs.Looks.{due-seen}
 use Rattle.seeded_run.proofs.look.due.Goals as goal
 

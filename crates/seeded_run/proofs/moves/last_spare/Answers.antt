@@ -1,6 +1,6 @@
 use Rattle.std.proofs.Common.{◌∙◌, ap, sym}
 use Rattle.seeded_run.specs.Moves.{cell_of_spare, last_spare}
-use Rattle.seeded_run.proofs.DueJobs.{last-at}
+use Rattle.seeded_run.proofs.Due.DueJobs.{last-at}
 use Rattle.seeded_run.proofs.moves.last_spare.Goals as goal
 
 pub returns-in-Some : goal.returns-in-Some

@@ -1,11 +1,6 @@
 use Rattle.std.proofs.Common.{◌∙◌, ap, refl, ℕ}
-use Rattle.volap_cell.specs.Setting.{map_cell}
-use Rattle.volap_cell.specs.declared.kind.Kind.TheVariants.{FinishMove, Postpone}
-use Rattle.seeded_run.proofs.Afterwards.{goes-on-then, other-step}
-use Rattle.seeded_run.proofs.Fallbacks.{still-core}
-use Rattle.seeded_run.proofs.Holds.{inv-of}
-use Rattle.seeded_run.proofs.JobsReady.{gives-up-then, still-there}
-use Rattle.seeded_run.proofs.MovesReady.{away-ready, move-frozen}
+use Rattle.volap_cell.specs.{Setting.map_cell, declared.kind.Kind.TheVariants.{FinishMove, Postpone}}
+use Rattle.seeded_run.proofs.{Afterwards.{goes-on-then, other-step}, Fallbacks.still-core, Holding.Holds.inv-of, Ready.JobsReady.{gives-up-then, still-there}, Ready.MovesReady.{away-ready, move-frozen}}
 use Rattle.seeded_run.proofs.moves.move_away.Goals as goal
 
 pub finish_move-requires-clause-state : goal.finish_move-requires-clause-state

@@ -1,7 +1,5 @@
 use Rattle.std.proofs.Common.{List, subst, sym}
-use Rattle.volap_cell.specs.Filling.{setting_for}
-use Rattle.volap_cell.specs.Numbering.{IsSetting}
-use Rattle.volap_cell.specs.declared.role.Role.{Role}
+use Rattle.volap_cell.specs.{Filling.setting_for, Numbering.IsSetting, declared.role.Role.Role}
 use Rattle.seeded_run.proofs.Openings.{opened-between, opened-core, opened-roles, opened-so, opens}
 use Rattle.seeded_run.proofs.opening.open_core.Goals as goal
 

@@ -1,5 +1,5 @@
 use Rattle.std.proofs.Common.{refl, []}
-use Rattle.seeded_run.proofs.FirstCursors.{stopped-first}
+use Rattle.seeded_run.proofs.Cursors.FirstCursors.{stopped-first}
 use Rattle.seeded_run.proofs.phase.run_commands.Goals as goal
 
 pub returns-in-Err-clause-stopped : goal.returns-in-Err-clause-stopped

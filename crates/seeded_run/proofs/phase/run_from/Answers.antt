@@ -1,12 +1,9 @@
 use Rattle.std.proofs.Common.{◌∙◌, ap, length, refl, subst}
 use Rattle.std.specs.Prelude.{OnErr, OnOk}
 use Rattle.volap_cell.specs.declared.state.State.{State}
-use Rattle.seeded_run.specs.Machine.{streams_open}
+use Rattle.seeded_run.specs.{Kept.{AreIdle, HasBegunAll}, Machine.streams_open, Order.is_order, Phase.{EndsBehindAny, StopsBehindAny, held, phase_from}}
 use Rattle.row_ledger.specs.declared.settings.Use.{Use}
-use Rattle.seeded_run.specs.Kept.{AreIdle, HasBegunAll}
-use Rattle.seeded_run.specs.Phase.{EndsBehindAny, StopsBehindAny, held, phase_from}
-use Rattle.seeded_run.specs.Order.{is_order}
-use Rattle.seeded_run.proofs.FirstCursors.{first-moment}
+use Rattle.seeded_run.proofs.Cursors.FirstCursors.{first-moment}
 use Rattle.seeded_run.proofs.phase.run_from.Goals as goal
 
 pub run_whole-ran-requires-clause-first : goal.run_whole-ran-requires-clause-first

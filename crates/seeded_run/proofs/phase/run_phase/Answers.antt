@@ -1,6 +1,5 @@
-use Rattle.seeded_run.specs.Order.{is_order}
-use Rattle.seeded_run.specs.Phase.{EndsBehindAny, StopsBehindAny}
-use Rattle.seeded_run.proofs.WholePhases.{may-behind, on-fault, on-one}
+use Rattle.seeded_run.specs.{Order.is_order, Phase.{EndsBehindAny, StopsBehindAny}}
+use Rattle.seeded_run.proofs.Phases.WholePhases.{may-behind, on-fault, on-one}
 use Rattle.seeded_run.proofs.phase.run_phase.Goals as goal
 
 pub run_commands-requires-clause-may_run : goal.run_commands-requires-clause-may_run

@@ -1,5 +1,5 @@
 use Rattle.seeded_run.specs.Machine.{HoldsNow, LeavesAtMost}
-use Rattle.seeded_run.proofs.WholePhases.{PartRun, WholeRun, any-way, begins-alone, begins-kept, ends-so, has-left, on-fault, on-one, some-actor}
+use Rattle.seeded_run.proofs.Phases.WholePhases.{PartRun, WholeRun, any-way, begins-alone, begins-kept, ends-so, has-left, on-fault, on-one, some-actor}
 use Rattle.seeded_run.proofs.phase.run_whole.Goals as goal
 
 pub look_first-requires-clause-kept : goal.look_first-requires-clause-kept

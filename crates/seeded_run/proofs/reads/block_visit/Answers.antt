@@ -1,8 +1,6 @@
 use Rattle.std.proofs.Common.{inl, inr}
 use Rattle.volap_cell.specs.declared.kind.Kind.TheVariants.{FinishPart}
-use Rattle.seeded_run.proofs.Fallbacks.{ends-by, stays-then, still-core, still-is}
-use Rattle.seeded_run.proofs.Holds.{inv-of}
-use Rattle.seeded_run.proofs.ReadsReady.{block_visit-ends, block_visit-ready}
+use Rattle.seeded_run.proofs.{Fallbacks.{ends-by, stays-then, still-core, still-is}, Holding.Holds.inv-of, Ready.ReadsReady.{block_visit-ends, block_visit-ready}}
 use Rattle.seeded_run.proofs.reads.block_visit.Goals as goal
 
 pub block_visit-requires-clause-state : goal.block_visit-requires-clause-state

@@ -1,9 +1,6 @@
 use Rattle.std.proofs.Common.{◌∙◌, ap, ℕ, inl, inr}
-use Rattle.volap_cell.specs.Setting.{map_cell}
-use Rattle.volap_cell.specs.declared.kind.Kind.TheVariants.{FinishPart}
-use Rattle.seeded_run.proofs.Fallbacks.{ends-by, stays-then, still-core, still-is}
-use Rattle.seeded_run.proofs.Holds.{inv-of}
-use Rattle.seeded_run.proofs.ReadsReady.{gate_read-ends, gate_read-ready}
+use Rattle.volap_cell.specs.{Setting.map_cell, declared.kind.Kind.TheVariants.FinishPart}
+use Rattle.seeded_run.proofs.{Fallbacks.{ends-by, stays-then, still-core, still-is}, Holding.Holds.inv-of, Ready.ReadsReady.{gate_read-ends, gate_read-ready}}
 use Rattle.seeded_run.proofs.reads.gate_read.Goals as goal
 
 pub gate_read-requires-clause-state : goal.gate_read-requires-clause-state

@@ -1,7 +1,6 @@
 use Rattle.std.proofs.Common.{◌∙◌, ap, ℕ}
 use Rattle.volap_cell.specs.Setting.{map_cell}
-use Rattle.seeded_run.proofs.Holds.{inv-of}
-use Rattle.seeded_run.proofs.ReadsReady.{look_up-ready}
+use Rattle.seeded_run.proofs.{Holding.Holds.inv-of, Ready.ReadsReady.look_up-ready}
 use Rattle.seeded_run.proofs.reads.look_up.Goals as goal
 
 pub look_up-requires-clause-state : goal.look_up-requires-clause-state

@@ -1,12 +1,8 @@
 use Rattle.std.proofs.Common.{◌∙◌, List, Option, ap}
 use Rattle.dc_node.specs.Block.{is_full}
-use Rattle.volap_cell.specs.Cells.{block_in}
-use Rattle.volap_cell.specs.declared.cell.Cell.{Cell}
-use Rattle.seeded_run.specs.AtWork.{block_on, held_pin}
-use Rattle.seeded_run.specs.Look.{cell_at}
-use Rattle.seeded_run.specs.Rows.{first_behind, second_behind}
-use Rattle.seeded_run.proofs.Holds.{inv-of}
-use Rattle.seeded_run.proofs.RowsReady.{can-pick-by, down-ready}
+use Rattle.volap_cell.specs.{Cells.block_in, declared.cell.Cell.Cell}
+use Rattle.seeded_run.specs.{AtWork.{block_on, held_pin}, Look.cell_at, Rows.{first_behind, second_behind}}
+use Rattle.seeded_run.proofs.{Holding.Holds.inv-of, Ready.RowsReady.{can-pick-by, down-ready}}
 use Rattle.seeded_run.proofs.rows.down.Goals as goal
 
 pub lead_by-head-requires : goal.lead_by-head-requires

@@ -1,9 +1,6 @@
 use Rattle.std.proofs.Common.{◌∙◌, ap, ℕ, inl, inr}
-use Rattle.volap_cell.specs.Setting.{map_cell}
-use Rattle.volap_cell.specs.declared.kind.Kind.TheVariants.{FinishPart}
-use Rattle.seeded_run.proofs.Fallbacks.{ends-by, stays-then, still-core, still-is}
-use Rattle.seeded_run.proofs.Holds.{inv-of}
-use Rattle.seeded_run.proofs.RowsReady.{enter_queue-ends, enter_queue-ready}
+use Rattle.volap_cell.specs.{Setting.map_cell, declared.kind.Kind.TheVariants.FinishPart}
+use Rattle.seeded_run.proofs.{Fallbacks.{ends-by, stays-then, still-core, still-is}, Holding.Holds.inv-of, Ready.RowsReady.{enter_queue-ends, enter_queue-ready}}
 use Rattle.seeded_run.proofs.rows.enter_queue.Goals as goal
 
 pub enter_queue-requires-clause-state : goal.enter_queue-requires-clause-state

@@ -1,15 +1,8 @@
 use Rattle.std.proofs.Common.{◌∙◌, List, Option, ap, ℕ}
 use Rattle.dc_node.specs.Block.{is_full}
-use Rattle.volap_cell.specs.Cells.{block_in, way_in}
-use Rattle.volap_cell.specs.Setting.{map_cell}
-use Rattle.volap_cell.specs.declared.cell.Cell.{Cell}
-use Rattle.volap_cell.specs.declared.kind.Kind.TheVariants.{EnterTree}
-use Rattle.seeded_run.specs.AtWork.{held_pin}
-use Rattle.seeded_run.specs.Look.{cell_at}
-use Rattle.seeded_run.specs.Rows.{first_behind, root_lead, second_behind}
-use Rattle.seeded_run.proofs.Fallbacks.{stays-then, still-core}
-use Rattle.seeded_run.proofs.Holds.{inv-of}
-use Rattle.seeded_run.proofs.RowsReady.{enter_tree-ready, enter_tree-some, same-may, same-stays}
+use Rattle.volap_cell.specs.{Cells.{block_in, way_in}, Setting.map_cell, declared.cell.Cell.Cell, declared.kind.Kind.TheVariants.EnterTree}
+use Rattle.seeded_run.specs.{AtWork.held_pin, Look.cell_at, Rows.{first_behind, root_lead, second_behind}}
+use Rattle.seeded_run.proofs.{Fallbacks.{stays-then, still-core}, Holding.Holds.inv-of, Ready.RowsReady.{enter_tree-ready, enter_tree-some, same-may, same-stays}}
 use Rattle.seeded_run.proofs.rows.enter_tree.Goals as goal
 
 pub last_two_by-last-requires : goal.last_two_by-last-requires

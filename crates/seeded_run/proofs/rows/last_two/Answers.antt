@@ -1,6 +1,6 @@
 use Rattle.std.proofs.Common.{◌∙◌, sym}
-use Rattle.core_tree.proofs.Behind.{last-same}
-use Rattle.seeded_run.proofs.DueRows.{append-two}
+use Rattle.core_tree.proofs.Calls.Behind.{last-same}
+use Rattle.seeded_run.proofs.Due.DueRows.{append-two}
 use Rattle.seeded_run.proofs.rows.last_two.Goals as goal
 
 pub returns-clause-before : goal.returns-clause-before

@@ -1,5 +1,4 @@
-use Rattle.std.proofs.Common.{◌∙◌, List, Option, Some, ap, set, sym}
-use Rattle.std.proofs.lemmas.List.{set-get_or}
+use Rattle.std.proofs.{Common.{◌∙◌, List, Option, Some, ap, set, sym}, lemmas.List.set-get_or}
 use Rattle.volap_cell.specs.declared.actor.Actor.{Actor}
 use Rattle.seeded_run.proofs.rows.last_two_by.Goals as goal
 

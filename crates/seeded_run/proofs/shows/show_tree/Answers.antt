@@ -1,6 +1,5 @@
 use Rattle.row_ledger.specs.declared.page.Page.TheVariants.{Tree}
-use Rattle.seeded_run.proofs.Afterwards.{noted-step}
-use Rattle.seeded_run.proofs.ShowsReady.{can-see-in, ended-ready, gate-so, seen-so, shown-ready, tells-page}
+use Rattle.seeded_run.proofs.{Afterwards.noted-step, Ready.ShowsReady.{can-see-in, ended-ready, gate-so, seen-so, shown-ready, tells-page}}
 use Rattle.seeded_run.proofs.shows.show_tree.Goals as goal
 
 pub tree_page_at-requires-clause-can : goal.tree_page_at-requires-clause-can

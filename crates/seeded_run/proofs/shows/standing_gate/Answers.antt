@@ -1,7 +1,5 @@
 use Rattle.std.proofs.Common.{◌∙◌, ap, sym}
-use Rattle.seeded_run.specs.Led.{gate_there}
-use Rattle.seeded_run.specs.Look.{cell_at}
-use Rattle.seeded_run.specs.Shown.{gate_of_host}
+use Rattle.seeded_run.specs.{Led.gate_there, Look.cell_at, Shown.gate_of_host}
 use Rattle.volap_cell.specs.Cells.{where_in}
 use Rattle.seeded_run.proofs.shows.standing_gate.Goals as goal
 

@@ -1,7 +1,5 @@
 use Rattle.std.proofs.Common.{◌≡◌, List, Option, subst}
-use Rattle.volap_cell.specs.declared.actor.Actor.{Actor}
-use Rattle.volap_cell.specs.declared.cell.Cell.{Cell}
-use Rattle.volap_cell.specs.declared.kind.Kind.TheVariants.{FinishSplit}
+use Rattle.volap_cell.specs.{declared.actor.Actor.Actor, declared.cell.Cell.Cell, declared.kind.Kind.TheVariants.FinishSplit}
 use Rattle.seeded_run.specs.Arms.{GoesOnWithCommand}
 use Rattle.seeded_run.proofs.splits.finish_split.Goals as goal
 

@@ -1,11 +1,6 @@
 use Rattle.std.proofs.Common.{◌∙◌, ap, refl, ℕ}
-use Rattle.volap_cell.specs.Setting.{map_cell}
-use Rattle.volap_cell.specs.declared.kind.Kind.TheVariants.{FinishSplit, Postpone}
-use Rattle.seeded_run.proofs.Afterwards.{goes-on-then, other-step}
-use Rattle.seeded_run.proofs.Fallbacks.{still-core}
-use Rattle.seeded_run.proofs.Holds.{inv-of}
-use Rattle.seeded_run.proofs.JobsReady.{gives-up-then, still-there}
-use Rattle.seeded_run.proofs.SplitsReady.{split-frozen, split-ready}
+use Rattle.volap_cell.specs.{Setting.map_cell, declared.kind.Kind.TheVariants.{FinishSplit, Postpone}}
+use Rattle.seeded_run.proofs.{Afterwards.{goes-on-then, other-step}, Fallbacks.still-core, Holding.Holds.inv-of, Ready.JobsReady.{gives-up-then, still-there}, Ready.SplitsReady.{split-frozen, split-ready}}
 use Rattle.seeded_run.proofs.splits.split_at.Goals as goal
 
 pub finish_split-requires-clause-state : goal.finish_split-requires-clause-state

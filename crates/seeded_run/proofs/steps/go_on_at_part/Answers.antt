@@ -1,6 +1,6 @@
 use Rattle.std.proofs.Common.{refl}
 use Rattle.volap_cell.specs.declared.kind.Kind.TheVariants as kind
-use Rattle.seeded_run.proofs.StepsReady.{either-ends, goes-so, part-there}
+use Rattle.seeded_run.proofs.Ready.StepsReady.{either-ends, goes-so, part-there}
 use Rattle.seeded_run.proofs.steps.go_on_at_part.Goals as goal
 
 pub look_up-requires-clause-part : goal.look_up-requires-clause-part

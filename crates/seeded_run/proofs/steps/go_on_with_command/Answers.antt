@@ -1,7 +1,6 @@
-use Rattle.std.proofs.Common.{arith}
-use Rattle.std.proofs.lemmas.Grind.{common_steps}
+use Rattle.std.proofs.{Common.arith, lemmas.Grind.common_steps}
 use Rattle.volap_cell.specs.declared.kind.Kind.TheVariants as kind
-use Rattle.seeded_run.proofs.StepsReady.{due-so, goes-on-so, no-part-there}
+use Rattle.seeded_run.proofs.Ready.StepsReady.{due-so, goes-on-so, no-part-there}
 use Rattle.seeded_run.proofs.steps.go_on_with_command.Goals as goal
 
 pub read_load-requires-clause-idle : goal.read_load-requires-clause-idle

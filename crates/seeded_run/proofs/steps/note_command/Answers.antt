@@ -1,6 +1,6 @@
 use Rattle.std.proofs.Common.{◌∙◌, sym}
 use Rattle.seeded_run.specs.Works.{command_by}
-use Rattle.seeded_run.proofs.StepsReady.{own-note, shows-page}
+use Rattle.seeded_run.proofs.Ready.StepsReady.{own-note, shows-page}
 use Rattle.seeded_run.proofs.steps.note_command.Goals as goal
 
 pub show_page-requires-clause-shows : goal.show_page-requires-clause-shows

@@ -1,6 +1,5 @@
 use Rattle.std.proofs.Common.{◌≡◌, Some, None, ap, sym, refl, ◌∙◌, if◌then◌else◌, Option, Bool}
-use Rattle.volap_cell.specs.declared.kind.Kind.{Kind}
-use Rattle.volap_cell.specs.declared.kind.Kind.TheVariants.{TakePart}
+use Rattle.volap_cell.specs.{declared.kind.Kind.Kind, declared.kind.Kind.TheVariants.TakePart}
 use Rattle.seeded_run.proofs.takes.hand_server.Goals as goal
 
 pub returns-in-Some : goal.returns-in-Some

@@ -1,8 +1,7 @@
 use Rattle.std.proofs.Common.{List, Option, subst}
 use Rattle.volap_cell.specs.declared.cell.Cell.{Cell}
 use Rattle.seeded_run.specs.Awaited.{TakesAt}
-use Rattle.seeded_run.proofs.Holds.{inv-of}
-use Rattle.seeded_run.proofs.TakesReady.{take_part-ready}
+use Rattle.seeded_run.proofs.{Holding.Holds.inv-of, Ready.TakesReady.take_part-ready}
 use Rattle.seeded_run.proofs.takes.take_part.Goals as goal
 
 pub take_part-requires-clause-state : goal.take_part-requires-clause-state

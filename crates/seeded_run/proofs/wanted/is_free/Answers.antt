@@ -1,8 +1,6 @@
-use Rattle.std.proofs.Common.{◌∙◌, ◌≡◌, None, ap, arith, false, get_or, length, not, sym}
+use Rattle.std.proofs.{Common.{◌∙◌, ◌≡◌, None, ap, arith, false, get_or, length, not, sym}, lemmas.Bool.ne_eqb, lemmas.List.get_or_read}
 use Rattle.std.specs.Prelude.{◌==◌, ◌||◌}
-use Rattle.std.proofs.lemmas.Bool.{ne_eqb}
-use Rattle.std.proofs.lemmas.List.{get_or_read}
-use Rattle.seeded_run.proofs.Others.{all-fails, both-fail}
+use Rattle.seeded_run.proofs.Holding.Others.{all-fails, both-fail}
 use Rattle.seeded_run.specs.Takes.{carries_at}
 use Rattle.seeded_run.proofs.wanted.is_free.Goals as goal
 

@@ -1,6 +1,6 @@
 use Rattle.std.proofs.Common.{◌∙◌, ap, sym}
 use Rattle.seeded_run.specs.Can.{last_noted}
-use Rattle.seeded_run.proofs.DueReads.{last-of}
+use Rattle.seeded_run.proofs.Due.DueReads.{last-of}
 use Rattle.seeded_run.proofs.wanted.last_noted.Goals as goal
 
 pub returns-in-Some : goal.returns-in-Some

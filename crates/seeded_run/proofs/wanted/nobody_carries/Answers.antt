@@ -1,12 +1,8 @@
-use Rattle.std.proofs.Common.{◌∙◌, ◌≡◌, None, ap, arith, eq-eqb, false, get_or, length, not, rules, subst, sym, true}
+use Rattle.std.proofs.{Common.{◌∙◌, ◌≡◌, None, ap, arith, eq-eqb, false, get_or, length, not, rules, subst, sym, true}, lemmas.Bool.ne_eqb, lemmas.List.get_or_read}
 use Rattle.std.specs.Prelude.{◌==◌, ◌||◌}
-use Rattle.std.proofs.lemmas.Bool.{ne_eqb}
-use Rattle.std.proofs.lemmas.List.{get_or_read}
-use Rattle.seeded_run.proofs.Others.{all-next}
-use Rattle.seeded_run.specs.Due.{all_below}
-use Rattle.seeded_run.specs.Takes.{carries_at}
+use Rattle.seeded_run.proofs.{Holding.Others.all-next, wanted.nobody_carries.Goals.{else-other-number-via-then-other-number+else-carries, else-other-number-via-else-other-number}}
+use Rattle.seeded_run.specs.{Due.all_below, Takes.carries_at}
 use Rattle.seeded_run.proofs.wanted.nobody_carries.Goals as goal
-use Rattle.seeded_run.proofs.wanted.nobody_carries.Goals.{else-other-number-via-then-other-number+else-carries, else-other-number-via-else-other-number}
 
 pub loop-other-preserved : goal.loop-other-preserved
 loop-other-preserved c = λ block.

@@ -2,10 +2,7 @@ use Rattle.std.proofs.Common.{true, false}
 use Rattle.row_ledger.specs.declared.page.Page.TheVariants.{Audit}
 use Rattle.row_ledger.specs.declared.class.Subject.TheVariants as subject
 use Rattle.volap_cell.specs.declared.command.Work.TheVariants as work_is
-use Rattle.seeded_run.proofs.Afterwards.{noted-step}
-use Rattle.seeded_run.proofs.FixedCells.{has-inv}
-use Rattle.seeded_run.proofs.ShowsReady.{tells-page}
-use Rattle.seeded_run.proofs.WholesReady.{quiet-in, seen-so, shown-ready, subject-page}
+use Rattle.seeded_run.proofs.{Afterwards.noted-step, Holding.FixedCells.has-inv, Ready.ShowsReady.tells-page, Ready.WholesReady.{quiet-in, seen-so, shown-ready, subject-page}}
 use Rattle.seeded_run.proofs.wholes.show_audit.Goals as goal
 
 pub audit_page-audit-requires-clause-state : goal.audit_page-audit-requires-clause-state

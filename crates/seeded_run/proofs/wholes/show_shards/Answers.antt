@@ -2,9 +2,7 @@ use Rattle.std.proofs.Common.{true, false, refl}
 use Rattle.row_ledger.specs.declared.page.Page.TheVariants.{Shards}
 use Rattle.row_ledger.specs.declared.class.Subject.TheVariants as subject
 use Rattle.volap_cell.specs.declared.command.Work.TheVariants as work_is
-use Rattle.seeded_run.proofs.Afterwards.{noted-step}
-use Rattle.seeded_run.proofs.WholesReady.{ended-ready, quiet-in, seen-so, shown-ready, subject-page}
-use Rattle.seeded_run.proofs.ShowsReady.{tells-page}
+use Rattle.seeded_run.proofs.{Afterwards.noted-step, Ready.ShowsReady.tells-page, Ready.WholesReady.{ended-ready, quiet-in, seen-so, shown-ready, subject-page}}
 use Rattle.seeded_run.proofs.wholes.show_shards.Goals as goal
 
 pub shards_page-requires-clause-quiet : goal.shards_page-requires-clause-quiet

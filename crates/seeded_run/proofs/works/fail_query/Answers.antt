@@ -1,5 +1,4 @@
-use Rattle.seeded_run.proofs.Afterwards.{noted-step}
-use Rattle.seeded_run.proofs.WorksReady.{query-ready, query-session}
+use Rattle.seeded_run.proofs.{Afterwards.noted-step, Ready.WorksReady.{query-ready, query-session}}
 use Rattle.seeded_run.proofs.works.fail_query.Goals as goal
 
 pub session_server-server-requires-clause-session : goal.session_server-server-requires-clause-session

@@ -1,5 +1,4 @@
-use Rattle.seeded_run.proofs.Afterwards.{noted-step}
-use Rattle.seeded_run.proofs.WorksReady.{routed-ready, routed-session}
+use Rattle.seeded_run.proofs.{Afterwards.noted-step, Ready.WorksReady.{routed-ready, routed-session}}
 use Rattle.seeded_run.proofs.works.fail_routed.Goals as goal
 
 pub session_server-server-requires-clause-session : goal.session_server-server-requires-clause-session

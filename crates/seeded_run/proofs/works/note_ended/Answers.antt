@@ -1,5 +1,4 @@
-use Rattle.seeded_run.proofs.Afterwards.{noted-step}
-use Rattle.seeded_run.proofs.WorksReady.{ended-ready}
+use Rattle.seeded_run.proofs.{Afterwards.noted-step, Ready.WorksReady.ended-ready}
 use Rattle.seeded_run.proofs.works.note_ended.Goals as goal
 
 pub note_ended-requires-clause-ready : goal.note_ended-requires-clause-ready

@@ -1,12 +1,8 @@
-use Rattle.std.proofs.Common.{◌≡◌, ◌+◌, length, Some, refl, sym, ap, ◌∙◌}
+use Rattle.std.proofs.{Common.{◌≡◌, ◌+◌, length, Some, refl, sym, ap, ◌∙◌}, lemmas.Bool.{false≢true}, lemmas.Option.{slice_get-get_or, slice_get_read, get_or_from_slice_get}}
 use Rattle.std.specs.Prelude.{slice_get}
-use Rattle.std.proofs.lemmas.Bool.{false≢true}
-use Rattle.std.proofs.lemmas.Option.{slice_get-get_or, slice_get_read, get_or_from_slice_get}
-use Rattle.describing_set.specs.Sets.{growth_of}
-use Rattle.describing_set.specs.declared.listing.Spot.{Spot}
-use Rattle.server_image.proofs.Routes.{rank_read, IsBestRanked-read, IsRoute-ranked, IsBestRanked-takes, IsBestRanked-keeps, IsBestRanked-beyond}
+use Rattle.describing_set.specs.{Sets.growth_of, declared.listing.Spot.Spot}
+use Rattle.server_image.proofs.{Routes.{rank_read, IsBestRanked-read, IsRoute-ranked, IsBestRanked-takes, IsBestRanked-keeps, IsBestRanked-beyond}, rank.first_for.Goals.{in-Some+then-is_lower, in-Some+else-is_lower, in_default}}
 use Rattle.server_image.proofs.rank.first_for.Goals as goal
-use Rattle.server_image.proofs.rank.first_for.Goals.{in-Some+then-is_lower, in-Some+else-is_lower, in_default}
 
 pub loop-place-init : goal.loop-place-init
 loop-place-init c =

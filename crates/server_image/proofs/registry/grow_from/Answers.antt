@@ -1,9 +1,6 @@
-use Rattle.std.proofs.Common.{subst, sym, arith}
-use Rattle.std.proofs.lemmas.List.{take_all}
+use Rattle.std.proofs.{Common.{subst, sym, arith}, lemmas.List.take_all}
 use Rattle.dim_hierarchy.specs.Row.{IsCoordOf}
-use Rattle.server_image.specs.declared.image.Growth.{Growth}
-use Rattle.server_image.specs.Spots.{Grows}
-use Rattle.server_image.specs.Image.{noted}
+use Rattle.server_image.specs.{Image.noted, Spots.Grows, declared.image.Growth.Growth}
 use Rattle.server_image.proofs.Boxes.{noted-next}
 use Rattle.server_image.proofs.registry.grow_from.Goals as goal
 

@@ -1,6 +1,5 @@
 use Rattle.std.proofs.Common.{◌≤◌, length, take}
-use Rattle.server_image.specs.Spots.{AreBoxes, Grows}
-use Rattle.server_image.specs.Image.{noted}
+use Rattle.server_image.specs.{Image.noted, Spots.{AreBoxes, Grows}}
 use Rattle.server_image.proofs.registry.grow_from.Given as goal
 
 abbrev pub invariant-loop-place : goal.invariant-loop-place

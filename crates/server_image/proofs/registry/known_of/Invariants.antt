@@ -1,6 +1,5 @@
 use Rattle.std.proofs.Common.{take}
-use Rattle.server_image.specs.Spots.{Grows}
-use Rattle.server_image.specs.Image.{noted}
+use Rattle.server_image.specs.{Image.noted, Spots.Grows}
 use Rattle.server_image.proofs.registry.known_of.Given as goal
 
 abbrev pub invariant-loop-place : goal.invariant-loop-place

@@ -1,7 +1,5 @@
-use Rattle.std.proofs.Common.{◌≡◌, ◌+◌, ◌∙◌, ◌∷◌, ◌++◌, [], ap, take, subst, sym, arith}
-use Rattle.std.proofs.lemmas.List.{take_more, take_all}
-use Rattle.describing_set.specs.Sets.{IsDescSetOf}
-use Rattle.describing_set.specs.declared.listing.Spot.{Spot}
+use Rattle.std.proofs.{Common.{◌≡◌, ◌+◌, ◌∙◌, ◌∷◌, ◌++◌, [], ap, take, subst, sym, arith}, lemmas.List.{take_more, take_all}}
+use Rattle.describing_set.specs.{Sets.IsDescSetOf, declared.listing.Spot.Spot}
 use Rattle.server_image.specs.Spots.{IsGrown, along, Grows}
 use Rattle.server_image.proofs.Boxes.{AllZip-snoc}
 use Rattle.server_image.proofs.spots.keep_spots.Goals as goal

@@ -1,5 +1,4 @@
-use Rattle.std.proofs.Common.{◌≡◌, ◌∙◌, true, refl, sym}
-use Rattle.std.proofs.lemmas.Bool.{OnTrue_at, OnTrue_from}
+use Rattle.std.proofs.{Common.{◌≡◌, ◌∙◌, true, refl, sym}, lemmas.Bool.{OnTrue_at, OnTrue_from}}
 use Rattle.server_image.specs.Spots.{is_among}
 use Rattle.server_image.proofs.Boxes.{grown-last}
 use Rattle.server_image.proofs.spots.keeps_spot.Goals as goal

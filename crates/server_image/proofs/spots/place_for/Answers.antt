@@ -1,6 +1,5 @@
 use Rattle.std.proofs.Common.{◌≡◌, ◌∙◌, ap, length, arith}
-use Rattle.std.specs.Prelude.{nat_lt, unwrap_or}
-use Rattle.std.specs.List.{position_or_len}
+use Rattle.std.specs.{List.position_or_len, Prelude.{nat_lt, unwrap_or}}
 use Rattle.describing_set.specs.declared.listing.Spot.{Spot}
 use Rattle.server_image.proofs.Lists.{unwrap-position, position_or_len-le}
 use Rattle.server_image.proofs.spots.place_for.Goals as goal

@@ -1,5 +1,4 @@
-use Rattle.std.proofs.Common.{◌+◌, ◌-◌, length, take, drop, ap, ◌∙◌, arith}
-use Rattle.std.proofs.lemmas.List.{length_push}
+use Rattle.std.proofs.{Common.{◌+◌, ◌-◌, length, take, drop, ap, ◌∙◌, arith}, lemmas.List.length_push}
 use Rattle.shard_build.specs.Building.{leaf_in}
 use Rattle.shard_build.proofs.Steps.{adds-leaf}
 use Rattle.shard_build.proofs.builder.add_leaves.Goals as goal

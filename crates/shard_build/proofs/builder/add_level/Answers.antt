@@ -1,8 +1,7 @@
 use Rattle.std.proofs.Common.{◌-◌, ap, sym, ◌∙◌, subst, length, take, drop, arith}
 use Rattle.std.specs.Prelude.{All}
 use Rattle.shard_build.specs.Building.{IsCountable}
-use Rattle.shard_build.proofs.Steps.{adds-directory}
-use Rattle.shard_build.proofs.Lists.{all-part, part-before}
+use Rattle.shard_build.proofs.{Lists.{all-part, part-before}, Steps.adds-directory}
 use Rattle.shard_build.proofs.builder.add_level.Goals as goal
 
 pub add_directory-requires-clause-countable : goal.add_directory-requires-clause-countable

@@ -1,25 +1,11 @@
-use Rattle.std.proofs.Common.{◌≡◌, ℕ, ◌+◌, ◌-◌, ◌++◌, List, [], map, length, drop, sym, ap, ◌∙◌, subst, arith, length-append}
-use Rattle.std.proofs.lemmas.List.{take_all, take_rest}
-use Rattle.std.proofs.lemmas.List.Sorted.{All-permutation}
-use Rattle.dim_hierarchy.specs.declared.row.Row.{Row}
-use Rattle.dim_hierarchy.specs.Rows.{IsRowOf}
+use Rattle.std.proofs.{Common.{◌≡◌, ℕ, ◌+◌, ◌-◌, ◌++◌, List, [], map, length, drop, sym, ap, ◌∙◌, subst, arith, length-append}, lemmas.List.{take_all, take_rest}, lemmas.List.Sorted.All-permutation}
+use Rattle.dim_hierarchy.specs.{Rows.IsRowOf, declared.row.Row.Row}
 use Rattle.link_descent.specs.declared.entered.Fresh.{Fresh}
 use Rattle.shard_plan.specs.Building.{leaf_rows, leaves_for, cells_for, levels_for, levels_of}
 use Rattle.tree_shape.specs.Forest.{all_rows}
-use Rattle.std.specs.Prelude.{Contains, IsPermutation}
-use Rattle.std.specs.List.Sorted.{IsSortedBy}
-use Rattle.shard_build.specs.Building.{AreAlone, AreLeavesFirst, AreLeavesOf, AreLed, AreParentsOf, AreSmall, IsGrown, SiteValue, UsesUp, comes_before, spare_of, spare_to}
-use Rattle.shard_build.specs.Built.{AreLevels, root_of}
-use Rattle.shard_build.specs.Sizes.{built_sizes, put_by, sizes_of}
-use Rattle.shard_build.proofs.Led.{taken-first, taken-from}
-use Rattle.shard_build.proofs.Counts.{leaves-few, cells-first, cells-next, cells-all, many, parents-count}
-use Rattle.shard_build.proofs.Levels.{levels-first, levels-next, levels-all}
-use Rattle.shard_build.proofs.Sizes.{sizes-first, sizes-next, sizes-all}
-use Rattle.shard_build.proofs.LeavesFirst.{kinds-first, kinds-next}
-use Rattle.shard_build.proofs.Grown.{leaves-grown, level-grown}
-use Rattle.shard_build.proofs.Finished.{built-tree}
-use Rattle.shard_build.proofs.Lists.{one-left}
-use Rattle.shard_build.proofs.Steps.{uses-both}
+use Rattle.std.specs.{List.Sorted.IsSortedBy, Prelude.{Contains, IsPermutation}}
+use Rattle.shard_build.specs.{Building.{AreAlone, AreLeavesFirst, AreLeavesOf, AreLed, AreParentsOf, AreSmall, IsGrown, SiteValue, UsesUp, comes_before, spare_of, spare_to}, Built.{AreLevels, root_of}, Sizes.{built_sizes, put_by, sizes_of}}
+use Rattle.shard_build.proofs.{Counts.{leaves-few, cells-first, cells-next, cells-all, many, parents-count}, Finished.built-tree, Grown.{leaves-grown, level-grown}, LeavesFirst.{kinds-first, kinds-next}, Led.{taken-first, taken-from}, Levels.{levels-first, levels-next, levels-all}, Lists.one-left, Sizes.{sizes-first, sizes-next, sizes-all}, Steps.uses-both}
 use Rattle.shard_build.proofs.builder.build.Goals as goal
 
 pub loop-init : goal.loop-init

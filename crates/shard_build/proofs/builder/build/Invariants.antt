@@ -1,9 +1,7 @@
 use Rattle.std.proofs.Common.{◌≡◌, ◌+◌, ◌-◌, ◌++◌, length, sum}
 use Rattle.shard_plan.specs.Building.{cells_for, leaves_for, levels_over, levels_for}
-use Rattle.shard_build.specs.Building.{AreLeavesFirst, IsGrown, UsesUp}
-use Rattle.shard_build.specs.Sizes.{built_sizes, sizes_of}
-use Rattle.shard_build.proofs.Levels.{AreLevelsTo}
-use Rattle.shard_build.proofs.Sizes.{sizes_over}
+use Rattle.shard_build.specs.{Building.{AreLeavesFirst, IsGrown, UsesUp}, Sizes.{built_sizes, sizes_of}}
+use Rattle.shard_build.proofs.{Levels.AreLevelsTo, Sizes.sizes_over}
 use Rattle.shard_build.proofs.builder.build.Given as goal
 
 abbrev pub invariant-loop : goal.invariant-loop

@@ -1,5 +1,4 @@
-use Rattle.std.proofs.Common.{rules}
-use Rattle.std.proofs.lemmas.List.Sorted.{answers_always}
+use Rattle.std.proofs.{Common.rules, lemmas.List.Sorted.answers_always}
 use Rattle.dim_hierarchy.specs.declared.row.Row.{Row}
 use Rattle.shard_build.proofs.order.put_in_order.Goals as goal
 

@@ -1,5 +1,4 @@
-use Rattle.std.proofs.Common.{[], ◌∷◌, take, subst, arith}
-use Rattle.std.proofs.lemmas.List.{take_more}
+use Rattle.std.proofs.{Common.{[], ◌∷◌, take, subst, arith}, lemmas.List.take_more}
 use Rattle.link_descent.specs.declared.entered.Fresh.{Fresh}
 use Rattle.shard_build.specs.Building.{IsEntryTo}
 use Rattle.shard_build.proofs.Lists.{zip-append}

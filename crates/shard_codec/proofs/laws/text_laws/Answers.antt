@@ -1,6 +1,4 @@
-use Rattle.shard_codec.proofs.Again.{decoded-again}
-use Rattle.shard_codec.proofs.Apart.{distinct, no_prefix, of-format}
-use Rattle.shard_codec.proofs.Found.{decoded-found, each-byte}
+use Rattle.shard_codec.proofs.{Again.decoded-again, Apart.{distinct, no_prefix, of-format}, Found.{decoded-found, each-byte}}
 use Rattle.shard_codec.proofs.laws.text_laws.Goals as goal
 
 pub returns-clause-again : goal.returns-clause-again

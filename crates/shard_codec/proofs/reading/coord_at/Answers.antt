@@ -1,5 +1,4 @@
-use Rattle.std.proofs.Common.{length, arith}
-use Rattle.std.proofs.lemmas.Result.{err_from_is_err_and}
+use Rattle.std.proofs.{Common.{length, arith}, lemmas.Result.err_from_is_err_and}
 use Rattle.shard_codec.proofs.Loops.{coord-more, coord-fails, coord-all}
 use Rattle.shard_codec.proofs.reading.coord_at.Goals as goal
 

@@ -1,10 +1,8 @@
 use Rattle.std.proofs.Common.{Result, ap, subst, ◌∙◌, arith}
 use Rattle.std.specs.Prelude.{List}
 use Rattle.dim_hierarchy.specs.declared.row.Row.{Row}
-use Rattle.shard_codec.specs.declared.fault.CodecFault.{CodecFault}
-use Rattle.shard_codec.specs.Reading.{GivesUnlessFull, decoded}
-use Rattle.shard_codec.proofs.Again.{decoded-again}
-use Rattle.shard_codec.proofs.Found.{given_text, given_rows}
+use Rattle.shard_codec.specs.{Reading.{GivesUnlessFull, decoded}, declared.fault.CodecFault.CodecFault}
+use Rattle.shard_codec.proofs.{Again.decoded-again, Found.{given_text, given_rows}}
 use Rattle.shard_codec.proofs.reading.decode.Goals as goal
 
 pub returns-clause-text : goal.returns-clause-text

@@ -1,7 +1,6 @@
 use Rattle.std.proofs.Common.{◌+◌, ◌-◌, length, ap, arith}
 use Rattle.std.specs.Option.{option_copied}
-use Rattle.dc_node.specs.Block.{size}
-use Rattle.dc_node.specs.declared.block.Block.{Block}
+use Rattle.dc_node.specs.{Block.size, declared.block.Block.Block}
 use Rattle.list_words.specs.Counts.{total}
 use Rattle.tree_page.proofs.Walks.{walk-on}
 use Rattle.tree_page.proofs.group.extent.Goals as goal

@@ -1,6 +1,5 @@
 use Rattle.std.proofs.Common.{◌≡◌, ◌+◌, ◌-◌, [], ◌∷◌, ◌++◌, ap, arith, eqb}
-use Rattle.std.specs.List.{flat_map}
-use Rattle.std.specs.Option.{option_copied}
+use Rattle.std.specs.{List.flat_map, Option.option_copied}
 use Rattle.dc_node.specs.declared.entry.Entry.{Entry}
 use Rattle.tree_shape.specs.PageLines.{walk, group, line, lines, group_entries}
 use Rattle.tree_page.proofs.Walks.{walk-on, lines-on, lines-deeper}

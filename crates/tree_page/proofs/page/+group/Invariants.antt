@@ -1,6 +1,5 @@
 use Rattle.std.proofs.Common.{◌≡◌, ◌+◌, ◌-◌, ◌*◌, ◌++◌, drop}
-use Rattle.std.specs.List.{flat_map}
-use Rattle.std.specs.Option.{option_copied}
+use Rattle.std.specs.{List.flat_map, Option.option_copied}
 use Rattle.dc_node.specs.Block.{entries_in}
 use Rattle.tree_shape.specs.PageLines.{walk, lines, group_entries}
 use Rattle.tree_page.proofs.page.+group.Given as goal

@@ -1,4 +1,4 @@
-use Rattle.tree_shape.proofs.Deepest.{deepest-law, some-law}
+use Rattle.tree_shape.proofs.Down.Deepest.{deepest-law, some-law}
 use Rattle.tree_shape.proofs.going_on.carrying_laws.Goals as goal
 
 pub returns-clause-deepest : goal.returns-clause-deepest

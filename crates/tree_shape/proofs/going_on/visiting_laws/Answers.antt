@@ -1,4 +1,4 @@
-use Rattle.tree_shape.proofs.VisitsLeft.{few-law, falls-law}
+use Rattle.tree_shape.proofs.Reading.VisitsLeft.{few-law, falls-law}
 use Rattle.tree_shape.proofs.going_on.visiting_laws.Goals as goal
 
 pub returns-clause-few : goal.returns-clause-few

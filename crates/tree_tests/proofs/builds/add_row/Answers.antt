@@ -1,8 +1,6 @@
-use Rattle.std.proofs.Common.{◌++◌, ◌∷◌, []}
+use Rattle.std.proofs.{Common.{◌++◌, ◌∷◌, []}, lemmas.List.Elements.{All-push, All-same}}
 use Rattle.std.specs.Prelude.{pos}
-use Rattle.std.proofs.lemmas.List.Elements.{All-push, All-same}
-use Rattle.dim_hierarchy.specs.Rows.{IsRowOf}
-use Rattle.dim_hierarchy.specs.declared.row.Row.{Row}
+use Rattle.dim_hierarchy.specs.{Rows.IsRowOf, declared.row.Row.Row}
 use Rattle.tree_tests.proofs.builds.add_row.Goals as goal
 
 pub returns-clause-rows : goal.returns-clause-rows

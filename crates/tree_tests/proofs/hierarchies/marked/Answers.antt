@@ -1,8 +1,5 @@
-use Rattle.std.proofs.Common.{ℕ, ◌≡◌, [], sym}
-use Rattle.std.proofs.lemmas.List.Elements.{All-cons, All-nil}
-use Rattle.dim_hierarchy.specs.Concept.{level_of}
-use Rattle.dim_hierarchy.specs.Tree.{IsConcept}
-use Rattle.dim_hierarchy.specs.Dimension.{tree}
+use Rattle.std.proofs.{Common.{ℕ, ◌≡◌, [], sym}, lemmas.List.Elements.{All-cons, All-nil}}
+use Rattle.dim_hierarchy.specs.{Concept.level_of, Dimension.tree, Tree.IsConcept}
 use Rattle.tree_tests.proofs.hierarchies.marked.Goals as goal
 
 pub has_all-has-requires-clause-concepts : goal.has_all-has-requires-clause-concepts

@@ -1,5 +1,4 @@
-use Rattle.std.proofs.Common.{◌≡◌, [], ◌++◌, ◌∙◌, sym, subst}
-use Rattle.std.proofs.lemmas.List.{append-nil}
+use Rattle.std.proofs.{Common.{◌≡◌, [], ◌++◌, ◌∙◌, sym, subst}, lemmas.List.append-nil}
 use Rattle.cell_stock.specs.Stock.{StockValue, AreOut}
 use Rattle.tree_tests.proofs.stocks.takes_and_gives.Goals as goal
 

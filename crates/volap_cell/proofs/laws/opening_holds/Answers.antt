@@ -1,4 +1,4 @@
-use Rattle.volap_cell.proofs.OpeningHolds.{opening-holds, opening-inv}
+use Rattle.volap_cell.proofs.FirstState.Holds.{opening-holds, opening-inv}
 use Rattle.volap_cell.proofs.laws.opening_holds.Goals as goal
 
 pub returns : goal.returns

@@ -1,5 +1,5 @@
 use Rattle.std.proofs.Common.{ℕ, ◌≡◌, ◌+◌, ◌*◌, ap, subst}
-use Rattle.volap_cell.proofs.Filled.{first-stock, was-taken}
+use Rattle.volap_cell.proofs.FirstState.Filled.{first-stock, was-taken}
 use Rattle.volap_cell.proofs.opening.first_stock.Goals as goal
 
 pub returns : goal.returns

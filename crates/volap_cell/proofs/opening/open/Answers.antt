@@ -1,10 +1,8 @@
 use Rattle.std.proofs.Common.{ℕ, ◌≡◌, ◌+◌, ◌-◌, ◌*◌, List, Option, ap, arith, refl, subst, sym}
 use Rattle.server_image.specs.Registry.{RegistryValue, IsNewRegistry}
-use Rattle.volap_cell.specs.Filling.{HasPulled, IsFirstStock, IsOpened, setting_for}
-use Rattle.volap_cell.specs.Setting.{Setting, cell_count, first_stock_cell}
-use Rattle.volap_cell.specs.declared.cell.Cell.{Cell}
+use Rattle.volap_cell.specs.{Filling.{HasPulled, IsFirstStock, IsOpened, setting_for}, Setting.{Setting, cell_count, first_stock_cell}, declared.cell.Cell.Cell}
 use Rattle.volap_cell.specs.declared.cell.Cell.TheVariants as cell
-use Rattle.volap_cell.proofs.OpeningMade.{is-opened}
+use Rattle.volap_cell.proofs.FirstState.Made.{is-opened}
 use Rattle.volap_cell.proofs.opening.open.Goals as goal
 
 pub returns : goal.returns

@@ -1,7 +1,6 @@
 use Rattle.std.proofs.Common.{◌≡◌, ◌++◌, ◌∷◌, ℕ, string_bytes, ap, ◌∙◌, arith}
 use Rattle.std.specs.List.{flat_map, range_with_len}
-use Rattle.volap_gen.specs.Generated.{text_of, top_record, middle_records, concept_records}
-use Rattle.volap_gen.specs.Names.{top_count}
+use Rattle.volap_gen.specs.{Generated.{text_of, top_record, middle_records, concept_records}, Names.top_count}
 use Rattle.volap_gen.proofs.Texts.{texts-more}
 use Rattle.volap_gen.proofs.concepts.push_concepts.Goals as goal
 

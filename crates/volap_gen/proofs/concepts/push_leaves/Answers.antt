@@ -1,7 +1,6 @@
 use Rattle.std.proofs.Common.{◌≡◌, ◌++◌, ℕ, map, string_bytes, ap, ◌∙◌, arith}
 use Rattle.std.specs.List.{range_with_len}
-use Rattle.volap_gen.specs.Generated.{text_of, leaf_record, leaf_records}
-use Rattle.volap_gen.specs.Names.{leaf_count}
+use Rattle.volap_gen.specs.{Generated.{text_of, leaf_record, leaf_records}, Names.leaf_count}
 use Rattle.volap_gen.proofs.Texts.{text-more}
 use Rattle.volap_gen.proofs.concepts.push_leaves.Goals as goal
 

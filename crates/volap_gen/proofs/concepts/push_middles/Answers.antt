@@ -1,7 +1,6 @@
 use Rattle.std.proofs.Common.{◌≡◌, ◌++◌, ◌∷◌, ℕ, string_bytes, ap, ◌∙◌, arith}
 use Rattle.std.specs.List.{flat_map, range_with_len}
-use Rattle.volap_gen.specs.Generated.{text_of, middle_record, leaf_records, middle_records}
-use Rattle.volap_gen.specs.Names.{middle_count}
+use Rattle.volap_gen.specs.{Generated.{text_of, middle_record, leaf_records, middle_records}, Names.middle_count}
 use Rattle.volap_gen.proofs.Texts.{texts-more}
 use Rattle.volap_gen.proofs.concepts.push_middles.Goals as goal
 

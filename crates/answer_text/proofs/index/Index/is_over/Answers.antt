@@ -1,5 +1,4 @@
-use Rattle.std.proofs.Common.{◌≡◌, true, false, reverse, arith}
-use Rattle.std.proofs.lemmas.List.{length-reverse}
+use Rattle.std.proofs.{Common.{◌≡◌, true, false, reverse, arith}, lemmas.List.length-reverse}
 use Rattle.row_ledger.specs.Past.{has_ended}
 use Rattle.answer_text.proofs.MarkFacts.{noted-ended}
 use Rattle.answer_text.proofs.index.Index.is_over.Goals as goal

@@ -1,5 +1,4 @@
-use Rattle.std.proofs.Common.{reverse, refl, arith}
-use Rattle.std.proofs.lemmas.List.{length-reverse}
+use Rattle.std.proofs.{Common.{reverse, refl, arith}, lemmas.List.length-reverse}
 use Rattle.answer_text.specs.Marks.{shown_for}
 use Rattle.answer_text.proofs.MarkFacts.{noted-page, noted-position}
 use Rattle.answer_text.proofs.index.Index.page_of.Goals as goal

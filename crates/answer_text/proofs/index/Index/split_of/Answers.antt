@@ -1,5 +1,4 @@
-use Rattle.std.proofs.Common.{reverse, arith}
-use Rattle.std.proofs.lemmas.List.{length-reverse}
+use Rattle.std.proofs.{Common.{reverse, arith}, lemmas.List.length-reverse}
 use Rattle.answer_text.specs.Printed.{split_for}
 use Rattle.answer_text.proofs.MarkFacts.{noted-event, noted-position}
 use Rattle.answer_text.proofs.index.Index.split_of.Goals as goal

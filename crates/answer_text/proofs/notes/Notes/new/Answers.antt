@@ -1,7 +1,6 @@
 use Rattle.std.proofs.Common.{refl}
 use Rattle.row_ledger.specs.Past.{end_in}
-use Rattle.answer_text.specs.Marks.{shown_for}
-use Rattle.answer_text.specs.Printed.{split_for}
+use Rattle.answer_text.specs.{Marks.shown_for, Printed.split_for}
 use Rattle.answer_text.proofs.MarkFacts.{begins_none, newest_nothing}
 use Rattle.answer_text.proofs.notes.Notes.new.Goals as goal
 

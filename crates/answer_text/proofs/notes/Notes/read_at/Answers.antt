@@ -1,5 +1,4 @@
-use Rattle.std.proofs.Common.{◌≡◌, ◌∙◌, length, take, reverse, arith}
-use Rattle.std.proofs.lemmas.Grind.{common_steps}
+use Rattle.std.proofs.{Common.{◌≡◌, ◌∙◌, length, take, reverse, arith}, lemmas.Grind.common_steps}
 use Rattle.answer_text.proofs.MarkFacts.{marks_more, past_length, past_more}
 use Rattle.answer_text.proofs.notes.Notes.read_at.Goals as goal
 

@@ -1,7 +1,5 @@
 use Rattle.std.proofs.Common.{◌++◌, take}
-use Rattle.std.specs.Fmt.{HasWritten, IsPlainFormatter}
-use Rattle.std.specs.Prelude.{codes}
-use Rattle.std.specs.List.{join_by}
+use Rattle.std.specs.{Fmt.{HasWritten, IsPlainFormatter}, List.join_by, Prelude.codes}
 use Rattle.answer_text.specs.Printed.{part_text}
 use Rattle.answer_text.proofs.pages.BoxTextDisplay.fmt.Given as goal
 

@@ -1,8 +1,6 @@
-use Rattle.std.proofs.Common.{◌≤◌, length, take, drop, reverse}
-use Rattle.std.proofs.lemmas.List.{length-take-le, take_rest}
+use Rattle.std.proofs.{Common.{◌≤◌, length, take, drop, reverse}, lemmas.List.{length-take-le, take_rest}}
 use Rattle.script_run.proofs.PlaceFacts.{places_behind-length}
-use Rattle.answer_text.proofs.ToldLines.{phase_behind-is}
-use Rattle.answer_text.proofs.ToldPlaces.{places-are}
+use Rattle.answer_text.proofs.{ToldLines.phase_behind-is, ToldPlaces.places-are}
 use Rattle.answer_text.proofs.text.Teller.push_next.Goals as goal
 
 pub push_phase-requires-clause-same : goal.push_phase-requires-clause-same

@@ -1,6 +1,4 @@
-use Rattle.std.proofs.Common.{◌-◌, ◌∙◌, ap, arith, length, refl, subst, sym}
-use Rattle.std.proofs.lemmas.Iterator.{items_from_collect, YieldsList-from_range}
-use Rattle.std.proofs.lemmas.List.FromFn.{length-range_with_len}
+use Rattle.std.proofs.{Common.{◌-◌, ◌∙◌, ap, arith, length, refl, subst, sym}, lemmas.Iterator.{items_from_collect, YieldsList-from_range}, lemmas.List.FromFn.length-range_with_len}
 use Rattle.cell_stock.specs.Stock.{IsStock, StockValue}
 use Rattle.cell_stock.proofs.Cells.{IsStock-over}
 use Rattle.cell_stock.proofs.stock.Stock.over.Goals as goal

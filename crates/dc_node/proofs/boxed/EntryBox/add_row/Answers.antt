@@ -1,8 +1,6 @@
-use Rattle.std.proofs.Common.{◌≡◌, ◌∙◌, ◌<◌, List, length, get_or, set, refl, ap, sym, subst}
+use Rattle.std.proofs.{Common.{◌≡◌, ◌∙◌, ◌<◌, List, length, get_or, set, refl, ap, sym, subst}, lemmas.Option.slice_get_read}
 use Rattle.std.specs.Prelude.{slice_get}
-use Rattle.std.proofs.lemmas.Option.{slice_get_read}
-use Rattle.dc_node.specs.Entry.{IsWithRow}
-use Rattle.dc_node.specs.declared.entry.Entry.{Entry}
+use Rattle.dc_node.specs.{Entry.IsWithRow, declared.entry.Entry.Entry}
 use Rattle.dc_node.proofs.Places.{set-refilled}
 use Rattle.dc_node.proofs.boxed.EntryBox.add_row.Goals as goal
 

@@ -1,10 +1,7 @@
-use Rattle.std.proofs.Common.{◌∙◌, ap}
-use Rattle.std.proofs.lemmas.List.Elements.{All-same}
+use Rattle.std.proofs.{Common.{◌∙◌, ap}, lemmas.List.Elements.All-same}
 use Rattle.arrayvec.specs.ArrayVec.{ArrayVec as Items}
-use Rattle.dim_hierarchy.specs.declared.row.Row.{Row}
-use Rattle.dim_hierarchy.specs.Rows.{IsRowOf}
-use Rattle.dc_node.specs.declared.columns.Columns.{Columns}
-use Rattle.dc_node.specs.Columns.{rows_in_columns}
+use Rattle.dim_hierarchy.specs.{Rows.IsRowOf, declared.row.Row.Row}
+use Rattle.dc_node.specs.{Columns.rows_in_columns, declared.columns.Columns.Columns}
 use Rattle.dc_node.proofs.boxed.RowBox.matching.Goals as goal
 
 pub matching-requires-clause-rows : goal.matching-requires-clause-rows

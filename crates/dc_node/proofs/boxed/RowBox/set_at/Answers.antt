@@ -1,11 +1,8 @@
-use Rattle.std.proofs.Common.{◌≡◌, ◌<◌, ◌∙◌, [], ◌∷◌, length, ap, sym, subst, arith}
+use Rattle.std.proofs.{Common.{◌≡◌, ◌<◌, ◌∙◌, [], ◌∷◌, length, ap, sym, subst, arith}, lemmas.List.Elements.All-same}
 use Rattle.std.specs.Prelude.{IfSome, slice_get}
-use Rattle.std.proofs.lemmas.List.Elements.{All-same}
 use Rattle.arrayvec.specs.ArrayVec.{ArrayVec as Items}
-use Rattle.dim_hierarchy.specs.declared.row.Row.{Row}
-use Rattle.dim_hierarchy.specs.Rows.{IsRowOf}
-use Rattle.dc_node.specs.declared.columns.Columns.{Columns}
-use Rattle.dc_node.specs.Columns.{rows_in_columns}
+use Rattle.dim_hierarchy.specs.{Rows.IsRowOf, declared.row.Row.Row}
+use Rattle.dc_node.specs.{Columns.rows_in_columns, declared.columns.Columns.Columns}
 use Rattle.describing_set.specs.DescSet.{IsSetOf}
 use Rattle.dc_node.proofs.Rows.{length_rows, row_fact, row_of_rows}
 use Rattle.dc_node.proofs.boxed.RowBox.set_at.Goals as goal

@@ -1,15 +1,8 @@
-use Rattle.std.proofs.Common.{List, ◌≤◌, length, subst, sym, arith}
-use Rattle.std.proofs.lemmas.List.{take_all}
-use Rattle.dim_hierarchy.specs.Row.{IsCoordOf}
-use Rattle.dim_hierarchy.specs.Rows.{IsRowOf}
-use Rattle.dim_hierarchy.specs.declared.row.Coord.{Coord}
-use Rattle.dim_hierarchy.specs.declared.row.Row.{Row}
-use Rattle.describing_set.specs.DescSet.{IsSetOf}
-use Rattle.describing_set.specs.Sets.{GrowsBy}
-use Rattle.dc_node.specs.Summary.{coords}
-use Rattle.dc_node.specs.Columns.{row_at, rows_in_columns}
-use Rattle.dc_node.proofs.Rows.{length_rows, read_row, row_fact}
-use Rattle.dc_node.proofs.Summaries.{grown_more}
+use Rattle.std.proofs.{Common.{List, ◌≤◌, length, subst, sym, arith}, lemmas.List.take_all}
+use Rattle.dim_hierarchy.specs.{Row.IsCoordOf, Rows.IsRowOf, declared.row.Coord.Coord, declared.row.Row.Row}
+use Rattle.describing_set.specs.{DescSet.IsSetOf, Sets.GrowsBy}
+use Rattle.dc_node.specs.{Columns.{row_at, rows_in_columns}, Summary.coords}
+use Rattle.dc_node.proofs.{Rows.{length_rows, read_row, row_fact}, Summaries.grown_more}
 use Rattle.dc_node.proofs.columns.Columns.set.Goals as goal
 
 pub grow-requires-clause-at : goal.grow-requires-clause-at

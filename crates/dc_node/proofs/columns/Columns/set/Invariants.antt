@@ -1,8 +1,6 @@
 use Rattle.std.proofs.Common.{take}
-use Rattle.describing_set.specs.DescSet.{IsSetOf}
-use Rattle.describing_set.specs.Sets.{IsDescSetOf}
-use Rattle.dc_node.specs.Summary.{coords}
-use Rattle.dc_node.specs.Columns.{rows_in_columns}
+use Rattle.describing_set.specs.{DescSet.IsSetOf, Sets.IsDescSetOf}
+use Rattle.dc_node.specs.{Columns.rows_in_columns, Summary.coords}
 use Rattle.dc_node.proofs.columns.Columns.set.Given as goal
 
 -- the rows so far

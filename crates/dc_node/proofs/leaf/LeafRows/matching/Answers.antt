@@ -1,11 +1,7 @@
-use Rattle.std.proofs.Common.{◌∙◌, ap, sym, length, arith, refl}
+use Rattle.std.proofs.{Common.{◌∙◌, ap, sym, length, arith, refl}, lemmas.List.Elements.All-same, lemmas.List.Filters.length-filter_both}
 use Rattle.std.specs.Prelude.{not}
-use Rattle.std.proofs.lemmas.List.Elements.{All-same}
-use Rattle.std.proofs.lemmas.List.Filters.{length-filter_both}
 use Rattle.arrayvec.specs.ArrayVec.{ArrayVec as Items}
-use Rattle.dim_hierarchy.specs.declared.row.Row.{Row}
-use Rattle.dim_hierarchy.specs.Filter.{matches}
-use Rattle.dim_hierarchy.specs.Rows.{IsRowOf}
+use Rattle.dim_hierarchy.specs.{Filter.matches, Rows.IsRowOf, declared.row.Row.Row}
 use Rattle.dc_node.specs.Leaf.{rows_of}
 use Rattle.dc_node.proofs.leaf.LeafRows.matching.Goals as goal
 

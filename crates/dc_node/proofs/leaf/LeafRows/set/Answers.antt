@@ -1,8 +1,6 @@
-use Rattle.std.proofs.Common.{◌∙◌, ap, sym}
-use Rattle.std.proofs.lemmas.List.Elements.{All-same}
+use Rattle.std.proofs.{Common.{◌∙◌, ap, sym}, lemmas.List.Elements.All-same}
 use Rattle.arrayvec.specs.ArrayVec.{ArrayVec as Items}
-use Rattle.dim_hierarchy.specs.declared.row.Row.{Row}
-use Rattle.dim_hierarchy.specs.Rows.{IsRowOf}
+use Rattle.dim_hierarchy.specs.{Rows.IsRowOf, declared.row.Row.Row}
 use Rattle.dc_node.specs.Leaf.{rows_of}
 use Rattle.dc_node.proofs.leaf.LeafRows.set.Goals as goal
 

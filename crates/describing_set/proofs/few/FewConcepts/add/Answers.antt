@@ -1,6 +1,5 @@
 use Rattle.std.proofs.Common.{refl, sym}
-use Rattle.describing_set.proofs.Sorted.{In-from_Contains}
-use Rattle.describing_set.proofs.Membership.{with_id-member}
+use Rattle.describing_set.proofs.{Membership.with_id-member, Sorted.In-from_Contains}
 use Rattle.describing_set.proofs.few.FewConcepts.add.Goals as goal
 
 pub returns-then-has-clause-added : goal.returns-then-has-clause-added

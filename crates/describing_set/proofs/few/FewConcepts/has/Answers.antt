@@ -1,9 +1,7 @@
 use Rattle.std.proofs.Common.{ℕ, sym, ap, ◌∙◌, arith}
-use Rattle.std.specs.Prelude.{◌==◌, Contains}
-use Rattle.std.specs.List.{list_any}
+use Rattle.std.specs.{List.list_any, Prelude.{◌==◌, Contains}}
 use Rattle.arrayvec.specs.ArrayVec.{ArrayVec}
-use Rattle.describing_set.proofs.Membership.{any-take, any-six, read}
-use Rattle.describing_set.proofs.Covering.{means, has-Contains}
+use Rattle.describing_set.proofs.{Covering.{means, has-Contains}, Membership.{any-take, any-six, read}}
 use Rattle.describing_set.proofs.few.FewConcepts.has.Goals as goal
 
 pub returns-clause-test : goal.returns-clause-test

@@ -1,8 +1,7 @@
 use Rattle.std.proofs.Common.{arith, refl}
 use Rattle.dim_hierarchy.specs.Dimension.{tree}
 use Rattle.dim_hierarchy.proofs.Ancestors.{up-IsConcept}
-use Rattle.describing_set.proofs.Membership.{concept_is_one}
-use Rattle.describing_set.proofs.Parts.{Adding-start, Adding-lift, Adding-last, add-IsPart, full_below_top}
+use Rattle.describing_set.proofs.{Membership.concept_is_one, Parts.{Adding-start, Adding-lift, Adding-last, add-IsPart, full_below_top}}
 use Rattle.describing_set.proofs.part.Part.add.Goals as goal
 
 pub loop-id-init : goal.loop-id-init

@@ -1,7 +1,5 @@
 use Rattle.std.proofs.Common.{List, length, ◌<◌, ◌≤◌, ◌∙◌, ap, sym, subst}
-use Rattle.dim_hierarchy.specs.Tree.{leaf_level}
-use Rattle.dim_hierarchy.specs.Dimension.{Dimension, tree}
-use Rattle.dim_hierarchy.specs.Row.{concept_at}
+use Rattle.dim_hierarchy.specs.{Dimension.{Dimension, tree}, Row.concept_at, Tree.leaf_level}
 use Rattle.dim_hierarchy.proofs.Ancestors.{up-IsConcept}
 use Rattle.describing_set.specs.Part.{has_ancestor}
 use Rattle.describing_set.proofs.Membership.{concept_is_one}

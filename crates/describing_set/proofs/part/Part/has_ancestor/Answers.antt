@@ -2,9 +2,7 @@ use Rattle.std.proofs.lemmas.Bool.{OnTrue_from}
 use Rattle.dim_hierarchy.specs.Dimension.{tree}
 use Rattle.dim_hierarchy.proofs.Ancestors.{up-IsConcept}
 use Rattle.describing_set.specs.Parts.{GrowsPart}
-use Rattle.describing_set.proofs.Sorted.{In-from_Contains}
-use Rattle.describing_set.proofs.Membership.{concept_is_one}
-use Rattle.describing_set.proofs.Parts.{GrowsPart-kept}
+use Rattle.describing_set.proofs.{Membership.concept_is_one, Parts.GrowsPart-kept, Sorted.In-from_Contains}
 use Rattle.describing_set.proofs.part.Part.has_ancestor.Goals as goal
 
 pub has-requires : goal.has-requires

@@ -1,8 +1,6 @@
 use Rattle.std.proofs.Common.{◌∙◌, ap}
 use Rattle.std.specs.List.{list_any}
-use Rattle.dim_hierarchy.specs.Dimension.{tree}
-use Rattle.dim_hierarchy.specs.Filter.{pick_at}
-use Rattle.dim_hierarchy.specs.Compiled.{is_related}
+use Rattle.dim_hierarchy.specs.{Compiled.is_related, Dimension.tree, Filter.pick_at}
 use Rattle.describing_set.proofs.Filters.{related_met}
 use Rattle.describing_set.proofs.part.Part.is_met.Goals as goal
 

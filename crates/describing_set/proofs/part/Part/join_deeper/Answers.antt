@@ -1,7 +1,6 @@
 use Rattle.std.proofs.Common.{arith}
 use Rattle.dim_hierarchy.specs.Dimension.{tree}
-use Rattle.describing_set.proofs.Sorted.{In-read}
-use Rattle.describing_set.proofs.Parts.{Joining-next, joined_parts}
+use Rattle.describing_set.proofs.{Parts.{Joining-next, joined_parts}, Sorted.In-read}
 use Rattle.describing_set.proofs.part.Part.join_deeper.Goals as goal
 
 pub add-requires-clause-concept : goal.add-requires-clause-concept

@@ -1,6 +1,5 @@
 use Rattle.std.proofs.Common.{◌-◌, ◌≤◌, length, arith}
-use Rattle.dim_hierarchy.specs.Tree.{up}
-use Rattle.dim_hierarchy.specs.Dimension.{tree}
+use Rattle.dim_hierarchy.specs.{Dimension.tree, Tree.up}
 use Rattle.describing_set.proofs.Sorted.{add_mapped, In-read}
 use Rattle.describing_set.proofs.part.Part.lift.Goals as goal
 

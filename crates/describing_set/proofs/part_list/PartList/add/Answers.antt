@@ -1,12 +1,7 @@
-use Rattle.std.proofs.Common.{◌∙◌, ◌<◌, ◌≤◌, List, [], length, get_or, set, ap, sym, subst, arith}
-use Rattle.std.proofs.Math.Seq.{take-set-lt}
-use Rattle.std.proofs.lemmas.List.{set-get_or}
+use Rattle.std.proofs.{Common.{◌∙◌, ◌<◌, ◌≤◌, List, [], length, get_or, set, ap, sym, subst, arith}, Math.Seq.take-set-lt, lemmas.List.set-get_or}
 use Rattle.arrayvec.specs.ArrayVec.{ArrayVec}
-use Rattle.dim_hierarchy.specs.Concept.{level_of}
-use Rattle.dim_hierarchy.specs.Dimension.{tree}
-use Rattle.describing_set.specs.Part.{part}
-use Rattle.describing_set.specs.Parts.{IsPart, GrowsPart}
-use Rattle.describing_set.specs.declared.part.Part.{Part}
+use Rattle.dim_hierarchy.specs.{Concept.level_of, Dimension.tree}
+use Rattle.describing_set.specs.{Part.part, Parts.{IsPart, GrowsPart}, declared.part.Part.Part}
 use Rattle.describing_set.proofs.Filled.{AreFilled-set, used-read}
 use Rattle.describing_set.proofs.part_list.PartList.add.Goals as goal
 

@@ -1,7 +1,6 @@
 use Rattle.std.proofs.Common.{◌<◌, [], length, ap, arith}
 use Rattle.arrayvec.specs.ArrayVec.{ArrayVec}
-use Rattle.describing_set.specs.Part.{part}
-use Rattle.describing_set.specs.declared.part.Part.{Part}
+use Rattle.describing_set.specs.{Part.part, declared.part.Part.Part}
 use Rattle.describing_set.proofs.Filled.{AreFilled-more}
 use Rattle.describing_set.proofs.part_list.PartList.push.Goals as goal
 

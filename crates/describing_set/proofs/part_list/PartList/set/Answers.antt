@@ -1,8 +1,6 @@
-use Rattle.std.proofs.Common.{◌∙◌, ◌<◌, List, [], length, set, ap, arith}
-use Rattle.std.proofs.Math.Seq.{take-set-lt}
+use Rattle.std.proofs.{Common.{◌∙◌, ◌<◌, List, [], length, set, ap, arith}, Math.Seq.take-set-lt}
 use Rattle.arrayvec.specs.ArrayVec.{ArrayVec}
-use Rattle.describing_set.specs.Part.{part}
-use Rattle.describing_set.specs.declared.part.Part.{Part}
+use Rattle.describing_set.specs.{Part.part, declared.part.Part.Part}
 use Rattle.describing_set.proofs.Filled.{AreFilled-set}
 use Rattle.describing_set.proofs.part_list.PartList.set.Goals as goal
 

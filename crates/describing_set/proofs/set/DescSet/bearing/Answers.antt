@@ -1,12 +1,7 @@
 use Rattle.std.proofs.Common.{◌≡◌, ◌<◌, ◌≤◌, length, true, false, refl, arith}
-use Rattle.dim_hierarchy.specs.Dimension.{tree}
-use Rattle.dim_hierarchy.specs.Filter.{pick_at}
-use Rattle.dim_hierarchy.specs.declared.filter.Pick.TheVariants.{All}
-use Rattle.describing_set.specs.declared.bearing.Bearing.TheVariants.{Inside, Overlaps, Apart}
-use Rattle.describing_set.specs.DescSet.{part_at}
-use Rattle.describing_set.specs.Filter.{is_inside, is_part_inside}
-use Rattle.describing_set.proofs.Covering.{in_each-from, test_read}
-use Rattle.describing_set.proofs.Filters.{inside_matches, matched_overlaps, left_bearing, bearing-IsBearing}
+use Rattle.dim_hierarchy.specs.{Dimension.tree, Filter.pick_at, declared.filter.Pick.TheVariants.All}
+use Rattle.describing_set.specs.{DescSet.part_at, Filter.{is_inside, is_part_inside}, declared.bearing.Bearing.TheVariants.{Inside, Overlaps, Apart}}
+use Rattle.describing_set.proofs.{Covering.{in_each-from, test_read}, Filters.{inside_matches, matched_overlaps, left_bearing, bearing-IsBearing}}
 use Rattle.describing_set.proofs.set.DescSet.bearing.Goals as goal
 
 pub returns-then-is_met_from-clause-test : goal.returns-then-is_met_from-clause-test

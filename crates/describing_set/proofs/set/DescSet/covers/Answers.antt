@@ -1,10 +1,7 @@
 use Rattle.std.proofs.Common.{◌<◌, List, length, true, false, arith, refl, subst}
-use Rattle.dim_hierarchy.specs.Dimension.{Dimension, tree}
-use Rattle.dim_hierarchy.specs.Row.{concept_at, IsCoordOf}
+use Rattle.dim_hierarchy.specs.{Dimension.{Dimension, tree}, Row.{concept_at, IsCoordOf}}
 use Rattle.dim_hierarchy.proofs.Matching.{IsCoordOf-length}
-use Rattle.describing_set.specs.Part.{has_ancestor}
-use Rattle.describing_set.specs.DescSet.{part_at, covers}
-use Rattle.describing_set.specs.Sets.{Covers}
+use Rattle.describing_set.specs.{DescSet.{part_at, covers}, Part.has_ancestor, Sets.Covers}
 use Rattle.describing_set.proofs.Covering.{in_each-from, in_each-fails, test_read, means, covers-Covers, IsSetOf-Covers}
 use Rattle.describing_set.proofs.set.DescSet.covers.Goals as goal
 

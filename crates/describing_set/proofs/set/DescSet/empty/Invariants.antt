@@ -1,6 +1,5 @@
 use Rattle.std.proofs.Common.{ℕ, ◌≡◌, ◌<◌, [], length, get_or}
-use Rattle.dim_hierarchy.specs.Tree.{leaf_level}
-use Rattle.dim_hierarchy.specs.Dimension.{tree}
+use Rattle.dim_hierarchy.specs.{Dimension.tree, Tree.leaf_level}
 use Rattle.describing_set.specs.Part.{part}
 use Rattle.describing_set.proofs.set.DescSet.empty.Given as goal
 

@@ -1,9 +1,6 @@
 use Rattle.std.proofs.Common.{◌<◌, ◌≤◌, length, arith, sym, subst}
-use Rattle.dim_hierarchy.specs.Concept.{level_of}
-use Rattle.dim_hierarchy.specs.Dimension.{tree}
-use Rattle.dim_hierarchy.specs.Row.{concept_at}
-use Rattle.describing_set.specs.declared.part.Part.{Part}
-use Rattle.describing_set.specs.Parts.{IsPart}
+use Rattle.dim_hierarchy.specs.{Concept.level_of, Dimension.tree, Row.concept_at}
+use Rattle.describing_set.specs.{Parts.IsPart, declared.part.Part.Part}
 use Rattle.describing_set.proofs.Sets.{part_at-IsPart, part_at-above, IsDescSetOf-grown, Growing-next, grown_parts}
 use Rattle.describing_set.proofs.set.DescSet.grow.Goals as goal
 

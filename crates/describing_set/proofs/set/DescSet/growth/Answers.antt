@@ -1,8 +1,7 @@
 use Rattle.std.proofs.Common.{false, true, arith}
 use Rattle.describing_set.specs.Sets.{growth_at}
-use Rattle.describing_set.proofs.Covering.{IsSumBelow-next, growth_read}
+use Rattle.describing_set.proofs.{Covering.{IsSumBelow-next, growth_read}, set.DescSet.growth.Goals.{then-not-covers, else-not-covers}}
 use Rattle.describing_set.proofs.set.DescSet.growth.Goals as goal
-use Rattle.describing_set.proofs.set.DescSet.growth.Goals.{then-not-covers, else-not-covers}
 
 pub loop-dim-preserved : goal.loop-dim-preserved
 loop-dim-preserved c =

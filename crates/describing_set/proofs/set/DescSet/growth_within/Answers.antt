@@ -1,8 +1,7 @@
 use Rattle.std.proofs.Common.{length, false, true, arith}
 use Rattle.describing_set.specs.Sets.{growth_at}
-use Rattle.describing_set.proofs.Covering.{IsSumBelow-next, IsSumBelow-beyond, growth_read}
+use Rattle.describing_set.proofs.{Covering.{IsSumBelow-next, IsSumBelow-beyond, growth_read}, set.DescSet.growth_within.Goals.{then-not-covers+else-growth-most, else-not-covers}}
 use Rattle.describing_set.proofs.set.DescSet.growth_within.Goals as goal
-use Rattle.describing_set.proofs.set.DescSet.growth_within.Goals.{then-not-covers+else-growth-most, else-not-covers}
 
 pub returns-then-growth-most-clause-none : goal.returns-then-growth-most-clause-none
 returns-then-growth-most-clause-none c =

@@ -1,11 +1,7 @@
 use Rattle.std.proofs.Common.{◌<◌, length, arith, true, false, refl, sym}
-use Rattle.dim_hierarchy.specs.Dimension.{tree}
-use Rattle.dim_hierarchy.specs.Filter.{pick_at}
-use Rattle.dim_hierarchy.specs.declared.filter.Pick.TheVariants.{All}
-use Rattle.describing_set.specs.DescSet.{part_at}
-use Rattle.describing_set.specs.Filter.{IsInside, is_inside, is_part_inside}
-use Rattle.describing_set.proofs.Covering.{in_each-from, in_each-fails, means, test_read}
-use Rattle.describing_set.proofs.Filters.{inside_matches, is_inside-IsInside}
+use Rattle.dim_hierarchy.specs.{Dimension.tree, Filter.pick_at, declared.filter.Pick.TheVariants.All}
+use Rattle.describing_set.specs.{DescSet.part_at, Filter.{IsInside, is_inside, is_part_inside}}
+use Rattle.describing_set.proofs.{Covering.{in_each-from, in_each-fails, means, test_read}, Filters.{inside_matches, is_inside-IsInside}}
 use Rattle.describing_set.proofs.set.DescSet.inside.Goals as goal
 
 pub returns-then-not-is_inside_of-clause-test : goal.returns-then-not-is_inside_of-clause-test

@@ -1,9 +1,6 @@
 use Rattle.std.proofs.Common.{◌<◌, length, arith, false, sym}
-use Rattle.dim_hierarchy.specs.Dimension.{tree}
-use Rattle.dim_hierarchy.specs.Filter.{pick_at}
-use Rattle.dim_hierarchy.specs.declared.filter.Pick.TheVariants.{All}
-use Rattle.describing_set.specs.DescSet.{part_at}
-use Rattle.describing_set.specs.Filter.{is_part_met}
+use Rattle.dim_hierarchy.specs.{Dimension.tree, Filter.pick_at, declared.filter.Pick.TheVariants.All}
+use Rattle.describing_set.specs.{DescSet.part_at, Filter.is_part_met}
 use Rattle.describing_set.proofs.Covering.{in_each-from, in_each-fails, test_read}
 use Rattle.describing_set.proofs.set.DescSet.is_met_by.Goals as goal
 

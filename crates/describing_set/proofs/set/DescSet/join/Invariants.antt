@@ -1,8 +1,6 @@
 use Rattle.std.proofs.Common.{ℕ, ◌≡◌, ◌<◌, [], length, get_or}
 use Rattle.dim_hierarchy.specs.Dimension.{tree}
-use Rattle.describing_set.specs.Part.{part}
-use Rattle.describing_set.specs.Parts.{JoinsParts}
-use Rattle.describing_set.specs.DescSet.{part_at}
+use Rattle.describing_set.specs.{DescSet.part_at, Part.part, Parts.JoinsParts}
 use Rattle.describing_set.proofs.set.DescSet.join.Given as goal
 
 abbrev pub invariant-loop-dim : goal.invariant-loop-dim

@@ -1,11 +1,6 @@
-use Rattle.std.proofs.Common.{ℕ, ◌≡◌, ◌<◌, ◌≤◌, length, arith, refl, sym, subst, inl, inr}
-use Rattle.std.proofs.lemmas.Bool.{cases_lt}
-use Rattle.dim_hierarchy.specs.Concept.{level_of}
-use Rattle.dim_hierarchy.specs.Dimension.{tree}
-use Rattle.dim_hierarchy.specs.Row.{concept_at}
-use Rattle.describing_set.specs.declared.part.Part.{Part}
-use Rattle.describing_set.specs.DescSet.{part_at}
-use Rattle.describing_set.specs.Parts.{GrowsPart}
+use Rattle.std.proofs.{Common.{ℕ, ◌≡◌, ◌<◌, ◌≤◌, length, arith, refl, sym, subst, inl, inr}, lemmas.Bool.cases_lt}
+use Rattle.dim_hierarchy.specs.{Concept.level_of, Dimension.tree, Row.concept_at}
+use Rattle.describing_set.specs.{DescSet.part_at, Parts.GrowsPart, declared.part.Part.Part}
 use Rattle.describing_set.proofs.Sets.{part_at-above, grown_set}
 use Rattle.describing_set.proofs.set.DescSet.keeps.Goals as goal
 

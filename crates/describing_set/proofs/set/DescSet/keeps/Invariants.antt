@@ -1,8 +1,6 @@
 use Rattle.std.proofs.Common.{ℕ, ◌<◌}
-use Rattle.dim_hierarchy.specs.Dimension.{tree}
-use Rattle.dim_hierarchy.specs.Row.{concept_at}
-use Rattle.describing_set.specs.DescSet.{part_at}
-use Rattle.describing_set.specs.Parts.{GrowsPart}
+use Rattle.dim_hierarchy.specs.{Dimension.tree, Row.concept_at}
+use Rattle.describing_set.specs.{DescSet.part_at, Parts.GrowsPart}
 use Rattle.describing_set.proofs.set.DescSet.keeps.Given as goal
 
 abbrev pub invariant-loop-dim : goal.invariant-loop-dim

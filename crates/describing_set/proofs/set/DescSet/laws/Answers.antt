@@ -1,7 +1,5 @@
-use Rattle.std.proofs.lemmas.List.Elements.{All-contains_itself}
-use Rattle.std.proofs.Common.{get_or}
-use Rattle.describing_set.proofs.Covering.{covers-Covers, IsSetOf-Covers}
-use Rattle.describing_set.proofs.Laws.{IsSetOf-same, IsSetOf-unique, IsSetOf-Describes, IsSetOf-wider}
+use Rattle.std.proofs.{Common.get_or, lemmas.List.Elements.All-contains_itself}
+use Rattle.describing_set.proofs.{Covering.{covers-Covers, IsSetOf-Covers}, Laws.{IsSetOf-same, IsSetOf-unique, IsSetOf-Describes, IsSetOf-wider}}
 use Rattle.describing_set.proofs.set.DescSet.laws.Goals as goal
 
 pub returns-clause-describes : goal.returns-clause-describes

@@ -1,8 +1,6 @@
-use Rattle.std.proofs.Common.{◌<◌, length, sym, ◌∙◌, arith}
-use Rattle.std.proofs.lemmas.Bool.{OnFalse_from, false≢true, lt-ltb}
+use Rattle.std.proofs.{Common.{◌<◌, length, sym, ◌∙◌, arith}, lemmas.Bool.{OnFalse_from, false≢true, lt-ltb}}
 use Rattle.describing_set.specs.Filter.{Overlaps, overlaps}
-use Rattle.describing_set.proofs.Covering.{means}
-use Rattle.describing_set.proofs.Filters.{overlaps-Overlaps, matched_overlaps}
+use Rattle.describing_set.proofs.{Covering.means, Filters.{overlaps-Overlaps, matched_overlaps}}
 use Rattle.describing_set.proofs.set.DescSet.overlaps.Goals as goal
 
 pub returns-then-dims-gt0-clause-test : goal.returns-then-dims-gt0-clause-test

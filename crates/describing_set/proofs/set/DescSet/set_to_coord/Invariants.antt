@@ -1,7 +1,5 @@
 use Rattle.std.proofs.Common.{ℕ, ◌≡◌, ◌<◌, [], ◌∷◌, length, get_or}
-use Rattle.dim_hierarchy.specs.Tree.{leaf_level}
-use Rattle.dim_hierarchy.specs.Dimension.{tree}
-use Rattle.dim_hierarchy.specs.Row.{concept_at}
+use Rattle.dim_hierarchy.specs.{Dimension.tree, Row.concept_at, Tree.leaf_level}
 use Rattle.describing_set.specs.Part.{part}
 use Rattle.describing_set.proofs.set.DescSet.set_to_coord.Given as goal
 

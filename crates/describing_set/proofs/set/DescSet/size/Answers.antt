@@ -1,6 +1,5 @@
 use Rattle.std.proofs.Common.{◌≡◌, ◌+◌, ◌-◌, ◌*◌, length, refl, sym, ap, ◌∙◌, arith}
-use Rattle.dim_hierarchy.specs.Tree.{leaf_level}
-use Rattle.dim_hierarchy.specs.Dimension.{tree}
+use Rattle.dim_hierarchy.specs.{Dimension.tree, Tree.leaf_level}
 use Rattle.describing_set.specs.Sets.{size_at}
 use Rattle.describing_set.proofs.Covering.{IsSumBelow-next}
 use Rattle.describing_set.proofs.set.DescSet.size.Goals as goal

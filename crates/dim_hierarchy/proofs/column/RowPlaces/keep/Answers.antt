@@ -1,6 +1,5 @@
-use Rattle.std.proofs.Common.{◌<◌, take, subst, sym, arith}
+use Rattle.std.proofs.{Common.{◌<◌, take, subst, sym, arith}, lemmas.List.Elements.All-filter}
 use Rattle.std.specs.Prelude.{All}
-use Rattle.std.proofs.lemmas.List.Elements.{All-filter}
 use Rattle.dim_hierarchy.specs.Column.{is_marked}
 use Rattle.dim_hierarchy.proofs.column.RowPlaces.keep.Goals as goal
 

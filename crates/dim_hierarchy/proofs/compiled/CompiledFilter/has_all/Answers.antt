@@ -1,9 +1,6 @@
 use Rattle.std.proofs.Common.{◌<◌, ◌∙◌, ap, sym, subst, get_or, length}
-use Rattle.std.specs.Prelude.{All, ◌==◌}
-use Rattle.std.specs.List.{list_all}
-use Rattle.dim_hierarchy.specs.Concept.{number_of}
-use Rattle.dim_hierarchy.specs.Dimension.{tree}
-use Rattle.dim_hierarchy.specs.Filter.{pick_at}
+use Rattle.std.specs.{List.list_all, Prelude.{All, ◌==◌}}
+use Rattle.dim_hierarchy.specs.{Concept.number_of, Dimension.tree, Filter.pick_at}
 use Rattle.dim_hierarchy.proofs.Compiling.{numbers_within, all_under, all_if_all}
 use Rattle.dim_hierarchy.proofs.compiled.CompiledFilter.has_all.Goals as goal
 

@@ -1,9 +1,6 @@
 use Rattle.std.proofs.Common.{◌<◌, ◌∙◌, ap, sym, subst, get_or, length, filter}
 use Rattle.std.specs.Prelude.{All}
-use Rattle.dim_hierarchy.specs.Concept.{number_of}
-use Rattle.dim_hierarchy.specs.Dimension.{tree}
-use Rattle.dim_hierarchy.specs.Filter.{pick_at}
-use Rattle.dim_hierarchy.specs.Column.{is_marked}
+use Rattle.dim_hierarchy.specs.{Column.is_marked, Concept.number_of, Dimension.tree, Filter.pick_at}
 use Rattle.dim_hierarchy.proofs.Compiling.{leaves_some, leaves_within, leaves_kept, kept_if_all}
 use Rattle.dim_hierarchy.proofs.compiled.CompiledFilter.keep.Goals as goal
 

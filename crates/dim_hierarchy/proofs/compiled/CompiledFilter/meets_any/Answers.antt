@@ -1,9 +1,6 @@
 use Rattle.std.proofs.Common.{◌<◌, ◌∙◌, ap, sym, subst, get_or, length}
-use Rattle.std.specs.Prelude.{All, nat_lt, not}
-use Rattle.std.specs.List.{list_any}
-use Rattle.dim_hierarchy.specs.Concept.{number_of}
-use Rattle.dim_hierarchy.specs.Dimension.{tree}
-use Rattle.dim_hierarchy.specs.Filter.{pick_at}
+use Rattle.std.specs.{List.list_any, Prelude.{All, nat_lt, not}}
+use Rattle.dim_hierarchy.specs.{Concept.number_of, Dimension.tree, Filter.pick_at}
 use Rattle.dim_hierarchy.proofs.Compiling.{numbers_within, any_related, any_if_all}
 use Rattle.dim_hierarchy.proofs.compiled.CompiledFilter.meets_any.Goals as goal
 

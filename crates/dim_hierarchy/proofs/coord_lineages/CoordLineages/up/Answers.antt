@@ -1,8 +1,5 @@
 use Rattle.std.proofs.Common.{◌<◌, ◌≤◌, ◌∙◌, length, ap, subst, sym}
-use Rattle.dim_hierarchy.specs.Tree.{up, leaf_level}
-use Rattle.dim_hierarchy.specs.Dimension.{tree}
-use Rattle.dim_hierarchy.specs.Row.{concept_at}
-use Rattle.dim_hierarchy.specs.CoordLineages.{CoordOf}
+use Rattle.dim_hierarchy.specs.{CoordLineages.CoordOf, Dimension.tree, Row.concept_at, Tree.{up, leaf_level}}
 use Rattle.dim_hierarchy.proofs.Ancestry.{ancestor-read}
 use Rattle.dim_hierarchy.proofs.coord_lineages.CoordLineages.up.Goals as goal
 

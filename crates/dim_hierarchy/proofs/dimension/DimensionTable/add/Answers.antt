@@ -1,9 +1,5 @@
-use Rattle.std.proofs.Common.{arith, ◌≡◌, ◌+◌, ◌<◌, ◌^◌, ◌∙◌, [], ◌∷◌, ◌++◌, List, ℕ, sym, subst, set, get_or, length, ap}
-use Rattle.std.proofs.lemmas.List.{get_or_default}
-use Rattle.dim_hierarchy.specs.Concept.{level_of}
-use Rattle.dim_hierarchy.specs.Tree.{IsConcept, IsTree, next_under, with_child, parents_at, up}
-use Rattle.dim_hierarchy.specs.Dimension.{Dimension}
-use Rattle.dim_hierarchy.specs.Lineage.{lineages_at}
+use Rattle.std.proofs.{Common.{arith, ◌≡◌, ◌+◌, ◌<◌, ◌^◌, ◌∙◌, [], ◌∷◌, ◌++◌, List, ℕ, sym, subst, set, get_or, length, ap}, lemmas.List.get_or_default}
+use Rattle.dim_hierarchy.specs.{Concept.level_of, Dimension.Dimension, Lineage.lineages_at, Tree.{IsConcept, IsTree, next_under, with_child, parents_at, up}}
 use Rattle.dim_hierarchy.proofs.Lineages.{CanAddLineage, AreLineagesOf-with_lineage, longer, with_lineage}
 use Rattle.dim_hierarchy.proofs.dimension.DimensionTable.add.Goals as goal
 

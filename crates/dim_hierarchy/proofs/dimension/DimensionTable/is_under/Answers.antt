@@ -1,7 +1,5 @@
-use Rattle.std.proofs.Common.{arith, ◌≤◌, ◌<◌, ap, ◌∙◌}
-use Rattle.std.proofs.lemmas.Bool.{lt-leb}
-use Rattle.dim_hierarchy.specs.Concept.{level_of}
-use Rattle.dim_hierarchy.specs.Tree.{up}
+use Rattle.std.proofs.{Common.{arith, ◌≤◌, ◌<◌, ap, ◌∙◌}, lemmas.Bool.lt-leb}
+use Rattle.dim_hierarchy.specs.{Concept.level_of, Tree.up}
 use Rattle.dim_hierarchy.proofs.Ancestors.{is_under-at, is_under-below}
 use Rattle.dim_hierarchy.proofs.dimension.DimensionTable.is_under.Goals as goal
 

@@ -1,6 +1,5 @@
-use Rattle.std.proofs.Common.{◌∙◌, sym, ap, drop, ◌+◌}
+use Rattle.std.proofs.{Common.{◌∙◌, sym, ap, drop, ◌+◌}, lemmas.List.drop_all}
 use Rattle.std.specs.Prelude.{◌&&◌, is_some}
-use Rattle.std.proofs.lemmas.List.{drop_all}
 use Rattle.dim_hierarchy.specs.Filter.{ids_named}
 use Rattle.dim_hierarchy.proofs.Named.{get-read, is_some-ids_named-drop}
 use Rattle.dim_hierarchy.proofs.dimension.DimensionTable.knows_all.Goals as goal

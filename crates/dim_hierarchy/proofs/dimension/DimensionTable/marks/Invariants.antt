@@ -1,5 +1,4 @@
-use Rattle.dim_hierarchy.specs.declared.filter.Pick.TheVariants.{Ids}
-use Rattle.dim_hierarchy.specs.Marks.{AreUpperMarks}
+use Rattle.dim_hierarchy.specs.{Marks.AreUpperMarks, declared.filter.Pick.TheVariants.Ids}
 use Rattle.dim_hierarchy.proofs.dimension.DimensionTable.marks.Given as goal
 
 abbrev pub invariant-loop-level : goal.invariant-loop-level

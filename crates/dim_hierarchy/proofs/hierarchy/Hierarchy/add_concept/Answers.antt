@@ -1,11 +1,6 @@
 use Rattle.std.proofs.Common.{◌≡◌, ◌∙◌, ◌+◌, ◌<◌, ◌^◌, List, length, set, ap, subst, sym}
-use Rattle.dim_hierarchy.specs.Concept.{level_of}
-use Rattle.dim_hierarchy.specs.Tree.{parents_at}
-use Rattle.dim_hierarchy.specs.Dimension.{Dimension, dimension, with_concept}
-use Rattle.dim_hierarchy.specs.Counted.{IsCounted}
-use Rattle.dim_hierarchy.proofs.Dimensions.{dimension-read}
-use Rattle.dim_hierarchy.proofs.Faults.{concept_fault-None, CanAddConcept-CanGrow}
-use Rattle.dim_hierarchy.proofs.Growth.{IsCounted-with_concept}
+use Rattle.dim_hierarchy.specs.{Concept.level_of, Counted.IsCounted, Dimension.{Dimension, dimension, with_concept}, Tree.parents_at}
+use Rattle.dim_hierarchy.proofs.{Dimensions.dimension-read, Faults.{concept_fault-None, CanAddConcept-CanGrow}, Growth.IsCounted-with_concept}
 use Rattle.dim_hierarchy.proofs.hierarchy.Hierarchy.add_concept.Goals as goal
 
 pub add-requires-clause-room : goal.add-requires-clause-room

@@ -1,10 +1,7 @@
 use Rattle.std.proofs.Common.{◌≡◌, ◌∙◌, ◌++◌, ◌∷◌, [], List, ap, subst, sym}
-use Rattle.dim_hierarchy.specs.Dimension.{Dimension, new_dimension}
-use Rattle.dim_hierarchy.specs.Counted.{IsCounted}
-use Rattle.dim_hierarchy.proofs.Faults.{dim_fault-None}
-use Rattle.dim_hierarchy.proofs.Growth.{IsCounted-new_dimension}
+use Rattle.dim_hierarchy.specs.{Counted.IsCounted, Dimension.{Dimension, new_dimension}}
+use Rattle.dim_hierarchy.proofs.{Faults.dim_fault-None, Growth.IsCounted-new_dimension, hierarchy.Hierarchy.add_dim.Goals.{in-Ok-push, in-Err}}
 use Rattle.dim_hierarchy.proofs.hierarchy.Hierarchy.add_dim.Goals as goal
-use Rattle.dim_hierarchy.proofs.hierarchy.Hierarchy.add_dim.Goals.{in-Ok-push, in-Err}
 
 pub invariant_of-self : goal.invariant_of-self
 invariant_of-self c =

@@ -1,6 +1,5 @@
 use Rattle.std.proofs.Common.{refl}
-use Rattle.dim_hierarchy.specs.Concept.{level_of}
-use Rattle.dim_hierarchy.specs.Dimension.{tree}
+use Rattle.dim_hierarchy.specs.{Concept.level_of, Dimension.tree}
 use Rattle.dim_hierarchy.proofs.Ancestors.{up-self, up-up, IsUnder-self, IsUnder-trans}
 use Rattle.dim_hierarchy.proofs.hierarchy.Hierarchy.ancestor_laws.Goals as goal
 

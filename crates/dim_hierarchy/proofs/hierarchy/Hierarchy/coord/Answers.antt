@@ -1,9 +1,7 @@
 use Rattle.std.proofs.Common.{arith, refl, sym, ◌≡◌, ◌∙◌, ap}
 use Rattle.std.specs.Prelude.{None, Some, is_none, position}
 use Rattle.dim_hierarchy.specs.Row.{leaf_named, leaves}
-use Rattle.dim_hierarchy.proofs.Named.{length-paired}
-use Rattle.dim_hierarchy.proofs.Places.{position-first, position-nowhere}
-use Rattle.dim_hierarchy.proofs.Coordinates.{IsCoordSoFar-start, IsCoordSoFar-next, IsCoordSoFar-end}
+use Rattle.dim_hierarchy.proofs.{Coordinates.{IsCoordSoFar-start, IsCoordSoFar-next, IsCoordSoFar-end}, Named.length-paired, Places.{position-first, position-nowhere}}
 use Rattle.dim_hierarchy.proofs.hierarchy.Hierarchy.coord.Goals as goal
 
 pub loop-dim-init : goal.loop-dim-init

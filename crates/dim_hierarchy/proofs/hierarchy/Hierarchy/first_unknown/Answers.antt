@@ -1,9 +1,7 @@
 use Rattle.std.proofs.Common.{arith, sym, ◌≡◌, ◌∙◌, ap, Bool, true, false, not, below_more, get_or}
 use Rattle.std.specs.Prelude.{None, Some, Option, is_none, is_some}
-use Rattle.dim_hierarchy.specs.Dimension.{no_dimension}
-use Rattle.dim_hierarchy.specs.Filter.{pick_named, picks}
-use Rattle.dim_hierarchy.proofs.Named.{length-paired, paired-read}
-use Rattle.dim_hierarchy.proofs.Places.{position-first, position-nowhere}
+use Rattle.dim_hierarchy.specs.{Dimension.no_dimension, Filter.{pick_named, picks}}
+use Rattle.dim_hierarchy.proofs.{Named.{length-paired, paired-read}, Places.{position-first, position-nowhere}}
 use Rattle.dim_hierarchy.proofs.hierarchy.Hierarchy.first_unknown.Goals as goal
 
 none_or_some : {X : Type 0} (o : Option X) (b : Bool) → b ≡ is_some o → is_none o ≡ not b

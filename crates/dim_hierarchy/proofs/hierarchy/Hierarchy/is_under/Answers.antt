@@ -1,6 +1,5 @@
 use Rattle.std.proofs.Common.{◌∙◌, ap, subst, sym}
-use Rattle.dim_hierarchy.specs.Tree.{IsConcept, is_under}
-use Rattle.dim_hierarchy.specs.Dimension.{Dimension}
+use Rattle.dim_hierarchy.specs.{Dimension.Dimension, Tree.{IsConcept, is_under}}
 use Rattle.dim_hierarchy.proofs.Ancestors.{is_under-IsUnder}
 use Rattle.dim_hierarchy.proofs.hierarchy.Hierarchy.is_under.Goals as goal
 

@@ -1,7 +1,6 @@
 use Rattle.std.proofs.Common.{◌∙◌, ap, sym, [], get_or}
 use Rattle.std.specs.Prelude.{None}
-use Rattle.dim_hierarchy.specs.Dimension.{no_dimension}
-use Rattle.dim_hierarchy.specs.Row.{leaf_named}
+use Rattle.dim_hierarchy.specs.{Dimension.no_dimension, Row.leaf_named}
 use Rattle.dim_hierarchy.proofs.Named.{get_or-paired}
 use Rattle.dim_hierarchy.proofs.hierarchy.Hierarchy.leaf.Goals as goal
 

@@ -1,9 +1,6 @@
 use Rattle.std.proofs.Common.{arith, ◌≡◌, ◌∙◌, sym, subst, true, false}
 use Rattle.std.specs.Prelude.{◌↔◌, IsTrue}
-use Rattle.dim_hierarchy.specs.Dimension.{tree}
-use Rattle.dim_hierarchy.specs.Row.{concept_at}
-use Rattle.dim_hierarchy.specs.Filter.{is_picked, pick_at}
-use Rattle.dim_hierarchy.specs.Meaning.{Matches}
+use Rattle.dim_hierarchy.specs.{Dimension.tree, Filter.{is_picked, pick_at}, Meaning.Matches, Row.concept_at}
 use Rattle.dim_hierarchy.proofs.Matching.{IsCoordOf-length, picked-end, picked-step, is_picked-read, matches-Matches}
 use Rattle.dim_hierarchy.proofs.hierarchy.Hierarchy.matches.Goals as goal
 

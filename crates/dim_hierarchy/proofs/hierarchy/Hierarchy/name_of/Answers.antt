@@ -1,6 +1,5 @@
 use Rattle.std.proofs.Common.{subst, sym}
-use Rattle.dim_hierarchy.specs.Tree.{IsConcept}
-use Rattle.dim_hierarchy.specs.Dimension.{Dimension}
+use Rattle.dim_hierarchy.specs.{Dimension.Dimension, Tree.IsConcept}
 use Rattle.dim_hierarchy.proofs.Dimensions.{named-some}
 use Rattle.dim_hierarchy.proofs.hierarchy.Hierarchy.name_of.Goals as goal
 

@@ -1,10 +1,7 @@
 use Rattle.std.proofs.Common.{arith, refl, sym, ◌≡◌, ◌∙◌, subst, false, get_or}
 use Rattle.std.specs.Prelude.{None, Some, Option, IsSome, is_none}
-use Rattle.dim_hierarchy.specs.Dimension.{no_dimension}
-use Rattle.dim_hierarchy.specs.Filter.{pick_named, picks}
-use Rattle.dim_hierarchy.proofs.Named.{length-paired, paired-read}
-use Rattle.dim_hierarchy.proofs.Places.{position-None}
-use Rattle.dim_hierarchy.proofs.Coordinates.{IsFilterNamed-made, IsFilterSoFar-next, IsFilterSoFar-end}
+use Rattle.dim_hierarchy.specs.{Dimension.no_dimension, Filter.{pick_named, picks}}
+use Rattle.dim_hierarchy.proofs.{Coordinates.{IsFilterNamed-made, IsFilterSoFar-next, IsFilterSoFar-end}, Named.{length-paired, paired-read}, Places.position-None}
 use Rattle.dim_hierarchy.proofs.hierarchy.Hierarchy.picks.Goals as goal
 
 some : {X : Type 0} (o : Option X) → is_none o ≡ false → IsSome o

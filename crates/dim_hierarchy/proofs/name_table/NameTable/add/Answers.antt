@@ -1,13 +1,8 @@
-use Rattle.std.proofs.Common.{◌≡◌, ◌∙◌, ◌⊎◌, inl, inr, ap, sym, subst, refl, length, ℕ}
+use Rattle.std.proofs.{Common.{◌≡◌, ◌∙◌, ◌⊎◌, inl, inr, ap, sym, subst, refl, length, ℕ}, lemmas.List.nil_from_length, lemmas.Option.slice_get_read}
 use Rattle.std.specs.FinMap as map
-use Rattle.std.proofs.lemmas.List.{nil_from_length}
-use Rattle.std.proofs.lemmas.Option.{slice_get_read}
-use Rattle.dim_hierarchy.specs.NameNodes.{stop_of, hash_of, told_at, IsStop, name_map}
-use Rattle.dim_hierarchy.specs.declared.name_nodes.Stop.TheVariants.{Free, Full}
-use Rattle.dim_hierarchy.proofs.NameStops.{stop-told, new_node-bare}
-use Rattle.dim_hierarchy.proofs.NameMaps.{told-others, names-replaced, names-behind, names-alone, names-others}
+use Rattle.dim_hierarchy.specs.{NameNodes.{stop_of, hash_of, told_at, IsStop, name_map}, declared.name_nodes.Stop.TheVariants.{Free, Full}}
+use Rattle.dim_hierarchy.proofs.{NameMaps.{told-others, names-replaced, names-behind, names-alone, names-others}, NameStops.{stop-told, new_node-bare}, name_table.NameTable.add.Goals.{in_default-via-in-Free+else-place-lt-MOST_NODES, in_default-via-in-Full+else-place-eq0}}
 use Rattle.dim_hierarchy.proofs.name_table.NameTable.add.Goals as goal
-use Rattle.dim_hierarchy.proofs.name_table.NameTable.add.Goals.{in_default-via-in-Free+else-place-lt-MOST_NODES, in_default-via-in-Full+else-place-eq0}
 
 pub returns-in-Here-clause-ok : goal.returns-in-Here-clause-ok
 returns-in-Here-clause-ok c =

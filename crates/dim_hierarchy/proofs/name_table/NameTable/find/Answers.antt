@@ -1,10 +1,8 @@
-use Rattle.std.proofs.Common.{◌∙◌, ap, sym, refl, length}
+use Rattle.std.proofs.{Common.{◌∙◌, ap, sym, refl, length}, lemmas.Option.slice_get_read}
 use Rattle.std.specs.FinMap as map
 use Rattle.std.specs.Option.{option_map}
-use Rattle.std.proofs.lemmas.Option.{slice_get_read}
 use Rattle.dim_hierarchy.specs.NameNodes.{told_at}
-use Rattle.dim_hierarchy.proofs.NameStops.{stop-told}
-use Rattle.dim_hierarchy.proofs.NameMaps.{get-name_map, told-others}
+use Rattle.dim_hierarchy.proofs.{NameMaps.{get-name_map, told-others}, NameStops.stop-told}
 use Rattle.dim_hierarchy.proofs.name_table.NameTable.find.Goals as goal
 
 pub returns-in-Here : goal.returns-in-Here

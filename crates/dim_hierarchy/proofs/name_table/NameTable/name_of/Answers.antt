@@ -1,7 +1,5 @@
-use Rattle.std.proofs.Common.{◌≢◌, ◌∙◌, Some, ◌+◌, ◌∷◌, ap, sym, subst, drop, map as each}
+use Rattle.std.proofs.{Common.{◌≢◌, ◌∙◌, Some, ◌+◌, ◌∷◌, ap, sym, subst, drop, map as each}, lemmas.Bool.{false≢true}, lemmas.List.{drop_more, drop_all}}
 use Rattle.std.specs.FinMap as map
-use Rattle.std.proofs.lemmas.Bool.{false≢true}
-use Rattle.std.proofs.lemmas.List.{drop_more, drop_all}
 use Rattle.dim_hierarchy.specs.NameNodes.{name_map, names_of}
 use Rattle.dim_hierarchy.proofs.NameMaps.{AreLeft, AreLeft-all, AreLeft-next, AreLeft-none}
 use Rattle.dim_hierarchy.proofs.name_table.NameTable.name_of.Goals as goal

@@ -1,6 +1,5 @@
 use Rattle.std.proofs.Common.{◌+◌, ◌≡◌, length, refl, ap, ◌∙◌, arith}
-use Rattle.hierarchy_split.specs.Head.{head_items}
-use Rattle.hierarchy_split.specs.Flags.{AreDimCutsOf}
+use Rattle.hierarchy_split.specs.{Flags.AreDimCutsOf, Head.head_items}
 use Rattle.hierarchy_split.proofs.Groups.{cuts_pushed}
 use Rattle.hierarchy_split.proofs.head.HeadCuts.of.Goals as goal
 

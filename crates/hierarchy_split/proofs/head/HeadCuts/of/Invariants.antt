@@ -1,6 +1,5 @@
 use Rattle.std.proofs.Common.{ℕ, ◌≡◌, ◌<◌, length}
-use Rattle.hierarchy_split.specs.Head.{head_items}
-use Rattle.hierarchy_split.specs.Flags.{AreDimCutsOf, cuts_at}
+use Rattle.hierarchy_split.specs.{Flags.{AreDimCutsOf, cuts_at}, Head.head_items}
 use Rattle.hierarchy_split.proofs.head.HeadCuts.of.Given as goal
 
 abbrev pub invariant-loop-dim : goal.invariant-loop-dim

@@ -1,6 +1,5 @@
 use Rattle.std.proofs.Common.{◌+◌, ◌≡◌, ◌<◌, length, sym, ap, subst, ◌∙◌, arith}
-use Rattle.hierarchy_split.specs.Head.{with_other}
-use Rattle.hierarchy_split.specs.Flags.{AreDimCutsOf}
+use Rattle.hierarchy_split.specs.{Flags.AreDimCutsOf, Head.with_other}
 use Rattle.hierarchy_split.proofs.Groups.{cuts_pushed}
 use Rattle.hierarchy_split.proofs.head.HeadCuts.strike.Goals as goal
 

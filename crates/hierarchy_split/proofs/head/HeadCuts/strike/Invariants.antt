@@ -1,6 +1,5 @@
 use Rattle.std.proofs.Common.{ℕ, ◌≡◌, ◌<◌, length}
-use Rattle.hierarchy_split.specs.Head.{GroupItems, with_other}
-use Rattle.hierarchy_split.specs.Flags.{AreDimCutsOf, AreHeadCutsOf, cuts_at}
+use Rattle.hierarchy_split.specs.{Flags.{AreDimCutsOf, AreHeadCutsOf, cuts_at}, Head.{GroupItems, with_other}}
 use Rattle.hierarchy_split.proofs.head.HeadCuts.strike.Given as goal
 
 abbrev pub invariant-loop-dim : goal.invariant-loop-dim

@@ -1,7 +1,6 @@
 use Rattle.std.proofs.Common.{ℕ, List, ◌∙◌, refl, sym, ap, arith}
 use Rattle.arrayvec.specs.ArrayVec.{ArrayVec as Items}
-use Rattle.hierarchy_split.proofs.Partings.{Parting-keeps, Parting-parts, Parting-all}
-use Rattle.hierarchy_split.proofs.head_cut.HeadCut.parts.Goals.{then-keeps, else-keeps}
+use Rattle.hierarchy_split.proofs.{Partings.{Parting-keeps, Parting-parts, Parting-all}, head_cut.HeadCut.parts.Goals.{then-keeps, else-keeps}}
 use Rattle.hierarchy_split.proofs.head_cut.HeadCut.parts.Goals as goal
 
 pub loop-place-init : goal.loop-place-init

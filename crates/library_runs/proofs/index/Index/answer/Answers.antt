@@ -1,11 +1,9 @@
 use Rattle.std.proofs.Common.{rules, ◌≡◌, ◌∙◌, sym, ap}
-use Rattle.std.specs.Prelude.{Some}
-use Rattle.std.specs.Option.{option_copied}
+use Rattle.std.specs.{Option.option_copied, Prelude.Some}
 use Rattle.row_ledger.specs.declared.event.Event.TheVariants.{Answered}
 use Rattle.library_runs.specs.Index.{alone}
-use Rattle.library_runs.proofs.Indexes.{answers-last, last-newest, newest-last}
+use Rattle.library_runs.proofs.{Indexes.{answers-last, last-newest, newest-last}, index.Index.answer.Goals.{in_default-via-in-Some+in_default, in_default-via-in_default}}
 use Rattle.library_runs.proofs.index.Index.answer.Goals as goal
-use Rattle.library_runs.proofs.index.Index.answer.Goals.{in_default-via-in-Some+in_default, in_default-via-in_default}
 
 pub returns-in-Some-Answered-clause-some : goal.returns-in-Some-Answered-clause-some
 returns-in-Some-Answered-clause-some c =

@@ -1,5 +1,4 @@
-use Rattle.std.proofs.Common.{arith, ap, length-take}
-use Rattle.std.proofs.lemmas.Int.{to_z-of_z}
+use Rattle.std.proofs.{Common.{arith, ap, length-take}, lemmas.Int.to_z-of_z}
 use Rattle.dim_hierarchy.specs.declared.row.Row.{Row}
 use Rattle.measure_agg.proofs.AggLaws.{agg-take_more}
 use Rattle.measure_agg.proofs.agg.Agg.of_rows.Goals as goal

@@ -1,7 +1,5 @@
 use Rattle.std.proofs.Common.{◌≡◌, [], subst}
-use Rattle.seeded_run.specs.Kept.{IsBetween}
-use Rattle.seeded_run.specs.Phase.{about, held}
-use Rattle.seeded_run.specs.Order.{is_order}
+use Rattle.seeded_run.specs.{Kept.IsBetween, Order.is_order, Phase.{about, held}}
 use Rattle.volap_cell.specs.Steps.{history_in}
 use Rattle.olap_top.specs.OneRun.{setting_of}
 use Rattle.olap_top.proofs.PhaseTurns.{told-none}

@@ -1,15 +1,10 @@
-use Rattle.std.proofs.Common.{◌≡◌, ◌∙◌, ◌++◌, List, [], take, drop, reverse, sym, ap, subst}
+use Rattle.std.proofs.{Common.{◌≡◌, ◌∙◌, ◌++◌, List, [], take, drop, reverse, sym, ap, subst}, lemmas.List.take-append-drop}
 use Rattle.std.specs.Prelude.{IfSome, if◌then◌else◌}
-use Rattle.std.proofs.lemmas.List.{take-append-drop}
-use Rattle.answer_text.specs.Marks.{RefersBack}
-use Rattle.answer_text.specs.Printed.{phase_behind}
-use Rattle.answer_text.specs.Told.{HasTold}
+use Rattle.answer_text.specs.{Marks.RefersBack, Printed.phase_behind, Told.HasTold}
 use Rattle.script_form.specs.declared.script.Command.{Command}
 use Rattle.seeded_run.specs.Phase.{MayAllRun}
-use Rattle.olap_top.specs.RunSoFar.{HasGone, HasStopped, IsBehind, history_of, tells}
-use Rattle.olap_top.specs.declared.run.Run.{Run}
-use Rattle.olap_top.proofs.Ends.{if_ok-more, on_err}
-use Rattle.olap_top.proofs.PhaseTurns.{gone-run, grows-by, refers-held, refers-seen, stopped-behind, stopped-run, told-of, turns-of, untold-is}
+use Rattle.olap_top.specs.{RunSoFar.{HasGone, HasStopped, IsBehind, history_of, tells}, declared.run.Run.Run}
+use Rattle.olap_top.proofs.{Ends.{if_ok-more, on_err}, PhaseTurns.{gone-run, grows-by, refers-held, refers-seen, stopped-behind, stopped-run, told-of, turns-of, untold-is}}
 use Rattle.olap_top.proofs.run.Run.phase.Goals as goal
 
 pub run_phase-requires-clause-may_run : goal.run_phase-requires-clause-may_run

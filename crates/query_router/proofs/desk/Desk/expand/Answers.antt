@@ -1,7 +1,6 @@
 use Rattle.std.proofs.Common.{◌+◌, ◌-◌, ℕ, List, insert, set, is_ok, subst, sym, ap, ◌∙◌}
 use Rattle.std.specs.Int.{from_bool}
-use Rattle.query_router.specs.Desk.{is_open, is_taken, DeskValue, IsAt}
-use Rattle.query_router.specs.declared.part.Part.{Part}
+use Rattle.query_router.specs.{Desk.{is_open, is_taken, DeskValue, IsAt}, declared.part.Part.Part}
 use Rattle.query_router.proofs.OpenParts.{progress-are, progress-expand, taken-counts, when-ok}
 use Rattle.query_router.proofs.desk.Desk.expand.Goals as goal
 

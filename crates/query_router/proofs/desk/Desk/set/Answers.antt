@@ -1,8 +1,6 @@
 use Rattle.std.proofs.Common.{◌+◌, ◌-◌, ℕ, List, subst, sym, ap, ◌∙◌}
 use Rattle.std.specs.Int.{from_bool}
-use Rattle.query_router.specs.Desk.{is_taken, DeskValue, IsAt}
-use Rattle.query_router.specs.Progress.{HasEnded}
-use Rattle.query_router.specs.declared.part.Part.{Part}
+use Rattle.query_router.specs.{Desk.{is_taken, DeskValue, IsAt}, Progress.HasEnded, declared.part.Part.Part}
 use Rattle.query_router.proofs.OpenParts.{count-put, ended-put, taken-counts}
 use Rattle.query_router.proofs.desk.Desk.set.Goals as goal
 

@@ -1,5 +1,4 @@
-use Rattle.std.proofs.Common.{◌≡◌, Some, slice_get, subst, sym, ap, ◌∙◌}
-use Rattle.std.proofs.lemmas.Option.{slice_get-get_or}
+use Rattle.std.proofs.{Common.{◌≡◌, Some, slice_get, subst, sym, ap, ◌∙◌}, lemmas.Option.slice_get-get_or}
 use Rattle.query_router.specs.Desk.{is_open, is_waiting, DeskValue, IsAt}
 use Rattle.query_router.proofs.OpenParts.{progress-take}
 use Rattle.query_router.proofs.desk.Desk.take.Goals as goal

@@ -1,6 +1,4 @@
-use Rattle.std.proofs.Common.{arith}
-use Rattle.std.proofs.lemmas.Grind.{common_steps}
-use Rattle.std.proofs.lemmas.Option.{gets}
+use Rattle.std.proofs.{Common.arith, lemmas.Grind.common_steps, lemmas.Option.gets}
 use Rattle.row_ledger.proofs.Positions.{event_at_reversed}
 use Rattle.row_ledger.proofs.history.History.get.Goals as goal
 

@@ -1,7 +1,6 @@
 use Rattle.std.proofs.Common.{◌≡◌, ◌<◌, ◌≤◌, arith, inl, inr, subst, sym}
 use Rattle.std.specs.Prelude.{Some, slice_get}
-use Rattle.seeded_run.proofs.Firstly.{below-or-at, next-read}
-use Rattle.seeded_run.proofs.Held.{some-within}
+use Rattle.seeded_run.proofs.{Cursors.Firstly.{below-or-at, next-read}, Cursors.Held.some-within}
 use Rattle.seeded_run.proofs.machine.Running.first_waiting.Goals as goal
 
 pub loop-place-preserved : goal.loop-place-preserved

@@ -1,7 +1,5 @@
 use Rattle.std.proofs.Common.{◌∙◌, sym}
-use Rattle.seeded_run.proofs.Goings.{going-command, part-seen}
-use Rattle.seeded_run.proofs.LeftAlone.{apart}
-use Rattle.seeded_run.proofs.Turns.{has-gone-on-at-part, has-gone-on-with-command, is-due}
+use Rattle.seeded_run.proofs.{Goings.{going-command, part-seen}, Holding.LeftAlone.apart, Phases.Turns.{has-gone-on-at-part, has-gone-on-with-command, is-due}}
 use Rattle.seeded_run.proofs.machine.Running.go_on.Goals as goal
 
 pub go_on_at_part-requires-clause-due : goal.go_on_at_part-requires-clause-due

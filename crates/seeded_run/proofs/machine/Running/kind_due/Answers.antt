@@ -1,10 +1,7 @@
 use Rattle.std.proofs.Common.{sym, subst}
 use Rattle.volap_cell.specs.Steps.{history_in}
-use Rattle.seeded_run.specs.Look.{HasNextNames, IsTold}
-use Rattle.seeded_run.specs.Machine.{HoldsNow, about_in, phase_of, world_of}
-use Rattle.seeded_run.specs.Rests.{rest_of}
-use Rattle.seeded_run.proofs.Begun.{names-ahead}
-use Rattle.seeded_run.proofs.Held.{told}
+use Rattle.seeded_run.specs.{Look.{HasNextNames, IsTold}, Machine.{HoldsNow, about_in, phase_of, world_of}, Rests.rest_of}
+use Rattle.seeded_run.proofs.{Begun.names-ahead, Cursors.Held.told}
 use Rattle.seeded_run.proofs.machine.Running.kind_due.Goals as goal
 
 pub due-requires-clause-names : goal.due-requires-clause-names

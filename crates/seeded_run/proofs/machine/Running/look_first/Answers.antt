@@ -1,7 +1,6 @@
-use Rattle.std.proofs.Common.{◌∙◌, ◌≡◌, ap, false, get_or, None, Some, sym, true}
-use Rattle.std.proofs.lemmas.List.{get_or_read}
+use Rattle.std.proofs.{Common.{◌∙◌, ◌≡◌, ap, false, get_or, None, Some, sym, true}, lemmas.List.get_or_read}
 use Rattle.seeded_run.specs.Look.{rests}
-use Rattle.seeded_run.proofs.Firstly.{all-rest, first-busy, first-idle, kept-look, rests-so}
+use Rattle.seeded_run.proofs.Cursors.Firstly.{all-rest, first-busy, first-idle, kept-look, rests-so}
 use Rattle.seeded_run.proofs.machine.Running.look_first.Goals as goal
 
 pub returns-then-rests-clause-held : goal.returns-then-rests-clause-held

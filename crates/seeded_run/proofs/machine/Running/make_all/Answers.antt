@@ -1,6 +1,5 @@
-use Rattle.std.proofs.Common.{rules, None, get_or}
-use Rattle.std.proofs.lemmas.Option.{slice_get-get_or}
-use Rattle.seeded_run.proofs.ByHand.{later-then, made-all, makes-one-more}
+use Rattle.std.proofs.{Common.{rules, None, get_or}, lemmas.Option.slice_get-get_or}
+use Rattle.seeded_run.proofs.Phases.ByHand.{later-then, made-all, makes-one-more}
 use Rattle.seeded_run.proofs.machine.Running.make_all.Goals as goal
 
 pub loop-place-preserved : goal.loop-place-preserved

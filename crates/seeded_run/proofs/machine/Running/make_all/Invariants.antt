@@ -1,6 +1,5 @@
 use Rattle.std.specs.Prelude.{take}
-use Rattle.seeded_run.specs.ByHand.{AreMoves, IsLater}
-use Rattle.seeded_run.specs.Machine.{HoldsNow, about_in, phase_of, world_of}
+use Rattle.seeded_run.specs.{ByHand.{AreMoves, IsLater}, Machine.{HoldsNow, about_in, phase_of, world_of}}
 use Rattle.seeded_run.proofs.machine.Running.make_all.Given as goal
 
 abbrev pub invariant-loop-place : goal.invariant-loop-place

@@ -1,6 +1,6 @@
 use Rattle.std.proofs.Common.{rules, ◌∙◌}
 use Rattle.seeded_run.specs.Machine.{HoldsNow}
-use Rattle.seeded_run.proofs.ByHand.{cannot-another, moves-as-told, same-told}
+use Rattle.seeded_run.proofs.Phases.ByHand.{cannot-another, moves-as-told, same-told}
 use Rattle.seeded_run.proofs.machine.Running.make_move.Goals as goal
 
 pub returns-then-ne-clause-cannot : goal.returns-then-ne-clause-cannot

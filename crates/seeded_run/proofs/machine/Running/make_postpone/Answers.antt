@@ -1,6 +1,6 @@
 use Rattle.std.proofs.Common.{◌∙◌}
 use Rattle.seeded_run.specs.Machine.{HoldsNow}
-use Rattle.seeded_run.proofs.ByHand.{later-turned}
+use Rattle.seeded_run.proofs.Phases.ByHand.{later-turned}
 use Rattle.seeded_run.proofs.machine.Running.make_postpone.Goals as goal
 
 pub postpone-requires-clause-due : goal.postpone-requires-clause-due

@@ -1,12 +1,7 @@
 use Rattle.std.proofs.Common.{refl}
 use Rattle.volap_cell.specs.declared.kind.Kind.TheVariants.{Postpone}
-use Rattle.seeded_run.specs.Machine.{world_of}
-use Rattle.seeded_run.specs.Steps.{is_for_part}
-use Rattle.seeded_run.proofs.ByHand.{never-begins}
-use Rattle.seeded_run.proofs.Goings.{going-command}
-use Rattle.seeded_run.proofs.Instead.{falls-to}
-use Rattle.seeded_run.proofs.LeftAlone.{apart}
-use Rattle.seeded_run.proofs.Turns.{has-gone-on-with-command}
+use Rattle.seeded_run.specs.{Machine.world_of, Steps.is_for_part}
+use Rattle.seeded_run.proofs.{Goings.going-command, Holding.LeftAlone.apart, Instead.falls-to, Phases.ByHand.never-begins, Phases.Turns.has-gone-on-with-command}
 use Rattle.seeded_run.proofs.machine.Running.postpone.Goals as goal
 
 pub returns : goal.returns

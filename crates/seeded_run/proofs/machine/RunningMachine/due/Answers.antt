@@ -1,12 +1,7 @@
 use Rattle.std.proofs.Common.{◌∙◌, get_or, None, arith, ap, is_some, subst, sym}
-use Rattle.seeded_run.specs.Look.{IsTold}
-use Rattle.seeded_run.specs.Machine.{HoldsNow, about_in, phase_of, step_in, world_of}
-use Rattle.seeded_run.specs.Rests.{rest_of}
-use Rattle.seeded_run.specs.Takes.{AsksHere}
+use Rattle.seeded_run.specs.{Look.IsTold, Machine.{HoldsNow, about_in, phase_of, step_in, world_of}, Rests.rest_of, Takes.AsksHere}
 use Rattle.volap_cell.specs.Steps.{history_in}
-use Rattle.seeded_run.proofs.Begun.{alone-carries, asks-ahead}
-use Rattle.seeded_run.proofs.DueSteps.{found, steps-if-can}
-use Rattle.seeded_run.proofs.Held.{told}
+use Rattle.seeded_run.proofs.{Begun.{alone-carries, asks-ahead}, Cursors.Held.told, Due.DueSteps.{found, steps-if-can}}
 use Rattle.seeded_run.proofs.machine.RunningMachine.due.Goals as goal
 
 pub due_step-requires-clause-alone : goal.due_step-requires-clause-alone

@@ -1,8 +1,6 @@
-use Rattle.std.proofs.Common.{subst, sym, ap}
-use Rattle.std.proofs.lemmas.List.Elements.{All-push}
+use Rattle.std.proofs.{Common.{subst, sym, ap}, lemmas.List.Elements.All-push}
 use Rattle.dim_hierarchy.specs.Row.{IsCoordOf}
-use Rattle.server_image.specs.declared.image.Growth.{Growth}
-use Rattle.server_image.specs.Image.{ImageValue, AreGrowths}
+use Rattle.server_image.specs.{Image.{ImageValue, AreGrowths}, declared.image.Growth.Growth}
 use Rattle.server_image.proofs.image.Image.acked.Goals as goal
 
 pub returns-clause-growths : goal.returns-clause-growths

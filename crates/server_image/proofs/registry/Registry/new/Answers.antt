@@ -1,11 +1,6 @@
-use Rattle.std.proofs.Common.{refl, length, subst, sym, ap, arith}
+use Rattle.std.proofs.{Common.{refl, length, subst, sym, ap, arith}, lemmas.List.length-map, lemmas.List.Elements.All-push, lemmas.List.FromFn.length-range_with_len}
 use Rattle.std.specs.List.{range_with_len}
-use Rattle.std.proofs.lemmas.List.{length-map}
-use Rattle.std.proofs.lemmas.List.Elements.{All-push}
-use Rattle.std.proofs.lemmas.List.FromFn.{length-range_with_len}
-use Rattle.describing_set.specs.Sorted.{Ascends}
-use Rattle.describing_set.specs.Sets.{IsDescSetOf}
-use Rattle.describing_set.specs.declared.listing.Spot.{Spot}
+use Rattle.describing_set.specs.{Sets.IsDescSetOf, Sorted.Ascends, declared.listing.Spot.Spot}
 use Rattle.server_image.specs.Registry.{IsFirstSpot}
 use Rattle.server_image.proofs.Boxes.{first-ids, range-Ascends, range-more, AllZip-snoc}
 use Rattle.server_image.proofs.registry.Registry.new.Goals as goal

@@ -1,6 +1,5 @@
 use Rattle.std.specs.List.{AllZip, range_with_len}
-use Rattle.server_image.specs.Spots.{AreBoxes}
-use Rattle.server_image.specs.Registry.{IsFirstSpot}
+use Rattle.server_image.specs.{Registry.IsFirstSpot, Spots.AreBoxes}
 use Rattle.server_image.proofs.registry.Registry.new.Given as goal
 
 abbrev pub invariant-loop-worker : goal.invariant-loop-worker

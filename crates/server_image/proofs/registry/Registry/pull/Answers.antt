@@ -1,10 +1,6 @@
-use Rattle.std.proofs.Common.{◌≡◌, ◌∙◌, ◌≤◌, List, length, take, subst, sym, ap, arith}
-use Rattle.std.proofs.lemmas.List.{take_all}
-use Rattle.std.proofs.lemmas.Result.{IfOk-weaker}
+use Rattle.std.proofs.{Common.{◌≡◌, ◌∙◌, ◌≤◌, List, length, take, subst, sym, ap, arith}, lemmas.List.take_all, lemmas.Result.IfOk-weaker}
 use Rattle.describing_set.specs.declared.listing.Spot.{Spot}
-use Rattle.server_image.specs.Spots.{AreBoxes, Grows, spot_ids}
-use Rattle.server_image.specs.Image.{noted}
-use Rattle.server_image.specs.Registry.{RegistryValue}
+use Rattle.server_image.specs.{Image.noted, Registry.RegistryValue, Spots.{AreBoxes, Grows, spot_ids}}
 use Rattle.server_image.proofs.Boxes.{Grows-ids, Grows-length}
 use Rattle.server_image.proofs.registry.Registry.pull.Goals as goal
 

@@ -1,12 +1,7 @@
-use Rattle.std.proofs.Common.{◌≡◌, ◌∙◌, get_or, set, subst, sym, ap, refl, arith, Some, true}
+use Rattle.std.proofs.{Common.{◌≡◌, ◌∙◌, get_or, set, subst, sym, ap, refl, arith, Some, true}, Math.Seq.map-set_same, lemmas.List.length-set, lemmas.Option.slice_get-get_or}
 use Rattle.std.specs.Prelude.{◌==◌, IsTrue}
-use Rattle.std.proofs.lemmas.List.{length-set}
-use Rattle.std.proofs.lemmas.Option.{slice_get-get_or}
-use Rattle.std.proofs.Math.Seq.{map-set_same}
-use Rattle.describing_set.specs.Sorted.{Ascends}
-use Rattle.describing_set.specs.declared.listing.Spot.{Spot}
-use Rattle.server_image.specs.Spots.{has_spot, place_of}
-use Rattle.server_image.specs.Registry.{RegistryValue, IsRehosted, on_frontier}
+use Rattle.describing_set.specs.{Sorted.Ascends, declared.listing.Spot.Spot}
+use Rattle.server_image.specs.{Registry.{RegistryValue, IsRehosted, on_frontier}, Spots.{has_spot, place_of}}
 use Rattle.server_image.proofs.Lists.{place-within}
 use Rattle.server_image.proofs.registry.Registry.rehost.Goals as goal
 

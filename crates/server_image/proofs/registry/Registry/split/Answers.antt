@@ -1,10 +1,7 @@
-use Rattle.std.proofs.Common.{List, ◌≡◌, ◌∙◌, ◌++◌, ◌∷◌, [], get_or, subst, sym, ap, arith, Some, true, false}
-use Rattle.std.specs.Prelude.{◌==◌, IsTrue}
-use Rattle.std.specs.List.{remove}
-use Rattle.std.proofs.lemmas.Option.{slice_get-get_or}
+use Rattle.std.proofs.{Common.{List, ◌≡◌, ◌∙◌, ◌++◌, ◌∷◌, [], get_or, subst, sym, ap, arith, Some, true, false}, lemmas.Option.slice_get-get_or}
+use Rattle.std.specs.{List.remove, Prelude.{◌==◌, IsTrue}}
 use Rattle.describing_set.specs.declared.listing.Spot.{Spot}
-use Rattle.server_image.specs.Spots.{has_spot, place_of, without, with_spot}
-use Rattle.server_image.specs.Registry.{RegistryValue, IsRegistry, IsSplit, on_frontier}
+use Rattle.server_image.specs.{Registry.{RegistryValue, IsRegistry, IsSplit, on_frontier}, Spots.{has_spot, place_of, without, with_spot}}
 use Rattle.server_image.proofs.Lists.{place-within, not_in, IsRegistry-split}
 use Rattle.server_image.proofs.registry.Registry.split.Goals as goal
 

@@ -1,5 +1,4 @@
-use Rattle.std.proofs.Common.{◌≡◌, arith}
-use Rattle.std.proofs.lemmas.Int.{to_z-of_z}
+use Rattle.std.proofs.{Common.{◌≡◌, arith}, lemmas.Int.to_z-of_z}
 use Rattle.measure_agg.specs.Joining.{join, one}
 use Rattle.shard_store.proofs.queue.Queue.push.Goals as goal
 

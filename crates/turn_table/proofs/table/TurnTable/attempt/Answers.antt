@@ -1,12 +1,7 @@
 use Rattle.std.proofs.Common.{◌≡◌, ◌<◌, ℕ, List, length, sym, ap, ◌∙◌, subst, arith, [], ◌∷◌, ◌++◌, Option}
 use mathlib.Core.Option.{some}
-use Rattle.atomic_table.specs.Table.{turned, Me}
-use Rattle.atomic_table.specs.Seated.{TableId}
-use Rattle.turn_table.specs.Numbered.{value_of}
-use Rattle.turn_table.specs.Views.{HasAll, after_take}
-use Rattle.turn_table.specs.Law.{IsPossible}
-use Rattle.turn_table.specs.Seat.{SeatValue, IsSeated}
-use Rattle.turn_table.specs.declared.view.View.{View}
+use Rattle.atomic_table.specs.{Seated.TableId, Table.{turned, Me}}
+use Rattle.turn_table.specs.{Law.IsPossible, Numbered.value_of, Seat.{SeatValue, IsSeated}, Views.{HasAll, after_take}, declared.view.View.View}
 use Rattle.turn_table.proofs.Seats.{seated_taken, seated_refused, length_numbers}
 use Rattle.turn_table.proofs.table.TurnTable.attempt.Goals as goal
 

@@ -1,8 +1,5 @@
 use Rattle.std.proofs.Common.{◌≡◌, [], sym, ap, ◌∙◌, subst, List, Option}
-use Rattle.turn_table.specs.Views.{HasAll}
-use Rattle.turn_table.specs.Law.{IsClosed}
-use Rattle.turn_table.specs.Seat.{SeatValue}
-use Rattle.turn_table.specs.declared.view.View.{View}
+use Rattle.turn_table.specs.{Law.IsClosed, Seat.SeatValue, Views.HasAll, declared.view.View.View}
 use Rattle.turn_table.proofs.Opened.{closes}
 use Rattle.turn_table.proofs.table.TurnTable.close.Goals as goal
 

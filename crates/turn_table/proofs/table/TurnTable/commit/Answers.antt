@@ -1,12 +1,7 @@
 use Rattle.std.proofs.Common.{◌≡◌, ◌<◌, ℕ, Bool, List, true, false, sym, ap, ◌∙◌, subst, Option}
 use mathlib.Core.Option.{some}
-use Rattle.atomic_table.specs.Table.{Me, rest}
-use Rattle.atomic_table.specs.Seated.{TableId}
-use Rattle.turn_table.specs.Numbered.{value_of, numbers_of, replace, after_first}
-use Rattle.turn_table.specs.Views.{after_commit}
-use Rattle.turn_table.specs.Law.{sight}
-use Rattle.turn_table.specs.Seat.{SeatValue, IsSeated, slots_of, values_of}
-use Rattle.turn_table.specs.declared.view.View.{View}
+use Rattle.atomic_table.specs.{Seated.TableId, Table.{Me, rest}}
+use Rattle.turn_table.specs.{Law.sight, Numbered.{value_of, numbers_of, replace, after_first}, Seat.{SeatValue, IsSeated, slots_of, values_of}, Views.after_commit, declared.view.View.View}
 use Rattle.turn_table.proofs.Seats.{seated_committed, commit_ready, first_inside, first_number, slots_empty, values_slots}
 use Rattle.turn_table.proofs.table.TurnTable.commit.Goals as goal
 

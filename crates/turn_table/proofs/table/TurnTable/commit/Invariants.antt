@@ -1,5 +1,4 @@
-use Rattle.turn_table.specs.Views.{after_commit}
-use Rattle.turn_table.specs.Seat.{values_of}
+use Rattle.turn_table.specs.{Seat.values_of, Views.after_commit}
 use Rattle.turn_table.proofs.table.TurnTable.commit.Given as goal
 
 abbrev pub ghosts-commit_as : goal.ghosts-commit_as

@@ -1,12 +1,7 @@
 use Rattle.std.proofs.Common.{rules, ◌≤◌, ◌++◌, Option, subst, ◌≡◌, ◌≢◌, [], List, length, sym, ap, ◌∙◌}
-use Rattle.atomic_table.specs.Table.{Me}
-use Rattle.atomic_table.specs.Seated.{TableId}
-use Rattle.turn_table.specs.Numbered.{Extends, longer}
-use Rattle.turn_table.specs.Views.{joined_view}
-use Rattle.turn_table.specs.Seat.{SeatValue, slots_of}
-use Rattle.turn_table.specs.declared.view.View.{View}
-use Rattle.turn_table.proofs.Allowed.{join_allowed, look_allowed}
-use Rattle.turn_table.proofs.Seats.{seated_together, joined_active, shorter_less, both_begin}
+use Rattle.atomic_table.specs.{Seated.TableId, Table.Me}
+use Rattle.turn_table.specs.{Numbered.{Extends, longer}, Seat.{SeatValue, slots_of}, Views.joined_view, declared.view.View.View}
+use Rattle.turn_table.proofs.{Allowed.{join_allowed, look_allowed}, Seats.{seated_together, joined_active, shorter_less, both_begin}}
 use Rattle.turn_table.proofs.table.TurnTable.join_seat.Goals as goal
 
 pub join_seat-requires : goal.join_seat-requires

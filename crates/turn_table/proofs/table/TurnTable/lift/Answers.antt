@@ -1,8 +1,6 @@
 use Rattle.std.proofs.Common.{◌≡◌, ◌≤◌, ℕ, List, length, true, false, sym, ap, ◌∙◌, subst, arith}
 use Rattle.atomic_table.specs.Seated.{TableId}
-use Rattle.turn_table.specs.Numbered.{numbers_of, HaveOwnNumbers}
-use Rattle.turn_table.specs.Seat.{SeatValue, slots_of, values_of}
-use Rattle.turn_table.specs.declared.view.View.{View}
+use Rattle.turn_table.specs.{Numbered.{numbers_of, HaveOwnNumbers}, Seat.{SeatValue, slots_of, values_of}, declared.view.View.View}
 use Rattle.turn_table.proofs.Seats.{seated_lifted, length_numbers, values_full}
 use Rattle.turn_table.proofs.table.TurnTable.lift.Goals as goal
 

@@ -1,15 +1,9 @@
 use Rattle.std.proofs.Common.{◌≡◌, ◌<◌, ◌+◌, ◌-◌, ℕ, List, Option, length, false, sym, ap, ◌∙◌, subst, arith, lit<}
 use mathlib.Core.Option.{some}
 use lib.ListN.{get_elem?}
-use Rattle.atomic_table.specs.Table.{rest}
-use Rattle.atomic_table.specs.Seated.{TableId}
-use Rattle.turn_table.specs.Numbered.{value_of, without}
-use Rattle.turn_table.specs.Views.{after_release}
-use Rattle.turn_table.specs.Law.{IsPossible}
-use Rattle.turn_table.specs.Seat.{SeatValue, IsSeated}
-use Rattle.turn_table.specs.declared.view.View.{View}
-use Rattle.turn_table.proofs.Numbered.{below_length}
-use Rattle.turn_table.proofs.Seats.{as_many, held_told, told_released, release_ready, released_slots, seated_released, pair_path}
+use Rattle.atomic_table.specs.{Seated.TableId, Table.rest}
+use Rattle.turn_table.specs.{Law.IsPossible, Numbered.{value_of, without}, Seat.{SeatValue, IsSeated}, Views.after_release, declared.view.View.View}
+use Rattle.turn_table.proofs.{Numbered.below_length, Seats.{as_many, held_told, told_released, release_ready, released_slots, seated_released, pair_path}}
 use Rattle.turn_table.proofs.table.TurnTable.release.Goals as goal
 
 pub position-at-requires : goal.position-at-requires

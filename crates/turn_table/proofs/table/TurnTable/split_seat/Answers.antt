@@ -1,8 +1,6 @@
 use Rattle.std.proofs.Common.{rules, refl, false, [], ◌≡◌, ◌≢◌, ap, ◌∙◌}
 use Rattle.atomic_table.specs.Seated.{TableId}
-use Rattle.turn_table.specs.Numbered.{value_of}
-use Rattle.turn_table.specs.Seat.{SeatValue}
-use Rattle.turn_table.specs.declared.view.View.{View}
+use Rattle.turn_table.specs.{Numbered.value_of, Seat.SeatValue, declared.view.View.View}
 use Rattle.turn_table.proofs.Seats.{seated_left, seated_alone}
 use Rattle.turn_table.proofs.table.TurnTable.split_seat.Goals as goal
 

@@ -1,8 +1,6 @@
 use Rattle.std.proofs.Common.{◌≡◌, [], ◌∷◌, ◌++◌, Some, ap, refl, ◌∙◌, subst}
 use mathlib.Core.Option.{some}
-use Rattle.turn_table.specs.Numbered.{value_of}
-use Rattle.turn_table.specs.Views.{HasAll, after_take}
-use Rattle.turn_table.specs.Seat.{SeatValue}
+use Rattle.turn_table.specs.{Numbered.value_of, Seat.SeatValue, Views.{HasAll, after_take}}
 use Rattle.turn_table.proofs.table.TurnTable.take.Goals as goal
 
 pub loop-init : goal.loop-init

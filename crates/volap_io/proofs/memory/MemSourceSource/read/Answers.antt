@@ -1,6 +1,4 @@
-use Rattle.std.proofs.Common.{◌≡◌, ◌-◌, take, drop, length, arith, length-drop}
-use Rattle.std.proofs.Math.ListN.{drop_of_length-le}
-use Rattle.std.proofs.lemmas.List.{take_all}
+use Rattle.std.proofs.{Common.{◌≡◌, ◌-◌, take, drop, length, arith, length-drop}, Math.ListN.drop_of_length-le, lemmas.List.take_all}
 use Rattle.volap_io.proofs.Pieces.{drop-given}
 use Rattle.volap_io.proofs.memory.MemSourceSource.read.Goals as goal
 

@@ -1,0 +1,4 @@
+-- A job is given up.
+mod Returned
+mod PostponesJob
+mod PostponeReady

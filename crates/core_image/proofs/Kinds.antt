@@ -1,0 +1,21 @@
+-- Each kind of step keeps the invariant.
+pub mod Clears
+pub mod AcksInsert
+pub mod RoutesInsert
+pub mod BeginsInsert
+pub mod AsksQuery
+pub mod NotesRefusal
+pub mod FailsUnrouted
+pub mod FailsRouted
+pub mod FailsQuery
+pub mod Failing
+pub mod CountsSession
+pub mod CallsBegin
+pub mod AnswersQuery
+pub mod NotesCall
+pub mod SyncsImage
+pub mod CallsEnd
+pub mod NotesAsk
+pub mod NotesEnd
+pub mod NotesLeft
+pub mod NotesShown

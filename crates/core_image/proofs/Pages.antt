@@ -1,0 +1,4 @@
+-- What a page tells.
+pub mod Pageless
+pub mod RowsDivided
+pub mod PagesShown

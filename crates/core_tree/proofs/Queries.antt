@@ -1,0 +1,6 @@
+-- Queries that read on.
+pub mod TreeSteps
+pub mod BlocksLeft
+pub mod QuerySteps
+pub mod Walkers
+pub mod OfAll

@@ -1,0 +1,5 @@
+-- Spares, purses and stamps.
+pub mod Spares
+pub mod Stamps
+pub mod Counts
+pub mod Exchanges
