@@ -8,7 +8,7 @@ use Rattle.dim_hierarchy.specs.declared.row.Row.{Row}
 use Rattle.row_ledger.proofs.{Growth.KeepsRight-ended, Positions.before-older}
 use Rattle.shard_plan.specs.{declared.action.Action.Action, declared.action.Load.Load}
 use Rattle.tree_shape.specs.{Laws.OtherLaw, Shape.{Shape, numbers}}
-use Rattle.volap_cell.specs.{AdminKinds.{Finishes, PushesBoth, HasJob}, Cells.{LedgerCell, ledger_in}, Commands.{after_action, owes}, Desking.Desking, Errands.ReadPart, Falls.{control_of, job_left, left, of_work, plenty}, Ghost.{Ghost, InPurse, InTree, Owner}, Growing.{Growing, Queueing, Resting}, ImageKinds.{Pushes, doing}, Imaging.{Covering, Imaging}, Invariant.InvWith, Lineage.Lineage, Owing.{Owing, owed_by}, Placing.{Inserting, Placing}, Planning.{job_for, next_job}, Querying.{IsInTreeOf, Querying}, Setting.{Setting, actor_count, cell_count, ledger_cell, site_in}, Steps.history_in, Telling.{IsCalledAs, IsProgress, Telling}, Values.{ActorValue, JobValue, IsCalled, BuildingValue, Builds}, View.{View, row_at, view}, Working.{Balancing, IsBalancing, IsJobOf, action_of, begun}, World.{Change, World}, declared.command.Balance.Balance, declared.command.Command.Command, declared.command.Work.Work, declared.role.Role.Role, declared.role.Role.TheVariants.Admin}
+use Rattle.volap_cell.specs.{AdminKinds.{Finishes, PushesBoth, HasJob}, Cells.{LedgerCell, ledger_in}, Commands.{after_action, owes}, Desking.Desking, Errands.ReadPart, Falls.{control_of, job_left, left, of_work, plenty}, Ghost.{Ghost, InPurse, InTree, Owner}, Growing.{Growing, Queueing, Resting}, ImageKinds.{Pushes, doing}, Imaging.{Covering, Imaging}, Invariant.InvWith, Lineage.Lineage, Owing.{Owing, owed_by}, Placing.{Inserting, Placing}, Planning.{job_for, next_job}, Querying.{IsInTreeOf, Querying}, Setting.{Setting, actor_count, cell_count, ledger_cell, site_in}, Steps.history_in, Telling.{IsCalledAs, IsProgress, Telling}, Values.{ActorValue, JobValue, IsCalled, BuildingValue, Builds}, View.{View, row_at, view}, Working.{Balancing, IsBalancing, IsJobOf, action_of, begun_job}, World.{Change, World}, declared.command.Balance.Balance, declared.command.Command.Command, declared.command.Work.Work, declared.role.Role.Role, declared.role.Role.TheVariants.Admin}
 use Rattle.volap_cell.proofs.{OneEvent.Known.{AreOlder, older-rows}, OneEvent.Noted.telling-goes-on, OneEvent.Older.{call-kept, query-same}, OneEvent.Quiet.{covering-quiet, desking-quiet, desks-older, imaging-quiet, inserting-quiet, lineage-quiet, placing-quiet, querying-quiet, readers-older, resting-quiet}, OneEvent.Reads.{ReadersTake, pinned-whole, readers-take, reading-rows-older}, OneEvent.Told.{called-kept, commands-older}, OneEvent.Trees.{growing-grown, past-there, queueing-grown}, Persons.has-command, Views.Admin.by_finish, Views.Fields.{IsNew, IsNewAt, IsPushed, pushed-new}, Views.Seen.renewed}
 use Rattle.core_image.proofs.{Commands.Endings.unasked, Commands.NextAction.next-action, Commands.Owed.{owed-others, promises-now}}
 use Rattle.core_admin.proofs.{Jobs.FinishedCommands.telling-finished, Jobs.NextJobs.{IsNextOf, numbering-next, off-desk, working-next, balancing-one, control-next}, Jobs.TurnedCommands.{IsOffDesk, turned-desking, turned-inserting, turned-placing}, Moving.BalanceDone.{balancing-done, next-is, within, IsDoneBy}, Postponing.Returned.one, Retiring.Gates.{Retiring, gate-old, not-new, retired-stocking}, Retiring.Left.control-retired, Retiring.Trees.{retired-growing, retired-pinning, retired-queueing, retired-stamping}, ShardLines.{KeepsBoxes, KeepsLines, covering-kept, desking-kept, imaging-kept, inserting-kept, querying-kept, rows}, SharedLineage.{LeadsOn, leading-shared, lineage-shared}, SharedRows.{SharesRows, placing-shared, resting-shared, shared_ghost, turning-shared}, Untouched.querying-off}
@@ -377,7 +377,7 @@ module _ (s : Setting) (w w2 : World) (n : ℕ) (g : Ghost) (owner : ℕ → Own
     bal : IsBalancing s h g.placed g.home (Some d.job) d.of balance
     bal = subst (λ (j : Option JobValue). IsBalancing s h g.placed g.home j d.of balance) d.has.is_job (i.balancing.balance n d.of balance (d.command ∙ ap (doing d.of) works))
 
-    is-next : next_job balance ≡ Some (begun d.job)
+    is-next : next_job balance ≡ Some (begun_job d.job)
     is-next = subst (λ (k : Work). IsJobOf k d.job) works its-work
 
     calls : IsCalledAs h d.of (class_is.Balance balance.most) × (v.roles n ≡ Admin)

@@ -28,7 +28,7 @@ pub record CanAsk (h : List Dimension) (filter : List Pick) (desk : DeskValue) (
   pub valid : IsFilterOf h filter
 
 -- the query is in the ledger, which has room for its end, and its parts lie on the desk
-pub record Asks (h : List Dimension) (session server : ℕ) (filter : List Pick) (image : ImageValue) (desk desk_now : DeskValue) (ledger ledger_now : LedgerValue) : Type 0 where
+pub record OpensQuery (h : List Dimension) (session server : ℕ) (filter : List Pick) (image : ImageValue) (desk desk_now : DeskValue) (ledger ledger_now : LedgerValue) : Type 0 where
   pub history : ledger_now.history ≡ event.Asked session server filter ∷ ledger.history
   pub promised : ledger_now.promised ≡ ledger.promised + 1
   pub few : length ledger_now.history + ledger_now.promised < 2 ^ 31
@@ -60,7 +60,7 @@ pub record CanGive (desk : DeskValue) (ledger : LedgerValue) : Type 0 where
   pub promised : 0 < ledger.promised
 
 -- the desk is cleared, and the answer is in the ledger
-pub record Gives (of : ℕ) (desk desk_now : DeskValue) (ledger ledger_now : LedgerValue) : Type 0 where
+pub record GivesAnswer (of : ℕ) (desk desk_now : DeskValue) (ledger ledger_now : LedgerValue) : Type 0 where
   pub answer : Aggregate
   pub sum : verdict_of desk.parts ≡ Some (Sum answer)
   pub clear : desk_now ≡ cleared desk

@@ -26,7 +26,7 @@ pub record CanBeginInsert (h : List Dimension) (at : Coord) (image ledger : Cell
   pub coord : IsCoordOf h at
 
 -- the image owes an acknowledgement more, and the event is noted
-pub record Opens (e : Event) (image image_now : ImageValue) (ledger ledger_now : LedgerValue) : Type 0 where
+pub record OpensInsert (e : Event) (image image_now : ImageValue) (ledger ledger_now : LedgerValue) : Type 0 where
   pub owes : image_now ≡ record image { owed = image.owed + 1 }
   pub notes : Notes e 2 1 ledger ledger_now
 
@@ -120,9 +120,9 @@ pub record CanNoteAsking (called : Call) (workers : ℕ) (registry ledger : Cell
   pub ledger_is : tag_of ledger ≡ TheLedger
 
 -- the work of a call that asks the registry, and its job, as they begin; a balance makes no more actions than a byte can tell
-abbrev pub Begins : ℕ → RegistryValue → Class → Work → Option JobValue → Type 0
-Begins workers r (class.Balance most) work job = IsBegun workers r (class.Balance most) work job × (most < 2 ^ 8)
-Begins workers r called work job = IsBegun workers r called work job
+abbrev pub BeginsAsking : ℕ → RegistryValue → Class → Work → Option JobValue → Type 0
+BeginsAsking workers r (class.Balance most) work job = IsBegun workers r (class.Balance most) work job × (most < 2 ^ 8)
+BeginsAsking workers r called work job = IsBegun workers r called work job
 
 -- the actor's command may end so by its own note
 pub record CanNoteEnded (how : How) (ledger : CellValue) (a : ActorValue) : Type 0 where

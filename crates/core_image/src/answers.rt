@@ -1,6 +1,6 @@
 //! The step that answers a query.
 ghost use Rattle.std.specs.Prelude.{◌≡◌, ◌<◌, ◌^◌, [], ◌∷◌, IsSome, Some};
-ghost use Rattle.core_image.specs.Asking.{CanAnswer, CanGive, Gives, IsSum};
+ghost use Rattle.core_image.specs.Asking.{CanAnswer, CanGive, GivesAnswer, IsSum};
 ghost use Rattle.query_router.specs.Desk.{sum_of, verdict_of};
 ghost use Rattle.query_router.specs.declared.part.Verdict.TheVariants.{Sum};
 ghost use Rattle.volap_cell.specs.Cells.{cell_of};
@@ -49,7 +49,7 @@ pub fn answer(
 /// Puts the answer of the query that began at this place in the ledger.
 fn give(desk: &mut Desk, ledger: &mut Ledger, of: u64)
     requires due { CanGive desk.old ledger.old }
-    ensures given { Gives of desk.old desk.new ledger.old ledger.new }
+    ensures given { GivesAnswer of desk.old desk.new ledger.old ledger.new }
 {
     let agg = total(desk);
     let _ = desk.clear();

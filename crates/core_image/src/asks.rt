@@ -1,6 +1,6 @@
 //! The step that begins a command that asks the registry what stands.
 ghost use Rattle.std.specs.Prelude.{◌≡◌, [], ◌∷◌, OnOk, OnErr, IfOk, true, map, option_map};
-ghost use Rattle.core_image.specs.NotesDue.{CanNoteAsking, Begins};
+ghost use Rattle.core_image.specs.NotesDue.{CanNoteAsking, BeginsAsking};
 ghost use Rattle.core_image.specs.Told.{Tells, called_by};
 ghost use Rattle.volap_cell.specs.Cells.{cell_of};
 ghost use Rattle.volap_cell.specs.ImageKinds.{IsNewBalance, asks_registry, job_begun, job_called, unread_load};
@@ -66,7 +66,7 @@ struct Begun {
 /// The command of a call that asks the registry, at its beginning.
 fn begin(alloc: Global, registry: &Registry, class: Class, workers: u8) -> Result<Begun, AllocError>
     requires { asks_registry class ≡ true }
-    ensures { IfOk result (λ begun. Begins workers registry.now class begun.work (option_map (λ j. job_of j.value) begun.job)) }
+    ensures { IfOk result (λ begun. BeginsAsking workers registry.now class begun.work (option_map (λ j. job_of j.value) begun.job)) }
 {
     match class {
         Class::Action(action) => Ok(Begun {

@@ -1,6 +1,6 @@
 //! The step that begins an insert.
 ghost use Rattle.std.specs.Prelude.{◌≡◌, [], ◌∷◌, OnOk, OnErr};
-ghost use Rattle.core_image.specs.NotesDue.{CanBeginInsert, Opens};
+ghost use Rattle.core_image.specs.NotesDue.{CanBeginInsert, OpensInsert};
 ghost use Rattle.row_ledger.specs.declared.event.Event.TheVariants.{Begun};
 ghost use Rattle.core_image.specs.Told.{Tells, begun_by};
 ghost use Rattle.volap_cell.specs.Cells.{cell_of};
@@ -68,7 +68,7 @@ fn open(
     server: u8,
     row: &Row,
 ) -> Result<(), AllocError>
-    ensures ok { OnOk result (Opens (Begun session server row.now) image.old image.new ledger.old ledger.new) }
+    ensures ok { OnOk result (OpensInsert (Begun session server row.now) image.old image.new ledger.old ledger.new) }
     ensures err { OnErr result ((image.new ≡ image.old) × (ledger.new ≡ ledger.old)) }
 {
     ledger.reserve(2)?;

@@ -1,6 +1,6 @@
 //! The step that begins a query.
 ghost use Rattle.std.specs.Prelude.{◌≡◌, ◌<◌, [], ◌∷◌, map, IfOk, OnOk, OnErr};
-ghost use Rattle.core_image.specs.Asking.{CanBeginQuery, CanAsk, Asks};
+ghost use Rattle.core_image.specs.Asking.{CanBeginQuery, CanAsk, OpensQuery};
 ghost use Rattle.core_image.specs.Told.{Tells, asked_by};
 ghost use Rattle.volap_cell.specs.Cells.{cell_of};
 ghost use Rattle.volap_cell.specs.ImageKinds.{query_part};
@@ -75,7 +75,7 @@ fn ask(
     filter: Filter,
 ) -> Result<(), AllocError>
     requires due { CanAsk h.now filter desk.old image.now }
-    ensures ok { OnOk result (Asks h.now session server filter image.now desk.old desk.new ledger.old ledger.new) }
+    ensures ok { OnOk result (OpensQuery h.now session server filter image.now desk.old desk.new ledger.old ledger.new) }
     ensures err { OnErr result ((desk.new ≡ desk.old) × (ledger.new ≡ ledger.old)) }
 {
     let planned = image.plan(alloc, &filter, h)?;

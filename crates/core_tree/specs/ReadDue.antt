@@ -96,8 +96,8 @@ pub record CanBegin (h : List Dimension) (gate : Gate) (f : List Pick) : Type 0 
   pub pins : gate.pins + 1 < 2 ^ 64
 
 -- what it has then
-abbrev pub begun : List Dimension → ℕ → List Pick → Gate → ReadingValue
-begun h gate_at f gate = record {
+abbrev pub begun_reading : List Dimension → ℕ → List Pick → Gate → ReadingValue
+begun_reading h gate_at f gate = record {
   wanted = compiled h f;
   agg = join (queue_part h f gate.queue) (tree_part h f gate);
   items = root_items h f gate;
@@ -115,7 +115,7 @@ pub record BeginsFor (h : List Dimension) (gate_at : ℕ) (gate gate_now : Gate)
   pub filter : List Pick
   pub unread : before.task ≡ Unread filter
   pub pinned : gate_now ≡ record gate { pins = gate.pins + one_if_some (root_items h filter gate) }
-  pub now_is : now ≡ record before { task = Read (begun h gate_at filter gate) }
+  pub now_is : now ≡ record before { task = Read (begun_reading h gate_at filter gate) }
 
 -- a filter that is All in each dimension
 abbrev pub IsOfAll : List Dimension → List Pick → Type 0

@@ -1,6 +1,6 @@
 //! The step of a query at a gate.
 ghost use Rattle.std.specs.Prelude.{◌≡◌, [], ◌∷◌, IfOk, OnOk, OnErr};
-ghost use Rattle.core_tree.specs.ReadDue.{CanGateRead, CanBegin, IsAtGate, BeginsFor, OfAllLaw, begun};
+ghost use Rattle.core_tree.specs.ReadDue.{CanGateRead, CanBegin, IsAtGate, BeginsFor, OfAllLaw, begun_reading};
 ghost use Rattle.volap_cell.specs.Cells.{cell_of};
 ghost use Rattle.volap_cell.specs.Steps.{IsHere, Makes};
 ghost use Rattle.volap_cell.specs.Values.{actor_of, errand_of, reading_of};
@@ -80,7 +80,7 @@ fn begin(
     filter: &Filter,
 ) -> Result<Reading, AllocError>
     requires due { CanBegin h.now gate.now filter.now }
-    ensures { IfOk result (λ reading. reading_of reading ≡ begun h.now gate_at filter.now gate.now) }
+    ensures { IfOk result (λ reading. reading_of reading ≡ begun_reading h.now gate_at filter.now gate.now) }
 {
     let wanted = h.compile(alloc, filter)?;
     let mut todo = Todo::new(alloc);

@@ -49,16 +49,16 @@ with_path path = Acked 11 path ∷ Begun 0 0 third ∷ across_split once
 abbrev pub shards_shown : List ShardLine → List Event
 shards_shown lines = Ended 11 Fine ∷ Shown 11 (page.Shards lines) ∷ Called 3 Shards ∷ across_split once
 
-abbrev pub line : ℕ → ℕ → ℕ → List ℕ → ShardLine
-line shard worker rows cities = record { shard = shard; worker = worker; rows = rows; queued = 0; set = box cities }
+abbrev pub shard_line : ℕ → ℕ → ℕ → List ℕ → ShardLine
+shard_line shard worker rows cities = record { shard = shard; worker = worker; rows = rows; queued = 0; set = box cities }
 
 -- the lines of the three shards, and those in which the row at munich stands nowhere
 
 abbrev pub all_lines : List ShardLine
-all_lines = line 1 1 0 [] ∷ line 2 0 1 (berlin ∷ []) ∷ line 3 0 1 (munich ∷ []) ∷ []
+all_lines = shard_line 1 1 0 [] ∷ shard_line 2 0 1 (berlin ∷ []) ∷ shard_line 3 0 1 (munich ∷ []) ∷ []
 
 abbrev pub lines_without : List ShardLine
-lines_without = line 1 1 0 [] ∷ line 2 0 1 (berlin ∷ []) ∷ line 3 0 0 [] ∷ []
+lines_without = shard_line 1 1 0 [] ∷ shard_line 2 0 1 (berlin ∷ []) ∷ shard_line 3 0 0 [] ∷ []
 
 abbrev pub audit_shown : Aggregate → List Event
 audit_shown total = Ended 14 Fine ∷ Shown 14 (page.Audit (record { agg = total; shards = 3 })) ∷ Called 3 Audit ∷ shards_shown all_lines

@@ -11,12 +11,12 @@ abbrev pub settle : List Command
 settle = Control Settle ∷ []
 
 -- the first pulls of the two servers, and the settle that begins behind them, whatever each pull lists
-abbrev pub begun : List Spot → List Event
-begun l = Called 3 Settle ∷ Synced 1 l ∷ Synced 0 l ∷ []
+abbrev pub settle_begun : List Spot → List Event
+settle_begun l = Called 3 Settle ∷ Synced 1 l ∷ Synced 0 l ∷ []
 
 -- its first three pulls
 abbrev pub three_pulls : List Spot → List Event
-three_pulls l = Synced 0 l ∷ Synced 1 l ∷ Synced 0 l ∷ begun l
+three_pulls l = Synced 0 l ∷ Synced 1 l ∷ Synced 0 l ∷ settle_begun l
 
 -- it pulls for each server, for each once more, and ends
 abbrev pub settled : List Spot → List Event

@@ -12,7 +12,7 @@ use Rattle.script_run.proofs.{Begin.begins-own, Between.{get-behind, none-count,
 use Rattle.script_run.specs.{Between.IsInOrder, Parts.place_in, Phases.{closes, is_closing, ranks}, Places.{begins_of, count_of, is_over_at, session_of}, Runs.Begins, Streams.{NoneCloses, IsInPhase, IsReady, StepsOn}}
 use Rattle.volap_cell.specs.{Ghost.Ghost, ImageKinds.doing, Invariant.InvWith, Setting.Setting, Steps.history_in, View.view, World.World, declared.command.Command.Command as OpenCommand, declared.command.Work.Work, declared.role.Role.TheVariants.Hand}
 use Rattle.seeded_run.proofs.{Counted.counted-law, Cursors.Cursors.{first-law, is-one}, Cursors.Firsts.{IsFirst, first-at, first-fails, first-pass, first-some, over-at, over-place, over-still, over_in, place-behind, place-now, place_since}, Holding.LeftAlone.{IsAtCommand, alone-parts, apart, closing-alone, does-nothing, next-due, same-or-not}, Phases.Keeps.{Own, OwnPulls, behind-by, can-first, doing-is, idle-from, is-at-command, kept-by, none-some, one-more, opened-other}, Phases.PhaseRuns.{is-actor, low-or-high, opened-none, past-over, rest-past}, Phases.Pulled.{begin-pulls-none, deed-session, pulled-none}, Scripts.hand-behind, Told.told-law}
-use Rattle.seeded_run.specs.{Cursors.HasCursors, Due.{desk_of, does_nothing, is_alone}, Kept.{IsTurn, KeepsBeginningLaw, MovesOn, QuietLaw}, Rests.{PhaseRun, first_open, rest_of, stream_of}, Running.{HasPulled, IsRunning, RunsBehind, behind, is_closing_work, opened_in}, Told.{OfBeginning, OfDeed, OfEnd, OfNothing, OfPage, OfPull, Opens, OpensNone, OpensOne, TellsBeginning, Told, begins_closing, is_of_part}}
+use Rattle.seeded_run.specs.{Cursors.HasCursors, Due.{desk_of, does_nothing, is_alone}, Kept.{IsTurn, KeepsBeginningLaw, MovesOn, QuietLaw}, Rests.{PhaseRun, first_open, rest_of, stream_of}, Running.{HasPulled, IsRunning, RunsBehind, behind, is_closing_work, opened_in}, Told.{OfBeginning, OfDeed, OfEnd, OfNothing, OfPage, OfPull, OpensCommand, OpensNone, OpensOne, TellsBeginning, Told, begins_closing, is_of_part}}
 
 -- Lists of commands.
 
@@ -163,7 +163,7 @@ module _ (in_order : Bool) (s : Setting) (p : PhaseRun) (w now : World) (g g_now
   own-beginning : Own in_order s p w now g g_now next n i i_now turn r
   own-beginning = by t.opens
     where
-      by : Opens s t.begins n w now → Own in_order s p w now g g_now next n i i_now turn r
+      by : OpensCommand s t.begins n w now → Own in_order s p w now g g_now next n i i_now turn r
       by (OpensNone itself none) = record {
         closing = λ x there closing. none-some (now.actors n).command x none there;
         pages = λ x there page. none-some (now.actors n).command x none there;
@@ -212,7 +212,7 @@ module _ (in_order : Bool) (s : Setting) (p : PhaseRun) (w now : World) (g g_now
     own-idle : first_open p (history_in now) ≢ Some n → does_nothing (now.actors n) ≡ true
     own-idle differs = by t.opens
       where
-        by : Opens s t.begins n w now → does_nothing (now.actors n) ≡ true
+        by : OpensCommand s t.begins n w now → does_nothing (now.actors n) ≡ true
         by (OpensNone itself none) = does-nothing (now.actors n) (record {
           command = none;
           errand = t.errand ∙ t.free.errand;
@@ -286,7 +286,7 @@ module _ (in_order : Bool) (s : Setting) (p : PhaseRun) (w now : World) (g g_now
     opens-now : IsTrue (is_over (t.begins ∷ history_in w) (length (history_in w))) ⊎ (opened_in now n ≡ Some (length (history_in w)))
     opens-now = by t.opens
       where
-        by : Opens s t.begins n w now → IsTrue (is_over (t.begins ∷ history_in w) (length (history_in w))) ⊎ (opened_in now n ≡ Some (length (history_in w)))
+        by : OpensCommand s t.begins n w now → IsTrue (is_over (t.begins ∷ history_in w) (length (history_in w))) ⊎ (opened_in now n ≡ Some (length (history_in w)))
         by (OpensNone itself none) = inl (or-last (has_ended (t.begins ∷ history_in w) (length (history_in w))) (option_map_or ends_itself (event_at (t.begins ∷ history_in w) (length (history_in w))) false)
             (ap (λ o. option_map_or ends_itself o false) (event_at-here t.begins (history_in w)) ∙ itself))
           where
@@ -327,7 +327,7 @@ module _ (in_order : Bool) (s : Setting) (p : PhaseRun) (w now : World) (g g_now
         pulls : (a : ℕ) (x : OpenCommand) → a ≢ n → (w.actors a).command ≡ Some x → HasPulled s.servers x.work (pulls_since (history_in now) x.of)
         pulls a x differs there = one-more in_order s p w now g g_now next n i i_now turn r done b t.begins t.history (begin-pulls-none t.begins n t.session) a x there
 
-        by : Opens s t.begins n w now → OwnPulls in_order s p w now g g_now next n i i_now turn r done b
+        by : OpensCommand s t.begins n w now → OwnPulls in_order s p w now g g_now next n i i_now turn r done b
         by (OpensNone itself none) = record { pulled = λ x there. none-some (now.actors n).command x none there; pulled_others = pulls }
         by (OpensOne work itself command pulled closing_is) = record {
           pulled = λ x there.

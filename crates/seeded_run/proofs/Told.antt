@@ -16,10 +16,10 @@ use Rattle.shard_plan.specs.declared.action.Action.{Action}
 use Rattle.list_words.specs.Counts.{Each}
 use Rattle.list_words.proofs.Truth.{on_bool}
 use Rattle.volap_cell.proofs.{Cells.Numbers.at-ledger, Views.Frames.{AreAt, actor-at, actor-off}}
-use Rattle.volap_cell.specs.{AdminKinds.{DoesFreeze, Finishes, GivesUp, MovesIn, PushesBoth}, Cells.{CellValue, Tag, TheLedger, FreeCell, LedgerCell, StockCell, RegistryCell, ImageCell, DeskCell, MapCell, GateCell, BlockCell, tag_of, ledger_in}, Commands.{EndsBalance, EndsStage, MayNoteEnd, due_pull, server_of}, Ghost.Ghost, ImageKinds.{DoesNote, DoesNoteWith, IsBegun, IsFree, NotesCalled, NotesEnded, OfCalled, OfCalledAsking, OfCount, OfEnded, OfLeft, OfQuery, OfRefused, OfShown, OfUnknown, OfUnrouted, Pushes, doing}, Invariant.InvWith, Kinds.Does, Planning.{job_for, next_job}, Setting.{Setting, ledger_cell}, ShardKinds.{PutsChildren, Unpins}, Steps.history_in, TreeKinds.{AreBehind, AreFilled, IsTailIf, most_behind}, Values.{ActorValue, ErrandValue, TaskValue, OfRow, Unread, Read, JobValue, StageValue, IsCalled, IsDeclined, IsFrozen, Collects, Builds}, View.view, Working.{IsJobOf, begun, frozen_in}, World.{World, Change, Agrees, after, put}, declared.command.Balance.Balance, declared.command.Command.Command as OpenCommand, declared.command.Work.Work, declared.kind.Kind.Kind, declared.role.Role.Role, declared.role.Role.TheVariants.{Admin, Session}}
+use Rattle.volap_cell.specs.{AdminKinds.{DoesFreeze, Finishes, GivesUp, MovesIn, PushesBoth}, Cells.{CellValue, Tag, TheLedger, FreeCell, LedgerCell, StockCell, RegistryCell, ImageCell, DeskCell, MapCell, GateCell, BlockCell, tag_of, ledger_in}, Commands.{EndsBalance, EndsStage, MayNoteEnd, due_pull, server_of}, Ghost.Ghost, ImageKinds.{DoesNote, DoesNoteWith, IsBegun, IsFree, NotesCalled, NotesEnded, OfCalled, OfCalledAsking, OfCount, OfEnded, OfLeft, OfQuery, OfRefused, OfShown, OfUnknown, OfUnrouted, Pushes, doing}, Invariant.InvWith, Kinds.Does, Planning.{job_for, next_job}, Setting.{Setting, ledger_cell}, ShardKinds.{PutsChildren, Unpins}, Steps.history_in, TreeKinds.{AreBehind, AreFilled, IsTailIf, most_behind}, Values.{ActorValue, ErrandValue, TaskValue, OfRow, Unread, Read, JobValue, StageValue, IsCalled, IsDeclined, IsFrozen, Collects, Builds}, View.view, Working.{IsJobOf, begun_job, frozen_in}, World.{World, Change, Agrees, after, put}, declared.command.Balance.Balance, declared.command.Command.Command as OpenCommand, declared.command.Work.Work, declared.kind.Kind.Kind, declared.role.Role.Role, declared.role.Role.TheVariants.{Admin, Session}}
 use Rattle.volap_cell.specs.declared.command.Work.TheVariants as work_is
 use Rattle.volap_cell.specs.declared.kind.Kind.TheVariants as kind
-use Rattle.seeded_run.specs.{Running.{HasPulled, is_closing_work}, Told.{GoesFurther, IsEnd, OfBeginning, OfDeed, OfEnd, OfNothing, OfPage, OfPull, Opens, OpensNone, OpensOne, OthersLaw, Told, ToldLaw, is_deed, is_of_part, is_plain}}
+use Rattle.seeded_run.specs.{Running.{HasPulled, is_closing_work}, Told.{GoesFurther, IsEnd, OfBeginning, OfDeed, OfEnd, OfNothing, OfPage, OfPull, OpensCommand, OpensNone, OpensOne, OthersLaw, Told, ToldLaw, is_deed, is_of_part, is_plain}}
 
 -- The ledger's cell.
 
@@ -159,19 +159,19 @@ ends-stage (IsFrozen f) h e = absurd e
 ends-stage (Collects c) h e = absurd e
 ends-stage (Builds b) h e = absurd e
 
-next-some : (b : Balance) (job : JobValue) → next_job b ≡ Some (begun job) → (actions : List Action) × (b.plan ≡ Some actions) × (b.over < length actions)
+next-some : (b : Balance) (job : JobValue) → next_job b ≡ Some (begun_job job) → (actions : List Action) × (b.plan ≡ Some actions) × (b.over < length actions)
 next-some b job is = by b.plan refl is
   where
-    found : (actions : List Action) → (o : Option Action) → slice_get actions b.over ≡ o → option_map (job_for b.standing) o ≡ Some (begun job) → b.over < length actions
+    found : (actions : List Action) → (o : Option Action) → slice_get actions b.over ≡ o → option_map (job_for b.standing) o ≡ Some (begun_job job) → b.over < length actions
     found actions None at e = cc
     found actions (Some a) at e = slice_get_within actions b.over a at
 
-    by : (o : Option (List Action)) → b.plan ≡ o → option_map (job_for b.standing) (option_and_then (λ (actions : List Action). slice_get actions b.over) o) ≡ Some (begun job)
+    by : (o : Option (List Action)) → b.plan ≡ o → option_map (job_for b.standing) (option_and_then (λ (actions : List Action). slice_get actions b.over) o) ≡ Some (begun_job job)
         → (actions : List Action) × (b.plan ≡ Some actions) × (b.over < length actions)
     by None at e = cc
     by (Some actions) at e = (actions, at, found actions (slice_get actions b.over) refl e)
 
-balance-done : (b : Balance) (job : JobValue) (h : How) → next_job b ≡ Some (begun job) → EndsBalance b h → ⊥
+balance-done : (b : Balance) (job : JobValue) (h : How) → next_job b ≡ Some (begun_job job) → EndsBalance b h → ⊥
 balance-done b job (how.Balanced done planned) is e =
     let found = next-some b job is in
     let same : found.0 ≡ e.2.0 = some-same b.plan found.0 e.2.0 found.1 e.2.1 in
@@ -243,7 +243,7 @@ module _ (s : Setting) (n : ℕ) (w : World) (g : Ghost) (i : InvWith s (view s 
   -- Beginnings.
 
   begins : (k : Kind) (front : List Change) (l : Change) (b : ActorValue) (e : Event) (more used : ℕ) → Pushes e more used l b.seen → IsMade (front ++ l ∷ []) b → Each (λ c. tag_of c.now ≢ TheLedger) front
-      → is_of_part k ≡ false → session_in e ≡ Some (w.actors n).number → IsFree (w.actors n) → Opens s e n w (after w (front ++ l ∷ []) n b)
+      → is_of_part k ≡ false → session_in e ≡ Some (w.actors n).number → IsFree (w.actors n) → OpensCommand s e n w (after w (front ++ l ∷ []) n b)
       → (ends_itself e ≡ true → b.job ≡ None) → b.errand ≡ (w.actors n).errand → b.purse ≡ (w.actors n).purse → Told s k n w (after w (front ++ l ∷ []) n b)
   begins k front l b e more used p made off of_command session free opens job errand purse = OfBeginning (record {
     begins = e;

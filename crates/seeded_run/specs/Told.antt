@@ -114,10 +114,10 @@ begins_closing (event.Called session call) = is_closing (class_of call)
 begins_closing _ = false
 
 -- what a beginning opens: nothing, or a command that has pulled nothing
-pub data Opens (s : Setting) (e : Event) (n : ℕ) (w now : World) : Type 0 where
-  OpensNone : ends_itself e ≡ true → (now.actors n).command ≡ None → Opens s e n w now
+pub data OpensCommand (s : Setting) (e : Event) (n : ℕ) (w now : World) : Type 0 where
+  OpensNone : ends_itself e ≡ true → (now.actors n).command ≡ None → OpensCommand s e n w now
   OpensOne : (work : Work) → ends_itself e ≡ false → (now.actors n).command ≡ doing (length (history_in w)) work → HasPulled s.servers work []
-      → is_closing_work work ≡ begins_closing e → Opens s e n w now
+      → is_closing_work work ≡ begins_closing e → OpensCommand s e n w now
 
 -- a command of the actor begins, which was free
 pub record TellsBeginning (s : Setting) (k : Kind) (n : ℕ) (w now : World) : Type 0 where
@@ -126,7 +126,7 @@ pub record TellsBeginning (s : Setting) (k : Kind) (n : ℕ) (w now : World) : T
   pub session : session_in begins ≡ Some n
   pub free : IsFree (w.actors n)
   pub of_command : is_of_part k ≡ false
-  pub opens : Opens s begins n w now
+  pub opens : OpensCommand s begins n w now
   pub job : ends_itself begins ≡ true → (now.actors n).job ≡ None
   pub errand : (now.actors n).errand ≡ (w.actors n).errand
   pub purse : (now.actors n).purse ≡ (w.actors n).purse

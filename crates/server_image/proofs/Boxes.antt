@@ -3,7 +3,7 @@ use Rattle.std.proofs.{Common.{ℕ, zero, suc, ◌≡◌, ◌+◌, ◌<◌, List
 use Rattle.std.specs.{List.{AllZip, range_with_len}, Prelude.{◌==◌}}
 use Rattle.dim_hierarchy.specs.{Dimension.Dimension, Row.IsCoordOf, declared.row.Coord.Coord}
 use Rattle.describing_set.specs.{DescSet.IsSetOf, Sets.{IsDescSetOf, GrowsBy, AreAmong}, Sorted.{Below, Ascends}, declared.listing.Spot.Spot, declared.set.DescSet.DescSet}
-use Rattle.server_image.specs.{Image.{noted, AreGrowths}, Registry.IsFirstSpot, Spots.{spot_ids, IsGrown, Grows, AreBoxes, along}, declared.image.Growth.Growth}
+use Rattle.server_image.specs.{Image.{grown_at, AreGrowths}, Registry.IsFirstSpot, Spots.{spot_ids, IsGrown, Grows, AreBoxes, along}, declared.image.Growth.Growth}
 use Rattle.server_image.proofs.Lists.{by_test}
 
 -- Lists place by place.
@@ -66,17 +66,17 @@ grown-last h same at old new grows rows all s =
 
 -- One growth after another.
 
-pub Grows-nothing : (h : List Dimension) (xs : List Spot) → Grows h (noted []) xs xs
+pub Grows-nothing : (h : List Dimension) (xs : List Spot) → Grows h (grown_at []) xs xs
 Grows-nothing h [] = tt
 Grows-nothing h (x ∷ xs) = (record { shard = refl; worker = refl; set = λ rows all s. no_more h rows x.set s }, Grows-nothing h xs)
 
-noted-valid : (h : List Dimension) (gs : List Growth) (id : ℕ) → AreGrowths h gs → All (IsCoordOf h) (noted gs id)
+noted-valid : (h : List Dimension) (gs : List Growth) (id : ℕ) → AreGrowths h gs → All (IsCoordOf h) (grown_at gs id)
 noted-valid h [] id all = All-nil (IsCoordOf h)
 noted-valid h (g ∷ gs) id all = by_test (g.shard == id)
-    (λ e. rw e (All-cons (IsCoordOf h) g.at (noted gs id) (all 0 g (omega arith)) (noted-valid h gs id (λ k d lt. all (suc k) d (omega (arith, lt))))))
+    (λ e. rw e (All-cons (IsCoordOf h) g.at (grown_at gs id) (all 0 g (omega arith)) (noted-valid h gs id (λ k d lt. all (suc k) d (omega (arith, lt))))))
     (λ e. rw e (noted-valid h gs id (λ k d lt. all (suc k) d (omega (arith, lt)))))
 
-noted-push : (gs : List Growth) (g : Growth) (id : ℕ) → noted (gs ++ g ∷ []) id ≡ noted gs id ++ along (g.shard ∷ []) g.at id
+noted-push : (gs : List Growth) (g : Growth) (id : ℕ) → grown_at (gs ++ g ∷ []) id ≡ grown_at gs id ++ along (g.shard ∷ []) g.at id
 noted-push [] g id = by_test (g.shard == id) (λ e. rw e) (λ e. rw e)
 noted-push (x ∷ gs) g id = by_test (x.shard == id)
     (λ e. rw e (ap (λ l. x.at ∷ l) (noted-push gs g id)))
@@ -90,7 +90,7 @@ IsGrown-again h a b old mid new valid first second = record {
       (second.set (rows ++ a) (All-append (IsCoordOf h) rows a all valid) (first.set rows all s));
 }
 
-pub Grows-more : (h : List Dimension) (gs : List Growth) (g : Growth) (xs ys zs : List Spot) → AreGrowths h gs → Grows h (noted gs) xs ys → Grows h (along (g.shard ∷ []) g.at) ys zs → Grows h (noted (gs ++ g ∷ [])) xs zs
+pub Grows-more : (h : List Dimension) (gs : List Growth) (g : Growth) (xs ys zs : List Spot) → AreGrowths h gs → Grows h (grown_at gs) xs ys → Grows h (along (g.shard ∷ []) g.at) ys zs → Grows h (grown_at (gs ++ g ∷ [])) xs zs
 Grows-more h gs g [] [] [] valid first second = tt
 Grows-more h gs g [] [] (z ∷ zs) valid first second = absurd second
 Grows-more h gs g [] (y ∷ ys) zs valid first second = absurd first
@@ -98,16 +98,16 @@ Grows-more h gs g (x ∷ xs) [] zs valid first second = absurd first
 Grows-more h gs g (x ∷ xs) (y ∷ ys) [] valid first second = absurd second
 Grows-more h gs g (x ∷ xs) (y ∷ ys) (z ∷ zs) valid first second = (
   subst (λ l. IsGrown h l x z) (sym (noted-push gs g x.shard))
-      (IsGrown-again h (noted gs x.shard) (along (g.shard ∷ []) g.at x.shard) x y z (noted-valid h gs x.shard valid) first.0
+      (IsGrown-again h (grown_at gs x.shard) (along (g.shard ∷ []) g.at x.shard) x y z (noted-valid h gs x.shard valid) first.0
       (subst (λ id. IsGrown h (along (g.shard ∷ []) g.at id) y z) first.0.shard second.0)),
   Grows-more h gs g xs ys zs valid first.1 second.1,
 )
 
 -- the growths up to a place, and then the one there
 pub noted-next : (h : List Dimension) (gs : List Growth) (i : ℕ) (g : Growth) (xs ys zs : List Spot) → i < length gs → g ≡ get_or gs i g → AreGrowths h gs
-    → Grows h (noted (take i gs)) xs ys → Grows h (along (g.shard ∷ []) g.at) ys zs → Grows h (noted (take (i + 1) gs)) xs zs
+    → Grows h (grown_at (take i gs)) xs ys → Grows h (along (g.shard ∷ []) g.at) ys zs → Grows h (grown_at (take (i + 1) gs)) xs zs
 noted-next h gs i g xs ys zs lt is valid first second =
-    subst (λ l. Grows h (noted l) xs zs) (sym (take_more gs i g lt ∙ ap (λ (x : Growth). take i gs ++ x ∷ []) (sym is)))
+    subst (λ l. Grows h (grown_at l) xs zs) (sym (take_more gs i g lt ∙ ap (λ (x : Growth). take i gs ++ x ∷ []) (sym is)))
     (Grows-more h (take i gs) g xs ys zs (All-take (λ (x : Growth). IsCoordOf h x.at) i gs valid) first second)
 
 -- The first shards.

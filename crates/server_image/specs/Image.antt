@@ -15,8 +15,8 @@ abbrev pub AreGrowths : List Dimension → List Growth → Type 0
 AreGrowths h growths = All (λ g. IsCoordOf h g.at) growths
 
 -- the coordinates by which a shard's box has grown
-abbrev pub noted : List Growth → ℕ → List Coord
-noted growths id = map (λ g. g.at) (filter (λ g. g.shard == id) growths)
+abbrev pub grown_at : List Growth → ℕ → List Coord
+grown_at growths id = map (λ g. g.at) (filter (λ g. g.shard == id) growths)
 
 -- Routing.
 
@@ -51,7 +51,7 @@ pub record IsAcked (h : List Dimension) (path : List ℕ) (at : Coord) (before n
 
 -- the growths of shards of the frontier go to the registry, and its frontier comes back; what is owed stays
 pub record IsSynced (h : List Dimension) (before now : ImageValue) (registry registry_now : RegistryValue) (pulled : List Spot) : Type 0 where
-  pub pushed : Grows h (noted before.growths) registry.frontier registry_now.frontier
+  pub pushed : Grows h (grown_at before.growths) registry.frontier registry_now.frontier
   pub retired : registry_now.retired ≡ registry.retired
   pub listing : pulled ≡ registry_now.frontier
   pub spots : now.spots ≡ registry_now.frontier

@@ -1,7 +1,7 @@
 //! All shards that were ever made.
 ghost use Rattle.std.specs.Prelude.{◌≡◌, ◌≢◌, ◌<◌, ◌≤◌, length, take, IsTrue, false, IfOk, OnOk, OnErr};
 ghost use Rattle.server_image.specs.Spots.{AreBoxes, Grows, spot_ids};
-ghost use Rattle.server_image.specs.Image.{noted, AreGrowths};
+ghost use Rattle.server_image.specs.Image.{grown_at, AreGrowths};
 
 use crate::image::Growth;
 use crate::spots::{
@@ -107,7 +107,7 @@ impl Registry {
     ) -> Result<SharedListing, AllocError>
         requires boxes { AreBoxes h.now self.old.frontier }
         requires growths { AreGrowths h.now growths.now }
-        ensures pushed { OnOk result (Grows h.now (noted growths.now) self.old.frontier self.new.frontier) }
+        ensures pushed { OnOk result (Grows h.now (grown_at growths.now) self.old.frontier self.new.frontier) }
         ensures boxes { OnOk result (AreBoxes h.now self.new.frontier) }
         ensures listing { IfOk result (λ listing. listing ≡ self.new.frontier) }
         ensures retired { self.new.retired ≡ self.old.retired }
@@ -209,7 +209,7 @@ fn known_of(spots: &[Spot], growths: &[Growth], h: &Hierarchy) -> usize
     requires boxes { AreBoxes h.now spots.now }
     requires growths { AreGrowths h.now growths.now }
     ensures few { result ≤ length growths.now }
-    ensures known { Grows h.now (noted (take result growths.now)) spots.now spots.now }
+    ensures known { Grows h.now (grown_at (take result growths.now)) spots.now spots.now }
 {
     for place in 0..growths.len() {
         let growth = &growths[place];
@@ -225,8 +225,8 @@ fn grow_from(spots: &mut Vec<Spot>, growths: &[Growth], from: usize, h: &Hierarc
     requires boxes { AreBoxes h.now spots.old.items }
     requires growths { AreGrowths h.now growths.now }
     requires few { from ≤ length growths.now }
-    requires known { Grows h.now (noted (take from growths.now)) spots.old.items spots.old.items }
-    ensures grown { Grows h.now (noted growths.now) spots.old.items spots.new.items }
+    requires known { Grows h.now (grown_at (take from growths.now)) spots.old.items spots.old.items }
+    ensures grown { Grows h.now (grown_at growths.now) spots.old.items spots.new.items }
     ensures boxes { AreBoxes h.now spots.new.items }
 {
     for place in from..growths.len() {

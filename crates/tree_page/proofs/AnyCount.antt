@@ -5,7 +5,7 @@ use Rattle.dc_node.specs.{Block.entries_in, declared.block.Block.Block, declared
 use Rattle.shard_store.specs.{Gate.root_entry, declared.gate.Gate.Gate}
 use Rattle.list_words.specs.Counts.{Each}
 use Rattle.list_words.proofs.Each.{each-map}
-use Rattle.tree_shape.specs.{PageLines.{CellBlocks, group, group_entries, line, lines}, Shape.{Table, Shape}}
+use Rattle.tree_shape.specs.{PageLines.{CellBlocks, group, group_entries, group_line, lines}, Shape.{Table, Shape}}
 use Rattle.tree_page.specs.Still.{IsStill}
 use Rattle.tree_page.proofs.Counts.{IsEntry, group-is, entries-ok, root-ok}
 
@@ -27,11 +27,11 @@ module _ (table : Table) (home : ℕ) (gate : Gate) (blocks : CellBlocks) (many 
 
   -- on each level
   entry-same : (l d : ℕ) (e : Entry) → l < gate.height → IsHere l e → lines blocks l d e ≡ lines (with_count many blocks) l d e
-  entry-same zero d e lt ok = ap (λ bs. line true d bs e ∷ []) (groups-same zero e lt ok)
+  entry-same zero d e lt ok = ap (λ bs. group_line true d bs e ∷ []) (groups-same zero e lt ok)
   entry-same (suc l) d e lt ok =
       let more = with_count many blocks in
-      ap (λ bs. line false d bs e ∷ flat_map (λ x. lines blocks l (d + 1) x) (flat_map (λ (b : Block). entries_in b.body) bs)) (groups-same (suc l) e lt ok)
-      ∙ ap (λ xs. line false d (group more e) e ∷ xs) (flat-each (λ x. lines blocks l (d + 1) x) (λ x. lines more l (d + 1) x) (group_entries more e)
+      ap (λ bs. group_line false d bs e ∷ flat_map (λ x. lines blocks l (d + 1) x) (flat_map (λ (b : Block). entries_in b.body) bs)) (groups-same (suc l) e lt ok)
+      ∙ ap (λ xs. group_line false d (group more e) e ∷ xs) (flat-each (λ x. lines blocks l (d + 1) x) (λ x. lines more l (d + 1) x) (group_entries more e)
       (each-map (IsHere l) (λ x. lines blocks l (d + 1) x ≡ lines more l (d + 1) x) (group_entries more e) (λ x o. entry-same l (d + 1) x (omega arith) o) (entries-ok table home gate more g other l (suc l) e (omega arith) lt ok)))
 
   pub lines-same : lines blocks (gate.height - 1) 0 (root_entry gate) ≡ lines (with_count many blocks) (gate.height - 1) 0 (root_entry gate)

@@ -1,7 +1,7 @@
 -- The blocks of a walk by their cells.
 use Rattle.std.proofs.{Common.{ℕ, zero, suc, ◌≡◌, ◌≢◌, ◌<◌, Some, None, List, [], ◌∷◌, length, map, refl, sym, ap, ◌∙◌, arith}, lemmas.Bool.{eq-eqb, ne_eqb}}
 use Rattle.list_words.specs.Counts.{Each}
-use Rattle.tree_shape.specs.{PageLines.{linked, after, walk, CellBlocks}, Shape.{Node, node_of}, Walks.IsTail}
+use Rattle.tree_shape.specs.{PageLines.{linked, block_after, walk, CellBlocks}, Shape.{Node, node_of}, Walks.IsTail}
 use Rattle.tree_page.proofs.Walks.{walk-none}
 
 -- a tree sees the block that is in the cell
@@ -10,12 +10,12 @@ pub record IsSeen (blocks : CellBlocks) (look : ℕ → Node) (y : ℕ) : Type 0
   pub within : y < blocks.count
 
 module _ (blocks : CellBlocks) (look : ℕ → Node) (stamp : ℕ) where
-  after-last : (y : ℕ) → IsSeen blocks look y → (look y).stamp ≡ stamp → after blocks stamp (blocks.block y) ≡ None
+  after-last : (y : ℕ) → IsSeen blocks look y → (look y).stamp ≡ stamp → block_after blocks stamp (blocks.block y) ≡ None
   after-last y s e =
       let t : (blocks.block y).stamp ≡ stamp = sym (ap (λ (n : Node). n.stamp) s.is) ∙ e in
       rw (eq-eqb _ _ t) refl
 
-  after-link : (y z : ℕ) → IsSeen blocks look y → (look y).stamp ≢ stamp → (look y).right ≡ Some z → after blocks stamp (blocks.block y) ≡ Some (blocks.block z)
+  after-link : (y z : ℕ) → IsSeen blocks look y → (look y).stamp ≢ stamp → (look y).right ≡ Some z → block_after blocks stamp (blocks.block y) ≡ Some (blocks.block z)
   after-link y z s ne e =
       let t : (blocks.block y).stamp ≢ stamp = λ q. ne (ap (λ (n : Node). n.stamp) s.is ∙ q) in
       let r : (blocks.block y).right ≡ Some z = sym (ap (λ (n : Node). n.right) s.is) ∙ e in

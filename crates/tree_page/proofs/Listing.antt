@@ -4,7 +4,7 @@ use Rattle.std.specs.List.{flat_map}
 use Rattle.dim_hierarchy.specs.declared.row.Row.{Row}
 use Rattle.dc_node.specs.{Block.rows_in, declared.entry.Entry.Entry}
 use Rattle.row_ledger.specs.{Pages.{Groups, none, leaf, directory, tops, listing, rows_beneath}, declared.page.NodeLine.NodeLine}
-use Rattle.tree_shape.specs.PageLines.{CellBlocks, group, group_entries, line, lines}
+use Rattle.tree_shape.specs.PageLines.{CellBlocks, group, group_entries, group_line, lines}
 
 -- the rows of a group's blocks
 abbrev pub leaf_rows : CellBlocks → Entry → List Row
@@ -21,8 +21,8 @@ all_groups f (e ∷ es) = f e (all_groups f es)
 
 -- an entry's group with those beneath it, and then more
 abbrev pub grouped : CellBlocks → ℕ → ℕ → Entry → Groups → Groups
-grouped blocks zero depth e more = leaf (line true depth (group blocks e) e) (leaf_rows blocks e) more
-grouped blocks (suc level) depth e more = directory (line false depth (group blocks e) e) (all_groups (λ x m. grouped blocks level (depth + 1) x m) (group_entries blocks e)) more
+grouped blocks zero depth e more = leaf (group_line true depth (group blocks e) e) (leaf_rows blocks e) more
+grouped blocks (suc level) depth e more = directory (group_line false depth (group blocks e) e) (all_groups (λ x m. grouped blocks level (depth + 1) x m) (group_entries blocks e)) more
 
 -- their lines
 
@@ -32,7 +32,7 @@ listing-all f w h (e ∷ es) = h e (all_groups f es) ∙ ap (λ xs. w e ++ xs) (
 
 pub listing-one : (blocks : CellBlocks) (level depth : ℕ) (e : Entry) (more : Groups) → listing (grouped blocks level depth e more) ≡ lines blocks level depth e ++ listing more
 listing-one blocks zero depth e more = refl
-listing-one blocks (suc level) depth e more = ap (λ xs. line false depth (group blocks e) e ∷ (xs ++ listing more))
+listing-one blocks (suc level) depth e more = ap (λ xs. group_line false depth (group blocks e) e ∷ (xs ++ listing more))
     (listing-all (λ x m. grouped blocks level (depth + 1) x m) (λ x. lines blocks level (depth + 1) x) (listing-one blocks level (depth + 1)) (group_entries blocks e))
 
 -- their rows

@@ -8,7 +8,7 @@ use Rattle.shard_store.specs.{Gate.root_entry, declared.gate.Gate.Gate}
 use Rattle.row_ledger.specs.{Pages.{Groups, none, IsLeafGroup, IsDirectoryGroup, AreGroups, IsPageOf}, declared.page.NodeLine.NodeLine}
 use Rattle.list_words.specs.Counts.{Each, times}
 use Rattle.list_words.proofs.{Each.each-made, Totals.{length-flat, total-same, total-few, total-some}}
-use Rattle.tree_shape.specs.{Laws.{OrderLaw, GateLaw}, PageLines.{CellBlocks, group, group_entries, line, lines}, Shape.{Table, Shape, numbers}}
+use Rattle.tree_shape.specs.{Laws.{OrderLaw, GateLaw}, PageLines.{CellBlocks, group, group_entries, group_line, lines}, Shape.{Table, Shape, numbers}}
 use Rattle.tree_shape.proofs.Whole.Sums.{rows-named}
 use Rattle.tree_page.specs.Still.{cells_with, IsStill}
 use Rattle.tree_page.proofs.{Bodies.{leaf-size, leaf-limit, directory-size, directory-limit}, Counts.{IsOn, IsEntry, block-ok, on-level, group-some, group-is, entries-ok, root-ok, root-times, rows-ok, named-ok}, Listing.{leaf_rows, rows_at, all_groups, grouped, listing-one, rows-one, rows-beneath, tops-one, tops-all}, Numbers.perm-rows}
@@ -74,7 +74,7 @@ module _ (table : Table) (home : ℕ) (gate : Gate) (blocks : CellBlocks) (g : S
 
   -- groups
 
-  leaf-ok : (d : ℕ) (e : Entry) → d + 1 ≡ gate.height → Entry_ok 0 e → IsLeafGroup table.hierarchy gate.height d (leaf_rows blocks e) (line true d (group blocks e) e)
+  leaf-ok : (d : ℕ) (e : Entry) → d + 1 ≡ gate.height → Entry_ok 0 e → IsLeafGroup table.hierarchy gate.height d (leaf_rows blocks e) (group_line true d (group blocks e) e)
   leaf-ok d e h ok =
       let lt : 0 < gate.height = omega arith in
       let bs = leaf-blocks e lt ok in
@@ -90,7 +90,7 @@ module _ (table : Table) (home : ℕ) (gate : Gate) (blocks : CellBlocks) (g : S
       }
 
   directory-ok : (l d : ℕ) (e : Entry) → d + suc l + 1 ≡ gate.height → Entry_ok (suc l) e
-      → IsDirectoryGroup table.hierarchy gate.height d (all_groups (λ x m. grouped blocks l (d + 1) x m) (group_entries blocks e)) (line false d (group blocks e) e)
+      → IsDirectoryGroup table.hierarchy gate.height d (all_groups (λ x m. grouped blocks l (d + 1) x m) (group_entries blocks e)) (group_line false d (group blocks e) e)
   directory-ok l d e h ok =
       let lt : suc l < gate.height = omega arith in
       let bs = directory-blocks l e lt ok in

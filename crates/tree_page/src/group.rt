@@ -3,14 +3,14 @@ ghost use Rattle.std.specs.Prelude.{◌≡◌, ◌<◌, ◌^◌, length};
 ghost use Rattle.std.specs.Option.{option_copied};
 ghost use Rattle.dc_node.specs.Block.{size};
 ghost use Rattle.list_words.specs.Counts.{total};
-ghost use Rattle.tree_shape.specs.PageLines.{after, group};
+ghost use Rattle.tree_shape.specs.PageLines.{block_after, group};
 
 use crate::block_cells::BlockCells;
 use dc_node::{Block, Body, Entry};
 
 /// The block that follows in a group; none behind the one with the stamp that ends the group.
-pub fn after<'a, C: BlockCells>(cells: &'a C, block: &Block, stamp: u64) -> Option<&'a Block>
-    ensures { option_copied result ≡ after (C.blocks cells.now) stamp block.now }
+pub fn block_after<'a, C: BlockCells>(cells: &'a C, block: &Block, stamp: u64) -> Option<&'a Block>
+    ensures { option_copied result ≡ block_after (C.blocks cells.now) stamp block.now }
 {
     if block.stamp == stamp {
         return None;
@@ -43,7 +43,7 @@ pub fn extent<C: BlockCells>(cells: &C, entry: &Entry) -> (u64, u64)
         };
         count += 1;
         items += items_of(block);
-        next = after(cells, block, entry.stamp);
+        next = block_after(cells, block, entry.stamp);
     }
     (count, items)
 }

@@ -8,7 +8,7 @@ use Rattle.describing_set.specs.{Part.part, declared.set.DescSet.DescSet}
 use Rattle.dc_node.specs.{declared.block.Body.TheVariants.{Rows, Entries}, declared.entry.Entry.Entry}
 use Rattle.cell_stock.specs.declared.purse.Spare.{Spare}
 use Rattle.shard_store.specs.{declared.gate.Gate.Gate, declared.gate.Phase.TheVariants.Open}
-use Rattle.tree_shape.specs.{Collecting.AfterCollecting, Example.{Sample, IsSample, HoldsFirst, IsUncut, AsksFor, IsAnswered, cells_at, first_agg, gate_after, leaf_of}, Shape.{Table, TreeCells, Shape, numbers}, Trees.IsTree}
+use Rattle.tree_shape.specs.{Collecting.AfterCollecting, Example.{Sample, IsSample, HoldsFirst, IsUncut, AsksAtGate, IsAnswered, cells_at, first_agg, gate_after, leaf_of}, Shape.{Table, TreeCells, Shape, numbers}, Trees.IsTree}
 
 -- a dimension with two places
 
@@ -73,7 +73,7 @@ must_hold r = ltb r 32
 pub record IsHalvedExample (table : Table) (x : Sample) : Type 0 where
   pub places : IsSample table x
   pub uncut : IsUncut table 32
-  pub asks : AsksFor table x 32 must_hold for_munich
+  pub asks : AsksAtGate table x 32 must_hold for_munich
 
 -- Tables that differ at number 32 alone. In the earlier one the row hasn't begun, and some other row stands there.
 

@@ -77,7 +77,7 @@ pub record HoldsFirst (table : Table) (cells : TreeCells) (n : ℕ) : Type 0 whe
 
 -- A query begins when the 32 rows are in the tree. At the gate it notes the root; the queue is empty, and row m, which
 -- comes later, is none that it has to hold.
-pub record AsksFor (table : Table) (x : Sample) (m : ℕ) (must : ℕ → Bool) (f : List Pick) : Type 0 where
+pub record AsksAtGate (table : Table) (x : Sample) (m : ℕ) (must : ℕ → Bool) (f : List Pick) : Type 0 where
   pub asked : IsAsked table f
   pub queue : IsQueueOf table.hierarchy x.gate.queue
   pub empty : x.gate.queue.rows ≡ []
@@ -100,7 +100,7 @@ pub record Works (table : Table) (x : Sample) : Type 0 where
   pub filled : (n : ℕ) → n ≤ 32 → HoldsFirst table (cells_at table x n n) n
   pub one_place : ((r : ℕ) → x.place r ≡ x.place 0) → (m : ℕ) → IsUncut table m
   pub halved : (m : ℕ) → m ≡ 32 → IsUncut table m → HoldsFirst table (halved_cells table x m (drop 16 (first_rows table m) ++ table.row m ∷ [])) (suc m)
-  pub answered : (m : ℕ) → m ≡ 32 → IsUncut table m → (must : ℕ → Bool) (f : List Pick) → AsksFor table x m must f → IsAnswered table m must f
+  pub answered : (m : ℕ) → m ≡ 32 → IsUncut table m → (must : ℕ → Bool) (f : List Pick) → AsksAtGate table x m must f → IsAnswered table m must f
 
 abbrev pub ExampleLaw : Type 0
 ExampleLaw = (table : Table) (x : Sample) → IsSample table x → Works table x

@@ -15,14 +15,14 @@ linked blocks None = None
 linked blocks (Some cell) = Some (blocks.block cell)
 
 -- the block that follows in a group
-abbrev pub after : CellBlocks → ℕ → Block → Option Block
-after blocks stamp block = cond (eqb block.stamp stamp) None (linked blocks block.right)
+abbrev pub block_after : CellBlocks → ℕ → Block → Option Block
+block_after blocks stamp block = cond (eqb block.stamp stamp) None (linked blocks block.right)
 
 -- the blocks from one on, so many at most
 abbrev pub walk : CellBlocks → ℕ → ℕ → Option Block → List Block
 walk blocks stamp zero next = []
 walk blocks stamp (suc n) None = []
-walk blocks stamp (suc n) (Some block) = block ∷ walk blocks stamp n (after blocks stamp block)
+walk blocks stamp (suc n) (Some block) = block ∷ walk blocks stamp n (block_after blocks stamp block)
 
 -- the blocks of an entry's group, and their entries
 
@@ -33,8 +33,8 @@ abbrev pub group_entries : CellBlocks → Entry → List Entry
 group_entries blocks entry = flat_map (λ b. entries_in b.body) (group blocks entry)
 
 -- the line of a group
-abbrev pub line : Bool → ℕ → List Block → Entry → NodeLine
-line leaf depth blocks entry = record {
+abbrev pub group_line : Bool → ℕ → List Block → Entry → NodeLine
+group_line leaf depth blocks entry = record {
   depth = depth;
   leaf = leaf;
   blocks = length blocks;
@@ -45,5 +45,5 @@ line leaf depth blocks entry = record {
 
 -- the line of a group on a level, and of those beneath it
 abbrev pub lines : CellBlocks → ℕ → ℕ → Entry → List NodeLine
-lines blocks zero depth entry = line true depth (group blocks entry) entry ∷ []
-lines blocks (suc level) depth entry = line false depth (group blocks entry) entry ∷ flat_map (λ e. lines blocks level (depth + 1) e) (group_entries blocks entry)
+lines blocks zero depth entry = group_line true depth (group blocks entry) entry ∷ []
+lines blocks (suc level) depth entry = group_line false depth (group blocks entry) entry ∷ flat_map (λ e. lines blocks level (depth + 1) e) (group_entries blocks entry)

@@ -240,7 +240,7 @@ abbrev pub control_brought : Setting → ℕ
 control_brought s = 2 ^ 8 * (8 * plenty s) + cell_count s + 2 ^ 32
 
 -- A command begins: it brings so much with it at most. What a query brings is of the last number, and of no matter to the others.
-pub record Begins (s : Setting) (before now : Left) (history history_now : List Event) : Type 0 where
+pub record BringsWork (s : Setting) (before now : Left) (history history_now : List Event) : Type 0 where
   pub e : Event
   pub begun : is_beginning e ≡ true
   pub grown : history_now ≡ e ∷ history
@@ -258,4 +258,4 @@ pub record IsStill (before now : Left) (history history_now : List Event) : Type
   pub quiet : history_now ≡ history
 
 abbrev pub GoesOn : Setting → Left → Left → List Event → List Event → Type 0
-GoesOn s before now history history_now = Falls before now ⊎ Begins s before now history history_now ⊎ IsStill before now history history_now
+GoesOn s before now history history_now = Falls before now ⊎ BringsWork s before now history history_now ⊎ IsStill before now history history_now

@@ -26,13 +26,13 @@ abbrev pub action_of : JobValue → Action
 action_of job = action_to job.shard job.to
 
 -- a job at its beginning
-abbrev pub begun : JobValue → JobValue
-begun job = record job { stage = IsCalled }
+abbrev pub begun_job : JobValue → JobValue
+begun_job job = record job { stage = IsCalled }
 
 -- the command asks for the job as its only action, or as the one that is next
 abbrev pub IsJobOf : Work → JobValue → Type 0
 IsJobOf (work_is.Action a) job = action_of job ≡ a
-IsJobOf (work_is.Balance b) job = next_job b ≡ Some (begun job)
+IsJobOf (work_is.Balance b) job = next_job b ≡ Some (begun_job job)
 IsJobOf work job = ⊥
 
 -- Stages.

@@ -12,7 +12,7 @@ use Rattle.server_image.specs.Registry.{RegistryValue, on_frontier}
 use Rattle.shard_store.specs.{Gate.IsQueueOf, declared.gate.Gate.Gate, declared.queue.Queue.Queue}
 use Rattle.shard_store.specs.declared.gate.Phase.TheVariants as phase
 use Rattle.list_words.specs.Counts.{Each, times}
-use Rattle.volap_cell.specs.{AdminKinds.IsUpTo, Cells.{CellValue, GateCell, LedgerCell, MapCell, MapOf, RegistryCell, StockCell, active_in, gate_shard, phase_of, queue_in, tag_of}, Ghost.{Ghost, NotOfStock, is_in_purse}, ImageKinds.doing, Invariant.InvWith, Planning.next_job, Setting.{Setting, site_in}, Steps.IsHere, Values.{ActorValue, JobValue}, View.{View, view}, Working.{IsBuilding, IsFrozenFor, IsJobOf, begun, frozen_in}, World.{Change, held}, declared.command.Balance.Balance, declared.command.Command.Command, declared.command.Work.Work}
+use Rattle.volap_cell.specs.{AdminKinds.IsUpTo, Cells.{CellValue, GateCell, LedgerCell, MapCell, MapOf, RegistryCell, StockCell, active_in, gate_shard, phase_of, queue_in, tag_of}, Ghost.{Ghost, NotOfStock, is_in_purse}, ImageKinds.doing, Invariant.InvWith, Planning.next_job, Setting.{Setting, site_in}, Steps.IsHere, Values.{ActorValue, JobValue}, View.{View, view}, Working.{IsBuilding, IsFrozenFor, IsJobOf, begun_job, frozen_in}, World.{Change, held}, declared.command.Balance.Balance, declared.command.Command.Command, declared.command.Work.Work}
 use Rattle.volap_cell.specs.declared.command.Work.TheVariants as work_is
 use Rattle.volap_cell.proofs.Views.Shown.{held-map, held-registry, held-stock}
 use Rattle.core_image.proofs.{Commands.Backed.all-promised, Commands.NextAction.next-action, Images.Hosts.stands-live}
@@ -42,10 +42,10 @@ rest-out s v g i n rest last is =
     uses y = (let free = i.stocking.unused y in let purse = i.stocking.purse n y in let l = one-use n (g.owner y) in omega (arith, free, purse, l))
 
 -- where a balance has a job, fewer actions are done than are planned
-done-few : (s : Setting) (v : View) (g : Ghost) → InvWith s v g → (n of : ℕ) (b : Balance) (job : JobValue) → v.commands n ≡ doing of (work_is.Balance b) → next_job b ≡ Some (begun job) → b.done ≤ b.over
+done-few : (s : Setting) (v : View) (g : Ghost) → InvWith s v g → (n of : ℕ) (b : Balance) (job : JobValue) → v.commands n ≡ doing of (work_is.Balance b) → next_job b ≡ Some (begun_job job) → b.done ≤ b.over
 done-few s v g i n of b job has is =
     let bal = i.balancing.balance n of b has in
-    let at = next-action b (begun job) is in
+    let at = next-action b (begun_job job) is in
     let planned = bal.planned at.0 at.2 in
     let long = length-AllZip (λ a (step : Step). Settles (site_in s) g.placed of a step.past step.event) (take b.over at.0) (reverse (work v.history of)) planned.events in
     let taken = length-take b.over at.0 in

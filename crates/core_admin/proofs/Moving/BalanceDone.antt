@@ -6,7 +6,7 @@ use Rattle.row_ledger.specs.{Past.{Ack, Step, acked, before, work}, Right.{EachE
 use Rattle.row_ledger.proofs.{Descent.live-made, Positions.before-older}
 use Rattle.shard_build.proofs.Lists.{zip-append}
 use Rattle.shard_plan.specs.{Balancing.plan, declared.action.Action.Action, declared.action.Load.Load}
-use Rattle.volap_cell.specs.{Commands.after_action, Ghost.Ghost, Growing.IsUnder, Invariant.InvWith, Planning.{job_for, next_job}, Setting.{Setting, site_in}, Values.{JobValue, IsCalled}, View.view, Working.{IsAhead, IsBalancing, IsPlanned, IsReadLoad, action_of, begun, places_in}, World.World, declared.command.Balance.Balance}
+use Rattle.volap_cell.specs.{Commands.after_action, Ghost.Ghost, Growing.IsUnder, Invariant.InvWith, Planning.{job_for, next_job}, Setting.{Setting, site_in}, Values.{JobValue, IsCalled}, View.view, Working.{IsAhead, IsBalancing, IsPlanned, IsReadLoad, action_of, begun_job, places_in}, World.World, declared.command.Balance.Balance}
 use Rattle.volap_cell.proofs.{OneEvent.Older.Any-weaker, OneEvent.Work.rows-may-grown}
 use Rattle.core_image.proofs.{Commands.NextAction.{drop-at, inside, next-action, take-more}, Images.MadePaths.ids-before}
 use Rattle.core_admin.proofs.ShardLines.{KeepsLines}
@@ -44,7 +44,7 @@ job-action standing (action.Split x) = refl
 job-action standing (action.Move x to) = refl
 
 module _ (s : Setting) (w : World) (g : Ghost) (i : InvWith s (view s w) g) (home : ℕ → ℕ) (e : Event) (m : KeepsLines s (view s w) g home e) (of : ℕ) (b : Balance) (job : JobValue)
-    (bal : IsBalancing s (view s w).history g.placed g.home (Some job) of b) (is_next : next_job b ≡ Some (begun job)) (began : of < length (view s w).history) (t : IsDoneBy s (view s w).history g.placed of job e) where
+    (bal : IsBalancing s (view s w).history g.placed g.home (Some job) of b) (is_next : next_job b ≡ Some (begun_job job)) (began : of < length (view s w).history) (t : IsDoneBy s (view s w).history g.placed of job e) where
   abbrev h : List Event
   h = (view s w).history
 
@@ -54,8 +54,8 @@ module _ (s : Setting) (w : World) (g : Ghost) (i : InvWith s (view s w) g) (hom
   each : EachEvent (Stands (site_in s) g.placed) h
   each = i.telling.right.right.each
 
-  at : (actions : List Action) × (a : Action) × (b.plan ≡ Some actions) × (slice_get actions b.over ≡ Some a) × (begun job ≡ job_for b.standing a)
-  at = next-action b (begun job) is_next
+  at : (actions : List Action) × (a : Action) × (b.plan ≡ Some actions) × (slice_get actions b.over ≡ Some a) × (begun_job job ≡ job_for b.standing a)
+  at = next-action b (begun_job job) is_next
 
   abbrev actions : List Action
   actions = at.0

@@ -6,7 +6,7 @@ use Rattle.dim_hierarchy.specs.Dimension.{Dimension}
 use Rattle.row_ledger.specs.LedgerValue.{LedgerValue}
 use Rattle.list_words.specs.Counts.{times}
 use Rattle.list_words.proofs.Times.{times-append, all-times, distinct-times}
-use Rattle.volap_cell.specs.{AdminKinds.{DoesPostpone, GivesUp, HasFrozen, spent_in}, Cells.{CellValue, LedgerCell, StockCell}, Commands.owes, Ghost.{Ghost, NotOfStock, is_in_job, is_in_purse}, ImageKinds.doing, Invariant.InvWith, Setting.Setting, Steps.{IsHere, Makes}, Stocking.spent_of, Values.{ActorValue, JobValue, stage_of}, View.{View, view}, Working.{IsJobOf, begun}, World.{Change, change, held}, declared.command.Command.Command, declared.command.Work.Work, declared.job.Building.Building, declared.job.Stage.Stage}
+use Rattle.volap_cell.specs.{AdminKinds.{DoesPostpone, GivesUp, HasFrozen, spent_in}, Cells.{CellValue, LedgerCell, StockCell}, Commands.owes, Ghost.{Ghost, NotOfStock, is_in_job, is_in_purse}, ImageKinds.doing, Invariant.InvWith, Setting.Setting, Steps.{IsHere, Makes}, Stocking.spent_of, Values.{ActorValue, JobValue, stage_of}, View.{View, view}, Working.{IsJobOf, begun_job}, World.{Change, change, held}, declared.command.Command.Command, declared.command.Work.Work, declared.job.Building.Building, declared.job.Stage.Stage}
 use Rattle.volap_cell.specs.declared.command.Work.TheVariants as work_is
 use Rattle.volap_cell.specs.declared.job.Stage.TheVariants as stage_is
 use Rattle.volap_cell.specs.declared.kind.Kind.TheVariants as kind
@@ -62,7 +62,7 @@ pub owes-enough : (s : Setting) (v : View) (g : Ghost) → InvWith s v g → (n 
 owes-enough s v g i n of (work_is.Action act) job has is = omega arith
 owes-enough s v g i n of (work_is.Balance b) job has is =
     let bal = i.balancing.balance n of b has in
-    let at = next-action b (begun job) is in
+    let at = next-action b (begun_job job) is in
     let planned = bal.planned at.0 at.2 in
     let few = planned.few in
     let more = inside b.over at.0 at.1 at.3 in

@@ -8,7 +8,7 @@ use Rattle.row_ledger.specs.declared.class.Class.TheVariants as class_is
 use Rattle.row_ledger.specs.declared.settings.How.TheVariants as how_is
 use Rattle.row_ledger.proofs.{Changes.quiet, Growth.{KeepsRight-ended, KeepsRight-left}}
 use Rattle.shard_plan.specs.declared.action.Action.{Action}
-use Rattle.volap_cell.specs.{AdminKinds.{DoesPostpone, GivesUp, HasFrozen}, Cells.{TheLedger, TheStock, tag_of}, Commands.{after_action, owes}, Errands.{RowWay, Taken, taken_by, taken_of, way_of}, Falls.{control_of, job_left, left, of_work, stage_left}, Ghost.Ghost, ImageKinds.{Pushes, doing}, Invariant.InvWith, Lineage.Lineage, Owing.{Owing, owed_by}, Planning.next_job, Setting.{Setting, actor_count, site_in}, Steps.{IsKept, Keeps}, Stocking.{items_of_job, spent_of}, Telling.{IsCalledAs, IsProgress, Telling}, Turning.Turning, Values.{ActorValue, ErrandValue, JobValue, StageValue, IsCalled, IsDeclined, IsFrozen, Collects, Builds}, View.{View, view, row_at}, Working.{Balancing, IsBalancing, IsDeclinedFor, IsJobOf, begun}, World.{World, Change, Agrees, after}, declared.command.Balance.Balance, declared.command.Command.Command, declared.command.Work.Work, declared.role.Role.TheVariants.Admin}
+use Rattle.volap_cell.specs.{AdminKinds.{DoesPostpone, GivesUp, HasFrozen}, Cells.{TheLedger, TheStock, tag_of}, Commands.{after_action, owes}, Errands.{RowWay, Taken, taken_by, taken_of, way_of}, Falls.{control_of, job_left, left, of_work, stage_left}, Ghost.Ghost, ImageKinds.{Pushes, doing}, Invariant.InvWith, Lineage.Lineage, Owing.{Owing, owed_by}, Planning.next_job, Setting.{Setting, actor_count, site_in}, Steps.{IsKept, Keeps}, Stocking.{items_of_job, spent_of}, Telling.{IsCalledAs, IsProgress, Telling}, Turning.Turning, Values.{ActorValue, ErrandValue, JobValue, StageValue, IsCalled, IsDeclined, IsFrozen, Collects, Builds}, View.{View, view, row_at}, Working.{Balancing, IsBalancing, IsDeclinedFor, IsJobOf, begun_job}, World.{World, Change, Agrees, after}, declared.command.Balance.Balance, declared.command.Command.Command, declared.command.Work.Work, declared.role.Role.TheVariants.Admin}
 use Rattle.volap_cell.specs.declared.command.Work.TheVariants as work_is
 use Rattle.volap_cell.specs.declared.kind.Kind.TheVariants as kind
 use Rattle.volap_cell.proofs.{Cells.Past.{ledger-past, stock-past}, OneEvent.Known.{AreOlder, older-rows}, OneEvent.Noted.{IsNotedBy, telling-ends, telling-goes-on}, OneEvent.Older.on-stays, OneEvent.Quiet.{balancing-quiet, covering-quiet, desking-quiet, desks-older, imaging-quiet, inserting-quiet, lineage-quiet, placing-quiet, querying-quiet, readers-older, resting-quiet}, OneEvent.Reads.{ReadersTake, pinned-whole, readers-take, reading-rows-older}, OneEvent.Told.{called-kept, commands-older, no-work}, OneEvent.Trees.{growing-grown, past-there, queueing-grown}, OneEvent.Work.one-balance-grown, Persons.has-command, Views.Admin.{by_postpone, view-postpone}, Views.Fields.{IsNew, IsNewAt, IsPushed, pushed-new}, Views.Frames.{actor-at, actor-off}, Views.Seen.renewed}
@@ -269,7 +269,7 @@ module _ (c led : Change) (b : ActorValue) (s : Setting) (w : World) (n : ℕ) (
     command-is : v.commands n ≡ Some (record { of = d.of; work = work_is.Balance balance })
     command-is = d.command ∙ ap (doing d.of) works
 
-    bal : IsBalancing s h g.placed g.home (Some (begun job)) d.of balance
+    bal : IsBalancing s h g.placed g.home (Some (begun_job job)) d.of balance
     bal =
         let k = i.balancing.balance n d.of balance command-is in record {
           places = k.places;
@@ -283,7 +283,7 @@ module _ (c led : Change) (b : ActorValue) (s : Setting) (w : World) (n : ℕ) (
           at_work = ap is_some (sym d.is_job) ∙ k.at_work;
         }
 
-    is-next : next_job balance ≡ Some (begun job)
+    is-next : next_job balance ≡ Some (begun_job job)
     is-next = subst (λ (x : Work). IsJobOf x job) works its-job
 
     calls : IsCalledAs h d.of (class_is.Balance balance.most) × (v.roles n ≡ Admin)
@@ -292,7 +292,7 @@ module _ (c led : Change) (b : ActorValue) (s : Setting) (w : World) (n : ℕ) (
     began-here : d.of < length h
     began-here = began n its d.command
 
-    undeclined : (why : Decline) → IsCalled ≡ IsDeclined why → IsDeclinedFor s h g.placed d.of (begun job) why
+    undeclined : (why : Decline) → IsCalled ≡ IsDeclined why → IsDeclinedFor s h g.placed d.of (begun_job job) why
     undeclined why e = cc
 
     balancing-on : (p : Pushes left_as 0 1 led b.seen) → b ≡ record (w.actors n) { purse = []; seen = b.seen; command = Some its_now; job = next_job next } → Balancing s (left_as ∷ h) u.commands u.jobs g.placed g.home
@@ -302,15 +302,15 @@ module _ (c led : Change) (b : ActorValue) (s : Setting) (w : World) (n : ℕ) (
         let news = new e 1 (Some its_now) (next_job next) refl p is in
         let stays = stay e 1 (Some its_now) (next_job next) refl p is in
         balancing-one s (e ∷ h) g.placed g.home n d.of next (Some its) v.commands u.commands turned u.jobs (next_job next) news.is_there
-        (balancing-next s h g.placed g.home d.of balance (begun job) how_is.Postponed bal is-next refl undeclined began-here) (λ a r k ne was.
+        (balancing-next s h g.placed g.home d.of balance (begun_job job) how_is.Postponed bal is-next refl undeclined began-here) (λ a r k ne was.
         let other : number_in e ≢ Some r = (λ z. let mine : d.of ≡ r = cc in ne (only-its s h v.commands v.jobs v.roles v.seen g.placed i.telling n its d.command a _ was (sym mine))) in
         subst (λ (j : Option JobValue). IsBalancing s (e ∷ h) g.placed g.home j r k) (sym (news.elsewhere a ne))
         (one-balance-grown s e h stays g.placed g.home (v.jobs a) r k (le_of_lt (began a _ was)) (no-work e r other) (i.balancing.balance a r k was)))
 
     control-falls : of_work (control_of s) (Some its_now) + job_left s v (next_job next) < of_work (control_of s) (Some its) + job_left s v (Some job)
     control-falls =
-        let over = within s h g.placed g.home d.of balance (begun job) how_is.Postponed bal is-next refl undeclined began-here in
-        let nexts = next-is s h g.placed g.home d.of balance (begun job) how_is.Postponed bal is-next refl undeclined began-here in
+        let over = within s h g.placed g.home d.of balance (begun_job job) how_is.Postponed bal is-next refl undeclined began-here in
+        let nexts = next-is s h g.placed g.home d.of balance (begun_job job) how_is.Postponed bal is-next refl undeclined began-here in
         let was = ap (control_of s) works in
         let some_left = frozen-left in
         let less = control-next s v false job balance over.0 over.1 over.2 (λ j is. (nexts j is).0) in
@@ -330,8 +330,8 @@ module _ (c led : Change) (b : ActorValue) (s : Setting) (w : World) (n : ℕ) (
           may_leave = tt;
         }) in
         let stays = stay e 1 (Some its_now) (next_job next) refl p is in
-        let nexts = next-is s h g.placed g.home d.of balance (begun job) how_is.Postponed bal is-next refl undeclined began-here in
-        let over = within s h g.placed g.home d.of balance (begun job) how_is.Postponed bal is-next refl undeclined began-here in
+        let nexts = next-is s h g.placed g.home d.of balance (begun_job job) how_is.Postponed bal is-next refl undeclined began-here in
+        let over = within s h g.placed g.home d.of balance (begun_job job) how_is.Postponed bal is-next refl undeclined began-here in
         let at = balance.over in
         let len = length over.0 in
         let owed : owed_by (Some its) ≡ balance.most + 1 - at = ap owes works in

@@ -13,7 +13,7 @@ use Rattle.describing_set.specs.declared.listing.Spot.{Spot}
 use Rattle.volap_cell.specs.{Commands.{MayCall, MayCallAs}, Falls.{job_left, plenty, actions_left, control_of}, Ghost.Ghost, ImageKinds.{IsBegun, asks_registry, job_begun, job_called, IsNewBalance, unread_load}, Invariant.InvWith, Planning.job_for, Setting.{Setting, site_in}, Values.{JobValue, StageValue, IsCalled}, View.View, Working.{action_of, action_to, IsBalancing, IsReadLoad, places_in}, declared.command.Balance.Balance, declared.command.Work.Work, declared.role.Role.Role, declared.role.Role.TheVariants.{Admin, Hand, Puller, Session}}
 use Rattle.volap_cell.specs.declared.command.Work.TheVariants as work_is
 use Rattle.volap_cell.proofs.{OneEvent.Noted.{new-pageless, new-told, new-workless}, OneEvent.Older.{on-stays, Any-weaker, live-stays}}
-use Rattle.core_image.specs.NotesDue.{Begins}
+use Rattle.core_image.specs.NotesDue.{BeginsAsking}
 use Rattle.core_image.proofs.{Commands.Jobs.IsNewJob, Images.Hosts.{host-on, job-known, job-new, stands-live, has-load, few-stand, places-unread}, Kinds.CallsBegin.{IsBeginning, most_control}}
 
 -- whoever may call is there
@@ -241,7 +241,7 @@ module _ (s : Setting) (v : View) (g : Ghost) (i : InvWith s v g) (number : ℕ)
     }
 
   -- a call that asks the registry
-  asking-as : (call : Call) (class : Class) → class_of call ≡ class → asks_registry class ≡ true → (r : RegistryValue) → v.registry ≡ r → role ≡ Admin → purse ≡ [] → (work : Work) (job : Option JobValue) → Begins s.workers r class work job
+  asking-as : (call : Call) (class : Class) → class_of call ≡ class → asks_registry class ≡ true → (r : RegistryValue) → v.registry ≡ r → role ≡ Admin → purse ≡ [] → (work : Work) (job : Option JobValue) → BeginsAsking s.workers r class work job
       → IsBeginning s v g (Called number call ∷ h) of role purse work job
   asking-as call (class_is.Page (subject.Tree x)) class asks r is_registry admin spares work job is =
       as-said (Called number call) _ _ is.0 is.1 (page-begins call (subject.Tree x) (on_frontier x r) class (sym (live r is_registry x)))
@@ -252,7 +252,7 @@ module _ (s : Setting) (v : View) (g : Ghost) (i : InvWith s v g) (number : ℕ)
       as-said (Called number call) _ _ works none (balance-begins r is_registry most b new admin call class is.1)
   asking-as call _ class asks r is_registry admin spares work job is = absurd (false≢true asks)
 
-  pub asking-begins : (call : Call) → asks_registry (class_of call) ≡ true → (r : RegistryValue) → v.registry ≡ r → role ≡ Admin → purse ≡ [] → (work : Work) (job : Option JobValue) → Begins s.workers r (class_of call) work job
+  pub asking-begins : (call : Call) → asks_registry (class_of call) ≡ true → (r : RegistryValue) → v.registry ≡ r → role ≡ Admin → purse ≡ [] → (work : Work) (job : Option JobValue) → BeginsAsking s.workers r (class_of call) work job
       → IsBeginning s v g (Called number call ∷ h) of role purse work job
   asking-begins call = asking-as call (class_of call) refl
 

@@ -7,7 +7,7 @@ use Rattle.shard_build.proofs.Lists.{zip-append}
 use Rattle.shard_plan.specs.{declared.action.Action.Action, declared.action.Load.Load}
 use Rattle.shard_plan.specs.declared.action.Action.TheVariants as action
 use Rattle.volap_cell.proofs.{OneEvent.Older.{Any-weaker, comes-stays, live-stays}, OneEvent.Work.{ahead-grown, read-load-grown}}
-use Rattle.volap_cell.specs.{Commands.after_action, ImageKinds.LeavesAs, Planning.{job_for, next_job}, Setting.{Setting, site_in}, Values.{JobValue, StageValue, IsCalled, IsDeclined, IsFrozen, Collects, Builds}, Working.{IsAhead, IsBalancing, IsDeclinedFor, IsPlanned, action_of, begun, IsReadLoad}, declared.command.Balance.Balance}
+use Rattle.volap_cell.specs.{Commands.after_action, ImageKinds.LeavesAs, Planning.{job_for, next_job}, Setting.{Setting, site_in}, Values.{JobValue, StageValue, IsCalled, IsDeclined, IsFrozen, Collects, Builds}, Working.{IsAhead, IsBalancing, IsDeclinedFor, IsPlanned, action_of, begun_job, IsReadLoad}, declared.command.Balance.Balance}
 
 -- Lists, one place on.
 
@@ -62,7 +62,7 @@ job-to : (s : Setting) (h : List Event) (standing : List Load) (a : Action) → 
 job-to s h standing (action.Split x) ahead worker is = (let never : ◌≡◌ {A = Option ℕ} None (Some worker) = is in absurd (cc))
 job-to s h standing (action.Move x to) ahead worker is = (let both : ◌≡◌ {A = Option ℕ} (Some to) (Some worker) = is in let same : to ≡ worker = cc in subst (λ (n : ℕ). n < s.workers) same ahead.1)
 
-module _ (s : Setting) (h : List Event) (placed : ℕ → Bool) (home : ℕ → ℕ) (of : ℕ) (b : Balance) (job : JobValue) (how : How) (bal : IsBalancing s h placed home (Some job) of b) (is_next : next_job b ≡ Some (begun job)) (leaves : LeavesAs job.stage how)
+module _ (s : Setting) (h : List Event) (placed : ℕ → Bool) (home : ℕ → ℕ) (of : ℕ) (b : Balance) (job : JobValue) (how : How) (bal : IsBalancing s h placed home (Some job) of b) (is_next : next_job b ≡ Some (begun_job job)) (leaves : LeavesAs job.stage how)
     (declined : (why : Decline) → job.stage ≡ IsDeclined why → IsDeclinedFor s h placed of job why) (began : of < length h) where
   abbrev e : Event
   e = Left of job.shard how
@@ -70,8 +70,8 @@ module _ (s : Setting) (h : List Event) (placed : ℕ → Bool) (home : ℕ → 
   abbrev next : Balance
   next = after_action false job b
 
-  pub at : (actions : List Action) × (a : Action) × (b.plan ≡ Some actions) × (slice_get actions b.over ≡ Some a) × (begun job ≡ job_for b.standing a)
-  at = next-action b (begun job) is_next
+  pub at : (actions : List Action) × (a : Action) × (b.plan ≡ Some actions) × (slice_get actions b.over ≡ Some a) × (begun_job job ≡ job_for b.standing a)
+  at = next-action b (begun_job job) is_next
 
   abbrev pub actions : List Action
   actions = at.0

@@ -8,7 +8,7 @@ use Rattle.volap_cell.specs.{Cells.{CellValue, DeskCell, LedgerCell, DeskOf, tag
 use Rattle.volap_cell.specs.declared.command.Work.TheVariants as work_is
 use Rattle.volap_cell.specs.declared.kind.Kind.TheVariants as kind
 use Rattle.volap_cell.proofs.{Persons.has-command, Sums.sum-some, Views.Shown.{held-desk, held-ledger}}
-use Rattle.core_image.specs.Asking.{CanAnswer, CanGive, Gives}
+use Rattle.core_image.specs.Asking.{CanAnswer, CanGive, GivesAnswer}
 use Rattle.core_image.proofs.{Answered.few, Kinds.AnswersQuery.answer-keeps}
 
 module _ (hs : List Dimension) (desk_at ledger_at : ℕ) (desk ledger : CellValue) (a : ActorValue) (here : IsHere hs (held desk_at desk ∷ held ledger_at ledger ∷ []) a) (due : CanAnswer desk ledger a)
@@ -83,7 +83,7 @@ module _ (hs : List Dimension) (desk_at ledger_at : ℕ) (desk ledger : CellValu
 
   -- the kind was done
 
-  pub has-answered : (dv2 : DeskValue) (lv2 : LedgerValue) (desk2 ledger2 : CellValue) (b : ActorValue) → Gives due.of dv dv2 lv lv2
+  pub has-answered : (dv2 : DeskValue) (lv2 : LedgerValue) (desk2 ledger2 : CellValue) (b : ActorValue) → GivesAnswer due.of dv dv2 lv lv2
       → desk2 ≡ DeskCell desk_server dv2 → ledger2 ≡ LedgerCell lv2 → b ≡ record a { command = None; seen = length lv2.history }
       → Makes hs kind.Answer (change desk_at desk desk2 ∷ change ledger_at ledger ledger2 ∷ []) a b
   has-answered dv2 lv2 desk2 ledger2 b gives desk2_is ledger2_is b_is =

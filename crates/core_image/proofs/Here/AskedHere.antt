@@ -8,7 +8,7 @@ use Rattle.volap_cell.specs.{Cells.{CellValue, DeskCell, ImageCell, LedgerCell, 
 use Rattle.volap_cell.specs.declared.command.Work.TheVariants as work_is
 use Rattle.volap_cell.specs.declared.kind.Kind.TheVariants as kind
 use Rattle.volap_cell.proofs.Views.Shown.{held-image}
-use Rattle.core_image.specs.Asking.{CanBeginQuery, CanAsk, Asks}
+use Rattle.core_image.specs.Asking.{CanBeginQuery, CanAsk, OpensQuery}
 use Rattle.core_image.proofs.{Images.Valid.image-boxes, Kinds.AsksQuery.query-keeps}
 
 module _ (hs : List Dimension) (desk_at image_at ledger_at : ℕ) (desk image ledger : CellValue) (a : ActorValue) (filter : List Pick) (here : IsHere hs (held desk_at desk ∷ held image_at image ∷ held ledger_at ledger ∷ []) a)
@@ -58,7 +58,7 @@ module _ (hs : List Dimension) (desk_at image_at ledger_at : ℕ) (desk image le
 
   -- the kind was done
 
-  pub has-asked : (dv2 : DeskValue) (lv2 : LedgerValue) (desk2 image2 ledger2 : CellValue) (b : ActorValue) → Asks hs a.number desk_server filter iv dv dv2 lv lv2
+  pub has-asked : (dv2 : DeskValue) (lv2 : LedgerValue) (desk2 image2 ledger2 : CellValue) (b : ActorValue) → OpensQuery hs a.number desk_server filter iv dv dv2 lv lv2
       → desk2 ≡ DeskCell desk_server dv2 → image2 ≡ ImageCell image_server iv → ledger2 ≡ LedgerCell lv2 → b ≡ record a { command = doing (length lv.history) work_is.Query; seen = length lv2.history }
       → Makes hs kind.BeginQuery (change desk_at desk desk2 ∷ change image_at image image2 ∷ change ledger_at ledger ledger2 ∷ []) a b
   has-asked dv2 lv2 desk2 image2 ledger2 b asks desk2_is image2_is ledger2_is b_is =

@@ -5,7 +5,7 @@ use Rattle.dim_hierarchy.specs.{Dimension.Dimension, Row.IsCoordOf, declared.row
 use Rattle.describing_set.specs.{DescSet.covers, declared.listing.Spot.Spot}
 use Rattle.row_ledger.specs.{Bounds.{may, own, published}, Listings.{IsBox, IsListing, is_covered, places_of}, Past.{Ack, acked, last_of}, Shards.{comes_from, frontier}, declared.event.Event.Event}
 use Rattle.list_words.proofs.{Elements.{Contains-filter, Contains-filtered, Contains-map, IsTrue-filtered}, Truth.on_bool}
-use Rattle.server_image.specs.{Image.{ImageValue, IsSynced, noted}, Registry.RegistryValue, Spots.IsGrown, declared.image.Growth.Growth}
+use Rattle.server_image.specs.{Image.{ImageValue, IsSynced, grown_at}, Registry.RegistryValue, Spots.IsGrown, declared.image.Growth.Growth}
 use Rattle.volap_cell.specs.{Ghost.Ghost, Imaging.{Fits, HasGrown, IsGrowth, IsImageOf}, Invariant.InvWith, Setting.{Setting, site_in}, View.{View, view}, World.World}
 use Rattle.volap_cell.proofs.OneEvent.Known.{published-acked}
 use Rattle.core_image.proofs.{Images.Boxes.{Any-zip, AllZip-with, All-zip, box-grown, grown-covers, same-places}, Images.Frontiers.live-spot, Images.Valid.{acked-placed, placed-usable}, Rows.{may-coords, row-coords}}
@@ -34,7 +34,7 @@ module _ (s : Setting) (w : World) (g : Ghost) (i : InvWith s (view s w) g) (ser
   abbrev AreRows : List Coord → Type 0
   AreRows at = (rows : List Row) × All (Contains usable) rows × (map (λ (r : Row). r.at) rows ≡ at)
 
-  growth-rows : (growths : List Growth) → All (IsGrowth s h v.row g.placed) growths → (id : ℕ) → AreRows (noted growths id)
+  growth-rows : (growths : List Growth) → All (IsGrowth s h v.row g.placed) growths → (id : ℕ) → AreRows (grown_at growths id)
   growth-rows [] all id = ([], All-nil (Contains usable), refl)
   growth-rows (x ∷ xs) all id =
       let first : IsGrowth s h v.row g.placed x = All-head (IsGrowth s h v.row g.placed) x xs all in
@@ -52,10 +52,10 @@ module _ (s : Setting) (w : World) (g : Ghost) (i : InvWith s (view s w) g) (ser
   coords : (rows : List Row) → All (Contains usable) rows → All (IsCoordOf s.hierarchy) (map (λ (r : Row). r.at) rows)
   coords rows all = All-map (IsCoordOf s.hierarchy) (λ (r : Row). r.at) rows (All-weaker (Contains usable) (λ (r : Row). IsCoordOf s.hierarchy r.at) (may-coords s w g i) rows all)
 
-  has-pushed : (old new : Spot) → IsBox s.hierarchy usable old.set → IsGrown s.hierarchy (noted image.growths old.shard) old new → HasPushed s.hierarchy usable image.growths old new
+  has-pushed : (old new : Spot) → IsBox s.hierarchy usable old.set → IsGrown s.hierarchy (grown_at image.growths old.shard) old new → HasPushed s.hierarchy usable image.growths old new
   has-pushed old new box grown =
       let more = growth-rows image.growths known.growths old.shard in
-      let same : map (λ (r : Row). r.at) more.0 ≡ noted image.growths old.shard = more.2 in
+      let same : map (λ (r : Row). r.at) more.0 ≡ grown_at image.growths old.shard = more.2 in
       let grows : IsGrown s.hierarchy (map (λ (r : Row). r.at) more.0) old new = subst (λ (at : List Coord). IsGrown s.hierarchy at old new) (sym same) grown in
       let covered = grown-covers s.hierarchy (map (λ (r : Row). r.at) box.rows) (map (λ (r : Row). r.at) more.0) old new i.numbering.setting.hierarchy (coords box.rows box.usable) (coords more.0 more.1) box.set_of grows in
       record {
@@ -72,11 +72,11 @@ module _ (s : Setting) (w : World) (g : Ghost) (i : InvWith s (view s w) g) (ser
   Push = HasPushed s.hierarchy usable image.growths
 
   pub all-pushed : AllZip Push registry.frontier registry_now.frontier
-  all-pushed = AllZip-with (λ (old new : Spot). IsGrown s.hierarchy (noted image.growths old.shard) old new) Push (λ (spot : Spot). IsBox s.hierarchy usable spot.set) has-pushed
+  all-pushed = AllZip-with (λ (old new : Spot). IsGrown s.hierarchy (grown_at image.growths old.shard) old new) Push (λ (spot : Spot). IsBox s.hierarchy usable spot.set) has-pushed
       registry.frontier registry_now.frontier boxes-were synced.pushed
 
   pub places : places_of registry_now.frontier ≡ frontier s.workers h
-  places = same-places s.hierarchy (noted image.growths) registry.frontier registry_now.frontier synced.pushed ∙ ap (λ (x : RegistryValue). places_of x.frontier) (sym registry_there) ∙ i.lineage.front
+  places = same-places s.hierarchy (grown_at image.growths) registry.frontier registry_now.frontier synced.pushed ∙ ap (λ (x : RegistryValue). places_of x.frontier) (sym registry_there) ∙ i.lineage.front
 
   pub boxes-now : All (λ (spot : Spot). IsBox s.hierarchy usable spot.set) registry_now.frontier
   boxes-now = All-zip Push (λ (spot : Spot). IsBox s.hierarchy usable spot.set) (λ (spot : Spot). IsBox s.hierarchy usable spot.set) (λ old new p box. p.box) registry.frontier registry_now.frontier all-pushed boxes-were

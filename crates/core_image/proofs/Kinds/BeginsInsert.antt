@@ -6,11 +6,11 @@ use Rattle.dim_hierarchy.specs.{Dimension.Dimension, Row.IsCoordOf, Rows.IsRowOf
 use Rattle.row_ledger.specs.{Changes.ShardsStay, LedgerValue.LedgerValue, Past.{Insert, Query, insert_at, insert_in}, declared.event.Event.Event, declared.event.Event.TheVariants.Begun}
 use Rattle.row_ledger.proofs.{Changes.quiet, Growth.KeepsRight-begun}
 use Rattle.server_image.specs.Image.{ImageValue}
-use Rattle.volap_cell.specs.{Cells.{CellValue, ImageCell, ImageOf, LedgerCell, tag_of}, Falls.{Begins, control_of, farthest, gates_of_errand, gates_of_work, job_left, left, of_work, per_gate}, Ghost.Ghost, ImageKinds.{DoesBeginInsert, doing}, Invariant.InvWith, Owing.Owing, Placing.NobodyAt, Setting.{Setting, actor_count, site_in}, Steps.{IsKept, Keeps, Makes}, Telling.{IsProgress, Telling}, Values.ActorValue, View.{View, view, row_at}, World.{World, Change, Agrees, after, change}, declared.command.Command.Command, declared.role.Role.TheVariants.{Hand, Session}}
+use Rattle.volap_cell.specs.{Cells.{CellValue, ImageCell, ImageOf, LedgerCell, tag_of}, Falls.{BringsWork, control_of, farthest, gates_of_errand, gates_of_work, job_left, left, of_work, per_gate}, Ghost.Ghost, ImageKinds.{DoesBeginInsert, doing}, Invariant.InvWith, Owing.Owing, Placing.NobodyAt, Setting.{Setting, actor_count, site_in}, Steps.{IsKept, Keeps, Makes}, Telling.{IsProgress, Telling}, Values.ActorValue, View.{View, view, row_at}, World.{World, Change, Agrees, after, change}, declared.command.Command.Command, declared.role.Role.TheVariants.{Hand, Session}}
 use Rattle.volap_cell.specs.declared.command.Work.TheVariants as work_is
 use Rattle.volap_cell.specs.declared.kind.Kind.TheVariants as kind
 use Rattle.volap_cell.proofs.{Histories.Books.{EventNew, ImageNew, image-event}, OneEvent.Known.older-rows, OneEvent.Noted.{new-told, telling-begins}, OneEvent.Quiet.{Told, new-row-out, nobody-at-new, told-here}, Persons.has-role, Views.Books.{by_begin_insert, view-begin_insert}, Views.Fields.IsNewAt, Views.Frames.{actor-at, actor-off}, Views.Seen.renewed, Views.Shown.held-ledger}
-use Rattle.core_image.specs.NotesDue.{CanBeginInsert, Opens}
+use Rattle.core_image.specs.NotesDue.{CanBeginInsert, OpensInsert}
 use Rattle.core_image.proofs.{Commands.Begun.{begun-balancing, begun-desking, begun-inserting, begun-numbering, begun-placing, begun-working}, Commands.Owed.{IsFew, few-pushed, owed-covering, owed-imaging, owed-insert, owed-inserting, owed-leading, owed-only, promises-now, with_owed}, Lessens.Remains.{control-changed, gates-changed, no-more, rows-changed, rows_at}}
 
 module _ (im l : Change) (b : ActorValue) (s : Setting) (w : World) (n : ℕ) (g : Ghost) (i : InvWith s (view s w) g) (ag : Agrees w (im ∷ l ∷ []) n (w.actors n)) (does : DoesBeginInsert s.hierarchy im l (w.actors n) b) (few : IsFew does.begun) where
@@ -148,7 +148,7 @@ module _ (im l : Change) (b : ActorValue) (s : Setting) (w : World) (n : ℕ) (g
   stay : ShardsStay s.workers e h
   stay = (quiet s.hierarchy s.workers e h refl).shards
 
-  begins : Begins s (left s w g) (left s w2 g) h u.history
+  begins : BringsWork s (left s w g) (left s w2 g) h u.history
   begins =
       let control = control-changed s w w2 g n v2 same others (inl there) refl refl in
       let gates = gates-changed s w w2 g n v2 same others (inl there) e h refl refl stay refl in
@@ -189,7 +189,7 @@ begin-keeps hierarchy im l a b does few s w n g i_same i ag sight =
 -- the kind was done
 pub begin-makes : (hs : List Dimension) (image_at ledger_at : ℕ) (at : Coord) (image ledger : CellValue) (a : ActorValue) → CanBeginInsert hs at image ledger a
     → (server : ℕ) (iv : ImageValue) → image ≡ ImageCell server iv → (lv : LedgerValue) → ledger ≡ LedgerCell lv
-    → (iv2 : ImageValue) (lv2 : LedgerValue) (row : Row) → row.no ≡ length lv.history → row.at ≡ at → Opens (Begun a.number server row) iv iv2 lv lv2
+    → (iv2 : ImageValue) (lv2 : LedgerValue) (row : Row) → row.no ≡ length lv.history → row.at ≡ at → OpensInsert (Begun a.number server row) iv iv2 lv lv2
     → (seen : ℕ) → seen ≡ length lv2.history
     → Makes hs kind.BeginInsert (change image_at image (ImageCell server iv2) ∷ change ledger_at ledger (LedgerCell lv2) ∷ []) a (record a { command = doing row.no (work_is.Insert row false); seen = seen })
 begin-makes hs image_at ledger_at at image ledger a due server iv image_is lv ledger_is iv2 lv2 row number coord opens seen all_seen =

@@ -5,7 +5,7 @@ use Rattle.cell_stock.specs.declared.purse.Spare.{Spare}
 use Rattle.dim_hierarchy.specs.declared.row.Row.{Row}
 use Rattle.row_ledger.specs.{Changes.ShardsStay, Past.{Insert, Query}, declared.event.Event.Event, declared.event.Event.TheVariants.Called, declared.settings.Call.Call}
 use Rattle.row_ledger.proofs.{Changes.quiet, Growth.KeepsRight-called}
-use Rattle.volap_cell.specs.{Commands.owes, Desking.is_on_desk, Falls.{Begins, control_of, gates_of_errand, gates_of_work, job_left, left, of_work, plenty}, Ghost.Ghost, ImageKinds.{IsFree, doing}, Invariant.InvWith, Kinds.Does, Owing.{Owing, is_insert_work}, Placing.NobodyAt, Setting.{Setting, actor_count, cell_count, site_in}, Steps.{HasSight, IsKept}, Telling.{IsProgress, Telling}, Values.{ActorValue, JobValue}, View.{View, view, row_at}, Working.IsBalancing, World.{World, Change, Agrees, after}, declared.command.Balance.Balance, declared.command.Command.Command, declared.command.Work.Work, declared.role.Role.Role}
+use Rattle.volap_cell.specs.{Commands.owes, Desking.is_on_desk, Falls.{BringsWork, control_of, gates_of_errand, gates_of_work, job_left, left, of_work, plenty}, Ghost.Ghost, ImageKinds.{IsFree, doing}, Invariant.InvWith, Kinds.Does, Owing.{Owing, is_insert_work}, Placing.NobodyAt, Setting.{Setting, actor_count, cell_count, site_in}, Steps.{HasSight, IsKept}, Telling.{IsProgress, Telling}, Values.{ActorValue, JobValue}, View.{View, view, row_at}, Working.IsBalancing, World.{World, Change, Agrees, after}, declared.command.Balance.Balance, declared.command.Command.Command, declared.command.Work.Work, declared.role.Role.Role}
 use Rattle.volap_cell.specs.declared.command.Work.TheVariants as work_is
 use Rattle.volap_cell.specs.declared.kind.Kind.TheVariants as kind
 use Rattle.volap_cell.proofs.{Histories.Books.EventNew, OneEvent.Noted.telling-begins, OneEvent.Quiet.{Told, told-here}, Views.Books.by_call, Views.Fields.IsNewAt, Views.Frames.{actor-at, actor-off}, Views.Seen.renewed}
@@ -133,7 +133,7 @@ module _ (cs : List Change) (b : ActorValue) (s : Setting) (w : World) (n : ℕ)
   stay : ShardsStay s.workers e h
   stay = (quiet s.hierarchy s.workers e h refl).shards
 
-  begins : Begins s (left s w g) (left s w2 g) h u.history
+  begins : BringsWork s (left s w g) (left s w2 g) h u.history
   begins =
       let control = control-changed s w w2 g n v2 same others (inl there) refl refl in
       let gates = gates-changed s w w2 g n v2 same others (inl there) e h refl refl stay refl in

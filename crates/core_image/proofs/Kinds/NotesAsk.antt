@@ -7,7 +7,7 @@ use Rattle.server_image.specs.Registry.{RegistryValue}
 use Rattle.volap_cell.specs.{Cells.{CellValue, LedgerCell, RegistryCell, TheLedger, TheRegistry, tag_of}, Commands.owes, ImageKinds.{IsAsked, IsBegun, NotesCalled, OfCalledAsking, doing}, Setting.Setting, Steps.{Keeps, Makes}, Values.{ActorValue, JobValue}, View.{View, view}, World.{Change, Agrees, after, change}, declared.command.Work.Work}
 use Rattle.volap_cell.specs.declared.kind.Kind.TheVariants as kind
 use Rattle.volap_cell.proofs.{Cells.Past.ledger-past, Histories.Books.EventNew, Persons.has-role, Views.Books.view-note_asking, Views.Fields.pushed-new, Views.Shown.{held-ledger, held-registry}}
-use Rattle.core_image.specs.NotesDue.{Begins, CanNoteAsking, Notes}
+use Rattle.core_image.specs.NotesDue.{BeginsAsking, CanNoteAsking, Notes}
 use Rattle.core_image.proofs.{Commands.NewCommands.{asker-admin, asking-begins, caller-there}, Commands.Owed.{IsFew, few-pushed}, Kinds.CallsBegin.call-kept}
 
 -- what the step needs beside what it does: the ledger holds no more than it may, the administrator has no spares, and a balance
@@ -15,7 +15,7 @@ use Rattle.core_image.proofs.{Commands.NewCommands.{asker-admin, asking-begins, 
 record IsSoundAsk (l : Change) (a b : ActorValue) (registry : RegistryValue) (d : NotesCalled registry true l a b) : Type 0 where
   pub few : IsFew d.pushed
   pub spares : a.purse ≡ []
-  pub begins : Begins a.setting.workers registry (class_of d.called) d.work d.job
+  pub begins : BeginsAsking a.setting.workers registry (class_of d.called) d.work d.job
 
 asking-keeps : (hierarchy : List Dimension) (registry : RegistryValue) (c l : Change) (a b : ActorValue) (asked : IsAsked registry c) (d : NotesCalled registry true l a b) → IsSoundAsk l a b registry d
     → Keeps hierarchy kind.Note (c ∷ l ∷ []) a b (OfCalledAsking registry asked d)
@@ -35,14 +35,14 @@ asking-keeps hierarchy registry c l a b asked d sound s w n g i_same i ag sight 
     (few-pushed x.pushed v.history v.promised (view s (after w (c ∷ l ∷ []) n b)).promised ledger-was.0 ledger-was.1 pushed.promised_is here.1.few)
     (view-note_asking s w n registry true c l (w.actors n) b agrees asked x)
     (asking-begins s v g i (w.actors n).number (v.roles n) (v.purses n) x.called x.asks_is registry registry-was (asker-admin (v.roles n) x.called x.allowed x.asks_is) here.1.spares x.work x.job
-    (subst (λ (z : Setting). Begins z.workers registry (class_of x.called) x.work x.job) about here.1.begins))
+    (subst (λ (z : Setting). BeginsAsking z.workers registry (class_of x.called) x.work x.job) about here.1.begins))
     (x.actor_is ∙ (λ k. record (w.actors n) { command = doing (length (sym ledger-was.0 k)) x.work; job = x.job; seen = b.seen }))
     (OfCalledAsking registry asked x) tt
 
 -- The kind was done.
 
 -- what begins is begun
-begins-begun : (workers : ℕ) (r : RegistryValue) (class : Class) (work : Work) (job : Option JobValue) → Begins workers r class work job → IsBegun workers r class work job
+begins-begun : (workers : ℕ) (r : RegistryValue) (class : Class) (work : Work) (job : Option JobValue) → BeginsAsking workers r class work job → IsBegun workers r class work job
 begins-begun workers r (class_is.Balance most) work job is = is.0
 begins-begun workers r (class_is.Sync server) work job is = is
 begins-begun workers r class_is.Settle work job is = is
@@ -52,10 +52,10 @@ begins-begun workers r (class_is.Action x) work job is = is
 
 pub asking-makes : (hs : List Dimension) (registry_at ledger_at : ℕ) (call : Call) (workers : ℕ) (registry ledger : CellValue) (a : ActorValue) → CanNoteAsking call workers registry ledger a
     → (rv : RegistryValue) → registry ≡ RegistryCell rv → (rv2 : RegistryValue) → rv2 ≡ rv → (lv : LedgerValue) → ledger ≡ LedgerCell lv → (lv2 : LedgerValue)
-    → (of : ℕ) → of ≡ length lv.history → (work : Work) (job : Option JobValue) → Begins workers rv (class_of call) work job → Notes (Called a.number call) (1 + owes work) 1 lv lv2 → (seen : ℕ) → seen ≡ length lv2.history
+    → (of : ℕ) → of ≡ length lv.history → (work : Work) (job : Option JobValue) → BeginsAsking workers rv (class_of call) work job → Notes (Called a.number call) (1 + owes work) 1 lv lv2 → (seen : ℕ) → seen ≡ length lv2.history
     → Makes hs kind.Note (change registry_at registry (RegistryCell rv2) ∷ change ledger_at ledger (LedgerCell lv2) ∷ []) a (record a { command = doing of work; job = job; seen = seen })
 asking-makes hs registry_at ledger_at call workers registry ledger a due rv registry_is rv2 same lv ledger_is lv2 of of_is work job begins notes seen all_seen =
-    let here : Begins a.setting.workers rv (class_of call) work job = subst (λ (x : ℕ). Begins x rv (class_of call) work job) due.workers_are begins in
+    let here : BeginsAsking a.setting.workers rv (class_of call) work job = subst (λ (x : ℕ). BeginsAsking x rv (class_of call) work job) due.workers_are begins in
     let asked : IsAsked rv (change registry_at registry (RegistryCell rv2)) = record { was = registry_is; same = ap RegistryCell same ∙ sym registry_is } in
     let d : NotesCalled rv true (change ledger_at ledger (LedgerCell lv2)) a (record a { command = doing of work; job = job; seen = seen }) = record {
       free = due.free;

@@ -15,7 +15,7 @@ use Rattle.tree_shape.specs.Shape.{Shape}
 use Rattle.list_words.proofs.Truth.{on_bool}
 use Rattle.core_image.specs.NotesDue.{CanNoteLeft, GoesOn}
 use Rattle.core_image.proofs.{Commands.Backed.all-promised, Commands.Endings.never-unknown, Commands.Ends.only-its, Commands.Jobs.{items-new, spent-new, stamping-alike, stocking-alike, not-declined}, Commands.NextAction.{balancing-next, next-is, within, inside, next-action}, Commands.Owed.{owed-others, promises-now}, Lessens.Remains.{control_at, control-changed}}
-use Rattle.volap_cell.specs.{AdminKinds.spent_in, Cells.{CellValue, LedgerCell}, Commands.after_action, Desking.{Desking, is_on_desk}, Errands.{RowWay, Taken}, Falls.{actions_left, control_of, job_left, left, of_work, plenty, stage_left}, Ghost.Ghost, ImageKinds.{LeavesAs, NotesLeft, OfLeft, doing}, Invariant.InvWith, Owing.{Owing, is_insert_work}, Placing.{Inserting, Placing}, Planning.{next_job, job_for}, Setting.{Setting, actor_count, site_in}, Steps.{IsKept, Keeps, IsHere, Makes}, Stocking.{items_in, items_of_job, spent_of}, Telling.IsCalledAs, Values.{ActorValue, JobValue, StageValue, IsCalled, IsDeclined, IsFrozen, Collects, Builds}, View.{View, view, row_at}, Working.{Balancing, IsBalancing, IsDeclinedFor, IsJobOf, Working, begun, frozen_in, action_of}, World.{World, Change, Agrees, after, change, held}, declared.command.Balance.Balance, declared.command.Command.Command, declared.command.Work.Work, declared.role.Role.Role, declared.role.Role.TheVariants.Admin}
+use Rattle.volap_cell.specs.{AdminKinds.spent_in, Cells.{CellValue, LedgerCell}, Commands.after_action, Desking.{Desking, is_on_desk}, Errands.{RowWay, Taken}, Falls.{actions_left, control_of, job_left, left, of_work, plenty, stage_left}, Ghost.Ghost, ImageKinds.{LeavesAs, NotesLeft, OfLeft, doing}, Invariant.InvWith, Owing.{Owing, is_insert_work}, Placing.{Inserting, Placing}, Planning.{next_job, job_for}, Setting.{Setting, actor_count, site_in}, Steps.{IsKept, Keeps, IsHere, Makes}, Stocking.{items_in, items_of_job, spent_of}, Telling.IsCalledAs, Values.{ActorValue, JobValue, StageValue, IsCalled, IsDeclined, IsFrozen, Collects, Builds}, View.{View, view, row_at}, Working.{Balancing, IsBalancing, IsDeclinedFor, IsJobOf, Working, begun_job, frozen_in, action_of}, World.{World, Change, Agrees, after, change, held}, declared.command.Balance.Balance, declared.command.Command.Command, declared.command.Work.Work, declared.role.Role.Role, declared.role.Role.TheVariants.Admin}
 use Rattle.volap_cell.specs.declared.command.Work.TheVariants as work_is
 use Rattle.volap_cell.specs.declared.kind.Kind.TheVariants as kind
 use Rattle.volap_cell.proofs.{Histories.Books.{EventNew, one-event}, OneEvent.Known.{AreOlder, older-rows}, OneEvent.Noted.telling-goes-on, OneEvent.Older.on-stays, OneEvent.Quiet.{covering-quiet, desking-quiet, desks-older, imaging-quiet, inserting-quiet, lineage-quiet, placing-quiet, querying-quiet, readers-older, resting-quiet, working-quiet}, OneEvent.Reads.{ReadersTake, pinned-whole, readers-take, reading-rows-older}, OneEvent.Told.{called-kept, commands-older, no-work}, OneEvent.Trees.{growing-grown, past-there, queueing-grown}, OneEvent.Work.one-balance-grown, Persons.has-command, Views.Books.{by_call, view-note_left}, Views.Fields.IsNewAt, Views.Frames.{actor-at, actor-off}, Views.Seen.renewed}
@@ -178,7 +178,7 @@ module _ (l : Change) (b : ActorValue) (s : Setting) (w : World) (n : ℕ) (g : 
   bal : IsBalancing s h g.placed g.home (Some job) of does.balance
   bal = subst (λ (j : Option JobValue). IsBalancing s h g.placed g.home j of does.balance) does.job_is (i.balancing.balance n of does.balance does.command)
 
-  is-next : next_job does.balance ≡ Some (begun job)
+  is-next : next_job does.balance ≡ Some (begun_job job)
   is-next =
       let c = i.working.command n job does.job_is in
       let works : c.0.work ≡ work_is.Balance does.balance = ap (λ (o : Option Command). option_map_or (λ (k : Command). k.work) o work_is.Query) (sym c.1 ∙ does.command) in
@@ -412,8 +412,8 @@ module _ (hs : List Dimension) (ledger_at : ℕ) (ledger : CellValue) (a : Actor
       let bal : IsBalancing s v.history g.placed g.home (Some due.job) due.of due.balance = subst (λ (j : Option JobValue). IsBalancing s v.history g.placed g.home j due.of due.balance) job-here (i.balancing.balance n due.of due.balance command-here) in
       let c = i.working.command n due.job job-here in
       let works : c.0.work ≡ work_is.Balance due.balance = ap (λ (o : Option Command). option_map_or (λ (k : Command). k.work) o work_is.Query) (sym c.1 ∙ command-here) in
-      let next : next_job due.balance ≡ Some (begun due.job) = subst (λ (x : Work). IsJobOf x due.job) works c.2 in
-      let at = next-action due.balance (begun due.job) next in
+      let next : next_job due.balance ≡ Some (begun_job due.job) = subst (λ (x : Work). IsJobOf x due.job) works c.2 in
+      let at = next-action due.balance (begun_job due.job) next in
       let planned = bal.planned at.0 at.2 in
       let few = planned.few in
       let more = inside due.balance.over at.0 at.1 at.3 in

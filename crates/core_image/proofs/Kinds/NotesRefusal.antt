@@ -4,7 +4,7 @@ use Rattle.std.proofs.Common.{◌≡◌, ◌≢◌, ℕ, List, [], ◌∷◌, tr
 use Rattle.dim_hierarchy.specs.Dimension.{Dimension}
 use Rattle.row_ledger.specs.{Changes.{ShardsStay, is_quiet}, Kept.KeepsRight, LedgerValue.LedgerValue, Past.{Insert, Query, ends_itself, insert_in, is_beginning, is_work_of, query_in, session_in}, declared.event.Event.Event, declared.event.Event.TheVariants.{Refused, Unknown}}
 use Rattle.row_ledger.proofs.{Changes.quiet, Growth.{KeepsRight-refused, KeepsRight-unknown}}
-use Rattle.volap_cell.specs.{Cells.{CellValue, LedgerCell}, Commands.server_of, Falls.{Begins, is_split_or_move, left}, Ghost.Ghost, ImageKinds.{DoesNote, NotesRefused, NotesUnknown, OfRefused, OfUnknown, Pushes}, Invariant.InvWith, Owing.Owing, Setting.{Setting, site_in}, Steps.{IsKept, Keeps, Makes, SeesNote}, Telling.Telling, Values.ActorValue, View.{View, view, row_at}, World.{World, Change, Agrees, after, change}, declared.command.Command.Command}
+use Rattle.volap_cell.specs.{Cells.{CellValue, LedgerCell}, Commands.server_of, Falls.{BringsWork, is_split_or_move, left}, Ghost.Ghost, ImageKinds.{DoesNote, NotesRefused, NotesUnknown, OfRefused, OfUnknown, Pushes}, Invariant.InvWith, Owing.Owing, Setting.{Setting, site_in}, Steps.{IsKept, Keeps, Makes, SeesNote}, Telling.Telling, Values.ActorValue, View.{View, view, row_at}, World.{World, Change, Agrees, after, change}, declared.command.Command.Command}
 use Rattle.volap_cell.specs.declared.kind.Kind.TheVariants as kind
 use Rattle.volap_cell.proofs.{Histories.Books.{EventNew, one-event}, OneEvent.Noted.telling-begins, OneEvent.Quiet.{Told, told-here}, Views.Books.{by_refusal, view-note_refused, view-note_unknown}, Views.Frames.{actor-at, actor-off}, Views.Seen.renewed, Views.Shown.held-ledger}
 use Rattle.core_image.specs.NotesDue.{CanNoteRefused, CanNoteUnknown, Notes}
@@ -115,7 +115,7 @@ module _ (e : Event) (l : Change) (b : ActorValue) (s : Setting) (w : World) (n 
     job = ap (λ (x : ActorValue). x.job) actor-now;
   }
 
-  begins : Begins s (left s w g) (left s w2 g) h u.history
+  begins : BringsWork s (left s w g) (left s w2 g) h u.history
   begins =
       let control = control-changed s w w2 g n v2 same others (inr still) refl refl in
       let gates = gates-changed s w w2 g n v2 same others (inr still) e h refl refl stay itself.no_shard in

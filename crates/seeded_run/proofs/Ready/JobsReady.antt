@@ -19,7 +19,7 @@ use Rattle.cell_stock.specs.declared.purse.Spare.{Spare}
 use Rattle.list_words.specs.Counts.{Among}
 use Rattle.tree_shape.specs.{Collecting.IsCollecting, Laws.ReadableLaw, Shape.numbers}
 use Rattle.volap_cell.proofs.{Cells.Blanks.spent-owner, Cells.Holding.{carries, has-place}, Cells.Numbers.{tag-map, tag-rest, tag-stock}, Cells.Spares.among-cells, Cells.States.{is-some, same-actor, stands}, Persons.has-taken, Sums.sum-some}
-use Rattle.volap_cell.specs.{AdminKinds.{HasFrozen, spent_by, spent_in}, Cells.{BlockCell, CellValue, DeskCell, FreeCell, GateCell, ImageCell, LedgerCell, MapCell, MapOf, RegistryCell, StockCell, OfStock, TheStock, active_in, gate_shard, has_block, phase_of, tag_of, where_in}, Commands.{EndsStage, MayNoteEnd}, Errands.{RowWay, taken_by, taken_of, way_of}, Ghost.{Ghost, InJob, InTree, NotOfStock}, Growing.table_of, ImageKinds.doing, Invariant.InvWith, Planning.{job_for, next_job}, Setting.{Setting, actor_count, cell_count, ledger_cell, map_cell, stock_cell}, State.Has, Stocking.{cells_at, spent_of}, Turning.{inside_of, is_inside}, Values.{ActorValue, BuildingValue, CollectingValue, ErrandValue, JobValue, StageValue, IsCalled, Collects, Builds, actor_of}, View.{View, view}, Working.{IsCollected, IsJobOf, begun, frozen_in}, World.{MustKeep, World}, declared.actor.Actor.Actor, declared.cell.Cell.Cell, declared.command.Balance.Balance, declared.command.Command.Command as OpenCommand, declared.command.Work.Work, declared.job.Frozen.Frozen, declared.kind.Kind.Kind}
+use Rattle.volap_cell.specs.{AdminKinds.{HasFrozen, spent_by, spent_in}, Cells.{BlockCell, CellValue, DeskCell, FreeCell, GateCell, ImageCell, LedgerCell, MapCell, MapOf, RegistryCell, StockCell, OfStock, TheStock, active_in, gate_shard, has_block, phase_of, tag_of, where_in}, Commands.{EndsStage, MayNoteEnd}, Errands.{RowWay, taken_by, taken_of, way_of}, Ghost.{Ghost, InJob, InTree, NotOfStock}, Growing.table_of, ImageKinds.doing, Invariant.InvWith, Planning.{job_for, next_job}, Setting.{Setting, actor_count, cell_count, ledger_cell, map_cell, stock_cell}, State.Has, Stocking.{cells_at, spent_of}, Turning.{inside_of, is_inside}, Values.{ActorValue, BuildingValue, CollectingValue, ErrandValue, JobValue, StageValue, IsCalled, Collects, Builds, actor_of}, View.{View, view}, Working.{IsCollected, IsJobOf, begun_job, frozen_in}, World.{MustKeep, World}, declared.actor.Actor.Actor, declared.cell.Cell.Cell, declared.command.Balance.Balance, declared.command.Command.Command as OpenCommand, declared.command.Work.Work, declared.job.Frozen.Frozen, declared.kind.Kind.Kind}
 use Rattle.volap_cell.specs.declared.command.Work.TheVariants as work_is
 use Rattle.volap_cell.specs.declared.kind.Kind.TheVariants as kind
 use Rattle.seeded_run.specs.{Can.{gate_awaited, is_drained, last_noted}, Core.{HasCore, IsCore, IsDue}, Due.{command_kind, is_alone}, Jobs.{CanGiveUp, CanGiveUpBy, CanLeave, CanLeaveBy, IsAtFirst, IsAtFirstBy, cell_at_stage, cell_of_one, cell_unbuilt, end_of_balance, frozen_gate, gate_found, gate_to_freeze, has_more, job_by, job_of_one, most_of, next_of_stage, next_by, next_of, worker_of_job}, Led.gate_there, Look.{cell_at, setting_by, setting_for, world_by}, Works.{command_by, is_balance, is_balance_work}, declared.jobs.Next.Next}
@@ -210,7 +210,7 @@ module _ (h : List Dimension) (with : Use) (cells : List (Option Cell)) (actors 
       let both : Some c ≡ doing of (work_is.Balance b) = sym is ∙ command in
       let whole : c ≡ record { of = of; work = work_is.Balance b } = cc in
       let one : c.work ≡ work_is.Balance b = ap (λ (z : OpenCommand). z.work) whole in
-      let (actions, a, planned, at, own) = next-action b (begun job) (subst (λ (z : Work). IsJobOf z job) one asked) in
+      let (actions, a, planned, at, own) = next-action b (begun_job job) (subst (λ (z : Work). IsJobOf z job) one asked) in
       let p = (i.balancing.balance n of b command).planned actions planned in
       let at_most = p.few in
       let lt_all = inside b.over actions a at in

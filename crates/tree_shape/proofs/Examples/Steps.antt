@@ -11,7 +11,7 @@ use Rattle.shard_store.specs.Gate.{root_entry}
 use Rattle.link_descent.specs.{Descend.{Enters, Halves}, GateRead.root_items, Visit.{noted_in, noted_right}, declared.entered.Entered.Entered}
 use Rattle.list_words.specs.Counts.{Each, times}
 use Rattle.list_words.proofs.{Each.each-append, Truth.on_bool}
-use Rattle.tree_shape.specs.{Example.{AsksFor, HoldsFirst, IsAnswered, IsSample, IsUncut, Sample, Works, cells_at, first_rows, gate_after, halved_cells, leaf_of}, Queries.{IsUnfinished, NoneWaits, fits}, Shape.{Node, Shape, Table, TreeCells, nodes, numbers}, Steps.{AfterBegin, AfterPut, AfterStep, AfterVisit, AreApart, IsIdle, IsSpare}}
+use Rattle.tree_shape.specs.{Example.{AsksAtGate, HoldsFirst, IsAnswered, IsSample, IsUncut, Sample, Works, cells_at, first_rows, gate_after, halved_cells, leaf_of}, Queries.{IsUnfinished, NoneWaits, fits}, Shape.{Node, Shape, Table, TreeCells, nodes, numbers}, Steps.{AfterBegin, AfterPut, AfterStep, AfterVisit, AreApart, IsIdle, IsSpare}}
 use Rattle.tree_shape.proofs.{Building.Openings.after-opening, Down.ComesIn.goes-in, Down.Puts.after-put, Down.Rows.after-all, Reading.Beginnings.after-begin, Reading.Readings.after-visit, Whole.Assembled.{node-gate, root-at}}
 
 length-first : (table : Table) (n : ℕ) → length (first_rows table n) ≡ n
@@ -326,7 +326,7 @@ module _ (table : Table) (x : Sample) (d : IsSample table x) where
 
     -- a query that noted the root before
 
-    module _ (must : ℕ → Bool) (f2 : List Pick) (a : AsksFor table x m must f2) where
+    module _ (must : ℕ → Bool) (f2 : List Pick) (a : AsksAtGate table x m must f2) where
       abbrev fit : ℕ → Bool
       fit = fits table f2
 

@@ -1,6 +1,6 @@
 use Rattle.std.proofs.Common.{ℕ, length, None, ◌∙◌, refl, ap, sym, subst}
 use Rattle.row_ledger.specs.LedgerValue.{LedgerValue}
-use Rattle.core_image.specs.Asking.{Gives}
+use Rattle.core_image.specs.Asking.{GivesAnswer}
 use Rattle.volap_cell.specs.{Cells.{DeskCell, LedgerCell, cell_of}, Values.actor_of}
 use Rattle.core_image.proofs.Here.AnsweredHere.{at-query, can-give, has-answered}
 use Rattle.core_image.proofs.answers.answer.Goals as goal
@@ -25,6 +25,6 @@ returns c =
       made = has-answered c.args.h.now c.args.desk_at c.args.ledger_at (cell_of c.args.desk.now) (cell_of c.args.ledger.now) (actor_of c.args.actor.now) c.requires.here c.requires.due
           c.in-Desk.server c.deref_mut.result.now desk_is c.deref_mut-2.result.now ledger_is
           c.give.new.desk c.give.new.ledger (DeskCell c.in-Desk.server c.give.new.desk) (LedgerCell c.give.new.ledger) _
-          (subst (λ (x : ℕ). Gives x c.deref_mut.result.now c.give.new.desk c.deref_mut-2.result.now c.give.new.ledger) of c.give.ensures.given) refl refl
+          (subst (λ (x : ℕ). GivesAnswer x c.deref_mut.result.now c.give.new.desk c.deref_mut-2.result.now c.give.new.ledger) of c.give.ensures.given) refl refl
           (λ k. record (actor_of c.args.actor.now) { command = None; seen = seen k });
     }

@@ -5,7 +5,7 @@ use Rattle.volap_cell.specs.declared.cell.Cell.TheVariants as cell
 use Rattle.volap_cell.proofs.{Cells.Boxed.same-box, Outcomes.as-err}
 use Rattle.core_image.proofs.{Here.Telling.tells, Kinds.NotesAsk.asking-makes}
 use Rattle.core_image.proofs.asks.note_asking.Goals as goal
-use Rattle.core_image.specs.{NotesDue.Begins, Told.called_by}
+use Rattle.core_image.specs.{NotesDue.BeginsAsking, Told.called_by}
 
 pub returns-clause-made : goal.returns-clause-made
 returns-clause-made c =
@@ -13,7 +13,7 @@ returns-clause-made c =
     c.deref.result.now (ap cell_of c.in-Registry.is ∙ ap RegistryCell (sym c.deref.ensures)) c.in-Registry.registry.value (sym c.deref.ensures)
     c.deref_mut.result.now (ap cell_of c.in-Ledger.is ∙ ap LedgerCell (sym c.deref_mut.ensures.value)) c.push_called.new.ledger
     _ (c.len-of.ensures.value ∙ ap (λ (l : LedgerValue). length l.history) (c.deref-2.ensures ∙ sym c.deref_mut.ensures.value))
-    _ _ (subst (λ (k : Class). Begins c.args.workers c.deref.result.now k c.in_ok-work.field-0.work (option_map (λ j. job_of j.value) c.in_ok-work.field-0.job)) c.class.ensures c.in_ok-work.ensures) c.in_ok-push_called.ensures.ok _ (c.len-actor.ensures.value ∙ ap (λ (l : LedgerValue). length l.history) c.deref-3.ensures)
+    _ _ (subst (λ (k : Class). BeginsAsking c.args.workers c.deref.result.now k c.in_ok-work.field-0.work (option_map (λ j. job_of j.value) c.in_ok-work.field-0.job)) c.class.ensures c.in_ok-work.ensures) c.in_ok-push_called.ensures.ok _ (c.len-actor.ensures.value ∙ ap (λ (l : LedgerValue). length l.history) c.deref-3.ensures)
 
 pub returns-clause-told : goal.returns-clause-told
 returns-clause-told c =

@@ -1,6 +1,6 @@
 use Rattle.std.proofs.{Common.{ℤ, ◌≡◌, length, refl, ap, sym, subst, ◌∙◌, rules, to_z, of_z, w64}, lemmas.Int.to_z-of_z}
 use Rattle.row_ledger.specs.{LedgerValue.LedgerValue, declared.event.Event.TheVariants.Begun}
-use Rattle.core_image.specs.NotesDue.{Opens}
+use Rattle.core_image.specs.NotesDue.{OpensInsert}
 use Rattle.volap_cell.specs.{Cells.{ImageCell, LedgerCell, cell_of}, Values.actor_of}
 use Rattle.volap_cell.specs.declared.cell.Cell.TheVariants as cell
 use Rattle.volap_cell.proofs.{Cells.Boxed.same-box, Outcomes.as-err}
@@ -25,7 +25,7 @@ returns-clause-told c =
     c.deref_mut-2.result.now (ap cell_of c.in-Ledger.is ∙ ap LedgerCell (sym c.deref_mut-2.ensures.value))
     _ (c.len.ensures.value ∙ ap (λ (l : LedgerValue). length l.history) (c.deref.ensures ∙ sym c.deref_mut-2.ensures.value))
     c.open.new.image c.open.new.ledger
-    (subst (λ (m : ℤ). Opens (Begun (actor_of c.args.actor.now).number c.in-Image.server (record { no = c.len.result; at = c.args.at; measures = m })) c.deref_mut.result.now c.open.new.image c.deref_mut-2.result.now c.open.new.ledger)
+    (subst (λ (m : ℤ). OpensInsert (Begun (actor_of c.args.actor.now).number c.in-Image.server (record { no = c.len.result; at = c.args.at; measures = m })) c.deref_mut.result.now c.open.new.image c.deref_mut-2.result.now c.open.new.ledger)
     measured c.in_ok-open.ensures.ok)
 
 pub returns-in_err-open-clause-refused : goal.returns-in_err-open-clause-refused

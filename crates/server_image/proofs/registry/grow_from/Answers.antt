@@ -1,6 +1,6 @@
 use Rattle.std.proofs.{Common.{subst, sym, arith}, lemmas.List.take_all}
 use Rattle.dim_hierarchy.specs.Row.{IsCoordOf}
-use Rattle.server_image.specs.{Image.noted, Spots.Grows, declared.image.Growth.Growth}
+use Rattle.server_image.specs.{Image.grown_at, Spots.Grows, declared.image.Growth.Growth}
 use Rattle.server_image.proofs.Boxes.{noted-next}
 use Rattle.server_image.proofs.registry.grow_from.Goals as goal
 
@@ -20,5 +20,5 @@ loop-place-preserved c = (
 
 pub returns-clause-grown : goal.returns-clause-grown
 returns-clause-grown c =
-    subst (λ l. Grows c.args.h.now (noted l) c.args.spots.now.items c.loop-place.spots.items)
+    subst (λ l. Grows c.args.h.now (grown_at l) c.args.spots.now.items c.loop-place.spots.items)
     (take_all c.loop-place.place c.args.growths.now (omega (arith, c.loop-place-test.false))) c.loop-place.invariant.0

@@ -1,7 +1,7 @@
 use Rattle.std.proofs.Common.{◌≡◌, ◌+◌, ◌-◌, [], ◌∷◌, ◌++◌, ap, arith, eqb}
 use Rattle.std.specs.{List.flat_map, Option.option_copied}
 use Rattle.dc_node.specs.declared.entry.Entry.{Entry}
-use Rattle.tree_shape.specs.PageLines.{walk, group, line, lines, group_entries}
+use Rattle.tree_shape.specs.PageLines.{walk, group, group_line, lines, group_entries}
 use Rattle.tree_page.proofs.Walks.{walk-on, lines-on, lines-deeper}
 use Rattle.tree_page.proofs.page.+group.Goals as goal
 
@@ -24,6 +24,6 @@ pub push_group-returns-in_ok-push_beneath : goal.push_group-returns-in_ok-push_b
 push_group-returns-in_ok-push_beneath g t c =
     let blocks = g.C.BlockCells.blocks c.args.cells.now in
     let entry = c.args.entry.now in
-    let pushed : c.push.new.self ≡ c.args.nodes.now ++ line (eqb c.args.level 0) c.args.depth (group blocks entry) entry ∷ []
+    let pushed : c.push.new.self ≡ c.args.nodes.now ++ group_line (eqb c.args.level 0) c.args.depth (group blocks entry) entry ∷ []
     = rw (c.copy.ensures, c.extent-count.ensures.blocks, c.extent-count.ensures.items) at c.in_ok-push.ensures.ok in
     lines-deeper blocks c.args.level (c.args.level - 1) c.args.depth entry c.args.nodes.now c.push.new.self c.push_beneath.new.nodes (omega (arith, c.if-level-gt0.true)) pushed c.in_ok-push_beneath.ensures

@@ -1,6 +1,6 @@
 use Rattle.std.proofs.{Common.{◌≡◌, ◌∙◌, ◌≤◌, List, length, take, subst, sym, ap, arith}, lemmas.List.take_all, lemmas.Result.IfOk-weaker}
 use Rattle.describing_set.specs.declared.listing.Spot.{Spot}
-use Rattle.server_image.specs.{Image.noted, Registry.RegistryValue, Spots.{AreBoxes, Grows, spot_ids}}
+use Rattle.server_image.specs.{Image.grown_at, Registry.RegistryValue, Spots.{AreBoxes, Grows, spot_ids}}
 use Rattle.server_image.proofs.Boxes.{Grows-ids, Grows-length}
 use Rattle.server_image.proofs.registry.Registry.pull.Goals as goal
 
@@ -15,11 +15,11 @@ returns-then-known-growths-clause-pushed c =
     let first = c.args.self.now.frontier in
     let seen : c.deref.result.now ≡ first = c.deref.ensures.value ∙ ap (λ (v : RegistryValue). v.frontier) c.self.view_is in
     let all : length gs ≤ c.known_of-known.result = omega (arith, c.if-known-growths.true) in
-    let known : Grows h (noted gs) c.deref.result.now c.deref.result.now =
-    subst (λ l. Grows h (noted l) c.deref.result.now c.deref.result.now) (take_all c.known_of-known.result gs all) c.known_of-known.ensures.known in
-    let kept : Grows h (noted gs) first first = subst (λ (l : List Spot). Grows h (noted gs) l l) seen known in
+    let known : Grows h (grown_at gs) c.deref.result.now c.deref.result.now =
+    subst (λ l. Grows h (grown_at l) c.deref.result.now c.deref.result.now) (take_all c.known_of-known.result gs all) c.known_of-known.ensures.known in
+    let kept : Grows h (grown_at gs) first first = subst (λ (l : List Spot). Grows h (grown_at gs) l l) seen known in
     let now : first ≡ c.listing.new.self.frontier = ap (λ (v : RegistryValue). v.frontier) (sym c.listing.ensures.unchanged) in
-    IfOk-weaker c.listing.result (λ l. l ≡ first) (λ _. Grows h (noted gs) first c.listing.new.self.frontier) (λ x is. subst (λ (l : List Spot). Grows h (noted gs) first l) now kept) c.listing.ensures.value
+    IfOk-weaker c.listing.result (λ l. l ≡ first) (λ _. Grows h (grown_at gs) first c.listing.new.self.frontier) (λ x is. subst (λ (l : List Spot). Grows h (grown_at gs) first l) now kept) c.listing.ensures.value
 
 pub returns-then-known-growths-clause-boxes : goal.returns-then-known-growths-clause-boxes
 returns-then-known-growths-clause-boxes c =
@@ -35,7 +35,7 @@ pub put-requires : goal.put-requires
 put-requires c =
     let all : c.in_ok-kept.kept ≡ c.grow_from.new.spots.items = c.in_ok-kept.ensures ∙ c.in_ok-listing.ensures ∙ c.from_vec.ensures in
     let was : c.in_ok-grown.grown.items ≡ c.args.self.now.frontier = c.in_ok-grown.ensures ∙ c.deref-2.ensures.value ∙ ap (λ (v : RegistryValue). v.frontier) c.self.view_is in
-    ap spot_ids all ∙ Grows-ids c.args.h.now (noted c.args.growths.now) c.in_ok-grown.grown.items c.grow_from.new.spots.items c.grow_from.ensures.grown ∙ ap spot_ids was
+    ap spot_ids all ∙ Grows-ids c.args.h.now (grown_at c.args.growths.now) c.in_ok-grown.grown.items c.grow_from.new.spots.items c.grow_from.ensures.grown ∙ ap spot_ids was
 
 pub returns-clause-boxes : goal.returns-clause-boxes
 returns-clause-boxes c =
@@ -46,4 +46,4 @@ pub returns-clause-len : goal.returns-clause-len
 returns-clause-len c =
     let all : c.put.new.self.frontier ≡ c.grow_from.new.spots.items = c.put.ensures.frontier ∙ c.in_ok-kept.ensures ∙ c.in_ok-listing.ensures ∙ c.from_vec.ensures in
     let was : c.in_ok-grown.grown.items ≡ c.args.self.now.frontier = c.in_ok-grown.ensures ∙ c.deref-2.ensures.value ∙ ap (λ (v : RegistryValue). v.frontier) c.self.view_is in
-    ap (λ (l : List Spot). length l) all ∙ Grows-length c.args.h.now (noted c.args.growths.now) c.in_ok-grown.grown.items c.grow_from.new.spots.items c.grow_from.ensures.grown ∙ ap (λ (l : List Spot). length l) was
+    ap (λ (l : List Spot). length l) all ∙ Grows-length c.args.h.now (grown_at c.args.growths.now) c.in_ok-grown.grown.items c.grow_from.new.spots.items c.grow_from.ensures.grown ∙ ap (λ (l : List Spot). length l) was
