@@ -1,28 +1,29 @@
 -- The marks of a filter, made and read.
-use Rattle.std.proofs.{Common.{ℕ, ◌≡◌, ◌+◌, ◌-◌, ◌<◌, ◌≤◌, Bool, true, false, eqb, List, [], ◌∷◌, ◌++◌, Option, None, length, get_or, refl, sym, ap, subst, ◌∙◌, arith, inl, inr, length-append}, lemmas.Bool.{cases_lt, eqb-true}, lemmas.List.{get_or_append_left, get_or_push}, lemmas.List.Elements.{All-head, All-tail}}
-use Rattle.std.specs.{List.{list_all, list_any}, Prelude.{All as Each, ◌==◌, filter, nat_lt, not}}
-use Rattle.dim_hierarchy.specs.{Column.is_marked, Compiled.{AreDimMarks, AreFilterMarks, AreOfLevel, is_related}, Concept.{level_of, number_of}, Dimension.{Dimension, tree}, Filter.{IsFilterOf, is_picked, pick_at}, Marks.AreMarksOf, Tree.{Tree, IsConcept, IsLeaf, leaf_level, parents_at}, declared.filter.Pick.Pick, declared.filter.Pick.TheVariants.All}
-use Rattle.dim_hierarchy.proofs.Marking.{mark_under, mark_some}
+use Rattle.std.proofs.{Common.{ℕ, ◌≡◌, ◌+◌, ◌-◌, ◌<◌, ◌≤◌, Bool, true, false, eqb, List, [], ◌∷◌, ◌++◌, length, get_or, refl, sym, ap, subst, ◌∙◌, arith, inl, inr, length-append}, lemmas.Bool.{cases_lt, eqb-true}, lemmas.List.{get_or_append_left, get_or_push}, lemmas.List.Elements.{All-head, All-tail}}
+use Rattle.std.specs.{List.{list_all, list_any}, Prelude.{All as Each, ◌==◌, filter, nat_le, nat_lt, not}}
+use Rattle.dim_hierarchy.specs.{Column.is_marked, Compiled.{AreDimMarks, AreFilterMarks, AreOfLevel, is_related}, Concept.{level_of, number_of}, Dimension.{Dimension, tree}, Filter.{IsFilterOf, is_picked, pick_at}, Marks.AreMarksOf, Tree.{Tree, IsConcept, IsLeaf, leaf_level, parents_at}, declared.dim_marks.DimMarks.DimMarks, declared.filter.Pick.Pick, declared.filter.Pick.TheVariants.All}
+use Rattle.dim_hierarchy.specs.declared.dim_marks.DimMarks.TheVariants as each
+use Rattle.dim_hierarchy.proofs.Marking.{mark_greatest, mark_under, mark_some}
 
 -- the marks of the first dimensions
-pub record AreFirstMarks (h : List Dimension) (f : List Pick) (n : ℕ) (marks : List (Option (List (List ℕ)))) : Type 0 where
+pub record AreFirstMarks (h : List Dimension) (f : List Pick) (n : ℕ) (marks : List DimMarks) : Type 0 where
   pub count : length marks ≡ n
-  pub each : (dim : ℕ) → dim < n → AreDimMarks (tree h dim) (pick_at f dim) (get_or marks dim None)
+  pub each : (dim : ℕ) → dim < n → AreDimMarks (tree h dim) (pick_at f dim) (get_or marks dim each.All)
 
-pub AreFirstMarks-more : (h : List Dimension) (f : List Pick) (n : ℕ) (marks : List (Option (List (List ℕ)))) (more : Option (List (List ℕ))) → AreFirstMarks h f n marks
+pub AreFirstMarks-more : (h : List Dimension) (f : List Pick) (n : ℕ) (marks : List DimMarks) (more : DimMarks) → AreFirstMarks h f n marks
     → AreDimMarks (tree h n) (pick_at f n) more → AreFirstMarks h f (n + 1) (marks ++ more ∷ [])
 AreFirstMarks-more h f n marks more u m = record {
   count = length-append marks (more ∷ []) ∙ ap (λ k. k + 1) u.count;
   each = λ dim lt. elim (cases_lt dim n) [
-    | inl below ↦ subst (AreDimMarks (tree h dim) (pick_at f dim)) (sym (get_or_append_left marks (more ∷ []) None dim (let c = u.count in omega (arith, c, below)))) (u.each dim below)
+    | inl below ↦ subst (AreDimMarks (tree h dim) (pick_at f dim)) (sym (get_or_append_left marks (more ∷ []) each.All dim (let c = u.count in omega (arith, c, below)))) (u.each dim below)
     | inr le ↦
         let is : dim ≡ n = omega (arith, le, lt) in
         let at : length marks ≡ dim = u.count ∙ sym is in
-        subst (AreDimMarks (tree h dim) (pick_at f dim)) (sym (get_or_push marks more None dim at)) (subst (λ d. AreDimMarks (tree h d) (pick_at f d) more) (sym is) m)
+        subst (AreDimMarks (tree h dim) (pick_at f dim)) (sym (get_or_push marks more each.All dim at)) (subst (λ d. AreDimMarks (tree h d) (pick_at f d) more) (sym is) m)
   ];
 }
 
-pub AreFilterMarks-all : (h : List Dimension) (f : List Pick) (n : ℕ) (marks : List (Option (List (List ℕ)))) → IsFilterOf h f → n ≡ length h → AreFirstMarks h f n marks → AreFilterMarks h f marks
+pub AreFilterMarks-all : (h : List Dimension) (f : List Pick) (n : ℕ) (marks : List DimMarks) → IsFilterOf h f → n ≡ length h → AreFirstMarks h f n marks → AreFilterMarks h f marks
 AreFilterMarks-all h f n marks v e u = record {
   valid = v;
   count = u.count ∙ e;
@@ -31,17 +32,17 @@ AreFilterMarks-all h f n marks v e u = record {
 
 -- What is read at concepts of a level.
 
-list_all-same : (p q : ℕ → Bool) (xs : List ℕ) → Each (λ x. p x ≡ q x) xs → list_all p xs ≡ list_all q xs
+pub list_all-same : (p q : ℕ → Bool) (xs : List ℕ) → Each (λ x. p x ≡ q x) xs → list_all p xs ≡ list_all q xs
 list_all-same p q [] e = refl
 list_all-same p q (x ∷ xs) e =
     rw (All-head (λ y. p y ≡ q y) x xs e, list_all-same p q xs (All-tail (λ y. p y ≡ q y) x xs e)) refl
 
-list_any-same : (p q : ℕ → Bool) (xs : List ℕ) → Each (λ x. p x ≡ q x) xs → list_any p xs ≡ list_any q xs
+pub list_any-same : (p q : ℕ → Bool) (xs : List ℕ) → Each (λ x. p x ≡ q x) xs → list_any p xs ≡ list_any q xs
 list_any-same p q [] e = refl
 list_any-same p q (x ∷ xs) e =
     rw (All-head (λ y. p y ≡ q y) x xs e, list_any-same p q xs (All-tail (λ y. p y ≡ q y) x xs e)) refl
 
-filter-same : (p q : ℕ → Bool) (xs : List ℕ) → Each (λ x. p x ≡ q x) xs → filter p xs ≡ filter q xs
+pub filter-same : (p q : ℕ → Bool) (xs : List ℕ) → Each (λ x. p x ≡ q x) xs → filter p xs ≡ filter q xs
 filter-same p q [] e = refl
 filter-same p q (x ∷ xs) e =
     rw (All-head (λ y. p y ≡ q y) x xs e, filter-same p q xs (All-tail (λ y. p y ≡ q y) x xs e)) refl
@@ -92,7 +93,7 @@ leaves_kept t p column places marks m some all =
     let n = m.count in
     let e : leaf_level t ≡ length marks - 1 = omega (arith, n) in
     let id = get_or column (get_or places k d) 0 in
-    ap (λ x. x == 2) ((m.each (length marks - 1) (omega (arith, n, some))).each id leaf.concept (leaf.last ∙ e)) ∙ mark_under t p id)
+    ap (nat_le 2) ((m.each (length marks - 1) (omega (arith, n, some))).each id leaf.concept (leaf.last ∙ e)) ∙ mark_greatest t p id)
 
 -- Where all are picked.
 

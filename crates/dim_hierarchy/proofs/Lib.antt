@@ -4,6 +4,7 @@ pub mod Compiling
 pub mod Coordinates
 pub mod Dimensions
 pub mod Faults
+pub mod FewMarking
 pub mod Growth
 pub mod Lineages
 pub mod Marking

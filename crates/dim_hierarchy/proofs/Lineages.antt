@@ -11,23 +11,21 @@ no_lineages n k = elim (cases_lt k n) [
 ]
 
 -- the lineages of a tree with no concept but ALL
-abbrev pub new_lineages : ℕ → List ℕ → Lineages
-new_lineages n lineage = (lineage ∷ []) ∷ replicate n []
+abbrev pub new_lineages : List ℕ → Lineages
+new_lineages lineage = (lineage ∷ []) ∷ replicate 8 []
 
-pub AreLineagesOf-new : (n : ℕ) (lineage : List ℕ) → length lineage ≡ 9 → get_or lineage 0 0 ≡ 0 → AreLineagesOf (new_tree n) (new_lineages n lineage)
+pub AreLineagesOf-new : (n : ℕ) (lineage : List ℕ) → length lineage ≡ 9 → get_or lineage 0 0 ≡ 0 → AreLineagesOf (new_tree n) (new_lineages lineage)
 AreLineagesOf-new n lineage e z =
-    let a = length-replicate n (let x : List ℕ = [] in x) in
-    let b = length-replicate n (let x : List (List ℕ) = [] in x) in
     record {
-      levels = omega (arith, a, b);
+      levels = refl;
       counts = count;
-      long = λ id c. ap (λ i. length (lineage_of (new_lineages n lineage) i)) (all_of id c) ∙ e;
+      long = λ id c. ap (λ i. length (lineage_of (new_lineages lineage) i)) (all_of id c) ∙ e;
       ancestors = λ id level c le.
           let top = concept_of_new n id c in
           let all = all_of id c in
           let low : level ≡ 0 = omega (arith, top, le) in
           let same : level ≡ level_of id = omega (arith, top, low) in
-          ap (λ i. get_or (lineage_of (new_lineages n lineage) i) level 0) all ∙ ap (λ l. get_or lineage l 0) low ∙ z ∙ sym all ∙ sym (up-self (new_tree n) id level same);
+          ap (λ i. get_or (lineage_of (new_lineages lineage) i) level 0) all ∙ ap (λ l. get_or lineage l 0) low ∙ z ∙ sym all ∙ sym (up-self (new_tree n) id level same);
     }
   where
     all_of : (id : ℕ) → IsConcept (new_tree n) id → id ≡ 0
@@ -37,9 +35,18 @@ AreLineagesOf-new n lineage e z =
         let h = c.number in
         omega (arith, top, one, h)
 
-    count : (level : ℕ) → length (lineages_at (new_lineages n lineage) level) ≡ length (parents_at (new_tree n) level)
+    count : (level : ℕ) → length (lineages_at (new_lineages lineage) level) ≡ length (parents_at (new_tree n) level)
     count zero = refl
-    count (suc k) = ap length (no_lineages n k) ∙ sym (ap length (none_deeper n k))
+    count (suc k) = ap length (no_lineages 8 k) ∙ sym (ap length (none_deeper n k))
+
+-- there is a level for each concept
+pub level_within : (t : Tree) (lineages : Lineages) → AreLineagesOf t lineages → (id : ℕ) → IsConcept t id → level_of id < length lineages
+level_within t lineages a id c = elim (cases_lt (level_of id) (length lineages)) [
+  | inl h ↦ h
+  | inr le ↦
+      let none = ap length (get_or_past lineages (level_of id) [] le) in
+      let n = a.counts (level_of id) in let k = c.number in absurd (omega (arith, none, n, k))
+]
 
 -- A concept more.
 
@@ -81,11 +88,8 @@ pub record CanAddLineage (t : Tree) (lineages : Lineages) (p : ℕ) (lineage : L
 
 pub AreLineagesOf-with_lineage : (t : Tree) (lineages : Lineages) (p : ℕ) (lineage : List ℕ) → CanAddLineage t lineages p lineage → AreLineagesOf (with_child t p) (with_lineage lineages p (longer lineage p (next_under t p)))
 AreLineagesOf-with_lineage t lineages p lineage g =
-    let a = length-set t level (parents_at t level ++ p ∷ []) in
-    let b = length-set lineages level (lineages_at lineages level ++ own ∷ []) in
-    let e = g.lineages_of.levels in
     record {
-      levels = omega (arith, a, b, e);
+      levels = length-set lineages level (lineages_at lineages level ++ own ∷ []) ∙ g.lineages_of.levels;
       counts = λ l. elim (same_or_not l level) [
         | inl q ↦
             let c = length-append (parents_at t level) (p ∷ []) in
@@ -131,7 +135,7 @@ AreLineagesOf-with_lineage t lineages p lineage g =
     own = longer lineage p (next_under t p)
 
     same : lineages_at (with_lineage lineages p own) level ≡ lineages_at lineages level ++ own ∷ []
-    same = let e = g.lineages_of.levels in let lv = g.level in get_or-set_same lineages level (lineages_at lineages level ++ own ∷ []) [] (omega (arith, e, lv))
+    same = let e = g.lineages_of.levels in let lv = g.level in let few = g.tree.few in get_or-set_same lineages level (lineages_at lineages level ++ own ∷ []) [] (omega (arith, e, lv, few))
 
     other : (l : ℕ) → l ≢ level → lineages_at (with_lineage lineages p own) l ≡ lineages_at lineages l
     other l ne = get_or-set_other lineages level l (lineages_at lineages level ++ own ∷ []) [] ne

@@ -1,6 +1,6 @@
 -- Marks, and the pick that they stand for.
 use Rattle.std.proofs.{Common.{ℕ, zero, suc, ◌≡◌, ◌≢◌, ◌+◌, ◌-◌, ◌*◌, ◌<◌, ◌≤◌, List, [], ◌∷◌, ◌++◌, length, get_or, set, take, refl, sym, ap, subst, ◌∙◌, arith, Bool, true, false, eqb, inl, inr, eq-eqb, ◌⊎◌}, lemmas.Bool.{cases_lt, eqb-true}, lemmas.List.{get_or-set_same, get_or-set_other, get_or_append_left, get_or_push, take_more, length-append}, lemmas.List.Folds.list_any-append}
-use Rattle.std.specs.{List.list_any, Prelude.{◌||◌, ◌==◌, nat_lt, if◌then◌else◌}}
+use Rattle.std.specs.{List.list_any, Prelude.{◌||◌, ◌==◌, nat_le, nat_lt, if◌then◌else◌}}
 use Rattle.dim_hierarchy.specs.{Concept.{level_of, number_of, id_of}, Filter.is_picked, Marks.{is_above, mark_of, mark, AreLevelMarks, AreUpperMarks, listed_mark, AreListed, mark_more, noted, Notes, raised, inherited, Inherits}, Tree.{Tree, IsConcept, IsTree, is_under, way_up, parent, parents_at, up}, declared.filter.Pick.Pick, declared.filter.Pick.TheVariants.Ids}
 use Rattle.dim_hierarchy.proofs.Ancestors.{up-IsConcept, level_of-up, up-self, is_under-at, is_under-below}
 
@@ -10,6 +10,14 @@ pub mark_under : (t : Tree) (p : Pick) (id : ℕ) → (mark t p id == 2) ≡ is_
 mark_under t p id = cases (is_picked t p id) (is_above t p id)
   where
     cases : (a b : Bool) → (mark_of a b == 2) ≡ a
+    cases true b = refl
+    cases false true = refl
+    cases false false = refl
+
+pub mark_greatest : (t : Tree) (p : Pick) (id : ℕ) → nat_le 2 (mark t p id) ≡ is_picked t p id
+mark_greatest t p id = cases (is_picked t p id) (is_above t p id)
+  where
+    cases : (a b : Bool) → nat_le 2 (mark_of a b) ≡ a
     cases true b = refl
     cases false true = refl
     cases false false = refl
@@ -24,7 +32,7 @@ mark_some t p id = cases (is_picked t p id) (is_above t p id)
 
 -- Listed concepts.
 
-listed_more : (t : Tree) (ids : List ℕ) (x id : ℕ) → listed_mark t (ids ++ x ∷ []) id ≡ noted t x id (listed_mark t ids id)
+pub listed_more : (t : Tree) (ids : List ℕ) (x id : ℕ) → listed_mark t (ids ++ x ∷ []) id ≡ noted t x id (listed_mark t ids id)
 listed_more t ids x id =
     rw (list_any-append (λ y. id == y) ids (x ∷ []), list_any-append (λ y. is_under t y id) ids (x ∷ []))
     (cases (list_any (λ y. id == y) ids) (list_any (λ y. is_under t y id) ids) (id == x) (is_under t x id))

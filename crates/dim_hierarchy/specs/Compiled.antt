@@ -1,6 +1,7 @@
 -- A filter with a mark for each concept of its hierarchy.
 use Rattle.std.specs.{Coded.{Coded, code_by, coded×, coded_ℕ, coded_list, coded_option}, List.slice_index_or, Prelude.{ℕ, ◌≡◌, ◌<◌, Bool, ◌||◌, Option, Some, None, refl, List, length, All as Each}}
-use Rattle.dim_hierarchy.specs.{Concept.level_of, Dimension.{Dimension, tree}, Filter.{IsFilterOf, is_picked, pick_at}, Marks.{is_above, AreMarksOf}, Stored.dimension_code, Tree.{Tree, IsConcept}, declared.filter.Pick.Pick, declared.filter.Pick.TheVariants.{All, Ids}}
+use Rattle.dim_hierarchy.specs.{Concept.level_of, Dimension.{Dimension, tree}, FewMarks.AreFewMarks, Filter.{IsFilterOf, is_picked, pick_at}, Marks.{is_above, AreMarksOf}, Stored.dimension_code, Tree.{Tree, IsConcept}, declared.dim_marks.DimMarks.DimMarks, declared.filter.Pick.Pick, declared.filter.Pick.TheVariants.{All, Ids}}
+use Rattle.dim_hierarchy.specs.declared.dim_marks.DimMarks.TheVariants as marks
 
 -- a hierarchy, and the picks of a filter of it
 pub record Compiled : Type 0 where
@@ -18,16 +19,17 @@ is_related t p id = is_picked t p id || is_above t p id
 abbrev pub AreOfLevel : Tree → ℕ → List ℕ → Type 0
 AreOfLevel t level ids = Each (λ id. IsConcept t id × (level_of id ≡ level)) ids
 
--- the marks of a pick; there are none where it is All
-abbrev pub AreDimMarks : Tree → Pick → Option (List (List ℕ)) → Type 0
-AreDimMarks t p None = p ≡ All
-AreDimMarks t p (Some marks) = AreMarksOf t p marks
+-- the marks of a pick
+abbrev pub AreDimMarks : Tree → Pick → DimMarks → Type 0
+AreDimMarks t p marks.All = p ≡ All
+AreDimMarks t p (marks.Full m) = AreMarksOf t p m
+AreDimMarks t p (marks.Few m) = AreFewMarks t p m.value
 
 -- the marks of each dimension are those of the filter's pick
-pub record AreFilterMarks (h : List Dimension) (f : List Pick) (marks : List (Option (List (List ℕ)))) : Type 0 where
+pub record AreFilterMarks (h : List Dimension) (f : List Pick) (dims : List DimMarks) : Type 0 where
   pub valid : IsFilterOf h f
-  pub count : length marks ≡ length h
-  pub each : (dim : ℕ) → dim < length h → AreDimMarks (tree h dim) (pick_at f dim) (slice_index_or marks dim None)
+  pub count : length dims ≡ length h
+  pub each : (dim : ℕ) → dim < length h → AreDimMarks (tree h dim) (pick_at f dim) (slice_index_or dims dim marks.All)
 
 -- How these are stored.
 

@@ -14,4 +14,5 @@ pub mod CoordLineages
 pub mod Filter
 pub mod Meaning
 pub mod Marks
+pub mod FewMarks
 pub mod Compiled

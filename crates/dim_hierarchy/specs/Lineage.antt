@@ -16,7 +16,7 @@ lineage_of lineages id = slice_index_or (lineages_at lineages (level_of id)) (nu
 
 -- a lineage of 9 places for each concept of the tree, with its ancestors and itself
 pub record AreLineagesOf (t : Tree) (lineages : Lineages) : Type 0 where
-  pub levels : length lineages ≡ length t
+  pub levels : length lineages ≡ 9
   pub counts : (level : ℕ) → length (lineages_at lineages level) ≡ length (parents_at t level)
   pub long : (id : ℕ) → IsConcept t id → length (lineage_of lineages id) ≡ 9
   pub ancestors : (id level : ℕ) → IsConcept t id → level ≤ level_of id → slice_index_or (lineage_of lineages id) level 0 ≡ up t id level

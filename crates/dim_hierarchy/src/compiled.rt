@@ -9,24 +9,26 @@ ghost use Rattle.dim_hierarchy.specs.Meaning.{Matches};
 
 use crate::column::{Column, RowPlaces};
 use crate::concept::ConceptId;
+use crate::dim_marks::DimMarks;
 use crate::filter::{Filter, Pick};
 use crate::hierarchy::Hierarchy;
-use crate::marks::{DimMarks, UNDER};
+use crate::marks::UNDER;
 use crate::row::Coord;
 use std::alloc::{AllocError, Global};
 use std::marker::Model;
 use std::snapshot::Snapshot;
 
-/// A filter made ready for many questions, with a mark for each concept of the dimensions in which it
-/// lists some. Contracts see its picks, and the hierarchy over which it was made.
+/// A filter made ready for many questions, with marks of concepts of the dimensions in which it lists
+/// some. Contracts see its picks, and the hierarchy over which it was made.
 ///
-/// It takes a byte for each of these concepts, so it is made for a query and let go with it, and what is kept
-/// is the filter. It knows no concept that was added later.
+/// It takes a byte for each concept of such a dimension, or some for each that is listed where these are few, so
+/// it is made for a query and let go with it, and what is kept is the filter. It knows no concept that was
+/// added later.
 #[derive(Drop)]
 pub struct CompiledFilter {
     hierarchy: Snapshot<Hierarchy>,
     picks: Snapshot<Filter>,
-    dims: Vec<Option<DimMarks>>,
+    dims: Vec<DimMarks>,
 }
 
 impl Model for CompiledFilter {
@@ -44,7 +46,7 @@ impl Model for CompiledFilter {
 impl Hierarchy {
     ghost use Rattle.dim_hierarchy.specs.Compiled.{compiled, AreDimMarks};
 
-    /// The filter with a mark for each concept.
+    /// The filter with its marks.
     pub fn compile(&self, alloc: Global, filter: &Filter) -> Result<CompiledFilter, AllocError>
         requires { IsFilterOf self.now filter.now }
         ensures { IfOk result (λ c. c ≡ compiled self.now filter.now) }
@@ -61,20 +63,15 @@ impl Hierarchy {
         })
     }
 
-    /// The marks of the concepts of a dimension; none where all are picked.
-    fn dim_marks(
-        &self,
-        alloc: Global,
-        filter: &Filter,
-        dim: u8,
-    ) -> Result<Option<DimMarks>, AllocError>
+    /// The marks of a dimension.
+    fn dim_marks(&self, alloc: Global, filter: &Filter, dim: u8) -> Result<DimMarks, AllocError>
         requires filter { IsFilterOf self.now filter.now }
         requires dim { dim < length self.now }
         ensures { IfOk result (AreDimMarks (tree self.now dim) (pick_at filter.now dim)) }
     {
         match &filter.as_slice()[usize::from(dim)] {
-            Pick::All => Ok(None),
-            Pick::Ids(ids) => Ok(Some(self.table(dim).marks(alloc, ids.as_slice())?)),
+            Pick::All => Ok(DimMarks::All),
+            Pick::Ids(ids) => self.table(dim).marks(alloc, ids.as_slice()),
         }
     }
 }
@@ -90,13 +87,13 @@ impl CompiledFilter {
         self.dims.len() as u8
     }
 
-    /// The marks of the concepts of a dimension; none where all are picked.
-    fn marks(&self, dim: u8) -> Option<&DimMarks>
+    /// The marks of a dimension.
+    fn marks(&self, dim: u8) -> &DimMarks
         requires { dim < length self.now.hierarchy }
-        ensures marks { AreDimMarks (tree self.now.hierarchy dim) (pick_at self.now.picks dim) (option_map (λ m. m.now) result) }
+        ensures marks { AreDimMarks (tree self.now.hierarchy dim) (pick_at self.now.picks dim) result.now }
         ensures valid { IsFilterOf self.now.hierarchy self.now.picks }
     {
-        self.dims[usize::from(dim)].as_ref()
+        &self.dims[usize::from(dim)]
     }
 
     /// Whether the filter picks the concept in its dimension: it is under a listed one, or all are.
@@ -106,8 +103,9 @@ impl CompiledFilter {
         ensures { result ≡ is_picked (tree self.now.hierarchy dim) (pick_at self.now.picks dim) id }
     {
         match self.marks(dim) {
-            Some(marks) => marks.mark(id) == UNDER,
-            None => true,
+            DimMarks::All => true,
+            DimMarks::Full(marks) => marks.mark(id) == UNDER,
+            DimMarks::Few(marks) => marks.mark(id) == UNDER,
         }
     }
 
@@ -121,8 +119,9 @@ impl CompiledFilter {
             ≡ list_all (is_picked (tree self.now.hierarchy dim) (pick_at self.now.picks dim)) ids.now }
     {
         match self.marks(dim) {
-            Some(marks) => marks.level(level).are_under(ids),
-            None => true,
+            DimMarks::All => true,
+            DimMarks::Full(marks) => marks.level(level).are_under(ids),
+            DimMarks::Few(marks) => marks.are_under(ids),
         }
     }
 
@@ -136,8 +135,9 @@ impl CompiledFilter {
             ≡ list_any (is_related (tree self.now.hierarchy dim) (pick_at self.now.picks dim)) ids.now }
     {
         match self.marks(dim) {
-            Some(marks) => marks.level(level).is_any_related(ids),
-            None => !ids.is_empty(),
+            DimMarks::All => !ids.is_empty(),
+            DimMarks::Full(marks) => marks.level(level).is_any_related(ids),
+            DimMarks::Few(marks) => marks.is_any_related(ids),
         }
     }
 
@@ -149,8 +149,9 @@ impl CompiledFilter {
             ≡ filter (λ place. is_picked (tree self.now.hierarchy dim) (pick_at self.now.picks dim) (slice_index column.now place)) places.old }
     {
         match self.marks(dim) {
-            Some(marks) => marks.leaves().keep(column, places),
-            None => {}
+            DimMarks::All => {}
+            DimMarks::Full(marks) => marks.leaves().keep(column, places),
+            DimMarks::Few(marks) => marks.keep(column, places),
         }
     }
 

@@ -5,8 +5,8 @@ ghost use Rattle.dim_hierarchy.specs.Dimension.{tree};
 ghost use Rattle.dim_hierarchy.specs.Row.{IsCoordOf, concept_at};
 
 use crate::concept::ConceptId;
-use crate::dimension::Lineage;
 use crate::hierarchy::Hierarchy;
+use crate::lineage::Lineage;
 use crate::row::Coord;
 use std::marker::Model;
 use std::snapshot::Snapshot;

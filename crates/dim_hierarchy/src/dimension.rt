@@ -10,9 +10,11 @@ ghost use Rattle.dim_hierarchy.specs.Filter.{is_picked, pick_named, ids_named};
 use crate::concept::ConceptId;
 use crate::filter::{IdList, NamePick, Pick};
 use crate::items::Name;
+use crate::lineage::{LevelLineages, Lineage, Lineages, copied, lineage_of, none};
 use crate::name_table::NameTable;
 use std::alloc::{AllocError, Global};
 use std::marker::Model;
+use std::sync::Arc;
 
 /// The concepts of one level: their parents by number.
 #[derive(Drop)]
@@ -26,31 +28,17 @@ impl Model for Level {
     ghost view = { λ l. l.parents.items };
 }
 
-/// A concept's ancestors by their level, itself at its own, and `ALL` past that.
-pub(crate) type Lineage = [ConceptId; 9];
-
-/// The lineages of the concepts of one level, by number.
-#[derive(Drop)]
-struct LevelLineages {
-    all: Vec<Lineage>,
-}
-
-impl Model for LevelLineages {
-    ghost Value = { List (List ℕ) };
-
-    ghost view = { λ l. l.all.items };
-}
-
 /// A dimension. Contracts see its name, its tree of concepts, and the concepts in order of addition
 /// and by name.
 ///
 /// The tree is the parents in `levels`. The lineages have them too, but read off there a tree would
-/// be a map over lineages in each contract; so both are kept, and any ancestor is one read.
+/// be a map over lineages in each contract; so both are kept, and any ancestor is one read. A compiled
+/// filter may have the lineages too, so they are never changed while it has them.
 #[derive(Drop)]
 pub struct DimensionTable {
     name: Name,
     levels: Vec<Level>,
-    lineages: Vec<LevelLineages>,
+    lineages: Arc<Lineages>,
     order: Vec<ConceptId>,
     names: NameTable,
 }
@@ -59,6 +47,7 @@ impl Model for DimensionTable {
     ghost use Rattle.dim_hierarchy.specs.Dimension.{Dimension};
     ghost use Rattle.dim_hierarchy.specs.Stored.{dimension_code};
     ghost use Rattle.dim_hierarchy.specs.Lineage.{AreLineagesOf};
+    ghost use Rattle.std.specs.Arc.{arc_value};
 
     ghost Value = { Dimension };
 
@@ -66,11 +55,13 @@ impl Model for DimensionTable {
 
     ghost view = { λ d. record { name = d.name; tree = d.levels.items; order = d.order.items; names = d.names } };
 
-    ghost invariant = { λ d. AreLineagesOf d.levels.items d.lineages.items };
+    ghost invariant = { λ d. AreLineagesOf d.levels.items (arc_value d.lineages) };
 }
 
 impl DimensionTable {
+    ghost use Rattle.std.specs.Arc.{arc_value};
     ghost use Rattle.dim_hierarchy.specs.Dimension.{new_dimension, with_concept};
+    ghost use Rattle.dim_hierarchy.specs.Lineage.{AreLineagesOf};
 
     /// A dimension with so many levels below `ALL`, and no concept on them.
     pub fn new(alloc: Global, name: &Name, levels: u8) -> Result<DimensionTable, AllocError>
@@ -80,22 +71,19 @@ impl DimensionTable {
         all.push(Level {
             parents: vec![in alloc; ConceptId::ALL]?,
         })?;
-        let mut lineages = Vec::new(alloc);
-        lineages.push(LevelLineages {
-            all: vec![in alloc; [ConceptId::ALL; 9]]?,
-        })?;
         for _ in 0..levels {
             all.push(Level {
                 parents: Vec::new(alloc),
             })?;
-            lineages.push(LevelLineages {
-                all: Vec::new(alloc),
-            })?;
         }
+        let mut lineages = none(alloc);
+        lineages[0] = LevelLineages {
+            all: vec![in alloc; [ConceptId::ALL; 9]]?,
+        };
         Ok(DimensionTable {
             name: Name::from_bytes(alloc, name.as_slice())?,
             levels: all,
-            lineages,
+            lineages: Arc::new(alloc, lineages)?,
             order: Vec::new(alloc),
             names: NameTable::new(alloc),
         })
@@ -119,12 +107,16 @@ impl DimensionTable {
         // What can fail comes first: the key, room for the parent, the lineage and the id, and
         // the name.
         let key = Name::from_bytes(alloc, name.as_slice())?;
+        self.own_lineages(alloc)?;
         let below = parent.level() + 1;
         let mut own = self.lineage(parent);
         let level = &mut self.levels[usize::from(below)];
         let id = ConceptId::new(below, level.parents.len() as u32);
         own[usize::from(below)] = id;
-        let lineages = &mut self.lineages[usize::from(below)];
+        let Some(table) = Arc::get_mut(&mut self.lineages) else {
+            return Err(AllocError);
+        };
+        let lineages = &mut table[usize::from(below)];
         level.parents.reserve(1)?;
         lineages.all.reserve(1)?;
         self.order.reserve(1)?;
@@ -133,6 +125,23 @@ impl DimensionTable {
         lineages.all.push(own)?;
         self.order.push(id)?;
         Ok(id)
+    }
+
+    /// Has the lineages to itself: it makes a copy where a compiled filter has them too.
+    fn own_lineages(&mut self, alloc: Global) -> Result<(), AllocError>
+        ensures { self.new ≡ self.old }
+    {
+        if Arc::strong_count(&self.lineages) > 1 {
+            self.lineages = Arc::new(alloc, copied(alloc, &self.lineages)?)?;
+        }
+        Ok(())
+    }
+
+    /// The lineages of the concepts, shared.
+    pub(crate) fn shared_lineages(&self) -> Result<Arc<Lineages>, AllocError>
+        ensures { IfOk result (λ shared. AreLineagesOf self.now.tree (arc_value shared)) }
+    {
+        Arc::try_clone(&self.lineages)
     }
 
     /// The dimension's name.
@@ -148,6 +157,13 @@ impl DimensionTable {
         ensures { result ≡ leaf_level self.now.tree }
     {
         (self.levels.len() - 1) as u8
+    }
+
+    /// How many concepts there are, without `ALL`.
+    pub(crate) fn concepts(&self) -> usize
+        ensures { result ≡ length self.now.order }
+    {
+        self.order.len()
     }
 
     /// How many concepts a level has.
@@ -202,8 +218,7 @@ impl DimensionTable {
         ensures ancestors { (level : ℕ) → level ≤ level_of id
             → slice_index_or result level 0 ≡ up self.now.tree id level }
     {
-        let lineages = &self.lineages[usize::from(id.level())];
-        lineages.all[id.number() as usize]
+        *lineage_of(&self.lineages, id)
     }
 
     /// The ancestor of a concept at a level that is not below its own.
@@ -213,8 +228,7 @@ impl DimensionTable {
         requires level { level ≤ level_of id }
         ensures { result ≡ up self.now.tree id level }
     {
-        let lineages = &self.lineages[usize::from(id.level())];
-        lineages.all[id.number() as usize][usize::from(level)]
+        lineage_of(&self.lineages, id)[usize::from(level)]
     }
 
     /// Whether the first concept is the second or is reached from it by parents.

@@ -14,10 +14,10 @@ use std::alloc::{AllocError, Global};
 use std::marker::Model;
 
 /// The mark of a concept that is neither `ABOVE` nor `UNDER`.
-const APART: u8 = 0;
+pub(crate) const APART: u8 = 0;
 
 /// The mark of a concept that is not under a listed one, and above one.
-const ABOVE: u8 = 1;
+pub(crate) const ABOVE: u8 = 1;
 
 /// The mark of a concept that the pick has.
 pub const UNDER: u8 = 2;
@@ -34,14 +34,14 @@ impl Model for LevelMarks {
     ghost view = { λ m. m.all.items };
 }
 
-/// The marks of the concepts of one dimension by a pick: whether it has the concept, and else
+/// The marks of all concepts of one dimension by a pick: whether it has the concept, and else
 /// whether the concept lies above a listed one.
 #[derive(Drop)]
-pub struct DimMarks {
+pub struct FullMarks {
     levels: Vec<LevelMarks>,
 }
 
-impl Model for DimMarks {
+impl Model for FullMarks {
     ghost Value = { List (List ℕ) };
 
     ghost view = { λ m. m.levels.items };
@@ -81,7 +81,7 @@ impl LevelMarks {
     }
 }
 
-impl DimMarks {
+impl FullMarks {
     /// The mark of a concept.
     pub fn mark(&self, id: ConceptId) -> u8
         requires level { level_of id < length self.now }
@@ -110,8 +110,12 @@ impl DimMarks {
 }
 
 impl DimensionTable {
-    /// The marks of the concepts where these are listed.
-    pub fn marks(&self, alloc: Global, ids: &[ConceptId]) -> Result<DimMarks, AllocError>
+    /// A mark for each concept, where these are listed.
+    pub(crate) fn full_marks(
+        &self,
+        alloc: Global,
+        ids: &[ConceptId],
+    ) -> Result<FullMarks, AllocError>
         requires tree { IsTree self.now.tree }
         requires ids { All (IsConcept self.now.tree) ids.now }
         ensures { IfOk result (AreMarksOf self.now.tree (Ids ids.now)) }
@@ -122,7 +126,7 @@ impl DimensionTable {
             let marks = self.level_marks(alloc, ids, level, levels.as_slice())?;
             levels.push(marks)?;
         }
-        Ok(DimMarks { levels })
+        Ok(FullMarks { levels })
     }
 
     /// The marks of the concepts of a level, by those of the levels above.
@@ -193,7 +197,10 @@ impl DimensionTable {
     {
         if level > 0 {
             let above = &upper[usize::from(level - 1)];
-            self.inherit_from(level, above.all.as_slice(), marks);
+            // Where the pick has no concept of the level above, the many concepts of this one are passed over.
+            if above.all.as_slice().contains(&UNDER) {
+                self.inherit_from(level, above.all.as_slice(), marks);
+            }
         }
     }
 

@@ -1,10 +1,6 @@
 use Rattle.std.proofs.Common.{◌≡◌, [], ◌∷◌}
 use Rattle.std.specs.Prelude.{replicate}
-use Rattle.dim_hierarchy.proofs.Lineages.{new_lineages}
 use Rattle.dim_hierarchy.proofs.dimension.DimensionTable.new.Given as goal
 
 abbrev pub invariant-loop : goal.invariant-loop
-invariant-loop l = record {
-  parents : l.all.items ≡ (0 ∷ []) ∷ replicate l.counter [];
-  lineages : l.lineages.items ≡ new_lineages l.counter (replicate 9 0);
-}
+invariant-loop l = l.all.items ≡ (0 ∷ []) ∷ replicate l.counter []

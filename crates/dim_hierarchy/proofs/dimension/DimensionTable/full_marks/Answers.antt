@@ -1,6 +1,6 @@
 use Rattle.dim_hierarchy.specs.declared.filter.Pick.TheVariants.{Ids}
 use Rattle.dim_hierarchy.proofs.Marking.{AreUpperMarks-more}
-use Rattle.dim_hierarchy.proofs.dimension.DimensionTable.marks.Goals as goal
+use Rattle.dim_hierarchy.proofs.dimension.DimensionTable.full_marks.Goals as goal
 
 pub loop-level-preserved : goal.loop-level-preserved
 loop-level-preserved c =
