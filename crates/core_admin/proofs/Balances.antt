@@ -1,6 +1,6 @@
 -- A balance reads loads, and plans.
 pub mod PlanShards
 pub mod LoadLists
-mod LoadsRead
-mod ReadsLoads
-mod LoadsHere
+pub mod LoadsRead
+pub mod ReadsLoads
+pub mod LoadsHere

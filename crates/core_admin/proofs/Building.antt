@@ -2,6 +2,6 @@
 pub mod Spends
 pub mod BuildsHere
 pub mod MadeTrees
-mod BuildsBlock
+pub mod BuildsBlock
 pub mod BuiltUp
-mod NewTree
+pub mod NewTree

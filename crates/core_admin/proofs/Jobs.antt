@@ -2,9 +2,9 @@
 pub mod Staging
 pub mod Controls
 pub mod Stages
-mod JobsGoOn
-mod TurnedCommands
-mod FinishedCommands
-mod NextJobs
+pub mod JobsGoOn
+pub mod TurnedCommands
+pub mod FinishedCommands
+pub mod NextJobs
 pub mod Finishings
-mod FinishedJob
+pub mod FinishedJob

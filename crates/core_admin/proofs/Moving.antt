@@ -1,9 +1,9 @@
 -- A move at its end.
-mod MovedShards
-mod MovesLineage
-mod MovedKnown
-mod BalanceDone
-mod MovesShard
-mod FinishesMove
+pub mod MovedShards
+pub mod MovesLineage
+pub mod MovedKnown
+pub mod BalanceDone
+pub mod MovesShard
+pub mod FinishesMove
 pub mod FinishReady
 pub mod MoveMade

@@ -1,4 +1,4 @@
 -- A job is given up.
-mod Returned
-mod PostponesJob
-mod PostponeReady
+pub mod Returned
+pub mod PostponesJob
+pub mod PostponeReady

@@ -1,4 +1,4 @@
 -- A gate retires, and open gates take its rows.
-mod Gates
-mod Trees
-mod Left
+pub mod Gates
+pub mod Trees
+pub mod Left

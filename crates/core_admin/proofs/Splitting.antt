@@ -1,11 +1,11 @@
 -- A split at its end.
-mod SplitKnown
-mod SplitsShard
-mod SplitSides
-mod SplitShards
-mod SplitsLineage
-mod SplitBoxes
-mod FinishesSplit
+pub mod SplitKnown
+pub mod SplitsShard
+pub mod SplitSides
+pub mod SplitShards
+pub mod SplitsLineage
+pub mod SplitBoxes
+pub mod FinishesSplit
 pub mod ChildGates
 pub mod SplitReady
 pub mod SplitMade

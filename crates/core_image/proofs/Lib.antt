@@ -1,5 +1,5 @@
 pub mod Images
-pub mod Kinds
+pub mod EachStep
 pub mod Rows
 pub mod Here
 pub mod Commands

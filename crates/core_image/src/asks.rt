@@ -30,15 +30,15 @@ pub fn note_asking(
     ledger_at: u32,
     ledger: &mut Cell,
     actor: &mut Actor,
-    call: Call,
+    call: &Call,
     workers: u8,
 ) -> Result<(), AllocError>
     requires here { IsHere h.now (held registry_at (cell_of registry.old) ∷ held ledger_at (cell_of ledger.old) ∷ []) (actor_of actor.old) }
-    requires due { CanNoteAsking call workers (cell_of registry.old) (cell_of ledger.old) (actor_of actor.old) }
+    requires due { CanNoteAsking call.now workers (cell_of registry.old) (cell_of ledger.old) (actor_of actor.old) }
     ensures made { OnOk result (Makes h.now Note
         (change registry_at (cell_of registry.old) (cell_of registry.new) ∷ change ledger_at (cell_of ledger.old) (cell_of ledger.new) ∷ [])
         (actor_of actor.old) (actor_of actor.new)) }
-    ensures told { OnOk result (Tells (called_by call) (actor_of actor.old) (cell_of ledger.old) (cell_of ledger.new)) }
+    ensures told { OnOk result (Tells (called_by call.now) (actor_of actor.old) (cell_of ledger.old) (cell_of ledger.new)) }
     ensures refused { OnErr result ((registry.new ≡ registry.old) × (ledger.new ≡ ledger.old) × (actor_of actor.new ≡ actor_of actor.old)) }
 {
     let _ = h;

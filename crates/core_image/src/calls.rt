@@ -25,12 +25,12 @@ pub fn note_called(
     ledger_at: u32,
     ledger: &mut Cell,
     actor: &mut Actor,
-    call: Call,
+    call: &Call,
 ) -> Result<(), AllocError>
     requires here { IsHere h.now (held ledger_at (cell_of ledger.old) ∷ []) (actor_of actor.old) }
-    requires due { CanNoteCalled call (cell_of ledger.old) (actor_of actor.old) }
+    requires due { CanNoteCalled call.now (cell_of ledger.old) (actor_of actor.old) }
     ensures made { OnOk result (Makes h.now Note (change ledger_at (cell_of ledger.old) (cell_of ledger.new) ∷ []) (actor_of actor.old) (actor_of actor.new)) }
-    ensures told { OnOk result (Tells (called_by call) (actor_of actor.old) (cell_of ledger.old) (cell_of ledger.new)) }
+    ensures told { OnOk result (Tells (called_by call.now) (actor_of actor.old) (cell_of ledger.old) (cell_of ledger.new)) }
     ensures refused { OnErr result ((ledger.new ≡ ledger.old) × (actor_of actor.new ≡ actor_of actor.old)) }
 {
     let _ = h;
@@ -70,12 +70,13 @@ fn begun(class: Class) -> Work
 pub(crate) fn push_called(
     ledger: &mut Ledger,
     session: u16,
-    call: Call,
+    call: &Call,
     work: &Work,
 ) -> Result<(), AllocError>
-    ensures ok { OnOk result (Notes (Called session call) (1 + owes work.now) 1 ledger.old ledger.new) }
+    ensures ok { OnOk result (Notes (Called session call.now) (1 + owes work.now) 1 ledger.old ledger.new) }
     ensures err { OnErr result (ledger.new ≡ ledger.old) }
 {
+    let call = call.clone()?;
     ledger.reserve(1 + owed(work))?;
     ledger.push(Event::Called { session, call });
     Ok(())

@@ -5,7 +5,7 @@ use Rattle.query_router.specs.{Desk.is_taken, declared.part.Part.Part, declared.
 use Rattle.query_router.specs.declared.part.PartState.TheVariants as state
 use Rattle.row_ledger.specs.Past.{Ack, Insert, acked, insert_at}
 use Rattle.volap_cell.proofs.Desks.Inserts.{taken-way}
-use Rattle.volap_cell.specs.{Desking.{IsInsertState, IsTaken}, Errands.{RowWay, Taken, has_passed}, Ghost.Ghost, Invariant.InvWith, Placing.{IsRouted, IsRowPart}, Setting.Setting, View.view, World.World, declared.command.Command.Command}
+use Rattle.volap_cell.specs.{Desking.{IsInsertState, IsTaken}, Errands.{RowWay, has_passed}, Ghost.Ghost, Invariant.InvWith, Placing.{IsRouted, IsRowPart}, Setting.Setting, View.view, World.World, declared.command.Command.Command}
 use Rattle.volap_cell.specs.declared.command.Work.TheVariants as work_is
 
 -- the insert's part is placed on its desk

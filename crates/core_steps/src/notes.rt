@@ -68,12 +68,12 @@ pub fn note_called(
     state: &mut State,
     number: usize,
     ledger_at: u32,
-    call: Call,
+    call: &Call,
 ) -> Result<(), AllocError>
     requires state { HasInv h.now state.old.cells.items state.old.actors.items }
-    requires ready { MayStep state.old.cells.items state.old.actors.items (ledger_at ∷ []) number (NotesCalled call) }
+    requires ready { MayStep state.old.cells.items state.old.actors.items (ledger_at ∷ []) number (NotesCalled call.now) }
     ensures stepped { OnOk result (Stepped h.now Note number state.old.cells.items state.old.actors.items state.new.cells.items state.new.actors.items) }
-    ensures told { OnOk result (Adds (called_by call) number ledger_at state.old.cells.items state.old.actors.items state.new.cells.items state.new.actors.items) }
+    ensures told { OnOk result (Adds (called_by call.now) number ledger_at state.old.cells.items state.old.actors.items state.new.cells.items state.new.actors.items) }
     ensures stays { OnErr result (Stays state.old.cells.items state.old.actors.items state.new.cells.items state.new.actors.items) }
 {
     let (cells, actors) = (&mut state.cells, &mut state.actors);
@@ -95,13 +95,13 @@ pub fn note_asking(
     number: usize,
     registry_at: u32,
     ledger_at: u32,
-    call: Call,
+    call: &Call,
     workers: u8,
 ) -> Result<(), AllocError>
     requires state { HasInv h.now state.old.cells.items state.old.actors.items }
-    requires ready { MayStep state.old.cells.items state.old.actors.items (registry_at ∷ ledger_at ∷ []) number (NotesAsking call workers) }
+    requires ready { MayStep state.old.cells.items state.old.actors.items (registry_at ∷ ledger_at ∷ []) number (NotesAsking call.now workers) }
     ensures stepped { OnOk result (Stepped h.now Note number state.old.cells.items state.old.actors.items state.new.cells.items state.new.actors.items) }
-    ensures told { OnOk result (Adds (called_by call) number ledger_at state.old.cells.items state.old.actors.items state.new.cells.items state.new.actors.items) }
+    ensures told { OnOk result (Adds (called_by call.now) number ledger_at state.old.cells.items state.old.actors.items state.new.cells.items state.new.actors.items) }
     ensures stays { OnErr result (Stays state.old.cells.items state.old.actors.items state.new.cells.items state.new.actors.items) }
 {
     let (cells, actors) = (&mut state.cells, &mut state.actors);

@@ -2,4 +2,4 @@ pub mod Stocks
 pub mod Rows
 pub mod Queries
 pub mod Calls
-pub mod Kinds
+pub mod EachStep

@@ -1,11 +1,11 @@
 -- The ledger in its cell, of a core that one thread holds.
 use Rattle.std.proofs.{Common.{◌≡◌, ◌∙◌, ℕ, zero, suc, true, false, eqb, List, [], ◌∷◌, length, get_or, set, Option, Some, None, refl, sym, ap, subst, arith}, lemmas.Bool.ne_eqb, lemmas.List.length-set, lemmas.List.Elements.{All-cons, All-from_get_or, All-tail}}
-use Rattle.std.specs.{Option.option_map_or, Prelude.{All, is_some}}
+use Rattle.std.specs.Prelude.{All, is_some}
 use Rattle.dim_hierarchy.specs.Dimension.{Dimension}
 use Rattle.row_ledger.specs.{LedgerValue.LedgerValue, declared.settings.Use.Use}
 use Rattle.seeded_run.proofs.Worlds.{only-world, one-setting}
 use Rattle.seeded_run.specs.Phase.{IsCoreHeld, about, held}
-use Rattle.volap_cell.specs.{Cells.{FreeCell, LedgerCell, cell_of}, Setting.{actor_count, cell_count, ledger_cell}, State.Has, Steps.Inv, Values.actor_of, World.{change, put}, declared.actor.Actor.Actor, declared.cell.Cell.Cell, declared.state.State.State}
+use Rattle.volap_cell.specs.{Cells.{FreeCell, LedgerCell, cell_of}, Filling.cell_or, Setting.{actor_count, cell_count, ledger_cell}, State.Has, Steps.Inv, Values.actor_of, World.{change, put}, declared.actor.Actor.Actor, declared.cell.Cell.Cell, declared.state.State.State}
 use Rattle.volap_cell.specs.declared.cell.Cell.TheVariants as cell
 use Rattle.olap_top.specs.OneRun.{IsWhole}
 
@@ -19,10 +19,10 @@ held-inv h with x core =
 
 -- The cells once the ledger was moved out of its cell and back.
 pub cells-back : (xs : List (Option Cell)) (b : Cell) (l : LedgerValue) → get_or xs 0 None ≡ Some b → cell_of b ≡ LedgerCell l → (y : ℕ)
-    → put (change ledger_cell FreeCell (LedgerCell l) ∷ []) (λ z. option_map_or cell_of (get_or (set (set xs 0 None) 0 (Some cell.Free)) z None) FreeCell) y
-    ≡ option_map_or cell_of (get_or xs y None) FreeCell
+    → put (change ledger_cell FreeCell (LedgerCell l) ∷ []) (λ z. cell_or (get_or (set (set xs 0 None) 0 (Some cell.Free)) z None)) y
+    ≡ cell_or (get_or xs y None)
 cells-back [] b l at is y = cc
-cells-back (x ∷ xs) b l at is zero = sym is ∙ ap (λ (o : Option Cell). option_map_or cell_of o FreeCell) (sym at)
+cells-back (x ∷ xs) b l at is zero = sym is ∙ ap cell_or (sym at)
 cells-back (x ∷ xs) b l at is (suc y) = let other : eqb (suc y) 0 ≡ false = ne_eqb (suc y) 0 (λ e. absurd (omega (arith, e))) in rw other refl
 
 pub cell-freed : (xs : List (Option Cell)) (b : Cell) → get_or xs 0 None ≡ Some b → get_or (set (set xs 0 None) 0 (Some cell.Free)) 0 None ≡ Some cell.Free

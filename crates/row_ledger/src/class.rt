@@ -35,18 +35,21 @@ pub enum Class {
 
 impl Call {
     /// The class of the command.
-    pub fn class(self) -> Class
-        ensures { result ≡ class_of self }
+    pub fn class(&self) -> Class
+        ensures { result ≡ class_of self.now }
     {
         match self {
-            Call::Sync(server) => Class::Sync(server),
-            Call::Split(shard) => Class::Action(Action::Split { shard }),
-            Call::Move(shard, worker) => Class::Action(Action::Move { shard, worker }),
-            Call::Balance(most) => Class::Balance(most),
+            Call::Sync(server) => Class::Sync(*server),
+            Call::Split(shard) => Class::Action(Action::Split { shard: *shard }),
+            Call::Move(shard, worker) => Class::Action(Action::Move {
+                shard: *shard,
+                worker: *worker,
+            }),
+            Call::Balance(most) => Class::Balance(*most),
             Call::Barrier => Class::Bare,
             Call::Settle => Class::Settle,
             Call::Shards => Class::Page(Subject::Shards),
-            Call::Tree(shard) => Class::Page(Subject::Tree(shard)),
+            Call::Tree(shard) => Class::Page(Subject::Tree(*shard)),
             Call::Audit => Class::Page(Subject::Rows),
         }
     }

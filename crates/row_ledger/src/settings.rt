@@ -9,7 +9,7 @@ pub struct Use {
 }
 
 /// A command that is no insert and no query.
-#[derive(Clone, Copy, Debug, PartialEq, Eq)]
+#[derive(Clone, Debug, Drop, PartialEq, Eq)]
 pub enum Call {
     /// The server pushes what it has seen grow, and pulls the shards that stand.
     Sync(u8),

@@ -11,7 +11,7 @@ use script_form::{Command, Commands, NewRow, Question, Script, read_script};
 use std::alloc::{AllocError, Global};
 
 /// A line of a script over one dimension.
-#[derive(Clone, Copy)]
+#[derive(Clone, Drop)]
 pub(crate) enum Line {
     /// A row that comes through a server: its measure and its name.
     Insert(u8, i64, &'static str),
@@ -52,11 +52,11 @@ fn query(alloc: Global, server: u8, picked: &[&str]) -> Result<Command, AllocErr
 }
 
 /// The command of a line.
-fn command(alloc: Global, line: Line) -> Result<Command, AllocError> {
+fn command(alloc: Global, line: &Line) -> Result<Command, AllocError> {
     match line {
-        Line::Insert(server, measures, name) => insert(alloc, server, measures, name),
-        Line::Query(server, picked) => query(alloc, server, picked),
-        Line::Call(call) => Ok(Command::Control(call)),
+        Line::Insert(server, measures, name) => insert(alloc, *server, *measures, name),
+        Line::Query(server, picked) => query(alloc, *server, picked),
+        Line::Call(call) => Ok(Command::Control(call.clone()?)),
     }
 }
 
@@ -116,7 +116,7 @@ fn add_line(
     h: &Hierarchy,
     with: &Use,
     commands: &mut Commands,
-    line: Line,
+    line: &Line,
 ) -> Result<(), AllocError>
     requires { All (MayRun h.now with.now) commands.old }
     ensures { OnOk result (All (MayRun h.now with.now) commands.new) }
@@ -139,7 +139,7 @@ fn commands(
 {
     let mut commands = Commands::new(alloc);
     for line in lines {
-        add_line(alloc, h, with, &mut commands, *line)?;
+        add_line(alloc, h, with, &mut commands, line)?;
     }
     Ok(commands)
 }

@@ -30,6 +30,9 @@ fn behind(alloc: Global, lines: &[Line]) -> Result<(usize, usize), AllocError> {
 
 const SETTLE: Line = Line::Call(Call::Settle);
 
+/// A row in one city, through the first server.
+const ROW: Line = Line::Insert(0, 1, "berlin");
+
 #[test]
 fn pulls_share_a_listing_while_nothing_changes(rt: HostRuntime) -> Result<(), Fail> {
     let alloc = rt.alloc();
@@ -38,12 +41,11 @@ fn pulls_share_a_listing_while_nothing_changes(rt: HostRuntime) -> Result<(), Fa
     // The first pull of a settle lists anew, and the registry keeps that for the other three.
     assert_eq!(rt; behind(alloc, &[SETTLE])?, (5, 2));
     assert_eq!(rt; behind(alloc, &[SETTLE, SETTLE, SETTLE])?, (13, 2));
-    let row = Line::Insert(0, 1, "berlin");
     // A row grows a box, and a second one of its kind grows none.
-    assert_eq!(rt; behind(alloc, &[SETTLE, row, SETTLE])?, (5, 2));
-    assert_eq!(rt; behind(alloc, &[row, SETTLE, row, SETTLE])?, (9, 2));
+    assert_eq!(rt; behind(alloc, &[SETTLE, ROW, SETTLE])?, (5, 2));
+    assert_eq!(rt; behind(alloc, &[ROW, SETTLE, ROW, SETTLE])?, (9, 2));
     let other = Line::Insert(0, 1, "munich");
-    assert_eq!(rt; behind(alloc, &[row, SETTLE, other, SETTLE])?, (5, 2));
+    assert_eq!(rt; behind(alloc, &[ROW, SETTLE, other, SETTLE])?, (5, 2));
     // A shard that is moved is listed anew, with its worker.
     let moved = Line::Call(Call::Move(0, 1));
     assert_eq!(rt; behind(alloc, &[SETTLE, moved, SETTLE])?, (5, 2));

@@ -253,7 +253,9 @@ const STORIES: [Story; 6] = [
 fn lines_before(alloc: Global, story: &Story) -> Result<Vec<Line>, AllocError> {
     let mut lines = Vec::new(alloc);
     for _ in 0..story.times {
-        lines.extend_from_slice(story.before)?;
+        for line in story.before {
+            lines.push(line.clone()?)?;
+        }
     }
     lines.push(Line::Call(Call::Settle))?;
     Ok(lines)

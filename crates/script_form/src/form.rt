@@ -12,8 +12,8 @@ use csv::ByteRecord;
 
 /// The kind of a record that may stand behind so many records, of which this is the script; else
 /// its first cause. What the hierarchy says against it is not asked here.
-pub(crate) fn kind_at(at: u64, script: &Script, row: &ByteRecord) -> Result<Kind, Cause>
-    ensures ok { IfOk result (λ kind. MayStand at script.now kind (fields_of row.now)) }
+pub(crate) fn kind_at(at: u64, script: &Script, row: &ByteRecord) -> Result<&'static Kind, Cause>
+    ensures ok { IfOk result (λ kind. MayStand at script.now kind.now (fields_of row.now)) }
     ensures err { IfErr result (λ cause. cause_at at script.now (fields_of row.now) ≡ Some cause) }
 {
     if at == 0 && !is_version(row) {
@@ -45,8 +45,8 @@ fn is_version(row: &ByteRecord) -> bool
 }
 
 /// Whether a record of this kind may not stand here.
-fn is_wrong_order(at: u64, script: &Script, kind: Kind) -> bool
-    ensures { result ≡ wrong_order at script.now kind }
+fn is_wrong_order(at: u64, script: &Script, kind: &Kind) -> bool
+    ensures { result ≡ wrong_order at script.now kind.now }
 {
     match kind {
         Kind::Volap => at != 0,
@@ -57,8 +57,8 @@ fn is_wrong_order(at: u64, script: &Script, kind: Kind) -> bool
 }
 
 /// Whether a field that must be a number is none in its range.
-fn is_wrong_number(servers: u8, kind: Kind, row: &ByteRecord) -> bool
-    ensures { result ≡ wrong_number servers kind (fields_of row.now) }
+fn is_wrong_number(servers: u8, kind: &Kind, row: &ByteRecord) -> bool
+    ensures { result ≡ wrong_number servers kind.now (fields_of row.now) }
 {
     for (i, must) in form_of(kind).fields.iter().enumerate() {
         if !is_number(servers, *must, field(row, i + 1)) {
@@ -82,8 +82,8 @@ fn is_number(servers: u8, must: Field, text: &[u8]) -> bool
 }
 
 /// Whether a field that must be a name, or a piece of a filter, is none.
-fn is_wrong_name(kind: Kind, row: &ByteRecord) -> bool
-    ensures { result ≡ wrong_name kind (fields_of row.now) }
+fn is_wrong_name(kind: &Kind, row: &ByteRecord) -> bool
+    ensures { result ≡ wrong_name kind.now (fields_of row.now) }
 {
     let form = form_of(kind);
     for (i, must) in form.fields.iter().enumerate() {

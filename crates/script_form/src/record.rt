@@ -58,13 +58,13 @@ pub(crate) fn take_record(
 fn add_record(
     alloc: Global,
     script: &mut Script,
-    kind: Kind,
+    kind: &Kind,
     row: &ByteRecord,
 ) -> Result<(), RecordFault>
-    requires { HasForm script.old kind (fields_of row.now) }
-    ensures no_cause { OnOk result (hierarchy_cause script.old.hierarchy kind (fields_of row.now) ≡ None) }
+    requires { HasForm script.old kind.now (fields_of row.now) }
+    ensures no_cause { OnOk result (hierarchy_cause script.old.hierarchy kind.now (fields_of row.now) ≡ None) }
     ensures ok { OnOk result (script.new ≡ after script.old (fields_of row.now)) }
-    ensures cause { IfErr result (TellsCause (hierarchy_cause script.old.hierarchy kind (fields_of row.now))) }
+    ensures cause { IfErr result (TellsCause (hierarchy_cause script.old.hierarchy kind.now (fields_of row.now))) }
     ensures err { OnErr result (script.new ≡ script.old) }
 {
     match kind {
@@ -91,9 +91,9 @@ fn add_record(
 }
 
 /// A call with the numbers of a record in place of its own.
-fn filled(call: Call, row: &ByteRecord) -> Call
-    requires { wrong_number 256 (kind.Called call) (fields_of row.now) ≡ false }
-    ensures { result ≡ filled call (fields_of row.now) }
+fn filled(call: &Call, row: &ByteRecord) -> Call
+    requires { wrong_number 256 (kind.Called call.now) (fields_of row.now) ≡ false }
+    ensures { result ≡ filled call.now (fields_of row.now) }
 {
     match call {
         Call::Sync(_) => Call::Sync(value_u8(field(row, 1))),
@@ -101,7 +101,10 @@ fn filled(call: Call, row: &ByteRecord) -> Call
         Call::Move(_, _) => Call::Move(value_u32(field(row, 1)), value_u8(field(row, 2))),
         Call::Balance(_) => Call::Balance(value_u8(field(row, 1))),
         Call::Tree(_) => Call::Tree(value_u32(field(row, 1))),
-        other => other,
+        Call::Barrier => Call::Barrier,
+        Call::Settle => Call::Settle,
+        Call::Shards => Call::Shards,
+        Call::Audit => Call::Audit,
     }
 }
 

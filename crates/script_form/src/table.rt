@@ -1,8 +1,10 @@
 //! The table of the records: for each kind its word, the fields behind it, and what follows for
 //! each dimension. All that is said of one kind alone is said here, but for what its record adds.
 ghost use Rattle.std.specs.Prelude.{◌≡◌, ◌≤◌};
+ghost use Rattle.std.specs.Option.{option_copied};
 ghost use Rattle.script_form.specs.Table.{form_of, kind_of, width};
 ghost use Rattle.script_form.specs.declared.table.Each.TheVariants as each;
+ghost use Rattle.script_form.specs.declared.table.Kind.TheVariants as kind;
 
 use crate::limits::{
     FEWEST_CELLS, MOST_ACTIONS, MOST_CELLS, MOST_LEVELS, MOST_SERVERS, MOST_THREADS, MOST_WORKERS,
@@ -12,7 +14,7 @@ use crate::script::Command;
 use row_ledger::Call;
 
 /// What a record is. The numbers of a call are zeros in its kind, as they stand in the record.
-#[derive(Clone, Copy)]
+#[derive(Drop)]
 pub(crate) enum Kind {
     Volap,
     Use,
@@ -65,7 +67,7 @@ pub(crate) struct Form {
 const SHARD: Field = Field::Below(SHARD_IDS);
 
 /// All kinds.
-const KINDS: [Kind; 15] = [
+const KINDS: &[Kind] = &[
     Kind::Volap,
     Kind::Use,
     Kind::Dim,
@@ -102,10 +104,10 @@ fn plain(word: &'static str, fields: &'static [Field]) -> Form
 }
 
 /// The row of a kind, whatever the numbers of a call are.
-pub(crate) fn form_of(kind: Kind) -> Form
-    ensures word { result.word.now ≡ (form_of kind).word }
-    ensures fields { result.fields.now ≡ (form_of kind).fields }
-    ensures each { result.each ≡ (form_of kind).each }
+pub(crate) fn form_of(kind: &Kind) -> Form
+    ensures word { result.word.now ≡ (form_of kind.now).word }
+    ensures fields { result.fields.now ≡ (form_of kind.now).fields }
+    ensures each { result.each ≡ (form_of kind.now).each }
 {
     match kind {
         Kind::Volap => plain("volap", &[Field::Any]),
@@ -122,34 +124,42 @@ pub(crate) fn form_of(kind: Kind) -> Form
         Kind::Concept => plain("concept", &[Field::Name, Field::Name, Field::Parent]),
         Kind::Insert => row("insert", &[Field::Server, Field::Measure], Each::Name),
         Kind::Query => row("query", &[Field::Server], Each::Pick),
-        Kind::Called(Call::Sync(_)) => plain("sync", &[Field::Server]),
-        Kind::Called(Call::Split(_)) => plain("split", &[SHARD]),
-        Kind::Called(Call::Move(_, _)) => plain("move", &[SHARD, Field::Below(WORKER_IDS)]),
-        Kind::Called(Call::Balance(_)) => plain("balance", &[Field::Range(1, MOST_ACTIONS)]),
-        Kind::Called(Call::Barrier) => plain("barrier", &[]),
-        Kind::Called(Call::Settle) => plain("settle", &[]),
-        Kind::Called(Call::Shards) => plain("shards", &[]),
-        Kind::Called(Call::Tree(_)) => plain("tree", &[SHARD]),
-        Kind::Called(Call::Audit) => plain("audit", &[]),
+        Kind::Called(call) => form_of_call(call),
+    }
+}
+
+/// The row of a called command, whatever its numbers are.
+fn form_of_call(call: &Call) -> Form
+    ensures word { result.word.now ≡ (form_of (kind.Called call.now)).word }
+    ensures fields { result.fields.now ≡ (form_of (kind.Called call.now)).fields }
+    ensures each { result.each ≡ (form_of (kind.Called call.now)).each }
+{
+    match call {
+        Call::Sync(_) => plain("sync", &[Field::Server]),
+        Call::Split(_) => plain("split", &[SHARD]),
+        Call::Move(_, _) => plain("move", &[SHARD, Field::Below(WORKER_IDS)]),
+        Call::Balance(_) => plain("balance", &[Field::Range(1, MOST_ACTIONS)]),
+        Call::Barrier => plain("barrier", &[]),
+        Call::Settle => plain("settle", &[]),
+        Call::Shards => plain("shards", &[]),
+        Call::Tree(_) => plain("tree", &[SHARD]),
+        Call::Audit => plain("audit", &[]),
     }
 }
 
 /// The kind that a first field names.
-pub(crate) fn kind_of(word: &[u8]) -> Option<Kind>
-    ensures { result ≡ kind_of word.now }
+pub(crate) fn kind_of(word: &[u8]) -> Option<&'static Kind>
+    ensures { option_copied result ≡ kind_of word.now }
 {
-    for kind in KINDS {
-        if word == form_of(kind).word.as_bytes() {
-            return Some(kind);
-        }
-    }
-    None
+    KINDS
+        .iter()
+        .find(|kind| word == form_of(kind).word.as_bytes())
 }
 
 /// How many fields a record of a kind has where there are so many dimensions.
-pub(crate) fn width(kind: Kind, dims: u8) -> usize
+pub(crate) fn width(kind: &Kind, dims: u8) -> usize
     requires { dims ≤ 8 }
-    ensures { result ≡ width kind dims }
+    ensures { result ≡ width kind.now dims }
 {
     let form = form_of(kind);
     let each = match form.each {
@@ -167,11 +177,11 @@ impl Command {
     pub fn word(&self) -> &'static str
         ensures { result.now ≡ word_of self.now }
     {
-        let kind = match self {
-            Command::Insert(_) => Kind::Insert,
-            Command::Query(_) => Kind::Query,
-            Command::Control(call) => Kind::Called(*call),
+        let form = match self {
+            Command::Insert(_) => form_of(&Kind::Insert),
+            Command::Query(_) => form_of(&Kind::Query),
+            Command::Control(call) => form_of_call(call),
         };
-        form_of(kind).word
+        form.word
     }
 }

@@ -89,12 +89,12 @@ fn begin_call(
     with: &Use,
     state: &mut State,
     number: usize,
-    called: Call,
+    called: &Call,
 ) -> Result<(), AllocError>
     requires core { HasCore h.now with.now state.old.cells.items state.old.actors.items }
-    requires begins { IsToBegin h.now with.now state.old.cells.items state.old.actors.items number (Control called) }
+    requires begins { IsToBegin h.now with.now state.old.cells.items state.old.actors.items number (Control called.now) }
     ensures made { OnOk result (Stepped h.now Note number state.old.cells.items state.old.actors.items state.new.cells.items state.new.actors.items) }
-    ensures begun { OnOk result (GoesBy with.now h.now (Control called) state.old.cells.items state.old.actors.items state.new.cells.items state.new.actors.items) }
+    ensures begun { OnOk result (GoesBy with.now h.now (Control called.now) state.old.cells.items state.old.actors.items state.new.cells.items state.new.actors.items) }
     ensures stays { OnErr result (Stays state.old.cells.items state.old.actors.items state.new.cells.items state.new.actors.items) }
 {
     let ledger = ledger_place();
@@ -136,7 +136,7 @@ fn begin_known(
         Command::Insert(new) => begin_insert(alloc, h, with, state, number, new),
         Command::Query(question) => begin_query(alloc, h, with, state, number, question),
         Command::Control(called) => {
-            begin_call(alloc, h, with, state, number, *called)?;
+            begin_call(alloc, h, with, state, number, called)?;
             Ok(())
         }
     }

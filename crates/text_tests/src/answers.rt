@@ -16,7 +16,7 @@ use std::test::Fail;
 
 /// What happens in a small history, for tables. Sessions 0, 1 and 2 are those of the servers, 3 is
 /// the pulling one and 4 the controlling one.
-#[derive(Clone, Copy)]
+#[derive(Drop)]
 enum Step {
     Begun(u16),
     Asked(u16),
@@ -173,7 +173,10 @@ fn event(alloc: Global, step: &Step) -> Result<Event, AllocError> {
             session: 3,
             call: Call::Sync(server),
         },
-        Step::Called(call) => Event::Called { session: 4, call },
+        Step::Called(ref call) => Event::Called {
+            session: 4,
+            call: call.clone()?,
+        },
         Step::Split(of, left, right) => Event::Split {
             of,
             shard: 0,
@@ -286,7 +289,7 @@ const WITH: Use = Use {
 fn commands_of(alloc: Global, calls: &[Call]) -> Result<Commands, AllocError> {
     let mut commands = Commands::new(alloc);
     for call in calls {
-        commands.push(Command::Control(*call))?;
+        commands.push(Command::Control(call.clone()?))?;
     }
     Ok(commands)
 }

@@ -110,9 +110,9 @@ const CALLS: [Call; 9] = [
 ];
 
 /// The call of a command that makes one.
-fn call_of(command: &Command) -> Option<Call> {
+fn call_of(command: &Command) -> Option<&Call> {
     match command {
-        Command::Control(call) => Some(*call),
+        Command::Control(call) => Some(call),
         _ => None,
     }
 }
@@ -121,7 +121,7 @@ fn call_of(command: &Command) -> Option<Call> {
 fn expect_calls<R: Abort>(rt: &R, commands: &[Command]) {
     assert_eq!(rt; commands.len(), CALLS.len());
     for (i, command) in commands.iter().enumerate() {
-        assert_eq!(rt; call_of(command), CALLS.get(i).copied());
+        assert_eq!(rt; call_of(command), CALLS.get(i));
     }
 }
 

@@ -9,7 +9,7 @@ use crate::block_cells::BlockCells;
 use dc_node::{Block, Body, Entry};
 
 /// The block that follows in a group; none behind the one with the stamp that ends the group.
-pub fn block_after<'a, C: BlockCells>(cells: &'a C, block: &Block, stamp: u64) -> Option<&'a Block>
+pub fn after<'a, C: BlockCells>(cells: &'a C, block: &Block, stamp: u64) -> Option<&'a Block>
     ensures { option_copied result ≡ block_after (C.blocks cells.now) stamp block.now }
 {
     if block.stamp == stamp {
@@ -43,7 +43,7 @@ pub fn extent<C: BlockCells>(cells: &C, entry: &Entry) -> (u64, u64)
         };
         count += 1;
         items += items_of(block);
-        next = block_after(cells, block, entry.stamp);
+        next = after(cells, block, entry.stamp);
     }
     (count, items)
 }

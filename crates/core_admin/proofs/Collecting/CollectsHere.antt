@@ -100,9 +100,6 @@ has-more h at cell a gate job k due is is_job =
       more = omega (arith, upto, queue, more);
     }
 
-pub row-gate : (at : ℕ) (cell : CellValue) (a : ActorValue) → CanCollectRow at cell a → (x : Gate) × (cell ≡ GateCell x)
-row-gate at cell a due = phase-gate cell (phase.Frozen due.upto) due.frozen
-
 pub row-makes : ReadableLaw → ReadLaw → (h : List Dimension) (at : ℕ) (cell : CellValue) (gate : Gate) (a b : ActorValue) (job now : JobValue) → CanCollectRow at cell a → cell ≡ GateCell gate → a.job ≡ Some job → CollectsRow gate job now → b ≡ record a { job = Some now }
     → Makes h Collect (change at cell cell ∷ []) a b
 row-makes readable reads h at cell gate a b job now due is is_job did actor_is =

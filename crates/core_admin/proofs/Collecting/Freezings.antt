@@ -103,9 +103,6 @@ module _ (s : Setting) (w : World) (n : ℕ) (g : Ghost) (i : InvWith s (view s 
   phases-new : IsNewAt u.phases v.phases gt.number (Some gate.phase) (Some (phase.Frozen (length gate.queue.rows)))
   phases-new = gate-behind phase_of w.cells m gt (c ∷ []) ag.cells worker table read d.frozen (ap phase_of d.turns.is ∙ sym (ap phase_of d.turns.was), tt)
 
-  stands-was : v.phases gt.number ≢ Some phase.Gone
-  stands-was e = at.standing (let k : Some gate.phase ≡ Some phase.Gone = sym phases-new.was_there ∙ e in cc)
-
   stands-now : u.phases gt.number ≢ Some phase.Gone
   stands-now e = (let k : Some (phase.Frozen (length gate.queue.rows)) ≡ Some phase.Gone = sym phases-new.is_there ∙ e in cc)
 

@@ -9,17 +9,10 @@ use Rattle.server_image.specs.Registry.{RegistryValue}
 use Rattle.shard_store.specs.{Gate.IsQueueOf, declared.gate.Gate.Gate}
 use Rattle.volap_cell.specs.{AdminKinds.{IsGateFor, IsTrueBox}, Values.{BuildingValue, Builds, JobValue}, declared.job.BuiltTree.BuiltTree}
 use Rattle.core_admin.specs.{BuildDue.side_of, FinishDue.IsLate, SplitDue.{DividesShard, EntersBoth, IsChildGate, MayDivideShard}}
-use Rattle.core_admin.proofs.Moving.MoveMade.{same-building}
 
 module _ (h : List Dimension) (plane : Plane) (left : Bool) (shard : ℕ) (tree : BuiltTree) (gate made : Gate) (late : IsLate h gate) (is : IsChildGate h plane left shard tree gate made) where
   made-is : IsGateFor h shard tree (side_of h plane left (drop late.upto gate.queue.rows)) made
   made-is = is late.upto late.frozen
-
-  pub child-set : IsDescSetOf h tree.set → IsDescSetOf h made.set
-  child-set valid = subst (IsDescSetOf h) (sym made-is.set) valid
-
-  pub child-queue : IsQueueOf h made.queue
-  child-queue = made-is.valid
 
   pub child-true : (box : DescSet) → IsTrueBox h made.set made.queue.rows box → IsTrueBox h tree.set made.queue.rows box
   child-true box = subst (λ (set : DescSet). IsTrueBox h set made.queue.rows box) made-is.set
@@ -27,21 +20,6 @@ module _ (h : List Dimension) (plane : Plane) (left : Bool) (shard : ℕ) (tree 
 -- What a job has built is what it is asked to have built.
 module _ (h : List Dimension) (table : map.FinMap nat_cmp Where) (gate : Gate) (registry : RegistryValue) (first : ℕ) (job : JobValue) (due : MayDivideShard h table gate registry first job)
     (building : BuildingValue) (stage : job.stage ≡ Builds building) where
-  pub its-building : due.into.building ≡ building
-  its-building = same-building due.into.building building (sym due.into.stage_is ∙ stage)
-
-  pub its-plane : (plane : Plane) → building.frozen.plane ≡ Some plane → due.into.plane ≡ plane
-  its-plane plane is = (let both : ◌≡◌ {A = Option Plane} (Some due.into.plane) (Some plane) = sym due.into.divided ∙ ap (λ (b : BuildingValue). b.frozen.plane) its-building ∙ is in cc)
-
-  pub its-right : (tree : BuiltTree) → building.right ≡ Some tree → due.into.right_tree ≡ tree
-  its-right tree is = (let both : ◌≡◌ {A = Option BuiltTree} (Some due.into.right_tree) (Some tree) = sym due.into.right_is ∙ ap (λ (b : BuildingValue). b.right) its-building ∙ is in cc)
-
-  pub left-set : IsDescSetOf h building.left.set
-  left-set = subst (λ (b : BuildingValue). IsDescSetOf h b.left.set) its-building due.into.left_valid
-
-  pub right-set : (tree : BuiltTree) → building.right ≡ Some tree → IsDescSetOf h tree.set
-  right-set tree is = subst (λ (t : BuiltTree). IsDescSetOf h t.set) (its-right tree is) due.into.right_valid
-
   pub divides : (left_at right_at : ℕ) (table_now : map.FinMap nat_cmp Where) (registry_now : RegistryValue) (plane : Plane) (divided : building.frozen.plane ≡ Some plane) (tree : BuiltTree) (right_is : building.right ≡ Some tree) (left right : Gate)
       → IsChildGate h plane true first building.left gate left → IsChildGate h plane false (first + 1) tree gate right → (left_box right_box : DescSet) → IsTrueBox h left.set left.queue.rows left_box → IsTrueBox h right.set right.queue.rows right_box
       → EntersBoth table table_now registry registry_now job.shard plane first left_at right_at left_box right_box → DividesShard h left_at right_at table table_now gate registry registry_now first job left right

@@ -9,7 +9,7 @@ use Rattle.list_words.proofs.Elements.{Contains-nil}
 use Rattle.shard_plan.specs.{Balancing.plan, declared.action.Action.Action, declared.action.Load.Load}
 use Rattle.volap_cell.specs.{Commands.MayNoteEnd, Ghost.Ghost, Growing.IsUnder, ImageKinds.doing, Invariant.InvWith, Planning.{job_for, next_job}, Setting.{Setting, site_in}, Telling.IsCalledAs, Values.JobValue, View.View, Working.{IsBalancing, IsPlanned, IsReadLoad, places_in}, declared.command.Balance.Balance}
 use Rattle.volap_cell.specs.declared.command.Work.TheVariants as work_is
-use Rattle.core_image.proofs.{Commands.Endings.{none-spent, right-end, unasked}, Images.MadePaths.{acked-made, comes-before}, Kinds.CallsEnd.IsEnding, ReadOnce.{all-read, last-then, places_read, read-live, read-once}}
+use Rattle.core_image.proofs.{Commands.Endings.{none-spent, right-end, unasked}, Images.MadePaths.{acked-made, comes-before}, EachStep.CallsEnd.IsEnding, ReadOnce.{all-read, last-then, places_read, read-live, read-once}}
 
 -- the places of readings are those of their loads
 places-loads : (rs : List Reading) → places_read rs ≡ places_in (loads_of rs)

@@ -10,7 +10,7 @@ use Rattle.shard_plan.specs.declared.action.Action.{Action}
 use Rattle.shard_plan.specs.declared.action.Action.TheVariants as action
 use Rattle.list_words.proofs.Truth.{on_bool}
 use Rattle.volap_cell.specs.declared.command.Work.TheVariants as work_is
-use Rattle.core_image.proofs.{Kinds.CallsEnd.IsEnding, Pages.Pageless.{asks_page, no-page}}
+use Rattle.core_image.proofs.{EachStep.CallsEnd.IsEnding, Pages.Pageless.{asks_page, no-page}}
 use Rattle.volap_cell.specs.{AdminKinds.spent_in, Commands.{EndsJob, EndsStage, MayNoteEnd}, Falls.shown_left, Ghost.Ghost, ImageKinds.doing, Invariant.InvWith, Setting.{Setting, site_in}, Stocking.{items_in, items_of_job, spent_of}, Telling.{IsCalledAs, IsProgress}, Values.{JobValue, StageValue, IsCalled, IsDeclined, IsFrozen, Collects, Builds}, View.View, Working.{IsDeclinedFor, IsJobOf, action_of, action_to, frozen_in}, declared.command.Balance.Balance, declared.command.Command.Command, declared.command.Work.Work}
 
 -- a decline has a cause, and that isn't that a shard is unknown

@@ -13,7 +13,7 @@ use Rattle.tree_shape.specs.Shape.{Shape}
 use Rattle.volap_cell.specs.{Desking.{Desking, is_on_desk}, Errands.{RowWay, Taken}, ImageKinds.{cleared, doing}, Owing.{one_if, serves}, Placing.Placing, Setting.{Setting, actor_count, site_in}, Sums.sum_below, Telling.Telling, Values.JobValue, declared.command.Command.Command, declared.role.Role.Role}
 use Rattle.volap_cell.specs.declared.command.Work.TheVariants as work_is
 use Rattle.volap_cell.proofs.Views.Fields.{IsNewAt}
-use Rattle.core_image.proofs.Kinds.Clears.{others-keep, still-has}
+use Rattle.core_image.proofs.EachStep.Clears.{others-keep, still-has}
 
 module _ (n : ℕ) (its : Command) (commands commands_now : ℕ → Option Command) (end : IsNewAt commands_now commands n (Some its) None) where
   -- what is said of each command is so of this one

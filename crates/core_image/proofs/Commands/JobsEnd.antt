@@ -8,7 +8,7 @@ use Rattle.tree_shape.specs.Shape.{Shape}
 use Rattle.list_words.proofs.Truth.{on_bool}
 use Rattle.volap_cell.specs.{Cells.Tag, Errands.{ReadPart, Taken}, Ghost.Owner, Numbering.Numbering, Setting.Setting, Stocking.{Stamping, Stocking, items_of_job, spent_of}, Values.JobValue, Working.{Balancing, IsBalancing, Working}, declared.command.Command.Command, declared.role.Role.Role, declared.role.Role.TheVariants.Admin}
 use Rattle.volap_cell.proofs.Views.Fields.{IsNewAt}
-use Rattle.core_image.proofs.{Commands.Jobs.{stamping-alike, stocking-alike}, Kinds.Clears.{others-keep, still-has}}
+use Rattle.core_image.proofs.{Commands.Jobs.{stamping-alike, stocking-alike}, EachStep.Clears.{others-keep, still-has}}
 
 module _ (n : ℕ) (its : Command) (commands commands_now : ℕ → Option Command) (end : IsNewAt commands_now commands n (Some its) None) (job : Option JobValue) (jobs jobs_now : ℕ → Option JobValue) (gone : IsNewAt jobs_now jobs n job None) where
   -- who has a job had it, and is another one

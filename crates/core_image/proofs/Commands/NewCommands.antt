@@ -14,7 +14,7 @@ use Rattle.volap_cell.specs.{Commands.{MayCall, MayCallAs}, Falls.{job_left, ple
 use Rattle.volap_cell.specs.declared.command.Work.TheVariants as work_is
 use Rattle.volap_cell.proofs.{OneEvent.Noted.{new-pageless, new-told, new-workless}, OneEvent.Older.{on-stays, Any-weaker, live-stays}}
 use Rattle.core_image.specs.NotesDue.{BeginsAsking}
-use Rattle.core_image.proofs.{Commands.Jobs.IsNewJob, Images.Hosts.{host-on, job-known, job-new, stands-live, has-load, few-stand, places-unread}, Kinds.CallsBegin.{IsBeginning, most_control}}
+use Rattle.core_image.proofs.{Commands.Jobs.IsNewJob, Images.Hosts.{host-on, job-known, job-new, stands-live, has-load, few-stand, places-unread}, EachStep.CallsBegin.{IsBeginning, most_control}}
 
 -- whoever may call is there
 pub caller-there : (role : Role) (call : Call) → MayCall role call → (w : ℕ) → role ≢ Hand w

@@ -9,7 +9,7 @@ use Rattle.volap_cell.specs.declared.command.Work.TheVariants as work_is
 use Rattle.volap_cell.specs.declared.kind.Kind.TheVariants as kind
 use Rattle.volap_cell.proofs.{Persons.has-command, Sums.sum-some, Views.Shown.{held-desk, held-ledger}}
 use Rattle.core_image.specs.Asking.{CanAnswer, CanGive, GivesAnswer}
-use Rattle.core_image.proofs.{Answered.few, Kinds.AnswersQuery.answer-keeps}
+use Rattle.core_image.proofs.{Answered.few, EachStep.AnswersQuery.answer-keeps}
 
 module _ (hs : List Dimension) (desk_at ledger_at : ℕ) (desk ledger : CellValue) (a : ActorValue) (here : IsHere hs (held desk_at desk ∷ held ledger_at ledger ∷ []) a) (due : CanAnswer desk ledger a)
     (desk_server : ℕ) (dv : DeskValue) (desk_is : desk ≡ DeskCell desk_server dv) (lv : LedgerValue) (ledger_is : ledger ≡ LedgerCell lv) where

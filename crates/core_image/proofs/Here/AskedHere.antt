@@ -9,7 +9,7 @@ use Rattle.volap_cell.specs.declared.command.Work.TheVariants as work_is
 use Rattle.volap_cell.specs.declared.kind.Kind.TheVariants as kind
 use Rattle.volap_cell.proofs.Views.Shown.{held-image}
 use Rattle.core_image.specs.Asking.{CanBeginQuery, CanAsk, OpensQuery}
-use Rattle.core_image.proofs.{Images.Valid.image-boxes, Kinds.AsksQuery.query-keeps}
+use Rattle.core_image.proofs.{Images.Valid.image-boxes, EachStep.AsksQuery.query-keeps}
 
 module _ (hs : List Dimension) (desk_at image_at ledger_at : ℕ) (desk image ledger : CellValue) (a : ActorValue) (filter : List Pick) (here : IsHere hs (held desk_at desk ∷ held image_at image ∷ held ledger_at ledger ∷ []) a)
     (due : CanBeginQuery hs desk image ledger a filter)

@@ -13,7 +13,7 @@ use Rattle.volap_cell.specs.declared.command.Work.TheVariants as work_is
 use Rattle.volap_cell.specs.declared.kind.Kind.TheVariants as kind
 use Rattle.volap_cell.proofs.{Persons.has-command, Sums.sum-some, Views.Shown.{held-desk, held-image, held-ledger}}
 use Rattle.core_image.specs.Due.{CanAck, CanBook, Books}
-use Rattle.core_image.proofs.{Images.Valid.{image-boxes, image-growths}, Kinds.AcksInsert.ack-keeps, Rows.begun-of}
+use Rattle.core_image.proofs.{Images.Valid.{image-boxes, image-growths}, EachStep.AcksInsert.ack-keeps, Rows.begun-of}
 
 -- one part that comes to a place is placed
 one-placed : (p : Part) → verdict_of (p ∷ []) ≡ Some verdict.Placed → (path : List ℕ) × (p.state ≡ state.Placed path)

@@ -9,7 +9,7 @@ use Rattle.volap_cell.specs.declared.command.Work.TheVariants as work_is
 use Rattle.volap_cell.specs.declared.kind.Kind.TheVariants as kind
 use Rattle.volap_cell.proofs.Views.Shown.{held-image}
 use Rattle.core_image.specs.Routing.{CanRoute, CanLay, Lays}
-use Rattle.core_image.proofs.{Images.Valid.image-boxes, Kinds.RoutesInsert.route-keeps}
+use Rattle.core_image.proofs.{Images.Valid.image-boxes, EachStep.RoutesInsert.route-keeps}
 
 module _ (hs : List Dimension) (desk_at image_at : ℕ) (desk image : CellValue) (a : ActorValue) (here : IsHere hs (held desk_at desk ∷ held image_at image ∷ []) a) (due : CanRoute desk image a)
     (desk_server : ℕ) (dv : DeskValue) (desk_is : desk ≡ DeskCell desk_server dv) (image_server : ℕ) (iv : ImageValue) (image_is : image ≡ ImageCell image_server iv) where

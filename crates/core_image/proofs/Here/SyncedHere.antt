@@ -9,7 +9,7 @@ use Rattle.volap_cell.specs.declared.command.Work.TheVariants as work_is
 use Rattle.volap_cell.specs.declared.kind.Kind.TheVariants as kind
 use Rattle.volap_cell.proofs.Views.Shown.{held-image, held-registry}
 use Rattle.core_image.specs.Pulling.{CanSync, CanPull, Pulls}
-use Rattle.core_image.proofs.{Images.Valid.{image-growths, registry-boxes}, Kinds.SyncsImage.{settle-goes, sync-keeps}}
+use Rattle.core_image.proofs.{Images.Valid.{image-growths, registry-boxes}, EachStep.SyncsImage.{settle-goes, sync-keeps}}
 
 -- a settle of which a pull is due is far from the end of its numbers
 pub few-pulls : (image registry ledger : CellValue) (a : ActorValue) → CanSync image registry ledger a → (of pulls : ℕ) → a.command ≡ doing of (work_is.Settle pulls) → pulls + 1 < 2 ^ 16

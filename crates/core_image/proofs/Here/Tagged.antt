@@ -2,7 +2,7 @@
 use Rattle.std.proofs.Common.{◌≡◌, ℕ, Box, Global, refl}
 use Rattle.query_router.specs.declared.desk.Desk.{Desk}
 use Rattle.row_ledger.specs.declared.ledger.Ledger.{Ledger}
-use Rattle.server_image.specs.{declared.image.Image.Image, declared.registry.Registry.Registry}
+use Rattle.server_image.specs.{declared.image.Image.Image}
 use Rattle.volap_cell.specs.{Cells.{DeskOf, ImageOf, TheLedger, cell_of, tag_of}, declared.cell.Cell.Cell}
 use Rattle.volap_cell.specs.declared.cell.Cell.TheVariants as cell
 

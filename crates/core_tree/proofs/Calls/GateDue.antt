@@ -15,7 +15,7 @@ use Rattle.tree_shape.proofs.Whole.Sums.{coords-valid}
 use Rattle.volap_cell.specs.{Cells.{CellValue, FreeCell, LedgerCell, StockCell, RegistryCell, ImageCell, DeskCell, MapCell, GateCell, BlockCell, cell_of, gate_shard, pins_in, queue_in, way_in}, Errands.{ReadPart, Taken, taken_by, taken_of, read_of, read_in_task, want_of}, Ghost.Ghost, Growing.table_of, Invariant.InvWith, Querying.{pins_of, one_pin}, Setting.{Setting, actor_count}, Steps.{IsHere, Makes}, Stocking.cells_at, TreeKinds.{DoesGateRead, Leads}, Values.{ActorValue, ErrandValue, ReadingValue, TaskValue, OfRow, Unread, Read}, View.{View, view}, World.{World, change, held}, declared.cell.Cell.Cell, declared.kind.Kind.TheVariants.GateRead}
 use Rattle.volap_cell.specs.declared.cell.Cell.TheVariants as cell
 use Rattle.volap_cell.proofs.{Counting.{length-few, passing, passing-once, sum-keyed}, Desks.Queries.{IsQueryPart, query-part, alone}}
-use Rattle.core_tree.proofs.{Kinds.ReadsGate.{IsShardGate, shard-gate, read-keeps, few-same}, Queries.Walkers.{asked-of, home-at, placed-older, rows-under, tree-few}}
+use Rattle.core_tree.proofs.{EachStep.ReadsGate.{IsShardGate, shard-gate, read-keeps, few-same}, Queries.Walkers.{asked-of, home-at, placed-older, rows-under, tree-few}}
 use Rattle.core_tree.specs.ReadDue.{CanGateRead, CanBegin, BeginsFor, IsAtGate}
 
 -- a part that has read its gate has a query's errand

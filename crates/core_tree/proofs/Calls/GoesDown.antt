@@ -11,7 +11,7 @@ use Rattle.tree_shape.specs.{Laws.{OtherLaw, CollectOtherLaw, DownLaw, GateLaw, 
 use Rattle.volap_cell.specs.{Cells.{CellValue, BlockCell, block_in, has_block}, Errands.{row_way, way_of, place_of}, Ghost.Ghost, Growing.table_of, Invariant.InvWith, NewBlocks.WentDown, Setting.Setting, Steps.{IsHere, Makes}, Stocking.cells_at, TreeKinds.{DoesDown, HasRow, IsTailIf, IsTailOf, blocks_of, on_way}, Values.{ActorValue, ErrandValue, OfRow}, View.{View, view}, World.{World, Change, change, change_if, held, held_if}, declared.errand.RowErrand.RowErrand, declared.errand.Way.TheVariants.Carried, declared.kind.Kind.TheVariants.Down}
 use Rattle.volap_cell.proofs.Actors.{row-at}
 use Rattle.core_tree.specs.Descent.{AreForNew, CanDown, CanStep, blocks_if, two_if}
-use Rattle.core_tree.proofs.{Calls.Behind.{tail-are, held-blocks, new-down, filled-down, filled-length}, Kinds.Descents.{down-keeps, tail-blocks, tail-numbers}, Rows.Carriers.{Carries, carries, must-at}, Stocks.Counts.tree-few}
+use Rattle.core_tree.proofs.{Calls.Behind.{tail-are, held-blocks, new-down, filled-down, filled-length}, EachStep.Descents.{down-keeps, tail-blocks, tail-numbers}, Rows.Carriers.{Carries, carries, must-at}, Stocks.Counts.tree-few}
 
 pub all-at : {A : Type 0} (P : A → Type 0) (xs : List A) (i : ℕ) (x : A) → slice_get xs i ≡ Some x → All P xs → P x
 all-at P xs i x read all = elim (slice_get_cases xs i).1 [

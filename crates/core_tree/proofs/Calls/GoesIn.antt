@@ -14,7 +14,7 @@ use Rattle.tree_shape.specs.{Laws.{OtherLaw, CollectOtherLaw, InLaw, GateLaw, Bl
 use Rattle.volap_cell.specs.{Cells.{CellValue, BlockCell, GateCell, block_in, has_block, way_in, way_to_tree, active_in}, Errands.{RowWay, is_filled, row_way}, Ghost.Ghost, Growing.table_of, Invariant.InvWith, NewBlocks.HaveNew, Setting.Setting, Steps.{IsHere, Makes}, Stocking.{cells_at, IsWhole}, TreeKinds.{AreFilled, DoesEnterTree, HasRow, Leads, IsTailIf, IsTailOf, blocks_of, on_way}, Values.{ActorValue, ErrandValue, OfRow}, View.{View, view}, World.{World, Change, change, change_if, held}, declared.errand.RowErrand.RowErrand, declared.errand.Way.TheVariants.Carried, declared.kind.Kind.TheVariants.EnterTree}
 use Rattle.volap_cell.proofs.Views.Shown.{held-leads}
 use Rattle.core_tree.specs.Descent.{AreForNew, AreLast, CanEnterTree, CanComeIn, CameIn, blocks_if, two_if}
-use Rattle.core_tree.proofs.{Calls.Behind.{MakesOne, tail-are, held-blocks, last-same, filled-length}, Kinds.Descents.{tail-blocks, tail-numbers}, Kinds.EntersTree.enter-keeps, Rows.Arrivals.{Arrives, arrives, filled-outside}, Stocks.Counts.{active-few, purse-few, tree-few, tree-set}}
+use Rattle.core_tree.proofs.{Calls.Behind.{MakesOne, tail-are, held-blocks, last-same, filled-length}, EachStep.Descents.{tail-blocks, tail-numbers}, EachStep.EntersTree.enter-keeps, Rows.Arrivals.{Arrives, arrives, filled-outside}, Stocks.Counts.{active-few, purse-few, tree-few, tree-set}}
 
 -- what is known of the cells that were given
 pub record GivenIn (root : CellValue) (gate : Gate) (tail : List Change) (h : List Dimension) (row : Row) (purse : List Spare) (boxes : ℕ) : Type 0 where

@@ -176,10 +176,6 @@ pub known-names : {A : Type 0} (first : Option ℕ) (x : A) (r : Result A ℕ) �
 known-names None x r is unknown = refl
 known-names (Some d) x r is unknown = cc
 
-pub unknown-pick : {A : Type 0} (first : Option ℕ) (dim : ℕ) (r : Result A FilterFault) → r ≡ Err (Unknown dim) → IfSome first (λ d. r ≡ Err (Unknown d)) → IfNone first (IsOkUnless r NoMemory) → first ≡ Some dim
-unknown-pick None dim r is unknown known = let never = rw is at known in cc
-unknown-pick (Some d) dim r is unknown known = cc
-
 -- where it answers with a filter, there is none
 pub known-picks : {A : Type 0} (first : Option ℕ) (x : A) (r : Result A FilterFault) → r ≡ Ok x → IfSome first (λ d. r ≡ Err (Unknown d)) → first ≡ None
 known-picks None x r is unknown = refl

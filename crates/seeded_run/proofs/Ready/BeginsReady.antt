@@ -182,7 +182,3 @@ module _ (h : List Dimension) (with : Use) (cells cells_now : List (Option Cell)
     names = b.names;
     allowed = b.allowed;
   }
-
--- and so it is where nothing was done
-pub stays-still : (cells : List (Option Cell)) (actors : List (Option Actor)) → Stays cells actors cells actors
-stays-still cells actors = record { cells_kept = refl; actors_kept = refl; same = λ w i. i }

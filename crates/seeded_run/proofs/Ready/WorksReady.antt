@@ -1,7 +1,7 @@
 -- Where a pull or a note is due for an actor's open command, the core has what its kind asks.
 use Rattle.std.proofs.{Common.{ℕ, ◌≡◌, ◌+◌, ◌-◌, ◌<◌, ◌^◌, Bool, true, false, List, [], ◌∷◌, length, Option, Some, None, get_or, refl, sym, ap, ◌∙◌, subst, arith}, lemmas.Bool.{ltb-false, ltb-true}}
 use Rattle.std.specs.Prelude.{if◌then◌else◌, nat_lt}
-use Rattle.core_image.proofs.Kinds.SyncsImage.{settle-goes}
+use Rattle.core_image.proofs.EachStep.SyncsImage.{settle-goes}
 use Rattle.core_image.specs.{NotesDue.{CanFailQuery, CanFailRouted, CanNoteEnded}, Pulling.CanSync}
 use Rattle.core_steps.specs.{AskedBooks.Syncs, AskedNotes.{FailsQuery, FailsRouted, NotesEnded}, Ready.{MayStep, Stays}}
 use Rattle.dim_hierarchy.specs.{Dimension.Dimension, declared.row.Row.Row}

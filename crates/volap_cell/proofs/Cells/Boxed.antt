@@ -1,7 +1,6 @@
 -- What a cell has it holds in a box.
 use Rattle.std.proofs.Common.{◌≡◌, ◌∙◌, true, Box, Global, refl, ap}
 use Rattle.std.specs.Prelude.{IsSome}
-use Rattle.cell_stock.specs.declared.stock.Stock.{Stock}
 use Rattle.dc_node.specs.declared.block.Block.{Block}
 use Rattle.shard_store.specs.declared.gate.Gate.{Gate}
 use Rattle.volap_cell.specs.{Cells.{cell_of, gate_shard, has_block}, declared.cell.Cell.Cell}

@@ -3,7 +3,7 @@
 use Rattle.std.proofs.{Common.{◌≡◌, ◌≢◌, ℕ, ◌<◌, true, List, Option, Some, None, length, refl, sym, ap, ◌∙◌, subst, inl, inr}, lemmas.Bool.cases_lt}
 use Rattle.tree_shape.specs.Trees.{IsTree}
 use Rattle.volap_cell.specs.{Cells.{FreeCell, OfStock, has_block, tag_of}, Errands.{RowWay, RowPlace, Outside, AtBlock, InLeaf, AtRest, IsCarried, block_at, has_passed}, Ghost.{Ghost, InTree}, Growing.table_of, Invariant.InvWith, Setting.Setting, State.IsWorldOf, Stocking.{IsWhole, cells_at}, View.{View, view}, World.{World, MustKeep}, declared.actor.Actor.Actor, declared.cell.Cell.Cell}
-use Rattle.volap_cell.proofs.{Cells.States.stands, Histories.Standings.live-on}
+use Rattle.volap_cell.proofs.{Histories.Standings.live-on}
 
 -- Who must keep a block.
 

@@ -11,14 +11,8 @@ use Rattle.volap_cell.specs.{Cells.{CellValue, LedgerCell, StockCell, RegistryCe
 
 -- From the number to the tag.
 
-pub tag-ledger : (s : Setting) → tag_at s ledger_cell ≡ TheLedger
-tag-ledger s = refl
-
 pub tag-stock : (s : Setting) → tag_at s stock_cell ≡ TheStock
 tag-stock s = refl
-
-pub tag-registry : (s : Setting) → tag_at s registry_cell ≡ TheRegistry
-tag-registry s = refl
 
 pub tag-image : (s : Setting) (server : ℕ) → server < s.servers → tag_at s (image_cell server) ≡ ImageOf server
 tag-image s server lt = grind arith

@@ -1,6 +1,5 @@
 -- A cell that stands anywhere among those that a step holds: those before it have other tags, and so are other cells.
 use Rattle.std.proofs.{Common.{◌≡◌, ◌≢◌, ℕ, List, [], ◌∷◌, ◌++◌, sym, ap, ◌∙◌}, lemmas.Bool.ne_eqb}
-use Rattle.std.specs.FinMap as map
 use Rattle.cell_stock.specs.Stock.{StockValue}
 use Rattle.row_ledger.specs.LedgerValue.{LedgerValue}
 use Rattle.list_words.specs.Counts.{Each}

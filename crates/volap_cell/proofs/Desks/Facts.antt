@@ -1,7 +1,6 @@
 -- What the invariant gives of a part on a desk: the command that it is of, and that no other part there is of its shard.
-use Rattle.std.proofs.{Common.{◌≡◌, ◌≢◌, ℕ, ◌<◌, List, ◌∷◌, ◌++◌, true, false, Some, refl, sym, ap, subst, ◌∙◌, ◌⊎◌, inl, inr, ◌==◌, ◌&&◌, Contains, eqb-true}, lemmas.Bool.{and_parts, false≢true}}
-use Rattle.query_router.specs.{Desk.{is_taken, is_with}, declared.part.Part.Part, declared.part.Want.Want}
-use Rattle.query_router.specs.declared.part.Want.TheVariants as want
+use Rattle.std.proofs.{Common.{◌≡◌, ◌≢◌, ℕ, ◌<◌, List, ◌∷◌, ◌++◌, true, Some, refl, sym, ap, subst, ◌∙◌, ◌⊎◌, inl, inr, ◌==◌, ◌&&◌, Contains, eqb-true}, lemmas.Bool.{and_parts, false≢true}}
+use Rattle.query_router.specs.{Desk.{is_taken, is_with}, declared.part.Part.Part}
 use Rattle.row_ledger.specs.{Past.{Insert, Query, insert_at, query_at}, Shards.comes_from}
 use Rattle.row_ledger.proofs.Descent.{comes_from-self}
 use Rattle.list_words.proofs.Elements.{Contains-nil}

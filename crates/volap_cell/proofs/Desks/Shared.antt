@@ -1,6 +1,6 @@
 -- A part of one desk gives way to others: what all desks keep, and what the parts of the invariant keep that read desks and no actor's part.
 use Rattle.std.proofs.{Common.{◌≡◌, ◌≢◌, ℕ, ◌<◌, List, ◌∷◌, ◌++◌, Bool, true, eqb, refl, sym, ap, subst, ◌∙◌, Option, All, Contains}, lemmas.Bool.{eqb-true, eqb-false}}
-use Rattle.std.specs.Prelude.{IsSome, ◌+◌}
+use Rattle.std.specs.Prelude.{IsSome}
 use Rattle.mapping_table.specs.declared.place.Where.{Where}
 use Rattle.query_router.specs.{Desk.{DeskValue, is_open}, declared.part.Part.Part}
 use Rattle.row_ledger.specs.declared.event.Event.{Event}

@@ -1,5 +1,5 @@
 -- Lines of shards: what comes from a shard comes from all from which that comes, and what the children of a split are to it and to one another.
-use Rattle.std.proofs.{Common.{◌≡◌, ◌≢◌, ℕ, zero, suc, ◌+◌, ◌<◌, ◌≤◌, List, [], ◌∷◌, ◌++◌, Bool, true, false, refl, sym, ap, subst, arith, ◌==◌, ◌∙◌, ◌||◌, ◌&&◌, ◌⊎◌, inl, inr}, lemmas.Bool.{and_parts, eqb-true, eq-eqb, false≢true, or_cases, or_right}, lemmas.Bool.Decides.nat_tests}
+use Rattle.std.proofs.{Common.{◌≡◌, ℕ, zero, suc, ◌+◌, ◌<◌, ◌≤◌, List, [], ◌∷◌, ◌++◌, Bool, true, false, refl, sym, ap, subst, arith, ◌==◌, ◌∙◌, ◌||◌, ◌&&◌, ◌⊎◌, inl, inr}, lemmas.Bool.{and_parts, eqb-true, eq-eqb, false≢true, or_cases, or_right}, lemmas.Bool.Decides.nat_tests}
 use Rattle.std.specs.{List.list_any, Prelude.{IsTrue, if◌then◌else◌, filter_map}}
 use Rattle.row_ledger.specs.{Past.{Children, last_of, split_in}, Right.{EachEvent, IsRightSplit, Site, Stands}, Shards.{comes_from, descends, ids_made, is_child, is_path, parent_in, was_listed}, declared.event.Event.Event, declared.event.Event.TheVariants.Split}
 use Rattle.row_ledger.proofs.Descent.{WasSplit, comes_from-made, comes_from-older, comes_from-self, live-made, parent_in-made, split-made}

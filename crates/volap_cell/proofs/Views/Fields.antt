@@ -1,6 +1,5 @@
 -- Fields of the view of which a commit changes one place: what it was there, what it is, and that it is as before elsewhere.
 use Rattle.std.proofs.Common.{◌≡◌, ◌≢◌, ◌⊎◌, ℕ, ◌+◌, cond, eqb, List, [], ◌∷◌, length, refl, sym, ap, ◌∙◌, arith}
-use Rattle.std.specs.FinMap as map
 use Rattle.query_router.specs.Desk.{DeskValue}
 use Rattle.row_ledger.specs.{LedgerValue.LedgerValue, declared.event.Event.Event}
 use Rattle.server_image.specs.{Image.ImageValue, Registry.RegistryValue}

@@ -3,13 +3,13 @@ use Rattle.row_ledger.specs.{LedgerValue.LedgerValue, declared.class.Class.Class
 use Rattle.volap_cell.specs.{Cells.{LedgerCell, RegistryCell, cell_of}, Values.{actor_of, job_of}}
 use Rattle.volap_cell.specs.declared.cell.Cell.TheVariants as cell
 use Rattle.volap_cell.proofs.{Cells.Boxed.same-box, Outcomes.as-err}
-use Rattle.core_image.proofs.{Here.Telling.tells, Kinds.NotesAsk.asking-makes}
+use Rattle.core_image.proofs.{Here.Telling.tells, EachStep.NotesAsk.asking-makes}
 use Rattle.core_image.proofs.asks.note_asking.Goals as goal
 use Rattle.core_image.specs.{NotesDue.BeginsAsking, Told.called_by}
 
 pub returns-clause-made : goal.returns-clause-made
 returns-clause-made c =
-    asking-makes c.args.h.now c.args.registry_at c.args.ledger_at c.args.call c.args.workers (cell_of c.args.registry.now) (cell_of c.args.ledger.now) (actor_of c.args.actor.now) c.requires.due
+    asking-makes c.args.h.now c.args.registry_at c.args.ledger_at c.args.call.now c.args.workers (cell_of c.args.registry.now) (cell_of c.args.ledger.now) (actor_of c.args.actor.now) c.requires.due
     c.deref.result.now (ap cell_of c.in-Registry.is ∙ ap RegistryCell (sym c.deref.ensures)) c.in-Registry.registry.value (sym c.deref.ensures)
     c.deref_mut.result.now (ap cell_of c.in-Ledger.is ∙ ap LedgerCell (sym c.deref_mut.ensures.value)) c.push_called.new.ledger
     _ (c.len-of.ensures.value ∙ ap (λ (l : LedgerValue). length l.history) (c.deref-2.ensures ∙ sym c.deref_mut.ensures.value))
@@ -17,7 +17,7 @@ returns-clause-made c =
 
 pub returns-clause-told : goal.returns-clause-told
 returns-clause-told c =
-    tells (called_by c.args.call) (actor_of c.args.actor.now) (cell_of c.args.ledger.now) c.deref_mut.result.now c.push_called.new.ledger
+    tells (called_by c.args.call.now) (actor_of c.args.actor.now) (cell_of c.args.ledger.now) c.deref_mut.result.now c.push_called.new.ledger
     (ap cell_of c.in-Ledger.is ∙ ap LedgerCell (sym c.deref_mut.ensures.value)) c.in_ok-push_called.ensures.ok.history
 
 pub returns-in_err-push_called-clause-refused : goal.returns-in_err-push_called-clause-refused

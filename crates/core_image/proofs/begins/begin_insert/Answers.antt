@@ -4,7 +4,7 @@ use Rattle.core_image.specs.NotesDue.{OpensInsert}
 use Rattle.volap_cell.specs.{Cells.{ImageCell, LedgerCell, cell_of}, Values.actor_of}
 use Rattle.volap_cell.specs.declared.cell.Cell.TheVariants as cell
 use Rattle.volap_cell.proofs.{Cells.Boxed.same-box, Outcomes.as-err}
-use Rattle.core_image.proofs.{Here.Telling.tells-begun, Kinds.BeginsInsert.begin-makes}
+use Rattle.core_image.proofs.{Here.Telling.tells-begun, EachStep.BeginsInsert.begin-makes}
 use Rattle.core_image.proofs.begins.begin_insert.Goals as goal
 
 -- src/begins.rt:19:1

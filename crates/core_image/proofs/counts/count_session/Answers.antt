@@ -1,6 +1,6 @@
 use Rattle.std.proofs.Common.{ap, sym, ◌∙◌}
 use Rattle.volap_cell.specs.{Cells.{DeskCell, cell_of}, Values.actor_of}
-use Rattle.core_image.proofs.Kinds.CountsSession.{count-makes, may-count}
+use Rattle.core_image.proofs.EachStep.CountsSession.{count-makes, may-count}
 use Rattle.core_image.proofs.counts.count_session.Goals as goal
 
 pub count-requires : goal.count-requires

@@ -1,7 +1,7 @@
 use Rattle.std.proofs.Common.{length, refl, ap, sym, ◌∙◌}
 use Rattle.row_ledger.specs.LedgerValue.{LedgerValue}
 use Rattle.volap_cell.specs.{Cells.{LedgerCell, cell_of}, Values.actor_of}
-use Rattle.core_image.proofs.Kinds.NotesEnd.{ended-makes, left-promised, some-left}
+use Rattle.core_image.proofs.EachStep.NotesEnd.{ended-makes, left-promised, some-left}
 use Rattle.core_image.proofs.ended.note_ended.Goals as goal
 
 pub push_ended-requires-clause-some : goal.push_ended-requires-clause-some

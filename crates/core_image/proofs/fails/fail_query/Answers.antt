@@ -1,7 +1,7 @@
 use Rattle.std.proofs.Common.{length, ap, sym, ◌∙◌}
 use Rattle.row_ledger.specs.LedgerValue.{LedgerValue}
 use Rattle.volap_cell.specs.{Cells.{DeskCell, LedgerCell, cell_of}, Values.actor_of}
-use Rattle.core_image.proofs.Kinds.Failing.{query-makes, query-promised}
+use Rattle.core_image.proofs.EachStep.Failing.{query-makes, query-promised}
 use Rattle.core_image.proofs.fails.fail_query.Goals as goal
 
 pub push-requires : goal.push-requires

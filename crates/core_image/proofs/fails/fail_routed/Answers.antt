@@ -1,7 +1,7 @@
 use Rattle.std.proofs.Common.{length, ap, sym, ◌∙◌}
 use Rattle.row_ledger.specs.LedgerValue.{LedgerValue}
 use Rattle.volap_cell.specs.{Cells.{DeskCell, ImageCell, LedgerCell, cell_of}, Values.actor_of}
-use Rattle.core_image.proofs.Kinds.Failing.{routed-makes, routed-owed, routed-promised}
+use Rattle.core_image.proofs.EachStep.Failing.{routed-makes, routed-owed, routed-promised}
 use Rattle.core_image.proofs.fails.fail_routed.Goals as goal
 
 pub forgo-requires : goal.forgo-requires

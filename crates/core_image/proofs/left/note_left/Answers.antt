@@ -1,7 +1,7 @@
 use Rattle.std.proofs.Common.{◌∷◌, length, ap, sym, subst, ◌∙◌, option_map}
 use Rattle.row_ledger.specs.{LedgerValue.LedgerValue, declared.event.Event.TheVariants.Left}
 use Rattle.volap_cell.specs.{Cells.{LedgerCell, cell_of}, ImageKinds.LeavesAs, Values.{actor_of, job_of, stage_of}, declared.job.Job.Job}
-use Rattle.core_image.proofs.Kinds.NotesLeft.{left-makes, left-promised}
+use Rattle.core_image.proofs.EachStep.NotesLeft.{left-makes, left-promised}
 use Rattle.core_image.proofs.left.note_left.Goals as goal
 
 pub push-requires : goal.push-requires

@@ -3,7 +3,7 @@ use Rattle.row_ledger.specs.LedgerValue.{LedgerValue}
 use Rattle.volap_cell.specs.{Cells.{LedgerCell, cell_of}, Values.actor_of}
 use Rattle.volap_cell.specs.declared.cell.Cell.TheVariants as cell
 use Rattle.volap_cell.proofs.{Cells.Boxed.same-box, Outcomes.as-err}
-use Rattle.core_image.proofs.{Here.Telling.tells-unknown, Kinds.NotesRefusal.unknown-makes}
+use Rattle.core_image.proofs.{Here.Telling.tells-unknown, EachStep.NotesRefusal.unknown-makes}
 use Rattle.core_image.proofs.notes.note_unknown.Goals as goal
 
 pub returns-clause-made : goal.returns-clause-made

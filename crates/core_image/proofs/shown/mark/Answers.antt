@@ -1,6 +1,6 @@
 use Rattle.std.proofs.Common.{is_some, ap, sym, ◌∙◌}
 use Rattle.volap_cell.specs.{Commands.once_shown, declared.command.Work.Work}
-use Rattle.core_image.proofs.Kinds.NotesShown.{page-marked}
+use Rattle.core_image.proofs.EachStep.NotesShown.{page-marked}
 use Rattle.core_image.proofs.shown.mark.Goals as goal
 
 pub returns-in-Page : goal.returns-in-Page

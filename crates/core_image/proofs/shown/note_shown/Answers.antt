@@ -2,7 +2,7 @@ use Rattle.std.proofs.Common.{◌∷◌, length, Option, ap, sym, ◌∙◌}
 use Rattle.row_ledger.specs.{LedgerValue.LedgerValue, declared.event.Event.TheVariants.Shown}
 use Rattle.volap_cell.specs.{Cells.{LedgerCell, cell_of}, Values.actor_of, declared.command.Command.Command}
 use Rattle.core_image.specs.ToldPages.{began_at, shown_by}
-use Rattle.core_image.proofs.{Here.Telling.tells, Kinds.NotesShown.{shown-due, shown-makes, shown-promised}}
+use Rattle.core_image.proofs.{Here.Telling.tells, EachStep.NotesShown.{shown-due, shown-makes, shown-promised}}
 use Rattle.core_image.proofs.shown.note_shown.Goals as goal
 
 pub push-requires : goal.push-requires

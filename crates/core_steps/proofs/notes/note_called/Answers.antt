@@ -17,6 +17,6 @@ returns c =
     let now = call.new in
     record {
       stepped = on-ok call.result call.ensures.made (λ m. steps-lent both now.ledger now.actor m (λ s w same is inv. free-sight s w c.args.number _ (actor_of c.in-Some-index_mut.actor) (actor_of now.actor) (can-lent both).free m.does));
-      told = on-ok call.result call.ensures.told (λ t. adds-lent both now.ledger now.actor (called_by c.args.call) t);
+      told = on-ok call.result call.ensures.told (λ t. adds-lent both now.ledger now.actor (called_by c.args.call.now) t);
       stays = on-err call.result call.ensures.refused (λ k. stays-lent both now.ledger now.actor k.0 k.1);
     }

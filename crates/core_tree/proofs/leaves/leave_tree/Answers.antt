@@ -2,7 +2,7 @@ use Rattle.std.proofs.Common.{◌<◌, ◌∙◌, ap, option_map, sym, subst, �
 use Rattle.shard_store.specs.declared.gate.Gate.{Gate}
 use Rattle.volap_cell.specs.{Cells.{GateCell, active_in, cell_of}, Values.{actor_of, errand_of, task_of}, declared.cell.Cell.Cell}
 use Rattle.volap_cell.proofs.Cells.Boxed.{gated}
-use Rattle.core_tree.proofs.Kinds.LeavesTree.{can-leave, leave-makes}
+use Rattle.core_tree.proofs.EachStep.LeavesTree.{can-leave, leave-makes}
 use Rattle.core_tree.proofs.leaves.leave_tree.Goals as goal
 
 pub unreachable-requires-in_default-gate : goal.unreachable-requires-in_default-gate

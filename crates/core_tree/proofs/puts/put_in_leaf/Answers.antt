@@ -2,7 +2,7 @@ use Rattle.std.proofs.Common.{[], ◌∷◌, ◌++◌, ◌∙◌, option_map, ap
 use Rattle.dc_node.specs.{Block.{is_full, rows_in, with_rows}, declared.block.Block.Block}
 use Rattle.volap_cell.specs.{Cells.{cell_of, block_in}, Values.{actor_of, errand_of, task_of}, declared.cell.Cell.Cell}
 use Rattle.volap_cell.proofs.Cells.Boxed.{boxed}
-use Rattle.core_tree.proofs.Kinds.PutsInLeaf.{can-put, put-makes}
+use Rattle.core_tree.proofs.EachStep.PutsInLeaf.{can-put, put-makes}
 use Rattle.core_tree.proofs.puts.put_in_leaf.Goals as goal
 
 pub unreachable-requires-in_default-cell : goal.unreachable-requires-in_default-cell

@@ -3,7 +3,7 @@ use Rattle.dim_hierarchy.specs.Rows.{IsRowOf}
 use Rattle.volap_cell.specs.{Cells.{CellValue, GateCell, cell_of, queue_in}, TreeKinds.HasRow, Values.{actor_of, errand_of, task_of}, declared.errand.RowErrand.RowErrand}
 use Rattle.volap_cell.specs.declared.cell.Cell.TheVariants as cell
 use Rattle.volap_cell.proofs.{Cells.Boxed.same-box, Outcomes.as-err}
-use Rattle.core_tree.proofs.{Kinds.EntersQueue.{can-queue, queue-makes}, Rows.Arrivals.same-row}
+use Rattle.core_tree.proofs.{EachStep.EntersQueue.{can-queue, queue-makes}, Rows.Arrivals.same-row}
 use Rattle.core_tree.proofs.queues.enter_queue.Goals as goal
 
 pub enqueue-requires-clause-row : goal.enqueue-requires-clause-row

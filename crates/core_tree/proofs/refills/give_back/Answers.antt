@@ -1,6 +1,6 @@
 use Rattle.std.proofs.Common.{◌∙◌, ap, refl, sym}
 use Rattle.volap_cell.specs.{Cells.{StockCell, cell_of}, Values.actor_of}
-use Rattle.core_tree.proofs.Kinds.FillsPurse.{can-give, give-makes}
+use Rattle.core_tree.proofs.EachStep.FillsPurse.{can-give, give-makes}
 use Rattle.core_tree.proofs.refills.give_back.Goals as goal
 
 pub give-requires : goal.give-requires

@@ -3,7 +3,7 @@ use Rattle.volap_cell.specs.{Cells.{StockCell, cell_of}, Values.{actor_of, erran
 use Rattle.volap_cell.specs.declared.cell.Cell.TheVariants as cell
 use Rattle.volap_cell.proofs.{Cells.Boxed.same-box, Outcomes.as-err}
 use Rattle.core_tree.specs.DueAtGates.{IsRefilled}
-use Rattle.core_tree.proofs.Kinds.FillsPurse.{can-give, refill-makes}
+use Rattle.core_tree.proofs.EachStep.FillsPurse.{can-give, refill-makes}
 use Rattle.core_tree.proofs.refills.refill.Goals as goal
 
 pub exchange-requires-clause-out : goal.exchange-requires-clause-out

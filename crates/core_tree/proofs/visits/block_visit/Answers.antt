@@ -3,7 +3,7 @@ use Rattle.dc_node.specs.declared.block.Block.{Block}
 use Rattle.volap_cell.specs.{Cells.{block_in, cell_of}, Values.{actor_of, errand_of}, declared.cell.Cell.Cell}
 use Rattle.volap_cell.proofs.{Cells.Boxed.boxed, Outcomes.on-ok}
 use Rattle.core_tree.specs.ReadDue.{IsAtBlock, VisitsFor}
-use Rattle.core_tree.proofs.Kinds.VisitsBlock.{is-at-block, visit-makes}
+use Rattle.core_tree.proofs.EachStep.VisitsBlock.{is-at-block, visit-makes}
 use Rattle.core_tree.proofs.visits.block_visit.Goals as goal
 
 pub unreachable-requires-in_default-cell : goal.unreachable-requires-in_default-cell

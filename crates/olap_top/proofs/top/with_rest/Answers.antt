@@ -1,6 +1,5 @@
 use Rattle.std.proofs.Common.{◌≡◌, ◌∙◌, List, [], ◌∷◌, Option, Some, None, get_or, set, refl, ap, sym, subst}
-use Rattle.std.specs.Option.{option_map_or}
-use Rattle.volap_cell.specs.{Cells.{FreeCell, LedgerCell, cell_of}, Setting.ledger_cell, World.{change, put}, declared.cell.Cell.Cell}
+use Rattle.volap_cell.specs.{Cells.{FreeCell, LedgerCell, cell_of}, Filling.cell_or, Setting.ledger_cell, World.{change, put}, declared.cell.Cell.Cell}
 use Rattle.volap_cell.specs.declared.cell.Cell.TheVariants as cell
 use Rattle.seeded_run.specs.Phase.{held}
 use Rattle.olap_top.proofs.Handing.{cell-freed, cells-back, whole-left}
@@ -19,7 +18,7 @@ returns-clause-rest c = λ h with core.
       whole = whole-left h with c.args.state core (record { cells = c.put_one.new.cells; actors = c.args.state.actors }) emptied refl;
       freed = subst (λ (l : List (Option Cell)). get_or l 0 None ≡ Some cell.Free) (sym emptied) (cell-freed xs c.lift_one-cell.result at);
       same = (λ k. record {
-        cells = λ y. subst (λ (l : List (Option Cell)). put (change ledger_cell FreeCell (LedgerCell c.into_inner.result) ∷ []) (λ z. option_map_or cell_of (get_or l z None) FreeCell) y ≡ option_map_or cell_of (get_or xs y None) FreeCell) (sym emptied) (cells-back xs c.lift_one-cell.result c.into_inner.result at ledger y) k;
+        cells = λ y. subst (λ (l : List (Option Cell)). put (change ledger_cell FreeCell (LedgerCell c.into_inner.result) ∷ []) (λ z. cell_or (get_or l z None)) y ≡ cell_or (get_or xs y None)) (sym emptied) (cells-back xs c.lift_one-cell.result c.into_inner.result at ledger y) k;
         actors = (held h with c.args.state).actors;
       });
     }

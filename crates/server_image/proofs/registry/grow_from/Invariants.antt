@@ -1,4 +1,4 @@
-use Rattle.std.proofs.Common.{◌≤◌, length, take}
+use Rattle.std.proofs.Common.{take}
 use Rattle.server_image.specs.{Image.grown_at, Spots.{AreBoxes, Grows}}
 use Rattle.server_image.proofs.registry.grow_from.Given as goal
 

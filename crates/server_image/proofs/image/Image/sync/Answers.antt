@@ -1,4 +1,4 @@
-use Rattle.std.proofs.Common.{◌≡◌, ◌∙◌, ◌++◌, List, subst, sym, ap}
+use Rattle.std.proofs.Common.{◌∙◌, subst, sym, ap}
 use Rattle.server_image.specs.Image.{ImageValue, AreGrowths}
 use Rattle.server_image.proofs.image.Image.sync.Goals as goal
 

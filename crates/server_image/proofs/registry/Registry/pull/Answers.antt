@@ -1,4 +1,4 @@
-use Rattle.std.proofs.{Common.{◌≡◌, ◌∙◌, ◌≤◌, List, length, take, subst, sym, ap, arith}, lemmas.List.take_all, lemmas.Result.IfOk-weaker}
+use Rattle.std.proofs.{Common.{◌≡◌, ◌∙◌, ◌≤◌, List, length, subst, sym, ap, arith}, lemmas.List.take_all, lemmas.Result.IfOk-weaker}
 use Rattle.describing_set.specs.declared.listing.Spot.{Spot}
 use Rattle.server_image.specs.{Image.grown_at, Registry.RegistryValue, Spots.{AreBoxes, Grows, spot_ids}}
 use Rattle.server_image.proofs.Boxes.{Grows-ids, Grows-length}

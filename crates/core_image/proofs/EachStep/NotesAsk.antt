@@ -8,7 +8,7 @@ use Rattle.volap_cell.specs.{Cells.{CellValue, LedgerCell, RegistryCell, TheLedg
 use Rattle.volap_cell.specs.declared.kind.Kind.TheVariants as kind
 use Rattle.volap_cell.proofs.{Cells.Past.ledger-past, Histories.Books.EventNew, Persons.has-role, Views.Books.view-note_asking, Views.Fields.pushed-new, Views.Shown.{held-ledger, held-registry}}
 use Rattle.core_image.specs.NotesDue.{BeginsAsking, CanNoteAsking, Notes}
-use Rattle.core_image.proofs.{Commands.NewCommands.{asker-admin, asking-begins, caller-there}, Commands.Owed.{IsFew, few-pushed}, Kinds.CallsBegin.call-kept}
+use Rattle.core_image.proofs.{Commands.NewCommands.{asker-admin, asking-begins, caller-there}, Commands.Owed.{IsFew, few-pushed}, EachStep.CallsBegin.call-kept}
 
 -- what the step needs beside what it does: the ledger holds no more than it may, the administrator has no spares, and a balance
 -- makes no more actions than a byte can tell

@@ -6,7 +6,7 @@ use Rattle.row_ledger.specs.{LedgerValue.LedgerValue, declared.settings.How.How}
 use Rattle.volap_cell.specs.{Cells.{CellValue, LedgerCell}, Commands.{MayNoteEnd, owes}, Ghost.Ghost, ImageKinds.{NotesEnded, OfEnded, doing}, Invariant.InvWith, Setting.Setting, Steps.{IsHere, Keeps, Makes}, Values.ActorValue, View.view, World.{World, Change, change, held}, declared.command.Command.Command, declared.command.Work.Work}
 use Rattle.volap_cell.specs.declared.kind.Kind.TheVariants as kind
 use Rattle.core_image.specs.NotesDue.{CanNoteEnded, NotesEnd}
-use Rattle.core_image.proofs.{Commands.Backed.all-promised, Commands.BalanceEnds.balance-ends, Commands.Endings.ends-as, Kinds.CallsEnd.{IsEnding, ended-kept}}
+use Rattle.core_image.proofs.{Commands.Backed.all-promised, Commands.BalanceEnds.balance-ends, Commands.Endings.ends-as, EachStep.CallsEnd.{IsEnding, ended-kept}}
 
 -- what a command is that may end so
 ending : (s : Setting) (w : World) (g : Ghost) (i : InvWith s (view s w) g) (n of : ℕ) (work : Work) (how : How) → (view s w).commands n ≡ doing of work → MayNoteEnd s.servers work ((view s w).jobs n) how

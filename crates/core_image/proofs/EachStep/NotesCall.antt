@@ -9,7 +9,7 @@ use Rattle.volap_cell.specs.{Cells.{CellValue, LedgerCell}, Commands.owes, Image
 use Rattle.volap_cell.specs.declared.kind.Kind.TheVariants as kind
 use Rattle.volap_cell.proofs.{Histories.Books.{EventNew, one-event}, Persons.has-role, Views.Books.view-note_called, Views.Shown.held-ledger}
 use Rattle.core_image.specs.NotesDue.{CanNoteCalled, Notes, work_alone}
-use Rattle.core_image.proofs.{Commands.NewCommands.{alone-begins, caller-there}, Commands.Owed.{IsFew, few-pushed}, Kinds.CallsBegin.call-kept}
+use Rattle.core_image.proofs.{Commands.NewCommands.{alone-begins, caller-there}, Commands.Owed.{IsFew, few-pushed}, EachStep.CallsBegin.call-kept}
 
 -- what the step needs beside what it does: the ledger holds no more than it may, and a pull is for a server that is there
 record IsSound (l : Change) (a b : ActorValue) (registry : RegistryValue) (d : NotesCalled registry false l a b) : Type 0 where

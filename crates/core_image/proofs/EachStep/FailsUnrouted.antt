@@ -11,7 +11,7 @@ use Rattle.volap_cell.specs.{Falls.{control_of, farthest, gates_of_errand, gates
 use Rattle.volap_cell.specs.declared.command.Work.TheVariants as work_is
 use Rattle.volap_cell.specs.declared.kind.Kind.TheVariants as kind
 use Rattle.volap_cell.proofs.{Histories.Books.{EventNew, ImageNew, image-event}, OneEvent.Noted.telling-ends, OneEvent.Quiet.{Told, told-here}, Persons.has-command, Views.Books.{by_begin_insert, view-fail_unrouted}, Views.Fields.IsNewAt, Views.Frames.{actor-at, actor-off}, Views.Seen.renewed}
-use Rattle.core_image.proofs.{Commands.Ends.{ended-desking, ended-placing, insert-fails}, Commands.Owed.{owed-covering, owed-imaging, owed-insert, owed-inserting, owed-leading, owed-only, promises-now, with_owed}, Kinds.Clears.{ended-balancing, ended-inserting, ended-numbering, ended-working}, Lessens.Remains.{control-changed, gates-changed}, Rows.begun-of}
+use Rattle.core_image.proofs.{Commands.Ends.{ended-desking, ended-placing, insert-fails}, Commands.Owed.{owed-covering, owed-imaging, owed-insert, owed-inserting, owed-leading, owed-only, promises-now, with_owed}, EachStep.Clears.{ended-balancing, ended-inserting, ended-numbering, ended-working}, Lessens.Remains.{control-changed, gates-changed}, Rows.begun-of}
 
 module _ (im l : Change) (b : ActorValue) (s : Setting) (w : World) (n : ℕ) (g : Ghost) (i : InvWith s (view s w) g) (ag : Agrees w (im ∷ l ∷ []) n (w.actors n)) (does : FailsUnrouted im l (w.actors n) b) where
   abbrev cs : List Change

@@ -12,7 +12,7 @@ use Rattle.tree_shape.specs.Shape.{numbers}
 use Rattle.volap_cell.specs.{AdminKinds.IsBuiltOf, Cells.{CellValue, GateCell, MapCell, queue_in, tag_of}, Errands.{AtBlock, AtRest, Outside, RowWay, place_of, row_way, way_of}, Falls.{far, gates_of_errand, gates_of_task, gates_of_way, left}, Ghost.Ghost, Growing.Queueing, Invariant.InvWith, Setting.{Setting, actor_count}, Steps.{IsHere, IsKept, Keeps, Makes}, Sums.sum_below, TreeKinds.{DoesEnterQueue, HasRow, on_way, MayQueue}, Turning.{inside_of, is_inside}, Values.{ActorValue, ErrandValue}, View.{View, view}, Working.{Working, frozen_in}, World.{Agrees, Change, World, after, change, held}, declared.errand.RowErrand.RowErrand, declared.errand.Way.Way, declared.errand.Way.TheVariants.{Before, Carried, Placed, Put}, declared.kind.Kind.TheVariants.EnterQueue}
 use Rattle.volap_cell.proofs.{Histories.Standings.live-on, OneEvent.Known.{AreOlder, older-rows}, OneEvent.Older.insert-within, Sums.sum-kept, Views.Fields.IsNewAt, Views.Frames.{actor-at, actor-off}, Views.Gates.gate-behind, Views.Seen.renewed, Views.Shown.held-leads, Views.Trees.{by_enter_queue, view-enter_queue}}
 use Rattle.core_tree.specs.DueAtGates.{CanEnterQueue}
-use Rattle.core_tree.proofs.{Kinds.FillsPurse.far-some, Rows.Arrivals.{Arrives, arrives, same-row}, Rows.Places.{HaveOneMore, Passes, covering-placed, imaging-placed, inserting-placed, nobody-placed, placing-placed, resting-placed, telling-placed, with_one, off-one}, Rows.PlacesRead.{balancing-placed, querying-placed, working-placed}, Rows.Remains.{IsStepOf, control-same, gates-changed}, Rows.Rests.turning-rested}
+use Rattle.core_tree.proofs.{EachStep.FillsPurse.far-some, Rows.Arrivals.{Arrives, arrives, same-row}, Rows.Places.{HaveOneMore, Passes, covering-placed, imaging-placed, inserting-placed, nobody-placed, placing-placed, resting-placed, telling-placed, with_one, off-one}, Rows.PlacesRead.{balancing-placed, querying-placed, working-placed}, Rows.Remains.{IsStepOf, control-same, gates-changed}, Rows.Rests.turning-rested}
 use Rattle.std.specs.FinMap as map
 
 -- a row before its gate has something left to do there

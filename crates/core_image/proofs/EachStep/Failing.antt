@@ -9,7 +9,7 @@ use Rattle.volap_cell.specs.{Cells.{CellValue, DeskCell, DeskOf, ImageCell, Imag
 use Rattle.volap_cell.specs.declared.command.Work.TheVariants as work_is
 use Rattle.volap_cell.specs.declared.kind.Kind.TheVariants as kind
 use Rattle.core_image.specs.NotesDue.{CanFailQuery, CanFailRouted, CanFailUnrouted}
-use Rattle.core_image.proofs.{Commands.Backed.{all-promised, its-desk, some-owed}, Kinds.FailsQuery.query-keeps, Kinds.FailsRouted.routed-keeps, Kinds.FailsUnrouted.unrouted-keeps}
+use Rattle.core_image.proofs.{Commands.Backed.{all-promised, its-desk, some-owed}, EachStep.FailsQuery.query-keeps, EachStep.FailsRouted.routed-keeps, EachStep.FailsUnrouted.unrouted-keeps}
 
 -- the number of an actor's command is the one that is said of it
 its-number : (command : Command) (has : Option Command) (of : ℕ) (work : Work) → has ≡ Some command → has ≡ doing of work → command.of ≡ of

@@ -11,7 +11,7 @@ use Rattle.volap_cell.specs.{Falls.{control_of, far, gates_of_state, gates_of_wo
 use Rattle.volap_cell.specs.declared.command.Work.TheVariants as work_is
 use Rattle.volap_cell.specs.declared.kind.Kind.TheVariants as kind
 use Rattle.volap_cell.proofs.{Histories.Books.desk-event, OneEvent.Noted.{IsNotedBy, telling-ends}, OneEvent.Quiet.{Told, all-stays, told-here}, OneEvent.Told.few-pushed, Persons.has-command, Sums.{sum-changed, sum-kept}, Views.Books.{by_query, view-answer}, Views.Fields.{IsNewAt, IsPushed}, Views.Frames.{actor-at, actor-off}, Views.Seen.renewed}
-use Rattle.core_image.proofs.{Answered.{allowed, done}, Commands.Going.placing-routed, Kinds.Clears.{cleared-desking, cleared-inserting, cleared-leading, cleared-querying, ended-balancing, ended-inserting, ended-numbering, ended-working, others-keep}, Lessens.Lefts.{IsSteady, control-goes, gates-go, nothing-of, queries-go, rows-go}}
+use Rattle.core_image.proofs.{Answered.{allowed, done}, Commands.Going.placing-routed, EachStep.Clears.{cleared-desking, cleared-inserting, cleared-leading, cleared-querying, ended-balancing, ended-inserting, ended-numbering, ended-working, others-keep}, Lessens.Lefts.{IsSteady, control-goes, gates-go, nothing-of, queries-go, rows-go}}
 
 module _ (d l : Change) (b : ActorValue) (s : Setting) (w : World) (n : ℕ) (g : Ghost) (i : InvWith s (view s w) g) (ag : Agrees w (d ∷ l ∷ []) n (w.actors n)) (does : DoesAnswer d l (w.actors n) b) where
   abbrev cs : List Change

@@ -11,7 +11,7 @@ use Rattle.volap_cell.specs.{Falls.{control_of, far, gates_of_errand, gates_of_p
 use Rattle.volap_cell.specs.declared.command.Work.TheVariants as work_is
 use Rattle.volap_cell.specs.declared.kind.Kind.TheVariants as kind
 use Rattle.volap_cell.proofs.{Histories.Books.{DeskNew, EventNew, ImageNew, desk-image-event}, OneEvent.Noted.telling-ends, OneEvent.Quiet.{Told, told-here}, Persons.has-command, Sums.sum-changed, Views.Books.{by_ack, view-fail_routed}, Views.Fields.IsNewAt, Views.Frames.{actor-at, actor-off}, Views.Seen.renewed}
-use Rattle.core_image.proofs.{Commands.Ends.{cleared-sessions, ended-placing, insert-fails, one-refused, only-its}, Commands.Owed.{owed-covering, owed-imaging, owed-insert, owed-inserting, owed-leading, owed-only, promises-now, with_owed}, Kinds.Clears.{cleared-desking, cleared-inserting, cleared-leading, cleared-querying, ended-balancing, ended-inserting, ended-numbering, ended-working}, Lessens.Remains.{control-changed, gates-changed, gates_on}, Rows.begun-of}
+use Rattle.core_image.proofs.{Commands.Ends.{cleared-sessions, ended-placing, insert-fails, one-refused, only-its}, Commands.Owed.{owed-covering, owed-imaging, owed-insert, owed-inserting, owed-leading, owed-only, promises-now, with_owed}, EachStep.Clears.{cleared-desking, cleared-inserting, cleared-leading, cleared-querying, ended-balancing, ended-inserting, ended-numbering, ended-working}, Lessens.Remains.{control-changed, gates-changed, gates_on}, Rows.begun-of}
 use Rattle.list_words.proofs.Elements.{Contains-first}
 
 -- a path that isn't empty has one at least

@@ -10,7 +10,7 @@ use Rattle.list_words.proofs.Truth.{on_bool}
 use Rattle.volap_cell.proofs.{Histories.Beginnings.no-query, Histories.Books.{DeskNew, EventNew, desk-event}, OneEvent.Noted.telling-ends, OneEvent.Quiet.{Told, told-here}, Persons.has-command, Sums.sum-changed, Views.Books.{by_query, view-fail_query}, Views.Fields.IsNewAt, Views.Frames.{actor-at, actor-off}, Views.Seen.renewed}
 use Rattle.volap_cell.specs.declared.command.Work.TheVariants as work_is
 use Rattle.volap_cell.specs.declared.kind.Kind.TheVariants as kind
-use Rattle.core_image.proofs.{Commands.Ends.{cleared-sessions, ended-placing, none-open, only-its, query-fails, verdict-closed}, Commands.Owed.{owed-others, promises-now}, Kinds.Clears.{cleared-desking, cleared-inserting, cleared-leading, cleared-querying, ended-balancing, ended-inserting, ended-numbering, ended-working}, Lessens.Remains.{control-changed, gates-changed, gates_on, queries-changed, queries-fall, queries_on, rows-changed, rows_at, rows_on}}
+use Rattle.core_image.proofs.{Commands.Ends.{cleared-sessions, ended-placing, none-open, only-its, query-fails, verdict-closed}, Commands.Owed.{owed-others, promises-now}, EachStep.Clears.{cleared-desking, cleared-inserting, cleared-leading, cleared-querying, ended-balancing, ended-inserting, ended-numbering, ended-working}, Lessens.Remains.{control-changed, gates-changed, gates_on, queries-changed, queries-fall, queries_on, rows-changed, rows_at, rows_on}}
 
 -- a query is no insert
 query-no-insert : (row : Row) (routed : Bool) → ◌≡◌ {A = Work} work_is.Query (work_is.Insert row routed) → ⊥

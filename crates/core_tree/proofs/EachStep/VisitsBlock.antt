@@ -12,7 +12,7 @@ use Rattle.tree_shape.specs.{Laws.{VisitLaw, GateLaw, BlockLaw}, Queries.{IsUnfi
 use Rattle.tree_shape.proofs.{Reading.Noted.{none-above, none-noted}, Whole.Assembled.node-block, Whole.Totals.links-on}
 use Rattle.volap_cell.specs.{Cells.{CellValue, BlockCell, block_in, has_block, pins_in}, Errands.{ReadPart, RowWay, AtBlock, IsCarried, block_at, read_of}, Falls.{far, queries_of_task, blocks_left}, Ghost.{Ghost, InTree, NotOfStock}, Growing.table_of, Invariant.InvWith, Querying.{Pinning, IsCounted, IsReading, IsWalk, pins_of, must_hold}, Setting.{Setting, actor_count, cell_count}, Steps.{IsHere, IsKept, Keeps, Makes}, Stocking.{cells_at, NoneExpects, items_of_read}, Sums.sum_below, TreeKinds.{DoesBlockVisit, with_reading}, Values.{ActorValue, ErrandValue, ReadingValue, Read}, View.{View, view}, World.{World, Change, change, held, after, Agrees}, declared.kind.Kind.TheVariants.BlockVisit}
 use Rattle.volap_cell.proofs.{Actors.{read-is, way-is}, Sums.sum-same, Views.Frames.{actor-at, actor-off, kept-one}, Views.Seen.beside, Views.Trees.by_gate_read}
-use Rattle.core_tree.proofs.{Kinds.Descents.gate-phase, Queries.BlocksLeft.{left-is, left-falls}, Queries.QuerySteps.{ReadsStep, query-kept}, Queries.Walkers.{IsWalker, walker, rows-under, tree-few, counted-few}}
+use Rattle.core_tree.proofs.{EachStep.Descents.gate-phase, Queries.BlocksLeft.{left-is, left-falls}, Queries.QuerySteps.{ReadsStep, query-kept}, Queries.Walkers.{IsWalker, walker, rows-under, tree-few, counted-few}}
 use Rattle.core_tree.specs.ReadDue.{CanBlockVisit, CanVisit, HasNoted, IsAtBlock, VisitsFor}
 
 -- What is noted of a block waits for no stamp that nothing expects.

@@ -6,7 +6,7 @@ use Rattle.row_ledger.proofs.{Changes.quiet, Growth.KeepsRight-ended}
 use Rattle.volap_cell.specs.{Commands.owes, Desking.is_on_desk, Falls.{Falls, control_of, gates_of_errand, gates_of_work, job_left, left, of_work}, Ghost.Ghost, ImageKinds.{NotesEnded, OfEnded}, Invariant.InvWith, Owing.{Owing, is_insert_work}, Setting.{Setting, actor_count, site_in}, Steps.IsKept, Stocking.{items_of_job, spent_of}, Values.{ActorValue, JobValue}, View.{View, view, row_at}, Working.frozen_in, World.{World, Change, Agrees, after}, declared.command.Command.Command, declared.command.Work.Work, declared.role.Role.TheVariants.Admin}
 use Rattle.volap_cell.specs.declared.kind.Kind.TheVariants as kind
 use Rattle.volap_cell.proofs.{Histories.Books.{EventNew, one-event}, OneEvent.Noted.telling-ends, OneEvent.Quiet.{Told, told-here}, Persons.has-command, Views.Books.{by_call, view-note_ended}, Views.Fields.IsNewAt, Views.Frames.{actor-at, actor-off}, Views.Seen.renewed}
-use Rattle.core_image.proofs.{Commands.Ends.{ended-desking, ended-placing}, Commands.JobsEnd.{jobless-balancing, jobless-numbering, jobless-stamping, jobless-stocking, jobless-working}, Commands.Owed.{owed-others, promises-now}, Kinds.Clears.ended-inserting, Lessens.Remains.{control_at, control-changed, gates-changed}}
+use Rattle.core_image.proofs.{Commands.Ends.{ended-desking, ended-placing}, Commands.JobsEnd.{jobless-balancing, jobless-numbering, jobless-stamping, jobless-stocking, jobless-working}, Commands.Owed.{owed-others, promises-now}, EachStep.Clears.ended-inserting, Lessens.Remains.{control_at, control-changed, gates-changed}}
 
 -- what a command is as it ends
 pub record IsEnding (s : Setting) (h : List Event) (placed : ℕ → Bool) (of : ℕ) (work : Work) (job : Option JobValue) (how : How) : Type 0 where

@@ -11,7 +11,7 @@ use Rattle.volap_cell.specs.{Desking.Desking, Falls.{control_of, far, gates_of_e
 use Rattle.volap_cell.specs.declared.command.Work.TheVariants as work_is
 use Rattle.volap_cell.specs.declared.kind.Kind.TheVariants as kind
 use Rattle.volap_cell.proofs.{Histories.Books.desk-image-event, OneEvent.Acked.{ack-changes, placing-acked, inserting-acked, imaging-acked, covering-acked, desking-acked, querying-acked, working-acked, balancing-acked, telling-acked, few-acked, lineage-acked, growing-acked, queueing-acked, resting-acked}, OneEvent.Ahead.{command-stays, errand-stays, job-stays, parts-stay}, OneEvent.Known.{AreOlder, older-rows}, Persons.has-command, Sums.{sum-changed, sum-kept, sum-same}, Views.Books.{by_ack, view-ack}, Views.Fields.{IsNewAt, IsPushed}, Views.Frames.{actor-at, actor-off, unmoved-one}, Views.Seen.renewed}
-use Rattle.core_image.proofs.{Images.Widens.{IsPlacedRow, covering-now, imaging-now, inserting-now, leading-now, noted-now, row-covered}, Kinds.Clears.{cleared-desking, cleared-inserting, cleared-leading, cleared-querying, ended-balancing, ended-inserting, ended-numbering, ended-working, still-has}, Rows.{row-coords, may-coords, begun-of}}
+use Rattle.core_image.proofs.{Images.Widens.{IsPlacedRow, covering-now, imaging-now, inserting-now, leading-now, noted-now, row-covered}, EachStep.Clears.{cleared-desking, cleared-inserting, cleared-leading, cleared-querying, ended-balancing, ended-inserting, ended-numbering, ended-working, still-has}, Rows.{row-coords, may-coords, begun-of}}
 
 module _ (d im l : Change) (b : ActorValue) (s : Setting) (w : World) (n : ℕ) (g : Ghost) (i : InvWith s (view s w) g) (ag : Agrees w (d ∷ im ∷ l ∷ []) n (w.actors n)) (does : DoesAck s.hierarchy d im l (w.actors n) b) where
   abbrev cs : List Change

@@ -18,7 +18,7 @@ use Rattle.tree_shape.specs.{Laws.{BeginLaw, RootLaw, OtherLaw}, Queries.{IsUnfi
 use Rattle.tree_shape.proofs.Whole.Assembled.{node-gate}
 use Rattle.volap_cell.specs.{Cells.{CellValue, MapCell, pins_in, queue_in, tag_of, way_in, way_to_tree, where_in}, Errands.{ReadPart, taken_by, taken_of, read_of, want_of}, Falls.{far, per_query, queries_of_task, blocks_left}, Ghost.{Ghost, InTree, NotOfStock}, Growing.{IsUnder, table_of}, Invariant.InvWith, Querying.{IsCounted, IsReading, IsWalk, IsInTreeOf, pins_of, one_pin, must_hold}, Setting.{Setting, actor_count, cell_count, site_in}, Steps.{IsKept, Keeps}, Stocking.{cells_at, IsWhole, NoneExpects}, Sums.sum_below, TreeKinds.{DoesGateRead, one_if_some, pin_if}, Values.{ActorValue, ReadingValue, TaskValue, Unread, Read}, View.{View, view}, World.{World, Change, after, Agrees}, declared.kind.Kind.TheVariants.GateRead}
 use Rattle.volap_cell.proofs.{Actors.read-is, Cells.Numbers.at-map, Desks.Queries.{IsQueryPart, query-part}, Persons.has-taken, Sums.sum-changed, Views.Fields.IsNewAt, Views.Frames.{actor-at, actor-off}, Views.Gates.gate-behind, Views.Seen.beside, Views.Touches.turned, Views.Trees.by_gate_read}
-use Rattle.core_tree.proofs.{Kinds.VisitsBlock.waits-noted, Queries.BlocksLeft.{left-is, left-few}, Queries.QuerySteps.{ReadsStep, query-kept}, Queries.Walkers.{home-at, under-home, asked-of}}
+use Rattle.core_tree.proofs.{EachStep.VisitsBlock.waits-noted, Queries.BlocksLeft.{left-is, left-few}, Queries.QuerySteps.{ReadsStep, query-kept}, Queries.Walkers.{home-at, under-home, asked-of}}
 
 -- the gate of a shard that its worker's table leads to
 pub record IsShardGate (s : Setting) (w : World) (g : Ghost) (x c : ℕ) : Type 0 where
