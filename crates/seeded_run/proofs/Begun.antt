@@ -134,7 +134,7 @@ alone-carries m held n order first block = all-from (length m.state.actors.items
         ∙ ap (λ e. not (is_carried_at block (way_of e))) idle.errand
 
 -- What a turn was it is still when it is known whose the first command is.
-pub turned-then : (m mid now : Running) (n : ℕ) → HasTurned m n mid → now ≡ record mid { begun = now.begun; first = now.first } → TakesTurn m n now
+pub turned-then : (m mid now : Running) (n : ℕ) → HasTurned m n mid → now ≡ record mid { begun = now.begun; first = now.first; hands = now.hands } → TakesTurn m n now
 turned-then m mid now n turned same =
     let t = turned.turn in
     subst (λ (x : Running). TakesTurn m n x) (sym same)
@@ -145,7 +145,7 @@ turned-then m mid now n turned same =
       turn = t.turn;
     })
 
-pub less-then : (m mid now : Running) (n : ℕ) → HasTurned m n mid → now ≡ record mid { begun = now.begun; first = now.first } → (most : ℕ) → HasLeftOver m most → (most_now : ℕ) × HasLeftOver now most_now × (most_now < most)
+pub less-then : (m mid now : Running) (n : ℕ) → HasTurned m n mid → now ≡ record mid { begun = now.begun; first = now.first; hands = now.hands } → (most : ℕ) → HasLeftOver m most → (most_now : ℕ) × HasLeftOver now most_now × (most_now < most)
 less-then m mid now n turned same most has =
     let less = turned.left most has in
     (less.0, subst (λ (x : Running). HasLeftOver x less.0) (sym same) (record { core = less.1.core }), less.2)

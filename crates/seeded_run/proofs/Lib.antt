@@ -14,6 +14,8 @@ pub mod Looks
 pub mod Told
 pub mod Begins
 pub mod Takings
+pub mod IdleHands
+pub mod Surveys
 pub mod Begun
 pub mod Goings
 pub mod Fallbacks

@@ -1,5 +1,5 @@
 -- What an actor does on its turn is told by what one thread sees that holds all cells and actors.
-use Rattle.std.proofs.Common.{◌≡◌, ◌∙◌, ℕ, ◌<◌, Bool, true, false, List, [], length, get_or, Option, Some, None, refl, sym, ap, subst, not, arith, ◌+◌, cond}
+use Rattle.std.proofs.{Common.{◌≡◌, ◌∙◌, ℕ, ◌<◌, Bool, true, false, List, [], length, get_or, Option, Some, None, refl, sym, ap, subst, not, arith, ◌+◌, cond}, lemmas.Bool.eqb-true}
 use Rattle.std.specs.{Option.option_map_or, Prelude.{◌==◌, ◌&&◌, ◌||◌, if◌then◌else◌, is_none, option_and_then, option_map}}
 use mathlib.Core.Path.{fun_ext}
 use Rattle.core_tree.proofs.Rows.Carriers.{Carries, carries}
@@ -191,3 +191,9 @@ pub in-turn : (in_order : Bool) (first opened : Option ℕ) (n : ℕ) (x : Bool)
     → (if in_order then option_map_or (λ m. m == n) opened false && x else x) ≡ ((not in_order || option_map_or (λ m. m == n) first false) && x)
 in-turn true first opened n x same = ap (λ o. option_map_or (λ m. m == n) o false && x) (same refl)
 in-turn false first opened n x same = refl
+
+-- in order it is the turn of whose command the first is
+pub its-turn : (in_order : Bool) (first : Option ℕ) (n : ℕ) → (not in_order || option_map_or (λ m. m == n) first false) ≡ true → in_order ≡ true → first ≡ Some n
+its-turn false first n is order = cc
+its-turn true None n is order = cc
+its-turn true (Some m) n is order = ap Some (eqb-true m n is)

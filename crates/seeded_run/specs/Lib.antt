@@ -7,6 +7,8 @@ pub mod Can
 pub mod Laws
 pub mod Look
 pub mod Takes
+pub mod Hands
+pub mod Survey
 pub mod Ranks
 pub mod Measure
 pub mod Progress

@@ -1,11 +1,11 @@
 -- What holds between the turns of a phase, and what a turn is.
-use Rattle.std.specs.Prelude.{ℕ, ◌≡◌, ◌≢◌, ◌+◌, ◌≤◌, ◌<◌, Bool, true, false, nat_lt, count_by, List, [], Option, Some, length, get_or, slice_get}
+use Rattle.std.specs.Prelude.{ℕ, ◌≡◌, ◌≢◌, ◌+◌, ◌≤◌, ◌<◌, Bool, true, false, nat_lt, count_by, List, [], Option, Some, None, length, get_or, slice_get}
 use Rattle.core_steps.specs.Ready.{Stays}
 use Rattle.script_form.specs.declared.script.Command.{Command}
 use Rattle.script_run.specs.Places.{session_of}
 use Rattle.tree_shape.specs.Shape.{Shape}
 use Rattle.volap_cell.specs.{Falls.left, Ghost.{Ghost, NotOfStock}, Setting.Setting, State.IsWorldOf, Steps.history_in, World.World, declared.kind.Kind.Kind}
-use Rattle.seeded_run.specs.{Can.can_step, Core.{HasCore, IsCore}, Due.{does_nothing, due}, DueSteps.due_step, Kept.{AreIdle, IsBetween}, Measure.{CoreHasLeft, limits_of}, Order.is_order, Phase.{ClosesLast, EndsBehindAny, IsKeptTurn, MayAllRun, NobodyCanStep, about, held, most_actors, phase_from, RunsTo, StopsAt, StopsBehindAny}, Ranks.{rank, commands_waiting, with_waiting}, Rests.{PhaseRun, first_open}, Running.{IsRunning, RunsBehind}, Steps.begins_by, declared.due_step.DueStep.DueStep, declared.machine.Running.Running}
+use Rattle.seeded_run.specs.{Can.can_step, Core.{HasCore, IsCore}, Due.{does_nothing, due}, DueSteps.due_step, Hands.{AreFreeHands, IsFreeHand}, Kept.{AreIdle, IsBetween}, Measure.{CoreHasLeft, limits_of}, Order.is_order, Phase.{ClosesLast, EndsBehindAny, IsKeptTurn, MayAllRun, NobodyCanStep, about, held, most_actors, phase_from, RunsTo, StopsAt, StopsBehindAny}, Ranks.{rank, commands_waiting, with_waiting}, Rests.{PhaseRun, first_open}, Running.{IsRunning, RunsBehind}, Steps.begins_by, Survey.IsSurvey, declared.due_step.DueStep.DueStep, declared.machine.Running.Running, declared.survey.Survey.Survey}
 use Rattle.row_ledger.specs.declared.settings.Use.{Use}
 use Rattle.seeded_turns.specs.declared.schedule.Schedule.{Schedule}
 
@@ -63,10 +63,22 @@ pub record IsPhaseKept (m : Running) : Type 0 where
 abbrev pub KnowsFirst : Running → Type 0
 KnowsFirst m = m.in_order ≡ true → first_open (phase_of m) (history_in (world_of m)) ≡ m.first
 
+-- an actor that is told to be a hand with nothing to do is one
+abbrev pub IsHandTold : Running → ℕ → Type 0
+IsHandTold m n = (worker : ℕ) → n < length m.state.actors.items → get_or m.hands.workers n None ≡ Some worker → IsFreeHand ((world_of m).actors n) worker
+
+abbrev pub KnowsHands : Running → Type 0
+KnowsHands m = (n : ℕ) → IsHandTold m n
+
+-- and so is each but one
+abbrev pub KnowsOtherHands : Running → ℕ → Type 0
+KnowsOtherHands m but = (n : ℕ) → n ≢ but → IsHandTold m n
+
 -- this is what holds between turns
 pub record IsPhaseHeld (m : Running) : Type 0 where
   pub kept : IsPhaseKept m
   pub first : KnowsFirst m
+  pub hands : KnowsHands m
 
 -- where the commands go in order, everyone but this actor does nothing
 abbrev pub AloneInOrder : Running → ℕ → Type 0
@@ -124,6 +136,7 @@ pub record HasTurned (m : Running) (n : ℕ) (now : Running) : Type 0 where
   pub kept : IsPhaseKept now
   pub left : (most : ℕ) → HasLeftOver m most → (most_now : ℕ) × HasLeftOver now most_now × (most_now < most)
   pub alone : AloneInOrder now n
+  pub hands : KnowsHands m → KnowsOtherHands now n
 
 -- A session's next command is the one behind its next one.
 pub record HasMovedOn (m : Running) (n : ℕ) (now : Running) : Type 0 where
@@ -157,6 +170,7 @@ pub record IsFirstMoment (m : Running) : Type 0 where
   pub next : AreFirstCursors m.with m.phase.now (length m.state.actors.items) m.next.items
   pub left : m.left ≡ streams_open (length m.phase.now) m.next.items
   pub begun : m.begun ≡ 0
+  pub hands : AreFreeHands m.state.actors.items m.hands
 
 -- some turns lead from one moment of a phase to another
 abbrev pub HasRunTo : Running → Schedule → Running → Schedule → Type 0
@@ -191,6 +205,10 @@ control_left s p w = (with_waiting s (commands_waiting s p (history_in w)) (left
 
 unfoldable pub most_steps : Running → ℕ
 most_steps m = rank (limits_of (about_in m)) (record { control = control_left (about_in m) (phase_of m) (world_of m) + 1; gates = 0; rows = 0; queries = 0; counted = 0 })
+
+-- what a survey tells
+abbrev pub TellsSurvey : Running → Survey → Type 0
+TellsSurvey m survey = IsSurvey m.with m.state.cells.items m.state.actors.items survey
 
 -- What holds between turns, and how many steps are left, as the run of turns takes them: it doesn't look into either.
 

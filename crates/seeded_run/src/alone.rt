@@ -9,7 +9,7 @@ use script_form::Command;
 use volap_cell::Actor;
 
 /// Whether the actor has nothing to do, and is not counted in at its desk.
-fn does_nothing(actor: &Actor) -> bool
+pub(crate) fn does_nothing(actor: &Actor) -> bool
     ensures { result ≡ does_nothing (actor_of actor.now) }
 {
     actor.command.is_none()

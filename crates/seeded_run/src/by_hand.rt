@@ -10,6 +10,7 @@ ghost use Rattle.volap_cell.specs.Setting.{actor_count};
 ghost use Rattle.volap_cell.specs.declared.kind.Kind.TheVariants as kind_is;
 
 use crate::due_step::DueStep;
+use crate::hands::FreeHands;
 use crate::jobs::{give_up, has_frozen_by};
 use crate::look;
 use crate::machine::Running;
@@ -182,6 +183,7 @@ fn make_from(
     ensures into { StopsBehindAny false h.now with.now phase.now state.old state.new }
 {
     let left = streams_open(&next, phase.len());
+    let hands = FreeHands::among(&state.actors);
     let before = Snapshot::of(state);
     let bare = State {
         cells: Vec::new(alloc),
@@ -198,6 +200,7 @@ fn make_from(
         left,
         begun: 0,
         first: None,
+        hands,
     };
     let made = make_whole(&mut running, alloc, moves);
     let Running { state: reached, .. } = running;

@@ -1,17 +1,16 @@
 //! What an actor does that can make the step that is due for it, in a core that one thread holds.
-ghost use Rattle.std.specs.Prelude.{◌≡◌, ◌==◌, ◌||◌, ◌<◌, ℕ, not, if◌then◌else◌, List, [], get_or, length, option_copied, option_map, Some, None, true, false};
+ghost use Rattle.std.specs.Prelude.{◌≡◌, ◌==◌, ◌||◌, ◌<◌, ℕ, not, if◌then◌else◌, List, [], get_or, length, option_copied, option_map, IfSome, Some, None, true, false};
 ghost use Rattle.std.specs.Option.{option_map_or};
 ghost use Rattle.dim_hierarchy.specs.Dimension.{Dimension};
 ghost use Rattle.script_form.specs.declared.script.Command as script;
 ghost use Rattle.seeded_run.specs.Can.{meets, wanted_of};
 ghost use Rattle.seeded_run.specs.Core.{HasCore, IsCore};
 ghost use Rattle.seeded_run.specs.Due.{actor_kind, desk_of, due_by, errand_kind, free_kind, hand_kind, purse_kind, work_kind};
-ghost use Rattle.seeded_run.specs.DueSteps.{due_step, kind_if, step_by, step_of};
+ghost use Rattle.seeded_run.specs.DueSteps.{kind_if, step_by, step_of};
 ghost use Rattle.seeded_run.specs.Look.{IsTold, ahead, alone_by, history_at, setting_by, world_by};
-ghost use Rattle.seeded_run.specs.Rests.{PhaseRun, first_open, rest_of};
+ghost use Rattle.seeded_run.specs.Survey.{IsSurvey};
 ghost use Rattle.seeded_run.specs.Takes.{AsksHere, CanPick, HasDeskFor, free_by, is_free_by, may_next};
 ghost use Rattle.volap_cell.specs.Setting.{Setting};
-ghost use Rattle.volap_cell.specs.Steps.{history_in};
 ghost use Rattle.volap_cell.specs.Values.{ErrandValue, actor_of, errand_of};
 ghost use Rattle.volap_cell.specs.World.{World};
 ghost use Rattle.seeded_run.specs.declared.due_step.DueStep.TheVariants.{Begins, GoesOn};
@@ -21,6 +20,7 @@ use crate::begins_due::hand_kind;
 use crate::commands_due::{waits_for_others, work_kind};
 use crate::due_step::DueStep;
 use crate::errands_due::{errand_kind, is_spent};
+use crate::survey::Survey;
 use crate::wanted::{is_drained, is_wanted_free};
 use dim_hierarchy::Hierarchy;
 use row_ledger::Use;
@@ -128,11 +128,13 @@ fn errand_step(
     h: &Hierarchy,
     with: &Use,
     state: &State,
+    survey: Option<&Survey>,
     actor: &Actor,
     errand: &Errand,
     number: usize,
     alone: bool,
 ) -> Option<DueStep>
+    requires told { IfSome (option_copied survey) (IsSurvey with.now state.now.cells.items state.now.actors.items) }
     requires alone { alone ≡ true → (block : ℕ) → free_by state.now.actors.items number block ≡ true }
     requires fits { CanPick h.now state.now.cells.items (errand_of errand.now) }
     ensures { result ≡ option_map GoesOn (kind_if (λ k. option_map_or (free_by state.now.actors.items number) (wanted_of (setting_by h.now with.now) (world_by state.now.cells.items) (errand_of errand.now) k) true)
@@ -141,7 +143,7 @@ fn errand_step(
     let Some(kind) = errand_kind(with, &state.cells, actor, errand) else {
         return None;
     };
-    if alone || is_wanted_free(h, with, &state.cells, &state.actors, number, errand, kind) {
+    if alone || is_wanted_free(h, with, state, survey, number, errand, kind) {
         Some(DueStep::GoesOn(kind))
     } else {
         None
@@ -153,12 +155,14 @@ fn actor_step(
     h: &Hierarchy,
     with: &Use,
     state: &State,
+    survey: Option<&Survey>,
     actor: &Actor,
     number: usize,
     next: Option<&Command>,
     left: usize,
     alone: bool,
 ) -> Option<DueStep>
+    requires told { IfSome (option_copied survey) (IsSurvey with.now state.now.cells.items state.now.actors.items) }
     requires alone { alone ≡ true → (block : ℕ) → free_by state.now.actors.items number block ≡ true }
     requires fits { (e : ErrandValue) → (actor_of actor.now).errand ≡ Some e → CanPick h.now state.now.cells.items e }
     requires desk { actor.now.command ≡ None → HasDeskFor (desk_of (setting_by [] with.now) (world_by state.now.cells.items) actor.now.role) (option_copied next) }
@@ -167,22 +171,24 @@ fn actor_step(
         (ahead (option_copied next.entry)) (actor_of actor.now) (actor_of actor.now).errand)) ≡ result }
 {
     match &actor.errand {
-        Some(errand) => errand_step(h, with, state, actor, errand, number, alone),
+        Some(errand) => errand_step(h, with, state, survey, actor, errand, number, alone),
         None => purse_step(with, state, actor, number, next, left),
     }
 }
 
 /// What an actor does, where that waits for nothing. It is told the next command of the actor's stream, how many
 /// streams aren't at their ends, and whether it is known that nobody else carries a row. Takes no memory.
-fn step_if_free(
+pub(crate) fn step_if_free(
     h: &Hierarchy,
     with: &Use,
     state: &State,
+    survey: Option<&Survey>,
     number: usize,
     next: Option<&Command>,
     left: usize,
     alone: bool,
 ) -> Option<DueStep>
+    requires told { IfSome (option_copied survey) (IsSurvey with.now state.now.cells.items state.now.actors.items) }
     requires core { HasCore h.now with.now state.now.cells.items state.now.actors.items }
     requires within { number < length state.now.actors.items }
     requires alone { alone ≡ true → (block : ℕ) → free_by state.now.actors.items number block ≡ true }
@@ -197,42 +203,15 @@ fn step_if_free(
     if !is_drained(&state.cells, actor) {
         return None;
     }
-    actor_step(h, with, state, actor, number, next, left, alone)
+    actor_step(h, with, state, survey, actor, number, next, left, alone)
 }
 
 /// Whether commands go in any order, or it is the turn of this actor: the first command that isn't over is its.
-fn is_its_turn(in_order: bool, first: Option<usize>, number: usize) -> bool
+pub(crate) fn is_its_turn(in_order: bool, first: Option<usize>, number: usize) -> bool
     ensures { result ≡ (not in_order || option_map_or (λ n. n == number) first false) }
 {
     match first {
         Some(first) => !in_order || first == number,
         None => !in_order,
-    }
-}
-
-/// What an actor does that can make a step: that waits for nothing, and where the commands go in order it is
-/// the actor of the first command that isn't over; everyone else is idle then, and carries nothing.
-pub(crate) fn due_step(
-    h: &Hierarchy,
-    with: &Use,
-    state: &State,
-    in_order: bool,
-    first: Option<usize>,
-    number: usize,
-    next: Option<&Command>,
-    left: usize,
-) -> Option<DueStep>
-    requires core { HasCore h.now with.now state.now.cells.items state.now.actors.items }
-    requires within { number < length state.now.actors.items }
-    requires alone { in_order ≡ true → first ≡ Some number → (block : ℕ) → free_by state.now.actors.items number block ≡ true }
-    requires asks { AsksHere (get_or state.now.actors.items number None) (option_copied next) }
-    ensures { (s : Setting) (w : World) (p : PhaseRun) → IsCore h.now with.now state.now.cells.items state.now.actors.items s w
-        → IsTold s (rest_of p (history_in w)) number (option_copied next.entry) left → (in_order ≡ true → first_open p (history_in w) ≡ first)
-        → due_step in_order s p w number ≡ result }
-{
-    if is_its_turn(in_order, first, number) {
-        step_if_free(h, with, state, number, next, left, in_order)
-    } else {
-        None
     }
 }

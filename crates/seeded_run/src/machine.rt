@@ -1,15 +1,20 @@
 //! The turns of a phase: what an actor does whose turn it is.
 ghost use Rattle.std.specs.Prelude.{◌≡◌, ◌<◌, ◌+◌, length, slice_get, option_copied, OnOk, OnErr, Some, None};
-ghost use Rattle.std.specs.Prelude.{false, option_map};
+ghost use Rattle.std.specs.Prelude.{false, true, IfSome, get_or, if◌then◌else◌, option_map};
+ghost use Rattle.seeded_run.specs.declared.due_step.DueStep.TheVariants.{GoesOn};
+ghost use Rattle.volap_cell.specs.declared.kind.Kind.TheVariants.{TakePart};
 ghost use Rattle.script_run.specs.Places.{session_of};
-ghost use Rattle.seeded_run.specs.Machine.{AloneInOrder, BeginsNow, HasBegunTo, HasMovedOn, HasTurned, HoldsNow, IsDueNow, IsDueStep, IsPhaseHeld, IsPhaseKept, LeavesAtMost, RestsAsIs, TakesTurn, WaitsAt, can_in, next_at, streams_open};
+ghost use Rattle.seeded_run.specs.Machine.{AloneInOrder, BeginsNow, HasBegunTo, HasMovedOn, HasTurned, HoldsNow, IsDueNow, IsDueStep, IsPhaseHeld, IsPhaseKept, KnowsOtherHands, LeavesAtMost, RestsAsIs, TakesTurn, TellsSurvey, WaitsAt, about_in, can_in, next_at, phase_of, step_in, streams_open, world_of};
+ghost use Rattle.seeded_run.specs.DueSteps.{step_if_free};
 ghost use Rattle.seeded_run.specs.Steps.{begins_by};
 
 use crate::alone::rests;
 use crate::beginnings::begin;
-use crate::can::due_step;
+use crate::can::{is_its_turn, step_if_free};
 use crate::due_step::DueStep;
+use crate::hands::FreeHands;
 use crate::steps::{go_on_at_part, go_on_with_command, is_for_part};
+use crate::survey::Survey;
 use dim_hierarchy::Hierarchy;
 use row_ledger::Use;
 use script_form::Command;
@@ -38,6 +43,19 @@ pub struct Running<'a> {
     pub begun: usize,
     /// Where the commands go in order: whose command is the first that isn't over.
     pub first: Option<usize>,
+    /// Which hands have nothing to do. Where the commands go in order nobody asks for that.
+    pub hands: FreeHands,
+}
+
+/// What a hand of the worker does that has nothing to do: it takes a part that waits for the worker, if one does.
+fn part_taken(survey: &Survey, worker: u8) -> Option<DueStep>
+    ensures { result ≡ (if get_or survey.now.awaited worker false then Some (GoesOn TakePart) else None) }
+{
+    if survey.is_awaited(worker) {
+        Some(DueStep::GoesOn(Kind::TakePart))
+    } else {
+        None
+    }
 }
 
 impl<'a> Running<'a> {
@@ -134,14 +152,17 @@ impl<'a> Running<'a> {
     }
 
     /// Where the commands go in order, looks up whose the first one is that isn't over, behind a step of an
-    /// actor. While that actor has something to do it is its.
+    /// actor. While that actor has something to do it is its. Notes too whether that actor is a hand that has
+    /// nothing to do.
     pub(crate) fn look_first(&mut self, number: usize)
         requires kept { IsPhaseKept self.old }
         requires within { number < length self.old.state.actors.items }
         requires alone { AloneInOrder self.old number }
+        requires hands { KnowsOtherHands self.old number }
         ensures held { IsPhaseHeld self.new }
-        ensures same { self.new ≡ record self.old { begun = self.new.begun; first = self.new.first } }
+        ensures same { self.new ≡ record self.old { begun = self.new.begun; first = self.new.first; hands = self.new.hands } }
     {
+        self.hands.note(number, &self.state.actors[number]);
         if !self.in_order {
             return;
         }
@@ -151,6 +172,56 @@ impl<'a> Running<'a> {
             self.first = self.session_at(begun);
         } else {
             self.first = Some(number);
+        }
+    }
+
+    /// What an actor does whose turn it is, if that waits for nothing: by a survey, where there is one.
+    fn step_on_turn(&self, survey: Option<&Survey>, number: usize) -> Option<DueStep>
+        requires held { IsPhaseHeld self.now }
+        requires within { number < length self.now.next.items }
+        requires told { IfSome (option_copied survey) (TellsSurvey self.now) }
+        requires turn { self.now.in_order ≡ true → self.now.first ≡ Some number }
+        ensures { step_if_free (about_in self.now) (phase_of self.now) (world_of self.now) number ≡ result }
+    {
+        let next = self.next_command(number);
+        step_if_free(
+            self.h,
+            &self.with,
+            &self.state,
+            survey,
+            number,
+            next,
+            self.left,
+            self.in_order,
+        )
+    }
+
+    /// What an actor does that can make a step: that waits for nothing, and where the commands go in order it is
+    /// the actor of the first command that isn't over; everyone else is idle then, and carries nothing.
+    fn step_in_turn(&self, number: usize) -> Option<DueStep>
+        requires held { IsPhaseHeld self.now }
+        requires within { number < length self.now.next.items }
+        ensures { step_in self.now number ≡ result }
+    {
+        if is_its_turn(self.in_order, self.first, number) {
+            self.step_on_turn(None, number)
+        } else {
+            None
+        }
+    }
+
+    /// The same by a survey, where the commands go in any order. A hand that has nothing to do takes a part that waits
+    /// for its worker, if one does, and nothing else is asked.
+    fn step_by(&self, survey: &Survey, number: usize) -> Option<DueStep>
+        requires held { IsPhaseHeld self.now }
+        requires any { self.now.in_order ≡ false }
+        requires within { number < length self.now.next.items }
+        requires told { TellsSurvey self.now survey.now }
+        ensures { step_in self.now number ≡ result }
+    {
+        match self.hands.worker_of(number) {
+            Some(worker) => part_taken(survey, worker),
+            None => self.step_on_turn(Some(survey), number),
         }
     }
 
@@ -168,11 +239,15 @@ impl<'a> Running<'a> {
 impl<'a> Machine for Running<'a> {
     type Kind = DueStep;
 
+    type Survey = Survey;
+
     ghost actors = { λ m. length m.next.items };
 
     ghost can = { can_in };
 
     ghost IsDue = { IsDueStep };
+
+    ghost Tells = { TellsSurvey };
 
     ghost Holds = { HoldsNow };
 
@@ -189,18 +264,20 @@ impl<'a> Machine for Running<'a> {
 
     #[tactic(auto, unfolding(crate::specs::Machine::HoldsNow))]
     fn due(&self, actor: u32) -> Option<DueStep> {
-        let number = actor as usize;
-        let next = self.next_command(number);
-        due_step(
-            self.h,
-            &self.with,
-            &self.state,
-            self.in_order,
-            self.first,
-            number,
-            next,
-            self.left,
-        )
+        self.step_in_turn(actor as usize)
+    }
+
+    #[tactic(auto, unfolding(crate::specs::Machine::HoldsNow))]
+    fn survey(&self) -> Survey {
+        Survey::of(&self.with, &self.state, &self.hands)
+    }
+
+    #[tactic(auto, unfolding(crate::specs::Machine::HoldsNow))]
+    fn due_by(&self, survey: &Survey, actor: u32) -> Option<DueStep> {
+        if self.in_order {
+            return self.due(actor);
+        }
+        self.step_by(survey, actor as usize)
     }
 
     #[tactic(auto, unfolding(crate::specs::Machine::HoldsNow, crate::specs::Machine::LeavesAtMost))]

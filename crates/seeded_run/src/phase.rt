@@ -7,6 +7,7 @@ ghost use Rattle.seeded_run.specs.Machine.{AreFirstCursors, HasComeToRest, HasEn
 ghost use Rattle.seeded_run.specs.Phase.{ClosesLast, EndsBehindAny, IsCoreHeld, MayAllRun, NobodyCanStep, RunsTo, StopsAt, StopsBehindAny, about, held, most_actors, phase_from};
 ghost use Rattle.seeded_run.specs.Order.{is_order};
 
+use crate::hands::first_hands;
 use crate::machine::Running;
 use dim_hierarchy::Hierarchy;
 use row_ledger::Use;
@@ -124,6 +125,8 @@ fn run_from(
     ensures into { OnErr result (StopsBehindAny (is_order schedule.old) h.now with.now phase.now state.old state.new) }
 {
     let left = streams_open(&next, phase.len());
+    let in_order = is_order(schedule);
+    let hands = first_hands(in_order, &state.actors);
     let before = Snapshot::of(state);
     let bare = State {
         cells: Vec::new(alloc),
@@ -133,13 +136,14 @@ fn run_from(
         h,
         with: *with,
         phase,
-        in_order: is_order(schedule),
+        in_order,
         before,
         state: replace(state, bare),
         next,
         left,
         begun: 0,
         first: None,
+        hands,
     };
     let ran = run_whole(&mut running, alloc, schedule);
     let Running { state: reached, .. } = running;

@@ -1,24 +1,28 @@
 //! The block that a step holds besides the one at which its actor carries a row, and whether anyone else carries one there.
-ghost use Rattle.std.specs.Prelude.{◌≡◌, ◌==◌, ℕ, Some, true, false, []};
+ghost use Rattle.std.specs.Prelude.{◌≡◌, ◌==◌, ℕ, IfSome, Some, true, false, [], List, get_or, option_copied};
 ghost use Rattle.std.specs.Option.{option_map_or};
 ghost use Rattle.dc_node.specs.Block.{IsBodyOf};
+ghost use Rattle.dim_hierarchy.specs.Dimension.{Dimension};
 ghost use Rattle.dim_hierarchy.specs.Rows.{IsRowOf};
+ghost use Rattle.dim_hierarchy.specs.declared.row.Row as rows;
 ghost use Rattle.seeded_run.specs.Can.{child_of, gate_awaited, is_carried_at, is_drained, last_noted, root_at, wanted_down, wanted_of, wanted_visit};
 ghost use Rattle.seeded_run.specs.Due.{led_to};
 ghost use Rattle.seeded_run.specs.Look.{cell_at, setting_by, world_by};
+ghost use Rattle.seeded_run.specs.Survey.{IsSurvey, mark_of};
 ghost use Rattle.seeded_run.specs.Takes.{CanPick, carries_at, free_by};
 ghost use Rattle.volap_cell.specs.Cells.{active_in, block_in, way_in};
-ghost use Rattle.volap_cell.specs.Errands.{way_of};
+ghost use Rattle.volap_cell.specs.Errands.{block_at, place_of, way_of};
 ghost use Rattle.volap_cell.specs.Values.{actor_of, errand_of, stage_of, task_of};
 
 use crate::errands_due::led_to;
 use crate::sights::cell_at;
+use crate::survey::Survey;
 use dc_node::{Block, Todo};
 use dim_hierarchy::{Hierarchy, Row};
 use link_descent::pick;
 use mapping_table::Where;
 use row_ledger::Use;
-use volap_cell::{Actor, Cell, Errand, Kind, Stage, Task, Way};
+use volap_cell::{Actor, Cell, Errand, Kind, Stage, State, Task, Way};
 
 /// The root of the tree at the gate in a cell.
 fn root_in(cells: &[Option<Cell>], gate: u32) -> u32
@@ -158,9 +162,9 @@ fn is_free(actors: &[Option<Actor>], number: usize, block: u32) -> bool
     true
 }
 
-/// Whether an actor at a place carries a row.
-fn carries(place: &Option<Actor>) -> bool
-    ensures { result ≡ false → (block : ℕ) → carries_at place.now block ≡ false }
+/// The block at which the actor at a place carries a row, if it does.
+pub(crate) fn block_carried(place: &Option<Actor>) -> Option<u32>
+    ensures { (block : ℕ) → carries_at place.now block ≡ true → result ≡ Some block }
 {
     match place {
         Some(
@@ -173,44 +177,117 @@ fn carries(place: &Option<Actor>) -> bool
                 ),
                 ..
             },
-        ) => matches!(going.way, Way::Carried { .. }),
+        ) => block_on(going.way),
+        _ => None,
+    }
+}
+
+/// The block at which a row on this way is carried, if it is.
+fn block_on(way: Way) -> Option<u32>
+    ensures { result ≡ block_at (place_of way) }
+{
+    match way {
+        Way::Carried { block, .. } => Some(block),
+        Way::Before { .. } | Way::Put { .. } | Way::Placed => None,
+    }
+}
+
+/// Whether the block, if there is one, may be one at which a row is carried.
+fn may_be_carried_at(survey: &Survey, block: Option<u32>) -> bool
+    ensures { result ≡ false → (y : ℕ) → block ≡ Some y → get_or survey.now.carried (mark_of y) false ≡ false }
+{
+    match block {
+        Some(block) => survey.is_marked(block),
+        None => false,
+    }
+}
+
+/// Whether a child of what is in a cell may be one at which a row is carried.
+fn may_carry_below(survey: &Survey, cells: &[Option<Cell>], at: u32) -> bool
+    ensures { result ≡ false → (h : List Dimension) (row : rows.Row) (y : ℕ) → child_of h row (block_in (cell_at cells.now at)) ≡ Some y → get_or survey.now.carried (mark_of y) false ≡ false }
+{
+    match cell_at(cells, at) {
+        Some(Cell::Block(block)) => block
+            .entries()
+            .iter()
+            .any(|entry| survey.is_marked(entry.child)),
+        _ => true,
+    }
+}
+
+/// Whether a row may be carried at a child of the block at which the errand's row is.
+fn may_meet_below(survey: &Survey, cells: &[Option<Cell>], task: &Task) -> bool
+    ensures { result ≡ false → (h : List Dimension) (y : ℕ) → wanted_down h (world_by cells.now) (task_of task.now) ≡ Some y → get_or survey.now.carried (mark_of y) false ≡ false }
+{
+    let Task::Row(going) = task else {
+        return false;
+    };
+    match block_on(going.way) {
+        Some(block) => may_carry_below(survey, cells, block),
+        None => false,
+    }
+}
+
+/// Whether a row may be carried at the block that a step of this kind would hold, by the marks of a survey. To
+/// which child a row goes down is not picked for that: it looks at all children.
+fn may_meet(
+    survey: &Survey,
+    with: &Use,
+    cells: &[Option<Cell>],
+    errand: &Errand,
+    kind: Kind,
+) -> bool
+    ensures { result ≡ false → (h : List Dimension) (y : ℕ) → wanted_of (setting_by h with.now) (world_by cells.now) (errand_of errand.now) kind ≡ Some y → get_or survey.now.carried (mark_of y) false ≡ false }
+{
+    match kind {
+        Kind::EnterTree => may_be_carried_at(survey, root_wanted(with, cells, errand)),
+        Kind::Down => may_meet_below(survey, cells, &errand.task),
+        Kind::BlockVisit => may_be_carried_at(survey, visit_wanted(&errand.task)),
         _ => false,
     }
 }
 
-/// Whether nobody but this actor carries a row: then each block is free, whichever it wants. It looks at each.
-fn nobody_carries(actors: &[Option<Actor>], number: usize) -> bool
-    ensures { result ≡ true → (block : ℕ) → free_by actors.now number block ≡ true }
-{
-    for other in 0..actors.len() {
-        if other != number && carries(&actors[other]) {
-            return false;
-        }
-    }
-    true
-}
-
-/// Whether nobody else carries a row at the block that a step of this kind would hold. Which block that is
-/// is looked up only where somebody else carries one.
-pub(crate) fn is_wanted_free(
+/// Whether nobody but this actor carries a row at the block that a step of this kind would hold. It looks at each.
+/// Never inlined, as it pays at each call for the room in which a child is picked, and is seldom called.
+#[inline(never)]
+fn is_seen_free(
     h: &Hierarchy,
     with: &Use,
-    cells: &[Option<Cell>],
-    actors: &[Option<Actor>],
+    state: &State,
     number: usize,
     errand: &Errand,
     kind: Kind,
 ) -> bool
-    requires fits { CanPick h.now cells.now (errand_of errand.now) }
-    ensures { result ≡ option_map_or (free_by actors.now number) (wanted_of (setting_by h.now with.now) (world_by cells.now) (errand_of errand.now) kind) true }
+    requires fits { CanPick h.now state.now.cells.items (errand_of errand.now) }
+    ensures { result ≡ option_map_or (free_by state.now.actors.items number) (wanted_of (setting_by h.now with.now) (world_by state.now.cells.items) (errand_of errand.now) kind) true }
 {
-    if nobody_carries(actors, number) {
-        return true;
-    }
-    match wanted(h, with, cells, errand, kind) {
-        Some(block) => is_free(actors, number, block),
+    match wanted(h, with, &state.cells, errand, kind) {
+        Some(block) => is_free(&state.actors, number, block),
         None => true,
     }
+}
+
+/// Whether nobody else carries a row at the block that a step of this kind would hold. Which block that is
+/// is looked up only where a survey can't rule it out.
+pub(crate) fn is_wanted_free(
+    h: &Hierarchy,
+    with: &Use,
+    state: &State,
+    survey: Option<&Survey>,
+    number: usize,
+    errand: &Errand,
+    kind: Kind,
+) -> bool
+    requires told { IfSome (option_copied survey) (IsSurvey with.now state.now.cells.items state.now.actors.items) }
+    requires fits { CanPick h.now state.now.cells.items (errand_of errand.now) }
+    ensures { result ≡ option_map_or (free_by state.now.actors.items number) (wanted_of (setting_by h.now with.now) (world_by state.now.cells.items) (errand_of errand.now) kind) true }
+{
+    if let Some(survey) = survey
+        && !may_meet(survey, with, &state.cells, errand, kind)
+    {
+        return true;
+    }
+    is_seen_free(h, with, state, number, errand, kind)
 }
 
 /// Whether no insert is in the tree at the gate in a cell.

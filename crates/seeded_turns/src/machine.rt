@@ -8,6 +8,9 @@ pub trait Machine: Sized {
     /// What is due for an actor that can step. It is looked up once a turn, and handed to the step.
     type Kind: Drop;
 
+    /// What is looked up once a turn, for all actors that are asked in it.
+    type Survey: Drop;
+
     /// How many actors there are.
     ghost actors: { Self → ℕ };
 
@@ -16,6 +19,9 @@ pub trait Machine: Sized {
 
     /// This is due for an actor, which can step.
     ghost IsDue: { Self → ℕ → Self.Kind → Type 0 };
+
+    /// A survey tells this much.
+    ghost Tells: { Self → Self.Survey → Type 0 };
 
     /// What holds between steps.
     ghost Holds: { Self → Type 0 };
@@ -34,11 +40,24 @@ pub trait Machine: Sized {
         requires { Holds self.now }
         ensures { result ≡ actors self.now };
 
-    /// What is due for an actor, if it can step. In order it is asked of each actor up to the first that can; where a
-    /// generator draws, of each twice a turn.
+    /// What is due for an actor, if it can step. In order it is asked of each actor up to the first that can.
     fn due(&self, actor: u32) -> Option<Self::Kind>
         requires within { actor < actors self.now }
         requires holds { Holds self.now }
+        ensures can { is_some result ≡ can self.now actor }
+        ensures due { IfSome result (IsDue self.now actor) };
+
+    /// Looks up what is the same for all actors in a turn. Takes no memory.
+    fn survey(&self) -> Self::Survey
+        requires { Holds self.now }
+        ensures { Tells self.now result };
+
+    /// What is due for an actor, if it can step, by a survey of this turn. Where a generator draws it is asked of each
+    /// actor, and then of the one that is drawn.
+    fn due_by(&self, survey: &Self::Survey, actor: u32) -> Option<Self::Kind>
+        requires within { actor < actors self.now }
+        requires holds { Holds self.now }
+        requires told { Tells self.now survey.now }
         ensures can { is_some result ≡ can self.now actor }
         ensures due { IfSome result (IsDue self.now actor) };
 

@@ -1,5 +1,5 @@
 //! Turns over piles of things, beside what another program draws by the same formulas.
-ghost use Rattle.std.specs.Prelude.{◌≡◌, ◌<◌, ◌^◌, ◌++◌, [], ◌∷◌, length, nat_lt, sum_by};
+ghost use Rattle.std.specs.Prelude.{⊤, ◌≡◌, ◌<◌, ◌^◌, ◌++◌, [], ◌∷◌, length, nat_lt, sum_by};
 ghost use Rattle.std.specs.List.{slice_index_or};
 
 use crate::{Machine, Schedule, run};
@@ -19,11 +19,15 @@ struct Piles {
 impl Machine for Piles {
     type Kind = ();
 
+    type Survey = ();
+
     ghost actors = { λ p. length p.piles.items };
 
     ghost can = { λ p i. nat_lt 0 (slice_index_or p.piles.items i 0) };
 
     ghost IsDue = { λ p i k. 0 < slice_index_or p.piles.items i 0 };
+
+    ghost Tells = { λ p survey. ⊤ };
 
     ghost Holds = { λ p. length p.piles.items < 2 ^ 32 };
 
@@ -43,6 +47,12 @@ impl Machine for Piles {
         } else {
             None
         }
+    }
+
+    fn survey(&self) {}
+
+    fn due_by(&self, _survey: &(), actor: u32) -> Option<()> {
+        self.due(actor)
     }
 
     fn step(&mut self, _alloc: Global, actor: u32, _kind: ()) -> Result<(), AllocError> {

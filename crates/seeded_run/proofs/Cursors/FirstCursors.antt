@@ -6,7 +6,7 @@ use Rattle.row_ledger.specs.declared.settings.Use.{Use}
 use Rattle.script_form.specs.declared.script.Command.{Command}
 use Rattle.script_run.specs.Places.{session_of}
 use Rattle.volap_cell.specs.declared.state.State.{State}
-use Rattle.seeded_run.specs.{Core.HasCore, Kept.AreIdle, Machine.{AreFirstCursors, IsFirstAt, IsFirstMoment, streams_open}, Phase.{ClosesLast, IsCoreHeld, MayAllRun, StopsBehindAny, about, held, most_actors, phase_from}, declared.machine.Running.Running}
+use Rattle.seeded_run.specs.{Core.HasCore, Hands.AreFreeHands, Kept.AreIdle, Machine.{AreFirstCursors, IsFirstAt, IsFirstMoment, streams_open}, Phase.{ClosesLast, IsCoreHeld, MayAllRun, StopsBehindAny, about, held, most_actors, phase_from}, declared.machine.Running.Running}
 use Rattle.seeded_run.proofs.{Holding.LeftAlone.apart, Phases.PhaseRuns.{behind-begins-law, stops-law}}
 
 -- where a session's first command stands, or how many there are
@@ -47,8 +47,8 @@ stopped-first h with phase x in_order done between =
 -- where a phase begins so
 pub first-moment : (m : Running) (x : State) → m.state ≡ x → IsCoreHeld m.h.now m.with x → MayAllRun m.h.now m.with m.phase.now → ClosesLast m.phase.now
     → AreIdle (held m.h.now m.with x) → m.before.value ≡ x → AreFirstCursors m.with m.phase.now (length x.actors.items) m.next.items
-    → m.left ≡ streams_open (length m.phase.now) m.next.items → m.begun ≡ 0 → IsFirstMoment m
-first-moment m x is core may closes idle before next left begun = record {
+    → m.left ≡ streams_open (length m.phase.now) m.next.items → m.begun ≡ 0 → AreFreeHands x.actors.items m.hands → IsFirstMoment m
+first-moment m x is core may closes idle before next left begun hands = record {
   core = subst (λ (y : State). HasCore m.h.now m.with y.cells.items y.actors.items) (sym is) core.0;
   few = subst (λ (y : State). length y.actors.items < most_actors) (sym is) core.1;
   may_run = may;
@@ -58,4 +58,5 @@ first-moment m x is core may closes idle before next left begun = record {
   next = subst (λ (y : State). AreFirstCursors m.with m.phase.now (length y.actors.items) m.next.items) (sym is) next;
   left = left;
   begun = begun;
+  hands = subst (λ (y : State). AreFreeHands y.actors.items m.hands) (sym is) hands;
 }

@@ -6,7 +6,7 @@ use Rattle.script_run.proofs.Whole.{get-some}
 use Rattle.script_run.specs.Places.{session_of}
 use Rattle.volap_cell.specs.{Steps.history_in, Values.actor_of, World.World}
 use Rattle.volap_cell.proofs.Cells.States.{stands}
-use Rattle.seeded_run.specs.{Due.does_nothing, Look.rests, Machine.{AloneInOrder, HasBegunTo, IsPhaseKept, WaitsAt, about_in, next_at, phase_of, world_of}, Rests.{PhaseRun, first_open}, declared.machine.Running.Running}
+use Rattle.seeded_run.specs.{Due.does_nothing, Look.rests, Machine.{AloneInOrder, HasBegunTo, IsPhaseKept, WaitsAt, about_in, next_at, phase_of, world_of}, Rests.{PhaseRun, first_open}, declared.hands.FreeHands.FreeHands, declared.machine.Running.Running}
 use Rattle.seeded_run.proofs.{Cursors.Firsts.{first-at, first-fails, first-some, late-not, over_in}, Cursors.Held.{none-past, some-within}, Holding.LeftAlone.{apart, is-idle, same-or-not}, Phases.PhaseRuns.{is-actor, past-over}}
 
 some-apart : (o : Option ℕ) (a b : ℕ) → o ≡ Some a → a ≢ b → o ≢ Some b
@@ -105,8 +105,8 @@ next-read m kept place c d session from next at session_is from_is next_is =
     next_is ∙ ap (λ k. get_or m.next.items k next) who ∙ get-any m.next.items (session_of m.with c) next (length m.phase.now) (session-within m kept place c at)
 
 -- What is kept whatever is known of the first command.
-pub kept-look : (m : Running) → IsPhaseKept m → (begun : ℕ) (first : Option ℕ) → HasBegunTo m begun → IsPhaseKept (record m { begun = begun; first = first })
-kept-look m kept begun first to = record {
+pub kept-look : (m : Running) → IsPhaseKept m → (begun : ℕ) (first : Option ℕ) (hands : FreeHands) → HasBegunTo m begun → IsPhaseKept (record m { begun = begun; first = first; hands = hands })
+kept-look m kept begun first hands to = record {
   core = kept.core;
   may_run = kept.may_run;
   is_running = kept.is_running;

@@ -21,7 +21,7 @@ later-then m x now first then = record {
 }
 
 -- only what is known of the commands in order is another
-pub after-look : (m now : Running) → now ≡ record m { begun = now.begun; first = now.first } → IsLater m now
+pub after-look : (m now : Running) → now ≡ record m { begun = now.begun; first = now.first; hands = now.hands } → IsLater m now
 after-look m now is = record {
   same = record {
     h = ap (λ (x : Running). x.h) is;
@@ -35,7 +35,7 @@ after-look m now is = record {
 }
 
 -- behind a turn, whatever is known then of the commands in order
-pub later-turned : (m mid now : Running) (n : ℕ) → HasTurned m n mid → now ≡ record mid { begun = now.begun; first = now.first } → IsLater m now
+pub later-turned : (m mid now : Running) (n : ℕ) → HasTurned m n mid → now ≡ record mid { begun = now.begun; first = now.first; hands = now.hands } → IsLater m now
 later-turned m mid now n turned is = (let t = turned-then m mid now n turned is in record { same = t.same; about = t.about })
 
 -- A step of a kind by which no command begins begins none.
@@ -103,7 +103,7 @@ module _ (m x now : Running) (later : IsLater m x) (moves : List (ℕ × Option 
   }
 
 -- In order it is looked up first whose command is the first one. The moves are those of the phase that begins.
-module _ (m x now : Running) (is : x ≡ record m { begun = x.begun; first = x.first }) (moves : List (ℕ × Option Kind)) where
+module _ (m x now : Running) (is : x ≡ record m { begun = x.begun; first = x.first; hands = x.hands }) (moves : List (ℕ × Option Kind)) where
   moved-first : (count : ℕ) → HasMovedTo x moves count now → HasMovedTo m moves count now
   moved-first count moved =
       let later = after-look m x is in

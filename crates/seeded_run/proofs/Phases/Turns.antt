@@ -10,7 +10,7 @@ use Rattle.script_form.specs.declared.script.Command.TheVariants as script
 use Rattle.script_run.specs.{Places.{begins_of, session_of}, Runs.Begins}
 use Rattle.volap_cell.specs.{Setting.{Setting, actor_count}, State.{IsWorldOf, Stepped}, Steps.{Step, history_in}, Values.{ActorValue, actor_of}, World.World, declared.actor.Actor.Actor, declared.cell.Cell.Cell, declared.command.Command.Command as OpenCommand, declared.kind.Kind.Kind, declared.kind.Kind.TheVariants.Note, declared.state.State.State}
 use Rattle.volap_cell.proofs.Cells.States.{is-some, stands}
-use Rattle.seeded_run.specs.{Arms.TellsIfNote, Can.{can, can_step, meets}, Commands.{GoesBy, IsBegunBy, IsNextAt, IsToBegin, may_begin}, Core.{IsCore, IsDue, IsDueAt}, Due.{does_nothing, due}, Instead.StandsFor, Kept.{IsTurn, MovesOn}, Machine.{AloneInOrder, HasLeftOver, HasMovedOn, HasTurned, IsDueNow, IsPhaseHeld, IsPhaseKept, RestsAsIs, about_in, next_at, phase_of, world_of}, Measure.BeginInTurn, Phase.most_actors, Rests.{PhaseRun, first_open, rest_of}, Running.{IsRunning, RunsBehind}, Steps.{HasCommand, begins_by, begins_of_one, is_for_part}, Told.is_of_part, Works.{command_by, command_of_one}, Worlds.{setting_in, world_in}, declared.machine.Running.Running}
+use Rattle.seeded_run.specs.{Arms.TellsIfNote, Can.{can, can_step, meets}, Commands.{GoesBy, IsBegunBy, IsNextAt, IsToBegin, may_begin}, Core.{IsCore, IsDue, IsDueAt}, Due.{does_nothing, due}, Hands.IsFreeHand, Instead.StandsFor, Kept.{IsTurn, MovesOn}, Machine.{AloneInOrder, HasLeftOver, HasMovedOn, HasTurned, IsDueNow, IsPhaseHeld, IsPhaseKept, KnowsHands, KnowsOtherHands, RestsAsIs, about_in, next_at, phase_of, world_of}, Measure.BeginInTurn, Phase.most_actors, Rests.{PhaseRun, first_open, rest_of}, Running.{IsRunning, RunsBehind}, Steps.{HasCommand, begins_by, begins_of_one, is_for_part}, Told.is_of_part, Works.{command_by, command_of_one}, Worlds.{setting_in, world_in}, declared.machine.Running.Running}
 use Rattle.seeded_run.proofs.{Begins.{keeps-beginning-law, quiet-law}, Counted.counted-law, Cursors.Held.rest-some, Fallbacks.still-is, Holding.LeftAlone.{apart, both-parts, same-or-not}, Phases.Keeps.keeps-other-law, Phases.Measure.fewer-law, Told.others-law, Worlds.{one-setting, only-world}}
 
 -- the core that stands behind a step
@@ -187,6 +187,10 @@ module _ (m : Running) (kept : IsPhaseKept m) (n : ℕ) (due_kind : Kind) (now_d
     alone-now : m.in_order ≡ true → (a : ℕ) → a ≢ n → does_nothing (world_now.actors a) ≡ true
     alone-now order a differs = ap does_nothing (others-law s k n w world_now a step differs) ∙ alone-before order a differs
 
+    hands-now : KnowsHands m → KnowsOtherHands (record m { state = state_now }) n
+    hands-now knows a differs worker low told =
+        subst (λ (x : ActorValue). IsFreeHand x worker) (sym (others-law s k n w world_now a step differs)) (knows a worker (subst (λ (c : ℕ). a < c) stepped.actors_kept low) told)
+
     -- fewer steps are left, where the step counts nobody at a desk and commands begin in turn
     fewer : ((world_now.actors n).counted ≡ (w.actors n).counted) → BeginInTurn s p (history_in w) (history_in world_now)
         → (most : ℕ) → HasLeftOver m most → (most_now : ℕ) × HasLeftOver (record m { state = state_now }) most_now × (most_now < most)
@@ -228,6 +232,7 @@ module _ (m : Running) (kept : IsPhaseKept m) (n : ℕ) (due_kind : Kind) (now_d
         };
         left = fewer counted (record { before = begun-before; next = λ e session is grown. none-begins (session_in e) session (quiet e grown) is });
         alone = alone-now;
+        hands = hands-now;
       }
 
     -- of a part or a purse
@@ -341,6 +346,7 @@ module _ (m : Running) (kept : IsPhaseKept m) (n : ℕ) (due_kind : Kind) (now_d
         };
         left = λ most has. (let less = fewer counted in-turn most has in (less.0, record { core = less.1.core }, less.2));
         alone = alone-now;
+        hands = hands-now;
       }
 
       pub has-begun : HasTurned m n now
@@ -373,6 +379,7 @@ rests-held m held state_now stays =
           begun = kept.begun;
         };
         first = λ order. ap (λ (x : World). first_open (phase_of m) (history_in x)) (sym world) ∙ first order;
+        hands = λ a worker low told. subst (λ (x : World). IsFreeHand (x.actors a) worker) world (held.hands a worker (subst (λ (c : ℕ). a < c) stays.actors_kept low) told);
       },
       record { same = record { h = refl; with = refl; phase = refl; in_order = refl; before = refl; count = refl }; state = stays; about = sym about; world = sym world },
     )

@@ -11,8 +11,8 @@ use Rattle.dim_hierarchy.specs.Dimension.{Dimension}
 use Rattle.row_ledger.specs.declared.class.Class.TheVariants as class_is
 use Rattle.script_form.specs.declared.script.Command.TheVariants as script
 use Rattle.volap_cell.specs.{Falls.left, Setting.{Setting, actor_count}, State.IsWorldOf, Steps.history_in, World.World, declared.actor.Actor.Actor, declared.cell.Cell.Cell, declared.state.State.State}
-use Rattle.seeded_run.specs.{Can.{able_in, can_step}, Core.{HasCore, IsCore}, Kept.{AreAtFirst, AreIdle, HasBegunAll, IsBetween, IsStopped}, Machine.{AloneInOrder, HasComeToRest, WereThrough, HasEndedBehindAny, HasLeftOver, HasRunTo, HasStoppedAt, HasStoppedBehindAny, IsFirstMoment, IsPhaseHeld, IsPhaseKept, IsSamePhase, RestsAsIs, RunsBehindAny, TakesTurn, about_in, can_in, most_steps, next_at, nothing, phase_of, world_of}, Measure.limits_of, Order.is_order, Phase.{IsKeptTurn, MayAllRun, MayRun, about, held, most_actors, phase_from}, Progress.IsPhaseOf, Ranks.{IsWithin, commands_waiting, with_waiting}, Rests.PhaseRun, Running.IsRunning, Worlds.{setting_in, world_in}, declared.machine.Running.Running}
-use Rattle.seeded_run.proofs.{Cursors.Held.some-within, Holding.LeftAlone.does-nothing, Phases.Limits.limits-law, Phases.PhaseRuns.{behind-begins-law, behind-ends-law, phase-begins-law, phase-ends-law, stops-law}, Phases.Ranks.rank-falls, Worlds.{one-setting, only-world}}
+use Rattle.seeded_run.specs.{Can.{able_in, can_step}, Core.{HasCore, IsCore}, Kept.{AreAtFirst, AreIdle, HasBegunAll, IsBetween, IsStopped}, Machine.{AloneInOrder, HasComeToRest, WereThrough, HasEndedBehindAny, HasLeftOver, HasRunTo, HasStoppedAt, HasStoppedBehindAny, IsFirstMoment, IsPhaseHeld, IsPhaseKept, IsSamePhase, KnowsOtherHands, RestsAsIs, RunsBehindAny, TakesTurn, about_in, can_in, most_steps, next_at, nothing, phase_of, world_of}, Measure.limits_of, Order.is_order, Phase.{IsKeptTurn, MayAllRun, MayRun, about, held, most_actors, phase_from}, Progress.IsPhaseOf, Ranks.{IsWithin, commands_waiting, with_waiting}, Rests.PhaseRun, Running.IsRunning, Worlds.{setting_in, world_in}, declared.machine.Running.Running}
+use Rattle.seeded_run.proofs.{Cursors.Held.some-within, Holding.LeftAlone.does-nothing, IdleHands.hand-there, Phases.Limits.limits-law, Phases.PhaseRuns.{behind-begins-law, behind-ends-law, phase-begins-law, phase-ends-law, stops-law}, Phases.Ranks.rank-falls, Worlds.{one-setting, only-world}}
 
 -- Beginning.
 
@@ -111,6 +111,10 @@ module _ (m : Running) (first : IsFirstMoment m) where
 
   pub begins-alone : AloneInOrder m 0
   begins-alone order a differs = does-nothing ((world_of m).actors a) (first.idle a)
+
+  -- which hands have nothing to do is told right
+  pub begins-hands : KnowsOtherHands m 0
+  begins-hands a differs worker low told = hand-there m.state.cells.items m.state.actors.items (world_of m) core.is a worker (first.hands a worker low told)
 
 -- At most so many steps are left.
 
@@ -311,7 +315,7 @@ module _ (m now : Running) (begun : m.before.value ≡ m.state) (same : IsSamePh
       (behind-ends-law now.in_order (about_in now) (phase_of now) done (world_of now) held_now.kept.core.inv.ghost_of (next_at now) held_now.kept.core.inv.holds held_now.kept.is_running
       (held_now.kept.behind done (done-then m now same done through)) none))
 
-module _ (m : Running) (first : IsFirstMoment m) (schedule : Schedule) (order : m.in_order ≡ is_order schedule) (start now : Running) (start_is : start ≡ record m { begun = start.begun; first = start.first })
+module _ (m : Running) (first : IsFirstMoment m) (schedule : Schedule) (order : m.in_order ≡ is_order schedule) (start now : Running) (start_is : start ≡ record m { begun = start.begun; first = start.first; hands = start.hands })
     (held_start : IsPhaseHeld start) (held_now : IsPhaseHeld now) (schedule_now : Schedule) where
   same-from : IsFrom start now → IsSamePhase m now × (about_in now ≡ about_in m)
   same-from from = (

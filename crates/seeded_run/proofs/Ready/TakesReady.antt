@@ -1,7 +1,6 @@
 -- Where it is due to take a part, the core has what that asks.
 use Rattle.std.proofs.{Common.{◌≡◌, ◌∙◌, ℕ, ◌<◌, inl, inr, true, List, [], ◌∷◌, length, Option, Some, None, get_or, refl, sym, ap, subst}, lemmas.List.Folds.Any-from_list_any}
 use Rattle.std.specs.{List.list_any, Prelude.{IsSome, position}}
-use mathlib.Core.Path.{fun_ext}
 use Rattle.core_shard.proofs.FinishReady.{first-place}
 use Rattle.core_shard.specs.Due.{CanTakePart}
 use Rattle.core_steps.specs.{AskedParts.TakesPart, Ready.MayStep}
@@ -10,8 +9,8 @@ use Rattle.query_router.specs.Desk.{is_waiting, waits_for}
 use Rattle.row_ledger.specs.declared.settings.Use.{Use}
 use Rattle.volap_cell.proofs.{Cells.Numbers.tag-desk, Cells.States.stands}
 use Rattle.volap_cell.specs.{Cells.{CellValue, desk_in}, Setting.{Setting, desk_cell}, ShardKinds.{IsDeskFor, may_take}, Values.{ActorValue, JobValue, actor_of}, World.World, declared.actor.Actor.Actor, declared.cell.Cell.Cell, declared.command.Command.Command as OpenCommand, declared.kind.Kind.TheVariants.TakePart, declared.role.Role.Role, declared.role.Role.TheVariants.{Admin, Hand, Session}}
-use Rattle.seeded_run.specs.{Awaited.{IsAwaited, TakesAt, role_by, role_of_one}, Core.{HasCore, IsCore, IsDue}, Due.{hand_kind, is_alone}, Look.{cell_at, cells_only, setting_by, setting_for, world_by}}
-use Rattle.seeded_run.proofs.{Due.DueCommands.by-command, Due.DueTakes.{IsTakingSession, takes}, Holding.CommandsHeld.IsDeskPlace, Holding.FixedCells.{desk-fixed, may-step, server-within, tag-is}, Seen.cell-seen}
+use Rattle.seeded_run.specs.{Awaited.{IsAwaited, TakesAt, role_by, role_of_one}, Core.{HasCore, IsCore, IsDue}, Due.is_alone, Look.{cell_at, setting_for}}
+use Rattle.seeded_run.proofs.{Due.DueCommands.by-command, Due.DueTakes.{IsTakingSession, takes}, Holding.CommandsHeld.IsDeskPlace, Holding.FixedCells.{desk-fixed, may-step, server-within, tag-is}, IdleHands.hand-seen, Seen.cell-seen}
 
 module _ (h : List Dimension) (with : Use) (cells : List (Option Cell)) (actors : List (Option Actor)) (core : HasCore h with cells actors) (n : ℕ) (lt : n < length actors) where
   abbrev s : Setting
@@ -66,12 +65,6 @@ module _ (h : List Dimension) (with : Use) (cells : List (Option Cell)) (actors 
 
   -- A hand.
 
-  -- what is due for it is seen
-  awaits-seen : (worker : ℕ) → hand_kind s w worker ≡ hand_kind (setting_by [] with) (world_by cells) worker
-  awaits-seen worker =
-      ap (λ (f : ℕ → CellValue). hand_kind s (cells_only f) worker) (fun_ext (cell-seen cells actors w is.is))
-      ∙ ap (λ (k : ℕ). hand_kind (setting_for [] k) (world_by cells) worker) is.servers
-
   hand-ready : (w.actors n).errand ≡ None → (worker : ℕ) → (w.actors n).role ≡ Hand worker → (server : ℕ) → IsAwaited with cells worker server → MayStep cells actors (desk_cell s server ∷ []) n TakesPart
   hand-ready free worker role server a =
       let low : server < s.servers = subst (λ (k : ℕ). server < k) (sym is.servers) a.within in
@@ -95,7 +88,7 @@ module _ (h : List Dimension) (with : Use) (cells : List (Option Cell)) (actors 
       (elim (takes s w (is_alone s w d.rest n) (d.rest n) n c.by) [
         | inl x ↦
             let mine : TakesAt with cells (Hand x.worker) server = subst (λ (r : Role). TakesAt with cells r server) x.role here in
-            hand-ready c.errand x.worker x.role server (mine (sym (awaits-seen x.worker) ∙ x.awaits))
+            hand-ready c.errand x.worker x.role server (mine (sym (hand-seen h with cells actors s w is x.worker) ∙ x.awaits))
         | inr x ↦
             let own : server ≡ x.server = subst (λ (r : Role). TakesAt with cells r server) x.role here in
             subst (λ (y : ℕ). MayStep cells actors (desk_cell s y ∷ []) n TakesPart) (sym own) (session-ready c.errand x)

@@ -1,5 +1,5 @@
 use Rattle.seeded_run.specs.Machine.{HoldsNow}
-use Rattle.seeded_run.proofs.{Phases.ByHand.{after-look, later-then, moved-from-first, stopped-from-first}, Phases.WholePhases.{begins-alone, begins-kept, some-actor, stopped-behind}}
+use Rattle.seeded_run.proofs.{Phases.ByHand.{after-look, later-then, moved-from-first, stopped-from-first}, Phases.WholePhases.{begins-alone, begins-hands, begins-kept, some-actor, stopped-behind}}
 use Rattle.seeded_run.proofs.by_hand.make_whole.Goals as goal
 
 pub look_first-requires-clause-kept : goal.look_first-requires-clause-kept
@@ -10,6 +10,9 @@ look_first-requires-clause-within c = some-actor c.args.running.now c.requires.f
 
 pub look_first-requires-clause-alone : goal.look_first-requires-clause-alone
 look_first-requires-clause-alone c = begins-alone c.args.running.now c.requires.first
+
+pub look_first-requires-clause-hands : goal.look_first-requires-clause-hands
+look_first-requires-clause-hands c = begins-hands c.args.running.now c.requires.first
 
 pub make_all-requires : goal.make_all-requires
 unfolding HoldsNow

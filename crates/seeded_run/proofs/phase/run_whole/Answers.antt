@@ -1,5 +1,5 @@
 use Rattle.seeded_run.specs.Machine.{HoldsNow, LeavesAtMost}
-use Rattle.seeded_run.proofs.Phases.WholePhases.{PartRun, WholeRun, any-way, begins-alone, begins-kept, ends-so, has-left, on-fault, on-one, some-actor}
+use Rattle.seeded_run.proofs.Phases.WholePhases.{PartRun, WholeRun, any-way, begins-alone, begins-hands, begins-kept, ends-so, has-left, on-fault, on-one, some-actor}
 use Rattle.seeded_run.proofs.phase.run_whole.Goals as goal
 
 pub look_first-requires-clause-kept : goal.look_first-requires-clause-kept
@@ -10,6 +10,9 @@ look_first-requires-clause-within c = some-actor c.args.running.now c.requires.f
 
 pub look_first-requires-clause-alone : goal.look_first-requires-clause-alone
 look_first-requires-clause-alone c = begins-alone c.args.running.now c.requires.first
+
+pub look_first-requires-clause-hands : goal.look_first-requires-clause-hands
+look_first-requires-clause-hands c = begins-hands c.args.running.now c.requires.first
 
 pub run_turns-requires-clause-held : goal.run_turns-requires-clause-held
 unfolding HoldsNow

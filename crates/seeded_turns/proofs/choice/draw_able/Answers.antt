@@ -8,10 +8,10 @@ pub returns-clause-some : goal.returns-clause-some
 returns-clause-some g c =
     let actors = able (g.M.Machine.can c.args.machine.now) (g.M.Machine.actors c.args.machine.now) in
     let word = ap (λ (p : ℕ × Lcg). p.0) c.next_word.ensures in
-    let place = ap (λ (k : ℕ). k % length actors) (sym word) ∙ ap (λ (k : ℕ). c.next_word.result % k) (sym c.able_count-count.ensures) in
-    some_so c.able_at.result _ _ (λ x found. (
+    let place = ap (λ (k : ℕ). k % length actors) (sym word) ∙ ap (λ (k : ℕ). c.next_word.result % k) (sym c.list_able-count.ensures.count) in
+    some_so c.find_able.result _ _ (λ x found. (
       ap (λ (p : ℕ × Lcg). p.1) c.next_word.ensures,
       ap (slice_get actors) place ∙ found.0,
       found.1,
       found.2,
-    )) c.able_at.ensures.due
+    )) c.find_able.ensures.due

@@ -9,3 +9,7 @@ postpone-requires-clause-due c = record { due_is = c.kind_due.ensures ∙ c.in-S
 
 pub returns-clause-later : goal.returns-clause-later
 returns-clause-later c = later-turned c.args.self.now c.postpone.new.self c.look_first.new.self c.args.actor c.postpone.ensures.turned c.look_first.ensures.same
+
+pub look_first-requires-clause-hands : goal.look_first-requires-clause-hands
+unfolding HoldsNow
+look_first-requires-clause-hands c = c.postpone.ensures.turned.hands c.requires.holds.hands

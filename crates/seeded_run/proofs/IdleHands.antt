@@ -1,0 +1,117 @@
+-- A hand that has nothing to do takes a part that waits for its worker, if one does.
+use Rattle.std.proofs.Common.{◌≡◌, ◌≢◌, ◌∙◌, ◌<◌, ◌&&◌, ℕ, inl, inr, Bool, true, false, cond, not, List, [], Option, Some, None, is_none, get_or, length, option_map, refl, sym, ap, subst}
+use Rattle.std.specs.{Option.option_map_or, Prelude.option_and_then}
+use mathlib.Core.Path.{fun_ext}
+use Rattle.dim_hierarchy.specs.Dimension.{Dimension}
+use Rattle.row_ledger.specs.declared.settings.Use.{Use}
+use Rattle.script_form.specs.declared.script.Command.{Command}
+use Rattle.volap_cell.specs.{Cells.CellValue, Errands.way_of, Setting.Setting, State.IsWorldOf, Steps.history_in, Values.{ActorValue, ErrandValue, JobValue, actor_of}, World.World, declared.actor.Actor.Actor, declared.cell.Cell.Cell, declared.command.Command.Command as OpenCommand, declared.kind.Kind.Kind, declared.kind.Kind.TheVariants.{Refill, TakePart}, declared.role.Role.Role}
+use Rattle.volap_cell.proofs.Cells.States.{same-actor, stands}
+use Rattle.seeded_run.specs.{Can.{is_block_free, is_carried_at, is_drained, meets, wanted_of}, Core.IsCore, Due.{actor_kind, command_kind, free_kind, hand_kind, is_alone, is_empty}, DueSteps.{due_step, kind_if, step_if_free, step_of}, Hands.{AreFreeHands, IsFreeHand, IsFreeHandAt}, Look.{cells_only, setting_by, setting_for, world_by}, Machine.{IsPhaseHeld, IsPhaseKept, KnowsHands, KnowsOtherHands, about_in, phase_of, step_in, world_of}, Rests.{PhaseRun, rest_of}, Survey.{IsSurvey, is_awaited, worker_count}, Takes.carries_at, declared.due_step.DueStep.TheVariants.GoesOn, declared.hands.FreeHands.FreeHands, declared.machine.Running.Running, declared.survey.Survey.Survey}
+use Rattle.seeded_run.proofs.{Due.DueSteps.in-turn, Holding.LeftAlone.{is-idle, same-or-not}, Seen.cell-seen}
+
+-- In the vectors and in the state that they are.
+
+pub hand-there : (cells : List (Option Cell)) (actors : List (Option Actor)) (w : World) → IsWorldOf cells actors w → (n worker : ℕ) → IsFreeHandAt (get_or actors n None) worker → IsFreeHand (w.actors n) worker
+hand-there cells actors w is n worker = by (get_or actors n None) refl
+  where
+    by : (o : Option Actor) → get_or actors n None ≡ o → IsFreeHandAt o worker → IsFreeHand (w.actors n) worker
+    by None at free = absurd free
+    by (Some a) at free = subst (λ (x : ActorValue). IsFreeHand x worker) (sym (same-actor cells actors w n a is at)) free
+
+pub hands-there : (m : Running) → IsPhaseHeld m → AreFreeHands m.state.actors.items m.hands
+hands-there m held n worker low told =
+    let a = stands (get_or m.state.actors.items n None) (λ x. actor_of x ≡ (world_of m).actors n) (held.kept.core.is.actor n low) in
+    subst (λ o. IsFreeHandAt o worker) (sym a.1) (subst (λ (x : ActorValue). IsFreeHand x worker) (sym a.2) (held.hands n worker low told))
+
+-- such a hand carries no row
+pub free-carries : (o : Option Actor) (worker block : ℕ) → IsFreeHandAt o worker → carries_at o block ≡ false
+free-carries None worker block free = refl
+free-carries (Some a) worker block free = ap (λ e. is_carried_at block (way_of e)) (is-idle (actor_of a) free.idle).errand
+
+-- where nothing is told of anyone
+pub none-told : (actors : List (Option Actor)) (hands : FreeHands) → ((n : ℕ) → get_or hands.workers n None ≡ None) → AreFreeHands actors hands
+none-told actors hands none n worker low told = (let never : ◌≡◌ {A = Option ℕ} None (Some worker) = sym (none n) ∙ told in cc)
+
+-- Of one more it is noted.
+
+pub one-noted : (actors : List (Option Actor)) (hands now : FreeHands) (n : ℕ) (place : Option Actor) → place ≡ get_or actors n None → AreFreeHands actors hands
+    → ((worker : ℕ) → get_or now.workers n None ≡ Some worker → IsFreeHandAt place worker)
+    → ((a : ℕ) → a ≢ n → get_or now.workers a None ≡ get_or hands.workers a None) → AreFreeHands actors now
+one-noted actors hands now n place read are own others a worker low told = elim (same-or-not a n) [
+  | inl is ↦ subst (λ j. IsFreeHandAt (get_or actors j None) worker) (sym is)
+      (subst (λ o. IsFreeHandAt o worker) read (own worker (subst (λ j. get_or now.workers j None ≡ Some worker) is told)))
+  | inr differs ↦ are a worker low (sym (others a differs) ∙ told)
+]
+
+pub hands-noted : (m : Running) (n : ℕ) (hands : FreeHands) (place : Option Actor) → IsPhaseKept m → KnowsOtherHands m n → place ≡ get_or m.state.actors.items n None
+    → ((worker : ℕ) → get_or hands.workers n None ≡ Some worker → IsFreeHandAt place worker)
+    → ((a : ℕ) → a ≢ n → get_or hands.workers a None ≡ get_or m.hands.workers a None) → KnowsHands (record m { hands = hands })
+hands-noted m n hands place kept knows read own others a worker low told = elim (same-or-not a n) [
+  | inl is ↦ subst (λ j. IsFreeHand ((world_of m).actors j) worker) (sym is)
+      (hand-there m.state.cells.items m.state.actors.items (world_of m) kept.core.is n worker
+      (subst (λ o. IsFreeHandAt o worker) read (own worker (subst (λ j. get_or hands.workers j None ≡ Some worker) is told))))
+  | inr differs ↦ knows a differs worker low (sym (others a differs) ∙ told)
+]
+
+-- What is due.
+
+-- what is due for a hand is seen
+pub hand-seen : (h : List Dimension) (with : Use) (cells : List (Option Cell)) (actors : List (Option Actor)) (s : Setting) (w : World) → IsCore h with cells actors s w → (worker : ℕ)
+    → hand_kind s w worker ≡ hand_kind (setting_by [] with) (world_by cells) worker
+hand-seen h with cells actors s w core worker =
+    ap (λ (f : ℕ → CellValue). hand_kind s (cells_only f) worker) (fun_ext (cell-seen cells actors w core.is))
+    ∙ ap (λ (k : ℕ). hand_kind (setting_for [] k) (world_by cells) worker) core.servers
+
+module _ (s : Setting) (w : World) (n worker : ℕ) (free : IsFreeHand (w.actors n) worker) where
+  abbrev a : ActorValue
+  a = w.actors n
+
+  kind-is : (alone : Bool) (rest : List Command) → actor_kind s w alone rest a a.errand ≡ hand_kind s w worker
+  kind-is alone rest =
+      let idle = is-idle a free.idle in
+      ap (λ (e : Option ErrandValue). actor_kind s w alone rest a e) idle.errand
+      ∙ ap (λ b. cond b (Some Refill) (command_kind s w alone rest a a.command)) (none-left a.purse idle.purse)
+      ∙ ap (λ (o : Option OpenCommand). command_kind s w alone rest a o) idle.command
+      ∙ ap (λ (r : Role). free_kind s w alone rest r) free.role
+    where
+      and-none : (b : Bool) → (b && false) ≡ false
+      and-none true = refl
+      and-none false = refl
+
+      none-left : {A : Type 0} (xs : List A) → xs ≡ [] → (is_none a.job && not (is_empty xs)) ≡ false
+      none-left xs is = ap (λ ys. is_none a.job && not (is_empty ys)) is ∙ and-none (is_none a.job)
+
+  -- it waits for nothing
+  meets-it : (k : Kind) → meets s w n k ≡ true
+  meets-it k =
+      let idle = is-idle a free.idle in
+      ap (λ (e : Option ErrandValue). option_map_or (is_block_free s w n) (option_and_then (λ (x : ErrandValue). wanted_of s w x k) e) true && is_drained w a.job) idle.errand
+      ∙ ap (λ (j : Option JobValue). true && is_drained w j) idle.job
+
+  takes : (b : Bool) → option_map (step_of a) (kind_if (meets s w n) (cond b (Some TakePart) None)) ≡ cond b (Some (GoesOn TakePart)) None
+  takes true = ap (λ c. option_map (step_of a) (cond c (Some TakePart) None)) (meets-it TakePart)
+  takes false = refl
+
+  pub hand-takes : (p : PhaseRun) (b : Bool) → hand_kind s w worker ≡ cond b (Some TakePart) None → due_step false s p w n ≡ cond b (Some (GoesOn TakePart)) None
+  hand-takes p b is =
+      let rest = rest_of p (history_in w) in
+      in-turn false true s p w n refl
+      ∙ ap (λ (o : Option Kind). option_map (step_of a) (kind_if (meets s w n) o)) (kind-is (is_alone s w rest n) (rest n) ∙ is)
+      ∙ takes b
+
+-- where the commands go in any order, it is everybody's turn
+pub any-order : (m : Running) (n : ℕ) → m.in_order ≡ false → step_in m n ≡ step_if_free (about_in m) (phase_of m) (world_of m) n
+any-order m n any = ap (λ b. due_step b (about_in m) (phase_of m) (world_of m) n) any ∙ in-turn false true (about_in m) (phase_of m) (world_of m) n refl
+
+-- by a survey
+pub hand-step : (m : Running) (n worker : ℕ) (survey : Survey) → IsPhaseHeld m → m.in_order ≡ false → n < length m.state.actors.items → get_or m.hands.workers n None ≡ Some worker
+    → IsSurvey m.with m.state.cells.items m.state.actors.items survey → worker < worker_count
+    → step_in m n ≡ cond (get_or survey.awaited worker false) (Some (GoesOn TakePart)) None
+hand-step m n worker survey held any low told tells within =
+    let s = about_in m in
+    let w = world_of m in
+    let awaited = is_awaited m.with m.state.cells.items worker in
+    ap (λ b. due_step b s (phase_of m) w n) any
+    ∙ hand-takes s w n worker (held.hands n worker low told) (phase_of m) awaited (hand-seen m.h.now m.with m.state.cells.items m.state.actors.items s w held.kept.core worker)
+    ∙ ap (λ b. cond b (Some (GoesOn TakePart)) None) (sym (tells.awaited worker within))

@@ -1,0 +1,13 @@
+use Rattle.std.proofs.Common.{◌∙◌, arith, sym}
+use Rattle.seeded_run.proofs.IdleHands.{any-order, hand-step}
+use Rattle.seeded_run.proofs.machine.Running.step_by.Goals as goal
+
+pub returns-in-Some : goal.returns-in-Some
+returns-in-Some c =
+    let m = c.args.self.now in
+    hand-step m c.args.number c.in-Some.worker c.args.survey.now c.requires.held c.requires.any (omega (arith, c.requires.within, c.requires.held.kept.count))
+    (sym c.worker_of.ensures ∙ c.in-Some.is) c.requires.told (omega arith)
+    ∙ sym c.part_taken.ensures
+
+pub returns-in-None : goal.returns-in-None
+returns-in-None c = any-order c.args.self.now c.args.number c.requires.any ∙ c.step_on_turn.ensures

@@ -1,0 +1,21 @@
+use Rattle.std.proofs.Common.{get_or, None, arith, subst, sym}
+use Rattle.seeded_run.specs.{Look.IsTold, Machine.{about_in, phase_of, world_of}, Rests.rest_of, Takes.AsksHere}
+use Rattle.volap_cell.specs.Steps.{history_in}
+use Rattle.seeded_run.proofs.{Begun.{alone-carries, asks-ahead}, Cursors.Held.told}
+use Rattle.seeded_run.proofs.machine.Running.step_on_turn.Goals as goal
+
+pub step_if_free-requires-clause-alone : goal.step_if_free-requires-clause-alone
+step_if_free-requires-clause-alone c = λ order. alone-carries c.args.self.now c.requires.held c.args.number order (c.requires.turn order)
+
+pub step_if_free-requires-clause-asks : goal.step_if_free-requires-clause-asks
+step_if_free-requires-clause-asks c =
+    let m = c.args.self.now in
+    subst (λ o. AsksHere (get_or m.state.actors.items c.args.number None) o) (sym c.next_command-next.ensures)
+    (asks-ahead m c.requires.held.kept c.args.number (omega (arith, c.requires.within, c.requires.held.kept.count)))
+
+pub returns : goal.returns
+returns c =
+    let m = c.args.self.now in
+    let rest = rest_of (phase_of m) (history_in (world_of m)) in
+    c.step_if_free.ensures (about_in m) (world_of m) rest c.requires.held.kept.core
+    (subst (λ o. IsTold (about_in m) rest c.args.number o m.left) (sym c.next_command-next.ensures) (told m c.requires.held.kept c.args.number))
