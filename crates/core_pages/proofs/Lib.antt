@@ -1,4 +1,12 @@
+pub mod Walks
+pub mod Numbers
+pub mod Bodies
+pub mod LookedAt
+pub mod CellWalks
+pub mod Listing
+pub mod Counts
+pub mod Pages
 pub mod AnyShape
-pub mod HeldTrees
-pub mod HeldLines
-pub mod HeldRows
+pub mod StateTrees
+pub mod StateLines
+pub mod StateRows

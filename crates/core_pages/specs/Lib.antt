@@ -1,4 +1,5 @@
-pub mod Held
-pub mod HeldLines
-pub mod HeldRows
+pub mod Looks
+pub mod Blocks
+pub mod Still
+pub mod Shards
 pub mod Seen

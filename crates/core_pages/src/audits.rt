@@ -1,51 +1,48 @@
 //! The page of an audit: all rows of all shards together.
-ghost use Rattle.std.specs.Prelude.{List, ◌≡◌, ◌<◌, ◌^◌, All};
-ghost use Rattle.core_pages.specs.HeldLines.{LeadsToGate};
-ghost use Rattle.core_pages.specs.HeldRows.{agg_at, agg_of_spots};
+ghost use Rattle.std.specs.Prelude.{List, ◌≡◌, ◌+◌, ◌<◌, ◌^◌, IsSome};
+ghost use Rattle.core_pages.specs.Looks.{IsValid, cells_in, gate_in};
 ghost use Rattle.core_pages.specs.Seen.{IsAuditedIn, IsQuietIn};
+ghost use Rattle.core_pages.specs.Shards.{agg_of_gate};
 ghost use Rattle.dim_hierarchy.specs.Dimension.{Dimension};
-ghost use Rattle.volap_cell.specs.State.{HasInv};
+ghost use Rattle.measure_agg.specs.Joining.{join};
+ghost use Rattle.volap_cell.specs.Cells.{gate_shard};
 
-use crate::leads::{gate_by_table, registry_of, table_place};
-use describing_set::Spot;
+use crate::leads::{led_at, spot_count};
+use crate::looks::Cells;
 use measure_agg::Agg;
 use row_ledger::AuditLine;
-use volap_cell::{Cell, State};
+use volap_cell::Cell;
 
-/// The aggregate of the rows of a spot's shard: those in the tree of its gate, and those in the queue.
-fn agg_at(cells: &[Option<Cell>], servers: u8, spot: &Spot) -> Agg
-    requires gate { LeadsToGate servers cells.now spot.now }
-    requires few { (agg_at servers cells.now spot.now).count < 2 ^ 63 }
-    ensures { result ≡ agg_at servers cells.now spot.now }
+/// An aggregate, joined with that of the rows of the gate in a cell: those in its tree, and those in its queue.
+fn joined_at<C: Cells>(cells: &mut C, at: u32, agg: &Agg) -> Agg
+    requires gate { IsSome (gate_shard (cells_in (C.state cells.old) at)) }
+    requires few { agg.now.count + (agg_of_gate (gate_in (cells_in (C.state cells.old) at))).count < 2 ^ 63 }
+    ensures same { C.state cells.new ≡ C.state cells.old }
+    ensures value { result ≡ join agg.now (agg_of_gate (gate_in (cells_in (C.state cells.old) at))) }
 {
-    let gate = gate_by_table(cells, table_place(servers, spot.worker), spot.shard);
-    gate.agg.join(&gate.queue.agg)
-}
-
-/// The aggregate of the rows of the shards of all these spots. Takes no memory.
-fn agg_of_spots(cells: &[Option<Cell>], servers: u8, spots: &[Spot]) -> Agg
-    requires gates { All (LeadsToGate servers cells.now) spots.now }
-    requires few { (agg_of_spots servers cells.now spots.now).count < 2 ^ 63 }
-    ensures { result ≡ agg_of_spots servers cells.now spots.now }
-{
-    let mut total = Agg::EMPTY;
-    for spot in spots {
-        total = total.join(&agg_at(cells, servers, spot));
+    match cells.look(at) {
+        Cell::Gate(gate) => agg.join(&gate.agg.join(&gate.queue.agg)),
+        _ => unreachable!(),
     }
-    total
 }
 
 /// The aggregate of the rows of all shards that stand, and how many these are, where there are so many
 /// servers and nobody is at a part. No two shards have a row in common, so there are no more rows than
-/// events, and their number and their sum have room. Takes no memory.
-pub fn audit_page(state: &State, servers: u8) -> AuditLine
-    requires state { (h : List Dimension) × HasInv h state.now.cells.items state.now.actors.items }
-    requires quiet { IsQuietIn servers state.now.cells.items state.now.actors.items }
-    ensures page { IsAuditedIn state.now.cells.items state.now.actors.items result }
+/// events, and their number and their sum have room. Looks at three cells a shard. Takes no memory.
+pub fn audit_page<C: Cells>(cells: &mut C, servers: u8) -> AuditLine
+    requires state { (h : List Dimension) × IsValid h (C.state cells.old) }
+    requires quiet { IsQuietIn servers (C.state cells.old) }
+    ensures same { C.state cells.new ≡ C.state cells.old }
+    ensures page { IsAuditedIn (C.state cells.old) result }
 {
-    let spots = registry_of(&state.cells).spots();
+    let shards = spot_count(cells);
+    let mut agg = Agg::EMPTY;
+    for place in 0..shards {
+        let (_, at) = led_at(cells, servers, place);
+        agg = joined_at(cells, at, &agg);
+    }
     AuditLine {
-        agg: agg_of_spots(&state.cells, servers, spots),
-        shards: spots.len() as u64,
+        agg,
+        shards: shards as u64,
     }
 }

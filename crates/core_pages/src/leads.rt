@@ -1,60 +1,72 @@
-//! Where the cells that one thread holds have the registry, and to which gate a worker's table leads.
-ghost use Rattle.std.specs.Prelude.{◌≡◌, Some, None, get_or, option_copied, IsSome};
-ghost use Rattle.core_pages.specs.HeldLines.{gate_by_table, gate_cell_of, registry_held, table_place, where_held};
+//! The spots of the registry, and to which gate the table of a spot's worker leads.
+ghost use Rattle.std.specs.Prelude.{◌≡◌, ◌<◌, Some, IsSome, length, slice_get};
+ghost use Rattle.core_pages.specs.Looks.{cells_in};
+ghost use Rattle.core_pages.specs.Shards.{CanLead, frontier_in, gate_place, table_place};
+ghost use Rattle.volap_cell.specs.Cells.{where_in};
 ghost use Rattle.volap_cell.specs.Setting.{registry_cell};
 
-use crate::held::gate_of;
+use crate::looks::Cells;
+use describing_set::Spot;
 use mapping_table::Where;
-use server_image::Registry;
-use shard_store::Gate;
 use volap_cell::Cell;
 
-/// The registry, which the cells have.
-pub(crate) fn registry_of(cells: &[Option<Cell>]) -> &Registry
-    requires registry { IsSome (registry_held (get_or cells.now registry_cell None)) }
-    ensures { registry_held (get_or cells.now registry_cell None) ≡ Some result.now }
+/// How many spots the registry has.
+pub(crate) fn spot_count<C: Cells>(cells: &mut C) -> usize
+    requires stands { IsSome ((C.state cells.old).cells registry_cell) }
+    ensures same { C.state cells.new ≡ C.state cells.old }
+    ensures value { result ≡ length (frontier_in (cells_in (C.state cells.old))) }
 {
-    match cells.get(2) {
-        Some(Some(Cell::Registry(registry))) => registry,
+    match cells.look(2) {
+        Cell::Registry(registry) => registry.spots().len(),
+        _ => 0,
+    }
+}
+
+/// The spot at a place of the registry.
+fn spot_at<C: Cells>(cells: &mut C, place: usize) -> Spot
+    requires stands { IsSome ((C.state cells.old).cells registry_cell) }
+    requires within { place < length (frontier_in (cells_in (C.state cells.old))) }
+    ensures same { C.state cells.new ≡ C.state cells.old }
+    ensures value { slice_get (frontier_in (cells_in (C.state cells.old))) place ≡ Some result }
+{
+    match cells.look(2) {
+        Cell::Registry(registry) => registry.spots()[place].copy(),
         _ => unreachable!(),
     }
 }
 
-/// Where the table in a cell has a shard.
-fn where_of(cells: &[Option<Cell>], table_at: u32, shard: u32) -> Option<&Where>
-    ensures { option_copied result ≡ where_held (get_or cells.now table_at None) shard }
-{
-    match cells.get(table_at as usize) {
-        Some(Some(Cell::Map { map, .. })) => map.look(shard),
-        _ => None,
-    }
-}
-
-/// The cell of the gate that a place is.
-fn gate_cell_of(place: Option<&Where>) -> Option<u32>
-    ensures { result ≡ gate_cell_of (option_copied place.entry) }
-{
-    match place {
-        Some(Where::Gate(at)) => Some(*at),
-        _ => None,
-    }
-}
-
-/// The gate to which the table in a cell leads for a shard.
-pub(crate) fn gate_by_table(cells: &[Option<Cell>], table_at: u32, shard: u32) -> &Gate
-    requires gate { IsSome (gate_by_table cells.now table_at shard) }
-    ensures { gate_by_table cells.now table_at shard ≡ Some result.now }
-{
-    let place = where_of(cells, table_at, shard);
-    match gate_cell_of(place) {
-        Some(at) => gate_of(cells, at),
-        None => unreachable!(),
-    }
-}
-
 /// The cell of a worker's table, where there are so many servers.
-pub(crate) fn table_place(servers: u8, worker: u8) -> u32
+fn table_place(servers: u8, worker: u8) -> u32
     ensures { result ≡ table_place servers worker }
 {
     3 + u32::from(servers) + u32::from(servers) + u32::from(worker)
+}
+
+/// The cell of the gate to which the table of a spot's worker leads, where there are so many servers.
+fn gate_place<C: Cells>(cells: &mut C, servers: u8, spot: &Spot) -> u32
+    requires leads { IsSome (where_in (cells_in (C.state cells.old) (table_place servers spot.now.worker)) spot.now.shard) }
+    ensures same { C.state cells.new ≡ C.state cells.old }
+    ensures value { result ≡ gate_place servers (cells_in (C.state cells.old)) spot.now }
+{
+    match cells.look(table_place(servers, spot.worker)) {
+        Cell::Map { map, .. } => match map.look(spot.shard) {
+            Some(Where::Gate(at)) => *at,
+            _ => 0,
+        },
+        _ => 0,
+    }
+}
+
+/// The spot at a place of the registry, and the cell of the gate to which the table of its worker leads,
+/// where there are so many servers. Looks at two cells.
+pub(crate) fn led_at<C: Cells>(cells: &mut C, servers: u8, place: usize) -> (Spot, u32)
+    requires leads { CanLead servers (C.state cells.old) }
+    requires within { place < length (frontier_in (cells_in (C.state cells.old))) }
+    ensures same { C.state cells.new ≡ C.state cells.old }
+    ensures spot { slice_get (frontier_in (cells_in (C.state cells.old))) place ≡ Some result.0 }
+    ensures gate { result.1 ≡ gate_place servers (cells_in (C.state cells.old)) result.0 }
+{
+    let spot = spot_at(cells, place);
+    let at = gate_place(cells, servers, &spot);
+    (spot, at)
 }

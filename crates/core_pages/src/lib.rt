@@ -1,12 +1,16 @@
-//! Pages of the core's shards, read off the cells that one thread holds.
+//! Pages of the core's shards, read off cells that are looked at one at a time.
 #![tactic(auto)]
 
 mod audits;
-mod held;
+mod group;
 mod leads;
+mod looks;
 mod shards;
 mod trees;
+mod walk;
 
 pub use audits::audit_page;
+pub use looks::{Cells, Lent};
 pub use shards::shards_page;
 pub use trees::tree_page_at;
+pub use walk::page_of;

@@ -10,7 +10,8 @@ use Rattle.shard_store.specs.declared.gate.Phase.{Phase}
 use Rattle.shard_store.specs.declared.gate.Phase.TheVariants as phase
 use Rattle.volap_cell.specs.{AdminKinds.HasFrozen, Cells.{phase_of, where_in}, Setting.{Setting, map_cell}, State.Has, Values.{ActorValue, JobValue, StageValue, IsCalled, Collects, Builds, actor_of}, Working.frozen_in, World.World, declared.actor.Actor.Actor, declared.command.Command.Command, declared.command.Work.Work, declared.job.Frozen.Frozen}
 use Rattle.volap_cell.specs.declared.command.Work.TheVariants as work_is
-use Rattle.seeded_run.specs.{Can.last_noted, Led.gate_there, declared.jobs.Next.Next}
+use Rattle.core_pages.specs.Looks.{gate_there}
+use Rattle.seeded_run.specs.{Can.last_noted, declared.jobs.Next.Next}
 use Rattle.seeded_run.specs.declared.jobs.Next.TheVariants as next
 
 -- its job

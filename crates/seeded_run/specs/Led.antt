@@ -1,7 +1,6 @@
 -- Where an actor's part leads, as one thread sees it that holds a core's cells and actors: to a gate, or to a block.
 use Rattle.std.specs.Prelude.{ℕ, Option, Some, None}
-use Rattle.mapping_table.specs.declared.place.Where.{Where}
-use Rattle.mapping_table.specs.declared.place.Where.TheVariants as where_is
+use Rattle.core_pages.specs.Looks.{gate_there}
 use Rattle.volap_cell.specs.{Setting.Setting, Values.ErrandValue, World.World}
 use Rattle.seeded_run.specs.{Can.wanted_visit, Due.led_to}
 
@@ -9,11 +8,6 @@ use Rattle.seeded_run.specs.{Can.wanted_visit, Due.led_to}
 abbrev pub cell_or_zero : Option ℕ → ℕ
 cell_or_zero None = 0
 cell_or_zero (Some y) = y
-
--- the gate to which a table leads, zero where it leads elsewhere
-abbrev pub gate_there : Option Where → ℕ
-gate_there (Some (where_is.Gate gate)) = gate
-gate_there _ = 0
 
 -- the gate to which the table of the part's worker leads
 abbrev pub gate_led : Setting → World → Option ErrandValue → ℕ

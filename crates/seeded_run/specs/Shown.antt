@@ -5,7 +5,8 @@ use Rattle.row_ledger.specs.declared.class.Subject.TheVariants as subject
 use Rattle.server_image.specs.Registry.{host_of}
 use Rattle.volap_cell.specs.{Cells.{registry_in, where_in}, ImageKinds.doing, Setting.{Setting, map_cell, registry_cell}, State.Has, declared.actor.Actor.Actor, declared.cell.Cell.Cell, declared.command.Command.Command, declared.command.Work.Work}
 use Rattle.volap_cell.specs.declared.command.Work.TheVariants as work_is
-use Rattle.seeded_run.specs.{Led.gate_there, Look.cell_at, Works.command_by}
+use Rattle.core_pages.specs.Looks.{gate_there}
+use Rattle.seeded_run.specs.{Look.cell_at, Works.command_by}
 
 -- a command of this work, whose page is to be shown
 abbrev pub IsToShow : Work → Option Command → Type 0

@@ -2,8 +2,9 @@
 ghost use Rattle.std.specs.Prelude.{◌≡◌, ◌⊎◌, [], Some, option_copied};
 ghost use Rattle.seeded_run.specs.AtWork.{errand_by};
 ghost use Rattle.seeded_run.specs.Core.{HasCore, IsDue};
-ghost use Rattle.seeded_run.specs.Led.{block_noted, cell_or_zero, gate_led, gate_there};
+ghost use Rattle.seeded_run.specs.Led.{block_noted, cell_or_zero, gate_led};
 ghost use Rattle.seeded_run.specs.Look.{setting_by, world_by};
+ghost use Rattle.core_pages.specs.Looks.{gate_there};
 ghost use Rattle.volap_cell.specs.State.{Stepped};
 ghost use Rattle.volap_cell.specs.Values.{ErrandValue, actor_of};
 ghost use Rattle.volap_cell.specs.declared.kind.Kind.TheVariants.{BlockVisit, FinishPart, GateRead, LookUp};

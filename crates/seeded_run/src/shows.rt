@@ -13,6 +13,7 @@ ghost use Rattle.volap_cell.specs.declared.kind.Kind.TheVariants.{Note};
 use crate::places::{ledger_place, map_place, registry_place};
 use crate::reads::gate_there;
 use crate::sights::{cell_at, where_at};
+use core_pages::Lent;
 use dim_hierarchy::Hierarchy;
 use row_ledger::{How, Page, Use};
 use std::alloc::Global;
@@ -58,8 +59,9 @@ pub(crate) fn show_tree(
     ensures made { GoesOnWithCommand h.now Note number state.old.cells.items state.old.actors.items state.new.cells.items state.new.actors.items }
 {
     let gate = standing_gate(with, &state.cells, shard);
+    let many = state.cells.len() as u32;
     let ledger = ledger_place();
-    match core_pages::tree_page_at(alloc, state, gate) {
+    match core_pages::tree_page_at(alloc, &mut Lent { state }, many, gate) {
         Ok(page) => core_steps::note_shown(h, state, number, ledger, Page::Tree(page)),
         Err(_) => core_steps::note_ended(h, state, number, ledger, How::NoMemory),
     }

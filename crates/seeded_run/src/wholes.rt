@@ -7,6 +7,7 @@ ghost use Rattle.row_ledger.specs.declared.class.Subject.TheVariants.{Rows, Shar
 ghost use Rattle.volap_cell.specs.declared.kind.Kind.TheVariants.{Note};
 
 use crate::places::ledger_place;
+use core_pages::Lent;
 use dim_hierarchy::Hierarchy;
 use row_ledger::{How, Page, Use};
 use std::alloc::Global;
@@ -27,7 +28,7 @@ pub(crate) fn show_shards(
     ensures made { GoesOnWithCommand h.now Note number state.old.cells.items state.old.actors.items state.new.cells.items state.new.actors.items }
 {
     let ledger = ledger_place();
-    match core_pages::shards_page(alloc, h, state, with.servers) {
+    match core_pages::shards_page(alloc, h, &mut Lent { state }, with.servers) {
         Ok(lines) => core_steps::note_shown(h, state, number, ledger, Page::Shards(lines)),
         Err(_) => core_steps::note_ended(h, state, number, ledger, How::NoMemory),
     }
@@ -42,6 +43,6 @@ pub(crate) fn show_audit(h: &Hierarchy, with: &Use, state: &mut State, number: u
     ensures made { GoesOnWithCommand h.now Note number state.old.cells.items state.old.actors.items state.new.cells.items state.new.actors.items }
 {
     let ledger = ledger_place();
-    let audit = core_pages::audit_page(state, with.servers);
+    let audit = core_pages::audit_page(&mut Lent { state }, with.servers);
     core_steps::note_shown(h, state, number, ledger, Page::Audit(audit));
 }

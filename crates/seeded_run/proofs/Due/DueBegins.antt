@@ -1,7 +1,7 @@
 -- What is known of an actor for which the beginning of its next command is due.
 use Rattle.std.proofs.Common.{ℕ, ◌≡◌, ◌<◌, Bool, true, false, not, Option, Some, None, List, [], ◌∷◌, Ok, Err, get_or, refl, sym, ap, ◌∙◌, subst}
-use Rattle.std.specs.{Option.IfNone, Prelude.{◌+◌, ◌&&◌, if◌then◌else◌, slice_get, Result, IsOk, IfSome}, Result.IsOkUnless}
-use Rattle.dim_hierarchy.specs.{Dimension.Dimension, declared.hierarchy.FilterFault.FilterFault, declared.hierarchy.FilterFault.TheVariants.{Unknown, NoMemory}}
+use Rattle.std.specs.{Option.IfNone, Prelude.{◌+◌, ◌&&◌, if◌then◌else◌, slice_get, Result, IsOk, IfSome}}
+use Rattle.dim_hierarchy.specs.{Dimension.Dimension, declared.hierarchy.FilterFault.FilterFault, declared.hierarchy.FilterFault.TheVariants.Unknown}
 use Rattle.query_router.specs.Desk.{DeskValue}
 use Rattle.row_ledger.specs.{Classes.class_of, declared.class.Class.Class, declared.settings.Call.Call, declared.settings.Use.Use}
 use Rattle.row_ledger.specs.declared.class.Class.TheVariants as class_is

@@ -2,10 +2,8 @@
 use Rattle.std.proofs.Common.{◌∙◌, ◌≡◌, ◌&&◌, ℕ, Bool, true, false, cond, not, is_none, is_some, IfSome, List, Option, None, Some, option_map, ap, refl, sym}
 use Rattle.std.specs.Option.{option_map_or}
 use Rattle.script_form.specs.declared.script.Command.{Command}
-use Rattle.script_form.specs.declared.script.Command.TheVariants as script
-use Rattle.volap_cell.specs.{Setting.Setting, Values.{ActorValue, ErrandValue}, World.World, declared.command.Command.Command as OpenCommand, declared.kind.Kind.Kind, declared.role.Role.Role}
+use Rattle.volap_cell.specs.{Setting.Setting, Values.{ActorValue, ErrandValue}, World.World, declared.command.Command.Command as OpenCommand, declared.kind.Kind.Kind}
 use Rattle.volap_cell.specs.declared.kind.Kind.TheVariants as kind
-use Rattle.volap_cell.specs.declared.role.Role.TheVariants as role
 use Rattle.seeded_run.specs.{Can.{can, can_step, meets}, Commands.may_begin, Due.{command_kind, due, errand_kind, free_kind, is_empty, led_to, purse_kind}, DueSteps.{due_step, kind_if, step_by, step_of}, Rests.PhaseRun, Told.is_of_part, declared.due_step.DueStep.DueStep, declared.due_step.DueStep.TheVariants.{Begins, GoesOn}}
 use Rattle.seeded_run.proofs.Holding.LeftAlone.{apart, task-part}
 

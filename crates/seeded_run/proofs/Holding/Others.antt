@@ -46,12 +46,6 @@ any-next n test none is =
     let next : n + 1 ≡ suc n = omega arith in
     subst (λ m. any_below m test ≡ false) (sym next) (ap (λ b. b || any_below n test) is ∙ none)
 
--- one more that passes
-pub all-next : (n : ℕ) (test : ℕ → Bool) → all_below n test ≡ true → test n ≡ true → all_below (n + 1) test ≡ true
-all-next n test all is =
-    let next : n + 1 ≡ suc n = omega arith in
-    subst (λ m. all_below m test ≡ true) (sym next) (ap (λ b. b && all_below n test) is ∙ all)
-
 pub both-fail : (a b : Bool) → a ≡ false → b ≡ false → (a || b) ≡ false
 both-fail a b first second = ap (λ x. x || b) first ∙ second
 

@@ -14,7 +14,6 @@ use Rattle.mapping_table.specs.declared.place.Where.TheVariants as where_is
 use Rattle.row_ledger.specs.{declared.settings.How.How, declared.settings.How.TheVariants.NoMemory, declared.settings.Use.Use}
 use Rattle.row_ledger.specs.declared.settings.How.TheVariants as how
 use Rattle.shard_plan.specs.declared.action.Action.{Action}
-use Rattle.shard_store.specs.declared.gate.Phase.TheVariants as phase
 use Rattle.cell_stock.specs.declared.purse.Spare.{Spare}
 use Rattle.list_words.specs.Counts.{Among}
 use Rattle.tree_shape.specs.{Collecting.IsCollecting, Laws.ReadableLaw, Shape.numbers}
@@ -22,9 +21,11 @@ use Rattle.volap_cell.proofs.{Cells.Blanks.spent-owner, Cells.Holding.{carries, 
 use Rattle.volap_cell.specs.{AdminKinds.{HasFrozen, spent_by, spent_in}, Cells.{BlockCell, CellValue, DeskCell, FreeCell, GateCell, ImageCell, LedgerCell, MapCell, MapOf, RegistryCell, StockCell, OfStock, TheStock, active_in, gate_shard, has_block, phase_of, tag_of, where_in}, Commands.{EndsStage, MayNoteEnd}, Errands.{RowWay, taken_by, taken_of, way_of}, Ghost.{Ghost, InJob, InTree, NotOfStock}, Growing.table_of, ImageKinds.doing, Invariant.InvWith, Planning.{job_for, next_job}, Setting.{Setting, actor_count, cell_count, ledger_cell, map_cell, stock_cell}, State.Has, Stocking.{cells_at, spent_of}, Turning.{inside_of, is_inside}, Values.{ActorValue, BuildingValue, CollectingValue, ErrandValue, JobValue, StageValue, IsCalled, Collects, Builds, actor_of}, View.{View, view}, Working.{IsCollected, IsJobOf, begun_job, frozen_in}, World.{MustKeep, World}, declared.actor.Actor.Actor, declared.cell.Cell.Cell, declared.command.Balance.Balance, declared.command.Command.Command as OpenCommand, declared.command.Work.Work, declared.job.Frozen.Frozen, declared.kind.Kind.Kind}
 use Rattle.volap_cell.specs.declared.command.Work.TheVariants as work_is
 use Rattle.volap_cell.specs.declared.kind.Kind.TheVariants as kind
-use Rattle.seeded_run.specs.{Can.{gate_awaited, is_drained, last_noted}, Core.{HasCore, IsCore, IsDue}, Due.{command_kind, is_alone}, Jobs.{CanGiveUp, CanGiveUpBy, CanLeave, CanLeaveBy, IsAtFirst, IsAtFirstBy, cell_at_stage, cell_of_one, cell_unbuilt, end_of_balance, frozen_gate, gate_found, gate_to_freeze, has_more, job_by, job_of_one, most_of, next_of_stage, next_by, next_of, worker_of_job}, Led.gate_there, Look.{cell_at, setting_by, setting_for, world_by}, Works.{command_by, is_balance, is_balance_work}, declared.jobs.Next.Next}
+use Rattle.core_pages.specs.Looks.{gate_there}
+use Rattle.seeded_run.specs.{Can.{gate_awaited, is_drained, last_noted}, Core.{HasCore, IsCore, IsDue}, Due.{command_kind, is_alone}, Jobs.{CanGiveUp, CanGiveUpBy, CanLeave, CanLeaveBy, IsAtFirst, IsAtFirstBy, cell_at_stage, cell_of_one, cell_unbuilt, end_of_balance, frozen_gate, gate_found, gate_to_freeze, has_more, job_by, job_of_one, most_of, next_of_stage, next_by, next_of, worker_of_job}, Look.{cell_at, setting_by, setting_for, world_by}, Works.{command_by, is_balance, is_balance_work}, declared.jobs.Next.Next}
 use Rattle.seeded_run.specs.declared.jobs.Next.TheVariants as next
 use Rattle.seeded_run.proofs.{Due.DueCommands.{by-command, is_aside, is_first}, Due.DueJobs.{IsAtStage, NotedBalance, IsLeft, IsThrough, at-stage, block-next, is_staged, last-at, more-upto, no-more, none-noted, noted-balance, noted-last, row-next, stage-case, trees-next}, Due.DueReads.{ends-in, no-place, table-of}, Fallbacks.still-is, Holding.FixedCells.{IsFixed, ledger-fixed, may-step, tag-is}, Holding.Holds.{CanHold, gate-tag, hold-fixed, hold-gate, steps-with}, Ready.PartsReady.map-fixed, Ready.WorksReady.{command-is, ended-may, read-of}, Seen.cell-seen}
+use Rattle.shard_store.specs.declared.gate.Phase.TheVariants as phase
 
 -- Cells that a job may hold.
 

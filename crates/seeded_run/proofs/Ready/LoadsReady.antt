@@ -4,7 +4,6 @@ use Rattle.std.specs.{List.list_any, Prelude.{◌&&◌, ◌==◌, if◌then◌el
 use Rattle.core_admin.specs.LoadDue.{CanReadLoad}
 use Rattle.core_steps.specs.{AskedLoads.ReadsNext, Ready.MayStep}
 use Rattle.dim_hierarchy.specs.Dimension.{Dimension}
-use Rattle.mapping_table.specs.declared.place.Where.TheVariants as where_is
 use Rattle.row_ledger.specs.{Shards.{Place, frontier, is_of}, Workers.is_on, declared.event.Event.Event, declared.settings.Use.Use}
 use Rattle.script_form.specs.declared.script.Command.{Command}
 use Rattle.shard_plan.specs.{declared.action.Action.Action, declared.action.Load.Load}
@@ -12,8 +11,10 @@ use Rattle.volap_cell.proofs.Cells.Numbers.{tag-map}
 use Rattle.volap_cell.specs.{Cells.{CellValue, MapOf, tag_of, where_in}, Commands.settles_next, ImageKinds.doing, Setting.{Setting, map_cell}, Steps.history_in, Values.{ErrandValue, JobValue, StageValue, IsCalled, IsDeclined, IsFrozen, Collects, Builds}, Working.places_in, World.World, declared.actor.Actor.Actor, declared.cell.Cell.Cell, declared.command.Balance.Balance, declared.command.Work.Work, declared.kind.Kind.Kind}
 use Rattle.volap_cell.specs.declared.command.Work.TheVariants as work_is
 use Rattle.volap_cell.specs.declared.kind.Kind.TheVariants as kind
-use Rattle.seeded_run.specs.{AtWork.errand_by, Core.{HasCore, IsCore, IsDue}, Due.{balance_kind, command_kind, desk_of, due_by, finish_kind, is_alone, is_empty, job_kind, page_kind, stage_kind, there_kind, work_kind}, Led.gate_there, Loads.load_of, Look.cell_at, Works.command_by}
+use Rattle.core_pages.specs.Looks.{gate_there}
+use Rattle.seeded_run.specs.{AtWork.errand_by, Core.{HasCore, IsCore, IsDue}, Due.{balance_kind, command_kind, desk_of, due_by, finish_kind, is_alone, is_empty, job_kind, page_kind, stage_kind, there_kind, work_kind}, Loads.load_of, Look.cell_at, Works.command_by}
 use Rattle.seeded_run.proofs.{Due.DueCommands.{at-empty, at-parts, by-work}, Due.DueParts.at-part-or, Holding.Holds.{gate-tag, hold-fixed, hold-gate, steps-with}, Ready.JobsReady.worker-there, Ready.PartsReady.{errand-same, map-fixed}, Ready.ReadsReady.gate-stands, Ready.WorksReady.command-is, Seen.cell-seen}
+use Rattle.mapping_table.specs.declared.place.Where.TheVariants as where_is
 
 -- What isn't a look-up.
 

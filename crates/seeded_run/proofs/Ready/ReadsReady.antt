@@ -6,15 +6,16 @@ use Rattle.core_steps.specs.{AskedParts.{LooksUp, ReadsGate, VisitsBlock}, Ready
 use Rattle.core_tree.proofs.Queries.Walkers.{walker}
 use Rattle.dc_node.specs.declared.todo.Item.{Item}
 use Rattle.dim_hierarchy.specs.Dimension.{Dimension}
-use Rattle.mapping_table.specs.declared.place.Where.TheVariants as where_is
 use Rattle.row_ledger.specs.declared.settings.Use.{Use}
 use Rattle.list_words.proofs.Each.{each-right}
 use Rattle.tree_shape.proofs.Whole.Totals.{links-on}
 use Rattle.tree_shape.specs.Queries.{fits}
 use Rattle.volap_cell.proofs.Cells.Numbers.{tag-map}
 use Rattle.volap_cell.specs.{Cells.{CellValue, MapOf, gate_shard, has_block, tag_of, where_in}, Ghost.Ghost, Growing.table_of, Invariant.InvWith, Querying.must_hold, Setting.{Setting, map_cell}, Stocking.cells_at, Values.{ActorValue, ErrandValue, Read, ReadingValue, TaskValue}, View.view, World.World, declared.actor.Actor.Actor, declared.cell.Cell.Cell, declared.kind.Kind.TheVariants.{BlockVisit, GateRead, LookUp}}
-use Rattle.seeded_run.specs.{AtWork.{errand_by, worker_at}, Can.{is_block_free, is_drained, last_noted, meets, wanted, wanted_of, wanted_visit}, Core.{HasCore, IsCore, IsDue}, Due.led_to, Led.{block_noted, cell_or_zero, gate_led, gate_there}, Look.{cell_at, setting_by, setting_for, world_by}}
+use Rattle.core_pages.specs.Looks.{gate_there}
+use Rattle.seeded_run.specs.{AtWork.{errand_by, worker_at}, Can.{is_block_free, is_drained, last_noted, meets, wanted, wanted_of, wanted_visit}, Core.{HasCore, IsCore, IsDue}, Due.led_to, Led.{block_noted, cell_or_zero, gate_led}, Look.{cell_at, setting_by, setting_for, world_by}}
 use Rattle.seeded_run.proofs.{Due.DueParts.{IsAtOwnPart, at-part, at-part-or, part-case}, Due.DueReads.{ends-in, last-of, table-of}, Holding.Holds.{at-part-there, gate-tag, hold-fixed, hold-free, hold-gate, part-places, steps-with}, Ready.PartsReady.{errand-same, errand-seen, map-fixed}, Seen.cell-seen}
+use Rattle.mapping_table.specs.declared.place.Where.TheVariants as where_is
 
 -- the gate of a shard to which a table leads
 pub gate-stands : (s : Setting) (w : World) (g : Ghost) → InvWith s (view s w) g → (worker shard gate : ℕ) → where_in (w.cells (map_cell s worker)) shard ≡ Some (where_is.Gate gate) → IsSome (gate_shard (w.cells gate))

@@ -1,10 +1,10 @@
 -- Where the page of a tree is due for a command, everyone else is idle, and the shard stands, with its gate where the table of its worker
 -- leads. So the page can be made and shown, and where it can't be made the command can end.
-use Rattle.std.proofs.Common.{ℕ, ◌≡◌, ◌≢◌, ◌+◌, ◌<◌, true, false, List, [], ◌∷◌, length, map, Option, Some, None, get_or, refl, sym, ap, ◌∙◌, subst, arith}
+use Rattle.std.proofs.Common.{ℕ, ◌≡◌, ◌≢◌, ◌+◌, ◌<◌, true, false, List, [], ◌∷◌, length, map, Option, Some, None, get_or, refl, sym, ap, ◌∙◌, subst, arith, ◌^◌}
 use Rattle.std.specs.{List.list_any, Prelude.IsSome}
 use Rattle.core_image.specs.ToldPages.{shown_by}
 use Rattle.core_image.proofs.Images.Hosts.{host-on, stands-live}
-use Rattle.core_pages.specs.Seen.{CanSee, CanSeeIn, IsOfGate, IsSeenIn}
+use Rattle.core_pages.specs.{Looks.{HasCells, IsValid, gate_there, state_of}, Seen.{CanSee, CanSeeIn, IsOfGate, IsSeenIn}}
 use Rattle.core_steps.specs.{Added.{Adds, AddsQuiet}, AskedNotes.NotesEnded, AskedPages.NotesShown, Ready.MayStep, Seen.IsSeen}
 use Rattle.dim_hierarchy.specs.Dimension.{Dimension}
 use Rattle.row_ledger.specs.{Past.{before, call_at, call_in}, Shards.{Place, frontier, is_live, is_of, places_after}, Workers.is_on, declared.event.Event.Event, declared.event.Event.TheVariants.Called, declared.page.Page.Page, declared.page.TreePage.TreePage, declared.settings.Call.Call, declared.settings.Use.Use}
@@ -17,8 +17,9 @@ use Rattle.volap_cell.specs.{Cells.{CellValue, gate_shard, registry_in, where_in
 use Rattle.volap_cell.specs.declared.command.Work.TheVariants as work_is
 use Rattle.volap_cell.specs.declared.kind.Kind.TheVariants as kind
 use Rattle.volap_cell.proofs.{Cells.States.{of-it, same-setting, stands}, OneEvent.Noted.new-told}
-use Rattle.seeded_run.specs.{Core.{HasCore, IsCore, IsDue, IsDueAt}, Led.gate_there, Progress.AreScriptRoles, Shown.{HasPageOf, IsToShow, gate_of_host, standing_gate}}
-use Rattle.seeded_run.proofs.{Due.PagesDue.{IsPageWork, idle as page-idle, next as page-next, quiet as page-quiet}, Holding.FixedCells.{ledger-fixed, may-step}, Seen.cell-seen}
+use Rattle.core_pages.proofs.LookedAt.{has-cells, seen-of, valid-of, world-of}
+use Rattle.seeded_run.specs.{Core.{HasCore, IsCore, IsDue, IsDueAt}, Progress.AreScriptRoles, Shown.{HasPageOf, IsToShow, gate_of_host, standing_gate}}
+use Rattle.seeded_run.proofs.{Due.PagesDue.{IsPageWork, idle as page-idle, next as page-next, quiet as page-quiet}, Holding.FixedCells.{ledger-fixed, may-step, has-inv}, Seen.cell-seen}
 
 -- Right behind a call that begins, the shards stand that stood before it.
 
@@ -121,21 +122,37 @@ module _ (h : List Dimension) (with : Use) (cells : List (Option Cell)) (actors 
         inv = inv;
       }
 
+-- what is seen of a core's vectors, one cell at a time
+
+pub is-valid : (h : List Dimension) (with : Use) (cells : List (Option Cell)) (actors : List (Option Actor)) → HasCore h with cells actors → IsValid h (state_of cells actors)
+is-valid h with cells actors core = valid-of cells actors h (has-inv h with cells actors core)
+
+pub all-there : (h : List Dimension) (with : Use) (cells : List (Option Cell)) (actors : List (Option Actor)) → HasCore h with cells actors → (many : ℕ) → many ≡ length cells → HasCells many (state_of cells actors)
+all-there h with cells actors core many many_is = subst (λ (n : ℕ). HasCells n (state_of cells actors)) (sym many_is) (has-cells cells actors core.world core.is_core.is)
+
+-- its cells have numbers of 32 bits
+pub few-cells : (h : List Dimension) (with : Use) (cells : List (Option Cell)) (actors : List (Option Actor)) → HasCore h with cells actors → length cells < 2 ^ 32
+few-cells h with cells actors core = let few = core.is_core.inv.holds.numbering.setting.few in omega (arith, few, core.is_core.places)
+
 -- The same of the vectors.
 module _ (h : List Dimension) (with : Use) (cells : List (Option Cell)) (actors : List (Option Actor)) (core : HasCore h with cells actors) (n : ℕ) (lt : n < length actors) (due : IsDue h with cells actors n kind.Note)
     (shard : ℕ) (has : HasPageOf (subject.Tree shard) actors n) (gate ledger : ℕ) (gate_is : (s : Setting) → s.servers ≡ with.servers → gate ≡ standing_gate s cells shard) (ledger_is : ledger ≡ ledger_cell) where
-  pub can-see-in : CanSeeIn cells actors gate
-  can-see-in s w is inv = (let c = core-in h with cells actors core n lt s w is inv in subst (CanSee w) (sym (gate_is s c.servers)) (can-see h with cells actors s w c n lt (due s w c) shard has))
+  pub can-see-in : (many : ℕ) → many ≡ length cells → CanSeeIn (state_of cells actors) many gate
+  can-see-in many many_is s w seen inv =
+      let c = core-in h with cells actors core n lt s w (world-of cells actors core.world core.is_core.is w seen) inv in
+      (sym c.places ∙ sym many_is, subst (CanSee w) (sym (gate_is s c.servers)) (can-see h with cells actors s w c n lt (due s w c) shard has))
 
-  pub seen-so : (shown : TreePage) → IsSeenIn cells actors shown → IsSeen h cells actors n (page.Tree shown)
-  seen-so shown seen s w same is inv = (let c = core-in h with cells actors core n lt s w is inv in sees h with cells actors s w c n lt (due s w c) shard has shown (seen s w is inv))
+  pub seen-so : (shown : TreePage) → IsSeenIn (state_of cells actors) shown → IsSeen h cells actors n (page.Tree shown)
+  seen-so shown seen s w same is inv =
+      let c = core-in h with cells actors core n lt s w is inv in sees h with cells actors s w c n lt (due s w c) shard has shown (seen s w (seen-of cells actors w is) inv)
 
-  pub shown-ready : (shown : TreePage) → IsOfGate cells actors gate shown → MayStep cells actors (ledger ∷ []) n (NotesShown (page.Tree shown))
+  pub shown-ready : (shown : TreePage) → IsOfGate (state_of cells actors) gate shown → MayStep cells actors (ledger ∷ []) n (NotesShown (page.Tree shown))
   shown-ready shown of_gate =
       let c = core.is_core in
       let s = core.setting in
       let w = core.world in
-      let given : gate_shard (w.cells (standing_gate s cells shard)) ≡ Some shown.shard = subst (λ (y : ℕ). gate_shard (w.cells y) ≡ Some shown.shard) (gate_is s c.servers) (of_gate w c.is) in
+      let given : gate_shard (w.cells (standing_gate s cells shard)) ≡ Some shown.shard =
+      subst (λ (y : ℕ). gate_shard (w.cells y) ≡ Some shown.shard) (gate_is s c.servers) (subst (λ (seen : ℕ → CellValue). gate_shard (seen gate) ≡ Some shown.shard) (seen-of cells actors w c.is).cells of_gate) in
       subst (λ (y : ℕ). MayStep cells actors (y ∷ []) n (NotesShown (page.Tree shown))) (sym ledger_is)
       (may-step h with cells actors s w c (ledger_cell ∷ []) n (NotesShown (page.Tree shown)) (ledger-fixed s, tt) (tt, tt) lt (can-note h with cells actors s w c n lt (due s w c) shard has shown given))
 

@@ -1,15 +1,16 @@
 -- Where a page of the whole state is due for a command, it can be made and shown, and where it can't be made the command can end.
 use Rattle.std.proofs.Common.{ℕ, ◌≡◌, ◌<◌, true, false, List, [], ◌∷◌, length, map, Option, None, get_or, refl, sym, subst}
 use Rattle.core_image.specs.NotesDue.{Shows}
-use Rattle.core_pages.specs.Seen.{IsQuiet, IsQuietIn}
+use Rattle.core_pages.specs.{Looks.{IsSeenOf, state_of}, Seen.{IsQuiet, IsQuietIn}}
 use Rattle.core_steps.specs.{AskedNotes.NotesEnded, AskedPages.NotesShown, Ready.MayStep, Seen.IsSeen}
 use Rattle.dim_hierarchy.specs.Dimension.{Dimension}
 use Rattle.row_ledger.specs.{declared.class.Subject.Subject, declared.page.Page.Page, declared.settings.Use.Use}
 use Rattle.row_ledger.specs.declared.settings.How.TheVariants as how
-use Rattle.volap_cell.specs.{Commands.MayNoteEnd, Ghost.Ghost, Invariant.InvWith, Setting.{Setting, ledger_cell}, Sights.{Sees, SeesPage}, State.IsWorldOf, Steps.Inv, Values.{ActorValue, JobValue, actor_of}, View.view, World.World, declared.actor.Actor.Actor, declared.cell.Cell.Cell, declared.command.Work.Work}
+use Rattle.volap_cell.specs.{Commands.MayNoteEnd, Ghost.Ghost, Invariant.InvWith, Setting.{Setting, ledger_cell}, Sights.{Sees, SeesPage}, Steps.Inv, Values.{ActorValue, JobValue, actor_of}, View.view, World.World, declared.actor.Actor.Actor, declared.cell.Cell.Cell, declared.command.Work.Work}
 use Rattle.volap_cell.specs.declared.command.Work.TheVariants as work_is
 use Rattle.volap_cell.specs.declared.kind.Kind.TheVariants as kind
 use Rattle.volap_cell.proofs.Cells.States.{of-it, stands}
+use Rattle.core_pages.proofs.LookedAt.{seen-of, world-of}
 use Rattle.seeded_run.specs.{Core.{HasCore, IsCore, IsDue, IsDueAt}, Shown.{HasToShow, IsToShow}}
 use Rattle.seeded_run.proofs.{Due.PagesDue.{IsPageWork, idle, next, quiet}, Holding.FixedCells.{ledger-fixed, may-step}, Ready.ShowsReady.core-in}
 
@@ -45,12 +46,13 @@ module _ (h : List Dimension) (with : Use) (cells : List (Option Cell)) (actors 
 -- The same of the vectors.
 module _ (h : List Dimension) (with : Use) (cells : List (Option Cell)) (actors : List (Option Actor)) (core : HasCore h with cells actors) (n : ℕ) (lt : n < length actors) (due : IsDue h with cells actors n kind.Note)
     (work : Work) (is_page : IsPageWork work) (has : HasToShow actors n work) where
-  pub quiet-in : IsQuietIn with.servers cells actors
-  quiet-in s w is inv = (let c = core-in h with cells actors core n lt s w is inv in is-quiet h with cells actors s w c n lt (due s w c) work is_page has)
+  pub quiet-in : IsQuietIn with.servers (state_of cells actors)
+  quiet-in s w seen inv =
+      let c = core-in h with cells actors core n lt s w (world-of cells actors core.world core.is_core.is w seen) inv in is-quiet h with cells actors s w c n lt (due s w c) work is_page has
 
   -- whatever state the vectors are, the page is what it has
-  pub seen-so : (shown : Page) → ((s : Setting) (w : World) → s.hierarchy ≡ h → IsWorldOf cells actors w → Inv s w → SeesPage s (view s w) shown) → IsSeen h cells actors n shown
-  seen-so shown seen s w same is inv = (let c = core-in h with cells actors core n lt s w is inv in sees h with cells actors s w c n lt (due s w c) work is_page has shown (seen s w same is inv))
+  pub seen-so : (shown : Page) → ((s : Setting) (w : World) → s.hierarchy ≡ h → IsSeenOf (state_of cells actors) w → Inv s w → SeesPage s (view s w) shown) → IsSeen h cells actors n shown
+  seen-so shown seen s w same is inv = (let c = core-in h with cells actors core n lt s w is inv in sees h with cells actors s w c n lt (due s w c) work is_page has shown (seen s w same (seen-of cells actors w is) inv))
 
   module _ (ledger : ℕ) (ledger_is : ledger ≡ ledger_cell) where
     pub shown-ready : (shown : Page) → Shows work shown → MayStep cells actors (ledger ∷ []) n (NotesShown shown)

@@ -2,7 +2,7 @@ use Rattle.std.proofs.Common.{◌≡◌, ◌∙◌, false, Err, Some, is_none, s
 use Rattle.script_run.specs.Runs.{first_unknown}
 use Rattle.volap_cell.proofs.Outcomes.{on-ok}
 use Rattle.volap_cell.specs.{State.Stepped, declared.kind.Kind.Kind, declared.kind.Kind.TheVariants.Note}
-use Rattle.seeded_run.specs.{Commands.{beginning, beginning_if}, Due.are_known}
+use Rattle.seeded_run.specs.{Commands.beginning_if, Due.are_known}
 use Rattle.seeded_run.proofs.{Afterwards.step-then, Due.DueBegins.ends-noted, Ready.BeginsReady.to-begin-stays}
 use Rattle.seeded_run.proofs.beginnings.try_to_begin.Goals as goal
 

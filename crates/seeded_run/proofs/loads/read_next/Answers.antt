@@ -1,6 +1,7 @@
 use Rattle.std.proofs.Common.{List, Option, refl, ap, ◌∙◌}
 use Rattle.volap_cell.specs.{Cells.where_in, declared.cell.Cell.Cell, declared.kind.Kind.TheVariants.LookUp}
-use Rattle.seeded_run.specs.{Led.gate_there, Look.cell_at}
+use Rattle.core_pages.specs.Looks.{gate_there}
+use Rattle.seeded_run.specs.Look.{cell_at}
 use Rattle.seeded_run.proofs.{Afterwards.other-step, Ready.LoadsReady.read-ready}
 use Rattle.seeded_run.proofs.loads.read_next.Goals as goal
 

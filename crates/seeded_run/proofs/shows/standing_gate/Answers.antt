@@ -1,6 +1,7 @@
 use Rattle.std.proofs.Common.{◌∙◌, ap, sym}
-use Rattle.seeded_run.specs.{Led.gate_there, Look.cell_at, Shown.gate_of_host}
+use Rattle.seeded_run.specs.{Look.cell_at, Shown.gate_of_host}
 use Rattle.volap_cell.specs.Cells.{where_in}
+use Rattle.core_pages.specs.Looks.{gate_there}
 use Rattle.seeded_run.proofs.shows.standing_gate.Goals as goal
 
 pub returns-in-Some : goal.returns-in-Some

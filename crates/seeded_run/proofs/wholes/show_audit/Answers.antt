@@ -1,12 +1,12 @@
 use Rattle.std.proofs.Common.{true, false}
 use Rattle.row_ledger.specs.declared.page.Page.TheVariants.{Audit}
 use Rattle.row_ledger.specs.declared.class.Subject.TheVariants as subject
-use Rattle.volap_cell.specs.declared.command.Work.TheVariants as work_is
-use Rattle.seeded_run.proofs.{Afterwards.noted-step, Holding.FixedCells.has-inv, Ready.ShowsReady.tells-page, Ready.WholesReady.{quiet-in, seen-so, shown-ready, subject-page}}
+use Rattle.seeded_run.proofs.{Afterwards.noted-step, Ready.ShowsReady.{tells-page, is-valid}, Ready.WholesReady.{quiet-in, seen-so, shown-ready, subject-page}}
 use Rattle.seeded_run.proofs.wholes.show_audit.Goals as goal
+use Rattle.volap_cell.specs.declared.command.Work.TheVariants as work_is
 
 pub audit_page-audit-requires-clause-state : goal.audit_page-audit-requires-clause-state
-audit_page-audit-requires-clause-state c = (c.args.h.now, has-inv c.args.h.now c.args.with.now c.args.state.now.cells.items c.args.state.now.actors.items c.requires.core)
+audit_page-audit-requires-clause-state c = (c.args.h.now, is-valid c.args.h.now c.args.with.now c.args.state.now.cells.items c.args.state.now.actors.items c.requires.core)
 
 pub audit_page-audit-requires-clause-quiet : goal.audit_page-audit-requires-clause-quiet
 audit_page-audit-requires-clause-quiet c = quiet-in c.args.h.now c.args.with.now c.args.state.now.cells.items c.args.state.now.actors.items c.requires.core c.args.number c.requires.within c.requires.due (work_is.Page subject.Rows true false) (subject-page subject.Rows) c.requires.shows

@@ -1,9 +1,12 @@
 use Rattle.std.proofs.Common.{true, false, refl}
 use Rattle.row_ledger.specs.declared.page.Page.TheVariants.{Shards}
 use Rattle.row_ledger.specs.declared.class.Subject.TheVariants as subject
-use Rattle.volap_cell.specs.declared.command.Work.TheVariants as work_is
-use Rattle.seeded_run.proofs.{Afterwards.noted-step, Ready.ShowsReady.tells-page, Ready.WholesReady.{ended-ready, quiet-in, seen-so, shown-ready, subject-page}}
+use Rattle.seeded_run.proofs.{Afterwards.noted-step, Ready.ShowsReady.{tells-page, is-valid}, Ready.WholesReady.{ended-ready, quiet-in, seen-so, shown-ready, subject-page}}
 use Rattle.seeded_run.proofs.wholes.show_shards.Goals as goal
+use Rattle.volap_cell.specs.declared.command.Work.TheVariants as work_is
+
+pub shards_page-requires-clause-state : goal.shards_page-requires-clause-state
+shards_page-requires-clause-state c = is-valid c.args.h.now c.args.with.now c.args.state.now.cells.items c.args.state.now.actors.items c.requires.core
 
 pub shards_page-requires-clause-quiet : goal.shards_page-requires-clause-quiet
 shards_page-requires-clause-quiet c = quiet-in c.args.h.now c.args.with.now c.args.state.now.cells.items c.args.state.now.actors.items c.requires.core c.args.number c.requires.within c.requires.due (work_is.Page subject.Shards true false) (subject-page subject.Shards) c.requires.shows

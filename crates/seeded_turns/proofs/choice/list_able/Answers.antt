@@ -1,4 +1,4 @@
-use Rattle.std.proofs.Common.{◌∙◌, ◌≡◌, ◌+◌, ℕ, List, arith, subst, sym}
+use Rattle.std.proofs.Common.{◌∙◌, ◌+◌, ℕ, List, arith, subst, sym}
 use Rattle.seeded_turns.proofs.{Able.{AreSeen, able_few, sees_none, sees_one}, choice.list_able.Goals.{else-is_some, then-is_some}}
 use Rattle.seeded_turns.proofs.choice.list_able.Goals as goal
 
