@@ -11,7 +11,8 @@ what comes before the work is taken off, and the head of the kind says so. --qui
 the kinds whose head has the words. --count counts instructions by valgrind, in millions, of one run in place of
 the time of three, and no memory: these hardly differ from run to run, and take some fifty times as long. A run
 has at most a minute of processor time, twenty with --count; where it ends otherwise than well, or takes longer,
-the kind ends there. The whole takes some minutes, and ends by itself."""
+the kind ends there. The whole takes some minutes, and half an hour more to find names of like hashes; it ends by
+itself."""
 import ctypes
 import os
 import re
