@@ -7,7 +7,7 @@ use Rattle.row_ledger.specs.declared.settings.Use.{Use}
 use Rattle.script_form.specs.declared.script.Command.{Command}
 use Rattle.volap_cell.specs.{Cells.CellValue, Errands.way_of, Setting.Setting, State.IsWorldOf, Steps.history_in, Values.{ActorValue, ErrandValue, JobValue, actor_of}, World.World, declared.actor.Actor.Actor, declared.cell.Cell.Cell, declared.command.Command.Command as OpenCommand, declared.kind.Kind.Kind, declared.kind.Kind.TheVariants.{Refill, TakePart}, declared.role.Role.Role}
 use Rattle.volap_cell.proofs.Cells.States.{same-actor, stands}
-use Rattle.seeded_run.specs.{Can.{is_block_free, is_carried_at, is_drained, meets, wanted_of}, Core.IsCore, Due.{actor_kind, command_kind, free_kind, hand_kind, is_alone, is_empty}, DueSteps.{due_step, kind_if, step_if_free, step_of}, Hands.{AreFreeHands, IsFreeHand, IsFreeHandAt}, Look.{cells_only, setting_by, setting_for, world_by}, Machine.{IsPhaseHeld, IsPhaseKept, KnowsHands, KnowsOtherHands, about_in, phase_of, step_in, world_of}, Rests.{PhaseRun, rest_of}, Survey.{IsSurvey, is_awaited, worker_count}, Takes.carries_at, declared.due_step.DueStep.TheVariants.GoesOn, declared.hands.FreeHands.FreeHands, declared.machine.Running.Running, declared.survey.Survey.Survey}
+use Rattle.seeded_run.specs.{Can.{is_block_free, is_carried_at, is_drained, meets, wanted_of}, Core.IsCore, Due.{actor_kind, command_kind, free_kind, hand_kind, is_alone, is_empty}, DueSteps.{due_step, kind_if, step_if_free, step_of}, Hands.{AreFreeHands, IsFreeHand, IsFreeHandAt}, Look.{cells_only, setting_by, setting_for, world_by}, Machine.{IsPhaseHeld, IsPhaseKept, KnowsHands, KnowsOtherHands, about_in, phase_of, step_in, world_of}, Rests.{PhaseRun, rest_of}, Survey.{IsSurvey, is_awaited}, Takes.carries_at, declared.due_step.DueStep.TheVariants.GoesOn, declared.hands.FreeHands.FreeHands, declared.machine.Running.Running, declared.survey.Survey.Survey}
 use Rattle.seeded_run.proofs.{Due.DueSteps.in-turn, Holding.LeftAlone.{is-idle, same-or-not}, Seen.cell-seen}
 
 -- In the vectors and in the state that they are.
@@ -106,7 +106,7 @@ any-order m n any = ap (λ b. due_step b (about_in m) (phase_of m) (world_of m) 
 
 -- by a survey
 pub hand-step : (m : Running) (n worker : ℕ) (survey : Survey) → IsPhaseHeld m → m.in_order ≡ false → n < length m.state.actors.items → get_or m.hands.workers n None ≡ Some worker
-    → IsSurvey m.with m.state.cells.items m.state.actors.items survey → worker < worker_count
+    → IsSurvey m.with m.state.cells.items m.state.actors.items survey → worker < m.with.workers
     → step_in m n ≡ cond (get_or survey.awaited worker false) (Some (GoesOn TakePart)) None
 hand-step m n worker survey held any low told tells within =
     let s = about_in m in

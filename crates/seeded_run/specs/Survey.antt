@@ -20,9 +20,13 @@ mark_of block = block % mark_count
 abbrev pub is_awaited : Use → List (Option Cell) → ℕ → Bool
 is_awaited with cells worker = any_below with.servers (λ server. list_any (waits_for worker) (desk_in (cell_at cells (desk_cell (setting_by [] with) server))).parts)
 
--- by worker: whether one does
+-- by worker that there is: whether one does
 abbrev pub KnowsAwaited : Use → List (Option Cell) → List Bool → Type 0
-KnowsAwaited with cells awaited = (worker : ℕ) → worker < worker_count → get_or awaited worker false ≡ is_awaited with cells worker
+KnowsAwaited with cells awaited = (worker : ℕ) → worker < with.workers → get_or awaited worker false ≡ is_awaited with cells worker
+
+-- parts are known to wait for each worker below this one
+abbrev pub AllAwaited : List Bool → ℕ → Type 0
+AllAwaited awaited known = (worker : ℕ) → worker < known → get_or awaited worker false ≡ true
 
 -- a row is carried at no block whose mark isn't set
 abbrev pub MarksCarried : List (Option Actor) → List Bool → Type 0

@@ -211,7 +211,8 @@ impl<'a> Running<'a> {
     }
 
     /// The same by a survey, where the commands go in any order. A hand that has nothing to do takes a part that waits
-    /// for its worker, if one does, and nothing else is asked.
+    /// for its worker, if one does, and nothing else is asked. The survey tells of the workers that there are, and no hand
+    /// is another's.
     fn step_by(&self, survey: &Survey, number: usize) -> Option<DueStep>
         requires held { IsPhaseHeld self.now }
         requires any { self.now.in_order ≡ false }
@@ -220,8 +221,8 @@ impl<'a> Running<'a> {
         ensures { step_in self.now number ≡ result }
     {
         match self.hands.worker_of(number) {
-            Some(worker) => part_taken(survey, worker),
-            None => self.step_on_turn(Some(survey), number),
+            Some(worker) if worker < self.with.workers => part_taken(survey, worker),
+            _ => self.step_on_turn(Some(survey), number),
         }
     }
 

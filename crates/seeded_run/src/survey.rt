@@ -1,10 +1,10 @@
 //! What is looked up once a turn, for all actors that are asked in it.
 ghost use Rattle.std.specs.Prelude.{◌≡◌, ◌<◌, ◌||◌, ℕ, Some, None, true, false, get_or, length};
-ghost use Rattle.std.specs.List.{list_any};
-ghost use Rattle.query_router.specs.Desk.{waits_for};
+ghost use Rattle.std.specs.List.{list_any, position};
+ghost use Rattle.query_router.specs.Desk.{is_waiting, waits_for};
 ghost use Rattle.seeded_run.specs.Hands.{AreFreeHands};
 ghost use Rattle.seeded_run.specs.Look.{cell_at};
-ghost use Rattle.seeded_run.specs.Survey.{IsSurvey, KnowsAwaited, MarksCarried, mark_of, worker_count};
+ghost use Rattle.seeded_run.specs.Survey.{AllAwaited, IsSurvey, KnowsAwaited, MarksCarried, mark_of, worker_count};
 ghost use Rattle.seeded_run.specs.Takes.{carries_at};
 ghost use Rattle.volap_cell.specs.Cells.{desk_in};
 
@@ -25,7 +25,7 @@ const MARKS: usize = 256;
 /// What is looked up once a turn. It takes no memory.
 #[derive(Drop)]
 pub struct Survey {
-    /// By worker: whether a part on any desk waits for it.
+    /// By worker that there is: whether a part on any desk waits for it.
     awaited: [bool; WORKERS],
     /// By mark: whether a row may be carried at a block with this mark.
     carried: [bool; MARKS],
@@ -47,41 +47,90 @@ fn note_part(awaited: &mut [bool; WORKERS], part: &Part)
     }
 }
 
-/// Notes for which workers parts wait.
-fn note_parts(awaited: &mut [bool; WORKERS], parts: &[Part])
-    ensures { (worker : ℕ) → worker < worker_count → get_or awaited.new worker false ≡ (list_any (waits_for worker) parts.now || get_or awaited.old worker false) }
+/// The first worker from one on of whom it isn't known that a part waits for it, or how many workers there are.
+fn first_unknown(awaited: &[bool; WORKERS], from: u8, workers: u8) -> u8
+    requires known { AllAwaited awaited.now from }
+    ensures known { AllAwaited awaited.now result }
 {
-    for part in parts {
-        note_part(awaited, part);
+    let mut known = from;
+    while known < workers && awaited[usize::from(known)] {
+        known += 1;
     }
+    known
+}
+
+/// Notes for which workers parts wait, of which the first one that waits is known. It ends where parts wait for all
+/// workers that there are. All workers below one are known to be awaited before, and all below the result then.
+fn note_parts(
+    awaited: &mut [bool; WORKERS],
+    parts: &[Part],
+    first: usize,
+    known: u8,
+    workers: u8,
+) -> u8
+    requires first { position is_waiting parts.now ≡ Some first }
+    requires known { AllAwaited awaited.old known }
+    ensures noted { (worker : ℕ) → worker < workers → get_or awaited.new worker false ≡ (list_any (waits_for worker) parts.now || get_or awaited.old worker false) }
+    ensures known { AllAwaited awaited.new result }
+{
+    let mut known = known;
+    for place in first..parts.len() {
+        if known >= workers {
+            return known;
+        }
+        note_part(awaited, &parts[place]);
+        known = first_unknown(awaited, known, workers);
+    }
+    known
 }
 
 /// Notes for which workers parts wait on a desk. Mostly none waits there for anybody.
-fn note_desk(awaited: &mut [bool; WORKERS], desk: &Desk)
-    ensures { (worker : ℕ) → worker < worker_count → get_or awaited.new worker false ≡ (list_any (waits_for worker) desk.now.parts || get_or awaited.old worker false) }
+fn note_desk(awaited: &mut [bool; WORKERS], desk: &Desk, known: u8, workers: u8) -> u8
+    requires known { AllAwaited awaited.old known }
+    ensures noted { (worker : ℕ) → worker < workers → get_or awaited.new worker false ≡ (list_any (waits_for worker) desk.now.parts || get_or awaited.old worker false) }
+    ensures known { AllAwaited awaited.new result }
 {
-    if desk.has_waiting() {
-        note_parts(awaited, desk.parts());
+    match desk.first_waiting() {
+        Some(first) => note_parts(awaited, desk.parts(), first, known, workers),
+        None => known,
     }
 }
 
 /// Notes for which workers parts wait on the desk in a cell.
-fn note_cell(awaited: &mut [bool; WORKERS], cells: &[Option<Cell>], at: u32)
-    ensures { (worker : ℕ) → worker < worker_count → get_or awaited.new worker false ≡ (list_any (waits_for worker) (desk_in (cell_at cells.now at)).parts || get_or awaited.old worker false) }
+fn note_cell(
+    awaited: &mut [bool; WORKERS],
+    cells: &[Option<Cell>],
+    at: u32,
+    known: u8,
+    workers: u8,
+) -> u8
+    requires known { AllAwaited awaited.old known }
+    ensures noted { (worker : ℕ) → worker < workers → get_or awaited.new worker false ≡ (list_any (waits_for worker) (desk_in (cell_at cells.now at)).parts || get_or awaited.old worker false) }
+    ensures known { AllAwaited awaited.new result }
 {
     match cell_at(cells, at) {
-        Some(Cell::Desk { desk, .. }) => note_desk(awaited, desk),
-        _ => {}
+        Some(Cell::Desk { desk, .. }) => note_desk(awaited, desk, known, workers),
+        _ => known,
     }
 }
 
-/// By worker, whether a part on any desk waits for it.
+/// By worker, whether a part on any desk waits for it. Where parts wait for all workers nobody looks further.
 fn awaited_by(with: &Use, cells: &[Option<Cell>]) -> [bool; WORKERS]
     ensures { KnowsAwaited with.now cells.now result }
 {
     let mut awaited = [false; WORKERS];
+    let mut known = 0;
     for server in 0..with.servers {
-        note_cell(&mut awaited, cells, desk_place(with, server));
+        if known >= with.workers {
+            return awaited;
+        }
+        known = note_cell(
+            &mut awaited,
+            cells,
+            desk_place(with, server),
+            known,
+            with.workers,
+        );
     }
     awaited
 }
@@ -124,7 +173,7 @@ impl Survey {
         }
     }
 
-    /// Whether a part on any desk waits for the worker.
+    /// Whether a part on any desk waits for the worker, of those that there are.
     pub(crate) fn is_awaited(&self, worker: u8) -> bool
         ensures { result ≡ get_or self.now.awaited worker false }
     {

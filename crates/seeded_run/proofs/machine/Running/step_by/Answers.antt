@@ -6,8 +6,8 @@ pub returns-in-Some : goal.returns-in-Some
 returns-in-Some c =
     let m = c.args.self.now in
     hand-step m c.args.number c.in-Some.worker c.args.survey.now c.requires.held c.requires.any (omega (arith, c.requires.within, c.requires.held.kept.count))
-    (sym c.worker_of.ensures ∙ c.in-Some.is) c.requires.told (omega arith)
+    (sym c.worker_of.ensures ∙ c.in-Some.is) c.requires.told c.if-worker-self.true
     ∙ sym c.part_taken.ensures
 
-pub returns-in-None : goal.returns-in-None
-returns-in-None c = any-order c.args.self.now c.args.number c.requires.any ∙ c.step_on_turn.ensures
+pub returns-in_default : goal.returns-in_default
+returns-in_default c = any-order c.args.self.now c.args.number c.requires.any ∙ c.step_on_turn.ensures
