@@ -11,6 +11,7 @@ use crate::cores::Core;
 use crate::rule::Key;
 use crate::seat::Seat;
 use crate::table::TurnTable;
+use crate::waits::nobody;
 use arrayvec::ArrayVec;
 use atomic_table::{Closed, Table};
 use std::alloc::{AllocError, Global};
@@ -59,10 +60,15 @@ impl<C: Core> TurnTable<C> {
         };
         let words = zeros(alloc, cells.len())?;
         let spare = Vec::with_capacity(alloc, cells.len())?;
+        let waiting = nobody(alloc, cells.len())?;
         let slots = filled(alloc, cells)?;
         match Table::new(alloc, words.as_slice(), slots, &key) {
             Ok((table, place)) => Ok((
-                TurnTable { table, spare },
+                TurnTable {
+                    table,
+                    spare,
+                    waiting,
+                },
                 Seat {
                     number: (actors.len() - 1) as u32,
                     row: ArrayVec::new(),
@@ -82,7 +88,11 @@ impl<C: Core> TurnTable<C> {
         requires bare { seat.view.held ≡ [] }
         ensures { IsClosed C.invariant C.log_at C.log result.items seat.view }
     {
-        let TurnTable { table, spare } = self;
+        let TurnTable {
+            table,
+            spare,
+            waiting: _,
+        } = self;
         let Seat {
             number: _,
             row: _,

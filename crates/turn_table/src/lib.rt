@@ -12,6 +12,7 @@ mod steps;
 mod table;
 mod turns;
 mod view;
+mod waits;
 
 pub use cores::Core;
 pub use held::Held;

@@ -12,6 +12,7 @@ use crate::rule::{Inner, Place};
 use crate::steps::{Aim, Give, Take};
 use crate::view::View;
 use std::marker::Model;
+use std::sync::atomic::AtomicU64;
 
 /// Cells under turns. A cell's word is 0 where it is free, else the number of the seat that holds it,
 /// plus 1.
@@ -20,6 +21,8 @@ pub struct TurnTable<C: Core> {
     pub(crate) table: Inner<C>,
     /// Room for the cells at the end.
     pub(crate) spare: Vec<Option<C::Cell>>,
+    /// For each cell how many threads wait for it, asleep or about to be. It saves a call of the system where none does.
+    pub(crate) waiting: Vec<AtomicU64>,
 }
 
 impl<C: Core> Model for TurnTable<C> {
@@ -30,7 +33,7 @@ impl<C: Core> Model for TurnTable<C> {
 
     ghost view = { λ t. t.table.shared.table_id };
 
-    ghost invariant = { λ t. (vec_len t.spare ≡ 0) × (t.table.shared.table_id.slots ≤ vec_capacity t.spare) × (t.table.shared.table_id.words ≡ t.table.shared.table_id.slots) };
+    ghost invariant = { λ t. (vec_len t.spare ≡ 0) × (t.table.shared.table_id.slots ≤ vec_capacity t.spare) × (t.table.shared.table_id.words ≡ t.table.shared.table_id.slots) × (vec_len t.waiting ≡ t.table.shared.table_id.words) };
 }
 
 impl<C: Core> TurnTable<C> {
@@ -51,7 +54,7 @@ impl<C: Core> TurnTable<C> {
     }
 
     /// One event: the cell that was taken last is given back, and the view is the one that is picked.
-    /// Wakes one thread that waits for the cell.
+    /// Wakes one thread that waits for the cell, if one does.
     pub(crate) fn commit_as<B: Aim<View<C::Cell, C::Actor, C::Entry>>>(
         &self,
         place: &mut Place<C>,
@@ -66,10 +69,10 @@ impl<C: Core> TurnTable<C> {
         self.table
             .shared
             .swap::<Give<C, B>>(place, cell as usize, 0);
-        self.table.shared.wake_one(cell as usize);
+        self.wake(cell);
     }
 
-    /// No event: the cell that was taken last is given back as it was. Wakes one thread that waits for it.
+    /// No event: the cell that was taken last is given back as it was. Wakes one thread that waits for it, if one does.
     pub(crate) fn release_as<B: Aim<View<C::Cell, C::Actor, C::Entry>>>(
         &self,
         place: &mut Place<C>,
@@ -82,6 +85,6 @@ impl<C: Core> TurnTable<C> {
         self.table
             .shared
             .swap::<Give<C, B>>(place, cell as usize, 0);
-        self.table.shared.wake_one(cell as usize);
+        self.wake(cell);
     }
 }

@@ -25,9 +25,6 @@ pub struct Busy {
     pub word: u64,
 }
 
-/// The low half of a word is below this; a thread parks on that half.
-const HALF: u64 = 1 << 32;
-
 impl<C: Core> TurnTable<C> {
     /// How many cells there are.
     pub fn len(&self) -> usize
@@ -54,8 +51,9 @@ impl<C: Core> TurnTable<C> {
         self.attempt(seat, cell, None)
     }
 
-    /// Waits until the turn of a cell is had. The rank is not below one that was told for a held cell;
-    /// where it is equal and not `free_rank`, the cell's number is greater.
+    /// Waits until the turn of a cell is had. It looks at a held cell for a while, then sleeps until it is woken.
+    /// The rank is not below one that was told for a held cell; where it is equal and not `free_rank`, the cell's
+    /// number is greater.
     pub fn take<R: Wait>(&self, rt: &R, seat: &mut Seat<C>, cell: u32, rank: u8)
         requires own { seat.old.table_id ≡ self.now }
         requires cell { (cell < cell_count self.now) × (value_of seat.old.view.held cell ≡ none) }
@@ -68,20 +66,24 @@ impl<C: Core> TurnTable<C> {
             × (HasAll seat.old.view.actor_count seat.old.view → (d : C.Cell) → value_of seat.old.view.known cell ≡ some d → c ≡ d) }
         ensures possible { IsPossible C.invariant C.log_at C.log C.needs seat.new.view }
     {
+        if self.attempt(seat, cell, Some(rank)).is_ok() {
+            return;
+        }
         for _ in rt.forever() {
-            match self.attempt(seat, cell, Some(rank)) {
-                Ok(()) => return,
-                Err(busy) => self
-                    .table
-                    .shared
-                    .park(rt, cell as usize, (busy.word % HALF) as u32),
+            if self.attempt_or_park(rt, seat, cell, Some(rank)).is_ok() {
+                return;
             }
         }
         unreachable!()
     }
 
     /// One try, with the rank that is told for it.
-    fn attempt(&self, seat: &mut Seat<C>, cell: u32, rank: Option<u8>) -> Result<(), Busy>
+    pub(crate) fn attempt(
+        &self,
+        seat: &mut Seat<C>,
+        cell: u32,
+        rank: Option<u8>,
+    ) -> Result<(), Busy>
         requires own { seat.old.table_id ≡ self.now }
         requires cell { (cell < cell_count self.now) × (value_of seat.old.view.held cell ≡ none) }
         requires room { length seat.old.view.held < 7 }
