@@ -2,4 +2,5 @@ pub mod Numbered
 pub mod Kept
 pub mod Allowed
 pub mod Seats
+pub mod Turned
 pub mod Opened

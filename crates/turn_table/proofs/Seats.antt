@@ -60,7 +60,7 @@ module _ {B : Type 0} where
   taken_out (x ∷ xs) zero = refl
   taken_out (x ∷ xs) (suc i) = ap (λ (ys : List B). x ∷ ys) (taken_out xs i)
 
-  swapped : (xs ys : List B) → drop (length xs) (xs ++ ys) ++ take (length xs) (xs ++ ys) ≡ ys ++ xs
+  pub swapped : (xs ys : List B) → drop (length xs) (xs ++ ys) ++ take (length xs) (xs ++ ys) ≡ ys ++ xs
   swapped xs ys = (λ i. drop-append_seam xs ys i ++ take_first xs ys i)
     where
       take_first : (xs ys : List B) → take (length xs) (xs ++ ys) ≡ xs
@@ -198,7 +198,7 @@ module _ {Cell Actor Entry : Type 0} (invariant : List Cell → List Actor → T
   told_released words number i k rank row lifted m s at = without_at row i (k, rank) (distinct_same m.0.held row (sym s.rows) s.distinct) at
 
   -- the slots of a seat, turned so that the i-th comes first
-  slots_turned : (number words i k : ℕ) (rank : Option ℕ) (row : List (ℕ × Option ℕ)) (lifted : Bool) (m : M) → IsSeated invariant log_at log needs words number row lifted m → lifted ≡ false → get_elem? row i ≡ some (k, rank)
+  pub slots_turned : (number words i k : ℕ) (rank : Option ℕ) (row : List (ℕ × Option ℕ)) (lifted : Bool) (m : M) → IsSeated invariant log_at log needs words number row lifted m → lifted ≡ false → get_elem? row i ≡ some (k, rank)
       → (c : Cell) × (get_elem? m.0.held i ≡ some (k, c)) × (drop i m.1 ++ take i m.1 ≡ (k, Some c) ∷ (drop (i + 1) m.1 ++ take i m.1))
   slots_turned number words i k rank row lifted m s home at =
       let h = at_same row m.0.held i (k, rank) s.rows at in

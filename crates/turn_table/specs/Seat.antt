@@ -1,5 +1,5 @@
 -- What contracts see of a table and of a seat.
-use Rattle.std.specs.Prelude.{◌≡◌, ◌≢◌, ℕ, ◌<◌, ◌≤◌, Bool, cond, List, [], ◌∷◌, Option, Some, None}
+use Rattle.std.specs.Prelude.{◌≡◌, ◌≢◌, ℕ, ◌<◌, ◌≤◌, Bool, true, cond, List, [], ◌∷◌, ◌++◌, length, take, drop, Option, Some, None}
 use mathlib.Core.Option.{some}
 use Rattle.atomic_table.specs.{Seated.TableId, Table.Me}
 use Rattle.turn_table.specs.{Law.IsPossible, Numbered.{value_of, numbers_of, HaveOwnNumbers}, declared.view.View.View}
@@ -49,3 +49,14 @@ pub record IsSeated {Cell Actor Entry : Type 0} (invariant : List Cell → List 
   pub distinct : HaveOwnNumbers me.0.held
   pub possible : IsPossible invariant log_at log needs me.0
   pub inside : (k : ℕ) (c : Cell) → value_of me.0.held k ≡ some c → k < words
+
+-- the list with its first k behind the others
+abbrev pub turned_by : {A : Type 0} → ℕ → List A → List A
+turned_by k xs = drop k xs ++ take k xs
+
+-- the same, but that the last look left the first `ahead` slots behind the others
+pub record IsTurned {Cell Actor Entry : Type 0} (invariant : List Cell → List Actor → Type 0) (log_at : ℕ) (log : Cell → List Entry) (needs : Actor → ℕ → Type 0) (words number ahead : ℕ) (row : List (ℕ × Option ℕ)) (lifted : Bool) (me : Me (Option Cell) (View Cell Actor Entry)) : Type 0 where
+  pub seated : IsSeated invariant log_at log needs words number row lifted (me.0, slots_of lifted me.0.held)
+  pub turned : me.1 ≡ turned_by ahead (slots_of lifted me.0.held)
+  pub few : ahead ≤ length me.0.held
+  pub home : lifted ≡ true → ahead ≡ 0

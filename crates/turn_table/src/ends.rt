@@ -73,6 +73,7 @@ impl<C: Core> TurnTable<C> {
                     number: (actors.len() - 1) as u32,
                     row: ArrayVec::new(),
                     lifted: false,
+                    ahead: 0,
                     place,
                 },
             )),
@@ -97,6 +98,7 @@ impl<C: Core> TurnTable<C> {
             number: _,
             row: _,
             lifted: _,
+            ahead: _,
             place,
         } = seat;
         taken_apart(table.close_with(place), spare)

@@ -5,6 +5,7 @@
 mod cores;
 mod ends;
 mod held;
+mod lends;
 mod moves;
 mod rule;
 mod seat;

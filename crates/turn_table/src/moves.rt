@@ -1,10 +1,10 @@
 //! Values into and out of the slots that a seat has, and the slots in turn. No word changes.
-ghost use Rattle.std.specs.Prelude.{ℕ, ◌≡◌, ◌≤◌, ◌<◌, [], ◌∷◌, ◌++◌, length, take, drop, true, false, Option, Some, None};
+ghost use Rattle.std.specs.Prelude.{ℕ, ◌≡◌, ◌≤◌, ◌<◌, [], ◌∷◌, ◌++◌, ◌-◌, length, take, drop, true, false, Option, Some, None};
 ghost use mathlib.Core.Option.{some};
 ghost use lib.ListN.{get_elem?};
 ghost use Rattle.atomic_table.specs.Table.{rest};
 ghost use Rattle.turn_table.specs.Numbered.{value_of, numbers_of};
-ghost use Rattle.turn_table.specs.Seat.{slots_of, values_of};
+ghost use Rattle.turn_table.specs.Seat.{slots_of, values_of, turned_by};
 
 use crate::cores::Core;
 use crate::held::Held;
@@ -85,6 +85,15 @@ pub(crate) fn turn_by<C: Core>(place: &mut Place<C>, count: usize)
     for _ in 0..count {
         place.turn();
     }
+}
+
+/// The slots stand again as their cells were taken, where the first `ahead` of them stood behind the others.
+pub(crate) fn straighten<C: Core>(place: &mut Place<C>, count: usize, ahead: usize)
+    requires { (ahead ≤ count) × (count ≤ length place.old.me.1) }
+    ensures same { (place.new.table_id ≡ place.old.table_id) × (place.new.id ≡ place.old.id) }
+    ensures slots { place.new.me ≡ (place.old.me.0, turned_by (count - ahead) place.old.me.1) }
+{
+    turn_by::<C>(place, count - ahead);
 }
 
 /// Where a held cell stands among those of its seat.

@@ -16,15 +16,17 @@ pub struct Seat<C: Core> {
     pub(crate) row: ArrayVec<(u32, Option<u8>), MOST>,
     /// Whether the values of the held cells are out.
     pub(crate) lifted: bool,
+    /// How many of its slots the last look left behind the others.
+    pub(crate) ahead: usize,
     pub(crate) place: Place<C>,
 }
 
 impl<C: Core> Model for Seat<C> {
-    ghost use Rattle.turn_table.specs.Seat.{SeatValue, IsSeated};
+    ghost use Rattle.turn_table.specs.Seat.{SeatValue, IsTurned};
 
     ghost Value = { SeatValue C.Cell C.Actor C.Entry };
 
     ghost view = { λ s. record { table_id = s.place.table_id; lifted = s.lifted; ranks = s.row.items; view = s.place.me.0 } };
 
-    ghost invariant = { λ s. IsSeated C.invariant C.log_at C.log C.needs s.place.table_id.words s.number s.row.items s.lifted s.place.me };
+    ghost invariant = { λ s. IsTurned C.invariant C.log_at C.log C.needs s.place.table_id.words s.number s.ahead s.row.items s.lifted s.place.me };
 }

@@ -8,7 +8,7 @@ ghost use Rattle.turn_table.specs.Seat.{cell_count, IsInOrder};
 
 use crate::cores::Core;
 use crate::held::Held;
-use crate::moves::{position, turn_by};
+use crate::moves::{position, straighten, turn_by};
 use crate::rule::Place;
 use crate::seat::Seat;
 use crate::steps::{Cut, CutBy, Look, Together};
@@ -96,6 +96,8 @@ impl<C: Core> TurnTable<C> {
             × (seat.new ≡ record seat.old { view = after_refusal seat.old.view cell b.word })) }
         ensures possible { IsPossible C.invariant C.log_at C.log C.needs seat.new.view }
     {
+        straighten::<C>(&mut seat.place, seat.row.len(), seat.ahead);
+        seat.ahead = 0;
         let found = self.grab(&mut seat.place, seat.number, cell);
         if found != 0 {
             return Err(Busy { cell, word: found });
@@ -115,6 +117,8 @@ impl<C: Core> TurnTable<C> {
         ensures distinct { HaveOwnNumbers result }
         ensures possible { IsPossible C.invariant C.log_at C.log C.needs seat.new.view }
     {
+        straighten::<C>(&mut seat.place, seat.row.len(), seat.ahead);
+        seat.ahead = 0;
         let held = self.empty_slots(&mut seat.place, seat.row.as_slice());
         seat.lifted = true;
         held
@@ -160,6 +164,8 @@ impl<C: Core> TurnTable<C> {
         ensures seat { seat.new ≡ record seat.old { ranks = without seat.old.ranks cell; view = after_release seat.old.view cell } }
         ensures possible { IsPossible C.invariant C.log_at C.log C.needs seat.new.view }
     {
+        straighten::<C>(&mut seat.place, seat.row.len(), seat.ahead);
+        seat.ahead = 0;
         let at = position(seat.row.as_slice(), cell);
         let behind = seat.row.len() - 1 - at;
         turn_by::<C>(&mut seat.place, at);
@@ -181,6 +187,7 @@ impl<C: Core> TurnTable<C> {
             number,
             row: ArrayVec::new(),
             lifted: false,
+            ahead: 0,
             place,
         }
     }
@@ -213,6 +220,7 @@ impl<C: Core> TurnTable<C> {
             number: _,
             row: _,
             lifted: _,
+            ahead: _,
             place,
         } = other;
         self.table

@@ -2,6 +2,7 @@ use Rattle.std.proofs.Common.{◌≡◌, ◌<◌, ℕ, Bool, List, true, false, 
 use mathlib.Core.Option.{some}
 use Rattle.atomic_table.specs.{Seated.TableId, Table.{Me, rest}}
 use Rattle.turn_table.specs.{Law.sight, Numbered.{value_of, numbers_of, replace, after_first}, Seat.{SeatValue, IsSeated, slots_of, values_of}, Views.after_commit, declared.view.View.View}
+use Rattle.turn_table.proofs.Turned.{straight, still}
 use Rattle.turn_table.proofs.Seats.{seated_committed, commit_ready, first_inside, first_number, slots_empty, values_slots}
 use Rattle.turn_table.proofs.table.TurnTable.commit.Goals as goal
 
@@ -10,14 +11,14 @@ fill_slots-requires-clause-empty g c =
     let H : Type 0 = SeatValue g.row.C-Cell.Denot g.row.C-Actor.Denot g.row.C-Entry.Denot in
     let home : c.seat.inside.lifted ≡ true = ap (λ (h : H). h.lifted) c.seat.view_is ∙ c.requires.lifted in
     let same : numbers_of c.args.cells ≡ numbers_of c.seat.inside.place.me.0.held = c.requires.cells.0 ∙ ap (λ (h : H). numbers_of h.view.held) (sym c.seat.view_is) in
-    c.seat.invariant.slots ∙ (ap (λ (b : Bool). slots_of b c.seat.inside.place.me.0.held) home ∙ sym (slots_empty c.args.cells c.seat.inside.place.me.0.held same))
+    (still g.C.Core.invariant g.C.Core.log_at g.C.Core.log g.C.Core.needs _ _ _ _ _ _ home c.seat.invariant).slots ∙ (ap (λ (b : Bool). slots_of b c.seat.inside.place.me.0.held) home ∙ sym (slots_empty c.args.cells c.seat.inside.place.me.0.held same))
 
 pub commit_as-requires-clause-own : goal.commit_as-requires-clause-own
 commit_as-requires-clause-own g c =
     let H : Type 0 = SeatValue g.row.C-Cell.Denot g.row.C-Actor.Denot g.row.C-Entry.Denot in
     let home : c.seat.inside.lifted ≡ true = ap (λ (h : H). h.lifted) c.seat.view_is ∙ c.requires.lifted in
     let same : numbers_of c.args.cells ≡ numbers_of c.seat.inside.place.me.0.held = c.requires.cells.0 ∙ ap (λ (h : H). numbers_of h.view.held) (sym c.seat.view_is) in
-    let s = subst (λ (b : Bool). IsSeated g.C.Core.invariant g.C.Core.log_at g.C.Core.log g.C.Core.needs c.seat.inside.place.table_id.words c.seat.inside.number c.seat.inside.row.items b c.seat.inside.place.me) home c.seat.invariant in
+    let s = subst (λ (b : Bool). IsSeated g.C.Core.invariant g.C.Core.log_at g.C.Core.log g.C.Core.needs c.seat.inside.place.table_id.words c.seat.inside.number c.seat.inside.row.items b c.seat.inside.place.me) home (still g.C.Core.invariant g.C.Core.log_at g.C.Core.log g.C.Core.needs _ _ _ _ _ _ home c.seat.invariant) in
     let table : c.seat.inside.place.table_id ≡ c.args.self.now = ap (λ (h : H). h.table_id) c.seat.view_is ∙ c.requires.own in (
       c.fill_slots.ensures.same.0 ∙ table,
       subst (λ (z : TableId). c.remove-first.result.0 < z.words) table (first_inside g.C.Core.invariant g.C.Core.log_at g.C.Core.log g.C.Core.needs _ _ _ _ _ c.args.cells s same c.requires.cells.1 (first_number c.seat.inside.row.items c.remove-first.result c.remove-first.ensures.value)),
@@ -30,7 +31,7 @@ commit_as-requires-clause-goes g c =
     let home : c.seat.inside.lifted ≡ true = ap (λ (h : H). h.lifted) c.seat.view_is ∙ c.requires.lifted in
     let view : c.seat.inside.place.me.0 ≡ c.args.seat.now.view = ap (λ (h : H). h.view) c.seat.view_is in
     let same : numbers_of c.args.cells ≡ numbers_of c.seat.inside.place.me.0.held = c.requires.cells.0 ∙ ap (λ (h : H). numbers_of h.view.held) (sym c.seat.view_is) in
-    let s = subst (λ (b : Bool). IsSeated g.C.Core.invariant g.C.Core.log_at g.C.Core.log g.C.Core.needs c.seat.inside.place.table_id.words c.seat.inside.number c.seat.inside.row.items b c.seat.inside.place.me) home c.seat.invariant in
+    let s = subst (λ (b : Bool). IsSeated g.C.Core.invariant g.C.Core.log_at g.C.Core.log g.C.Core.needs c.seat.inside.place.table_id.words c.seat.inside.number c.seat.inside.row.items b c.seat.inside.place.me) home (still g.C.Core.invariant g.C.Core.log_at g.C.Core.log g.C.Core.needs _ _ _ _ _ _ home c.seat.invariant) in
     let e = c.requires.event in
     commit_ready g.C.Core.invariant g.C.Core.log_at g.C.Core.log g.C.Core.needs g.C.Core.change _ _ c.args.number _ e.0 c.args.actor.now _ c.seat.inside.place.me c.fill_slots.new.place.me c.args.cells s same c.requires.cells.1
     c.fill_slots.ensures.slots (first_number c.seat.inside.row.items c.remove-first.result c.remove-first.ensures.value) (ap (λ (v : V). value_of v.actors c.args.number) view ∙ e.1) (subst (λ (v : V). g.C.Core.change (sight v) c.args.cells c.args.number e.0 c.args.actor.now) (sym view) e.2)
@@ -43,11 +44,11 @@ invariant_of-seat g c =
     let H : Type 0 = SeatValue g.row.C-Cell.Denot g.row.C-Actor.Denot g.row.C-Entry.Denot in
     let home : c.seat.inside.lifted ≡ true = ap (λ (h : H). h.lifted) c.seat.view_is ∙ c.requires.lifted in
     let same : numbers_of c.args.cells ≡ numbers_of c.seat.inside.place.me.0.held = c.requires.cells.0 ∙ ap (λ (h : H). numbers_of h.view.held) (sym c.seat.view_is) in
-    let s = subst (λ (b : Bool). IsSeated g.C.Core.invariant g.C.Core.log_at g.C.Core.log g.C.Core.needs c.seat.inside.place.table_id.words c.seat.inside.number c.seat.inside.row.items b c.seat.inside.place.me) home c.seat.invariant in
+    let s = subst (λ (b : Bool). IsSeated g.C.Core.invariant g.C.Core.log_at g.C.Core.log g.C.Core.needs c.seat.inside.place.table_id.words c.seat.inside.number c.seat.inside.row.items b c.seat.inside.place.me) home (still g.C.Core.invariant g.C.Core.log_at g.C.Core.log g.C.Core.needs _ _ _ _ _ _ home c.seat.invariant) in
     let now = c.commit_as.ensures in
     let log = g.C.Core.log in
     let now_is : c.commit_as.new.place.me ≡ (after_commit g.C.Core.log_at log c.seat.inside.place.me.0 c.args.cells c.args.number c.args.actor.now, rest (slots_of false c.args.cells)) =
     now.2 ∙ (ap (λ (m : M). let w : M = (after_commit g.C.Core.log_at log m.0 (values_of m.1) c.args.number c.args.actor.now, rest m.1) in w) c.fill_slots.ensures.slots
     ∙ ap (λ cs. let w : M = (after_commit g.C.Core.log_at log c.seat.inside.place.me.0 cs c.args.number c.args.actor.now, rest (slots_of false c.args.cells)) in w) (values_slots c.args.cells)) in
-    subst (λ (row : List (ℕ × Option ℕ)). IsSeated g.C.Core.invariant g.C.Core.log_at log g.C.Core.needs c.commit_as.new.place.table_id.words c.seat.inside.number row false c.commit_as.new.place.me) (sym c.remove-first.ensures.items)
-    (seated_committed g.C.Core.invariant g.C.Core.log_at log g.C.Core.needs _ _ _ c.args.number c.args.actor.now _ c.seat.inside.place.me _ c.args.cells s same c.requires.cells.1 now_is now.3 (ap (λ (z : TableId). z.words) (now.0 ∙ c.fill_slots.ensures.same.0)))
+    straight g.C.Core.invariant g.C.Core.log_at g.C.Core.log g.C.Core.needs _ _ _ _ _ _ (c.seat.invariant.home home) (subst (λ (row : List (ℕ × Option ℕ)). IsSeated g.C.Core.invariant g.C.Core.log_at log g.C.Core.needs c.commit_as.new.place.table_id.words c.seat.inside.number row false c.commit_as.new.place.me) (sym c.remove-first.ensures.items)
+    (seated_committed g.C.Core.invariant g.C.Core.log_at log g.C.Core.needs _ _ _ c.args.number c.args.actor.now _ c.seat.inside.place.me _ c.args.cells s same c.requires.cells.1 now_is now.3 (ap (λ (z : TableId). z.words) (now.0 ∙ c.fill_slots.ensures.same.0))))
