@@ -72,3 +72,28 @@ fn a_held_cell_is_busy_and_others_are_free(rt: HostRuntime) -> Result<(), Fail> 
     assert!(rt; table.try_take(&mut other, 2).is_ok());
     Ok(())
 }
+
+/// Whichever held cell is looked at, its value is the one that it has, and the cells stay in the order of the takes.
+#[test]
+fn held_cells_are_seen_where_they_stand(rt: HostRuntime) -> Result<(), Fail> {
+    let cells = vec![in rt.alloc(); 10u64, 15, 5]?;
+    let actors = vec![in rt.alloc(); 0u64]?;
+    let (table, mut seat) = TurnTable::<Counters>::new(rt.alloc(), cells, &actors)?;
+    table.take(&rt, &mut seat, 0, 0);
+    table.take(&rt, &mut seat, 1, 0);
+    table.take(&rt, &mut seat, 2, 0);
+    assert_eq!(rt; *seat.see(&table, 2), 5);
+    assert_eq!(rt; *seat.see(&table, 0), 10);
+    assert_eq!(rt; *seat.see(&table, 1), 15);
+    table.release(&mut seat, 1);
+    assert_eq!(rt; *seat.see(&table, 2), 5);
+    let Some((first, others)) = table.lift(&mut seat).split_first() else {
+        return Err("a held cell is missing".into());
+    };
+    assert_eq!(rt; first, (0, 10));
+    let Some((second, others)) = others.split_first() else {
+        return Err("a held cell is missing".into());
+    };
+    assert_eq!(rt; second, (2, 5));
+    Ok(())
+}

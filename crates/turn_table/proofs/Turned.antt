@@ -3,7 +3,7 @@ use Rattle.std.proofs.Common.{◌≡◌, ℕ, ◌+◌, ◌-◌, ◌<◌, ◌≤�
 use mathlib.Core.Option.{some}
 use lib.ListN.{get_elem?}
 use Rattle.atomic_table.specs.Table.{Me, rest}
-use Rattle.turn_table.specs.{Numbered.{numbers_of, value_of}, Seat.{IsSeated, IsTurned, slots_of, turned_by}, declared.view.View.View}
+use Rattle.turn_table.specs.{Numbered.{value_of}, Seat.{IsSeated, IsTurned, slots_of, turned_by}, declared.view.View.View}
 use Rattle.turn_table.proofs.{Numbered.{below_length, at_found}, Seats.{as_many, length_numbers, slots_turned, swapped}}
 
 module _ {A : Type 0} where

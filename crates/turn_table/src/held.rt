@@ -7,13 +7,13 @@ use std::marker::Model;
 /// see it as a list.
 #[derive(Drop)]
 pub struct Held<T> {
-    first: Option<(u32, T)>,
-    second: Option<(u32, T)>,
-    third: Option<(u32, T)>,
-    fourth: Option<(u32, T)>,
-    fifth: Option<(u32, T)>,
-    sixth: Option<(u32, T)>,
-    seventh: Option<(u32, T)>,
+    pub(crate) first: Option<(u32, T)>,
+    pub(crate) second: Option<(u32, T)>,
+    pub(crate) third: Option<(u32, T)>,
+    pub(crate) fourth: Option<(u32, T)>,
+    pub(crate) fifth: Option<(u32, T)>,
+    pub(crate) sixth: Option<(u32, T)>,
+    pub(crate) seventh: Option<(u32, T)>,
 }
 
 impl<T> Model for Held<T> {
@@ -153,96 +153,6 @@ impl<T: Drop> Held<T> {
                 },
             )),
             None => None,
-        }
-    }
-
-    /// All cells, of which there are seven.
-    pub fn seven(
-        self,
-    ) -> (
-        (u32, T),
-        (u32, T),
-        (u32, T),
-        (u32, T),
-        (u32, T),
-        (u32, T),
-        (u32, T),
-    )
-        requires { length self ≡ 7 }
-        ensures { self ≡ result.0 ∷ result.1 ∷ result.2 ∷ result.3 ∷ result.4 ∷ result.5 ∷ result.6 ∷ [] }
-    {
-        let Held {
-            first,
-            second,
-            third,
-            fourth,
-            fifth,
-            sixth,
-            seventh,
-        } = self;
-        match (first, second, third, fourth, fifth, sixth, seventh) {
-            (Some(a), Some(b), Some(c), Some(d), Some(e), Some(f), Some(g)) => (
-                a, b, c, d, e, f, g,
-            ),
-            _ => unreachable!(),
-        }
-    }
-
-    /// All cells, of which there are three.
-    pub fn three(self) -> ((u32, T), (u32, T), (u32, T))
-        requires { length self ≡ 3 }
-        ensures { self ≡ result.0 ∷ result.1 ∷ result.2 ∷ [] }
-    {
-        let Held {
-            first,
-            second,
-            third,
-            fourth: _,
-            fifth: _,
-            sixth: _,
-            seventh: _,
-        } = self;
-        match (first, second, third) {
-            (Some(a), Some(b), Some(c)) => (a, b, c),
-            _ => unreachable!(),
-        }
-    }
-
-    /// These three cells.
-    pub fn of_three(first: (u32, T), second: (u32, T), third: (u32, T)) -> Held<T>
-        ensures { result ≡ first ∷ second ∷ third ∷ [] }
-    {
-        Held {
-            first: Some(first),
-            second: Some(second),
-            third: Some(third),
-            fourth: None,
-            fifth: None,
-            sixth: None,
-            seventh: None,
-        }
-    }
-
-    /// These seven cells.
-    pub fn of_seven(
-        a: (u32, T),
-        b: (u32, T),
-        c: (u32, T),
-        d: (u32, T),
-        e: (u32, T),
-        f: (u32, T),
-        g: (u32, T),
-    ) -> Held<T>
-        ensures { result ≡ a ∷ b ∷ c ∷ d ∷ e ∷ f ∷ g ∷ [] }
-    {
-        Held {
-            first: Some(a),
-            second: Some(b),
-            third: Some(c),
-            fourth: Some(d),
-            fifth: Some(e),
-            sixth: Some(f),
-            seventh: Some(g),
         }
     }
 

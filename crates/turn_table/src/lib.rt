@@ -2,7 +2,9 @@
 //! for any core whose law is proved.
 #![tactic(auto)]
 
+mod arranged;
 mod cores;
+mod counts;
 mod ends;
 mod held;
 mod lends;

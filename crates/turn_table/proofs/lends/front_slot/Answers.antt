@@ -1,4 +1,4 @@
-use Rattle.std.proofs.Common.{◌∷◌, List, ℕ, refl, sym, ap}
+use Rattle.std.proofs.Common.{List, ℕ, refl, sym, ap}
 use Rattle.atomic_table.specs.declared.shared.Seat.{Seat}
 use Rattle.turn_table.proofs.lends.front_slot.Goals as goal
 
