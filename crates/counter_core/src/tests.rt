@@ -1,5 +1,5 @@
 //! Cells under turns, with three counters as their core.
-ghost use Rattle.std.specs.Prelude.{◌≡◌, ◌<◌, [], false};
+ghost use Rattle.std.specs.Prelude.{◌≡◌, ◌<◌, ℕ, [], false};
 ghost use mathlib.Core.Option.{some};
 ghost use Rattle.turn_table.specs.Numbered.{value_of};
 ghost use Rattle.turn_table.specs.Seat.{cell_count};
@@ -7,8 +7,9 @@ ghost use Rattle.turn_table.specs.Seat.{cell_count};
 use crate::{Counters, transfer};
 use std::sync::Wait;
 use std::test::Fail;
-use std::thread::join;
-use turn_table::{Seat, TurnTable};
+use std::thread::{join, sleep};
+use std::time::{Clock, Duration};
+use turn_table::{Held, Seat, TurnTable};
 
 /// Thousands of transfers up and down between two counters.
 fn work<R: Wait>(
@@ -95,5 +96,47 @@ fn held_cells_are_seen_where_they_stand(rt: HostRuntime) -> Result<(), Fail> {
         return Err("a held cell is missing".into());
     };
     assert_eq!(rt; second, (2, 5));
+    Ok(())
+}
+
+/// Cells stand in the order that is asked for.
+#[test]
+fn cells_are_arranged_by_number(rt: HostRuntime) -> Result<(), Fail> {
+    let cells = Held::of_two((4, 10u64), (2, 5)).arranged(&[2, 4]);
+    assert_eq!(rt; cells.two(), ((2, 5), (4, 10)));
+    Ok(())
+}
+
+/// Holds the first cell until another thread is likely to sleep over it, and gives it back.
+fn hold_for_long<R: Wait + Clock>(rt: &R, table: &TurnTable<Counters>, mut seat: Seat<Counters>)
+    requires own { seat.table_id ≡ table.now }
+    requires held { (c : ℕ) × (value_of seat.view.held 0 ≡ some c) }
+    requires home { seat.lifted ≡ false }
+{
+    sleep(rt, Duration::from_millis(50));
+    table.release(&mut seat, 0);
+}
+
+/// Gets the first cell at last.
+fn wait_for_the_first<R: Wait>(rt: &R, table: &TurnTable<Counters>, mut seat: Seat<Counters>)
+    requires own { (seat.table_id ≡ table.now) × (0 < cell_count table.now) }
+    requires bare { (seat.view.held ≡ []) × (seat.ranks ≡ []) × (seat.lifted ≡ false) }
+{
+    table.take(rt, &mut seat, 0, 0);
+}
+
+/// A thread that sleeps over a held cell is woken when the cell is given back.
+#[test]
+fn who_sleeps_over_a_held_cell_is_woken(rt: HostRuntime) -> Result<(), Fail> {
+    let cells = vec![in rt.alloc(); 10u64, 10, 10]?;
+    let actors = vec![in rt.alloc(); 0u64, 0]?;
+    let (table, mut seat) = TurnTable::<Counters>::new(rt.alloc(), cells, &actors)?;
+    let other = table.split_seat(&mut seat, 0);
+    table.take(&rt, &mut seat, 0, 0);
+    join(
+        &rt,
+        || hold_for_long(&rt, &table, seat),
+        || wait_for_the_first(&rt, &table, other),
+    );
     Ok(())
 }
